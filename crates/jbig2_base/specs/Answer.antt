@@ -1,0 +1,28 @@
+-- How a definition answers, and how a call's answer compares with it (our own rule).
+--
+-- A definition answers a value or the first error, and never `OutOfMemory`. The steps of a definition
+-- follow each other by `>>=`, so the order of the errors is the order of the steps.
+use Rattle.std.specs.Prelude.{◌≡◌, Bool, true, false, Result, Ok, Err, ◌⊎◌}
+use Rattle.jbig2_base.specs.declared.error.DecodeError.{DecodeError}
+use Rattle.jbig2_base.specs.declared.error.DecodeError.TheVariants.{OutOfMemory}
+
+infixl 10 ◌>>=◌
+-- the next step, unless the last one refused
+abbrev pub ◌>>=◌ : {A B : Type 0} → Result A DecodeError → (A → Result B DecodeError) → Result B DecodeError
+(Ok x) >>= next = next x
+(Err e) >>= next = Err e
+
+-- a test that refuses
+abbrev pub refuse_if : Bool → DecodeError → Result (Unit {0}) DecodeError
+refuse_if true e = Err e
+refuse_if false e = Ok tt
+
+-- What was answered, seen by view, is what was meant, unless memory ran out.
+abbrev pub Gives : {X Y : Type 0} → (X → Y) → Result X DecodeError → Result Y DecodeError → Type 0
+Gives view (Ok x) meant = meant ≡ Ok (view x)
+Gives view (Err e) meant = (e ≡ OutOfMemory) ⊎ (meant ≡ Err e)
+
+-- The same for a call that takes no memory: the answer is exactly what was meant.
+abbrev pub Answers : {X Y : Type 0} → (X → Y) → Result X DecodeError → Result Y DecodeError → Type 0
+Answers view (Ok x) meant = meant ≡ Ok (view x)
+Answers view (Err e) meant = meant ≡ Err e

@@ -1,0 +1,13 @@
+-- What the step bounds count (our own rule): each field is a number of calls.
+use Rattle.std.specs.Prelude.{ℕ}
+
+pub record Counts : Type 0 where
+  pub loads : ℕ
+  pub words : ℕ
+  pub decisions : ℕ
+  pub run_tests : ℕ
+  pub groups : ℕ
+  pub pixels : ℕ
+
+abbrev pub no_steps : Counts
+no_steps = record { loads = 0; words = 0; decisions = 0; run_tests = 0; groups = 0; pixels = 0 }

@@ -1,0 +1,34 @@
+-- Bitmaps (T.88, 6): a width, a height and a pixel at each pair of whole numbers, white outside.
+use Rattle.std.specs.Prelude.{ℕ, ◌+◌, ◌*◌, ◌/◌, ◌%◌, Bool, true, false, ◌&&◌, nat_lt, List, map, slice_index_or, ℤ, pos, negsuc}
+use Rattle.std.specs.List.{range_with_len}
+
+-- The pixels stand row by row from the top, each row from the left; `true` is black.
+pub record Grid : Type 0 where
+  pub width : ℕ
+  pub height : ℕ
+  pub pixels : List Bool
+
+-- the pixel at column x of row y is f x y
+unfoldable pub table : ℕ → ℕ → (ℕ → ℕ → Bool) → List Bool
+table w h f = map (λ n. f (n % w) (n / w)) (range_with_len 0 (w * h))
+
+abbrev pub grid_of : ℕ → ℕ → (ℕ → ℕ → Bool) → Grid
+grid_of w h f = record { width = w; height = h; pixels = table w h f }
+
+-- the pixel at column x of row y, white outside
+unfoldable pub pixel_at : Grid → ℕ → ℕ → Bool
+pixel_at g x y = nat_lt x g.width && nat_lt y g.height && slice_index_or g.pixels (y * g.width + x) false
+
+-- the same at any pair of whole numbers
+abbrev pub pixel : Grid → ℤ → ℤ → Bool
+pixel g (pos x) (pos y) = pixel_at g x y
+pixel g _ _ = false
+
+-- a grid of one colour
+abbrev pub blank : ℕ → ℕ → Bool → Grid
+blank w h black = grid_of w h (λ _ _. black)
+
+-- a pixel as the number 0 or 1
+abbrev pub bit_number : Bool → ℕ
+bit_number true = 1
+bit_number false = 0

@@ -1,0 +1,4 @@
+pub mod Answer
+pub mod Counts
+pub mod Grid
+pub mod Operator

@@ -1,0 +1,24 @@
+-- The combination operators (T.88, 7.4.1.5): by their numbers, and on one pixel.
+use Rattle.std.specs.Prelude.{ℕ, Bool, true, false, ◌&&◌, ◌||◌, ◌==◌, not, if◌then◌else◌, Result, Ok, Err}
+use Rattle.jbig2_base.specs.declared.error.DecodeError.{DecodeError}
+use Rattle.jbig2_base.specs.declared.error.DecodeError.TheVariants.{Region}
+use Rattle.jbig2_base.specs.declared.error.RegionError.TheVariants.{InvalidCombinationOperator}
+use Rattle.jbig2_base.specs.declared.bitmap.operator.CombinationOperator.{CombinationOperator}
+use Rattle.jbig2_base.specs.declared.bitmap.operator.CombinationOperator.TheVariants.{Or, And, Xor, Xnor, Replace}
+
+abbrev pub operator_of : ℕ → Result CombinationOperator DecodeError
+operator_of n =
+    if n == 0 then Ok Or
+    else if n == 1 then Ok And
+    else if n == 2 then Ok Xor
+    else if n == 3 then Ok Xnor
+    else if n == 4 then Ok Replace
+    else Err (Region InvalidCombinationOperator)
+
+-- the pixel that comes out of the page's pixel p and the source's pixel s
+abbrev pub combined_pixel : CombinationOperator → Bool → Bool → Bool
+combined_pixel Or p s = p || s
+combined_pixel And p s = p && s
+combined_pixel Xor p s = if p then not s else s
+combined_pixel Xnor p s = if p then s else not s
+combined_pixel Replace p s = s

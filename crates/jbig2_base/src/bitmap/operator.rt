@@ -1,0 +1,38 @@
+//! How a region is combined with what lies under it (T.88, 7.4.1.5).
+ghost use Rattle.std.specs.Prelude.{◌%◌};
+ghost use Rattle.jbig2_base.specs.Answer.{Answers};
+ghost use Rattle.jbig2_base.specs.Operator.{operator_of};
+
+use crate::error::{DecodeError, RegionError, Result};
+
+/// What becomes of a pixel under a region's pixel.
+#[derive(Clone, Copy, Debug, PartialEq, Eq)]
+pub enum CombinationOperator {
+    /// Black where either is black.
+    Or,
+    /// Black where both are black.
+    And,
+    /// Black where exactly one is black.
+    Xor,
+    /// Black where both have one colour.
+    Xnor,
+    /// The region's pixel.
+    Replace,
+}
+
+impl CombinationOperator {
+    /// The operator that the low three bits of `value` name; 5 to 7 name none
+    /// (`RegionError::InvalidCombinationOperator`).
+    pub fn from_value(value: u8) -> Result<CombinationOperator>
+        ensures { Answers (λ operator. operator) result (operator_of (value % 8)) }
+    {
+        match value % 8 {
+            0 => Ok(CombinationOperator::Or),
+            1 => Ok(CombinationOperator::And),
+            2 => Ok(CombinationOperator::Xor),
+            3 => Ok(CombinationOperator::Xnor),
+            4 => Ok(CombinationOperator::Replace),
+            _ => Err(DecodeError::Region(RegionError::InvalidCombinationOperator)),
+        }
+    }
+}

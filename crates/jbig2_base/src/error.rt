@@ -1,0 +1,419 @@
+ghost use Rattle.std.specs.Prelude.{◌≡◌};
+ghost use Rattle.jbig2_base.specs.declared.error.DecodeError.TheVariants.{Parse, Format, Segment, Huffman, Region, Template, Symbol, Overflow, OutOfMemory};
+
+use std::alloc::{AllocError, AllocFailed};
+use thiserror::Error;
+
+/// What a call of this decoder answers: a value, or the first rule that the bytes break.
+pub type Result<T> = std::result::Result<T, DecodeError>;
+
+/// Why a page could not be decoded. The inner enums say which rule the bytes break.
+#[derive(Debug, Drop, PartialEq, Eq, Error)]
+pub enum DecodeError {
+    /// The bytes end too early.
+    #[error(transparent)]
+    Parse(ParseError),
+    /// The file or the page as a whole.
+    #[error(transparent)]
+    Format(FormatError),
+    /// A segment's header or its references.
+    #[error(transparent)]
+    Segment(SegmentError),
+    /// Prefix-coded data.
+    #[error(transparent)]
+    Huffman(HuffmanError),
+    /// A region's fields or data.
+    #[error(transparent)]
+    Region(RegionError),
+    /// A template's adaptive pixels.
+    #[error(transparent)]
+    Template(TemplateError),
+    /// Symbol dictionaries and text.
+    #[error(transparent)]
+    Symbol(SymbolError),
+    /// A number out of range.
+    #[error(transparent)]
+    Overflow(OverflowError),
+    /// A feature that this decoder does not have.
+    #[error("unsupported feature")]
+    Unsupported,
+    /// A request for memory was refused. No mode swallows it.
+    #[error("out of memory")]
+    OutOfMemory,
+}
+
+/// Why bytes could not be read.
+#[derive(Debug, Drop, PartialEq, Eq, Error)]
+pub enum ParseError {
+    /// The bytes end before the field does.
+    #[error("unexpected end of input")]
+    UnexpectedEof,
+}
+
+/// What is wrong with a file or a page as a whole.
+#[derive(Debug, Drop, PartialEq, Eq, Error)]
+pub enum FormatError {
+    /// The file does not begin with the identification string (D.4.1).
+    #[error("invalid JBIG2 file header")]
+    InvalidHeader,
+    /// A reserved bit of the file's flags is set (D.4.2).
+    #[error("reserved bits must be zero")]
+    ReservedBits,
+    /// The page has no segment of type 48.
+    #[error("missing page information segment")]
+    MissingPageInfo,
+    /// The height is unknown and no stripe tells it (7.4.8.2).
+    #[error("page height unknown with no stripe segments")]
+    UnknownPageHeight,
+    /// The page's width or height is 0.
+    #[error("page has zero width or height")]
+    EmptyPage,
+    /// The file's page count is not the number of its pages (D.4.3).
+    #[error("page count in file header doesn't match")]
+    PageCountMismatch,
+    /// A page has no end of page segment, or several (7.4.9).
+    #[error("page without exactly one end of page segment")]
+    InvalidEndOfPage,
+}
+
+/// What is wrong with a segment.
+#[derive(Debug, Drop, PartialEq, Eq, Error)]
+pub enum SegmentError {
+    /// The type is not one of 7.3's list.
+    #[error("unknown or reserved segment type")]
+    UnknownType,
+    /// The count of referred segments is coded as 5 or 6 (7.2.4).
+    #[error("invalid referred-to segment count")]
+    InvalidReferredCount,
+    /// A referred number is not below the segment's own, or names nothing that serves.
+    #[error("segment refers to an invalid segment")]
+    InvalidReference,
+    /// Only an immediate generic region may have an unknown length (7.2.7).
+    #[error("unknown segment length for this type")]
+    InvalidUnknownLength,
+    /// The data of unknown length has no end marker (7.2.7).
+    #[error("missing end marker for unknown-length region")]
+    MissingEndMarker,
+    /// A halftone region names no pattern dictionary.
+    #[error("missing required pattern dictionary")]
+    MissingPatternDictionary,
+    /// A segment that needs a page is associated with page 0.
+    #[error("segment not associated with a page")]
+    MissingPageAssociation,
+}
+
+/// What is wrong with prefix-coded data.
+#[derive(Debug, Drop, PartialEq, Eq, Error)]
+pub enum HuffmanError {
+    /// The bits begin no code, or lengths make no code (Annex B).
+    #[error("invalid Huffman code")]
+    InvalidCode,
+    /// A table selection has a value without a meaning.
+    #[error("invalid Huffman table selection")]
+    InvalidSelection,
+    /// More custom tables are selected than referred to.
+    #[error("not enough referred Huffman tables")]
+    MissingTables,
+    /// Out of band where a number has to stand.
+    #[error("unexpected out-of-band value")]
+    UnexpectedOob,
+    /// Two lines have one code; never answered.
+    #[error("conflicting Huffman codes")]
+    ConflictingCodes,
+}
+
+/// What is wrong with a region.
+#[derive(Debug, Drop, PartialEq, Eq, Error)]
+pub enum RegionError {
+    /// The operator is none of 7.4.1.5's.
+    #[error("invalid combination operator")]
+    InvalidCombinationOperator,
+    /// A row count or a size does not fit the region.
+    #[error("invalid dimension value")]
+    InvalidDimension,
+    /// The T.6 data has a fault or lacks a row.
+    #[error("invalid MMR-encoded data")]
+    InvalidMmrData,
+    /// A gray value names no pattern.
+    #[error("gray-scale value exceeds pattern count")]
+    GrayScaleOutOfRange,
+}
+
+/// What is wrong with a template.
+#[derive(Debug, Drop, PartialEq, Eq, Error)]
+pub enum TemplateError {
+    /// No such template; never answered.
+    #[error("invalid template value")]
+    Invalid,
+    /// An adaptive pixel lies at or behind the pixel that is decoded.
+    #[error("invalid adaptive template pixel location")]
+    InvalidAtPixel,
+}
+
+/// What is wrong with symbols.
+#[derive(Debug, Drop, PartialEq, Eq, Error)]
+pub enum SymbolError {
+    /// The number of exported symbols is not the stated one.
+    #[error("no symbols available")]
+    NoSymbols,
+    /// More new symbols than stated.
+    #[error("symbol dictionary contains too many symbols")]
+    TooManySymbols,
+    /// A symbol number names none, or a run passes the end.
+    #[error("symbol ID out of range")]
+    OutOfRange,
+    /// Out of band where a number has to stand.
+    #[error("unexpected out-of-band value")]
+    UnexpectedOob,
+    /// A symbol dictionary breaks a rule that has no error of its own.
+    #[error("invalid symbol encountered")]
+    Invalid,
+    /// A strip's delta T does not fit.
+    #[error("strip delta overflow")]
+    InvalidStripDelta,
+    /// More symbol instances than the data can hold.
+    #[error("too many symbol instances")]
+    TooManyInstances,
+}
+
+/// A number outside the range that this decoder keeps.
+#[derive(Debug, Drop, PartialEq, Eq, Error)]
+pub enum OverflowError {
+    /// A bitmap's width or height, or their product, is too large.
+    #[error("overflow in bitmap dimension computation")]
+    BitmapDimension,
+    /// A halftone grid's width or height is too large.
+    #[error("overflow in grid dimension computation")]
+    GridDimension,
+    /// A symbol's place does not fit.
+    #[error("overflow in placement coordinate computation")]
+    PlacementCoordinate,
+    /// A reference's offset does not fit.
+    #[error("overflow in reference offset computation")]
+    ReferenceOffset,
+    /// An index does not fit; never answered.
+    #[error("overflow in index computation")]
+    Index,
+    /// More symbols than a dictionary may have.
+    #[error("too many symbols")]
+    SymbolCount,
+}
+
+impl From<ParseError> for DecodeError {
+    ghost from_gives = { λ inner error. error ≡ Parse inner };
+
+    fn from(inner: ParseError) -> DecodeError {
+        DecodeError::Parse(inner)
+    }
+}
+
+impl From<FormatError> for DecodeError {
+    ghost from_gives = { λ inner error. error ≡ Format inner };
+
+    fn from(inner: FormatError) -> DecodeError {
+        DecodeError::Format(inner)
+    }
+}
+
+impl From<SegmentError> for DecodeError {
+    ghost from_gives = { λ inner error. error ≡ Segment inner };
+
+    fn from(inner: SegmentError) -> DecodeError {
+        DecodeError::Segment(inner)
+    }
+}
+
+impl From<HuffmanError> for DecodeError {
+    ghost from_gives = { λ inner error. error ≡ Huffman inner };
+
+    fn from(inner: HuffmanError) -> DecodeError {
+        DecodeError::Huffman(inner)
+    }
+}
+
+impl From<RegionError> for DecodeError {
+    ghost from_gives = { λ inner error. error ≡ Region inner };
+
+    fn from(inner: RegionError) -> DecodeError {
+        DecodeError::Region(inner)
+    }
+}
+
+impl From<TemplateError> for DecodeError {
+    ghost from_gives = { λ inner error. error ≡ Template inner };
+
+    fn from(inner: TemplateError) -> DecodeError {
+        DecodeError::Template(inner)
+    }
+}
+
+impl From<SymbolError> for DecodeError {
+    ghost from_gives = { λ inner error. error ≡ Symbol inner };
+
+    fn from(inner: SymbolError) -> DecodeError {
+        DecodeError::Symbol(inner)
+    }
+}
+
+impl From<OverflowError> for DecodeError {
+    ghost from_gives = { λ inner error. error ≡ Overflow inner };
+
+    fn from(inner: OverflowError) -> DecodeError {
+        DecodeError::Overflow(inner)
+    }
+}
+
+impl From<AllocError> for DecodeError {
+    ghost from_gives = { λ _ error. error ≡ OutOfMemory };
+
+    fn from(_refusal: AllocError) -> DecodeError {
+        DecodeError::OutOfMemory
+    }
+}
+
+impl<T: Drop> From<AllocFailed<T>> for DecodeError {
+    ghost from_gives = { λ _ error. error ≡ OutOfMemory };
+
+    fn from(_refusal: AllocFailed<T>) -> DecodeError {
+        DecodeError::OutOfMemory
+    }
+}
+
+impl DecodeError {
+    /// An equal error, without memory.
+    pub fn duplicate(&self) -> DecodeError
+        ensures { result ≡ self.now }
+    {
+        match self {
+            DecodeError::Parse(inner) => DecodeError::Parse(inner.duplicate()),
+            DecodeError::Format(inner) => DecodeError::Format(inner.duplicate()),
+            DecodeError::Segment(inner) => DecodeError::Segment(inner.duplicate()),
+            DecodeError::Huffman(inner) => DecodeError::Huffman(inner.duplicate()),
+            DecodeError::Region(inner) => DecodeError::Region(inner.duplicate()),
+            DecodeError::Template(inner) => DecodeError::Template(inner.duplicate()),
+            DecodeError::Symbol(inner) => DecodeError::Symbol(inner.duplicate()),
+            DecodeError::Overflow(inner) => DecodeError::Overflow(inner.duplicate()),
+            DecodeError::Unsupported => DecodeError::Unsupported,
+            DecodeError::OutOfMemory => DecodeError::OutOfMemory,
+        }
+    }
+}
+
+impl ParseError {
+    /// An equal error, without memory.
+    pub fn duplicate(&self) -> ParseError
+        ensures { result ≡ self.now }
+    {
+        match self {
+            ParseError::UnexpectedEof => ParseError::UnexpectedEof,
+        }
+    }
+}
+
+impl FormatError {
+    /// An equal error, without memory.
+    pub fn duplicate(&self) -> FormatError
+        ensures { result ≡ self.now }
+    {
+        match self {
+            FormatError::InvalidHeader => FormatError::InvalidHeader,
+            FormatError::ReservedBits => FormatError::ReservedBits,
+            FormatError::MissingPageInfo => FormatError::MissingPageInfo,
+            FormatError::UnknownPageHeight => FormatError::UnknownPageHeight,
+            FormatError::EmptyPage => FormatError::EmptyPage,
+            FormatError::PageCountMismatch => FormatError::PageCountMismatch,
+            FormatError::InvalidEndOfPage => FormatError::InvalidEndOfPage,
+        }
+    }
+}
+
+impl SegmentError {
+    /// An equal error, without memory.
+    pub fn duplicate(&self) -> SegmentError
+        ensures { result ≡ self.now }
+    {
+        match self {
+            SegmentError::UnknownType => SegmentError::UnknownType,
+            SegmentError::InvalidReferredCount => SegmentError::InvalidReferredCount,
+            SegmentError::InvalidReference => SegmentError::InvalidReference,
+            SegmentError::InvalidUnknownLength => SegmentError::InvalidUnknownLength,
+            SegmentError::MissingEndMarker => SegmentError::MissingEndMarker,
+            SegmentError::MissingPatternDictionary => SegmentError::MissingPatternDictionary,
+            SegmentError::MissingPageAssociation => SegmentError::MissingPageAssociation,
+        }
+    }
+}
+
+impl HuffmanError {
+    /// An equal error, without memory.
+    pub fn duplicate(&self) -> HuffmanError
+        ensures { result ≡ self.now }
+    {
+        match self {
+            HuffmanError::InvalidCode => HuffmanError::InvalidCode,
+            HuffmanError::InvalidSelection => HuffmanError::InvalidSelection,
+            HuffmanError::MissingTables => HuffmanError::MissingTables,
+            HuffmanError::UnexpectedOob => HuffmanError::UnexpectedOob,
+            HuffmanError::ConflictingCodes => HuffmanError::ConflictingCodes,
+        }
+    }
+}
+
+impl RegionError {
+    /// An equal error, without memory.
+    pub fn duplicate(&self) -> RegionError
+        ensures { result ≡ self.now }
+    {
+        match self {
+            RegionError::InvalidCombinationOperator => RegionError::InvalidCombinationOperator,
+            RegionError::InvalidDimension => RegionError::InvalidDimension,
+            RegionError::InvalidMmrData => RegionError::InvalidMmrData,
+            RegionError::GrayScaleOutOfRange => RegionError::GrayScaleOutOfRange,
+        }
+    }
+}
+
+impl TemplateError {
+    /// An equal error, without memory.
+    pub fn duplicate(&self) -> TemplateError
+        ensures { result ≡ self.now }
+    {
+        match self {
+            TemplateError::Invalid => TemplateError::Invalid,
+            TemplateError::InvalidAtPixel => TemplateError::InvalidAtPixel,
+        }
+    }
+}
+
+impl SymbolError {
+    /// An equal error, without memory.
+    pub fn duplicate(&self) -> SymbolError
+        ensures { result ≡ self.now }
+    {
+        match self {
+            SymbolError::NoSymbols => SymbolError::NoSymbols,
+            SymbolError::TooManySymbols => SymbolError::TooManySymbols,
+            SymbolError::OutOfRange => SymbolError::OutOfRange,
+            SymbolError::UnexpectedOob => SymbolError::UnexpectedOob,
+            SymbolError::Invalid => SymbolError::Invalid,
+            SymbolError::InvalidStripDelta => SymbolError::InvalidStripDelta,
+            SymbolError::TooManyInstances => SymbolError::TooManyInstances,
+        }
+    }
+}
+
+impl OverflowError {
+    /// An equal error, without memory.
+    pub fn duplicate(&self) -> OverflowError
+        ensures { result ≡ self.now }
+    {
+        match self {
+            OverflowError::BitmapDimension => OverflowError::BitmapDimension,
+            OverflowError::GridDimension => OverflowError::GridDimension,
+            OverflowError::PlacementCoordinate => OverflowError::PlacementCoordinate,
+            OverflowError::ReferenceOffset => OverflowError::ReferenceOffset,
+            OverflowError::Index => OverflowError::Index,
+            OverflowError::SymbolCount => OverflowError::SymbolCount,
+        }
+    }
+}
