@@ -4,3 +4,4 @@
 
 pub mod bitmap;
 pub mod error;
+pub mod reader;

@@ -1,0 +1,155 @@
+-- One bit on, and n bits on.
+use Rattle.std.proofs.Common.{add-one, ◌≡◌, ℕ, ◌+◌, ◌-◌, ◌*◌, ◌/◌, ◌%◌, ◌^◌, ◌<◌, ◌≤◌, suc, zero, List, [], ◌∷◌, ◌++◌, length, take, drop, get_or, Option, ⊎_elim, Some, None, nat_lt, refl, sym, ◌∙◌, ap, subst, arith, bit_and}
+use Rattle.std.specs.List.{flat_map}
+use Rattle.std.proofs.lemmas.List.{drop_more, drop_all, length-drop, take_more, length-take-le, drop-drop}
+use Rattle.std.proofs.Math.Nat.{pow-suc}
+use Rattle.std.proofs.lemmas.Nat.Bits.{shr_and_one}
+use Rattle.std.proofs.lemmas.Bool.{cond-true, cond-false, cond_both, cases_lt, lt-ltb, le-ltb, ltb-false}
+use Rattle.jbig2_base.specs.Bits.{Place, start_of, byte_bits, bits_left, bits_next, bits_on, number_after}
+
+-- the place at byte i and bit k of xs
+abbrev pub place_in : List ℕ → ℕ → ℕ → Place
+place_in xs i k = record { bytes = drop i xs; bit = k }
+
+bits_at : (b : ℕ) (rest : List ℕ) (k : ℕ) → k < 8 → drop k (byte_bits b ++ rest) ≡ b / 2 ^ (7 - k) % 2 ∷ drop (k + 1) (byte_bits b ++ rest)
+bits_at b rest zero h = refl
+bits_at b rest (suc zero) h = refl
+bits_at b rest (suc (suc zero)) h = refl
+bits_at b rest (suc (suc (suc zero))) h = refl
+bits_at b rest (suc (suc (suc (suc zero)))) h = refl
+bits_at b rest (suc (suc (suc (suc (suc zero))))) h = refl
+bits_at b rest (suc (suc (suc (suc (suc (suc zero)))))) h = refl
+bits_at b rest (suc (suc (suc (suc (suc (suc (suc zero))))))) h = refl
+bits_at b rest (suc (suc (suc (suc (suc (suc (suc (suc k)))))))) h = absurd (omega arith)
+
+-- the first bit that is left, and the others
+next_bit : (xs : List ℕ) (i k : ℕ) → i < length xs → k < 8 → bits_left (place_in xs i k) ≡ get_or xs i 0 / 2 ^ (7 - k) % 2 ∷ drop (k + 1) (flat_map byte_bits (drop i xs))
+unfolding bits_left
+next_bit xs i k inside h =
+    let e = drop_more xs i 0 inside in
+    ap (λ (ys : List ℕ). drop k (flat_map byte_bits ys)) e
+    ∙ bits_at (get_or xs i 0) (flat_map byte_bits (drop (i + 1) xs)) k h
+    ∙ sym (ap (λ (ys : List ℕ). get_or xs i 0 / 2 ^ (7 - k) % 2 ∷ drop (k + 1) (flat_map byte_bits ys)) e)
+
+one_of : (b : ℕ) (bs : List ℕ) → bits_next 1 (b ∷ bs) ≡ Some b
+one_of b bs =
+    let alone : number_after 0 (take 1 (b ∷ bs)) ≡ b = omega arith in
+    cond-false (nat_lt (length (b ∷ bs)) 1) None (Some (number_after 0 (take 1 (b ∷ bs)))) (le-ltb (length (b ∷ bs)) 1 (omega arith))
+    ∙ ap (λ (n : ℕ). Some n) alone
+
+pub bit-value : (xs : List ℕ) (i k : ℕ) → i < length xs → k < 8 → ◌≡◌ {A = Option ℕ} (Some (bit_and (get_or xs i 0 / 2 ^ (7 - k)) 1)) (bits_next 1 (bits_left (place_in xs i k)))
+bit-value xs i k inside h =
+    ap (λ (n : ℕ). Some n) (shr_and_one (get_or xs i 0) (7 - k))
+    ∙ sym (ap (λ (bs : List ℕ). bits_next 1 bs) (next_bit xs i k inside h) ∙ one_of (get_or xs i 0 / 2 ^ (7 - k) % 2) (drop (k + 1) (flat_map byte_bits (drop i xs))))
+
+-- n bits on, where there are as many
+pub bits_on-enough : (n : ℕ) (p : Place) → n ≤ length (bits_left p) → bits_on n p ≡ record { bytes = drop ((p.bit + n) / 8) p.bytes; bit = (p.bit + n) % 8 }
+unfolding bits_on
+bits_on-enough n p enough = cond-false (nat_lt (length (bits_left p)) n) (start_of []) (record { bytes = drop ((p.bit + n) / 8) p.bytes; bit = (p.bit + n) % 8 }) (le-ltb (length (bits_left p)) n enough)
+
+-- past the end
+pub bits_on-past : (n : ℕ) (p : Place) → length (bits_left p) < n → bits_on n p ≡ start_of []
+unfolding bits_on
+bits_on-past n p past = cond-true (nat_lt (length (bits_left p)) n) (start_of []) (record { bytes = drop ((p.bit + n) / 8) p.bytes; bit = (p.bit + n) % 8 }) (lt-ltb (length (bits_left p)) n past)
+
+bits_on-one : (xs : List ℕ) (i k : ℕ) → i < length xs → k < 8 → bits_on 1 (place_in xs i k) ≡ place_in xs (i + (k + 1) / 8) ((k + 1) % 8)
+bits_on-one xs i k inside h =
+    let some : length (bits_left (place_in xs i k)) ≡ suc (length (drop (k + 1) (flat_map byte_bits (drop i xs)))) = ap length (next_bit xs i k inside h) in
+    bits_on-enough 1 (place_in xs i k) (omega arith)
+    ∙ ap (λ (ys : List ℕ). record { bytes = ys; bit = (k + 1) % 8 }) (drop-drop ((k + 1) / 8) i xs)
+
+pub bit-place_last : (xs : List ℕ) (i k : ℕ) → i < length xs → k ≡ 7 → place_in xs (i + 1) 0 ≡ bits_on 1 (place_in xs i k)
+bit-place_last xs i k inside h =
+    let e : i + 1 ≡ i + (k + 1) / 8 = omega arith in
+    let b : 0 ≡ (k + 1) % 8 = omega arith in
+    ap (λ (j : ℕ). place_in xs j 0) e ∙ ap (λ (j : ℕ). place_in xs (i + (k + 1) / 8) j) b ∙ sym (bits_on-one xs i k inside (omega arith))
+
+pub bit-place_more : (xs : List ℕ) (i k : ℕ) → i < length xs → k < 7 → place_in xs i (k + 1) ≡ bits_on 1 (place_in xs i k)
+bit-place_more xs i k inside h =
+    let e : i ≡ i + (k + 1) / 8 = omega arith in
+    let b : k + 1 ≡ (k + 1) % 8 = omega arith in
+    ap (λ (j : ℕ). place_in xs j (k + 1)) e ∙ ap (λ (j : ℕ). place_in xs (i + (k + 1) / 8) j) b ∙ sym (bits_on-one xs i k inside (omega arith))
+
+bits_past : (b : ℕ) (rest : List ℕ) → drop 8 (byte_bits b ++ rest) ≡ rest
+bits_past b rest = refl
+
+pub bit-rest_last : (xs : List ℕ) (i k : ℕ) → i < length xs → k ≡ 7 → bits_left (place_in xs (i + 1) 0) ≡ drop 1 (bits_left (place_in xs i k))
+unfolding bits_left
+bit-rest_last xs i k inside h =
+    let e = drop_more xs i 0 inside in
+    sym (ap (λ (zs : List ℕ). drop 1 zs) (next_bit xs i k inside (omega arith))
+    ∙ ap (λ (j : ℕ). drop (j + 1) (flat_map byte_bits (drop i xs))) h
+    ∙ ap (λ (ys : List ℕ). drop 8 (flat_map byte_bits ys)) e)
+
+pub bit-rest_more : (xs : List ℕ) (i k : ℕ) → i < length xs → k < 7 → bits_left (place_in xs i (k + 1)) ≡ drop 1 (bits_left (place_in xs i k))
+unfolding bits_left
+bit-rest_more xs i k inside h = sym (ap (λ (zs : List ℕ). drop 1 zs) (next_bit xs i k inside (omega arith)))
+
+-- where no byte is left
+pub end_place : (xs : List ℕ) (i k : ℕ) → length xs ≤ i → i ≤ length xs → (i ≡ length xs → k ≡ 0) → place_in xs i k ≡ start_of []
+end_place xs i k past within begun =
+    ap (λ (ys : List ℕ). record { bytes = ys; bit = k }) (drop_all i xs past)
+    ∙ ap (λ (j : ℕ). record { bytes = []; bit = j }) (begun (omega arith))
+
+pub end-bits : bits_left (start_of []) ≡ []
+unfolding bits_left
+end-bits = refl
+
+pub end-on : (n : ℕ) → start_of [] ≡ bits_on n (start_of [])
+unfolding bits_on
+end-on n = sym (cond_both (nat_lt (length (bits_left (start_of []))) n) (start_of []) (record { bytes = drop ((0 + n) / 8) []; bit = (0 + n) % 8 }) (λ q. q ≡ start_of []) (λ _. refl)
+    (λ e. let none : n ≡ 0 = omega (arith, ltb-false (length (bits_left (start_of []))) n e, ap length end-bits) in
+    ap (λ (m : ℕ). record { bytes = drop ((0 + m) / 8) []; bit = (0 + m) % 8 }) none))
+
+pub bits_on-none : (p : Place) → p.bit < 8 → p ≡ bits_on 0 p
+bits_on-none p h =
+    let same : p.bit ≡ (p.bit + 0) % 8 = omega arith in
+    let none : 0 ≡ (p.bit + 0) / 8 = omega arith in
+    sym (bits_on-enough 0 p (omega arith)
+    ∙ ap (λ (m : ℕ). record { bytes = drop m p.bytes; bit = (p.bit + 0) % 8 }) (sym none)
+    ∙ ap (λ (m : ℕ). record { bytes = p.bytes; bit = m }) (sym same))
+
+-- one bit on from n bits on
+pub bits_on-more : (n : ℕ) (p q : Place) → q ≡ bits_on n p → n + 1 ≤ length (bits_left p) → 1 ≤ length (bits_left q) → bits_on 1 q ≡ bits_on (n + 1) p
+bits_on-more n p q e enough one =
+    let r : Place = record { bytes = drop ((p.bit + n) / 8) p.bytes; bit = (p.bit + n) % 8 } in
+    let at : q ≡ r = e ∙ bits_on-enough n p (omega arith) in
+    let bytes : (p.bit + n) / 8 + ((p.bit + n) % 8 + 1) / 8 ≡ (p.bit + (n + 1)) / 8 = omega arith in
+    let bit : ((p.bit + n) % 8 + 1) % 8 ≡ (p.bit + (n + 1)) % 8 = omega arith in
+    bits_on-enough 1 q one
+    ∙ ap (λ (s : Place). record { bytes = drop ((s.bit + 1) / 8) s.bytes; bit = (s.bit + 1) % 8 }) at
+    ∙ ap (λ (ys : List ℕ). record { bytes = ys; bit = ((p.bit + n) % 8 + 1) % 8 }) (drop-drop (((p.bit + n) % 8 + 1) / 8) ((p.bit + n) / 8) p.bytes)
+    ∙ ap (λ (m : ℕ). record { bytes = drop m p.bytes; bit = ((p.bit + n) % 8 + 1) % 8 }) bytes
+    ∙ ap (λ (m : ℕ). record { bytes = drop ((p.bit + (n + 1)) / 8) p.bytes; bit = m }) bit
+    ∙ sym (bits_on-enough (n + 1) p enough)
+
+-- a bit was there, or none
+pub bits_next-some : (b : ℕ) (bs : List ℕ) → Some b ≡ bits_next 1 bs → 1 ≤ length bs
+bits_next-some b bs e = ⊎_elim (λ (h : length bs < 1). absurd (let never : Some b ≡ None = e ∙ cond-true (nat_lt (length bs) 1) None (Some (number_after 0 (take 1 bs))) (lt-ltb (length bs) 1 h) in cc)) (λ (h : 1 ≤ length bs). h) (cases_lt (length bs) 1)
+
+pub bits_next-none : (bs : List ℕ) → ◌≡◌ {A = Option ℕ} None (bits_next 1 bs) → length bs ≡ 0
+bits_next-none bs e = ⊎_elim (λ (h : length bs < 1). omega arith) (λ (h : 1 ≤ length bs). absurd (let never : ◌≡◌ {A = Option ℕ} None (Some (number_after 0 (take 1 bs))) = e ∙ cond-false (nat_lt (length bs) 1) None (Some (number_after 0 (take 1 bs))) (le-ltb (length bs) 1 h) in cc)) (cases_lt (length bs) 1)
+
+number_after-push : (front b : ℕ) (xs : List ℕ) → number_after front (xs ++ b ∷ []) ≡ 2 * number_after front xs + b
+number_after-push front b [] = refl
+number_after-push front b (x ∷ xs) = number_after-push (2 * front + x) b xs
+
+-- one bit more of a number
+pub value-more : (n b v : ℕ) (bits left : List ℕ) → left ≡ drop n bits → Some b ≡ bits_next 1 left → v ≡ number_after 0 (take n bits) → 2 * v + b ≡ number_after 0 (take (n + 1) bits)
+value-more n b v bits left e some value =
+    let there : 1 ≤ length left = bits_next-some b left some in
+    let inside : n < length bits = omega (arith, ap length e, length-drop n bits) in
+    let first : left ≡ get_or bits n 0 ∷ drop (n + 1) bits = e ∙ drop_more bits n 0 inside in
+    let same : Some b ≡ Some (get_or bits n 0) = some ∙ ap (λ (ys : List ℕ). bits_next 1 ys) first ∙ one_of (get_or bits n 0) (drop (n + 1) bits) in
+    let equal : b ≡ get_or bits n 0 = cc in
+    sym (ap (λ (ys : List ℕ). number_after 0 ys) (take_more bits n 0 inside) ∙ number_after-push 0 (get_or bits n 0) (take n bits) ∙ omega arith)
+
+pub small-more : (v b n : ℕ) → v < 2 ^ n → b < 2 → 2 * v + b < 2 ^ (n + 1)
+small-more v b n small bit = rw (add-one, pow-suc) (omega arith)
+
+-- there was no bit behind the first n, so the bits end before more than n
+pub refused : (n more : ℕ) (p q : Place) → bits_left q ≡ drop n (bits_left p) → n < more → ◌≡◌ {A = Option ℕ} None (bits_next 1 (bits_left q)) → bits_on 1 q ≡ bits_on more p
+refused n more p q left fewer none =
+    let over : length (bits_left q) ≡ 0 = bits_next-none (bits_left q) none in
+    let past : length (bits_left p) < more = omega (arith, ap length left, length-drop n (bits_left p)) in
+    bits_on-past 1 q (omega arith) ∙ sym (bits_on-past more p past)

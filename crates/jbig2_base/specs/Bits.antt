@@ -1,0 +1,58 @@
+-- Bytes as a list of bits, high bit first, and a place in it (T.88, 7.1: numbers are big-endian).
+use Rattle.std.specs.Prelude.{◌≡◌, ℕ, ◌+◌, ◌*◌, ◌/◌, ◌%◌, nat_lt, ◌==◌, List, [], ◌∷◌, length, take, drop, Option, Some, None, if◌then◌else◌}
+use Rattle.std.specs.List.{flat_map}
+use Rattle.std.specs.Int.{Width, byte_len, from_be_bytes}
+
+-- The bytes from the one that is being read on, and how many of its bits are read.
+pub record Place : Type 0 where
+  pub bytes : List ℕ
+  pub bit : ℕ
+
+abbrev pub start_of : List ℕ → Place
+start_of bytes = record { bytes = bytes; bit = 0 }
+
+abbrev pub IsAligned : Place → Type 0
+IsAligned p = p.bit ≡ 0
+
+-- the eight bits of a byte, high bit first
+abbrev pub byte_bits : ℕ → List ℕ
+byte_bits b = b / 128 % 2 ∷ b / 64 % 2 ∷ b / 32 % 2 ∷ b / 16 % 2 ∷ b / 8 % 2 ∷ b / 4 % 2 ∷ b / 2 % 2 ∷ b / 1 % 2 ∷ []
+
+-- the bits that are left to read
+unfoldable pub bits_left : Place → List ℕ
+bits_left p = drop p.bit (flat_map byte_bits p.bytes)
+
+-- the number that the bits spell behind the bits of front
+abbrev pub number_after : ℕ → List ℕ → ℕ
+number_after front [] = front
+number_after front (b ∷ bs) = number_after (2 * front + b) bs
+
+-- The next n bits as a number, or None where the bits end first.
+abbrev pub bits_next : ℕ → List ℕ → Option ℕ
+bits_next n bits = if nat_lt (length bits) n then None else Some (number_after 0 (take n bits))
+
+-- The place n bits on, or the end where the bits end first.
+unfoldable pub bits_on : ℕ → Place → Place
+bits_on n p =
+    if nat_lt (length (bits_left p)) n then start_of []
+    else record { bytes = drop ((p.bit + n) / 8) p.bytes; bit = (p.bit + n) % 8 }
+
+-- the beginning of the next byte, where a byte was begun
+abbrev pub aligned : Place → Place
+aligned p = if p.bit == 0 then p else start_of (drop 1 p.bytes)
+
+-- The next count bytes, or None where the bytes end first.
+abbrev pub bytes_next : ℕ → Place → Option (List ℕ)
+bytes_next count p = if nat_lt (length p.bytes) count then None else Some (take count p.bytes)
+
+-- The next bytes as a number, high byte first.
+abbrev pub number_next : Width → Place → Option ℕ
+number_next w p = if nat_lt (length p.bytes) (byte_len w) then None else Some (from_be_bytes w (take (byte_len w) p.bytes))
+
+-- The place count bytes on; where the bytes end first a byte read leaves the place alone.
+abbrev pub bytes_on : ℕ → Place → Place
+bytes_on count p = if nat_lt (length p.bytes) count then p else record p { bytes = drop count p.bytes }
+
+-- a byte that is not 0
+abbrev pub nonzero : ℕ → Option ℕ
+nonzero b = if b == 0 then None else Some b
