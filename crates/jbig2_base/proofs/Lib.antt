@@ -1,1 +1,2 @@
 pub mod ReaderLemmas
+pub mod SegmentLemmas

@@ -1,5 +1,9 @@
 pub mod Answer
 pub mod Bits
 pub mod Counts
+pub mod Fields
 pub mod Grid
 pub mod Operator
+pub mod Segment
+pub mod SegmentViews
+pub mod Sorted

@@ -4,4 +4,6 @@
 
 pub mod bitmap;
 pub mod error;
+pub mod field;
 pub mod reader;
+pub mod segment;

@@ -1,0 +1,21 @@
+-- Segments of the code, seen as segments of the definitions.
+use Rattle.std.specs.Prelude.{List, map}
+use Rattle.jbig2_base.specs.Segment.{Header, Part}
+use Rattle.jbig2_base.specs.declared.segment.SegmentHeader.{SegmentHeader}
+use Rattle.jbig2_base.specs.declared.segment.Segment.{Segment}
+
+abbrev pub header_view : {A : Type 0} → SegmentHeader A → Header
+header_view h = record {
+  segment_number = h.segment_number;
+  segment_type = h.segment_type;
+  retain_flag = h.retain_flag;
+  page_association = h.page_association;
+  referred_to_segments = h.referred_to_segments.items;
+  data_length = h.data_length;
+}
+
+abbrev pub part_view : {A : Type 0} → Segment A → Part
+part_view s = record { header = header_view s.header; bytes = s.bytes.now }
+
+abbrev pub parts : {A : Type 0} → List (Segment A) → List Part
+parts segments = map (λ s. part_view s) segments

@@ -1,0 +1,401 @@
+//! Segments: headers and data (T.88, 7.2 and 7.3).
+ghost use Rattle.std.specs.Prelude.{◌≡◌, ◌+◌, ◌*◌, ◌/◌, ◌%◌, ◌^◌, ◌<◌, ◌≤◌, ◌==◌, ◌&&◌, nat_le, drop, length, OnOk, IfOk, IfSome, Ok};
+ghost use Rattle.std.specs.Int.{w8, w32};
+ghost use Rattle.std.specs.List.{list_any};
+ghost use Rattle.std.specs.Option.{ForSome};
+ghost use Rattle.std.specs.Bool.{OnTrue};
+ghost use Rattle.jbig2_base.specs.Answer.{Answers, Gives};
+ghost use Rattle.jbig2_base.specs.Bits.{IsAligned};
+ghost use Rattle.jbig2_base.specs.Segment.{type_of, is_reserved, is_immediate_generic, short_or_long_at, long_count_at, count_at, number_size, coded_number, numbers_in, referred_at, page_at, length_of, header_at, adaptive_bytes, is_end_marker, least, marker_end, coded_front_at, unknown_length_of, data_at, segment_data_at, segment_at};
+ghost use Rattle.jbig2_base.specs.SegmentViews.{header_view, part_view};
+
+use crate::error::{DecodeError, Result, SegmentError};
+use crate::field::{byte_field, bytes_field, u32_field};
+use crate::reader::Reader;
+use std::alloc::Allocator;
+
+/// What a segment holds (T.88, 7.3); `Reserved` stands for every number that is not listed there.
+#[derive(Clone, Copy, Debug, PartialEq, Eq)]
+pub enum SegmentType {
+    SymbolDictionary,
+    IntermediateTextRegion,
+    ImmediateTextRegion,
+    ImmediateLosslessTextRegion,
+    PatternDictionary,
+    IntermediateHalftoneRegion,
+    ImmediateHalftoneRegion,
+    ImmediateLosslessHalftoneRegion,
+    IntermediateGenericRegion,
+    ImmediateGenericRegion,
+    ImmediateLosslessGenericRegion,
+    IntermediateGenericRefinementRegion,
+    ImmediateGenericRefinementRegion,
+    ImmediateLosslessGenericRefinementRegion,
+    PageInformation,
+    EndOfPage,
+    EndOfStripe,
+    EndOfFile,
+    Profiles,
+    Tables,
+    ColourPalette,
+    Extension,
+    Reserved,
+}
+
+impl SegmentType {
+    /// The type with this number.
+    #[tactic(auto, unfolding(crate::specs::Segment::type_of))]
+    pub fn from_type_value(value: u8) -> SegmentType
+        ensures { result ≡ type_of value }
+    {
+        match value {
+            0 => SegmentType::SymbolDictionary,
+            4 => SegmentType::IntermediateTextRegion,
+            6 => SegmentType::ImmediateTextRegion,
+            7 => SegmentType::ImmediateLosslessTextRegion,
+            16 => SegmentType::PatternDictionary,
+            20 => SegmentType::IntermediateHalftoneRegion,
+            22 => SegmentType::ImmediateHalftoneRegion,
+            23 => SegmentType::ImmediateLosslessHalftoneRegion,
+            36 => SegmentType::IntermediateGenericRegion,
+            38 => SegmentType::ImmediateGenericRegion,
+            39 => SegmentType::ImmediateLosslessGenericRegion,
+            40 => SegmentType::IntermediateGenericRefinementRegion,
+            42 => SegmentType::ImmediateGenericRefinementRegion,
+            43 => SegmentType::ImmediateLosslessGenericRefinementRegion,
+            48 => SegmentType::PageInformation,
+            49 => SegmentType::EndOfPage,
+            50 => SegmentType::EndOfStripe,
+            51 => SegmentType::EndOfFile,
+            52 => SegmentType::Profiles,
+            53 => SegmentType::Tables,
+            54 => SegmentType::ColourPalette,
+            62 => SegmentType::Extension,
+            _ => SegmentType::Reserved,
+        }
+    }
+
+    /// Whether the number was not listed.
+    pub fn is_reserved(self) -> bool
+        ensures { result ≡ is_reserved self }
+    {
+        matches!(self, SegmentType::Reserved)
+    }
+
+    fn is_immediate_generic(self) -> bool
+        ensures { result ≡ is_immediate_generic self }
+    {
+        matches!(self, SegmentType::ImmediateGenericRegion)
+    }
+}
+
+/// A segment header (T.88, 7.2.2 to 7.2.7).
+#[derive(Debug, Drop)]
+pub struct SegmentHeader<A: Allocator> {
+    pub segment_number: u32,
+    pub segment_type: SegmentType,
+    /// Whether later segments may refer to this one.
+    pub retain_flag: bool,
+    /// The page's number, 0 for a segment of no page.
+    pub page_association: u32,
+    pub referred_to_segments: Vec<u32, A>,
+    /// The length of the data in bytes, None where it is unknown.
+    pub data_length: Option<u32>,
+}
+
+/// A segment: its header, and its data as a slice of the input.
+#[derive(Debug, Drop)]
+pub struct Segment<'a, A: Allocator> {
+    pub header: SegmentHeader<A>,
+    pub bytes: &'a [u8],
+}
+
+#[tactic(auto, unfolding(crate::specs::Segment::long_count_at))]
+fn long_count(reader: &mut Reader<'_>, high: u8) -> Result<u32>
+    requires aligned { IsAligned reader.old }
+    requires small { high < 32 }
+    ensures value { Answers (λ x. (x, reader.new.bytes)) result (long_count_at high reader.old.bytes) }
+    ensures aligned { IsAligned reader.new }
+    ensures bound { IfOk result (λ n. n < 2 ^ 29) }
+    ensures shorter { OnOk result (length reader.new.bytes ≤ length reader.old.bytes) }
+{
+    let low = bytes_field(reader, 3)?;
+    let count = u32::from_be_bytes([high, low[0], low[1], low[2]]);
+    bytes_field(reader, (count as usize + 8) / 8)?;
+    Ok(count)
+}
+
+fn short_or_long_count(reader: &mut Reader<'_>, first: u8) -> Result<u32>
+    requires { IsAligned reader.old }
+    ensures value { Answers (λ x. (x, reader.new.bytes)) result (short_or_long_at first reader.old.bytes) }
+    ensures aligned { IsAligned reader.new }
+    ensures bound { IfOk result (λ n. n < 2 ^ 29) }
+    ensures shorter { OnOk result (length reader.new.bytes ≤ length reader.old.bytes) }
+{
+    if first / 32 == 7 {
+        return long_count(reader, first % 32);
+    }
+    Ok(u32::from(first / 32))
+}
+
+/// The count of referred segments (T.88, 7.2.4).
+#[tactic(auto, unfolding(crate::specs::Segment::count_at))]
+fn referred_count(reader: &mut Reader<'_>) -> Result<u32>
+    requires { IsAligned reader.old }
+    ensures value { Answers (λ x. (x, reader.new.bytes)) result (count_at reader.old.bytes) }
+    ensures aligned { IsAligned reader.new }
+    ensures bound { IfOk result (λ n. n < 2 ^ 29) }
+    ensures shorter { OnOk result (length reader.new.bytes ≤ length reader.old.bytes) }
+{
+    let first = byte_field(reader)?;
+    if first / 32 == 5 || first / 32 == 6 {
+        return Err(DecodeError::Segment(SegmentError::InvalidReferredCount));
+    }
+    short_or_long_count(reader, first)
+}
+
+/// How many bytes a referred number has, by the segment's own number (T.88, 7.2.5).
+fn number_size(own: u32) -> usize
+    ensures { result ≡ number_size own }
+{
+    if own <= 256 {
+        1
+    } else if own <= 65536 {
+        2
+    } else {
+        4
+    }
+}
+
+fn coded_number(own: u32, bytes: &[u8]) -> u32
+    requires { number_size own ≤ length bytes.now }
+    ensures { result ≡ coded_number own bytes.now }
+{
+    if own <= 256 {
+        return u32::from(bytes[0]);
+    }
+    if own <= 65536 {
+        return u32::from(u16::from_be_bytes([bytes[0], bytes[1]]));
+    }
+    u32::from_be_bytes([bytes[0], bytes[1], bytes[2], bytes[3]])
+}
+
+fn numbers_in<A: Allocator>(alloc: A, own: u32, count: u32, bytes: &[u8]) -> Result<Vec<u32, A>>
+    requires { length bytes.now ≡ count * number_size own }
+    ensures { Gives (λ v. v.items) result (Ok (numbers_in own count bytes.now)) }
+{
+    let size = number_size(own);
+    let mut numbers = Vec::new(alloc);
+    for index in 0..count as usize {
+        numbers.push(coded_number(own, &bytes[index * size..]))?;
+    }
+    Ok(numbers)
+}
+
+fn is_any_later(numbers: &[u32], own: u32) -> bool
+    ensures { result ≡ list_any (λ n. nat_le own n) numbers.now }
+{
+    numbers.iter().any(|number| own <= *number)
+}
+
+/// The numbers of the segments that this one refers to (T.88, 7.2.5).
+#[tactic(auto, unfolding(crate::specs::Segment::referred_at))]
+fn referred_numbers<A: Allocator>(
+    alloc: A,
+    reader: &mut Reader<'_>,
+    own: u32,
+) -> Result<Vec<u32, A>>
+    requires { IsAligned reader.old }
+    ensures value { Gives (λ v. (v.items, reader.new.bytes)) result (referred_at own reader.old.bytes) }
+    ensures aligned { IsAligned reader.new }
+    ensures shorter { OnOk result (length reader.new.bytes ≤ length reader.old.bytes) }
+{
+    let count = referred_count(reader)?;
+    let coded = bytes_field(reader, count as usize * number_size(own))?;
+    let numbers = numbers_in(alloc, own, count, coded)?;
+    if is_any_later(&numbers, own) {
+        return Err(DecodeError::Segment(SegmentError::InvalidReference));
+    }
+    Ok(numbers)
+}
+
+/// The page association, in four bytes or one (T.88, 7.2.6).
+fn page_association(reader: &mut Reader<'_>, long: bool) -> Result<u32>
+    requires { IsAligned reader.old }
+    ensures value { Answers (λ x. (x, reader.new.bytes)) result (page_at long reader.old.bytes) }
+    ensures aligned { IsAligned reader.new }
+    ensures shorter { OnOk result (length reader.new.bytes ≤ length reader.old.bytes) }
+{
+    if long {
+        return u32_field(reader);
+    }
+    let number = byte_field(reader)?;
+    Ok(u32::from(number))
+}
+
+fn data_length(strict: bool, kind: SegmentType, number: u32) -> Result<Option<u32>>
+    ensures { Answers (λ length. length) result (length_of strict kind number) }
+{
+    if number != u32::MAX {
+        return Ok(Some(number));
+    }
+    if strict && !kind.is_immediate_generic() {
+        return Err(DecodeError::Segment(SegmentError::InvalidUnknownLength));
+    }
+    Ok(None)
+}
+
+/// A segment header at the reader's place (T.88, 7.2).
+///
+/// In strict mode a type that is not listed answers `SegmentError::UnknownType`, and an unknown
+/// length of another segment than an immediate generic region `SegmentError::InvalidUnknownLength`.
+#[tactic(auto, unfolding(crate::specs::Segment::header_at))]
+pub fn parse_segment_header<A: Allocator>(
+    alloc: A,
+    reader: &mut Reader<'_>,
+    strict: bool,
+) -> Result<SegmentHeader<A>>
+    requires { IsAligned reader.old }
+    ensures value { Gives (λ h. (header_view h, reader.new.bytes)) result (header_at strict reader.old.bytes) }
+    ensures aligned { IsAligned reader.new }
+    ensures shorter { OnOk result (length reader.new.bytes < length reader.old.bytes) }
+{
+    let segment_number = u32_field(reader)?;
+    let flags = byte_field(reader)?;
+    let segment_type = SegmentType::from_type_value(flags % 64);
+    if strict && segment_type.is_reserved() {
+        return Err(DecodeError::Segment(SegmentError::UnknownType));
+    }
+    let referred_to_segments = referred_numbers(alloc, reader, segment_number)?;
+    let page_association = page_association(reader, flags / 64 % 2 == 1)?;
+    let number = u32_field(reader)?;
+    let data_length = data_length(strict, segment_type, number)?;
+    Ok(SegmentHeader {
+        segment_number,
+        segment_type,
+        retain_flag: flags / 128 == 0,
+        page_association,
+        referred_to_segments,
+        data_length,
+    })
+}
+
+/// How many bytes of adaptive pixels a generic region has, by its flags (T.88, 7.4.6.3).
+fn adaptive_bytes(flags: u8) -> usize
+    ensures { result ≡ adaptive_bytes flags }
+{
+    if flags % 2 == 1 {
+        return 0;
+    }
+    if flags / 2 % 4 != 0 {
+        return 2;
+    }
+    if flags / 16 % 2 == 1 { 24 } else { 8 }
+}
+
+fn is_end_marker(flags: u8, bytes: &[u8]) -> bool
+    ensures value { result ≡ is_end_marker flags bytes.now }
+    ensures room { OnTrue result (6 ≤ length bytes.now) }
+{
+    if bytes.len() < 6 {
+        return false;
+    }
+    if flags % 2 == 1 {
+        return bytes[0] == 0 && bytes[1] == 0;
+    }
+    bytes[0] == 0xFF && bytes[1] == 0xAC
+}
+
+/// The least place of an end marker in `bytes` (T.88, 7.2.7).
+fn end_marker(flags: u8, bytes: &[u8]) -> Option<usize>
+    ensures value { result ≡ least (λ k. is_end_marker flags (drop k bytes.now)) (length bytes.now) }
+    ensures inside { IfSome result (λ k. k + 6 ≤ length bytes.now) }
+{
+    for place in 0..bytes.len() {
+        if is_end_marker(flags, &bytes[place..]) {
+            return Some(place);
+        }
+    }
+    None
+}
+
+fn marker_end(place: Option<usize>, front: usize) -> Result<usize>
+    requires { ForSome place (λ k. front + k + 6 < 2 ^ 64) }
+    ensures { Answers (λ n. n) result (marker_end place front) }
+{
+    match place {
+        Some(place) => Ok(front + place + 6),
+        None => Err(DecodeError::Segment(SegmentError::MissingEndMarker)),
+    }
+}
+
+/// A generic region's flags; the reader then stands behind its adaptive pixels.
+#[tactic(auto, unfolding(crate::specs::Segment::coded_front_at))]
+fn coded_front(reader: &mut Reader<'_>) -> Result<u8>
+    requires { IsAligned reader.old }
+    ensures value { Answers (λ flags. (flags, reader.new.bytes)) result (coded_front_at reader.old.bytes) }
+    ensures length { IfOk result (λ flags. length reader.new.bytes + 18 + adaptive_bytes flags ≡ length reader.old.bytes) }
+{
+    bytes_field(reader, 17)?;
+    let flags = byte_field(reader)?;
+    bytes_field(reader, adaptive_bytes(flags))?;
+    Ok(flags)
+}
+
+/// The length of the data at the front of `bytes` whose header leaves it open (T.88, 7.2.7).
+fn unknown_length(bytes: &[u8]) -> Result<usize>
+    ensures { Answers (λ n. n) result (unknown_length_of bytes.now) }
+{
+    let mut reader = Reader::new(bytes);
+    let flags = coded_front(&mut reader)?;
+    marker_end(end_marker(flags, reader.tail()), 18 + adaptive_bytes(flags))
+}
+
+fn segment_bytes<'a>(reader: &mut Reader<'a>, data_length: Option<u32>) -> Result<&'a [u8]>
+    requires { IsAligned reader.old }
+    ensures value { Answers (λ x. (x.now, reader.new.bytes)) result (data_at data_length reader.old.bytes) }
+    ensures aligned { IsAligned reader.new }
+    ensures shorter { OnOk result (length reader.new.bytes ≤ length reader.old.bytes) }
+{
+    match data_length {
+        Some(length) => bytes_field(reader, length as usize),
+        None => {
+            let length = unknown_length(reader.tail())?;
+            bytes_field(reader, length)
+        }
+    }
+}
+
+/// The data of a segment, at the reader's place behind its header or where the data is gathered
+/// (T.88, 7.2.7 and Annex D).
+///
+/// Data of unknown length ends with the first end marker; none answers
+/// `SegmentError::MissingEndMarker`. Takes no memory.
+pub fn parse_segment_data<'a, A: Allocator>(
+    reader: &mut Reader<'a>,
+    header: SegmentHeader<A>,
+) -> Result<Segment<'a, A>>
+    requires { IsAligned reader.old }
+    ensures value { Answers (λ s. (part_view s, reader.new.bytes)) result (segment_data_at (header_view header) reader.old.bytes) }
+    ensures aligned { IsAligned reader.new }
+    ensures shorter { OnOk result (length reader.new.bytes ≤ length reader.old.bytes) }
+{
+    let bytes = segment_bytes(reader, header.data_length)?;
+    Ok(Segment { header, bytes })
+}
+
+/// A segment at the reader's place: its header and the data behind it (T.88, 7.2).
+#[tactic(auto, unfolding(crate::specs::Segment::segment_at))]
+pub fn parse_segment<'a, A: Allocator>(
+    alloc: A,
+    reader: &mut Reader<'a>,
+    strict: bool,
+) -> Result<Segment<'a, A>>
+    requires { IsAligned reader.old }
+    ensures value { Gives (λ s. (part_view s, reader.new.bytes)) result (segment_at strict reader.old.bytes) }
+    ensures aligned { IsAligned reader.new }
+    ensures shorter { OnOk result (length reader.new.bytes < length reader.old.bytes) }
+{
+    let header = parse_segment_header(alloc, reader, strict)?;
+    parse_segment_data(reader, header)
+}
