@@ -1,2 +1,3 @@
 pub mod ReaderLemmas
 pub mod SegmentLemmas
+pub mod Sequential

@@ -6,4 +6,5 @@ pub mod Grid
 pub mod Operator
 pub mod Segment
 pub mod SegmentViews
+pub mod Sequential
 pub mod Sorted

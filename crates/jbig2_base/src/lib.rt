@@ -5,5 +5,6 @@
 pub mod bitmap;
 pub mod error;
 pub mod field;
+pub mod file;
 pub mod reader;
 pub mod segment;
