@@ -50,26 +50,26 @@ next front strict bytes rest meant p reads e shorter goes = record {
   most = reads.most - 1;
   enough = omega (arith, reads.enough);
   same =
-    one_more front p (segments_in (reads.most - 1) strict rest)
-    ∙ ap (λ (r : Result (List Part) DecodeError). with_front front r) (sym (cond-false (is_end_of_file p.header.segment_type) (Ok (p ∷ [])) (segments_in (reads.most - 1) strict rest >>= λ ps. Ok (p ∷ ps)) goes))
-    ∙ at_front front strict bytes meant reads (Ok (p, rest)) (omega arith) e;
+      one_more front p (segments_in (reads.most - 1) strict rest)
+      ∙ ap (λ (r : Result (List Part) DecodeError). with_front front r) (sym (cond-false (is_end_of_file p.header.segment_type) (Ok (p ∷ [])) (segments_in (reads.most - 1) strict rest >>= λ ps. Ok (p ∷ ps)) goes))
+      ∙ at_front front strict bytes meant reads (Ok (p, rest)) (omega arith) e;
 }
 
 pub last : (front : List Part) (strict : Bool) (bytes rest : List ℕ) (meant : Result (List Part) DecodeError) (p : Part) → Reads front strict bytes meant → segment_at strict bytes ≡ Ok (p, rest) → 0 < length bytes → is_end_of_file p.header.segment_type ≡ true → meant ≡ Ok (front ++ p ∷ [])
 last front strict bytes rest meant p reads e some ends =
     sym (ap (λ (r : Result (List Part) DecodeError). with_front front r) (sym (cond-true (is_end_of_file p.header.segment_type) (Ok (p ∷ [])) (segments_in (reads.most - 1) strict rest >>= λ ps. Ok (p ∷ ps)) ends))
-        ∙ at_front front strict bytes meant reads (Ok (p, rest)) some e)
+    ∙ at_front front strict bytes meant reads (Ok (p, rest)) some e)
 
 pub drops : (front : List Part) (strict : Bool) (bytes : List ℕ) (meant : Result (List Part) DecodeError) (error : DecodeError) → Reads front strict bytes meant → segment_at strict bytes ≡ Err error → 0 < length bytes → is_cut_off strict error ≡ true → meant ≡ Ok front
 drops front strict bytes meant error reads e some cut =
     sym (ap (λ (ps : List Part). Ok ps) (sym (append-nil front))
-        ∙ ap (λ (r : Result (List Part) DecodeError). with_front front r) (sym (cond-true (is_cut_off strict error) (Ok []) (Err error) cut))
-        ∙ at_front front strict bytes meant reads (Err error) some e)
+    ∙ ap (λ (r : Result (List Part) DecodeError). with_front front r) (sym (cond-true (is_cut_off strict error) (Ok []) (Err error) cut))
+    ∙ at_front front strict bytes meant reads (Err error) some e)
 
 pub gives_up : (front : List Part) (strict : Bool) (bytes : List ℕ) (meant : Result (List Part) DecodeError) (error : DecodeError) → Reads front strict bytes meant → segment_at strict bytes ≡ Err error → 0 < length bytes → is_cut_off strict error ≡ false → meant ≡ Err error
 gives_up front strict bytes meant error reads e some kept =
     sym (ap (λ (r : Result (List Part) DecodeError). with_front front r) (sym (cond-false (is_cut_off strict error) (Ok []) (Err error) kept))
-        ∙ at_front front strict bytes meant reads (Err error) some e)
+    ∙ at_front front strict bytes meant reads (Err error) some e)
 
 pub ends : (front : List Part) (strict : Bool) (bytes : List ℕ) (meant : Result (List Part) DecodeError) → Reads front strict bytes meant → length bytes ≡ 0 → meant ≡ Ok front
 ends front strict bytes meant reads none =

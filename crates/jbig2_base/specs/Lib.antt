@@ -4,6 +4,7 @@ pub mod Counts
 pub mod Fields
 pub mod Grid
 pub mod Operator
+pub mod PageInfo
 pub mod Segment
 pub mod SegmentViews
 pub mod Sequential

@@ -6,5 +6,6 @@ pub mod bitmap;
 pub mod error;
 pub mod field;
 pub mod file;
+pub mod page_info;
 pub mod reader;
 pub mod segment;

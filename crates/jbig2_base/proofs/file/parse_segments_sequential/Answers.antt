@@ -31,8 +31,8 @@ reading-preserved g c =
     record {
       aligned = c.in-Ok.ensures.aligned;
       reads = Reads-as (front ++ p ∷ []) (parts c.push.new.self.items) c.args.strict c.parse_segment.new.reader.bytes meant
-        (sym (ap (λ (ss : List (Segment g.row.A.Denot)). parts ss) c.in_ok-push-in-Ok.ensures.items ∙ map_push (λ (s : Segment g.row.A.Denot). part_view s) c.reading.segments.items c.in-Ok.segment))
-        (next front c.args.strict c.reading.reader.bytes c.parse_segment.new.reader.bytes meant p c.reading.invariant.reads c.in-Ok.ensures.value c.in-Ok.ensures.shorter (sym c.if-last.ensures));
+          (sym (ap (λ (ss : List (Segment g.row.A.Denot)). parts ss) c.in_ok-push-in-Ok.ensures.items ∙ map_push (λ (s : Segment g.row.A.Denot). part_view s) c.reading.segments.items c.in-Ok.segment))
+          (next front c.args.strict c.reading.reader.bytes c.parse_segment.new.reader.bytes meant p c.reading.invariant.reads c.in-Ok.ensures.value c.in-Ok.ensures.shorter (sym c.if-last.ensures));
     }
 
 -- an error that cuts off is no want of memory

@@ -1,0 +1,110 @@
+-- Page information (T.88, 7.4.8), and a page's size from it and its stripes (7.4.10).
+use Rattle.std.specs.Prelude.{ℕ, ◌+◌, ◌/◌, ◌%◌, ◌==◌, max, nat_lt, Bool, true, false, not, ◌&&◌, ◌||◌, List, [], ◌∷◌, length, take, Option, Some, None, Result, Ok, Err, if◌then◌else◌}
+use Rattle.std.specs.Int.{w8, w16, w32, from_be_bytes}
+use Rattle.jbig2_base.specs.Answer.{◌>>=◌, refuse_if}
+use Rattle.jbig2_base.specs.Fields.{number_at}
+use Rattle.jbig2_base.specs.Segment.{Part}
+use Rattle.jbig2_base.specs.declared.bitmap.operator.CombinationOperator.{CombinationOperator}
+use Rattle.jbig2_base.specs.declared.bitmap.operator.CombinationOperator.TheVariants.{Or, And, Xor, Xnor}
+use Rattle.jbig2_base.specs.declared.error.DecodeError.{DecodeError}
+use Rattle.jbig2_base.specs.declared.error.DecodeError.TheVariants.{Format, Overflow}
+use Rattle.jbig2_base.specs.declared.error.FormatError.TheVariants.{MissingPageInfo, UnknownPageHeight, EmptyPage}
+use Rattle.jbig2_base.specs.declared.error.OverflowError.TheVariants.{BitmapDimension}
+use Rattle.jbig2_base.specs.declared.page_info.PageFlags.{PageFlags}
+use Rattle.jbig2_base.specs.declared.page_info.PageInformation.{PageInformation}
+use Rattle.jbig2_base.specs.declared.page_info.PageStriping.{PageStriping}
+use Rattle.jbig2_base.specs.declared.page_info.Sheet.{Sheet}
+use Rattle.jbig2_base.specs.declared.segment.SegmentType.{SegmentType}
+use Rattle.jbig2_base.specs.declared.segment.SegmentType.TheVariants as types
+
+-- the default operator by its two bits (7.4.8.5)
+abbrev pub default_operator_of : ℕ → CombinationOperator
+default_operator_of n = if n == 0 then Or else if n == 1 then And else if n == 2 then Xor else Xnor
+
+abbrev pub is_set : ℕ → ℕ → Bool
+is_set flags bit = flags / bit % 2 == 1
+
+-- the page's flags (7.4.8.5)
+abbrev pub flags_of : ℕ → PageFlags
+flags_of n = record {
+  is_lossless = is_set n 1;
+  might_contain_refinements = is_set n 2;
+  default_pixel = is_set n 4;
+  default_combination_operator = default_operator_of (n / 8 % 4);
+  requires_auxiliary_buffers = is_set n 32;
+  combination_operator_overridden = is_set n 64;
+  might_contain_coloured = is_set n 128;
+}
+
+-- the striping (7.4.8.6)
+abbrev pub striping_of : ℕ → PageStriping
+striping_of n = record { is_striped = n / 32768 == 1; max_stripe_size = n % 32768 }
+
+-- a resolution, where 0 says that it is unknown (7.4.8.3)
+abbrev pub resolution_of : ℕ → Option ℕ
+resolution_of n = if n == 0 then None else Some n
+
+unfoldable pub information_at : List ℕ → Result (PageInformation × List ℕ) DecodeError
+information_at bytes = do
+  width ← number_at w32 bytes
+  height ← number_at w32 width.1
+  x ← number_at w32 height.1
+  y ← number_at w32 x.1
+  flags ← number_at w8 y.1
+  striping ← number_at w16 flags.1
+  Ok (
+    record {
+      width = width.0;
+      height = height.0;
+      x_resolution = resolution_of x.0;
+      y_resolution = resolution_of y.0;
+      flags = flags_of flags.0;
+      striping = striping_of striping.0;
+    },
+    striping.1,
+  )
+
+abbrev pub is_page_information : SegmentType → Bool
+is_page_information types.PageInformation = true
+is_page_information _ = false
+
+abbrev pub is_end_of_stripe : SegmentType → Bool
+is_end_of_stripe types.EndOfStripe = true
+is_end_of_stripe _ = false
+
+-- the first page information segment
+abbrev pub first_information : List Part → Result Part DecodeError
+first_information [] = Err (Format MissingPageInfo)
+first_information (p ∷ ps) = if is_page_information p.header.segment_type then Ok p else first_information ps
+
+-- How high a page is that ends with this stripe (7.4.10): its last row's number and one, 0 for what is no such stripe.
+abbrev pub last_row : List ℕ → ℕ
+last_row bytes = from_be_bytes w32 (take 4 bytes)
+
+abbrev pub stripe_height : Part → ℕ
+stripe_height p =
+    if is_end_of_stripe p.header.segment_type && length p.bytes == 4 && not (last_row p.bytes == 4294967295) then last_row p.bytes + 1
+    else 0
+
+abbrev pub stripes_height : List Part → ℕ
+stripes_height [] = 0
+stripes_height (p ∷ ps) = max (stripe_height p) (stripes_height ps)
+
+-- A height of all ones is unknown; then the stripes tell it (7.4.8.2).
+abbrev pub height_of : ℕ → ℕ → Result ℕ DecodeError
+height_of stated stripes = if stated == 4294967295 then (refuse_if (stripes == 0) (Format UnknownPageHeight) >>= λ told. Ok stripes) else Ok stated
+
+-- a page of this size has pixels, and no more than a bitmap may have
+abbrev pub sheet_with : ℕ → PageInformation → ℕ → Result Sheet DecodeError
+sheet_with number info height = do
+  some ← refuse_if (info.width == 0 || height == 0) (Format EmptyPage)
+  fits ← refuse_if (nat_lt 65535 info.width || nat_lt 65535 height) (Overflow BitmapDimension)
+  Ok (record { number = number; width = info.width; height = height; default_pixel = info.flags.default_pixel })
+
+-- What a page begins as, by its first page information and its stripes.
+unfoldable pub sheet_of : List Part → Result Sheet DecodeError
+sheet_of ps = do
+  first ← first_information ps
+  info ← information_at first.bytes
+  height ← height_of info.0.height (stripes_height ps)
+  sheet_with first.header.page_association info.0 height

@@ -1,0 +1,224 @@
+//! Page information segments and the size of a page (T.88, 7.4.8 and 7.4.10).
+ghost use Rattle.std.specs.Prelude.{◌≡◌, ◌+◌, ◌<◌, ◌≤◌, Ok, IfOk, OnOk, Option, length};
+ghost use Rattle.jbig2_base.specs.Answer.{Answers};
+ghost use Rattle.jbig2_base.specs.Bits.{IsAligned};
+ghost use Rattle.jbig2_base.specs.PageInfo.{default_operator_of, flags_of, striping_of, resolution_of, information_at, is_page_information, is_end_of_stripe, first_information, stripe_height, stripes_height, height_of, sheet_with, sheet_of};
+ghost use Rattle.jbig2_base.specs.SegmentViews.{part_view, parts};
+
+use crate::bitmap::operator::CombinationOperator;
+use crate::error::{DecodeError, FormatError, OverflowError, Result};
+use crate::field::{byte_field, u16_field, u32_field};
+use crate::reader::Reader;
+use crate::segment::{Segment, SegmentType};
+use std::alloc::Allocator;
+
+/// The fields of a page information segment (T.88, 7.4.8).
+#[derive(Clone, Copy, Debug)]
+pub struct PageInformation {
+    /// In pixels.
+    pub width: u32,
+    /// In pixels; all ones where it is unknown.
+    pub height: u32,
+    /// In pixels a metre, where it is known.
+    pub x_resolution: Option<u32>,
+    /// In pixels a metre, where it is known.
+    pub y_resolution: Option<u32>,
+    pub flags: PageFlags,
+    pub striping: PageStriping,
+}
+
+/// The flags of a page (T.88, 7.4.8.5).
+#[derive(Clone, Copy, Debug)]
+pub struct PageFlags {
+    pub is_lossless: bool,
+    pub might_contain_refinements: bool,
+    /// Whether the page begins black.
+    pub default_pixel: bool,
+    pub default_combination_operator: CombinationOperator,
+    pub requires_auxiliary_buffers: bool,
+    pub combination_operator_overridden: bool,
+    pub might_contain_coloured: bool,
+}
+
+/// Whether a page comes in stripes, and how high they may be in pixels (T.88, 7.4.8.6).
+#[derive(Clone, Copy, Debug)]
+pub struct PageStriping {
+    pub is_striped: bool,
+    pub max_stripe_size: u16,
+}
+
+/// What a page begins as: its number, its size in pixels and its colour.
+#[derive(Clone, Copy, Debug, PartialEq, Eq)]
+pub struct Sheet {
+    pub number: u32,
+    pub width: u32,
+    pub height: u32,
+    /// Whether the page begins black.
+    pub default_pixel: bool,
+}
+
+fn default_operator(bits: u8) -> CombinationOperator
+    requires { bits < 4 }
+    ensures { result ≡ default_operator_of bits }
+{
+    match bits {
+        0 => CombinationOperator::Or,
+        1 => CombinationOperator::And,
+        2 => CombinationOperator::Xor,
+        _ => CombinationOperator::Xnor,
+    }
+}
+
+fn page_flags(flags: u8) -> PageFlags
+    ensures { result ≡ flags_of flags }
+{
+    PageFlags {
+        is_lossless: flags / 1 % 2 == 1,
+        might_contain_refinements: flags / 2 % 2 == 1,
+        default_pixel: flags / 4 % 2 == 1,
+        default_combination_operator: default_operator(flags / 8 % 4),
+        requires_auxiliary_buffers: flags / 32 % 2 == 1,
+        combination_operator_overridden: flags / 64 % 2 == 1,
+        might_contain_coloured: flags / 128 % 2 == 1,
+    }
+}
+
+fn page_striping(striping: u16) -> PageStriping
+    ensures { result ≡ striping_of striping }
+{
+    PageStriping {
+        is_striped: striping / 0x8000 == 1,
+        max_stripe_size: striping % 0x8000,
+    }
+}
+
+fn resolution(number: u32) -> Option<u32>
+    ensures { result ≡ resolution_of number }
+{
+    if number == 0 { None } else { Some(number) }
+}
+
+/// The fields of a page information segment, at the reader's place (T.88, 7.4.8).
+///
+/// `ParseError::UnexpectedEof` where the bytes do not hold them. Takes no memory.
+#[tactic(auto, unfolding(crate::specs::PageInfo::information_at))]
+pub fn parse_page_information(reader: &mut Reader<'_>) -> Result<PageInformation>
+    requires { IsAligned reader.old }
+    ensures value { Answers (λ p. (p, reader.new.bytes)) result (information_at reader.old.bytes) }
+    ensures aligned { IsAligned reader.new }
+{
+    let width = u32_field(reader)?;
+    let height = u32_field(reader)?;
+    let x_resolution = u32_field(reader)?;
+    let y_resolution = u32_field(reader)?;
+    let flags = byte_field(reader)?;
+    let striping = u16_field(reader)?;
+    Ok(PageInformation {
+        width,
+        height,
+        x_resolution: resolution(x_resolution),
+        y_resolution: resolution(y_resolution),
+        flags: page_flags(flags),
+        striping: page_striping(striping),
+    })
+}
+
+fn is_page_information(kind: SegmentType) -> bool
+    ensures { result ≡ is_page_information kind }
+{
+    matches!(kind, SegmentType::PageInformation)
+}
+
+fn is_end_of_stripe(kind: SegmentType) -> bool
+    ensures { result ≡ is_end_of_stripe kind }
+{
+    matches!(kind, SegmentType::EndOfStripe)
+}
+
+fn first_information<'s, 'a, A: Allocator>(
+    segments: &'s [Segment<'a, A>],
+) -> Result<&'s Segment<'a, A>>
+    ensures { Answers (λ s. part_view s.now) result (first_information (parts segments.now)) }
+{
+    for segment in segments {
+        if is_page_information(segment.header.segment_type) {
+            return Ok(segment);
+        }
+    }
+    Err(DecodeError::Format(FormatError::MissingPageInfo))
+}
+
+fn stripe_height<A: Allocator>(segment: &Segment<'_, A>) -> u32
+    ensures { result ≡ stripe_height (part_view segment.now) }
+{
+    let bytes = segment.bytes;
+    if !is_end_of_stripe(segment.header.segment_type) || bytes.len() != 4 {
+        return 0;
+    }
+    let last_row = u32::from_be_bytes([bytes[0], bytes[1], bytes[2], bytes[3]]);
+    if last_row == u32::MAX {
+        return 0;
+    }
+    last_row + 1
+}
+
+fn stripes_height<A: Allocator>(segments: &[Segment<'_, A>]) -> u32
+    ensures { result ≡ stripes_height (parts segments.now) }
+{
+    let mut height = 0;
+    for segment in segments {
+        height = stripe_height(segment).max(height);
+    }
+    height
+}
+
+fn page_height(stated: u32, stripes: u32) -> Result<u32>
+    ensures { Answers (λ height. height) result (height_of stated stripes) }
+{
+    if stated != u32::MAX {
+        return Ok(stated);
+    }
+    if stripes == 0 {
+        return Err(DecodeError::Format(FormatError::UnknownPageHeight));
+    }
+    Ok(stripes)
+}
+
+fn sheet_with(number: u32, information: &PageInformation, height: u32) -> Result<Sheet>
+    ensures value { Answers (λ sheet. sheet) result (sheet_with number information.now height) }
+    ensures fits { IfOk result (λ sheet. (sheet.width ≤ 65535) × (sheet.height ≤ 65535)) }
+{
+    let width = information.width;
+    if width == 0 || height == 0 {
+        return Err(DecodeError::Format(FormatError::EmptyPage));
+    }
+    if width > 65535 || height > 65535 {
+        return Err(DecodeError::Overflow(OverflowError::BitmapDimension));
+    }
+    Ok(Sheet {
+        number,
+        width,
+        height,
+        default_pixel: information.flags.default_pixel,
+    })
+}
+
+impl Sheet {
+    /// What a page with these segments begins as: its first page information, and where that
+    /// leaves the height open the largest end of stripe (T.88, 7.4.8 and 7.4.10).
+    ///
+    /// `FormatError::MissingPageInfo`, `UnknownPageHeight` or `EmptyPage`,
+    /// `ParseError::UnexpectedEof` where the segment is too short, `OverflowError::BitmapDimension`
+    /// above 65535 pixels either way. Takes no memory.
+    #[tactic(auto, unfolding(crate::specs::PageInfo::sheet_of))]
+    pub fn of_segments<A: Allocator>(segments: &[Segment<'_, A>]) -> Result<Sheet>
+        ensures value { Answers (λ sheet. sheet) result (sheet_of (parts segments.now)) }
+        ensures fits { IfOk result (λ sheet. (sheet.width ≤ 65535) × (sheet.height ≤ 65535)) }
+    {
+        let first = first_information(segments)?;
+        let mut reader = Reader::new(first.bytes);
+        let information = parse_page_information(&mut reader)?;
+        let height = page_height(information.height, stripes_height(segments))?;
+        sheet_with(first.header.page_association, &information, height)
+    }
+}
