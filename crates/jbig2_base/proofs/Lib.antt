@@ -1,3 +1,6 @@
 pub mod ReaderLemmas
 pub mod SegmentLemmas
 pub mod Sequential
+mod BitLemmas
+mod GridLemmas
+mod PackedLemmas

@@ -9,3 +9,6 @@ pub mod Segment
 pub mod SegmentViews
 pub mod Sequential
 pub mod Sorted
+pub mod Packed
+pub mod Sizes
+pub mod WordBits

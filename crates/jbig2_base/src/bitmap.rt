@@ -1,4 +1,111 @@
 //! Packed bitmaps (T.88, 6): rows of pixels behind a few reading and writing calls.
+ghost use Rattle.std.specs.Prelude.{◌≡◌, ◌+◌, OnErr, false};
+ghost use Rattle.jbig2_base.specs.Answer.{Gives};
+ghost use Rattle.jbig2_base.specs.Grid.{blank, pixel_at, bit_number};
+ghost use Rattle.jbig2_base.specs.Sizes.{blank_or_overflow, wide_or_overflow};
 
 pub mod operator;
+mod rows;
 pub mod steps;
+
+use crate::error::{DecodeError, OverflowError, Result};
+use rows::PackedRows;
+use std::alloc::Allocator;
+use std::marker::Model;
+use std::sync::ledger::Ledger;
+use steps::Steps;
+
+/// The longest side of a bitmap that is not wide.
+const MAX_DIMENSION: u32 = 65535;
+
+/// A grid of black and white pixels.
+#[derive(Debug, Drop)]
+pub struct Bitmap<A: Allocator> {
+    rows: PackedRows<A>,
+}
+
+impl<A: Allocator> Model for Bitmap<A> {
+    ghost use Rattle.jbig2_base.specs.Grid.{Grid};
+
+    ghost Value = { Grid };
+
+    ghost view = { λ b. b.rows };
+}
+
+impl<A: Allocator> Bitmap<A> {
+    /// A bitmap of no pixels, which takes no memory.
+    pub fn new_empty(alloc: A) -> Bitmap<A>
+        ensures { result ≡ blank 0 0 false }
+    {
+        Bitmap {
+            rows: PackedRows::new(alloc),
+        }
+    }
+
+    /// A white bitmap. A side above 65535 is refused (`OverflowError::BitmapDimension`).
+    pub fn new(alloc: A, width: u32, height: u32) -> Result<Bitmap<A>>
+        ensures { Gives (λ b. b) result (blank_or_overflow width height false) }
+    {
+        Bitmap::new_with(alloc, width, height, false)
+    }
+
+    /// A white bitmap of any sides whose product is at most 65535 * 65535; above it is refused
+    /// (`OverflowError::BitmapDimension`).
+    pub fn new_wide(alloc: A, width: u32, height: u32) -> Result<Bitmap<A>>
+        ensures { Gives (λ b. b) result (wide_or_overflow width height) }
+    {
+        if u64::from(width) * u64::from(height) > 65535 * 65535 {
+            return Err(DecodeError::Overflow(OverflowError::BitmapDimension));
+        }
+        let mut rows = PackedRows::new(alloc);
+        rows.refill(width, height, false)?;
+        Ok(Bitmap { rows })
+    }
+
+    /// A bitmap of pixels that are all `default_pixel` (`true` is black). A side above 65535 is
+    /// refused (`OverflowError::BitmapDimension`).
+    pub fn new_with(alloc: A, width: u32, height: u32, default_pixel: bool) -> Result<Bitmap<A>>
+        ensures { Gives (λ b. b) result (blank_or_overflow width height default_pixel) }
+    {
+        let mut bitmap = Bitmap::new_empty(alloc);
+        bitmap.reinitialize(width, height, default_pixel)?;
+        Ok(bitmap)
+    }
+
+    /// Gives this bitmap another size and makes all pixels `default_pixel` (`true` is black). A
+    /// side above 65535 is refused (`OverflowError::BitmapDimension`); a refusal changes nothing.
+    pub fn reinitialize(&mut self, width: u32, height: u32, default_pixel: bool) -> Result<()>
+        ensures value { Gives (λ _. self.new) result (blank_or_overflow width height default_pixel) }
+        ensures err { OnErr result (self.new ≡ self.old) }
+    {
+        if width > MAX_DIMENSION || height > MAX_DIMENSION {
+            return Err(DecodeError::Overflow(OverflowError::BitmapDimension));
+        }
+        self.rows.refill(width, height, default_pixel)
+    }
+
+    /// The number of columns.
+    #[inline(always)]
+    pub fn width(&self) -> u32
+        ensures { result ≡ self.now.width }
+    {
+        self.rows.width()
+    }
+
+    /// The number of rows.
+    #[inline(always)]
+    pub fn height(&self) -> u32
+        ensures { result ≡ self.now.height }
+    {
+        self.rows.height()
+    }
+
+    /// The pixel at column `x` of row `y`, 1 for black; 0 outside.
+    #[inline(always)]
+    pub fn get_pixel<L: Ledger>(&self, x: u32, y: u32, steps: &mut Steps<L>) -> u8
+        ensures value { result ≡ bit_number (pixel_at self.now x y) }
+        ensures steps { steps.new ≡ record steps.old { loads = steps.old.loads + 1 } }
+    {
+        self.rows.get_pixel(x, y, steps)
+    }
+}

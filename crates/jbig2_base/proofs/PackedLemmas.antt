@@ -1,0 +1,76 @@
+-- Packed words against the grid that they hold.
+use Rattle.std.proofs.Common.{◌≡◌, ℕ, ◌+◌, ◌-◌, ◌*◌, ◌/◌, ◌%◌, ◌^◌, ◌<◌, ◌≤◌, Bool, true, false, ◌&&◌, eqb, ltb, List, length, get_or, sym, refl, ap, ◌∙◌, ⊎_elim, arith}
+use Rattle.std.proofs.lemmas.Bool.{cases_lt, eqb-true, eqb-false, eq-eqb, ne_eqb, cond-true, cond-false, lt-ltb, le-ltb, cond_both, and_right}
+use Rattle.std.proofs.lemmas.Nat.{mul-add-lt, mod-mul-add}
+use Rattle.std.proofs.lemmas.Nat.Bits.{ones_shl}
+use Rattle.jbig2_base.specs.Grid.{grid_of, pixel_at, blank}
+use Rattle.jbig2_base.specs.WordBits.{bit}
+use Rattle.jbig2_base.specs.Packed.{IsPacked, packed_pixel, stride_of, blank_word}
+use Rattle.jbig2_base.proofs.BitLemmas.{bit-zero, bit-ones, bit-high_ones, bit-high_ones_below}
+use Rattle.jbig2_base.proofs.GridLemmas.{grid_of-ext, pixel_at-grid_of}
+
+-- ---- reading
+-- the place of a pixel's word
+pub place-lt : (w h stride : ℕ) (words : List ℕ) (x y : ℕ) → IsPacked w h stride words → x < w → y < h → (y * stride + x / 64) < length words
+place-lt w h stride words x y packed left above = rw packed.sized (mul-add-lt y stride (x / 64) h above (omega (arith, packed.strided)))
+
+-- a pixel inside is a bit of its word
+pub pixel_at-packed : (w h stride : ℕ) (words : List ℕ) (x y : ℕ) → x < w → y < h → pixel_at (grid_of w h (packed_pixel stride words)) x y ≡ bit (get_or words (y * stride + x / 64) 0) (63 - x % 64)
+unfolding packed_pixel
+pixel_at-packed w h stride words x y left above = pixel_at-grid_of w h (packed_pixel stride words) x y left above
+
+-- ---- rows of one colour
+and-true : (b : Bool) → b ≡ (b && true)
+and-true true = refl
+and-true false = refl
+
+-- the bit of column x in a word of black rows
+black_bit : (w x y : ℕ) → x / 64 < stride_of w → bit (blank_word w true (y * stride_of w + x / 64)) (63 - x % 64) ≡ ltb x w
+unfolding blank_word
+black_bit w x y inside =
+    let column = mod-mul-add y (stride_of w) (x / 64) inside in
+    cond_both (eqb ((y * stride_of w + x / 64) % stride_of w + 1) (stride_of w)) (2 ^ 64 - 2 ^ (64 * stride_of w - w)) (2 ^ 64 - 1)
+    (λ n. bit n (63 - x % 64) ≡ ltb x w)
+    (λ e.
+    let last : x / 64 + 1 ≡ stride_of w = omega (arith, eqb-true _ _ e, column) in
+    ⊎_elim
+    (λ (before : x < w). bit-high_ones (64 * stride_of w - w) 64 (63 - x % 64) (omega arith) (omega arith) ∙ sym (lt-ltb x w before))
+    (λ (past : w ≤ x). bit-high_ones_below (64 * stride_of w - w) 64 (63 - x % 64) (omega arith) ∙ sym (le-ltb x w past))
+    (cases_lt x w))
+    (λ e.
+    let other : (x / 64 + 1 ≡ stride_of w) → ⊥ = λ last. eqb-false _ _ e (omega (arith, column)) in
+    let before : x < w = omega arith in
+    bit-ones 64 (63 - x % 64) (omega arith) ∙ sym (lt-ltb x w before))
+
+-- the two kinds of words of black rows
+pub black_word-last : (w stride index : ℕ) → stride ≡ stride_of w → index % stride + 1 ≡ stride → (2 ^ 64 - 1) * 2 ^ (64 * stride - w) % 2 ^ 64 ≡ blank_word w true index
+unfolding blank_word
+black_word-last w stride index e last =
+    ones_shl 64 (64 * stride - w) (omega arith) ∙ rw e (sym (cond-true (eqb (index % stride_of w + 1) (stride_of w)) (2 ^ 64 - 2 ^ (64 * stride_of w - w)) (2 ^ 64 - 1) (eq-eqb _ _ (rw e at last))))
+
+pub black_word-inner : (w stride index : ℕ) → stride ≡ stride_of w → (index % stride + 1 ≡ stride → ⊥) → 2 ^ 64 - 1 ≡ blank_word w true index
+unfolding blank_word
+black_word-inner w stride index e inner =
+    sym (cond-false (eqb (index % stride_of w + 1) (stride_of w)) (2 ^ 64 - 2 ^ (64 * stride_of w - w)) (2 ^ 64 - 1) (ne_eqb _ _ (rw e at inner)))
+
+blank-pixel : (w h : ℕ) (black : Bool) (words : List ℕ) → length words ≡ stride_of w * h → ((k : ℕ) → k < length words → get_or words k 0 ≡ blank_word w black k) → (x y : ℕ) → x < 64 * stride_of w → y < h → packed_pixel (stride_of w) words x y ≡ (ltb x w && black)
+unfolding packed_pixel blank_word
+blank-pixel w h false words size each x y left above =
+    let at : y * stride_of w + x / 64 < stride_of w * h = mul-add-lt y (stride_of w) (x / 64) h above (omega arith) in
+    rw (each (y * stride_of w + x / 64) (omega arith)) (bit-zero (63 - x % 64) ∙ sym (and_right (ltb x w) false refl))
+blank-pixel w h true words size each x y left above =
+    let at : y * stride_of w + x / 64 < stride_of w * h = mul-add-lt y (stride_of w) (x / 64) h above (omega arith) in
+    let inside : x / 64 < stride_of w = omega arith in
+    ap (λ (n : ℕ). bit n (63 - x % 64)) (each (y * stride_of w + x / 64) (omega arith)) ∙ black_bit w x y inside ∙ and-true (ltb x w)
+
+pub blank-grid : (w h : ℕ) (black : Bool) (words : List ℕ) → length words ≡ stride_of w * h → ((k : ℕ) → k < length words → get_or words k 0 ≡ blank_word w black k) → grid_of w h (packed_pixel (stride_of w) words) ≡ blank w h black
+blank-grid w h black words size each =
+    grid_of-ext w h (packed_pixel (stride_of w) words) (λ _ _. black)
+    (λ x y left above. blank-pixel w h black words size each x y (omega arith) above ∙ ap (λ (b : Bool). b && black) (lt-ltb x w left))
+
+pub blank-packed : (w h : ℕ) (black : Bool) (words : List ℕ) → length words ≡ stride_of w * h → ((k : ℕ) → k < length words → get_or words k 0 ≡ blank_word w black k) → IsPacked w h (stride_of w) words
+blank-packed w h black words size each = record {
+  strided = refl;
+  sized = size;
+  padded = λ x y past left above. blank-pixel w h black words size each x y left above ∙ ap (λ (b : Bool). b && black) (le-ltb x w past);
+}

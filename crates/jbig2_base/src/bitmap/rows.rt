@@ -1,0 +1,121 @@
+//! Rows of pixels packed into words. Only this module knows the size of a word.
+ghost use Rattle.std.specs.Prelude.{◌≡◌, ℕ, ◌+◌, ◌*◌, ◌<◌, OnErr, Ok, true, false, length, slice_index};
+ghost use Rattle.jbig2_base.specs.Answer.{Gives};
+ghost use Rattle.jbig2_base.specs.Grid.{blank, pixel_at, bit_number};
+ghost use Rattle.jbig2_base.specs.Packed.{blank_word};
+
+use crate::bitmap::steps::Steps;
+use crate::error::Result;
+use std::alloc::Allocator;
+use std::marker::Model;
+use std::sync::ledger::Ledger;
+
+/// Pixels, row by row. Each row begins with a word of its own, the leftmost pixel of a word is its
+/// highest bit, and the bits past the width are zero.
+#[derive(Debug, Drop)]
+pub struct PackedRows<A: Allocator> {
+    width: u32,
+    height: u32,
+    /// Words in a row.
+    stride: usize,
+    words: Vec<u64, A>,
+}
+
+impl<A: Allocator> Model for PackedRows<A> {
+    ghost use Rattle.jbig2_base.specs.Grid.{Grid, grid_of};
+    ghost use Rattle.jbig2_base.specs.Packed.{IsPacked, packed_pixel};
+
+    ghost Value = { Grid };
+
+    ghost view = { λ r. grid_of r.width r.height (packed_pixel r.stride r.words.items) };
+
+    ghost invariant = { λ r. IsPacked r.width r.height r.stride r.words.items };
+}
+
+impl<A: Allocator> PackedRows<A> {
+    /// No rows, without memory.
+    pub fn new(alloc: A) -> PackedRows<A>
+        ensures { result ≡ blank 0 0 false }
+    {
+        PackedRows {
+            width: 0,
+            height: 0,
+            stride: 0,
+            words: Vec::new(alloc),
+        }
+    }
+
+    /// Takes another size, with all pixels of one colour. A refusal changes nothing.
+    pub fn refill(&mut self, width: u32, height: u32, black: bool) -> Result<()>
+        ensures value { Gives (λ _. self.new) result (Ok (blank width height black)) }
+        ensures err { OnErr result (self.new ≡ self.old) }
+    {
+        let stride = width.div_ceil(64) as usize;
+        let count = stride * height as usize;
+        self.words
+            .reserve_exact(count.saturating_sub(self.words.len()))?;
+        self.words.clear();
+        self.words.resize(count, 0)?;
+        fill_rows(&mut self.words, width, black);
+        self.width = width;
+        self.height = height;
+        self.stride = stride;
+        Ok(())
+    }
+
+    #[inline(always)]
+    pub fn width(&self) -> u32
+        ensures { result ≡ self.now.width }
+    {
+        self.width
+    }
+
+    #[inline(always)]
+    pub fn height(&self) -> u32
+        ensures { result ≡ self.now.height }
+    {
+        self.height
+    }
+
+    /// The pixel at column `x` of row `y`, 0 outside.
+    #[inline(always)]
+    pub fn get_pixel<L: Ledger>(&self, x: u32, y: u32, steps: &mut Steps<L>) -> u8
+        ensures value { result ≡ bit_number (pixel_at self.now x y) }
+        ensures steps { steps.new ≡ record steps.old { loads = steps.old.loads + 1 } }
+    {
+        steps.load();
+        if x >= self.width || y >= self.height {
+            return 0;
+        }
+        let word = self.words[y as usize * self.stride + (x / 64) as usize];
+        ((word >> (63 - x % 64)) & 1) as u8
+    }
+}
+
+/// Makes zeroed words rows of one colour.
+fn fill_rows<A: Allocator>(words: &mut Vec<u64, A>, width: u32, black: bool)
+    requires columns { 0 < length words.old.items → 0 < width }
+    requires zero { (k : ℕ) → k < length words.old.items → slice_index words.old.items k ≡ 0 }
+    ensures size { length words.new.items ≡ length words.old.items }
+    ensures value { (k : ℕ) → k < length words.new.items → slice_index words.new.items k ≡ blank_word width black k }
+{
+    if !black {
+        return;
+    }
+    for index in 0..words.len() {
+        words[index] = black_word(index, width);
+    }
+}
+
+/// Word `index` of black rows.
+#[inline(always)]
+fn black_word(index: usize, width: u32) -> u64
+    requires { 0 < width }
+    ensures { result ≡ blank_word width true index }
+{
+    let stride = width.div_ceil(64) as usize;
+    if index % stride + 1 == stride {
+        return u64::MAX << (64 * stride - width as usize);
+    }
+    u64::MAX
+}
