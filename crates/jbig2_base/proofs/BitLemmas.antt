@@ -1,13 +1,14 @@
 -- The bits of what the operators of words give.
-use Rattle.std.proofs.Common.{◌≡◌, ℕ, ◌+◌, ◌-◌, ◌/◌, ◌%◌, ◌^◌, ◌<◌, ◌≤◌, true, false, not, ◌&&◌, ◌||◌, cond, eqb, sym, ap, ◌∙◌, min, max, ⊎_elim, arith}
+use Rattle.std.proofs.Common.{◌≡◌, ℕ, ◌+◌, ◌-◌, ◌*◌, ◌/◌, ◌%◌, ◌^◌, ◌<◌, ◌≤◌, Bool, true, false, not, ◌&&◌, ◌||◌, cond, eqb, ltb, leb, refl, sym, ap, subst, ◌∙◌, min, max, ⊎_elim, lit<, w64, arith}
+use Rattle.std.proofs.lemmas.Nat.{pow_pos, shr-shr, shr_split, shr_below, mod_below}
 use Rattle.std.specs.Int.{bit_at}
 use Rattle.std.specs.Int.RustNames.{bit_or, bit_xor}
 use lib.Bits.{bit_and}
-use Rattle.std.proofs.lemmas.Bool.{cases_eq, eq-eqb, ne_eqb}
+use Rattle.std.proofs.lemmas.Bool.{cases_eq, cases_lt, eq-eqb, ne_eqb, cond-true, cond-false, and_from, and_left, and_right, le-leb, lt-leb, lt-ltb, le-ltb}
 use Rattle.std.proofs.lemmas.Bool.Decides.{nat_tests}
 use Rattle.std.proofs.lemmas.Nat.Bits as bits
 use Rattle.jbig2_base.specs.Grid.{bit_number}
-use Rattle.jbig2_base.specs.WordBits.{bit}
+use Rattle.jbig2_base.specs.WordBits.{bit, field_bit}
 
 bit_number-test : (x : ℕ) → x < 2 → bit_number (eqb x 1) ≡ x
 bit_number-test x h = ⊎_elim (λ (one : x ≡ 1). rw (eq-eqb x 1 one) (sym one)) (λ (other : x ≡ 1 → ⊥). rw (ne_eqb x 1 other) (omega arith)) (cases_eq x 1)
@@ -68,3 +69,147 @@ bit-high_ones lo hi k low high = ap (λ (m : ℕ). eqb m 1) (bits.bit_at_mask_in
 pub bit-high_ones_below : (lo hi k : ℕ) → k < lo → bit (2 ^ hi - 2 ^ lo) k ≡ false
 unfolding bit
 bit-high_ones_below lo hi k low = ap (λ (m : ℕ). eqb m 1) (bits.bit_at_mask_below lo hi k low)
+
+pub bit-pow_same : (k : ℕ) → bit (2 ^ k) k ≡ true
+unfolding bit
+bit-pow_same k = ap (λ (m : ℕ). eqb m 1) (bits.bit_at-pow_same k)
+
+pub bit-pow_other : (k i : ℕ) → (i ≡ k → ⊥) → bit (2 ^ k) i ≡ false
+unfolding bit
+bit-pow_other k i other = ap (λ (m : ℕ). eqb m 1) (bits.bit_at-pow_other k i other)
+
+-- ---- shifts
+pub bit-shr : (n m k : ℕ) → bit (n / 2 ^ m) k ≡ bit n (m + k)
+unfolding bit
+bit-shr n m k = ap (λ (q : ℕ). eqb (q % 2) 1) (shr-shr n m k)
+
+pub bit-mod : (n w k : ℕ) → k < w → bit (n % 2 ^ w) k ≡ bit n k
+unfolding bit
+bit-mod n w k inside =
+    ap (λ (m : ℕ). eqb m 1) (sym (bits.bit_at_cat_low (n / 2 ^ w) w (n % 2 ^ w) k inside) ∙ ap (λ (m : ℕ). bit_at m k) (shr_split n w))
+
+-- `n << m` at w bits
+pub bit-shl_high : (n m w k : ℕ) → m ≤ k → k < w → bit (n * 2 ^ m % 2 ^ w) k ≡ bit n (k - m)
+unfolding bit
+bit-shl_high n m w k past inside =
+    let whole : n * 2 ^ m ≡ n * 2 ^ m + 0 = omega arith in
+    bit-mod (n * 2 ^ m) w k inside ∙ ap (λ (q : ℕ). eqb q 1) (ap (λ (q : ℕ). bit_at q k) whole ∙ bits.bit_at_cat_high n m 0 k (pow_pos m) past)
+
+pub bit-shl_low : (n m w k : ℕ) → k < m → k < w → bit (n * 2 ^ m % 2 ^ w) k ≡ false
+unfolding bit
+bit-shl_low n m w k below inside =
+    let whole : n * 2 ^ m ≡ n * 2 ^ m + 0 = omega arith in
+    bit-mod (n * 2 ^ m) w k inside ∙ ap (λ (q : ℕ). eqb q 1) (ap (λ (q : ℕ). bit_at q k) whole ∙ bits.bit_at_cat_low n m 0 k below ∙ bits.bit_at-zero k)
+
+-- `!n` at 64 bits
+flipped : (x : ℕ) → x < 2 → eqb (1 - x) 1 ≡ not (eqb x 1)
+flipped x h = grind (arith, nat_tests)
+
+pub bit-not : (n k : ℕ) → n < 2 ^ 64 → k < 64 → bit (2 ^ 64 - 1 - n) k ≡ not (bit n k)
+unfolding bit
+bit-not n k small inside = ap (λ (m : ℕ). eqb m 1) (bits.bit_at_not w64 n k small inside) ∙ flipped (bit_at n k) (bits.bit_at-lt n k)
+
+-- ---- tests
+pub or-false : (a b : Bool) → b ≡ false → (a || b) ≡ a
+or-false true b none = refl
+or-false false b none = none
+
+pub or-true : (a b : Bool) → b ≡ true → (a || b) ≡ true
+or-true true b some = refl
+or-true false b some = some
+
+-- ---- a field of a word
+pub field-inside : (word shift count bits b : ℕ) → shift ≤ b → b < shift + count → field_bit word shift count bits b ≡ bit bits (b - shift)
+unfolding field_bit
+field-inside word shift count bits b low high = cond-true (leb shift b && ltb b (shift + count)) (bit bits (b - shift)) (bit word b) (and_from _ _ (le-leb shift b low) (lt-ltb b (shift + count) high))
+
+pub field-below : (word shift count bits b : ℕ) → b < shift → field_bit word shift count bits b ≡ bit word b
+unfolding field_bit
+field-below word shift count bits b low = cond-false (leb shift b && ltb b (shift + count)) (bit bits (b - shift)) (bit word b) (and_left (leb shift b) _ (lt-leb shift b low))
+
+pub field-above : (word shift count bits b : ℕ) → shift + count ≤ b → field_bit word shift count bits b ≡ bit word b
+unfolding field_bit
+field-above word shift count bits b high = cond-false (leb shift b && ltb b (shift + count)) (bit bits (b - shift)) (bit word b) (and_right (leb shift b) _ (le-ltb b (shift + count) high))
+
+kept : (t u m : Bool) → m ≡ false → u ≡ false → ((t && not m) || u) ≡ t
+kept true u m clear none = rw clear refl
+kept false u m clear none = none
+
+replaced : (t u m : Bool) → m ≡ true → ((t && not m) || u) ≡ u
+replaced true u m set = rw set refl
+replaced false u m set = refl
+
+masked : (word mask low b : ℕ) → mask < 2 ^ 64 → b < 64 → bit (bit_or (bit_and word (2 ^ 64 - 1 - mask)) low) b ≡ ((bit word b && not (bit mask b)) || bit low b)
+masked word mask low b small inside =
+    bit-or (bit_and word (2 ^ 64 - 1 - mask)) low b ∙ ap (λ (t : Bool). t || bit low b) (bit-and word (2 ^ 64 - 1 - mask) b ∙ ap (λ (t : Bool). bit word b && t) (bit-not mask b small inside))
+
+-- `MAX >> (64 - count)`
+ones-shr : (count : ℕ) → count ≤ 64 → (2 ^ 64 - 1) / 2 ^ (64 - count) ≡ 2 ^ count - 1
+ones-shr count few =
+    let width : 64 - (64 - count) ≡ count = omega arith in
+    bits.ones_shr 64 (64 - count) (omega arith) ∙ ap (λ (n : ℕ). 2 ^ n - 1) width
+
+-- `(word & !((MAX >> (64 - count)) << shift)) | (bits << shift)`
+pub bit-with_field : (word shift count bits b : ℕ) → shift + count ≤ 64 → bits < 2 ^ count → b < 64 → bit (bit_or (bit_and word (2 ^ 64 - 1 - (2 ^ 64 - 1) / 2 ^ (64 - count) * 2 ^ shift % 2 ^ 64)) (bits * 2 ^ shift % 2 ^ 64)) b ≡ field_bit word shift count bits b
+bit-with_field word shift count bits b within bound inside =
+    let ones : ℕ = (2 ^ 64 - 1) / 2 ^ (64 - count) in
+    let mask : ℕ = ones * 2 ^ shift % 2 ^ 64 in
+    let low : ℕ = bits * 2 ^ shift % 2 ^ 64 in
+    let split = masked word mask low b (mod_below (ones * 2 ^ shift) (2 ^ 64) (lit< tt)) inside in
+    let width = ones-shr count (omega arith) in
+    ⊎_elim
+      (λ (below : b < shift).
+        split ∙ kept (bit word b) (bit low b) (bit mask b) (bit-shl_low ones shift 64 b below inside) (bit-shl_low bits shift 64 b below inside) ∙ sym (field-below word shift count bits b below))
+      (λ (past : shift ≤ b).
+        ⊎_elim
+          (λ (within : b < shift + count).
+            split
+            ∙ replaced (bit word b) (bit low b) (bit mask b) (bit-shl_high ones shift 64 b past inside ∙ ap (λ (n : ℕ). bit n (b - shift)) width ∙ bit-ones count (b - shift) (omega arith))
+            ∙ bit-shl_high bits shift 64 b past inside
+            ∙ sym (field-inside word shift count bits b past within))
+          (λ (beyond : shift + count ≤ b).
+            split
+            ∙ kept (bit word b) (bit low b) (bit mask b) (bit-shl_high ones shift 64 b past inside ∙ ap (λ (n : ℕ). bit n (b - shift)) width ∙ bit-ones_above count (b - shift) (omega arith)) (bit-shl_high bits shift 64 b past inside ∙ bit-above bits count (b - shift) bound (omega arith))
+            ∙ sym (field-above word shift count bits b beyond))
+          (cases_lt b (shift + count)))
+      (cases_lt b shift)
+
+-- ---- a window of `count` bits from `offset` on
+-- `(first << offset) >> (64 - count)`
+pub bit-near : (first offset count k : ℕ) → count ≤ 64 → offset + count ≤ 64 → k < count → bit (first * 2 ^ offset % 2 ^ 64 / 2 ^ (64 - count)) (count - 1 - k) ≡ bit first (63 - (offset + k))
+bit-near first offset count k few near inside =
+    let place : 64 - count + (count - 1 - k) ≡ 63 - k = omega arith in
+    let back : 63 - k - offset ≡ 63 - (offset + k) = omega arith in
+    bit-shr (first * 2 ^ offset % 2 ^ 64) (64 - count) (count - 1 - k)
+    ∙ ap (λ (b : ℕ). bit (first * 2 ^ offset % 2 ^ 64) b) place
+    ∙ bit-shl_high first offset 64 (63 - k) (omega arith) (omega arith)
+    ∙ ap (λ (b : ℕ). bit first b) back
+
+-- `((first << offset) | (second >> (64 - offset))) >> (64 - count)`
+both-words : (first second offset count k : ℕ) → count ≤ 64 → k < count → bit (bit_or (first * 2 ^ offset % 2 ^ 64) (second / 2 ^ (64 - offset)) / 2 ^ (64 - count)) (count - 1 - k) ≡ (bit (first * 2 ^ offset % 2 ^ 64) (63 - k) || bit second (64 - offset + (63 - k)))
+both-words first second offset count k few inside =
+    let place : 64 - count + (count - 1 - k) ≡ 63 - k = omega arith in
+    bit-shr (bit_or (first * 2 ^ offset % 2 ^ 64) (second / 2 ^ (64 - offset))) (64 - count) (count - 1 - k)
+    ∙ ap (λ (b : ℕ). bit (bit_or (first * 2 ^ offset % 2 ^ 64) (second / 2 ^ (64 - offset))) b) place
+    ∙ bit-or (first * 2 ^ offset % 2 ^ 64) (second / 2 ^ (64 - offset)) (63 - k)
+    ∙ ap (λ (t : Bool). bit (first * 2 ^ offset % 2 ^ 64) (63 - k) || t) (bit-shr second (64 - offset) (63 - k))
+
+pub bit-in_first : (first second offset count k : ℕ) → second < 2 ^ 64 → count ≤ 64 → k < count → offset + k < 64 → bit (bit_or (first * 2 ^ offset % 2 ^ 64) (second / 2 ^ (64 - offset)) / 2 ^ (64 - count)) (count - 1 - k) ≡ bit first (63 - (offset + k))
+bit-in_first first second offset count k small few inside near =
+    let back : 63 - k - offset ≡ 63 - (offset + k) = omega arith in
+    both-words first second offset count k few inside
+    ∙ or-false (bit (first * 2 ^ offset % 2 ^ 64) (63 - k)) (bit second (64 - offset + (63 - k))) (bit-above second 64 (64 - offset + (63 - k)) small (omega arith))
+    ∙ bit-shl_high first offset 64 (63 - k) (omega arith) (omega arith)
+    ∙ ap (λ (b : ℕ). bit first b) back
+
+pub bit-in_second : (first second offset count k : ℕ) → offset < 64 → count ≤ 64 → k < count → 64 ≤ offset + k → bit (bit_or (first * 2 ^ offset % 2 ^ 64) (second / 2 ^ (64 - offset)) / 2 ^ (64 - count)) (count - 1 - k) ≡ bit second (63 - (offset + k - 64))
+bit-in_second first second offset count k part few inside far =
+    let back : 64 - offset + (63 - k) ≡ 63 - (offset + k - 64) = omega arith in
+    both-words first second offset count k few inside
+    ∙ ap (λ (t : Bool). t || bit second (64 - offset + (63 - k))) (bit-shl_low first offset 64 (63 - k) (omega arith) (omega arith))
+    ∙ ap (λ (b : ℕ). bit second b) back
+
+pub shr-lt : (n count : ℕ) → count ≤ 64 → n < 2 ^ 64 → n / 2 ^ (64 - count) < 2 ^ count
+shr-lt n count few small =
+    let whole : 64 ≡ count + (64 - count) = omega arith in
+    shr_below n count (64 - count) (subst (λ (w : ℕ). n < 2 ^ w) whole small)

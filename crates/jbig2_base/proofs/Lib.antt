@@ -4,3 +4,4 @@ pub mod Sequential
 mod BitLemmas
 mod GridLemmas
 mod PackedLemmas
+mod WriteLemmas

@@ -12,3 +12,4 @@ pub mod Sorted
 pub mod Packed
 pub mod Sizes
 pub mod WordBits
+pub mod Writes

@@ -1,5 +1,9 @@
 -- The bits of a number (our own rule): bit k is the one worth 2 ^ k.
-use Rattle.std.specs.Prelude.{ℕ, ◌/◌, ◌%◌, ◌^◌, ◌==◌, Bool}
+use Rattle.std.specs.Prelude.{ℕ, ◌+◌, ◌-◌, ◌/◌, ◌%◌, ◌^◌, ◌==◌, Bool, ◌&&◌, nat_le, nat_lt, if◌then◌else◌}
 
 unfoldable pub bit : ℕ → ℕ → Bool
 bit n k = n / 2 ^ k % 2 == 1
+
+-- bit b of a word whose `count` bits from `shift` on are replaced by those of another number
+unfoldable pub field_bit : ℕ → ℕ → ℕ → ℕ → ℕ → Bool
+field_bit word shift count bits b = if nat_le shift b && nat_lt b (shift + count) then bit bits (b - shift) else bit word b

@@ -1,8 +1,10 @@
 //! Packed bitmaps (T.88, 6): rows of pixels behind a few reading and writing calls.
-ghost use Rattle.std.specs.Prelude.{◌≡◌, ◌+◌, OnErr, false};
+ghost use Rattle.std.specs.Prelude.{◌≡◌, ℕ, ◌+◌, ◌-◌, ◌/◌, ◌^◌, ◌<◌, ◌≤◌, OnErr, false};
 ghost use Rattle.jbig2_base.specs.Answer.{Gives};
 ghost use Rattle.jbig2_base.specs.Grid.{blank, pixel_at, bit_number};
 ghost use Rattle.jbig2_base.specs.Sizes.{blank_or_overflow, wide_or_overflow};
+ghost use Rattle.jbig2_base.specs.WordBits.{bit};
+ghost use Rattle.jbig2_base.specs.Writes.{with_pixel, with_pixels};
 
 pub mod operator;
 mod rows;
@@ -107,5 +109,44 @@ impl<A: Allocator> Bitmap<A> {
         ensures steps { steps.new ≡ record steps.old { loads = steps.old.loads + 1 } }
     {
         self.rows.get_pixel(x, y, steps)
+    }
+
+    /// Makes the pixel at column `x` of row `y` black if `black` says so, and never white; outside
+    /// nothing changes.
+    #[inline(always)]
+    pub fn set_pixel<L: Ledger>(&mut self, x: u32, y: u32, black: bool, steps: &mut Steps<L>)
+        ensures value { self.new ≡ with_pixel self.old x y black }
+        ensures steps { steps.new ≡ record steps.old { words = steps.old.words + 1 } }
+    {
+        self.rows.set_pixel(x, y, black, steps)
+    }
+
+    /// `count` neighbouring pixels of row `y` from column `x` on, 1 to 64 of them: the first in the
+    /// highest of the lowest `count` bits, 0 outside.
+    #[inline(always)]
+    pub fn load_pixels<L: Ledger>(&self, x: u32, y: u32, count: u32, steps: &mut Steps<L>) -> u64
+        requires some { 1 ≤ count }
+        requires few { count ≤ 64 }
+        ensures bits { (k : ℕ) → k < count → bit result (count - 1 - k) ≡ pixel_at self.now (x + k) y }
+        ensures bound { result < 2 ^ count }
+        ensures steps { steps.new ≡ record steps.old { loads = steps.old.loads + 1 } }
+    {
+        self.rows.load_pixels(x, y, count, steps)
+    }
+
+    /// Sets `count` neighbouring pixels of row `y` from column `x` on to the lowest `count` bits of
+    /// `bits`, the first to the highest of them. The pixels lie inside, and between two columns that
+    /// 64 divides.
+    #[inline(always)]
+    pub fn store_pixels<L: Ledger>(&mut self, x: u32, y: u32, count: u32, bits: u64, steps: &mut Steps<L>)
+        requires some { 1 ≤ count }
+        requires columns { x + count ≤ self.old.width }
+        requires row { y < self.old.height }
+        requires one_word { x / 64 ≡ (x + count - 1) / 64 }
+        requires bound { bits < 2 ^ count }
+        ensures value { self.new ≡ with_pixels self.old x y count bits }
+        ensures steps { steps.new ≡ record steps.old { words = steps.old.words + 1 } }
+    {
+        self.rows.store_pixels(x, y, count, bits, steps)
     }
 }

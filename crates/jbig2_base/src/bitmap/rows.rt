@@ -1,8 +1,10 @@
 //! Rows of pixels packed into words. Only this module knows the size of a word.
-ghost use Rattle.std.specs.Prelude.{◌≡◌, ℕ, ◌+◌, ◌*◌, ◌<◌, OnErr, Ok, true, false, length, slice_index};
+ghost use Rattle.std.specs.Prelude.{◌≡◌, ℕ, ◌+◌, ◌-◌, ◌*◌, ◌/◌, ◌^◌, ◌<◌, ◌≤◌, OnErr, Ok, true, false, length, slice_index};
 ghost use Rattle.jbig2_base.specs.Answer.{Gives};
 ghost use Rattle.jbig2_base.specs.Grid.{blank, pixel_at, bit_number};
 ghost use Rattle.jbig2_base.specs.Packed.{blank_word};
+ghost use Rattle.jbig2_base.specs.WordBits.{bit, field_bit};
+ghost use Rattle.jbig2_base.specs.Writes.{with_pixel, with_pixels};
 
 use crate::bitmap::steps::Steps;
 use crate::error::Result;
@@ -90,6 +92,80 @@ impl<A: Allocator> PackedRows<A> {
         let word = self.words[y as usize * self.stride + (x / 64) as usize];
         ((word >> (63 - x % 64)) & 1) as u8
     }
+
+    /// Makes the pixel at column `x` of row `y` black if `black` says so; nothing outside.
+    #[inline(always)]
+    pub fn set_pixel<L: Ledger>(&mut self, x: u32, y: u32, black: bool, steps: &mut Steps<L>)
+        ensures value { self.new ≡ with_pixel self.old x y black }
+        ensures steps { steps.new ≡ record steps.old { words = steps.old.words + 1 } }
+    {
+        steps.word();
+        if !black || x >= self.width || y >= self.height {
+            return;
+        }
+        let index = y as usize * self.stride + (x / 64) as usize;
+        self.words[index] = self.words[index] | (1 << (63 - x % 64));
+    }
+
+    /// `count` neighbouring pixels of row `y` from column `x` on, the first in the highest of the
+    /// lowest `count` bits; 0 outside.
+    #[inline(always)]
+    pub fn load_pixels<L: Ledger>(&self, x: u32, y: u32, count: u32, steps: &mut Steps<L>) -> u64
+        requires some { 1 ≤ count }
+        requires few { count ≤ 64 }
+        ensures bits { (k : ℕ) → k < count → bit result (count - 1 - k) ≡ pixel_at self.now (x + k) y }
+        ensures bound { result < 2 ^ count }
+        ensures steps { steps.new ≡ record steps.old { loads = steps.old.loads + 1 } }
+    {
+        steps.load();
+        let offset = x % 64;
+        let first = self.word(x / 64, y) << offset;
+        if offset + count <= 64 {
+            return first >> (64 - count);
+        }
+        let second = self.word(x / 64 + 1, y) >> (64 - offset);
+        (first | second) >> (64 - count)
+    }
+
+    /// The 64 pixels of row `y` from column 64 * `index` on, 0 outside.
+    #[inline(always)]
+    fn word(&self, index: u32, y: u32) -> u64
+        ensures { (k : ℕ) → k < 64 → bit result (63 - k) ≡ pixel_at self.now (64 * index + k) y }
+    {
+        if index as usize >= self.stride || y >= self.height {
+            return 0;
+        }
+        self.words[y as usize * self.stride + index as usize]
+    }
+
+    /// Sets `count` neighbouring pixels of row `y` from column `x` on, which lie in one word, to the
+    /// lowest `count` bits of `bits`, the first to the highest of them.
+    #[inline(always)]
+    pub fn store_pixels<L: Ledger>(&mut self, x: u32, y: u32, count: u32, bits: u64, steps: &mut Steps<L>)
+        requires some { 1 ≤ count }
+        requires columns { x + count ≤ self.old.width }
+        requires row { y < self.old.height }
+        requires one_word { x / 64 ≡ (x + count - 1) / 64 }
+        requires bound { bits < 2 ^ count }
+        ensures value { self.new ≡ with_pixels self.old x y count bits }
+        ensures steps { steps.new ≡ record steps.old { words = steps.old.words + 1 } }
+    {
+        steps.word();
+        let index = y as usize * self.stride + (x / 64) as usize;
+        self.words[index] = with_field(self.words[index], 64 - x % 64 - count, count, bits);
+    }
+}
+
+/// `word` with the `count` bits from `shift` on replaced by `bits`.
+#[inline(always)]
+fn with_field(word: u64, shift: u32, count: u32, bits: u64) -> u64
+    requires some { 1 ≤ count }
+    requires within { shift + count ≤ 64 }
+    requires bound { bits < 2 ^ count }
+    ensures { (b : ℕ) → b < 64 → bit result b ≡ field_bit word shift count bits b }
+{
+    let mask = (u64::MAX >> (64 - count)) << shift;
+    (word & !mask) | (bits << shift)
 }
 
 /// Makes zeroed words rows of one colour.
