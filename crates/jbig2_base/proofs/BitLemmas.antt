@@ -1,6 +1,6 @@
 -- The bits of what the operators of words give.
 use Rattle.std.proofs.Common.{◌≡◌, ℕ, ◌+◌, ◌-◌, ◌*◌, ◌/◌, ◌%◌, ◌^◌, ◌<◌, ◌≤◌, Bool, true, false, not, ◌&&◌, ◌||◌, cond, eqb, ltb, leb, refl, sym, ap, subst, ◌∙◌, min, max, ⊎_elim, lit<, w64, arith}
-use Rattle.std.proofs.lemmas.Nat.{pow_pos, shr-shr, shr_split, shr_below, mod_below}
+use Rattle.std.proofs.lemmas.Nat.{pow_pos, shr-shr, shr_split, shr_below, mod_below, or_lt, shr_le}
 use Rattle.std.specs.Int.{bit_at}
 use Rattle.std.specs.Int.RustNames.{bit_or, bit_xor}
 use lib.Bits.{bit_and}
@@ -158,25 +158,25 @@ bit-with_field word shift count bits b within bound inside =
     let split = masked word mask low b (mod_below (ones * 2 ^ shift) (2 ^ 64) (lit< tt)) inside in
     let width = ones-shr count (omega arith) in
     ⊎_elim
-      (λ (below : b < shift).
-        split ∙ kept (bit word b) (bit low b) (bit mask b) (bit-shl_low ones shift 64 b below inside) (bit-shl_low bits shift 64 b below inside) ∙ sym (field-below word shift count bits b below))
-      (λ (past : shift ≤ b).
-        ⊎_elim
-          (λ (within : b < shift + count).
-            split
-            ∙ replaced (bit word b) (bit low b) (bit mask b) (bit-shl_high ones shift 64 b past inside ∙ ap (λ (n : ℕ). bit n (b - shift)) width ∙ bit-ones count (b - shift) (omega arith))
-            ∙ bit-shl_high bits shift 64 b past inside
-            ∙ sym (field-inside word shift count bits b past within))
-          (λ (beyond : shift + count ≤ b).
-            split
-            ∙ kept (bit word b) (bit low b) (bit mask b) (bit-shl_high ones shift 64 b past inside ∙ ap (λ (n : ℕ). bit n (b - shift)) width ∙ bit-ones_above count (b - shift) (omega arith)) (bit-shl_high bits shift 64 b past inside ∙ bit-above bits count (b - shift) bound (omega arith))
-            ∙ sym (field-above word shift count bits b beyond))
-          (cases_lt b (shift + count)))
-      (cases_lt b shift)
+    (λ (below : b < shift).
+    split ∙ kept (bit word b) (bit low b) (bit mask b) (bit-shl_low ones shift 64 b below inside) (bit-shl_low bits shift 64 b below inside) ∙ sym (field-below word shift count bits b below))
+    (λ (past : shift ≤ b).
+    ⊎_elim
+    (λ (within : b < shift + count).
+    split
+    ∙ replaced (bit word b) (bit low b) (bit mask b) (bit-shl_high ones shift 64 b past inside ∙ ap (λ (n : ℕ). bit n (b - shift)) width ∙ bit-ones count (b - shift) (omega arith))
+    ∙ bit-shl_high bits shift 64 b past inside
+    ∙ sym (field-inside word shift count bits b past within))
+    (λ (beyond : shift + count ≤ b).
+    split
+    ∙ kept (bit word b) (bit low b) (bit mask b) (bit-shl_high ones shift 64 b past inside ∙ ap (λ (n : ℕ). bit n (b - shift)) width ∙ bit-ones_above count (b - shift) (omega arith)) (bit-shl_high bits shift 64 b past inside ∙ bit-above bits count (b - shift) bound (omega arith))
+    ∙ sym (field-above word shift count bits b beyond))
+    (cases_lt b (shift + count)))
+    (cases_lt b shift)
 
 -- ---- a window of `count` bits from `offset` on
 -- `(first << offset) >> (64 - count)`
-pub bit-near : (first offset count k : ℕ) → count ≤ 64 → offset + count ≤ 64 → k < count → bit (first * 2 ^ offset % 2 ^ 64 / 2 ^ (64 - count)) (count - 1 - k) ≡ bit first (63 - (offset + k))
+bit-near : (first offset count k : ℕ) → count ≤ 64 → offset + count ≤ 64 → k < count → bit (first * 2 ^ offset % 2 ^ 64 / 2 ^ (64 - count)) (count - 1 - k) ≡ bit first (63 - (offset + k))
 bit-near first offset count k few near inside =
     let place : 64 - count + (count - 1 - k) ≡ 63 - k = omega arith in
     let back : 63 - k - offset ≡ 63 - (offset + k) = omega arith in
@@ -194,7 +194,7 @@ both-words first second offset count k few inside =
     ∙ bit-or (first * 2 ^ offset % 2 ^ 64) (second / 2 ^ (64 - offset)) (63 - k)
     ∙ ap (λ (t : Bool). bit (first * 2 ^ offset % 2 ^ 64) (63 - k) || t) (bit-shr second (64 - offset) (63 - k))
 
-pub bit-in_first : (first second offset count k : ℕ) → second < 2 ^ 64 → count ≤ 64 → k < count → offset + k < 64 → bit (bit_or (first * 2 ^ offset % 2 ^ 64) (second / 2 ^ (64 - offset)) / 2 ^ (64 - count)) (count - 1 - k) ≡ bit first (63 - (offset + k))
+bit-in_first : (first second offset count k : ℕ) → second < 2 ^ 64 → count ≤ 64 → k < count → offset + k < 64 → bit (bit_or (first * 2 ^ offset % 2 ^ 64) (second / 2 ^ (64 - offset)) / 2 ^ (64 - count)) (count - 1 - k) ≡ bit first (63 - (offset + k))
 bit-in_first first second offset count k small few inside near =
     let back : 63 - k - offset ≡ 63 - (offset + k) = omega arith in
     both-words first second offset count k few inside
@@ -202,14 +202,36 @@ bit-in_first first second offset count k small few inside near =
     ∙ bit-shl_high first offset 64 (63 - k) (omega arith) (omega arith)
     ∙ ap (λ (b : ℕ). bit first b) back
 
-pub bit-in_second : (first second offset count k : ℕ) → offset < 64 → count ≤ 64 → k < count → 64 ≤ offset + k → bit (bit_or (first * 2 ^ offset % 2 ^ 64) (second / 2 ^ (64 - offset)) / 2 ^ (64 - count)) (count - 1 - k) ≡ bit second (63 - (offset + k - 64))
+bit-in_second : (first second offset count k : ℕ) → offset < 64 → count ≤ 64 → k < count → 64 ≤ offset + k → bit (bit_or (first * 2 ^ offset % 2 ^ 64) (second / 2 ^ (64 - offset)) / 2 ^ (64 - count)) (count - 1 - k) ≡ bit second (63 - (offset + k - 64))
 bit-in_second first second offset count k part few inside far =
     let back : 64 - offset + (63 - k) ≡ 63 - (offset + k - 64) = omega arith in
     both-words first second offset count k few inside
     ∙ ap (λ (t : Bool). t || bit second (64 - offset + (63 - k))) (bit-shl_low first offset 64 (63 - k) (omega arith) (omega arith))
     ∙ ap (λ (b : ℕ). bit second b) back
 
+-- the same of a row of pixels whose words are known, from column x on
+pub load-near : (row : ℕ → Bool) (first x count k : ℕ) → ((i : ℕ) → i < 64 → bit first (63 - i) ≡ row (64 * (x / 64) + i)) → count ≤ 64 → x % 64 + count ≤ 64 → k < count → bit (first * 2 ^ (x % 64) % 2 ^ 64 / 2 ^ (64 - count)) (count - 1 - k) ≡ row (x + k)
+load-near row first x count k each few near inside =
+    let place : 64 * (x / 64) + (x % 64 + k) ≡ x + k = omega arith in
+    bit-near first (x % 64) count k few near inside ∙ each (x % 64 + k) (omega arith) ∙ ap row place
+
+pub load-far : (row : ℕ → Bool) (first second x count k : ℕ) → ((i : ℕ) → i < 64 → bit first (63 - i) ≡ row (64 * (x / 64) + i)) → ((i : ℕ) → i < 64 → bit second (63 - i) ≡ row (64 * (x / 64 + 1) + i)) → second < 2 ^ 64 → count ≤ 64 → k < count → bit (bit_or (first * 2 ^ (x % 64) % 2 ^ 64) (second / 2 ^ (64 - x % 64)) / 2 ^ (64 - count)) (count - 1 - k) ≡ row (x + k)
+load-far row first second x count k each next small few inside =
+    ⊎_elim
+    (λ (near : x % 64 + k < 64).
+    let place : 64 * (x / 64) + (x % 64 + k) ≡ x + k = omega arith in
+    bit-in_first first second (x % 64) count k small few inside near ∙ each (x % 64 + k) near ∙ ap row place)
+    (λ (far : 64 ≤ x % 64 + k).
+    let place : 64 * (x / 64 + 1) + (x % 64 + k - 64) ≡ x + k = omega arith in
+    bit-in_second first second (x % 64) count k (omega arith) few inside far ∙ next (x % 64 + k - 64) (omega arith) ∙ ap row place)
+    (cases_lt (x % 64 + k) 64)
+
 pub shr-lt : (n count : ℕ) → count ≤ 64 → n < 2 ^ 64 → n / 2 ^ (64 - count) < 2 ^ count
 shr-lt n count few small =
     let whole : 64 ≡ count + (64 - count) = omega arith in
     shr_below n count (64 - count) (subst (λ (w : ℕ). n < 2 ^ w) whole small)
+
+pub load-lt : (first second offset count : ℕ) → second < 2 ^ 64 → count ≤ 64 → bit_or (first * 2 ^ offset % 2 ^ 64) (second / 2 ^ (64 - offset)) / 2 ^ (64 - count) < 2 ^ count
+load-lt first second offset count small few =
+    let le = shr_le second (64 - offset) in
+    shr-lt (bit_or (first * 2 ^ offset % 2 ^ 64) (second / 2 ^ (64 - offset))) count few (or_lt 64 (first * 2 ^ offset % 2 ^ 64) (second / 2 ^ (64 - offset)) (mod_below (first * 2 ^ offset) (2 ^ 64) (lit< tt)) (omega (arith, le)))

@@ -31,9 +31,9 @@ word-pixel w h stride words q y k packed left above few =
     let place : (64 * q + k) % 64 ≡ k = omega arith in
     let here : packed_pixel stride words (64 * q + k) y ≡ bit (get_or words (y * stride + q) 0) (63 - k) = ap (λ (i : ℕ). bit (get_or words (y * stride + i) 0) (63 - (64 * q + k) % 64)) column ∙ ap (λ (i : ℕ). bit (get_or words (y * stride + q) 0) (63 - i)) place in
     ⊎_elim
-      (λ (inside : 64 * q + k < w). sym here ∙ sym (pixel_at-grid_of w h (packed_pixel stride words) (64 * q + k) y inside above))
-      (λ (past : w ≤ 64 * q + k). sym here ∙ packed.padded (64 * q + k) y past (omega arith) above ∙ sym (pixel_at-right (grid_of w h (packed_pixel stride words)) (64 * q + k) y past))
-      (cases_lt (64 * q + k) w)
+    (λ (inside : 64 * q + k < w). sym here ∙ sym (pixel_at-grid_of w h (packed_pixel stride words) (64 * q + k) y inside above))
+    (λ (past : w ≤ 64 * q + k). sym here ∙ packed.padded (64 * q + k) y past (omega arith) above ∙ sym (pixel_at-right (grid_of w h (packed_pixel stride words)) (64 * q + k) y past))
+    (cases_lt (64 * q + k) w)
 
 -- ---- rows of one colour
 and-true : (b : Bool) → b ≡ (b && true)
@@ -115,17 +115,17 @@ written-grid w h stride words x y v f packed left above here there =
     let place = place-lt w h stride words x y packed left above in
     let wide = packed.strided in
     grid_of-ext w h (packed_pixel stride (set words (y * stride + x / 64) v)) f (λ i j right below.
-      let apart : (j ≡ y → i / 64 ≡ x / 64 → ⊥) → packed_pixel stride (set words (y * stride + x / 64) v) i j ≡ f i j = λ ne.
-        other-word stride words x y v i j (omega arith) (omega arith) ne ∙ sym (pixel_at-grid_of w h (packed_pixel stride words) i j right below) ∙ there i j right below ne in
-      ⊎_elim
-        (λ (row : j ≡ y).
-          ⊎_elim
-            (λ (same : i / 64 ≡ x / 64).
-              ap (λ (n : ℕ). packed_pixel stride (set words (y * stride + x / 64) v) i n) row ∙ same-word stride words x y v i place same ∙ here i same right ∙ ap (λ (n : ℕ). f i n) (sym row))
-            (λ (ne : i / 64 ≡ x / 64 → ⊥). apart (λ _ same. ne same))
-            (cases_eq (i / 64) (x / 64)))
-        (λ (ne : j ≡ y → ⊥). apart (λ row _. ne row))
-        (cases_eq j y))
+    let apart : (j ≡ y → i / 64 ≡ x / 64 → ⊥) → packed_pixel stride (set words (y * stride + x / 64) v) i j ≡ f i j = λ ne.
+    other-word stride words x y v i j (omega arith) (omega arith) ne ∙ sym (pixel_at-grid_of w h (packed_pixel stride words) i j right below) ∙ there i j right below ne in
+    ⊎_elim
+    (λ (row : j ≡ y).
+    ⊎_elim
+    (λ (same : i / 64 ≡ x / 64).
+    ap (λ (n : ℕ). packed_pixel stride (set words (y * stride + x / 64) v) i n) row ∙ same-word stride words x y v i place same ∙ here i same right ∙ ap (λ (n : ℕ). f i n) (sym row))
+    (λ (ne : i / 64 ≡ x / 64 → ⊥). apart (λ _ same. ne same))
+    (cases_eq (i / 64) (x / 64)))
+    (λ (ne : j ≡ y → ⊥). apart (λ row _. ne row))
+    (cases_eq j y))
 
 pub written-packed : (w h stride : ℕ) (words : List ℕ) (x y v : ℕ) → IsPacked w h stride words → x < w → y < h → ((i : ℕ) → i / 64 ≡ x / 64 → w ≤ i → bit v (63 - i % 64) ≡ false) → IsPacked w h stride (set words (y * stride + x / 64) v)
 written-packed w h stride words x y v packed left above clear =
@@ -135,15 +135,15 @@ written-packed w h stride words x y v packed left above clear =
       strided = packed.strided;
       sized = length-set words (y * stride + x / 64) v ∙ packed.sized;
       padded = λ i j past inside below.
-        (let apart : (j ≡ y → i / 64 ≡ x / 64 → ⊥) → packed_pixel stride (set words (y * stride + x / 64) v) i j ≡ false = λ ne.
+          (let apart : (j ≡ y → i / 64 ≡ x / 64 → ⊥) → packed_pixel stride (set words (y * stride + x / 64) v) i j ≡ false = λ ne.
           other-word stride words x y v i j (omega arith) (omega arith) ne ∙ packed.padded i j past inside below in
-        ⊎_elim
+          ⊎_elim
           (λ (row : j ≡ y).
-            ⊎_elim
-              (λ (same : i / 64 ≡ x / 64).
-                ap (λ (n : ℕ). packed_pixel stride (set words (y * stride + x / 64) v) i n) row ∙ same-word stride words x y v i place same ∙ clear i same past)
-              (λ (ne : i / 64 ≡ x / 64 → ⊥). apart (λ _ same. ne same))
-              (cases_eq (i / 64) (x / 64)))
+          ⊎_elim
+          (λ (same : i / 64 ≡ x / 64).
+          ap (λ (n : ℕ). packed_pixel stride (set words (y * stride + x / 64) v) i n) row ∙ same-word stride words x y v i place same ∙ clear i same past)
+          (λ (ne : i / 64 ≡ x / 64 → ⊥). apart (λ _ same. ne same))
+          (cases_eq (i / 64) (x / 64)))
           (λ (ne : j ≡ y → ⊥). apart (λ row _. ne row))
           (cases_eq j y));
     }

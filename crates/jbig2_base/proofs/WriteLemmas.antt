@@ -21,9 +21,9 @@ one-bit : (x i : ℕ) → i / 64 ≡ x / 64 → bit (1 * 2 ^ (63 - x % 64) % 2 ^
 one-bit x i same =
     ap (λ (n : ℕ). bit n (63 - i % 64)) (one_shl (63 - x % 64) 64 (omega arith))
     ∙ ⊎_elim
-      (λ (e : i ≡ x). ap (λ (n : ℕ). bit (2 ^ (63 - x % 64)) (63 - n % 64)) e ∙ bit-pow_same (63 - x % 64) ∙ sym (eq-eqb i x e))
-      (λ (ne : i ≡ x → ⊥). bit-pow_other (63 - x % 64) (63 - i % 64) (λ e. ne (omega arith)) ∙ sym (ne_eqb i x ne))
-      (cases_eq i x)
+    (λ (e : i ≡ x). ap (λ (n : ℕ). bit (2 ^ (63 - x % 64)) (63 - n % 64)) e ∙ bit-pow_same (63 - x % 64) ∙ sym (eq-eqb i x e))
+    (λ (ne : i ≡ x → ⊥). bit-pow_other (63 - x % 64) (63 - i % 64) (λ e. ne (omega arith)) ∙ sym (ne_eqb i x ne))
+    (cases_eq i x)
 
 -- the word with that bit
 blackened : (stride : ℕ) (words : List ℕ) (x y i : ℕ) → i / 64 ≡ x / 64 → bit (bit_or (get_or words (y * stride + x / 64) 0) (1 * 2 ^ (63 - x % 64) % 2 ^ 64)) (63 - i % 64) ≡ (packed_pixel stride words i y || eqb i x)
@@ -36,31 +36,31 @@ blackened stride words x y i same =
 pub black-grid : (w h stride : ℕ) (words : List ℕ) (x y : ℕ) → IsPacked w h stride words → x < w → y < h → grid_of w h (packed_pixel stride (set words (y * stride + x / 64) (bit_or (get_or words (y * stride + x / 64) 0) (1 * 2 ^ (63 - x % 64) % 2 ^ 64)))) ≡ with_pixel (grid_of w h (packed_pixel stride words)) x y true
 black-grid w h stride words x y packed left above =
     written-grid w h stride words x y (bit_or (get_or words (y * stride + x / 64) 0) (1 * 2 ^ (63 - x % 64) % 2 ^ 64)) (λ i j. pixel_at (grid_of w h (packed_pixel stride words)) i j || (eqb i x && eqb j y)) packed left above
-      (λ i same right.
-        blackened stride words x y i same
-        ∙ ap (λ (t : Bool). t || eqb i x) (sym (pixel_at-grid_of w h (packed_pixel stride words) i y right above))
-        ∙ ap (λ (t : Bool). pixel_at (grid_of w h (packed_pixel stride words)) i y || t) (here (eqb i x) (eqb y y) (eq-eqb y y refl)))
-      (λ i j right below ne.
-        sym (or-false (pixel_at (grid_of w h (packed_pixel stride words)) i j) (eqb i x && eqb j y)
-          (⊎_elim
-            (λ (row : j ≡ y). and_left (eqb i x) (eqb j y) (ne_eqb i x (λ e. ne row (ap (λ (n : ℕ). n / 64) e))))
-            (λ (other : j ≡ y → ⊥). and_right (eqb i x) (eqb j y) (ne_eqb j y other))
-            (cases_eq j y))))
+    (λ i same right.
+    blackened stride words x y i same
+    ∙ ap (λ (t : Bool). t || eqb i x) (sym (pixel_at-grid_of w h (packed_pixel stride words) i y right above))
+    ∙ ap (λ (t : Bool). pixel_at (grid_of w h (packed_pixel stride words)) i y || t) (here (eqb i x) (eqb y y) (eq-eqb y y refl)))
+    (λ i j right below ne.
+    sym (or-false (pixel_at (grid_of w h (packed_pixel stride words)) i j) (eqb i x && eqb j y)
+    (⊎_elim
+    (λ (row : j ≡ y). and_left (eqb i x) (eqb j y) (ne_eqb i x (λ e. ne row (ap (λ (n : ℕ). n / 64) e))))
+    (λ (other : j ≡ y → ⊥). and_right (eqb i x) (eqb j y) (ne_eqb j y other))
+    (cases_eq j y))))
 
 pub black-packed : (w h stride : ℕ) (words : List ℕ) (x y : ℕ) → IsPacked w h stride words → x < w → y < h → IsPacked w h stride (set words (y * stride + x / 64) (bit_or (get_or words (y * stride + x / 64) 0) (1 * 2 ^ (63 - x % 64) % 2 ^ 64)))
 black-packed w h stride words x y packed left above =
     let wide = packed.strided in
     written-packed w h stride words x y (bit_or (get_or words (y * stride + x / 64) 0) (1 * 2 ^ (63 - x % 64) % 2 ^ 64)) packed left above
-      (λ i same past.
-        blackened stride words x y i same
-        ∙ or-false (packed_pixel stride words i y) (eqb i x) (ne_eqb i x (λ e. absurd (omega arith)))
-        ∙ packed.padded i y past (omega arith) above)
+    (λ i same past.
+    blackened stride words x y i same
+    ∙ or-false (packed_pixel stride words i y) (eqb i x) (ne_eqb i x (λ e. absurd (omega arith)))
+    ∙ packed.padded i y past (omega arith) above)
 
 -- no pixel inside is made black
 pub same-with_pixel : (w h : ℕ) (f : ℕ → ℕ → Bool) (x y : ℕ) (black : Bool) → ((i j : ℕ) → i < w → j < h → (black && eqb i x && eqb j y) ≡ false) → grid_of w h f ≡ with_pixel (grid_of w h f) x y black
 same-with_pixel w h f x y black none =
     grid_of-ext w h f (λ i j. pixel_at (grid_of w h f) i j || (black && eqb i x && eqb j y))
-      (λ i j right below. sym (or-false (pixel_at (grid_of w h f) i j) (black && eqb i x && eqb j y) (none i j right below) ∙ pixel_at-grid_of w h f i j right below))
+    (λ i j right below. sym (or-false (pixel_at (grid_of w h f) i j) (black && eqb i x && eqb j y) (none i j right below) ∙ pixel_at-grid_of w h f i j right below))
 
 pub white-nothing : (x y : ℕ) (black : Bool) (i j : ℕ) → black ≡ false → (black && eqb i x && eqb j y) ≡ false
 white-nothing x y black i j white = and_left _ _ (and_left black (eqb i x) white)
@@ -85,46 +85,45 @@ other_row : (x y count i j : ℕ) → (j ≡ y → ⊥) → (eqb j y && leb x i 
 other_row x y count i j ne = and_left _ _ (and_left (eqb j y) (leb x i) (ne_eqb j y ne))
 
 -- the word with a field of other bits
-pub stored : (stride : ℕ) (words : List ℕ) (x y count bits v i : ℕ) → 1 ≤ count → x / 64 ≡ (x + count - 1) / 64 → ((b : ℕ) → b < 64 → bit v b ≡ field_bit (get_or words (y * stride + x / 64) 0) (64 - x % 64 - count) count bits b) → i / 64 ≡ x / 64 → bit v (63 - i % 64) ≡ cond (eqb y y && leb x i && ltb i (x + count)) (bit bits (x + count - 1 - i)) (packed_pixel stride words i y)
-stored stride words x y count bits v i some one each same =
-    let word : ℕ = get_or words (y * stride + x / 64) 0 in
+pub stored : (stride : ℕ) (words : List ℕ) (x y count bits word v i : ℕ) → word ≡ get_or words (y * stride + x / 64) 0 → 1 ≤ count → x / 64 ≡ (x + count - 1) / 64 → ((b : ℕ) → b < 64 → bit v b ≡ field_bit word (64 - x % 64 - count) count bits b) → i / 64 ≡ x / 64 → bit v (63 - i % 64) ≡ cond (eqb y y && leb x i && ltb i (x + count)) (bit bits (x + count - 1 - i)) (packed_pixel stride words i y)
+stored stride words x y count bits word v i read some one each same =
     let shift : ℕ = 64 - x % 64 - count in
     let now = each (63 - i % 64) (omega arith) in
-    let old = sym (old-word stride words x y i same) in
+    let old = ap (λ (n : ℕ). bit n (63 - i % 64)) read ∙ sym (old-word stride words x y i same) in
     let within : x % 64 + count ≤ 64 = omega arith in
     ⊎_elim
-      (λ (before : i < x). now ∙ field-above word shift count bits (63 - i % 64) (omega arith) ∙ old ∙ sym (cond-false _ (bit bits (x + count - 1 - i)) (packed_pixel stride words i y) (before_field x y count i y before)))
-      (λ (low : x ≤ i).
-        ⊎_elim
-          (λ (high : i < x + count).
-            let place : 63 - i % 64 - shift ≡ x + count - 1 - i = omega arith in
-            now ∙ field-inside word shift count bits (63 - i % 64) (omega arith) (omega arith) ∙ ap (λ (b : ℕ). bit bits b) place ∙ sym (cond-true _ (bit bits (x + count - 1 - i)) (packed_pixel stride words i y) (in_field x y count i y refl low high)))
-          (λ (behind : x + count ≤ i). now ∙ field-below word shift count bits (63 - i % 64) (omega arith) ∙ old ∙ sym (cond-false _ (bit bits (x + count - 1 - i)) (packed_pixel stride words i y) (behind_field x y count i y behind)))
-          (cases_lt i (x + count)))
-      (cases_lt i x)
+    (λ (before : i < x). now ∙ field-above word shift count bits (63 - i % 64) (omega arith) ∙ old ∙ sym (cond-false _ (bit bits (x + count - 1 - i)) (packed_pixel stride words i y) (before_field x y count i y before)))
+    (λ (low : x ≤ i).
+    ⊎_elim
+    (λ (high : i < x + count).
+    let place : 63 - i % 64 - shift ≡ x + count - 1 - i = omega arith in
+    now ∙ field-inside word shift count bits (63 - i % 64) (omega arith) (omega arith) ∙ ap (λ (b : ℕ). bit bits b) place ∙ sym (cond-true _ (bit bits (x + count - 1 - i)) (packed_pixel stride words i y) (in_field x y count i y refl low high)))
+    (λ (behind : x + count ≤ i). now ∙ field-below word shift count bits (63 - i % 64) (omega arith) ∙ old ∙ sym (cond-false _ (bit bits (x + count - 1 - i)) (packed_pixel stride words i y) (behind_field x y count i y behind)))
+    (cases_lt i (x + count)))
+    (cases_lt i x)
 
-pub stored-grid : (w h stride : ℕ) (words : List ℕ) (x y count bits v : ℕ) → IsPacked w h stride words → 1 ≤ count → x + count ≤ w → y < h → x / 64 ≡ (x + count - 1) / 64 → ((b : ℕ) → b < 64 → bit v b ≡ field_bit (get_or words (y * stride + x / 64) 0) (64 - x % 64 - count) count bits b) → grid_of w h (packed_pixel stride (set words (y * stride + x / 64) v)) ≡ with_pixels (grid_of w h (packed_pixel stride words)) x y count bits
-stored-grid w h stride words x y count bits v packed some columns above one each =
+pub stored-grid : (w h stride : ℕ) (words : List ℕ) (x y count bits word v : ℕ) → IsPacked w h stride words → word ≡ get_or words (y * stride + x / 64) 0 → 1 ≤ count → x + count ≤ w → y < h → x / 64 ≡ (x + count - 1) / 64 → ((b : ℕ) → b < 64 → bit v b ≡ field_bit word (64 - x % 64 - count) count bits b) → grid_of w h (packed_pixel stride (set words (y * stride + x / 64) v)) ≡ with_pixels (grid_of w h (packed_pixel stride words)) x y count bits
+stored-grid w h stride words x y count bits word v packed read some columns above one each =
     written-grid w h stride words x y v (λ i j. cond (eqb j y && leb x i && ltb i (x + count)) (bit bits (x + count - 1 - i)) (pixel_at (grid_of w h (packed_pixel stride words)) i j)) packed (omega arith) above
-      (λ i same right.
-        stored stride words x y count bits v i some one each same
-        ∙ ap (λ (t : Bool). cond (eqb y y && leb x i && ltb i (x + count)) (bit bits (x + count - 1 - i)) t) (sym (pixel_at-grid_of w h (packed_pixel stride words) i y right above)))
-      (λ i j right below ne.
-        sym (cond-false (eqb j y && leb x i && ltb i (x + count)) (bit bits (x + count - 1 - i)) (pixel_at (grid_of w h (packed_pixel stride words)) i j)
-          (⊎_elim
-            (λ (row : j ≡ y).
-              ⊎_elim
-                (λ (before : i < x). before_field x y count i j before)
-                (λ (low : x ≤ i). behind_field x y count i j (⊎_elim (λ (high : i < x + count). absurd (ne row (omega arith))) (λ (behind : x + count ≤ i). behind) (cases_lt i (x + count))))
-                (cases_lt i x))
-            (λ (other : j ≡ y → ⊥). other_row x y count i j other)
-            (cases_eq j y))))
+    (λ i same right.
+    stored stride words x y count bits word v i read some one each same
+    ∙ ap (λ (t : Bool). cond (eqb y y && leb x i && ltb i (x + count)) (bit bits (x + count - 1 - i)) t) (sym (pixel_at-grid_of w h (packed_pixel stride words) i y right above)))
+    (λ i j right below ne.
+    sym (cond-false (eqb j y && leb x i && ltb i (x + count)) (bit bits (x + count - 1 - i)) (pixel_at (grid_of w h (packed_pixel stride words)) i j)
+    (⊎_elim
+    (λ (row : j ≡ y).
+    ⊎_elim
+    (λ (before : i < x). before_field x y count i j before)
+    (λ (low : x ≤ i). behind_field x y count i j (⊎_elim (λ (high : i < x + count). absurd (ne row (omega arith))) (λ (behind : x + count ≤ i). behind) (cases_lt i (x + count))))
+    (cases_lt i x))
+    (λ (other : j ≡ y → ⊥). other_row x y count i j other)
+    (cases_eq j y))))
 
-pub stored-packed : (w h stride : ℕ) (words : List ℕ) (x y count bits v : ℕ) → IsPacked w h stride words → 1 ≤ count → x + count ≤ w → y < h → x / 64 ≡ (x + count - 1) / 64 → ((b : ℕ) → b < 64 → bit v b ≡ field_bit (get_or words (y * stride + x / 64) 0) (64 - x % 64 - count) count bits b) → IsPacked w h stride (set words (y * stride + x / 64) v)
-stored-packed w h stride words x y count bits v packed some columns above one each =
+pub stored-packed : (w h stride : ℕ) (words : List ℕ) (x y count bits word v : ℕ) → IsPacked w h stride words → word ≡ get_or words (y * stride + x / 64) 0 → 1 ≤ count → x + count ≤ w → y < h → x / 64 ≡ (x + count - 1) / 64 → ((b : ℕ) → b < 64 → bit v b ≡ field_bit word (64 - x % 64 - count) count bits b) → IsPacked w h stride (set words (y * stride + x / 64) v)
+stored-packed w h stride words x y count bits word v packed read some columns above one each =
     let wide = packed.strided in
     written-packed w h stride words x y v packed (omega arith) above
-      (λ i same past.
-        stored stride words x y count bits v i some one each same
-        ∙ cond-false (eqb y y && leb x i && ltb i (x + count)) (bit bits (x + count - 1 - i)) (packed_pixel stride words i y) (behind_field x y count i y (omega arith))
-        ∙ packed.padded i y past (omega arith) above)
+    (λ i same past.
+    stored stride words x y count bits word v i read some one each same
+    ∙ cond-false (eqb y y && leb x i && ltb i (x + count)) (bit bits (x + count - 1 - i)) (packed_pixel stride words i y) (behind_field x y count i y (omega arith))
+    ∙ packed.padded i y past (omega arith) above)

@@ -11,5 +11,6 @@ pub mod Sequential
 pub mod Sorted
 pub mod Packed
 pub mod Sizes
+pub mod Table
 pub mod WordBits
 pub mod Writes

@@ -3,6 +3,7 @@ ghost use Rattle.std.specs.Prelude.{◌≡◌, ℕ, ◌+◌, ◌-◌, ◌/◌, �
 ghost use Rattle.jbig2_base.specs.Answer.{Gives};
 ghost use Rattle.jbig2_base.specs.Grid.{blank, pixel_at, bit_number};
 ghost use Rattle.jbig2_base.specs.Sizes.{blank_or_overflow, wide_or_overflow};
+ghost use Rattle.jbig2_base.specs.Table.{IsTable};
 ghost use Rattle.jbig2_base.specs.WordBits.{bit};
 ghost use Rattle.jbig2_base.specs.Writes.{with_pixel, with_pixels};
 
@@ -89,7 +90,8 @@ impl<A: Allocator> Bitmap<A> {
     /// The number of columns.
     #[inline(always)]
     pub fn width(&self) -> u32
-        ensures { result ≡ self.now.width }
+        ensures value { result ≡ self.now.width }
+        ensures table { IsTable self.now }
     {
         self.rows.width()
     }
@@ -97,7 +99,8 @@ impl<A: Allocator> Bitmap<A> {
     /// The number of rows.
     #[inline(always)]
     pub fn height(&self) -> u32
-        ensures { result ≡ self.now.height }
+        ensures value { result ≡ self.now.height }
+        ensures table { IsTable self.now }
     {
         self.rows.height()
     }
@@ -138,7 +141,14 @@ impl<A: Allocator> Bitmap<A> {
     /// `bits`, the first to the highest of them. The pixels lie inside, and between two columns that
     /// 64 divides.
     #[inline(always)]
-    pub fn store_pixels<L: Ledger>(&mut self, x: u32, y: u32, count: u32, bits: u64, steps: &mut Steps<L>)
+    pub fn store_pixels<L: Ledger>(
+        &mut self,
+        x: u32,
+        y: u32,
+        count: u32,
+        bits: u64,
+        steps: &mut Steps<L>,
+    )
         requires some { 1 ≤ count }
         requires columns { x + count ≤ self.old.width }
         requires row { y < self.old.height }

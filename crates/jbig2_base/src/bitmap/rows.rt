@@ -3,6 +3,7 @@ ghost use Rattle.std.specs.Prelude.{◌≡◌, ℕ, ◌+◌, ◌-◌, ◌*◌, �
 ghost use Rattle.jbig2_base.specs.Answer.{Gives};
 ghost use Rattle.jbig2_base.specs.Grid.{blank, pixel_at, bit_number};
 ghost use Rattle.jbig2_base.specs.Packed.{blank_word};
+ghost use Rattle.jbig2_base.specs.Table.{IsTable};
 ghost use Rattle.jbig2_base.specs.WordBits.{bit, field_bit};
 ghost use Rattle.jbig2_base.specs.Writes.{with_pixel, with_pixels};
 
@@ -67,14 +68,16 @@ impl<A: Allocator> PackedRows<A> {
 
     #[inline(always)]
     pub fn width(&self) -> u32
-        ensures { result ≡ self.now.width }
+        ensures value { result ≡ self.now.width }
+        ensures table { IsTable self.now }
     {
         self.width
     }
 
     #[inline(always)]
     pub fn height(&self) -> u32
-        ensures { result ≡ self.now.height }
+        ensures value { result ≡ self.now.height }
+        ensures table { IsTable self.now }
     {
         self.height
     }
@@ -141,7 +144,14 @@ impl<A: Allocator> PackedRows<A> {
     /// Sets `count` neighbouring pixels of row `y` from column `x` on, which lie in one word, to the
     /// lowest `count` bits of `bits`, the first to the highest of them.
     #[inline(always)]
-    pub fn store_pixels<L: Ledger>(&mut self, x: u32, y: u32, count: u32, bits: u64, steps: &mut Steps<L>)
+    pub fn store_pixels<L: Ledger>(
+        &mut self,
+        x: u32,
+        y: u32,
+        count: u32,
+        bits: u64,
+        steps: &mut Steps<L>,
+    )
         requires some { 1 ≤ count }
         requires columns { x + count ≤ self.old.width }
         requires row { y < self.old.height }

@@ -11,11 +11,11 @@ returns-then-not-black-clause-value g c =
     let s = c.self.inside in
     rw (← c.self.view_is)
     (same-with_pixel s.width s.height (packed_pixel s.stride s.words.items) c.args.x c.args.y c.args.black (λ i j left above.
-      elim c.then-not-black.branch [
-        then-not-black-via-then-not-black w ↦ white-nothing c.args.x c.args.y c.args.black i j w.if-not-black.true
-        | then-not-black-via-else-not-black+then-x-self w ↦ other-column c.args.x c.args.y c.args.black i j (omega (arith, w.if-x-self.true))
-        | then-not-black-via-else-not-black+else-x-self+then-y-self w ↦ other-line c.args.x c.args.y c.args.black i j (omega (arith, w.if-y-self.true))
-      ]))
+    elim c.then-not-black.branch [
+      | then-not-black-via-then-not-black w ↦ white-nothing c.args.x c.args.y c.args.black i j w.if-not-black.true
+      | then-not-black-via-else-not-black+then-x-self w ↦ other-column c.args.x c.args.y c.args.black i j (omega (arith, w.if-x-self.true))
+      | then-not-black-via-else-not-black+else-x-self+then-y-self w ↦ other-line c.args.x c.args.y c.args.black i j (omega (arith, w.if-y-self.true))
+    ]))
 
 pub invariant_of-self : goal.invariant_of-self
 invariant_of-self g c =

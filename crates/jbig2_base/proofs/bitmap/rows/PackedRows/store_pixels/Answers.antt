@@ -15,8 +15,7 @@ invariant_of-self g c =
     let row = rw (← c.self.view_is) at c.requires.row in
     let inside = place-lt s.width s.height s.stride s.words.items x y c.self.invariant (omega (arith, columns, c.requires.some)) row in
     let read = get_or_read s.words.items (y * s.stride + x / 64) c.index.result.now inside c.index.ensures 0 in
-    stored-packed s.width s.height s.stride s.words.items x y n c.args.bits c.with_field.result c.self.invariant c.requires.some columns row c.requires.one_word
-      (λ b few. c.with_field.ensures b few ∙ ap (λ (word : ℕ). field_bit word (64 - x % 64 - n) n c.args.bits b) read)
+    stored-packed s.width s.height s.stride s.words.items x y n c.args.bits c.index.result.now c.with_field.result c.self.invariant read c.requires.some columns row c.requires.one_word c.with_field.ensures
 
 pub returns-clause-value : goal.returns-clause-value
 returns-clause-value g c =
@@ -29,5 +28,4 @@ returns-clause-value g c =
     let inside = place-lt s.width s.height s.stride s.words.items x y c.self.invariant (omega (arith, columns, c.requires.some)) row in
     let read = get_or_read s.words.items (y * s.stride + x / 64) c.index.result.now inside c.index.ensures 0 in
     rw (← c.self.view_is)
-      (stored-grid s.width s.height s.stride s.words.items x y n c.args.bits c.with_field.result c.self.invariant c.requires.some columns row c.requires.one_word
-        (λ b few. c.with_field.ensures b few ∙ ap (λ (word : ℕ). field_bit word (64 - x % 64 - n) n c.args.bits b) read))
+    (stored-grid s.width s.height s.stride s.words.items x y n c.args.bits c.index.result.now c.with_field.result c.self.invariant read c.requires.some columns row c.requires.one_word c.with_field.ensures)
