@@ -1,0 +1,126 @@
+-- The arithmetic decoder (T.88, Annexes E and G: the software conventions), one shift at a time.
+use Rattle.std.specs.Prelude.{ℕ, suc, zero, ◌+◌, ◌-◌, ◌*◌, ◌/◌, ◌%◌, ◌^◌, ◌<◌, ◌≤◌, length, Bool, true, false, not, ◌&&◌, if◌then◌else◌, ◌==◌, nat_lt, nat_le, List, slice_index_or}
+use Rattle.jbig2_coder.specs.Table.{row_of}
+use Rattle.jbig2_coder.specs.declared.arithmetic_decoder.registers.CodeRegister.{CodeRegister}
+use Rattle.jbig2_coder.specs.declared.arithmetic_decoder.registers.Registers.{Registers}
+
+-- A context: a row of the table, and the symbol that is likely there.
+pub record Context : Type 0 where
+  pub row : ℕ
+  pub likely : Bool
+
+abbrev pub fresh : Context
+fresh = record { row = 0; likely = false }
+
+-- A decoder: the bytes that it reads, and its registers.
+pub record Coder : Type 0 where
+  pub bytes : List ℕ
+  pub registers : Registers
+
+-- What holds of the registers between two decisions.
+pub record IsAtRest (bytes : List ℕ) (registers : Registers) : Type 0 where
+  pub normal : 0x8000 ≤ registers.a
+  pub below : registers.a < 0x10000
+  pub few : registers.code.ct ≤ 8
+  pub within : registers.code.place ≤ length bytes
+
+-- the byte at a place; past the end of the data every byte is FF
+unfoldable pub byte_at : List ℕ → ℕ → ℕ
+byte_at bytes place = slice_index_or bytes place 0xFF
+
+-- BYTEIN (G.3), from C and the place: after a byte FF comes a stuffed byte of seven bits, or a
+-- marker, at which the decoder stays
+unfoldable pub byte_in : List ℕ → ℕ → ℕ → CodeRegister
+byte_in bytes c place =
+    let next = byte_at bytes (place + 1) in
+    if byte_at bytes place == 0xFF
+    then (if nat_lt 0x8F next
+    then record { c = c; ct = 8; place = place }
+    else record { c = (c + (2 ^ 32 + 0xFE00 - next * 2 ^ 9)) % 2 ^ 32; ct = 7; place = place + 1 })
+    else record { c = (c + (0xFF00 - next * 2 ^ 8)) % 2 ^ 32; ct = 8; place = place + 1 }
+
+-- C moves on by one bit
+unfoldable pub doubled : CodeRegister → CodeRegister
+doubled r = record { c = 2 * r.c % 2 ^ 32; ct = r.ct - 1; place = r.place }
+
+-- the same, after BYTEIN where no bit is left
+unfoldable pub drawn : List ℕ → CodeRegister → CodeRegister
+drawn bytes r = doubled (if r.ct == 0 then byte_in bytes r.c r.place else r)
+
+-- RENORMD (G.3): A and C are doubled until A is at least 8000. Fifteen times are enough for any A
+-- but 0.
+unfoldable pub renormed : List ℕ → ℕ → ℕ → CodeRegister → Registers
+renormed bytes zero a r = record { a = a; code = r }
+renormed bytes (suc n) a r =
+    let more = renormed bytes n (2 * a) (drawn bytes r) in
+    if nat_lt a 0x8000 then more else record { a = a; code = r }
+
+-- INITDEC (G.1)
+unfoldable pub started : List ℕ → Registers
+started bytes =
+    let r = byte_in bytes ((0xFF - byte_at bytes 0) * 2 ^ 16) 0 in
+    record { a = 0x8000; code = record { c = r.c * 2 ^ 7 % 2 ^ 32; ct = r.ct - 7; place = r.place } }
+
+-- the context after the likely symbol, and after the other
+unfoldable pub likely_next : Context → Context
+likely_next context = record { row = (row_of context.row).nmps; likely = context.likely }
+
+unfoldable pub unlikely_next : Context → Context
+unlikely_next context =
+    let row = row_of context.row in
+    record { row = row.nlps; likely = (if row.switch then not context.likely else context.likely) }
+
+-- What a decision chooses: the symbol, what A and C become before RENORMD, the context afterwards,
+-- and whether RENORMD follows.
+pub record Choice : Type 0 where
+  pub symbol : Bool
+  pub a : ℕ
+  pub c : ℕ
+  pub context : Context
+  pub renorm : Bool
+
+-- the upper part of the interval belongs to the likely symbol, unless it has become the smaller one
+-- (DECODE, G.2)
+unfoldable pub choice : Context → ℕ → ℕ → Choice
+choice context a c =
+    let qe = (row_of context.row).qe in
+    let rest = a - qe in
+    let lower = (c + (2 ^ 32 - rest * 2 ^ 16)) % 2 ^ 32 in
+    if nat_lt (c / 2 ^ 16) rest
+    then (if nat_le 0x8000 rest
+    then record { symbol = context.likely; a = rest; c = c; context = context; renorm = false }
+    else if nat_lt rest qe
+    then record { symbol = not context.likely; a = rest; c = c; context = unlikely_next context; renorm = true }
+    else record { symbol = context.likely; a = rest; c = c; context = likely_next context; renorm = true })
+    else if nat_lt rest qe
+    then record { symbol = context.likely; a = qe; c = lower; context = likely_next context; renorm = true }
+    else record { symbol = not context.likely; a = qe; c = lower; context = unlikely_next context; renorm = true }
+
+-- A decision: the symbol, and the registers and the context afterwards.
+pub record Decision : Type 0 where
+  pub symbol : Bool
+  pub registers : Registers
+  pub context : Context
+
+unfoldable pub decision : List ℕ → Registers → Context → Decision
+decision bytes registers context =
+    let chosen = choice context registers.a registers.code.c in
+    let code : CodeRegister = record registers.code { c = chosen.c } in
+    record {
+      symbol = chosen.symbol;
+      registers = (if chosen.renorm then renormed bytes 15 chosen.a code else record { a = chosen.a; code = code });
+      context = chosen.context;
+    }
+
+-- A decision is quiet where it gives the likely symbol and makes no RENORMD.
+unfoldable pub is_quiet : Registers → Context → Bool
+is_quiet registers context =
+    let chosen = choice context registers.a registers.code.c in
+    (if context.likely then chosen.symbol else not chosen.symbol) && not chosen.renorm
+
+-- whether the next `count` decisions in a context are all quiet
+unfoldable pub all_quiet : ℕ → List ℕ → Registers → Context → Bool
+all_quiet zero bytes registers context = true
+all_quiet (suc count) bytes registers context =
+    let next = decision bytes registers context in
+    is_quiet registers context && all_quiet count bytes next.registers next.context

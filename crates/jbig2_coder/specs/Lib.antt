@@ -1,0 +1,2 @@
+pub mod Coder
+pub mod Table

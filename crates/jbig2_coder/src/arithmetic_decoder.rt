@@ -1,0 +1,200 @@
+//! The arithmetic decoder (T.88, Annexes E and G).
+
+ghost use Rattle.std.specs.Prelude.{◌≡◌, ◌+◌, ◌-◌, ◌*◌, ◌<◌, ◌≤◌, ◌==◌, length, not, true, false, if◌then◌else◌, IsTrue};
+ghost use Rattle.jbig2_base.specs.Grid.{bit_number};
+ghost use Rattle.jbig2_coder.specs.Table.{row_of};
+ghost use Rattle.jbig2_coder.specs.Coder.{fresh, byte_at, byte_in, renormed, started, choice, likely_next, unlikely_next, decision, all_quiet};
+
+use crate::arithmetic_decoder::qe_table::{QeData, row_at};
+use crate::arithmetic_decoder::registers::{
+    CodeRegister, Registers, byte_at, byte_in, renormalize,
+};
+use jbig2_base::bitmap::steps::Steps;
+use std::marker::Model;
+use std::sync::ledger::Ledger;
+
+pub mod qe_table;
+pub mod registers;
+
+/// What the decoder has learned of one context: a row of the table of probabilities, and the symbol
+/// that is the more likely one there.
+#[derive(Clone, Copy)]
+pub struct ArithmeticDecoderContext {
+    row: u8,
+    likely: bool,
+}
+
+impl Model for ArithmeticDecoderContext {
+    ghost use Rattle.std.specs.Prelude.{◌<◌};
+    ghost use Rattle.jbig2_coder.specs.Coder.{Context};
+
+    ghost Value = { Context };
+
+    ghost view = { λ s. record { row = s.row; likely = s.likely } };
+
+    ghost invariant = { λ s. s.row < 47 };
+
+    ghost inverse = { λ v. record { row = v.row; likely = v.likely } };
+}
+
+impl Default for ArithmeticDecoderContext {
+    fn default() -> Self
+        ensures { result ≡ fresh }
+    {
+        ArithmeticDecoderContext::new()
+    }
+}
+
+impl ArithmeticDecoderContext {
+    /// A context of which nothing is known yet: row 0, and 0 the likely symbol.
+    #[inline(always)]
+    pub fn new() -> Self
+        ensures { result ≡ fresh }
+    {
+        ArithmeticDecoderContext {
+            row: 0,
+            likely: false,
+        }
+    }
+}
+
+impl ArithmeticDecoderContext {
+    #[inline(always)]
+    fn after_likely(&mut self, row: &QeData) -> bool
+        requires { row.now ≡ row_of self.old.row }
+        ensures context { self.new ≡ likely_next self.old }
+        ensures symbol { result ≡ self.old.likely }
+    {
+        self.row = row.nmps;
+        self.likely
+    }
+
+    #[inline(always)]
+    fn after_unlikely(&mut self, row: &QeData) -> bool
+        requires { row.now ≡ row_of self.old.row }
+        ensures context { self.new ≡ unlikely_next self.old }
+        ensures symbol { result ≡ not self.old.likely }
+    {
+        let symbol = !self.likely;
+        self.row = row.nlps;
+        self.likely ^= row.switch;
+        symbol
+    }
+
+    /// The symbol of a decision that isn't quiet, with its part of the interval.
+    #[inline(always)]
+    fn exchange(&mut self, row: &QeData, registers: &mut Registers) -> bool
+        requires row { row.now ≡ row_of self.old.row }
+        requires qe { row.now.qe ≤ registers.old.a }
+        requires renorm { IsTrue (choice self.old registers.old.a registers.old.code.c).renorm }
+        ensures symbol { result ≡ (choice self.old registers.old.a registers.old.code.c).symbol }
+        ensures a { registers.new.a ≡ (choice self.old registers.old.a registers.old.code.c).a }
+        ensures code { registers.new.code ≡ record registers.old.code { c = (choice self.old registers.old.a registers.old.code.c).c } }
+        ensures context { self.new ≡ (choice self.old registers.old.a registers.old.code.c).context }
+    {
+        let rest = registers.a - row.qe;
+        if registers.code.c >> 16 < rest {
+            registers.a = rest;
+            if rest < row.qe {
+                return self.after_unlikely(row);
+            }
+            return self.after_likely(row);
+        }
+        registers.code.c -= rest << 16;
+        registers.a = row.qe;
+        if rest < row.qe {
+            return self.after_likely(row);
+        }
+        self.after_unlikely(row)
+    }
+}
+
+/// Reads the decisions that an arithmetic coder wrote into a slice. Past the end of the slice every
+/// byte is FF.
+#[derive(Drop)]
+pub struct ArithmeticDecoder<'a> {
+    bytes: &'a [u8],
+    registers: Registers,
+}
+
+impl<'a> Model for ArithmeticDecoder<'a> {
+    ghost use Rattle.jbig2_coder.specs.Coder.{Coder, IsAtRest};
+
+    ghost Value = { Coder };
+
+    ghost view = { λ s. record { bytes = s.bytes.now; registers = s.registers } };
+
+    ghost invariant = { λ s. IsAtRest s.bytes.now s.registers };
+}
+
+impl<'a> ArithmeticDecoder<'a> {
+    /// A decoder at the start of `data` (INITDEC, G.1).
+    pub fn new(data: &'a [u8]) -> Self
+        ensures bytes { result.bytes ≡ data.now }
+        ensures registers { result.registers ≡ started data.now }
+    {
+        let first = u32::from(!byte_at(data, 0)) << 16;
+        let code = byte_in(data, first, 0);
+        ArithmeticDecoder {
+            bytes: data,
+            registers: Registers {
+                a: 0x8000,
+                code: CodeRegister {
+                    c: code.c << 7,
+                    ct: code.ct - 7,
+                    place: code.place,
+                },
+            },
+        }
+    }
+
+    /// The next decision in `context`, 0 or 1 (DECODE, G.2), which `context` then knows of.
+    #[inline(always)]
+    pub fn decode<L: Ledger>(
+        &mut self,
+        context: &mut ArithmeticDecoderContext,
+        steps: &mut Steps<L>,
+    ) -> u32
+        ensures value { result ≡ bit_number (decision self.old.bytes self.old.registers context.old).symbol }
+        ensures coder { self.new ≡ record self.old { registers = (decision self.old.bytes self.old.registers context.old).registers } }
+        ensures context { context.new ≡ (decision self.old.bytes self.old.registers context.old).context }
+        ensures digit { result < 2 }
+        ensures steps { steps.new ≡ record steps.old { decisions = steps.old.decisions + 1 } }
+    {
+        steps.decision();
+        let row = row_at(context.row);
+        let rest = self.registers.a - row.qe;
+        if self.registers.code.c >> 16 < rest && rest >= 0x8000 {
+            self.registers.a = rest;
+            return u32::from(context.likely);
+        }
+        let symbol = context.exchange(&row, &mut self.registers);
+        self.registers = renormalize(self.bytes, self.registers);
+        u32::from(symbol)
+    }
+
+    /// Whether the next `count` decisions in `context` are all the likely symbol, each without a
+    /// renormalization. If so, they are taken; if not, nothing changes.
+    #[inline(always)]
+    pub fn decode_mps_run<L: Ledger>(
+        &mut self,
+        context: &ArithmeticDecoderContext,
+        count: u32,
+        steps: &mut Steps<L>,
+    ) -> bool
+        requires some { 1 ≤ count }
+        requires few { count ≤ 65535 }
+        ensures exact { result ≡ all_quiet count self.old.bytes self.old.registers context.now }
+        ensures coder { self.new ≡ (if result then record self.old { registers = record self.old.registers { a = self.old.registers.a - count * (row_of context.now.row).qe } } else self.old) }
+        ensures steps { steps.new ≡ record steps.old { run_tests = steps.old.run_tests + 1 } }
+    {
+        steps.run_test();
+        let total = row_at(context.row).qe * count;
+        let floor = ((self.registers.code.c >> 16) + 1).max(0x8000);
+        if self.registers.a < floor + total {
+            return false;
+        }
+        self.registers.a -= total;
+        true
+    }
+}

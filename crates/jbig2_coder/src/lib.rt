@@ -1,0 +1,5 @@
+//! The arithmetic coder of JBIG2, and the integers and symbol ids that are coded with it (ITU-T
+//! T.88, Annexes A, E and G).
+#![tactic(auto)]
+
+pub mod arithmetic_decoder;
