@@ -39,20 +39,20 @@ byte_in bytes c place =
     else record { c = (c + (2 ^ 32 + 0xFE00 - next * 2 ^ 9)) % 2 ^ 32; ct = 7; place = place + 1 })
     else record { c = (c + (0xFF00 - next * 2 ^ 8)) % 2 ^ 32; ct = 8; place = place + 1 }
 
+-- the same, only where no bit is left
+unfoldable pub filled : List ℕ → CodeRegister → CodeRegister
+filled bytes r = if r.ct == 0 then byte_in bytes r.c r.place else r
+
 -- C moves on by one bit
 unfoldable pub doubled : CodeRegister → CodeRegister
 doubled r = record { c = 2 * r.c % 2 ^ 32; ct = r.ct - 1; place = r.place }
 
--- the same, after BYTEIN where no bit is left
-unfoldable pub drawn : List ℕ → CodeRegister → CodeRegister
-drawn bytes r = doubled (if r.ct == 0 then byte_in bytes r.c r.place else r)
-
--- RENORMD (G.3): A and C are doubled until A is at least 8000. Fifteen times are enough for any A
+-- RENORMD (G.3): A and C move on bit by bit until A is at least 8000. Fifteen times are enough for any A
 -- but 0.
 unfoldable pub renormed : List ℕ → ℕ → ℕ → CodeRegister → Registers
 renormed bytes zero a r = record { a = a; code = r }
 renormed bytes (suc n) a r =
-    let more = renormed bytes n (2 * a) (drawn bytes r) in
+    let more = renormed bytes n (2 * a) (doubled (filled bytes r)) in
     if nat_lt a 0x8000 then more else record { a = a; code = r }
 
 -- INITDEC (G.1)

@@ -1,6 +1,6 @@
 //! The arithmetic decoder (T.88, Annexes E and G).
 
-ghost use Rattle.std.specs.Prelude.{◌≡◌, ◌+◌, ◌-◌, ◌*◌, ◌<◌, ◌≤◌, ◌==◌, length, not, true, false, if◌then◌else◌, IsTrue};
+ghost use Rattle.std.specs.Prelude.{◌≡◌, ◌+◌, ◌-◌, ◌*◌, ◌/◌, ◌^◌, ◌<◌, ◌≤◌, not, true, if◌then◌else◌};
 ghost use Rattle.jbig2_base.specs.Grid.{bit_number};
 ghost use Rattle.jbig2_coder.specs.Table.{row_of};
 ghost use Rattle.jbig2_coder.specs.Coder.{fresh, byte_at, byte_in, renormed, started, choice, likely_next, unlikely_next, decision, all_quiet};
@@ -60,8 +60,10 @@ impl ArithmeticDecoderContext {
 
 impl ArithmeticDecoderContext {
     #[inline(always)]
-    fn after_likely(&mut self, row: &QeData) -> bool
-        requires { row.now ≡ row_of self.old.row }
+    #[tactic(auto, unfolding(crate::specs::Coder::likely_next))]
+    fn after_likely(&mut self, row: QeData) -> bool
+        requires row { row ≡ row_of self.old.row }
+        requires next { row.nmps < 47 }
         ensures context { self.new ≡ likely_next self.old }
         ensures symbol { result ≡ self.old.likely }
     {
@@ -70,8 +72,10 @@ impl ArithmeticDecoderContext {
     }
 
     #[inline(always)]
-    fn after_unlikely(&mut self, row: &QeData) -> bool
-        requires { row.now ≡ row_of self.old.row }
+    #[tactic(auto, unfolding(crate::specs::Coder::unlikely_next))]
+    fn after_unlikely(&mut self, row: QeData) -> bool
+        requires row { row ≡ row_of self.old.row }
+        requires next { row.nlps < 47 }
         ensures context { self.new ≡ unlikely_next self.old }
         ensures symbol { result ≡ not self.old.likely }
     {
@@ -81,17 +85,20 @@ impl ArithmeticDecoderContext {
         symbol
     }
 
-    /// The symbol of a decision that isn't quiet, with its part of the interval.
+    /// The symbol of a decision that isn't quiet, which gets its part of the interval (MPS_EXCHANGE
+    /// and LPS_EXCHANGE, G.2).
     #[inline(always)]
-    fn exchange(&mut self, row: &QeData, registers: &mut Registers) -> bool
-        requires row { row.now ≡ row_of self.old.row }
-        requires qe { row.now.qe ≤ registers.old.a }
-        requires renorm { IsTrue (choice self.old registers.old.a registers.old.code.c).renorm }
-        ensures symbol { result ≡ (choice self.old registers.old.a registers.old.code.c).symbol }
-        ensures a { registers.new.a ≡ (choice self.old registers.old.a registers.old.code.c).a }
-        ensures code { registers.new.code ≡ record registers.old.code { c = (choice self.old registers.old.a registers.old.code.c).c } }
-        ensures context { self.new ≡ (choice self.old registers.old.a registers.old.code.c).context }
+    fn exchange(&mut self, registers: &mut Registers) -> bool
+        requires normal { 0x8000 ≤ registers.old.a }
+        requires below { registers.old.a < 0x10000 }
+        requires renorm { registers.old.code.c / 2 ^ 16 < registers.old.a - (row_of self.old.row).qe → registers.old.a - (row_of self.old.row).qe < 0x8000 }
+        ensures choice { choice self.old registers.old.a registers.old.code.c ≡ record { symbol = result; a = registers.new.a; c = registers.new.code.c; context = self.new; renorm = true } }
+        ensures bits { registers.new.code.ct ≡ registers.old.code.ct }
+        ensures place { registers.new.code.place ≡ registers.old.code.place }
+        ensures some { 1 ≤ registers.new.a }
+        ensures half { registers.new.a < 0x8000 }
     {
+        let row = row_at(self.row);
         let rest = registers.a - row.qe;
         if registers.code.c >> 16 < rest {
             registers.a = rest;
@@ -100,7 +107,7 @@ impl ArithmeticDecoderContext {
             }
             return self.after_likely(row);
         }
-        registers.code.c -= rest << 16;
+        registers.code.c = registers.code.c.wrapping_sub(rest << 16);
         registers.a = row.qe;
         if rest < row.qe {
             return self.after_likely(row);
@@ -128,15 +135,16 @@ impl<'a> Model for ArithmeticDecoder<'a> {
 }
 
 impl<'a> ArithmeticDecoder<'a> {
-    /// A decoder at the start of `data` (INITDEC, G.1).
-    pub fn new(data: &'a [u8]) -> Self
-        ensures bytes { result.bytes ≡ data.now }
-        ensures registers { result.registers ≡ started data.now }
+    #[tactic(auto, unfolding(crate::specs::Coder::started))]
+    /// A decoder at the start of `bytes` (INITDEC, G.1).
+    pub fn new(bytes: &'a [u8]) -> Self
+        ensures bytes { result.bytes ≡ bytes.now }
+        ensures registers { result.registers ≡ started bytes.now }
     {
-        let first = u32::from(!byte_at(data, 0)) << 16;
-        let code = byte_in(data, first, 0);
+        let first = u32::from(!byte_at(bytes, 0)) << 16;
+        let code = byte_in(bytes, first, 0);
         ArithmeticDecoder {
-            bytes: data,
+            bytes,
             registers: Registers {
                 a: 0x8000,
                 code: CodeRegister {
@@ -162,13 +170,12 @@ impl<'a> ArithmeticDecoder<'a> {
         ensures steps { steps.new ≡ record steps.old { decisions = steps.old.decisions + 1 } }
     {
         steps.decision();
-        let row = row_at(context.row);
-        let rest = self.registers.a - row.qe;
+        let rest = self.registers.a - row_at(context.row).qe;
         if self.registers.code.c >> 16 < rest && rest >= 0x8000 {
             self.registers.a = rest;
             return u32::from(context.likely);
         }
-        let symbol = context.exchange(&row, &mut self.registers);
+        let symbol = context.exchange(&mut self.registers);
         self.registers = renormalize(self.bytes, self.registers);
         u32::from(symbol)
     }

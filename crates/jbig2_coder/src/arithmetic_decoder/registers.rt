@@ -1,7 +1,7 @@
 //! The registers of the arithmetic decoder, and how bytes go into them (T.88, Annex G).
 
-ghost use Rattle.std.specs.Prelude.{◌≡◌, ◌+◌, ◌*◌, ◌<◌, ◌≤◌, length};
-ghost use Rattle.jbig2_coder.specs.Coder.{byte_at, byte_in, renormed};
+ghost use Rattle.std.specs.Prelude.{◌≡◌, ◌+◌, ◌*◌, ◌^◌, ◌<◌, ◌≤◌, length};
+ghost use Rattle.jbig2_coder.specs.Coder.{byte_at, byte_in, filled, renormed};
 
 /// The code register C, the bits of it that are left before the next byte is read (CT), and the
 /// place of the byte that was read last.
@@ -20,6 +20,7 @@ pub struct Registers {
 }
 
 /// The byte at `place`, FF past the end.
+#[tactic(auto, unfolding(crate::specs::Coder::byte_at))]
 #[inline(always)]
 pub fn byte_at(bytes: &[u8], place: usize) -> u8
     ensures { result ≡ byte_at bytes.now place }
@@ -28,6 +29,7 @@ pub fn byte_at(bytes: &[u8], place: usize) -> u8
 }
 
 /// The code register once the byte behind `place` is read into `c` (BYTEIN, G.3).
+#[tactic(auto, unfolding(crate::specs::Coder::byte_in))]
 #[inline(always)]
 pub fn byte_in(bytes: &[u8], c: u32, place: usize) -> CodeRegister
     requires { place ≤ length bytes.now }
@@ -55,6 +57,37 @@ pub fn byte_in(bytes: &[u8], c: u32, place: usize) -> CodeRegister
     }
 }
 
+/// The code register with at least one bit left.
+#[tactic(auto, unfolding(crate::specs::Coder::filled))]
+#[inline(always)]
+fn filled(bytes: &[u8], code: CodeRegister) -> CodeRegister
+    requires few { code.ct ≤ 8 }
+    requires within { code.place ≤ length bytes.now }
+    ensures value { result ≡ filled bytes.now code }
+    ensures within { result.place ≤ length bytes.now }
+    ensures some { 1 ≤ result.ct }
+    ensures few { result.ct ≤ 8 }
+{
+    if code.ct == 0 {
+        return byte_in(bytes, code.c, code.place);
+    }
+    code
+}
+
+/// How far A can be shifted at once: up to its top bit, by no more than the bits that are left.
+#[inline(always)]
+fn batch(a: u32, bits: u32) -> u32
+    requires some { 1 ≤ a }
+    requires half { a < 0x8000 }
+    requires bits { 1 ≤ bits }
+    ensures some { 1 ≤ result }
+    ensures left { result ≤ bits }
+    ensures few { result ≤ 15 }
+    ensures room { a * 2 ^ result < 2 ^ 16 }
+{
+    (a.leading_zeros() - 16).min(bits)
+}
+
 /// The registers once A has its top bit again (RENORMD, G.3). The bits that the code register still
 /// has are shifted in together.
 #[inline(always)]
@@ -71,13 +104,11 @@ pub fn renormalize(bytes: &[u8], registers: Registers) -> Registers
 {
     let Registers { mut a, mut code } = registers;
     while a < 0x8000 {
-        if code.ct == 0 {
-            code = byte_in(bytes, code.c, code.place);
-        }
-        let batch = (a.leading_zeros() - 16).min(code.ct);
-        a <<= batch;
-        code.c <<= batch;
-        code.ct -= batch;
+        code = filled(bytes, code);
+        let shifts = batch(a, code.ct);
+        a <<= shifts;
+        code.c <<= shifts;
+        code.ct -= shifts;
     }
     Registers { a, code }
 }

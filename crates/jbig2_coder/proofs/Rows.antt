@@ -1,0 +1,55 @@
+-- What holds of every row of the table of states.
+use Rattle.std.proofs.Common.{◌≡◌, ℕ, ◌<◌, ◌≤◌, Bool, true, false, ◌&&◌, ltb, leb, get_or, refl, ap, ◌∙◌, ⊎_elim, subst, sym}
+use Rattle.std.proofs.lemmas.Bool.{agree_below_at, and_parts, ltb-true, leb-true, cases_lt}
+use Rattle.std.proofs.lemmas.List.{get_or_past, get_or_default}
+use Rattle.jbig2_coder.specs.Table.{rows, row_of}
+use Rattle.jbig2_coder.specs.declared.arithmetic_decoder.qe_table.QeData.{QeData}
+
+pub record IsRow (row : QeData) : Type 0 where
+  pub some : 1 ≤ row.qe
+  pub half : row.qe ≤ 0x5601
+  pub nmps : row.nmps < 47
+  pub nlps : row.nlps < 47
+
+is_row : QeData → Bool
+is_row row = leb 1 row.qe && (leb row.qe 0x5601 && (ltb row.nmps 47 && ltb row.nlps 47))
+
+test_at : (k : ℕ) → k < 47 → is_row (row_of k) ≡ true
+unfolding is_row rows row_of
+test_at k h = agree_below_at (λ i. is_row (row_of i)) (λ _. true) 47 k refl h
+
+test_past : (k : ℕ) → 47 ≤ k → is_row (row_of k) ≡ true
+unfolding is_row rows row_of
+test_past k h = ap is_row (get_or_past rows k _ h)
+
+IsRow-test : (row : QeData) → is_row row ≡ true → IsRow row
+unfolding is_row
+IsRow-test row h =
+    let p = and_parts (leb 1 row.qe) (leb row.qe 0x5601 && (ltb row.nmps 47 && ltb row.nlps 47)) h in
+    let q = and_parts (leb row.qe 0x5601) (ltb row.nmps 47 && ltb row.nlps 47) p.1 in
+    let r = and_parts (ltb row.nmps 47) (ltb row.nlps 47) q.1 in
+    record { some = leb-true _ _ p.0; half = leb-true _ _ q.0; nmps = ltb-true _ _ r.0; nlps = ltb-true _ _ r.1 }
+
+pub row_of-is_row : (k : ℕ) → IsRow (row_of k)
+row_of-is_row k =
+    ⊎_elim (λ (h : k < 47). IsRow-test (row_of k) (test_at k h)) (λ (h : 47 ≤ k). IsRow-test (row_of k) (test_past k h)) (cases_lt k 47)
+
+-- the table that the code reads, at a default of its own
+pub row_of-read : (k : ℕ) (d : QeData) → k < 47 → get_or rows k d ≡ row_of k
+unfolding rows row_of
+row_of-read k d h = get_or_default rows k d _ h
+
+IsRow-read : (k : ℕ) (d : QeData) → k < 47 → IsRow (get_or rows k d)
+IsRow-read k d h = subst IsRow (sym (row_of-read k d h)) (row_of-is_row k)
+
+pub read-some : (k : ℕ) (d : QeData) → k < 47 → 1 ≤ (get_or rows k d).qe
+read-some k d h = (IsRow-read k d h).some
+
+pub read-half : (k : ℕ) (d : QeData) → k < 47 → (get_or rows k d).qe ≤ 0x5601
+read-half k d h = (IsRow-read k d h).half
+
+pub read-nmps : (k : ℕ) (d : QeData) → k < 47 → (get_or rows k d).nmps < 47
+read-nmps k d h = (IsRow-read k d h).nmps
+
+pub read-nlps : (k : ℕ) (d : QeData) → k < 47 → (get_or rows k d).nlps < 47
+read-nlps k d h = (IsRow-read k d h).nlps
