@@ -1,3 +1,4 @@
 pub mod Choices
+pub mod Decisions
 pub mod Renorm
 pub mod Rows
