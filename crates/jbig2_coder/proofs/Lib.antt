@@ -2,3 +2,4 @@ pub mod Choices
 pub mod Decisions
 pub mod Renorm
 pub mod Rows
+pub mod Runs
