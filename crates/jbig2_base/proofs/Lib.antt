@@ -1,7 +1,7 @@
 pub mod ReaderLemmas
 pub mod SegmentLemmas
 pub mod Sequential
-mod BitLemmas
-mod GridLemmas
+pub mod BitLemmas
+pub mod GridLemmas
 mod PackedLemmas
 mod WriteLemmas

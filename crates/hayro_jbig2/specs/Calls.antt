@@ -1,0 +1,68 @@
+-- The calls that spell a page (our own rule).
+use Rattle.std.specs.Prelude.{ℕ, suc, zero, ◌+◌, ◌*◌, ◌/◌, Bool, true, false, not, ◌&&◌, List, [], ◌∷◌, ◌++◌, length, take, drop, replicate, map, if◌then◌else◌}
+use Rattle.std.specs.List.{range_with_len, flat_map}
+use Rattle.jbig2_base.specs.Grid.{Grid, pixel_at}
+
+-- A call of a Decoder: one pixel, that many times eight pixels of one colour, the end of a row.
+pub data Call : Type 0 where
+  Pixel : (black : Bool) → Call
+  Chunk : (black : Bool) (bytes : ℕ) → Call
+  Line : Call
+
+abbrev pub is_colour : Bool → Bool → Bool
+is_colour true b = b
+is_colour false b = not b
+
+-- all of these pixels have one colour
+abbrev pub is_all : Bool → List Bool → Bool
+is_all black [] = true
+is_all black (b ∷ bs) = is_colour black b && is_all black bs
+
+abbrev pub singles : List Bool → List Call
+singles [] = []
+singles (b ∷ bs) = Pixel b ∷ singles bs
+
+-- A whole byte of one colour joins a chunk of that colour behind it.
+abbrev pub with_whole : Bool → List Call → List Call
+with_whole black (Chunk other n ∷ calls) = if is_colour black other then Chunk black (n + 1) ∷ calls else Chunk black 1 ∷ (Chunk other n ∷ calls)
+with_whole black (Pixel b ∷ calls) = Chunk black 1 ∷ (Pixel b ∷ calls)
+with_whole black (Line ∷ calls) = Chunk black 1 ∷ (Line ∷ calls)
+with_whole black [] = Chunk black 1 ∷ []
+
+abbrev pub with_byte : List Bool → List Call → List Call
+with_byte byte calls =
+    if is_all true byte then with_whole true calls
+    else if is_all false byte then with_whole false calls
+    else singles byte ++ calls
+
+-- the calls of pixels that begin with so many whole bytes
+unfoldable pub whole_calls : ℕ → List Bool → List Call
+whole_calls zero bits = singles bits
+whole_calls (suc n) bits = with_byte (take 8 bits) (whole_calls n (drop 8 bits))
+
+-- A row: its whole bytes of one colour as maximal runs, each a chunk, all other pixels one by one.
+abbrev pub row_calls : List Bool → List Call
+row_calls bits = whole_calls (length bits / 8) bits
+
+-- the pixels of row y
+unfoldable pub row_of : Grid → ℕ → List Bool
+row_of g y = map (λ x. pixel_at g x y) (range_with_len 0 g.width)
+
+abbrev pub line_calls : Grid → ℕ → List Call
+line_calls g y = row_calls (row_of g y) ++ Line ∷ []
+
+-- All rows from the top, each ended by a line call.
+unfoldable pub calls_of : Grid → List Call
+calls_of g = flat_map (line_calls g) (range_with_len 0 g.height)
+
+-- The rows that calls spell, behind the pixels of a row that is begun.
+abbrev pub rows_after : List Bool → List Call → List (List Bool)
+rows_after row [] = []
+rows_after row (Pixel black ∷ calls) = rows_after (row ++ black ∷ []) calls
+rows_after row (Chunk black bytes ∷ calls) = rows_after (row ++ replicate (8 * bytes) black) calls
+rows_after row (Line ∷ calls) = row ∷ rows_after [] calls
+
+-- how many of the whole bytes, from the left, have this colour
+abbrev pub run_of : ℕ → Bool → List Bool → ℕ
+run_of zero black bits = 0
+run_of (suc n) black bits = if is_all black (take 8 bits) then suc (run_of n black (drop 8 bits)) else 0
