@@ -5,3 +5,4 @@ pub mod BitLemmas
 pub mod GridLemmas
 mod PackedLemmas
 mod WriteLemmas
+pub mod Sorting

@@ -9,3 +9,4 @@ pub mod file;
 pub mod page_info;
 pub mod reader;
 pub mod segment;
+pub mod sort;
