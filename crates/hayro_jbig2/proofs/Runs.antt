@@ -1,15 +1,15 @@
 -- Runs of whole bytes of one colour, from the left.
 use Rattle.std.proofs.Common.{◌≡◌, ℕ, suc, zero, ◌+◌, ◌-◌, ◌*◌, ◌<◌, ◌≤◌, Bool, true, false, not, cond, ◌&&◌, List, [], ◌∷◌, ◌++◌, length, take, drop, refl, sym, ◌∙◌, ap, arith}
-use Rattle.std.proofs.Common.{subst, map, nat_eq, ⊎_elim, ◌^◌, if◌then◌else◌}
+use Rattle.std.proofs.Common.{subst, map, nat_eq, ⊎_elim, ◌/◌, ◌^◌, if◌then◌else◌}
 use Rattle.std.proofs.lemmas.Bool.{cond_both, cond-true, cond-false, and_from, and_parts, cases_Bool, eq-eqb, ne_eqb, false≢true}
-use Rattle.std.proofs.lemmas.List.{length-take-le, length-drop, drop-drop, drop-map}
+use Rattle.std.proofs.lemmas.List.{take_all, length-take-le, length-drop, drop-drop, drop-map}
 use Rattle.std.proofs.lemmas.List.FromFn.{take-map-range_with_len, length-map-range_with_len}
 use Rattle.std.proofs.lemmas.Nat.Bits.{same_from_bits_below}
-use Rattle.std.specs.List.{range_with_len}
+use Rattle.std.specs.List.{range_with_len, flat_map}
 use Rattle.jbig2_base.specs.Grid.{Grid, pixel_at, bit_number}
 use Rattle.jbig2_base.specs.WordBits.{bit}
 use Rattle.jbig2_base.proofs.BitLemmas.{bit-ones, bit-zero, bit_number-bit}
-use Rattle.hayro_jbig2.specs.Calls.{Call, Pixel, Chunk, Line, is_colour, is_all, singles, with_whole, with_byte, whole_calls, run_of, row_of}
+use Rattle.hayro_jbig2.specs.Calls.{Call, Pixel, Chunk, Line, is_colour, is_all, singles, with_whole, with_byte, whole_calls, run_of, row_of, row_calls, line_calls, calls_of}
 
 -- a byte that is not all of one colour begins with a pixel
 with_whole-singles : (black : Bool) (bits : List Bool) (calls : List Call) → is_all black bits ≡ false → with_whole black (singles bits ++ calls) ≡ Chunk black 1 ∷ (singles bits ++ calls)
@@ -178,13 +178,83 @@ pub byte-test : (black : Bool) (f : ℕ → Bool) (a v : ℕ) → v < 2 ^ 8 → 
 byte-test black f a v low bits =
     ⊎_elim
     (λ (all : is_all black (map f (range_with_len a 8)) ≡ true).
-        eq-eqb v (byte_of black)
-        (same_bytes v (byte_of black) low (byte_of-lt black)
-            (λ k h. let place : 8 - 1 - (7 - k) ≡ k = omega arith in
-                ap (λ (m : ℕ). bit v m) (sym place) ∙ bits (7 - k) (omega arith) ∙ all-to black f a 8 all (7 - k) (omega arith) ∙ sym (bit-byte black k h)))
-        ∙ sym all)
+    eq-eqb v (byte_of black)
+    (same_bytes v (byte_of black) low (byte_of-lt black)
+    (λ k h. let place : 8 - 1 - (7 - k) ≡ k = omega arith in
+    ap (λ (m : ℕ). bit v m) (sym place) ∙ bits (7 - k) (omega arith) ∙ all-to black f a 8 all (7 - k) (omega arith) ∙ sym (bit-byte black k h)))
+    ∙ sym all)
     (λ (not_all : is_all black (map f (range_with_len a 8)) ≡ false).
-        ne_eqb v (byte_of black)
-        (λ (e : v ≡ byte_of black). false≢true (sym not_all ∙ all-from black f a 8 (λ k h. sym (bits k h) ∙ ap (λ (m : ℕ). bit m (8 - 1 - k)) e ∙ bit-byte black (8 - 1 - k) (omega arith))))
-        ∙ sym not_all)
+    ne_eqb v (byte_of black)
+    (λ (e : v ≡ byte_of black). false≢true (sym not_all ∙ all-from black f a 8 (λ k h. sym (bits k h) ∙ ap (λ (m : ℕ). bit m (8 - 1 - k)) e ∙ bit-byte black (8 - 1 - k) (omega arith))))
+    ∙ sym not_all)
     (cases_Bool (is_all black (map f (range_with_len a 8))))
+
+-- one byte more of a run
+pub run_of-more : (most count x : ℕ) (black : Bool) (row : List Bool) → count < most → is_all black (take 8 (drop (x + 8 * count) row)) ≡ true → run_of (most - (count + 1)) black (drop (x + 8 * (count + 1)) row) + (count + 1) ≡ run_of (most - count) black (drop (x + 8 * count) row) + count
+run_of-more most count x black row h all =
+    let left : most - count ≡ suc (most - (count + 1)) = omega arith in
+    let place : x + 8 * count + 8 ≡ x + 8 * (count + 1) = omega arith in
+    let rest : ℕ = run_of (most - (count + 1)) black (drop (x + 8 * (count + 1)) row) in
+    let on : run_of (most - count) black (drop (x + 8 * count) row) ≡ suc rest =
+    ap (λ (n : ℕ). run_of n black (drop (x + 8 * count) row)) left
+    ∙ cond-true (is_all black (take 8 (drop (x + 8 * count) row))) (suc (run_of (most - (count + 1)) black (drop 8 (drop (x + 8 * count) row)))) 0 all
+    ∙ ap (λ (bs : List Bool). suc (run_of (most - (count + 1)) black bs)) (drop-drop 8 (x + 8 * count) row ∙ ap (λ (n : ℕ). drop n row) place) in
+    omega arith
+
+pixel-test : (b : Bool) (r : ℕ) → r ≡ bit_number b → nat_eq r 1 ≡ b
+pixel-test true r e = eq-eqb r 1 e
+pixel-test false r e = ne_eqb r 1 (λ one. absurd (omega arith))
+
+-- the first of some single pixels
+pub singles-first : (g : Grid) (x end y r : ℕ) → x < end → end ≤ g.width → r ≡ bit_number (pixel_at g x y) → singles (take (end - x) (drop x (row_of g y))) ≡ Pixel (nat_eq r 1) ∷ singles (take (end - (x + 1)) (drop (x + 1) (row_of g y)))
+singles-first g x end y r inside within value =
+    let count : end - x ≡ suc (end - (x + 1)) = omega arith in
+    let others : List Call = singles (map (λ i. pixel_at g i y) (range_with_len (x + 1) (end - (x + 1)))) in
+    ap (λ (bs : List Bool). singles bs) (row-part g x y (end - x) (omega arith))
+    ∙ ap (λ (n : ℕ). singles (map (λ i. pixel_at g i y) (range_with_len x n))) count
+    ∙ ap (λ (b : Bool). Pixel b ∷ others) (sym (pixel-test (pixel_at g x y) r value))
+    ∙ ap (λ (bs : List Bool). Pixel (nat_eq r 1) ∷ singles bs) (sym (row-part g (x + 1) y (end - (x + 1)) (omega arith)))
+
+-- a row from its beginning
+pub line-start : (g : Grid) (y : ℕ) → row_calls (row_of g y) ≡ whole_calls ((g.width - 0) / 8) (row_of g y)
+line-start g y = ap (λ (n : ℕ). whole_calls (n / 8) (row_of g y)) (length-row g y ∙ (let e : g.width ≡ g.width - 0 = omega arith in e))
+
+-- what is left behind a run
+pub run-first : (width x k : ℕ) (black : Bool) (row : List Bool) → length row ≡ width → x ≤ width → run_of ((width - x) / 8) black (drop x row) ≡ k → 0 < k → whole_calls ((width - x) / 8) (drop x row) ≡ Chunk black k ∷ whole_calls ((width - (x + 8 * k)) / 8) (drop (x + 8 * k) row)
+run-first width x k black row len within e some =
+    let n = (width - x) / 8 in
+    let one : suc (k - 1) ≡ k = omega arith in
+    let left : n - k ≡ (width - (x + 8 * k)) / 8 = omega arith in
+    run_calls n (k - 1) black (drop x row) (omega (arith, length-drop x row)) (e ∙ sym one)
+    ∙ ap (λ (m : ℕ). Chunk black m ∷ whole_calls (n - m) (drop (8 * m) (drop x row))) one
+    ∙ ap (λ (m : ℕ). Chunk black k ∷ whole_calls m (drop (8 * k) (drop x row))) left
+    ∙ ap (λ (bs : List Bool). Chunk black k ∷ whole_calls ((width - (x + 8 * k)) / 8) bs) (drop-drop (8 * k) x row)
+
+-- what is left behind eight pixels of both colours
+pub byte-first : (width x : ℕ) (row : List Bool) → x + 8 ≤ width → run_of ((width - x) / 8) true (drop x row) ≡ 0 → run_of ((width - x) / 8) false (drop x row) ≡ 0 → whole_calls ((width - x) / 8) (drop x row) ≡ singles (take (x + 8 - x) (drop x row)) ++ whole_calls ((width - (x + 8)) / 8) (drop (x + 8) row)
+byte-first width x row room black white =
+    let n : (width - x) / 8 ≡ suc ((width - (x + 8)) / 8) = omega arith in
+    let eight : 8 ≡ x + 8 - x = omega arith in
+    let m = (width - (x + 8)) / 8 in
+    ap (λ (k : ℕ). whole_calls k (drop x row)) n
+    ∙ byte_calls m (drop x row) (sym (ap (λ (k : ℕ). run_of k true (drop x row)) n) ∙ black) (sym (ap (λ (k : ℕ). run_of k false (drop x row)) n) ∙ white)
+    ∙ ap (λ (k : ℕ). singles (take k (drop x row)) ++ whole_calls m (drop 8 (drop x row))) eight
+    ∙ ap (λ (bs : List Bool). singles (take (x + 8 - x) (drop x row)) ++ whole_calls m bs) (drop-drop 8 x row)
+
+-- the last pixels of a row, fewer than eight
+pub rest-last : (width x : ℕ) (row : List Bool) → length row ≡ width → width - x < 8 → whole_calls ((width - x) / 8) (drop x row) ≡ singles (take (width - x) (drop x row))
+unfolding whole_calls
+rest-last width x row len few =
+    let none : (width - x) / 8 ≡ 0 = omega arith in
+    ap (λ (n : ℕ). whole_calls n (drop x row)) none
+    ∙ ap (λ (bs : List Bool). singles bs) (sym (take_all (width - x) (drop x row) (omega (arith, length-drop x row))))
+
+-- one row more
+pub lines-first : (g : Grid) (y : ℕ) → y < g.height → flat_map (line_calls g) (range_with_len y (g.height - y)) ≡ line_calls g y ++ flat_map (line_calls g) (range_with_len (y + 1) (g.height - (y + 1)))
+lines-first g y inside =
+    let left : g.height - y ≡ suc (g.height - (y + 1)) = omega arith in
+    ap (λ (n : ℕ). flat_map (line_calls g) (range_with_len y n)) left
+
+pub lines-start : (g : Grid) → calls_of g ≡ flat_map (line_calls g) (range_with_len 0 (g.height - 0))
+unfolding calls_of
+lines-start g = ap (λ (n : ℕ). flat_map (line_calls g) (range_with_len 0 n)) (let e : g.height ≡ g.height - 0 = omega arith in e)

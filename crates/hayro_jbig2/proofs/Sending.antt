@@ -40,10 +40,10 @@ half_stops step all cs rest p n q m s k h stopped = record {
   refused = stopped.refused;
   others = stopped.others ++ rest;
   split =
-    h.split
-    ∙ ap (λ (ds : List Call). h.made ++ (ds ++ rest)) stopped.split
-    ∙ ap (λ (ds : List Call). h.made ++ ds) (append_assoc stopped.made (stopped.refused ∷ stopped.others) rest)
-    ∙ sym (append_assoc h.made stopped.made (stopped.refused ∷ (stopped.others ++ rest)));
+      h.split
+      ∙ ap (λ (ds : List Call). h.made ++ (ds ++ rest)) stopped.split
+      ∙ ap (λ (ds : List Call). h.made ++ ds) (append_assoc stopped.made (stopped.refused ∷ stopped.others) rest)
+      ∙ sym (append_assoc h.made stopped.made (stopped.refused ∷ (stopped.others ++ rest)));
   picture = stopped.picture ∙ ap (λ (x : _). after_calls step x stopped.made) h.picture ∙ sym (after_calls-append step p h.made stopped.made);
   counted = stopped.counted ∙ ap (λ (x : ℕ). x + 1) h.counted;
 }

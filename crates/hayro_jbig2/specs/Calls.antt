@@ -1,5 +1,5 @@
 -- The calls that spell a page (our own rule).
-use Rattle.std.specs.Prelude.{ℕ, suc, zero, ◌+◌, ◌*◌, ◌/◌, Bool, true, false, not, ◌&&◌, List, [], ◌∷◌, ◌++◌, length, take, drop, replicate, map, if◌then◌else◌}
+use Rattle.std.specs.Prelude.{◌≡◌, ◌<◌, ◌≤◌, Option, Some, None, ℕ, suc, zero, ◌+◌, ◌*◌, ◌/◌, Bool, true, false, not, ◌&&◌, List, [], ◌∷◌, ◌++◌, length, take, drop, replicate, map, if◌then◌else◌}
 use Rattle.std.specs.List.{range_with_len, flat_map}
 use Rattle.jbig2_base.specs.Grid.{Grid, pixel_at}
 
@@ -66,3 +66,8 @@ rows_after row (Line ∷ calls) = row ∷ rows_after [] calls
 abbrev pub run_of : ℕ → Bool → List Bool → ℕ
 run_of zero black bits = 0
 run_of (suc n) black bits = if is_all black (take 8 bits) then suc (run_of n black (drop 8 bits)) else 0
+
+-- Either no byte of one colour begins the pixels, or a run of whole bytes of a colour does.
+abbrev pub IsRunAt : ℕ → List Bool → Option (Bool × ℕ) → Type 0
+IsRunAt n bits None = (run_of n true bits ≡ 0) × (run_of n false bits ≡ 0)
+IsRunAt n bits (Some run) = (run_of n run.0 bits ≡ run.1) × (0 < run.1) × (run.1 ≤ n)

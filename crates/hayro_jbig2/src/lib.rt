@@ -1,5 +1,21 @@
 //! A decoder of JBIG2 (ITU-T T.88, ISO/IEC 14492), the bi-level format of scanned pages.
+//!
+//! `Page::new_embedded` reads a page as a PDF file keeps it, and `Page::decode_with` makes the calls
+//! on a `Decoder` that spell the page's pixels.
 #![tactic(auto)]
 
 pub mod calls;
+pub mod context;
 pub mod decoder;
+pub mod page;
+pub mod parts;
+pub mod settings;
+
+pub use context::DecoderContext;
+pub use decoder::Decoder;
+pub use jbig2_base::error::{
+    DecodeError, FormatError, HuffmanError, OverflowError, ParseError, RegionError, Result,
+    SegmentError, SymbolError, TemplateError,
+};
+pub use page::Page;
+pub use settings::DecodeSettings;

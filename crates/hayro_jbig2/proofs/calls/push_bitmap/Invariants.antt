@@ -1,0 +1,10 @@
+use Rattle.std.proofs.Common.{◌≡◌, ◌+◌, ◌-◌, ◌*◌, ◌/◌, ◌≤◌, [], ◌∷◌, ◌++◌, drop, take}
+use Rattle.std.specs.List.{range_with_len, flat_map}
+use Rattle.hayro_jbig2.specs.Calls.{calls_of, line_calls}
+use Rattle.hayro_jbig2.proofs.Sending.{Half}
+use Rattle.hayro_jbig2.proofs.calls.push_bitmap.Given as goal
+
+abbrev pub invariant-loop-y : goal.invariant-loop-y
+invariant-loop-y g l = record {
+  sent : Half g.D.Decoder.step (calls_of l.bitmap) (flat_map (line_calls l.bitmap) (range_with_len l.y (l.bitmap.height - l.y))) (g.D.Decoder.picture l.fn.decoder) (g.D.Decoder.refusals l.fn.decoder) (g.D.Decoder.picture l.decoder) (g.D.Decoder.refusals l.decoder);
+}
