@@ -1,6 +1,6 @@
 -- The bits of what the operators of words give.
 use Rattle.std.proofs.Common.{◌≡◌, ℕ, ◌+◌, ◌-◌, ◌*◌, ◌/◌, ◌%◌, ◌^◌, ◌<◌, ◌≤◌, Bool, true, false, not, ◌&&◌, ◌||◌, cond, eqb, ltb, leb, refl, sym, ap, subst, ◌∙◌, min, max, ⊎_elim, lit<, w64, arith}
-use Rattle.std.proofs.lemmas.Nat.{pow_pos, shr-shr, shr_split, shr_below, mod_below, or_lt, shr_le}
+use Rattle.std.proofs.lemmas.Nat.{pow_pos, shr-shr, shr_split, shr_below, mod_below, or_lt, xor_lt, shr_le}
 use Rattle.std.specs.Int.{bit_at}
 use Rattle.std.specs.Int.RustNames.{bit_or, bit_xor}
 use lib.Bits.{bit_and}
@@ -173,6 +173,25 @@ bit-with_field word shift count bits b within bound inside =
     ∙ sym (field-above word shift count bits b beyond))
     (cases_lt b (shift + count)))
     (cases_lt b shift)
+
+-- `a ^ b ^ (MAX >> (64 - count))`
+flips : (p s o : Bool) → o ≡ true → cond (cond p (not s) s) (not o) o ≡ cond p s (not s)
+flips true true o e = e
+flips true false o e = ap (λ (t : Bool). not t) e
+flips false true o e = ap (λ (t : Bool). not t) e
+flips false false o e = e
+
+pub bit-xnor : (a b count k : ℕ) → count ≤ 64 → k < count → bit (bit_xor (bit_xor a b) ((2 ^ 64 - 1) / 2 ^ (64 - count))) k ≡ cond (bit a k) (bit b k) (not (bit b k))
+bit-xnor a b count k few inside =
+    let ones : ℕ = (2 ^ 64 - 1) / 2 ^ (64 - count) in
+    bit-xor (bit_xor a b) ones k
+    ∙ ap (λ (t : Bool). cond t (not (bit ones k)) (bit ones k)) (bit-xor a b k)
+    ∙ flips (bit a k) (bit b k) (bit ones k) (ap (λ (n : ℕ). bit n k) (ones-shr count few) ∙ bit-ones count k inside)
+
+pub xnor-lt : (a b count : ℕ) → count ≤ 64 → a < 2 ^ count → b < 2 ^ count → bit_xor (bit_xor a b) ((2 ^ 64 - 1) / 2 ^ (64 - count)) < 2 ^ count
+xnor-lt a b count few p q =
+    let some = pow_pos count in
+    xor_lt count (bit_xor a b) ((2 ^ 64 - 1) / 2 ^ (64 - count)) (xor_lt count a b p q) (omega (arith, ones-shr count few, some))
 
 -- ---- a window of `count` bits from `offset` on
 -- `(first << offset) >> (64 - count)`

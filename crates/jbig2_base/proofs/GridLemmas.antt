@@ -1,10 +1,11 @@
 -- A grid that is made from a function reads as that function, and is known by its pixels.
-use Rattle.std.proofs.Common.{◌≡◌, ℕ, ◌+◌, ◌*◌, ◌/◌, ◌%◌, ◌<◌, ◌≤◌, Bool, false, ltb, List, map, ap, ◌∙◌, arith}
+use Rattle.std.proofs.Common.{sym, ◌≡◌, ℕ, ◌+◌, ◌*◌, ◌/◌, ◌%◌, ◌<◌, ◌≤◌, Bool, false, ltb, List, map, ap, ◌∙◌, arith}
 use Rattle.std.specs.List.{range_with_len}
 use Rattle.std.proofs.lemmas.Bool.{lt-ltb, le-ltb, and_left, and_right}
 use Rattle.std.proofs.lemmas.List.FromFn.{get_or-map-range_with_len, length-map-range_with_len, fill_by_all}
 use Rattle.std.proofs.lemmas.Nat.{mul-add-lt, div-mul-add, mod-mul-add, mod_below, row_below_turned}
 use Rattle.jbig2_base.specs.Grid.{Grid, table, grid_of, pixel_at}
+use Rattle.jbig2_base.specs.Table.{IsTable}
 
 -- inside
 pub pixel_at-grid_of : (w h : ℕ) (f : ℕ → ℕ → Bool) (x y : ℕ) → x < w → y < h → pixel_at (grid_of w h f) x y ≡ f x y
@@ -41,3 +42,6 @@ grid_of-ext w h f g same = ap (λ (bits : List Bool). let made : Grid = record {
 -- a table of a table
 pub grid_of-pixel_at : (w h : ℕ) (f : ℕ → ℕ → Bool) → grid_of w h (pixel_at (grid_of w h f)) ≡ grid_of w h f
 grid_of-pixel_at w h f = grid_of-ext w h (pixel_at (grid_of w h f)) f (λ x y left above. pixel_at-grid_of w h f x y left above)
+
+pub table-at : (g : Grid) (w h : ℕ) (f : ℕ → ℕ → Bool) → g ≡ grid_of w h f → IsTable g
+table-at g w h f e = e ∙ sym (grid_of-pixel_at w h f) ∙ ap (λ (k : Grid). grid_of k.width k.height (pixel_at k)) (sym e)

@@ -72,16 +72,16 @@ pub other-line : (x y : ℕ) (black : Bool) (i j : ℕ) → j < y → (black && 
 other-line x y black i j above = and_right _ (eqb j y) (ne_eqb j y (λ e. omega arith))
 
 -- ---- a field
-in_field : (x y count i j : ℕ) → j ≡ y → x ≤ i → i < x + count → (eqb j y && leb x i && ltb i (x + count)) ≡ true
+pub in_field : (x y count i j : ℕ) → j ≡ y → x ≤ i → i < x + count → (eqb j y && leb x i && ltb i (x + count)) ≡ true
 in_field x y count i j row low high = and_from _ _ (and_from _ _ (eq-eqb j y row) (le-leb x i low)) (lt-ltb i (x + count) high)
 
-before_field : (x y count i j : ℕ) → i < x → (eqb j y && leb x i && ltb i (x + count)) ≡ false
+pub before_field : (x y count i j : ℕ) → i < x → (eqb j y && leb x i && ltb i (x + count)) ≡ false
 before_field x y count i j low = and_left _ _ (and_right (eqb j y) (leb x i) (lt-leb x i low))
 
-behind_field : (x y count i j : ℕ) → x + count ≤ i → (eqb j y && leb x i && ltb i (x + count)) ≡ false
+pub behind_field : (x y count i j : ℕ) → x + count ≤ i → (eqb j y && leb x i && ltb i (x + count)) ≡ false
 behind_field x y count i j high = and_right _ _ (le-ltb i (x + count) high)
 
-other_row : (x y count i j : ℕ) → (j ≡ y → ⊥) → (eqb j y && leb x i && ltb i (x + count)) ≡ false
+pub other_row : (x y count i j : ℕ) → (j ≡ y → ⊥) → (eqb j y && leb x i && ltb i (x + count)) ≡ false
 other_row x y count i j ne = and_left _ _ (and_left (eqb j y) (leb x i) (ne_eqb j y ne))
 
 -- the word with a field of other bits

@@ -1,5 +1,7 @@
 pub mod Answer
 pub mod Bits
+pub mod Blocks
+pub mod Combination
 pub mod Counts
 pub mod Fields
 pub mod Grid

@@ -7,6 +7,7 @@ ghost use Rattle.jbig2_base.specs.Table.{IsTable};
 ghost use Rattle.jbig2_base.specs.WordBits.{bit};
 ghost use Rattle.jbig2_base.specs.Writes.{with_pixel, with_pixels};
 
+mod combine;
 pub mod operator;
 mod rows;
 pub mod steps;

@@ -1,0 +1,10 @@
+use Rattle.std.proofs.Common.{◌≡◌, ◌+◌, ◌*◌}
+use Rattle.jbig2_base.specs.Blocks.{with_block}
+use Rattle.jbig2_base.specs.Combination.{WritesWithin, most_words}
+use Rattle.jbig2_base.proofs.bitmap.Bitmap.combine.Given as goal
+
+abbrev pub invariant-loop-row : goal.invariant-loop-row
+invariant-loop-row g l = record {
+  page : l.self ≡ with_block l.fn.operator l.fn.self l.fn.other l.left (l.left + l.columns) l.top (l.top + l.row) l.from l.from_row;
+  steps : WritesWithin (l.row * most_words l.columns) l.fn.steps l.steps;
+}

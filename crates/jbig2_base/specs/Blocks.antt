@@ -1,0 +1,17 @@
+-- A block of a page combined with the block of a source that lies on it (T.88, 7.4.1.5, in two pieces
+-- of unsigned numbers). A bitmap is combined by its one block inside both.
+use Rattle.std.specs.Prelude.{ℕ, ◌+◌, ◌-◌, Bool, ◌&&◌, nat_le, nat_lt, if◌then◌else◌}
+use Rattle.jbig2_base.specs.declared.bitmap.operator.CombinationOperator.{CombinationOperator}
+use Rattle.jbig2_base.specs.Grid.{Grid, grid_of, pixel_at}
+use Rattle.jbig2_base.specs.Operator.{combined_pixel}
+
+-- The block has the columns from left up to right of the rows from top up to bottom. The source's
+-- column `from` of row `from_row` lies on its first pixel.
+unfoldable pub block_pixel : CombinationOperator → Grid → Grid → ℕ → ℕ → ℕ → ℕ → ℕ → ℕ → ℕ → ℕ → Bool
+block_pixel operator page source left right top bottom from from_row i j =
+    if nat_le left i && nat_lt i right && nat_le top j && nat_lt j bottom
+    then combined_pixel operator (pixel_at page i j) (pixel_at source (from + (i - left)) (from_row + (j - top)))
+    else pixel_at page i j
+
+abbrev pub with_block : CombinationOperator → Grid → Grid → ℕ → ℕ → ℕ → ℕ → ℕ → ℕ → Grid
+with_block operator page source left right top bottom from from_row = grid_of page.width page.height (block_pixel operator page source left right top bottom from from_row)
