@@ -11,6 +11,8 @@ mod combine;
 pub mod operator;
 mod rows;
 pub mod steps;
+#[cfg(test)]
+mod tests;
 
 use crate::error::{DecodeError, OverflowError, Result};
 use rows::PackedRows;
