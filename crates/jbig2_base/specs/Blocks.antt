@@ -1,5 +1,5 @@
--- A block of a page combined with the block of a source that lies on it (T.88, 7.4.1.5, in two pieces
--- of unsigned numbers). A bitmap is combined by its one block inside both.
+-- A block of a page combined with the pixels of a source that lie on it (T.88, 7.4.1.5): the
+-- combination of two bitmaps, once the places where they overlap are known.
 use Rattle.std.specs.Prelude.{ℕ, ◌+◌, ◌-◌, Bool, ◌&&◌, nat_le, nat_lt, if◌then◌else◌}
 use Rattle.jbig2_base.specs.declared.bitmap.operator.CombinationOperator.{CombinationOperator}
 use Rattle.jbig2_base.specs.Grid.{Grid, grid_of, pixel_at}

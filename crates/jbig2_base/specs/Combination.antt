@@ -1,4 +1,4 @@
--- One bitmap combined with another (T.88, 7.4.1.5, and 6.4.5 and 6.6.5 where it is drawn from).
+-- One bitmap combined with another (T.88, 7.4.1.5), at any whole numbers.
 use Rattle.std.specs.Prelude.{ℕ, ◌+◌, ◌-◌, ◌*◌, ◌/◌, ◌≡◌, ◌≤◌, Bool, false, ◌&&◌, nat_lt, min, if◌then◌else◌, ℤ, pos, negsuc, ◌-ℤ◌, zero, suc}
 use Rattle.jbig2_base.specs.declared.bitmap.operator.CombinationOperator.{CombinationOperator}
 use Rattle.jbig2_base.specs.Counts.{Counts}
