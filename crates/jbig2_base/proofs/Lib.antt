@@ -1,13 +1,11 @@
-pub mod ReaderLemmas
-pub mod SegmentLemmas
-pub mod Sequential
 pub mod BitLemmas
-pub mod GridLemmas
-mod BitLemmas
 mod BlockLemmas
 mod CombineLemmas
 mod CountLemmas
-mod GridLemmas
+pub mod GridLemmas
 mod PackedLemmas
-mod WriteLemmas
+pub mod ReaderLemmas
+pub mod SegmentLemmas
+pub mod Sequential
 pub mod Sorting
+mod WriteLemmas
