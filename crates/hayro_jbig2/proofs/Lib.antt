@@ -1,3 +1,4 @@
 pub mod Sending
+pub mod Spelling
 pub mod Runs
 mod WorkedRows

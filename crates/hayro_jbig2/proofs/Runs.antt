@@ -140,7 +140,7 @@ same_colour : (black : Bool) → is_colour black black ≡ true
 same_colour true = refl
 same_colour false = refl
 
-colour_is : (black b : Bool) → is_colour black b ≡ true → b ≡ black
+pub colour_is : (black b : Bool) → is_colour black b ≡ true → b ≡ black
 colour_is true b e = e
 colour_is false true e = absurd (let never : false ≡ true = e in cc)
 colour_is false false e = refl

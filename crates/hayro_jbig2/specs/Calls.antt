@@ -1,5 +1,5 @@
 -- The calls that spell a page (our own rule).
-use Rattle.std.specs.Prelude.{◌≡◌, ◌<◌, ◌≤◌, Option, Some, None, ℕ, suc, zero, ◌+◌, ◌*◌, ◌/◌, Bool, true, false, not, ◌&&◌, List, [], ◌∷◌, ◌++◌, length, take, drop, replicate, map, if◌then◌else◌}
+use Rattle.std.specs.Prelude.{◌≡◌, ◌<◌, ◌≤◌, Option, Some, None, ℕ, suc, zero, ◌+◌, ◌*◌, ◌/◌, Bool, true, false, not, ◌&&◌, List, [], ◌∷◌, ◌++◌, length, take, drop, replicate, map, count_by, if◌then◌else◌}
 use Rattle.std.specs.List.{range_with_len, flat_map}
 use Rattle.jbig2_base.specs.Grid.{Grid, pixel_at}
 
@@ -71,3 +71,14 @@ run_of (suc n) black bits = if is_all black (take 8 bits) then suc (run_of n bla
 abbrev pub IsRunAt : ℕ → List Bool → Option (Bool × ℕ) → Type 0
 IsRunAt n bits None = (run_of n true bits ≡ 0) × (run_of n false bits ≡ 0)
 IsRunAt n bits (Some run) = (run_of n run.0 bits ≡ run.1) × (0 < run.1) × (run.1 ≤ n)
+
+abbrev pub is_line : Call → Bool
+is_line Line = true
+is_line _ = false
+
+-- The calls spell a grid: as many line calls as rows, each row as wide as the grid, and whoever draws the calls
+-- gets the grid's rows.
+pub record Spells (calls : List Call) (g : Grid) : Type 0 where
+  pub lines : count_by is_line calls ≡ g.height
+  pub widths : (y : ℕ) → length (row_of g y) ≡ g.width
+  pub rows : rows_after [] calls ≡ map (row_of g) (range_with_len 0 g.height)

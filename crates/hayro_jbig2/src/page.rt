@@ -3,6 +3,7 @@ ghost use Rattle.std.specs.Prelude.{◌≡◌, ℕ, ◌+◌, ◌-◌, ◌^◌, �
 ghost use Rattle.jbig2_base.specs.Answer.{Answers, Gives};
 ghost use Rattle.jbig2_base.specs.Grid.{Grid};
 ghost use Rattle.jbig2_base.specs.SegmentViews.{part_view, parts};
+ghost use Rattle.hayro_jbig2.specs.Calls.{Spells, calls_of};
 ghost use Rattle.hayro_jbig2.specs.Page.{Leaf, Drawing, embedded, grid_of_page, extension, ends_page, segment_on, drawn};
 ghost use Rattle.hayro_jbig2.specs.Sends.{Decodes};
 
@@ -35,6 +36,7 @@ pub struct Page<'a, A: Allocator> {
 impl<'a, A: Allocator> Model for Page<'a, A> {
     ghost use Rattle.std.specs.Prelude.{◌≤◌};
     ghost use Rattle.jbig2_base.specs.SegmentViews.{parts};
+    ghost use Rattle.hayro_jbig2.specs.Calls.{Spells, calls_of};
     ghost use Rattle.hayro_jbig2.specs.Page.{Leaf};
 
     ghost Value = { Leaf };
@@ -180,7 +182,8 @@ impl<'a, A: Allocator> Page<'a, A> {
         context: &mut DecoderContext<B>,
     ) -> Result<()>
         requires { D.refusals decoder.old < 2 ^ 64 - 1 }
-        ensures { Decodes D.step (grid_of_page self.now) result (D.picture decoder.old) (D.refusals decoder.old) (D.picture decoder.new) (D.refusals decoder.new) }
+        ensures calls { Decodes D.step (grid_of_page self.now) result (D.picture decoder.old) (D.refusals decoder.old) (D.picture decoder.new) (D.refusals decoder.new) }
+        ensures spelling { (g : Grid) → Spells (calls_of g) g }
     {
         self.decode_counted::<B, D, Brand>(decoder, context, Blank::new(6))
     }

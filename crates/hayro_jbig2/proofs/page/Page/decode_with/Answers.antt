@@ -1,0 +1,5 @@
+use Rattle.hayro_jbig2.proofs.Spelling.{spells}
+use Rattle.hayro_jbig2.proofs.page.Page.decode_with.Goals as goal
+
+pub returns-clause-spelling : goal.returns-clause-spelling
+returns-clause-spelling g c = spells
