@@ -33,7 +33,7 @@ fallen : ℕ → Registers → Registers
 fallen qe s = record { a = s.a - qe; code = s.code }
 
 all_quiet-more : (n : ℕ) (bytes : List ℕ) (s : Registers) (x : Context) (qe : ℕ) → (row_of x.row).qe ≡ qe → floor_of s ≤ s.a - qe
-  → all_quiet (suc n) bytes s x ≡ all_quiet n bytes (fallen qe s) x
+    → all_quiet (suc n) bytes s x ≡ all_quiet n bytes (fallen qe s) x
 unfolding all_quiet fallen
 all_quiet-more n bytes s x qe e h =
     let q = is_quiet-yes s x qe e h in
@@ -41,19 +41,19 @@ all_quiet-more n bytes s x qe e h =
     rw (q, d) refl
 
 all_quiet-stop : (n : ℕ) (bytes : List ℕ) (s : Registers) (x : Context) (qe : ℕ) → (row_of x.row).qe ≡ qe → s.a - qe < floor_of s
-  → all_quiet (suc n) bytes s x ≡ false
+    → all_quiet (suc n) bytes s x ≡ false
 unfolding all_quiet
 all_quiet-stop n bytes s x qe e h = and_left _ _ (is_quiet-no s x qe e h)
 
 pub run-yes : (n : ℕ) (bytes : List ℕ) (s : Registers) (x : Context) (qe : ℕ) → (row_of x.row).qe ≡ qe → floor_of s + qe * n ≤ s.a
-  → all_quiet n bytes s x ≡ true
+    → all_quiet n bytes s x ≡ true
 unfolding all_quiet fallen
 run-yes zero bytes s x qe e h = refl
 run-yes (suc n) bytes s x qe e h =
     all_quiet-more n bytes s x qe e (omega arith) ∙ run-yes n bytes (fallen qe s) x qe e (omega arith)
 
 pub run-no : (n : ℕ) (bytes : List ℕ) (s : Registers) (x : Context) (qe : ℕ) → (row_of x.row).qe ≡ qe → 1 ≤ qe → 1 ≤ n → s.a < floor_of s + qe * n
-  → all_quiet n bytes s x ≡ false
+    → all_quiet n bytes s x ≡ false
 unfolding fallen
 run-no zero bytes s x qe e some more h = absurd (omega arith)
 run-no (suc zero) bytes s x qe e some more h = all_quiet-stop 0 bytes s x qe e (omega arith)
@@ -61,12 +61,12 @@ run-no (suc (suc n)) bytes s x qe e some more h =
     ⊎_elim
     (λ (l : s.a - qe < floor_of s). all_quiet-stop (suc n) bytes s x qe e l)
     (λ (l : floor_of s ≤ s.a - qe).
-      all_quiet-more (suc n) bytes s x qe e l ∙ run-no (suc n) bytes (fallen qe s) x qe e some (omega arith) (omega arith))
+    all_quiet-more (suc n) bytes s x qe e l ∙ run-no (suc n) bytes (fallen qe s) x qe e some (omega arith) (omega arith))
     (cases_lt (s.a - qe) (floor_of s))
 
 -- What a quiet decision does.
 pub is_quiet-decision : (bytes : List ℕ) (s : Registers) (x : Context) → is_quiet s x ≡ true
-  → decision bytes s x ≡ record { symbol = x.likely; registers = record { a = s.a - (row_of x.row).qe; code = s.code }; context = x }
+    → decision bytes s x ≡ record { symbol = x.likely; registers = record { a = s.a - (row_of x.row).qe; code = s.code }; context = x }
 is_quiet-decision bytes s x h =
     ⊎_elim
     (λ (l : s.a - (row_of x.row).qe < floor_of s). absurd (true≢false (sym h ∙ is_quiet-no s x (row_of x.row).qe refl l)))

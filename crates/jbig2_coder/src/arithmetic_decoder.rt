@@ -205,3 +205,6 @@ impl<'a> ArithmeticDecoder<'a> {
         true
     }
 }
+
+#[cfg(test)]
+mod tests;

@@ -10,35 +10,35 @@ pub returns-then-rest-ge32768-clause-value : goal.returns-then-rest-ge32768-clau
 returns-then-rest-ge32768-clause-value g c =
     let qe = sym (ap (λ (r : QeData). r.qe) c.row_at.ensures.value) in
     rw (← c.self.view_is, ← c.context.view_is) (c.from.ensures
-      ∙ bool_byte-bit c.context.inside.likely
-      ∙ ap (λ (d : Decision). bit_number d.symbol) (sym (decision-quiet c.self.inside.bytes.now c.self.inside.registers _ c.row_at.result.qe qe c.if-self-rest.true c.if-rest-ge32768.true)))
+    ∙ bool_byte-bit c.context.inside.likely
+    ∙ ap (λ (d : Decision). bit_number d.symbol) (sym (decision-quiet c.self.inside.bytes.now c.self.inside.registers _ c.row_at.result.qe qe c.if-self-rest.true c.if-rest-ge32768.true)))
 
 pub returns-then-rest-ge32768-clause-coder : goal.returns-then-rest-ge32768-clause-coder
 returns-then-rest-ge32768-clause-coder g c =
     let qe = sym (ap (λ (r : QeData). r.qe) c.row_at.ensures.value) in
     rw (← c.self.view_is, ← c.context.view_is)
-      (let e = ap (λ (d : Decision). d.registers) (sym (decision-quiet c.self.inside.bytes.now c.self.inside.registers _ c.row_at.result.qe qe c.if-self-rest.true c.if-rest-ge32768.true)) in
-      λ i. record { bytes = c.self.inside.bytes.now; registers = e i })
+    (let e = ap (λ (d : Decision). d.registers) (sym (decision-quiet c.self.inside.bytes.now c.self.inside.registers _ c.row_at.result.qe qe c.if-self-rest.true c.if-rest-ge32768.true)) in
+    λ i. record { bytes = c.self.inside.bytes.now; registers = e i })
 
 pub returns-then-rest-ge32768-clause-context : goal.returns-then-rest-ge32768-clause-context
 returns-then-rest-ge32768-clause-context g c =
     let qe = sym (ap (λ (r : QeData). r.qe) c.row_at.ensures.value) in
     rw (← c.self.view_is, ← c.context.view_is)
-      (ap (λ (d : Decision). d.context) (sym (decision-quiet c.self.inside.bytes.now c.self.inside.registers _ c.row_at.result.qe qe c.if-self-rest.true c.if-rest-ge32768.true)))
+    (ap (λ (d : Decision). d.context) (sym (decision-quiet c.self.inside.bytes.now c.self.inside.registers _ c.row_at.result.qe qe c.if-self-rest.true c.if-rest-ge32768.true)))
 
 pub returns-clause-value : goal.returns-clause-value
 returns-clause-value g c =
     rw (← c.self.view_is) (c.from-2.ensures
-      ∙ bool_byte-bit c.exchange-symbol.result
-      ∙ ap (λ (d : Decision). bit_number d.symbol) (sym (decision-renorm c.self.inside.bytes.now c.self.inside.registers c.args.context.now c.exchange-symbol.result c.exchange-symbol.new.registers c.exchange-symbol.new.self c.exchange-symbol.ensures.choice c.exchange-symbol.ensures.bits c.exchange-symbol.ensures.place)))
+    ∙ bool_byte-bit c.exchange-symbol.result
+    ∙ ap (λ (d : Decision). bit_number d.symbol) (sym (decision-renorm c.self.inside.bytes.now c.self.inside.registers c.args.context.now c.exchange-symbol.result c.exchange-symbol.new.registers c.exchange-symbol.new.self c.exchange-symbol.ensures.choice c.exchange-symbol.ensures.bits c.exchange-symbol.ensures.place)))
 
 pub returns-clause-coder : goal.returns-clause-coder
 returns-clause-coder g c =
     rw (← c.self.view_is)
-      (let e = c.renormalize-self-inside.ensures.value ∙ ap (λ (d : Decision). d.registers) (sym (decision-renorm c.self.inside.bytes.now c.self.inside.registers c.args.context.now c.exchange-symbol.result c.exchange-symbol.new.registers c.exchange-symbol.new.self c.exchange-symbol.ensures.choice c.exchange-symbol.ensures.bits c.exchange-symbol.ensures.place)) in
-      λ i. record { bytes = c.self.inside.bytes.now; registers = e i })
+    (let e = c.renormalize-self-inside.ensures.value ∙ ap (λ (d : Decision). d.registers) (sym (decision-renorm c.self.inside.bytes.now c.self.inside.registers c.args.context.now c.exchange-symbol.result c.exchange-symbol.new.registers c.exchange-symbol.new.self c.exchange-symbol.ensures.choice c.exchange-symbol.ensures.bits c.exchange-symbol.ensures.place)) in
+    λ i. record { bytes = c.self.inside.bytes.now; registers = e i })
 
 pub returns-clause-context : goal.returns-clause-context
 returns-clause-context g c =
     rw (← c.self.view_is)
-      (ap (λ (d : Decision). d.context) (sym (decision-renorm c.self.inside.bytes.now c.self.inside.registers c.args.context.now c.exchange-symbol.result c.exchange-symbol.new.registers c.exchange-symbol.new.self c.exchange-symbol.ensures.choice c.exchange-symbol.ensures.bits c.exchange-symbol.ensures.place)))
+    (ap (λ (d : Decision). d.context) (sym (decision-renorm c.self.inside.bytes.now c.self.inside.registers c.args.context.now c.exchange-symbol.result c.exchange-symbol.new.registers c.exchange-symbol.new.self c.exchange-symbol.ensures.choice c.exchange-symbol.ensures.bits c.exchange-symbol.ensures.place)))

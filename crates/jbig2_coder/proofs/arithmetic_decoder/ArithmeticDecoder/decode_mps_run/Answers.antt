@@ -8,10 +8,10 @@ pub returns-then-self-floor-clause-exact : goal.returns-then-self-floor-clause-e
 returns-then-self-floor-clause-exact g c =
     let qe = sym (ap (λ (r : QeData). r.qe) c.row_at.ensures.value) in
     rw (← c.self.view_is, ← c.context.view_is)
-      (sym (run-no c.args.count c.self.inside.bytes.now c.self.inside.registers _ c.row_at.result.qe qe c.row_at.ensures.some c.requires.some (omega arith)))
+    (sym (run-no c.args.count c.self.inside.bytes.now c.self.inside.registers _ c.row_at.result.qe qe c.row_at.ensures.some c.requires.some (omega arith)))
 
 pub returns-clause-exact : goal.returns-clause-exact
 returns-clause-exact g c =
     let qe = sym (ap (λ (r : QeData). r.qe) c.row_at.ensures.value) in
     rw (← c.self.view_is, ← c.context.view_is)
-      (sym (run-yes c.args.count c.self.inside.bytes.now c.self.inside.registers _ c.row_at.result.qe qe (omega arith)))
+    (sym (run-yes c.args.count c.self.inside.bytes.now c.self.inside.registers _ c.row_at.result.qe qe (omega arith)))

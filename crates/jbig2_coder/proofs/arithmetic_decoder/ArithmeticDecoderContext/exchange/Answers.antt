@@ -16,7 +16,7 @@ returns-then-rest-row-clause-choice c =
     let e = qe-read _ c.args.self.now c.row_at-row.result c.row_at-row.ensures.value c.self.view_is in
     let half : a - qe < 0x8000 = (rw e at c.requires.renorm) c.if-registers-rest.true in
     choice-upper_unlikely c.args.self.now a c.args.registers.now.code.c qe e c.if-registers-rest.true half c.if-rest-row.true
-      ∙ (λ i. record { symbol = sym c.after_unlikely.ensures.symbol i; a = a - qe; c = c.args.registers.now.code.c; context = sym c.after_unlikely.ensures.context i; renorm = true })
+    ∙ (λ i. record { symbol = sym c.after_unlikely.ensures.symbol i; a = a - qe; c = c.args.registers.now.code.c; context = sym c.after_unlikely.ensures.context i; renorm = true })
 
 pub returns-then-registers-rest-clause-choice : goal.returns-then-registers-rest-clause-choice
 returns-then-registers-rest-clause-choice c =
@@ -25,7 +25,7 @@ returns-then-registers-rest-clause-choice c =
     let e = qe-read _ c.args.self.now c.row_at-row.result c.row_at-row.ensures.value c.self.view_is in
     let half : a - qe < 0x8000 = (rw e at c.requires.renorm) c.if-registers-rest.true in
     choice-upper_likely c.args.self.now a c.args.registers.now.code.c qe e c.if-registers-rest.true half c.if-rest-row.false
-      ∙ (λ i. record { symbol = sym c.after_likely.ensures.symbol i; a = a - qe; c = c.args.registers.now.code.c; context = sym c.after_likely.ensures.context i; renorm = true })
+    ∙ (λ i. record { symbol = sym c.after_likely.ensures.symbol i; a = a - qe; c = c.args.registers.now.code.c; context = sym c.after_likely.ensures.context i; renorm = true })
 
 pub returns-then-rest-row-2-clause-choice : goal.returns-then-rest-row-2-clause-choice
 returns-then-rest-row-2-clause-choice c =
@@ -34,7 +34,7 @@ returns-then-rest-row-2-clause-choice c =
     let e = qe-read _ c.args.self.now c.row_at-row.result c.row_at-row.ensures.value c.self.view_is in
     let lower = lower-c c.args.registers.now.code.c (a - qe) (omega arith) in
     choice-lower_likely c.args.self.now a c.args.registers.now.code.c qe e c.if-registers-rest.false c.if-rest-row-2.true
-      ∙ (λ i. record { symbol = sym c.after_likely-then-rest-row-2.ensures.symbol i; a = qe; c = lower i; context = sym c.after_likely-then-rest-row-2.ensures.context i; renorm = true })
+    ∙ (λ i. record { symbol = sym c.after_likely-then-rest-row-2.ensures.symbol i; a = qe; c = lower i; context = sym c.after_likely-then-rest-row-2.ensures.context i; renorm = true })
 
 pub returns-clause-choice : goal.returns-clause-choice
 returns-clause-choice c =
@@ -43,4 +43,4 @@ returns-clause-choice c =
     let e = qe-read _ c.args.self.now c.row_at-row.result c.row_at-row.ensures.value c.self.view_is in
     let lower = lower-c c.args.registers.now.code.c (a - qe) (omega arith) in
     choice-lower_unlikely c.args.self.now a c.args.registers.now.code.c qe e c.if-registers-rest.false c.if-rest-row-2.false
-      ∙ (λ i. record { symbol = sym c.after_unlikely-2.ensures.symbol i; a = qe; c = lower i; context = sym c.after_unlikely-2.ensures.context i; renorm = true })
+    ∙ (λ i. record { symbol = sym c.after_unlikely-2.ensures.symbol i; a = qe; c = lower i; context = sym c.after_unlikely-2.ensures.context i; renorm = true })
