@@ -3,3 +3,4 @@ pub mod Decisions
 pub mod Renorm
 pub mod Rows
 pub mod Runs
+pub mod Readings

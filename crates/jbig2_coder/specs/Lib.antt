@@ -1,2 +1,4 @@
 pub mod Coder
+pub mod Integers
+pub mod Stands
 pub mod Table

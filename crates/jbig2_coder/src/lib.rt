@@ -3,3 +3,4 @@
 #![tactic(auto)]
 
 pub mod arithmetic_decoder;
+pub mod integer_decoder;

@@ -1,0 +1,203 @@
+-- Reading bits: their number, PREV, and how a call's state stands to what was read.
+use Rattle.std.specs.Prelude.{bit_and, bit_or, ◌==◌}
+use Rattle.std.proofs.Common.{◌≡◌, ℕ, zero, suc, ◌+◌, ◌-◌, ◌*◌, ◌%◌, ◌^◌, ◌<◌, ◌≤◌, Bool, true, false, List, [], ◌∷◌, ◌++◌, length, drop, get_or, set, ℤ, pos, ◌-ℤ◌, Some, None, refl, sym, ap, ◌∙◌, arith, ⊎_elim, subst, add-one, length-append}
+use Rattle.std.proofs.Math.Nat.{pow-suc}
+use Rattle.std.proofs.Math.Seq.{drop-length}
+use Rattle.std.proofs.lemmas.Nat.{or_lt, and_mask}
+use Rattle.std.proofs.lemmas.List.{drop-append-le, get_or_default}
+use Rattle.std.proofs.lemmas.Bool.{cond-true, cond-false, eq-eqb, ne_eqb}
+use Rattle.std.proofs.lemmas.Bool.Decides.{nat_tests}
+use Rattle.std.proofs.lemmas.Int.{of_z-to_z}
+use mir.Val.{to_z, of_z}
+use mir.Syntax.{w32}
+use Rattle.jbig2_base.specs.Counts.{Counts}
+use Rattle.jbig2_base.specs.Grid.{bit_number}
+use Rattle.jbig2_coder.specs.Coder.{Coder, Context, Decision, decision, fresh}
+use Rattle.jbig2_coder.specs.Integers.{Reading, number, next, read, read_more, prev_next, prev_after, prev_of, prefix, Prefix, signed, value_of}
+use Rattle.jbig2_coder.specs.Stands.{Stands}
+
+pub bit_number-same : (a b : Bool) → bit_number a ≡ bit_number b → a ≡ b
+bit_number-same true true h = refl
+bit_number-same false false h = refl
+bit_number-same true false h = absurd (omega arith)
+bit_number-same false true h = absurd (omega arith)
+
+-- PREV
+
+pub prev_next-small : (p : ℕ) (b : Bool) → p < 256 → 2 * p + bit_number b ≡ prev_next p b
+unfolding prev_next
+prev_next-small p b h = grind (arith, nat_tests)
+
+pub prev_next-large : (p : ℕ) (b : Bool) → 256 ≤ p → bit_or (bit_and (2 * p + bit_number b) 511) 256 ≡ prev_next p b
+unfolding prev_next
+prev_next-large p b h = grind (arith, nat_tests)
+
+pub kept-below : (n : ℕ) → bit_or (bit_and n 511) 256 < 512
+kept-below n = or_lt 9 (bit_and n 511) 256 (rw (and_mask n 9) (omega arith)) (omega arith)
+
+pub prev_after-push : (p : ℕ) (bits : List Bool) (b : Bool) → prev_after p (bits ++ b ∷ []) ≡ prev_next (prev_after p bits) b
+unfolding prev_after
+prev_after-push p [] b = refl
+prev_after-push p (x ∷ bits) b = prev_after-push (prev_next p x) bits b
+
+-- numbers
+
+pub number-push : (bits : List Bool) (b : Bool) → number (bits ++ b ∷ []) ≡ 2 * number bits + bit_number b
+unfolding number
+number-push [] b = omega arith
+number-push (x ∷ bits) b =
+    let e : length (bits ++ b ∷ []) ≡ suc (length bits) = length-append bits (b ∷ []) ∙ (omega arith) in
+    rw (e, pow-suc) (omega (arith, number-push bits b))
+
+bit-small : (b : Bool) → bit_number b < 2
+bit-small true = omega arith
+bit-small false = omega arith
+
+pub number-below : (bits : List Bool) → number bits < 2 ^ length bits
+unfolding number
+number-below [] = omega arith
+number-below (true ∷ bits) = rw pow-suc (omega (arith, number-below bits))
+number-below (false ∷ bits) = rw pow-suc (omega (arith, number-below bits))
+
+-- values
+
+pub signed-to_z : (n : ℕ) → n < 2 ^ 32 → signed n ≡ to_z w32 n
+unfolding signed
+signed-to_z n h = grind (arith, nat_tests)
+
+pub signed-passed : (n : ℕ) (x : ℤ) → n < 2 ^ 32 → x ≡ to_z w32 n → to_z w32 (of_z w32 x) ≡ signed n
+signed-passed n x h e =
+    ap (λ z. to_z w32 (of_z w32 z)) e ∙ ap (to_z w32) (of_z-to_z w32 n h) ∙ sym (signed-to_z n h)
+
+pub value_of-positive : (n : ℕ) → value_of false n ≡ Some (signed n)
+unfolding value_of
+value_of-positive n = refl
+
+pub value_of-none : (n : ℕ) → n ≡ 0 → value_of true n ≡ None
+unfolding value_of
+value_of-none n h = cond-true _ _ _ (eq-eqb n 0 h)
+
+pub value_of-negative : (n m : ℕ) → n < 2 ^ 32 → m < 2 ^ 32 → (n ≡ 0 → ⊥) → (m + n) % 2 ^ 32 ≡ 0 → value_of true n ≡ Some (signed m)
+unfolding value_of
+value_of-negative n m h k some e =
+    let f : 2 ^ 32 - n ≡ m = omega arith in
+    cond-false _ _ _ (ne_eqb n 0 some) ∙ ap (λ v. Some (signed v)) f
+
+pub bit_number-one : (b : Bool) → (bit_number b == 1) ≡ b
+bit_number-one true = refl
+bit_number-one false = refl
+
+-- readings
+
+pub length-read_more : (name : List Bool → ℕ) (n : ℕ) (bytes : List ℕ) (r : Reading) → length (read_more name n bytes r).bits ≡ length r.bits + n
+unfolding read_more read
+length-read_more name zero bytes r = omega arith
+length-read_more name (suc n) bytes r =
+    let s = read_more name n bytes r in
+    omega (arith, length-append s.bits ((next name bytes s).symbol ∷ []), length-read_more name n bytes r)
+
+-- the number of the bits read, with one more
+pub read_more-number : (name : List Bool → ℕ) (n : ℕ) (bytes : List ℕ) (r : Reading)
+    → number (drop (length r.bits) (read_more name (suc n) bytes r).bits)
+    ≡ 2 * number (drop (length r.bits) (read_more name n bytes r).bits) + bit_number (next name bytes (read_more name n bytes r)).symbol
+unfolding read_more read
+read_more-number name n bytes r =
+    let s = read_more name n bytes r in
+    let within : length r.bits ≤ length s.bits = omega (arith, length-read_more name n bytes r) in
+    rw (drop-append-le (length r.bits) s.bits ((next name bytes s).symbol ∷ []) within) (number-push (drop (length r.bits) s.bits) (next name bytes s).symbol)
+
+-- The code's decision is the reading's next one, for the context that the code takes from its place.
+pub Stands-decision : (name : List Bool → ℕ) (start : Counts) (r : Reading) (place : ℕ) (coder : Coder) (contexts : List Context) (steps : Counts) (x : Context)
+    → Stands name start r place coder contexts steps → place < length contexts
+    → decision coder.bytes coder.registers (get_or contexts place x) ≡ next name coder.bytes r
+unfolding next
+Stands-decision name start r place coder contexts steps x s l =
+    let f : get_or contexts place x ≡ get_or r.contexts (name r.bits) fresh =
+    get_or_default contexts place x fresh l ∙ (λ i. get_or (s.learned i) (s.named i) fresh) in
+    λ i. decision coder.bytes (s.registers i) (f i)
+
+one_more : (n : ℕ) (bits : List Bool) (b : Bool) → n + length bits + 1 ≡ n + length (bits ++ b ∷ [])
+one_more n bits b = omega (arith, length-append bits (b ∷ []))
+
+pub Stands-read : (name : List Bool → ℕ) (start : Counts) (r : Reading) (place : ℕ) (coder : Coder) (contexts : List Context) (steps : Counts)
+    → Stands name start r place coder contexts steps
+    → (place' : ℕ) (coder' : Coder) (contexts' : List Context) (steps' : Counts) (d : Decision) → d ≡ next name coder.bytes r
+    → place' ≡ name (r.bits ++ d.symbol ∷ []) → coder'.registers ≡ d.registers → contexts' ≡ set contexts place d.context
+    → steps' ≡ record steps { decisions = steps.decisions + 1 }
+    → Stands name start (read name coder.bytes r) place' coder' contexts' steps'
+unfolding read
+Stands-read name start r place coder contexts steps s place' coder' contexts' steps' d e named registers learned counted = record {
+  named = named ∙ ap (λ (v : Decision). name (r.bits ++ v.symbol ∷ [])) e;
+  registers = registers ∙ ap (λ (v : Decision). v.registers) e;
+  learned = learned ∙ (λ i. set (s.learned i) (s.named i) ((e i).context));
+  counted =
+      counted
+      ∙ ap (λ (v : Counts). let w : Counts = record v { decisions = v.decisions + 1 } in w) s.counted
+      ∙ ap (λ (n : ℕ). let w : Counts = record start { decisions = n } in w) (one_more start.decisions r.bits (next name coder.bytes r).symbol);
+}
+
+pub Stands-bytes : (name : List Bool → ℕ) (start : Counts) (b b' : List ℕ) (r : Reading) (place : ℕ) (coder : Coder) (contexts : List Context) (steps : Counts)
+    → b ≡ b' → Stands name start (read name b r) place coder contexts steps → Stands name start (read name b' r) place coder contexts steps
+Stands-bytes name start b b' r place coder contexts steps e s = subst (λ (v : List ℕ). Stands name start (read name v r) place coder contexts steps) e s
+
+pub read_more-next : (name : List Bool → ℕ) (n : ℕ) (bytes : List ℕ) (r : Reading) → read name bytes (read_more name n bytes r) ≡ read_more name (n + 1) bytes r
+unfolding read_more
+read_more-next name n bytes r = rw add-one refl
+
+-- the prefix
+
+pub prefix-one : (most ones : ℕ) (bytes : List ℕ) (r : Reading) → (next prev_of bytes r).symbol ≡ true
+    → prefix (suc most) ones bytes r ≡ prefix most (suc ones) bytes (read prev_of bytes r)
+unfolding prefix
+prefix-one most ones bytes r h = cond-true _ _ _ h
+
+pub prefix-zero : (most ones : ℕ) (bytes : List ℕ) (r : Reading) → (next prev_of bytes r).symbol ≡ false
+    → prefix (suc most) ones bytes r ≡ record { ones = ones; reading = read prev_of bytes r }
+unfolding prefix
+prefix-zero most ones bytes r h = cond-false _ _ _ h
+
+pub prefix-end : (ones : ℕ) (bytes : List ℕ) (r : Reading) → prefix 0 ones bytes r ≡ record { ones = ones; reading = r }
+unfolding prefix
+prefix-end ones bytes r = refl
+
+-- what the code's turns do
+pub prefix-goes : (k : ℕ) (b : List ℕ) (r s : Reading) → k < 5 → prefix 5 0 b r ≡ prefix (5 - k) k b s → (next prev_of b s).symbol ≡ true
+    → prefix 5 0 b r ≡ prefix (5 - (k + 1)) (k + 1) b (read prev_of b s)
+prefix-goes k b r s h e one =
+    let f : 5 - k ≡ suc (5 - (k + 1)) = omega arith in
+    e ∙ ap (λ n. prefix n k b s) f ∙ prefix-one (5 - (k + 1)) k b s one
+    ∙ ap (λ n. prefix (5 - (k + 1)) n b (read prev_of b s)) (sym (add-one k))
+
+pub prefix-stops : (k : ℕ) (b : List ℕ) (r s : Reading) → k < 5 → prefix 5 0 b r ≡ prefix (5 - k) k b s → (next prev_of b s).symbol ≡ false
+    → prefix 5 0 b r ≡ record { ones = k; reading = read prev_of b s }
+prefix-stops k b r s h e none =
+    let f : 5 - k ≡ suc (4 - k) = omega arith in
+    e ∙ ap (λ n. prefix n k b s) f ∙ prefix-zero (4 - k) k b s none
+
+pub prefix-full : (k : ℕ) (b : List ℕ) (r s : Reading) → k ≡ 5 → prefix 5 0 b r ≡ prefix (5 - k) k b s
+    → prefix 5 0 b r ≡ record { ones = 5; reading = s }
+prefix-full k b r s h e = e ∙ ap (λ n. prefix (5 - n) n b s) h ∙ prefix-end 5 b s
+
+pub bit-zero : (b : Bool) → bit_number b ≡ 0 → b ≡ false
+bit-zero false h = refl
+bit-zero true h = absurd (omega arith)
+
+pub bit-one : (b : Bool) → (bit_number b ≡ 0 → ⊥) → b ≡ true
+bit-one true h = refl
+bit-one false h = absurd (h refl)
+
+pub read_more-none : (name : List Bool → ℕ) (bytes : List ℕ) (r : Reading) → read_more name 0 bytes r ≡ r
+unfolding read_more
+read_more-none name bytes r = refl
+
+-- before the first bit
+pub number-none : (name : List Bool → ℕ) (bytes : List ℕ) (r : Reading) → 0 ≡ number (drop (length r.bits) (read_more name 0 bytes r).bits)
+unfolding read_more number
+number-none name bytes r = sym (ap number (drop-length r.bits))
+
+pub number-next : (name : List Bool → ℕ) (n : ℕ) (bytes : List ℕ) (r : Reading) (value bit : ℕ)
+    → value ≡ number (drop (length r.bits) (read_more name n bytes r).bits) → bit ≡ bit_number (next name bytes (read_more name n bytes r)).symbol
+    → 2 * value + bit ≡ number (drop (length r.bits) (read_more name (n + 1) bytes r).bits)
+number-next name n bytes r value bit e f =
+    (λ i. 2 * e i + f i) ∙ sym (read_more-number name n bytes r)
+    ∙ ap (λ m. number (drop (length r.bits) (read_more name m bytes r).bits)) (sym (add-one n))

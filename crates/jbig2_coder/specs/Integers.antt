@@ -1,0 +1,107 @@
+-- Integers and symbol ids (T.88, Annex A): decisions whose contexts the bits read so far name.
+use Rattle.std.specs.Prelude.{ℕ, suc, zero, ◌+◌, ◌-◌, ◌*◌, ◌%◌, ◌^◌, Bool, true, false, if◌then◌else◌, ◌==◌, nat_lt, bit_and, bit_or, List, [], ◌∷◌, ◌++◌, length, drop, slice_index_or, slice_set, Some, None, Option, ℤ, pos, ◌-ℤ◌}
+use Rattle.jbig2_base.specs.Grid.{bit_number}
+use Rattle.jbig2_coder.specs.Coder.{Context, Decision, fresh, decision}
+use Rattle.jbig2_coder.specs.declared.arithmetic_decoder.registers.Registers.{Registers}
+
+-- The number that bits spell, the high bit first.
+unfoldable pub number : List Bool → ℕ
+number [] = 0
+number (b ∷ bits) = bit_number b * 2 ^ length bits + number bits
+
+-- What has been read so far, and the registers and the contexts after it.
+pub record Reading : Type 0 where
+  pub bits : List Bool
+  pub registers : Registers
+  pub contexts : List Context
+
+-- the decision that comes next; `name` gives the number of its context from the bits so far
+unfoldable pub next : (List Bool → ℕ) → List ℕ → Reading → Decision
+next name bytes r = decision bytes r.registers (slice_index_or r.contexts (name r.bits) fresh)
+
+-- one bit more
+unfoldable pub read : (List Bool → ℕ) → List ℕ → Reading → Reading
+read name bytes r =
+    let d = next name bytes r in
+    record { bits = r.bits ++ d.symbol ∷ []; registers = d.registers; contexts = slice_set r.contexts (name r.bits) d.context }
+
+-- n bits more
+unfoldable pub read_more : (List Bool → ℕ) → ℕ → List ℕ → Reading → Reading
+read_more name zero bytes r = r
+read_more name (suc n) bytes r = read name bytes (read_more name n bytes r)
+
+-- PREV (A.2): at first it grows by a bit at a time, then it keeps the last eight bits behind a 1.
+unfoldable pub prev_next : ℕ → Bool → ℕ
+prev_next prev bit =
+    let grown = 2 * prev + bit_number bit in
+    if nat_lt prev 256 then grown else bit_or (bit_and grown 511) 256
+
+unfoldable pub prev_after : ℕ → List Bool → ℕ
+prev_after prev [] = prev
+prev_after prev (b ∷ bits) = prev_after (prev_next prev b) bits
+
+abbrev pub prev_of : List Bool → ℕ
+prev_of bits = prev_after 1 bits
+
+-- The ranges of Table A.1 by the ones in their prefix: how many bits the value has, and the least
+-- number of the range.
+pub record Range : Type 0 where
+  pub bits : ℕ
+  pub offset : ℕ
+
+abbrev pub range : ℕ → ℕ → Range
+range bits offset = record { bits = bits; offset = offset }
+
+unfoldable pub ranges : List Range
+ranges = range 2 0 ∷ range 4 4 ∷ range 6 20 ∷ range 8 84 ∷ range 12 340 ∷ range 32 4436 ∷ []
+
+unfoldable pub range_of : ℕ → Range
+range_of ones = slice_index_or ranges ones (range 32 4436)
+
+-- The prefix ends after its first 0, or with its fifth bit.
+pub record Prefix : Type 0 where
+  pub ones : ℕ
+  pub reading : Reading
+
+unfoldable pub prefix : ℕ → ℕ → List ℕ → Reading → Prefix
+prefix zero ones bytes r = record { ones = ones; reading = r }
+prefix (suc most) ones bytes r =
+    let further = prefix most (suc ones) bytes (read prev_of bytes r) in
+    if (next prev_of bytes r).symbol then further else record { ones = ones; reading = read prev_of bytes r }
+
+-- a number below 2 ^ 32 as a signed one
+unfoldable pub signed : ℕ → ℤ
+signed n = if nat_lt n (2 ^ 31) then pos n else pos n -ℤ pos (2 ^ 32)
+
+-- the value, or out of band
+unfoldable pub value_of : Bool → ℕ → Option ℤ
+value_of negative sum =
+    if negative then (if sum == 0 then None else Some (signed (2 ^ 32 - sum))) else Some (signed sum)
+
+-- An integer (A.2): a sign, a prefix and a value.
+pub record Integer : Type 0 where
+  pub value : Option ℤ
+  pub reading : Reading
+
+unfoldable pub integer : List ℕ → Registers → List Context → Integer
+integer bytes registers contexts =
+    let start : Reading = record { bits = []; registers = registers; contexts = contexts } in
+    let before = prefix 5 0 bytes (read prev_of bytes start) in
+    let row = range_of before.ones in
+    let after = read_more prev_of row.bits bytes before.reading in
+    let sum = (number (drop (length before.reading.bits) after.bits) + row.offset) % 2 ^ 32 in
+    record { value = value_of (next prev_of bytes start).symbol sum; reading = after }
+
+-- A symbol id (A.3): as many bits as the code length says, each in the context that the bits so far
+-- spell behind a 1.
+abbrev pub place_of : List Bool → ℕ
+place_of bits = number (true ∷ bits)
+
+pub record Ids : Type 0 where
+  pub code_len : ℕ
+  pub contexts : List Context
+
+unfoldable pub id : List ℕ → Registers → Ids → Reading
+id bytes registers ids =
+    let start : Reading = record { bits = []; registers = registers; contexts = ids.contexts } in
+    read_more place_of ids.code_len bytes start

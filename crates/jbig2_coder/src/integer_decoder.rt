@@ -1,0 +1,177 @@
+//! Integers coded with the arithmetic coder (T.88, A.2).
+
+ghost use Rattle.std.specs.Prelude.{◌≡◌, ◌+◌, ◌*◌, ◌^◌, ◌<◌, ◌≤◌, Bool, length, drop, replicate, Ok};
+ghost use Rattle.jbig2_base.specs.Answer.{Gives};
+ghost use Rattle.jbig2_base.specs.Counts.{Counts};
+ghost use Rattle.jbig2_base.specs.Grid.{bit_number};
+ghost use Rattle.jbig2_coder.specs.Coder.{fresh};
+ghost use Rattle.jbig2_coder.specs.Integers.{Reading, number, next, read, read_more, prev_of, prev_next, range_of, prefix, value_of, integer};
+ghost use Rattle.jbig2_coder.specs.Stands.{Stands};
+
+use crate::arithmetic_decoder::{ArithmeticDecoder, ArithmeticDecoderContext};
+use jbig2_base::bitmap::steps::Steps;
+use jbig2_base::error::Result;
+use std::alloc::Allocator;
+use std::marker::Model;
+use std::sync::ledger::Ledger;
+
+const CONTEXTS: usize = 512;
+
+/// Reads the integers of one procedure, and keeps what its contexts have learned.
+#[derive(Drop)]
+pub struct IntegerDecoder<A: Allocator> {
+    contexts: Vec<ArithmeticDecoderContext, A>,
+}
+
+impl<A: Allocator> Model for IntegerDecoder<A> {
+    ghost use Rattle.std.specs.Prelude.{◌≡◌, List, length};
+    ghost use Rattle.jbig2_coder.specs.Coder.{Context};
+
+    ghost Value = { List Context };
+
+    ghost view = { λ s. s.contexts.items };
+
+    ghost invariant = { λ s. length s.contexts.items ≡ 512 };
+}
+
+impl<A: Allocator> IntegerDecoder<A> {
+    /// A decoder whose contexts know nothing yet.
+    ///
+    /// # Errors
+    /// `OutOfMemory` where the contexts find no room.
+    pub fn new(alloc: A) -> Result<IntegerDecoder<A>>
+        ensures { Gives (λ contexts. contexts) result (Ok (replicate 512 fresh)) }
+    {
+        let contexts = vec![in alloc; ArithmeticDecoderContext::new(); CONTEXTS]?;
+        Ok(IntegerDecoder { contexts })
+    }
+
+    /// The next integer, or `None` where it is out of band.
+    pub fn decode<L: Ledger>(
+        &mut self,
+        decoder: &mut ArithmeticDecoder<'_>,
+        steps: &mut Steps<L>,
+    ) -> Option<i32>
+        ensures value { result ≡ (integer decoder.old.bytes decoder.old.registers self.old).value }
+        ensures coder { decoder.new ≡ record decoder.old { registers = (integer decoder.old.bytes decoder.old.registers self.old).reading.registers } }
+        ensures contexts { self.new ≡ (integer decoder.old.bytes decoder.old.registers self.old).reading.contexts }
+        ensures steps { steps.new ≡ record steps.old { decisions = steps.old.decisions + length (integer decoder.old.bytes decoder.old.registers self.old).reading.bits } }
+    {
+        let contexts = self.contexts.as_mut_slice();
+        let mut prev = 1;
+        let negative = read_bit(contexts, &mut prev, decoder, steps) == 1;
+        let (bits, offset) = range(read_prefix(contexts, &mut prev, decoder, steps));
+        let value = read_bits(bits, contexts, &mut prev, decoder, steps);
+        signed_value(negative, value.wrapping_add(offset))
+    }
+}
+
+// How many bits the value has, and the least number of the range (Table A.1).
+#[tactic(auto, unfolding(crate::specs::Integers::range_of, crate::specs::Integers::ranges))]
+fn range(ones: u32) -> (u32, u32)
+    ensures bits { result.0 ≡ (range_of ones).bits }
+    ensures offset { result.1 ≡ (range_of ones).offset }
+    ensures whole { result.0 ≤ 32 }
+{
+    match ones {
+        0 => (2, 0),
+        1 => (4, 4),
+        2 => (6, 20),
+        3 => (8, 84),
+        4 => (12, 340),
+        _ => (32, 4436),
+    }
+}
+
+// What PREV becomes after a bit.
+#[inline(always)]
+fn following(prev: u32, bit: u32) -> u32
+    requires below { prev < 512 }
+    requires digit { bit < 2 }
+    ensures below { result < 512 }
+    ensures value { (b : Bool) → bit ≡ bit_number b → result ≡ prev_next prev b }
+{
+    let grown = 2 * prev + bit;
+    if prev < 256 {
+        return grown;
+    }
+    grown & 511 | 256
+}
+
+// The value of an integer, from its sign and its sum.
+fn signed_value(negative: bool, sum: u32) -> Option<i32>
+    ensures { result ≡ value_of negative sum }
+{
+    if !negative {
+        return Some(sum.cast_signed());
+    }
+    if sum == 0 {
+        return None;
+    }
+    Some(sum.wrapping_neg().cast_signed())
+}
+
+// The next bit, in the context that `prev` names.
+#[inline(always)]
+fn read_bit<L: Ledger>(
+    contexts: &mut [ArithmeticDecoderContext],
+    prev: &mut u32,
+    decoder: &mut ArithmeticDecoder<'_>,
+    steps: &mut Steps<L>,
+) -> u32
+    requires size { length contexts.old ≡ 512 }
+    requires below { prev.old < 512 }
+    ensures below { prev.new < 512 }
+    ensures bytes { decoder.new.bytes ≡ decoder.old.bytes }
+    ensures digit { result < 2 }
+    ensures bit { (start : Counts) (r : Reading) → Stands prev_of start r prev.old decoder.old contexts.old steps.old → result ≡ bit_number (next prev_of decoder.old.bytes r).symbol }
+    ensures reads { (start : Counts) (r : Reading) → Stands prev_of start r prev.old decoder.old contexts.old steps.old → Stands prev_of start (read prev_of decoder.old.bytes r) prev.new decoder.new contexts.new steps.new }
+{
+    let bit = decoder.decode(&mut contexts[*prev as usize], steps);
+    *prev = following(*prev, bit);
+    bit
+}
+
+// The ones of the prefix, at most five.
+fn read_prefix<L: Ledger>(
+    contexts: &mut [ArithmeticDecoderContext],
+    prev: &mut u32,
+    decoder: &mut ArithmeticDecoder<'_>,
+    steps: &mut Steps<L>,
+) -> u32
+    requires size { length contexts.old ≡ 512 }
+    requires below { prev.old < 512 }
+    ensures below { prev.new < 512 }
+    ensures bytes { decoder.new.bytes ≡ decoder.old.bytes }
+    ensures ones { (start : Counts) (r : Reading) → Stands prev_of start r prev.old decoder.old contexts.old steps.old → result ≡ (prefix 5 0 decoder.old.bytes r).ones }
+    ensures reads { (start : Counts) (r : Reading) → Stands prev_of start r prev.old decoder.old contexts.old steps.old → Stands prev_of start (prefix 5 0 decoder.old.bytes r).reading prev.new decoder.new contexts.new steps.new }
+{
+    for ones in 0..5 {
+        if read_bit(contexts, prev, decoder, steps) == 0 {
+            return ones;
+        }
+    }
+    5
+}
+
+// The number that the next `count` bits spell.
+fn read_bits<L: Ledger>(
+    count: u32,
+    contexts: &mut [ArithmeticDecoderContext],
+    prev: &mut u32,
+    decoder: &mut ArithmeticDecoder<'_>,
+    steps: &mut Steps<L>,
+) -> u32
+    requires count { count ≤ 32 }
+    requires size { length contexts.old ≡ 512 }
+    requires below { prev.old < 512 }
+    ensures bytes { decoder.new.bytes ≡ decoder.old.bytes }
+    ensures value { (start : Counts) (r : Reading) → Stands prev_of start r prev.old decoder.old contexts.old steps.old → result ≡ number (drop (length r.bits) (read_more prev_of count decoder.old.bytes r).bits) }
+    ensures reads { (start : Counts) (r : Reading) → Stands prev_of start r prev.old decoder.old contexts.old steps.old → Stands prev_of start (read_more prev_of count decoder.old.bytes r) prev.new decoder.new contexts.new steps.new }
+{
+    let mut value = 0;
+    for _ in 0..count {
+        value = 2 * value + read_bit(contexts, prev, decoder, steps);
+    }
+    value
+}
