@@ -1,7 +1,7 @@
 -- Reading bits: their number, PREV, and how a call's state stands to what was read.
 use Rattle.std.specs.Prelude.{bit_and, bit_or, ◌==◌}
 use Rattle.std.proofs.Common.{◌≡◌, ℕ, zero, suc, ◌+◌, ◌-◌, ◌*◌, ◌%◌, ◌^◌, ◌<◌, ◌≤◌, Bool, true, false, List, [], ◌∷◌, ◌++◌, length, drop, get_or, set, ℤ, pos, ◌-ℤ◌, Some, None, refl, sym, ap, ◌∙◌, arith, ⊎_elim, subst, add-one, length-append}
-use Rattle.std.proofs.Math.Nat.{pow-suc}
+use Rattle.std.proofs.Math.Nat.{pow-suc, pow-le-pow_right}
 use Rattle.std.proofs.Math.Seq.{drop-length}
 use Rattle.std.proofs.lemmas.Nat.{or_lt, and_mask}
 use Rattle.std.proofs.lemmas.List.{drop-append-le, get_or_default}
@@ -13,8 +13,9 @@ use mir.Syntax.{w32}
 use Rattle.jbig2_base.specs.Counts.{Counts}
 use Rattle.jbig2_base.specs.Grid.{bit_number}
 use Rattle.jbig2_coder.specs.Coder.{Coder, Context, Decision, decision, fresh}
-use Rattle.jbig2_coder.specs.Integers.{Reading, number, next, read, read_more, prev_next, prev_after, prev_of, prefix, Prefix, signed, value_of}
+use Rattle.jbig2_coder.specs.Integers.{Reading, number, next, read, read_more, prev_next, prev_after, prev_of, prefix, Prefix, signed, value_of, range_of, integer, Ids, id, place_of}
 use Rattle.jbig2_coder.specs.Stands.{Stands}
+use Rattle.jbig2_coder.specs.declared.arithmetic_decoder.registers.Registers.{Registers}
 
 pub bit_number-same : (a b : Bool) → bit_number a ≡ bit_number b → a ≡ b
 bit_number-same true true h = refl
@@ -201,3 +202,74 @@ pub number-next : (name : List Bool → ℕ) (n : ℕ) (bytes : List ℕ) (r : R
 number-next name n bytes r value bit e f =
     (λ i. 2 * e i + f i) ∙ sym (read_more-number name n bytes r)
     ∙ ap (λ m. number (drop (length r.bits) (read_more name m bytes r).bits)) (sym (add-one n))
+
+-- An integer
+
+pub start_of : Registers → List Context → Reading
+start_of registers contexts = record { bits = []; registers = registers; contexts = contexts }
+
+-- before the first bit
+pub Stands-start : (name : List Bool → ℕ) (coder : Coder) (contexts : List Context) (steps : Counts)
+    → Stands name steps (start_of coder.registers contexts) (name []) coder contexts steps
+unfolding start_of
+Stands-start name coder contexts steps = record {
+  named = refl;
+  registers = refl;
+  learned = refl;
+  counted = let e : steps.decisions ≡ steps.decisions + 0 = omega arith in λ i. record steps { decisions = e i };
+}
+
+pub integer-reading : (b b1 b2 : List ℕ) (registers : Registers) (contexts : List Context) (count ones : ℕ) → b1 ≡ b → b2 ≡ b
+    → ones ≡ (prefix 5 0 b1 (read prev_of b (start_of registers contexts))).ones → count ≡ (range_of ones).bits
+    → read_more prev_of count b2 (prefix 5 0 b1 (read prev_of b (start_of registers contexts))).reading ≡ (integer b registers contexts).reading
+unfolding integer start_of
+integer-reading b b1 b2 registers contexts count ones e1 e2 o k =
+    let r = read prev_of b (start_of registers contexts) in
+    let f : count ≡ (range_of (prefix 5 0 b r).ones).bits = k ∙ ap (λ n. (range_of n).bits) (o ∙ ap (λ v. (prefix 5 0 v r).ones) e1) in
+    λ i. read_more prev_of (f i) (e2 i) (prefix 5 0 (e1 i) r).reading
+
+pub integer-value : (b b1 b2 : List ℕ) (registers : Registers) (contexts : List Context) (negative : Bool) (count ones value offset : ℕ) → b1 ≡ b → b2 ≡ b
+    → negative ≡ (next prev_of b (start_of registers contexts)).symbol
+    → ones ≡ (prefix 5 0 b1 (read prev_of b (start_of registers contexts))).ones → count ≡ (range_of ones).bits → offset ≡ (range_of ones).offset
+    → value ≡ number (drop (length (prefix 5 0 b1 (read prev_of b (start_of registers contexts))).reading.bits) (read_more prev_of count b2 (prefix 5 0 b1 (read prev_of b (start_of registers contexts))).reading).bits)
+    → value_of negative ((value + offset) % 2 ^ 32) ≡ (integer b registers contexts).value
+unfolding integer start_of
+integer-value b b1 b2 registers contexts negative count ones value offset e1 e2 n o k l v =
+    let r = read prev_of b (start_of registers contexts) in
+    let p : ones ≡ (prefix 5 0 b r).ones = o ∙ ap (λ v. (prefix 5 0 v r).ones) e1 in
+    let f : count ≡ (range_of (prefix 5 0 b r).ones).bits = k ∙ ap (λ n. (range_of n).bits) p in
+    let g : offset ≡ (range_of (prefix 5 0 b r).ones).offset = l ∙ ap (λ n. (range_of n).offset) p in
+    let h = v ∙ (λ i. number (drop (length (prefix 5 0 (e1 i) r).reading.bits) (read_more prev_of (f i) (e2 i) (prefix 5 0 (e1 i) r).reading).bits)) in
+    λ i. value_of (n i) ((h i + g i) % 2 ^ 32)
+
+-- Symbol ids
+
+pub place_of-is : (bits : List Bool) → place_of bits ≡ 2 ^ length bits + number bits
+unfolding number
+place_of-is bits = omega arith
+
+pub Stands-id : (n : ℕ) (ids : Ids) (coder : Coder) (steps : Counts) (prev : ℕ) (coder' : Coder) (contexts' : List Context) (steps' : Counts) → n ≡ ids.code_len
+    → Stands place_of steps (read_more place_of n coder.bytes (start_of coder.registers ids.contexts)) prev coder' contexts' steps'
+    → Stands place_of steps (id coder.bytes coder.registers ids) prev coder' contexts' steps'
+unfolding id start_of
+Stands-id n ids coder steps prev coder' contexts' steps' e s =
+    subst (λ m. Stands place_of steps (read_more place_of m coder.bytes (start_of coder.registers ids.contexts)) prev coder' contexts' steps') e s
+
+pub id-length : (bytes : List ℕ) (registers : Registers) (ids : Ids) → length (id bytes registers ids).bits ≡ ids.code_len
+unfolding id
+id-length bytes registers ids = omega (arith, length-read_more place_of ids.code_len bytes (record { bits = []; registers = registers; contexts = ids.contexts }))
+
+-- the code's 1 << code_len
+pub one-shifted : (n : ℕ) → n ≤ 30 → 1 * 2 ^ n % 2 ^ 32 ≡ 2 ^ n
+one-shifted n h =
+    let p : 2 ^ n ≤ 2 ^ 30 = pow-le-pow_right (omega arith) h in
+    omega (arith, p)
+
+pub id-place : (bytes : List ℕ) (registers : Registers) (ids : Ids) → place_of (id bytes registers ids).bits ≡ 2 ^ ids.code_len + number (id bytes registers ids).bits
+id-place bytes registers ids =
+    place_of-is (id bytes registers ids).bits ∙ ap (λ n. 2 ^ n + number (id bytes registers ids).bits) (id-length bytes registers ids)
+
+pub id-below : (bytes : List ℕ) (registers : Registers) (ids : Ids) → number (id bytes registers ids).bits < 2 ^ ids.code_len
+id-below bytes registers ids =
+    let P : ℕ → Type 0 = λ n. number (id bytes registers ids).bits < 2 ^ n in
+    subst P (id-length bytes registers ids) (number-below (id bytes registers ids).bits)

@@ -57,12 +57,7 @@ impl<A: Allocator> IntegerDecoder<A> {
         ensures contexts { self.new ≡ (integer decoder.old.bytes decoder.old.registers self.old).reading.contexts }
         ensures steps { steps.new ≡ record steps.old { decisions = steps.old.decisions + length (integer decoder.old.bytes decoder.old.registers self.old).reading.bits } }
     {
-        let contexts = self.contexts.as_mut_slice();
-        let mut prev = 1;
-        let negative = read_bit(contexts, &mut prev, decoder, steps) == 1;
-        let (bits, offset) = range(read_prefix(contexts, &mut prev, decoder, steps));
-        let value = read_bits(bits, contexts, &mut prev, decoder, steps);
-        signed_value(negative, value.wrapping_add(offset))
+        read_integer(&mut self.contexts, decoder, steps)
     }
 }
 
@@ -174,4 +169,24 @@ fn read_bits<L: Ledger>(
         value = 2 * value + read_bit(contexts, prev, decoder, steps);
     }
     value
+}
+
+// An integer: its sign, its prefix and its value.
+fn read_integer<L: Ledger>(
+    contexts: &mut [ArithmeticDecoderContext],
+    decoder: &mut ArithmeticDecoder<'_>,
+    steps: &mut Steps<L>,
+) -> Option<i32>
+    requires { length contexts.old ≡ 512 }
+    ensures value { result ≡ (integer decoder.old.bytes decoder.old.registers contexts.old).value }
+    ensures coder { decoder.new ≡ record decoder.old { registers = (integer decoder.old.bytes decoder.old.registers contexts.old).reading.registers } }
+    ensures contexts { contexts.new ≡ (integer decoder.old.bytes decoder.old.registers contexts.old).reading.contexts }
+    ensures steps { steps.new ≡ record steps.old { decisions = steps.old.decisions + length (integer decoder.old.bytes decoder.old.registers contexts.old).reading.bits } }
+{
+    let mut prev = 1;
+    let negative = read_bit(contexts, &mut prev, decoder, steps) == 1;
+    let ones = read_prefix(contexts, &mut prev, decoder, steps);
+    let (bits, offset) = range(ones);
+    let value = read_bits(bits, contexts, &mut prev, decoder, steps);
+    signed_value(negative, value.wrapping_add(offset))
 }
