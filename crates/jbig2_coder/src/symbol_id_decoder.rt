@@ -81,3 +81,6 @@ fn read_id<L: Ledger>(
     }
     prev - (1 << code_len)
 }
+
+#[cfg(test)]
+mod tests;

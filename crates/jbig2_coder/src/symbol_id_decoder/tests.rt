@@ -1,0 +1,36 @@
+//! Values worked out by Annex A's text.
+
+ghost use Rattle.std.specs.Prelude.{◌≡◌};
+
+use crate::arithmetic_decoder::ArithmeticDecoder;
+use crate::symbol_id_decoder::SymbolIdDecoder;
+use jbig2_base::bitmap::steps::Steps;
+use jbig2_base::error::Result as Answer;
+use std::alloc::Allocator;
+use std::marker::Brand;
+use std::sync::ledger::{Blank, Ledger};
+use std::test::Fail;
+
+fn first_ids<L: Ledger, A: Allocator>(alloc: A, blank: Blank, coded: &[u8]) -> Answer<[u32; 5]>
+    requires name { blank.name ≡ L.name }
+    requires parts { blank.parts ≡ L.parts }
+    requires enough { blank.parts ≡ 6 }
+{
+    let mut steps = Steps::<L>::new(blank);
+    let mut decoder = ArithmeticDecoder::new(coded);
+    let mut ids = SymbolIdDecoder::new(alloc, 5)?;
+    let mut first = [0; 5];
+    for id in first.iter_mut() {
+        *id = ids.decode(&mut decoder, &mut steps);
+    }
+    Ok(first)
+}
+
+// The coded bytes of T.88, H.2, read as ids of five bits.
+#[test]
+fn ids(rt: HostRuntime) -> Result<(), Fail> {
+    let coded = [0x84, 0xC7, 0x3B, 0xFC, 0xE1, 0xA1, 0x43, 0x04, 0x02, 0x20];
+    let first = first_ids::<Brand, _>(rt.alloc(), Blank::new(6), &coded)?;
+    assert_eq!(rt; first, [3, 12, 18, 3, 23]);
+    Ok(())
+}
