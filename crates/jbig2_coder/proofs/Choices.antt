@@ -4,7 +4,7 @@ use Rattle.std.proofs.lemmas.Bool.{cases_lt}
 use Rattle.std.proofs.lemmas.Bool.Decides.{nat_tests}
 use Rattle.std.proofs.lemmas.List.{get_or_past}
 use Rattle.jbig2_coder.specs.Table.{row_of}
-use Rattle.jbig2_coder.specs.Coder.{Context, Choice, byte_at, choice, likely_next, unlikely_next}
+use Rattle.jbig2_coder.specs.Coder.{Context, Choice, byte_at, byte_in, choice, likely_next, unlikely_next}
 
 pub byte_at-inside : (bytes : List ℕ) (place : ℕ) → byte_at bytes place ≢ 0xFF → place < length bytes
 unfolding byte_at
@@ -41,3 +41,19 @@ pub lower-c : (c rest : ℕ) → rest < 0x10000 → (c + (2 ^ 32 - rest * 2 ^ 16
 lower-c c rest h =
     let e : rest * 2 ^ 16 ≡ rest * 2 ^ 16 % 2 ^ 32 = omega arith in
     ap (λ v. (c + (2 ^ 32 - v)) % 2 ^ 32) e
+
+-- the paths of BYTEIN
+pub byte_in-marker : (bytes : List ℕ) (c place : ℕ) → byte_at bytes place ≡ 0xFF → 0x8F < byte_at bytes (place + 1)
+    → byte_in bytes c place ≡ record { c = c; ct = 8; place = place }
+unfolding byte_in
+byte_in-marker bytes c place e h = grind (arith, nat_tests)
+
+pub byte_in-stuffed : (bytes : List ℕ) (c place : ℕ) → byte_at bytes place ≡ 0xFF → byte_at bytes (place + 1) ≤ 0x8F
+    → byte_in bytes c place ≡ record { c = (c + (2 ^ 32 + 0xFE00 - byte_at bytes (place + 1) * 2 ^ 9)) % 2 ^ 32; ct = 7; place = place + 1 }
+unfolding byte_in
+byte_in-stuffed bytes c place e h = grind (arith, nat_tests)
+
+pub byte_in-plain : (bytes : List ℕ) (c place : ℕ) → byte_at bytes place ≢ 0xFF
+    → byte_in bytes c place ≡ record { c = (c + (0xFF00 - byte_at bytes (place + 1) * 2 ^ 8)) % 2 ^ 32; ct = 8; place = place + 1 }
+unfolding byte_in
+byte_in-plain bytes c place e = grind (arith, nat_tests)

@@ -28,7 +28,7 @@ pub record IsAtRest (bytes : List ℕ) (registers : Registers) : Type 0 where
 unfoldable pub byte_at : List ℕ → ℕ → ℕ
 byte_at bytes place = slice_index_or bytes place 0xFF
 
--- BYTEIN (G.3), from C and the place: after a byte FF comes a stuffed byte of seven bits, or a
+-- BYTEIN (Figure G.3), from C and the place: after a byte FF comes a stuffed byte of seven bits, or a
 -- marker, at which the decoder stays
 unfoldable pub byte_in : List ℕ → ℕ → ℕ → CodeRegister
 byte_in bytes c place =
@@ -47,7 +47,7 @@ filled bytes r = if r.ct == 0 then byte_in bytes r.c r.place else r
 unfoldable pub doubled : CodeRegister → CodeRegister
 doubled r = record { c = 2 * r.c % 2 ^ 32; ct = r.ct - 1; place = r.place }
 
--- RENORMD (G.3): A and C move on bit by bit until A is at least 8000. Fifteen times are enough for any A
+-- RENORMD (E.3.3): A and C move on bit by bit until A is at least 8000. Fifteen times are enough for any A
 -- but 0.
 unfoldable pub renormed : List ℕ → ℕ → ℕ → CodeRegister → Registers
 renormed bytes zero a r = record { a = a; code = r }
@@ -55,7 +55,7 @@ renormed bytes (suc n) a r =
     let more = renormed bytes n (2 * a) (doubled (filled bytes r)) in
     if nat_lt a 0x8000 then more else record { a = a; code = r }
 
--- INITDEC (G.1)
+-- INITDEC (Figure G.1)
 unfoldable pub started : List ℕ → Registers
 started bytes =
     let r = byte_in bytes ((0xFF - byte_at bytes 0) * 2 ^ 16) 0 in
@@ -80,7 +80,7 @@ pub record Choice : Type 0 where
   pub renorm : Bool
 
 -- the upper part of the interval belongs to the likely symbol, unless it has become the smaller one
--- (DECODE, G.2)
+-- (DECODE, Figure G.2)
 unfoldable pub choice : Context → ℕ → ℕ → Choice
 choice context a c =
     let qe = (row_of context.row).qe in

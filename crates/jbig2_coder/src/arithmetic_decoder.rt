@@ -86,7 +86,7 @@ impl ArithmeticDecoderContext {
     }
 
     /// The symbol of a decision that isn't quiet, which gets its part of the interval (MPS_EXCHANGE
-    /// and LPS_EXCHANGE, G.2).
+    /// and LPS_EXCHANGE, E.3.2).
     #[inline(always)]
     fn exchange(&mut self, registers: &mut Registers) -> bool
         requires normal { 0x8000 ≤ registers.old.a }
@@ -136,7 +136,7 @@ impl<'a> Model for ArithmeticDecoder<'a> {
 
 impl<'a> ArithmeticDecoder<'a> {
     #[tactic(auto, unfolding(crate::specs::Coder::started))]
-    /// A decoder at the start of `bytes` (INITDEC, G.1).
+    /// A decoder at the start of `bytes` (INITDEC, Figure G.1).
     pub fn new(bytes: &'a [u8]) -> Self
         ensures bytes { result.bytes ≡ bytes.now }
         ensures registers { result.registers ≡ started bytes.now }
@@ -156,7 +156,7 @@ impl<'a> ArithmeticDecoder<'a> {
         }
     }
 
-    /// The next decision in `context`, 0 or 1 (DECODE, G.2), which `context` then knows of.
+    /// The next decision in `context`, 0 or 1 (DECODE, Figure G.2), which `context` then knows of.
     #[inline(always)]
     pub fn decode<L: Ledger>(
         &mut self,

@@ -76,7 +76,7 @@ static QE_TABLE: [QeData; 47] = [
 
 /// Row `index` of the table.
 #[inline(always)]
-pub fn row_at(index: u8) -> QeData
+pub(crate) fn row_at(index: u8) -> QeData
     requires { index < 47 }
     ensures value { result ≡ row_of index }
     ensures some { 1 ≤ result.qe }

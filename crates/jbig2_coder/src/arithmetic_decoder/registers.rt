@@ -22,16 +22,16 @@ pub struct Registers {
 /// The byte at `place`, FF past the end.
 #[tactic(auto, unfolding(crate::specs::Coder::byte_at))]
 #[inline(always)]
-pub fn byte_at(bytes: &[u8], place: usize) -> u8
+pub(crate) fn byte_at(bytes: &[u8], place: usize) -> u8
     ensures { result ≡ byte_at bytes.now place }
 {
     bytes.get(place).copied().unwrap_or(0xFF)
 }
 
-/// The code register once the byte behind `place` is read into `c` (BYTEIN, G.3).
+/// The code register once the byte behind `place` is read into `c` (BYTEIN, Figure G.3).
 #[tactic(auto, unfolding(crate::specs::Coder::byte_in))]
 #[inline(always)]
-pub fn byte_in(bytes: &[u8], c: u32, place: usize) -> CodeRegister
+pub(crate) fn byte_in(bytes: &[u8], c: u32, place: usize) -> CodeRegister
     requires { place ≤ length bytes.now }
     ensures value { result ≡ byte_in bytes.now c place }
     ensures within { result.place ≤ length bytes.now }
@@ -88,10 +88,10 @@ fn batch(a: u32, bits: u32) -> u32
     (a.leading_zeros() - 16).min(bits)
 }
 
-/// The registers once A has its top bit again (RENORMD, G.3). The bits that the code register still
+/// The registers once A has its top bit again (RENORMD, E.3.3). The bits that the code register still
 /// has are shifted in together.
 #[inline(always)]
-pub fn renormalize(bytes: &[u8], registers: Registers) -> Registers
+pub(crate) fn renormalize(bytes: &[u8], registers: Registers) -> Registers
     requires some { 1 ≤ registers.a }
     requires below { registers.a < 0x10000 }
     requires few { registers.code.ct ≤ 8 }
