@@ -1,6 +1,9 @@
 pub mod Choices
 pub mod Decisions
+pub mod Encoders
+pub mod ListSteps
 pub mod Renorm
 pub mod Rows
 pub mod Runs
 pub mod Readings
+pub mod WorkedLists

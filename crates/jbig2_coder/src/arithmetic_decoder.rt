@@ -20,8 +20,8 @@ pub mod registers;
 /// that is the more likely one there.
 #[derive(Clone, Copy)]
 pub struct ArithmeticDecoderContext {
-    row: u8,
-    likely: bool,
+    pub(crate) row: u8,
+    pub(crate) likely: bool,
 }
 
 impl Model for ArithmeticDecoderContext {
@@ -61,7 +61,7 @@ impl ArithmeticDecoderContext {
 impl ArithmeticDecoderContext {
     #[inline(always)]
     #[tactic(auto, unfolding(crate::specs::Coder::likely_next))]
-    fn after_likely(&mut self, row: QeData) -> bool
+    pub(crate) fn after_likely(&mut self, row: QeData) -> bool
         requires row { row ≡ row_of self.old.row }
         requires next { row.nmps < 47 }
         ensures context { self.new ≡ likely_next self.old }
@@ -73,7 +73,7 @@ impl ArithmeticDecoderContext {
 
     #[inline(always)]
     #[tactic(auto, unfolding(crate::specs::Coder::unlikely_next))]
-    fn after_unlikely(&mut self, row: QeData) -> bool
+    pub(crate) fn after_unlikely(&mut self, row: QeData) -> bool
         requires row { row ≡ row_of self.old.row }
         requires next { row.nlps < 47 }
         ensures context { self.new ≡ unlikely_next self.old }

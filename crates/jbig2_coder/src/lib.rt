@@ -5,3 +5,4 @@
 pub mod arithmetic_decoder;
 pub mod integer_decoder;
 pub mod symbol_id_decoder;
+pub mod mq;
