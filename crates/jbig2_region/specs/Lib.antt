@@ -1,0 +1,3 @@
+pub mod GenericHeader
+pub mod RegionInfo
+pub mod Templates

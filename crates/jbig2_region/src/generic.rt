@@ -1,0 +1,173 @@
+//! Generic regions (T.88, 6.2 and 7.4.6).
+ghost use Rattle.std.specs.Prelude.{◌≡◌, ◌≤◌, length, IfOk};
+ghost use Rattle.jbig2_base.specs.Answer.{Answers};
+ghost use Rattle.jbig2_base.specs.Bits.{IsAligned};
+ghost use Rattle.jbig2_region.specs.GenericHeader.{header_view, is_earlier, one_pixel, signed_byte_at, adaptive_pixel_at, adaptive_pixels_at, template_pixels_at, rows_at, generic_header_at, FitsTemplate, IsParsed};
+
+use crate::region_info::{RegionSegmentInfo, parse_region_segment_info};
+use crate::template::{AdaptiveTemplatePixel, GenericTemplatePixels, Template};
+use jbig2_base::error::{DecodeError, OverflowError, RegionError, Result, TemplateError};
+use jbig2_base::field::{byte_field, u32_field};
+use jbig2_base::reader::Reader;
+
+/// What a generic region's coded bytes are decoded by (T.88, 7.4.6).
+#[derive(Clone, Copy, Debug)]
+pub struct GenericRegionHeader<'a> {
+    pub region_info: RegionSegmentInfo,
+    /// Whether the bytes are coded with MMR, in place of the arithmetic coder.
+    pub mmr: bool,
+    pub template: Template,
+    /// Whether typical prediction is on.
+    pub tpgdon: bool,
+    pub adaptive_template_pixels: GenericTemplatePixels,
+    /// The coded bytes.
+    pub bytes: &'a [u8],
+    /// Whether faulty MMR data is refused.
+    pub strict: bool,
+}
+
+fn is_earlier(x: i16, y: i16) -> bool
+    ensures { result ≡ is_earlier x y }
+{
+    y < 0 || (y <= 0 && x < 0)
+}
+
+fn signed_field(reader: &mut Reader<'_>) -> Result<i16>
+    requires { IsAligned reader.old }
+    ensures value { Answers (λ x. (x, reader.new.bytes)) result (signed_byte_at reader.old.bytes) }
+    ensures aligned { IsAligned reader.new }
+{
+    let byte = byte_field(reader)?;
+    Ok(i16::from(byte.cast_signed()))
+}
+
+#[tactic(auto, unfolding(crate::specs::GenericHeader::adaptive_pixel_at))]
+fn parse_adaptive_template_pixel(reader: &mut Reader<'_>) -> Result<AdaptiveTemplatePixel>
+    requires { IsAligned reader.old }
+    ensures value { Answers (λ pixel. (pixel, reader.new.bytes)) result (adaptive_pixel_at reader.old.bytes) }
+    ensures aligned { IsAligned reader.new }
+{
+    let x = signed_field(reader)?;
+    let y = signed_field(reader)?;
+    if !is_earlier(x, y) {
+        return Err(DecodeError::Template(TemplateError::InvalidAtPixel));
+    }
+    Ok(AdaptiveTemplatePixel { x, y })
+}
+
+fn parse_four(reader: &mut Reader<'_>) -> Result<[AdaptiveTemplatePixel; 4]>
+    requires { IsAligned reader.old }
+    ensures value { Answers (λ pixels. (pixels, reader.new.bytes)) result (adaptive_pixels_at 4 reader.old.bytes) }
+    ensures aligned { IsAligned reader.new }
+{
+    let first = parse_adaptive_template_pixel(reader)?;
+    let second = parse_adaptive_template_pixel(reader)?;
+    let third = parse_adaptive_template_pixel(reader)?;
+    let fourth = parse_adaptive_template_pixel(reader)?;
+    Ok([first, second, third, fourth])
+}
+
+fn parse_twelve(reader: &mut Reader<'_>) -> Result<[AdaptiveTemplatePixel; 12]>
+    requires { IsAligned reader.old }
+    ensures value { Answers (λ pixels. (pixels, reader.new.bytes)) result (adaptive_pixels_at 12 reader.old.bytes) }
+    ensures aligned { IsAligned reader.new }
+{
+    let [a1, a2, a3, a4] = parse_four(reader)?;
+    let [a5, a6, a7, a8] = parse_four(reader)?;
+    let [a9, a10, a11, a12] = parse_four(reader)?;
+    Ok([a1, a2, a3, a4, a5, a6, a7, a8, a9, a10, a11, a12])
+}
+
+fn one_pixel(first: AdaptiveTemplatePixel) -> GenericTemplatePixels
+    ensures { result ≡ one_pixel first }
+{
+    let unused = AdaptiveTemplatePixel { x: 0, y: 0 };
+    GenericTemplatePixels::Regular([first, unused, unused, unused])
+}
+
+#[tactic(auto, unfolding(crate::specs::GenericHeader::template_pixels_at))]
+fn parse_template_pixels(
+    reader: &mut Reader<'_>,
+    mmr: bool,
+    extended: bool,
+    template: Template,
+) -> Result<GenericTemplatePixels>
+    requires { IsAligned reader.old }
+    ensures value { Answers (λ pixels. (pixels, reader.new.bytes)) result (template_pixels_at mmr extended template reader.old.bytes) }
+    ensures aligned { IsAligned reader.new }
+    ensures fits { IfOk result (λ pixels. FitsTemplate pixels template) }
+{
+    if mmr {
+        return Ok(one_pixel(AdaptiveTemplatePixel { x: 0, y: 0 }));
+    }
+    match template {
+        Template::Template0 => {
+            if extended {
+                return Ok(GenericTemplatePixels::Extended(parse_twelve(reader)?));
+            }
+            Ok(GenericTemplatePixels::Regular(parse_four(reader)?))
+        }
+        _ => Ok(one_pixel(parse_adaptive_template_pixel(reader)?)),
+    }
+}
+
+/// The number of rows, which may replace `height`, and the coded bytes.
+#[tactic(auto, unfolding(crate::specs::GenericHeader::rows_at))]
+fn rows<'a>(unknown_length: bool, height: u32, bytes: &'a [u8]) -> Result<(u32, &'a [u8])>
+    ensures { Answers (λ rows. (rows.0, rows.1.now)) result (rows_at unknown_length height bytes.now) }
+{
+    if !unknown_length {
+        return Ok((height, bytes));
+    }
+    let end = bytes.len().saturating_sub(4);
+    let rows = u32_field(&mut Reader::new(&bytes[end..]))?;
+    if rows > height {
+        return Err(DecodeError::Region(RegionError::InvalidDimension));
+    }
+    Ok((rows, &bytes[..end]))
+}
+
+/// The header of a generic region at the reader's place, which holds the coded bytes behind it
+/// (T.88, 7.4.6). With `unknown_length` the last four bytes are the number of rows.
+///
+/// `ParseError::UnexpectedEof` where the bytes do not hold it; the errors of
+/// `parse_region_segment_info`; `TemplateError::InvalidAtPixel` where an adaptive pixel does not
+/// come before the pixel that is decoded; `RegionError::InvalidDimension` where there are more rows
+/// than the stated height; `OverflowError::BitmapDimension` above 65535 pixels either way. Takes no
+/// memory.
+#[tactic(auto, unfolding(crate::specs::GenericHeader::generic_header_at))]
+pub fn parse<'a>(
+    reader: &mut Reader<'a>,
+    unknown_length: bool,
+    strict: bool,
+) -> Result<GenericRegionHeader<'a>>
+    requires { IsAligned reader.old }
+    ensures value { Answers (λ h. (header_view h, reader.new.bytes)) result (generic_header_at unknown_length strict reader.old.bytes) }
+    ensures aligned { IsAligned reader.new }
+    ensures parsed { IfOk result (λ h. IsParsed (header_view h)) }
+{
+    let mut region_info = parse_region_segment_info(reader)?;
+    let flags = byte_field(reader)?;
+    let mmr = flags % 2 == 1;
+    let template = Template::from_number(flags / 2 % 4);
+    let adaptive_template_pixels = parse_template_pixels(
+        reader,
+        mmr,
+        flags / 16 % 2 == 1,
+        template,
+    )?;
+    let (height, bytes) = rows(unknown_length, region_info.height, reader.tail())?;
+    if region_info.width > 65535 || height > 65535 {
+        return Err(DecodeError::Overflow(OverflowError::BitmapDimension));
+    }
+    region_info.height = height;
+    Ok(GenericRegionHeader {
+        region_info,
+        mmr,
+        template,
+        tpgdon: flags / 8 % 2 == 1,
+        adaptive_template_pixels,
+        bytes,
+        strict,
+    })
+}

@@ -1,0 +1,6 @@
+//! Regions of JBIG2 (ITU-T T.88, 6.2, 6.3, 7.4.1, 7.4.6 and 7.4.7).
+#![tactic(auto)]
+
+pub mod generic;
+pub mod region_info;
+pub mod template;

@@ -1,0 +1,52 @@
+//! What every region segment begins with (T.88, 7.4.1).
+ghost use Rattle.jbig2_base.specs.Answer.{Answers};
+ghost use Rattle.jbig2_base.specs.Bits.{IsAligned};
+ghost use Rattle.jbig2_region.specs.RegionInfo.{region_info_at};
+
+use jbig2_base::bitmap::operator::CombinationOperator;
+use jbig2_base::error::{DecodeError, Result};
+use jbig2_base::field::{byte_field, u32_field};
+use jbig2_base::reader::Reader;
+
+/// A region's size, its place on the page and how it is combined with the page.
+#[derive(Clone, Copy, Debug)]
+pub struct RegionSegmentInfo {
+    /// In pixels.
+    pub width: u32,
+    /// In pixels.
+    pub height: u32,
+    /// The page's column at which the region's first column lies.
+    pub x_location: u32,
+    /// The page's row at which the region's first row lies.
+    pub y_location: u32,
+    pub combination_operator: CombinationOperator,
+}
+
+/// The region segment information field at the reader's place (T.88, 7.4.1).
+///
+/// `ParseError::UnexpectedEof` where the bytes do not hold it,
+/// `RegionError::InvalidCombinationOperator` where the flags name no operator, `Unsupported` where
+/// they ask for colours. Takes no memory.
+#[tactic(auto, unfolding(crate::specs::RegionInfo::region_info_at))]
+pub fn parse_region_segment_info(reader: &mut Reader<'_>) -> Result<RegionSegmentInfo>
+    requires { IsAligned reader.old }
+    ensures value { Answers (λ info. (info, reader.new.bytes)) result (region_info_at reader.old.bytes) }
+    ensures aligned { IsAligned reader.new }
+{
+    let width = u32_field(reader)?;
+    let height = u32_field(reader)?;
+    let x_location = u32_field(reader)?;
+    let y_location = u32_field(reader)?;
+    let flags = byte_field(reader)?;
+    let combination_operator = CombinationOperator::from_value(flags)?;
+    if flags / 8 % 2 == 1 {
+        return Err(DecodeError::Unsupported);
+    }
+    Ok(RegionSegmentInfo {
+        width,
+        height,
+        x_location,
+        y_location,
+        combination_operator,
+    })
+}
