@@ -2,5 +2,6 @@
 #![tactic(auto)]
 
 pub mod generic;
+pub mod raster;
 pub mod region_info;
 pub mod template;

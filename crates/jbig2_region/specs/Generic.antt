@@ -1,0 +1,42 @@
+-- Generic regions (T.88, 6.2.5) coded with the arithmetic coder.
+use Rattle.std.specs.Prelude.{ℕ, ◌+◌, ◌*◌, Bool, true, false, if◌then◌else◌, List, [], ◌∷◌, map, Option, Some, None, ℤ, pos, negsuc, ◌+ℤ◌, Result, Ok, Err}
+use Rattle.jbig2_base.specs.Grid.{Grid, pixel, bit_number}
+use Rattle.jbig2_base.specs.declared.error.DecodeError.{DecodeError}
+use Rattle.jbig2_base.specs.declared.error.DecodeError.TheVariants.{Unsupported}
+use Rattle.jbig2_coder.specs.Coder.{started}
+use Rattle.jbig2_region.specs.GenericHeader.{GenericHeader}
+use Rattle.jbig2_region.specs.Raster.{Coding, Region, so_far, decoded, no_pixels, fresh_contexts}
+use Rattle.jbig2_region.specs.Templates.{context_bits, row_context, template_pixels}
+use Rattle.jbig2_region.specs.declared.template.AdaptiveTemplatePixel.{AdaptiveTemplatePixel}
+
+-- the number that bits spell, bit 0 first
+abbrev pub number_of : List Bool → ℕ
+number_of [] = 0
+number_of (b ∷ bits) = bit_number b + 2 * number_of bits
+
+-- the bits of the pixels of a template, seen from column x of row y
+unfoldable pub context_at : List AdaptiveTemplatePixel → Grid → ℕ → ℕ → ℕ
+context_at template g x y = number_of (map (λ (p : AdaptiveTemplatePixel). pixel g (pos x +ℤ p.x) (pos y +ℤ p.y)) template)
+
+-- a predicted row equals the row above it, and row 0 is then white (6.2.5.7)
+abbrev pub pixel_above : Grid → ℕ → ℕ → Option Bool
+pixel_above g x y = Some (pixel g (pos x) (pos y +ℤ negsuc 0))
+
+abbrev pub generic_coding : GenericHeader → Coding
+generic_coding h = record {
+  context = context_at (template_pixels h.template h.adaptive_template_pixels);
+  prediction = pixel_above;
+  row_context = (if h.tpgdon then Some (row_context h.template) else None);
+}
+
+-- the region and what the coder has come to, from fresh contexts
+unfoldable pub generic_region : GenericHeader → Region
+generic_region h =
+    decoded (generic_coding h) h.region_info.width h.region_info.height h.bytes (no_pixels (started h.bytes) (fresh_contexts (context_bits h.template)))
+
+unfoldable pub generic_grid : GenericHeader → Grid
+generic_grid h = so_far h.region_info.width h.region_info.height (generic_region h).pixels
+
+-- the grid; MMR is not decoded
+unfoldable pub generic_answer : GenericHeader → Result Grid DecodeError
+generic_answer h = if h.mmr then Err Unsupported else Ok (generic_grid h)

@@ -1,0 +1,74 @@
+-- Regions that are decoded pixel by pixel, row by row from the top and each row from the left (T.88, 6.2.5 and 6.3.5).
+use Rattle.std.specs.Prelude.{ℕ, suc, zero, ◌+◌, ◌*◌, ◌/◌, ◌%◌, ◌^◌, ◌==◌, ◌||◌, Bool, true, false, not, if◌then◌else◌, List, [], ◌∷◌, ◌++◌, length, replicate, map, slice_index_or, slice_set, Option, Some, None, ℤ, pos, ◌+ℤ◌}
+use Rattle.jbig2_base.specs.Grid.{Grid, grid_of, pixel, bit_number}
+use Rattle.jbig2_coder.specs.Coder.{Context, fresh, started, decision}
+use Rattle.jbig2_coder.specs.declared.arithmetic_decoder.registers.Registers.{Registers}
+
+-- The grid of the pixels decoded so far; a pixel that is not decoded yet is white.
+unfoldable pub so_far : ℕ → ℕ → List Bool → Grid
+so_far w h bits = grid_of w h (λ x y. slice_index_or bits (y * w + x) false)
+
+-- A region in the making: the pixels decoded so far, whether their last row is predicted (LTP), and the coder's
+-- registers and contexts.
+pub record Region : Type 0 where
+  pub pixels : List Bool
+  pub predicted : Bool
+  pub registers : Registers
+  pub contexts : List Context
+
+-- How a region is coded, by the grid so far and a place in it: the number of the context of the pixel there, and the
+-- colour that the pixel takes without a decision if its row is predicted. With typical prediction, the
+-- number of the context of the decision that begins a row.
+pub record Coding : Type 0 where
+  pub context : Grid → ℕ → ℕ → ℕ
+  pub prediction : Grid → ℕ → ℕ → Option Bool
+  pub row_context : Option ℕ
+
+-- the colour that the next pixel takes without a decision, if any
+abbrev pub known : Coding → Bool → Grid → ℕ → ℕ → Option Bool
+known coding predicted g x y = if predicted then coding.prediction g x y else None
+
+-- one pixel more: of a known colour, or else decided in context k
+unfoldable pub with_next : List ℕ → Region → ℕ → Option Bool → Region
+with_next bytes r k (Some colour) = record r { pixels = r.pixels ++ colour ∷ [] }
+with_next bytes r k None =
+    let d = decision bytes r.registers (slice_index_or r.contexts k fresh) in
+    record r { pixels = r.pixels ++ d.symbol ∷ []; registers = d.registers; contexts = slice_set r.contexts k d.context }
+
+-- one pixel more, in a region of w columns and h rows
+unfoldable pub after_pixel : Coding → ℕ → ℕ → List ℕ → Region → Region
+after_pixel coding w h bytes r =
+    let n = length r.pixels in
+    let g = so_far w h r.pixels in
+    with_next bytes r (coding.context g (n % w) (n / w)) (known coding r.predicted g (n % w) (n / w))
+
+unfoldable pub after_pixels : Coding → ℕ → ℕ → List ℕ → ℕ → Region → Region
+after_pixels coding w h bytes zero r = r
+after_pixels coding w h bytes (suc n) r = after_pixel coding w h bytes (after_pixels coding w h bytes n r)
+
+-- With typical prediction a row begins with a decision; 1 turns it round whether rows are predicted (6.2.5.7).
+unfoldable pub row_begun : Option ℕ → List ℕ → Region → Region
+row_begun None bytes r = r
+row_begun (Some k) bytes r =
+    let d = decision bytes r.registers (slice_index_or r.contexts k fresh) in
+    record r {
+      predicted = (if d.symbol then not r.predicted else r.predicted);
+      registers = d.registers;
+      contexts = slice_set r.contexts k d.context;
+    }
+
+unfoldable pub after_rows : Coding → ℕ → ℕ → List ℕ → ℕ → Region → Region
+after_rows coding w h bytes zero r = r
+after_rows coding w h bytes (suc n) r = after_pixels coding w h bytes w (row_begun coding.row_context bytes (after_rows coding w h bytes n r))
+
+-- no pixel yet, and a coder and contexts
+abbrev pub no_pixels : Registers → List Context → Region
+no_pixels registers contexts = record { pixels = []; predicted = false; registers = registers; contexts = contexts }
+
+-- the whole region; one without columns takes no decision (our own rule)
+unfoldable pub decoded : Coding → ℕ → ℕ → List ℕ → Region → Region
+decoded coding w h bytes r = if w == 0 then r else after_rows coding w h bytes h r
+
+-- so many contexts of which nothing is known
+abbrev pub fresh_contexts : ℕ → List Context
+fresh_contexts bits = replicate (2 ^ bits) fresh

@@ -1,0 +1,120 @@
+//! Regions that are decoded pixel by pixel (T.88, 6.2.5 and 6.3.5): what generic regions and
+//! refinements have in common.
+ghost use Rattle.std.specs.Prelude.{◌≡◌, ℕ, ◌+◌, ◌*◌, ◌^◌, ◌<◌, ◌≤◌, [], length, IfSome};
+ghost use Rattle.jbig2_base.specs.Grid.{pixel, bit_number};
+ghost use Rattle.jbig2_region.specs.Raster.{Coding, Region, known, so_far, no_pixels, after_pixel, after_pixels, row_begun, decoded};
+ghost use Rattle.jbig2_region.specs.Holds.{Holds};
+
+use jbig2_base::bitmap::Bitmap;
+use jbig2_base::bitmap::steps::Steps;
+use jbig2_coder::arithmetic_decoder::{ArithmeticDecoder, ArithmeticDecoderContext};
+use std::alloc::Allocator;
+use std::sync::ledger::Ledger;
+
+/// How the pixels of a region are coded.
+pub trait PixelCoding {
+    ghost coding: { Self → Coding };
+
+    ghost bits: { Self → ℕ };
+
+    /// The number of the context of the pixel at column `x` of row `y`.
+    fn context<A: Allocator, L: Ledger>(
+        &self,
+        bitmap: &Bitmap<A>,
+        x: u32,
+        y: u32,
+        steps: &mut Steps<L>,
+    ) -> u32
+        requires column { x < 65536 }
+        requires row { y < 65536 }
+        ensures value { result ≡ (coding self.now).context bitmap.now x y }
+        ensures small { result < 2 ^ bits self.now };
+
+    /// In a predicted row, the colour that the pixel at column `x` of row `y` takes without a
+    /// decision (`true` is black).
+    fn prediction<A: Allocator, L: Ledger>(
+        &self,
+        bitmap: &Bitmap<A>,
+        x: u32,
+        y: u32,
+        steps: &mut Steps<L>,
+    ) -> Option<bool>
+        requires column { x < 65536 }
+        requires row { y < 65536 }
+        ensures { result ≡ (coding self.now).prediction bitmap.now x y };
+
+    /// With typical prediction, the number of the context of the decision that begins a row.
+    fn row_context(&self) -> Option<u32>
+        ensures value { result ≡ (coding self.now).row_context }
+        ensures small { IfSome result (λ k. k < 2 ^ bits self.now) };
+}
+
+/// The pixel at a place that may lie outside, 1 for black; 0 outside.
+#[inline(always)]
+pub fn pixel_at<A: Allocator, L: Ledger>(
+    bitmap: &Bitmap<A>,
+    column: i32,
+    row: i32,
+    steps: &mut Steps<L>,
+) -> u8
+    ensures value { result ≡ bit_number (pixel bitmap.now column row) }
+    ensures steps { steps.new ≡ record steps.old { loads = steps.old.loads + 1 } }
+{
+    if column < 0 || row < 0 {
+        steps.load();
+        return 0;
+    }
+    bitmap.get_pixel(column as u32, row as u32, steps)
+}
+
+/// The colour that the pixel at column `x` of row `y` takes without a decision, if any.
+#[inline(always)]
+fn known_colour<C: PixelCoding, A: Allocator, L: Ledger>(
+    coding: &C,
+    bitmap: &Bitmap<A>,
+    x: u32,
+    y: u32,
+    predicted: bool,
+    steps: &mut Steps<L>,
+) -> Option<bool>
+    requires column { x < 65536 }
+    requires row { y < 65536 }
+    ensures { result ≡ known (C.coding coding.now) predicted bitmap.now x y }
+{
+    if predicted {
+        coding.prediction(bitmap, x, y, steps)
+    } else {
+        None
+    }
+}
+
+/// The next pixel of a region, at column `x` of row `y`.
+#[inline(always)]
+fn decode_pixel<C: PixelCoding, A: Allocator, L: Ledger>(
+    coding: &C,
+    bitmap: &mut Bitmap<A>,
+    x: u32,
+    y: u32,
+    predicted: bool,
+    decoder: &mut ArithmeticDecoder<'_>,
+    contexts: &mut [ArithmeticDecoderContext],
+    steps: &mut Steps<L>,
+)
+    requires column { x < bitmap.old.width }
+    requires row { y < bitmap.old.height }
+    requires columns { bitmap.old.width ≤ 65535 }
+    requires rows { bitmap.old.height ≤ 65535 }
+    requires contexts { length contexts.old ≡ 2 ^ C.bits coding.now }
+    ensures holds { (r : Region) → length r.pixels ≡ y * bitmap.old.width + x → r.predicted ≡ predicted → Holds bitmap.old.width bitmap.old.height decoder.old.bytes r bitmap.old decoder.old contexts.old → Holds bitmap.old.width bitmap.old.height decoder.old.bytes (after_pixel (C.coding coding.now) bitmap.old.width bitmap.old.height decoder.old.bytes r) bitmap.new decoder.new contexts.new }
+    ensures width { bitmap.new.width ≡ bitmap.old.width }
+    ensures height { bitmap.new.height ≡ bitmap.old.height }
+    ensures bytes { decoder.new.bytes ≡ decoder.old.bytes }
+{
+    if let Some(colour) = known_colour(coding, bitmap, x, y, predicted, steps) {
+        bitmap.set_pixel(x, y, colour, steps);
+        return;
+    }
+    let context = coding.context(bitmap, x, y, steps);
+    let symbol = decoder.decode(&mut contexts[context as usize], steps);
+    bitmap.set_pixel(x, y, symbol == 1, steps);
+}
