@@ -1,4 +1,4 @@
+pub mod Runs
 pub mod Sending
 pub mod Spelling
-pub mod Runs
 mod WorkedRows

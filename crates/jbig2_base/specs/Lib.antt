@@ -6,13 +6,13 @@ pub mod Counts
 pub mod Fields
 pub mod Grid
 pub mod Operator
+pub mod Packed
 pub mod PageInfo
 pub mod Segment
 pub mod SegmentViews
 pub mod Sequential
-pub mod Sorted
-pub mod Packed
 pub mod Sizes
+pub mod Sorted
 pub mod Table
 pub mod WordBits
 pub mod Writes

@@ -2,8 +2,8 @@ pub mod Choices
 pub mod Decisions
 pub mod Encoders
 pub mod ListSteps
+pub mod Readings
 pub mod Renorm
 pub mod Rows
 pub mod Runs
-pub mod Readings
 pub mod WorkedLists

@@ -1,7 +1,7 @@
 pub mod Coder
-pub mod Integers
-pub mod Stands
 pub mod Encoder
 pub mod EncoderViews
+pub mod Integers
 pub mod Lists
+pub mod Stands
 pub mod Table
