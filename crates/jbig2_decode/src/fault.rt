@@ -1,0 +1,28 @@
+//! Why a run stops.
+use hayro_jbig2::DecodeError;
+use std::alloc::AllocError;
+use thiserror::Error;
+
+/// Why a run stops before its end.
+#[derive(Debug, Drop, PartialEq, Eq, Error)]
+pub enum Fault {
+    #[error("cannot read file")]
+    Unreadable,
+    #[error(transparent)]
+    Decode(DecodeError),
+    /// The output could not be written: nothing more is printed.
+    #[error("cannot write output")]
+    Unwritable,
+}
+
+impl From<DecodeError> for Fault {
+    fn from(error: DecodeError) -> Fault {
+        Fault::Decode(error)
+    }
+}
+
+impl From<AllocError> for Fault {
+    fn from(_refusal: AllocError) -> Fault {
+        Fault::Decode(DecodeError::OutOfMemory)
+    }
+}

@@ -1,0 +1,163 @@
+//! Runs of the program over memory.
+use crate::program::run;
+use crate::request::file_word;
+use std::alloc::Global;
+use std::io;
+use std::io::{Cursor, Read, Write};
+use std::process::Abort;
+use std::test::Fail;
+
+const USAGE: &str = "usage: jbig2-decode [--strict] pages|embedded FILE | calls|pbm FILE INDEX\n";
+
+const WHITE: &str = "push_pixel_chunk false 1\nnext_line\n";
+
+/// The information of a white page of 8 by 1.
+const PAGE: [u8; 30] = [
+    0, 0, 0, 0, 0x30, 0, 1, 0, 0, 0, 0x13, 0, 0, 0, 8, 0, 0, 0, 1, 0, 0, 0, 0, 0, 0, 0, 0, 0, 0, 0,
+];
+
+/// Row 14: a page, and a segment that is cut off.
+const CUT_OFF: [u8; 35] = [
+    0, 0, 0, 0, 0x30, 0, 1, 0, 0, 0, 0x13, 0, 0, 0, 8, 0, 0, 0, 1, 0, 0, 0, 0, 0, 0, 0, 0, 0, 0, 0,
+    0, 0, 0, 1, 0x26,
+];
+
+/// The status of a run, and what it writes.
+fn expect(
+    rt: &(impl Abort + Alloc<A = Global>),
+    words: &[&str],
+    file: Option<&[u8]>,
+    expected: (u8, &str, &str),
+) {
+    let alloc = rt.alloc();
+    let mut out = Vec::new(alloc);
+    let mut err = Vec::new(alloc);
+    let mut reader = file.map(|bytes| Cursor::new(bytes));
+    let status = run(alloc, words, reader.as_mut(), &mut out, &mut err);
+    let (expected_status, expected_out, expected_err) = expected;
+    assert_eq!(rt; status, expected_status, "{words:?}");
+    assert_eq!(rt; out.as_slice(), expected_out.as_bytes(), "{words:?}");
+    assert_eq!(rt; err.as_slice(), expected_err.as_bytes(), "{words:?}");
+}
+
+#[test]
+fn other_words_print_the_usage(rt: HostRuntime) {
+    let page = Some(PAGE.as_slice());
+    expect(&rt, &[], None, (2, "", USAGE));
+    expect(&rt, &["embedded"], page, (2, "", USAGE));
+    expect(&rt, &["--strict", "embedded"], page, (2, "", USAGE));
+    expect(&rt, &["embedded", "--strict", "page"], page, (2, "", USAGE));
+    expect(&rt, &["draw", "page"], page, (2, "", USAGE));
+    expect(&rt, &["embedded", "page", "0"], None, (2, "", USAGE));
+    assert_eq!(rt; file_word(&["--strict", "embedded", "page"]), Some("page"));
+    assert_eq!(rt; file_word(&["embedded", "page"]), Some("page"));
+    assert_eq!(rt; file_word(&["page"]), None);
+}
+
+#[test]
+fn calls_and_faults_are_printed(rt: HostRuntime) {
+    expect(&rt, &["embedded", "page"], Some(&PAGE), (0, WHITE, ""));
+    expect(
+        &rt,
+        &["embedded", "page"],
+        None,
+        (1, "", "error: cannot read file\n"),
+    );
+    let empty = "error: missing page information segment\n";
+    expect(&rt, &["embedded", "page"], Some(&[]), (1, "", empty));
+    expect(&rt, &["embedded", "page"], Some(&CUT_OFF), (0, WHITE, ""));
+    let cut_off = "error: unexpected end of input\n";
+    expect(
+        &rt,
+        &["--strict", "embedded", "page"],
+        Some(&CUT_OFF),
+        (1, "", cut_off),
+    );
+}
+
+/// Gives the bytes one by one, each behind an interruption, and then fails or ends.
+#[derive(Drop)]
+struct Slow<'a> {
+    bytes: &'a [u8],
+    ready: bool,
+    fails: bool,
+}
+
+impl<'a> Read for Slow<'a> {
+    fn read(&mut self, buf: &mut [u8]) -> io::Result<usize> {
+        self.ready = !self.ready;
+        if !self.ready {
+            return Err(io::Error::from(io::ErrorKind::Interrupted));
+        }
+        match self.bytes {
+            [first, others @ ..] => {
+                let Some(place) = buf.first_mut() else {
+                    return Ok(0);
+                };
+                *place = *first;
+                self.bytes = others;
+                Ok(1)
+            }
+            [] if self.fails => Err(io::Error::from(io::ErrorKind::OutOfMemory)),
+            [] => Ok(0),
+        }
+    }
+}
+
+#[test]
+fn a_slow_reader_changes_nothing_and_a_broken_one_is_unreadable(rt: HostRuntime) {
+    for fails in [false, true] {
+        let mut reader = Slow {
+            bytes: &PAGE,
+            ready: true,
+            fails,
+        };
+        let mut out = Vec::new(rt.alloc());
+        let mut err = Vec::new(rt.alloc());
+        let words = ["embedded", "page"];
+        let status = run(rt.alloc(), &words, Some(&mut reader), &mut out, &mut err);
+        let expected = if fails {
+            (1, "", "error: cannot read file\n")
+        } else {
+            (0, WHITE, "")
+        };
+        assert_eq!(rt; status, expected.0);
+        assert_eq!(rt; out.as_slice(), expected.1.as_bytes());
+        assert_eq!(rt; err.as_slice(), expected.2.as_bytes());
+    }
+}
+
+/// Has room for so many bytes.
+#[derive(Drop)]
+struct Full(usize);
+
+impl Write for Full {
+    fn write(&mut self, buf: &[u8]) -> io::Result<usize> {
+        if self.0 == 0 {
+            return Err(io::Error::from(io::ErrorKind::StorageFull));
+        }
+        let count = self.0.min(buf.len());
+        self.0 -= count;
+        Ok(count)
+    }
+
+    fn flush(&mut self) -> io::Result<()> {
+        Ok(())
+    }
+}
+
+#[test]
+fn output_that_cannot_be_written_ends_the_run(rt: HostRuntime) {
+    let mut tall = PAGE;
+    tall[17] = 0xFF;
+    for (bytes, room) in [(PAGE, 0), (PAGE, 33), (tall, 20000)] {
+        let mut out = Full(room);
+        let mut err = Vec::new(rt.alloc());
+        let words = ["embedded", "page"];
+        let mut reader = Cursor::new(bytes);
+        let status = run(rt.alloc(), &words, Some(&mut reader), &mut out, &mut err);
+        assert_eq!(rt; status, 1);
+        assert_eq!(rt; out.0, 0);
+        assert!(rt; err.is_empty());
+    }
+}
