@@ -64,3 +64,6 @@ pub fn decode_list<A: Allocator + Clone, L: Ledger>(
     }
     Ok(decisions)
 }
+
+#[cfg(test)]
+mod tests;

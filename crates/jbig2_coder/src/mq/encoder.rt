@@ -27,9 +27,10 @@ pub struct Registers {
     pub code: CodeRegister,
 }
 
-/// The carry bit of C.
+/// The lowest value of C that carries into the byte before.
 const CARRY: u32 = 0x800_0000;
 
+/// Writes the top eight bits of `c`, below the carry.
 #[tactic(auto, unfolding(crate::specs::Encoder::plain))]
 fn plain<A: Allocator>(bytes: &mut Vec<u8, A>, c: u32) -> Result<CodeRegister>
     ensures value { IfOk result (λ code. writer_of bytes.new.items code ≡ plain c (reverse bytes.old.items)) }
@@ -44,6 +45,7 @@ fn plain<A: Allocator>(bytes: &mut Vec<u8, A>, c: u32) -> Result<CodeRegister>
     })
 }
 
+/// Writes the carry of `c` and its top seven bits behind a byte FF.
 #[tactic(auto, unfolding(crate::specs::Encoder::stuffed))]
 fn stuffed<A: Allocator>(bytes: &mut Vec<u8, A>, c: u32) -> Result<CodeRegister>
     requires { c < 2 ^ 28 }
