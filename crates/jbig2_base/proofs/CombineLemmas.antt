@@ -1,12 +1,12 @@
 -- The block of a page that a source lies on, against the combination at any whole numbers.
-use Rattle.std.proofs.Common.{◌≡◌, ℕ, ◌+◌, ◌-◌, ◌*◌, ◌<◌, ◌≤◌, min, zero, suc, Bool, true, false, ◌&&◌, cond, ltb, ℤ, pos, negsuc, ◌-ℤ◌, refl, sym, ap, subst, ◌∙◌, ◌⊎◌, inl, inr, ⊎_elim, arith}
+use Rattle.std.proofs.Common.{◌≡◌, ℕ, ◌+◌, ◌-◌, ◌*◌, ◌<◌, ◌≤◌, min, zero, suc, true, false, ◌&&◌, ℤ, pos, negsuc, ◌-ℤ◌, refl, sym, ap, subst, ◌∙◌, ◌⊎◌, inl, inr, ⊎_elim, arith}
 use Rattle.std.proofs.lemmas.Bool.{cases_lt, cond-true, cond-false, and_from, and_left, and_right, lt-ltb, le-ltb}
 use Rattle.std.proofs.lemmas.Int.{ints, to_z-of_z}
 use mir.Syntax.{w32}
 use mir.Val.{SFits, to_z, of_z}
 use Rattle.jbig2_base.specs.declared.bitmap.operator.CombinationOperator.{CombinationOperator}
 use Rattle.jbig2_base.specs.Counts.{Counts}
-use Rattle.jbig2_base.specs.Grid.{Grid, grid_of, pixel_at, pixel}
+use Rattle.jbig2_base.specs.Grid.{Grid, pixel_at, pixel}
 use Rattle.jbig2_base.specs.Operator.{combined_pixel}
 use Rattle.jbig2_base.specs.Blocks.{block_pixel, with_block}
 use Rattle.jbig2_base.specs.Combination.{is_below, drawn_pixel, combined, overlap, most_words, WritesWithin}

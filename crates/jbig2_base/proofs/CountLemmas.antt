@@ -1,5 +1,5 @@
 -- Counts of words and loads.
-use Rattle.std.proofs.Common.{◌≡◌, ℕ, ◌+◌, ◌-◌, ◌*◌, ◌/◌, ◌<◌, ◌≤◌, min, zero, suc, ap, refl, sym, ◌∙◌, arith}
+use Rattle.std.proofs.Common.{◌≡◌, ℕ, ◌+◌, ◌-◌, ◌*◌, ◌/◌, ◌<◌, ◌≤◌, zero, suc, ap, refl, ◌∙◌, arith}
 use Rattle.jbig2_base.specs.Counts.{Counts}
 use Rattle.jbig2_base.specs.Combination.{WritesWithin, most_words}
 

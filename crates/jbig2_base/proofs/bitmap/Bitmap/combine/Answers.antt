@@ -1,4 +1,4 @@
-use Rattle.std.proofs.Common.{◌≡◌, ◌+◌, ◌-◌, ◌*◌, refl, min, inr, arith}
+use Rattle.std.proofs.Common.{◌+◌, refl, inr, arith}
 use Rattle.jbig2_base.proofs.BlockLemmas.{block-none, page-more}
 use Rattle.jbig2_base.proofs.CombineLemmas.{axis-at, none-combined, rows-combined, within-overlap}
 use Rattle.jbig2_base.proofs.CountLemmas.{within-none, within-more}

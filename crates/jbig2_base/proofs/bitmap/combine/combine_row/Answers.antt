@@ -1,4 +1,4 @@
-use Rattle.std.proofs.Common.{◌≡◌, ◌+◌, ◌-◌, ◌*◌, ◌/◌, ◌∙◌, min, max, arith, sym, ap, inl, ℕ}
+use Rattle.std.proofs.Common.{◌+◌, ◌-◌, ◌*◌, ◌/◌, min, max, arith, inl}
 use Rattle.jbig2_base.proofs.BlockLemmas.{block-none, row-step}
 use Rattle.jbig2_base.proofs.CountLemmas.{after_words-none, after_words-step}
 use Rattle.jbig2_base.proofs.bitmap.combine.combine_row.Goals as goal

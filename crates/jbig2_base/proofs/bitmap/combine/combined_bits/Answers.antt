@@ -1,4 +1,3 @@
-use Rattle.std.proofs.Common.{ap, ◌∙◌, arith}
 use Rattle.std.proofs.lemmas.Nat.{or_lt, xor_lt}
 use Rattle.jbig2_base.proofs.BitLemmas.{bit-or, bit-and, bit-xor, bit-xnor, xnor-lt}
 use Rattle.jbig2_base.proofs.bitmap.combine.combined_bits.Goals as goal

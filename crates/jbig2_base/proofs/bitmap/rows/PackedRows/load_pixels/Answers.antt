@@ -1,4 +1,4 @@
-use Rattle.std.proofs.Common.{◌*◌, ◌%◌, ◌^◌, ℕ, arith, lit<}
+use Rattle.std.proofs.Common.{◌*◌, ◌%◌, ◌^◌, ℕ, lit<}
 use Rattle.std.proofs.lemmas.Nat.{mod_below}
 use Rattle.jbig2_base.specs.Grid.{pixel_at}
 use Rattle.jbig2_base.proofs.BitLemmas.{load-near, load-far, load-lt, shr-lt}

@@ -1,4 +1,4 @@
-use Rattle.std.proofs.Common.{◌<◌, ◌≤◌, ◌+◌, ◌-◌, ◌*◌, ◌/◌, ◌∙◌, sym, ap, ℕ, arith}
+use Rattle.std.proofs.Common.{◌+◌, ◌*◌, ◌/◌, arith}
 use Rattle.std.proofs.lemmas.List.{get_or_read}
 use Rattle.jbig2_base.proofs.PackedLemmas.{place-lt}
 use Rattle.jbig2_base.specs.Packed.{packed_pixel}

@@ -1,6 +1,5 @@
-use Rattle.std.proofs.Common.{◌<◌, ◌≤◌, ◌+◌, ◌-◌, ◌*◌, ◌/◌, ◌%◌, ◌∙◌, sym, ap, ℕ, arith}
+use Rattle.std.proofs.Common.{◌+◌, ◌*◌, ◌/◌, arith}
 use Rattle.std.proofs.lemmas.List.{get_or_read}
-use Rattle.jbig2_base.specs.WordBits.{field_bit}
 use Rattle.jbig2_base.proofs.PackedLemmas.{place-lt}
 use Rattle.jbig2_base.proofs.WriteLemmas.{stored-grid, stored-packed}
 use Rattle.jbig2_base.proofs.bitmap.rows.PackedRows.store_pixels.Goals as goal

@@ -1,6 +1,5 @@
 use Rattle.std.proofs.Common.{◌+◌, ◌-◌, ◌*◌, ◌∙◌, sym, ap, ℕ, arith}
 use Rattle.std.proofs.lemmas.List.{get_or_read}
-use Rattle.std.proofs.lemmas.Nat.{mul-add-lt}
 use Rattle.jbig2_base.specs.WordBits.{bit}
 use Rattle.jbig2_base.proofs.BitLemmas.{bit-zero}
 use Rattle.jbig2_base.proofs.GridLemmas.{pixel_at-right, pixel_at-below}
