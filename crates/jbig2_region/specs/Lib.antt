@@ -2,5 +2,6 @@ pub mod Generic
 pub mod GenericHeader
 pub mod Holds
 pub mod Raster
+pub mod GenericHeader
 pub mod RegionInfo
 pub mod Templates
