@@ -3,5 +3,7 @@ pub mod GenericHeader
 pub mod Holds
 pub mod Raster
 pub mod GenericHeader
+pub mod Holds
+pub mod Raster
 pub mod RegionInfo
 pub mod Templates
