@@ -1,15 +1,15 @@
 -- One pixel more of a region.
-use Rattle.std.proofs.Common.{length-append, set, subst, ◌≡◌, ℕ, ◌+◌, ◌*◌, ◌/◌, ◌%◌, ◌<◌, ◌≤◌, Bool, true, false, ◌&&◌, ◌||◌, eqb, List, [], ◌∷◌, ◌++◌, length, get_or, Option, Some, None, refl, sym, ap, ◌∙◌, ⊎_elim, arith}
+use Rattle.std.proofs.Common.{length-append, set, subst, ◌≡◌, ℕ, ◌+◌, ◌*◌, ◌/◌, ◌%◌, ◌<◌, ◌≤◌, Bool, true, false, ◌&&◌, ◌||◌, not, cond, zero, suc, add-one, replicate, eqb, List, [], ◌∷◌, ◌++◌, length, get_or, Option, Some, None, refl, sym, ap, ◌∙◌, ⊎_elim, arith}
 use Rattle.std.proofs.Math.Seq.{get_or-append_seam, get_or-append_right}
 use Rattle.std.proofs.Math.Bool.{or-false}
 use Rattle.std.proofs.lemmas.Bool.{cases_eq, cases_lt, eq-eqb, ne_eqb, and_left, and_right}
 use Rattle.std.proofs.lemmas.List.{get_or_append_left, get_or_past}
 use Rattle.std.proofs.lemmas.Nat.{same_from_place, mod-mul-add, div-mul-add}
-use Rattle.jbig2_base.specs.Grid.{Grid, grid_of, pixel_at, bit_number}
+use Rattle.jbig2_base.specs.Grid.{Grid, grid_of, blank, pixel_at, bit_number}
 use Rattle.jbig2_base.specs.Writes.{with_pixel}
 use Rattle.jbig2_base.proofs.GridLemmas.{grid_of-ext, pixel_at-grid_of}
-use Rattle.jbig2_region.specs.Raster.{Coding, Region, so_far, known, with_next, after_pixel}
-use Rattle.jbig2_region.specs.Holds.{Holds}
+use Rattle.jbig2_region.specs.Raster.{Coding, Region, so_far, known, with_next, after_pixel, after_pixels, row_begun, after_rows, decoded, no_pixels}
+use Rattle.jbig2_region.specs.Holds.{Holds, BeginsRow}
 use Rattle.jbig2_coder.specs.Coder.{Coder, Context, Decision, fresh, decision}
 
 not_here : (b p q : Bool) → (p && q) ≡ false → (b && p && q) ≡ false
@@ -102,3 +102,146 @@ Holds-decided coding w h input r grid after coder next states x y k p old new le
 pub digit-colour : (b : Bool) (n : ℕ) → n ≡ bit_number b → eqb n 1 ≡ b
 digit-colour true n e = rw e
 digit-colour false n e = rw e
+
+-- ---- the decision that begins a row
+pub begun-plainly : (w h : ℕ) (row_context : Option ℕ) (r : Region) (p : Bool) (grid : Grid) (coder : Coder) (states : List Context) → row_context ≡ None → r.predicted ≡ p → Holds w h coder.bytes r grid coder states → BeginsRow w h row_context r p grid coder coder states
+unfolding row_begun
+begun-plainly w h row_context r p grid coder states none predicted holds = rw none (record { holds = holds; predicted = predicted })
+
+pub begun-decided : (w h : ℕ) (row_context : Option ℕ) (r : Region) (p symbol after : Bool) (grid : Grid) (coder next : Coder) (states : List Context) (k : ℕ) (old new : Context) → row_context ≡ Some k → r.predicted ≡ p → old ≡ get_or states k fresh → (decision coder.bytes coder.registers old).symbol ≡ symbol → after ≡ cond symbol (not p) p → next ≡ record coder { registers = (decision coder.bytes coder.registers old).registers } → new ≡ (decision coder.bytes coder.registers old).context → Holds w h coder.bytes r grid coder states → BeginsRow w h row_context r after grid coder next (set states k new)
+unfolding row_begun
+begun-decided w h row_context r p symbol after grid coder next states k old new some predicted is_old is_symbol is_after is_next is_new holds =
+    let d : Decision = decision coder.bytes coder.registers old in
+    let e : Decision = decision coder.bytes r.registers (get_or r.contexts k fresh) in
+    let context : old ≡ get_or r.contexts k fresh = is_old ∙ ap (λ (s : List Context). get_or s k fresh) holds.contexts in
+    let same : d ≡ e = ap (λ q. decision coder.bytes q old) holds.registers ∙ ap (λ (c : Context). decision coder.bytes r.registers c) context in
+    rw some (record {
+      holds = record {
+        pixels = holds.pixels;
+        bytes = ap (λ (c : Coder). c.bytes) is_next;
+        registers = ap (λ (c : Coder). c.registers) is_next ∙ ap (λ (q : Decision). q.registers) same;
+        contexts = ap (λ (n : Context). set states k n) (is_new ∙ ap (λ (q : Decision). q.context) same) ∙ ap (λ (s : List Context). set s k e.context) holds.contexts;
+      };
+      predicted = ap (λ (b : Bool). cond b (not r.predicted) r.predicted) (sym (ap (λ (q : Decision). q.symbol) same) ∙ is_symbol) ∙ ap (λ (b : Bool). cond symbol (not b) b) predicted ∙ sym is_after;
+    })
+
+-- ---- several pixels and rows
+with_next-length : (input : List ℕ) (r : Region) (k : ℕ) (c : Option Bool) → length (with_next input r k c).pixels ≡ length r.pixels + 1
+unfolding with_next
+with_next-length input r k (Some colour) = length-append r.pixels (colour ∷ [])
+with_next-length input r k None = length-append r.pixels ((decision input r.registers (get_or r.contexts k fresh)).symbol ∷ [])
+
+with_next-predicted : (input : List ℕ) (r : Region) (k : ℕ) (c : Option Bool) → (with_next input r k c).predicted ≡ r.predicted
+unfolding with_next
+with_next-predicted input r k (Some colour) = refl
+with_next-predicted input r k None = refl
+
+pub after_pixels-length : (coding : Coding) (w h : ℕ) (input : List ℕ) (n : ℕ) (r : Region) → length (after_pixels coding w h input n r).pixels ≡ length r.pixels + n
+unfolding after_pixels after_pixel
+after_pixels-length coding w h input zero r = omega arith
+after_pixels-length coding w h input (suc n) r = with_next-length input _ _ _ ∙ ap (λ (k : ℕ). k + 1) (after_pixels-length coding w h input n r) ∙ omega arith
+
+pub after_pixels-predicted : (coding : Coding) (w h : ℕ) (input : List ℕ) (n : ℕ) (r : Region) → (after_pixels coding w h input n r).predicted ≡ r.predicted
+unfolding after_pixels after_pixel
+after_pixels-predicted coding w h input zero r = refl
+after_pixels-predicted coding w h input (suc n) r = with_next-predicted input _ _ _ ∙ after_pixels-predicted coding w h input n r
+
+pub after_pixels-one : (coding : Coding) (w h : ℕ) (input : List ℕ) (n : ℕ) (r : Region) → after_pixels coding w h input (n + 1) r ≡ after_pixel coding w h input (after_pixels coding w h input n r)
+unfolding after_pixels
+after_pixels-one coding w h input n r = rw add-one
+
+pub after_pixels-none : (coding : Coding) (w h : ℕ) (input : List ℕ) (r : Region) → after_pixels coding w h input 0 r ≡ r
+unfolding after_pixels
+after_pixels-none coding w h input r = refl
+
+row_begun-pixels : (row_context : Option ℕ) (input : List ℕ) (r : Region) → (row_begun row_context input r).pixels ≡ r.pixels
+unfolding row_begun
+row_begun-pixels None input r = refl
+row_begun-pixels (Some k) input r = refl
+
+pub after_rows-one : (coding : Coding) (w h : ℕ) (input : List ℕ) (n : ℕ) (r : Region) → after_rows coding w h input (n + 1) r ≡ after_pixels coding w h input w (row_begun coding.row_context input (after_rows coding w h input n r))
+unfolding after_rows
+after_rows-one coding w h input n r = rw add-one
+
+pub after_rows-length : (coding : Coding) (w h : ℕ) (input : List ℕ) (n : ℕ) (r : Region) → length r.pixels ≡ 0 → length (row_begun coding.row_context input (after_rows coding w h input n r)).pixels ≡ n * w
+unfolding after_rows
+after_rows-length coding w h input zero r none = ap length (row_begun-pixels coding.row_context input r) ∙ none ∙ omega arith
+after_rows-length coding w h input (suc n) r none =
+    ap length (row_begun-pixels coding.row_context input _) ∙ after_pixels-length coding w h input w _ ∙ ap (λ (k : ℕ). k + w) (after_rows-length coding w h input n r none) ∙ omega arith
+
+pub blank-so_far : (w h : ℕ) → blank w h false ≡ so_far w h []
+unfolding so_far
+blank-so_far w h = refl
+
+pub decoded-empty : (coding : Coding) (w h : ℕ) (input : List ℕ) (r : Region) → w ≡ 0 → decoded coding w h input r ≡ r
+unfolding decoded
+decoded-empty coding w h input r none = rw none
+
+pub decoded-rows : (coding : Coding) (w h : ℕ) (input : List ℕ) (r : Region) → eqb w 0 ≡ false → decoded coding w h input r ≡ after_rows coding w h input h r
+unfolding decoded
+decoded-rows coding w h input r some = rw some
+
+pub digit-black : (b : Bool) (n : ℕ) → n ≡ bit_number b → n ≡ 1 → b ≡ true
+digit-black true n e one = refl
+digit-black false n e one = absurd (omega arith)
+
+pub digit-white : (b : Bool) (n : ℕ) → n ≡ bit_number b → (n ≡ 1 → ⊥) → b ≡ false
+digit-white true n e other = absurd (other e)
+digit-white false n e other = refl
+
+-- ---- the loops
+-- a step of one pixel, and what it makes of a bitmap of another size's name
+abbrev PixelStep : Coding → ℕ → ℕ → Bool → Grid → Coder → List Context → Grid → Coder → List Context → ℕ → ℕ → List ℕ → Type 0
+PixelStep coding x y p grid coder states grid' coder' states' w h input =
+    (r : Region) → length r.pixels ≡ y * w + x → r.predicted ≡ p → Holds w h input r grid coder states → Holds w h input (after_pixel coding w h input r) grid' coder' states'
+
+abbrev PixelSteps : Coding → ℕ → ℕ → Bool → Grid → Coder → List Context → Grid → Coder → List Context → ℕ → ℕ → List ℕ → Type 0
+PixelSteps coding n y p grid coder states grid' coder' states' w h input =
+    (r : Region) → length r.pixels ≡ y * w → r.predicted ≡ p → Holds w h input r grid coder states → Holds w h input (after_pixels coding w h input n r) grid' coder' states'
+
+pub row-start : (coding : Coding) (y : ℕ) (p : Bool) (grid : Grid) (coder : Coder) (states : List Context) (w h : ℕ) (input : List ℕ) → PixelSteps coding 0 y p grid coder states grid coder states w h input
+row-start coding y p grid coder states w h input = λ r len predicted holds. subst (λ (n : Region). Holds w h input n grid coder states) (sym (after_pixels-none coding w h input r)) holds
+
+pub row-step : (coding : Coding) (x y : ℕ) (p : Bool) (g0 : Grid) (c0 : Coder) (s0 : List Context) (g1 : Grid) (c1 : Coder) (s1 : List Context) (g2 : Grid) (c2 : Coder) (s2 : List Context) (w h : ℕ) (input : List ℕ) (w' h' : ℕ) (input' : List ℕ)
+    → w' ≡ w → h' ≡ h → input' ≡ input → PixelSteps coding x y p g0 c0 s0 g1 c1 s1 w h input → PixelStep coding x y p g1 c1 s1 g2 c2 s2 w' h' input' → PixelSteps coding (x + 1) y p g0 c0 s0 g2 c2 s2 w h input
+row-step coding x y p g0 c0 s0 g1 c1 s1 g2 c2 s2 w h input w' h' input' ew eh ei before step = λ r len predicted holds.
+    let one = subst (λ (v : ℕ). PixelStep coding x y p g1 c1 s1 g2 c2 s2 v h' input') ew step in
+    let two = subst (λ (v : ℕ). PixelStep coding x y p g1 c1 s1 g2 c2 s2 w v input') eh one in
+    let here = subst (λ (v : List ℕ). PixelStep coding x y p g1 c1 s1 g2 c2 s2 w h v) ei two in
+    let made : Region = after_pixels coding w h input x r in
+    subst (λ (n : Region). Holds w h input n g2 c2 s2) (sym (after_pixels-one coding w h input x r))
+    (here made (after_pixels-length coding w h input x r ∙ ap (λ (k : ℕ). k + x) len) (after_pixels-predicted coding w h input x r ∙ predicted) (before r len predicted holds))
+
+pub region-step : (coding : Coding) (y : ℕ) (p q : Bool) (g1 : Grid) (c1 : Coder) (s1 : List Context) (c2 : Coder) (s2 : List Context) (g3 : Grid) (c3 : Coder) (s3 : List Context) (start : Region) (w h : ℕ) (input : List ℕ) (w' h' : ℕ)
+    → w' ≡ w → h' ≡ h → c1.bytes ≡ input → c2.bytes ≡ c1.bytes → length start.pixels ≡ 0
+    → ((w h : ℕ) (g : Grid) (r : Region) → r.predicted ≡ p → Holds w h c1.bytes r g c1 s1 → BeginsRow w h coding.row_context r q g c1 c2 s2)
+    → PixelSteps coding w' y q g1 c2 s2 g3 c3 s3 w' h' c2.bytes
+    → Holds w h input (after_rows coding w h input y start) g1 c1 s1 → (after_rows coding w h input y start).predicted ≡ p
+    → Holds w h input (after_rows coding w h input (y + 1) start) g3 c3 s3 × ((after_rows coding w h input (y + 1) start).predicted ≡ q)
+region-step coding y p q g1 c1 s1 c2 s2 g3 c3 s3 start w h input w' h' ew eh ei es none begin steps holds predicted =
+    let made : Region = after_rows coding w h input y start in
+    let begun : Region = row_begun coding.row_context input made in
+    let row : BeginsRow w h coding.row_context made q g1 c1 c2 s2 = begin w h g1 made predicted (subst (λ (v : List ℕ). Holds w h v made g1 c1 s1) (sym ei) holds) in
+    let begun_holds : Holds w h input begun g1 c2 s2 = subst (λ (v : List ℕ). Holds w h v (row_begun coding.row_context v made) g1 c2 s2) ei row.holds in
+    let begun_predicted : begun.predicted ≡ q = subst (λ (v : List ℕ). (row_begun coding.row_context v made).predicted ≡ q) ei row.predicted in
+    let one = subst (λ (v : ℕ). PixelSteps coding v y q g1 c2 s2 g3 c3 s3 v h' c2.bytes) ew steps in
+    let two = subst (λ (v : ℕ). PixelSteps coding w y q g1 c2 s2 g3 c3 s3 w v c2.bytes) eh one in
+    let here = subst (λ (v : List ℕ). PixelSteps coding w y q g1 c2 s2 g3 c3 s3 w h v) (es ∙ ei) two in (
+      subst (λ (n : Region). Holds w h input n g3 c3 s3) (sym (after_rows-one coding w h input y start)) (here begun (after_rows-length coding w h input y start none) begun_predicted begun_holds),
+      ap (λ (n : Region). n.predicted) (after_rows-one coding w h input y start) ∙ after_pixels-predicted coding w h input w begun ∙ begun_predicted,
+    )
+
+pub region-start : (w h : ℕ) (grid : Grid) (coder : Coder) (states : List Context) → grid ≡ blank w h false → Holds w h coder.bytes (no_pixels coder.registers states) grid coder states
+region-start w h grid coder states white = record { pixels = white ∙ blank-so_far w h; bytes = refl; registers = refl; contexts = refl }
+
+pub after_rows-none : (coding : Coding) (w h : ℕ) (input : List ℕ) (r : Region) → after_rows coding w h input 0 r ≡ r
+unfolding after_rows
+after_rows-none coding w h input r = refl
+
+pub region-empty : (coding : Coding) (w h : ℕ) (grid : Grid) (coder : Coder) (states : List Context) → w ≡ 0 → grid ≡ blank w h false → Holds w h coder.bytes (decoded coding w h coder.bytes (no_pixels coder.registers states)) grid coder states
+region-empty coding w h grid coder states none white =
+    subst (λ (n : Region). Holds w h coder.bytes n grid coder states) (sym (decoded-empty coding w h coder.bytes (no_pixels coder.registers states) none)) (region-start w h grid coder states white)
+
+pub region-whole : (coding : Coding) (w h n : ℕ) (input : List ℕ) (start : Region) (grid : Grid) (coder : Coder) (states : List Context) → (w ≡ 0 → ⊥) → n ≡ h → Holds w h input (after_rows coding w h input n start) grid coder states → Holds w h input (decoded coding w h input start) grid coder states
+region-whole coding w h n input start grid coder states some all holds =
+    subst (λ (r : Region). Holds w h input r grid coder states) (ap (λ (k : ℕ). after_rows coding w h input k start) all ∙ sym (decoded-rows coding w h input start (ne_eqb w 0 some))) holds

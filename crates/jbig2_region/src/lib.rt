@@ -2,6 +2,7 @@
 #![tactic(auto)]
 
 pub mod generic;
+mod generic_coding;
 pub mod raster;
 pub mod region_info;
 pub mod template;

@@ -1,9 +1,9 @@
 //! Regions that are decoded pixel by pixel (T.88, 6.2.5 and 6.3.5): what generic regions and
 //! refinements have in common.
-ghost use Rattle.std.specs.Prelude.{◌≡◌, ℕ, ◌+◌, ◌*◌, ◌^◌, ◌<◌, ◌≤◌, [], length, IfSome};
-ghost use Rattle.jbig2_base.specs.Grid.{pixel, bit_number};
+ghost use Rattle.std.specs.Prelude.{◌≡◌, ℕ, ◌+◌, ◌*◌, ◌^◌, ◌<◌, ◌≤◌, [], length, IfSome, false};
+ghost use Rattle.jbig2_base.specs.Grid.{Grid, blank, pixel, bit_number};
 ghost use Rattle.jbig2_region.specs.Raster.{Coding, Region, known, so_far, no_pixels, after_pixel, after_pixels, row_begun, decoded};
-ghost use Rattle.jbig2_region.specs.Holds.{Holds};
+ghost use Rattle.jbig2_region.specs.Holds.{Holds, BeginsRow};
 
 use jbig2_base::bitmap::Bitmap;
 use jbig2_base::bitmap::steps::Steps;
@@ -117,4 +117,75 @@ fn decode_pixel<C: PixelCoding, A: Allocator, L: Ledger>(
     let context = coding.context(bitmap, x, y, steps);
     let symbol = decoder.decode(&mut contexts[context as usize], steps);
     bitmap.set_pixel(x, y, symbol == 1, steps);
+}
+
+/// Row `y` of a region, whose rows above are decoded.
+fn decode_row<C: PixelCoding, A: Allocator, L: Ledger>(
+    coding: &C,
+    bitmap: &mut Bitmap<A>,
+    y: u32,
+    predicted: bool,
+    decoder: &mut ArithmeticDecoder<'_>,
+    contexts: &mut [ArithmeticDecoderContext],
+    steps: &mut Steps<L>,
+)
+    requires row { y < bitmap.old.height }
+    requires columns { bitmap.old.width ≤ 65535 }
+    requires rows { bitmap.old.height ≤ 65535 }
+    requires contexts { length contexts.old ≡ 2 ^ C.bits coding.now }
+    ensures holds { (r : Region) → length r.pixels ≡ y * bitmap.old.width → r.predicted ≡ predicted → Holds bitmap.old.width bitmap.old.height decoder.old.bytes r bitmap.old decoder.old contexts.old → Holds bitmap.old.width bitmap.old.height decoder.old.bytes (after_pixels (C.coding coding.now) bitmap.old.width bitmap.old.height decoder.old.bytes bitmap.old.width r) bitmap.new decoder.new contexts.new }
+    ensures width { bitmap.new.width ≡ bitmap.old.width }
+    ensures height { bitmap.new.height ≡ bitmap.old.height }
+    ensures bytes { decoder.new.bytes ≡ decoder.old.bytes }
+{
+    for x in 0..bitmap.width() {
+        decode_pixel(coding, bitmap, x, y, predicted, decoder, contexts, steps);
+    }
+}
+
+/// With typical prediction, the decision that begins a row: whether the row is predicted, where the
+/// row above was if `predicted` says so.
+fn begin_row<C: PixelCoding, L: Ledger>(
+    coding: &C,
+    predicted: bool,
+    decoder: &mut ArithmeticDecoder<'_>,
+    contexts: &mut [ArithmeticDecoderContext],
+    steps: &mut Steps<L>,
+) -> bool
+    requires contexts { length contexts.old ≡ 2 ^ C.bits coding.now }
+    ensures row { (w h : ℕ) (grid : Grid) (r : Region) → r.predicted ≡ predicted → Holds w h decoder.old.bytes r grid decoder.old contexts.old → BeginsRow w h (C.coding coding.now).row_context r result grid decoder.old decoder.new contexts.new }
+    ensures bytes { decoder.new.bytes ≡ decoder.old.bytes }
+{
+    let Some(context) = coding.row_context() else {
+        return predicted;
+    };
+    let turned = decoder.decode(&mut contexts[context as usize], steps) == 1;
+    if turned {
+        return !predicted;
+    }
+    predicted
+}
+
+/// A whole region, into a white bitmap of its size.
+pub fn decode_region<C: PixelCoding, A: Allocator, L: Ledger>(
+    coding: &C,
+    bitmap: &mut Bitmap<A>,
+    decoder: &mut ArithmeticDecoder<'_>,
+    contexts: &mut [ArithmeticDecoderContext],
+    steps: &mut Steps<L>,
+)
+    requires columns { bitmap.old.width ≤ 65535 }
+    requires rows { bitmap.old.height ≤ 65535 }
+    requires white { bitmap.old ≡ blank bitmap.old.width bitmap.old.height false }
+    requires contexts { length contexts.old ≡ 2 ^ C.bits coding.now }
+    ensures holds { Holds bitmap.old.width bitmap.old.height decoder.old.bytes (decoded (C.coding coding.now) bitmap.old.width bitmap.old.height decoder.old.bytes (no_pixels decoder.old.registers contexts.old)) bitmap.new decoder.new contexts.new }
+{
+    if bitmap.width() == 0 {
+        return;
+    }
+    let mut predicted = false;
+    for y in 0..bitmap.height() {
+        predicted = begin_row(coding, predicted, decoder, contexts, steps);
+        decode_row(coding, bitmap, y, predicted, decoder, contexts, steps);
+    }
 }

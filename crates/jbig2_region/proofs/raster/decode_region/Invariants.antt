@@ -1,0 +1,13 @@
+use Rattle.std.proofs.Common.{◌≡◌}
+use Rattle.jbig2_region.specs.Raster.{after_rows, no_pixels}
+use Rattle.jbig2_region.specs.Holds.{Holds}
+use Rattle.jbig2_region.proofs.raster.decode_region.Given as goal
+
+abbrev pub invariant-loop-y : goal.invariant-loop-y
+invariant-loop-y g l = record {
+  width : l.bitmap.width ≡ l.initial.bitmap.width;
+  height : l.bitmap.height ≡ l.initial.bitmap.height;
+  bytes : l.decoder.bytes ≡ l.initial.decoder.bytes;
+  holds : Holds l.initial.bitmap.width l.initial.bitmap.height l.initial.decoder.bytes (after_rows (g.C.PixelCoding.coding l.fn.coding) l.initial.bitmap.width l.initial.bitmap.height l.initial.decoder.bytes l.y (no_pixels l.initial.decoder.registers l.initial.contexts)) l.bitmap l.decoder l.contexts;
+  predicted : (after_rows (g.C.PixelCoding.coding l.fn.coding) l.initial.bitmap.width l.initial.bitmap.height l.initial.decoder.bytes l.y (no_pixels l.initial.decoder.registers l.initial.contexts)).predicted ≡ l.predicted;
+}
