@@ -1,1 +1,3 @@
+pub mod ContextLemmas
+pub mod GenericLemmas
 pub mod RasterLemmas

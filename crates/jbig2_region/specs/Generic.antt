@@ -1,13 +1,17 @@
 -- Generic regions (T.88, 6.2.5) coded with the arithmetic coder.
 use Rattle.std.specs.Prelude.{ℕ, ◌+◌, ◌*◌, Bool, true, false, if◌then◌else◌, List, [], ◌∷◌, map, Option, Some, None, ℤ, pos, negsuc, ◌+ℤ◌, Result, Ok, Err}
+use Rattle.jbig2_base.specs.Answer.{◌>>=◌}
 use Rattle.jbig2_base.specs.Grid.{Grid, pixel, bit_number}
+use Rattle.jbig2_base.specs.declared.bitmap.operator.CombinationOperator.{CombinationOperator}
 use Rattle.jbig2_base.specs.declared.error.DecodeError.{DecodeError}
 use Rattle.jbig2_base.specs.declared.error.DecodeError.TheVariants.{Unsupported}
 use Rattle.jbig2_coder.specs.Coder.{started}
 use Rattle.jbig2_region.specs.GenericHeader.{GenericHeader}
 use Rattle.jbig2_region.specs.Raster.{Coding, Region, so_far, decoded, no_pixels, fresh_contexts}
 use Rattle.jbig2_region.specs.Templates.{context_bits, row_context, template_pixels}
+use Rattle.jbig2_region.specs.declared.generic.DecodedRegion.{DecodedRegion}
 use Rattle.jbig2_region.specs.declared.template.AdaptiveTemplatePixel.{AdaptiveTemplatePixel}
+use Rattle.jbig2_region.specs.declared.template.Template.{Template}
 
 -- the number that bits spell, bit 0 first
 abbrev pub number_of : List Bool → ℕ
@@ -22,12 +26,16 @@ context_at template g x y = number_of (map (λ (p : AdaptiveTemplatePixel). pixe
 abbrev pub pixel_above : Grid → ℕ → ℕ → Option Bool
 pixel_above g x y = Some (pixel g (pos x) (pos y +ℤ negsuc 0))
 
-abbrev pub generic_coding : GenericHeader → Coding
-generic_coding h = record {
-  context = context_at (template_pixels h.template h.adaptive_template_pixels);
+-- by whether typical prediction is on, the template, and all of the template's pixels
+abbrev pub coding_of : Bool → Template → List AdaptiveTemplatePixel → Coding
+coding_of typical template pixels = record {
+  context = context_at pixels;
   prediction = pixel_above;
-  row_context = (if h.tpgdon then Some (row_context h.template) else None);
+  row_context = (if typical then Some (row_context template) else None);
 }
+
+abbrev pub generic_coding : GenericHeader → Coding
+generic_coding h = coding_of h.tpgdon h.template (template_pixels h.template h.adaptive_template_pixels)
 
 -- the region and what the coder has come to, from fresh contexts
 unfoldable pub generic_region : GenericHeader → Region
@@ -38,5 +46,18 @@ unfoldable pub generic_grid : GenericHeader → Grid
 generic_grid h = so_far h.region_info.width h.region_info.height (generic_region h).pixels
 
 -- the grid; MMR is not decoded
-unfoldable pub generic_answer : GenericHeader → Result Grid DecodeError
+abbrev pub generic_answer : GenericHeader → Result Grid DecodeError
 generic_answer h = if h.mmr then Err Unsupported else Ok (generic_grid h)
+
+-- A decoded region and its place.
+pub record PlacedRegion : Type 0 where
+  pub grid : Grid
+  pub x_location : ℕ
+  pub y_location : ℕ
+  pub combination_operator : CombinationOperator
+
+abbrev pub region_view : {A : Type 0} → DecodedRegion A → PlacedRegion
+region_view r = record { grid = r.bitmap; x_location = r.x_location; y_location = r.y_location; combination_operator = r.combination_operator }
+
+abbrev pub generic_decoded : GenericHeader → Result PlacedRegion DecodeError
+generic_decoded h = generic_answer h >>= λ g. Ok (record { grid = g; x_location = h.region_info.x_location; y_location = h.region_info.y_location; combination_operator = h.region_info.combination_operator })

@@ -1,14 +1,24 @@
 //! Generic regions (T.88, 6.2 and 7.4.6).
-ghost use Rattle.std.specs.Prelude.{◌≡◌, ◌≤◌, length, IfOk};
-ghost use Rattle.jbig2_base.specs.Answer.{Answers};
+ghost use Rattle.std.specs.Prelude.{◌≡◌, ◌≤◌, length, false, IfOk, OnOk};
+ghost use Rattle.jbig2_base.specs.Answer.{Answers, Gives};
 ghost use Rattle.jbig2_base.specs.Bits.{IsAligned};
+ghost use Rattle.jbig2_base.specs.Grid.{blank};
+ghost use Rattle.jbig2_region.specs.Generic.{generic_region, generic_answer, generic_decoded, region_view};
 ghost use Rattle.jbig2_region.specs.GenericHeader.{header_view, is_earlier, one_pixel, signed_byte_at, adaptive_pixel_at, adaptive_pixels_at, template_pixels_at, rows_at, generic_header_at, FitsTemplate, IsParsed};
 
+use crate::generic_coding::decode_coded;
+use crate::raster::fresh_contexts;
 use crate::region_info::{RegionSegmentInfo, parse_region_segment_info};
 use crate::template::{AdaptiveTemplatePixel, GenericTemplatePixels, Template};
+use jbig2_base::bitmap::Bitmap;
+use jbig2_base::bitmap::operator::CombinationOperator;
+use jbig2_base::bitmap::steps::Steps;
 use jbig2_base::error::{DecodeError, OverflowError, RegionError, Result, TemplateError};
 use jbig2_base::field::{byte_field, u32_field};
 use jbig2_base::reader::Reader;
+use jbig2_coder::arithmetic_decoder::{ArithmeticDecoder, ArithmeticDecoderContext};
+use std::alloc::Allocator;
+use std::sync::ledger::Ledger;
 
 /// What a generic region's coded bytes are decoded by (T.88, 7.4.6).
 #[derive(Clone, Copy, Debug)]
@@ -169,5 +179,70 @@ pub fn parse<'a>(
         adaptive_template_pixels,
         bytes,
         strict,
+    })
+}
+
+/// A region that is decoded, its place on the page and how it is combined with the page.
+#[derive(Drop)]
+pub struct DecodedRegion<A: Allocator> {
+    pub bitmap: Bitmap<A>,
+    pub x_location: u32,
+    pub y_location: u32,
+    pub combination_operator: CombinationOperator,
+}
+
+/// Decodes a region (T.88, 6.2) into a white bitmap of its size. The contexts begin fresh, whatever
+/// `contexts` held, and are left there as the region leaves them.
+///
+/// `OutOfMemory` where there is no room for the contexts; `Unsupported` for MMR.
+pub fn decode_into<A: Allocator, B: Allocator, L: Ledger>(
+    header: &GenericRegionHeader<'_>,
+    bitmap: &mut Bitmap<A>,
+    contexts: &mut Vec<ArithmeticDecoderContext, B>,
+    steps: &mut Steps<L>,
+) -> Result<()>
+    requires parsed { IsParsed (header_view header.now) }
+    requires white { bitmap.old ≡ blank header.now.region_info.width header.now.region_info.height false }
+    ensures value { Gives (λ _. bitmap.new) result (generic_answer (header_view header.now)) }
+    ensures contexts { OnOk result (contexts.new.items ≡ (generic_region (header_view header.now)).contexts) }
+{
+    if header.mmr {
+        return Err(DecodeError::Unsupported);
+    }
+    fresh_contexts(contexts, header.template.context_bits())?;
+    let mut decoder = ArithmeticDecoder::new(header.bytes);
+    decode_coded(
+        header.template,
+        header.tpgdon,
+        &header.adaptive_template_pixels,
+        bitmap,
+        &mut decoder,
+        contexts,
+        steps,
+    );
+    Ok(())
+}
+
+/// Decodes a region (T.88, 6.2), as `decode_into` does, into a bitmap of its own.
+///
+/// `OutOfMemory` where there is no room for the bitmap or the contexts; `Unsupported` for MMR.
+pub fn decode<A: Allocator, B: Allocator, L: Ledger>(
+    alloc: A,
+    header: &GenericRegionHeader<'_>,
+    contexts: &mut Vec<ArithmeticDecoderContext, B>,
+    steps: &mut Steps<L>,
+) -> Result<DecodedRegion<A>>
+    requires { IsParsed (header_view header.now) }
+    ensures value { Gives (λ region. region_view region) result (generic_decoded (header_view header.now)) }
+    ensures contexts { OnOk result (contexts.new.items ≡ (generic_region (header_view header.now)).contexts) }
+{
+    let region_info = &header.region_info;
+    let mut bitmap = Bitmap::new(alloc, region_info.width, region_info.height)?;
+    decode_into(header, &mut bitmap, contexts, steps)?;
+    Ok(DecodedRegion {
+        bitmap,
+        x_location: region_info.x_location,
+        y_location: region_info.y_location,
+        combination_operator: region_info.combination_operator,
     })
 }

@@ -1,12 +1,17 @@
 //! The contexts of generic regions (T.88, 6.2.5.3 to 6.2.5.7).
-ghost use Rattle.std.specs.Prelude.{◌≡◌, ◌+◌, ◌^◌, ◌<◌, ◌≤◌, length, pos, ◌+ℤ◌};
-ghost use Rattle.jbig2_base.specs.Grid.{pixel, bit_number};
-ghost use Rattle.jbig2_region.specs.Templates.{template_0, template_1, template_2, template_3, extended_template_0, row_context};
+ghost use Rattle.std.specs.Prelude.{◌≡◌, ◌+◌, ◌^◌, ◌<◌, ◌≤◌, length, pos, ◌+ℤ◌, false};
+ghost use Rattle.jbig2_base.specs.Grid.{blank, pixel, bit_number};
+ghost use Rattle.jbig2_region.specs.GenericHeader.{FitsTemplate};
+ghost use Rattle.jbig2_region.specs.Holds.{Holds};
+ghost use Rattle.jbig2_region.specs.Raster.{decoded, no_pixels};
+ghost use Rattle.jbig2_region.specs.Generic.{context_at, pixel_above, coding_of};
+ghost use Rattle.jbig2_region.specs.Templates.{template_0, template_1, template_2, template_3, extended_template_0, row_context, context_bits, template_pixels};
 
-use crate::raster::{PixelCoding, pixel_at};
-use crate::template::{AdaptiveTemplatePixel, Template};
+use crate::raster::{PixelCoding, decode_region, pixel_at};
+use crate::template::{AdaptiveTemplatePixel, GenericTemplatePixels, Template};
 use jbig2_base::bitmap::Bitmap;
 use jbig2_base::bitmap::steps::Steps;
+use jbig2_coder::arithmetic_decoder::{ArithmeticDecoder, ArithmeticDecoderContext};
 use std::alloc::Allocator;
 use std::sync::ledger::Ledger;
 
@@ -16,8 +21,8 @@ const fn pixel(x: i16, y: i16) -> AdaptiveTemplatePixel
     AdaptiveTemplatePixel { x, y }
 }
 
-/// The pixels of template 0, bit 0 of a context first.
-pub fn template_0(a: &[AdaptiveTemplatePixel; 4]) -> [AdaptiveTemplatePixel; 16]
+/// The pixels of template 0, bit 0 of a context first (Figure 3).
+fn template_0(a: &[AdaptiveTemplatePixel; 4]) -> [AdaptiveTemplatePixel; 16]
     ensures { result ≡ template_0 a.now }
 {
     [
@@ -38,4 +43,300 @@ pub fn template_0(a: &[AdaptiveTemplatePixel; 4]) -> [AdaptiveTemplatePixel; 16]
         pixel(-1, -2),
         a[3],
     ]
+}
+
+/// The pixels of template 1 (Figure 4).
+fn template_1(a: &[AdaptiveTemplatePixel; 4]) -> [AdaptiveTemplatePixel; 13]
+    ensures { result ≡ template_1 a.now }
+{
+    [
+        pixel(-1, 0),
+        pixel(-2, 0),
+        pixel(-3, 0),
+        a[0],
+        pixel(2, -1),
+        pixel(1, -1),
+        pixel(0, -1),
+        pixel(-1, -1),
+        pixel(-2, -1),
+        pixel(2, -2),
+        pixel(1, -2),
+        pixel(0, -2),
+        pixel(-1, -2),
+    ]
+}
+
+/// The pixels of template 2 (Figure 5).
+fn template_2(a: &[AdaptiveTemplatePixel; 4]) -> [AdaptiveTemplatePixel; 10]
+    ensures { result ≡ template_2 a.now }
+{
+    [
+        pixel(-1, 0),
+        pixel(-2, 0),
+        a[0],
+        pixel(1, -1),
+        pixel(0, -1),
+        pixel(-1, -1),
+        pixel(-2, -1),
+        pixel(1, -2),
+        pixel(0, -2),
+        pixel(-1, -2),
+    ]
+}
+
+/// The pixels of template 3 (Figure 6).
+fn template_3(a: &[AdaptiveTemplatePixel; 4]) -> [AdaptiveTemplatePixel; 10]
+    ensures { result ≡ template_3 a.now }
+{
+    [
+        pixel(-1, 0),
+        pixel(-2, 0),
+        pixel(-3, 0),
+        pixel(-4, 0),
+        a[0],
+        pixel(1, -1),
+        pixel(0, -1),
+        pixel(-1, -1),
+        pixel(-2, -1),
+        pixel(-3, -1),
+    ]
+}
+
+/// The pixels of the extended template 0.
+fn extended_template_0(a: &[AdaptiveTemplatePixel; 12]) -> [AdaptiveTemplatePixel; 16]
+    ensures { result ≡ extended_template_0 a.now }
+{
+    [
+        pixel(-1, 0),
+        a[0],
+        a[6],
+        a[7],
+        a[9],
+        a[5],
+        pixel(1, -1),
+        pixel(0, -1),
+        pixel(-1, -1),
+        a[2],
+        a[11],
+        a[8],
+        a[4],
+        a[1],
+        a[3],
+        a[10],
+    ]
+}
+
+/// The context of the decision that begins a row under typical prediction (T.88, 6.2.5.7).
+fn row_context(template: Template) -> u32
+    ensures value { result ≡ row_context template }
+    ensures small { result < 2 ^ context_bits template }
+{
+    match template {
+        Template::Template0 => 0x9B25,
+        Template::Template1 => 0x0795,
+        Template::Template2 => 0x00E5,
+        Template::Template3 => 0x0195,
+    }
+}
+
+/// The template's pixel at `place`, seen from column `x` of row `y`.
+#[inline(always)]
+fn pixel_near<A: Allocator, L: Ledger>(
+    bitmap: &Bitmap<A>,
+    x: u32,
+    y: u32,
+    place: AdaptiveTemplatePixel,
+    steps: &mut Steps<L>,
+) -> u8
+    requires column { x < 65536 }
+    requires row { y < 65536 }
+    ensures value { result ≡ bit_number (pixel bitmap.now (pos x +ℤ place.x) (pos y +ℤ place.y)) }
+    ensures steps { steps.new ≡ record steps.old { loads = steps.old.loads + 1 } }
+{
+    pixel_at(
+        bitmap,
+        x as i32 + i32::from(place.x),
+        y as i32 + i32::from(place.y),
+        steps,
+    )
+}
+
+/// The number of the context at column `x` of row `y`.
+#[inline(always)]
+fn context_at<A: Allocator, L: Ledger>(
+    pixels: &[AdaptiveTemplatePixel],
+    bitmap: &Bitmap<A>,
+    x: u32,
+    y: u32,
+    steps: &mut Steps<L>,
+) -> u32
+    requires few { length pixels.now ≤ 16 }
+    requires column { x < 65536 }
+    requires row { y < 65536 }
+    ensures value { result ≡ context_at pixels.now bitmap.now x y }
+    ensures small { result < 2 ^ length pixels.now }
+{
+    let mut context = 0;
+    let mut left = pixels.len();
+    while left > 0 {
+        left -= 1;
+        context = 2 * context + u32::from(pixel_near(bitmap, x, y, pixels[left], steps));
+    }
+    context
+}
+
+/// The pixel above, which the pixel at column `x` of row `y` equals in a predicted row.
+fn pixel_above<A: Allocator, L: Ledger>(
+    bitmap: &Bitmap<A>,
+    x: u32,
+    y: u32,
+    steps: &mut Steps<L>,
+) -> Option<bool>
+    requires column { x < 65536 }
+    requires row { y < 65536 }
+    ensures { result ≡ pixel_above bitmap.now x y }
+{
+    Some(pixel_at(bitmap, x as i32, y as i32 - 1, steps) == 1)
+}
+
+/// How a generic region is coded.
+#[derive(Drop)]
+struct GenericCoding<'a> {
+    template: Template,
+    /// Whether typical prediction is on.
+    typical: bool,
+    /// All of the template's pixels, bit 0 of a context first.
+    pixels: &'a [AdaptiveTemplatePixel],
+    ghost all: { length pixels.now ≡ context_bits template },
+}
+
+impl PixelCoding for GenericCoding<'_> {
+    ghost use Rattle.jbig2_region.specs.Generic.{coding_of};
+    ghost use Rattle.jbig2_region.specs.Templates.{context_bits};
+
+    ghost coding = { λ c. coding_of c.typical c.template c.pixels.now };
+
+    ghost bits = { λ c. context_bits c.template };
+
+    #[inline(always)]
+    fn context<A: Allocator, L: Ledger>(
+        &self,
+        bitmap: &Bitmap<A>,
+        x: u32,
+        y: u32,
+        steps: &mut Steps<L>,
+    ) -> u32 {
+        context_at(self.pixels, bitmap, x, y, steps)
+    }
+
+    fn prediction<A: Allocator, L: Ledger>(
+        &self,
+        bitmap: &Bitmap<A>,
+        x: u32,
+        y: u32,
+        steps: &mut Steps<L>,
+    ) -> Option<bool> {
+        pixel_above(bitmap, x, y, steps)
+    }
+
+    fn row_context(&self) -> Option<u32> {
+        if self.typical {
+            Some(row_context(self.template))
+        } else {
+            None
+        }
+    }
+}
+
+/// A region of the template with these pixels, bit 0 of a context first.
+fn decode_with<A: Allocator, L: Ledger>(
+    template: Template,
+    typical: bool,
+    pixels: &[AdaptiveTemplatePixel],
+    bitmap: &mut Bitmap<A>,
+    decoder: &mut ArithmeticDecoder<'_>,
+    contexts: &mut [ArithmeticDecoderContext],
+    steps: &mut Steps<L>,
+)
+    requires all { length pixels.now ≡ context_bits template }
+    requires columns { bitmap.old.width ≤ 65535 }
+    requires rows { bitmap.old.height ≤ 65535 }
+    requires white { bitmap.old ≡ blank bitmap.old.width bitmap.old.height false }
+    requires contexts { length contexts.old ≡ 2 ^ context_bits template }
+    ensures holds { Holds bitmap.old.width bitmap.old.height decoder.old.bytes (decoded (coding_of typical template pixels.now) bitmap.old.width bitmap.old.height decoder.old.bytes (no_pixels decoder.old.registers contexts.old)) bitmap.new decoder.new contexts.new }
+{
+    let coding = GenericCoding {
+        template,
+        typical,
+        pixels,
+    };
+    decode_region(&coding, bitmap, decoder, contexts, steps);
+}
+
+/// A region that the arithmetic coder wrote, into a white bitmap of its size.
+pub fn decode_coded<A: Allocator, L: Ledger>(
+    template: Template,
+    typical: bool,
+    adaptive: &GenericTemplatePixels,
+    bitmap: &mut Bitmap<A>,
+    decoder: &mut ArithmeticDecoder<'_>,
+    contexts: &mut [ArithmeticDecoderContext],
+    steps: &mut Steps<L>,
+)
+    requires fits { FitsTemplate adaptive.now template }
+    requires columns { bitmap.old.width ≤ 65535 }
+    requires rows { bitmap.old.height ≤ 65535 }
+    requires white { bitmap.old ≡ blank bitmap.old.width bitmap.old.height false }
+    requires contexts { length contexts.old ≡ 2 ^ context_bits template }
+    ensures holds { Holds bitmap.old.width bitmap.old.height decoder.old.bytes (decoded (coding_of typical template (template_pixels template adaptive.now)) bitmap.old.width bitmap.old.height decoder.old.bytes (no_pixels decoder.old.registers contexts.old)) bitmap.new decoder.new contexts.new }
+{
+    match adaptive {
+        GenericTemplatePixels::Extended(a) => decode_with(
+            template,
+            typical,
+            &extended_template_0(a),
+            bitmap,
+            decoder,
+            contexts,
+            steps,
+        ),
+        GenericTemplatePixels::Regular(a) => match template {
+            Template::Template0 => decode_with(
+                template,
+                typical,
+                &template_0(a),
+                bitmap,
+                decoder,
+                contexts,
+                steps,
+            ),
+            Template::Template1 => decode_with(
+                template,
+                typical,
+                &template_1(a),
+                bitmap,
+                decoder,
+                contexts,
+                steps,
+            ),
+            Template::Template2 => decode_with(
+                template,
+                typical,
+                &template_2(a),
+                bitmap,
+                decoder,
+                contexts,
+                steps,
+            ),
+            Template::Template3 => decode_with(
+                template,
+                typical,
+                &template_3(a),
+                bitmap,
+                decoder,
+                contexts,
+                steps,
+            ),
+        },
+    }
 }

@@ -1,12 +1,14 @@
 //! Regions that are decoded pixel by pixel (T.88, 6.2.5 and 6.3.5): what generic regions and
 //! refinements have in common.
-ghost use Rattle.std.specs.Prelude.{◌≡◌, ℕ, ◌+◌, ◌*◌, ◌^◌, ◌<◌, ◌≤◌, [], length, IfSome, false};
+ghost use Rattle.std.specs.Prelude.{◌≡◌, ℕ, ◌+◌, ◌*◌, ◌^◌, ◌<◌, ◌≤◌, [], length, IfSome, false, Ok};
+ghost use Rattle.jbig2_base.specs.Answer.{Gives};
 ghost use Rattle.jbig2_base.specs.Grid.{Grid, blank, pixel, bit_number};
-ghost use Rattle.jbig2_region.specs.Raster.{Coding, Region, known, so_far, no_pixels, after_pixel, after_pixels, row_begun, decoded};
+ghost use Rattle.jbig2_region.specs.Raster.{Coding, Region, known, so_far, no_pixels, after_pixel, after_pixels, row_begun, decoded, fresh_contexts};
 ghost use Rattle.jbig2_region.specs.Holds.{Holds, BeginsRow};
 
 use jbig2_base::bitmap::Bitmap;
 use jbig2_base::bitmap::steps::Steps;
+use jbig2_base::error::Result;
 use jbig2_coder::arithmetic_decoder::{ArithmeticDecoder, ArithmeticDecoderContext};
 use std::alloc::Allocator;
 use std::sync::ledger::Ledger;
@@ -188,4 +190,17 @@ pub fn decode_region<C: PixelCoding, A: Allocator, L: Ledger>(
         predicted = begin_row(coding, predicted, decoder, contexts, steps);
         decode_row(coding, bitmap, y, predicted, decoder, contexts, steps);
     }
+}
+
+/// Makes `contexts` 2 to the power of `bits` contexts of which nothing is known.
+pub fn fresh_contexts<A: Allocator>(
+    contexts: &mut Vec<ArithmeticDecoderContext, A>,
+    bits: u32,
+) -> Result<()>
+    requires { bits ≤ 16 }
+    ensures { Gives (λ _. contexts.new.items) result (Ok (fresh_contexts bits)) }
+{
+    contexts.clear();
+    contexts.resize(1 << bits, ArithmeticDecoderContext::new())?;
+    Ok(())
 }

@@ -1,0 +1,38 @@
+-- What decoding a whole generic region gives.
+use Rattle.std.proofs.Common.{cond, take, ◌++◌, ◌≡◌, ℕ, ◌+◌, Bool, true, false, List, length, Result, Ok, Err, refl, sym, ap, ◌∙◌, subst}
+use Rattle.std.proofs.Math.Seq.{take-append_seam}
+use Rattle.jbig2_base.specs.declared.error.DecodeError.{DecodeError}
+use Rattle.jbig2_base.specs.declared.error.DecodeError.TheVariants.{Unsupported}
+use Rattle.jbig2_base.specs.Grid.{Grid, blank}
+use Rattle.jbig2_coder.specs.Coder.{Coder, Context, started}
+use Rattle.jbig2_region.specs.Generic.{coding_of, generic_coding, generic_region, generic_grid, generic_answer}
+use Rattle.jbig2_region.specs.GenericHeader.{GenericHeader}
+use Rattle.jbig2_region.specs.Holds.{Holds}
+use Rattle.jbig2_region.specs.Raster.{Region, so_far, decoded, no_pixels, fresh_contexts}
+use Rattle.jbig2_region.specs.Templates.{context_bits, template_pixels}
+
+-- the same region, decoded by a coder and contexts that stand at the start
+pub region-decoded : (h : GenericHeader) (before : Grid) (grid : Grid) (first coder : Coder) (fresh states : List Context) → before ≡ blank h.region_info.width h.region_info.height false → first.bytes ≡ h.bytes → first.registers ≡ started h.bytes → fresh ≡ fresh_contexts (context_bits h.template)
+    → Holds before.width before.height first.bytes (decoded (generic_coding h) before.width before.height first.bytes (no_pixels first.registers fresh)) grid coder states
+    → Holds h.region_info.width h.region_info.height h.bytes (generic_region h) grid coder states
+unfolding generic_region
+region-decoded h before grid first coder fresh states white bytes registers contexts holds =
+    let one = subst (λ (s : List Context). Holds before.width before.height first.bytes (decoded (generic_coding h) before.width before.height first.bytes (no_pixels first.registers s)) grid coder states) contexts holds in
+    let two = subst (λ r. Holds before.width before.height first.bytes (decoded (generic_coding h) before.width before.height first.bytes (no_pixels r (fresh_contexts (context_bits h.template)))) grid coder states) registers one in
+    let three = subst (λ (b : List ℕ). Holds before.width before.height b (decoded (generic_coding h) before.width before.height b (no_pixels (started h.bytes) (fresh_contexts (context_bits h.template)))) grid coder states) bytes two in
+    subst (λ (g : Grid). Holds g.width g.height h.bytes (decoded (generic_coding h) g.width g.height h.bytes (no_pixels (started h.bytes) (fresh_contexts (context_bits h.template)))) grid coder states) white three
+
+pub answer-decoded : (h : GenericHeader) (grid : Grid) (coder : Coder) (states : List Context) → h.mmr ≡ false → Holds h.region_info.width h.region_info.height h.bytes (generic_region h) grid coder states → generic_answer h ≡ Ok grid
+unfolding generic_grid
+answer-decoded h grid coder states coded holds =
+    ap (λ (b : Bool). if_mmr b (so_far h.region_info.width h.region_info.height (generic_region h).pixels)) coded ∙ ap (λ (g : Grid). if_mmr false g) (sym holds.pixels)
+  where
+    if_mmr : Bool → Grid → Result Grid DecodeError
+    if_mmr b g = cond b (Err Unsupported) (Ok g)
+
+-- what a slice's user leaves of the whole Vec
+pub whole-slice : {X : Type 0} (n : ℕ) (xs ys : List X) → length xs ≡ n → take n (xs ++ ys) ≡ xs
+whole-slice n xs ys all = subst (λ (k : ℕ). take k (xs ++ ys) ≡ xs) all (take-append_seam xs ys)
+
+pub ok-inner : {X : Type 0} (x y : X) → ◌≡◌ {A = Result X DecodeError} (Ok x) (Ok y) → x ≡ y
+ok-inner x y e = cc
