@@ -1,3 +1,4 @@
+mod Direct
 pub mod Runs
 pub mod Sending
 pub mod Spelling

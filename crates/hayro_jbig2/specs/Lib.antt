@@ -1,3 +1,4 @@
 pub mod Calls
 pub mod Page
+pub mod PageViews
 pub mod Sends

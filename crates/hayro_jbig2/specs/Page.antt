@@ -1,17 +1,22 @@
 -- What a page shows (T.88, 8): the fold of its segments over what was drawn so far.
-use Rattle.std.specs.Prelude.{ℕ, ◌+◌, ◌/◌, ◌==◌, nat_le, Bool, true, false, List, [], ◌∷◌, Result, Ok, Err, if◌then◌else◌}
-use Rattle.std.specs.Int.{w32}
+use Rattle.std.specs.Prelude.{ℕ, ◌+◌, ◌/◌, ◌==◌, nat_le, Bool, true, false, ◌&&◌, not, is_none, List, [], ◌∷◌, ◌++◌, Option, Some, None, Result, Ok, Err, if◌then◌else◌, pos}
+use Rattle.std.specs.Int.{w32, cast_signed}
 use Rattle.jbig2_base.specs.Answer.{◌>>=◌, refuse_if}
+use Rattle.jbig2_base.specs.Combination.{combined}
 use Rattle.jbig2_base.specs.Fields.{number_at}
 use Rattle.jbig2_base.specs.Grid.{Grid, blank}
 use Rattle.jbig2_base.specs.PageInfo.{sheet_of}
 use Rattle.jbig2_base.specs.Segment.{Part}
 use Rattle.jbig2_base.specs.Sequential.{sorted_segments}
+use Rattle.jbig2_base.specs.declared.bitmap.operator.CombinationOperator.{CombinationOperator}
+use Rattle.jbig2_base.specs.declared.bitmap.operator.CombinationOperator.TheVariants.{Or, And, Xor, Xnor, Replace}
 use Rattle.jbig2_base.specs.declared.error.DecodeError.{DecodeError}
 use Rattle.jbig2_base.specs.declared.error.DecodeError.TheVariants.{Unsupported}
 use Rattle.jbig2_base.specs.declared.page_info.Sheet.{Sheet}
 use Rattle.jbig2_base.specs.declared.segment.SegmentType.{SegmentType}
 use Rattle.jbig2_base.specs.declared.segment.SegmentType.TheVariants as types
+use Rattle.jbig2_region.specs.Generic.{PlacedRegion, generic_decoded}
+use Rattle.jbig2_region.specs.GenericHeader.{GenericHeader, generic_header_at}
 
 -- A page: whether it is read strictly, what it begins as, and its segments in order.
 pub record Leaf : Type 0 where
@@ -19,9 +24,16 @@ pub record Leaf : Type 0 where
   pub sheet : Sheet
   pub parts : List Part
 
--- What was drawn so far.
+-- An intermediate region, kept under its segment's number.
+pub record Stored : Type 0 where
+  pub segment_number : ℕ
+  pub region : PlacedRegion
+
+-- What was drawn so far, the regions that are kept, in order, and whether no immediate region came before.
 pub record Drawing : Type 0 where
   pub grid : Grid
+  pub regions : List Stored
+  pub untouched : Bool
 
 abbrev pub ends_page : SegmentType → Bool
 ends_page types.EndOfPage = true
@@ -32,6 +44,34 @@ ends_page _ = false
 abbrev pub extension : Bool → List ℕ → Result (Unit {0}) DecodeError
 extension true bytes = number_at w32 bytes >>= λ kind. refuse_if (nat_le 2147483648 kind.0) Unsupported
 extension false bytes = Ok tt
+
+-- A generic region's data (7.4.6); with unknown length its last four bytes are the number of rows.
+unfoldable pub generic_at : Bool → Bool → List ℕ → Result PlacedRegion DecodeError
+generic_at unknown_length strict bytes = do
+  header ← generic_header_at unknown_length strict bytes
+  generic_decoded header.0
+
+-- A header that asks for MMR, which is not decoded yet: no mode passes that over.
+abbrev pub asks_for_mmr : Result (GenericHeader × List ℕ) DecodeError → Bool
+asks_for_mmr (Ok header) = header.0.mmr
+asks_for_mmr (Err e) = false
+
+-- An immediate region is combined with the page at its place, read as two signed numbers (7.4.1). Lenient reading
+-- passes over one that fails, which leaves the page as it was and counts as a region that came before.
+abbrev pub immediate : Bool → Drawing → Result PlacedRegion DecodeError → Result Drawing DecodeError
+immediate strict d (Ok r) = Ok (record d { grid = combined r.combination_operator d.grid r.grid (cast_signed w32 r.x_location) (cast_signed w32 r.y_location); untouched = false })
+immediate strict d (Err e) = if strict then Err e else Ok (record d { untouched = false })
+
+unfoldable pub immediate_generic : Bool → Part → Drawing → Result Drawing DecodeError
+immediate_generic strict p d = do
+  carried ← refuse_if (asks_for_mmr (generic_header_at (is_none p.header.data_length) strict p.bytes)) Unsupported
+  immediate strict d (generic_at (is_none p.header.data_length) strict p.bytes)
+
+-- An intermediate region is kept. Of unknown length it is no special case: the row count stays in its data.
+unfoldable pub intermediate_generic : Bool → Part → Drawing → Result Drawing DecodeError
+intermediate_generic strict p d = do
+  region ← generic_at false strict p.bytes
+  Ok (record d { regions = d.regions ++ record { segment_number = p.header.segment_number; region = region } ∷ [] })
 
 -- One segment. Page information after the beginning, stripes, profiles, palettes and types without a meaning
 -- change nothing.
@@ -45,6 +85,9 @@ segment_on strict p d = on p.header.segment_type
     on types.ColourPalette = Ok d
     on types.Reserved = Ok d
     on types.Extension = extension strict p.bytes >>= λ known. Ok d
+    on types.IntermediateGenericRegion = intermediate_generic strict p d
+    on types.ImmediateGenericRegion = immediate_generic strict p d
+    on types.ImmediateLosslessGenericRegion = immediate_generic strict p d
     on _ = Err Unsupported
 
 -- The segments in order, up to an end of page or an end of file.
@@ -54,7 +97,7 @@ drawn strict (p ∷ ps) d = if ends_page p.header.segment_type then Ok d else (s
 
 -- The page begins in its default pixel.
 abbrev pub started : Sheet → Drawing
-started sheet = record { grid = blank sheet.width sheet.height sheet.default_pixel }
+started sheet = record { grid = blank sheet.width sheet.height sheet.default_pixel; regions = []; untouched = true }
 
 unfoldable pub grid_of_page : Leaf → Result Grid DecodeError
 grid_of_page page = drawn page.strict page.parts (started page.sheet) >>= λ d. Ok d.grid
@@ -65,3 +108,11 @@ embedded strict bytes = do
   parts ← sorted_segments strict bytes
   sheet ← sheet_of parts
   Ok (record { strict = strict; sheet = sheet; parts = parts })
+
+-- On a page of one colour this operator gives the region's pixels themselves.
+abbrev pub draws_over : CombinationOperator → Bool → Bool
+draws_over Replace black = true
+draws_over Or black = not black
+draws_over Xor black = not black
+draws_over And black = black
+draws_over Xnor black = black

@@ -1,35 +1,99 @@
 //! What decoding keeps from page to page.
-ghost use Rattle.std.specs.Prelude.{false, Ok};
+ghost use Rattle.std.specs.Prelude.{◌≡◌, ◌≤◌, ◌∷◌, ◌++◌, [], true, false, Ok};
+ghost use Rattle.std.specs.Int.{w32, cast_signed};
 ghost use Rattle.jbig2_base.specs.Answer.{Gives};
 ghost use Rattle.jbig2_base.specs.Grid.{blank};
+ghost use Rattle.jbig2_region.specs.Generic.{region_view};
+ghost use Rattle.hayro_jbig2.specs.Page.{Drawing, Stored, started, immediate};
 
 use jbig2_base::bitmap::Bitmap;
+use jbig2_base::bitmap::steps::Steps;
 use jbig2_base::error::Result;
+use jbig2_base::page_info::Sheet;
+use jbig2_coder::arithmetic_decoder::ArithmeticDecoderContext;
+use jbig2_region::generic::DecodedRegion;
 use std::alloc::Allocator;
 use std::marker::Model;
+use std::sync::ledger::Ledger;
+
+/// A region that later segments may refer to by its number.
+#[derive(Drop)]
+pub(crate) struct StoredRegion<A: Allocator> {
+    pub(crate) segment_number: u32,
+    pub(crate) region: DecodedRegion<A>,
+}
 
 /// The room that decoding a page uses and the next page uses again. What it holds from before
 /// changes nothing of a page.
 #[derive(Drop)]
 pub struct DecoderContext<A: Allocator> {
+    pub(crate) alloc: A,
     pub(crate) bitmap: Bitmap<A>,
+    pub(crate) regions: Vec<StoredRegion<A>, A>,
+    pub(crate) untouched: bool,
+    pub(crate) contexts: Vec<ArithmeticDecoderContext, A>,
 }
 
 impl<A: Allocator> Model for DecoderContext<A> {
-    ghost use Rattle.jbig2_base.specs.Grid.{Grid};
+    ghost use Rattle.hayro_jbig2.specs.Page.{Drawing};
+    ghost use Rattle.hayro_jbig2.specs.PageViews.{stored_regions};
 
-    ghost Value = { Grid };
+    ghost Value = { Drawing };
 
-    ghost view = { λ context. context.bitmap };
+    ghost view = { λ c. record { grid = c.bitmap; regions = stored_regions c.regions.items; untouched = c.untouched } };
+}
+
+impl<A: Allocator + Clone> DecoderContext<A> {
+    /// A context that holds a page of no pixels. `DecodeError::OutOfMemory` alone refuses it.
+    pub fn new(alloc: A) -> Result<DecoderContext<A>>
+        ensures { Gives (λ context. context) result (Ok (record { grid = blank 0 0 false; regions = []; untouched = true })) }
+    {
+        Ok(DecoderContext {
+            bitmap: Bitmap::new_empty(alloc.clone()?),
+            regions: Vec::new(alloc.clone()?),
+            untouched: true,
+            contexts: Vec::new(alloc.clone()?),
+            alloc,
+        })
+    }
 }
 
 impl<A: Allocator> DecoderContext<A> {
-    /// A context that holds a page of no pixels. `DecodeError::OutOfMemory` alone refuses it.
-    pub fn new(alloc: A) -> Result<DecoderContext<A>>
-        ensures { Gives (λ context. context) result (Ok (blank 0 0 false)) }
+    /// Begins a page: nothing of an earlier one is left.
+    pub(crate) fn begin(&mut self, sheet: &Sheet) -> Result<()>
+        requires width { sheet.now.width ≤ 65535 }
+        requires height { sheet.now.height ≤ 65535 }
+        ensures { Gives (λ _. self.new) result (Ok (started sheet.now)) }
     {
-        Ok(DecoderContext {
-            bitmap: Bitmap::new_empty(alloc),
-        })
+        self.bitmap
+            .reinitialize(sheet.width, sheet.height, sheet.default_pixel)?;
+        self.regions.clear();
+        self.untouched = true;
+        Ok(())
+    }
+
+    /// Combines an immediate region with the page, at its place as signed numbers (T.88, 7.4.1).
+    pub(crate) fn combine<L: Ledger>(&mut self, region: &DecodedRegion<A>, steps: &mut Steps<L>)
+        ensures { Ok self.new ≡ immediate true self.old (Ok (region_view region.now)) }
+    {
+        self.bitmap.combine(
+            &region.bitmap,
+            region.x_location.cast_signed(),
+            region.y_location.cast_signed(),
+            region.combination_operator,
+            steps,
+        );
+        self.untouched = false;
+    }
+
+    /// Keeps an intermediate region under its segment's number.
+    pub(crate) fn store(&mut self, segment_number: u32, region: DecodedRegion<A>) -> Result<()>
+        ensures { Gives (λ _. self.new) result (Ok (record self.old { regions = self.old.regions ++ record { segment_number = segment_number; region = region_view region } ∷ [] })) }
+    {
+        self.regions.push(StoredRegion {
+            segment_number,
+            region,
+        })?;
+        Ok(())
     }
 }

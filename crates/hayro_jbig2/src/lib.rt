@@ -7,6 +7,7 @@
 pub mod calls;
 pub mod context;
 pub mod decoder;
+mod drawing;
 pub mod page;
 pub mod parts;
 pub mod settings;

@@ -1,24 +1,25 @@
 //! Pages.
-ghost use Rattle.std.specs.Prelude.{◌≡◌, ℕ, ◌+◌, ◌-◌, ◌^◌, ◌<◌, ◌≤◌};
-ghost use Rattle.jbig2_base.specs.Answer.{Answers, Gives};
-ghost use Rattle.jbig2_base.specs.Grid.{Grid};
-ghost use Rattle.jbig2_base.specs.SegmentViews.{part_view, parts};
+ghost use Rattle.std.specs.Prelude.{◌≡◌, ℕ, ◌+◌, ◌-◌, ◌^◌, ◌<◌, ◌≤◌, Bool, IsTrue, pos};
+ghost use Rattle.jbig2_base.specs.Answer.{Gives};
+ghost use Rattle.jbig2_base.specs.Combination.{combined};
+ghost use Rattle.jbig2_base.specs.Grid.{Grid, blank};
+ghost use Rattle.jbig2_base.specs.Table.{IsTable};
+ghost use Rattle.jbig2_base.specs.declared.bitmap.operator.CombinationOperator.{CombinationOperator};
 ghost use Rattle.hayro_jbig2.specs.Calls.{Spells, calls_of};
-ghost use Rattle.hayro_jbig2.specs.Page.{Leaf, Drawing, embedded, grid_of_page, extension, ends_page, segment_on, drawn};
+ghost use Rattle.hayro_jbig2.specs.Page.{Leaf, embedded, grid_of_page, draws_over};
 ghost use Rattle.hayro_jbig2.specs.Sends.{Decodes};
 
 use crate::calls::push_bitmap;
 use crate::context::DecoderContext;
 use crate::decoder::Decoder;
+use crate::drawing::draw_segments;
 use crate::settings::DecodeSettings;
-use jbig2_base::bitmap::Bitmap;
 use jbig2_base::bitmap::steps::Steps;
-use jbig2_base::error::{DecodeError, Result};
-use jbig2_base::field::u32_field;
+use jbig2_base::error::Result;
 use jbig2_base::file::parse_segments_sequential;
 use jbig2_base::page_info::Sheet;
 use jbig2_base::reader::Reader;
-use jbig2_base::segment::{Segment, SegmentType};
+use jbig2_base::segment::Segment;
 use jbig2_base::sort::sort_segments;
 use std::alloc::Allocator;
 use std::marker::{Brand, Model};
@@ -44,65 +45,6 @@ impl<'a, A: Allocator> Model for Page<'a, A> {
     ghost view = { λ page. record { strict = page.strict; sheet = page.sheet; parts = parts page.segments.items } };
 
     ghost invariant = { λ page. (page.sheet.width ≤ 65535) × (page.sheet.height ≤ 65535) };
-}
-
-fn extension(strict: bool, bytes: &[u8]) -> Result<()>
-    ensures { Answers (λ known. known) result (extension strict bytes.now) }
-{
-    if !strict {
-        return Ok(());
-    }
-    let mut reader = Reader::new(bytes);
-    let kind = u32_field(&mut reader)?;
-    if kind >= 0x8000_0000 {
-        return Err(DecodeError::Unsupported);
-    }
-    Ok(())
-}
-
-fn ends_page(kind: SegmentType) -> bool
-    ensures { result ≡ ends_page kind }
-{
-    matches!(kind, SegmentType::EndOfPage | SegmentType::EndOfFile)
-}
-
-/// Draws one segment onto the page.
-fn draw_segment<A: Allocator, B: Allocator>(
-    strict: bool,
-    segment: &Segment<'_, A>,
-    page: &mut Bitmap<B>,
-) -> Result<()>
-    ensures { Gives (λ _. record { grid = page.new }) result (segment_on strict (part_view segment.now) (record { grid = page.old })) }
-{
-    match segment.header.segment_type {
-        SegmentType::PageInformation
-        | SegmentType::EndOfStripe
-        | SegmentType::Profiles
-        | SegmentType::ColourPalette
-        | SegmentType::Reserved => Ok(()),
-        SegmentType::Extension => extension(strict, segment.bytes),
-        _ => Err(DecodeError::Unsupported),
-    }
-}
-
-/// Draws the segments in order, up to an end of page or an end of file.
-fn draw_segments<A: Allocator, B: Allocator>(
-    strict: bool,
-    segments: &[Segment<'_, A>],
-    page: &mut Bitmap<B>,
-) -> Result<()>
-    ensures { Gives (λ _. record { grid = page.new }) result (drawn strict (parts segments.now) (record { grid = page.old })) }
-{
-    for segment in segments {
-        if ends_page(segment.header.segment_type) {
-            return Ok(());
-        }
-        match draw_segment(strict, segment, page) {
-            Ok(()) => {}
-            Err(error) => return Err(error),
-        }
-    }
-    Ok(())
 }
 
 impl<'a, A: Allocator> Page<'a, A> {
@@ -176,7 +118,7 @@ impl<'a, A: Allocator> Page<'a, A> {
     ///
     /// Answers the first fault of a segment that lenient reading does not pass over, or the
     /// Decoder's own refusal. No call is made before all segments are decoded.
-    pub fn decode_with<B: Allocator, D: Decoder>(
+    pub fn decode_with<B: Allocator + Clone, D: Decoder>(
         &self,
         decoder: &mut D,
         context: &mut DecoderContext<B>,
@@ -184,11 +126,13 @@ impl<'a, A: Allocator> Page<'a, A> {
         requires { D.refusals decoder.old < 2 ^ 64 - 1 }
         ensures calls { Decodes D.step (grid_of_page self.now) result (D.picture decoder.old) (D.refusals decoder.old) (D.picture decoder.new) (D.refusals decoder.new) }
         ensures spelling { (g : Grid) → Spells (calls_of g) g }
+        ensures direct { (operator : CombinationOperator) (black : Bool) (region : Grid) → IsTable region → IsTrue (draws_over operator black)
+            → combined operator (blank region.width region.height black) region (pos 0) (pos 0) ≡ region }
     {
         self.decode_counted::<B, D, Brand>(decoder, context, Blank::new(6))
     }
 
-    fn decode_counted<B: Allocator, D: Decoder, L: Ledger>(
+    fn decode_counted<B: Allocator + Clone, D: Decoder, L: Ledger>(
         &self,
         decoder: &mut D,
         context: &mut DecoderContext<B>,
@@ -201,19 +145,22 @@ impl<'a, A: Allocator> Page<'a, A> {
         ensures { Decodes D.step (grid_of_page self.now) result (D.picture decoder.old) (D.refusals decoder.old) (D.picture decoder.new) (D.refusals decoder.new) }
     {
         let mut steps = Steps::<L>::new(blank);
-        match self.draw_into(&mut context.bitmap) {
+        match self.draw_into(context, &mut steps) {
             Ok(()) => push_bitmap(&context.bitmap, decoder, &mut steps),
             Err(error) => Err(error),
         }
     }
 
-    /// Draws the whole page into a bitmap.
+    /// Draws the whole page into the context's bitmap.
     #[tactic(auto, unfolding(crate::specs::Page::grid_of_page))]
-    fn draw_into<B: Allocator>(&self, page: &mut Bitmap<B>) -> Result<()>
-        ensures { Gives (λ _. page.new) result (grid_of_page self.now) }
+    fn draw_into<B: Allocator + Clone, L: Ledger>(
+        &self,
+        context: &mut DecoderContext<B>,
+        steps: &mut Steps<L>,
+    ) -> Result<()>
+        ensures { Gives (λ _. context.new.grid) result (grid_of_page self.now) }
     {
-        let sheet = self.sheet;
-        page.reinitialize(sheet.width, sheet.height, sheet.default_pixel)?;
-        draw_segments(self.strict, &self.segments, page)
+        context.begin(&self.sheet)?;
+        draw_segments(self.strict, &self.segments, context, steps)
     }
 }

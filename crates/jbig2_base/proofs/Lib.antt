@@ -8,7 +8,4 @@ pub mod ReaderLemmas
 pub mod SegmentLemmas
 pub mod Sequential
 pub mod Sorting
-mod BitLemmas
-pub mod GridLemmas
-mod PackedLemmas
 mod WriteLemmas

@@ -2,8 +2,5 @@ pub mod Generic
 pub mod GenericHeader
 pub mod Holds
 pub mod Raster
-pub mod GenericHeader
-pub mod Holds
-pub mod Raster
 pub mod RegionInfo
 pub mod Templates

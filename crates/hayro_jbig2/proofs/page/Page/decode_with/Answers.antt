@@ -1,5 +1,9 @@
+use Rattle.hayro_jbig2.proofs.Direct.{combined-over}
 use Rattle.hayro_jbig2.proofs.Spelling.{spells}
 use Rattle.hayro_jbig2.proofs.page.Page.decode_with.Goals as goal
 
 pub returns-clause-spelling : goal.returns-clause-spelling
 returns-clause-spelling g c = spells
+
+pub returns-clause-direct : goal.returns-clause-direct
+returns-clause-direct g c = combined-over

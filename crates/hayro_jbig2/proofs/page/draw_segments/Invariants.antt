@@ -1,7 +1,0 @@
-use Rattle.std.proofs.Common.{◌≡◌, drop}
-use Rattle.jbig2_base.specs.SegmentViews.{parts}
-use Rattle.hayro_jbig2.specs.Page.{drawn}
-use Rattle.hayro_jbig2.proofs.page.draw_segments.Given as goal
-
-abbrev pub invariant-loop-segment : goal.invariant-loop-segment
-invariant-loop-segment g l = drawn l.strict (parts (drop l.segment-index l.segments)) (record { grid = l.page }) ≡ drawn l.strict (parts l.segments) (record { grid = l.fn.page })

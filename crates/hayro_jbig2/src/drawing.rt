@@ -1,0 +1,174 @@
+//! Segments drawn onto a page (T.88, 8.2).
+ghost use Rattle.std.specs.Prelude.{◌≡◌, is_none, Ok};
+ghost use Rattle.jbig2_base.specs.Answer.{Answers, Gives};
+ghost use Rattle.jbig2_base.specs.SegmentViews.{part_view, parts};
+ghost use Rattle.jbig2_region.specs.Generic.{PlacedRegion, region_view};
+ghost use Rattle.jbig2_region.specs.GenericHeader.{generic_header_at};
+ghost use Rattle.hayro_jbig2.specs.Page.{Drawing, extension, ends_page, generic_at, asks_for_mmr, immediate, immediate_generic, intermediate_generic, segment_on, drawn};
+
+use crate::context::DecoderContext;
+use jbig2_base::bitmap::steps::Steps;
+use jbig2_base::error::{DecodeError, Result};
+use jbig2_base::field::u32_field;
+use jbig2_base::reader::Reader;
+use jbig2_base::segment::{Segment, SegmentType};
+use jbig2_region::generic::{self, DecodedRegion};
+use std::alloc::Allocator;
+use std::sync::ledger::Ledger;
+
+/// An extension segment (T.88, 7.4.14).
+fn extension(strict: bool, bytes: &[u8]) -> Result<()>
+    ensures { Answers (λ known. known) result (extension strict bytes.now) }
+{
+    if !strict {
+        return Ok(());
+    }
+    let mut reader = Reader::new(bytes);
+    let kind = u32_field(&mut reader)?;
+    if kind >= 0x8000_0000 {
+        return Err(DecodeError::Unsupported);
+    }
+    Ok(())
+}
+
+fn ends_page(kind: SegmentType) -> bool
+    ensures { result ≡ ends_page kind }
+{
+    matches!(kind, SegmentType::EndOfPage | SegmentType::EndOfFile)
+}
+
+/// A generic region, decoded into a bitmap of its own (T.88, 7.4.6).
+#[tactic(auto, unfolding(crate::specs::Page::generic_at))]
+fn decode_generic<A: Allocator + Clone, L: Ledger>(
+    unknown_length: bool,
+    strict: bool,
+    bytes: &[u8],
+    context: &mut DecoderContext<A>,
+    steps: &mut Steps<L>,
+) -> Result<DecodedRegion<A>>
+    ensures value { Gives (λ region. region_view region) result (generic_at unknown_length strict bytes.now) }
+    ensures same { context.new ≡ context.old }
+{
+    let mut reader = Reader::new(bytes);
+    let header = generic::parse(&mut reader, unknown_length, strict)?;
+    generic::decode(
+        context.alloc.clone()?,
+        &header,
+        &mut context.contexts,
+        steps,
+    )
+}
+
+/// Whether a header asks for MMR, which is not decoded yet.
+fn asks_for_mmr(unknown_length: bool, strict: bool, bytes: &[u8]) -> bool
+    ensures { result ≡ asks_for_mmr (generic_header_at unknown_length strict bytes.now) }
+{
+    let mut reader = Reader::new(bytes);
+    match generic::parse(&mut reader, unknown_length, strict) {
+        Ok(header) => header.mmr,
+        Err(_) => false,
+    }
+}
+
+/// Combines an immediate region with the page. Lenient reading passes over one that failed, but
+/// never over want of memory.
+fn finish_immediate<A: Allocator, L: Ledger>(
+    strict: bool,
+    decoded: Result<DecodedRegion<A>>,
+    context: &mut DecoderContext<A>,
+    steps: &mut Steps<L>,
+) -> Result<()>
+    ensures { (meant : _) → Gives (λ region. region_view region) decoded meant → Gives (λ _. context.new) result (immediate strict context.old meant) }
+{
+    match decoded {
+        Ok(region) => {
+            context.combine(&region, steps);
+            Ok(())
+        }
+        Err(DecodeError::OutOfMemory) => Err(DecodeError::OutOfMemory),
+        Err(error) => {
+            if strict {
+                return Err(error);
+            }
+            context.untouched = false;
+            Ok(())
+        }
+    }
+}
+
+#[tactic(auto, unfolding(crate::specs::Page::immediate_generic))]
+fn draw_immediate_generic<S: Allocator, A: Allocator + Clone, L: Ledger>(
+    strict: bool,
+    segment: &Segment<'_, S>,
+    context: &mut DecoderContext<A>,
+    steps: &mut Steps<L>,
+) -> Result<()>
+    ensures { Gives (λ _. context.new) result (immediate_generic strict (part_view segment.now) context.old) }
+{
+    let unknown_length = segment.header.data_length.is_none();
+    if asks_for_mmr(unknown_length, strict, segment.bytes) {
+        return Err(DecodeError::Unsupported);
+    }
+    let decoded = decode_generic(unknown_length, strict, segment.bytes, context, steps);
+    finish_immediate(strict, decoded, context, steps)
+}
+
+#[tactic(auto, unfolding(crate::specs::Page::intermediate_generic))]
+fn store_intermediate_generic<S: Allocator, A: Allocator + Clone, L: Ledger>(
+    strict: bool,
+    segment: &Segment<'_, S>,
+    context: &mut DecoderContext<A>,
+    steps: &mut Steps<L>,
+) -> Result<()>
+    ensures { Gives (λ _. context.new) result (intermediate_generic strict (part_view segment.now) context.old) }
+{
+    let region = decode_generic(false, strict, segment.bytes, context, steps)?;
+    context.store(segment.header.segment_number, region)
+}
+
+/// Draws one segment onto the page.
+fn draw_segment<S: Allocator, A: Allocator + Clone, L: Ledger>(
+    strict: bool,
+    segment: &Segment<'_, S>,
+    context: &mut DecoderContext<A>,
+    steps: &mut Steps<L>,
+) -> Result<()>
+    ensures { Gives (λ _. context.new) result (segment_on strict (part_view segment.now) context.old) }
+{
+    match segment.header.segment_type {
+        SegmentType::PageInformation
+        | SegmentType::EndOfStripe
+        | SegmentType::Profiles
+        | SegmentType::ColourPalette
+        | SegmentType::Reserved => Ok(()),
+        SegmentType::Extension => extension(strict, segment.bytes),
+        SegmentType::IntermediateGenericRegion => {
+            store_intermediate_generic(strict, segment, context, steps)
+        }
+        SegmentType::ImmediateGenericRegion | SegmentType::ImmediateLosslessGenericRegion => {
+            draw_immediate_generic(strict, segment, context, steps)
+        }
+        _ => Err(DecodeError::Unsupported),
+    }
+}
+
+/// Draws segments in order, up to an end of page or an end of file.
+pub(crate) fn draw_segments<S: Allocator, A: Allocator + Clone, L: Ledger>(
+    strict: bool,
+    segments: &[Segment<'_, S>],
+    context: &mut DecoderContext<A>,
+    steps: &mut Steps<L>,
+) -> Result<()>
+    ensures { Gives (λ _. context.new) result (drawn strict (parts segments.now) context.old) }
+{
+    for segment in segments {
+        if ends_page(segment.header.segment_type) {
+            return Ok(());
+        }
+        match draw_segment(strict, segment, context, steps) {
+            Ok(()) => {}
+            Err(error) => return Err(error),
+        }
+    }
+    Ok(())
+}
