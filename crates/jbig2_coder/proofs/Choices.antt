@@ -1,10 +1,10 @@
 -- The paths through a decision, and the bytes that are read.
-use Rattle.std.proofs.Common.{◌≡◌, ◌≢◌, ℕ, ◌+◌, ◌-◌, ◌*◌, ◌/◌, ◌%◌, ◌^◌, ◌<◌, ◌≤◌, Bool, true, false, not, List, length, refl, ap, arith, ⊎_elim}
+use Rattle.std.proofs.Common.{◌≡◌, ◌≢◌, ℕ, ◌+◌, ◌-◌, ◌*◌, ◌/◌, ◌%◌, ◌^◌, ◌<◌, ◌≤◌, true, false, not, List, length, ap, arith, ⊎_elim}
 use Rattle.std.proofs.lemmas.Bool.{cases_lt}
 use Rattle.std.proofs.lemmas.Bool.Decides.{nat_tests}
 use Rattle.std.proofs.lemmas.List.{get_or_past}
 use Rattle.jbig2_coder.specs.Table.{row_of}
-use Rattle.jbig2_coder.specs.Coder.{Context, Choice, byte_at, byte_in, choice, likely_next, unlikely_next}
+use Rattle.jbig2_coder.specs.Coder.{Context, byte_at, byte_in, choice, likely_next, unlikely_next}
 
 pub byte_at-inside : (bytes : List ℕ) (place : ℕ) → byte_at bytes place ≢ 0xFF → place < length bytes
 unfolding byte_at

@@ -1,6 +1,6 @@
 -- Reading bits: their number, PREV, and how a call's state stands to what was read.
 use Rattle.std.specs.Prelude.{bit_and, bit_or, ◌==◌}
-use Rattle.std.proofs.Common.{◌≡◌, ℕ, zero, suc, ◌+◌, ◌-◌, ◌*◌, ◌%◌, ◌^◌, ◌<◌, ◌≤◌, Bool, true, false, List, [], ◌∷◌, ◌++◌, length, drop, get_or, set, ℤ, pos, ◌-ℤ◌, Some, None, refl, sym, ap, ◌∙◌, arith, ⊎_elim, subst, add-one, length-append}
+use Rattle.std.proofs.Common.{◌≡◌, ℕ, zero, suc, ◌+◌, ◌-◌, ◌*◌, ◌%◌, ◌^◌, ◌<◌, ◌≤◌, Bool, true, false, List, [], ◌∷◌, ◌++◌, length, drop, get_or, set, ℤ, Some, None, refl, sym, ap, ◌∙◌, arith, subst, add-one, length-append}
 use Rattle.std.proofs.Math.Nat.{pow-suc, pow-le-pow_right}
 use Rattle.std.proofs.Math.Seq.{drop-length}
 use Rattle.std.proofs.lemmas.Nat.{or_lt, and_mask}
@@ -13,7 +13,7 @@ use mir.Syntax.{w32}
 use Rattle.jbig2_base.specs.Counts.{Counts}
 use Rattle.jbig2_base.specs.Grid.{bit_number}
 use Rattle.jbig2_coder.specs.Coder.{Coder, Context, Decision, decision, fresh}
-use Rattle.jbig2_coder.specs.Integers.{Reading, number, next, read, read_more, prev_next, prev_after, prev_of, prefix, Prefix, signed, value_of, range_of, integer, Ids, id, place_of}
+use Rattle.jbig2_coder.specs.Integers.{Reading, number, next, read, read_more, prev_next, prev_after, prev_of, prefix, signed, value_of, range_of, integer, Ids, id, place_of}
 use Rattle.jbig2_coder.specs.Stands.{Stands}
 use Rattle.jbig2_coder.specs.declared.arithmetic_decoder.registers.Registers.{Registers}
 

@@ -1,5 +1,5 @@
 -- What holds of every row of the table of states.
-use Rattle.std.proofs.Common.{◌≡◌, ℕ, ◌<◌, ◌≤◌, Bool, true, false, ◌&&◌, ltb, leb, get_or, refl, ap, ◌∙◌, ⊎_elim, subst, sym}
+use Rattle.std.proofs.Common.{◌≡◌, ℕ, ◌<◌, ◌≤◌, Bool, true, ◌&&◌, ltb, leb, get_or, refl, ap, ⊎_elim, subst, sym}
 use Rattle.std.proofs.lemmas.Bool.{agree_below_at, and_parts, ltb-true, leb-true, cases_lt}
 use Rattle.std.proofs.lemmas.List.{get_or_past, get_or_default}
 use Rattle.jbig2_coder.specs.Table.{rows, row_of}

@@ -1,9 +1,9 @@
 -- Quiet runs: how far A may fall.
-use Rattle.std.proofs.Common.{◌≡◌, ℕ, zero, suc, ◌+◌, ◌-◌, ◌*◌, ◌/◌, ◌^◌, ◌<◌, ◌≤◌, max, Bool, true, false, not, ◌&&◌, cond, List, refl, sym, ap, ◌∙◌, arith, ⊎_elim}
-use Rattle.std.proofs.lemmas.Bool.{cases_lt, cases_Bool, and_from, and_left, and_right, and_parts, true≢false}
+use Rattle.std.proofs.Common.{◌≡◌, ℕ, zero, suc, ◌+◌, ◌-◌, ◌*◌, ◌/◌, ◌^◌, ◌<◌, ◌≤◌, max, Bool, true, false, not, cond, List, refl, sym, ap, ◌∙◌, arith, ⊎_elim}
+use Rattle.std.proofs.lemmas.Bool.{cases_lt, and_from, and_left, and_right, true≢false}
 use Rattle.std.proofs.lemmas.Bool.Decides.{nat_tests}
 use Rattle.jbig2_coder.specs.Table.{row_of}
-use Rattle.jbig2_coder.specs.Coder.{Context, Choice, Decision, choice, decision, is_quiet, all_quiet}
+use Rattle.jbig2_coder.specs.Coder.{Context, choice, decision, is_quiet, all_quiet}
 use Rattle.jbig2_coder.specs.declared.arithmetic_decoder.registers.Registers.{Registers}
 use Rattle.jbig2_coder.proofs.Choices.{choice-quiet}
 use Rattle.jbig2_coder.proofs.Decisions.{decision-quiet}

@@ -56,9 +56,7 @@ impl ArithmeticDecoderContext {
             likely: false,
         }
     }
-}
 
-impl ArithmeticDecoderContext {
     #[inline(always)]
     #[tactic(auto, unfolding(crate::specs::Coder::likely_next))]
     pub(crate) fn after_likely(&mut self, row: QeData) -> bool

@@ -4,5 +4,5 @@
 
 pub mod arithmetic_decoder;
 pub mod integer_decoder;
-pub mod symbol_id_decoder;
 pub mod mq;
+pub mod symbol_id_decoder;

@@ -1,4 +1,4 @@
-use Rattle.std.proofs.Common.{◌≡◌, ◌∙◌, ap, ◌+◌, ◌*◌}
+use Rattle.std.proofs.Common.{◌∙◌, ap, ◌+◌, ◌*◌}
 use Rattle.std.specs.Prelude.{bit_and, bit_or}
 use Rattle.jbig2_coder.proofs.Readings.{prev_next-small, prev_next-large, kept-below}
 use Rattle.jbig2_coder.proofs.integer_decoder.following.Goals as goal

@@ -1,7 +1,7 @@
-use Rattle.std.proofs.Common.{◌≡◌, ◌<◌, length, get_or, set, sym, ap, ◌∙◌, arith}
+use Rattle.std.proofs.Common.{get_or, set, sym, ap, ◌∙◌, arith}
 use Rattle.jbig2_base.specs.Grid.{bit_number}
 use Rattle.jbig2_coder.specs.Coder.{Decision, Coder, decision}
-use Rattle.jbig2_coder.specs.Integers.{prev_next, prev_of, Reading}
+use Rattle.jbig2_coder.specs.Integers.{prev_next, prev_of}
 use Rattle.jbig2_coder.proofs.Readings.{Stands-decision, Stands-read, prev_after-push}
 use Rattle.jbig2_coder.proofs.integer_decoder.read_bit.Goals as goal
 

@@ -1,7 +1,6 @@
-use Rattle.std.proofs.Common.{◌≡◌, ℕ, ◌+◌, ◌*◌, ◌^◌, ◌<◌, List, refl, sym, ap, subst, ◌∙◌, arith, add-one, drop, length}
+use Rattle.std.proofs.Common.{◌≡◌, ℕ, ◌+◌, ◌*◌, ◌^◌, ◌<◌, List, refl, ap, subst, ◌∙◌, arith, add-one, drop, length}
 use Rattle.std.proofs.Math.Nat.{pow-suc}
 use Rattle.jbig2_base.specs.Grid.{bit_number}
-use Rattle.jbig2_coder.specs.Coder.{Decision}
 use Rattle.jbig2_coder.specs.Integers.{Reading, next, read_more, prev_of, number}
 use Rattle.jbig2_coder.specs.Stands.{Stands}
 use Rattle.jbig2_coder.proofs.Readings.{read_more-none, read_more-next, number-none, number-next, Stands-bytes}

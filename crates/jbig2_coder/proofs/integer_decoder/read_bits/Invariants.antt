@@ -1,4 +1,4 @@
-use Rattle.std.proofs.Common.{◌≡◌, ℕ, ◌^◌, ◌<◌, length, drop}
+use Rattle.std.proofs.Common.{◌≡◌, ◌^◌, ◌<◌, length, drop}
 use Rattle.jbig2_base.specs.Counts.{Counts}
 use Rattle.jbig2_coder.specs.Integers.{Reading, number, read_more, prev_of}
 use Rattle.jbig2_coder.specs.Stands.{Stands}

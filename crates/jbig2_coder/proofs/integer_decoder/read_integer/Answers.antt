@@ -1,8 +1,6 @@
-use Rattle.std.proofs.Common.{◌≡◌, ℕ, ◌+◌, List, length, ap, subst, ◌∙◌}
+use Rattle.std.proofs.Common.{ap, subst, ◌∙◌}
 use Rattle.std.specs.Prelude.{◌==◌}
-use Rattle.jbig2_base.specs.Counts.{Counts}
-use Rattle.jbig2_coder.specs.Coder.{Coder}
-use Rattle.jbig2_coder.specs.Integers.{Reading, read, prefix, prev_after, prev_of, integer, value_of}
+use Rattle.jbig2_coder.specs.Integers.{Reading, read, prefix, prev_after, prev_of}
 use Rattle.jbig2_coder.specs.Stands.{Stands}
 use Rattle.jbig2_coder.proofs.Readings.{start_of, Stands-start, integer-reading, integer-value, bit_number-one}
 use Rattle.jbig2_coder.proofs.integer_decoder.read_integer.Goals as goal

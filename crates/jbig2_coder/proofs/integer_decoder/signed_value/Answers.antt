@@ -1,5 +1,4 @@
-use Rattle.std.proofs.Common.{◌≡◌, Some, true, false, ap, sym, ◌∙◌, arith}
-use Rattle.jbig2_coder.specs.Integers.{value_of}
+use Rattle.std.proofs.Common.{Some, ap, sym, ◌∙◌, arith}
 use Rattle.jbig2_coder.proofs.Readings.{signed-passed, value_of-positive, value_of-none, value_of-negative}
 use Rattle.jbig2_coder.proofs.integer_decoder.signed_value.Goals as goal
 

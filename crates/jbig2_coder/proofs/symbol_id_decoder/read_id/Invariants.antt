@@ -1,4 +1,4 @@
-use Rattle.std.proofs.Common.{◌≡◌, ◌+◌, ◌^◌, ◌<◌, ◌≤◌}
+use Rattle.std.proofs.Common.{◌≡◌, ◌+◌, ◌^◌, ◌<◌}
 use Rattle.jbig2_coder.specs.Integers.{read_more, place_of}
 use Rattle.jbig2_coder.specs.Stands.{Stands}
 use Rattle.jbig2_coder.proofs.Readings.{start_of}

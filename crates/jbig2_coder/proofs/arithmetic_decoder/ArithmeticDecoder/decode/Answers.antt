@@ -1,8 +1,7 @@
-use Rattle.std.proofs.Common.{◌≡◌, ℕ, ◌-◌, ◌<◌, ◌≤◌, sym, ap, ◌∙◌, arith}
+use Rattle.std.proofs.Common.{sym, ap, ◌∙◌}
 use Rattle.jbig2_base.specs.Grid.{bit_number}
-use Rattle.jbig2_coder.specs.Coder.{Decision, decision}
+use Rattle.jbig2_coder.specs.Coder.{Decision}
 use Rattle.jbig2_coder.specs.declared.arithmetic_decoder.qe_table.QeData.{QeData}
-use Rattle.jbig2_coder.specs.declared.arithmetic_decoder.registers.Registers.{Registers}
 use Rattle.jbig2_coder.proofs.Decisions.{bool_byte-bit, decision-quiet, decision-renorm}
 use Rattle.jbig2_coder.proofs.arithmetic_decoder.ArithmeticDecoder.decode.Goals as goal
 

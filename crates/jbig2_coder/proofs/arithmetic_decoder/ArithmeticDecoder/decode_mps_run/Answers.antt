@@ -1,5 +1,4 @@
-use Rattle.std.proofs.Common.{◌≡◌, sym, ap, arith}
-use Rattle.jbig2_coder.specs.Coder.{all_quiet}
+use Rattle.std.proofs.Common.{sym, ap, arith}
 use Rattle.jbig2_coder.specs.declared.arithmetic_decoder.qe_table.QeData.{QeData}
 use Rattle.jbig2_coder.proofs.Runs.{run-yes, run-no}
 use Rattle.jbig2_coder.proofs.arithmetic_decoder.ArithmeticDecoder.decode_mps_run.Goals as goal

@@ -1,6 +1,6 @@
 use Rattle.std.proofs.Common.{◌≡◌, ℕ, ◌-◌, ◌<◌, sym, ap, ◌∙◌, true, arith}
 use Rattle.jbig2_coder.specs.Table.{row_of}
-use Rattle.jbig2_coder.specs.Coder.{Context, choice}
+use Rattle.jbig2_coder.specs.Coder.{Context}
 use Rattle.jbig2_coder.specs.declared.arithmetic_decoder.qe_table.QeData.{QeData}
 use Rattle.jbig2_coder.proofs.Choices.{choice-upper_unlikely, choice-upper_likely, choice-lower_unlikely, choice-lower_likely, lower-c}
 use Rattle.jbig2_coder.proofs.arithmetic_decoder.ArithmeticDecoderContext.exchange.Goals as goal

@@ -1,4 +1,4 @@
-use Rattle.std.proofs.Common.{◌^◌, ◌*◌, ◌<◌, ◌≤◌, arith}
+use Rattle.std.proofs.Common.{arith}
 use Rattle.jbig2_coder.proofs.Renorm.{leading-half, leading-room}
 use Rattle.jbig2_coder.proofs.arithmetic_decoder.registers.batch.Goals as goal
 

@@ -1,5 +1,4 @@
-use Rattle.std.proofs.Common.{◌≡◌, ◌≢◌, ◌+◌, ◌≤◌, ◌∙◌, sym, arith}
-use Rattle.jbig2_coder.specs.Coder.{byte_at}
+use Rattle.std.proofs.Common.{◌+◌, ◌∙◌, arith}
 use Rattle.jbig2_coder.proofs.Choices.{byte_at-inside}
 use Rattle.jbig2_coder.proofs.arithmetic_decoder.registers.byte_in.Goals as goal
 

@@ -1,7 +1,4 @@
-use Rattle.std.proofs.Common.{◌≡◌, ℕ, ◌*◌, ◌%◌, ◌^◌, ◌<◌, ◌≤◌, sym, ap, ◌∙◌, arith}
-use Rattle.std.proofs.Math.Nat.{pow-le-pow_right, mul-le-mul_left}
-use Rattle.jbig2_coder.specs.Coder.{renormed}
-use Rattle.jbig2_coder.specs.declared.arithmetic_decoder.registers.CodeRegister.{CodeRegister}
+use Rattle.std.proofs.Common.{sym, ◌∙◌, arith}
 use Rattle.jbig2_coder.proofs.Renorm.{renormed-turn, renormed-stop, shifted-more}
 use Rattle.jbig2_coder.proofs.arithmetic_decoder.registers.renormalize.Goals as goal
 

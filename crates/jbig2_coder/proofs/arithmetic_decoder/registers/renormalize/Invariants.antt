@@ -1,4 +1,4 @@
-use Rattle.std.proofs.Common.{◌≡◌, ℕ, ◌-◌, ◌<◌, ◌≤◌, length}
+use Rattle.std.proofs.Common.{◌≡◌, ◌-◌, ◌<◌, ◌≤◌, length}
 use Rattle.jbig2_coder.specs.Coder.{renormed}
 use Rattle.jbig2_coder.proofs.arithmetic_decoder.registers.renormalize.Given as goal
 

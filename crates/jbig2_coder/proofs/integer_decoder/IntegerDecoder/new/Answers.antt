@@ -1,4 +1,4 @@
-use Rattle.std.proofs.Common.{◌≡◌, Ok, sym, replicate, ap, ◌∙◌}
+use Rattle.std.proofs.Common.{Ok, sym, replicate, ap, ◌∙◌}
 use Rattle.jbig2_coder.proofs.integer_decoder.IntegerDecoder.new.Goals as goal
 
 pub returns : goal.returns
