@@ -8,7 +8,7 @@ use Rattle.std.proofs.lemmas.Nat.{same_from_place, mod-mul-add, div-mul-add}
 use Rattle.jbig2_base.specs.Grid.{Grid, grid_of, blank, pixel_at, bit_number}
 use Rattle.jbig2_base.specs.Writes.{with_pixel}
 use Rattle.jbig2_base.proofs.GridLemmas.{grid_of-ext, pixel_at-grid_of}
-use Rattle.jbig2_region.specs.Raster.{Coding, Region, so_far, known, with_next, after_pixel, after_pixels, row_begun, after_rows, decoded, no_pixels}
+use Rattle.jbig2_region.specs.Raster.{Coding, Region, so_far, with_next, after_pixel, after_pixels, row_begun, after_rows, decoded, no_pixels}
 use Rattle.jbig2_region.specs.Holds.{Holds, BeginsRow}
 use Rattle.jbig2_coder.specs.Coder.{Coder, Context, Decision, fresh, decision}
 
@@ -61,14 +61,14 @@ so_far-push w h bits x y b len left above =
     ∙ pushed w bits x y i j b len left il)
 
 -- the next pixel, said by its column and its row
-after_pixel-at : (coding : Coding) (w h : ℕ) (input : List ℕ) (r : Region) (grid : Grid) (p : Bool) (x y : ℕ) → length r.pixels ≡ y * w + x → x < w → r.predicted ≡ p → grid ≡ so_far w h r.pixels → after_pixel coding w h input r ≡ with_next input r (coding.context grid x y) (known coding p grid x y)
+after_pixel-at : (coding : Coding) (w h : ℕ) (input : List ℕ) (r : Region) (grid : Grid) (p : Bool) (x y : ℕ) → length r.pixels ≡ y * w + x → x < w → r.predicted ≡ p → grid ≡ so_far w h r.pixels → after_pixel coding w h input r ≡ with_next input r (coding.context grid x y) (coding.known p grid x y)
 unfolding after_pixel
 after_pixel-at coding w h input r grid p x y len left predicted same =
     let column : length r.pixels % w ≡ x = ap (λ (n : ℕ). n % w) len ∙ mod-mul-add y w x left in
     let row : length r.pixels / w ≡ y = ap (λ (n : ℕ). n / w) len ∙ div-mul-add y w x left in
     rw (column, row, predicted, ← same)
 
-pub Holds-known : (coding : Coding) (w h : ℕ) (input : List ℕ) (r : Region) (grid after : Grid) (coder : Coder) (states : List Context) (x y : ℕ) (p colour : Bool) → length r.pixels ≡ y * w + x → x < w → y < h → r.predicted ≡ p → known coding p grid x y ≡ Some colour → after ≡ with_pixel grid x y colour → Holds w h input r grid coder states → Holds w h input (after_pixel coding w h input r) after coder states
+pub Holds-known : (coding : Coding) (w h : ℕ) (input : List ℕ) (r : Region) (grid after : Grid) (coder : Coder) (states : List Context) (x y : ℕ) (p colour : Bool) → length r.pixels ≡ y * w + x → x < w → y < h → r.predicted ≡ p → coding.known p grid x y ≡ Some colour → after ≡ with_pixel grid x y colour → Holds w h input r grid coder states → Holds w h input (after_pixel coding w h input r) after coder states
 unfolding with_next
 Holds-known coding w h input r grid after coder states x y p colour len left above predicted is_known written holds =
     let made : after_pixel coding w h input r ≡ with_next input r (coding.context grid x y) (Some colour) =
@@ -81,7 +81,7 @@ Holds-known coding w h input r grid after coder states x y p colour len left abo
       contexts = holds.contexts;
     })
 
-pub Holds-decided : (coding : Coding) (w h : ℕ) (input : List ℕ) (r : Region) (grid after : Grid) (coder next : Coder) (states : List Context) (x y k : ℕ) (p : Bool) (old new : Context) → length r.pixels ≡ y * w + x → x < w → y < h → r.predicted ≡ p → known coding p grid x y ≡ None → k ≡ coding.context grid x y → old ≡ get_or states k fresh → after ≡ with_pixel grid x y (decision coder.bytes coder.registers old).symbol → next ≡ record coder { registers = (decision coder.bytes coder.registers old).registers } → new ≡ (decision coder.bytes coder.registers old).context → Holds w h input r grid coder states → Holds w h input (after_pixel coding w h input r) after next (set states k new)
+pub Holds-decided : (coding : Coding) (w h : ℕ) (input : List ℕ) (r : Region) (grid after : Grid) (coder next : Coder) (states : List Context) (x y k : ℕ) (p : Bool) (old new : Context) → length r.pixels ≡ y * w + x → x < w → y < h → r.predicted ≡ p → coding.known p grid x y ≡ None → k ≡ coding.context grid x y → old ≡ get_or states k fresh → after ≡ with_pixel grid x y (decision coder.bytes coder.registers old).symbol → next ≡ record coder { registers = (decision coder.bytes coder.registers old).registers } → new ≡ (decision coder.bytes coder.registers old).context → Holds w h input r grid coder states → Holds w h input (after_pixel coding w h input r) after next (set states k new)
 unfolding with_next
 Holds-decided coding w h input r grid after coder next states x y k p old new len left above predicted is_open is_context is_old written is_next is_new holds =
     let made : after_pixel coding w h input r ≡ with_next input r (coding.context grid x y) None =

@@ -22,15 +22,15 @@ number_of (b ∷ bits) = bit_number b + 2 * number_of bits
 unfoldable pub context_at : List AdaptiveTemplatePixel → Grid → ℕ → ℕ → ℕ
 context_at template g x y = number_of (map (λ (p : AdaptiveTemplatePixel). pixel g (pos x +ℤ p.x) (pos y +ℤ p.y)) template)
 
--- a predicted row equals the row above it, and row 0 is then white (6.2.5.7)
-abbrev pub pixel_above : Grid → ℕ → ℕ → Option Bool
-pixel_above g x y = Some (pixel g (pos x) (pos y +ℤ negsuc 0))
+-- a pixel of a predicted row equals the one above it, and row 0 is then white (6.2.5.7)
+abbrev pub colour_above : Bool → Grid → ℕ → ℕ → Option Bool
+colour_above predicted g x y = if predicted then Some (pixel g (pos x) (pos y +ℤ negsuc 0)) else None
 
 -- by whether typical prediction is on, the template, and all of the template's pixels
 abbrev pub coding_of : Bool → Template → List AdaptiveTemplatePixel → Coding
 coding_of typical template pixels = record {
   context = context_at pixels;
-  prediction = pixel_above;
+  known = colour_above;
   row_context = (if typical then Some (row_context template) else None);
 }
 

@@ -17,16 +17,12 @@ pub record Region : Type 0 where
   pub contexts : List Context
 
 -- How a region is coded, by the grid so far and a place in it: the number of the context of the pixel there, and the
--- colour that the pixel takes without a decision if its row is predicted. With typical prediction, the
--- number of the context of the decision that begins a row.
+-- colour that the pixel takes without a decision, if any, by whether its row is predicted. With typical
+-- prediction, the number of the context of the decision that begins a row.
 pub record Coding : Type 0 where
   pub context : Grid → ℕ → ℕ → ℕ
-  pub prediction : Grid → ℕ → ℕ → Option Bool
+  pub known : Bool → Grid → ℕ → ℕ → Option Bool
   pub row_context : Option ℕ
-
--- the colour that the next pixel takes without a decision, if any
-abbrev pub known : Coding → Bool → Grid → ℕ → ℕ → Option Bool
-known coding predicted g x y = if predicted then coding.prediction g x y else None
 
 -- one pixel more: of a known colour, or else decided in context k
 unfoldable pub with_next : List ℕ → Region → ℕ → Option Bool → Region
@@ -40,7 +36,7 @@ unfoldable pub after_pixel : Coding → ℕ → ℕ → List ℕ → Region → 
 after_pixel coding w h bytes r =
     let n = length r.pixels in
     let g = so_far w h r.pixels in
-    with_next bytes r (coding.context g (n % w) (n / w)) (known coding r.predicted g (n % w) (n / w))
+    with_next bytes r (coding.context g (n % w) (n / w)) (coding.known r.predicted g (n % w) (n / w))
 
 unfoldable pub after_pixels : Coding → ℕ → ℕ → List ℕ → ℕ → Region → Region
 after_pixels coding w h bytes zero r = r

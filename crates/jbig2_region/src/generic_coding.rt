@@ -4,7 +4,7 @@ ghost use Rattle.jbig2_base.specs.Grid.{blank, pixel, bit_number};
 ghost use Rattle.jbig2_region.specs.GenericHeader.{FitsTemplate};
 ghost use Rattle.jbig2_region.specs.Holds.{Holds};
 ghost use Rattle.jbig2_region.specs.Raster.{decoded, no_pixels};
-ghost use Rattle.jbig2_region.specs.Generic.{context_at, pixel_above, coding_of};
+ghost use Rattle.jbig2_region.specs.Generic.{context_at, colour_above, coding_of};
 ghost use Rattle.jbig2_region.specs.Templates.{template_0, template_1, template_2, template_3, extended_template_0, row_context, context_bits, template_pixels};
 
 use crate::raster::{PixelCoding, decode_region, pixel_at};
@@ -185,8 +185,10 @@ fn context_at<A: Allocator, L: Ledger>(
     context
 }
 
-/// The pixel above, which the pixel at column `x` of row `y` equals in a predicted row.
-fn pixel_above<A: Allocator, L: Ledger>(
+/// In a predicted row, the colour of the pixel above.
+#[inline(always)]
+fn colour_above<A: Allocator, L: Ledger>(
+    predicted: bool,
     bitmap: &Bitmap<A>,
     x: u32,
     y: u32,
@@ -194,8 +196,11 @@ fn pixel_above<A: Allocator, L: Ledger>(
 ) -> Option<bool>
     requires column { x < 65536 }
     requires row { y < 65536 }
-    ensures { result ≡ pixel_above bitmap.now x y }
+    ensures { result ≡ colour_above predicted bitmap.now x y }
 {
+    if !predicted {
+        return None;
+    }
     Some(pixel_at(bitmap, x as i32, y as i32 - 1, steps) == 1)
 }
 
@@ -229,14 +234,16 @@ impl PixelCoding for GenericCoding<'_> {
         context_at(self.pixels, bitmap, x, y, steps)
     }
 
-    fn prediction<A: Allocator, L: Ledger>(
+    #[inline(always)]
+    fn known_colour<A: Allocator, L: Ledger>(
         &self,
+        predicted: bool,
         bitmap: &Bitmap<A>,
         x: u32,
         y: u32,
         steps: &mut Steps<L>,
     ) -> Option<bool> {
-        pixel_above(bitmap, x, y, steps)
+        colour_above(predicted, bitmap, x, y, steps)
     }
 
     fn row_context(&self) -> Option<u32> {

@@ -3,6 +3,6 @@
 
 pub mod generic;
 mod generic_coding;
-pub mod raster;
+mod raster;
 pub mod region_info;
 pub mod template;

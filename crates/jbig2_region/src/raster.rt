@@ -3,7 +3,7 @@
 ghost use Rattle.std.specs.Prelude.{◌≡◌, ℕ, ◌+◌, ◌*◌, ◌^◌, ◌<◌, ◌≤◌, [], length, IfSome, false, Ok};
 ghost use Rattle.jbig2_base.specs.Answer.{Gives};
 ghost use Rattle.jbig2_base.specs.Grid.{Grid, blank, pixel, bit_number};
-ghost use Rattle.jbig2_region.specs.Raster.{Coding, Region, known, so_far, no_pixels, after_pixel, after_pixels, row_begun, decoded, fresh_contexts};
+ghost use Rattle.jbig2_region.specs.Raster.{Coding, Region, so_far, no_pixels, after_pixel, after_pixels, row_begun, decoded, fresh_contexts};
 ghost use Rattle.jbig2_region.specs.Holds.{Holds, BeginsRow};
 
 use jbig2_base::bitmap::Bitmap;
@@ -32,10 +32,11 @@ pub trait PixelCoding {
         ensures value { result ≡ (coding self.now).context bitmap.now x y }
         ensures small { result < 2 ^ bits self.now };
 
-    /// In a predicted row, the colour that the pixel at column `x` of row `y` takes without a
-    /// decision (`true` is black).
-    fn prediction<A: Allocator, L: Ledger>(
+    /// The colour that the pixel at column `x` of row `y` takes without a decision, if any (`true`
+    /// is black), where its row is predicted if `predicted` says so.
+    fn known_colour<A: Allocator, L: Ledger>(
         &self,
+        predicted: bool,
         bitmap: &Bitmap<A>,
         x: u32,
         y: u32,
@@ -43,7 +44,7 @@ pub trait PixelCoding {
     ) -> Option<bool>
         requires column { x < 65536 }
         requires row { y < 65536 }
-        ensures { result ≡ (coding self.now).prediction bitmap.now x y };
+        ensures { result ≡ (coding self.now).known predicted bitmap.now x y };
 
     /// With typical prediction, the number of the context of the decision that begins a row.
     fn row_context(&self) -> Option<u32>
@@ -69,27 +70,6 @@ pub fn pixel_at<A: Allocator, L: Ledger>(
     bitmap.get_pixel(column as u32, row as u32, steps)
 }
 
-/// The colour that the pixel at column `x` of row `y` takes without a decision, if any.
-#[inline(always)]
-fn known_colour<C: PixelCoding, A: Allocator, L: Ledger>(
-    coding: &C,
-    bitmap: &Bitmap<A>,
-    x: u32,
-    y: u32,
-    predicted: bool,
-    steps: &mut Steps<L>,
-) -> Option<bool>
-    requires column { x < 65536 }
-    requires row { y < 65536 }
-    ensures { result ≡ known (C.coding coding.now) predicted bitmap.now x y }
-{
-    if predicted {
-        coding.prediction(bitmap, x, y, steps)
-    } else {
-        None
-    }
-}
-
 /// The next pixel of a region, at column `x` of row `y`.
 #[inline(always)]
 fn decode_pixel<C: PixelCoding, A: Allocator, L: Ledger>(
@@ -112,7 +92,7 @@ fn decode_pixel<C: PixelCoding, A: Allocator, L: Ledger>(
     ensures height { bitmap.new.height ≡ bitmap.old.height }
     ensures bytes { decoder.new.bytes ≡ decoder.old.bytes }
 {
-    if let Some(colour) = known_colour(coding, bitmap, x, y, predicted, steps) {
+    if let Some(colour) = coding.known_colour(predicted, bitmap, x, y, steps) {
         bitmap.set_pixel(x, y, colour, steps);
         return;
     }
