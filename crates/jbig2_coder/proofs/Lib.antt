@@ -7,3 +7,4 @@ pub mod Renorm
 pub mod Rows
 pub mod Runs
 pub mod WorkedLists
+pub mod PrefixWorked

@@ -5,3 +5,6 @@ pub mod Integers
 pub mod Lists
 pub mod Stands
 pub mod Table
+pub mod PrefixCode
+pub mod PrefixLevels
+pub mod Tables

@@ -1,0 +1,146 @@
+-- Prefix codes (T.88, B.3 and B.4): the codes that prefix lengths make, and how bits are read by them.
+use Rattle.std.specs.Prelude.{ℕ, zero, suc, ◌+◌, ◌-◌, ◌*◌, ◌/◌, ◌^◌, ◌≤◌, nat_lt, nat_le, ◌==◌, Bool, true, false, ◌&&◌, ◌||◌, List, [], ◌∷◌, ◌++◌, length, drop, max, filter, All, Option, Some, None, Result, Ok, Err, if◌then◌else◌, ℤ, pos, negsuc, ◌+ℤ◌, ◌-ℤ◌}
+use Rattle.jbig2_base.specs.Bits.{bits_next}
+use Rattle.jbig2_base.specs.declared.error.DecodeError.{DecodeError}
+use Rattle.jbig2_base.specs.declared.error.DecodeError.TheVariants.{Parse, Huffman}
+use Rattle.jbig2_base.specs.declared.error.ParseError.TheVariants.{UnexpectedEof}
+use Rattle.jbig2_base.specs.declared.error.HuffmanError.TheVariants.{InvalidCode, UnexpectedOob}
+use Rattle.jbig2_coder.specs.declared.huffman_table.line.TableLine.{TableLine}
+
+-- A code and the line that it stands for. A code is the number that its bits spell, high bit first,
+-- and how many bits it has.
+pub record Member : Type 0 where
+  pub bits : ℕ
+  pub number : ℕ
+  pub line : TableLine
+
+-- What a read answers, and how many bits it takes; where the bits end first, one more than there are.
+pub record Reading (A : Type 0) : Type 0 where
+  pub answer : Result A DecodeError
+  pub taken : ℕ
+
+-- the greatest prefix length
+abbrev pub longest : List TableLine → ℕ
+longest [] = 0
+longest (x ∷ xs) = max x.prefix_length (longest xs)
+
+-- the lines whose codes have l bits, in their order
+abbrev pub level : ℕ → List TableLine → List TableLine
+level l lines = filter (λ x. x.prefix_length == l) lines
+
+-- the codes of l bits that lie under a code of len bits, none for a line without a code
+abbrev pub share : ℕ → ℕ → ℕ
+share l len = if nat_lt 0 len && nat_le len l then 2 ^ (l - len) else 0
+
+-- the codes of l bits that lie under the codes of at most l bits
+unfoldable pub weight : ℕ → List TableLine → ℕ
+weight l [] = 0
+weight l (x ∷ xs) = share l x.prefix_length + weight l xs
+
+-- the codes of l bits that lie under the codes of fewer than l bits
+unfoldable pub shorter : ℕ → List TableLine → ℕ
+shorter l [] = 0
+shorter l (x ∷ xs) = (if nat_lt x.prefix_length l then share l x.prefix_length else 0) + shorter l xs
+
+-- the codes n, n + 1 and so on, of l bits
+abbrev pub numbered : ℕ → ℕ → List TableLine → List Member
+numbered l n [] = []
+numbered l n (x ∷ xs) = record { bits = l; number = n; line = x } ∷ numbered l (n + 1) xs
+
+-- the codes of n lengths from l on
+abbrev pub codes_from : ℕ → ℕ → List TableLine → List Member
+codes_from zero l lines = []
+codes_from (suc n) l lines = numbered l (shorter l lines) (level l lines) ++ codes_from n (l + 1) lines
+
+-- The code of a line of l bits is the sum of 2^(l - len) over the lines that are shorter, or as long
+-- and earlier (B.3). The members are listed by length, then by place.
+unfoldable pub prefix_code : List TableLine → List Member
+prefix_code lines = codes_from (longest lines) 1 lines
+
+-- whether the sum of 2^-len over the lines that have a code exceeds 1
+unfoldable pub is_crowded : List TableLine → Bool
+is_crowded lines = nat_lt (2 ^ longest lines) (weight (longest lines) lines)
+
+-- the code of a list of lines, refused where it is crowded
+abbrev pub table_of : List TableLine → Result (List Member) DecodeError
+table_of lines = if is_crowded lines then Err (Huffman InvalidCode) else Ok (prefix_code lines)
+
+-- the line whose code is the number v of k bits
+abbrev pub line_of : List Member → ℕ → ℕ → Option TableLine
+line_of [] k v = None
+line_of (m ∷ ms) k v = if m.bits == k && (m.number == v) then Some m.line else line_of ms k v
+
+-- whether the number v of k bits begins a longer code
+abbrev pub begins_longer : List Member → ℕ → ℕ → Bool
+begins_longer [] k v = false
+begins_longer (m ∷ ms) k v = (nat_lt k m.bits && (m.number / 2 ^ (m.bits - k) == v)) || begins_longer ms k v
+
+abbrev pub ended : {A : Type 0} → ℕ → Reading A
+ended k = record { answer = Err (Parse UnexpectedEof); taken = k }
+
+abbrev pub refused : {A : Type 0} → ℕ → Reading A
+refused k = record { answer = Err (Huffman InvalidCode); taken = k }
+
+-- the line that was found, or what stands in its place
+abbrev pub found_or : Option TableLine → ℕ → Reading TableLine → Reading TableLine
+found_or (Some line) k other = record { answer = Ok line; taken = k }
+found_or None k other = other
+
+-- The member that begins the bits, k of which are taken and spell v. The shortest beginning that
+-- begins no member is refused.
+abbrev pub read_on : List Member → ℕ → ℕ → List ℕ → Reading TableLine
+read_on ms k v [] = ended (k + 1)
+read_on ms k v (b ∷ bits) =
+    found_or (line_of ms (k + 1) (2 * v + b)) (k + 1)
+    (if begins_longer ms (k + 1) (2 * v + b) then read_on ms (k + 1) (2 * v + b) bits else refused (k + 1))
+
+unfoldable pub read_code : List Member → List ℕ → Reading TableLine
+read_code ms bits = read_on ms 0 0 bits
+
+-- a number in signed 32 bits
+abbrev pub in_word : ℤ → Result ℤ DecodeError
+in_word (pos n) = if nat_lt n 2147483648 then Ok (pos n) else Err (Huffman InvalidCode)
+in_word (negsuc n) = if nat_lt n 2147483648 then Ok (negsuc n) else Err (Huffman InvalidCode)
+
+-- the low value and the range bits together: a lower line goes down
+abbrev pub moved : TableLine → ℕ → ℤ
+moved line offset = if line.is_lower then line.range_low -ℤ pos offset else line.range_low +ℤ pos offset
+
+abbrev pub some_value : Result ℤ DecodeError → Result (Option ℤ) DecodeError
+some_value (Ok n) = Ok (Some n)
+some_value (Err e) = Err e
+
+abbrev pub value_by : TableLine → Option ℕ → Result (Option ℤ) DecodeError
+value_by line None = Err (Huffman InvalidCode)
+value_by line (Some offset) = some_value (in_word (moved line offset))
+
+-- the value of a line, by the range bits behind its code; None is out of band
+abbrev pub value_after : TableLine → List ℕ → Result (Option ℤ) DecodeError
+value_after line bits =
+    if line.is_out_of_band then Ok None else value_by line (bits_next line.range_length bits)
+
+-- how many bits that takes
+abbrev pub range_bits : TableLine → ℕ
+range_bits line = if line.is_out_of_band then 0 else line.range_length
+
+-- what a code's line gives, k bits being taken
+abbrev pub valued : Reading TableLine → List ℕ → Reading (Option ℤ)
+valued reading bits =
+    elim reading.answer [
+      | Ok line ↦ record { answer = value_after line (drop reading.taken bits); taken = reading.taken + range_bits line }
+      | Err e ↦ record { answer = Err e; taken = reading.taken }
+    ]
+
+-- A value read by a table (B.4).
+unfoldable pub decoded : List Member → List ℕ → Reading (Option ℤ)
+decoded ms bits = valued (read_code ms bits) bits
+
+-- a value where none may be out of band
+abbrev pub no_oob : Result (Option ℤ) DecodeError → Result ℤ DecodeError
+no_oob (Ok (Some n)) = Ok n
+no_oob (Ok None) = Err (Huffman UnexpectedOob)
+no_oob (Err e) = Err e
+
+-- range lengths that one read of bits can take
+abbrev pub AreShort : List TableLine → Type 0
+AreShort lines = All (λ x. x.range_length ≤ 32) lines

@@ -1,0 +1,39 @@
+-- How a table is kept: by lengths, the lines of each and how many inner nodes the code's tree has there.
+use Rattle.std.specs.Prelude.{◌≡◌, ℕ, zero, suc, ◌+◌, ◌-◌, ◌*◌, ◌/◌, ◌≤◌, nat_lt, List, [], ◌∷◌, ◌++◌, length, take, drop, slice_get, if◌then◌else◌}
+use Rattle.jbig2_coder.specs.declared.huffman_table.line.TableLine.{TableLine}
+use Rattle.jbig2_coder.specs.declared.huffman_table.levels.Level.{Level}
+use Rattle.jbig2_coder.specs.PrefixCode.{Member, Reading, numbered, level, found_or, refused, ended}
+
+-- the lines of each level
+abbrev pub groups_of : List TableLine → List Level → List (List TableLine)
+groups_of lines [] = []
+groups_of lines (v ∷ vs) = take v.count (drop v.first lines) ∷ groups_of lines vs
+
+-- the lines of n lengths from l on
+abbrev pub groups : ℕ → ℕ → List TableLine → List (List TableLine)
+groups zero l lines = []
+groups (suc n) l lines = level l lines ∷ groups n (l + 1) lines
+
+-- how many inner nodes stand above the groups, where each has at most two children
+abbrev pub nodes : List (List TableLine) → ℕ
+nodes [] = 0
+nodes (g ∷ gs) = (length g + nodes gs + 1) / 2
+
+-- the members, b codes of k bits being used up
+abbrev pub codes_at : ℕ → ℕ → List (List TableLine) → List Member
+codes_at k b [] = []
+codes_at k b (g ∷ gs) = numbered (k + 1) (2 * b) g ++ codes_at (k + 1) (2 * b + length g) gs
+
+-- The walk down the groups: d is which inner node, k bits being taken.
+abbrev pub walk : List (List TableLine) → ℕ → ℕ → List ℕ → Reading TableLine
+walk gs k d [] = ended (k + 1)
+walk [] k d (b ∷ bits) = refused (k + 1)
+walk (g ∷ gs) k d (b ∷ bits) =
+    found_or (slice_get g (2 * d + b)) (k + 1)
+    (if nat_lt (2 * d + b - length g) (nodes gs) then walk gs (k + 1) (2 * d + b - length g) bits else refused (k + 1))
+
+-- levels that lie within the lines and have the right numbers of nodes
+abbrev pub AreLevels : List TableLine → List Level → Type 0
+AreLevels lines [] = Unit {0}
+AreLevels lines (v ∷ vs) =
+    (v.first + v.count ≤ length lines) × (v.nodes ≡ nodes (groups_of lines vs)) × (v.count + v.nodes ≤ length lines) × AreLevels lines vs
