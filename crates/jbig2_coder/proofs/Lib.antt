@@ -8,3 +8,7 @@ pub mod Rows
 pub mod Runs
 pub mod WorkedLists
 pub mod PrefixWorked
+pub mod PrefixWalk
+pub mod PrefixKraft
+pub mod PrefixReading
+pub mod PrefixDecoding

@@ -1,6 +1,112 @@
 //! Prefix codes and the tables that hold them (T.88, Annex B).
+ghost use Rattle.std.specs.Prelude.{◌≡◌, ◌≤◌, ◌^◌, drop};
+ghost use Rattle.jbig2_base.specs.Answer.{Gives};
+ghost use Rattle.jbig2_base.specs.Bits.{bits_left, bits_on};
+ghost use Rattle.jbig2_coder.specs.PrefixCode.{table_of, decoded, no_oob, AreShort};
+ghost use Rattle.jbig2_coder.specs.Tables.{uniform};
 
 mod levels;
 mod line;
 
+use jbig2_base::error::{DecodeError, HuffmanError, Result};
+use jbig2_base::reader::Reader;
+use levels::{Level, longest, push_level, read_line};
 pub use line::TableLine;
+use std::alloc::Allocator;
+use std::marker::Model;
+
+/// A table of prefix codes, as its codes and their lines.
+#[derive(Drop)]
+pub struct HuffmanTable<A: Allocator> {
+    lines: Vec<TableLine, A>,
+    levels: Vec<Level, A>,
+}
+
+impl<A: Allocator> Model for HuffmanTable<A> {
+    ghost use Rattle.std.specs.Prelude.{List};
+    ghost use Rattle.jbig2_coder.specs.PrefixCode.{Member, AreShort};
+    ghost use Rattle.jbig2_coder.specs.PrefixLevels.{groups_of, codes_at, AreLevels};
+
+    ghost Value = { List Member };
+
+    ghost view = { λ t. codes_at 0 0 (groups_of t.lines.items t.levels.items) };
+
+    ghost invariant = { λ t. AreLevels t.lines.items t.levels.items × AreShort t.lines.items };
+}
+
+impl<A: Allocator + Clone> HuffmanTable<A> {
+    /// The table of a list of lines with range lengths of at most 32 (B.3).
+    ///
+    /// It is refused as an invalid code exactly where the codes do not fit, that is where the sum of
+    /// 2^-length over the lengths above 0 exceeds 1.
+    pub fn build(alloc: A, lines: &[TableLine]) -> Result<HuffmanTable<A>>
+        requires { AreShort lines.now }
+        ensures { Gives (λ t. t) result (table_of lines.now) }
+    {
+        let mut sorted = Vec::new(alloc.clone()?);
+        let mut levels = Vec::new(alloc);
+        let mut nodes = 0;
+        for depth in (0..longest(lines)).rev() {
+            let first = sorted.len();
+            push_level(lines, depth + 1, &mut sorted)?;
+            let count = sorted.len() - first;
+            levels.push(Level {
+                first,
+                count,
+                nodes,
+            })?;
+            nodes = (count + nodes).div_ceil(2);
+        }
+        if nodes > 1 {
+            return Err(DecodeError::Huffman(HuffmanError::InvalidCode));
+        }
+        levels.reverse();
+        Ok(HuffmanTable {
+            lines: sorted,
+            levels,
+        })
+    }
+
+    /// The table that gives the numbers from 0 to below `count`, at most 2^31, codes of one length.
+    pub fn build_uniform(alloc: A, count: u32, code_length: u32) -> Result<HuffmanTable<A>>
+        requires count { count ≤ 2 ^ 31 }
+        requires length { code_length ≤ 255 }
+        ensures { Gives (λ t. t) result (table_of (uniform count code_length)) }
+    {
+        let mut lines = Vec::new(alloc.clone()?);
+        for number in 0..count {
+            lines.push(TableLine::new(number as i32, code_length as u8, 0))?;
+        }
+        HuffmanTable::build(alloc, &lines)
+    }
+}
+
+impl<A: Allocator> HuffmanTable<A> {
+    /// Reads a code and its range bits (B.4): the value, or None for out of band.
+    ///
+    /// Bits that end in the code are an unexpected end; the first bits that begin no code, range
+    /// bits that end, and a value outside signed 32 bits are an invalid code.
+    pub fn decode(&self, reader: &mut Reader<'_>) -> Result<Option<i32>>
+        ensures value { result ≡ (decoded self.now (bits_left reader.old)).answer }
+        ensures place { reader.new ≡ bits_on (decoded self.now (bits_left reader.old)).taken reader.old }
+        ensures rest { bits_left reader.new ≡ drop (decoded self.now (bits_left reader.old)).taken (bits_left reader.old) }
+    {
+        let line = read_line(&self.lines, &self.levels, reader)?;
+        if line.is_out_of_band {
+            return Ok(None);
+        }
+        line.read_value(reader)
+    }
+
+    /// Reads a value where out of band is an error.
+    pub fn decode_no_oob(&self, reader: &mut Reader<'_>) -> Result<i32>
+        ensures value { result ≡ no_oob (decoded self.now (bits_left reader.old)).answer }
+        ensures place { reader.new ≡ bits_on (decoded self.now (bits_left reader.old)).taken reader.old }
+        ensures rest { bits_left reader.new ≡ drop (decoded self.now (bits_left reader.old)).taken (bits_left reader.old) }
+    {
+        let Some(value) = self.decode(reader)? else {
+            return Err(DecodeError::Huffman(HuffmanError::UnexpectedOob));
+        };
+        Ok(value)
+    }
+}

@@ -1,7 +1,16 @@
 //! The levels of a table: the lines of each prefix length, and the inner nodes of the code's tree.
+ghost use Rattle.std.specs.Prelude.{◌≡◌, ◌++◌, drop, OnOk, IfErr, IfOk, ◌≤◌};
+ghost use Rattle.jbig2_base.specs.Bits.{bits_left, bits_on};
+ghost use Rattle.jbig2_coder.specs.PrefixCode.{longest, level, AreShort};
+ghost use Rattle.jbig2_coder.specs.PrefixLevels.{groups_of, walk, AreLevels};
 
-/// The lines of one prefix length, in the lines sorted by length, and how many longer codes' beginnings have
-/// that length.
+use super::line::TableLine;
+use jbig2_base::error::{DecodeError, HuffmanError, ParseError, Result};
+use jbig2_base::reader::Reader;
+use std::alloc::Allocator;
+
+/// The lines of one prefix length, in the lines sorted by length, and how many beginnings of longer
+/// codes have that length.
 #[derive(Debug, Clone, Copy)]
 pub(super) struct Level {
     /// The place of its first line.
@@ -10,4 +19,66 @@ pub(super) struct Level {
     pub(super) count: usize,
     /// How many beginnings of longer codes have this length.
     pub(super) nodes: usize,
+}
+
+/// The greatest prefix length, 0 for no lines.
+pub(super) fn longest(lines: &[TableLine]) -> u8
+    ensures { result ≡ longest lines.now }
+{
+    let mut longest = 0;
+    for line in lines {
+        longest = longest.max(line.prefix_length);
+    }
+    longest
+}
+
+/// Adds the lines with this prefix length behind `sorted`.
+pub(super) fn push_level<A: Allocator>(
+    lines: &[TableLine],
+    length: u8,
+    sorted: &mut Vec<TableLine, A>,
+) -> Result<()>
+    ensures items { OnOk result (sorted.new.items ≡ sorted.old.items ++ level length lines.now) }
+    ensures memory { IfErr result (λ e. e ≡ DecodeError.OutOfMemory) }
+{
+    for line in lines {
+        if line.prefix_length == length {
+            sorted.push(*line)?;
+        }
+    }
+    Ok(())
+}
+
+/// Reads a code, bit by bit down the levels: its line, or the end of the bits, or an invalid code
+/// at the first bits that begin none.
+pub(super) fn read_line(
+    lines: &[TableLine],
+    levels: &[Level],
+    reader: &mut Reader<'_>,
+) -> Result<TableLine>
+    requires levels { AreLevels lines.now levels.now }
+    requires short { AreShort lines.now }
+    ensures line { result ≡ (walk (groups_of lines.now levels.now) 0 0 (bits_left reader.old)).answer }
+    ensures place { reader.new ≡ bits_on (walk (groups_of lines.now levels.now) 0 0 (bits_left reader.old)).taken reader.old }
+    ensures rest { bits_left reader.new ≡ drop (walk (groups_of lines.now levels.now) 0 0 (bits_left reader.old)).taken (bits_left reader.old) }
+    ensures short { IfOk result (λ line. line.range_length ≤ 32) }
+{
+    let mut node = 0;
+    for level in levels {
+        let Some(bit) = reader.read_bit() else {
+            return Err(DecodeError::Parse(ParseError::UnexpectedEof));
+        };
+        let child = 2 * node + usize::from(bit);
+        if child < level.count {
+            return Ok(lines[level.first + child]);
+        }
+        node = child - level.count;
+        if node >= level.nodes {
+            return Err(DecodeError::Huffman(HuffmanError::InvalidCode));
+        }
+    }
+    match reader.read_bit() {
+        Some(_) => Err(DecodeError::Huffman(HuffmanError::InvalidCode)),
+        None => Err(DecodeError::Parse(ParseError::UnexpectedEof)),
+    }
 }

@@ -1,4 +1,12 @@
-//! The lines of a table of prefix codes (T.88, B.2).
+//! The lines of a table of prefix codes (T.88, B.2 and B.4).
+ghost use Rattle.std.specs.Prelude.{◌≡◌, ◌≤◌, drop};
+ghost use Rattle.std.specs.Option.{SomeIff};
+ghost use Rattle.std.specs.Int.{w64};
+ghost use Rattle.std.specs.Prelude.{FitsSigned};
+ghost use Rattle.jbig2_base.specs.Bits.{bits_left, bits_on, bits_next};
+
+use jbig2_base::error::{DecodeError, HuffmanError, Result};
+use jbig2_base::reader::Reader;
 
 /// A line of a table: a prefix length, and the values that stand behind its code.
 ///
@@ -15,4 +23,61 @@ pub struct TableLine {
     pub is_lower: bool,
     /// Whether the line stands for out of band.
     pub is_out_of_band: bool,
+}
+
+impl TableLine {
+    ghost use Rattle.std.specs.Prelude.{◌≡◌, ◌≤◌, drop};
+    ghost use Rattle.jbig2_coder.specs.PrefixCode.{in_word, moved, value_by};
+    ghost use Rattle.jbig2_coder.specs.Tables.{line, lower, upper, out_of_band};
+
+    /// A line whose values go up from `range_low`.
+    pub fn new(range_low: i32, prefix_length: u8, range_length: u8) -> TableLine
+        ensures { result ≡ line prefix_length range_length range_low }
+    {
+        TableLine {
+            range_low: i64::from(range_low),
+            prefix_length,
+            range_length,
+            is_lower: false,
+            is_out_of_band: false,
+        }
+    }
+
+    /// The low value and the range bits together, where they fit in 64 bits.
+    fn moved(&self, offset: u32) -> Option<i64>
+        ensures { SomeIff result (FitsSigned w64 (moved self.now offset)) (moved self.now offset) }
+    {
+        if self.is_lower {
+            self.range_low.checked_sub(i64::from(offset))
+        } else {
+            self.range_low.checked_add(i64::from(offset))
+        }
+    }
+
+    /// The value at these range bits; outside signed 32 bits it is an invalid code.
+    fn value(&self, offset: u32) -> Result<i32>
+        ensures { result ≡ in_word (moved self.now offset) }
+    {
+        let Some(value) = self.moved(offset) else {
+            return Err(DecodeError::Huffman(HuffmanError::InvalidCode));
+        };
+        match i32::try_from(value) {
+            Ok(value) => Ok(value),
+            Err(_) => Err(DecodeError::Huffman(HuffmanError::InvalidCode)),
+        }
+    }
+
+    /// Reads the range bits behind the code: the value, or an invalid code where the bits end or
+    /// the value is outside signed 32 bits.
+    pub(super) fn read_value(&self, reader: &mut Reader<'_>) -> Result<Option<i32>>
+        requires { self.now.range_length ≤ 32 }
+        ensures value { result ≡ value_by self.now (bits_next self.now.range_length (bits_left reader.old)) }
+        ensures place { reader.new ≡ bits_on self.now.range_length reader.old }
+        ensures rest { bits_left reader.new ≡ drop self.now.range_length (bits_left reader.old) }
+    {
+        let Some(offset) = reader.read_bits(self.range_length) else {
+            return Err(DecodeError::Huffman(HuffmanError::InvalidCode));
+        };
+        Ok(Some(self.value(offset)?))
+    }
 }

@@ -1,0 +1,4 @@
+use Rattle.jbig2_coder.proofs.huffman_table.HuffmanTable.build.Given as goal
+
+abbrev pub invariant-loop-depth : goal.invariant-loop-depth
+invariant-loop-depth g l = ?

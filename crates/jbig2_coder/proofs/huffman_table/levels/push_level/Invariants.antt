@@ -1,0 +1,6 @@
+use Rattle.std.proofs.Common.{◌≡◌, ◌++◌, take}
+use Rattle.jbig2_coder.specs.PrefixCode.{level}
+use Rattle.jbig2_coder.proofs.huffman_table.levels.push_level.Given as goal
+
+abbrev pub invariant-loop-line : goal.invariant-loop-line
+invariant-loop-line g l = l.sorted.items ≡ l.initial.sorted.items ++ level l.length (take l.line-index l.lines)
