@@ -12,3 +12,4 @@ pub mod PrefixWalk
 pub mod PrefixKraft
 pub mod PrefixReading
 pub mod PrefixDecoding
+pub mod PrefixBuilding

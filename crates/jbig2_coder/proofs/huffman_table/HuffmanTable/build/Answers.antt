@@ -1,0 +1,41 @@
+use Rattle.std.proofs.Common.{rules, ◌≡◌, ℕ, ◌+◌, ◌-◌, ◌*◌, ◌/◌, ◌<◌, ◌≤◌, ◌∷◌, [], ◌++◌, List, length, reverse, ap, sym, ◌∙◌, subst, inr, arith, length-append}
+use Rattle.jbig2_coder.specs.declared.huffman_table.levels.Level.{Level}
+use Rattle.jbig2_coder.specs.PrefixCode.{longest, level}
+use Rattle.jbig2_coder.proofs.PrefixBuilding.{Built, built-next, built-crowded, built-table, half_up}
+use Rattle.jbig2_coder.proofs.huffman_table.HuffmanTable.build.Goals as goal
+
+pub loop-depth-preserved : goal.loop-depth-preserved
+loop-depth-preserved g c =
+    let lines = c.args.lines.now in
+    let sorted = c.loop-depth.sorted.items in
+    let more = c.push_level.new.sorted.items in
+    let levels = c.loop-depth.levels.items in
+    let depth = c.loop-depth.depth - 1 in
+    let n = c.loop-depth.nodes in
+    let count = c.len.result - c.len-first.result in
+    let first : c.len-first.result ≡ length sorted = search rules in
+    let last : c.len.result ≡ length more = search rules in
+    let on : c.loop-depth.depth ≡ depth + 1 = omega arith in
+    let items : more ≡ sorted ++ level (depth + 1) lines = c.in_ok-push_level.ensures.items in
+    let longer : length more ≡ length sorted + length (level (depth + 1) lines) = ap length items ∙ length-append sorted (level (depth + 1) lines) in
+    let P : ℕ → Type 0 = λ d. Built lines sorted levels n d in
+    let built : Built lines sorted levels n (depth + 1) = subst P on c.loop-depth.invariant in
+    let level_of : ℕ → Level = λ f. record { first = f; count = count; nodes = n } in
+    let pushed : c.push.new.self.items ≡ levels ++ level_of (length sorted) ∷ [] =
+        c.in_ok-push.ensures.items ∙ ap (λ (f : ℕ). levels ++ level_of f ∷ []) first in
+    let half : c.div_ceil-nodes.result ≡ (count + n + 1) / 2 = c.div_ceil-nodes.ensures ∙ half_up (count + n) in
+    let next = built-next lines sorted more levels n depth count c.div_ceil-nodes.result built c.requires (omega arith) items (omega arith) half in
+    let Q : List Level → Type 0 = λ vs. Built lines more vs c.div_ceil-nodes.result depth in
+    subst Q (sym pushed) next
+
+pub returns-then-nodes-gt1 : goal.returns-then-nodes-gt1
+returns-then-nodes-gt1 g c =
+    let P : ℕ → Type 0 = λ d. Built c.args.lines.now c.loop-depth.sorted.items c.loop-depth.levels.items c.loop-depth.nodes d in
+    let end : c.loop-depth.depth ≡ 0 = omega arith in
+    inr (built-crowded c.args.lines.now c.loop-depth.sorted.items c.loop-depth.levels.items c.loop-depth.nodes (subst P end c.loop-depth.invariant) c.if-nodes-gt1.true)
+
+pub returns : goal.returns
+returns g c =
+    let P : ℕ → Type 0 = λ d. Built c.args.lines.now c.loop-depth.sorted.items c.loop-depth.levels.items c.loop-depth.nodes d in
+    let end : c.loop-depth.depth ≡ 0 = omega arith in
+    built-table c.args.lines.now c.loop-depth.sorted.items c.loop-depth.levels.items c.reverse.new.self.items c.loop-depth.nodes (subst P end c.loop-depth.invariant) c.if-nodes-gt1.false c.reverse.ensures.items
