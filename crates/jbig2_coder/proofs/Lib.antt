@@ -13,3 +13,4 @@ pub mod PrefixKraft
 pub mod PrefixReading
 pub mod PrefixDecoding
 pub mod PrefixBuilding
+pub mod PrefixStandard

@@ -19,7 +19,7 @@ groups-kept lines more [] are = refl
 groups-kept lines more (v ∷ vs) are =
     let first : drop v.first (lines ++ more) ≡ drop v.first lines ++ more = drop-append-le v.first lines more (omega (arith, are.0)) in
     let group : take v.count (drop v.first (lines ++ more)) ≡ take v.count (drop v.first lines) =
-        ap (λ (xs : List TableLine). take v.count xs) first ∙ take-append-le v.count (drop v.first lines) more (omega (arith, are.0, length-drop v.first lines)) in
+    ap (λ (xs : List TableLine). take v.count xs) first ∙ take-append-le v.count (drop v.first lines) more (omega (arith, are.0, length-drop v.first lines)) in
     ap (λ (g : List TableLine). g ∷ groups_of (lines ++ more) vs) group
     ∙ ap (λ (gs : List (List TableLine)). take v.count (drop v.first lines) ∷ gs) (groups-kept lines more vs are.3)
 
@@ -58,11 +58,11 @@ built-next lines sorted more levels nodes_before depth new_count new_nodes built
     let turned : reverse (levels ++ v ∷ []) ≡ v ∷ vs = reverse-append levels (v ∷ []) in
     let kept : groups_of more vs ≡ groups_of sorted vs = ap (λ (xs : List TableLine). groups_of xs vs) items ∙ groups-kept sorted lv vs built.are in
     let group : take new_count (drop (length sorted) more) ≡ lv =
-        ap (λ (xs : List TableLine). take new_count (drop (length sorted) xs)) items
-        ∙ ap (λ (xs : List TableLine). take new_count xs) (drop-append_seam sorted lv)
-        ∙ take_all new_count lv (omega arith) in
+    ap (λ (xs : List TableLine). take new_count (drop (length sorted) xs)) items
+    ∙ ap (λ (xs : List TableLine). take new_count xs) (drop-append_seam sorted lv)
+    ∙ take_all new_count lv (omega arith) in
     let all : groups_of more (v ∷ vs) ≡ lv ∷ groups_of sorted vs =
-        ap (λ (g : List TableLine). g ∷ groups_of more vs) group ∙ ap (λ (gs : List (List TableLine)). lv ∷ gs) kept in
+    ap (λ (g : List TableLine). g ∷ groups_of more vs) group ∙ ap (λ (gs : List (List TableLine)). lv ∷ gs) kept in
     let deeper : longest lines - depth ≡ suc (longest lines - (depth + 1)) = omega arith in
     let are_tail : AreLevels more vs = (let P : List TableLine → Type 0 = λ xs. AreLevels xs vs in subst P (sym items) (are-kept sorted lv vs built.are)) in
     let are : AreLevels more (v ∷ vs) = (omega arith, built.nodes ∙ ap nodes (sym kept), omega (arith, built.few), are_tail) in
@@ -70,16 +70,16 @@ built-next lines sorted more levels nodes_before depth new_count new_nodes built
     let Q : List TableLine → Type 0 = λ xs. AreShort xs in
     record {
       groups =
-        ap (λ (ws : List Level). groups_of more ws) turned
-        ∙ all
-        ∙ ap (λ (gs : List (List TableLine)). lv ∷ gs) built.groups
-        ∙ ap (λ (n : ℕ). groups n (depth + 1) lines) (sym deeper);
+          ap (λ (ws : List Level). groups_of more ws) turned
+          ∙ all
+          ∙ ap (λ (gs : List (List TableLine)). lv ∷ gs) built.groups
+          ∙ ap (λ (n : ℕ). groups n (depth + 1) lines) (sym deeper);
       are = subst P (sym turned) are;
       nodes =
-        nodes_after
-        ∙ ap (λ (n : ℕ). (n + nodes_before + 1) / 2) (let e : new_count ≡ length lv = omega arith in e)
-        ∙ ap (λ (n : ℕ). (length lv + n + 1) / 2) built.nodes
-        ∙ ap nodes (sym (ap (λ (ws : List Level). groups_of more ws) turned ∙ all));
+          nodes_after
+          ∙ ap (λ (n : ℕ). (n + nodes_before + 1) / 2) (let e : new_count ≡ length lv = omega arith in e)
+          ∙ ap (λ (n : ℕ). (length lv + n + 1) / 2) built.nodes
+          ∙ ap nodes (sym (ap (λ (ws : List Level). groups_of more ws) turned ∙ all));
       few = omega (arith, built.few);
       short = subst Q (sym items) (All-append (λ (x : TableLine). x.range_length ≤ 32) sorted lv built.short (All-filter (λ (x : TableLine). eqb x.prefix_length (depth + 1)) (λ (x : TableLine). x.range_length ≤ 32) lines short));
     }

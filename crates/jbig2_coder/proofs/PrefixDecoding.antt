@@ -52,8 +52,8 @@ pub decodes-value : (gs : List (List TableLine)) (ms : List Member) (x : TableLi
 decodes-value gs ms x a p q r view leaves oob value place rest =
     let w = walk gs 0 0 (bits_left p) in
     let some : value_after x (drop w.taken (bits_left p)) ≡ a =
-        cond-false x.is_out_of_band (Ok None) (value_by x (bits_next x.range_length (drop w.taken (bits_left p)))) oob
-        ∙ sym (value ∙ ap (λ (bs : List ℕ). value_by x (bits_next x.range_length bs)) leaves.rest) in
+    cond-false x.is_out_of_band (Ok None) (value_by x (bits_next x.range_length (drop w.taken (bits_left p)))) oob
+    ∙ sym (value ∙ ap (λ (bs : List ℕ). value_by x (bits_next x.range_length bs)) leaves.rest) in
     let taken : w.taken + range_bits x ≡ w.taken + x.range_length = ap (λ (n : ℕ). w.taken + n) (cond-false x.is_out_of_band 0 x.range_length oob) in
     decodes ms a (w.taken + x.range_length) p r
     (decoded-is gs ms (bits_left p) view ∙ valued-ok w (bits_left p) x leaves.line

@@ -17,21 +17,21 @@ pub bits_on-add : (n m : ℕ) (p q : Place) → q ≡ bits_on n p → bits_left 
 bits_on-add n m p q e left =
     let size : length (bits_left q) ≡ length (bits_left p) - n = ap length left ∙ length-drop n (bits_left p) in
     ⊎_elim (λ (short : length (bits_left p) < n).
-        let at : q ≡ start_of [] = e ∙ bits_on-past n p short in
-        ap (λ (r : Place). bits_on m r) at ∙ sym (end-on m) ∙ sym (bits_on-past (n + m) p (omega arith)))
+    let at : q ≡ start_of [] = e ∙ bits_on-past n p short in
+    ap (λ (r : Place). bits_on m r) at ∙ sym (end-on m) ∙ sym (bits_on-past (n + m) p (omega arith)))
     (λ (enough : n ≤ length (bits_left p)).
-        ⊎_elim (λ (short : length (bits_left q) < m). bits_on-past m q short ∙ sym (bits_on-past (n + m) p (omega arith)))
-        (λ (more : m ≤ length (bits_left q)).
-            let at : q ≡ record { bytes = drop ((p.bit + n) / 8) p.bytes; bit = (p.bit + n) % 8 } = e ∙ bits_on-enough n p enough in
-            let bytes : (p.bit + n) / 8 + ((p.bit + n) % 8 + m) / 8 ≡ (p.bit + (n + m)) / 8 = omega arith in
-            let bit : ((p.bit + n) % 8 + m) % 8 ≡ (p.bit + (n + m)) % 8 = omega arith in
-            bits_on-enough m q more
-            ∙ ap (λ (s : Place). record { bytes = drop ((s.bit + m) / 8) s.bytes; bit = (s.bit + m) % 8 }) at
-            ∙ ap (λ (ys : List ℕ). record { bytes = ys; bit = ((p.bit + n) % 8 + m) % 8 }) (drop-drop (((p.bit + n) % 8 + m) / 8) ((p.bit + n) / 8) p.bytes)
-            ∙ ap (λ (k : ℕ). record { bytes = drop k p.bytes; bit = ((p.bit + n) % 8 + m) % 8 }) bytes
-            ∙ ap (λ (k : ℕ). record { bytes = drop ((p.bit + (n + m)) / 8) p.bytes; bit = k }) bit
-            ∙ sym (bits_on-enough (n + m) p (omega arith)))
-        (cases_lt (length (bits_left q)) m))
+    ⊎_elim (λ (short : length (bits_left q) < m). bits_on-past m q short ∙ sym (bits_on-past (n + m) p (omega arith)))
+    (λ (more : m ≤ length (bits_left q)).
+    let at : q ≡ record { bytes = drop ((p.bit + n) / 8) p.bytes; bit = (p.bit + n) % 8 } = e ∙ bits_on-enough n p enough in
+    let bytes : (p.bit + n) / 8 + ((p.bit + n) % 8 + m) / 8 ≡ (p.bit + (n + m)) / 8 = omega arith in
+    let bit : ((p.bit + n) % 8 + m) % 8 ≡ (p.bit + (n + m)) % 8 = omega arith in
+    bits_on-enough m q more
+    ∙ ap (λ (s : Place). record { bytes = drop ((s.bit + m) / 8) s.bytes; bit = (s.bit + m) % 8 }) at
+    ∙ ap (λ (ys : List ℕ). record { bytes = ys; bit = ((p.bit + n) % 8 + m) % 8 }) (drop-drop (((p.bit + n) % 8 + m) / 8) ((p.bit + n) / 8) p.bytes)
+    ∙ ap (λ (k : ℕ). record { bytes = drop k p.bytes; bit = ((p.bit + n) % 8 + m) % 8 }) bytes
+    ∙ ap (λ (k : ℕ). record { bytes = drop ((p.bit + (n + m)) / 8) p.bytes; bit = k }) bit
+    ∙ sym (bits_on-enough (n + m) p (omega arith)))
+    (cases_lt (length (bits_left q)) m))
     (cases_lt (length (bits_left p)) n)
 
 -- Before level i: the walk from here is the walk from the root.
@@ -165,17 +165,17 @@ at-next lines levels i node b p q r d at place rest some inside past more =
     let c = child-of levels i node b d in
     record {
       walks =
-        sym (walk-next lines levels i node b (bits_left q) d inside some
-        ∙ not_found lines levels i node b (drop 1 (bits_left q)) d are past
-        ∙ cond-true (ltb c (get_or levels i d).nodes) (walk (groups_of lines (drop (i + 1) levels)) (i + 1) c (drop 1 (bits_left q))) (refused (i + 1)) (lt-ltb c (get_or levels i d).nodes more)
-        ∙ ap (λ (bs : List ℕ). walk (groups_of lines (drop (i + 1) levels)) (i + 1) c bs) (sym rest))
-        ∙ at.walks;
+          sym (walk-next lines levels i node b (bits_left q) d inside some
+          ∙ not_found lines levels i node b (drop 1 (bits_left q)) d are past
+          ∙ cond-true (ltb c (get_or levels i d).nodes) (walk (groups_of lines (drop (i + 1) levels)) (i + 1) c (drop 1 (bits_left q))) (refused (i + 1)) (lt-ltb c (get_or levels i d).nodes more)
+          ∙ ap (λ (bs : List ℕ). walk (groups_of lines (drop (i + 1) levels)) (i + 1) c bs) (sym rest))
+          ∙ at.walks;
       are = are.3;
       small = omega arith;
       place = λ n.
-        ap (λ (s : Place). bits_on n s) place
-        ∙ bits_on-add 1 n q (bits_on 1 q) refl (sym (ap (λ (s : Place). bits_left s) place) ∙ rest)
-        ∙ at.place (1 + n)
-        ∙ ap (λ (k : ℕ). bits_on k p) (let e : i + (1 + n) ≡ i + 1 + n = omega arith in e);
+          ap (λ (s : Place). bits_on n s) place
+          ∙ bits_on-add 1 n q (bits_on 1 q) refl (sym (ap (λ (s : Place). bits_left s) place) ∙ rest)
+          ∙ at.place (1 + n)
+          ∙ ap (λ (k : ℕ). bits_on k p) (let e : i + (1 + n) ≡ i + 1 + n = omega arith in e);
       rest = rest ∙ ap (λ (bs : List ℕ). drop 1 bs) at.rest ∙ drop-drop 1 i (bits_left p);
     }

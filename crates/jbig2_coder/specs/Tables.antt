@@ -1,6 +1,7 @@
 -- The standard tables (T.88, B.5), and the lines that a custom table's bits spell (B.2).
-use Rattle.std.specs.Prelude.{ℕ, zero, suc, true, false, List, [], ◌∷◌, ◌++◌, ℤ, pos, negsuc}
+use Rattle.std.specs.Prelude.{ℕ, zero, suc, true, false, List, [], ◌∷◌, ◌++◌, map, ℤ, pos, negsuc}
 use Rattle.jbig2_coder.specs.declared.huffman_table.line.TableLine.{TableLine}
+use Rattle.jbig2_coder.specs.PrefixCode.{Member, prefix_code}
 
 abbrev pub minus : ℕ → ℤ
 minus zero = pos 0
@@ -133,3 +134,12 @@ lines_o =
 abbrev pub uniform : ℕ → ℕ → List TableLine
 uniform zero length = []
 uniform (suc n) length = uniform n length ++ line length 0 (pos n) ∷ []
+
+-- B.1 to B.15
+unfoldable pub standard_tables : List (List TableLine)
+standard_tables =
+    lines_a ∷ lines_b ∷ lines_c ∷ lines_d ∷ lines_e ∷ lines_f ∷ lines_g ∷ lines_h ∷ lines_i ∷ lines_j ∷
+    lines_k ∷ lines_l ∷ lines_m ∷ lines_n ∷ lines_o ∷ []
+
+unfoldable pub standard_codes : List (List Member)
+standard_codes = map prefix_code standard_tables

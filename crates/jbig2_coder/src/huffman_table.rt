@@ -7,11 +7,13 @@ ghost use Rattle.jbig2_coder.specs.Tables.{uniform};
 
 mod levels;
 mod line;
+mod standard;
 
 use jbig2_base::error::{DecodeError, HuffmanError, Result};
 use jbig2_base::reader::Reader;
 use levels::{Level, longest, push_level, read_line};
 pub use line::TableLine;
+pub use standard::StandardHuffmanTables;
 use std::alloc::Allocator;
 use std::marker::Model;
 

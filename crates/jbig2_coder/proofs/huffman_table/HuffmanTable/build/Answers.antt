@@ -22,7 +22,7 @@ loop-depth-preserved g c =
     let built : Built lines sorted levels n (depth + 1) = subst P on c.loop-depth.invariant in
     let level_of : ℕ → Level = λ f. record { first = f; count = count; nodes = n } in
     let pushed : c.push.new.self.items ≡ levels ++ level_of (length sorted) ∷ [] =
-        c.in_ok-push.ensures.items ∙ ap (λ (f : ℕ). levels ++ level_of f ∷ []) first in
+    c.in_ok-push.ensures.items ∙ ap (λ (f : ℕ). levels ++ level_of f ∷ []) first in
     let half : c.div_ceil-nodes.result ≡ (count + n + 1) / 2 = c.div_ceil-nodes.ensures ∙ half_up (count + n) in
     let next = built-next lines sorted more levels n depth count c.div_ceil-nodes.result built c.requires (omega arith) items (omega arith) half in
     let Q : List Level → Type 0 = λ vs. Built lines more vs c.div_ceil-nodes.result depth in
