@@ -14,3 +14,4 @@ pub mod PrefixReading
 pub mod PrefixDecoding
 pub mod PrefixBuilding
 pub mod PrefixStandard
+pub mod CustomReading

@@ -4,6 +4,8 @@ use Rattle.jbig2_base.specs.declared.error.DecodeError.{DecodeError}
 use Rattle.jbig2_base.specs.declared.error.DecodeError.TheVariants.{Parse, Huffman}
 use Rattle.jbig2_base.specs.declared.error.ParseError.TheVariants.{UnexpectedEof}
 use Rattle.jbig2_base.specs.declared.error.HuffmanError.TheVariants.{InvalidCode}
+use Rattle.jbig2_base.specs.Bits.{start_of, bits_left, bits_on}
+use Rattle.jbig2_coder.specs.CustomTable.{custom_table, custom_lines, range_lines}
 use Rattle.jbig2_coder.specs.PrefixCode.{prefix_code, table_of, is_crowded, weight, shorter, decoded, read_code, refused, ended}
 use Rattle.jbig2_coder.specs.Tables.{lines_a, line, lower, upper}
 
@@ -41,3 +43,21 @@ lower_down = refl
 upper_past : decoded (prefix_code (lower 1 (negsuc 0) ∷ upper 1 (pos 0) ∷ [])) (1 ∷ 1 ∷ replicate 31 0) ≡ refused 33
 unfolding decoded read_code prefix_code shorter
 upper_past = refl
+
+-- row R5.2
+custom_of_zeros : custom_table (start_of (0 ∷ 0 ∷ 0 ∷ 0 ∷ 0 ∷ 0 ∷ 0 ∷ 0 ∷ 0 ∷ 192 ∷ [])) ≡ record { answer = Ok (prefix_code (lower 1 (negsuc 0) ∷ upper 1 (pos 0) ∷ [])); place = record { bytes = 192 ∷ []; bit = 2 } }
+unfolding custom_table custom_lines range_lines bits_left bits_on is_crowded weight prefix_code shorter
+custom_of_zeros = refl
+
+-- row R5.3
+range_of_32 : (custom_table (start_of (112 ∷ 0 ∷ 0 ∷ 0 ∷ 0 ∷ 0 ∷ 0 ∷ 0 ∷ 1 ∷ 16 ∷ 0 ∷ []))).answer ≡ Err (Huffman InvalidCode)
+unfolding custom_table custom_lines range_lines bits_left bits_on is_crowded weight prefix_code shorter
+range_of_32 = refl
+
+range_of_31 : (custom_table (start_of (112 ∷ 0 ∷ 0 ∷ 0 ∷ 0 ∷ 0 ∷ 0 ∷ 0 ∷ 1 ∷ 15 ∷ 128 ∷ []))).answer ≡ Err (Huffman InvalidCode)
+unfolding custom_table custom_lines range_lines bits_left bits_on is_crowded weight prefix_code shorter
+range_of_31 = refl
+
+range_of_30 : (custom_lines (start_of (112 ∷ 0 ∷ 0 ∷ 0 ∷ 0 ∷ 0 ∷ 0 ∷ 0 ∷ 1 ∷ 143 ∷ 32 ∷ []))).answer ≡ Ok (line 1 30 (pos 0) ∷ lower 0 (negsuc 0) ∷ upper 1 (pos 1) ∷ [])
+unfolding custom_lines range_lines bits_left bits_on
+range_of_30 = refl

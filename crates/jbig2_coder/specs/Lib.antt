@@ -5,6 +5,7 @@ pub mod Integers
 pub mod Lists
 pub mod Stands
 pub mod Table
+pub mod CustomTable
 pub mod PrefixCode
 pub mod PrefixLevels
 pub mod Tables

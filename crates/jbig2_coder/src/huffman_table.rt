@@ -5,6 +5,7 @@ ghost use Rattle.jbig2_base.specs.Bits.{bits_left, bits_on};
 ghost use Rattle.jbig2_coder.specs.PrefixCode.{table_of, decoded, no_oob, AreShort};
 ghost use Rattle.jbig2_coder.specs.Tables.{uniform};
 
+mod custom;
 mod levels;
 mod line;
 mod standard;

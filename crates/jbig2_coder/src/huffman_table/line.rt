@@ -26,9 +26,9 @@ pub struct TableLine {
 }
 
 impl TableLine {
-    ghost use Rattle.std.specs.Prelude.{◌≡◌, ◌≤◌, drop};
+    ghost use Rattle.std.specs.Prelude.{◌≡◌, ◌≤◌, drop, pos, ◌-ℤ◌};
     ghost use Rattle.jbig2_coder.specs.PrefixCode.{in_word, moved, value_by};
-    ghost use Rattle.jbig2_coder.specs.Tables.{line, lower, upper, out_of_band};
+    ghost use Rattle.jbig2_coder.specs.Tables.{line, lower, out_of_band};
 
     /// A line whose values go up from `range_low`.
     pub fn new(range_low: i32, prefix_length: u8, range_length: u8) -> TableLine
@@ -40,6 +40,32 @@ impl TableLine {
             range_length,
             is_lower: false,
             is_out_of_band: false,
+        }
+    }
+
+    /// The lower range table line: its values go down from one less than the minimum.
+    pub(super) fn lower(minimum: i32, prefix_length: u8) -> TableLine
+        ensures { result ≡ lower prefix_length (minimum -ℤ pos 1) }
+    {
+        TableLine {
+            range_low: i64::from(minimum) - 1,
+            prefix_length,
+            range_length: 32,
+            is_lower: true,
+            is_out_of_band: false,
+        }
+    }
+
+    /// The out-of-band line.
+    pub(super) fn out_of_band(prefix_length: u8) -> TableLine
+        ensures { result ≡ out_of_band prefix_length }
+    {
+        TableLine {
+            range_low: 0,
+            prefix_length,
+            range_length: 0,
+            is_lower: false,
+            is_out_of_band: true,
         }
     }
 
