@@ -1,5 +1,5 @@
 -- The steps of reading a custom table.
-use Rattle.std.proofs.Common.{◌≡◌, ℕ, zero, suc, ◌+◌, ◌-◌, ◌*◌, ◌/◌, ◌%◌, ◌^◌, ◌<◌, ◌≤◌, ltb, cond, true, false, ℤ, pos, List, [], ◌∷◌, ◌++◌, append_assoc, append-nil, length, take, drop, min, Option, Some, None, Result, Ok, Err, refl, sym, ◌∙◌, ap, subst, arith, pow-suc, ⊎_elim, length-drop}
+use Rattle.std.proofs.Common.{◌≡◌, ℕ, zero, suc, ◌+◌, ◌-◌, ◌*◌, ◌/◌, ◌%◌, ◌^◌, ◌<◌, ◌≤◌, ltb, cond, true, false, ℤ, pos, List, [], ◌∷◌, ◌++◌, append_assoc, append-nil, length, take, drop, min, Option, Some, None, Result, Ok, Err, refl, sym, ◌∙◌, ap, subst, arith, pow-suc, ◌⊎◌, inl, inr, ⊎_elim, length-drop}
 use Rattle.std.specs.List.{flat_map}
 use Rattle.std.proofs.Math.Nat.{mul-le-mul_right}
 use Rattle.std.proofs.lemmas.Bool.{cases_lt, cond-true, cond-false, lt-ltb, le-ltb}
@@ -9,10 +9,10 @@ use Rattle.std.specs.Prelude.{int_lt, ◌-ℤ◌}
 use Rattle.jbig2_base.specs.declared.error.DecodeError.{DecodeError}
 use Rattle.jbig2_coder.specs.declared.huffman_table.line.TableLine.{TableLine}
 use Rattle.jbig2_coder.specs.declared.huffman_table.custom.Header.{Header}
-use Rattle.jbig2_coder.specs.PrefixCode.{AreShort}
-use Rattle.jbig2_coder.specs.CustomTable.{Step, go_on, ◌>>-◌, done, field, custom_line, all_lines, behind, range_lines_in, range_lines, last_line, end_lines}
+use Rattle.jbig2_coder.specs.PrefixCode.{Member, AreShort, table_of}
+use Rattle.jbig2_coder.specs.CustomTable.{Step, go_on, ◌>>-◌, done, field, custom_header, custom_line, custom_lines, all_lines, behind, range_lines_in, range_lines, last_line, end_lines, custom_table, Leaves}
 use Rattle.jbig2_coder.specs.Tables.{lower, upper, out_of_band}
-use Rattle.jbig2_base.specs.declared.error.DecodeError.TheVariants.{Huffman}
+use Rattle.jbig2_base.specs.declared.error.DecodeError.TheVariants.{Huffman, OutOfMemory}
 use Rattle.jbig2_base.specs.declared.error.HuffmanError.TheVariants.{InvalidCode}
 use Rattle.jbig2_base.specs.Bits.{Place, byte_bits, bits_left, bits_next, bits_on, number_after}
 
@@ -187,3 +187,48 @@ ends-oob h p q r s below above len old one two three first q_is second r_is thir
     ∙ ap (λ (xs : List TableLine). done xs s) (sym (append_assoc old (a ∷ b ∷ []) (o ∷ [])))
     ∙ ap (λ (xs : List TableLine). done (xs ++ o ∷ []) s) (sym (pushed-two old one two a b pushed pushed_two))
     ∙ ap (λ (xs : List TableLine). done xs s) (sym pushed_three)
+
+go-ok : {A B : Type 0} (s : Step A) (v : A) (q : Place) (next : A → Place → Step B) → s.answer ≡ Ok v → q ≡ s.place → (s >>- next) ≡ next v q
+go-ok s v q next answer place = ap (λ r. go_on r s.place next) answer ∙ ap (λ (r : Place). next v r) (sym place)
+
+go-err : {A B : Type 0} (s : Step A) (e : DecodeError) (q : Place) (next : A → Place → Step B) → s.answer ≡ Err e → q ≡ s.place → (s >>- next) ≡ record { answer = Err e; place = q }
+go-err s e q next answer place = ap (λ r. go_on r s.place next) answer ∙ ap (λ (r : Place). record { answer = Err e; place = r }) (sym place)
+
+-- a custom table's lines where the header is refused
+pub lines-no_header : (p q : Place) (e : DecodeError) → Err e ≡ (custom_header p).answer → q ≡ (custom_header p).place → custom_lines p ≡ record { answer = Err e; place = q }
+unfolding custom_lines
+lines-no_header p q e answer place = go-err (custom_header p) e q (λ h q. range_lines h q >>- λ xs q. behind xs (end_lines h q)) (sym answer) place
+
+lines-header : (p q : Place) (h : Header) → Ok h ≡ (custom_header p).answer → q ≡ (custom_header p).place → custom_lines p ≡ (range_lines h q >>- λ xs q. behind xs (end_lines h q))
+unfolding custom_lines
+lines-header p q h answer place = go-ok (custom_header p) h q (λ h q. range_lines h q >>- λ xs q. behind xs (end_lines h q)) (sym answer) place
+
+-- where a line is refused, or memory
+pub lines-no_range : (p q r : Place) (h : Header) (e : DecodeError) → Ok h ≡ (custom_header p).answer → q ≡ (custom_header p).place → (e ≡ OutOfMemory) ⊎ ((range_lines h q).answer ≡ Err e) → (e ≡ OutOfMemory) ⊎ (r ≡ (range_lines h q).place) → (e ≡ OutOfMemory) ⊎ (custom_lines p ≡ record { answer = Err e; place = r })
+lines-no_range p q r h e answer place refused left =
+    ⊎_elim (λ (m : e ≡ OutOfMemory). inl m)
+    (λ (a : (range_lines h q).answer ≡ Err e). ⊎_elim (λ (m : e ≡ OutOfMemory). inl m)
+    (λ (l : r ≡ (range_lines h q).place). inr (lines-header p q h answer place ∙ go-err (range_lines h q) e r (λ xs q. behind xs (end_lines h q)) a l))
+    left)
+    refused
+
+pub lines-ranges : (p q r : Place) (h : Header) (xs : List TableLine) → Ok h ≡ (custom_header p).answer → q ≡ (custom_header p).place → (range_lines h q).answer ≡ Ok xs → r ≡ (range_lines h q).place → custom_lines p ≡ behind xs (end_lines h r)
+lines-ranges p q r h xs answer place lines left =
+    lines-header p q h answer place ∙ go-ok (range_lines h q) xs r (λ xs q. behind xs (end_lines h q)) lines left
+
+pub table-lines : (p q : Place) (xs : List TableLine) → (custom_lines p).answer ≡ Ok xs → q ≡ (custom_lines p).place → custom_table p ≡ record { answer = table_of xs; place = q }
+unfolding custom_table
+table-lines p q xs answer place = go-ok (custom_lines p) xs q (λ lines p. record { answer = table_of lines; place = p }) answer place
+
+pub table-no_lines : (p q : Place) (e : DecodeError) → (e ≡ OutOfMemory) ⊎ ((custom_lines p).answer ≡ Err e) → (e ≡ OutOfMemory) ⊎ (q ≡ (custom_lines p).place) → (e ≡ OutOfMemory) ⊎ (custom_table p ≡ record { answer = Err e; place = q })
+unfolding custom_table
+table-no_lines p q e refused left =
+    ⊎_elim (λ (m : e ≡ OutOfMemory). inl m)
+    (λ (a : (custom_lines p).answer ≡ Err e). ⊎_elim (λ (m : e ≡ OutOfMemory). inl m)
+    (λ (l : q ≡ (custom_lines p).place). inr (go-err (custom_lines p) e q (λ lines p. record { answer = table_of lines; place = p }) a l))
+    left)
+    refused
+
+pub leaves-at : {X : Type 0} (r : Result X DecodeError) (p q : Place) → p ≡ q → Leaves r p q
+leaves-at (Ok x) p q e = e
+leaves-at (Err d) p q e = inr e

@@ -4,12 +4,14 @@ ghost use Rattle.jbig2_base.specs.Answer.{Gives};
 ghost use Rattle.jbig2_base.specs.Bits.{bits_left, bits_on};
 ghost use Rattle.jbig2_coder.specs.PrefixCode.{table_of, decoded, no_oob, AreShort};
 ghost use Rattle.jbig2_coder.specs.Tables.{uniform};
+ghost use Rattle.jbig2_coder.specs.CustomTable.{custom_table, Leaves};
 
 mod custom;
 mod levels;
 mod line;
 mod standard;
 
+use custom::read_lines;
 use jbig2_base::error::{DecodeError, HuffmanError, Result};
 use jbig2_base::reader::Reader;
 use levels::{Level, longest, push_level, read_line};
@@ -68,6 +70,19 @@ impl<A: Allocator + Clone> HuffmanTable<A> {
             lines: sorted,
             levels,
         })
+    }
+
+    /// Reads the table of a tables segment (B.2): flags, the least and the greatest value, and the
+    /// lengths of the lines.
+    ///
+    /// Bits that end before the lines are an unexpected end. Bits that end later, a range that
+    /// leaves signed 32 bits, and codes that do not fit are an invalid code.
+    pub fn read_custom(alloc: A, reader: &mut Reader<'_>) -> Result<HuffmanTable<A>>
+        ensures table { Gives (λ t. t) result (custom_table reader.old).answer }
+        ensures place { Leaves result reader.new (custom_table reader.old).place }
+    {
+        let lines = read_lines(alloc.clone()?, reader)?;
+        HuffmanTable::build(alloc, &lines)
     }
 
     /// The table that gives the numbers from 0 to below `count`, at most 2^31, codes of one length.
