@@ -15,3 +15,4 @@ pub mod PrefixDecoding
 pub mod PrefixBuilding
 pub mod PrefixStandard
 pub mod CustomReading
+pub mod PrefixFree

@@ -1,5 +1,5 @@
 -- Prefix codes (T.88, B.3 and B.4): the codes that prefix lengths make, and how bits are read by them.
-use Rattle.std.specs.Prelude.{ℕ, zero, suc, ◌+◌, ◌-◌, ◌*◌, ◌/◌, ◌^◌, ◌≤◌, nat_lt, nat_le, ◌==◌, Bool, true, false, ◌&&◌, ◌||◌, List, [], ◌∷◌, ◌++◌, length, drop, max, filter, All, Option, Some, None, Result, Ok, Err, if◌then◌else◌, ℤ, pos, negsuc, ◌+ℤ◌, ◌-ℤ◌}
+use Rattle.std.specs.Prelude.{◌≡◌, AllPairs, ℕ, zero, suc, ◌+◌, ◌-◌, ◌*◌, ◌/◌, ◌^◌, ◌≤◌, nat_lt, nat_le, ◌==◌, Bool, true, false, ◌&&◌, ◌||◌, List, [], ◌∷◌, ◌++◌, length, drop, max, filter, All, Option, Some, None, Result, Ok, Err, if◌then◌else◌, ℤ, pos, negsuc, ◌+ℤ◌, ◌-ℤ◌}
 use Rattle.jbig2_base.specs.Bits.{bits_next}
 use Rattle.jbig2_base.specs.declared.error.DecodeError.{DecodeError}
 use Rattle.jbig2_base.specs.declared.error.DecodeError.TheVariants.{Parse, Huffman}
@@ -144,3 +144,11 @@ no_oob (Err e) = Err e
 -- range lengths that one read of bits can take
 abbrev pub AreShort : List TableLine → Type 0
 AreShort lines = All (λ x. x.range_length ≤ 32) lines
+
+-- whether a's bits are the first ones of b's
+abbrev pub begins : Member → Member → Bool
+begins a b = nat_le a.bits b.bits && (b.number / 2 ^ (b.bits - a.bits) == a.number)
+
+-- No code begins another.
+abbrev pub IsFree : List Member → Type 0
+IsFree ms = AllPairs (λ a b. (begins a b ≡ false) × (begins b a ≡ false)) ms

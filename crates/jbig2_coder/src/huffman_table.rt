@@ -1,8 +1,8 @@
 //! Prefix codes and the tables that hold them (T.88, Annex B).
-ghost use Rattle.std.specs.Prelude.{◌≡◌, ◌≤◌, ◌^◌, drop};
+ghost use Rattle.std.specs.Prelude.{◌≡◌, ◌≤◌, ◌^◌, drop, IfOk};
 ghost use Rattle.jbig2_base.specs.Answer.{Gives};
 ghost use Rattle.jbig2_base.specs.Bits.{bits_left, bits_on};
-ghost use Rattle.jbig2_coder.specs.PrefixCode.{table_of, decoded, no_oob, AreShort};
+ghost use Rattle.jbig2_coder.specs.PrefixCode.{table_of, decoded, no_oob, AreShort, IsFree};
 ghost use Rattle.jbig2_coder.specs.Tables.{uniform};
 ghost use Rattle.jbig2_coder.specs.CustomTable.{custom_table, Leaves};
 
@@ -46,7 +46,8 @@ impl<A: Allocator + Clone> HuffmanTable<A> {
     /// 2^-length over the lengths above 0 exceeds 1.
     pub fn build(alloc: A, lines: &[TableLine]) -> Result<HuffmanTable<A>>
         requires { AreShort lines.now }
-        ensures { Gives (λ t. t) result (table_of lines.now) }
+        ensures table { Gives (λ t. t) result (table_of lines.now) }
+        ensures free { IfOk result IsFree }
     {
         let mut sorted = Vec::new(alloc.clone()?);
         let mut levels = Vec::new(alloc);
@@ -126,5 +127,115 @@ impl<A: Allocator> HuffmanTable<A> {
             return Err(DecodeError::Huffman(HuffmanError::UnexpectedOob));
         };
         Ok(value)
+    }
+}
+
+#[cfg(test)]
+mod tests {
+    use super::*;
+    use jbig2_base::error::ParseError;
+    use std::alloc::Global;
+    use std::result::Result;
+    use std::test::Fail;
+
+    fn decoded(table: &HuffmanTable<Global>, bytes: &[u8]) -> Result<Option<i32>, DecodeError> {
+        table.decode(&mut Reader::new(bytes))
+    }
+
+    fn invalid_code() -> Result<Option<i32>, DecodeError> {
+        Err(DecodeError::Huffman(HuffmanError::InvalidCode))
+    }
+
+    // Row 15.
+    #[test]
+    fn standard_table_a(rt: HostRuntime) -> Result<(), Fail> {
+        let tables = StandardHuffmanTables::new(rt.alloc())?;
+        assert_eq!(rt; decoded(tables.table_a(), &[0x28]), Ok(Some(5)));
+        assert_eq!(rt; decoded(tables.table_a(), &[0x80, 0xC0]), Ok(Some(19)));
+        Ok(())
+    }
+
+    // Row R5.1.
+    #[test]
+    fn uniform_and_empty_tables(rt: HostRuntime) -> Result<(), Fail> {
+        let crowded = HuffmanTable::build_uniform(rt.alloc(), 3, 1).err();
+        assert_eq!(rt;
+            crowded,
+            Some(DecodeError::Huffman(HuffmanError::InvalidCode))
+        );
+        let pair = HuffmanTable::build_uniform(rt.alloc(), 2, 1)?;
+        assert_eq!(rt; decoded(&pair, &[0x80]), Ok(Some(1)));
+        let empty = HuffmanTable::build(rt.alloc(), &[])?;
+        assert_eq!(rt; decoded(&empty, &[0x80]), invalid_code());
+        assert_eq!(rt;
+            decoded(&empty, &[]),
+            Err(DecodeError::Parse(ParseError::UnexpectedEof))
+        );
+        Ok(())
+    }
+
+    // Row R5.2.
+    #[test]
+    fn custom_table_of_two_lines(rt: HostRuntime) -> Result<(), Fail> {
+        let mut reader = Reader::new(&[0, 0, 0, 0, 0, 0, 0, 0, 0, 0xC0]);
+        let table = HuffmanTable::read_custom(rt.alloc(), &mut reader)?;
+        assert_eq!(rt; reader.read_bits(6), Some(0));
+        assert_eq!(rt; reader.read_bit(), None);
+        assert_eq!(rt; decoded(&table, &[0, 0, 0, 0, 0]), Ok(Some(-1)));
+        assert_eq!(rt; decoded(&table, &[0x80, 0, 0, 0, 0]), Ok(Some(0)));
+        assert_eq!(rt; decoded(&table, &[0xC0, 0, 0, 0, 0]), invalid_code());
+        Ok(())
+    }
+
+    // Row R5.3.
+    #[test]
+    fn ranges_that_leave_32_bits(rt: HostRuntime) -> Result<(), Fail> {
+        let refused = Some(DecodeError::Huffman(HuffmanError::InvalidCode));
+        for end in [[0x10, 0x00], [0x0F, 0x80]] {
+            let bytes = [0x70, 0, 0, 0, 0, 0, 0, 0, 1, end[0], end[1]];
+            let answer = HuffmanTable::read_custom(rt.alloc(), &mut Reader::new(&bytes)).err();
+            assert_eq!(rt; answer, refused);
+        }
+        let bytes = [0x70, 0, 0, 0, 0, 0, 0, 0, 1, 0x8F, 0x20];
+        let table = HuffmanTable::read_custom(rt.alloc(), &mut Reader::new(&bytes))?;
+        assert_eq!(rt; decoded(&table, &[0x80, 0, 0, 0, 0]), Ok(Some(1)));
+        Ok(())
+    }
+
+    #[test]
+    fn out_of_band(rt: HostRuntime) -> Result<(), Fail> {
+        let tables = StandardHuffmanTables::new(rt.alloc())?;
+        assert_eq!(rt; decoded(tables.table_b(), &[0xFC]), Ok(None));
+        let refused = tables.table_b().decode_no_oob(&mut Reader::new(&[0xFC]));
+        assert_eq!(rt;
+            refused,
+            Err(DecodeError::Huffman(HuffmanError::UnexpectedOob))
+        );
+        let number = tables.table_n().decode_no_oob(&mut Reader::new(&[0x80]));
+        assert_eq!(rt; number, Ok(-2));
+        Ok(())
+    }
+
+    // The shortest code of zeros, and range bits of zero.
+    #[test]
+    fn first_value_of_each_standard_table(rt: HostRuntime) -> Result<(), Fail> {
+        let tables = StandardHuffmanTables::new(rt.alloc())?;
+        let zeros = [0; 8];
+        assert_eq!(rt; decoded(tables.table_a(), &zeros), Ok(Some(0)));
+        assert_eq!(rt; decoded(tables.table_b(), &zeros), Ok(Some(0)));
+        assert_eq!(rt; decoded(tables.table_c(), &zeros), Ok(Some(0)));
+        assert_eq!(rt; decoded(tables.table_d(), &zeros), Ok(Some(1)));
+        assert_eq!(rt; decoded(tables.table_e(), &zeros), Ok(Some(1)));
+        assert_eq!(rt; decoded(tables.table_f(), &zeros), Ok(Some(0)));
+        assert_eq!(rt; decoded(tables.table_g(), &zeros), Ok(Some(-512)));
+        assert_eq!(rt; decoded(tables.table_h(), &zeros), Ok(Some(0)));
+        assert_eq!(rt; decoded(tables.table_i(), &zeros), Ok(None));
+        assert_eq!(rt; decoded(tables.table_j(), &zeros), Ok(Some(-2)));
+        assert_eq!(rt; decoded(tables.table_k(), &zeros), Ok(Some(1)));
+        assert_eq!(rt; decoded(tables.table_l(), &zeros), Ok(Some(1)));
+        assert_eq!(rt; decoded(tables.table_m(), &zeros), Ok(Some(1)));
+        assert_eq!(rt; decoded(tables.table_n(), &zeros), Ok(Some(0)));
+        assert_eq!(rt; decoded(tables.table_o(), &zeros), Ok(Some(0)));
+        Ok(())
     }
 }

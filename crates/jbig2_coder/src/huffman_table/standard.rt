@@ -457,3 +457,29 @@ fn standard_lines(index: usize) -> &'static [TableLine]
         _ => &TABLE_O,
     }
 }
+
+#[cfg(test)]
+mod tests {
+    use super::*;
+    use std::result::Result;
+    use std::test::Fail;
+
+    // Row R5.4.
+    #[test]
+    fn tables_are_full_and_without_gaps(rt: HostRuntime) -> Result<(), Fail> {
+        for index in 0..15 {
+            let mut codes = 0_u32;
+            let mut next = None;
+            for line in standard_lines(index) {
+                assert!(rt; line.prefix_length <= 16 && line.range_length <= 32);
+                codes = codes.wrapping_add(1 << (16 - line.prefix_length));
+                if !line.is_lower && !line.is_out_of_band {
+                    assert!(rt; next.is_none() || next == Some(line.range_low));
+                    next = Some(line.range_low.wrapping_add(1 << line.range_length));
+                }
+            }
+            assert_eq!(rt; codes, 1 << 16);
+        }
+        Ok(())
+    }
+}

@@ -31,7 +31,7 @@ pub returns-clause-table : goal.returns-clause-table
 returns-clause-table g c =
     let whole = table-lines c.args.reader.now c.read_lines.new.reader c.in_ok-lines.lines.items c.in_ok-lines.ensures.lines c.in_ok-lines.ensures.place in
     let P : Result (List Member) DecodeError → Type 0 = λ m. Gives (λ (t : List Member). t) c.build.result m in
-    subst P (ap (λ (xs : List TableLine). table_of xs) c.deref.ensures.value ∙ sym (ap (λ (s : Step (List Member)). s.answer) whole)) c.build.ensures
+    subst P (ap (λ (xs : List TableLine). table_of xs) c.deref.ensures.value ∙ sym (ap (λ (s : Step (List Member)). s.answer) whole)) c.build.ensures.table
 
 pub returns-clause-place : goal.returns-clause-place
 returns-clause-place g c =
