@@ -1,0 +1,18 @@
+//! The calls of a Decoder, as the rows list them.
+
+/// One call of a Decoder.
+#[derive(Clone, Copy, Debug, PartialEq, Eq)]
+pub enum Call {
+    /// `push_pixel` of this colour.
+    Pixel(bool),
+    /// `push_pixel_chunk` of this colour and count.
+    Chunk(bool, u32),
+    /// `next_line`.
+    Line,
+}
+
+/// One row of eight white pixels.
+pub const WHITE: &[Call] = &[Call::Chunk(false, 1), Call::Line];
+
+/// One row of eight black pixels.
+pub const BLACK: &[Call] = &[Call::Chunk(true, 1), Call::Line];

@@ -1,0 +1,197 @@
+//! The cases of the rows, and how each is run.
+use crate::call::Call;
+use crate::spelling::spelled;
+use crate::watcher::Watcher;
+use hayro_jbig2::parts::reader::Reader;
+use hayro_jbig2::parts::segment::{SegmentType, parse_segment_header};
+use hayro_jbig2::{DecodeError, DecodeSettings, DecoderContext, Page, Result};
+use std::alloc::Allocator;
+
+/// A row of the table: its name, and all that has to hold.
+pub struct Row {
+    pub name: &'static str,
+    pub cases: &'static [Case],
+}
+
+/// The modes that a case is run in.
+#[derive(Clone, Copy, Debug, PartialEq, Eq)]
+pub enum Modes {
+    Strict,
+    Lenient,
+    Both,
+}
+
+/// What comes of a page.
+pub enum Answer {
+    /// It is drawn by exactly these calls.
+    Calls(&'static [Call]),
+    /// Its constructor answers this error.
+    Refused(DecodeError),
+    /// Decoding answers this error and makes no call.
+    Undrawn(DecodeError),
+}
+
+/// The fields of a segment header.
+pub struct Header {
+    pub segment_number: u32,
+    pub segment_type: SegmentType,
+    pub retain_flag: bool,
+    pub referred_to_segments: &'static [u32],
+    pub page_association: u32,
+    pub data_length: Option<u32>,
+}
+
+/// One thing that has to hold. Bytes are spelled as `spelling::spelled` reads them.
+pub enum Case {
+    /// An embedded page.
+    Embedded {
+        modes: Modes,
+        bytes: &'static str,
+        answer: Answer,
+    },
+    /// The number, the width and the height of an embedded page.
+    Size {
+        bytes: &'static str,
+        number: u32,
+        width: u32,
+        height: u32,
+    },
+    /// The fields that `parse_segment_header` reads strictly.
+    Header {
+        bytes: &'static str,
+        header: Header,
+    },
+}
+
+impl Modes {
+    pub fn has(self, strict: bool) -> bool {
+        match self {
+            Modes::Strict => strict,
+            Modes::Lenient => !strict,
+            Modes::Both => true,
+        }
+    }
+}
+
+/// Whether every case of a row holds. Answers `DecodeError::OutOfMemory` alone.
+pub fn row_holds<A: Allocator + Clone>(
+    alloc: A,
+    row: &Row,
+    context: &mut DecoderContext<A>,
+) -> Result<bool> {
+    for case in row.cases {
+        if !case_holds(alloc.clone()?, case, context)? {
+            return Ok(false);
+        }
+    }
+    Ok(true)
+}
+
+fn case_holds<A: Allocator + Clone>(
+    alloc: A,
+    case: &Case,
+    context: &mut DecoderContext<A>,
+) -> Result<bool> {
+    match case {
+        Case::Embedded {
+            modes,
+            bytes,
+            answer,
+        } => {
+            let Some(bytes) = spelled(alloc.clone()?, bytes)? else {
+                return Ok(false);
+            };
+            let strict = !modes.has(true)
+                || page_holds(alloc.clone()?, &bytes, true, answer, context)?;
+            let lenient = !modes.has(false) || page_holds(alloc, &bytes, false, answer, context)?;
+            Ok(strict && lenient)
+        }
+        Case::Size {
+            bytes,
+            number,
+            width,
+            height,
+        } => {
+            let Some(bytes) = spelled(alloc.clone()?, bytes)? else {
+                return Ok(false);
+            };
+            let page = match Page::new_embedded(alloc, &bytes, &DecodeSettings { strict: true }) {
+                Ok(page) => page,
+                Err(error) => return refused_as(error, None),
+            };
+            let sized = page.width() == *width && page.height() == *height;
+            Ok(sized && page.number() == *number && page.dimensions() == (*width, *height))
+        }
+        Case::Header { bytes, header } => {
+            let Some(bytes) = spelled(alloc.clone()?, bytes)? else {
+                return Ok(false);
+            };
+            header_holds(alloc, &bytes, header)
+        }
+    }
+}
+
+/// Whether an embedded page has this answer. Answers `DecodeError::OutOfMemory` alone, and only where no
+/// call was made.
+pub fn page_holds<A: Allocator + Clone>(
+    alloc: A,
+    bytes: &[u8],
+    strict: bool,
+    answer: &Answer,
+    context: &mut DecoderContext<A>,
+) -> Result<bool> {
+    let page = match Page::new_embedded(alloc, bytes, &DecodeSettings { strict }) {
+        Ok(page) => page,
+        Err(error) => return refused_as(
+            error,
+            match answer {
+                Answer::Refused(expected) => Some(expected),
+                _ => None,
+            },
+        ),
+    };
+    let calls = match answer {
+        Answer::Calls(calls) => *calls,
+        _ => &[],
+    };
+    let mut watcher = Watcher::new(calls);
+    match page.decode_with(&mut watcher, context) {
+        Ok(()) => Ok(matches!(answer, Answer::Calls(_)) && watcher.is_satisfied()),
+        Err(_) if watcher.has_taken() => Ok(false),
+        Err(error) => refused_as(
+            error,
+            match answer {
+                Answer::Undrawn(expected) => Some(expected),
+                _ => None,
+            },
+        ),
+    }
+}
+
+/// Whether this error was expected. Want of memory is passed on.
+fn refused_as(error: DecodeError, expected: Option<&DecodeError>) -> Result<bool> {
+    if expected == Some(&error) {
+        return Ok(true);
+    }
+    if error == DecodeError::OutOfMemory {
+        return Err(error);
+    }
+    Ok(false)
+}
+
+fn header_holds<A: Allocator>(alloc: A, bytes: &[u8], expected: &Header) -> Result<bool> {
+    let mut reader = Reader::new(bytes);
+    let header = match parse_segment_header(alloc, &mut reader, true) {
+        Ok(header) => header,
+        Err(error) => return refused_as(error, None),
+    };
+    Ok(
+        header.segment_number == expected.segment_number
+            && header.segment_type == expected.segment_type
+            && header.retain_flag == expected.retain_flag
+            && header.referred_to_segments.as_slice() == expected.referred_to_segments
+            && header.page_association == expected.page_association
+            && header.data_length == expected.data_length
+            && reader.at_end(),
+    )
+}

@@ -1,0 +1,22 @@
+//! The pieces that rows are put together from.
+
+/// Bytes with a name.
+pub struct Piece {
+    pub name: &'static str,
+    /// The bytes in hexadecimal digits.
+    pub bytes: &'static str,
+}
+
+/// The pieces. A spelling names them.
+pub const PIECES: &[Piece] = &[
+    // The identification string of a file (T.88, D.4.1).
+    Piece {
+        name: "H",
+        bytes: "974A42320D0A1A0A",
+    },
+    // The information of a white page of 8 by 1.
+    Piece {
+        name: "P",
+        bytes: "00000000300001000000130000000800000001 00*11",
+    },
+];

@@ -1,0 +1,8 @@
+//! The rows, one file for each of their families.
+pub mod framing;
+pub mod worked;
+
+use crate::case::Row;
+
+/// All rows in the order in which they are run.
+pub const FAMILIES: &[&[Row]] = &[worked::ROWS, framing::ROWS];

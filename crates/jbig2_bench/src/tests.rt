@@ -1,0 +1,124 @@
+//! What the rows alone don't show.
+//!
+//! `rt try --test --fail-alloc 1..` in this crate's folder runs these tests with each request for memory
+//! refused in turn. A test that makes no page then ends early.
+mod errors;
+
+use crate::call::{Call, WHITE};
+use crate::case::{Answer, Case, page_holds, row_holds};
+use crate::program::run;
+use crate::rows::FAMILIES;
+use crate::spelling::spelled;
+use crate::watcher::Watcher;
+use hayro_jbig2::{DecodeError, DecodeSettings, DecoderContext, Page, Result};
+use std::alloc::Global;
+use std::test::Fail;
+
+const WHITE_PAGE: Answer = Answer::Calls(WHITE);
+
+/// Whether the white page of 8 by 1 is drawn white in this context.
+fn white_holds(alloc: Global, context: &mut DecoderContext<Global>) -> Result<bool> {
+    let Some(bytes) = spelled(alloc, "P")? else {
+        return Ok(false);
+    };
+    page_holds(alloc, &bytes, true, &WHITE_PAGE, context)
+}
+
+/// At most one request is refused in a run of this test, so what follows a refusal has to hold.
+#[test]
+fn a_context_serves_on_after_each_row_and_each_refusal(rt: HostRuntime) {
+    let alloc = rt.alloc();
+    let Ok(mut context) = DecoderContext::new(alloc) else {
+        return;
+    };
+    for rows in FAMILIES {
+        for row in *rows {
+            match row_holds(alloc, row, &mut context) {
+                Ok(holds) => assert!(rt; holds, "row {}", row.name),
+                Err(error) => assert!(rt; error == DecodeError::OutOfMemory, "row {}", row.name),
+            }
+            match white_holds(alloc, &mut context) {
+                Ok(holds) => assert!(rt; holds, "behind row {}", row.name),
+                Err(_) => {
+                    let again = white_holds(alloc, &mut context);
+                    assert!(rt; again == Ok(true), "behind row {}", row.name);
+                }
+            }
+        }
+    }
+}
+
+/// Whether a Decoder that refuses a call, whichever it is, has taken those before it and no other.
+fn refusals_hold(
+    alloc: Global,
+    bytes: &[u8],
+    strict: bool,
+    calls: &[Call],
+    context: &mut DecoderContext<Global>,
+) -> Result<bool> {
+    let page = Page::new_embedded(alloc, bytes, &DecodeSettings { strict })?;
+    for taken in 0..calls.len() {
+        let mut watcher = Watcher::with_patience(&calls[..taken], taken);
+        let decoded = page.decode_with(&mut watcher, context);
+        if decoded == Err(DecodeError::OutOfMemory) {
+            return Err(DecodeError::OutOfMemory);
+        }
+        let refused_once = decoded == Err(DecodeError::Unsupported) && watcher.refusals() == 1;
+        if !refused_once || !watcher.is_satisfied() {
+            return Ok(false);
+        }
+    }
+    Ok(true)
+}
+
+#[test]
+fn each_call_may_be_refused(rt: HostRuntime) {
+    let alloc = rt.alloc();
+    let Ok(mut context) = DecoderContext::new(alloc) else {
+        return;
+    };
+    for rows in FAMILIES {
+        for row in *rows {
+            for case in row.cases {
+                if let Case::Embedded {
+                    modes,
+                    bytes,
+                    answer: Answer::Calls(calls),
+                } = case
+                {
+                    let Ok(Some(bytes)) = spelled(alloc, bytes) else {
+                        return;
+                    };
+                    let strict = modes.has(true);
+                    match refusals_hold(alloc, &bytes, strict, calls, &mut context) {
+                        Ok(holds) => assert!(rt; holds, "row {}", row.name),
+                        Err(error) => {
+                            assert!(rt; error == DecodeError::OutOfMemory, "row {}", row.name);
+                        }
+                    }
+                }
+            }
+        }
+    }
+}
+
+#[test]
+fn a_page_is_decoded_in_a_context_of_its_own(rt: HostRuntime) -> std::result::Result<(), Fail> {
+    let alloc = rt.alloc();
+    let bytes = spelled(alloc, "P")?.ok_or("P is a piece")?;
+    let page = Page::new_embedded(alloc, &bytes, &DecodeSettings::default())?;
+    let mut watcher = Watcher::new(WHITE);
+    page.decode(&mut watcher)?;
+    assert!(rt; watcher.is_satisfied());
+    Ok(())
+}
+
+#[test]
+fn other_words_print_the_usage(rt: HostRuntime) {
+    let mut out = Vec::new(rt.alloc());
+    let mut err = Vec::new(rt.alloc());
+    let status = run(rt.alloc(), &["rows"], &mut out, &mut err);
+    assert_eq!(rt; status, 2);
+    assert!(rt; out.is_empty());
+    assert_eq!(rt; err.as_slice(), b"usage: jbig2-bench [lists]\n".as_slice());
+}
