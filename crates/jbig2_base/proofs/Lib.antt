@@ -4,6 +4,7 @@ mod CombineLemmas
 mod CountLemmas
 pub mod GridLemmas
 mod PackedLemmas
+pub mod RandomAccess
 pub mod ReaderLemmas
 pub mod SegmentLemmas
 pub mod Sequential

@@ -16,7 +16,7 @@ pub record Reads (front : List Part) (strict : Bool) (bytes : List ℕ) (meant :
   pub enough : length bytes ≤ most
   pub same : with_front front (segments_in most strict bytes) ≡ meant
 
-front-none : (r : Result (List Part) DecodeError) → with_front [] r ≡ r
+pub front-none : (r : Result (List Part) DecodeError) → with_front [] r ≡ r
 front-none (Ok ps) = refl
 front-none (Err e) = refl
 
@@ -33,7 +33,7 @@ unfolding segments_in
 none_in zero strict bytes none = refl
 none_in (suc most) strict bytes none = cond-true (nat_eq (length bytes) 0) (Ok []) (goes_on strict (segment_at strict bytes) (segments_in most strict)) (eq-eqb (length bytes) 0 none)
 
-one_more : (front : List Part) (p : Part) (r : Result (List Part) DecodeError) → with_front (front ++ p ∷ []) r ≡ with_front front (r >>= λ ps. Ok (p ∷ ps))
+pub one_more : (front : List Part) (p : Part) (r : Result (List Part) DecodeError) → with_front (front ++ p ∷ []) r ≡ with_front front (r >>= λ ps. Ok (p ∷ ps))
 one_more front p (Ok ps) = ap (λ (qs : List Part). Ok qs) (append_assoc front (p ∷ []) ps)
 one_more front p (Err e) = refl
 

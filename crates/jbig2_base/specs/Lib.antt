@@ -4,6 +4,8 @@ pub mod Blocks
 pub mod Combination
 pub mod Counts
 pub mod Fields
+pub mod File
+pub mod FileHeader
 pub mod Grid
 pub mod Operator
 pub mod Packed

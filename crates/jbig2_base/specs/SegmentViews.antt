@@ -19,3 +19,6 @@ part_view s = record { header = header_view s.header; bytes = s.bytes.now }
 
 abbrev pub parts : {A : Type 0} → List (Segment A) → List Part
 parts segments = map (λ s. part_view s) segments
+
+abbrev pub header_views : {A : Type 0} → List (SegmentHeader A) → List Header
+header_views headers = map (λ h. header_view h) headers

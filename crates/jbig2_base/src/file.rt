@@ -1,13 +1,18 @@
-//! Lists of segments (T.88, Annex D).
-ghost use Rattle.std.specs.Prelude.{◌≡◌, List};
+//! Files and lists of segments (T.88, Annex D).
+ghost use Rattle.std.specs.Prelude.{◌≡◌, List, length};
 ghost use Rattle.jbig2_base.specs.Answer.{Gives};
 ghost use Rattle.jbig2_base.specs.Bits.{IsAligned};
-ghost use Rattle.jbig2_base.specs.SegmentViews.{parts};
+ghost use Rattle.jbig2_base.specs.File.{headers_in, gathered, random_access, segments_by, file_at};
+ghost use Rattle.jbig2_base.specs.SegmentViews.{header_views, parts};
 ghost use Rattle.jbig2_base.specs.Sequential.{is_cut_off, is_end_of_file, sequential};
 
 use crate::error::{DecodeError, Result};
+use crate::file_header::{FileHeader, FileOrganization, parse_file_header};
 use crate::reader::Reader;
-use crate::segment::{Segment, SegmentType, parse_segment};
+use crate::segment::{
+    Segment, SegmentHeader, SegmentType, parse_segment, parse_segment_data, parse_segment_header,
+};
+use crate::sort::sort_segments;
 use std::alloc::Allocator;
 
 /// Whether an error only cuts the last segment off, which lenient reading drops.
@@ -58,4 +63,104 @@ pub fn parse_segments_sequential<'a, A: Allocator + Clone>(
         }
     }
     Ok(segments)
+}
+
+/// All segment headers from the reader's place on, up to that of an end of file segment or the end
+/// of the bytes (T.88, D.2).
+fn parse_segment_headers<A: Allocator + Clone>(
+    alloc: A,
+    reader: &mut Reader<'_>,
+    strict: bool,
+) -> Result<Vec<SegmentHeader<A>, A>>
+    requires { IsAligned reader.old }
+    ensures value { Gives (λ v. (header_views v.items, reader.new.bytes)) result (headers_in (length reader.old.bytes) strict reader.old.bytes) }
+    ensures aligned { IsAligned reader.new }
+{
+    let mut headers = Vec::new(alloc.clone()?);
+    'reading: while !reader.at_end() {
+        match parse_segment_header(alloc.clone()?, reader, strict) {
+            Ok(header) => {
+                let last = is_end_of_file(header.segment_type);
+                headers.push(header)?;
+                if last {
+                    return Ok(headers);
+                }
+            }
+            Err(error) => return Err(error),
+        }
+    }
+    Ok(headers)
+}
+
+/// The segments with these headers, whose data stands in their order from the reader's place on.
+fn gather_segments<'a, A: Allocator>(
+    alloc: A,
+    reader: &mut Reader<'a>,
+    headers: Vec<SegmentHeader<A>, A>,
+) -> Result<Vec<Segment<'a, A>, A>>
+    requires { IsAligned reader.old }
+    ensures { Gives (λ v. parts v.items) result (gathered (header_views headers.items) reader.old.bytes) }
+{
+    let mut segments = Vec::new(alloc);
+    for header in headers {
+        match parse_segment_data(reader, header) {
+            Ok(segment) => segments.push(segment)?,
+            Err(error) => return Err(error),
+        }
+    }
+    Ok(segments)
+}
+
+/// The segments from the reader's place on, all headers before all data (T.88, D.2).
+///
+/// Bytes that end too early are an error in both modes.
+fn parse_segments_random_access<'a, A: Allocator + Clone>(
+    alloc: A,
+    reader: &mut Reader<'a>,
+    strict: bool,
+) -> Result<Vec<Segment<'a, A>, A>>
+    requires { IsAligned reader.old }
+    ensures { Gives (λ v. parts v.items) result (random_access strict reader.old.bytes) }
+{
+    let headers = parse_segment_headers(alloc.clone()?, reader, strict)?;
+    gather_segments(alloc, reader, headers)
+}
+
+fn parse_segments<'a, A: Allocator + Clone>(
+    alloc: A,
+    reader: &mut Reader<'a>,
+    organization: FileOrganization,
+    strict: bool,
+) -> Result<Vec<Segment<'a, A>, A>>
+    requires { IsAligned reader.old }
+    ensures { Gives (λ v. parts v.items) result (segments_by organization strict reader.old.bytes) }
+{
+    match organization {
+        FileOrganization::Sequential => parse_segments_sequential(alloc, reader, strict),
+        FileOrganization::RandomAccess => parse_segments_random_access(alloc, reader, strict),
+    }
+}
+
+/// A file (T.88, Annex D): its header, and its segments in the order of their numbers.
+#[derive(Debug, Drop)]
+pub struct File<'a, A: Allocator> {
+    pub header: FileHeader,
+    /// Those of one number stay in the order in which they stand in the file.
+    pub segments: Vec<Segment<'a, A>, A>,
+}
+
+/// The file that `bytes` hold.
+#[tactic(auto, unfolding(crate::specs::File::file_at))]
+pub fn parse_file<'a, A: Allocator + Clone>(
+    alloc: A,
+    bytes: &'a [u8],
+    strict: bool,
+) -> Result<File<'a, A>>
+    ensures { Gives (λ f. (f.header, parts f.segments.items)) result (file_at strict bytes.now) }
+{
+    let mut reader = Reader::new(bytes);
+    let header = parse_file_header(&mut reader)?;
+    let mut segments = parse_segments(alloc, &mut reader, header.organization, strict)?;
+    sort_segments(&mut segments)?;
+    Ok(File { header, segments })
 }

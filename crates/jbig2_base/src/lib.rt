@@ -6,6 +6,7 @@ pub mod bitmap;
 pub mod error;
 pub mod field;
 pub mod file;
+pub mod file_header;
 pub mod page_info;
 pub mod reader;
 pub mod segment;

@@ -1,0 +1,91 @@
+-- Headers that are read and data that is gathered, and what is left of them.
+use Rattle.std.proofs.Common.{◌≡◌, ℕ, ◌+◌, ◌-◌, ◌<◌, ◌≤◌, suc, zero, List, [], ◌∷◌, ◌++◌, length, Result, Ok, Err, Bool, true, false, nat_eq, cond, refl, sym, ◌∙◌, ap, arith}
+use Rattle.std.proofs.lemmas.List.{append_assoc, append-nil}
+use Rattle.std.proofs.lemmas.Bool.{cond-true, cond-false, ne_eqb, eq-eqb}
+use Rattle.jbig2_base.specs.Answer.{◌>>=◌}
+use Rattle.jbig2_base.specs.File.{headers_in, with_header, gathered}
+use Rattle.jbig2_base.specs.Segment.{Header, Part, header_at, segment_data_at}
+use Rattle.jbig2_base.specs.Sequential.{is_end_of_file}
+use Rattle.jbig2_base.specs.declared.error.DecodeError.{DecodeError}
+use Rattle.jbig2_base.proofs.Sequential.{with_front, one_more}
+
+abbrev pub Headers : Type 0
+Headers = Result (List Header × List ℕ) DecodeError
+
+abbrev pub with_headers : List Header → Headers → Headers
+with_headers front r = r >>= λ hs. Ok (front ++ hs.0, hs.1)
+
+-- Some headers are read, and with those in the bytes that are left they are what is meant.
+pub record ReadsHeaders (front : List Header) (strict : Bool) (bytes : List ℕ) (meant : Headers) : Type 0 where
+  pub most : ℕ
+  pub enough : length bytes ≤ most
+  pub same : with_headers front (headers_in most strict bytes) ≡ meant
+
+no_header : (r : Headers) → with_headers [] r ≡ r
+no_header (Ok hs) = refl
+no_header (Err e) = refl
+
+pub headers_begin : (strict : Bool) (bytes : List ℕ) → ReadsHeaders [] strict bytes (headers_in (length bytes) strict bytes)
+headers_begin strict bytes = record { most = length bytes; enough = omega arith; same = no_header (headers_in (length bytes) strict bytes) }
+
+-- the next header, where bytes are left
+pub header_in : (most : ℕ) (strict : Bool) (bytes : List ℕ) → 0 < length bytes → headers_in (suc most) strict bytes ≡ (header_at strict bytes >>= λ h. with_header h (headers_in most strict))
+unfolding headers_in
+header_in most strict bytes some = cond-false (nat_eq (length bytes) 0) (Ok ([], bytes)) (header_at strict bytes >>= λ h. with_header h (headers_in most strict)) (ne_eqb (length bytes) 0 (λ e. omega arith))
+
+no_header_in : (most : ℕ) (strict : Bool) (bytes : List ℕ) → length bytes ≡ 0 → headers_in most strict bytes ≡ Ok ([], bytes)
+unfolding headers_in
+no_header_in zero strict bytes none = refl
+no_header_in (suc most) strict bytes none = cond-true (nat_eq (length bytes) 0) (Ok ([], bytes)) (header_at strict bytes >>= λ h. with_header h (headers_in most strict)) (eq-eqb (length bytes) 0 none)
+
+one_more_header : (front : List Header) (h : Header) (r : Headers) → with_headers (front ++ h ∷ []) r ≡ with_headers front (r >>= λ hs. Ok (h ∷ hs.0, hs.1))
+one_more_header front h (Ok hs) = ap (λ (xs : List Header). Ok (xs, hs.1)) (append_assoc front (h ∷ []) hs.0)
+one_more_header front h (Err e) = refl
+
+-- what is meant, by the header at the front
+header_at_front : (front : List Header) (strict : Bool) (bytes : List ℕ) (meant : Headers) (reads : ReadsHeaders front strict bytes meant) (r : Result (Header × List ℕ) DecodeError) → 0 < length bytes → header_at strict bytes ≡ r → with_headers front (r >>= λ h. with_header h (headers_in (reads.most - 1) strict)) ≡ meant
+header_at_front front strict bytes meant reads r some e =
+    let next : suc (reads.most - 1) ≡ reads.most = omega (arith, reads.enough) in
+    ap (λ (s : Result (Header × List ℕ) DecodeError). with_headers front (s >>= λ h. with_header h (headers_in (reads.most - 1) strict))) (sym e)
+    ∙ ap (λ (s : Headers). with_headers front s) (sym (header_in (reads.most - 1) strict bytes some) ∙ ap (λ (n : ℕ). headers_in n strict bytes) next)
+    ∙ reads.same
+
+pub next_header : (front : List Header) (strict : Bool) (bytes rest : List ℕ) (meant : Headers) (h : Header) → ReadsHeaders front strict bytes meant → header_at strict bytes ≡ Ok (h, rest) → length rest < length bytes → is_end_of_file h.segment_type ≡ false → ReadsHeaders (front ++ h ∷ []) strict rest meant
+next_header front strict bytes rest meant h reads e shorter goes = record {
+  most = reads.most - 1;
+  enough = omega (arith, reads.enough);
+  same =
+      one_more_header front h (headers_in (reads.most - 1) strict rest)
+      ∙ ap (λ (r : Headers). with_headers front r) (sym (cond-false (is_end_of_file h.segment_type) (Ok (h ∷ [], rest)) (headers_in (reads.most - 1) strict rest >>= λ hs. Ok (h ∷ hs.0, hs.1)) goes))
+      ∙ header_at_front front strict bytes meant reads (Ok (h, rest)) (omega arith) e;
+}
+
+pub last_header : (front : List Header) (strict : Bool) (bytes rest : List ℕ) (meant : Headers) (h : Header) → ReadsHeaders front strict bytes meant → header_at strict bytes ≡ Ok (h, rest) → 0 < length bytes → is_end_of_file h.segment_type ≡ true → meant ≡ Ok (front ++ h ∷ [], rest)
+last_header front strict bytes rest meant h reads e some ends =
+    sym (ap (λ (r : Headers). with_headers front r) (sym (cond-true (is_end_of_file h.segment_type) (Ok (h ∷ [], rest)) (headers_in (reads.most - 1) strict rest >>= λ hs. Ok (h ∷ hs.0, hs.1)) ends))
+    ∙ header_at_front front strict bytes meant reads (Ok (h, rest)) some e)
+
+pub header_refused : (front : List Header) (strict : Bool) (bytes : List ℕ) (meant : Headers) (error : DecodeError) → ReadsHeaders front strict bytes meant → header_at strict bytes ≡ Err error → 0 < length bytes → meant ≡ Err error
+header_refused front strict bytes meant error reads e some = sym (header_at_front front strict bytes meant reads (Err error) some e)
+
+pub headers_end : (front : List Header) (strict : Bool) (bytes : List ℕ) (meant : Headers) → ReadsHeaders front strict bytes meant → length bytes ≡ 0 → meant ≡ Ok (front, bytes)
+headers_end front strict bytes meant reads none =
+    sym reads.same ∙ ap (λ (r : Headers). with_headers front r) (no_header_in reads.most strict bytes none) ∙ ap (λ (hs : List Header). Ok (hs, bytes)) (append-nil front)
+
+-- the same under another name for what was read
+pub ReadsHeaders-as : (front others : List Header) (strict : Bool) (bytes : List ℕ) (meant : Headers) → front ≡ others → ReadsHeaders front strict bytes meant → ReadsHeaders others strict bytes meant
+ReadsHeaders-as front others strict bytes meant e reads = record { most = reads.most; enough = reads.enough; same = ap (λ (hs : List Header). with_headers hs (headers_in reads.most strict bytes)) (sym e) ∙ reads.same }
+
+-- data behind data
+pub gathers_one : (front : List Part) (h : Header) (hs : List Header) (bytes rest : List ℕ) (p : Part) (meant : Result (List Part) DecodeError) → with_front front (gathered (h ∷ hs) bytes) ≡ meant → segment_data_at h bytes ≡ Ok (p, rest) → with_front (front ++ p ∷ []) (gathered hs rest) ≡ meant
+gathers_one front h hs bytes rest p meant same e =
+    one_more front p (gathered hs rest)
+    ∙ ap (λ (r : Result (Part × List ℕ) DecodeError). with_front front (r >>= λ q. gathered hs q.1 >>= λ ps. Ok (q.0 ∷ ps))) (sym e)
+    ∙ same
+
+pub gathers_none : (front : List Part) (h : Header) (hs : List Header) (bytes : List ℕ) (error : DecodeError) (meant : Result (List Part) DecodeError) → with_front front (gathered (h ∷ hs) bytes) ≡ meant → segment_data_at h bytes ≡ Err error → meant ≡ Err error
+gathers_none front h hs bytes error meant same e =
+    sym same ∙ ap (λ (r : Result (Part × List ℕ) DecodeError). with_front front (r >>= λ q. gathered hs q.1 >>= λ ps. Ok (q.0 ∷ ps))) e
+
+pub gathers_all : (front : List Part) (bytes : List ℕ) (meant : Result (List Part) DecodeError) → with_front front (gathered [] bytes) ≡ meant → meant ≡ Ok front
+gathers_all front bytes meant same = sym same ∙ ap (λ (ps : List Part). Ok ps) (append-nil front)

@@ -1,0 +1,56 @@
+use Rattle.std.proofs.Common.{◌≡◌, ◌+◌, length, arith, ◌++◌, ◌∷◌, [], List, Ok, inr, sym, ◌∙◌, ap}
+use Rattle.std.proofs.lemmas.List.{map_push, nil_from_length}
+use Rattle.std.specs.Vec.Iter.{into_iter_items, into_iter_len}
+use Rattle.jbig2_base.specs.File.{gathered}
+use Rattle.jbig2_base.specs.Segment.{Part}
+use Rattle.jbig2_base.specs.SegmentViews.{header_views, header_view, parts, part_view}
+use Rattle.jbig2_base.specs.declared.segment.Segment.{Segment}
+use Rattle.jbig2_base.specs.declared.segment.SegmentHeader.{SegmentHeader}
+use Rattle.jbig2_base.proofs.RandomAccess.{gathers_one, gathers_none, gathers_all}
+use Rattle.jbig2_base.proofs.Sequential.{with_front, front-none}
+use Rattle.jbig2_base.proofs.file.gather_segments.Goals as goal
+
+pub loop-header-init : goal.loop-header-init
+loop-header-init g c =
+    let bytes = c.args.reader.now.bytes in
+    record {
+      aligned = c.requires;
+      counted = c.into_iter-header-iterator.ensures.into_iter_gives.1 ∙ c.args.headers.ok.0 ∙ ap (λ (hs : List (SegmentHeader g.row.A.Denot)). length hs) (sym c.into_iter-header-iterator.ensures.into_iter_gives.0);
+      gathers =
+          ap (λ (ss : List (Segment g.row.A.Denot)). with_front (parts ss) (gathered (header_views (into_iter_items c.into_iter-header-iterator.result)) bytes)) c.new-segments.ensures.items
+          ∙ front-none (gathered (header_views (into_iter_items c.into_iter-header-iterator.result)) bytes)
+          ∙ ap (λ (hs : List (SegmentHeader g.row.A.Denot)). gathered (header_views hs) bytes) c.into_iter-header-iterator.ensures.into_iter_gives.0;
+    }
+
+pub loop-header-preserved : goal.loop-header-preserved
+loop-header-preserved g c =
+    let front = parts c.loop-header.segments.items in
+    let bytes = c.loop-header.reader.bytes in
+    let hs = header_views (into_iter_items c.next.new.self) in
+    let meant = gathered (header_views c.args.headers.items) c.args.reader.now.bytes in
+    let rest = c.parse_segment_data.new.reader.bytes in
+    record {
+      aligned = c.in-Ok.ensures.aligned;
+      counted = omega (arith, c.loop-header.invariant.counted, c.in-Some.ensures.steps.1, ap length c.in-Some.ensures.steps.0);
+      gathers =
+          ap (λ (ps : List Part). with_front ps (gathered hs rest)) (ap (λ (ss : List (Segment g.row.A.Denot)). parts ss) c.in_ok-push-in-Ok.ensures.items ∙ map_push (λ (s : Segment g.row.A.Denot). part_view s) c.loop-header.segments.items c.in-Ok.segment)
+          ∙ gathers_one front (header_view c.in-Some.header) hs bytes rest (part_view c.in-Ok.segment) meant
+          (ap (λ (ks : List (SegmentHeader g.row.A.Denot)). with_front front (gathered (header_views ks) bytes)) (sym c.in-Some.ensures.steps.0) ∙ c.loop-header.invariant.gathers)
+          c.in-Ok.ensures.value;
+    }
+
+pub returns-in-Err : goal.returns-in-Err
+returns-in-Err g c =
+    let front = parts c.loop-header.segments.items in
+    let bytes = c.loop-header.reader.bytes in
+    inr (gathers_none front (header_view c.in-Some.header) (header_views (into_iter_items c.next.new.self)) bytes c.in-Err.error (gathered (header_views c.args.headers.items) c.args.reader.now.bytes)
+    (ap (λ (ks : List (SegmentHeader g.row.A.Denot)). with_front front (gathered (header_views ks) bytes)) (sym c.in-Some.ensures.steps.0) ∙ c.loop-header.invariant.gathers)
+    c.in-Err.ensures.value)
+
+pub returns : goal.returns
+returns g c =
+    let front = parts c.loop-header.segments.items in
+    let bytes = c.loop-header.reader.bytes in
+    let none : into_iter_items c.loop-header.header-iterator ≡ [] = nil_from_length (into_iter_items c.loop-header.header-iterator) (sym c.loop-header.invariant.counted ∙ c.in-None.ensures.steps.0) in
+    gathers_all front bytes (gathered (header_views c.args.headers.items) c.args.reader.now.bytes)
+    (ap (λ (ks : List (SegmentHeader g.row.A.Denot)). with_front front (gathered (header_views ks) bytes)) (sym none) ∙ c.loop-header.invariant.gathers)

@@ -1,0 +1,45 @@
+-- The header of a file (T.88, D.4).
+use Rattle.std.specs.Prelude.{ℕ, ◌/◌, ◌%◌, ◌==◌, Bool, true, false, not, List, [], ◌∷◌, Option, Some, None, Result, Ok, Err, if◌then◌else◌}
+use Rattle.std.specs.Int.{w8, w32}
+use Rattle.std.specs.Str.{bytes_eq}
+use Rattle.jbig2_base.specs.Answer.{◌>>=◌, refuse_if}
+use Rattle.jbig2_base.specs.Fields.{bytes_at, number_at}
+use Rattle.jbig2_base.specs.declared.error.DecodeError.{DecodeError}
+use Rattle.jbig2_base.specs.declared.error.DecodeError.TheVariants.{Format}
+use Rattle.jbig2_base.specs.declared.error.FormatError.TheVariants.{InvalidHeader, ReservedBits}
+use Rattle.jbig2_base.specs.declared.file_header.FileHeader.{FileHeader}
+use Rattle.jbig2_base.specs.declared.file_header.FileOrganization.{FileOrganization}
+use Rattle.jbig2_base.specs.declared.file_header.FileOrganization.TheVariants.{Sequential, RandomAccess}
+
+-- the bytes that each file begins with (D.4.1)
+abbrev pub identification : List ℕ
+identification = 151 ∷ 74 ∷ 66 ∷ 50 ∷ 13 ∷ 10 ∷ 26 ∷ 10 ∷ []
+
+abbrev pub is_identification : List ℕ → Bool
+is_identification bytes = bytes_eq bytes identification
+
+abbrev pub organization_of : ℕ → FileOrganization
+organization_of flags = if flags % 2 == 1 then Sequential else RandomAccess
+
+-- the number of pages (D.4.3), unless it is unknown
+abbrev pub page_count_at : Bool → List ℕ → Result (Option ℕ × List ℕ) DecodeError
+page_count_at true bytes = Ok (None, bytes)
+page_count_at false bytes = number_at w32 bytes >>= λ n. Ok (Some n.0, n.1)
+
+-- A file header, and the bytes behind it. The flags (D.4.2) have four reserved bits.
+unfoldable pub file_header_at : List ℕ → Result (FileHeader × List ℕ) DecodeError
+file_header_at bytes = do
+  front ← bytes_at 8 bytes
+  known ← refuse_if (not (is_identification front.0)) (Format InvalidHeader)
+  flags ← number_at w8 front.1
+  clear ← refuse_if (not (flags.0 / 16 == 0)) (Format ReservedBits)
+  pages ← page_count_at (flags.0 / 2 % 2 == 1) flags.1
+  Ok (
+    record {
+      organization = organization_of flags.0;
+      number_of_pages = pages.0;
+      uses_extended_templates = flags.0 / 4 % 2 == 1;
+      contains_coloured_regions = flags.0 / 8 % 2 == 1;
+    },
+    pages.1,
+  )

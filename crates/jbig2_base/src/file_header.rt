@@ -1,0 +1,84 @@
+//! The header of a file (T.88, D.4).
+ghost use Rattle.std.specs.Prelude.{◌≡◌, ◌+◌, length, OnOk, ◌≤◌};
+ghost use Rattle.jbig2_base.specs.Answer.{Answers};
+ghost use Rattle.jbig2_base.specs.Bits.{IsAligned};
+ghost use Rattle.jbig2_base.specs.FileHeader.{is_identification, organization_of, page_count_at, file_header_at};
+
+use crate::error::{DecodeError, FormatError, Result};
+use crate::field::{byte_field, bytes_field, u32_field};
+use crate::reader::Reader;
+
+/// In which order the headers and the data of the segments stand (T.88, D.1 and D.2).
+#[derive(Clone, Copy, Debug, PartialEq, Eq)]
+pub enum FileOrganization {
+    /// Each header has its data behind it.
+    Sequential,
+    /// All headers come first.
+    RandomAccess,
+}
+
+/// The header of a file (T.88, D.4).
+#[derive(Clone, Copy, Debug, PartialEq, Eq)]
+pub struct FileHeader {
+    pub organization: FileOrganization,
+    /// None where the file leaves it open.
+    pub number_of_pages: Option<u32>,
+    /// Whether a generic region may have twelve adaptive pixels.
+    pub uses_extended_templates: bool,
+    pub contains_coloured_regions: bool,
+}
+
+fn is_identification(bytes: &[u8]) -> bool
+    ensures { result ≡ is_identification bytes.now }
+{
+    bytes == [0x97, 0x4A, 0x42, 0x32, 0x0D, 0x0A, 0x1A, 0x0A].as_slice()
+}
+
+fn organization(flags: u8) -> FileOrganization
+    ensures { result ≡ organization_of flags }
+{
+    if flags % 2 == 1 {
+        FileOrganization::Sequential
+    } else {
+        FileOrganization::RandomAccess
+    }
+}
+
+fn page_count(reader: &mut Reader<'_>, unknown: bool) -> Result<Option<u32>>
+    requires { IsAligned reader.old }
+    ensures value { Answers (λ x. (x, reader.new.bytes)) result (page_count_at unknown reader.old.bytes) }
+    ensures aligned { IsAligned reader.new }
+{
+    if unknown {
+        return Ok(None);
+    }
+    let number = u32_field(reader)?;
+    Ok(Some(number))
+}
+
+/// A file header at the reader's place (T.88, D.4).
+///
+/// Other bytes than the identification string answer `FormatError::InvalidHeader`, a reserved bit
+/// of the flags `FormatError::ReservedBits`. Takes no memory.
+#[tactic(auto, unfolding(crate::specs::FileHeader::file_header_at))]
+pub(crate) fn parse_file_header(reader: &mut Reader<'_>) -> Result<FileHeader>
+    requires { IsAligned reader.old }
+    ensures value { Answers (λ h. (h, reader.new.bytes)) result (file_header_at reader.old.bytes) }
+    ensures aligned { IsAligned reader.new }
+{
+    let front = bytes_field(reader, 8)?;
+    if !is_identification(front) {
+        return Err(DecodeError::Format(FormatError::InvalidHeader));
+    }
+    let flags = byte_field(reader)?;
+    if flags / 16 != 0 {
+        return Err(DecodeError::Format(FormatError::ReservedBits));
+    }
+    let number_of_pages = page_count(reader, flags / 2 % 2 == 1)?;
+    Ok(FileHeader {
+        organization: organization(flags),
+        number_of_pages,
+        uses_extended_templates: flags / 4 % 2 == 1,
+        contains_coloured_regions: flags / 8 % 2 == 1,
+    })
+}
