@@ -92,3 +92,14 @@ row_R1_1-short = refl
 row_R1_2 : calls_at true (page 5 eight unknown 0 ++ stripe) ≡ Ok (white ++ white)
 unfolding calls_at embedded segments_in segment_at header_at referred_at count_at type_of sheet_of information_at grid_of_page table pixel_at calls_of row_of whole_calls
 row_R1_2 = refl
+
+-- a 1 by 1 generic region without coded bytes, with number 1, at this place and with these flags
+abbrev dot_at : List ℕ → ℕ → List ℕ
+dot_at x flags = (0 ∷ 0 ∷ 0 ∷ 1 ∷ 38 ∷ 0 ∷ 1 ∷ 0 ∷ 0 ∷ 0 ∷ 26 ∷ []) ++ one ++ one ++ x ++ (0 ∷ 0 ∷ 0 ∷ 0 ∷ flags ∷ 0 ∷ 3 ∷ 255 ∷ 253 ∷ 255 ∷ 2 ∷ 254 ∷ 254 ∷ 254 ∷ [])
+
+abbrev origin : List ℕ
+origin = 0 ∷ 0 ∷ 0 ∷ 0 ∷ []
+
+row_7 : calls_at true (page 0 eight one 0 ++ dot_at origin 0) ≡ Ok (Pixel true ∷ (singles (replicate 7 false) ++ Line ∷ []))
+unfolding calls_at embedded segments_in segment_at header_at referred_at count_at type_of sheet_of information_at grid_of_page table pixel_at calls_of row_of whole_calls generic_at immediate_generic generic_header_at region_info_at template_pixels_at adaptive_pixel_at rows_at generic_grid generic_region decoded after_rows after_pixels after_pixel with_next row_begun so_far context_at choice decision byte_in byte_at filled doubled renormed started likely_next unlikely_next drawn_pixel row_of_table
+row_7 = refl

@@ -1,11 +1,11 @@
 pub mod Coder
+pub mod CustomTable
 pub mod Encoder
 pub mod EncoderViews
 pub mod Integers
 pub mod Lists
-pub mod Stands
-pub mod Table
-pub mod CustomTable
 pub mod PrefixCode
 pub mod PrefixLevels
+pub mod Stands
+pub mod Table
 pub mod Tables
