@@ -2,6 +2,7 @@
 use Rattle.std.specs.Prelude.{ℕ, ◌+◌, ◌/◌, ◌==◌, nat_le, Bool, true, false, ◌&&◌, not, is_none, List, [], ◌∷◌, ◌++◌, Option, Some, None, Result, Ok, Err, if◌then◌else◌, pos}
 use Rattle.std.specs.Int.{w32, cast_signed}
 use Rattle.jbig2_base.specs.Answer.{◌>>=◌, refuse_if}
+use Rattle.jbig2_base.specs.Bits.{start_of}
 use Rattle.jbig2_base.specs.Combination.{combined}
 use Rattle.jbig2_base.specs.Fields.{number_at}
 use Rattle.jbig2_base.specs.Grid.{Grid, blank}
@@ -15,6 +16,8 @@ use Rattle.jbig2_base.specs.declared.error.DecodeError.TheVariants.{Unsupported}
 use Rattle.jbig2_base.specs.declared.page_info.Sheet.{Sheet}
 use Rattle.jbig2_base.specs.declared.segment.SegmentType.{SegmentType}
 use Rattle.jbig2_base.specs.declared.segment.SegmentType.TheVariants as types
+use Rattle.jbig2_coder.specs.CustomTable.{custom_table}
+use Rattle.jbig2_coder.specs.PrefixCode.{Member}
 use Rattle.jbig2_region.specs.Generic.{PlacedRegion, generic_decoded}
 use Rattle.jbig2_region.specs.GenericHeader.{GenericHeader, generic_header_at}
 
@@ -29,10 +32,17 @@ pub record Stored : Type 0 where
   pub segment_number : ℕ
   pub region : PlacedRegion
 
--- What was drawn so far, the regions that are kept, in order, and whether no immediate region came before.
+-- A custom table's code, kept under its segment's number.
+pub record StoredCode : Type 0 where
+  pub segment_number : ℕ
+  pub code : List Member
+
+-- What was drawn so far, the regions and codes that are kept, in order, and whether no immediate region came
+-- before.
 pub record Drawing : Type 0 where
   pub grid : Grid
   pub regions : List Stored
+  pub codes : List StoredCode
   pub untouched : Bool
 
 abbrev pub ends_page : SegmentType → Bool
@@ -73,6 +83,15 @@ intermediate_generic strict p d = do
   region ← generic_at false strict p.bytes
   Ok (record d { regions = d.regions ++ record { segment_number = p.header.segment_number; region = region } ∷ [] })
 
+-- A custom table (7.4.13, B.2), kept.
+abbrev pub code_at : List ℕ → Result (List Member) DecodeError
+code_at bytes = (custom_table (start_of bytes)).answer
+
+unfoldable pub with_code : Part → Drawing → Result Drawing DecodeError
+with_code p d = do
+  code ← code_at p.bytes
+  Ok (record d { codes = d.codes ++ record { segment_number = p.header.segment_number; code = code } ∷ [] })
+
 -- One segment. Page information after the beginning, stripes, profiles, palettes and types without a meaning
 -- change nothing.
 abbrev pub segment_on : Bool → Part → Drawing → Result Drawing DecodeError
@@ -85,6 +104,7 @@ segment_on strict p d = on p.header.segment_type
     on types.ColourPalette = Ok d
     on types.Reserved = Ok d
     on types.Extension = extension strict p.bytes >>= λ known. Ok d
+    on types.Tables = with_code p d
     on types.IntermediateGenericRegion = intermediate_generic strict p d
     on types.ImmediateGenericRegion = immediate_generic strict p d
     on types.ImmediateLosslessGenericRegion = immediate_generic strict p d
@@ -97,7 +117,7 @@ drawn strict (p ∷ ps) d = if ends_page p.header.segment_type then Ok d else (s
 
 -- The page begins in its default pixel.
 abbrev pub started : Sheet → Drawing
-started sheet = record { grid = blank sheet.width sheet.height sheet.default_pixel; regions = []; untouched = true }
+started sheet = record { grid = blank sheet.width sheet.height sheet.default_pixel; regions = []; codes = []; untouched = true }
 
 unfoldable pub grid_of_page : Leaf → Result Grid DecodeError
 grid_of_page page = drawn page.strict page.parts (started page.sheet) >>= λ d. Ok d.grid

@@ -11,6 +11,7 @@ use jbig2_base::bitmap::steps::Steps;
 use jbig2_base::error::Result;
 use jbig2_base::page_info::Sheet;
 use jbig2_coder::arithmetic_decoder::ArithmeticDecoderContext;
+use jbig2_coder::huffman_table::{HuffmanTable, StandardHuffmanTables};
 use jbig2_region::generic::DecodedRegion;
 use std::alloc::Allocator;
 use std::marker::Model;
@@ -23,6 +24,13 @@ pub(crate) struct StoredRegion<A: Allocator> {
     pub(crate) region: DecodedRegion<A>,
 }
 
+/// A custom table that later segments may refer to by its number.
+#[derive(Drop)]
+pub(crate) struct StoredTable<A: Allocator> {
+    pub(crate) segment_number: u32,
+    pub(crate) table: HuffmanTable<A>,
+}
+
 /// The room that decoding a page uses and the next page uses again. What it holds from before
 /// changes nothing of a page.
 #[derive(Drop)]
@@ -30,27 +38,31 @@ pub struct DecoderContext<A: Allocator> {
     pub(crate) alloc: A,
     pub(crate) bitmap: Bitmap<A>,
     pub(crate) regions: Vec<StoredRegion<A>, A>,
+    pub(crate) tables: Vec<StoredTable<A>, A>,
+    pub(crate) standard_tables: StandardHuffmanTables<A>,
     pub(crate) untouched: bool,
     pub(crate) contexts: Vec<ArithmeticDecoderContext, A>,
 }
 
 impl<A: Allocator> Model for DecoderContext<A> {
     ghost use Rattle.hayro_jbig2.specs.Page.{Drawing};
-    ghost use Rattle.hayro_jbig2.specs.PageViews.{stored_regions};
+    ghost use Rattle.hayro_jbig2.specs.PageViews.{stored_regions, stored_codes};
 
     ghost Value = { Drawing };
 
-    ghost view = { λ c. record { grid = c.bitmap; regions = stored_regions c.regions.items; untouched = c.untouched } };
+    ghost view = { λ c. record { grid = c.bitmap; regions = stored_regions c.regions.items; codes = stored_codes c.tables.items; untouched = c.untouched } };
 }
 
 impl<A: Allocator + Clone> DecoderContext<A> {
     /// A context that holds a page of no pixels. `DecodeError::OutOfMemory` alone refuses it.
     pub fn new(alloc: A) -> Result<DecoderContext<A>>
-        ensures { Gives (λ context. context) result (Ok (record { grid = blank 0 0 false; regions = []; untouched = true })) }
+        ensures { Gives (λ context. context) result (Ok (record { grid = blank 0 0 false; regions = []; codes = []; untouched = true })) }
     {
         Ok(DecoderContext {
             bitmap: Bitmap::new_empty(alloc.clone()?),
             regions: Vec::new(alloc.clone()?),
+            tables: Vec::new(alloc.clone()?),
+            standard_tables: StandardHuffmanTables::new(alloc.clone()?)?,
             untouched: true,
             contexts: Vec::new(alloc.clone()?),
             alloc,
@@ -68,6 +80,7 @@ impl<A: Allocator> DecoderContext<A> {
         self.bitmap
             .reinitialize(sheet.width, sheet.height, sheet.default_pixel)?;
         self.regions.clear();
+        self.tables.clear();
         self.untouched = true;
         Ok(())
     }
@@ -93,6 +106,17 @@ impl<A: Allocator> DecoderContext<A> {
         self.regions.push(StoredRegion {
             segment_number,
             region,
+        })?;
+        Ok(())
+    }
+
+    /// Keeps a custom table under its segment's number.
+    pub(crate) fn store_table(&mut self, segment_number: u32, table: HuffmanTable<A>) -> Result<()>
+        ensures { Gives (λ _. self.new) result (Ok (record self.old { codes = self.old.codes ++ record { segment_number = segment_number; code = table } ∷ [] })) }
+    {
+        self.tables.push(StoredTable {
+            segment_number,
+            table,
         })?;
         Ok(())
     }

@@ -4,7 +4,7 @@ ghost use Rattle.jbig2_base.specs.Answer.{Answers, Gives};
 ghost use Rattle.jbig2_base.specs.SegmentViews.{part_view, parts};
 ghost use Rattle.jbig2_region.specs.Generic.{PlacedRegion, region_view};
 ghost use Rattle.jbig2_region.specs.GenericHeader.{generic_header_at};
-ghost use Rattle.hayro_jbig2.specs.Page.{Drawing, extension, ends_page, generic_at, asks_for_mmr, immediate, immediate_generic, intermediate_generic, segment_on, drawn};
+ghost use Rattle.hayro_jbig2.specs.Page.{Drawing, extension, ends_page, generic_at, asks_for_mmr, immediate, immediate_generic, intermediate_generic, with_code, segment_on, drawn};
 
 use crate::context::DecoderContext;
 use jbig2_base::bitmap::steps::Steps;
@@ -12,6 +12,7 @@ use jbig2_base::error::{DecodeError, Result};
 use jbig2_base::field::u32_field;
 use jbig2_base::reader::Reader;
 use jbig2_base::segment::{Segment, SegmentType};
+use jbig2_coder::huffman_table::HuffmanTable;
 use jbig2_region::generic::{self, DecodedRegion};
 use std::alloc::Allocator;
 use std::sync::ledger::Ledger;
@@ -126,6 +127,19 @@ fn store_intermediate_generic<S: Allocator, A: Allocator + Clone, L: Ledger>(
     context.store(segment.header.segment_number, region)
 }
 
+/// A custom table (T.88, 7.4.13 and B.2), kept for later segments.
+#[tactic(auto, unfolding(crate::specs::Page::with_code))]
+fn store_table<S: Allocator, A: Allocator + Clone>(
+    segment: &Segment<'_, S>,
+    context: &mut DecoderContext<A>,
+) -> Result<()>
+    ensures { Gives (λ _. context.new) result (with_code (part_view segment.now) context.old) }
+{
+    let mut reader = Reader::new(segment.bytes);
+    let table = HuffmanTable::read_custom(context.alloc.clone()?, &mut reader)?;
+    context.store_table(segment.header.segment_number, table)
+}
+
 /// Draws one segment onto the page.
 fn draw_segment<S: Allocator, A: Allocator + Clone, L: Ledger>(
     strict: bool,
@@ -142,6 +156,7 @@ fn draw_segment<S: Allocator, A: Allocator + Clone, L: Ledger>(
         | SegmentType::ColourPalette
         | SegmentType::Reserved => Ok(()),
         SegmentType::Extension => extension(strict, segment.bytes),
+        SegmentType::Tables => store_table(segment, context),
         SegmentType::IntermediateGenericRegion => {
             store_intermediate_generic(strict, segment, context, steps)
         }

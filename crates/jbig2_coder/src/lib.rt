@@ -1,12 +1,9 @@
-//! The arithmetic coder of JBIG2, and the integers and symbol ids that are coded with it (ITU-T
-//! T.88, Annexes A, E and G).
+//! The entropy coders of JBIG2 (ITU-T T.88): the arithmetic coder with its integers and symbol ids
+//! (Annexes A, E and G), and prefix codes (Annex B).
 #![tactic(auto)]
 
 pub mod arithmetic_decoder;
+pub mod huffman_table;
 pub mod integer_decoder;
 pub mod mq;
 pub mod symbol_id_decoder;
-//! T.88, Annexes A, E and G), and its prefix codes (Annex B).
-#![tactic(auto)]
-
-pub mod huffman_table;
