@@ -1,5 +1,5 @@
 -- The steps of reading a custom table.
-use Rattle.std.proofs.Common.{◌≡◌, ℕ, zero, suc, ◌+◌, ◌-◌, ◌*◌, ◌/◌, ◌%◌, ◌^◌, ◌<◌, ◌≤◌, ltb, cond, true, false, ℤ, pos, List, [], ◌∷◌, ◌++◌, append_assoc, append-nil, length, take, drop, min, Option, Some, None, Result, Ok, Err, refl, sym, ◌∙◌, ap, subst, arith, pow-suc, ◌⊎◌, inl, inr, ⊎_elim, length-drop}
+use Rattle.std.proofs.Common.{◌≡◌, ℕ, zero, suc, ◌+◌, ◌-◌, ◌*◌, ◌^◌, ◌<◌, ◌≤◌, ltb, true, false, ℤ, pos, List, [], ◌∷◌, ◌++◌, append_assoc, append-nil, length, take, drop, min, Some, None, Result, Ok, Err, refl, sym, ◌∙◌, ap, subst, arith, pow-suc, ◌⊎◌, inl, inr, ⊎_elim}
 use Rattle.std.specs.List.{flat_map}
 use Rattle.std.proofs.Math.Nat.{mul-le-mul_right}
 use Rattle.std.proofs.lemmas.Bool.{cases_lt, cond-true, cond-false, lt-ltb, le-ltb}
@@ -9,7 +9,7 @@ use Rattle.std.specs.Prelude.{int_lt, ◌-ℤ◌}
 use Rattle.jbig2_base.specs.declared.error.DecodeError.{DecodeError}
 use Rattle.jbig2_coder.specs.declared.huffman_table.line.TableLine.{TableLine}
 use Rattle.jbig2_coder.specs.declared.huffman_table.custom.Header.{Header}
-use Rattle.jbig2_coder.specs.PrefixCode.{Member, AreShort, table_of}
+use Rattle.jbig2_coder.specs.PrefixCode.{AreShort, table_of}
 use Rattle.jbig2_coder.specs.CustomTable.{Step, go_on, ◌>>-◌, done, field, custom_header, custom_line, custom_lines, all_lines, behind, range_lines_in, range_lines, last_line, end_lines, custom_table, Leaves}
 use Rattle.jbig2_coder.specs.Tables.{lower, upper, out_of_band}
 use Rattle.jbig2_base.specs.declared.error.DecodeError.TheVariants.{Huffman, OutOfMemory}

@@ -1,10 +1,9 @@
 -- How a table is built, from the longest codes to the shortest.
-use Rattle.std.proofs.Common.{◌≡◌, ℕ, zero, suc, ◌+◌, ◌-◌, ◌*◌, ◌/◌, ◌%◌, ◌<◌, ◌≤◌, ltb, eqb, Bool, true, false, cond, List, [], ◌∷◌, ◌++◌, length, take, drop, get_or, reverse, min, Result, Ok, Err, refl, sym, ◌∙◌, ap, subst, arith, length-drop, length-append}
+use Rattle.std.proofs.Common.{◌≡◌, ℕ, suc, ◌+◌, ◌-◌, ◌/◌, ◌%◌, ◌<◌, ◌≤◌, eqb, List, [], ◌∷◌, ◌++◌, length, take, drop, reverse, min, Ok, Err, refl, sym, ◌∙◌, ap, subst, arith, length-drop, length-append}
 use Rattle.std.proofs.lemmas.Bool.{cond-true, cond-false, lt-ltb, le-ltb}
 use Rattle.std.proofs.lemmas.List.{reverse-append, drop-append-le, take-append-le, take_all}
 use Rattle.std.proofs.Math.Seq.{drop-append_seam}
 use Rattle.std.proofs.lemmas.List.Elements.{All-append, All-filter}
-use Rattle.jbig2_base.specs.declared.error.DecodeError.{DecodeError}
 use Rattle.jbig2_base.specs.declared.error.DecodeError.TheVariants.{Huffman}
 use Rattle.jbig2_base.specs.declared.error.HuffmanError.TheVariants.{InvalidCode}
 use Rattle.jbig2_coder.specs.declared.huffman_table.line.TableLine.{TableLine}

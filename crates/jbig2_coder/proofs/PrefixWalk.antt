@@ -1,10 +1,10 @@
 -- The walk down the levels reads what the definition reads.
-use Rattle.std.proofs.Common.{◌≡◌, ℕ, zero, suc, ◌+◌, ◌-◌, ◌*◌, ◌/◌, ◌^◌, ◌<◌, ◌≤◌, ltb, eqb, Bool, true, false, ◌&&◌, ◌||◌, cond, List, [], ◌∷◌, ◌++◌, length, Option, Some, None, refl, sym, ◌∙◌, ap, arith, add-one, pow-suc, ⊎_elim}
+use Rattle.std.proofs.Common.{◌≡◌, ℕ, zero, suc, ◌+◌, ◌-◌, ◌*◌, ◌/◌, ◌^◌, ◌<◌, ◌≤◌, ltb, eqb, Bool, true, false, ◌&&◌, ◌||◌, cond, List, [], ◌∷◌, ◌++◌, length, Option, Some, None, refl, sym, ◌∙◌, ap, arith, pow-suc, ⊎_elim}
 use Rattle.std.proofs.Math.Nat.{div-div-eq-div-mul}
-use Rattle.std.proofs.lemmas.Bool.{cases_lt, cases_eq, cases_Bool, cond-true, cond-false, lt-ltb, le-ltb, ltb-true, ltb-false, eq-eqb, ne_eqb, eqb-true, eqb-false, and_left, and_right, and_from, or_left, or_right, or_from}
+use Rattle.std.proofs.lemmas.Bool.{cases_lt, cases_eq, cond-true, cond-false, lt-ltb, le-ltb, eq-eqb, ne_eqb, eqb-true, and_left, and_right, and_from, or_left, or_right, or_from}
 use Rattle.std.specs.List.{slice_get}
 use Rattle.jbig2_coder.specs.declared.huffman_table.line.TableLine.{TableLine}
-use Rattle.jbig2_coder.specs.PrefixCode.{Member, Reading, numbered, line_of, begins_longer, found_or, read_on, refused, ended}
+use Rattle.jbig2_coder.specs.PrefixCode.{Member, Reading, numbered, line_of, begins_longer, found_or, read_on, refused}
 use Rattle.jbig2_coder.specs.PrefixLevels.{nodes, codes_at, walk}
 
 -- the first line, or else the other

@@ -1,8 +1,6 @@
 -- Readings that the definitions compute.
-use Rattle.std.specs.Prelude.{◌≡◌, ℕ, List, [], ◌∷◌, ◌++◌, Some, None, Ok, Err, pos, negsuc, refl, replicate}
-use Rattle.jbig2_base.specs.declared.error.DecodeError.{DecodeError}
-use Rattle.jbig2_base.specs.declared.error.DecodeError.TheVariants.{Parse, Huffman}
-use Rattle.jbig2_base.specs.declared.error.ParseError.TheVariants.{UnexpectedEof}
+use Rattle.std.specs.Prelude.{◌≡◌, [], ◌∷◌, Some, Ok, Err, pos, negsuc, refl, replicate}
+use Rattle.jbig2_base.specs.declared.error.DecodeError.TheVariants.{Huffman}
 use Rattle.jbig2_base.specs.declared.error.HuffmanError.TheVariants.{InvalidCode}
 use Rattle.jbig2_base.specs.Bits.{start_of, bits_left, bits_on}
 use Rattle.jbig2_coder.specs.CustomTable.{custom_table, custom_lines, range_lines}

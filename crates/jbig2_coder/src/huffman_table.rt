@@ -20,6 +20,9 @@ pub use standard::StandardHuffmanTables;
 use std::alloc::Allocator;
 use std::marker::Model;
 
+/// How many roots the tree of a code has.
+const ROOTS: usize = 1;
+
 /// A table of prefix codes, as its codes and their lines.
 #[derive(Drop)]
 pub struct HuffmanTable<A: Allocator> {
@@ -63,7 +66,7 @@ impl<A: Allocator + Clone> HuffmanTable<A> {
             })?;
             nodes = (count + nodes).div_ceil(2);
         }
-        if nodes > 1 {
+        if nodes > ROOTS {
             return Err(DecodeError::Huffman(HuffmanError::InvalidCode));
         }
         levels.reverse();

@@ -1,6 +1,6 @@
-use Rattle.std.proofs.Common.{rules, ◌≡◌, ℕ, ◌+◌, ◌-◌, ◌*◌, ◌/◌, ◌<◌, ◌≤◌, ◌∷◌, [], ◌++◌, List, length, reverse, ap, sym, ◌∙◌, subst, inr, arith, length-append}
+use Rattle.std.proofs.Common.{rules, ◌≡◌, ℕ, ◌+◌, ◌-◌, ◌/◌, ◌∷◌, [], ◌++◌, List, length, ap, sym, ◌∙◌, subst, inr, arith, length-append}
 use Rattle.jbig2_coder.specs.declared.huffman_table.levels.Level.{Level}
-use Rattle.jbig2_coder.specs.PrefixCode.{longest, level}
+use Rattle.jbig2_coder.specs.PrefixCode.{level}
 use Rattle.jbig2_coder.proofs.PrefixBuilding.{Built, built-next, built-crowded, built-table, half_up}
 use Rattle.jbig2_coder.specs.PrefixLevels.{groups_of}
 use Rattle.jbig2_coder.proofs.PrefixFree.{free-codes}
@@ -30,17 +30,17 @@ loop-depth-preserved g c =
     let Q : List Level → Type 0 = λ vs. Built lines more vs c.div_ceil-nodes.result depth in
     subst Q (sym pushed) next
 
-pub returns-then-nodes-gt1-clause-table : goal.returns-then-nodes-gt1-clause-table
-returns-then-nodes-gt1-clause-table g c =
+pub returns-then-nodes-gt-ROOTS-clause-table : goal.returns-then-nodes-gt-ROOTS-clause-table
+returns-then-nodes-gt-ROOTS-clause-table g c =
     let P : ℕ → Type 0 = λ d. Built c.args.lines.now c.loop-depth.sorted.items c.loop-depth.levels.items c.loop-depth.nodes d in
     let end : c.loop-depth.depth ≡ 0 = omega arith in
-    inr (built-crowded c.args.lines.now c.loop-depth.sorted.items c.loop-depth.levels.items c.loop-depth.nodes (subst P end c.loop-depth.invariant) c.if-nodes-gt1.true)
+    inr (built-crowded c.args.lines.now c.loop-depth.sorted.items c.loop-depth.levels.items c.loop-depth.nodes (subst P end c.loop-depth.invariant) c.if-nodes-gt-ROOTS.true)
 
 pub returns-clause-table : goal.returns-clause-table
 returns-clause-table g c =
     let P : ℕ → Type 0 = λ d. Built c.args.lines.now c.loop-depth.sorted.items c.loop-depth.levels.items c.loop-depth.nodes d in
     let end : c.loop-depth.depth ≡ 0 = omega arith in
-    built-table c.args.lines.now c.loop-depth.sorted.items c.loop-depth.levels.items c.reverse.new.self.items c.loop-depth.nodes (subst P end c.loop-depth.invariant) c.if-nodes-gt1.false c.reverse.ensures.items
+    built-table c.args.lines.now c.loop-depth.sorted.items c.loop-depth.levels.items c.reverse.new.self.items c.loop-depth.nodes (subst P end c.loop-depth.invariant) c.if-nodes-gt-ROOTS.false c.reverse.ensures.items
 
 pub returns-clause-free : goal.returns-clause-free
 returns-clause-free g c = free-codes 0 0 (groups_of c.loop-depth.sorted.items c.reverse.new.self.items)

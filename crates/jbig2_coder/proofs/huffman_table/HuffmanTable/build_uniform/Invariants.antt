@@ -1,4 +1,4 @@
-use Rattle.std.proofs.Common.{◌≡◌, ◌≤◌}
+use Rattle.std.proofs.Common.{◌≡◌}
 use Rattle.jbig2_coder.specs.PrefixCode.{AreShort}
 use Rattle.jbig2_coder.specs.Tables.{uniform}
 use Rattle.jbig2_coder.proofs.huffman_table.HuffmanTable.build_uniform.Given as goal

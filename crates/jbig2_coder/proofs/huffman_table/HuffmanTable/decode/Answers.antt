@@ -1,6 +1,5 @@
-use Rattle.std.proofs.Common.{◌≡◌, ap, ◌∙◌, Ok, Err, false, List}
+use Rattle.std.proofs.Common.{◌≡◌, ap, ◌∙◌, Ok, Err, List}
 use Rattle.std.proofs.lemmas.Result.{err_from_is_err_and}
-use Rattle.jbig2_base.specs.Bits.{bits_left}
 use Rattle.jbig2_coder.specs.declared.huffman_table.line.TableLine.{TableLine}
 use Rattle.jbig2_coder.specs.declared.huffman_table.levels.Level.{Level}
 use Rattle.jbig2_base.specs.declared.error.DecodeError.{DecodeError}

@@ -1,4 +1,4 @@
-use Rattle.std.proofs.Common.{◌≡◌, List, Result, Err, ap, sym, subst, ◌∙◌, inl, inr, ◌⊎◌, ⊎_elim}
+use Rattle.std.proofs.Common.{◌≡◌, List, Result, Err, ap, sym, subst, ◌∙◌, inl, inr, ⊎_elim}
 use Rattle.std.proofs.lemmas.Result.{err_from_is_err_and}
 use Rattle.jbig2_base.specs.Answer.{Gives}
 use Rattle.jbig2_base.specs.declared.error.DecodeError.{DecodeError}

@@ -1,13 +1,12 @@
-use Rattle.std.proofs.Common.{rules, ◌≡◌, ℤ, Ok, Err, true, false, List, ap, sym, ◌∙◌, inr}
+use Rattle.std.proofs.Common.{rules, ◌≡◌, ℤ, true, List, ap, sym, ◌∙◌, inr}
 use Rattle.std.specs.Prelude.{int_lt}
 use Rattle.std.specs.Int.{w32, cast_signed}
 use mir.Val.{SFits}
 use Rattle.std.proofs.lemmas.Int.{to_z-of_z}
 use Rattle.std.proofs.lemmas.Result.{err_from_is_err_and}
-use Rattle.jbig2_base.specs.declared.error.DecodeError.{DecodeError}
 use Rattle.jbig2_coder.specs.declared.huffman_table.line.TableLine.{TableLine}
 use Rattle.jbig2_coder.specs.CustomTable.{Step}
-use Rattle.jbig2_coder.proofs.CustomReading.{Reads, reads-none, reads-next, reads-refused, reads-all}
+use Rattle.jbig2_coder.proofs.CustomReading.{reads-none, reads-next, reads-refused}
 use Rattle.jbig2_coder.proofs.huffman_table.custom.read_range_lines.Goals as goal
 
 pub loop-low-init : goal.loop-low-init

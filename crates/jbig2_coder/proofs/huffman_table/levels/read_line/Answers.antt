@@ -1,6 +1,6 @@
-use Rattle.std.proofs.Common.{◌≡◌, ℕ, ◌+◌, ◌*◌, ◌<◌, ◌≤◌, ap, ◌∙◌, arith, length, Some, false, pos}
+use Rattle.std.proofs.Common.{◌≡◌, ℕ, ◌<◌, ap, ◌∙◌, arith, length, Some, false, pos}
 use Rattle.jbig2_base.specs.Bits.{bits_left, bits_next}
-use Rattle.jbig2_coder.proofs.PrefixReading.{at-root, at-next, leaves-found, leaves-refused, leaves-ended, leaves-past}
+use Rattle.jbig2_coder.proofs.PrefixReading.{at-root, at-next, leaves-found, leaves-refused, leaves-past}
 use Rattle.jbig2_coder.proofs.huffman_table.levels.read_line.Goals as goal
 
 pub loop-level-init : goal.loop-level-init

@@ -1,4 +1,4 @@
-use Rattle.std.proofs.Common.{◌≡◌, ℕ, ◌<◌, List, [], length, ap, ◌∙◌, arith}
+use Rattle.std.proofs.Common.{List, [], length, ap, ◌∙◌, arith}
 use Rattle.jbig2_coder.specs.PrefixCode.{Member}
 use Rattle.jbig2_coder.proofs.PrefixStandard.{count-codes, code-at}
 use Rattle.jbig2_coder.proofs.huffman_table.standard.StandardHuffmanTables.table.Goals as goal
