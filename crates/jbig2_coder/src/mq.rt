@@ -1,6 +1,6 @@
 //! Whole lists of decisions, written and read by the arithmetic coder (T.88, Annexes E and G).
 
-ghost use Rattle.std.specs.Prelude.{◌≡◌, ◌+◌, ◌^◌, length, vec_len, IfOk, IfErr, OnOk, Ok};
+ghost use Rattle.std.specs.Prelude.{◌≡◌, ◌+◌, length, vec_len, IfOk, IfErr, OnOk, Ok};
 ghost use Rattle.jbig2_base.specs.Answer.{Gives};
 ghost use Rattle.jbig2_base.specs.declared.error.DecodeError.TheVariants.{OutOfMemory};
 ghost use Rattle.jbig2_coder.specs.Lists.{contexts_of, all_fresh, encoded, decoded};
@@ -8,7 +8,7 @@ ghost use Rattle.jbig2_coder.specs.Lists.{contexts_of, all_fresh, encoded, decod
 use crate::arithmetic_decoder::{ArithmeticDecoder, ArithmeticDecoderContext};
 use crate::mq::encoder::ArithmeticEncoder;
 use jbig2_base::bitmap::steps::Steps;
-use jbig2_base::error::{DecodeError, Result};
+use jbig2_base::error::Result;
 use std::alloc::Allocator;
 use std::sync::ledger::Ledger;
 

@@ -1,6 +1,6 @@
 //! The arithmetic encoder (T.88, E.2).
 
-ghost use Rattle.std.specs.Prelude.{◌≡◌, ℕ, ◌+◌, ◌-◌, ◌*◌, ◌/◌, ◌%◌, ◌^◌, ◌<◌, ◌≤◌, List, ◌∷◌, [], reverse, length, vec_len, IfOk, IfErr, OnOk, Ok, MatchOption, drop};
+ghost use Rattle.std.specs.Prelude.{◌≡◌, ℕ, ◌+◌, ◌-◌, ◌*◌, ◌/◌, ◌%◌, ◌^◌, ◌<◌, ◌≤◌, ◌∷◌, [], reverse, vec_len, IfOk, IfErr, OnOk, Ok, MatchOption, drop};
 ghost use Rattle.std.specs.Bool.{OnFalse};
 ghost use Rattle.jbig2_base.specs.Answer.{Gives};
 ghost use Rattle.jbig2_base.specs.declared.error.DecodeError.TheVariants.{OutOfMemory};
@@ -9,7 +9,7 @@ ghost use Rattle.jbig2_coder.specs.EncoderViews.{writer_of, coding_of, HasRoom};
 
 use crate::arithmetic_decoder::ArithmeticDecoderContext;
 use crate::arithmetic_decoder::qe_table::row_at;
-use jbig2_base::error::{DecodeError, Result};
+use jbig2_base::error::Result;
 use std::alloc::Allocator;
 use std::marker::Model;
 
