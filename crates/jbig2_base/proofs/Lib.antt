@@ -9,4 +9,5 @@ pub mod ReaderLemmas
 pub mod SegmentLemmas
 pub mod Sequential
 pub mod Sorting
+mod Spelling
 mod WriteLemmas

@@ -24,7 +24,7 @@ pub begins : (strict : Bool) (bytes : List ℕ) → Reads [] strict bytes (seque
 begins strict bytes = record { most = length bytes; enough = omega arith; same = front-none (segments_in (length bytes) strict bytes) }
 
 -- the next segment, where bytes are left
-next_in : (most : ℕ) (strict : Bool) (bytes : List ℕ) → 0 < length bytes → segments_in (suc most) strict bytes ≡ goes_on strict (segment_at strict bytes) (segments_in most strict)
+pub next_in : (most : ℕ) (strict : Bool) (bytes : List ℕ) → 0 < length bytes → segments_in (suc most) strict bytes ≡ goes_on strict (segment_at strict bytes) (segments_in most strict)
 unfolding segments_in
 next_in most strict bytes some = cond-false (nat_eq (length bytes) 0) (Ok []) (goes_on strict (segment_at strict bytes) (segments_in most strict)) (ne_eqb (length bytes) 0 (λ e. omega arith))
 

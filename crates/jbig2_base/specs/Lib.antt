@@ -15,6 +15,7 @@ pub mod SegmentViews
 pub mod Sequential
 pub mod Sizes
 pub mod Sorted
+pub mod Spelled
 pub mod Table
 pub mod WordBits
 pub mod Writes

@@ -1,6 +1,8 @@
 -- Segments of the code, seen as segments of the definitions.
 use Rattle.std.specs.Prelude.{List, map}
 use Rattle.jbig2_base.specs.Segment.{Header, Part}
+use Rattle.jbig2_base.specs.declared.file.File.{File}
+use Rattle.jbig2_base.specs.declared.file_header.FileHeader.{FileHeader}
 use Rattle.jbig2_base.specs.declared.segment.SegmentHeader.{SegmentHeader}
 use Rattle.jbig2_base.specs.declared.segment.Segment.{Segment}
 
@@ -22,3 +24,6 @@ parts segments = map (λ s. part_view s) segments
 
 abbrev pub header_views : {A : Type 0} → List (SegmentHeader A) → List Header
 header_views headers = map (λ h. header_view h) headers
+
+abbrev pub file_view : {A : Type 0} → File A → FileHeader × List Part
+file_view f = (f.header, parts f.segments.items)

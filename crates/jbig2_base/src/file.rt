@@ -1,9 +1,12 @@
 //! Files and lists of segments (T.88, Annex D).
-ghost use Rattle.std.specs.Prelude.{◌≡◌, List, length};
+ghost use Rattle.std.specs.Prelude.{◌≡◌, List, length, Ok};
 ghost use Rattle.jbig2_base.specs.Answer.{Gives};
 ghost use Rattle.jbig2_base.specs.Bits.{IsAligned};
 ghost use Rattle.jbig2_base.specs.File.{headers_in, gathered, random_access, segments_by, file_at};
-ghost use Rattle.jbig2_base.specs.SegmentViews.{header_views, parts};
+ghost use Rattle.jbig2_base.specs.Sorted.{by_number};
+ghost use Rattle.jbig2_base.specs.Spelled.{Spelled, Spells, spelled_parts};
+ghost use Rattle.jbig2_base.specs.declared.file_header.FileHeader.{FileHeader};
+ghost use Rattle.jbig2_base.specs.SegmentViews.{header_views, parts, file_view};
 ghost use Rattle.jbig2_base.specs.Sequential.{is_cut_off, is_end_of_file, sequential};
 
 use crate::error::{DecodeError, Result};
@@ -149,18 +152,33 @@ pub struct File<'a, A: Allocator> {
     pub segments: Vec<Segment<'a, A>, A>,
 }
 
-/// The file that `bytes` hold.
 #[tactic(auto, unfolding(crate::specs::File::file_at))]
+fn read_file<'a, A: Allocator + Clone>(
+    alloc: A,
+    reader: &mut Reader<'a>,
+    strict: bool,
+) -> Result<File<'a, A>>
+    requires { IsAligned reader.old }
+    ensures { Gives file_view result (file_at strict reader.old.bytes) }
+{
+    let header = parse_file_header(reader)?;
+    let mut segments = parse_segments(alloc, reader, header.organization, strict)?;
+    sort_segments(&mut segments)?;
+    Ok(File { header, segments })
+}
+
+/// The file that `bytes` hold.
+///
+/// The answer does not depend on the organization: where the bytes spell segments of known length
+/// that the mode accepts, the last one the only end of file, those are its segments.
 pub fn parse_file<'a, A: Allocator + Clone>(
     alloc: A,
     bytes: &'a [u8],
     strict: bool,
 ) -> Result<File<'a, A>>
-    ensures { Gives (λ f. (f.header, parts f.segments.items)) result (file_at strict bytes.now) }
+    ensures value { Gives file_view result (file_at strict bytes.now) }
+    ensures either_organization { (header : FileHeader) (ss : List Spelled) → Spells strict bytes.now header ss → Gives file_view result (Ok (header, by_number (spelled_parts ss))) }
 {
     let mut reader = Reader::new(bytes);
-    let header = parse_file_header(&mut reader)?;
-    let mut segments = parse_segments(alloc, &mut reader, header.organization, strict)?;
-    sort_segments(&mut segments)?;
-    Ok(File { header, segments })
+    read_file(alloc, &mut reader, strict)
 }
