@@ -2,6 +2,7 @@ pub mod BitLemmas
 mod BlockLemmas
 mod CombineLemmas
 mod CountLemmas
+mod FileRows
 pub mod GridLemmas
 mod PackedLemmas
 pub mod RandomAccess

@@ -182,3 +182,43 @@ pub fn parse_file<'a, A: Allocator + Clone>(
     let mut reader = Reader::new(bytes);
     read_file(alloc, &mut reader, strict)
 }
+
+#[cfg(test)]
+mod tests {
+    use super::*;
+    use std::test::Fail;
+
+    #[test]
+    fn header_and_data_by_turns(rt: HostRuntime) -> std::result::Result<(), Fail> {
+        let bytes = [
+            0x97, 0x4A, 0x42, 0x32, 0x0D, 0x0A, 0x1A, 0x0A, 1, 0, 0, 0, 4, 0, 0, 0, 5, 62, 0, 1, 0,
+            0, 0, 2, 7, 8, 0, 0, 0, 3, 62, 0, 1, 0, 0, 0, 1, 9, 0, 0, 0, 6, 51, 0, 0, 0, 0, 0, 0,
+        ];
+        let file = parse_file(rt.alloc(), bytes.as_slice(), true)?;
+        assert_eq!(rt; file.header.organization, FileOrganization::Sequential);
+        assert_eq!(rt; file.header.number_of_pages, Some(4));
+        let mut gathered = Vec::new(rt.alloc());
+        for segment in &file.segments {
+            gathered.extend_from_slice(segment.bytes)?;
+        }
+        assert_eq!(rt; gathered.as_slice(), [9, 7, 8].as_slice());
+        Ok(())
+    }
+
+    #[test]
+    fn headers_before_data(rt: HostRuntime) -> std::result::Result<(), Fail> {
+        let bytes = [
+            0x97, 0x4A, 0x42, 0x32, 0x0D, 0x0A, 0x1A, 0x0A, 2, 0, 0, 0, 5, 62, 0, 1, 0, 0, 0, 2, 0,
+            0, 0, 3, 62, 0, 1, 0, 0, 0, 1, 0, 0, 0, 6, 51, 0, 0, 0, 0, 0, 0, 7, 8, 9,
+        ];
+        let file = parse_file(rt.alloc(), bytes.as_slice(), true)?;
+        assert_eq!(rt; file.header.organization, FileOrganization::RandomAccess);
+        assert_eq!(rt; file.header.number_of_pages, None);
+        let mut gathered = Vec::new(rt.alloc());
+        for segment in &file.segments {
+            gathered.extend_from_slice(segment.bytes)?;
+        }
+        assert_eq!(rt; gathered.as_slice(), [9, 7, 8].as_slice());
+        Ok(())
+    }
+}
