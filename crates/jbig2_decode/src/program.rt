@@ -1,4 +1,7 @@
 //! The runs of the program.
+ghost use Rattle.std.specs.Prelude.{◌≡◌, ◌↔◌, map, IsNone};
+ghost use Rattle.jbig2_decode.specs.Words.{request_of};
+
 use crate::fault::Fault;
 use crate::printer::Printer;
 use crate::request::{Command, Request};
@@ -18,7 +21,9 @@ pub fn run<A: Allocator + Clone, R: Read, O: Write, E: Write>(
     file: Option<&mut R>,
     out: &mut O,
     err: &mut E,
-) -> u8 {
+) -> u8
+    ensures usage { (result ≡ 2) ↔ IsNone (request_of (map (λ word. word.now) words.now)) }
+{
     let Some(request) = Request::of_words(words) else {
         return refused_words(err);
     };
@@ -36,12 +41,16 @@ pub fn unstarted<E: Write>(refused: bool, err: &mut E) -> u8 {
     refused_words(err)
 }
 
-fn refused_words<E: Write>(err: &mut E) -> u8 {
+fn refused_words<E: Write>(err: &mut E) -> u8
+    ensures { result ≡ 2 }
+{
     let _ = writeln!(err, "{USAGE}");
     2
 }
 
-fn status_of<E: Write>(fault: Fault, err: &mut E) -> u8 {
+fn status_of<E: Write>(fault: Fault, err: &mut E) -> u8
+    ensures { result ≡ 1 }
+{
     if fault != Fault::Unwritable {
         let _ = writeln!(err, "error: {fault}");
     }
