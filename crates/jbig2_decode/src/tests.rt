@@ -1,13 +1,18 @@
 //! Runs of the program over memory.
+//!
+//! `rt try --test --fail-alloc N` in this crate's folder runs these tests with the Nth request for memory
+//! refused; they hold for every N.
 use crate::program::run;
 use crate::request::file_word;
-use std::alloc::Global;
+use std::alloc::{AllocError, Global};
 use std::io;
 use std::io::{Cursor, Read, Write};
 use std::process::Abort;
 use std::test::Fail;
 
 const USAGE: &str = "usage: jbig2-decode [--strict] pages|embedded FILE | calls|pbm FILE INDEX\n";
+
+const OUT_OF_MEMORY: &str = "error: out of memory\n";
 
 const WHITE: &str = "push_pixel_chunk false 1\nnext_line\n";
 
@@ -23,21 +28,42 @@ const CUT_OFF: [u8; 35] = [
 ];
 
 /// The status of a run, and what it writes.
+fn ran(
+    alloc: Global,
+    words: &[&str],
+    file: Option<&[u8]>,
+) -> Result<(u8, Vec<u8>, Vec<u8>), AllocError> {
+    let mut out = Vec::with_capacity(alloc, 256)?;
+    let mut err = Vec::with_capacity(alloc, 256)?;
+    let mut reader = file.map(|bytes| Cursor::new(bytes));
+    let status = run(alloc, words, reader.as_mut(), &mut out, &mut err);
+    Ok((status, out, err))
+}
+
+/// Compares a run's status and what it writes. At most one request for memory is refused in a test's run, so
+/// a run that says so is tried again.
 fn expect(
     rt: &(impl Abort + Alloc<A = Global>),
     words: &[&str],
     file: Option<&[u8]>,
     expected: (u8, &str, &str),
 ) {
-    let alloc = rt.alloc();
-    let mut out = Vec::new(alloc);
-    let mut err = Vec::new(alloc);
-    let mut reader = file.map(|bytes| Cursor::new(bytes));
-    let status = run(alloc, words, reader.as_mut(), &mut out, &mut err);
     let (expected_status, expected_out, expected_err) = expected;
-    assert_eq!(rt; status, expected_status, "{words:?}");
-    assert_eq!(rt; out.as_slice(), expected_out.as_bytes(), "{words:?}");
-    assert_eq!(rt; err.as_slice(), expected_err.as_bytes(), "{words:?}");
+    for attempt in 0..2 {
+        let Ok((status, out, err)) = ran(rt.alloc(), words, file) else {
+            continue;
+        };
+        if attempt == 0 && err.as_slice() == OUT_OF_MEMORY.as_bytes() {
+            assert_eq!(rt; status, 1, "{words:?}");
+            assert!(rt; out.is_empty(), "{words:?}");
+            continue;
+        }
+        assert_eq!(rt; status, expected_status, "{words:?}");
+        assert_eq!(rt; out.as_slice(), expected_out.as_bytes(), "{words:?}");
+        assert_eq!(rt; err.as_slice(), expected_err.as_bytes(), "{words:?}");
+        return;
+    }
+    assert!(rt; false, "memory is refused twice");
 }
 
 #[test]
@@ -112,10 +138,17 @@ fn a_slow_reader_changes_nothing_and_a_broken_one_is_unreadable(rt: HostRuntime)
             ready: true,
             fails,
         };
-        let mut out = Vec::new(rt.alloc());
-        let mut err = Vec::new(rt.alloc());
+        let (Ok(mut out), Ok(mut err)) = (
+            Vec::with_capacity(rt.alloc(), 256),
+            Vec::with_capacity(rt.alloc(), 256),
+        ) else {
+            return;
+        };
         let words = ["embedded", "page"];
         let status = run(rt.alloc(), &words, Some(&mut reader), &mut out, &mut err);
+        if err.as_slice() == OUT_OF_MEMORY.as_bytes() {
+            return;
+        }
         let expected = if fails {
             (1, "", "error: cannot read file\n")
         } else {
@@ -152,10 +185,15 @@ fn output_that_cannot_be_written_ends_the_run(rt: HostRuntime) {
     tall[17] = 0xFF;
     for (bytes, room) in [(PAGE, 0), (PAGE, 33), (tall, 20000)] {
         let mut out = Full(room);
-        let mut err = Vec::new(rt.alloc());
+        let Ok(mut err) = Vec::with_capacity(rt.alloc(), 256) else {
+            return;
+        };
         let words = ["embedded", "page"];
         let mut reader = Cursor::new(bytes);
         let status = run(rt.alloc(), &words, Some(&mut reader), &mut out, &mut err);
+        if err.as_slice() == OUT_OF_MEMORY.as_bytes() {
+            return;
+        }
         assert_eq!(rt; status, 1);
         assert_eq!(rt; out.0, 0);
         assert!(rt; err.is_empty());
