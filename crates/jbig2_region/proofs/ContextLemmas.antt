@@ -1,5 +1,5 @@
 -- The number of a context, bit by bit.
-use Rattle.std.proofs.Common.{pow-suc, subst, pos, ◌+ℤ◌, ◌≡◌, ℕ, ◌+◌, ◌*◌, ◌^◌, ◌<◌, ◌≤◌, Bool, true, false, List, [], ◌∷◌, length, drop, map, get_or, zero, suc, add-one, refl, sym, ap, ◌∙◌, arith}
+use Rattle.std.proofs.Common.{pow-suc, subst, pos, ◌+ℤ◌, ◌≡◌, ℕ, ◌+◌, ◌*◌, ◌^◌, ◌<◌, ◌≤◌, Bool, true, false, List, [], ◌∷◌, length, drop, map, get_or, add-one, sym, ap, arith}
 use Rattle.std.proofs.Math.Seq.{drop-cons, drop-length}
 use Rattle.std.proofs.lemmas.List.{length-drop, length-map}
 use Rattle.std.proofs.Math.Nat.{pow-le-pow_right}

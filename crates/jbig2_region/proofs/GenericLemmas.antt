@@ -1,15 +1,15 @@
 -- What decoding a whole generic region gives.
-use Rattle.std.proofs.Common.{cond, take, ◌++◌, ◌≡◌, ℕ, ◌+◌, Bool, true, false, List, length, Result, Ok, Err, refl, sym, ap, ◌∙◌, subst}
+use Rattle.std.proofs.Common.{cond, take, ◌++◌, ◌≡◌, ℕ, Bool, false, List, length, Result, Ok, Err, sym, ap, ◌∙◌, subst}
 use Rattle.std.proofs.Math.Seq.{take-append_seam}
 use Rattle.jbig2_base.specs.declared.error.DecodeError.{DecodeError}
 use Rattle.jbig2_base.specs.declared.error.DecodeError.TheVariants.{Unsupported}
 use Rattle.jbig2_base.specs.Grid.{Grid, blank}
 use Rattle.jbig2_coder.specs.Coder.{Coder, Context, started}
-use Rattle.jbig2_region.specs.Generic.{coding_of, generic_coding, generic_region, generic_grid, generic_answer}
+use Rattle.jbig2_region.specs.Generic.{generic_coding, generic_region, generic_grid, generic_answer}
 use Rattle.jbig2_region.specs.GenericHeader.{GenericHeader}
 use Rattle.jbig2_region.specs.Holds.{Holds}
-use Rattle.jbig2_region.specs.Raster.{Region, so_far, decoded, no_pixels, fresh_contexts}
-use Rattle.jbig2_region.specs.Templates.{context_bits, template_pixels}
+use Rattle.jbig2_region.specs.Raster.{so_far, decoded, no_pixels, fresh_contexts}
+use Rattle.jbig2_region.specs.Templates.{context_bits}
 
 -- the same region, decoded by a coder and contexts that stand at the start
 pub region-decoded : (h : GenericHeader) (before : Grid) (grid : Grid) (first coder : Coder) (fresh states : List Context) → before ≡ blank h.region_info.width h.region_info.height false → first.bytes ≡ h.bytes → first.registers ≡ started h.bytes → fresh ≡ fresh_contexts (context_bits h.template)

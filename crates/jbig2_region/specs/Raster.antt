@@ -1,7 +1,7 @@
 -- Regions that are decoded pixel by pixel, row by row from the top and each row from the left (T.88, 6.2.5 and 6.3.5).
-use Rattle.std.specs.Prelude.{ℕ, suc, zero, ◌+◌, ◌*◌, ◌/◌, ◌%◌, ◌^◌, ◌==◌, ◌||◌, Bool, true, false, not, if◌then◌else◌, List, [], ◌∷◌, ◌++◌, length, replicate, map, slice_index_or, slice_set, Option, Some, None, ℤ, pos, ◌+ℤ◌}
-use Rattle.jbig2_base.specs.Grid.{Grid, grid_of, pixel, bit_number}
-use Rattle.jbig2_coder.specs.Coder.{Context, fresh, started, decision}
+use Rattle.std.specs.Prelude.{ℕ, suc, zero, ◌+◌, ◌*◌, ◌/◌, ◌%◌, ◌^◌, ◌==◌, Bool, false, not, if◌then◌else◌, List, [], ◌∷◌, ◌++◌, length, replicate, slice_index_or, slice_set, Option, Some, None}
+use Rattle.jbig2_base.specs.Grid.{Grid, grid_of}
+use Rattle.jbig2_coder.specs.Coder.{Context, fresh, decision}
 use Rattle.jbig2_coder.specs.declared.arithmetic_decoder.registers.Registers.{Registers}
 
 -- The grid of the pixels decoded so far; a pixel that is not decoded yet is white.

@@ -6,3 +6,5 @@ mod generic_coding;
 mod raster;
 pub mod region_info;
 pub mod template;
+#[cfg(test)]
+mod tests;

@@ -1,5 +1,4 @@
-use Rattle.std.proofs.Common.{rules, arith, ◌≡◌, ℕ, ◌++◌, Bool, false, sym, ap, ◌∙◌, List, length, drop}
-use Rattle.jbig2_coder.specs.Coder.{Context}
+use Rattle.std.proofs.Common.{◌≡◌, ℕ, sym, ap, ◌∙◌, length, drop}
 use Rattle.jbig2_region.specs.GenericHeader.{header_view}
 use Rattle.jbig2_region.specs.Generic.{generic_region}
 use Rattle.jbig2_region.specs.Holds.{Holds}

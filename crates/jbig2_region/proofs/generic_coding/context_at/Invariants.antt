@@ -1,4 +1,4 @@
-use Rattle.std.proofs.Common.{◌≡◌, ℕ, ◌≤◌, length, drop}
+use Rattle.std.proofs.Common.{◌≡◌, ◌≤◌, length, drop}
 use Rattle.jbig2_region.specs.Generic.{context_at}
 use Rattle.jbig2_region.proofs.generic_coding.context_at.Given as goal
 

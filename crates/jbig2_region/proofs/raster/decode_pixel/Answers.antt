@@ -1,4 +1,4 @@
-use Rattle.std.proofs.Common.{rules, arith, length, get_or, ◌<◌, ◌≡◌, ℕ, Bool, ap, sym, ◌∙◌, refl}
+use Rattle.std.proofs.Common.{rules, arith, length, get_or, ◌<◌, Bool, ap, sym, ◌∙◌}
 use Rattle.std.proofs.lemmas.List.{get_or_default}
 use Rattle.jbig2_base.specs.Writes.{with_pixel}
 use Rattle.jbig2_coder.specs.Coder.{fresh}

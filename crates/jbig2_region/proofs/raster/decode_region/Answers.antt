@@ -1,4 +1,4 @@
-use Rattle.std.proofs.Common.{rules, arith, ◌≡◌, ℕ, ap, sym, refl, ◌∙◌, subst}
+use Rattle.std.proofs.Common.{arith, ◌≡◌, ap, sym, refl, ◌∙◌, subst}
 use Rattle.jbig2_region.specs.Raster.{Region, no_pixels, after_rows}
 use Rattle.jbig2_region.specs.Holds.{Holds}
 use Rattle.jbig2_region.proofs.RasterLemmas.{after_rows-none, region-start, region-step, region-empty, region-whole}

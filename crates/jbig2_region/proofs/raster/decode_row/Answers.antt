@@ -1,4 +1,4 @@
-use Rattle.std.proofs.Common.{◌≡◌, refl, ◌∙◌}
+use Rattle.std.proofs.Common.{refl, ◌∙◌}
 use Rattle.jbig2_region.proofs.RasterLemmas.{row-start, row-step}
 use Rattle.jbig2_region.proofs.raster.decode_row.Goals as goal
 

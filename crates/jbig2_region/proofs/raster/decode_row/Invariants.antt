@@ -1,4 +1,4 @@
-use Rattle.std.proofs.Common.{◌≡◌, ℕ, ◌*◌, length}
+use Rattle.std.proofs.Common.{◌≡◌, ◌*◌, length}
 use Rattle.jbig2_region.specs.Raster.{Region, after_pixels}
 use Rattle.jbig2_region.specs.Holds.{Holds}
 use Rattle.jbig2_region.proofs.raster.decode_row.Given as goal
