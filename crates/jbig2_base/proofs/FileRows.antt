@@ -6,6 +6,7 @@ use Rattle.jbig2_base.specs.File.{file_at, headers_in}
 use Rattle.jbig2_base.specs.FileHeader.{file_header_at, identification}
 use Rattle.jbig2_base.specs.Segment.{Header, Part, type_of, count_at, referred_at, header_at, segment_at}
 use Rattle.jbig2_base.specs.Sequential.{segments_in, is_end_of_bytes}
+use Rattle.jbig2_base.specs.Spelled.{Spelled, AreSpelled, Spells}
 use Rattle.jbig2_base.specs.declared.error.DecodeError.{DecodeError}
 use Rattle.jbig2_base.specs.declared.error.DecodeError.TheVariants.{Format}
 use Rattle.jbig2_base.specs.declared.error.FormatError.TheVariants.{InvalidHeader, ReservedBits}
@@ -78,3 +79,23 @@ is_cut_off (Err e) = is_end_of_bytes e
 cut_off : list_all (λ n. is_cut_off (file_at false (take n random_file))) (range_with_len 0 13 ++ range_with_len 14 51) ≡ true
 unfolding file_at file_header_at headers_in header_at referred_at count_at type_of
 cut_off = refl
+
+-- both files spell the same segments
+abbrev listed : List Spelled
+listed =
+    record { header_bytes = page_header; part = part 0 types.PageInformation 1 page_data }
+    ∷ record { header_bytes = end_of_page; part = part 1 types.EndOfPage 1 [] }
+    ∷ record { header_bytes = end_of_file; part = part 2 types.EndOfFile 0 [] }
+    ∷ []
+
+are_spelled : AreSpelled true listed
+unfolding header_at referred_at count_at type_of
+are_spelled = (record { accepted = refl; known = refl }, refl, (record { accepted = refl; known = refl }, refl, (record { accepted = refl; known = refl }, refl)))
+
+spelled_by_turns : Spells true sequential_file (one_page Sequential) listed
+unfolding file_header_at
+spelled_by_turns = (refl, are_spelled)
+
+spelled_headers_first : Spells true random_file (one_page RandomAccess) listed
+unfolding file_header_at
+spelled_headers_first = (refl, are_spelled)

@@ -2,6 +2,7 @@ pub mod BitLemmas
 mod BlockLemmas
 mod CombineLemmas
 mod CountLemmas
+mod Extends
 mod FileRows
 pub mod GridLemmas
 mod PackedLemmas

@@ -15,6 +15,7 @@ use Rattle.jbig2_base.specs.declared.error.DecodeError.{DecodeError}
 use Rattle.jbig2_base.specs.declared.file_header.FileHeader.{FileHeader}
 use Rattle.jbig2_base.specs.declared.file_header.FileOrganization.{FileOrganization}
 use Rattle.jbig2_base.specs.declared.file_header.FileOrganization.TheVariants.{Sequential, RandomAccess}
+use Rattle.jbig2_base.proofs.Extends.{header_extends}
 use Rattle.jbig2_base.proofs.RandomAccess.{header_in}
 use Rattle.jbig2_base.proofs.Sequential.{next_in}
 
@@ -30,10 +31,13 @@ data_there strict s rest is =
     ap (λ (r : Result (List ℕ × List ℕ) DecodeError). r >>= λ coded. Ok (record { header = s.part.header; bytes = coded.0 }, coded.1))
     (ap (λ (n : Option ℕ). data_at n (s.part.bytes ++ rest)) is.known ∙ bytes_there s.part.bytes rest)
 
+header_there : (strict : Bool) (s : Spelled) (rest : List ℕ) → IsSpelled strict s → header_at strict (s.header_bytes ++ rest) ≡ Ok (s.part.header, rest)
+header_there strict s rest is = header_extends strict s.header_bytes rest s.part.header [] is.accepted
+
 segment_there : (strict : Bool) (s : Spelled) (rest : List ℕ) → IsSpelled strict s → segment_at strict (s.header_bytes ++ (s.part.bytes ++ rest)) ≡ Ok (s.part, rest)
 unfolding segment_at
 segment_there strict s rest is =
-    ap (λ (r : Result (Header × List ℕ) DecodeError). r >>= λ h. segment_data_at h.0 h.1) (is.accepted (s.part.bytes ++ rest))
+    ap (λ (r : Result (Header × List ℕ) DecodeError). r >>= λ h. segment_data_at h.0 h.1) (header_there strict s (s.part.bytes ++ rest) is)
     ∙ data_there strict s rest is
 
 -- no header without bytes
@@ -41,21 +45,21 @@ no_bytes : (strict : Bool) → header_at strict [] ≡ Err end_of_bytes
 unfolding header_at
 no_bytes strict = refl
 
-some_bytes : (strict : Bool) (bytes : List ℕ) (h : Header) → header_at strict (bytes ++ []) ≡ Ok (h, []) → 0 < length bytes
+some_bytes : (strict : Bool) (bytes : List ℕ) (h : Header) → header_at strict bytes ≡ Ok (h, []) → 0 < length bytes
 some_bytes strict [] h e = absurd (false≢true (ap (λ (r : Result (Header × List ℕ) DecodeError). is_ok r) (sym (no_bytes strict) ∙ e)))
 some_bytes strict (b ∷ bs) h e = omega arith
 
 segment_read : (most : ℕ) (strict : Bool) (s : Spelled) (rest : List ℕ) → IsSpelled strict s → length (s.header_bytes ++ (s.part.bytes ++ rest)) ≤ most → segments_in most strict (s.header_bytes ++ (s.part.bytes ++ rest)) ≡ goes_on strict (Ok (s.part, rest)) (segments_in (most - 1) strict)
 segment_read most strict s rest is enough =
     let bytes = s.header_bytes ++ (s.part.bytes ++ rest) in
-    let some : 0 < length bytes = omega (arith, length-append s.header_bytes (s.part.bytes ++ rest), some_bytes strict s.header_bytes s.part.header (is.accepted [])) in
+    let some : 0 < length bytes = omega (arith, length-append s.header_bytes (s.part.bytes ++ rest), some_bytes strict s.header_bytes s.part.header is.accepted) in
     let next : most ≡ suc (most - 1) = omega (arith, some, enough) in
     ap (λ (n : ℕ). segments_in n strict bytes) next
     ∙ next_in (most - 1) strict bytes some
     ∙ ap (λ (r : Result (Part × List ℕ) DecodeError). goes_on strict r (segments_in (most - 1) strict)) (segment_there strict s rest is)
 
 shorter : (strict : Bool) (s : Spelled) (xs rest : List ℕ) (most : ℕ) → IsSpelled strict s → length (s.header_bytes ++ (xs ++ rest)) ≤ most → length rest ≤ most - 1
-shorter strict s xs rest most is enough = omega (arith, enough, length-append s.header_bytes (xs ++ rest), length-append xs rest, some_bytes strict s.header_bytes s.part.header (is.accepted []))
+shorter strict s xs rest most is enough = omega (arith, enough, length-append s.header_bytes (xs ++ rest), length-append xs rest, some_bytes strict s.header_bytes s.part.header is.accepted)
 
 turns_read : (most : ℕ) (strict : Bool) (ss : List Spelled) → length (by_turns ss) ≤ most → AreSpelled strict ss → segments_in most strict (by_turns ss) ≡ Ok (spelled_parts ss)
 turns_read most strict [] enough are = absurd are
@@ -74,11 +78,11 @@ headers_of ss = map (λ s. s.part.header) ss
 header_read : (most : ℕ) (strict : Bool) (s : Spelled) (rest : List ℕ) → IsSpelled strict s → length (s.header_bytes ++ rest) ≤ most → headers_in most strict (s.header_bytes ++ rest) ≡ with_header (s.part.header, rest) (headers_in (most - 1) strict)
 header_read most strict s rest is enough =
     let bytes = s.header_bytes ++ rest in
-    let some : 0 < length bytes = omega (arith, length-append s.header_bytes rest, some_bytes strict s.header_bytes s.part.header (is.accepted [])) in
+    let some : 0 < length bytes = omega (arith, length-append s.header_bytes rest, some_bytes strict s.header_bytes s.part.header is.accepted) in
     let next : most ≡ suc (most - 1) = omega (arith, some, enough) in
     ap (λ (n : ℕ). headers_in n strict bytes) next
     ∙ header_in (most - 1) strict bytes some
-    ∙ ap (λ (r : Result (Header × List ℕ) DecodeError). r >>= λ h. with_header h (headers_in (most - 1) strict)) (is.accepted rest)
+    ∙ ap (λ (r : Result (Header × List ℕ) DecodeError). r >>= λ h. with_header h (headers_in (most - 1) strict)) (header_there strict s rest is)
 
 headers_read : (most : ℕ) (strict : Bool) (ss : List Spelled) (rest : List ℕ) → length (all_headers ss ++ rest) ≤ most → AreSpelled strict ss → headers_in most strict (all_headers ss ++ rest) ≡ Ok (headers_of ss, rest)
 headers_read most strict [] rest enough are = absurd are

@@ -12,9 +12,9 @@ pub record Spelled : Type 0 where
   pub header_bytes : List ℕ
   pub part : Part
 
--- The mode reads these bytes as this header, whatever follows, and the header states the data's length.
+-- The mode reads these bytes as this header, all of them, and the header states the data's length.
 pub record IsSpelled (strict : Bool) (s : Spelled) : Type 0 where
-  pub accepted : (rest : List ℕ) → header_at strict (s.header_bytes ++ rest) ≡ Ok (s.part.header, rest)
+  pub accepted : header_at strict s.header_bytes ≡ Ok (s.part.header, [])
   pub known : s.part.header.data_length ≡ Some (length s.part.bytes)
 
 -- Each segment is spelled, and the last one is the only end of file.
