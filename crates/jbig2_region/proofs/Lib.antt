@@ -1,3 +1,9 @@
 pub mod ContextLemmas
 pub mod GenericLemmas
+mod T6Bits
+mod T6Rows
+mod T6Runs
+mod T6Spans
+mod T6Tables
+mod T6Worked
 pub mod RasterLemmas

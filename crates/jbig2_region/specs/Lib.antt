@@ -3,4 +3,8 @@ pub mod GenericHeader
 pub mod Holds
 pub mod Raster
 pub mod RegionInfo
+pub mod T6
+pub mod T6Calls
+pub mod T6Codes
+pub mod T6Reading
 pub mod Templates

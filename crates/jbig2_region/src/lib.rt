@@ -4,6 +4,8 @@
 pub mod generic;
 mod generic_coding;
 mod raster;
+pub mod mmr;
+pub mod raster;
 pub mod region_info;
 pub mod template;
 #[cfg(test)]

@@ -1,0 +1,58 @@
+//! Bitmaps that are coded in two dimensions by T.6 (MMR; T.88, 6.2.6).
+ghost use Rattle.std.specs.Prelude.{◌≡◌, length, false};
+ghost use Rattle.jbig2_base.specs.Answer.{Answers};
+ghost use Rattle.jbig2_base.specs.Grid.{blank};
+ghost use Rattle.jbig2_region.specs.T6.{decoded, Decoded};
+
+mod bits;
+mod codes;
+mod row;
+mod span;
+
+use crate::mmr::bits::CodeReader;
+use crate::mmr::row::read_row;
+use jbig2_base::bitmap::Bitmap;
+use jbig2_base::bitmap::steps::Steps;
+use jbig2_base::error::{DecodeError, RegionError, Result};
+use std::alloc::Allocator;
+use std::sync::ledger::Ledger;
+
+/// Decodes rows onto a white bitmap, and answers how many bytes of `data` they take, a begun one whole.
+///
+/// A fault in the data, or an end of block before the last row, is refused in strict mode
+/// (`RegionError::InvalidMmrData`). Otherwise the whole rows before it stay and the rest is white; a
+/// fault then takes all bytes. No memory is taken.
+pub fn decode<A: Allocator, L: Ledger>(
+    bitmap: &mut Bitmap<A>,
+    data: &[u8],
+    strict: bool,
+    steps: &mut Steps<L>,
+) -> Result<usize>
+    requires { bitmap.old ≡ blank bitmap.old.width bitmap.old.height false }
+    ensures { Answers (λ used. record { grid = bitmap.new; used = used }) result (decoded strict bitmap.old.width bitmap.old.height data.now) }
+{
+    if bitmap.width() == 0 {
+        return Ok(0);
+    }
+    let mut reader = CodeReader::new(data);
+    for y in 0..bitmap.height() {
+        if reader.skip_end_of_block() {
+            return missing_rows(strict, reader.bytes_used());
+        }
+        if !read_row(bitmap, y, &mut reader, steps) {
+            return missing_rows(strict, data.len());
+        }
+    }
+    if bitmap.height() > 0 {
+        reader.skip_end_of_block();
+    }
+    Ok(reader.bytes_used())
+}
+
+/// The answer where not all rows are there.
+fn missing_rows(strict: bool, used: usize) -> Result<usize> {
+    if strict {
+        return Err(DecodeError::Region(RegionError::InvalidMmrData));
+    }
+    Ok(used)
+}
