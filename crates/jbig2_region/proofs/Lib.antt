@@ -1,6 +1,7 @@
 pub mod ContextLemmas
 pub mod GenericLemmas
 mod T6Bits
+mod T6Decoding
 mod T6Rows
 mod T6Runs
 mod T6Spans

@@ -28,7 +28,7 @@ length-bits (b ∷ bytes) = let rest = length-bits bytes in omega arith
 drop-bytes : (q : ℕ) (bytes : List ℕ) → drop (8 * q) (flat_map byte_bits bytes) ≡ flat_map byte_bits (drop q bytes)
 drop-bytes zero bytes = refl
 drop-bytes (suc q) [] = drop-none (8 * suc q)
-    where
+  where
     drop-none : (n : ℕ) → drop n (flat_map byte_bits []) ≡ []
     drop-none zero = refl
     drop-none (suc n) = refl
@@ -111,7 +111,7 @@ arrange a y r k n m e =
     spread a y r (2 ^ (n + m)) (2 ^ m) (2 ^ k)
     ∙ ap (λ (p : ℕ). a * p + (y * (2 ^ m * 2 ^ k) + r * 2 ^ k)) (sym whole)
     ∙ ap (λ (p : ℕ). a * 2 ^ 32 + (y * p + r * 2 ^ k)) (sym part)
-    where
+  where
     spread : (a y r p q s : ℕ) → (a * p + (y * q + r)) * s ≡ a * (p * s) + (y * (q * s) + r * s)
     spread a y r p q s = omega arith
 
@@ -126,7 +126,7 @@ window-split a y r k n m e few short inside low =
     ∙ shr-shr (y * 2 ^ (m + k) + r * 2 ^ k) 8 (24 - n)
     ∙ ap (λ (i : ℕ). (y * 2 ^ (m + k) + r * 2 ^ k) / 2 ^ i) shift
     ∙ shr_high y (m + k) (r * 2 ^ k) (shl_below r m k low)
-    where
+  where
     fold : (y r p s : ℕ) → y * (p * s) + r * s ≡ (y * p + r) * s
     fold y r p s = omega arith
 

@@ -13,7 +13,6 @@ pub record RunReading (black : Bool) (room sum : ℕ) (bits : List ℕ) (meant :
 pub run-start : (black : Bool) (room : ℕ) (bits : List ℕ) → RunReading black room 0 bits (run_from (length bits) black room 0 bits)
 run-start black room bits = record { most = length bits; enough = omega arith; same = refl }
 
-
 run-none : (most : ℕ) (black : Bool) (room sum : ℕ) (bits : List ℕ) → None ≡ read_code (runs_of black) bits → None ≡ run_from most black room sum bits
 unfolding run_from
 run-none zero black room sum bits e = refl
@@ -46,5 +45,5 @@ run-more black room sum part bits left meant reading shorter e within more =
       most = step.0;
       enough = step.1;
       same = sym (cond-false (ltb room (sum + part)) None (cond (ltb part 64) (Some (sum + part, left)) (run_from step.0 black room (sum + part) left)) (le-ltb room (sum + part) within)
-      ∙ cond-false (ltb part 64) (Some (sum + part, left)) (run_from step.0 black room (sum + part) left) (le-ltb part 64 more)) ∙ sym step.2 ∙ reading.same;
+          ∙ cond-false (ltb part 64) (Some (sum + part, left)) (run_from step.0 black room (sum + part) left) (le-ltb part 64 more)) ∙ sym step.2 ∙ reading.same;
     }

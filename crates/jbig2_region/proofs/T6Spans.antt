@@ -73,7 +73,7 @@ leading-is n count few small =
 pub turned-bit : (n count k : ℕ) → count ≤ 64 → k < count → bit (bit_xor n ((2 ^ 64 - 1) / 2 ^ (64 - count))) k ≡ not (bit n k)
 turned-bit n count k few inside =
     bit-xor n ((2 ^ 64 - 1) / 2 ^ (64 - count)) k ∙ ap (λ (t : Bool). cond (bit n k) (not t) t) (ones-bit count k few inside) ∙ same_not (bit n k)
-    where
+  where
     same_not : (b : Bool) → cond b (not true) true ≡ not b
     same_not true = refl
     same_not false = refl
@@ -118,7 +118,7 @@ span-more old g new y from x count bits black so_far order inside row colour e =
       height = ap (λ (m : Grid). m.height) e ∙ so_far.height;
       table = table-at new g.width g.height f e;
       inside = λ i a b. at i y ∙ ⊎_elim (λ (old_one : i < x). kept g x y count bits i y (and_left _ _ (and_right _ _ (lt-leb x i old_one))) ∙ so_far.inside i a old_one)
-      (λ (fresh : x ≤ i). written g x y count bits i y refl fresh b (omega (arith, so_far.width)) (omega (arith, so_far.height)) ∙ colour (x + count - 1 - i) (omega arith)) (cases_lt i x);
+          (λ (fresh : x ≤ i). written g x y count bits i y refl fresh b (omega (arith, so_far.width)) (omega (arith, so_far.height)) ∙ colour (x + count - 1 - i) (omega arith)) (cases_lt i x);
       left = λ i a. at i y ∙ kept g x y count bits i y (and_left _ _ (and_right _ _ (lt-leb x i (omega arith)))) ∙ so_far.left i a;
       right = λ i a. at i y ∙ kept g x y count bits i y (and_right _ _ (le-ltb i (x + count) a)) ∙ so_far.right i (omega arith);
       other = λ i j o. at i j ∙ kept g x y count bits i j (and_left _ _ (and_left _ _ (ne_eqb j y o))) ∙ so_far.other i j o;

@@ -37,6 +37,10 @@ abbrev pub with_rest : Option ℕ → List ℕ → Option (ℕ × List ℕ)
 with_rest None left = None
 with_rest (Some n) left = Some (n, left)
 
+-- row y
+abbrev pub row_of : Grid → ℕ → ℕ → Bool
+row_of g y x = pixel_at g x y
+
 -- the row above row y: white above row 0
 abbrev pub row_above : Grid → ℕ → ℕ → Bool
 row_above g zero x = false

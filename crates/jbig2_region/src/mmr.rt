@@ -1,8 +1,8 @@
 //! Bitmaps that are coded in two dimensions by T.6 (MMR; T.88, 6.2.6).
-ghost use Rattle.std.specs.Prelude.{◌≡◌, length, false};
+ghost use Rattle.std.specs.Prelude.{◌≡◌, if◌then◌else◌, false, Ok, Err};
 ghost use Rattle.jbig2_base.specs.Answer.{Answers};
 ghost use Rattle.jbig2_base.specs.Grid.{blank};
-ghost use Rattle.jbig2_region.specs.T6.{decoded, Decoded};
+ghost use Rattle.jbig2_region.specs.T6.{decoded};
 
 mod bits;
 mod codes;
@@ -31,11 +31,12 @@ pub fn decode<A: Allocator, L: Ledger>(
     requires { bitmap.old ≡ blank bitmap.old.width bitmap.old.height false }
     ensures { Answers (λ used. record { grid = bitmap.new; used = used }) result (decoded strict bitmap.old.width bitmap.old.height data.now) }
 {
-    if bitmap.width() == 0 {
+    let height = bitmap.height();
+    if bitmap.width() == 0 || height == 0 {
         return Ok(0);
     }
     let mut reader = CodeReader::new(data);
-    for y in 0..bitmap.height() {
+    for y in 0..height {
         if reader.skip_end_of_block() {
             return missing_rows(strict, reader.bytes_used());
         }
@@ -43,14 +44,14 @@ pub fn decode<A: Allocator, L: Ledger>(
             return missing_rows(strict, data.len());
         }
     }
-    if bitmap.height() > 0 {
-        reader.skip_end_of_block();
-    }
+    reader.skip_end_of_block();
     Ok(reader.bytes_used())
 }
 
 /// The answer where not all rows are there.
-fn missing_rows(strict: bool, used: usize) -> Result<usize> {
+fn missing_rows(strict: bool, used: usize) -> Result<usize>
+    ensures { result ≡ (if strict then Err (DecodeError.Region RegionError.InvalidMmrData) else Ok used) }
+{
     if strict {
         return Err(DecodeError::Region(RegionError::InvalidMmrData));
     }

@@ -148,6 +148,7 @@ impl<'a> CodeReader<'a> {
     /// than `room`, or bits stand there that are no code.
     pub fn read_run(&mut self, black: bool, room: u32) -> Option<u32>
         ensures value { with_rest result self.new.left ≡ run black room self.old.left }
+        ensures within { IfSome result (λ r. r ≤ room) }
         ensures bytes { self.new.bytes ≡ self.old.bytes }
         ensures shorter { IfSome result (λ _. length self.new.left ≤ length self.old.left) }
     {

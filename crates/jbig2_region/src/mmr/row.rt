@@ -1,10 +1,9 @@
 //! One row, mode by mode (T.6, 2.2).
-ghost use Rattle.std.specs.Prelude.{◌≡◌, ℕ, ◌+◌, ◌-◌, ◌<◌, ◌≤◌, List, length, IfSome, Some, not};
-ghost use Rattle.jbig2_base.specs.Grid.{pixel_at};
+ghost use Rattle.std.specs.Prelude.{◌≡◌, ℕ, ◌+◌, ◌-◌, ◌<◌, ◌≤◌, List, length, IfSome, Some, not, true, false, ◌≢◌};
 ghost use Rattle.jbig2_base.specs.Table.{IsTable};
 ghost use Rattle.jbig2_region.specs.T6.{b1_of, after_pass, after_vertical, after_runs, next_step, row};
 ghost use Rattle.jbig2_region.specs.T6Calls.{ReadStep, ReadRow, head_of};
-ghost use Rattle.jbig2_region.specs.T6Reading.{row_above};
+ghost use Rattle.jbig2_region.specs.T6Reading.{row_above, row_of};
 
 use crate::mmr::bits::CodeReader;
 use crate::mmr::span::{fill_span, find_colour};
@@ -47,13 +46,14 @@ pub fn read_row<A: Allocator, L: Ledger>(
     ensures bytes { reader.new.bytes ≡ reader.old.bytes }
 {
     let width = bitmap.width();
+    let above = reference_row(bitmap, y);
     let mut place = Place {
         a0: 0,
         begun: false,
         black: false,
     };
     while place.a0 < width {
-        match read_turn(bitmap, y, reader, place, steps) {
+        match read_turn(bitmap, above, reader, place, steps) {
             Some(turn) => {
                 fill_span(bitmap, y, place.a0, turn.turn, place.black, steps);
                 fill_span(bitmap, y, turn.turn, turn.next.a0, !place.black, steps);
@@ -68,40 +68,49 @@ pub fn read_row<A: Allocator, L: Ledger>(
     true
 }
 
+/// The row above row `y`; above row 0 a row outside, which is white.
+fn reference_row<A: Allocator>(bitmap: &Bitmap<A>, y: u32) -> u32
+    requires { y < bitmap.now.height }
+    ensures value { (x : ℕ) → row_of bitmap.now result x ≡ row_above bitmap.now y x }
+    ensures apart { result ≢ y }
+{
+    if y == 0 { bitmap.height() } else { y - 1 }
+}
+
 /// Reads a mode. None at a fault.
 fn read_turn<A: Allocator, L: Ledger>(
     bitmap: &Bitmap<A>,
-    y: u32,
+    above: u32,
     reader: &mut CodeReader,
     place: Place,
     steps: &mut Steps<L>,
 ) -> Option<Turn>
-    requires row { y < bitmap.now.height }
     requires column { place.a0 < bitmap.now.width }
-    ensures value { ReadStep bitmap.now.width (head_of place) (next_step bitmap.now.width (row_above bitmap.now y) (head_of place) reader.old.left) result reader.new.left }
+    requires first { place.begun ≡ false → place.a0 ≡ 0 }
+    ensures value { ReadStep bitmap.now.width (head_of place) (next_step bitmap.now.width (row_of bitmap.now above) (head_of place) reader.old.left) result reader.new.left }
     ensures bytes { reader.new.bytes ≡ reader.old.bytes }
     ensures shorter { IfSome result (λ _. length reader.new.left < length reader.old.left) }
 {
     match reader.read_mode()? {
-        PASS => Some(pass(bitmap, y, place, steps)),
+        PASS => Some(pass(bitmap, above, place, steps)),
         HORIZONTAL => horizontal(reader, place, bitmap.width()),
-        mode => vertical(bitmap, y, place, mode - VERTICAL, steps),
+        mode => vertical(bitmap, above, place, mode - VERTICAL, steps),
     }
 }
 
 /// The pass mode: a0 moves under b2.
 fn pass<A: Allocator, L: Ledger>(
     bitmap: &Bitmap<A>,
-    y: u32,
+    above: u32,
     place: Place,
     steps: &mut Steps<L>,
 ) -> Turn
-    requires row { y < bitmap.now.height }
     requires column { place.a0 < bitmap.now.width }
-    ensures { (bits : List ℕ) → ReadStep bitmap.now.width (head_of place) (after_pass bitmap.now.width (row_above bitmap.now y) (head_of place) bits) (Some result) bits }
+    requires first { place.begun ≡ false → place.a0 ≡ 0 }
+    ensures { (bits : List ℕ) → ReadStep bitmap.now.width (head_of place) (after_pass bitmap.now.width (row_of bitmap.now above) (head_of place) bits) (Some result) bits }
 {
-    let b1 = find_b1(bitmap, y, place, steps);
-    let b2 = find_colour(bitmap, y.wrapping_sub(1), b1, place.black, steps);
+    let b1 = find_b1(bitmap, above, place, steps);
+    let b2 = find_colour(bitmap, above, b1, place.black, steps);
     Turn {
         turn: b2,
         next: Place {
@@ -134,16 +143,15 @@ fn horizontal(reader: &mut CodeReader, place: Place, width: u32) -> Option<Turn>
 /// A vertical mode: a1 is b1 plus `offset` minus 3. None where it lies left of a0 or past the width.
 fn vertical<A: Allocator, L: Ledger>(
     bitmap: &Bitmap<A>,
-    y: u32,
+    above: u32,
     place: Place,
     offset: u16,
     steps: &mut Steps<L>,
 ) -> Option<Turn>
-    requires row { y < bitmap.now.height }
-    requires column { place.a0 < bitmap.now.width }
-    ensures { (bits : List ℕ) → ReadStep bitmap.now.width (head_of place) (after_vertical bitmap.now.width (row_above bitmap.now y) (head_of place) offset bits) result bits }
+    requires { place.a0 < bitmap.now.width }
+    ensures { (bits : List ℕ) → ReadStep bitmap.now.width (head_of place) (after_vertical bitmap.now.width (row_of bitmap.now above) (head_of place) offset bits) result bits }
 {
-    let b1 = find_b1(bitmap, y, place, steps);
+    let b1 = find_b1(bitmap, above, place, steps);
     let moved = u64::from(b1) + u64::from(offset);
     if moved < u64::from(place.a0) + 3 || moved > u64::from(bitmap.width()) + 3 {
         return None;
@@ -163,17 +171,18 @@ fn vertical<A: Allocator, L: Ledger>(
 /// neighbour has it.
 fn find_b1<A: Allocator, L: Ledger>(
     bitmap: &Bitmap<A>,
-    y: u32,
+    above: u32,
     place: Place,
     steps: &mut Steps<L>,
 ) -> u32
-    requires row { y < bitmap.now.height }
-    requires column { place.a0 < bitmap.now.width }
-    ensures value { result ≡ b1_of bitmap.now.width (row_above bitmap.now y) (head_of place) }
+    requires { place.a0 < bitmap.now.width }
+    ensures value { result ≡ b1_of bitmap.now.width (row_of bitmap.now above) (head_of place) }
     ensures within { result ≤ bitmap.now.width }
-    ensures colour { result < bitmap.now.width → row_above bitmap.now y result ≡ not place.black }
+    ensures forward { place.begun ≡ true → place.a0 < result }
+    ensures colour { result < bitmap.now.width → row_of bitmap.now above result ≡ not place.black }
 {
-    let above = y.wrapping_sub(1);
+    // A column of the bitmap fits 32 bits.
+    let _ = bitmap.width();
     let mut from = 0;
     let mut left = false;
     if place.begun {

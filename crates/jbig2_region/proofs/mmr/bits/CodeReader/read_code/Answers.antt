@@ -36,8 +36,9 @@ loop-code-preserved c =
     let code : Code = get_or c.args.table.now c.loop-code.code-index no_code in
     let other : code.size ≤ c.few-few.result → c.window-window.result / 2 ^ (24 - code.size) ≡ code.number → ⊥ =
     elim c.else-size-few.branch [
-      else-size-few-via-then-size-few+else-window-size w ↦ λ fits equal. w.if-window-size.false (ap (λ (i : ℕ). c.window-window.result / 2 ^ (24 - i)) c.from-size.ensures ∙ equal ∙ sym w.from.ensures) |
-      else-size-few-via-else-size-few w ↦ λ fits equal. omega (arith, w.if-size-few.false, c.from-size.ensures) ] in
+      | else-size-few-via-then-size-few+else-window-size w ↦ λ fits equal. w.if-window-size.false (ap (λ (i : ℕ). c.window-window.result / 2 ^ (24 - i)) c.from-size.ensures ∙ equal ∙ sym w.from.ensures)
+      | else-size-few-via-else-size-few w ↦ λ fits equal. omega (arith, w.if-size-few.false, c.from-size.ensures)
+    ] in
     let next = table-other c.args.table.now c.loop-code.code-index c.window-window.result c.few-few.result c.args.self.now.left code known refl c.loop-code-test.true c.loop-code.invariant.words c.loop-code.invariant.same other in
     record { place = c.loop-code.invariant.place; same = next.0; words = next.1 }
 

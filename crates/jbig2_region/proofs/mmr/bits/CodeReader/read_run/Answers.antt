@@ -20,7 +20,7 @@ pub loop-code-preserved : goal.loop-code-preserved
 loop-code-preserved c = record {
   within = omega (arith, c.if-part-room.false, c.loop-code.invariant.within);
   reading = run-more c.args.black c.args.room c.loop-code.sum c.from-part.result c.loop-code.self.left c.read_run_code.new.self.left (run c.args.black c.args.room c.args.self.now.left) c.loop-code.invariant.reading c.in-Some.ensures.shorter
-    (ap (λ (i : ℕ). Some (i, c.read_run_code.new.self.left)) c.from-part.ensures ∙ c.in-Some.ensures.value) (omega (arith, c.if-part-room.false, c.loop-code.invariant.within)) c.if-part-lt64.false;
+      (ap (λ (i : ℕ). Some (i, c.read_run_code.new.self.left)) c.from-part.ensures ∙ c.in-Some.ensures.value) (omega (arith, c.if-part-room.false, c.loop-code.invariant.within)) c.if-part-lt64.false;
   bytes = c.in-Some.ensures.bytes ∙ c.loop-code.invariant.bytes;
   shorter = omega (arith, c.in-Some.ensures.shorter, c.loop-code.invariant.shorter);
 }

@@ -9,10 +9,11 @@ use Rattle.jbig2_region.proofs.mmr.bits.CodeReader.skip_end_of_block.Goals.{then
 pub returns-then-few-lt24-clause-value : goal.returns-then-few-lt24-clause-value
 returns-then-few-lt24-clause-value c =
     elim c.then-few-lt24.branch [
-      then-few-lt24-via-then-few-lt24 w ↦ sym (end-short c.args.self.now.left (omega (arith, c.few.ensures, w.if-few-lt24.true))) |
-      then-few-lt24-via-else-few-lt24+then-window-ne4097 w ↦
-        let known : IsWindow w.window.result c.few.result c.args.self.now.left = record { few_is = c.few.ensures; value = w.window.ensures.value; are = w.window.ensures.bits } in
-        sym (end-is w.window.result c.few.result c.args.self.now.left known w.if-few-lt24.false ∙ ne_eqb w.window.result 0x001001 w.if-window-ne4097.true) ]
+      | then-few-lt24-via-then-few-lt24 w ↦ sym (end-short c.args.self.now.left (omega (arith, c.few.ensures, w.if-few-lt24.true)))
+      | then-few-lt24-via-else-few-lt24+then-window-ne4097 w ↦
+          let known : IsWindow w.window.result c.few.result c.args.self.now.left = record { few_is = c.few.ensures; value = w.window.ensures.value; are = w.window.ensures.bits } in
+          sym (end-is w.window.result c.few.result c.args.self.now.left known w.if-few-lt24.false ∙ ne_eqb w.window.result 0x001001 w.if-window-ne4097.true)
+    ]
 
 pub returns-then-few-lt24-clause-rest : goal.returns-then-few-lt24-clause-rest
 returns-then-few-lt24-clause-rest c =

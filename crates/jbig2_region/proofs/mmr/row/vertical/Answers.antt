@@ -1,0 +1,24 @@
+use Rattle.std.proofs.Common.{◌≡◌, ℕ, zero, ◌+◌, ◌-◌, ◌<◌, ◌≤◌, Bool, true, false, not, List, length, Option, Some, None, inl, inr, refl, sym, ap, subst, ◌∙◌, arith}
+use Rattle.jbig2_region.specs.declared.mmr.row.Turn.{Turn}
+use Rattle.jbig2_region.specs.T6.{Head, Step, b1_of, run, after_pass, after_runs, after_vertical, after_mode, next_step, read_code, row}
+use Rattle.jbig2_region.specs.T6Codes.{modes}
+use Rattle.jbig2_region.specs.T6Reading.{row_of, row_above}
+use Rattle.jbig2_region.specs.T6Calls.{head_of, ReadStep, ReadRow}
+use Rattle.jbig2_region.proofs.T6Rows.{vertical-read, vertical-fault}
+use Rattle.jbig2_region.proofs.mmr.row.vertical.Goals as goal
+use Rattle.jbig2_region.proofs.mmr.row.vertical.Goals.{then-moved-from-via-then-moved-from, then-moved-from-via-else-moved-from+then-moved-from-2}
+
+pub returns-then-moved-from : goal.returns-then-moved-from
+returns-then-moved-from g c = λ bits.
+    vertical-fault c.args.bitmap.now.width (row_of c.args.bitmap.now c.args.above) (head_of c.args.place) c.find_b1-b1.result c.args.offset bits c.find_b1-b1.ensures.value
+    (elim c.then-moved-from.branch [
+      | then-moved-from-via-then-moved-from w ↦ inl (omega (arith, w.if-moved-from.true, c.from.ensures, c.from-2.ensures, c.from-3.ensures))
+      | then-moved-from-via-else-moved-from+then-moved-from-2 w ↦ inr (omega (arith, w.if-moved-from-2.true, w.width.ensures.value, w.from-else-moved-from.ensures, c.from.ensures, c.from-2.ensures))
+    ])
+
+pub returns : goal.returns
+returns g c = λ bits.
+    let sum : c.from.result + c.from-2.result - 3 ≡ c.find_b1-b1.result + c.args.offset - 3 = omega (arith, c.from.ensures, c.from-2.ensures) in
+    vertical-read c.args.bitmap.now.width (row_of c.args.bitmap.now c.args.above) (head_of c.args.place) c.find_b1-b1.result c.args.offset _ bits c.find_b1-b1.ensures.value
+    (omega (arith, c.if-moved-from.false, c.from.ensures, c.from-2.ensures, c.from-3.ensures)) (omega (arith, c.if-moved-from-2.false, c.width.ensures.value, c.from-else-moved-from.ensures, c.from.ensures, c.from-2.ensures))
+    sum (ap (λ (n : ℕ). let made : Head = record { a0 = n; begun = true; black = not c.args.place.black } in made) sum)
