@@ -1,14 +1,16 @@
 -- What decoding a whole generic region gives.
-use Rattle.std.proofs.Common.{cond, take, ◌++◌, ◌≡◌, ℕ, Bool, false, List, length, Result, Ok, Err, sym, ap, ◌∙◌, subst}
+use Rattle.std.proofs.Common.{cond, take, ◌++◌, ◌≡◌, ℕ, Bool, true, false, List, length, Result, Ok, Err, sym, ap, ◌∙◌, subst}
 use Rattle.std.proofs.Math.Seq.{take-append_seam}
 use Rattle.jbig2_base.specs.declared.error.DecodeError.{DecodeError}
-use Rattle.jbig2_base.specs.declared.error.DecodeError.TheVariants.{Unsupported}
+use Rattle.std.proofs.lemmas.Bool.{cond-true, cond-false}
+use Rattle.jbig2_base.specs.Answer.{◌>>=◌}
 use Rattle.jbig2_base.specs.Grid.{Grid, blank}
 use Rattle.jbig2_coder.specs.Coder.{Coder, Context, started}
-use Rattle.jbig2_region.specs.Generic.{generic_coding, generic_region, generic_grid, generic_answer}
+use Rattle.jbig2_region.specs.Generic.{generic_coding, generic_region, generic_grid, generic_answer, contexts_after}
 use Rattle.jbig2_region.specs.GenericHeader.{GenericHeader}
 use Rattle.jbig2_region.specs.Holds.{Holds}
 use Rattle.jbig2_region.specs.Raster.{so_far, decoded, no_pixels, fresh_contexts}
+use Rattle.jbig2_region.specs.T6.{Decoded, decoded as mmr_rows}
 use Rattle.jbig2_region.specs.Templates.{context_bits}
 
 -- the same region, decoded by a coder and contexts that stand at the start
@@ -25,10 +27,22 @@ region-decoded h before grid first coder fresh states white bytes registers cont
 pub answer-decoded : (h : GenericHeader) (grid : Grid) (coder : Coder) (states : List Context) → h.mmr ≡ false → Holds h.region_info.width h.region_info.height h.bytes (generic_region h) grid coder states → generic_answer h ≡ Ok grid
 unfolding generic_grid
 answer-decoded h grid coder states coded holds =
-    ap (λ (b : Bool). if_mmr b (so_far h.region_info.width h.region_info.height (generic_region h).pixels)) coded ∙ ap (λ (g : Grid). if_mmr false g) (sym holds.pixels)
-  where
-    if_mmr : Bool → Grid → Result Grid DecodeError
-    if_mmr b g = cond b (Err Unsupported) (Ok g)
+    cond-false h.mmr (mmr_rows h.strict h.region_info.width h.region_info.height h.bytes >>= λ rows. Ok rows.grid) (Ok (generic_grid h)) coded
+    ∙ ap (λ (g : Grid). Ok g) (sym holds.pixels)
+
+pub contexts-decoded : (h : GenericHeader) (before after : List Context) → h.mmr ≡ false → after ≡ (generic_region h).contexts → after ≡ contexts_after h before
+contexts-decoded h before after coded e = e ∙ sym (cond-false h.mmr before (generic_region h).contexts coded)
+
+-- MMR data, decoded or refused
+pub answer-rows : (h : GenericHeader) (grid : Grid) (used : ℕ) → h.mmr ≡ true → mmr_rows h.strict h.region_info.width h.region_info.height h.bytes ≡ Ok (record { grid = grid; used = used }) → generic_answer h ≡ Ok grid
+answer-rows h grid used coded e =
+    cond-true h.mmr (mmr_rows h.strict h.region_info.width h.region_info.height h.bytes >>= λ rows. Ok rows.grid) (Ok (generic_grid h)) coded
+    ∙ ap (λ (r : Result Decoded DecodeError). r >>= λ rows. Ok rows.grid) e
+
+pub refused-rows : (h : GenericHeader) (error : DecodeError) → h.mmr ≡ true → mmr_rows h.strict h.region_info.width h.region_info.height h.bytes ≡ Err error → generic_answer h ≡ Err error
+refused-rows h error coded e =
+    cond-true h.mmr (mmr_rows h.strict h.region_info.width h.region_info.height h.bytes >>= λ rows. Ok rows.grid) (Ok (generic_grid h)) coded
+    ∙ ap (λ (r : Result Decoded DecodeError). r >>= λ rows. Ok rows.grid) e
 
 -- what a slice's user leaves of the whole Vec
 pub whole-slice : {X : Type 0} (n : ℕ) (xs ys : List X) → length xs ≡ n → take n (xs ++ ys) ≡ xs

@@ -1,5 +1,6 @@
 pub mod ContextLemmas
 pub mod GenericLemmas
+pub mod RasterLemmas
 mod T6Bits
 mod T6Decoding
 mod T6Rows
@@ -7,4 +8,3 @@ mod T6Runs
 mod T6Spans
 mod T6Tables
 mod T6Worked
-pub mod RasterLemmas

@@ -1,13 +1,13 @@
--- Generic regions (T.88, 6.2.5) coded with the arithmetic coder.
+-- Generic regions (T.88, 6.2).
 use Rattle.std.specs.Prelude.{ℕ, ◌+◌, ◌*◌, Bool, if◌then◌else◌, List, [], ◌∷◌, map, Option, Some, None, pos, negsuc, ◌+ℤ◌, Result, Ok, Err}
 use Rattle.jbig2_base.specs.Answer.{◌>>=◌}
 use Rattle.jbig2_base.specs.Grid.{Grid, pixel, bit_number}
 use Rattle.jbig2_base.specs.declared.bitmap.operator.CombinationOperator.{CombinationOperator}
 use Rattle.jbig2_base.specs.declared.error.DecodeError.{DecodeError}
-use Rattle.jbig2_base.specs.declared.error.DecodeError.TheVariants.{Unsupported}
-use Rattle.jbig2_coder.specs.Coder.{started}
+use Rattle.jbig2_coder.specs.Coder.{Context, started}
 use Rattle.jbig2_region.specs.GenericHeader.{GenericHeader}
 use Rattle.jbig2_region.specs.Raster.{Coding, Region, so_far, decoded, no_pixels, fresh_contexts}
+use Rattle.jbig2_region.specs.T6.{decoded as mmr_rows}
 use Rattle.jbig2_region.specs.Templates.{context_bits, row_context, template_pixels}
 use Rattle.jbig2_region.specs.declared.generic.DecodedRegion.{DecodedRegion}
 use Rattle.jbig2_region.specs.declared.template.AdaptiveTemplatePixel.{AdaptiveTemplatePixel}
@@ -45,9 +45,15 @@ generic_region h =
 unfoldable pub generic_grid : GenericHeader → Grid
 generic_grid h = so_far h.region_info.width h.region_info.height (generic_region h).pixels
 
--- the grid; MMR is not decoded
+-- the grid, by the arithmetic coder or by MMR (6.2.6)
 abbrev pub generic_answer : GenericHeader → Result Grid DecodeError
-generic_answer h = if h.mmr then Err Unsupported else Ok (generic_grid h)
+generic_answer h =
+    if h.mmr then (mmr_rows h.strict h.region_info.width h.region_info.height h.bytes >>= λ rows. Ok rows.grid)
+    else Ok (generic_grid h)
+
+-- the contexts afterwards; MMR leaves them alone
+abbrev pub contexts_after : GenericHeader → List Context → List Context
+contexts_after h contexts = if h.mmr then contexts else (generic_region h).contexts
 
 -- A decoded region and its place.
 pub record PlacedRegion : Type 0 where

@@ -3,11 +3,12 @@ ghost use Rattle.std.specs.Prelude.{◌≡◌, ◌≤◌, length, false, IfOk, O
 ghost use Rattle.jbig2_base.specs.Answer.{Answers, Gives};
 ghost use Rattle.jbig2_base.specs.Bits.{IsAligned};
 ghost use Rattle.jbig2_base.specs.Grid.{blank};
-ghost use Rattle.jbig2_region.specs.Generic.{generic_region, generic_answer, generic_decoded, region_view};
+ghost use Rattle.jbig2_region.specs.Generic.{contexts_after, generic_answer, generic_decoded, region_view};
 ghost use Rattle.jbig2_region.specs.GenericHeader.{header_view, is_earlier, one_pixel, signed_byte_at, adaptive_pixel_at, adaptive_pixels_at, template_pixels_at, rows_at, generic_header_at, FitsTemplate, IsParsed};
 
 use crate::generic_coding::decode_coded;
 use crate::raster::fresh_contexts;
+use crate::mmr;
 use crate::region_info::{RegionSegmentInfo, parse_region_segment_info};
 use crate::template::{AdaptiveTemplatePixel, GenericTemplatePixels, Template};
 use jbig2_base::bitmap::Bitmap;
@@ -192,9 +193,10 @@ pub struct DecodedRegion<A: Allocator> {
 }
 
 /// Decodes a region (T.88, 6.2) into a white bitmap of its size. The contexts begin fresh, whatever
-/// `contexts` held, and are left there as the region leaves them.
+/// `contexts` held, and are left there as the region leaves them; MMR data does not touch them.
 ///
-/// `OutOfMemory` where there is no room for the contexts; `Unsupported` for MMR.
+/// `OutOfMemory` where there is no room for the contexts; in strict mode
+/// `RegionError::InvalidMmrData` where MMR data has a fault or lacks a row.
 pub fn decode_into<A: Allocator, B: Allocator, L: Ledger>(
     header: &GenericRegionHeader<'_>,
     bitmap: &mut Bitmap<A>,
@@ -204,10 +206,11 @@ pub fn decode_into<A: Allocator, B: Allocator, L: Ledger>(
     requires parsed { IsParsed (header_view header.now) }
     requires white { bitmap.old ≡ blank header.now.region_info.width header.now.region_info.height false }
     ensures value { Gives (λ _. bitmap.new) result (generic_answer (header_view header.now)) }
-    ensures contexts { OnOk result (contexts.new.items ≡ (generic_region (header_view header.now)).contexts) }
+    ensures contexts { OnOk result (contexts.new.items ≡ contexts_after (header_view header.now) contexts.old.items) }
 {
     if header.mmr {
-        return Err(DecodeError::Unsupported);
+        mmr::decode(bitmap, header.bytes, header.strict, steps)?;
+        return Ok(());
     }
     fresh_contexts(contexts, header.template.context_bits())?;
     let mut decoder = ArithmeticDecoder::new(header.bytes);
@@ -225,7 +228,7 @@ pub fn decode_into<A: Allocator, B: Allocator, L: Ledger>(
 
 /// Decodes a region (T.88, 6.2), as `decode_into` does, into a bitmap of its own.
 ///
-/// `OutOfMemory` where there is no room for the bitmap or the contexts; `Unsupported` for MMR.
+/// `OutOfMemory` where there is no room for the bitmap or the contexts, else as `decode_into`.
 pub fn decode<A: Allocator, B: Allocator, L: Ledger>(
     alloc: A,
     header: &GenericRegionHeader<'_>,
@@ -234,7 +237,7 @@ pub fn decode<A: Allocator, B: Allocator, L: Ledger>(
 ) -> Result<DecodedRegion<A>>
     requires { IsParsed (header_view header.now) }
     ensures value { Gives (λ region. region_view region) result (generic_decoded (header_view header.now)) }
-    ensures contexts { OnOk result (contexts.new.items ≡ (generic_region (header_view header.now)).contexts) }
+    ensures contexts { OnOk result (contexts.new.items ≡ contexts_after (header_view header.now) contexts.old.items) }
 {
     let region_info = &header.region_info;
     let mut bitmap = Bitmap::new(alloc, region_info.width, region_info.height)?;

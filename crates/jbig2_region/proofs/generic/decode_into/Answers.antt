@@ -4,7 +4,7 @@ use Rattle.jbig2_region.specs.Generic.{generic_region}
 use Rattle.jbig2_region.specs.Holds.{Holds}
 use Rattle.jbig2_region.specs.Raster.{fresh_contexts}
 use Rattle.jbig2_region.specs.Templates.{context_bits}
-use Rattle.jbig2_region.proofs.GenericLemmas.{region-decoded, answer-decoded, whole-slice, ok-inner}
+use Rattle.jbig2_region.proofs.GenericLemmas.{region-decoded, answer-decoded, contexts-decoded, whole-slice, ok-inner}
 use Rattle.jbig2_region.proofs.generic.decode_into.Goals as goal
 
 pub returns-clause-value : goal.returns-clause-value
@@ -18,4 +18,5 @@ returns-clause-contexts g c =
     let fresh : c.deref_mut.result.now ≡ fresh_contexts (context_bits c.args.header.now.template) = c.deref_mut.ensures.value ∙ sym (ok-inner _ _ c.in_ok-fresh_contexts.ensures) ∙ ap (λ (n : ℕ). fresh_contexts n) c.context_bits.ensures in
     let holds : Holds c.args.header.now.region_info.width c.args.header.now.region_info.height c.args.header.now.bytes.now (generic_region (header_view c.args.header.now)) c.decode_coded.new.bitmap c.decode_coded.new.decoder c.decode_coded.new.contexts =
     region-decoded (header_view c.args.header.now) c.args.bitmap.now c.decode_coded.new.bitmap c.new-decoder.result c.decode_coded.new.decoder c.deref_mut.result.now c.decode_coded.new.contexts c.requires.white c.new-decoder.ensures.bytes c.new-decoder.ensures.registers fresh c.decode_coded.ensures.holds in
-    whole-slice c.fresh_contexts.new.contexts.len c.decode_coded.new.contexts (drop (length c.decode_coded.new.contexts) c.fresh_contexts.new.contexts.items) (c.decode_coded.auto.contexts ∙ c.deref_mut.ensures.len) ∙ holds.contexts
+    contexts-decoded (header_view c.args.header.now) c.args.contexts.now.items _ c.if-header.false
+    (whole-slice c.fresh_contexts.new.contexts.len c.decode_coded.new.contexts (drop (length c.decode_coded.new.contexts) c.fresh_contexts.new.contexts.items) (c.decode_coded.auto.contexts ∙ c.deref_mut.ensures.len) ∙ holds.contexts)
