@@ -40,7 +40,7 @@ white-pixel g x j white =
 
 white-row : (w x : ℕ) → false ≡ pixel_of w [] x
 white-row w x = sym (and-false (ltb x w) (black_at [] x) (change-none x))
-    where
+  where
     and-false : (a b : Bool) → b ≡ false → (a && b) ≡ false
     and-false true b e = e
     and-false false b e = refl
@@ -52,8 +52,8 @@ rows-start g bytes white known wide high = record {
   above = [];
   count = refl;
   same = let all : g.height - 0 ≡ g.height = omega arith in
-  ap (λ (n : ℕ). rows_from n g.width [] [] (bits_of bytes)) all
-  ∙ sym (cond-false (eqb g.width 0 || eqb g.height 0) (record { rows = []; whole = true; left = bits_of bytes }) (rows_from g.height g.width [] [] (bits_of bytes)) (or_from (eqb g.width 0) (eqb g.height 0) (ne_eqb g.width 0 wide) (ne_eqb g.height 0 high)));
+      ap (λ (n : ℕ). rows_from n g.width [] [] (bits_of bytes)) all
+      ∙ sym (cond-false (eqb g.width 0 || eqb g.height 0) (record { rows = []; whole = true; left = bits_of bytes }) (rows_from g.height g.width [] [] (bits_of bytes)) (or_from (eqb g.width 0) (eqb g.height 0) (ne_eqb g.width 0 wide) (ne_eqb g.height 0 high)));
   width = refl;
   height = refl;
   table = known;
@@ -114,17 +114,18 @@ rows-fault w h y bits left new next meant reading inside e read =
     let fault = fault-of (row new.width (row_above new y) bits) new next y left read in
     let none : row w (pixel_of w reading.above) bits ≡ None = sym (row-at w h y bits new meant reading) ∙ fault.0 in
     let step = step-rows (h - y) w reading.above reading.done bits (omega arith) e in
-    let white = fault.1 in
-    (sym reading.same ∙ step.2 ∙ ap (λ (o : Option (List ℕ × List ℕ)). or_fault reading.done o (λ r. rows_from step.0 w r.0 (reading.done ++ r.0 ∷ []) r.1)) none,
-    white.table
-    ∙ ap (λ (n : ℕ). grid_of n next.height (pixel_at next)) (white.width ∙ reading.width)
-    ∙ ap (λ (n : ℕ). grid_of w n (pixel_at next)) (white.height ∙ reading.height)
-    ∙ grid_of-ext w h (pixel_at next) (pixel_at new)
-    (λ x j right lower.
-    ⊎_elim (λ (here : j ≡ y). ap (λ (n : ℕ). pixel_at next x n) here ∙ white.here x (omega (arith, reading.width)) ∙ sym (reading.rest x j (omega arith)))
-    (λ (other : j ≡ y → ⊥). white.other x j other) (cases_eq j y))
-    ∙ sym (reading.table ∙ ap (λ (n : ℕ). grid_of n new.height (pixel_at new)) reading.width ∙ ap (λ (n : ℕ). grid_of w n (pixel_at new)) reading.height)
-    ∙ rows-grid w h y bits new meant reading)
+    let white = fault.1 in (
+      sym reading.same ∙ step.2 ∙ ap (λ (o : Option (List ℕ × List ℕ)). or_fault reading.done o (λ r. rows_from step.0 w r.0 (reading.done ++ r.0 ∷ []) r.1)) none,
+      white.table
+          ∙ ap (λ (n : ℕ). grid_of n next.height (pixel_at next)) (white.width ∙ reading.width)
+          ∙ ap (λ (n : ℕ). grid_of w n (pixel_at next)) (white.height ∙ reading.height)
+          ∙ grid_of-ext w h (pixel_at next) (pixel_at new)
+          (λ x j right lower.
+          ⊎_elim (λ (here : j ≡ y). ap (λ (n : ℕ). pixel_at next x n) here ∙ white.here x (omega (arith, reading.width)) ∙ sym (reading.rest x j (omega arith)))
+          (λ (other : j ≡ y → ⊥). white.other x j other) (cases_eq j y))
+          ∙ sym (reading.table ∙ ap (λ (n : ℕ). grid_of n new.height (pixel_at new)) reading.width ∙ ap (λ (n : ℕ). grid_of w n (pixel_at new)) reading.height)
+          ∙ rows-grid w h y bits new meant reading,
+    )
 
 pub rows-next : (w h y : ℕ) (bits left : List ℕ) (new next : Grid) (meant : Rows) → RowsReading w h y bits new meant → y < h → ends_block bits ≡ false → ReadRow (row new.width (row_above new y) bits) true new next y left → RowsReading w h (y + 1) left next meant
 rows-next w h y bits left new next meant reading inside e read =
@@ -139,19 +140,19 @@ rows-next w h y bits left new next meant reading inside e read =
       above = changes;
       count = length_push reading.done changes ∙ ap (λ (n : ℕ). n + 1) reading.count;
       same = ap (λ (n : ℕ). rows_from n w changes (reading.done ++ changes ∷ []) left) fewer
-      ∙ sym (step.2 ∙ ap (λ (o : Option (List ℕ × List ℕ)). or_fault reading.done o (λ r. rows_from step.0 w r.0 (reading.done ++ r.0 ∷ []) r.1)) is) ∙ reading.same;
+          ∙ sym (step.2 ∙ ap (λ (o : Option (List ℕ × List ℕ)). or_fault reading.done o (λ r. rows_from step.0 w r.0 (reading.done ++ r.0 ∷ []) r.1)) is) ∙ reading.same;
       width = made.width ∙ reading.width;
       height = made.height ∙ reading.height;
       table = made.table;
       drawn = λ x j right above.
-      ⊎_elim
-      (λ (here : j ≡ y). ap (λ (n : ℕ). pixel_at next x n) here ∙ made.here x (omega (arith, reading.width)) ∙ sym (ap (λ (cs : List ℕ). black_at cs x) (get_or_push reading.done changes [] j (reading.count ∙ sym here))))
-      (λ (other : j ≡ y → ⊥). made.other x j other ∙ reading.drawn x j right (omega (arith, other)) ∙ sym (ap (λ (cs : List ℕ). black_at cs x) (get_or_append_left reading.done (changes ∷ []) [] j (omega (arith, other, reading.count)))))
-      (cases_eq j y);
+          ⊎_elim
+          (λ (here : j ≡ y). ap (λ (n : ℕ). pixel_at next x n) here ∙ made.here x (omega (arith, reading.width)) ∙ sym (ap (λ (cs : List ℕ). black_at cs x) (get_or_push reading.done changes [] j (reading.count ∙ sym here))))
+          (λ (other : j ≡ y → ⊥). made.other x j other ∙ reading.drawn x j right (omega (arith, other)) ∙ sym (ap (λ (cs : List ℕ). black_at cs x) (get_or_append_left reading.done (changes ∷ []) [] j (omega (arith, other, reading.count)))))
+          (cases_eq j y);
       rest = λ x j below. made.other x j (λ here. omega arith) ∙ reading.rest x j (omega arith);
       last = λ x. ap (λ (n : ℕ). row_above next n x) (add-one y) ∙ last-pixel x made;
     }
-    where
+  where
     last-pixel : (x : ℕ) → IsRow new next y (black_at (whole-of (row new.width (row_above new y) bits) new next y left read).0) → pixel_at next x y ≡ pixel_of w (whole-of (row new.width (row_above new y) bits) new next y left read).0 x
     last-pixel x made =
         ⊎_elim

@@ -1,6 +1,8 @@
 -- The code's tables are T.6's, and no code of one begins another.
 use Rattle.std.proofs.Common.{◌≡◌, Bool, true, false, map, refl}
-use Rattle.jbig2_region.specs.declared.mmr.codes.TheConstants.{MODES, WHITE_RUNS, BLACK_RUNS}
+use Rattle.jbig2_region.specs.declared.mmr.codes.TheConstants.{MODES}
+use Rattle.jbig2_region.specs.declared.mmr.codes.black.TheConstants.{BLACK_RUNS}
+use Rattle.jbig2_region.specs.declared.mmr.codes.white.TheConstants.{WHITE_RUNS}
 use Rattle.jbig2_region.specs.T6.{is_prefix_free, runs_of}
 use Rattle.jbig2_region.specs.T6Codes.{modes, longer_runs, white_runs, black_runs}
 use Rattle.jbig2_region.specs.T6Reading.{line_of}

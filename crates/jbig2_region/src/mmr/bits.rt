@@ -5,7 +5,9 @@ ghost use Rattle.jbig2_region.specs.T6.{read_code, run, bits_of, ends_block, aft
 ghost use Rattle.jbig2_region.specs.T6Codes.{modes};
 ghost use Rattle.jbig2_region.specs.T6Reading.{AreBits, with_rest, line_of, are_words};
 
-use crate::mmr::codes::{BLACK_RUNS, Code, MODES, WHITE_RUNS};
+use crate::mmr::codes::black::BLACK_RUNS;
+use crate::mmr::codes::white::WHITE_RUNS;
+use crate::mmr::codes::{Code, MODES};
 use std::marker::Model;
 
 /// Data and a place in it, by byte and bit apart, so that no length overflows.

@@ -14,8 +14,9 @@ pub returns-then-width-eq0 : goal.returns-then-width-eq0
 returns-then-width-eq0 g c =
     let none : (eqb c.args.bitmap.now.width 0 || eqb c.args.bitmap.now.height 0) ≡ true =
     elim c.then-width-eq0.branch [
-      then-width-eq0-via-then-width-eq0 w ↦ or_left _ _ (eq-eqb c.args.bitmap.now.width 0 (sym c.width.ensures.value ∙ w.if-width-eq0.true)) |
-      then-width-eq0-via-else-width-eq0+then-height-eq0 w ↦ or_right _ _ (eq-eqb c.args.bitmap.now.height 0 (sym c.height-height.ensures.value ∙ w.if-height-eq0.true)) ] in
+      | then-width-eq0-via-then-width-eq0 w ↦ or_left _ _ (eq-eqb c.args.bitmap.now.width 0 (sym c.width.ensures.value ∙ w.if-width-eq0.true))
+      | then-width-eq0-via-else-width-eq0+then-height-eq0 w ↦ or_right _ _ (eq-eqb c.args.bitmap.now.height 0 (sym c.height-height.ensures.value ∙ w.if-height-eq0.true))
+    ] in
     answer-none c.args.strict c.args.bitmap.now c.args.data.now c.requires none
 
 pub loop-y-init : goal.loop-y-init
@@ -23,7 +24,7 @@ loop-y-init g c =
     let meant = rows_of c.args.bitmap.now.width c.args.bitmap.now.height c.args.data.now in
     record {
       reading = subst (λ (r : Rest). RowsReading c.args.bitmap.now.width c.args.bitmap.now.height 0 r.left c.args.bitmap.now (rows_of c.args.bitmap.now.width c.args.bitmap.now.height c.args.data.now)) (sym c.new-reader.ensures)
-      (rows-start c.args.bitmap.now c.args.data.now c.requires c.width.ensures.table (λ e. c.if-width-eq0.false (c.width.ensures.value ∙ e)) (λ e. c.if-height-eq0.false (c.height-height.ensures.value ∙ e)));
+          (rows-start c.args.bitmap.now c.args.data.now c.requires c.width.ensures.table (λ e. c.if-width-eq0.false (c.width.ensures.value ∙ e)) (λ e. c.if-height-eq0.false (c.height-height.ensures.value ∙ e)));
       bytes = ap (λ (r : Rest). r.bytes) c.new-reader.ensures;
     }
 
