@@ -8,6 +8,7 @@ pub mod calls;
 pub mod context;
 pub mod decoder;
 mod drawing;
+mod image;
 pub mod page;
 pub mod parts;
 pub mod settings;

@@ -1,11 +1,12 @@
 //! Pages.
-ghost use Rattle.std.specs.Prelude.{◌≡◌, ℕ, ◌+◌, ◌-◌, ◌^◌, ◌<◌, ◌≤◌, Bool, IsTrue, pos};
+ghost use Rattle.std.specs.Prelude.{◌≡◌, ℕ, ◌+◌, ◌-◌, ◌*◌, ◌^◌, ◌<◌, ◌≤◌, Bool, IsTrue, OnErr, length, pos};
 ghost use Rattle.jbig2_base.specs.Answer.{Gives};
 ghost use Rattle.jbig2_base.specs.Combination.{combined};
 ghost use Rattle.jbig2_base.specs.Grid.{Grid, blank};
 ghost use Rattle.jbig2_base.specs.Table.{IsTable};
 ghost use Rattle.jbig2_base.specs.declared.bitmap.operator.CombinationOperator.{CombinationOperator};
 ghost use Rattle.hayro_jbig2.specs.Calls.{Spells, calls_of};
+ghost use Rattle.hayro_jbig2.specs.Image.{image_of_page};
 ghost use Rattle.hayro_jbig2.specs.Page.{Leaf, embedded, grid_of_page, draws_over};
 ghost use Rattle.hayro_jbig2.specs.Sends.{Decodes};
 
@@ -13,6 +14,7 @@ use crate::calls::push_bitmap;
 use crate::context::DecoderContext;
 use crate::decoder::Decoder;
 use crate::drawing::draw_segments;
+use crate::image::write_image;
 use crate::settings::DecodeSettings;
 use jbig2_base::bitmap::steps::Steps;
 use jbig2_base::error::Result;
@@ -109,6 +111,34 @@ impl<'a, A: Allocator + Clone> Page<'a, A> {
     {
         let mut context = DecoderContext::new(self.alloc.clone()?)?;
         self.decode_with(decoder, &mut context)
+    }
+
+    /// Writes the page into `buf`, which holds a byte for each pixel: rows from the top, 0 for
+    /// black and 255 for white.
+    ///
+    /// Answers the first fault of a segment that lenient reading does not pass over; `buf` is then
+    /// as it was.
+    pub fn read_image(&self, buf: &mut [u8]) -> Result<()>
+        requires { length buf.old ≡ self.now.sheet.width * self.now.sheet.height }
+        ensures value { Gives (λ _. buf.new) result (image_of_page self.now) }
+        ensures unchanged { OnErr result (buf.new ≡ buf.old) }
+    {
+        self.read_counted::<Brand>(buf, Blank::new(6))
+    }
+
+    fn read_counted<L: Ledger>(&self, buf: &mut [u8], blank: Blank) -> Result<()>
+        requires sized { length buf.old ≡ self.now.sheet.width * self.now.sheet.height }
+        requires name { blank.name ≡ L.name }
+        requires parts { blank.parts ≡ L.parts }
+        requires enough { blank.parts ≡ 6 }
+        ensures value { Gives (λ _. buf.new) result (image_of_page self.now) }
+        ensures unchanged { OnErr result (buf.new ≡ buf.old) }
+    {
+        let mut steps = Steps::<L>::new(blank);
+        let mut context = DecoderContext::new(self.alloc.clone()?)?;
+        self.draw_into(&mut context, &mut steps)?;
+        write_image(&context.bitmap, &self.sheet, buf, &mut steps);
+        Ok(())
     }
 }
 
