@@ -18,11 +18,11 @@ use Rattle.jbig2_region.specs.GenericHeader.{adaptive_pixel_at, template_pixels_
 use Rattle.jbig2_region.specs.Raster.{so_far, with_next, after_pixel, after_pixels, row_begun, after_rows, decoded}
 use Rattle.jbig2_region.specs.RegionInfo.{region_info_at}
 use Rattle.hayro_jbig2.specs.Calls.{Call, Pixel, Chunk, Line, singles, whole_calls, row_of, calls_of}
-use Rattle.hayro_jbig2.specs.Page.{embedded, grid_of_page, generic_at, immediate_generic}
+use Rattle.hayro_jbig2.specs.Page.{no_names, embedded, grid_of_page, generic_at, immediate_generic}
 
 -- the calls of an embedded page, or its error
 calls_at : Bool → List ℕ → Result (List Call) DecodeError
-calls_at strict bytes = embedded strict bytes >>= λ page. grid_of_page page >>= λ g. Ok (calls_of g)
+calls_at strict bytes = embedded strict no_names bytes >>= λ page. grid_of_page page >>= λ g. Ok (calls_of g)
 
 -- a page information segment with this number, width, height and flags
 abbrev page : ℕ → List ℕ → List ℕ → ℕ → List ℕ

@@ -21,12 +21,6 @@ use Rattle.jbig2_coder.specs.PrefixCode.{Member}
 use Rattle.jbig2_region.specs.Generic.{PlacedRegion, generic_decoded}
 use Rattle.jbig2_region.specs.GenericHeader.{GenericHeader, generic_header_at}
 
--- A page: whether it is read strictly, what it begins as, and its segments in order.
-pub record Leaf : Type 0 where
-  pub strict : Bool
-  pub sheet : Sheet
-  pub parts : List Part
-
 -- An intermediate region, kept under its segment's number.
 pub record Stored : Type 0 where
   pub segment_number : ℕ
@@ -36,6 +30,21 @@ pub record Stored : Type 0 where
 pub record StoredCode : Type 0 where
   pub segment_number : ℕ
   pub code : List Member
+
+-- What globals hold, each under its segment's number, in order.
+pub record Names : Type 0 where
+  pub codes : List StoredCode
+
+abbrev pub no_names : Names
+no_names = record { codes = [] }
+
+-- A page: whether it is read strictly, what it begins as, its segments in order, and the names of its globals or
+-- the error that decoding those gave.
+pub record Leaf : Type 0 where
+  pub strict : Bool
+  pub sheet : Sheet
+  pub parts : List Part
+  pub globals : Result Names DecodeError
 
 -- What was drawn so far, the regions and codes that are kept, in order, and whether no immediate region came
 -- before.
@@ -120,14 +129,17 @@ abbrev pub started : Sheet → Drawing
 started sheet = record { grid = blank sheet.width sheet.height sheet.default_pixel; regions = []; codes = []; untouched = true }
 
 unfoldable pub grid_of_page : Leaf → Result Grid DecodeError
-grid_of_page page = drawn page.strict page.parts (started page.sheet) >>= λ d. Ok d.grid
+grid_of_page page = do
+  names ← page.globals
+  d ← drawn page.strict page.parts (started page.sheet)
+  Ok d.grid
 
 -- An embedded page (Annex D has no word of it; PDF keeps one so): its segments read one behind the other, sorted.
-unfoldable pub embedded : Bool → List ℕ → Result Leaf DecodeError
-embedded strict bytes = do
+unfoldable pub embedded : Bool → Names → List ℕ → Result Leaf DecodeError
+embedded strict names bytes = do
   parts ← sorted_segments strict bytes
   sheet ← sheet_of parts
-  Ok (record { strict = strict; sheet = sheet; parts = parts })
+  Ok (record { strict = strict; sheet = sheet; parts = parts; globals = Ok names })
 
 -- On a page of one colour this operator gives the region's pixels themselves.
 abbrev pub draws_over : CombinationOperator → Bool → Bool

@@ -1,7 +1,9 @@
--- What a context keeps, seen as what was drawn so far.
-use Rattle.std.specs.Prelude.{List, map}
+-- What a context keeps, seen as what was drawn so far, and the names of a page's globals.
+use Rattle.std.specs.Prelude.{List, map, Option, Some, None, Result, Ok, Err}
+use Rattle.std.specs.Borrow.{Bor}
+use Rattle.jbig2_base.specs.declared.error.DecodeError.{DecodeError}
 use Rattle.jbig2_region.specs.Generic.{region_view}
-use Rattle.hayro_jbig2.specs.Page.{Stored, StoredCode}
+use Rattle.hayro_jbig2.specs.Page.{Stored, StoredCode, Names, no_names}
 use Rattle.hayro_jbig2.specs.declared.context.StoredRegion.{StoredRegion}
 use Rattle.hayro_jbig2.specs.declared.context.StoredTable.{StoredTable}
 
@@ -16,3 +18,12 @@ code_view s = record { segment_number = s.segment_number; code = s.table }
 
 abbrev pub stored_codes : {A : Type 0} → List (StoredTable A) → List StoredCode
 stored_codes tables = map (λ s. code_view s) tables
+
+-- the names of globals, where there are any
+abbrev pub given_names : Option (Bor Names) → Names
+given_names None = no_names
+given_names (Some globals) = globals.now
+
+abbrev pub kept_names : Result (Option (Bor Names)) DecodeError → Result Names DecodeError
+kept_names (Ok globals) = Ok (given_names globals)
+kept_names (Err e) = Err e

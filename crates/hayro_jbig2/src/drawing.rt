@@ -18,7 +18,7 @@ use std::alloc::Allocator;
 use std::sync::ledger::Ledger;
 
 /// An extension segment (T.88, 7.4.14).
-fn extension(strict: bool, bytes: &[u8]) -> Result<()>
+pub(crate) fn extension(strict: bool, bytes: &[u8]) -> Result<()>
     ensures { Answers (λ known. known) result (extension strict bytes.now) }
 {
     if !strict {

@@ -8,6 +8,7 @@ pub mod calls;
 pub mod context;
 pub mod decoder;
 mod drawing;
+pub mod globals;
 mod image;
 pub mod page;
 pub mod parts;
@@ -15,6 +16,7 @@ pub mod settings;
 
 pub use context::DecoderContext;
 pub use decoder::Decoder;
+pub use globals::Globals;
 pub use jbig2_base::error::{
     DecodeError, FormatError, HuffmanError, OverflowError, ParseError, RegionError, Result,
     SegmentError, SymbolError, TemplateError,

@@ -8,12 +8,14 @@ ghost use Rattle.jbig2_base.specs.declared.bitmap.operator.CombinationOperator.{
 ghost use Rattle.hayro_jbig2.specs.Calls.{Spells, calls_of};
 ghost use Rattle.hayro_jbig2.specs.Image.{image_of_page};
 ghost use Rattle.hayro_jbig2.specs.Page.{Leaf, embedded, grid_of_page, draws_over};
+ghost use Rattle.hayro_jbig2.specs.PageViews.{given_names};
 ghost use Rattle.hayro_jbig2.specs.Sends.{Decodes};
 
 use crate::calls::push_bitmap;
 use crate::context::DecoderContext;
 use crate::decoder::Decoder;
 use crate::drawing::draw_segments;
+use crate::globals::Globals;
 use crate::image::write_image;
 use crate::settings::DecodeSettings;
 use jbig2_base::bitmap::steps::Steps;
@@ -34,6 +36,7 @@ pub struct Page<'a, A: Allocator> {
     strict: bool,
     sheet: Sheet,
     segments: Vec<Segment<'a, A>, A>,
+    globals: Result<Option<&'a Globals<A>>>,
 }
 
 impl<'a, A: Allocator> Model for Page<'a, A> {
@@ -41,10 +44,11 @@ impl<'a, A: Allocator> Model for Page<'a, A> {
     ghost use Rattle.jbig2_base.specs.SegmentViews.{parts};
     ghost use Rattle.hayro_jbig2.specs.Calls.{Spells, calls_of};
     ghost use Rattle.hayro_jbig2.specs.Page.{Leaf};
+    ghost use Rattle.hayro_jbig2.specs.PageViews.{kept_names};
 
     ghost Value = { Leaf };
 
-    ghost view = { λ page. record { strict = page.strict; sheet = page.sheet; parts = parts page.segments.items } };
+    ghost view = { λ page. record { strict = page.strict; sheet = page.sheet; parts = parts page.segments.items; globals = kept_names page.globals } };
 
     ghost invariant = { λ page. (page.sheet.width ≤ 65535) × (page.sheet.height ≤ 65535) };
 }
@@ -81,12 +85,17 @@ impl<'a, A: Allocator> Page<'a, A> {
 
 impl<'a, A: Allocator + Clone> Page<'a, A> {
     /// A page as a PDF file keeps it: `bytes` hold its segments one behind the other, without a
-    /// file header.
+    /// file header, and `globals` what its segments may refer to besides.
     ///
     /// Refused by the first fault of the segments, or of the page's size.
     #[tactic(auto, unfolding(crate::specs::Page::embedded))]
-    pub fn new_embedded(alloc: A, bytes: &'a [u8], settings: &DecodeSettings) -> Result<Page<'a, A>>
-        ensures { Gives (λ page. page) result (embedded settings.now.strict bytes.now) }
+    pub fn new_embedded(
+        alloc: A,
+        bytes: &'a [u8],
+        globals: Option<&'a Globals<A>>,
+        settings: &DecodeSettings,
+    ) -> Result<Page<'a, A>>
+        ensures { Gives (λ page. page) result (embedded settings.now.strict (given_names globals.entry) bytes.now) }
     {
         let strict = settings.strict;
         let mut reader = Reader::new(bytes);
@@ -98,6 +107,7 @@ impl<'a, A: Allocator + Clone> Page<'a, A> {
             strict,
             sheet,
             segments,
+            globals: Ok(globals),
         })
     }
 
@@ -190,6 +200,9 @@ impl<'a, A: Allocator> Page<'a, A> {
     ) -> Result<()>
         ensures { Gives (λ _. context.new.grid) result (grid_of_page self.now) }
     {
+        if let Err(error) = &self.globals {
+            return Err(error.duplicate());
+        }
         context.begin(&self.sheet)?;
         draw_segments(self.strict, &self.segments, context, steps)
     }

@@ -115,7 +115,12 @@ fn case_holds<A: Allocator + Clone>(
             let Some(bytes) = spelled(alloc.clone()?, bytes)? else {
                 return Ok(false);
             };
-            let page = match Page::new_embedded(alloc, &bytes, &DecodeSettings { strict: true }) {
+            let page = match Page::new_embedded(
+                alloc,
+                &bytes,
+                None,
+                &DecodeSettings { strict: true },
+            ) {
                 Ok(page) => page,
                 Err(error) => return refused_as(error, None),
             };
@@ -140,7 +145,7 @@ pub fn page_holds<A: Allocator + Clone>(
     answer: &Answer,
     context: &mut DecoderContext<A>,
 ) -> Result<bool> {
-    let page = match Page::new_embedded(alloc, bytes, &DecodeSettings { strict }) {
+    let page = match Page::new_embedded(alloc, bytes, None, &DecodeSettings { strict }) {
         Ok(page) => page,
         Err(error) => return refused_as(
             error,

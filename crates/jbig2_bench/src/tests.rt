@@ -55,7 +55,7 @@ fn refusals_hold(
     calls: &[Call],
     context: &mut DecoderContext<Global>,
 ) -> Result<bool> {
-    let page = Page::new_embedded(alloc, bytes, &DecodeSettings { strict })?;
+    let page = Page::new_embedded(alloc, bytes, None, &DecodeSettings { strict })?;
     for taken in 0..calls.len() {
         let mut watcher = Watcher::with_patience(&calls[..taken], taken);
         let decoded = page.decode_with(&mut watcher, context);
@@ -106,7 +106,7 @@ fn is_decoded_alone(alloc: Global) -> Result<bool> {
     let Some(bytes) = spelled(alloc, "P")? else {
         return Ok(false);
     };
-    let page = Page::new_embedded(alloc, &bytes, &DecodeSettings::default())?;
+    let page = Page::new_embedded(alloc, &bytes, None, &DecodeSettings::default())?;
     let mut watcher = Watcher::new(WHITE);
     page.decode(&mut watcher)?;
     Ok(watcher.is_satisfied())

@@ -72,7 +72,7 @@ fn answer<A: Allocator + Clone, R: Read, O: Write>(
     };
     match request.command {
         Command::Embedded => {
-            let page = Page::new_embedded(alloc.clone()?, &bytes, &settings)?;
+            let page = Page::new_embedded(alloc.clone()?, &bytes, None, &settings)?;
             print_calls(alloc, &page, out)
         }
     }

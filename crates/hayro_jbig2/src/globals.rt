@@ -1,0 +1,99 @@
+//! Segments that several pages share.
+ghost use Rattle.std.specs.Prelude.{Ok};
+ghost use Rattle.jbig2_base.specs.Answer.{Gives};
+ghost use Rattle.jbig2_base.specs.SegmentViews.{part_view, parts};
+ghost use Rattle.hayro_jbig2.specs.Globals.{with_name, named_by, named, globals_at};
+ghost use Rattle.hayro_jbig2.specs.Page.{no_names};
+
+use crate::context::StoredTable;
+use crate::drawing::extension;
+use crate::settings::DecodeSettings;
+use jbig2_base::error::{DecodeError, Result};
+use jbig2_base::file::parse_segments_sequential;
+use jbig2_base::reader::Reader;
+use jbig2_base::segment::{Segment, SegmentType};
+use jbig2_base::sort::sort_segments;
+use jbig2_coder::huffman_table::HuffmanTable;
+use std::alloc::Allocator;
+use std::marker::Model;
+
+/// Decoded segments that several pages share: what their segments may refer to by a number
+/// (T.88, 7.3).
+#[derive(Drop)]
+pub struct Globals<A: Allocator> {
+    alloc: A,
+    tables: Vec<StoredTable<A>, A>,
+}
+
+impl<A: Allocator> Model for Globals<A> {
+    ghost use Rattle.hayro_jbig2.specs.Page.{Names};
+    ghost use Rattle.hayro_jbig2.specs.PageViews.{stored_codes};
+
+    ghost Value = { Names };
+
+    ghost view = { λ globals. record { codes = stored_codes globals.tables.items } };
+}
+
+impl<A: Allocator + Clone> Globals<A> {
+    /// The globals whose segments `bytes` hold, one behind the other, without a file header.
+    ///
+    /// Dictionaries, tables and extensions are decoded in the order of their numbers, and no other
+    /// segment. Refused by the first fault of reading the segments, else of decoding them.
+    #[tactic(auto, unfolding(crate::specs::Globals::globals_at))]
+    pub fn new(alloc: A, bytes: &[u8], settings: &DecodeSettings) -> Result<Globals<A>>
+        ensures { Gives (λ globals. globals) result (globals_at settings.now.strict bytes.now) }
+    {
+        let strict = settings.strict;
+        let mut reader = Reader::new(bytes);
+        let mut segments = parse_segments_sequential(alloc.clone()?, &mut reader, strict)?;
+        sort_segments(&mut segments)?;
+        Globals::from_segments(alloc, strict, &segments)
+    }
+
+    pub(crate) fn from_segments<S: Allocator>(
+        alloc: A,
+        strict: bool,
+        segments: &[Segment<'_, S>],
+    ) -> Result<Globals<A>>
+        ensures { Gives (λ globals. globals) result (named strict (parts segments.now) no_names) }
+    {
+        let mut globals = Globals {
+            tables: Vec::new(alloc.clone()?),
+            alloc,
+        };
+        for segment in segments {
+            match globals.add_segment(strict, segment) {
+                Ok(()) => {}
+                Err(error) => return Err(error),
+            }
+        }
+        Ok(globals)
+    }
+
+    fn add_segment<S: Allocator>(&mut self, strict: bool, segment: &Segment<'_, S>) -> Result<()>
+        ensures { Gives (λ _. self.new) result (named_by strict (part_view segment.now) self.old) }
+    {
+        match segment.header.segment_type {
+            SegmentType::SymbolDictionary | SegmentType::PatternDictionary => {
+                Err(DecodeError::Unsupported)
+            }
+            SegmentType::Tables => self.add_table(segment),
+            SegmentType::Extension => extension(strict, segment.bytes),
+            _ => Ok(()),
+        }
+    }
+
+    /// A custom table (T.88, 7.4.13 and B.2), kept for segments that refer to it.
+    #[tactic(auto, unfolding(crate::specs::Globals::with_name))]
+    fn add_table<S: Allocator>(&mut self, segment: &Segment<'_, S>) -> Result<()>
+        ensures { Gives (λ _. self.new) result (with_name (part_view segment.now) self.old) }
+    {
+        let mut reader = Reader::new(segment.bytes);
+        let table = HuffmanTable::read_custom(self.alloc.clone()?, &mut reader)?;
+        self.tables.push(StoredTable {
+            segment_number: segment.header.segment_number,
+            table,
+        })?;
+        Ok(())
+    }
+}
