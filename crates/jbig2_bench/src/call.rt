@@ -14,5 +14,26 @@ pub enum Call {
 /// One row of eight white pixels.
 pub const WHITE: &[Call] = &[Call::Chunk(false, 1), Call::Line];
 
+/// Two rows of eight white pixels.
+pub const WHITE_TWICE: &[Call] = &[
+    Call::Chunk(false, 1),
+    Call::Line,
+    Call::Chunk(false, 1),
+    Call::Line,
+];
+
 /// One row of eight black pixels.
 pub const BLACK: &[Call] = &[Call::Chunk(true, 1), Call::Line];
+
+/// One row of a black pixel and seven white ones.
+pub const DOT: &[Call] = &[
+    Call::Pixel(true),
+    Call::Pixel(false),
+    Call::Pixel(false),
+    Call::Pixel(false),
+    Call::Pixel(false),
+    Call::Pixel(false),
+    Call::Pixel(false),
+    Call::Pixel(false),
+    Call::Line,
+];

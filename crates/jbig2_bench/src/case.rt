@@ -1,5 +1,6 @@
 //! The cases of the rows, and how each is run.
 use crate::call::Call;
+use crate::combination::stays_white;
 use crate::spelling::spelled;
 use crate::watcher::Watcher;
 use hayro_jbig2::parts::reader::Reader;
@@ -43,12 +44,8 @@ pub struct Header {
 
 /// One thing that has to hold. Bytes are spelled as `spelling::spelled` reads them.
 pub enum Case {
-    /// An embedded page.
-    Embedded {
-        modes: Modes,
-        bytes: &'static str,
-        answer: Answer,
-    },
+    /// What comes of an embedded page in these modes.
+    Page(Modes, &'static str, Answer),
     /// The number, the width and the height of an embedded page.
     Size {
         bytes: &'static str,
@@ -61,6 +58,8 @@ pub enum Case {
         bytes: &'static str,
         header: Header,
     },
+    /// A white bitmap of 8 by 8 that a black one, combined by Or at this place, leaves white.
+    StaysWhite(i32, i32),
 }
 
 impl Modes {
@@ -93,11 +92,7 @@ fn case_holds<A: Allocator + Clone>(
     context: &mut DecoderContext<A>,
 ) -> Result<bool> {
     match case {
-        Case::Embedded {
-            modes,
-            bytes,
-            answer,
-        } => {
+        Case::Page(modes, bytes, answer) => {
             let Some(bytes) = spelled(alloc.clone()?, bytes)? else {
                 return Ok(false);
             };
@@ -133,6 +128,7 @@ fn case_holds<A: Allocator + Clone>(
             };
             header_holds(alloc, &bytes, header)
         }
+        Case::StaysWhite(x, y) => stays_white(alloc, *x, *y),
     }
 }
 

@@ -3,6 +3,7 @@
 
 mod call;
 mod case;
+mod combination;
 mod piece;
 mod program;
 mod rows;

@@ -19,4 +19,14 @@ pub const PIECES: &[Piece] = &[
         name: "P",
         bytes: "00000000300001000000130000000800000001 00*11",
     },
+    // An immediate generic region of 1 by 1 without coded bytes.
+    Piece {
+        name: "G",
+        bytes: "00000001260001 0000001A 00000001 00000001 00*9 00 03FFFDFF02FEFEFE",
+    },
+    // The same of 8 by 1.
+    Piece {
+        name: "G8",
+        bytes: "00000001260001 0000001A 00000008 00000001 00*9 00 03FFFDFF02FEFEFE",
+    },
 ];

@@ -1,4 +1,6 @@
 //! The runs of the program.
+ghost use Rattle.std.specs.Prelude.{◌≡◌, ◌↔◌, ◌<◌, length};
+
 use crate::case::row_holds;
 use crate::rows::FAMILIES;
 use hayro_jbig2::{DecodeError, DecoderContext};
@@ -15,7 +17,9 @@ pub fn run<A: Allocator + Clone, O: Write, E: Write>(
     words: &[&str],
     out: &mut O,
     err: &mut E,
-) -> u8 {
+) -> u8
+    ensures usage { (result ≡ 2) ↔ (0 < length words.now) }
+{
     if !words.is_empty() {
         return refused_words(err);
     }
@@ -34,12 +38,16 @@ pub fn unstarted<E: Write>(refused: bool, err: &mut E) -> u8 {
     refused_words(err)
 }
 
-fn refused_words<E: Write>(err: &mut E) -> u8 {
+fn refused_words<E: Write>(err: &mut E) -> u8
+    ensures { result ≡ 2 }
+{
     let _ = writeln!(err, "usage: jbig2-bench [lists]");
     2
 }
 
-fn refused_memory<E: Write>(err: &mut E) -> u8 {
+fn refused_memory<E: Write>(err: &mut E) -> u8
+    ensures { result ≡ 1 }
+{
     let _ = writeln!(err, "error: out of memory");
     1
 }

@@ -1,8 +1,10 @@
 //! The rows, one file for each of their families.
 pub mod framing;
+pub mod generic;
+pub mod regions;
 pub mod worked;
 
 use crate::case::Row;
 
 /// All rows in the order in which they are run.
-pub const FAMILIES: &[&[Row]] = &[worked::ROWS, framing::ROWS];
+pub const FAMILIES: &[&[Row]] = &[worked::ROWS, framing::ROWS, regions::ROWS, generic::ROWS];

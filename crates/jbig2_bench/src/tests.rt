@@ -79,12 +79,7 @@ fn each_call_may_be_refused(rt: HostRuntime) {
     for rows in FAMILIES {
         for row in *rows {
             for case in row.cases {
-                if let Case::Embedded {
-                    modes,
-                    bytes,
-                    answer: Answer::Calls(calls),
-                } = case
-                {
+                if let Case::Page(modes, bytes, Answer::Calls(calls)) = case {
                     let Ok(Some(bytes)) = spelled(alloc, bytes) else {
                         return;
                     };

@@ -1,6 +1,9 @@
 //! The rows 1 to 19.
-use crate::call::{BLACK, Call, WHITE};
-use crate::case::{Answer, Case, Header, Modes, Row};
+use crate::call::{BLACK, Call, DOT, WHITE, WHITE_TWICE};
+use crate::case::Answer::{Calls, Refused};
+use crate::case::Case::Page;
+use crate::case::Modes::{Both, Lenient, Strict};
+use crate::case::{Case, Header, Row};
 use hayro_jbig2::parts::segment::SegmentType;
 use hayro_jbig2::{DecodeError, FormatError, OverflowError, ParseError};
 
@@ -41,25 +44,17 @@ pub const ROWS: &[Row] = &[
                 width: 8,
                 height: 1,
             },
-            Case::Embedded {
-                modes: Modes::Both,
-                bytes: "P",
-                answer: Answer::Calls(WHITE),
-            },
-            Case::Embedded {
-                modes: Modes::Both,
-                bytes: "P@27=04",
-                answer: Answer::Calls(BLACK),
-            },
-            Case::Embedded {
-                modes: Modes::Both,
-                bytes: "P@11=00000009",
-                answer: Answer::Calls(&[Call::Chunk(false, 1), Call::Pixel(false), Call::Line]),
-            },
-            Case::Embedded {
-                modes: Modes::Both,
-                bytes: "P@11=0000FFFF",
-                answer: Answer::Calls(&[
+            Page(Both, "P", Calls(WHITE)),
+            Page(Both, "P@27=04", Calls(BLACK)),
+            Page(
+                Both,
+                "P@11=00000009",
+                Calls(&[Call::Chunk(false, 1), Call::Pixel(false), Call::Line]),
+            ),
+            Page(
+                Both,
+                "P@11=0000FFFF",
+                Calls(&[
                     Call::Chunk(false, 8191),
                     Call::Pixel(false),
                     Call::Pixel(false),
@@ -70,52 +65,57 @@ pub const ROWS: &[Row] = &[
                     Call::Pixel(false),
                     Call::Line,
                 ]),
-            },
-            Case::Embedded {
-                modes: Modes::Both,
-                bytes: "P@11=00010000",
-                answer: Answer::Refused(DecodeError::Overflow(OverflowError::BitmapDimension)),
-            },
-            Case::Embedded {
-                modes: Modes::Both,
-                bytes: "P@11=00000000",
-                answer: Answer::Refused(DecodeError::Format(FormatError::EmptyPage)),
-            },
+            ),
+            Page(
+                Both,
+                "P@11=00010000",
+                Refused(DecodeError::Overflow(OverflowError::BitmapDimension)),
+            ),
+            Page(
+                Both,
+                "P@11=00000000",
+                Refused(DecodeError::Format(FormatError::EmptyPage)),
+            ),
         ],
     },
     Row {
         name: "6",
         cases: &[
-            Case::Embedded {
-                modes: Modes::Both,
-                bytes: "P@15=FFFFFFFF",
-                answer: Answer::Refused(DecodeError::Format(FormatError::UnknownPageHeight)),
-            },
-            Case::Embedded {
-                modes: Modes::Both,
-                bytes: "P@15=FFFFFFFF 00000001 32 00 01 00000004 00000001",
-                answer: Answer::Calls(&[
-                    Call::Chunk(false, 1),
-                    Call::Line,
-                    Call::Chunk(false, 1),
-                    Call::Line,
-                ]),
-            },
+            Page(
+                Both,
+                "P@15=FFFFFFFF",
+                Refused(DecodeError::Format(FormatError::UnknownPageHeight)),
+            ),
+            Page(
+                Both,
+                "P@15=FFFFFFFF 00000001 32 00 01 00000004 00000001",
+                Calls(WHITE_TWICE),
+            ),
+        ],
+    },
+    Row {
+        name: "7",
+        cases: &[
+            Page(Both, "P G", Calls(DOT)),
+            Page(Both, "P G@19=FFFFFFFF", Calls(WHITE)),
         ],
     },
     Row {
         name: "14",
         cases: &[
-            Case::Embedded {
-                modes: Modes::Strict,
-                bytes: "P 00000001 26",
-                answer: Answer::Refused(DecodeError::Parse(ParseError::UnexpectedEof)),
-            },
-            Case::Embedded {
-                modes: Modes::Lenient,
-                bytes: "P 00000001 26",
-                answer: Answer::Calls(WHITE),
-            },
+            Page(
+                Strict,
+                "P 00000001 26",
+                Refused(DecodeError::Parse(ParseError::UnexpectedEof)),
+            ),
+            Page(Lenient, "P 00000001 26", Calls(WHITE)),
+        ],
+    },
+    Row {
+        name: "18",
+        cases: &[
+            Case::StaysWhite(2147483646, 0),
+            Case::StaysWhite(0, 2147483646),
         ],
     },
 ];
