@@ -1,10 +1,10 @@
 -- Worked files: what the definition says of them, computed.
-use Rattle.std.proofs.Common.{◌≡◌, ℕ, ◌==◌, List, [], ◌∷◌, ◌++◌, length, take, Option, Some, None, Result, Ok, Err, Bool, true, false, refl}
+use Rattle.std.proofs.Common.{◌≡◌, ℕ, List, [], ◌∷◌, ◌++◌, length, take, Some, Result, Ok, Err, Bool, true, false, refl}
 use Rattle.std.specs.List.{list_all, range_with_len}
 use Rattle.jbig2_base.specs.Fields.{end_of_bytes}
 use Rattle.jbig2_base.specs.File.{file_at, headers_in}
 use Rattle.jbig2_base.specs.FileHeader.{file_header_at, identification}
-use Rattle.jbig2_base.specs.Segment.{Header, Part, type_of, count_at, referred_at, header_at, segment_at}
+use Rattle.jbig2_base.specs.Segment.{Part, type_of, count_at, referred_at, header_at, segment_at}
 use Rattle.jbig2_base.specs.Sequential.{segments_in, is_end_of_bytes}
 use Rattle.jbig2_base.specs.Spelled.{Spelled, AreSpelled, Spells}
 use Rattle.jbig2_base.specs.declared.error.DecodeError.{DecodeError}

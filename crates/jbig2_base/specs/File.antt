@@ -1,5 +1,5 @@
 -- Files: all headers, then all data (T.88, D.2), and the segments of a file in either organisation.
-use Rattle.std.specs.Prelude.{◌≡◌, ℕ, suc, zero, Bool, true, false, ◌==◌, List, [], ◌∷◌, ◌++◌, length, map, Option, Some, Result, Ok, Err, if◌then◌else◌}
+use Rattle.std.specs.Prelude.{ℕ, suc, zero, Bool, ◌==◌, List, [], ◌∷◌, length, Result, Ok, if◌then◌else◌}
 use Rattle.jbig2_base.specs.Answer.{◌>>=◌}
 use Rattle.jbig2_base.specs.FileHeader.{file_header_at}
 use Rattle.jbig2_base.specs.Segment.{Header, Part, header_at, segment_data_at}

@@ -1,5 +1,5 @@
 -- The header of a file (T.88, D.4).
-use Rattle.std.specs.Prelude.{ℕ, ◌/◌, ◌%◌, ◌==◌, Bool, true, false, not, List, [], ◌∷◌, Option, Some, None, Result, Ok, Err, if◌then◌else◌}
+use Rattle.std.specs.Prelude.{ℕ, ◌/◌, ◌%◌, ◌==◌, Bool, true, false, not, List, [], ◌∷◌, Option, Some, None, Result, Ok, if◌then◌else◌}
 use Rattle.std.specs.Int.{w8, w32}
 use Rattle.std.specs.Str.{bytes_eq}
 use Rattle.jbig2_base.specs.Answer.{◌>>=◌, refuse_if}

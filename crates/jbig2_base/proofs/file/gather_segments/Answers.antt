@@ -1,6 +1,6 @@
-use Rattle.std.proofs.Common.{◌≡◌, ◌+◌, length, arith, ◌++◌, ◌∷◌, [], List, Ok, inr, sym, ◌∙◌, ap}
+use Rattle.std.proofs.Common.{◌≡◌, length, arith, [], List, inr, sym, ◌∙◌, ap}
 use Rattle.std.proofs.lemmas.List.{map_push, nil_from_length}
-use Rattle.std.specs.Vec.Iter.{into_iter_items, into_iter_len}
+use Rattle.std.specs.Vec.Iter.{into_iter_items}
 use Rattle.jbig2_base.specs.File.{gathered}
 use Rattle.jbig2_base.specs.Segment.{Part}
 use Rattle.jbig2_base.specs.SegmentViews.{header_views, header_view, parts, part_view}

@@ -1,4 +1,4 @@
-use Rattle.std.proofs.Common.{◌≡◌, ℕ, ◌<◌, List, ◌++◌, ◌∷◌, [], length, Result, Ok, Err, Bool, true, false, ⊎_elim, inl, inr, ◌⊎◌, refl, sym, ◌∙◌, ap, arith, rules}
+use Rattle.std.proofs.Common.{◌≡◌, ℕ, ◌<◌, List, ◌++◌, ◌∷◌, [], length, Result, Ok, Err, Bool, true, false, ⊎_elim, inl, inr, ◌⊎◌, refl, sym, ◌∙◌, ap, arith}
 use Rattle.std.proofs.lemmas.Bool.{eqb-false, eqb-true, false≢true}
 use Rattle.std.proofs.lemmas.List.{map_push}
 use Rattle.jbig2_base.specs.Segment.{Part, segment_at}
@@ -7,7 +7,7 @@ use Rattle.jbig2_base.specs.Sequential.{sequential, is_cut_off}
 use Rattle.jbig2_base.specs.declared.error.DecodeError.{DecodeError}
 use Rattle.jbig2_base.specs.declared.error.DecodeError.TheVariants.{OutOfMemory}
 use Rattle.jbig2_base.specs.declared.segment.Segment.{Segment}
-use Rattle.jbig2_base.proofs.Sequential.{Reads, Reads-as, begins, next, last, drops, gives_up, ends}
+use Rattle.jbig2_base.proofs.Sequential.{Reads-as, begins, next, last, drops, gives_up, ends}
 use Rattle.jbig2_base.proofs.file.parse_segments_sequential.Goals as goal
 
 pub reading-init : goal.reading-init

@@ -1,4 +1,4 @@
-use Rattle.std.proofs.Common.{◌≡◌, ℕ, List, length}
+use Rattle.std.proofs.Common.{◌≡◌, length}
 use Rattle.jbig2_base.specs.SegmentViews.{parts}
 use Rattle.jbig2_base.specs.Sequential.{sequential}
 use Rattle.jbig2_base.proofs.Sequential.{Reads}
