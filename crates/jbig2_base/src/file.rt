@@ -167,10 +167,12 @@ fn read_file<'a, A: Allocator + Clone>(
     Ok(File { header, segments })
 }
 
-/// The file that `bytes` hold.
+/// The file that `bytes` hold (T.88, Annex D).
 ///
-/// The answer does not depend on the organization: where the bytes spell segments of known length
-/// that the mode accepts, the last one the only end of file, those are its segments.
+/// Answers the first error of the header (`FormatError`), of a segment (`SegmentError`, or
+/// `ParseError` where the bytes end), or `DecodeError::OutOfMemory`. Either organization gives the
+/// same segments: where the bytes spell some that the mode accepts, each of known length and the
+/// last one the only end of file, the file has those.
 pub fn parse_file<'a, A: Allocator + Clone>(
     alloc: A,
     bytes: &'a [u8],
@@ -186,39 +188,49 @@ pub fn parse_file<'a, A: Allocator + Clone>(
 #[cfg(test)]
 mod tests {
     use super::*;
-    use std::test::Fail;
+
+    /// A file's header, and the data of its segments one behind the other.
+    fn header_and_data<A: Allocator + Clone>(
+        alloc: A,
+        bytes: &[u8],
+    ) -> Result<(FileHeader, Vec<u8, A>)> {
+        let file = parse_file(alloc.clone()?, bytes, true)?;
+        let mut all = Vec::new(alloc);
+        for segment in &file.segments {
+            all.extend_from_slice(segment.bytes)?;
+        }
+        Ok((file.header, all))
+    }
 
     #[test]
-    fn header_and_data_by_turns(rt: HostRuntime) -> std::result::Result<(), Fail> {
+    fn header_and_data_by_turns(rt: HostRuntime) {
         let bytes = [
             0x97, 0x4A, 0x42, 0x32, 0x0D, 0x0A, 0x1A, 0x0A, 1, 0, 0, 0, 4, 0, 0, 0, 5, 62, 0, 1, 0,
             0, 0, 2, 7, 8, 0, 0, 0, 3, 62, 0, 1, 0, 0, 0, 1, 9, 0, 0, 0, 6, 51, 0, 0, 0, 0, 0, 0,
         ];
-        let file = parse_file(rt.alloc(), bytes.as_slice(), true)?;
-        assert_eq!(rt; file.header.organization, FileOrganization::Sequential);
-        assert_eq!(rt; file.header.number_of_pages, Some(4));
-        let mut gathered = Vec::new(rt.alloc());
-        for segment in &file.segments {
-            gathered.extend_from_slice(segment.bytes)?;
+        match header_and_data(rt.alloc(), bytes.as_slice()) {
+            Ok((header, all)) => {
+                assert_eq!(rt; header.organization, FileOrganization::Sequential);
+                assert_eq!(rt; header.number_of_pages, Some(4));
+                assert_eq!(rt; all.as_slice(), [9, 7, 8].as_slice());
+            }
+            Err(error) => assert!(rt; error == DecodeError::OutOfMemory),
         }
-        assert_eq!(rt; gathered.as_slice(), [9, 7, 8].as_slice());
-        Ok(())
     }
 
     #[test]
-    fn headers_before_data(rt: HostRuntime) -> std::result::Result<(), Fail> {
+    fn headers_before_data(rt: HostRuntime) {
         let bytes = [
             0x97, 0x4A, 0x42, 0x32, 0x0D, 0x0A, 0x1A, 0x0A, 2, 0, 0, 0, 5, 62, 0, 1, 0, 0, 0, 2, 0,
             0, 0, 3, 62, 0, 1, 0, 0, 0, 1, 0, 0, 0, 6, 51, 0, 0, 0, 0, 0, 0, 7, 8, 9,
         ];
-        let file = parse_file(rt.alloc(), bytes.as_slice(), true)?;
-        assert_eq!(rt; file.header.organization, FileOrganization::RandomAccess);
-        assert_eq!(rt; file.header.number_of_pages, None);
-        let mut gathered = Vec::new(rt.alloc());
-        for segment in &file.segments {
-            gathered.extend_from_slice(segment.bytes)?;
+        match header_and_data(rt.alloc(), bytes.as_slice()) {
+            Ok((header, all)) => {
+                assert_eq!(rt; header.organization, FileOrganization::RandomAccess);
+                assert_eq!(rt; header.number_of_pages, None);
+                assert_eq!(rt; all.as_slice(), [9, 7, 8].as_slice());
+            }
+            Err(error) => assert!(rt; error == DecodeError::OutOfMemory),
         }
-        assert_eq!(rt; gathered.as_slice(), [9, 7, 8].as_slice());
-        Ok(())
     }
 }
