@@ -19,7 +19,7 @@ use Rattle.jbig2_base.specs.declared.segment.SegmentType.TheVariants as types
 use Rattle.jbig2_coder.specs.CustomTable.{custom_table}
 use Rattle.jbig2_coder.specs.PrefixCode.{Member}
 use Rattle.jbig2_region.specs.Generic.{PlacedRegion, generic_decoded}
-use Rattle.jbig2_region.specs.GenericHeader.{GenericHeader, generic_header_at}
+use Rattle.jbig2_region.specs.GenericHeader.{generic_header_at}
 
 -- An intermediate region, kept under its segment's number.
 pub record Stored : Type 0 where
@@ -70,11 +70,6 @@ generic_at unknown_length strict bytes = do
   header ← generic_header_at unknown_length strict bytes
   generic_decoded header.0
 
--- A header that asks for MMR, which is not decoded yet: no mode passes that over.
-abbrev pub asks_for_mmr : Result (GenericHeader × List ℕ) DecodeError → Bool
-asks_for_mmr (Ok header) = header.0.mmr
-asks_for_mmr (Err e) = false
-
 -- An immediate region is combined with the page at its place, read as two signed numbers (7.4.1). Lenient reading
 -- passes over one that fails, which leaves the page as it was and counts as a region that came before.
 abbrev pub immediate : Bool → Drawing → Result PlacedRegion DecodeError → Result Drawing DecodeError
@@ -82,9 +77,7 @@ immediate strict d (Ok r) = Ok (record d { grid = combined r.combination_operato
 immediate strict d (Err e) = if strict then Err e else Ok (record d { untouched = false })
 
 unfoldable pub immediate_generic : Bool → Part → Drawing → Result Drawing DecodeError
-immediate_generic strict p d = do
-  carried ← refuse_if (asks_for_mmr (generic_header_at (is_none p.header.data_length) strict p.bytes)) Unsupported
-  immediate strict d (generic_at (is_none p.header.data_length) strict p.bytes)
+immediate_generic strict p d = immediate strict d (generic_at (is_none p.header.data_length) strict p.bytes)
 
 -- An intermediate region is kept. Of unknown length it is no special case: the row count stays in its data.
 unfoldable pub intermediate_generic : Bool → Part → Drawing → Result Drawing DecodeError

@@ -3,8 +3,7 @@ ghost use Rattle.std.specs.Prelude.{◌≡◌, is_none, Ok};
 ghost use Rattle.jbig2_base.specs.Answer.{Answers, Gives};
 ghost use Rattle.jbig2_base.specs.SegmentViews.{part_view, parts};
 ghost use Rattle.jbig2_region.specs.Generic.{PlacedRegion, region_view};
-ghost use Rattle.jbig2_region.specs.GenericHeader.{generic_header_at};
-ghost use Rattle.hayro_jbig2.specs.Page.{Drawing, extension, ends_page, generic_at, asks_for_mmr, immediate, immediate_generic, intermediate_generic, with_code, segment_on, drawn};
+ghost use Rattle.hayro_jbig2.specs.Page.{Drawing, extension, ends_page, generic_at, immediate, immediate_generic, intermediate_generic, with_code, segment_on, drawn};
 
 use crate::context::DecoderContext;
 use jbig2_base::bitmap::steps::Steps;
@@ -60,17 +59,6 @@ fn decode_generic<A: Allocator + Clone, L: Ledger>(
     )
 }
 
-/// Whether a header asks for MMR, which is not decoded yet.
-fn asks_for_mmr(unknown_length: bool, strict: bool, bytes: &[u8]) -> bool
-    ensures { result ≡ asks_for_mmr (generic_header_at unknown_length strict bytes.now) }
-{
-    let mut reader = Reader::new(bytes);
-    match generic::parse(&mut reader, unknown_length, strict) {
-        Ok(header) => header.mmr,
-        Err(_) => false,
-    }
-}
-
 /// Combines an immediate region with the page. Lenient reading passes over one that failed, but
 /// never over want of memory.
 fn finish_immediate<A: Allocator, L: Ledger>(
@@ -107,9 +95,6 @@ fn draw_immediate_generic<S: Allocator, A: Allocator + Clone, L: Ledger>(
     ensures { Gives (λ _. context.new) result (immediate_generic strict (part_view segment.now) context.old) }
 {
     let unknown_length = segment.header.data_length.is_none();
-    if asks_for_mmr(unknown_length, strict, segment.bytes) {
-        return Err(DecodeError::Unsupported);
-    }
     let decoded = decode_generic(unknown_length, strict, segment.bytes, context, steps);
     finish_immediate(strict, decoded, context, steps)
 }

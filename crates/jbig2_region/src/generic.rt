@@ -7,8 +7,8 @@ ghost use Rattle.jbig2_region.specs.Generic.{contexts_after, generic_answer, gen
 ghost use Rattle.jbig2_region.specs.GenericHeader.{header_view, is_earlier, one_pixel, signed_byte_at, adaptive_pixel_at, adaptive_pixels_at, template_pixels_at, rows_at, generic_header_at, FitsTemplate, IsParsed};
 
 use crate::generic_coding::decode_coded;
-use crate::raster::fresh_contexts;
 use crate::mmr;
+use crate::raster::fresh_contexts;
 use crate::region_info::{RegionSegmentInfo, parse_region_segment_info};
 use crate::template::{AdaptiveTemplatePixel, GenericTemplatePixels, Template};
 use jbig2_base::bitmap::Bitmap;
