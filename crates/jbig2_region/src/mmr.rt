@@ -8,8 +8,6 @@ mod bits;
 mod codes;
 mod row;
 mod span;
-#[cfg(test)]
-mod tests;
 
 use crate::mmr::bits::CodeReader;
 use crate::mmr::row::read_row;
@@ -19,31 +17,31 @@ use jbig2_base::error::{DecodeError, RegionError, Result};
 use std::alloc::Allocator;
 use std::sync::ledger::Ledger;
 
-/// Decodes rows onto a white bitmap, and answers how many bytes of `data` they take, a begun one whole.
+/// Decodes rows onto a white bitmap, and answers how many of `bytes` they take, a begun one whole.
 ///
 /// A fault in the data, or an end of block before the last row, is refused in strict mode
 /// (`RegionError::InvalidMmrData`). Otherwise the whole rows before it stay and the rest is white; a
 /// fault then takes all bytes. No memory is taken.
 pub fn decode<A: Allocator, L: Ledger>(
     bitmap: &mut Bitmap<A>,
-    data: &[u8],
+    bytes: &[u8],
     strict: bool,
     steps: &mut Steps<L>,
 ) -> Result<usize>
     requires { bitmap.old ≡ blank bitmap.old.width bitmap.old.height false }
-    ensures { Answers (λ used. record { grid = bitmap.new; used = used }) result (decoded strict bitmap.old.width bitmap.old.height data.now) }
+    ensures { Answers (λ used. record { grid = bitmap.new; used = used }) result (decoded strict bitmap.old.width bitmap.old.height bytes.now) }
 {
     let height = bitmap.height();
     if bitmap.width() == 0 || height == 0 {
         return Ok(0);
     }
-    let mut reader = CodeReader::new(data);
+    let mut reader = CodeReader::new(bytes);
     for y in 0..height {
         if reader.skip_end_of_block() {
             return missing_rows(strict, reader.bytes_used());
         }
         if !read_row(bitmap, y, &mut reader, steps) {
-            return missing_rows(strict, data.len());
+            return missing_rows(strict, bytes.len());
         }
     }
     reader.skip_end_of_block();

@@ -5,6 +5,6 @@ use Rattle.jbig2_region.proofs.mmr.decode.Given as goal
 
 abbrev pub invariant-loop-y : goal.invariant-loop-y
 invariant-loop-y g l = record {
-  reading : RowsReading l.fn.bitmap.width l.fn.bitmap.height l.y l.reader.left l.bitmap (rows_of l.fn.bitmap.width l.fn.bitmap.height l.data);
-  bytes : l.reader.bytes ≡ l.data;
+  reading : RowsReading l.fn.bitmap.width l.fn.bitmap.height l.y l.reader.left l.bitmap (rows_of l.fn.bitmap.width l.fn.bitmap.height l.bytes);
+  bytes : l.reader.bytes ≡ l.bytes;
 }
