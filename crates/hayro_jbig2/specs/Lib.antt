@@ -1,4 +1,5 @@
 pub mod Calls
+pub mod Files
 pub mod Globals
 pub mod Image
 pub mod Page

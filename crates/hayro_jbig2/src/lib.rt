@@ -8,6 +8,7 @@ pub mod calls;
 pub mod context;
 pub mod decoder;
 mod drawing;
+pub mod file;
 pub mod globals;
 mod image;
 pub mod page;
@@ -16,6 +17,7 @@ pub mod settings;
 
 pub use context::DecoderContext;
 pub use decoder::Decoder;
+pub use file::File;
 pub use globals::Globals;
 pub use jbig2_base::error::{
     DecodeError, FormatError, HuffmanError, OverflowError, ParseError, RegionError, Result,

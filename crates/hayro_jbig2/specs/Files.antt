@@ -1,0 +1,99 @@
+-- The pages of a file (T.88, 7.2.6 and 7.4.8), and what they share.
+use Rattle.std.specs.Prelude.{ℕ, ◌+◌, ◌==◌, Bool, true, false, not, ◌&&◌, ◌||◌, List, [], ◌∷◌, ◌++◌, length, filter, Option, Some, None, Result, Ok, Err, if◌then◌else◌}
+use Rattle.std.specs.List.{list_any}
+use Rattle.jbig2_base.specs.Answer.{◌>>=◌, refuse_if}
+use Rattle.jbig2_base.specs.File.{file_at}
+use Rattle.jbig2_base.specs.PageInfo.{sheet_of}
+use Rattle.jbig2_base.specs.Segment.{Header, Part}
+use Rattle.jbig2_base.specs.declared.error.DecodeError.{DecodeError}
+use Rattle.jbig2_base.specs.declared.error.DecodeError.TheVariants.{Format, Segment}
+use Rattle.jbig2_base.specs.declared.error.FormatError.TheVariants.{PageCountMismatch, InvalidEndOfPage}
+use Rattle.jbig2_base.specs.declared.error.SegmentError.TheVariants.{MissingPageAssociation}
+use Rattle.jbig2_base.specs.declared.page_info.Sheet.{Sheet}
+use Rattle.jbig2_base.specs.declared.segment.SegmentType.{SegmentType}
+use Rattle.jbig2_base.specs.declared.segment.SegmentType.TheVariants as types
+use Rattle.hayro_jbig2.specs.Globals.{named}
+use Rattle.hayro_jbig2.specs.Page.{Names, no_names, Leaf}
+
+-- A page in a file: what it begins as, and its segments in order.
+pub record Filed : Type 0 where
+  pub sheet : Sheet
+  pub parts : List Part
+
+-- A file: whether it is read strictly, its pages, and the names of its globals or the error that decoding them gave.
+pub record Book : Type 0 where
+  pub strict : Bool
+  pub pages : List Filed
+  pub globals : Result Names DecodeError
+
+-- What can't stand outside of a page: regions, page information, and the ends of pages and stripes (7.3.1).
+abbrev pub needs_page : SegmentType → Bool
+needs_page types.SymbolDictionary = false
+needs_page types.PatternDictionary = false
+needs_page types.EndOfFile = false
+needs_page types.Profiles = false
+needs_page types.Tables = false
+needs_page types.ColourPalette = false
+needs_page types.Extension = false
+needs_page types.Reserved = false
+needs_page _ = true
+
+-- Association 0 is that of no page (7.2.6); strict reading refuses it where a page is needed.
+abbrev pub lacks_page : Bool → Header → Bool
+lacks_page strict h = strict && h.page_association == 0 && needs_page h.segment_type
+
+abbrev pub associated : Bool → List Part → Result (Unit {0}) DecodeError
+associated strict [] = Ok tt
+associated strict (p ∷ ps) = if lacks_page strict p.header then Err (Segment MissingPageAssociation) else associated strict ps
+
+abbrev pub is_known : ℕ → List ℕ → Bool
+is_known n ns = n == 0 || list_any (λ m. m == n) ns
+
+abbrev pub with_number : ℕ → List ℕ → List ℕ
+with_number n ns = if is_known n ns then ns else ns ++ n ∷ []
+
+-- The pages' numbers behind these, in the order in which they first occur.
+abbrev pub numbers_after : List ℕ → List Part → List ℕ
+numbers_after ns [] = ns
+numbers_after ns (p ∷ ps) = numbers_after (with_number p.header.page_association ns) ps
+
+-- the segments with this association
+abbrev pub of_page : ℕ → List Part → List Part
+of_page n ps = filter (λ p. p.header.page_association == n) ps
+
+abbrev pub is_end_of_page : SegmentType → Bool
+is_end_of_page types.EndOfPage = true
+is_end_of_page _ = false
+
+abbrev pub ends_of : List Part → ℕ
+ends_of [] = 0
+ends_of (p ∷ ps) = (if is_end_of_page p.header.segment_type then 1 else 0) + ends_of ps
+
+-- The page with this number: strict reading wants one end of page (7.4.9).
+unfoldable pub filed_at : Bool → List Part → ℕ → Result Filed DecodeError
+filed_at strict ps n = do
+  ended ← refuse_if (strict && not (ends_of (of_page n ps) == 1)) (Format InvalidEndOfPage)
+  sheet ← sheet_of (of_page n ps)
+  Ok (record { sheet = sheet; parts = of_page n ps })
+
+-- the pages with these numbers, behind others
+abbrev pub filed_after : Bool → List Part → List Filed → List ℕ → Result (List Filed) DecodeError
+filed_after strict ps before [] = Ok before
+filed_after strict ps before (n ∷ ns) = filed_at strict ps n >>= λ page. filed_after strict ps (before ++ page ∷ []) ns
+
+-- a count of pages that the file's header tells (D.4.3)
+abbrev pub miscounts : Option ℕ → ℕ → Bool
+miscounts None n = false
+miscounts (Some told) n = not (told == n)
+
+-- A file's pages, and the names of the segments of no page.
+unfoldable pub book_at : Bool → List ℕ → Result Book DecodeError
+book_at strict bytes = do
+  file ← file_at strict bytes
+  known ← associated strict file.1
+  counted ← refuse_if (strict && miscounts file.0.number_of_pages (length (numbers_after [] file.1))) (Format PageCountMismatch)
+  pages ← filed_after strict file.1 [] (numbers_after [] file.1)
+  Ok (record { strict = strict; pages = pages; globals = named strict (of_page 0 file.1) no_names })
+
+abbrev pub leaf_of : Book → Filed → Leaf
+leaf_of book page = record { strict = book.strict; sheet = page.sheet; parts = page.parts; globals = book.globals }
