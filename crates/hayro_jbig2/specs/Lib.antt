@@ -4,4 +4,5 @@ pub mod Globals
 pub mod Image
 pub mod Page
 pub mod PageViews
+pub mod SegmentLists
 pub mod Sends

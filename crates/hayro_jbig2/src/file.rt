@@ -1,13 +1,15 @@
 //! Files of pages.
-ghost use Rattle.std.specs.Prelude.{◌≡◌, ◌==◌, Ok, [], ◌∷◌, ◌++◌, length};
+ghost use Rattle.std.specs.Prelude.{◌≡◌, ◌==◌, Ok, [], ◌∷◌, ◌++◌, length, option_map, slice_get};
 ghost use Rattle.std.specs.List.{list_any};
 ghost use Rattle.jbig2_base.specs.Answer.{Answers, Gives};
 ghost use Rattle.jbig2_base.specs.SegmentViews.{header_view, part_view, parts};
-ghost use Rattle.hayro_jbig2.specs.Files.{needs_page, lacks_page, associated, is_known, with_number, numbers_after, of_page, is_end_of_page, ends_of, filed_at, filed_after, miscounts, book_at};
+ghost use Rattle.hayro_jbig2.specs.Files.{needs_page, lacks_page, associated, is_known, with_number, numbers_after, of_page, is_end_of_page, ends_of, filed_at, filed_after, miscounts, book_at, leaf_of};
 ghost use Rattle.hayro_jbig2.specs.Globals.{named};
 ghost use Rattle.hayro_jbig2.specs.Page.{no_names};
+ghost use Rattle.hayro_jbig2.specs.PageViews.{kept_names};
 
 use crate::globals::Globals;
+use crate::page::Page;
 use crate::settings::DecodeSettings;
 use jbig2_base::error::{DecodeError, FormatError, Result, SegmentError};
 use jbig2_base::file::parse_file;
@@ -288,5 +290,30 @@ impl<'a, A: Allocator> File<'a, A> {
         ensures { result ≡ length self.now.pages }
     {
         self.pages.len()
+    }
+
+    /// What decoding the globals answered.
+    fn globals(&self) -> Result<Option<&Globals<A>>>
+        ensures { kept_names result ≡ self.now.globals }
+    {
+        match &self.globals {
+            Ok(globals) => Ok(Some(globals)),
+            Err(error) => Err(error.duplicate()),
+        }
+    }
+
+    /// The page at this index, from 0; None behind the last page.
+    pub fn page(&self, index: usize) -> Option<Page<'_, A>>
+        ensures { result ≡ option_map (leaf_of self.now) (slice_get self.now.pages index) }
+    {
+        match self.pages.get(index) {
+            Some(page) => Some(Page::of_file(
+                self.strict,
+                page.sheet,
+                &page.segments,
+                self.globals(),
+            )),
+            None => None,
+        }
     }
 }

@@ -8,7 +8,9 @@ ghost use Rattle.jbig2_base.specs.declared.bitmap.operator.CombinationOperator.{
 ghost use Rattle.hayro_jbig2.specs.Calls.{Spells, calls_of};
 ghost use Rattle.hayro_jbig2.specs.Image.{image_of_page};
 ghost use Rattle.hayro_jbig2.specs.Page.{Leaf, embedded, grid_of_page, draws_over};
-ghost use Rattle.hayro_jbig2.specs.PageViews.{given_names};
+ghost use Rattle.hayro_jbig2.specs.PageViews.{given_names, kept_names};
+ghost use Rattle.hayro_jbig2.specs.SegmentLists.{segment_list};
+ghost use Rattle.jbig2_base.specs.SegmentViews.{parts};
 ghost use Rattle.hayro_jbig2.specs.Sends.{Decodes};
 
 use crate::calls::push_bitmap;
@@ -29,13 +31,30 @@ use std::alloc::Allocator;
 use std::marker::{Brand, Model};
 use std::sync::ledger::{Blank, Ledger};
 
+/// The segments of a page in order: its own, or those that its file holds.
+#[derive(Drop)]
+enum PageSegments<'a, A: Allocator> {
+    Owned(Vec<Segment<'a, A>, A>),
+    Borrowed(&'a Vec<Segment<'a, A>, A>),
+}
+
+impl<'a, A: Allocator> PageSegments<'a, A> {
+    fn as_vec(&self) -> &Vec<Segment<'a, A>, A>
+        ensures { result.now.items ≡ segment_list self.now }
+    {
+        match self {
+            PageSegments::Owned(segments) => segments,
+            PageSegments::Borrowed(segments) => segments,
+        }
+    }
+}
+
 /// A page: its segments, and what it begins as. It borrows the bytes that it was read from.
 #[derive(Drop)]
 pub struct Page<'a, A: Allocator> {
-    alloc: A,
     strict: bool,
     sheet: Sheet,
-    segments: Vec<Segment<'a, A>, A>,
+    segments: PageSegments<'a, A>,
     globals: Result<Option<&'a Globals<A>>>,
 }
 
@@ -45,15 +64,35 @@ impl<'a, A: Allocator> Model for Page<'a, A> {
     ghost use Rattle.hayro_jbig2.specs.Calls.{Spells, calls_of};
     ghost use Rattle.hayro_jbig2.specs.Page.{Leaf};
     ghost use Rattle.hayro_jbig2.specs.PageViews.{kept_names};
+    ghost use Rattle.hayro_jbig2.specs.SegmentLists.{segment_list};
 
     ghost Value = { Leaf };
 
-    ghost view = { λ page. record { strict = page.strict; sheet = page.sheet; parts = parts page.segments.items; globals = kept_names page.globals } };
+    ghost view = { λ page. record { strict = page.strict; sheet = page.sheet; parts = parts (segment_list page.segments); globals = kept_names page.globals } };
 
     ghost invariant = { λ page. (page.sheet.width ≤ 65535) × (page.sheet.height ≤ 65535) };
 }
 
 impl<'a, A: Allocator> Page<'a, A> {
+    /// A page of a file, which holds its segments and keeps what decoding the globals answered.
+    pub(crate) fn of_file(
+        strict: bool,
+        sheet: Sheet,
+        segments: &'a Vec<Segment<'a, A>, A>,
+        globals: Result<Option<&'a Globals<A>>>,
+    ) -> Page<'a, A>
+        requires width { sheet.width ≤ 65535 }
+        requires height { sheet.height ≤ 65535 }
+        ensures { result ≡ record { strict = strict; sheet = sheet; parts = parts segments.now.items; globals = kept_names globals.entry } }
+    {
+        Page {
+            strict,
+            sheet,
+            segments: PageSegments::Borrowed(segments),
+            globals,
+        }
+    }
+
     /// The page's number, its association.
     pub fn number(&self) -> u32
         ensures { result ≡ self.now.sheet.number }
@@ -99,14 +138,13 @@ impl<'a, A: Allocator + Clone> Page<'a, A> {
     {
         let strict = settings.strict;
         let mut reader = Reader::new(bytes);
-        let mut segments = parse_segments_sequential(alloc.clone()?, &mut reader, strict)?;
+        let mut segments = parse_segments_sequential(alloc, &mut reader, strict)?;
         sort_segments(&mut segments)?;
         let sheet = Sheet::of_segments(&segments)?;
         Ok(Page {
-            alloc,
             strict,
             sheet,
-            segments,
+            segments: PageSegments::Owned(segments),
             globals: Ok(globals),
         })
     }
@@ -119,7 +157,7 @@ impl<'a, A: Allocator + Clone> Page<'a, A> {
         requires { D.refusals decoder.old < 2 ^ 64 - 1 }
         ensures { Decodes D.step (grid_of_page self.now) result (D.picture decoder.old) (D.refusals decoder.old) (D.picture decoder.new) (D.refusals decoder.new) }
     {
-        let mut context = DecoderContext::new(self.alloc.clone()?)?;
+        let mut context = DecoderContext::new(self.segments.as_vec().allocator().clone()?)?;
         self.decode_with(decoder, &mut context)
     }
 
@@ -145,7 +183,7 @@ impl<'a, A: Allocator + Clone> Page<'a, A> {
         ensures unchanged { OnErr result (buf.new ≡ buf.old) }
     {
         let mut steps = Steps::<L>::new(blank);
-        let mut context = DecoderContext::new(self.alloc.clone()?)?;
+        let mut context = DecoderContext::new(self.segments.as_vec().allocator().clone()?)?;
         self.draw_into(&mut context, &mut steps)?;
         write_image(&context.bitmap, &self.sheet, buf, &mut steps);
         Ok(())
@@ -204,6 +242,6 @@ impl<'a, A: Allocator> Page<'a, A> {
             return Err(error.duplicate());
         }
         context.begin(&self.sheet)?;
-        draw_segments(self.strict, &self.segments, context, steps)
+        draw_segments(self.strict, self.segments.as_vec(), context, steps)
     }
 }
