@@ -1,7 +1,9 @@
 //! The cases of the rows, and how each is run.
 use crate::call::Call;
+use crate::coder::{CoderCase, coder_holds};
 use crate::combination::stays_white;
 use crate::spelling::spelled;
+use crate::table::{TableCase, table_holds};
 use crate::watcher::Watcher;
 use hayro_jbig2::parts::reader::Reader;
 use hayro_jbig2::parts::segment::{SegmentType, parse_segment_header};
@@ -60,6 +62,10 @@ pub enum Case {
     },
     /// A white bitmap of 8 by 8 that a black one, combined by Or at this place, leaves white.
     StaysWhite(i32, i32),
+    /// The arithmetic coder.
+    Coder(CoderCase),
+    /// Tables of prefix codes.
+    Table(TableCase),
 }
 
 impl Modes {
@@ -128,6 +134,8 @@ fn case_holds<A: Allocator + Clone>(
             };
             header_holds(alloc, &bytes, header)
         }
+        Case::Coder(case) => coder_holds(alloc, case),
+        Case::Table(case) => table_holds(alloc, case),
         Case::StaysWhite(x, y) => stays_white(alloc, *x, *y),
     }
 }
@@ -170,7 +178,7 @@ pub fn page_holds<A: Allocator + Clone>(
 }
 
 /// Whether this error was expected. Want of memory is passed on.
-fn refused_as(error: DecodeError, expected: Option<&DecodeError>) -> Result<bool> {
+pub fn refused_as(error: DecodeError, expected: Option<&DecodeError>) -> Result<bool> {
     if expected == Some(&error) {
         return Ok(true);
     }

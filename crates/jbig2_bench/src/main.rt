@@ -3,11 +3,13 @@
 
 mod call;
 mod case;
+mod coder;
 mod combination;
 mod piece;
 mod program;
 mod rows;
 mod spelling;
+mod table;
 #[cfg(test)]
 mod tests;
 mod watcher;

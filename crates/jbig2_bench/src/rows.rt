@@ -1,4 +1,5 @@
 //! The rows, one file for each of their families.
+pub mod coding;
 pub mod framing;
 pub mod generic;
 pub mod regions;
@@ -7,4 +8,10 @@ pub mod worked;
 use crate::case::Row;
 
 /// All rows in the order in which they are run.
-pub const FAMILIES: &[&[Row]] = &[worked::ROWS, framing::ROWS, regions::ROWS, generic::ROWS];
+pub const FAMILIES: &[&[Row]] = &[
+    worked::ROWS,
+    framing::ROWS,
+    regions::ROWS,
+    generic::ROWS,
+    coding::ROWS,
+];

@@ -4,6 +4,9 @@ use crate::case::Answer::{Calls, Refused};
 use crate::case::Case::Page;
 use crate::case::Modes::{Both, Lenient, Strict};
 use crate::case::{Case, Header, Row};
+use crate::coder::{CoderCase, Reading};
+use crate::rows::coding::DECISIONS;
+use crate::table::TableCase;
 use hayro_jbig2::parts::segment::SegmentType;
 use hayro_jbig2::{DecodeError, FormatError, OverflowError, ParseError};
 
@@ -101,6 +104,44 @@ pub const ROWS: &[Row] = &[
         ],
     },
     Row {
+        name: "8",
+        cases: &[
+            // Behind the first decision A is A7FC. One quiet decision at row 1 would leave 73FB; taken, it
+            // is the likely symbol 1, and A is E7F6. At row 2 each quiet decision takes 1801.
+            Case::Coder(CoderCase::Readings {
+                bytes: "",
+                readings: &[
+                    Reading::Decision(1),
+                    Reading::Run(1, false),
+                    Reading::Decision(1),
+                    Reading::Run(5, false),
+                    Reading::Run(4, true),
+                ],
+            }),
+            Case::Coder(CoderCase::Readings {
+                bytes: "84C73BFC E1A14304 02200000 410DBB86 F4317FFF 88FF3747 1ADB6ADF FFAC",
+                readings: &[Reading::Decisions(DECISIONS)],
+            }),
+        ],
+    },
+    Row {
+        name: "9",
+        cases: &[
+            Case::Coder(CoderCase::Encoded {
+                list: &[],
+                bytes: "FF7FFFAC",
+            }),
+            Case::Coder(CoderCase::Encoded {
+                list: &[(0, false)],
+                bytes: "7FFFAC",
+            }),
+            Case::Coder(CoderCase::Encoded {
+                list: &[(0, true)],
+                bytes: "FF7FFFAC",
+            }),
+        ],
+    },
+    Row {
         name: "14",
         cases: &[
             Page(
@@ -109,6 +150,21 @@ pub const ROWS: &[Row] = &[
                 Refused(DecodeError::Parse(ParseError::UnexpectedEof)),
             ),
             Page(Lenient, "P 00000001 26", Calls(WHITE)),
+        ],
+    },
+    Row {
+        name: "15",
+        cases: &[
+            Case::Table(TableCase::StandardA {
+                bytes: "05",
+                from: 3,
+                answer: Ok(Some(5)),
+            }),
+            Case::Table(TableCase::StandardA {
+                bytes: "0203",
+                from: 6,
+                answer: Ok(Some(19)),
+            }),
         ],
     },
     Row {
