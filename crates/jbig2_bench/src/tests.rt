@@ -1,7 +1,7 @@
 //! What the rows alone don't show.
 //!
 //! `rt try --test --fail-alloc N` in this crate's folder runs these tests with the Nth request for memory
-//! refused; they hold for every N.
+//! refused; they are written to hold for each N.
 mod errors;
 
 use crate::call::{Call, WHITE};

@@ -1,7 +1,7 @@
 //! Runs of the program over memory.
 //!
 //! `rt try --test --fail-alloc N` in this crate's folder runs these tests with the Nth request for memory
-//! refused; they hold for every N.
+//! refused; they are written to hold for each N.
 use crate::program::run;
 use crate::request::file_word;
 use std::alloc::{AllocError, Global};

@@ -1,7 +1,7 @@
 //! Headers of generic regions, and regions without coded bytes.
 //!
 //! `rt try --test --fail-alloc N` in this crate's folder runs these tests with the Nth request for memory
-//! refused; they hold for every N.
+//! refused; they are written to hold for each N.
 ghost use Rattle.std.specs.Prelude.{◌≡◌};
 
 use crate::generic::{decode, decode_into, parse};
