@@ -2,6 +2,8 @@ pub mod Choices
 pub mod CustomReading
 pub mod Decisions
 pub mod Encoders
+pub mod InverseByteOut
+pub mod InverseBytes
 pub mod ListSteps
 pub mod PrefixBuilding
 pub mod PrefixDecoding
