@@ -4,6 +4,8 @@ pub mod Decisions
 pub mod Encoders
 pub mod InverseByteOut
 pub mod InverseBytes
+pub mod InverseKnows
+pub mod InverseShift
 pub mod ListSteps
 pub mod PrefixBuilding
 pub mod PrefixDecoding

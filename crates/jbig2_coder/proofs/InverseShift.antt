@@ -1,0 +1,84 @@
+-- RENORME, one shift at a time: what it keeps, and how knowledge goes back over it.
+use Rattle.std.proofs.Common.{◌≡◌, ℕ, zero, suc, ◌+◌, ◌-◌, ◌*◌, ◌^◌, ◌<◌, ◌≤◌, List, refl, sym, ap, ◌∙◌, arith, subst, ⊎_elim, ◌⊎◌, inl, inr, eqb, mul-le-mul_right}
+use Rattle.std.proofs.Math.Nat.{pow-suc}
+use Rattle.std.proofs.lemmas.Nat.{pow_pos, pow-add}
+use Rattle.std.proofs.lemmas.Bool.{cases_eq, cases_lt, cond-true, cond-false, eq-eqb, ne_eqb}
+use Rattle.jbig2_coder.specs.Encoder.{Writer, Coding, byte_out, shifted, renormed}
+use Rattle.jbig2_coder.proofs.Encoders.{renormed-step, renormed-stop}
+use Rattle.jbig2_coder.proofs.InverseBytes.{bits, value}
+use Rattle.jbig2_coder.proofs.InverseByteOut.{low, time, Room, Bounded, Put, put}
+use Rattle.jbig2_coder.proofs.InverseKnows.{Knows, Knows-scaled, Knows-put}
+
+-- what the end knows of the interval of length a from the low end of w
+abbrev pub KnowsAt : (ℕ → ℕ) → ℕ → ℕ → Writer → Type 0
+KnowsAt f m a w = Knows f m (low w) (low w + a) (time w) w.out
+
+-- k shifts, for which there are bits
+abbrev pub scaled : ℕ → Writer → Writer
+scaled k w = record { register = w.register * 2 ^ k; wait = w.wait - k; out = w.out }
+
+pub low-scaled : (k : ℕ) (w : Writer) → k ≤ w.wait → w.wait ≤ 12 → low (scaled k w) ≡ low w * 2 ^ k
+low-scaled k w h few =
+    let e : 2 ^ (27 - (w.wait - k)) ≡ 2 ^ (27 - w.wait) * 2 ^ k = ap (λ n. 2 ^ n) (let e : 27 - (w.wait - k) ≡ 27 - w.wait + k = omega arith in e) ∙ pow-add 2 (27 - w.wait) k in
+    rw e (omega arith)
+
+pub time-scaled : (k : ℕ) (w : Writer) → k ≤ w.wait → w.wait ≤ 12 → time (scaled k w) ≡ time w + k
+time-scaled k w h few = omega arith
+
+pub Bounded-scaled : (a k : ℕ) (w : Writer) → k ≤ w.wait → Bounded a w → Bounded (a * 2 ^ k) (scaled k w)
+Bounded-scaled a k w h b =
+    let e : 2 ^ w.wait ≡ 2 ^ k * 2 ^ (w.wait - k) = ap (λ n. 2 ^ n) (let e : w.wait ≡ k + (w.wait - k) = omega arith in e) ∙ pow-add 2 k (w.wait - k) in
+    let x : (w.register + a) * 2 ^ w.wait ≡ (w.register * 2 ^ k + a * 2 ^ k) * 2 ^ (w.wait - k) = ap (λ p. (w.register + a) * p) e ∙ omega arith in
+    record {
+      some = omega (arith, b.some, mul-le-mul_right (2 ^ k) b.some, pow_pos k);
+      few = omega (arith, b.few);
+      room = subst (λ n. Room n w.out) x b.room;
+      valid = b.valid;
+    }
+
+pub KnowsAt-scaled : (f : ℕ → ℕ) (m a k : ℕ) (w : Writer) → k ≤ w.wait → w.wait ≤ 12 → KnowsAt f m (a * 2 ^ k) (scaled k w) → KnowsAt f m a w
+KnowsAt-scaled f m a k w h few know =
+    let e : low (scaled k w) ≡ low w * 2 ^ k = low-scaled k w h few in
+    Knows-scaled f m (low w) (low w + a) (time w) k (low (scaled k w)) (low (scaled k w) + a * 2 ^ k) (time (scaled k w)) w.out
+    e (omega (arith, e)) (time-scaled k w h few) know
+
+-- BYTEOUT, as an encoder with no bit left to wait for makes it
+pub Put-low : (a : ℕ) (w w2 : Writer) → w.wait ≡ 0 → Put a w.register w.out w2 → low w2 ≡ low w
+Put-low a w w2 e p = rw e (omega (arith, p.number))
+
+pub Put-time : (a : ℕ) (w w2 : Writer) → w.wait ≡ 0 → Put a w.register w.out w2 → time w2 ≡ time w
+Put-time a w w2 e p = omega (arith, p.moment)
+
+pub Put-back : (f : ℕ → ℕ) (m a : ℕ) (w w2 : Writer) → w.wait ≡ 0 → Put a w.register w.out w2 → KnowsAt f m a w2 → KnowsAt f m a w
+Put-back f m a w w2 e p know =
+    let k : Knows f m (low w2) (low w2 + a) (time w2) w.out = Knows-put f m (low w2 + a) a w.register w.out w2 p know in
+    rw (Put-low a w w2 e p, Put-time a w w2 e p) at k
+
+pub Put-here : (a : ℕ) (w : Writer) → w.wait ≡ 0 → Bounded a w → Put a w.register w.out (byte_out w.register w.out)
+Put-here a w e b =
+    let x : (w.register + a) * 2 ^ w.wait ≡ w.register + a = rw e (omega arith) in
+    put a w.register w.out b.some b.valid (subst (λ n. Room n w.out) x b.room)
+
+-- What one shift keeps, of an interval of length a.
+pub record Shift (a : ℕ) (w w2 : Writer) : Type 0 where
+  pub bounded : Bounded (2 * a) w2
+  pub some : 1 ≤ w2.wait
+  pub few : w2.wait ≤ 11
+  pub number : low w2 ≡ 2 * low w
+  pub moment : time w2 ≡ time w + 1
+  pub back : (f : ℕ → ℕ) (m : ℕ) → KnowsAt f m (2 * a) w2 → KnowsAt f m a w
+
+shifted-is : (w : Writer) → (w.wait ≡ 1 → ⊥) → 1 ≤ w.wait → shifted w ≡ record { register = w.register * 2; wait = w.wait - 1; out = w.out }
+unfolding shifted
+shifted-is w n some =
+    let e : 2 * w.register ≡ w.register * 2 = omega arith in
+    cond-false (eqb (w.wait - 1) 0) _ _ (ne_eqb (w.wait - 1) 0 (λ z. n (omega arith)))
+    ∙ (λ i. record { register = e i; wait = w.wait - 1; out = w.out })
+
+shifted-put : (w : Writer) → w.wait ≡ 1 → shifted w ≡ byte_out (w.register * 2) w.out
+unfolding shifted
+shifted-put w h =
+    let e : 2 * w.register ≡ w.register * 2 = omega arith in
+    let z : w.wait - 1 ≡ 0 = omega arith in
+    cond-true (eqb (w.wait - 1) 0) _ _ (eq-eqb (w.wait - 1) 0 z)
+    ∙ ap (λ c. byte_out c w.out) e
