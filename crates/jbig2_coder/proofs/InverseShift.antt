@@ -82,3 +82,84 @@ shifted-put w h =
     let z : w.wait - 1 ≡ 0 = omega arith in
     cond-true (eqb (w.wait - 1) 0) _ _ (eq-eqb (w.wait - 1) 0 z)
     ∙ ap (λ c. byte_out c w.out) e
+
+doubled-once : (f : ℕ → ℕ) (m a : ℕ) (w : Writer) → 1 ≤ w.wait → w.wait ≤ 12 → KnowsAt f m (2 * a) (scaled 1 w) → KnowsAt f m a w
+doubled-once f m a w h few know =
+    let e : 2 * a ≡ a * 2 ^ 1 = omega arith in
+    KnowsAt-scaled f m a 1 w h few (subst (λ b. KnowsAt f m b (scaled 1 w)) e know)
+
+bounded-once : (a : ℕ) (w : Writer) → 1 ≤ w.wait → Bounded a w → Bounded (2 * a) (scaled 1 w)
+bounded-once a w h b =
+    let e : a * 2 ^ 1 ≡ 2 * a = omega arith in
+    subst (λ n. Bounded n (scaled 1 w)) e (Bounded-scaled a 1 w h b)
+
+shift-moved : (a : ℕ) (w : Writer) → Bounded a w → 1 ≤ w.wait → (w.wait ≡ 1 → ⊥) → Shift a w (scaled 1 w)
+shift-moved a w b h n =
+    let l : low (scaled 1 w) ≡ low w * 2 ^ 1 = low-scaled 1 w h b.few in
+    record {
+      bounded = bounded-once a w h b;
+      some = omega arith;
+      few = omega (arith, b.few);
+      number = omega (arith, l);
+      moment = time-scaled 1 w h b.few;
+      back = λ f m know. doubled-once f m a w h b.few know;
+    }
+
+shift-put : (a : ℕ) (w w2 : Writer) → Bounded a w → w.wait ≡ 1 → a < 0x8000 → Put (2 * a) (w.register * 2) w.out w2 → Shift a w w2
+shift-put a w w2 b e half p =
+    let h : 1 ≤ w.wait = omega arith in
+    let z : (scaled 1 w).wait ≡ 0 = omega arith in
+    let l : low (scaled 1 w) ≡ low w * 2 ^ 1 = low-scaled 1 w h b.few in
+    let t : time (scaled 1 w) ≡ time w + 1 = time-scaled 1 w h b.few in
+    let l2 : low w2 ≡ low (scaled 1 w) = Put-low (2 * a) (scaled 1 w) w2 z p in
+    let t2 : time w2 ≡ time (scaled 1 w) = Put-time (2 * a) (scaled 1 w) w2 z p in
+    record {
+      bounded = p.bounded (omega arith);
+      some = omega (arith, p.wait);
+      few = omega (arith, p.wait);
+      number = l2 ∙ l ∙ omega arith;
+      moment = t2 ∙ t;
+      back = λ f m know. doubled-once f m a w h b.few (Put-back f m (2 * a) (scaled 1 w) w2 z p know);
+    }
+
+-- one shift of RENORME
+pub shift : (a : ℕ) (w : Writer) → Bounded a w → 1 ≤ w.wait → a < 0x8000 → Shift a w (shifted w)
+shift a w b h half =
+    ⊎_elim
+    (λ (e : w.wait ≡ 1).
+    let z : (scaled 1 w).wait ≡ 0 = omega arith in
+    subst (Shift a w) (sym (shifted-put w e))
+    (shift-put a w (byte_out (w.register * 2) w.out) b e half (Put-here (2 * a) (scaled 1 w) z (bounded-once a w h b))))
+    (λ (n : w.wait ≡ 1 → ⊥). subst (Shift a w) (sym (shifted-is w n h)) (shift-moved a w b h n))
+    (cases_eq w.wait 1)
+
+-- What holds between two decisions, but the first.
+pub record Resting (s : Coding) : Type 0 where
+  pub bounded : Bounded s.range s.writer
+  pub some : 1 ≤ s.writer.wait
+  pub few : s.writer.wait ≤ 11
+  pub normal : 0x8000 ≤ s.range
+  pub below : s.range < 0x10000
+
+-- What RENORME makes of A and its writer: it rests, and what the end knows of it goes back.
+pub record Renorm (a : ℕ) (w : Writer) (s : Coding) : Type 0 where
+  pub resting : Resting s
+  pub back : (f : ℕ → ℕ) (m : ℕ) → KnowsAt f m s.range s.writer → KnowsAt f m a w
+
+renorm-stop : (n a : ℕ) (w : Writer) → Bounded a w → 1 ≤ w.wait → w.wait ≤ 11 → a < 0x10000 → 0x8000 ≤ a → Renorm a w (renormed n a w)
+renorm-stop n a w b h few below normal =
+    subst (Renorm a w) (sym (renormed-stop n a w normal))
+    (record { resting = record { bounded = b; some = h; few = few; normal = normal; below = below }; back = λ f m know. know })
+
+pub renorm : (n a : ℕ) (w : Writer) → Bounded a w → 1 ≤ w.wait → (w.wait ≤ 11) ⊎ (a < 0x8000) → a < 0x10000 → 0x8000 ≤ a * 2 ^ n
+    → Renorm a w (renormed n a w)
+renorm zero a w b h few below enough = renorm-stop zero a w b h (omega (arith, few)) below (omega arith)
+renorm (suc n) a w b h few below enough =
+    ⊎_elim
+    (λ (half : a < 0x8000).
+    let s : Shift a w (shifted w) = shift a w b h half in
+    let room : 0x8000 ≤ 2 * a * 2 ^ n = omega (arith, rw pow-suc at enough) in
+    let r : Renorm (2 * a) (shifted w) (renormed n (2 * a) (shifted w)) = renorm n (2 * a) (shifted w) s.bounded s.some (inl s.few) (omega arith) room in
+    subst (Renorm a w) (sym (renormed-step n a w half)) (record { resting = r.resting; back = λ f m know. s.back f m (r.back f m know) }))
+    (λ (normal : 0x8000 ≤ a). renorm-stop (suc n) a w b h (omega (arith, few)) below normal)
+    (cases_lt a 0x8000)

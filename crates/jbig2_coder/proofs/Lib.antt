@@ -5,6 +5,7 @@ pub mod Encoders
 pub mod InverseByteOut
 pub mod InverseBytes
 pub mod InverseKnows
+pub mod InverseNarrow
 pub mod InverseShift
 pub mod ListSteps
 pub mod PrefixBuilding
