@@ -72,18 +72,18 @@ headed-step f b r s g e =
     let c : g.0 ≡ f (length r) = cc in
     (cc, omega (arith, g.2, c))
 
-Headed-grown : (f : ℕ → ℕ) (r s : List ℕ) → Grown r s → s ≡ first f (length r) → Headed f r
+pub Headed-grown : (f : ℕ → ℕ) (r s : List ℕ) → Grown r s → s ≡ first f (length r) → Headed f r
 Headed-grown f [] s g e = tt
 Headed-grown f (b ∷ r) s g e = headed-step f b r s g e
 
-above-out : (lo v u b q t : ℕ) → lo < (v + 1) * 2 ^ q → v ≤ u → t ≡ b + q → lo * 2 ^ b < (u + 1) * 2 ^ t
+pub above-out : (lo v u b q t : ℕ) → lo < (v + 1) * 2 ^ q → v ≤ u → t ≡ b + q → lo * 2 ^ b < (u + 1) * 2 ^ t
 above-out lo v u b q t h l e =
     let k : lo * 2 ^ b < (v + 1) * 2 ^ q * 2 ^ b = mul-lt-mul_of_pos_right h (pow_pos b) in
     let n : (v + 1) * (2 ^ b * 2 ^ q) ≤ (u + 1) * (2 ^ b * 2 ^ q) = mul-le-mul_right (2 ^ b * 2 ^ q) (omega (arith, l)) in
     rw (e, pow-add 2 b q) (omega (arith, k, n))
 
 -- the byte that goes out, as it goes out and as it is in the end
-last-byte : (f : ℕ → ℕ) (s : List ℕ) (byte : ℕ) (rest : List ℕ) (n : ℕ) → s ≡ byte ∷ rest → length rest ≡ n → Headed f s
+pub last-byte : (f : ℕ → ℕ) (s : List ℕ) (byte : ℕ) (rest : List ℕ) (n : ℕ) → s ≡ byte ∷ rest → length rest ≡ n → Headed f s
     → (rest ≡ first f n) × (length s ≡ suc n) × (value s ≤ value (first f (suc n))) × (bits (first f (suc n)) ≡ bits s)
 last-byte f s byte rest n is len headed =
     let h : Headed f (byte ∷ rest) = subst (Headed f) is headed in
