@@ -8,6 +8,7 @@ pub mod InverseEncode
 pub mod InverseFlush
 pub mod InverseKnows
 pub mod InverseNarrow
+pub mod InverseRead
 pub mod InverseShift
 pub mod ListSteps
 pub mod PrefixBuilding
