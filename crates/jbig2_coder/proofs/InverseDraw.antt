@@ -31,7 +31,7 @@ pub Follows-fits : (f : ℕ → ℕ) (m a : ℕ) (w : Writer) (r : CodeRegister)
 Follows-fits f m a w r v h know =
     Seen-fits f m (low w) (low w + a) (time w) w.out r.place v (time w + 15 + r.ct) r.ct know (omega arith) refl h.seen
 
-code-below : (c v s lo a : ℕ) → c * 2 ^ s + (v + 1) * 2 ^ 16 ≡ (lo + a) * 2 ^ s * 2 ^ 16 → lo * 2 ^ s < v + 1 → c < a * 2 ^ 16
+pub code-below : (c v s lo a : ℕ) → c * 2 ^ s + (v + 1) * 2 ^ 16 ≡ (lo + a) * 2 ^ s * 2 ^ 16 → lo * 2 ^ s < v + 1 → c < a * 2 ^ 16
 code-below c v s lo a e h =
     let p : ℕ = 2 ^ s in
     let d : c * p < a * 2 ^ 16 * p = omega (arith, e, h) in

@@ -44,7 +44,7 @@ pub record Entry (x : Context) (d : Bool) (s : Coding) (n : Narrowing x d s.rang
   pub renorm : (f : ℕ → ℕ) (m : ℕ) → KnowsAt f m t.range t.writer → KnowsAt f m n.range (at_part x d s n)
   pub narrow : (f : ℕ → ℕ) (m : ℕ) → KnowsAt f m n.range (at_part x d s n) → KnowsAt f m s.range s.writer
 
-part-bounded : (x : Context) (d : Bool) (s : Coding) (n : Narrowing x d s.range s.writer.register) → Begun s → Bounded n.range (at_part x d s n)
+pub part-bounded : (x : Context) (d : Bool) (s : Coding) (n : Narrowing x d s.range s.writer.register) → Begun s → Bounded n.range (at_part x d s n)
 part-bounded x d s n b =
     let h : (n.register + n.range) * 2 ^ s.writer.wait ≤ (s.writer.register + s.range) * 2 ^ s.writer.wait = mul-le-mul_right (2 ^ s.writer.wait) n.high in
     record {
