@@ -4,6 +4,7 @@ pub mod Decisions
 pub mod Encoders
 pub mod InverseByteOut
 pub mod InverseBytes
+pub mod InverseClosed
 pub mod InverseDecide
 pub mod InverseDraw
 pub mod InverseEncode
