@@ -1,6 +1,6 @@
 -- Whole lists of decisions, each in a context that its number names: what the encoder makes of them,
 -- and what the decoder reads (T.88, Annexes E and G). Before the first decision every context is fresh.
-use Rattle.std.specs.Prelude.{ℕ, Bool, if◌then◌else◌, ◌==◌, List, [], ◌∷◌, slice_index_or}
+use Rattle.std.specs.Prelude.{ℕ, Bool, if◌then◌else◌, ◌==◌, List, [], ◌∷◌, map, slice_index_or, ◌≡◌}
 use Rattle.jbig2_coder.specs.Coder.{Context, fresh, decision, started}
 use Rattle.jbig2_coder.specs.Encoder.{Coding, opened, encoding, flushed, closed}
 use Rattle.jbig2_coder.specs.declared.arithmetic_decoder.registers.Registers.{Registers}
@@ -39,3 +39,7 @@ decoded_from bytes registers contexts (k ∷ asked) =
 
 unfoldable pub decoded : List ℕ → List ℕ → List Bool
 decoded bytes asked = decoded_from bytes (started bytes) all_fresh asked
+
+-- whatever is encoded, the decoder that is asked in the same contexts reads back
+abbrev pub DecodesBack : Type 0
+DecodesBack = (entries : List (ℕ × Bool)) → decoded (encoded entries) (map (λ entry. entry.0) entries) ≡ map (λ entry. entry.1) entries
