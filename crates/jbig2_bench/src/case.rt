@@ -2,6 +2,7 @@
 use crate::call::Call;
 use crate::coder::{CoderCase, coder_holds};
 use crate::combination::stays_white;
+use crate::mmr::{MmrCase, mmr_holds};
 use crate::spelling::spelled;
 use crate::table::{TableCase, table_holds};
 use crate::watcher::Watcher;
@@ -66,6 +67,8 @@ pub enum Case {
     Coder(CoderCase),
     /// Tables of prefix codes.
     Table(TableCase),
+    /// MMR data.
+    Mmr(MmrCase),
 }
 
 impl Modes {
@@ -136,6 +139,7 @@ fn case_holds<A: Allocator + Clone>(
         }
         Case::Coder(case) => coder_holds(alloc, case),
         Case::Table(case) => table_holds(alloc, case),
+        Case::Mmr(case) => mmr_holds(alloc, case),
         Case::StaysWhite(x, y) => stays_white(alloc, *x, *y),
     }
 }

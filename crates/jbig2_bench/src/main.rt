@@ -5,6 +5,7 @@ mod call;
 mod case;
 mod coder;
 mod combination;
+mod mmr;
 mod piece;
 mod program;
 mod rows;

@@ -2,6 +2,7 @@
 pub mod coding;
 pub mod framing;
 pub mod generic;
+pub mod mmr;
 pub mod regions;
 pub mod worked;
 
@@ -13,5 +14,6 @@ pub const FAMILIES: &[&[Row]] = &[
     framing::ROWS,
     regions::ROWS,
     generic::ROWS,
+    mmr::ROWS,
     coding::ROWS,
 ];

@@ -1,6 +1,6 @@
 //! The rows 1 to 19.
 use crate::call::{BLACK, Call, DOT, WHITE, WHITE_TWICE};
-use crate::case::Answer::{Calls, Refused};
+use crate::case::Answer::{Calls, Refused, Undrawn};
 use crate::case::Case::Page;
 use crate::case::Modes::{Both, Lenient, Strict};
 use crate::case::{Case, Header, Row};
@@ -8,7 +8,7 @@ use crate::coder::{CoderCase, Reading};
 use crate::rows::coding::DECISIONS;
 use crate::table::TableCase;
 use hayro_jbig2::parts::segment::SegmentType;
-use hayro_jbig2::{DecodeError, FormatError, OverflowError, ParseError};
+use hayro_jbig2::{DecodeError, FormatError, OverflowError, ParseError, RegionError};
 
 pub const ROWS: &[Row] = &[
     Row {
@@ -139,6 +139,26 @@ pub const ROWS: &[Row] = &[
                 list: &[(0, true)],
                 bytes: "FF7FFFAC",
             }),
+        ],
+    },
+    Row {
+        name: "10",
+        cases: &[
+            Page(
+                Both,
+                "P 00000001260001 00000018 00000008 00000001 00*9 01 26A280080080",
+                Calls(BLACK),
+            ),
+            Page(
+                Strict,
+                "P 00000001260001 00000013 00000008 00000001 00*9 01 26",
+                Undrawn(DecodeError::Region(RegionError::InvalidMmrData)),
+            ),
+            Page(
+                Lenient,
+                "P 00000001260001 00000013 00000008 00000001 00*9 01 26",
+                Calls(WHITE),
+            ),
         ],
     },
     Row {

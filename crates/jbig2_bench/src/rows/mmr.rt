@@ -1,0 +1,155 @@
+//! The rows R4: MMR data.
+use crate::case::Case::Mmr;
+use crate::case::Modes::{Both, Lenient, Strict};
+use crate::case::Row;
+use crate::mmr::{Decoded, MmrCase};
+use hayro_jbig2::{DecodeError, RegionError};
+
+const FAULT: DecodeError = DecodeError::Region(RegionError::InvalidMmrData);
+
+pub const ROWS: &[Row] = &[
+    Row {
+        name: "R4.1",
+        cases: &[Mmr(MmrCase {
+            modes: Both,
+            width: 8,
+            height: 1,
+            bytes: "80",
+            answer: Ok(Decoded {
+                used: 1,
+                rows: &[0],
+            }),
+        })],
+    },
+    Row {
+        name: "R4.2",
+        cases: &[Mmr(MmrCase {
+            modes: Both,
+            width: 8,
+            height: 1,
+            bytes: "26A280",
+            answer: Ok(Decoded {
+                used: 3,
+                rows: &[0xFF],
+            }),
+        })],
+    },
+    Row {
+        name: "R4.3",
+        cases: &[Mmr(MmrCase {
+            modes: Both,
+            width: 8,
+            height: 2,
+            bytes: "26A2E0",
+            answer: Ok(Decoded {
+                used: 3,
+                rows: &[0xFF, 0xFF],
+            }),
+        })],
+    },
+    Row {
+        name: "R4.4",
+        cases: &[
+            Mmr(MmrCase {
+                modes: Strict,
+                width: 8,
+                height: 2,
+                bytes: "26A280080080",
+                answer: Err(FAULT),
+            }),
+            Mmr(MmrCase {
+                modes: Lenient,
+                width: 8,
+                height: 2,
+                bytes: "26A280080080",
+                answer: Ok(Decoded {
+                    used: 6,
+                    rows: &[0xFF, 0],
+                }),
+            }),
+        ],
+    },
+    Row {
+        name: "R4.5",
+        cases: &[Mmr(MmrCase {
+            modes: Both,
+            width: 8,
+            height: 1,
+            bytes: "50",
+            answer: Ok(Decoded {
+                used: 1,
+                rows: &[0x01],
+            }),
+        })],
+    },
+    Row {
+        name: "R4.6",
+        cases: &[Mmr(MmrCase {
+            modes: Both,
+            width: 8,
+            height: 1,
+            bytes: "4A",
+            answer: Ok(Decoded {
+                used: 1,
+                rows: &[0],
+            }),
+        })],
+    },
+    Row {
+        name: "R4.7",
+        cases: &[
+            Mmr(MmrCase {
+                modes: Strict,
+                width: 8,
+                height: 1,
+                bytes: "4100",
+                answer: Err(FAULT),
+            }),
+            Mmr(MmrCase {
+                modes: Lenient,
+                width: 8,
+                height: 1,
+                bytes: "4100",
+                answer: Ok(Decoded {
+                    used: 2,
+                    rows: &[0],
+                }),
+            }),
+        ],
+    },
+    Row {
+        name: "R4.8",
+        cases: &[
+            Mmr(MmrCase {
+                modes: Strict,
+                width: 8,
+                height: 1,
+                bytes: "",
+                answer: Err(FAULT),
+            }),
+            Mmr(MmrCase {
+                modes: Lenient,
+                width: 8,
+                height: 1,
+                bytes: "",
+                answer: Ok(Decoded {
+                    used: 0,
+                    rows: &[0],
+                }),
+            }),
+        ],
+    },
+    Row {
+        name: "R4.9",
+        cases: &[Mmr(MmrCase {
+            modes: Both,
+            width: 0,
+            height: 5,
+            bytes: "FF",
+            answer: Ok(Decoded {
+                used: 0,
+                rows: &[0, 0, 0, 0, 0],
+            }),
+        })],
+    },
+];
