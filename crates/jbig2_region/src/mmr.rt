@@ -8,6 +8,8 @@ mod bits;
 mod codes;
 mod row;
 mod span;
+#[cfg(test)]
+mod tests;
 
 use crate::mmr::bits::CodeReader;
 use crate::mmr::row::read_row;
