@@ -1,5 +1,5 @@
 -- What decoding a whole generic region gives.
-use Rattle.std.proofs.Common.{cond, take, ◌++◌, ◌≡◌, ℕ, Bool, true, false, List, length, Result, Ok, Err, sym, ap, ◌∙◌, subst}
+use Rattle.std.proofs.Common.{take, ◌++◌, ◌≡◌, ℕ, true, false, List, length, Result, Ok, Err, sym, ap, ◌∙◌, subst}
 use Rattle.std.proofs.Math.Seq.{take-append_seam}
 use Rattle.jbig2_base.specs.declared.error.DecodeError.{DecodeError}
 use Rattle.std.proofs.lemmas.Bool.{cond-true, cond-false}
@@ -9,7 +9,7 @@ use Rattle.jbig2_coder.specs.Coder.{Coder, Context, started}
 use Rattle.jbig2_region.specs.Generic.{generic_coding, generic_region, generic_grid, generic_answer, contexts_after}
 use Rattle.jbig2_region.specs.GenericHeader.{GenericHeader}
 use Rattle.jbig2_region.specs.Holds.{Holds}
-use Rattle.jbig2_region.specs.Raster.{so_far, decoded, no_pixels, fresh_contexts}
+use Rattle.jbig2_region.specs.Raster.{decoded, no_pixels, fresh_contexts}
 use Rattle.jbig2_region.specs.T6.{Decoded, decoded as mmr_rows}
 use Rattle.jbig2_region.specs.Templates.{context_bits}
 

@@ -1,13 +1,13 @@
 -- Bits of bytes, their numbers, and the codes that begin them.
-use Rattle.std.proofs.Common.{◌≡◌, ℕ, zero, suc, ◌+◌, ◌-◌, ◌*◌, ◌/◌, ◌%◌, ◌^◌, ◌<◌, ◌≤◌, Bool, true, false, not, ◌&&◌, cond, eqb, ltb, leb, List, [], ◌∷◌, ◌++◌, length, take, drop, map, get_or, min, Option, Some, None, refl, sym, ap, subst, ◌∙◌, ⊎_elim, zero-add, arith}
+use Rattle.std.proofs.Common.{◌≡◌, ℕ, zero, suc, ◌+◌, ◌-◌, ◌*◌, ◌/◌, ◌%◌, ◌^◌, ◌<◌, ◌≤◌, Bool, true, false, ◌&&◌, eqb, ltb, leb, List, [], ◌∷◌, ◌++◌, length, take, drop, map, get_or, min, Some, None, refl, sym, ap, subst, ◌∙◌, ⊎_elim, zero-add, arith}
 use Rattle.std.proofs.Math.Nat.{pow-suc}
 use Rattle.std.specs.List.{flat_map}
-use Rattle.std.proofs.lemmas.Nat.{pow_pos, pow-add, shr-shr, mod_low, shr_high, shl_below}
-use Rattle.std.proofs.lemmas.List.{drop-drop, length-drop, length-take-le, take-append-drop, drop-append-le, take-append-le, drop_more, drop_all}
-use Rattle.std.proofs.lemmas.Bool.{cases_eq, cases_lt, cond-true, cond-false, and_from, and_left, and_right, and_parts, le-leb, lt-leb, lt-ltb, le-ltb, eq-eqb, ne_eqb, ltb-true, leb-true, eqb-true}
+use Rattle.std.proofs.lemmas.Nat.{pow-add, shr-shr, mod_low, shr_high, shl_below}
+use Rattle.std.proofs.lemmas.List.{drop-drop, length-drop, take-append-drop, drop-append-le, take-append-le, drop_more, drop_all}
+use Rattle.std.proofs.lemmas.Bool.{cases_eq, cases_lt, cond-true, cond-false, and_from, and_left, and_right, and_parts, le-leb, lt-leb, eq-eqb, ne_eqb, ltb-true, leb-true}
 use Rattle.jbig2_base.specs.Bits.{byte_bits, number_after}
 use Rattle.jbig2_region.specs.declared.mmr.codes.Code.{Code}
-use Rattle.jbig2_region.specs.T6.{begins, read_code, ends_block, after_end, bits_of}
+use Rattle.jbig2_region.specs.T6.{begins, read_code, ends_block, after_end}
 use Rattle.jbig2_region.specs.T6Reading.{spell, line_of, is_word, are_words, AreBits}
 
 -- ---- bits

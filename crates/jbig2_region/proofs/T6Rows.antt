@@ -1,5 +1,5 @@
 -- Changes, changing elements, modes and rows.
-use Rattle.std.proofs.Common.{◌≡◌, ℕ, zero, suc, ◌+◌, ◌-◌, ◌*◌, ◌/◌, ◌%◌, ◌<◌, ◌≤◌, Bool, true, false, not, ◌&&◌, cond, eqb, ltb, leb, List, [], ◌∷◌, ◌++◌, length, Option, Some, None, refl, sym, ap, subst, ◌∙◌, ⊎_elim, add-one, arith}
+use Rattle.std.proofs.Common.{◌≡◌, ℕ, zero, suc, ◌+◌, ◌-◌, ◌%◌, ◌<◌, ◌≤◌, Bool, true, false, not, cond, eqb, ltb, leb, List, [], ◌∷◌, ◌++◌, length, Option, Some, None, refl, sym, ap, subst, ◌∙◌, ⊎_elim, add-one, arith}
 use Rattle.std.specs.Prelude.{filter, ◌||◌, ◌⊎◌}
 use mathlib.Core.Bool.{beq}
 use Rattle.std.proofs.lemmas.List.{length-append}
@@ -7,12 +7,11 @@ use Rattle.std.proofs.lemmas.List.Elements.{filter-append}
 use Rattle.std.proofs.lemmas.Bool.{true≢false, cases_eq, cases_lt, cond-true, cond-false, and_from, and_left, and_right, or_left, or_right, or_from, le-leb, lt-leb, lt-ltb, le-ltb, eq-eqb, ne_eqb}
 use Rattle.jbig2_base.specs.Grid.{Grid, pixel_at, bit_number}
 use Rattle.jbig2_base.specs.Table.{IsTable}
-use Rattle.jbig2_base.proofs.GridLemmas.{pixel_at-right, pixel_at-below}
-use Rattle.jbig2_region.specs.declared.mmr.row.Place.{Place}
+use Rattle.jbig2_base.proofs.GridLemmas.{pixel_at-below}
 use Rattle.jbig2_region.specs.declared.mmr.row.Turn.{Turn}
 use Rattle.jbig2_region.specs.T6.{differ, least, place_from, left_of, is_change, is_change_from, Head, Step, b1_of, b2_of, run, after_pass, after_runs, after_vertical, after_mode, next_step, read_code, row_from, row_start, black_at, ◌and_then◌}
 use Rattle.jbig2_region.specs.T6Codes.{modes}
-use Rattle.jbig2_region.specs.T6Reading.{row_above, row_of, IsFirst, IsRow, IsSpan, IsTurn, with_rest}
+use Rattle.jbig2_region.specs.T6Reading.{row_above, row_of, IsFirst, IsSpan, IsTurn}
 use Rattle.jbig2_region.specs.T6Calls.{head_of, ReadStep, ReadRow}
 
 -- ---- parity of changes

@@ -2,7 +2,6 @@
 use Rattle.std.proofs.Common.{◌≡◌, ℕ, zero, suc, ◌+◌, ◌<◌, ◌≤◌, Bool, cond, ltb, List, length, Option, Some, None, refl, sym, ap, ◌∙◌, arith}
 use Rattle.std.proofs.lemmas.Bool.{cond-true, cond-false, lt-ltb, le-ltb}
 use Rattle.jbig2_region.specs.T6.{read_code, run_from, runs_of, ◌and_then◌}
-use Rattle.jbig2_region.specs.T6Reading.{with_rest}
 
 -- a run of which `sum` was read
 pub record RunReading (black : Bool) (room sum : ℕ) (bits : List ℕ) (meant : Option (ℕ × List ℕ)) : Type 0 where

@@ -1,12 +1,10 @@
 -- Short MMR data, computed from the definition.
-use Rattle.std.proofs.Common.{◌≡◌, ℕ, Bool, true, false, List, [], ◌∷◌, Result, Ok, Err, refl}
-use Rattle.jbig2_base.specs.Bits.{bits_left, number_after, byte_bits}
-use Rattle.jbig2_base.specs.Grid.{Grid, table, grid_of, blank}
-use Rattle.jbig2_base.specs.declared.error.DecodeError.{DecodeError}
+use Rattle.std.proofs.Common.{◌≡◌, true, false, [], ◌∷◌, Ok, Err, refl}
+use Rattle.jbig2_base.specs.Grid.{table}
 use Rattle.jbig2_base.specs.declared.error.DecodeError.TheVariants.{Region}
 use Rattle.jbig2_base.specs.declared.error.RegionError.TheVariants.{InvalidMmrData}
 use Rattle.jbig2_region.specs.T6Codes.{modes, longer_runs, white_runs, black_runs}
-use Rattle.jbig2_region.specs.T6.{read_code, is_prefix_free, run_from, least, is_change, is_change_from, b1_of, b2_of, after_pass, after_runs, after_vertical, next_step, row_from, black_at, ends_block, rows_from, rows_of, Decoded, decoded}
+use Rattle.jbig2_region.specs.T6.{read_code, is_prefix_free, run_from, least, is_change, is_change_from, b1_of, b2_of, after_pass, after_runs, after_vertical, next_step, row_from, black_at, ends_block, rows_from, rows_of, decoded}
 
 white_row-strict : decoded true 8 1 (0x80 ∷ []) ≡ Ok (record { grid = record { width = 8; height = 1; pixels = false ∷ false ∷ false ∷ false ∷ false ∷ false ∷ false ∷ false ∷ [] }; used = 1 })
 unfolding decoded rows_of rows_from ends_block black_at row_from next_step after_vertical after_runs after_pass b2_of b1_of is_change_from is_change least run_from read_code modes white_runs black_runs longer_runs table

@@ -1,5 +1,5 @@
 -- The code tables of T.6: each line is a number and the code word that stands for it.
-use Rattle.std.specs.Prelude.{ℕ, ◌-◌, List, [], ◌∷◌, ◌++◌, map, codes}
+use Rattle.std.specs.Prelude.{ℕ, ◌-◌, List, [], ◌∷◌, map, codes}
 
 -- the bits that a text of 0s and 1s spells
 abbrev pub word : List ℕ → List ℕ

@@ -1,10 +1,9 @@
 -- What single calls of a T.6 decoder say (our own rule).
-use Rattle.std.specs.Prelude.{◌≡◌, ℕ, zero, suc, ◌+◌, ◌-◌, ◌*◌, ◌/◌, ◌%◌, ◌^◌, ◌<◌, ◌≤◌, nat_le, nat_lt, Bool, true, false, not, ◌&&◌, List, [], ◌∷◌, length, drop, map, Option, Some, None}
-use Rattle.jbig2_base.specs.Bits.{bits_left, Place}
+use Rattle.std.specs.Prelude.{◌≡◌, ℕ, zero, suc, ◌/◌, ◌%◌, ◌^◌, ◌<◌, ◌≤◌, nat_le, nat_lt, Bool, true, false, not, ◌&&◌, List, [], ◌∷◌, Option, Some, None}
 use Rattle.jbig2_base.specs.Grid.{Grid, pixel_at}
 use Rattle.jbig2_base.specs.Table.{IsTable}
 use Rattle.jbig2_region.specs.declared.mmr.codes.Code.{Code}
-use Rattle.jbig2_region.specs.T6.{differ, Head, Step, black_at}
+use Rattle.jbig2_region.specs.T6.{differ, Head, black_at}
 
 -- the lowest n bits of a number, high bit first, before others
 abbrev pub spell : ℕ → ℕ → List ℕ → List ℕ

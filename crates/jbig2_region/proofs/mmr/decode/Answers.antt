@@ -1,7 +1,6 @@
-use Rattle.std.proofs.Common.{◌≡◌, ℕ, ◌-◌, ◌/◌, ◌<◌, ◌≤◌, true, false, eqb, List, [], length, drop, ap, sym, subst, ◌∙◌, arith}
+use Rattle.std.proofs.Common.{◌≡◌, ℕ, ◌-◌, ◌/◌, true, false, eqb, List, [], length, drop, ap, sym, subst, ◌∙◌, arith}
 use Rattle.std.specs.Prelude.{◌||◌}
 use Rattle.std.proofs.lemmas.Bool.{eq-eqb, or_left, or_right}
-use Rattle.jbig2_base.specs.Grid.{Grid}
 use Rattle.jbig2_region.specs.T6.{row, ends_block, after_end, rows_of}
 use Rattle.jbig2_region.specs.T6Reading.{Rest, row_above}
 use Rattle.jbig2_region.specs.T6Calls.{ReadRow}

@@ -1,9 +1,7 @@
-use Rattle.std.proofs.Common.{◌≡◌, ℕ, zero, ◌+◌, ◌-◌, ◌<◌, ◌≤◌, Bool, true, false, not, List, length, Option, Some, None, inl, inr, refl, sym, ap, subst, ◌∙◌, arith}
+use Rattle.std.proofs.Common.{Option, refl, sym, subst, arith}
 use Rattle.jbig2_region.specs.declared.mmr.row.Turn.{Turn}
-use Rattle.jbig2_region.specs.T6.{Head, Step, b1_of, run, after_pass, after_runs, after_vertical, after_mode, next_step, read_code, row}
-use Rattle.jbig2_region.specs.T6Codes.{modes}
-use Rattle.jbig2_region.specs.T6Reading.{row_of, row_above}
-use Rattle.jbig2_region.specs.T6Calls.{head_of, ReadStep, ReadRow}
+use Rattle.jbig2_region.specs.T6.{after_runs}
+use Rattle.jbig2_region.specs.T6Calls.{head_of, ReadStep}
 use Rattle.jbig2_region.proofs.T6Rows.{runs-read, runs-fault-first, runs-fault-second}
 use Rattle.jbig2_region.proofs.mmr.row.horizontal.Goals as goal
 

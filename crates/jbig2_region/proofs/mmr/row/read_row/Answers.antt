@@ -1,10 +1,8 @@
-use Rattle.std.proofs.Common.{◌≡◌, ℕ, zero, ◌+◌, ◌-◌, ◌<◌, ◌≤◌, Bool, true, false, not, List, length, Option, Some, None, inl, inr, refl, sym, ap, subst, ◌∙◌, arith}
-use Rattle.jbig2_region.specs.declared.mmr.row.Turn.{Turn}
-use Rattle.jbig2_region.specs.T6.{Head, Step, b1_of, run, after_pass, after_runs, after_vertical, after_mode, next_step, read_code, row}
-use Rattle.jbig2_region.specs.T6Codes.{modes}
+use Rattle.std.proofs.Common.{ℕ, false, refl, subst, ◌∙◌, arith}
+use Rattle.jbig2_region.specs.T6.{row}
 use Rattle.jbig2_region.specs.T6Reading.{row_of, row_above, IsSpan}
-use Rattle.jbig2_region.specs.T6Calls.{head_of, ReadStep, ReadRow}
-use Rattle.jbig2_region.proofs.T6Rows.{row-start, row-next, row-done, row-fault, above-same, turn-within}
+use Rattle.jbig2_region.specs.T6Calls.{head_of}
+use Rattle.jbig2_region.proofs.T6Rows.{row-start, row-next, row-done, row-fault, above-same}
 use Rattle.jbig2_region.proofs.mmr.row.read_row.Goals as goal
 
 pub loop-place-init : goal.loop-place-init

@@ -1,9 +1,7 @@
-use Rattle.std.proofs.Common.{◌≡◌, ℕ, zero, ◌+◌, ◌-◌, ◌<◌, ◌≤◌, Bool, true, false, not, List, length, Option, Some, None, inl, inr, refl, sym, ap, subst, ◌∙◌, arith}
-use Rattle.jbig2_region.specs.declared.mmr.row.Turn.{Turn}
-use Rattle.jbig2_region.specs.T6.{Head, Step, b1_of, run, after_pass, after_runs, after_vertical, after_mode, next_step, read_code, row}
-use Rattle.jbig2_region.specs.T6Codes.{modes}
-use Rattle.jbig2_region.specs.T6Reading.{row_of, row_above}
-use Rattle.jbig2_region.specs.T6Calls.{head_of, ReadStep, ReadRow}
+use Rattle.std.proofs.Common.{◌≡◌, ℕ, ◌+◌, ◌-◌, true, not, inl, inr, ap, arith}
+use Rattle.jbig2_region.specs.T6.{Head}
+use Rattle.jbig2_region.specs.T6Reading.{row_of}
+use Rattle.jbig2_region.specs.T6Calls.{head_of}
 use Rattle.jbig2_region.proofs.T6Rows.{vertical-read, vertical-fault}
 use Rattle.jbig2_region.proofs.mmr.row.vertical.Goals as goal
 use Rattle.jbig2_region.proofs.mmr.row.vertical.Goals.{then-moved-from-via-then-moved-from, then-moved-from-via-else-moved-from+then-moved-from-2}

@@ -1,8 +1,8 @@
-use Rattle.std.proofs.Common.{◌≡◌, ℕ, ◌+◌, ◌-◌, ◌*◌, ◌/◌, ◌<◌, ◌≤◌, List, drop, length, ap, sym, ◌∙◌, arith}
+use Rattle.std.proofs.Common.{◌≡◌, ℕ, ◌-◌, ◌/◌, List, drop, length, ap, sym, ◌∙◌, arith}
 use Rattle.std.specs.List.{flat_map}
 use Rattle.jbig2_base.specs.Bits.{byte_bits}
 use Rattle.jbig2_region.specs.T6Reading.{Rest}
-use Rattle.jbig2_region.proofs.T6Bits.{used-begun, length-left, bits-on, window-is, bits-front, bits-bytes}
+use Rattle.jbig2_region.proofs.T6Bits.{used-begun, length-left}
 use Rattle.jbig2_region.proofs.mmr.bits.CodeReader.bytes_used.Goals as goal
 
 pub returns-then-self-gt0 : goal.returns-then-self-gt0

@@ -1,5 +1,5 @@
-use Rattle.std.proofs.Common.{◌≡◌, ℕ, ◌+◌, ◌<◌, ◌≤◌, List, length, Some, None, Option, ap, sym, ◌∙◌, refl, arith}
-use Rattle.jbig2_region.specs.T6.{read_code, run, runs_of}
+use Rattle.std.proofs.Common.{ℕ, Some, ap, ◌∙◌, refl, arith}
+use Rattle.jbig2_region.specs.T6.{run}
 use Rattle.jbig2_region.proofs.T6Runs.{run-start, run-fault, run-past, run-end, run-more}
 use Rattle.jbig2_region.proofs.mmr.bits.CodeReader.read_run.Goals as goal
 

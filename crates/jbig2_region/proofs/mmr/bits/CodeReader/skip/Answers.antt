@@ -1,8 +1,8 @@
-use Rattle.std.proofs.Common.{◌≡◌, ℕ, ◌+◌, ◌-◌, ◌*◌, ◌<◌, ◌≤◌, List, drop, length, ap, sym, ◌∙◌, arith}
+use Rattle.std.proofs.Common.{◌≡◌, ℕ, List, drop, length, ap, ◌∙◌, arith}
 use Rattle.std.specs.List.{flat_map}
 use Rattle.jbig2_base.specs.Bits.{byte_bits}
 use Rattle.jbig2_region.specs.T6Reading.{Rest}
-use Rattle.jbig2_region.proofs.T6Bits.{place-within, length-left, bits-on, window-is, bits-front, bits-bytes}
+use Rattle.jbig2_region.proofs.T6Bits.{place-within, length-left, bits-on}
 use Rattle.jbig2_region.proofs.mmr.bits.CodeReader.skip.Goals as goal
 
 pub invariant_of-self : goal.invariant_of-self

@@ -1,9 +1,9 @@
-use Rattle.std.proofs.Common.{◌≡◌, ℕ, ◌+◌, ◌-◌, ◌*◌, ◌<◌, ◌≤◌, List, take, drop, get_or, length, ap, sym, ◌∙◌, subst, arith}
+use Rattle.std.proofs.Common.{◌≡◌, ℕ, ◌+◌, ◌-◌, ◌*◌, ◌≤◌, List, take, drop, get_or, length, ap, ◌∙◌, subst, arith}
 use Rattle.std.specs.List.{flat_map}
 use Rattle.std.proofs.lemmas.List.{take_rest, length-drop}
 use Rattle.jbig2_base.specs.Bits.{byte_bits, number_after}
 use Rattle.jbig2_region.specs.T6Reading.{AreBits, Rest}
-use Rattle.jbig2_region.proofs.T6Bits.{within-bits, length-bits, length-left, bits-on, window-is, bits-front, bits-bytes}
+use Rattle.jbig2_region.proofs.T6Bits.{within-bits, length-bits, length-left, window-is, bits-front, bits-bytes}
 use Rattle.jbig2_region.proofs.mmr.bits.CodeReader.window.Goals as goal
 
 pub returns-clause-bits : goal.returns-clause-bits
