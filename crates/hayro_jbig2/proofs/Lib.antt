@@ -1,3 +1,4 @@
+pub mod Books
 mod Direct
 pub mod Runs
 pub mod Sending

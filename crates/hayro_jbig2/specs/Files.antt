@@ -1,5 +1,5 @@
 -- The pages of a file (T.88, 7.2.6 and 7.4.8), and what they share.
-use Rattle.std.specs.Prelude.{ℕ, ◌+◌, ◌==◌, Bool, true, false, not, ◌&&◌, ◌||◌, List, [], ◌∷◌, ◌++◌, length, filter, Option, Some, None, Result, Ok, Err, if◌then◌else◌}
+use Rattle.std.specs.Prelude.{◌≡◌, ℕ, ◌+◌, ◌==◌, Bool, true, false, not, ◌&&◌, ◌||◌, List, [], ◌∷◌, ◌++◌, length, filter, map, slice_get, option_map, Option, Some, None, Result, Ok, Err, if◌then◌else◌}
 use Rattle.std.specs.List.{list_any}
 use Rattle.jbig2_base.specs.Answer.{◌>>=◌, refuse_if}
 use Rattle.jbig2_base.specs.File.{file_at}
@@ -9,6 +9,7 @@ use Rattle.jbig2_base.specs.declared.error.DecodeError.{DecodeError}
 use Rattle.jbig2_base.specs.declared.error.DecodeError.TheVariants.{Format, Segment}
 use Rattle.jbig2_base.specs.declared.error.FormatError.TheVariants.{PageCountMismatch, InvalidEndOfPage}
 use Rattle.jbig2_base.specs.declared.error.SegmentError.TheVariants.{MissingPageAssociation}
+use Rattle.jbig2_base.specs.declared.file_header.FileHeader.{FileHeader}
 use Rattle.jbig2_base.specs.declared.page_info.Sheet.{Sheet}
 use Rattle.jbig2_base.specs.declared.segment.SegmentType.{SegmentType}
 use Rattle.jbig2_base.specs.declared.segment.SegmentType.TheVariants as types
@@ -97,3 +98,22 @@ book_at strict bytes = do
 
 abbrev pub leaf_of : Book → Filed → Leaf
 leaf_of book page = record { strict = book.strict; sheet = page.sheet; parts = page.parts; globals = book.globals }
+
+-- the page at this index, from 0
+abbrev pub page_of : Book → ℕ → Option Leaf
+page_of book index = option_map (leaf_of book) (slice_get book.pages index)
+
+-- the pages in order
+abbrev pub pages_of : Book → List Leaf
+pages_of book = map (leaf_of book) book.pages
+
+-- A page that is made of its own segments and of those of no page.
+abbrev pub leaf_from : Bool → List Part → List Part → Result Leaf DecodeError
+leaf_from strict own shared = sheet_of own >>= λ sheet. Ok (record { strict = strict; sheet = sheet; parts = own; globals = named strict shared no_names })
+
+-- Each page of a file is made of the segments whose association is its number, those of association 0 and the
+-- strictness alone.
+abbrev pub PagesStandAlone : Type 0
+PagesStandAlone = (strict : Bool) (bytes : List ℕ) (file : FileHeader × List Part) (book : Book) (index : ℕ) (page : Leaf)
+    → file_at strict bytes ≡ Ok file → book_at strict bytes ≡ Ok book → page_of book index ≡ Some page
+    → leaf_from strict (of_page page.sheet.number file.1) (of_page 0 file.1) ≡ Ok page

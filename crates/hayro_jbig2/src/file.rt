@@ -1,15 +1,17 @@
 //! Files of pages.
-ghost use Rattle.std.specs.Prelude.{◌≡◌, ◌==◌, Ok, [], ◌∷◌, ◌++◌, length, option_map, slice_get};
+ghost use Rattle.std.specs.Prelude.{◌≡◌, ℕ, ◌==◌, Ok, [], ◌∷◌, ◌++◌, length, slice_get};
 ghost use Rattle.std.specs.List.{list_any};
+ghost use Rattle.std.specs.Map.Iter.{GivesInOrder};
 ghost use Rattle.jbig2_base.specs.Answer.{Answers, Gives};
 ghost use Rattle.jbig2_base.specs.SegmentViews.{header_view, part_view, parts};
-ghost use Rattle.hayro_jbig2.specs.Files.{needs_page, lacks_page, associated, is_known, with_number, numbers_after, of_page, is_end_of_page, ends_of, filed_at, filed_after, miscounts, book_at, leaf_of};
+ghost use Rattle.hayro_jbig2.specs.Files.{needs_page, lacks_page, associated, is_known, with_number, numbers_after, of_page, is_end_of_page, ends_of, filed_at, filed_after, miscounts, book_at, page_of, pages_of, PagesStandAlone};
 ghost use Rattle.hayro_jbig2.specs.Globals.{named};
-ghost use Rattle.hayro_jbig2.specs.Page.{no_names};
+ghost use Rattle.hayro_jbig2.specs.Page.{Leaf, no_names};
 ghost use Rattle.hayro_jbig2.specs.PageViews.{kept_names};
 
 use crate::globals::Globals;
 use crate::page::Page;
+use crate::pages::Pages;
 use crate::settings::DecodeSettings;
 use jbig2_base::error::{DecodeError, FormatError, Result, SegmentError};
 use jbig2_base::file::parse_file;
@@ -304,7 +306,8 @@ impl<'a, A: Allocator> File<'a, A> {
 
     /// The page at this index, from 0; None behind the last page.
     pub fn page(&self, index: usize) -> Option<Page<'_, A>>
-        ensures { result ≡ option_map (leaf_of self.now) (slice_get self.now.pages index) }
+        ensures value { result ≡ page_of self.now index }
+        ensures alone { PagesStandAlone }
     {
         match self.pages.get(index) {
             Some(page) => Some(Page::of_file(
@@ -315,5 +318,14 @@ impl<'a, A: Allocator> File<'a, A> {
             )),
             None => None,
         }
+    }
+
+    /// The pages in order: `page(index)` for each index below `page_count()`, rising.
+    pub fn pages(&self) -> Pages<'_, A>
+        ensures all { result ≡ pages_of self.now }
+        ensures each { (index : ℕ) → slice_get result index ≡ page_of self.now index }
+        ensures runs { GivesInOrder Leaf }
+    {
+        Pages::of_file(self)
     }
 }

@@ -12,6 +12,7 @@ pub mod file;
 pub mod globals;
 mod image;
 pub mod page;
+pub mod pages;
 pub mod parts;
 pub mod settings;
 
@@ -24,4 +25,5 @@ pub use jbig2_base::error::{
     SegmentError, SymbolError, TemplateError,
 };
 pub use page::Page;
+pub use pages::Pages;
 pub use settings::DecodeSettings;

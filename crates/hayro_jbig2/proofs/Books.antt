@@ -1,0 +1,171 @@
+-- The pages of a file one by one, and what each is made of.
+use Rattle.std.proofs.Common.{◌≡◌, ℕ, suc, zero, ◌+◌, ◌==◌, ◌<◌, Bool, true, false, not, ◌&&◌, ◌||◌, cond, nat_lt, List, [], ◌∷◌, ◌++◌, length, drop, map, Option, Some, None, Result, Ok, Err, refl, sym, ap, subst, ◌∙◌, arith}
+use Rattle.std.proofs.lemmas.Bool.{eqb-true}
+use Rattle.std.specs.Map.Iter.{TakesFirst}
+use Rattle.std.specs.Prelude.{slice_get, option_map}
+use Rattle.jbig2_base.specs.Answer.{◌>>=◌, refuse_if}
+use Rattle.jbig2_base.specs.PageInfo.{sheet_of, sheet_with, first_information, information_at, is_page_information, height_of, stripes_height}
+use Rattle.jbig2_base.specs.Segment.{Part}
+use Rattle.jbig2_base.specs.declared.error.DecodeError.{DecodeError}
+use Rattle.jbig2_base.specs.declared.error.DecodeError.TheVariants.{Format, Overflow}
+use Rattle.jbig2_base.specs.declared.error.FormatError.TheVariants.{EmptyPage, InvalidEndOfPage, PageCountMismatch}
+use Rattle.jbig2_base.specs.declared.error.OverflowError.TheVariants.{BitmapDimension}
+use Rattle.jbig2_base.specs.declared.file_header.FileHeader.{FileHeader}
+use Rattle.jbig2_base.specs.declared.page_info.PageInformation.{PageInformation}
+use Rattle.jbig2_base.specs.declared.page_info.Sheet.{Sheet}
+use Rattle.hayro_jbig2.specs.Files.{Filed, Book, of_page, ends_of, filed_at, filed_after, numbers_after, miscounts, associated, book_at, leaf_of, leaf_from, PagesStandAlone}
+use Rattle.hayro_jbig2.specs.Globals.{named}
+use Rattle.hayro_jbig2.specs.Page.{Leaf, Names, no_names}
+
+from_front : {X Y : Type 0} (f : X → Y) (xs : List X) (i : ℕ) → i < length xs → TakesFirst (λ (y : Y). y) (map f (drop i xs)) (option_map f (slice_get xs i)) (map f (drop (suc i) xs))
+from_front f [] i h = absurd (omega arith)
+from_front f (x ∷ xs) zero h = refl
+from_front f (x ∷ xs) (suc i) h = from_front f xs i (omega arith)
+
+-- An index moves on by one as its item is taken.
+pub taken_at : {X Y : Type 0} (f : X → Y) (xs : List X) (i j : ℕ) → i < length xs → j ≡ i + 1 → TakesFirst (λ (y : Y). y) (map f (drop i xs)) (option_map f (slice_get xs i)) (map f (drop j xs))
+taken_at {X} {Y} f xs i j h e =
+    let P : ℕ → Type 0 = λ n. TakesFirst (λ (y : Y). y) (map f (drop i xs)) (option_map f (slice_get xs i)) (map f (drop n xs)) in
+    let on : suc i ≡ j = omega arith in
+    subst P on (from_front f xs i h)
+
+-- Where two steps answered, the first did, and so did the second at its answer.
+record Answered {A B : Type 0} (r : Result A DecodeError) (next : A → Result B DecodeError) (y : B) : Type 0 where
+  first : A
+  was : r ≡ Ok first
+  then : next first ≡ Ok y
+
+answered : {A B : Type 0} (r : Result A DecodeError) (next : A → Result B DecodeError) (y : B) → (r >>= next) ≡ Ok y → Answered r next y
+answered (Ok x) next y h = record { first = x; was = refl; then = h }
+answered (Err e) next y h = absurd (cc)
+
+-- The first page information among the segments of one association has that association.
+information-of : (b : Bool) (n : ℕ) (q p : Part) (others : Result Part DecodeError) → q.header.page_association ≡ n → (others ≡ Ok p → p.header.page_association ≡ n) → cond b (Ok q) others ≡ Ok p → p.header.page_association ≡ n
+information-of true n q p others e later h =
+    let same : q ≡ p = cc in
+    ap (λ (r : Part). r.header.page_association) (sym same) ∙ e
+information-of false n q p others e later h = later h
+
+first-of : (b : Bool) (n : ℕ) (q p : Part) (qs : List Part) → (q.header.page_association == n) ≡ b → (first_information qs ≡ Ok p → p.header.page_association ≡ n) → first_information (cond b (q ∷ qs) qs) ≡ Ok p → p.header.page_association ≡ n
+first-of true n q p qs e later h = information-of (is_page_information q.header.segment_type) n q p (first_information qs) (eqb-true q.header.page_association n e) later h
+first-of false n q p qs e later h = later h
+
+first-of_page : (n : ℕ) (ps : List Part) (p : Part) → first_information (of_page n ps) ≡ Ok p → p.header.page_association ≡ n
+first-of_page n [] p h = absurd (cc)
+first-of_page n (q ∷ qs) p h = first-of (q.header.page_association == n) n q p (of_page n qs) refl (first-of_page n qs p) h
+
+-- a page's number is its segments' association
+abbrev sheet_of_first : List Part → Part → Result Sheet DecodeError
+sheet_of_first ps first = information_at first.bytes >>= λ info. height_of info.0.height (stripes_height ps) >>= λ height. sheet_with first.header.page_association info.0 height
+
+number-of_sheet : (number : ℕ) (info : PageInformation) (height : ℕ) (sheet : Sheet) → sheet_with number info height ≡ Ok sheet → sheet.number ≡ number
+number-of_sheet number info height sheet h =
+    let some = answered (refuse_if (info.width == 0 || height == 0) (Format EmptyPage)) (λ some. refuse_if (nat_lt 65535 info.width || nat_lt 65535 height) (Overflow BitmapDimension) >>= λ fits. Ok (record { number = number; width = info.width; height = height; default_pixel = info.flags.default_pixel })) sheet h in
+    let fits = answered (refuse_if (nat_lt 65535 info.width || nat_lt 65535 height) (Overflow BitmapDimension)) (λ fits. Ok (record { number = number; width = info.width; height = height; default_pixel = info.flags.default_pixel })) sheet some.then in
+    let sized : Sheet = record { number = number; width = info.width; height = height; default_pixel = info.flags.default_pixel } in
+    let same : sized ≡ sheet = let told = fits.then in cc in
+    ap (λ (t : Sheet). t.number) (sym same)
+
+number-of_page : (n : ℕ) (ps : List Part) (sheet : Sheet) → sheet_of (of_page n ps) ≡ Ok sheet → sheet.number ≡ n
+unfolding sheet_of
+number-of_page n ps sheet h =
+    let first = answered (first_information (of_page n ps)) (sheet_of_first (of_page n ps)) sheet h in
+    let info = answered (information_at first.first.bytes) (λ info. height_of info.0.height (stripes_height (of_page n ps)) >>= λ height. sheet_with first.first.header.page_association info.0 height) sheet first.then in
+    let height = answered (height_of info.first.0.height (stripes_height (of_page n ps))) (λ height. sheet_with first.first.header.page_association info.first.0 height) sheet info.then in
+    number-of_sheet first.first.header.page_association info.first.0 height.first sheet height.then ∙ first-of_page n ps first.first first.was
+
+-- A filed page is made of the segments of its own number.
+record IsOwn (ps : List Part) (page : Filed) : Type 0 where
+  sheet : sheet_of (of_page page.sheet.number ps) ≡ Ok page.sheet
+  parts : page.parts ≡ of_page page.sheet.number ps
+
+own-filed : (strict : Bool) (ps : List Part) (n : ℕ) (page : Filed) → filed_at strict ps n ≡ Ok page → IsOwn ps page
+unfolding filed_at
+own-filed strict ps n page h =
+    let own : List Part = of_page n ps in
+    let ended = answered (refuse_if (strict && not (ends_of own == 1)) (Format InvalidEndOfPage)) (λ ended. sheet_of own >>= λ sheet. Ok (record { sheet = sheet; parts = own })) page h in
+    let sheet = answered (sheet_of own) (λ sheet. Ok (record { sheet = sheet; parts = own })) page ended.then in
+    let made : Filed = record { sheet = sheet.first; parts = own } in
+    let same : made ≡ page = let told = sheet.then in cc in
+    let number : n ≡ sheet.first.number = sym (number-of_page n ps sheet.first sheet.was) in
+    let Own : ℕ → Type 0 = λ m. (sheet_of (of_page m ps) ≡ Ok sheet.first) × (own ≡ of_page m ps) in
+    let told = subst Own number (sheet.was, refl) in
+    let is : IsOwn ps made = record { sheet = told.0; parts = told.1 } in
+    subst (λ (p : Filed). IsOwn ps p) same is
+
+abbrev AllOwn : List Part → List Filed → Type 0
+AllOwn ps [] = Unit {0}
+AllOwn ps (page ∷ pages) = IsOwn ps page × AllOwn ps pages
+
+own-push : (ps : List Part) (pages : List Filed) (page : Filed) → AllOwn ps pages → IsOwn ps page → AllOwn ps (pages ++ page ∷ [])
+own-push ps [] page all own = (own, tt)
+own-push ps (p ∷ pages) page all own = (all.0, own-push ps pages page all.1 own)
+
+own-after : (strict : Bool) (ps : List Part) (before : List Filed) (ns : List ℕ) (pages : List Filed) → AllOwn ps before → filed_after strict ps before ns ≡ Ok pages → AllOwn ps pages
+own-after strict ps before [] pages all h =
+    let same : before ≡ pages = cc in
+    subst (AllOwn ps) same all
+own-after strict ps before (n ∷ ns) pages all h =
+    let page = answered (filed_at strict ps n) (λ page. filed_after strict ps (before ++ page ∷ []) ns) pages h in
+    own-after strict ps (before ++ page.first ∷ []) ns pages (own-push ps before page.first all (own-filed strict ps n page.first page.was)) page.then
+
+own-at : (ps : List Part) (pages : List Filed) (index : ℕ) (page : Filed) → AllOwn ps pages → slice_get pages index ≡ Some page → IsOwn ps page
+own-at ps [] index page all h = absurd (cc)
+own-at ps (p ∷ pages) zero page all h =
+    let same : p ≡ page = cc in
+    subst (IsOwn ps) same all.0
+own-at ps (p ∷ pages) (suc index) page all h = own-at ps pages index page all.1 h
+
+-- a file's book, from its header and its segments
+abbrev pages_with : Bool → FileHeader × List Part → Result Book DecodeError
+pages_with strict file = filed_after strict file.1 [] (numbers_after [] file.1) >>= λ pages. Ok (record { strict = strict; pages = pages; globals = named strict (of_page 0 file.1) no_names })
+
+abbrev counted_with : Bool → FileHeader × List Part → Result Book DecodeError
+counted_with strict file = refuse_if (strict && miscounts file.0.number_of_pages (length (numbers_after [] file.1))) (Format PageCountMismatch) >>= λ counted. pages_with strict file
+
+abbrev book_with : Bool → FileHeader × List Part → Result Book DecodeError
+book_with strict file = associated strict file.1 >>= λ known. counted_with strict file
+
+record Filled (strict : Bool) (ps : List Part) (book : Book) : Type 0 where
+  own : AllOwn ps book.pages
+  strictly : book.strict ≡ strict
+  shared : book.globals ≡ named strict (of_page 0 ps) no_names
+
+filled : (strict : Bool) (file : FileHeader × List Part) (book : Book) → book_with strict file ≡ Ok book → Filled strict file.1 book
+filled strict file book h =
+    let known = answered (associated strict file.1) (λ known. counted_with strict file) book h in
+    let counted = answered (refuse_if (strict && miscounts file.0.number_of_pages (length (numbers_after [] file.1))) (Format PageCountMismatch)) (λ counted. pages_with strict file) book known.then in
+    let pages = answered (filed_after strict file.1 [] (numbers_after [] file.1)) (λ pages. Ok (record { strict = strict; pages = pages; globals = named strict (of_page 0 file.1) no_names })) book counted.then in
+    let made : Book = record { strict = strict; pages = pages.first; globals = named strict (of_page 0 file.1) no_names } in
+    let same : made ≡ book = let told = pages.then in cc in
+    let own : AllOwn file.1 pages.first = own-after strict file.1 [] (numbers_after [] file.1) pages.first tt pages.was in
+    let is : Filled strict file.1 made = record { own = own; strictly = refl; shared = refl } in
+    subst (λ (b : Book). Filled strict file.1 b) same is
+
+record Mapped {X Y : Type 0} (f : X → Y) (o : Option X) (y : Y) : Type 0 where
+  from : X
+  was : o ≡ Some from
+  is : f from ≡ y
+
+mapped : {X Y : Type 0} (f : X → Y) (o : Option X) (y : Y) → option_map f o ≡ Some y → Mapped f o y
+mapped f None y h = absurd (cc)
+mapped f (Some x) y h = record { from = x; was = refl; is = cc }
+
+own-leaf : (strict : Bool) (ps : List Part) (book : Book) (page : Filed) → Filled strict ps book → IsOwn ps page → leaf_from strict (of_page page.sheet.number ps) (of_page 0 ps) ≡ Ok (leaf_of book page)
+own-leaf strict ps book page filled own =
+    let ending : Sheet → Result Leaf DecodeError = λ sheet. Ok (record { strict = strict; sheet = sheet; parts = of_page page.sheet.number ps; globals = named strict (of_page 0 ps) no_names }) in
+    let told : leaf_from strict (of_page page.sheet.number ps) (of_page 0 ps) ≡ ending page.sheet = ap (λ (r : Result Sheet DecodeError). r >>= ending) own.sheet in
+    told
+    ∙ ap (λ (b : Bool). Ok (record { strict = b; sheet = page.sheet; parts = of_page page.sheet.number ps; globals = named strict (of_page 0 ps) no_names })) (sym filled.strictly)
+    ∙ ap (λ (own_parts : List Part). Ok (record { strict = book.strict; sheet = page.sheet; parts = own_parts; globals = named strict (of_page 0 ps) no_names })) (sym own.parts)
+    ∙ ap (λ (names : Result Names DecodeError). Ok (record { strict = book.strict; sheet = page.sheet; parts = page.parts; globals = names })) (sym filled.shared)
+
+pub pages_stand_alone : PagesStandAlone
+unfolding book_at
+pages_stand_alone strict bytes file book index page read h at =
+    let with_file : book_with strict file ≡ Ok book = sym (ap (λ (r : Result (FileHeader × List Part) DecodeError). r >>= book_with strict) read) ∙ h in
+    let all = filled strict file book with_file in
+    let leaf = mapped (leaf_of book) (slice_get book.pages index) page at in
+    let own = own-at file.1 book.pages index leaf.from all.own leaf.was in
+    let Alone : Leaf → Type 0 = λ l. leaf_from strict (of_page l.sheet.number file.1) (of_page 0 file.1) ≡ Ok l in
+    subst Alone leaf.is (own-leaf strict file.1 book leaf.from all own)
