@@ -1,4 +1,5 @@
 pub mod Books
+pub mod Consuming
 mod Direct
 pub mod Runs
 pub mod Sending

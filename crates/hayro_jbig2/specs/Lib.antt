@@ -1,5 +1,6 @@
 pub mod Calls
 pub mod Files
+pub mod FirstPage
 pub mod Globals
 pub mod Image
 pub mod Page

@@ -11,9 +11,12 @@ mod drawing;
 pub mod file;
 pub mod globals;
 mod image;
+pub mod jbig2_decoder;
+pub mod jbig2_error;
 pub mod page;
 pub mod pages;
 pub mod parts;
+pub mod reading;
 pub mod settings;
 
 pub use context::DecoderContext;
@@ -24,6 +27,8 @@ pub use jbig2_base::error::{
     DecodeError, FormatError, HuffmanError, OverflowError, ParseError, RegionError, Result,
     SegmentError, SymbolError, TemplateError,
 };
+pub use jbig2_decoder::Jbig2Decoder;
+pub use jbig2_error::Jbig2Error;
 pub use page::Page;
 pub use pages::Pages;
 pub use settings::DecodeSettings;

@@ -1,0 +1,106 @@
+//! The first page of a file that a reader gives.
+ghost use Rattle.std.specs.Prelude.{◌≡◌, ◌*◌, Ok, IfOk, IfSome, OnErr, length};
+ghost use Rattle.jbig2_base.specs.Answer.{Gives};
+ghost use Rattle.hayro_jbig2.specs.FirstPage.{first_size, first_image, Opens, GivesAgain};
+
+use crate::file::File;
+use crate::jbig2_error::Jbig2Error;
+use crate::reading::read_all;
+use crate::settings::DecodeSettings;
+use jbig2_base::error::{DecodeError, FormatError};
+use std::alloc::Allocator;
+use std::io::Read;
+use std::marker::Model;
+
+const LENIENT: DecodeSettings = DecodeSettings { strict: false };
+
+/// A decoder of the first page of a file, which is read leniently. It keeps the file's bytes.
+#[derive(Drop)]
+pub struct Jbig2Decoder<A: Allocator> {
+    bytes: Vec<u8, A>,
+    width: u32,
+    height: u32,
+}
+
+impl<A: Allocator> Model for Jbig2Decoder<A> {
+    ghost use Rattle.std.specs.Prelude.{◌≡◌, Ok};
+    ghost use Rattle.hayro_jbig2.specs.FirstPage.{Scan, first_size};
+
+    ghost Value = { Scan };
+
+    ghost view = { λ decoder. record { bytes = decoder.bytes.items; width = decoder.width; height = decoder.height } };
+
+    ghost invariant = { λ decoder. first_size decoder.bytes.items ≡ Ok (decoder.width, decoder.height) };
+}
+
+/// The width and the height of the first page.
+#[tactic(auto, unfolding(crate::specs::FirstPage::first_page))]
+fn first_size<A: Allocator + Clone>(alloc: A, bytes: &[u8]) -> jbig2_base::error::Result<(u32, u32)>
+    ensures { Gives (λ size. size) result (first_size bytes.now) }
+{
+    let file = File::new(alloc, bytes, &LENIENT)?;
+    match file.page(0) {
+        Some(page) => Ok(page.dimensions()),
+        None => Err(DecodeError::Format(FormatError::MissingPageInfo)),
+    }
+}
+
+/// Writes the first page, as `Page::read_image` does.
+#[tactic(auto, unfolding(crate::specs::FirstPage::first_page))]
+fn first_image<A: Allocator + Clone>(
+    alloc: A,
+    bytes: &[u8],
+    buf: &mut [u8],
+) -> jbig2_base::error::Result<()>
+    requires { IfOk (first_size bytes.now) (λ size. length buf.old ≡ size.0 * size.1) }
+    ensures value { Gives (λ _. buf.new) result (first_image bytes.now) }
+    ensures unchanged { OnErr result (buf.new ≡ buf.old) }
+{
+    let file = File::new(alloc, bytes, &LENIENT)?;
+    match file.page(0) {
+        Some(page) => page.read_image(buf),
+        None => Err(DecodeError::Format(FormatError::MissingPageInfo)),
+    }
+}
+
+impl<A: Allocator + Clone> Jbig2Decoder<A> {
+    /// Reads the whole input, going on after an interruption, and finds its first page.
+    ///
+    /// Answers `Jbig2Error::Io` for another fault of the reader, of any kind, or where no end comes within
+    /// 2^64 - 1 reads, and `Jbig2Error::Decode` for a fault of the file. The reader is dropped.
+    pub fn new<R: Read + Drop>(alloc: A, mut reader: R) -> Result<Jbig2Decoder<A>, Jbig2Error>
+        ensures { IfSome (R.remaining reader) (λ told. Opens told result) }
+    {
+        let bytes = read_all(alloc.clone()?, &mut reader)?;
+        let (width, height) = first_size(alloc, &bytes)?;
+        Ok(Jbig2Decoder {
+            bytes,
+            width,
+            height,
+        })
+    }
+
+    /// Writes the page into `buf`, which holds a byte for each pixel: rows from the top, 0 for
+    /// black and 255 for white.
+    ///
+    /// Answers `Jbig2Error::Decode` alone; `buf` is then as it was.
+    pub fn read_image(&self, buf: &mut [u8]) -> Result<(), Jbig2Error>
+        requires { length buf.old ≡ self.now.width * self.now.height }
+        ensures value { GivesAgain (λ _. buf.new) result (first_image self.now.bytes) }
+        ensures unchanged { OnErr result (buf.new ≡ buf.old) }
+    {
+        let alloc = self.bytes.allocator().clone()?;
+        first_image(alloc, &self.bytes, buf)?;
+        Ok(())
+    }
+}
+
+impl<A: Allocator> Jbig2Decoder<A> {
+    /// The width and the height of the page in pixels.
+    pub fn dimensions(&self) -> (u32, u32)
+        ensures value { result ≡ (self.now.width, self.now.height) }
+        ensures first { first_size self.now.bytes ≡ Ok result }
+    {
+        (self.width, self.height)
+    }
+}
