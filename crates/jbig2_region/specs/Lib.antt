@@ -2,6 +2,7 @@ pub mod Generic
 pub mod GenericHeader
 pub mod Holds
 pub mod Raster
+pub mod Skipping
 pub mod RegionInfo
 pub mod T6
 pub mod T6Calls

@@ -22,7 +22,7 @@ const fn pixel(x: i16, y: i16) -> AdaptiveTemplatePixel
 }
 
 /// The pixels of template 0, bit 0 of a context first (Figure 3).
-fn template_0(a: &[AdaptiveTemplatePixel; 4]) -> [AdaptiveTemplatePixel; 16]
+pub fn template_0(a: &[AdaptiveTemplatePixel; 4]) -> [AdaptiveTemplatePixel; 16]
     ensures { result ≡ template_0 a.now }
 {
     [
@@ -46,7 +46,7 @@ fn template_0(a: &[AdaptiveTemplatePixel; 4]) -> [AdaptiveTemplatePixel; 16]
 }
 
 /// The pixels of template 1 (Figure 4).
-fn template_1(a: &[AdaptiveTemplatePixel; 4]) -> [AdaptiveTemplatePixel; 13]
+pub fn template_1(a: &[AdaptiveTemplatePixel; 4]) -> [AdaptiveTemplatePixel; 13]
     ensures { result ≡ template_1 a.now }
 {
     [
@@ -67,7 +67,7 @@ fn template_1(a: &[AdaptiveTemplatePixel; 4]) -> [AdaptiveTemplatePixel; 13]
 }
 
 /// The pixels of template 2 (Figure 5).
-fn template_2(a: &[AdaptiveTemplatePixel; 4]) -> [AdaptiveTemplatePixel; 10]
+pub fn template_2(a: &[AdaptiveTemplatePixel; 4]) -> [AdaptiveTemplatePixel; 10]
     ensures { result ≡ template_2 a.now }
 {
     [
@@ -85,7 +85,7 @@ fn template_2(a: &[AdaptiveTemplatePixel; 4]) -> [AdaptiveTemplatePixel; 10]
 }
 
 /// The pixels of template 3 (Figure 6).
-fn template_3(a: &[AdaptiveTemplatePixel; 4]) -> [AdaptiveTemplatePixel; 10]
+pub fn template_3(a: &[AdaptiveTemplatePixel; 4]) -> [AdaptiveTemplatePixel; 10]
     ensures { result ≡ template_3 a.now }
 {
     [
@@ -163,7 +163,7 @@ fn pixel_near<A: Allocator, L: Ledger>(
 
 /// The number of the context at column `x` of row `y`.
 #[inline(always)]
-fn context_at<A: Allocator, L: Ledger>(
+pub fn context_at<A: Allocator, L: Ledger>(
     pixels: &[AdaptiveTemplatePixel],
     bitmap: &Bitmap<A>,
     x: u32,

@@ -4,8 +4,9 @@
 pub mod generic;
 mod generic_coding;
 pub mod mmr;
-mod raster;
+pub mod raster;
 pub mod region_info;
+pub mod skipping;
 pub mod template;
 #[cfg(test)]
 mod tests;
