@@ -1,0 +1,2 @@
+pub mod PatternHeader
+pub mod Patterns

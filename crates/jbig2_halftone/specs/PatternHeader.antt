@@ -1,0 +1,55 @@
+-- The data of a pattern dictionary segment up to its coded bytes (T.88, 7.4.4).
+use Rattle.std.specs.Prelude.{ℕ, ◌/◌, ◌%◌, ◌==◌, Bool, List, Result, Ok}
+use Rattle.std.specs.Int.{w8, w32}
+use Rattle.jbig2_base.specs.Answer.{◌>>=◌, refuse_if}
+use Rattle.jbig2_base.specs.Fields.{number_at, end_of_bytes}
+use Rattle.jbig2_base.specs.declared.error.DecodeError.{DecodeError}
+use Rattle.jbig2_region.specs.Templates.{template_of}
+use Rattle.jbig2_region.specs.declared.template.Template.{Template}
+use Rattle.jbig2_halftone.specs.declared.pattern.PatternDictionaryHeader.{PatternDictionaryHeader}
+
+-- What a dictionary's coded bytes are decoded by. There is one pattern more than num_patterns, which is the largest
+-- gray value (7.4.4.1.4).
+pub record PatternHeader : Type 0 where
+  pub mmr : Bool
+  pub template : Template
+  pub pattern_width : ℕ
+  pub pattern_height : ℕ
+  pub num_patterns : ℕ
+  pub bytes : List ℕ
+  pub strict : Bool
+
+abbrev pub header_view : PatternDictionaryHeader → PatternHeader
+header_view h = record {
+  mmr = h.mmr;
+  template = h.template;
+  pattern_width = h.pattern_width;
+  pattern_height = h.pattern_height;
+  num_patterns = h.num_patterns;
+  bytes = h.bytes.now;
+  strict = h.strict;
+}
+
+-- a side of a pattern; a side of no pixels counts as missing (our own rule)
+abbrev pub side_at : List ℕ → Result (ℕ × List ℕ) DecodeError
+side_at bytes = number_at w8 bytes >>= λ n. refuse_if (n.0 == 0) end_of_bytes >>= λ some. Ok n
+
+-- All of it, and the place where the coded bytes begin.
+unfoldable pub pattern_header_at : Bool → List ℕ → Result (PatternHeader × List ℕ) DecodeError
+pattern_header_at strict bytes = do
+  flags ← number_at w8 bytes
+  width ← side_at flags.1
+  height ← side_at width.1
+  largest ← number_at w32 height.1
+  Ok (
+    record {
+      mmr = flags.0 % 2 == 1;
+      template = template_of (flags.0 / 2 % 4);
+      pattern_width = width.0;
+      pattern_height = height.0;
+      num_patterns = largest.0;
+      bytes = largest.1;
+      strict = strict;
+    },
+    largest.1,
+  )

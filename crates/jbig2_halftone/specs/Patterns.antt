@@ -1,0 +1,61 @@
+-- Pattern dictionaries (T.88, 6.7): the patterns stand side by side in one collective bitmap.
+use Rattle.std.specs.Prelude.{ℕ, ◌+◌, ◌*◌, nat_lt, false, List, [], ◌∷◌, map, Result, Ok}
+use Rattle.std.specs.List.{range_with_len}
+use Rattle.jbig2_base.specs.Answer.{◌>>=◌, refuse_if}
+use Rattle.jbig2_base.specs.Grid.{Grid, grid_of, pixel_at}
+use Rattle.jbig2_base.specs.declared.bitmap.operator.CombinationOperator.TheVariants.{Or}
+use Rattle.jbig2_base.specs.declared.error.DecodeError.{DecodeError}
+use Rattle.jbig2_base.specs.declared.error.DecodeError.TheVariants.{Overflow}
+use Rattle.jbig2_base.specs.declared.error.OverflowError.TheVariants.{BitmapDimension}
+use Rattle.jbig2_region.specs.Generic.{generic_answer}
+use Rattle.jbig2_region.specs.GenericHeader.{GenericHeader}
+use Rattle.jbig2_region.specs.Templates.{left, right}
+use Rattle.jbig2_region.specs.declared.template.GenericTemplatePixels.{GenericTemplatePixels}
+use Rattle.jbig2_region.specs.declared.template.GenericTemplatePixels.TheVariants.{Regular}
+use Rattle.jbig2_halftone.specs.PatternHeader.{PatternHeader}
+use Rattle.jbig2_halftone.specs.declared.pattern.dictionary.PatternDictionary.{PatternDictionary}
+
+-- The patterns of a dictionary, which have one size.
+pub record Patterns : Type 0 where
+  pub grids : List Grid
+  pub width : ℕ
+  pub height : ℕ
+
+abbrev pub dictionary_view : {A : Type 0} → PatternDictionary A → Patterns
+dictionary_view d = record { grids = d.patterns.items; width = d.pattern_width; height = d.pattern_height }
+
+abbrev pub number_of_patterns : PatternHeader → ℕ
+number_of_patterns h = h.num_patterns + 1
+
+abbrev pub collective_width : PatternHeader → ℕ
+collective_width h = number_of_patterns h * h.pattern_width
+
+-- A1 lies one pattern to the left, in the same row (Table 27). Templates 1 to 3 have no other adaptive pixel.
+abbrev pub collective_pixels : ℕ → GenericTemplatePixels
+collective_pixels width = Regular (left width 0 ∷ left 3 1 ∷ right 2 2 ∷ left 2 2 ∷ [])
+
+-- the collective bitmap as a generic region, without typical prediction (Table 27)
+abbrev pub collective_header : PatternHeader → GenericHeader
+collective_header h = record {
+  region_info = record { width = collective_width h; height = h.pattern_height; x_location = 0; y_location = 0; combination_operator = Or };
+  mmr = h.mmr;
+  template = h.template;
+  tpgdon = false;
+  adaptive_template_pixels = collective_pixels h.pattern_width;
+  bytes = h.bytes;
+  strict = h.strict;
+}
+
+-- pattern k: the columns from k * width on
+abbrev pub pattern_of : Grid → ℕ → ℕ → ℕ → Grid
+pattern_of collective width height k = grid_of width height (λ x y. pixel_at collective (k * width + x) y)
+
+unfoldable pub patterns_of : Grid → ℕ → ℕ → ℕ → List Grid
+patterns_of collective width height count = map (λ k. pattern_of collective width height k) (range_with_len 0 count)
+
+-- The dictionary; a collective bitmap of more than 65535 columns is refused (our own rule).
+unfoldable pub patterns_at : PatternHeader → Result Patterns DecodeError
+patterns_at h = do
+  fits ← refuse_if (nat_lt 65535 (collective_width h)) (Overflow BitmapDimension)
+  collective ← generic_answer (collective_header h)
+  Ok (record { grids = patterns_of collective h.pattern_width h.pattern_height (number_of_patterns h); width = h.pattern_width; height = h.pattern_height })

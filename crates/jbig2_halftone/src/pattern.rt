@@ -1,0 +1,206 @@
+//! Pattern dictionaries (T.88, 6.7 and 7.4.4).
+ghost use Rattle.std.specs.Prelude.{◌≡◌, ◌+◌, ◌*◌, ◌≤◌, length, IfOk, Ok};
+ghost use Rattle.jbig2_base.specs.Answer.{Answers, Gives};
+ghost use Rattle.jbig2_base.specs.Bits.{IsAligned};
+ghost use Rattle.jbig2_region.specs.Generic.{generic_answer};
+ghost use Rattle.jbig2_halftone.specs.PatternHeader.{header_view, side_at, pattern_header_at};
+ghost use Rattle.jbig2_halftone.specs.Patterns.{dictionary_view, collective_width, collective_pixels, collective_header, pattern_of, patterns_of, patterns_at};
+
+mod dictionary;
+
+pub use dictionary::PatternDictionary;
+use jbig2_base::bitmap::Bitmap;
+use jbig2_base::bitmap::operator::CombinationOperator;
+use jbig2_base::bitmap::steps::Steps;
+use jbig2_base::error::{DecodeError, OverflowError, ParseError, Result};
+use jbig2_base::field::{byte_field, u32_field};
+use jbig2_base::reader::Reader;
+use jbig2_coder::arithmetic_decoder::ArithmeticDecoderContext;
+use jbig2_region::generic::{self, GenericRegionHeader};
+use jbig2_region::region_info::RegionSegmentInfo;
+use jbig2_region::template::{AdaptiveTemplatePixel, GenericTemplatePixels, Template};
+use std::alloc::Allocator;
+use std::sync::ledger::Ledger;
+
+/// The widest collective bitmap, in pixels.
+const MAX_DIMENSION: u64 = 65535;
+
+/// What a pattern dictionary's coded bytes are decoded by (T.88, 7.4.4).
+#[derive(Clone, Copy, Debug)]
+pub struct PatternDictionaryHeader<'a> {
+    /// Whether the bytes are coded with MMR, in place of the arithmetic coder.
+    pub mmr: bool,
+    pub template: Template,
+    /// In pixels.
+    pub pattern_width: u8,
+    /// In pixels.
+    pub pattern_height: u8,
+    /// The largest gray value: one less than the number of patterns.
+    pub num_patterns: u32,
+    /// The coded bytes.
+    pub bytes: &'a [u8],
+    /// Whether faulty MMR data is refused.
+    pub strict: bool,
+}
+
+/// A side of a pattern, which is not 0.
+fn side_field(reader: &mut Reader<'_>) -> Result<u8>
+    requires { IsAligned reader.old }
+    ensures value { Answers (λ x. (x, reader.new.bytes)) result (side_at reader.old.bytes) }
+    ensures aligned { IsAligned reader.new }
+    ensures some { IfOk result (λ x. 1 ≤ x) }
+{
+    let side = byte_field(reader)?;
+    if side == 0 {
+        return Err(DecodeError::Parse(ParseError::UnexpectedEof));
+    }
+    Ok(side)
+}
+
+/// The header of a pattern dictionary at the reader's place, which holds the coded bytes behind it
+/// (T.88, 7.4.4).
+///
+/// `ParseError::UnexpectedEof` where the bytes do not hold it, or where a pattern has no pixels.
+/// Takes no memory.
+#[tactic(auto, unfolding(crate::specs::PatternHeader::pattern_header_at))]
+pub fn parse<'a>(reader: &mut Reader<'a>, strict: bool) -> Result<PatternDictionaryHeader<'a>>
+    requires { IsAligned reader.old }
+    ensures value { Answers (λ h. (header_view h, reader.new.bytes)) result (pattern_header_at strict reader.old.bytes) }
+    ensures aligned { IsAligned reader.new }
+    ensures width { IfOk result (λ h. 1 ≤ h.pattern_width) }
+    ensures height { IfOk result (λ h. 1 ≤ h.pattern_height) }
+{
+    let flags = byte_field(reader)?;
+    let pattern_width = side_field(reader)?;
+    let pattern_height = side_field(reader)?;
+    let num_patterns = u32_field(reader)?;
+    Ok(PatternDictionaryHeader {
+        mmr: flags % 2 == 1,
+        template: Template::from_number(flags / 2 % 4),
+        pattern_width,
+        pattern_height,
+        num_patterns,
+        bytes: reader.tail(),
+        strict,
+    })
+}
+
+/// The adaptive pixels of a collective bitmap: A1 lies one pattern to the left (T.88, Table 27).
+fn collective_pixels(pattern_width: u8) -> GenericTemplatePixels
+    ensures { result ≡ collective_pixels pattern_width }
+{
+    GenericTemplatePixels::Regular([
+        AdaptiveTemplatePixel {
+            x: -i16::from(pattern_width),
+            y: 0,
+        },
+        AdaptiveTemplatePixel { x: -3, y: -1 },
+        AdaptiveTemplatePixel { x: 2, y: -2 },
+        AdaptiveTemplatePixel { x: -2, y: -2 },
+    ])
+}
+
+/// Pattern `k`: the columns of a collective bitmap from `k` times the width on.
+fn cut_pattern<A: Allocator, L: Ledger>(
+    alloc: A,
+    collective: &Bitmap<A>,
+    width: u32,
+    height: u32,
+    k: u32,
+    steps: &mut Steps<L>,
+) -> Result<Bitmap<A>>
+    requires columns { width ≤ 65535 }
+    requires rows { height ≤ 65535 }
+    requires place { k * width ≤ 65535 }
+    ensures { Gives (λ pattern. pattern) result (Ok (pattern_of collective.now width height k)) }
+{
+    let mut pattern = Bitmap::new(alloc, width, height)?;
+    let left = (k * width) as i32;
+    pattern.combine(collective, -left, 0, CombinationOperator::Replace, steps);
+    Ok(pattern)
+}
+
+/// The patterns that a collective bitmap holds side by side.
+fn cut_patterns<A: Allocator + Clone, L: Ledger>(
+    alloc: A,
+    collective: &Bitmap<A>,
+    width: u32,
+    height: u32,
+    count: u32,
+    steps: &mut Steps<L>,
+) -> Result<Vec<Bitmap<A>, A>>
+    requires columns { width ≤ 65535 }
+    requires rows { height ≤ 65535 }
+    requires all { count * width ≤ 65535 }
+    ensures { Gives (λ patterns. patterns.items) result (Ok (patterns_of collective.now width height count)) }
+{
+    let mut patterns = Vec::new(alloc.clone()?);
+    for k in 0..count {
+        patterns.push(cut_pattern(alloc.clone()?, collective, width, height, k, steps)?)?;
+    }
+    Ok(patterns)
+}
+
+/// The collective bitmap of a dictionary (T.88, 6.7.5).
+fn decode_collective<A: Allocator, B: Allocator, L: Ledger>(
+    alloc: A,
+    header: &PatternDictionaryHeader<'_>,
+    width: u32,
+    contexts: &mut Vec<ArithmeticDecoderContext, B>,
+    steps: &mut Steps<L>,
+) -> Result<Bitmap<A>>
+    requires width { width ≡ collective_width (header_view header.now) }
+    requires columns { width ≤ 65535 }
+    ensures { Gives (λ collective. collective) result (generic_answer (collective_header (header_view header.now))) }
+{
+    let region_info = RegionSegmentInfo {
+        width,
+        height: u32::from(header.pattern_height),
+        x_location: 0,
+        y_location: 0,
+        combination_operator: CombinationOperator::Or,
+    };
+    let generic_header = GenericRegionHeader {
+        region_info,
+        mmr: header.mmr,
+        template: header.template,
+        tpgdon: false,
+        adaptive_template_pixels: collective_pixels(header.pattern_width),
+        bytes: header.bytes,
+        strict: header.strict,
+    };
+    let mut collective = Bitmap::new(alloc, region_info.width, region_info.height)?;
+    generic::decode_into(&generic_header, &mut collective, contexts, steps)?;
+    Ok(collective)
+}
+
+/// Decodes a pattern dictionary (T.88, 6.7). `contexts` is room that is written over.
+///
+/// `OverflowError::BitmapDimension` where the patterns side by side have more than 65535 columns; in
+/// strict mode `RegionError::InvalidMmrData` where MMR data has a fault or lacks a row;
+/// `OutOfMemory` where there is no room.
+#[tactic(auto, unfolding(crate::specs::Patterns::patterns_at))]
+pub fn decode<A: Allocator + Clone, B: Allocator, L: Ledger>(
+    alloc: A,
+    header: &PatternDictionaryHeader<'_>,
+    contexts: &mut Vec<ArithmeticDecoderContext, B>,
+    steps: &mut Steps<L>,
+) -> Result<PatternDictionary<A>>
+    requires { 1 ≤ header.now.pattern_width }
+    ensures { Gives (λ dictionary. dictionary_view dictionary) result (patterns_at (header_view header.now)) }
+{
+    let width = u32::from(header.pattern_width);
+    let height = u32::from(header.pattern_height);
+    let columns = (u64::from(header.num_patterns) + 1) * u64::from(width);
+    if columns > MAX_DIMENSION {
+        return Err(DecodeError::Overflow(OverflowError::BitmapDimension));
+    }
+    let collective = decode_collective(alloc.clone()?, header, columns as u32, contexts, steps)?;
+    let count = header.num_patterns + 1;
+    let patterns = cut_patterns(alloc, &collective, width, height, count, steps)?;
+    Ok(PatternDictionary {
+        patterns,
+        pattern_width: width,
+        pattern_height: height,
+    })
+}

@@ -1,0 +1,18 @@
+//! The patterns of a dictionary.
+ghost use Rattle.std.specs.Prelude.{◌≤◌, length};
+
+use jbig2_base::bitmap::Bitmap;
+use std::alloc::Allocator;
+
+/// Patterns, of which a gray value names one.
+#[derive(Drop)]
+pub struct PatternDictionary<A: Allocator> {
+    /// Pattern `k` is drawn for gray value `k`.
+    pub patterns: Vec<Bitmap<A>, A>,
+    /// In pixels.
+    pub pattern_width: u32,
+    /// In pixels.
+    pub pattern_height: u32,
+    ghost some: { 1 ≤ length patterns.items },
+    ghost few: { length patterns.items ≤ 65535 },
+}
