@@ -1,7 +1,7 @@
 -- The decoder reads from a list's bytes that list's decisions.
-use Rattle.std.proofs.Common.{◌≡◌, ℕ, ◌+◌, Bool, List, [], ◌∷◌, length, map, refl, sym, ap, ◌∙◌, subst}
+use Rattle.std.proofs.Common.{◌≡◌, ℕ, Bool, List, [], ◌∷◌, length, map, refl, sym, ap, ◌∙◌, subst}
 use Rattle.jbig2_coder.specs.Coder.{Context, Decision, byte_at, decision, started}
-use Rattle.jbig2_coder.specs.Encoder.{Writer, Coding, Encoding, opened, encoding, flushed, closed}
+use Rattle.jbig2_coder.specs.Encoder.{Coding, Encoding, opened, encoding, flushed, closed}
 use Rattle.jbig2_coder.specs.Lists.{Contexts, all_fresh, with_context, encode_from, encoded, decoded_from, decoded, DecodesBack}
 use Rattle.jbig2_coder.specs.declared.arithmetic_decoder.registers.Registers.{Registers}
 use Rattle.jbig2_coder.proofs.InverseBytes.{Valid, first}

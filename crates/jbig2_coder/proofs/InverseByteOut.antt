@@ -1,9 +1,9 @@
 -- BYTEOUT changes no number: it moves digits from the register to the bytes.
-use Rattle.std.proofs.Common.{◌≡◌, ℕ, suc, ◌+◌, ◌-◌, ◌*◌, ◌/◌, ◌%◌, ◌^◌, ◌<◌, ◌≤◌, List, [], ◌∷◌, length, refl, sym, ◌∙◌, arith, subst, ⊎_elim, ◌⊎◌, inl, inr}
+use Rattle.std.proofs.Common.{◌≡◌, ℕ, ◌+◌, ◌-◌, ◌*◌, ◌/◌, ◌%◌, ◌^◌, ◌<◌, ◌≤◌, List, [], ◌∷◌, length, refl, sym, ◌∙◌, arith, subst, ⊎_elim, ◌⊎◌, inl, inr}
 use Rattle.std.proofs.lemmas.Bool.{cases_eq, cases_lt}
 use Rattle.jbig2_coder.specs.Encoder.{Writer, plain, stuffed, byte_out}
 use Rattle.jbig2_coder.proofs.Encoders.{byte_out-none, byte_out-full, byte_out-below, byte_out-carry_full, byte_out-carry}
-use Rattle.jbig2_coder.proofs.InverseBytes.{width, bits, value, Valid, width-full, width-other, cases_width}
+use Rattle.jbig2_coder.proofs.InverseBytes.{width, bits, value, Valid, width-full, width-other}
 
 -- the low end of the interval, as the bytes that are out and the register name it together
 abbrev pub low : Writer → ℕ
@@ -153,6 +153,7 @@ put-last a c b r some valid room =
           valid = (omega (arith, valid.0), (λ e. let k = room.1 e in omega (arith, k)), valid.2);
           room = omega (arith, room.0);
         }
+
     carry : (b ≡ 255 → ⊥) → 2 ^ 27 ≤ c → Put a c (b ∷ r) (byte_out c (b ∷ r))
     carry free h =
         ⊎_elim

@@ -1,17 +1,16 @@
 -- The bytes behind a closed list, and the decoder's start over them.
-use Rattle.std.proofs.Common.{◌≡◌, ℕ, zero, suc, ◌+◌, ◌-◌, ◌*◌, ◌%◌, ◌^◌, ◌<◌, ◌≤◌, true, false, List, [], ◌∷◌, ◌++◌, append_assoc, length, reverse, get_or, eqb, refl, sym, ap, ◌∙◌, arith, subst, ⊎_elim, ◌⊎◌, inl, inr}
-use Rattle.std.proofs.lemmas.Bool.{cases_Bool, eqb-true, eqb-false, eq-eqb}
+use Rattle.std.proofs.Common.{◌≡◌, ℕ, zero, suc, ◌+◌, ◌-◌, ◌*◌, ◌%◌, ◌^◌, ◌<◌, ◌≤◌, true, false, List, [], ◌∷◌, ◌++◌, append_assoc, length, reverse, get_or, refl, sym, ap, ◌∙◌, arith, subst, ⊎_elim, ◌⊎◌, inl}
+use Rattle.std.proofs.lemmas.Bool.{cases_Bool, eqb-true}
 use Rattle.std.proofs.lemmas.List.{reverse-append, reverse-reverse, length-reverse, get_or_at, get_or-append-add}
 use Rattle.jbig2_coder.specs.Coder.{byte_at, byte_in, started}
-use Rattle.jbig2_coder.specs.Encoder.{Coding, opened, is_full, closed}
+use Rattle.jbig2_coder.specs.Encoder.{opened, is_full, closed}
 use Rattle.jbig2_coder.specs.declared.arithmetic_decoder.registers.CodeRegister.{CodeRegister}
-use Rattle.jbig2_coder.specs.declared.arithmetic_decoder.registers.Registers.{Registers}
 use Rattle.jbig2_coder.proofs.Encoders.{is_full-last, closed-full, closed-plain}
-use Rattle.jbig2_coder.proofs.InverseBytes.{bits, value, Valid, first}
+use Rattle.jbig2_coder.proofs.InverseBytes.{Valid, first}
 use Rattle.jbig2_coder.proofs.InverseKnows.{Seen, Inside, Fits, Seen-fits}
 use Rattle.jbig2_coder.proofs.InverseShift.{KnowsAt}
 use Rattle.jbig2_coder.proofs.InverseRead.{Closing, Read, read}
-use Rattle.jbig2_coder.proofs.InverseDraw.{Follows, Together}
+use Rattle.jbig2_coder.proofs.InverseDraw.{Together}
 
 byte_at-is : (bytes : List ℕ) (i : ℕ) → byte_at bytes i ≡ get_or bytes i 255
 unfolding byte_at
@@ -106,6 +105,7 @@ start-code c u s h k =
   where
     seven : c * 2 ^ 7 + (u + 1) * 2 ^ 16 ≡ 2 ^ 8 * 2 ^ 7 * 2 ^ 16 → c * 2 ^ 7 % 2 ^ 32 * 2 ^ (7 - 7) + (u + 1) * 2 ^ 16 ≡ 0x8000 * 2 ^ (7 - 7) * 2 ^ 16
     seven d = omega arith
+
     eight : c * 2 ^ 8 + (u + 1) * 2 ^ 16 ≡ 2 ^ 8 * 2 ^ 8 * 2 ^ 16 → c * 2 ^ 7 % 2 ^ 32 * 2 ^ (8 - 7) + (u + 1) * 2 ^ 16 ≡ 0x8000 * 2 ^ (8 - 7) * 2 ^ 16
     eight d = omega arith
 

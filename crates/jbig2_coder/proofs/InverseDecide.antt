@@ -1,5 +1,5 @@
 -- One decision on both sides: the decoder finds itself in the part that the encoder took.
-use Rattle.std.proofs.Common.{◌≡◌, ℕ, ◌+◌, ◌-◌, ◌*◌, ◌/◌, ◌%◌, ◌^◌, ◌<◌, ◌≤◌, Bool, true, false, List, refl, sym, ap, ◌∙◌, arith, subst, ⊎_elim, ◌⊎◌, inl, inr}
+use Rattle.std.proofs.Common.{◌≡◌, ℕ, ◌+◌, ◌-◌, ◌*◌, ◌%◌, ◌^◌, ◌<◌, ◌≤◌, Bool, true, false, List, refl, sym, ap, ◌∙◌, arith, subst, ⊎_elim, inr}
 use Rattle.std.proofs.Math.Nat.{le_of_mul-le-mul_right}
 use Rattle.std.proofs.lemmas.Nat.{pow_pos}
 use Rattle.std.proofs.lemmas.Bool.{cases_Bool}
@@ -13,7 +13,7 @@ use Rattle.jbig2_coder.proofs.InverseShift.{KnowsAt}
 use Rattle.jbig2_coder.proofs.InverseNarrow.{Narrowing, Upper, Lower}
 use Rattle.jbig2_coder.proofs.InverseEncode.{Begun, at_part, part-bounded, Entry, entry, narrowing_of, encoding-quiet_is, encoding-renorm_is}
 use Rattle.jbig2_coder.proofs.InverseRead.{Closing}
-use Rattle.jbig2_coder.proofs.InverseDraw.{Follows, FollowsAt, Follows-below, code-below, Together, together}
+use Rattle.jbig2_coder.proofs.InverseDraw.{FollowsAt, Follows-below, Together, together}
 
 -- the decoder's choice, before RENORMD
 record Picked (f : ℕ → ℕ) (m : ℕ) (x : Context) (d : Bool) (s : Coding) (n : Narrowing x d s.range s.writer.register) (r : CodeRegister) (v : ℕ) : Type 0 where

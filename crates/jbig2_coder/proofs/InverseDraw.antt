@@ -1,8 +1,7 @@
 -- RENORME and RENORMD together: the decoder's register says how far the top of the encoder's interval is above the
 -- number that has been read.
-use Rattle.std.proofs.Common.{◌≡◌, ℕ, zero, suc, ◌+◌, ◌-◌, ◌*◌, ◌/◌, ◌%◌, ◌^◌, ◌<◌, ◌≤◌, List, refl, sym, ap, ◌∙◌, arith, subst, ⊎_elim, ◌⊎◌, inl, inr, mul-le-mul_right}
-use Rattle.std.proofs.Math.Nat.{pow-suc, lt_of_mul-lt-mul_right, mul-lt-mul_of_pos_right}
-use Rattle.std.proofs.lemmas.Nat.{pow_pos}
+use Rattle.std.proofs.Common.{◌≡◌, ℕ, zero, suc, ◌+◌, ◌-◌, ◌*◌, ◌%◌, ◌^◌, ◌<◌, ◌≤◌, List, refl, sym, ap, ◌∙◌, arith, subst, ⊎_elim, ◌⊎◌, inl}
+use Rattle.std.proofs.Math.Nat.{pow-suc, lt_of_mul-lt-mul_right}
 use Rattle.std.proofs.lemmas.Bool.{cases_eq, cases_lt}
 use Rattle.jbig2_coder.specs.Coder.{byte_at, byte_in, filled, doubled, renormed}
 use Rattle.jbig2_coder.specs.Encoder.{Writer, Coding, shifted, renormed as encoder_renormed}
@@ -10,9 +9,8 @@ use Rattle.jbig2_coder.specs.declared.arithmetic_decoder.registers.CodeRegister.
 use Rattle.jbig2_coder.specs.declared.arithmetic_decoder.registers.Registers.{Registers}
 use Rattle.jbig2_coder.proofs.Encoders.{renormed-step as encoder-step, renormed-stop as encoder-stop}
 use Rattle.jbig2_coder.proofs.Renorm.{filled-some, filled-none, renormed-step, renormed-stop}
-use Rattle.jbig2_coder.proofs.InverseBytes.{bits}
 use Rattle.jbig2_coder.proofs.InverseByteOut.{low, time, Bounded}
-use Rattle.jbig2_coder.proofs.InverseKnows.{Knows, Seen, Fits, Seen-fits}
+use Rattle.jbig2_coder.proofs.InverseKnows.{Seen, Fits, Seen-fits}
 use Rattle.jbig2_coder.proofs.InverseShift.{KnowsAt, Shift, shift, Renorm, renorm}
 use Rattle.jbig2_coder.proofs.InverseRead.{Closing, Read, read}
 

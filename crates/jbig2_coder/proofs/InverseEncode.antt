@@ -1,12 +1,11 @@
 -- A whole list: what its bytes know of each interval on the way.
-use Rattle.std.proofs.Common.{◌≡◌, ℕ, ◌+◌, ◌*◌, ◌^◌, ◌<◌, ◌≤◌, Bool, true, false, List, [], ◌∷◌, length, refl, sym, ap, ◌∙◌, arith, subst, ⊎_elim, ◌⊎◌, inl, inr, le_refl, mul-le-mul_right}
+use Rattle.std.proofs.Common.{◌≡◌, ℕ, ◌+◌, ◌*◌, ◌^◌, ◌<◌, ◌≤◌, Bool, true, false, List, [], ◌∷◌, refl, sym, ◌∙◌, arith, subst, ⊎_elim, ◌⊎◌, inl, inr, mul-le-mul_right}
 use Rattle.std.proofs.lemmas.Bool.{cases_Bool}
-use Rattle.jbig2_coder.specs.Coder.{Context, fresh}
-use Rattle.jbig2_coder.specs.Encoder.{Writer, Coding, Encoding, opened, renormed, narrowed, encoding, flushed}
+use Rattle.jbig2_coder.specs.Coder.{Context}
+use Rattle.jbig2_coder.specs.Encoder.{Writer, Coding, Encoding, opened, renormed, encoding, flushed}
 use Rattle.jbig2_coder.specs.Lists.{Contexts, with_context, encode_from}
 use Rattle.jbig2_coder.proofs.Encoders.{encoding-quiet, encoding-renorm}
-use Rattle.jbig2_coder.proofs.InverseBytes.{first, Valid}
-use Rattle.jbig2_coder.proofs.InverseByteOut.{low, time, Room, Room-le, Bounded}
+use Rattle.jbig2_coder.proofs.InverseByteOut.{low, time, Room-le, Bounded}
 use Rattle.jbig2_coder.proofs.InverseKnows.{Knows-wider}
 use Rattle.jbig2_coder.proofs.InverseShift.{KnowsAt, Resting, Renorm, renorm}
 use Rattle.jbig2_coder.proofs.InverseNarrow.{Narrowing, narrowing}

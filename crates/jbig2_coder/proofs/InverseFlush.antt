@@ -1,13 +1,13 @@
 -- FLUSH: it narrows the interval to one number, whose low bits are ones, and the bytes that are out in the end name
 -- that number.
-use Rattle.std.proofs.Common.{◌≡◌, ℕ, suc, ◌+◌, ◌-◌, ◌*◌, ◌/◌, ◌%◌, ◌^◌, ◌<◌, ◌≤◌, List, [], ◌∷◌, length, leb, refl, sym, ap, ◌∙◌, arith, subst, ⊎_elim, ◌⊎◌, inl, inr, le_refl, mul-le-mul_right}
+use Rattle.std.proofs.Common.{◌≡◌, ℕ, suc, ◌+◌, ◌-◌, ◌*◌, ◌/◌, ◌%◌, ◌^◌, ◌<◌, ◌≤◌, List, [], ◌∷◌, length, leb, sym, ap, ◌∙◌, arith, ⊎_elim, ◌⊎◌, le_refl, mul-le-mul_right}
 use Rattle.std.proofs.Math.Nat.{pow-suc, pow-le-pow_right}
 use Rattle.std.proofs.lemmas.Nat.{pow_pos, pow-add}
-use Rattle.std.proofs.lemmas.Bool.{cond_both, leb-true, leb-false, cases_eq}
+use Rattle.std.proofs.lemmas.Bool.{cond_both, leb-true, leb-false}
 use Rattle.jbig2_coder.specs.Encoder.{Writer, Coding, byte_out, set_bits, flushed}
 use Rattle.jbig2_coder.proofs.InverseBytes.{bits, value, first, Valid}
-use Rattle.jbig2_coder.proofs.InverseByteOut.{low, time, Room, Room-le, Bounded, Longer, Put}
-use Rattle.jbig2_coder.proofs.InverseKnows.{Headed, Knows, Knows-wider, Above, Headed-grown, last-byte, above-out}
+use Rattle.jbig2_coder.proofs.InverseByteOut.{low, time, Room-le, Bounded, Put}
+use Rattle.jbig2_coder.proofs.InverseKnows.{Headed, Knows, Knows-wider, Headed-grown, last-byte, above-out}
 use Rattle.jbig2_coder.proofs.InverseShift.{KnowsAt, scaled, low-scaled, Bounded-scaled, KnowsAt-scaled, Put-low, Put-time, Put-back, Put-here, Resting}
 
 -- what SETBITS chooses is in the interval, and ends in fifteen ones
@@ -44,8 +44,8 @@ Knows-end f m hi a c r w p len whole top =
       some = omega (arith, len, b.1);
       headed = Headed-grown f r l.rest l.grown b.0;
       above = λ j q more.
-        let e : j ≡ suc (length r) = omega (arith, len, b.1) in
-        rw (e, b.3) (above-out (low w) (value w.out) (value (first f (suc (length r)))) (bits w.out) (27 - w.wait) (time w + 15) p.below b.2 p.scale);
+          let e : j ≡ suc (length r) = omega (arith, len, b.1) in
+          rw (e, b.3) (above-out (low w) (value w.out) (value (first f (suc (length r)))) (bits w.out) (27 - w.wait) (time w + 15) p.below b.2 p.scale);
       under = rw (whole, top, t) (omega arith);
     }
 
@@ -60,10 +60,13 @@ end-high v z u c p s t hs ht some few e h =
   where
     seven-seven : (v * 2 ^ 27 + 2 ^ 16 * z) * 2 ^ 7 ≡ u * 2 ^ 20 + (c + p * 2 ^ 7) → c < 2 ^ 20 → c + p * 2 ^ 7 ≡ 2 ^ 20
     seven-seven e h = omega arith
+
     seven-eight : (v * 2 ^ 27 + 2 ^ 16 * z) * 2 ^ 7 ≡ u * 2 ^ 19 + (c + p * 2 ^ 7) → c < 2 ^ 19 → c + p * 2 ^ 7 ≡ 2 ^ 19
     seven-eight e h = omega arith
+
     eight-seven : (v * 2 ^ 27 + 2 ^ 16 * z) * 2 ^ 8 ≡ u * 2 ^ 20 + (c + p * 2 ^ 8) → c < 2 ^ 20 → c + p * 2 ^ 8 ≡ 2 ^ 20
     eight-seven e h = omega arith
+
     eight-eight : (v * 2 ^ 27 + 2 ^ 16 * z) * 2 ^ 8 ≡ u * 2 ^ 19 + (c + p * 2 ^ 8) → c < 2 ^ 19 → c + p * 2 ^ 8 ≡ 2 ^ 19
     eight-eight e h = omega arith
 

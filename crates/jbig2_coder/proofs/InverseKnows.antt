@@ -1,12 +1,12 @@
 -- What the bytes that the encoder ends with say of an interval on the way, and how it goes from a later
 -- interval to an earlier one.
-use Rattle.std.proofs.Common.{◌≡◌, ℕ, zero, suc, ◌+◌, ◌-◌, ◌*◌, ◌^◌, ◌<◌, ◌≤◌, List, [], ◌∷◌, length, refl, sym, ap, ◌∙◌, arith, subst, ⊎_elim, ◌⊎◌, inl, inr, le_refl, mul-le-mul_right}
+use Rattle.std.proofs.Common.{◌≡◌, ℕ, suc, ◌+◌, ◌-◌, ◌*◌, ◌^◌, ◌<◌, ◌≤◌, List, [], ◌∷◌, length, refl, sym, ap, ◌∙◌, arith, subst, ⊎_elim, ◌⊎◌, le_refl, mul-le-mul_right}
 use Rattle.std.proofs.Math.Nat.{le_of_mul-le-mul_right, lt_of_mul-lt-mul_right, mul-lt-mul_of_pos_right}
 use Rattle.std.proofs.lemmas.Nat.{pow_pos, pow-add}
 use Rattle.std.proofs.lemmas.Bool.{cases_eq, cases_lt}
 use Rattle.jbig2_coder.specs.Encoder.{Writer}
-use Rattle.jbig2_coder.proofs.InverseBytes.{width, bits, value, first, length-first, bits-first, value-first}
-use Rattle.jbig2_coder.proofs.InverseByteOut.{low, time, Grown, Longer, Put}
+use Rattle.jbig2_coder.proofs.InverseBytes.{bits, value, first, bits-first, value-first}
+use Rattle.jbig2_coder.proofs.InverseByteOut.{low, time, Grown, Put}
 
 -- A number v of k bits, and the ends of an interval at a time. At time 0 the interval has sixteen bits, of which
 -- the first is before the first byte.
@@ -36,8 +36,8 @@ Knows-wider f m lo hi t lo2 hi2 r h l k =
       some = k.some;
       headed = k.headed;
       above = λ j p q.
-        let a : Above lo2 t (value (first f j)) (bits (first f j)) = k.above j p q in
-        omega (arith, a, mul-le-mul_right (2 ^ bits (first f j)) h);
+          let a : Above lo2 t (value (first f j)) (bits (first f j)) = k.above j p q in
+          omega (arith, a, mul-le-mul_right (2 ^ bits (first f j)) h);
       under = omega (arith, k.under, mul-le-mul_right (2 ^ bits (first f m)) l);
     }
 
@@ -61,8 +61,8 @@ Knows-scaled f m lo hi t s lo2 hi2 t2 r el eh et k =
       some = k.some;
       headed = k.headed;
       above = λ j p q.
-        above-scaled lo t s (value (first f j)) (bits (first f j))
-        (rw (← el, ← et) (k.above j p q));
+          above-scaled lo t s (value (first f j)) (bits (first f j))
+          (rw (← el, ← et) (k.above j p q));
       under = under-scaled hi t s (value (first f m)) (bits (first f m)) (rw (← eh, ← et) k.under);
     }
 
@@ -88,10 +88,12 @@ pub last-byte : (f : ℕ → ℕ) (s : List ℕ) (byte : ℕ) (rest : List ℕ) 
 last-byte f s byte rest n is len headed =
     let h : Headed f (byte ∷ rest) = subst (Headed f) is headed in
     let e : rest ≡ first f n = h.0 ∙ ap (first f) len in
-    let b : byte ≤ f n = rw len at h.1 in
-    (e, ap length is ∙ ap suc len,
-    rw (is, ← e) (omega (arith, b)),
-    rw (is, ← e))
+    let b : byte ≤ f n = rw len at h.1 in (
+      e,
+      ap length is ∙ ap suc len,
+      rw (is, ← e) (omega (arith, b)),
+      rw (is, ← e),
+    )
 
 -- BYTEOUT
 pub Knows-put : (f : ℕ → ℕ) (m hi a c : ℕ) (r : List ℕ) (w : Writer) → Put a c r w
@@ -103,10 +105,10 @@ Knows-put f m hi a c r w p k =
       some = omega (arith, k.some, b.1);
       headed = Headed-grown f r l.rest l.grown b.0;
       above = λ j q more. ⊎_elim
-        (λ (e : j ≡ suc (length r)).
-        rw (e, b.3) (above-out (low w) (value w.out) (value (first f (suc (length r)))) (bits w.out) (27 - w.wait) (time w + 15) p.below b.2 p.scale))
-        (λ (n : j ≡ suc (length r) → ⊥). k.above j (omega (arith, b.1)) more)
-        (cases_eq j (suc (length r)));
+          (λ (e : j ≡ suc (length r)).
+          rw (e, b.3) (above-out (low w) (value w.out) (value (first f (suc (length r)))) (bits w.out) (27 - w.wait) (time w + 15) p.below b.2 p.scale))
+          (λ (n : j ≡ suc (length r) → ⊥). k.above j (omega (arith, b.1)) more)
+          (cases_eq j (suc (length r)));
       under = k.under;
     }
 

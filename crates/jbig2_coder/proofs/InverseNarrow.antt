@@ -1,6 +1,6 @@
 -- A decision narrows the interval to its upper or its lower part, and the decoder that finds itself in that part
 -- makes the same decision.
-use Rattle.std.proofs.Common.{◌≡◌, ℕ, ◌+◌, ◌-◌, ◌*◌, ◌/◌, ◌%◌, ◌^◌, ◌<◌, ◌≤◌, Bool, true, false, not, refl, sym, ◌∙◌, arith, subst, ⊎_elim, ◌⊎◌, inl, inr}
+use Rattle.std.proofs.Common.{◌≡◌, ℕ, ◌+◌, ◌-◌, ◌*◌, ◌/◌, ◌%◌, ◌^◌, ◌<◌, ◌≤◌, Bool, true, false, not, refl, ◌∙◌, arith, ⊎_elim, ◌⊎◌, inl, inr}
 use mathlib.Core.Bool.{beq}
 use Rattle.std.proofs.lemmas.Bool.{cases_lt, cases_Bool}
 use Rattle.jbig2_coder.specs.Table.{row_of}
@@ -20,7 +20,7 @@ pub record Lower (x : Context) (d : Bool) (a c b c2 : ℕ) (y : Context) (renorm
   pub bottom : c2 ≡ c
   pub whole : b + upper ≡ a
   pub chosen : (r : ℕ) → upper ≤ r / 2 ^ 16
-    → choice x a r ≡ record { symbol = d; a = b; c = (r + (2 ^ 32 - upper * 2 ^ 16)) % 2 ^ 32; context = y; renorm = renorm }
+      → choice x a r ≡ record { symbol = d; a = b; c = (r + (2 ^ 32 - upper * 2 ^ 16)) % 2 ^ 32; context = y; renorm = renorm }
 
 -- What a decision d makes of A and C in a context x.
 pub record Narrowing (x : Context) (d : Bool) (a c : ℕ) : Type 0 where

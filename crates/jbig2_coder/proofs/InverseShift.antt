@@ -1,11 +1,10 @@
 -- RENORME, one shift at a time: what it keeps, and how knowledge goes back over it.
-use Rattle.std.proofs.Common.{◌≡◌, ℕ, zero, suc, ◌+◌, ◌-◌, ◌*◌, ◌^◌, ◌<◌, ◌≤◌, List, refl, sym, ap, ◌∙◌, arith, subst, ⊎_elim, ◌⊎◌, inl, inr, eqb, mul-le-mul_right}
+use Rattle.std.proofs.Common.{◌≡◌, ℕ, zero, suc, ◌+◌, ◌-◌, ◌*◌, ◌^◌, ◌<◌, ◌≤◌, sym, ap, ◌∙◌, arith, subst, ⊎_elim, ◌⊎◌, inl, eqb, mul-le-mul_right}
 use Rattle.std.proofs.Math.Nat.{pow-suc}
 use Rattle.std.proofs.lemmas.Nat.{pow_pos, pow-add}
 use Rattle.std.proofs.lemmas.Bool.{cases_eq, cases_lt, cond-true, cond-false, eq-eqb, ne_eqb}
 use Rattle.jbig2_coder.specs.Encoder.{Writer, Coding, byte_out, shifted, renormed}
 use Rattle.jbig2_coder.proofs.Encoders.{renormed-step, renormed-stop}
-use Rattle.jbig2_coder.proofs.InverseBytes.{bits, value}
 use Rattle.jbig2_coder.proofs.InverseByteOut.{low, time, Room, Bounded, Put, put}
 use Rattle.jbig2_coder.proofs.InverseKnows.{Knows, Knows-scaled, Knows-put}
 

@@ -3,7 +3,7 @@
 ghost use Rattle.std.specs.Prelude.{◌≡◌, ◌+◌, length, vec_len, IfOk, IfErr, OnOk, Ok};
 ghost use Rattle.jbig2_base.specs.Answer.{Gives};
 ghost use Rattle.jbig2_base.specs.declared.error.DecodeError.TheVariants.{OutOfMemory};
-ghost use Rattle.jbig2_coder.specs.Lists.{contexts_of, all_fresh, encoded, decoded};
+ghost use Rattle.jbig2_coder.specs.Lists.{contexts_of, all_fresh, encoded, decoded, DecodesBack};
 
 use crate::arithmetic_decoder::{ArithmeticDecoder, ArithmeticDecoderContext};
 use crate::mq::encoder::ArithmeticEncoder;
@@ -64,6 +64,16 @@ pub fn decode_list<A: Allocator + Clone, L: Ledger>(
     }
     Ok(decisions)
 }
+
+/// The law that the decoder is the encoder's inverse: for every list of decisions, each with the number of
+/// its context, the decoder of Annex G reads from the bytes that the encoder of E.2 gives the list its
+/// decisions, when it is asked in its contexts. Before the first decision every context of both is fresh.
+///
+/// The call does nothing: the law speaks of all lists, and of the definitions that `encode_list` and
+/// `decode_list` meet.
+pub fn decodes_back()
+    ensures { DecodesBack }
+{}
 
 #[cfg(test)]
 mod tests;
