@@ -74,10 +74,16 @@ pub fn coder_holds<A: Allocator + Clone>(alloc: A, case: &CoderCase) -> Result<b
                     list.push((0u16, (byte << place) >= 0x80))?;
                 }
             }
-            let bytes = encode_list(alloc.clone()?, &list)?;
-            list_is_read::<_, Brand>(alloc, Blank::new(6), &bytes, &list)
+            is_read_back(alloc, &list)
         }
     }
+}
+
+/// Whether `decode_list` reads a list back from what `encode_list` makes of it. Answers
+/// `DecodeError::OutOfMemory` alone.
+pub fn is_read_back<A: Allocator + Clone>(alloc: A, list: &[(u16, bool)]) -> Result<bool> {
+    let bytes = encode_list(alloc.clone()?, list)?;
+    list_is_read::<_, Brand>(alloc, Blank::new(6), &bytes, list)
 }
 
 fn readings_hold<L: Ledger>(blank: Blank, bytes: &[u8], readings: &[Reading]) -> bool

@@ -1,10 +1,12 @@
-//! The program `jbig2-bench`: runs the worked rows against the decoder.
+//! The program `jbig2-bench`: runs the worked rows against the decoder, or lists through the arithmetic coder.
 #![tactic(auto)]
 
 mod call;
 mod case;
 mod coder;
 mod combination;
+mod generator;
+mod lists;
 mod mmr;
 mod piece;
 mod program;

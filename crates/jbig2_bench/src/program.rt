@@ -1,7 +1,10 @@
 //! The runs of the program.
-ghost use Rattle.std.specs.Prelude.{◌≡◌, ◌↔◌, ◌<◌, length};
+ghost use Rattle.std.specs.Prelude.{◌≡◌, ◌↔◌, false, map};
+ghost use Rattle.std.specs.Option.{is_some};
+ghost use Rattle.jbig2_bench.specs.Words.{is_lists, is_run};
 
 use crate::case::row_holds;
+use crate::lists::first_that_differs;
 use crate::rows::FAMILIES;
 use hayro_jbig2::{DecodeError, DecoderContext};
 use std::alloc::{AllocError, Allocator};
@@ -10,23 +13,62 @@ use std::io::Write;
 
 /// Runs the program: `words` are the words behind its name.
 ///
-/// Answers the status of the process: 0, 1 where a row differs or after a fault, 2 where the words
-/// ask for nothing.
+/// Answers the status of the process: 0, 1 where a row or a list differs or after a fault, 2 where the
+/// words ask for nothing.
 pub fn run<A: Allocator + Clone, O: Write, E: Write>(
     alloc: A,
     words: &[&str],
     out: &mut O,
     err: &mut E,
 ) -> u8
-    ensures usage { (result ≡ 2) ↔ (0 < length words.now) }
+    ensures usage { (result ≡ 2) ↔ (is_run (map (λ word. word.now) words.now) ≡ false) }
 {
-    if !words.is_empty() {
+    let Some(asked) = Asked::of_words(words) else {
         return refused_words(err);
-    }
-    match run_rows(alloc, out) {
+    };
+    let outcome = match asked {
+        Asked::Rows => run_rows(alloc, out),
+        Asked::Lists => run_lists(alloc, out),
+    };
+    match outcome {
         Ok(true) => 0,
         Ok(false) | Err(Fault::Unwritable) => 1,
         Err(Fault::OutOfMemory) => refused_memory(err),
+    }
+}
+
+/// What the words ask for.
+#[derive(Clone, Copy)]
+enum Asked {
+    /// The worked rows.
+    Rows,
+    /// Lists that are encoded and read back.
+    Lists,
+}
+
+#[tactic(auto, unfolding(crate::specs::Words::is_lists))]
+fn is_lists(word: &str) -> bool
+    ensures { result ≡ is_lists word.now }
+{
+    word == "lists"
+}
+
+impl Asked {
+    /// None where the words ask for nothing.
+    fn of_words(words: &[&str]) -> Option<Asked>
+        ensures { is_some result ≡ is_run (map (λ word. word.now) words.now) }
+    {
+        match words {
+            [] => Some(Asked::Rows),
+            [word] => {
+                if is_lists(word) {
+                    Some(Asked::Lists)
+                } else {
+                    None
+                }
+            }
+            _ => None,
+        }
     }
 }
 
@@ -90,4 +132,19 @@ fn run_rows<A: Allocator + Clone, O: Write>(alloc: A, out: &mut O) -> Result<boo
         }
     }
     Ok(all_hold)
+}
+
+/// Encodes the lists and reads them back. Answers whether all are the same again.
+fn run_lists<A: Allocator + Clone, O: Write>(alloc: A, out: &mut O) -> Result<bool, Fault> {
+    let differing = first_that_differs(alloc)?;
+    print_lists(differing, out)?;
+    Ok(differing.is_none())
+}
+
+/// Prints the first list that differs, if one does.
+pub fn print_lists<O: Write>(differing: Option<usize>, out: &mut O) -> io::Result<()> {
+    match differing {
+        Some(count) => writeln!(out, "lists differ at {count}"),
+        None => writeln!(out, "lists ok"),
+    }
 }
