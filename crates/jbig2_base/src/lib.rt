@@ -11,3 +11,5 @@ pub mod page_info;
 pub mod reader;
 pub mod segment;
 pub mod sort;
+#[cfg(test)]
+mod tests;
