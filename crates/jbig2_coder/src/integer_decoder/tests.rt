@@ -1,21 +1,23 @@
 //! Values worked out by Annex A's text.
+//!
+//! `rt try --test --fail-alloc N` in this crate's folder runs these tests with the Nth request for memory
+//! refused. At most one is refused in a test's run, so what it was refused to is tried again.
 
 ghost use Rattle.std.specs.Prelude.{◌≡◌};
 
 use crate::arithmetic_decoder::ArithmeticDecoder;
 use crate::integer_decoder::IntegerDecoder;
 use jbig2_base::bitmap::steps::Steps;
-use jbig2_base::error::Result as Answer;
+use jbig2_base::error::{DecodeError, Result};
 use std::alloc::Allocator;
 use std::marker::Brand;
 use std::sync::ledger::{Blank, Ledger};
-use std::test::Fail;
 
 fn first_integers<L: Ledger, A: Allocator>(
     alloc: A,
     blank: Blank,
     coded: &[u8],
-) -> Answer<[Option<i32>; 5]>
+) -> Result<[Option<i32>; 5]>
     requires name { blank.name ≡ L.name }
     requires parts { blank.parts ≡ L.parts }
     requires enough { blank.parts ≡ 6 }
@@ -32,26 +34,30 @@ fn first_integers<L: Ledger, A: Allocator>(
 
 // The coded bytes of T.88, H.2, read as integers.
 #[test]
-fn integers(rt: HostRuntime) -> Result<(), Fail> {
+fn integers(rt: HostRuntime) {
     let coded = [0x84, 0xC7, 0x3B, 0xFC, 0xE1, 0xA1, 0x43, 0x04, 0x02, 0x20];
-    let first = first_integers::<Brand, _>(rt.alloc(), Blank::new(6), &coded)?;
-    assert_eq!(rt; first, [Some(1), Some(-2), Some(5), Some(8), None]);
-    Ok(())
+    let mut first = first_integers::<Brand, _>(rt.alloc(), Blank::new(6), &coded);
+    if first == Err(DecodeError::OutOfMemory) {
+        first = first_integers::<Brand, _>(rt.alloc(), Blank::new(6), &coded);
+    }
+    assert_eq!(rt; first, Ok([Some(1), Some(-2), Some(5), Some(8), None]));
 }
 
 // No bytes at all: values of twelve and of 32 bits.
 #[test]
-fn long_integers(rt: HostRuntime) -> Result<(), Fail> {
-    let first = first_integers::<Brand, _>(rt.alloc(), Blank::new(6), &[])?;
+fn long_integers(rt: HostRuntime) {
+    let mut first = first_integers::<Brand, _>(rt.alloc(), Blank::new(6), &[]);
+    if first == Err(DecodeError::OutOfMemory) {
+        first = first_integers::<Brand, _>(rt.alloc(), Blank::new(6), &[]);
+    }
     assert_eq!(rt;
         first,
-        [
+        Ok([
             Some(-2400),
             Some(-2117344399),
             Some(-2117344757),
             Some(-4435),
             Some(-4435)
-        ]
+        ])
     );
-    Ok(())
 }

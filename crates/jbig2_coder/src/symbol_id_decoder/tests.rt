@@ -1,17 +1,19 @@
 //! Values worked out by Annex A's text.
+//!
+//! `rt try --test --fail-alloc N` in this crate's folder runs this test with the Nth request for memory
+//! refused. At most one is refused in a test's run, so what it was refused to is tried again.
 
 ghost use Rattle.std.specs.Prelude.{◌≡◌};
 
 use crate::arithmetic_decoder::ArithmeticDecoder;
 use crate::symbol_id_decoder::SymbolIdDecoder;
 use jbig2_base::bitmap::steps::Steps;
-use jbig2_base::error::Result as Answer;
+use jbig2_base::error::{DecodeError, Result};
 use std::alloc::Allocator;
 use std::marker::Brand;
 use std::sync::ledger::{Blank, Ledger};
-use std::test::Fail;
 
-fn first_ids<L: Ledger, A: Allocator>(alloc: A, blank: Blank, coded: &[u8]) -> Answer<[u32; 5]>
+fn first_ids<L: Ledger, A: Allocator>(alloc: A, blank: Blank, coded: &[u8]) -> Result<[u32; 5]>
     requires name { blank.name ≡ L.name }
     requires parts { blank.parts ≡ L.parts }
     requires enough { blank.parts ≡ 6 }
@@ -28,9 +30,11 @@ fn first_ids<L: Ledger, A: Allocator>(alloc: A, blank: Blank, coded: &[u8]) -> A
 
 // The coded bytes of T.88, H.2, read as ids of five bits.
 #[test]
-fn ids(rt: HostRuntime) -> Result<(), Fail> {
+fn ids(rt: HostRuntime) {
     let coded = [0x84, 0xC7, 0x3B, 0xFC, 0xE1, 0xA1, 0x43, 0x04, 0x02, 0x20];
-    let first = first_ids::<Brand, _>(rt.alloc(), Blank::new(6), &coded)?;
-    assert_eq!(rt; first, [3, 12, 18, 3, 23]);
-    Ok(())
+    let mut first = first_ids::<Brand, _>(rt.alloc(), Blank::new(6), &coded);
+    if first == Err(DecodeError::OutOfMemory) {
+        first = first_ids::<Brand, _>(rt.alloc(), Blank::new(6), &coded);
+    }
+    assert_eq!(rt; first, Ok([3, 12, 18, 3, 23]));
 }
