@@ -1,7 +1,7 @@
 //! Headers of generic regions, and regions without coded bytes.
 //!
 //! `rt try --test --fail-alloc N` in this crate's folder runs these tests with the Nth request for memory
-//! refused; they are written to hold for each N.
+//! refused. At most one is refused in a test's run, so what it was refused to is tried again.
 ghost use Rattle.std.specs.Prelude.{◌≡◌};
 
 use crate::generic::{decode, decode_into, parse};
@@ -75,10 +75,11 @@ fn regions<L: Ledger, A: Allocator + Clone>(alloc: A, blank: Blank) -> Result<[u
 // Rows R2.2, R3.1 and R3.2; the extended template with nominal pixels is template 0.
 #[test]
 fn regions_without_coded_bytes(rt: HostRuntime) {
-    match regions::<Brand, _>(rt.alloc(), Blank::new(6)) {
-        Ok(read) => assert_eq!(rt; read, [0xFF, 0xFF, 0xFF, 0xFF, 0b11111010, 0, 0xFF]),
-        Err(error) => assert!(rt; error == DecodeError::OutOfMemory),
+    let mut read = regions::<Brand, _>(rt.alloc(), Blank::new(6));
+    if read == Err(DecodeError::OutOfMemory) {
+        read = regions::<Brand, _>(rt.alloc(), Blank::new(6));
     }
+    assert!(rt; read == Ok([0xFF, 0xFF, 0xFF, 0xFF, 0b11111010, 0, 0xFF]));
 }
 
 // Row R2.4.
@@ -102,15 +103,13 @@ fn height<A: Allocator>(alloc: A, rows: u8) -> Result<u32> {
 // Row R3.3.
 #[test]
 fn rows_of_an_unknown_length(rt: HostRuntime) {
-    for rows in 0..3 {
-        match height(rt.alloc(), rows) {
-            Ok(height) => assert!(rt; height == u32::from(rows) && rows < 2),
-            Err(DecodeError::OutOfMemory) => {}
-            Err(error) => {
-                assert_eq!(rt; rows, 2);
-                assert!(rt; error == DecodeError::Region(RegionError::InvalidDimension));
-            }
+    let too_many = DecodeError::Region(RegionError::InvalidDimension);
+    for (rows, expected) in [(0, Ok(0)), (1, Ok(1)), (2, Err(too_many))] {
+        let mut read = height(rt.alloc(), rows);
+        if read == Err(DecodeError::OutOfMemory) {
+            read = height(rt.alloc(), rows);
         }
+        assert!(rt; read == expected);
     }
 }
 
@@ -146,8 +145,9 @@ fn one_pixel<L: Ledger, A: Allocator + Clone>(alloc: A, blank: Blank) -> Result<
 // Row 7's region.
 #[test]
 fn one_black_pixel(rt: HostRuntime) {
-    match one_pixel::<Brand, _>(rt.alloc(), Blank::new(6)) {
-        Ok(read) => assert_eq!(rt; read, (1, 65536)),
-        Err(error) => assert!(rt; error == DecodeError::OutOfMemory),
+    let mut read = one_pixel::<Brand, _>(rt.alloc(), Blank::new(6));
+    if read == Err(DecodeError::OutOfMemory) {
+        read = one_pixel::<Brand, _>(rt.alloc(), Blank::new(6));
     }
+    assert!(rt; read == Ok((1, 65536)));
 }
