@@ -1,7 +1,8 @@
-//! The program `jbig2-decode`: prints the calls that spell a JBIG2 page.
+//! The program `jbig2-decode`: prints the pages of a JBIG2 file, the calls that spell a page, or a bitmap.
 #![tactic(auto)]
 
 mod fault;
+mod packer;
 mod printer;
 mod program;
 mod request;

@@ -3,11 +3,14 @@ ghost use Rattle.std.specs.Prelude.{◌≡◌, ◌↔◌, map, IsNone};
 ghost use Rattle.jbig2_decode.specs.Words.{request_of};
 
 use crate::fault::Fault;
+use crate::packer::Packer;
 use crate::printer::Printer;
 use crate::request::{Command, Request};
-use hayro_jbig2::{DecodeError, DecodeSettings, Page};
+use hayro_jbig2::reading::read_all;
+use hayro_jbig2::{DecodeError, DecodeSettings, File, Page};
 use std::alloc::{AllocError, Allocator};
-use std::io::{BufWriter, ErrorKind, Read, Write};
+use std::io;
+use std::io::{BufWriter, Read, Write};
 
 const USAGE: &str = "usage: jbig2-decode [--strict] pages|embedded FILE | calls|pbm FILE INDEX";
 
@@ -67,33 +70,80 @@ fn answer<A: Allocator + Clone, R: Read, O: Write>(
         return Err(Fault::Unreadable);
     };
     let bytes = read_all(alloc.clone()?, reader)?;
+    answer_bytes(alloc, &bytes, request, out)
+}
+
+fn answer_bytes<A: Allocator + Clone, O: Write>(
+    alloc: A,
+    bytes: &[u8],
+    request: Request<'_>,
+    out: &mut O,
+) -> Result<(), Fault> {
     let settings = DecodeSettings {
         strict: request.strict,
     };
     match request.command {
+        Command::Pages => {
+            let file = File::new(alloc.clone()?, bytes, &settings)?;
+            print_pages(alloc, &file, out)
+        }
         Command::Embedded => {
-            let page = Page::new_embedded(alloc.clone()?, &bytes, None, &settings)?;
+            let page = Page::new_embedded(alloc.clone()?, bytes, None, &settings)?;
             print_calls(alloc, &page, out)
+        }
+        Command::Calls(index) => {
+            let file = File::new(alloc.clone()?, bytes, &settings)?;
+            print_calls(alloc, &page_at(&file, index)?, out)
+        }
+        Command::Pbm(index) => {
+            let file = File::new(alloc.clone()?, bytes, &settings)?;
+            write_bitmap(alloc, &page_at(&file, index)?, out)
         }
     }
 }
 
-/// All bytes of a reader.
-fn read_all<A: Allocator, R: Read>(alloc: A, reader: &mut R) -> Result<Vec<u8, A>, Fault> {
-    let mut bytes = Vec::new(alloc);
-    let mut block = [0; 4096];
-    for _ in 0..u64::MAX {
-        match reader.read(&mut block) {
-            Ok(0) => return Ok(bytes),
-            Ok(count) => bytes.extend_from_slice(&block[..count])?,
-            Err(error) => {
-                if error.kind() != ErrorKind::Interrupted {
-                    return Err(Fault::Unreadable);
-                }
-            }
-        }
+/// The page that decimal digits name.
+fn page_at<'f, A: Allocator>(file: &'f File<'_, A>, index: &str) -> Result<Page<'f, A>, Fault> {
+    let Ok(index) = index.parse::<usize>() else {
+        return Err(Fault::NoSuchPage);
+    };
+    file.page(index).ok_or(Fault::NoSuchPage)
+}
+
+fn buffered<A: Allocator, O: Write>(alloc: A, out: &mut O) -> Result<BufWriter<&mut O, A>, Fault> {
+    BufWriter::new(alloc, out).map_err(|_| Fault::Decode(DecodeError::OutOfMemory))
+}
+
+/// Writes what is left in the buffer, unless something could not be written before.
+fn finish<A: Allocator, W: Write + Drop>(
+    mut buffered: BufWriter<W, A>,
+    is_written: bool,
+) -> Result<(), Fault> {
+    if !is_written || buffered.flush().is_err() {
+        // What is left in the buffer is not to be written any more.
+        let _ = buffered.into_parts();
+        return Err(Fault::Unwritable);
     }
-    Err(Fault::Unreadable)
+    Ok(())
+}
+
+/// Prints a line for each page.
+fn print_pages<A: Allocator + Clone, O: Write>(
+    alloc: A,
+    file: &File<'_, A>,
+    out: &mut O,
+) -> Result<(), Fault> {
+    let mut buffered = buffered(alloc, out)?;
+    let written = write_sizes(file, &mut buffered);
+    finish(buffered, written.is_ok())
+}
+
+fn write_sizes<A: Allocator, W: Write>(file: &File<'_, A>, out: &mut W) -> io::Result<()> {
+    for page in file.pages() {
+        let (width, height) = page.dimensions();
+        writeln!(out, "{} {width} {height}", page.number())?;
+    }
+    Ok(())
 }
 
 /// Prints the calls that spell a page.
@@ -102,17 +152,33 @@ fn print_calls<A: Allocator + Clone, O: Write>(
     page: &Page<'_, A>,
     out: &mut O,
 ) -> Result<(), Fault> {
-    let Ok(buffered) = BufWriter::new(alloc, out) else {
-        return Err(Fault::Decode(DecodeError::OutOfMemory));
-    };
-    let mut printer = Printer::new(buffered);
+    let mut printer = Printer::new(buffered(alloc, out)?);
     let decoded = page.decode(&mut printer);
-    let unwritable = printer.has_refused();
-    let mut buffered = printer.into_inner();
-    if unwritable || buffered.flush().is_err() {
-        // What is left in the buffer is not to be written any more.
-        let _ = buffered.into_parts();
-        return Err(Fault::Unwritable);
-    }
+    let is_written = !printer.has_refused();
+    // Where decoding fails no call was made, so that there is nothing to write.
+    finish(printer.into_inner(), is_written)?;
     Ok(decoded?)
+}
+
+/// Writes a page as a binary bitmap of the PBM format.
+fn write_bitmap<A: Allocator + Clone, O: Write>(
+    alloc: A,
+    page: &Page<'_, A>,
+    out: &mut O,
+) -> Result<(), Fault> {
+    let (width, height) = page.dimensions();
+    let mut buffered = buffered(alloc, out)?;
+    let headed = write!(buffered, "P4\n{width} {height}\n");
+    let mut packer = Packer::new(buffered);
+    let decoded = page.decode(&mut packer);
+    let is_written = headed.is_ok() && !packer.has_refused();
+    let buffered = packer.into_inner();
+    match decoded {
+        Err(error) if is_written => {
+            // No call was made, and the header is not to be written either.
+            let _ = buffered.into_parts();
+            Err(Fault::Decode(error))
+        }
+        _ => finish(buffered, is_written),
+    }
 }

@@ -21,6 +21,13 @@ const PAGE: [u8; 30] = [
     0, 0, 0, 0, 0x30, 0, 1, 0, 0, 0, 0x13, 0, 0, 0, 8, 0, 0, 0, 1, 0, 0, 0, 0, 0, 0, 0, 0, 0, 0, 0,
 ];
 
+/// Row 16's first file: a white page of 8 by 1, and its end.
+const FILE: [u8; 54] = [
+    0x97, 0x4A, 0x42, 0x32, 0x0D, 0x0A, 0x1A, 0x0A, 1, 0, 0, 0, 1, 0, 0, 0, 0, 0x30, 0, 1, 0, 0, 0,
+    0x13, 0, 0, 0, 8, 0, 0, 0, 1, 0, 0, 0, 0, 0, 0, 0, 0, 0, 0, 0, 0, 0, 0, 1, 0x31, 0, 1, 0, 0, 0,
+    0,
+];
+
 /// Row 14: a page, and a segment that is cut off.
 const CUT_OFF: [u8; 35] = [
     0, 0, 0, 0, 0x30, 0, 1, 0, 0, 0, 0x13, 0, 0, 0, 8, 0, 0, 0, 1, 0, 0, 0, 0, 0, 0, 0, 0, 0, 0, 0,
@@ -75,9 +82,21 @@ fn other_words_print_the_usage(rt: HostRuntime) {
     expect(&rt, &["embedded", "--strict", "page"], page, (2, "", USAGE));
     expect(&rt, &["draw", "page"], page, (2, "", USAGE));
     expect(&rt, &["embedded", "page", "0"], None, (2, "", USAGE));
+    expect(&rt, &["pages", "file", "0"], None, (2, "", USAGE));
+    expect(&rt, &["calls", "file"], None, (2, "", USAGE));
+    expect(&rt, &["calls", "file", ""], None, (2, "", USAGE));
+    expect(&rt, &["pbm", "file", "+1"], None, (2, "", USAGE));
+    expect(&rt, &["pbm", "--strict", "file", "1"], None, (2, "", USAGE));
     assert_eq!(rt; file_word(&["--strict", "embedded", "page"]), Some("page"));
     assert_eq!(rt; file_word(&["embedded", "page"]), Some("page"));
     assert_eq!(rt; file_word(&["page"]), None);
+    assert_eq!(rt; file_word(&["pages", "file"]), Some("file"));
+    assert_eq!(rt;
+        file_word(&["--strict", "calls", "file", "0"]),
+        Some("file")
+    );
+    assert_eq!(rt; file_word(&["pbm", "--strict", "12"]), Some("--strict"));
+    assert_eq!(rt; file_word(&["pbm", "file", "1a"]), None);
 }
 
 #[test]
@@ -101,42 +120,138 @@ fn calls_and_faults_are_printed(rt: HostRuntime) {
     );
 }
 
-/// Gives the bytes one by one, each behind an interruption, and then fails or ends.
+/// Row R9.3.
+#[test]
+fn the_pages_of_a_file_are_printed(rt: HostRuntime) {
+    let file = Some(FILE.as_slice());
+    expect(&rt, &["pages", "file"], file, (0, "1 8 1\n", ""));
+    expect(&rt, &["calls", "file", "0"], file, (0, WHITE, ""));
+    expect(&rt, &["pbm", "file", "0"], file, (0, "P4\n8 1\n\0", ""));
+    expect(
+        &rt,
+        &["--strict", "pbm", "file", "00"],
+        file,
+        (0, "P4\n8 1\n\0", ""),
+    );
+    let none = "error: no such page\n";
+    expect(&rt, &["calls", "file", "1"], file, (1, "", none));
+    expect(&rt, &["pbm", "file", "1"], file, (1, "", none));
+    let too_large = "99999999999999999999999999";
+    expect(&rt, &["calls", "file", too_large], file, (1, "", none));
+}
+
+#[test]
+fn a_file_is_read_before_its_page_is_looked_for(rt: HostRuntime) {
+    let unended = Some(&FILE[..43]);
+    expect(&rt, &["pages", "file"], unended, (0, "1 8 1\n", ""));
+    let no_end = "error: page without exactly one end of page segment\n";
+    expect(
+        &rt,
+        &["--strict", "calls", "file", "1"],
+        unended,
+        (1, "", no_end),
+    );
+    let no_header = "error: invalid JBIG2 file header\n";
+    expect(&rt, &["pbm", "file", "1"], Some(&PAGE), (1, "", no_header));
+    expect(
+        &rt,
+        &["pbm", "file", "1"],
+        None,
+        (1, "", "error: cannot read file\n"),
+    );
+}
+
+#[test]
+fn rows_of_a_bitmap_begin_a_byte(rt: HostRuntime) {
+    let mut black = FILE;
+    black[27] = 9;
+    black[31] = 2;
+    black[40] = 4;
+    let calls = "push_pixel_chunk true 1\npush_pixel true\nnext_line\n\
+        push_pixel_chunk true 1\npush_pixel true\nnext_line\n";
+    expect(&rt, &["calls", "file", "0"], Some(&black), (0, calls, ""));
+    let Ok((status, out, err)) = ran(rt.alloc(), &["pbm", "file", "0"], Some(&black)) else {
+        return;
+    };
+    if err.as_slice() == OUT_OF_MEMORY.as_bytes() {
+        return;
+    }
+    assert_eq!(rt; status, 0);
+    assert_eq!(rt; out.as_slice(), b"P4\n9 2\n\xFF\x80\xFF\x80".as_slice());
+}
+
+/// A segment that a strict decoder refuses when it decodes: nothing is printed, no header either.
+#[test]
+fn a_page_that_is_not_decoded_prints_nothing(rt: HostRuntime) {
+    let mut bytes = [0; 69];
+    bytes[..43].copy_from_slice(&FILE[..43]);
+    bytes[43..58].copy_from_slice(&[0, 0, 0, 1, 0x3E, 0, 1, 0, 0, 0, 4, 0x80, 0, 0, 0]);
+    bytes[58..69].copy_from_slice(&[0, 0, 0, 2, 0x31, 0, 1, 0, 0, 0, 0]);
+    let unknown = "error: unsupported feature\n";
+    expect(
+        &rt,
+        &["--strict", "pbm", "file", "0"],
+        Some(&bytes),
+        (1, "", unknown),
+    );
+    expect(
+        &rt,
+        &["--strict", "calls", "file", "0"],
+        Some(&bytes),
+        (1, "", unknown),
+    );
+    expect(
+        &rt,
+        &["--strict", "pages", "file"],
+        Some(&bytes),
+        (0, "1 8 1\n", ""),
+    );
+    expect(
+        &rt,
+        &["pbm", "file", "0"],
+        Some(&bytes),
+        (0, "P4\n8 1\n\0", ""),
+    );
+}
+
+/// Gives the bytes one by one, each behind an interruption, and fails where it is read more often than
+/// its patience lasts.
 #[derive(Drop)]
 struct Slow<'a> {
     bytes: &'a [u8],
     ready: bool,
-    fails: bool,
+    patience: usize,
 }
 
 impl<'a> Read for Slow<'a> {
     fn read(&mut self, buf: &mut [u8]) -> io::Result<usize> {
+        if self.patience == 0 {
+            return Err(io::Error::from(io::ErrorKind::OutOfMemory));
+        }
+        self.patience -= 1;
         self.ready = !self.ready;
         if !self.ready {
             return Err(io::Error::from(io::ErrorKind::Interrupted));
         }
-        match self.bytes {
-            [first, others @ ..] => {
-                let Some(place) = buf.first_mut() else {
-                    return Ok(0);
-                };
+        match (self.bytes, buf.first_mut()) {
+            ([first, others @ ..], Some(place)) => {
                 *place = *first;
                 self.bytes = others;
                 Ok(1)
             }
-            [] if self.fails => Err(io::Error::from(io::ErrorKind::OutOfMemory)),
-            [] => Ok(0),
+            _ => Ok(0),
         }
     }
 }
 
+/// The page has 30 bytes, so that the end is read at the 62nd read.
 #[test]
 fn a_slow_reader_changes_nothing_and_a_broken_one_is_unreadable(rt: HostRuntime) {
-    for fails in [false, true] {
+    for patience in 0..64 {
         let mut reader = Slow {
             bytes: &PAGE,
             ready: true,
-            fails,
+            patience,
         };
         let (Ok(mut out), Ok(mut err)) = (
             Vec::with_capacity(rt.alloc(), 256),
@@ -147,9 +262,9 @@ fn a_slow_reader_changes_nothing_and_a_broken_one_is_unreadable(rt: HostRuntime)
         let words = ["embedded", "page"];
         let status = run(rt.alloc(), &words, Some(&mut reader), &mut out, &mut err);
         if err.as_slice() == OUT_OF_MEMORY.as_bytes() {
-            return;
+            continue;
         }
-        let expected = if fails {
+        let expected = if patience < 62 {
             (1, "", "error: cannot read file\n")
         } else {
             (0, WHITE, "")
@@ -197,5 +312,30 @@ fn output_that_cannot_be_written_ends_the_run(rt: HostRuntime) {
         assert_eq!(rt; status, 1);
         assert_eq!(rt; out.0, 0);
         assert!(rt; err.is_empty());
+    }
+}
+
+#[test]
+fn each_byte_of_the_output_may_be_the_one_that_cannot_be_written(rt: HostRuntime) {
+    let runs: [(&[&str], usize); 3] = [
+        (&["pages", "file"], 6),
+        (&["calls", "file", "0"], 35),
+        (&["pbm", "file", "0"], 8),
+    ];
+    for (words, length) in runs {
+        for room in 0..length + 1 {
+            let mut out = Full(room);
+            let Ok(mut err) = Vec::with_capacity(rt.alloc(), 256) else {
+                return;
+            };
+            let mut reader = Cursor::new(FILE);
+            let status = run(rt.alloc(), words, Some(&mut reader), &mut out, &mut err);
+            if err.as_slice() == OUT_OF_MEMORY.as_bytes() {
+                continue;
+            }
+            assert_eq!(rt; status, u8::from(room < length), "{words:?}");
+            assert_eq!(rt; out.0, 0, "{words:?}");
+            assert!(rt; err.is_empty(), "{words:?}");
+        }
     }
 }

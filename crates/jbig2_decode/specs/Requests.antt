@@ -1,0 +1,15 @@
+-- A request as the words have it.
+use Rattle.std.specs.Prelude.{ℕ, Bool, List}
+use Rattle.jbig2_decode.specs.Words.{Task, Pages as PagesTask, Embedded as EmbeddedTask, Calls as CallsTask, Pbm as PbmTask}
+use Rattle.jbig2_decode.specs.declared.request.Command.{Command}
+use Rattle.jbig2_decode.specs.declared.request.Command.TheVariants.{Pages, Embedded, Calls, Pbm}
+use Rattle.jbig2_decode.specs.declared.request.Request.{Request}
+
+abbrev pub task_view : Command → Task
+task_view Pages = PagesTask
+task_view Embedded = EmbeddedTask
+task_view (Calls index) = CallsTask index.now
+task_view (Pbm index) = PbmTask index.now
+
+abbrev pub request_view : Request → Bool × Task × List ℕ
+request_view request = (request.strict, task_view request.command, request.file.now)
