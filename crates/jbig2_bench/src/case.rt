@@ -2,6 +2,7 @@
 use crate::call::Call;
 use crate::coder::{CoderCase, coder_holds};
 use crate::combination::stays_white;
+use crate::file_case::{FileCase, file_holds};
 use crate::mmr::{MmrCase, mmr_holds};
 use crate::spelling::spelled;
 use crate::table::{TableCase, table_holds};
@@ -69,6 +70,8 @@ pub enum Case {
     Table(TableCase),
     /// MMR data.
     Mmr(MmrCase),
+    /// Files.
+    File(FileCase),
 }
 
 impl Modes {
@@ -140,6 +143,7 @@ fn case_holds<A: Allocator + Clone>(
         Case::Coder(case) => coder_holds(alloc, case),
         Case::Table(case) => table_holds(alloc, case),
         Case::Mmr(case) => mmr_holds(alloc, case),
+        Case::File(case) => file_holds(alloc, case, context),
         Case::StaysWhite(x, y) => stays_white(alloc, *x, *y),
     }
 }
@@ -163,6 +167,16 @@ pub fn page_holds<A: Allocator + Clone>(
             },
         ),
     };
+    drawing_holds(&page, answer, context)
+}
+
+/// Whether decoding a page has this answer. Answers `DecodeError::OutOfMemory` alone, and only where no
+/// call was made.
+pub fn drawing_holds<A: Allocator + Clone>(
+    page: &Page<'_, A>,
+    answer: &Answer,
+    context: &mut DecoderContext<A>,
+) -> Result<bool> {
     let calls = match answer {
         Answer::Calls(calls) => *calls,
         _ => &[],

@@ -5,6 +5,7 @@ mod call;
 mod case;
 mod coder;
 mod combination;
+mod file_case;
 mod generator;
 mod lists;
 mod mmr;

@@ -1,5 +1,6 @@
 //! The rows, one file for each of their families.
 pub mod coding;
+pub mod files;
 pub mod framing;
 pub mod generic;
 pub mod mmr;
@@ -16,4 +17,7 @@ pub const FAMILIES: &[&[Row]] = &[
     generic::ROWS,
     mmr::ROWS,
     coding::ROWS,
+    files::ROWS_9,
+    files::ROWS_13,
+    coding::ROWS_14,
 ];

@@ -3,6 +3,7 @@
 //! `rt try --test --fail-alloc N` in this crate's folder runs these tests with the Nth request for memory
 //! refused; they are written to hold for each N.
 mod errors;
+mod files;
 
 use crate::call::{Call, WHITE};
 use crate::case::{Answer, Case, page_holds, row_holds};

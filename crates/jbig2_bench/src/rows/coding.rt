@@ -90,6 +90,10 @@ pub const ROWS: &[Row] = &[
             }),
         ],
     },
+];
+
+/// The rows R14.
+pub const ROWS_14: &[Row] = &[
     Row {
         name: "R14.1",
         cases: &[

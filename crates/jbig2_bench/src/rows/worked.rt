@@ -6,11 +6,24 @@ use crate::case::Modes::{Both, Lenient, Strict};
 use crate::case::{Case, Header, Row};
 use crate::coder::{CoderCase, Reading};
 use crate::rows::coding::DECISIONS;
+use crate::rows::files;
 use crate::table::TableCase;
 use hayro_jbig2::parts::segment::SegmentType;
 use hayro_jbig2::{DecodeError, FormatError, OverflowError, ParseError, RegionError};
 
 pub const ROWS: &[Row] = &[
+    Row {
+        name: "1",
+        cases: files::ROW_1,
+    },
+    Row {
+        name: "2",
+        cases: files::ROW_2,
+    },
+    Row {
+        name: "3",
+        cases: files::ROW_3,
+    },
     Row {
         name: "4",
         cases: &[
@@ -186,6 +199,10 @@ pub const ROWS: &[Row] = &[
                 answer: Ok(Some(19)),
             }),
         ],
+    },
+    Row {
+        name: "16",
+        cases: files::ROW_16,
     },
     Row {
         name: "18",

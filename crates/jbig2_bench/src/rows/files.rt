@@ -1,0 +1,87 @@
+//! The cases of the rows of files.
+use crate::call::WHITE;
+use crate::case::Answer::Calls;
+use crate::case::Case::File;
+use crate::case::Modes::{Both, Lenient, Strict};
+use crate::case::{Case, Row};
+use crate::file_case::FileCase::{CutOff, NoFirstPage, NoGlobals, Pages, Refused};
+use crate::file_case::FilePage;
+use hayro_jbig2::{DecodeError, FormatError, ParseError, SegmentError};
+
+const ONE_PAGE: &[FilePage] = &[FilePage {
+    number: 1,
+    dimensions: (8, 1),
+    answer: Calls(WHITE),
+}];
+
+/// Headers of a page, its end and an end of file, and then the page's data.
+const HEADERS_FIRST: &str = "H 00 00000001 00000000 30 00 01 00000013 00000001 31 00 01 00000000 \
+    00000002 33 00 00 00000000 00000008 00000001 00*11";
+
+pub const ROW_1: &[Case] = &[
+    File(Refused(Both, "", DecodeError::Parse(ParseError::UnexpectedEof))),
+    File(Refused(
+        Both,
+        "00*8",
+        DecodeError::Format(FormatError::InvalidHeader),
+    )),
+    File(Refused(Both, "H 11", DecodeError::Format(FormatError::ReservedBits))),
+    File(Pages(Both, "H 03", &[])),
+];
+
+pub const ROW_2: &[Case] = &[
+    File(Refused(
+        Strict,
+        "H 01 00000001",
+        DecodeError::Format(FormatError::PageCountMismatch),
+    )),
+    File(Pages(Lenient, "H 01 00000001", &[])),
+];
+
+pub const ROW_3: &[Case] = &[
+    File(NoGlobals(
+        "00000001 30 A0",
+        DecodeError::Segment(SegmentError::InvalidReferredCount),
+    )),
+    File(NoGlobals(
+        "00000002 00 20 02",
+        DecodeError::Segment(SegmentError::InvalidReference),
+    )),
+];
+
+pub const ROW_16: &[Case] = &[
+    File(Pages(
+        Strict,
+        "H 01 00000001 P 00000001 31 00 01 00000000",
+        ONE_PAGE,
+    )),
+    File(Refused(
+        Strict,
+        "H 01 00000001 P",
+        DecodeError::Format(FormatError::InvalidEndOfPage),
+    )),
+    File(Pages(Strict, HEADERS_FIRST, ONE_PAGE)),
+];
+
+/// The rows R9.
+pub const ROWS_9: &[Row] = &[Row {
+    name: "R9.4",
+    cases: &[File(NoFirstPage("H 03", DecodeError::Format(FormatError::MissingPageInfo)))],
+}];
+
+/// The rows R13.
+pub const ROWS_13: &[Row] = &[Row {
+    name: "R13.5",
+    cases: &[
+        File(CutOff {
+            bytes: HEADERS_FIRST,
+            but: 13,
+        }),
+        File(Refused(
+            Strict,
+            "H 00 00000001",
+            DecodeError::Format(FormatError::PageCountMismatch),
+        )),
+        File(Pages(Lenient, "H 00 00000001", &[])),
+    ],
+}];
