@@ -15,7 +15,7 @@ pub context-none : (pixels : List AdaptiveTemplatePixel) (g : Grid) (x y : ℕ) 
 unfolding context_at
 context-none pixels g x y = ap (λ (l : List AdaptiveTemplatePixel). number_of (map (λ (p : AdaptiveTemplatePixel). pixel g (pos x +ℤ p.x) (pos y +ℤ p.y)) l)) (sym (drop-length pixels))
 
-number_of-lt : (bits : List Bool) → number_of bits < 2 ^ length bits
+pub number_of-lt : (bits : List Bool) → number_of bits < 2 ^ length bits
 number_of-lt [] = omega arith
 number_of-lt (true ∷ bits) = rw pow-suc (omega (arith, number_of-lt bits))
 number_of-lt (false ∷ bits) = rw pow-suc (omega (arith, number_of-lt bits))

@@ -9,20 +9,27 @@ use Rattle.jbig2_coder.specs.Coder.{Coder, Context, started}
 use Rattle.jbig2_region.specs.Generic.{generic_coding, generic_region, generic_grid, generic_answer, contexts_after}
 use Rattle.jbig2_region.specs.GenericHeader.{GenericHeader}
 use Rattle.jbig2_region.specs.Holds.{Holds}
-use Rattle.jbig2_region.specs.Raster.{decoded, no_pixels, fresh_contexts}
+use Rattle.jbig2_region.specs.Raster.{Coding, decoded, no_pixels, fresh_contexts}
 use Rattle.jbig2_region.specs.T6.{Decoded, decoded as mmr_rows}
 use Rattle.jbig2_region.specs.Templates.{context_bits}
 
--- the same region, decoded by a coder and contexts that stand at the start
+-- a region that a coder and contexts that stand at the start decode
+pub fresh-decoded : (coding : Coding) (w h bits : ℕ) (input : List ℕ) (before grid : Grid) (first coder : Coder) (fresh states : List Context) → before ≡ blank w h false → first.bytes ≡ input → first.registers ≡ started input → fresh ≡ fresh_contexts bits
+    → Holds before.width before.height first.bytes (decoded coding before.width before.height first.bytes (no_pixels first.registers fresh)) grid coder states
+    → Holds w h input (decoded coding w h input (no_pixels (started input) (fresh_contexts bits))) grid coder states
+fresh-decoded coding w h bits input before grid first coder fresh states white bytes registers contexts holds =
+    let one = subst (λ (s : List Context). Holds before.width before.height first.bytes (decoded coding before.width before.height first.bytes (no_pixels first.registers s)) grid coder states) contexts holds in
+    let two = subst (λ r. Holds before.width before.height first.bytes (decoded coding before.width before.height first.bytes (no_pixels r (fresh_contexts bits))) grid coder states) registers one in
+    let three = subst (λ (b : List ℕ). Holds before.width before.height b (decoded coding before.width before.height b (no_pixels (started input) (fresh_contexts bits))) grid coder states) bytes two in
+    subst (λ (g : Grid). Holds g.width g.height input (decoded coding g.width g.height input (no_pixels (started input) (fresh_contexts bits))) grid coder states) white three
+
+-- the same for a generic region
 pub region-decoded : (h : GenericHeader) (before : Grid) (grid : Grid) (first coder : Coder) (fresh states : List Context) → before ≡ blank h.region_info.width h.region_info.height false → first.bytes ≡ h.bytes → first.registers ≡ started h.bytes → fresh ≡ fresh_contexts (context_bits h.template)
     → Holds before.width before.height first.bytes (decoded (generic_coding h) before.width before.height first.bytes (no_pixels first.registers fresh)) grid coder states
     → Holds h.region_info.width h.region_info.height h.bytes (generic_region h) grid coder states
 unfolding generic_region
 region-decoded h before grid first coder fresh states white bytes registers contexts holds =
-    let one = subst (λ (s : List Context). Holds before.width before.height first.bytes (decoded (generic_coding h) before.width before.height first.bytes (no_pixels first.registers s)) grid coder states) contexts holds in
-    let two = subst (λ r. Holds before.width before.height first.bytes (decoded (generic_coding h) before.width before.height first.bytes (no_pixels r (fresh_contexts (context_bits h.template)))) grid coder states) registers one in
-    let three = subst (λ (b : List ℕ). Holds before.width before.height b (decoded (generic_coding h) before.width before.height b (no_pixels (started h.bytes) (fresh_contexts (context_bits h.template)))) grid coder states) bytes two in
-    subst (λ (g : Grid). Holds g.width g.height h.bytes (decoded (generic_coding h) g.width g.height h.bytes (no_pixels (started h.bytes) (fresh_contexts (context_bits h.template)))) grid coder states) white three
+    fresh-decoded (generic_coding h) h.region_info.width h.region_info.height (context_bits h.template) h.bytes before grid first coder fresh states white bytes registers contexts holds
 
 pub answer-decoded : (h : GenericHeader) (grid : Grid) (coder : Coder) (states : List Context) → h.mmr ≡ false → Holds h.region_info.width h.region_info.height h.bytes (generic_region h) grid coder states → generic_answer h ≡ Ok grid
 unfolding generic_grid

@@ -1,6 +1,7 @@
 pub mod ContextLemmas
 pub mod GenericLemmas
 pub mod RasterLemmas
+pub mod RefinementLemmas
 mod T6Bits
 mod T6Decoding
 mod T6Rows

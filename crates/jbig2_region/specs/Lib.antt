@@ -2,8 +2,11 @@ pub mod Generic
 pub mod GenericHeader
 pub mod Holds
 pub mod Raster
-pub mod Skipping
+pub mod Refinement
+pub mod RefinementHeader
+pub mod RefinementViews
 pub mod RegionInfo
+pub mod Skipping
 pub mod T6
 pub mod T6Calls
 pub mod T6Codes

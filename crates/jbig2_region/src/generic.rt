@@ -43,7 +43,7 @@ fn is_earlier(x: i16, y: i16) -> bool
     y < 0 || (y <= 0 && x < 0)
 }
 
-fn signed_field(reader: &mut Reader<'_>) -> Result<i16>
+pub(crate) fn signed_field(reader: &mut Reader<'_>) -> Result<i16>
     requires { IsAligned reader.old }
     ensures value { Answers (λ x. (x, reader.new.bytes)) result (signed_byte_at reader.old.bytes) }
     ensures aligned { IsAligned reader.new }

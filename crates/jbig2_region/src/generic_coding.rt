@@ -15,7 +15,7 @@ use jbig2_coder::arithmetic_decoder::{ArithmeticDecoder, ArithmeticDecoderContex
 use std::alloc::Allocator;
 use std::sync::ledger::Ledger;
 
-const fn pixel(x: i16, y: i16) -> AdaptiveTemplatePixel
+pub const fn pixel(x: i16, y: i16) -> AdaptiveTemplatePixel
     ensures { result ≡ record { x = x; y = y } }
 {
     AdaptiveTemplatePixel { x, y }

@@ -3,8 +3,10 @@
 
 pub mod generic;
 mod generic_coding;
+pub mod generic_refinement;
 pub mod mmr;
 pub mod raster;
+mod refinement_coding;
 pub mod region_info;
 pub mod skipping;
 pub mod template;

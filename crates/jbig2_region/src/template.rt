@@ -1,5 +1,8 @@
-//! The templates of generic regions and their adaptive pixels (T.88, 6.2.5.3 and 6.2.5.4).
+//! The templates of generic regions (T.88, 6.2.5.3) and of refinements (6.3.5.3), and their adaptive
+//! pixels.
 ghost use Rattle.std.specs.Prelude.{◌≡◌, ◌<◌};
+ghost use Rattle.jbig2_region.specs.Refinement.{refinement_bits};
+ghost use Rattle.jbig2_region.specs.RefinementHeader.{refinement_template_of};
 ghost use Rattle.jbig2_region.specs.Templates.{template_of, context_bits};
 
 /// Which pixels a context is made from.
@@ -33,6 +36,36 @@ impl Template {
             Template::Template0 => 16,
             Template::Template1 => 13,
             Template::Template2 | Template::Template3 => 10,
+        }
+    }
+}
+
+/// Which pixels of the reference and of the region a refinement's context is made from.
+#[derive(Clone, Copy, Debug, PartialEq, Eq)]
+pub enum RefinementTemplate {
+    Template0,
+    Template1,
+}
+
+impl RefinementTemplate {
+    /// The template of this number, 0 or 1.
+    pub fn from_number(number: u8) -> RefinementTemplate
+        requires { number < 2 }
+        ensures { result ≡ refinement_template_of number }
+    {
+        match number {
+            0 => RefinementTemplate::Template0,
+            _ => RefinementTemplate::Template1,
+        }
+    }
+
+    /// How many pixels a context is made from.
+    pub fn context_bits(self) -> u32
+        ensures { result ≡ refinement_bits self }
+    {
+        match self {
+            RefinementTemplate::Template0 => 13,
+            RefinementTemplate::Template1 => 10,
         }
     }
 }

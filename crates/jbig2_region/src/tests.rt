@@ -4,6 +4,8 @@
 //! refused. At most one is refused in a test's run, so what it was refused to is tried again.
 ghost use Rattle.std.specs.Prelude.{◌≡◌};
 
+mod refinement;
+
 use crate::generic::{decode, decode_into, parse};
 use crate::region_info::parse_region_segment_info;
 use crate::template::Template;

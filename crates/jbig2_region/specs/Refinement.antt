@@ -1,0 +1,130 @@
+-- Refinements (T.88, 6.3): as generic regions, with templates that lie in two grids.
+use Rattle.std.specs.Prelude.{ℕ, Bool, true, false, not, ◌||◌, nat_lt, nat_le, if◌then◌else◌, List, [], ◌∷◌, ◌++◌, map, Option, Some, None, ℤ, pos, negsuc, ◌+ℤ◌, ◌-ℤ◌, Result, Ok}
+use Rattle.std.specs.List.{list_all}
+use Rattle.jbig2_base.specs.Answer.{◌>>=◌, refuse_if}
+use Rattle.jbig2_base.specs.Grid.{Grid, pixel}
+use Rattle.jbig2_base.specs.declared.error.DecodeError.{DecodeError}
+use Rattle.jbig2_base.specs.declared.error.DecodeError.TheVariants as errors
+use Rattle.jbig2_base.specs.declared.error.OverflowError.TheVariants.{ReferenceOffset}
+use Rattle.jbig2_base.specs.declared.error.RegionError.TheVariants.{InvalidDimension}
+use Rattle.jbig2_coder.specs.Coder.{started}
+use Rattle.jbig2_region.specs.Generic.{number_of, PlacedRegion}
+use Rattle.jbig2_region.specs.Raster.{Coding, Region, so_far, decoded, no_pixels, fresh_contexts}
+use Rattle.jbig2_region.specs.RefinementHeader.{RefinementHeader}
+use Rattle.jbig2_region.specs.Templates.{adaptive}
+use Rattle.jbig2_region.specs.declared.region_info.RegionSegmentInfo.{RegionSegmentInfo}
+use Rattle.jbig2_region.specs.declared.template.AdaptiveTemplatePixel.{AdaptiveTemplatePixel}
+use Rattle.jbig2_region.specs.declared.template.RefinementTemplate.{RefinementTemplate}
+use Rattle.jbig2_region.specs.declared.template.RefinementTemplate.TheVariants.{Template0, Template1}
+
+-- What a region is refined from: a grid that lies dx columns to the right of the region and dy rows below it.
+pub record Reference : Type 0 where
+  pub grid : Grid
+  pub dx : ℤ
+  pub dy : ℤ
+
+-- so many columns to the right and rows down; `negsuc 0` is one to the left or up
+abbrev pub apart : ℤ → ℤ → AdaptiveTemplatePixel
+apart x y = record { x = x; y = y }
+
+-- how many bits a context's number has
+abbrev pub refinement_bits : RefinementTemplate → ℕ
+refinement_bits Template0 = 13
+refinement_bits Template1 = 10
+
+-- The pixels of the reference that a template takes (6.3.5.3, Figures 12 and 13), bit 0 of a context's number first.
+abbrev pub reference_pixels : RefinementTemplate → List AdaptiveTemplatePixel → List AdaptiveTemplatePixel
+reference_pixels Template0 a =
+    apart (pos 1) (pos 1) ∷ apart (pos 0) (pos 1) ∷ apart (negsuc 0) (pos 1)
+    ∷ apart (pos 1) (pos 0) ∷ apart (pos 0) (pos 0) ∷ apart (negsuc 0) (pos 0)
+    ∷ apart (pos 1) (negsuc 0) ∷ apart (pos 0) (negsuc 0) ∷ adaptive a 1 ∷ []
+reference_pixels Template1 a =
+    apart (pos 1) (pos 1) ∷ apart (pos 0) (pos 1)
+    ∷ apart (pos 1) (pos 0) ∷ apart (pos 0) (pos 0) ∷ apart (negsuc 0) (pos 0)
+    ∷ apart (pos 0) (negsuc 0) ∷ []
+
+-- Those of the region itself, whose bits follow.
+abbrev pub region_pixels : RefinementTemplate → List AdaptiveTemplatePixel → List AdaptiveTemplatePixel
+region_pixels Template0 a = apart (negsuc 0) (pos 0) ∷ apart (pos 1) (negsuc 0) ∷ apart (pos 0) (negsuc 0) ∷ adaptive a 0 ∷ []
+region_pixels Template1 a = apart (negsuc 0) (pos 0) ∷ apart (pos 1) (negsuc 0) ∷ apart (pos 0) (negsuc 0) ∷ apart (negsuc 0) (negsuc 0) ∷ []
+
+-- a template's pixel in the reference, seen from column x of row y of the region
+abbrev pub reference_pixel : Reference → ℕ → ℕ → AdaptiveTemplatePixel → Bool
+reference_pixel r x y p = pixel r.grid (pos x -ℤ r.dx +ℤ p.x) (pos y -ℤ r.dy +ℤ p.y)
+
+-- the same in the region
+abbrev pub region_pixel : Grid → ℕ → ℕ → AdaptiveTemplatePixel → Bool
+region_pixel g x y p = pixel g (pos x +ℤ p.x) (pos y +ℤ p.y)
+
+-- the number of a context, from a template's pixels in the reference and those in the region
+unfoldable pub refined_context : Reference → List AdaptiveTemplatePixel → List AdaptiveTemplatePixel → Grid → ℕ → ℕ → ℕ
+refined_context r in_reference in_region g x y = number_of (map (reference_pixel r x y) in_reference ++ map (region_pixel g x y) in_region)
+
+-- a pixel and the eight around it
+abbrev pub nine : List AdaptiveTemplatePixel
+nine =
+    apart (negsuc 0) (negsuc 0) ∷ apart (pos 0) (negsuc 0) ∷ apart (pos 1) (negsuc 0)
+    ∷ apart (negsuc 0) (pos 0) ∷ apart (pos 0) (pos 0) ∷ apart (pos 1) (pos 0)
+    ∷ apart (negsuc 0) (pos 1) ∷ apart (pos 0) (pos 1) ∷ apart (pos 1) (pos 1) ∷ []
+
+-- the colour that nine pixels of the reference have in common, if they have one (6.3.5.6)
+unfoldable pub common_colour : Reference → ℕ → ℕ → Option Bool
+common_colour r x y =
+    if list_all (reference_pixel r x y) nine then Some true
+    else if list_all (λ p. not (reference_pixel r x y p)) nine then Some false
+    else None
+
+-- in a predicted row a pixel takes that colour
+abbrev pub predicted_colour : Reference → Bool → ℕ → ℕ → Option Bool
+predicted_colour r predicted x y = if predicted then common_colour r x y else None
+
+-- the context of the decision that begins a row under typical prediction (6.3.5.6, Figures 14 and 15)
+abbrev pub refinement_row_context : RefinementTemplate → ℕ
+refinement_row_context Template0 = 0x0010
+refinement_row_context Template1 = 0x0008
+
+-- by the template, whether typical prediction is on, the two adaptive pixels, and the reference
+abbrev pub refinement_coding : RefinementTemplate → Bool → List AdaptiveTemplatePixel → Reference → Coding
+refinement_coding template typical a r = record {
+  context = refined_context r (reference_pixels template a) (region_pixels template a);
+  known = λ predicted g x y. predicted_colour r predicted x y;
+  row_context = (if typical then Some (refinement_row_context template) else None);
+}
+
+-- a reference at a place on the page, seen from a region at its place
+abbrev pub reference_of : RefinementHeader → PlacedRegion → Reference
+reference_of h from = record {
+  grid = from.grid;
+  dx = pos from.x_location -ℤ pos h.region_info.x_location;
+  dy = pos from.y_location -ℤ pos h.region_info.y_location;
+}
+
+-- the region and what the coder has come to, from fresh contexts
+unfoldable pub refined_region : RefinementHeader → PlacedRegion → Region
+refined_region h from =
+    decoded (refinement_coding h.template h.tpgron h.adaptive_template_pixels (reference_of h from)) h.region_info.width h.region_info.height h.bytes (no_pixels (started h.bytes) (fresh_contexts (refinement_bits h.template)))
+
+unfoldable pub refined_grid : RefinementHeader → PlacedRegion → Grid
+refined_grid h from = so_far h.region_info.width h.region_info.height (refined_region h from).pixels
+
+-- a place that a signed number of 32 bits cannot hold
+abbrev pub is_far : ℕ → Bool
+is_far location = nat_le 0x80000000 location
+
+-- a reference that is narrower or lower than the region
+abbrev pub is_smaller : PlacedRegion → RegionSegmentInfo → Bool
+is_smaller from info = nat_lt from.grid.width info.width || nat_lt from.grid.height info.height
+
+-- dx and dy: the reference's place less the region's. A reference smaller than the region is refused (7.4.7.5), and so
+-- is a place of 2^31 or more (our own rule).
+unfoldable pub offset : PlacedRegion → RegionSegmentInfo → Result (ℤ × ℤ) DecodeError
+offset from info = do
+  covered ← refuse_if (is_smaller from info) (errors.Region InvalidDimension)
+  near ← refuse_if (is_far from.x_location || is_far info.x_location || is_far from.y_location || is_far info.y_location) (errors.Overflow ReferenceOffset)
+  Ok (pos from.x_location -ℤ pos info.x_location, pos from.y_location -ℤ pos info.y_location)
+
+abbrev pub refined_answer : RefinementHeader → PlacedRegion → Result Grid DecodeError
+refined_answer h from = offset from h.region_info >>= λ d. Ok (refined_grid h from)
+
+abbrev pub refined_decoded : RefinementHeader → PlacedRegion → Result PlacedRegion DecodeError
+refined_decoded h from = refined_answer h from >>= λ g. Ok (record { grid = g; x_location = h.region_info.x_location; y_location = h.region_info.y_location; combination_operator = h.region_info.combination_operator })

@@ -1,0 +1,210 @@
+//! Refinement regions (T.88, 6.3 and 7.4.7).
+ghost use Rattle.std.specs.Prelude.{◌≡◌, ◌≤◌, ◌^◌, length, false, IfOk, OnErr, OnOk};
+ghost use Rattle.jbig2_base.specs.Answer.{Answers, Gives};
+ghost use Rattle.jbig2_base.specs.Bits.{IsAligned};
+ghost use Rattle.jbig2_base.specs.Grid.{blank};
+ghost use Rattle.jbig2_region.specs.Generic.{region_view};
+ghost use Rattle.jbig2_region.specs.Refinement.{is_far, is_smaller, offset, refined_answer, refined_decoded, refined_region, refinement_bits, refinement_coding};
+ghost use Rattle.jbig2_region.specs.RefinementViews.{reference_view};
+ghost use Rattle.jbig2_region.specs.RefinementHeader.{IsRefinement, free_pixel_at, header_view, refinement_header_at, refinement_pixels_at};
+
+use crate::generic::{DecodedRegion, signed_field};
+use crate::raster::fresh_contexts;
+pub use crate::refinement_coding::decode_bitmap;
+use crate::region_info::{RegionSegmentInfo, parse_region_segment_info};
+use crate::template::{AdaptiveTemplatePixel, RefinementTemplate};
+use jbig2_base::bitmap::Bitmap;
+use jbig2_base::bitmap::steps::Steps;
+use jbig2_base::error::{DecodeError, OverflowError, RegionError, Result};
+use jbig2_base::field::byte_field;
+use jbig2_base::reader::Reader;
+use jbig2_coder::arithmetic_decoder::{ArithmeticDecoder, ArithmeticDecoderContext};
+use std::alloc::Allocator;
+use std::sync::ledger::Ledger;
+
+/// What a refinement's coded bytes are decoded by (T.88, 7.4.7).
+#[derive(Clone, Copy, Debug)]
+pub struct GenericRefinementRegionHeader<'a> {
+    pub region_info: RegionSegmentInfo,
+    pub template: RefinementTemplate,
+    /// Whether typical prediction is on.
+    pub tpgron: bool,
+    /// Without meaning at template 1.
+    pub adaptive_template_pixels: [AdaptiveTemplatePixel; 2],
+    /// The coded bytes.
+    pub bytes: &'a [u8],
+}
+
+/// What a region is refined from: a bitmap whose top left pixel lies `dx` columns to the right of the
+/// region's and `dy` rows below it.
+#[derive(Drop)]
+pub struct ReferenceBitmap<'a, B: Allocator> {
+    pub bitmap: &'a Bitmap<B>,
+    pub dx: i32,
+    pub dy: i32,
+}
+
+#[tactic(auto, unfolding(crate::specs::RefinementHeader::free_pixel_at))]
+fn parse_pixel(reader: &mut Reader<'_>) -> Result<AdaptiveTemplatePixel>
+    requires { IsAligned reader.old }
+    ensures value { Answers (λ pixel. (pixel, reader.new.bytes)) result (free_pixel_at reader.old.bytes) }
+    ensures aligned { IsAligned reader.new }
+{
+    let x = signed_field(reader)?;
+    let y = signed_field(reader)?;
+    Ok(AdaptiveTemplatePixel { x, y })
+}
+
+#[tactic(auto, unfolding(crate::specs::RefinementHeader::refinement_pixels_at))]
+fn parse_template_pixels(
+    reader: &mut Reader<'_>,
+    template: RefinementTemplate,
+) -> Result<[AdaptiveTemplatePixel; 2]>
+    requires { IsAligned reader.old }
+    ensures value { Answers (λ pixels. (pixels, reader.new.bytes)) result (refinement_pixels_at template reader.old.bytes) }
+    ensures aligned { IsAligned reader.new }
+{
+    match template {
+        RefinementTemplate::Template0 => {
+            let first = parse_pixel(reader)?;
+            let second = parse_pixel(reader)?;
+            Ok([first, second])
+        }
+        RefinementTemplate::Template1 => {
+            let unused = AdaptiveTemplatePixel { x: 0, y: 0 };
+            Ok([unused, unused])
+        }
+    }
+}
+
+/// The header of a refinement region at the reader's place, which holds the coded bytes behind it
+/// (T.88, 7.4.7).
+///
+/// `ParseError::UnexpectedEof` where the bytes do not hold it; the errors of
+/// `parse_region_segment_info`; `OverflowError::BitmapDimension` above 65535 pixels either way. The
+/// adaptive pixels may lie anywhere. Takes no memory.
+#[tactic(auto, unfolding(crate::specs::RefinementHeader::refinement_header_at))]
+pub fn parse<'a>(reader: &mut Reader<'a>) -> Result<GenericRefinementRegionHeader<'a>>
+    requires { IsAligned reader.old }
+    ensures value { Answers (λ h. (header_view h, reader.new.bytes)) result (refinement_header_at reader.old.bytes) }
+    ensures aligned { IsAligned reader.new }
+    ensures parsed { IfOk result (λ h. IsRefinement (header_view h)) }
+{
+    let region_info = parse_region_segment_info(reader)?;
+    let flags = byte_field(reader)?;
+    let template = RefinementTemplate::from_number(flags % 2);
+    let adaptive_template_pixels = parse_template_pixels(reader, template)?;
+    if region_info.width > 65535 || region_info.height > 65535 {
+        return Err(DecodeError::Overflow(OverflowError::BitmapDimension));
+    }
+    Ok(GenericRefinementRegionHeader {
+        region_info,
+        template,
+        tpgron: flags / 2 % 2 == 1,
+        adaptive_template_pixels,
+        bytes: reader.tail(),
+    })
+}
+
+/// Whether the reference is narrower or lower than the region.
+fn is_smaller<B: Allocator>(reference: &DecodedRegion<B>, region_info: &RegionSegmentInfo) -> bool
+    ensures { result ≡ is_smaller (region_view reference.now) region_info.now }
+{
+    reference.bitmap.width() < region_info.width || reference.bitmap.height() < region_info.height
+}
+
+fn is_far(location: u32) -> bool
+    ensures { result ≡ is_far location }
+{
+    location >= 0x8000_0000
+}
+
+/// Where the reference lies, seen from the region: columns to the right and rows down.
+#[tactic(auto, unfolding(crate::specs::Refinement::offset))]
+fn offset<B: Allocator>(
+    reference: &DecodedRegion<B>,
+    region_info: &RegionSegmentInfo,
+) -> Result<(i32, i32)>
+    ensures { Answers (λ d. d) result (offset (region_view reference.now) region_info.now) }
+{
+    if is_smaller(reference, region_info) {
+        return Err(DecodeError::Region(RegionError::InvalidDimension));
+    }
+    if is_far(reference.x_location)
+        || is_far(region_info.x_location)
+        || is_far(reference.y_location)
+        || is_far(region_info.y_location)
+    {
+        return Err(DecodeError::Overflow(OverflowError::ReferenceOffset));
+    }
+    Ok((
+        reference.x_location as i32 - region_info.x_location as i32,
+        reference.y_location as i32 - region_info.y_location as i32,
+    ))
+}
+
+/// Refines `reference` (T.88, 6.3) into a white bitmap of the region's size. The contexts begin
+/// fresh, whatever `contexts` held, and are left there as the region leaves them.
+///
+/// `RegionError::InvalidDimension` where the reference is narrower or lower than the region;
+/// `OverflowError::ReferenceOffset` where a place of either is 2^31 or more; `OutOfMemory` where
+/// there is no room for the contexts. A refusal leaves the bitmap as it was.
+pub fn decode_into<A: Allocator, B: Allocator, C: Allocator, L: Ledger>(
+    header: &GenericRefinementRegionHeader<'_>,
+    reference: &DecodedRegion<B>,
+    bitmap: &mut Bitmap<A>,
+    contexts: &mut Vec<ArithmeticDecoderContext, C>,
+    steps: &mut Steps<L>,
+) -> Result<()>
+    requires parsed { IsRefinement (header_view header.now) }
+    requires white { bitmap.old ≡ blank header.now.region_info.width header.now.region_info.height false }
+    ensures value { Gives (λ _. bitmap.new) result (refined_answer (header_view header.now) (region_view reference.now)) }
+    ensures contexts { OnOk result (contexts.new.items ≡ (refined_region (header_view header.now) (region_view reference.now)).contexts) }
+    ensures same { OnErr result (bitmap.new ≡ bitmap.old) }
+{
+    let region_info = &header.region_info;
+    let (dx, dy) = offset(reference, region_info)?;
+    let refined = ReferenceBitmap {
+        bitmap: &reference.bitmap,
+        dx,
+        dy,
+    };
+    fresh_contexts(contexts, header.template.context_bits())?;
+    let mut decoder = ArithmeticDecoder::new(header.bytes);
+    decode_bitmap(
+        header.template,
+        header.tpgron,
+        &header.adaptive_template_pixels,
+        &refined,
+        bitmap,
+        &mut decoder,
+        contexts,
+        steps,
+    );
+    Ok(())
+}
+
+/// Refines `reference` (T.88, 6.3), as `decode_into` does, into a bitmap of its own.
+///
+/// `OutOfMemory` where there is no room for the bitmap or the contexts, else as `decode_into`.
+pub fn decode<A: Allocator, B: Allocator, C: Allocator, L: Ledger>(
+    alloc: A,
+    header: &GenericRefinementRegionHeader<'_>,
+    reference: &DecodedRegion<B>,
+    contexts: &mut Vec<ArithmeticDecoderContext, C>,
+    steps: &mut Steps<L>,
+) -> Result<DecodedRegion<A>>
+    requires { IsRefinement (header_view header.now) }
+    ensures value { Gives (λ region. region_view region) result (refined_decoded (header_view header.now) (region_view reference.now)) }
+    ensures contexts { OnOk result (contexts.new.items ≡ (refined_region (header_view header.now) (region_view reference.now)).contexts) }
+{
+    let region_info = &header.region_info;
+    let mut bitmap = Bitmap::new(alloc, region_info.width, region_info.height)?;
+    decode_into(header, reference, &mut bitmap, contexts, steps)?;
+    Ok(DecodedRegion {
+        bitmap,
+        x_location: region_info.x_location,
+        y_location: region_info.y_location,
+        combination_operator: region_info.combination_operator,
+    })
+}

@@ -1,0 +1,290 @@
+//! The contexts of refinements (T.88, 6.3.5.3 to 6.3.5.6).
+ghost use Rattle.std.specs.Prelude.{◌≡◌, ◌+◌, ◌^◌, ◌<◌, ◌≤◌, ◌++◌, Bool, List, [], length, map, pos, ◌+ℤ◌, ◌-ℤ◌, ◌<ℤ◌, false};
+ghost use Rattle.jbig2_base.specs.Grid.{blank, pixel, bit_number};
+ghost use Rattle.jbig2_region.specs.Generic.{number_of};
+ghost use Rattle.jbig2_region.specs.Holds.{Holds};
+ghost use Rattle.jbig2_region.specs.Raster.{decoded, no_pixels};
+ghost use Rattle.jbig2_region.specs.declared.template.RefinementTemplate.TheVariants.{Template0, Template1};
+ghost use Rattle.jbig2_region.specs.RefinementViews.{reference_view};
+ghost use Rattle.jbig2_region.specs.Refinement.{nine, predicted_colour, common_colour, reference_pixel, reference_pixels, refined_context, refinement_bits, refinement_coding, refinement_row_context, region_pixels};
+
+use crate::generic_coding::{context_at, pixel};
+use crate::generic_refinement::ReferenceBitmap;
+use crate::raster::{PixelCoding, decode_region};
+use crate::template::{AdaptiveTemplatePixel, RefinementTemplate};
+use jbig2_base::bitmap::Bitmap;
+use jbig2_base::bitmap::steps::Steps;
+use jbig2_coder::arithmetic_decoder::{ArithmeticDecoder, ArithmeticDecoderContext};
+use std::alloc::Allocator;
+use std::sync::ledger::Ledger;
+
+/// A pixel and the eight around it.
+#[inline(always)]
+fn nine() -> [AdaptiveTemplatePixel; 9]
+    ensures { result ≡ nine }
+{
+    [
+        pixel(-1, -1),
+        pixel(0, -1),
+        pixel(1, -1),
+        pixel(-1, 0),
+        pixel(0, 0),
+        pixel(1, 0),
+        pixel(-1, 1),
+        pixel(0, 1),
+        pixel(1, 1),
+    ]
+}
+
+/// The reference's pixels in template 0, bit 0 of a context first (Figure 12).
+fn reference_0(a: &[AdaptiveTemplatePixel; 2]) -> [AdaptiveTemplatePixel; 9]
+    ensures { result ≡ reference_pixels Template0 a.now }
+{
+    [
+        pixel(1, 1),
+        pixel(0, 1),
+        pixel(-1, 1),
+        pixel(1, 0),
+        pixel(0, 0),
+        pixel(-1, 0),
+        pixel(1, -1),
+        pixel(0, -1),
+        a[1],
+    ]
+}
+
+/// The region's pixels in template 0, whose bits follow.
+fn region_0(a: &[AdaptiveTemplatePixel; 2]) -> [AdaptiveTemplatePixel; 4]
+    ensures { result ≡ region_pixels Template0 a.now }
+{
+    [pixel(-1, 0), pixel(1, -1), pixel(0, -1), a[0]]
+}
+
+/// The reference's pixels in template 1 (Figure 13).
+fn reference_1() -> [AdaptiveTemplatePixel; 6]
+    ensures { result ≡ reference_pixels Template1 [] }
+{
+    [
+        pixel(1, 1),
+        pixel(0, 1),
+        pixel(1, 0),
+        pixel(0, 0),
+        pixel(-1, 0),
+        pixel(0, -1),
+    ]
+}
+
+/// The region's pixels in template 1.
+fn region_1() -> [AdaptiveTemplatePixel; 4]
+    ensures { result ≡ region_pixels Template1 [] }
+{
+    [pixel(-1, 0), pixel(1, -1), pixel(0, -1), pixel(-1, -1)]
+}
+
+/// The context of the decision that begins a row under typical prediction (T.88, 6.3.5.6).
+fn row_context(template: RefinementTemplate) -> u32
+    ensures value { result ≡ refinement_row_context template }
+    ensures small { result < 2 ^ refinement_bits template }
+{
+    match template {
+        RefinementTemplate::Template0 => 0x0010,
+        RefinementTemplate::Template1 => 0x0008,
+    }
+}
+
+/// The pixel at a place that may lie outside, also far away, 1 for black; 0 outside.
+#[inline(always)]
+fn far_pixel<A: Allocator, L: Ledger>(
+    bitmap: &Bitmap<A>,
+    column: i64,
+    row: i64,
+    steps: &mut Steps<L>,
+) -> u8
+    requires column { column <ℤ pos 4294967296 }
+    requires row { row <ℤ pos 4294967296 }
+    ensures value { result ≡ bit_number (pixel bitmap.now column row) }
+{
+    if column < 0 || row < 0 {
+        steps.load();
+        return 0;
+    }
+    bitmap.get_pixel(column as u32, row as u32, steps)
+}
+
+/// The reference's column (or row) for a template's pixel that lies `apart` from the region's column
+/// (or row), where the reference's first one is the region's one of number `offset`.
+#[inline(always)]
+fn along(place: u32, offset: i32, apart: i16) -> i64
+    requires { place < 65536 }
+    ensures value { result ≡ pos place -ℤ offset +ℤ apart }
+    ensures below { result <ℤ pos 4294967296 }
+{
+    i64::from(place) - i64::from(offset) + i64::from(apart)
+}
+
+/// How a region is refined.
+#[derive(Drop)]
+struct RefinementCoding<'a, B: Allocator> {
+    template: RefinementTemplate,
+    /// Whether typical prediction is on.
+    typical: bool,
+    reference: &'a ReferenceBitmap<'a, B>,
+    /// The template's pixels in the reference, bit 0 of a context first.
+    in_reference: &'a [AdaptiveTemplatePixel],
+    /// Those in the region, whose bits follow.
+    in_region: &'a [AdaptiveTemplatePixel],
+    ghost all: { length in_reference.now + length in_region.now ≡ refinement_bits template },
+    ghost four: { length in_region.now ≡ 4 },
+}
+
+impl<B: Allocator> RefinementCoding<'_, B> {
+    /// The template's pixel of the reference at `place`, seen from column `x` of row `y` of the
+    /// region.
+    #[inline(always)]
+    fn reference_pixel<L: Ledger>(
+        &self,
+        x: u32,
+        y: u32,
+        place: AdaptiveTemplatePixel,
+        steps: &mut Steps<L>,
+    ) -> u8
+        requires column { x < 65536 }
+        requires row { y < 65536 }
+        ensures { result ≡ bit_number (reference_pixel (reference_view self.now.reference.now) x y place) }
+    {
+        far_pixel(
+            self.reference.bitmap,
+            along(x, self.reference.dx, place.x),
+            along(y, self.reference.dy, place.y),
+            steps,
+        )
+    }
+
+    /// The number that these pixels of the reference spell, bit 0 first, with `high` in the bits
+    /// behind them.
+    #[inline(always)]
+    fn number<L: Ledger>(
+        &self,
+        pixels: &[AdaptiveTemplatePixel],
+        high: u32,
+        x: u32,
+        y: u32,
+        steps: &mut Steps<L>,
+    ) -> u32
+        requires column { x < 65536 }
+        requires row { y < 65536 }
+        requires few { length pixels.now ≤ 9 }
+        requires high { high < 16 }
+        ensures { (bits : List Bool) → high ≡ number_of bits → result ≡ number_of (map (reference_pixel (reference_view self.now.reference.now) x y) pixels.now ++ bits) }
+    {
+        let mut number = high;
+        let mut left = pixels.len();
+        while left > 0 {
+            left -= 1;
+            number = 2 * number + u32::from(self.reference_pixel(x, y, pixels[left], steps));
+        }
+        number
+    }
+
+    /// The colour that the reference's nine pixels around column `x` of row `y` of the region have
+    /// in common.
+    #[inline(always)]
+    fn common_colour<L: Ledger>(&self, x: u32, y: u32, steps: &mut Steps<L>) -> Option<bool>
+        requires column { x < 65536 }
+        requires row { y < 65536 }
+        ensures { result ≡ common_colour (reference_view self.now.reference.now) x y }
+    {
+        match self.number(&nine(), 0, x, y, steps) {
+            0x1FF => Some(true),
+            0 => Some(false),
+            _ => None,
+        }
+    }
+}
+
+impl<B: Allocator> PixelCoding for RefinementCoding<'_, B> {
+    ghost use Rattle.std.specs.Prelude.{if◌then◌else◌, Some, None};
+    ghost use Rattle.jbig2_region.specs.Refinement.{predicted_colour, refined_context, refinement_bits, refinement_row_context};
+    ghost use Rattle.jbig2_region.specs.RefinementViews.{reference_view};
+
+    ghost coding = { λ c. record { context = refined_context (reference_view c.reference.now) c.in_reference.now c.in_region.now; known = λ predicted g x y. predicted_colour (reference_view c.reference.now) predicted x y; row_context = if c.typical then Some (refinement_row_context c.template) else None } };
+
+    ghost bits = { λ c. refinement_bits c.template };
+
+    #[inline(always)]
+    fn context<A: Allocator, L: Ledger>(
+        &self,
+        bitmap: &Bitmap<A>,
+        x: u32,
+        y: u32,
+        steps: &mut Steps<L>,
+    ) -> u32 {
+        let high = context_at(self.in_region, bitmap, x, y, steps);
+        self.number(self.in_reference, high, x, y, steps)
+    }
+
+    #[inline(always)]
+    fn known_colour<A: Allocator, L: Ledger>(
+        &self,
+        predicted: bool,
+        _bitmap: &Bitmap<A>,
+        x: u32,
+        y: u32,
+        steps: &mut Steps<L>,
+    ) -> Option<bool> {
+        if !predicted {
+            return None;
+        }
+        self.common_colour(x, y, steps)
+    }
+
+    fn row_context(&self) -> Option<u32> {
+        if self.typical {
+            Some(row_context(self.template))
+        } else {
+            None
+        }
+    }
+}
+
+/// Refines `reference` (T.88, 6.3) into a white bitmap of the region's size. The coder and the
+/// contexts go on from where they stand. Takes no memory.
+pub fn decode_bitmap<A: Allocator, B: Allocator, L: Ledger>(
+    template: RefinementTemplate,
+    typical: bool,
+    adaptive: &[AdaptiveTemplatePixel; 2],
+    reference: &ReferenceBitmap<'_, B>,
+    bitmap: &mut Bitmap<A>,
+    decoder: &mut ArithmeticDecoder<'_>,
+    contexts: &mut [ArithmeticDecoderContext],
+    steps: &mut Steps<L>,
+)
+    requires columns { bitmap.old.width ≤ 65535 }
+    requires rows { bitmap.old.height ≤ 65535 }
+    requires white { bitmap.old ≡ blank bitmap.old.width bitmap.old.height false }
+    requires contexts { length contexts.old ≡ 2 ^ refinement_bits template }
+    ensures holds { Holds bitmap.old.width bitmap.old.height decoder.old.bytes (decoded (refinement_coding template typical adaptive.now (reference_view reference.now)) bitmap.old.width bitmap.old.height decoder.old.bytes (no_pixels decoder.old.registers contexts.old)) bitmap.new decoder.new contexts.new }
+{
+    match template {
+        RefinementTemplate::Template0 => {
+            let coding = RefinementCoding {
+                template,
+                typical,
+                reference,
+                in_reference: &reference_0(adaptive),
+                in_region: &region_0(adaptive),
+            };
+            decode_region(&coding, bitmap, decoder, contexts, steps);
+        }
+        RefinementTemplate::Template1 => {
+            let coding = RefinementCoding {
+                template,
+                typical,
+                reference,
+                in_reference: &reference_1(),
+                in_region: &region_1(),
+            };
+            decode_region(&coding, bitmap, decoder, contexts, steps);
+        }
+    }
+}

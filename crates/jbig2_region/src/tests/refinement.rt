@@ -1,0 +1,299 @@
+//! Refinements of a small bitmap: templates, adaptive pixels, places and typical prediction.
+ghost use Rattle.std.specs.Prelude.{◌≡◌};
+
+use crate::generic::DecodedRegion;
+use crate::generic_refinement::{
+    GenericRefinementRegionHeader, ReferenceBitmap, decode, decode_bitmap, decode_into, parse,
+};
+use crate::raster::fresh_contexts;
+use crate::template::RefinementTemplate;
+use jbig2_base::bitmap::Bitmap;
+use jbig2_base::bitmap::operator::CombinationOperator;
+use jbig2_base::bitmap::steps::Steps;
+use jbig2_base::error::{DecodeError, OverflowError, ParseError, RegionError, Result};
+use jbig2_base::reader::Reader;
+use jbig2_coder::arithmetic_decoder::ArithmeticDecoder;
+use std::alloc::Allocator;
+use std::marker::Brand;
+use std::sync::ledger::{Blank, Ledger};
+
+// Nothing but bytes; another reading of T.88 gave the rows that they are expected to make.
+const CODED: [u8; 9] = [0x93, 0x95, 0x65, 0x0C, 0xF9, 0x38, 0x0B, 0x8E, 0xDB];
+
+const NOMINAL: [u8; 4] = [0xFF, 0xFF, 0xFF, 0xFF];
+
+/// The data of a refinement of 8 by 3 pixels at column `x` of row `y`.
+fn segment<A: Allocator>(alloc: A, x: u8, y: u8, flags: u8, adaptive: &[u8]) -> Result<Vec<u8, A>> {
+    let mut bytes = Vec::new(alloc);
+    bytes.extend_from_slice(&[0, 0, 0, 8, 0, 0, 0, 3, 0, 0, 0])?;
+    bytes.push(x)?;
+    bytes.extend_from_slice(&[0, 0, 0])?;
+    bytes.push(y)?;
+    bytes.push(0)?;
+    bytes.push(flags)?;
+    bytes.extend_from_slice(adaptive)?;
+    bytes.extend_from_slice(&CODED)?;
+    Ok(bytes)
+}
+
+/// A region of 8 by 3 pixels at column `x` of row `y`.
+fn reference<A: Allocator, L: Ledger>(
+    alloc: A,
+    x: u32,
+    y: u32,
+    steps: &mut Steps<L>,
+) -> Result<DecodedRegion<A>> {
+    let mut bitmap = Bitmap::new(alloc, 8, 3)?;
+    let rows: [u8; 3] = [0b11110000, 0b00111100, 0b00000111];
+    for row in 0..3 {
+        for column in 0..8 {
+            let black = rows[row] >> (7 - column) & 1 == 1;
+            bitmap.set_pixel(column, row as u32, black, steps);
+        }
+    }
+    Ok(DecodedRegion {
+        bitmap,
+        x_location: x,
+        y_location: y,
+        combination_operator: CombinationOperator::Or,
+    })
+}
+
+fn rows<A: Allocator, L: Ledger>(bitmap: &Bitmap<A>, steps: &mut Steps<L>) -> [u64; 3] {
+    [
+        bitmap.load_pixels(0, 0, 8, steps),
+        bitmap.load_pixels(0, 1, 8, steps),
+        bitmap.load_pixels(0, 2, 8, steps),
+    ]
+}
+
+/// The rows of a refinement whose reference lies `offset` from the page's top left pixel, where the
+/// region lies at `place`.
+fn refined<A: Allocator + Clone, L: Ledger>(
+    alloc: A,
+    offset: (u32, u32),
+    place: (u8, u8),
+    flags: u8,
+    adaptive: &[u8],
+    steps: &mut Steps<L>,
+) -> Result<[u64; 3]> {
+    let from = reference(alloc.clone()?, offset.0, offset.1, steps)?;
+    let bytes = segment(alloc.clone()?, place.0, place.1, flags, adaptive)?;
+    let header = parse(&mut Reader::new(&bytes))?;
+    let mut contexts = Vec::new(alloc.clone()?);
+    let region = decode(alloc, &header, &from, &mut contexts, steps)?;
+    Ok(rows(&region.bitmap, steps))
+}
+
+/// Both templates, at three places, with near and unusual adaptive pixels, and with prediction.
+fn regions<A: Allocator + Clone, L: Ledger>(alloc: A, blank: Blank) -> Result<[[u64; 3]; 9]>
+    requires name { blank.name ≡ L.name }
+    requires parts { blank.parts ≡ L.parts }
+    requires enough { blank.parts ≡ 6 }
+{
+    let mut steps: Steps<L> = Steps::new(blank);
+    let here = (0, 0);
+    let ahead = [3, 0, 5, 1];
+    let above = [0xFD, 0xFE, 0xFF, 0xFF];
+    Ok([
+        refined(alloc.clone()?, here, (0, 0), 0, &NOMINAL, &mut steps)?,
+        refined(alloc.clone()?, (2, 1), (0, 0), 0, &NOMINAL, &mut steps)?,
+        refined(alloc.clone()?, here, (0, 0), 0, &ahead, &mut steps)?,
+        refined(alloc.clone()?, here, (0, 0), 0, &above, &mut steps)?,
+        refined(alloc.clone()?, here, (0, 0), 2, &NOMINAL, &mut steps)?,
+        refined(alloc.clone()?, here, (0, 0), 1, &[], &mut steps)?,
+        refined(alloc.clone()?, here, (3, 1), 1, &[], &mut steps)?,
+        refined(alloc.clone()?, (1, 0), (0, 1), 3, &[], &mut steps)?,
+        refined(alloc, here, (3, 1), 3, &[], &mut steps)?,
+    ])
+}
+
+const REGIONS: [[u64; 3]; 9] = [
+    [0b00010010, 0b00101100, 0b11100011],
+    [0b00010010, 0b00101101, 0b01000100],
+    [0b00010010, 0b00101001, 0b11000111],
+    [0b00010010, 0b00101100, 0b00111111],
+    [0b00100100, 0b00100111, 0b00011110],
+    [0b00010010, 0b00101100, 0b01000111],
+    [0b00010000, 0b11010100, 0b00011110],
+    [0b00100100, 0b01001101, 0b00000000],
+    [0b00100101, 0b01000001, 0b00100100],
+];
+
+#[test]
+fn refinements(rt: HostRuntime) {
+    match regions::<_, Brand>(rt.alloc(), Blank::new(6)) {
+        Ok(read) => assert_eq!(rt; read, REGIONS),
+        Err(error) => assert!(rt; error == DecodeError::OutOfMemory),
+    }
+}
+
+/// Two refinements, where one coder and its contexts go on from the first to the second, and one whose
+/// reference lies far away.
+fn one_after_the_other<A: Allocator + Clone, L: Ledger>(
+    alloc: A,
+    blank: Blank,
+) -> Result<[[u64; 3]; 3]>
+    requires name { blank.name ≡ L.name }
+    requires parts { blank.parts ≡ L.parts }
+    requires enough { blank.parts ≡ 6 }
+{
+    let mut steps: Steps<L> = Steps::new(blank);
+    let from = reference(alloc.clone()?, 0, 0, &mut steps)?;
+    let bytes = segment(alloc.clone()?, 0, 0, 1, &[])?;
+    let header = parse(&mut Reader::new(&bytes))?;
+    let mut contexts = Vec::new(alloc.clone()?);
+    fresh_contexts(&mut contexts, RefinementTemplate::Template1.context_bits())?;
+    let mut decoder = ArithmeticDecoder::new(&CODED);
+    let near = ReferenceBitmap {
+        bitmap: &from.bitmap,
+        dx: 0,
+        dy: 0,
+    };
+    let adaptive = header.adaptive_template_pixels;
+    let template = RefinementTemplate::Template1;
+    let mut first = Bitmap::new(alloc.clone()?, 8, 3)?;
+    decode_bitmap(
+        template,
+        false,
+        &adaptive,
+        &near,
+        &mut first,
+        &mut decoder,
+        &mut contexts,
+        &mut steps,
+    );
+    let mut second = Bitmap::new(alloc.clone()?, 8, 3)?;
+    decode_bitmap(
+        template,
+        false,
+        &adaptive,
+        &near,
+        &mut second,
+        &mut decoder,
+        &mut contexts,
+        &mut steps,
+    );
+    let far = ReferenceBitmap {
+        bitmap: &from.bitmap,
+        dx: i32::MAX,
+        dy: i32::MIN,
+    };
+    let mut third = Bitmap::new(alloc.clone()?, 8, 3)?;
+    fresh_contexts(&mut contexts, template.context_bits())?;
+    decode_bitmap(
+        template,
+        false,
+        &adaptive,
+        &far,
+        &mut third,
+        &mut ArithmeticDecoder::new(&CODED),
+        &mut contexts,
+        &mut steps,
+    );
+    Ok([
+        rows(&first, &mut steps),
+        rows(&second, &mut steps),
+        rows(&third, &mut steps),
+    ])
+}
+
+#[test]
+fn coders_go_on(rt: HostRuntime) {
+    match one_after_the_other::<_, Brand>(rt.alloc(), Blank::new(6)) {
+        Ok(read) => {
+            assert_eq!(rt; read[0], REGIONS[5]);
+            assert_eq!(rt; read[1], [0b10000000, 0b01110110, 0b00010101]);
+            assert_eq!(rt; read[2], [0b00000000, 0b00000000, 0b00000000]);
+        }
+        Err(error) => assert!(rt; error == DecodeError::OutOfMemory),
+    }
+}
+
+/// The number of contexts, and what refinements are refused by.
+#[derive(Drop)]
+struct Refusals {
+    contexts: usize,
+    /// A region wider than the reference.
+    to_small: Option<DecodeError>,
+    /// A reference too far to the right.
+    to_far: Option<DecodeError>,
+    /// A region too far to the right.
+    from_far: Option<DecodeError>,
+}
+
+fn put<A: Allocator>(bytes: &mut Vec<u8, A>, place: usize, value: u8) {
+    if let Some(byte) = bytes.get_mut(place) {
+        *byte = value;
+    }
+}
+
+fn refuse_each<A: Allocator + Clone, L: Ledger>(alloc: A, blank: Blank) -> Result<Refusals>
+    requires name { blank.name ≡ L.name }
+    requires parts { blank.parts ≡ L.parts }
+    requires enough { blank.parts ≡ 6 }
+{
+    let mut steps: Steps<L> = Steps::new(blank);
+    let from = reference(alloc.clone()?, 0, 0, &mut steps)?;
+    let far = reference(alloc.clone()?, 0x8000_0000, 0, &mut steps)?;
+    let mut bytes = segment(alloc.clone()?, 0, 0, 0, &NOMINAL)?;
+    let mut contexts = Vec::new(alloc.clone()?);
+    let header = parse(&mut Reader::new(&bytes))?;
+    let mut bitmap = Bitmap::new(
+        alloc.clone()?,
+        header.region_info.width,
+        header.region_info.height,
+    )?;
+    decode_into(&header, &from, &mut bitmap, &mut contexts, &mut steps)?;
+    let count = contexts.len();
+    let to_far = decode(alloc.clone()?, &header, &far, &mut contexts, &mut steps).err();
+    put(&mut bytes, 3, 9);
+    let header = parse(&mut Reader::new(&bytes))?;
+    let to_small = decode(alloc.clone()?, &header, &far, &mut contexts, &mut steps).err();
+    put(&mut bytes, 3, 8);
+    put(&mut bytes, 8, 0x80);
+    let header = parse(&mut Reader::new(&bytes))?;
+    let from_far = decode(alloc, &header, &from, &mut contexts, &mut steps).err();
+    Ok(Refusals {
+        contexts: count,
+        to_small,
+        to_far,
+        from_far,
+    })
+}
+
+#[test]
+fn references_that_do_not_serve(rt: HostRuntime) {
+    match refuse_each::<_, Brand>(rt.alloc(), Blank::new(6)) {
+        Ok(read) => {
+            assert_eq!(rt; read.contexts, 8192);
+            let small = DecodeError::Region(RegionError::InvalidDimension);
+            let far = DecodeError::Overflow(OverflowError::ReferenceOffset);
+            assert!(rt; is_or_memory(read.to_small, small));
+            assert!(rt; is_or_memory(read.to_far, far.duplicate()));
+            assert!(rt; is_or_memory(read.from_far, far));
+        }
+        Err(error) => assert!(rt; error == DecodeError::OutOfMemory),
+    }
+}
+
+fn is_or_memory(error: Option<DecodeError>, wanted: DecodeError) -> bool {
+    error == Some(wanted) || error == Some(DecodeError::OutOfMemory)
+}
+
+/// What a header is refused by.
+fn refused<A: Allocator>(alloc: A, width: u8, flags: u8, length: usize) -> Result<()> {
+    let mut bytes = segment(alloc, 0, 0, flags, &[])?;
+    put(&mut bytes, 1, width);
+    bytes.truncate(length);
+    parse(&mut Reader::new(&bytes))?;
+    Ok(())
+}
+
+#[test]
+fn headers_that_are_refused(rt: HostRuntime) {
+    let ended = DecodeError::Parse(ParseError::UnexpectedEof);
+    let wide = DecodeError::Overflow(OverflowError::BitmapDimension);
+    assert!(rt; is_or_memory(refused(rt.alloc(), 1, 0, 21).err(), ended));
+    assert!(rt; is_or_memory(refused(rt.alloc(), 1, 1, 18).err(), wide));
+}
