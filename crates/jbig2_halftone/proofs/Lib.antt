@@ -1,1 +1,3 @@
+mod GrayLemmas
 mod PatternLemmas
+mod PlaneLemmas

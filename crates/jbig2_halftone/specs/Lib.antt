@@ -1,2 +1,3 @@
+pub mod GrayScale
 pub mod PatternHeader
 pub mod Patterns

@@ -1,0 +1,101 @@
+-- The values of a gray-scale image, plane by plane.
+use Rattle.std.proofs.Common.{◌≡◌, ℕ, zero, suc, ◌+◌, ◌-◌, ◌*◌, ◌/◌, ◌%◌, ◌<◌, ◌≤◌, Bool, true, false, eqb, List, [], ◌∷◌, ◌++◌, length, take, map, replicate, get_or, add-one, length-append, refl, sym, ap, ◌∙◌, arith}
+use Rattle.std.specs.List.{range_with_len}
+use Rattle.std.proofs.lemmas.List.{take-append-le}
+use Rattle.std.proofs.Math.Seq.{take-length}
+use Rattle.std.proofs.lemmas.List.FromFn.{fill_by_all, get_or-map-range_with_len, length-map-range_with_len}
+use Rattle.jbig2_base.specs.Grid.{Grid, bit_number, pixel_at}
+use Rattle.jbig2_region.specs.Generic.{number_of}
+use Rattle.jbig2_region.specs.T6.{differ}
+use Rattle.jbig2_halftone.specs.GrayScale.{parity, gray_bit, gray_value, gray_values}
+
+-- a value after one plane more
+abbrev pub next_value : ℕ → Bool → ℕ
+next_value v black = 2 * v + bit_number (differ black (eqb (v % 2) 1))
+
+differ-swap : (a b c : Bool) → differ a (differ b c) ≡ differ b (differ a c)
+differ-swap true true c = refl
+differ-swap true false c = refl
+differ-swap false true c = refl
+differ-swap false false c = refl
+
+parity-last : (planes : List Grid) (plane : Grid) (x y : ℕ) → parity (planes ++ plane ∷ []) x y ≡ differ (pixel_at plane x y) (parity planes x y)
+parity-last [] plane x y = refl
+parity-last (p ∷ planes) plane x y = ap (λ (b : Bool). differ (pixel_at p x y) b) (parity-last planes plane x y) ∙ differ-swap (pixel_at p x y) (pixel_at plane x y) (parity planes x y)
+
+map-shifted : {X : Type 0} (f g : ℕ → X) (a n : ℕ) → ((i : ℕ) → a ≤ i → i < a + n → f (i + 1) ≡ g i) → map f (range_with_len (a + 1) n) ≡ map g (range_with_len a n)
+map-shifted f g a zero same = refl
+map-shifted f g a (suc n) same = rw (same a (omega arith) (omega arith)) (ap (λ xs. g a ∷ xs) (map-shifted f g (a + 1) n (λ i above below. same i (omega arith) (omega arith))))
+
+number-low : (b : Bool) (n : ℕ) → eqb ((bit_number b + 2 * n) % 2) 1 ≡ b
+number-low true n = rw (the_rest n) refl
+  where
+    the_rest : (n : ℕ) → (1 + 2 * n) % 2 ≡ 1
+    the_rest n = omega arith
+number-low false n = rw (the_rest n) refl
+  where
+    the_rest : (n : ℕ) → (0 + 2 * n) % 2 ≡ 0
+    the_rest n = omega arith
+
+gray-lowest : (planes : List Grid) (x y : ℕ) → gray_bit planes x y 0 ≡ parity planes x y
+gray-lowest planes x y =
+    let all : length planes - 0 ≡ length planes = omega arith in
+    ap (λ (k : ℕ). parity (take k planes) x y) all ∙ ap (λ (ps : List Grid). parity ps x y) (take-length planes)
+
+-- the lowest bit of a value
+gray-low : (planes : List Grid) (x y : ℕ) → eqb (gray_value planes x y % 2) 1 ≡ parity planes x y
+unfolding gray_value
+gray-low [] x y = refl
+gray-low (p ∷ planes) x y = number-low (gray_bit (p ∷ planes) x y 0) (number_of (map (gray_bit (p ∷ planes) x y) (range_with_len 1 (length planes)))) ∙ gray-lowest (p ∷ planes) x y
+
+-- a bit above the lowest is one that stood below it before
+gray-higher : (planes : List Grid) (plane : Grid) (x y i : ℕ) → i < length planes → gray_bit (planes ++ plane ∷ []) x y (i + 1) ≡ gray_bit planes x y i
+gray-higher planes plane x y i inside =
+    let all : length (planes ++ plane ∷ []) ≡ length planes + 1 = length-append planes (plane ∷ []) in
+    let some : length (planes ++ plane ∷ []) - (i + 1) ≡ length planes - i = omega arith in
+    ap (λ (k : ℕ). parity (take k (planes ++ plane ∷ [])) x y) some
+    ∙ ap (λ (ps : List Grid). parity ps x y) (take-append-le (length planes - i) planes (plane ∷ []) (omega arith))
+
+value-split : (f : ℕ → Bool) (n m : ℕ) → m ≡ n + 1 → number_of (map f (range_with_len 0 m)) ≡ bit_number (f 0) + 2 * number_of (map f (range_with_len 1 n))
+value-split f n m e = rw (e, add-one) refl
+
+pub gray-last : (planes : List Grid) (plane : Grid) (x y : ℕ) → gray_value (planes ++ plane ∷ []) x y ≡ next_value (gray_value planes x y) (pixel_at plane x y)
+unfolding gray_value
+gray-last planes plane x y =
+    let low : gray_bit (planes ++ plane ∷ []) x y 0 ≡ differ (pixel_at plane x y) (parity planes x y) = gray-lowest (planes ++ plane ∷ []) x y ∙ parity-last planes plane x y in
+    let high : number_of (map (gray_bit (planes ++ plane ∷ []) x y) (range_with_len 1 (length planes))) ≡ gray_value planes x y =
+    ap (λ (bits : List Bool). number_of bits) (map-shifted (gray_bit (planes ++ plane ∷ []) x y) (gray_bit planes x y) 0 (length planes) (λ i above below. gray-higher planes plane x y i (omega arith))) in
+    let turned : differ (pixel_at plane x y) (eqb (gray_value planes x y % 2) 1) ≡ differ (pixel_at plane x y) (parity planes x y) = ap (λ (b : Bool). differ (pixel_at plane x y) b) (gray-low planes x y) in
+    value-split (gray_bit (planes ++ plane ∷ []) x y) (length planes) (length (planes ++ plane ∷ [])) (length-append planes (plane ∷ []))
+    ∙ ap (λ (b : Bool). bit_number b + 2 * number_of (map (gray_bit (planes ++ plane ∷ []) x y) (range_with_len 1 (length planes)))) (low ∙ sym turned)
+    ∙ ap (λ (v : ℕ). bit_number (differ (pixel_at plane x y) (eqb (gray_value planes x y % 2) 1)) + 2 * v) high
+    ∙ omega arith
+
+-- all values, one plane more
+pub values-next : (w h : ℕ) (planes : List Grid) (plane : Grid) (old new : List ℕ) → old ≡ gray_values w h planes → length new ≡ w * h → ((k : ℕ) → k < w * h → get_or new k 0 ≡ next_value (get_or old k 0) (pixel_at plane (k % w) (k / w))) → new ≡ gray_values w h (planes ++ plane ∷ [])
+unfolding gray_values
+values-next w h planes plane old new before all each =
+    fill_by_all (λ n. gray_value (planes ++ plane ∷ []) (n % w) (n / w)) new (w * h) 0 all
+    (λ k below.
+    let read : get_or old k 0 ≡ gray_value planes (k % w) (k / w) = ap (λ (vs : List ℕ). get_or vs k 0) before ∙ get_or-map-range_with_len (λ n. gray_value planes (n % w) (n / w)) 0 (w * h) k k 0 below (omega arith) in
+    each k below ∙ ap (λ (v : ℕ). next_value v (pixel_at plane (k % w) (k / w))) read ∙ sym (gray-last planes plane (k % w) (k / w)))
+
+none-zero : (w a n : ℕ) → map (λ k. gray_value [] (k % w) (k / w)) (range_with_len a n) ≡ replicate n 0
+unfolding gray_value
+none-zero w a zero = refl
+none-zero w a (suc n) = ap (λ (vs : List ℕ). 0 ∷ vs) (none-zero w (a + 1) n)
+
+-- before the first plane every value is 0
+pub values-none : (w h : ℕ) → gray_values w h [] ≡ replicate (w * h) 0
+unfolding gray_values
+values-none w h = none-zero w 0 (w * h)
+
+take-none : (n : ℕ) → take {A = ℕ} n [] ≡ []
+take-none zero = refl
+take-none (suc n) = refl
+
+-- an empty list, made longer
+pub resized : (n len : ℕ) (before after : List ℕ) → before ≡ [] → len ≡ 0 → after ≡ take n before ++ replicate (n - len) 0 → after ≡ replicate n 0
+resized n len before after empty none e =
+    let all : n - len ≡ n = omega arith in
+    e ∙ ap (λ (xs : List ℕ). take n xs ++ replicate (n - len) 0) empty ∙ ap (λ (xs : List ℕ). xs ++ replicate (n - len) 0) (take-none n) ∙ ap (λ (k : ℕ). replicate k 0) all

@@ -1,0 +1,64 @@
+use Rattle.std.proofs.Common.{◌≡◌, ◌≤◌, ◌-◌, List, Ok, false, inr, ap, length, arith, rules}
+use Rattle.jbig2_base.specs.Grid.{Grid, blank}
+use Rattle.jbig2_halftone.specs.GrayScale.{GrayScale, gray_view, mmr_planes, planes_by_mmr}
+use Rattle.jbig2_halftone.proofs.PatternLemmas.{blank-made}
+use Rattle.jbig2_halftone.proofs.PlaneLemmas.{reads-next, reads-small, reads-values, reads-fault, reads-sized, mmr-none, mmr-next, mmr-fault, mmr-made, drop-whole}
+use Rattle.jbig2_halftone.proofs.gray_scale.read_mmr_planes.Goals as goal
+
+pub returns-in-Err : goal.returns-in-Err
+returns-in-Err g c =
+    let p : GrayScale = gray_view c.args.params.now in
+    let white = blank-made p.width p.height false c.reinitialize.new.self c.requires.columns c.requires.rows c.in_ok-reinitialize.ensures.value in
+    inr
+    (reads-fault p.width p.height c.loop.counter c.loop.values _ _ c.in-Err.error
+    (λ done. mmr-fault p c.loop.counter c.reinitialize.new.self c.loop.rest.now c.in-Err.error done (omega arith) white c.in-Err.ensures)
+    c.loop.invariant)
+
+pub slice_bounds-rest-start : goal.slice_bounds-rest-start
+slice_bounds-rest-start g c =
+    let p : GrayScale = gray_view c.args.params.now in
+    let white = blank-made p.width p.height false c.reinitialize.new.self c.requires.columns c.requires.rows c.in_ok-reinitialize.ensures.value in
+    let within : c.in-Ok.used ≤ length c.loop.rest.now = (mmr-made p c.reinitialize.new.self c.decode.new.bitmap c.loop.rest.now c.in-Ok.used white c.in-Ok.ensures).2 in
+    search (rules, within)
+
+pub slice_bounds-rest-count : goal.slice_bounds-rest-count
+slice_bounds-rest-count g c =
+    let p : GrayScale = gray_view c.args.params.now in
+    let white = blank-made p.width p.height false c.reinitialize.new.self c.requires.columns c.requires.rows c.in_ok-reinitialize.ensures.value in
+    (mmr-made p c.reinitialize.new.self c.decode.new.bitmap c.loop.rest.now c.in-Ok.used white c.in-Ok.ensures).2
+
+pub add_plane-requires-clause-sized : goal.add_plane-requires-clause-sized
+add_plane-requires-clause-sized g c =
+    let p : GrayScale = gray_view c.args.params.now in
+    let white = blank-made p.width p.height false c.reinitialize.new.self c.requires.columns c.requires.rows c.in_ok-reinitialize.ensures.value in
+    let made = mmr-made p c.reinitialize.new.self c.decode.new.bitmap c.loop.rest.now c.in-Ok.used white c.in-Ok.ensures in
+    reads-sized p.width p.height c.loop.counter c.loop.values _ _ c.decode.new.bitmap made.0 made.1 c.loop.invariant
+
+pub add_plane-requires-clause-rows : goal.add_plane-requires-clause-rows
+add_plane-requires-clause-rows g c =
+    let p : GrayScale = gray_view c.args.params.now in
+    let white = blank-made p.width p.height false c.reinitialize.new.self c.requires.columns c.requires.rows c.in_ok-reinitialize.ensures.value in
+    let rows : c.decode.new.bitmap.height ≡ p.height = (mmr-made p c.reinitialize.new.self c.decode.new.bitmap c.loop.rest.now c.in-Ok.used white c.in-Ok.ensures).1 in
+    rw rows c.requires.rows
+
+pub add_plane-requires-clause-small : goal.add_plane-requires-clause-small
+add_plane-requires-clause-small g c =
+    let p : GrayScale = gray_view c.args.params.now in
+    reads-small p.width p.height c.loop.counter c.loop.values _ _ (omega arith) c.loop.invariant
+
+pub loop-preserved : goal.loop-preserved
+loop-preserved g c =
+    let p : GrayScale = gray_view c.args.params.now in
+    let white = blank-made p.width p.height false c.reinitialize.new.self c.requires.columns c.requires.rows c.in_ok-reinitialize.ensures.value in
+    let made = mmr-made p c.reinitialize.new.self c.decode.new.bitmap c.loop.rest.now c.in-Ok.used white c.in-Ok.ensures in
+    reads-next p.width p.height c.loop.counter c.loop.values c.add_plane.new.values _ _ _ c.decode.new.bitmap made.0 made.1
+    (λ done. mmr-next p c.loop.counter c.reinitialize.new.self c.decode.new.bitmap c.loop.rest.now c.in-Ok.used _ done (omega arith) white (drop-whole c.in-Ok.used c.loop.rest.now) c.in-Ok.ensures)
+    c.add_plane.ensures
+    c.loop.invariant
+
+pub returns : goal.returns
+returns g c =
+    let p : GrayScale = gray_view c.args.params.now in
+    reads-values p.width p.height c.loop.counter c.loop.values _ _
+    (λ done. mmr-none p c.loop.counter done c.loop.rest.now (omega arith))
+    c.loop.invariant
