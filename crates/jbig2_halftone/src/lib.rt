@@ -2,4 +2,5 @@
 #![tactic(auto)]
 
 pub mod gray_scale;
+pub mod halftone;
 pub mod pattern;

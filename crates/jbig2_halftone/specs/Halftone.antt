@@ -1,0 +1,88 @@
+-- Halftone regions (T.88, 6.6): patterns drawn at the places of a grid, which may stand at an angle.
+use Rattle.std.specs.Prelude.{ℕ, ◌+◌, ◌-◌, ◌*◌, ◌/◌, ◌%◌, ◌^◌, nat_le, nat_lt, Bool, false, not, ◌&&◌, ◌||◌, if◌then◌else◌, ℤ, pos, ◌+ℤ◌, ◌-ℤ◌, int_le, List, [], ◌∷◌, length, slice_index_or, Option, Some, None, Result, Ok, Err}
+use Rattle.std.specs.Int.{int_shr}
+use Rattle.jbig2_base.specs.Answer.{◌>>=◌, refuse_if}
+use Rattle.jbig2_base.specs.Combination.{combined}
+use Rattle.jbig2_base.specs.Grid.{Grid, grid_of, blank}
+use Rattle.jbig2_base.specs.declared.error.DecodeError.{DecodeError}
+use Rattle.jbig2_base.specs.declared.error.DecodeError.TheVariants.{Overflow, Region}
+use Rattle.jbig2_base.specs.declared.error.OverflowError.TheVariants.{BitmapDimension}
+use Rattle.jbig2_base.specs.declared.error.RegionError.TheVariants.{GrayScaleOutOfRange}
+use Rattle.jbig2_region.specs.Generic.{PlacedRegion}
+use Rattle.jbig2_region.specs.T6.{place_from}
+use Rattle.jbig2_halftone.specs.GrayScale.{GrayScale, gray_scale_image}
+use Rattle.jbig2_halftone.specs.HalftoneHeader.{HalftoneHeader}
+use Rattle.jbig2_halftone.specs.Patterns.{Patterns}
+
+-- ---- the grid's cells
+-- The region's column and row where the pattern of cell (m, n) stands, row m and column n of the grid (6.6.5.2). The
+-- numbers are in parts of 256, and are rounded down.
+abbrev pub column_of : HalftoneHeader → ℕ → ℕ → ℤ
+column_of h m n = int_shr (h.grid_position_and_size.horizontal_offset +ℤ pos (m * h.grid_vector.y_vector) +ℤ pos (n * h.grid_vector.x_vector)) 8
+
+abbrev pub row_of : HalftoneHeader → ℕ → ℕ → ℤ
+row_of h m n = int_shr (h.grid_position_and_size.vertical_offset +ℤ pos (m * h.grid_vector.x_vector) -ℤ pos (n * h.grid_vector.y_vector)) 8
+
+-- the pattern of cell (m, n) would lie wholly outside the region (6.6.5.1)
+unfoldable pub lies_outside : HalftoneHeader → Patterns → ℕ → ℕ → Bool
+lies_outside h d m n =
+    int_le (column_of h m n +ℤ pos d.width) (pos 0) || int_le (pos h.region_info.width) (column_of h m n)
+    || int_le (row_of h m n +ℤ pos d.height) (pos 0) || int_le (pos h.region_info.height) (row_of h m n)
+
+-- black where a cell is skipped (HSKIP)
+abbrev pub skip_grid : HalftoneHeader → Patterns → Grid
+skip_grid h d = grid_of h.grid_position_and_size.width h.grid_position_and_size.height (λ n m. lies_outside h d m n)
+
+-- MMR planes skip no cell
+abbrev pub skip_mask : HalftoneHeader → Patterns → Option Grid
+skip_mask h d = if h.flags.enable_skip && not h.flags.mmr then Some (skip_grid h d) else None
+
+-- ---- the gray values
+-- the least b for which n is at most 2 to the power of b (HBPP; 6.6.5, step 3)
+abbrev pub code_length : ℕ → ℕ
+code_length n = place_from (λ b. nat_le n (2 ^ b)) 0 n
+
+-- a value for each cell, row by row, with as many bits as the number of the last pattern has (Table 23)
+abbrev pub gray_params : HalftoneHeader → Patterns → GrayScale
+gray_params h d = record {
+  use_mmr = h.flags.mmr;
+  bits_per_pixel = code_length (length d.grids);
+  width = h.grid_position_and_size.width;
+  height = h.grid_position_and_size.height;
+  template = h.flags.template;
+  skip_mask = skip_mask h d;
+  strict = h.strict;
+}
+
+-- ---- the drawing
+-- The pattern of a value. A value without a pattern is refused in strict mode, and otherwise has the last one (our
+-- own rule).
+abbrev pub pattern_for : Bool → List Grid → ℕ → Result Grid DecodeError
+pattern_for strict grids value =
+    if nat_lt value (length grids) then Ok (slice_index_or grids value (blank 0 0 false))
+    else if strict then Err (Region GrayScaleOutOfRange)
+    else Ok (slice_index_or grids (length grids - 1) (blank 0 0 false))
+
+-- cell k of the grid, row by row, drawn onto the region
+abbrev pub with_cell : HalftoneHeader → ℕ → Grid → Grid → Grid
+with_cell h k pattern region =
+    let columns = h.grid_position_and_size.width in
+    combined h.flags.combination_operator region pattern (column_of h (k / columns) (k % columns)) (row_of h (k / columns) (k % columns))
+
+-- the cells with these values, from cell k on
+unfoldable pub cells_drawn : HalftoneHeader → Patterns → ℕ → List ℕ → Grid → Result Grid DecodeError
+cells_drawn h d k [] region = Ok region
+cells_drawn h d k (value ∷ values) region = pattern_for h.strict d.grids value >>= λ pattern. cells_drawn h d (k + 1) values (with_cell h k pattern region)
+
+-- The region, from its initial colour.
+unfoldable pub halftone_answer : HalftoneHeader → Patterns → Result Grid DecodeError
+halftone_answer h d = do
+  values ← gray_scale_image (gray_params h d) h.bytes
+  cells_drawn h d 0 values (blank h.region_info.width h.region_info.height h.flags.initial_pixel_color)
+
+-- A region and its place; a side above 65535 is refused (our own rule).
+unfoldable pub halftone_decoded : HalftoneHeader → Patterns → Result PlacedRegion DecodeError
+halftone_decoded h d = do
+  fits ← refuse_if (nat_lt 65535 h.region_info.width || nat_lt 65535 h.region_info.height) (Overflow BitmapDimension)
+  grid ← halftone_answer h d
+  Ok (record { grid = grid; x_location = h.region_info.x_location; y_location = h.region_info.y_location; combination_operator = h.region_info.combination_operator })

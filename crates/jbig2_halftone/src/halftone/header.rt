@@ -1,0 +1,145 @@
+//! Headers of halftone regions (T.88, 7.4.5).
+ghost use Rattle.std.specs.Prelude.{◌≤◌, IfOk};
+ghost use Rattle.jbig2_base.specs.Answer.{Answers};
+ghost use Rattle.jbig2_base.specs.Bits.{IsAligned};
+ghost use Rattle.jbig2_base.specs.Fields.{signed_at};
+ghost use Rattle.jbig2_halftone.specs.HalftoneHeader.{header_view, halftone_flags_at, halftone_grid_at, halftone_header_at};
+
+use jbig2_base::bitmap::operator::CombinationOperator;
+use jbig2_base::error::{DecodeError, OverflowError, Result};
+use jbig2_base::field::{byte_field, u16_field, u32_field};
+use jbig2_base::reader::Reader;
+use jbig2_region::region_info::{RegionSegmentInfo, parse_region_segment_info};
+use jbig2_region::template::Template;
+
+/// The longest side of a grid, in cells.
+const MAX_DIMENSION: u32 = 65535;
+
+/// The flags of a halftone region (T.88, 7.4.5.1.1).
+#[derive(Clone, Copy, Debug)]
+pub struct HalftoneRegionFlags {
+    /// Whether the planes are coded with MMR, in place of the arithmetic coder.
+    pub mmr: bool,
+    pub template: Template,
+    /// Whether cells whose pattern would lie wholly outside are left out of the planes.
+    pub enable_skip: bool,
+    /// How patterns are drawn onto the region.
+    pub combination_operator: CombinationOperator,
+    /// The region's colour before any pattern is drawn, `true` for black.
+    pub initial_pixel_color: bool,
+}
+
+/// A grid's size, and where its first cell stands (T.88, 7.4.5.1.2).
+#[derive(Clone, Copy, Debug)]
+pub struct HalftoneGridPositionAndSize {
+    /// In cells.
+    pub width: u32,
+    /// In cells.
+    pub height: u32,
+    /// In 256ths of a pixel.
+    pub horizontal_offset: i32,
+    /// In 256ths of a pixel.
+    pub vertical_offset: i32,
+}
+
+/// How far a cell stands from the one before it in its row (T.88, 7.4.5.1.3).
+#[derive(Clone, Copy, Debug)]
+pub struct HalftoneGridVector {
+    /// To the right, in 256ths of a pixel.
+    pub x_vector: u16,
+    /// Upwards, in 256ths of a pixel.
+    pub y_vector: u16,
+}
+
+/// What a halftone region's coded bytes are decoded by (T.88, 7.4.5).
+#[derive(Clone, Copy, Debug)]
+pub struct HalftoneRegionHeader<'a> {
+    pub region_info: RegionSegmentInfo,
+    pub flags: HalftoneRegionFlags,
+    pub grid_position_and_size: HalftoneGridPositionAndSize,
+    pub grid_vector: HalftoneGridVector,
+    /// The coded bytes.
+    pub bytes: &'a [u8],
+    /// Whether faulty MMR data and values without a pattern are refused.
+    pub strict: bool,
+}
+
+/// The next four bytes as a signed number.
+fn i32_field(reader: &mut Reader<'_>) -> Result<i32>
+    requires { IsAligned reader.old }
+    ensures value { Answers (λ x. (x, reader.new.bytes)) result (signed_at reader.old.bytes) }
+    ensures aligned { IsAligned reader.new }
+{
+    let number = u32_field(reader)?;
+    Ok(number.cast_signed())
+}
+
+#[tactic(auto, unfolding(crate::specs::HalftoneHeader::halftone_flags_at))]
+fn parse_flags(reader: &mut Reader<'_>) -> Result<HalftoneRegionFlags>
+    requires { IsAligned reader.old }
+    ensures value { Answers (λ flags. (flags, reader.new.bytes)) result (halftone_flags_at reader.old.bytes) }
+    ensures aligned { IsAligned reader.new }
+{
+    let flags = byte_field(reader)?;
+    let combination_operator = CombinationOperator::from_value(flags / 16)?;
+    Ok(HalftoneRegionFlags {
+        mmr: flags % 2 == 1,
+        template: Template::from_number(flags / 2 % 4),
+        enable_skip: flags / 8 % 2 == 1,
+        combination_operator,
+        initial_pixel_color: flags / 128 == 1,
+    })
+}
+
+#[tactic(auto, unfolding(crate::specs::HalftoneHeader::halftone_grid_at))]
+fn parse_grid(reader: &mut Reader<'_>) -> Result<HalftoneGridPositionAndSize>
+    requires { IsAligned reader.old }
+    ensures value { Answers (λ grid. (grid, reader.new.bytes)) result (halftone_grid_at reader.old.bytes) }
+    ensures aligned { IsAligned reader.new }
+    ensures columns { IfOk result (λ grid. grid.width ≤ 65535) }
+    ensures rows { IfOk result (λ grid. grid.height ≤ 65535) }
+{
+    let width = u32_field(reader)?;
+    let height = u32_field(reader)?;
+    if width > MAX_DIMENSION || height > MAX_DIMENSION {
+        return Err(DecodeError::Overflow(OverflowError::GridDimension));
+    }
+    let horizontal_offset = i32_field(reader)?;
+    let vertical_offset = i32_field(reader)?;
+    Ok(HalftoneGridPositionAndSize {
+        width,
+        height,
+        horizontal_offset,
+        vertical_offset,
+    })
+}
+
+/// The header of a halftone region at the reader's place, which holds the coded bytes behind it
+/// (T.88, 7.4.5).
+///
+/// `ParseError::UnexpectedEof` where the bytes do not hold it; the errors of
+/// `parse_region_segment_info`; `RegionError::InvalidCombinationOperator` where the flags name no
+/// operator; `OverflowError::GridDimension` for a grid of more than 65535 columns or rows. Takes no
+/// memory.
+#[tactic(auto, unfolding(crate::specs::HalftoneHeader::halftone_header_at))]
+pub fn parse<'a>(reader: &mut Reader<'a>, strict: bool) -> Result<HalftoneRegionHeader<'a>>
+    requires { IsAligned reader.old }
+    ensures value { Answers (λ h. (header_view h, reader.new.bytes)) result (halftone_header_at strict reader.old.bytes) }
+    ensures aligned { IsAligned reader.new }
+    ensures columns { IfOk result (λ h. h.grid_position_and_size.width ≤ 65535) }
+    ensures rows { IfOk result (λ h. h.grid_position_and_size.height ≤ 65535) }
+{
+    let region_info = parse_region_segment_info(reader)?;
+    let flags = parse_flags(reader)?;
+    let grid_position_and_size = parse_grid(reader)?;
+    let x_vector = u16_field(reader)?;
+    let y_vector = u16_field(reader)?;
+    Ok(HalftoneRegionHeader {
+        region_info,
+        flags,
+        grid_position_and_size,
+        grid_vector: HalftoneGridVector { x_vector, y_vector },
+        bytes: reader.tail(),
+        strict,
+    })
+}
