@@ -5,10 +5,10 @@
 mod errors;
 mod files;
 mod surface;
+mod lists;
 
 use crate::call::{Call, WHITE};
 use crate::case::{Answer, Case, page_holds, row_holds};
-use crate::program::run;
 use crate::rows::FAMILIES;
 use crate::spelling::spelled;
 use crate::watcher::Watcher;
@@ -115,16 +115,4 @@ fn a_page_is_decoded_in_a_context_of_its_own(rt: HostRuntime) {
         holds = is_decoded_alone(rt.alloc());
     }
     assert!(rt; holds == Ok(true));
-}
-
-#[test]
-fn other_words_print_the_usage(rt: HostRuntime) {
-    let mut out = Vec::new(rt.alloc());
-    let Ok(mut err) = Vec::with_capacity(rt.alloc(), 64) else {
-        return;
-    };
-    let status = run(rt.alloc(), &["rows"], &mut out, &mut err);
-    assert_eq!(rt; status, 2);
-    assert!(rt; out.is_empty());
-    assert_eq!(rt; err.as_slice(), b"usage: jbig2-bench [lists]\n".as_slice());
 }

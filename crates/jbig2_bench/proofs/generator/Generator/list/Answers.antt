@@ -1,4 +1,4 @@
-use Rattle.std.proofs.Common.{refl, ◌∙◌, ap, ◌≡◌, List, ◌∷◌, [], ◌++◌, ℕ, Bool}
+use Rattle.std.proofs.Common.{refl, ◌∙◌, ap, ◌∷◌, [], ◌++◌, ℕ, Bool}
 use Rattle.jbig2_bench.proofs.GeneratedLists.{list_after-begin, list_after-more, list_after-end}
 use Rattle.jbig2_bench.proofs.generator.Generator.list.Goals as goal
 
