@@ -28,6 +28,9 @@ fn images_hold(alloc: Global) -> Result<bool> {
     let Some(page) = file.page(0) else {
         return Ok(false);
     };
+    if page.width() != 8 || page.height() != 1 {
+        return Ok(false);
+    }
     let mut image = BEFORE;
     page.read_image(&mut image)?;
     if image != WHITE_IMAGE {
@@ -136,6 +139,9 @@ fn refused_images_hold(alloc: Global) -> Result<bool> {
         return Ok(false);
     };
     let page = Page::new_embedded(alloc, &bytes, None, &DecodeSettings { strict: true })?;
+    if page.width() != 8 || page.height() != 1 {
+        return Ok(false);
+    }
     let mut image = BEFORE;
     let unsupported = page.read_image(&mut image);
     if unsupported == Err(DecodeError::OutOfMemory) {
