@@ -3,9 +3,9 @@ ghost use Rattle.std.specs.Prelude.{◌≡◌, ◌↔◌, false, map};
 ghost use Rattle.std.specs.Option.{is_some};
 ghost use Rattle.jbig2_bench.specs.Words.{is_lists, is_run};
 
-use crate::case::row_holds;
+use crate::case::{Row, row_holds};
 use crate::lists::first_that_differs;
-use crate::rows::FAMILIES;
+use crate::rows::families;
 use hayro_jbig2::{DecodeError, DecoderContext};
 use std::alloc::{AllocError, Allocator};
 use std::io;
@@ -119,17 +119,29 @@ impl From<io::Error> for Fault {
     }
 }
 
+/// Runs the rows of a family. Answers whether all hold.
+fn run_family<A: Allocator + Clone, O: Write>(
+    alloc: A,
+    rows: &[Row],
+    context: &mut DecoderContext<A>,
+    out: &mut O,
+) -> Result<bool, Fault> {
+    let mut all_hold = true;
+    for row in rows {
+        let holds = row_holds(alloc.clone()?, row, context)?;
+        let verdict = if holds { "ok" } else { "differs" };
+        writeln!(out, "row {} {verdict}", row.name)?;
+        all_hold = all_hold && holds;
+    }
+    Ok(all_hold)
+}
+
 /// Runs all rows, in one context. Answers whether all hold.
 fn run_rows<A: Allocator + Clone, O: Write>(alloc: A, out: &mut O) -> Result<bool, Fault> {
     let mut context = DecoderContext::new(alloc.clone()?)?;
     let mut all_hold = true;
-    for rows in FAMILIES {
-        for row in *rows {
-            let holds = row_holds(alloc.clone()?, row, &mut context)?;
-            let verdict = if holds { "ok" } else { "differs" };
-            writeln!(out, "row {} {verdict}", row.name)?;
-            all_hold = all_hold && holds;
-        }
+    for rows in families() {
+        all_hold = run_family(alloc.clone()?, rows, &mut context, out)? && all_hold;
     }
     Ok(all_hold)
 }

@@ -10,7 +10,7 @@ pub const DECISIONS: &[u8] = &[
     0x82, 0xC0, 0x20, 0x00, 0xFC, 0xD7, 0x9E, 0xF6, 0xBF, 0x7F, 0xED, 0x90, 0x4F, 0x46, 0xA3, 0xBF,
 ];
 
-pub const ROWS: &[Row] = &[
+const ROWS: &[Row] = &[
     Row {
         name: "R5.1",
         cases: &[
@@ -93,7 +93,7 @@ pub const ROWS: &[Row] = &[
 ];
 
 /// The rows R14.
-pub const ROWS_14: &[Row] = &[
+const ROWS_14: &[Row] = &[
     Row {
         name: "R14.1",
         cases: &[
@@ -118,3 +118,11 @@ pub const ROWS_14: &[Row] = &[
         })],
     },
 ];
+
+pub fn rows() -> &'static [Row] {
+    ROWS
+}
+
+pub fn rows_14() -> &'static [Row] {
+    ROWS_14
+}

@@ -64,13 +64,13 @@ pub const ROW_16: &[Case] = &[
 ];
 
 /// The rows R9.
-pub const ROWS_9: &[Row] = &[Row {
+const ROWS_9: &[Row] = &[Row {
     name: "R9.4",
     cases: &[File(NoFirstPage("H 03", DecodeError::Format(FormatError::MissingPageInfo)))],
 }];
 
 /// The rows R13.
-pub const ROWS_13: &[Row] = &[Row {
+const ROWS_13: &[Row] = &[Row {
     name: "R13.5",
     cases: &[
         File(CutOff {
@@ -85,3 +85,11 @@ pub const ROWS_13: &[Row] = &[Row {
         File(Pages(Lenient, "H 00 00000001", &[])),
     ],
 }];
+
+pub fn rows_9() -> &'static [Row] {
+    ROWS_9
+}
+
+pub fn rows_13() -> &'static [Row] {
+    ROWS_13
+}

@@ -6,7 +6,7 @@ use crate::case::Modes::{Both, Lenient, Strict};
 use crate::case::Row;
 use hayro_jbig2::{DecodeError, ParseError};
 
-pub const ROWS: &[Row] = &[
+const ROWS: &[Row] = &[
     Row {
         name: "R1.1",
         cases: &[
@@ -37,3 +37,7 @@ pub const ROWS: &[Row] = &[
         )],
     },
 ];
+
+pub fn rows() -> &'static [Row] {
+    ROWS
+}

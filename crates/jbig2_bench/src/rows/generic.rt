@@ -21,7 +21,7 @@ const FAR_PIXEL: &[Call] = &[
 
 const UNKNOWN_LENGTH: DecodeError = DecodeError::Segment(SegmentError::InvalidUnknownLength);
 
-pub const ROWS: &[Row] = &[
+const ROWS: &[Row] = &[
     Row {
         name: "R3.1",
         cases: &[
@@ -78,3 +78,7 @@ pub const ROWS: &[Row] = &[
         ],
     },
 ];
+
+pub fn rows() -> &'static [Row] {
+    ROWS
+}

@@ -7,7 +7,7 @@ use hayro_jbig2::{DecodeError, RegionError};
 
 const FAULT: DecodeError = DecodeError::Region(RegionError::InvalidMmrData);
 
-pub const ROWS: &[Row] = &[
+const ROWS: &[Row] = &[
     Row {
         name: "R4.1",
         cases: &[Mmr(MmrCase {
@@ -153,3 +153,7 @@ pub const ROWS: &[Row] = &[
         })],
     },
 ];
+
+pub fn rows() -> &'static [Row] {
+    ROWS
+}

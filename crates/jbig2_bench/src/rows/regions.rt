@@ -21,7 +21,7 @@ const WHITE_DOT: &[Call] = &[
 
 const NO_OPERATOR: DecodeError = DecodeError::Region(RegionError::InvalidCombinationOperator);
 
-pub const ROWS: &[Row] = &[
+const ROWS: &[Row] = &[
     Row {
         name: "R2.1",
         cases: &[
@@ -72,3 +72,7 @@ pub const ROWS: &[Row] = &[
         ],
     },
 ];
+
+pub fn rows() -> &'static [Row] {
+    ROWS
+}

@@ -11,7 +11,7 @@ use crate::table::TableCase;
 use hayro_jbig2::parts::segment::SegmentType;
 use hayro_jbig2::{DecodeError, FormatError, OverflowError, ParseError, RegionError};
 
-pub const ROWS: &[Row] = &[
+const ROWS: &[Row] = &[
     Row {
         name: "1",
         cases: files::ROW_1,
@@ -212,3 +212,7 @@ pub const ROWS: &[Row] = &[
         ],
     },
 ];
+
+pub fn rows() -> &'static [Row] {
+    ROWS
+}
