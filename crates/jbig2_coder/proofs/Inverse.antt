@@ -39,11 +39,13 @@ ends-next f m s contexts e es b h =
     let t : Encoding = encoding x e.1 s in
     let n : Narrowing x e.1 s.range s.writer.register = narrowing_of x e.1 s b in
     let i : Entry x e.1 s n t.coding = entry x e.1 s n b in
-    let k : Flush t.coding (flushed (encode_from t.coding (with_context contexts e.0 t.context) es)) = encode-back es t.coding (with_context contexts e.0 t.context) i.resting in
+    let k : Flush t.coding (flushed (encode_from t.coding (with_context contexts e.0 t.context) es)) =
+    encode-back es t.coding (with_context contexts e.0 t.context) i.resting in
     let g : Ends f m (encode_from t.coding (with_context contexts e.0 t.context) es) = rw (encode_from-entry s contexts e es) at h in
     k.back f m g.whole g.same
 
-decodes-from : (bytes : List ℕ) (m : ℕ) → Closing (byte_at bytes) m → (es : List (ℕ × Bool)) (s : Coding) (contexts : Contexts) (r : Registers)
+decodes-from : (bytes : List ℕ) (m : ℕ) → Closing (byte_at bytes) m
+    → (es : List (ℕ × Bool)) (s : Coding) (contexts : Contexts) (r : Registers)
     → Begun s → Together (byte_at bytes) m s r → Ends (byte_at bytes) m (encode_from s contexts es)
     → decoded_from bytes r contexts (map (λ e. e.0) es) ≡ map (λ e. e.1) es
 decodes-from bytes m closing [] s contexts r b t h = decoded_from-none bytes r contexts
@@ -54,7 +56,8 @@ decodes-from bytes m closing (e ∷ es) s contexts r b t h =
     let n : Narrowing x e.1 s.range s.writer.register = narrowing_of x e.1 s b in
     let i : Entry x e.1 s n c.coding = entry x e.1 s n b in
     let told : Told bytes m e.1 c z = tell bytes m x e.1 s r closing b t (ends-next (byte_at bytes) m s contexts e es b h) in
-    let g : Ends (byte_at bytes) m (encode_from c.coding (with_context contexts e.0 c.context) es) = rw (encode_from-entry s contexts e es) at h in
+    let g : Ends (byte_at bytes) m (encode_from c.coding (with_context contexts e.0 c.context) es) =
+    rw (encode_from-entry s contexts e es) at h in
     let ih : decoded_from bytes z.registers (with_context contexts e.0 c.context) (map (λ e. e.0) es) ≡ map (λ e. e.1) es =
     decodes-from bytes m closing es c.coding (with_context contexts e.0 c.context) z.registers (Resting-begun c.coding i.resting) told.follows g in
     decoded_from-entry bytes r contexts e.0 (map (λ e. e.0) es)
@@ -77,9 +80,12 @@ decodes-some e es out bytes eo eb =
     let f : ℕ → ℕ = byte_at bytes in
     let whole : first f m ≡ out = ap (λ (b : List ℕ). first (byte_at b) m) eb ∙ first-closed out in
     let ends : Ends f m (encode_from opened all_fresh (e ∷ es)) = record { whole = ap length (sym eo); same = whole ∙ eo } in
-    let flush : Flush c.coding (flushed (encode_from c.coding (with_context all_fresh e.0 c.context) es)) = encode-back es c.coding (with_context all_fresh e.0 c.context) i.resting in
-    let last : out ≡ (flushed (encode_from c.coding (with_context all_fresh e.0 c.context) es)).out = eo ∙ ap (λ (s : Coding). (flushed s).out) (encode_from-entry opened all_fresh e es) in
-    let closing : Closing f m = subst (λ (b : List ℕ). Closing (byte_at b) m) (sym eb) (Closing-closed out (subst Valid (sym last) flush.valid)) in
+    let flush : Flush c.coding (flushed (encode_from c.coding (with_context all_fresh e.0 c.context) es)) =
+    encode-back es c.coding (with_context all_fresh e.0 c.context) i.resting in
+    let last : out ≡ (flushed (encode_from c.coding (with_context all_fresh e.0 c.context) es)).out =
+    eo ∙ ap (λ (s : Coding). (flushed s).out) (encode_from-entry opened all_fresh e es) in
+    let closing : Closing f m =
+    subst (λ (b : List ℕ). Closing (byte_at b) m) (sym eb) (Closing-closed out (subst Valid (sym last) flush.valid)) in
     let next : KnowsAt f m c.coding.range c.coding.writer = ends-next f m opened all_fresh e es opened-begun ends in
     let know : KnowsAt f m opened.range opened.writer = i.narrow f m (i.renorm f m next) in
     decodes-from bytes m closing (e ∷ es) opened all_fresh (started bytes) opened-begun (start bytes m closing know) ends

@@ -26,7 +26,9 @@ first-reverse [] q bytes e = refl
 first-reverse (b ∷ r) q bytes e =
     let turned : bytes ≡ reverse r ++ (b ∷ q) = e ∙ reverse-cons b r q in
     let ih : first (byte_at bytes) (length r) ≡ r = first-reverse r (b ∷ q) bytes turned in
-    let last : byte_at bytes (length r) ≡ b = byte_at-is bytes (length r) ∙ ap (λ (s : List ℕ). get_or s (length r) 255) turned ∙ get_or_at (reverse r) b q 255 (length r) (length-reverse r) in
+    let last : byte_at bytes (length r) ≡ b =
+    byte_at-is bytes (length r) ∙ ap (λ (s : List ℕ). get_or s (length r) 255) turned
+    ∙ get_or_at (reverse r) b q 255 (length r) (length-reverse r) in
     λ i. last i ∷ ih i
 
 -- what follows it

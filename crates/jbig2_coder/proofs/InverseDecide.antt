@@ -54,8 +54,10 @@ pick-lower f m x d s n r v b l h know before =
     let fit : Fits (low w) (low w + n.range) v r.ct =
     Seen-fits f m (low w) (low w + n.range) (time w) w.out r.place v (time w + 15 + r.ct) r.ct know (omega arith) refl h.seen in
     let top : low s.writer + s.range ≡ low w + (n.range + l.upper) = omega (arith, k, l.whole) in
-    let code : r.c * 2 ^ r.ct + (v + 1) * 2 ^ 16 ≡ (low w + (n.range + l.upper)) * 2 ^ r.ct * 2 ^ 16 = h.code ∙ ap (λ y. y * 2 ^ r.ct * 2 ^ 16) top in
-    let most : l.upper * 2 ^ 16 ≤ r.c = le_of_mul-le-mul_right {k = 2 ^ r.ct} (lower-most r.c v (2 ^ r.ct) (low w) n.range l.upper code fit.under) (pow_pos r.ct) in
+    let code : r.c * 2 ^ r.ct + (v + 1) * 2 ^ 16 ≡ (low w + (n.range + l.upper)) * 2 ^ r.ct * 2 ^ 16 =
+    h.code ∙ ap (λ y. y * 2 ^ r.ct * 2 ^ 16) top in
+    let most : l.upper * 2 ^ 16 ≤ r.c =
+    le_of_mul-le-mul_right {k = 2 ^ r.ct} (lower-most r.c v (2 ^ r.ct) (low w) n.range l.upper code fit.under) (pow_pos r.ct) in
     let below : r.c < s.range * 2 ^ 16 = Follows-below f m s.range s.writer r v h before in
     let small : r.c < 2 ^ 32 = omega (arith, below, b.below) in
     let whole : (r.c + (2 ^ 32 - l.upper * 2 ^ 16)) % 2 ^ 32 ≡ r.c - l.upper * 2 ^ 16 = omega (arith, most, small) in

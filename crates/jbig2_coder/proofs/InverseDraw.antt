@@ -88,7 +88,8 @@ double f m a w w2 r v half some s h know =
     let whole : 2 * r.c % 2 ^ 32 ≡ 2 * r.c = omega arith in
     let top : 2 * (low w + a) ≡ low w2 + 2 * a = omega (arith, s.number) in
     let count : time w + 15 + r.ct ≡ time w2 + 15 + (r.ct - 1) = omega (arith, s.moment) in
-    let code : 2 * r.c * 2 ^ (r.ct - 1) + (v + 1) * 2 ^ 16 ≡ 2 * (low w + a) * 2 ^ (r.ct - 1) * 2 ^ 16 = double-code r.c v r.ct (low w + a) some h.code in
+    let code : 2 * r.c * 2 ^ (r.ct - 1) + (v + 1) * 2 ^ 16 ≡ 2 * (low w + a) * 2 ^ (r.ct - 1) * 2 ^ 16 =
+    double-code r.c v r.ct (low w + a) some h.code in
     record {
       few = omega (arith, h.few);
       seen = subst (λ k. Seen f m r.place v k) count h.seen;
@@ -124,8 +125,10 @@ together bytes m (suc n) a w r v closing b some few below enough know follows =
     let back : Renorm a w (encoder_renormed (suc n) a w) = renorm (suc n) a w b some few below enough in
     let here : KnowsAt f m a w = back.back f m know in
     let next : Filled f m a w (filled bytes r) = fill bytes m a w r v closing (omega arith) follows here in
-    let more : FollowsAt f m (2 * a) (shifted w) (doubled (filled bytes r)) next.number = double f m a w (shifted w) (filled bytes r) next.number half next.some s next.follows here in
-    let later : KnowsAt f m (encoder_renormed n (2 * a) (shifted w)).range (encoder_renormed n (2 * a) (shifted w)).writer = subst (λ (z : Coding). KnowsAt f m z.range z.writer) (encoder-step n a w half) know in
+    let more : FollowsAt f m (2 * a) (shifted w) (doubled (filled bytes r)) next.number =
+    double f m a w (shifted w) (filled bytes r) next.number half next.some s next.follows here in
+    let later : KnowsAt f m (encoder_renormed n (2 * a) (shifted w)).range (encoder_renormed n (2 * a) (shifted w)).writer =
+    subst (λ (z : Coding). KnowsAt f m z.range z.writer) (encoder-step n a w half) know in
     let rest : Together f m (encoder_renormed n (2 * a) (shifted w)) (renormed bytes n (2 * a) (doubled (filled bytes r))) =
     together bytes m n (2 * a) (shifted w) (doubled (filled bytes r)) next.number closing s.bounded s.some (inl s.few) (omega arith) room later more in
     subst (λ (z : Coding). Together f m z (renormed bytes (suc n) a r)) (sym (encoder-step n a w half))

@@ -45,7 +45,8 @@ pub record Entry (x : Context) (d : Bool) (s : Coding) (n : Narrowing x d s.rang
 
 pub part-bounded : (x : Context) (d : Bool) (s : Coding) (n : Narrowing x d s.range s.writer.register) → Begun s → Bounded n.range (at_part x d s n)
 part-bounded x d s n b =
-    let h : (n.register + n.range) * 2 ^ s.writer.wait ≤ (s.writer.register + s.range) * 2 ^ s.writer.wait = mul-le-mul_right (2 ^ s.writer.wait) n.high in
+    let h : (n.register + n.range) * 2 ^ s.writer.wait ≤ (s.writer.register + s.range) * 2 ^ s.writer.wait =
+    mul-le-mul_right (2 ^ s.writer.wait) n.high in
     record {
       some = n.some;
       few = b.bounded.few;
@@ -73,7 +74,8 @@ entry-quiet x d s n b e =
 entry-renorm : (x : Context) (d : Bool) (s : Coding) (n : Narrowing x d s.range s.writer.register) → Begun s → n.renorm ≡ true
     → Entry x d s n (renormed 15 n.range (at_part x d s n))
 entry-renorm x d s n b e =
-    let r : Renorm n.range (at_part x d s n) (renormed 15 n.range (at_part x d s n)) = renorm 15 n.range (at_part x d s n) (part-bounded x d s n b) b.some (inr (n.moves e)) n.below (omega (arith, n.some)) in
+    let r : Renorm n.range (at_part x d s n) (renormed 15 n.range (at_part x d s n)) =
+    renorm 15 n.range (at_part x d s n) (part-bounded x d s n b) b.some (inr (n.moves e)) n.below (omega (arith, n.some)) in
     record { resting = r.resting; renorm = r.back; narrow = part-back x d s n }
 
 -- what a decision makes of the encoder
@@ -121,6 +123,7 @@ encode-back (e ∷ es) s contexts rest =
     let n : Narrowing x e.1 s.range s.writer.register = narrowing_of x e.1 s b in
     let t : Encoding = encoding x e.1 s in
     let i : Entry x e.1 s n t.coding = entry x e.1 s n b in
-    let h : Flush t.coding (flushed (encode_from t.coding (with_context contexts e.0 t.context) es)) = encode-back es t.coding (with_context contexts e.0 t.context) i.resting in
+    let h : Flush t.coding (flushed (encode_from t.coding (with_context contexts e.0 t.context) es)) =
+    encode-back es t.coding (with_context contexts e.0 t.context) i.resting in
     subst (λ (z : Coding). Flush s (flushed z)) (sym (encode_from-entry s contexts e es))
     (record { valid = h.valid; back = λ f m len whole. i.narrow f m (i.renorm f m (h.back f m len whole)) })

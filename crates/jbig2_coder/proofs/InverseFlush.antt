@@ -119,13 +119,17 @@ flush-back f m a n w u x k b some few p q len whole =
     let small : u.wait ≤ 12 = omega (arith, p.wait) in
     let l2 : low (ready u) ≡ low u * 2 ^ u.wait = low-scaled u.wait u (le_refl u.wait) small in
     let l3 : low x ≡ low (ready u) = Put-low (1 * 2 ^ t * 2 ^ u.wait) (ready u) x (ready-wait u) q in
-    let ones : low (filled n w) * 2 ^ t + 1 * 2 ^ t ≡ value w.out * 2 ^ 27 + 2 ^ 16 * ((n + 1) / 0x8000 * 2 ^ (t - 1)) = ones-low (value w.out) n t b.few some k.ones in
+    let ones : low (filled n w) * 2 ^ t + 1 * 2 ^ t ≡ value w.out * 2 ^ 27 + 2 ^ 16 * ((n + 1) / 0x8000 * 2 ^ (t - 1)) =
+    ones-low (value w.out) n t b.few some k.ones in
     let lowest : low x ≡ low (filled n w) * 2 ^ t * 2 ^ u.wait = l3 ∙ l2 ∙ ap (λ v. v * 2 ^ u.wait) (l1 ∙ l0) in
-    let whole_low : (value w.out * 2 ^ 27 + 2 ^ 16 * ((n + 1) / 0x8000 * 2 ^ (t - 1))) * 2 ^ u.wait ≡ low x + 2 ^ t * 2 ^ u.wait = ap (λ v. v * 2 ^ u.wait) (sym ones) ∙ omega (arith, lowest) in
-    let top : x.register + 2 ^ t * 2 ^ u.wait ≡ 2 ^ (27 - x.wait) = end-high (value w.out) ((n + 1) / 0x8000 * 2 ^ (t - 1)) (value x.out) x.register (2 ^ t) u.wait x.wait p.wait q.wait (omega (arith, pow_pos t)) ((power-few t some few).1) (whole_low ∙ omega arith) (omega (arith, q.below)) in
+    let whole_low : (value w.out * 2 ^ 27 + 2 ^ 16 * ((n + 1) / 0x8000 * 2 ^ (t - 1))) * 2 ^ u.wait ≡ low x + 2 ^ t * 2 ^ u.wait =
+    ap (λ v. v * 2 ^ u.wait) (sym ones) ∙ omega (arith, lowest) in
+    let top : x.register + 2 ^ t * 2 ^ u.wait ≡ 2 ^ (27 - x.wait) =
+    end-high (value w.out) ((n + 1) / 0x8000 * 2 ^ (t - 1)) (value x.out) x.register (2 ^ t) u.wait x.wait p.wait q.wait (omega (arith, pow_pos t)) ((power-few t some few).1) (whole_low ∙ omega arith) (omega (arith, q.below)) in
     let hi : low x + 1 * 2 ^ t * 2 ^ u.wait ≡ (value x.out + 1) * 2 ^ (27 - x.wait) = omega (arith, top) in
     let e : KnowsAt f m (1 * 2 ^ t * 2 ^ u.wait) (ready u) = end-ready f m (1 * 2 ^ t * 2 ^ u.wait) u x q len whole hi in
-    let d : KnowsAt f m (1 * 2 ^ t) (ready (filled n w)) = Put-back f m (1 * 2 ^ t) (ready (filled n w)) u (ready-wait (filled n w)) p (KnowsAt-scaled f m (1 * 2 ^ t) u.wait u (le_refl u.wait) small e) in
+    let d : KnowsAt f m (1 * 2 ^ t) (ready (filled n w)) =
+    Put-back f m (1 * 2 ^ t) (ready (filled n w)) u (ready-wait (filled n w)) p (KnowsAt-scaled f m (1 * 2 ^ t) u.wait u (le_refl u.wait) small e) in
     let c : KnowsAt f m 1 (filled n w) = KnowsAt-scaled f m 1 t (filled n w) (le_refl t) b.few d in
     Knows-wider f m (low w) (low w + a) (time w) (low (filled n w)) (low (filled n w) + 1) w.out (omega (arith, k.least)) (omega (arith, k.most)) c
   where
@@ -146,12 +150,14 @@ flush s rest =
     let w : Writer = s.writer in
     let n : ℕ = set_bits s.range w.register in
     let k : Chosen s.range w.register n = set_bits-chosen s.range w.register rest.normal in
-    let b : Bounded (1 * 2 ^ w.wait) (ready (filled n w)) = Bounded-scaled 1 w.wait (filled n w) (le_refl w.wait) (Bounded-filled s.range n w k rest.bounded) in
+    let b : Bounded (1 * 2 ^ w.wait) (ready (filled n w)) =
+    Bounded-scaled 1 w.wait (filled n w) (le_refl w.wait) (Bounded-filled s.range n w k rest.bounded) in
     let u : Writer = byte_out (n * 2 ^ w.wait) w.out in
     let p : Put (1 * 2 ^ w.wait) (n * 2 ^ w.wait) w.out u = Put-here (1 * 2 ^ w.wait) (ready (filled n w)) (ready-wait (filled n w)) b in
     let small : 1 * 2 ^ w.wait ≤ 2 ^ 16 = omega (arith, (power-few w.wait rest.some rest.few).1) in
     let c : Bounded (1 * 2 ^ w.wait * 2 ^ u.wait) (ready u) = Bounded-scaled (1 * 2 ^ w.wait) u.wait u (le_refl u.wait) (p.bounded small) in
-    let q : Put (1 * 2 ^ w.wait * 2 ^ u.wait) (u.register * 2 ^ u.wait) u.out (byte_out (u.register * 2 ^ u.wait) u.out) = Put-here (1 * 2 ^ w.wait * 2 ^ u.wait) (ready u) (ready-wait u) c in
+    let q : Put (1 * 2 ^ w.wait * 2 ^ u.wait) (u.register * 2 ^ u.wait) u.out (byte_out (u.register * 2 ^ u.wait) u.out) =
+    Put-here (1 * 2 ^ w.wait * 2 ^ u.wait) (ready u) (ready-wait u) c in
     record {
       valid = q.valid;
       back = λ f m len whole. flush-back f m s.range n w u _ k rest.bounded rest.some rest.few p q len whole;

@@ -43,13 +43,15 @@ Knows-wider f m lo hi t lo2 hi2 r h l k =
 
 above-scaled : (lo t s v k : ℕ) → Above (lo * 2 ^ s) (t + s) v k → Above lo t v k
 above-scaled lo t s v k h =
-    let e : 2 ^ (t + s + 15) ≡ 2 ^ (t + 15) * 2 ^ s = ap (λ n. 2 ^ n) (let e : t + s + 15 ≡ t + 15 + s = omega arith in e) ∙ pow-add 2 (t + 15) s in
+    let e : 2 ^ (t + s + 15) ≡ 2 ^ (t + 15) * 2 ^ s =
+    ap (λ n. 2 ^ n) (let e : t + s + 15 ≡ t + 15 + s = omega arith in e) ∙ pow-add 2 (t + 15) s in
     let p : lo * 2 ^ s * 2 ^ k < (v + 1) * (2 ^ (t + 15) * 2 ^ s) = rw e at h in
     lt_of_mul-lt-mul_right (2 ^ s) (omega (arith, p))
 
 under-scaled : (hi t s v k : ℕ) → (v + 1) * 2 ^ (t + s + 15) ≤ hi * 2 ^ s * 2 ^ k → (v + 1) * 2 ^ (t + 15) ≤ hi * 2 ^ k
 under-scaled hi t s v k h =
-    let e : 2 ^ (t + s + 15) ≡ 2 ^ (t + 15) * 2 ^ s = ap (λ n. 2 ^ n) (let e : t + s + 15 ≡ t + 15 + s = omega arith in e) ∙ pow-add 2 (t + 15) s in
+    let e : 2 ^ (t + s + 15) ≡ 2 ^ (t + 15) * 2 ^ s =
+    ap (λ n. 2 ^ n) (let e : t + s + 15 ≡ t + 15 + s = omega arith in e) ∙ pow-add 2 (t + 15) s in
     let p : (v + 1) * (2 ^ (t + 15) * 2 ^ s) ≤ hi * 2 ^ s * 2 ^ k = rw e at h in
     le_of_mul-le-mul_right {k = 2 ^ s} (omega (arith, p)) (pow_pos s)
 

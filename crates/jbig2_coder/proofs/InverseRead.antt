@@ -89,7 +89,8 @@ ones-all f m p v k e i = rw (e, i.number, i.count) refl
 step-last : (f : ℕ → ℕ) (m p v k : ℕ) → Closing f m → m ≡ suc p → Inside f m p v k → Step f m p v k
 step-last f m p v k c e i =
     let place : p + 1 ≡ m = omega arith in
-    let ones : (v * 256 + 255 + 1) * 2 ^ bits (first f m) ≡ (value (first f m) + 1) * 2 ^ (k + 8) = ones-more (value (first f m)) v k (bits (first f m)) (ones-all f m p v k e i) in
+    let ones : (v * 256 + 255 + 1) * 2 ^ bits (first f m) ≡ (value (first f m) + 1) * 2 ^ (k + 8) =
+    ones-more (value (first f m)) v k (bits (first f m)) (ones-all f m p v k e i) in
     ⊎_elim
     (λ (full : f p ≡ 255).
     let marker : 143 < f (p + 1) = rw place (c.full p e full) in

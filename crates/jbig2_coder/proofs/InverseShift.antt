@@ -18,7 +18,8 @@ scaled k w = record { register = w.register * 2 ^ k; wait = w.wait - k; out = w.
 
 pub low-scaled : (k : ℕ) (w : Writer) → k ≤ w.wait → w.wait ≤ 12 → low (scaled k w) ≡ low w * 2 ^ k
 low-scaled k w h few =
-    let e : 2 ^ (27 - (w.wait - k)) ≡ 2 ^ (27 - w.wait) * 2 ^ k = ap (λ n. 2 ^ n) (let e : 27 - (w.wait - k) ≡ 27 - w.wait + k = omega arith in e) ∙ pow-add 2 (27 - w.wait) k in
+    let e : 2 ^ (27 - (w.wait - k)) ≡ 2 ^ (27 - w.wait) * 2 ^ k =
+    ap (λ n. 2 ^ n) (let e : 27 - (w.wait - k) ≡ 27 - w.wait + k = omega arith in e) ∙ pow-add 2 (27 - w.wait) k in
     rw e (omega arith)
 
 pub time-scaled : (k : ℕ) (w : Writer) → k ≤ w.wait → w.wait ≤ 12 → time (scaled k w) ≡ time w + k
@@ -26,8 +27,10 @@ time-scaled k w h few = omega arith
 
 pub Bounded-scaled : (a k : ℕ) (w : Writer) → k ≤ w.wait → Bounded a w → Bounded (a * 2 ^ k) (scaled k w)
 Bounded-scaled a k w h b =
-    let e : 2 ^ w.wait ≡ 2 ^ k * 2 ^ (w.wait - k) = ap (λ n. 2 ^ n) (let e : w.wait ≡ k + (w.wait - k) = omega arith in e) ∙ pow-add 2 k (w.wait - k) in
-    let x : (w.register + a) * 2 ^ w.wait ≡ (w.register * 2 ^ k + a * 2 ^ k) * 2 ^ (w.wait - k) = ap (λ p. (w.register + a) * p) e ∙ omega arith in
+    let e : 2 ^ w.wait ≡ 2 ^ k * 2 ^ (w.wait - k) =
+    ap (λ n. 2 ^ n) (let e : w.wait ≡ k + (w.wait - k) = omega arith in e) ∙ pow-add 2 k (w.wait - k) in
+    let x : (w.register + a) * 2 ^ w.wait ≡ (w.register * 2 ^ k + a * 2 ^ k) * 2 ^ (w.wait - k) =
+    ap (λ p. (w.register + a) * p) e ∙ omega arith in
     record {
       some = omega (arith, b.some, mul-le-mul_right (2 ^ k) b.some, pow_pos k);
       few = omega (arith, b.few);
@@ -158,7 +161,8 @@ renorm (suc n) a w b h few below enough =
     (λ (half : a < 0x8000).
     let s : Shift a w (shifted w) = shift a w b h half in
     let room : 0x8000 ≤ 2 * a * 2 ^ n = omega (arith, rw pow-suc at enough) in
-    let r : Renorm (2 * a) (shifted w) (renormed n (2 * a) (shifted w)) = renorm n (2 * a) (shifted w) s.bounded s.some (inl s.few) (omega arith) room in
+    let r : Renorm (2 * a) (shifted w) (renormed n (2 * a) (shifted w)) =
+    renorm n (2 * a) (shifted w) s.bounded s.some (inl s.few) (omega arith) room in
     subst (Renorm a w) (sym (renormed-step n a w half)) (record { resting = r.resting; back = λ f m know. s.back f m (r.back f m know) }))
     (λ (normal : 0x8000 ≤ a). renorm-stop (suc n) a w b h (omega (arith, few)) below normal)
     (cases_lt a 0x8000)
