@@ -58,6 +58,11 @@ fn bytes_of<A: Allocator>(alloc: A, bits: &[bool]) -> Result<Vec<u8, A>> {
     Ok(bytes)
 }
 
+/// Of the 64 pixels from column `x` on, the first in the highest bit, those from column `first` on.
+fn pixels_from(first: u32, x: u32) -> u64 {
+    u64::MAX.checked_shr(first.saturating_sub(x)).unwrap_or(0)
+}
+
 /// Whether rows of two runs, a white one of these lengths and a black one up to the width, are read back.
 fn are_read_back<A: Allocator + Clone, L: Ledger>(
     alloc: A,
@@ -80,8 +85,9 @@ fn are_read_back<A: Allocator + Clone, L: Ledger>(
     let mut bitmap = Bitmap::new(alloc, width, u32::try_from(whites.len()).unwrap_or(0))?;
     let used = decode(&mut bitmap, &bytes, true, &mut steps)?;
     for (y, white) in (0..bitmap.height()).zip(whites) {
-        for x in 0..width {
-            if (bitmap.get_pixel(x, y, &mut steps) == 1) != (x >= *white) {
+        for x in (0..width).step_by(64) {
+            let black = pixels_from(*white, x) & !pixels_from(width, x);
+            if bitmap.load_pixels(x, y, 64, &mut steps) != black {
                 return Ok(false);
             }
         }
