@@ -1,2 +1,3 @@
 pub mod Generator
+pub mod Uses
 pub mod Words

@@ -16,6 +16,7 @@ mod spelling;
 mod table;
 #[cfg(test)]
 mod tests;
+pub mod uses;
 mod watcher;
 
 pub use program::run;

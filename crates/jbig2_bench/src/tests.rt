@@ -6,6 +6,7 @@ mod errors;
 mod files;
 mod lists;
 mod surface;
+mod uses;
 
 use crate::call::{Call, WHITE};
 use crate::case::{Answer, Case, Row, page_holds, row_holds};

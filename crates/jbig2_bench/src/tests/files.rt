@@ -9,9 +9,9 @@ use std::io::{Cursor, ErrorKind, Read};
 use std::process::Abort;
 
 /// Row 16's first file: a white page of 8 by 1.
-const WHITE_FILE: &str = "H 01 00000001 P 00000001 31 00 01 00000000";
+pub const WHITE_FILE: &str = "H 01 00000001 P 00000001 31 00 01 00000000";
 
-const WHITE_IMAGE: [u8; 8] = [255; 8];
+pub const WHITE_IMAGE: [u8; 8] = [255; 8];
 
 /// A page with a custom table whose two codes of length 1 leave no room for a third.
 const NO_CODE: &str = "H 03 P 00000001 35 00 01 0000000B 70 00000000 00000001 1000";
