@@ -2,6 +2,7 @@ pub mod Books
 pub mod Consuming
 mod Direct
 mod FileRows
+mod PageArea
 pub mod Runs
 pub mod Sending
 pub mod Spelling

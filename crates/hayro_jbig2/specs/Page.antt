@@ -5,14 +5,15 @@ use Rattle.jbig2_base.specs.Answer.{◌>>=◌, refuse_if}
 use Rattle.jbig2_base.specs.Bits.{start_of}
 use Rattle.jbig2_base.specs.Combination.{combined}
 use Rattle.jbig2_base.specs.Fields.{number_at}
-use Rattle.jbig2_base.specs.Grid.{Grid, blank}
+use Rattle.jbig2_base.specs.Grid.{Grid, grid_of, pixel_at, blank}
 use Rattle.jbig2_base.specs.PageInfo.{sheet_of}
 use Rattle.jbig2_base.specs.Segment.{Part}
 use Rattle.jbig2_base.specs.Sequential.{sorted_segments}
 use Rattle.jbig2_base.specs.declared.bitmap.operator.CombinationOperator.{CombinationOperator}
 use Rattle.jbig2_base.specs.declared.bitmap.operator.CombinationOperator.TheVariants.{Or, And, Xor, Xnor, Replace}
 use Rattle.jbig2_base.specs.declared.error.DecodeError.{DecodeError}
-use Rattle.jbig2_base.specs.declared.error.DecodeError.TheVariants.{Unsupported}
+use Rattle.jbig2_base.specs.declared.error.DecodeError.TheVariants.{Segment, Unsupported}
+use Rattle.jbig2_base.specs.declared.error.SegmentError.TheVariants.{InvalidReference}
 use Rattle.jbig2_base.specs.declared.page_info.Sheet.{Sheet}
 use Rattle.jbig2_base.specs.declared.segment.SegmentType.{SegmentType}
 use Rattle.jbig2_base.specs.declared.segment.SegmentType.TheVariants as types
@@ -20,6 +21,9 @@ use Rattle.jbig2_coder.specs.CustomTable.{custom_table}
 use Rattle.jbig2_coder.specs.PrefixCode.{Member}
 use Rattle.jbig2_region.specs.Generic.{PlacedRegion, generic_decoded}
 use Rattle.jbig2_region.specs.GenericHeader.{generic_header_at}
+use Rattle.jbig2_region.specs.Refinement.{refined_decoded}
+use Rattle.jbig2_region.specs.RefinementHeader.{refinement_header_at}
+use Rattle.jbig2_region.specs.declared.region_info.RegionSegmentInfo.{RegionSegmentInfo}
 
 -- An intermediate region, kept under its segment's number.
 pub record Stored : Type 0 where
@@ -79,11 +83,57 @@ immediate strict d (Err e) = if strict then Err e else Ok (record d { untouched 
 unfoldable pub immediate_generic : Bool → Part → Drawing → Result Drawing DecodeError
 immediate_generic strict p d = immediate strict d (generic_at (is_none p.header.data_length) strict p.bytes)
 
--- An intermediate region is kept. Of unknown length it is no special case: the row count stays in its data.
+-- An intermediate region is kept under its segment's number.
+abbrev pub with_region : Part → Drawing → PlacedRegion → Drawing
+with_region p d region = record d { regions = d.regions ++ record { segment_number = p.header.segment_number; region = region } ∷ [] }
+
+-- Of unknown length an intermediate region is no special case: the row count stays in its data.
 unfoldable pub intermediate_generic : Bool → Part → Drawing → Result Drawing DecodeError
 intermediate_generic strict p d = do
   region ← generic_at false strict p.bytes
-  Ok (record d { regions = d.regions ++ record { segment_number = p.header.segment_number; region = region } ∷ [] })
+  Ok (with_region p d region)
+
+-- The region that a number names: the first that was kept under it (7.3.1).
+abbrev pub region_named : ℕ → List Stored → Option PlacedRegion
+region_named number [] = None
+region_named number (s ∷ ss) = if s.segment_number == number then Some s.region else region_named number ss
+
+-- The region that a refinement's first number names, if it refers to any. Strict reading refuses a number that names none.
+abbrev pub referred_region : Bool → List ℕ → List Stored → Result (Option PlacedRegion) DecodeError
+referred_region strict [] regions = Ok None
+referred_region strict (number ∷ others) regions = do
+  known ← refuse_if (strict && is_none (region_named number regions)) (Segment InvalidReference)
+  Ok (region_named number regions)
+
+-- The area of the page that a region covers, white outside the page.
+abbrev pub page_area : Grid → RegionSegmentInfo → PlacedRegion
+page_area page info = record {
+  grid = grid_of info.width info.height (λ i j. pixel_at page (info.x_location + i) (info.y_location + j));
+  x_location = info.x_location;
+  y_location = info.y_location;
+  combination_operator = info.combination_operator;
+}
+
+-- What is refined (7.4.7.4): the region that is referred to, or else the page's area.
+abbrev pub refined_region : Grid → RegionSegmentInfo → Option PlacedRegion → PlacedRegion
+refined_region page info (Some region) = region
+refined_region page info None = page_area page info
+
+-- A refinement (7.4.7). Strict reading refuses an intermediate one that refers to no region.
+unfoldable pub refinement_at : Bool → Bool → Part → Drawing → Result PlacedRegion DecodeError
+refinement_at strict is_intermediate p d = do
+  referred ← referred_region strict p.header.referred_to_segments d.regions
+  known ← refuse_if (strict && is_intermediate && is_none referred) (Segment InvalidReference)
+  header ← refinement_header_at p.bytes
+  refined_decoded header.0 (refined_region d.grid header.0.region_info referred)
+
+unfoldable pub immediate_refinement : Bool → Part → Drawing → Result Drawing DecodeError
+immediate_refinement strict p d = immediate strict d (refinement_at strict false p d)
+
+unfoldable pub intermediate_refinement : Bool → Part → Drawing → Result Drawing DecodeError
+intermediate_refinement strict p d = do
+  region ← refinement_at strict true p d
+  Ok (with_region p d region)
 
 -- A custom table (7.4.13, B.2), kept.
 abbrev pub code_at : List ℕ → Result (List Member) DecodeError
@@ -110,6 +160,9 @@ segment_on strict p d = on p.header.segment_type
     on types.IntermediateGenericRegion = intermediate_generic strict p d
     on types.ImmediateGenericRegion = immediate_generic strict p d
     on types.ImmediateLosslessGenericRegion = immediate_generic strict p d
+    on types.IntermediateGenericRefinementRegion = intermediate_refinement strict p d
+    on types.ImmediateGenericRefinementRegion = immediate_refinement strict p d
+    on types.ImmediateLosslessGenericRefinementRegion = immediate_refinement strict p d
     on _ = Err Unsupported
 
 -- The segments in order, up to an end of page or an end of file.

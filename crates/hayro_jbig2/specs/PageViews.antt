@@ -1,9 +1,16 @@
 -- What a context keeps, seen as what was drawn so far, and the names of a page's globals.
-use Rattle.std.specs.Prelude.{List, map, Option, Some, None, Result, Ok, Err}
+use Rattle.std.specs.Prelude.{◌||◌, List, map, Option, Some, None, Result, Ok, Err}
 use Rattle.std.specs.Borrow.{Bor}
+use Rattle.jbig2_base.specs.Answer.{◌>>=◌, refuse_if}
+use Rattle.jbig2_base.specs.Grid.{Grid}
 use Rattle.jbig2_base.specs.declared.error.DecodeError.{DecodeError}
-use Rattle.jbig2_region.specs.Generic.{region_view}
-use Rattle.hayro_jbig2.specs.Page.{Stored, StoredCode, Names, no_names}
+use Rattle.jbig2_base.specs.declared.error.DecodeError.TheVariants.{Overflow}
+use Rattle.jbig2_base.specs.declared.error.OverflowError.TheVariants.{ReferenceOffset}
+use Rattle.jbig2_region.specs.Generic.{PlacedRegion, region_view}
+use Rattle.jbig2_region.specs.declared.generic.DecodedRegion.{DecodedRegion}
+use Rattle.hayro_jbig2.specs.Page.{Stored, StoredCode, Names, no_names, page_area}
+use Rattle.jbig2_region.specs.Refinement.{is_far}
+use Rattle.jbig2_region.specs.declared.region_info.RegionSegmentInfo.{RegionSegmentInfo}
 use Rattle.hayro_jbig2.specs.declared.context.StoredRegion.{StoredRegion}
 use Rattle.hayro_jbig2.specs.declared.context.StoredTable.{StoredTable}
 
@@ -12,6 +19,15 @@ stored_view s = record { segment_number = s.segment_number; region = region_view
 
 abbrev pub stored_regions : {A : Type 0} → List (StoredRegion A) → List Stored
 stored_regions regions = map (λ s. stored_view s) regions
+
+-- a region that was looked for
+abbrev pub found_view : {A : Type 0} → Option (Bor (DecodedRegion A)) → Option PlacedRegion
+found_view None = None
+found_view (Some region) = Some (region_view region.now)
+
+-- the page's area, unless it lies too far to be refined
+abbrev pub near_area : Grid → RegionSegmentInfo → Result PlacedRegion DecodeError
+near_area page info = refuse_if (is_far info.x_location || is_far info.y_location) (Overflow ReferenceOffset) >>= λ near. Ok (page_area page info)
 
 abbrev pub code_view : {A : Type 0} → StoredTable A → StoredCode
 code_view s = record { segment_number = s.segment_number; code = s.table }

@@ -6,6 +6,7 @@ ghost use Rattle.jbig2_region.specs.Generic.{PlacedRegion, region_view};
 ghost use Rattle.hayro_jbig2.specs.Page.{Drawing, extension, ends_page, generic_at, immediate, immediate_generic, intermediate_generic, with_code, segment_on, drawn};
 
 use crate::context::DecoderContext;
+use crate::refinement::{draw_immediate_refinement, store_intermediate_refinement};
 use jbig2_base::bitmap::steps::Steps;
 use jbig2_base::error::{DecodeError, Result};
 use jbig2_base::field::u32_field;
@@ -61,7 +62,7 @@ fn decode_generic<A: Allocator + Clone, L: Ledger>(
 
 /// Combines an immediate region with the page. Lenient reading passes over one that failed, but
 /// never over want of memory.
-fn finish_immediate<A: Allocator, L: Ledger>(
+pub(crate) fn finish_immediate<A: Allocator, L: Ledger>(
     strict: bool,
     decoded: Result<DecodedRegion<A>>,
     context: &mut DecoderContext<A>,
@@ -147,6 +148,13 @@ fn draw_segment<S: Allocator, A: Allocator + Clone, L: Ledger>(
         }
         SegmentType::ImmediateGenericRegion | SegmentType::ImmediateLosslessGenericRegion => {
             draw_immediate_generic(strict, segment, context, steps)
+        }
+        SegmentType::IntermediateGenericRefinementRegion => {
+            store_intermediate_refinement(strict, segment, context, steps)
+        }
+        SegmentType::ImmediateGenericRefinementRegion
+        | SegmentType::ImmediateLosslessGenericRefinementRegion => {
+            draw_immediate_refinement(strict, segment, context, steps)
         }
         _ => Err(DecodeError::Unsupported),
     }

@@ -17,6 +17,7 @@ pub mod page;
 pub mod pages;
 pub mod parts;
 pub mod reading;
+mod refinement;
 pub mod settings;
 
 pub use context::DecoderContext;
