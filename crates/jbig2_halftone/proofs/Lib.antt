@@ -1,3 +1,5 @@
+mod CellLemmas
 mod GrayLemmas
+mod HalftoneLemmas
 mod PatternLemmas
 mod PlaneLemmas

@@ -23,11 +23,13 @@ column_of h m n = int_shr (h.grid_position_and_size.horizontal_offset +ℤ pos (
 abbrev pub row_of : HalftoneHeader → ℕ → ℕ → ℤ
 row_of h m n = int_shr (h.grid_position_and_size.vertical_offset +ℤ pos (m * h.grid_vector.x_vector) -ℤ pos (n * h.grid_vector.y_vector)) 8
 
+-- along one axis: a pattern of this size at this place has no pixel in a region of `room` pixels
+abbrev pub is_apart : ℤ → ℕ → ℕ → Bool
+is_apart place size room = int_le (place +ℤ pos size) (pos 0) || int_le (pos room) place
+
 -- the pattern of cell (m, n) would lie wholly outside the region (6.6.5.1)
 unfoldable pub lies_outside : HalftoneHeader → Patterns → ℕ → ℕ → Bool
-lies_outside h d m n =
-    int_le (column_of h m n +ℤ pos d.width) (pos 0) || int_le (pos h.region_info.width) (column_of h m n)
-    || int_le (row_of h m n +ℤ pos d.height) (pos 0) || int_le (pos h.region_info.height) (row_of h m n)
+lies_outside h d m n = is_apart (column_of h m n) d.width h.region_info.width || is_apart (row_of h m n) d.height h.region_info.height
 
 -- black where a cell is skipped (HSKIP)
 abbrev pub skip_grid : HalftoneHeader → Patterns → Grid

@@ -23,6 +23,7 @@ use std::sync::ledger::Ledger;
 const MAX_DIMENSION: u32 = 65535;
 
 /// What a gray-scale image's coded bytes are decoded by (T.88, Table C.1).
+#[derive(Drop)]
 pub struct GrayScaleParams<'a, M: Allocator> {
     /// Whether the bytes are coded with MMR, in place of the arithmetic coder.
     pub use_mmr: bool,

@@ -1,3 +1,275 @@
 //! Halftone regions (T.88, 6.6 and 7.4.5).
+ghost use Rattle.std.specs.Prelude.{◌≡◌, ◌*◌, ◌<◌, ◌≤◌, length, false, IfErr, FitsSigned, Ok};
+ghost use Rattle.std.specs.Int.{w32, int_shr};
+ghost use Rattle.jbig2_base.specs.Answer.{Answers, Gives};
+ghost use Rattle.jbig2_base.specs.Grid.{blank};
+ghost use Rattle.jbig2_region.specs.Generic.{region_view};
+ghost use Rattle.jbig2_halftone.specs.GrayScale.{gray_scale_image};
+ghost use Rattle.jbig2_halftone.specs.Halftone.{gray_params, column_of, row_of, is_apart, lies_outside, skip_grid, skip_mask, code_length, pattern_for, cells_drawn, halftone_answer, halftone_decoded};
+ghost use Rattle.jbig2_halftone.specs.HalftoneHeader.{header_view};
+ghost use Rattle.jbig2_halftone.specs.Patterns.{dictionary_view};
 
 pub mod header;
+
+use crate::gray_scale::{GrayScaleParams, decode_gray_scale_image};
+use crate::pattern::PatternDictionary;
+pub use header::{HalftoneRegionHeader, parse};
+use jbig2_base::bitmap::Bitmap;
+use jbig2_base::bitmap::steps::Steps;
+use jbig2_base::error::{DecodeError, RegionError, Result};
+use jbig2_coder::arithmetic_decoder::ArithmeticDecoderContext;
+use jbig2_region::generic::DecodedRegion;
+use std::alloc::Allocator;
+use std::sync::ledger::Ledger;
+
+/// A place in 256ths of a pixel as a whole pixel, rounded down.
+fn whole_pixels(place: i64) -> i32
+    requires { FitsSigned w32 (int_shr place 8) }
+    ensures { result ≡ int_shr place 8 }
+{
+    (place >> 8) as i32
+}
+
+/// The region's column and row where the pattern of the cell in row `m` and column `n` of the grid
+/// stands (T.88, 6.6.5.2).
+fn cell_place(header: &HalftoneRegionHeader<'_>, m: u32, n: u32) -> (i32, i32)
+    requires row { m < 65536 }
+    requires column { n < 65536 }
+    ensures x { result.0 ≡ column_of (header_view header.now) m n }
+    ensures y { result.1 ≡ row_of (header_view header.now) m n }
+{
+    let grid = &header.grid_position_and_size;
+    let x_vector = u32::from(header.grid_vector.x_vector);
+    let y_vector = u32::from(header.grid_vector.y_vector);
+    let x = i64::from(grid.horizontal_offset) + i64::from(m * y_vector) + i64::from(n * x_vector);
+    let y = i64::from(grid.vertical_offset) + i64::from(m * x_vector) - i64::from(n * y_vector);
+    (whole_pixels(x), whole_pixels(y))
+}
+
+/// Whether a pattern of this size at this place has no pixel in a region of `room` pixels, along one
+/// axis.
+fn is_apart(place: i32, size: u32, room: u32) -> bool
+    ensures { result ≡ is_apart place size room }
+{
+    let place = i64::from(place);
+    place + i64::from(size) <= 0 || i64::from(room) <= place
+}
+
+/// Whether the pattern of the cell in row `m` and column `n` of the grid would lie wholly outside
+/// the region (T.88, 6.6.5.1).
+#[tactic(auto, unfolding(crate::specs::Halftone::lies_outside))]
+fn lies_outside<A: Allocator>(
+    header: &HalftoneRegionHeader<'_>,
+    dictionary: &PatternDictionary<A>,
+    m: u32,
+    n: u32,
+) -> bool
+    requires row { m < 65536 }
+    requires column { n < 65536 }
+    ensures { result ≡ lies_outside (header_view header.now) (dictionary_view dictionary.now) m n }
+{
+    let region = &header.region_info;
+    let (x, y) = cell_place(header, m, n);
+    is_apart(x, dictionary.pattern_width, region.width)
+        || is_apart(y, dictionary.pattern_height, region.height)
+}
+
+/// How many bits the values of so many patterns have (T.88, 6.6.5, step 3).
+fn code_length(patterns: usize) -> u32
+    requires { patterns ≤ 65535 }
+    ensures value { result ≡ code_length patterns }
+    ensures small { result ≤ 16 }
+{
+    let mut bits = 0;
+    while 1 << bits < patterns {
+        bits += 1;
+    }
+    bits
+}
+
+/// The cells that are skipped: the pixel in column `n` of row `m` is black where cell (`m`, `n`)
+/// lies outside (T.88, 6.6.5.1).
+fn skip_bitmap<D: Allocator, A: Allocator, L: Ledger>(
+    alloc: A,
+    header: &HalftoneRegionHeader<'_>,
+    dictionary: &PatternDictionary<D>,
+    steps: &mut Steps<L>,
+) -> Result<Bitmap<A>>
+    requires columns { header.now.grid_position_and_size.width ≤ 65535 }
+    requires rows { header.now.grid_position_and_size.height ≤ 65535 }
+    ensures { Gives (λ skip. skip) result (Ok (skip_grid (header_view header.now) (dictionary_view dictionary.now))) }
+{
+    let grid = &header.grid_position_and_size;
+    let mut skip = Bitmap::new(alloc, grid.width, grid.height)?;
+    for m in 0..grid.height {
+        for n in 0..grid.width {
+            let outside = lies_outside(header, dictionary, m, n);
+            skip.set_pixel(n, m, outside, steps);
+        }
+    }
+    Ok(skip)
+}
+
+/// The pattern of a value. A value without a pattern is refused in strict mode, and otherwise has
+/// the last one.
+fn pattern_for<A: Allocator>(
+    strict: bool,
+    dictionary: &PatternDictionary<A>,
+    value: u32,
+) -> Result<&Bitmap<A>>
+    ensures { Answers (λ pattern. pattern.now) result (pattern_for strict dictionary.now.patterns.items value) }
+{
+    let patterns = &dictionary.patterns;
+    let value = value as usize;
+    if value < patterns.len() {
+        return Ok(&patterns[value]);
+    }
+    if strict {
+        return Err(DecodeError::Region(RegionError::GrayScaleOutOfRange));
+    }
+    Ok(&patterns[patterns.len() - 1])
+}
+
+/// Draws the patterns of the values onto a region, row by row (T.88, 6.6.5.2).
+fn draw_cells<D: Allocator, A: Allocator, L: Ledger>(
+    header: &HalftoneRegionHeader<'_>,
+    dictionary: &PatternDictionary<D>,
+    values: &[u32],
+    bitmap: &mut Bitmap<A>,
+    steps: &mut Steps<L>,
+) -> Result<()>
+    requires columns { header.now.grid_position_and_size.width ≤ 65535 }
+    requires rows { header.now.grid_position_and_size.height ≤ 65535 }
+    requires sized { length values.now ≡ header.now.grid_position_and_size.width * header.now.grid_position_and_size.height }
+    ensures { Answers (λ _. bitmap.new) result (cells_drawn (header_view header.now) (dictionary_view dictionary.now) 0 values.now bitmap.old) }
+{
+    let columns = header.grid_position_and_size.width as usize;
+    let operator = header.flags.combination_operator;
+    for (k, value) in values.iter().enumerate() {
+        let (x, y) = cell_place(header, (k / columns) as u32, (k % columns) as u32);
+        let pattern = match pattern_for(header.strict, dictionary, *value) {
+            Ok(pattern) => pattern,
+            Err(error) => return Err(error),
+        };
+        bitmap.combine(pattern, x, y, operator, steps);
+    }
+    Ok(())
+}
+
+/// The cells that are skipped, where the header says that some may be (T.88, 6.6.5.1).
+fn skip_mask<D: Allocator, A: Allocator, L: Ledger>(
+    alloc: A,
+    header: &HalftoneRegionHeader<'_>,
+    dictionary: &PatternDictionary<D>,
+    steps: &mut Steps<L>,
+) -> Result<Option<Bitmap<A>>>
+    requires columns { header.now.grid_position_and_size.width ≤ 65535 }
+    requires rows { header.now.grid_position_and_size.height ≤ 65535 }
+    ensures { Gives (λ mask. mask) result (Ok (skip_mask (header_view header.now) (dictionary_view dictionary.now))) }
+{
+    if header.flags.enable_skip && !header.flags.mmr {
+        return Ok(Some(skip_bitmap(alloc, header, dictionary, steps)?));
+    }
+    Ok(None)
+}
+
+/// The value of each cell, row by row (T.88, 6.6.5, steps 2 to 4).
+fn decode_values<D: Allocator, A: Allocator + Clone, B: Allocator, L: Ledger>(
+    alloc: A,
+    header: &HalftoneRegionHeader<'_>,
+    dictionary: &PatternDictionary<D>,
+    contexts: &mut Vec<ArithmeticDecoderContext, B>,
+    steps: &mut Steps<L>,
+) -> Result<Vec<u32, A>>
+    requires columns { header.now.grid_position_and_size.width ≤ 65535 }
+    requires rows { header.now.grid_position_and_size.height ≤ 65535 }
+    ensures { Gives (λ values. values.items) result (gray_scale_image (gray_params (header_view header.now) (dictionary_view dictionary.now)) header.now.bytes.now) }
+{
+    let skip = skip_mask(alloc.clone()?, header, dictionary, steps)?;
+    let grid = &header.grid_position_and_size;
+    let params = GrayScaleParams {
+        use_mmr: header.flags.mmr,
+        bits_per_pixel: code_length(dictionary.patterns.len()),
+        width: grid.width,
+        height: grid.height,
+        template: header.flags.template,
+        skip_mask: skip.as_ref(),
+        strict: header.strict,
+    };
+    decode_gray_scale_image(alloc, header.bytes, &params, contexts, steps)
+}
+
+/// Draws a region onto a bitmap of its size that is all in its initial colour.
+#[tactic(auto, unfolding(crate::specs::Halftone::halftone_answer))]
+fn draw_region<D: Allocator, M: Allocator, A: Allocator + Clone, B: Allocator, L: Ledger>(
+    alloc: A,
+    header: &HalftoneRegionHeader<'_>,
+    dictionary: &PatternDictionary<D>,
+    bitmap: &mut Bitmap<M>,
+    contexts: &mut Vec<ArithmeticDecoderContext, B>,
+    steps: &mut Steps<L>,
+) -> Result<()>
+    requires columns { header.now.grid_position_and_size.width ≤ 65535 }
+    requires rows { header.now.grid_position_and_size.height ≤ 65535 }
+    requires coloured { bitmap.old ≡ blank header.now.region_info.width header.now.region_info.height header.now.flags.initial_pixel_color }
+    ensures { Gives (λ _. bitmap.new) result (halftone_answer (header_view header.now) (dictionary_view dictionary.now)) }
+{
+    let values = decode_values(alloc, header, dictionary, contexts, steps)?;
+    draw_cells(header, dictionary, &values, bitmap, steps)
+}
+
+/// Decodes a halftone region (T.88, 6.6) into a bitmap of its size that is all in its initial
+/// colour. `contexts` is room that is written over.
+///
+/// `RegionError::InvalidMmrData` in strict mode where MMR data has a fault or lacks a row;
+/// `RegionError::GrayScaleOutOfRange` in strict mode for a value that no pattern has, also where the
+/// cell lies outside; `OutOfMemory` where there is no room for the values, which alone is refused in
+/// lenient mode.
+pub fn decode_into<D: Allocator, M: Allocator, A: Allocator + Clone, B: Allocator, L: Ledger>(
+    alloc: A,
+    header: &HalftoneRegionHeader<'_>,
+    dictionary: &PatternDictionary<D>,
+    bitmap: &mut Bitmap<M>,
+    contexts: &mut Vec<ArithmeticDecoderContext, B>,
+    steps: &mut Steps<L>,
+) -> Result<()>
+    requires columns { header.now.grid_position_and_size.width ≤ 65535 }
+    requires rows { header.now.grid_position_and_size.height ≤ 65535 }
+    requires coloured { bitmap.old ≡ blank header.now.region_info.width header.now.region_info.height header.now.flags.initial_pixel_color }
+    ensures value { Gives (λ _. bitmap.new) result (halftone_answer (header_view header.now) (dictionary_view dictionary.now)) }
+    ensures lenient { header.now.strict ≡ false → IfErr result (λ e. e ≡ DecodeError.OutOfMemory) }
+{
+    draw_region(alloc, header, dictionary, bitmap, contexts, steps)
+}
+
+/// Decodes a halftone region (T.88, 6.6), as `decode_into` does, into a bitmap of its own.
+///
+/// `OverflowError::BitmapDimension` above 65535 pixels either way; `OutOfMemory` where there is no
+/// room for the bitmap, else as `decode_into`.
+#[tactic(auto, unfolding(crate::specs::Halftone::halftone_decoded))]
+pub fn decode<D: Allocator, A: Allocator + Clone, B: Allocator, L: Ledger>(
+    alloc: A,
+    header: &HalftoneRegionHeader<'_>,
+    dictionary: &PatternDictionary<D>,
+    contexts: &mut Vec<ArithmeticDecoderContext, B>,
+    steps: &mut Steps<L>,
+) -> Result<DecodedRegion<A>>
+    requires columns { header.now.grid_position_and_size.width ≤ 65535 }
+    requires rows { header.now.grid_position_and_size.height ≤ 65535 }
+    ensures { Gives (λ region. region_view region) result (halftone_decoded (header_view header.now) (dictionary_view dictionary.now)) }
+{
+    let region_info = &header.region_info;
+    let mut bitmap = Bitmap::new_with(
+        alloc.clone()?,
+        region_info.width,
+        region_info.height,
+        header.flags.initial_pixel_color,
+    )?;
+    decode_into(alloc, header, dictionary, &mut bitmap, contexts, steps)?;
+    Ok(DecodedRegion {
+        bitmap,
+        x_location: region_info.x_location,
+        y_location: region_info.y_location,
+        combination_operator: region_info.combination_operator,
+    })
+}

@@ -1,0 +1,149 @@
+-- Places of cells, and the number of a value's bits.
+use Rattle.std.proofs.Common.{◌≡◌, ℕ, zero, suc, ◌+◌, ◌-◌, ◌*◌, ◌/◌, ◌^◌, ◌<◌, ◌≤◌, Bool, true, false, cond, leb, length, drop, Result, Ok, Err, add-one, List, [], ◌∷◌, ◌++◌, map, get_or, ◌%◌, ℤ, pos, negsuc, ◌+ℤ◌, ◌-ℤ◌, pow-suc, refl, sym, ap, ◌∙◌, ⊎_elim, arith}
+use Rattle.std.proofs.lemmas.Bool.{cases_eq, le-leb, lt-leb}
+use Rattle.std.proofs.lemmas.Int.{ints, to_z-of_z}
+use Rattle.std.proofs.Math.Nat.{mul-le-mul_left}
+use Rattle.std.specs.Int.{int_shr, w32, w64}
+use mir.Val.{SFits, of_z, to_z}
+use Rattle.jbig2_region.specs.T6.{least, place_from}
+use Rattle.std.specs.List.{range_with_len}
+use Rattle.std.proofs.lemmas.List.FromFn.{get_or-map-range_with_len, length-map-range_with_len, map-range_with_len_more}
+use Rattle.std.proofs.lemmas.List.{drop_all}
+use Rattle.std.proofs.lemmas.Nat.{mul-add-lt, div-mul-add, mod-mul-add}
+use Rattle.std.proofs.Math.Seq.{drop-cons}
+use Rattle.jbig2_base.specs.Grid.{Grid, grid_of, blank}
+use Rattle.jbig2_base.specs.declared.error.DecodeError.{DecodeError}
+use Rattle.jbig2_base.specs.Combination.{combined}
+use Rattle.jbig2_base.specs.Writes.{with_pixel}
+use Rattle.jbig2_base.proofs.GridLemmas.{grid_of-ext}
+use Rattle.jbig2_region.specs.Raster.{so_far}
+use Rattle.jbig2_region.proofs.RasterLemmas.{so_far-push, blank-so_far}
+use Rattle.jbig2_halftone.specs.Halftone.{code_length, column_of, row_of, lies_outside, skip_grid, pattern_for, with_cell, cells_drawn}
+use Rattle.jbig2_halftone.specs.HalftoneHeader.{HalftoneHeader}
+use Rattle.jbig2_halftone.specs.Patterns.{Patterns}
+
+-- a place of a cell fits 32 bits once it is in whole pixels
+place-fits : (z o : ℤ) (a b : ℕ) → SFits w32 o → a < 2 ^ 32 → b < 2 ^ 32 → z ≡ o +ℤ pos a -ℤ pos b → SFits w32 (int_shr z 8)
+place-fits (pos n) o a b fits first second e = record { sfits = within n (omega (arith, ints)) }
+  where
+    within : (n : ℕ) → n < 2 ^ 39 → n / 256 < 2 ^ 31
+    within n small = omega arith
+place-fits (negsuc n) o a b fits first second e = record { sfits = within n (omega (arith, ints)) }
+  where
+    within : (n : ℕ) → n < 2 ^ 39 → n / 256 < 2 ^ 31
+    within n small = omega arith
+
+product-small : (m v : ℕ) → m < 65536 → v < 65536 → m * v < 2 ^ 32
+product-small m v few small = omega (arith, mul-le-mul_left {m = v} {n = 65535} m (omega arith))
+
+-- a column in 256ths of a pixel, as it is computed in 64 bits
+pub sum-known : (o r s t : ℤ) (m n v u : ℕ) → SFits w32 o → m < 65536 → n < 65536 → v < 65536 → u < 65536 → r ≡ to_z w32 (of_z w32 o) → s ≡ pos (m * v) → t ≡ pos (n * u)
+    → to_z w64 (of_z w64 (to_z w64 (of_z w64 (to_z w64 (of_z w64 r) +ℤ to_z w64 (of_z w64 s))) +ℤ to_z w64 (of_z w64 t))) ≡ o +ℤ pos (m * v) +ℤ pos (n * u)
+sum-known o r s t m n v u fits rows columns first second is_r is_s is_t =
+    let one : m * v < 2 ^ 32 = product-small m v rows first in
+    let two : n * u < 2 ^ 32 = product-small n u columns second in
+    rw (is_r, is_s, is_t, to_z-of_z w32 o fits) (sums o (m * v) (n * u) fits one two)
+  where
+    sums : (o : ℤ) (a b : ℕ) → SFits w32 o → a < 2 ^ 32 → b < 2 ^ 32 → to_z w64 (of_z w64 (to_z w64 (of_z w64 (to_z w64 (of_z w64 o) +ℤ to_z w64 (of_z w64 (pos a)))) +ℤ to_z w64 (of_z w64 (pos b)))) ≡ o +ℤ pos a +ℤ pos b
+    sums o a b fits one two = omega (arith, ints)
+
+-- and a row
+pub difference-known : (o r s t : ℤ) (m n v u : ℕ) → SFits w32 o → m < 65536 → n < 65536 → v < 65536 → u < 65536 → r ≡ to_z w32 (of_z w32 o) → s ≡ pos (m * v) → t ≡ pos (n * u)
+    → to_z w64 (of_z w64 (to_z w64 (of_z w64 (to_z w64 (of_z w64 r) +ℤ to_z w64 (of_z w64 s))) -ℤ to_z w64 (of_z w64 t))) ≡ o +ℤ pos (m * v) -ℤ pos (n * u)
+difference-known o r s t m n v u fits rows columns first second is_r is_s is_t =
+    let one : m * v < 2 ^ 32 = product-small m v rows first in
+    let two : n * u < 2 ^ 32 = product-small n u columns second in
+    rw (is_r, is_s, is_t, to_z-of_z w32 o fits) (sums o (m * v) (n * u) fits one two)
+  where
+    sums : (o : ℤ) (a b : ℕ) → SFits w32 o → a < 2 ^ 32 → b < 2 ^ 32 → to_z w64 (of_z w64 (to_z w64 (of_z w64 (to_z w64 (of_z w64 o) +ℤ to_z w64 (of_z w64 (pos a)))) -ℤ to_z w64 (of_z w64 (pos b)))) ≡ o +ℤ pos a -ℤ pos b
+    sums o a b fits one two = omega (arith, ints)
+
+-- which fits 32 bits in whole pixels
+pub difference-fits : (o : ℤ) (m n v u : ℕ) → SFits w32 o → m < 65536 → n < 65536 → v < 65536 → u < 65536 → SFits w32 (int_shr (o +ℤ pos (m * v) -ℤ pos (n * u)) 8)
+difference-fits o m n v u fits rows columns first second = place-fits (o +ℤ pos (m * v) -ℤ pos (n * u)) o (m * v) (n * u) fits (product-small m v rows first) (product-small n u columns second) refl
+
+-- the least place where a test holds
+least-is : (p : ℕ → Bool) (n to k : ℕ) → n ≤ to → to - n ≤ k → k ≤ to → (k < to → p k ≡ true) → ((j : ℕ) → to - n ≤ j → j < k → p j ≡ false) → least p n to ≡ k
+unfolding least
+least-is p zero to k inside from up here before = omega arith
+least-is p (suc n) to k inside from up here before =
+    ⊎_elim
+    (λ (same : to - suc n ≡ k). rw (same, here (omega arith)))
+    (λ (other : to - suc n ≡ k → ⊥).
+    let first : p (to - suc n) ≡ false = before (to - suc n) (omega arith) (omega arith) in
+    rw first (least-is p n to k (omega arith) (omega arith) up here (λ j above below. before j (omega arith) below)))
+    (cases_eq (to - suc n) k)
+
+below-pow : (n : ℕ) → n < 2 ^ n
+below-pow zero = omega arith
+below-pow (suc n) = rw pow-suc (omega (arith, below-pow n))
+
+few : (n k : ℕ) → ((j : ℕ) → j < k → 2 ^ j < n) → k ≤ n
+few n zero below = omega arith
+few n (suc k) below = omega (arith, below k (omega arith), below-pow k)
+
+pub code-length-is : (n k : ℕ) → n ≤ 2 ^ k → ((j : ℕ) → j < k → 2 ^ j < n) → k ≡ code_length n
+code-length-is n k enough below =
+    sym (least-is (λ b. leb n (2 ^ b)) (n - 0) n k (omega arith) (omega arith) (few n k below) (λ _. le-leb n (2 ^ k) enough) (λ j above under. lt-leb n (2 ^ j) (below j under)))
+
+-- ---- the cells that are skipped
+-- of the first k cells, row by row, whether each is skipped
+unfoldable pub skips : HalftoneHeader → Patterns → ℕ → ℕ → List Bool
+skips h d w k = map (λ i. lies_outside h d (i / w) (i % w)) (range_with_len 0 k)
+
+pub skips-start : (h : HalftoneHeader) (d : Patterns) (w rows : ℕ) (skip : Grid) → skip ≡ blank w rows false → skip ≡ so_far w rows (skips h d w (0 * w))
+unfolding skips
+skips-start h d w rows skip white =
+    let none : 0 * w ≡ 0 = omega arith in
+    rw none (white ∙ blank-so_far w rows)
+
+pub skips-next : (h : HalftoneHeader) (d : Patterns) (w rows m n : ℕ) (old new : Grid) (outside : Bool) → n < w → m < rows → old ≡ so_far w rows (skips h d w (m * w + n)) → outside ≡ lies_outside h d m n → new ≡ with_pixel old n m outside → new ≡ so_far w rows (skips h d w (m * w + (n + 1)))
+unfolding skips
+skips-next h d w rows m n old new outside left above before is_outside written =
+    let f : ℕ → Bool = λ i. lies_outside h d (i / w) (i % w) in
+    let here : outside ≡ f (m * w + n) = is_outside ∙ sym (ap (λ (k : ℕ). lies_outside h d k ((m * w + n) % w)) (div-mul-add m w n left) ∙ ap (λ (k : ℕ). lies_outside h d m k) (mod-mul-add m w n left)) in
+    let one : m * w + (n + 1) ≡ m * w + n + 1 = omega arith in
+    written
+    ∙ ap (λ (g : Grid). with_pixel g n m outside) before
+    ∙ so_far-push w rows (map f (range_with_len 0 (m * w + n))) n m outside (length-map-range_with_len f 0 (m * w + n)) left above
+    ∙ ap (λ (b : Bool). so_far w rows (map f (range_with_len 0 (m * w + n)) ++ b ∷ [])) here
+    ∙ ap (λ (bits : List Bool). so_far w rows bits) (sym (map-range_with_len_more f 0 (m * w + n) (m * w + n) (omega arith)))
+    ∙ ap (λ (k : ℕ). so_far w rows (map f (range_with_len 0 k))) (sym one)
+
+pub skips-all : (h : HalftoneHeader) (d : Patterns) (m : ℕ) (skip : Grid) → m ≡ h.grid_position_and_size.height → skip ≡ so_far h.grid_position_and_size.width h.grid_position_and_size.height (skips h d h.grid_position_and_size.width (m * h.grid_position_and_size.width)) → skip_grid h d ≡ skip
+unfolding skips so_far
+skips-all h d m skip whole e =
+    let w : ℕ = h.grid_position_and_size.width in
+    let rows : ℕ = h.grid_position_and_size.height in
+    sym
+    (e ∙ ap (λ (k : ℕ). grid_of w rows (λ x y. get_or (map (λ i. lies_outside h d (i / w) (i % w)) (range_with_len 0 (k * w))) (y * w + x) false)) whole
+    ∙ grid_of-ext w rows (λ x y. get_or (map (λ i. lies_outside h d (i / w) (i % w)) (range_with_len 0 (rows * w))) (y * w + x) false) (λ n m. lies_outside h d m n)
+    (λ x y left above.
+    get_or-map-range_with_len (λ i. lies_outside h d (i / w) (i % w)) 0 (rows * w) (y * w + x) (y * w + x) false (inside y w x rows above left) (omega arith)
+    ∙ ap (λ (k : ℕ). lies_outside h d k ((y * w + x) % w)) (div-mul-add y w x left)
+    ∙ ap (λ (k : ℕ). lies_outside h d y k) (mod-mul-add y w x left)))
+  where
+    inside : (y w x rows : ℕ) → y < rows → x < w → y * w + x < rows * w
+    inside y w x rows above left = omega (arith, mul-add-lt y w x rows above left)
+
+-- ---- the cells that are drawn
+pub cells-next : (h : HalftoneHeader) (d : Patterns) (k : ℕ) (values : List ℕ) (region pattern : Grid) → k < length values → pattern_for h.strict d.grids (get_or values k 0) ≡ Ok pattern → cells_drawn h d k (drop k values) region ≡ cells_drawn h d (k + 1) (drop (k + 1) values) (with_cell h k pattern region)
+unfolding cells_drawn
+cells-next h d k values region pattern inside e =
+    let one : suc k ≡ k + 1 = omega arith in
+    rw (drop-cons values k 0 inside, e) (ap (λ (n : ℕ). cells_drawn h d (k + 1) (drop n values) (with_cell h k pattern region)) one)
+
+pub cells-fault : (h : HalftoneHeader) (d : Patterns) (k : ℕ) (values : List ℕ) (region : Grid) (error : DecodeError) → k < length values → pattern_for h.strict d.grids (get_or values k 0) ≡ Err error → cells_drawn h d k (drop k values) region ≡ Err error
+unfolding cells_drawn
+cells-fault h d k values region error inside e = rw (drop-cons values k 0 inside, e)
+
+pub cells-all : (h : HalftoneHeader) (d : Patterns) (k : ℕ) (values : List ℕ) (region : Grid) → length values ≤ k → cells_drawn h d k (drop k values) region ≡ Ok region
+unfolding cells_drawn
+cells-all h d k values region all = rw (drop_all k values all)
+
+pub cell-made : (h : HalftoneHeader) (k : ℕ) (region pattern new : Grid) (x y : ℤ) → SFits w32 x → SFits w32 y → x ≡ column_of h (k / h.grid_position_and_size.width) (k % h.grid_position_and_size.width) → y ≡ row_of h (k / h.grid_position_and_size.width) (k % h.grid_position_and_size.width)
+    → new ≡ combined h.flags.combination_operator region pattern (to_z w32 (of_z w32 x)) (to_z w32 (of_z w32 y)) → new ≡ with_cell h k pattern region
+cell-made h k region pattern new x y fits_x fits_y column row drawn =
+    drawn
+    ∙ ap (λ (z : ℤ). combined h.flags.combination_operator region pattern z (to_z w32 (of_z w32 y))) (to_z-of_z w32 x fits_x ∙ column)
+    ∙ ap (λ (z : ℤ). combined h.flags.combination_operator region pattern (column_of h (k / h.grid_position_and_size.width) (k % h.grid_position_and_size.width)) z) (to_z-of_z w32 y fits_y ∙ row)

@@ -1,0 +1,93 @@
+-- What decoding a whole halftone region gives: a value for each cell, and in lenient mode never a refusal.
+use Rattle.std.proofs.Common.{◌≡◌, ℕ, zero, suc, ◌+◌, ◌*◌, ◌≤◌, Bool, true, false, ltb, not, ◌&&◌, ◌||◌, List, [], ◌∷◌, ◌++◌, length, drop, get_or, ◌-◌, Result, Ok, Err, refl, sym, ap, subst, ◌∙◌, ⊎_elim}
+use Rattle.std.specs.Prelude.{if◌then◌else◌, IfErr}
+use Rattle.std.proofs.lemmas.Bool.{le-ltb}
+use Rattle.jbig2_base.specs.Answer.{◌>>=◌, refuse_if, Gives}
+use Rattle.jbig2_base.specs.Grid.{Grid, blank}
+use Rattle.jbig2_base.specs.declared.error.DecodeError.{DecodeError}
+use Rattle.jbig2_base.specs.declared.error.DecodeError.TheVariants.{OutOfMemory, Region}
+use Rattle.jbig2_base.specs.declared.error.RegionError.TheVariants.{GrayScaleOutOfRange}
+use Rattle.jbig2_region.specs.T6.{Decoded, decoded as mmr_rows}
+use Rattle.jbig2_halftone.specs.GrayScale.{GrayScale, mmr_planes, planes_by_coder, planes_by_mmr, planes_of, values_by, gray_values, gray_scale_image}
+use Rattle.jbig2_halftone.specs.Halftone.{gray_params, pattern_for, with_cell, cells_drawn, halftone_answer}
+use Rattle.jbig2_halftone.specs.HalftoneHeader.{HalftoneHeader}
+use Rattle.jbig2_halftone.specs.Patterns.{Patterns}
+use Rattle.jbig2_halftone.proofs.PlaneLemmas.{values-length}
+
+image-step : (refused : Bool) (e : DecodeError) (p : GrayScale) (planes : Result (List Grid) DecodeError) (values : List ℕ) → (refuse_if refused e >>= λ _. values_by p planes) ≡ Ok values → length values ≡ p.width * p.height
+image-step true e p planes values made = absurd (cc)
+image-step false e p (Err f) values made = absurd (cc)
+image-step false e p (Ok planes) values made =
+    let same : gray_values p.width p.height planes ≡ values = cc in
+    ap length (sym same) ∙ values-length p.width p.height planes
+
+-- a value for each pixel
+pub image-sized : (p : GrayScale) (input values : List ℕ) → gray_scale_image p input ≡ Ok values → length values ≡ p.width * p.height
+unfolding gray_scale_image
+image-sized p input values made = image-step _ _ p (planes_of p input) values made
+
+-- ---- lenient mode
+-- an answer that is no refusal
+abbrev pub Answered : {X : Type 0} → Result X DecodeError → Type 0
+Answered {X} r = (x : X) × (r ≡ Ok x)
+
+then-answered : {X Y : Type 0} (r : Result X DecodeError) (f : X → Result Y DecodeError) → Answered r → ((x : X) → Answered (f x)) → Answered (r >>= f)
+then-answered {X} {Y} r f first next =
+    let second : Answered (f first.0) = next first.0 in
+    (second.0, ap (λ (q : Result X DecodeError). q >>= f) first.1 ∙ second.1)
+
+rows-lenient : (w h : ℕ) (input : List ℕ) → Answered (mmr_rows false w h input)
+unfolding mmr_rows
+rows-lenient w h input = (_, refl)
+
+planes-lenient : (w h count : ℕ) (done : List Grid) (input : List ℕ) → Answered (mmr_planes false w h count done input)
+unfolding mmr_planes
+planes-lenient w h zero done input = (done, refl)
+planes-lenient w h (suc count) done input =
+    then-answered (mmr_rows false w h input) (λ rows. mmr_planes false w h count (done ++ rows.grid ∷ []) (drop rows.used input)) (rows-lenient w h input)
+    (λ rows. planes-lenient w h count (done ++ rows.grid ∷ []) (drop rows.used input))
+
+values-lenient : (use_mmr : Bool) (p : GrayScale) (input : List ℕ) → p.strict ≡ false → Answered (if use_mmr then planes_by_mmr p input else planes_by_coder p input)
+values-lenient true p input lenient = subst (λ (b : Bool). Answered (mmr_planes b p.width p.height p.bits_per_pixel [] input)) (sym lenient) (planes-lenient p.width p.height p.bits_per_pixel [] input)
+values-lenient false p input lenient = (_, refl)
+
+image-lenient : (p : GrayScale) (input : List ℕ) → p.width ≤ 65535 → p.height ≤ 65535 → p.strict ≡ false → Answered (gray_scale_image p input)
+unfolding gray_scale_image
+image-lenient p input columns rows lenient =
+    rw (le-ltb 65535 p.width columns, le-ltb 65535 p.height rows)
+    (then-answered (planes_of p input) (λ planes. Ok (gray_values p.width p.height planes)) (values-lenient p.use_mmr p input lenient) (λ planes. (gray_values p.width p.height planes, refl)))
+
+pattern-lenient : (known : Bool) (one last : Grid) (e : DecodeError) → Answered (if known then Ok one else if false then Err e else Ok last)
+pattern-lenient true one last e = (one, refl)
+pattern-lenient false one last e = (last, refl)
+
+cells-lenient : (h : HalftoneHeader) (d : Patterns) (k : ℕ) (values : List ℕ) (region : Grid) → h.strict ≡ false → Answered (cells_drawn h d k values region)
+unfolding cells_drawn
+cells-lenient h d k [] region lenient = (region, refl)
+cells-lenient h d k (value ∷ values) region lenient =
+    then-answered (pattern_for h.strict d.grids value) (λ pattern. cells_drawn h d (k + 1) values (with_cell h k pattern region))
+    (subst (λ (b : Bool). Answered (pattern_for b d.grids value)) (sym lenient) (pattern-lenient (ltb value (length d.grids)) (get_or d.grids value (blank 0 0 false)) (get_or d.grids (length d.grids - 1) (blank 0 0 false)) (Region GrayScaleOutOfRange)))
+    (λ pattern. cells-lenient h d (k + 1) values (with_cell h k pattern region) lenient)
+
+-- no refusal
+halftone-lenient : (h : HalftoneHeader) (d : Patterns) → h.grid_position_and_size.width ≤ 65535 → h.grid_position_and_size.height ≤ 65535 → h.strict ≡ false → Answered (halftone_answer h d)
+unfolding halftone_answer
+halftone-lenient h d columns rows lenient =
+    then-answered (gray_scale_image (gray_params h d) h.bytes) (λ values. cells_drawn h d 0 values (blank h.region_info.width h.region_info.height h.flags.initial_pixel_color))
+    (image-lenient (gray_params h d) h.bytes columns rows lenient)
+    (λ values. cells-lenient h d 0 values _ lenient)
+
+-- so memory alone is wanting where there is one
+refused-lenient : {X : Type 0} (view : X → Grid) (result : Result X DecodeError) (meant : Result Grid DecodeError) → Answered meant → Gives view result meant → IfErr result (λ e. e ≡ OutOfMemory)
+refused-lenient view (Ok x) meant answered gives = _
+refused-lenient view (Err e) meant answered gives =
+    ⊎_elim
+    (λ (memory : e ≡ OutOfMemory). memory)
+    (λ (refused : meant ≡ Err e). absurd (apart e answered.0 (sym answered.1 ∙ refused)))
+    gives
+  where
+    apart : (e : DecodeError) (g : Grid) → ◌≡◌ {A = Result Grid DecodeError} (Ok g) (Err e) → ⊥
+    apart e g made = cc
+
+pub memory-alone : {X : Type 0} (view : X → Grid) (result : Result X DecodeError) (h : HalftoneHeader) (d : Patterns) → h.grid_position_and_size.width ≤ 65535 → h.grid_position_and_size.height ≤ 65535 → h.strict ≡ false → Gives view result (halftone_answer h d) → IfErr result (λ e. e ≡ OutOfMemory)
+memory-alone view result h d columns rows lenient gives = refused-lenient view result (halftone_answer h d) (halftone-lenient h d columns rows lenient) gives

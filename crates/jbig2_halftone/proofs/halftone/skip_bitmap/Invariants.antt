@@ -1,0 +1,14 @@
+use Rattle.std.proofs.Common.{◌≡◌, ◌+◌, ◌*◌}
+use Rattle.jbig2_region.specs.Raster.{so_far}
+use Rattle.jbig2_halftone.specs.HalftoneHeader.{header_view}
+use Rattle.jbig2_halftone.specs.Patterns.{dictionary_view}
+use Rattle.jbig2_halftone.proofs.CellLemmas.{skips}
+use Rattle.jbig2_halftone.proofs.halftone.skip_bitmap.Given as goal
+
+abbrev pub invariant-loop-m : goal.invariant-loop-m
+invariant-loop-m g l =
+    l.skip ≡ so_far l.header.grid_position_and_size.width l.header.grid_position_and_size.height (skips (header_view l.header) (dictionary_view l.dictionary) l.header.grid_position_and_size.width (l.m * l.header.grid_position_and_size.width))
+
+abbrev pub invariant-loop-n : goal.invariant-loop-n
+invariant-loop-n g l =
+    l.skip ≡ so_far l.header.grid_position_and_size.width l.header.grid_position_and_size.height (skips (header_view l.header) (dictionary_view l.dictionary) l.header.grid_position_and_size.width (l.m * l.header.grid_position_and_size.width + l.n))
