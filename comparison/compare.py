@@ -1,0 +1,186 @@
+#!/usr/bin/env python3
+"""Draws random pages with ./jbig2-decode and with jbig2dec, and compares the pictures.
+
+usage: comparison/compare.py [COUNT [SEED]]
+
+Any bytes are data of the arithmetic coder, so a page of random regions needs no encoder. jbig2dec is
+Artifex's decoder, of the Debian package jbig2dec.
+"""
+import os
+import random
+import subprocess
+import sys
+import tempfile
+
+ROOT = os.path.dirname(os.path.dirname(os.path.abspath(__file__)))
+HEADER = bytes.fromhex("974A42320D0A1A0A0100000001")
+
+
+def number(value, size=4):
+    return (value % 256**size).to_bytes(size, "big")
+
+
+def segment(at, kind, data, referred=(), page=1):
+    flags = bytes([kind, len(referred) * 32])
+    return number(at) + flags + bytes(referred) + bytes([page]) + number(len(data)) + data
+
+
+def page_information(width, height, black, operator):
+    flags = 4 * black + 8 * operator + 64
+    return number(width) + number(height) + bytes(8) + bytes([flags]) + bytes(2)
+
+
+def coded(chance, pixels):
+    """Data for so many pixels, closed by a marker."""
+    kind = chance.randrange(3)
+    length = pixels // 2 + 64
+    if kind == 0:
+        data = bytes(chance.randrange(256) for _ in range(length))
+    elif kind == 1:
+        data = bytes(chance.choice((0, 0, 0, 0xFF, chance.randrange(256))) for _ in range(length))
+    else:
+        data = bytes(chance.choice((0x55, 0xAA, chance.randrange(256))) for _ in range(length))
+    # A marker inside the data would end it.
+    data = data.replace(b"\xff", b"\xff\x00")
+    return data + b"\xff\xac"
+
+
+def region(chance, width, height, page_width, page_height, operators):
+    x = chance.choice((0, chance.randrange(page_width)))
+    y = chance.choice((0, chance.randrange(page_height)))
+    place = number(width) + number(height) + number(x) + number(y)
+    return place + bytes([chance.randrange(operators)])
+
+
+NOMINAL = {0: (3, -1, -3, -1, 2, -2, -2, -2), 1: (3, -1), 2: (2, -1), 3: (2, -1)}
+
+
+def adaptive_pixels(chance, template):
+    if chance.random() < 0.5:
+        places = NOMINAL[template]
+    else:
+        places = []
+        for _ in range(4 if template == 0 else 1):
+            y = -chance.randrange(0, 9)
+            x = chance.randrange(-9, 0) if y == 0 else chance.randrange(-9, 10)
+            places += [x, y]
+    return b"".join(number(place, 1) for place in places)
+
+
+def generic(chance, size, page, operators=5):
+    template = chance.randrange(4)
+    typical = chance.randrange(2)
+    head = region(chance, *size, *page, operators) + bytes([2 * template + 8 * typical])
+    return head + adaptive_pixels(chance, template) + coded(chance, size[0] * size[1])
+
+
+def refinement(chance, size, page):
+    template = chance.randrange(2)
+    # With template 1 jbig2dec takes another context for the rows' decisions than T.88, Figure 15.
+    typical = chance.randrange(2) if template == 0 else 0
+    head = region(chance, *size, *page, 5)
+    pixels = b""
+    if template == 0:
+        places = chance.choice(((-1, -1, -1, -1), tuple(chance.randrange(-4, 1) for _ in range(4))))
+        if places[0] == 0 and places[1] == 0:
+            places = (-1, -1, -1, -1)
+        pixels = b"".join(number(place, 1) for place in places)
+    return head + bytes([template + 2 * typical]) + pixels + coded(chance, size[0] * size[1])
+
+
+def patterns(chance):
+    template = chance.randrange(4)
+    width = chance.randrange(1, 12)
+    height = chance.randrange(1, 12)
+    most = chance.randrange(1, 20)
+    head = bytes([2 * template, width, height]) + number(most)
+    return head + coded(chance, width * height * (most + 1))
+
+
+def halftone(chance, size, page):
+    template = chance.randrange(4)
+    flags = 2 * template + 8 * chance.randrange(2) + 16 * chance.randrange(5) + 128 * chance.randrange(2)
+    columns, rows = chance.randrange(1, 20), chance.randrange(1, 20)
+    place = number(chance.randrange(-3000, 9000)) + number(chance.randrange(-3000, 9000))
+    vector = number(chance.randrange(0, 2500), 2) + number(chance.randrange(0, 2500), 2)
+    head = region(chance, *size, *page, 5) + bytes([flags]) + number(columns) + number(rows)
+    return head + place + vector + coded(chance, 8 * columns * rows)
+
+
+def random_file(chance, kinds):
+    page = (chance.randrange(1, 90), chance.randrange(1, 40))
+    data = HEADER + segment(0, 48, page_information(*page, chance.randrange(2), chance.randrange(4)))
+    at = 1
+    for _ in range(chance.randrange(1, 4)):
+        size = (chance.randrange(1, 80), chance.randrange(1, 40))
+        kind = chance.choice(kinds)
+        if kind == "generic":
+            data += segment(at, chance.choice((38, 39)), generic(chance, size, page))
+        elif kind == "refinement":
+            # jbig2dec keeps no regions, and refines the whole page in place of the region's area.
+            whole = number(page[0]) + number(page[1]) + bytes(8)
+            data += segment(at, chance.choice((42, 43)), whole + refinement(chance, page, page)[16:])
+        elif kind == "halftone":
+            data += segment(at, 16, patterns(chance))
+            at += 1
+            data += segment(at, chance.choice((22, 23)), halftone(chance, size, page), (at - 1,))
+        at += 1
+    return data + segment(at, 49, b"") + segment(at + 1, 51, b"", page=0)
+
+
+def pixels(picture):
+    """The pixels of a picture of the PBM format; what pads its rows is left out."""
+    if not picture:
+        return None
+    kind, size, rows = picture.split(b"\n", 2)
+    width, height = (int(side) for side in size.split())
+    stride = (width + 7) // 8
+    lines = (rows[stride * y : stride * (y + 1)] for y in range(height))
+    return [int.from_bytes(line, "big") >> (8 * stride - width) for line in lines]
+
+
+def our_picture(program, name):
+    run = subprocess.run([program, "pbm", name, "0"], capture_output=True)
+    return run.stdout, run.stderr.decode(errors="replace").strip()
+
+
+def their_picture(name, picture_name):
+    if os.path.exists(picture_name):
+        os.remove(picture_name)
+    words = ["jbig2dec", "-q", "-t", "pbm", "-o", picture_name, name]
+    run = subprocess.run(words, capture_output=True)
+    fault = run.stderr.decode(errors="replace").strip()
+    if not os.path.exists(picture_name):
+        return b"", fault
+    with open(picture_name, "rb") as file:
+        return file.read(), fault
+
+
+def main():
+    count = int(sys.argv[1]) if len(sys.argv) > 1 else 100
+    seed = int(sys.argv[2]) if len(sys.argv) > 2 else 1
+    kinds = os.environ.get("KINDS", "generic refinement halftone").split()
+    program = os.environ.get("PROGRAM", os.path.join(ROOT, "jbig2-decode"))
+    chance = random.Random(seed)
+    differing = 0
+    with tempfile.TemporaryDirectory() as folder:
+        name = os.path.join(folder, "page.jb2")
+        theirs_name = os.path.join(folder, "page.pbm")
+        for turn in range(count):
+            data = random_file(chance, kinds)
+            with open(name, "wb") as file:
+                file.write(data)
+            ours, fault = our_picture(program, name)
+            theirs, their_fault = their_picture(name, theirs_name)
+            if not ours or pixels(ours) != pixels(theirs):
+                differing += 1
+                kept = os.path.join(tempfile.gettempdir(), f"differs-{seed}-{turn}.jb2")
+                with open(kept, "wb") as file:
+                    file.write(data)
+                print(f"page {turn} differs ({kept}): {fault} / {their_fault}")
+    print(f"{count} pages, {differing} differ")
+    return 1 if differing else 0
+
+
+if __name__ == "__main__":
+    sys.exit(main())
