@@ -67,7 +67,8 @@ impl<A: Allocator + Clone> Jbig2Decoder<A> {
     /// Reads the whole input, going on after an interruption, and finds its first page.
     ///
     /// Answers `Jbig2Error::Io` for another fault of the reader, of any kind, or where no end comes within
-    /// 2^64 - 1 reads, and `Jbig2Error::Decode` for a fault of the file. The reader is dropped.
+    /// 2^64 - 1 reads, and `Jbig2Error::Decode` for a fault of the file or want of memory. The reader is
+    /// dropped.
     pub fn new<R: Read + Drop>(alloc: A, mut reader: R) -> Result<Jbig2Decoder<A>, Jbig2Error>
         ensures { IfSome (R.remaining reader) (λ told. Opens told result) }
     {
