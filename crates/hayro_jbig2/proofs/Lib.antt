@@ -6,4 +6,5 @@ mod PageArea
 pub mod Runs
 pub mod Sending
 pub mod Spelling
+mod WorkedRefinements
 mod WorkedRows

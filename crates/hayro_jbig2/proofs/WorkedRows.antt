@@ -21,17 +21,17 @@ use Rattle.hayro_jbig2.specs.Calls.{Call, Pixel, Chunk, Line, singles, whole_cal
 use Rattle.hayro_jbig2.specs.Page.{no_names, embedded, grid_of_page, generic_at, immediate_generic}
 
 -- the calls of an embedded page, or its error
-calls_at : Bool → List ℕ → Result (List Call) DecodeError
+unfoldable pub calls_at : Bool → List ℕ → Result (List Call) DecodeError
 calls_at strict bytes = embedded strict no_names bytes >>= λ page. grid_of_page page >>= λ g. Ok (calls_of g)
 
 -- a page information segment with this number, width, height and flags
-abbrev page : ℕ → List ℕ → List ℕ → ℕ → List ℕ
+abbrev pub page : ℕ → List ℕ → List ℕ → ℕ → List ℕ
 page number width height flags = (0 ∷ 0 ∷ 0 ∷ number ∷ 48 ∷ 0 ∷ 1 ∷ 0 ∷ 0 ∷ 0 ∷ 19 ∷ []) ++ width ++ height ++ (replicate 8 0 ++ flags ∷ 0 ∷ 0 ∷ [])
 
-abbrev one : List ℕ
+abbrev pub one : List ℕ
 one = 0 ∷ 0 ∷ 0 ∷ 1 ∷ []
 
-abbrev eight : List ℕ
+abbrev pub eight : List ℕ
 eight = 0 ∷ 0 ∷ 0 ∷ 8 ∷ []
 
 abbrev unknown : List ℕ
@@ -41,7 +41,7 @@ unknown = 255 ∷ 255 ∷ 255 ∷ 255 ∷ []
 abbrev stripe : List ℕ
 stripe = 0 ∷ 0 ∷ 0 ∷ 1 ∷ 50 ∷ 0 ∷ 1 ∷ 0 ∷ 0 ∷ 0 ∷ 4 ∷ 0 ∷ 0 ∷ 0 ∷ 1 ∷ []
 
-abbrev white : List Call
+abbrev pub white : List Call
 white = Chunk false 1 ∷ Line ∷ []
 
 row_5 : calls_at true (page 0 eight one 0) ≡ Ok white
@@ -104,7 +104,7 @@ row_R1_2 = refl
 abbrev dot_at : List ℕ → ℕ → List ℕ
 dot_at x flags = (0 ∷ 0 ∷ 0 ∷ 1 ∷ 38 ∷ 0 ∷ 1 ∷ 0 ∷ 0 ∷ 0 ∷ 26 ∷ []) ++ one ++ one ++ x ++ (0 ∷ 0 ∷ 0 ∷ 0 ∷ flags ∷ 0 ∷ 3 ∷ 255 ∷ 253 ∷ 255 ∷ 2 ∷ 254 ∷ 254 ∷ 254 ∷ [])
 
-abbrev origin : List ℕ
+abbrev pub origin : List ℕ
 origin = 0 ∷ 0 ∷ 0 ∷ 0 ∷ []
 
 row_7 : calls_at true (page 0 eight one 0 ++ dot_at origin 0) ≡ Ok (Pixel true ∷ (singles (replicate 7 false) ++ Line ∷ []))

@@ -4,6 +4,7 @@ pub mod files;
 pub mod framing;
 pub mod generic;
 pub mod mmr;
+pub mod refinement;
 pub mod regions;
 pub mod worked;
 
@@ -11,16 +12,17 @@ use crate::case::Row;
 
 /// All rows in the order in which they are run. Each family stands behind a call of its own, so that no
 /// proof has to look at all of their bytes at once.
-pub fn families() -> [&'static [Row]; 9] {
+pub fn families() -> [&'static [Row]; 10] {
     [
         worked::rows(),
         framing::rows(),
         regions::rows(),
         generic::rows(),
         mmr::rows(),
-        coding::rows(),
+        coding::tables(),
+        refinement::rows(),
         files::rows_9(),
         files::rows_13(),
-        coding::rows_14(),
+        coding::lists(),
     ]
 }

@@ -5,6 +5,7 @@
 mod errors;
 mod files;
 mod lists;
+mod refinements;
 mod surface;
 mod uses;
 

@@ -10,7 +10,8 @@ pub const DECISIONS: &[u8] = &[
     0x82, 0xC0, 0x20, 0x00, 0xFC, 0xD7, 0x9E, 0xF6, 0xBF, 0x7F, 0xED, 0x90, 0x4F, 0x46, 0xA3, 0xBF,
 ];
 
-const ROWS: &[Row] = &[
+/// The rows R5.
+const TABLES: &[Row] = &[
     Row {
         name: "R5.1",
         cases: &[
@@ -93,7 +94,7 @@ const ROWS: &[Row] = &[
 ];
 
 /// The rows R14.
-const ROWS_14: &[Row] = &[
+const LISTS: &[Row] = &[
     Row {
         name: "R14.1",
         cases: &[
@@ -119,10 +120,10 @@ const ROWS_14: &[Row] = &[
     },
 ];
 
-pub fn rows() -> &'static [Row] {
-    ROWS
+pub fn tables() -> &'static [Row] {
+    TABLES
 }
 
-pub fn rows_14() -> &'static [Row] {
-    ROWS_14
+pub fn lists() -> &'static [Row] {
+    LISTS
 }
