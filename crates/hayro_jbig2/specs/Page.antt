@@ -13,12 +13,16 @@ use Rattle.jbig2_base.specs.declared.bitmap.operator.CombinationOperator.{Combin
 use Rattle.jbig2_base.specs.declared.bitmap.operator.CombinationOperator.TheVariants.{Or, And, Xor, Xnor, Replace}
 use Rattle.jbig2_base.specs.declared.error.DecodeError.{DecodeError}
 use Rattle.jbig2_base.specs.declared.error.DecodeError.TheVariants.{Segment, Unsupported}
-use Rattle.jbig2_base.specs.declared.error.SegmentError.TheVariants.{InvalidReference}
+use Rattle.jbig2_base.specs.declared.error.SegmentError.TheVariants.{InvalidReference, MissingPatternDictionary}
 use Rattle.jbig2_base.specs.declared.page_info.Sheet.{Sheet}
 use Rattle.jbig2_base.specs.declared.segment.SegmentType.{SegmentType}
 use Rattle.jbig2_base.specs.declared.segment.SegmentType.TheVariants as types
 use Rattle.jbig2_coder.specs.CustomTable.{custom_table}
 use Rattle.jbig2_coder.specs.PrefixCode.{Member}
+use Rattle.jbig2_halftone.specs.Halftone.{halftone_decoded}
+use Rattle.jbig2_halftone.specs.HalftoneHeader.{halftone_header_at}
+use Rattle.jbig2_halftone.specs.PatternHeader.{pattern_header_at}
+use Rattle.jbig2_halftone.specs.Patterns.{Patterns, patterns_at}
 use Rattle.jbig2_region.specs.Generic.{PlacedRegion, generic_decoded}
 use Rattle.jbig2_region.specs.GenericHeader.{generic_header_at}
 use Rattle.jbig2_region.specs.Refinement.{refined_decoded}
@@ -35,12 +39,18 @@ pub record StoredCode : Type 0 where
   pub segment_number : ℕ
   pub code : List Member
 
+-- A pattern dictionary, kept under its segment's number.
+pub record StoredPatterns : Type 0 where
+  pub segment_number : ℕ
+  pub patterns : Patterns
+
 -- What globals hold, each under its segment's number, in order.
 pub record Names : Type 0 where
   pub codes : List StoredCode
+  pub patterns : List StoredPatterns
 
 abbrev pub no_names : Names
-no_names = record { codes = [] }
+no_names = record { codes = []; patterns = [] }
 
 -- A page: whether it is read strictly, what it begins as, its segments in order, and the names of its globals or
 -- the error that decoding those gave.
@@ -50,12 +60,13 @@ pub record Leaf : Type 0 where
   pub parts : List Part
   pub globals : Result Names DecodeError
 
--- What was drawn so far, the regions and codes that are kept, in order, and whether no immediate region came
--- before.
+-- What was drawn so far, the regions, codes and pattern dictionaries that are kept, in order, and whether no
+-- immediate region came before.
 pub record Drawing : Type 0 where
   pub grid : Grid
   pub regions : List Stored
   pub codes : List StoredCode
+  pub patterns : List StoredPatterns
   pub untouched : Bool
 
 abbrev pub ends_page : SegmentType → Bool
@@ -144,10 +155,55 @@ with_code p d = do
   code ← code_at p.bytes
   Ok (record d { codes = d.codes ++ record { segment_number = p.header.segment_number; code = code } ∷ [] })
 
+-- A pattern dictionary (7.4.4).
+unfoldable pub dictionary_at : Bool → List ℕ → Result Patterns DecodeError
+dictionary_at strict bytes = do
+  header ← pattern_header_at strict bytes
+  patterns_at header.0
+
+-- kept, with no word of the mode: a dictionary that fails is never passed over
+unfoldable pub with_patterns : Bool → Part → Drawing → Result Drawing DecodeError
+with_patterns strict p d = do
+  patterns ← dictionary_at strict p.bytes
+  Ok (record d { patterns = d.patterns ++ record { segment_number = p.header.segment_number; patterns = patterns } ∷ [] })
+
+-- the first that is kept under a number
+abbrev pub patterns_named : ℕ → List StoredPatterns → Option Patterns
+patterns_named number [] = None
+patterns_named number (s ∷ kept) = if s.segment_number == number then Some s.patterns else patterns_named number kept
+
+-- the page's own one, else the one of the globals (7.3)
+abbrev pub own_or_shared : Option Patterns → Option Patterns → Result Patterns DecodeError
+own_or_shared (Some patterns) shared = Ok patterns
+own_or_shared None (Some patterns) = Ok patterns
+own_or_shared None None = Err (Segment MissingPatternDictionary)
+
+-- the dictionary that the first of these referred numbers names (7.4.5)
+abbrev pub patterns_for : Names → Drawing → List ℕ → Result Patterns DecodeError
+patterns_for names d [] = Err (Segment MissingPatternDictionary)
+patterns_for names d (number ∷ numbers) = own_or_shared (patterns_named number d.patterns) (patterns_named number names.patterns)
+
+-- A halftone region's data (7.4.5), drawn with these patterns.
+unfoldable pub halftone_at : Bool → List ℕ → Patterns → Result PlacedRegion DecodeError
+halftone_at strict bytes patterns = do
+  header ← halftone_header_at strict bytes
+  halftone_decoded header.0 patterns
+
+abbrev pub halftone_region : Bool → Names → Part → Drawing → Result PlacedRegion DecodeError
+halftone_region strict names p d = patterns_for names d p.header.referred_to_segments >>= λ patterns. halftone_at strict p.bytes patterns
+
+unfoldable pub immediate_halftone : Bool → Names → Part → Drawing → Result Drawing DecodeError
+immediate_halftone strict names p d = immediate strict d (halftone_region strict names p d)
+
+unfoldable pub intermediate_halftone : Bool → Names → Part → Drawing → Result Drawing DecodeError
+intermediate_halftone strict names p d = do
+  region ← halftone_region strict names p d
+  Ok (with_region p d region)
+
 -- One segment. Page information after the beginning, stripes, profiles, palettes and types without a meaning
 -- change nothing.
-abbrev pub segment_on : Bool → Part → Drawing → Result Drawing DecodeError
-segment_on strict p d = on p.header.segment_type
+abbrev pub segment_on : Bool → Names → Part → Drawing → Result Drawing DecodeError
+segment_on strict names p d = on p.header.segment_type
   where
     on : SegmentType → Result Drawing DecodeError
     on types.PageInformation = Ok d
@@ -157,6 +213,10 @@ segment_on strict p d = on p.header.segment_type
     on types.Reserved = Ok d
     on types.Extension = extension strict p.bytes >>= λ known. Ok d
     on types.Tables = with_code p d
+    on types.PatternDictionary = with_patterns strict p d
+    on types.IntermediateHalftoneRegion = intermediate_halftone strict names p d
+    on types.ImmediateHalftoneRegion = immediate_halftone strict names p d
+    on types.ImmediateLosslessHalftoneRegion = immediate_halftone strict names p d
     on types.IntermediateGenericRegion = intermediate_generic strict p d
     on types.ImmediateGenericRegion = immediate_generic strict p d
     on types.ImmediateLosslessGenericRegion = immediate_generic strict p d
@@ -166,21 +226,21 @@ segment_on strict p d = on p.header.segment_type
     on _ = Err Unsupported
 
 -- The segments in order, up to an end of page or an end of file.
-abbrev pub drawn : Bool → List Part → Drawing → Result Drawing DecodeError
-drawn strict [] d = Ok d
-drawn strict (p ∷ ps) d = if ends_page p.header.segment_type then Ok d else (segment_on strict p d >>= λ e. drawn strict ps e)
+abbrev pub drawn : Bool → Names → List Part → Drawing → Result Drawing DecodeError
+drawn strict names [] d = Ok d
+drawn strict names (p ∷ ps) d = if ends_page p.header.segment_type then Ok d else (segment_on strict names p d >>= λ e. drawn strict names ps e)
 
 -- The page begins in its default pixel.
 abbrev pub started : Sheet → Drawing
-started sheet = record { grid = blank sheet.width sheet.height sheet.default_pixel; regions = []; codes = []; untouched = true }
+started sheet = record { grid = blank sheet.width sheet.height sheet.default_pixel; regions = []; codes = []; patterns = []; untouched = true }
 
 unfoldable pub grid_of_page : Leaf → Result Grid DecodeError
 grid_of_page page = do
   names ← page.globals
-  d ← drawn page.strict page.parts (started page.sheet)
+  d ← drawn page.strict names page.parts (started page.sheet)
   Ok d.grid
 
--- An embedded page (Annex D has no word of it; PDF keeps one so): its segments read one behind the other, sorted.
+-- An embedded page (D.3; PDF keeps one so): its segments read one behind the other, sorted.
 unfoldable pub embedded : Bool → Names → List ℕ → Result Leaf DecodeError
 embedded strict names bytes = do
   parts ← sorted_segments strict bytes

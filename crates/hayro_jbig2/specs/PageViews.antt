@@ -8,9 +8,12 @@ use Rattle.jbig2_base.specs.declared.error.DecodeError.TheVariants.{Overflow}
 use Rattle.jbig2_base.specs.declared.error.OverflowError.TheVariants.{ReferenceOffset}
 use Rattle.jbig2_region.specs.Generic.{PlacedRegion, region_view}
 use Rattle.jbig2_region.specs.declared.generic.DecodedRegion.{DecodedRegion}
-use Rattle.hayro_jbig2.specs.Page.{Stored, StoredCode, Names, no_names, page_area}
 use Rattle.jbig2_region.specs.Refinement.{is_far}
 use Rattle.jbig2_region.specs.declared.region_info.RegionSegmentInfo.{RegionSegmentInfo}
+use Rattle.jbig2_halftone.specs.Patterns.{Patterns, dictionary_view}
+use Rattle.jbig2_halftone.specs.declared.pattern.dictionary.PatternDictionary.{PatternDictionary}
+use Rattle.hayro_jbig2.specs.Page.{Stored, StoredCode, StoredPatterns, Names, no_names, page_area}
+use Rattle.hayro_jbig2.specs.declared.context.StoredDictionary.{StoredDictionary}
 use Rattle.hayro_jbig2.specs.declared.context.StoredRegion.{StoredRegion}
 use Rattle.hayro_jbig2.specs.declared.context.StoredTable.{StoredTable}
 
@@ -34,6 +37,17 @@ code_view s = record { segment_number = s.segment_number; code = s.table }
 
 abbrev pub stored_codes : {A : Type 0} → List (StoredTable A) → List StoredCode
 stored_codes tables = map (λ s. code_view s) tables
+
+abbrev pub patterns_view : {A : Type 0} → StoredDictionary A → StoredPatterns
+patterns_view s = record { segment_number = s.segment_number; patterns = dictionary_view s.dictionary }
+
+abbrev pub stored_patterns : {A : Type 0} → List (StoredDictionary A) → List StoredPatterns
+stored_patterns dictionaries = map (λ s. patterns_view s) dictionaries
+
+-- the patterns that were found, if any
+abbrev pub found_patterns : {A : Type 0} → Option (Bor (PatternDictionary A)) → Option Patterns
+found_patterns None = None
+found_patterns (Some dictionary) = Some (dictionary_view dictionary.now)
 
 -- the names of globals, where there are any
 abbrev pub given_names : Option (Bor Names) → Names

@@ -3,6 +3,7 @@ ghost use Rattle.std.specs.Prelude.{◌≡◌, ◌≤◌, ◌∷◌, ◌++◌, [
 ghost use Rattle.std.specs.Int.{w32, cast_signed};
 ghost use Rattle.jbig2_base.specs.Answer.{Gives};
 ghost use Rattle.jbig2_base.specs.Grid.{blank};
+ghost use Rattle.jbig2_halftone.specs.Patterns.{dictionary_view};
 ghost use Rattle.jbig2_region.specs.Generic.{region_view};
 ghost use Rattle.hayro_jbig2.specs.Page.{Drawing, Stored, started, immediate};
 
@@ -12,6 +13,7 @@ use jbig2_base::error::Result;
 use jbig2_base::page_info::Sheet;
 use jbig2_coder::arithmetic_decoder::ArithmeticDecoderContext;
 use jbig2_coder::huffman_table::{HuffmanTable, StandardHuffmanTables};
+use jbig2_halftone::pattern::PatternDictionary;
 use jbig2_region::generic::DecodedRegion;
 use std::alloc::Allocator;
 use std::marker::Model;
@@ -31,6 +33,13 @@ pub(crate) struct StoredTable<A: Allocator> {
     pub(crate) table: HuffmanTable<A>,
 }
 
+/// A pattern dictionary that later segments may refer to by its number.
+#[derive(Drop)]
+pub(crate) struct StoredDictionary<A: Allocator> {
+    pub(crate) segment_number: u32,
+    pub(crate) dictionary: PatternDictionary<A>,
+}
+
 /// The room that decoding a page uses and the next page uses again. What it holds from before
 /// changes nothing of a page.
 #[derive(Drop)]
@@ -39,6 +48,7 @@ pub struct DecoderContext<A: Allocator> {
     pub(crate) bitmap: Bitmap<A>,
     pub(crate) regions: Vec<StoredRegion<A>, A>,
     pub(crate) tables: Vec<StoredTable<A>, A>,
+    pub(crate) dictionaries: Vec<StoredDictionary<A>, A>,
     pub(crate) standard_tables: StandardHuffmanTables<A>,
     pub(crate) untouched: bool,
     pub(crate) contexts: Vec<ArithmeticDecoderContext, A>,
@@ -46,22 +56,23 @@ pub struct DecoderContext<A: Allocator> {
 
 impl<A: Allocator> Model for DecoderContext<A> {
     ghost use Rattle.hayro_jbig2.specs.Page.{Drawing};
-    ghost use Rattle.hayro_jbig2.specs.PageViews.{stored_regions, stored_codes};
+    ghost use Rattle.hayro_jbig2.specs.PageViews.{stored_regions, stored_codes, stored_patterns};
 
     ghost Value = { Drawing };
 
-    ghost view = { λ c. record { grid = c.bitmap; regions = stored_regions c.regions.items; codes = stored_codes c.tables.items; untouched = c.untouched } };
+    ghost view = { λ c. record { grid = c.bitmap; regions = stored_regions c.regions.items; codes = stored_codes c.tables.items; patterns = stored_patterns c.dictionaries.items; untouched = c.untouched } };
 }
 
 impl<A: Allocator + Clone> DecoderContext<A> {
     /// A context that holds a page of no pixels. `DecodeError::OutOfMemory` alone refuses it.
     pub fn new(alloc: A) -> Result<DecoderContext<A>>
-        ensures { Gives (λ context. context) result (Ok (record { grid = blank 0 0 false; regions = []; codes = []; untouched = true })) }
+        ensures { Gives (λ context. context) result (Ok (record { grid = blank 0 0 false; regions = []; codes = []; patterns = []; untouched = true })) }
     {
         Ok(DecoderContext {
             bitmap: Bitmap::new_empty(alloc.clone()?),
             regions: Vec::new(alloc.clone()?),
             tables: Vec::new(alloc.clone()?),
+            dictionaries: Vec::new(alloc.clone()?),
             standard_tables: StandardHuffmanTables::new(alloc.clone()?)?,
             untouched: true,
             contexts: Vec::new(alloc.clone()?),
@@ -81,6 +92,7 @@ impl<A: Allocator> DecoderContext<A> {
             .reinitialize(sheet.width, sheet.height, sheet.default_pixel)?;
         self.regions.clear();
         self.tables.clear();
+        self.dictionaries.clear();
         self.untouched = true;
         Ok(())
     }
@@ -117,6 +129,21 @@ impl<A: Allocator> DecoderContext<A> {
         self.tables.push(StoredTable {
             segment_number,
             table,
+        })?;
+        Ok(())
+    }
+
+    /// Keeps a pattern dictionary under its segment's number.
+    pub(crate) fn store_patterns(
+        &mut self,
+        segment_number: u32,
+        dictionary: PatternDictionary<A>,
+    ) -> Result<()>
+        ensures { Gives (λ _. self.new) result (Ok (record self.old { patterns = self.old.patterns ++ record { segment_number = segment_number; patterns = dictionary_view dictionary } ∷ [] })) }
+    {
+        self.dictionaries.push(StoredDictionary {
+            segment_number,
+            dictionary,
         })?;
         Ok(())
     }

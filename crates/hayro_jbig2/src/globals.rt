@@ -1,12 +1,14 @@
 //! Segments that several pages share.
-ghost use Rattle.std.specs.Prelude.{Ok};
 ghost use Rattle.jbig2_base.specs.Answer.{Gives};
 ghost use Rattle.jbig2_base.specs.SegmentViews.{part_view, parts};
-ghost use Rattle.hayro_jbig2.specs.Globals.{with_name, named_by, named, globals_at};
+ghost use Rattle.hayro_jbig2.specs.Globals.{with_name, with_pattern_name, named_by, named, globals_at};
+ghost use Rattle.std.specs.Prelude.{◌≡◌, Ok};
 ghost use Rattle.hayro_jbig2.specs.Page.{no_names};
+ghost use Rattle.hayro_jbig2.specs.PageViews.{stored_patterns};
 
-use crate::context::StoredTable;
+use crate::context::{StoredDictionary, StoredTable};
 use crate::drawing::extension;
+use crate::halftones::decode_shared_dictionary;
 use crate::settings::DecodeSettings;
 use jbig2_base::error::{DecodeError, Result};
 use jbig2_base::file::parse_segments_sequential;
@@ -15,7 +17,8 @@ use jbig2_base::segment::{Segment, SegmentType};
 use jbig2_base::sort::sort_segments;
 use jbig2_coder::huffman_table::HuffmanTable;
 use std::alloc::Allocator;
-use std::marker::Model;
+use std::marker::{Brand, Model};
+use std::sync::ledger::Blank;
 
 /// Decoded segments that several pages share: what their segments may refer to by a number
 /// (T.88, 7.3).
@@ -23,15 +26,25 @@ use std::marker::Model;
 pub struct Globals<A: Allocator> {
     alloc: A,
     tables: Vec<StoredTable<A>, A>,
+    dictionaries: Vec<StoredDictionary<A>, A>,
 }
 
 impl<A: Allocator> Model for Globals<A> {
     ghost use Rattle.hayro_jbig2.specs.Page.{Names};
-    ghost use Rattle.hayro_jbig2.specs.PageViews.{stored_codes};
+    ghost use Rattle.hayro_jbig2.specs.PageViews.{stored_codes, stored_patterns};
 
     ghost Value = { Names };
 
-    ghost view = { λ globals. record { codes = stored_codes globals.tables.items } };
+    ghost view = { λ globals. record { codes = stored_codes globals.tables.items; patterns = stored_patterns globals.dictionaries.items } };
+}
+
+impl<A: Allocator> Globals<A> {
+    /// The pattern dictionaries, in the order of their segments.
+    pub(crate) fn dictionaries(&self) -> &[StoredDictionary<A>]
+        ensures { stored_patterns result.now ≡ self.now.patterns }
+    {
+        &self.dictionaries
+    }
 }
 
 impl<A: Allocator + Clone> Globals<A> {
@@ -59,6 +72,7 @@ impl<A: Allocator + Clone> Globals<A> {
     {
         let mut globals = Globals {
             tables: Vec::new(alloc.clone()?),
+            dictionaries: Vec::new(alloc.clone()?),
             alloc,
         };
         for segment in segments {
@@ -74,9 +88,8 @@ impl<A: Allocator + Clone> Globals<A> {
         ensures { Gives (λ _. self.new) result (named_by strict (part_view segment.now) self.old) }
     {
         match segment.header.segment_type {
-            SegmentType::SymbolDictionary | SegmentType::PatternDictionary => {
-                Err(DecodeError::Unsupported)
-            }
+            SegmentType::SymbolDictionary => Err(DecodeError::Unsupported),
+            SegmentType::PatternDictionary => self.add_patterns(strict, segment),
             SegmentType::Tables => self.add_table(segment),
             SegmentType::Extension => extension(strict, segment.bytes),
             _ => Ok(()),
@@ -93,6 +106,24 @@ impl<A: Allocator + Clone> Globals<A> {
         self.tables.push(StoredTable {
             segment_number: segment.header.segment_number,
             table,
+        })?;
+        Ok(())
+    }
+
+    /// A pattern dictionary (T.88, 7.4.4), kept for segments that refer to it.
+    #[tactic(auto, unfolding(crate::specs::Globals::with_pattern_name))]
+    fn add_patterns<S: Allocator>(&mut self, strict: bool, segment: &Segment<'_, S>) -> Result<()>
+        ensures { Gives (λ _. self.new) result (with_pattern_name strict (part_view segment.now) self.old) }
+    {
+        let dictionary = decode_shared_dictionary::<A, Brand>(
+            self.alloc.clone()?,
+            strict,
+            segment.bytes,
+            Blank::new(6),
+        )?;
+        self.dictionaries.push(StoredDictionary {
+            segment_number: segment.header.segment_number,
+            dictionary,
         })?;
         Ok(())
     }

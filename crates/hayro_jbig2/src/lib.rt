@@ -11,6 +11,7 @@ pub mod decoder;
 mod drawing;
 pub mod file;
 pub mod globals;
+mod halftones;
 mod image;
 pub mod jbig2_decoder;
 pub mod jbig2_error;

@@ -238,10 +238,11 @@ impl<'a, A: Allocator> Page<'a, A> {
     ) -> Result<()>
         ensures { Gives (λ _. context.new.grid) result (grid_of_page self.now) }
     {
-        if let Err(error) = &self.globals {
-            return Err(error.duplicate());
-        }
+        let globals = match &self.globals {
+            Ok(globals) => *globals,
+            Err(error) => return Err(error.duplicate()),
+        };
         context.begin(&self.sheet)?;
-        draw_segments(self.strict, self.segments.as_vec(), context, steps)
+        draw_segments(self.strict, globals, self.segments.as_vec(), context, steps)
     }
 }

@@ -1,0 +1,22 @@
+use Rattle.std.proofs.Common.{◌≡◌, ℕ, suc, ◌<◌, Bool, List, ◌∷◌, length, drop, get_or, Result, Err, inl, inr, ⊎_elim, sym, ap, ◌∙◌, arith}
+use Rattle.std.proofs.Math.Seq.{drop-cons}
+use Rattle.jbig2_base.specs.SegmentViews.{part_view, parts}
+use Rattle.jbig2_base.specs.declared.error.DecodeError.{DecodeError}
+use Rattle.jbig2_base.specs.declared.error.DecodeError.TheVariants.{OutOfMemory}
+use Rattle.jbig2_base.specs.declared.segment.Segment.{Segment}
+use Rattle.hayro_jbig2.specs.Globals.{named_by, named}
+use Rattle.hayro_jbig2.specs.Page.{Names}
+use Rattle.hayro_jbig2.proofs.globals.Globals.from_segments.Goals as goal
+
+-- a segment that is refused ends the names
+refused-segment : {A : Type 0} (strict : Bool) (segments : List (Segment A)) (i : ℕ) (item : Segment A) (names : Names) (e : DecodeError) → i < length segments → item ≡ get_or segments i item → named_by strict (part_view item) names ≡ Err e → named strict (parts (drop i segments)) names ≡ Err e
+refused-segment strict segments i item names e inside is refused =
+    let here : drop i segments ≡ item ∷ drop (suc i) segments = drop-cons segments i item inside ∙ ap (λ s. s ∷ drop (suc i) segments) (sym is) in
+    rw (here, refused)
+
+pub returns-in-Err : goal.returns-in-Err
+returns-in-Err g c =
+    ⊎_elim
+    (λ (memory : c.in-Err.error ≡ OutOfMemory). inl memory)
+    (λ refused. inr (sym c.loop-segment.invariant ∙ refused-segment c.args.strict c.args.segments.now c.loop-segment.segment-index c.segment-item.result c.loop-segment.globals c.in-Err.error (omega arith) c.segment-item.is refused))
+    c.in-Err.ensures
