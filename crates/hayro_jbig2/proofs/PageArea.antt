@@ -1,5 +1,5 @@
 -- The page's area under a region, got by combining the page with a white bitmap.
-use Rattle.std.proofs.Common.{◌≡◌, ℕ, ◌+◌, ◌<◌, ◌≤◌, Bool, true, false, ◌&&◌, ◌||◌, nat_lt, cond, ℤ, pos, ◌-ℤ◌, List, Option, Some, None, Result, Ok, Err, refl, sym, ◌∙◌, ap, ⊎_elim, arith}
+use Rattle.std.proofs.Common.{◌≡◌, ℕ, ◌+◌, ◌<◌, ◌≤◌, Bool, true, false, ◌&&◌, ◌||◌, nat_lt, cond, ℤ, pos, ◌-ℤ◌, Result, Ok, Err, refl, sym, ◌∙◌, ap, arith}
 use Rattle.std.proofs.lemmas.Bool.{le-ltb, lt-leb}
 use Rattle.std.proofs.lemmas.Int.{ints}
 use Rattle.jbig2_base.specs.Combination.{combined, drawn_pixel, is_below}
@@ -13,7 +13,7 @@ use Rattle.jbig2_base.specs.declared.error.DecodeError.TheVariants.{Overflow}
 use Rattle.jbig2_base.specs.declared.error.OverflowError.TheVariants.{BitmapDimension, ReferenceOffset}
 use Rattle.jbig2_base.specs.declared.error.RegionError.TheVariants.{InvalidDimension}
 use Rattle.jbig2_region.specs.Generic.{PlacedRegion}
-use Rattle.jbig2_region.specs.Refinement.{is_far, is_smaller, offset, refined_answer, refined_grid, refined_decoded}
+use Rattle.jbig2_region.specs.Refinement.{is_far, offset, refined_grid, refined_decoded}
 use Rattle.jbig2_region.specs.RefinementHeader.{RefinementHeader}
 use Rattle.jbig2_region.specs.declared.region_info.RegionSegmentInfo.{RegionSegmentInfo}
 use Rattle.hayro_jbig2.specs.Page.{page_area}

@@ -1,5 +1,5 @@
 -- Worked rows of refinements, computed from the definitions alone: from bytes to calls or an error.
-use Rattle.std.proofs.Common.{◌≡◌, ℕ, Bool, true, false, List, [], ◌∷◌, ◌++◌, replicate, Ok, Err, refl}
+use Rattle.std.proofs.Common.{◌≡◌, ℕ, true, false, List, [], ◌∷◌, ◌++◌, replicate, Ok, Err, refl}
 use Rattle.jbig2_base.specs.Combination.{drawn_pixel}
 use Rattle.jbig2_base.specs.Grid.{table, pixel_at}
 use Rattle.jbig2_base.specs.PageInfo.{information_at, sheet_of}

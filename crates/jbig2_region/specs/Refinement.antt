@@ -115,8 +115,8 @@ is_far location = nat_le 0x80000000 location
 abbrev pub is_smaller : PlacedRegion → RegionSegmentInfo → Bool
 is_smaller from info = nat_lt from.grid.width info.width || nat_lt from.grid.height info.height
 
--- dx and dy: the reference's place less the region's. A reference smaller than the region is refused (7.4.7.5), and so
--- is a place of 2^31 or more (our own rule).
+-- dx and dy: the reference's place less the region's. A reference smaller than the region is refused, and so is a
+-- place of 2^31 or more (our own rules).
 unfoldable pub offset : PlacedRegion → RegionSegmentInfo → Result (ℤ × ℤ) DecodeError
 offset from info = do
   covered ← refuse_if (is_smaller from info) (errors.Region InvalidDimension)

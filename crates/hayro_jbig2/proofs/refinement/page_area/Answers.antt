@@ -1,4 +1,4 @@
-use Rattle.std.proofs.Common.{arith, ◌≡◌, ℤ, pos, ◌-ℤ◌, to_z, of_z, w32}
+use Rattle.std.proofs.Common.{arith, ◌≡◌, pos, ◌-ℤ◌, to_z, of_z, w32}
 use Rattle.std.proofs.lemmas.Int.{ints}
 use Rattle.hayro_jbig2.proofs.PageArea.{area-made}
 use Rattle.hayro_jbig2.proofs.refinement.page_area.Goals as goal
