@@ -4,6 +4,7 @@ use crate::coder::{CoderCase, coder_holds};
 use crate::combination::stays_white;
 use crate::file_case::{FileCase, file_holds};
 use crate::mmr::{MmrCase, mmr_holds};
+use crate::patterns::wide_patterns_hold;
 use crate::spelling::spelled;
 use crate::table::{TableCase, table_holds};
 use crate::watcher::Watcher;
@@ -11,6 +12,8 @@ use hayro_jbig2::parts::reader::Reader;
 use hayro_jbig2::parts::segment::{SegmentType, parse_segment_header};
 use hayro_jbig2::{DecodeError, DecodeSettings, DecoderContext, Page, Result};
 use std::alloc::Allocator;
+use std::marker::Brand;
+use std::sync::ledger::Blank;
 
 /// A row of the table: its name, and all that has to hold.
 pub struct Row {
@@ -72,6 +75,8 @@ pub enum Case {
     Mmr(MmrCase),
     /// Files.
     File(FileCase),
+    /// Two patterns of 200 by 1, written by the arithmetic encoder, are decoded.
+    WidePatterns,
 }
 
 impl Modes {
@@ -145,6 +150,7 @@ fn case_holds<A: Allocator + Clone>(
         Case::Mmr(case) => mmr_holds(alloc, case),
         Case::File(case) => file_holds(alloc, case, context),
         Case::StaysWhite(x, y) => stays_white(alloc, *x, *y),
+        Case::WidePatterns => wide_patterns_hold::<A, Brand>(alloc, Blank::new(6)),
     }
 }
 

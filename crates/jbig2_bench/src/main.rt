@@ -9,6 +9,7 @@ mod file_case;
 mod generator;
 mod lists;
 mod mmr;
+mod patterns;
 mod piece;
 mod program;
 mod rows;

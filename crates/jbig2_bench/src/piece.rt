@@ -29,4 +29,14 @@ pub const PIECES: &[Piece] = &[
         name: "G8",
         bytes: "00000001260001 0000001A 00000008 00000001 00*9 00 03FFFDFF02FEFEFE",
     },
+    // A pattern dictionary of one black pattern of 8 by 1, coded with MMR.
+    Piece {
+        name: "D",
+        bytes: "00000001100001 0000000D 01 08 01 00000000 26A280080080",
+    },
+    // An immediate halftone region of 8 by 1 with one cell that refers to it, without coded bytes.
+    Piece {
+        name: "T",
+        bytes: "0000000216200101 00000026 00000008 00000001 00*9 01 00000001 00000001 00*12",
+    },
 ];

@@ -3,6 +3,7 @@ pub mod coding;
 pub mod files;
 pub mod framing;
 pub mod generic;
+pub mod halftones;
 pub mod mmr;
 pub mod refinement;
 pub mod regions;
@@ -12,7 +13,7 @@ use crate::case::Row;
 
 /// All rows in the order in which they are run. Each family stands behind a call of its own, so that no
 /// proof has to look at all of their bytes at once.
-pub fn families() -> [&'static [Row]; 10] {
+pub fn families() -> [&'static [Row]; 12] {
     [
         worked::rows(),
         framing::rows(),
@@ -21,8 +22,10 @@ pub fn families() -> [&'static [Row]; 10] {
         mmr::rows(),
         coding::tables(),
         refinement::rows(),
+        halftones::rows_7(),
         files::rows_9(),
         files::rows_13(),
         coding::lists(),
+        halftones::rows_15(),
     ]
 }

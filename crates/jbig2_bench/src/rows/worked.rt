@@ -175,6 +175,10 @@ const ROWS: &[Row] = &[
         ],
     },
     Row {
+        name: "13",
+        cases: &[Page(Both, "P D T@8=00000028 26A8", Calls(BLACK))],
+    },
+    Row {
         name: "14",
         cases: &[
             Page(
@@ -210,6 +214,10 @@ const ROWS: &[Row] = &[
             Case::StaysWhite(2147483646, 0),
             Case::StaysWhite(0, 2147483646),
         ],
+    },
+    Row {
+        name: "19",
+        cases: &[Case::WidePatterns],
     },
 ];
 

@@ -10,7 +10,7 @@ fn a_refinement_holds_or_memory_is_refused(rt: HostRuntime) {
     let Ok(mut context) = DecoderContext::new(alloc) else {
         return;
     };
-    for row in refinement::ROWS {
+    for row in refinement::rows() {
         if row.name == "R6.2" {
             match row_holds(alloc, row, &mut context) {
                 Ok(holds) => assert!(rt; holds),
