@@ -57,6 +57,14 @@ impl ArithmeticDecoderContext {
         }
     }
 
+    /// The symbol that is the more likely one in this context.
+    #[inline(always)]
+    pub fn likely_symbol(&self) -> bool
+        ensures { result ≡ self.now.likely }
+    {
+        self.likely
+    }
+
     #[inline(always)]
     #[tactic(auto, unfolding(crate::specs::Coder::likely_next))]
     pub(crate) fn after_likely(&mut self, row: QeData) -> bool

@@ -2,14 +2,16 @@
 use Rattle.std.proofs.Common.{take, ◌++◌, ◌≡◌, ℕ, true, false, List, length, Result, Ok, Err, sym, ap, ◌∙◌, subst}
 use Rattle.std.proofs.Math.Seq.{take-append_seam}
 use Rattle.jbig2_base.specs.declared.error.DecodeError.{DecodeError}
-use Rattle.std.proofs.lemmas.Bool.{cond-true, cond-false}
+use Rattle.std.proofs.lemmas.Bool.{cond-true, cond-false, true≢false}
 use Rattle.jbig2_base.specs.Answer.{◌>>=◌}
 use Rattle.jbig2_base.specs.Grid.{Grid, blank}
 use Rattle.jbig2_coder.specs.Coder.{Coder, Context, started}
 use Rattle.jbig2_region.specs.Generic.{generic_coding, generic_region, generic_grid, generic_answer, contexts_after}
 use Rattle.jbig2_region.specs.GenericHeader.{GenericHeader}
+use Rattle.jbig2_base.specs.Counts.{Counts}
 use Rattle.jbig2_region.specs.Holds.{Holds}
-use Rattle.jbig2_region.specs.Raster.{Coding, decoded, no_pixels, fresh_contexts}
+use Rattle.jbig2_region.specs.Layouts.{CountsCoded, CountsGeneric}
+use Rattle.jbig2_region.specs.Raster.{Coding, so_far, decoded, no_pixels, fresh_contexts}
 use Rattle.jbig2_region.specs.T6.{Decoded, decoded as mmr_rows}
 use Rattle.jbig2_region.specs.Templates.{context_bits}
 
@@ -57,3 +59,16 @@ whole-slice n xs ys all = subst (λ (k : ℕ). take k (xs ++ ys) ≡ xs) all (ta
 
 pub ok-inner : {X : Type 0} (x y : X) → ◌≡◌ {A = Result X DecodeError} (Ok x) (Ok y) → x ≡ y
 ok-inner x y e = cc
+
+-- ---- steps
+pub counts-decoded : (h : GenericHeader) (before : Grid) (first : Coder) (fresh : List Context) (old new : Counts) → before ≡ blank h.region_info.width h.region_info.height false → first.bytes ≡ h.bytes → first.registers ≡ started h.bytes → fresh ≡ fresh_contexts (context_bits h.template)
+    → CountsCoded h.template h.adaptive_template_pixels (generic_coding h) before.width before.height first.bytes (no_pixels first.registers fresh) old new
+    → CountsGeneric h old new
+counts-decoded h before first fresh old new white bytes registers contexts counts = λ _.
+    let one = subst (λ (s : List Context). CountsCoded h.template h.adaptive_template_pixels (generic_coding h) before.width before.height first.bytes (no_pixels first.registers s) old new) contexts counts in
+    let two = subst (λ r. CountsCoded h.template h.adaptive_template_pixels (generic_coding h) before.width before.height first.bytes (no_pixels r (fresh_contexts (context_bits h.template))) old new) registers one in
+    let three = subst (λ (b : List ℕ). CountsCoded h.template h.adaptive_template_pixels (generic_coding h) before.width before.height b (no_pixels (started h.bytes) (fresh_contexts (context_bits h.template))) old new) bytes two in
+    subst (λ (g : Grid). CountsCoded h.template h.adaptive_template_pixels (generic_coding h) g.width g.height h.bytes (no_pixels (started h.bytes) (fresh_contexts (context_bits h.template))) old new) white three
+
+pub counts-rows : (h : GenericHeader) (old new : Counts) → h.mmr ≡ true → CountsGeneric h old new
+counts-rows h old new coded = λ other. absurd (true≢false (sym coded ∙ other))

@@ -1,7 +1,14 @@
+pub mod ContextBits
 pub mod ContextLemmas
+pub mod CountLemmas
 pub mod GenericLemmas
 pub mod RasterLemmas
 pub mod RefinementLemmas
+pub mod RegionLemmas
+pub mod RunLemmas
+pub mod RunSteps
+pub mod StepLemmas
+pub mod StoreLemmas
 mod T6Bits
 mod T6Decoding
 mod T6Rows
@@ -9,3 +16,5 @@ mod T6Runs
 mod T6Spans
 mod T6Tables
 mod T6Worked
+pub mod UniformLemmas
+pub mod WindowLemmas

@@ -1,5 +1,5 @@
 -- One pixel more of a region.
-use Rattle.std.proofs.Common.{length-append, set, subst, ◌≡◌, ℕ, ◌+◌, ◌*◌, ◌/◌, ◌%◌, ◌<◌, ◌≤◌, Bool, true, false, ◌&&◌, ◌||◌, not, cond, zero, suc, add-one, eqb, List, [], ◌∷◌, ◌++◌, length, get_or, Option, Some, None, refl, sym, ap, ◌∙◌, ⊎_elim, arith}
+use Rattle.std.proofs.Common.{length-append, set, subst, ◌≡◌, ℕ, ◌+◌, ◌*◌, ◌/◌, ◌%◌, ◌<◌, ◌≤◌, Bool, true, false, ◌&&◌, ◌||◌, not, cond, zero, suc, add-one, eqb, List, [], ◌∷◌, ◌++◌, length, get_or, Option, Some, None, IfSome, refl, sym, ap, ◌∙◌, ⊎_elim, arith}
 use Rattle.std.proofs.Math.Seq.{get_or-append_seam}
 use Rattle.std.proofs.Math.Bool.{or-false}
 use Rattle.std.proofs.lemmas.Bool.{cases_eq, cases_lt, eq-eqb, ne_eqb, and_left, and_right}
@@ -125,6 +125,9 @@ begun-decided w h row_context r p symbol after grid coder next states k old new 
       predicted = ap (λ (b : Bool). cond b (not r.predicted) r.predicted) (sym (ap (λ (q : Decision). q.symbol) same) ∙ is_symbol) ∙ ap (λ (b : Bool). cond symbol (not b) b) predicted ∙ sym is_after;
     })
 
+pub some-inside : (row_context : Option ℕ) (k n : ℕ) → row_context ≡ Some k → IfSome row_context (λ (k : ℕ). k < n) → k < n
+some-inside row_context k n is inside = rw is at inside
+
 -- ---- several pixels and rows
 with_next-length : (input : List ℕ) (r : Region) (k : ℕ) (c : Option Bool) → length (with_next input r k c).pixels ≡ length r.pixels + 1
 unfolding with_next
@@ -153,6 +156,15 @@ after_pixels-one coding w h input n r = rw add-one
 pub after_pixels-none : (coding : Coding) (w h : ℕ) (input : List ℕ) (r : Region) → after_pixels coding w h input 0 r ≡ r
 unfolding after_pixels
 after_pixels-none coding w h input r = refl
+
+pub after_pixels-add : (coding : Coding) (w h : ℕ) (input : List ℕ) (n m : ℕ) (r : Region) → after_pixels coding w h input (n + m) r ≡ after_pixels coding w h input m (after_pixels coding w h input n r)
+unfolding after_pixels
+after_pixels-add coding w h input n zero r =
+    let same : n + 0 ≡ n = omega arith in
+    ap (λ (k : ℕ). after_pixels coding w h input k r) same
+after_pixels-add coding w h input n (suc m) r =
+    let next : n + suc m ≡ suc (n + m) = omega arith in
+    ap (λ (k : ℕ). after_pixels coding w h input k r) next ∙ ap (λ (q : Region). after_pixel coding w h input q) (after_pixels-add coding w h input n m r)
 
 row_begun-pixels : (row_context : Option ℕ) (input : List ℕ) (r : Region) → (row_begun row_context input r).pixels ≡ r.pixels
 unfolding row_begun
@@ -245,3 +257,10 @@ region-empty coding w h grid coder states none white =
 pub region-whole : (coding : Coding) (w h n : ℕ) (input : List ℕ) (start : Region) (grid : Grid) (coder : Coder) (states : List Context) → (w ≡ 0 → ⊥) → n ≡ h → Holds w h input (after_rows coding w h input n start) grid coder states → Holds w h input (decoded coding w h input start) grid coder states
 region-whole coding w h n input start grid coder states some all holds =
     subst (λ (r : Region). Holds w h input r grid coder states) (ap (λ (k : ℕ). after_rows coding w h input k start) all ∙ sym (decoded-rows coding w h input start (ne_eqb w 0 some))) holds
+
+pub no-rows : (w h y : ℕ) → (w ≡ 0 → ⊥) → y ≡ h → w * h ≡ 0 → y ≡ 0
+no-rows zero h y some all product = absurd (some refl)
+no-rows (suc w) zero y some all product = all
+no-rows (suc w) (suc h) y some all product =
+    let more : suc w * suc h ≡ suc (w * suc h + h) = omega arith in
+    absurd (omega (arith, more, product))

@@ -1,11 +1,14 @@
 pub mod Generic
 pub mod GenericHeader
 pub mod Holds
+pub mod Layouts
+pub mod Neighbours
 pub mod Raster
 pub mod Refinement
 pub mod RefinementHeader
 pub mod RefinementViews
 pub mod RegionInfo
+pub mod RunBytes
 pub mod Skipping
 pub mod T6
 pub mod T6Calls

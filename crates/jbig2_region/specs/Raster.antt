@@ -53,6 +53,11 @@ row_begun (Some k) bytes r =
       contexts = slice_set r.contexts k d.context;
     }
 
+-- how many decisions begin a row
+abbrev pub row_decisions : Option ℕ → ℕ
+row_decisions None = 0
+row_decisions (Some _) = 1
+
 unfoldable pub after_rows : Coding → ℕ → ℕ → List ℕ → ℕ → Region → Region
 after_rows coding w h bytes zero r = r
 after_rows coding w h bytes (suc n) r = after_pixels coding w h bytes w (row_begun coding.row_context bytes (after_rows coding w h bytes n r))

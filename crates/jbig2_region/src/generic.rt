@@ -4,6 +4,7 @@ ghost use Rattle.jbig2_base.specs.Answer.{Answers, Gives};
 ghost use Rattle.jbig2_base.specs.Bits.{IsAligned};
 ghost use Rattle.jbig2_base.specs.Grid.{blank};
 ghost use Rattle.jbig2_region.specs.Generic.{contexts_after, generic_answer, generic_decoded, region_view};
+ghost use Rattle.jbig2_region.specs.Layouts.{CountsGeneric};
 ghost use Rattle.jbig2_region.specs.GenericHeader.{header_view, is_earlier, one_pixel, signed_byte_at, adaptive_pixel_at, adaptive_pixels_at, template_pixels_at, rows_at, generic_header_at, FitsTemplate, IsParsed};
 
 use crate::generic_coding::decode_coded;
@@ -207,6 +208,7 @@ pub fn decode_into<A: Allocator, B: Allocator, L: Ledger>(
     requires white { bitmap.old ≡ blank header.now.region_info.width header.now.region_info.height false }
     ensures value { Gives (λ _. bitmap.new) result (generic_answer (header_view header.now)) }
     ensures contexts { OnOk result (contexts.new.items ≡ contexts_after (header_view header.now) contexts.old.items) }
+    ensures steps { OnOk result (CountsGeneric (header_view header.now) steps.old steps.new) }
 {
     if header.mmr {
         mmr::decode(bitmap, header.bytes, header.strict, steps)?;
@@ -238,6 +240,7 @@ pub fn decode<A: Allocator, B: Allocator, L: Ledger>(
     requires { IsParsed (header_view header.now) }
     ensures value { Gives (λ region. region_view region) result (generic_decoded (header_view header.now)) }
     ensures contexts { OnOk result (contexts.new.items ≡ contexts_after (header_view header.now) contexts.old.items) }
+    ensures steps { OnOk result (CountsGeneric (header_view header.now) steps.old steps.new) }
 {
     let region_info = &header.region_info;
     let mut bitmap = Bitmap::new(alloc, region_info.width, region_info.height)?;

@@ -1,12 +1,17 @@
 //! The contexts of generic regions (T.88, 6.2.5.3 to 6.2.5.7).
-ghost use Rattle.std.specs.Prelude.{◌≡◌, ◌+◌, ◌^◌, ◌<◌, ◌≤◌, length, pos, ◌+ℤ◌, false};
+ghost use Rattle.std.specs.Prelude.{◌≡◌, ◌+◌, ◌*◌, ◌^◌, ◌<◌, ◌≤◌, length, pos, ◌+ℤ◌, false, if◌then◌else◌, Some, None, IfSome};
 ghost use Rattle.jbig2_base.specs.Grid.{blank, pixel, bit_number};
 ghost use Rattle.jbig2_region.specs.GenericHeader.{FitsTemplate};
 ghost use Rattle.jbig2_region.specs.Holds.{Holds};
 ghost use Rattle.jbig2_region.specs.Raster.{decoded, no_pixels};
 ghost use Rattle.jbig2_region.specs.Generic.{context_at, colour_above, coding_of};
-ghost use Rattle.jbig2_region.specs.Templates.{template_0, template_1, template_2, template_3, extended_template_0, row_context, context_bits, template_pixels};
+ghost use Rattle.jbig2_region.specs.Layouts.{CountsCoded, is_nominal, read_pixels};
+ghost use Rattle.jbig2_region.specs.RunBytes.{CountsRegion};
+ghost use Rattle.jbig2_region.specs.Templates.{extended_template_0, row_context, context_bits, template_pixels};
+ghost use Rattle.jbig2_region.specs.declared.template.GenericTemplatePixels.TheVariants.{Regular};
 
+use crate::generic_kernel::decode_layout;
+use crate::generic_kernel::layouts::layout_of;
 use crate::raster::{PixelCoding, decode_region, pixel_at};
 use crate::template::{AdaptiveTemplatePixel, GenericTemplatePixels, Template};
 use jbig2_base::bitmap::Bitmap;
@@ -19,87 +24,6 @@ pub const fn pixel(x: i16, y: i16) -> AdaptiveTemplatePixel
     ensures { result ≡ record { x = x; y = y } }
 {
     AdaptiveTemplatePixel { x, y }
-}
-
-/// The pixels of template 0, bit 0 of a context first (Figure 3).
-pub fn template_0(a: &[AdaptiveTemplatePixel; 4]) -> [AdaptiveTemplatePixel; 16]
-    ensures { result ≡ template_0 a.now }
-{
-    [
-        pixel(-1, 0),
-        pixel(-2, 0),
-        pixel(-3, 0),
-        pixel(-4, 0),
-        a[0],
-        pixel(2, -1),
-        pixel(1, -1),
-        pixel(0, -1),
-        pixel(-1, -1),
-        pixel(-2, -1),
-        a[1],
-        a[2],
-        pixel(1, -2),
-        pixel(0, -2),
-        pixel(-1, -2),
-        a[3],
-    ]
-}
-
-/// The pixels of template 1 (Figure 4).
-pub fn template_1(a: &[AdaptiveTemplatePixel; 4]) -> [AdaptiveTemplatePixel; 13]
-    ensures { result ≡ template_1 a.now }
-{
-    [
-        pixel(-1, 0),
-        pixel(-2, 0),
-        pixel(-3, 0),
-        a[0],
-        pixel(2, -1),
-        pixel(1, -1),
-        pixel(0, -1),
-        pixel(-1, -1),
-        pixel(-2, -1),
-        pixel(2, -2),
-        pixel(1, -2),
-        pixel(0, -2),
-        pixel(-1, -2),
-    ]
-}
-
-/// The pixels of template 2 (Figure 5).
-pub fn template_2(a: &[AdaptiveTemplatePixel; 4]) -> [AdaptiveTemplatePixel; 10]
-    ensures { result ≡ template_2 a.now }
-{
-    [
-        pixel(-1, 0),
-        pixel(-2, 0),
-        a[0],
-        pixel(1, -1),
-        pixel(0, -1),
-        pixel(-1, -1),
-        pixel(-2, -1),
-        pixel(1, -2),
-        pixel(0, -2),
-        pixel(-1, -2),
-    ]
-}
-
-/// The pixels of template 3 (Figure 6).
-pub fn template_3(a: &[AdaptiveTemplatePixel; 4]) -> [AdaptiveTemplatePixel; 10]
-    ensures { result ≡ template_3 a.now }
-{
-    [
-        pixel(-1, 0),
-        pixel(-2, 0),
-        pixel(-3, 0),
-        pixel(-4, 0),
-        a[0],
-        pixel(1, -1),
-        pixel(0, -1),
-        pixel(-1, -1),
-        pixel(-2, -1),
-        pixel(-3, -1),
-    ]
 }
 
 /// The pixels of the extended template 0.
@@ -139,6 +63,17 @@ fn row_context(template: Template) -> u32
     }
 }
 
+/// That context, with typical prediction.
+fn typical_context(template: Template, typical: bool) -> Option<u32>
+    ensures value { result ≡ (if typical then Some (row_context template) else None) }
+    ensures small { IfSome result (λ k. k < 2 ^ context_bits template) }
+{
+    if typical {
+        return Some(row_context(template));
+    }
+    None
+}
+
 /// The template's pixel at `place`, seen from column `x` of row `y`.
 #[inline(always)]
 fn pixel_near<A: Allocator, L: Ledger>(
@@ -175,6 +110,7 @@ pub fn context_at<A: Allocator, L: Ledger>(
     requires row { y < 65536 }
     ensures value { result ≡ context_at pixels.now bitmap.now x y }
     ensures small { result < 2 ^ length pixels.now }
+    ensures steps { steps.new ≡ record steps.old { loads = steps.old.loads + length pixels.now } }
 {
     let mut context = 0;
     let mut left = pixels.len();
@@ -247,16 +183,12 @@ impl PixelCoding for GenericCoding<'_> {
     }
 
     fn row_context(&self) -> Option<u32> {
-        if self.typical {
-            Some(row_context(self.template))
-        } else {
-            None
-        }
+        typical_context(self.template, self.typical)
     }
 }
 
-/// A region of the template with these pixels, bit 0 of a context first.
-fn decode_with<A: Allocator, L: Ledger>(
+/// A region of the template with these pixels, bit 0 of a context first, pixel by pixel.
+pub fn decode_with<A: Allocator, L: Ledger>(
     template: Template,
     typical: bool,
     pixels: &[AdaptiveTemplatePixel],
@@ -271,6 +203,7 @@ fn decode_with<A: Allocator, L: Ledger>(
     requires white { bitmap.old ≡ blank bitmap.old.width bitmap.old.height false }
     requires contexts { length contexts.old ≡ 2 ^ context_bits template }
     ensures holds { Holds bitmap.old.width bitmap.old.height decoder.old.bytes (decoded (coding_of typical template pixels.now) bitmap.old.width bitmap.old.height decoder.old.bytes (no_pixels decoder.old.registers contexts.old)) bitmap.new decoder.new contexts.new }
+    ensures empty { bitmap.old.width * bitmap.old.height ≡ 0 → steps.new ≡ steps.old }
 {
     let coding = GenericCoding {
         template,
@@ -278,6 +211,28 @@ fn decode_with<A: Allocator, L: Ledger>(
         pixels,
     };
     decode_region(&coding, bitmap, decoder, contexts, steps);
+}
+
+/// A region of a template that is not extended, by the kernels.
+fn decode_regular<A: Allocator, L: Ledger>(
+    template: Template,
+    typical: bool,
+    adaptive: &[AdaptiveTemplatePixel; 4],
+    bitmap: &mut Bitmap<A>,
+    decoder: &mut ArithmeticDecoder<'_>,
+    contexts: &mut [ArithmeticDecoderContext],
+    steps: &mut Steps<L>,
+)
+    requires columns { bitmap.old.width ≤ 65535 }
+    requires rows { bitmap.old.height ≤ 65535 }
+    requires white { bitmap.old ≡ blank bitmap.old.width bitmap.old.height false }
+    requires contexts { length contexts.old ≡ 2 ^ context_bits template }
+    ensures holds { Holds bitmap.old.width bitmap.old.height decoder.old.bytes (decoded (coding_of typical template (template_pixels template (Regular adaptive.now))) bitmap.old.width bitmap.old.height decoder.old.bytes (no_pixels decoder.old.registers contexts.old)) bitmap.new decoder.new contexts.new }
+    ensures steps { CountsRegion (template_pixels template (Regular adaptive.now)) (is_nominal template adaptive.now) (read_pixels template adaptive.now) (coding_of typical template (template_pixels template (Regular adaptive.now))) bitmap.old.width bitmap.old.height decoder.old.bytes (no_pixels decoder.old.registers contexts.old) steps.old steps.new }
+{
+    let layout = layout_of(template, adaptive);
+    let row_context = typical_context(template, typical);
+    decode_layout(&layout, row_context, bitmap, decoder, contexts, steps);
 }
 
 /// A region that the arithmetic coder wrote, into a white bitmap of its size.
@@ -296,6 +251,7 @@ pub fn decode_coded<A: Allocator, L: Ledger>(
     requires white { bitmap.old ≡ blank bitmap.old.width bitmap.old.height false }
     requires contexts { length contexts.old ≡ 2 ^ context_bits template }
     ensures holds { Holds bitmap.old.width bitmap.old.height decoder.old.bytes (decoded (coding_of typical template (template_pixels template adaptive.now)) bitmap.old.width bitmap.old.height decoder.old.bytes (no_pixels decoder.old.registers contexts.old)) bitmap.new decoder.new contexts.new }
+    ensures steps { CountsCoded template adaptive.now (coding_of typical template (template_pixels template adaptive.now)) bitmap.old.width bitmap.old.height decoder.old.bytes (no_pixels decoder.old.registers contexts.old) steps.old steps.new }
 {
     match adaptive {
         GenericTemplatePixels::Extended(a) => decode_with(
@@ -307,43 +263,8 @@ pub fn decode_coded<A: Allocator, L: Ledger>(
             contexts,
             steps,
         ),
-        GenericTemplatePixels::Regular(a) => match template {
-            Template::Template0 => decode_with(
-                template,
-                typical,
-                &template_0(a),
-                bitmap,
-                decoder,
-                contexts,
-                steps,
-            ),
-            Template::Template1 => decode_with(
-                template,
-                typical,
-                &template_1(a),
-                bitmap,
-                decoder,
-                contexts,
-                steps,
-            ),
-            Template::Template2 => decode_with(
-                template,
-                typical,
-                &template_2(a),
-                bitmap,
-                decoder,
-                contexts,
-                steps,
-            ),
-            Template::Template3 => decode_with(
-                template,
-                typical,
-                &template_3(a),
-                bitmap,
-                decoder,
-                contexts,
-                steps,
-            ),
-        },
+        GenericTemplatePixels::Regular(a) => {
+            decode_regular(template, typical, a, bitmap, decoder, contexts, steps)
+        }
     }
 }

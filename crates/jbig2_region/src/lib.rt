@@ -3,6 +3,7 @@
 
 pub mod generic;
 mod generic_coding;
+mod generic_kernel;
 pub mod generic_refinement;
 pub mod mmr;
 pub mod raster;

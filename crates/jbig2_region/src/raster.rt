@@ -3,7 +3,7 @@
 ghost use Rattle.std.specs.Prelude.{◌≡◌, ℕ, ◌+◌, ◌*◌, ◌^◌, ◌<◌, ◌≤◌, [], length, IfSome, false, Ok};
 ghost use Rattle.jbig2_base.specs.Answer.{Gives};
 ghost use Rattle.jbig2_base.specs.Grid.{Grid, blank, pixel, bit_number};
-ghost use Rattle.jbig2_region.specs.Raster.{Coding, Region, so_far, no_pixels, after_pixel, after_pixels, row_begun, decoded, fresh_contexts};
+ghost use Rattle.jbig2_region.specs.Raster.{Coding, Region, so_far, no_pixels, after_pixel, after_pixels, row_begun, row_decisions, decoded, fresh_contexts};
 ghost use Rattle.jbig2_region.specs.Holds.{Holds, BeginsRow};
 
 use jbig2_base::bitmap::Bitmap;
@@ -125,20 +125,21 @@ fn decode_row<C: PixelCoding, A: Allocator, L: Ledger>(
     }
 }
 
-/// With typical prediction, the decision that begins a row: whether the row is predicted, where the
-/// row above was if `predicted` says so.
-fn begin_row<C: PixelCoding, L: Ledger>(
-    coding: &C,
+/// The decision that begins a row, in the context of this number: whether the row is predicted, where
+/// the row above was if `predicted` says so. None where no decision begins a row.
+pub fn begin_row<L: Ledger>(
+    row_context: Option<u32>,
     predicted: bool,
     decoder: &mut ArithmeticDecoder<'_>,
     contexts: &mut [ArithmeticDecoderContext],
     steps: &mut Steps<L>,
 ) -> bool
-    requires contexts { length contexts.old ≡ 2 ^ C.bits coding.now }
-    ensures row { (w h : ℕ) (grid : Grid) (r : Region) → r.predicted ≡ predicted → Holds w h decoder.old.bytes r grid decoder.old contexts.old → BeginsRow w h (C.coding coding.now).row_context r result grid decoder.old decoder.new contexts.new }
+    requires context { IfSome row_context (λ k. k < length contexts.old) }
+    ensures row { (w h : ℕ) (grid : Grid) (r : Region) → r.predicted ≡ predicted → Holds w h decoder.old.bytes r grid decoder.old contexts.old → BeginsRow w h row_context r result grid decoder.old decoder.new contexts.new }
     ensures bytes { decoder.new.bytes ≡ decoder.old.bytes }
+    ensures steps { steps.new ≡ record steps.old { decisions = steps.old.decisions + row_decisions row_context } }
 {
-    let Some(context) = coding.row_context() else {
+    let Some(context) = row_context else {
         return predicted;
     };
     let turned = decoder.decode(&mut contexts[context as usize], steps) == 1;
@@ -161,13 +162,14 @@ pub fn decode_region<C: PixelCoding, A: Allocator, L: Ledger>(
     requires white { bitmap.old ≡ blank bitmap.old.width bitmap.old.height false }
     requires contexts { length contexts.old ≡ 2 ^ C.bits coding.now }
     ensures holds { Holds bitmap.old.width bitmap.old.height decoder.old.bytes (decoded (C.coding coding.now) bitmap.old.width bitmap.old.height decoder.old.bytes (no_pixels decoder.old.registers contexts.old)) bitmap.new decoder.new contexts.new }
+    ensures empty { bitmap.old.width * bitmap.old.height ≡ 0 → steps.new ≡ steps.old }
 {
     if bitmap.width() == 0 {
         return;
     }
     let mut predicted = false;
     for y in 0..bitmap.height() {
-        predicted = begin_row(coding, predicted, decoder, contexts, steps);
+        predicted = begin_row(coding.row_context(), predicted, decoder, contexts, steps);
         decode_row(coding, bitmap, y, predicted, decoder, contexts, steps);
     }
 }

@@ -4,7 +4,7 @@ use Rattle.jbig2_region.specs.Generic.{generic_region}
 use Rattle.jbig2_region.specs.Holds.{Holds}
 use Rattle.jbig2_region.specs.Raster.{fresh_contexts}
 use Rattle.jbig2_region.specs.Templates.{context_bits}
-use Rattle.jbig2_region.proofs.GenericLemmas.{region-decoded, answer-decoded, contexts-decoded, whole-slice, ok-inner}
+use Rattle.jbig2_region.proofs.GenericLemmas.{region-decoded, answer-decoded, contexts-decoded, counts-decoded, whole-slice, ok-inner}
 use Rattle.jbig2_region.proofs.generic.decode_into.Goals as goal
 
 pub returns-clause-value : goal.returns-clause-value
@@ -20,3 +20,8 @@ returns-clause-contexts g c =
     region-decoded (header_view c.args.header.now) c.args.bitmap.now c.decode_coded.new.bitmap c.new-decoder.result c.decode_coded.new.decoder c.deref_mut.result.now c.decode_coded.new.contexts c.requires.white c.new-decoder.ensures.bytes c.new-decoder.ensures.registers fresh c.decode_coded.ensures.holds in
     contexts-decoded (header_view c.args.header.now) c.args.contexts.now.items _ c.if-header.false
     (whole-slice c.fresh_contexts.new.contexts.len c.decode_coded.new.contexts (drop (length c.decode_coded.new.contexts) c.fresh_contexts.new.contexts.items) (c.decode_coded.auto.contexts ∙ c.deref_mut.ensures.len) ∙ holds.contexts)
+
+pub returns-clause-steps : goal.returns-clause-steps
+returns-clause-steps g c =
+    let fresh : c.deref_mut.result.now ≡ fresh_contexts (context_bits c.args.header.now.template) = c.deref_mut.ensures.value ∙ sym (ok-inner _ _ c.in_ok-fresh_contexts.ensures) ∙ ap (λ (n : ℕ). fresh_contexts n) c.context_bits.ensures in
+    counts-decoded (header_view c.args.header.now) c.args.bitmap.now c.new-decoder.result c.deref_mut.result.now c.args.steps.now c.decode_coded.new.steps c.requires.white c.new-decoder.ensures.bytes c.new-decoder.ensures.registers fresh c.decode_coded.ensures.steps

@@ -8,6 +8,7 @@ invariant-loop-y g l = record {
   width : l.bitmap.width ≡ l.initial.bitmap.width;
   height : l.bitmap.height ≡ l.initial.bitmap.height;
   bytes : l.decoder.bytes ≡ l.initial.decoder.bytes;
+  none : l.y ≡ 0 → l.steps ≡ l.initial.steps;
   holds : Holds l.initial.bitmap.width l.initial.bitmap.height l.initial.decoder.bytes (after_rows (g.C.PixelCoding.coding l.fn.coding) l.initial.bitmap.width l.initial.bitmap.height l.initial.decoder.bytes l.y (no_pixels l.initial.decoder.registers l.initial.contexts)) l.bitmap l.decoder l.contexts;
   predicted : (after_rows (g.C.PixelCoding.coding l.fn.coding) l.initial.bitmap.width l.initial.bitmap.height l.initial.decoder.bytes l.y (no_pixels l.initial.decoder.registers l.initial.contexts)).predicted ≡ l.predicted;
 }

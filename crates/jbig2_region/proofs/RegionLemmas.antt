@@ -1,0 +1,124 @@
+-- Regions row by row, with their counts.
+use Rattle.std.proofs.Common.{subst, ◌≡◌, ℕ, zero, suc, ◌+◌, ◌-◌, ◌*◌, ◌/◌, ◌<◌, ◌≤◌, Bool, true, false, cond, add-one, List, length, Option, Some, None, refl, sym, ap, ◌∙◌, arith}
+use Rattle.jbig2_base.specs.Counts.{Counts}
+use Rattle.jbig2_base.specs.Grid.{Grid}
+use Rattle.jbig2_coder.specs.Coder.{Coder, Context}
+use Rattle.jbig2_region.specs.Generic.{context_at, colour_above}
+use Rattle.jbig2_region.specs.Holds.{Holds, BeginsRow}
+use Rattle.jbig2_region.specs.Neighbours.{Decodes, row_coding}
+use Rattle.jbig2_region.specs.Raster.{Coding, Region, after_pixel, after_pixels, row_begun, row_decisions, after_rows}
+use Rattle.jbig2_region.specs.RunBytes.{CountsRegion, CountsRow, coded_rows, coded_runs, row_loads, row_tests, run_bytes}
+use Rattle.jbig2_region.specs.declared.template.AdaptiveTemplatePixel.{AdaptiveTemplatePixel}
+use Rattle.jbig2_region.proofs.RasterLemmas.{after_rows-length, region-step, no-rows}
+
+abbrev pub coding_with : List AdaptiveTemplatePixel → Option ℕ → Coding
+coding_with template row_context = record { context = context_at template; known = colour_above; row_context = row_context }
+
+-- the decision that begins rows has no part in their pixels
+pub after_pixels-coding : (template : List AdaptiveTemplatePixel) (row_context : Option ℕ) (w h : ℕ) (input : List ℕ) (n : ℕ) (r : Region) → after_pixels (coding_with template row_context) w h input n r ≡ after_pixels (row_coding template) w h input n r
+unfolding after_pixels after_pixel
+after_pixels-coding template row_context w h input zero r = refl
+after_pixels-coding template row_context w h input (suc n) r = ap (λ (q : Region). after_pixel (row_coding template) w h input q) (after_pixels-coding template row_context w h input n r)
+
+-- ---- a row more
+record Begun (w h : ℕ) (input : List ℕ) (begun : Region) (y : ℕ) (q : Bool) (g : Grid) (c : Coder) (s : List Context) : Type 0 where
+  pub size : length begun.pixels ≡ y * w
+  pub predicted : begun.predicted ≡ q
+  pub holds : Holds w h input begun g c s
+
+begin-region : (coding : Coding) (y : ℕ) (p q : Bool) (g1 : Grid) (c1 : Coder) (s1 : List Context) (c2 : Coder) (s2 : List Context) (start : Region) (w h : ℕ) (input : List ℕ)
+    → c1.bytes ≡ input → length start.pixels ≡ 0 → ((w h : ℕ) (g : Grid) (r : Region) → r.predicted ≡ p → Holds w h c1.bytes r g c1 s1 → BeginsRow w h coding.row_context r q g c1 c2 s2)
+    → Holds w h input (after_rows coding w h input y start) g1 c1 s1 → (after_rows coding w h input y start).predicted ≡ p
+    → Begun w h input (row_begun coding.row_context input (after_rows coding w h input y start)) y q g1 c2 s2
+begin-region coding y p q g1 c1 s1 c2 s2 start w h input same none begin holds predicted =
+    let made : Region = after_rows coding w h input y start in
+    let row : BeginsRow w h coding.row_context made q g1 c1 c2 s2 = begin w h g1 made predicted (subst (λ (v : List ℕ). Holds w h v made g1 c1 s1) (sym same) holds) in
+    record {
+      size = after_rows-length coding w h input y start none;
+      predicted = subst (λ (v : List ℕ). (row_begun coding.row_context v made).predicted ≡ q) same row.predicted;
+      holds = subst (λ (v : List ℕ). Holds w h v (row_begun coding.row_context v made) g1 c2 s2) same row.holds;
+    }
+
+-- what the code holds after y rows
+pub record Counted (template : List AdaptiveTemplatePixel) (nominal : Bool) (coding : Coding) (w h : ℕ) (input : List ℕ) (y : ℕ) (start : Region) (before after : ℕ) : Type 0 where
+  pub total : after + 8 * coded_runs template nominal coding w h input y start ≡ before + (y * row_decisions coding.row_context + w * coded_rows coding w h input y start)
+
+pub counted-none : (template : List AdaptiveTemplatePixel) (nominal : Bool) (coding : Coding) (w h : ℕ) (input : List ℕ) (start : Region) (count : ℕ) → Counted template nominal coding w h input 0 start count count
+unfolding coded_runs coded_rows
+counted-none template nominal coding w h input start count = record { total = omega arith }
+
+-- one coded row more, or none
+pub coded-next : (coding : Coding) (w h : ℕ) (input : List ℕ) (y : ℕ) (start : Region) (q : Bool) → (row_begun coding.row_context input (after_rows coding w h input y start)).predicted ≡ q → coded_rows coding w h input (y + 1) start ≡ coded_rows coding w h input y start + cond q 0 1
+unfolding coded_rows
+coded-next coding w h input y start q is = rw (add-one, is) refl
+
+runs-next : (template : List AdaptiveTemplatePixel) (nominal : Bool) (coding : Coding) (w h : ℕ) (input : List ℕ) (y : ℕ) (start : Region) (q : Bool) → (row_begun coding.row_context input (after_rows coding w h input y start)).predicted ≡ q
+    → coded_runs template nominal coding w h input (y + 1) start ≡ coded_runs template nominal coding w h input y start + cond q 0 (cond nominal (run_bytes template w h input w (row_begun coding.row_context input (after_rows coding w h input y start))) 0)
+unfolding coded_runs
+runs-next template nominal coding w h input y start q is = rw (add-one, is) refl
+
+more-total : (q : Bool) (d0 d1 d2 d3 rd runs coded w row y : ℕ) → d1 + 8 * runs ≡ d0 + (y * rd + w * coded) → d2 ≡ d1 + rd → d3 + 8 * cond q 0 row ≡ d2 + cond q 0 w → d3 + 8 * (runs + cond q 0 row) ≡ d0 + ((y + 1) * rd + w * (coded + cond q 0 1))
+more-total true d0 d1 d2 d3 rd runs coded w row y one two three = omega arith
+more-total false d0 d1 d2 d3 rd runs coded w row y one two three = omega arith
+
+pub counted-next : (template : List AdaptiveTemplatePixel) (nominal : Bool) (coding : Coding) (y : ℕ) (p q : Bool) (g1 : Grid) (c1 : Coder) (s1 : List Context) (c2 : Coder) (s2 : List Context) (start : Region) (w h : ℕ) (input : List ℕ) (d0 d1 d2 d3 : ℕ)
+    → c1.bytes ≡ input → length start.pixels ≡ 0 → ((w h : ℕ) (g : Grid) (r : Region) → r.predicted ≡ p → Holds w h c1.bytes r g c1 s1 → BeginsRow w h coding.row_context r q g c1 c2 s2)
+    → Holds w h input (after_rows coding w h input y start) g1 c1 s1 → (after_rows coding w h input y start).predicted ≡ p
+    → Counted template nominal coding w h input y start d0 d1 → d2 ≡ d1 + row_decisions coding.row_context → CountsRow template nominal q y g1 c2 s2 d2 d3
+    → Counted template nominal coding w h input (y + 1) start d0 d3
+counted-next template nominal coding y p q g1 c1 s1 c2 s2 start w h input d0 d1 d2 d3 same none begin holds predicted counted more row =
+    let begun : Region = row_begun coding.row_context input (after_rows coding w h input y start) in
+    let at = begin-region coding y p q g1 c1 s1 c2 s2 start w h input same none begin holds predicted in
+    record {
+      total =
+          rw (coded-next coding w h input y start q at.predicted, runs-next template nominal coding w h input y start q at.predicted)
+          (more-total q d0 d1 d2 d3 (row_decisions coding.row_context) (coded_runs template nominal coding w h input y start) (coded_rows coding w h input y start) w (cond nominal (run_bytes template w h input w begun) 0) y counted.total more (row w h input begun at.size at.predicted at.holds));
+    }
+
+pub predicted-next : (coding : Coding) (y : ℕ) (p q : Bool) (g1 : Grid) (c1 : Coder) (s1 : List Context) (c2 : Coder) (s2 : List Context) (start : Region) (w h : ℕ) (input : List ℕ)
+    → c1.bytes ≡ input → length start.pixels ≡ 0 → ((w h : ℕ) (g : Grid) (r : Region) → r.predicted ≡ p → Holds w h c1.bytes r g c1 s1 → BeginsRow w h coding.row_context r q g c1 c2 s2)
+    → Holds w h input (after_rows coding w h input y start) g1 c1 s1 → (after_rows coding w h input y start).predicted ≡ p
+    → coded_rows coding w h input (y + 1) start ≡ coded_rows coding w h input y start + cond q 0 1
+predicted-next coding y p q g1 c1 s1 c2 s2 start w h input same none begin holds predicted =
+    coded-next coding w h input y start q (begin-region coding y p q g1 c1 s1 c2 s2 start w h input same none begin holds predicted).predicted
+
+-- loads of a row more
+pub loads-next : (q : Bool) (l0 l1 l2 row w coded a y : ℕ) → l1 ≤ l0 + (y * row + w * coded * a) → l2 ≤ l1 + (row + w * cond q 0 a) → l2 ≤ l0 + ((y + 1) * row + w * (coded + cond q 0 1) * a)
+loads-next true l0 l1 l2 row w coded a y one two = omega arith
+loads-next false l0 l1 l2 row w coded a y one two = omega arith
+
+pub layout-step : (template : List AdaptiveTemplatePixel) (row_context : Option ℕ) (y : ℕ) (p q : Bool) (g1 : Grid) (c1 : Coder) (s1 : List Context) (c2 : Coder) (s2 : List Context) (g3 : Grid) (c3 : Coder) (s3 : List Context) (start : Region) (w h : ℕ) (input : List ℕ)
+    → c1.bytes ≡ input → c2.bytes ≡ c1.bytes → length start.pixels ≡ 0
+    → ((w h : ℕ) (g : Grid) (r : Region) → r.predicted ≡ p → Holds w h c1.bytes r g c1 s1 → BeginsRow w h row_context r q g c1 c2 s2)
+    → Decodes template q 0 y w g1 c2 s2 g3 c3 s3
+    → Holds w h input (after_rows (coding_with template row_context) w h input y start) g1 c1 s1 → (after_rows (coding_with template row_context) w h input y start).predicted ≡ p
+    → Holds w h input (after_rows (coding_with template row_context) w h input (y + 1) start) g3 c3 s3 × ((after_rows (coding_with template row_context) w h input (y + 1) start).predicted ≡ q)
+layout-step template row_context y p q g1 c1 s1 c2 s2 g3 c3 s3 start w h input same after none begin decodes holds predicted =
+    region-step (coding_with template row_context) y p q g1 c1 s1 c2 s2 g3 c3 s3 start w h input w h refl refl same after none begin
+    (λ r len is held. subst (λ (n : Region). Holds w h c2.bytes n g3 c3 s3) (sym (after_pixels-coding template row_context w h c2.bytes w r)) (decodes w h c2.bytes r (len ∙ plus (y * w)) is held))
+    holds predicted
+  where
+    plus : (n : ℕ) → n ≡ n + 0
+    plus n = omega arith
+
+pub tests-next : (t0 t1 t2 row y : ℕ) → t1 ≤ t0 + y * row → t2 ≤ t1 + row → t2 ≤ t0 + (y + 1) * row
+tests-next t0 t1 t2 row y one two = omega arith
+
+-- ---- whole regions
+pub empty-counts : (template : List AdaptiveTemplatePixel) (nominal : Bool) (adaptive : ℕ) (coding : Coding) (w h : ℕ) (input : List ℕ) (start : Region) (steps : Counts) → w ≡ 0 → CountsRegion template nominal adaptive coding w h input start steps steps
+empty-counts template nominal adaptive coding w h input start steps none = record {
+  empty = λ _. refl;
+  decisions = λ some. absurd (omega arith);
+  run_tests = omega arith;
+  loads = omega arith;
+}
+
+pub region-counts : (template : List AdaptiveTemplatePixel) (nominal : Bool) (adaptive : ℕ) (coding : Coding) (w h y : ℕ) (input : List ℕ) (start : Region) (before after : Counts) → (w ≡ 0 → ⊥) → y ≡ h → (y ≡ 0 → after ≡ before)
+    → Counted template nominal coding w h input y start before.decisions after.decisions → after.run_tests ≤ before.run_tests + y * row_tests nominal w → after.loads ≤ before.loads + (y * row_loads nominal w + w * coded_rows coding w h input y start * adaptive)
+    → CountsRegion template nominal adaptive coding w h input start before after
+region-counts template nominal adaptive coding w h y input start before after some all none counted tests loads = record {
+  empty = λ product. none (no-rows w h y some all product);
+  decisions = λ _. subst (λ (n : ℕ). after.decisions + 8 * coded_runs template nominal coding w h input n start ≡ before.decisions + (n * row_decisions coding.row_context + w * coded_rows coding w h input n start)) all counted.total;
+  run_tests = subst (λ (n : ℕ). after.run_tests ≤ before.run_tests + n * row_tests nominal w) all tests;
+  loads = subst (λ (n : ℕ). after.loads ≤ before.loads + (n * row_loads nominal w + w * coded_rows coding w h input n start * adaptive)) all loads;
+}

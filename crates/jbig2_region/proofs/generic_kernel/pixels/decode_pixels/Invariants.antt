@@ -1,0 +1,18 @@
+use Rattle.std.proofs.Common.{◌≡◌, ◌+◌, ◌*◌, ◌<◌, false}
+use Rattle.jbig2_region.specs.Neighbours.{Decodes, IsLeft, adaptive_count, mixed_pixels}
+use Rattle.jbig2_region.proofs.WindowLemmas.{SameAbove}
+use Rattle.jbig2_region.proofs.generic_kernel.pixels.decode_pixels.Given as goal
+
+abbrev pub invariant-loop-offset : goal.invariant-loop-offset
+invariant-loop-offset g l = record {
+  width : l.bitmap.width ≡ l.initial.bitmap.width;
+  height : l.bitmap.height ≡ l.initial.bitmap.height;
+  bytes : l.decoder.bytes ≡ l.initial.decoder.bytes;
+  few : l.left < 16;
+  above : SameAbove l.initial.bitmap l.bitmap l.fn.y;
+  left : IsLeft l.bitmap (l.fn.x + l.offset) l.fn.y l.left;
+  holds : Decodes (mixed_pixels l.fn.neighbours l.fn.adaptive) false l.fn.x l.fn.y l.offset l.initial.bitmap l.initial.decoder l.initial.contexts l.bitmap l.decoder l.contexts;
+  decisions : l.steps.decisions ≡ l.initial.steps.decisions + l.offset;
+  run_tests : l.steps.run_tests ≡ l.initial.steps.run_tests;
+  loads : l.steps.loads ≡ l.initial.steps.loads + l.offset * adaptive_count l.fn.adaptive;
+}

@@ -1,0 +1,138 @@
+//! The kernels of generic regions (T.88, 6.2.5): loops that take their contexts from windows on the
+//! rows above, and by whole bytes where the adaptive pixels are nominal.
+ghost use Rattle.std.specs.Prelude.{◌≡◌, ℕ, ◌+◌, ◌-◌, ◌*◌, ◌/◌, ◌^◌, ◌<◌, ◌≤◌, false, true, length, pos, negsuc, ◌+ℤ◌, List, IfSome, if◌then◌else◌};
+ghost use Rattle.jbig2_base.specs.Grid.{blank, pixel};
+ghost use Rattle.jbig2_base.specs.WordBits.{bit};
+ghost use Rattle.jbig2_coder.specs.Coder.{Coder, Context};
+ghost use Rattle.jbig2_region.specs.Holds.{Holds};
+ghost use Rattle.jbig2_region.specs.Neighbours.{Decodes, IsLayout, is_nominal_layout, layout_coding, layout_count, layout_loads, layout_pixels};
+ghost use Rattle.jbig2_region.specs.Raster.{decoded, no_pixels};
+ghost use Rattle.jbig2_region.specs.RunBytes.{CountsRegion, CountsRow, row_loads, row_tests};
+ghost use Rattle.jbig2_region.specs.declared.template.AdaptiveTemplatePixel.{AdaptiveTemplatePixel};
+
+mod bytes;
+pub mod layouts;
+pub mod neighbours;
+mod pixels;
+#[cfg(test)]
+mod tests;
+mod windows;
+
+use crate::generic_kernel::bytes::decode_row_by_bytes;
+use crate::generic_kernel::neighbours::Layout;
+use crate::generic_kernel::pixels::decode_row_by_pixels;
+use crate::raster::begin_row;
+use jbig2_base::bitmap::Bitmap;
+use jbig2_base::bitmap::steps::Steps;
+use jbig2_coder::arithmetic_decoder::{ArithmeticDecoder, ArithmeticDecoderContext};
+use std::alloc::Allocator;
+use std::sync::ledger::Ledger;
+
+/// `count` neighbouring pixels of the row above row `y`, from column `x` on; 0 above row 0.
+#[inline(always)]
+fn pixels_above<A: Allocator, L: Ledger>(
+    bitmap: &Bitmap<A>,
+    x: u32,
+    y: u32,
+    count: u32,
+    steps: &mut Steps<L>,
+) -> u64
+    requires some { 1 ≤ count }
+    requires few { count ≤ 64 }
+    ensures bits { (k : ℕ) → k < count → bit result (count - 1 - k) ≡ pixel bitmap.now (pos (x + k)) (pos y +ℤ negsuc 0) }
+    ensures bound { result < 2 ^ count }
+    ensures steps { steps.new ≡ record steps.old { loads = steps.old.loads + 1 } }
+{
+    if y == 0 {
+        steps.load();
+        return 0;
+    }
+    bitmap.load_pixels(x, y - 1, count, steps)
+}
+
+/// Makes row `y` the same as the row above it.
+fn copy_row<A: Allocator, L: Ledger>(bitmap: &mut Bitmap<A>, y: u32, steps: &mut Steps<L>)
+    requires row { y < bitmap.old.height }
+    ensures holds { (template : List AdaptiveTemplatePixel) (coder : Coder) (states : List Context) → Decodes template true 0 y bitmap.old.width bitmap.old coder states bitmap.new coder states }
+    ensures width { bitmap.new.width ≡ bitmap.old.width }
+    ensures height { bitmap.new.height ≡ bitmap.old.height }
+    ensures loads { steps.new.loads ≡ steps.old.loads + (bitmap.old.width + 63) / 64 }
+    ensures words { steps.new.words ≡ steps.old.words + (bitmap.old.width + 63) / 64 }
+    ensures decisions { steps.new.decisions ≡ steps.old.decisions }
+    ensures run_tests { steps.new.run_tests ≡ steps.old.run_tests }
+{
+    let width = bitmap.width();
+    for index in 0..width.div_ceil(64) {
+        let x = index * 64;
+        let count = (width - x).min(64);
+        let bits = pixels_above(bitmap, x, y, count, steps);
+        bitmap.store_pixels(x, y, count, bits, steps);
+    }
+}
+
+/// Row `y`, whose rows above are decoded: the same as the row above if `predicted` says so.
+#[inline(always)]
+fn decode_row<A: Allocator, L: Ledger>(
+    layout: &Layout<'_>,
+    bitmap: &mut Bitmap<A>,
+    y: u32,
+    predicted: bool,
+    decoder: &mut ArithmeticDecoder<'_>,
+    contexts: &mut [ArithmeticDecoderContext],
+    steps: &mut Steps<L>,
+)
+    requires fits { IsLayout layout.now.neighbours layout.now.adaptive }
+    requires contexts { length contexts.old ≡ 2 ^ layout_count layout.now.neighbours layout.now.adaptive }
+    requires some { 1 ≤ bitmap.old.width }
+    requires row { y < bitmap.old.height }
+    requires columns { bitmap.old.width ≤ 65535 }
+    requires rows { bitmap.old.height ≤ 65535 }
+    ensures holds { Decodes (layout_pixels layout.now) predicted 0 y bitmap.old.width bitmap.old decoder.old contexts.old bitmap.new decoder.new contexts.new }
+    ensures width { bitmap.new.width ≡ bitmap.old.width }
+    ensures height { bitmap.new.height ≡ bitmap.old.height }
+    ensures bytes { decoder.new.bytes ≡ decoder.old.bytes }
+    ensures contexts { length contexts.new ≡ length contexts.old }
+    ensures decisions { CountsRow (layout_pixels layout.now) (is_nominal_layout layout.now.adaptive) predicted y bitmap.old decoder.old contexts.old steps.old.decisions steps.new.decisions }
+    ensures run_tests { steps.new.run_tests ≤ steps.old.run_tests + row_tests (is_nominal_layout layout.now.adaptive) bitmap.old.width }
+    ensures loads { steps.new.loads ≤ steps.old.loads + (row_loads (is_nominal_layout layout.now.adaptive) bitmap.old.width + bitmap.old.width * (if predicted then 0 else layout_loads layout.now.adaptive)) }
+{
+    if predicted {
+        copy_row(bitmap, y, steps);
+        return;
+    }
+    let neighbours = layout.neighbours;
+    let Some(adaptive) = &layout.adaptive else {
+        decode_row_by_bytes(neighbours, bitmap, y, decoder, contexts, steps);
+        return;
+    };
+    decode_row_by_pixels(neighbours, adaptive, bitmap, y, decoder, contexts, steps);
+}
+
+/// A whole region, into a white bitmap of its size. With typical prediction `row_context` is the
+/// context of the decision that begins a row.
+pub fn decode_layout<A: Allocator, L: Ledger>(
+    layout: &Layout<'_>,
+    row_context: Option<u32>,
+    bitmap: &mut Bitmap<A>,
+    decoder: &mut ArithmeticDecoder<'_>,
+    contexts: &mut [ArithmeticDecoderContext],
+    steps: &mut Steps<L>,
+)
+    requires fits { IsLayout layout.now.neighbours layout.now.adaptive }
+    requires contexts { length contexts.old ≡ 2 ^ layout_count layout.now.neighbours layout.now.adaptive }
+    requires context { IfSome row_context (λ k. k < length contexts.old) }
+    requires columns { bitmap.old.width ≤ 65535 }
+    requires rows { bitmap.old.height ≤ 65535 }
+    requires white { bitmap.old ≡ blank bitmap.old.width bitmap.old.height false }
+    ensures holds { Holds bitmap.old.width bitmap.old.height decoder.old.bytes (decoded (layout_coding layout.now row_context) bitmap.old.width bitmap.old.height decoder.old.bytes (no_pixels decoder.old.registers contexts.old)) bitmap.new decoder.new contexts.new }
+    ensures steps { CountsRegion (layout_pixels layout.now) (is_nominal_layout layout.now.adaptive) (layout_loads layout.now.adaptive) (layout_coding layout.now row_context) bitmap.old.width bitmap.old.height decoder.old.bytes (no_pixels decoder.old.registers contexts.old) steps.old steps.new }
+{
+    if bitmap.width() == 0 {
+        return;
+    }
+    let mut predicted = false;
+    for y in 0..bitmap.height() {
+        predicted = begin_row(row_context, predicted, decoder, contexts, steps);
+        decode_row(layout, bitmap, y, predicted, decoder, contexts, steps);
+    }
+}

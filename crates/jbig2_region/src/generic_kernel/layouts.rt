@@ -1,0 +1,133 @@
+//! The templates of generic regions (T.88, 6.2.5.3) by their neighbours.
+ghost use Rattle.std.specs.Prelude.{◌≡◌, [], ◌∷◌};
+ghost use Rattle.jbig2_region.specs.Layouts.{FitsAdaptives, fixed_neighbours, is_nominal, lies_at, neighbours_of, nominal_neighbours, read_pixels};
+ghost use Rattle.jbig2_region.specs.Neighbours.{IsLayout, is_nominal_layout, layout_count, layout_loads, layout_pixels};
+ghost use Rattle.jbig2_region.specs.Templates.{adaptive, context_bits, template_pixels};
+ghost use Rattle.jbig2_region.specs.declared.template.GenericTemplatePixels.TheVariants.{Regular};
+
+use crate::generic_kernel::neighbours::{Adaptives, Layout, Neighbours, Stretch};
+use crate::template::{AdaptiveTemplatePixel, Template};
+
+fn neighbours_of(
+    left: u32,
+    above_reach: u32,
+    above_count: u32,
+    top_reach: u32,
+    top_count: u32,
+) -> Neighbours
+    ensures { result ≡ neighbours_of left above_reach above_count top_reach top_count }
+{
+    Neighbours {
+        left,
+        above: Stretch {
+            reach: above_reach,
+            count: above_count,
+        },
+        top: Stretch {
+            reach: top_reach,
+            count: top_count,
+        },
+    }
+}
+
+/// The pixels side by side of a template whose adaptive pixels are nominal.
+fn nominal_neighbours(template: Template) -> Neighbours
+    ensures { result ≡ nominal_neighbours template }
+{
+    match template {
+        Template::Template0 => neighbours_of(4, 3, 7, 2, 5),
+        Template::Template1 => neighbours_of(3, 3, 6, 2, 4),
+        Template::Template2 => neighbours_of(2, 2, 5, 1, 3),
+        Template::Template3 => neighbours_of(4, 2, 6, 0, 0),
+    }
+}
+
+/// The pixels side by side of a template, its adaptive pixels left out.
+fn fixed_neighbours(template: Template) -> Neighbours
+    ensures { result ≡ fixed_neighbours template }
+{
+    match template {
+        Template::Template0 => neighbours_of(4, 2, 5, 1, 3),
+        Template::Template1 => neighbours_of(3, 2, 5, 2, 4),
+        Template::Template2 => neighbours_of(2, 1, 4, 1, 3),
+        Template::Template3 => neighbours_of(4, 1, 5, 0, 0),
+    }
+}
+
+fn lies_at(pixel: AdaptiveTemplatePixel, x: i16, y: i16) -> bool
+    ensures { result ≡ lies_at pixel x y }
+{
+    pixel.x == x && pixel.y == y
+}
+
+/// Whether the adaptive pixels lie where the standard has them by default (Figures 3 to 6).
+fn is_nominal(template: Template, a: &[AdaptiveTemplatePixel; 4]) -> bool
+    ensures { result ≡ is_nominal template a.now }
+{
+    match template {
+        Template::Template0 => {
+            lies_at(a[0], 3, -1)
+                && (lies_at(a[1], -3, -1) && (lies_at(a[2], 2, -2) && lies_at(a[3], -2, -2)))
+        }
+        Template::Template1 => lies_at(a[0], 3, -1),
+        Template::Template2 => lies_at(a[0], 2, -1),
+        Template::Template3 => lies_at(a[0], 2, -1),
+    }
+}
+
+/// The adaptive pixels of template 0 by the neighbours between which they stand.
+fn four_adaptives(a: &[AdaptiveTemplatePixel; 4]) -> Adaptives<'_>
+    ensures first { result.first.now ≡ adaptive a.now 0 ∷ [] }
+    ensures middle { result.middle.now ≡ adaptive a.now 1 ∷ adaptive a.now 2 ∷ [] }
+    ensures last { result.last.now ≡ adaptive a.now 3 ∷ [] }
+{
+    Adaptives {
+        first: &a[..1],
+        middle: &a[1..3],
+        last: &a[3..],
+    }
+}
+
+/// The adaptive pixel of the other templates.
+fn one_adaptive(a: &[AdaptiveTemplatePixel; 4]) -> Adaptives<'_>
+    ensures first { result.first.now ≡ adaptive a.now 0 ∷ [] }
+    ensures middle { result.middle.now ≡ [] }
+    ensures last { result.last.now ≡ [] }
+{
+    Adaptives {
+        first: &a[..1],
+        middle: &[],
+        last: &[],
+    }
+}
+
+fn adaptives(template: Template, a: &[AdaptiveTemplatePixel; 4]) -> Adaptives<'_>
+    ensures { FitsAdaptives template a.now result }
+{
+    match template {
+        Template::Template0 => four_adaptives(a),
+        Template::Template1 => one_adaptive(a),
+        Template::Template2 => one_adaptive(a),
+        Template::Template3 => one_adaptive(a),
+    }
+}
+
+/// The template with these adaptive pixels.
+pub fn layout_of(template: Template, a: &[AdaptiveTemplatePixel; 4]) -> Layout<'_>
+    ensures pixels { layout_pixels result ≡ template_pixels template (Regular a.now) }
+    ensures fits { IsLayout result.neighbours result.adaptive }
+    ensures count { layout_count result.neighbours result.adaptive ≡ context_bits template }
+    ensures nominal { is_nominal_layout result.adaptive ≡ is_nominal template a.now }
+    ensures loads { layout_loads result.adaptive ≡ read_pixels template a.now }
+{
+    if is_nominal(template, a) {
+        return Layout {
+            neighbours: nominal_neighbours(template),
+            adaptive: None,
+        };
+    }
+    Layout {
+        neighbours: fixed_neighbours(template),
+        adaptive: Some(adaptives(template, a)),
+    }
+}

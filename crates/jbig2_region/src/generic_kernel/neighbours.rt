@@ -1,0 +1,49 @@
+//! The pixels of a template that lie side by side, and their parts of a context.
+ghost use Rattle.std.specs.Prelude.{◌≡◌, ℕ, ◌+◌, ◌-◌, ◌*◌, ◌/◌, ◌%◌, ◌^◌, ◌<◌, ◌≤◌};
+
+use crate::template::AdaptiveTemplatePixel;
+
+/// `count` pixels of a row above, the rightmost of them `reach` columns right of the pixel that is
+/// decoded.
+#[derive(Clone, Copy)]
+pub struct Stretch {
+    pub reach: u32,
+    pub count: u32,
+}
+
+/// Pixels side by side: `left` of them left of the pixel that is decoded, and a stretch in each of
+/// the two rows above.
+#[derive(Clone, Copy)]
+pub struct Neighbours {
+    pub left: u32,
+    pub above: Stretch,
+    pub top: Stretch,
+}
+
+/// The adaptive pixels, by the neighbours between which their bits stand: after those at the left,
+/// after those above, and last.
+#[derive(Clone, Copy, Drop)]
+pub struct Adaptives<'a> {
+    pub first: &'a [AdaptiveTemplatePixel],
+    pub middle: &'a [AdaptiveTemplatePixel],
+    pub last: &'a [AdaptiveTemplatePixel],
+}
+
+/// A template: neighbours, and adaptive pixels unless these are nominal, and so neighbours too.
+#[derive(Clone, Copy, Drop)]
+pub struct Layout<'a> {
+    pub neighbours: Neighbours,
+    pub adaptive: Option<Adaptives<'a>>,
+}
+
+/// The number with `low` in its lowest `count` bits and `high` above them.
+#[inline(always)]
+pub fn joined(low: u32, high: u32, count: u32) -> u32
+    requires few { count ≤ 16 }
+    requires low { low < 2 ^ count }
+    requires high { high < 2 ^ 16 }
+    ensures value { result ≡ low + high * 2 ^ count }
+    ensures bound { (m : ℕ) → high < 2 ^ m → result < 2 ^ (m + count) }
+{
+    low + high * (1 << count)
+}

@@ -1,0 +1,133 @@
+//! Rows of a template with adaptive pixels, which are read one by one.
+ghost use Rattle.std.specs.Prelude.{◌≡◌, ℕ, ◌+◌, ◌-◌, ◌*◌, ◌/◌, ◌%◌, ◌^◌, ◌<◌, ◌≤◌, false, length};
+ghost use Rattle.jbig2_region.specs.Generic.{context_at};
+ghost use Rattle.jbig2_region.specs.Neighbours.{Decodes, IsLeft, IsMixed, Shows, adaptive_count, mixed_count, mixed_pixels};
+
+use crate::generic_coding::context_at;
+use crate::generic_kernel::neighbours::{Adaptives, Neighbours, joined};
+use crate::generic_kernel::windows::{Windows, stretch_bits, windows_at};
+use jbig2_base::bitmap::Bitmap;
+use jbig2_base::bitmap::steps::Steps;
+use jbig2_coder::arithmetic_decoder::{ArithmeticDecoder, ArithmeticDecoderContext};
+use std::alloc::Allocator;
+use std::sync::ledger::Ledger;
+
+/// The number of the context at column `x + offset` of row `y`, where the windows lie about column
+/// `x` and `left` are the pixels at the left, the nearest in bit 0.
+#[inline(always)]
+fn mixed_context<A: Allocator, L: Ledger>(
+    neighbours: Neighbours,
+    adaptive: &Adaptives<'_>,
+    left: u32,
+    windows: Windows,
+    offset: u32,
+    bitmap: &Bitmap<A>,
+    x: u32,
+    y: u32,
+    steps: &mut Steps<L>,
+) -> u32
+    requires mixed { IsMixed neighbours adaptive.now }
+    requires offset { offset < 32 }
+    requires column { x + offset < 65536 }
+    requires row { y < 65536 }
+    requires shows { Shows bitmap.now x y windows }
+    requires left { IsLeft bitmap.now (x + offset) y left }
+    ensures value { result ≡ context_at (mixed_pixels neighbours adaptive.now) bitmap.now (x + offset) y }
+    ensures bound { result < 2 ^ mixed_count neighbours adaptive.now }
+    ensures steps { steps.new ≡ record steps.old { loads = steps.old.loads + adaptive_count adaptive.now } }
+{
+    let first = context_at(adaptive.first, bitmap, x + offset, y, steps);
+    let middle = context_at(adaptive.middle, bitmap, x + offset, y, steps);
+    let last = context_at(adaptive.last, bitmap, x + offset, y, steps);
+    let above = stretch_bits(neighbours.above, windows.above, offset);
+    let top = stretch_bits(neighbours.top, windows.top, offset);
+    let after_middle = joined(top, last, neighbours.top.count);
+    let after_above = joined(middle, after_middle, adaptive.middle.len() as u32);
+    let after_first = joined(above, after_above, neighbours.above.count);
+    let after_left = joined(first, after_first, adaptive.first.len() as u32);
+    joined(left % (1 << neighbours.left), after_left, neighbours.left)
+}
+
+/// The `count` pixels from column `x` of row `y` on, at most 32. Answers the four pixels left of the
+/// next column.
+#[inline(always)]
+fn decode_pixels<A: Allocator, L: Ledger>(
+    neighbours: Neighbours,
+    adaptive: &Adaptives<'_>,
+    bitmap: &mut Bitmap<A>,
+    x: u32,
+    y: u32,
+    count: u32,
+    left: u32,
+    decoder: &mut ArithmeticDecoder<'_>,
+    contexts: &mut [ArithmeticDecoderContext],
+    steps: &mut Steps<L>,
+) -> u32
+    requires mixed { IsMixed neighbours adaptive.now }
+    requires contexts { length contexts.old ≡ 2 ^ mixed_count neighbours adaptive.now }
+    requires few { count ≤ 32 }
+    requires aligned { x % 8 ≡ 0 }
+    requires columns { x + count ≤ bitmap.old.width }
+    requires row { y < bitmap.old.height }
+    requires widths { bitmap.old.width ≤ 65535 }
+    requires heights { bitmap.old.height ≤ 65535 }
+    requires left { IsLeft bitmap.old x y left }
+    requires small { left < 16 }
+    ensures holds { Decodes (mixed_pixels neighbours adaptive.now) false x y count bitmap.old decoder.old contexts.old bitmap.new decoder.new contexts.new }
+    ensures left { IsLeft bitmap.new (x + count) y result }
+    ensures small { result < 16 }
+    ensures width { bitmap.new.width ≡ bitmap.old.width }
+    ensures height { bitmap.new.height ≡ bitmap.old.height }
+    ensures bytes { decoder.new.bytes ≡ decoder.old.bytes }
+    ensures contexts { length contexts.new ≡ length contexts.old }
+    ensures decisions { steps.new.decisions ≡ steps.old.decisions + count }
+    ensures run_tests { steps.new.run_tests ≡ steps.old.run_tests }
+    ensures loads { steps.new.loads ≡ steps.old.loads + (2 + count * adaptive_count adaptive.now) }
+{
+    let windows = windows_at(bitmap, x, y, steps);
+    let mut left = left;
+    for offset in 0..count {
+        let context = mixed_context(
+            neighbours, adaptive, left, windows, offset, bitmap, x, y, steps,
+        );
+        let symbol = decoder.decode(&mut contexts[context as usize], steps);
+        bitmap.store_pixels(x + offset, y, 1, u64::from(symbol), steps);
+        left = (left * 2 + symbol) % 16;
+    }
+    left
+}
+
+/// Row `y`, whose rows above are decoded.
+pub fn decode_row_by_pixels<A: Allocator, L: Ledger>(
+    neighbours: Neighbours,
+    adaptive: &Adaptives<'_>,
+    bitmap: &mut Bitmap<A>,
+    y: u32,
+    decoder: &mut ArithmeticDecoder<'_>,
+    contexts: &mut [ArithmeticDecoderContext],
+    steps: &mut Steps<L>,
+)
+    requires mixed { IsMixed neighbours adaptive.now }
+    requires contexts { length contexts.old ≡ 2 ^ mixed_count neighbours adaptive.now }
+    requires row { y < bitmap.old.height }
+    requires widths { bitmap.old.width ≤ 65535 }
+    requires heights { bitmap.old.height ≤ 65535 }
+    ensures holds { Decodes (mixed_pixels neighbours adaptive.now) false 0 y bitmap.old.width bitmap.old decoder.old contexts.old bitmap.new decoder.new contexts.new }
+    ensures width { bitmap.new.width ≡ bitmap.old.width }
+    ensures height { bitmap.new.height ≡ bitmap.old.height }
+    ensures bytes { decoder.new.bytes ≡ decoder.old.bytes }
+    ensures contexts { length contexts.new ≡ length contexts.old }
+    ensures decisions { steps.new.decisions ≡ steps.old.decisions + bitmap.old.width }
+    ensures run_tests { steps.new.run_tests ≡ steps.old.run_tests }
+    ensures loads { steps.new.loads ≤ steps.old.loads + (2 * (bitmap.old.width / 32 + 1) + bitmap.old.width * adaptive_count adaptive.now) }
+{
+    let width = bitmap.width();
+    let mut left = 0;
+    for index in 0..width.div_ceil(32) {
+        let x = index * 32;
+        let count = (width - x).min(32);
+        left = decode_pixels(
+            neighbours, adaptive, bitmap, x, y, count, left, decoder, contexts, steps,
+        );
+    }
+}
