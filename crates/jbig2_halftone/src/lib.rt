@@ -4,3 +4,5 @@
 pub mod gray_scale;
 pub mod halftone;
 pub mod pattern;
+#[cfg(test)]
+mod tests;
