@@ -126,9 +126,9 @@ page_area page info = record {
 }
 
 -- What is refined (7.4.7.4): the region that is referred to, or else the page's area.
-abbrev pub refined_region : Grid → RegionSegmentInfo → Option PlacedRegion → PlacedRegion
-refined_region page info (Some region) = region
-refined_region page info None = page_area page info
+abbrev pub reference_region : Grid → RegionSegmentInfo → Option PlacedRegion → PlacedRegion
+reference_region page info (Some region) = region
+reference_region page info None = page_area page info
 
 -- A refinement (7.4.7). Strict reading refuses an intermediate one that refers to no region.
 unfoldable pub refinement_at : Bool → Bool → Part → Drawing → Result PlacedRegion DecodeError
@@ -136,7 +136,7 @@ refinement_at strict is_intermediate p d = do
   referred ← referred_region strict p.header.referred_to_segments d.regions
   known ← refuse_if (strict && is_intermediate && is_none referred) (Segment InvalidReference)
   header ← refinement_header_at p.bytes
-  refined_decoded header.0 (refined_region d.grid header.0.region_info referred)
+  refined_decoded header.0 (reference_region d.grid header.0.region_info referred)
 
 unfoldable pub immediate_refinement : Bool → Part → Drawing → Result Drawing DecodeError
 immediate_refinement strict p d = immediate strict d (refinement_at strict false p d)
