@@ -1,7 +1,8 @@
 //! The pages of a file, one by one.
-ghost use Rattle.std.specs.Iterator.{at_most};
+ghost use Rattle.std.specs.Iterator.{UpTo, at_most};
+ghost use Rattle.std.specs.Iterator.SizeHint.{IsWithinCount};
 ghost use Rattle.std.specs.Map.Iter.{TakesFirst};
-ghost use Rattle.std.specs.Prelude.{◌≡◌, length};
+ghost use Rattle.std.specs.Prelude.{◌≡◌, IfSome, length};
 ghost use Rattle.hayro_jbig2.specs.Files.{pages_of};
 
 use crate::file::File;
@@ -53,7 +54,11 @@ impl<'a, A: Allocator> Iterator for Pages<'a, A> {
         self.file.page(index)
     }
 
-    fn size_hint(&self) -> (usize, Option<usize>) {
+    fn size_hint(&self) -> (usize, Option<usize>)
+        ensures lower { IsWithinCount result.0 (at_most (length self.now)) }
+        ensures upper { IfSome result.1 (UpTo (at_most (length self.now))) }
+        ensures exact { result ≡ (length self.now, Some (length self.now)) }
+    {
         let count = self.len();
         (count, Some(count))
     }
