@@ -1,6 +1,6 @@
 -- The bits of what the operators of words give.
 use Rattle.std.proofs.Common.{◌≡◌, ℕ, ◌+◌, ◌-◌, ◌*◌, ◌/◌, ◌%◌, ◌^◌, ◌<◌, ◌≤◌, Bool, true, false, not, ◌&&◌, ◌||◌, cond, eqb, ltb, leb, refl, sym, ap, subst, ◌∙◌, min, max, ⊎_elim, lit<, w64, arith}
-use Rattle.std.proofs.lemmas.Nat.{pow_pos, shr-shr, shr_split, shr_below, mod_below, or_lt, xor_lt, shr_le}
+use Rattle.std.proofs.lemmas.Nat.{pow_pos, shr-shr, shr_split, shr_below, mod_below, or_lt, shr_le}
 use Rattle.std.specs.Int.{bit_at}
 use Rattle.std.specs.Int.RustNames.{bit_or, bit_xor}
 use lib.Bits.{bit_and}
@@ -131,17 +131,17 @@ pub field-above : (word shift count bits b : ℕ) → shift + count ≤ b → fi
 unfolding field_bit
 field-above word shift count bits b high = cond-false (leb shift b && ltb b (shift + count)) (bit bits (b - shift)) (bit word b) (and_right (leb shift b) _ (le-ltb b (shift + count) high))
 
-kept : (t u m : Bool) → m ≡ false → u ≡ false → ((t && not m) || u) ≡ t
-kept true u m clear none = rw clear refl
-kept false u m clear none = none
+kept : (t u m : Bool) → m ≡ false → ((t && not m) || (u && m)) ≡ t
+kept t u m clear = grind (arith, clear)
 
-replaced : (t u m : Bool) → m ≡ true → ((t && not m) || u) ≡ u
-replaced true u m set = rw set refl
-replaced false u m set = refl
+replaced : (t u m : Bool) → m ≡ true → ((t && not m) || (u && m)) ≡ u
+replaced t u m set = grind (arith, set)
 
-masked : (word mask low b : ℕ) → mask < 2 ^ 64 → b < 64 → bit (bit_or (bit_and word (2 ^ 64 - 1 - mask)) low) b ≡ ((bit word b && not (bit mask b)) || bit low b)
+masked : (word mask low b : ℕ) → mask < 2 ^ 64 → b < 64 → bit (bit_or (bit_and word (2 ^ 64 - 1 - mask)) (bit_and low mask)) b ≡ ((bit word b && not (bit mask b)) || (bit low b && bit mask b))
 masked word mask low b small inside =
-    bit-or (bit_and word (2 ^ 64 - 1 - mask)) low b ∙ ap (λ (t : Bool). t || bit low b) (bit-and word (2 ^ 64 - 1 - mask) b ∙ ap (λ (t : Bool). bit word b && t) (bit-not mask b small inside))
+    bit-or (bit_and word (2 ^ 64 - 1 - mask)) (bit_and low mask) b
+    ∙ ap (λ (t : Bool). t || bit (bit_and low mask) b) (bit-and word (2 ^ 64 - 1 - mask) b ∙ ap (λ (t : Bool). bit word b && t) (bit-not mask b small inside))
+    ∙ ap (λ (t : Bool). (bit word b && not (bit mask b)) || t) (bit-and low mask b)
 
 -- `MAX >> (64 - count)`
 ones-shr : (count : ℕ) → count ≤ 64 → (2 ^ 64 - 1) / 2 ^ (64 - count) ≡ 2 ^ count - 1
@@ -149,9 +149,9 @@ ones-shr count few =
     let width : 64 - (64 - count) ≡ count = omega arith in
     bits.ones_shr 64 (64 - count) (omega arith) ∙ ap (λ (n : ℕ). 2 ^ n - 1) width
 
--- `(word & !((MAX >> (64 - count)) << shift)) | (bits << shift)`
-pub bit-with_field : (word shift count bits b : ℕ) → shift + count ≤ 64 → bits < 2 ^ count → b < 64 → bit (bit_or (bit_and word (2 ^ 64 - 1 - (2 ^ 64 - 1) / 2 ^ (64 - count) * 2 ^ shift % 2 ^ 64)) (bits * 2 ^ shift % 2 ^ 64)) b ≡ field_bit word shift count bits b
-bit-with_field word shift count bits b within bound inside =
+-- `(word & !mask) | ((bits << shift) & mask)`, where the mask is `(MAX >> (64 - count)) << shift`
+pub bit-with_field : (word shift count bits b : ℕ) → shift + count ≤ 64 → b < 64 → bit (bit_or (bit_and word (2 ^ 64 - 1 - (2 ^ 64 - 1) / 2 ^ (64 - count) * 2 ^ shift % 2 ^ 64)) (bit_and (bits * 2 ^ shift % 2 ^ 64) ((2 ^ 64 - 1) / 2 ^ (64 - count) * 2 ^ shift % 2 ^ 64))) b ≡ field_bit word shift count bits b
+bit-with_field word shift count bits b within inside =
     let ones : ℕ = (2 ^ 64 - 1) / 2 ^ (64 - count) in
     let mask : ℕ = ones * 2 ^ shift % 2 ^ 64 in
     let low : ℕ = bits * 2 ^ shift % 2 ^ 64 in
@@ -159,7 +159,7 @@ bit-with_field word shift count bits b within bound inside =
     let width = ones-shr count (omega arith) in
     ⊎_elim
     (λ (below : b < shift).
-    split ∙ kept (bit word b) (bit low b) (bit mask b) (bit-shl_low ones shift 64 b below inside) (bit-shl_low bits shift 64 b below inside) ∙ sym (field-below word shift count bits b below))
+    split ∙ kept (bit word b) (bit low b) (bit mask b) (bit-shl_low ones shift 64 b below inside) ∙ sym (field-below word shift count bits b below))
     (λ (past : shift ≤ b).
     ⊎_elim
     (λ (within : b < shift + count).
@@ -169,7 +169,7 @@ bit-with_field word shift count bits b within bound inside =
     ∙ sym (field-inside word shift count bits b past within))
     (λ (beyond : shift + count ≤ b).
     split
-    ∙ kept (bit word b) (bit low b) (bit mask b) (bit-shl_high ones shift 64 b past inside ∙ ap (λ (n : ℕ). bit n (b - shift)) width ∙ bit-ones_above count (b - shift) (omega arith)) (bit-shl_high bits shift 64 b past inside ∙ bit-above bits count (b - shift) bound (omega arith))
+    ∙ kept (bit word b) (bit low b) (bit mask b) (bit-shl_high ones shift 64 b past inside ∙ ap (λ (n : ℕ). bit n (b - shift)) width ∙ bit-ones_above count (b - shift) (omega arith))
     ∙ sym (field-above word shift count bits b beyond))
     (cases_lt b (shift + count)))
     (cases_lt b shift)
@@ -187,11 +187,6 @@ bit-xnor a b count k few inside =
     bit-xor (bit_xor a b) ones k
     ∙ ap (λ (t : Bool). cond t (not (bit ones k)) (bit ones k)) (bit-xor a b k)
     ∙ flips (bit a k) (bit b k) (bit ones k) (ap (λ (n : ℕ). bit n k) (ones-shr count few) ∙ bit-ones count k inside)
-
-pub xnor-lt : (a b count : ℕ) → count ≤ 64 → a < 2 ^ count → b < 2 ^ count → bit_xor (bit_xor a b) ((2 ^ 64 - 1) / 2 ^ (64 - count)) < 2 ^ count
-xnor-lt a b count few p q =
-    let some = pow_pos count in
-    xor_lt count (bit_xor a b) ((2 ^ 64 - 1) / 2 ^ (64 - count)) (xor_lt count a b p q) (omega (arith, ones-shr count few, some))
 
 -- ---- a window of `count` bits from `offset` on
 -- `(first << offset) >> (64 - count)`

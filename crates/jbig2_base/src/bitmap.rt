@@ -156,7 +156,6 @@ impl<A: Allocator> Bitmap<A> {
         requires columns { x + count ≤ self.old.width }
         requires row { y < self.old.height }
         requires one_word { x / 64 ≡ (x + count - 1) / 64 }
-        requires bound { bits < 2 ^ count }
         ensures value { self.new ≡ with_pixels self.old x y count bits }
         ensures steps { steps.new ≡ record steps.old { words = steps.old.words + 1 } }
     {

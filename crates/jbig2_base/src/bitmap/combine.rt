@@ -107,10 +107,7 @@ fn combine_row<A: Allocator, B: Allocator, L: Ledger>(
 fn combined_bits(operator: CombinationOperator, page: u64, source: u64, count: u32) -> u64
     requires some { 1 ≤ count }
     requires few { count ≤ 64 }
-    requires page { page < 2 ^ count }
-    requires source { source < 2 ^ count }
-    ensures bits { (k : ℕ) → k < count → bit result k ≡ combined_pixel operator (bit page k) (bit source k) }
-    ensures bound { result < 2 ^ count }
+    ensures { (k : ℕ) → k < count → bit result k ≡ combined_pixel operator (bit page k) (bit source k) }
 {
     match operator {
         CombinationOperator::Or => page | source,

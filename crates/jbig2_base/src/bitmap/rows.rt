@@ -156,7 +156,6 @@ impl<A: Allocator> PackedRows<A> {
         requires columns { x + count ≤ self.old.width }
         requires row { y < self.old.height }
         requires one_word { x / 64 ≡ (x + count - 1) / 64 }
-        requires bound { bits < 2 ^ count }
         ensures value { self.new ≡ with_pixels self.old x y count bits }
         ensures steps { steps.new ≡ record steps.old { words = steps.old.words + 1 } }
     {
@@ -166,16 +165,15 @@ impl<A: Allocator> PackedRows<A> {
     }
 }
 
-/// `word` with the `count` bits from `shift` on replaced by `bits`.
+/// `word` with the `count` bits from `shift` on replaced by the lowest `count` of `bits`.
 #[inline(always)]
 fn with_field(word: u64, shift: u32, count: u32, bits: u64) -> u64
     requires some { 1 ≤ count }
     requires within { shift + count ≤ 64 }
-    requires bound { bits < 2 ^ count }
     ensures { (b : ℕ) → b < 64 → bit result b ≡ field_bit word shift count bits b }
 {
     let mask = (u64::MAX >> (64 - count)) << shift;
-    (word & !mask) | (bits << shift)
+    (word & !mask) | ((bits << shift) & mask)
 }
 
 /// Makes zeroed words rows of one colour.

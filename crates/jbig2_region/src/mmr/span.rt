@@ -38,8 +38,7 @@ pub fn fill_span<A: Allocator, L: Ledger>(
 fn word_of(black: bool, count: u32) -> u64
     requires some { 1 ≤ count }
     requires few { count ≤ 64 }
-    ensures bits { (k : ℕ) → k < count → bit result k ≡ black }
-    ensures bound { result < 2 ^ count }
+    ensures { (k : ℕ) → k < count → bit result k ≡ black }
 {
     if black { u64::MAX >> (64 - count) } else { 0 }
 }

@@ -6,5 +6,5 @@ pub loop-x-preserved : goal.loop-x-preserved
 loop-x-preserved g c = record {
   begun = omega arith;
   within = omega (arith, c.min-count.ensures);
-  painted = span-more c.args.bitmap.now c.loop-x.bitmap c.store_pixels.new.self c.args.y c.args.from c.loop-x.x c.min-count.result c.word_of.result c.args.black c.loop-x.invariant.painted c.loop-x.invariant.begun (omega (arith, c.min-count.ensures, c.requires.columns)) c.requires.row c.word_of.ensures.bits c.store_pixels.ensures.value;
+  painted = span-more c.args.bitmap.now c.loop-x.bitmap c.store_pixels.new.self c.args.y c.args.from c.loop-x.x c.min-count.result c.word_of.result c.args.black c.loop-x.invariant.painted c.loop-x.invariant.begun (omega (arith, c.min-count.ensures, c.requires.columns)) c.requires.row c.word_of.ensures c.store_pixels.ensures.value;
 }
