@@ -76,7 +76,7 @@ pub fn parse<'a>(reader: &mut Reader<'a>, strict: bool) -> Result<PatternDiction
     let num_patterns = u32_field(reader)?;
     Ok(PatternDictionaryHeader {
         mmr: flags % 2 == 1,
-        template: Template::from_number(flags / 2 % 4),
+        template: Template::from_byte(flags / 2),
         pattern_width,
         pattern_height,
         num_patterns,

@@ -161,7 +161,7 @@ pub fn parse<'a>(
     let mut region_info = parse_region_segment_info(reader)?;
     let flags = byte_field(reader)?;
     let mmr = flags % 2 == 1;
-    let template = Template::from_number(flags / 2 % 4);
+    let template = Template::from_byte(flags / 2);
     let adaptive_template_pixels = parse_template_pixels(
         reader,
         mmr,

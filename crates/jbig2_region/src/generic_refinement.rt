@@ -92,7 +92,7 @@ pub fn parse<'a>(reader: &mut Reader<'a>) -> Result<GenericRefinementRegionHeade
 {
     let region_info = parse_region_segment_info(reader)?;
     let flags = byte_field(reader)?;
-    let template = RefinementTemplate::from_number(flags % 2);
+    let template = RefinementTemplate::from_byte(flags);
     let adaptive_template_pixels = parse_template_pixels(reader, template)?;
     if region_info.width > 65535 || region_info.height > 65535 {
         return Err(DecodeError::Overflow(OverflowError::BitmapDimension));

@@ -1,6 +1,6 @@
 //! The templates of generic regions (T.88, 6.2.5.3) and of refinements (6.3.5.3), and their adaptive
 //! pixels.
-ghost use Rattle.std.specs.Prelude.{◌≡◌, ◌<◌};
+ghost use Rattle.std.specs.Prelude.{◌≡◌, ◌%◌};
 ghost use Rattle.jbig2_region.specs.Refinement.{refinement_bits};
 ghost use Rattle.jbig2_region.specs.RefinementHeader.{refinement_template_of};
 ghost use Rattle.jbig2_region.specs.Templates.{template_of, context_bits};
@@ -15,12 +15,11 @@ pub enum Template {
 }
 
 impl Template {
-    /// The template of this number, 0 to 3.
-    pub fn from_number(number: u8) -> Template
-        requires { number < 4 }
-        ensures { result ≡ template_of number }
+    /// The template that the low two bits of `value` name.
+    pub fn from_byte(value: u8) -> Template
+        ensures { result ≡ template_of (value % 4) }
     {
-        match number {
+        match value % 4 {
             0 => Template::Template0,
             1 => Template::Template1,
             2 => Template::Template2,
@@ -48,12 +47,11 @@ pub enum RefinementTemplate {
 }
 
 impl RefinementTemplate {
-    /// The template of this number, 0 or 1.
-    pub fn from_number(number: u8) -> RefinementTemplate
-        requires { number < 2 }
-        ensures { result ≡ refinement_template_of number }
+    /// The template that the low bit of `value` names.
+    pub fn from_byte(value: u8) -> RefinementTemplate
+        ensures { result ≡ refinement_template_of (value % 2) }
     {
-        match number {
+        match value % 2 {
             0 => RefinementTemplate::Template0,
             _ => RefinementTemplate::Template1,
         }

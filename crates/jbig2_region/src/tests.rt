@@ -121,7 +121,7 @@ fn information_and_templates(rt: HostRuntime) -> std::result::Result<(), Fail> {
     assert_eq!(rt; (information.width, information.height), (8, 1));
     assert_eq!(rt; (information.x_location, information.y_location), (2, 3));
     assert!(rt; information.combination_operator == CombinationOperator::Replace);
-    assert!(rt; Template::from_number(2) == Template::Template2);
+    assert!(rt; Template::from_byte(6) == Template::Template2);
     assert_eq!(rt; Template::Template1.context_bits(), 13);
     Ok(())
 }

@@ -84,7 +84,7 @@ fn parse_flags(reader: &mut Reader<'_>) -> Result<HalftoneRegionFlags>
     let combination_operator = CombinationOperator::from_value(flags / 16)?;
     Ok(HalftoneRegionFlags {
         mmr: flags % 2 == 1,
-        template: Template::from_number(flags / 2 % 4),
+        template: Template::from_byte(flags / 2),
         enable_skip: flags / 8 % 2 == 1,
         combination_operator,
         initial_pixel_color: flags / 128 == 1,
