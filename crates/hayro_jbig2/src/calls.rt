@@ -111,7 +111,7 @@ fn push_row<A: Allocator, D: Decoder, L: Ledger>(
 {
     let width = bitmap.width();
     let mut x = 0;
-    'bytes: while width - x >= 8 {
+    while width - x >= 8 {
         if let Some((black, count)) = run_at(bitmap, x, y, steps) {
             match decoder.push_pixel_chunk(black, count) {
                 Ok(()) => {}

@@ -48,7 +48,7 @@ pub fn parse_segments_sequential<'a, A: Allocator + Clone>(
     ensures { Gives (λ v. parts v.items) result (sequential strict reader.old.bytes) }
 {
     let mut segments = Vec::new(alloc.clone()?);
-    'reading: while !reader.at_end() {
+    while !reader.at_end() {
         match parse_segment(alloc.clone()?, reader, strict) {
             Ok(segment) => {
                 let last = is_end_of_file(segment.header.segment_type);
@@ -80,7 +80,7 @@ fn parse_segment_headers<A: Allocator + Clone>(
     ensures aligned { IsAligned reader.new }
 {
     let mut headers = Vec::new(alloc.clone()?);
-    'reading: while !reader.at_end() {
+    while !reader.at_end() {
         match parse_segment_header(alloc.clone()?, reader, strict) {
             Ok(header) => {
                 let last = is_end_of_file(header.segment_type);

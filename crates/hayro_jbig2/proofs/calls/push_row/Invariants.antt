@@ -3,11 +3,11 @@ use Rattle.hayro_jbig2.specs.Calls.{Call, Line, row_of, line_calls, whole_calls}
 use Rattle.hayro_jbig2.proofs.Sending.{Half}
 use Rattle.hayro_jbig2.proofs.calls.push_row.Given as goal
 
-abbrev pub invariant-bytes : goal.invariant-bytes
-invariant-bytes g l = record {
+abbrev pub invariant-loop-x : goal.invariant-loop-x
+invariant-loop-x g l = record {
   within : l.x ≤ l.width;
   sent : Half g.D.Decoder.step (line_calls l.bitmap l.y) (whole_calls ((l.width - l.x) / 8) (drop l.x (row_of l.bitmap l.y)) ++ Line ∷ []) (g.D.Decoder.picture l.fn.decoder) (g.D.Decoder.refusals l.fn.decoder) (g.D.Decoder.picture l.decoder) (g.D.Decoder.refusals l.decoder);
 }
 
-abbrev pub decreases-bytes : goal.decreases-bytes
-decreases-bytes g l = l.width - l.x
+abbrev pub decreases-loop-x : goal.decreases-loop-x
+decreases-loop-x g l = l.width - l.x

@@ -9,38 +9,38 @@ use Rattle.jbig2_base.specs.declared.segment.SegmentHeader.{SegmentHeader}
 use Rattle.jbig2_base.proofs.RandomAccess.{ReadsHeaders-as, headers_begin, next_header, last_header, header_refused, headers_end}
 use Rattle.jbig2_base.proofs.file.parse_segment_headers.Goals as goal
 
-pub reading-init : goal.reading-init
-reading-init g c = record {
+pub loop-alloc-init : goal.loop-alloc-init
+loop-alloc-init g c = record {
   aligned = c.requires;
   reads = ReadsHeaders-as [] (header_views c.new-headers.result.items) c.args.strict c.args.reader.now.bytes (headers_in (length c.args.reader.now.bytes) c.args.strict c.args.reader.now.bytes) (sym (ap (λ (hs : List (SegmentHeader g.row.A.Denot)). header_views hs) c.new-headers.ensures.items)) (headers_begin c.args.strict c.args.reader.now.bytes);
 }
 
 pub returns-then-last-clause-value : goal.returns-then-last-clause-value
 returns-then-last-clause-value g c =
-    let front = header_views c.reading.headers.items in
-    let some : 0 < length c.reading.reader.bytes = omega (arith, c.in-Ok.ensures.shorter) in
-    last_header front c.args.strict c.reading.reader.bytes c.parse_segment_header.new.reader.bytes (headers_in (length c.args.reader.now.bytes) c.args.strict c.args.reader.now.bytes) (header_view c.in-Ok.header) c.reading.invariant.reads c.in-Ok.ensures.value some (sym c.if-last.ensures)
-    ∙ ap (λ (hs : List Header). Ok (hs, c.parse_segment_header.new.reader.bytes)) (sym (ap (λ (hs : List (SegmentHeader g.row.A.Denot)). header_views hs) c.in_ok-push-in-Ok.ensures.items ∙ map_push (λ (h : SegmentHeader g.row.A.Denot). header_view h) c.reading.headers.items c.in-Ok.header))
+    let front = header_views c.loop-alloc.headers.items in
+    let some : 0 < length c.loop-alloc.reader.bytes = omega (arith, c.in-Ok.ensures.shorter) in
+    last_header front c.args.strict c.loop-alloc.reader.bytes c.parse_segment_header.new.reader.bytes (headers_in (length c.args.reader.now.bytes) c.args.strict c.args.reader.now.bytes) (header_view c.in-Ok.header) c.loop-alloc.invariant.reads c.in-Ok.ensures.value some (sym c.if-last.ensures)
+    ∙ ap (λ (hs : List Header). Ok (hs, c.parse_segment_header.new.reader.bytes)) (sym (ap (λ (hs : List (SegmentHeader g.row.A.Denot)). header_views hs) c.in_ok-push-in-Ok.ensures.items ∙ map_push (λ (h : SegmentHeader g.row.A.Denot). header_view h) c.loop-alloc.headers.items c.in-Ok.header))
 
-pub reading-preserved : goal.reading-preserved
-reading-preserved g c =
-    let front = header_views c.reading.headers.items in
+pub loop-alloc-preserved : goal.loop-alloc-preserved
+loop-alloc-preserved g c =
+    let front = header_views c.loop-alloc.headers.items in
     let meant = headers_in (length c.args.reader.now.bytes) c.args.strict c.args.reader.now.bytes in
     let h = header_view c.in-Ok.header in
     record {
       aligned = c.parse_segment_header.ensures.aligned;
       reads = ReadsHeaders-as (front ++ h ∷ []) (header_views c.push.new.self.items) c.args.strict c.parse_segment_header.new.reader.bytes meant
-          (sym (ap (λ (hs : List (SegmentHeader g.row.A.Denot)). header_views hs) c.in_ok-push-in-Ok.ensures.items ∙ map_push (λ (k : SegmentHeader g.row.A.Denot). header_view k) c.reading.headers.items c.in-Ok.header))
-          (next_header front c.args.strict c.reading.reader.bytes c.parse_segment_header.new.reader.bytes meant h c.reading.invariant.reads c.in-Ok.ensures.value c.in-Ok.ensures.shorter (sym c.if-last.ensures));
+          (sym (ap (λ (hs : List (SegmentHeader g.row.A.Denot)). header_views hs) c.in_ok-push-in-Ok.ensures.items ∙ map_push (λ (k : SegmentHeader g.row.A.Denot). header_view k) c.loop-alloc.headers.items c.in-Ok.header))
+          (next_header front c.args.strict c.loop-alloc.reader.bytes c.parse_segment_header.new.reader.bytes meant h c.loop-alloc.invariant.reads c.in-Ok.ensures.value c.in-Ok.ensures.shorter (sym c.if-last.ensures));
     }
 
 pub returns-in-Err-clause-value : goal.returns-in-Err-clause-value
 returns-in-Err-clause-value g c =
-    let some : 0 < length c.reading.reader.bytes = omega (arith, eqb-false (length c.reading.reader.bytes) 0 (sym c.reading-test.ensures)) in
+    let some : 0 < length c.loop-alloc.reader.bytes = omega (arith, eqb-false (length c.loop-alloc.reader.bytes) 0 (sym c.loop-alloc-test.ensures)) in
     ⊎_elim (λ (e : c.in-Err.error ≡ OutOfMemory). inl e)
-    (λ (e : header_at c.args.strict c.reading.reader.bytes ≡ Err c.in-Err.error). inr (header_refused (header_views c.reading.headers.items) c.args.strict c.reading.reader.bytes (headers_in (length c.args.reader.now.bytes) c.args.strict c.args.reader.now.bytes) c.in-Err.error c.reading.invariant.reads e some))
+    (λ (e : header_at c.args.strict c.loop-alloc.reader.bytes ≡ Err c.in-Err.error). inr (header_refused (header_views c.loop-alloc.headers.items) c.args.strict c.loop-alloc.reader.bytes (headers_in (length c.args.reader.now.bytes) c.args.strict c.args.reader.now.bytes) c.in-Err.error c.loop-alloc.invariant.reads e some))
     c.in-Err.ensures.value
 
 pub returns-clause-value : goal.returns-clause-value
 returns-clause-value g c =
-    headers_end (header_views c.reading.headers.items) c.args.strict c.reading.reader.bytes (headers_in (length c.args.reader.now.bytes) c.args.strict c.args.reader.now.bytes) c.reading.invariant.reads (eqb-true (length c.reading.reader.bytes) 0 (sym c.reading-test.ensures))
+    headers_end (header_views c.loop-alloc.headers.items) c.args.strict c.loop-alloc.reader.bytes (headers_in (length c.args.reader.now.bytes) c.args.strict c.args.reader.now.bytes) c.loop-alloc.invariant.reads (eqb-true (length c.loop-alloc.reader.bytes) 0 (sym c.loop-alloc-test.ensures))

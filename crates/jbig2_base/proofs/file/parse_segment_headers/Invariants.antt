@@ -4,11 +4,11 @@ use Rattle.jbig2_base.specs.SegmentViews.{header_views}
 use Rattle.jbig2_base.proofs.RandomAccess.{ReadsHeaders}
 use Rattle.jbig2_base.proofs.file.parse_segment_headers.Given as goal
 
-abbrev pub invariant-reading : goal.invariant-reading
-invariant-reading g l = record {
+abbrev pub invariant-loop-alloc : goal.invariant-loop-alloc
+invariant-loop-alloc g l = record {
   aligned : l.reader.bit ≡ 0;
   reads : ReadsHeaders (header_views l.headers.items) l.strict l.reader.bytes (headers_in (length l.fn.reader.bytes) l.strict l.fn.reader.bytes);
 }
 
-abbrev pub decreases-reading : goal.decreases-reading
-decreases-reading g l = length l.reader.bytes
+abbrev pub decreases-loop-alloc : goal.decreases-loop-alloc
+decreases-loop-alloc g l = length l.reader.bytes

@@ -10,29 +10,29 @@ use Rattle.jbig2_base.specs.declared.segment.Segment.{Segment}
 use Rattle.jbig2_base.proofs.Sequential.{Reads-as, begins, next, last, drops, gives_up, ends}
 use Rattle.jbig2_base.proofs.file.parse_segments_sequential.Goals as goal
 
-pub reading-init : goal.reading-init
-reading-init g c = record {
+pub loop-alloc-init : goal.loop-alloc-init
+loop-alloc-init g c = record {
   aligned = c.requires;
   reads = Reads-as [] (parts c.new-segments.result.items) c.args.strict c.args.reader.now.bytes (sequential c.args.strict c.args.reader.now.bytes) (sym (ap (λ (ss : List (Segment g.row.A.Denot)). parts ss) c.new-segments.ensures.items)) (begins c.args.strict c.args.reader.now.bytes);
 }
 
 pub returns-then-last : goal.returns-then-last
 returns-then-last g c =
-    let front = parts c.reading.segments.items in
-    let some : 0 < length c.reading.reader.bytes = omega (arith, c.in-Ok.ensures.shorter) in
-    last front c.args.strict c.reading.reader.bytes c.parse_segment.new.reader.bytes (sequential c.args.strict c.args.reader.now.bytes) (part_view c.in-Ok.segment) c.reading.invariant.reads c.in-Ok.ensures.value some (sym c.if-last.ensures)
-    ∙ ap (λ (ps : List Part). Ok ps) (sym (ap (λ (ss : List (Segment g.row.A.Denot)). parts ss) c.in_ok-push-in-Ok.ensures.items ∙ map_push (λ (s : Segment g.row.A.Denot). part_view s) c.reading.segments.items c.in-Ok.segment))
+    let front = parts c.loop-alloc.segments.items in
+    let some : 0 < length c.loop-alloc.reader.bytes = omega (arith, c.in-Ok.ensures.shorter) in
+    last front c.args.strict c.loop-alloc.reader.bytes c.parse_segment.new.reader.bytes (sequential c.args.strict c.args.reader.now.bytes) (part_view c.in-Ok.segment) c.loop-alloc.invariant.reads c.in-Ok.ensures.value some (sym c.if-last.ensures)
+    ∙ ap (λ (ps : List Part). Ok ps) (sym (ap (λ (ss : List (Segment g.row.A.Denot)). parts ss) c.in_ok-push-in-Ok.ensures.items ∙ map_push (λ (s : Segment g.row.A.Denot). part_view s) c.loop-alloc.segments.items c.in-Ok.segment))
 
-pub reading-preserved : goal.reading-preserved
-reading-preserved g c =
-    let front = parts c.reading.segments.items in
+pub loop-alloc-preserved : goal.loop-alloc-preserved
+loop-alloc-preserved g c =
+    let front = parts c.loop-alloc.segments.items in
     let meant = sequential c.args.strict c.args.reader.now.bytes in
     let p = part_view c.in-Ok.segment in
     record {
       aligned = c.in-Ok.ensures.aligned;
       reads = Reads-as (front ++ p ∷ []) (parts c.push.new.self.items) c.args.strict c.parse_segment.new.reader.bytes meant
-          (sym (ap (λ (ss : List (Segment g.row.A.Denot)). parts ss) c.in_ok-push-in-Ok.ensures.items ∙ map_push (λ (s : Segment g.row.A.Denot). part_view s) c.reading.segments.items c.in-Ok.segment))
-          (next front c.args.strict c.reading.reader.bytes c.parse_segment.new.reader.bytes meant p c.reading.invariant.reads c.in-Ok.ensures.value c.in-Ok.ensures.shorter (sym c.if-last.ensures));
+          (sym (ap (λ (ss : List (Segment g.row.A.Denot)). parts ss) c.in_ok-push-in-Ok.ensures.items ∙ map_push (λ (s : Segment g.row.A.Denot). part_view s) c.loop-alloc.segments.items c.in-Ok.segment))
+          (next front c.args.strict c.loop-alloc.reader.bytes c.parse_segment.new.reader.bytes meant p c.loop-alloc.invariant.reads c.in-Ok.ensures.value c.in-Ok.ensures.shorter (sym c.if-last.ensures));
     }
 
 -- an error that cuts off is no want of memory
@@ -46,17 +46,17 @@ given strict error r (inr e) cut = e
 
 pub returns-then-is_cut_off : goal.returns-then-is_cut_off
 returns-then-is_cut_off g c =
-    let some : 0 < length c.reading.reader.bytes = omega (arith, eqb-false (length c.reading.reader.bytes) 0 (sym c.reading-test.ensures)) in
-    drops (parts c.reading.segments.items) c.args.strict c.reading.reader.bytes (sequential c.args.strict c.args.reader.now.bytes) c.in-Err.error c.reading.invariant.reads
-    (given c.args.strict c.in-Err.error (segment_at c.args.strict c.reading.reader.bytes) c.in-Err.ensures.value (sym c.if-is_cut_off.ensures)) some (sym c.if-is_cut_off.ensures)
+    let some : 0 < length c.loop-alloc.reader.bytes = omega (arith, eqb-false (length c.loop-alloc.reader.bytes) 0 (sym c.loop-alloc-test.ensures)) in
+    drops (parts c.loop-alloc.segments.items) c.args.strict c.loop-alloc.reader.bytes (sequential c.args.strict c.args.reader.now.bytes) c.in-Err.error c.loop-alloc.invariant.reads
+    (given c.args.strict c.in-Err.error (segment_at c.args.strict c.loop-alloc.reader.bytes) c.in-Err.ensures.value (sym c.if-is_cut_off.ensures)) some (sym c.if-is_cut_off.ensures)
 
 pub returns-in-Err : goal.returns-in-Err
 returns-in-Err g c =
-    let some : 0 < length c.reading.reader.bytes = omega (arith, eqb-false (length c.reading.reader.bytes) 0 (sym c.reading-test.ensures)) in
+    let some : 0 < length c.loop-alloc.reader.bytes = omega (arith, eqb-false (length c.loop-alloc.reader.bytes) 0 (sym c.loop-alloc-test.ensures)) in
     ⊎_elim (λ (e : c.in-Err.error ≡ OutOfMemory). inl e)
-    (λ (e : segment_at c.args.strict c.reading.reader.bytes ≡ Err c.in-Err.error). inr (gives_up (parts c.reading.segments.items) c.args.strict c.reading.reader.bytes (sequential c.args.strict c.args.reader.now.bytes) c.in-Err.error c.reading.invariant.reads e some (sym c.if-is_cut_off.ensures)))
+    (λ (e : segment_at c.args.strict c.loop-alloc.reader.bytes ≡ Err c.in-Err.error). inr (gives_up (parts c.loop-alloc.segments.items) c.args.strict c.loop-alloc.reader.bytes (sequential c.args.strict c.args.reader.now.bytes) c.in-Err.error c.loop-alloc.invariant.reads e some (sym c.if-is_cut_off.ensures)))
     c.in-Err.ensures.value
 
 pub returns : goal.returns
 returns g c =
-    ends (parts c.reading.segments.items) c.args.strict c.reading.reader.bytes (sequential c.args.strict c.args.reader.now.bytes) c.reading.invariant.reads (eqb-true (length c.reading.reader.bytes) 0 (sym c.reading-test.ensures))
+    ends (parts c.loop-alloc.segments.items) c.args.strict c.loop-alloc.reader.bytes (sequential c.args.strict c.args.reader.now.bytes) c.loop-alloc.invariant.reads (eqb-true (length c.loop-alloc.reader.bytes) 0 (sym c.loop-alloc-test.ensures))
