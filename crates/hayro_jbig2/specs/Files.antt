@@ -27,7 +27,7 @@ pub record Book : Type 0 where
   pub pages : List Filed
   pub globals : Result Names DecodeError
 
--- What can't stand outside of a page: regions, page information, and the ends of pages and stripes (7.3.1).
+-- What can't stand outside of a page: regions, page information, and the ends of pages and stripes (7.3.2).
 abbrev pub needs_page : SegmentType → Bool
 needs_page types.SymbolDictionary = false
 needs_page types.PatternDictionary = false
