@@ -127,6 +127,22 @@ fn finish<A: Allocator, W: Write + Drop>(
     Ok(())
 }
 
+/// The same behind a page. One that cannot be decoded is its own fault, and then nothing is written.
+fn finish_page<A: Allocator, W: Write + Drop>(
+    buffered: BufWriter<W, A>,
+    decoded: Result<(), DecodeError>,
+    is_written: bool,
+) -> Result<(), Fault> {
+    match decoded {
+        Err(error) if is_written => {
+            // No call was made, and what stands before the calls is not to be written either.
+            let _ = buffered.into_parts();
+            Err(Fault::Decode(error))
+        }
+        _ => finish(buffered, is_written),
+    }
+}
+
 /// Prints a line for each page.
 fn print_pages<A: Allocator + Clone, O: Write>(
     alloc: A,
@@ -155,9 +171,7 @@ fn print_calls<A: Allocator + Clone, O: Write>(
     let mut printer = Printer::new(buffered(alloc, out)?);
     let decoded = page.decode(&mut printer);
     let is_written = !printer.has_refused();
-    // Where decoding fails no call was made, so that there is nothing to write.
-    finish(printer.into_inner(), is_written)?;
-    Ok(decoded?)
+    finish_page(printer.into_inner(), decoded, is_written)
 }
 
 /// Writes a page as a binary bitmap of the PBM format.
@@ -172,13 +186,5 @@ fn write_bitmap<A: Allocator + Clone, O: Write>(
     let mut packer = Packer::new(buffered);
     let decoded = page.decode(&mut packer);
     let is_written = headed.is_ok() && !packer.has_refused();
-    let buffered = packer.into_inner();
-    match decoded {
-        Err(error) if is_written => {
-            // No call was made, and the header is not to be written either.
-            let _ = buffered.into_parts();
-            Err(Fault::Decode(error))
-        }
-        _ => finish(buffered, is_written),
-    }
+    finish_page(packer.into_inner(), decoded, is_written)
 }

@@ -180,13 +180,19 @@ fn rows_of_a_bitmap_begin_a_byte(rt: HostRuntime) {
     assert_eq!(rt; out.as_slice(), b"P4\n9 2\n\xFF\x80\xFF\x80".as_slice());
 }
 
-/// A segment that a strict decoder refuses when it decodes: nothing is printed, no header either.
-#[test]
-fn a_page_that_is_not_decoded_prints_nothing(rt: HostRuntime) {
+/// A file with a segment that a strict decoder refuses when it decodes.
+fn undecodable() -> [u8; 69] {
     let mut bytes = [0; 69];
     bytes[..43].copy_from_slice(&FILE[..43]);
     bytes[43..58].copy_from_slice(&[0, 0, 0, 1, 0x3E, 0, 1, 0, 0, 0, 4, 0x80, 0, 0, 0]);
     bytes[58..69].copy_from_slice(&[0, 0, 0, 2, 0x31, 0, 1, 0, 0, 0, 0]);
+    bytes
+}
+
+/// Nothing is printed, no header either.
+#[test]
+fn a_page_that_is_not_decoded_prints_nothing(rt: HostRuntime) {
+    let bytes = undecodable();
     let unknown = "error: unsupported feature\n";
     expect(
         &rt,
@@ -312,6 +318,45 @@ fn output_that_cannot_be_written_ends_the_run(rt: HostRuntime) {
         assert_eq!(rt; status, 1);
         assert_eq!(rt; out.0, 0);
         assert!(rt; err.is_empty());
+    }
+}
+
+/// Takes every byte, and cannot be flushed.
+#[derive(Drop)]
+struct Unflushed;
+
+impl Write for Unflushed {
+    fn write(&mut self, buf: &[u8]) -> io::Result<usize> {
+        Ok(buf.len())
+    }
+
+    fn flush(&mut self) -> io::Result<()> {
+        Err(io::Error::from(io::ErrorKind::StorageFull))
+    }
+}
+
+/// Decoding comes before writing, so its fault is the one that is told.
+#[test]
+fn a_page_that_is_not_decoded_is_not_flushed(rt: HostRuntime) {
+    let unknown = "error: unsupported feature\n";
+    let runs: [(&[&str], &str); 4] = [
+        (&["--strict", "calls", "file", "0"], unknown),
+        (&["--strict", "pbm", "file", "0"], unknown),
+        (&["calls", "file", "0"], ""),
+        (&["pbm", "file", "0"], ""),
+    ];
+    for (words, told) in runs {
+        let mut out = Unflushed;
+        let Ok(mut err) = Vec::with_capacity(rt.alloc(), 256) else {
+            return;
+        };
+        let mut reader = Cursor::new(undecodable());
+        let status = run(rt.alloc(), words, Some(&mut reader), &mut out, &mut err);
+        if err.as_slice() == OUT_OF_MEMORY.as_bytes() {
+            continue;
+        }
+        assert_eq!(rt; status, 1, "{words:?}");
+        assert_eq!(rt; err.as_slice(), told.as_bytes(), "{words:?}");
     }
 }
 
