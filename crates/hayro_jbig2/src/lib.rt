@@ -5,22 +5,22 @@
 //! `Decoder` that spell the page's pixels, and `Page::read_image` writes a byte for each.
 #![tactic(auto)]
 
-pub mod calls;
-pub mod context;
-pub mod decoder;
+mod calls;
+mod context;
+mod decoder;
 mod drawing;
-pub mod file;
-pub mod globals;
+mod file;
+mod globals;
 mod halftones;
 mod image;
-pub mod jbig2_decoder;
-pub mod jbig2_error;
-pub mod page;
-pub mod pages;
+mod jbig2_decoder;
+mod jbig2_error;
+mod page;
+mod pages;
 pub mod parts;
 pub mod reading;
 mod refinement;
-pub mod settings;
+mod settings;
 
 pub use context::DecoderContext;
 pub use decoder::Decoder;

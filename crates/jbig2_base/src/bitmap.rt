@@ -15,11 +15,12 @@ pub mod steps;
 mod tests;
 
 use crate::error::{DecodeError, OverflowError, Result};
+pub use operator::CombinationOperator;
 use rows::PackedRows;
 use std::alloc::Allocator;
 use std::marker::Model;
 use std::sync::ledger::Ledger;
-use steps::Steps;
+pub use steps::Steps;
 
 /// The longest side of a bitmap that is not wide.
 const MAX_DIMENSION: u32 = 65535;

@@ -10,7 +10,8 @@ ghost use Rattle.jbig2_base.specs.SegmentViews.{header_views, parts, file_view};
 ghost use Rattle.jbig2_base.specs.Sequential.{is_cut_off, is_end_of_file, sequential};
 
 use crate::error::{DecodeError, Result};
-use crate::file_header::{FileHeader, FileOrganization, parse_file_header};
+use crate::file_header::parse_file_header;
+pub use crate::file_header::{FileHeader, FileOrganization};
 use crate::reader::Reader;
 use crate::segment::{
     Segment, SegmentHeader, SegmentType, parse_segment, parse_segment_data, parse_segment_header,

@@ -109,42 +109,14 @@ fn case_holds<A: Allocator + Clone>(
     context: &mut DecoderContext<A>,
 ) -> Result<bool> {
     match case {
-        Case::Page(modes, bytes, answer) => {
-            let Some(bytes) = spelled(alloc.clone()?, bytes)? else {
-                return Ok(false);
-            };
-            let strict = !modes.has(true)
-                || page_holds(alloc.clone()?, &bytes, true, answer, context)?;
-            let lenient = !modes.has(false) || page_holds(alloc, &bytes, false, answer, context)?;
-            Ok(strict && lenient)
-        }
+        Case::Page(modes, bytes, answer) => answer_holds(alloc, *modes, bytes, answer, context),
         Case::Size {
             bytes,
             number,
             width,
             height,
-        } => {
-            let Some(bytes) = spelled(alloc.clone()?, bytes)? else {
-                return Ok(false);
-            };
-            let page = match Page::new_embedded(
-                alloc,
-                &bytes,
-                None,
-                &DecodeSettings { strict: true },
-            ) {
-                Ok(page) => page,
-                Err(error) => return refused_as(error, None),
-            };
-            let sized = page.width() == *width && page.height() == *height;
-            Ok(sized && page.number() == *number && page.dimensions() == (*width, *height))
-        }
-        Case::Header { bytes, header } => {
-            let Some(bytes) = spelled(alloc.clone()?, bytes)? else {
-                return Ok(false);
-            };
-            header_holds(alloc, &bytes, header)
-        }
+        } => size_holds(alloc, bytes, *number, *width, *height),
+        Case::Header { bytes, header } => header_holds(alloc, bytes, header),
         Case::Coder(case) => coder_holds(alloc, case),
         Case::Table(case) => table_holds(alloc, case),
         Case::Mmr(case) => mmr_holds(alloc, case),
@@ -152,6 +124,41 @@ fn case_holds<A: Allocator + Clone>(
         Case::StaysWhite(x, y) => stays_white(alloc, *x, *y),
         Case::WidePatterns => wide_patterns_hold::<A, Brand>(alloc, Blank::new(6)),
     }
+}
+
+/// Whether the embedded page that a text spells has this answer in these modes.
+fn answer_holds<A: Allocator + Clone>(
+    alloc: A,
+    modes: Modes,
+    bytes: &str,
+    answer: &Answer,
+    context: &mut DecoderContext<A>,
+) -> Result<bool> {
+    let Some(bytes) = spelled(alloc.clone()?, bytes)? else {
+        return Ok(false);
+    };
+    let strict = !modes.has(true) || page_holds(alloc.clone()?, &bytes, true, answer, context)?;
+    let lenient = !modes.has(false) || page_holds(alloc, &bytes, false, answer, context)?;
+    Ok(strict && lenient)
+}
+
+/// Whether the embedded page that a text spells has this number and size.
+fn size_holds<A: Allocator + Clone>(
+    alloc: A,
+    bytes: &str,
+    number: u32,
+    width: u32,
+    height: u32,
+) -> Result<bool> {
+    let Some(bytes) = spelled(alloc.clone()?, bytes)? else {
+        return Ok(false);
+    };
+    let page = match Page::new_embedded(alloc, &bytes, None, &DecodeSettings { strict: true }) {
+        Ok(page) => page,
+        Err(error) => return refused_as(error, None),
+    };
+    let sized = page.width() == width && page.height() == height;
+    Ok(sized && page.number() == number && page.dimensions() == (width, height))
 }
 
 /// Whether an embedded page has this answer. Answers `DecodeError::OutOfMemory` alone, and only where no
@@ -212,8 +219,12 @@ pub fn refused_as(error: DecodeError, expected: Option<&DecodeError>) -> Result<
     Ok(false)
 }
 
-fn header_holds<A: Allocator>(alloc: A, bytes: &[u8], expected: &Header) -> Result<bool> {
-    let mut reader = Reader::new(bytes);
+/// Whether the segment header that a text spells has these fields.
+fn header_holds<A: Allocator + Clone>(alloc: A, bytes: &str, expected: &Header) -> Result<bool> {
+    let Some(bytes) = spelled(alloc.clone()?, bytes)? else {
+        return Ok(false);
+    };
+    let mut reader = Reader::new(&bytes);
     let header = match parse_segment_header(alloc, &mut reader, true) {
         Ok(header) => header,
         Err(error) => return refused_as(error, None),

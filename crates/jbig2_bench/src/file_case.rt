@@ -29,53 +29,51 @@ pub enum FileCase {
     NoFirstPage(&'static str, DecodeError),
 }
 
+impl FileCase {
+    fn bytes(&self) -> &'static str {
+        match self {
+            FileCase::Refused(_, bytes, _)
+            | FileCase::Pages(_, bytes, _)
+            | FileCase::CutOff { bytes, but: _ }
+            | FileCase::NoGlobals(bytes, _)
+            | FileCase::NoFirstPage(bytes, _) => bytes,
+        }
+    }
+}
+
 /// Whether a case holds. Answers `DecodeError::OutOfMemory` alone.
 pub fn file_holds<A: Allocator + Clone>(
     alloc: A,
     case: &FileCase,
     context: &mut DecoderContext<A>,
 ) -> Result<bool> {
+    let Some(bytes) = spelled(alloc.clone()?, case.bytes())? else {
+        return Ok(false);
+    };
     match case {
-        FileCase::Refused(modes, bytes, error) => {
-            let Some(bytes) = spelled(alloc.clone()?, bytes)? else {
-                return Ok(false);
-            };
+        FileCase::Refused(modes, _, error) => {
             let strict = !modes.has(true) || refusal_holds(alloc.clone()?, &bytes, true, error)?;
             let lenient = !modes.has(false) || refusal_holds(alloc, &bytes, false, error)?;
             Ok(strict && lenient)
         }
-        FileCase::Pages(modes, bytes, pages) => {
-            let Some(bytes) = spelled(alloc.clone()?, bytes)? else {
-                return Ok(false);
-            };
+        FileCase::Pages(modes, _, pages) => {
             let strict = !modes.has(true)
                 || pages_hold(alloc.clone()?, &bytes, true, pages, context)?;
             let lenient = !modes.has(false) || pages_hold(alloc, &bytes, false, pages, context)?;
             Ok(strict && lenient)
         }
-        FileCase::CutOff { bytes, but } => {
-            let Some(bytes) = spelled(alloc.clone()?, bytes)? else {
-                return Ok(false);
-            };
+        FileCase::CutOff { bytes: _, but } => {
             let strict = cuts_hold(alloc.clone()?, &bytes, true, *but)?;
             Ok(strict && cuts_hold(alloc, &bytes, false, *but)?)
         }
-        FileCase::NoGlobals(bytes, error) => {
-            let Some(bytes) = spelled(alloc.clone()?, bytes)? else {
-                return Ok(false);
-            };
+        FileCase::NoGlobals(_, error) => {
             let strict = no_globals_hold(alloc.clone()?, &bytes, true, error)?;
             Ok(strict && no_globals_hold(alloc, &bytes, false, error)?)
         }
-        FileCase::NoFirstPage(bytes, error) => {
-            let Some(bytes) = spelled(alloc.clone()?, bytes)? else {
-                return Ok(false);
-            };
-            match Jbig2Decoder::new(alloc, Cursor::new(bytes)) {
-                Ok(_) | Err(Jbig2Error::Io(_)) => Ok(false),
-                Err(Jbig2Error::Decode(refusal)) => refused_as(refusal, Some(error)),
-            }
-        }
+        FileCase::NoFirstPage(_, error) => match Jbig2Decoder::new(alloc, Cursor::new(bytes)) {
+            Ok(_) | Err(Jbig2Error::Io(_)) => Ok(false),
+            Err(Jbig2Error::Decode(refusal)) => refused_as(refusal, Some(error)),
+        },
     }
 }
 

@@ -1,16 +1,9 @@
-//! The public calls that no row makes: files, images, globals, and the calls that spell a bitmap.
-ghost use Rattle.std.specs.Prelude.{◌≡◌};
-
-use crate::call::{BLACK, WHITE};
+//! The public calls that no row makes: images of files, and globals.
+use crate::call::WHITE;
 use crate::spelling::spelled;
 use crate::watcher::Watcher;
-use hayro_jbig2::calls::push_bitmap;
-use hayro_jbig2::parts::bitmap::Bitmap;
-use hayro_jbig2::parts::bitmap::steps::Steps;
 use hayro_jbig2::{DecodeError, DecodeSettings, DecoderContext, File, Globals, Page, Result};
-use std::alloc::{Allocator, Global};
-use std::marker::Brand;
-use std::sync::ledger::{Blank, Ledger};
+use std::alloc::Global;
 
 const STRICT: DecodeSettings = DecodeSettings { strict: true };
 
@@ -52,33 +45,16 @@ fn globals_hold(alloc: Global) -> Result<bool> {
     Ok(watcher.is_satisfied())
 }
 
-/// Whether a black bitmap of 8 by 1 is spelled.
-fn bitmap_holds<A: Allocator, L: Ledger>(alloc: A, blank: Blank) -> Result<bool>
-    requires name { blank.name ≡ L.name }
-    requires parts { blank.parts ≡ L.parts }
-    requires enough { blank.parts ≡ 6 }
-{
-    let mut steps = Steps::<L>::new(blank);
-    let bitmap = Bitmap::new_with(alloc, 8, 1, true)?;
-    let mut watcher = Watcher::new(BLACK);
-    push_bitmap(&bitmap, &mut watcher, &mut steps)?;
-    Ok(watcher.is_satisfied())
-}
-
 /// All of them; the first that fails ends it.
-fn surface_holds(alloc: Global) -> Result<[bool; 3]> {
-    Ok([
-        file_holds(alloc)?,
-        globals_hold(alloc)?,
-        bitmap_holds::<_, Brand>(alloc, Blank::new(6))?,
-    ])
+fn surface_holds(alloc: Global) -> Result<[bool; 2]> {
+    Ok([file_holds(alloc)?, globals_hold(alloc)?])
 }
 
 #[test]
-fn files_images_globals_and_bitmaps(rt: HostRuntime) {
+fn images_of_files_and_globals(rt: HostRuntime) {
     let mut holds = surface_holds(rt.alloc());
     if holds == Err(DecodeError::OutOfMemory) {
         holds = surface_holds(rt.alloc());
     }
-    assert!(rt; holds == Ok([true, true, true]));
+    assert!(rt; holds == Ok([true, true]));
 }
