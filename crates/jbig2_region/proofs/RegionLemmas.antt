@@ -7,7 +7,7 @@ use Rattle.jbig2_region.specs.Generic.{context_at, colour_above}
 use Rattle.jbig2_region.specs.Holds.{Holds, BeginsRow}
 use Rattle.jbig2_region.specs.Neighbours.{Decodes, row_coding}
 use Rattle.jbig2_region.specs.Raster.{Coding, Region, after_pixel, after_pixels, row_begun, row_decisions, after_rows}
-use Rattle.jbig2_region.specs.RunBytes.{CountsRegion, CountsRow, coded_rows, coded_runs, row_loads, row_tests, run_bytes}
+use Rattle.jbig2_region.specs.RunBytes.{CountsRegion, CountsRow, coded_rows, coded_runs, row_loads, row_tests, row_words, run_bytes}
 use Rattle.jbig2_region.specs.declared.template.AdaptiveTemplatePixel.{AdaptiveTemplatePixel}
 use Rattle.jbig2_region.proofs.RasterLemmas.{after_rows-length, region-step, no-rows}
 
@@ -110,15 +110,17 @@ empty-counts template nominal adaptive coding w h input start steps none = recor
   empty = λ _. refl;
   decisions = λ some. absurd (omega arith);
   run_tests = omega arith;
+  words = omega arith;
   loads = omega arith;
 }
 
 pub region-counts : (template : List AdaptiveTemplatePixel) (nominal : Bool) (adaptive : ℕ) (coding : Coding) (w h y : ℕ) (input : List ℕ) (start : Region) (before after : Counts) → (w ≡ 0 → ⊥) → y ≡ h → (y ≡ 0 → after ≡ before)
-    → Counted template nominal coding w h input y start before.decisions after.decisions → after.run_tests ≤ before.run_tests + y * row_tests nominal w → after.loads ≤ before.loads + (y * row_loads nominal w + w * coded_rows coding w h input y start * adaptive)
+    → Counted template nominal coding w h input y start before.decisions after.decisions → after.run_tests ≤ before.run_tests + y * row_tests nominal w → after.words ≤ before.words + y * row_words nominal w → after.loads ≤ before.loads + (y * row_loads nominal w + w * coded_rows coding w h input y start * adaptive)
     → CountsRegion template nominal adaptive coding w h input start before after
-region-counts template nominal adaptive coding w h y input start before after some all none counted tests loads = record {
+region-counts template nominal adaptive coding w h y input start before after some all none counted tests words loads = record {
   empty = λ product. none (no-rows w h y some all product);
   decisions = λ _. subst (λ (n : ℕ). after.decisions + 8 * coded_runs template nominal coding w h input n start ≡ before.decisions + (n * row_decisions coding.row_context + w * coded_rows coding w h input n start)) all counted.total;
+  words = subst (λ (n : ℕ). after.words ≤ before.words + n * row_words nominal w) all words;
   run_tests = subst (λ (n : ℕ). after.run_tests ≤ before.run_tests + n * row_tests nominal w) all tests;
   loads = subst (λ (n : ℕ). after.loads ≤ before.loads + (n * row_loads nominal w + w * coded_rows coding w h input n start * adaptive)) all loads;
 }

@@ -74,10 +74,15 @@ row_loads nominal w = if nominal then 2 * ((w - 1) / 8 + 2) else 3 * (w / 32 + 2
 abbrev pub row_tests : Bool → ℕ → ℕ
 row_tests nominal w = if nominal then (w - 1) / 8 else 0
 
+-- words written: one for each byte begun, or one for each pixel
+abbrev pub row_words : Bool → ℕ → ℕ
+row_words nominal w = if nominal then (w - 1) / 8 + 1 else w
+
 -- What a region of w columns and h rows takes: one decision for each coded pixel, less eight for each run byte, and one
 -- for each row that begins with one. An empty region takes no step.
 pub record CountsRegion (template : List AdaptiveTemplatePixel) (nominal : Bool) (adaptive : ℕ) (coding : Coding) (w h : ℕ) (bytes : List ℕ) (start : Region) (before after : Counts) : Type 0 where
   pub empty : w * h ≡ 0 → after ≡ before
   pub decisions : 1 ≤ w → after.decisions + 8 * coded_runs template nominal coding w h bytes h start ≡ before.decisions + (h * row_decisions coding.row_context + w * coded_rows coding w h bytes h start)
   pub run_tests : after.run_tests ≤ before.run_tests + h * row_tests nominal w
+  pub words : after.words ≤ before.words + h * row_words nominal w
   pub loads : after.loads ≤ before.loads + (h * row_loads nominal w + w * coded_rows coding w h bytes h start * adaptive)

@@ -7,7 +7,7 @@ ghost use Rattle.jbig2_coder.specs.Coder.{Coder, Context};
 ghost use Rattle.jbig2_region.specs.Holds.{Holds};
 ghost use Rattle.jbig2_region.specs.Neighbours.{Decodes, IsLayout, is_nominal_layout, layout_coding, layout_count, layout_loads, layout_pixels};
 ghost use Rattle.jbig2_region.specs.Raster.{decoded, no_pixels};
-ghost use Rattle.jbig2_region.specs.RunBytes.{CountsRegion, CountsRow, row_loads, row_tests};
+ghost use Rattle.jbig2_region.specs.RunBytes.{CountsRegion, CountsRow, row_loads, row_tests, row_words};
 ghost use Rattle.jbig2_region.specs.declared.template.AdaptiveTemplatePixel.{AdaptiveTemplatePixel};
 
 mod bytes;
@@ -94,6 +94,7 @@ fn decode_row<A: Allocator, L: Ledger>(
     ensures contexts { length contexts.new ≡ length contexts.old }
     ensures decisions { CountsRow (layout_pixels layout.now) (is_nominal_layout layout.now.adaptive) predicted y bitmap.old decoder.old contexts.old steps.old.decisions steps.new.decisions }
     ensures run_tests { steps.new.run_tests ≤ steps.old.run_tests + row_tests (is_nominal_layout layout.now.adaptive) bitmap.old.width }
+    ensures words { steps.new.words ≤ steps.old.words + row_words (is_nominal_layout layout.now.adaptive) bitmap.old.width }
     ensures loads { steps.new.loads ≤ steps.old.loads + (row_loads (is_nominal_layout layout.now.adaptive) bitmap.old.width + bitmap.old.width * (if predicted then 0 else layout_loads layout.now.adaptive)) }
 {
     if predicted {

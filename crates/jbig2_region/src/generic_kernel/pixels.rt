@@ -83,6 +83,7 @@ fn decode_pixels<A: Allocator, L: Ledger>(
     ensures decisions { steps.new.decisions ≡ steps.old.decisions + count }
     ensures run_tests { steps.new.run_tests ≡ steps.old.run_tests }
     ensures loads { steps.new.loads ≡ steps.old.loads + (2 + count * adaptive_count adaptive.now) }
+    ensures words { steps.new.words ≡ steps.old.words + count }
 {
     let windows = windows_at(bitmap, x, y, steps);
     let mut left = left;
@@ -120,6 +121,7 @@ pub fn decode_row_by_pixels<A: Allocator, L: Ledger>(
     ensures decisions { steps.new.decisions ≡ steps.old.decisions + bitmap.old.width }
     ensures run_tests { steps.new.run_tests ≡ steps.old.run_tests }
     ensures loads { steps.new.loads ≤ steps.old.loads + (2 * (bitmap.old.width / 32 + 1) + bitmap.old.width * adaptive_count adaptive.now) }
+    ensures words { steps.new.words ≡ steps.old.words + bitmap.old.width }
 {
     let width = bitmap.width();
     let mut left = 0;

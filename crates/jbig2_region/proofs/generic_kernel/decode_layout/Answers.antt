@@ -3,7 +3,7 @@ use Rattle.jbig2_base.specs.Counts.{Counts}
 use Rattle.jbig2_region.specs.Holds.{Holds}
 use Rattle.jbig2_region.specs.Neighbours.{Decodes, is_nominal_layout, layout_coding, layout_loads, layout_pixels}
 use Rattle.jbig2_region.specs.Raster.{Region, no_pixels, after_rows}
-use Rattle.jbig2_region.specs.RunBytes.{CountsRow, row_loads, row_tests, coded_rows}
+use Rattle.jbig2_region.specs.RunBytes.{CountsRow, row_loads, row_tests, row_words, coded_rows}
 use Rattle.jbig2_region.proofs.RasterLemmas.{after_rows-none, region-start, region-empty, region-whole}
 use Rattle.jbig2_region.proofs.RegionLemmas.{Counted, counted-none, counted-next, predicted-next, loads-next, tests-next, layout-step, empty-counts, region-counts}
 use Rattle.jbig2_region.proofs.generic_kernel.decode_layout.Goals as goal
@@ -27,6 +27,7 @@ loop-y-init g c =
       none = λ _. refl;
       decisions = counted-none (layout_pixels c.args.layout.now) (is_nominal_layout c.args.layout.now.adaptive) (layout_coding c.args.layout.now c.args.row_context) c.args.bitmap.now.width c.args.bitmap.now.height c.args.decoder.now.bytes start c.args.steps.now.decisions;
       run_tests = omega arith;
+      words = omega arith;
       loads = omega arith;
     }
 
@@ -48,6 +49,8 @@ loop-y-preserved g c =
     predicted-next coding c.loop-y.y c.loop-y.predicted c.begin_row-predicted.result c.loop-y.bitmap c.loop-y.decoder c.loop-y.contexts c.begin_row-predicted.new.decoder c.begin_row-predicted.new.contexts start w h input c.loop-y.invariant.bytes refl c.begin_row-predicted.ensures.row c.loop-y.invariant.holds c.loop-y.invariant.predicted in
     let tests : c.decode_row.new.steps.run_tests ≤ c.begin_row-predicted.new.steps.run_tests + row_tests nominal w = subst (λ (n : ℕ). c.decode_row.new.steps.run_tests ≤ c.begin_row-predicted.new.steps.run_tests + row_tests nominal n) c.loop-y.invariant.width c.decode_row.ensures.run_tests in
     let same_tests : c.begin_row-predicted.new.steps.run_tests ≡ c.loop-y.steps.run_tests = ap (λ (s : Counts). s.run_tests) begun in
+    let written : c.decode_row.new.steps.words ≤ c.begin_row-predicted.new.steps.words + row_words nominal w = subst (λ (n : ℕ). c.decode_row.new.steps.words ≤ c.begin_row-predicted.new.steps.words + row_words nominal n) c.loop-y.invariant.width c.decode_row.ensures.words in
+    let same_words : c.begin_row-predicted.new.steps.words ≡ c.loop-y.steps.words = ap (λ (s : Counts). s.words) begun in
     let same_loads : c.begin_row-predicted.new.steps.loads ≡ c.loop-y.steps.loads = ap (λ (s : Counts). s.loads) begun in
     record {
       width = c.decode_row.ensures.width ∙ c.loop-y.invariant.width;
@@ -61,6 +64,7 @@ loop-y-preserved g c =
           c.args.steps.now.decisions c.loop-y.steps.decisions c.begin_row-predicted.new.steps.decisions c.decode_row.new.steps.decisions
           c.loop-y.invariant.bytes refl c.begin_row-predicted.ensures.row c.loop-y.invariant.holds c.loop-y.invariant.predicted c.loop-y.invariant.decisions (ap (λ (s : Counts). s.decisions) begun) c.decode_row.ensures.decisions;
       run_tests = tests-next c.args.steps.now.run_tests c.loop-y.steps.run_tests c.decode_row.new.steps.run_tests (row_tests nominal w) c.loop-y.y c.loop-y.invariant.run_tests (subst (λ (n : ℕ). c.decode_row.new.steps.run_tests ≤ n + row_tests nominal w) same_tests tests);
+      words = tests-next c.args.steps.now.words c.loop-y.steps.words c.decode_row.new.steps.words (row_words nominal w) c.loop-y.y c.loop-y.invariant.words (subst (λ (n : ℕ). c.decode_row.new.steps.words ≤ n + row_words nominal w) same_words written);
       loads =
           rw coded
           (loads-next c.begin_row-predicted.result c.args.steps.now.loads c.loop-y.steps.loads c.decode_row.new.steps.loads (row_loads nominal w) w (coded_rows coding w h input c.loop-y.y start) (layout_loads c.args.layout.now.adaptive) c.loop-y.y c.loop-y.invariant.loads
@@ -76,4 +80,4 @@ returns-clause-holds g c =
 pub returns-clause-steps : goal.returns-clause-steps
 returns-clause-steps g c =
     region-counts (layout_pixels c.args.layout.now) (is_nominal_layout c.args.layout.now.adaptive) (layout_loads c.args.layout.now.adaptive) (layout_coding c.args.layout.now c.args.row_context) c.args.bitmap.now.width c.args.bitmap.now.height c.loop-y.y c.args.decoder.now.bytes (no_pixels c.args.decoder.now.registers c.args.contexts.now) c.args.steps.now c.loop-y.steps
-    (λ none. c.if-width-eq0.false (c.width.ensures.value ∙ none)) (omega arith) c.loop-y.invariant.none c.loop-y.invariant.decisions c.loop-y.invariant.run_tests c.loop-y.invariant.loads
+    (λ none. c.if-width-eq0.false (c.width.ensures.value ∙ none)) (omega arith) c.loop-y.invariant.none c.loop-y.invariant.decisions c.loop-y.invariant.run_tests c.loop-y.invariant.words c.loop-y.invariant.loads

@@ -2,7 +2,7 @@ use Rattle.std.proofs.Common.{◌≡◌, ◌≤◌, ◌+◌, ◌*◌}
 use Rattle.jbig2_region.specs.Holds.{Holds}
 use Rattle.jbig2_region.specs.Neighbours.{is_nominal_layout, layout_coding, layout_loads, layout_pixels}
 use Rattle.jbig2_region.specs.Raster.{after_rows, no_pixels}
-use Rattle.jbig2_region.specs.RunBytes.{coded_rows, row_loads, row_tests}
+use Rattle.jbig2_region.specs.RunBytes.{coded_rows, row_loads, row_tests, row_words}
 use Rattle.jbig2_region.proofs.RegionLemmas.{Counted}
 use Rattle.jbig2_region.proofs.generic_kernel.decode_layout.Given as goal
 
@@ -16,5 +16,6 @@ invariant-loop-y g l = record {
   none : l.y ≡ 0 → l.steps ≡ l.initial.steps;
   decisions : Counted (layout_pixels l.fn.layout) (is_nominal_layout l.fn.layout.adaptive) (layout_coding l.fn.layout l.fn.row_context) l.initial.bitmap.width l.initial.bitmap.height l.initial.decoder.bytes l.y (no_pixels l.initial.decoder.registers l.initial.contexts) l.initial.steps.decisions l.steps.decisions;
   run_tests : l.steps.run_tests ≤ l.initial.steps.run_tests + l.y * row_tests (is_nominal_layout l.fn.layout.adaptive) l.initial.bitmap.width;
+  words : l.steps.words ≤ l.initial.steps.words + l.y * row_words (is_nominal_layout l.fn.layout.adaptive) l.initial.bitmap.width;
   loads : l.steps.loads ≤ l.initial.steps.loads + (l.y * row_loads (is_nominal_layout l.fn.layout.adaptive) l.initial.bitmap.width + l.initial.bitmap.width * coded_rows (layout_coding l.fn.layout l.fn.row_context) l.initial.bitmap.width l.initial.bitmap.height l.initial.decoder.bytes l.y (no_pixels l.initial.decoder.registers l.initial.contexts) * layout_loads l.fn.layout.adaptive);
 }

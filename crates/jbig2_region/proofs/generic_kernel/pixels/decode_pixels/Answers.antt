@@ -19,6 +19,7 @@ loop-offset-init g c =
       left = subst (λ (n : ℕ). IsLeft c.args.bitmap.now n c.args.y c.args.left) place c.requires.left;
       holds = decodes-none (mixed_pixels c.args.neighbours c.args.adaptive.now) _ c.args.x c.args.y c.args.bitmap.now c.args.decoder.now c.args.contexts.now;
       decisions = omega arith;
+      words = omega arith;
       run_tests = refl;
       loads = omega arith;
     }
@@ -46,6 +47,7 @@ loop-offset-preserved g c =
           decodes-pixel (mixed_pixels c.args.neighbours c.args.adaptive.now) c.args.x c.args.y c.loop-offset.offset c.args.bitmap.now c.loop-offset.bitmap c.store_pixels.new.self c.args.decoder.now c.loop-offset.decoder c.decode-symbol.new.self c.args.contexts.now c.loop-offset.contexts c.mixed_context-context.result c.decode-symbol.result c.index-contexts-context.result c.decode-symbol.new.context
           c.loop-offset.invariant.holds (omega arith) (omega arith) c.mixed_context-context.ensures.value inside stored c.decode-symbol.ensures.value c.decode-symbol.ensures.coder c.decode-symbol.ensures.context;
       decisions = ap (λ (s : Counts). s.decisions) steps ∙ omega (arith, c.loop-offset.invariant.decisions);
+      words = ap (λ (s : Counts). s.words) steps ∙ omega (arith, c.loop-offset.invariant.words);
       run_tests = ap (λ (s : Counts). s.run_tests) steps ∙ c.loop-offset.invariant.run_tests;
       loads = ap (λ (s : Counts). s.loads) steps ∙ omega (arith, c.loop-offset.invariant.loads);
     }

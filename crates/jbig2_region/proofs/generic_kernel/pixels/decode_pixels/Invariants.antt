@@ -13,6 +13,7 @@ invariant-loop-offset g l = record {
   left : IsLeft l.bitmap (l.fn.x + l.offset) l.fn.y l.left;
   holds : Decodes (mixed_pixels l.fn.neighbours l.fn.adaptive) false l.fn.x l.fn.y l.offset l.initial.bitmap l.initial.decoder l.initial.contexts l.bitmap l.decoder l.contexts;
   decisions : l.steps.decisions ≡ l.initial.steps.decisions + l.offset;
+  words : l.steps.words ≡ l.initial.steps.words + l.offset;
   run_tests : l.steps.run_tests ≡ l.initial.steps.run_tests;
   loads : l.steps.loads ≡ l.initial.steps.loads + l.offset * adaptive_count l.fn.adaptive;
 }

@@ -17,6 +17,7 @@ loop-index-init g c =
           subst (λ (n : ℕ). Decodes (mixed_pixels c.args.neighbours c.args.adaptive.now) false 0 c.args.y n c.args.bitmap.now c.args.decoder.now c.args.contexts.now c.args.bitmap.now c.args.decoder.now c.args.contexts.now) none
           (decodes-none (mixed_pixels c.args.neighbours c.args.adaptive.now) false 0 c.args.y c.args.bitmap.now c.args.decoder.now c.args.contexts.now);
       decisions = omega arith;
+      words = omega arith;
       run_tests = refl;
       loads = none-loads c.args.steps.now.loads _ (adaptive_count c.args.adaptive.now) none;
     }
@@ -37,6 +38,7 @@ loop-index-preserved g c =
           c.args.bitmap.now c.loop-index.bitmap c.decode_pixels-left.new.bitmap c.args.decoder.now c.loop-index.decoder c.decode_pixels-left.new.decoder c.args.contexts.now c.loop-index.contexts c.decode_pixels-left.new.contexts
           c.loop-index.invariant.holds c.decode_pixels-left.ensures.holds (omega arith) next;
       decisions = omega (arith, c.decode_pixels-left.ensures.decisions, c.loop-index.invariant.decisions);
+      words = omega (arith, c.decode_pixels-left.ensures.words, c.loop-index.invariant.words);
       run_tests = c.decode_pixels-left.ensures.run_tests ∙ c.loop-index.invariant.run_tests;
       loads = block-loads c.args.steps.now.loads c.loop-index.steps.loads c.decode_pixels-left.new.steps.loads c.loop-index.index c.min-count.result (adaptive_count c.args.adaptive.now) (min (c.loop-index.index * 32) c.args.bitmap.now.width) _ c.loop-index.invariant.loads c.decode_pixels-left.ensures.loads next;
     }

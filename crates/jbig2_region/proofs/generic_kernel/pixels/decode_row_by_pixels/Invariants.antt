@@ -11,6 +11,7 @@ invariant-loop-index g l = record {
   left : IsLeft l.bitmap (min (l.index * 32) l.initial.bitmap.width) l.fn.y l.left;
   holds : Decodes (mixed_pixels l.fn.neighbours l.fn.adaptive) false 0 l.fn.y (min (l.index * 32) l.initial.bitmap.width) l.initial.bitmap l.initial.decoder l.initial.contexts l.bitmap l.decoder l.contexts;
   decisions : l.steps.decisions ≡ l.initial.steps.decisions + min (l.index * 32) l.initial.bitmap.width;
+  words : l.steps.words ≡ l.initial.steps.words + min (l.index * 32) l.initial.bitmap.width;
   run_tests : l.steps.run_tests ≡ l.initial.steps.run_tests;
   loads : l.steps.loads ≡ l.initial.steps.loads + (2 * l.index + min (l.index * 32) l.initial.bitmap.width * adaptive_count l.fn.adaptive);
 }
