@@ -1,11 +1,11 @@
 -- Run bytes: the kernel's test is the definition's.
-use Rattle.std.proofs.Common.{append_assoc, length-append, subst, pos, negsuc, ℤ, ◌+ℤ◌, ◌-ℤ◌, ◌≡◌, ℕ, zero, suc, ◌+◌, ◌-◌, ◌*◌, ◌/◌, ◌%◌, ◌^◌, ◌<◌, ◌≤◌, Bool, true, false, not, ◌&&◌, ◌||◌, cond, eqb, ltb, List, [], ◌∷◌, ◌++◌, length, get_or, replicate, add-one, refl, sym, ap, ◌∙◌, ⊎_elim, arith}
+use Rattle.std.proofs.Common.{length-append, subst, pos, negsuc, ℤ, ◌+ℤ◌, ◌-ℤ◌, ◌≡◌, ℕ, zero, suc, ◌+◌, ◌-◌, ◌*◌, ◌%◌, ◌^◌, ◌<◌, ◌≤◌, Bool, true, false, ◌&&◌, cond, eqb, List, ◌++◌, length, get_or, replicate, refl, sym, ap, ◌∙◌, ⊎_elim, arith}
 use Rattle.std.proofs.lemmas.Bool.{cases_eq, cases_lt, eq-eqb, eqb-true, ne_eqb, cond-true, cond-false, and_from, and_left, and_parts}
 use Rattle.std.proofs.lemmas.Int.{ints}
 use Rattle.std.proofs.lemmas.List.{append-nil, length-replicate, get_or-replicate, get_or_append_left, get_or-append-add}
 use Rattle.std.proofs.Math.Nat.{mul-le-mul_left}
 use Rattle.std.proofs.lemmas.Nat.{mod-mul-add, div-mul-add}
-use Rattle.jbig2_base.specs.Grid.{Grid, grid_of, pixel, pixel_at, bit_number}
+use Rattle.jbig2_base.specs.Grid.{Grid, pixel, pixel_at}
 use Rattle.jbig2_base.specs.WordBits.{bit}
 use Rattle.jbig2_base.proofs.GridLemmas.{pixel_at-grid_of, pixel_at-right, pixel_at-below}
 use Rattle.jbig2_region.specs.Generic.{context_at}

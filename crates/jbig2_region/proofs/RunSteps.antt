@@ -1,9 +1,9 @@
 -- What a run does, pixel by pixel.
-use Rattle.std.proofs.Common.{append_assoc, length-append, set, subst, pos, ◌-ℤ◌, ◌≡◌, ℕ, zero, suc, ◌+◌, ◌-◌, ◌*◌, ◌/◌, ◌%◌, ◌^◌, ◌<◌, ◌≤◌, Bool, true, false, not, ◌&&◌, ◌||◌, cond, List, [], ◌∷◌, ◌++◌, length, get_or, replicate, add-one, refl, sym, ap, ◌∙◌, ⊎_elim, arith}
+use Rattle.std.proofs.Common.{append_assoc, length-append, set, subst, pos, ◌-ℤ◌, ◌≡◌, ℕ, zero, suc, ◌+◌, ◌-◌, ◌*◌, ◌<◌, ◌≤◌, Bool, true, false, not, List, [], ◌∷◌, ◌++◌, length, get_or, replicate, refl, sym, ap, ◌∙◌, arith}
 use Rattle.std.proofs.lemmas.Bool.{and_parts, true≢false}
 use Rattle.std.proofs.lemmas.Int.{ints}
 use Rattle.std.proofs.lemmas.List.{append-nil, length-replicate, replicate-append-replicate, set-get_or}
-use Rattle.jbig2_base.specs.Grid.{Grid, bit_number, pixel_at}
+use Rattle.jbig2_base.specs.Grid.{Grid, bit_number}
 use Rattle.jbig2_base.specs.WordBits.{bit}
 use Rattle.jbig2_base.specs.Writes.{with_pixel, with_pixels}
 use Rattle.jbig2_coder.specs.Coder.{Coder, Context, Decision, decision, fresh, is_quiet, all_quiet}
@@ -16,7 +16,7 @@ use Rattle.jbig2_region.specs.Neighbours.{IsLeft, row_coding}
 use Rattle.jbig2_region.specs.Raster.{Region, so_far, after_pixel, after_pixels}
 use Rattle.jbig2_region.specs.RunBytes.{all_of, stays, same_colour, is_run_of}
 use Rattle.jbig2_region.specs.declared.template.AdaptiveTemplatePixel.{AdaptiveTemplatePixel}
-use Rattle.jbig2_region.proofs.RasterLemmas.{Holds-decided, so_far-push, after_pixels-length, after_pixels-predicted, after_pixels-none}
+use Rattle.jbig2_region.proofs.RasterLemmas.{Holds-decided, so_far-push, after_pixels-length, after_pixels-predicted}
 use Rattle.jbig2_region.proofs.RunLemmas.{stays-context}
 use Rattle.jbig2_region.proofs.StoreLemmas.{stored-push, stored-inside, none-stored, white-next, width-so_far, height-so_far}
 use Rattle.jbig2_region.proofs.UniformLemmas.{full, full-bit}

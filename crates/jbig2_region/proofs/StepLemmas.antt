@@ -1,5 +1,5 @@
 -- Counts of steps.
-use Rattle.std.proofs.Common.{◌≡◌, ℕ, ◌+◌, ◌*◌, refl, sym, ap, ◌∙◌, arith}
+use Rattle.std.proofs.Common.{◌≡◌, ℕ, ◌+◌, ◌*◌, sym, ap, ◌∙◌, arith}
 use Rattle.jbig2_base.specs.Counts.{Counts}
 
 abbrev loaded : Counts → ℕ → Counts

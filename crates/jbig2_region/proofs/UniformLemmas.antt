@@ -1,5 +1,5 @@
 -- Contexts of one colour, and the pixels that they are made from.
-use Rattle.std.proofs.Common.{pow-suc, subst, pos, negsuc, ℤ, ◌+ℤ◌, ◌-ℤ◌, ◌≡◌, ℕ, zero, suc, ◌+◌, ◌-◌, ◌*◌, ◌/◌, ◌%◌, ◌^◌, ◌<◌, ◌≤◌, Bool, true, false, ◌&&◌, cond, eqb, List, [], ◌∷◌, ◌++◌, length, map, replicate, add-one, refl, sym, ap, ◌∙◌, ⊎_elim, arith}
+use Rattle.std.proofs.Common.{pow-suc, subst, pos, ℤ, ◌+ℤ◌, ◌-ℤ◌, ◌≡◌, ℕ, zero, suc, ◌+◌, ◌-◌, ◌*◌, ◌/◌, ◌%◌, ◌^◌, ◌<◌, Bool, true, false, cond, replicate, refl, sym, ap, ◌∙◌, arith}
 use Rattle.std.proofs.lemmas.Bool.{eq-eqb, eqb-true}
 use Rattle.std.proofs.lemmas.Int.{ints}
 use Rattle.std.proofs.lemmas.List.{replicate-append-replicate, length-replicate}
@@ -10,7 +10,6 @@ use Rattle.jbig2_base.specs.WordBits.{bit}
 use Rattle.jbig2_base.proofs.BitLemmas.{bit_number-bit, bit-zero, bit-ones, bit-mod, bit-shr}
 use Rattle.jbig2_region.specs.Generic.{number_of, context_at}
 use Rattle.jbig2_region.specs.Neighbours.{side_by_side, is_field}
-use Rattle.jbig2_region.specs.declared.template.AdaptiveTemplatePixel.{AdaptiveTemplatePixel}
 use Rattle.jbig2_region.proofs.ContextBits.{number_of-append}
 
 -- the number of so many bits of one colour

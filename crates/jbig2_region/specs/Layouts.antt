@@ -1,5 +1,5 @@
 -- The templates of generic regions by their neighbours (our own rule), and their nominal adaptive pixels (T.88, 6.2.5.4).
-use Rattle.std.specs.Prelude.{ℕ, ◌+◌, ◌*◌, ◌≡◌, Bool, false, ◌&&◌, if◌then◌else◌, ℤ, pos, negsuc, List}
+use Rattle.std.specs.Prelude.{ℕ, ◌*◌, ◌≡◌, Bool, false, ◌&&◌, if◌then◌else◌, ℤ, pos, negsuc, List}
 use Rattle.std.specs.Ordering.{int_eq}
 use Rattle.jbig2_base.specs.Counts.{Counts}
 use Rattle.jbig2_coder.specs.Coder.{started}

@@ -1,4 +1,4 @@
-use Rattle.std.proofs.Common.{arith, refl, min, true, subst, sym, ap, ◌≡◌, ◌≤◌, ◌+◌, ◌*◌, ◌/◌, ℕ, ◌∙◌}
+use Rattle.std.proofs.Common.{arith, refl, min, true, subst, sym, ap, ◌≡◌, ◌+◌, ◌*◌, ℕ, ◌∙◌}
 use Rattle.jbig2_base.specs.Counts.{Counts}
 use Rattle.jbig2_base.specs.Grid.{Grid}
 use Rattle.jbig2_region.specs.Neighbours.{Decodes}

@@ -3,9 +3,9 @@ use Rattle.jbig2_base.specs.Counts.{Counts}
 use Rattle.jbig2_region.specs.Holds.{Holds}
 use Rattle.jbig2_region.specs.Neighbours.{Decodes, is_nominal_layout, layout_coding, layout_loads, layout_pixels}
 use Rattle.jbig2_region.specs.Raster.{Region, no_pixels, after_rows}
-use Rattle.jbig2_region.specs.RunBytes.{CountsRow, row_loads, row_tests, row_words, coded_rows}
+use Rattle.jbig2_region.specs.RunBytes.{row_loads, row_tests, row_words, coded_rows}
 use Rattle.jbig2_region.proofs.RasterLemmas.{after_rows-none, region-start, region-empty, region-whole}
-use Rattle.jbig2_region.proofs.RegionLemmas.{Counted, counted-none, counted-next, predicted-next, loads-next, tests-next, layout-step, empty-counts, region-counts}
+use Rattle.jbig2_region.proofs.RegionLemmas.{counted-none, counted-next, predicted-next, loads-next, tests-next, layout-step, empty-counts, region-counts}
 use Rattle.jbig2_region.proofs.generic_kernel.decode_layout.Goals as goal
 
 pub returns-then-width-eq0-clause-holds : goal.returns-then-width-eq0-clause-holds

@@ -1,7 +1,6 @@
-use Rattle.std.proofs.Common.{arith, ℕ, ◌+◌, ◌-◌, ◌≡◌, pos, negsuc, ◌+ℤ◌, ap, sym, ◌∙◌}
-use Rattle.std.proofs.lemmas.Int.{ints}
+use Rattle.std.proofs.Common.{arith, ◌+◌, ◌-◌, sym, ◌∙◌}
 use Rattle.jbig2_base.proofs.BitLemmas.{bit-zero}
-use Rattle.jbig2_region.proofs.WindowLemmas.{pixel-above_all, row-above, pixel-inside}
+use Rattle.jbig2_region.proofs.WindowLemmas.{row-above}
 use Rattle.jbig2_region.proofs.generic_kernel.pixels_above.Goals as goal
 
 pub returns-then-y-eq0-clause-bits : goal.returns-then-y-eq0-clause-bits

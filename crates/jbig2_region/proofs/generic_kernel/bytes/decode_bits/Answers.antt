@@ -1,5 +1,4 @@
-use Rattle.std.proofs.Common.{arith, refl, get_or, length, ◌<◌, ◌≡◌, ◌∙◌, ◌+◌, ℕ, sym, ap, pow-suc, add-one}
-use Rattle.jbig2_base.specs.Counts.{Counts}
+use Rattle.std.proofs.Common.{arith, refl, length, ◌<◌, ◌∙◌, ◌+◌, ap}
 use Rattle.jbig2_base.specs.Writes.{with_pixels}
 use Rattle.jbig2_region.specs.Neighbours.{nominal_pixels}
 use Rattle.jbig2_region.proofs.StepLemmas.{no-decisions, more-decisions}

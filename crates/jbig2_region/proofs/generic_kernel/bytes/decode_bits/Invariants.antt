@@ -1,4 +1,4 @@
-use Rattle.std.proofs.Common.{◌≡◌, ◌+◌, ◌*◌, ◌<◌, ◌^◌, length, false}
+use Rattle.std.proofs.Common.{◌≡◌, ◌+◌, ◌<◌, ◌^◌, false}
 use Rattle.jbig2_base.specs.Writes.{with_pixels}
 use Rattle.jbig2_region.specs.Neighbours.{Decodes, IsLeft, nominal_pixels}
 use Rattle.jbig2_region.proofs.generic_kernel.bytes.decode_bits.Given as goal

@@ -1,10 +1,10 @@
-use Rattle.std.proofs.Common.{arith, refl, eqb, ◌%◌, ◌+◌, ◌*◌, ◌≡◌, ◌∙◌, ◌<◌, ℕ, Bool, List, true, false, not, sym, ap, subst}
+use Rattle.std.proofs.Common.{arith, refl, eqb, ◌%◌, ◌+◌, ◌≡◌, ◌∙◌, ℕ, Bool, List, true, false, not, sym, ap, subst}
 use Rattle.jbig2_base.specs.Counts.{Counts}
-use Rattle.jbig2_base.specs.Grid.{Grid, bit_number}
+use Rattle.jbig2_base.specs.Grid.{Grid}
 use Rattle.jbig2_base.specs.Writes.{with_pixels}
 use Rattle.jbig2_region.specs.Holds.{Holds}
 use Rattle.jbig2_region.specs.Neighbours.{nominal_pixels, row_coding, IsLeft}
-use Rattle.jbig2_region.specs.Raster.{Region, after_pixels}
+use Rattle.jbig2_region.specs.Raster.{after_pixels}
 use Rattle.jbig2_region.specs.RunBytes.{is_run_of}
 use Rattle.jbig2_region.proofs.CountLemmas.{byte-runs, counts-byte}
 use Rattle.jbig2_region.proofs.RunLemmas.{not-staying, run-colour, lowest-bit}

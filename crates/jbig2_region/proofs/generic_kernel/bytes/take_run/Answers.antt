@@ -1,7 +1,7 @@
-use Rattle.std.proofs.Common.{arith, refl, get_or, length, ◌≡◌, ◌-◌, ◌*◌, ◌<◌, ◌∙◌, ℕ, true, false, sym, ap, subst}
+use Rattle.std.proofs.Common.{get_or, length, ◌≡◌, ◌-◌, ◌*◌, ◌∙◌, ℕ, true, false, sym, ap, subst}
 use Rattle.std.specs.Prelude.{if◌then◌else◌}
 use Rattle.std.proofs.lemmas.List.{get_or_default}
-use Rattle.jbig2_coder.specs.Coder.{Coder, Context, fresh, all_quiet}
+use Rattle.jbig2_coder.specs.Coder.{Context, fresh, all_quiet}
 use Rattle.jbig2_coder.specs.Table.{row_of}
 use Rattle.jbig2_region.specs.Neighbours.{nominal_pixels}
 use Rattle.jbig2_region.specs.RunBytes.{all_of, same_colour}

@@ -1,4 +1,4 @@
-use Rattle.std.proofs.Common.{arith, refl, false, min, subst, sym, ◌≡◌, ◌≤◌, ◌+◌, ◌*◌, ◌/◌, ℕ, ◌∙◌, length}
+use Rattle.std.proofs.Common.{arith, refl, false, min, subst, ◌≡◌, ◌+◌, ◌*◌, ℕ, ◌∙◌}
 use Rattle.jbig2_region.specs.Neighbours.{Decodes, IsLeft, mixed_pixels, adaptive_count}
 use Rattle.jbig2_region.proofs.StepLemmas.{block-loads, none-loads}
 use Rattle.jbig2_region.proofs.StoreLemmas.{decodes-none, decodes-then, left-none}

@@ -1,5 +1,4 @@
-use Rattle.std.proofs.Common.{arith, subst, ◌≡◌, ℕ, ◌+◌, ◌^◌, ◌<◌, ◌≤◌, length, refl, sym, ◌∙◌}
-use Rattle.jbig2_region.specs.Neighbours.{mixed_count}
+use Rattle.std.proofs.Common.{arith, refl, ◌∙◌}
 use Rattle.jbig2_region.proofs.ContextBits.{lt-few, lt-sum, pow-few}
 use Rattle.jbig2_region.proofs.WindowLemmas.{mixed-context}
 use Rattle.jbig2_region.proofs.generic_kernel.pixels.mixed_context.Goals as goal
