@@ -3,3 +3,4 @@ mod GrayLemmas
 mod HalftoneLemmas
 mod PatternLemmas
 mod PlaneLemmas
+mod WorkedHalftones
