@@ -1,11 +1,11 @@
 -- Places of cells, and the number of a value's bits.
-use Rattle.std.proofs.Common.{◌≡◌, ℕ, zero, suc, ◌+◌, ◌-◌, ◌*◌, ◌/◌, ◌^◌, ◌<◌, ◌≤◌, Bool, true, false, cond, leb, length, drop, Result, Ok, Err, add-one, List, [], ◌∷◌, ◌++◌, map, get_or, ◌%◌, ℤ, pos, negsuc, ◌+ℤ◌, ◌-ℤ◌, pow-suc, refl, sym, ap, ◌∙◌, ⊎_elim, arith}
+use Rattle.std.proofs.Common.{◌≡◌, ℕ, zero, suc, ◌+◌, ◌-◌, ◌*◌, ◌/◌, ◌^◌, ◌<◌, ◌≤◌, Bool, true, false, leb, length, drop, Ok, Err, List, [], ◌∷◌, ◌++◌, map, get_or, ◌%◌, ℤ, pos, negsuc, ◌+ℤ◌, ◌-ℤ◌, pow-suc, refl, sym, ap, ◌∙◌, ⊎_elim, arith}
 use Rattle.std.proofs.lemmas.Bool.{cases_eq, le-leb, lt-leb}
 use Rattle.std.proofs.lemmas.Int.{ints, to_z-of_z}
 use Rattle.std.proofs.Math.Nat.{mul-le-mul_left}
 use Rattle.std.specs.Int.{int_shr, w32, w64}
 use mir.Val.{SFits, of_z, to_z}
-use Rattle.jbig2_region.specs.T6.{least, place_from}
+use Rattle.jbig2_region.specs.T6.{least}
 use Rattle.std.specs.List.{range_with_len}
 use Rattle.std.proofs.lemmas.List.FromFn.{get_or-map-range_with_len, length-map-range_with_len, map-range_with_len_more}
 use Rattle.std.proofs.lemmas.List.{drop_all}

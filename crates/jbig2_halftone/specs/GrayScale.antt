@@ -9,7 +9,7 @@ use Rattle.jbig2_base.specs.declared.error.OverflowError.TheVariants.{BitmapDime
 use Rattle.jbig2_coder.specs.Coder.{Context, started}
 use Rattle.jbig2_coder.specs.declared.arithmetic_decoder.registers.Registers.{Registers}
 use Rattle.jbig2_region.specs.Generic.{number_of}
-use Rattle.jbig2_region.specs.Raster.{Coding, Region, so_far, decoded, no_pixels, fresh_contexts}
+use Rattle.jbig2_region.specs.Raster.{Coding, so_far, decoded, no_pixels, fresh_contexts}
 use Rattle.jbig2_region.specs.Skipping.{skipping_coding, skip_of}
 use Rattle.jbig2_region.specs.T6.{differ, decoded as mmr_rows}
 use Rattle.jbig2_region.specs.Templates.{context_bits, left, right, template_pixels}

@@ -1,6 +1,6 @@
-use Rattle.std.proofs.Common.{◌≡◌, ◌≤◌, ◌-◌, List, Ok, false, ap, arith}
-use Rattle.jbig2_base.specs.Grid.{Grid, blank}
-use Rattle.jbig2_halftone.specs.GrayScale.{GrayScale, gray_view, plane_coding, coded_planes, planes_by_coder}
+use Rattle.std.proofs.Common.{◌≡◌, List, Ok, false, ap, arith}
+use Rattle.jbig2_base.specs.Grid.{Grid}
+use Rattle.jbig2_halftone.specs.GrayScale.{GrayScale, gray_view}
 use Rattle.jbig2_halftone.proofs.PatternLemmas.{blank-made}
 use Rattle.jbig2_halftone.proofs.PlaneLemmas.{reads-next, reads-small, reads-values, reads-sized, coded-none, coded-holds, coded-next, plane-width, plane-height}
 use Rattle.jbig2_halftone.proofs.gray_scale.read_coded_planes.Goals as goal

@@ -1,6 +1,5 @@
-use Rattle.std.proofs.Common.{◌≡◌, ◌≤◌, ◌-◌, List, Ok, false, inr, ap, length, arith, rules}
-use Rattle.jbig2_base.specs.Grid.{Grid, blank}
-use Rattle.jbig2_halftone.specs.GrayScale.{GrayScale, gray_view, mmr_planes, planes_by_mmr}
+use Rattle.std.proofs.Common.{◌≡◌, ◌≤◌, false, inr, length, arith, rules}
+use Rattle.jbig2_halftone.specs.GrayScale.{GrayScale, gray_view}
 use Rattle.jbig2_halftone.proofs.PatternLemmas.{blank-made}
 use Rattle.jbig2_halftone.proofs.PlaneLemmas.{reads-next, reads-small, reads-values, reads-fault, reads-sized, mmr-none, mmr-next, mmr-fault, mmr-made, drop-whole}
 use Rattle.jbig2_halftone.proofs.gray_scale.read_mmr_planes.Goals as goal

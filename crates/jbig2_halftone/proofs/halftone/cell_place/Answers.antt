@@ -1,4 +1,4 @@
-use Rattle.std.proofs.Common.{rules, arith, ◌≡◌, ◌<◌, ◌*◌, ◌^◌, ℕ, ℤ, pos, w32, ap, sym, subst, ◌∙◌}
+use Rattle.std.proofs.Common.{rules, ◌<◌, ◌*◌, ℕ, ℤ, pos, w32, ap, sym, subst, ◌∙◌}
 use Rattle.std.specs.Int.{int_shr}
 use Rattle.std.proofs.lemmas.Int.{to_z-of_z}
 use mir.Val.{SFits}

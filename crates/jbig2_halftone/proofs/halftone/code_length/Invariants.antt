@@ -1,4 +1,4 @@
-use Rattle.std.proofs.Common.{◌≡◌, ℕ, ◌-◌, ◌<◌, ◌≤◌, ◌^◌}
+use Rattle.std.proofs.Common.{ℕ, ◌-◌, ◌<◌, ◌≤◌, ◌^◌}
 use Rattle.jbig2_halftone.proofs.halftone.code_length.Given as goal
 
 abbrev pub invariant-loop-bits : goal.invariant-loop-bits

@@ -1,4 +1,4 @@
-use Rattle.std.proofs.Common.{◌≡◌, ◌+◌, ◌*◌, ◌≤◌, length, arith}
+use Rattle.std.proofs.Common.{◌≡◌, ◌+◌, ◌≤◌, length, arith}
 use Rattle.jbig2_halftone.proofs.PatternLemmas.{cut-length, few-patterns}
 use Rattle.jbig2_halftone.proofs.pattern.decode.Goals as goal
 
