@@ -194,7 +194,9 @@ pub struct DecodedRegion<A: Allocator> {
 }
 
 /// Decodes a region (T.88, 6.2) into a white bitmap of its size. The contexts begin fresh, whatever
-/// `contexts` held, and are left there as the region leaves them; MMR data does not touch them.
+/// `contexts` held, and are left there as the region leaves them; MMR data does not touch them. The
+/// steps of a region are bounded unless it has MMR data or the extended template; with nominal
+/// adaptive pixels a run of eight likely symbols takes no decision.
 ///
 /// `OutOfMemory` where there is no room for the contexts; in strict mode
 /// `RegionError::InvalidMmrData` where MMR data has a fault or lacks a row.

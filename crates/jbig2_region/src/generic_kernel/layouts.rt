@@ -1,6 +1,6 @@
 //! The templates of generic regions (T.88, 6.2.5.3) by their neighbours.
-ghost use Rattle.std.specs.Prelude.{◌≡◌, [], ◌∷◌};
-ghost use Rattle.jbig2_region.specs.Layouts.{FitsAdaptives, fixed_neighbours, is_nominal, lies_at, neighbours_of, nominal_neighbours, read_pixels};
+ghost use Rattle.std.specs.Prelude.{◌≡◌, [], ◌∷◌, false};
+ghost use Rattle.jbig2_region.specs.Layouts.{FitsAdaptives, adaptive_pixels, fixed_neighbours, is_nominal, lies_at, neighbours_of, nominal_neighbours, read_pixels};
 ghost use Rattle.jbig2_region.specs.Neighbours.{IsLayout, is_nominal_layout, layout_count, layout_loads, layout_pixels};
 ghost use Rattle.jbig2_region.specs.Templates.{adaptive, context_bits, template_pixels};
 ghost use Rattle.jbig2_region.specs.declared.template.GenericTemplatePixels.TheVariants.{Regular};
@@ -112,6 +112,20 @@ fn adaptives(template: Template, a: &[AdaptiveTemplatePixel; 4]) -> Adaptives<'_
     }
 }
 
+/// The template with adaptive pixels that are read one by one.
+pub fn read_layout(template: Template, a: &[AdaptiveTemplatePixel; 4]) -> Layout<'_>
+    ensures pixels { layout_pixels result ≡ template_pixels template (Regular a.now) }
+    ensures fits { IsLayout result.neighbours result.adaptive }
+    ensures count { layout_count result.neighbours result.adaptive ≡ context_bits template }
+    ensures nominal { is_nominal_layout result.adaptive ≡ false }
+    ensures loads { layout_loads result.adaptive ≡ adaptive_pixels template }
+{
+    Layout {
+        neighbours: fixed_neighbours(template),
+        adaptive: Some(adaptives(template, a)),
+    }
+}
+
 /// The template with these adaptive pixels.
 pub fn layout_of(template: Template, a: &[AdaptiveTemplatePixel; 4]) -> Layout<'_>
     ensures pixels { layout_pixels result ≡ template_pixels template (Regular a.now) }
@@ -126,8 +140,5 @@ pub fn layout_of(template: Template, a: &[AdaptiveTemplatePixel; 4]) -> Layout<'
             adaptive: None,
         };
     }
-    Layout {
-        neighbours: fixed_neighbours(template),
-        adaptive: Some(adaptives(template, a)),
-    }
+    read_layout(template, a)
 }
