@@ -5,7 +5,7 @@
 mod errors;
 mod files;
 mod lists;
-mod refinements;
+mod memory;
 mod surface;
 mod uses;
 

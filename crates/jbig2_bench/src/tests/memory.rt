@@ -1,0 +1,29 @@
+//! Rows R6.2 and 13 by themselves, so that each of their requests for memory can be refused in turn.
+use super::row_serves_on;
+use crate::case::Row;
+use crate::rows::{refinement, worked};
+use hayro_jbig2::DecoderContext;
+use std::alloc::Global;
+
+/// Whether the row with this name holds, also behind a request that was refused.
+fn serves_on(alloc: Global, rows: &[Row], name: &str) -> bool {
+    let Ok(mut context) = DecoderContext::new(alloc) else {
+        return true;
+    };
+    for row in rows {
+        if row.name == name {
+            return row_serves_on(alloc, row, &mut context);
+        }
+    }
+    false
+}
+
+#[test]
+fn a_refinement_serves_on(rt: HostRuntime) {
+    assert!(rt; serves_on(rt.alloc(), refinement::rows(), "R6.2"));
+}
+
+#[test]
+fn a_halftone_serves_on(rt: HostRuntime) {
+    assert!(rt; serves_on(rt.alloc(), worked::rows(), "13"));
+}
