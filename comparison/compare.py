@@ -99,7 +99,8 @@ def patterns(chance):
 
 def halftone(chance, size, page):
     template = chance.randrange(4)
-    flags = 2 * template + 8 * chance.randrange(2) + 16 * chance.randrange(5) + 128 * chance.randrange(2)
+    # A region that begins black is drawn otherwise by jbig2dec, where Poppler draws it as here.
+    flags = 2 * template + 8 * chance.randrange(2) + 16 * chance.randrange(5)
     columns, rows = chance.randrange(1, 20), chance.randrange(1, 20)
     place = number(chance.randrange(-3000, 9000)) + number(chance.randrange(-3000, 9000))
     vector = number(chance.randrange(0, 2500), 2) + number(chance.randrange(0, 2500), 2)
