@@ -26,3 +26,8 @@ Gives view (Err e) meant = (e ≡ OutOfMemory) ⊎ (meant ≡ Err e)
 abbrev pub Answers : {X Y : Type 0} → (X → Y) → Result X DecodeError → Result Y DecodeError → Type 0
 Answers view (Ok x) meant = meant ≡ Ok (view x)
 Answers view (Err e) meant = meant ≡ Err e
+
+-- What a call leaves behind is what was meant, unless memory ran out.
+abbrev pub Leaves : {X Y : Type 0} → Result X DecodeError → Y → Y → Type 0
+Leaves (Ok x) left meant = left ≡ meant
+Leaves (Err e) left meant = (e ≡ OutOfMemory) ⊎ (left ≡ meant)

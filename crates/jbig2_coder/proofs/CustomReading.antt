@@ -6,11 +6,12 @@ use Rattle.std.proofs.lemmas.Bool.{cases_lt, cond-true, cond-false, lt-ltb, le-l
 use Rattle.std.proofs.lemmas.List.{length-take}
 use Rattle.std.proofs.lemmas.List.Elements.{All-append}
 use Rattle.std.specs.Prelude.{int_lt, ◌-ℤ◌}
+use Rattle.jbig2_base.specs.Answer.{Leaves}
 use Rattle.jbig2_base.specs.declared.error.DecodeError.{DecodeError}
 use Rattle.jbig2_coder.specs.declared.huffman_table.line.TableLine.{TableLine}
 use Rattle.jbig2_coder.specs.declared.huffman_table.custom.Header.{Header}
 use Rattle.jbig2_coder.specs.PrefixCode.{AreShort, table_of}
-use Rattle.jbig2_coder.specs.CustomTable.{Step, go_on, ◌>>-◌, done, field, custom_header, custom_line, custom_lines, all_lines, behind, range_lines_in, range_lines, last_line, end_lines, custom_table, Leaves}
+use Rattle.jbig2_coder.specs.CustomTable.{Step, go_on, ◌>>-◌, done, field, custom_header, custom_line, custom_lines, all_lines, behind, range_lines_in, range_lines, last_line, end_lines, custom_table}
 use Rattle.jbig2_coder.specs.Tables.{lower, upper, out_of_band}
 use Rattle.jbig2_base.specs.declared.error.DecodeError.TheVariants.{Huffman, OutOfMemory}
 use Rattle.jbig2_base.specs.declared.error.HuffmanError.TheVariants.{InvalidCode}

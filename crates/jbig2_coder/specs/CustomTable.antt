@@ -1,9 +1,9 @@
 -- The lines that a custom table's bits spell (T.88, B.2). Each step reads on from a place.
-use Rattle.std.specs.Prelude.{◌≡◌, ℕ, zero, suc, ◌+◌, ◌/◌, ◌%◌, ◌^◌, ◌<◌, ◌≤◌, nat_lt, ◌==◌, List, [], ◌∷◌, ◌++◌, length, Option, Some, None, Result, Ok, Err, ◌⊎◌, if◌then◌else◌, ℤ, pos, ◌+ℤ◌, ◌-ℤ◌, int_lt}
+use Rattle.std.specs.Prelude.{ℕ, zero, suc, ◌+◌, ◌/◌, ◌%◌, ◌^◌, ◌<◌, ◌≤◌, nat_lt, ◌==◌, List, [], ◌∷◌, ◌++◌, length, Option, Some, None, Result, Ok, Err, if◌then◌else◌, ℤ, pos, ◌+ℤ◌, ◌-ℤ◌, int_lt}
 use Rattle.std.specs.Int.{w32, cast_signed}
 use Rattle.jbig2_base.specs.Bits.{Place, bits_left, bits_next, bits_on}
 use Rattle.jbig2_base.specs.declared.error.DecodeError.{DecodeError}
-use Rattle.jbig2_base.specs.declared.error.DecodeError.TheVariants.{Parse, Huffman, OutOfMemory}
+use Rattle.jbig2_base.specs.declared.error.DecodeError.TheVariants.{Parse, Huffman}
 use Rattle.jbig2_base.specs.declared.error.ParseError.TheVariants.{UnexpectedEof}
 use Rattle.jbig2_base.specs.declared.error.HuffmanError.TheVariants.{InvalidCode}
 use Rattle.jbig2_coder.specs.declared.huffman_table.line.TableLine.{TableLine}
@@ -110,11 +110,6 @@ custom_lines p =
 -- A custom table, by its bits.
 unfoldable pub custom_table : Place → Step (List Member)
 custom_table p = custom_lines p >>- λ lines p. record { answer = table_of lines; place = p }
-
--- where a step leaves the reader, unless memory ran out
-abbrev pub Leaves : {X : Type 0} → Result X DecodeError → Place → Place → Type 0
-Leaves (Ok x) place meant = place ≡ meant
-Leaves (Err e) place meant = (e ≡ OutOfMemory) ⊎ (place ≡ meant)
 
 -- a header as its flags can have it
 abbrev pub HasWidths : Header → Type 0

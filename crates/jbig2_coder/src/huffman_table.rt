@@ -1,10 +1,10 @@
 //! Prefix codes and the tables that hold them (T.88, Annex B).
 ghost use Rattle.std.specs.Prelude.{◌≡◌, ◌≤◌, ◌^◌, drop, IfOk};
-ghost use Rattle.jbig2_base.specs.Answer.{Gives};
+ghost use Rattle.jbig2_base.specs.Answer.{Gives, Leaves};
 ghost use Rattle.jbig2_base.specs.Bits.{bits_left, bits_on};
 ghost use Rattle.jbig2_coder.specs.PrefixCode.{table_of, decoded, no_oob, AreShort, IsFree};
 ghost use Rattle.jbig2_coder.specs.Tables.{uniform};
-ghost use Rattle.jbig2_coder.specs.CustomTable.{custom_table, Leaves};
+ghost use Rattle.jbig2_coder.specs.CustomTable.{custom_table};
 
 mod custom;
 mod levels;

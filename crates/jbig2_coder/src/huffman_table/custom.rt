@@ -1,8 +1,8 @@
 //! The lines that a custom table's bits spell (T.88, B.2).
 ghost use Rattle.std.specs.Prelude.{◌≡◌, ◌+◌, ◌≤◌, ◌<◌, ◌^◌, drop, length, OnOk, IfOk};
-ghost use Rattle.jbig2_base.specs.Answer.{Gives};
+ghost use Rattle.jbig2_base.specs.Answer.{Gives, Leaves};
 ghost use Rattle.jbig2_base.specs.Bits.{bits_left, bits_on};
-ghost use Rattle.jbig2_coder.specs.CustomTable.{field, next_low, custom_header, custom_line, range_lines, end_lines, behind, custom_lines, Leaves, HasWidths};
+ghost use Rattle.jbig2_coder.specs.CustomTable.{field, next_low, custom_header, custom_line, range_lines, end_lines, behind, custom_lines, HasWidths};
 ghost use Rattle.jbig2_coder.specs.PrefixCode.{AreShort};
 
 use super::line::TableLine;
