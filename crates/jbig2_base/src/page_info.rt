@@ -1,5 +1,5 @@
 //! Page information segments and the size of a page (T.88, 7.4.8 and 7.4.10).
-ghost use Rattle.std.specs.Prelude.{◌≡◌, ◌+◌, ◌<◌, ◌≤◌, Ok, IfOk, OnOk, Option, length};
+ghost use Rattle.std.specs.Prelude.{◌≡◌, ◌+◌, ◌<◌, ◌≤◌, Ok, IfOk, OnErr, OnOk, Option, length};
 ghost use Rattle.jbig2_base.specs.Answer.{Answers};
 ghost use Rattle.jbig2_base.specs.Bits.{IsAligned};
 ghost use Rattle.jbig2_base.specs.PageInfo.{default_operator_of, flags_of, striping_of, resolution_of, information_at, is_page_information, is_end_of_stripe, first_information, stripe_height, stripes_height, height_of, sheet_with, sheet_of};
@@ -106,13 +106,16 @@ pub fn parse_page_information(reader: &mut Reader<'_>) -> Result<PageInformation
     requires { IsAligned reader.old }
     ensures value { Answers (λ p. (p, reader.new.bytes)) result (information_at reader.old.bytes) }
     ensures aligned { IsAligned reader.new }
+    ensures stays { OnErr result (reader.new ≡ reader.old) }
 {
-    let width = u32_field(reader)?;
-    let height = u32_field(reader)?;
-    let x_resolution = u32_field(reader)?;
-    let y_resolution = u32_field(reader)?;
-    let flags = byte_field(reader)?;
-    let striping = u16_field(reader)?;
+    let mut ahead = reader.duplicate();
+    let width = u32_field(&mut ahead)?;
+    let height = u32_field(&mut ahead)?;
+    let x_resolution = u32_field(&mut ahead)?;
+    let y_resolution = u32_field(&mut ahead)?;
+    let flags = byte_field(&mut ahead)?;
+    let striping = u16_field(&mut ahead)?;
+    *reader = ahead;
     Ok(PageInformation {
         width,
         height,

@@ -39,6 +39,17 @@ impl<'a> Reader<'a> {
         }
     }
 
+    /// Another reader at the same place.
+    pub fn duplicate(&self) -> Reader<'a>
+        ensures { result ≡ self.now }
+    {
+        Reader {
+            bytes: self.bytes,
+            byte: self.byte,
+            bit: self.bit,
+        }
+    }
+
     /// Goes to the beginning of the next byte, where a byte was begun.
     pub fn align(&mut self)
         ensures { self.new ≡ aligned self.old }
