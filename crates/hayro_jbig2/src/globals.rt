@@ -57,8 +57,7 @@ impl<A: Allocator + Clone> Globals<A> {
         ensures { Gives (λ globals. globals) result (globals_at settings.now.strict bytes.now) }
     {
         let strict = settings.strict;
-        let mut reader = Reader::new(bytes);
-        let mut segments = parse_segments_sequential(alloc.clone()?, &mut reader, strict)?;
+        let mut segments = parse_segments_sequential(alloc.clone()?, bytes, strict)?;
         sort_segments(&mut segments)?;
         Globals::from_segments(alloc, strict, &segments)
     }

@@ -24,7 +24,6 @@ use jbig2_base::bitmap::steps::Steps;
 use jbig2_base::error::Result;
 use jbig2_base::file::parse_segments_sequential;
 use jbig2_base::page_info::Sheet;
-use jbig2_base::reader::Reader;
 use jbig2_base::segment::Segment;
 use jbig2_base::sort::sort_segments;
 use std::alloc::Allocator;
@@ -137,8 +136,7 @@ impl<'a, A: Allocator + Clone> Page<'a, A> {
         ensures { Gives (λ page. page) result (embedded settings.now.strict (given_names globals.entry) bytes.now) }
     {
         let strict = settings.strict;
-        let mut reader = Reader::new(bytes);
-        let mut segments = parse_segments_sequential(alloc, &mut reader, strict)?;
+        let mut segments = parse_segments_sequential(alloc, bytes, strict)?;
         sort_segments(&mut segments)?;
         let sheet = Sheet::of_segments(&segments)?;
         Ok(Page {

@@ -12,4 +12,4 @@ pub mod SegmentLemmas
 pub mod Sequential
 pub mod Sorting
 mod Spelling
-mod WriteLemmas
+pub mod WriteLemmas

@@ -1,5 +1,5 @@
 -- Referred numbers one by one, and the least place of a marker.
-use Rattle.std.proofs.Common.{add-one, ◌≡◌, ℕ, ◌+◌, ◌-◌, ◌*◌, ◌<◌, ◌≤◌, suc, zero, List, [], ◌∷◌, ◌++◌, drop, length, Option, Some, None, Result, Ok, Err, Bool, true, false, cond, refl, sym, ◌∙◌, ap, arith}
+use Rattle.std.proofs.Common.{add-one, ◌≡◌, ℕ, ◌+◌, ◌-◌, ◌*◌, ◌<◌, suc, zero, List, [], ◌∷◌, ◌++◌, drop, length, Option, Some, None, Result, Ok, Bool, true, false, cond, sym, ◌∙◌, ap, arith}
 use Rattle.std.proofs.lemmas.List.{append_assoc, drop-drop}
 use Rattle.jbig2_base.specs.Answer.{◌>>=◌}
 use Rattle.jbig2_base.specs.Segment.{numbers_in, number_size, coded_number, least, first_of, is_end_marker, adaptive_bytes, marker_end, coded_front_at, unknown_length_of}

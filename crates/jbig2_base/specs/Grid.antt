@@ -1,5 +1,5 @@
 -- Bitmaps (T.88, 6): a width, a height and a pixel at each pair of whole numbers, white outside.
-use Rattle.std.specs.Prelude.{ℕ, ◌+◌, ◌*◌, ◌/◌, ◌%◌, Bool, true, false, ◌&&◌, nat_lt, List, map, slice_index_or, ℤ, pos, negsuc}
+use Rattle.std.specs.Prelude.{ℕ, ◌+◌, ◌*◌, ◌/◌, ◌%◌, Bool, true, false, ◌&&◌, nat_lt, List, map, slice_index_or, ℤ, pos}
 use Rattle.std.specs.List.{range_with_len}
 
 -- The pixels stand row by row from the top, each row from the left; `true` is black.

@@ -35,22 +35,22 @@ fn is_end_of_file(kind: SegmentType) -> bool
     matches!(kind, SegmentType::EndOfFile)
 }
 
-/// The segments from the reader's place on, header and data by turns, up to an end of file
-/// segment or the end of the bytes (T.88, D.1 and D.3).
+/// The segments in the bytes, header and data by turns, up to an end of file segment or the end of
+/// the bytes (T.88, D.1 and D.3).
 ///
 /// In lenient mode a segment that the bytes cut off is dropped and ends the reading; every other
 /// error is the answer in both modes.
 pub fn parse_segments_sequential<'a, A: Allocator + Clone>(
     alloc: A,
-    reader: &mut Reader<'a>,
+    bytes: &'a [u8],
     strict: bool,
 ) -> Result<Vec<Segment<'a, A>, A>>
-    requires { IsAligned reader.old }
-    ensures { Gives (λ v. parts v.items) result (sequential strict reader.old.bytes) }
+    ensures { Gives (λ v. parts v.items) result (sequential strict bytes.now) }
 {
+    let mut reader = Reader::new(bytes);
     let mut segments = Vec::new(alloc.clone()?);
     while !reader.at_end() {
-        match parse_segment(alloc.clone()?, reader, strict) {
+        match parse_segment(alloc.clone()?, &mut reader, strict) {
             Ok(segment) => {
                 let last = is_end_of_file(segment.header.segment_type);
                 segments.push(segment)?;
@@ -115,33 +115,32 @@ fn gather_segments<'a, A: Allocator>(
     Ok(segments)
 }
 
-/// The segments from the reader's place on, all headers before all data (T.88, D.2).
+/// The segments in the bytes, all headers before all data (T.88, D.2).
 ///
 /// Bytes that end too early are an error in both modes.
 fn parse_segments_random_access<'a, A: Allocator + Clone>(
     alloc: A,
-    reader: &mut Reader<'a>,
+    bytes: &'a [u8],
     strict: bool,
 ) -> Result<Vec<Segment<'a, A>, A>>
-    requires { IsAligned reader.old }
-    ensures { Gives (λ v. parts v.items) result (random_access strict reader.old.bytes) }
+    ensures { Gives (λ v. parts v.items) result (random_access strict bytes.now) }
 {
-    let headers = parse_segment_headers(alloc.clone()?, reader, strict)?;
-    gather_segments(alloc, reader, headers)
+    let mut reader = Reader::new(bytes);
+    let headers = parse_segment_headers(alloc.clone()?, &mut reader, strict)?;
+    gather_segments(alloc, &mut reader, headers)
 }
 
 fn parse_segments<'a, A: Allocator + Clone>(
     alloc: A,
-    reader: &mut Reader<'a>,
+    bytes: &'a [u8],
     organization: FileOrganization,
     strict: bool,
 ) -> Result<Vec<Segment<'a, A>, A>>
-    requires { IsAligned reader.old }
-    ensures { Gives (λ v. parts v.items) result (segments_by organization strict reader.old.bytes) }
+    ensures { Gives (λ v. parts v.items) result (segments_by organization strict bytes.now) }
 {
     match organization {
-        FileOrganization::Sequential => parse_segments_sequential(alloc, reader, strict),
-        FileOrganization::RandomAccess => parse_segments_random_access(alloc, reader, strict),
+        FileOrganization::Sequential => parse_segments_sequential(alloc, bytes, strict),
+        FileOrganization::RandomAccess => parse_segments_random_access(alloc, bytes, strict),
     }
 }
 
@@ -156,14 +155,14 @@ pub struct File<'a, A: Allocator> {
 #[tactic(auto, unfolding(crate::specs::File::file_at))]
 fn read_file<'a, A: Allocator + Clone>(
     alloc: A,
-    reader: &mut Reader<'a>,
+    bytes: &'a [u8],
     strict: bool,
 ) -> Result<File<'a, A>>
-    requires { IsAligned reader.old }
-    ensures { Gives file_view result (file_at strict reader.old.bytes) }
+    ensures { Gives file_view result (file_at strict bytes.now) }
 {
-    let header = parse_file_header(reader)?;
-    let mut segments = parse_segments(alloc, reader, header.organization, strict)?;
+    let mut reader = Reader::new(bytes);
+    let header = parse_file_header(&mut reader)?;
+    let mut segments = parse_segments(alloc, reader.tail(), header.organization, strict)?;
     sort_segments(&mut segments)?;
     Ok(File { header, segments })
 }
@@ -182,8 +181,7 @@ pub fn parse_file<'a, A: Allocator + Clone>(
     ensures value { Gives file_view result (file_at strict bytes.now) }
     ensures either_organization { (header : FileHeader) (ss : List Spelled) → Spells strict bytes.now header ss → Gives file_view result (Ok (header, by_number (spelled_parts ss))) }
 {
-    let mut reader = Reader::new(bytes);
-    read_file(alloc, &mut reader, strict)
+    read_file(alloc, bytes, strict)
 }
 
 #[cfg(test)]

@@ -100,7 +100,8 @@ fn resolution(number: u32) -> Option<u32>
 
 /// The fields of a page information segment, at the reader's place (T.88, 7.4.8).
 ///
-/// `ParseError::UnexpectedEof` where the bytes do not hold them. Takes no memory.
+/// `ParseError::UnexpectedEof` where the bytes do not hold them, which leaves the reader where it
+/// was. Takes no memory.
 #[tactic(auto, unfolding(crate::specs::PageInfo::information_at))]
 pub fn parse_page_information(reader: &mut Reader<'_>) -> Result<PageInformation>
     requires { IsAligned reader.old }

@@ -1,5 +1,5 @@
 //! Segments: headers and data (T.88, 7.2 and 7.3).
-ghost use Rattle.std.specs.Prelude.{◌≡◌, ◌+◌, ◌*◌, ◌/◌, ◌%◌, ◌^◌, ◌<◌, ◌≤◌, ◌==◌, ◌&&◌, nat_le, drop, length, OnOk, IfOk, IfSome, Ok};
+ghost use Rattle.std.specs.Prelude.{◌≡◌, ◌+◌, ◌*◌, ◌/◌, ◌%◌, ◌^◌, ◌<◌, ◌≤◌, ◌==◌, ◌&&◌, nat_le, drop, length, OnOk, IfOk, IfSome, Ok, OnErr};
 ghost use Rattle.std.specs.Int.{w8, w32};
 ghost use Rattle.std.specs.List.{list_any};
 ghost use Rattle.std.specs.Option.{ForSome};
@@ -249,6 +249,7 @@ fn data_length(strict: bool, kind: SegmentType, number: u32) -> Result<Option<u3
 ///
 /// In strict mode a type that is not listed answers `SegmentError::UnknownType`, and an unknown
 /// length of another segment than an immediate generic region `SegmentError::InvalidUnknownLength`.
+/// An error leaves the reader where it was.
 #[tactic(auto, unfolding(crate::specs::Segment::header_at))]
 pub fn parse_segment_header<A: Allocator>(
     alloc: A,
@@ -258,18 +259,21 @@ pub fn parse_segment_header<A: Allocator>(
     requires { IsAligned reader.old }
     ensures value { Gives (λ h. (header_view h, reader.new.bytes)) result (header_at strict reader.old.bytes) }
     ensures aligned { IsAligned reader.new }
+    ensures stays { OnErr result (reader.new ≡ reader.old) }
     ensures shorter { OnOk result (length reader.new.bytes < length reader.old.bytes) }
 {
-    let segment_number = u32_field(reader)?;
-    let flags = byte_field(reader)?;
+    let mut ahead = reader.duplicate();
+    let segment_number = u32_field(&mut ahead)?;
+    let flags = byte_field(&mut ahead)?;
     let segment_type = SegmentType::from_type_value(flags % 64);
     if strict && segment_type.is_reserved() {
         return Err(DecodeError::Segment(SegmentError::UnknownType));
     }
-    let referred_to_segments = referred_numbers(alloc, reader, segment_number)?;
-    let page_association = page_association(reader, flags / 64 % 2 == 1)?;
-    let number = u32_field(reader)?;
+    let referred_to_segments = referred_numbers(alloc, &mut ahead, segment_number)?;
+    let page_association = page_association(&mut ahead, flags / 64 % 2 == 1)?;
+    let number = u32_field(&mut ahead)?;
     let data_length = data_length(strict, segment_type, number)?;
+    *reader = ahead;
     Ok(SegmentHeader {
         segment_number,
         segment_type,
@@ -355,6 +359,7 @@ fn segment_bytes<'a>(reader: &mut Reader<'a>, data_length: Option<u32>) -> Resul
     requires { IsAligned reader.old }
     ensures value { Answers (λ x. (x.now, reader.new.bytes)) result (data_at data_length reader.old.bytes) }
     ensures aligned { IsAligned reader.new }
+    ensures stays { OnErr result (reader.new ≡ reader.old) }
     ensures shorter { OnOk result (length reader.new.bytes ≤ length reader.old.bytes) }
 {
     match data_length {
@@ -370,7 +375,7 @@ fn segment_bytes<'a>(reader: &mut Reader<'a>, data_length: Option<u32>) -> Resul
 /// (T.88, 7.2.7 and Annex D).
 ///
 /// Data of unknown length ends with the first end marker; none answers
-/// `SegmentError::MissingEndMarker`. Takes no memory.
+/// `SegmentError::MissingEndMarker`, which leaves the reader where it was. Takes no memory.
 pub fn parse_segment_data<'a, A: Allocator>(
     reader: &mut Reader<'a>,
     header: SegmentHeader<A>,
@@ -378,13 +383,15 @@ pub fn parse_segment_data<'a, A: Allocator>(
     requires { IsAligned reader.old }
     ensures value { Answers (λ s. (part_view s, reader.new.bytes)) result (segment_data_at (header_view header) reader.old.bytes) }
     ensures aligned { IsAligned reader.new }
+    ensures stays { OnErr result (reader.new ≡ reader.old) }
     ensures shorter { OnOk result (length reader.new.bytes ≤ length reader.old.bytes) }
 {
     let bytes = segment_bytes(reader, header.data_length)?;
     Ok(Segment { header, bytes })
 }
 
-/// A segment at the reader's place: its header and the data behind it (T.88, 7.2).
+/// A segment at the reader's place: its header and the data behind it (T.88, 7.2). An error leaves
+/// the reader where it was.
 #[tactic(auto, unfolding(crate::specs::Segment::segment_at))]
 pub fn parse_segment<'a, A: Allocator>(
     alloc: A,
@@ -394,8 +401,12 @@ pub fn parse_segment<'a, A: Allocator>(
     requires { IsAligned reader.old }
     ensures value { Gives (λ s. (part_view s, reader.new.bytes)) result (segment_at strict reader.old.bytes) }
     ensures aligned { IsAligned reader.new }
+    ensures stays { OnErr result (reader.new ≡ reader.old) }
     ensures shorter { OnOk result (length reader.new.bytes < length reader.old.bytes) }
 {
-    let header = parse_segment_header(alloc, reader, strict)?;
-    parse_segment_data(reader, header)
+    let mut ahead = reader.duplicate();
+    let header = parse_segment_header(alloc, &mut ahead, strict)?;
+    let segment = parse_segment_data(&mut ahead, header)?;
+    *reader = ahead;
+    Ok(segment)
 }

@@ -45,6 +45,7 @@ fn bits_and_bytes_are_read(rt: HostRuntime) {
     assert_eq!(rt; reader.read_byte(), Some(4));
     assert!(rt; reader.peek_bytes(2) == Some(&[5, 6]));
     assert!(rt; reader.read_bytes(1) == Some(&[5]));
+    assert_eq!(rt; reader.duplicate().read_byte(), Some(6));
     assert_eq!(rt; reader.tail(), [6].as_slice());
     assert!(rt; !reader.at_end());
     assert_eq!(rt; reader.read_bits(8), Some(6));
@@ -120,7 +121,7 @@ fn header_and_data_are_read_apart(rt: HostRuntime) {
 
 /// What a page begins as.
 fn sheet<A: Allocator + Clone>(alloc: A, bytes: &[u8]) -> Result<(u32, u32, u32, bool)> {
-    let segments = parse_segments_sequential(alloc, &mut Reader::new(bytes), true)?;
+    let segments = parse_segments_sequential(alloc, bytes, true)?;
     let sheet = Sheet::of_segments(&segments)?;
     Ok((sheet.number, sheet.width, sheet.height, sheet.default_pixel))
 }

@@ -9,6 +9,7 @@ use Rattle.jbig2_base.specs.WordBits.{bit}
 use Rattle.jbig2_base.specs.Writes.{with_pixel, with_pixels}
 use Rattle.jbig2_base.proofs.BitLemmas.{bit-mod, bit-zero, bit_number-bit}
 use Rattle.jbig2_base.proofs.GridLemmas.{grid_of-ext, pixel_at-grid_of, pixel_at-right, pixel_at-below, table-at}
+use Rattle.jbig2_base.proofs.WriteLemmas.{in_field, before_field, behind_field, other_row}
 use Rattle.jbig2_coder.specs.Coder.{Coder, Context, decision, fresh}
 use Rattle.jbig2_region.specs.Generic.{context_at}
 use Rattle.jbig2_region.specs.Holds.{Holds}
@@ -17,19 +18,6 @@ use Rattle.jbig2_region.specs.Raster.{Region, so_far, after_pixels}
 use Rattle.jbig2_region.specs.declared.template.AdaptiveTemplatePixel.{AdaptiveTemplatePixel}
 use Rattle.jbig2_region.proofs.RasterLemmas.{Holds-known, Holds-decided, after_pixels-length, after_pixels-predicted, after_pixels-one, after_pixels-none, after_pixels-add}
 use Rattle.jbig2_region.proofs.WindowLemmas.{SameAbove, same-above, pixel-inside, pixel-left_of_all}
-
--- ---- the test of a stored field
-in_field : (x y n i j : ℕ) → j ≡ y → x ≤ i → i < x + n → (eqb j y && leb x i && ltb i (x + n)) ≡ true
-in_field x y n i j row low high = and_from _ _ (and_from _ _ (eq-eqb j y row) (le-leb x i low)) (lt-ltb i (x + n) high)
-
-before_field : (x y n i j : ℕ) → i < x → (eqb j y && leb x i && ltb i (x + n)) ≡ false
-before_field x y n i j low = and_left _ _ (and_right (eqb j y) (leb x i) (lt-leb x i low))
-
-behind_field : (x y n i j : ℕ) → x + n ≤ i → (eqb j y && leb x i && ltb i (x + n)) ≡ false
-behind_field x y n i j high = and_right _ _ (le-ltb i (x + n) high)
-
-other_row : (x y n i j : ℕ) → (j ≡ y → ⊥) → (eqb j y && leb x i && ltb i (x + n)) ≡ false
-other_row x y n i j ne = and_left _ _ (and_left (eqb j y) (leb x i) (ne_eqb j y ne))
 
 -- a pixel after a store, at any place
 stored-at : (g : Grid) (x y n b i j : ℕ) → i < g.width → j < g.height → pixel_at (with_pixels g x y n b) i j ≡ cond (eqb j y && leb x i && ltb i (x + n)) (bit b (x + n - 1 - i)) (pixel_at g i j)

@@ -1,7 +1,5 @@
-use Rattle.std.proofs.Common.{List, Result, subst, ◌∙◌, ap}
+use Rattle.std.proofs.Common.{List, Result, subst}
 use Rattle.jbig2_base.specs.Answer.{Gives}
-use Rattle.jbig2_base.specs.Bits.{Place}
-use Rattle.jbig2_base.specs.File.{file_at}
 use Rattle.jbig2_base.specs.Segment.{Part}
 use Rattle.jbig2_base.specs.SegmentViews.{file_view}
 use Rattle.jbig2_base.specs.declared.error.DecodeError.{DecodeError}
@@ -12,5 +10,5 @@ use Rattle.jbig2_base.proofs.file.parse_file.Goals as goal
 pub returns-clause-either_organization : goal.returns-clause-either_organization
 returns-clause-either_organization g c = λ header ss spells.
     subst (λ (meant : Result (FileHeader × List Part) DecodeError). Gives file_view c.read_file.result meant)
-    (ap (λ (p : Place). file_at c.args.strict p.bytes) c.new-reader.ensures ∙ file_read c.args.strict c.args.bytes.now header ss spells)
+    (file_read c.args.strict c.args.bytes.now header ss spells)
     c.read_file.ensures

@@ -1,38 +1,44 @@
-use Rattle.std.proofs.Common.{◌≡◌, ℕ, ◌<◌, List, ◌++◌, ◌∷◌, [], length, Result, Ok, Err, Bool, true, false, ⊎_elim, inl, inr, ◌⊎◌, refl, sym, ◌∙◌, ap, arith}
+use Rattle.std.proofs.Common.{◌≡◌, ℕ, ◌<◌, subst, List, ◌++◌, ◌∷◌, [], length, Result, Ok, Err, Bool, true, false, ⊎_elim, inl, inr, ◌⊎◌, refl, sym, ◌∙◌, ap, arith}
 use Rattle.std.proofs.lemmas.Bool.{eqb-false, eqb-true, false≢true}
 use Rattle.std.proofs.lemmas.List.{map_push}
+use Rattle.jbig2_base.specs.Bits.{Place}
 use Rattle.jbig2_base.specs.Segment.{Part, segment_at}
 use Rattle.jbig2_base.specs.SegmentViews.{parts, part_view}
 use Rattle.jbig2_base.specs.Sequential.{sequential, is_cut_off}
 use Rattle.jbig2_base.specs.declared.error.DecodeError.{DecodeError}
 use Rattle.jbig2_base.specs.declared.error.DecodeError.TheVariants.{OutOfMemory}
 use Rattle.jbig2_base.specs.declared.segment.Segment.{Segment}
-use Rattle.jbig2_base.proofs.Sequential.{Reads-as, begins, next, last, drops, gives_up, ends}
+use Rattle.jbig2_base.proofs.Sequential.{Reads, Reads-as, begins, next, last, drops, gives_up, ends}
 use Rattle.jbig2_base.proofs.file.parse_segments_sequential.Goals as goal
 
-pub loop-alloc-init : goal.loop-alloc-init
-loop-alloc-init g c = record {
-  aligned = c.requires;
-  reads = Reads-as [] (parts c.new-segments.result.items) c.args.strict c.args.reader.now.bytes (sequential c.args.strict c.args.reader.now.bytes) (sym (ap (λ (ss : List (Segment g.row.A.Denot)). parts ss) c.new-segments.ensures.items)) (begins c.args.strict c.args.reader.now.bytes);
-}
+pub loop-reader-init : goal.loop-reader-init
+loop-reader-init g c =
+    let bytes = c.args.bytes.now in
+    let meant = sequential c.args.strict bytes in
+    let begun : c.new-reader.result.bytes ≡ bytes = ap (λ (p : Place). p.bytes) c.new-reader.ensures in
+    record {
+      aligned = ap (λ (p : Place). p.bit) c.new-reader.ensures;
+      reads = subst (λ (left : List ℕ). Reads (parts c.new-segments.result.items) c.args.strict left meant) (sym begun)
+          (Reads-as [] (parts c.new-segments.result.items) c.args.strict bytes meant (sym (ap (λ (ss : List (Segment g.row.A.Denot)). parts ss) c.new-segments.ensures.items)) (begins c.args.strict bytes));
+    }
 
 pub returns-then-last : goal.returns-then-last
 returns-then-last g c =
-    let front = parts c.loop-alloc.segments.items in
-    let some : 0 < length c.loop-alloc.reader.bytes = omega (arith, c.in-Ok.ensures.shorter) in
-    last front c.args.strict c.loop-alloc.reader.bytes c.parse_segment.new.reader.bytes (sequential c.args.strict c.args.reader.now.bytes) (part_view c.in-Ok.segment) c.loop-alloc.invariant.reads c.in-Ok.ensures.value some (sym c.if-last.ensures)
-    ∙ ap (λ (ps : List Part). Ok ps) (sym (ap (λ (ss : List (Segment g.row.A.Denot)). parts ss) c.in_ok-push-in-Ok.ensures.items ∙ map_push (λ (s : Segment g.row.A.Denot). part_view s) c.loop-alloc.segments.items c.in-Ok.segment))
+    let front = parts c.loop-reader.segments.items in
+    let some : 0 < length c.loop-reader.reader.bytes = omega (arith, c.in-Ok.ensures.shorter) in
+    last front c.args.strict c.loop-reader.reader.bytes c.parse_segment.new.reader.bytes (sequential c.args.strict c.args.bytes.now) (part_view c.in-Ok.segment) c.loop-reader.invariant.reads c.in-Ok.ensures.value some (sym c.if-last.ensures)
+    ∙ ap (λ (ps : List Part). Ok ps) (sym (ap (λ (ss : List (Segment g.row.A.Denot)). parts ss) c.in_ok-push-in-Ok.ensures.items ∙ map_push (λ (s : Segment g.row.A.Denot). part_view s) c.loop-reader.segments.items c.in-Ok.segment))
 
-pub loop-alloc-preserved : goal.loop-alloc-preserved
-loop-alloc-preserved g c =
-    let front = parts c.loop-alloc.segments.items in
-    let meant = sequential c.args.strict c.args.reader.now.bytes in
+pub loop-reader-preserved : goal.loop-reader-preserved
+loop-reader-preserved g c =
+    let front = parts c.loop-reader.segments.items in
+    let meant = sequential c.args.strict c.args.bytes.now in
     let p = part_view c.in-Ok.segment in
     record {
       aligned = c.in-Ok.ensures.aligned;
       reads = Reads-as (front ++ p ∷ []) (parts c.push.new.self.items) c.args.strict c.parse_segment.new.reader.bytes meant
-          (sym (ap (λ (ss : List (Segment g.row.A.Denot)). parts ss) c.in_ok-push-in-Ok.ensures.items ∙ map_push (λ (s : Segment g.row.A.Denot). part_view s) c.loop-alloc.segments.items c.in-Ok.segment))
-          (next front c.args.strict c.loop-alloc.reader.bytes c.parse_segment.new.reader.bytes meant p c.loop-alloc.invariant.reads c.in-Ok.ensures.value c.in-Ok.ensures.shorter (sym c.if-last.ensures));
+          (sym (ap (λ (ss : List (Segment g.row.A.Denot)). parts ss) c.in_ok-push-in-Ok.ensures.items ∙ map_push (λ (s : Segment g.row.A.Denot). part_view s) c.loop-reader.segments.items c.in-Ok.segment))
+          (next front c.args.strict c.loop-reader.reader.bytes c.parse_segment.new.reader.bytes meant p c.loop-reader.invariant.reads c.in-Ok.ensures.value c.in-Ok.ensures.shorter (sym c.if-last.ensures));
     }
 
 -- an error that cuts off is no want of memory
@@ -46,17 +52,17 @@ given strict error r (inr e) cut = e
 
 pub returns-then-is_cut_off : goal.returns-then-is_cut_off
 returns-then-is_cut_off g c =
-    let some : 0 < length c.loop-alloc.reader.bytes = omega (arith, eqb-false (length c.loop-alloc.reader.bytes) 0 (sym c.loop-alloc-test.ensures)) in
-    drops (parts c.loop-alloc.segments.items) c.args.strict c.loop-alloc.reader.bytes (sequential c.args.strict c.args.reader.now.bytes) c.in-Err.error c.loop-alloc.invariant.reads
-    (given c.args.strict c.in-Err.error (segment_at c.args.strict c.loop-alloc.reader.bytes) c.in-Err.ensures.value (sym c.if-is_cut_off.ensures)) some (sym c.if-is_cut_off.ensures)
+    let some : 0 < length c.loop-reader.reader.bytes = omega (arith, eqb-false (length c.loop-reader.reader.bytes) 0 (sym c.loop-reader-test.ensures)) in
+    drops (parts c.loop-reader.segments.items) c.args.strict c.loop-reader.reader.bytes (sequential c.args.strict c.args.bytes.now) c.in-Err.error c.loop-reader.invariant.reads
+    (given c.args.strict c.in-Err.error (segment_at c.args.strict c.loop-reader.reader.bytes) c.in-Err.ensures.value (sym c.if-is_cut_off.ensures)) some (sym c.if-is_cut_off.ensures)
 
 pub returns-in-Err : goal.returns-in-Err
 returns-in-Err g c =
-    let some : 0 < length c.loop-alloc.reader.bytes = omega (arith, eqb-false (length c.loop-alloc.reader.bytes) 0 (sym c.loop-alloc-test.ensures)) in
+    let some : 0 < length c.loop-reader.reader.bytes = omega (arith, eqb-false (length c.loop-reader.reader.bytes) 0 (sym c.loop-reader-test.ensures)) in
     ⊎_elim (λ (e : c.in-Err.error ≡ OutOfMemory). inl e)
-    (λ (e : segment_at c.args.strict c.loop-alloc.reader.bytes ≡ Err c.in-Err.error). inr (gives_up (parts c.loop-alloc.segments.items) c.args.strict c.loop-alloc.reader.bytes (sequential c.args.strict c.args.reader.now.bytes) c.in-Err.error c.loop-alloc.invariant.reads e some (sym c.if-is_cut_off.ensures)))
+    (λ (e : segment_at c.args.strict c.loop-reader.reader.bytes ≡ Err c.in-Err.error). inr (gives_up (parts c.loop-reader.segments.items) c.args.strict c.loop-reader.reader.bytes (sequential c.args.strict c.args.bytes.now) c.in-Err.error c.loop-reader.invariant.reads e some (sym c.if-is_cut_off.ensures)))
     c.in-Err.ensures.value
 
 pub returns : goal.returns
 returns g c =
-    ends (parts c.loop-alloc.segments.items) c.args.strict c.loop-alloc.reader.bytes (sequential c.args.strict c.args.reader.now.bytes) c.loop-alloc.invariant.reads (eqb-true (length c.loop-alloc.reader.bytes) 0 (sym c.loop-alloc-test.ensures))
+    ends (parts c.loop-reader.segments.items) c.args.strict c.loop-reader.reader.bytes (sequential c.args.strict c.args.bytes.now) c.loop-reader.invariant.reads (eqb-true (length c.loop-reader.reader.bytes) 0 (sym c.loop-reader-test.ensures))

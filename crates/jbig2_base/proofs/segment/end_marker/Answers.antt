@@ -1,4 +1,4 @@
-use Rattle.std.proofs.Common.{◌≡◌, ℕ, sym, ◌∙◌, ap, arith, drop, length, ◌+◌, ◌-◌, take, List, Bool, true, false}
+use Rattle.std.proofs.Common.{◌≡◌, ℕ, sym, ◌∙◌, ap, arith, drop, length, ◌-◌, take, List, true, false}
 use Rattle.std.proofs.lemmas.List.{take_rest, length-drop}
 use Rattle.jbig2_base.specs.Segment.{is_end_marker}
 use Rattle.jbig2_base.proofs.SegmentLemmas.{least-found, least-not_here}

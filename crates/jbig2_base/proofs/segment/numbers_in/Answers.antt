@@ -1,4 +1,4 @@
-use Rattle.std.proofs.Common.{◌≡◌, ℕ, List, sym, ◌∙◌, ap, ◌*◌, ◌+◌, ◌-◌, ◌++◌, ◌∷◌, [], drop, take, length}
+use Rattle.std.proofs.Common.{◌≡◌, ℕ, List, sym, ◌∙◌, ap, ◌*◌, ◌+◌, ◌-◌, ◌++◌, ◌∷◌, [], drop}
 use Rattle.std.proofs.lemmas.List.{take_rest}
 use Rattle.jbig2_base.specs.Segment.{numbers_in, number_size, coded_number}
 use Rattle.jbig2_base.proofs.SegmentLemmas.{numbers_in-more}

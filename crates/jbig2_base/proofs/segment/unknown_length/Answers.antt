@@ -1,7 +1,7 @@
-use Rattle.std.proofs.Common.{◌≡◌, ℕ, List, Result, subst, sym, ◌∙◌, ap, ◌+◌}
+use Rattle.std.proofs.Common.{ℕ, Result, subst, sym, ◌∙◌, ap}
 use Rattle.jbig2_base.specs.Answer.{Answers}
 use Rattle.jbig2_base.specs.Bits.{Place}
-use Rattle.jbig2_base.specs.Segment.{marker_end, unknown_length_of, coded_front_at}
+use Rattle.jbig2_base.specs.Segment.{coded_front_at}
 use Rattle.jbig2_base.specs.declared.error.DecodeError.{DecodeError}
 use Rattle.jbig2_base.proofs.SegmentLemmas.{unknown_length-at}
 use Rattle.jbig2_base.proofs.segment.unknown_length.Goals as goal

@@ -1,5 +1,4 @@
-use Rattle.std.proofs.Common.{◌≡◌, ℕ, sym, ◌∙◌, ap, refl, arith, drop, Option, Some, None}
-use Rattle.jbig2_base.specs.Bits.{start_of, bits_left, bits_on, bits_next}
+use Rattle.std.proofs.Common.{arith}
 use Rattle.jbig2_base.proofs.ReaderLemmas.{bit-value, bit-place_last, bit-place_more, bit-rest_last, bit-rest_more, end_place, end-bits, end-on}
 use Rattle.jbig2_base.proofs.reader.Reader.read_bit.Goals as goal
 

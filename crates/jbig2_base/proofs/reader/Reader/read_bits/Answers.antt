@@ -1,6 +1,6 @@
-use Rattle.std.proofs.Common.{rules, ℕ, ◌≡◌, ◌+◌, ◌<◌, ◌≤◌, ap, sym, ◌∙◌, arith, length, drop, List, Option, None, Some}
+use Rattle.std.proofs.Common.{rules, ℕ, ◌≡◌, ◌+◌, ◌≤◌, ap, ◌∙◌, arith, length, drop, List, Some}
 use Rattle.std.proofs.lemmas.List.{drop-drop, length-drop}
-use Rattle.jbig2_base.specs.Bits.{Place, bits_left, bits_on, bits_next}
+use Rattle.jbig2_base.specs.Bits.{Place, bits_left, bits_next}
 use Rattle.jbig2_base.proofs.ReaderLemmas.{bits_on-none, bits_on-more, bits_next-some, value-more, small-more, refused}
 use Rattle.jbig2_base.proofs.reader.Reader.read_bits.Goals as goal
 

@@ -1,4 +1,4 @@
-use Rattle.std.proofs.Common.{◌≡◌, ℕ, ◌+◌, ◌<◌, ◌≤◌, ◌^◌, drop, take, length}
+use Rattle.std.proofs.Common.{◌≡◌, ◌<◌, ◌≤◌, ◌^◌, drop, take, length}
 use Rattle.jbig2_base.specs.Bits.{bits_left, bits_on, number_after}
 use Rattle.jbig2_base.proofs.reader.Reader.read_bits.Given as goal
 
