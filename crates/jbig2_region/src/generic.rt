@@ -1,5 +1,5 @@
 //! Generic regions (T.88, 6.2 and 7.4.6).
-ghost use Rattle.std.specs.Prelude.{◌≡◌, ◌≤◌, length, false, IfOk, OnOk};
+ghost use Rattle.std.specs.Prelude.{◌≡◌, ◌≤◌, length, false, IfOk, OnErr, OnOk};
 ghost use Rattle.jbig2_base.specs.Answer.{Answers, Gives};
 ghost use Rattle.jbig2_base.specs.Bits.{IsAligned};
 ghost use Rattle.jbig2_base.specs.Grid.{blank};
@@ -145,8 +145,8 @@ fn rows<'a>(unknown_length: bool, height: u32, bytes: &'a [u8]) -> Result<(u32, 
 /// `ParseError::UnexpectedEof` where the bytes do not hold it; the errors of
 /// `parse_region_segment_info`; `TemplateError::InvalidAtPixel` where an adaptive pixel does not
 /// come before the pixel that is decoded; `RegionError::InvalidDimension` where there are more rows
-/// than the stated height; `OverflowError::BitmapDimension` above 65535 pixels either way. Takes no
-/// memory.
+/// than the stated height; `OverflowError::BitmapDimension` above 65535 pixels either way. An error
+/// leaves the reader where it was. Takes no memory.
 #[tactic(auto, unfolding(crate::specs::GenericHeader::generic_header_at))]
 pub fn parse<'a>(
     reader: &mut Reader<'a>,
@@ -157,22 +157,25 @@ pub fn parse<'a>(
     ensures value { Answers (λ h. (header_view h, reader.new.bytes)) result (generic_header_at unknown_length strict reader.old.bytes) }
     ensures aligned { IsAligned reader.new }
     ensures parsed { IfOk result (λ h. IsParsed (header_view h)) }
+    ensures stays { OnErr result (reader.new ≡ reader.old) }
 {
-    let mut region_info = parse_region_segment_info(reader)?;
-    let flags = byte_field(reader)?;
+    let mut ahead = reader.duplicate();
+    let mut region_info = parse_region_segment_info(&mut ahead)?;
+    let flags = byte_field(&mut ahead)?;
     let mmr = flags % 2 == 1;
     let template = Template::from_byte(flags / 2);
     let adaptive_template_pixels = parse_template_pixels(
-        reader,
+        &mut ahead,
         mmr,
         flags / 16 % 2 == 1,
         template,
     )?;
-    let (height, bytes) = rows(unknown_length, region_info.height, reader.tail())?;
+    let (height, bytes) = rows(unknown_length, region_info.height, ahead.tail())?;
     if region_info.width > 65535 || height > 65535 {
         return Err(DecodeError::Overflow(OverflowError::BitmapDimension));
     }
     region_info.height = height;
+    *reader = ahead;
     Ok(GenericRegionHeader {
         region_info,
         mmr,

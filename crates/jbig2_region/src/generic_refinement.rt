@@ -81,22 +81,25 @@ fn parse_template_pixels(
 /// (T.88, 7.4.7).
 ///
 /// `ParseError::UnexpectedEof` where the bytes do not hold it; the errors of
-/// `parse_region_segment_info`; `OverflowError::BitmapDimension` above 65535 pixels either way. The
-/// adaptive pixels may lie anywhere. Takes no memory.
+/// `parse_region_segment_info`; `OverflowError::BitmapDimension` above 65535 pixels either way. An
+/// error leaves the reader where it was. The adaptive pixels may lie anywhere. Takes no memory.
 #[tactic(auto, unfolding(crate::specs::RefinementHeader::refinement_header_at))]
 pub fn parse<'a>(reader: &mut Reader<'a>) -> Result<GenericRefinementRegionHeader<'a>>
     requires { IsAligned reader.old }
     ensures value { Answers (λ h. (header_view h, reader.new.bytes)) result (refinement_header_at reader.old.bytes) }
     ensures aligned { IsAligned reader.new }
     ensures parsed { IfOk result (λ h. IsRefinement (header_view h)) }
+    ensures stays { OnErr result (reader.new ≡ reader.old) }
 {
-    let region_info = parse_region_segment_info(reader)?;
-    let flags = byte_field(reader)?;
+    let mut ahead = reader.duplicate();
+    let region_info = parse_region_segment_info(&mut ahead)?;
+    let flags = byte_field(&mut ahead)?;
     let template = RefinementTemplate::from_byte(flags);
-    let adaptive_template_pixels = parse_template_pixels(reader, template)?;
+    let adaptive_template_pixels = parse_template_pixels(&mut ahead, template)?;
     if region_info.width > 65535 || region_info.height > 65535 {
         return Err(DecodeError::Overflow(OverflowError::BitmapDimension));
     }
+    *reader = ahead;
     Ok(GenericRefinementRegionHeader {
         region_info,
         template,

@@ -1,4 +1,5 @@
 //! What every region segment begins with (T.88, 7.4.1).
+ghost use Rattle.std.specs.Prelude.{◌≡◌, OnErr};
 ghost use Rattle.jbig2_base.specs.Answer.{Answers};
 ghost use Rattle.jbig2_base.specs.Bits.{IsAligned};
 ghost use Rattle.jbig2_region.specs.RegionInfo.{region_info_at};
@@ -26,22 +27,25 @@ pub struct RegionSegmentInfo {
 ///
 /// `ParseError::UnexpectedEof` where the bytes do not hold it,
 /// `RegionError::InvalidCombinationOperator` where the flags name no operator, `Unsupported` where
-/// they ask for colours. Takes no memory.
+/// they ask for colours. An error leaves the reader where it was. Takes no memory.
 #[tactic(auto, unfolding(crate::specs::RegionInfo::region_info_at))]
 pub fn parse_region_segment_info(reader: &mut Reader<'_>) -> Result<RegionSegmentInfo>
     requires { IsAligned reader.old }
     ensures value { Answers (λ info. (info, reader.new.bytes)) result (region_info_at reader.old.bytes) }
     ensures aligned { IsAligned reader.new }
+    ensures stays { OnErr result (reader.new ≡ reader.old) }
 {
-    let width = u32_field(reader)?;
-    let height = u32_field(reader)?;
-    let x_location = u32_field(reader)?;
-    let y_location = u32_field(reader)?;
-    let flags = byte_field(reader)?;
+    let mut ahead = reader.duplicate();
+    let width = u32_field(&mut ahead)?;
+    let height = u32_field(&mut ahead)?;
+    let x_location = u32_field(&mut ahead)?;
+    let y_location = u32_field(&mut ahead)?;
+    let flags = byte_field(&mut ahead)?;
     let combination_operator = CombinationOperator::from_value(flags)?;
     if flags / 8 % 2 == 1 {
         return Err(DecodeError::Unsupported);
     }
+    *reader = ahead;
     Ok(RegionSegmentInfo {
         width,
         height,
