@@ -1,6 +1,6 @@
 //! Generic regions (T.88, 6.2 and 7.4.6).
 ghost use Rattle.std.specs.Prelude.{◌≡◌, ◌≤◌, length, false, IfOk, OnErr, OnOk};
-ghost use Rattle.jbig2_base.specs.Answer.{Answers, Gives};
+ghost use Rattle.jbig2_base.specs.Answer.{Answers, Gives, Leaves};
 ghost use Rattle.jbig2_base.specs.Bits.{IsAligned};
 ghost use Rattle.jbig2_base.specs.Grid.{blank};
 ghost use Rattle.jbig2_region.specs.Generic.{contexts_after, generic_answer, generic_decoded, region_view};
@@ -197,9 +197,9 @@ pub struct DecodedRegion<A: Allocator> {
 }
 
 /// Decodes a region (T.88, 6.2) into a white bitmap of its size. The contexts begin fresh, whatever
-/// `contexts` held, and are left there as the region leaves them; MMR data does not touch them. The
-/// steps of a region are bounded unless it has MMR data or the extended template; with nominal
-/// adaptive pixels a run of eight likely symbols takes no decision.
+/// `contexts` held, and are left there as the region leaves them; MMR data does not touch them, nor
+/// does its refusal. The steps of a region are bounded unless it has MMR data or the extended
+/// template; with nominal adaptive pixels a run of eight likely symbols takes no decision.
 ///
 /// `OutOfMemory` where there is no room for the contexts; in strict mode
 /// `RegionError::InvalidMmrData` where MMR data has a fault or lacks a row.
@@ -212,7 +212,7 @@ pub fn decode_into<A: Allocator, B: Allocator, L: Ledger>(
     requires parsed { IsParsed (header_view header.now) }
     requires white { bitmap.old ≡ blank header.now.region_info.width header.now.region_info.height false }
     ensures value { Gives (λ _. bitmap.new) result (generic_answer (header_view header.now)) }
-    ensures contexts { OnOk result (contexts.new.items ≡ contexts_after (header_view header.now) contexts.old.items) }
+    ensures contexts { Leaves result contexts.new.items (contexts_after (header_view header.now) contexts.old.items) }
     ensures steps { OnOk result (CountsGeneric (header_view header.now) steps.old steps.new) }
 {
     if header.mmr {
@@ -244,7 +244,7 @@ pub fn decode<A: Allocator, B: Allocator, L: Ledger>(
 ) -> Result<DecodedRegion<A>>
     requires { IsParsed (header_view header.now) }
     ensures value { Gives (λ region. region_view region) result (generic_decoded (header_view header.now)) }
-    ensures contexts { OnOk result (contexts.new.items ≡ contexts_after (header_view header.now) contexts.old.items) }
+    ensures contexts { Leaves result contexts.new.items (contexts_after (header_view header.now) contexts.old.items) }
     ensures steps { OnOk result (CountsGeneric (header_view header.now) steps.old steps.new) }
 {
     let region_info = &header.region_info;
