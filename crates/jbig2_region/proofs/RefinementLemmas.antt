@@ -1,13 +1,13 @@
 -- Refinements: the number of a context bit by bit, nine pixels of one colour, and what decoding a whole region gives.
-use Rattle.std.proofs.Common.{pow-suc, ℤ, pos, ◌-ℤ◌, Result, Ok, Err, ◌||◌, suc, refl, subst, not, Some, None, ⊎_elim, ◌&&◌, length-append, ◌≡◌, ℕ, ◌+◌, ◌-◌, ◌*◌, ◌^◌, ◌<◌, ◌≤◌, Bool, true, false, List, [], ◌∷◌, ◌++◌, length, drop, map, get_or, add-one, sym, ap, ◌∙◌, arith}
+use Rattle.std.proofs.Common.{pow-suc, ℤ, pos, ◌-ℤ◌, Result, Ok, Err, is_ok, ◌||◌, suc, refl, subst, not, Some, None, ⊎_elim, ◌&&◌, length-append, ◌≡◌, ℕ, ◌+◌, ◌-◌, ◌*◌, ◌^◌, ◌<◌, ◌≤◌, Bool, true, false, List, [], ◌∷◌, ◌++◌, length, drop, map, get_or, add-one, sym, ap, ◌∙◌, arith}
 use Rattle.std.proofs.Math.Seq.{drop-cons, drop-length}
 use Rattle.std.proofs.Math.Nat.{pow-le-pow_right}
-use Rattle.std.proofs.lemmas.Bool.{cases_Bool}
+use Rattle.std.proofs.lemmas.Bool.{cases_Bool, cond-true}
 use Rattle.std.proofs.lemmas.List.{append-nil, length-map}
 use Rattle.std.specs.List.{list_all}
 use Rattle.jbig2_base.specs.Grid.{Grid, blank, bit_number}
 use Rattle.jbig2_region.specs.Generic.{number_of, context_at, PlacedRegion}
-use Rattle.jbig2_region.specs.Refinement.{Reference, reference_pixel, region_pixel, refined_context, nine, common_colour, refinement_bits, refinement_coding, refined_region, refined_grid, refined_answer, reference_of, offset, is_smaller, is_far}
+use Rattle.jbig2_region.specs.Refinement.{Reference, reference_pixel, region_pixel, refined_context, nine, common_colour, refinement_bits, refinement_coding, refined_region, refined_grid, refined_answer, refined_contexts, reference_of, offset, is_smaller, is_far}
 use Rattle.jbig2_region.specs.RefinementHeader.{RefinementHeader}
 use Rattle.jbig2_region.specs.Holds.{Holds}
 use Rattle.jbig2_region.specs.Raster.{decoded, no_pixels, fresh_contexts}
@@ -152,6 +152,10 @@ pub refined-answer : (h : RefinementHeader) (from : PlacedRegion) (d : ℤ × �
 unfolding refined_grid
 refined-answer h from d grid coder states near holds =
     ap (λ (r : Result (ℤ × ℤ) DecodeError). r >>= λ d. Ok (refined_grid h from)) near ∙ ap (λ (g : Grid). Ok g) (sym holds.pixels)
+
+pub refined-contexts : (h : RefinementHeader) (from : PlacedRegion) (d : ℤ × ℤ) (before after : List Context) → offset from h.region_info ≡ Ok d → after ≡ (refined_region h from).contexts → after ≡ refined_contexts h from before
+refined-contexts h from d before after near e =
+    e ∙ sym (cond-true (is_ok (offset from h.region_info)) (refined_region h from).contexts before (ap (λ (r : Result (ℤ × ℤ) DecodeError). is_ok r) near))
 
 -- the offset is the places' difference
 pub offset-value : (h : RefinementHeader) (from : PlacedRegion) (d : ℤ × ℤ) (dx dy : ℤ) → dx ≡ d.0 → dy ≡ d.1 → offset from h.region_info ≡ Ok d → ◌≡◌ {A = Reference} (record { grid = from.grid; dx = dx; dy = dy }) (reference_of h from)

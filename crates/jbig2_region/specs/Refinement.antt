@@ -1,5 +1,5 @@
 -- Refinements (T.88, 6.3): as generic regions, with templates that lie in two grids.
-use Rattle.std.specs.Prelude.{ℕ, Bool, true, false, not, ◌||◌, nat_lt, nat_le, if◌then◌else◌, List, [], ◌∷◌, ◌++◌, map, Option, Some, None, ℤ, pos, negsuc, ◌+ℤ◌, ◌-ℤ◌, Result, Ok}
+use Rattle.std.specs.Prelude.{ℕ, Bool, true, false, not, ◌||◌, nat_lt, nat_le, if◌then◌else◌, List, [], ◌∷◌, ◌++◌, map, Option, Some, None, ℤ, pos, negsuc, ◌+ℤ◌, ◌-ℤ◌, Result, Ok, is_ok}
 use Rattle.std.specs.List.{list_all}
 use Rattle.jbig2_base.specs.Answer.{◌>>=◌, refuse_if}
 use Rattle.jbig2_base.specs.Grid.{Grid, pixel}
@@ -7,7 +7,7 @@ use Rattle.jbig2_base.specs.declared.error.DecodeError.{DecodeError}
 use Rattle.jbig2_base.specs.declared.error.DecodeError.TheVariants as errors
 use Rattle.jbig2_base.specs.declared.error.OverflowError.TheVariants.{ReferenceOffset}
 use Rattle.jbig2_base.specs.declared.error.RegionError.TheVariants.{InvalidDimension}
-use Rattle.jbig2_coder.specs.Coder.{started}
+use Rattle.jbig2_coder.specs.Coder.{Context, started}
 use Rattle.jbig2_region.specs.Generic.{number_of, PlacedRegion}
 use Rattle.jbig2_region.specs.Raster.{Coding, Region, so_far, decoded, no_pixels, fresh_contexts}
 use Rattle.jbig2_region.specs.RefinementHeader.{RefinementHeader}
@@ -125,6 +125,10 @@ offset from info = do
 
 abbrev pub refined_answer : RefinementHeader → PlacedRegion → Result Grid DecodeError
 refined_answer h from = offset from h.region_info >>= λ d. Ok (refined_grid h from)
+
+-- the contexts afterwards; a refused reference leaves them alone
+abbrev pub refined_contexts : RefinementHeader → PlacedRegion → List Context → List Context
+refined_contexts h from contexts = if is_ok (offset from h.region_info) then (refined_region h from).contexts else contexts
 
 abbrev pub refined_decoded : RefinementHeader → PlacedRegion → Result PlacedRegion DecodeError
 refined_decoded h from = refined_answer h from >>= λ g. Ok (record { grid = g; x_location = h.region_info.x_location; y_location = h.region_info.y_location; combination_operator = h.region_info.combination_operator })

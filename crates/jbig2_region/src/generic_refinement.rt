@@ -1,10 +1,10 @@
 //! Refinement regions (T.88, 6.3 and 7.4.7).
-ghost use Rattle.std.specs.Prelude.{◌≡◌, ◌≤◌, ◌^◌, length, false, IfOk, OnErr, OnOk};
-ghost use Rattle.jbig2_base.specs.Answer.{Answers, Gives};
+ghost use Rattle.std.specs.Prelude.{◌≡◌, ◌≤◌, ◌^◌, length, false, IfOk, OnErr};
+ghost use Rattle.jbig2_base.specs.Answer.{Answers, Gives, Leaves};
 ghost use Rattle.jbig2_base.specs.Bits.{IsAligned};
 ghost use Rattle.jbig2_base.specs.Grid.{blank};
 ghost use Rattle.jbig2_region.specs.Generic.{region_view};
-ghost use Rattle.jbig2_region.specs.Refinement.{is_far, is_smaller, offset, refined_answer, refined_decoded, refined_region, refinement_bits, refinement_coding};
+ghost use Rattle.jbig2_region.specs.Refinement.{is_far, is_smaller, offset, refined_answer, refined_contexts, refined_decoded, refinement_bits, refinement_coding};
 ghost use Rattle.jbig2_region.specs.RefinementViews.{reference_view};
 ghost use Rattle.jbig2_region.specs.RefinementHeader.{IsRefinement, free_pixel_at, header_view, refinement_header_at, refinement_pixels_at};
 
@@ -151,7 +151,8 @@ fn offset<B: Allocator>(
 ///
 /// `RegionError::InvalidDimension` where the reference is narrower or lower than the region;
 /// `OverflowError::ReferenceOffset` where a place of either is 2^31 or more; `OutOfMemory` where
-/// there is no room for the contexts. A refusal leaves the bitmap as it was.
+/// there is no room for the contexts. An error leaves the bitmap as it was, and the
+/// contexts too unless memory ran out.
 pub fn decode_into<A: Allocator, B: Allocator, C: Allocator, L: Ledger>(
     header: &GenericRefinementRegionHeader<'_>,
     reference: &DecodedRegion<B>,
@@ -162,7 +163,7 @@ pub fn decode_into<A: Allocator, B: Allocator, C: Allocator, L: Ledger>(
     requires parsed { IsRefinement (header_view header.now) }
     requires white { bitmap.old ≡ blank header.now.region_info.width header.now.region_info.height false }
     ensures value { Gives (λ _. bitmap.new) result (refined_answer (header_view header.now) (region_view reference.now)) }
-    ensures contexts { OnOk result (contexts.new.items ≡ (refined_region (header_view header.now) (region_view reference.now)).contexts) }
+    ensures contexts { Leaves result contexts.new.items (refined_contexts (header_view header.now) (region_view reference.now) contexts.old.items) }
     ensures same { OnErr result (bitmap.new ≡ bitmap.old) }
 {
     let region_info = &header.region_info;
@@ -199,7 +200,7 @@ pub fn decode<A: Allocator, B: Allocator, C: Allocator, L: Ledger>(
 ) -> Result<DecodedRegion<A>>
     requires { IsRefinement (header_view header.now) }
     ensures value { Gives (λ region. region_view region) result (refined_decoded (header_view header.now) (region_view reference.now)) }
-    ensures contexts { OnOk result (contexts.new.items ≡ (refined_region (header_view header.now) (region_view reference.now)).contexts) }
+    ensures contexts { Leaves result contexts.new.items (refined_contexts (header_view header.now) (region_view reference.now) contexts.old.items) }
 {
     let region_info = &header.region_info;
     let mut bitmap = Bitmap::new(alloc, region_info.width, region_info.height)?;
