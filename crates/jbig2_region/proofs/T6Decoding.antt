@@ -158,6 +158,10 @@ rows-next w h y bits left new next meant reading inside e read =
         (λ (past : w ≤ x). pixel_at-right next x y (omega (arith, made.width, reading.width)) ∙ sym (ap (λ (t : Bool). t && black_at (whole-of (row new.width (row_above new y) bits) new next y left read).0 x) (le-ltb x w past)))
         (cases_lt x w)
 
+-- the rows that are there are the bitmap, also where some are missing
+pub drawn-rows : (w h : ℕ) (bytes : List ℕ) (done : List (List ℕ)) (whole : Bool) (left : List ℕ) (new : Grid) → rows_of w h bytes ≡ record { rows = done; whole = whole; left = left } → new ≡ grid_of_rows w h done → new ≡ grid_of_rows w h (rows_of w h bytes).rows
+drawn-rows w h bytes done whole left new e drawn = drawn ∙ ap (λ (r : Rows). grid_of_rows w h r.rows) (sym e)
+
 -- ---- answers
 answer_of : Bool → ℕ → ℕ → List ℕ → Rows → Result Decoded DecodeError
 answer_of strict w h bytes r = cond (strict && not r.whole) (Err (Region InvalidMmrData)) (Ok (record { grid = grid_of_rows w h r.rows; used = length bytes - length r.left / 8 }))
@@ -183,11 +187,18 @@ answer-missing false w h bytes done left new used result e g f is =
     subst (λ (r : Result ℕ DecodeError). Answers (λ (n : ℕ). let d : Decoded = record { grid = new; used = n } in d) r (decoded false w h bytes)) (sym is) (answer-by false w h bytes (record { rows = done; whole = false; left = left }) e ∙ used-grid new (grid_of_rows w h done) used (length bytes - length left / 8) g f)
 
 -- without columns or rows
-pub answer-none : (strict : Bool) (g : Grid) (bytes : List ℕ) → g ≡ blank g.width g.height false → (eqb g.width 0 || eqb g.height 0) ≡ true → decoded strict g.width g.height bytes ≡ Ok (record { grid = g; used = 0 })
+no-rows : (w h : ℕ) (bytes : List ℕ) → (eqb w 0 || eqb h 0) ≡ true → rows_of w h bytes ≡ record { rows = []; whole = true; left = bits_of bytes }
 unfolding rows_of
+no-rows w h bytes none = cond-true (eqb w 0 || eqb h 0) (record { rows = []; whole = true; left = bits_of bytes }) (rows_from h w [] [] (bits_of bytes)) none
+
+white-grid : (g : Grid) → g ≡ blank g.width g.height false → g ≡ grid_of_rows g.width g.height []
+white-grid g white =
+    white ∙ grid_of-ext g.width g.height (λ _ _. false) (λ x j. black_at (get_or [] j []) x) (λ x j a b. sym (ap (λ (cs : List ℕ). black_at cs x) (get_or_past [] j [] (omega arith)) ∙ change-none x))
+
+pub answer-none : (strict : Bool) (g : Grid) (bytes : List ℕ) → g ≡ blank g.width g.height false → (eqb g.width 0 || eqb g.height 0) ≡ true → decoded strict g.width g.height bytes ≡ Ok (record { grid = g; used = 0 })
 answer-none strict g bytes white none =
     let size = length-bits bytes in
-    answer-whole strict g.width g.height bytes [] (bits_of bytes) g 0
-    (cond-true (eqb g.width 0 || eqb g.height 0) (record { rows = []; whole = true; left = bits_of bytes }) (rows_from g.height g.width [] [] (bits_of bytes)) none)
-    (white ∙ grid_of-ext g.width g.height (λ _ _. false) (λ x j. black_at (get_or [] j []) x) (λ x j a b. sym (ap (λ (cs : List ℕ). black_at cs x) (get_or_past [] j [] (omega arith)) ∙ change-none x)))
-    (omega arith)
+    answer-whole strict g.width g.height bytes [] (bits_of bytes) g 0 (no-rows g.width g.height bytes none) (white-grid g white) (omega arith)
+
+pub drawn-none : (g : Grid) (bytes : List ℕ) → g ≡ blank g.width g.height false → (eqb g.width 0 || eqb g.height 0) ≡ true → g ≡ grid_of_rows g.width g.height (rows_of g.width g.height bytes).rows
+drawn-none g bytes white none = drawn-rows g.width g.height bytes [] true (bits_of bytes) g (no-rows g.width g.height bytes none) (white-grid g white)

@@ -2,7 +2,7 @@
 ghost use Rattle.std.specs.Prelude.{◌≡◌, if◌then◌else◌, false, Ok, Err};
 ghost use Rattle.jbig2_base.specs.Answer.{Answers};
 ghost use Rattle.jbig2_base.specs.Grid.{blank};
-ghost use Rattle.jbig2_region.specs.T6.{decoded};
+ghost use Rattle.jbig2_region.specs.T6.{decoded, grid_of_rows, rows_of};
 
 mod bits;
 mod codes;
@@ -22,8 +22,8 @@ use std::sync::ledger::Ledger;
 /// Decodes rows onto a white bitmap, and answers how many of `bytes` they take, a begun one whole.
 ///
 /// A fault in the data, or an end of block before the last row, is refused in strict mode
-/// (`RegionError::InvalidMmrData`). Otherwise the whole rows before it stay and the rest is white; a
-/// fault then takes all bytes. No memory is taken.
+/// (`RegionError::InvalidMmrData`); otherwise a fault takes all bytes. In both modes the whole rows
+/// before it stay and the rest is white. No memory is taken.
 pub fn decode<A: Allocator, L: Ledger>(
     bitmap: &mut Bitmap<A>,
     bytes: &[u8],
@@ -31,7 +31,8 @@ pub fn decode<A: Allocator, L: Ledger>(
     steps: &mut Steps<L>,
 ) -> Result<usize>
     requires { bitmap.old ≡ blank bitmap.old.width bitmap.old.height false }
-    ensures { Answers (λ used. record { grid = bitmap.new; used = used }) result (decoded strict bitmap.old.width bitmap.old.height bytes.now) }
+    ensures value { Answers (λ used. record { grid = bitmap.new; used = used }) result (decoded strict bitmap.old.width bitmap.old.height bytes.now) }
+    ensures grid { bitmap.new ≡ grid_of_rows bitmap.old.width bitmap.old.height (rows_of bitmap.old.width bitmap.old.height bytes.now).rows }
 {
     let height = bitmap.height();
     if bitmap.width() == 0 || height == 0 {

@@ -10,34 +10,34 @@ returns-in-Err g c =
     let white = blank-made p.width p.height false c.reinitialize.new.self c.requires.columns c.requires.rows c.in_ok-reinitialize.ensures.value in
     inr
     (reads-fault p.width p.height c.loop.counter c.loop.values _ _ c.in-Err.error
-    (λ done. mmr-fault p c.loop.counter c.reinitialize.new.self c.loop.rest.now c.in-Err.error done (omega arith) white c.in-Err.ensures)
+    (λ done. mmr-fault p c.loop.counter c.reinitialize.new.self c.loop.rest.now c.in-Err.error done (omega arith) white c.in-Err.ensures.value)
     c.loop.invariant)
 
 pub slice_bounds-rest-start : goal.slice_bounds-rest-start
 slice_bounds-rest-start g c =
     let p : GrayScale = gray_view c.args.params.now in
     let white = blank-made p.width p.height false c.reinitialize.new.self c.requires.columns c.requires.rows c.in_ok-reinitialize.ensures.value in
-    let within : c.in-Ok.used ≤ length c.loop.rest.now = (mmr-made p c.reinitialize.new.self c.decode.new.bitmap c.loop.rest.now c.in-Ok.used white c.in-Ok.ensures).2 in
+    let within : c.in-Ok.used ≤ length c.loop.rest.now = (mmr-made p c.reinitialize.new.self c.decode.new.bitmap c.loop.rest.now c.in-Ok.used white c.in-Ok.ensures.value).2 in
     search (rules, within)
 
 pub slice_bounds-rest-count : goal.slice_bounds-rest-count
 slice_bounds-rest-count g c =
     let p : GrayScale = gray_view c.args.params.now in
     let white = blank-made p.width p.height false c.reinitialize.new.self c.requires.columns c.requires.rows c.in_ok-reinitialize.ensures.value in
-    (mmr-made p c.reinitialize.new.self c.decode.new.bitmap c.loop.rest.now c.in-Ok.used white c.in-Ok.ensures).2
+    (mmr-made p c.reinitialize.new.self c.decode.new.bitmap c.loop.rest.now c.in-Ok.used white c.in-Ok.ensures.value).2
 
 pub add_plane-requires-clause-sized : goal.add_plane-requires-clause-sized
 add_plane-requires-clause-sized g c =
     let p : GrayScale = gray_view c.args.params.now in
     let white = blank-made p.width p.height false c.reinitialize.new.self c.requires.columns c.requires.rows c.in_ok-reinitialize.ensures.value in
-    let made = mmr-made p c.reinitialize.new.self c.decode.new.bitmap c.loop.rest.now c.in-Ok.used white c.in-Ok.ensures in
+    let made = mmr-made p c.reinitialize.new.self c.decode.new.bitmap c.loop.rest.now c.in-Ok.used white c.in-Ok.ensures.value in
     reads-sized p.width p.height c.loop.counter c.loop.values _ _ c.decode.new.bitmap made.0 made.1 c.loop.invariant
 
 pub add_plane-requires-clause-rows : goal.add_plane-requires-clause-rows
 add_plane-requires-clause-rows g c =
     let p : GrayScale = gray_view c.args.params.now in
     let white = blank-made p.width p.height false c.reinitialize.new.self c.requires.columns c.requires.rows c.in_ok-reinitialize.ensures.value in
-    let rows : c.decode.new.bitmap.height ≡ p.height = (mmr-made p c.reinitialize.new.self c.decode.new.bitmap c.loop.rest.now c.in-Ok.used white c.in-Ok.ensures).1 in
+    let rows : c.decode.new.bitmap.height ≡ p.height = (mmr-made p c.reinitialize.new.self c.decode.new.bitmap c.loop.rest.now c.in-Ok.used white c.in-Ok.ensures.value).1 in
     rw rows c.requires.rows
 
 pub add_plane-requires-clause-small : goal.add_plane-requires-clause-small
@@ -49,9 +49,9 @@ pub loop-preserved : goal.loop-preserved
 loop-preserved g c =
     let p : GrayScale = gray_view c.args.params.now in
     let white = blank-made p.width p.height false c.reinitialize.new.self c.requires.columns c.requires.rows c.in_ok-reinitialize.ensures.value in
-    let made = mmr-made p c.reinitialize.new.self c.decode.new.bitmap c.loop.rest.now c.in-Ok.used white c.in-Ok.ensures in
+    let made = mmr-made p c.reinitialize.new.self c.decode.new.bitmap c.loop.rest.now c.in-Ok.used white c.in-Ok.ensures.value in
     reads-next p.width p.height c.loop.counter c.loop.values c.add_plane.new.values _ _ _ c.decode.new.bitmap made.0 made.1
-    (λ done. mmr-next p c.loop.counter c.reinitialize.new.self c.decode.new.bitmap c.loop.rest.now c.in-Ok.used _ done (omega arith) white (drop-whole c.in-Ok.used c.loop.rest.now) c.in-Ok.ensures)
+    (λ done. mmr-next p c.loop.counter c.reinitialize.new.self c.decode.new.bitmap c.loop.rest.now c.in-Ok.used _ done (omega arith) white (drop-whole c.in-Ok.used c.loop.rest.now) c.in-Ok.ensures.value)
     c.add_plane.ensures
     c.loop.invariant
 

@@ -5,7 +5,7 @@ use Rattle.jbig2_region.specs.T6.{row, ends_block, after_end, rows_of}
 use Rattle.jbig2_region.specs.T6Reading.{Rest, row_above}
 use Rattle.jbig2_region.specs.T6Calls.{ReadRow}
 use Rattle.jbig2_region.proofs.T6Bits.{end-after, end-none}
-use Rattle.jbig2_region.proofs.T6Decoding.{RowsReading, rows-start, rows-grid, rows-early, rows-last, rows-fault, rows-next, answer-whole, answer-missing, answer-none}
+use Rattle.jbig2_region.proofs.T6Decoding.{RowsReading, rows-start, rows-grid, rows-early, rows-last, rows-fault, rows-next, answer-whole, answer-missing, answer-none, drawn-none, drawn-rows}
 use Rattle.jbig2_region.proofs.mmr.decode.Goals as goal
 use Rattle.jbig2_region.proofs.mmr.decode.Goals.{then-width-eq0-via-then-width-eq0, then-width-eq0-via-else-width-eq0+then-height-eq0}
 
@@ -16,7 +16,10 @@ returns-then-width-eq0 g c =
       | then-width-eq0-via-then-width-eq0 w ↦ or_left _ _ (eq-eqb c.args.bitmap.now.width 0 (sym c.width.ensures.value ∙ w.if-width-eq0.true))
       | then-width-eq0-via-else-width-eq0+then-height-eq0 w ↦ or_right _ _ (eq-eqb c.args.bitmap.now.height 0 (sym c.height-height.ensures.value ∙ w.if-height-eq0.true))
     ] in
-    answer-none c.args.strict c.args.bitmap.now c.args.bytes.now c.requires none
+    record {
+      value = answer-none c.args.strict c.args.bitmap.now c.args.bytes.now c.requires none;
+      grid = drawn-none c.args.bitmap.now c.args.bytes.now c.requires none;
+    }
 
 pub loop-y-init : goal.loop-y-init
 loop-y-init g c =
@@ -38,9 +41,12 @@ returns-then-skip_end_of_block g c =
     c.bytes_used.ensures ∙ ap (λ (r : Rest). length r.bytes - length r.left / 8) c.skip_end_of_block.ensures.rest
     ∙ ap (λ (ys : List ℕ). length c.loop-y.reader.bytes - length ys / 8) (end-after c.loop-y.reader.left ends)
     ∙ ap (λ (bs : List ℕ). length bs - length (drop 24 c.loop-y.reader.left) / 8) inv.bytes in
-    answer-missing c.args.strict w h c.args.bytes.now inv.reading.done (drop 24 c.loop-y.reader.left) c.loop-y.bitmap c.bytes_used.result c.missing_rows.result
-    (rows-early w h c.loop-y.y c.loop-y.reader.left c.loop-y.bitmap (rows_of w h c.args.bytes.now) inv.reading (omega (arith, c.loop-y-test.true, c.height-height.ensures.value)) ends)
-    (rows-grid w h c.loop-y.y c.loop-y.reader.left c.loop-y.bitmap (rows_of w h c.args.bytes.now) inv.reading) used c.missing_rows.ensures
+    let early = rows-early w h c.loop-y.y c.loop-y.reader.left c.loop-y.bitmap (rows_of w h c.args.bytes.now) inv.reading (omega (arith, c.loop-y-test.true, c.height-height.ensures.value)) ends in
+    let drawn = rows-grid w h c.loop-y.y c.loop-y.reader.left c.loop-y.bitmap (rows_of w h c.args.bytes.now) inv.reading in
+    record {
+      value = answer-missing c.args.strict w h c.args.bytes.now inv.reading.done (drop 24 c.loop-y.reader.left) c.loop-y.bitmap c.bytes_used.result c.missing_rows.result early drawn used c.missing_rows.ensures;
+      grid = drawn-rows w h c.args.bytes.now inv.reading.done false (drop 24 c.loop-y.reader.left) c.loop-y.bitmap early drawn;
+    }
 
 pub returns-then-not-read_row : goal.returns-then-not-read_row
 returns-then-not-read_row g c =
@@ -51,7 +57,10 @@ returns-then-not-read_row g c =
     let left : c.skip_end_of_block.new.self.left ≡ c.loop-y.reader.left = ap (λ (r : Rest). r.left) c.skip_end_of_block.ensures.rest ∙ end-none c.loop-y.reader.left goes_on in
     let read = subst (λ (ys : List ℕ). ReadRow (row c.loop-y.bitmap.width (row_above c.loop-y.bitmap c.loop-y.y) ys) false c.loop-y.bitmap c.read_row.new.bitmap c.loop-y.y c.read_row.new.reader.left) left c.if-not-read_row.ensures.value in
     let fault = rows-fault w h c.loop-y.y c.loop-y.reader.left c.read_row.new.reader.left c.loop-y.bitmap c.read_row.new.bitmap (rows_of w h c.args.bytes.now) inv.reading (omega (arith, c.loop-y-test.true, c.height-height.ensures.value)) goes_on read in
-    answer-missing c.args.strict w h c.args.bytes.now inv.reading.done [] c.read_row.new.bitmap (length c.args.bytes.now) c.missing_rows-then-not-read_row.result fault.0 fault.1 (omega arith) c.missing_rows-then-not-read_row.ensures
+    record {
+      value = answer-missing c.args.strict w h c.args.bytes.now inv.reading.done [] c.read_row.new.bitmap (length c.args.bytes.now) c.missing_rows-then-not-read_row.result fault.0 fault.1 (omega arith) c.missing_rows-then-not-read_row.ensures;
+      grid = drawn-rows w h c.args.bytes.now inv.reading.done false [] c.read_row.new.bitmap fault.0 fault.1;
+    }
 
 pub loop-y-preserved : goal.loop-y-preserved
 loop-y-preserved g c =
@@ -74,6 +83,9 @@ returns g c =
     let used : c.bytes_used-2.result ≡ length c.args.bytes.now - length (after_end c.loop-y.reader.left) / 8 =
     c.bytes_used-2.ensures ∙ ap (λ (r : Rest). length r.bytes - length r.left / 8) c.skip_end_of_block-2.ensures.rest
     ∙ ap (λ (bs : List ℕ). length bs - length (after_end c.loop-y.reader.left) / 8) inv.bytes in
-    answer-whole c.args.strict w h c.args.bytes.now inv.reading.done (after_end c.loop-y.reader.left) c.loop-y.bitmap c.bytes_used-2.result
-    (rows-last w h c.loop-y.y c.loop-y.reader.left c.loop-y.bitmap (rows_of w h c.args.bytes.now) inv.reading (omega (arith, c.loop-y-test.false, c.height-height.ensures.value)))
-    (rows-grid w h c.loop-y.y c.loop-y.reader.left c.loop-y.bitmap (rows_of w h c.args.bytes.now) inv.reading) used
+    let last = rows-last w h c.loop-y.y c.loop-y.reader.left c.loop-y.bitmap (rows_of w h c.args.bytes.now) inv.reading (omega (arith, c.loop-y-test.false, c.height-height.ensures.value)) in
+    let drawn = rows-grid w h c.loop-y.y c.loop-y.reader.left c.loop-y.bitmap (rows_of w h c.args.bytes.now) inv.reading in
+    record {
+      value = answer-whole c.args.strict w h c.args.bytes.now inv.reading.done (after_end c.loop-y.reader.left) c.loop-y.bitmap c.bytes_used-2.result last drawn used;
+      grid = drawn-rows w h c.args.bytes.now inv.reading.done true (after_end c.loop-y.reader.left) c.loop-y.bitmap last drawn;
+    }
