@@ -11,7 +11,7 @@ use Rattle.jbig2_region.specs.GenericHeader.{GenericHeader}
 use Rattle.jbig2_base.specs.Counts.{Counts}
 use Rattle.jbig2_region.specs.Holds.{Holds}
 use Rattle.jbig2_region.specs.Layouts.{CountsCoded, CountsGeneric}
-use Rattle.jbig2_region.specs.Raster.{Coding, so_far, decoded, no_pixels, fresh_contexts}
+use Rattle.jbig2_region.specs.Raster.{Coding, decoded, no_pixels, fresh_contexts}
 use Rattle.jbig2_region.specs.T6.{Decoded, decoded as mmr_rows}
 use Rattle.jbig2_region.specs.Templates.{context_bits}
 

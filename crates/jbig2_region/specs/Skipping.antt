@@ -1,5 +1,5 @@
 -- Generic regions of which pixels are skipped (T.88, 6.2.5.7, USESKIP): a skipped pixel is white and takes no decision.
-use Rattle.std.specs.Prelude.{ℕ, Bool, true, false, if◌then◌else◌, List, Option, Some, None}
+use Rattle.std.specs.Prelude.{ℕ, Bool, false, if◌then◌else◌, List, Option, Some, None}
 use Rattle.std.specs.Borrow.{Bor}
 use Rattle.jbig2_base.specs.Grid.{Grid, pixel_at}
 use Rattle.jbig2_region.specs.Generic.{context_at}

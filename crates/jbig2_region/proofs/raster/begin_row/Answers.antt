@@ -1,4 +1,4 @@
-use Rattle.std.proofs.Common.{rules, arith, length, get_or, ◌<◌, true, false, refl}
+use Rattle.std.proofs.Common.{rules, length, get_or, ◌<◌, true, false, refl}
 use Rattle.std.proofs.lemmas.List.{get_or_default}
 use Rattle.jbig2_coder.specs.Coder.{fresh}
 use Rattle.jbig2_region.proofs.RasterLemmas.{begun-plainly, begun-decided, digit-black, digit-white, some-inside}
