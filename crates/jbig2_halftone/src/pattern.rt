@@ -1,5 +1,5 @@
 //! Pattern dictionaries (T.88, 6.7 and 7.4.4).
-ghost use Rattle.std.specs.Prelude.{◌≡◌, ◌+◌, ◌*◌, ◌≤◌, length, IfOk, Ok};
+ghost use Rattle.std.specs.Prelude.{◌≡◌, ◌+◌, ◌*◌, ◌≤◌, length, IfOk, OnErr, Ok};
 ghost use Rattle.jbig2_base.specs.Answer.{Answers, Gives};
 ghost use Rattle.jbig2_base.specs.Bits.{IsAligned};
 ghost use Rattle.jbig2_region.specs.Generic.{generic_answer};
@@ -60,8 +60,8 @@ fn side_field(reader: &mut Reader<'_>) -> Result<u8>
 /// The header of a pattern dictionary at the reader's place, which holds the coded bytes behind it
 /// (T.88, 7.4.4).
 ///
-/// `ParseError::UnexpectedEof` where the bytes do not hold it, or where a pattern has no pixels.
-/// Takes no memory.
+/// `ParseError::UnexpectedEof` where the bytes do not hold it, or where a pattern has no pixels. An
+/// error leaves the reader where it was. Takes no memory.
 #[tactic(auto, unfolding(crate::specs::PatternHeader::pattern_header_at))]
 pub fn parse<'a>(reader: &mut Reader<'a>, strict: bool) -> Result<PatternDictionaryHeader<'a>>
     requires { IsAligned reader.old }
@@ -69,11 +69,14 @@ pub fn parse<'a>(reader: &mut Reader<'a>, strict: bool) -> Result<PatternDiction
     ensures aligned { IsAligned reader.new }
     ensures width { IfOk result (λ h. 1 ≤ h.pattern_width) }
     ensures height { IfOk result (λ h. 1 ≤ h.pattern_height) }
+    ensures stays { OnErr result (reader.new ≡ reader.old) }
 {
-    let flags = byte_field(reader)?;
-    let pattern_width = side_field(reader)?;
-    let pattern_height = side_field(reader)?;
-    let num_patterns = u32_field(reader)?;
+    let mut ahead = reader.duplicate();
+    let flags = byte_field(&mut ahead)?;
+    let pattern_width = side_field(&mut ahead)?;
+    let pattern_height = side_field(&mut ahead)?;
+    let num_patterns = u32_field(&mut ahead)?;
+    *reader = ahead;
     Ok(PatternDictionaryHeader {
         mmr: flags % 2 == 1,
         template: Template::from_byte(flags / 2),

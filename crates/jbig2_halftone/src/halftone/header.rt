@@ -1,5 +1,5 @@
 //! Headers of halftone regions (T.88, 7.4.5).
-ghost use Rattle.std.specs.Prelude.{◌≤◌, IfOk};
+ghost use Rattle.std.specs.Prelude.{◌≡◌, ◌≤◌, IfOk, OnErr};
 ghost use Rattle.jbig2_base.specs.Answer.{Answers};
 ghost use Rattle.jbig2_base.specs.Bits.{IsAligned};
 ghost use Rattle.jbig2_base.specs.Fields.{signed_at};
@@ -119,8 +119,8 @@ fn parse_grid(reader: &mut Reader<'_>) -> Result<HalftoneGridPositionAndSize>
 ///
 /// `ParseError::UnexpectedEof` where the bytes do not hold it; the errors of
 /// `parse_region_segment_info`; `RegionError::InvalidCombinationOperator` where the flags name no
-/// operator; `OverflowError::GridDimension` for a grid of more than 65535 columns or rows. Takes no
-/// memory.
+/// operator; `OverflowError::GridDimension` for a grid of more than 65535 columns or rows. An error
+/// leaves the reader where it was. Takes no memory.
 #[tactic(auto, unfolding(crate::specs::HalftoneHeader::halftone_header_at))]
 pub fn parse<'a>(reader: &mut Reader<'a>, strict: bool) -> Result<HalftoneRegionHeader<'a>>
     requires { IsAligned reader.old }
@@ -128,12 +128,15 @@ pub fn parse<'a>(reader: &mut Reader<'a>, strict: bool) -> Result<HalftoneRegion
     ensures aligned { IsAligned reader.new }
     ensures columns { IfOk result (λ h. h.grid_position_and_size.width ≤ 65535) }
     ensures rows { IfOk result (λ h. h.grid_position_and_size.height ≤ 65535) }
+    ensures stays { OnErr result (reader.new ≡ reader.old) }
 {
-    let region_info = parse_region_segment_info(reader)?;
-    let flags = parse_flags(reader)?;
-    let grid_position_and_size = parse_grid(reader)?;
-    let x_vector = u16_field(reader)?;
-    let y_vector = u16_field(reader)?;
+    let mut ahead = reader.duplicate();
+    let region_info = parse_region_segment_info(&mut ahead)?;
+    let flags = parse_flags(&mut ahead)?;
+    let grid_position_and_size = parse_grid(&mut ahead)?;
+    let x_vector = u16_field(&mut ahead)?;
+    let y_vector = u16_field(&mut ahead)?;
+    *reader = ahead;
     Ok(HalftoneRegionHeader {
         region_info,
         flags,
