@@ -1,5 +1,5 @@
 -- What decoding a whole halftone region gives: a value for each cell, and in lenient mode never a refusal.
-use Rattle.std.proofs.Common.{◌≡◌, ℕ, zero, suc, ◌+◌, ◌*◌, ◌≤◌, Bool, true, false, ltb, List, [], ◌∷◌, ◌++◌, length, drop, get_or, ◌-◌, Result, Ok, Err, refl, sym, ap, subst, ◌∙◌, ⊎_elim}
+use Rattle.std.proofs.Common.{◌≡◌, ℕ, zero, suc, ◌+◌, ◌*◌, ◌≤◌, Bool, true, false, ltb, List, [], ◌∷◌, length, drop, get_or, ◌-◌, Result, Ok, Err, refl, sym, ap, subst, ◌∙◌, ⊎_elim}
 use Rattle.std.specs.Prelude.{if◌then◌else◌, IfErr}
 use Rattle.std.proofs.lemmas.Bool.{le-ltb}
 use Rattle.jbig2_base.specs.Answer.{◌>>=◌, refuse_if, Gives}
@@ -40,15 +40,16 @@ rows-lenient : (w h : ℕ) (input : List ℕ) → Answered (mmr_rows false w h i
 unfolding mmr_rows
 rows-lenient w h input = (_, refl)
 
-planes-lenient : (w h count : ℕ) (done : List Grid) (input : List ℕ) → Answered (mmr_planes false w h count done input)
+planes-lenient : (p : GrayScale) (input : List ℕ) (count : ℕ) → p.strict ≡ false → Answered (mmr_planes p input count)
 unfolding mmr_planes
-planes-lenient w h zero done input = (done, refl)
-planes-lenient w h (suc count) done input =
-    then-answered (mmr_rows false w h input) (λ rows. mmr_planes false w h count (done ++ rows.grid ∷ []) (drop rows.used input)) (rows-lenient w h input)
-    (λ rows. planes-lenient w h count (done ++ rows.grid ∷ []) (drop rows.used input))
+planes-lenient p input zero lenient = ([], refl)
+planes-lenient p input (suc count) lenient =
+    then-answered (mmr_rows p.strict p.width p.height input) (λ rows. mmr_planes p (drop rows.used input) count >>= λ others. Ok (rows.grid ∷ others))
+    (subst (λ (b : Bool). Answered (mmr_rows b p.width p.height input)) (sym lenient) (rows-lenient p.width p.height input))
+    (λ rows. then-answered (mmr_planes p (drop rows.used input) count) (λ others. Ok (rows.grid ∷ others)) (planes-lenient p (drop rows.used input) count lenient) (λ others. (rows.grid ∷ others, refl)))
 
 values-lenient : (use_mmr : Bool) (p : GrayScale) (input : List ℕ) → p.strict ≡ false → Answered (if use_mmr then planes_by_mmr p input else planes_by_coder p input)
-values-lenient true p input lenient = subst (λ (b : Bool). Answered (mmr_planes b p.width p.height p.bits_per_pixel [] input)) (sym lenient) (planes-lenient p.width p.height p.bits_per_pixel [] input)
+values-lenient true p input lenient = planes-lenient p input p.bits_per_pixel lenient
 values-lenient false p input lenient = (_, refl)
 
 image-lenient : (p : GrayScale) (input : List ℕ) → p.width ≤ 65535 → p.height ≤ 65535 → p.strict ≡ false → Answered (gray_scale_image p input)

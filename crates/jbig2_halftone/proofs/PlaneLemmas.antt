@@ -1,31 +1,30 @@
 -- Planes read one after another, and the values gathered from them.
-use Rattle.std.proofs.Common.{◌≡◌, ℕ, suc, ◌+◌, ◌-◌, ◌*◌, ◌/◌, ◌%◌, ◌^◌, ◌<◌, ◌≤◌, Bool, true, false, not, ◌&&◌, List, [], ◌∷◌, ◌++◌, length, take, drop, map, Result, Ok, Err, length-append, sym, ap, subst, ◌∙◌, arith}
+use Rattle.std.proofs.Common.{◌≡◌, ℕ, suc, ◌+◌, ◌-◌, ◌*◌, ◌/◌, ◌%◌, ◌^◌, ◌<◌, ◌≤◌, Bool, true, false, not, ◌&&◌, List, [], ◌∷◌, ◌++◌, length, take, drop, map, Result, Ok, Err, add-one, length-append, refl, sym, ap, subst, ◌∙◌, arith}
 use Rattle.std.specs.List.{All, range_with_len}
 use Rattle.std.specs.Prelude.{if◌then◌else◌}
 use Rattle.std.proofs.Math.Nat.{pow-le-pow_right}
-use Rattle.std.proofs.lemmas.List.{length-drop, take_all}
-use Rattle.std.proofs.lemmas.List.FromFn.{get_or-map-range_with_len, length-map-range_with_len}
+use Rattle.std.proofs.lemmas.List.{append_assoc, append-nil, length-drop, take_all}
+use Rattle.std.proofs.lemmas.List.FromFn.{get_or-map-range_with_len, length-map-range_with_len, map-range_with_len_more}
 use Rattle.jbig2_base.specs.Answer.{◌>>=◌}
 use Rattle.jbig2_base.specs.Grid.{Grid, blank}
 use Rattle.jbig2_base.specs.declared.error.DecodeError.{DecodeError}
-use Rattle.jbig2_coder.specs.Coder.{Coder, Context}
+use Rattle.jbig2_coder.specs.Coder.{Coder, Context, started}
+use Rattle.jbig2_coder.specs.declared.arithmetic_decoder.registers.Registers.{Registers}
 use Rattle.jbig2_region.specs.Generic.{number_of}
 use Rattle.jbig2_region.specs.Holds.{Holds}
-use Rattle.jbig2_region.specs.Raster.{so_far, decoded, no_pixels}
+use Rattle.jbig2_region.specs.Raster.{so_far, decoded, no_pixels, fresh_contexts}
 use Rattle.jbig2_region.specs.Skipping.{skipping_coding}
 use Rattle.jbig2_region.specs.T6.{Decoded, Rows, decoded as mmr_rows, grid_of_rows, rows_of}
-use Rattle.jbig2_region.specs.Templates.{template_pixels}
+use Rattle.jbig2_region.specs.Templates.{context_bits, template_pixels}
 use Rattle.jbig2_region.specs.declared.template.AdaptiveTemplatePixel.{AdaptiveTemplatePixel}
 use Rattle.jbig2_region.specs.declared.template.GenericTemplatePixels.TheVariants.{Regular}
 use Rattle.jbig2_region.proofs.ContextLemmas.{number_of-lt}
-use Rattle.jbig2_halftone.specs.GrayScale.{GrayScale, nominal_pixels, plane_coding, coded_planes, mmr_planes, gray_bit, gray_value, gray_values}
+use Rattle.jbig2_halftone.specs.GrayScale.{GrayScale, nominal_pixels, plane_coding, after_planes, coded_plane, coded_planes, mmr_planes, planes_by_coder, planes_by_mmr, gray_bit, gray_value, gray_values, values_by}
 
--- i planes are read, `gathered` are their values, and `others` says what comes of all planes
-pub record Reads (w h i : ℕ) (gathered : List ℕ) (others : List Grid → Result (List Grid) DecodeError) (meant : Result (List Grid) DecodeError) : Type 0 where
-  pub done : List Grid
+-- `gathered` are the values of the i planes that are done
+pub record Gathers (w h i : ℕ) (gathered : List ℕ) (done : List Grid) : Type 0 where
   pub many : length done ≡ i
   pub values : gathered ≡ gray_values w h done
-  pub all : others done ≡ meant
 
 -- what adding a plane says, in the image's own size
 added-sized : (w h : ℕ) (plane : Grid) (old new : List ℕ) → plane.width ≡ w → plane.height ≡ h → ((planes : List Grid) → old ≡ gray_values plane.width plane.height planes → new ≡ gray_values plane.width plane.height (planes ++ plane ∷ [])) → (planes : List Grid) → old ≡ gray_values w h planes → new ≡ gray_values w h (planes ++ plane ∷ [])
@@ -34,13 +33,11 @@ added-sized w h plane old new columns rows added planes before =
     ∙ ap (λ (n : ℕ). gray_values n plane.height (planes ++ plane ∷ [])) columns
     ∙ ap (λ (n : ℕ). gray_values w n (planes ++ plane ∷ [])) rows
 
-pub reads-next : (w h i : ℕ) (old new : List ℕ) (before after : List Grid → Result (List Grid) DecodeError) (meant : Result (List Grid) DecodeError) (plane : Grid) → plane.width ≡ w → plane.height ≡ h → ((planes : List Grid) → before planes ≡ after (planes ++ plane ∷ []))
-    → ((planes : List Grid) → old ≡ gray_values plane.width plane.height planes → new ≡ gray_values plane.width plane.height (planes ++ plane ∷ [])) → Reads w h i old before meant → Reads w h (i + 1) new after meant
-reads-next w h i old new before after meant plane columns rows step added reads = record {
-  done = reads.done ++ plane ∷ [];
-  many = length-append reads.done (plane ∷ []) ∙ ap (λ (n : ℕ). n + 1) reads.many;
-  values = added-sized w h plane old new columns rows added reads.done reads.values;
-  all = sym (step reads.done) ∙ reads.all;
+pub gathers-next : (w h i : ℕ) (old new : List ℕ) (done : List Grid) (plane : Grid) → plane.width ≡ w → plane.height ≡ h
+    → ((planes : List Grid) → old ≡ gray_values plane.width plane.height planes → new ≡ gray_values plane.width plane.height (planes ++ plane ∷ [])) → Gathers w h i old done → Gathers w h (i + 1) new (done ++ plane ∷ [])
+gathers-next w h i old new done plane columns rows added gathers = record {
+  many = length-append done (plane ∷ []) ∙ ap (λ (n : ℕ). n + 1) gathers.many;
+  values = added-sized w h plane old new columns rows added done gathers.values;
 }
 
 gray_value-lt : (planes : List Grid) (x y : ℕ) → gray_value planes x y < 2 ^ length planes
@@ -62,45 +59,11 @@ values-small w h planes few = λ k d inside.
     let below : 2 ^ length planes ≤ 2 ^ 31 = pow-le-pow_right {n = 2} (omega arith) {i = length planes} {j = 31} (omega arith) in
     rw read (omega (arith, gray_value-lt planes (k % w) (k / w)))
 
-pub reads-small : (w h i : ℕ) (old : List ℕ) (before : List Grid → Result (List Grid) DecodeError) (meant : Result (List Grid) DecodeError) → i < 32 → Reads w h i old before meant → All (λ v. v < 2 ^ 31) old
-reads-small w h i old before meant few reads = subst (λ (vs : List ℕ). All (λ v. v < 2 ^ 31) vs) (sym reads.values) (values-small w h reads.done (omega (arith, reads.many)))
+pub gathers-small : (w h i : ℕ) (old : List ℕ) (done : List Grid) → i < 32 → Gathers w h i old done → All (λ v. v < 2 ^ 31) old
+gathers-small w h i old done few gathers = subst (λ (vs : List ℕ). All (λ v. v < 2 ^ 31) vs) (sym gathers.values) (values-small w h done (omega (arith, gathers.many)))
 
--- all planes are read
-pub reads-values : (w h i : ℕ) (gathered : List ℕ) (others : List Grid → Result (List Grid) DecodeError) (meant : Result (List Grid) DecodeError) → ((planes : List Grid) → others planes ≡ Ok planes) → Reads w h i gathered others meant → (meant >>= λ planes. Ok (gray_values w h planes)) ≡ Ok gathered
-reads-values w h i gathered others meant none reads =
-    ap (λ (r : Result (List Grid) DecodeError). r >>= λ planes. Ok (gray_values w h planes)) (sym reads.all ∙ none reads.done)
-    ∙ ap (λ (vs : List ℕ). Ok vs) (sym reads.values)
-
--- a fault ends the reading
-pub reads-fault : (w h i : ℕ) (gathered : List ℕ) (others : List Grid → Result (List Grid) DecodeError) (meant : Result (List Grid) DecodeError) (e : DecodeError) → ((planes : List Grid) → others planes ≡ Err e) → Reads w h i gathered others meant → (meant >>= λ planes. Ok (gray_values w h planes)) ≡ Err e
-reads-fault w h i gathered others meant e fault reads = ap (λ (r : Result (List Grid) DecodeError). r >>= λ planes. Ok (gray_values w h planes)) (sym reads.all ∙ fault reads.done)
-
-pub reads-sized : (w h i : ℕ) (gathered : List ℕ) (others : List Grid → Result (List Grid) DecodeError) (meant : Result (List Grid) DecodeError) (plane : Grid) → plane.width ≡ w → plane.height ≡ h → Reads w h i gathered others meant → length gathered ≡ plane.width * plane.height
-reads-sized w h i gathered others meant plane columns rows reads =
-    ap length reads.values ∙ values-length w h reads.done ∙ sym (ap (λ (n : ℕ). n * plane.height) columns ∙ ap (λ (n : ℕ). w * n) rows)
-
--- ---- planes by the coder
-pub coded-none : (p : GrayScale) (input : List ℕ) (i : ℕ) (done : List Grid) (coder : Coder) (states : List Context) → p.bits_per_pixel ≤ i → coded_planes (plane_coding p) p.width p.height input (p.bits_per_pixel - i) done coder.registers states ≡ done
-unfolding coded_planes
-coded-none p input i done coder states all =
-    let none : p.bits_per_pixel - i ≡ 0 = omega arith in
-    rw none
-
-pub coded-holds : (p : GrayScale) (input : List ℕ) (before grid : Grid) (coder next : Coder) (states after : List Context) (adaptive : List AdaptiveTemplatePixel) → before ≡ blank p.width p.height false → coder.bytes ≡ input → adaptive ≡ nominal_pixels p.template
-    → Holds before.width before.height coder.bytes (decoded (skipping_coding (template_pixels p.template (Regular adaptive)) p.skip_mask) before.width before.height coder.bytes (no_pixels coder.registers states)) grid next after
-    → Holds p.width p.height input (decoded (plane_coding p) p.width p.height input (no_pixels coder.registers states)) grid next after
-coded-holds p input before grid coder next states after adaptive white bytes nominal holds =
-    let one = subst (λ (a : List AdaptiveTemplatePixel). Holds before.width before.height coder.bytes (decoded (skipping_coding (template_pixels p.template (Regular a)) p.skip_mask) before.width before.height coder.bytes (no_pixels coder.registers states)) grid next after) nominal holds in
-    let two = subst (λ (b : List ℕ). Holds before.width before.height b (decoded (plane_coding p) before.width before.height b (no_pixels coder.registers states)) grid next after) bytes one in
-    subst (λ (g : Grid). Holds g.width g.height input (decoded (plane_coding p) g.width g.height input (no_pixels coder.registers states)) grid next after) white two
-
-pub coded-next : (p : GrayScale) (input : List ℕ) (i : ℕ) (done : List Grid) (grid : Grid) (coder next : Coder) (states after : List Context) → i < p.bits_per_pixel
-    → Holds p.width p.height input (decoded (plane_coding p) p.width p.height input (no_pixels coder.registers states)) grid next after
-    → coded_planes (plane_coding p) p.width p.height input (p.bits_per_pixel - i) done coder.registers states ≡ coded_planes (plane_coding p) p.width p.height input (p.bits_per_pixel - (i + 1)) (done ++ grid ∷ []) next.registers after
-unfolding coded_planes
-coded-next p input i done grid coder next states after more holds =
-    let one : p.bits_per_pixel - i ≡ suc (p.bits_per_pixel - (i + 1)) = omega arith in
-    rw (one, holds.pixels, holds.registers, holds.contexts)
+pub gathers-sized : (w h i : ℕ) (gathered : List ℕ) (done : List Grid) (plane : Grid) → plane.width ≡ w → plane.height ≡ h → Gathers w h i gathered done → length gathered ≡ plane.width * plane.height
+gathers-sized w h i gathered done plane columns rows gathers = ap length gathers.values ∙ values-length w h done ∙ sym (ap (λ (n : ℕ). n * plane.height) columns ∙ ap (λ (n : ℕ). w * n) rows)
 
 pub plane-width : (w h : ℕ) (bits : List _) (grid : Grid) → grid ≡ so_far w h bits → grid.width ≡ w
 unfolding so_far
@@ -110,30 +73,123 @@ pub plane-height : (w h : ℕ) (bits : List _) (grid : Grid) → grid ≡ so_far
 unfolding so_far
 plane-height w h bits grid e = ap (λ (g : Grid). g.height) e
 
+-- ---- planes by the coder
+-- what is held behind the i highest planes
+pub record BehindPlanes (p : GrayScale) (input : List ℕ) (i : ℕ) (gathered : List ℕ) (coder : Coder) (states : List Context) : Type 0 where
+  pub gathers : Gathers p.width p.height i gathered (coded_planes p input i)
+  pub bytes : coder.bytes ≡ input
+  pub registers : coder.registers ≡ (after_planes p input i).registers
+  pub contexts : states ≡ (after_planes p input i).contexts
+
+pub behind-none : (p : GrayScale) (input gathered : List ℕ) (coder : Coder) (states : List Context) → gathered ≡ gray_values p.width p.height [] → coder.bytes ≡ input → coder.registers ≡ started input → states ≡ fresh_contexts (context_bits p.template) → BehindPlanes p input 0 gathered coder states
+unfolding after_planes coded_planes
+behind-none p input gathered coder states none bytes registers contexts = record { gathers = record { many = refl; values = none }; bytes = bytes; registers = registers; contexts = contexts }
+
+pub coded-holds : (p : GrayScale) (input : List ℕ) (i : ℕ) (gathered : List ℕ) (before grid : Grid) (coder next : Coder) (states after : List Context) (adaptive : List AdaptiveTemplatePixel) → before ≡ blank p.width p.height false → adaptive ≡ nominal_pixels p.template
+    → Holds before.width before.height coder.bytes (decoded (skipping_coding (template_pixels p.template (Regular adaptive)) p.skip_mask) before.width before.height coder.bytes (no_pixels coder.registers states)) grid next after
+    → BehindPlanes p input i gathered coder states
+    → Holds p.width p.height input (after_planes p input (i + 1)) grid next after
+unfolding after_planes
+coded-holds p input i gathered before grid coder next states after adaptive white nominal holds behind =
+    let one = subst (λ (a : List AdaptiveTemplatePixel). Holds before.width before.height coder.bytes (decoded (skipping_coding (template_pixels p.template (Regular a)) p.skip_mask) before.width before.height coder.bytes (no_pixels coder.registers states)) grid next after) nominal holds in
+    let two = subst (λ (b : List ℕ). Holds before.width before.height b (decoded (plane_coding p) before.width before.height b (no_pixels coder.registers states)) grid next after) behind.bytes one in
+    let three = subst (λ (g : Grid). Holds g.width g.height input (decoded (plane_coding p) g.width g.height input (no_pixels coder.registers states)) grid next after) white two in
+    let four = subst (λ (r : Registers). Holds p.width p.height input (decoded (plane_coding p) p.width p.height input (no_pixels r states)) grid next after) behind.registers three in
+    let five = subst (λ (s : List Context). Holds p.width p.height input (decoded (plane_coding p) p.width p.height input (no_pixels (after_planes p input i).registers s)) grid next after) behind.contexts four in
+    rw add-one five
+
+pub coded-next : (p : GrayScale) (input : List ℕ) (i : ℕ) (old new : List ℕ) (grid : Grid) (coder next : Coder) (states after : List Context) → Holds p.width p.height input (after_planes p input (i + 1)) grid next after
+    → ((planes : List Grid) → old ≡ gray_values grid.width grid.height planes → new ≡ gray_values grid.width grid.height (planes ++ grid ∷ []))
+    → BehindPlanes p input i old coder states → BehindPlanes p input (i + 1) new next after
+unfolding coded_planes
+coded-next p input i old new grid coder next states after holds added behind =
+    let planes : coded_planes p input i ++ grid ∷ [] ≡ coded_planes p input (i + 1) =
+    ap (λ (g : Grid). coded_planes p input i ++ g ∷ []) holds.pixels ∙ sym (map-range_with_len_more (coded_plane p input) 0 i i (omega arith)) in
+    record {
+      gathers =
+          subst (λ (ps : List Grid). Gathers p.width p.height (i + 1) new ps) planes
+          (gathers-next p.width p.height i old new (coded_planes p input i) grid (plane-width p.width p.height _ grid holds.pixels) (plane-height p.width p.height _ grid holds.pixels) added behind.gathers);
+      bytes = holds.bytes;
+      registers = holds.registers;
+      contexts = holds.contexts;
+    }
+
+-- all planes are read
+pub coded-values : (p : GrayScale) (input : List ℕ) (i : ℕ) (gathered : List ℕ) (coder : Coder) (states : List Context) → i ≡ p.bits_per_pixel → BehindPlanes p input i gathered coder states → values_by p (planes_by_coder p input) ≡ Ok gathered
+coded-values p input i gathered coder states all behind =
+    sym (ap (λ (vs : List ℕ). Ok vs) (behind.gathers.values ∙ ap (λ (n : ℕ). gray_values p.width p.height (coded_planes p input n)) all))
+
+pub coded-contexts : (p : GrayScale) (input : List ℕ) (i : ℕ) (gathered : List ℕ) (coder : Coder) (states : List Context) → i ≡ p.bits_per_pixel → BehindPlanes p input i gathered coder states → states ≡ (after_planes p input p.bits_per_pixel).contexts
+coded-contexts p input i gathered coder states all behind = behind.contexts ∙ ap (λ (n : ℕ). (after_planes p input n).contexts) all
+
 -- ---- planes by MMR
-pub mmr-none : (p : GrayScale) (i : ℕ) (done : List Grid) (left : List ℕ) → p.bits_per_pixel ≤ i → mmr_planes p.strict p.width p.height (p.bits_per_pixel - i) done left ≡ Ok done
-unfolding mmr_planes
-mmr-none p i done left all =
-    let none : p.bits_per_pixel - i ≡ 0 = omega arith in
-    rw none
+-- i planes are read, and `rest` is left
+pub record ReadsMmr (p : GrayScale) (input : List ℕ) (i : ℕ) (gathered rest : List ℕ) : Type 0 where
+  pub done : List Grid
+  pub gathers : Gathers p.width p.height i gathered done
+  pub all : (mmr_planes p rest (p.bits_per_pixel - i) >>= λ others. Ok (done ++ others)) ≡ mmr_planes p input p.bits_per_pixel
+
+same-planes : (planes : Result (List Grid) DecodeError) → (planes >>= λ others. Ok ([] ++ others)) ≡ planes
+same-planes (Ok planes) = refl
+same-planes (Err e) = refl
+
+pub mmr-none : (p : GrayScale) (input gathered : List ℕ) → gathered ≡ gray_values p.width p.height [] → ReadsMmr p input 0 gathered input
+mmr-none p input gathered none =
+    let all : p.bits_per_pixel - 0 ≡ p.bits_per_pixel = omega arith in
+    record {
+      done = [];
+      gathers = record { many = refl; values = none };
+      all = rw all (same-planes (mmr_planes p input p.bits_per_pixel));
+    }
 
 mmr-sized : (p : GrayScale) (before : Grid) (left : List ℕ) (answer : Result Decoded DecodeError) → before ≡ blank p.width p.height false → mmr_rows p.strict before.width before.height left ≡ answer → mmr_rows p.strict p.width p.height left ≡ answer
 mmr-sized p before left answer white e = subst (λ (g : Grid). mmr_rows p.strict g.width g.height left ≡ answer) white e
 
-pub mmr-next : (p : GrayScale) (i : ℕ) (before grid : Grid) (left : List ℕ) (used : ℕ) (rest : List ℕ) (done : List Grid) → i < p.bits_per_pixel → before ≡ blank p.width p.height false → rest ≡ drop used left → mmr_rows p.strict before.width before.height left ≡ Ok (record { grid = grid; used = used })
-    → mmr_planes p.strict p.width p.height (p.bits_per_pixel - i) done left ≡ mmr_planes p.strict p.width p.height (p.bits_per_pixel - (i + 1)) (done ++ grid ∷ []) rest
-unfolding mmr_planes
-mmr-next p i before grid left used rest done more white behind e =
-    let one : p.bits_per_pixel - i ≡ suc (p.bits_per_pixel - (i + 1)) = omega arith in
-    let rows : mmr_rows p.strict p.width p.height left ≡ Ok (record { grid = grid; used = used }) = mmr-sized p before left (Ok (record { grid = grid; used = used })) white e in
-    rw (one, rows, behind)
+-- a plane, and those behind it
+one-more : (done : List Grid) (grid : Grid) (planes : Result (List Grid) DecodeError) → ((planes >>= λ others. Ok (grid ∷ others)) >>= λ others. Ok (done ++ others)) ≡ (planes >>= λ others. Ok ((done ++ grid ∷ []) ++ others))
+one-more done grid (Ok others) = ap (λ (ps : List Grid). Ok ps) (sym (append_assoc done (grid ∷ []) others))
+one-more done grid (Err e) = refl
 
-pub mmr-fault : (p : GrayScale) (i : ℕ) (before : Grid) (left : List ℕ) (error : DecodeError) (done : List Grid) → i < p.bits_per_pixel → before ≡ blank p.width p.height false → mmr_rows p.strict before.width before.height left ≡ Err error → mmr_planes p.strict p.width p.height (p.bits_per_pixel - i) done left ≡ Err error
+mmr-step : (p : GrayScale) (i : ℕ) (left : List ℕ) (made : Decoded) → i < p.bits_per_pixel → mmr_rows p.strict p.width p.height left ≡ Ok made
+    → mmr_planes p left (p.bits_per_pixel - i) ≡ (mmr_planes p (drop made.used left) (p.bits_per_pixel - (i + 1)) >>= λ others. Ok (made.grid ∷ others))
 unfolding mmr_planes
-mmr-fault p i before left error done more white e =
+mmr-step p i left made more rows =
+    let one : p.bits_per_pixel - i ≡ suc (p.bits_per_pixel - (i + 1)) = omega arith in
+    rw (one, rows)
+
+pub mmr-next : (p : GrayScale) (input : List ℕ) (i : ℕ) (before grid : Grid) (old new : List ℕ) (left : List ℕ) (used : ℕ) (rest : List ℕ) → i < p.bits_per_pixel → before ≡ blank p.width p.height false → rest ≡ drop used left → mmr_rows p.strict before.width before.height left ≡ Ok (record { grid = grid; used = used })
+    → grid.width ≡ p.width → grid.height ≡ p.height → ((planes : List Grid) → old ≡ gray_values grid.width grid.height planes → new ≡ gray_values grid.width grid.height (planes ++ grid ∷ []))
+    → ReadsMmr p input i old left → ReadsMmr p input (i + 1) new rest
+mmr-next p input i before grid old new left used rest more white behind e columns rows added reads =
+    let made : Decoded = record { grid = grid; used = used } in
+    let step = mmr-step p i left made more (mmr-sized p before left (Ok made) white e) in
+    record {
+      done = reads.done ++ grid ∷ [];
+      gathers = gathers-next p.width p.height i old new reads.done grid columns rows added reads.gathers;
+      all =
+          ap (λ (bytes : List ℕ). mmr_planes p bytes (p.bits_per_pixel - (i + 1)) >>= λ others. Ok ((reads.done ++ grid ∷ []) ++ others)) behind
+          ∙ sym (one-more reads.done grid (mmr_planes p (drop used left) (p.bits_per_pixel - (i + 1))))
+          ∙ sym (ap (λ (planes : Result (List Grid) DecodeError). planes >>= λ others. Ok (reads.done ++ others)) step)
+          ∙ reads.all;
+    }
+
+-- all planes are read
+pub mmr-values : (p : GrayScale) (input : List ℕ) (i : ℕ) (gathered rest : List ℕ) → p.bits_per_pixel ≤ i → ReadsMmr p input i gathered rest → values_by p (planes_by_mmr p input) ≡ Ok gathered
+unfolding mmr_planes
+mmr-values p input i gathered rest all reads =
+    let none : p.bits_per_pixel - i ≡ 0 = omega arith in
+    let planes : Ok (reads.done ++ []) ≡ mmr_planes p input p.bits_per_pixel = rw none at reads.all in
+    ap (λ (r : Result (List Grid) DecodeError). values_by p r) (sym planes ∙ ap (λ (ps : List Grid). Ok ps) (append-nil reads.done))
+    ∙ ap (λ (vs : List ℕ). Ok vs) (sym reads.gathers.values)
+
+-- a fault ends the reading
+pub mmr-fault : (p : GrayScale) (input : List ℕ) (i : ℕ) (before : Grid) (gathered left : List ℕ) (error : DecodeError) → i < p.bits_per_pixel → before ≡ blank p.width p.height false → mmr_rows p.strict before.width before.height left ≡ Err error → ReadsMmr p input i gathered left → values_by p (planes_by_mmr p input) ≡ Err error
+unfolding mmr_planes
+mmr-fault p input i before gathered left error more white e reads =
     let one : p.bits_per_pixel - i ≡ suc (p.bits_per_pixel - (i + 1)) = omega arith in
     let rows : mmr_rows p.strict p.width p.height left ≡ Err error = mmr-sized p before left (Err error) white e in
-    rw (one, rows)
+    let planes : Err error ≡ mmr_planes p input p.bits_per_pixel = rw (one, rows) at reads.all in
+    ap (λ (r : Result (List Grid) DecodeError). values_by p r) (sym planes)
 
 not_refused : (b : Bool) (error : DecodeError) (made d : Decoded) → (if b then Err error else Ok made) ≡ Ok d → made ≡ d
 not_refused true error made d e = cc

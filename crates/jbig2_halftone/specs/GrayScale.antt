@@ -1,5 +1,5 @@
 -- Gray-scale images (T.88, Annex C): a value for each pixel, coded as bit planes from the highest on.
-use Rattle.std.specs.Prelude.{ℕ, zero, suc, ◌-◌, ◌*◌, ◌/◌, ◌%◌, nat_lt, Bool, false, ◌||◌, if◌then◌else◌, List, [], ◌∷◌, ◌++◌, length, take, drop, map, Option, Result, Ok}
+use Rattle.std.specs.Prelude.{ℕ, zero, suc, ◌+◌, ◌-◌, ◌*◌, ◌/◌, ◌%◌, nat_lt, Bool, false, ◌||◌, if◌then◌else◌, List, [], ◌∷◌, length, take, drop, map, Option, Result, Ok}
 use Rattle.std.specs.List.{range_with_len}
 use Rattle.jbig2_base.specs.Answer.{◌>>=◌, refuse_if}
 use Rattle.jbig2_base.specs.Grid.{Grid, pixel_at}
@@ -7,9 +7,8 @@ use Rattle.jbig2_base.specs.declared.error.DecodeError.{DecodeError}
 use Rattle.jbig2_base.specs.declared.error.DecodeError.TheVariants.{Overflow}
 use Rattle.jbig2_base.specs.declared.error.OverflowError.TheVariants.{BitmapDimension}
 use Rattle.jbig2_coder.specs.Coder.{Context, started}
-use Rattle.jbig2_coder.specs.declared.arithmetic_decoder.registers.Registers.{Registers}
 use Rattle.jbig2_region.specs.Generic.{number_of}
-use Rattle.jbig2_region.specs.Raster.{Coding, so_far, decoded, no_pixels, fresh_contexts}
+use Rattle.jbig2_region.specs.Raster.{Coding, Region, so_far, decoded, no_pixels, fresh_contexts}
 use Rattle.jbig2_region.specs.Skipping.{skipping_coding, skip_of}
 use Rattle.jbig2_region.specs.T6.{differ, decoded as mmr_rows}
 use Rattle.jbig2_region.specs.Templates.{context_bits, left, right, template_pixels}
@@ -55,29 +54,42 @@ nominal_pixels template = nominal_first template ∷ left 3 1 ∷ right 2 2 ∷ 
 abbrev pub plane_coding : GrayScale → Coding
 plane_coding p = skipping_coding (template_pixels p.template (Regular (nominal_pixels p.template))) p.skip_mask
 
--- `count` planes more, behind those that are done: each begins with the registers and the contexts that the one
--- before it left
-unfoldable pub coded_planes : Coding → ℕ → ℕ → List ℕ → ℕ → List Grid → Registers → List Context → List Grid
-coded_planes coding w h bytes zero done registers contexts = done
-coded_planes coding w h bytes (suc count) done registers contexts =
-    let r = decoded coding w h bytes (no_pixels registers contexts) in
-    coded_planes coding w h bytes count (done ++ so_far w h r.pixels ∷ []) r.registers r.contexts
+-- The last of the `count` highest planes. Each begins with the registers and the contexts that the one before it left,
+-- the first with fresh contexts.
+unfoldable pub after_planes : GrayScale → List ℕ → ℕ → Region
+after_planes p bytes zero = no_pixels (started bytes) (fresh_contexts (context_bits p.template))
+after_planes p bytes (suc count) =
+    let before = after_planes p bytes count in
+    decoded (plane_coding p) p.width p.height bytes (no_pixels before.registers before.contexts)
 
--- the same with MMR: each begins behind the bytes that the one before it used
-unfoldable pub mmr_planes : Bool → ℕ → ℕ → ℕ → List Grid → List ℕ → Result (List Grid) DecodeError
-mmr_planes strict w h zero done bytes = Ok done
-mmr_planes strict w h (suc count) done bytes =
-    mmr_rows strict w h bytes >>= λ rows. mmr_planes strict w h count (done ++ rows.grid ∷ []) (drop rows.used bytes)
+-- the plane behind the k highest ones
+abbrev pub coded_plane : GrayScale → List ℕ → ℕ → Grid
+coded_plane p bytes k = so_far p.width p.height (after_planes p bytes (k + 1)).pixels
+
+unfoldable pub coded_planes : GrayScale → List ℕ → ℕ → List Grid
+coded_planes p bytes count = map (coded_plane p bytes) (range_with_len 0 count)
+
+-- with MMR, a plane and then the others, which stand behind the bytes that it used
+unfoldable pub mmr_planes : GrayScale → List ℕ → ℕ → Result (List Grid) DecodeError
+mmr_planes p bytes zero = Ok []
+mmr_planes p bytes (suc count) = do
+  rows ← mmr_rows p.strict p.width p.height bytes
+  others ← mmr_planes p (drop rows.used bytes) count
+  Ok (rows.grid ∷ others)
 
 -- all planes of an image
 abbrev pub planes_by_coder : GrayScale → List ℕ → Result (List Grid) DecodeError
-planes_by_coder p bytes = Ok (coded_planes (plane_coding p) p.width p.height bytes p.bits_per_pixel [] (started bytes) (fresh_contexts (context_bits p.template)))
+planes_by_coder p bytes = Ok (coded_planes p bytes p.bits_per_pixel)
 
 abbrev pub planes_by_mmr : GrayScale → List ℕ → Result (List Grid) DecodeError
-planes_by_mmr p bytes = mmr_planes p.strict p.width p.height p.bits_per_pixel [] bytes
+planes_by_mmr p bytes = mmr_planes p bytes p.bits_per_pixel
 
 abbrev pub planes_of : GrayScale → List ℕ → Result (List Grid) DecodeError
 planes_of p bytes = if p.use_mmr then planes_by_mmr p bytes else planes_by_coder p bytes
+
+-- the contexts behind all planes; MMR leaves them alone
+abbrev pub planes_contexts : GrayScale → List ℕ → List Context → List Context
+planes_contexts p bytes contexts = if p.use_mmr then contexts else (after_planes p bytes p.bits_per_pixel).contexts
 
 -- ---- the values
 -- the exclusive or of the pixels of these planes at column x of row y
@@ -99,8 +111,16 @@ gray_values w h planes = map (λ n. gray_value planes (n % w) (n / w)) (range_wi
 abbrev pub values_by : GrayScale → Result (List Grid) DecodeError → Result (List ℕ) DecodeError
 values_by p planes = planes >>= λ all. Ok (gray_values p.width p.height all)
 
--- The image; a side above 65535 is refused (our own rule).
+-- a side above 65535, which is refused (our own rule)
+abbrev pub image_is_too_large : GrayScale → Bool
+image_is_too_large p = nat_lt 65535 p.width || nat_lt 65535 p.height
+
+-- The image.
 unfoldable pub gray_scale_image : GrayScale → List ℕ → Result (List ℕ) DecodeError
 gray_scale_image p bytes = do
-  fits ← refuse_if (nat_lt 65535 p.width || nat_lt 65535 p.height) (Overflow BitmapDimension)
+  fits ← refuse_if (image_is_too_large p) (Overflow BitmapDimension)
   values_by p (planes_of p bytes)
+
+-- The contexts afterwards, also where MMR data is refused; a side that is too large leaves them alone.
+abbrev pub gray_contexts : GrayScale → List ℕ → List Context → List Context
+gray_contexts p bytes contexts = if image_is_too_large p then contexts else planes_contexts p bytes contexts

@@ -1,12 +1,12 @@
 //! Gray-scale images (T.88, Annex C).
 ghost use Rattle.std.specs.Prelude.{◌≡◌, ◌++◌, ◌*◌, ◌^◌, ◌<◌, ◌≤◌, [], ◌∷◌, length, List, Ok};
 ghost use Rattle.std.specs.List.{All};
-ghost use Rattle.jbig2_base.specs.Answer.{Gives};
+ghost use Rattle.jbig2_base.specs.Answer.{Gives, Leaves};
 ghost use Rattle.jbig2_base.specs.Grid.{Grid};
 ghost use Rattle.jbig2_coder.specs.Coder.{started};
 ghost use Rattle.jbig2_region.specs.Raster.{fresh_contexts};
 ghost use Rattle.jbig2_region.specs.Templates.{context_bits};
-ghost use Rattle.jbig2_halftone.specs.GrayScale.{gray_view, nominal_pixels, planes_by_coder, planes_by_mmr, planes_of, gray_values, values_by, gray_scale_image};
+ghost use Rattle.jbig2_halftone.specs.GrayScale.{gray_view, nominal_pixels, planes_by_coder, planes_by_mmr, planes_of, planes_contexts, after_planes, gray_values, values_by, gray_scale_image, gray_contexts};
 
 use jbig2_base::bitmap::Bitmap;
 use jbig2_base::bitmap::steps::Steps;
@@ -88,7 +88,8 @@ fn read_coded_planes<M: Allocator, A: Allocator, L: Ledger>(
     requires bits { params.now.bits_per_pixel ≤ 32 }
     requires none { values.old ≡ gray_values params.now.width params.now.height [] }
     requires fresh { contexts.old ≡ fresh_contexts (context_bits params.now.template) }
-    ensures { Gives (λ _. values.new) result (values_by (gray_view params.now) (planes_by_coder (gray_view params.now) bytes.now)) }
+    ensures value { Gives (λ _. values.new) result (values_by (gray_view params.now) (planes_by_coder (gray_view params.now) bytes.now)) }
+    ensures contexts { Leaves result contexts.new (after_planes (gray_view params.now) bytes.now params.now.bits_per_pixel).contexts }
 {
     let adaptive = nominal_pixels(params.template);
     let mut decoder = ArithmeticDecoder::new(bytes);
@@ -148,7 +149,8 @@ fn read_planes<M: Allocator, A: Allocator, B: Allocator, L: Ledger>(
     requires rows { params.now.height ≤ 65535 }
     requires bits { params.now.bits_per_pixel ≤ 32 }
     requires none { values.old ≡ gray_values params.now.width params.now.height [] }
-    ensures { Gives (λ _. values.new) result (values_by (gray_view params.now) (planes_of (gray_view params.now) bytes.now)) }
+    ensures value { Gives (λ _. values.new) result (values_by (gray_view params.now) (planes_of (gray_view params.now) bytes.now)) }
+    ensures contexts { Leaves result contexts.new.items (planes_contexts (gray_view params.now) bytes.now contexts.old.items) }
 {
     if params.use_mmr {
         return read_mmr_planes(bytes, params, plane, values, steps);
@@ -169,12 +171,13 @@ fn zeros<A: Allocator>(alloc: A, width: u32, height: u32) -> Result<Vec<u32, A>>
 }
 
 /// Decodes a gray-scale image (T.88, Annex C): a value for each pixel, row by row from the top, each
-/// row from the left. With 0 bits a pixel nothing is read and every value is 0. `contexts` is room
-/// that is written over.
+/// row from the left. With 0 bits a pixel nothing is read and every value is 0. The contexts begin
+/// fresh, whatever `contexts` held, and are left there as the last plane leaves them; MMR data and a
+/// side that is refused do not touch them.
 ///
 /// `OverflowError::BitmapDimension` for a side above 65535; in strict mode
 /// `RegionError::InvalidMmrData` where MMR data has a fault or lacks a row; `OutOfMemory` where there
-/// is no room.
+/// is no room, which alone leaves open what `contexts` holds.
 #[tactic(auto, unfolding(crate::specs::GrayScale::gray_scale_image))]
 pub fn decode_gray_scale_image<M: Allocator, A: Allocator + Clone, B: Allocator, L: Ledger>(
     alloc: A,
@@ -184,7 +187,8 @@ pub fn decode_gray_scale_image<M: Allocator, A: Allocator + Clone, B: Allocator,
     steps: &mut Steps<L>,
 ) -> Result<Vec<u32, A>>
     requires { params.now.bits_per_pixel ≤ 32 }
-    ensures { Gives (λ values. values.items) result (gray_scale_image (gray_view params.now) bytes.now) }
+    ensures value { Gives (λ values. values.items) result (gray_scale_image (gray_view params.now) bytes.now) }
+    ensures contexts { Leaves result contexts.new.items (gray_contexts (gray_view params.now) bytes.now contexts.old.items) }
 {
     if params.width > MAX_DIMENSION || params.height > MAX_DIMENSION {
         return Err(DecodeError::Overflow(OverflowError::BitmapDimension));

@@ -1,17 +1,14 @@
 use Rattle.std.proofs.Common.{◌≡◌, ◌≤◌, false, inr, length, arith, rules}
 use Rattle.jbig2_halftone.specs.GrayScale.{GrayScale, gray_view}
 use Rattle.jbig2_halftone.proofs.PatternLemmas.{blank-made}
-use Rattle.jbig2_halftone.proofs.PlaneLemmas.{reads-next, reads-small, reads-values, reads-fault, reads-sized, mmr-none, mmr-next, mmr-fault, mmr-made, drop-whole}
+use Rattle.jbig2_halftone.proofs.PlaneLemmas.{gathers-small, gathers-sized, mmr-none, mmr-next, mmr-values, mmr-fault, mmr-made, drop-whole}
 use Rattle.jbig2_halftone.proofs.gray_scale.read_mmr_planes.Goals as goal
 
 pub returns-in-Err : goal.returns-in-Err
 returns-in-Err g c =
     let p : GrayScale = gray_view c.args.params.now in
     let white = blank-made p.width p.height false c.reinitialize.new.self c.requires.columns c.requires.rows c.in_ok-reinitialize.ensures.value in
-    inr
-    (reads-fault p.width p.height c.loop.counter c.loop.values _ _ c.in-Err.error
-    (λ done. mmr-fault p c.loop.counter c.reinitialize.new.self c.loop.rest.now c.in-Err.error done (omega arith) white c.in-Err.ensures.value)
-    c.loop.invariant)
+    inr (mmr-fault p c.args.bytes.now c.loop.counter c.reinitialize.new.self c.loop.values c.loop.rest.now c.in-Err.error (omega arith) white c.in-Err.ensures.value c.loop.invariant)
 
 pub slice_bounds-rest-start : goal.slice_bounds-rest-start
 slice_bounds-rest-start g c =
@@ -31,7 +28,7 @@ add_plane-requires-clause-sized g c =
     let p : GrayScale = gray_view c.args.params.now in
     let white = blank-made p.width p.height false c.reinitialize.new.self c.requires.columns c.requires.rows c.in_ok-reinitialize.ensures.value in
     let made = mmr-made p c.reinitialize.new.self c.decode.new.bitmap c.loop.rest.now c.in-Ok.used white c.in-Ok.ensures.value in
-    reads-sized p.width p.height c.loop.counter c.loop.values _ _ c.decode.new.bitmap made.0 made.1 c.loop.invariant
+    gathers-sized p.width p.height c.loop.counter c.loop.values c.loop.invariant.done c.decode.new.bitmap made.0 made.1 c.loop.invariant.gathers
 
 pub add_plane-requires-clause-rows : goal.add_plane-requires-clause-rows
 add_plane-requires-clause-rows g c =
@@ -43,21 +40,17 @@ add_plane-requires-clause-rows g c =
 pub add_plane-requires-clause-small : goal.add_plane-requires-clause-small
 add_plane-requires-clause-small g c =
     let p : GrayScale = gray_view c.args.params.now in
-    reads-small p.width p.height c.loop.counter c.loop.values _ _ (omega arith) c.loop.invariant
+    gathers-small p.width p.height c.loop.counter c.loop.values c.loop.invariant.done (omega arith) c.loop.invariant.gathers
 
 pub loop-preserved : goal.loop-preserved
 loop-preserved g c =
     let p : GrayScale = gray_view c.args.params.now in
     let white = blank-made p.width p.height false c.reinitialize.new.self c.requires.columns c.requires.rows c.in_ok-reinitialize.ensures.value in
     let made = mmr-made p c.reinitialize.new.self c.decode.new.bitmap c.loop.rest.now c.in-Ok.used white c.in-Ok.ensures.value in
-    reads-next p.width p.height c.loop.counter c.loop.values c.add_plane.new.values _ _ _ c.decode.new.bitmap made.0 made.1
-    (λ done. mmr-next p c.loop.counter c.reinitialize.new.self c.decode.new.bitmap c.loop.rest.now c.in-Ok.used _ done (omega arith) white (drop-whole c.in-Ok.used c.loop.rest.now) c.in-Ok.ensures.value)
-    c.add_plane.ensures
-    c.loop.invariant
+    mmr-next p c.args.bytes.now c.loop.counter c.reinitialize.new.self c.decode.new.bitmap c.loop.values c.add_plane.new.values c.loop.rest.now c.in-Ok.used _ (omega arith) white (drop-whole c.in-Ok.used c.loop.rest.now) c.in-Ok.ensures.value made.0 made.1 c.add_plane.ensures c.loop.invariant
 
 pub returns : goal.returns
-returns g c =
-    let p : GrayScale = gray_view c.args.params.now in
-    reads-values p.width p.height c.loop.counter c.loop.values _ _
-    (λ done. mmr-none p c.loop.counter done c.loop.rest.now (omega arith))
-    c.loop.invariant
+returns g c = mmr-values (gray_view c.args.params.now) c.args.bytes.now c.loop.counter c.loop.values c.loop.rest.now (omega arith) c.loop.invariant
+
+pub loop-init : goal.loop-init
+loop-init g c = mmr-none (gray_view c.args.params.now) c.args.bytes.now c.args.values.now c.requires.none
