@@ -1,5 +1,5 @@
 -- Pattern dictionaries (T.88, 6.7): the patterns stand side by side in one collective bitmap.
-use Rattle.std.specs.Prelude.{ℕ, ◌+◌, ◌*◌, nat_lt, false, List, [], ◌∷◌, map, Result, Ok}
+use Rattle.std.specs.Prelude.{ℕ, ◌+◌, ◌*◌, nat_lt, Bool, false, if◌then◌else◌, List, [], ◌∷◌, map, Result, Ok}
 use Rattle.std.specs.List.{range_with_len}
 use Rattle.jbig2_base.specs.Answer.{◌>>=◌, refuse_if}
 use Rattle.jbig2_base.specs.Grid.{Grid, grid_of, pixel_at}
@@ -7,7 +7,8 @@ use Rattle.jbig2_base.specs.declared.bitmap.operator.CombinationOperator.TheVari
 use Rattle.jbig2_base.specs.declared.error.DecodeError.{DecodeError}
 use Rattle.jbig2_base.specs.declared.error.DecodeError.TheVariants.{Overflow}
 use Rattle.jbig2_base.specs.declared.error.OverflowError.TheVariants.{BitmapDimension}
-use Rattle.jbig2_region.specs.Generic.{generic_answer}
+use Rattle.jbig2_coder.specs.Coder.{Context}
+use Rattle.jbig2_region.specs.Generic.{generic_answer, contexts_after}
 use Rattle.jbig2_region.specs.GenericHeader.{GenericHeader}
 use Rattle.jbig2_region.specs.Templates.{left, right}
 use Rattle.jbig2_region.specs.declared.template.GenericTemplatePixels.{GenericTemplatePixels}
@@ -53,9 +54,17 @@ pattern_of collective width height k = grid_of width height (λ x y. pixel_at co
 unfoldable pub patterns_of : Grid → ℕ → ℕ → ℕ → List Grid
 patterns_of collective width height count = map (λ k. pattern_of collective width height k) (range_with_len 0 count)
 
--- The dictionary; a collective bitmap of more than 65535 columns is refused (our own rule).
+-- a collective bitmap of more than 65535 columns, which is refused (our own rule)
+abbrev pub collective_is_too_wide : PatternHeader → Bool
+collective_is_too_wide h = nat_lt 65535 (collective_width h)
+
+-- The dictionary.
 unfoldable pub patterns_at : PatternHeader → Result Patterns DecodeError
 patterns_at h = do
-  fits ← refuse_if (nat_lt 65535 (collective_width h)) (Overflow BitmapDimension)
+  fits ← refuse_if (collective_is_too_wide h) (Overflow BitmapDimension)
   collective ← generic_answer (collective_header h)
   Ok (record { grids = patterns_of collective h.pattern_width h.pattern_height (number_of_patterns h); width = h.pattern_width; height = h.pattern_height })
+
+-- The contexts afterwards: those that the collective bitmap leaves. One that is too wide leaves them alone.
+abbrev pub dictionary_contexts : PatternHeader → List Context → List Context
+dictionary_contexts h contexts = if collective_is_too_wide h then contexts else contexts_after (collective_header h) contexts

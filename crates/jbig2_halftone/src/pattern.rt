@@ -1,10 +1,10 @@
 //! Pattern dictionaries (T.88, 6.7 and 7.4.4).
 ghost use Rattle.std.specs.Prelude.{◌≡◌, ◌+◌, ◌*◌, ◌≤◌, length, IfOk, OnErr, Ok};
-ghost use Rattle.jbig2_base.specs.Answer.{Answers, Gives};
+ghost use Rattle.jbig2_base.specs.Answer.{Answers, Gives, Leaves};
 ghost use Rattle.jbig2_base.specs.Bits.{IsAligned};
-ghost use Rattle.jbig2_region.specs.Generic.{generic_answer};
+ghost use Rattle.jbig2_region.specs.Generic.{generic_answer, contexts_after};
 ghost use Rattle.jbig2_halftone.specs.PatternHeader.{header_view, side_at, pattern_header_at};
-ghost use Rattle.jbig2_halftone.specs.Patterns.{dictionary_view, collective_width, collective_pixels, collective_header, pattern_of, patterns_of, patterns_at};
+ghost use Rattle.jbig2_halftone.specs.Patterns.{dictionary_view, collective_width, collective_pixels, collective_header, pattern_of, patterns_of, patterns_at, dictionary_contexts};
 
 mod dictionary;
 
@@ -154,7 +154,8 @@ fn decode_collective<A: Allocator, B: Allocator, L: Ledger>(
 ) -> Result<Bitmap<A>>
     requires width { width ≡ collective_width (header_view header.now) }
     requires columns { width ≤ 65535 }
-    ensures { Gives (λ collective. collective) result (generic_answer (collective_header (header_view header.now))) }
+    ensures value { Gives (λ collective. collective) result (generic_answer (collective_header (header_view header.now))) }
+    ensures contexts { Leaves result contexts.new.items (contexts_after (collective_header (header_view header.now)) contexts.old.items) }
 {
     let region_info = RegionSegmentInfo {
         width,
@@ -177,11 +178,13 @@ fn decode_collective<A: Allocator, B: Allocator, L: Ledger>(
     Ok(collective)
 }
 
-/// Decodes a pattern dictionary (T.88, 6.7). `contexts` is room that is written over.
+/// Decodes a pattern dictionary (T.88, 6.7). The contexts begin fresh, whatever `contexts` held, and
+/// are left there as the collective bitmap leaves them; MMR data and one that is too wide do not
+/// touch them.
 ///
 /// `OverflowError::BitmapDimension` where the patterns side by side have more than 65535 columns; in
 /// strict mode `RegionError::InvalidMmrData` where MMR data has a fault or lacks a row;
-/// `OutOfMemory` where there is no room.
+/// `OutOfMemory` where there is no room, which alone leaves open what `contexts` holds.
 #[tactic(auto, unfolding(crate::specs::Patterns::patterns_at))]
 pub fn decode<A: Allocator + Clone, B: Allocator, L: Ledger>(
     alloc: A,
@@ -190,7 +193,8 @@ pub fn decode<A: Allocator + Clone, B: Allocator, L: Ledger>(
     steps: &mut Steps<L>,
 ) -> Result<PatternDictionary<A>>
     requires { 1 ≤ header.now.pattern_width }
-    ensures { Gives (λ dictionary. dictionary_view dictionary) result (patterns_at (header_view header.now)) }
+    ensures value { Gives (λ dictionary. dictionary_view dictionary) result (patterns_at (header_view header.now)) }
+    ensures contexts { Leaves result contexts.new.items (dictionary_contexts (header_view header.now) contexts.old.items) }
 {
     let width = u32::from(header.pattern_width);
     let height = u32::from(header.pattern_height);
