@@ -8,9 +8,10 @@ use Rattle.jbig2_base.specs.declared.error.DecodeError.{DecodeError}
 use Rattle.jbig2_base.specs.declared.error.DecodeError.TheVariants.{Overflow, Region}
 use Rattle.jbig2_base.specs.declared.error.OverflowError.TheVariants.{BitmapDimension}
 use Rattle.jbig2_base.specs.declared.error.RegionError.TheVariants.{GrayScaleOutOfRange}
+use Rattle.jbig2_coder.specs.Coder.{Context}
 use Rattle.jbig2_region.specs.Generic.{PlacedRegion}
 use Rattle.jbig2_region.specs.T6.{place_from}
-use Rattle.jbig2_halftone.specs.GrayScale.{GrayScale, gray_scale_image}
+use Rattle.jbig2_halftone.specs.GrayScale.{GrayScale, gray_scale_image, gray_contexts}
 use Rattle.jbig2_halftone.specs.HalftoneHeader.{HalftoneHeader}
 use Rattle.jbig2_halftone.specs.Patterns.{Patterns}
 
@@ -82,9 +83,21 @@ halftone_answer h d = do
   values ← gray_scale_image (gray_params h d) h.bytes
   cells_drawn h d 0 values (blank h.region_info.width h.region_info.height h.flags.initial_pixel_color)
 
--- A region and its place; a side above 65535 is refused (our own rule).
+-- The contexts afterwards: those that the gray-scale image leaves, also where a value has no pattern.
+abbrev pub halftone_contexts : HalftoneHeader → Patterns → List Context → List Context
+halftone_contexts h d contexts = gray_contexts (gray_params h d) h.bytes contexts
+
+-- a side above 65535, which is refused (our own rule)
+abbrev pub region_is_too_large : HalftoneHeader → Bool
+region_is_too_large h = nat_lt 65535 h.region_info.width || nat_lt 65535 h.region_info.height
+
+-- A region and its place.
 unfoldable pub halftone_decoded : HalftoneHeader → Patterns → Result PlacedRegion DecodeError
 halftone_decoded h d = do
-  fits ← refuse_if (nat_lt 65535 h.region_info.width || nat_lt 65535 h.region_info.height) (Overflow BitmapDimension)
+  fits ← refuse_if (region_is_too_large h) (Overflow BitmapDimension)
   grid ← halftone_answer h d
   Ok (record { grid = grid; x_location = h.region_info.x_location; y_location = h.region_info.y_location; combination_operator = h.region_info.combination_operator })
+
+-- The contexts afterwards; a side that is too large leaves them alone.
+abbrev pub decoded_contexts : HalftoneHeader → Patterns → List Context → List Context
+decoded_contexts h d contexts = if region_is_too_large h then contexts else halftone_contexts h d contexts

@@ -1,11 +1,11 @@
 //! Halftone regions (T.88, 6.6 and 7.4.5).
 ghost use Rattle.std.specs.Prelude.{◌≡◌, ◌*◌, ◌<◌, ◌≤◌, length, false, IfErr, FitsSigned, Ok};
 ghost use Rattle.std.specs.Int.{w32, int_shr};
-ghost use Rattle.jbig2_base.specs.Answer.{Answers, Gives};
+ghost use Rattle.jbig2_base.specs.Answer.{Answers, Gives, Leaves};
 ghost use Rattle.jbig2_base.specs.Grid.{blank};
 ghost use Rattle.jbig2_region.specs.Generic.{region_view};
 ghost use Rattle.jbig2_halftone.specs.GrayScale.{gray_scale_image};
-ghost use Rattle.jbig2_halftone.specs.Halftone.{gray_params, column_of, row_of, is_apart, lies_outside, skip_grid, skip_mask, code_length, pattern_for, cells_drawn, halftone_answer, halftone_decoded};
+ghost use Rattle.jbig2_halftone.specs.Halftone.{gray_params, column_of, row_of, is_apart, lies_outside, skip_grid, skip_mask, code_length, pattern_for, cells_drawn, halftone_answer, halftone_contexts, halftone_decoded, decoded_contexts};
 ghost use Rattle.jbig2_halftone.specs.HalftoneHeader.{header_view};
 ghost use Rattle.jbig2_halftone.specs.Patterns.{dictionary_view};
 
@@ -183,7 +183,8 @@ fn decode_values<D: Allocator, A: Allocator + Clone, B: Allocator, L: Ledger>(
 ) -> Result<Vec<u32, A>>
     requires columns { header.now.grid_position_and_size.width ≤ 65535 }
     requires rows { header.now.grid_position_and_size.height ≤ 65535 }
-    ensures { Gives (λ values. values.items) result (gray_scale_image (gray_params (header_view header.now) (dictionary_view dictionary.now)) header.now.bytes.now) }
+    ensures value { Gives (λ values. values.items) result (gray_scale_image (gray_params (header_view header.now) (dictionary_view dictionary.now)) header.now.bytes.now) }
+    ensures contexts { Leaves result contexts.new.items (halftone_contexts (header_view header.now) (dictionary_view dictionary.now) contexts.old.items) }
 {
     let skip = skip_mask(alloc.clone()?, header, dictionary, steps)?;
     let grid = &header.grid_position_and_size;
@@ -212,19 +213,21 @@ fn draw_region<D: Allocator, M: Allocator, A: Allocator + Clone, B: Allocator, L
     requires columns { header.now.grid_position_and_size.width ≤ 65535 }
     requires rows { header.now.grid_position_and_size.height ≤ 65535 }
     requires coloured { bitmap.old ≡ blank header.now.region_info.width header.now.region_info.height header.now.flags.initial_pixel_color }
-    ensures { Gives (λ _. bitmap.new) result (halftone_answer (header_view header.now) (dictionary_view dictionary.now)) }
+    ensures value { Gives (λ _. bitmap.new) result (halftone_answer (header_view header.now) (dictionary_view dictionary.now)) }
+    ensures contexts { Leaves result contexts.new.items (halftone_contexts (header_view header.now) (dictionary_view dictionary.now) contexts.old.items) }
 {
     let values = decode_values(alloc, header, dictionary, contexts, steps)?;
     draw_cells(header, dictionary, &values, bitmap, steps)
 }
 
 /// Decodes a halftone region (T.88, 6.6) into a bitmap of its size that is all in its initial
-/// colour. `contexts` is room that is written over.
+/// colour. The contexts begin fresh, whatever `contexts` held, and are left there as the gray-scale
+/// image leaves them, also where a value is refused; MMR data does not touch them.
 ///
 /// `RegionError::InvalidMmrData` in strict mode where MMR data has a fault or lacks a row;
 /// `RegionError::GrayScaleOutOfRange` in strict mode for a value that no pattern has, also where the
 /// cell lies outside; `OutOfMemory` where there is no room for the values, which alone is refused in
-/// lenient mode.
+/// lenient mode, and alone leaves open what `contexts` holds.
 pub fn decode_into<D: Allocator, M: Allocator, A: Allocator + Clone, B: Allocator, L: Ledger>(
     alloc: A,
     header: &HalftoneRegionHeader<'_>,
@@ -237,12 +240,14 @@ pub fn decode_into<D: Allocator, M: Allocator, A: Allocator + Clone, B: Allocato
     requires rows { header.now.grid_position_and_size.height ≤ 65535 }
     requires coloured { bitmap.old ≡ blank header.now.region_info.width header.now.region_info.height header.now.flags.initial_pixel_color }
     ensures value { Gives (λ _. bitmap.new) result (halftone_answer (header_view header.now) (dictionary_view dictionary.now)) }
+    ensures contexts { Leaves result contexts.new.items (halftone_contexts (header_view header.now) (dictionary_view dictionary.now) contexts.old.items) }
     ensures lenient { header.now.strict ≡ false → IfErr result (λ e. e ≡ DecodeError.OutOfMemory) }
 {
     draw_region(alloc, header, dictionary, bitmap, contexts, steps)
 }
 
-/// Decodes a halftone region (T.88, 6.6), as `decode_into` does, into a bitmap of its own.
+/// Decodes a halftone region (T.88, 6.6), as `decode_into` does, into a bitmap of its own. A side
+/// that is refused does not touch the contexts.
 ///
 /// `OverflowError::BitmapDimension` above 65535 pixels either way; `OutOfMemory` where there is no
 /// room for the bitmap, else as `decode_into`.
@@ -256,7 +261,8 @@ pub fn decode<D: Allocator, A: Allocator + Clone, B: Allocator, L: Ledger>(
 ) -> Result<DecodedRegion<A>>
     requires columns { header.now.grid_position_and_size.width ≤ 65535 }
     requires rows { header.now.grid_position_and_size.height ≤ 65535 }
-    ensures { Gives (λ region. region_view region) result (halftone_decoded (header_view header.now) (dictionary_view dictionary.now)) }
+    ensures value { Gives (λ region. region_view region) result (halftone_decoded (header_view header.now) (dictionary_view dictionary.now)) }
+    ensures contexts { Leaves result contexts.new.items (decoded_contexts (header_view header.now) (dictionary_view dictionary.now) contexts.old.items) }
 {
     let region_info = &header.region_info;
     let mut bitmap = Bitmap::new_with(
