@@ -1,5 +1,5 @@
 //! Halftone regions (T.88, 6.6 and 7.4.5).
-ghost use Rattle.std.specs.Prelude.{◌≡◌, ◌*◌, ◌<◌, ◌≤◌, length, false, IfErr, FitsSigned, Ok};
+ghost use Rattle.std.specs.Prelude.{◌≡◌, ◌*◌, ◌<◌, ◌≤◌, length, false, ◌⊎◌, IfErr, FitsSigned, Ok};
 ghost use Rattle.std.specs.Int.{w32, int_shr};
 ghost use Rattle.jbig2_base.specs.Answer.{Answers, Gives, Leaves};
 ghost use Rattle.jbig2_base.specs.Grid.{blank};
@@ -117,7 +117,8 @@ fn pattern_for<A: Allocator>(
     dictionary: &PatternDictionary<A>,
     value: u32,
 ) -> Result<&Bitmap<A>>
-    ensures { Answers (λ pattern. pattern.now) result (pattern_for strict dictionary.now.patterns.items value) }
+    ensures value { Answers (λ pattern. pattern.now) result (pattern_for strict dictionary.now.patterns.items value) }
+    ensures refused { IfErr result (λ e. e ≡ DecodeError.Region RegionError.GrayScaleOutOfRange) }
 {
     let patterns = &dictionary.patterns;
     let value = value as usize;
@@ -141,7 +142,8 @@ fn draw_cells<D: Allocator, A: Allocator, L: Ledger>(
     requires columns { header.now.grid_position_and_size.width ≤ 65535 }
     requires rows { header.now.grid_position_and_size.height ≤ 65535 }
     requires sized { length values.now ≡ header.now.grid_position_and_size.width * header.now.grid_position_and_size.height }
-    ensures { Answers (λ _. bitmap.new) result (cells_drawn (header_view header.now) (dictionary_view dictionary.now) 0 values.now bitmap.old) }
+    ensures value { Answers (λ _. bitmap.new) result (cells_drawn (header_view header.now) (dictionary_view dictionary.now) 0 values.now bitmap.old) }
+    ensures refused { IfErr result (λ e. e ≡ DecodeError.Region RegionError.GrayScaleOutOfRange) }
 {
     let columns = header.grid_position_and_size.width as usize;
     let operator = header.flags.combination_operator;
@@ -214,6 +216,7 @@ fn draw_region<D: Allocator, M: Allocator, A: Allocator + Clone, B: Allocator, L
     requires rows { header.now.grid_position_and_size.height ≤ 65535 }
     requires coloured { bitmap.old ≡ blank header.now.region_info.width header.now.region_info.height header.now.flags.initial_pixel_color }
     ensures value { Gives (λ _. bitmap.new) result (halftone_answer (header_view header.now) (dictionary_view dictionary.now)) }
+    ensures bitmap { IfErr result (λ e. (e ≡ DecodeError.Region RegionError.GrayScaleOutOfRange) ⊎ (bitmap.new ≡ bitmap.old)) }
     ensures contexts { Leaves result contexts.new.items (halftone_contexts (header_view header.now) (dictionary_view dictionary.now) contexts.old.items) }
 {
     let values = decode_values(alloc, header, dictionary, contexts, steps)?;
@@ -222,7 +225,8 @@ fn draw_region<D: Allocator, M: Allocator, A: Allocator + Clone, B: Allocator, L
 
 /// Decodes a halftone region (T.88, 6.6) into a bitmap of its size that is all in its initial
 /// colour. The contexts begin fresh, whatever `contexts` held, and are left there as the gray-scale
-/// image leaves them, also where a value is refused; MMR data does not touch them.
+/// image leaves them, also where a value is refused; MMR data does not touch them. Any error but
+/// `RegionError::GrayScaleOutOfRange` leaves the bitmap as it was.
 ///
 /// `RegionError::InvalidMmrData` in strict mode where MMR data has a fault or lacks a row;
 /// `RegionError::GrayScaleOutOfRange` in strict mode for a value that no pattern has, also where the
@@ -240,6 +244,7 @@ pub fn decode_into<D: Allocator, M: Allocator, A: Allocator + Clone, B: Allocato
     requires rows { header.now.grid_position_and_size.height ≤ 65535 }
     requires coloured { bitmap.old ≡ blank header.now.region_info.width header.now.region_info.height header.now.flags.initial_pixel_color }
     ensures value { Gives (λ _. bitmap.new) result (halftone_answer (header_view header.now) (dictionary_view dictionary.now)) }
+    ensures bitmap { IfErr result (λ e. (e ≡ DecodeError.Region RegionError.GrayScaleOutOfRange) ⊎ (bitmap.new ≡ bitmap.old)) }
     ensures contexts { Leaves result contexts.new.items (halftone_contexts (header_view header.now) (dictionary_view dictionary.now) contexts.old.items) }
     ensures lenient { header.now.strict ≡ false → IfErr result (λ e. e ≡ DecodeError.OutOfMemory) }
 {
