@@ -1,6 +1,7 @@
 -- The pages of a file one by one, and what each is made of.
 use Rattle.std.proofs.Common.{◌≡◌, ℕ, suc, zero, ◌+◌, ◌==◌, ◌<◌, Bool, true, false, not, ◌&&◌, ◌||◌, cond, nat_lt, List, [], ◌∷◌, ◌++◌, length, drop, map, Option, Some, None, Result, Ok, Err, refl, sym, ap, subst, ◌∙◌, arith}
 use Rattle.std.proofs.lemmas.Bool.{eqb-true}
+use Rattle.std.proofs.lemmas.List.{append_assoc}
 use Rattle.std.specs.Map.Iter.{TakesFirst}
 use Rattle.std.specs.Prelude.{slice_get, option_map}
 use Rattle.jbig2_base.specs.Answer.{◌>>=◌, refuse_if}
@@ -13,7 +14,7 @@ use Rattle.jbig2_base.specs.declared.error.OverflowError.TheVariants.{BitmapDime
 use Rattle.jbig2_base.specs.declared.file_header.FileHeader.{FileHeader}
 use Rattle.jbig2_base.specs.declared.page_info.PageInformation.{PageInformation}
 use Rattle.jbig2_base.specs.declared.page_info.Sheet.{Sheet}
-use Rattle.hayro_jbig2.specs.Files.{Filed, Book, of_page, ends_of, filed_at, filed_after, numbers_after, miscounts, associated, book_at, leaf_of, leaf_from, PagesStandAlone}
+use Rattle.hayro_jbig2.specs.Files.{Filed, Book, of_page, by_pages, ends_of, filed_from, filed_each, numbers_after, miscounts, associated, book_at, leaf_of, leaf_from, PagesStandAlone}
 use Rattle.hayro_jbig2.specs.Globals.{named}
 use Rattle.hayro_jbig2.specs.Page.{Leaf, Names, no_names}
 
@@ -79,8 +80,8 @@ record IsOwn (ps : List Part) (page : Filed) : Type 0 where
   sheet : sheet_of (of_page page.sheet.number ps) ≡ Ok page.sheet
   parts : page.parts ≡ of_page page.sheet.number ps
 
-own-filed : (strict : Bool) (ps : List Part) (n : ℕ) (page : Filed) → filed_at strict ps n ≡ Ok page → IsOwn ps page
-unfolding filed_at
+own-filed : (strict : Bool) (ps : List Part) (n : ℕ) (page : Filed) → filed_from strict (of_page n ps) ≡ Ok page → IsOwn ps page
+unfolding filed_from
 own-filed strict ps n page h =
     let own : List Part = of_page n ps in
     let ended = answered (refuse_if (strict && not (ends_of own == 1)) (Format InvalidEndOfPage)) (λ ended. sheet_of own >>= λ sheet. Ok (record { sheet = sheet; parts = own })) page h in
@@ -97,17 +98,16 @@ abbrev AllOwn : List Part → List Filed → Type 0
 AllOwn ps [] = Unit {0}
 AllOwn ps (page ∷ pages) = IsOwn ps page × AllOwn ps pages
 
-own-push : (ps : List Part) (pages : List Filed) (page : Filed) → AllOwn ps pages → IsOwn ps page → AllOwn ps (pages ++ page ∷ [])
-own-push ps [] page all own = (own, tt)
-own-push ps (p ∷ pages) page all own = (all.0, own-push ps pages page all.1 own)
-
-own-after : (strict : Bool) (ps : List Part) (before : List Filed) (ns : List ℕ) (pages : List Filed) → AllOwn ps before → filed_after strict ps before ns ≡ Ok pages → AllOwn ps pages
-own-after strict ps before [] pages all h =
-    let same : before ≡ pages = cc in
-    subst (AllOwn ps) same all
-own-after strict ps before (n ∷ ns) pages all h =
-    let page = answered (filed_at strict ps n) (λ page. filed_after strict ps (before ++ page ∷ []) ns) pages h in
-    own-after strict ps (before ++ page.first ∷ []) ns pages (own-push ps before page.first all (own-filed strict ps n page.first page.was)) page.then
+own-each : (strict : Bool) (ps : List Part) (ns : List ℕ) (pages : List Filed) → filed_each strict (map (λ n. of_page n ps) ns) ≡ Ok pages → AllOwn ps pages
+own-each strict ps [] pages h =
+    let same : [] ≡ pages = cc in
+    subst (AllOwn ps) same tt
+own-each strict ps (n ∷ ns) pages h =
+    let each = filed_each strict (map (λ m. of_page m ps) ns) in
+    let page = answered (filed_from strict (of_page n ps)) (λ page. each >>= λ others. Ok (page ∷ others)) pages h in
+    let others = answered each (λ others. Ok (page.first ∷ others)) pages page.then in
+    let same : page.first ∷ others.first ≡ pages = let told = others.then in cc in
+    subst (AllOwn ps) same (own-filed strict ps n page.first page.was, own-each strict ps ns others.first others.was)
 
 own-at : (ps : List Part) (pages : List Filed) (index : ℕ) (page : Filed) → AllOwn ps pages → slice_get pages index ≡ Some page → IsOwn ps page
 own-at ps [] index page all h = absurd (cc)
@@ -118,10 +118,10 @@ own-at ps (p ∷ pages) (suc index) page all h = own-at ps pages index page all.
 
 -- a file's book, from its header and its segments
 abbrev pages_with : Bool → FileHeader × List Part → Result Book DecodeError
-pages_with strict file = filed_after strict file.1 [] (numbers_after [] file.1) >>= λ pages. Ok (record { strict = strict; pages = pages; globals = named strict (of_page 0 file.1) no_names })
+pages_with strict file = filed_each strict (by_pages file.1) >>= λ pages. Ok (record { strict = strict; pages = pages; globals = named strict (of_page 0 file.1) no_names })
 
 abbrev counted_with : Bool → FileHeader × List Part → Result Book DecodeError
-counted_with strict file = refuse_if (strict && miscounts file.0.number_of_pages (length (numbers_after [] file.1))) (Format PageCountMismatch) >>= λ counted. pages_with strict file
+counted_with strict file = refuse_if (strict && miscounts file.0.number_of_pages (length (by_pages file.1))) (Format PageCountMismatch) >>= λ counted. pages_with strict file
 
 abbrev book_with : Bool → FileHeader × List Part → Result Book DecodeError
 book_with strict file = associated strict file.1 >>= λ known. counted_with strict file
@@ -134,11 +134,11 @@ record Filled (strict : Bool) (ps : List Part) (book : Book) : Type 0 where
 filled : (strict : Bool) (file : FileHeader × List Part) (book : Book) → book_with strict file ≡ Ok book → Filled strict file.1 book
 filled strict file book h =
     let known = answered (associated strict file.1) (λ known. counted_with strict file) book h in
-    let counted = answered (refuse_if (strict && miscounts file.0.number_of_pages (length (numbers_after [] file.1))) (Format PageCountMismatch)) (λ counted. pages_with strict file) book known.then in
-    let pages = answered (filed_after strict file.1 [] (numbers_after [] file.1)) (λ pages. Ok (record { strict = strict; pages = pages; globals = named strict (of_page 0 file.1) no_names })) book counted.then in
+    let counted = answered (refuse_if (strict && miscounts file.0.number_of_pages (length (by_pages file.1))) (Format PageCountMismatch)) (λ counted. pages_with strict file) book known.then in
+    let pages = answered (filed_each strict (by_pages file.1)) (λ pages. Ok (record { strict = strict; pages = pages; globals = named strict (of_page 0 file.1) no_names })) book counted.then in
     let made : Book = record { strict = strict; pages = pages.first; globals = named strict (of_page 0 file.1) no_names } in
     let same : made ≡ book = let told = pages.then in cc in
-    let own : AllOwn file.1 pages.first = own-after strict file.1 [] (numbers_after [] file.1) pages.first tt pages.was in
+    let own : AllOwn file.1 pages.first = own-each strict file.1 (numbers_after [] file.1) pages.first pages.was in
     let is : Filled strict file.1 made = record { own = own; strictly = refl; shared = refl } in
     subst (λ (b : Book). Filled strict file.1 b) same is
 
@@ -169,3 +169,29 @@ pages_stand_alone strict bytes file book index page read h at =
     let own = own-at file.1 book.pages index leaf.from all.own leaf.was in
     let Alone : Leaf → Type 0 = λ l. leaf_from strict (of_page l.sheet.number file.1) (of_page 0 file.1) ≡ Ok l in
     subst Alone leaf.is (own-leaf strict file.1 book leaf.from all own)
+
+-- the pages that are made, and those that follow them
+abbrev pub with_pages : List Filed → Result (List Filed) DecodeError → Result (List Filed) DecodeError
+with_pages front r = r >>= λ pages. Ok (front ++ pages)
+
+pub pages-begin : (r : Result (List Filed) DecodeError) → with_pages [] r ≡ r
+pages-begin (Ok pages) = refl
+pages-begin (Err e) = refl
+
+pages-next : (front : List Filed) (page : Filed) (r : Result (List Filed) DecodeError) → with_pages (front ++ page ∷ []) r ≡ with_pages front (r >>= λ pages. Ok (page ∷ pages))
+pages-next front page (Ok pages) = ap (λ (all : List Filed). Ok all) (append_assoc front (page ∷ []) pages)
+pages-next front page (Err e) = refl
+
+pub page-made : (front next : List Filed) (strict : Bool) (own : List Part) (before others : List (List Part)) (meant : Result (List Filed) DecodeError) (page : Filed) → next ≡ front ++ page ∷ [] → before ≡ own ∷ others → with_pages front (filed_each strict before) ≡ meant → filed_from strict own ≡ Ok page → with_pages next (filed_each strict others) ≡ meant
+page-made front next strict own before others meant page pushed is so_far made =
+    ap (λ (pages : List Filed). with_pages pages (filed_each strict others)) pushed
+    ∙ pages-next front page (filed_each strict others)
+    ∙ ap (λ (r : Result Filed DecodeError). with_pages front (r >>= λ page. filed_each strict others >>= λ pages. Ok (page ∷ pages))) (sym made)
+    ∙ ap (λ (rest : List (List Part)). with_pages front (filed_each strict rest)) (sym is)
+    ∙ so_far
+
+pub page-refused : (front : List Filed) (strict : Bool) (own : List Part) (before others : List (List Part)) (meant : Result (List Filed) DecodeError) (e : DecodeError) → before ≡ own ∷ others → with_pages front (filed_each strict before) ≡ meant → filed_from strict own ≡ Err e → meant ≡ Err e
+page-refused front strict own before others meant e is so_far refused =
+    sym so_far
+    ∙ ap (λ (rest : List (List Part)). with_pages front (filed_each strict rest)) is
+    ∙ ap (λ (r : Result Filed DecodeError). with_pages front (r >>= λ page. filed_each strict others >>= λ pages. Ok (page ∷ pages))) refused

@@ -13,7 +13,7 @@ use Rattle.jbig2_base.specs.declared.error.FormatError.TheVariants.{InvalidHeade
 use Rattle.jbig2_base.specs.declared.error.ParseError.TheVariants.{UnexpectedEof}
 use Rattle.jbig2_base.specs.declared.error.SegmentError.TheVariants.{InvalidReferredCount, InvalidReference}
 use Rattle.hayro_jbig2.specs.Calls.{Call, Chunk, Line, whole_calls, row_of, calls_of}
-use Rattle.hayro_jbig2.specs.Files.{filed_at, book_at, pages_of}
+use Rattle.hayro_jbig2.specs.Files.{filed_from, book_at, pages_of}
 use Rattle.hayro_jbig2.specs.FirstPage.{first_page, first_size, first_image}
 use Rattle.hayro_jbig2.specs.Globals.{globals_at}
 use Rattle.hayro_jbig2.specs.Image.{image_of}
@@ -81,23 +81,23 @@ unfolding globals_at segments_in segment_at header_at referred_at count_at type_
 row_3-reference = refl
 
 row_16 : calls_in true (headed 1 (page_header ++ (page_data ++ end_of_page))) ≡ Ok one_white
-unfolding calls_in book_at file_at file_header_at segments_in segment_at header_at referred_at count_at type_of filed_at sheet_of information_at grid_of_page table pixel_at calls_of row_of whole_calls
+unfolding calls_in book_at file_at file_header_at segments_in segment_at header_at referred_at count_at type_of filed_from sheet_of information_at grid_of_page table pixel_at calls_of row_of whole_calls
 row_16 = refl
 
 row_16-unended : book_at true (headed 1 (page_header ++ page_data)) ≡ Err (Format InvalidEndOfPage)
-unfolding book_at file_at file_header_at segments_in segment_at header_at referred_at count_at type_of filed_at
+unfolding book_at file_at file_header_at segments_in segment_at header_at referred_at count_at type_of filed_from
 row_16-unended = refl
 
 row_16-headers_first : calls_in true (headed 0 (page_header ++ (end_of_page ++ (end_of_file ++ page_data)))) ≡ Ok one_white
-unfolding calls_in book_at file_at file_header_at headers_in header_at referred_at count_at type_of filed_at sheet_of information_at grid_of_page table pixel_at calls_of row_of whole_calls
+unfolding calls_in book_at file_at file_header_at headers_in header_at referred_at count_at type_of filed_from sheet_of information_at grid_of_page table pixel_at calls_of row_of whole_calls
 row_16-headers_first = refl
 
 row_R9_3-size : first_size (headed 1 (page_header ++ (page_data ++ end_of_page))) ≡ Ok (8, 1)
-unfolding first_page book_at file_at file_header_at segments_in segment_at header_at referred_at count_at type_of filed_at sheet_of information_at
+unfolding first_page book_at file_at file_header_at segments_in segment_at header_at referred_at count_at type_of filed_from sheet_of information_at
 row_R9_3-size = refl
 
 row_R9_3-image : first_image (headed 1 (page_header ++ (page_data ++ end_of_page))) ≡ Ok (replicate 8 255)
-unfolding first_page book_at file_at file_header_at segments_in segment_at header_at referred_at count_at type_of filed_at sheet_of information_at grid_of_page table pixel_at image_of
+unfolding first_page book_at file_at file_header_at segments_in segment_at header_at referred_at count_at type_of filed_from sheet_of information_at grid_of_page table pixel_at image_of
 row_R9_3-image = refl
 
 row_R9_4 : first_image (identification ++ 3 ∷ []) ≡ Err (Format MissingPageInfo)

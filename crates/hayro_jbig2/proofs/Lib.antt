@@ -1,4 +1,5 @@
 pub mod Books
+pub mod ByPages
 pub mod Consuming
 mod Direct
 mod FileRows

@@ -62,6 +62,10 @@ numbers_after ns (p ∷ ps) = numbers_after (with_number p.header.page_associati
 abbrev pub of_page : ℕ → List Part → List Part
 of_page n ps = filter (λ p. p.header.page_association == n) ps
 
+-- each page's own segments, in the order in which the pages' numbers first occur
+abbrev pub by_pages : List Part → List (List Part)
+by_pages ps = map (λ n. of_page n ps) (numbers_after [] ps)
+
 abbrev pub is_end_of_page : SegmentType → Bool
 is_end_of_page types.EndOfPage = true
 is_end_of_page _ = false
@@ -70,17 +74,20 @@ abbrev pub ends_of : List Part → ℕ
 ends_of [] = 0
 ends_of (p ∷ ps) = (if is_end_of_page p.header.segment_type then 1 else 0) + ends_of ps
 
--- The page with this number: strict reading wants one end of page (7.4.9).
-unfoldable pub filed_at : Bool → List Part → ℕ → Result Filed DecodeError
-filed_at strict ps n = do
-  ended ← refuse_if (strict && not (ends_of (of_page n ps) == 1)) (Format InvalidEndOfPage)
-  sheet ← sheet_of (of_page n ps)
-  Ok (record { sheet = sheet; parts = of_page n ps })
+-- The page that these segments make: strict reading wants one end of page (7.4.9).
+unfoldable pub filed_from : Bool → List Part → Result Filed DecodeError
+filed_from strict own = do
+  ended ← refuse_if (strict && not (ends_of own == 1)) (Format InvalidEndOfPage)
+  sheet ← sheet_of own
+  Ok (record { sheet = sheet; parts = own })
 
--- the pages with these numbers, behind others
-abbrev pub filed_after : Bool → List Part → List Filed → List ℕ → Result (List Filed) DecodeError
-filed_after strict ps before [] = Ok before
-filed_after strict ps before (n ∷ ns) = filed_at strict ps n >>= λ page. filed_after strict ps (before ++ page ∷ []) ns
+-- the pages that these lists of segments make
+abbrev pub filed_each : Bool → List (List Part) → Result (List Filed) DecodeError
+filed_each strict [] = Ok []
+filed_each strict (own ∷ others) = do
+  page ← filed_from strict own
+  pages ← filed_each strict others
+  Ok (page ∷ pages)
 
 -- a count of pages that the file's header tells (D.4.3)
 abbrev pub miscounts : Option ℕ → ℕ → Bool
@@ -92,8 +99,8 @@ unfoldable pub book_at : Bool → List ℕ → Result Book DecodeError
 book_at strict bytes = do
   file ← file_at strict bytes
   known ← associated strict file.1
-  counted ← refuse_if (strict && miscounts file.0.number_of_pages (length (numbers_after [] file.1))) (Format PageCountMismatch)
-  pages ← filed_after strict file.1 [] (numbers_after [] file.1)
+  counted ← refuse_if (strict && miscounts file.0.number_of_pages (length (by_pages file.1))) (Format PageCountMismatch)
+  pages ← filed_each strict (by_pages file.1)
   Ok (record { strict = strict; pages = pages; globals = named strict (of_page 0 file.1) no_names })
 
 abbrev pub leaf_of : Book → Filed → Leaf

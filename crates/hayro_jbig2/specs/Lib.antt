@@ -1,3 +1,4 @@
+pub mod ByPages
 pub mod Calls
 pub mod Files
 pub mod FirstPage

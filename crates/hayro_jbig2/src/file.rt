@@ -1,10 +1,10 @@
 //! Files of pages.
-ghost use Rattle.std.specs.Prelude.{◌≡◌, ℕ, ◌==◌, Ok, [], ◌∷◌, ◌++◌, length, slice_get};
-ghost use Rattle.std.specs.List.{list_any};
+ghost use Rattle.std.specs.Prelude.{◌≡◌, ℕ, Ok, length, slice_get};
 ghost use Rattle.std.specs.Map.Iter.{GivesInOrder};
 ghost use Rattle.jbig2_base.specs.Answer.{Answers, Gives};
-ghost use Rattle.jbig2_base.specs.SegmentViews.{header_view, part_view, parts};
-ghost use Rattle.hayro_jbig2.specs.Files.{needs_page, lacks_page, associated, is_known, with_number, numbers_after, of_page, is_end_of_page, ends_of, filed_at, filed_after, miscounts, book_at, page_of, pages_of, PagesStandAlone};
+ghost use Rattle.jbig2_base.specs.SegmentViews.{header_view, parts};
+ghost use Rattle.hayro_jbig2.specs.ByPages.{pages_view};
+ghost use Rattle.hayro_jbig2.specs.Files.{needs_page, lacks_page, associated, is_end_of_page, ends_of, filed_from, filed_each, miscounts, book_at, page_of, pages_of, PagesStandAlone};
 ghost use Rattle.hayro_jbig2.specs.Globals.{named};
 ghost use Rattle.hayro_jbig2.specs.Page.{Leaf, no_names};
 ghost use Rattle.hayro_jbig2.specs.PageViews.{kept_names};
@@ -12,6 +12,7 @@ ghost use Rattle.hayro_jbig2.specs.PageViews.{kept_names};
 use crate::globals::Globals;
 use crate::page::Page;
 use crate::pages::Pages;
+use crate::segments_by_page::SegmentsByPage;
 use crate::settings::DecodeSettings;
 use jbig2_base::error::{DecodeError, FormatError, Result, SegmentError};
 use jbig2_base::file::parse_file;
@@ -88,96 +89,6 @@ fn check_associations<A: Allocator>(strict: bool, segments: &[Segment<'_, A>]) -
     Ok(())
 }
 
-fn is_among(numbers: &[u32], number: u32) -> bool
-    ensures { result ≡ list_any (λ m. m == number) numbers.now }
-{
-    numbers.iter().any(|known| *known == number)
-}
-
-/// Whether this is the number of no page, or stands among those already.
-fn is_known(numbers: &[u32], number: u32) -> bool
-    ensures { result ≡ is_known number numbers.now }
-{
-    number == 0 || is_among(numbers, number)
-}
-
-fn add_number<A: Allocator>(numbers: &mut Vec<u32, A>, number: u32) -> Result<()>
-    ensures { Gives (λ _. numbers.new.items) result (Ok (with_number number numbers.old.items)) }
-{
-    if is_known(numbers, number) {
-        return Ok(());
-    }
-    numbers.push(number)?;
-    Ok(())
-}
-
-/// The pages' numbers, in the order in which they first occur.
-fn page_numbers<A: Allocator, S: Allocator>(
-    alloc: A,
-    segments: &[Segment<'_, S>],
-) -> Result<Vec<u32, A>>
-    ensures { Gives (λ v. v.items) result (Ok (numbers_after [] (parts segments.now))) }
-{
-    let mut numbers = Vec::new(alloc);
-    for segment in segments {
-        match add_number(&mut numbers, segment.header.page_association) {
-            Ok(()) => {}
-            Err(error) => return Err(error),
-        }
-    }
-    Ok(numbers)
-}
-
-fn copy_segment<'a, A: Allocator>(alloc: A, segment: &Segment<'a, A>) -> Result<Segment<'a, A>>
-    ensures { Gives (λ s. part_view s) result (Ok (part_view segment.now)) }
-{
-    let header = &segment.header;
-    let referred_to_segments = Vec::from_slice(alloc, &header.referred_to_segments)?;
-    Ok(Segment {
-        header: SegmentHeader {
-            segment_number: header.segment_number,
-            segment_type: header.segment_type,
-            retain_flag: header.retain_flag,
-            page_association: header.page_association,
-            referred_to_segments,
-            data_length: header.data_length,
-        },
-        bytes: segment.bytes,
-    })
-}
-
-fn add_segment<'a, A: Allocator + Clone>(
-    own: &mut Vec<Segment<'a, A>, A>,
-    number: u32,
-    segment: &Segment<'a, A>,
-) -> Result<()>
-    ensures { Gives (λ _. parts own.new.items) result (Ok (parts own.old.items ++ of_page number (part_view segment.now ∷ []))) }
-{
-    if segment.header.page_association == number {
-        let copy = copy_segment(own.allocator().clone()?, segment)?;
-        own.push(copy)?;
-    }
-    Ok(())
-}
-
-/// The segments with this association.
-fn segments_of<'a, A: Allocator + Clone>(
-    alloc: A,
-    segments: &[Segment<'a, A>],
-    number: u32,
-) -> Result<Vec<Segment<'a, A>, A>>
-    ensures { Gives (λ v. parts v.items) result (Ok (of_page number (parts segments.now))) }
-{
-    let mut own = Vec::new(alloc);
-    for segment in segments {
-        match add_segment(&mut own, number, segment) {
-            Ok(()) => {}
-            Err(error) => return Err(error),
-        }
-    }
-    Ok(own)
-}
-
 fn is_end_of_page(kind: SegmentType) -> bool
     ensures { result ≡ is_end_of_page kind }
 {
@@ -196,16 +107,10 @@ fn count_ends<A: Allocator>(segments: &[Segment<'_, A>]) -> usize
     count
 }
 
-#[tactic(auto, unfolding(crate::specs::Files::filed_at))]
-fn read_page<'a, A: Allocator + Clone>(
-    alloc: A,
-    strict: bool,
-    segments: &[Segment<'a, A>],
-    number: u32,
-) -> Result<FilePage<'a, A>>
-    ensures { Gives (λ page. page) result (filed_at strict (parts segments.now) number) }
+#[tactic(auto, unfolding(crate::specs::Files::filed_from))]
+fn read_page<'a, A: Allocator>(strict: bool, own: Vec<Segment<'a, A>, A>) -> Result<FilePage<'a, A>>
+    ensures { Gives (λ page. page) result (filed_from strict (parts own.entry.items)) }
 {
-    let own = segments_of(alloc, segments, number)?;
     if strict && count_ends(&own) != 1 {
         return Err(DecodeError::Format(FormatError::InvalidEndOfPage));
     }
@@ -216,17 +121,16 @@ fn read_page<'a, A: Allocator + Clone>(
     })
 }
 
-fn read_pages<'a, A: Allocator + Clone>(
+fn read_pages<'a, A: Allocator>(
     alloc: A,
     strict: bool,
-    segments: &[Segment<'a, A>],
-    numbers: &[u32],
+    segments: Vec<Vec<Segment<'a, A>, A>, A>,
 ) -> Result<Vec<FilePage<'a, A>, A>>
-    ensures { Gives (λ v. v.items) result (filed_after strict (parts segments.now) [] numbers.now) }
+    ensures { Gives (λ v. v.items) result (filed_each strict (pages_view segments.entry.items)) }
 {
-    let mut pages = Vec::new(alloc.clone()?);
-    for number in numbers {
-        match read_page(alloc.clone()?, strict, segments, *number) {
+    let mut pages = Vec::new(alloc);
+    for own in segments {
+        match read_page(strict, own) {
             Ok(page) => pages.push(page)?,
             Err(error) => return Err(error),
         }
@@ -271,13 +175,12 @@ impl<'a, A: Allocator + Clone> File<'a, A> {
         let strict = settings.strict;
         let file = parse_file(alloc.clone()?, bytes, strict)?;
         check_associations(strict, &file.segments)?;
-        let numbers = page_numbers(alloc.clone()?, &file.segments)?;
-        if strict && miscounts(file.header.number_of_pages, numbers.len()) {
+        let segments = SegmentsByPage::new(alloc.clone()?, file.segments)?;
+        if strict && miscounts(file.header.number_of_pages, segments.pages.len()) {
             return Err(DecodeError::Format(FormatError::PageCountMismatch));
         }
-        let pages = read_pages(alloc.clone()?, strict, &file.segments, &numbers)?;
-        let shared = segments_of(alloc.clone()?, &file.segments, 0)?;
-        let globals = kept_globals(alloc, strict, &shared)?;
+        let pages = read_pages(alloc.clone()?, strict, segments.pages)?;
+        let globals = kept_globals(alloc, strict, &segments.shared)?;
         Ok(File {
             strict,
             pages,

@@ -20,6 +20,7 @@ mod pages;
 pub mod parts;
 pub mod reading;
 mod refinement;
+mod segments_by_page;
 mod settings;
 
 pub use context::DecoderContext;

@@ -1,24 +1,35 @@
-use Rattle.std.proofs.Common.{◌≡◌, ◌+◌, [], ◌∷◌, ◌++◌, drop, get_or, arith, sym, ◌∙◌, ap, inl, inr, List, ℕ, Result}
-use Rattle.std.proofs.lemmas.List.{drop_more}
-use Rattle.jbig2_base.specs.Answer.{◌>>=◌}
+use Rattle.std.proofs.Common.{◌≡◌, List, ◌∙◌, ap, arith, inl, inr, ⊎_elim, length, sym}
+use Rattle.std.specs.Vec.Iter.{into_iter_items}
 use Rattle.jbig2_base.specs.SegmentViews.{parts}
-use Rattle.jbig2_base.specs.declared.error.DecodeError.{DecodeError}
-use Rattle.hayro_jbig2.specs.Files.{Filed, filed_after}
+use Rattle.jbig2_base.specs.declared.error.DecodeError.TheVariants.{OutOfMemory}
+use Rattle.hayro_jbig2.proofs.Books.{pages-begin, with_pages, page-made, page-refused}
+use Rattle.hayro_jbig2.specs.ByPages.{pages_view}
+use Rattle.hayro_jbig2.specs.Files.{Filed, filed_each}
 use Rattle.hayro_jbig2.proofs.file.read_pages.Goals as goal
+
+pub loop-own-init : goal.loop-own-init
+loop-own-init g c =
+    let gives = c.into_iter-own-iterator.ensures.into_iter_gives in
+    let meant = filed_each c.args.strict (pages_view (into_iter_items c.into_iter-own-iterator.result)) in
+    record {
+      counted = gives.1 ∙ c.args.segments.ok.0 ∙ ap (λ xs. length xs) (sym gives.0);
+      filed = ap (λ (front : List Filed). with_pages front meant) c.new-pages.ensures.items ∙ pages-begin meant ∙ ap (λ xs. filed_each c.args.strict (pages_view xs)) gives.0;
+    }
+
+pub loop-own-preserved : goal.loop-own-preserved
+loop-own-preserved g c =
+    let steps = c.in-Some.ensures.steps in
+    let others = pages_view (into_iter_items c.next.new.self) in
+    record {
+      counted = omega (arith, c.loop-own.invariant.counted, steps.1, ap length steps.0);
+      filed =
+          page-made c.loop-own.pages.items _ c.args.strict (parts c.in-Some.own.items) _ others _ c.in-Ok.page c.in_ok-push-in-Ok.ensures.items (ap (λ xs. pages_view xs) steps.0) c.loop-own.invariant.filed c.in-Ok.ensures;
+    }
 
 pub returns-in-Err : goal.returns-in-Err
 returns-in-Err g c =
-    let strict = c.args.strict in
-    let ps = parts c.args.segments.now in
-    let ns = c.args.numbers.now in
-    let i = c.loop-number.number-index in
-    let before = c.loop-number.pages.items in
-    let here : drop i ns ≡ get_or ns i 0 ∷ drop (i + 1) ns = drop_more ns i 0 (omega (arith, c.loop-number-test.true)) in
-    elim c.in-Err.ensures [
-      | inl memory ↦ inl memory
-      | inr refused ↦ inr (
-          sym c.loop-number.invariant
-          ∙ ap (λ (ms : List ℕ). filed_after strict ps before ms) here
-          ∙ ap (λ (r : Result Filed DecodeError). r >>= λ page. filed_after strict ps (before ++ page ∷ []) (drop (i + 1) ns)) refused
-          )
-    ]
+    let others = pages_view (into_iter_items c.next.new.self) in
+    ⊎_elim
+    (λ (memory : c.in-Err.error ≡ OutOfMemory). inl memory)
+    (λ refused. inr (page-refused c.loop-own.pages.items c.args.strict (parts c.in-Some.own.items) _ others _ c.in-Err.error (ap (λ xs. pages_view xs) c.in-Some.ensures.steps.0) c.loop-own.invariant.filed refused))
+    c.in-Err.ensures

@@ -1,7 +1,12 @@
-use Rattle.std.proofs.Common.{◌≡◌, [], drop}
-use Rattle.jbig2_base.specs.SegmentViews.{parts}
-use Rattle.hayro_jbig2.specs.Files.{filed_after}
+use Rattle.std.proofs.Common.{◌≡◌, length}
+use Rattle.std.specs.Vec.Iter.{into_iter_items, into_iter_len}
+use Rattle.hayro_jbig2.proofs.Books.{with_pages}
+use Rattle.hayro_jbig2.specs.ByPages.{pages_view}
+use Rattle.hayro_jbig2.specs.Files.{filed_each}
 use Rattle.hayro_jbig2.proofs.file.read_pages.Given as goal
 
-abbrev pub invariant-loop-number : goal.invariant-loop-number
-invariant-loop-number g l = filed_after l.strict (parts l.segments) l.pages.items (drop l.number-index l.numbers) ≡ filed_after l.strict (parts l.segments) [] l.numbers
+abbrev pub invariant-loop-own : goal.invariant-loop-own
+invariant-loop-own g l = record {
+  counted : into_iter_len l.own-iterator ≡ length (into_iter_items l.own-iterator);
+  filed : with_pages l.pages.items (filed_each l.strict (pages_view (into_iter_items l.own-iterator))) ≡ filed_each l.strict (pages_view l.fn.segments.items);
+}

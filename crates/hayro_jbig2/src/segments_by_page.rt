@@ -1,0 +1,66 @@
+//! The segments of a file by their pages (T.88, 7.2.6).
+ghost use Rattle.std.specs.Prelude.{◌≡◌, List, [], ◌∷◌, ◌++◌, Ok, MatchResult};
+ghost use Rattle.jbig2_base.specs.Answer.{Gives};
+ghost use Rattle.jbig2_base.specs.Segment.{Part};
+ghost use Rattle.jbig2_base.specs.SegmentViews.{part_view, parts};
+ghost use Rattle.jbig2_base.specs.declared.error.DecodeError.TheVariants.{OutOfMemory};
+ghost use Rattle.hayro_jbig2.specs.ByPages.{Holds, by_page_view};
+ghost use Rattle.hayro_jbig2.specs.Files.{by_pages, of_page};
+
+use jbig2_base::error::Result;
+use jbig2_base::segment::Segment;
+use std::alloc::Allocator;
+use std::collections::BTreeMap;
+
+/// The segments of a file, each of them once: those of no page, and each page's own.
+#[derive(Drop)]
+pub(crate) struct SegmentsByPage<'a, A: Allocator> {
+    /// Those of association 0.
+    pub(crate) shared: Vec<Segment<'a, A>, A>,
+    /// Those of each page, in the order in which the pages' numbers first occur.
+    pub(crate) pages: Vec<Vec<Segment<'a, A>, A>, A>,
+    /// Where among these the page of a number stands.
+    places: BTreeMap<u32, usize, A>,
+}
+
+impl<'a, A: Allocator + Clone> SegmentsByPage<'a, A> {
+    /// The segments of a file, in its order.
+    pub(crate) fn new(alloc: A, segments: Vec<Segment<'a, A>, A>) -> Result<SegmentsByPage<'a, A>>
+        ensures { Gives by_page_view result (Ok (of_page 0 (parts segments.entry.items), by_pages (parts segments.entry.items))) }
+    {
+        let mut by_page = SegmentsByPage {
+            shared: Vec::new(alloc.clone()?),
+            pages: Vec::new(alloc.clone()?),
+            places: BTreeMap::new(alloc),
+        };
+        for segment in segments {
+            match by_page.add(segment) {
+                Ok(()) => {}
+                Err(error) => return Err(error),
+            }
+        }
+        Ok(by_page)
+    }
+
+    /// Puts a segment behind those of its page, or of association 0.
+    fn add(&mut self, segment: Segment<'a, A>) -> Result<()>
+        requires { (ps : List Part) × Holds self.old ps }
+        ensures { (ps : List Part) → Holds self.old ps → MatchResult result (λ _. Holds self.new (ps ++ part_view segment.entry ∷ [])) (λ e. e ≡ OutOfMemory) }
+    {
+        let number = segment.header.page_association;
+        if number == 0 {
+            self.shared.push(segment)?;
+            return Ok(());
+        }
+        match self.places.get(&number) {
+            Some(place) => self.pages[*place].push(segment)?,
+            None => {
+                let mut own = Vec::new(self.pages.allocator().clone()?);
+                own.push(segment)?;
+                self.places.insert(number, self.pages.len())?;
+                self.pages.push(own)?;
+            }
+        }
+        Ok(())
+    }
+}
