@@ -2,8 +2,8 @@
 ghost use Rattle.std.specs.Prelude.{◌≡◌, ◌+◌, ◌*◌, ◌^◌, ◌<◌, ◌≤◌, length, pos, ◌+ℤ◌, false, if◌then◌else◌, Some, None, IfSome};
 ghost use Rattle.jbig2_base.specs.Grid.{blank, pixel, bit_number};
 ghost use Rattle.jbig2_region.specs.GenericHeader.{FitsTemplate};
-ghost use Rattle.jbig2_region.specs.Holds.{Holds};
-ghost use Rattle.jbig2_region.specs.Raster.{decoded, no_pixels};
+ghost use Rattle.jbig2_region.specs.Holds.{DecodesRegion};
+ghost use Rattle.jbig2_region.specs.Raster.{no_pixels};
 ghost use Rattle.jbig2_region.specs.Generic.{context_at, colour_above, coding_of};
 ghost use Rattle.jbig2_region.specs.Layouts.{CountsCoded, is_nominal, read_pixels};
 ghost use Rattle.jbig2_region.specs.RunBytes.{CountsRegion};
@@ -202,7 +202,7 @@ pub fn decode_with<A: Allocator, L: Ledger>(
     requires rows { bitmap.old.height ≤ 65535 }
     requires white { bitmap.old ≡ blank bitmap.old.width bitmap.old.height false }
     requires contexts { length contexts.old ≡ 2 ^ context_bits template }
-    ensures holds { Holds bitmap.old.width bitmap.old.height decoder.old.bytes (decoded (coding_of typical template pixels.now) bitmap.old.width bitmap.old.height decoder.old.bytes (no_pixels decoder.old.registers contexts.old)) bitmap.new decoder.new contexts.new }
+    ensures holds { DecodesRegion (coding_of typical template pixels.now) bitmap.old decoder.old contexts.old bitmap.new decoder.new contexts.new }
     ensures empty { bitmap.old.width * bitmap.old.height ≡ 0 → steps.new ≡ steps.old }
 {
     let coding = GenericCoding {
@@ -227,7 +227,7 @@ fn decode_regular<A: Allocator, L: Ledger>(
     requires rows { bitmap.old.height ≤ 65535 }
     requires white { bitmap.old ≡ blank bitmap.old.width bitmap.old.height false }
     requires contexts { length contexts.old ≡ 2 ^ context_bits template }
-    ensures holds { Holds bitmap.old.width bitmap.old.height decoder.old.bytes (decoded (coding_of typical template (template_pixels template (Regular adaptive.now))) bitmap.old.width bitmap.old.height decoder.old.bytes (no_pixels decoder.old.registers contexts.old)) bitmap.new decoder.new contexts.new }
+    ensures holds { DecodesRegion (coding_of typical template (template_pixels template (Regular adaptive.now))) bitmap.old decoder.old contexts.old bitmap.new decoder.new contexts.new }
     ensures steps { CountsRegion (template_pixels template (Regular adaptive.now)) (is_nominal template adaptive.now) (read_pixels template adaptive.now) (coding_of typical template (template_pixels template (Regular adaptive.now))) bitmap.old.width bitmap.old.height decoder.old.bytes (no_pixels decoder.old.registers contexts.old) steps.old steps.new }
 {
     let layout = layout_of(template, adaptive);
@@ -250,7 +250,7 @@ pub fn decode_coded<A: Allocator, L: Ledger>(
     requires rows { bitmap.old.height ≤ 65535 }
     requires white { bitmap.old ≡ blank bitmap.old.width bitmap.old.height false }
     requires contexts { length contexts.old ≡ 2 ^ context_bits template }
-    ensures holds { Holds bitmap.old.width bitmap.old.height decoder.old.bytes (decoded (coding_of typical template (template_pixels template adaptive.now)) bitmap.old.width bitmap.old.height decoder.old.bytes (no_pixels decoder.old.registers contexts.old)) bitmap.new decoder.new contexts.new }
+    ensures holds { DecodesRegion (coding_of typical template (template_pixels template adaptive.now)) bitmap.old decoder.old contexts.old bitmap.new decoder.new contexts.new }
     ensures steps { CountsCoded template adaptive.now (coding_of typical template (template_pixels template adaptive.now)) bitmap.old.width bitmap.old.height decoder.old.bytes (no_pixels decoder.old.registers contexts.old) steps.old steps.new }
 {
     match adaptive {

@@ -4,7 +4,7 @@ ghost use Rattle.std.specs.Prelude.{◌≡◌, ℕ, ◌+◌, ◌-◌, ◌*◌, �
 ghost use Rattle.jbig2_base.specs.Grid.{blank, pixel};
 ghost use Rattle.jbig2_base.specs.WordBits.{bit};
 ghost use Rattle.jbig2_coder.specs.Coder.{Coder, Context};
-ghost use Rattle.jbig2_region.specs.Holds.{Holds};
+ghost use Rattle.jbig2_region.specs.Holds.{DecodesRegion};
 ghost use Rattle.jbig2_region.specs.Neighbours.{Decodes, IsLayout, is_nominal_layout, layout_coding, layout_count, layout_loads, layout_pixels};
 ghost use Rattle.jbig2_region.specs.Raster.{decoded, no_pixels};
 ghost use Rattle.jbig2_region.specs.RunBytes.{CountsRegion, CountsRow, row_loads, row_tests, row_words};
@@ -125,7 +125,7 @@ pub fn decode_layout<A: Allocator, L: Ledger>(
     requires columns { bitmap.old.width ≤ 65535 }
     requires rows { bitmap.old.height ≤ 65535 }
     requires white { bitmap.old ≡ blank bitmap.old.width bitmap.old.height false }
-    ensures holds { Holds bitmap.old.width bitmap.old.height decoder.old.bytes (decoded (layout_coding layout.now row_context) bitmap.old.width bitmap.old.height decoder.old.bytes (no_pixels decoder.old.registers contexts.old)) bitmap.new decoder.new contexts.new }
+    ensures holds { DecodesRegion (layout_coding layout.now row_context) bitmap.old decoder.old contexts.old bitmap.new decoder.new contexts.new }
     ensures steps { CountsRegion (layout_pixels layout.now) (is_nominal_layout layout.now.adaptive) (layout_loads layout.now.adaptive) (layout_coding layout.now row_context) bitmap.old.width bitmap.old.height decoder.old.bytes (no_pixels decoder.old.registers contexts.old) steps.old steps.new }
 {
     if bitmap.width() == 0 {

@@ -3,8 +3,8 @@
 ghost use Rattle.std.specs.Prelude.{◌≡◌, ℕ, ◌+◌, ◌*◌, ◌^◌, ◌<◌, ◌≤◌, [], length, IfSome, false, Ok};
 ghost use Rattle.jbig2_base.specs.Answer.{Gives};
 ghost use Rattle.jbig2_base.specs.Grid.{Grid, blank, pixel, bit_number};
-ghost use Rattle.jbig2_region.specs.Raster.{Coding, Region, so_far, no_pixels, after_pixel, after_pixels, row_begun, row_decisions, decoded, fresh_contexts};
-ghost use Rattle.jbig2_region.specs.Holds.{Holds, BeginsRow};
+ghost use Rattle.jbig2_region.specs.Raster.{Coding, Region, after_pixel, after_pixels, row_decisions, decoded, fresh_contexts};
+ghost use Rattle.jbig2_region.specs.Holds.{Holds, BeginsRow, DecodesRegion, GoesOn};
 
 use jbig2_base::bitmap::Bitmap;
 use jbig2_base::bitmap::steps::Steps;
@@ -87,7 +87,7 @@ fn decode_pixel<C: PixelCoding, A: Allocator, L: Ledger>(
     requires columns { bitmap.old.width ≤ 65535 }
     requires rows { bitmap.old.height ≤ 65535 }
     requires contexts { length contexts.old ≡ 2 ^ C.bits coding.now }
-    ensures holds { (r : Region) → length r.pixels ≡ y * bitmap.old.width + x → r.predicted ≡ predicted → Holds bitmap.old.width bitmap.old.height decoder.old.bytes r bitmap.old decoder.old contexts.old → Holds bitmap.old.width bitmap.old.height decoder.old.bytes (after_pixel (C.coding coding.now) bitmap.old.width bitmap.old.height decoder.old.bytes r) bitmap.new decoder.new contexts.new }
+    ensures holds { GoesOn (y * bitmap.old.width + x) predicted (after_pixel (C.coding coding.now)) bitmap.old decoder.old contexts.old bitmap.new decoder.new contexts.new }
     ensures width { bitmap.new.width ≡ bitmap.old.width }
     ensures height { bitmap.new.height ≡ bitmap.old.height }
     ensures bytes { decoder.new.bytes ≡ decoder.old.bytes }
@@ -115,7 +115,7 @@ fn decode_row<C: PixelCoding, A: Allocator, L: Ledger>(
     requires columns { bitmap.old.width ≤ 65535 }
     requires rows { bitmap.old.height ≤ 65535 }
     requires contexts { length contexts.old ≡ 2 ^ C.bits coding.now }
-    ensures holds { (r : Region) → length r.pixels ≡ y * bitmap.old.width → r.predicted ≡ predicted → Holds bitmap.old.width bitmap.old.height decoder.old.bytes r bitmap.old decoder.old contexts.old → Holds bitmap.old.width bitmap.old.height decoder.old.bytes (after_pixels (C.coding coding.now) bitmap.old.width bitmap.old.height decoder.old.bytes bitmap.old.width r) bitmap.new decoder.new contexts.new }
+    ensures holds { GoesOn (y * bitmap.old.width) predicted (λ w h bytes r. after_pixels (C.coding coding.now) w h bytes w r) bitmap.old decoder.old contexts.old bitmap.new decoder.new contexts.new }
     ensures width { bitmap.new.width ≡ bitmap.old.width }
     ensures height { bitmap.new.height ≡ bitmap.old.height }
     ensures bytes { decoder.new.bytes ≡ decoder.old.bytes }
@@ -161,7 +161,7 @@ pub fn decode_region<C: PixelCoding, A: Allocator, L: Ledger>(
     requires rows { bitmap.old.height ≤ 65535 }
     requires white { bitmap.old ≡ blank bitmap.old.width bitmap.old.height false }
     requires contexts { length contexts.old ≡ 2 ^ C.bits coding.now }
-    ensures holds { Holds bitmap.old.width bitmap.old.height decoder.old.bytes (decoded (C.coding coding.now) bitmap.old.width bitmap.old.height decoder.old.bytes (no_pixels decoder.old.registers contexts.old)) bitmap.new decoder.new contexts.new }
+    ensures holds { DecodesRegion (C.coding coding.now) bitmap.old decoder.old contexts.old bitmap.new decoder.new contexts.new }
     ensures empty { bitmap.old.width * bitmap.old.height ≡ 0 → steps.new ≡ steps.old }
 {
     if bitmap.width() == 0 {

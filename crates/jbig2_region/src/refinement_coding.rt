@@ -2,8 +2,7 @@
 ghost use Rattle.std.specs.Prelude.{◌≡◌, ◌+◌, ◌^◌, ◌<◌, ◌≤◌, ◌++◌, Bool, List, [], length, map, pos, ◌+ℤ◌, ◌-ℤ◌, ◌<ℤ◌, false};
 ghost use Rattle.jbig2_base.specs.Grid.{blank, pixel, bit_number};
 ghost use Rattle.jbig2_region.specs.Generic.{number_of};
-ghost use Rattle.jbig2_region.specs.Holds.{Holds};
-ghost use Rattle.jbig2_region.specs.Raster.{decoded, no_pixels};
+ghost use Rattle.jbig2_region.specs.Holds.{DecodesRegion};
 ghost use Rattle.jbig2_region.specs.declared.template.RefinementTemplate.TheVariants.{Template0, Template1};
 ghost use Rattle.jbig2_region.specs.RefinementViews.{reference_view};
 ghost use Rattle.jbig2_region.specs.Refinement.{nine, predicted_colour, common_colour, reference_pixel, reference_pixels, refined_context, refinement_bits, refinement_coding, refinement_row_context, region_pixels};
@@ -263,7 +262,7 @@ pub fn decode_bitmap<A: Allocator, B: Allocator, L: Ledger>(
     requires rows { bitmap.old.height ≤ 65535 }
     requires white { bitmap.old ≡ blank bitmap.old.width bitmap.old.height false }
     requires contexts { length contexts.old ≡ 2 ^ refinement_bits template }
-    ensures holds { Holds bitmap.old.width bitmap.old.height decoder.old.bytes (decoded (refinement_coding template typical adaptive.now (reference_view reference.now)) bitmap.old.width bitmap.old.height decoder.old.bytes (no_pixels decoder.old.registers contexts.old)) bitmap.new decoder.new contexts.new }
+    ensures holds { DecodesRegion (refinement_coding template typical adaptive.now (reference_view reference.now)) bitmap.old decoder.old contexts.old bitmap.new decoder.new contexts.new }
 {
     match template {
         RefinementTemplate::Template0 => {

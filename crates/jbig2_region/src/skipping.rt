@@ -1,8 +1,7 @@
 //! Generic regions of which pixels are skipped (T.88, 6.2.5.7), as the planes of a gray-scale image.
 ghost use Rattle.std.specs.Prelude.{◌≡◌, ◌^◌, ◌<◌, ◌≤◌, length, false};
 ghost use Rattle.jbig2_base.specs.Grid.{blank};
-ghost use Rattle.jbig2_region.specs.Holds.{Holds};
-ghost use Rattle.jbig2_region.specs.Raster.{decoded, no_pixels};
+ghost use Rattle.jbig2_region.specs.Holds.{DecodesRegion};
 ghost use Rattle.jbig2_region.specs.Skipping.{white_if_skipped, skipping_coding, skip_of};
 ghost use Rattle.jbig2_region.specs.Templates.{context_bits, template_0, template_1, template_2, template_3, template_pixels};
 ghost use Rattle.jbig2_region.specs.declared.template.GenericTemplatePixels.TheVariants.{Regular};
@@ -176,7 +175,7 @@ fn decode_with<M: Allocator, A: Allocator, L: Ledger>(
     requires rows { bitmap.old.height ≤ 65535 }
     requires white { bitmap.old ≡ blank bitmap.old.width bitmap.old.height false }
     requires contexts { length contexts.old ≡ 2 ^ context_bits template }
-    ensures holds { Holds bitmap.old.width bitmap.old.height decoder.old.bytes (decoded (skipping_coding pixels.now (skip_of skip.entry)) bitmap.old.width bitmap.old.height decoder.old.bytes (no_pixels decoder.old.registers contexts.old)) bitmap.new decoder.new contexts.new }
+    ensures holds { DecodesRegion (skipping_coding pixels.now (skip_of skip.entry)) bitmap.old decoder.old contexts.old bitmap.new decoder.new contexts.new }
 {
     let coding = SkippingCoding {
         template,
@@ -202,7 +201,7 @@ pub fn decode_skipping<M: Allocator, A: Allocator, L: Ledger>(
     requires rows { bitmap.old.height ≤ 65535 }
     requires white { bitmap.old ≡ blank bitmap.old.width bitmap.old.height false }
     requires contexts { length contexts.old ≡ 2 ^ context_bits template }
-    ensures holds { Holds bitmap.old.width bitmap.old.height decoder.old.bytes (decoded (skipping_coding (template_pixels template (Regular adaptive.now)) (skip_of skip.entry)) bitmap.old.width bitmap.old.height decoder.old.bytes (no_pixels decoder.old.registers contexts.old)) bitmap.new decoder.new contexts.new }
+    ensures holds { DecodesRegion (skipping_coding (template_pixels template (Regular adaptive.now)) (skip_of skip.entry)) bitmap.old decoder.old contexts.old bitmap.new decoder.new contexts.new }
 {
     match template {
         Template::Template0 => decode_with(
