@@ -55,8 +55,12 @@ fn parse_pixel(reader: &mut Reader<'_>) -> Result<AdaptiveTemplatePixel>
     Ok(AdaptiveTemplatePixel { x, y })
 }
 
+/// The two adaptive pixels at the reader's place (T.88, 7.4.7.3), which may lie anywhere; at template 1
+/// nothing is read, and they are without meaning.
+///
+/// `ParseError::UnexpectedEof` where the bytes do not hold them. Takes no memory.
 #[tactic(auto, unfolding(crate::specs::RefinementHeader::refinement_pixels_at))]
-fn parse_template_pixels(
+pub fn parse_template_pixels(
     reader: &mut Reader<'_>,
     template: RefinementTemplate,
 ) -> Result<[AdaptiveTemplatePixel; 2]>

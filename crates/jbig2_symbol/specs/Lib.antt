@@ -1,0 +1,6 @@
+pub mod BitFields
+pub mod SymbolCodes
+pub mod Text
+pub mod TextCoding
+pub mod TextHeader
+pub mod TextRegion
