@@ -1,1 +1,2 @@
+pub mod SymbolLemmas
 mod WorkedTexts

@@ -13,7 +13,7 @@ use Rattle.jbig2_coder.specs.PrefixCode.{prefix_code, is_crowded, weight, shorte
 use Rattle.jbig2_coder.specs.Tables.{lines_f, lines_h, lines_k}
 use Rattle.jbig2_region.specs.Generic.{PlacedRegion}
 use Rattle.jbig2_region.specs.RegionInfo.{region_info_at}
-use Rattle.jbig2_symbol.specs.SymbolCodes.{runs_at, symbol_codes_at}
+use Rattle.jbig2_symbol.specs.SymbolCodes.{short_lengths, runs_at, symbol_codes_from}
 use Rattle.jbig2_symbol.specs.Text.{strip_delta, strip_begun, moved, instance_symbol, placed, with_instance, after_instances, text_instances, text_region}
 use Rattle.jbig2_symbol.specs.TextHeader.{text_flags_at, text_header_at}
 use Rattle.jbig2_symbol.specs.TextRegion.{text_tables, text_answer, text_decoded}
@@ -34,33 +34,33 @@ abbrev dot : PlacedRegion
 dot = record { grid = record { width = 8; height = 1; pixels = true ∷ replicate 7 false }; x_location = 0; y_location = 0; combination_operator = Or }
 
 row_11 : region true (one_row (0 ∷ 0 ∷ 0 ∷ 1 ∷ []) (0 ∷ 4 ∷ [])) ≡ Ok (dot)
-unfolding region text_header_at region_info_at text_flags_at symbol_codes_at runs_at text_decoded text_answer text_tables text_region text_instances after_instances with_instance placed instance_symbol moved strip_begun strip_delta lines_f lines_h lines_k prefix_code is_crowded weight shorter read_code decoded bits_left bits_on drawn_pixel table pixel_at
+unfolding region text_header_at region_info_at text_flags_at symbol_codes_from short_lengths runs_at text_decoded text_answer text_tables text_region text_instances after_instances with_instance placed instance_symbol moved strip_begun strip_delta lines_f lines_h lines_k prefix_code is_crowded weight shorter read_code decoded bits_left bits_on drawn_pixel table pixel_at
 row_11 = refl
 
 row_11-lenient : region false (one_row (0 ∷ 0 ∷ 0 ∷ 1 ∷ []) (0 ∷ 4 ∷ [])) ≡ Ok dot
-unfolding region text_header_at region_info_at text_flags_at symbol_codes_at runs_at text_decoded text_answer text_tables text_region text_instances after_instances with_instance placed instance_symbol moved strip_begun strip_delta lines_f lines_h lines_k prefix_code is_crowded weight shorter read_code decoded bits_left bits_on drawn_pixel table pixel_at
+unfolding region text_header_at region_info_at text_flags_at symbol_codes_from short_lengths runs_at text_decoded text_answer text_tables text_region text_instances after_instances with_instance placed instance_symbol moved strip_begun strip_delta lines_f lines_h lines_k prefix_code is_crowded weight shorter read_code decoded bits_left bits_on drawn_pixel table pixel_at
 row_11-lenient = refl
 
 row_12-strict : region true (one_row (0 ∷ 0 ∷ 0 ∷ 2 ∷ []) (0 ∷ 4 ∷ [])) ≡ Err (Parse UnexpectedEof)
-unfolding region text_header_at region_info_at text_flags_at symbol_codes_at runs_at text_decoded text_answer text_tables text_region text_instances after_instances with_instance placed instance_symbol moved strip_begun strip_delta lines_f lines_h lines_k prefix_code is_crowded weight shorter read_code decoded bits_left bits_on drawn_pixel table pixel_at
+unfolding region text_header_at region_info_at text_flags_at symbol_codes_from short_lengths runs_at text_decoded text_answer text_tables text_region text_instances after_instances with_instance placed instance_symbol moved strip_begun strip_delta lines_f lines_h lines_k prefix_code is_crowded weight shorter read_code decoded bits_left bits_on drawn_pixel table pixel_at
 row_12-strict = refl
 
 row_12-lenient : region false (one_row (0 ∷ 0 ∷ 0 ∷ 2 ∷ []) (0 ∷ 4 ∷ [])) ≡ Err (Parse UnexpectedEof)
-unfolding region text_header_at region_info_at text_flags_at symbol_codes_at runs_at text_decoded text_answer text_tables text_region text_instances after_instances with_instance placed instance_symbol moved strip_begun strip_delta lines_f lines_h lines_k prefix_code is_crowded weight shorter read_code decoded bits_left bits_on drawn_pixel table pixel_at
+unfolding region text_header_at region_info_at text_flags_at symbol_codes_from short_lengths runs_at text_decoded text_answer text_tables text_region text_instances after_instances with_instance placed instance_symbol moved strip_begun strip_delta lines_f lines_h lines_k prefix_code is_crowded weight shorter read_code decoded bits_left bits_on drawn_pixel table pixel_at
 row_12-lenient = refl
 
 row_R8_3-many : region false (one_row (0 ∷ 0 ∷ 5 ∷ 0xA1 ∷ []) (0 ∷ 4 ∷ [])) ≡ Err (Symbol TooManyInstances)
-unfolding region text_header_at region_info_at text_flags_at symbol_codes_at runs_at text_decoded text_answer text_tables text_region text_instances after_instances with_instance placed instance_symbol moved strip_begun strip_delta lines_f lines_h lines_k prefix_code is_crowded weight shorter read_code decoded bits_left bits_on drawn_pixel table pixel_at
+unfolding region text_header_at region_info_at text_flags_at symbol_codes_from short_lengths runs_at text_decoded text_answer text_tables text_region text_instances after_instances with_instance placed instance_symbol moved strip_begun strip_delta lines_f lines_h lines_k prefix_code is_crowded weight shorter read_code decoded bits_left bits_on drawn_pixel table pixel_at
 row_R8_3-many = refl
 
 row_R8_3-fewer : region true (one_row (0 ∷ 0 ∷ 5 ∷ 0xA0 ∷ []) (0 ∷ 4 ∷ [])) ≡ Err (Parse UnexpectedEof)
-unfolding region text_header_at region_info_at text_flags_at symbol_codes_at runs_at text_decoded text_answer text_tables text_region text_instances after_instances with_instance placed instance_symbol moved strip_begun strip_delta lines_f lines_h lines_k prefix_code is_crowded weight shorter read_code decoded bits_left bits_on drawn_pixel table pixel_at
+unfolding region text_header_at region_info_at text_flags_at symbol_codes_from short_lengths runs_at text_decoded text_answer text_tables text_region text_instances after_instances with_instance placed instance_symbol moved strip_begun strip_delta lines_f lines_h lines_k prefix_code is_crowded weight shorter read_code decoded bits_left bits_on drawn_pixel table pixel_at
 row_R8_3-fewer = refl
 
 row_R8_4-strict : region true (one_row (0 ∷ 0 ∷ 0 ∷ 1 ∷ []) (0 ∷ 0 ∷ [])) ≡ Err (Symbol TooManyInstances)
-unfolding region text_header_at region_info_at text_flags_at symbol_codes_at runs_at text_decoded text_answer text_tables text_region text_instances after_instances with_instance placed instance_symbol moved strip_begun strip_delta lines_f lines_h lines_k prefix_code is_crowded weight shorter read_code decoded bits_left bits_on drawn_pixel table pixel_at
+unfolding region text_header_at region_info_at text_flags_at symbol_codes_from short_lengths runs_at text_decoded text_answer text_tables text_region text_instances after_instances with_instance placed instance_symbol moved strip_begun strip_delta lines_f lines_h lines_k prefix_code is_crowded weight shorter read_code decoded bits_left bits_on drawn_pixel table pixel_at
 row_R8_4-strict = refl
 
 row_R8_4-lenient : region false (one_row (0 ∷ 0 ∷ 0 ∷ 1 ∷ []) (0 ∷ 0 ∷ [])) ≡ Ok dot
-unfolding region text_header_at region_info_at text_flags_at symbol_codes_at runs_at text_decoded text_answer text_tables text_region text_instances after_instances with_instance placed instance_symbol moved strip_begun strip_delta lines_f lines_h lines_k prefix_code is_crowded weight shorter read_code decoded bits_left bits_on drawn_pixel table pixel_at
+unfolding region text_header_at region_info_at text_flags_at symbol_codes_from short_lengths runs_at text_decoded text_answer text_tables text_region text_instances after_instances with_instance placed instance_symbol moved strip_begun strip_delta lines_f lines_h lines_k prefix_code is_crowded weight shorter read_code decoded bits_left bits_on drawn_pixel table pixel_at
 row_R8_4-lenient = refl

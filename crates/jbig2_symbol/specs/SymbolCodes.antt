@@ -15,12 +15,16 @@ lines_from n [] = []
 lines_from n (len ∷ lens) = line len 0 (pos n) ∷ lines_from (n + 1) lens
 
 -- `count` lengths of four bits each, behind those so far
-abbrev pub short_lengths : ℕ → List ℕ → Place → Result (List ℕ × Place) DecodeError
+unfoldable pub short_lengths : ℕ → List ℕ → Place → Result (List ℕ × Place) DecodeError
 short_lengths zero so_far p = Ok (so_far, p)
 short_lengths (suc count) so_far p = bits_at invalid_code 4 p >>= λ len. short_lengths count (so_far ++ len.0 ∷ []) len.1
 
 abbrev pub last_length : List ℕ → Result ℕ DecodeError
 last_length lens = some_or invalid_code (slice_get lens (length lens - 1))
+
+-- with the last length so many times more
+abbrev pub repeated : List ℕ → ℕ → Result (List ℕ) DecodeError
+repeated so_far count = last_length so_far >>= λ len. Ok (so_far ++ replicate count len)
 
 -- The lengths that a runcode stands for, behind those so far: itself, or the last length 3 to 6 times, or 3 to 10
 -- or 11 to 138 lengths of zero.
@@ -28,7 +32,7 @@ abbrev pub run_at : ℤ → List ℕ → Place → Result (List ℕ × Place) De
 run_at (negsuc n) so_far p = Err invalid_code
 run_at (pos code) so_far p =
     if nat_lt code 32 then Ok (so_far ++ code ∷ [], p)
-    else if code == 32 then (bits_at invalid_code 2 p >>= λ n. last_length so_far >>= λ len. Ok (so_far ++ replicate (n.0 + 3) len, n.1))
+    else if code == 32 then (bits_at invalid_code 2 p >>= λ n. repeated so_far (n.0 + 3) >>= λ lens. Ok (lens, n.1))
     else if code == 33 then (bits_at invalid_code 3 p >>= λ n. Ok (so_far ++ replicate (n.0 + 3) 0, n.1))
     else (bits_at invalid_code 7 p >>= λ n. Ok (so_far ++ replicate (n.0 + 11) 0, n.1))
 
@@ -42,12 +46,15 @@ runs_at (suc most) count runcodes so_far p =
     if nat_lt (length so_far) count then (next_run runcodes so_far p >>= λ more. runs_at most count runcodes more.0 more.1)
     else Ok (so_far, p)
 
--- The codes of `count` symbols, and the bytes behind them.
-unfoldable pub symbol_codes_at : ℕ → List ℕ → Result (List Member × List ℕ) DecodeError
-symbol_codes_at count bytes = do
-  short ← short_lengths 35 [] (start_of bytes)
+-- The codes of `count` symbols, and the whole byte behind them.
+unfoldable pub symbol_codes_from : ℕ → Place → Result (List Member × Place) DecodeError
+symbol_codes_from count p = do
+  short ← short_lengths 35 [] p
   runcodes ← table_of (lines_from 0 short.0)
   lens ← runs_at count count runcodes [] short.1
   fit ← refuse_if (nat_lt count (length lens.0)) invalid_code
   codes ← table_of (lines_from 0 lens.0)
-  Ok (codes, (aligned lens.1).bytes)
+  Ok (codes, aligned lens.1)
+
+abbrev pub symbol_codes_at : ℕ → List ℕ → Result (List Member × List ℕ) DecodeError
+symbol_codes_at count bytes = symbol_codes_from count (start_of bytes) >>= λ codes. Ok (codes.0, codes.1.bytes)

@@ -2,3 +2,6 @@
 
 pub mod cursor;
 pub mod header;
+mod symbol_codes;
+
+pub use header::parse;
