@@ -1,2 +1,3 @@
+pub mod RefiningLemmas
 pub mod SymbolLemmas
 mod WorkedTexts

@@ -4,3 +4,4 @@ pub mod Text
 pub mod TextCoding
 pub mod TextHeader
 pub mod TextRegion
+pub mod TextViews

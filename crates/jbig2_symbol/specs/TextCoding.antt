@@ -52,10 +52,14 @@ integer_by c contexts = integer c.bytes c.registers contexts
 abbrev pub coder_behind : Coder → Registers → Coder
 coder_behind c registers = record c { registers = registers }
 
--- a number that may not be out of band, and the state behind it
-abbrev pub in_band : Option ℤ → Coded → Result (ℤ × Coded) DecodeError
-in_band (Some n) s = Ok (n, s)
-in_band None s = Err (Symbol UnexpectedOob)
+-- a number that may not be out of band
+abbrev pub in_band : Option ℤ → Result ℤ DecodeError
+in_band (Some n) = Ok n
+in_band None = Err (Symbol UnexpectedOob)
+
+-- the same, and the state behind it
+abbrev pub band_at : Option ℤ → Coded → Result (ℤ × Coded) DecodeError
+band_at number s = in_band number >>= λ n. Ok (n, s)
 
 -- the low eight bits of a flag count (our own rule)
 abbrev pub is_flag : ℤ → Bool
@@ -74,7 +78,7 @@ coded_id s =
 abbrev pub coded_flag : Coded → Result (ℤ × Coded) DecodeError
 coded_flag s =
     let i = integer_by s.coder s.iari in
-    in_band i.value (record s { coder = coder_behind s.coder i.reading.registers; iari = i.reading.contexts })
+    band_at i.value (record s { coder = coder_behind s.coder i.reading.registers; iari = i.reading.contexts })
 
 abbrev pub coded_refined : Reference → ℕ → ℕ → Coded → Grid × Coded
 coded_refined from width height s =
@@ -83,17 +87,17 @@ coded_refined from width height s =
 
 abbrev pub by_coder : Readings Coded
 by_coder = record {
-  delta_t = λ s. let i = integer_by s.coder s.iadt in in_band i.value (record s { coder = coder_behind s.coder i.reading.registers; iadt = i.reading.contexts });
-  first_s = λ s. let i = integer_by s.coder s.iafs in in_band i.value (record s { coder = coder_behind s.coder i.reading.registers; iafs = i.reading.contexts });
+  delta_t = λ s. let i = integer_by s.coder s.iadt in band_at i.value (record s { coder = coder_behind s.coder i.reading.registers; iadt = i.reading.contexts });
+  first_s = λ s. let i = integer_by s.coder s.iafs in band_at i.value (record s { coder = coder_behind s.coder i.reading.registers; iafs = i.reading.contexts });
   delta_s = λ s. Ok (integer_by s.coder s.iads).value;
   behind_delta_s = coded_delta_s;
-  t_bits = λ _ s. let i = integer_by s.coder s.iait in in_band i.value (record s { coder = coder_behind s.coder i.reading.registers; iait = i.reading.contexts });
+  t_bits = λ _ s. let i = integer_by s.coder s.iait in band_at i.value (record s { coder = coder_behind s.coder i.reading.registers; iait = i.reading.contexts });
   id = λ s. Ok (pos (number (id s.coder.bytes s.coder.registers s.iaid).bits), coded_id s);
   is_refined = λ s. coded_flag s >>= λ flag. Ok (is_flag flag.0, flag.1);
-  width_delta = λ s. let i = integer_by s.coder s.iardw in in_band i.value (record s { coder = coder_behind s.coder i.reading.registers; iardw = i.reading.contexts });
-  height_delta = λ s. let i = integer_by s.coder s.iardh in in_band i.value (record s { coder = coder_behind s.coder i.reading.registers; iardh = i.reading.contexts });
-  x_delta = λ s. let i = integer_by s.coder s.iardx in in_band i.value (record s { coder = coder_behind s.coder i.reading.registers; iardx = i.reading.contexts });
-  y_delta = λ s. let i = integer_by s.coder s.iardy in in_band i.value (record s { coder = coder_behind s.coder i.reading.registers; iardy = i.reading.contexts });
+  width_delta = λ s. let i = integer_by s.coder s.iardw in band_at i.value (record s { coder = coder_behind s.coder i.reading.registers; iardw = i.reading.contexts });
+  height_delta = λ s. let i = integer_by s.coder s.iardh in band_at i.value (record s { coder = coder_behind s.coder i.reading.registers; iardh = i.reading.contexts });
+  x_delta = λ s. let i = integer_by s.coder s.iardx in band_at i.value (record s { coder = coder_behind s.coder i.reading.registers; iardx = i.reading.contexts });
+  y_delta = λ s. let i = integer_by s.coder s.iardy in band_at i.value (record s { coder = coder_behind s.coder i.reading.registers; iardy = i.reading.contexts });
   refined = λ from width height s. Ok (coded_refined from width height s);
 }
 
@@ -122,15 +126,15 @@ prefixed_value table s = value_at table s.place >>= λ n. Ok (n.0, record s { pl
 abbrev pub prefixed_bits : DecodeError → ℕ → Prefixed → Result (ℕ × Prefixed) DecodeError
 prefixed_bits e count s = bits_at e count s.place >>= λ n. Ok (n.0, record s { place = n.1 })
 
--- so many bytes from the next whole one on
-abbrev pub sized_bytes : ℤ → Place → Result (List ℕ × List ℕ) DecodeError
-sized_bytes (pos size) p = bytes_at size (aligned p).bytes
+-- so many bytes from the next whole one on, and the place behind them
+abbrev pub sized_bytes : ℤ → Place → Result (List ℕ × Place) DecodeError
+sized_bytes (pos size) p = bytes_at size (aligned p).bytes >>= λ coded. Ok (coded.0, start_of coded.1)
 sized_bytes (negsuc size) p = Err end_of_bytes
 
-abbrev pub refined_there : Reference → ℕ → ℕ → Prefixed → List ℕ → List ℕ → Grid × Prefixed
-refined_there from width height s bytes rest =
+abbrev pub refined_there : Reference → ℕ → ℕ → Prefixed → List ℕ → Place → Grid × Prefixed
+refined_there from width height s bytes behind =
     let region = refined_by s.refining from width height bytes (started bytes) in
-    (so_far width height region.pixels, record s { place = start_of rest; refining = record s.refining { contexts = region.contexts } })
+    (so_far width height region.pixels, record s { place = behind; refining = record s.refining { contexts = region.contexts } })
 
 -- A refined symbol has bytes of its own, and a coder that begins there; the contexts go on.
 abbrev pub prefixed_refined : Reference → ℕ → ℕ → Prefixed → Result (Grid × Prefixed) DecodeError

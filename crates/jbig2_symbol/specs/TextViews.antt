@@ -1,0 +1,47 @@
+-- States of the code's readings, seen as states of the definitions.
+use Rattle.std.specs.Prelude.{List, map}
+use Rattle.std.specs.Borrow.{Bor}
+use Rattle.jbig2_base.specs.Grid.{Grid}
+use Rattle.jbig2_coder.specs.PrefixCode.{Member}
+use Rattle.jbig2_symbol.specs.TextCoding.{Coded, Prefixed, TextTables}
+use Rattle.jbig2_symbol.specs.declared.text.coded.CodedReadings.{CodedReadings}
+use Rattle.jbig2_symbol.specs.declared.text.prefixed.PrefixedReadings.{PrefixedReadings}
+use Rattle.jbig2_symbol.specs.declared.text.tables.TextRegionHuffmanTables.{TextRegionHuffmanTables}
+
+abbrev pub coded_view : {A : Type 0} → CodedReadings A → Coded
+coded_view r = record {
+  coder = r.decoder;
+  iadt = r.iadt;
+  iafs = r.iafs;
+  iads = r.iads;
+  iait = r.iait;
+  iaid = r.iaid;
+  iari = r.iari;
+  iardw = r.iardw;
+  iardh = r.iardh;
+  iardx = r.iardx;
+  iardy = r.iardy;
+  refining = r.refining;
+}
+
+abbrev pub tables_view : {T : Type 0} → TextRegionHuffmanTables T → TextTables
+tables_view t = record {
+  first_s = t.first_s.now;
+  delta_s = t.delta_s.now;
+  delta_t = t.delta_t.now;
+  refinement_width = t.refinement_width.now;
+  refinement_height = t.refinement_height.now;
+  refinement_x = t.refinement_x.now;
+  refinement_y = t.refinement_y.now;
+  refinement_size = t.refinement_size.now;
+}
+
+abbrev pub prefixed_view : {T I A : Type 0} → PrefixedReadings T I A → Prefixed
+prefixed_view r = record { place = r.reader; tables = tables_view r.tables; ids = r.ids.now; refining = r.refining }
+
+-- what each reference of a list refers to
+abbrev pub customs_view : List (Bor (List Member)) → List (List Member)
+customs_view customs = map (λ table. table.now) customs
+
+abbrev pub symbols_view : List (Bor Grid) → List Grid
+symbols_view symbols = map (λ symbol. symbol.now) symbols
