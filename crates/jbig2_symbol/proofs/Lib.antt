@@ -1,3 +1,4 @@
+pub mod InstanceLemmas
 pub mod RefiningLemmas
 pub mod SymbolLemmas
 mod WorkedTexts

@@ -1,6 +1,6 @@
 -- Text regions (T.88, 6.4): instances of symbols, whose numbers are read one behind the other; then the instances are
 -- drawn. Every coordinate is a signed number of 32 bits, else it is refused (our own rule).
-use Rattle.std.specs.Prelude.{ℕ, zero, suc, ◌*◌, ◌^◌, nat_le, nat_lt, ◌==◌, Bool, true, false, ◌||◌, if◌then◌else◌, ℤ, pos, negsuc, ◌+ℤ◌, ◌-ℤ◌, ◌*ℤ◌, List, [], ◌∷◌, ◌++◌, slice_get, Option, Some, None, Result, Ok, Err}
+use Rattle.std.specs.Prelude.{ℕ, zero, suc, ◌-◌, ◌*◌, ◌^◌, nat_le, nat_lt, ◌==◌, Bool, true, false, ◌||◌, if◌then◌else◌, ℤ, pos, negsuc, ◌+ℤ◌, ◌-ℤ◌, ◌*ℤ◌, List, [], ◌∷◌, ◌++◌, slice_get, Option, Some, None, Result, Ok, Err}
 use Rattle.std.specs.Int.{int_shr}
 use Rattle.jbig2_base.specs.Answer.{◌>>=◌, refuse_if}
 use Rattle.jbig2_base.specs.Combination.{combined}
@@ -52,6 +52,9 @@ pub record Reached (S : Type 0) : Type 0 where
   pub instances : List Instance
   pub cursor : Cursor
   pub state : S
+
+abbrev pub reached : {S : Type 0} → List Instance → Cursor → S → Reached S
+reached found c s = record { instances = found; cursor = c; state = s }
 
 -- ---- numbers of 32 bits
 -- a number in signed 32 bits, or the error
@@ -159,12 +162,19 @@ is_bottom _ = false
 abbrev pub behind_first : ℕ → ℤ
 behind_first side = pos side -ℤ pos 1
 
--- S goes on by the symbol's extent: before it is placed where its corner is the last one along S, else afterwards
+abbrev pub is_last_along_s : TextRegionFlags → Bool
+is_last_along_s flags = if flags.transposed then is_bottom flags.reference_corner else is_right flags.reference_corner
+
+-- S at the other end of a symbol
 abbrev pub grown : TextRegionFlags → Grid → ℤ → Result ℤ DecodeError
 grown flags g s = coordinate (s +ℤ behind_first (if flags.transposed then g.height else g.width))
 
-abbrev pub is_last_along_s : TextRegionFlags → Bool
-is_last_along_s flags = if flags.transposed then is_bottom flags.reference_corner else is_right flags.reference_corner
+-- S goes on by the symbol's extent: before it is placed where its corner is the last one along S, else afterwards
+abbrev pub s_before : TextRegionFlags → Grid → ℤ → Result ℤ DecodeError
+s_before flags g s = if is_last_along_s flags then grown flags g s else Ok s
+
+abbrev pub s_behind : TextRegionFlags → Grid → ℤ → Result ℤ DecodeError
+s_behind flags g s = if is_last_along_s flags then Ok s else grown flags g s
 
 -- the first column (or row), where the corner at this one may be at the last
 abbrev pub edge : Bool → ℕ → ℤ → Result ℤ DecodeError
@@ -173,17 +183,17 @@ edge at_last side place = if at_last then coordinate (place -ℤ behind_first si
 -- a symbol at S and T, and S behind it
 unfoldable pub placed : TextRegionFlags → Grid → ℤ → ℤ → Result (Instance × ℤ) DecodeError
 placed flags g s t = do
-  start ← (if is_last_along_s flags then grown flags g s else Ok s)
+  start ← s_before flags g s
   x ← edge (is_right flags.reference_corner) g.width (if flags.transposed then t else start)
   y ← edge (is_bottom flags.reference_corner) g.height (if flags.transposed then start else t)
-  next ← (if is_last_along_s flags then Ok start else grown flags g start)
+  next ← s_behind flags g start
   Ok (record { grid = g; x = x; y = y }, next)
 
 -- ---- instances
 -- an instance whose id has no symbol moves nothing
-abbrev pub with_symbol : {S : Type 0} → TextRegionFlags → List Instance → Cursor → ℤ → Option Grid → S → Result (Reached S) DecodeError
-with_symbol flags before c t None s = Ok (record { instances = before; cursor = c; state = s })
-with_symbol flags before c t (Some g) s = placed flags g c.s t >>= λ i. Ok (record { instances = before ++ i.0 ∷ []; cursor = record c { s = i.1 }; state = s })
+abbrev pub with_symbol : TextRegionFlags → List Instance → Cursor → ℤ → Option Grid → Result (List Instance × Cursor) DecodeError
+with_symbol flags before c t None = Ok (before, c)
+with_symbol flags before c t (Some g) = placed flags g c.s t >>= λ i. Ok (before ++ i.0 ∷ [], record c { s = i.1 })
 
 -- one instance more
 unfoldable pub with_instance : {S : Type 0} → Readings S → TextParams → Reached S → Result (Reached S) DecodeError
@@ -192,11 +202,12 @@ with_instance r p x = do
   place ← coordinate (x.cursor.strip_t +ℤ t.0)
   id ← r.id t.1
   symbol ← instance_symbol r p id.0 id.1
-  with_symbol p.flags x.instances x.cursor place symbol.0 symbol.1
+  more ← with_symbol p.flags x.instances x.cursor place symbol.0
+  Ok (reached more.0 more.1 symbol.1)
 
 -- one more, and where the one behind it stands
 abbrev pub with_next : {S : Type 0} → Readings S → TextParams → Reached S → Result (Reached S) DecodeError
-with_next r p x = with_instance r p x >>= λ y. moved r p.flags y.cursor y.state >>= λ c. Ok (record y { cursor = c.0; state = c.1 })
+with_next r p x = with_instance r p x >>= λ y. moved r p.flags y.cursor y.state >>= λ c. Ok (reached y.instances c.0 c.1)
 
 -- so many more, with others behind them
 unfoldable pub after_instances : {S : Type 0} → Readings S → TextParams → ℕ → Reached S → Result (Reached S) DecodeError
@@ -218,12 +229,14 @@ with_last r p x = do
   Ok (last.instances, r.behind_delta_s last.state)
 
 -- the instances of all strips, the first strip beginning below this T; none take no strip
-abbrev pub strips : {S : Type 0} → Readings S → TextParams → ℕ → ℤ → S → Result (List Instance × S) DecodeError
-strips r p zero t s = Ok ([], s)
-strips r p (suc others) t s = do
+abbrev pub some_strips : {S : Type 0} → Readings S → TextParams → ℤ → S → Result (List Instance × S) DecodeError
+some_strips r p t s = do
   c ← strip_begun r p.flags t (pos 0) s
-  x ← after_instances r p others (record { instances = []; cursor = c.0; state = c.1 })
+  x ← after_instances r p (p.count - 1) (reached [] c.0 c.1)
   with_last r p x
+
+abbrev pub strips : {S : Type 0} → Readings S → TextParams → ℤ → S → Result (List Instance × S) DecodeError
+strips r p t s = if p.count == 0 then Ok ([], s) else some_strips r p t s
 
 -- All instances, and the state of the coder behind them. More than 32 for each byte of the segment are refused (our
 -- own rule).
@@ -232,7 +245,7 @@ text_instances r p s = do
   few ← refuse_if (nat_lt (32 * p.data_length) p.count) (Symbol TooManyInstances)
   delta ← strip_delta r p.flags s
   t ← coordinate (pos 0 -ℤ delta.0)
-  strips r p p.count t delta.1
+  strips r p t delta.1
 
 -- The instances drawn onto a region, the first one first.
 abbrev pub drawn : CombinationOperator → List Instance → Grid → Grid

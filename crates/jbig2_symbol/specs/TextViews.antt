@@ -3,9 +3,14 @@ use Rattle.std.specs.Prelude.{List, map}
 use Rattle.std.specs.Borrow.{Bor}
 use Rattle.jbig2_base.specs.Grid.{Grid}
 use Rattle.jbig2_coder.specs.PrefixCode.{Member}
+use Rattle.jbig2_symbol.specs.Text.{Instance, TextParams as Params}
 use Rattle.jbig2_symbol.specs.TextCoding.{Coded, Prefixed, TextTables}
 use Rattle.jbig2_symbol.specs.declared.text.coded.CodedReadings.{CodedReadings}
+use Rattle.jbig2_symbol.specs.declared.text.placement.Instance.{Instance as PlacedSymbol}
 use Rattle.jbig2_symbol.specs.declared.text.prefixed.PrefixedReadings.{PrefixedReadings}
+use Rattle.jbig2_symbol.specs.declared.text.symbols.InstanceSymbol.{InstanceSymbol}
+use Rattle.jbig2_symbol.specs.declared.text.symbols.InstanceSymbol.TheVariants.{Shared, Refined}
+use Rattle.jbig2_symbol.specs.declared.text.symbols.TextParams.{TextParams}
 use Rattle.jbig2_symbol.specs.declared.text.tables.TextRegionHuffmanTables.{TextRegionHuffmanTables}
 
 abbrev pub coded_view : {A : Type 0} → CodedReadings A → Coded
@@ -45,3 +50,16 @@ customs_view customs = map (λ table. table.now) customs
 
 abbrev pub symbols_view : List (Bor Grid) → List Grid
 symbols_view symbols = map (λ symbol. symbol.now) symbols
+
+abbrev pub params_view : {B : Type 0} → TextParams B → Params
+params_view p = record { flags = p.flags; symbols = symbols_view p.symbols.now; count = p.num_instances; data_length = p.data_len; strict = p.strict }
+
+abbrev pub symbol_view : {B M : Type 0} → InstanceSymbol B M → Grid
+symbol_view (Shared bitmap) = bitmap.now
+symbol_view (Refined bitmap) = bitmap
+
+abbrev pub instance_view : {B M : Type 0} → PlacedSymbol B M → Instance
+instance_view i = record { grid = symbol_view i.symbol; x = i.x; y = i.y }
+
+abbrev pub instances_view : {B M : Type 0} → List (PlacedSymbol B M) → List Instance
+instances_view instances = map (λ i. instance_view i) instances
