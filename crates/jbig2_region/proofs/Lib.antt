@@ -11,7 +11,7 @@ pub mod StepLemmas
 pub mod StoreLemmas
 mod T6Bits
 mod T6Decoding
-mod T6Rows
+pub mod T6Rows
 mod T6Runs
 mod T6Spans
 mod T6Tables

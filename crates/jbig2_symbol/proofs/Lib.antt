@@ -1,3 +1,4 @@
+pub mod CodeLength
 pub mod InstanceLemmas
 pub mod RefiningLemmas
 pub mod SymbolLemmas

@@ -1,5 +1,5 @@
 //! Headers of text regions (T.88, 7.4.3.1).
-ghost use Rattle.std.specs.Prelude.{◌≡◌, ◌≤◌, ◌%◌, ◌^◌, OnErr, OnOk};
+ghost use Rattle.std.specs.Prelude.{◌≡◌, ◌≤◌, ◌%◌, ◌^◌, IfOk, OnErr, OnOk};
 ghost use Rattle.jbig2_base.specs.Answer.{Answers, Gives};
 ghost use Rattle.jbig2_base.specs.Bits.{IsAligned};
 ghost use Rattle.jbig2_symbol.specs.TextHeader.{header_view, corner_of, signed_5, text_flags_at, table_numbers, table_numbers_at, codes_at, text_pixels_at, text_header_at};
@@ -106,6 +106,7 @@ fn parse_flags(reader: &mut Reader<'_>) -> Result<TextRegionFlags>
     requires { IsAligned reader.old }
     ensures value { Answers (λ flags. (flags, reader.new.bytes)) result (text_flags_at reader.old.bytes) }
     ensures aligned { IsAligned reader.new }
+    ensures strips { IfOk result (λ flags. flags.log_strip_size ≤ 3) }
 {
     let flags = u16_field(reader)?;
     let combination_operator = CombinationOperator::from_value((flags / 128 % 4) as u8)?;
@@ -205,6 +206,7 @@ pub fn parse<'a, A: Allocator + Clone>(
     requires few { num_symbols ≤ 2 ^ 21 }
     ensures value { Gives (λ h. (header_view h, reader.new.bytes)) result (text_header_at num_symbols strict reader.old.bytes) }
     ensures aligned { IsAligned reader.new }
+    ensures strips { IfOk result (λ h. h.flags.log_strip_size ≤ 3) }
     ensures stays { OnErr result (reader.new ≡ reader.old) }
 {
     let mut ahead = reader.duplicate();
