@@ -64,16 +64,20 @@ adaptive_pixels_at (suc count) bytes = do
   Ok (first.0 ∷ others.0, others.1)
 
 -- with a first pixel alone, the other three are without meaning
-abbrev pub one_pixel : AdaptiveTemplatePixel → GenericTemplatePixels
-one_pixel first = Regular (first ∷ right 0 0 ∷ right 0 0 ∷ right 0 0 ∷ [])
+abbrev pub first_alone : AdaptiveTemplatePixel → List AdaptiveTemplatePixel
+first_alone first = first ∷ right 0 0 ∷ right 0 0 ∷ right 0 0 ∷ []
+
+-- those of a template that is not extended: four at template 0, else one
+unfoldable pub regular_pixels_at : Template → List ℕ → Result (List AdaptiveTemplatePixel × List ℕ) DecodeError
+regular_pixels_at Template0 bytes = adaptive_pixels_at 4 bytes
+regular_pixels_at _ bytes = adaptive_pixel_at bytes >>= λ a. Ok (first_alone a.0, a.1)
 
 -- The adaptive pixels of a region (7.4.6.3), by whether it is coded with MMR, whether the extended template is
--- asked for, and the template: none with MMR, at template 0 twelve or four, else one.
+-- asked for, and the template: none with MMR, and twelve with the extended template 0.
 unfoldable pub template_pixels_at : Bool → Bool → Template → List ℕ → Result (GenericTemplatePixels × List ℕ) DecodeError
-template_pixels_at true _ _ bytes = Ok (one_pixel (right 0 0), bytes)
+template_pixels_at true _ _ bytes = Ok (Regular (first_alone (right 0 0)), bytes)
 template_pixels_at false true Template0 bytes = adaptive_pixels_at 12 bytes >>= λ a. Ok (Extended a.0, a.1)
-template_pixels_at false false Template0 bytes = adaptive_pixels_at 4 bytes >>= λ a. Ok (Regular a.0, a.1)
-template_pixels_at false _ _ bytes = adaptive_pixel_at bytes >>= λ a. Ok (one_pixel a.0, a.1)
+template_pixels_at false _ template bytes = regular_pixels_at template bytes >>= λ a. Ok (Regular a.0, a.1)
 
 -- The height and the coded bytes. Where the segment's length is unknown its last four bytes are the number of
 -- rows, which the stated height must not fall short of (7.4.6.4).

@@ -5,7 +5,7 @@ ghost use Rattle.jbig2_base.specs.Bits.{IsAligned};
 ghost use Rattle.jbig2_base.specs.Grid.{blank};
 ghost use Rattle.jbig2_region.specs.Generic.{contexts_after, generic_answer, generic_decoded, region_view};
 ghost use Rattle.jbig2_region.specs.Layouts.{CountsGeneric};
-ghost use Rattle.jbig2_region.specs.GenericHeader.{header_view, is_earlier, one_pixel, signed_byte_at, adaptive_pixel_at, adaptive_pixels_at, template_pixels_at, rows_at, generic_header_at, FitsTemplate, IsParsed};
+ghost use Rattle.jbig2_region.specs.GenericHeader.{header_view, is_earlier, first_alone, signed_byte_at, adaptive_pixel_at, adaptive_pixels_at, regular_pixels_at, template_pixels_at, rows_at, generic_header_at, FitsTemplate, IsParsed};
 
 use crate::generic_coding::decode_coded;
 use crate::mmr;
@@ -90,11 +90,32 @@ fn parse_twelve(reader: &mut Reader<'_>) -> Result<[AdaptiveTemplatePixel; 12]>
     Ok([a1, a2, a3, a4, a5, a6, a7, a8, a9, a10, a11, a12])
 }
 
-fn one_pixel(first: AdaptiveTemplatePixel) -> GenericTemplatePixels
-    ensures { result ≡ one_pixel first }
+/// With a first pixel alone, the other three are without meaning.
+fn first_alone(first: AdaptiveTemplatePixel) -> [AdaptiveTemplatePixel; 4]
+    ensures { result ≡ first_alone first }
 {
     let unused = AdaptiveTemplatePixel { x: 0, y: 0 };
-    GenericTemplatePixels::Regular([first, unused, unused, unused])
+    [first, unused, unused, unused]
+}
+
+/// The adaptive pixels of a template that is not extended, at the reader's place (T.88, 7.4.6.3).
+/// Templates 1 to 3 have the first alone, and the other three are then without meaning.
+///
+/// `ParseError::UnexpectedEof` where the bytes do not hold them; `TemplateError::InvalidAtPixel` where
+/// one does not come before the pixel that is decoded. Takes no memory.
+#[tactic(auto, unfolding(crate::specs::GenericHeader::regular_pixels_at))]
+pub fn parse_adaptive_template_pixels(
+    reader: &mut Reader<'_>,
+    template: Template,
+) -> Result<[AdaptiveTemplatePixel; 4]>
+    requires { IsAligned reader.old }
+    ensures value { Answers (λ pixels. (pixels, reader.new.bytes)) result (regular_pixels_at template reader.old.bytes) }
+    ensures aligned { IsAligned reader.new }
+{
+    match template {
+        Template::Template0 => parse_four(reader),
+        _ => Ok(first_alone(parse_adaptive_template_pixel(reader)?)),
+    }
 }
 
 #[tactic(auto, unfolding(crate::specs::GenericHeader::template_pixels_at))]
@@ -110,17 +131,13 @@ fn parse_template_pixels(
     ensures fits { IfOk result (λ pixels. FitsTemplate pixels template) }
 {
     if mmr {
-        return Ok(one_pixel(AdaptiveTemplatePixel { x: 0, y: 0 }));
+        let unused = AdaptiveTemplatePixel { x: 0, y: 0 };
+        return Ok(GenericTemplatePixels::Regular(first_alone(unused)));
     }
-    match template {
-        Template::Template0 => {
-            if extended {
-                return Ok(GenericTemplatePixels::Extended(parse_twelve(reader)?));
-            }
-            Ok(GenericTemplatePixels::Regular(parse_four(reader)?))
-        }
-        _ => Ok(one_pixel(parse_adaptive_template_pixel(reader)?)),
+    if extended && template == Template::Template0 {
+        return Ok(GenericTemplatePixels::Extended(parse_twelve(reader)?));
     }
+    Ok(GenericTemplatePixels::Regular(parse_adaptive_template_pixels(reader, template)?))
 }
 
 /// The number of rows, which may replace `height`, and the coded bytes.
