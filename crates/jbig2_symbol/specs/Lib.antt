@@ -1,5 +1,6 @@
 pub mod BitFields
 pub mod SymbolCodes
+pub mod SymbolHeader
 pub mod Text
 pub mod TextCoding
 pub mod TextHeader

@@ -2,4 +2,5 @@
 #![tactic(auto)]
 
 mod bit_fields;
+pub mod symbol;
 pub mod text;

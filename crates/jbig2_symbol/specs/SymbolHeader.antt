@@ -1,0 +1,104 @@
+-- The data of a symbol dictionary segment up to its coded bytes (T.88, 7.4.2.1).
+use Rattle.std.specs.Prelude.{ℕ, ◌/◌, ◌%◌, ◌==◌, nat_lt, Bool, ◌||◌, List, [], ◌∷◌, Result, Ok, Err, if◌then◌else◌}
+use Rattle.std.specs.Int.{w16, w32}
+use Rattle.jbig2_base.specs.Answer.{◌>>=◌, refuse_if}
+use Rattle.jbig2_base.specs.Fields.{number_at}
+use Rattle.jbig2_base.specs.declared.error.DecodeError.{DecodeError}
+use Rattle.jbig2_base.specs.declared.error.DecodeError.TheVariants.{Huffman, Overflow}
+use Rattle.jbig2_base.specs.declared.error.HuffmanError.TheVariants.{InvalidSelection}
+use Rattle.jbig2_base.specs.declared.error.OverflowError.TheVariants.{SymbolCount}
+use Rattle.jbig2_region.specs.GenericHeader.{regular_pixels_at}
+use Rattle.jbig2_region.specs.RefinementHeader.{refinement_pixels_at, refinement_template_of}
+use Rattle.jbig2_region.specs.Templates.{template_of, right}
+use Rattle.jbig2_region.specs.declared.template.AdaptiveTemplatePixel.{AdaptiveTemplatePixel}
+use Rattle.jbig2_symbol.specs.declared.symbol.header.HuffmanTableSelection.{HuffmanTableSelection}
+use Rattle.jbig2_symbol.specs.declared.symbol.header.HuffmanTableSelection.TheVariants.{TableB1, TableB2, TableB3, TableB4, TableB5, UserSupplied}
+use Rattle.jbig2_symbol.specs.declared.symbol.header.SymbolDictionaryFlags.{SymbolDictionaryFlags}
+use Rattle.jbig2_symbol.specs.declared.symbol.header.SymbolDictionaryHeader.{SymbolDictionaryHeader}
+
+-- What a dictionary's coded bytes are decoded by.
+pub record SymbolHeader : Type 0 where
+  pub flags : SymbolDictionaryFlags
+  pub adaptive_template_pixels : List AdaptiveTemplatePixel
+  pub refinement_at_pixels : List AdaptiveTemplatePixel
+  pub num_exported_symbols : ℕ
+  pub num_new_symbols : ℕ
+  pub bytes : List ℕ
+  pub strict : Bool
+
+abbrev pub header_view : SymbolDictionaryHeader → SymbolHeader
+header_view h = record {
+  flags = h.flags;
+  adaptive_template_pixels = h.adaptive_template_pixels;
+  refinement_at_pixels = h.refinement_at_pixels;
+  num_exported_symbols = h.num_exported_symbols;
+  num_new_symbols = h.num_new_symbols;
+  bytes = h.bytes.now;
+  strict = h.strict;
+}
+
+-- the tables that two bits of the flags name (SDHUFFDH and SDHUFFDW; 7.4.2.1.6)
+abbrev pub height_selection_of : ℕ → Result HuffmanTableSelection DecodeError
+height_selection_of n =
+    if n == 0 then Ok TableB4 else if n == 1 then Ok TableB5 else if n == 3 then Ok UserSupplied else Err (Huffman InvalidSelection)
+
+abbrev pub width_selection_of : ℕ → Result HuffmanTableSelection DecodeError
+width_selection_of n =
+    if n == 0 then Ok TableB2 else if n == 1 then Ok TableB3 else if n == 3 then Ok UserSupplied else Err (Huffman InvalidSelection)
+
+-- and one bit (SDHUFFBMSIZE and SDHUFFAGGINST)
+abbrev pub other_selection_of : Bool → HuffmanTableSelection
+other_selection_of user_supplied = if user_supplied then UserSupplied else TableB1
+
+-- the flags (7.4.2.1.1); the tables are judged without prefix codes too (our own rule)
+unfoldable pub symbol_flags_of : ℕ → Result SymbolDictionaryFlags DecodeError
+symbol_flags_of flags = do
+  heights ← height_selection_of (flags / 4 % 4)
+  widths ← width_selection_of (flags / 16 % 4)
+  Ok (record {
+    use_huffman = flags % 2 == 1;
+    use_refagg = flags / 2 % 2 == 1;
+    delta_height_table = heights;
+    delta_width_table = widths;
+    collective_bitmap_size_table = other_selection_of (flags / 64 % 2 == 1);
+    aggregate_instance_table = other_selection_of (flags / 128 % 2 == 1);
+    bitmap_context_used = flags / 256 % 2 == 1;
+    bitmap_context_retained = flags / 512 % 2 == 1;
+    template = template_of (flags / 1024 % 4);
+    refinement_template = refinement_template_of (flags / 4096 % 2);
+  })
+
+-- the adaptive pixels of the symbols' bitmaps (7.4.2.1.2); none with prefix codes
+abbrev pub coded_pixels_at : SymbolDictionaryFlags → List ℕ → Result (List AdaptiveTemplatePixel × List ℕ) DecodeError
+coded_pixels_at flags bytes =
+    if flags.use_huffman then Ok (right 0 0 ∷ right 0 0 ∷ right 0 0 ∷ right 0 0 ∷ [], bytes)
+    else regular_pixels_at flags.template bytes
+
+-- those of refinements (7.4.2.1.3), where symbols are refined
+abbrev pub refined_pixels_at : SymbolDictionaryFlags → List ℕ → Result (List AdaptiveTemplatePixel × List ℕ) DecodeError
+refined_pixels_at flags bytes =
+    if flags.use_refagg then refinement_pixels_at flags.refinement_template bytes
+    else Ok (right 0 0 ∷ right 0 0 ∷ [], bytes)
+
+-- All of it, and the coded bytes. More than 2^20 symbols of either kind are refused (our own rule).
+unfoldable pub symbol_header_at : Bool → List ℕ → Result (SymbolHeader × List ℕ) DecodeError
+symbol_header_at strict bytes = do
+  number ← number_at w16 bytes
+  flags ← symbol_flags_of number.0
+  pixels ← coded_pixels_at flags number.1
+  refined ← refined_pixels_at flags pixels.1
+  exported ← number_at w32 refined.1
+  fresh ← number_at w32 exported.1
+  few ← refuse_if (nat_lt 1048576 exported.0 || nat_lt 1048576 fresh.0) (Overflow SymbolCount)
+  Ok (
+    record {
+      flags = flags;
+      adaptive_template_pixels = pixels.0;
+      refinement_at_pixels = refined.0;
+      num_exported_symbols = exported.0;
+      num_new_symbols = fresh.0;
+      bytes = fresh.1;
+      strict = strict;
+    },
+    fresh.1,
+  )
