@@ -2,4 +2,5 @@ pub mod CodeLength
 pub mod InstanceLemmas
 pub mod RefiningLemmas
 pub mod SymbolLemmas
+mod WorkedSymbols
 mod WorkedTexts

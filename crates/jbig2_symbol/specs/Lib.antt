@@ -1,6 +1,10 @@
 pub mod BitFields
+pub mod Exports
+pub mod SymbolBitmaps
 pub mod SymbolCodes
 pub mod SymbolHeader
+pub mod SymbolReading
+pub mod Symbols
 pub mod Text
 pub mod TextCoding
 pub mod TextHeader

@@ -1,5 +1,7 @@
 //! Symbol dictionaries (T.88, 6.5 and 7.4.2).
 
+pub mod dictionary;
 pub mod header;
 
+pub use dictionary::{RetainedContexts, SymbolDictionary};
 pub use header::{HuffmanTableSelection, SymbolDictionaryFlags, SymbolDictionaryHeader, parse};

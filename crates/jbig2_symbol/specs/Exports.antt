@@ -1,0 +1,60 @@
+-- Which symbols a dictionary exports (T.88, 6.5.10).
+use Rattle.std.specs.Prelude.{ℕ, zero, suc, ◌+◌, ◌-◌, ◌%◌, ◌==◌, nat_le, nat_lt, Bool, not, ◌&&◌, if◌then◌else◌, List, [], ◌∷◌, length, Result, Ok}
+use Rattle.jbig2_base.specs.Answer.{◌>>=◌, refuse_if}
+use Rattle.jbig2_base.specs.Grid.{Grid, bit_number}
+use Rattle.jbig2_base.specs.declared.error.DecodeError.{DecodeError}
+use Rattle.jbig2_base.specs.declared.error.DecodeError.TheVariants.{Huffman, Symbol}
+use Rattle.jbig2_base.specs.declared.error.HuffmanError.TheVariants.{InvalidCode, UnexpectedOob}
+use Rattle.jbig2_base.specs.declared.error.SymbolError.TheVariants.{Invalid, NoSymbols, OutOfRange}
+use Rattle.jbig2_symbol.specs.SymbolReading.{SymbolInput, SymbolState, export_run, in_band, not_negative}
+
+-- the most runs of length 0, and the most height classes without a symbol (our own rule)
+abbrev pub most_empty : ℕ
+most_empty = 1048576
+
+-- how many runs end at symbol i or before it, the first beginning at symbol `from`
+unfoldable pub ended_runs : ℕ → List ℕ → ℕ → ℕ
+ended_runs from [] i = 0
+ended_runs from (r ∷ runs) i = bit_number (nat_le (from + r) i) + ended_runs (from + r) runs i
+
+-- the runs are by turns of symbols that are not exported and of symbols that are
+abbrev pub is_exported : List ℕ → ℕ → Bool
+is_exported runs i = ended_runs 0 runs i % 2 == 1
+
+-- those of a list whose number, from `from` on, is exported
+unfoldable pub exported_from : List ℕ → ℕ → List Grid → List Grid
+exported_from runs from [] = []
+exported_from runs from (g ∷ grids) =
+    if is_exported runs from then g ∷ exported_from runs (from + 1) grids else exported_from runs (from + 1) grids
+
+abbrev pub exported : List ℕ → List Grid → List Grid
+exported runs grids = exported_from runs 0 grids
+
+-- The runs, until they cover `left` symbols more; `empty` runs of length 0 came before. Each run covers a symbol or is
+-- one of the 2^20 that may be empty, so n of them are enough where n is at least `left` and the empty ones to come.
+unfoldable pub runs_from : SymbolInput → ℕ → ℕ → ℕ → SymbolState → Result (List ℕ × SymbolState) DecodeError
+runs_from d zero empty left s = Ok ([], s)
+runs_from d (suc n) empty left s =
+    if left == 0 then Ok ([], s)
+    else do
+      value ← export_run d s
+      number ← in_band (Huffman UnexpectedOob) value.0
+      run ← not_negative (Huffman InvalidCode) number
+      few ← refuse_if (run == 0 && nat_le most_empty empty) (Symbol Invalid)
+      within ← refuse_if (nat_lt left run) (Symbol OutOfRange)
+      others ← runs_from d n (empty + bit_number (run == 0)) (left - run) value.1
+      Ok (run ∷ others.0, others.1)
+
+abbrev pub export_runs : SymbolInput → ℕ → SymbolState → Result (List ℕ × SymbolState) DecodeError
+export_runs d count s = runs_from d (count + most_empty) 0 count s
+
+abbrev pub not_same : ℕ → ℕ → Bool
+not_same a b = not (a == b)
+
+-- The symbols that are exported of all those that there are; their number is the one that the header states (our own
+-- rule).
+unfoldable pub exports : SymbolInput → List Grid → SymbolState → Result (List Grid × SymbolState) DecodeError
+exports d grids s = do
+  runs ← export_runs d (length grids) s
+  right ← refuse_if (not_same (length (exported runs.0 grids)) d.header.num_exported_symbols) (Symbol NoSymbols)
+  Ok (exported runs.0 grids, runs.1)

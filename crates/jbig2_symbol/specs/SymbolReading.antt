@@ -1,0 +1,184 @@
+-- How the numbers of a symbol dictionary are read (T.88, 6.5 and 7.4.2): by prefix codes, or by the arithmetic coder.
+use Rattle.std.specs.Prelude.{ℕ, ◌+◌, ◌^◌, nat_lt, Bool, true, false, not, ◌&&◌, ◌||◌, if◌then◌else◌, List, [], length, replicate, slice_index_or, Option, Some, None, Result, Ok, Err, ℤ, pos, negsuc, ◌+ℤ◌, ◌≡◌, ◌==◌}
+use Rattle.jbig2_base.specs.Answer.{◌>>=◌, refuse_if}
+use Rattle.jbig2_base.specs.Bits.{Place, start_of, bits_left, bits_on}
+use Rattle.jbig2_base.specs.Grid.{Grid, bit_number}
+use Rattle.jbig2_base.specs.declared.error.DecodeError.{DecodeError}
+use Rattle.jbig2_base.specs.declared.error.DecodeError.TheVariants as errors
+use Rattle.jbig2_base.specs.declared.error.HuffmanError.TheVariants.{MissingTables}
+use Rattle.jbig2_base.specs.declared.error.SymbolError.TheVariants.{Invalid}
+use Rattle.jbig2_coder.specs.Coder.{Coder, Context, fresh, started}
+use Rattle.jbig2_coder.specs.Integers.{integer}
+use Rattle.jbig2_coder.specs.PrefixCode.{Member, decoded, prefix_code}
+use Rattle.jbig2_coder.specs.Tables.{lines_a, lines_b, lines_c, lines_d, lines_e}
+use Rattle.jbig2_region.specs.Raster.{fresh_contexts}
+use Rattle.jbig2_region.specs.Refinement.{refinement_bits}
+use Rattle.jbig2_region.specs.Templates.{context_bits}
+use Rattle.jbig2_region.specs.declared.template.RefinementTemplate.{RefinementTemplate}
+use Rattle.jbig2_region.specs.declared.template.RefinementTemplate.TheVariants as refinements
+use Rattle.jbig2_region.specs.declared.template.Template.{Template}
+use Rattle.jbig2_region.specs.declared.template.Template.TheVariants.{Template0, Template1, Template2, Template3}
+use Rattle.jbig2_symbol.specs.SymbolHeader.{SymbolHeader}
+use Rattle.jbig2_symbol.specs.declared.symbol.dictionary.RetainedContexts.{RetainedContexts}
+use Rattle.jbig2_symbol.specs.declared.symbol.header.HuffmanTableSelection.{HuffmanTableSelection}
+use Rattle.jbig2_symbol.specs.declared.symbol.header.HuffmanTableSelection.TheVariants.{TableB1, TableB2, TableB3, TableB4, TableB5, UserSupplied}
+use Rattle.jbig2_symbol.specs.declared.symbol.header.SymbolDictionaryFlags.{SymbolDictionaryFlags}
+
+-- ---- the tables of prefix codes
+-- The tables of a dictionary, by what they read.
+pub record SymbolTables : Type 0 where
+  pub heights : List Member
+  pub widths : List Member
+  pub sizes : List Member
+  pub counts : List Member
+
+abbrev pub is_custom : HuffmanTableSelection → Bool
+is_custom UserSupplied = true
+is_custom _ = false
+
+-- a table, where `before` tables that are referred to are taken by others
+unfoldable pub table_for : List (List Member) → ℕ → HuffmanTableSelection → List Member
+table_for referred before TableB1 = prefix_code lines_a
+table_for referred before TableB2 = prefix_code lines_b
+table_for referred before TableB3 = prefix_code lines_c
+table_for referred before TableB4 = prefix_code lines_d
+table_for referred before TableB5 = prefix_code lines_e
+table_for referred before UserSupplied = slice_index_or referred before []
+
+-- how many of the tables that are referred to are taken by the heights, by the widths too, and so on
+abbrev pub custom_heights : SymbolDictionaryFlags → ℕ
+custom_heights flags = bit_number (is_custom flags.delta_height_table)
+
+abbrev pub custom_widths : SymbolDictionaryFlags → ℕ
+custom_widths flags = custom_heights flags + bit_number (is_custom flags.delta_width_table)
+
+abbrev pub custom_sizes : SymbolDictionaryFlags → ℕ
+custom_sizes flags = custom_widths flags + bit_number (is_custom flags.collective_bitmap_size_table)
+
+abbrev pub custom_counts : SymbolDictionaryFlags → ℕ
+custom_counts flags = custom_sizes flags + bit_number (is_custom flags.aggregate_instance_table)
+
+-- The tables of a dictionary take those that it refers to in this order (7.4.2.1.6); too few are refused, also without
+-- prefix codes (our own rule).
+unfoldable pub symbol_tables : SymbolDictionaryFlags → List (List Member) → Result SymbolTables DecodeError
+symbol_tables flags referred = do
+  enough ← refuse_if (nat_lt (length referred) (custom_counts flags)) (errors.Huffman MissingTables)
+  Ok (record {
+    heights = table_for referred 0 flags.delta_height_table;
+    widths = table_for referred (custom_heights flags) flags.delta_width_table;
+    sizes = table_for referred (custom_widths flags) flags.collective_bitmap_size_table;
+    counts = table_for referred (custom_sizes flags) flags.aggregate_instance_table;
+  })
+
+-- ---- the contexts of the bitmaps
+-- What the contexts of a dictionary's bitmaps have learned.
+pub record BitmapContexts : Type 0 where
+  pub template : Template
+  pub refinement_template : RefinementTemplate
+  pub generic : List Context
+  pub refinement : List Context
+
+abbrev pub contexts_view : {A : Type 0} → RetainedContexts A → BitmapContexts
+contexts_view c = record {
+  template = c.template;
+  refinement_template = c.refinement_template;
+  generic = c.generic_region.items;
+  refinement = c.refinement_region.items;
+}
+
+abbrev pub fresh_bitmap_contexts : SymbolDictionaryFlags → BitmapContexts
+fresh_bitmap_contexts flags = record {
+  template = flags.template;
+  refinement_template = flags.refinement_template;
+  generic = fresh_contexts (context_bits flags.template);
+  refinement = fresh_contexts (refinement_bits flags.refinement_template);
+}
+
+abbrev pub is_template : Template → Template → Bool
+is_template Template0 Template0 = true
+is_template Template1 Template1 = true
+is_template Template2 Template2 = true
+is_template Template3 Template3 = true
+is_template _ _ = false
+
+abbrev pub is_refinement_template : RefinementTemplate → RefinementTemplate → Bool
+is_refinement_template refinements.Template0 refinements.Template0 = true
+is_refinement_template refinements.Template1 refinements.Template1 = true
+is_refinement_template _ _ = false
+
+-- The contexts at the beginning (7.4.2.2, step 3): fresh, or as another dictionary of the same templates left them.
+-- Where there are none, or of other templates, they are refused (our own rule).
+unfoldable pub first_contexts : SymbolDictionaryFlags → Option BitmapContexts → Result BitmapContexts DecodeError
+first_contexts flags kept =
+    if not flags.bitmap_context_used then Ok (fresh_bitmap_contexts flags)
+    else (elim kept [
+      | None ↦ Err (errors.Symbol Invalid)
+      | Some contexts ↦
+          refuse_if (not (is_template contexts.template flags.template && is_refinement_template contexts.refinement_template flags.refinement_template)) (errors.Symbol Invalid) >>= λ same. Ok contexts
+    ])
+
+-- ---- the readings
+-- What a dictionary is decoded by, besides what it has come to.
+pub record SymbolInput : Type 0 where
+  pub header : SymbolHeader
+  pub symbols : List Grid
+  pub tables : SymbolTables
+
+-- What a dictionary's reading has come to: a place in the bits for prefix codes, the coder, and what the contexts of
+-- the integers IADH, IADW and IAEX (6.5.5 and 6.5.10) and of the bitmaps have learned.
+pub record SymbolState : Type 0 where
+  pub place : Place
+  pub coder : Coder
+  pub heights : List Context
+  pub widths : List Context
+  pub runs : List Context
+  pub bitmaps : BitmapContexts
+
+abbrev pub no_integers : List Context
+no_integers = replicate 512 fresh
+
+abbrev pub first_state : List ℕ → BitmapContexts → SymbolState
+first_state bytes contexts = record {
+  place = start_of bytes;
+  coder = record { bytes = bytes; registers = started bytes };
+  heights = no_integers;
+  widths = no_integers;
+  runs = no_integers;
+  bitmaps = contexts;
+}
+
+-- a value by a table of prefix codes, or out of band
+abbrev pub by_table : List Member → SymbolState → Result (Option ℤ × SymbolState) DecodeError
+by_table table s =
+    let reading = decoded table (bits_left s.place) in
+    reading.answer >>= λ value. Ok (value, record s { place = bits_on reading.taken s.place })
+
+-- a height class's difference in height (6.5.6)
+unfoldable pub height_difference : SymbolInput → SymbolState → Result (Option ℤ × SymbolState) DecodeError
+height_difference d s =
+    let n = integer s.coder.bytes s.coder.registers s.heights in
+    if d.header.flags.use_huffman then by_table d.tables.heights s
+    else Ok (n.value, record s { coder = record s.coder { registers = n.reading.registers }; heights = n.reading.contexts })
+
+-- a symbol's difference in width (6.5.7); out of band ends a height class
+unfoldable pub width_difference : SymbolInput → SymbolState → Result (Option ℤ × SymbolState) DecodeError
+width_difference d s =
+    let n = integer s.coder.bytes s.coder.registers s.widths in
+    if d.header.flags.use_huffman then by_table d.tables.widths s
+    else Ok (n.value, record s { coder = record s.coder { registers = n.reading.registers }; widths = n.reading.contexts })
+
+-- a run of symbols that are exported, or are not (6.5.10), by B.1
+unfoldable pub export_run : SymbolInput → SymbolState → Result (Option ℤ × SymbolState) DecodeError
+export_run d s =
+    let n = integer s.coder.bytes s.coder.registers s.runs in
+    if d.header.flags.use_huffman then by_table (prefix_code lines_a) s
+    else Ok (n.value, record s { coder = record s.coder { registers = n.reading.registers }; runs = n.reading.contexts })
+
+-- a value that may not be out of band, nor below 0
+abbrev pub in_band : DecodeError → Option ℤ → Result ℤ DecodeError
+in_band e None = Err e
+in_band e (Some n) = Ok n
+
+abbrev pub not_negative : DecodeError → ℤ → Result ℕ DecodeError
+not_negative e (pos n) = Ok n
+not_negative e (negsuc n) = Err e
