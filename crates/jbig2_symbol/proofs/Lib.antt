@@ -2,5 +2,6 @@ pub mod CodeLength
 pub mod InstanceLemmas
 pub mod RefiningLemmas
 pub mod SymbolLemmas
+mod WorkedCoded
 mod WorkedSymbols
 mod WorkedTexts

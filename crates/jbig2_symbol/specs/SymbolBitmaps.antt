@@ -1,7 +1,7 @@
 -- The bitmaps of symbols that are neither refined nor put together (T.88, 6.5.8.1 and 6.5.9).
 use Rattle.std.specs.Prelude.{ℕ, ◌+◌, ◌*◌, ◌/◌, ◌%◌, ◌==◌, nat_lt, Bool, false, ◌||◌, if◌then◌else◌, List, [], ◌∷◌, slice_index_or, Result, Ok}
 use Rattle.jbig2_base.specs.Answer.{◌>>=◌, refuse_if}
-use Rattle.jbig2_base.specs.Bits.{Place, aligned, byte_bits, start_of}
+use Rattle.jbig2_base.specs.Bits.{aligned, byte_bits, start_of}
 use Rattle.jbig2_base.specs.Fields.{bytes_at}
 use Rattle.jbig2_base.specs.Grid.{Grid, grid_of, pixel_at}
 use Rattle.jbig2_base.specs.Sizes.{wide_or_overflow}
@@ -9,7 +9,6 @@ use Rattle.jbig2_base.specs.declared.error.DecodeError.{DecodeError}
 use Rattle.jbig2_base.specs.declared.error.DecodeError.TheVariants.{Huffman, Overflow}
 use Rattle.jbig2_base.specs.declared.error.HuffmanError.TheVariants.{UnexpectedOob}
 use Rattle.jbig2_base.specs.declared.error.OverflowError.TheVariants.{BitmapDimension}
-use Rattle.jbig2_coder.specs.Coder.{Coder}
 use Rattle.jbig2_region.specs.Generic.{coding_of}
 use Rattle.jbig2_region.specs.Raster.{Coding, Region, so_far, decoded, no_pixels}
 use Rattle.jbig2_region.specs.T6.{decoded as mmr_rows}

@@ -1,5 +1,5 @@
 -- How the numbers of a symbol dictionary are read (T.88, 6.5 and 7.4.2): by prefix codes, or by the arithmetic coder.
-use Rattle.std.specs.Prelude.{ℕ, ◌+◌, ◌^◌, nat_lt, Bool, true, false, not, ◌&&◌, ◌||◌, if◌then◌else◌, List, [], length, replicate, slice_index_or, Option, Some, None, Result, Ok, Err, ℤ, pos, negsuc, ◌+ℤ◌, ◌≡◌, ◌==◌}
+use Rattle.std.specs.Prelude.{ℕ, ◌+◌, nat_lt, Bool, true, false, not, ◌&&◌, if◌then◌else◌, List, [], length, replicate, slice_index_or, Option, Some, None, Result, Ok, Err, ℤ, pos, negsuc}
 use Rattle.jbig2_base.specs.Answer.{◌>>=◌, refuse_if}
 use Rattle.jbig2_base.specs.Bits.{Place, start_of, bits_left, bits_on}
 use Rattle.jbig2_base.specs.Grid.{Grid, bit_number}

@@ -1,5 +1,5 @@
 -- Symbol dictionaries (T.88, 6.5).
-use Rattle.std.specs.Prelude.{ℕ, zero, suc, ◌+◌, ◌-◌, ◌*◌, ◌==◌, nat_lt, nat_le, Bool, true, false, ◌&&◌, if◌then◌else◌, List, [], ◌∷◌, ◌++◌, length, Option, Some, None, Result, Ok, Err, ℤ, pos, negsuc, ◌+ℤ◌}
+use Rattle.std.specs.Prelude.{ℕ, zero, suc, ◌+◌, ◌-◌, nat_lt, nat_le, Bool, true, false, ◌&&◌, if◌then◌else◌, List, [], ◌∷◌, ◌++◌, length, Option, Some, None, Result, Ok, Err, ℤ, pos, negsuc, ◌+ℤ◌}
 use Rattle.jbig2_base.specs.Answer.{◌>>=◌, refuse_if}
 use Rattle.jbig2_base.specs.Grid.{Grid, bit_number}
 use Rattle.jbig2_base.specs.declared.error.DecodeError.{DecodeError}
@@ -10,8 +10,7 @@ use Rattle.jbig2_coder.specs.PrefixCode.{Member}
 use Rattle.jbig2_symbol.specs.Exports.{exports, most_empty}
 use Rattle.jbig2_symbol.specs.SymbolBitmaps.{coded_symbol, collective_bitmap, symbols_cut}
 use Rattle.jbig2_symbol.specs.SymbolHeader.{SymbolHeader}
-use Rattle.jbig2_symbol.specs.SymbolReading.{BitmapContexts, SymbolInput, SymbolState, contexts_view, first_contexts, first_state, height_difference, in_band, symbol_tables, width_difference}
-use Rattle.jbig2_symbol.specs.declared.symbol.dictionary.SymbolDictionary.{SymbolDictionary}
+use Rattle.jbig2_symbol.specs.SymbolReading.{BitmapContexts, SymbolInput, SymbolState, first_contexts, first_state, height_difference, in_band, symbol_tables, width_difference}
 
 -- a size, refused outside 32 bits (our own rule)
 abbrev pub size_in_word : ℤ → Result ℕ DecodeError

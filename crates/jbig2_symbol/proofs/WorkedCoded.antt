@@ -1,0 +1,48 @@
+-- A symbol dictionary by the arithmetic coder, computed from the definitions alone.
+use Rattle.std.proofs.Common.{◌≡◌, ℕ, ◌+◌, Bool, true, false, List, [], ◌∷◌, ◌++◌, None, Result, Ok, refl}
+use Rattle.jbig2_base.specs.Answer.{◌>>=◌}
+use Rattle.jbig2_base.specs.Grid.{table, pixel_at}
+use Rattle.jbig2_base.specs.declared.error.DecodeError.{DecodeError}
+use Rattle.jbig2_coder.specs.Coder.{byte_at, byte_in, filled, doubled, renormed, started, likely_next, unlikely_next, choice, decision}
+use Rattle.jbig2_coder.specs.Encoder.{opened, plain, stuffed, byte_out, shifted, renormed as encoder_renormed, narrowed_likely, narrowed_unlikely, narrowed, encoding, set_bits, flushed, is_full, closed}
+use Rattle.jbig2_coder.specs.Integers.{integer, number, next, read, read_more, prev_next, prev_after, ranges, range_of, prefix, signed, value_of}
+use Rattle.jbig2_coder.specs.Lists.{with_context, encode_from, encoded}
+use Rattle.jbig2_coder.specs.Table.{rows, row_of}
+use Rattle.jbig2_region.specs.Generic.{context_at}
+use Rattle.jbig2_region.specs.GenericHeader.{adaptive_pixel_at, regular_pixels_at}
+use Rattle.jbig2_region.specs.Raster.{so_far, with_next, after_pixel, after_pixels, row_begun, after_rows, decoded}
+use Rattle.jbig2_symbol.specs.Exports.{ended_runs, exported_from, runs_from, exports}
+use Rattle.jbig2_symbol.specs.SymbolBitmaps.{coded_region, coded_symbol}
+use Rattle.jbig2_symbol.specs.SymbolHeader.{symbol_flags_of, symbol_header_at}
+use Rattle.jbig2_symbol.specs.SymbolReading.{table_for, symbol_tables, first_contexts, height_difference, width_difference, export_run}
+use Rattle.jbig2_symbol.specs.Symbols.{Symbols, symbol_bitmap, with_symbol, class_from, class_ended, classes_from, dictionary_at}
+
+-- four decisions of an integer in its first four contexts, which for each integer begin elsewhere
+abbrev four : ℕ → List (ℕ × Bool)
+four from = (from + 1, false) ∷ (from + 2, false) ∷ (from + 4, false) ∷ []
+
+abbrev zero_of : ℕ → List (ℕ × Bool)
+zero_of from = four from ++ (from + 8, false) ∷ []
+
+abbrev one_of : ℕ → List (ℕ × Bool)
+one_of from = four from ++ (from + 8, true) ∷ []
+
+abbrev out_of_band_of : ℕ → List (ℕ × Bool)
+out_of_band_of from = (from + 1, true) ∷ (from + 3, false) ∷ (from + 6, false) ∷ (from + 12, false) ∷ []
+
+abbrev decisions : List (ℕ × Bool)
+decisions = one_of 1024 ++ one_of 1536 ++ (0, true) ∷ (out_of_band_of 1536 ++ zero_of 2048 ++ one_of 2048)
+
+abbrev coded : List ℕ
+coded = 147 ∷ 252 ∷ 127 ∷ 255 ∷ 172 ∷ []
+
+row_R8_6-bytes : encoded decisions ≡ coded
+unfolding opened plain stuffed byte_out set_bits flushed is_full closed encode_from encoded rows row_of likely_next unlikely_next shifted encoder_renormed narrowed_likely narrowed_unlikely narrowed encoding with_context
+row_R8_6-bytes = refl
+
+dictionary : List ℕ → Result Symbols DecodeError
+dictionary bytes = symbol_header_at true bytes >>= λ h. dictionary_at h.0 [] [] None
+
+row_R8_6 : dictionary (8 ∷ 0 ∷ 2 ∷ 0xFF ∷ 0 ∷ 0 ∷ 0 ∷ 1 ∷ 0 ∷ 0 ∷ 0 ∷ 1 ∷ coded) ≡ Ok (record { exported = record { width = 1; height = 1; pixels = true ∷ [] } ∷ []; kept = None })
+unfolding dictionary symbol_header_at symbol_flags_of regular_pixels_at adaptive_pixel_at dictionary_at first_contexts symbol_tables table_for classes_from height_difference class_from width_difference with_symbol symbol_bitmap coded_symbol coded_region class_ended exports runs_from export_run exported_from ended_runs integer number next read read_more prev_next prev_after ranges range_of prefix signed value_of byte_at byte_in filled doubled renormed started likely_next unlikely_next choice decision rows row_of context_at so_far with_next after_pixel after_pixels row_begun after_rows decoded table pixel_at
+row_R8_6 = refl
