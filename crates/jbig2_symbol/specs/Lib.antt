@@ -4,6 +4,7 @@ pub mod SymbolBitmaps
 pub mod SymbolCodes
 pub mod SymbolHeader
 pub mod SymbolReading
+pub mod SymbolViews
 pub mod Symbols
 pub mod Text
 pub mod TextCoding

@@ -31,6 +31,7 @@ pub record SymbolTables : Type 0 where
   pub widths : List Member
   pub sizes : List Member
   pub counts : List Member
+  pub runs : List Member
 
 abbrev pub is_custom : HuffmanTableSelection → Bool
 is_custom UserSupplied = true
@@ -58,8 +59,8 @@ custom_sizes flags = custom_widths flags + bit_number (is_custom flags.collectiv
 abbrev pub custom_counts : SymbolDictionaryFlags → ℕ
 custom_counts flags = custom_sizes flags + bit_number (is_custom flags.aggregate_instance_table)
 
--- The tables of a dictionary take those that it refers to in this order (7.4.2.1.6); too few are refused, also without
--- prefix codes (our own rule).
+-- The tables of a dictionary take those that it refers to in this order, and the runs have B.1 (7.4.2.1.6); too few are
+-- refused, also without prefix codes (our own rule).
 unfoldable pub symbol_tables : SymbolDictionaryFlags → List (List Member) → Result SymbolTables DecodeError
 symbol_tables flags referred = do
   enough ← refuse_if (nat_lt (length referred) (custom_counts flags)) (errors.Huffman MissingTables)
@@ -68,6 +69,7 @@ symbol_tables flags referred = do
     widths = table_for referred (custom_heights flags) flags.delta_width_table;
     sizes = table_for referred (custom_widths flags) flags.collective_bitmap_size_table;
     counts = table_for referred (custom_sizes flags) flags.aggregate_instance_table;
+    runs = prefix_code lines_a;
   })
 
 -- ---- the contexts of the bitmaps
@@ -167,11 +169,11 @@ width_difference d s =
     if d.header.flags.use_huffman then by_table d.tables.widths s
     else Ok (n.value, record s { coder = record s.coder { registers = n.reading.registers }; widths = n.reading.contexts })
 
--- a run of symbols that are exported, or are not (6.5.10), by B.1
+-- a run of symbols that are exported, or are not (6.5.10)
 unfoldable pub export_run : SymbolInput → SymbolState → Result (Option ℤ × SymbolState) DecodeError
 export_run d s =
     let n = integer s.coder.bytes s.coder.registers s.runs in
-    if d.header.flags.use_huffman then by_table (prefix_code lines_a) s
+    if d.header.flags.use_huffman then by_table d.tables.runs s
     else Ok (n.value, record s { coder = record s.coder { registers = n.reading.registers }; runs = n.reading.contexts })
 
 -- a value that may not be out of band, nor below 0

@@ -2,6 +2,7 @@
 
 pub mod dictionary;
 pub mod header;
+pub mod reading;
 
 pub use dictionary::{RetainedContexts, SymbolDictionary};
 pub use header::{HuffmanTableSelection, SymbolDictionaryFlags, SymbolDictionaryHeader, parse};
