@@ -1,5 +1,5 @@
 //! Packed bitmaps (T.88, 6): rows of pixels behind a few reading and writing calls.
-ghost use Rattle.std.specs.Prelude.{◌≡◌, ℕ, ◌+◌, ◌-◌, ◌/◌, ◌^◌, ◌<◌, ◌≤◌, OnErr, false};
+ghost use Rattle.std.specs.Prelude.{◌≡◌, ℕ, ◌+◌, ◌-◌, ◌/◌, ◌^◌, ◌<◌, ◌≤◌, OnErr, Ok, false};
 ghost use Rattle.jbig2_base.specs.Answer.{Gives};
 ghost use Rattle.jbig2_base.specs.Grid.{blank, pixel_at, bit_number};
 ghost use Rattle.jbig2_base.specs.Sizes.{blank_or_overflow, wide_or_overflow};
@@ -77,6 +77,15 @@ impl<A: Allocator> Bitmap<A> {
         let mut bitmap = Bitmap::new_empty(alloc);
         bitmap.reinitialize(width, height, default_pixel)?;
         Ok(bitmap)
+    }
+
+    /// The same bitmap in memory of its own.
+    pub fn duplicate<B: Allocator>(&self, alloc: B) -> Result<Bitmap<B>>
+        ensures { Gives (λ b. b) result (Ok self.now) }
+    {
+        Ok(Bitmap {
+            rows: self.rows.duplicate(alloc)?,
+        })
     }
 
     /// Gives this bitmap another size and makes all pixels `default_pixel` (`true` is black). A

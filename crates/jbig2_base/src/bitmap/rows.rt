@@ -66,6 +66,20 @@ impl<A: Allocator> PackedRows<A> {
         Ok(())
     }
 
+    /// The same rows in memory of their own.
+    pub fn duplicate<B: Allocator>(&self, alloc: B) -> Result<PackedRows<B>>
+        ensures { Gives (λ r. r) result (Ok self.now) }
+    {
+        let mut words = Vec::new(alloc);
+        words.extend_from_slice(&self.words)?;
+        Ok(PackedRows {
+            width: self.width,
+            height: self.height,
+            stride: self.stride,
+            words,
+        })
+    }
+
     #[inline(always)]
     pub fn width(&self) -> u32
         ensures value { result ≡ self.now.width }
