@@ -1,5 +1,6 @@
 pub mod BitFields
 pub mod Exports
+pub mod Filled
 pub mod SymbolBitmaps
 pub mod SymbolCodes
 pub mod SymbolHeader

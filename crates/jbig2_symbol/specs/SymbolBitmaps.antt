@@ -1,9 +1,10 @@
 -- The bitmaps of symbols that are neither refined nor put together (T.88, 6.5.8.1 and 6.5.9).
-use Rattle.std.specs.Prelude.{ℕ, ◌+◌, ◌*◌, ◌/◌, ◌%◌, ◌==◌, nat_lt, Bool, false, ◌||◌, if◌then◌else◌, List, [], ◌∷◌, slice_index_or, Result, Ok}
+use Rattle.std.specs.Prelude.{ℕ, ◌+◌, ◌-◌, ◌*◌, ◌/◌, ◌%◌, ◌==◌, nat_lt, Bool, false, ◌||◌, if◌then◌else◌, List, [], ◌∷◌, slice_index_or, Result, Ok}
 use Rattle.jbig2_base.specs.Answer.{◌>>=◌, refuse_if}
-use Rattle.jbig2_base.specs.Bits.{aligned, byte_bits, start_of}
+use Rattle.jbig2_base.specs.Bits.{aligned, start_of}
 use Rattle.jbig2_base.specs.Fields.{bytes_at}
 use Rattle.jbig2_base.specs.Grid.{Grid, grid_of, pixel_at}
+use Rattle.jbig2_base.specs.WordBits.{bit}
 use Rattle.jbig2_base.specs.Sizes.{wide_or_overflow}
 use Rattle.jbig2_base.specs.declared.error.DecodeError.{DecodeError}
 use Rattle.jbig2_base.specs.declared.error.DecodeError.TheVariants.{Huffman, Overflow}
@@ -41,9 +42,9 @@ coded_symbol h width height s =
     fits_symbol width height >>= λ fits. Ok (so_far width height (coded_region h width height s).pixels, after_region (coded_region h width height s) s)
 
 -- ---- by prefix codes: the symbols of a height class stand side by side in one collective bitmap
--- a pixel of rows that are not coded, each beginning with a byte
+-- a pixel of rows that are not coded: each begins with a byte, and the high bit of a byte comes first
 abbrev pub raw_pixel : List ℕ → ℕ → ℕ → ℕ → Bool
-raw_pixel bytes stride x y = slice_index_or (byte_bits (slice_index_or bytes (y * stride + x / 8) 0)) (x % 8) 0 == 1
+raw_pixel bytes stride x y = bit (slice_index_or bytes (y * stride + x / 8) 0) (7 - x % 8)
 
 -- how many bytes such a row has
 abbrev pub raw_stride : ℕ → ℕ
@@ -81,10 +82,13 @@ collective_bitmap d width height s = do
 abbrev pub columns_of : Grid → ℕ → ℕ → ℕ → Grid
 columns_of collective from width height = grid_of width height (λ x y. pixel_at collective (from + x) y)
 
+unfoldable pub symbol_cut : Grid → ℕ → ℕ → ℕ → Result Grid DecodeError
+symbol_cut collective from width height = fits_symbol width height >>= λ fits. Ok (columns_of collective from width height)
+
 -- the symbols of these widths, side by side from column `from` on
 unfoldable pub symbols_cut : Grid → ℕ → ℕ → List ℕ → Result (List Grid) DecodeError
 symbols_cut collective height from [] = Ok []
 symbols_cut collective height from (width ∷ widths) = do
-  fits ← fits_symbol width height
+  symbol ← symbol_cut collective from width height
   others ← symbols_cut collective height (from + width) widths
-  Ok (columns_of collective from width height ∷ others)
+  Ok (symbol ∷ others)

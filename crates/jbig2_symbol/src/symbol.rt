@@ -1,5 +1,6 @@
 //! Symbol dictionaries (T.88, 6.5 and 7.4.2).
 
+pub mod bitmaps;
 pub mod dictionary;
 pub mod header;
 pub mod reading;

@@ -1,0 +1,7 @@
+use Rattle.std.proofs.Common.{◌≡◌, ◌*◌, min}
+use Rattle.jbig2_symbol.specs.Filled.{filled}
+use Rattle.jbig2_symbol.specs.SymbolBitmaps.{raw_pixel, raw_stride}
+use Rattle.jbig2_symbol.proofs.symbol.bitmaps.fill_row.Given as goal
+
+abbrev pub invariant-loop-index : goal.invariant-loop-index
+invariant-loop-index g l = l.bitmap ≡ filled l.fn.bitmap.width l.fn.bitmap.height (raw_pixel l.bytes (raw_stride l.fn.bitmap.width)) l.y (min l.fn.bitmap.width (8 * l.index))
