@@ -1,5 +1,5 @@
 -- The bitmaps of symbols that are neither refined nor put together (T.88, 6.5.8.1 and 6.5.9).
-use Rattle.std.specs.Prelude.{ℕ, ◌+◌, ◌-◌, ◌*◌, ◌/◌, ◌%◌, ◌==◌, nat_lt, Bool, false, ◌||◌, if◌then◌else◌, List, [], ◌∷◌, slice_index_or, Result, Ok}
+use Rattle.std.specs.Prelude.{ℕ, ◌+◌, ◌-◌, ◌*◌, ◌/◌, ◌%◌, ◌==◌, nat_lt, Bool, false, ◌||◌, if◌then◌else◌, List, [], ◌∷◌, ◌++◌, slice_index_or, Result, Ok}
 use Rattle.jbig2_base.specs.Answer.{◌>>=◌, refuse_if}
 use Rattle.jbig2_base.specs.Bits.{aligned, start_of}
 use Rattle.jbig2_base.specs.Fields.{bytes_at}
@@ -92,3 +92,7 @@ symbols_cut collective height from (width ∷ widths) = do
   symbol ← symbol_cut collective from width height
   others ← symbols_cut collective height (from + width) widths
   Ok (symbol ∷ others)
+
+-- symbols behind others
+abbrev pub put_behind : List Grid → Result (List Grid) DecodeError → Result (List Grid) DecodeError
+put_behind before answer = answer >>= λ more. Ok (before ++ more)

@@ -8,7 +8,7 @@ use Rattle.jbig2_base.specs.declared.error.OverflowError.TheVariants.{BitmapDime
 use Rattle.jbig2_base.specs.declared.error.SymbolError.TheVariants.{Invalid, TooManySymbols, UnexpectedOob}
 use Rattle.jbig2_coder.specs.PrefixCode.{Member}
 use Rattle.jbig2_symbol.specs.Exports.{exports, most_empty}
-use Rattle.jbig2_symbol.specs.SymbolBitmaps.{coded_symbol, collective_bitmap, symbols_cut}
+use Rattle.jbig2_symbol.specs.SymbolBitmaps.{coded_symbol, collective_bitmap, put_behind, symbols_cut}
 use Rattle.jbig2_symbol.specs.SymbolHeader.{SymbolHeader}
 use Rattle.jbig2_symbol.specs.SymbolReading.{BitmapContexts, SymbolInput, SymbolState, first_contexts, first_state, height_difference, in_band, symbol_tables, width_difference}
 
@@ -60,7 +60,7 @@ is_empty (_ ∷ _) = false
 unfoldable pub class_ended : SymbolInput → ℕ → HeightClass → SymbolState → Result (List Grid × SymbolState) DecodeError
 class_ended d height c s =
     if d.header.flags.use_huffman
-    then (collective_bitmap d c.total height s >>= λ collective. symbols_cut collective.0 height 0 c.widths >>= λ cut. Ok (c.grids ++ cut, collective.1))
+    then (collective_bitmap d c.total height s >>= λ collective. put_behind c.grids (symbols_cut collective.0 height 0 c.widths) >>= λ grids. Ok (grids, collective.1))
     else Ok (c.grids, s)
 
 -- The height classes, until all new symbols are there; `empty` classes had no symbol, which may be 2^20 of them at most

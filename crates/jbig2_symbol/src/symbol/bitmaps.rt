@@ -1,20 +1,24 @@
 //! The bitmaps of symbols that prefix codes describe: those of a height class stand side by side in one
 //! collective bitmap (T.88, 6.5.9).
-ghost use Rattle.std.specs.Prelude.{◌≡◌, ℕ, ◌+◌, ◌*◌, ◌<◌, ◌≤◌, Bool, length, false};
+ghost use Rattle.std.specs.Prelude.{◌≡◌, ◌+◌, ◌*◌, ◌<◌, ◌≤◌, length, sum};
 ghost use Rattle.jbig2_base.specs.Answer.{Gives};
-ghost use Rattle.jbig2_base.specs.Grid.{blank, grid_of, pixel_at};
+ghost use Rattle.jbig2_base.specs.Bits.{IsAligned};
+ghost use Rattle.jbig2_base.specs.Grid.{pixel_at};
 ghost use Rattle.jbig2_symbol.specs.Filled.{filled};
-ghost use Rattle.jbig2_symbol.specs.SymbolBitmaps.{symbol_cut, raw_pixel, raw_stride};
+ghost use Rattle.jbig2_symbol.specs.SymbolBitmaps.{symbol_cut, symbols_cut, put_behind, raw_pixel, raw_stride, raw_rows, mmr_bytes, rows_of_size};
 
 use jbig2_base::bitmap::Bitmap;
 use jbig2_base::bitmap::steps::Steps;
 use jbig2_base::error::Result;
+use jbig2_base::field::bytes_field;
+use jbig2_base::reader::Reader;
+use jbig2_region::mmr;
 use std::alloc::Allocator;
 use std::sync::ledger::Ledger;
 
 /// Row `y` of a symbol, whose columns stand from column `left` of a collective bitmap on.
-fn copy_row<A: Allocator, L: Ledger>(
-    collective: &Bitmap<A>,
+fn copy_row<A: Allocator, B: Allocator, L: Ledger>(
+    collective: &Bitmap<B>,
     left: u32,
     y: u32,
     symbol: &mut Bitmap<A>,
@@ -36,9 +40,9 @@ fn copy_row<A: Allocator, L: Ledger>(
 
 /// The symbol whose columns stand from column `left` of a collective bitmap on.
 #[tactic(auto, unfolding(crate::specs::SymbolBitmaps::symbol_cut))]
-pub fn cut_symbol<A: Allocator, L: Ledger>(
+fn cut_symbol<A: Allocator, B: Allocator, L: Ledger>(
     alloc: A,
-    collective: &Bitmap<A>,
+    collective: &Bitmap<B>,
     left: u32,
     width: u32,
     height: u32,
@@ -75,4 +79,96 @@ fn fill_row<A: Allocator, L: Ledger>(
         let bits = bytes[start + index] >> (8 - count);
         bitmap.store_pixels(x, y, count, u64::from(bits), steps);
     }
+}
+
+/// Rows that are not coded, at the reader's place (T.88, 6.5.9).
+#[tactic(auto, unfolding(crate::specs::SymbolBitmaps::raw_rows))]
+fn read_raw_rows<A: Allocator, L: Ledger>(
+    alloc: A,
+    width: u32,
+    height: u32,
+    reader: &mut Reader<'_>,
+    steps: &mut Steps<L>,
+) -> Result<Bitmap<A>>
+    requires { IsAligned reader.old }
+    ensures value { Gives (λ bitmap. (bitmap, reader.new.bytes)) result (raw_rows width height reader.old.bytes) }
+    ensures aligned { IsAligned reader.new }
+{
+    let mut bitmap = Bitmap::new_wide(alloc, width, height)?;
+    if width == 0 {
+        return Ok(bitmap);
+    }
+    let stride = width.div_ceil(8) as usize;
+    let bytes = bytes_field(reader, height as usize * stride)?;
+    for y in 0..height {
+        fill_row(bytes, y, &mut bitmap, steps);
+    }
+    Ok(bitmap)
+}
+
+/// MMR data of `size` bytes at the reader's place (T.88, 6.5.9).
+#[tactic(auto, unfolding(crate::specs::SymbolBitmaps::mmr_bytes))]
+fn read_mmr_rows<A: Allocator, L: Ledger>(
+    alloc: A,
+    strict: bool,
+    size: usize,
+    width: u32,
+    height: u32,
+    reader: &mut Reader<'_>,
+    steps: &mut Steps<L>,
+) -> Result<Bitmap<A>>
+    requires { IsAligned reader.old }
+    ensures value { Gives (λ bitmap. (bitmap, reader.new.bytes)) result (mmr_bytes strict size width height reader.old.bytes) }
+    ensures aligned { IsAligned reader.new }
+{
+    let bytes = bytes_field(reader, size)?;
+    let mut bitmap = Bitmap::new_wide(alloc, width, height)?;
+    mmr::decode(&mut bitmap, bytes, strict, steps)?;
+    Ok(bitmap)
+}
+
+/// The rows of a collective bitmap at the reader's place, which are not coded where `size` is 0
+/// (T.88, 6.5.9).
+pub fn read_rows<A: Allocator, L: Ledger>(
+    alloc: A,
+    strict: bool,
+    size: usize,
+    width: u32,
+    height: u32,
+    reader: &mut Reader<'_>,
+    steps: &mut Steps<L>,
+) -> Result<Bitmap<A>>
+    requires { IsAligned reader.old }
+    ensures value { Gives (λ bitmap. (bitmap, reader.new.bytes)) result (rows_of_size strict size width height reader.old.bytes) }
+    ensures aligned { IsAligned reader.new }
+{
+    if size == 0 {
+        return read_raw_rows(alloc, width, height, reader, steps);
+    }
+    read_mmr_rows(alloc, strict, size, width, height, reader, steps)
+}
+
+/// Puts the symbols of these widths, which stand side by side in a collective bitmap, behind those
+/// that `symbols` holds.
+pub fn cut_symbols<A: Allocator + Clone, B: Allocator, L: Ledger>(
+    alloc: A,
+    collective: &Bitmap<B>,
+    height: u32,
+    widths: &[u32],
+    symbols: &mut Vec<Bitmap<A>, A>,
+    steps: &mut Steps<L>,
+) -> Result<()>
+    requires { sum widths.now ≤ 4294967295 }
+    ensures { Gives (λ _. symbols.new.items) result (put_behind symbols.old.items (symbols_cut collective.now height 0 widths.now)) }
+{
+    let mut left = 0;
+    for width in widths {
+        let symbol = match cut_symbol(alloc.clone()?, collective, left, *width, height, steps) {
+            Ok(symbol) => symbol,
+            Err(error) => return Err(error),
+        };
+        symbols.push(symbol)?;
+        left += *width;
+    }
+    Ok(())
 }

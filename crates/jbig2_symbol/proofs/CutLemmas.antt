@@ -1,0 +1,82 @@
+-- Collective bitmaps: their rows, and the symbols that are cut out of them.
+use Rattle.std.proofs.Common.{◌≡◌, ℕ, ◌+◌, ◌*◌, ◌<◌, ◌≤◌, Bool, true, false, List, [], ◌∷◌, ◌++◌, suc, length, drop, get_or, Result, Ok, Err, refl, sym, ap, subst, ltb, ◌∙◌, ◌⊎◌, inl, inr, append_assoc, drop-cons, arith}
+use Rattle.std.specs.Prelude.{sum, nat_lt}
+use Rattle.std.proofs.lemmas.List.Sums.{sum_by-drop_more}
+use Rattle.std.proofs.lemmas.List.{append-nil, drop_all}
+use Rattle.std.proofs.lemmas.Bool.{le-ltb}
+use Rattle.jbig2_base.specs.Answer.{◌>>=◌, refuse_if}
+use Rattle.jbig2_base.specs.Fields.{bytes_at}
+use Rattle.jbig2_base.specs.Grid.{Grid, grid_of, blank}
+use Rattle.jbig2_base.specs.Sizes.{wide_or_overflow}
+use Rattle.jbig2_base.specs.declared.error.DecodeError.{DecodeError}
+use Rattle.jbig2_base.specs.declared.error.DecodeError.TheVariants.{OutOfMemory, Overflow}
+use Rattle.jbig2_base.specs.declared.error.OverflowError.TheVariants.{BitmapDimension}
+use Rattle.jbig2_base.proofs.GridLemmas.{grid_of-ext}
+use Rattle.jbig2_symbol.specs.Filled.{filled}
+use Rattle.jbig2_symbol.specs.SymbolBitmaps.{put_behind, raw_pixel, raw_rows, raw_stride, symbol_cut, symbols_cut}
+use Rattle.jbig2_symbol.proofs.FillLemmas.{all-filled}
+
+-- ---- symbols behind others
+behind-cons : (before : List Grid) (symbol : Grid) (others : Result (List Grid) DecodeError) → put_behind before (others >>= λ more. Ok (symbol ∷ more)) ≡ put_behind (before ++ symbol ∷ []) others
+behind-cons before symbol (Ok more) = ap (λ (all : List Grid). Ok all) (sym (append_assoc before (symbol ∷ []) more))
+behind-cons before symbol (Err e) = refl
+
+drop-more : (xs : List ℕ) (k : ℕ) → k < length xs → drop k xs ≡ get_or xs k 0 ∷ drop (k + 1) xs
+drop-more xs k inside =
+    let one : suc k ≡ k + 1 = omega arith in
+    drop-cons xs k 0 inside ∙ ap (λ (n : ℕ). get_or xs k 0 ∷ drop n xs) one
+
+cut-more : (collective : Grid) (height left : ℕ) (widths : List ℕ) (k : ℕ) → k < length widths → symbols_cut collective height left (drop k widths) ≡ (symbol_cut collective left (get_or widths k 0) height >>= λ symbol. symbols_cut collective height (left + get_or widths k 0) (drop (k + 1) widths) >>= λ others. Ok (symbol ∷ others))
+unfolding symbols_cut
+cut-more collective height left widths k inside = ap (λ (ws : List ℕ). symbols_cut collective height left ws) (drop-more widths k inside)
+
+pub cut-next : (collective : Grid) (height left : ℕ) (widths : List ℕ) (k : ℕ) (before : List Grid) (symbol : Grid) → k < length widths → symbol_cut collective left (get_or widths k 0) height ≡ Ok symbol → put_behind before (symbols_cut collective height left (drop k widths)) ≡ put_behind (before ++ symbol ∷ []) (symbols_cut collective height (left + get_or widths k 0) (drop (k + 1) widths))
+cut-next collective height left widths k before symbol inside e =
+    ap (λ (answer : Result (List Grid) DecodeError). put_behind before answer) (cut-more collective height left widths k inside)
+    ∙ ap (λ (one : Result Grid DecodeError). put_behind before (one >>= λ s. symbols_cut collective height (left + get_or widths k 0) (drop (k + 1) widths) >>= λ others. Ok (s ∷ others))) e
+    ∙ behind-cons before symbol (symbols_cut collective height (left + get_or widths k 0) (drop (k + 1) widths))
+
+pub cut-fault : (collective : Grid) (height left : ℕ) (widths : List ℕ) (k : ℕ) (before : List Grid) (error : DecodeError) (whole : Result (List Grid) DecodeError) → k < length widths → put_behind before (symbols_cut collective height left (drop k widths)) ≡ whole → (error ≡ OutOfMemory) ⊎ (symbol_cut collective left (get_or widths k 0) height ≡ Err error) → (error ≡ OutOfMemory) ⊎ (whole ≡ Err error)
+cut-fault collective height left widths k before error whole inside so_far (inl memory) = inl memory
+cut-fault collective height left widths k before error whole inside so_far (inr e) =
+    inr
+    (sym so_far
+    ∙ ap (λ (answer : Result (List Grid) DecodeError). put_behind before answer) (cut-more collective height left widths k inside)
+    ∙ ap (λ (one : Result Grid DecodeError). put_behind before (one >>= λ s. symbols_cut collective height (left + get_or widths k 0) (drop (k + 1) widths) >>= λ others. Ok (s ∷ others))) e)
+
+pub cut-all : (collective : Grid) (height left : ℕ) (widths : List ℕ) (k : ℕ) (before : List Grid) (whole : Result (List Grid) DecodeError) → length widths ≤ k → put_behind before (symbols_cut collective height left (drop k widths)) ≡ whole → whole ≡ Ok before
+unfolding symbols_cut
+cut-all collective height left widths k before whole done so_far =
+    sym so_far
+    ∙ ap (λ (ws : List ℕ). put_behind before (symbols_cut collective height left ws)) (drop_all k widths done)
+    ∙ ap (λ (all : List Grid). Ok all) (append-nil before)
+
+pub sum-next : (widths : List ℕ) (k left most : ℕ) → k < length widths → left + sum (drop k widths) ≤ most → left + get_or widths k 0 + sum (drop (k + 1) widths) ≤ most
+sum-next widths k left most inside few =
+    let next : sum (drop k widths) ≡ get_or widths k 0 + sum (drop (k + 1) widths) = sum_by-drop_more (λ (n : ℕ). n) widths k 0 inside in
+    omega (arith, next)
+
+-- ---- rows that are not coded
+wide-made : (w h : ℕ) (g : Grid) → wide_or_overflow w h ≡ Ok g → g ≡ blank w h false
+wide-made w h g e = made (nat_lt (65535 * 65535) (w * h)) (blank w h false) g e
+  where
+    made : (large : Bool) (white g : Grid) → (refuse_if large (Overflow BitmapDimension) >>= λ _. Ok white) ≡ Ok g → g ≡ white
+    made true white g e = cc
+    made false white g e = cc
+
+pub wide-blank : (w h : ℕ) (g : Grid) → wide_or_overflow w h ≡ Ok g → g ≡ blank w h false
+wide-blank w h g e = wide-made w h g e
+
+pub raw-none : (w h : ℕ) (g : Grid) (bytes : List ℕ) → w ≡ 0 → wide_or_overflow w h ≡ Ok g → raw_rows w h bytes ≡ Ok (g, bytes)
+unfolding raw_rows
+raw-none w h g bytes none made =
+    let no_bytes : h * raw_stride w ≡ 0 = grind arith in
+    let enough : ltb (length bytes) 0 ≡ false = le-ltb (length bytes) 0 (omega arith) in
+    let white : grid_of w h (raw_pixel [] (raw_stride w)) ≡ g = grid_of-ext w h (raw_pixel [] (raw_stride w)) (λ _ _. false) (λ i j left above. absurd (omega arith)) ∙ sym (wide-made w h g made) in
+    rw (made, no_bytes, enough) (ap (λ (k : Grid). Ok (k, bytes)) white)
+
+pub raw-made : (w h stride y : ℕ) (before g : Grid) (bytes rows rest : List ℕ) → wide_or_overflow w h ≡ Ok before → stride ≡ raw_stride w → bytes_at (h * stride) bytes ≡ Ok (rows, rest) → y ≡ h → g ≡ filled w h (raw_pixel rows (raw_stride w)) y 0 → raw_rows w h bytes ≡ Ok (g, rest)
+unfolding raw_rows
+raw-made w h stride y before g bytes rows rest made wide taken whole e =
+    let read : bytes_at (h * raw_stride w) bytes ≡ Ok (rows, rest) = subst (λ (n : ℕ). bytes_at (h * n) bytes ≡ Ok (rows, rest)) wide taken in
+    rw (made, read) (ap (λ (k : Grid). Ok (k, rest)) (sym (all-filled g w h (raw_pixel rows (raw_stride w)) y whole e)))

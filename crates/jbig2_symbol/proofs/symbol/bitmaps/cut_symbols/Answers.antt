@@ -1,0 +1,21 @@
+use Rattle.std.proofs.Common.{◌+◌, List, drop, get_or, sym, ap, ◌∙◌, arith}
+use Rattle.jbig2_base.specs.Grid.{Grid}
+use Rattle.jbig2_symbol.specs.SymbolBitmaps.{put_behind, symbols_cut}
+use Rattle.jbig2_symbol.proofs.CutLemmas.{cut-all, cut-fault, cut-next, sum-next}
+use Rattle.jbig2_symbol.proofs.symbol.bitmaps.cut_symbols.Goals as goal
+
+pub returns : goal.returns
+returns g c = cut-all c.args.collective.now c.args.height c.loop-width.left c.args.widths.now c.loop-width.width-index c.loop-width.symbols.items _ (omega arith) c.loop-width.invariant.cut
+
+pub returns-in-Err : goal.returns-in-Err
+returns-in-Err g c =
+    cut-fault c.args.collective.now c.args.height c.loop-width.left c.args.widths.now c.loop-width.width-index c.loop-width.symbols.items c.in-Err.error _ (omega arith) c.loop-width.invariant.cut c.in-Err.ensures
+
+pub loop-width-preserved : goal.loop-width-preserved
+loop-width-preserved g c = record {
+  place = sum-next c.args.widths.now c.loop-width.width-index c.loop-width.left 4294967295 (omega arith) c.loop-width.invariant.place;
+  cut =
+      ap (λ (symbols : List Grid). put_behind symbols (symbols_cut c.args.collective.now c.args.height (c.loop-width.left + get_or c.args.widths.now c.loop-width.width-index 0) (drop (c.loop-width.width-index + 1) c.args.widths.now))) c.in_ok-push.ensures.items
+      ∙ sym (cut-next c.args.collective.now c.args.height c.loop-width.left c.args.widths.now c.loop-width.width-index c.loop-width.symbols.items c.in-Ok.symbol (omega arith) c.in-Ok.ensures)
+      ∙ c.loop-width.invariant.cut;
+}

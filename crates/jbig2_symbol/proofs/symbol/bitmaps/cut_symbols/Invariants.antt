@@ -1,0 +1,10 @@
+use Rattle.std.proofs.Common.{◌≡◌, ◌+◌, ◌≤◌, drop}
+use Rattle.std.specs.Prelude.{sum}
+use Rattle.jbig2_symbol.specs.SymbolBitmaps.{put_behind, symbols_cut}
+use Rattle.jbig2_symbol.proofs.symbol.bitmaps.cut_symbols.Given as goal
+
+abbrev pub invariant-loop-width : goal.invariant-loop-width
+invariant-loop-width g l = record {
+  place : l.left + sum (drop l.width-index l.widths) ≤ 4294967295;
+  cut : put_behind l.symbols.items (symbols_cut l.collective l.height l.left (drop l.width-index l.widths)) ≡ put_behind l.fn.symbols.items (symbols_cut l.collective l.height 0 l.widths);
+}
