@@ -7,7 +7,7 @@ ghost use Rattle.jbig2_region.specs.Generic.{contexts_after, generic_answer, gen
 ghost use Rattle.jbig2_region.specs.Layouts.{CountsGeneric};
 ghost use Rattle.jbig2_region.specs.GenericHeader.{header_view, is_earlier, first_alone, signed_byte_at, adaptive_pixel_at, adaptive_pixels_at, regular_pixels_at, template_pixels_at, rows_at, generic_header_at, FitsTemplate, IsParsed};
 
-use crate::generic_coding::decode_coded;
+pub use crate::generic_coding::decode_coded;
 use crate::mmr;
 use crate::raster::fresh_contexts;
 use crate::region_info::{RegionSegmentInfo, parse_region_segment_info};

@@ -235,7 +235,8 @@ fn decode_regular<A: Allocator, L: Ledger>(
     decode_layout(&layout, row_context, bitmap, decoder, contexts, steps);
 }
 
-/// A region that the arithmetic coder wrote, into a white bitmap of its size.
+/// A region that the arithmetic coder wrote, into a white bitmap of its size. The coder and the contexts
+/// go on from where they stand. Takes no memory.
 pub fn decode_coded<A: Allocator, L: Ledger>(
     template: Template,
     typical: bool,

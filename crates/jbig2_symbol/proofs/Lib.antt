@@ -1,4 +1,5 @@
 pub mod CodeLength
+pub mod CodedLemmas
 pub mod CutLemmas
 pub mod FillLemmas
 pub mod InstanceLemmas

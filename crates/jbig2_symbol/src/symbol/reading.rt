@@ -1,17 +1,22 @@
 //! The numbers of a symbol dictionary, by prefix codes or by the arithmetic coder (T.88, 6.5).
-ghost use Rattle.jbig2_base.specs.Answer.{Answers};
+ghost use Rattle.jbig2_base.specs.Answer.{Answers, Gives};
+ghost use Rattle.jbig2_symbol.specs.SymbolBitmaps.{coded_symbol, collective_bitmap};
+ghost use Rattle.jbig2_symbol.specs.SymbolHeader.{header_view};
 ghost use Rattle.jbig2_symbol.specs.SymbolReading.{export_run, height_difference, width_difference};
 ghost use Rattle.jbig2_symbol.specs.SymbolViews.{input_view};
 
+use crate::symbol::bitmaps::read_rows;
 use crate::symbol::dictionary::RetainedContexts;
 use crate::symbol::header::SymbolDictionaryHeader;
 use jbig2_base::bitmap::Bitmap;
 use jbig2_base::bitmap::steps::Steps;
-use jbig2_base::error::Result;
+use jbig2_base::error::{DecodeError, HuffmanError, OverflowError, Result};
 use jbig2_base::reader::Reader;
 use jbig2_coder::arithmetic_decoder::ArithmeticDecoder;
 use jbig2_coder::huffman_table::HuffmanTable;
 use jbig2_coder::integer_decoder::IntegerDecoder;
+use jbig2_region::generic::decode_coded;
+use jbig2_region::template::GenericTemplatePixels;
 use std::alloc::Allocator;
 use std::marker::Model;
 use std::sync::ledger::Ledger;
@@ -99,5 +104,62 @@ impl<A: Allocator> SymbolReader<'_, A> {
             return input.tables.runs.decode(&mut self.reader);
         }
         Ok(self.runs.decode(&mut self.decoder, steps))
+    }
+
+    /// The bitmap of a symbol by the arithmetic coder, which goes on with the dictionary's contexts
+    /// (T.88, 6.5.8.1).
+    #[tactic(auto, unfolding(crate::specs::SymbolBitmaps::coded_symbol))]
+    pub fn decode_symbol<B: Allocator, L: Ledger>(
+        &mut self,
+        alloc: B,
+        header: &SymbolDictionaryHeader<'_>,
+        width: u32,
+        height: u32,
+        steps: &mut Steps<L>,
+    ) -> Result<Bitmap<B>>
+        ensures { Gives (λ symbol. (symbol, self.new)) result (coded_symbol (header_view header.now) width height self.old) }
+    {
+        let mut bitmap = Bitmap::new(alloc, width, height)?;
+        decode_coded(
+            self.bitmaps.template,
+            false,
+            &GenericTemplatePixels::Regular(header.adaptive_template_pixels),
+            &mut bitmap,
+            &mut self.decoder,
+            &mut self.bitmaps.generic_region,
+            steps,
+        );
+        Ok(bitmap)
+    }
+
+    /// The collective bitmap of a height class (T.88, 6.5.9).
+    #[tactic(auto, unfolding(crate::specs::SymbolBitmaps::collective_bitmap))]
+    pub fn read_collective<B: Allocator, S: Allocator, T: Allocator, L: Ledger>(
+        &mut self,
+        alloc: B,
+        input: &SymbolInput<'_, S, T>,
+        width: u32,
+        height: u32,
+        steps: &mut Steps<L>,
+    ) -> Result<Bitmap<B>>
+        ensures { Gives (λ bitmap. (bitmap, self.new)) result (collective_bitmap (input_view input.now) width height self.old) }
+    {
+        let Some(size) = input.tables.sizes.decode(&mut self.reader)? else {
+            return Err(DecodeError::Huffman(HuffmanError::UnexpectedOob));
+        };
+        if size < 0 {
+            return Err(DecodeError::Overflow(OverflowError::BitmapDimension));
+        }
+        self.reader.align();
+        let strict = input.header.strict;
+        read_rows(
+            alloc,
+            strict,
+            size as usize,
+            width,
+            height,
+            &mut self.reader,
+            steps,
+        )
     }
 }
