@@ -6,5 +6,6 @@ pub mod InstanceLemmas
 pub mod RefiningLemmas
 pub mod SymbolLemmas
 mod WorkedCoded
+mod WorkedCodedTexts
 mod WorkedSymbols
 mod WorkedTexts

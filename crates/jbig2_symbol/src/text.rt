@@ -7,19 +7,21 @@ ghost use Rattle.jbig2_symbol.specs.TextHeader.{header_view};
 ghost use Rattle.jbig2_symbol.specs.TextRegion.{code_length, coded_region, prefixed_region, refining_of, text_params, text_answer, text_decoded};
 ghost use Rattle.jbig2_symbol.specs.TextViews.{customs_view, params_view, symbols_view};
 
-pub mod coded;
-pub mod cursor;
+pub(crate) mod coded;
+pub(crate) mod cursor;
 pub mod header;
-pub mod instances;
+pub(crate) mod instances;
 mod numbers;
-pub mod placement;
-pub mod prefixed;
-pub mod readings;
-pub mod refining;
+pub(crate) mod placement;
+pub(crate) mod prefixed;
+pub(crate) mod readings;
+pub(crate) mod refining;
 mod strips;
 mod symbol_codes;
-pub mod symbols;
-pub mod tables;
+pub(crate) mod symbols;
+pub(crate) mod tables;
+#[cfg(test)]
+mod tests;
 
 use crate::text::coded::CodedReadings;
 use crate::text::header::{TextRegionHeader, TextRegionHuffmanFlags};
@@ -39,7 +41,7 @@ use std::alloc::Allocator;
 use std::sync::ledger::Ledger;
 
 /// The least number of bits that tells so many symbols, at most 2^21, apart.
-pub fn code_length(count: usize) -> u32
+pub(crate) fn code_length(count: usize) -> u32
     requires { count ≤ 2 ^ 21 }
     ensures value { result ≡ code_length count }
     ensures small { result ≤ 21 }
@@ -137,10 +139,18 @@ fn decode_prefixed<
 }
 
 /// Decodes a text region (T.88, 6.4) of these symbols, at most 2^21, into a bitmap of its size that is
-/// all in its default colour. `referred_tables` are the custom tables that it refers to. A refusal leaves the
-/// bitmap as it was.
+/// all in its default colour. `referred_tables` are the custom tables that it refers to. A refusal
+/// leaves the bitmap as it was.
 ///
-/// The errors of `select_tables`, then those of `instances::decode_with`; `OutOfMemory`.
+/// First `HuffmanError::InvalidSelection` for a table's number without meaning and
+/// `HuffmanError::MissingTables` where the custom tables run out. Then
+/// `SymbolError::TooManyInstances` for more than 32 instances a byte of the segment, and in strict mode
+/// where the last strip does not end; `ParseError::UnexpectedEof` and `HuffmanError::InvalidCode` where
+/// prefix codes end or there is none; an unexpected out of band as `HuffmanError` or `SymbolError`;
+/// `SymbolError::InvalidStripDelta`, `OverflowError::PlacementCoordinate`,
+/// `OverflowError::BitmapDimension` and `OverflowError::ReferenceOffset` for numbers that leave their
+/// ranges; `SymbolError::OutOfRange` for an id without a symbol, in lenient mode only where it is
+/// refined; `OutOfMemory`.
 #[tactic(auto, unfolding(crate::specs::TextRegion::text_answer))]
 pub fn decode_into<
     H: Allocator,

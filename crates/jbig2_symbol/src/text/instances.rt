@@ -207,13 +207,6 @@ fn draw_instances<B: Allocator, M: Allocator, D: Allocator, L: Ledger>(
 
 /// Reads the instances of a text region and draws them onto `region`. `alloc` is for the list of
 /// instances and for refined symbols. A refusal leaves the region as it was.
-///
-/// `SymbolError::TooManyInstances` for more than 32 instances a byte of the segment, and in strict mode
-/// where the last strip does not end; `SymbolError::InvalidStripDelta`,
-/// `OverflowError::PlacementCoordinate`, `OverflowError::BitmapDimension` and
-/// `OverflowError::ReferenceOffset` for numbers that leave their ranges; `SymbolError::OutOfRange` for
-/// an id without a symbol that is refined, or in strict mode; the errors of the readings;
-/// `OutOfMemory`.
 #[tactic(auto, unfolding(crate::specs::Text::text_region))]
 pub fn decode_with<R: ReadInstances, B: Allocator, M: Allocator + Clone, D: Allocator, L: Ledger>(
     alloc: M,
