@@ -1,3 +1,4 @@
+pub mod ClassLemmas
 pub mod CodeLength
 pub mod CodedLemmas
 pub mod CutLemmas

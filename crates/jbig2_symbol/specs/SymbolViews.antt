@@ -1,7 +1,11 @@
 -- How a dictionary's input is seen by the definitions (our own rule).
-use Rattle.std.specs.Prelude.{map}
+use Rattle.std.specs.Prelude.{List, map}
+use Rattle.jbig2_base.specs.Grid.{Grid}
 use Rattle.jbig2_symbol.specs.SymbolHeader.{header_view}
 use Rattle.jbig2_symbol.specs.SymbolReading.{SymbolInput, SymbolTables}
+use Rattle.jbig2_symbol.specs.Symbols.{HeightClass, NewSymbols}
+use Rattle.jbig2_symbol.specs.declared.symbol.height_class.HeightClass.{HeightClass as Class}
+use Rattle.jbig2_symbol.specs.declared.symbol.height_class.NewSymbols.{NewSymbols as New}
 use Rattle.jbig2_symbol.specs.declared.symbol.reading.SymbolInput.{SymbolInput as Input}
 use Rattle.jbig2_symbol.specs.declared.symbol.reading.SymbolTables.{SymbolTables as Tables}
 
@@ -16,3 +20,10 @@ tables_view t = record {
 
 abbrev pub input_view : {S T : Type 0} → Input S T → SymbolInput
 input_view d = record { header = header_view d.header.now; symbols = map (λ b. b.now) d.symbols.now; tables = tables_view d.tables.now }
+
+-- a height class, and the new symbols so far
+abbrev pub class_view : {A : Type 0} → Class A → List Grid → HeightClass
+class_view c grids = record { widths = c.widths.items; width = c.width; total = c.total; grids = grids }
+
+abbrev pub new_view : {A : Type 0} → New A → NewSymbols
+new_view n = record { grids = n.bitmaps.items; height = n.height; empty = n.empty }

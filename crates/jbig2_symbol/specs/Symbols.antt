@@ -28,19 +28,19 @@ pub record HeightClass : Type 0 where
 abbrev pub no_symbols : List Grid → HeightClass
 no_symbols grids = record { widths = []; width = 0; total = 0; grids = grids }
 
--- the bitmap of a symbol, unless it is read with its class (6.5.5, step 4c)
-unfoldable pub symbol_bitmap : SymbolInput → ℕ → ℕ → List Grid → SymbolState → Result (List Grid × SymbolState) DecodeError
-symbol_bitmap d width height before s =
-    if d.header.flags.use_huffman then Ok ([], s)
-    else coded_symbol d.header width height s >>= λ symbol. Ok (symbol.0 ∷ [], symbol.1)
+-- the grids so far, with that of a symbol, unless it is read with its class (6.5.5, step 4c)
+unfoldable pub bitmaps_with : SymbolInput → ℕ → ℕ → List Grid → SymbolState → Result (List Grid × SymbolState) DecodeError
+bitmaps_with d width height before s =
+    if d.header.flags.use_huffman then Ok (before, s)
+    else coded_symbol d.header width height s >>= λ symbol. Ok (before ++ symbol.0 ∷ [], symbol.1)
 
 -- one symbol more
 unfoldable pub with_symbol : SymbolInput → ℕ → HeightClass → ℤ → SymbolState → Result (HeightClass × SymbolState) DecodeError
 with_symbol d height c difference s = do
   width ← size_in_word (pos c.width +ℤ difference)
   total ← size_in_word (pos c.total +ℤ pos width)
-  symbol ← symbol_bitmap d width height c.grids s
-  Ok (record { widths = c.widths ++ width ∷ []; width = width; total = total; grids = c.grids ++ symbol.0 }, symbol.1)
+  symbol ← bitmaps_with d width height c.grids s
+  Ok (record { widths = c.widths ++ width ∷ []; width = width; total = total; grids = symbol.0 }, symbol.1)
 
 -- The symbols of a class up to out of band (6.5.5, step 4); at most `room` more may come.
 unfoldable pub class_from : SymbolInput → ℕ → ℕ → HeightClass → SymbolState → Result (HeightClass × SymbolState) DecodeError
@@ -63,23 +63,41 @@ class_ended d height c s =
     then (collective_bitmap d c.total height s >>= λ collective. put_behind c.grids (symbols_cut collective.0 height 0 c.widths) >>= λ grids. Ok (grids, collective.1))
     else Ok (c.grids, s)
 
--- The height classes, until all new symbols are there; `empty` classes had no symbol, which may be 2^20 of them at most
--- (our own rule). n classes are enough where n is at least the number of the symbols and the empty classes to come.
-unfoldable pub classes_from : SymbolInput → ℕ → ℕ → ℕ → List Grid → SymbolState → Result (List Grid × SymbolState) DecodeError
-classes_from d zero empty height grids s = Ok (grids, s)
-classes_from d (suc n) empty height grids s =
-    if nat_le d.header.num_new_symbols (length grids) then Ok (grids, s)
-    else do
-      value ← height_difference d s
-      difference ← in_band (errors.Symbol UnexpectedOob) value.0
-      next ← size_in_word (pos height +ℤ difference)
-      class ← class_from d (d.header.num_new_symbols - length grids) next (no_symbols grids) value.1
-      few ← refuse_if (is_empty class.0.widths && nat_le most_empty empty) (errors.Symbol Invalid)
-      all ← class_ended d next class.0 class.1
-      classes_from d n (empty + bit_number (is_empty class.0.widths)) next all.0 all.1
+-- The new symbols so far: their grids, the height of the last class (HCHEIGHT), and how many classes had no symbol.
+pub record NewSymbols : Type 0 where
+  pub grids : List Grid
+  pub height : ℕ
+  pub empty : ℕ
+
+-- the symbols of a class, and its bitmaps; a class without a symbol is refused where 2^20 came before (our own rule)
+unfoldable pub class_of_height : SymbolInput → ℕ → NewSymbols → SymbolState → Result (NewSymbols × SymbolState) DecodeError
+class_of_height d height p s = do
+  class ← class_from d (d.header.num_new_symbols - length p.grids) height (no_symbols p.grids) s
+  few ← refuse_if (is_empty class.0.widths && nat_le most_empty p.empty) (errors.Symbol Invalid)
+  all ← class_ended d height class.0 class.1
+  Ok (record { grids = all.0; height = height; empty = p.empty + bit_number (is_empty class.0.widths) }, all.1)
+
+-- one height class more (6.5.5, step 4)
+unfoldable pub height_class : SymbolInput → NewSymbols → SymbolState → Result (NewSymbols × SymbolState) DecodeError
+height_class d p s = do
+  value ← height_difference d s
+  difference ← in_band (errors.Symbol UnexpectedOob) value.0
+  height ← size_in_word (pos p.height +ℤ difference)
+  class_of_height d height p value.1
+
+-- The height classes, until all new symbols are there. Each has a symbol or is one of the 2^20 that may be empty, so n
+-- of them are enough where n is at least the number of the symbols and the empty classes to come.
+unfoldable pub classes_from : SymbolInput → ℕ → NewSymbols → SymbolState → Result (List Grid × SymbolState) DecodeError
+classes_from d zero p s = Ok (p.grids, s)
+classes_from d (suc n) p s =
+    if nat_le d.header.num_new_symbols (length p.grids) then Ok (p.grids, s)
+    else (height_class d p s >>= λ next. classes_from d n next.0 next.1)
+
+abbrev pub none_yet : NewSymbols
+none_yet = record { grids = []; height = 0; empty = 0 }
 
 abbrev pub new_symbols : SymbolInput → SymbolState → Result (List Grid × SymbolState) DecodeError
-new_symbols d s = classes_from d (d.header.num_new_symbols + most_empty) 0 0 [] s
+new_symbols d s = classes_from d (d.header.num_new_symbols + most_empty) none_yet s
 
 -- A dictionary: the symbols that it exports, and the contexts that it keeps.
 pub record Symbols : Type 0 where

@@ -1,8 +1,10 @@
 //! Symbol dictionaries (T.88, 6.5 and 7.4.2).
 
 pub mod bitmaps;
+pub mod classes;
 pub mod dictionary;
 pub mod header;
+pub mod height_class;
 pub mod reading;
 
 pub use dictionary::{RetainedContexts, SymbolDictionary};

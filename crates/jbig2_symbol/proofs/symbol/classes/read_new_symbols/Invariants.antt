@@ -1,0 +1,7 @@
+use Rattle.std.proofs.Common.{◌≡◌, ◌+◌, ◌-◌}
+use Rattle.jbig2_symbol.specs.Symbols.{classes_from, new_symbols}
+use Rattle.jbig2_symbol.specs.SymbolViews.{input_view, new_view}
+use Rattle.jbig2_symbol.proofs.symbol.classes.read_new_symbols.Given as goal
+
+abbrev pub invariant-loop : goal.invariant-loop
+invariant-loop g l = classes_from (input_view l.input) (l.input.header.now.num_new_symbols + 1048576 - l.counter) (new_view l.symbols) l.reader ≡ new_symbols (input_view l.input) l.fn.reader
