@@ -138,19 +138,19 @@ fn decode_prefixed<
     decode_with(alloc, &mut readings, &params, bitmap, steps)
 }
 
-/// Decodes a text region (T.88, 6.4) of these symbols, at most 2^21, into a bitmap of its size that is
-/// all in its default colour. `referred_tables` are the custom tables that it refers to. A refusal
-/// leaves the bitmap as it was.
+/// Decodes a text region (T.88, 6.4) of these symbols, at most 2^21, into a bitmap of its size
+/// that is all in its default colour. `referred_tables` are the custom tables that it refers to. A
+/// refusal leaves the bitmap as it was.
 ///
 /// First `HuffmanError::InvalidSelection` for a table's number without meaning and
 /// `HuffmanError::MissingTables` where the custom tables run out. Then
-/// `SymbolError::TooManyInstances` for more than 32 instances a byte of the segment, and in strict mode
-/// where the last strip does not end; `ParseError::UnexpectedEof` and `HuffmanError::InvalidCode` where
-/// prefix codes end or there is none; an unexpected out of band as `HuffmanError` or `SymbolError`;
-/// `SymbolError::InvalidStripDelta`, `OverflowError::PlacementCoordinate`,
-/// `OverflowError::BitmapDimension` and `OverflowError::ReferenceOffset` for numbers that leave their
-/// ranges; `SymbolError::OutOfRange` for an id without a symbol, in lenient mode only where it is
-/// refined; `OutOfMemory`.
+/// `SymbolError::TooManyInstances` for more than 32 instances a byte of the segment, and in strict
+/// mode where the last strip does not end; `ParseError::UnexpectedEof` and
+/// `HuffmanError::InvalidCode` where prefix codes end or there is none; an unexpected out of band
+/// as `HuffmanError` or `SymbolError`; `SymbolError::InvalidStripDelta`,
+/// `OverflowError::PlacementCoordinate`, `OverflowError::BitmapDimension` and
+/// `OverflowError::ReferenceOffset` for numbers that leave their ranges; `SymbolError::OutOfRange`
+/// for an id without a symbol, in lenient mode only where it is refined; `OutOfMemory`.
 #[tactic(auto, unfolding(crate::specs::TextRegion::text_answer))]
 pub fn decode_into<
     H: Allocator,

@@ -189,12 +189,13 @@ fn parse_codes<A: Allocator + Clone>(
     Ok(Some(codes))
 }
 
-/// The header of a text region of so many symbols, at most 2^21, at the reader's place, which holds
-/// the coded bytes behind it (T.88, 7.4.3.1). A refusal leaves the reader where it was.
+/// The header of a text region of so many symbols, at most 2^21, at the reader's place, which
+/// holds the coded bytes behind it (T.88, 7.4.3.1). A refusal leaves the reader where it was.
 ///
 /// `ParseError::UnexpectedEof` where the bytes do not hold it; the errors of
-/// `parse_region_segment_info`; `HuffmanError::InvalidCode` where the codes of the symbols' ids end
-/// early, do not fit or are not as many as the symbols; `OutOfMemory` where there is no room for them.
+/// `parse_region_segment_info`; `HuffmanError::InvalidCode` where the codes of the symbols' ids
+/// end early, do not fit or are not as many as the symbols; `OutOfMemory` where there is no room
+/// for them.
 #[tactic(auto, unfolding(crate::specs::TextHeader::text_header_at))]
 pub fn parse<'a, A: Allocator + Clone>(
     alloc: A,

@@ -25,7 +25,8 @@ pub fn read_strip_delta<R: ReadInstances, L: Ledger>(
     numbers::strips(delta, flags.log_strip_size)
 }
 
-/// A strip begins: where its first instance stands, by the T and the first S of the strip before it.
+/// A strip begins: where its first instance stands, by the T and the first S of the strip before
+/// it.
 #[tactic(auto, unfolding(crate::specs::Text::strip_begun))]
 pub fn begin_strip<R: ReadInstances, L: Ledger>(
     readings: &mut R,

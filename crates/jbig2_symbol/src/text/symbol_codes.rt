@@ -168,11 +168,12 @@ fn read_symbol_codes<A: Allocator + Clone>(
     Ok(codes)
 }
 
-/// Reads the codes of so many symbols, at most 2^21; the reader then stands at the beginning of a byte.
+/// Reads the codes of so many symbols, at most 2^21; the reader then stands at the beginning of a
+/// byte.
 ///
-/// `ParseError::UnexpectedEof` where the bits end in a runcode; `HuffmanError::InvalidCode` where they
-/// end elsewhere, for codes that do not fit, for a last length that is repeated where there is none,
-/// and for more lengths than symbols; `OutOfMemory`.
+/// `ParseError::UnexpectedEof` where the bits end in a runcode; `HuffmanError::InvalidCode` where
+/// they end elsewhere, for codes that do not fit, for a last length that is repeated where there
+/// is none, and for more lengths than symbols; `OutOfMemory`.
 pub fn parse_symbol_codes<A: Allocator + Clone>(
     alloc: A,
     reader: &mut Reader<'_>,

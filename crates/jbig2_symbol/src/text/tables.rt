@@ -96,8 +96,8 @@ fn size_table<'a, T: Allocator>(
 
 /// The tables that the flags name; each custom one is the next of `customs`.
 ///
-/// `HuffmanError::InvalidSelection` for a number without meaning; `HuffmanError::MissingTables` where
-/// the custom tables run out. Takes no memory.
+/// `HuffmanError::InvalidSelection` for a number without meaning; `HuffmanError::MissingTables`
+/// where the custom tables run out. Takes no memory.
 #[tactic(auto, unfolding(crate::specs::TextRegion::text_tables))]
 pub fn select_tables<'a, T: Allocator>(
     flags: &TextRegionHuffmanFlags,

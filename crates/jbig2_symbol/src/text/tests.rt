@@ -1,7 +1,7 @@
 //! Regions of one instance, plain and refined.
 //!
-//! `rt try --test --fail-alloc N` in this crate's folder runs these tests with the Nth request for memory
-//! refused. What it was refused to is tried again.
+//! `rt try --test --fail-alloc N` in this crate's folder runs these tests with the Nth request for
+//! memory refused. What it was refused to is tried again.
 ghost use Rattle.std.specs.Prelude.{◌≡◌, ◌≤◌};
 
 use crate::text::{decode, parse};
