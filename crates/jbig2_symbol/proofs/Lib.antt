@@ -2,6 +2,7 @@ pub mod ClassLemmas
 pub mod CodeLength
 pub mod CodedLemmas
 pub mod CutLemmas
+pub mod ExportLemmas
 pub mod FillLemmas
 pub mod InstanceLemmas
 pub mod RefiningLemmas

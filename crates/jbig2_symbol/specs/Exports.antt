@@ -30,20 +30,27 @@ exported_from runs from (g ∷ grids) =
 abbrev pub exported : List ℕ → List Grid → List Grid
 exported runs grids = exported_from runs 0 grids
 
--- The runs, until they cover `left` symbols more; `empty` runs of length 0 came before. Each run covers a symbol or is
--- one of the 2^20 that may be empty, so n of them are enough where n is at least `left` and the empty ones to come.
+-- A run, where `left` symbols are not covered yet and `empty` runs of length 0 came before.
+unfoldable pub next_run : SymbolInput → ℕ → ℕ → SymbolState → Result (ℕ × SymbolState) DecodeError
+next_run d empty left s = do
+  value ← export_run d s
+  number ← in_band (Huffman UnexpectedOob) value.0
+  run ← not_negative (Huffman InvalidCode) number
+  few ← refuse_if (run == 0 && nat_le most_empty empty) (Symbol Invalid)
+  within ← refuse_if (nat_lt left run) (Symbol OutOfRange)
+  Ok (run, value.1)
+
+-- a run before others
+abbrev pub run_before : ℕ → Result (List ℕ × SymbolState) DecodeError → Result (List ℕ × SymbolState) DecodeError
+run_before run answer = answer >>= λ others. Ok (run ∷ others.0, others.1)
+
+-- The runs, until all symbols are covered. Each covers a symbol or is one of the 2^20 that may be empty, so n of them are
+-- enough where n is at least `left` and the empty ones to come.
 unfoldable pub runs_from : SymbolInput → ℕ → ℕ → ℕ → SymbolState → Result (List ℕ × SymbolState) DecodeError
 runs_from d zero empty left s = Ok ([], s)
 runs_from d (suc n) empty left s =
     if left == 0 then Ok ([], s)
-    else do
-      value ← export_run d s
-      number ← in_band (Huffman UnexpectedOob) value.0
-      run ← not_negative (Huffman InvalidCode) number
-      few ← refuse_if (run == 0 && nat_le most_empty empty) (Symbol Invalid)
-      within ← refuse_if (nat_lt left run) (Symbol OutOfRange)
-      others ← runs_from d n (empty + bit_number (run == 0)) (left - run) value.1
-      Ok (run ∷ others.0, others.1)
+    else (next_run d empty left s >>= λ run. run_before run.0 (runs_from d n (empty + bit_number (run.0 == 0)) (left - run.0) run.1))
 
 abbrev pub export_runs : SymbolInput → ℕ → SymbolState → Result (List ℕ × SymbolState) DecodeError
 export_runs d count s = runs_from d (count + most_empty) 0 count s

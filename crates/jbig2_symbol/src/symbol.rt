@@ -3,6 +3,7 @@
 pub mod bitmaps;
 pub mod classes;
 pub mod dictionary;
+pub mod exports;
 pub mod header;
 pub mod height_class;
 pub mod reading;

@@ -1,0 +1,64 @@
+-- The symbols that are exported, and the runs that say which.
+use Rattle.std.proofs.Common.{◌≡◌, ℕ, zero, suc, ◌+◌, ◌-◌, ◌%◌, ◌<◌, ◌≤◌, Bool, true, false, cond, eqb, List, [], ◌∷◌, ◌++◌, length, take, drop, get_or, Result, Ok, Err, refl, sym, ap, ◌∙◌, append_assoc, ⊎_elim, arith}
+use Rattle.std.proofs.lemmas.List.{append-nil}
+use Rattle.std.specs.Prelude.{sum}
+use Rattle.std.proofs.lemmas.Bool.{cases_eq, eq-eqb, ne_eqb}
+use Rattle.std.proofs.lemmas.List.Sums.{sum_by-append}
+use Rattle.jbig2_base.specs.Answer.{◌>>=◌}
+use Rattle.jbig2_base.specs.Grid.{Grid, bit_number}
+use Rattle.jbig2_base.specs.declared.error.DecodeError.{DecodeError}
+use Rattle.jbig2_symbol.specs.Exports.{next_run, run_before, runs_from}
+use Rattle.jbig2_symbol.specs.SymbolReading.{SymbolInput, SymbolState}
+
+-- ---- the runs
+-- runs behind others
+abbrev pub runs_behind : List ℕ → Result (List ℕ × SymbolState) DecodeError → Result (List ℕ × SymbolState) DecodeError
+runs_behind before answer = answer >>= λ others. Ok (before ++ others.0, others.1)
+
+runs-moved : (before : List ℕ) (run : ℕ) (answer : Result (List ℕ × SymbolState) DecodeError) → runs_behind before (run_before run answer) ≡ runs_behind (before ++ run ∷ []) answer
+runs-moved before run (Ok others) = ap (λ (all : List ℕ). Ok (all, others.1)) (sym (append_assoc before (run ∷ []) others.0))
+runs-moved before run (Err e) = refl
+
+runs-begun : (answer : Result (List ℕ × SymbolState) DecodeError) → runs_behind [] answer ≡ answer
+runs-begun (Ok others) = refl
+runs-begun (Err e) = refl
+
+pub runs-start : (before : List ℕ) (answer : Result (List ℕ × SymbolState) DecodeError) → before ≡ [] → runs_behind before answer ≡ answer
+runs-start before answer none = ap (λ (all : List ℕ). runs_behind all answer) none ∙ runs-begun answer
+
+pub runs-next : (d : SymbolInput) (n m empty left run : ℕ) (before : List ℕ) (s t : SymbolState) → n ≡ suc m → 0 < left → next_run d empty left s ≡ Ok (run, t) → runs_behind before (runs_from d n empty left s) ≡ runs_behind (before ++ run ∷ []) (runs_from d m (empty + bit_number (eqb run 0)) (left - run) t)
+unfolding runs_from
+runs-next d n m empty left run before s t more some e =
+    let test : eqb left 0 ≡ false = ne_eqb left 0 (λ none. omega arith) in
+    rw (more, test, e) (runs-moved before run (runs_from d m (empty + bit_number (eqb run 0)) (left - run) t))
+
+pub runs-fault : (d : SymbolInput) (n m empty left : ℕ) (before : List ℕ) (s : SymbolState) (error : DecodeError) → n ≡ suc m → 0 < left → next_run d empty left s ≡ Err error → runs_behind before (runs_from d n empty left s) ≡ Err error
+unfolding runs_from
+runs-fault d n m empty left before s error more some e =
+    let test : eqb left 0 ≡ false = ne_eqb left 0 (λ none. omega arith) in
+    rw (more, test, e) refl
+
+pub runs-done : (d : SymbolInput) (n empty left : ℕ) (before : List ℕ) (s : SymbolState) → left ≡ 0 → runs_behind before (runs_from d n empty left s) ≡ Ok (before, s)
+unfolding runs_from
+runs-done d zero empty left before s none = ap (λ (all : List ℕ). Ok (all, s)) (append-nil before)
+runs-done d (suc n) empty left before s none = let test : eqb left 0 ≡ true = eq-eqb left 0 none in rw test (ap (λ (all : List ℕ). Ok (all, s)) (append-nil before))
+
+pub covered-more : (runs after : List ℕ) (run left count : ℕ) → run ≤ left → sum runs + left ≡ count → after ≡ runs ++ run ∷ [] → sum after + (left - run) ≡ count
+covered-more runs after run left count within covered pushed =
+    let zero_more : 0 + run ≡ run = omega arith in
+    let last : sum (runs ++ run ∷ []) ≡ sum runs + run = sum_by-append (λ (n : ℕ). n) runs (run ∷ []) ∙ ap (λ (n : ℕ). sum runs + n) zero_more in
+    let all : sum after ≡ sum runs + run = ap (λ (rs : List ℕ). sum rs) pushed ∙ last in
+    omega (arith, all)
+
+-- one run more of length 0, or one that covers a symbol
+pub room-left : (empty run e left most : ℕ) → e ≡ bit_number (eqb run 0) → (run ≡ 0 → empty < 1048576) → empty ≤ 1048576 → run ≤ left → left + (1048576 - empty) ≤ suc most → (empty + e ≤ 1048576) × (left - run + (1048576 - (empty + e)) ≤ most)
+room-left empty run e left most is few below within enough =
+    ⊎_elim
+    (λ (none : run ≡ 0).
+    let one : e ≡ 1 = is ∙ ap (λ (b : Bool). bit_number b) (eq-eqb run 0 none) in
+    let more : empty < 1048576 = few none in
+    (omega arith, omega arith))
+    (λ (some : run ≡ 0 → ⊥).
+    let zero_more : e ≡ 0 = is ∙ ap (λ (b : Bool). bit_number b) (ne_eqb run 0 some) in
+    (omega arith, omega arith))
+    (cases_eq run 0)
