@@ -3,6 +3,7 @@ pub mod CodeLength
 pub mod CodedLemmas
 pub mod CutLemmas
 pub mod ExportLemmas
+pub mod ExportedLemmas
 pub mod FillLemmas
 pub mod InstanceLemmas
 pub mod RefiningLemmas

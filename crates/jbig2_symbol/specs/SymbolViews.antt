@@ -1,5 +1,6 @@
 -- How a dictionary's input is seen by the definitions (our own rule).
-use Rattle.std.specs.Prelude.{List, map}
+use Rattle.std.specs.Borrow.{Bor}
+use Rattle.std.specs.Prelude.{◌++◌, List, map}
 use Rattle.jbig2_base.specs.Grid.{Grid}
 use Rattle.jbig2_symbol.specs.SymbolHeader.{header_view}
 use Rattle.jbig2_symbol.specs.SymbolReading.{SymbolInput, SymbolTables}
@@ -27,3 +28,7 @@ class_view c grids = record { widths = c.widths.items; width = c.width; total = 
 
 abbrev pub new_view : {A : Type 0} → New A → NewSymbols
 new_view n = record { grids = n.bitmaps.items; height = n.height; empty = n.empty }
+
+-- the symbols that are referred to, and the new ones behind them
+abbrev pub all_symbols : List (Bor Grid) → List Grid → List Grid
+all_symbols symbols new = map (λ b. b.now) symbols ++ new

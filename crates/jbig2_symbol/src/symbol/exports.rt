@@ -1,8 +1,9 @@
 //! The symbols that a dictionary exports (T.88, 6.5.10).
-ghost use Rattle.std.specs.Prelude.{◌≡◌, ◌+◌, ◌<◌, ◌≤◌, ◌++◌, IfOk, OnOk, length, map, sum, take, drop, Ok};
+ghost use Rattle.std.specs.Prelude.{◌≡◌, ◌+◌, ◌<◌, ◌≤◌, ◌++◌, IfOk, length, sum, take, drop, slice_index_or, false, Ok};
 ghost use Rattle.jbig2_base.specs.Answer.{Answers, Gives};
+ghost use Rattle.jbig2_base.specs.Grid.{blank};
 ghost use Rattle.jbig2_symbol.specs.Exports.{export_runs, exported, next_run};
-ghost use Rattle.jbig2_symbol.specs.SymbolViews.{input_view};
+ghost use Rattle.jbig2_symbol.specs.SymbolViews.{all_symbols, input_view};
 
 use crate::symbol::reading::{SymbolInput, SymbolReader};
 use jbig2_base::bitmap::Bitmap;
@@ -72,4 +73,63 @@ pub fn read_runs<A: Allocator, B: Allocator, S: Allocator, T: Allocator, L: Ledg
         empty += u32::from(run == 0);
     }
     Ok(runs)
+}
+
+/// A copy of a symbol, by its number among those that are referred to and the new ones behind them.
+fn duplicate_symbol<A: Allocator, S: Allocator>(
+    alloc: A,
+    symbols: &[&Bitmap<S>],
+    new: &[Bitmap<A>],
+    index: usize,
+) -> Result<Bitmap<A>>
+    requires { index < length symbols.now + length new.now }
+    ensures { Gives (λ symbol. symbol) result (Ok (slice_index_or (all_symbols symbols.now new.now) index (blank 0 0 false))) }
+{
+    if index < symbols.len() {
+        return symbols[index].duplicate(alloc);
+    }
+    new[index - symbols.len()].duplicate(alloc)
+}
+
+/// Puts copies of `count` symbols from number `first` on behind those that are exported so far.
+fn push_symbols<A: Allocator + Clone, S: Allocator>(
+    alloc: A,
+    symbols: &[&Bitmap<S>],
+    new: &[Bitmap<A>],
+    first: usize,
+    count: usize,
+    exported: &mut Vec<Bitmap<A>, A>,
+) -> Result<()>
+    requires { first + count ≤ length symbols.now + length new.now }
+    ensures { Gives (λ _. exported.new.items) result (Ok (exported.old.items ++ take count (drop first (all_symbols symbols.now new.now)))) }
+{
+    for k in 0..count {
+        exported.push(duplicate_symbol(alloc.clone()?, symbols, new, first + k)?)?;
+    }
+    Ok(())
+}
+
+/// The symbols that the runs export, of those that are referred to and the new ones behind them.
+pub fn export_symbols<A: Allocator + Clone, S: Allocator>(
+    alloc: A,
+    runs: &[u32],
+    symbols: &[&Bitmap<S>],
+    new: &[Bitmap<A>],
+) -> Result<Vec<Bitmap<A>, A>>
+    requires { sum runs.now ≡ length symbols.now + length new.now }
+    ensures { Gives (λ symbols. symbols.items) result (Ok (exported runs.now (all_symbols symbols.now new.now))) }
+{
+    let mut exported = Vec::new(alloc.clone()?);
+    let mut first = 0;
+    for (k, run) in runs.iter().enumerate() {
+        let count = *run as usize;
+        if k % 2 == 1 {
+            match push_symbols(alloc.clone()?, symbols, new, first, count, &mut exported) {
+                Ok(()) => {}
+                Err(error) => return Err(error),
+            }
+        }
+        first += count;
+    }
+    Ok(exported)
 }
