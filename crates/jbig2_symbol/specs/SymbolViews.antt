@@ -2,6 +2,7 @@
 use Rattle.std.specs.Borrow.{Bor}
 use Rattle.std.specs.Prelude.{◌++◌, List, map}
 use Rattle.jbig2_base.specs.Grid.{Grid}
+use Rattle.jbig2_coder.specs.PrefixCode.{Member}
 use Rattle.jbig2_symbol.specs.SymbolHeader.{header_view}
 use Rattle.jbig2_symbol.specs.SymbolReading.{SymbolInput, SymbolTables}
 use Rattle.jbig2_symbol.specs.Symbols.{HeightClass, NewSymbols}
@@ -32,3 +33,7 @@ new_view n = record { grids = n.bitmaps.items; height = n.height; empty = n.empt
 -- the symbols that are referred to, and the new ones behind them
 abbrev pub all_symbols : List (Bor Grid) → List Grid → List Grid
 all_symbols symbols new = map (λ b. b.now) symbols ++ new
+
+-- the tables that are referred to
+abbrev pub referred_view : List (Bor (List Member)) → List (List Member)
+referred_view tables = map (λ t. t.now) tables

@@ -7,6 +7,7 @@ pub mod exports;
 pub mod header;
 pub mod height_class;
 pub mod reading;
+pub mod tables;
 
 pub use dictionary::{RetainedContexts, SymbolDictionary};
 pub use header::{HuffmanTableSelection, SymbolDictionaryFlags, SymbolDictionaryHeader, parse};
