@@ -2,6 +2,7 @@
 
 pub mod bitmaps;
 pub mod classes;
+pub mod contexts;
 pub mod dictionary;
 pub mod exports;
 pub mod header;

@@ -1,8 +1,9 @@
 //! The numbers of a symbol dictionary, by prefix codes or by the arithmetic coder (T.88, 6.5).
+ghost use Rattle.std.specs.Prelude.{Ok};
 ghost use Rattle.jbig2_base.specs.Answer.{Answers, Gives};
 ghost use Rattle.jbig2_symbol.specs.SymbolBitmaps.{coded_symbol, collective_bitmap};
 ghost use Rattle.jbig2_symbol.specs.SymbolHeader.{header_view};
-ghost use Rattle.jbig2_symbol.specs.SymbolReading.{export_run, height_difference, width_difference};
+ghost use Rattle.jbig2_symbol.specs.SymbolReading.{contexts_view, export_run, first_state, height_difference, width_difference};
 ghost use Rattle.jbig2_symbol.specs.SymbolViews.{input_view};
 
 use crate::symbol::bitmaps::read_rows;
@@ -58,6 +59,26 @@ impl<'a, A: Allocator> Model for SymbolReader<'a, A> {
     ghost Value = { SymbolState };
 
     ghost view = { λ r. record { place = r.reader; coder = r.decoder; heights = r.heights; widths = r.widths; runs = r.runs; bitmaps = contexts_view r.bitmaps } };
+}
+
+impl<'a, A: Allocator + Clone> SymbolReader<'a, A> {
+    /// A reader at the beginning of a dictionary's coded bytes, with these contexts of its bitmaps.
+    pub fn new(
+        alloc: A,
+        bytes: &'a [u8],
+        bitmaps: RetainedContexts<A>,
+    ) -> Result<SymbolReader<'a, A>>
+        ensures { Gives (λ reader. reader) result (Ok (first_state bytes.now (contexts_view bitmaps))) }
+    {
+        Ok(SymbolReader {
+            reader: Reader::new(bytes),
+            decoder: ArithmeticDecoder::new(bytes),
+            heights: IntegerDecoder::new(alloc.clone()?)?,
+            widths: IntegerDecoder::new(alloc.clone()?)?,
+            runs: IntegerDecoder::new(alloc)?,
+            bitmaps,
+        })
+    }
 }
 
 impl<A: Allocator> SymbolReader<'_, A> {

@@ -1,0 +1,100 @@
+//! The contexts with which a symbol dictionary begins (T.88, 7.4.2.2).
+ghost use Rattle.std.specs.Prelude.{◌≡◌, option_map, Ok};
+ghost use Rattle.jbig2_base.specs.Answer.{Gives};
+ghost use Rattle.jbig2_symbol.specs.SymbolReading.{contexts_view, first_contexts, first_state, fresh_bitmap_contexts, is_refinement_template, is_template};
+
+use crate::symbol::dictionary::RetainedContexts;
+use crate::symbol::header::SymbolDictionaryFlags;
+use jbig2_base::error::{DecodeError, Result, SymbolError};
+use jbig2_region::raster;
+use jbig2_region::template::{RefinementTemplate, Template};
+use std::alloc::Allocator;
+
+fn is_template(template: Template, other: Template) -> bool
+    ensures { result ≡ is_template template other }
+{
+    match (template, other) {
+        (Template::Template0, Template::Template0) => true,
+        (Template::Template1, Template::Template1) => true,
+        (Template::Template2, Template::Template2) => true,
+        (Template::Template3, Template::Template3) => true,
+        _ => false,
+    }
+}
+
+fn is_refinement_template(template: RefinementTemplate, other: RefinementTemplate) -> bool
+    ensures { result ≡ is_refinement_template template other }
+{
+    match (template, other) {
+        (RefinementTemplate::Template0, RefinementTemplate::Template0) => true,
+        (RefinementTemplate::Template1, RefinementTemplate::Template1) => true,
+        _ => false,
+    }
+}
+
+/// Contexts of which nothing is known.
+fn fresh_contexts<A: Allocator + Clone>(
+    alloc: A,
+    flags: &SymbolDictionaryFlags,
+) -> Result<RetainedContexts<A>>
+    ensures { Gives (λ contexts. contexts_view contexts) result (Ok (fresh_bitmap_contexts flags.now)) }
+{
+    let mut generic_region = Vec::new(alloc.clone()?);
+    raster::fresh_contexts(&mut generic_region, flags.template.context_bits())?;
+    let mut refinement_region = Vec::new(alloc);
+    raster::fresh_contexts(
+        &mut refinement_region,
+        flags.refinement_template.context_bits(),
+    )?;
+    Ok(RetainedContexts {
+        template: flags.template,
+        refinement_template: flags.refinement_template,
+        generic_region,
+        refinement_region,
+    })
+}
+
+/// A copy of what another dictionary has kept.
+fn duplicate_contexts<A: Allocator + Clone, K: Allocator>(
+    alloc: A,
+    kept: &RetainedContexts<K>,
+) -> Result<RetainedContexts<A>>
+    ensures { Gives (λ contexts. contexts_view contexts) result (Ok (contexts_view kept.now)) }
+{
+    let mut generic_region = Vec::new(alloc.clone()?);
+    generic_region.extend_from_slice(&kept.generic_region)?;
+    let mut refinement_region = Vec::new(alloc);
+    refinement_region.extend_from_slice(&kept.refinement_region)?;
+    Ok(RetainedContexts {
+        template: kept.template,
+        refinement_template: kept.refinement_template,
+        generic_region,
+        refinement_region,
+    })
+}
+
+/// The contexts at the beginning: fresh, or as another dictionary of the same templates left them.
+///
+/// `SymbolError::Invalid` where there are none, or of other templates; `OutOfMemory` where there is no
+/// room.
+#[tactic(auto, unfolding(crate::specs::SymbolReading::first_contexts))]
+pub fn first_contexts<A: Allocator + Clone, K: Allocator>(
+    alloc: A,
+    flags: &SymbolDictionaryFlags,
+    kept: Option<&RetainedContexts<K>>,
+) -> Result<RetainedContexts<A>>
+    ensures { Gives (λ contexts. contexts_view contexts) result (first_contexts flags.now (option_map (λ c. contexts_view c.now) kept.entry)) }
+{
+    if !flags.bitmap_context_used {
+        return fresh_contexts(alloc, flags);
+    }
+    let Some(kept) = kept else {
+        return Err(DecodeError::Symbol(SymbolError::Invalid));
+    };
+    let same = is_template(kept.template, flags.template)
+        && is_refinement_template(kept.refinement_template, flags.refinement_template);
+    if !same {
+        return Err(DecodeError::Symbol(SymbolError::Invalid));
+    }
+    duplicate_contexts(alloc, kept)
+}
