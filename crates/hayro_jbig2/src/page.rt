@@ -20,6 +20,7 @@ use crate::drawing::draw_segments;
 use crate::globals::Globals;
 use crate::image::write_image;
 use crate::settings::DecodeSettings;
+use crate::shared::SharedNames;
 use jbig2_base::bitmap::steps::Steps;
 use jbig2_base::error::Result;
 use jbig2_base::file::parse_segments_sequential;
@@ -241,6 +242,7 @@ impl<'a, A: Allocator> Page<'a, A> {
             Err(error) => return Err(error.duplicate()),
         };
         context.begin(&self.sheet)?;
-        draw_segments(self.strict, globals, self.segments.as_vec(), context, steps)
+        let names = SharedNames::of(context.alloc.clone()?, globals)?;
+        draw_segments(self.strict, &names, self.segments.as_vec(), context, steps)
     }
 }

@@ -1,5 +1,5 @@
 //! Prefix codes and the tables that hold them (T.88, Annex B).
-ghost use Rattle.std.specs.Prelude.{◌≡◌, ◌≤◌, ◌^◌, drop, IfOk};
+ghost use Rattle.std.specs.Prelude.{◌≡◌, ◌≤◌, ◌^◌, drop, IfOk, Ok};
 ghost use Rattle.jbig2_base.specs.Answer.{Gives, Leaves};
 ghost use Rattle.jbig2_base.specs.Bits.{bits_left, bits_on};
 ghost use Rattle.jbig2_coder.specs.PrefixCode.{table_of, decoded, no_oob, AreShort, IsFree};
@@ -104,6 +104,17 @@ impl<A: Allocator + Clone> HuffmanTable<A> {
 }
 
 impl<A: Allocator> HuffmanTable<A> {
+    /// The same table in memory of its own.
+    pub fn duplicate<B: Allocator + Clone>(&self, alloc: B) -> Result<HuffmanTable<B>>
+        ensures { Gives (λ t. t) result (Ok self.now) }
+    {
+        let mut lines = Vec::new(alloc.clone()?);
+        lines.extend_from_slice(&self.lines)?;
+        let mut levels = Vec::new(alloc);
+        levels.extend_from_slice(&self.levels)?;
+        Ok(HuffmanTable { lines, levels })
+    }
+
     /// Reads a code and its range bits (B.4): the value, or None for out of band.
     ///
     /// Bits that end in the code are an unexpected end; the first bits that begin no code, range

@@ -1,0 +1,111 @@
+//! Text regions of a page (T.88, 7.4.3).
+ghost use Rattle.std.specs.Prelude.{◌≡◌, map};
+ghost use Rattle.jbig2_base.specs.Answer.{Gives};
+ghost use Rattle.jbig2_base.specs.SegmentViews.{part_view};
+ghost use Rattle.jbig2_region.specs.Generic.{region_view};
+ghost use Rattle.jbig2_symbol.specs.TextHeader.{header_view};
+ghost use Rattle.jbig2_symbol.specs.TextRegion.{text_decoded};
+ghost use Rattle.hayro_jbig2.specs.Page.{immediate_text, intermediate_text};
+ghost use Rattle.hayro_jbig2.specs.SymbolNames.{text_at};
+
+use crate::context::DecoderContext;
+use crate::drawing::finish_immediate;
+use crate::library::SymbolLibrary;
+use crate::referred::gather_referred;
+use crate::shared::SharedNames;
+use jbig2_base::bitmap::Bitmap;
+use jbig2_base::bitmap::steps::Steps;
+use jbig2_base::error::{DecodeError, Result};
+use jbig2_base::reader::Reader;
+use jbig2_base::segment::Segment;
+use jbig2_coder::huffman_table::{HuffmanTable, StandardHuffmanTables};
+use jbig2_region::generic::DecodedRegion;
+use jbig2_symbol::text;
+use jbig2_symbol::text::header::TextRegionHeader;
+use std::alloc::Allocator;
+use std::sync::ledger::Ledger;
+
+fn decode_pending<A: Allocator + Clone, L: Ledger>(
+    alloc: A,
+    header: &TextRegionHeader<'_, A>,
+    symbols: &[&Bitmap<A>],
+    tables: &[&HuffmanTable<A>],
+    standard_tables: &StandardHuffmanTables<A>,
+    steps: &mut Steps<L>,
+) -> Result<DecodedRegion<A>>
+    ensures { Gives (λ region. region_view region) result (text_decoded (header_view header.now) (map (λ b. b.now) symbols.now) (map (λ t. t.now) tables.now)) }
+{
+    Err(DecodeError::OutOfMemory)
+}
+
+/// A text region (T.88, 7.4.3), which refers to what is kept in `own`, else in `shared`.
+#[tactic(auto, unfolding(crate::specs::SymbolNames::text_at))]
+fn decode_text<S: Allocator, A: Allocator + Clone, L: Ledger>(
+    alloc: A,
+    strict: bool,
+    segment: &Segment<'_, S>,
+    own: &SymbolLibrary<A>,
+    shared: &SymbolLibrary<A>,
+    standard_tables: &StandardHuffmanTables<A>,
+    steps: &mut Steps<L>,
+) -> Result<DecodedRegion<A>>
+    ensures { Gives (λ region. region_view region) result (text_at strict own.now shared.now segment.now.header.referred_to_segments.items segment.now.bytes.now) }
+{
+    let numbers = &segment.header.referred_to_segments;
+    let referred = gather_referred(alloc.clone()?, strict, own, shared, numbers)?;
+    let mut reader = Reader::new(segment.bytes);
+    let count = referred.symbols.len() as u32;
+    let header = text::parse(alloc.clone()?, &mut reader, count, strict)?;
+    decode_pending(
+        alloc,
+        &header,
+        &referred.symbols,
+        &referred.tables,
+        standard_tables,
+        steps,
+    )
+}
+
+#[tactic(auto, unfolding(crate::specs::Page::immediate_text))]
+pub(crate) fn draw_immediate_text<S: Allocator, G: Allocator, A: Allocator + Clone, L: Ledger>(
+    strict: bool,
+    names: &SharedNames<'_, G, A>,
+    segment: &Segment<'_, S>,
+    context: &mut DecoderContext<A>,
+    steps: &mut Steps<L>,
+) -> Result<()>
+    ensures { Gives (λ _. context.new) result (immediate_text strict names.now (part_view segment.now) context.old) }
+{
+    let decoded = decode_text(
+        context.alloc.clone()?,
+        strict,
+        segment,
+        &context.library,
+        names.library(),
+        &context.standard_tables,
+        steps,
+    );
+    finish_immediate(strict, decoded, context, steps)
+}
+
+#[tactic(auto, unfolding(crate::specs::Page::intermediate_text))]
+pub(crate) fn store_intermediate_text<S: Allocator, G: Allocator, A: Allocator + Clone, L: Ledger>(
+    strict: bool,
+    names: &SharedNames<'_, G, A>,
+    segment: &Segment<'_, S>,
+    context: &mut DecoderContext<A>,
+    steps: &mut Steps<L>,
+) -> Result<()>
+    ensures { Gives (λ _. context.new) result (intermediate_text strict names.now (part_view segment.now) context.old) }
+{
+    let region = decode_text(
+        context.alloc.clone()?,
+        strict,
+        segment,
+        &context.library,
+        names.library(),
+        &context.standard_tables,
+        steps,
+    )?;
+    context.store(segment.header.segment_number, region)
+}
