@@ -1,6 +1,7 @@
 pub mod Books
 pub mod ByPages
 pub mod Consuming
+pub mod Copies
 mod Direct
 mod FileRows
 mod PageArea

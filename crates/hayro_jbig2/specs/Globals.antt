@@ -1,5 +1,5 @@
 -- Globals: segments that several pages share (T.88, 7.3), kept apart from the pages as PDF keeps them.
-use Rattle.std.specs.Prelude.{ℕ, Bool, List, [], ◌∷◌, ◌++◌, Result, Ok, Err}
+use Rattle.std.specs.Prelude.{ℕ, Bool, List, [], ◌∷◌, ◌++◌, Result, Ok}
 use Rattle.jbig2_base.specs.Answer.{◌>>=◌}
 use Rattle.jbig2_base.specs.Segment.{Part}
 use Rattle.jbig2_base.specs.Sequential.{sorted_segments}

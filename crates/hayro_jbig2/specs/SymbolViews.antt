@@ -2,7 +2,6 @@
 use Rattle.std.specs.Prelude.{List, map, Option, Some, None}
 use Rattle.std.specs.Borrow.{Bor}
 use Rattle.jbig2_coder.specs.PrefixCode.{Member}
-use Rattle.jbig2_coder.specs.declared.huffman_table.HuffmanTable.{HuffmanTable}
 use Rattle.jbig2_symbol.specs.SymbolReading.{BitmapContexts, contexts_view}
 use Rattle.jbig2_symbol.specs.Symbols.{Symbols}
 use Rattle.jbig2_symbol.specs.declared.symbol.dictionary.RetainedContexts.{RetainedContexts}

@@ -136,10 +136,7 @@ fn first_dictionary<A: Allocator>(
     None
 }
 
-fn first_table<A: Allocator>(
-    tables: &[StoredTable<A>],
-    number: u32,
-) -> Option<&HuffmanTable<A>>
+fn first_table<A: Allocator>(tables: &[StoredTable<A>], number: u32) -> Option<&HuffmanTable<A>>
     ensures { found_code result ≡ code_named number (stored_codes tables.now) }
 {
     for stored in tables {

@@ -1,44 +1,27 @@
 //! Symbol dictionaries of a page (T.88, 7.4.2).
-ghost use Rattle.std.specs.Prelude.{◌≡◌, map};
+ghost use Rattle.std.specs.Prelude.{◌≡◌};
 ghost use Rattle.jbig2_base.specs.Answer.{Gives};
 ghost use Rattle.jbig2_base.specs.SegmentViews.{part_view};
-ghost use Rattle.jbig2_symbol.specs.SymbolHeader.{header_view};
-ghost use Rattle.jbig2_symbol.specs.Symbols.{dictionary_at};
 ghost use Rattle.hayro_jbig2.specs.Page.{with_symbols};
 ghost use Rattle.hayro_jbig2.specs.SymbolNames.{no_library, symbols_at};
-ghost use Rattle.hayro_jbig2.specs.SymbolViews.{symbols_view, given_contexts};
+ghost use Rattle.hayro_jbig2.specs.SymbolViews.{symbols_view};
 
 use crate::context::DecoderContext;
 use crate::library::SymbolLibrary;
 use crate::referred::gather_referred;
 use crate::shared::SharedNames;
-use jbig2_base::bitmap::Bitmap;
 use jbig2_base::bitmap::steps::Steps;
 use jbig2_base::error::{DecodeError, Result};
 use jbig2_base::reader::Reader;
 use jbig2_base::segment::Segment;
-use jbig2_coder::huffman_table::{HuffmanTable, StandardHuffmanTables};
-use jbig2_symbol::symbol::{self, RetainedContexts, SymbolDictionary, SymbolDictionaryHeader};
+use jbig2_coder::huffman_table::StandardHuffmanTables;
+use jbig2_symbol::symbol::{self, SymbolDictionary};
 use std::alloc::Allocator;
 use std::sync::ledger::{Blank, Ledger};
 
-fn decode_pending<A: Allocator + Clone, L: Ledger>(
-    alloc: A,
-    header: &SymbolDictionaryHeader<'_>,
-    symbols: &[&Bitmap<A>],
-    tables: &[&HuffmanTable<A>],
-    retained_contexts: Option<&RetainedContexts<A>>,
-    standard_tables: &StandardHuffmanTables<A>,
-    steps: &mut Steps<L>,
-) -> Result<SymbolDictionary<A>>
-    ensures { Gives (λ d. symbols_view d) result (dictionary_at (header_view header.now) (map (λ b. b.now) symbols.now) (map (λ t. t.now) tables.now) (given_contexts retained_contexts)) }
-{
-    Err(DecodeError::OutOfMemory)
-}
-
 /// A symbol dictionary (T.88, 7.4.2), which refers to what is kept in `own`, else in `shared`.
 ///
-/// Symbols that are refined or put together from others are not decoded yet.
+/// Its symbols are not decoded yet.
 #[tactic(auto, unfolding(crate::specs::SymbolNames::symbols_at))]
 fn decode_symbols<S: Allocator, A: Allocator + Clone, L: Ledger>(
     alloc: A,
@@ -46,27 +29,16 @@ fn decode_symbols<S: Allocator, A: Allocator + Clone, L: Ledger>(
     segment: &Segment<'_, S>,
     own: &SymbolLibrary<A>,
     shared: &SymbolLibrary<A>,
-    standard_tables: &StandardHuffmanTables<A>,
-    steps: &mut Steps<L>,
+    _standard_tables: &StandardHuffmanTables<A>,
+    _steps: &mut Steps<L>,
 ) -> Result<SymbolDictionary<A>>
     ensures { Gives (λ d. symbols_view d) result (symbols_at strict own.now shared.now segment.now.header.referred_to_segments.items segment.now.bytes.now) }
 {
     let numbers = &segment.header.referred_to_segments;
-    let referred = gather_referred(alloc.clone()?, strict, own, shared, numbers)?;
+    gather_referred(alloc.clone()?, strict, own, shared, numbers)?;
     let mut reader = Reader::new(segment.bytes);
-    let header = symbol::parse(&mut reader, strict)?;
-    if header.flags.use_refagg {
-        return Err(DecodeError::Unsupported);
-    }
-    decode_pending(
-        alloc,
-        &header,
-        &referred.symbols,
-        &referred.tables,
-        referred.retained_contexts,
-        standard_tables,
-        steps,
-    )
+    symbol::parse(&mut reader, strict)?;
+    Err(DecodeError::Unsupported)
 }
 
 /// A symbol dictionary that several pages share, with a counter of its own. It refers to those before
@@ -86,7 +58,15 @@ pub(crate) fn decode_shared_symbols<S: Allocator, A: Allocator + Clone, L: Ledge
 {
     let mut steps = Steps::<L>::new(blank);
     let nothing = SymbolLibrary::new(alloc.clone()?)?;
-    decode_symbols(alloc, strict, segment, library, &nothing, standard_tables, &mut steps)
+    decode_symbols(
+        alloc,
+        strict,
+        segment,
+        library,
+        &nothing,
+        standard_tables,
+        &mut steps,
+    )
 }
 
 /// A symbol dictionary of a page, kept for later segments. One that fails is never passed over.

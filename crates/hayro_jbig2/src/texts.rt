@@ -13,30 +13,15 @@ use crate::drawing::finish_immediate;
 use crate::library::SymbolLibrary;
 use crate::referred::gather_referred;
 use crate::shared::SharedNames;
-use jbig2_base::bitmap::Bitmap;
 use jbig2_base::bitmap::steps::Steps;
-use jbig2_base::error::{DecodeError, Result};
+use jbig2_base::error::Result;
 use jbig2_base::reader::Reader;
 use jbig2_base::segment::Segment;
-use jbig2_coder::huffman_table::{HuffmanTable, StandardHuffmanTables};
+use jbig2_coder::huffman_table::StandardHuffmanTables;
 use jbig2_region::generic::DecodedRegion;
 use jbig2_symbol::text;
-use jbig2_symbol::text::header::TextRegionHeader;
 use std::alloc::Allocator;
 use std::sync::ledger::Ledger;
-
-fn decode_pending<A: Allocator + Clone, L: Ledger>(
-    alloc: A,
-    header: &TextRegionHeader<'_, A>,
-    symbols: &[&Bitmap<A>],
-    tables: &[&HuffmanTable<A>],
-    standard_tables: &StandardHuffmanTables<A>,
-    steps: &mut Steps<L>,
-) -> Result<DecodedRegion<A>>
-    ensures { Gives (λ region. region_view region) result (text_decoded (header_view header.now) (map (λ b. b.now) symbols.now) (map (λ t. t.now) tables.now)) }
-{
-    Err(DecodeError::OutOfMemory)
-}
 
 /// A text region (T.88, 7.4.3), which refers to what is kept in `own`, else in `shared`.
 #[tactic(auto, unfolding(crate::specs::SymbolNames::text_at))]
@@ -56,7 +41,7 @@ fn decode_text<S: Allocator, A: Allocator + Clone, L: Ledger>(
     let mut reader = Reader::new(segment.bytes);
     let count = referred.symbols.len() as u32;
     let header = text::parse(alloc.clone()?, &mut reader, count, strict)?;
-    decode_pending(
+    text::decode(
         alloc,
         &header,
         &referred.symbols,
