@@ -1,4 +1,4 @@
-use Rattle.std.proofs.Common.{◌≡◌, ◌+◌, arith}
+use Rattle.std.proofs.Common.{arith}
 use Rattle.jbig2_symbol.proofs.ExportedLemmas.{pushed-next}
 use Rattle.jbig2_symbol.proofs.symbol.exports.push_symbols.Goals as goal
 

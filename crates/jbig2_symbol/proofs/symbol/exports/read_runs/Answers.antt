@@ -1,4 +1,4 @@
-use Rattle.std.proofs.Common.{◌≡◌, ◌+◌, ◌-◌, ◌≤◌, ◌++◌, [], ◌∷◌, eqb, List, sym, ap, ◌∙◌, inr, arith, rules}
+use Rattle.std.proofs.Common.{◌≡◌, ◌+◌, ◌-◌, ◌++◌, [], ◌∷◌, eqb, List, sym, ap, ◌∙◌, inr, arith, rules}
 use Rattle.jbig2_base.specs.Grid.{bit_number}
 use Rattle.jbig2_symbol.specs.Exports.{runs_from}
 use Rattle.jbig2_symbol.specs.SymbolViews.{input_view}
