@@ -1,10 +1,9 @@
 -- Symbol dictionaries and custom tables that are kept, as the definitions see them.
-use Rattle.std.specs.Prelude.{List, map, Option, Some, None}
+use Rattle.std.specs.Prelude.{List, map, Option, Some, None, option_map}
 use Rattle.std.specs.Borrow.{Bor}
 use Rattle.jbig2_coder.specs.PrefixCode.{Member}
-use Rattle.jbig2_symbol.specs.SymbolReading.{BitmapContexts, contexts_view}
+use Rattle.jbig2_symbol.specs.SymbolReading.{contexts_view}
 use Rattle.jbig2_symbol.specs.Symbols.{Symbols}
-use Rattle.jbig2_symbol.specs.declared.symbol.dictionary.RetainedContexts.{RetainedContexts}
 use Rattle.jbig2_symbol.specs.declared.symbol.dictionary.SymbolDictionary.{SymbolDictionary}
 use Rattle.hayro_jbig2.specs.SymbolNames.{StoredCode, StoredSymbols}
 use Rattle.hayro_jbig2.specs.declared.library.StoredSymbolDictionary.{StoredSymbolDictionary}
@@ -16,13 +15,8 @@ code_view s = record { segment_number = s.segment_number; code = s.table }
 abbrev pub stored_codes : {A : Type 0} → List (StoredTable A) → List StoredCode
 stored_codes tables = map (λ s. code_view s) tables
 
--- the contexts that are kept, if any
-abbrev pub kept_view : {A : Type 0} → Option (RetainedContexts A) → Option BitmapContexts
-kept_view None = None
-kept_view (Some contexts) = Some (contexts_view contexts)
-
 abbrev pub symbols_view : {A : Type 0} → SymbolDictionary A → Symbols
-symbols_view d = record { exported = d.exported_symbols.items; kept = kept_view d.retained_contexts }
+symbols_view d = record { exported = d.exported_symbols.items; kept = option_map (λ contexts. contexts_view contexts) d.retained_contexts }
 
 abbrev pub stored_view : {A : Type 0} → StoredSymbolDictionary A → StoredSymbols
 stored_view s = record { segment_number = s.segment_number; dictionary = symbols_view s.dictionary }
@@ -38,8 +32,3 @@ found_symbols (Some dictionary) = Some (symbols_view dictionary.now)
 abbrev pub found_code : Option (Bor (List Member)) → Option (List Member)
 found_code None = None
 found_code (Some table) = Some table.now
-
--- contexts that are kept elsewhere, if any
-abbrev pub given_contexts : {A : Type 0} → Option (Bor (RetainedContexts A)) → Option BitmapContexts
-given_contexts None = None
-given_contexts (Some contexts) = Some (contexts_view contexts.now)

@@ -4,7 +4,7 @@ ghost use Rattle.std.specs.Prelude.{◌≡◌, map, Ok};
 ghost use Rattle.jbig2_base.specs.Answer.{Gives};
 ghost use Rattle.jbig2_symbol.specs.SymbolReading.{contexts_view};
 ghost use Rattle.hayro_jbig2.specs.SymbolNames.{no_library, with_code_under, with_symbols_under, symbols_named, code_named};
-ghost use Rattle.hayro_jbig2.specs.SymbolViews.{kept_view, symbols_view, stored_view, stored_symbols, stored_codes, found_symbols, found_code};
+ghost use Rattle.hayro_jbig2.specs.SymbolViews.{symbols_view, stored_view, stored_symbols, stored_codes, found_symbols, found_code};
 
 use jbig2_base::bitmap::Bitmap;
 use jbig2_base::error::Result;
