@@ -1,11 +1,13 @@
 -- How a dictionary's input is seen by the definitions (our own rule).
 use Rattle.std.specs.Borrow.{Bor}
-use Rattle.std.specs.Prelude.{◌++◌, List, map}
+use Rattle.std.specs.Prelude.{◌++◌, List, map, Option, option_map}
 use Rattle.jbig2_base.specs.Grid.{Grid}
 use Rattle.jbig2_coder.specs.PrefixCode.{Member}
 use Rattle.jbig2_symbol.specs.SymbolHeader.{header_view}
-use Rattle.jbig2_symbol.specs.SymbolReading.{SymbolInput, SymbolTables}
-use Rattle.jbig2_symbol.specs.Symbols.{HeightClass, NewSymbols}
+use Rattle.jbig2_symbol.specs.SymbolReading.{BitmapContexts, SymbolInput, SymbolTables, contexts_view}
+use Rattle.jbig2_symbol.specs.Symbols.{HeightClass, NewSymbols, Symbols}
+use Rattle.jbig2_symbol.specs.declared.symbol.dictionary.RetainedContexts.{RetainedContexts}
+use Rattle.jbig2_symbol.specs.declared.symbol.dictionary.SymbolDictionary.{SymbolDictionary}
 use Rattle.jbig2_symbol.specs.declared.symbol.height_class.HeightClass.{HeightClass as Class}
 use Rattle.jbig2_symbol.specs.declared.symbol.height_class.NewSymbols.{NewSymbols as New}
 use Rattle.jbig2_symbol.specs.declared.symbol.reading.SymbolInput.{SymbolInput as Input}
@@ -37,3 +39,11 @@ all_symbols symbols new = map (λ b. b.now) symbols ++ new
 -- the tables that are referred to
 abbrev pub referred_view : List (Bor (List Member)) → List (List Member)
 referred_view tables = map (λ t. t.now) tables
+
+-- contexts that another dictionary has kept, if any
+abbrev pub kept_view : {A : Type 0} → Option (Bor (RetainedContexts A)) → Option BitmapContexts
+kept_view kept = option_map (λ contexts. contexts_view contexts.now) kept
+
+-- what a dictionary exports and keeps
+abbrev pub dictionary_view : {A : Type 0} → SymbolDictionary A → Symbols
+dictionary_view d = record { exported = d.exported_symbols.items; kept = option_map (λ contexts. contexts_view contexts) d.retained_contexts }

@@ -1,4 +1,10 @@
 //! Symbol dictionaries (T.88, 6.5 and 7.4.2).
+ghost use Rattle.std.specs.Prelude.{◌≡◌, ◌≤◌, length, map};
+ghost use Rattle.jbig2_base.specs.Answer.{Gives};
+ghost use Rattle.jbig2_symbol.specs.SymbolHeader.{header_view};
+ghost use Rattle.jbig2_symbol.specs.SymbolReading.{contexts_view, first_state};
+ghost use Rattle.jbig2_symbol.specs.SymbolViews.{dictionary_view, input_view, kept_view, referred_view};
+ghost use Rattle.jbig2_symbol.specs.Symbols.{dictionary_at, symbols_at};
 
 pub mod bitmaps;
 pub mod classes;
@@ -10,5 +16,74 @@ pub mod height_class;
 pub mod reading;
 pub mod tables;
 
-pub use dictionary::{RetainedContexts, SymbolDictionary};
-pub use header::{HuffmanTableSelection, SymbolDictionaryFlags, SymbolDictionaryHeader, parse};
+use crate::symbol::classes::read_new_symbols;
+use crate::symbol::contexts::first_contexts;
+pub use crate::symbol::dictionary::{RetainedContexts, SymbolDictionary};
+use crate::symbol::exports::read_exports;
+pub use crate::symbol::header::{
+    HuffmanTableSelection, SymbolDictionaryFlags, SymbolDictionaryHeader, parse,
+};
+use crate::symbol::reading::{SymbolInput, SymbolReader};
+use crate::symbol::tables::symbol_tables;
+use jbig2_base::bitmap::Bitmap;
+use jbig2_base::bitmap::steps::Steps;
+use jbig2_base::error::Result;
+use jbig2_coder::huffman_table::{HuffmanTable, StandardHuffmanTables};
+use std::alloc::Allocator;
+use std::sync::ledger::Ledger;
+
+/// Decodes a dictionary whose tables and contexts are there.
+fn decode_with<A: Allocator + Clone, S: Allocator, T: Allocator, L: Ledger>(
+    alloc: A,
+    input: &SymbolInput<'_, S, T>,
+    contexts: RetainedContexts<A>,
+    steps: &mut Steps<L>,
+) -> Result<SymbolDictionary<A>>
+    requires few { length input.now.symbols.now ≤ 1048576 }
+    requires fresh { input.now.header.now.num_new_symbols ≤ 1048576 }
+    ensures { Gives (λ d. dictionary_view d) result (symbols_at (input_view input.now) (first_state input.now.header.now.bytes.now (contexts_view contexts))) }
+{
+    let mut reader = SymbolReader::new(alloc.clone()?, input.header.bytes, contexts)?;
+    let new = read_new_symbols(alloc.clone()?, input, &mut reader, steps)?;
+    let exported_symbols = read_exports(alloc, input, &new, &mut reader, steps)?;
+    if input.header.flags.bitmap_context_retained {
+        return Ok(SymbolDictionary {
+            exported_symbols,
+            retained_contexts: Some(reader.into_contexts()),
+        });
+    }
+    Ok(SymbolDictionary {
+        exported_symbols,
+        retained_contexts: None,
+    })
+}
+
+/// Decodes a symbol dictionary (T.88, 6.5) whose symbols are neither refined nor put together from
+/// others. It refers to these symbols, at most 2^20, to these custom tables, and to the contexts that
+/// another dictionary has kept.
+///
+/// The errors of `first_contexts`, then those of `symbol_tables`, `read_new_symbols` and `read_exports`;
+/// `OutOfMemory`.
+#[tactic(auto, unfolding(crate::specs::Symbols::dictionary_at))]
+pub fn decode<A: Allocator + Clone, S: Allocator, T: Allocator, K: Allocator, L: Ledger>(
+    alloc: A,
+    header: &SymbolDictionaryHeader<'_>,
+    symbols: &[&Bitmap<S>],
+    referred_tables: &[&HuffmanTable<T>],
+    retained_contexts: Option<&RetainedContexts<K>>,
+    standard_tables: &StandardHuffmanTables<T>,
+    steps: &mut Steps<L>,
+) -> Result<SymbolDictionary<A>>
+    requires few { length symbols.now ≤ 1048576 }
+    requires fresh { header.now.num_new_symbols ≤ 1048576 }
+    ensures { Gives (λ d. dictionary_view d) result (dictionary_at (header_view header.now) (map (λ b. b.now) symbols.now) (referred_view referred_tables.now) (kept_view retained_contexts.entry)) }
+{
+    let contexts = first_contexts(alloc.clone()?, &header.flags, retained_contexts)?;
+    let tables = symbol_tables(&header.flags, standard_tables, referred_tables)?;
+    let input = SymbolInput {
+        header,
+        symbols,
+        tables: &tables,
+    };
+    decode_with(alloc, &input, contexts, steps)
+}

@@ -2,7 +2,7 @@
 ghost use Rattle.std.specs.Prelude.{◌≡◌, ◌+◌, ◌<◌, ◌≤◌, ◌++◌, IfOk, length, sum, take, drop, slice_index_or, false, Ok};
 ghost use Rattle.jbig2_base.specs.Answer.{Answers, Gives};
 ghost use Rattle.jbig2_base.specs.Grid.{blank};
-ghost use Rattle.jbig2_symbol.specs.Exports.{export_runs, exported, next_run};
+ghost use Rattle.jbig2_symbol.specs.Exports.{export_runs, exported, exports, next_run};
 ghost use Rattle.jbig2_symbol.specs.SymbolViews.{all_symbols, input_view};
 
 use crate::symbol::reading::{SymbolInput, SymbolReader};
@@ -20,7 +20,7 @@ const MAX_EMPTY: u32 = 1 << 20;
 fn read_run<A: Allocator, S: Allocator, T: Allocator, L: Ledger>(
     input: &SymbolInput<'_, S, T>,
     empty: u32,
-    left: u32,
+    left: u64,
     reader: &mut SymbolReader<'_, A>,
     steps: &mut Steps<L>,
 ) -> Result<u32>
@@ -38,7 +38,7 @@ fn read_run<A: Allocator, S: Allocator, T: Allocator, L: Ledger>(
     if run == 0 && empty >= MAX_EMPTY {
         return Err(DecodeError::Symbol(SymbolError::Invalid));
     }
-    if run > left {
+    if run as u64 > left {
         return Err(DecodeError::Symbol(SymbolError::OutOfRange));
     }
     Ok(run)
@@ -48,11 +48,11 @@ fn read_run<A: Allocator, S: Allocator, T: Allocator, L: Ledger>(
 pub fn read_runs<A: Allocator, B: Allocator, S: Allocator, T: Allocator, L: Ledger>(
     alloc: B,
     input: &SymbolInput<'_, S, T>,
-    count: u32,
+    count: u64,
     reader: &mut SymbolReader<'_, A>,
     steps: &mut Steps<L>,
 ) -> Result<Vec<u32, B>>
-    requires { count ≤ 3145728 }
+    requires { count ≤ 9223372036855824384 }
     ensures value { Gives (λ runs. (runs.items, reader.new)) result (export_runs (input_view input.now) count reader.old) }
     ensures whole { IfOk result (λ runs. sum runs.items ≡ count) }
 {
@@ -60,7 +60,7 @@ pub fn read_runs<A: Allocator, B: Allocator, S: Allocator, T: Allocator, L: Ledg
     let mut left = count;
     let mut empty = 0;
     // Each run covers a symbol or is one of those that may be empty, so no more of them come.
-    for _ in 0..count + MAX_EMPTY {
+    for _ in 0..count + u64::from(MAX_EMPTY) {
         if left == 0 {
             break;
         }
@@ -69,7 +69,7 @@ pub fn read_runs<A: Allocator, B: Allocator, S: Allocator, T: Allocator, L: Ledg
             Err(error) => return Err(error),
         };
         runs.push(run)?;
-        left -= run;
+        left -= run as u64;
         empty += u32::from(run == 0);
     }
     Ok(runs)
@@ -130,6 +130,31 @@ pub fn export_symbols<A: Allocator + Clone, S: Allocator>(
             }
         }
         first += count;
+    }
+    Ok(exported)
+}
+
+/// Reads which symbols a dictionary exports, of those that it refers to and the new ones behind them, and
+/// copies them.
+///
+/// The errors of `read_runs`; `SymbolError::NoSymbols` where they are not as many as the header states;
+/// `OutOfMemory` where there is no room for them.
+#[tactic(auto, unfolding(crate::specs::Exports::exports))]
+pub fn read_exports<A: Allocator + Clone, S: Allocator, T: Allocator, L: Ledger>(
+    alloc: A,
+    input: &SymbolInput<'_, S, T>,
+    new: &[Bitmap<A>],
+    reader: &mut SymbolReader<'_, A>,
+    steps: &mut Steps<L>,
+) -> Result<Vec<Bitmap<A>, A>>
+    requires { length input.now.symbols.now ≤ 1048576 }
+    ensures { Gives (λ symbols. (symbols.items, reader.new)) result (exports (input_view input.now) (all_symbols input.now.symbols.now new.now) reader.old) }
+{
+    let count = input.symbols.len() as u64 + new.len() as u64;
+    let runs = read_runs(alloc.clone()?, input, count, reader, steps)?;
+    let exported = export_symbols(alloc, &runs, input.symbols, new)?;
+    if exported.len() != input.header.num_exported_symbols as usize {
+        return Err(DecodeError::Symbol(SymbolError::NoSymbols));
     }
     Ok(exported)
 }

@@ -1,5 +1,5 @@
 //! The numbers of a symbol dictionary, by prefix codes or by the arithmetic coder (T.88, 6.5).
-ghost use Rattle.std.specs.Prelude.{Ok};
+ghost use Rattle.std.specs.Prelude.{◌≡◌, Ok};
 ghost use Rattle.jbig2_base.specs.Answer.{Answers, Gives};
 ghost use Rattle.jbig2_symbol.specs.SymbolBitmaps.{coded_symbol, collective_bitmap};
 ghost use Rattle.jbig2_symbol.specs.SymbolHeader.{header_view};
@@ -82,6 +82,13 @@ impl<'a, A: Allocator + Clone> SymbolReader<'a, A> {
 }
 
 impl<A: Allocator> SymbolReader<'_, A> {
+    /// What the contexts of the bitmaps have learned.
+    pub fn into_contexts(self) -> RetainedContexts<A>
+        ensures { contexts_view result ≡ self.entry.bitmaps }
+    {
+        self.bitmaps
+    }
+
     /// A height class's difference in height, or out of band (T.88, 6.5.6).
     #[tactic(auto, unfolding(crate::specs::SymbolReading::height_difference))]
     pub fn read_height<S: Allocator, T: Allocator, L: Ledger>(
