@@ -1,16 +1,16 @@
 -- What symbol dictionaries and text regions refer to by the numbers of segments (T.88, 7.3).
-use Rattle.std.specs.Prelude.{ℕ, ◌==◌, nat_lt, Bool, List, [], ◌∷◌, ◌++◌, length, Option, Some, None, Result, Ok, Err, if◌then◌else◌}
+use Rattle.std.specs.Prelude.{ℕ, ◌==◌, nat_lt, Bool, List, [], ◌∷◌, ◌++◌, length, Option, Some, None, Result, Ok, if◌then◌else◌}
 use Rattle.jbig2_base.specs.Answer.{◌>>=◌, refuse_if}
 use Rattle.jbig2_base.specs.Grid.{Grid}
 use Rattle.jbig2_base.specs.declared.error.DecodeError.{DecodeError}
-use Rattle.jbig2_base.specs.declared.error.DecodeError.TheVariants.{Overflow, Segment, Unsupported}
+use Rattle.jbig2_base.specs.declared.error.DecodeError.TheVariants.{Overflow, Segment}
 use Rattle.jbig2_base.specs.declared.error.OverflowError.TheVariants.{SymbolCount}
 use Rattle.jbig2_base.specs.declared.error.SegmentError.TheVariants.{InvalidReference}
 use Rattle.jbig2_coder.specs.PrefixCode.{Member}
 use Rattle.jbig2_region.specs.Generic.{PlacedRegion}
 use Rattle.jbig2_symbol.specs.SymbolHeader.{symbol_header_at}
 use Rattle.jbig2_symbol.specs.SymbolReading.{BitmapContexts}
-use Rattle.jbig2_symbol.specs.Symbols.{Symbols}
+use Rattle.jbig2_symbol.specs.Symbols.{Symbols, dictionary_at}
 use Rattle.jbig2_symbol.specs.TextHeader.{text_header_at}
 use Rattle.jbig2_symbol.specs.TextRegion.{text_decoded}
 
@@ -90,12 +90,12 @@ with_numbers strict own shared (number ∷ numbers) r = with_number strict own s
 abbrev pub referred_by : Bool → Library → Library → List ℕ → Result Referred DecodeError
 referred_by strict own shared numbers = with_numbers strict own shared numbers nothing_referred
 
--- A symbol dictionary's data (7.4.2), after what it refers to. Its symbols are not decoded yet.
+-- A symbol dictionary's data (7.4.2), after what it refers to.
 unfoldable pub symbols_at : Bool → Library → Library → List ℕ → List ℕ → Result Symbols DecodeError
 symbols_at strict own shared numbers bytes = do
   referred ← referred_by strict own shared numbers
   header ← symbol_header_at strict bytes
-  Err Unsupported
+  dictionary_at header.0 referred.symbols referred.codes referred.kept
 
 -- A text region's data (7.4.3), after what it refers to.
 unfoldable pub text_at : Bool → Library → Library → List ℕ → List ℕ → Result PlacedRegion DecodeError

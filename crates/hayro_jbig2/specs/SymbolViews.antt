@@ -1,8 +1,8 @@
 -- Symbol dictionaries and custom tables that are kept, as the definitions see them.
-use Rattle.std.specs.Prelude.{List, map, Option, Some, None, option_map}
+use Rattle.std.specs.Prelude.{List, map, Option, Some, None}
 use Rattle.std.specs.Borrow.{Bor}
 use Rattle.jbig2_coder.specs.PrefixCode.{Member}
-use Rattle.jbig2_symbol.specs.SymbolReading.{contexts_view}
+use Rattle.jbig2_symbol.specs.SymbolViews.{dictionary_view}
 use Rattle.jbig2_symbol.specs.Symbols.{Symbols}
 use Rattle.jbig2_symbol.specs.declared.symbol.dictionary.SymbolDictionary.{SymbolDictionary}
 use Rattle.hayro_jbig2.specs.SymbolNames.{StoredCode, StoredSymbols}
@@ -16,7 +16,7 @@ abbrev pub stored_codes : {A : Type 0} → List (StoredTable A) → List StoredC
 stored_codes tables = map (λ s. code_view s) tables
 
 abbrev pub symbols_view : {A : Type 0} → SymbolDictionary A → Symbols
-symbols_view d = record { exported = d.exported_symbols.items; kept = option_map (λ contexts. contexts_view contexts) d.retained_contexts }
+symbols_view d = dictionary_view d
 
 abbrev pub stored_view : {A : Type 0} → StoredSymbolDictionary A → StoredSymbols
 stored_view s = record { segment_number = s.segment_number; dictionary = symbols_view s.dictionary }

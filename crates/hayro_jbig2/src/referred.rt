@@ -25,13 +25,13 @@ pub(crate) struct ReferredSegments<'a, A: Allocator> {
 }
 
 impl<'a, A: Allocator> Model for ReferredSegments<'a, A> {
-    ghost use Rattle.std.specs.Prelude.{◌≤◌, length, map, option_map};
+    ghost use Rattle.std.specs.Prelude.{◌≤◌, length, map};
     ghost use Rattle.hayro_jbig2.specs.SymbolNames.{Referred};
-    ghost use Rattle.jbig2_symbol.specs.SymbolReading.{contexts_view};
+    ghost use Rattle.jbig2_symbol.specs.SymbolViews.{kept_view};
 
     ghost Value = { Referred };
 
-    ghost view = { λ r. record { symbols = map (λ b. b.now) r.symbols.items; codes = map (λ t. t.now) r.tables.items; kept = option_map (λ c. contexts_view c.now) r.retained_contexts } };
+    ghost view = { λ r. record { symbols = map (λ b. b.now) r.symbols.items; codes = map (λ t. t.now) r.tables.items; kept = kept_view r.retained_contexts } };
 
     ghost invariant = { λ r. length r.symbols.items ≤ 1048576 };
 }

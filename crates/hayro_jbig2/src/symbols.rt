@@ -11,7 +11,7 @@ use crate::library::SymbolLibrary;
 use crate::referred::gather_referred;
 use crate::shared::SharedNames;
 use jbig2_base::bitmap::steps::Steps;
-use jbig2_base::error::{DecodeError, Result};
+use jbig2_base::error::Result;
 use jbig2_base::reader::Reader;
 use jbig2_base::segment::Segment;
 use jbig2_coder::huffman_table::StandardHuffmanTables;
@@ -20,8 +20,6 @@ use std::alloc::Allocator;
 use std::sync::ledger::{Blank, Ledger};
 
 /// A symbol dictionary (T.88, 7.4.2), which refers to what is kept in `own`, else in `shared`.
-///
-/// Its symbols are not decoded yet.
 #[tactic(auto, unfolding(crate::specs::SymbolNames::symbols_at))]
 fn decode_symbols<S: Allocator, A: Allocator + Clone, L: Ledger>(
     alloc: A,
@@ -29,16 +27,24 @@ fn decode_symbols<S: Allocator, A: Allocator + Clone, L: Ledger>(
     segment: &Segment<'_, S>,
     own: &SymbolLibrary<A>,
     shared: &SymbolLibrary<A>,
-    _standard_tables: &StandardHuffmanTables<A>,
-    _steps: &mut Steps<L>,
+    standard_tables: &StandardHuffmanTables<A>,
+    steps: &mut Steps<L>,
 ) -> Result<SymbolDictionary<A>>
     ensures { Gives (λ d. symbols_view d) result (symbols_at strict own.now shared.now segment.now.header.referred_to_segments.items segment.now.bytes.now) }
 {
     let numbers = &segment.header.referred_to_segments;
-    gather_referred(alloc.clone()?, strict, own, shared, numbers)?;
+    let referred = gather_referred(alloc.clone()?, strict, own, shared, numbers)?;
     let mut reader = Reader::new(segment.bytes);
-    symbol::parse(&mut reader, strict)?;
-    Err(DecodeError::Unsupported)
+    let header = symbol::parse(&mut reader, strict)?;
+    symbol::decode(
+        alloc,
+        &header,
+        &referred.symbols,
+        &referred.tables,
+        referred.retained_contexts,
+        standard_tables,
+        steps,
+    )
 }
 
 /// A symbol dictionary that several pages share, with a counter of its own. It refers to those before

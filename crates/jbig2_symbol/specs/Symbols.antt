@@ -111,9 +111,10 @@ symbols_at d s = do
   Ok (record { exported = exported.0; kept = (if d.header.flags.bitmap_context_retained then Some exported.1.bitmaps else None) })
 
 -- The dictionary, by its header, the symbols and the tables that it refers to, and the contexts that the last dictionary
--- that it refers to has kept.
+-- that it refers to has kept. Symbols that are refined or put together from others are not decoded yet.
 unfoldable pub dictionary_at : SymbolHeader → List Grid → List (List Member) → Option BitmapContexts → Result Symbols DecodeError
 dictionary_at h symbols referred kept = do
+  carried ← refuse_if h.flags.use_refagg errors.Unsupported
   contexts ← first_contexts h.flags kept
   tables ← symbol_tables h.flags referred
   symbols_at (record { header = h; symbols = symbols; tables = tables }) (first_state h.bytes contexts)

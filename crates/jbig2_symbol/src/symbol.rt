@@ -27,7 +27,7 @@ use crate::symbol::reading::{SymbolInput, SymbolReader};
 use crate::symbol::tables::symbol_tables;
 use jbig2_base::bitmap::Bitmap;
 use jbig2_base::bitmap::steps::Steps;
-use jbig2_base::error::Result;
+use jbig2_base::error::{DecodeError, Result};
 use jbig2_coder::huffman_table::{HuffmanTable, StandardHuffmanTables};
 use std::alloc::Allocator;
 use std::sync::ledger::Ledger;
@@ -58,11 +58,10 @@ fn decode_with<A: Allocator + Clone, S: Allocator, T: Allocator, L: Ledger>(
     })
 }
 
-/// Decodes a symbol dictionary (T.88, 6.5) whose symbols are neither refined nor put together from
-/// others. It refers to these symbols, at most 2^20, to these custom tables, and to the contexts that
-/// another dictionary has kept.
+/// Decodes a symbol dictionary (T.88, 6.5). It refers to these symbols, at most 2^20, to these custom
+/// tables, and to the contexts that another dictionary has kept.
 ///
-/// The errors of `first_contexts`, then those of `symbol_tables`, `read_new_symbols` and `read_exports`;
+/// `Unsupported` where symbols are refined or put together from others; the errors of `first_contexts`, then those of `symbol_tables`, `read_new_symbols` and `read_exports`;
 /// `OutOfMemory`.
 #[tactic(auto, unfolding(crate::specs::Symbols::dictionary_at))]
 pub fn decode<A: Allocator + Clone, S: Allocator, T: Allocator, K: Allocator, L: Ledger>(
@@ -78,6 +77,9 @@ pub fn decode<A: Allocator + Clone, S: Allocator, T: Allocator, K: Allocator, L:
     requires fresh { header.now.num_new_symbols ≤ 1048576 }
     ensures { Gives (λ d. dictionary_view d) result (dictionary_at (header_view header.now) (map (λ b. b.now) symbols.now) (referred_view referred_tables.now) (kept_view retained_contexts.entry)) }
 {
+    if header.flags.use_refagg {
+        return Err(DecodeError::Unsupported);
+    }
     let contexts = first_contexts(alloc.clone()?, &header.flags, retained_contexts)?;
     let tables = symbol_tables(&header.flags, standard_tables, referred_tables)?;
     let input = SymbolInput {
