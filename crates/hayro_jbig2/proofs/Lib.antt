@@ -1,7 +1,6 @@
 pub mod Books
 pub mod ByPages
 pub mod Consuming
-pub mod Copies
 mod Direct
 mod FileRows
 mod PageArea
@@ -10,4 +9,3 @@ pub mod Sending
 pub mod Spelling
 mod WorkedRefinements
 mod WorkedRows
-mod WorkedTexts

@@ -8,5 +8,3 @@ pub mod Page
 pub mod PageViews
 pub mod SegmentLists
 pub mod Sends
-pub mod SymbolNames
-pub mod SymbolViews

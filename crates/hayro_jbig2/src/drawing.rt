@@ -4,13 +4,12 @@ ghost use Rattle.jbig2_base.specs.Answer.{Answers, Gives};
 ghost use Rattle.jbig2_base.specs.SegmentViews.{part_view, parts};
 ghost use Rattle.jbig2_region.specs.Generic.{PlacedRegion, region_view};
 ghost use Rattle.hayro_jbig2.specs.Page.{Drawing, extension, ends_page, generic_at, immediate, immediate_generic, intermediate_generic, with_code, segment_on, drawn};
+ghost use Rattle.hayro_jbig2.specs.PageViews.{given_names};
 
 use crate::context::DecoderContext;
+use crate::globals::Globals;
 use crate::halftones::{draw_immediate_halftone, store_intermediate_halftone, store_patterns};
 use crate::refinement::{draw_immediate_refinement, store_intermediate_refinement};
-use crate::shared::SharedNames;
-use crate::symbols::store_symbols;
-use crate::texts::{draw_immediate_text, store_intermediate_text};
 use jbig2_base::bitmap::steps::Steps;
 use jbig2_base::error::{DecodeError, Result};
 use jbig2_base::field::u32_field;
@@ -133,36 +132,27 @@ fn store_table<S: Allocator, A: Allocator + Clone>(
 /// Draws one segment onto the page.
 fn draw_segment<S: Allocator, G: Allocator, A: Allocator + Clone, L: Ledger>(
     strict: bool,
-    names: &SharedNames<'_, G, A>,
+    globals: Option<&Globals<G>>,
     segment: &Segment<'_, S>,
     context: &mut DecoderContext<A>,
     steps: &mut Steps<L>,
 ) -> Result<()>
-    ensures { Gives (λ _. context.new) result (segment_on strict names.now (part_view segment.now) context.old) }
+    ensures { Gives (λ _. context.new) result (segment_on strict (given_names globals.entry) (part_view segment.now) context.old) }
 {
     match segment.header.segment_type {
         SegmentType::PageInformation
-        | SegmentType::EndOfPage
         | SegmentType::EndOfStripe
-        | SegmentType::EndOfFile
         | SegmentType::Profiles
         | SegmentType::ColourPalette
         | SegmentType::Reserved => Ok(()),
         SegmentType::Extension => extension(strict, segment.bytes),
         SegmentType::Tables => store_table(segment, context),
-        SegmentType::SymbolDictionary => store_symbols(strict, names, segment, context, steps),
-        SegmentType::IntermediateTextRegion => {
-            store_intermediate_text(strict, names, segment, context, steps)
-        }
-        SegmentType::ImmediateTextRegion | SegmentType::ImmediateLosslessTextRegion => {
-            draw_immediate_text(strict, names, segment, context, steps)
-        }
         SegmentType::PatternDictionary => store_patterns(strict, segment, context, steps),
         SegmentType::IntermediateHalftoneRegion => {
-            store_intermediate_halftone(strict, names, segment, context, steps)
+            store_intermediate_halftone(strict, globals, segment, context, steps)
         }
         SegmentType::ImmediateHalftoneRegion | SegmentType::ImmediateLosslessHalftoneRegion => {
-            draw_immediate_halftone(strict, names, segment, context, steps)
+            draw_immediate_halftone(strict, globals, segment, context, steps)
         }
         SegmentType::IntermediateGenericRegion => {
             store_intermediate_generic(strict, segment, context, steps)
@@ -177,24 +167,25 @@ fn draw_segment<S: Allocator, G: Allocator, A: Allocator + Clone, L: Ledger>(
         | SegmentType::ImmediateLosslessGenericRefinementRegion => {
             draw_immediate_refinement(strict, segment, context, steps)
         }
+        _ => Err(DecodeError::Unsupported),
     }
 }
 
 /// Draws segments in order, up to an end of page or an end of file.
 pub(crate) fn draw_segments<S: Allocator, G: Allocator, A: Allocator + Clone, L: Ledger>(
     strict: bool,
-    names: &SharedNames<'_, G, A>,
+    globals: Option<&Globals<G>>,
     segments: &[Segment<'_, S>],
     context: &mut DecoderContext<A>,
     steps: &mut Steps<L>,
 ) -> Result<()>
-    ensures { Gives (λ _. context.new) result (drawn strict names.now (parts segments.now) context.old) }
+    ensures { Gives (λ _. context.new) result (drawn strict (given_names globals.entry) (parts segments.now) context.old) }
 {
     for segment in segments {
         if ends_page(segment.header.segment_type) {
             return Ok(());
         }
-        match draw_segment(strict, names, segment, context, steps) {
+        match draw_segment(strict, globals, segment, context, steps) {
             Ok(()) => {}
             Err(error) => return Err(error),
         }

@@ -9,7 +9,7 @@ ghost use Rattle.hayro_jbig2.specs.PageViews.{stored_patterns, found_patterns, g
 
 use crate::context::{DecoderContext, StoredDictionary};
 use crate::drawing::finish_immediate;
-use crate::shared::SharedNames;
+use crate::globals::Globals;
 use jbig2_base::bitmap::steps::Steps;
 use jbig2_base::error::{DecodeError, Result, SegmentError};
 use jbig2_base::reader::Reader;
@@ -110,12 +110,12 @@ fn decode_halftone_with<D: Allocator, A: Allocator + Clone, B: Allocator, L: Led
 /// the one of the globals.
 fn decode_halftone<S: Allocator, G: Allocator, A: Allocator + Clone, L: Ledger>(
     strict: bool,
-    names: &SharedNames<'_, G, A>,
+    globals: Option<&Globals<G>>,
     segment: &Segment<'_, S>,
     context: &mut DecoderContext<A>,
     steps: &mut Steps<L>,
 ) -> Result<DecodedRegion<A>>
-    ensures value { Gives (λ region. region_view region) result (halftone_region strict names.now (part_view segment.now) context.old) }
+    ensures value { Gives (λ region. region_view region) result (halftone_region strict (given_names globals.entry) (part_view segment.now) context.old) }
     ensures same { context.new ≡ context.old }
 {
     let Some(number) = segment.header.referred_to_segments.first() else {
@@ -126,7 +126,7 @@ fn decode_halftone<S: Allocator, G: Allocator, A: Allocator + Clone, L: Ledger>(
         let contexts = &mut context.contexts;
         return decode_halftone_with(alloc, strict, segment.bytes, dictionary, contexts, steps);
     }
-    let shared = match names.globals() {
+    let shared = match globals {
         Some(globals) => find_patterns(globals.dictionaries(), *number),
         None => None,
     };
@@ -140,14 +140,14 @@ fn decode_halftone<S: Allocator, G: Allocator, A: Allocator + Clone, L: Ledger>(
 #[tactic(auto, unfolding(crate::specs::Page::immediate_halftone))]
 pub(crate) fn draw_immediate_halftone<S: Allocator, G: Allocator, A: Allocator + Clone, L: Ledger>(
     strict: bool,
-    names: &SharedNames<'_, G, A>,
+    globals: Option<&Globals<G>>,
     segment: &Segment<'_, S>,
     context: &mut DecoderContext<A>,
     steps: &mut Steps<L>,
 ) -> Result<()>
-    ensures { Gives (λ _. context.new) result (immediate_halftone strict names.now (part_view segment.now) context.old) }
+    ensures { Gives (λ _. context.new) result (immediate_halftone strict (given_names globals.entry) (part_view segment.now) context.old) }
 {
-    let decoded = decode_halftone(strict, names, segment, context, steps);
+    let decoded = decode_halftone(strict, globals, segment, context, steps);
     finish_immediate(strict, decoded, context, steps)
 }
 
@@ -159,13 +159,13 @@ pub(crate) fn store_intermediate_halftone<
     L: Ledger,
 >(
     strict: bool,
-    names: &SharedNames<'_, G, A>,
+    globals: Option<&Globals<G>>,
     segment: &Segment<'_, S>,
     context: &mut DecoderContext<A>,
     steps: &mut Steps<L>,
 ) -> Result<()>
-    ensures { Gives (λ _. context.new) result (intermediate_halftone strict names.now (part_view segment.now) context.old) }
+    ensures { Gives (λ _. context.new) result (intermediate_halftone strict (given_names globals.entry) (part_view segment.now) context.old) }
 {
-    let region = decode_halftone(strict, names, segment, context, steps)?;
+    let region = decode_halftone(strict, globals, segment, context, steps)?;
     context.store(segment.header.segment_number, region)
 }

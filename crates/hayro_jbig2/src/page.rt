@@ -7,7 +7,7 @@ ghost use Rattle.jbig2_base.specs.Table.{IsTable};
 ghost use Rattle.jbig2_base.specs.declared.bitmap.operator.CombinationOperator.{CombinationOperator};
 ghost use Rattle.hayro_jbig2.specs.Calls.{Spells, calls_of};
 ghost use Rattle.hayro_jbig2.specs.Image.{image_of_page};
-ghost use Rattle.hayro_jbig2.specs.Page.{Leaf, embedded, drawn, started, grid_of_page, draws_over};
+ghost use Rattle.hayro_jbig2.specs.Page.{Leaf, embedded, grid_of_page, draws_over};
 ghost use Rattle.hayro_jbig2.specs.PageViews.{given_names, kept_names};
 ghost use Rattle.hayro_jbig2.specs.SegmentLists.{segment_list};
 ghost use Rattle.jbig2_base.specs.SegmentViews.{parts};
@@ -20,7 +20,6 @@ use crate::drawing::draw_segments;
 use crate::globals::Globals;
 use crate::image::write_image;
 use crate::settings::DecodeSettings;
-use crate::shared::SharedNames;
 use jbig2_base::bitmap::steps::Steps;
 use jbig2_base::error::Result;
 use jbig2_base::file::parse_segments_sequential;
@@ -189,24 +188,6 @@ impl<'a, A: Allocator + Clone> Page<'a, A> {
     }
 }
 
-/// Draws segments onto a page that they begin.
-fn draw_all<S: Allocator, G: Allocator, A: Allocator + Clone, L: Ledger>(
-    strict: bool,
-    sheet: &Sheet,
-    segments: &[Segment<'_, S>],
-    globals: Option<&Globals<G>>,
-    context: &mut DecoderContext<A>,
-    steps: &mut Steps<L>,
-) -> Result<()>
-    requires width { sheet.now.width ≤ 65535 }
-    requires height { sheet.now.height ≤ 65535 }
-    ensures { Gives (λ _. context.new) result (drawn strict (given_names globals.entry) (parts segments.now) (started sheet.now)) }
-{
-    let names = SharedNames::of(context.alloc.clone()?, globals)?;
-    context.begin(sheet)?;
-    draw_segments(strict, &names, segments, context, steps)
-}
-
 impl<'a, A: Allocator> Page<'a, A> {
     /// Makes the calls that spell the page, in the room of a context that earlier pages may have
     /// used.
@@ -259,7 +240,7 @@ impl<'a, A: Allocator> Page<'a, A> {
             Ok(globals) => *globals,
             Err(error) => return Err(error.duplicate()),
         };
-        let segments = self.segments.as_vec();
-        draw_all(self.strict, &self.sheet, segments, globals, context, steps)
+        context.begin(&self.sheet)?;
+        draw_segments(self.strict, globals, self.segments.as_vec(), context, steps)
     }
 }
