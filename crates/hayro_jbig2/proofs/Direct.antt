@@ -4,7 +4,7 @@ use Rattle.std.specs.Prelude.{pos, ◌-ℤ◌}
 use Rattle.std.proofs.lemmas.Bool.{cond-true, and_from, lt-ltb}
 use Rattle.std.proofs.lemmas.Int.{ints}
 use Rattle.jbig2_base.specs.Combination.{combined, drawn_pixel, is_below}
-use Rattle.jbig2_base.specs.Grid.{Grid, grid_of, pixel_at, pixel, blank}
+use Rattle.jbig2_base.specs.Grid.{Grid, pixel_at, pixel, blank}
 use Rattle.jbig2_base.specs.Operator.{combined_pixel}
 use Rattle.jbig2_base.specs.Table.{IsTable}
 use Rattle.jbig2_base.proofs.GridLemmas.{grid_of-ext, pixel_at-grid_of}

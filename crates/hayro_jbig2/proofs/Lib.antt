@@ -9,3 +9,4 @@ pub mod Sending
 pub mod Spelling
 mod WorkedRefinements
 mod WorkedRows
+mod WorkedTexts

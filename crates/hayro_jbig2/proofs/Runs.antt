@@ -1,5 +1,5 @@
 -- Runs of whole bytes of one colour, from the left.
-use Rattle.std.proofs.Common.{◌≡◌, ℕ, suc, zero, ◌+◌, ◌-◌, ◌*◌, ◌<◌, ◌≤◌, Bool, true, false, not, cond, ◌&&◌, List, [], ◌∷◌, ◌++◌, length, take, drop, refl, sym, ◌∙◌, ap, arith}
+use Rattle.std.proofs.Common.{◌≡◌, ℕ, suc, zero, ◌+◌, ◌-◌, ◌*◌, ◌<◌, ◌≤◌, Bool, true, false, not, cond, List, [], ◌∷◌, ◌++◌, length, take, drop, refl, sym, ◌∙◌, ap, arith}
 use Rattle.std.proofs.Common.{subst, map, nat_eq, ⊎_elim, ◌/◌, ◌^◌, if◌then◌else◌}
 use Rattle.std.proofs.lemmas.Bool.{cond_both, cond-true, cond-false, and_from, and_parts, cases_Bool, eq-eqb, ne_eqb, false≢true}
 use Rattle.std.proofs.lemmas.List.{take_all, length-take-le, length-drop, drop-drop, drop-map}

@@ -3,11 +3,11 @@ use Rattle.std.proofs.Common.{◌≡◌, ℕ, Bool, true, false, List, [], ◌�
 use Rattle.jbig2_base.specs.Answer.{◌>>=◌}
 use Rattle.jbig2_base.specs.Grid.{table, pixel_at}
 use Rattle.jbig2_base.specs.PageInfo.{information_at, sheet_of}
-use Rattle.jbig2_base.specs.Segment.{type_of, count_at, long_count_at, referred_at, header_at, segment_at, coded_front_at}
+use Rattle.jbig2_base.specs.Segment.{type_of, count_at, referred_at, header_at, segment_at}
 use Rattle.jbig2_base.specs.Sequential.{segments_in}
 use Rattle.jbig2_base.specs.declared.error.DecodeError.{DecodeError}
 use Rattle.jbig2_base.specs.declared.error.DecodeError.TheVariants.{Parse, Format, Overflow, Unsupported}
-use Rattle.jbig2_base.specs.declared.error.FormatError.TheVariants.{MissingPageInfo, UnknownPageHeight, EmptyPage}
+use Rattle.jbig2_base.specs.declared.error.FormatError.TheVariants.{UnknownPageHeight, EmptyPage}
 use Rattle.jbig2_base.specs.declared.error.OverflowError.TheVariants.{BitmapDimension}
 use Rattle.jbig2_base.specs.declared.error.ParseError.TheVariants.{UnexpectedEof}
 use Rattle.jbig2_base.specs.Combination.{drawn_pixel}
@@ -96,6 +96,10 @@ row_R1_1-short : calls_at true (page 0 eight one 0 ++ extended 3 (128 ∷ 0 ∷ 
 unfolding calls_at embedded segments_in segment_at header_at referred_at count_at type_of sheet_of information_at grid_of_page table pixel_at calls_of row_of whole_calls
 row_R1_1-short = refl
 
+row_R1_1-short_lenient : calls_at false (page 0 eight one 0 ++ extended 3 (128 ∷ 0 ∷ 0 ∷ [])) ≡ Ok white
+unfolding calls_at embedded segments_in segment_at header_at referred_at count_at type_of sheet_of information_at grid_of_page table pixel_at calls_of row_of whole_calls
+row_R1_1-short_lenient = refl
+
 row_R1_2 : calls_at true (page 5 eight unknown 0 ++ stripe) ≡ Ok (white ++ white)
 unfolding calls_at embedded segments_in segment_at header_at referred_at count_at type_of sheet_of information_at grid_of_page table pixel_at calls_of row_of whole_calls
 row_R1_2 = refl
@@ -108,17 +112,17 @@ abbrev pub origin : List ℕ
 origin = 0 ∷ 0 ∷ 0 ∷ 0 ∷ []
 
 row_7 : calls_at true (page 0 eight one 0 ++ dot_at origin 0) ≡ Ok (Pixel true ∷ (singles (replicate 7 false) ++ Line ∷ []))
-unfolding calls_at embedded segments_in segment_at header_at referred_at count_at type_of sheet_of information_at grid_of_page table pixel_at calls_of row_of whole_calls generic_at immediate_generic generic_header_at region_info_at template_pixels_at regular_pixels_at adaptive_pixel_at rows_at generic_grid generic_region decoded after_rows after_pixels after_pixel with_next row_begun so_far context_at choice decision byte_in byte_at filled doubled renormed started likely_next unlikely_next rows state_of drawn_pixel
+unfolding calls_at embedded segments_in segment_at header_at referred_at count_at type_of sheet_of information_at grid_of_page table pixel_at calls_of row_of whole_calls generic_at immediate_generic generic_header_at regular_pixels_at region_info_at template_pixels_at adaptive_pixel_at rows_at generic_grid generic_region decoded after_rows after_pixels after_pixel with_next row_begun so_far context_at choice decision byte_in byte_at filled doubled renormed started likely_next unlikely_next rows state_of drawn_pixel
 row_7 = refl
 
 row_7-left_of_the_page : calls_at true (page 0 eight one 0 ++ dot_at unknown 0) ≡ Ok white
-unfolding calls_at embedded segments_in segment_at header_at referred_at count_at type_of sheet_of information_at grid_of_page table pixel_at calls_of row_of whole_calls generic_at immediate_generic generic_header_at region_info_at template_pixels_at regular_pixels_at adaptive_pixel_at rows_at generic_grid generic_region decoded after_rows after_pixels after_pixel with_next row_begun so_far context_at choice decision byte_in byte_at filled doubled renormed started likely_next unlikely_next rows state_of drawn_pixel
+unfolding calls_at embedded segments_in segment_at header_at referred_at count_at type_of sheet_of information_at grid_of_page table pixel_at calls_of row_of whole_calls generic_at immediate_generic generic_header_at regular_pixels_at region_info_at template_pixels_at adaptive_pixel_at rows_at generic_grid generic_region decoded after_rows after_pixels after_pixel with_next row_begun so_far context_at choice decision byte_in byte_at filled doubled renormed started likely_next unlikely_next rows state_of drawn_pixel
 row_7-left_of_the_page = refl
 
 row_R2_1-xnor : calls_at true (page 0 eight one 4 ++ dot_at origin 3) ≡ Ok (Chunk true 1 ∷ Line ∷ [])
-unfolding calls_at embedded segments_in segment_at header_at referred_at count_at type_of sheet_of information_at grid_of_page table pixel_at calls_of row_of whole_calls generic_at immediate_generic generic_header_at region_info_at template_pixels_at regular_pixels_at adaptive_pixel_at rows_at generic_grid generic_region decoded after_rows after_pixels after_pixel with_next row_begun so_far context_at choice decision byte_in byte_at filled doubled renormed started likely_next unlikely_next rows state_of drawn_pixel
+unfolding calls_at embedded segments_in segment_at header_at referred_at count_at type_of sheet_of information_at grid_of_page table pixel_at calls_of row_of whole_calls generic_at immediate_generic generic_header_at regular_pixels_at region_info_at template_pixels_at adaptive_pixel_at rows_at generic_grid generic_region decoded after_rows after_pixels after_pixel with_next row_begun so_far context_at choice decision byte_in byte_at filled doubled renormed started likely_next unlikely_next rows state_of drawn_pixel
 row_R2_1-xnor = refl
 
 row_R2_1-colour : calls_at false (page 0 eight one 0 ++ dot_at origin 8) ≡ Ok white
-unfolding calls_at embedded segments_in segment_at header_at referred_at count_at type_of sheet_of information_at grid_of_page table pixel_at calls_of row_of whole_calls generic_at immediate_generic generic_header_at region_info_at template_pixels_at regular_pixels_at adaptive_pixel_at rows_at generic_grid generic_region decoded after_rows after_pixels after_pixel with_next row_begun so_far context_at choice decision byte_in byte_at filled doubled renormed started likely_next unlikely_next rows state_of drawn_pixel
+unfolding calls_at embedded segments_in segment_at header_at referred_at count_at type_of sheet_of information_at grid_of_page table pixel_at calls_of row_of whole_calls generic_at immediate_generic generic_header_at regular_pixels_at region_info_at template_pixels_at adaptive_pixel_at rows_at generic_grid generic_region decoded after_rows after_pixels after_pixel with_next row_begun so_far context_at choice decision byte_in byte_at filled doubled renormed started likely_next unlikely_next rows state_of drawn_pixel
 row_R2_1-colour = refl

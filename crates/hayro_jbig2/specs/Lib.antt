@@ -8,3 +8,5 @@ pub mod Page
 pub mod PageViews
 pub mod SegmentLists
 pub mod Sends
+pub mod SymbolNames
+pub mod SymbolViews

@@ -1,5 +1,5 @@
 -- What a page shows (T.88, 8): the fold of its segments over what was drawn so far.
-use Rattle.std.specs.Prelude.{ℕ, ◌+◌, ◌/◌, ◌==◌, nat_le, Bool, true, false, ◌&&◌, not, is_none, List, [], ◌∷◌, ◌++◌, Option, Some, None, Result, Ok, Err, if◌then◌else◌, pos}
+use Rattle.std.specs.Prelude.{ℕ, ◌+◌, ◌==◌, nat_le, Bool, true, false, ◌&&◌, not, is_none, List, [], ◌∷◌, ◌++◌, Option, Some, None, Result, Ok, Err, if◌then◌else◌}
 use Rattle.std.specs.Int.{w32, cast_signed}
 use Rattle.jbig2_base.specs.Answer.{◌>>=◌, refuse_if}
 use Rattle.jbig2_base.specs.Bits.{start_of}
@@ -28,16 +28,12 @@ use Rattle.jbig2_region.specs.GenericHeader.{generic_header_at}
 use Rattle.jbig2_region.specs.Refinement.{refined_decoded}
 use Rattle.jbig2_region.specs.RefinementHeader.{refinement_header_at}
 use Rattle.jbig2_region.specs.declared.region_info.RegionSegmentInfo.{RegionSegmentInfo}
+use Rattle.hayro_jbig2.specs.SymbolNames.{Library, no_library, with_code_under, with_symbols_under, symbols_at, text_at}
 
 -- An intermediate region, kept under its segment's number.
 pub record Stored : Type 0 where
   pub segment_number : ℕ
   pub region : PlacedRegion
-
--- A custom table's code, kept under its segment's number.
-pub record StoredCode : Type 0 where
-  pub segment_number : ℕ
-  pub code : List Member
 
 -- A pattern dictionary, kept under its segment's number.
 pub record StoredPatterns : Type 0 where
@@ -46,11 +42,11 @@ pub record StoredPatterns : Type 0 where
 
 -- What globals hold, each under its segment's number, in order.
 pub record Names : Type 0 where
-  pub codes : List StoredCode
+  pub library : Library
   pub patterns : List StoredPatterns
 
 abbrev pub no_names : Names
-no_names = record { codes = []; patterns = [] }
+no_names = record { library = no_library; patterns = [] }
 
 -- A page: whether it is read strictly, what it begins as, its segments in order, and the names of its globals or
 -- the error that decoding those gave.
@@ -60,12 +56,12 @@ pub record Leaf : Type 0 where
   pub parts : List Part
   pub globals : Result Names DecodeError
 
--- What was drawn so far, the regions, codes and pattern dictionaries that are kept, in order, and whether no
--- immediate region came before.
+-- What was drawn so far, the regions, symbol dictionaries, custom tables and pattern dictionaries that are kept, in
+-- order, and whether no immediate region came before.
 pub record Drawing : Type 0 where
   pub grid : Grid
   pub regions : List Stored
-  pub codes : List StoredCode
+  pub library : Library
   pub patterns : List StoredPatterns
   pub untouched : Bool
 
@@ -153,7 +149,25 @@ code_at bytes = (custom_table (start_of bytes)).answer
 unfoldable pub with_code : Part → Drawing → Result Drawing DecodeError
 with_code p d = do
   code ← code_at p.bytes
-  Ok (record d { codes = d.codes ++ record { segment_number = p.header.segment_number; code = code } ∷ [] })
+  Ok (record d { library = with_code_under p.header.segment_number code d.library })
+
+-- A symbol dictionary (7.4.2), kept, with no word of the mode: one that fails is never passed over.
+unfoldable pub with_symbols : Bool → Names → Part → Drawing → Result Drawing DecodeError
+with_symbols strict names p d = do
+  symbols ← symbols_at strict d.library names.library p.header.referred_to_segments p.bytes
+  Ok (record d { library = with_symbols_under p.header.segment_number symbols d.library })
+
+-- A text region (7.4.3).
+abbrev pub text_region : Bool → Names → Part → Drawing → Result PlacedRegion DecodeError
+text_region strict names p d = text_at strict d.library names.library p.header.referred_to_segments p.bytes
+
+unfoldable pub immediate_text : Bool → Names → Part → Drawing → Result Drawing DecodeError
+immediate_text strict names p d = immediate strict d (text_region strict names p d)
+
+unfoldable pub intermediate_text : Bool → Names → Part → Drawing → Result Drawing DecodeError
+intermediate_text strict names p d = do
+  region ← text_region strict names p d
+  Ok (with_region p d region)
 
 -- A pattern dictionary (7.4.4).
 unfoldable pub dictionary_at : Bool → List ℕ → Result Patterns DecodeError
@@ -200,19 +214,25 @@ intermediate_halftone strict names p d = do
   region ← halftone_region strict names p d
   Ok (with_region p d region)
 
--- One segment. Page information after the beginning, stripes, profiles, palettes and types without a meaning
--- change nothing.
+-- One segment. Page information after the beginning, stripes, profiles, palettes, types without a meaning, and an end
+-- by itself change nothing.
 abbrev pub segment_on : Bool → Names → Part → Drawing → Result Drawing DecodeError
 segment_on strict names p d = on p.header.segment_type
   where
     on : SegmentType → Result Drawing DecodeError
     on types.PageInformation = Ok d
+    on types.EndOfPage = Ok d
     on types.EndOfStripe = Ok d
+    on types.EndOfFile = Ok d
     on types.Profiles = Ok d
     on types.ColourPalette = Ok d
     on types.Reserved = Ok d
     on types.Extension = extension strict p.bytes >>= λ known. Ok d
     on types.Tables = with_code p d
+    on types.SymbolDictionary = with_symbols strict names p d
+    on types.IntermediateTextRegion = intermediate_text strict names p d
+    on types.ImmediateTextRegion = immediate_text strict names p d
+    on types.ImmediateLosslessTextRegion = immediate_text strict names p d
     on types.PatternDictionary = with_patterns strict p d
     on types.IntermediateHalftoneRegion = intermediate_halftone strict names p d
     on types.ImmediateHalftoneRegion = immediate_halftone strict names p d
@@ -223,7 +243,6 @@ segment_on strict names p d = on p.header.segment_type
     on types.IntermediateGenericRefinementRegion = intermediate_refinement strict p d
     on types.ImmediateGenericRefinementRegion = immediate_refinement strict p d
     on types.ImmediateLosslessGenericRefinementRegion = immediate_refinement strict p d
-    on _ = Err Unsupported
 
 -- The segments in order, up to an end of page or an end of file.
 abbrev pub drawn : Bool → Names → List Part → Drawing → Result Drawing DecodeError
@@ -232,7 +251,7 @@ drawn strict names (p ∷ ps) d = if ends_page p.header.segment_type then Ok d e
 
 -- The page begins in its default pixel.
 abbrev pub started : Sheet → Drawing
-started sheet = record { grid = blank sheet.width sheet.height sheet.default_pixel; regions = []; codes = []; patterns = []; untouched = true }
+started sheet = record { grid = blank sheet.width sheet.height sheet.default_pixel; regions = []; library = no_library; patterns = []; untouched = true }
 
 unfoldable pub grid_of_page : Leaf → Result Grid DecodeError
 grid_of_page page = do

@@ -12,10 +12,9 @@ use Rattle.jbig2_region.specs.Refinement.{is_far}
 use Rattle.jbig2_region.specs.declared.region_info.RegionSegmentInfo.{RegionSegmentInfo}
 use Rattle.jbig2_halftone.specs.Patterns.{Patterns, dictionary_view}
 use Rattle.jbig2_halftone.specs.declared.pattern.dictionary.PatternDictionary.{PatternDictionary}
-use Rattle.hayro_jbig2.specs.Page.{Stored, StoredCode, StoredPatterns, Names, no_names, page_area}
+use Rattle.hayro_jbig2.specs.Page.{Stored, StoredPatterns, Names, no_names, page_area}
 use Rattle.hayro_jbig2.specs.declared.context.StoredDictionary.{StoredDictionary}
 use Rattle.hayro_jbig2.specs.declared.context.StoredRegion.{StoredRegion}
-use Rattle.hayro_jbig2.specs.declared.context.StoredTable.{StoredTable}
 
 abbrev pub stored_view : {A : Type 0} → StoredRegion A → Stored
 stored_view s = record { segment_number = s.segment_number; region = region_view s.region }
@@ -31,12 +30,6 @@ found_view (Some region) = Some (region_view region.now)
 -- the page's area, unless it lies too far to be refined
 abbrev pub near_area : Grid → RegionSegmentInfo → Result PlacedRegion DecodeError
 near_area page info = refuse_if (is_far info.x_location || is_far info.y_location) (Overflow ReferenceOffset) >>= λ near. Ok (page_area page info)
-
-abbrev pub code_view : {A : Type 0} → StoredTable A → StoredCode
-code_view s = record { segment_number = s.segment_number; code = s.table }
-
-abbrev pub stored_codes : {A : Type 0} → List (StoredTable A) → List StoredCode
-stored_codes tables = map (λ s. code_view s) tables
 
 abbrev pub patterns_view : {A : Type 0} → StoredDictionary A → StoredPatterns
 patterns_view s = record { segment_number = s.segment_number; patterns = dictionary_view s.dictionary }

@@ -6,7 +6,10 @@ ghost use Rattle.jbig2_base.specs.Grid.{blank};
 ghost use Rattle.jbig2_halftone.specs.Patterns.{dictionary_view};
 ghost use Rattle.jbig2_region.specs.Generic.{region_view};
 ghost use Rattle.hayro_jbig2.specs.Page.{Drawing, Stored, started, immediate};
+ghost use Rattle.hayro_jbig2.specs.SymbolNames.{no_library, with_code_under, with_symbols_under};
+ghost use Rattle.hayro_jbig2.specs.SymbolViews.{symbols_view};
 
+use crate::library::SymbolLibrary;
 use jbig2_base::bitmap::Bitmap;
 use jbig2_base::bitmap::steps::Steps;
 use jbig2_base::error::Result;
@@ -15,6 +18,7 @@ use jbig2_coder::arithmetic_decoder::ArithmeticDecoderContext;
 use jbig2_coder::huffman_table::{HuffmanTable, StandardHuffmanTables};
 use jbig2_halftone::pattern::PatternDictionary;
 use jbig2_region::generic::DecodedRegion;
+use jbig2_symbol::symbol::SymbolDictionary;
 use std::alloc::Allocator;
 use std::marker::Model;
 use std::sync::ledger::Ledger;
@@ -24,13 +28,6 @@ use std::sync::ledger::Ledger;
 pub(crate) struct StoredRegion<A: Allocator> {
     pub(crate) segment_number: u32,
     pub(crate) region: DecodedRegion<A>,
-}
-
-/// A custom table that later segments may refer to by its number.
-#[derive(Drop)]
-pub(crate) struct StoredTable<A: Allocator> {
-    pub(crate) segment_number: u32,
-    pub(crate) table: HuffmanTable<A>,
 }
 
 /// A pattern dictionary that later segments may refer to by its number.
@@ -47,7 +44,7 @@ pub struct DecoderContext<A: Allocator> {
     pub(crate) alloc: A,
     pub(crate) bitmap: Bitmap<A>,
     pub(crate) regions: Vec<StoredRegion<A>, A>,
-    pub(crate) tables: Vec<StoredTable<A>, A>,
+    pub(crate) library: SymbolLibrary<A>,
     pub(crate) dictionaries: Vec<StoredDictionary<A>, A>,
     pub(crate) standard_tables: StandardHuffmanTables<A>,
     pub(crate) untouched: bool,
@@ -56,22 +53,22 @@ pub struct DecoderContext<A: Allocator> {
 
 impl<A: Allocator> Model for DecoderContext<A> {
     ghost use Rattle.hayro_jbig2.specs.Page.{Drawing};
-    ghost use Rattle.hayro_jbig2.specs.PageViews.{stored_regions, stored_codes, stored_patterns};
+    ghost use Rattle.hayro_jbig2.specs.PageViews.{stored_regions, stored_patterns};
 
     ghost Value = { Drawing };
 
-    ghost view = { λ c. record { grid = c.bitmap; regions = stored_regions c.regions.items; codes = stored_codes c.tables.items; patterns = stored_patterns c.dictionaries.items; untouched = c.untouched } };
+    ghost view = { λ c. record { grid = c.bitmap; regions = stored_regions c.regions.items; library = c.library; patterns = stored_patterns c.dictionaries.items; untouched = c.untouched } };
 }
 
 impl<A: Allocator + Clone> DecoderContext<A> {
     /// A context that holds a page of no pixels. `DecodeError::OutOfMemory` alone refuses it.
     pub fn new(alloc: A) -> Result<DecoderContext<A>>
-        ensures { Gives (λ context. context) result (Ok (record { grid = blank 0 0 false; regions = []; codes = []; patterns = []; untouched = true })) }
+        ensures { Gives (λ context. context) result (Ok (record { grid = blank 0 0 false; regions = []; library = no_library; patterns = []; untouched = true })) }
     {
         Ok(DecoderContext {
             bitmap: Bitmap::new_empty(alloc.clone()?),
             regions: Vec::new(alloc.clone()?),
-            tables: Vec::new(alloc.clone()?),
+            library: SymbolLibrary::new(alloc.clone()?)?,
             dictionaries: Vec::new(alloc.clone()?),
             standard_tables: StandardHuffmanTables::new(alloc.clone()?)?,
             untouched: true,
@@ -91,7 +88,7 @@ impl<A: Allocator> DecoderContext<A> {
         self.bitmap
             .reinitialize(sheet.width, sheet.height, sheet.default_pixel)?;
         self.regions.clear();
-        self.tables.clear();
+        self.library.clear();
         self.dictionaries.clear();
         self.untouched = true;
         Ok(())
@@ -124,13 +121,20 @@ impl<A: Allocator> DecoderContext<A> {
 
     /// Keeps a custom table under its segment's number.
     pub(crate) fn store_table(&mut self, segment_number: u32, table: HuffmanTable<A>) -> Result<()>
-        ensures { Gives (λ _. self.new) result (Ok (record self.old { codes = self.old.codes ++ record { segment_number = segment_number; code = table } ∷ [] })) }
+        ensures { Gives (λ _. self.new) result (Ok (record self.old { library = with_code_under segment_number table self.old.library })) }
     {
-        self.tables.push(StoredTable {
-            segment_number,
-            table,
-        })?;
-        Ok(())
+        self.library.store_table(segment_number, table)
+    }
+
+    /// Keeps a symbol dictionary under its segment's number.
+    pub(crate) fn store_symbols(
+        &mut self,
+        segment_number: u32,
+        dictionary: SymbolDictionary<A>,
+    ) -> Result<()>
+        ensures { Gives (λ _. self.new) result (Ok (record self.old { library = with_symbols_under segment_number (symbols_view dictionary) self.old.library })) }
+    {
+        self.library.store_symbols(segment_number, dictionary)
     }
 
     /// Keeps a pattern dictionary under its segment's number.

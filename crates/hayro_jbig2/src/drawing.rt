@@ -10,6 +10,8 @@ use crate::context::DecoderContext;
 use crate::globals::Globals;
 use crate::halftones::{draw_immediate_halftone, store_intermediate_halftone, store_patterns};
 use crate::refinement::{draw_immediate_refinement, store_intermediate_refinement};
+use crate::symbols::store_symbols;
+use crate::texts::{draw_immediate_text, store_intermediate_text};
 use jbig2_base::bitmap::steps::Steps;
 use jbig2_base::error::{DecodeError, Result};
 use jbig2_base::field::u32_field;
@@ -90,9 +92,9 @@ pub(crate) fn finish_immediate<A: Allocator, L: Ledger>(
 }
 
 #[tactic(auto, unfolding(crate::specs::Page::immediate_generic))]
-fn draw_immediate_generic<S: Allocator, A: Allocator + Clone, L: Ledger>(
+fn draw_immediate_generic<A: Allocator + Clone, L: Ledger>(
     strict: bool,
-    segment: &Segment<'_, S>,
+    segment: &Segment<'_, A>,
     context: &mut DecoderContext<A>,
     steps: &mut Steps<L>,
 ) -> Result<()>
@@ -104,9 +106,9 @@ fn draw_immediate_generic<S: Allocator, A: Allocator + Clone, L: Ledger>(
 }
 
 #[tactic(auto, unfolding(crate::specs::Page::intermediate_generic))]
-fn store_intermediate_generic<S: Allocator, A: Allocator + Clone, L: Ledger>(
+fn store_intermediate_generic<A: Allocator + Clone, L: Ledger>(
     strict: bool,
-    segment: &Segment<'_, S>,
+    segment: &Segment<'_, A>,
     context: &mut DecoderContext<A>,
     steps: &mut Steps<L>,
 ) -> Result<()>
@@ -118,8 +120,8 @@ fn store_intermediate_generic<S: Allocator, A: Allocator + Clone, L: Ledger>(
 
 /// A custom table (T.88, 7.4.13 and B.2), kept for later segments.
 #[tactic(auto, unfolding(crate::specs::Page::with_code))]
-fn store_table<S: Allocator, A: Allocator + Clone>(
-    segment: &Segment<'_, S>,
+fn store_table<A: Allocator + Clone>(
+    segment: &Segment<'_, A>,
     context: &mut DecoderContext<A>,
 ) -> Result<()>
     ensures { Gives (λ _. context.new) result (with_code (part_view segment.now) context.old) }
@@ -130,10 +132,10 @@ fn store_table<S: Allocator, A: Allocator + Clone>(
 }
 
 /// Draws one segment onto the page.
-fn draw_segment<S: Allocator, G: Allocator, A: Allocator + Clone, L: Ledger>(
+fn draw_segment<A: Allocator + Clone, L: Ledger>(
     strict: bool,
-    globals: Option<&Globals<G>>,
-    segment: &Segment<'_, S>,
+    globals: Option<&Globals<A>>,
+    segment: &Segment<'_, A>,
     context: &mut DecoderContext<A>,
     steps: &mut Steps<L>,
 ) -> Result<()>
@@ -141,12 +143,21 @@ fn draw_segment<S: Allocator, G: Allocator, A: Allocator + Clone, L: Ledger>(
 {
     match segment.header.segment_type {
         SegmentType::PageInformation
+        | SegmentType::EndOfPage
         | SegmentType::EndOfStripe
+        | SegmentType::EndOfFile
         | SegmentType::Profiles
         | SegmentType::ColourPalette
         | SegmentType::Reserved => Ok(()),
         SegmentType::Extension => extension(strict, segment.bytes),
         SegmentType::Tables => store_table(segment, context),
+        SegmentType::SymbolDictionary => store_symbols(strict, globals, segment, context, steps),
+        SegmentType::IntermediateTextRegion => {
+            store_intermediate_text(strict, globals, segment, context, steps)
+        }
+        SegmentType::ImmediateTextRegion | SegmentType::ImmediateLosslessTextRegion => {
+            draw_immediate_text(strict, globals, segment, context, steps)
+        }
         SegmentType::PatternDictionary => store_patterns(strict, segment, context, steps),
         SegmentType::IntermediateHalftoneRegion => {
             store_intermediate_halftone(strict, globals, segment, context, steps)
@@ -167,15 +178,14 @@ fn draw_segment<S: Allocator, G: Allocator, A: Allocator + Clone, L: Ledger>(
         | SegmentType::ImmediateLosslessGenericRefinementRegion => {
             draw_immediate_refinement(strict, segment, context, steps)
         }
-        _ => Err(DecodeError::Unsupported),
     }
 }
 
 /// Draws segments in order, up to an end of page or an end of file.
-pub(crate) fn draw_segments<S: Allocator, G: Allocator, A: Allocator + Clone, L: Ledger>(
+pub(crate) fn draw_segments<A: Allocator + Clone, L: Ledger>(
     strict: bool,
-    globals: Option<&Globals<G>>,
-    segments: &[Segment<'_, S>],
+    globals: Option<&Globals<A>>,
+    segments: &[Segment<'_, A>],
     context: &mut DecoderContext<A>,
     steps: &mut Steps<L>,
 ) -> Result<()>

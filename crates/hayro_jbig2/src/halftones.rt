@@ -23,11 +23,11 @@ use std::sync::ledger::{Blank, Ledger};
 
 /// A pattern dictionary (T.88, 7.4.4).
 #[tactic(auto, unfolding(crate::specs::Page::dictionary_at))]
-fn decode_dictionary<A: Allocator + Clone, B: Allocator, L: Ledger>(
+fn decode_dictionary<A: Allocator + Clone, L: Ledger>(
     alloc: A,
     strict: bool,
     bytes: &[u8],
-    contexts: &mut Vec<ArithmeticDecoderContext, B>,
+    contexts: &mut Vec<ArithmeticDecoderContext, A>,
     steps: &mut Steps<L>,
 ) -> Result<PatternDictionary<A>>
     ensures { Gives (λ dictionary. dictionary_view dictionary) result (dictionary_at strict bytes.now) }
@@ -56,9 +56,9 @@ pub(crate) fn decode_shared_dictionary<A: Allocator + Clone, L: Ledger>(
 
 /// A pattern dictionary of a page, kept for later segments. One that fails is never passed over.
 #[tactic(auto, unfolding(crate::specs::Page::with_patterns))]
-pub(crate) fn store_patterns<S: Allocator, A: Allocator + Clone, L: Ledger>(
+pub(crate) fn store_patterns<A: Allocator + Clone, L: Ledger>(
     strict: bool,
-    segment: &Segment<'_, S>,
+    segment: &Segment<'_, A>,
     context: &mut DecoderContext<A>,
     steps: &mut Steps<L>,
 ) -> Result<()>
@@ -91,12 +91,12 @@ fn find_patterns<A: Allocator>(
 
 /// A halftone region, drawn with the patterns of a dictionary into a bitmap of its own.
 #[tactic(auto, unfolding(crate::specs::Page::halftone_at))]
-fn decode_halftone_with<D: Allocator, A: Allocator + Clone, B: Allocator, L: Ledger>(
+fn decode_halftone_with<A: Allocator + Clone, L: Ledger>(
     alloc: A,
     strict: bool,
     bytes: &[u8],
-    dictionary: &PatternDictionary<D>,
-    contexts: &mut Vec<ArithmeticDecoderContext, B>,
+    dictionary: &PatternDictionary<A>,
+    contexts: &mut Vec<ArithmeticDecoderContext, A>,
     steps: &mut Steps<L>,
 ) -> Result<DecodedRegion<A>>
     ensures { Gives (λ region. region_view region) result (halftone_at strict bytes.now (dictionary_view dictionary.now)) }
@@ -108,10 +108,10 @@ fn decode_halftone_with<D: Allocator, A: Allocator + Clone, B: Allocator, L: Led
 
 /// A halftone region with the dictionary that its first referred number names: the page's own, else
 /// the one of the globals.
-fn decode_halftone<S: Allocator, G: Allocator, A: Allocator + Clone, L: Ledger>(
+fn decode_halftone<A: Allocator + Clone, L: Ledger>(
     strict: bool,
-    globals: Option<&Globals<G>>,
-    segment: &Segment<'_, S>,
+    globals: Option<&Globals<A>>,
+    segment: &Segment<'_, A>,
     context: &mut DecoderContext<A>,
     steps: &mut Steps<L>,
 ) -> Result<DecodedRegion<A>>
@@ -138,10 +138,10 @@ fn decode_halftone<S: Allocator, G: Allocator, A: Allocator + Clone, L: Ledger>(
 }
 
 #[tactic(auto, unfolding(crate::specs::Page::immediate_halftone))]
-pub(crate) fn draw_immediate_halftone<S: Allocator, G: Allocator, A: Allocator + Clone, L: Ledger>(
+pub(crate) fn draw_immediate_halftone<A: Allocator + Clone, L: Ledger>(
     strict: bool,
-    globals: Option<&Globals<G>>,
-    segment: &Segment<'_, S>,
+    globals: Option<&Globals<A>>,
+    segment: &Segment<'_, A>,
     context: &mut DecoderContext<A>,
     steps: &mut Steps<L>,
 ) -> Result<()>
@@ -152,15 +152,10 @@ pub(crate) fn draw_immediate_halftone<S: Allocator, G: Allocator, A: Allocator +
 }
 
 #[tactic(auto, unfolding(crate::specs::Page::intermediate_halftone))]
-pub(crate) fn store_intermediate_halftone<
-    S: Allocator,
-    G: Allocator,
-    A: Allocator + Clone,
-    L: Ledger,
->(
+pub(crate) fn store_intermediate_halftone<A: Allocator + Clone, L: Ledger>(
     strict: bool,
-    globals: Option<&Globals<G>>,
-    segment: &Segment<'_, S>,
+    globals: Option<&Globals<A>>,
+    segment: &Segment<'_, A>,
     context: &mut DecoderContext<A>,
     steps: &mut Steps<L>,
 ) -> Result<()>

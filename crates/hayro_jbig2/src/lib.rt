@@ -15,13 +15,17 @@ mod halftones;
 mod image;
 mod jbig2_decoder;
 mod jbig2_error;
+mod library;
 mod page;
 mod pages;
 pub mod parts;
 pub mod reading;
+mod referred;
 mod refinement;
 mod segments_by_page;
 mod settings;
+mod symbols;
+mod texts;
 
 pub use context::DecoderContext;
 pub use decoder::Decoder;

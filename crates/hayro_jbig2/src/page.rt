@@ -186,18 +186,16 @@ impl<'a, A: Allocator + Clone> Page<'a, A> {
         write_image(&context.bitmap, &self.sheet, buf, &mut steps);
         Ok(())
     }
-}
 
-impl<'a, A: Allocator> Page<'a, A> {
     /// Makes the calls that spell the page, in the room of a context that earlier pages may have
     /// used.
     ///
     /// Answers the first fault of a segment that lenient reading does not pass over, or the
     /// Decoder's own refusal. No call is made before all segments are decoded.
-    pub fn decode_with<B: Allocator + Clone, D: Decoder>(
+    pub fn decode_with<D: Decoder>(
         &self,
         decoder: &mut D,
-        context: &mut DecoderContext<B>,
+        context: &mut DecoderContext<A>,
     ) -> Result<()>
         requires { D.refusals decoder.old < 2 ^ 64 - 1 }
         ensures calls { Decodes D.step (grid_of_page self.now) result (D.picture decoder.old) (D.refusals decoder.old) (D.picture decoder.new) (D.refusals decoder.new) }
@@ -205,13 +203,13 @@ impl<'a, A: Allocator> Page<'a, A> {
         ensures direct { (operator : CombinationOperator) (black : Bool) (region : Grid) → IsTable region → IsTrue (draws_over operator black)
             → combined operator (blank region.width region.height black) region (pos 0) (pos 0) ≡ region }
     {
-        self.decode_counted::<B, D, Brand>(decoder, context, Blank::new(6))
+        self.decode_counted::<D, Brand>(decoder, context, Blank::new(6))
     }
 
-    fn decode_counted<B: Allocator + Clone, D: Decoder, L: Ledger>(
+    fn decode_counted<D: Decoder, L: Ledger>(
         &self,
         decoder: &mut D,
-        context: &mut DecoderContext<B>,
+        context: &mut DecoderContext<A>,
         blank: Blank,
     ) -> Result<()>
         requires countable { D.refusals decoder.old < 2 ^ 64 - 1 }
@@ -229,9 +227,9 @@ impl<'a, A: Allocator> Page<'a, A> {
 
     /// Draws the whole page into the context's bitmap.
     #[tactic(auto, unfolding(crate::specs::Page::grid_of_page))]
-    fn draw_into<B: Allocator + Clone, L: Ledger>(
+    fn draw_into<L: Ledger>(
         &self,
-        context: &mut DecoderContext<B>,
+        context: &mut DecoderContext<A>,
         steps: &mut Steps<L>,
     ) -> Result<()>
         ensures { Gives (λ _. context.new.grid) result (grid_of_page self.now) }

@@ -3,3 +3,4 @@ pub use jbig2_base::{bitmap, error, file, page_info, reader, segment};
 pub use jbig2_coder::{arithmetic_decoder, huffman_table, integer_decoder, mq, symbol_id_decoder};
 pub use jbig2_halftone::{gray_scale, halftone, pattern};
 pub use jbig2_region::{generic, generic_refinement, mmr, region_info, template};
+pub use jbig2_symbol::{symbol, text};

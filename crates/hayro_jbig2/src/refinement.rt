@@ -116,10 +116,10 @@ fn refine_page<A: Allocator + Clone, L: Ledger>(
 
 /// A refinement, decoded into a bitmap of its own (T.88, 7.4.7).
 #[tactic(auto, unfolding(crate::specs::Page::refinement_at))]
-fn decode_refinement<S: Allocator, A: Allocator + Clone, L: Ledger>(
+fn decode_refinement<A: Allocator + Clone, L: Ledger>(
     strict: bool,
     is_intermediate: bool,
-    segment: &Segment<'_, S>,
+    segment: &Segment<'_, A>,
     context: &mut DecoderContext<A>,
     steps: &mut Steps<L>,
 ) -> Result<DecodedRegion<A>>
@@ -144,9 +144,9 @@ fn decode_refinement<S: Allocator, A: Allocator + Clone, L: Ledger>(
 }
 
 #[tactic(auto, unfolding(crate::specs::Page::immediate_refinement))]
-pub(crate) fn draw_immediate_refinement<S: Allocator, A: Allocator + Clone, L: Ledger>(
+pub(crate) fn draw_immediate_refinement<A: Allocator + Clone, L: Ledger>(
     strict: bool,
-    segment: &Segment<'_, S>,
+    segment: &Segment<'_, A>,
     context: &mut DecoderContext<A>,
     steps: &mut Steps<L>,
 ) -> Result<()>
@@ -157,9 +157,9 @@ pub(crate) fn draw_immediate_refinement<S: Allocator, A: Allocator + Clone, L: L
 }
 
 #[tactic(auto, unfolding(crate::specs::Page::intermediate_refinement))]
-pub(crate) fn store_intermediate_refinement<S: Allocator, A: Allocator + Clone, L: Ledger>(
+pub(crate) fn store_intermediate_refinement<A: Allocator + Clone, L: Ledger>(
     strict: bool,
-    segment: &Segment<'_, S>,
+    segment: &Segment<'_, A>,
     context: &mut DecoderContext<A>,
     steps: &mut Steps<L>,
 ) -> Result<()>

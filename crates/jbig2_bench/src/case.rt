@@ -10,7 +10,7 @@ use crate::table::{TableCase, table_holds};
 use crate::watcher::Watcher;
 use hayro_jbig2::parts::reader::Reader;
 use hayro_jbig2::parts::segment::{SegmentType, parse_segment_header};
-use hayro_jbig2::{DecodeError, DecodeSettings, DecoderContext, Page, Result};
+use hayro_jbig2::{DecodeError, DecodeSettings, DecoderContext, Globals, Page, Result};
 use std::alloc::Allocator;
 use std::marker::Brand;
 use std::sync::ledger::Blank;
@@ -53,6 +53,15 @@ pub struct Header {
 pub enum Case {
     /// What comes of an embedded page in these modes.
     Page(Modes, &'static str, Answer),
+    /// What comes in these modes of each beginning of an embedded page that has from the first to the
+    /// second number of bytes.
+    Beginnings(Modes, &'static str, (usize, usize), Answer),
+    /// What comes of drawing an embedded page with globals, in both modes.
+    Shared {
+        globals: &'static str,
+        bytes: &'static str,
+        answer: Answer,
+    },
     /// The number, the width and the height of an embedded page.
     Size {
         bytes: &'static str,
@@ -110,6 +119,14 @@ fn case_holds<A: Allocator + Clone>(
 ) -> Result<bool> {
     match case {
         Case::Page(modes, bytes, answer) => answer_holds(alloc, *modes, bytes, answer, context),
+        Case::Beginnings(modes, bytes, lengths, answer) => {
+            beginnings_hold(alloc, *modes, bytes, *lengths, answer, context)
+        }
+        Case::Shared {
+            globals,
+            bytes,
+            answer,
+        } => shared_holds(alloc, globals, bytes, answer, context),
         Case::Size {
             bytes,
             number,
@@ -137,9 +154,75 @@ fn answer_holds<A: Allocator + Clone>(
     let Some(bytes) = spelled(alloc.clone()?, bytes)? else {
         return Ok(false);
     };
-    let strict = !modes.has(true) || page_holds(alloc.clone()?, &bytes, true, answer, context)?;
-    let lenient = !modes.has(false) || page_holds(alloc, &bytes, false, answer, context)?;
-    Ok(strict && lenient)
+    modes_hold(alloc, modes, &bytes, answer, context)
+}
+
+fn modes_hold<A: Allocator + Clone>(
+    alloc: A,
+    modes: Modes,
+    bytes: &[u8],
+    answer: &Answer,
+    context: &mut DecoderContext<A>,
+) -> Result<bool> {
+    for strict in [true, false] {
+        if modes.has(strict) && !page_holds(alloc.clone()?, bytes, strict, answer, context)? {
+            return Ok(false);
+        }
+    }
+    Ok(true)
+}
+
+/// Whether each beginning of these lengths, the last one included, has this answer in these modes.
+fn beginnings_hold<A: Allocator + Clone>(
+    alloc: A,
+    modes: Modes,
+    bytes: &str,
+    lengths: (usize, usize),
+    answer: &Answer,
+    context: &mut DecoderContext<A>,
+) -> Result<bool> {
+    let Some(bytes) = spelled(alloc.clone()?, bytes)? else {
+        return Ok(false);
+    };
+    for length in lengths.0..=lengths.1 {
+        let Some(beginning) = bytes.get(..length) else {
+            return Ok(false);
+        };
+        if !modes_hold(alloc.clone()?, modes, beginning, answer, context)? {
+            return Ok(false);
+        }
+    }
+    Ok(true)
+}
+
+/// Whether drawing the embedded page that a text spells has this answer with these globals.
+fn shared_holds<A: Allocator + Clone>(
+    alloc: A,
+    globals: &str,
+    bytes: &str,
+    answer: &Answer,
+    context: &mut DecoderContext<A>,
+) -> Result<bool> {
+    let globals = spelled(alloc.clone()?, globals)?;
+    let bytes = spelled(alloc.clone()?, bytes)?;
+    let (Some(globals), Some(bytes)) = (globals, bytes) else {
+        return Ok(false);
+    };
+    for strict in [true, false] {
+        let settings = DecodeSettings { strict };
+        let globals = match Globals::new(alloc.clone()?, &globals, &settings) {
+            Ok(globals) => globals,
+            Err(error) => return refused_as(error, None),
+        };
+        let page = match Page::new_embedded(alloc.clone()?, &bytes, Some(&globals), &settings) {
+            Ok(page) => page,
+            Err(error) => return refused_as(error, None),
+        };
+        if !drawing_holds(&page, answer, context)? {
+            return Ok(false);
+        }
+    }
+    Ok(true)
 }
 
 /// Whether the embedded page that a text spells has this number and size.

@@ -39,4 +39,14 @@ pub const PIECES: &[Piece] = &[
         name: "T",
         bytes: "0000000216200101 00000026 00000008 00000001 00*9 01 00000001 00000001 00*12",
     },
+    // A symbol dictionary of one black symbol of 1 by 1, by prefix codes.
+    Piece {
+        name: "S",
+        bytes: "00000001000001 0000000F 0001 00000001 00000001 5F80800040",
+    },
+    // An immediate text region of 8 by 1 with one instance, by prefix codes, that refers to it.
+    Piece {
+        name: "X",
+        bytes: "0000000206200101 0000002D 00000008 00000001 00*9 0011 0000 00000001 01 00*17 0004",
+    },
 ];

@@ -7,25 +7,30 @@ pub mod halftones;
 pub mod mmr;
 pub mod refinement;
 pub mod regions;
+pub mod symbols;
 pub mod worked;
 
 use crate::case::Row;
 
 /// All rows in the order in which they are run. Each family stands behind a call of its own, so that no
 /// proof has to look at all of their bytes at once.
-pub fn families() -> [&'static [Row]; 12] {
+pub fn families() -> [&'static [Row]; 16] {
     [
         worked::rows(),
         framing::rows(),
-        regions::rows(),
+        regions::rows_2(),
         generic::rows(),
         mmr::rows(),
         coding::tables(),
         refinement::rows(),
         halftones::rows_7(),
+        symbols::rows_8(),
         files::rows_9(),
+        regions::rows_11(),
+        symbols::rows_13(),
         files::rows_13(),
         coding::lists(),
         halftones::rows_15(),
+        symbols::rows_16(),
     ]
 }

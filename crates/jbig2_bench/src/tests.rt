@@ -2,10 +2,12 @@
 //!
 //! `rt try --test --fail-alloc N` in this crate's folder runs these tests with the Nth request for memory
 //! refused. At most one is refused in a test's run: what it was refused to is tried again, or the test ends there.
+//! Rows 17, R13.1 and R13.2 take minutes there: give it `--seconds 900`.
 mod errors;
 mod files;
 mod lists;
 mod memory;
+mod replaced;
 mod surface;
 mod uses;
 

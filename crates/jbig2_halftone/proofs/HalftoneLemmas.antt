@@ -1,7 +1,7 @@
 -- What decoding a whole halftone region gives: a value for each cell, and in lenient mode never a refusal.
 use Rattle.std.proofs.Common.{◌≡◌, ℕ, zero, suc, ◌+◌, ◌*◌, ◌≤◌, Bool, true, false, ltb, List, [], ◌∷◌, length, drop, get_or, ◌-◌, Result, Ok, Err, refl, sym, ap, subst, ◌∙◌, ⊎_elim}
 use Rattle.std.specs.Prelude.{if◌then◌else◌, IfErr}
-use Rattle.std.proofs.lemmas.Bool.{le-ltb}
+use Rattle.std.proofs.lemmas.Bool.{le-ltb, and_right}
 use Rattle.jbig2_base.specs.Answer.{◌>>=◌, refuse_if, Gives}
 use Rattle.jbig2_base.specs.Grid.{Grid, blank}
 use Rattle.jbig2_base.specs.declared.error.DecodeError.{DecodeError}
@@ -55,7 +55,7 @@ values-lenient false p input lenient = (_, refl)
 image-lenient : (p : GrayScale) (input : List ℕ) → p.width ≤ 65535 → p.height ≤ 65535 → p.strict ≡ false → Answered (gray_scale_image p input)
 unfolding gray_scale_image
 image-lenient p input columns rows lenient =
-    rw (le-ltb 65535 p.width columns, le-ltb 65535 p.height rows)
+    rw (le-ltb 65535 p.width columns, le-ltb 65535 p.height rows, and_right (ltb 0 p.bits_per_pixel) false refl)
     (then-answered (planes_of p input) (λ planes. Ok (gray_values p.width p.height planes)) (values-lenient p.use_mmr p input lenient) (λ planes. (gray_values p.width p.height planes, refl)))
 
 pattern-lenient : (known : Bool) (one last : Grid) (e : DecodeError) → Answered (if known then Ok one else if false then Err e else Ok last)

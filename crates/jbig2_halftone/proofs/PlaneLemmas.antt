@@ -1,7 +1,8 @@
 -- Planes read one after another, and the values gathered from them.
-use Rattle.std.proofs.Common.{◌≡◌, ℕ, suc, ◌+◌, ◌-◌, ◌*◌, ◌/◌, ◌%◌, ◌^◌, ◌<◌, ◌≤◌, Bool, true, false, not, ◌&&◌, List, [], ◌∷◌, ◌++◌, length, take, drop, map, Result, Ok, Err, add-one, length-append, refl, sym, ap, subst, ◌∙◌, arith}
+use Rattle.std.proofs.Common.{◌≡◌, ℕ, suc, ◌+◌, ◌-◌, ◌*◌, ◌/◌, ◌%◌, ◌^◌, ◌<◌, ◌≤◌, Bool, true, false, ltb, not, ◌&&◌, ◌||◌, List, [], ◌∷◌, ◌++◌, length, take, drop, map, Result, Ok, Err, add-one, length-append, refl, sym, ap, subst, ◌∙◌, arith}
 use Rattle.std.specs.List.{All, range_with_len}
 use Rattle.std.specs.Prelude.{if◌then◌else◌}
+use Rattle.std.proofs.lemmas.Bool.{lt-ltb, ltb-false}
 use Rattle.std.proofs.Math.Nat.{pow-le-pow_right}
 use Rattle.std.proofs.lemmas.List.{append_assoc, append-nil, length-drop, take_all}
 use Rattle.std.proofs.lemmas.List.FromFn.{get_or-map-range_with_len, length-map-range_with_len, map-range_with_len_more}
@@ -19,7 +20,21 @@ use Rattle.jbig2_region.specs.Templates.{context_bits, template_pixels}
 use Rattle.jbig2_region.specs.declared.template.AdaptiveTemplatePixel.{AdaptiveTemplatePixel}
 use Rattle.jbig2_region.specs.declared.template.GenericTemplatePixels.TheVariants.{Regular}
 use Rattle.jbig2_region.proofs.ContextLemmas.{number_of-lt}
-use Rattle.jbig2_halftone.specs.GrayScale.{GrayScale, nominal_pixels, plane_coding, after_planes, coded_plane, coded_planes, mmr_planes, planes_by_coder, planes_by_mmr, gray_bit, gray_value, gray_values, values_by}
+use Rattle.jbig2_halftone.specs.GrayScale.{GrayScale, nominal_pixels, plane_coding, after_planes, coded_plane, coded_planes, mmr_planes, planes_by_coder, planes_by_mmr, gray_bit, gray_value, gray_values, values_by, image_is_too_large}
+
+-- neither side of an image that has a plane is too long
+pub image-sides : (p : GrayScale) (i : ℕ) → image_is_too_large p ≡ false → i < p.bits_per_pixel → (p.width ≤ 65535) × (p.height ≤ 65535)
+image-sides p i fits more =
+    let sides : (ltb 65535 p.width || ltb 65535 p.height) ≡ false = rw (lt-ltb 0 p.bits_per_pixel (omega arith)) at fits in
+    (ltb-false 65535 p.width (or-left (ltb 65535 p.width) (ltb 65535 p.height) sides), ltb-false 65535 p.height (or-right (ltb 65535 p.width) (ltb 65535 p.height) sides))
+  where
+    or-left : (a b : Bool) → (a || b) ≡ false → a ≡ false
+    or-left true b e = absurd (cc)
+    or-left false b e = refl
+
+    or-right : (a b : Bool) → (a || b) ≡ false → b ≡ false
+    or-right true b e = absurd (cc)
+    or-right false b e = e
 
 -- `gathered` are the values of the i planes that are done
 pub record Gathers (w h i : ℕ) (gathered : List ℕ) (done : List Grid) : Type 0 where

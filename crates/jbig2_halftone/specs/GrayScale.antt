@@ -1,5 +1,5 @@
 -- Gray-scale images (T.88, Annex C): a value for each pixel, coded as bit planes from the highest on.
-use Rattle.std.specs.Prelude.{ℕ, zero, suc, ◌+◌, ◌-◌, ◌*◌, ◌/◌, ◌%◌, nat_lt, Bool, false, ◌||◌, if◌then◌else◌, List, [], ◌∷◌, length, take, drop, map, Option, Result, Ok}
+use Rattle.std.specs.Prelude.{ℕ, zero, suc, ◌+◌, ◌-◌, ◌*◌, ◌/◌, ◌%◌, nat_lt, Bool, false, ◌&&◌, ◌||◌, if◌then◌else◌, List, [], ◌∷◌, length, take, drop, map, Option, Result, Ok}
 use Rattle.std.specs.List.{range_with_len}
 use Rattle.jbig2_base.specs.Answer.{◌>>=◌, refuse_if}
 use Rattle.jbig2_base.specs.Grid.{Grid, pixel_at}
@@ -111,9 +111,9 @@ gray_values w h planes = map (λ n. gray_value planes (n % w) (n / w)) (range_wi
 abbrev pub values_by : GrayScale → Result (List Grid) DecodeError → Result (List ℕ) DecodeError
 values_by p planes = planes >>= λ all. Ok (gray_values p.width p.height all)
 
--- a side above 65535, which is refused (our own rule)
+-- a side above 65535, which is refused where there is a plane to read (our own rule)
 abbrev pub image_is_too_large : GrayScale → Bool
-image_is_too_large p = nat_lt 65535 p.width || nat_lt 65535 p.height
+image_is_too_large p = nat_lt 0 p.bits_per_pixel && (nat_lt 65535 p.width || nat_lt 65535 p.height)
 
 -- The image.
 unfoldable pub gray_scale_image : GrayScale → List ℕ → Result (List ℕ) DecodeError

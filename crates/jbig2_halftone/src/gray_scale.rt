@@ -1,12 +1,12 @@
 //! Gray-scale images (T.88, Annex C).
-ghost use Rattle.std.specs.Prelude.{◌≡◌, ◌++◌, ◌*◌, ◌^◌, ◌<◌, ◌≤◌, [], ◌∷◌, length, List, Ok};
+ghost use Rattle.std.specs.Prelude.{◌≡◌, false, ◌++◌, ◌*◌, ◌^◌, ◌<◌, ◌≤◌, [], ◌∷◌, length, List, Ok};
 ghost use Rattle.std.specs.List.{All};
 ghost use Rattle.jbig2_base.specs.Answer.{Gives, Leaves};
 ghost use Rattle.jbig2_base.specs.Grid.{Grid};
 ghost use Rattle.jbig2_coder.specs.Coder.{started};
 ghost use Rattle.jbig2_region.specs.Raster.{fresh_contexts};
 ghost use Rattle.jbig2_region.specs.Templates.{context_bits};
-ghost use Rattle.jbig2_halftone.specs.GrayScale.{gray_view, nominal_pixels, planes_by_coder, planes_by_mmr, planes_of, planes_contexts, after_planes, gray_values, values_by, gray_scale_image, gray_contexts};
+ghost use Rattle.jbig2_halftone.specs.GrayScale.{gray_view, nominal_pixels, planes_by_coder, planes_by_mmr, planes_of, planes_contexts, after_planes, gray_values, values_by, image_is_too_large, gray_scale_image, gray_contexts};
 
 use jbig2_base::bitmap::Bitmap;
 use jbig2_base::bitmap::steps::Steps;
@@ -19,7 +19,7 @@ use jbig2_region::template::{AdaptiveTemplatePixel, Template};
 use std::alloc::Allocator;
 use std::sync::ledger::Ledger;
 
-/// The longest side of an image, in pixels.
+/// The longest side of a plane, in pixels.
 const MAX_DIMENSION: u32 = 65535;
 
 /// What a gray-scale image's coded bytes are decoded by (T.88, Table C.1).
@@ -83,8 +83,7 @@ fn read_coded_planes<M: Allocator, A: Allocator, L: Ledger>(
     contexts: &mut [ArithmeticDecoderContext],
     steps: &mut Steps<L>,
 ) -> Result<()>
-    requires columns { params.now.width ≤ 65535 }
-    requires rows { params.now.height ≤ 65535 }
+    requires sides { image_is_too_large (gray_view params.now) ≡ false }
     requires bits { params.now.bits_per_pixel ≤ 32 }
     requires none { values.old ≡ gray_values params.now.width params.now.height [] }
     requires fresh { contexts.old ≡ fresh_contexts (context_bits params.now.template) }
@@ -117,8 +116,7 @@ fn read_mmr_planes<M: Allocator, A: Allocator, L: Ledger>(
     values: &mut [u32],
     steps: &mut Steps<L>,
 ) -> Result<()>
-    requires columns { params.now.width ≤ 65535 }
-    requires rows { params.now.height ≤ 65535 }
+    requires sides { image_is_too_large (gray_view params.now) ≡ false }
     requires bits { params.now.bits_per_pixel ≤ 32 }
     requires none { values.old ≡ gray_values params.now.width params.now.height [] }
     ensures { Gives (λ _. values.new) result (values_by (gray_view params.now) (planes_by_mmr (gray_view params.now) bytes.now)) }
@@ -145,8 +143,7 @@ fn read_planes<M: Allocator, A: Allocator, B: Allocator, L: Ledger>(
     contexts: &mut Vec<ArithmeticDecoderContext, B>,
     steps: &mut Steps<L>,
 ) -> Result<()>
-    requires columns { params.now.width ≤ 65535 }
-    requires rows { params.now.height ≤ 65535 }
+    requires sides { image_is_too_large (gray_view params.now) ≡ false }
     requires bits { params.now.bits_per_pixel ≤ 32 }
     requires none { values.old ≡ gray_values params.now.width params.now.height [] }
     ensures value { Gives (λ _. values.new) result (values_by (gray_view params.now) (planes_of (gray_view params.now) bytes.now)) }
@@ -161,8 +158,6 @@ fn read_planes<M: Allocator, A: Allocator, B: Allocator, L: Ledger>(
 
 /// A value 0 for each pixel.
 fn zeros<A: Allocator>(alloc: A, width: u32, height: u32) -> Result<Vec<u32, A>>
-    requires columns { width ≤ 65535 }
-    requires rows { height ≤ 65535 }
     ensures { Gives (λ values. values.items) result (Ok (gray_values width height [])) }
 {
     let mut values = Vec::new(alloc);
@@ -171,11 +166,11 @@ fn zeros<A: Allocator>(alloc: A, width: u32, height: u32) -> Result<Vec<u32, A>>
 }
 
 /// Decodes a gray-scale image (T.88, Annex C): a value for each pixel, row by row from the top, each
-/// row from the left. With 0 bits a pixel nothing is read and every value is 0. The contexts begin
+/// row from the left. With 0 bits a pixel nothing is read and every value is 0, whatever the size. The contexts begin
 /// fresh, whatever `contexts` held, and are left there as the last plane leaves them; MMR data and a
 /// side that is refused do not touch them.
 ///
-/// `OverflowError::BitmapDimension` for a side above 65535; in strict mode
+/// `OverflowError::BitmapDimension` for a side above 65535 with 1 bit a pixel or more; in strict mode
 /// `RegionError::InvalidMmrData` where MMR data has a fault or lacks a row; `OutOfMemory` where there
 /// is no room, which alone leaves open what `contexts` holds.
 #[tactic(auto, unfolding(crate::specs::GrayScale::gray_scale_image))]
@@ -190,7 +185,8 @@ pub fn decode_gray_scale_image<M: Allocator, A: Allocator + Clone, B: Allocator,
     ensures value { Gives (λ values. values.items) result (gray_scale_image (gray_view params.now) bytes.now) }
     ensures contexts { Leaves result contexts.new.items (gray_contexts (gray_view params.now) bytes.now contexts.old.items) }
 {
-    if params.width > MAX_DIMENSION || params.height > MAX_DIMENSION {
+    let too_long = params.width > MAX_DIMENSION || params.height > MAX_DIMENSION;
+    if params.bits_per_pixel > 0 && too_long {
         return Err(DecodeError::Overflow(OverflowError::BitmapDimension));
     }
     let mut plane = Bitmap::new_empty(alloc.clone()?);

@@ -4,6 +4,8 @@
 //! refused. What it was refused to is tried again.
 ghost use Rattle.std.specs.Prelude.{◌≡◌, ◌≤◌};
 
+mod arithmetic;
+
 use crate::gray_scale::{GrayScaleParams, decode_gray_scale_image};
 use crate::{halftone, pattern};
 use jbig2_base::bitmap::steps::Steps;

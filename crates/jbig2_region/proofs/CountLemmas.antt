@@ -98,9 +98,6 @@ pub counts-byte : (count after runs : ℕ) (t : Bool) → runs ≡ bit_number t 
 counts-byte count after runs t is total = rw is total
 
 -- ---- a whole row
-pub row-predicted : (template : List AdaptiveTemplatePixel) (nominal p : Bool) (y : ℕ) (g : Grid) (d : Coder) (s : List Context) (before after : ℕ) → p ≡ true → after ≡ before → CountsRow template nominal p y g d s before after
-row-predicted template nominal p y g d s before after copied same = λ w h input r len is holds. rw copied (omega arith)
-
 pub row-nominal : (n : Neighbours) (adaptive : Option Adaptives) (p : Bool) (y : ℕ) (g : Grid) (d : Coder) (s : List Context) (before after : ℕ) → adaptive ≡ None → p ≡ false → CountsRuns (nominal_pixels n) 0 y g.width g d s before after → CountsRow (optional_pixels n adaptive) (is_nominal_layout adaptive) p y g d s before after
 row-nominal n adaptive p y g d s before after none coded counts = λ w h input r len is holds.
     let wide : g.width ≡ w = ap (λ (q : Grid). q.width) holds.pixels ∙ width-so_far w h r.pixels in

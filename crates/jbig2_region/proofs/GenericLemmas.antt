@@ -1,8 +1,8 @@
 -- What decoding a whole generic region gives.
-use Rattle.std.proofs.Common.{take, ◌++◌, ◌≡◌, ℕ, true, false, List, length, Result, Ok, Err, sym, ap, ◌∙◌, subst}
+use Rattle.std.proofs.Common.{take, ◌++◌, ◌≡◌, ℕ, false, List, length, Result, Ok, sym, ap, ◌∙◌, subst}
 use Rattle.std.proofs.Math.Seq.{take-append_seam}
 use Rattle.jbig2_base.specs.declared.error.DecodeError.{DecodeError}
-use Rattle.std.proofs.lemmas.Bool.{cond-true, cond-false, true≢false}
+use Rattle.std.proofs.lemmas.Bool.{cond-false}
 use Rattle.jbig2_base.specs.Answer.{◌>>=◌}
 use Rattle.jbig2_base.specs.Grid.{Grid, blank}
 use Rattle.jbig2_coder.specs.Coder.{Coder, Context, started}
@@ -12,7 +12,7 @@ use Rattle.jbig2_base.specs.Counts.{Counts}
 use Rattle.jbig2_region.specs.Holds.{Holds}
 use Rattle.jbig2_region.specs.Layouts.{CountsCoded, CountsGeneric}
 use Rattle.jbig2_region.specs.Raster.{Coding, decoded, no_pixels, fresh_contexts}
-use Rattle.jbig2_region.specs.T6.{Decoded, decoded as mmr_rows}
+use Rattle.jbig2_region.specs.T6.{decoded as mmr_rows}
 use Rattle.jbig2_region.specs.Templates.{context_bits}
 
 -- a region that a coder and contexts that stand at the start decode
@@ -42,17 +42,6 @@ answer-decoded h grid coder states coded holds =
 pub contexts-decoded : (h : GenericHeader) (before after : List Context) → h.mmr ≡ false → after ≡ (generic_region h).contexts → after ≡ contexts_after h before
 contexts-decoded h before after coded e = e ∙ sym (cond-false h.mmr before (generic_region h).contexts coded)
 
--- MMR data, decoded or refused
-pub answer-rows : (h : GenericHeader) (grid : Grid) (used : ℕ) → h.mmr ≡ true → mmr_rows h.strict h.region_info.width h.region_info.height h.bytes ≡ Ok (record { grid = grid; used = used }) → generic_answer h ≡ Ok grid
-answer-rows h grid used coded e =
-    cond-true h.mmr (mmr_rows h.strict h.region_info.width h.region_info.height h.bytes >>= λ rows. Ok rows.grid) (Ok (generic_grid h)) coded
-    ∙ ap (λ (r : Result Decoded DecodeError). r >>= λ rows. Ok rows.grid) e
-
-pub refused-rows : (h : GenericHeader) (error : DecodeError) → h.mmr ≡ true → mmr_rows h.strict h.region_info.width h.region_info.height h.bytes ≡ Err error → generic_answer h ≡ Err error
-refused-rows h error coded e =
-    cond-true h.mmr (mmr_rows h.strict h.region_info.width h.region_info.height h.bytes >>= λ rows. Ok rows.grid) (Ok (generic_grid h)) coded
-    ∙ ap (λ (r : Result Decoded DecodeError). r >>= λ rows. Ok rows.grid) e
-
 -- what a slice's user leaves of the whole Vec
 pub whole-slice : {X : Type 0} (n : ℕ) (xs ys : List X) → length xs ≡ n → take n (xs ++ ys) ≡ xs
 whole-slice n xs ys all = subst (λ (k : ℕ). take k (xs ++ ys) ≡ xs) all (take-append_seam xs ys)
@@ -69,6 +58,3 @@ counts-decoded h before first fresh old new white bytes registers contexts count
     let two = subst (λ r. CountsCoded h.template h.adaptive_template_pixels (generic_coding h) before.width before.height first.bytes (no_pixels r (fresh_contexts (context_bits h.template))) old new) registers one in
     let three = subst (λ (b : List ℕ). CountsCoded h.template h.adaptive_template_pixels (generic_coding h) before.width before.height b (no_pixels (started h.bytes) (fresh_contexts (context_bits h.template))) old new) bytes two in
     subst (λ (g : Grid). CountsCoded h.template h.adaptive_template_pixels (generic_coding h) g.width g.height h.bytes (no_pixels (started h.bytes) (fresh_contexts (context_bits h.template))) old new) white three
-
-pub counts-rows : (h : GenericHeader) (old new : Counts) → h.mmr ≡ true → CountsGeneric h old new
-counts-rows h old new coded = λ other. absurd (true≢false (sym coded ∙ other))

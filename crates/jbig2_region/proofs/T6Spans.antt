@@ -7,7 +7,6 @@ use Rattle.std.proofs.lemmas.Bool.{cases_eq, cases_lt, cond-true, cond-false, an
 use Rattle.std.specs.Int.Count.{count_leading_zeros, leading_of_zero}
 use Rattle.std.specs.Int.RustNames.{bit_xor}
 use Rattle.jbig2_base.specs.Grid.{Grid, grid_of, pixel_at}
-use Rattle.jbig2_base.specs.Table.{IsTable}
 use Rattle.jbig2_base.specs.WordBits.{bit}
 use Rattle.jbig2_base.specs.Writes.{with_pixels}
 use Rattle.jbig2_base.proofs.BitLemmas.{bit-above, bit-ones, bit-xor, bit-zero}
@@ -86,9 +85,6 @@ not-is true c e = ap (λ (t : Bool). not t) e
 not-is false c e = ap (λ (t : Bool). not t) e
 
 -- ---- a span that grows by a word
-pub span-none : (g : Grid) (y from : ℕ) (black : Bool) → IsTable g → IsSpan g g y from from black
-span-none g y from black known = record { width = refl; height = refl; table = known; inside = λ x a b. absurd (omega arith); left = λ x a. refl; right = λ x a. refl; other = λ x j o. refl }
-
 in_word : (x y count i j : ℕ) → j ≡ y → x ≤ i → i < x + count → (eqb j y && leb x i && ltb i (x + count)) ≡ true
 in_word x y count i j row after before = and_from _ _ (and_from _ _ (eq-eqb j y row) (le-leb x i after)) (lt-ltb i (x + count) before)
 

@@ -102,7 +102,8 @@ fn first_alone(first: AdaptiveTemplatePixel) -> [AdaptiveTemplatePixel; 4]
 /// Templates 1 to 3 have the first alone, and the other three are then without meaning.
 ///
 /// `ParseError::UnexpectedEof` where the bytes do not hold them; `TemplateError::InvalidAtPixel` where
-/// one does not come before the pixel that is decoded. Takes no memory.
+/// one does not come before the pixel that is decoded. An error leaves the reader where it was. Takes
+/// no memory.
 #[tactic(auto, unfolding(crate::specs::GenericHeader::regular_pixels_at))]
 pub fn parse_adaptive_template_pixels(
     reader: &mut Reader<'_>,
@@ -111,11 +112,15 @@ pub fn parse_adaptive_template_pixels(
     requires { IsAligned reader.old }
     ensures value { Answers (λ pixels. (pixels, reader.new.bytes)) result (regular_pixels_at template reader.old.bytes) }
     ensures aligned { IsAligned reader.new }
+    ensures stays { OnErr result (reader.new ≡ reader.old) }
 {
-    match template {
-        Template::Template0 => parse_four(reader),
-        _ => Ok(first_alone(parse_adaptive_template_pixel(reader)?)),
-    }
+    let mut ahead = reader.duplicate();
+    let pixels = match template {
+        Template::Template0 => parse_four(&mut ahead)?,
+        _ => first_alone(parse_adaptive_template_pixel(&mut ahead)?),
+    };
+    *reader = ahead;
+    Ok(pixels)
 }
 
 #[tactic(auto, unfolding(crate::specs::GenericHeader::template_pixels_at))]

@@ -58,7 +58,8 @@ fn parse_pixel(reader: &mut Reader<'_>) -> Result<AdaptiveTemplatePixel>
 /// The two adaptive pixels at the reader's place (T.88, 7.4.7.3), which may lie anywhere; at template 1
 /// nothing is read, and they are without meaning.
 ///
-/// `ParseError::UnexpectedEof` where the bytes do not hold them. Takes no memory.
+/// `ParseError::UnexpectedEof` where the bytes do not hold them. An error leaves the reader where it was.
+/// Takes no memory.
 #[tactic(auto, unfolding(crate::specs::RefinementHeader::refinement_pixels_at))]
 pub fn parse_template_pixels(
     reader: &mut Reader<'_>,
@@ -67,11 +68,14 @@ pub fn parse_template_pixels(
     requires { IsAligned reader.old }
     ensures value { Answers (λ pixels. (pixels, reader.new.bytes)) result (refinement_pixels_at template reader.old.bytes) }
     ensures aligned { IsAligned reader.new }
+    ensures stays { OnErr result (reader.new ≡ reader.old) }
 {
     match template {
         RefinementTemplate::Template0 => {
-            let first = parse_pixel(reader)?;
-            let second = parse_pixel(reader)?;
+            let mut ahead = reader.duplicate();
+            let first = parse_pixel(&mut ahead)?;
+            let second = parse_pixel(&mut ahead)?;
+            *reader = ahead;
             Ok([first, second])
         }
         RefinementTemplate::Template1 => {

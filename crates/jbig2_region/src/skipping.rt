@@ -16,7 +16,7 @@ use std::alloc::Allocator;
 use std::sync::ledger::Ledger;
 
 /// The pixels of template 0, bit 0 of a context first (Figure 3).
-fn template_0(a: &[AdaptiveTemplatePixel; 4]) -> [AdaptiveTemplatePixel; 16]
+pub(crate) fn template_0(a: &[AdaptiveTemplatePixel; 4]) -> [AdaptiveTemplatePixel; 16]
     ensures { result ≡ template_0 a.now }
 {
     [
@@ -40,7 +40,7 @@ fn template_0(a: &[AdaptiveTemplatePixel; 4]) -> [AdaptiveTemplatePixel; 16]
 }
 
 /// The pixels of template 1 (Figure 4).
-fn template_1(a: &[AdaptiveTemplatePixel; 4]) -> [AdaptiveTemplatePixel; 13]
+pub(crate) fn template_1(a: &[AdaptiveTemplatePixel; 4]) -> [AdaptiveTemplatePixel; 13]
     ensures { result ≡ template_1 a.now }
 {
     [
@@ -61,7 +61,7 @@ fn template_1(a: &[AdaptiveTemplatePixel; 4]) -> [AdaptiveTemplatePixel; 13]
 }
 
 /// The pixels of template 2 (Figure 5).
-fn template_2(a: &[AdaptiveTemplatePixel; 4]) -> [AdaptiveTemplatePixel; 10]
+pub(crate) fn template_2(a: &[AdaptiveTemplatePixel; 4]) -> [AdaptiveTemplatePixel; 10]
     ensures { result ≡ template_2 a.now }
 {
     [
@@ -79,7 +79,7 @@ fn template_2(a: &[AdaptiveTemplatePixel; 4]) -> [AdaptiveTemplatePixel; 10]
 }
 
 /// The pixels of template 3 (Figure 6).
-fn template_3(a: &[AdaptiveTemplatePixel; 4]) -> [AdaptiveTemplatePixel; 10]
+pub(crate) fn template_3(a: &[AdaptiveTemplatePixel; 4]) -> [AdaptiveTemplatePixel; 10]
     ensures { result ≡ template_3 a.now }
 {
     [

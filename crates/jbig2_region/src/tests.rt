@@ -5,6 +5,7 @@
 ghost use Rattle.std.specs.Prelude.{◌≡◌};
 
 mod refinement;
+mod skipping;
 
 use crate::generic::{decode, decode_into, parse};
 use crate::region_info::parse_region_segment_info;

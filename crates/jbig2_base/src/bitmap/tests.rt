@@ -52,6 +52,33 @@ fn sizes_are_kept(rt: HostRuntime) {
 }
 
 #[test]
+fn a_copy_is_a_bitmap_of_its_own(rt: HostRuntime) {
+    let mut read = copied::<Brand, _>(rt.alloc(), Blank::new(6));
+    if read == Err(DecodeError::OutOfMemory) {
+        read = copied::<Brand, _>(rt.alloc(), Blank::new(6));
+    }
+    assert!(rt; read == Ok((72, 2, 0b1)));
+}
+
+/// The sizes of a copy, and the end of its last row, after a write to the bitmap that it was made of.
+fn copied<L: Ledger, A: Allocator + Clone>(alloc: A, blank: Blank) -> Result<(u32, u32, u64)>
+    requires name { blank.name ≡ L.name }
+    requires parts { blank.parts ≡ L.parts }
+    requires enough { blank.parts ≡ 6 }
+{
+    let mut steps: Steps<L> = Steps::new(blank);
+    let mut bitmap = Bitmap::new(alloc.clone()?, 72, 2)?;
+    bitmap.set_pixel(71, 1, true, &mut steps);
+    let copy = bitmap.duplicate(alloc)?;
+    bitmap.set_pixel(71, 1, false, &mut steps);
+    Ok((
+        copy.width(),
+        copy.height(),
+        copy.load_pixels(64, 1, 8, &mut steps),
+    ))
+}
+
+#[test]
 fn pixels_are_read_and_written(rt: HostRuntime) {
     let mut read = read_and_written::<Brand, _>(rt.alloc(), Blank::new(6));
     if read == Err(DecodeError::OutOfMemory) {

@@ -1,12 +1,12 @@
 //! The cases of the rows of files.
-use crate::call::WHITE;
-use crate::case::Answer::Calls;
+use crate::call::{DOT, WHITE};
+use crate::case::Answer::{Calls, Undrawn};
 use crate::case::Case::File;
 use crate::case::Modes::{Both, Lenient, Strict};
 use crate::case::{Case, Row};
 use crate::file_case::FileCase::{CutOff, NoFirstPage, NoGlobals, Pages, Refused};
 use crate::file_case::FilePage;
-use hayro_jbig2::{DecodeError, FormatError, ParseError, SegmentError};
+use hayro_jbig2::{DecodeError, FormatError, HuffmanError, ParseError, SegmentError};
 
 const ONE_PAGE: &[FilePage] = &[FilePage {
     number: 1,
@@ -64,10 +64,39 @@ pub const ROW_16: &[Case] = &[
 ];
 
 /// The rows R9.
-const ROWS_9: &[Row] = &[Row {
-    name: "R9.4",
-    cases: &[File(NoFirstPage("H 03", DecodeError::Format(FormatError::MissingPageInfo)))],
-}];
+const ROWS_9: &[Row] = &[
+    Row {
+        name: "R9.1",
+        cases: &[File(Pages(
+            Both,
+            "H 03 P S@6=00@11=0009 00000002 31 00 01 00000000",
+            &[FilePage {
+                number: 1,
+                dimensions: (8, 1),
+                answer: Undrawn(DecodeError::Huffman(HuffmanError::InvalidSelection)),
+            }],
+        ))],
+    },
+    Row {
+        name: "R9.2",
+        cases: &[
+            Case::Shared {
+                globals: "S",
+                bytes: "P X",
+                answer: Calls(DOT),
+            },
+            Case::Shared {
+                globals: "S@23=00",
+                bytes: "P S X",
+                answer: Calls(DOT),
+            },
+        ],
+    },
+    Row {
+        name: "R9.4",
+        cases: &[File(NoFirstPage("H 03", DecodeError::Format(FormatError::MissingPageInfo)))],
+    },
+];
 
 /// The rows R13.
 const ROWS_13: &[Row] = &[Row {

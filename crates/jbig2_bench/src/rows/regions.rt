@@ -1,4 +1,4 @@
-//! The rows R2: regions on the page.
+//! The rows R2 and R11: regions on the page.
 use crate::call::{BLACK, Call, DOT, WHITE};
 use crate::case::Answer::{Calls, Undrawn};
 use crate::case::Case::Page;
@@ -21,7 +21,8 @@ const WHITE_DOT: &[Call] = &[
 
 const NO_OPERATOR: DecodeError = DecodeError::Region(RegionError::InvalidCombinationOperator);
 
-const ROWS: &[Row] = &[
+/// The rows R2.
+const ROWS_2: &[Row] = &[
     Row {
         name: "R2.1",
         cases: &[
@@ -73,6 +74,22 @@ const ROWS: &[Row] = &[
     },
 ];
 
-pub fn rows() -> &'static [Row] {
-    ROWS
+/// The rows R11.
+const ROWS_11: &[Row] = &[Row {
+    name: "R11.1",
+    cases: &[
+        Page(Both, "P@27=04 G8@27=0008", Calls(BLACK)),
+        Page(Both, "P@27=04 G8@27=0108", Calls(WHITE)),
+        Page(Both, "P@27=04 G8@27=0208", Calls(BLACK)),
+        Page(Both, "P@27=04 G8@27=0308", Calls(WHITE)),
+        Page(Both, "P@27=04 G8@27=0408", Calls(WHITE)),
+    ],
+}];
+
+pub fn rows_2() -> &'static [Row] {
+    ROWS_2
+}
+
+pub fn rows_11() -> &'static [Row] {
+    ROWS_11
 }

@@ -6,7 +6,7 @@ use crate::case::Modes::{Both, Lenient, Strict};
 use crate::case::{Case, Header, Row};
 use crate::coder::{CoderCase, Reading};
 use crate::rows::coding::DECISIONS;
-use crate::rows::files;
+use crate::rows::{files, symbols};
 use crate::table::TableCase;
 use hayro_jbig2::parts::segment::SegmentType;
 use hayro_jbig2::{DecodeError, FormatError, OverflowError, ParseError, RegionError};
@@ -175,6 +175,14 @@ const ROWS: &[Row] = &[
         ],
     },
     Row {
+        name: "11",
+        cases: symbols::ROW_11,
+    },
+    Row {
+        name: "12",
+        cases: symbols::ROW_12,
+    },
+    Row {
         name: "13",
         cases: &[Page(Both, "P D T@8=00000028 26A8", Calls(BLACK))],
     },
@@ -207,6 +215,10 @@ const ROWS: &[Row] = &[
     Row {
         name: "16",
         cases: files::ROW_16,
+    },
+    Row {
+        name: "17",
+        cases: symbols::ROW_17,
     },
     Row {
         name: "18",

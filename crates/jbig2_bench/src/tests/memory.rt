@@ -1,7 +1,7 @@
-//! Rows R6.2 and 13 by themselves, so that each of their requests for memory can be refused in turn.
+//! Rows R6.2, 13, 11 and R8.6 by themselves, so that each of their requests for memory can be refused in turn.
 use super::row_serves_on;
 use crate::case::Row;
-use crate::rows::{refinement, worked};
+use crate::rows::{refinement, symbols, worked};
 use hayro_jbig2::DecoderContext;
 use std::alloc::Global;
 
@@ -26,4 +26,14 @@ fn a_refinement_serves_on(rt: HostRuntime) {
 #[test]
 fn a_halftone_serves_on(rt: HostRuntime) {
     assert!(rt; serves_on(rt.alloc(), worked::rows(), "13"));
+}
+
+#[test]
+fn a_text_by_prefix_codes_serves_on(rt: HostRuntime) {
+    assert!(rt; serves_on(rt.alloc(), worked::rows(), "11"));
+}
+
+#[test]
+fn a_text_by_the_arithmetic_coder_serves_on(rt: HostRuntime) {
+    assert!(rt; serves_on(rt.alloc(), symbols::rows_8(), "R8.6"));
 }

@@ -1,10 +1,10 @@
 //! The kernels beside the plain loop.
 ghost use Rattle.std.specs.Prelude.{◌≡◌, ◌≤◌, false};
 ghost use Rattle.jbig2_base.specs.Grid.{blank};
-ghost use Rattle.jbig2_region.specs.Templates.{template_0, template_1, template_2, template_3};
 
 use crate::generic_coding::{decode_coded, decode_with, pixel};
 use crate::raster::fresh_contexts;
+use crate::skipping::{template_0, template_1, template_2, template_3};
 use crate::template::{AdaptiveTemplatePixel, GenericTemplatePixels, Template};
 use jbig2_base::bitmap::Bitmap;
 use jbig2_base::bitmap::steps::Steps;
@@ -13,87 +13,6 @@ use jbig2_coder::arithmetic_decoder::{ArithmeticDecoder, ArithmeticDecoderContex
 use std::alloc::Allocator;
 use std::marker::Brand;
 use std::sync::ledger::{Blank, Ledger};
-
-/// The pixels of template 0, bit 0 of a context first (Figure 3).
-fn template_0(a: &[AdaptiveTemplatePixel; 4]) -> [AdaptiveTemplatePixel; 16]
-    ensures { result ≡ template_0 a.now }
-{
-    [
-        pixel(-1, 0),
-        pixel(-2, 0),
-        pixel(-3, 0),
-        pixel(-4, 0),
-        a[0],
-        pixel(2, -1),
-        pixel(1, -1),
-        pixel(0, -1),
-        pixel(-1, -1),
-        pixel(-2, -1),
-        a[1],
-        a[2],
-        pixel(1, -2),
-        pixel(0, -2),
-        pixel(-1, -2),
-        a[3],
-    ]
-}
-
-/// The pixels of template 1 (Figure 4).
-fn template_1(a: &[AdaptiveTemplatePixel; 4]) -> [AdaptiveTemplatePixel; 13]
-    ensures { result ≡ template_1 a.now }
-{
-    [
-        pixel(-1, 0),
-        pixel(-2, 0),
-        pixel(-3, 0),
-        a[0],
-        pixel(2, -1),
-        pixel(1, -1),
-        pixel(0, -1),
-        pixel(-1, -1),
-        pixel(-2, -1),
-        pixel(2, -2),
-        pixel(1, -2),
-        pixel(0, -2),
-        pixel(-1, -2),
-    ]
-}
-
-/// The pixels of template 2 (Figure 5).
-fn template_2(a: &[AdaptiveTemplatePixel; 4]) -> [AdaptiveTemplatePixel; 10]
-    ensures { result ≡ template_2 a.now }
-{
-    [
-        pixel(-1, 0),
-        pixel(-2, 0),
-        a[0],
-        pixel(1, -1),
-        pixel(0, -1),
-        pixel(-1, -1),
-        pixel(-2, -1),
-        pixel(1, -2),
-        pixel(0, -2),
-        pixel(-1, -2),
-    ]
-}
-
-/// The pixels of template 3 (Figure 6).
-fn template_3(a: &[AdaptiveTemplatePixel; 4]) -> [AdaptiveTemplatePixel; 10]
-    ensures { result ≡ template_3 a.now }
-{
-    [
-        pixel(-1, 0),
-        pixel(-2, 0),
-        pixel(-3, 0),
-        pixel(-4, 0),
-        a[0],
-        pixel(1, -1),
-        pixel(0, -1),
-        pixel(-1, -1),
-        pixel(-2, -1),
-        pixel(-3, -1),
-    ]
-}
 
 /// A region pixel by pixel.
 fn decode_plainly<A: Allocator, B: Allocator, L: Ledger>(
@@ -111,52 +30,25 @@ fn decode_plainly<A: Allocator, B: Allocator, L: Ledger>(
 {
     fresh_contexts(contexts, template.context_bits())?;
     let mut decoder = ArithmeticDecoder::new(bytes);
-    match template {
-        Template::Template0 => {
-            decode_with(
-                template,
-                typical,
-                &template_0(adaptive),
-                bitmap,
-                &mut decoder,
-                contexts,
-                steps,
-            )
-        }
-        Template::Template1 => {
-            decode_with(
-                template,
-                typical,
-                &template_1(adaptive),
-                bitmap,
-                &mut decoder,
-                contexts,
-                steps,
-            )
-        }
-        Template::Template2 => {
-            decode_with(
-                template,
-                typical,
-                &template_2(adaptive),
-                bitmap,
-                &mut decoder,
-                contexts,
-                steps,
-            )
-        }
-        Template::Template3 => {
-            decode_with(
-                template,
-                typical,
-                &template_3(adaptive),
-                bitmap,
-                &mut decoder,
-                contexts,
-                steps,
-            )
-        }
-    }
+    let pixels_0 = template_0(adaptive);
+    let pixels_1 = template_1(adaptive);
+    let pixels_2 = template_2(adaptive);
+    let pixels_3 = template_3(adaptive);
+    let pixels: &[AdaptiveTemplatePixel] = match template {
+        Template::Template0 => &pixels_0,
+        Template::Template1 => &pixels_1,
+        Template::Template2 => &pixels_2,
+        Template::Template3 => &pixels_3,
+    };
+    decode_with(
+        template,
+        typical,
+        pixels,
+        bitmap,
+        &mut decoder,
+        contexts,
+        steps,
+    );
     Ok(())
 }
 

@@ -1,18 +1,20 @@
 //! Refinements of a small bitmap: templates, adaptive pixels, places and typical prediction.
-ghost use Rattle.std.specs.Prelude.{◌≡◌};
+ghost use Rattle.std.specs.Prelude.{◌≡◌, ◌^◌, length};
+ghost use Rattle.jbig2_region.specs.Refinement.{refinement_bits};
+ghost use Rattle.jbig2_region.specs.declared.template.RefinementTemplate.TheVariants.{Template1};
 
 use crate::generic::DecodedRegion;
 use crate::generic_refinement::{
     GenericRefinementRegionHeader, ReferenceBitmap, decode, decode_bitmap, decode_into, parse,
 };
 use crate::raster::fresh_contexts;
-use crate::template::RefinementTemplate;
+use crate::template::{AdaptiveTemplatePixel, RefinementTemplate};
 use jbig2_base::bitmap::Bitmap;
 use jbig2_base::bitmap::operator::CombinationOperator;
 use jbig2_base::bitmap::steps::Steps;
 use jbig2_base::error::{DecodeError, OverflowError, ParseError, RegionError, Result};
 use jbig2_base::reader::Reader;
-use jbig2_coder::arithmetic_decoder::ArithmeticDecoder;
+use jbig2_coder::arithmetic_decoder::{ArithmeticDecoder, ArithmeticDecoderContext};
 use std::alloc::Allocator;
 use std::marker::Brand;
 use std::sync::ledger::{Blank, Ledger};
@@ -128,6 +130,31 @@ fn refinements(rt: HostRuntime) {
     }
 }
 
+/// The rows of a refinement by template 1, with the coder and its contexts where they stand.
+fn refined_behind<A: Allocator, B: Allocator, L: Ledger>(
+    alloc: A,
+    reference: &ReferenceBitmap<'_, B>,
+    decoder: &mut ArithmeticDecoder<'_>,
+    contexts: &mut [ArithmeticDecoderContext],
+    steps: &mut Steps<L>,
+) -> Result<[u64; 3]>
+    requires { length contexts.old ≡ 2 ^ refinement_bits Template1 }
+{
+    let unused = AdaptiveTemplatePixel { x: 0, y: 0 };
+    let mut bitmap = Bitmap::new(alloc, 8, 3)?;
+    decode_bitmap(
+        RefinementTemplate::Template1,
+        false,
+        &[unused, unused],
+        reference,
+        &mut bitmap,
+        decoder,
+        contexts,
+        steps,
+    );
+    Ok(rows(&bitmap, steps))
+}
+
 /// Two refinements, where one coder and its contexts go on from the first to the second, and one whose
 /// reference lies far away.
 fn one_after_the_other<A: Allocator + Clone, L: Ledger>(
@@ -140,62 +167,38 @@ fn one_after_the_other<A: Allocator + Clone, L: Ledger>(
 {
     let mut steps: Steps<L> = Steps::new(blank);
     let from = reference(alloc.clone()?, 0, 0, &mut steps)?;
-    let bytes = segment(alloc.clone()?, 0, 0, 1, &[])?;
-    let header = parse(&mut Reader::new(&bytes))?;
-    let mut contexts = Vec::new(alloc.clone()?);
-    fresh_contexts(&mut contexts, RefinementTemplate::Template1.context_bits())?;
-    let mut decoder = ArithmeticDecoder::new(&CODED);
     let near = ReferenceBitmap {
         bitmap: &from.bitmap,
         dx: 0,
         dy: 0,
     };
-    let adaptive = header.adaptive_template_pixels;
-    let template = RefinementTemplate::Template1;
-    let mut first = Bitmap::new(alloc.clone()?, 8, 3)?;
-    decode_bitmap(
-        template,
-        false,
-        &adaptive,
-        &near,
-        &mut first,
-        &mut decoder,
-        &mut contexts,
-        &mut steps,
-    );
-    let mut second = Bitmap::new(alloc.clone()?, 8, 3)?;
-    decode_bitmap(
-        template,
-        false,
-        &adaptive,
-        &near,
-        &mut second,
-        &mut decoder,
-        &mut contexts,
-        &mut steps,
-    );
     let far = ReferenceBitmap {
         bitmap: &from.bitmap,
         dx: i32::MAX,
         dy: i32::MIN,
     };
-    let mut third = Bitmap::new(alloc.clone()?, 8, 3)?;
-    fresh_contexts(&mut contexts, template.context_bits())?;
-    decode_bitmap(
-        template,
-        false,
-        &adaptive,
-        &far,
-        &mut third,
-        &mut ArithmeticDecoder::new(&CODED),
+    let bits = RefinementTemplate::Template1.context_bits();
+    let mut contexts = Vec::new(alloc.clone()?);
+    fresh_contexts(&mut contexts, bits)?;
+    let mut decoder = ArithmeticDecoder::new(&CODED);
+    let first = refined_behind(
+        alloc.clone()?,
+        &near,
+        &mut decoder,
         &mut contexts,
         &mut steps,
-    );
-    Ok([
-        rows(&first, &mut steps),
-        rows(&second, &mut steps),
-        rows(&third, &mut steps),
-    ])
+    )?;
+    let second = refined_behind(
+        alloc.clone()?,
+        &near,
+        &mut decoder,
+        &mut contexts,
+        &mut steps,
+    )?;
+    fresh_contexts(&mut contexts, bits)?;
+    let mut decoder = ArithmeticDecoder::new(&CODED);
+    let third = refined_behind(alloc, &far, &mut decoder, &mut contexts, &mut steps)?;
+    Ok([first, second, third])
 }
 
 #[test]

@@ -1,4 +1,4 @@
-use Rattle.std.proofs.Common.{◌≡◌, ℕ, Bool, List, ap, sym, ◌∙◌, nat_eq}
+use Rattle.std.proofs.Common.{ℕ, Bool, List, ap, sym, ◌∙◌, nat_eq}
 use Rattle.jbig2_base.specs.Grid.{pixel_at}
 use Rattle.hayro_jbig2.specs.Calls.{is_all}
 use Rattle.hayro_jbig2.proofs.Runs.{byte-test, row-part}

@@ -1,6 +1,6 @@
-use Rattle.std.proofs.Common.{◌≡◌, ℕ, ◌+◌, ◌-◌, ◌<◌, List, [], ◌∷◌, ◌++◌, arith}
+use Rattle.std.proofs.Common.{◌+◌, ◌-◌, ◌++◌, arith}
 use Rattle.std.specs.List.{range_with_len, flat_map}
-use Rattle.hayro_jbig2.specs.Calls.{Call, line_calls, calls_of}
+use Rattle.hayro_jbig2.specs.Calls.{line_calls, calls_of}
 use Rattle.hayro_jbig2.proofs.Runs.{lines-first, lines-start}
 use Rattle.hayro_jbig2.proofs.Sending.{half_none, half_as, half_more, half_stops}
 use Rattle.hayro_jbig2.proofs.calls.push_bitmap.Goals as goal

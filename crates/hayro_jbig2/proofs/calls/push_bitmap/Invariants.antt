@@ -1,4 +1,4 @@
-use Rattle.std.proofs.Common.{◌≡◌, ◌+◌, ◌-◌, ◌*◌, ◌/◌, ◌≤◌, [], ◌∷◌, ◌++◌, drop, take}
+use Rattle.std.proofs.Common.{◌-◌}
 use Rattle.std.specs.List.{range_with_len, flat_map}
 use Rattle.hayro_jbig2.specs.Calls.{calls_of, line_calls}
 use Rattle.hayro_jbig2.proofs.Sending.{Half}

@@ -1,4 +1,4 @@
-use Rattle.std.proofs.Common.{◌≡◌, ℕ, ◌+◌, ◌-◌, List, [], ◌∷◌, ◌++◌, take, drop, nat_eq}
+use Rattle.std.proofs.Common.{◌+◌, ◌-◌, List, [], ◌∷◌, ◌++◌, take, drop, nat_eq}
 use Rattle.hayro_jbig2.specs.Calls.{Call, Pixel, singles, row_of}
 use Rattle.hayro_jbig2.proofs.Runs.{singles-first}
 use Rattle.hayro_jbig2.proofs.Sending.{half_as, half_more, half_stops, one_stops}

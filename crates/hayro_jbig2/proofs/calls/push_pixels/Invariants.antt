@@ -1,4 +1,4 @@
-use Rattle.std.proofs.Common.{◌≡◌, ◌+◌, ◌-◌, ◌*◌, ◌≤◌, drop, take}
+use Rattle.std.proofs.Common.{◌-◌, drop, take}
 use Rattle.hayro_jbig2.specs.Calls.{row_of, singles}
 use Rattle.hayro_jbig2.proofs.Sending.{Half}
 use Rattle.hayro_jbig2.proofs.calls.push_pixels.Given as goal

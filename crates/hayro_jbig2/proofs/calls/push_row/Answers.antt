@@ -1,8 +1,8 @@
-use Rattle.std.proofs.Common.{◌≡◌, ℕ, ◌+◌, ◌-◌, ◌*◌, ◌/◌, ◌<◌, ◌≤◌, List, [], ◌∷◌, ◌++◌, take, drop, length, Bool, true, false, Result, Ok, Err, ap, sym, ◌∙◌, arith, rules}
+use Rattle.std.proofs.Common.{◌≡◌, ℕ, ◌+◌, ◌-◌, ◌*◌, ◌/◌, List, [], ◌∷◌, ◌++◌, take, drop, length, true, false, Result, Ok, Err, ap, sym, ◌∙◌, arith}
 use Rattle.std.proofs.lemmas.List.{append_assoc}
 use Rattle.jbig2_base.specs.declared.error.DecodeError.{DecodeError}
 use Rattle.hayro_jbig2.specs.Calls.{Call, Chunk, Line, row_of, run_of, singles, whole_calls, row_calls, line_calls}
-use Rattle.hayro_jbig2.specs.Sends.{Sends, Takes, Stopped}
+use Rattle.hayro_jbig2.specs.Sends.{Sends, Takes}
 use Rattle.hayro_jbig2.proofs.Runs.{length-row, line-start, run-first, byte-first, rest-last}
 use Rattle.hayro_jbig2.proofs.Sending.{half_none, half_as, half_more, half_done, half_stops, one_stops, Half}
 use Rattle.hayro_jbig2.proofs.calls.push_row.Goals as goal

@@ -1,5 +1,5 @@
-use Rattle.std.proofs.Common.{◌≡◌, ◌+◌, ◌-◌, ◌*◌, ◌/◌, ◌≤◌, [], ◌∷◌, ◌++◌, drop, take}
-use Rattle.hayro_jbig2.specs.Calls.{Call, Line, row_of, line_calls, whole_calls}
+use Rattle.std.proofs.Common.{◌-◌, ◌/◌, ◌≤◌, [], ◌∷◌, ◌++◌, drop}
+use Rattle.hayro_jbig2.specs.Calls.{Line, row_of, line_calls, whole_calls}
 use Rattle.hayro_jbig2.proofs.Sending.{Half}
 use Rattle.hayro_jbig2.proofs.calls.push_row.Given as goal
 

@@ -1,0 +1,151 @@
+//! What symbol dictionaries and text regions refer to by numbers (T.88, 7.3.1).
+ghost use Rattle.std.specs.Prelude.{◌≡◌, ◌≤◌, ◌+◌, ◌++◌, length, map, Ok, OnOk, IfErr};
+ghost use Rattle.jbig2_base.specs.Answer.{Gives};
+ghost use Rattle.hayro_jbig2.specs.PageViews.{given_names};
+ghost use Rattle.hayro_jbig2.specs.SymbolNames.{nothing_referred, own_else, symbols_named, code_named, with_dictionary, with_table, with_number, with_numbers, referred_by};
+ghost use Rattle.hayro_jbig2.specs.SymbolViews.{found_symbols, found_code, symbols_view};
+
+use crate::globals::Globals;
+use crate::library::SymbolLibrary;
+use jbig2_base::bitmap::Bitmap;
+use jbig2_base::error::{DecodeError, OverflowError, Result, SegmentError};
+use jbig2_coder::huffman_table::HuffmanTable;
+use jbig2_symbol::symbol::{RetainedContexts, SymbolDictionary};
+use std::alloc::Allocator;
+use std::marker::Model;
+
+/// The most symbols that a segment may refer to.
+const MAX_SYMBOLS: usize = 1 << 20;
+
+/// The symbols and the custom tables that a segment refers to, and the contexts that the last of its
+/// dictionaries has kept.
+#[derive(Drop)]
+pub(crate) struct ReferredSegments<'a, A: Allocator> {
+    pub(crate) symbols: Vec<&'a Bitmap<A>, A>,
+    pub(crate) tables: Vec<&'a HuffmanTable<A>, A>,
+    pub(crate) retained_contexts: Option<&'a RetainedContexts<A>>,
+}
+
+impl<'a, A: Allocator> Model for ReferredSegments<'a, A> {
+    ghost use Rattle.std.specs.Prelude.{◌≤◌, length, map};
+    ghost use Rattle.hayro_jbig2.specs.SymbolNames.{Referred};
+    ghost use Rattle.jbig2_symbol.specs.SymbolViews.{kept_view};
+
+    ghost Value = { Referred };
+
+    ghost view = { λ r. record { symbols = map (λ b. b.now) r.symbols.items; codes = map (λ t. t.now) r.tables.items; kept = kept_view r.retained_contexts } };
+
+    ghost invariant = { λ r. length r.symbols.items ≤ 1048576 };
+}
+
+fn push_symbols<'a, A: Allocator>(
+    symbols: &mut Vec<&'a Bitmap<A>, A>,
+    bitmaps: &'a [Bitmap<A>],
+) -> Result<()>
+    ensures items { OnOk result (map (λ b. b.now) symbols.new.items ≡ map (λ b. b.now) symbols.old.items ++ bitmaps.now) }
+    ensures within { length symbols.new.items ≤ length symbols.old.items + length bitmaps.now }
+    ensures memory { IfErr result (λ e. e ≡ DecodeError.OutOfMemory) }
+{
+    for bitmap in bitmaps {
+        symbols.push(bitmap)?;
+    }
+    Ok(())
+}
+
+impl<'a, A: Allocator> ReferredSegments<'a, A> {
+    fn add_dictionary(&mut self, dictionary: &'a SymbolDictionary<A>) -> Result<()>
+        ensures { Gives (λ _. self.new) result (with_dictionary (symbols_view dictionary.now) self.old) }
+    {
+        if dictionary.exported_symbols.len() > MAX_SYMBOLS - self.symbols.len() {
+            return Err(DecodeError::Overflow(OverflowError::SymbolCount));
+        }
+        push_symbols(&mut self.symbols, &dictionary.exported_symbols)?;
+        self.retained_contexts = dictionary.retained_contexts.as_ref();
+        Ok(())
+    }
+
+    /// A custom table, or nothing, which strict reading refuses.
+    fn add_table(&mut self, strict: bool, table: Option<&'a HuffmanTable<A>>) -> Result<()>
+        ensures { Gives (λ _. self.new) result (with_table strict (found_code table.entry) self.old) }
+    {
+        match table {
+            Some(table) => {
+                self.tables.push(table)?;
+                Ok(())
+            }
+            None if strict => Err(DecodeError::Segment(SegmentError::InvalidReference)),
+            None => Ok(()),
+        }
+    }
+
+    /// What one number names.
+    fn add_number(
+        &mut self,
+        strict: bool,
+        own: &'a SymbolLibrary<A>,
+        globals: Option<&'a Globals<A>>,
+        number: u32,
+    ) -> Result<()>
+        ensures { Gives (λ _. self.new) result (with_number strict own.now (given_names globals.entry).library number self.old) }
+    {
+        if let Some(dictionary) = find_symbols(own, globals, number) {
+            return self.add_dictionary(dictionary);
+        }
+        self.add_table(strict, find_table(own, globals, number))
+    }
+}
+
+/// The dictionary that a number names: the page's own, else the one of the globals.
+fn find_symbols<'a, A: Allocator>(
+    own: &'a SymbolLibrary<A>,
+    globals: Option<&'a Globals<A>>,
+    number: u32,
+) -> Option<&'a SymbolDictionary<A>>
+    ensures { found_symbols result ≡ own_else (symbols_named number own.now.dictionaries) (symbols_named number (given_names globals.entry).library.dictionaries) }
+{
+    match own.find_symbols(number) {
+        Some(dictionary) => Some(dictionary),
+        None => globals?.library().find_symbols(number),
+    }
+}
+
+/// The custom table that a number names: the page's own, else the one of the globals.
+fn find_table<'a, A: Allocator>(
+    own: &'a SymbolLibrary<A>,
+    globals: Option<&'a Globals<A>>,
+    number: u32,
+) -> Option<&'a HuffmanTable<A>>
+    ensures { found_code result ≡ own_else (code_named number own.now.codes) (code_named number (given_names globals.entry).library.codes) }
+{
+    match own.find_table(number) {
+        Some(table) => Some(table),
+        None => globals?.library().find_table(number),
+    }
+}
+
+/// What a segment refers to: each number in turn names a symbol dictionary, else a custom table.
+///
+/// `OverflowError::SymbolCount` for more than 2^20 symbols together. Strict reading refuses a number
+/// that names neither.
+pub(crate) fn gather_referred<'a, A: Allocator + Clone>(
+    alloc: A,
+    strict: bool,
+    own: &'a SymbolLibrary<A>,
+    globals: Option<&'a Globals<A>>,
+    numbers: &[u32],
+) -> Result<ReferredSegments<'a, A>>
+    ensures { Gives (λ referred. referred) result (referred_by strict own.now (given_names globals.entry).library numbers.now) }
+{
+    let mut referred = ReferredSegments {
+        symbols: Vec::new(alloc.clone()?),
+        tables: Vec::new(alloc),
+        retained_contexts: None,
+    };
+    for number in numbers {
+        match referred.add_number(strict, own, globals, *number) {
+            Ok(()) => {}
+            Err(error) => return Err(error),
+        }
+    }
+    Ok(referred)
+}
