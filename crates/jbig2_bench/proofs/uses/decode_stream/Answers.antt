@@ -26,9 +26,9 @@ returns-in_err-page-in-Some g c =
     let answered = err_from_is_err_and c.from_residual-in_err-page-in-Some.result c.from_residual-in_err-page-in-Some.ensures.1 in
     let e : DecodeError = c.in_err-page-in-Some.field-0.0 in
     let why : (e ≡ OutOfMemory) ⊎ (grid_of_stream (option_map (λ b. b.now) c.args.globals) c.args.stream.now ≡ Err e) =
-        ⊎_elim
-        (λ (memory : e ≡ OutOfMemory). inl memory)
-        (λ unread. inr (page-refused c.args.globals c.in-Some.bytes c.args.stream.now c.in_ok-globals-in-Some.globals e c.in-Some.is c.in_ok-globals-in-Some.ensures unread))
-        c.in_err-page-in-Some.ensures
+    ⊎_elim
+    (λ (memory : e ≡ OutOfMemory). inl memory)
+    (λ unread. inr (page-refused c.args.globals c.in-Some.bytes c.args.stream.now c.in_ok-globals-in-Some.globals e c.in-Some.is c.in_ok-globals-in-Some.ensures unread))
+    c.in_err-page-in-Some.ensures
     in
     rw (answered.1, answered.2) (refused g.D.Decoder.step (grid_of_stream (option_map (λ b. b.now) c.args.globals) c.args.stream.now) e (g.D.Decoder.picture c.args.decoder.now) (g.D.Decoder.refusals c.args.decoder.now) why)
