@@ -11,8 +11,6 @@ mod combine;
 pub mod operator;
 mod rows;
 pub mod steps;
-#[cfg(test)]
-mod tests;
 
 use crate::error::{DecodeError, OverflowError, Result};
 pub use operator::CombinationOperator;

@@ -11,5 +11,3 @@ pub mod page_info;
 pub mod reader;
 pub mod segment;
 pub mod sort;
-#[cfg(test)]
-mod tests;

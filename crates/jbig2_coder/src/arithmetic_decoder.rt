@@ -211,6 +211,3 @@ impl<'a> ArithmeticDecoder<'a> {
         true
     }
 }
-
-#[cfg(test)]
-mod tests;

@@ -190,6 +190,3 @@ fn read_integer<L: Ledger>(
     let value = read_bits(bits, contexts, &mut prev, decoder, steps);
     signed_value(negative, value.wrapping_add(offset))
 }
-
-#[cfg(test)]
-mod tests;

@@ -74,6 +74,3 @@ pub fn decode_list<A: Allocator + Clone, L: Ledger>(
 pub fn decodes_back()
     ensures { DecodesBack }
 {}
-
-#[cfg(test)]
-mod tests;

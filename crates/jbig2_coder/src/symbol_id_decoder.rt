@@ -81,6 +81,3 @@ fn read_id<L: Ledger>(
     }
     prev - (1 << code_len)
 }
-
-#[cfg(test)]
-mod tests;

@@ -4,5 +4,3 @@
 pub mod gray_scale;
 pub mod halftone;
 pub mod pattern;
-#[cfg(test)]
-mod tests;

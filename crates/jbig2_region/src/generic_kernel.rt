@@ -14,8 +14,6 @@ mod bytes;
 pub mod layouts;
 pub mod neighbours;
 mod pixels;
-#[cfg(test)]
-mod tests;
 mod windows;
 
 use crate::generic_kernel::bytes::decode_row_by_bytes;

@@ -11,5 +11,3 @@ mod refinement_coding;
 pub mod region_info;
 pub mod skipping;
 pub mod template;
-#[cfg(test)]
-mod tests;

@@ -5,11 +5,9 @@ ghost use Rattle.jbig2_base.specs.Grid.{blank};
 ghost use Rattle.jbig2_region.specs.T6.{decoded, grid_of_rows, rows_of};
 
 mod bits;
-mod codes;
+pub mod codes;
 mod row;
 mod span;
-#[cfg(test)]
-mod tests;
 
 use crate::mmr::bits::CodeReader;
 use crate::mmr::row::read_row;

@@ -20,8 +20,6 @@ mod strips;
 mod symbol_codes;
 pub(crate) mod symbols;
 pub(crate) mod tables;
-#[cfg(test)]
-mod tests;
 
 use crate::text::coded::CodedReadings;
 use crate::text::header::{TextRegionHeader, TextRegionHuffmanFlags};

@@ -435,7 +435,7 @@ impl<A: Allocator> StandardHuffmanTables<A> {
 }
 
 /// The lines of the table at this place of the list.
-fn standard_lines(index: usize) -> &'static [TableLine]
+pub fn standard_lines(index: usize) -> &'static [TableLine]
     requires { index < 15 }
     ensures { result.now ≡ slice_index_or standard_tables index [] }
 {
@@ -455,31 +455,5 @@ fn standard_lines(index: usize) -> &'static [TableLine]
         12 => &TABLE_M,
         13 => &TABLE_N,
         _ => &TABLE_O,
-    }
-}
-
-#[cfg(test)]
-mod tests {
-    use super::*;
-    use std::result::Result;
-    use std::test::Fail;
-
-    // Row R5.4.
-    #[test]
-    fn tables_are_full_and_without_gaps(rt: HostRuntime) -> Result<(), Fail> {
-        for index in 0..15 {
-            let mut codes = 0_u32;
-            let mut next = None;
-            for line in standard_lines(index) {
-                assert!(rt; line.prefix_length <= 16 && line.range_length <= 32);
-                codes = codes.wrapping_add(1 << (16 - line.prefix_length));
-                if !line.is_lower && !line.is_out_of_band {
-                    assert!(rt; next.is_none() || next == Some(line.range_low));
-                    next = Some(line.range_low.wrapping_add(1 << line.range_length));
-                }
-            }
-            assert_eq!(rt; codes, 1 << 16);
-        }
-        Ok(())
     }
 }
