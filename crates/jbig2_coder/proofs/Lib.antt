@@ -27,4 +27,5 @@ pub mod Readings
 pub mod Renorm
 pub mod Rows
 pub mod Runs
+pub mod WorkedDecisions
 pub mod WorkedLists

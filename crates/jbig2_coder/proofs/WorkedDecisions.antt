@@ -1,0 +1,13 @@
+-- Decisions that the definitions compute.
+use Rattle.std.specs.Prelude.{◌≡◌, [], true, refl}
+use Rattle.jbig2_coder.specs.Coder.{byte_at, byte_in, choice, decision, fresh, started, unlikely_next}
+use Rattle.jbig2_coder.specs.Table.{row_of, rows}
+
+-- row 8: from no bytes, the first symbol and its context afterwards
+symbol_of_nothing : (decision [] (started []) fresh).symbol ≡ true
+unfolding decision started byte_in byte_at choice row_of rows
+symbol_of_nothing = refl
+
+context_of_nothing : (decision [] (started []) fresh).context ≡ record { row = 1; likely = true }
+unfolding decision started byte_in byte_at choice unlikely_next row_of rows
+context_of_nothing = refl
