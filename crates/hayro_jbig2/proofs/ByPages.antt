@@ -12,9 +12,9 @@ use Rattle.std.specs.Ordering.{nat_cmp, is_eq}
 use Rattle.std.specs.declared.cmp.Ordering.TheVariants.{Less, Equal, Greater}
 use Rattle.std.specs.declared.vec.Vec.{Vec}
 use Rattle.jbig2_base.specs.Segment.{Part}
-use Rattle.jbig2_base.specs.SegmentViews.{part_view, parts}
+use Rattle.jbig2_base.specs.inner.SegmentViews.{part_view, parts}
 use Rattle.jbig2_base.specs.declared.segment.Segment.{Segment}
-use Rattle.hayro_jbig2.specs.ByPages.{pages_view, place_of, Holds}
+use Rattle.hayro_jbig2.specs.inner.ByPages.{pages_view, place_of, Holds}
 use Rattle.hayro_jbig2.specs.declared.segments_by_page.SegmentsByPage.{SegmentsByPage}
 use Rattle.hayro_jbig2.specs.Files.{is_known, with_number, numbers_after, of_page, by_pages}
 

@@ -6,7 +6,7 @@ use Rattle.std.proofs.lemmas.Int.{ints}
 use Rattle.jbig2_base.specs.Combination.{combined, drawn_pixel, is_below}
 use Rattle.jbig2_base.specs.Grid.{Grid, pixel_at, pixel, blank}
 use Rattle.jbig2_base.specs.Operator.{combined_pixel}
-use Rattle.jbig2_base.specs.Table.{IsTable}
+use Rattle.jbig2_base.specs.inner.Table.{IsTable}
 use Rattle.jbig2_base.proofs.GridLemmas.{grid_of-ext, pixel_at-grid_of}
 use Rattle.jbig2_base.specs.declared.bitmap.operator.CombinationOperator.{CombinationOperator}
 use Rattle.jbig2_base.specs.declared.bitmap.operator.CombinationOperator.TheVariants.{Or, And, Xor, Xnor, Replace}

@@ -17,7 +17,7 @@ use Rattle.jbig2_region.specs.Refinement.{is_far, offset, refined_grid, refined_
 use Rattle.jbig2_region.specs.RefinementHeader.{RefinementHeader}
 use Rattle.jbig2_region.specs.declared.region_info.RegionSegmentInfo.{RegionSegmentInfo}
 use Rattle.hayro_jbig2.specs.Page.{page_area}
-use Rattle.hayro_jbig2.specs.PageViews.{near_area}
+use Rattle.hayro_jbig2.specs.inner.PageViews.{near_area}
 use Rattle.jbig2_base.proofs.GridLemmas.{grid_of-ext, pixel_at-grid_of}
 
 outside : (a b c : Bool) → (a && b) ≡ false → (a && b && c) ≡ false

@@ -12,19 +12,19 @@ use Rattle.jbig2_base.specs.declared.error.DecodeError.TheVariants.{Huffman, Par
 use Rattle.jbig2_base.specs.declared.error.HuffmanError.TheVariants.{InvalidSelection}
 use Rattle.jbig2_base.specs.declared.error.ParseError.TheVariants.{UnexpectedEof}
 use Rattle.jbig2_base.specs.declared.error.SegmentError.TheVariants.{InvalidReference}
-use Rattle.jbig2_base.specs.WordBits.{bit}
+use Rattle.jbig2_base.specs.inner.WordBits.{bit}
 use Rattle.jbig2_coder.specs.PrefixCode.{prefix_code, is_crowded, weight, shorter, read_code, decoded}
 use Rattle.jbig2_coder.specs.Tables.{lines_a, lines_b, lines_d, lines_f, lines_h, lines_k}
 use Rattle.jbig2_region.specs.RegionInfo.{region_info_at}
 use Rattle.jbig2_symbol.specs.Exports.{ended_runs, exported_from, next_run, runs_from, exports}
 use Rattle.jbig2_symbol.specs.SymbolBitmaps.{raw_rows, collective_bitmap, symbols_cut, symbol_cut}
-use Rattle.jbig2_symbol.specs.SymbolCodes.{short_lengths, runs_at, symbol_codes_from}
+use Rattle.jbig2_text.specs.SymbolCodes.{short_lengths, runs_at, symbol_codes_from}
 use Rattle.jbig2_symbol.specs.SymbolHeader.{symbol_flags_of, symbol_header_at}
 use Rattle.jbig2_symbol.specs.SymbolReading.{table_for, symbol_tables, first_contexts, height_difference, width_difference, export_run}
 use Rattle.jbig2_symbol.specs.Symbols.{bitmaps_with, with_symbol, class_from, class_ended, class_of_height, height_class, classes_from, dictionary_at}
-use Rattle.jbig2_symbol.specs.Text.{strip_delta, strip_begun, moved, instance_symbol, placed, with_instance, after_instances, text_instances, text_region}
-use Rattle.jbig2_symbol.specs.TextHeader.{text_flags_at, text_header_at}
-use Rattle.jbig2_symbol.specs.TextRegion.{text_tables, text_answer, text_decoded}
+use Rattle.jbig2_text.specs.Text.{strip_delta, strip_begun, moved, instance_symbol, placed, with_instance, after_instances, text_instances, text_region}
+use Rattle.jbig2_text.specs.TextHeader.{text_flags_at, text_header_at}
+use Rattle.jbig2_text.specs.TextRegion.{text_tables, text_answer, text_decoded}
 use Rattle.hayro_jbig2.specs.Calls.{Call, Pixel, Line, singles, whole_calls, row_of, calls_of}
 use Rattle.hayro_jbig2.specs.Globals.{globals_at, with_symbols_name}
 use Rattle.hayro_jbig2.specs.Page.{embedded, grid_of_page, with_symbols, immediate_text}

@@ -1,12 +1,9 @@
-pub mod ByPages
 pub mod Calls
 pub mod Files
 pub mod FirstPage
 pub mod Globals
 pub mod Image
 pub mod Page
-pub mod PageViews
-pub mod SegmentLists
 pub mod Sends
 pub mod SymbolNames
-pub mod SymbolViews
+pub mod inner

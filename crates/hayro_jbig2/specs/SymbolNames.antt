@@ -11,8 +11,8 @@ use Rattle.jbig2_region.specs.Generic.{PlacedRegion}
 use Rattle.jbig2_symbol.specs.SymbolHeader.{symbol_header_at}
 use Rattle.jbig2_symbol.specs.SymbolReading.{BitmapContexts}
 use Rattle.jbig2_symbol.specs.Symbols.{Symbols, dictionary_at}
-use Rattle.jbig2_symbol.specs.TextHeader.{text_header_at}
-use Rattle.jbig2_symbol.specs.TextRegion.{text_decoded}
+use Rattle.jbig2_text.specs.TextHeader.{text_header_at}
+use Rattle.jbig2_text.specs.TextRegion.{text_decoded}
 
 -- A custom table's code, kept under its segment's number.
 pub record StoredCode : Type 0 where

@@ -7,7 +7,7 @@ ghost use Rattle.jbig2_halftone.specs.Patterns.{dictionary_view};
 ghost use Rattle.jbig2_region.specs.Generic.{region_view};
 ghost use Rattle.hayro_jbig2.specs.Page.{Drawing, Stored, started, immediate};
 ghost use Rattle.hayro_jbig2.specs.SymbolNames.{no_library, with_code_under, with_symbols_under};
-ghost use Rattle.hayro_jbig2.specs.SymbolViews.{symbols_view};
+ghost use Rattle.hayro_jbig2.specs.inner.SymbolViews.{symbols_view};
 
 use crate::library::SymbolLibrary;
 use jbig2_base::bitmap::Bitmap;
@@ -53,7 +53,7 @@ pub struct DecoderContext<A: Allocator> {
 
 impl<A: Allocator> Model for DecoderContext<A> {
     ghost use Rattle.hayro_jbig2.specs.Page.{Drawing};
-    ghost use Rattle.hayro_jbig2.specs.PageViews.{stored_regions, stored_patterns};
+    ghost use Rattle.hayro_jbig2.specs.inner.PageViews.{stored_regions, stored_patterns};
 
     ghost Value = { Drawing };
 

@@ -1,10 +1,10 @@
 //! Segments drawn onto a page (T.88, 8.2).
 ghost use Rattle.std.specs.Prelude.{◌≡◌, is_none, Ok};
 ghost use Rattle.jbig2_base.specs.Answer.{Answers, Gives};
-ghost use Rattle.jbig2_base.specs.SegmentViews.{part_view, parts};
+ghost use Rattle.jbig2_base.specs.inner.SegmentViews.{part_view, parts};
 ghost use Rattle.jbig2_region.specs.Generic.{PlacedRegion, region_view};
 ghost use Rattle.hayro_jbig2.specs.Page.{Drawing, extension, ends_page, generic_at, immediate, immediate_generic, intermediate_generic, with_code, segment_on, drawn};
-ghost use Rattle.hayro_jbig2.specs.PageViews.{given_names};
+ghost use Rattle.hayro_jbig2.specs.inner.PageViews.{given_names};
 
 use crate::context::DecoderContext;
 use crate::globals::Globals;

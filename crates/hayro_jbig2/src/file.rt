@@ -2,12 +2,12 @@
 ghost use Rattle.std.specs.Prelude.{◌≡◌, ℕ, Ok, length, slice_get};
 ghost use Rattle.std.specs.Map.Iter.{GivesInOrder};
 ghost use Rattle.jbig2_base.specs.Answer.{Answers, Gives};
-ghost use Rattle.jbig2_base.specs.SegmentViews.{header_view, parts};
-ghost use Rattle.hayro_jbig2.specs.ByPages.{pages_view};
+ghost use Rattle.jbig2_base.specs.inner.SegmentViews.{header_view, parts};
+ghost use Rattle.hayro_jbig2.specs.inner.ByPages.{pages_view};
 ghost use Rattle.hayro_jbig2.specs.Files.{needs_page, lacks_page, associated, is_end_of_page, ends_of, filed_from, filed_each, miscounts, book_at, page_of, pages_of, PagesStandAlone};
 ghost use Rattle.hayro_jbig2.specs.Globals.{named};
 ghost use Rattle.hayro_jbig2.specs.Page.{Leaf, no_names};
-ghost use Rattle.hayro_jbig2.specs.PageViews.{kept_names};
+ghost use Rattle.hayro_jbig2.specs.inner.PageViews.{kept_names};
 
 use crate::globals::Globals;
 use crate::page::Page;
@@ -30,7 +30,7 @@ struct FilePage<'a, A: Allocator> {
 
 impl<'a, A: Allocator> Model for FilePage<'a, A> {
     ghost use Rattle.std.specs.Prelude.{◌≤◌};
-    ghost use Rattle.jbig2_base.specs.SegmentViews.{parts};
+    ghost use Rattle.jbig2_base.specs.inner.SegmentViews.{parts};
     ghost use Rattle.hayro_jbig2.specs.Files.{Filed};
 
     ghost Value = { Filed };

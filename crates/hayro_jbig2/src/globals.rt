@@ -1,10 +1,10 @@
 //! Segments that several pages share.
 ghost use Rattle.jbig2_base.specs.Answer.{Gives};
-ghost use Rattle.jbig2_base.specs.SegmentViews.{part_view, parts};
+ghost use Rattle.jbig2_base.specs.inner.SegmentViews.{part_view, parts};
 ghost use Rattle.hayro_jbig2.specs.Globals.{with_name, with_symbols_name, with_pattern_name, named_by, named, globals_at};
 ghost use Rattle.std.specs.Prelude.{◌≡◌, Ok};
 ghost use Rattle.hayro_jbig2.specs.Page.{no_names};
-ghost use Rattle.hayro_jbig2.specs.PageViews.{stored_patterns};
+ghost use Rattle.hayro_jbig2.specs.inner.PageViews.{stored_patterns};
 
 use crate::context::StoredDictionary;
 use crate::drawing::extension;
@@ -33,7 +33,7 @@ pub struct Globals<A: Allocator> {
 
 impl<A: Allocator> Model for Globals<A> {
     ghost use Rattle.hayro_jbig2.specs.Page.{Names};
-    ghost use Rattle.hayro_jbig2.specs.PageViews.{stored_patterns};
+    ghost use Rattle.hayro_jbig2.specs.inner.PageViews.{stored_patterns};
 
     ghost Value = { Names };
 

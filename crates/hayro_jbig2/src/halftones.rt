@@ -1,11 +1,11 @@
 //! Pattern dictionaries and halftone regions of a page (T.88, 7.4.4 and 7.4.5).
 ghost use Rattle.std.specs.Prelude.{◌≡◌};
 ghost use Rattle.jbig2_base.specs.Answer.{Gives};
-ghost use Rattle.jbig2_base.specs.SegmentViews.{part_view};
+ghost use Rattle.jbig2_base.specs.inner.SegmentViews.{part_view};
 ghost use Rattle.jbig2_halftone.specs.Patterns.{dictionary_view};
 ghost use Rattle.jbig2_region.specs.Generic.{region_view};
 ghost use Rattle.hayro_jbig2.specs.Page.{dictionary_at, with_patterns, patterns_named, halftone_at, halftone_region, immediate_halftone, intermediate_halftone};
-ghost use Rattle.hayro_jbig2.specs.PageViews.{stored_patterns, found_patterns, given_names};
+ghost use Rattle.hayro_jbig2.specs.inner.PageViews.{stored_patterns, found_patterns, given_names};
 
 use crate::context::{DecoderContext, StoredDictionary};
 use crate::drawing::finish_immediate;

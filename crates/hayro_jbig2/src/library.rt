@@ -3,7 +3,7 @@
 ghost use Rattle.std.specs.Prelude.{◌≡◌, Ok};
 ghost use Rattle.jbig2_base.specs.Answer.{Gives};
 ghost use Rattle.hayro_jbig2.specs.SymbolNames.{no_library, with_code_under, with_symbols_under, symbols_named, code_named};
-ghost use Rattle.hayro_jbig2.specs.SymbolViews.{symbols_view, stored_symbols, stored_codes, found_symbols, found_code};
+ghost use Rattle.hayro_jbig2.specs.inner.SymbolViews.{symbols_view, stored_symbols, stored_codes, found_symbols, found_code};
 
 use jbig2_base::error::Result;
 use jbig2_coder::huffman_table::HuffmanTable;
@@ -34,7 +34,7 @@ pub(crate) struct SymbolLibrary<A: Allocator> {
 
 impl<A: Allocator> Model for SymbolLibrary<A> {
     ghost use Rattle.hayro_jbig2.specs.SymbolNames.{Library};
-    ghost use Rattle.hayro_jbig2.specs.SymbolViews.{stored_symbols, stored_codes};
+    ghost use Rattle.hayro_jbig2.specs.inner.SymbolViews.{stored_symbols, stored_codes};
 
     ghost Value = { Library };
 

@@ -3,14 +3,14 @@ ghost use Rattle.std.specs.Prelude.{◌≡◌, ℕ, ◌+◌, ◌-◌, ◌*◌, �
 ghost use Rattle.jbig2_base.specs.Answer.{Gives};
 ghost use Rattle.jbig2_base.specs.Combination.{combined};
 ghost use Rattle.jbig2_base.specs.Grid.{Grid, blank};
-ghost use Rattle.jbig2_base.specs.Table.{IsTable};
+ghost use Rattle.jbig2_base.specs.inner.Table.{IsTable};
 ghost use Rattle.jbig2_base.specs.declared.bitmap.operator.CombinationOperator.{CombinationOperator};
 ghost use Rattle.hayro_jbig2.specs.Calls.{Spells, calls_of};
 ghost use Rattle.hayro_jbig2.specs.Image.{image_of_page};
 ghost use Rattle.hayro_jbig2.specs.Page.{Leaf, embedded, grid_of_page, draws_over};
-ghost use Rattle.hayro_jbig2.specs.PageViews.{given_names, kept_names};
-ghost use Rattle.hayro_jbig2.specs.SegmentLists.{segment_list};
-ghost use Rattle.jbig2_base.specs.SegmentViews.{parts};
+ghost use Rattle.hayro_jbig2.specs.inner.PageViews.{given_names, kept_names};
+ghost use Rattle.hayro_jbig2.specs.inner.SegmentLists.{segment_list};
+ghost use Rattle.jbig2_base.specs.inner.SegmentViews.{parts};
 ghost use Rattle.hayro_jbig2.specs.Sends.{Decodes};
 
 use crate::calls::push_bitmap;
@@ -59,11 +59,11 @@ pub struct Page<'a, A: Allocator> {
 
 impl<'a, A: Allocator> Model for Page<'a, A> {
     ghost use Rattle.std.specs.Prelude.{◌≤◌};
-    ghost use Rattle.jbig2_base.specs.SegmentViews.{parts};
+    ghost use Rattle.jbig2_base.specs.inner.SegmentViews.{parts};
     ghost use Rattle.hayro_jbig2.specs.Calls.{Spells, calls_of};
     ghost use Rattle.hayro_jbig2.specs.Page.{Leaf};
-    ghost use Rattle.hayro_jbig2.specs.PageViews.{kept_names};
-    ghost use Rattle.hayro_jbig2.specs.SegmentLists.{segment_list};
+    ghost use Rattle.hayro_jbig2.specs.inner.PageViews.{kept_names};
+    ghost use Rattle.hayro_jbig2.specs.inner.SegmentLists.{segment_list};
 
     ghost Value = { Leaf };
 

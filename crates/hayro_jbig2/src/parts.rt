@@ -2,5 +2,7 @@
 pub use jbig2_base::{bitmap, error, file, page_info, reader, segment};
 pub use jbig2_coder::{arithmetic_decoder, huffman_table, integer_decoder, mq, symbol_id_decoder};
 pub use jbig2_halftone::{gray_scale, halftone, pattern};
-pub use jbig2_region::{generic, generic_refinement, mmr, region_info, template};
-pub use jbig2_symbol::{symbol, text};
+pub use jbig2_mmr::mmr;
+pub use jbig2_region::{generic, generic_refinement, region_info, template};
+pub use jbig2_symbol::symbol;
+pub use jbig2_text::text;

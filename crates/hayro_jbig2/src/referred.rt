@@ -1,9 +1,9 @@
 //! What symbol dictionaries and text regions refer to by numbers (T.88, 7.3.1).
 ghost use Rattle.std.specs.Prelude.{◌≡◌, ◌≤◌, ◌+◌, ◌++◌, length, map, Ok, OnOk, IfErr};
 ghost use Rattle.jbig2_base.specs.Answer.{Gives};
-ghost use Rattle.hayro_jbig2.specs.PageViews.{given_names};
+ghost use Rattle.hayro_jbig2.specs.inner.PageViews.{given_names};
 ghost use Rattle.hayro_jbig2.specs.SymbolNames.{nothing_referred, own_else, symbols_named, code_named, with_dictionary, with_table, with_number, with_numbers, referred_by};
-ghost use Rattle.hayro_jbig2.specs.SymbolViews.{found_symbols, found_code, symbols_view};
+ghost use Rattle.hayro_jbig2.specs.inner.SymbolViews.{found_symbols, found_code, symbols_view};
 
 use crate::globals::Globals;
 use crate::library::SymbolLibrary;
@@ -29,7 +29,7 @@ pub(crate) struct ReferredSegments<'a, A: Allocator> {
 impl<'a, A: Allocator> Model for ReferredSegments<'a, A> {
     ghost use Rattle.std.specs.Prelude.{◌≤◌, length, map};
     ghost use Rattle.hayro_jbig2.specs.SymbolNames.{Referred};
-    ghost use Rattle.jbig2_symbol.specs.SymbolViews.{kept_view};
+    ghost use Rattle.jbig2_symbol.specs.inner.SymbolViews.{kept_view};
 
     ghost Value = { Referred };
 

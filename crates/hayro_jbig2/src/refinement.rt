@@ -1,12 +1,12 @@
 //! Refinements on a page (T.88, 7.4.7).
 ghost use Rattle.std.specs.Prelude.{◌≡◌, ◌≤◌, true, false};
 ghost use Rattle.jbig2_base.specs.Answer.{Answers, Gives};
-ghost use Rattle.jbig2_base.specs.SegmentViews.{part_view};
+ghost use Rattle.jbig2_base.specs.inner.SegmentViews.{part_view};
 ghost use Rattle.jbig2_region.specs.Generic.{PlacedRegion, region_view};
 ghost use Rattle.jbig2_region.specs.Refinement.{refined_decoded};
 ghost use Rattle.jbig2_region.specs.RefinementHeader.{IsRefinement, header_view};
 ghost use Rattle.hayro_jbig2.specs.Page.{Drawing, immediate_refinement, intermediate_refinement, page_area, referred_region, refinement_at, region_named};
-ghost use Rattle.hayro_jbig2.specs.PageViews.{found_view, near_area, stored_regions};
+ghost use Rattle.hayro_jbig2.specs.inner.PageViews.{found_view, near_area, stored_regions};
 
 use crate::context::{DecoderContext, StoredRegion};
 use crate::drawing::finish_immediate;

@@ -2,9 +2,9 @@
 ghost use Rattle.std.specs.Prelude.{◌≡◌, List, [], ◌∷◌, ◌++◌, Ok, MatchResult};
 ghost use Rattle.jbig2_base.specs.Answer.{Gives};
 ghost use Rattle.jbig2_base.specs.Segment.{Part};
-ghost use Rattle.jbig2_base.specs.SegmentViews.{part_view, parts};
+ghost use Rattle.jbig2_base.specs.inner.SegmentViews.{part_view, parts};
 ghost use Rattle.jbig2_base.specs.declared.error.DecodeError.TheVariants.{OutOfMemory};
-ghost use Rattle.hayro_jbig2.specs.ByPages.{Holds, by_page_view};
+ghost use Rattle.hayro_jbig2.specs.inner.ByPages.{Holds, by_page_view};
 ghost use Rattle.hayro_jbig2.specs.Files.{by_pages, of_page};
 
 use jbig2_base::error::Result;

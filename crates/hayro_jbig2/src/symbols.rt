@@ -1,11 +1,11 @@
 //! Symbol dictionaries of a page (T.88, 7.4.2).
 ghost use Rattle.std.specs.Prelude.{◌≡◌};
 ghost use Rattle.jbig2_base.specs.Answer.{Gives};
-ghost use Rattle.jbig2_base.specs.SegmentViews.{part_view};
+ghost use Rattle.jbig2_base.specs.inner.SegmentViews.{part_view};
 ghost use Rattle.hayro_jbig2.specs.Page.{with_symbols};
-ghost use Rattle.hayro_jbig2.specs.PageViews.{given_names};
+ghost use Rattle.hayro_jbig2.specs.inner.PageViews.{given_names};
 ghost use Rattle.hayro_jbig2.specs.SymbolNames.{no_library, symbols_at};
-ghost use Rattle.hayro_jbig2.specs.SymbolViews.{symbols_view};
+ghost use Rattle.hayro_jbig2.specs.inner.SymbolViews.{symbols_view};
 
 use crate::context::DecoderContext;
 use crate::globals::Globals;

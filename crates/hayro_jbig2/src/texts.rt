@@ -1,12 +1,12 @@
 //! Text regions of a page (T.88, 7.4.3).
 ghost use Rattle.std.specs.Prelude.{◌≡◌, map};
 ghost use Rattle.jbig2_base.specs.Answer.{Gives};
-ghost use Rattle.jbig2_base.specs.SegmentViews.{part_view};
+ghost use Rattle.jbig2_base.specs.inner.SegmentViews.{part_view};
 ghost use Rattle.jbig2_region.specs.Generic.{region_view};
-ghost use Rattle.jbig2_symbol.specs.TextHeader.{header_view};
-ghost use Rattle.jbig2_symbol.specs.TextRegion.{text_decoded};
+ghost use Rattle.jbig2_text.specs.TextHeader.{header_view};
+ghost use Rattle.jbig2_text.specs.TextRegion.{text_decoded};
 ghost use Rattle.hayro_jbig2.specs.Page.{immediate_text, intermediate_text};
-ghost use Rattle.hayro_jbig2.specs.PageViews.{given_names};
+ghost use Rattle.hayro_jbig2.specs.inner.PageViews.{given_names};
 ghost use Rattle.hayro_jbig2.specs.SymbolNames.{text_at};
 
 use crate::context::DecoderContext;
@@ -20,7 +20,7 @@ use jbig2_base::reader::Reader;
 use jbig2_base::segment::Segment;
 use jbig2_coder::huffman_table::StandardHuffmanTables;
 use jbig2_region::generic::DecodedRegion;
-use jbig2_symbol::text;
+use jbig2_text::text;
 use std::alloc::Allocator;
 use std::sync::ledger::Ledger;
 

@@ -4,10 +4,10 @@ use Rattle.std.proofs.lemmas.Bool.{cases_eq, cases_lt, cond-true, cond-false, an
 use Rattle.jbig2_base.specs.declared.bitmap.operator.CombinationOperator.{CombinationOperator}
 use Rattle.jbig2_base.specs.Grid.{Grid, grid_of, pixel_at}
 use Rattle.jbig2_base.specs.Operator.{combined_pixel}
-use Rattle.jbig2_base.specs.WordBits.{bit}
-use Rattle.jbig2_base.specs.Writes.{with_pixels}
-use Rattle.jbig2_base.specs.Blocks.{block_pixel, with_block}
-use Rattle.jbig2_base.specs.Table.{IsTable}
+use Rattle.jbig2_base.specs.inner.WordBits.{bit}
+use Rattle.jbig2_base.specs.inner.Writes.{with_pixels}
+use Rattle.jbig2_base.specs.inner.Blocks.{block_pixel, with_block}
+use Rattle.jbig2_base.specs.inner.Table.{IsTable}
 use Rattle.jbig2_base.proofs.GridLemmas.{grid_of-ext, pixel_at-grid_of}
 use Rattle.jbig2_base.proofs.WriteLemmas.{in_field, before_field, behind_field, other_row}
 

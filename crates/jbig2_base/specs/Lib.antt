@@ -1,6 +1,5 @@
 pub mod Answer
 pub mod Bits
-pub mod Blocks
 pub mod Combination
 pub mod Counts
 pub mod Fields
@@ -8,14 +7,10 @@ pub mod File
 pub mod FileHeader
 pub mod Grid
 pub mod Operator
-pub mod Packed
 pub mod PageInfo
 pub mod Segment
-pub mod SegmentViews
 pub mod Sequential
 pub mod Sizes
 pub mod Sorted
 pub mod Spelled
-pub mod Table
-pub mod WordBits
-pub mod Writes
+pub mod inner

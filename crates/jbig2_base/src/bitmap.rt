@@ -3,9 +3,9 @@ ghost use Rattle.std.specs.Prelude.{◌≡◌, ℕ, ◌+◌, ◌-◌, ◌/◌, �
 ghost use Rattle.jbig2_base.specs.Answer.{Gives};
 ghost use Rattle.jbig2_base.specs.Grid.{blank, pixel_at, bit_number};
 ghost use Rattle.jbig2_base.specs.Sizes.{blank_or_overflow, wide_or_overflow};
-ghost use Rattle.jbig2_base.specs.Table.{IsTable};
-ghost use Rattle.jbig2_base.specs.WordBits.{bit};
-ghost use Rattle.jbig2_base.specs.Writes.{with_pixel, with_pixels};
+ghost use Rattle.jbig2_base.specs.inner.Table.{IsTable};
+ghost use Rattle.jbig2_base.specs.inner.WordBits.{bit};
+ghost use Rattle.jbig2_base.specs.inner.Writes.{with_pixel, with_pixels};
 
 mod combine;
 pub mod operator;

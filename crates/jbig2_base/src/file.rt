@@ -6,7 +6,7 @@ ghost use Rattle.jbig2_base.specs.File.{headers_in, gathered, random_access, seg
 ghost use Rattle.jbig2_base.specs.Sorted.{by_number};
 ghost use Rattle.jbig2_base.specs.Spelled.{Spelled, Spells, spelled_parts};
 ghost use Rattle.jbig2_base.specs.declared.file_header.FileHeader.{FileHeader};
-ghost use Rattle.jbig2_base.specs.SegmentViews.{header_views, parts, file_view};
+ghost use Rattle.jbig2_base.specs.inner.SegmentViews.{header_views, parts, file_view};
 ghost use Rattle.jbig2_base.specs.Sequential.{is_cut_off, is_end_of_file, sequential};
 
 use crate::error::{DecodeError, Result};

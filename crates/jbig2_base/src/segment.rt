@@ -7,7 +7,7 @@ ghost use Rattle.std.specs.Bool.{OnTrue};
 ghost use Rattle.jbig2_base.specs.Answer.{Answers, Gives};
 ghost use Rattle.jbig2_base.specs.Bits.{IsAligned};
 ghost use Rattle.jbig2_base.specs.Segment.{type_of, is_reserved, is_immediate_generic, short_or_long_at, long_count_at, count_at, number_size, coded_number, numbers_in, referred_at, page_at, length_of, header_at, adaptive_bytes, is_end_marker, least, marker_end, coded_front_at, unknown_length_of, data_at, segment_data_at, segment_at};
-ghost use Rattle.jbig2_base.specs.SegmentViews.{header_view, part_view};
+ghost use Rattle.jbig2_base.specs.inner.SegmentViews.{header_view, part_view};
 
 use crate::error::{DecodeError, Result, SegmentError};
 use crate::field::{byte_field, bytes_field, u32_field};

@@ -1,7 +1,7 @@
 //! Segments in the order of their numbers.
 ghost use Rattle.std.specs.Prelude.{◌≡◌, OnErr, Ok};
 ghost use Rattle.jbig2_base.specs.Answer.{Gives};
-ghost use Rattle.jbig2_base.specs.SegmentViews.{parts};
+ghost use Rattle.jbig2_base.specs.inner.SegmentViews.{parts};
 ghost use Rattle.jbig2_base.specs.Sorted.{by_number};
 
 use crate::error::Result;

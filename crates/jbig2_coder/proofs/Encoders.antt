@@ -8,7 +8,7 @@ use Rattle.std.proofs.lemmas.Bool.Decides.{nat_tests}
 use Rattle.jbig2_coder.specs.Table.{row_of}
 use Rattle.jbig2_coder.specs.Coder.{Context, likely_next, unlikely_next}
 use Rattle.jbig2_coder.specs.Encoder.{Writer, Coding, plain, stuffed, byte_out, shifted, renormed, narrowed_likely, narrowed_unlikely, narrowed, encoding, set_bits, flushed, is_full, closed}
-use Rattle.jbig2_coder.specs.EncoderViews.{writer_of}
+use Rattle.jbig2_coder.specs.inner.EncoderViews.{writer_of}
 use Rattle.jbig2_coder.specs.declared.mq.encoder.CodeRegister.{CodeRegister}
 
 -- BYTEOUT

@@ -9,7 +9,7 @@ use Rattle.jbig2_base.specs.declared.error.HuffmanError.TheVariants.{InvalidCode
 use Rattle.jbig2_coder.specs.declared.huffman_table.line.TableLine.{TableLine}
 use Rattle.jbig2_coder.specs.declared.huffman_table.levels.Level.{Level}
 use Rattle.jbig2_coder.specs.PrefixCode.{Member, longest, level, prefix_code, is_crowded, table_of, AreShort}
-use Rattle.jbig2_coder.specs.PrefixLevels.{nodes, codes_at, groups_of, groups, AreLevels}
+use Rattle.jbig2_coder.specs.inner.PrefixLevels.{nodes, codes_at, groups_of, groups, AreLevels}
 use Rattle.jbig2_coder.proofs.PrefixKraft.{prefix_code-is, is_crowded-is}
 
 -- lines pushed behind change no group

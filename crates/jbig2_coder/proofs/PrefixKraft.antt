@@ -5,7 +5,7 @@ use Rattle.std.proofs.Math.Nat.{mul-lt-mul_of_pos_right}
 use Rattle.std.proofs.lemmas.Bool.{cases_lt, cases_eq, cond-true, cond-false, lt-ltb, le-ltb, le-leb, lt-leb, eq-eqb, ne_eqb, and_right, and_from}
 use Rattle.jbig2_coder.specs.declared.huffman_table.line.TableLine.{TableLine}
 use Rattle.jbig2_coder.specs.PrefixCode.{Member, share, weight, shorter, level, longest, numbered, codes_from, prefix_code, is_crowded}
-use Rattle.jbig2_coder.specs.PrefixLevels.{nodes, codes_at, groups}
+use Rattle.jbig2_coder.specs.inner.PrefixLevels.{nodes, codes_at, groups}
 
 share-none : (l len : ℕ) → l < len → share l len ≡ 0
 share-none l len h = cond-false (ltb 0 len && leb len l) (2 ^ (l - len)) 0 (and_right (ltb 0 len) (leb len l) (lt-leb len l h))

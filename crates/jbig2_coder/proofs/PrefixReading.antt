@@ -10,7 +10,7 @@ use Rattle.jbig2_base.proofs.ReaderLemmas.{bits_on-enough, bits_on-past, end-on}
 use Rattle.jbig2_coder.specs.declared.huffman_table.line.TableLine.{TableLine}
 use Rattle.jbig2_coder.specs.declared.huffman_table.levels.Level.{Level}
 use Rattle.jbig2_coder.specs.PrefixCode.{Reading, found_or, refused, ended}
-use Rattle.jbig2_coder.specs.PrefixLevels.{nodes, walk, groups_of, AreLevels}
+use Rattle.jbig2_coder.specs.inner.PrefixLevels.{nodes, walk, groups_of, AreLevels}
 
 -- m bits on from n bits on
 pub bits_on-add : (n m : ℕ) (p q : Place) → q ≡ bits_on n p → bits_left q ≡ drop n (bits_left p) → bits_on m q ≡ bits_on (n + m) p

@@ -5,7 +5,7 @@ use Rattle.std.proofs.lemmas.Bool.{cases_lt, cases_eq, cond-true, cond-false, lt
 use Rattle.std.specs.List.{slice_get}
 use Rattle.jbig2_coder.specs.declared.huffman_table.line.TableLine.{TableLine}
 use Rattle.jbig2_coder.specs.PrefixCode.{Member, Reading, numbered, line_of, begins_longer, found_or, read_on, refused}
-use Rattle.jbig2_coder.specs.PrefixLevels.{nodes, codes_at, walk}
+use Rattle.jbig2_coder.specs.inner.PrefixLevels.{nodes, codes_at, walk}
 
 -- the first line, or else the other
 abbrev pick : Option TableLine → Option TableLine → Option TableLine

@@ -14,7 +14,7 @@ use Rattle.jbig2_base.specs.Counts.{Counts}
 use Rattle.jbig2_base.specs.Grid.{bit_number}
 use Rattle.jbig2_coder.specs.Coder.{Coder, Context, Decision, decision, fresh}
 use Rattle.jbig2_coder.specs.Integers.{Reading, number, next, read, read_more, prev_next, prev_after, prev_of, prefix, signed, value_of, range_of, integer, Ids, id, place_of}
-use Rattle.jbig2_coder.specs.Stands.{Stands}
+use Rattle.jbig2_coder.specs.inner.Stands.{Stands}
 use Rattle.jbig2_coder.specs.declared.arithmetic_decoder.registers.Registers.{Registers}
 
 pub bit_number-same : (a b : Bool) → bit_number a ≡ bit_number b → a ≡ b

@@ -1,11 +1,9 @@
 pub mod Coder
 pub mod CustomTable
 pub mod Encoder
-pub mod EncoderViews
 pub mod Integers
 pub mod Lists
 pub mod PrefixCode
-pub mod PrefixLevels
-pub mod Stands
 pub mod Table
 pub mod Tables
+pub mod inner

@@ -33,7 +33,7 @@ pub struct HuffmanTable<A: Allocator> {
 impl<A: Allocator> Model for HuffmanTable<A> {
     ghost use Rattle.std.specs.Prelude.{List};
     ghost use Rattle.jbig2_coder.specs.PrefixCode.{Member, AreShort};
-    ghost use Rattle.jbig2_coder.specs.PrefixLevels.{groups_of, codes_at, AreLevels};
+    ghost use Rattle.jbig2_coder.specs.inner.PrefixLevels.{groups_of, codes_at, AreLevels};
 
     ghost Value = { List Member };
 

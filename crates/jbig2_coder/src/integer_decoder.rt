@@ -6,7 +6,7 @@ ghost use Rattle.jbig2_base.specs.Counts.{Counts};
 ghost use Rattle.jbig2_base.specs.Grid.{bit_number};
 ghost use Rattle.jbig2_coder.specs.Coder.{fresh};
 ghost use Rattle.jbig2_coder.specs.Integers.{Reading, number, next, read, read_more, prev_of, prev_next, range_of, prefix, value_of, integer};
-ghost use Rattle.jbig2_coder.specs.Stands.{Stands};
+ghost use Rattle.jbig2_coder.specs.inner.Stands.{Stands};
 
 use crate::arithmetic_decoder::{ArithmeticDecoder, ArithmeticDecoderContext};
 use jbig2_base::bitmap::steps::Steps;

@@ -6,7 +6,7 @@ use Rattle.std.proofs.Math.Seq.{take-length}
 use Rattle.std.proofs.lemmas.List.FromFn.{fill_by_all, get_or-map-range_with_len}
 use Rattle.jbig2_base.specs.Grid.{Grid, bit_number, pixel_at}
 use Rattle.jbig2_region.specs.Generic.{number_of}
-use Rattle.jbig2_region.specs.T6.{differ}
+use Rattle.jbig2_mmr.specs.T6.{differ}
 use Rattle.jbig2_halftone.specs.GrayScale.{parity, gray_bit, gray_value, gray_values}
 
 -- a value after one plane more

@@ -7,7 +7,7 @@ use Rattle.jbig2_base.specs.Grid.{Grid, blank}
 use Rattle.jbig2_base.specs.declared.error.DecodeError.{DecodeError}
 use Rattle.jbig2_base.specs.declared.error.DecodeError.TheVariants.{OutOfMemory, Region}
 use Rattle.jbig2_base.specs.declared.error.RegionError.TheVariants.{GrayScaleOutOfRange}
-use Rattle.jbig2_region.specs.T6.{decoded as mmr_rows}
+use Rattle.jbig2_mmr.specs.T6.{decoded as mmr_rows}
 use Rattle.jbig2_halftone.specs.GrayScale.{GrayScale, mmr_planes, planes_by_coder, planes_by_mmr, planes_of, values_by, gray_values, gray_scale_image}
 use Rattle.jbig2_halftone.specs.Halftone.{gray_params, pattern_for, with_cell, cells_drawn, halftone_answer}
 use Rattle.jbig2_halftone.specs.HalftoneHeader.{HalftoneHeader}

@@ -12,10 +12,10 @@ use Rattle.jbig2_base.specs.declared.error.DecodeError.{DecodeError}
 use Rattle.jbig2_coder.specs.Coder.{Coder, Context, started}
 use Rattle.jbig2_coder.specs.declared.arithmetic_decoder.registers.Registers.{Registers}
 use Rattle.jbig2_region.specs.Generic.{number_of}
-use Rattle.jbig2_region.specs.Holds.{Holds}
+use Rattle.jbig2_region.specs.inner.Holds.{Holds}
 use Rattle.jbig2_region.specs.Raster.{so_far, decoded, no_pixels, fresh_contexts}
 use Rattle.jbig2_region.specs.Skipping.{skipping_coding}
-use Rattle.jbig2_region.specs.T6.{Decoded, Rows, decoded as mmr_rows, grid_of_rows, rows_of}
+use Rattle.jbig2_mmr.specs.T6.{Decoded, Rows, decoded as mmr_rows, grid_of_rows, rows_of}
 use Rattle.jbig2_region.specs.Templates.{context_bits, template_pixels}
 use Rattle.jbig2_region.specs.declared.template.AdaptiveTemplatePixel.{AdaptiveTemplatePixel}
 use Rattle.jbig2_region.specs.declared.template.GenericTemplatePixels.TheVariants.{Regular}

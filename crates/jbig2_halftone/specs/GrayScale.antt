@@ -10,7 +10,7 @@ use Rattle.jbig2_coder.specs.Coder.{Context, started}
 use Rattle.jbig2_region.specs.Generic.{number_of}
 use Rattle.jbig2_region.specs.Raster.{Coding, Region, so_far, decoded, no_pixels, fresh_contexts}
 use Rattle.jbig2_region.specs.Skipping.{skipping_coding, skip_of}
-use Rattle.jbig2_region.specs.T6.{differ, decoded as mmr_rows}
+use Rattle.jbig2_mmr.specs.T6.{differ, decoded as mmr_rows}
 use Rattle.jbig2_region.specs.Templates.{context_bits, left, right, template_pixels}
 use Rattle.jbig2_region.specs.declared.template.AdaptiveTemplatePixel.{AdaptiveTemplatePixel}
 use Rattle.jbig2_region.specs.declared.template.GenericTemplatePixels.TheVariants.{Regular}

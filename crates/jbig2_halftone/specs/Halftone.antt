@@ -10,7 +10,7 @@ use Rattle.jbig2_base.specs.declared.error.OverflowError.TheVariants.{BitmapDime
 use Rattle.jbig2_base.specs.declared.error.RegionError.TheVariants.{GrayScaleOutOfRange}
 use Rattle.jbig2_coder.specs.Coder.{Context}
 use Rattle.jbig2_region.specs.Generic.{PlacedRegion}
-use Rattle.jbig2_region.specs.T6.{place_from}
+use Rattle.jbig2_mmr.specs.T6.{place_from}
 use Rattle.jbig2_halftone.specs.GrayScale.{GrayScale, gray_scale_image, gray_contexts}
 use Rattle.jbig2_halftone.specs.HalftoneHeader.{HalftoneHeader}
 use Rattle.jbig2_halftone.specs.Patterns.{Patterns}

@@ -12,7 +12,7 @@ use jbig2_base::bitmap::Bitmap;
 use jbig2_base::bitmap::steps::Steps;
 use jbig2_base::error::{DecodeError, OverflowError, Result};
 use jbig2_coder::arithmetic_decoder::{ArithmeticDecoder, ArithmeticDecoderContext};
-use jbig2_region::mmr;
+use jbig2_mmr::mmr;
 use jbig2_region::raster::fresh_contexts;
 use jbig2_region::skipping::decode_skipping;
 use jbig2_region::template::{AdaptiveTemplatePixel, Template};

@@ -5,7 +5,7 @@ use Rattle.std.proofs.lemmas.Bool.{cases_eq, cases_lt, eq-eqb, ne_eqb, lt-ltb, l
 use Rattle.std.proofs.lemmas.Nat.{mod-mul-add}
 use Rattle.jbig2_base.specs.Grid.{Grid, bit_number}
 use Rattle.jbig2_coder.specs.Coder.{Coder, Context}
-use Rattle.jbig2_region.specs.Neighbours.{Decodes, is_nominal_layout, nominal_pixels, optional_pixels, row_coding}
+use Rattle.jbig2_region.specs.inner.Neighbours.{Decodes, is_nominal_layout, nominal_pixels, optional_pixels, row_coding}
 use Rattle.jbig2_region.specs.Raster.{Region, after_pixels}
 use Rattle.jbig2_region.specs.RunBytes.{is_run_of, is_run_byte, run_bytes, CountsRow, CountsRuns}
 use Rattle.jbig2_region.specs.declared.generic_kernel.neighbours.Adaptives.{Adaptives}

@@ -9,10 +9,10 @@ use Rattle.jbig2_coder.specs.Coder.{Coder, Context, started}
 use Rattle.jbig2_region.specs.Generic.{generic_coding, generic_region, generic_grid, generic_answer, contexts_after}
 use Rattle.jbig2_region.specs.GenericHeader.{GenericHeader}
 use Rattle.jbig2_base.specs.Counts.{Counts}
-use Rattle.jbig2_region.specs.Holds.{Holds}
-use Rattle.jbig2_region.specs.Layouts.{CountsCoded, CountsGeneric}
+use Rattle.jbig2_region.specs.inner.Holds.{Holds}
+use Rattle.jbig2_region.specs.inner.Layouts.{CountsCoded, CountsGeneric}
 use Rattle.jbig2_region.specs.Raster.{Coding, decoded, no_pixels, fresh_contexts}
-use Rattle.jbig2_region.specs.T6.{decoded as mmr_rows}
+use Rattle.jbig2_mmr.specs.T6.{decoded as mmr_rows}
 use Rattle.jbig2_region.specs.Templates.{context_bits}
 
 -- a region that a coder and contexts that stand at the start decode

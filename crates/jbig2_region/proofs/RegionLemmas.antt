@@ -4,8 +4,8 @@ use Rattle.jbig2_base.specs.Counts.{Counts}
 use Rattle.jbig2_base.specs.Grid.{Grid}
 use Rattle.jbig2_coder.specs.Coder.{Coder, Context}
 use Rattle.jbig2_region.specs.Generic.{context_at, colour_above}
-use Rattle.jbig2_region.specs.Holds.{Holds, BeginsRow}
-use Rattle.jbig2_region.specs.Neighbours.{Decodes, row_coding}
+use Rattle.jbig2_region.specs.inner.Holds.{Holds, BeginsRow}
+use Rattle.jbig2_region.specs.inner.Neighbours.{Decodes, row_coding}
 use Rattle.jbig2_region.specs.Raster.{Coding, Region, after_pixel, after_pixels, row_begun, row_decisions, after_rows}
 use Rattle.jbig2_region.specs.RunBytes.{CountsRegion, CountsRow, coded_rows, coded_runs, row_loads, row_tests, row_words, run_bytes}
 use Rattle.jbig2_region.specs.declared.template.AdaptiveTemplatePixel.{AdaptiveTemplatePixel}

@@ -6,12 +6,12 @@ use Rattle.std.proofs.lemmas.List.{append-nil, length-replicate, get_or-replicat
 use Rattle.std.proofs.Math.Nat.{mul-le-mul_left}
 use Rattle.std.proofs.lemmas.Nat.{mod-mul-add, div-mul-add}
 use Rattle.jbig2_base.specs.Grid.{Grid, pixel, pixel_at}
-use Rattle.jbig2_base.specs.WordBits.{bit}
+use Rattle.jbig2_base.specs.inner.WordBits.{bit}
 use Rattle.jbig2_base.proofs.GridLemmas.{pixel_at-grid_of, pixel_at-right, pixel_at-below}
 use Rattle.jbig2_region.specs.Generic.{context_at}
-use Rattle.jbig2_region.specs.Neighbours.{left_pixels, stretch_pixels, nominal_pixels, neighbours_stay, stretch_stays, is_field, neighbour_count, IsNear, IsLeft, IsWindow, Shows}
+use Rattle.jbig2_region.specs.inner.Neighbours.{left_pixels, stretch_pixels, nominal_pixels, neighbours_stay, stretch_stays, is_field, neighbour_count, IsNear, IsLeft, IsWindow, Shows}
 use Rattle.jbig2_coder.specs.Coder.{Coder, Context, fresh, all_quiet}
-use Rattle.jbig2_region.specs.Holds.{Holds}
+use Rattle.jbig2_region.specs.inner.Holds.{Holds}
 use Rattle.jbig2_region.specs.Raster.{Region, so_far}
 use Rattle.jbig2_region.specs.RunBytes.{all_of, has_all, stays, same_colour, is_run_of}
 use Rattle.jbig2_region.specs.declared.generic_kernel.neighbours.Neighbours.{Neighbours}

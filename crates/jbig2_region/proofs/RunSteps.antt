@@ -4,15 +4,15 @@ use Rattle.std.proofs.lemmas.Bool.{and_parts, true≢false}
 use Rattle.std.proofs.lemmas.Int.{ints}
 use Rattle.std.proofs.lemmas.List.{append-nil, length-replicate, replicate-append-replicate, set-get_or}
 use Rattle.jbig2_base.specs.Grid.{Grid, bit_number}
-use Rattle.jbig2_base.specs.WordBits.{bit}
-use Rattle.jbig2_base.specs.Writes.{with_pixel, with_pixels}
+use Rattle.jbig2_base.specs.inner.WordBits.{bit}
+use Rattle.jbig2_base.specs.inner.Writes.{with_pixel, with_pixels}
 use Rattle.jbig2_coder.specs.Coder.{Coder, Context, Decision, decision, fresh, is_quiet, all_quiet}
 use Rattle.jbig2_coder.specs.Table.{row_of}
 use Rattle.jbig2_coder.specs.declared.arithmetic_decoder.registers.Registers.{Registers}
 use Rattle.jbig2_coder.proofs.Runs.{is_quiet-decision}
 use Rattle.jbig2_region.specs.Generic.{context_at}
-use Rattle.jbig2_region.specs.Holds.{Holds}
-use Rattle.jbig2_region.specs.Neighbours.{IsLeft, row_coding}
+use Rattle.jbig2_region.specs.inner.Holds.{Holds}
+use Rattle.jbig2_region.specs.inner.Neighbours.{IsLeft, row_coding}
 use Rattle.jbig2_region.specs.Raster.{Region, so_far, after_pixel, after_pixels}
 use Rattle.jbig2_region.specs.RunBytes.{all_of, stays, same_colour, is_run_of}
 use Rattle.jbig2_region.specs.declared.template.AdaptiveTemplatePixel.{AdaptiveTemplatePixel}

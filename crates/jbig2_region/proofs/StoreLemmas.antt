@@ -5,15 +5,15 @@ use Rattle.std.proofs.lemmas.Int.{ints}
 use Rattle.std.proofs.lemmas.List.{get_or_past, get_or_default}
 use Rattle.std.proofs.lemmas.Nat.{shr-shr}
 use Rattle.jbig2_base.specs.Grid.{Grid, pixel, pixel_at, bit_number}
-use Rattle.jbig2_base.specs.WordBits.{bit}
-use Rattle.jbig2_base.specs.Writes.{with_pixel, with_pixels}
+use Rattle.jbig2_base.specs.inner.WordBits.{bit}
+use Rattle.jbig2_base.specs.inner.Writes.{with_pixel, with_pixels}
 use Rattle.jbig2_base.proofs.BitLemmas.{bit-mod, bit-zero, bit_number-bit}
 use Rattle.jbig2_base.proofs.GridLemmas.{grid_of-ext, pixel_at-grid_of, pixel_at-right, pixel_at-below, table-at}
 use Rattle.jbig2_base.proofs.WriteLemmas.{in_field, before_field, behind_field, other_row}
 use Rattle.jbig2_coder.specs.Coder.{Coder, Context, decision, fresh}
 use Rattle.jbig2_region.specs.Generic.{context_at}
-use Rattle.jbig2_region.specs.Holds.{Holds}
-use Rattle.jbig2_region.specs.Neighbours.{Decodes, IsLeft, row_coding}
+use Rattle.jbig2_region.specs.inner.Holds.{Holds}
+use Rattle.jbig2_region.specs.inner.Neighbours.{Decodes, IsLeft, row_coding}
 use Rattle.jbig2_region.specs.Raster.{Region, so_far, after_pixels}
 use Rattle.jbig2_region.specs.declared.template.AdaptiveTemplatePixel.{AdaptiveTemplatePixel}
 use Rattle.jbig2_region.proofs.RasterLemmas.{Holds-known, Holds-decided, after_pixels-length, after_pixels-predicted, after_pixels-one, after_pixels-none, after_pixels-add}

@@ -3,10 +3,10 @@ use Rattle.std.proofs.Common.{pos, negsuc, ℤ, ◌+ℤ◌, ◌-ℤ◌, ◌≡�
 use Rattle.std.proofs.lemmas.Bool.{cases_lt}
 use Rattle.std.proofs.lemmas.Int.{ints}
 use Rattle.jbig2_base.specs.Grid.{Grid, pixel, pixel_at}
-use Rattle.jbig2_base.specs.WordBits.{bit}
+use Rattle.jbig2_base.specs.inner.WordBits.{bit}
 use Rattle.jbig2_base.proofs.BitLemmas.{bit-above, bit-zero}
 use Rattle.jbig2_region.specs.Generic.{context_at}
-use Rattle.jbig2_region.specs.Neighbours.{left_pixels, stretch_pixels, nominal_pixels, mixed_pixels, IsNear, IsWindow, Shows, IsLeft, stretch_bits}
+use Rattle.jbig2_region.specs.inner.Neighbours.{left_pixels, stretch_pixels, nominal_pixels, mixed_pixels, IsNear, IsWindow, Shows, IsLeft, stretch_bits}
 use Rattle.jbig2_region.specs.declared.generic_kernel.neighbours.Adaptives.{Adaptives}
 use Rattle.jbig2_region.specs.declared.generic_kernel.neighbours.Neighbours.{Neighbours}
 use Rattle.jbig2_region.specs.declared.generic_kernel.neighbours.Stretch.{Stretch}

@@ -7,7 +7,7 @@ use Rattle.jbig2_base.specs.declared.error.DecodeError.{DecodeError}
 use Rattle.jbig2_coder.specs.Coder.{Context, started}
 use Rattle.jbig2_region.specs.GenericHeader.{GenericHeader}
 use Rattle.jbig2_region.specs.Raster.{Coding, Region, so_far, decoded, no_pixels, fresh_contexts}
-use Rattle.jbig2_region.specs.T6.{decoded as mmr_rows}
+use Rattle.jbig2_mmr.specs.T6.{decoded as mmr_rows}
 use Rattle.jbig2_region.specs.Templates.{context_bits, row_context, template_pixels}
 use Rattle.jbig2_region.specs.declared.generic.DecodedRegion.{DecodedRegion}
 use Rattle.jbig2_region.specs.declared.template.AdaptiveTemplatePixel.{AdaptiveTemplatePixel}

@@ -4,8 +4,8 @@ use Rattle.jbig2_base.specs.Counts.{Counts}
 use Rattle.jbig2_base.specs.Grid.{Grid, bit_number}
 use Rattle.jbig2_coder.specs.Coder.{Coder, Context, fresh, all_quiet}
 use Rattle.jbig2_region.specs.Generic.{context_at, number_of}
-use Rattle.jbig2_region.specs.Holds.{Holds}
-use Rattle.jbig2_region.specs.Neighbours.{row_coding}
+use Rattle.jbig2_region.specs.inner.Holds.{Holds}
+use Rattle.jbig2_region.specs.inner.Neighbours.{row_coding}
 use Rattle.jbig2_region.specs.Raster.{Coding, Region, so_far, after_pixels, row_begun, row_decisions, after_rows}
 use Rattle.jbig2_region.specs.declared.template.AdaptiveTemplatePixel.{AdaptiveTemplatePixel}
 

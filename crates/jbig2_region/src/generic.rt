@@ -4,11 +4,11 @@ ghost use Rattle.jbig2_base.specs.Answer.{Answers, Gives, Leaves};
 ghost use Rattle.jbig2_base.specs.Bits.{IsAligned};
 ghost use Rattle.jbig2_base.specs.Grid.{blank};
 ghost use Rattle.jbig2_region.specs.Generic.{contexts_after, generic_answer, generic_decoded, region_view};
-ghost use Rattle.jbig2_region.specs.Layouts.{CountsGeneric};
+ghost use Rattle.jbig2_region.specs.inner.Layouts.{CountsGeneric};
 ghost use Rattle.jbig2_region.specs.GenericHeader.{header_view, is_earlier, first_alone, signed_byte_at, adaptive_pixel_at, adaptive_pixels_at, regular_pixels_at, template_pixels_at, rows_at, generic_header_at, FitsTemplate, IsParsed};
 
 pub use crate::generic_coding::decode_coded;
-use crate::mmr;
+use jbig2_mmr::mmr;
 use crate::raster::fresh_contexts;
 use crate::region_info::{RegionSegmentInfo, parse_region_segment_info};
 use crate::template::{AdaptiveTemplatePixel, GenericTemplatePixels, Template};

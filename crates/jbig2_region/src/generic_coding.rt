@@ -2,10 +2,10 @@
 ghost use Rattle.std.specs.Prelude.{◌≡◌, ◌+◌, ◌*◌, ◌^◌, ◌<◌, ◌≤◌, length, pos, ◌+ℤ◌, false, if◌then◌else◌, Some, None, IfSome};
 ghost use Rattle.jbig2_base.specs.Grid.{blank, pixel, bit_number};
 ghost use Rattle.jbig2_region.specs.GenericHeader.{FitsTemplate};
-ghost use Rattle.jbig2_region.specs.Holds.{DecodesRegion};
+ghost use Rattle.jbig2_region.specs.inner.Holds.{DecodesRegion};
 ghost use Rattle.jbig2_region.specs.Raster.{no_pixels};
 ghost use Rattle.jbig2_region.specs.Generic.{context_at, colour_above, coding_of};
-ghost use Rattle.jbig2_region.specs.Layouts.{CountsCoded, is_nominal, read_pixels};
+ghost use Rattle.jbig2_region.specs.inner.Layouts.{CountsCoded, is_nominal, read_pixels};
 ghost use Rattle.jbig2_region.specs.RunBytes.{CountsRegion};
 ghost use Rattle.jbig2_region.specs.Templates.{extended_template_0, row_context, context_bits, template_pixels};
 ghost use Rattle.jbig2_region.specs.declared.template.GenericTemplatePixels.TheVariants.{Regular};

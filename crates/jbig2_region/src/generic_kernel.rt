@@ -2,10 +2,10 @@
 //! rows above, and by whole bytes where the adaptive pixels are nominal.
 ghost use Rattle.std.specs.Prelude.{◌≡◌, ℕ, ◌+◌, ◌-◌, ◌*◌, ◌/◌, ◌^◌, ◌<◌, ◌≤◌, false, true, length, pos, negsuc, ◌+ℤ◌, List, IfSome, if◌then◌else◌};
 ghost use Rattle.jbig2_base.specs.Grid.{blank, pixel};
-ghost use Rattle.jbig2_base.specs.WordBits.{bit};
+ghost use Rattle.jbig2_base.specs.inner.WordBits.{bit};
 ghost use Rattle.jbig2_coder.specs.Coder.{Coder, Context};
-ghost use Rattle.jbig2_region.specs.Holds.{DecodesRegion};
-ghost use Rattle.jbig2_region.specs.Neighbours.{Decodes, IsLayout, is_nominal_layout, layout_coding, layout_count, layout_loads, layout_pixels};
+ghost use Rattle.jbig2_region.specs.inner.Holds.{DecodesRegion};
+ghost use Rattle.jbig2_region.specs.inner.Neighbours.{Decodes, IsLayout, is_nominal_layout, layout_coding, layout_count, layout_loads, layout_pixels};
 ghost use Rattle.jbig2_region.specs.Raster.{decoded, no_pixels};
 ghost use Rattle.jbig2_region.specs.RunBytes.{CountsRegion, CountsRow, row_loads, row_tests, row_words};
 ghost use Rattle.jbig2_region.specs.declared.template.AdaptiveTemplatePixel.{AdaptiveTemplatePixel};

@@ -5,7 +5,7 @@ ghost use Rattle.jbig2_base.specs.Bits.{IsAligned};
 ghost use Rattle.jbig2_base.specs.Grid.{blank};
 ghost use Rattle.jbig2_region.specs.Generic.{region_view};
 ghost use Rattle.jbig2_region.specs.Refinement.{is_far, is_smaller, offset, refined_answer, refined_contexts, refined_decoded, refinement_bits, refinement_coding};
-ghost use Rattle.jbig2_region.specs.RefinementViews.{reference_view};
+ghost use Rattle.jbig2_region.specs.inner.RefinementViews.{reference_view};
 ghost use Rattle.jbig2_region.specs.RefinementHeader.{IsRefinement, free_pixel_at, header_view, refinement_header_at, refinement_pixels_at};
 
 use crate::generic::{DecodedRegion, signed_field};

@@ -1,11 +1,10 @@
-//! Regions of JBIG2 (ITU-T T.88, 6.2, 6.3, 7.4.1, 7.4.6 and 7.4.7), and MMR data (ITU-T T.6).
+//! Regions of JBIG2 (ITU-T T.88, 6.2, 6.3, 7.4.1, 7.4.6 and 7.4.7).
 #![tactic(auto)]
 
 pub mod generic;
 mod generic_coding;
 mod generic_kernel;
 pub mod generic_refinement;
-pub mod mmr;
 pub mod raster;
 mod refinement_coding;
 pub mod region_info;

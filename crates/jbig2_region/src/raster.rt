@@ -4,7 +4,7 @@ ghost use Rattle.std.specs.Prelude.{◌≡◌, ℕ, ◌+◌, ◌*◌, ◌^◌, �
 ghost use Rattle.jbig2_base.specs.Answer.{Gives};
 ghost use Rattle.jbig2_base.specs.Grid.{Grid, blank, pixel, bit_number};
 ghost use Rattle.jbig2_region.specs.Raster.{Coding, Region, after_pixel, after_pixels, row_decisions, decoded, fresh_contexts};
-ghost use Rattle.jbig2_region.specs.Holds.{Holds, BeginsRow, DecodesRegion, GoesOn};
+ghost use Rattle.jbig2_region.specs.inner.Holds.{Holds, BeginsRow, DecodesRegion, GoesOn};
 
 use jbig2_base::bitmap::Bitmap;
 use jbig2_base::bitmap::steps::Steps;

@@ -2,9 +2,9 @@
 ghost use Rattle.std.specs.Prelude.{◌≡◌, ◌+◌, ◌^◌, ◌<◌, ◌≤◌, ◌++◌, Bool, List, [], length, map, pos, ◌+ℤ◌, ◌-ℤ◌, ◌<ℤ◌, false};
 ghost use Rattle.jbig2_base.specs.Grid.{blank, pixel, bit_number};
 ghost use Rattle.jbig2_region.specs.Generic.{number_of};
-ghost use Rattle.jbig2_region.specs.Holds.{DecodesRegion};
+ghost use Rattle.jbig2_region.specs.inner.Holds.{DecodesRegion};
 ghost use Rattle.jbig2_region.specs.declared.template.RefinementTemplate.TheVariants.{Template0, Template1};
-ghost use Rattle.jbig2_region.specs.RefinementViews.{reference_view};
+ghost use Rattle.jbig2_region.specs.inner.RefinementViews.{reference_view};
 ghost use Rattle.jbig2_region.specs.Refinement.{nine, predicted_colour, common_colour, reference_pixel, reference_pixels, refined_context, refinement_bits, refinement_coding, refinement_row_context, region_pixels};
 
 use crate::generic_coding::{context_at, pixel};
@@ -204,7 +204,7 @@ impl<B: Allocator> RefinementCoding<'_, B> {
 impl<B: Allocator> PixelCoding for RefinementCoding<'_, B> {
     ghost use Rattle.std.specs.Prelude.{if◌then◌else◌, Some, None};
     ghost use Rattle.jbig2_region.specs.Refinement.{predicted_colour, refined_context, refinement_bits, refinement_row_context};
-    ghost use Rattle.jbig2_region.specs.RefinementViews.{reference_view};
+    ghost use Rattle.jbig2_region.specs.inner.RefinementViews.{reference_view};
 
     ghost coding = { λ c. record { context = refined_context (reference_view c.reference.now) c.in_reference.now c.in_region.now; known = λ predicted g x y. predicted_colour (reference_view c.reference.now) predicted x y; row_context = if c.typical then Some (refinement_row_context c.template) else None } };
 

@@ -1,7 +1,7 @@
 //! Generic regions of which pixels are skipped (T.88, 6.2.5.7), as the planes of a gray-scale image.
 ghost use Rattle.std.specs.Prelude.{◌≡◌, ◌^◌, ◌<◌, ◌≤◌, length, false};
 ghost use Rattle.jbig2_base.specs.Grid.{blank};
-ghost use Rattle.jbig2_region.specs.Holds.{DecodesRegion};
+ghost use Rattle.jbig2_region.specs.inner.Holds.{DecodesRegion};
 ghost use Rattle.jbig2_region.specs.Skipping.{white_if_skipped, skipping_coding, skip_of};
 ghost use Rattle.jbig2_region.specs.Templates.{context_bits, template_0, template_1, template_2, template_3, template_pixels};
 ghost use Rattle.jbig2_region.specs.declared.template.GenericTemplatePixels.TheVariants.{Regular};

@@ -12,7 +12,7 @@ use Rattle.jbig2_base.specs.declared.error.DecodeError.{DecodeError}
 use Rattle.jbig2_base.specs.declared.error.DecodeError.TheVariants.{OutOfMemory, Overflow}
 use Rattle.jbig2_base.specs.declared.error.OverflowError.TheVariants.{BitmapDimension}
 use Rattle.jbig2_base.proofs.GridLemmas.{grid_of-ext}
-use Rattle.jbig2_symbol.specs.Filled.{filled}
+use Rattle.jbig2_symbol.specs.inner.Filled.{filled}
 use Rattle.jbig2_symbol.specs.SymbolBitmaps.{put_behind, raw_pixel, raw_rows, raw_stride, symbol_cut, symbols_cut}
 use Rattle.jbig2_symbol.proofs.FillLemmas.{all-filled}
 

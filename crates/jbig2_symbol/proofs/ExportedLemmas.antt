@@ -6,7 +6,7 @@ use Rattle.std.proofs.lemmas.List.{append-nil, get_or-append-add, get_or-drop, g
 use Rattle.std.proofs.Math.ListN.{get_or-append}
 use Rattle.std.proofs.lemmas.List.{get_or_read}
 use Rattle.std.specs.Borrow.{Bor}
-use Rattle.jbig2_symbol.specs.SymbolViews.{all_symbols}
+use Rattle.jbig2_symbol.specs.inner.SymbolViews.{all_symbols}
 use Rattle.std.proofs.lemmas.List.Sums.{sum_by-append, sum_by-cons, sum_by-take-le}
 use Rattle.std.proofs.Math.Seq.{take-add}
 use Rattle.jbig2_base.specs.Grid.{Grid, blank}

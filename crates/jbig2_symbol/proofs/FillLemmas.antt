@@ -2,10 +2,10 @@
 use Rattle.std.proofs.Common.{◌≡◌, ℕ, ◌+◌, ◌-◌, ◌*◌, ◌/◌, ◌%◌, ◌^◌, min, get_or, ◌<◌, ◌≤◌, Bool, List, Ok, true, false, ◌&&◌, ◌||◌, cond, eqb, ltb, leb, refl, sym, ap, ◌∙◌, ⊎_elim, arith}
 use Rattle.std.proofs.lemmas.Bool.{cases_lt, cond-true, cond-false, and_from, and_left, and_right, or_from, or_left, or_right, lt-ltb, le-ltb, eq-eqb, ne_eqb}
 use Rattle.jbig2_base.specs.Grid.{Grid, grid_of, blank, pixel_at}
-use Rattle.jbig2_base.specs.WordBits.{bit}
-use Rattle.jbig2_base.specs.Writes.{with_pixels}
+use Rattle.jbig2_base.specs.inner.WordBits.{bit}
+use Rattle.jbig2_base.specs.inner.Writes.{with_pixels}
 use Rattle.jbig2_symbol.specs.SymbolBitmaps.{fits_symbol, raw_pixel, raw_stride, symbol_cut}
-use Rattle.jbig2_symbol.specs.Filled.{is_before, filled}
+use Rattle.jbig2_symbol.specs.inner.Filled.{is_before, filled}
 use Rattle.std.specs.Prelude.{nat_lt}
 use Rattle.jbig2_base.specs.Answer.{◌>>=◌, refuse_if}
 use Rattle.jbig2_base.specs.Sizes.{blank_or_overflow}

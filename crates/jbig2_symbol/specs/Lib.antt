@@ -1,14 +1,6 @@
-pub mod BitFields
 pub mod Exports
-pub mod Filled
 pub mod SymbolBitmaps
-pub mod SymbolCodes
 pub mod SymbolHeader
 pub mod SymbolReading
-pub mod SymbolViews
 pub mod Symbols
-pub mod Text
-pub mod TextCoding
-pub mod TextHeader
-pub mod TextRegion
-pub mod TextViews
+pub mod inner

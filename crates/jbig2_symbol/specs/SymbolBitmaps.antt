@@ -4,7 +4,7 @@ use Rattle.jbig2_base.specs.Answer.{◌>>=◌, refuse_if}
 use Rattle.jbig2_base.specs.Bits.{aligned, start_of}
 use Rattle.jbig2_base.specs.Fields.{bytes_at}
 use Rattle.jbig2_base.specs.Grid.{Grid, grid_of, pixel_at}
-use Rattle.jbig2_base.specs.WordBits.{bit}
+use Rattle.jbig2_base.specs.inner.WordBits.{bit}
 use Rattle.jbig2_base.specs.Sizes.{wide_or_overflow}
 use Rattle.jbig2_base.specs.declared.error.DecodeError.{DecodeError}
 use Rattle.jbig2_base.specs.declared.error.DecodeError.TheVariants.{Huffman, Overflow}
@@ -12,7 +12,7 @@ use Rattle.jbig2_base.specs.declared.error.HuffmanError.TheVariants.{UnexpectedO
 use Rattle.jbig2_base.specs.declared.error.OverflowError.TheVariants.{BitmapDimension}
 use Rattle.jbig2_region.specs.Generic.{coding_of}
 use Rattle.jbig2_region.specs.Raster.{Coding, Region, so_far, decoded, no_pixels}
-use Rattle.jbig2_region.specs.T6.{decoded as mmr_rows}
+use Rattle.jbig2_mmr.specs.T6.{decoded as mmr_rows}
 use Rattle.jbig2_region.specs.Templates.{template_pixels}
 use Rattle.jbig2_region.specs.declared.template.GenericTemplatePixels.TheVariants.{Regular}
 use Rattle.jbig2_symbol.specs.SymbolHeader.{SymbolHeader}

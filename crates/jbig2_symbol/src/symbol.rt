@@ -3,7 +3,7 @@ ghost use Rattle.std.specs.Prelude.{◌≡◌, ◌≤◌, length, map};
 ghost use Rattle.jbig2_base.specs.Answer.{Gives};
 ghost use Rattle.jbig2_symbol.specs.SymbolHeader.{header_view};
 ghost use Rattle.jbig2_symbol.specs.SymbolReading.{contexts_view, first_state};
-ghost use Rattle.jbig2_symbol.specs.SymbolViews.{dictionary_view, input_view, kept_view, referred_view};
+ghost use Rattle.jbig2_symbol.specs.inner.SymbolViews.{dictionary_view, input_view, kept_view, referred_view};
 ghost use Rattle.jbig2_symbol.specs.Symbols.{dictionary_at, symbols_at};
 
 pub mod bitmaps;

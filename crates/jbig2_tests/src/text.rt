@@ -9,7 +9,7 @@ use jbig2_base::bitmap::steps::Steps;
 use jbig2_base::error::{DecodeError, ParseError, Result};
 use jbig2_base::reader::Reader;
 use jbig2_coder::huffman_table::StandardHuffmanTables;
-use jbig2_symbol::text::{decode, parse};
+use jbig2_text::text::{decode, parse};
 use std::alloc::{Allocator, Global};
 use std::marker::Brand;
 use std::sync::ledger::{Blank, Ledger};

@@ -1,10 +1,10 @@
 //! One bitmap combined with another, word by word (T.88, 7.4.1.5).
 ghost use Rattle.std.specs.Prelude.{◌≡◌, ℕ, ◌+◌, ◌-◌, ◌*◌, ◌/◌, ◌^◌, ◌<◌, ◌≤◌, min, pos, ◌-ℤ◌};
-ghost use Rattle.jbig2_base.specs.Blocks.{with_block};
+ghost use Rattle.jbig2_base.specs.inner.Blocks.{with_block};
 ghost use Rattle.jbig2_base.specs.Combination.{combined, overlap, most_words, WritesWithin};
 ghost use Rattle.jbig2_base.specs.Operator.{combined_pixel};
-ghost use Rattle.jbig2_base.specs.Table.{IsTable};
-ghost use Rattle.jbig2_base.specs.WordBits.{bit};
+ghost use Rattle.jbig2_base.specs.inner.Table.{IsTable};
+ghost use Rattle.jbig2_base.specs.inner.WordBits.{bit};
 
 use crate::bitmap::Bitmap;
 use crate::bitmap::operator::CombinationOperator;

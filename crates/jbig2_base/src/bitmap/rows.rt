@@ -2,10 +2,10 @@
 ghost use Rattle.std.specs.Prelude.{◌≡◌, ℕ, ◌+◌, ◌-◌, ◌*◌, ◌/◌, ◌^◌, ◌<◌, ◌≤◌, OnErr, Ok, true, false, length, slice_index};
 ghost use Rattle.jbig2_base.specs.Answer.{Gives};
 ghost use Rattle.jbig2_base.specs.Grid.{blank, pixel_at, bit_number};
-ghost use Rattle.jbig2_base.specs.Packed.{blank_word};
-ghost use Rattle.jbig2_base.specs.Table.{IsTable};
-ghost use Rattle.jbig2_base.specs.WordBits.{bit, field_bit};
-ghost use Rattle.jbig2_base.specs.Writes.{with_pixel, with_pixels};
+ghost use Rattle.jbig2_base.specs.inner.Packed.{blank_word};
+ghost use Rattle.jbig2_base.specs.inner.Table.{IsTable};
+ghost use Rattle.jbig2_base.specs.inner.WordBits.{bit, field_bit};
+ghost use Rattle.jbig2_base.specs.inner.Writes.{with_pixel, with_pixels};
 
 use crate::bitmap::steps::Steps;
 use crate::error::Result;
@@ -26,7 +26,7 @@ pub struct PackedRows<A: Allocator> {
 
 impl<A: Allocator> Model for PackedRows<A> {
     ghost use Rattle.jbig2_base.specs.Grid.{Grid, grid_of};
-    ghost use Rattle.jbig2_base.specs.Packed.{IsPacked, packed_pixel};
+    ghost use Rattle.jbig2_base.specs.inner.Packed.{IsPacked, packed_pixel};
 
     ghost Value = { Grid };
 

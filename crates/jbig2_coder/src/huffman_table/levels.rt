@@ -2,7 +2,7 @@
 ghost use Rattle.std.specs.Prelude.{◌≡◌, ◌++◌, drop, OnOk, IfErr, IfOk, ◌≤◌};
 ghost use Rattle.jbig2_base.specs.Bits.{bits_left, bits_on};
 ghost use Rattle.jbig2_coder.specs.PrefixCode.{longest, level, AreShort};
-ghost use Rattle.jbig2_coder.specs.PrefixLevels.{groups_of, walk, AreLevels};
+ghost use Rattle.jbig2_coder.specs.inner.PrefixLevels.{groups_of, walk, AreLevels};
 
 use super::line::TableLine;
 use jbig2_base::error::{DecodeError, HuffmanError, ParseError, Result};

@@ -5,7 +5,7 @@ ghost use Rattle.std.specs.Bool.{OnFalse};
 ghost use Rattle.jbig2_base.specs.Answer.{Gives};
 ghost use Rattle.jbig2_base.specs.declared.error.DecodeError.TheVariants.{OutOfMemory};
 ghost use Rattle.jbig2_coder.specs.Encoder.{opened, plain, stuffed, byte_out, shifted, renormed, narrowed, encoding, set_bits, flushed, is_full, closed};
-ghost use Rattle.jbig2_coder.specs.EncoderViews.{writer_of, coding_of, HasRoom};
+ghost use Rattle.jbig2_coder.specs.inner.EncoderViews.{writer_of, coding_of, HasRoom};
 
 use crate::arithmetic_decoder::ArithmeticDecoderContext;
 use crate::arithmetic_decoder::qe_table::row_at;
@@ -221,7 +221,7 @@ pub struct ArithmeticEncoder<A: Allocator> {
 
 impl<A: Allocator> Model for ArithmeticEncoder<A> {
     ghost use Rattle.jbig2_coder.specs.Encoder.{Coding};
-    ghost use Rattle.jbig2_coder.specs.EncoderViews.{coding_of, IsAtRest};
+    ghost use Rattle.jbig2_coder.specs.inner.EncoderViews.{coding_of, IsAtRest};
 
     ghost Value = { Coding };
 

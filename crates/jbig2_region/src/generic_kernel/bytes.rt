@@ -3,8 +3,8 @@ ghost use Rattle.std.specs.Prelude.{◌≡◌, ℕ, ◌+◌, ◌-◌, ◌*◌, �
 ghost use Rattle.jbig2_base.specs.Grid.{Grid};
 ghost use Rattle.jbig2_coder.specs.Coder.{fresh};
 ghost use Rattle.jbig2_coder.specs.Table.{row_of};
-ghost use Rattle.jbig2_region.specs.Holds.{Holds};
-ghost use Rattle.jbig2_region.specs.Neighbours.{Decodes, IsLeft, IsNear, Shows, is_field, neighbour_count, neighbours_stay, nominal_pixels, stretch_stays};
+ghost use Rattle.jbig2_region.specs.inner.Holds.{Holds};
+ghost use Rattle.jbig2_region.specs.inner.Neighbours.{Decodes, IsLeft, IsNear, Shows, is_field, neighbour_count, neighbours_stay, nominal_pixels, stretch_stays};
 ghost use Rattle.jbig2_region.specs.Raster.{Region};
 ghost use Rattle.jbig2_region.specs.RunBytes.{CountsRuns, all_of, is_run_of, same_colour};
 

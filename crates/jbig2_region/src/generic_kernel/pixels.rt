@@ -1,7 +1,7 @@
 //! Rows of a template with adaptive pixels, which are read one by one.
 ghost use Rattle.std.specs.Prelude.{◌≡◌, ℕ, ◌+◌, ◌-◌, ◌*◌, ◌/◌, ◌%◌, ◌^◌, ◌<◌, ◌≤◌, false, length};
 ghost use Rattle.jbig2_region.specs.Generic.{context_at};
-ghost use Rattle.jbig2_region.specs.Neighbours.{Decodes, IsLeft, IsMixed, Shows, adaptive_count, mixed_count, mixed_pixels};
+ghost use Rattle.jbig2_region.specs.inner.Neighbours.{Decodes, IsLeft, IsMixed, Shows, adaptive_count, mixed_count, mixed_pixels};
 
 use crate::generic_coding::context_at;
 use crate::generic_kernel::neighbours::{Adaptives, Neighbours, joined};

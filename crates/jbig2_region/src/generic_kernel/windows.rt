@@ -1,6 +1,6 @@
 //! Windows on the rows above: 64 pixels of each, of which one load serves many contexts.
 ghost use Rattle.std.specs.Prelude.{◌≡◌, ℕ, ◌+◌, ◌-◌, ◌*◌, ◌/◌, ◌%◌, ◌^◌, ◌<◌, ◌≤◌, pos, ◌-ℤ◌};
-ghost use Rattle.jbig2_region.specs.Neighbours.{IsNear, IsWindow, Shows, neighbour_count, stretch_bits};
+ghost use Rattle.jbig2_region.specs.inner.Neighbours.{IsNear, IsWindow, Shows, neighbour_count, stretch_bits};
 
 use crate::generic_kernel::neighbours::{Neighbours, Stretch, joined};
 use jbig2_base::bitmap::Bitmap;

@@ -4,7 +4,7 @@ ghost use Rattle.std.specs.Prelude.{◌≡◌, ◌+◌, ◌*◌, ◌<◌, ◌≤
 ghost use Rattle.jbig2_base.specs.Answer.{Gives};
 ghost use Rattle.jbig2_base.specs.Bits.{IsAligned};
 ghost use Rattle.jbig2_base.specs.Grid.{pixel_at};
-ghost use Rattle.jbig2_symbol.specs.Filled.{filled};
+ghost use Rattle.jbig2_symbol.specs.inner.Filled.{filled};
 ghost use Rattle.jbig2_symbol.specs.SymbolBitmaps.{symbol_cut, symbols_cut, put_behind, raw_pixel, raw_stride, raw_rows, mmr_bytes, rows_of_size};
 
 use jbig2_base::bitmap::Bitmap;
@@ -12,7 +12,7 @@ use jbig2_base::bitmap::steps::Steps;
 use jbig2_base::error::Result;
 use jbig2_base::field::bytes_field;
 use jbig2_base::reader::Reader;
-use jbig2_region::mmr;
+use jbig2_mmr::mmr;
 use std::alloc::Allocator;
 use std::sync::ledger::Ledger;
 

@@ -2,7 +2,7 @@
 ghost use Rattle.std.specs.Prelude.{◌≡◌, ◌-◌, ◌≤◌, length};
 ghost use Rattle.jbig2_base.specs.Answer.{Answers, Gives};
 ghost use Rattle.jbig2_symbol.specs.Symbols.{class_ended, class_from, class_of_height, classes_from, height_class, new_symbols, size_in_word, bitmaps_with, with_symbol};
-ghost use Rattle.jbig2_symbol.specs.SymbolViews.{class_view, input_view, new_view};
+ghost use Rattle.jbig2_symbol.specs.inner.SymbolViews.{class_view, input_view, new_view};
 
 use crate::symbol::bitmaps::cut_symbols;
 use crate::symbol::height_class::{HeightClass, NewSymbols};

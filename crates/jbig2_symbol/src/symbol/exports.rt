@@ -3,7 +3,7 @@ ghost use Rattle.std.specs.Prelude.{◌≡◌, ◌+◌, ◌<◌, ◌≤◌, ◌+
 ghost use Rattle.jbig2_base.specs.Answer.{Answers, Gives};
 ghost use Rattle.jbig2_base.specs.Grid.{blank};
 ghost use Rattle.jbig2_symbol.specs.Exports.{export_runs, exported, exports, next_run};
-ghost use Rattle.jbig2_symbol.specs.SymbolViews.{all_symbols, input_view};
+ghost use Rattle.jbig2_symbol.specs.inner.SymbolViews.{all_symbols, input_view};
 
 use crate::symbol::reading::{SymbolInput, SymbolReader};
 use jbig2_base::bitmap::Bitmap;

@@ -4,7 +4,7 @@ ghost use Rattle.jbig2_base.specs.Answer.{Answers, Gives};
 ghost use Rattle.jbig2_symbol.specs.SymbolBitmaps.{coded_symbol, collective_bitmap};
 ghost use Rattle.jbig2_symbol.specs.SymbolHeader.{header_view};
 ghost use Rattle.jbig2_symbol.specs.SymbolReading.{contexts_view, export_run, first_state, height_difference, width_difference};
-ghost use Rattle.jbig2_symbol.specs.SymbolViews.{input_view};
+ghost use Rattle.jbig2_symbol.specs.inner.SymbolViews.{input_view};
 
 use crate::symbol::bitmaps::read_rows;
 use crate::symbol::dictionary::RetainedContexts;

@@ -3,7 +3,7 @@ ghost use Rattle.std.specs.Prelude.{◌≡◌, ◌+◌, ◌<◌, length};
 ghost use Rattle.jbig2_base.specs.Answer.{Answers};
 ghost use Rattle.jbig2_base.specs.Grid.{bit_number};
 ghost use Rattle.jbig2_symbol.specs.SymbolReading.{is_custom, symbol_tables, table_for};
-ghost use Rattle.jbig2_symbol.specs.SymbolViews.{referred_view, tables_view};
+ghost use Rattle.jbig2_symbol.specs.inner.SymbolViews.{referred_view, tables_view};
 
 use crate::symbol::header::{HuffmanTableSelection, SymbolDictionaryFlags};
 use crate::symbol::reading::SymbolTables;

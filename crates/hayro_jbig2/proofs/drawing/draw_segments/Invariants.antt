@@ -1,7 +1,7 @@
 use Rattle.std.proofs.Common.{◌≡◌, drop}
-use Rattle.jbig2_base.specs.SegmentViews.{parts}
+use Rattle.jbig2_base.specs.inner.SegmentViews.{parts}
 use Rattle.hayro_jbig2.specs.Page.{drawn}
-use Rattle.hayro_jbig2.specs.PageViews.{given_names}
+use Rattle.hayro_jbig2.specs.inner.PageViews.{given_names}
 use Rattle.hayro_jbig2.proofs.drawing.draw_segments.Given as goal
 
 abbrev pub invariant-loop-segment : goal.invariant-loop-segment

@@ -1,5 +1,5 @@
 use Rattle.std.proofs.Common.{◌≡◌, drop}
-use Rattle.jbig2_base.specs.SegmentViews.{parts}
+use Rattle.jbig2_base.specs.inner.SegmentViews.{parts}
 use Rattle.hayro_jbig2.specs.Files.{associated}
 use Rattle.hayro_jbig2.proofs.file.check_associations.Given as goal
 

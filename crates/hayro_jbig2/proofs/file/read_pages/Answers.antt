@@ -1,9 +1,9 @@
 use Rattle.std.proofs.Common.{◌≡◌, List, ◌∙◌, ap, arith, inl, inr, ⊎_elim, length, sym}
 use Rattle.std.specs.Vec.Iter.{into_iter_items}
-use Rattle.jbig2_base.specs.SegmentViews.{parts}
+use Rattle.jbig2_base.specs.inner.SegmentViews.{parts}
 use Rattle.jbig2_base.specs.declared.error.DecodeError.TheVariants.{OutOfMemory}
 use Rattle.hayro_jbig2.proofs.Books.{pages-begin, with_pages, page-made, page-refused}
-use Rattle.hayro_jbig2.specs.ByPages.{pages_view}
+use Rattle.hayro_jbig2.specs.inner.ByPages.{pages_view}
 use Rattle.hayro_jbig2.specs.Files.{Filed, filed_each}
 use Rattle.hayro_jbig2.proofs.file.read_pages.Goals as goal
 

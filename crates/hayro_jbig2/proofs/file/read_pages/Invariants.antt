@@ -1,7 +1,7 @@
 use Rattle.std.proofs.Common.{◌≡◌, length}
 use Rattle.std.specs.Vec.Iter.{into_iter_items, into_iter_len}
 use Rattle.hayro_jbig2.proofs.Books.{with_pages}
-use Rattle.hayro_jbig2.specs.ByPages.{pages_view}
+use Rattle.hayro_jbig2.specs.inner.ByPages.{pages_view}
 use Rattle.hayro_jbig2.specs.Files.{filed_each}
 use Rattle.hayro_jbig2.proofs.file.read_pages.Given as goal
 

@@ -1,5 +1,5 @@
 use Rattle.std.proofs.Common.{◌≡◌, drop}
-use Rattle.hayro_jbig2.specs.PageViews.{given_names}
+use Rattle.hayro_jbig2.specs.inner.PageViews.{given_names}
 use Rattle.hayro_jbig2.specs.SymbolNames.{with_numbers, referred_by}
 use Rattle.hayro_jbig2.proofs.referred.gather_referred.Given as goal
 

@@ -6,7 +6,7 @@ use Rattle.jbig2_region.specs.Generic.{region_view}
 use Rattle.jbig2_region.specs.Refinement.{refined_decoded}
 use Rattle.jbig2_region.specs.RefinementHeader.{header_view}
 use Rattle.hayro_jbig2.specs.Page.{Drawing, page_area}
-use Rattle.hayro_jbig2.specs.PageViews.{near_area}
+use Rattle.hayro_jbig2.specs.inner.PageViews.{near_area}
 use Rattle.hayro_jbig2.proofs.PageArea.{area-near, area-far}
 use Rattle.hayro_jbig2.proofs.refinement.refine_page.Goals as goal
 

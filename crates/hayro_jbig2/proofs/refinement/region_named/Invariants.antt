@@ -1,6 +1,6 @@
 use Rattle.std.proofs.Common.{◌≡◌, drop}
 use Rattle.hayro_jbig2.specs.Page.{region_named}
-use Rattle.hayro_jbig2.specs.PageViews.{stored_regions}
+use Rattle.hayro_jbig2.specs.inner.PageViews.{stored_regions}
 use Rattle.hayro_jbig2.proofs.refinement.region_named.Given as goal
 
 abbrev pub invariant-loop-stored : goal.invariant-loop-stored

@@ -3,7 +3,7 @@ use Rattle.std.proofs.lemmas.List.{map_push, nil_from_length}
 use Rattle.std.specs.Vec.Iter.{into_iter_items}
 use Rattle.jbig2_base.specs.File.{gathered}
 use Rattle.jbig2_base.specs.Segment.{Part}
-use Rattle.jbig2_base.specs.SegmentViews.{header_views, header_view, parts, part_view}
+use Rattle.jbig2_base.specs.inner.SegmentViews.{header_views, header_view, parts, part_view}
 use Rattle.jbig2_base.specs.declared.segment.Segment.{Segment}
 use Rattle.jbig2_base.specs.declared.segment.SegmentHeader.{SegmentHeader}
 use Rattle.jbig2_base.proofs.RandomAccess.{gathers_one, gathers_none, gathers_all}

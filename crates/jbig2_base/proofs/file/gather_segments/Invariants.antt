@@ -1,7 +1,7 @@
 use Rattle.std.proofs.Common.{◌≡◌, length}
 use Rattle.std.specs.Vec.Iter.{into_iter_items, into_iter_len}
 use Rattle.jbig2_base.specs.File.{gathered}
-use Rattle.jbig2_base.specs.SegmentViews.{header_views, parts}
+use Rattle.jbig2_base.specs.inner.SegmentViews.{header_views, parts}
 use Rattle.jbig2_base.proofs.Sequential.{with_front}
 use Rattle.jbig2_base.proofs.file.gather_segments.Given as goal
 

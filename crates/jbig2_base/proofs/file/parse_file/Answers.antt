@@ -1,7 +1,7 @@
 use Rattle.std.proofs.Common.{List, Result, subst}
 use Rattle.jbig2_base.specs.Answer.{Gives}
 use Rattle.jbig2_base.specs.Segment.{Part}
-use Rattle.jbig2_base.specs.SegmentViews.{file_view}
+use Rattle.jbig2_base.specs.inner.SegmentViews.{file_view}
 use Rattle.jbig2_base.specs.declared.error.DecodeError.{DecodeError}
 use Rattle.jbig2_base.specs.declared.file_header.FileHeader.{FileHeader}
 use Rattle.jbig2_base.proofs.Spelling.{file_read}

@@ -3,7 +3,7 @@ use Rattle.std.proofs.lemmas.Bool.{eqb-false, eqb-true}
 use Rattle.std.proofs.lemmas.List.{map_push}
 use Rattle.jbig2_base.specs.File.{headers_in}
 use Rattle.jbig2_base.specs.Segment.{Header, header_at}
-use Rattle.jbig2_base.specs.SegmentViews.{header_views, header_view}
+use Rattle.jbig2_base.specs.inner.SegmentViews.{header_views, header_view}
 use Rattle.jbig2_base.specs.declared.error.DecodeError.TheVariants.{OutOfMemory}
 use Rattle.jbig2_base.specs.declared.segment.SegmentHeader.{SegmentHeader}
 use Rattle.jbig2_base.proofs.RandomAccess.{ReadsHeaders-as, headers_begin, next_header, last_header, header_refused, headers_end}

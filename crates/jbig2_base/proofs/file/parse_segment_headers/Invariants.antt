@@ -1,6 +1,6 @@
 use Rattle.std.proofs.Common.{◌≡◌, length}
 use Rattle.jbig2_base.specs.File.{headers_in}
-use Rattle.jbig2_base.specs.SegmentViews.{header_views}
+use Rattle.jbig2_base.specs.inner.SegmentViews.{header_views}
 use Rattle.jbig2_base.proofs.RandomAccess.{ReadsHeaders}
 use Rattle.jbig2_base.proofs.file.parse_segment_headers.Given as goal
 

@@ -3,7 +3,7 @@ use Rattle.std.proofs.lemmas.Bool.{eqb-false, eqb-true, false≢true}
 use Rattle.std.proofs.lemmas.List.{map_push}
 use Rattle.jbig2_base.specs.Bits.{Place}
 use Rattle.jbig2_base.specs.Segment.{Part, segment_at}
-use Rattle.jbig2_base.specs.SegmentViews.{parts, part_view}
+use Rattle.jbig2_base.specs.inner.SegmentViews.{parts, part_view}
 use Rattle.jbig2_base.specs.Sequential.{sequential, is_cut_off}
 use Rattle.jbig2_base.specs.declared.error.DecodeError.{DecodeError}
 use Rattle.jbig2_base.specs.declared.error.DecodeError.TheVariants.{OutOfMemory}

@@ -1,5 +1,5 @@
 use Rattle.std.proofs.Common.{◌≡◌, length}
-use Rattle.jbig2_base.specs.SegmentViews.{parts}
+use Rattle.jbig2_base.specs.inner.SegmentViews.{parts}
 use Rattle.jbig2_base.specs.Sequential.{sequential}
 use Rattle.jbig2_base.proofs.Sequential.{Reads}
 use Rattle.jbig2_base.proofs.file.parse_segments_sequential.Given as goal

@@ -1,6 +1,6 @@
 use Rattle.std.proofs.Common.{◌≡◌, drop}
 use Rattle.jbig2_base.specs.PageInfo.{first_information}
-use Rattle.jbig2_base.specs.SegmentViews.{parts}
+use Rattle.jbig2_base.specs.inner.SegmentViews.{parts}
 use Rattle.jbig2_base.proofs.page_info.first_information.Given as goal
 
 abbrev pub invariant-loop-segment : goal.invariant-loop-segment

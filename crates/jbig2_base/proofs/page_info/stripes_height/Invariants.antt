@@ -1,6 +1,6 @@
 use Rattle.std.proofs.Common.{◌≡◌, drop, max}
 use Rattle.jbig2_base.specs.PageInfo.{stripes_height}
-use Rattle.jbig2_base.specs.SegmentViews.{parts}
+use Rattle.jbig2_base.specs.inner.SegmentViews.{parts}
 use Rattle.jbig2_base.proofs.page_info.stripes_height.Given as goal
 
 abbrev pub invariant-loop-segment : goal.invariant-loop-segment

@@ -1,7 +1,7 @@
 use Rattle.std.proofs.Common.{rules, Ok, sym, ◌∙◌, ap}
 use Rattle.std.proofs.lemmas.List.Sorted.{IsNonDecreasingBy-from_sort_by_key, answers_always}
 use Rattle.jbig2_base.specs.Segment.{Part}
-use Rattle.jbig2_base.specs.SegmentViews.{parts, part_view}
+use Rattle.jbig2_base.specs.inner.SegmentViews.{parts, part_view}
 use Rattle.jbig2_base.proofs.Sorting.{stable_sort, map_sorted}
 use Rattle.jbig2_base.proofs.sort.sort_segments.Goals as goal
 

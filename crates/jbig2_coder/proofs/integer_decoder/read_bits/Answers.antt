@@ -2,7 +2,7 @@ use Rattle.std.proofs.Common.{◌≡◌, ℕ, ◌+◌, ◌*◌, ◌^◌, ◌<◌
 use Rattle.std.proofs.Math.Nat.{pow-suc}
 use Rattle.jbig2_base.specs.Grid.{bit_number}
 use Rattle.jbig2_coder.specs.Integers.{Reading, next, read_more, prev_of, number}
-use Rattle.jbig2_coder.specs.Stands.{Stands}
+use Rattle.jbig2_coder.specs.inner.Stands.{Stands}
 use Rattle.jbig2_coder.proofs.Readings.{read_more-none, read_more-next, number-none, number-next, Stands-bytes}
 use Rattle.jbig2_coder.proofs.integer_decoder.read_bits.Goals as goal
 

@@ -1,7 +1,7 @@
 use Rattle.std.proofs.Common.{◌≡◌, ◌^◌, ◌<◌, length, drop}
 use Rattle.jbig2_base.specs.Counts.{Counts}
 use Rattle.jbig2_coder.specs.Integers.{Reading, number, read_more, prev_of}
-use Rattle.jbig2_coder.specs.Stands.{Stands}
+use Rattle.jbig2_coder.specs.inner.Stands.{Stands}
 use Rattle.jbig2_coder.proofs.integer_decoder.read_bits.Given as goal
 
 abbrev pub invariant-loop : goal.invariant-loop

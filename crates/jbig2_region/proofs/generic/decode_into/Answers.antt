@@ -1,7 +1,7 @@
 use Rattle.std.proofs.Common.{◌≡◌, ℕ, sym, ap, ◌∙◌, length, drop}
 use Rattle.jbig2_region.specs.GenericHeader.{header_view}
 use Rattle.jbig2_region.specs.Generic.{generic_region}
-use Rattle.jbig2_region.specs.Holds.{Holds}
+use Rattle.jbig2_region.specs.inner.Holds.{Holds}
 use Rattle.jbig2_region.specs.Raster.{fresh_contexts}
 use Rattle.jbig2_region.specs.Templates.{context_bits}
 use Rattle.jbig2_region.proofs.GenericLemmas.{region-decoded, answer-decoded, contexts-decoded, counts-decoded, whole-slice, ok-inner}

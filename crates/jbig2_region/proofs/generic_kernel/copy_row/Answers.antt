@@ -1,7 +1,7 @@
 use Rattle.std.proofs.Common.{arith, refl, min, true, subst, sym, ap, ◌≡◌, ◌+◌, ◌*◌, ℕ, ◌∙◌}
 use Rattle.jbig2_base.specs.Counts.{Counts}
 use Rattle.jbig2_base.specs.Grid.{Grid}
-use Rattle.jbig2_region.specs.Neighbours.{Decodes}
+use Rattle.jbig2_region.specs.inner.Neighbours.{Decodes}
 use Rattle.jbig2_region.proofs.StoreLemmas.{decodes-none, decodes-then, decodes-copied}
 use Rattle.jbig2_region.proofs.generic_kernel.copy_row.Goals as goal
 

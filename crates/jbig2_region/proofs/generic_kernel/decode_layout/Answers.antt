@@ -1,7 +1,7 @@
 use Rattle.std.proofs.Common.{arith, refl, ◌≡◌, ◌≤◌, ◌+◌, ◌*◌, ◌∙◌, ℕ, sym, ap, subst, cond}
 use Rattle.jbig2_base.specs.Counts.{Counts}
-use Rattle.jbig2_region.specs.Holds.{Holds}
-use Rattle.jbig2_region.specs.Neighbours.{Decodes, is_nominal_layout, layout_coding, layout_loads, layout_pixels}
+use Rattle.jbig2_region.specs.inner.Holds.{Holds}
+use Rattle.jbig2_region.specs.inner.Neighbours.{Decodes, is_nominal_layout, layout_coding, layout_loads, layout_pixels}
 use Rattle.jbig2_region.specs.Raster.{Region, no_pixels, after_rows}
 use Rattle.jbig2_region.specs.RunBytes.{row_loads, row_tests, row_words, coded_rows}
 use Rattle.jbig2_region.proofs.RasterLemmas.{after_rows-none, region-start, region-empty, region-whole}

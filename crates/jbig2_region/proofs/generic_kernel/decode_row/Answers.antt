@@ -1,5 +1,5 @@
 use Rattle.std.proofs.Common.{rules, ◌≡◌, Bool, None, sym, subst}
-use Rattle.jbig2_region.specs.Neighbours.{Decodes, layout_pixels}
+use Rattle.jbig2_region.specs.inner.Neighbours.{Decodes, layout_pixels}
 use Rattle.jbig2_region.proofs.CountLemmas.{row-nominal, row-mixed}
 use Rattle.jbig2_region.proofs.generic_kernel.decode_row.Goals as goal
 

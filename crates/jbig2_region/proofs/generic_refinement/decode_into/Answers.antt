@@ -4,7 +4,7 @@ use mir.Val.{SFits}
 use Rattle.jbig2_region.specs.RefinementHeader.{header_view}
 use Rattle.jbig2_region.specs.Refinement.{refined_region, refinement_bits}
 use Rattle.jbig2_region.specs.Generic.{region_view}
-use Rattle.jbig2_region.specs.Holds.{Holds}
+use Rattle.jbig2_region.specs.inner.Holds.{Holds}
 use Rattle.jbig2_region.specs.Raster.{fresh_contexts}
 use Rattle.jbig2_region.proofs.GenericLemmas.{whole-slice, ok-inner}
 use Rattle.jbig2_region.proofs.RefinementLemmas.{refined-contexts, refined-decoded, refined-answer, offset-value}

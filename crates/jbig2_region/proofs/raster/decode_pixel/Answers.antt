@@ -1,6 +1,6 @@
 use Rattle.std.proofs.Common.{rules, arith, length, get_or, ◌<◌, Bool, ap, sym, ◌∙◌}
 use Rattle.std.proofs.lemmas.List.{get_or_default}
-use Rattle.jbig2_base.specs.Writes.{with_pixel}
+use Rattle.jbig2_base.specs.inner.Writes.{with_pixel}
 use Rattle.jbig2_coder.specs.Coder.{fresh}
 use Rattle.jbig2_region.proofs.RasterLemmas.{Holds-known, Holds-decided, digit-colour}
 use Rattle.jbig2_region.proofs.raster.decode_pixel.Goals as goal

@@ -1,7 +1,7 @@
 use Rattle.std.proofs.Common.{arith, ◌≡◌, ℕ, Option, ap, sym, refl, ◌∙◌, subst}
 use Rattle.jbig2_base.specs.Grid.{Grid}
 use Rattle.jbig2_region.specs.Raster.{Region, no_pixels, after_rows}
-use Rattle.jbig2_region.specs.Holds.{Holds, BeginsRow}
+use Rattle.jbig2_region.specs.inner.Holds.{Holds, BeginsRow}
 use Rattle.jbig2_region.proofs.RasterLemmas.{after_rows-none, region-start, region-step, region-empty, region-whole, no-rows}
 use Rattle.jbig2_region.proofs.raster.decode_region.Goals as goal
 

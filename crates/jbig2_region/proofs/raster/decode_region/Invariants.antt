@@ -1,6 +1,6 @@
 use Rattle.std.proofs.Common.{◌≡◌}
 use Rattle.jbig2_region.specs.Raster.{after_rows, no_pixels}
-use Rattle.jbig2_region.specs.Holds.{Holds}
+use Rattle.jbig2_region.specs.inner.Holds.{Holds}
 use Rattle.jbig2_region.proofs.raster.decode_region.Given as goal
 
 abbrev pub invariant-loop-y : goal.invariant-loop-y

@@ -1,6 +1,6 @@
 use Rattle.std.proofs.Common.{◌≡◌, ◌*◌, length}
 use Rattle.jbig2_region.specs.Raster.{Region, after_pixels}
-use Rattle.jbig2_region.specs.Holds.{Holds}
+use Rattle.jbig2_region.specs.inner.Holds.{Holds}
 use Rattle.jbig2_region.proofs.raster.decode_row.Given as goal
 
 abbrev pub invariant-loop-x : goal.invariant-loop-x

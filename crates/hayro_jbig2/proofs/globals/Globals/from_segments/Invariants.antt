@@ -1,5 +1,5 @@
 use Rattle.std.proofs.Common.{◌≡◌, drop}
-use Rattle.jbig2_base.specs.SegmentViews.{parts}
+use Rattle.jbig2_base.specs.inner.SegmentViews.{parts}
 use Rattle.hayro_jbig2.specs.Globals.{named}
 use Rattle.hayro_jbig2.specs.Page.{no_names}
 use Rattle.hayro_jbig2.proofs.globals.Globals.from_segments.Given as goal

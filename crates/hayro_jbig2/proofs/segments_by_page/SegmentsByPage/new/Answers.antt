@@ -1,5 +1,5 @@
 use Rattle.std.proofs.Common.{◌∙◌, ap, arith, inl, length, sym}
-use Rattle.jbig2_base.specs.SegmentViews.{part_view, parts}
+use Rattle.jbig2_base.specs.inner.SegmentViews.{part_view, parts}
 use Rattle.hayro_jbig2.proofs.ByPages.{holds-none, holds-more}
 use Rattle.hayro_jbig2.proofs.segments_by_page.SegmentsByPage.new.Goals as goal
 

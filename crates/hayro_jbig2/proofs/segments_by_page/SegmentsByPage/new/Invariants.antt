@@ -1,6 +1,6 @@
 use Rattle.std.proofs.Common.{◌≡◌, length}
 use Rattle.std.specs.Vec.Iter.{into_iter_items, into_iter_len}
-use Rattle.jbig2_base.specs.SegmentViews.{parts}
+use Rattle.jbig2_base.specs.inner.SegmentViews.{parts}
 use Rattle.hayro_jbig2.proofs.ByPages.{HoldsSome}
 use Rattle.hayro_jbig2.proofs.segments_by_page.SegmentsByPage.new.Given as goal
 

@@ -1,6 +1,6 @@
 use Rattle.std.proofs.Common.{true, ◌∙◌, length-set, arith}
 use Rattle.std.proofs.lemmas.List.Edits.{fill_by_more}
-use Rattle.jbig2_base.specs.Packed.{blank_word}
+use Rattle.jbig2_base.specs.inner.Packed.{blank_word}
 use Rattle.jbig2_base.proofs.bitmap.rows.fill_rows.Goals as goal
 
 pub returns-then-not-black-clause-value : goal.returns-then-not-black-clause-value

@@ -1,5 +1,5 @@
 use Rattle.std.proofs.Common.{◌≡◌, ℕ, ◌<◌, true, length, get_or}
-use Rattle.jbig2_base.specs.Packed.{blank_word}
+use Rattle.jbig2_base.specs.inner.Packed.{blank_word}
 use Rattle.jbig2_base.proofs.bitmap.rows.fill_rows.Given as goal
 
 abbrev pub invariant-loop-index : goal.invariant-loop-index

@@ -2,7 +2,7 @@ use Rattle.std.proofs.Common.{rules, ◌≡◌, ℕ, ◌+◌, ◌-◌, ◌/◌, 
 use Rattle.jbig2_coder.specs.declared.huffman_table.levels.Level.{Level}
 use Rattle.jbig2_coder.specs.PrefixCode.{level}
 use Rattle.jbig2_coder.proofs.PrefixBuilding.{Built, built-next, built-crowded, built-table, half_up}
-use Rattle.jbig2_coder.specs.PrefixLevels.{groups_of}
+use Rattle.jbig2_coder.specs.inner.PrefixLevels.{groups_of}
 use Rattle.jbig2_coder.proofs.PrefixFree.{free-codes}
 use Rattle.jbig2_coder.proofs.huffman_table.HuffmanTable.build.Goals as goal
 

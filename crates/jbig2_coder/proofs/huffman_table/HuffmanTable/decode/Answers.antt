@@ -3,7 +3,7 @@ use Rattle.std.proofs.lemmas.Result.{err_from_is_err_and}
 use Rattle.jbig2_coder.specs.declared.huffman_table.line.TableLine.{TableLine}
 use Rattle.jbig2_coder.specs.declared.huffman_table.levels.Level.{Level}
 use Rattle.jbig2_base.specs.declared.error.DecodeError.{DecodeError}
-use Rattle.jbig2_coder.specs.PrefixLevels.{groups_of, codes_at}
+use Rattle.jbig2_coder.specs.inner.PrefixLevels.{groups_of, codes_at}
 use Rattle.jbig2_coder.proofs.PrefixReading.{Leaves}
 use Rattle.jbig2_coder.proofs.PrefixDecoding.{decodes-err, decodes-oob, decodes-value}
 use Rattle.jbig2_coder.proofs.huffman_table.HuffmanTable.decode.Goals as goal

@@ -1,7 +1,7 @@
 use Rattle.std.proofs.Common.{◌≡◌, ℕ, ◌%◌, ◌^◌, List, [], ◌∷◌, reverse, drop, sym, ap, ◌∙◌, subst, Result, IfOk}
 use Rattle.jbig2_base.specs.declared.error.DecodeError.{DecodeError}
 use Rattle.jbig2_coder.specs.Encoder.{Writer, plain, stuffed}
-use Rattle.jbig2_coder.specs.EncoderViews.{writer_of}
+use Rattle.jbig2_coder.specs.inner.EncoderViews.{writer_of}
 use Rattle.jbig2_coder.specs.declared.mq.encoder.CodeRegister.{CodeRegister}
 use Rattle.jbig2_coder.proofs.Encoders.{byte_out-none, byte_out-full, byte_out-below, byte_out-carry_full, byte_out-carry}
 use Rattle.jbig2_coder.proofs.mq.encoder.byte_out.Goals as goal

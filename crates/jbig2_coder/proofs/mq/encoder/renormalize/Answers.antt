@@ -1,6 +1,6 @@
 use Rattle.std.proofs.Common.{◌≡◌, ℕ, ◌*◌, sym, ◌∙◌, arith}
 use Rattle.jbig2_coder.specs.Encoder.{Writer, shifted, renormed}
-use Rattle.jbig2_coder.specs.EncoderViews.{writer_of}
+use Rattle.jbig2_coder.specs.inner.EncoderViews.{writer_of}
 use Rattle.jbig2_coder.proofs.Encoders.{renormed-turn, renormed-stop}
 use Rattle.jbig2_coder.proofs.mq.encoder.renormalize.Goals as goal
 

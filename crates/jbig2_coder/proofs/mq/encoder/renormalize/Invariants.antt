@@ -1,6 +1,6 @@
 use Rattle.std.proofs.Common.{◌≡◌, ◌-◌, ◌<◌, ◌≤◌}
 use Rattle.jbig2_coder.specs.Encoder.{renormed}
-use Rattle.jbig2_coder.specs.EncoderViews.{writer_of, HasRoom}
+use Rattle.jbig2_coder.specs.inner.EncoderViews.{writer_of, HasRoom}
 use Rattle.jbig2_coder.proofs.mq.encoder.renormalize.Given as goal
 
 abbrev pub invariant-loop-registers : goal.invariant-loop-registers

@@ -1,6 +1,6 @@
 use Rattle.std.proofs.Common.{arith, refl, length, ◌<◌, ◌∙◌, ◌+◌, ap}
-use Rattle.jbig2_base.specs.Writes.{with_pixels}
-use Rattle.jbig2_region.specs.Neighbours.{nominal_pixels}
+use Rattle.jbig2_base.specs.inner.Writes.{with_pixels}
+use Rattle.jbig2_region.specs.inner.Neighbours.{nominal_pixels}
 use Rattle.jbig2_region.proofs.StepLemmas.{no-decisions, more-decisions}
 use Rattle.jbig2_region.proofs.StoreLemmas.{decodes-start, decodes-bit, left-start, left-bit, stored-above, byte-more, inside-states}
 use Rattle.jbig2_region.proofs.WindowLemmas.{nominal-context}

@@ -1,6 +1,6 @@
 use Rattle.std.proofs.Common.{◌≡◌, ◌+◌, ◌<◌, ◌^◌, false}
-use Rattle.jbig2_base.specs.Writes.{with_pixels}
-use Rattle.jbig2_region.specs.Neighbours.{Decodes, IsLeft, nominal_pixels}
+use Rattle.jbig2_base.specs.inner.Writes.{with_pixels}
+use Rattle.jbig2_region.specs.inner.Neighbours.{Decodes, IsLeft, nominal_pixels}
 use Rattle.jbig2_region.proofs.generic_kernel.bytes.decode_bits.Given as goal
 
 abbrev pub invariant-loop-offset : goal.invariant-loop-offset

@@ -1,9 +1,9 @@
 use Rattle.std.proofs.Common.{arith, refl, eqb, ◌%◌, ◌+◌, ◌≡◌, ◌∙◌, ℕ, Bool, List, true, false, not, sym, ap, subst}
 use Rattle.jbig2_base.specs.Counts.{Counts}
 use Rattle.jbig2_base.specs.Grid.{Grid}
-use Rattle.jbig2_base.specs.Writes.{with_pixels}
-use Rattle.jbig2_region.specs.Holds.{Holds}
-use Rattle.jbig2_region.specs.Neighbours.{nominal_pixels, row_coding, IsLeft}
+use Rattle.jbig2_base.specs.inner.Writes.{with_pixels}
+use Rattle.jbig2_region.specs.inner.Holds.{Holds}
+use Rattle.jbig2_region.specs.inner.Neighbours.{nominal_pixels, row_coding, IsLeft}
 use Rattle.jbig2_region.specs.Raster.{after_pixels}
 use Rattle.jbig2_region.specs.RunBytes.{is_run_of}
 use Rattle.jbig2_region.proofs.CountLemmas.{byte-runs, counts-byte}

@@ -1,5 +1,5 @@
 use Rattle.std.proofs.Common.{arith, rules, refl, false, subst, sym, ◌≡◌, ◌+◌, ◌-◌, ◌*◌, ◌/◌, ℕ, ◌∙◌}
-use Rattle.jbig2_region.specs.Neighbours.{IsLeft, nominal_pixels}
+use Rattle.jbig2_region.specs.inner.Neighbours.{IsLeft, nominal_pixels}
 use Rattle.jbig2_region.proofs.CountLemmas.{counts-none, counts-then, counts-last}
 use Rattle.jbig2_region.proofs.StoreLemmas.{decodes-none, decodes-then, left-none}
 use Rattle.jbig2_region.proofs.generic_kernel.bytes.decode_row_by_bytes.Goals as goal

@@ -1,5 +1,5 @@
 use Rattle.std.proofs.Common.{◌≡◌, ◌≤◌, ◌+◌, ◌*◌, ◌<◌, false}
-use Rattle.jbig2_region.specs.Neighbours.{Decodes, IsLeft, nominal_pixels}
+use Rattle.jbig2_region.specs.inner.Neighbours.{Decodes, IsLeft, nominal_pixels}
 use Rattle.jbig2_region.specs.RunBytes.{CountsRuns}
 use Rattle.jbig2_region.proofs.generic_kernel.bytes.decode_row_by_bytes.Given as goal
 

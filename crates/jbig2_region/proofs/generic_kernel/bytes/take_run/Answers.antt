@@ -3,7 +3,7 @@ use Rattle.std.specs.Prelude.{if◌then◌else◌}
 use Rattle.std.proofs.lemmas.List.{get_or_default}
 use Rattle.jbig2_coder.specs.Coder.{Context, fresh, all_quiet}
 use Rattle.jbig2_coder.specs.Table.{row_of}
-use Rattle.jbig2_region.specs.Neighbours.{nominal_pixels}
+use Rattle.jbig2_region.specs.inner.Neighbours.{nominal_pixels}
 use Rattle.jbig2_region.specs.RunBytes.{all_of, same_colour}
 use Rattle.jbig2_region.proofs.RunLemmas.{run-parts, uniform-number, not-staying, and-last, and-middle}
 use Rattle.jbig2_region.proofs.generic_kernel.bytes.take_run.Goals as goal

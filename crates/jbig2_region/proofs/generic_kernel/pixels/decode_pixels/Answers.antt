@@ -1,8 +1,8 @@
 use Rattle.std.proofs.Common.{arith, refl, length, ◌≡◌, ◌<◌, ◌+◌, ◌*◌, ◌%◌, ◌∙◌, ℕ, ap, sym, subst}
 use Rattle.jbig2_base.specs.Counts.{Counts}
 use Rattle.jbig2_base.specs.Grid.{Grid}
-use Rattle.jbig2_base.specs.Writes.{with_pixels}
-use Rattle.jbig2_region.specs.Neighbours.{IsLeft, mixed_pixels}
+use Rattle.jbig2_base.specs.inner.Writes.{with_pixels}
+use Rattle.jbig2_region.specs.inner.Neighbours.{IsLeft, mixed_pixels}
 use Rattle.jbig2_region.proofs.StoreLemmas.{decodes-none, decodes-pixel, left-pixel, stored-above, same-above-then, inside-states}
 use Rattle.jbig2_region.proofs.WindowLemmas.{SameAbove, shows-same}
 use Rattle.jbig2_region.proofs.generic_kernel.pixels.decode_pixels.Goals as goal

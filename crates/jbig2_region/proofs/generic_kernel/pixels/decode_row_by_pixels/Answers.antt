@@ -1,5 +1,5 @@
 use Rattle.std.proofs.Common.{arith, refl, false, min, subst, ◌≡◌, ◌+◌, ◌*◌, ℕ, ◌∙◌}
-use Rattle.jbig2_region.specs.Neighbours.{Decodes, IsLeft, mixed_pixels, adaptive_count}
+use Rattle.jbig2_region.specs.inner.Neighbours.{Decodes, IsLeft, mixed_pixels, adaptive_count}
 use Rattle.jbig2_region.proofs.StepLemmas.{block-loads, none-loads}
 use Rattle.jbig2_region.proofs.StoreLemmas.{decodes-none, decodes-then, left-none}
 use Rattle.jbig2_region.proofs.generic_kernel.pixels.decode_row_by_pixels.Goals as goal

@@ -1,5 +1,5 @@
 use Rattle.std.proofs.Common.{◌≡◌, ◌+◌, ◌*◌, ◌<◌, min, false}
-use Rattle.jbig2_region.specs.Neighbours.{Decodes, IsLeft, adaptive_count, mixed_pixels}
+use Rattle.jbig2_region.specs.inner.Neighbours.{Decodes, IsLeft, adaptive_count, mixed_pixels}
 use Rattle.jbig2_region.proofs.generic_kernel.pixels.decode_row_by_pixels.Given as goal
 
 abbrev pub invariant-loop-index : goal.invariant-loop-index

@@ -1,6 +1,6 @@
 use Rattle.std.proofs.Common.{◌≡◌, ◌+◌}
 use Rattle.jbig2_base.specs.Grid.{pixel_at}
-use Rattle.jbig2_symbol.specs.Filled.{filled}
+use Rattle.jbig2_symbol.specs.inner.Filled.{filled}
 use Rattle.jbig2_symbol.proofs.symbol.bitmaps.cut_symbol.Given as goal
 
 abbrev pub invariant-loop-y : goal.invariant-loop-y

@@ -1,6 +1,6 @@
 use Rattle.std.proofs.Common.{◌+◌, ◌-◌, sym, ◌∙◌, inr, arith, rules, w32}
 use Rattle.std.proofs.lemmas.Int.{to_z-of_z}
-use Rattle.jbig2_symbol.specs.SymbolViews.{class_view, input_view}
+use Rattle.jbig2_symbol.specs.inner.SymbolViews.{class_view, input_view}
 use Rattle.jbig2_symbol.proofs.ClassLemmas.{class-done, class-fault, class-many, class-next, class-refused}
 use Rattle.jbig2_symbol.proofs.symbol.classes.read_class.Goals as goal
 

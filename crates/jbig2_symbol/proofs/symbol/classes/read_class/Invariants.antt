@@ -1,6 +1,6 @@
 use Rattle.std.proofs.Common.{◌≡◌, ◌-◌}
 use Rattle.jbig2_symbol.specs.Symbols.{class_from}
-use Rattle.jbig2_symbol.specs.SymbolViews.{class_view, input_view}
+use Rattle.jbig2_symbol.specs.inner.SymbolViews.{class_view, input_view}
 use Rattle.jbig2_symbol.proofs.symbol.classes.read_class.Given as goal
 
 abbrev pub invariant-loop : goal.invariant-loop

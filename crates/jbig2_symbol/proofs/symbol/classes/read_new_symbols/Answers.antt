@@ -1,5 +1,5 @@
 use Rattle.std.proofs.Common.{◌+◌, ◌-◌, sym, ◌∙◌, arith}
-use Rattle.jbig2_symbol.specs.SymbolViews.{input_view, new_view}
+use Rattle.jbig2_symbol.specs.inner.SymbolViews.{input_view, new_view}
 use Rattle.jbig2_symbol.proofs.ClassLemmas.{classes-done, classes-fault, classes-next, classes-none}
 use Rattle.jbig2_symbol.proofs.symbol.classes.read_new_symbols.Goals as goal
 use Rattle.jbig2_symbol.proofs.symbol.classes.read_new_symbols.Goals.{else-loop-test, then-loop-test+then-len-input}

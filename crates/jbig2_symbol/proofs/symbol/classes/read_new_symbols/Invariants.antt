@@ -1,6 +1,6 @@
 use Rattle.std.proofs.Common.{◌≡◌, ◌+◌, ◌-◌}
 use Rattle.jbig2_symbol.specs.Symbols.{classes_from, new_symbols}
-use Rattle.jbig2_symbol.specs.SymbolViews.{input_view, new_view}
+use Rattle.jbig2_symbol.specs.inner.SymbolViews.{input_view, new_view}
 use Rattle.jbig2_symbol.proofs.symbol.classes.read_new_symbols.Given as goal
 
 abbrev pub invariant-loop : goal.invariant-loop

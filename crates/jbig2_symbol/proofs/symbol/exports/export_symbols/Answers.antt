@@ -1,7 +1,7 @@
 use Rattle.std.proofs.Common.{◌≡◌, ℕ, ◌+◌, ◌≤◌, List, get_or, length, refl, sym, ap, ◌∙◌, arith}
 use Rattle.jbig2_base.specs.Grid.{Grid}
 use Rattle.jbig2_region.proofs.GenericLemmas.{ok-inner}
-use Rattle.jbig2_symbol.specs.SymbolViews.{all_symbols}
+use Rattle.jbig2_symbol.specs.inner.SymbolViews.{all_symbols}
 use Rattle.jbig2_symbol.proofs.ExportedLemmas.{all-length, exported-even, exported-none, exported-odd, only-memory, sum-more, sum-within}
 use Rattle.jbig2_symbol.proofs.symbol.exports.export_symbols.Goals as goal
 use Rattle.jbig2_symbol.proofs.symbol.exports.export_symbols.Goals.{then-k-eq1+in_ok-clone-2+in-Ok, else-k-eq1}

@@ -1,5 +1,5 @@
 use Rattle.std.proofs.Common.{◌≡◌, ◌++◌, drop, take}
-use Rattle.jbig2_symbol.specs.SymbolViews.{all_symbols}
+use Rattle.jbig2_symbol.specs.inner.SymbolViews.{all_symbols}
 use Rattle.jbig2_symbol.proofs.symbol.exports.push_symbols.Given as goal
 
 abbrev pub invariant-loop-k : goal.invariant-loop-k

@@ -1,7 +1,7 @@
 use Rattle.std.proofs.Common.{◌≡◌, ◌+◌, ◌-◌, ◌++◌, [], ◌∷◌, eqb, List, sym, ap, ◌∙◌, inr, arith, rules}
 use Rattle.jbig2_base.specs.Grid.{bit_number}
 use Rattle.jbig2_symbol.specs.Exports.{runs_from}
-use Rattle.jbig2_symbol.specs.SymbolViews.{input_view}
+use Rattle.jbig2_symbol.specs.inner.SymbolViews.{input_view}
 use Rattle.jbig2_symbol.proofs.ExportLemmas.{covered-more, room-left, runs_behind, runs-done, runs-fault, runs-next}
 use Rattle.jbig2_symbol.proofs.symbol.exports.read_runs.Goals as goal
 use Rattle.jbig2_symbol.proofs.symbol.exports.read_runs.Goals.{else-loop-test, then-loop-test+then-left-eq0}

@@ -1,7 +1,7 @@
 use Rattle.std.proofs.Common.{◌≡◌, ◌+◌, ◌-◌, ◌≤◌}
 use Rattle.std.specs.Prelude.{sum}
 use Rattle.jbig2_symbol.specs.Exports.{export_runs, runs_from}
-use Rattle.jbig2_symbol.specs.SymbolViews.{input_view}
+use Rattle.jbig2_symbol.specs.inner.SymbolViews.{input_view}
 use Rattle.jbig2_symbol.proofs.ExportLemmas.{runs_behind}
 use Rattle.jbig2_symbol.proofs.symbol.exports.read_runs.Given as goal
 

@@ -1,5 +1,5 @@
 use Rattle.std.proofs.Common.{◌≡◌, ◌*◌, ap, sym, ◌∙◌, Ok, length, arith}
-use Rattle.jbig2_base.specs.Packed.{stride_of}
+use Rattle.jbig2_base.specs.inner.Packed.{stride_of}
 use Rattle.jbig2_base.proofs.PackedLemmas.{blank-grid, blank-packed}
 use Rattle.jbig2_base.proofs.bitmap.rows.PackedRows.refill.Goals as goal
 

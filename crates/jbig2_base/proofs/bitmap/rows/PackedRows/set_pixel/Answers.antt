@@ -1,7 +1,7 @@
 use Rattle.std.proofs.Common.{◌+◌, ◌*◌, ◌/◌, arith}
 use Rattle.std.proofs.lemmas.List.{get_or_read}
 use Rattle.jbig2_base.proofs.PackedLemmas.{place-lt}
-use Rattle.jbig2_base.specs.Packed.{packed_pixel}
+use Rattle.jbig2_base.specs.inner.Packed.{packed_pixel}
 use Rattle.jbig2_base.proofs.WriteLemmas.{same-with_pixel, white-nothing, other-column, other-line, black-grid, black-packed}
 use Rattle.jbig2_base.proofs.bitmap.rows.PackedRows.set_pixel.Goals as goal
 use Rattle.jbig2_base.proofs.bitmap.rows.PackedRows.set_pixel.Goals.{then-not-black-via-then-not-black, then-not-black-via-else-not-black+then-x-self, then-not-black-via-else-not-black+else-x-self+then-y-self}

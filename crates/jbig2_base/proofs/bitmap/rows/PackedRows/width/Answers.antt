@@ -1,5 +1,5 @@
 use Rattle.std.proofs.Common.{sym}
-use Rattle.jbig2_base.specs.Packed.{packed_pixel}
+use Rattle.jbig2_base.specs.inner.Packed.{packed_pixel}
 use Rattle.jbig2_base.proofs.GridLemmas.{grid_of-pixel_at}
 use Rattle.jbig2_base.proofs.bitmap.rows.PackedRows.width.Goals as goal
 

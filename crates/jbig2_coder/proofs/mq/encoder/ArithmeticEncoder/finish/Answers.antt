@@ -1,6 +1,6 @@
 use Rattle.std.proofs.Common.{◌≡◌, ℕ, ◌+◌, ◌*◌, ◌^◌, List, reverse, sym, ap, ◌∙◌, arith}
 use Rattle.jbig2_coder.specs.Encoder.{Coding, byte_out, flushed, closed}
-use Rattle.jbig2_coder.specs.EncoderViews.{coding_of, HasRoom}
+use Rattle.jbig2_coder.specs.inner.EncoderViews.{coding_of, HasRoom}
 use Rattle.jbig2_coder.proofs.Encoders.{shift-fits, flushed-code}
 use Rattle.jbig2_coder.proofs.ListSteps.{same_ok}
 use Rattle.jbig2_coder.proofs.mq.encoder.ArithmeticEncoder.finish.Goals as goal

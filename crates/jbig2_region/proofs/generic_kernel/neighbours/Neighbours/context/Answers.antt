@@ -1,5 +1,5 @@
 use Rattle.std.proofs.Common.{arith, subst, ◌≡◌, ℕ, ◌+◌, ◌^◌, ◌<◌}
-use Rattle.jbig2_region.specs.Neighbours.{neighbour_count}
+use Rattle.jbig2_region.specs.inner.Neighbours.{neighbour_count}
 use Rattle.jbig2_region.proofs.generic_kernel.neighbours.Neighbours.context.Goals as goal
 
 pub returns-clause-bound : goal.returns-clause-bound

@@ -1,0 +1,4 @@
+pub mod ByPages
+pub mod PageViews
+pub mod SegmentLists
+pub mod SymbolViews

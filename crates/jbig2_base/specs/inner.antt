@@ -1,0 +1,6 @@
+pub mod Blocks
+pub mod Packed
+pub mod SegmentViews
+pub mod Table
+pub mod WordBits
+pub mod Writes

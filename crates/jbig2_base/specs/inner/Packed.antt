@@ -1,0 +1,22 @@
+-- How rows of pixels lie in words of 64 bits (our own rule): each row begins with a word, the
+-- leftmost pixel of a word is its highest bit, and what lies past the width is zero.
+use Rattle.std.specs.Prelude.{◌≡◌, ℕ, ◌+◌, ◌-◌, ◌*◌, ◌/◌, ◌%◌, ◌^◌, ◌<◌, ◌≤◌, ◌==◌, Bool, true, false, if◌then◌else◌, List, length, slice_index}
+use Rattle.jbig2_base.specs.inner.WordBits.{bit}
+
+-- the number of words of a row
+abbrev pub stride_of : ℕ → ℕ
+stride_of w = (w + 63) / 64
+
+-- the pixel at column x of row y
+unfoldable pub packed_pixel : ℕ → List ℕ → ℕ → ℕ → Bool
+packed_pixel stride words x y = bit (slice_index words (y * stride + x / 64)) (63 - x % 64)
+
+pub record IsPacked (w h stride : ℕ) (words : List ℕ) : Type 0 where
+  pub strided : stride ≡ stride_of w
+  pub sized : length words ≡ stride * h
+  pub padded : (x y : ℕ) → w ≤ x → x < 64 * stride → y < h → packed_pixel stride words x y ≡ false
+
+-- word k of rows of one colour
+unfoldable pub blank_word : ℕ → Bool → ℕ → ℕ
+blank_word w false k = 0
+blank_word w true k = if k % stride_of w + 1 == stride_of w then 2 ^ 64 - 2 ^ (64 * stride_of w - w) else 2 ^ 64 - 1

@@ -1,0 +1,3 @@
+pub mod EncoderViews
+pub mod PrefixLevels
+pub mod Stands

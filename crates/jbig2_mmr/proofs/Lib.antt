@@ -1,0 +1,7 @@
+mod T6Bits
+mod T6Decoding
+pub mod T6Rows
+mod T6Runs
+mod T6Spans
+mod T6Tables
+mod T6Worked

@@ -1,0 +1,455 @@
+-- Changes, changing elements, modes and rows.
+use Rattle.std.proofs.Common.{◌≡◌, ℕ, zero, suc, ◌+◌, ◌-◌, ◌%◌, ◌<◌, ◌≤◌, Bool, true, false, not, cond, eqb, ltb, leb, List, [], ◌∷◌, ◌++◌, length, Option, Some, None, refl, sym, ap, subst, ◌∙◌, ⊎_elim, add-one, arith}
+use Rattle.std.specs.Prelude.{filter, ◌||◌, ◌⊎◌}
+use mathlib.Core.Bool.{beq}
+use Rattle.std.proofs.lemmas.List.{length-append}
+use Rattle.std.proofs.lemmas.List.Elements.{filter-append}
+use Rattle.std.proofs.lemmas.Bool.{true≢false, cases_eq, cases_lt, cond-true, cond-false, and_from, and_left, and_right, or_left, or_right, or_from, le-leb, lt-leb, lt-ltb, le-ltb, eq-eqb, ne_eqb}
+use Rattle.jbig2_base.specs.Grid.{Grid, pixel_at, bit_number}
+use Rattle.jbig2_base.specs.inner.Table.{IsTable}
+use Rattle.jbig2_base.proofs.GridLemmas.{pixel_at-below}
+use Rattle.jbig2_mmr.specs.declared.mmr.row.Turn.{Turn}
+use Rattle.jbig2_mmr.specs.T6.{differ, least, place_from, left_of, is_change, is_change_from, Head, Step, b1_of, b2_of, run, after_pass, after_runs, after_vertical, after_mode, next_step, read_code, row_from, row_start, black_at, ◌and_then◌}
+use Rattle.jbig2_mmr.specs.T6Codes.{modes}
+use Rattle.jbig2_mmr.specs.inner.T6Reading.{row_above, row_of, IsFirst, IsSpan, IsTurn}
+use Rattle.jbig2_mmr.specs.inner.T6Calls.{head_of, ReadStep, ReadRow}
+
+-- ---- parity of changes
+
+odd-sum : (a b : ℕ) → eqb ((a + b) % 2) 1 ≡ differ (eqb (a % 2) 1) (eqb (b % 2) 1)
+odd-sum a b =
+    ⊎_elim
+    (λ (p : a % 2 ≡ 1).
+    ⊎_elim (λ (q : b % 2 ≡ 1). ne_eqb ((a + b) % 2) 1 (λ h. omega arith) ∙ sym (ap (λ (t : Bool). differ t (eqb (b % 2) 1)) (eq-eqb (a % 2) 1 p) ∙ ap (λ (t : Bool). differ true t) (eq-eqb (b % 2) 1 q)))
+    (λ (q : b % 2 ≡ 1 → ⊥). eq-eqb ((a + b) % 2) 1 (omega arith) ∙ sym (ap (λ (t : Bool). differ t (eqb (b % 2) 1)) (eq-eqb (a % 2) 1 p) ∙ ap (λ (t : Bool). differ true t) (ne_eqb (b % 2) 1 q))) (cases_eq (b % 2) 1))
+    (λ (p : a % 2 ≡ 1 → ⊥).
+    ⊎_elim (λ (q : b % 2 ≡ 1). eq-eqb ((a + b) % 2) 1 (omega arith) ∙ sym (ap (λ (t : Bool). differ t (eqb (b % 2) 1)) (ne_eqb (a % 2) 1 p) ∙ ap (λ (t : Bool). differ false t) (eq-eqb (b % 2) 1 q)))
+    (λ (q : b % 2 ≡ 1 → ⊥). ne_eqb ((a + b) % 2) 1 (λ h. omega arith) ∙ sym (ap (λ (t : Bool). differ t (eqb (b % 2) 1)) (ne_eqb (a % 2) 1 p) ∙ ap (λ (t : Bool). differ false t) (ne_eqb (b % 2) 1 q))) (cases_eq (b % 2) 1))
+    (cases_eq (a % 2) 1)
+
+pub changes-both : (xs ys : List ℕ) (x : ℕ) → black_at (xs ++ ys) x ≡ differ (black_at xs x) (black_at ys x)
+unfolding black_at
+changes-both xs ys x =
+    let p = λ (c : ℕ). leb c x in
+    ap (λ (l : List ℕ). eqb (length l % 2) 1) (filter-append p xs ys)
+    ∙ ap (λ (n : ℕ). eqb (n % 2) 1) (length-append (filter p xs) (filter p ys))
+    ∙ odd-sum (length (filter p xs)) (length (filter p ys))
+
+pub change-none : (x : ℕ) → black_at [] x ≡ false
+unfolding black_at
+change-none x = refl
+
+pub change-one : (c x : ℕ) → black_at (c ∷ []) x ≡ leb c x
+unfolding black_at
+change-one c x =
+    ⊎_elim (λ (h : x < c). ap (λ (t : Bool). eqb (length (cond t (c ∷ []) []) % 2) 1) (lt-leb c x h) ∙ sym (lt-leb c x h))
+    (λ (h : c ≤ x). ap (λ (t : Bool). eqb (length (cond t (c ∷ []) []) % 2) 1) (le-leb c x h) ∙ sym (le-leb c x h)) (cases_lt x c)
+
+pub change-two : (c d x : ℕ) → black_at (c ∷ d ∷ []) x ≡ differ (leb c x) (leb d x)
+change-two c d x = changes-both (c ∷ []) (d ∷ []) x ∙ ap (λ (t : Bool). differ t (black_at (d ∷ []) x)) (change-one c x) ∙ ap (λ (t : Bool). differ (leb c x) t) (change-one d x)
+
+-- ---- least places
+least-is : (n : ℕ) (p : ℕ → Bool) (to place : ℕ) → n ≤ to → to - n ≤ place → place ≤ to → ((i : ℕ) → to - n ≤ i → i < place → p i ≡ false) → (place < to → p place ≡ true) → least p n to ≡ place
+unfolding least
+least-is zero p to place fits after within before found = omega arith
+least-is (suc n) p to place fits after within before found =
+    ⊎_elim
+    (λ (here : to - suc n ≡ place). cond-true (p (to - suc n)) (to - suc n) (least p n to) (ap p here ∙ found (omega arith)) ∙ here)
+    (λ (o : to - suc n ≡ place → ⊥).
+    cond-false (p (to - suc n)) (to - suc n) (least p n to) (before (to - suc n) (omega arith) (omega (arith, o)))
+    ∙ least-is n p to place (omega arith) (omega (arith, o)) within (λ i a b. before i (omega arith) b) found)
+    (cases_eq (to - suc n) place)
+
+pub place-is : (p : ℕ → Bool) (from to place : ℕ) → from ≤ to → from ≤ place → place ≤ to → ((i : ℕ) → from ≤ i → i < place → p i ≡ false) → (place < to → p place ≡ true) → place_from p from to ≡ place
+place-is p from to place order after within before found =
+    let at : to - (to - from) ≡ from = omega arith in
+    least-is (to - from) p to place (omega arith) (omega arith) within (λ i a b. before i (omega arith) b) found
+
+pub place-past : (p : ℕ → Bool) (from to : ℕ) → to ≤ from → place_from p from to ≡ to
+unfolding least
+place-past p from to past = let none : to - from ≡ 0 = omega arith in ap (λ (n : ℕ). least p n to) none
+
+-- ---- changing elements
+left-here : (row : ℕ → Bool) (x : ℕ) → 1 ≤ x → left_of row x ≡ row (x - 1)
+left-here row zero h = absurd (omega arith)
+left-here row (suc x) h = let at : x ≡ suc x - 1 = omega arith in ap row at
+
+differ-same : (a b : Bool) → a ≡ b → differ a b ≡ false
+differ-same true b e = ap (λ (t : Bool). not t) (sym e)
+differ-same false b e = sym e
+
+differ-not : (a b : Bool) → a ≡ not b → differ a b ≡ true
+differ-not true true e = sym e
+differ-not true false e = refl
+differ-not false true e = refl
+differ-not false false e = e
+
+differ-turned : (a b c : Bool) → a ≡ c → b ≡ not c → differ a b ≡ true
+differ-turned true b true e f = ap (λ (t : Bool). not t) f
+differ-turned true b false e f = absurd (true≢false e)
+differ-turned false b true e f = absurd (true≢false (sym e))
+differ-turned false b false e f = f
+
+-- no change where the pixel has the colour, or its left neighbour has not
+no-change-black : (row : ℕ → Bool) (black : Bool) (x : ℕ) → row x ≡ black → is_change_from row black x ≡ false
+unfolding is_change_from
+no-change-black row black x e = and_right (is_change row x) (differ (row x) black) (differ-same (row x) black e)
+
+no-change-left : (row : ℕ → Bool) (black : Bool) (x : ℕ) → row x ≡ not black → left_of row x ≡ not black → is_change_from row black x ≡ false
+unfolding is_change_from is_change
+no-change-left row black x e f = and_left (is_change row x) (differ (row x) black) (differ-same (row x) (left_of row x) (e ∙ sym f))
+
+change-here : (row : ℕ → Bool) (black : Bool) (x : ℕ) → row x ≡ not black → left_of row x ≡ black → is_change_from row black x ≡ true
+unfolding is_change_from is_change
+change-here row black x e f =
+    and_from (is_change row x) (differ (row x) black) (ap (λ (t : Bool). differ (row x) t) f ∙ differ-not (row x) black e) (differ-not (row x) black e)
+
+not-not : (b c : Bool) → b ≡ not (not c) → b ≡ c
+not-not b true e = e
+not-not b false e = e
+
+-- where the left neighbour has the colour, the first pixel of the other one
+pub b1-inside : (row : ℕ → Bool) (black : Bool) (from to place : ℕ) → from ≤ to → left_of row from ≡ black → IsFirst row (not black) from to place → place_from (is_change_from row black) from to ≡ place
+b1-inside row black from to place order left first =
+    place-is (is_change_from row black) from to place order first.after first.within
+    (λ i a b. no-change-black row black i (not-not (row i) black (first.before i a b)))
+    (λ h. change-here row black place (first.found h)
+    (⊎_elim (λ (e : from ≡ place). ap (λ (x : ℕ). left_of row x) (sym e) ∙ left)
+    (λ (o : from ≡ place → ⊥). left-here row place (omega (arith, first.after, o)) ∙ not-not (row (place - 1)) black (first.before (place - 1) (omega (arith, first.after, o)) (omega (arith, first.after, o))))
+    (cases_eq from place)))
+
+-- where it has not, first a pixel of the colour is passed
+pub b1-outside : (row : ℕ → Bool) (black : Bool) (from to middle place : ℕ) → from ≤ to → left_of row from ≡ not black → IsFirst row black from to middle → IsFirst row (not black) middle to place → place_from (is_change_from row black) from to ≡ place
+b1-outside row black from to middle place order left first second =
+    place-is (is_change_from row black) from to place order (omega (arith, first.after, second.after)) second.within
+    (λ i a b.
+    ⊎_elim
+    (λ (early : i < middle).
+    no-change-left row black i (first.before i a early)
+    (⊎_elim (λ (e : from ≡ i). ap (λ (x : ℕ). left_of row x) (sym e) ∙ left)
+    (λ (o : from ≡ i → ⊥). left-here row i (omega (arith, o)) ∙ first.before (i - 1) (omega (arith, o)) (omega arith))
+    (cases_eq from i)))
+    (λ (late : middle ≤ i). no-change-black row black i (not-not (row i) black (second.before i late b)))
+    (cases_lt i middle))
+    (λ h.
+    let there : middle < to = omega (arith, second.after) in
+    let moved : middle ≡ place → ⊥ = λ e. not-both black (sym (first.found there) ∙ ap row e ∙ second.found h) in
+    change-here row black place (second.found h)
+    (left-here row place (omega (arith, second.after, moved)) ∙ not-not (row (place - 1)) black (second.before (place - 1) (omega (arith, second.after, moved)) (omega (arith, second.after, moved)))))
+  where
+    not-both : (b : Bool) → b ≡ not b → ⊥
+    not-both true e = true≢false e
+    not-both false e = true≢false (sym e)
+
+-- b2: the first pixel of the colour behind b1
+pub b2-is : (row : ℕ → Bool) (black : Bool) (b1 to place : ℕ) → b1 ≤ to → (b1 < to → row b1 ≡ not black) → IsFirst row black b1 to place → place_from (is_change row) (b1 + 1) to ≡ place
+unfolding is_change
+b2-is row black b1 to place order other first =
+    ⊎_elim
+    (λ (inside : b1 < to).
+    let moved : b1 ≡ place → ⊥ = λ e. not-both black (sym (first.found (omega arith)) ∙ ap row (sym e) ∙ other inside) in
+    place-is (is_change row) (b1 + 1) to place (omega arith) (omega (arith, first.after, moved)) first.within
+    (λ i a b. differ-same (row i) (left_of row i) (first.before i (omega arith) b ∙ sym (left-here row i (omega arith) ∙ first.before (i - 1) (omega arith) (omega arith))))
+    (λ h. differ-turned (row place) (left_of row place) black (first.found h) (left-here row place (omega (arith, first.after, moved)) ∙ first.before (place - 1) (omega (arith, first.after, moved)) (omega (arith, first.after, moved)))))
+    (λ (past : to ≤ b1). place-past (is_change row) (b1 + 1) to (omega arith) ∙ omega (arith, first.after, first.within))
+    (cases_lt b1 to)
+  where
+    not-both : (b : Bool) → b ≡ not b → ⊥
+    not-both true e = true≢false e
+    not-both false e = true≢false (sym e)
+
+-- ---- turns
+turn-lt : (c x : ℕ) → x < c → black_at (c ∷ []) x ≡ false
+turn-lt c x h = change-one c x ∙ lt-leb c x h
+
+turn-le : (c x : ℕ) → c ≤ x → black_at (c ∷ []) x ≡ true
+turn-le c x h = change-one c x ∙ le-leb c x h
+
+differ-right_false : (b : Bool) → differ b false ≡ b
+differ-right_false true = refl
+differ-right_false false = refl
+
+differ-right_true : (b : Bool) → differ b true ≡ not b
+differ-right_true true = refl
+differ-right_true false = refl
+
+pub pass-turn : (w : ℕ) (h : Head) (b2 : ℕ) → h.a0 ≤ b2 → b2 ≤ w → IsTurn w h [] b2 (record { a0 = b2; begun = true; black = h.black })
+pass-turn w h b2 forward within = record {
+  begun = refl;
+  forward = forward;
+  ordered = omega arith;
+  inside = within;
+  before = λ x a. change-none x;
+  between = λ x a b. absurd (omega arith);
+  behind = λ x a. ap (λ (t : Bool). differ h.black t) (change-none x) ∙ differ-right_false h.black;
+}
+
+pub vertical-turn : (w : ℕ) (h : Head) (a1 : ℕ) → h.a0 ≤ a1 → a1 ≤ w → IsTurn w h (a1 ∷ []) a1 (record { a0 = a1; begun = true; black = not h.black })
+vertical-turn w h a1 forward within = record {
+  begun = refl;
+  forward = forward;
+  ordered = omega arith;
+  inside = within;
+  before = λ x a. turn-lt a1 x a;
+  between = λ x a b. absurd (omega arith);
+  behind = λ x a. ap (λ (t : Bool). differ h.black t) (turn-le a1 x a) ∙ differ-right_true h.black;
+}
+
+pub runs-turn : (w : ℕ) (h : Head) (r s : ℕ) → h.a0 + r + s ≤ w → IsTurn w h ((h.a0 + r) ∷ (h.a0 + r + s) ∷ []) (h.a0 + r) (record { a0 = h.a0 + r + s; begun = true; black = h.black })
+runs-turn w h r s within =
+    let c : ℕ = h.a0 + r in
+    let d : ℕ = h.a0 + r + s in
+    record {
+      begun = refl;
+      forward = omega arith;
+      ordered = omega arith;
+      inside = within;
+      before = λ x a. change-two c d x ∙ ap (λ (t : Bool). differ t (leb d x)) (lt-leb c x a) ∙ lt-leb d x (omega arith);
+      between = λ x a b. change-two c d x ∙ ap (λ (t : Bool). differ t (leb d x)) (le-leb c x a) ∙ ap (λ (t : Bool). not t) (lt-leb d x b);
+      behind = λ x a. ap (λ (t : Bool). differ h.black t) (change-two c d x ∙ ap (λ (t : Bool). differ t (leb d x)) (le-leb c x (omega arith)) ∙ ap (λ (t : Bool). not t) (le-leb d x a)) ∙ differ-right_false h.black;
+    }
+
+-- ---- the modes as they are read
+pub above-none : (g : Grid) (height : ℕ) (x : ℕ) → height ≡ g.height → pixel_at g x height ≡ false
+above-none g height x e = pixel_at-below g x height (omega arith)
+
+pub pass-read : (w : ℕ) (above : ℕ → Bool) (h : Head) (b1 b2 : ℕ) (t : Turn) (bits : List ℕ) → b1 ≡ b1_of w above h → b1 ≤ w → (b1 < w → above b1 ≡ not h.black) → h.a0 ≤ b1 → IsFirst above h.black b1 w b2 → t.turn ≡ b2 → head_of t.next ≡ record { a0 = b2; begun = true; black = h.black } → ReadStep w h (after_pass w above h bits) (Some t) bits
+unfolding after_pass b2_of
+pass-read w above h b1 b2 t bits e within other forward first turn next =
+    let place : place_from (is_change above) (b1_of w above h + 1) w ≡ b2 = ap (λ (b : ℕ). place_from (is_change above) (b + 1) w) (sym e) ∙ b2-is above h.black b1 w b2 within other first in (
+      ap (λ (a : ℕ). let made : Head = record { a0 = a; begun = true; black = h.black } in made) place ∙ sym next,
+      refl,
+      subst (λ (m : Head). IsTurn w h [] t.turn m) (sym next) (subst (λ (n : ℕ). IsTurn w h [] n (record { a0 = b2; begun = true; black = h.black })) (sym turn) (pass-turn w h b2 (omega (arith, first.after)) first.within)),
+    )
+
+pub vertical-read : (w : ℕ) (above : ℕ → Bool) (h : Head) (b1 v : ℕ) (t : Turn) (bits : List ℕ) → b1 ≡ b1_of w above h → h.a0 + 3 ≤ b1 + v → b1 + v ≤ w + 3 → t.turn ≡ b1 + v - 3 → head_of t.next ≡ record { a0 = b1 + v - 3; begun = true; black = not h.black } → ReadStep w h (after_vertical w above h v bits) (Some t) bits
+unfolding after_vertical
+vertical-read w above h b1 v t bits e forward within turn next =
+    let made : Step = record { head = record { a0 = b1 + v - 3; begun = true; black = not h.black }; added = (b1 + v - 3) ∷ []; left = bits } in
+    let meant = λ (b : ℕ). cond (ltb (b + v) (h.a0 + 3) || ltb (w + 3) (b + v)) None (let s : Step = record { head = record { a0 = b + v - 3; begun = true; black = not h.black }; added = (b + v - 3) ∷ []; left = bits } in Some s) in
+    let is : meant (b1_of w above h) ≡ Some made =
+    ap meant (sym e) ∙ cond-false (ltb (b1 + v) (h.a0 + 3) || ltb (w + 3) (b1 + v)) None (Some made) (or_from (ltb (b1 + v) (h.a0 + 3)) (ltb (w + 3) (b1 + v)) (le-ltb (b1 + v) (h.a0 + 3) forward) (le-ltb (w + 3) (b1 + v) within)) in
+    subst (λ (o : Option Step). ReadStep w h o (Some t) bits) (sym is) (
+      sym next,
+      refl,
+      subst (λ (m : Head). IsTurn w h ((b1 + v - 3) ∷ []) t.turn m) (sym next) (subst (λ (n : ℕ). IsTurn w h ((b1 + v - 3) ∷ []) n (record { a0 = b1 + v - 3; begun = true; black = not h.black })) (sym turn) (vertical-turn w h (b1 + v - 3) (omega arith) (omega arith))),
+    )
+
+pub vertical-fault : (w : ℕ) (above : ℕ → Bool) (h : Head) (b1 v : ℕ) (bits : List ℕ) → b1 ≡ b1_of w above h → (b1 + v < h.a0 + 3) ⊎ (w + 3 < b1 + v) → ReadStep w h (after_vertical w above h v bits) None bits
+unfolding after_vertical
+vertical-fault w above h b1 v bits e fault =
+    let meant = λ (b : ℕ). cond (ltb (b + v) (h.a0 + 3) || ltb (w + 3) (b + v)) None (let s : Step = record { head = record { a0 = b + v - 3; begun = true; black = not h.black }; added = (b + v - 3) ∷ []; left = bits } in Some s) in
+    let made : Step = record { head = record { a0 = b1 + v - 3; begun = true; black = not h.black }; added = (b1 + v - 3) ∷ []; left = bits } in
+    let test : (ltb (b1 + v) (h.a0 + 3) || ltb (w + 3) (b1 + v)) ≡ true =
+    ⊎_elim (λ (p : b1 + v < h.a0 + 3). or_left (ltb (b1 + v) (h.a0 + 3)) (ltb (w + 3) (b1 + v)) (lt-ltb (b1 + v) (h.a0 + 3) p)) (λ (p : w + 3 < b1 + v). or_right (ltb (b1 + v) (h.a0 + 3)) (ltb (w + 3) (b1 + v)) (lt-ltb (w + 3) (b1 + v) p)) fault in
+    subst (λ (o : Option Step). ReadStep w h o None bits) (sym (ap meant (sym e) ∙ cond-true (ltb (b1 + v) (h.a0 + 3) || ltb (w + 3) (b1 + v)) None (Some made) test)) tt
+
+-- two runs
+pub runs-read : (w : ℕ) (h : Head) (r s : ℕ) (bits middle left : List ℕ) (t : Turn) → h.a0 ≤ w → Some (r, middle) ≡ run h.black (w - h.a0) bits → r ≤ w - h.a0 → Some (s, left) ≡ run (not h.black) (w - (h.a0 + r)) middle → s ≤ w - (h.a0 + r) → t.turn ≡ h.a0 + r → head_of t.next ≡ record { a0 = h.a0 + r + s; begun = true; black = h.black } → ReadStep w h (after_runs w h bits) (Some t) left
+unfolding after_runs
+runs-read w h r s bits middle left t inside first fits second more turn next =
+    let second_step = λ (o : Option (ℕ × List ℕ)). o and_then (λ q. let m : Step = record { head = record { a0 = h.a0 + r + q.0; begun = true; black = h.black }; added = (h.a0 + r) ∷ (h.a0 + r + q.0) ∷ []; left = q.1 } in Some m) in
+    let first_step = λ (o : Option (ℕ × List ℕ)). o and_then (λ p. run (not h.black) (w - (h.a0 + p.0)) p.1 and_then (λ q. let m : Step = record { head = record { a0 = h.a0 + p.0 + q.0; begun = true; black = h.black }; added = (h.a0 + p.0) ∷ (h.a0 + p.0 + q.0) ∷ []; left = q.1 } in Some m)) in
+    subst (λ (o : Option Step). ReadStep w h o (Some t) left) (ap second_step second ∙ ap first_step first) (
+      sym next,
+      refl,
+      subst (λ (m : Head). IsTurn w h ((h.a0 + r) ∷ (h.a0 + r + s) ∷ []) t.turn m) (sym next) (subst (λ (n : ℕ). IsTurn w h ((h.a0 + r) ∷ (h.a0 + r + s) ∷ []) n (record { a0 = h.a0 + r + s; begun = true; black = h.black })) (sym turn) (runs-turn w h r s (omega arith))),
+    )
+
+pub runs-fault-first : (w : ℕ) (h : Head) (bits left : List ℕ) → None ≡ run h.black (w - h.a0) bits → ReadStep w h (after_runs w h bits) None left
+unfolding after_runs
+runs-fault-first w h bits left first =
+    let first_step = λ (o : Option (ℕ × List ℕ)). o and_then (λ p. run (not h.black) (w - (h.a0 + p.0)) p.1 and_then (λ q. let m : Step = record { head = record { a0 = h.a0 + p.0 + q.0; begun = true; black = h.black }; added = (h.a0 + p.0) ∷ (h.a0 + p.0 + q.0) ∷ []; left = q.1 } in Some m)) in
+    subst (λ (o : Option Step). ReadStep w h o None left) (ap first_step first) tt
+
+pub runs-fault-second : (w : ℕ) (h : Head) (r : ℕ) (bits middle left : List ℕ) → Some (r, middle) ≡ run h.black (w - h.a0) bits → None ≡ run (not h.black) (w - (h.a0 + r)) middle → ReadStep w h (after_runs w h bits) None left
+unfolding after_runs
+runs-fault-second w h r bits middle left first second =
+    let second_step = λ (o : Option (ℕ × List ℕ)). o and_then (λ q. let m : Step = record { head = record { a0 = h.a0 + r + q.0; begun = true; black = h.black }; added = (h.a0 + r) ∷ (h.a0 + r + q.0) ∷ []; left = q.1 } in Some m) in
+    let first_step = λ (o : Option (ℕ × List ℕ)). o and_then (λ p. run (not h.black) (w - (h.a0 + p.0)) p.1 and_then (λ q. let m : Step = record { head = record { a0 = h.a0 + p.0 + q.0; begun = true; black = h.black }; added = (h.a0 + p.0) ∷ (h.a0 + p.0 + q.0) ∷ []; left = q.1 } in Some m)) in
+    subst (λ (o : Option Step). ReadStep w h o None left) (ap second_step second ∙ ap first_step first) tt
+
+-- the mode that a code names
+pub step-by : (w : ℕ) (above : ℕ → Bool) (h : Head) (mode : ℕ) (bits middle : List ℕ) → Some (mode, middle) ≡ read_code modes bits → next_step w above h bits ≡ after_mode w above h mode middle
+unfolding next_step
+step-by w above h mode bits middle e = sym (ap (λ (o : Option (ℕ × List ℕ)). o and_then (λ m. after_mode w above h m.0 m.1)) e)
+
+pub step-none : (w : ℕ) (above : ℕ → Bool) (h : Head) (bits left : List ℕ) → None ≡ read_code modes bits → ReadStep w h (next_step w above h bits) None left
+unfolding next_step
+step-none w above h bits left e = subst (λ (o : Option Step). ReadStep w h o None left) (ap (λ (o : Option (ℕ × List ℕ)). o and_then (λ m. after_mode w above h m.0 m.1)) e) tt
+
+-- ---- a row, mode by mode
+pub record RowReading (g new : Grid) (y : ℕ) (h : Head) (bits : List ℕ) (meant : Option (List ℕ × List ℕ)) : Type 0 where
+  pub most : ℕ
+  pub changes : List ℕ
+  pub enough : length bits ≤ most
+  pub same : row_from most g.width (row_above g y) h changes bits ≡ meant
+  pub width : new.width ≡ g.width
+  pub height : new.height ≡ g.height
+  pub table : IsTable new
+  pub painted : (x : ℕ) → x < h.a0 → pixel_at new x y ≡ black_at changes x
+  pub other : (x j : ℕ) → (j ≡ y → ⊥) → pixel_at new x j ≡ pixel_at g x j
+  pub ahead : (x : ℕ) → h.a0 ≤ x → black_at changes x ≡ h.black
+  pub inside : h.a0 ≤ g.width
+  pub first : h.begun ≡ false → h.a0 ≡ 0
+
+pub row-start : (g : Grid) (y : ℕ) (bits : List ℕ) → IsTable g → RowReading g g y row_start bits (row_from (length bits) g.width (row_above g y) row_start [] bits)
+row-start g y bits known = record {
+  most = length bits;
+  changes = [];
+  enough = omega arith;
+  same = refl;
+  width = refl;
+  height = refl;
+  table = known;
+  painted = λ x a. absurd (omega arith);
+  other = λ x j o. refl;
+  ahead = λ x a. change-none x;
+  inside = omega arith;
+  first = λ e. refl;
+}
+
+-- the row above stays while row y is painted
+pub above-same : (g new : Grid) (y above : ℕ) → ((x j : ℕ) → (j ≡ y → ⊥) → pixel_at new x j ≡ pixel_at g x j) → (above ≡ y → ⊥) → ((x : ℕ) → pixel_at g x above ≡ row_above g y x) → row_of new above ≡ row_above g y
+above-same g new y above other apart is = let each : (x : ℕ) → pixel_at new x above ≡ row_above g y x = λ x. other x above apart ∙ is x in λ i x. each x i
+
+step-from : (most w : ℕ) (above : ℕ → Bool) (h : Head) (changes bits : List ℕ) (s : Step) → h.a0 < w → 1 ≤ most → next_step w above h bits ≡ Some s → (n : ℕ) × (suc n ≡ most) × (row_from most w above h changes bits ≡ row_from n w above s.head (changes ++ s.added) s.left)
+unfolding row_from
+step-from zero w above h changes bits s inside some e = absurd (omega arith)
+step-from (suc n) w above h changes bits s inside some e = (
+  n,
+  refl,
+  cond-false (leb w h.a0) (Some (changes, bits)) (next_step w above h bits and_then (λ m. row_from n w above m.head (changes ++ m.added) m.left)) (lt-leb w h.a0 inside)
+      ∙ ap (λ (o : Option Step). o and_then (λ m. row_from n w above m.head (changes ++ m.added) m.left)) e,
+)
+
+next-by : (g new one two : Grid) (y : ℕ) (h : Head) (bits left : List ℕ) (meant : Option (List ℕ × List ℕ)) (t : Turn) (s : Step) → RowReading g new y h bits meant → h.a0 < g.width → length left < length bits → next_step g.width (row_above g y) h bits ≡ Some s → ReadStep g.width h (Some s) (Some t) left → IsSpan new one y h.a0 t.turn h.black → IsSpan one two y t.turn t.next.a0 (not h.black) → RowReading g two y (head_of t.next) left meant
+next-by g new one two y h bits left meant t s reading inside shorter e read first second =
+    let turn = read.2 in
+    let step = step-from reading.most g.width (row_above g y) h reading.changes bits s inside (omega (arith, reading.enough)) e in
+    let at = λ (x : ℕ). changes-both reading.changes s.added x in
+    record {
+      most = step.0;
+      changes = reading.changes ++ s.added;
+      enough = omega (arith, reading.enough, step.1);
+      same = ap (λ (m : Head). row_from step.0 g.width (row_above g y) m (reading.changes ++ s.added) left) (sym read.0) ∙ ap (λ (bs : List ℕ). row_from step.0 g.width (row_above g y) s.head (reading.changes ++ s.added) bs) (sym read.1) ∙ sym step.2 ∙ reading.same;
+      width = second.width ∙ first.width ∙ reading.width;
+      height = second.height ∙ first.height ∙ reading.height;
+      table = second.table;
+      painted = λ x a.
+          ⊎_elim
+          (λ (early : x < t.turn).
+          second.left x early
+          ∙ ⊎_elim
+          (λ (old : x < h.a0). first.left x old ∙ reading.painted x old ∙ sym (at x ∙ ap (λ (b : Bool). differ (black_at reading.changes x) b) (turn.before x early) ∙ differ-right_false (black_at reading.changes x)))
+          (λ (fresh : h.a0 ≤ x). first.inside x fresh early ∙ sym (at x ∙ ap (λ (b : Bool). differ b (black_at s.added x)) (reading.ahead x fresh) ∙ ap (λ (b : Bool). differ h.black b) (turn.before x early) ∙ differ-right_false h.black))
+          (cases_lt x h.a0))
+          (λ (late : t.turn ≤ x). second.inside x late a ∙ sym (at x ∙ ap (λ (b : Bool). differ b (black_at s.added x)) (reading.ahead x (omega (arith, turn.forward))) ∙ ap (λ (b : Bool). differ h.black b) (turn.between x late a) ∙ differ-right_true h.black))
+          (cases_lt x t.turn);
+      other = λ x j o. second.other x j o ∙ first.other x j o ∙ reading.other x j o;
+      ahead = λ x a. at x ∙ ap (λ (b : Bool). differ b (black_at s.added x)) (reading.ahead x (omega (arith, turn.forward, turn.ordered))) ∙ turn.behind x a;
+      inside = turn.inside;
+      first = λ e. absurd (true≢false (sym turn.begun ∙ e));
+    }
+
+next-of : (g new one two : Grid) (y : ℕ) (h : Head) (bits left : List ℕ) (meant : Option (List ℕ × List ℕ)) (t : Turn) (o : Option Step) → RowReading g new y h bits meant → h.a0 < g.width → length left < length bits → next_step g.width (row_above g y) h bits ≡ o → ReadStep g.width h o (Some t) left → IsSpan new one y h.a0 t.turn h.black → IsSpan one two y t.turn t.next.a0 (not h.black) → RowReading g two y (head_of t.next) left meant
+next-of g new one two y h bits left meant t None reading inside shorter e read first second = absurd read
+next-of g new one two y h bits left meant t (Some s) reading inside shorter e read first second = next-by g new one two y h bits left meant t s reading inside shorter e read first second
+
+-- one mode more
+pub row-next : (g new one two : Grid) (y : ℕ) (above : ℕ → Bool) (h : Head) (bits left : List ℕ) (meant : Option (List ℕ × List ℕ)) (t : Turn) → RowReading g new y h bits meant → h.a0 < g.width → length left < length bits → above ≡ row_above g y → ReadStep new.width h (next_step new.width above h bits) (Some t) left → IsSpan new one y h.a0 t.turn h.black → IsSpan one two y t.turn t.next.a0 (not h.black) → RowReading g two y (head_of t.next) left meant
+row-next g new one two y above h bits left meant t reading inside shorter same read first second =
+    let at = subst (λ (f : ℕ → Bool). ReadStep g.width h (next_step g.width f h bits) (Some t) left) same (subst (λ (w : ℕ). ReadStep w h (next_step w above h bits) (Some t) left) reading.width read) in
+    next-of g new one two y h bits left meant t (next_step g.width (row_above g y) h bits) reading inside shorter refl at first second
+
+-- where the mode stays within the row
+turn-of : (w : ℕ) (h : Head) (t : Turn) (left : List ℕ) (o : Option Step) → ReadStep w h o (Some t) left → (h.a0 ≤ t.turn) × (t.turn ≤ t.next.a0) × (t.next.a0 ≤ w) × (t.next.begun ≡ true)
+turn-of w h t left None read = absurd read
+turn-of w h t left (Some s) read = (read.2.forward, read.2.ordered, read.2.inside, read.2.begun)
+
+pub turn-within : (w : ℕ) (above : ℕ → Bool) (h : Head) (bits : List ℕ) (t : Turn) (left : List ℕ) → ReadStep w h (next_step w above h bits) (Some t) left → (h.a0 ≤ t.turn) × (t.turn ≤ t.next.a0) × (t.next.a0 ≤ w) × (t.next.begun ≡ true)
+turn-within w above h bits t left read = turn-of w h t left (next_step w above h bits) read
+
+-- a fault
+fault-from : (most w : ℕ) (above : ℕ → Bool) (h : Head) (changes bits : List ℕ) → h.a0 < w → next_step w above h bits ≡ None → row_from most w above h changes bits ≡ None
+unfolding row_from
+fault-from zero w above h changes bits inside e = cond-false (leb w h.a0) (Some (changes, bits)) None (lt-leb w h.a0 inside)
+fault-from (suc n) w above h changes bits inside e =
+    cond-false (leb w h.a0) (Some (changes, bits)) (next_step w above h bits and_then (λ m. row_from n w above m.head (changes ++ m.added) m.left)) (lt-leb w h.a0 inside)
+    ∙ ap (λ (o : Option Step). o and_then (λ m. row_from n w above m.head (changes ++ m.added) m.left)) e
+
+none-of : (w : ℕ) (h : Head) (left : List ℕ) (o : Option Step) → ReadStep w h o None left → o ≡ None
+none-of w h left None read = refl
+none-of w h left (Some s) read = absurd read
+
+pub row-fault : (g new white : Grid) (y : ℕ) (above : ℕ → Bool) (h : Head) (bits left : List ℕ) (meant : Option (List ℕ × List ℕ)) → RowReading g new y h bits meant → h.a0 < g.width → above ≡ row_above g y → ReadStep new.width h (next_step new.width above h bits) None left → IsSpan new white y 0 g.width false → ReadRow meant false g white y left
+row-fault g new white y above h bits left meant reading inside same read span =
+    let at = subst (λ (f : ℕ → Bool). ReadStep g.width h (next_step g.width f h bits) None left) same (subst (λ (w : ℕ). ReadStep w h (next_step w above h bits) None left) reading.width read) in
+    let none : next_step g.width (row_above g y) h bits ≡ None = none-of g.width h left (next_step g.width (row_above g y) h bits) at in
+    let is : None ≡ meant = sym (fault-from reading.most g.width (row_above g y) h reading.changes bits inside none) ∙ reading.same in
+    subst (λ (o : Option (List ℕ × List ℕ)). ReadRow o false g white y left) is
+    (record { width = span.width ∙ reading.width; height = span.height ∙ reading.height; table = span.table; here = λ x a. span.inside x (omega arith) a; other = λ x j o. span.other x j o ∙ reading.other x j o })
+
+done-from : (most w : ℕ) (above : ℕ → Bool) (h : Head) (changes bits : List ℕ) → w ≤ h.a0 → row_from most w above h changes bits ≡ Some (changes, bits)
+unfolding row_from
+done-from zero w above h changes bits past = cond-true (leb w h.a0) (Some (changes, bits)) None (le-leb w h.a0 past)
+done-from (suc n) w above h changes bits past = cond-true (leb w h.a0) (Some (changes, bits)) (next_step w above h bits and_then (λ m. row_from n w above m.head (changes ++ m.added) m.left)) (le-leb w h.a0 past)
+
+pub row-done : (g new : Grid) (y : ℕ) (h : Head) (bits : List ℕ) (meant : Option (List ℕ × List ℕ)) → RowReading g new y h bits meant → g.width ≤ h.a0 → ReadRow meant true g new y bits
+row-done g new y h bits meant reading past =
+    let is : Some (reading.changes, bits) ≡ meant = sym (done-from reading.most g.width (row_above g y) h reading.changes bits past) ∙ reading.same in
+    subst (λ (o : Option (List ℕ × List ℕ)). ReadRow o true g new y bits) is
+    (record { width = reading.width; height = reading.height; table = reading.table; here = λ x a. reading.painted x (omega arith); other = reading.other }, refl)
+
+-- ---- where the search for b1 begins
+bit_number-test : (b : Bool) → eqb (bit_number b) 1 ≡ b
+bit_number-test true = refl
+bit_number-test false = refl
+
+pub other-colour : (b c : Bool) → not (beq b c) ≡ true → b ≡ not c
+other-colour true true e = sym e
+other-colour true false e = refl
+other-colour false true e = refl
+other-colour false false e = e
+
+pub same-colour : (b c : Bool) → not (beq b c) ≡ false → b ≡ c
+same-colour true true e = refl
+same-colour true false e = e
+same-colour false true e = sym e
+same-colour false false e = refl
+
+pub record IsStart (w : ℕ) (row : ℕ → Bool) (h : Head) (from : ℕ) (left : Bool) : Type 0 where
+  pub from_is : from ≡ cond h.begun (h.a0 + 1) 0
+  pub left_is : left ≡ left_of row from
+  pub within : from ≤ w
+
+pub start-begun : (w : ℕ) (row : ℕ → Bool) (h : Head) (from p : ℕ) (left : Bool) → h.begun ≡ true → from ≡ h.a0 + 1 → left ≡ eqb p 1 → p ≡ bit_number (row h.a0) → h.a0 < w → IsStart w row h from left
+start-begun w row h from p left begun e f q inside = record {
+  from_is = e ∙ sym (cond-true h.begun (h.a0 + 1) 0 begun);
+  left_is = f ∙ ap (λ (n : ℕ). eqb n 1) q ∙ bit_number-test (row h.a0) ∙ sym (ap (λ (n : ℕ). left_of row n) (e ∙ add-one h.a0));
+  within = omega arith;
+}
+
+pub start-white : (w : ℕ) (row : ℕ → Bool) (h : Head) (from : ℕ) (left : Bool) → h.begun ≡ false → from ≡ 0 → left ≡ false → IsStart w row h from left
+start-white w row h from left begun e f = record {
+  from_is = e ∙ sym (cond-false h.begun (h.a0 + 1) 0 begun);
+  left_is = f ∙ sym (ap (λ (n : ℕ). left_of row n) e);
+  within = omega arith;
+}
+
+pub record IsMoved (w : ℕ) (row : ℕ → Bool) (black left : Bool) (from middle : ℕ) : Type 0 where
+  pub cases : ((left ≡ not black) × IsFirst row black from w middle) ⊎ ((left ≡ black) × (middle ≡ from))
+
+pub find-b1 : (w : ℕ) (row : ℕ → Bool) (h : Head) (from middle place : ℕ) (left : Bool) → IsStart w row h from left → IsMoved w row h.black left from middle → IsFirst row (not h.black) middle w place → place ≡ b1_of w row h
+unfolding b1_of
+find-b1 w row h from middle place left start moved first =
+    sym (ap (λ (n : ℕ). place_from (is_change_from row h.black) n w) (sym start.from_is)
+    ∙ ⊎_elim
+    (λ (m : (left ≡ not h.black) × IsFirst row h.black from w middle). b1-outside row h.black from w middle place start.within (sym start.left_is ∙ m.0) m.1 first)
+    (λ (m : (left ≡ h.black) × (middle ≡ from)). b1-inside row h.black from w place start.within (sym start.left_is ∙ m.0) (subst (λ (n : ℕ). IsFirst row (not h.black) n w place) m.1 first))
+    moved.cases)
+
+pub mode-vertical : (w : ℕ) (above : ℕ → Bool) (h : Head) (mode : ℕ) (bits : List ℕ) → (mode ≡ 0 → ⊥) → (mode ≡ 1 → ⊥) → after_mode w above h mode bits ≡ after_vertical w above h (mode - 2) bits
+mode-vertical w above h zero bits no_pass no_runs = absurd (no_pass refl)
+mode-vertical w above h (suc zero) bits no_pass no_runs = absurd (no_runs refl)
+mode-vertical w above h (suc (suc v)) bits no_pass no_runs = let at : v ≡ suc (suc v) - 2 = omega arith in ap (λ (n : ℕ). after_vertical w above h n bits) at

@@ -1,0 +1,10 @@
+use Rattle.std.proofs.Common.{◌≡◌}
+use Rattle.jbig2_mmr.specs.T6.{rows_of}
+use Rattle.jbig2_mmr.proofs.T6Decoding.{RowsReading}
+use Rattle.jbig2_mmr.proofs.mmr.decode.Given as goal
+
+abbrev pub invariant-loop-y : goal.invariant-loop-y
+invariant-loop-y g l = record {
+  reading : RowsReading l.fn.bitmap.width l.fn.bitmap.height l.y l.reader.left l.bitmap (rows_of l.fn.bitmap.width l.fn.bitmap.height l.bytes);
+  bytes : l.reader.bytes ≡ l.bytes;
+}

@@ -1,0 +1,3 @@
+pub mod T6
+pub mod T6Codes
+pub mod inner

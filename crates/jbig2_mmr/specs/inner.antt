@@ -1,0 +1,2 @@
+pub mod T6Calls
+pub mod T6Reading

@@ -1,0 +1,82 @@
+-- What single calls of a T.6 decoder say (our own rule).
+use Rattle.std.specs.Prelude.{◌≡◌, ℕ, zero, suc, ◌/◌, ◌%◌, ◌^◌, ◌<◌, ◌≤◌, nat_le, nat_lt, Bool, true, false, not, ◌&&◌, List, [], ◌∷◌, Option, Some, None}
+use Rattle.jbig2_base.specs.Grid.{Grid, pixel_at}
+use Rattle.jbig2_base.specs.inner.Table.{IsTable}
+use Rattle.jbig2_mmr.specs.declared.mmr.codes.Code.{Code}
+use Rattle.jbig2_mmr.specs.T6.{differ, Head, black_at}
+
+-- the lowest n bits of a number, high bit first, before others
+abbrev pub spell : ℕ → ℕ → List ℕ → List ℕ
+spell zero v behind = behind
+spell (suc n) v behind = spell n (v / 2) (v % 2 ∷ behind)
+
+-- a line of a code table
+abbrev pub line_of : Code → ℕ × List ℕ
+line_of c = (c.value, spell c.size c.number [])
+
+-- a code word of 1 to 24 bits
+abbrev pub is_word : Code → Bool
+is_word c = nat_lt 0 c.size && nat_le c.size 24 && nat_lt c.number (2 ^ c.size)
+
+abbrev pub are_words : List Code → Bool
+are_words [] = true
+are_words (c ∷ cs) = is_word c && are_words cs
+
+abbrev pub AreBits : List ℕ → Type 0
+AreBits [] = Unit {0}
+AreBits (b ∷ bs) = (b < 2) × AreBits bs
+
+-- data, and the bits of it that are left to read
+pub record Rest : Type 0 where
+  pub bytes : List ℕ
+  pub left : List ℕ
+
+-- what was read, and the bits behind it
+abbrev pub with_rest : Option ℕ → List ℕ → Option (ℕ × List ℕ)
+with_rest None left = None
+with_rest (Some n) left = Some (n, left)
+
+-- row y
+abbrev pub row_of : Grid → ℕ → ℕ → Bool
+row_of g y x = pixel_at g x y
+
+-- the row above row y: white above row 0
+abbrev pub row_above : Grid → ℕ → ℕ → Bool
+row_above g zero x = false
+row_above g (suc y) x = pixel_at g x y
+
+-- the first place of a colour from `from` on, or the end
+pub record IsFirst (row : ℕ → Bool) (black : Bool) (from to place : ℕ) : Type 0 where
+  pub after : from ≤ place
+  pub within : place ≤ to
+  pub before : (x : ℕ) → from ≤ x → x < place → row x ≡ not black
+  pub found : place < to → row place ≡ black
+
+-- row y has the pixels of f, and the other rows are the old ones
+pub record IsRow (old new : Grid) (y : ℕ) (f : ℕ → Bool) : Type 0 where
+  pub width : new.width ≡ old.width
+  pub height : new.height ≡ old.height
+  pub table : IsTable new
+  pub here : (x : ℕ) → x < old.width → pixel_at new x y ≡ f x
+  pub other : (x j : ℕ) → (j ≡ y → ⊥) → pixel_at new x j ≡ pixel_at old x j
+
+-- the pixels of row y from column `from` up to column `to` have one colour, all others are the old ones
+pub record IsSpan (old new : Grid) (y from to : ℕ) (black : Bool) : Type 0 where
+  pub width : new.width ≡ old.width
+  pub height : new.height ≡ old.height
+  pub table : IsTable new
+  pub inside : (x : ℕ) → from ≤ x → x < to → pixel_at new x y ≡ black
+  pub left : (x : ℕ) → x < from → pixel_at new x y ≡ pixel_at old x y
+  pub right : (x : ℕ) → to ≤ x → pixel_at new x y ≡ pixel_at old x y
+  pub other : (x j : ℕ) → (j ≡ y → ⊥) → pixel_at new x j ≡ pixel_at old x j
+
+-- From the head on, up to `turn` the added changes leave the colour, and from there up to a0 of the
+-- head that follows they turn it.
+pub record IsTurn (w : ℕ) (h : Head) (added : List ℕ) (turn : ℕ) (next : Head) : Type 0 where
+  pub begun : next.begun ≡ true
+  pub forward : h.a0 ≤ turn
+  pub ordered : turn ≤ next.a0
+  pub inside : next.a0 ≤ w
+  pub before : (x : ℕ) → x < turn → black_at added x ≡ false
+  pub between : (x : ℕ) → turn ≤ x → x < next.a0 → black_at added x ≡ true
+  pub behind : (x : ℕ) → next.a0 ≤ x → differ h.black (black_at added x) ≡ next.black

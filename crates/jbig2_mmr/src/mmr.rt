@@ -1,0 +1,60 @@
+//! Bitmaps that are coded in two dimensions by T.6 (MMR; T.88, 6.2.6).
+ghost use Rattle.std.specs.Prelude.{◌≡◌, if◌then◌else◌, false, Ok, Err};
+ghost use Rattle.jbig2_base.specs.Answer.{Answers};
+ghost use Rattle.jbig2_base.specs.Grid.{blank};
+ghost use Rattle.jbig2_mmr.specs.T6.{decoded, grid_of_rows, rows_of};
+
+mod bits;
+pub mod codes;
+mod row;
+mod span;
+
+use crate::mmr::bits::CodeReader;
+use crate::mmr::row::read_row;
+use jbig2_base::bitmap::Bitmap;
+use jbig2_base::bitmap::steps::Steps;
+use jbig2_base::error::{DecodeError, RegionError, Result};
+use std::alloc::Allocator;
+use std::sync::ledger::Ledger;
+
+/// Decodes rows onto a white bitmap, and answers how many of `bytes` they take, a begun one whole.
+///
+/// A fault in the data, or an end of block before the last row, is refused in strict mode
+/// (`RegionError::InvalidMmrData`); otherwise a fault takes all bytes. In both modes the whole rows
+/// before it stay and the rest is white. No memory is taken.
+pub fn decode<A: Allocator, L: Ledger>(
+    bitmap: &mut Bitmap<A>,
+    bytes: &[u8],
+    strict: bool,
+    steps: &mut Steps<L>,
+) -> Result<usize>
+    requires { bitmap.old ≡ blank bitmap.old.width bitmap.old.height false }
+    ensures value { Answers (λ used. record { grid = bitmap.new; used = used }) result (decoded strict bitmap.old.width bitmap.old.height bytes.now) }
+    ensures grid { bitmap.new ≡ grid_of_rows bitmap.old.width bitmap.old.height (rows_of bitmap.old.width bitmap.old.height bytes.now).rows }
+{
+    let height = bitmap.height();
+    if bitmap.width() == 0 || height == 0 {
+        return Ok(0);
+    }
+    let mut reader = CodeReader::new(bytes);
+    for y in 0..height {
+        if reader.skip_end_of_block() {
+            return missing_rows(strict, reader.bytes_used());
+        }
+        if !read_row(bitmap, y, &mut reader, steps) {
+            return missing_rows(strict, bytes.len());
+        }
+    }
+    reader.skip_end_of_block();
+    Ok(reader.bytes_used())
+}
+
+/// The answer where not all rows are there.
+fn missing_rows(strict: bool, used: usize) -> Result<usize>
+    ensures { result ≡ (if strict then Err (DecodeError.Region RegionError.InvalidMmrData) else Ok used) }
+{
+    if strict {
+        return Err(DecodeError::Region(RegionError::InvalidMmrData));
+    }
+    Ok(used)
+}

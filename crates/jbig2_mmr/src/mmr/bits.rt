@@ -1,0 +1,178 @@
+//! The bits of MMR data, and the codes in them (T.6).
+ghost use Rattle.std.specs.Prelude.{◌≡◌, ℕ, ◌+◌, ◌-◌, ◌*◌, ◌/◌, ◌^◌, ◌<◌, ◌≤◌, ◌++◌, List, length, drop, take, map, min, slice_index, IfSome, IsTrue, if◌then◌else◌};
+ghost use Rattle.jbig2_base.specs.Bits.{number_after};
+ghost use Rattle.jbig2_mmr.specs.T6.{read_code, run, bits_of, ends_block, after_end, is_prefix_free, runs_of};
+ghost use Rattle.jbig2_mmr.specs.T6Codes.{modes};
+ghost use Rattle.jbig2_mmr.specs.inner.T6Reading.{AreBits, with_rest, line_of, are_words};
+
+use crate::mmr::codes::black::BLACK_RUNS;
+use crate::mmr::codes::white::WHITE_RUNS;
+use crate::mmr::codes::{Code, MODES};
+use std::marker::Model;
+
+/// Data and a place in it, by byte and bit apart, so that no length overflows.
+#[derive(Drop)]
+pub struct CodeReader<'a> {
+    bytes: &'a [u8],
+    byte: usize,
+    bit: u32,
+}
+
+impl<'a> Model for CodeReader<'a> {
+    ghost use Rattle.std.specs.Prelude.{◌≡◌, ◌<◌, ◌≤◌, drop, length};
+    ghost use Rattle.jbig2_mmr.specs.T6.{bits_of};
+    ghost use Rattle.jbig2_mmr.specs.inner.T6Reading.{Rest};
+
+    ghost Value = { Rest };
+
+    ghost view = { λ r. record { bytes = r.bytes.now; left = drop r.bit (bits_of (drop r.byte r.bytes.now)) } };
+
+    ghost invariant = { λ r. (r.byte ≤ length r.bytes.now) × (r.bit < 8) × (r.byte ≡ length r.bytes.now → r.bit ≡ 0) };
+}
+
+impl<'a> CodeReader<'a> {
+    /// A reader at the first bit of `bytes`.
+    pub fn new(bytes: &'a [u8]) -> CodeReader<'a>
+        ensures { result ≡ record { bytes = bytes.now; left = bits_of bytes.now } }
+    {
+        CodeReader {
+            bytes,
+            byte: 0,
+            bit: 0,
+        }
+    }
+
+    /// How many bytes are read, a begun one whole.
+    pub fn bytes_used(&self) -> usize
+        ensures { result ≡ length self.now.bytes - length self.now.left / 8 }
+    {
+        if self.bit > 0 {
+            self.byte + 1
+        } else {
+            self.byte
+        }
+    }
+
+    /// The next 24 bits as a number, zeros behind the end.
+    fn window(&self) -> u32
+        ensures value { (n : ℕ) → n ≤ 24 → n ≤ length self.now.left → result / 2 ^ (24 - n) ≡ number_after 0 (take n self.now.left) }
+        ensures bits { AreBits self.now.left }
+    {
+        let bytes = &self.bytes[self.byte..];
+        let word = u32::from_be_bytes([
+            byte_at(bytes, 0),
+            byte_at(bytes, 1),
+            byte_at(bytes, 2),
+            byte_at(bytes, 3),
+        ]);
+        (word << self.bit) >> 8
+    }
+
+    /// How many bits are left, counted up to 24.
+    fn few(&self) -> u32
+        ensures { result ≡ min 24 (length self.now.left) }
+    {
+        let bytes = self.bytes.len() - self.byte;
+        if bytes >= 4 {
+            return 24;
+        }
+        (8 * bytes as u32 - self.bit).min(24)
+    }
+
+    /// Goes over `count` bits.
+    fn skip(&mut self, count: u32)
+        requires few { count ≤ 24 }
+        requires there { count ≤ length self.old.left }
+        ensures { self.new ≡ record self.old { left = drop count self.old.left } }
+    {
+        let bit = self.bit + count;
+        self.byte += (bit / 8) as usize;
+        self.bit = bit % 8;
+    }
+
+    /// Goes over an end-of-block code, and says whether one stood there.
+    pub fn skip_end_of_block(&mut self) -> bool
+        ensures value { result ≡ ends_block self.old.left }
+        ensures rest { self.new ≡ record self.old { left = after_end self.old.left } }
+    {
+        if self.few() < 24 || self.window() != 0x001001 {
+            return false;
+        }
+        self.skip(24);
+        true
+    }
+
+    /// What the next code of `table` stands for. None where the bits begin with no code of it; the
+    /// place stays.
+    fn read_code(&mut self, table: &[Code]) -> Option<u16>
+        requires { IsTrue (are_words table.now) }
+        ensures value { with_rest result self.new.left ≡ read_code (map line_of table.now) self.old.left }
+        ensures bytes { self.new.bytes ≡ self.old.bytes }
+        ensures shorter { IfSome result (λ _. length self.new.left < length self.old.left) }
+    {
+        let window = self.window();
+        let few = self.few();
+        for code in table {
+            let size = u32::from(code.size);
+            if size <= few && window >> (24 - size) == u32::from(code.number) {
+                self.skip(size);
+                return Some(code.value);
+            }
+        }
+        None
+    }
+
+    /// The number of the next mode (T.6, table 1).
+    pub fn read_mode(&mut self) -> Option<u16>
+        ensures value { with_rest result self.new.left ≡ read_code modes self.old.left }
+        ensures bytes { self.new.bytes ≡ self.old.bytes }
+        ensures shorter { IfSome result (λ _. length self.new.left < length self.old.left) }
+        ensures law { IsTrue (is_prefix_free modes) }
+    {
+        self.read_code(&MODES)
+    }
+
+    /// The run that the next code of the colour stands for (T.6, tables 2 and 3).
+    fn read_run_code(&mut self, black: bool) -> Option<u16>
+        ensures value { with_rest result self.new.left ≡ read_code (runs_of black) self.old.left }
+        ensures bytes { self.new.bytes ≡ self.old.bytes }
+        ensures shorter { IfSome result (λ _. length self.new.left < length self.old.left) }
+        ensures law { IsTrue (is_prefix_free (runs_of black)) }
+    {
+        if black {
+            self.read_code(&BLACK_RUNS)
+        } else {
+            self.read_code(&WHITE_RUNS)
+        }
+    }
+
+    /// The next run of a colour: make-up codes, then a terminating code. None where it is longer
+    /// than `room`, or bits stand there that are no code.
+    pub fn read_run(&mut self, black: bool, room: u32) -> Option<u32>
+        ensures value { with_rest result self.new.left ≡ run black room self.old.left }
+        ensures within { IfSome result (λ r. r ≤ room) }
+        ensures bytes { self.new.bytes ≡ self.old.bytes }
+        ensures shorter { IfSome result (λ _. length self.new.left ≤ length self.old.left) }
+    {
+        let mut sum = 0;
+        while let Some(code) = self.read_run_code(black) {
+            let part = u32::from(code);
+            if part > room - sum {
+                return None;
+            }
+            sum += part;
+            if part < 64 {
+                return Some(sum);
+            }
+        }
+        None
+    }
+}
+
+/// The byte at `index`, 0 past the end.
+#[inline(always)]
+fn byte_at(bytes: &[u8], index: usize) -> u8
+    ensures { result ≡ slice_index bytes.now index }
+{
+    if index < bytes.len() { bytes[index] } else { 0 }
+}

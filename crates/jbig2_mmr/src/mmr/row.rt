@@ -1,0 +1,196 @@
+//! One row, mode by mode (T.6, 2.2).
+ghost use Rattle.std.specs.Prelude.{◌≡◌, ℕ, ◌+◌, ◌-◌, ◌<◌, ◌≤◌, List, length, IfSome, Some, not, true, false, ◌≢◌};
+ghost use Rattle.jbig2_base.specs.inner.Table.{IsTable};
+ghost use Rattle.jbig2_mmr.specs.T6.{b1_of, after_pass, after_vertical, after_runs, next_step, row};
+ghost use Rattle.jbig2_mmr.specs.inner.T6Calls.{ReadStep, ReadRow, head_of};
+ghost use Rattle.jbig2_mmr.specs.inner.T6Reading.{row_above, row_of};
+
+use crate::mmr::bits::CodeReader;
+use crate::mmr::span::{fill_span, find_colour};
+use jbig2_base::bitmap::Bitmap;
+use jbig2_base::bitmap::steps::Steps;
+use std::alloc::Allocator;
+use std::sync::ledger::Ledger;
+
+/// The numbers of modes in the code table: vertical modes follow, from three left on.
+const PASS: u16 = 0;
+
+const HORIZONTAL: u16 = 1;
+
+const VERTICAL: u16 = 2;
+
+/// Where a row stands: at `a0`, with the colour from there on.
+#[derive(Clone, Copy)]
+pub struct Place {
+    a0: u32,
+    begun: bool,
+    black: bool,
+}
+
+/// What a mode does: the colour goes on up to `turn`, and from there the other one up to a0 of `next`.
+#[derive(Clone, Copy)]
+pub struct Turn {
+    turn: u32,
+    next: Place,
+}
+
+/// Reads row `y`, whose reference row is the one above it. False at a fault, which leaves it white.
+pub fn read_row<A: Allocator, L: Ledger>(
+    bitmap: &mut Bitmap<A>,
+    y: u32,
+    reader: &mut CodeReader,
+    steps: &mut Steps<L>,
+) -> bool
+    requires { y < bitmap.old.height }
+    ensures value { ReadRow (row bitmap.old.width (row_above bitmap.old y) reader.old.left) result bitmap.old bitmap.new y reader.new.left }
+    ensures bytes { reader.new.bytes ≡ reader.old.bytes }
+{
+    let width = bitmap.width();
+    let above = reference_row(bitmap, y);
+    let mut place = Place {
+        a0: 0,
+        begun: false,
+        black: false,
+    };
+    while place.a0 < width {
+        match read_turn(bitmap, above, reader, place, steps) {
+            Some(turn) => {
+                fill_span(bitmap, y, place.a0, turn.turn, place.black, steps);
+                fill_span(bitmap, y, turn.turn, turn.next.a0, !place.black, steps);
+                place = turn.next;
+            }
+            None => {
+                fill_span(bitmap, y, 0, width, false, steps);
+                return false;
+            }
+        }
+    }
+    true
+}
+
+/// The row above row `y`; above row 0 a row outside, which is white.
+fn reference_row<A: Allocator>(bitmap: &Bitmap<A>, y: u32) -> u32
+    requires { y < bitmap.now.height }
+    ensures value { (x : ℕ) → row_of bitmap.now result x ≡ row_above bitmap.now y x }
+    ensures apart { result ≢ y }
+{
+    if y == 0 { bitmap.height() } else { y - 1 }
+}
+
+/// Reads a mode. None at a fault.
+fn read_turn<A: Allocator, L: Ledger>(
+    bitmap: &Bitmap<A>,
+    above: u32,
+    reader: &mut CodeReader,
+    place: Place,
+    steps: &mut Steps<L>,
+) -> Option<Turn>
+    requires column { place.a0 < bitmap.now.width }
+    requires first { place.begun ≡ false → place.a0 ≡ 0 }
+    ensures value { ReadStep bitmap.now.width (head_of place) (next_step bitmap.now.width (row_of bitmap.now above) (head_of place) reader.old.left) result reader.new.left }
+    ensures bytes { reader.new.bytes ≡ reader.old.bytes }
+    ensures shorter { IfSome result (λ _. length reader.new.left < length reader.old.left) }
+{
+    match reader.read_mode()? {
+        PASS => Some(pass(bitmap, above, place, steps)),
+        HORIZONTAL => horizontal(reader, place, bitmap.width()),
+        mode => vertical(bitmap, above, place, mode - VERTICAL, steps),
+    }
+}
+
+/// The pass mode: a0 moves under b2.
+fn pass<A: Allocator, L: Ledger>(
+    bitmap: &Bitmap<A>,
+    above: u32,
+    place: Place,
+    steps: &mut Steps<L>,
+) -> Turn
+    requires column { place.a0 < bitmap.now.width }
+    requires first { place.begun ≡ false → place.a0 ≡ 0 }
+    ensures { (bits : List ℕ) → ReadStep bitmap.now.width (head_of place) (after_pass bitmap.now.width (row_of bitmap.now above) (head_of place) bits) (Some result) bits }
+{
+    let b1 = find_b1(bitmap, above, place, steps);
+    let b2 = find_colour(bitmap, above, b1, place.black, steps);
+    Turn {
+        turn: b2,
+        next: Place {
+            a0: b2,
+            begun: true,
+            black: place.black,
+        },
+    }
+}
+
+/// The horizontal mode: two runs.
+fn horizontal(reader: &mut CodeReader, place: Place, width: u32) -> Option<Turn>
+    requires { place.a0 < width }
+    ensures value { ReadStep width (head_of place) (after_runs width (head_of place) reader.old.left) result reader.new.left }
+    ensures bytes { reader.new.bytes ≡ reader.old.bytes }
+    ensures shorter { IfSome result (λ _. length reader.new.left ≤ length reader.old.left) }
+{
+    let turn = place.a0 + reader.read_run(place.black, width - place.a0)?;
+    let a0 = turn + reader.read_run(!place.black, width - turn)?;
+    Some(Turn {
+        turn,
+        next: Place {
+            a0,
+            begun: true,
+            black: place.black,
+        },
+    })
+}
+
+/// A vertical mode: a1 is b1 plus `offset` minus 3. None where it lies left of a0 or past the width.
+fn vertical<A: Allocator, L: Ledger>(
+    bitmap: &Bitmap<A>,
+    above: u32,
+    place: Place,
+    offset: u16,
+    steps: &mut Steps<L>,
+) -> Option<Turn>
+    requires { place.a0 < bitmap.now.width }
+    ensures { (bits : List ℕ) → ReadStep bitmap.now.width (head_of place) (after_vertical bitmap.now.width (row_of bitmap.now above) (head_of place) offset bits) result bits }
+{
+    let b1 = find_b1(bitmap, above, place, steps);
+    let moved = u64::from(b1) + u64::from(offset);
+    if moved < u64::from(place.a0) + 3 || moved > u64::from(bitmap.width()) + 3 {
+        return None;
+    }
+    let a1 = (moved - 3) as u32;
+    Some(Turn {
+        turn: a1,
+        next: Place {
+            a0: a1,
+            begun: true,
+            black: !place.black,
+        },
+    })
+}
+
+/// b1: the first pixel of the reference row right of a0 that has not the colour of a0, and whose left
+/// neighbour has it.
+fn find_b1<A: Allocator, L: Ledger>(
+    bitmap: &Bitmap<A>,
+    above: u32,
+    place: Place,
+    steps: &mut Steps<L>,
+) -> u32
+    requires { place.a0 < bitmap.now.width }
+    ensures value { result ≡ b1_of bitmap.now.width (row_of bitmap.now above) (head_of place) }
+    ensures within { result ≤ bitmap.now.width }
+    ensures forward { place.begun ≡ true → place.a0 < result }
+    ensures colour { result < bitmap.now.width → row_of bitmap.now above result ≡ not place.black }
+{
+    // A column of the bitmap fits 32 bits.
+    let _ = bitmap.width();
+    let mut from = 0;
+    let mut left = false;
+    if place.begun {
+        from = place.a0 + 1;
+        left = bitmap.get_pixel(place.a0, above, steps) == 1;
+    }
+    if left != place.black {
+        from = find_colour(bitmap, above, from, place.black, steps);
+    }
+    find_colour(bitmap, above, from, !place.black, steps)
+}

@@ -1,7 +1,0 @@
-use Rattle.std.proofs.Common.{ℕ, sym, ap, ◌∙◌}
-use Rattle.jbig2_region.specs.T6Reading.{row_above}
-use Rattle.jbig2_region.proofs.T6Rows.{above-none}
-use Rattle.jbig2_region.proofs.mmr.row.reference_row.Goals as goal
-
-pub returns-then-y-eq0-clause-value : goal.returns-then-y-eq0-clause-value
-returns-then-y-eq0-clause-value g c = λ x. above-none c.args.bitmap.now c.height.result x c.height.ensures.value ∙ ap (λ (y : ℕ). row_above c.args.bitmap.now y x) (sym c.if-y-eq0.true)

@@ -1,0 +1,4 @@
+pub mod Holds
+pub mod Layouts
+pub mod Neighbours
+pub mod RefinementViews

@@ -1,0 +1,72 @@
+-- The templates of generic regions by their neighbours (our own rule), and their nominal adaptive pixels (T.88, 6.2.5.4).
+use Rattle.std.specs.Prelude.{ℕ, ◌*◌, ◌≡◌, Bool, false, ◌&&◌, if◌then◌else◌, ℤ, pos, negsuc, List}
+use Rattle.std.specs.Ordering.{int_eq}
+use Rattle.jbig2_base.specs.Counts.{Counts}
+use Rattle.jbig2_coder.specs.Coder.{started}
+use Rattle.jbig2_region.specs.Generic.{generic_coding}
+use Rattle.jbig2_region.specs.GenericHeader.{GenericHeader}
+use Rattle.jbig2_region.specs.inner.Neighbours.{IsMixed, adaptive_count, mixed_count, mixed_pixels}
+use Rattle.jbig2_region.specs.Raster.{Coding, Region, no_pixels, fresh_contexts}
+use Rattle.jbig2_region.specs.RunBytes.{CountsRegion}
+use Rattle.jbig2_region.specs.Templates.{adaptive, context_bits, template_pixels}
+use Rattle.jbig2_region.specs.declared.generic_kernel.neighbours.Adaptives.{Adaptives}
+use Rattle.jbig2_region.specs.declared.generic_kernel.neighbours.Neighbours.{Neighbours}
+use Rattle.jbig2_region.specs.declared.template.AdaptiveTemplatePixel.{AdaptiveTemplatePixel}
+use Rattle.jbig2_region.specs.declared.template.GenericTemplatePixels.{GenericTemplatePixels}
+use Rattle.jbig2_region.specs.declared.template.GenericTemplatePixels.TheVariants.{Regular, Extended}
+use Rattle.jbig2_region.specs.declared.template.Template.{Template}
+use Rattle.jbig2_region.specs.declared.template.Template.TheVariants.{Template0, Template1, Template2, Template3}
+
+abbrev pub lies_at : AdaptiveTemplatePixel → ℤ → ℤ → Bool
+lies_at p x y = int_eq p.x x && int_eq p.y y
+
+-- whether the adaptive pixels lie where the standard has them by default
+abbrev pub is_nominal : Template → List AdaptiveTemplatePixel → Bool
+is_nominal Template0 a = lies_at (adaptive a 0) (pos 3) (negsuc 0) && (lies_at (adaptive a 1) (negsuc 2) (negsuc 0) && (lies_at (adaptive a 2) (pos 2) (negsuc 1) && lies_at (adaptive a 3) (negsuc 1) (negsuc 1)))
+is_nominal Template1 a = lies_at (adaptive a 0) (pos 3) (negsuc 0)
+is_nominal Template2 a = lies_at (adaptive a 0) (pos 2) (negsuc 0)
+is_nominal Template3 a = lies_at (adaptive a 0) (pos 2) (negsuc 0)
+
+abbrev pub neighbours_of : ℕ → ℕ → ℕ → ℕ → ℕ → Neighbours
+neighbours_of left above_reach above_count top_reach top_count = record { left = left; above = record { reach = above_reach; count = above_count }; top = record { reach = top_reach; count = top_count } }
+
+-- with the adaptive pixels where they are nominal, and without them
+abbrev pub nominal_neighbours : Template → Neighbours
+nominal_neighbours Template0 = neighbours_of 4 3 7 2 5
+nominal_neighbours Template1 = neighbours_of 3 3 6 2 4
+nominal_neighbours Template2 = neighbours_of 2 2 5 1 3
+nominal_neighbours Template3 = neighbours_of 4 2 6 0 0
+
+abbrev pub fixed_neighbours : Template → Neighbours
+fixed_neighbours Template0 = neighbours_of 4 2 5 1 3
+fixed_neighbours Template1 = neighbours_of 3 2 5 2 4
+fixed_neighbours Template2 = neighbours_of 2 1 4 1 3
+fixed_neighbours Template3 = neighbours_of 4 1 5 0 0
+
+-- how many adaptive pixels a template has that isn't extended
+abbrev pub adaptive_pixels : Template → ℕ
+adaptive_pixels Template0 = 4
+adaptive_pixels Template1 = 1
+adaptive_pixels Template2 = 1
+adaptive_pixels Template3 = 1
+
+-- what adaptive pixels make of a template
+pub record FitsAdaptives (template : Template) (a : List AdaptiveTemplatePixel) (r : Adaptives) : Type 0 where
+  pub pixels : mixed_pixels (fixed_neighbours template) r ≡ template_pixels template (Regular a)
+  pub mixed : IsMixed (fixed_neighbours template) r
+  pub count : mixed_count (fixed_neighbours template) r ≡ context_bits template
+  pub loads : adaptive_count r ≡ adaptive_pixels template
+
+-- adaptive pixels that are read one by one
+abbrev pub read_pixels : Template → List AdaptiveTemplatePixel → ℕ
+read_pixels template a = if is_nominal template a then 0 else adaptive_pixels template
+
+-- The steps of a region; those of an extended template aren't counted.
+abbrev pub CountsCoded : Template → GenericTemplatePixels → Coding → ℕ → ℕ → List ℕ → Region → Counts → Counts → Type 0
+CountsCoded template (Extended _) coding w h bytes start before after = w * h ≡ 0 → after ≡ before
+CountsCoded template (Regular a) coding w h bytes start before after = CountsRegion (template_pixels template (Regular a)) (is_nominal template a) (read_pixels template a) coding w h bytes start before after
+
+-- those of a region whose header is read; with MMR they aren't counted
+abbrev pub CountsGeneric : GenericHeader → Counts → Counts → Type 0
+CountsGeneric h before after =
+    h.mmr ≡ false → CountsCoded h.template h.adaptive_template_pixels (generic_coding h) h.region_info.width h.region_info.height h.bytes (no_pixels (started h.bytes) (fresh_contexts (context_bits h.template))) before after

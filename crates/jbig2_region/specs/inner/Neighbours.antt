@@ -1,0 +1,120 @@
+-- Templates of generic regions as neighbours that lie side by side, with adaptive pixels between them (our own rule).
+use Rattle.std.specs.Prelude.{◌≡◌, ◌==◌, ℕ, zero, suc, ◌+◌, ◌-◌, ◌*◌, ◌/◌, ◌%◌, ◌^◌, ◌<◌, ◌≤◌, ℤ, pos, negsuc, ◌-ℤ◌, List, [], ◌∷◌, ◌++◌, length, Bool, true, false, ◌&&◌, if◌then◌else◌, Option, Some, None}
+use Rattle.jbig2_base.specs.Grid.{Grid, pixel}
+use Rattle.jbig2_base.specs.inner.WordBits.{bit}
+use Rattle.jbig2_coder.specs.Coder.{Coder, Context}
+use Rattle.jbig2_region.specs.Generic.{context_at, colour_above}
+use Rattle.jbig2_region.specs.inner.Holds.{Holds}
+use Rattle.jbig2_region.specs.Raster.{Coding, Region, after_pixels}
+use Rattle.jbig2_region.specs.declared.generic_kernel.neighbours.Adaptives.{Adaptives}
+use Rattle.jbig2_region.specs.declared.generic_kernel.neighbours.Layout.{Layout}
+use Rattle.jbig2_region.specs.declared.generic_kernel.neighbours.Neighbours.{Neighbours}
+use Rattle.jbig2_region.specs.declared.generic_kernel.neighbours.Stretch.{Stretch}
+use Rattle.jbig2_region.specs.declared.generic_kernel.windows.Windows.{Windows}
+use Rattle.jbig2_region.specs.declared.template.AdaptiveTemplatePixel.{AdaptiveTemplatePixel}
+
+-- so many pixels in the row that stands so many rows higher, the rightmost first
+abbrev pub side_by_side : ℤ → ℕ → ℕ → List AdaptiveTemplatePixel
+side_by_side x rows zero = []
+side_by_side x rows (suc count) = record { x = x; y = pos 0 -ℤ pos rows } ∷ side_by_side (x -ℤ pos 1) rows count
+
+abbrev pub left_pixels : Neighbours → List AdaptiveTemplatePixel
+left_pixels n = side_by_side (negsuc 0) 0 n.left
+
+abbrev pub stretch_pixels : Stretch → ℕ → List AdaptiveTemplatePixel
+stretch_pixels s rows = side_by_side (pos s.reach) rows s.count
+
+-- without adaptive pixels, or with them nominal, which makes them neighbours too
+abbrev pub nominal_pixels : Neighbours → List AdaptiveTemplatePixel
+nominal_pixels n = left_pixels n ++ (stretch_pixels n.above 1 ++ stretch_pixels n.top 2)
+
+abbrev pub mixed_pixels : Neighbours → Adaptives → List AdaptiveTemplatePixel
+mixed_pixels n a = left_pixels n ++ (a.first.now ++ (stretch_pixels n.above 1 ++ (a.middle.now ++ (stretch_pixels n.top 2 ++ a.last.now))))
+
+abbrev pub optional_pixels : Neighbours → Option Adaptives → List AdaptiveTemplatePixel
+optional_pixels n None = nominal_pixels n
+optional_pixels n (Some a) = mixed_pixels n a
+
+abbrev pub layout_pixels : Layout → List AdaptiveTemplatePixel
+layout_pixels l = optional_pixels l.neighbours l.adaptive
+
+abbrev pub neighbour_count : Neighbours → ℕ
+neighbour_count n = n.left + (n.above.count + n.top.count)
+
+-- small enough for the windows
+pub record IsNear (n : Neighbours) : Type 0 where
+  pub left : n.left ≤ 4
+  pub some : 1 ≤ n.left
+  pub above_reach : n.above.reach ≤ 3
+  pub above_count : n.above.count ≤ 7
+  pub top_reach : n.top.reach ≤ 3
+  pub top_count : n.top.count ≤ 7
+  pub few : neighbour_count n ≤ 16
+
+-- A window on a row about column x: bit 55 is the pixel at x, and those to the right of it stand lower.
+abbrev pub IsWindow : Grid → ℕ → ℤ → ℕ → Type 0
+IsWindow g x row word = (k : ℕ) → k < 64 → bit word (63 - k) ≡ pixel g (pos (x + k) -ℤ pos 8) row
+
+-- windows on the two rows above row y
+pub record Shows (g : Grid) (x y : ℕ) (w : Windows) : Type 0 where
+  pub above : IsWindow g x (pos y -ℤ pos 1) w.above
+  pub top : IsWindow g x (pos y -ℤ pos 2) w.top
+
+-- the four pixels left of column x, the nearest in bit 0
+abbrev pub IsLeft : Grid → ℕ → ℕ → ℕ → Type 0
+IsLeft g x y left = (k : ℕ) → k < 4 → bit left k ≡ pixel g (pos x -ℤ pos (k + 1)) (pos y)
+
+-- how the pixels of a row are coded
+abbrev pub row_coding : List AdaptiveTemplatePixel → Coding
+row_coding template = record { context = context_at template; known = colour_above; row_context = None }
+
+-- A bitmap, a coder and contexts before and after n pixels of row y, from column x on.
+abbrev pub Decodes : List AdaptiveTemplatePixel → Bool → ℕ → ℕ → ℕ → Grid → Coder → List Context → Grid → Coder → List Context → Type 0
+Decodes template predicted x y n grid coder states grid' coder' states' =
+    (w h : ℕ) (input : List ℕ) (r : Region) → length r.pixels ≡ y * w + x → r.predicted ≡ predicted → Holds w h input r grid coder states → Holds w h input (after_pixels (row_coding template) w h input n r) grid' coder' states'
+
+-- the part of a context that a window holds of a stretch, seen from `offset` columns right of the window's column
+abbrev pub stretch_bits : Stretch → ℕ → ℕ → ℕ
+stretch_bits s word offset = word / 2 ^ (55 - offset - s.reach) % 2 ^ s.count
+
+-- whether so many bits of a number are all of one colour
+abbrev pub is_field : ℕ → ℕ → ℕ → Bool → Bool
+is_field word shift count colour = word / 2 ^ shift % 2 ^ count == (if colour then 2 ^ count - 1 else 0)
+
+-- a stretch, from the window's column and each of the eight columns right of it; none is of either colour
+abbrev pub stretch_stays : Stretch → Bool → ℕ → Bool
+stretch_stays s colour word = if s.count == 0 then true else is_field word (47 - s.reach) (s.count + 8) colour
+
+abbrev pub neighbours_stay : Neighbours → Bool → ℕ → Windows → Bool
+neighbours_stay n colour left w = is_field left 0 n.left colour && (stretch_stays n.above colour w.above && stretch_stays n.top colour w.top)
+
+abbrev pub adaptive_count : Adaptives → ℕ
+adaptive_count a = length a.first.now + (length a.middle.now + length a.last.now)
+
+abbrev pub mixed_count : Neighbours → Adaptives → ℕ
+mixed_count n a = n.left + (length a.first.now + (n.above.count + (length a.middle.now + (n.top.count + length a.last.now))))
+
+-- neighbours near by, and no more adaptive pixels than a context has room for
+pub record IsMixed (n : Neighbours) (a : Adaptives) : Type 0 where
+  pub near : IsNear n
+  pub few : mixed_count n a ≤ 16
+
+abbrev pub layout_count : Neighbours → Option Adaptives → ℕ
+layout_count n None = neighbour_count n
+layout_count n (Some a) = mixed_count n a
+
+abbrev pub layout_loads : Option Adaptives → ℕ
+layout_loads None = 0
+layout_loads (Some a) = adaptive_count a
+
+abbrev pub IsLayout : Neighbours → Option Adaptives → Type 0
+IsLayout n None = IsNear n
+IsLayout n (Some a) = IsMixed n a
+
+-- without adaptive pixels there are run bytes
+abbrev pub is_nominal_layout : Option Adaptives → Bool
+is_nominal_layout None = true
+is_nominal_layout (Some a) = false
+
+abbrev pub layout_coding : Layout → Option ℕ → Coding
+layout_coding l row_context = record { context = context_at (layout_pixels l); known = colour_above; row_context = row_context }

@@ -1,7 +1,0 @@
-use Rattle.std.proofs.Common.{◌≡◌, drop}
-use Rattle.jbig2_symbol.specs.Text.{drawn}
-use Rattle.jbig2_symbol.specs.TextViews.{instances_view}
-use Rattle.jbig2_symbol.proofs.text.instances.draw_instances.Given as goal
-
-abbrev pub invariant-loop-instance : goal.invariant-loop-instance
-invariant-loop-instance g l = drawn l.operator (instances_view (drop l.instance-index l.instances)) l.region ≡ drawn l.operator (instances_view l.instances) l.fn.region

@@ -1,0 +1,6 @@
+pub mod CodeLength
+pub mod InstanceLemmas
+pub mod RefiningLemmas
+pub mod SymbolLemmas
+mod WorkedCodedTexts
+mod WorkedTexts

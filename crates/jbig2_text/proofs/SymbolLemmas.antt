@@ -1,0 +1,73 @@
+-- The steps of reading the codes of symbols.
+use Rattle.std.proofs.Common.{◌≡◌, ℕ, zero, suc, ◌+◌, ◌-◌, ◌<◌, ◌≤◌, List, [], ◌∷◌, ◌++◌, length, Result, Ok, Err, refl, sym, ◌∙◌, ap, arith, inl, inr, ◌⊎◌}
+use Rattle.std.proofs.lemmas.Bool.{cond-true, cond-false, lt-ltb, le-ltb}
+use Rattle.jbig2_base.specs.Answer.{◌>>=◌}
+use Rattle.jbig2_base.specs.Bits.{Place, IsAligned, start_of}
+use Rattle.jbig2_base.specs.declared.error.DecodeError.{DecodeError}
+use Rattle.jbig2_base.specs.declared.error.DecodeError.TheVariants.{OutOfMemory}
+use Rattle.jbig2_coder.specs.PrefixCode.{Member}
+use Rattle.jbig2_text.specs.BitFields.{invalid_code, bits_at}
+use Rattle.jbig2_text.specs.SymbolCodes.{short_lengths, next_run, runs_at, symbol_codes_from}
+
+-- what is read: lengths, and the place behind them
+abbrev pub Lengths : Type 0
+Lengths = Result (List ℕ × Place) DecodeError
+
+abbrev after_short : ℕ → List ℕ → Result (ℕ × Place) DecodeError → Lengths
+after_short m lens r = r >>= λ len. short_lengths m (lens ++ len.0 ∷ []) len.1
+
+short-step : (m : ℕ) (lens : List ℕ) (p : Place) → short_lengths (suc m) lens p ≡ after_short m lens (bits_at invalid_code 4 p)
+unfolding short_lengths
+short-step m lens p = refl
+
+pub short-next : (k n : ℕ) (lens more : List ℕ) (p q : Place) (whole : Lengths) → k < 35 → short_lengths (35 - k) lens p ≡ whole → bits_at invalid_code 4 p ≡ Ok (n, q) → more ≡ lens ++ n ∷ [] → short_lengths (35 - (k + 1)) more q ≡ whole
+short-next k n lens more p q whole below goes read pushed =
+    let e : 35 - k ≡ suc (35 - (k + 1)) = omega arith in
+    ap (λ (l : List ℕ). short_lengths (35 - (k + 1)) l q) pushed ∙ sym (ap (after_short (35 - (k + 1)) lens) read) ∙ sym (short-step (35 - (k + 1)) lens p) ∙ ap (λ m. short_lengths m lens p) (sym e) ∙ goes
+
+pub short-fault : (k : ℕ) (lens : List ℕ) (p : Place) (e : DecodeError) (whole : Lengths) → k < 35 → short_lengths (35 - k) lens p ≡ whole → bits_at invalid_code 4 p ≡ Err e → whole ≡ Err e
+short-fault k lens p e whole below goes read =
+    let f : 35 - k ≡ suc (35 - (k + 1)) = omega arith in
+    sym goes ∙ ap (λ m. short_lengths m lens p) f ∙ short-step (35 - (k + 1)) lens p ∙ ap (after_short (35 - (k + 1)) lens) read
+
+pub short-done : (k : ℕ) (lens : List ℕ) (p : Place) (whole : Lengths) → 35 ≤ k → short_lengths (35 - k) lens p ≡ whole → whole ≡ Ok (lens, p)
+unfolding short_lengths
+short-done k lens p whole done goes =
+    let e : 35 - k ≡ 0 = omega arith in
+    sym goes ∙ ap (λ m. short_lengths m lens p) e
+
+abbrev after_run : ℕ → ℕ → List Member → Lengths → Lengths
+after_run m count ms r = r >>= λ more. runs_at m count ms more.0 more.1
+
+runs-step : (m count : ℕ) (ms : List Member) (lens : List ℕ) (p : Place) → length lens < count → runs_at (suc m) count ms lens p ≡ after_run m count ms (next_run ms lens p)
+unfolding runs_at
+runs-step m count ms lens p few = cond-true _ _ _ (lt-ltb (length lens) count few)
+
+pub runs-next : (k count : ℕ) (ms : List Member) (lens more : List ℕ) (p q : Place) (whole : Lengths) → k < count → length lens < count → runs_at (count - k) count ms lens p ≡ whole → next_run ms lens p ≡ Ok (more, q) → runs_at (count - (k + 1)) count ms more q ≡ whole
+runs-next k count ms lens more p q whole below few goes read =
+    let e : count - k ≡ suc (count - (k + 1)) = omega arith in
+    sym (ap (after_run (count - (k + 1)) count ms) read) ∙ sym (runs-step (count - (k + 1)) count ms lens p few) ∙ ap (λ m. runs_at m count ms lens p) (sym e) ∙ goes
+
+pub runs-fault : (k count : ℕ) (ms : List Member) (lens : List ℕ) (p : Place) (f : DecodeError) (whole : Lengths) → k < count → length lens < count → runs_at (count - k) count ms lens p ≡ whole → (f ≡ OutOfMemory) ⊎ (next_run ms lens p ≡ Err f) → (f ≡ OutOfMemory) ⊎ (whole ≡ Err f)
+runs-fault k count ms lens p f whole below few goes (inl memory) = inl memory
+runs-fault k count ms lens p f whole below few goes (inr read) =
+    let e : count - k ≡ suc (count - (k + 1)) = omega arith in
+    inr (sym goes ∙ ap (λ m. runs_at m count ms lens p) e ∙ runs-step (count - (k + 1)) count ms lens p few ∙ ap (after_run (count - (k + 1)) count ms) read)
+
+pub runs-full : (m count : ℕ) (ms : List Member) (lens : List ℕ) (p : Place) (whole : Lengths) → count ≤ length lens → runs_at m count ms lens p ≡ whole → whole ≡ Ok (lens, p)
+unfolding runs_at
+runs-full zero count ms lens p whole full goes = sym goes
+runs-full (suc m) count ms lens p whole full goes = sym goes ∙ cond-false _ _ _ (le-ltb (length lens) count full)
+
+pub runs-done : (k count : ℕ) (ms : List Member) (lens : List ℕ) (p : Place) (whole : Lengths) → count ≤ k → runs_at (count - k) count ms lens p ≡ whole → whole ≡ Ok (lens, p)
+unfolding runs_at
+runs-done k count ms lens p whole done goes =
+    let e : count - k ≡ 0 = omega arith in
+    sym goes ∙ ap (λ m. runs_at m count ms lens p) e
+
+-- a place at the beginning of a byte is known by its bytes
+pub place-start : (p : Place) → IsAligned p → p ≡ start_of p.bytes
+place-start p is = ap (λ (b : ℕ). record { bytes = p.bytes; bit = b }) is
+
+pub codes-there : (count : ℕ) (p : Place) → IsAligned p → symbol_codes_from count (start_of p.bytes) ≡ symbol_codes_from count p
+codes-there count p is = ap (symbol_codes_from count) (sym (place-start p is))

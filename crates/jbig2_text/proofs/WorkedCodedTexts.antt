@@ -1,0 +1,69 @@
+-- A text region by the arithmetic coder, computed from the definitions alone.
+use Rattle.std.proofs.Common.{◌≡◌, ℕ, ◌+◌, Bool, true, false, List, [], ◌∷◌, ◌++◌, replicate, Result, Ok, refl}
+use Rattle.jbig2_base.specs.Answer.{◌>>=◌}
+use Rattle.jbig2_base.specs.Combination.{drawn_pixel}
+use Rattle.jbig2_base.specs.Grid.{table, pixel_at}
+use Rattle.jbig2_base.specs.declared.bitmap.operator.CombinationOperator.TheVariants.{Or}
+use Rattle.jbig2_base.specs.declared.error.DecodeError.{DecodeError}
+use Rattle.jbig2_coder.specs.Coder.{byte_at, byte_in, filled, doubled, renormed, started, likely_next, unlikely_next, choice, decision}
+use Rattle.jbig2_coder.specs.Encoder.{opened, plain, stuffed, byte_out, shifted, renormed as encoder_renormed, narrowed_likely, narrowed_unlikely, narrowed, encoding, set_bits, flushed, is_full, closed}
+use Rattle.jbig2_coder.specs.Integers.{integer, number, next, read, read_more, prev_next, prev_after, ranges, range_of, prefix, signed, value_of, id}
+use Rattle.jbig2_coder.specs.Lists.{with_context, encode_from, encoded}
+use Rattle.jbig2_coder.specs.Table.{rows, row_of}
+use Rattle.jbig2_region.specs.Generic.{PlacedRegion}
+use Rattle.jbig2_region.specs.Raster.{so_far, with_next, after_pixel, after_pixels, row_begun, after_rows, decoded}
+use Rattle.jbig2_region.specs.Refinement.{refined_context}
+use Rattle.jbig2_region.specs.RefinementHeader.{refinement_pixels_at}
+use Rattle.jbig2_region.specs.RegionInfo.{region_info_at}
+use Rattle.jbig2_mmr.specs.T6.{least}
+use Rattle.jbig2_text.specs.Text.{strip_delta, strip_begun, moved, instance_symbol, refined_symbol, placed, with_instance, after_instances, text_instances, text_region}
+use Rattle.jbig2_text.specs.TextCoding.{refined_by}
+use Rattle.jbig2_text.specs.TextHeader.{text_flags_at, text_header_at}
+use Rattle.jbig2_text.specs.TextRegion.{text_answer, text_decoded}
+
+-- a number 0 in its contexts, which for each integer begin elsewhere
+abbrev zero_of : ℕ → List (ℕ × Bool)
+zero_of from = (from + 1, false) ∷ (from + 2, false) ∷ (from + 4, false) ∷ (from + 8, false) ∷ []
+
+abbrev one_of : ℕ → List (ℕ × Bool)
+one_of from = (from + 1, false) ∷ (from + 2, false) ∷ (from + 4, false) ∷ (from + 8, true) ∷ []
+
+abbrev end_of_strip : List (ℕ × Bool)
+end_of_strip = (1025, true) ∷ (1027, false) ∷ (1030, false) ∷ (1036, false) ∷ []
+
+abbrev decisions : List (ℕ × Bool)
+decisions = zero_of 0 ++ zero_of 0 ++ zero_of 512 ++ end_of_strip
+
+abbrev coded : List ℕ
+coded = 169 ∷ 67 ∷ 255 ∷ 172 ∷ []
+
+row_R8_6-bytes : encoded decisions ≡ coded
+unfolding opened plain stuffed byte_out set_bits flushed is_full closed encode_from encoded rows row_of likely_next unlikely_next shifted encoder_renormed narrowed_likely narrowed_unlikely narrowed encoding with_context
+row_R8_6-bytes = refl
+
+-- of one symbol of 1 by 1
+region : Bool → List ℕ → Result PlacedRegion DecodeError
+region black bytes = text_header_at 1 true bytes >>= λ h. text_decoded h.0 (record { width = 1; height = 1; pixels = black ∷ [] } ∷ []) []
+
+-- a region of 8 by 1 whose first pixel alone is black
+abbrev dot : PlacedRegion
+dot = record { grid = record { width = 8; height = 1; pixels = true ∷ replicate 7 false }; x_location = 0; y_location = 0; combination_operator = Or }
+
+row_R8_6 : region true (0 ∷ 0 ∷ 0 ∷ 8 ∷ 0 ∷ 0 ∷ 0 ∷ 1 ∷ (replicate 9 0 ++ 0 ∷ 0x10 ∷ 0 ∷ 0 ∷ 0 ∷ 1 ∷ coded)) ≡ Ok dot
+unfolding region text_header_at region_info_at text_flags_at text_decoded text_answer text_region text_instances after_instances with_instance placed instance_symbol moved strip_begun strip_delta least integer number next read read_more prev_next prev_after ranges range_of prefix signed value_of id byte_at byte_in filled doubled renormed started likely_next unlikely_next choice decision rows row_of drawn_pixel table pixel_at
+row_R8_6 = refl
+
+-- a white symbol refined into a black one, by template 1
+abbrev refinement : List (ℕ × Bool)
+refinement = zero_of 0 ++ zero_of 0 ++ zero_of 512 ++ one_of 1536 ++ zero_of 2048 ++ zero_of 2560 ++ zero_of 3072 ++ zero_of 3584 ++ (4096, true) ∷ end_of_strip
+
+abbrev refined : List ℕ
+refined = 169 ∷ 108 ∷ 183 ∷ 235 ∷ 223 ∷ 255 ∷ 172 ∷ []
+
+refined-bytes : encoded refinement ≡ refined
+unfolding opened plain stuffed byte_out set_bits flushed is_full closed encode_from encoded rows row_of likely_next unlikely_next shifted encoder_renormed narrowed_likely narrowed_unlikely narrowed encoding with_context
+refined-bytes = refl
+
+refined_symbol_by_coder : region false (0 ∷ 0 ∷ 0 ∷ 8 ∷ 0 ∷ 0 ∷ 0 ∷ 1 ∷ (replicate 9 0 ++ 0x80 ∷ 0x12 ∷ 0 ∷ 0 ∷ 0 ∷ 1 ∷ refined)) ≡ Ok dot
+unfolding region text_header_at region_info_at text_flags_at text_decoded text_answer text_region text_instances after_instances with_instance placed instance_symbol moved strip_begun strip_delta least integer number next read read_more prev_next prev_after ranges range_of prefix signed value_of id byte_at byte_in filled doubled renormed started likely_next unlikely_next choice decision rows row_of drawn_pixel table pixel_at refined_symbol refined_by decoded after_rows after_pixels after_pixel with_next row_begun so_far refined_context refinement_pixels_at
+refined_symbol_by_coder = refl

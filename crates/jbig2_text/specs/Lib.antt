@@ -1,0 +1,7 @@
+pub mod BitFields
+pub mod SymbolCodes
+pub mod Text
+pub mod TextCoding
+pub mod TextHeader
+pub mod TextRegion
+pub mod inner

@@ -1,0 +1,60 @@
+-- The prefix codes of the symbols' ids (T.88, 7.4.3.1.7): their lengths, as runs that are prefix-coded themselves.
+use Rattle.std.specs.Prelude.{ℕ, zero, suc, ◌+◌, ◌-◌, nat_lt, ◌==◌, List, [], ◌∷◌, ◌++◌, length, replicate, slice_get, Result, Ok, Err, ℤ, pos, negsuc, if◌then◌else◌}
+use Rattle.jbig2_base.specs.Answer.{◌>>=◌, refuse_if}
+use Rattle.jbig2_base.specs.Bits.{Place, start_of, aligned}
+use Rattle.jbig2_base.specs.declared.error.DecodeError.{DecodeError}
+use Rattle.jbig2_coder.specs.CustomTable.{some_or}
+use Rattle.jbig2_coder.specs.PrefixCode.{Member, table_of}
+use Rattle.jbig2_coder.specs.Tables.{line}
+use Rattle.jbig2_coder.specs.declared.huffman_table.line.TableLine.{TableLine}
+use Rattle.jbig2_text.specs.BitFields.{invalid_code, bits_at, value_at}
+
+-- the numbers from n on, by the lengths of their codes
+abbrev pub lines_from : ℕ → List ℕ → List TableLine
+lines_from n [] = []
+lines_from n (len ∷ lens) = line len 0 (pos n) ∷ lines_from (n + 1) lens
+
+-- `count` lengths of four bits each, behind those so far
+unfoldable pub short_lengths : ℕ → List ℕ → Place → Result (List ℕ × Place) DecodeError
+short_lengths zero so_far p = Ok (so_far, p)
+short_lengths (suc count) so_far p = bits_at invalid_code 4 p >>= λ len. short_lengths count (so_far ++ len.0 ∷ []) len.1
+
+abbrev pub last_length : List ℕ → Result ℕ DecodeError
+last_length lens = some_or invalid_code (slice_get lens (length lens - 1))
+
+-- with the last length so many times more
+abbrev pub repeated : List ℕ → ℕ → Result (List ℕ) DecodeError
+repeated so_far count = last_length so_far >>= λ len. Ok (so_far ++ replicate count len)
+
+-- The lengths that a runcode stands for, behind those so far: itself, or the last length 3 to 6 times, or 3 to 10
+-- or 11 to 138 lengths of zero.
+abbrev pub run_at : ℤ → List ℕ → Place → Result (List ℕ × Place) DecodeError
+run_at (negsuc n) so_far p = Err invalid_code
+run_at (pos code) so_far p =
+    if nat_lt code 32 then Ok (so_far ++ code ∷ [], p)
+    else if code == 32 then (bits_at invalid_code 2 p >>= λ n. repeated so_far (n.0 + 3) >>= λ lens. Ok (lens, n.1))
+    else if code == 33 then (bits_at invalid_code 3 p >>= λ n. Ok (so_far ++ replicate (n.0 + 3) 0, n.1))
+    else (bits_at invalid_code 7 p >>= λ n. Ok (so_far ++ replicate (n.0 + 11) 0, n.1))
+
+abbrev pub next_run : List Member → List ℕ → Place → Result (List ℕ × Place) DecodeError
+next_run runcodes so_far p = value_at runcodes p >>= λ code. run_at code.0 so_far code.1
+
+-- Runs, until there are `count` lengths; each run has one at least, so `most` of them are enough where it is `count`.
+unfoldable pub runs_at : ℕ → ℕ → List Member → List ℕ → Place → Result (List ℕ × Place) DecodeError
+runs_at zero count runcodes so_far p = Ok (so_far, p)
+runs_at (suc most) count runcodes so_far p =
+    if nat_lt (length so_far) count then (next_run runcodes so_far p >>= λ more. runs_at most count runcodes more.0 more.1)
+    else Ok (so_far, p)
+
+-- The codes of `count` symbols, and the whole byte behind them.
+unfoldable pub symbol_codes_from : ℕ → Place → Result (List Member × Place) DecodeError
+symbol_codes_from count p = do
+  short ← short_lengths 35 [] p
+  runcodes ← table_of (lines_from 0 short.0)
+  lens ← runs_at count count runcodes [] short.1
+  fit ← refuse_if (nat_lt count (length lens.0)) invalid_code
+  codes ← table_of (lines_from 0 lens.0)
+  Ok (codes, aligned lens.1)
+
+abbrev pub symbol_codes_at : ℕ → List ℕ → Result (List Member × List ℕ) DecodeError
+symbol_codes_at count bytes = symbol_codes_from count (start_of bytes) >>= λ codes. Ok (codes.0, codes.1.bytes)

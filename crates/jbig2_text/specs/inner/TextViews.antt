@@ -1,0 +1,65 @@
+-- States of the code's readings, seen as states of the definitions.
+use Rattle.std.specs.Prelude.{List, map}
+use Rattle.std.specs.Borrow.{Bor}
+use Rattle.jbig2_base.specs.Grid.{Grid}
+use Rattle.jbig2_coder.specs.PrefixCode.{Member}
+use Rattle.jbig2_text.specs.Text.{Instance, TextParams as Params}
+use Rattle.jbig2_text.specs.TextCoding.{Coded, Prefixed, TextTables}
+use Rattle.jbig2_text.specs.declared.text.coded.CodedReadings.{CodedReadings}
+use Rattle.jbig2_text.specs.declared.text.placement.Instance.{Instance as PlacedSymbol}
+use Rattle.jbig2_text.specs.declared.text.prefixed.PrefixedReadings.{PrefixedReadings}
+use Rattle.jbig2_text.specs.declared.text.symbols.InstanceSymbol.{InstanceSymbol}
+use Rattle.jbig2_text.specs.declared.text.symbols.InstanceSymbol.TheVariants.{Shared, Refined}
+use Rattle.jbig2_text.specs.declared.text.symbols.TextParams.{TextParams}
+use Rattle.jbig2_text.specs.declared.text.tables.TextRegionHuffmanTables.{TextRegionHuffmanTables}
+
+abbrev pub coded_view : {A : Type 0} → CodedReadings A → Coded
+coded_view r = record {
+  coder = r.decoder;
+  iadt = r.iadt;
+  iafs = r.iafs;
+  iads = r.iads;
+  iait = r.iait;
+  iaid = r.iaid;
+  iari = r.iari;
+  iardw = r.iardw;
+  iardh = r.iardh;
+  iardx = r.iardx;
+  iardy = r.iardy;
+  refining = r.refining;
+}
+
+abbrev pub tables_view : {T : Type 0} → TextRegionHuffmanTables T → TextTables
+tables_view t = record {
+  first_s = t.first_s.now;
+  delta_s = t.delta_s.now;
+  delta_t = t.delta_t.now;
+  refinement_width = t.refinement_width.now;
+  refinement_height = t.refinement_height.now;
+  refinement_x = t.refinement_x.now;
+  refinement_y = t.refinement_y.now;
+  refinement_size = t.refinement_size.now;
+}
+
+abbrev pub prefixed_view : {T I A : Type 0} → PrefixedReadings T I A → Prefixed
+prefixed_view r = record { place = r.reader; tables = tables_view r.tables; ids = r.ids.now; refining = r.refining }
+
+-- what each reference of a list refers to
+abbrev pub customs_view : List (Bor (List Member)) → List (List Member)
+customs_view customs = map (λ table. table.now) customs
+
+abbrev pub symbols_view : List (Bor Grid) → List Grid
+symbols_view symbols = map (λ symbol. symbol.now) symbols
+
+abbrev pub params_view : {B : Type 0} → TextParams B → Params
+params_view p = record { flags = p.flags; symbols = symbols_view p.symbols.now; count = p.num_instances; data_length = p.data_len; strict = p.strict }
+
+abbrev pub symbol_view : {B M : Type 0} → InstanceSymbol B M → Grid
+symbol_view (Shared bitmap) = bitmap.now
+symbol_view (Refined bitmap) = bitmap
+
+abbrev pub instance_view : {B M : Type 0} → PlacedSymbol B M → Instance
+instance_view i = record { grid = symbol_view i.symbol; x = i.x; y = i.y }
+
+abbrev pub instances_view : {B M : Type 0} → List (PlacedSymbol B M) → List Instance
+instances_view instances = map (λ i. instance_view i) instances

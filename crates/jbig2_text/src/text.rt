@@ -1,0 +1,233 @@
+//! Text regions (T.88, 6.4 and 7.4.3).
+ghost use Rattle.std.specs.Prelude.{◌≡◌, ◌≤◌, ◌^◌, length, Ok, OnErr};
+ghost use Rattle.jbig2_base.specs.Answer.{Gives};
+ghost use Rattle.jbig2_base.specs.Grid.{blank};
+ghost use Rattle.jbig2_region.specs.Generic.{region_view};
+ghost use Rattle.jbig2_text.specs.TextHeader.{header_view};
+ghost use Rattle.jbig2_text.specs.TextRegion.{code_length, coded_region, prefixed_region, refining_of, text_params, text_answer, text_decoded};
+ghost use Rattle.jbig2_text.specs.inner.TextViews.{customs_view, params_view, symbols_view};
+
+pub(crate) mod coded;
+pub(crate) mod cursor;
+pub mod header;
+pub(crate) mod instances;
+mod numbers;
+pub(crate) mod placement;
+pub(crate) mod prefixed;
+pub(crate) mod readings;
+pub(crate) mod refining;
+mod strips;
+mod symbol_codes;
+pub(crate) mod symbols;
+pub(crate) mod tables;
+
+use crate::text::coded::CodedReadings;
+use crate::text::header::{TextRegionHeader, TextRegionHuffmanFlags};
+use crate::text::instances::decode_with;
+use crate::text::prefixed::PrefixedReadings;
+use crate::text::refining::Refining;
+use crate::text::symbols::TextParams;
+use crate::text::tables::select_tables;
+pub use header::parse;
+use jbig2_base::bitmap::Bitmap;
+use jbig2_base::bitmap::steps::Steps;
+use jbig2_base::error::Result;
+use jbig2_base::reader::Reader;
+use jbig2_coder::huffman_table::{HuffmanTable, StandardHuffmanTables};
+use jbig2_region::generic::DecodedRegion;
+use std::alloc::Allocator;
+use std::sync::ledger::Ledger;
+
+/// The least number of bits that tells so many symbols, at most 2^21, apart.
+pub(crate) fn code_length(count: usize) -> u32
+    requires { count ≤ 2 ^ 21 }
+    ensures value { result ≡ code_length count }
+    ensures small { result ≤ 21 }
+{
+    let mut bits = 0;
+    while 1 << bits < count {
+        bits += 1;
+    }
+    bits
+}
+
+/// What the instances of a region are read and placed by.
+fn params_of<'a, H: Allocator, B: Allocator>(
+    header: &TextRegionHeader<'_, H>,
+    symbols: &'a [&'a Bitmap<B>],
+) -> TextParams<'a, B>
+    ensures { params_view result ≡ text_params (header_view header.now) (symbols_view symbols.now) }
+{
+    TextParams {
+        flags: header.flags,
+        symbols,
+        num_instances: header.num_instances,
+        data_len: header.segment_data_len,
+        strict: header.strict,
+    }
+}
+
+/// Refinements of a region's symbols, by contexts that know nothing yet.
+fn refining_of<H: Allocator, M: Allocator>(
+    alloc: M,
+    header: &TextRegionHeader<'_, H>,
+) -> Result<Refining<M>>
+    ensures { Gives (λ r. r) result (Ok (refining_of (header_view header.now))) }
+{
+    Refining::new(
+        alloc,
+        header.flags.refinement_template,
+        header.refinement_at_pixels,
+    )
+}
+
+/// Decodes a region that the arithmetic coder wrote.
+fn decode_coded<H: Allocator, B: Allocator, M: Allocator + Clone, D: Allocator, L: Ledger>(
+    alloc: M,
+    header: &TextRegionHeader<'_, H>,
+    symbols: &[&Bitmap<B>],
+    bitmap: &mut Bitmap<D>,
+    steps: &mut Steps<L>,
+) -> Result<()>
+    requires strips { header.now.flags.log_strip_size ≤ 3 }
+    requires few { length symbols.now ≤ 2 ^ 21 }
+    ensures value { Gives (λ _. bitmap.new) result (coded_region (header_view header.now) (symbols_view symbols.now) bitmap.old) }
+    ensures same { OnErr result (bitmap.new ≡ bitmap.old) }
+{
+    let refining = refining_of(alloc.clone()?, header)?;
+    let bits = code_length(symbols.len());
+    let mut readings = CodedReadings::new(alloc.clone()?, header.bytes, bits, refining)?;
+    let params = params_of(header, symbols);
+    decode_with(alloc, &mut readings, &params, bitmap, steps)
+}
+
+/// Decodes a region that is written in prefix codes.
+fn decode_prefixed<
+    H: Allocator,
+    B: Allocator,
+    T: Allocator,
+    M: Allocator + Clone,
+    D: Allocator,
+    L: Ledger,
+>(
+    alloc: M,
+    header: &TextRegionHeader<'_, H>,
+    numbers: &TextRegionHuffmanFlags,
+    ids: &HuffmanTable<H>,
+    symbols: &[&Bitmap<B>],
+    customs: &[&HuffmanTable<T>],
+    standard: &StandardHuffmanTables<T>,
+    bitmap: &mut Bitmap<D>,
+    steps: &mut Steps<L>,
+) -> Result<()>
+    requires { header.now.flags.log_strip_size ≤ 3 }
+    ensures value { Gives (λ _. bitmap.new) result (prefixed_region (header_view header.now) numbers.now ids.now (symbols_view symbols.now) (customs_view customs.now) bitmap.old) }
+    ensures same { OnErr result (bitmap.new ≡ bitmap.old) }
+{
+    let tables = select_tables(numbers, customs, standard)?;
+    let refining = refining_of(alloc.clone()?, header)?;
+    let mut readings = PrefixedReadings {
+        reader: Reader::new(header.bytes),
+        tables,
+        ids,
+        refining,
+    };
+    let params = params_of(header, symbols);
+    decode_with(alloc, &mut readings, &params, bitmap, steps)
+}
+
+/// Decodes a text region (T.88, 6.4) of these symbols, at most 2^21, into a bitmap of its size
+/// that is all in its default colour. `referred_tables` are the custom tables that it refers to. A
+/// refusal leaves the bitmap as it was.
+///
+/// First `HuffmanError::InvalidSelection` for a table's number without meaning and
+/// `HuffmanError::MissingTables` where the custom tables run out. Then
+/// `SymbolError::TooManyInstances` for more than 32 instances a byte of the segment, and in strict
+/// mode where the last strip does not end; `ParseError::UnexpectedEof` and
+/// `HuffmanError::InvalidCode` where prefix codes end or there is none; an unexpected out of band
+/// as `HuffmanError` or `SymbolError`; `SymbolError::InvalidStripDelta`,
+/// `OverflowError::PlacementCoordinate`, `OverflowError::BitmapDimension` and
+/// `OverflowError::ReferenceOffset` for numbers that leave their ranges; `SymbolError::OutOfRange`
+/// for an id without a symbol, in lenient mode only where it is refined; `OutOfMemory`.
+#[tactic(auto, unfolding(crate::specs::TextRegion::text_answer))]
+pub fn decode_into<
+    H: Allocator,
+    B: Allocator,
+    T: Allocator,
+    M: Allocator + Clone,
+    D: Allocator,
+    L: Ledger,
+>(
+    alloc: M,
+    header: &TextRegionHeader<'_, H>,
+    symbols: &[&Bitmap<B>],
+    referred_tables: &[&HuffmanTable<T>],
+    standard_tables: &StandardHuffmanTables<T>,
+    bitmap: &mut Bitmap<D>,
+    steps: &mut Steps<L>,
+) -> Result<()>
+    requires strips { header.now.flags.log_strip_size ≤ 3 }
+    requires few { length symbols.now ≤ 2 ^ 21 }
+    requires coloured { bitmap.old ≡ blank header.now.region_info.width header.now.region_info.height header.now.flags.default_pixel }
+    ensures value { Gives (λ _. bitmap.new) result (text_answer (header_view header.now) (symbols_view symbols.now) (customs_view referred_tables.now)) }
+    ensures same { OnErr result (bitmap.new ≡ bitmap.old) }
+{
+    let Some(numbers) = &header.huffman_flags else {
+        return decode_coded(alloc, header, symbols, bitmap, steps);
+    };
+    let Some(ids) = &header.symbol_id_table else {
+        return decode_coded(alloc, header, symbols, bitmap, steps);
+    };
+    decode_prefixed(
+        alloc,
+        header,
+        numbers,
+        ids,
+        symbols,
+        referred_tables,
+        standard_tables,
+        bitmap,
+        steps,
+    )
+}
+
+/// Decodes a text region (T.88, 6.4), as `decode_into` does, into a bitmap of its own.
+///
+/// `OverflowError::BitmapDimension` above 65535 pixels either way; `OutOfMemory` where there is no
+/// room for the bitmap, else as `decode_into`.
+#[tactic(auto, unfolding(crate::specs::TextRegion::text_decoded))]
+pub fn decode<H: Allocator, B: Allocator, T: Allocator, M: Allocator + Clone, L: Ledger>(
+    alloc: M,
+    header: &TextRegionHeader<'_, H>,
+    symbols: &[&Bitmap<B>],
+    referred_tables: &[&HuffmanTable<T>],
+    standard_tables: &StandardHuffmanTables<T>,
+    steps: &mut Steps<L>,
+) -> Result<DecodedRegion<M>>
+    requires strips { header.now.flags.log_strip_size ≤ 3 }
+    requires few { length symbols.now ≤ 2 ^ 21 }
+    ensures { Gives (λ region. region_view region) result (text_decoded (header_view header.now) (symbols_view symbols.now) (customs_view referred_tables.now)) }
+{
+    let region_info = &header.region_info;
+    let mut bitmap = Bitmap::new_with(
+        alloc.clone()?,
+        region_info.width,
+        region_info.height,
+        header.flags.default_pixel,
+    )?;
+    decode_into(
+        alloc,
+        header,
+        symbols,
+        referred_tables,
+        standard_tables,
+        &mut bitmap,
+        steps,
+    )?;
+    Ok(DecodedRegion {
+        bitmap,
+        x_location: region_info.x_location,
+        y_location: region_info.y_location,
+        combination_operator: region_info.combination_operator,
+    })
+}

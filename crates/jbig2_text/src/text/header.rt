@@ -1,0 +1,233 @@
+//! Headers of text regions (T.88, 7.4.3.1).
+ghost use Rattle.std.specs.Prelude.{◌≡◌, ◌≤◌, ◌%◌, ◌^◌, IfOk, OnErr, OnOk};
+ghost use Rattle.jbig2_base.specs.Answer.{Answers, Gives};
+ghost use Rattle.jbig2_base.specs.Bits.{IsAligned};
+ghost use Rattle.jbig2_text.specs.TextHeader.{header_view, corner_of, signed_5, text_flags_at, table_numbers, table_numbers_at, codes_at, text_pixels_at, text_header_at};
+
+use crate::text::symbol_codes::parse_symbol_codes;
+use jbig2_base::bitmap::CombinationOperator;
+use jbig2_base::error::Result;
+use jbig2_base::field::{u16_field, u32_field};
+use jbig2_base::reader::Reader;
+use jbig2_coder::huffman_table::HuffmanTable;
+use jbig2_region::generic_refinement::parse_template_pixels;
+use jbig2_region::region_info::{RegionSegmentInfo, parse_region_segment_info};
+use jbig2_region::template::{AdaptiveTemplatePixel, RefinementTemplate};
+use std::alloc::Allocator;
+
+/// The corner of a symbol that its coordinates name (T.88, 6.4.5).
+#[derive(Clone, Copy, Debug, PartialEq, Eq)]
+pub enum ReferenceCorner {
+    BottomLeft,
+    TopLeft,
+    BottomRight,
+    TopRight,
+}
+
+/// The flags of a text region (T.88, 7.4.3.1.1).
+#[derive(Clone, Copy, Debug)]
+pub struct TextRegionFlags {
+    /// Whether prefix codes are used, in place of the arithmetic coder.
+    pub use_huffman: bool,
+    /// Whether symbols may be refined.
+    pub use_refinement: bool,
+    /// The strip size is 2 to the power of this.
+    pub log_strip_size: u8,
+    /// The corner of a symbol that stands at its coordinates.
+    pub reference_corner: ReferenceCorner,
+    /// Whether S goes down and T to the right, in place of S to the right and T down.
+    pub transposed: bool,
+    /// How symbols are drawn onto the region.
+    pub combination_operator: CombinationOperator,
+    /// The region's colour before any symbol is drawn, `true` for black.
+    pub default_pixel: bool,
+    /// What is added to each difference of S in a strip, -16 to 15.
+    pub delta_s_offset: i8,
+    pub refinement_template: RefinementTemplate,
+}
+
+/// Which tables a text region uses (T.88, 7.4.3.1.2), by their numbers in the flags.
+#[derive(Clone, Copy, Debug)]
+pub struct TextRegionHuffmanFlags {
+    pub first_s_table: u8,
+    pub delta_s_table: u8,
+    pub delta_t_table: u8,
+    pub refinement_width_table: u8,
+    pub refinement_height_table: u8,
+    pub refinement_x_table: u8,
+    pub refinement_y_table: u8,
+    pub refinement_size_table: u8,
+}
+
+/// What a text region's coded bytes are decoded by (T.88, 7.4.3.1).
+#[derive(Drop)]
+pub struct TextRegionHeader<'a, A: Allocator> {
+    pub region_info: RegionSegmentInfo,
+    pub flags: TextRegionFlags,
+    /// With prefix codes alone.
+    pub huffman_flags: Option<TextRegionHuffmanFlags>,
+    /// Without meaning unless symbols may be refined at template 0.
+    pub refinement_at_pixels: [AdaptiveTemplatePixel; 2],
+    pub num_instances: u32,
+    /// The codes of the symbols' ids, with prefix codes alone.
+    pub symbol_id_table: Option<HuffmanTable<A>>,
+    /// How many bytes the segment's data has.
+    pub segment_data_len: usize,
+    /// The coded bytes.
+    pub bytes: &'a [u8],
+    /// Whether ids without a symbol and a strip that does not end are refused.
+    pub strict: bool,
+}
+
+impl ReferenceCorner {
+    /// The corner that the low two bits of `value` name.
+    fn from_value(value: u16) -> ReferenceCorner
+        ensures { result ≡ corner_of (value % 4) }
+    {
+        match value % 4 {
+            0 => ReferenceCorner::BottomLeft,
+            1 => ReferenceCorner::TopLeft,
+            2 => ReferenceCorner::BottomRight,
+            _ => ReferenceCorner::TopRight,
+        }
+    }
+}
+
+/// The low five bits in two's complement.
+fn signed_5(value: u16) -> i8
+    ensures { result ≡ signed_5 (value % 32) }
+{
+    let low = (value % 32) as i8;
+    if low < 16 { low } else { low - 32 }
+}
+
+#[tactic(auto, unfolding(crate::specs::TextHeader::text_flags_at))]
+fn parse_flags(reader: &mut Reader<'_>) -> Result<TextRegionFlags>
+    requires { IsAligned reader.old }
+    ensures value { Answers (λ flags. (flags, reader.new.bytes)) result (text_flags_at reader.old.bytes) }
+    ensures aligned { IsAligned reader.new }
+    ensures strips { IfOk result (λ flags. flags.log_strip_size ≤ 3) }
+{
+    let flags = u16_field(reader)?;
+    let combination_operator = CombinationOperator::from_value((flags / 128 % 4) as u8)?;
+    Ok(TextRegionFlags {
+        use_huffman: flags % 2 == 1,
+        use_refinement: flags / 2 % 2 == 1,
+        log_strip_size: (flags / 4 % 4) as u8,
+        reference_corner: ReferenceCorner::from_value(flags / 16),
+        transposed: flags / 64 % 2 == 1,
+        combination_operator,
+        default_pixel: flags / 512 % 2 == 1,
+        delta_s_offset: signed_5(flags / 1024),
+        refinement_template: RefinementTemplate::from_byte((flags / 32768) as u8),
+    })
+}
+
+fn table_numbers(flags: u16) -> TextRegionHuffmanFlags
+    ensures { result ≡ table_numbers flags }
+{
+    TextRegionHuffmanFlags {
+        first_s_table: (flags % 4) as u8,
+        delta_s_table: (flags / 4 % 4) as u8,
+        delta_t_table: (flags / 16 % 4) as u8,
+        refinement_width_table: (flags / 64 % 4) as u8,
+        refinement_height_table: (flags / 256 % 4) as u8,
+        refinement_x_table: (flags / 1024 % 4) as u8,
+        refinement_y_table: (flags / 4096 % 4) as u8,
+        refinement_size_table: (flags / 16384 % 2) as u8,
+    }
+}
+
+/// The numbers of the tables, with prefix codes alone.
+fn parse_table_numbers(
+    reader: &mut Reader<'_>,
+    use_huffman: bool,
+) -> Result<Option<TextRegionHuffmanFlags>>
+    requires { IsAligned reader.old }
+    ensures value { Answers (λ numbers. (numbers, reader.new.bytes)) result (table_numbers_at use_huffman reader.old.bytes) }
+    ensures aligned { IsAligned reader.new }
+{
+    if !use_huffman {
+        return Ok(None);
+    }
+    let flags = u16_field(reader)?;
+    Ok(Some(table_numbers(flags)))
+}
+
+/// The adaptive pixels of refinements, where symbols may be refined.
+fn parse_refinement_pixels(
+    reader: &mut Reader<'_>,
+    flags: &TextRegionFlags,
+) -> Result<[AdaptiveTemplatePixel; 2]>
+    requires { IsAligned reader.old }
+    ensures value { Answers (λ pixels. (pixels, reader.new.bytes)) result (text_pixels_at flags.now.use_refinement flags.now.refinement_template reader.old.bytes) }
+    ensures aligned { IsAligned reader.new }
+{
+    if flags.use_refinement {
+        return parse_template_pixels(reader, flags.refinement_template);
+    }
+    let unused = AdaptiveTemplatePixel { x: 0, y: 0 };
+    Ok([unused, unused])
+}
+
+/// The codes of the symbols' ids, with prefix codes alone.
+fn parse_codes<A: Allocator + Clone>(
+    alloc: A,
+    reader: &mut Reader<'_>,
+    use_huffman: bool,
+    num_symbols: u32,
+) -> Result<Option<HuffmanTable<A>>>
+    requires aligned { IsAligned reader.old }
+    requires few { num_symbols ≤ 2 ^ 21 }
+    ensures value { Gives (λ codes. (codes, reader.new.bytes)) result (codes_at use_huffman num_symbols reader.old.bytes) }
+    ensures aligned { OnOk result (IsAligned reader.new) }
+{
+    if !use_huffman {
+        return Ok(None);
+    }
+    let codes = parse_symbol_codes(alloc, reader, num_symbols)?;
+    Ok(Some(codes))
+}
+
+/// The header of a text region of so many symbols, at most 2^21, at the reader's place, which
+/// holds the coded bytes behind it (T.88, 7.4.3.1). A refusal leaves the reader where it was.
+///
+/// `ParseError::UnexpectedEof` where the bytes do not hold it; the errors of
+/// `parse_region_segment_info`; `HuffmanError::InvalidCode` where the codes of the symbols' ids
+/// end early, do not fit or are not as many as the symbols; `OutOfMemory` where there is no room
+/// for them.
+#[tactic(auto, unfolding(crate::specs::TextHeader::text_header_at))]
+pub fn parse<'a, A: Allocator + Clone>(
+    alloc: A,
+    reader: &mut Reader<'a>,
+    num_symbols: u32,
+    strict: bool,
+) -> Result<TextRegionHeader<'a, A>>
+    requires aligned { IsAligned reader.old }
+    requires few { num_symbols ≤ 2 ^ 21 }
+    ensures value { Gives (λ h. (header_view h, reader.new.bytes)) result (text_header_at num_symbols strict reader.old.bytes) }
+    ensures aligned { IsAligned reader.new }
+    ensures strips { IfOk result (λ h. h.flags.log_strip_size ≤ 3) }
+    ensures stays { OnErr result (reader.new ≡ reader.old) }
+{
+    let mut ahead = reader.duplicate();
+    let segment_data_len = ahead.tail().len();
+    let region_info = parse_region_segment_info(&mut ahead)?;
+    let flags = parse_flags(&mut ahead)?;
+    let huffman_flags = parse_table_numbers(&mut ahead, flags.use_huffman)?;
+    let refinement_at_pixels = parse_refinement_pixels(&mut ahead, &flags)?;
+    let num_instances = u32_field(&mut ahead)?;
+    let symbol_id_table = parse_codes(alloc, &mut ahead, flags.use_huffman, num_symbols)?;
+    *reader = ahead;
+    Ok(TextRegionHeader {
+        region_info,
+        flags,
+        huffman_flags,
+        refinement_at_pixels,
+        num_instances,
+        symbol_id_table,
+        segment_data_len,
+        bytes: reader.tail(),
+        strict,
+    })
+}

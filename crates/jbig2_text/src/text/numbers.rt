@@ -1,0 +1,91 @@
+//! Sums of coordinates and sizes, within signed 32 bits.
+ghost use Rattle.std.specs.Prelude.{◌≡◌, ◌*◌, ◌^◌, ◌≤◌, pos, ◌+ℤ◌, ◌-ℤ◌, ◌*ℤ◌};
+ghost use Rattle.jbig2_base.specs.Answer.{Answers};
+ghost use Rattle.jbig2_base.specs.declared.error.DecodeError.TheVariants.{Symbol};
+ghost use Rattle.jbig2_base.specs.declared.error.SymbolError.TheVariants.{InvalidStripDelta};
+ghost use Rattle.jbig2_text.specs.Text.{word_or, coordinate, behind_first, side_of, reference_offset};
+
+use jbig2_base::error::{DecodeError, OverflowError, Result, SymbolError};
+
+/// A number in signed 32 bits, or the error.
+fn word_or(number: i64, error: DecodeError) -> Result<i32>
+    ensures { Answers (λ n. n) result (word_or error number) }
+{
+    match i32::try_from(number) {
+        Ok(number) => Ok(number),
+        Err(_) => Err(error),
+    }
+}
+
+fn coordinate(number: i64) -> Result<i32>
+    ensures { Answers (λ n. n) result (coordinate number) }
+{
+    word_or(
+        number,
+        DecodeError::Overflow(OverflowError::PlacementCoordinate),
+    )
+}
+
+/// A coordinate and a difference together.
+pub fn moved(place: i32, difference: i32) -> Result<i32>
+    ensures { Answers (λ n. n) result (coordinate (place +ℤ difference)) }
+{
+    coordinate(i64::from(place) + i64::from(difference))
+}
+
+/// The coordinate of the last pixel of a side, by that of the first.
+pub fn last_of(first: i32, side: u32) -> Result<i32>
+    ensures { Answers (λ n. n) result (coordinate (first +ℤ behind_first side)) }
+{
+    coordinate(i64::from(first) + (i64::from(side) - 1))
+}
+
+/// The coordinate of the first pixel of a side, by that of the last.
+pub fn first_of(last: i32, side: u32) -> Result<i32>
+    ensures { Answers (λ n. n) result (coordinate (last -ℤ behind_first side)) }
+{
+    coordinate(i64::from(last) - (i64::from(side) - 1))
+}
+
+/// The coordinate on the other side of 0.
+pub fn opposite(place: i32) -> Result<i32>
+    ensures { Answers (λ n. n) result (coordinate (pos 0 -ℤ place)) }
+{
+    coordinate(0 - i64::from(place))
+}
+
+/// So many strips of 2 to the power of `log` rows.
+pub fn strips(count: i32, log: u8) -> Result<i32>
+    requires { log ≤ 3 }
+    ensures { Answers (λ n. n) result (word_or (Symbol InvalidStripDelta) (count *ℤ pos (2 ^ log))) }
+{
+    let rows = 1_u32 << log;
+    word_or(
+        i64::from(count) * i64::from(rows),
+        DecodeError::Symbol(SymbolError::InvalidStripDelta),
+    )
+}
+
+/// A side of a refined symbol, by that of its reference.
+pub fn refined_side(side: u32, difference: i32) -> Result<u32>
+    ensures { Answers (λ n. n) result (side_of (pos side +ℤ difference)) }
+{
+    let Ok(refined) = u32::try_from(i64::from(side) + i64::from(difference)) else {
+        return Err(DecodeError::Overflow(OverflowError::BitmapDimension));
+    };
+    if refined >= 0x8000_0000 {
+        return Err(DecodeError::Overflow(OverflowError::BitmapDimension));
+    }
+    Ok(refined)
+}
+
+/// Where a refined symbol's reference lies along one axis, by the growth of its side and a
+/// difference.
+pub fn reference_offset(growth: i32, difference: i32) -> Result<i32>
+    ensures { Answers (λ n. n) result (reference_offset growth difference) }
+{
+    word_or(
+        i64::from(growth >> 1) + i64::from(difference),
+        DecodeError::Overflow(OverflowError::ReferenceOffset),
+    )
+}

@@ -1,0 +1,129 @@
+//! Where the symbols of a text region lie (T.88, 6.4.5, step 3 c).
+ghost use Rattle.std.specs.Prelude.{◌≡◌, if◌then◌else◌};
+ghost use Rattle.jbig2_base.specs.Answer.{Answers};
+ghost use Rattle.jbig2_text.specs.Text.{is_right, is_bottom, is_last_along_s, grown, s_before, s_behind, edge, placed};
+ghost use Rattle.jbig2_text.specs.inner.TextViews.{instance_view, symbol_view};
+
+use crate::text::header::{ReferenceCorner, TextRegionFlags};
+use crate::text::numbers;
+use crate::text::symbols::InstanceSymbol;
+use jbig2_base::error::Result;
+use std::alloc::Allocator;
+
+/// A symbol, and the column and the row of its top left pixel.
+#[derive(Drop)]
+pub struct Instance<'a, B: Allocator, M: Allocator> {
+    pub symbol: InstanceSymbol<'a, B, M>,
+    pub x: i32,
+    pub y: i32,
+}
+
+fn is_right(corner: ReferenceCorner) -> bool
+    ensures { result ≡ is_right corner }
+{
+    match corner {
+        ReferenceCorner::BottomRight | ReferenceCorner::TopRight => true,
+        ReferenceCorner::BottomLeft | ReferenceCorner::TopLeft => false,
+    }
+}
+
+fn is_bottom(corner: ReferenceCorner) -> bool
+    ensures { result ≡ is_bottom corner }
+{
+    match corner {
+        ReferenceCorner::BottomLeft | ReferenceCorner::BottomRight => true,
+        ReferenceCorner::TopLeft | ReferenceCorner::TopRight => false,
+    }
+}
+
+/// Whether a symbol's corner is the last one along S.
+fn is_last_along_s(flags: &TextRegionFlags) -> bool
+    ensures { result ≡ is_last_along_s flags.now }
+{
+    if flags.transposed {
+        is_bottom(flags.reference_corner)
+    } else {
+        is_right(flags.reference_corner)
+    }
+}
+
+/// S at the other end of a symbol.
+fn grown<B: Allocator, M: Allocator>(
+    flags: &TextRegionFlags,
+    symbol: &InstanceSymbol<'_, B, M>,
+    s: i32,
+) -> Result<i32>
+    ensures { Answers (λ n. n) result (grown flags.now (symbol_view symbol.now) s) }
+{
+    if flags.transposed {
+        return numbers::last_of(s, symbol.height());
+    }
+    numbers::last_of(s, symbol.width())
+}
+
+/// S where a symbol is placed.
+fn s_before<B: Allocator, M: Allocator>(
+    flags: &TextRegionFlags,
+    symbol: &InstanceSymbol<'_, B, M>,
+    s: i32,
+) -> Result<i32>
+    ensures { Answers (λ n. n) result (s_before flags.now (symbol_view symbol.now) s) }
+{
+    if is_last_along_s(flags) {
+        return grown(flags, symbol, s);
+    }
+    Ok(s)
+}
+
+/// S behind a symbol that is placed at `s`.
+fn s_behind<B: Allocator, M: Allocator>(
+    flags: &TextRegionFlags,
+    symbol: &InstanceSymbol<'_, B, M>,
+    s: i32,
+) -> Result<i32>
+    ensures { Answers (λ n. n) result (s_behind flags.now (symbol_view symbol.now) s) }
+{
+    if is_last_along_s(flags) {
+        return Ok(s);
+    }
+    grown(flags, symbol, s)
+}
+
+/// The first column (or row), where `place` may be the last one.
+fn edge(at_last: bool, side: u32, place: i32) -> Result<i32>
+    ensures { Answers (λ n. n) result (edge at_last side place) }
+{
+    if at_last {
+        return numbers::first_of(place, side);
+    }
+    Ok(place)
+}
+
+/// Column and row, by S and T.
+fn column_and_row(transposed: bool, s: i32, t: i32) -> (i32, i32)
+    ensures column { result.0 ≡ if transposed then t else s }
+    ensures row { result.1 ≡ if transposed then s else t }
+{
+    if transposed {
+        return (t, s);
+    }
+    (s, t)
+}
+
+/// A symbol at S and T, and S behind it.
+#[tactic(auto, unfolding(crate::specs::Text::placed))]
+pub fn place<'a, B: Allocator, M: Allocator>(
+    flags: &TextRegionFlags,
+    symbol: InstanceSymbol<'a, B, M>,
+    s: i32,
+    t: i32,
+) -> Result<(Instance<'a, B, M>, i32)>
+    ensures { Answers (λ i. (instance_view i.0, i.1)) result (placed flags.now (symbol_view symbol.entry) s t) }
+{
+    let start = s_before(flags, &symbol, s)?;
+    let (column, row) = column_and_row(flags.transposed, start, t);
+    let x = edge(is_right(flags.reference_corner), symbol.width(), column)?;
+    let y = edge(is_bottom(flags.reference_corner), symbol.height(), row)?;
+    let next = s_behind(flags, &symbol, start)?;
+    Ok((Instance { symbol, x, y }, next))
+}

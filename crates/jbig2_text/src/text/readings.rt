@@ -1,0 +1,76 @@
+//! How the numbers of a text region are read (T.88, 6.4.6 to 6.4.11).
+ghost use Rattle.std.specs.Prelude.{◌≡◌, ◌≤◌, false};
+ghost use Rattle.jbig2_base.specs.Answer.{Answers};
+ghost use Rattle.jbig2_base.specs.Grid.{blank};
+ghost use Rattle.jbig2_region.specs.inner.RefinementViews.{reference_view};
+ghost use Rattle.jbig2_text.specs.Text.{Readings};
+
+use jbig2_base::bitmap::Bitmap;
+use jbig2_base::bitmap::steps::Steps;
+use jbig2_base::error::Result;
+use jbig2_region::generic_refinement::ReferenceBitmap;
+use std::alloc::Allocator;
+use std::sync::ledger::Ledger;
+
+/// Reads the numbers of a text region, one behind the other.
+pub trait ReadInstances {
+    ghost State: { Type 0 };
+
+    ghost state: { Self → State };
+
+    ghost readings: { Readings State };
+
+    /// A difference of T, in strips.
+    fn delta_t<L: Ledger>(&mut self, steps: &mut Steps<L>) -> Result<i32>
+        ensures { Answers (λ n. (n, state self.new)) result (readings.delta_t (state self.old)) };
+
+    /// The difference of S between the first instances of two strips.
+    fn first_s<L: Ledger>(&mut self, steps: &mut Steps<L>) -> Result<i32>
+        ensures { Answers (λ n. (n, state self.new)) result (readings.first_s (state self.old)) };
+
+    /// A difference of S in a strip, or `None` at its end.
+    fn delta_s<L: Ledger>(&mut self, steps: &mut Steps<L>) -> Result<Option<i32>>
+        ensures value { result ≡ readings.delta_s (state self.old) }
+        ensures state { state self.new ≡ readings.behind_delta_s (state self.old) };
+
+    /// T in a strip of 2 to the power of `log` rows.
+    fn t_bits<L: Ledger>(&mut self, log: u8, steps: &mut Steps<L>) -> Result<i32>
+        requires { log ≤ 3 }
+        ensures { Answers (λ n. (n, state self.new)) result (readings.t_bits log (state self.old)) };
+
+    /// The id of a symbol.
+    fn id<L: Ledger>(&mut self, steps: &mut Steps<L>) -> Result<i64>
+        ensures { Answers (λ n. (n, state self.new)) result (readings.id (state self.old)) };
+
+    /// Whether the symbol is refined.
+    fn is_refined<L: Ledger>(&mut self, steps: &mut Steps<L>) -> Result<bool>
+        ensures { Answers (λ refined. (refined, state self.new)) result (readings.is_refined (state self.old)) };
+
+    /// How much wider a refined symbol is.
+    fn width_delta<L: Ledger>(&mut self, steps: &mut Steps<L>) -> Result<i32>
+        ensures { Answers (λ n. (n, state self.new)) result (readings.width_delta (state self.old)) };
+
+    /// How much higher a refined symbol is.
+    fn height_delta<L: Ledger>(&mut self, steps: &mut Steps<L>) -> Result<i32>
+        ensures { Answers (λ n. (n, state self.new)) result (readings.height_delta (state self.old)) };
+
+    /// How far a refined symbol lies to the right.
+    fn x_delta<L: Ledger>(&mut self, steps: &mut Steps<L>) -> Result<i32>
+        ensures { Answers (λ n. (n, state self.new)) result (readings.x_delta (state self.old)) };
+
+    /// How far a refined symbol lies below.
+    fn y_delta<L: Ledger>(&mut self, steps: &mut Steps<L>) -> Result<i32>
+        ensures { Answers (λ n. (n, state self.new)) result (readings.y_delta (state self.old)) };
+
+    /// Refines `reference` into a white bitmap.
+    fn refine<A: Allocator, B: Allocator, L: Ledger>(
+        &mut self,
+        reference: &ReferenceBitmap<'_, B>,
+        bitmap: &mut Bitmap<A>,
+        steps: &mut Steps<L>,
+    ) -> Result<()>
+        requires columns { bitmap.old.width ≤ 65535 }
+        requires rows { bitmap.old.height ≤ 65535 }
+        requires white { bitmap.old ≡ blank bitmap.old.width bitmap.old.height false }
+        ensures { Answers (λ _. (bitmap.new, state self.new)) result (readings.refined (reference_view reference.now) bitmap.old.width bitmap.old.height (state self.old)) };
+}

@@ -1,0 +1,111 @@
+//! Symbols that are refined from others (T.88, 6.4.11).
+ghost use Rattle.std.specs.Prelude.{◌≡◌, ◌≤◌, ◌^◌, length, false, Ok};
+ghost use Rattle.jbig2_base.specs.Answer.{Gives};
+ghost use Rattle.jbig2_base.specs.Grid.{blank};
+ghost use Rattle.jbig2_region.specs.Raster.{fresh_contexts, so_far};
+ghost use Rattle.jbig2_region.specs.Refinement.{refinement_bits};
+ghost use Rattle.jbig2_region.specs.inner.RefinementViews.{reference_view};
+ghost use Rattle.jbig2_text.specs.TextCoding.{refined_by};
+
+use jbig2_base::bitmap::Bitmap;
+use jbig2_base::bitmap::steps::Steps;
+use jbig2_base::error::Result;
+use jbig2_coder::arithmetic_decoder::{ArithmeticDecoder, ArithmeticDecoderContext};
+use jbig2_region::generic_refinement::{ReferenceBitmap, decode_bitmap};
+use jbig2_region::raster::fresh_contexts;
+use jbig2_region::template::{AdaptiveTemplatePixel, RefinementTemplate};
+use std::alloc::Allocator;
+use std::marker::Model;
+use std::sync::ledger::Ledger;
+
+/// How symbols are refined, and what the contexts have learned.
+#[derive(Drop)]
+pub struct Refining<A: Allocator> {
+    template: RefinementTemplate,
+    pixels: [AdaptiveTemplatePixel; 2],
+    contexts: Vec<ArithmeticDecoderContext, A>,
+}
+
+impl<A: Allocator> Model for Refining<A> {
+    ghost use Rattle.std.specs.Prelude.{◌≡◌, ◌^◌, length};
+    ghost use Rattle.jbig2_region.specs.Refinement.{refinement_bits};
+    ghost use Rattle.jbig2_text.specs.TextCoding.{Refining};
+
+    ghost Value = { Refining };
+
+    ghost view = { λ r. record { template = r.template; pixels = r.pixels; contexts = r.contexts.items } };
+
+    ghost invariant = { λ r. length r.contexts.items ≡ 2 ^ refinement_bits r.template };
+}
+
+impl<A: Allocator> Refining<A> {
+    /// Refinements by contexts that know nothing yet.
+    ///
+    /// # Errors
+    /// `OutOfMemory` where the contexts find no room.
+    pub fn new(
+        alloc: A,
+        template: RefinementTemplate,
+        pixels: [AdaptiveTemplatePixel; 2],
+    ) -> Result<Refining<A>>
+        ensures { Gives (λ r. r) result (Ok (record { template = template; pixels = pixels; contexts = fresh_contexts (refinement_bits template) })) }
+    {
+        let mut contexts = Vec::new(alloc);
+        fresh_contexts(&mut contexts, template.context_bits())?;
+        Ok(Refining {
+            template,
+            pixels,
+            contexts,
+        })
+    }
+
+    /// Refines `reference` into a white bitmap. The coder and the contexts go on from where they
+    /// stand.
+    pub fn refine<M: Allocator, B: Allocator, L: Ledger>(
+        &mut self,
+        reference: &ReferenceBitmap<'_, B>,
+        bitmap: &mut Bitmap<M>,
+        decoder: &mut ArithmeticDecoder<'_>,
+        steps: &mut Steps<L>,
+    )
+        requires columns { bitmap.old.width ≤ 65535 }
+        requires rows { bitmap.old.height ≤ 65535 }
+        requires white { bitmap.old ≡ blank bitmap.old.width bitmap.old.height false }
+        ensures grid { bitmap.new ≡ so_far bitmap.old.width bitmap.old.height (refined_by self.old (reference_view reference.now) bitmap.old.width bitmap.old.height decoder.old.bytes decoder.old.registers).pixels }
+        ensures coder { decoder.new ≡ record decoder.old { registers = (refined_by self.old (reference_view reference.now) bitmap.old.width bitmap.old.height decoder.old.bytes decoder.old.registers).registers } }
+        ensures contexts { self.new ≡ record self.old { contexts = (refined_by self.old (reference_view reference.now) bitmap.old.width bitmap.old.height decoder.old.bytes decoder.old.registers).contexts } }
+    {
+        refine_by(
+            self.template,
+            &self.pixels,
+            &mut self.contexts,
+            reference,
+            bitmap,
+            decoder,
+            steps,
+        );
+    }
+}
+
+/// Refines `reference` by these contexts.
+fn refine_by<M: Allocator, B: Allocator, L: Ledger>(
+    template: RefinementTemplate,
+    pixels: &[AdaptiveTemplatePixel; 2],
+    contexts: &mut [ArithmeticDecoderContext],
+    reference: &ReferenceBitmap<'_, B>,
+    bitmap: &mut Bitmap<M>,
+    decoder: &mut ArithmeticDecoder<'_>,
+    steps: &mut Steps<L>,
+)
+    requires size { length contexts.old ≡ 2 ^ refinement_bits template }
+    requires columns { bitmap.old.width ≤ 65535 }
+    requires rows { bitmap.old.height ≤ 65535 }
+    requires white { bitmap.old ≡ blank bitmap.old.width bitmap.old.height false }
+    ensures grid { bitmap.new ≡ so_far bitmap.old.width bitmap.old.height (refined_by (record { template = template; pixels = pixels.now; contexts = contexts.old }) (reference_view reference.now) bitmap.old.width bitmap.old.height decoder.old.bytes decoder.old.registers).pixels }
+    ensures coder { decoder.new ≡ record decoder.old { registers = (refined_by (record { template = template; pixels = pixels.now; contexts = contexts.old }) (reference_view reference.now) bitmap.old.width bitmap.old.height decoder.old.bytes decoder.old.registers).registers } }
+    ensures contexts { contexts.new ≡ (refined_by (record { template = template; pixels = pixels.now; contexts = contexts.old }) (reference_view reference.now) bitmap.old.width bitmap.old.height decoder.old.bytes decoder.old.registers).contexts }
+{
+    decode_bitmap(
+        template, false, pixels, reference, bitmap, decoder, contexts, steps,
+    );
+}

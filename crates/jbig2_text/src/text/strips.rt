@@ -1,0 +1,113 @@
+//! The strips of a text region (T.88, 6.4.5, steps 1 to 4).
+ghost use Rattle.std.specs.Prelude.{◌≡◌, ◌≤◌};
+ghost use Rattle.jbig2_base.specs.Answer.{Answers};
+ghost use Rattle.jbig2_text.specs.Text.{strip_delta, strip_begun, moved_by, moved, t_in_strip, end_of_strip};
+
+use crate::text::cursor::Cursor;
+use crate::text::header::TextRegionFlags;
+use crate::text::numbers;
+use crate::text::readings::ReadInstances;
+use jbig2_base::bitmap::steps::Steps;
+use jbig2_base::error::{DecodeError, Result, SymbolError};
+use std::sync::ledger::Ledger;
+
+/// A difference of T, in rows.
+#[tactic(auto, unfolding(crate::specs::Text::strip_delta))]
+pub fn read_strip_delta<R: ReadInstances, L: Ledger>(
+    readings: &mut R,
+    flags: &TextRegionFlags,
+    steps: &mut Steps<L>,
+) -> Result<i32>
+    requires { flags.now.log_strip_size ≤ 3 }
+    ensures { Answers (λ t. (t, R.state readings.new)) result (strip_delta R.readings flags.now (R.state readings.old)) }
+{
+    let delta = readings.delta_t(steps)?;
+    numbers::strips(delta, flags.log_strip_size)
+}
+
+/// A strip begins: where its first instance stands, by the T and the first S of the strip before
+/// it.
+#[tactic(auto, unfolding(crate::specs::Text::strip_begun))]
+pub fn begin_strip<R: ReadInstances, L: Ledger>(
+    readings: &mut R,
+    flags: &TextRegionFlags,
+    strip_t: i32,
+    first_s: i32,
+    steps: &mut Steps<L>,
+) -> Result<Cursor>
+    requires { flags.now.log_strip_size ≤ 3 }
+    ensures { Answers (λ cursor. (cursor, R.state readings.new)) result (strip_begun R.readings flags.now strip_t first_s (R.state readings.old)) }
+{
+    let delta = read_strip_delta(readings, flags, steps)?;
+    let strip_t = numbers::moved(strip_t, delta)?;
+    let first = readings.first_s(steps)?;
+    let first_s = numbers::moved(first_s, first)?;
+    Ok(Cursor {
+        strip_t,
+        first_s,
+        s: first_s,
+    })
+}
+
+/// Where an instance stands that is `delta` behind the last one, or begins the next strip.
+fn move_by<R: ReadInstances, L: Ledger>(
+    readings: &mut R,
+    flags: &TextRegionFlags,
+    cursor: Cursor,
+    delta: Option<i32>,
+    steps: &mut Steps<L>,
+) -> Result<Cursor>
+    requires { flags.now.log_strip_size ≤ 3 }
+    ensures { Answers (λ next. (next, R.state readings.new)) result (moved_by R.readings flags.now cursor delta (R.state readings.old)) }
+{
+    let Some(delta) = delta else {
+        return begin_strip(readings, flags, cursor.strip_t, cursor.first_s, steps);
+    };
+    let apart = numbers::moved(cursor.s, delta)?;
+    let s = numbers::moved(apart, i32::from(flags.delta_s_offset))?;
+    Ok(Cursor { s, ..cursor })
+}
+
+/// Where the next instance stands.
+#[tactic(auto, unfolding(crate::specs::Text::moved))]
+pub fn move_on<R: ReadInstances, L: Ledger>(
+    readings: &mut R,
+    flags: &TextRegionFlags,
+    cursor: Cursor,
+    steps: &mut Steps<L>,
+) -> Result<Cursor>
+    requires { flags.now.log_strip_size ≤ 3 }
+    ensures { Answers (λ next. (next, R.state readings.new)) result (moved R.readings flags.now cursor (R.state readings.old)) }
+{
+    let delta = readings.delta_s(steps)?;
+    move_by(readings, flags, cursor, delta, steps)
+}
+
+/// T in the strip, which is 0 in strips of one row.
+pub fn read_t_in_strip<R: ReadInstances, L: Ledger>(
+    readings: &mut R,
+    flags: &TextRegionFlags,
+    steps: &mut Steps<L>,
+) -> Result<i32>
+    requires { flags.now.log_strip_size ≤ 3 }
+    ensures { Answers (λ t. (t, R.state readings.new)) result (t_in_strip R.readings flags.now (R.state readings.old)) }
+{
+    if flags.log_strip_size == 0 {
+        return Ok(0);
+    }
+    readings.t_bits(flags.log_strip_size, steps)
+}
+
+/// Whether a strip may end with this difference of S.
+pub fn check_end(strict: bool, delta: Result<Option<i32>>) -> Result<()>
+    ensures { Answers (λ ends. ends) result (end_of_strip strict delta) }
+{
+    if !strict {
+        return Ok(());
+    }
+    match delta {
+        Ok(None) => Ok(()),
+        Ok(Some(_)) => Err(DecodeError::Symbol(SymbolError::TooManyInstances)),
+        Err(error) => Err(error),
+    }
+}

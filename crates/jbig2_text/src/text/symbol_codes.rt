@@ -1,0 +1,188 @@
+//! The prefix codes of the symbols' ids (T.88, 7.4.3.1.7).
+ghost use Rattle.std.specs.Prelude.{◌≡◌, ◌≤◌, ◌^◌, ◌++◌, [], length, replicate, IfOk, Ok, OnOk};
+ghost use Rattle.jbig2_base.specs.Answer.{Gives};
+ghost use Rattle.jbig2_base.specs.Bits.{IsAligned};
+ghost use Rattle.jbig2_coder.specs.PrefixCode.{AreShort, table_of};
+ghost use Rattle.jbig2_text.specs.BitFields.{invalid_code};
+ghost use Rattle.jbig2_text.specs.SymbolCodes.{lines_from, short_lengths, repeated, run_at, next_run, runs_at, symbol_codes_at, symbol_codes_from};
+
+use crate::bit_fields::{bits_field, value_field};
+use jbig2_base::error::{DecodeError, HuffmanError, Result};
+use jbig2_base::reader::Reader;
+use jbig2_coder::huffman_table::{HuffmanTable, TableLine};
+use std::alloc::Allocator;
+
+/// How many runcodes there are.
+const RUNCODES: u32 = 35;
+
+fn invalid_code() -> DecodeError
+    ensures { result ≡ invalid_code }
+{
+    DecodeError::Huffman(HuffmanError::InvalidCode)
+}
+
+/// The numbers from 0 on, by the lengths of their codes.
+fn code_lines<A: Allocator>(alloc: A, lengths: &[u8]) -> Result<Vec<TableLine, A>>
+    requires { length lengths.now ≤ 2 ^ 31 }
+    ensures lines { Gives (λ lines. lines.items) result (Ok (lines_from 0 lengths.now)) }
+    ensures short { IfOk result (λ lines. AreShort lines.items) }
+{
+    let mut lines = Vec::new(alloc);
+    for (number, length) in lengths.iter().enumerate() {
+        lines.push(TableLine::new(number as i32, *length, 0))?;
+    }
+    Ok(lines)
+}
+
+/// The codes of these lengths, for the numbers from 0 on.
+fn codes_of<A: Allocator + Clone>(alloc: A, lengths: &[u8]) -> Result<HuffmanTable<A>>
+    requires { length lengths.now ≤ 2 ^ 31 }
+    ensures { Gives (λ table. table) result (table_of (lines_from 0 lengths.now)) }
+{
+    let lines = code_lines(alloc.clone()?, lengths)?;
+    HuffmanTable::build(alloc, &lines)
+}
+
+/// The lengths of the runcodes.
+fn read_short_lengths<A: Allocator>(alloc: A, reader: &mut Reader<'_>) -> Result<Vec<u8, A>>
+    ensures value { Gives (λ lengths. (lengths.items, reader.new)) result (short_lengths 35 [] reader.old) }
+    ensures count { IfOk result (λ lengths. length lengths.items ≡ 35) }
+{
+    let mut lengths = Vec::new(alloc);
+    for _ in 0..RUNCODES {
+        let length = match bits_field(reader, 4, invalid_code()) {
+            Ok(length) => length,
+            Err(error) => return Err(error),
+        };
+        lengths.push(length as u8)?;
+    }
+    Ok(lengths)
+}
+
+/// Adds a length so many times.
+fn push_lengths<A: Allocator>(lengths: &mut Vec<u8, A>, value: u8, count: u32) -> Result<()>
+    requires { length lengths.old.items ≤ 2 ^ 21 }
+    ensures { Gives (λ _. lengths.new.items) result (Ok (lengths.old.items ++ replicate count value)) }
+{
+    let len = lengths.len() + count as usize;
+    lengths.resize(len, value)?;
+    Ok(())
+}
+
+/// Adds the last length so many times.
+fn repeat_last<A: Allocator>(lengths: &mut Vec<u8, A>, count: u32) -> Result<()>
+    requires { length lengths.old.items ≤ 2 ^ 21 }
+    ensures { Gives (λ _. lengths.new.items) result (repeated lengths.old.items count) }
+{
+    let Some(last) = lengths.last() else {
+        return Err(invalid_code());
+    };
+    let last = *last;
+    push_lengths(lengths, last, count)
+}
+
+/// Adds the lengths that a runcode stands for.
+fn push_run<A: Allocator>(
+    runcode: i32,
+    reader: &mut Reader<'_>,
+    lengths: &mut Vec<u8, A>,
+) -> Result<()>
+    requires { length lengths.old.items ≤ 2 ^ 21 }
+    ensures { Gives (λ _. (lengths.new.items, reader.new)) result (run_at runcode lengths.old.items reader.old) }
+{
+    let Ok(code) = u32::try_from(runcode) else {
+        return Err(invalid_code());
+    };
+    if code < 32 {
+        lengths.push(code as u8)?;
+        return Ok(());
+    }
+    if code == 32 {
+        let more = bits_field(reader, 2, invalid_code())?;
+        return repeat_last(lengths, more + 3);
+    }
+    if code == 33 {
+        let more = bits_field(reader, 3, invalid_code())?;
+        return push_lengths(lengths, 0, more + 3);
+    }
+    let more = bits_field(reader, 7, invalid_code())?;
+    push_lengths(lengths, 0, more + 11)
+}
+
+/// Reads a runcode and adds its lengths.
+fn read_run<A: Allocator, B: Allocator>(
+    runcodes: &HuffmanTable<A>,
+    reader: &mut Reader<'_>,
+    lengths: &mut Vec<u8, B>,
+) -> Result<()>
+    requires { length lengths.old.items ≤ 2 ^ 21 }
+    ensures { Gives (λ _. (lengths.new.items, reader.new)) result (next_run runcodes.now lengths.old.items reader.old) }
+{
+    let runcode = value_field(runcodes, reader)?;
+    push_run(runcode, reader, lengths)
+}
+
+/// The lengths of so many symbols, or more where a run goes past them.
+fn read_lengths<A: Allocator, B: Allocator>(
+    alloc: A,
+    count: u32,
+    runcodes: &HuffmanTable<B>,
+    reader: &mut Reader<'_>,
+) -> Result<Vec<u8, A>>
+    requires { count ≤ 2 ^ 21 }
+    ensures { Gives (λ lengths. (lengths.items, reader.new)) result (runs_at count count runcodes.now [] reader.old) }
+{
+    let mut lengths = Vec::new(alloc);
+    // Each run has one length at least.
+    for _ in 0..count {
+        if lengths.len() >= count as usize {
+            return Ok(lengths);
+        }
+        match read_run(runcodes, reader, &mut lengths) {
+            Ok(()) => {}
+            Err(error) => return Err(error),
+        }
+    }
+    Ok(lengths)
+}
+
+/// Reads the codes of so many symbols.
+#[tactic(auto, unfolding(crate::specs::SymbolCodes::symbol_codes_from))]
+fn read_symbol_codes<A: Allocator + Clone>(
+    alloc: A,
+    reader: &mut Reader<'_>,
+    count: u32,
+) -> Result<HuffmanTable<A>>
+    requires { count ≤ 2 ^ 21 }
+    ensures value { Gives (λ table. (table, reader.new)) result (symbol_codes_from count reader.old) }
+    ensures aligned { OnOk result (IsAligned reader.new) }
+{
+    let short = read_short_lengths(alloc.clone()?, reader)?;
+    let runcodes = codes_of(alloc.clone()?, &short)?;
+    let lengths = read_lengths(alloc.clone()?, count, &runcodes, reader)?;
+    if lengths.len() > count as usize {
+        return Err(invalid_code());
+    }
+    let codes = codes_of(alloc, &lengths)?;
+    reader.align();
+    Ok(codes)
+}
+
+/// Reads the codes of so many symbols, at most 2^21; the reader then stands at the beginning of a
+/// byte.
+///
+/// `ParseError::UnexpectedEof` where the bits end in a runcode; `HuffmanError::InvalidCode` where
+/// they end elsewhere, for codes that do not fit, for a last length that is repeated where there
+/// is none, and for more lengths than symbols; `OutOfMemory`.
+pub fn parse_symbol_codes<A: Allocator + Clone>(
+    alloc: A,
+    reader: &mut Reader<'_>,
+    count: u32,
+) -> Result<HuffmanTable<A>>
+    requires aligned { IsAligned reader.old }
+    requires few { count ≤ 2 ^ 21 }
+    ensures value { Gives (λ table. (table, reader.new.bytes)) result (symbol_codes_at count reader.old.bytes) }
+    ensures aligned { OnOk result (IsAligned reader.new) }
+{
+    read_symbol_codes(alloc, reader, count)
+}

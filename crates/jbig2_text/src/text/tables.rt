@@ -1,0 +1,152 @@
+//! The tables of a text region (T.88, 7.4.3.1.6).
+ghost use Rattle.std.specs.Prelude.{◌≡◌};
+ghost use Rattle.jbig2_base.specs.Answer.{Answers};
+ghost use Rattle.jbig2_text.specs.TextRegion.{custom, one_of_two, one_of_three, table_of_first_s, table_of_delta_s, table_of_delta_t, table_of_refinement, table_of_size, text_tables};
+ghost use Rattle.jbig2_text.specs.inner.TextViews.{customs_view, tables_view};
+
+use crate::text::header::TextRegionHuffmanFlags;
+use jbig2_base::error::{DecodeError, HuffmanError, Result};
+use jbig2_coder::huffman_table::{HuffmanTable, StandardHuffmanTables};
+use std::alloc::Allocator;
+
+/// Which table reads which numbers (T.88, Table 9).
+#[derive(Drop)]
+pub struct TextRegionHuffmanTables<'a, T: Allocator> {
+    pub first_s: &'a HuffmanTable<T>,
+    pub delta_s: &'a HuffmanTable<T>,
+    pub delta_t: &'a HuffmanTable<T>,
+    pub refinement_width: &'a HuffmanTable<T>,
+    pub refinement_height: &'a HuffmanTable<T>,
+    pub refinement_x: &'a HuffmanTable<T>,
+    pub refinement_y: &'a HuffmanTable<T>,
+    pub refinement_size: &'a HuffmanTable<T>,
+}
+
+/// The next custom table, and those behind it.
+fn custom<'a, T: Allocator>(
+    customs: &'a [&'a HuffmanTable<T>],
+) -> Result<(&'a HuffmanTable<T>, &'a [&'a HuffmanTable<T>])>
+    ensures { Answers (λ t. (t.0.now, customs_view t.1.now)) result (custom (customs_view customs.now)) }
+{
+    if customs.is_empty() {
+        return Err(DecodeError::Huffman(HuffmanError::MissingTables));
+    }
+    Ok((customs[0], &customs[1..]))
+}
+
+/// The table that a number names among two, and 3 for a custom one; those left to take.
+fn one_of_two<'a, T: Allocator>(
+    first: &'a HuffmanTable<T>,
+    second: &'a HuffmanTable<T>,
+    number: u8,
+    customs: &'a [&'a HuffmanTable<T>],
+) -> Result<(&'a HuffmanTable<T>, &'a [&'a HuffmanTable<T>])>
+    ensures { Answers (λ t. (t.0.now, customs_view t.1.now)) result (one_of_two first.now second.now number (customs_view customs.now)) }
+{
+    match number {
+        0 => Ok((first, customs)),
+        1 => Ok((second, customs)),
+        3 => custom(customs),
+        _ => Err(DecodeError::Huffman(HuffmanError::InvalidSelection)),
+    }
+}
+
+/// The table that a number names among three, otherwise a custom one; those left to take.
+fn one_of_three<'a, T: Allocator>(
+    first: &'a HuffmanTable<T>,
+    second: &'a HuffmanTable<T>,
+    third: &'a HuffmanTable<T>,
+    number: u8,
+    customs: &'a [&'a HuffmanTable<T>],
+) -> Result<(&'a HuffmanTable<T>, &'a [&'a HuffmanTable<T>])>
+    ensures { Answers (λ t. (t.0.now, customs_view t.1.now)) result (one_of_three first.now second.now third.now number (customs_view customs.now)) }
+{
+    match number {
+        0 => Ok((first, customs)),
+        1 => Ok((second, customs)),
+        2 => Ok((third, customs)),
+        _ => custom(customs),
+    }
+}
+
+/// The table that a number names for the differences of a refined symbol; those left to take.
+fn refinement_table<'a, T: Allocator>(
+    standard: &'a StandardHuffmanTables<T>,
+    number: u8,
+    customs: &'a [&'a HuffmanTable<T>],
+) -> Result<(&'a HuffmanTable<T>, &'a [&'a HuffmanTable<T>])>
+    ensures { Answers (λ t. (t.0.now, customs_view t.1.now)) result (table_of_refinement number (customs_view customs.now)) }
+{
+    one_of_two(standard.table_n(), standard.table_o(), number, customs)
+}
+
+/// The table that a number names for the sizes of refined symbols; those left to take.
+fn size_table<'a, T: Allocator>(
+    standard: &'a StandardHuffmanTables<T>,
+    number: u8,
+    customs: &'a [&'a HuffmanTable<T>],
+) -> Result<(&'a HuffmanTable<T>, &'a [&'a HuffmanTable<T>])>
+    ensures { Answers (λ t. (t.0.now, customs_view t.1.now)) result (table_of_size number (customs_view customs.now)) }
+{
+    if number == 0 {
+        return Ok((standard.table_a(), customs));
+    }
+    custom(customs)
+}
+
+/// The tables that the flags name; each custom one is the next of `customs`.
+///
+/// `HuffmanError::InvalidSelection` for a number without meaning; `HuffmanError::MissingTables`
+/// where the custom tables run out. Takes no memory.
+#[tactic(auto, unfolding(crate::specs::TextRegion::text_tables))]
+pub fn select_tables<'a, T: Allocator>(
+    flags: &TextRegionHuffmanFlags,
+    customs: &'a [&'a HuffmanTable<T>],
+    standard: &'a StandardHuffmanTables<T>,
+) -> Result<TextRegionHuffmanTables<'a, T>>
+    ensures { Answers (λ tables. tables_view tables) result (text_tables flags.now (customs_view customs.now)) }
+{
+    let (first_s, customs) = one_of_two(
+        standard.table_f(),
+        standard.table_g(),
+        flags.first_s_table,
+        customs,
+    )?;
+    let (delta_s, customs) = one_of_three(
+        standard.table_h(),
+        standard.table_i(),
+        standard.table_j(),
+        flags.delta_s_table,
+        customs,
+    )?;
+    let (delta_t, customs) = one_of_three(
+        standard.table_k(),
+        standard.table_l(),
+        standard.table_m(),
+        flags.delta_t_table,
+        customs,
+    )?;
+    let (refinement_width, customs) = refinement_table(
+        standard,
+        flags.refinement_width_table,
+        customs,
+    )?;
+    let (refinement_height, customs) = refinement_table(
+        standard,
+        flags.refinement_height_table,
+        customs,
+    )?;
+    let (refinement_x, customs) = refinement_table(standard, flags.refinement_x_table, customs)?;
+    let (refinement_y, customs) = refinement_table(standard, flags.refinement_y_table, customs)?;
+    let (refinement_size, _) = size_table(standard, flags.refinement_size_table, customs)?;
+    Ok(TextRegionHuffmanTables {
+        first_s,
+        delta_s,
+        delta_t,
+        refinement_width,
+        refinement_height,
+        refinement_x,
+        refinement_y,
+        refinement_size,
+    })
+}
