@@ -8,8 +8,8 @@ use Rattle.jbig2_coder.specs.Coder.{Coder, Context}
 use Rattle.jbig2_region.specs.inner.Neighbours.{Decodes, is_nominal_layout, nominal_pixels, optional_pixels, row_coding}
 use Rattle.jbig2_region.specs.Raster.{Region, after_pixels}
 use Rattle.jbig2_region.specs.RunBytes.{is_run_of, is_run_byte, run_bytes, CountsRow, CountsRuns}
-use Rattle.jbig2_region.specs.declared.generic_kernel.neighbours.Adaptives.{Adaptives}
-use Rattle.jbig2_region.specs.declared.generic_kernel.neighbours.Neighbours.{Neighbours}
+use Rattle.jbig2_region.specs.declared.template.neighbours.Adaptives.{Adaptives}
+use Rattle.jbig2_region.specs.declared.template.neighbours.Neighbours.{Neighbours}
 use Rattle.jbig2_region.specs.declared.template.AdaptiveTemplatePixel.{AdaptiveTemplatePixel}
 use Rattle.jbig2_region.proofs.RasterLemmas.{after_pixels-length, after_pixels-predicted, after_pixels-add}
 use Rattle.jbig2_region.proofs.StoreLemmas.{width-so_far}

@@ -7,9 +7,9 @@ use Rattle.jbig2_base.specs.inner.WordBits.{bit}
 use Rattle.jbig2_base.proofs.BitLemmas.{bit-above, bit-zero}
 use Rattle.jbig2_region.specs.Generic.{context_at}
 use Rattle.jbig2_region.specs.inner.Neighbours.{left_pixels, stretch_pixels, nominal_pixels, mixed_pixels, IsNear, IsWindow, Shows, IsLeft, stretch_bits}
-use Rattle.jbig2_region.specs.declared.generic_kernel.neighbours.Adaptives.{Adaptives}
-use Rattle.jbig2_region.specs.declared.generic_kernel.neighbours.Neighbours.{Neighbours}
-use Rattle.jbig2_region.specs.declared.generic_kernel.neighbours.Stretch.{Stretch}
+use Rattle.jbig2_region.specs.declared.template.neighbours.Adaptives.{Adaptives}
+use Rattle.jbig2_region.specs.declared.template.neighbours.Neighbours.{Neighbours}
+use Rattle.jbig2_region.specs.declared.template.neighbours.Stretch.{Stretch}
 use Rattle.jbig2_region.specs.declared.generic_kernel.windows.Windows.{Windows}
 use Rattle.jbig2_region.proofs.ContextBits.{context-append, side-context, length-side}
 

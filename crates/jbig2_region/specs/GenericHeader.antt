@@ -1,22 +1,19 @@
 -- The data of a generic region segment up to its coded bytes (T.88, 7.4.6).
-use Rattle.std.specs.Prelude.{ℕ, ◌-◌, ◌/◌, ◌%◌, ◌≤◌, ◌≡◌, ◌==◌, nat_lt, Bool, true, false, not, ◌&&◌, ◌||◌, ℤ, pos, int_lt, int_le, List, [], ◌∷◌, zero, suc, length, take, drop, Result, Ok}
-use Rattle.std.specs.Int.{w8, w32, cast_signed}
+use Rattle.std.specs.Prelude.{ℕ, ◌-◌, ◌/◌, ◌%◌, ◌≤◌, ◌==◌, nat_lt, Bool, true, false, ◌||◌, List, length, take, drop, Result, Ok}
+use Rattle.std.specs.Int.{w8, w32}
 use Rattle.jbig2_base.specs.Answer.{◌>>=◌, refuse_if}
 use Rattle.jbig2_base.specs.Fields.{number_at}
 use Rattle.jbig2_base.specs.declared.error.DecodeError.{DecodeError}
 use Rattle.jbig2_base.specs.declared.error.DecodeError.TheVariants as errors
 use Rattle.jbig2_base.specs.declared.error.OverflowError.TheVariants.{BitmapDimension}
 use Rattle.jbig2_base.specs.declared.error.RegionError.TheVariants.{InvalidDimension}
-use Rattle.jbig2_base.specs.declared.error.TemplateError.TheVariants.{InvalidAtPixel}
 use Rattle.jbig2_region.specs.RegionInfo.{region_info_at}
-use Rattle.jbig2_region.specs.Templates.{template_of, right}
+unfoldable pub use Rattle.jbig2_region.specs.Templates.{FitsTemplate, adaptive_pixel_at, regular_pixels_at, template_pixels_at}
+use Rattle.jbig2_region.specs.Templates.{template_of}
 use Rattle.jbig2_region.specs.declared.generic.GenericRegionHeader.{GenericRegionHeader}
 use Rattle.jbig2_region.specs.declared.region_info.RegionSegmentInfo.{RegionSegmentInfo}
-use Rattle.jbig2_region.specs.declared.template.AdaptiveTemplatePixel.{AdaptiveTemplatePixel}
 use Rattle.jbig2_region.specs.declared.template.Template.{Template}
-use Rattle.jbig2_region.specs.declared.template.Template.TheVariants.{Template0}
 use Rattle.jbig2_region.specs.declared.template.GenericTemplatePixels.{GenericTemplatePixels}
-use Rattle.jbig2_region.specs.declared.template.GenericTemplatePixels.TheVariants.{Regular, Extended}
 
 -- What a generic region's coded bytes are decoded by.
 pub record GenericHeader : Type 0 where
@@ -38,46 +35,6 @@ header_view h = record {
   bytes = h.bytes.now;
   strict = h.strict;
 }
-
--- a pixel that is decoded before the one from which it lies so far away: in a row above, or left of it in its row
-abbrev pub is_earlier : ℤ → ℤ → Bool
-is_earlier x y = int_lt y (pos 0) || (int_le y (pos 0) && int_lt x (pos 0))
-
--- a byte in two's complement
-abbrev pub signed_byte_at : List ℕ → Result (ℤ × List ℕ) DecodeError
-signed_byte_at bytes = number_at w8 bytes >>= λ n. Ok (cast_signed w8 n.0, n.1)
-
--- an adaptive pixel (7.4.6.3)
-unfoldable pub adaptive_pixel_at : List ℕ → Result (AdaptiveTemplatePixel × List ℕ) DecodeError
-adaptive_pixel_at bytes = do
-  x ← signed_byte_at bytes
-  y ← signed_byte_at x.1
-  earlier ← refuse_if (not (is_earlier x.0 y.0)) (errors.Template InvalidAtPixel)
-  Ok (record { x = x.0; y = y.0 }, y.1)
-
--- so many of them
-abbrev pub adaptive_pixels_at : ℕ → List ℕ → Result (List AdaptiveTemplatePixel × List ℕ) DecodeError
-adaptive_pixels_at zero bytes = Ok ([], bytes)
-adaptive_pixels_at (suc count) bytes = do
-  first ← adaptive_pixel_at bytes
-  others ← adaptive_pixels_at count first.1
-  Ok (first.0 ∷ others.0, others.1)
-
--- with a first pixel alone, the other three are without meaning
-abbrev pub first_alone : AdaptiveTemplatePixel → List AdaptiveTemplatePixel
-first_alone first = first ∷ right 0 0 ∷ right 0 0 ∷ right 0 0 ∷ []
-
--- those of a template that is not extended: four at template 0, else one
-unfoldable pub regular_pixels_at : Template → List ℕ → Result (List AdaptiveTemplatePixel × List ℕ) DecodeError
-regular_pixels_at Template0 bytes = adaptive_pixels_at 4 bytes
-regular_pixels_at _ bytes = adaptive_pixel_at bytes >>= λ a. Ok (first_alone a.0, a.1)
-
--- The adaptive pixels of a region (7.4.6.3), by whether it is coded with MMR, whether the extended template is
--- asked for, and the template: none with MMR, and twelve with the extended template 0.
-unfoldable pub template_pixels_at : Bool → Bool → Template → List ℕ → Result (GenericTemplatePixels × List ℕ) DecodeError
-template_pixels_at true _ _ bytes = Ok (Regular (first_alone (right 0 0)), bytes)
-template_pixels_at false true Template0 bytes = adaptive_pixels_at 12 bytes >>= λ a. Ok (Extended a.0, a.1)
-template_pixels_at false _ template bytes = regular_pixels_at template bytes >>= λ a. Ok (Regular a.0, a.1)
 
 -- The height and the coded bytes. Where the segment's length is unknown its last four bytes are the number of
 -- rows, which the stated height must not fall short of (7.4.6.4).
@@ -108,11 +65,6 @@ generic_header_at unknown_length strict bytes = do
     },
     pixels.1,
   )
-
--- the extended template is template 0
-abbrev pub FitsTemplate : GenericTemplatePixels → Template → Type 0
-FitsTemplate (Regular _) template = Unit {0}
-FitsTemplate (Extended _) template = template ≡ Template0
 
 -- What holds of every header that is read.
 pub record IsParsed (h : GenericHeader) : Type 0 where

@@ -3,6 +3,7 @@ pub mod GenericHeader
 pub mod Raster
 pub mod Refinement
 pub mod RefinementHeader
+pub mod RefinementTemplates
 pub mod RegionInfo
 pub mod RunBytes
 pub mod Skipping

@@ -11,42 +11,17 @@ use Rattle.jbig2_coder.specs.Coder.{Context, started}
 use Rattle.jbig2_region.specs.Generic.{number_of, PlacedRegion}
 use Rattle.jbig2_region.specs.Raster.{Coding, Region, so_far, decoded, no_pixels, fresh_contexts}
 use Rattle.jbig2_region.specs.RefinementHeader.{RefinementHeader}
-use Rattle.jbig2_region.specs.Templates.{adaptive}
+pub use Rattle.jbig2_region.specs.RefinementTemplates.{refinement_bits}
+use Rattle.jbig2_region.specs.RefinementTemplates.{apart, reference_pixels, refinement_row_context, region_pixels}
 use Rattle.jbig2_region.specs.declared.region_info.RegionSegmentInfo.{RegionSegmentInfo}
 use Rattle.jbig2_region.specs.declared.template.AdaptiveTemplatePixel.{AdaptiveTemplatePixel}
 use Rattle.jbig2_region.specs.declared.template.RefinementTemplate.{RefinementTemplate}
-use Rattle.jbig2_region.specs.declared.template.RefinementTemplate.TheVariants.{Template0, Template1}
 
 -- What a region is refined from: a grid that lies dx columns to the right of the region and dy rows below it.
 pub record Reference : Type 0 where
   pub grid : Grid
   pub dx : ℤ
   pub dy : ℤ
-
--- so many columns to the right and rows down; `negsuc 0` is one to the left or up
-abbrev pub apart : ℤ → ℤ → AdaptiveTemplatePixel
-apart x y = record { x = x; y = y }
-
--- how many bits a context's number has
-abbrev pub refinement_bits : RefinementTemplate → ℕ
-refinement_bits Template0 = 13
-refinement_bits Template1 = 10
-
--- The pixels of the reference that a template takes (6.3.5.3, Figures 12 and 13), bit 0 of a context's number first.
-abbrev pub reference_pixels : RefinementTemplate → List AdaptiveTemplatePixel → List AdaptiveTemplatePixel
-reference_pixels Template0 a =
-    apart (pos 1) (pos 1) ∷ apart (pos 0) (pos 1) ∷ apart (negsuc 0) (pos 1)
-    ∷ apart (pos 1) (pos 0) ∷ apart (pos 0) (pos 0) ∷ apart (negsuc 0) (pos 0)
-    ∷ apart (pos 1) (negsuc 0) ∷ apart (pos 0) (negsuc 0) ∷ adaptive a 1 ∷ []
-reference_pixels Template1 a =
-    apart (pos 1) (pos 1) ∷ apart (pos 0) (pos 1)
-    ∷ apart (pos 1) (pos 0) ∷ apart (pos 0) (pos 0) ∷ apart (negsuc 0) (pos 0)
-    ∷ apart (pos 0) (negsuc 0) ∷ []
-
--- Those of the region itself, whose bits follow.
-abbrev pub region_pixels : RefinementTemplate → List AdaptiveTemplatePixel → List AdaptiveTemplatePixel
-region_pixels Template0 a = apart (negsuc 0) (pos 0) ∷ apart (pos 1) (negsuc 0) ∷ apart (pos 0) (negsuc 0) ∷ adaptive a 0 ∷ []
-region_pixels Template1 a = apart (negsuc 0) (pos 0) ∷ apart (pos 1) (negsuc 0) ∷ apart (pos 0) (negsuc 0) ∷ apart (negsuc 0) (negsuc 0) ∷ []
 
 -- a template's pixel in the reference, seen from column x of row y of the region
 abbrev pub reference_pixel : Reference → ℕ → ℕ → AdaptiveTemplatePixel → Bool
@@ -77,11 +52,6 @@ common_colour r x y =
 -- in a predicted row a pixel takes that colour
 abbrev pub predicted_colour : Reference → Bool → ℕ → ℕ → Option Bool
 predicted_colour r predicted x y = if predicted then common_colour r x y else None
-
--- the context of the decision that begins a row under typical prediction (6.3.5.6, Figures 14 and 15)
-abbrev pub refinement_row_context : RefinementTemplate → ℕ
-refinement_row_context Template0 = 0x0010
-refinement_row_context Template1 = 0x0008
 
 -- by the template, whether typical prediction is on, the two adaptive pixels, and the reference
 abbrev pub refinement_coding : RefinementTemplate → Bool → List AdaptiveTemplatePixel → Reference → Coding

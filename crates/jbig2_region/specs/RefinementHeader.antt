@@ -1,19 +1,17 @@
 -- The data of a refinement region segment up to its coded bytes (T.88, 7.4.7).
-use Rattle.std.specs.Prelude.{ℕ, ◌/◌, ◌%◌, ◌≤◌, ◌==◌, nat_lt, Bool, ◌||◌, List, [], ◌∷◌, Result, Ok, if◌then◌else◌}
+use Rattle.std.specs.Prelude.{ℕ, ◌/◌, ◌%◌, ◌≤◌, ◌==◌, nat_lt, Bool, ◌||◌, List, Result, Ok}
 use Rattle.std.specs.Int.{w8}
 use Rattle.jbig2_base.specs.Answer.{◌>>=◌, refuse_if}
 use Rattle.jbig2_base.specs.Fields.{number_at}
 use Rattle.jbig2_base.specs.declared.error.DecodeError.{DecodeError}
 use Rattle.jbig2_base.specs.declared.error.DecodeError.TheVariants as errors
 use Rattle.jbig2_base.specs.declared.error.OverflowError.TheVariants.{BitmapDimension}
-use Rattle.jbig2_region.specs.GenericHeader.{signed_byte_at}
+unfoldable pub use Rattle.jbig2_region.specs.RefinementTemplates.{refinement_pixels_at, refinement_template_of}
 use Rattle.jbig2_region.specs.RegionInfo.{region_info_at}
-use Rattle.jbig2_region.specs.Templates.{right}
 use Rattle.jbig2_region.specs.declared.generic_refinement.GenericRefinementRegionHeader.{GenericRefinementRegionHeader}
 use Rattle.jbig2_region.specs.declared.region_info.RegionSegmentInfo.{RegionSegmentInfo}
 use Rattle.jbig2_region.specs.declared.template.AdaptiveTemplatePixel.{AdaptiveTemplatePixel}
 use Rattle.jbig2_region.specs.declared.template.RefinementTemplate.{RefinementTemplate}
-use Rattle.jbig2_region.specs.declared.template.RefinementTemplate.TheVariants.{Template0, Template1}
 
 -- What a refinement's coded bytes are decoded by.
 pub record RefinementHeader : Type 0 where
@@ -31,25 +29,6 @@ header_view h = record {
   adaptive_template_pixels = h.adaptive_template_pixels;
   bytes = h.bytes.now;
 }
-
-abbrev pub refinement_template_of : ℕ → RefinementTemplate
-refinement_template_of n = if n == 0 then Template0 else Template1
-
--- a pixel at any place
-unfoldable pub free_pixel_at : List ℕ → Result (AdaptiveTemplatePixel × List ℕ) DecodeError
-free_pixel_at bytes = do
-  x ← signed_byte_at bytes
-  y ← signed_byte_at x.1
-  Ok (record { x = x.0; y = y.0 }, y.1)
-
--- The adaptive pixels (7.4.7.3): two at template 0, whose places are not checked; none at template 1, where the two
--- are without meaning.
-unfoldable pub refinement_pixels_at : RefinementTemplate → List ℕ → Result (List AdaptiveTemplatePixel × List ℕ) DecodeError
-refinement_pixels_at Template0 bytes = do
-  first ← free_pixel_at bytes
-  second ← free_pixel_at first.1
-  Ok (first.0 ∷ second.0 ∷ [], second.1)
-refinement_pixels_at Template1 bytes = Ok (right 0 0 ∷ right 0 0 ∷ [], bytes)
 
 -- All of it, and the coded bytes. Neither side may pass 65535 (our own rule).
 unfoldable pub refinement_header_at : List ℕ → Result (RefinementHeader × List ℕ) DecodeError

@@ -5,20 +5,22 @@ ghost use Rattle.jbig2_base.specs.Bits.{IsAligned};
 ghost use Rattle.jbig2_base.specs.Grid.{blank};
 ghost use Rattle.jbig2_region.specs.Generic.{contexts_after, generic_answer, generic_decoded, region_view};
 ghost use Rattle.jbig2_region.specs.inner.Layouts.{CountsGeneric};
-ghost use Rattle.jbig2_region.specs.GenericHeader.{header_view, is_earlier, first_alone, signed_byte_at, adaptive_pixel_at, adaptive_pixels_at, regular_pixels_at, template_pixels_at, rows_at, generic_header_at, FitsTemplate, IsParsed};
+ghost use Rattle.jbig2_region.specs.GenericHeader.{header_view, rows_at, generic_header_at, IsParsed};
 
 pub use crate::generic_coding::decode_coded;
-use jbig2_mmr::mmr;
 use crate::raster::fresh_contexts;
 use crate::region_info::{RegionSegmentInfo, parse_region_segment_info};
-use crate::template::{AdaptiveTemplatePixel, GenericTemplatePixels, Template};
+pub use crate::template::adaptive::parse_adaptive_template_pixels;
+use crate::template::adaptive::parse_generic_template_pixels;
+use crate::template::{GenericTemplatePixels, Template};
 use jbig2_base::bitmap::Bitmap;
 use jbig2_base::bitmap::operator::CombinationOperator;
 use jbig2_base::bitmap::steps::Steps;
-use jbig2_base::error::{DecodeError, OverflowError, RegionError, Result, TemplateError};
+use jbig2_base::error::{DecodeError, OverflowError, RegionError, Result};
 use jbig2_base::field::{byte_field, u32_field};
 use jbig2_base::reader::Reader;
 use jbig2_coder::arithmetic_decoder::{ArithmeticDecoder, ArithmeticDecoderContext};
+use jbig2_mmr::mmr;
 use std::alloc::Allocator;
 use std::sync::ledger::Ledger;
 
@@ -36,113 +38,6 @@ pub struct GenericRegionHeader<'a> {
     pub bytes: &'a [u8],
     /// Whether faulty MMR data is refused.
     pub strict: bool,
-}
-
-fn is_earlier(x: i16, y: i16) -> bool
-    ensures { result ≡ is_earlier x y }
-{
-    y < 0 || (y <= 0 && x < 0)
-}
-
-pub(crate) fn signed_field(reader: &mut Reader<'_>) -> Result<i16>
-    requires { IsAligned reader.old }
-    ensures value { Answers (λ x. (x, reader.new.bytes)) result (signed_byte_at reader.old.bytes) }
-    ensures aligned { IsAligned reader.new }
-{
-    let byte = byte_field(reader)?;
-    Ok(i16::from(byte.cast_signed()))
-}
-
-#[tactic(auto, unfolding(crate::specs::GenericHeader::adaptive_pixel_at))]
-fn parse_adaptive_template_pixel(reader: &mut Reader<'_>) -> Result<AdaptiveTemplatePixel>
-    requires { IsAligned reader.old }
-    ensures value { Answers (λ pixel. (pixel, reader.new.bytes)) result (adaptive_pixel_at reader.old.bytes) }
-    ensures aligned { IsAligned reader.new }
-{
-    let x = signed_field(reader)?;
-    let y = signed_field(reader)?;
-    if !is_earlier(x, y) {
-        return Err(DecodeError::Template(TemplateError::InvalidAtPixel));
-    }
-    Ok(AdaptiveTemplatePixel { x, y })
-}
-
-fn parse_four(reader: &mut Reader<'_>) -> Result<[AdaptiveTemplatePixel; 4]>
-    requires { IsAligned reader.old }
-    ensures value { Answers (λ pixels. (pixels, reader.new.bytes)) result (adaptive_pixels_at 4 reader.old.bytes) }
-    ensures aligned { IsAligned reader.new }
-{
-    let first = parse_adaptive_template_pixel(reader)?;
-    let second = parse_adaptive_template_pixel(reader)?;
-    let third = parse_adaptive_template_pixel(reader)?;
-    let fourth = parse_adaptive_template_pixel(reader)?;
-    Ok([first, second, third, fourth])
-}
-
-fn parse_twelve(reader: &mut Reader<'_>) -> Result<[AdaptiveTemplatePixel; 12]>
-    requires { IsAligned reader.old }
-    ensures value { Answers (λ pixels. (pixels, reader.new.bytes)) result (adaptive_pixels_at 12 reader.old.bytes) }
-    ensures aligned { IsAligned reader.new }
-{
-    let [a1, a2, a3, a4] = parse_four(reader)?;
-    let [a5, a6, a7, a8] = parse_four(reader)?;
-    let [a9, a10, a11, a12] = parse_four(reader)?;
-    Ok([a1, a2, a3, a4, a5, a6, a7, a8, a9, a10, a11, a12])
-}
-
-/// With a first pixel alone, the other three are without meaning.
-fn first_alone(first: AdaptiveTemplatePixel) -> [AdaptiveTemplatePixel; 4]
-    ensures { result ≡ first_alone first }
-{
-    let unused = AdaptiveTemplatePixel { x: 0, y: 0 };
-    [first, unused, unused, unused]
-}
-
-/// The adaptive pixels of a template that is not extended, at the reader's place (T.88, 7.4.6.3).
-/// Templates 1 to 3 have the first alone, and the other three are then without meaning.
-///
-/// `ParseError::UnexpectedEof` where the bytes do not hold them; `TemplateError::InvalidAtPixel` where
-/// one does not come before the pixel that is decoded. An error leaves the reader where it was. Takes
-/// no memory.
-#[tactic(auto, unfolding(crate::specs::GenericHeader::regular_pixels_at))]
-pub fn parse_adaptive_template_pixels(
-    reader: &mut Reader<'_>,
-    template: Template,
-) -> Result<[AdaptiveTemplatePixel; 4]>
-    requires { IsAligned reader.old }
-    ensures value { Answers (λ pixels. (pixels, reader.new.bytes)) result (regular_pixels_at template reader.old.bytes) }
-    ensures aligned { IsAligned reader.new }
-    ensures stays { OnErr result (reader.new ≡ reader.old) }
-{
-    let mut ahead = reader.duplicate();
-    let pixels = match template {
-        Template::Template0 => parse_four(&mut ahead)?,
-        _ => first_alone(parse_adaptive_template_pixel(&mut ahead)?),
-    };
-    *reader = ahead;
-    Ok(pixels)
-}
-
-#[tactic(auto, unfolding(crate::specs::GenericHeader::template_pixels_at))]
-fn parse_template_pixels(
-    reader: &mut Reader<'_>,
-    mmr: bool,
-    extended: bool,
-    template: Template,
-) -> Result<GenericTemplatePixels>
-    requires { IsAligned reader.old }
-    ensures value { Answers (λ pixels. (pixels, reader.new.bytes)) result (template_pixels_at mmr extended template reader.old.bytes) }
-    ensures aligned { IsAligned reader.new }
-    ensures fits { IfOk result (λ pixels. FitsTemplate pixels template) }
-{
-    if mmr {
-        let unused = AdaptiveTemplatePixel { x: 0, y: 0 };
-        return Ok(GenericTemplatePixels::Regular(first_alone(unused)));
-    }
-    if extended && template == Template::Template0 {
-        return Ok(GenericTemplatePixels::Extended(parse_twelve(reader)?));
-    }
-    Ok(GenericTemplatePixels::Regular(parse_adaptive_template_pixels(reader, template)?))
 }
 
 /// The number of rows, which may replace `height`, and the coded bytes.
@@ -186,7 +81,7 @@ pub fn parse<'a>(
     let flags = byte_field(&mut ahead)?;
     let mmr = flags % 2 == 1;
     let template = Template::from_byte(flags / 2);
-    let adaptive_template_pixels = parse_template_pixels(
+    let adaptive_template_pixels = parse_generic_template_pixels(
         &mut ahead,
         mmr,
         flags / 16 % 2 == 1,

@@ -1,78 +1,24 @@
 //! The contexts of generic regions (T.88, 6.2.5.3 to 6.2.5.7).
-ghost use Rattle.std.specs.Prelude.{◌≡◌, ◌+◌, ◌*◌, ◌^◌, ◌<◌, ◌≤◌, length, pos, ◌+ℤ◌, false, if◌then◌else◌, Some, None, IfSome};
+ghost use Rattle.std.specs.Prelude.{◌≡◌, ◌+◌, ◌*◌, ◌^◌, ◌<◌, ◌≤◌, length, pos, ◌+ℤ◌, false};
 ghost use Rattle.jbig2_base.specs.Grid.{blank, pixel, bit_number};
-ghost use Rattle.jbig2_region.specs.GenericHeader.{FitsTemplate};
 ghost use Rattle.jbig2_region.specs.inner.Holds.{DecodesRegion};
 ghost use Rattle.jbig2_region.specs.Raster.{no_pixels};
 ghost use Rattle.jbig2_region.specs.Generic.{context_at, colour_above, coding_of};
-ghost use Rattle.jbig2_region.specs.inner.Layouts.{CountsCoded, is_nominal, read_pixels};
+ghost use Rattle.jbig2_region.specs.inner.Layouts.{CountsCoded, read_pixels};
 ghost use Rattle.jbig2_region.specs.RunBytes.{CountsRegion};
-ghost use Rattle.jbig2_region.specs.Templates.{extended_template_0, row_context, context_bits, template_pixels};
+ghost use Rattle.jbig2_region.specs.Templates.{FitsTemplate, context_bits, is_nominal, template_pixels};
 ghost use Rattle.jbig2_region.specs.declared.template.GenericTemplatePixels.TheVariants.{Regular};
 
 use crate::generic_kernel::decode_layout;
-use crate::generic_kernel::layouts::layout_of;
 use crate::raster::{PixelCoding, decode_region, pixel_at};
+use crate::template::generic::{extended_template_0, typical_context};
+use crate::template::layouts::layout_of;
 use crate::template::{AdaptiveTemplatePixel, GenericTemplatePixels, Template};
 use jbig2_base::bitmap::Bitmap;
 use jbig2_base::bitmap::steps::Steps;
 use jbig2_coder::arithmetic_decoder::{ArithmeticDecoder, ArithmeticDecoderContext};
 use std::alloc::Allocator;
 use std::sync::ledger::Ledger;
-
-pub const fn pixel(x: i16, y: i16) -> AdaptiveTemplatePixel
-    ensures { result ≡ record { x = x; y = y } }
-{
-    AdaptiveTemplatePixel { x, y }
-}
-
-/// The pixels of the extended template 0.
-fn extended_template_0(a: &[AdaptiveTemplatePixel; 12]) -> [AdaptiveTemplatePixel; 16]
-    ensures { result ≡ extended_template_0 a.now }
-{
-    [
-        pixel(-1, 0),
-        a[0],
-        a[6],
-        a[7],
-        a[9],
-        a[5],
-        pixel(1, -1),
-        pixel(0, -1),
-        pixel(-1, -1),
-        a[2],
-        a[11],
-        a[8],
-        a[4],
-        a[1],
-        a[3],
-        a[10],
-    ]
-}
-
-/// The context of the decision that begins a row under typical prediction (T.88, 6.2.5.7).
-fn row_context(template: Template) -> u32
-    ensures value { result ≡ row_context template }
-    ensures small { result < 2 ^ context_bits template }
-{
-    match template {
-        Template::Template0 => 0x9B25,
-        Template::Template1 => 0x0795,
-        Template::Template2 => 0x00E5,
-        Template::Template3 => 0x0195,
-    }
-}
-
-/// That context, with typical prediction.
-fn typical_context(template: Template, typical: bool) -> Option<u32>
-    ensures value { result ≡ (if typical then Some (row_context template) else None) }
-    ensures small { IfSome result (λ k. k < 2 ^ context_bits template) }
-{
-    if typical {
-        return Some(row_context(template));
-    }
-    None
-}
 
 /// The template's pixel at `place`, seen from column `x` of row `y`.
 #[inline(always)]

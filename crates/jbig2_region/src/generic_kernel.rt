@@ -11,15 +11,13 @@ ghost use Rattle.jbig2_region.specs.RunBytes.{CountsRegion, CountsRow, row_loads
 ghost use Rattle.jbig2_region.specs.declared.template.AdaptiveTemplatePixel.{AdaptiveTemplatePixel};
 
 mod bytes;
-pub mod layouts;
-pub mod neighbours;
 mod pixels;
 mod windows;
 
 use crate::generic_kernel::bytes::decode_row_by_bytes;
-use crate::generic_kernel::neighbours::Layout;
 use crate::generic_kernel::pixels::decode_row_by_pixels;
 use crate::raster::begin_row;
+use crate::template::neighbours::Layout;
 use jbig2_base::bitmap::Bitmap;
 use jbig2_base::bitmap::steps::Steps;
 use jbig2_coder::arithmetic_decoder::{ArithmeticDecoder, ArithmeticDecoderContext};

@@ -1,17 +1,17 @@
 //! Refinement regions (T.88, 6.3 and 7.4.7).
-ghost use Rattle.std.specs.Prelude.{◌≡◌, ◌≤◌, ◌^◌, length, false, IfOk, OnErr};
+ghost use Rattle.std.specs.Prelude.{◌≡◌, false, IfOk, OnErr};
 ghost use Rattle.jbig2_base.specs.Answer.{Answers, Gives, Leaves};
 ghost use Rattle.jbig2_base.specs.Bits.{IsAligned};
 ghost use Rattle.jbig2_base.specs.Grid.{blank};
 ghost use Rattle.jbig2_region.specs.Generic.{region_view};
-ghost use Rattle.jbig2_region.specs.Refinement.{is_far, is_smaller, offset, refined_answer, refined_contexts, refined_decoded, refinement_bits, refinement_coding};
-ghost use Rattle.jbig2_region.specs.inner.RefinementViews.{reference_view};
-ghost use Rattle.jbig2_region.specs.RefinementHeader.{IsRefinement, free_pixel_at, header_view, refinement_header_at, refinement_pixels_at};
+ghost use Rattle.jbig2_region.specs.Refinement.{is_far, is_smaller, offset, refined_answer, refined_contexts, refined_decoded};
+ghost use Rattle.jbig2_region.specs.RefinementHeader.{IsRefinement, header_view, refinement_header_at};
 
-use crate::generic::{DecodedRegion, signed_field};
+use crate::generic::DecodedRegion;
 use crate::raster::fresh_contexts;
 pub use crate::refinement_coding::decode_bitmap;
 use crate::region_info::{RegionSegmentInfo, parse_region_segment_info};
+pub use crate::template::adaptive::parse_template_pixels;
 use crate::template::{AdaptiveTemplatePixel, RefinementTemplate};
 use jbig2_base::bitmap::Bitmap;
 use jbig2_base::bitmap::steps::Steps;
@@ -42,47 +42,6 @@ pub struct ReferenceBitmap<'a, B: Allocator> {
     pub bitmap: &'a Bitmap<B>,
     pub dx: i32,
     pub dy: i32,
-}
-
-#[tactic(auto, unfolding(crate::specs::RefinementHeader::free_pixel_at))]
-fn parse_pixel(reader: &mut Reader<'_>) -> Result<AdaptiveTemplatePixel>
-    requires { IsAligned reader.old }
-    ensures value { Answers (λ pixel. (pixel, reader.new.bytes)) result (free_pixel_at reader.old.bytes) }
-    ensures aligned { IsAligned reader.new }
-{
-    let x = signed_field(reader)?;
-    let y = signed_field(reader)?;
-    Ok(AdaptiveTemplatePixel { x, y })
-}
-
-/// The two adaptive pixels at the reader's place (T.88, 7.4.7.3), which may lie anywhere; at template 1
-/// nothing is read, and they are without meaning.
-///
-/// `ParseError::UnexpectedEof` where the bytes do not hold them. An error leaves the reader where it was.
-/// Takes no memory.
-#[tactic(auto, unfolding(crate::specs::RefinementHeader::refinement_pixels_at))]
-pub fn parse_template_pixels(
-    reader: &mut Reader<'_>,
-    template: RefinementTemplate,
-) -> Result<[AdaptiveTemplatePixel; 2]>
-    requires { IsAligned reader.old }
-    ensures value { Answers (λ pixels. (pixels, reader.new.bytes)) result (refinement_pixels_at template reader.old.bytes) }
-    ensures aligned { IsAligned reader.new }
-    ensures stays { OnErr result (reader.new ≡ reader.old) }
-{
-    match template {
-        RefinementTemplate::Template0 => {
-            let mut ahead = reader.duplicate();
-            let first = parse_pixel(&mut ahead)?;
-            let second = parse_pixel(&mut ahead)?;
-            *reader = ahead;
-            Ok([first, second])
-        }
-        RefinementTemplate::Template1 => {
-            let unused = AdaptiveTemplatePixel { x: 0, y: 0 };
-            Ok([unused, unused])
-        }
-    }
 }
 
 /// The header of a refinement region at the reader's place, which holds the coded bytes behind it

@@ -1,16 +1,17 @@
 //! The contexts of refinements (T.88, 6.3.5.3 to 6.3.5.6).
-ghost use Rattle.std.specs.Prelude.{◌≡◌, ◌+◌, ◌^◌, ◌<◌, ◌≤◌, ◌++◌, Bool, List, [], length, map, pos, ◌+ℤ◌, ◌-ℤ◌, ◌<ℤ◌, false};
+ghost use Rattle.std.specs.Prelude.{◌≡◌, ◌+◌, ◌^◌, ◌<◌, ◌≤◌, ◌++◌, Bool, List, length, map, pos, ◌+ℤ◌, ◌-ℤ◌, ◌<ℤ◌, false};
 ghost use Rattle.jbig2_base.specs.Grid.{blank, pixel, bit_number};
 ghost use Rattle.jbig2_region.specs.Generic.{number_of};
 ghost use Rattle.jbig2_region.specs.inner.Holds.{DecodesRegion};
-ghost use Rattle.jbig2_region.specs.declared.template.RefinementTemplate.TheVariants.{Template0, Template1};
 ghost use Rattle.jbig2_region.specs.inner.RefinementViews.{reference_view};
-ghost use Rattle.jbig2_region.specs.Refinement.{nine, predicted_colour, common_colour, reference_pixel, reference_pixels, refined_context, refinement_bits, refinement_coding, refinement_row_context, region_pixels};
+ghost use Rattle.jbig2_region.specs.Refinement.{nine, common_colour, reference_pixel, refinement_coding};
+ghost use Rattle.jbig2_region.specs.RefinementTemplates.{refinement_bits};
 
-use crate::generic_coding::{context_at, pixel};
+use crate::generic_coding::context_at;
 use crate::generic_refinement::ReferenceBitmap;
 use crate::raster::{PixelCoding, decode_region};
-use crate::template::{AdaptiveTemplatePixel, RefinementTemplate};
+use crate::template::refinement::{reference_0, reference_1, region_0, region_1, row_context};
+use crate::template::{AdaptiveTemplatePixel, RefinementTemplate, pixel};
 use jbig2_base::bitmap::Bitmap;
 use jbig2_base::bitmap::steps::Steps;
 use jbig2_coder::arithmetic_decoder::{ArithmeticDecoder, ArithmeticDecoderContext};
@@ -33,62 +34,6 @@ fn nine() -> [AdaptiveTemplatePixel; 9]
         pixel(0, 1),
         pixel(1, 1),
     ]
-}
-
-/// The reference's pixels in template 0, bit 0 of a context first (Figure 12).
-fn reference_0(a: &[AdaptiveTemplatePixel; 2]) -> [AdaptiveTemplatePixel; 9]
-    ensures { result ≡ reference_pixels Template0 a.now }
-{
-    [
-        pixel(1, 1),
-        pixel(0, 1),
-        pixel(-1, 1),
-        pixel(1, 0),
-        pixel(0, 0),
-        pixel(-1, 0),
-        pixel(1, -1),
-        pixel(0, -1),
-        a[1],
-    ]
-}
-
-/// The region's pixels in template 0, whose bits follow.
-fn region_0(a: &[AdaptiveTemplatePixel; 2]) -> [AdaptiveTemplatePixel; 4]
-    ensures { result ≡ region_pixels Template0 a.now }
-{
-    [pixel(-1, 0), pixel(1, -1), pixel(0, -1), a[0]]
-}
-
-/// The reference's pixels in template 1 (Figure 13).
-fn reference_1() -> [AdaptiveTemplatePixel; 6]
-    ensures { result ≡ reference_pixels Template1 [] }
-{
-    [
-        pixel(1, 1),
-        pixel(0, 1),
-        pixel(1, 0),
-        pixel(0, 0),
-        pixel(-1, 0),
-        pixel(0, -1),
-    ]
-}
-
-/// The region's pixels in template 1.
-fn region_1() -> [AdaptiveTemplatePixel; 4]
-    ensures { result ≡ region_pixels Template1 [] }
-{
-    [pixel(-1, 0), pixel(1, -1), pixel(0, -1), pixel(-1, -1)]
-}
-
-/// The context of the decision that begins a row under typical prediction (T.88, 6.3.5.6).
-fn row_context(template: RefinementTemplate) -> u32
-    ensures value { result ≡ refinement_row_context template }
-    ensures small { result < 2 ^ refinement_bits template }
-{
-    match template {
-        RefinementTemplate::Template0 => 0x0010,
-        RefinementTemplate::Template1 => 0x0008,
-    }
 }
 
 /// The pixel at a place that may lie outside, also far away, 1 for black; 0 outside.
@@ -203,7 +148,8 @@ impl<B: Allocator> RefinementCoding<'_, B> {
 
 impl<B: Allocator> PixelCoding for RefinementCoding<'_, B> {
     ghost use Rattle.std.specs.Prelude.{if◌then◌else◌, Some, None};
-    ghost use Rattle.jbig2_region.specs.Refinement.{predicted_colour, refined_context, refinement_bits, refinement_row_context};
+    ghost use Rattle.jbig2_region.specs.Refinement.{predicted_colour, refined_context};
+    ghost use Rattle.jbig2_region.specs.RefinementTemplates.{refinement_bits, refinement_row_context};
     ghost use Rattle.jbig2_region.specs.inner.RefinementViews.{reference_view};
 
     ghost coding = { λ c. record { context = refined_context (reference_view c.reference.now) c.in_reference.now c.in_region.now; known = λ predicted g x y. predicted_colour (reference_view c.reference.now) predicted x y; row_context = if c.typical then Some (refinement_row_context c.template) else None } };

@@ -3,98 +3,18 @@ ghost use Rattle.std.specs.Prelude.{◌≡◌, ◌^◌, ◌<◌, ◌≤◌, leng
 ghost use Rattle.jbig2_base.specs.Grid.{blank};
 ghost use Rattle.jbig2_region.specs.inner.Holds.{DecodesRegion};
 ghost use Rattle.jbig2_region.specs.Skipping.{white_if_skipped, skipping_coding, skip_of};
-ghost use Rattle.jbig2_region.specs.Templates.{context_bits, template_0, template_1, template_2, template_3, template_pixels};
+ghost use Rattle.jbig2_region.specs.Templates.{context_bits, template_pixels};
 ghost use Rattle.jbig2_region.specs.declared.template.GenericTemplatePixels.TheVariants.{Regular};
 
-use crate::generic_coding::{context_at, pixel};
+use crate::generic_coding::context_at;
 use crate::raster::{PixelCoding, decode_region};
+use crate::template::generic::{template_0, template_1, template_2, template_3};
 use crate::template::{AdaptiveTemplatePixel, Template};
 use jbig2_base::bitmap::Bitmap;
 use jbig2_base::bitmap::steps::Steps;
 use jbig2_coder::arithmetic_decoder::{ArithmeticDecoder, ArithmeticDecoderContext};
 use std::alloc::Allocator;
 use std::sync::ledger::Ledger;
-
-/// The pixels of template 0, bit 0 of a context first (Figure 3).
-pub(crate) fn template_0(a: &[AdaptiveTemplatePixel; 4]) -> [AdaptiveTemplatePixel; 16]
-    ensures { result ≡ template_0 a.now }
-{
-    [
-        pixel(-1, 0),
-        pixel(-2, 0),
-        pixel(-3, 0),
-        pixel(-4, 0),
-        a[0],
-        pixel(2, -1),
-        pixel(1, -1),
-        pixel(0, -1),
-        pixel(-1, -1),
-        pixel(-2, -1),
-        a[1],
-        a[2],
-        pixel(1, -2),
-        pixel(0, -2),
-        pixel(-1, -2),
-        a[3],
-    ]
-}
-
-/// The pixels of template 1 (Figure 4).
-pub(crate) fn template_1(a: &[AdaptiveTemplatePixel; 4]) -> [AdaptiveTemplatePixel; 13]
-    ensures { result ≡ template_1 a.now }
-{
-    [
-        pixel(-1, 0),
-        pixel(-2, 0),
-        pixel(-3, 0),
-        a[0],
-        pixel(2, -1),
-        pixel(1, -1),
-        pixel(0, -1),
-        pixel(-1, -1),
-        pixel(-2, -1),
-        pixel(2, -2),
-        pixel(1, -2),
-        pixel(0, -2),
-        pixel(-1, -2),
-    ]
-}
-
-/// The pixels of template 2 (Figure 5).
-pub(crate) fn template_2(a: &[AdaptiveTemplatePixel; 4]) -> [AdaptiveTemplatePixel; 10]
-    ensures { result ≡ template_2 a.now }
-{
-    [
-        pixel(-1, 0),
-        pixel(-2, 0),
-        a[0],
-        pixel(1, -1),
-        pixel(0, -1),
-        pixel(-1, -1),
-        pixel(-2, -1),
-        pixel(1, -2),
-        pixel(0, -2),
-        pixel(-1, -2),
-    ]
-}
-
-/// The pixels of template 3 (Figure 6).
-pub(crate) fn template_3(a: &[AdaptiveTemplatePixel; 4]) -> [AdaptiveTemplatePixel; 10]
-    ensures { result ≡ template_3 a.now }
-{
-    [
-        pixel(-1, 0),
-        pixel(-2, 0),
-        pixel(-3, 0),
-        pixel(-4, 0),
-        a[0],
-        pixel(1, -1),
-        pixel(0, -1),
-        pixel(-1, -1),
-        pixel(-2, -1),
-        pixel(-3, -1),
-    ]
-}
 
 /// White where the pixel at column `x` of row `y` is skipped.
 #[inline(always)]

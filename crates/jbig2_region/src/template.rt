@@ -1,9 +1,14 @@
 //! The templates of generic regions (T.88, 6.2.5.3) and of refinements (6.3.5.3), and their adaptive
 //! pixels.
 ghost use Rattle.std.specs.Prelude.{◌≡◌, ◌%◌};
-ghost use Rattle.jbig2_region.specs.Refinement.{refinement_bits};
-ghost use Rattle.jbig2_region.specs.RefinementHeader.{refinement_template_of};
+ghost use Rattle.jbig2_region.specs.RefinementTemplates.{refinement_bits, refinement_template_of};
 ghost use Rattle.jbig2_region.specs.Templates.{template_of, context_bits};
+
+pub(crate) mod adaptive;
+pub(crate) mod generic;
+pub(crate) mod layouts;
+pub(crate) mod neighbours;
+pub(crate) mod refinement;
 
 /// Which pixels a context is made from.
 #[derive(Clone, Copy, Debug, PartialEq, Eq)]
@@ -74,6 +79,12 @@ impl RefinementTemplate {
 pub struct AdaptiveTemplatePixel {
     pub x: i16,
     pub y: i16,
+}
+
+pub(crate) const fn pixel(x: i16, y: i16) -> AdaptiveTemplatePixel
+    ensures { result ≡ record { x = x; y = y } }
+{
+    AdaptiveTemplatePixel { x, y }
 }
 
 /// The adaptive pixels of a generic region, A1 first.

@@ -1,6 +1,5 @@
--- The templates of generic regions by their neighbours (our own rule), and their nominal adaptive pixels (T.88, 6.2.5.4).
-use Rattle.std.specs.Prelude.{ℕ, ◌*◌, ◌≡◌, Bool, false, ◌&&◌, if◌then◌else◌, ℤ, pos, negsuc, List}
-use Rattle.std.specs.Ordering.{int_eq}
+-- The templates of generic regions by their neighbours (our own rule).
+use Rattle.std.specs.Prelude.{ℕ, ◌*◌, ◌≡◌, false, if◌then◌else◌, List}
 use Rattle.jbig2_base.specs.Counts.{Counts}
 use Rattle.jbig2_coder.specs.Coder.{started}
 use Rattle.jbig2_region.specs.Generic.{generic_coding}
@@ -8,24 +7,14 @@ use Rattle.jbig2_region.specs.GenericHeader.{GenericHeader}
 use Rattle.jbig2_region.specs.inner.Neighbours.{IsMixed, adaptive_count, mixed_count, mixed_pixels}
 use Rattle.jbig2_region.specs.Raster.{Coding, Region, no_pixels, fresh_contexts}
 use Rattle.jbig2_region.specs.RunBytes.{CountsRegion}
-use Rattle.jbig2_region.specs.Templates.{adaptive, context_bits, template_pixels}
-use Rattle.jbig2_region.specs.declared.generic_kernel.neighbours.Adaptives.{Adaptives}
-use Rattle.jbig2_region.specs.declared.generic_kernel.neighbours.Neighbours.{Neighbours}
+use Rattle.jbig2_region.specs.Templates.{context_bits, is_nominal, template_pixels}
+use Rattle.jbig2_region.specs.declared.template.neighbours.Adaptives.{Adaptives}
+use Rattle.jbig2_region.specs.declared.template.neighbours.Neighbours.{Neighbours}
 use Rattle.jbig2_region.specs.declared.template.AdaptiveTemplatePixel.{AdaptiveTemplatePixel}
 use Rattle.jbig2_region.specs.declared.template.GenericTemplatePixels.{GenericTemplatePixels}
 use Rattle.jbig2_region.specs.declared.template.GenericTemplatePixels.TheVariants.{Regular, Extended}
 use Rattle.jbig2_region.specs.declared.template.Template.{Template}
 use Rattle.jbig2_region.specs.declared.template.Template.TheVariants.{Template0, Template1, Template2, Template3}
-
-abbrev pub lies_at : AdaptiveTemplatePixel → ℤ → ℤ → Bool
-lies_at p x y = int_eq p.x x && int_eq p.y y
-
--- whether the adaptive pixels lie where the standard has them by default
-abbrev pub is_nominal : Template → List AdaptiveTemplatePixel → Bool
-is_nominal Template0 a = lies_at (adaptive a 0) (pos 3) (negsuc 0) && (lies_at (adaptive a 1) (negsuc 2) (negsuc 0) && (lies_at (adaptive a 2) (pos 2) (negsuc 1) && lies_at (adaptive a 3) (negsuc 1) (negsuc 1)))
-is_nominal Template1 a = lies_at (adaptive a 0) (pos 3) (negsuc 0)
-is_nominal Template2 a = lies_at (adaptive a 0) (pos 2) (negsuc 0)
-is_nominal Template3 a = lies_at (adaptive a 0) (pos 2) (negsuc 0)
 
 abbrev pub neighbours_of : ℕ → ℕ → ℕ → ℕ → ℕ → Neighbours
 neighbours_of left above_reach above_count top_reach top_count = record { left = left; above = record { reach = above_reach; count = above_count }; top = record { reach = top_reach; count = top_count } }

@@ -8,8 +8,8 @@ ghost use Rattle.jbig2_region.specs.inner.Neighbours.{Decodes, IsLeft, IsNear, S
 ghost use Rattle.jbig2_region.specs.Raster.{Region};
 ghost use Rattle.jbig2_region.specs.RunBytes.{CountsRuns, all_of, is_run_of, same_colour};
 
-use crate::generic_kernel::neighbours::{Neighbours, Stretch};
 use crate::generic_kernel::windows::{Windows, windows_at};
+use crate::template::neighbours::{Neighbours, Stretch};
 use jbig2_base::bitmap::Bitmap;
 use jbig2_base::bitmap::steps::Steps;
 use jbig2_coder::arithmetic_decoder::{ArithmeticDecoder, ArithmeticDecoderContext};

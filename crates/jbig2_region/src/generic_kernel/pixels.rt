@@ -4,8 +4,8 @@ ghost use Rattle.jbig2_region.specs.Generic.{context_at};
 ghost use Rattle.jbig2_region.specs.inner.Neighbours.{Decodes, IsLeft, IsMixed, Shows, adaptive_count, mixed_count, mixed_pixels};
 
 use crate::generic_coding::context_at;
-use crate::generic_kernel::neighbours::{Adaptives, Neighbours, joined};
 use crate::generic_kernel::windows::{Windows, stretch_bits, windows_at};
+use crate::template::neighbours::{Adaptives, Neighbours, joined};
 use jbig2_base::bitmap::Bitmap;
 use jbig2_base::bitmap::steps::Steps;
 use jbig2_coder::arithmetic_decoder::{ArithmeticDecoder, ArithmeticDecoderContext};

@@ -2,7 +2,7 @@
 ghost use Rattle.std.specs.Prelude.{◌≡◌, ℕ, ◌+◌, ◌-◌, ◌*◌, ◌/◌, ◌%◌, ◌^◌, ◌<◌, ◌≤◌, pos, ◌-ℤ◌};
 ghost use Rattle.jbig2_region.specs.inner.Neighbours.{IsNear, IsWindow, Shows, neighbour_count, stretch_bits};
 
-use crate::generic_kernel::neighbours::{Neighbours, Stretch, joined};
+use crate::template::neighbours::{Neighbours, Stretch, joined};
 use jbig2_base::bitmap::Bitmap;
 use jbig2_base::bitmap::steps::Steps;
 use std::alloc::Allocator;

@@ -1,6 +1,6 @@
 use Rattle.std.proofs.Common.{arith, subst, ◌≡◌, ℕ, ◌+◌, ◌^◌, ◌<◌}
 use Rattle.jbig2_region.specs.inner.Neighbours.{neighbour_count}
-use Rattle.jbig2_region.proofs.generic_kernel.neighbours.Neighbours.context.Goals as goal
+use Rattle.jbig2_region.proofs.template.neighbours.Neighbours.context.Goals as goal
 
 pub returns-clause-bound : goal.returns-clause-bound
 returns-clause-bound c =

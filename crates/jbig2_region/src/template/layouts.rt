@@ -1,11 +1,11 @@
 //! The templates of generic regions (T.88, 6.2.5.3) by their neighbours.
 ghost use Rattle.std.specs.Prelude.{◌≡◌, [], ◌∷◌, false};
-ghost use Rattle.jbig2_region.specs.inner.Layouts.{FitsAdaptives, adaptive_pixels, fixed_neighbours, is_nominal, lies_at, neighbours_of, nominal_neighbours, read_pixels};
+ghost use Rattle.jbig2_region.specs.inner.Layouts.{FitsAdaptives, adaptive_pixels, fixed_neighbours, neighbours_of, nominal_neighbours, read_pixels};
 ghost use Rattle.jbig2_region.specs.inner.Neighbours.{IsLayout, is_nominal_layout, layout_count, layout_loads, layout_pixels};
-ghost use Rattle.jbig2_region.specs.Templates.{adaptive, context_bits, template_pixels};
+ghost use Rattle.jbig2_region.specs.Templates.{adaptive, context_bits, is_nominal, lies_at, template_pixels};
 ghost use Rattle.jbig2_region.specs.declared.template.GenericTemplatePixels.TheVariants.{Regular};
 
-use crate::generic_kernel::neighbours::{Adaptives, Layout, Neighbours, Stretch};
+use crate::template::neighbours::{Adaptives, Layout, Neighbours, Stretch};
 use crate::template::{AdaptiveTemplatePixel, Template};
 
 fn neighbours_of(

@@ -1,0 +1,55 @@
+-- The templates of refinements (T.88, 6.3.5.3, Figures 12 and 13): for each bit of a context's number, bit 0 first, the
+-- pixel of the reference or of the region that it is taken from. How a segment holds the adaptive pixels (7.4.7.3) and
+-- the context in which a row begins stand here too.
+use Rattle.std.specs.Prelude.{ℕ, ◌==◌, List, [], ◌∷◌, ℤ, pos, negsuc, Result, Ok, if◌then◌else◌}
+use Rattle.jbig2_base.specs.Answer.{◌>>=◌}
+use Rattle.jbig2_base.specs.declared.error.DecodeError.{DecodeError}
+use Rattle.jbig2_region.specs.Templates.{adaptive, free_pixel_at, right}
+use Rattle.jbig2_region.specs.declared.template.AdaptiveTemplatePixel.{AdaptiveTemplatePixel}
+use Rattle.jbig2_region.specs.declared.template.RefinementTemplate.{RefinementTemplate}
+use Rattle.jbig2_region.specs.declared.template.RefinementTemplate.TheVariants.{Template0, Template1}
+
+abbrev pub refinement_template_of : ℕ → RefinementTemplate
+refinement_template_of n = if n == 0 then Template0 else Template1
+
+-- so many columns to the right and rows down; `negsuc 0` is one to the left or up
+abbrev pub apart : ℤ → ℤ → AdaptiveTemplatePixel
+apart x y = record { x = x; y = y }
+
+-- how many bits a context's number has
+abbrev pub refinement_bits : RefinementTemplate → ℕ
+refinement_bits Template0 = 13
+refinement_bits Template1 = 10
+
+-- The pixels of the reference that a template takes (6.3.5.3, Figures 12 and 13), bit 0 of a context's number first.
+abbrev pub reference_pixels : RefinementTemplate → List AdaptiveTemplatePixel → List AdaptiveTemplatePixel
+reference_pixels Template0 a =
+    apart (pos 1) (pos 1) ∷ apart (pos 0) (pos 1) ∷ apart (negsuc 0) (pos 1)
+    ∷ apart (pos 1) (pos 0) ∷ apart (pos 0) (pos 0) ∷ apart (negsuc 0) (pos 0)
+    ∷ apart (pos 1) (negsuc 0) ∷ apart (pos 0) (negsuc 0) ∷ adaptive a 1 ∷ []
+reference_pixels Template1 a =
+    apart (pos 1) (pos 1) ∷ apart (pos 0) (pos 1)
+    ∷ apart (pos 1) (pos 0) ∷ apart (pos 0) (pos 0) ∷ apart (negsuc 0) (pos 0)
+    ∷ apart (pos 0) (negsuc 0) ∷ []
+
+-- Those of the region itself, whose bits follow.
+abbrev pub region_pixels : RefinementTemplate → List AdaptiveTemplatePixel → List AdaptiveTemplatePixel
+region_pixels Template0 a =
+    apart (negsuc 0) (pos 0) ∷ apart (pos 1) (negsuc 0) ∷ apart (pos 0) (negsuc 0) ∷ adaptive a 0 ∷ []
+region_pixels Template1 a =
+    apart (negsuc 0) (pos 0) ∷ apart (pos 1) (negsuc 0) ∷ apart (pos 0) (negsuc 0)
+    ∷ apart (negsuc 0) (negsuc 0) ∷ []
+
+-- the context of the decision that begins a row under typical prediction (6.3.5.6, Figures 14 and 15)
+abbrev pub refinement_row_context : RefinementTemplate → ℕ
+refinement_row_context Template0 = 0x0010
+refinement_row_context Template1 = 0x0008
+
+-- The adaptive pixels (7.4.7.3): two at template 0, whose places are not checked; none at template 1, where the two
+-- are without meaning.
+unfoldable pub refinement_pixels_at : RefinementTemplate → List ℕ → Result (List AdaptiveTemplatePixel × List ℕ) DecodeError
+refinement_pixels_at Template0 bytes = do
+  first ← free_pixel_at bytes
+  second ← free_pixel_at first.1
+  Ok (first.0 ∷ second.0 ∷ [], second.1)
+refinement_pixels_at Template1 bytes = Ok (right 0 0 ∷ right 0 0 ∷ [], bytes)

@@ -1,0 +1,162 @@
+//! The adaptive pixels of templates, as segments hold them (T.88, 7.4.6.3 and 7.4.7.3).
+ghost use Rattle.std.specs.Prelude.{◌≡◌, IfOk, OnErr};
+ghost use Rattle.jbig2_base.specs.Answer.{Answers};
+ghost use Rattle.jbig2_base.specs.Bits.{IsAligned};
+ghost use Rattle.jbig2_region.specs.RefinementTemplates.{refinement_pixels_at};
+ghost use Rattle.jbig2_region.specs.Templates.{FitsTemplate, adaptive_pixel_at, adaptive_pixels_at, first_alone, free_pixel_at, is_earlier, regular_pixels_at, signed_byte_at, template_pixels_at};
+
+use crate::template::{AdaptiveTemplatePixel, GenericTemplatePixels, RefinementTemplate, Template};
+use jbig2_base::error::{DecodeError, Result, TemplateError};
+use jbig2_base::field::byte_field;
+use jbig2_base::reader::Reader;
+
+fn signed_field(reader: &mut Reader<'_>) -> Result<i16>
+    requires { IsAligned reader.old }
+    ensures value { Answers (λ x. (x, reader.new.bytes)) result (signed_byte_at reader.old.bytes) }
+    ensures aligned { IsAligned reader.new }
+{
+    let byte = byte_field(reader)?;
+    Ok(i16::from(byte.cast_signed()))
+}
+
+/// A pixel that may lie anywhere.
+#[tactic(auto, unfolding(crate::specs::Templates::free_pixel_at))]
+fn parse_free_pixel(reader: &mut Reader<'_>) -> Result<AdaptiveTemplatePixel>
+    requires { IsAligned reader.old }
+    ensures value { Answers (λ pixel. (pixel, reader.new.bytes)) result (free_pixel_at reader.old.bytes) }
+    ensures aligned { IsAligned reader.new }
+{
+    let x = signed_field(reader)?;
+    let y = signed_field(reader)?;
+    Ok(AdaptiveTemplatePixel { x, y })
+}
+
+/// Whether a pixel is decoded before the one from which it lies so far away.
+fn is_earlier(pixel: AdaptiveTemplatePixel) -> bool
+    ensures { result ≡ is_earlier pixel }
+{
+    pixel.y < 0 || (pixel.y <= 0 && pixel.x < 0)
+}
+
+/// A pixel that comes before the one that is decoded.
+#[tactic(auto, unfolding(crate::specs::Templates::adaptive_pixel_at))]
+fn parse_adaptive_template_pixel(reader: &mut Reader<'_>) -> Result<AdaptiveTemplatePixel>
+    requires { IsAligned reader.old }
+    ensures value { Answers (λ pixel. (pixel, reader.new.bytes)) result (adaptive_pixel_at reader.old.bytes) }
+    ensures aligned { IsAligned reader.new }
+{
+    let pixel = parse_free_pixel(reader)?;
+    if !is_earlier(pixel) {
+        return Err(DecodeError::Template(TemplateError::InvalidAtPixel));
+    }
+    Ok(pixel)
+}
+
+fn parse_four(reader: &mut Reader<'_>) -> Result<[AdaptiveTemplatePixel; 4]>
+    requires { IsAligned reader.old }
+    ensures value { Answers (λ pixels. (pixels, reader.new.bytes)) result (adaptive_pixels_at 4 reader.old.bytes) }
+    ensures aligned { IsAligned reader.new }
+{
+    let first = parse_adaptive_template_pixel(reader)?;
+    let second = parse_adaptive_template_pixel(reader)?;
+    let third = parse_adaptive_template_pixel(reader)?;
+    let fourth = parse_adaptive_template_pixel(reader)?;
+    Ok([first, second, third, fourth])
+}
+
+fn parse_twelve(reader: &mut Reader<'_>) -> Result<[AdaptiveTemplatePixel; 12]>
+    requires { IsAligned reader.old }
+    ensures value { Answers (λ pixels. (pixels, reader.new.bytes)) result (adaptive_pixels_at 12 reader.old.bytes) }
+    ensures aligned { IsAligned reader.new }
+{
+    let [a1, a2, a3, a4] = parse_four(reader)?;
+    let [a5, a6, a7, a8] = parse_four(reader)?;
+    let [a9, a10, a11, a12] = parse_four(reader)?;
+    Ok([a1, a2, a3, a4, a5, a6, a7, a8, a9, a10, a11, a12])
+}
+
+/// With a first pixel alone, the other three are without meaning.
+fn first_alone(first: AdaptiveTemplatePixel) -> [AdaptiveTemplatePixel; 4]
+    ensures { result ≡ first_alone first }
+{
+    let unused = AdaptiveTemplatePixel { x: 0, y: 0 };
+    [first, unused, unused, unused]
+}
+
+/// The adaptive pixels of a template that is not extended, at the reader's place (T.88, 7.4.6.3).
+/// Templates 1 to 3 have the first alone, and the other three are then without meaning.
+///
+/// `ParseError::UnexpectedEof` where the bytes do not hold them; `TemplateError::InvalidAtPixel` where
+/// one does not come before the pixel that is decoded. An error leaves the reader where it was. Takes
+/// no memory.
+#[tactic(auto, unfolding(crate::specs::Templates::regular_pixels_at))]
+pub fn parse_adaptive_template_pixels(
+    reader: &mut Reader<'_>,
+    template: Template,
+) -> Result<[AdaptiveTemplatePixel; 4]>
+    requires { IsAligned reader.old }
+    ensures value { Answers (λ pixels. (pixels, reader.new.bytes)) result (regular_pixels_at template reader.old.bytes) }
+    ensures aligned { IsAligned reader.new }
+    ensures stays { OnErr result (reader.new ≡ reader.old) }
+{
+    let mut ahead = reader.duplicate();
+    let pixels = match template {
+        Template::Template0 => parse_four(&mut ahead)?,
+        _ => first_alone(parse_adaptive_template_pixel(&mut ahead)?),
+    };
+    *reader = ahead;
+    Ok(pixels)
+}
+
+/// All adaptive pixels of a generic region: none with MMR, twelve with the extended template 0.
+#[tactic(auto, unfolding(crate::specs::Templates::template_pixels_at))]
+pub fn parse_generic_template_pixels(
+    reader: &mut Reader<'_>,
+    mmr: bool,
+    extended: bool,
+    template: Template,
+) -> Result<GenericTemplatePixels>
+    requires { IsAligned reader.old }
+    ensures value { Answers (λ pixels. (pixels, reader.new.bytes)) result (template_pixels_at mmr extended template reader.old.bytes) }
+    ensures aligned { IsAligned reader.new }
+    ensures fits { IfOk result (λ pixels. FitsTemplate pixels template) }
+{
+    if mmr {
+        let unused = AdaptiveTemplatePixel { x: 0, y: 0 };
+        return Ok(GenericTemplatePixels::Regular(first_alone(unused)));
+    }
+    if extended && template == Template::Template0 {
+        return Ok(GenericTemplatePixels::Extended(parse_twelve(reader)?));
+    }
+    Ok(GenericTemplatePixels::Regular(parse_adaptive_template_pixels(reader, template)?))
+}
+
+/// The two adaptive pixels at the reader's place (T.88, 7.4.7.3), which may lie anywhere; at template 1
+/// nothing is read, and they are without meaning.
+///
+/// `ParseError::UnexpectedEof` where the bytes do not hold them. An error leaves the reader where it was.
+/// Takes no memory.
+#[tactic(auto, unfolding(crate::specs::RefinementTemplates::refinement_pixels_at))]
+pub fn parse_template_pixels(
+    reader: &mut Reader<'_>,
+    template: RefinementTemplate,
+) -> Result<[AdaptiveTemplatePixel; 2]>
+    requires { IsAligned reader.old }
+    ensures value { Answers (λ pixels. (pixels, reader.new.bytes)) result (refinement_pixels_at template reader.old.bytes) }
+    ensures aligned { IsAligned reader.new }
+    ensures stays { OnErr result (reader.new ≡ reader.old) }
+{
+    match template {
+        RefinementTemplate::Template0 => {
+            let mut ahead = reader.duplicate();
+            let first = parse_free_pixel(&mut ahead)?;
+            let second = parse_free_pixel(&mut ahead)?;
+            *reader = ahead;
+            Ok([first, second])
+        }
+        RefinementTemplate::Template1 => {
+            let unused = AdaptiveTemplatePixel { x: 0, y: 0 };
+            Ok([unused, unused])
+        }
+    }
+}
