@@ -4,6 +4,7 @@ mod CombineLemmas
 mod CountLemmas
 mod Extends
 mod FileRows
+pub mod FillLemmas
 pub mod GridLemmas
 mod PackedLemmas
 pub mod RandomAccess

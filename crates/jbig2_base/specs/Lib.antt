@@ -8,6 +8,7 @@ pub mod FileHeader
 pub mod Grid
 pub mod Operator
 pub mod PageInfo
+pub mod Parts
 pub mod Segment
 pub mod Sequential
 pub mod Sizes

@@ -9,6 +9,7 @@ ghost use Rattle.jbig2_base.specs.inner.Writes.{with_pixel, with_pixels};
 
 mod combine;
 pub mod operator;
+pub mod part;
 mod rows;
 pub mod steps;
 

@@ -1,0 +1,7 @@
+use Rattle.std.proofs.Common.{◌≡◌}
+use Rattle.jbig2_base.specs.Parts.{pixel_of_part}
+use Rattle.jbig2_base.specs.inner.Filled.{filled}
+use Rattle.jbig2_base.proofs.bitmap.Bitmap.part.Given as goal
+
+abbrev pub invariant-loop-y : goal.invariant-loop-y
+invariant-loop-y g l = l.part ≡ filled l.area.width l.area.height (pixel_of_part l.self l.area) l.y 0

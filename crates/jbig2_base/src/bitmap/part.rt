@@ -1,0 +1,68 @@
+//! Parts that are cut out of bitmaps: the symbols of a collective bitmap (T.88, 6.5.9), the patterns
+//! of one (6.7.5), and the area of the page that a refinement takes (7.4.7.4).
+ghost use Rattle.std.specs.Prelude.{◌≡◌, ◌+◌, ◌<◌, ◌≤◌};
+ghost use Rattle.jbig2_base.specs.Answer.{Gives};
+ghost use Rattle.jbig2_base.specs.Parts.{part_or_overflow, pixel_of_part};
+ghost use Rattle.jbig2_base.specs.inner.Filled.{filled};
+
+use crate::bitmap::Bitmap;
+use crate::bitmap::steps::Steps;
+use crate::error::Result;
+use std::alloc::Allocator;
+use std::sync::ledger::Ledger;
+
+/// A rectangle of pixels, which may reach past the sides of a bitmap.
+#[derive(Clone, Copy, Debug)]
+pub struct Area {
+    /// The leftmost column.
+    pub left: u32,
+    /// The highest row.
+    pub top: u32,
+    /// In pixels.
+    pub width: u32,
+    /// In pixels.
+    pub height: u32,
+}
+
+/// Row `y` of a part, whose rows above are copied.
+fn copy_row<A: Allocator, B: Allocator, L: Ledger>(
+    bitmap: &Bitmap<A>,
+    area: Area,
+    y: u32,
+    part: &mut Bitmap<B>,
+    steps: &mut Steps<L>,
+)
+    requires columns { area.left + area.width ≤ 4294967295 }
+    requires rows { area.top + area.height ≤ 4294967295 }
+    requires row { y < area.height }
+    requires above { part.old ≡ filled area.width area.height (pixel_of_part bitmap.now area) y 0 }
+    ensures { part.new ≡ filled area.width area.height (pixel_of_part bitmap.now area) (y + 1) 0 }
+{
+    for word in 0..area.width.div_ceil(64) {
+        let x = 64 * word;
+        let count = (area.width - x).min(64);
+        let bits = bitmap.load_pixels(area.left + x, area.top + y, count, steps);
+        part.store_pixels(x, y, count, bits, steps);
+    }
+}
+
+impl<A: Allocator> Bitmap<A> {
+    /// The part of this bitmap that `area` covers, white outside, in memory of its own. A side above
+    /// 65535 is refused (`OverflowError::BitmapDimension`).
+    pub fn part<B: Allocator, L: Ledger>(
+        &self,
+        alloc: B,
+        area: Area,
+        steps: &mut Steps<L>,
+    ) -> Result<Bitmap<B>>
+        requires columns { area.left + area.width ≤ 4294967295 }
+        requires rows { area.top + area.height ≤ 4294967295 }
+        ensures { Gives (λ part. part) result (part_or_overflow self.now area) }
+    {
+        let mut part = Bitmap::new(alloc, area.width, area.height)?;
+        for y in 0..area.height {
+            copy_row(self, area, y, &mut part, steps);
+        }
+        Ok(part)
+    }
+}
