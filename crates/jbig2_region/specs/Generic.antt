@@ -2,14 +2,14 @@
 use Rattle.std.specs.Prelude.{ℕ, ◌+◌, ◌*◌, Bool, if◌then◌else◌, List, [], ◌∷◌, map, Option, Some, None, pos, negsuc, ◌+ℤ◌, Result, Ok}
 use Rattle.jbig2_base.specs.Answer.{◌>>=◌}
 use Rattle.jbig2_base.specs.Grid.{Grid, pixel, bit_number}
-use Rattle.jbig2_base.specs.declared.bitmap.operator.CombinationOperator.{CombinationOperator}
 use Rattle.jbig2_base.specs.declared.error.DecodeError.{DecodeError}
 use Rattle.jbig2_coder.specs.Coder.{Context, started}
 use Rattle.jbig2_region.specs.GenericHeader.{GenericHeader}
 use Rattle.jbig2_region.specs.Raster.{Coding, Region, so_far, decoded, no_pixels, fresh_contexts}
 use Rattle.jbig2_mmr.specs.T6.{decoded as mmr_rows}
+pub use Rattle.jbig2_region.specs.RegionInfo.{PlacedRegion, region_view}
+use Rattle.jbig2_region.specs.RegionInfo.{placed}
 use Rattle.jbig2_region.specs.Templates.{context_bits, row_context, template_pixels}
-use Rattle.jbig2_region.specs.declared.generic.DecodedRegion.{DecodedRegion}
 use Rattle.jbig2_region.specs.declared.template.AdaptiveTemplatePixel.{AdaptiveTemplatePixel}
 use Rattle.jbig2_region.specs.declared.template.Template.{Template}
 
@@ -55,15 +55,6 @@ generic_answer h =
 abbrev pub contexts_after : GenericHeader → List Context → List Context
 contexts_after h contexts = if h.mmr then contexts else (generic_region h).contexts
 
--- A decoded region and its place.
-pub record PlacedRegion : Type 0 where
-  pub grid : Grid
-  pub x_location : ℕ
-  pub y_location : ℕ
-  pub combination_operator : CombinationOperator
-
-abbrev pub region_view : {A : Type 0} → DecodedRegion A → PlacedRegion
-region_view r = record { grid = r.bitmap; x_location = r.x_location; y_location = r.y_location; combination_operator = r.combination_operator }
-
+-- the region at its place
 abbrev pub generic_decoded : GenericHeader → Result PlacedRegion DecodeError
-generic_decoded h = generic_answer h >>= λ g. Ok (record { grid = g; x_location = h.region_info.x_location; y_location = h.region_info.y_location; combination_operator = h.region_info.combination_operator })
+generic_decoded h = generic_answer h >>= λ g. Ok (placed h.region_info g)

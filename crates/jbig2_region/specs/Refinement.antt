@@ -8,11 +8,12 @@ use Rattle.jbig2_base.specs.declared.error.DecodeError.TheVariants as errors
 use Rattle.jbig2_base.specs.declared.error.OverflowError.TheVariants.{ReferenceOffset}
 use Rattle.jbig2_base.specs.declared.error.RegionError.TheVariants.{InvalidDimension}
 use Rattle.jbig2_coder.specs.Coder.{Context, started}
-use Rattle.jbig2_region.specs.Generic.{number_of, PlacedRegion}
+use Rattle.jbig2_region.specs.Generic.{number_of}
 use Rattle.jbig2_region.specs.Raster.{Coding, Region, so_far, decoded, no_pixels, fresh_contexts}
 use Rattle.jbig2_region.specs.RefinementHeader.{RefinementHeader}
 pub use Rattle.jbig2_region.specs.RefinementTemplates.{refinement_bits}
 use Rattle.jbig2_region.specs.RefinementTemplates.{apart, reference_pixels, refinement_row_context, region_pixels}
+use Rattle.jbig2_region.specs.RegionInfo.{PlacedRegion, placed}
 use Rattle.jbig2_region.specs.declared.region_info.RegionSegmentInfo.{RegionSegmentInfo}
 use Rattle.jbig2_region.specs.declared.template.AdaptiveTemplatePixel.{AdaptiveTemplatePixel}
 use Rattle.jbig2_region.specs.declared.template.RefinementTemplate.{RefinementTemplate}
@@ -101,4 +102,4 @@ abbrev pub refined_contexts : RefinementHeader → PlacedRegion → List Context
 refined_contexts h from contexts = if is_ok (offset from h.region_info) then (refined_region h from).contexts else contexts
 
 abbrev pub refined_decoded : RefinementHeader → PlacedRegion → Result PlacedRegion DecodeError
-refined_decoded h from = refined_answer h from >>= λ g. Ok (record { grid = g; x_location = h.region_info.x_location; y_location = h.region_info.y_location; combination_operator = h.region_info.combination_operator })
+refined_decoded h from = refined_answer h from >>= λ g. Ok (placed h.region_info g)

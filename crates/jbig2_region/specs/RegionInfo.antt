@@ -1,11 +1,15 @@
--- The region segment information field (T.88, 7.4.1).
+-- The region segment information field (T.88, 7.4.1), which every region segment begins with, and the region that it
+-- places: a grid with its place on the page and how it is combined with the page.
 use Rattle.std.specs.Prelude.{ℕ, ◌/◌, ◌%◌, ◌==◌, List, Result, Ok}
 use Rattle.std.specs.Int.{w8, w32}
 use Rattle.jbig2_base.specs.Answer.{◌>>=◌, refuse_if}
 use Rattle.jbig2_base.specs.Fields.{number_at}
+use Rattle.jbig2_base.specs.Grid.{Grid}
 use Rattle.jbig2_base.specs.Operator.{operator_of}
+use Rattle.jbig2_base.specs.declared.bitmap.operator.CombinationOperator.{CombinationOperator}
 use Rattle.jbig2_base.specs.declared.error.DecodeError.{DecodeError}
 use Rattle.jbig2_base.specs.declared.error.DecodeError.TheVariants.{Unsupported}
+use Rattle.jbig2_region.specs.declared.region_info.DecodedRegion.{DecodedRegion}
 use Rattle.jbig2_region.specs.declared.region_info.RegionSegmentInfo.{RegionSegmentInfo}
 
 -- bit 3 of the flags speaks of a colour extension, which this decoder has not (our own rule)
@@ -19,3 +23,27 @@ region_info_at bytes = do
   operator ← operator_of (flags.0 % 8)
   plain ← refuse_if (flags.0 / 8 % 2 == 1) Unsupported
   Ok (record { width = width.0; height = height.0; x_location = x.0; y_location = y.0; combination_operator = operator }, flags.1)
+
+-- A decoded region and its place.
+pub record PlacedRegion : Type 0 where
+  pub grid : Grid
+  pub x_location : ℕ
+  pub y_location : ℕ
+  pub combination_operator : CombinationOperator
+
+-- a grid at the place that the information gives
+abbrev pub placed : RegionSegmentInfo → Grid → PlacedRegion
+placed info g = record {
+  grid = g;
+  x_location = info.x_location;
+  y_location = info.y_location;
+  combination_operator = info.combination_operator;
+}
+
+abbrev pub region_view : {A : Type 0} → DecodedRegion A → PlacedRegion
+region_view r = record {
+  grid = r.bitmap;
+  x_location = r.x_location;
+  y_location = r.y_location;
+  combination_operator = r.combination_operator;
+}

@@ -1,10 +1,12 @@
 -- Generic regions of which pixels are skipped (T.88, 6.2.5.7, USESKIP): a skipped pixel is white and takes no decision.
-use Rattle.std.specs.Prelude.{ℕ, Bool, false, if◌then◌else◌, List, Option, Some, None}
+use Rattle.std.specs.Prelude.{ℕ, Bool, false, if◌then◌else◌, List, Option, Some, None, pos, negsuc, ◌+ℤ◌}
 use Rattle.std.specs.Borrow.{Bor}
-use Rattle.jbig2_base.specs.Grid.{Grid, pixel_at}
+use Rattle.jbig2_base.specs.Grid.{Grid, pixel, pixel_at}
 use Rattle.jbig2_region.specs.Generic.{context_at}
 use Rattle.jbig2_region.specs.Raster.{Coding}
+use Rattle.jbig2_region.specs.Templates.{row_context}
 use Rattle.jbig2_region.specs.declared.template.AdaptiveTemplatePixel.{AdaptiveTemplatePixel}
+use Rattle.jbig2_region.specs.declared.template.Template.{Template}
 
 -- the pixel at column x of row y is skipped: it is black in the bitmap that says so, where there is one
 abbrev pub is_skipped : Option Grid → ℕ → ℕ → Bool
@@ -14,9 +16,23 @@ is_skipped (Some skip) x y = pixel_at skip x y
 abbrev pub white_if_skipped : Option Grid → ℕ → ℕ → Option Bool
 white_if_skipped skip x y = if is_skipped skip x y then Some false else None
 
--- by all of a template's pixels, without typical prediction
+-- the colour that a pixel takes without a decision: in a predicted row that of the pixel above, else white where it is
+-- skipped (6.2.5.7)
+abbrev pub known_colour : Option Grid → Bool → Grid → ℕ → ℕ → Option Bool
+known_colour skip predicted g x y =
+    if predicted then Some (pixel g (pos x) (pos y +ℤ negsuc 0)) else white_if_skipped skip x y
+
+-- by whether typical prediction is on, the template, all of its pixels, and the pixels that are skipped
+abbrev pub masked_coding : Bool → Template → List AdaptiveTemplatePixel → Option Grid → Coding
+masked_coding typical template pixels skip = record {
+  context = context_at pixels;
+  known = known_colour skip;
+  row_context = (if typical then Some (row_context template) else None);
+}
+
+-- the same without typical prediction, whose rows are never predicted
 abbrev pub skipping_coding : List AdaptiveTemplatePixel → Option Grid → Coding
-skipping_coding pixels skip = record { context = context_at pixels; known = (λ _ _ x y. white_if_skipped skip x y); row_context = None }
+skipping_coding pixels skip = record { context = context_at pixels; known = known_colour skip; row_context = None }
 
 abbrev pub skip_of : Option (Bor Grid) → Option Grid
 skip_of None = None

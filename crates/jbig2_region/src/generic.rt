@@ -3,18 +3,19 @@ ghost use Rattle.std.specs.Prelude.{◌≡◌, ◌≤◌, length, false, IfOk, O
 ghost use Rattle.jbig2_base.specs.Answer.{Answers, Gives, Leaves};
 ghost use Rattle.jbig2_base.specs.Bits.{IsAligned};
 ghost use Rattle.jbig2_base.specs.Grid.{blank};
-ghost use Rattle.jbig2_region.specs.Generic.{contexts_after, generic_answer, generic_decoded, region_view};
+ghost use Rattle.jbig2_region.specs.Generic.{contexts_after, generic_answer, generic_decoded};
+ghost use Rattle.jbig2_region.specs.RegionInfo.{region_view};
 ghost use Rattle.jbig2_region.specs.inner.Layouts.{CountsGeneric};
 ghost use Rattle.jbig2_region.specs.GenericHeader.{header_view, rows_at, generic_header_at, IsParsed};
 
 pub use crate::generic_coding::decode_coded;
 use crate::raster::fresh_contexts;
+pub use crate::region_info::DecodedRegion;
 use crate::region_info::{RegionSegmentInfo, parse_region_segment_info};
 pub use crate::template::adaptive::parse_adaptive_template_pixels;
 use crate::template::adaptive::parse_generic_template_pixels;
 use crate::template::{GenericTemplatePixels, Template};
 use jbig2_base::bitmap::Bitmap;
-use jbig2_base::bitmap::operator::CombinationOperator;
 use jbig2_base::bitmap::steps::Steps;
 use jbig2_base::error::{DecodeError, OverflowError, RegionError, Result};
 use jbig2_base::field::{byte_field, u32_field};
@@ -104,15 +105,6 @@ pub fn parse<'a>(
     })
 }
 
-/// A region that is decoded, its place on the page and how it is combined with the page.
-#[derive(Drop)]
-pub struct DecodedRegion<A: Allocator> {
-    pub bitmap: Bitmap<A>,
-    pub x_location: u32,
-    pub y_location: u32,
-    pub combination_operator: CombinationOperator,
-}
-
 /// Decodes a region (T.88, 6.2) into a white bitmap of its size. The contexts begin fresh, whatever
 /// `contexts` held, and are left there as the region leaves them; MMR data does not touch them, nor
 /// does its refusal. The steps of a region are bounded unless it has MMR data or the extended
@@ -167,10 +159,5 @@ pub fn decode<A: Allocator, B: Allocator, L: Ledger>(
     let region_info = &header.region_info;
     let mut bitmap = Bitmap::new(alloc, region_info.width, region_info.height)?;
     decode_into(header, &mut bitmap, contexts, steps)?;
-    Ok(DecodedRegion {
-        bitmap,
-        x_location: region_info.x_location,
-        y_location: region_info.y_location,
-        combination_operator: region_info.combination_operator,
-    })
+    Ok(DecodedRegion::new(region_info, bitmap))
 }

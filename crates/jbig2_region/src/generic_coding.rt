@@ -1,9 +1,11 @@
-//! The contexts of generic regions (T.88, 6.2.5.3 to 6.2.5.7).
-ghost use Rattle.std.specs.Prelude.{◌≡◌, ◌+◌, ◌*◌, ◌^◌, ◌<◌, ◌≤◌, length, pos, ◌+ℤ◌, false};
+//! How generic regions are coded (T.88, 6.2.5.3 to 6.2.5.7): their contexts, and the pixels that take no
+//! decision.
+ghost use Rattle.std.specs.Prelude.{◌≡◌, ◌+◌, ◌*◌, ◌^◌, ◌<◌, ◌≤◌, length, pos, negsuc, ◌+ℤ◌, false};
 ghost use Rattle.jbig2_base.specs.Grid.{blank, pixel, bit_number};
 ghost use Rattle.jbig2_region.specs.inner.Holds.{DecodesRegion};
 ghost use Rattle.jbig2_region.specs.Raster.{no_pixels};
-ghost use Rattle.jbig2_region.specs.Generic.{context_at, colour_above, coding_of};
+ghost use Rattle.jbig2_region.specs.Generic.{context_at, coding_of};
+ghost use Rattle.jbig2_region.specs.Skipping.{skip_of, white_if_skipped};
 ghost use Rattle.jbig2_region.specs.inner.Layouts.{CountsCoded, read_pixels};
 ghost use Rattle.jbig2_region.specs.RunBytes.{CountsRegion};
 ghost use Rattle.jbig2_region.specs.Templates.{FitsTemplate, context_bits, is_nominal, template_pixels};
@@ -70,38 +72,53 @@ pub fn context_at<A: Allocator, L: Ledger>(
 /// In a predicted row, the colour of the pixel above.
 #[inline(always)]
 fn colour_above<A: Allocator, L: Ledger>(
-    predicted: bool,
     bitmap: &Bitmap<A>,
     x: u32,
     y: u32,
     steps: &mut Steps<L>,
-) -> Option<bool>
+) -> bool
     requires column { x < 65536 }
     requires row { y < 65536 }
-    ensures { result ≡ colour_above predicted bitmap.now x y }
+    ensures { result ≡ pixel bitmap.now (pos x) (pos y +ℤ negsuc 0) }
 {
-    if !predicted {
-        return None;
+    pixel_at(bitmap, x as i32, y as i32 - 1, steps) == 1
+}
+
+/// White where the pixel at column `x` of row `y` is skipped.
+#[inline(always)]
+fn white_if_skipped<M: Allocator, L: Ledger>(
+    skip: Option<&Bitmap<M>>,
+    x: u32,
+    y: u32,
+    steps: &mut Steps<L>,
+) -> Option<bool>
+    ensures { result ≡ white_if_skipped (skip_of skip.entry) x y }
+{
+    let mask = skip?;
+    if mask.get_pixel(x, y, steps) == 1 {
+        return Some(false);
     }
-    Some(pixel_at(bitmap, x as i32, y as i32 - 1, steps) == 1)
+    None
 }
 
 /// How a generic region is coded.
 #[derive(Drop)]
-struct GenericCoding<'a> {
-    template: Template,
+pub struct GenericCoding<'a, M: Allocator> {
+    pub template: Template,
     /// Whether typical prediction is on.
-    typical: bool,
+    pub typical: bool,
     /// All of the template's pixels, bit 0 of a context first.
-    pixels: &'a [AdaptiveTemplatePixel],
+    pub pixels: &'a [AdaptiveTemplatePixel],
+    /// Black where a pixel is skipped.
+    pub skip: Option<&'a Bitmap<M>>,
     ghost all: { length pixels.now ≡ context_bits template },
 }
 
-impl PixelCoding for GenericCoding<'_> {
-    ghost use Rattle.jbig2_region.specs.Generic.{coding_of};
+impl<M: Allocator> PixelCoding for GenericCoding<'_, M> {
+    ghost use Rattle.jbig2_region.specs.Skipping.{masked_coding, skip_of};
     ghost use Rattle.jbig2_region.specs.Templates.{context_bits};
 
-    ghost coding = { λ c. coding_of c.typical c.template c.pixels.now };
+    ghost coding = { λ c. masked_coding c.typical c.template c.pixels.now (skip_of c.skip) };
 
     ghost bits = { λ c. context_bits c.template };
 
@@ -125,38 +142,15 @@ impl PixelCoding for GenericCoding<'_> {
         y: u32,
         steps: &mut Steps<L>,
     ) -> Option<bool> {
-        colour_above(predicted, bitmap, x, y, steps)
+        if predicted {
+            return Some(colour_above(bitmap, x, y, steps));
+        }
+        white_if_skipped(self.skip, x, y, steps)
     }
 
     fn row_context(&self) -> Option<u32> {
         typical_context(self.template, self.typical)
     }
-}
-
-/// A region of the template with these pixels, bit 0 of a context first, pixel by pixel.
-pub fn decode_with<A: Allocator, L: Ledger>(
-    template: Template,
-    typical: bool,
-    pixels: &[AdaptiveTemplatePixel],
-    bitmap: &mut Bitmap<A>,
-    decoder: &mut ArithmeticDecoder<'_>,
-    contexts: &mut [ArithmeticDecoderContext],
-    steps: &mut Steps<L>,
-)
-    requires all { length pixels.now ≡ context_bits template }
-    requires columns { bitmap.old.width ≤ 65535 }
-    requires rows { bitmap.old.height ≤ 65535 }
-    requires white { bitmap.old ≡ blank bitmap.old.width bitmap.old.height false }
-    requires contexts { length contexts.old ≡ 2 ^ context_bits template }
-    ensures holds { DecodesRegion (coding_of typical template pixels.now) bitmap.old decoder.old contexts.old bitmap.new decoder.new contexts.new }
-    ensures empty { bitmap.old.width * bitmap.old.height ≡ 0 → steps.new ≡ steps.old }
-{
-    let coding = GenericCoding {
-        template,
-        typical,
-        pixels,
-    };
-    decode_region(&coding, bitmap, decoder, contexts, steps);
 }
 
 /// A region of a template that is not extended, by the kernels.
@@ -201,15 +195,15 @@ pub fn decode_coded<A: Allocator, L: Ledger>(
     ensures steps { CountsCoded template adaptive.now (coding_of typical template (template_pixels template adaptive.now)) bitmap.old.width bitmap.old.height decoder.old.bytes (no_pixels decoder.old.registers contexts.old) steps.old steps.new }
 {
     match adaptive {
-        GenericTemplatePixels::Extended(a) => decode_with(
-            template,
-            typical,
-            &extended_template_0(a),
-            bitmap,
-            decoder,
-            contexts,
-            steps,
-        ),
+        GenericTemplatePixels::Extended(a) => {
+            let coding = GenericCoding {
+                template,
+                typical,
+                pixels: &extended_template_0(a),
+                skip: None::<&Bitmap<A>>,
+            };
+            decode_region(&coding, bitmap, decoder, contexts, steps);
+        }
         GenericTemplatePixels::Regular(a) => {
             decode_regular(template, typical, a, bitmap, decoder, contexts, steps)
         }

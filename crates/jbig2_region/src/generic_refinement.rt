@@ -3,14 +3,13 @@ ghost use Rattle.std.specs.Prelude.{◌≡◌, false, IfOk, OnErr};
 ghost use Rattle.jbig2_base.specs.Answer.{Answers, Gives, Leaves};
 ghost use Rattle.jbig2_base.specs.Bits.{IsAligned};
 ghost use Rattle.jbig2_base.specs.Grid.{blank};
-ghost use Rattle.jbig2_region.specs.Generic.{region_view};
+ghost use Rattle.jbig2_region.specs.RegionInfo.{region_view};
 ghost use Rattle.jbig2_region.specs.Refinement.{is_far, is_smaller, offset, refined_answer, refined_contexts, refined_decoded};
 ghost use Rattle.jbig2_region.specs.RefinementHeader.{IsRefinement, header_view, refinement_header_at};
 
-use crate::generic::DecodedRegion;
 use crate::raster::fresh_contexts;
 pub use crate::refinement_coding::decode_bitmap;
-use crate::region_info::{RegionSegmentInfo, parse_region_segment_info};
+use crate::region_info::{DecodedRegion, RegionSegmentInfo, parse_region_segment_info};
 pub use crate::template::adaptive::parse_template_pixels;
 use crate::template::{AdaptiveTemplatePixel, RefinementTemplate};
 use jbig2_base::bitmap::Bitmap;
@@ -172,10 +171,5 @@ pub fn decode<A: Allocator, B: Allocator, C: Allocator, L: Ledger>(
     let region_info = &header.region_info;
     let mut bitmap = Bitmap::new(alloc, region_info.width, region_info.height)?;
     decode_into(header, reference, &mut bitmap, contexts, steps)?;
-    Ok(DecodedRegion {
-        bitmap,
-        x_location: region_info.x_location,
-        y_location: region_info.y_location,
-        combination_operator: region_info.combination_operator,
-    })
+    Ok(DecodedRegion::new(region_info, bitmap))
 }
