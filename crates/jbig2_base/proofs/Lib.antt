@@ -1,3 +1,4 @@
+pub mod BitFieldLemmas
 pub mod BitLemmas
 mod BlockLemmas
 mod CombineLemmas
@@ -9,6 +10,7 @@ pub mod GridLemmas
 mod PackedLemmas
 pub mod RandomAccess
 pub mod ReaderLemmas
+pub mod SearchLemmas
 pub mod SegmentLemmas
 pub mod Sequential
 pub mod Sorting

@@ -2,7 +2,7 @@
 --
 -- A definition answers a value or the first error, and never `OutOfMemory`. The steps of a definition
 -- follow each other by `>>=`, so the order of the errors is the order of the steps.
-use Rattle.std.specs.Prelude.{◌≡◌, Bool, true, false, Result, Ok, Err, ◌⊎◌}
+use Rattle.std.specs.Prelude.{◌≡◌, Bool, true, false, Option, Some, None, Result, Ok, Err, ◌⊎◌}
 use Rattle.jbig2_base.specs.declared.error.DecodeError.{DecodeError}
 use Rattle.jbig2_base.specs.declared.error.DecodeError.TheVariants.{OutOfMemory}
 
@@ -16,6 +16,11 @@ abbrev pub ◌>>=◌ : {A B : Type 0} → Result A DecodeError → (A → Result
 abbrev pub refuse_if : Bool → DecodeError → Result (Unit {0}) DecodeError
 refuse_if true e = Err e
 refuse_if false e = Ok tt
+
+-- the value, or the error where there is none
+abbrev pub some_or : {A : Type 0} → DecodeError → Option A → Result A DecodeError
+some_or e None = Err e
+some_or e (Some x) = Ok x
 
 -- What was answered, seen by view, is what was meant, unless memory ran out.
 abbrev pub Gives : {X Y : Type 0} → (X → Y) → Result X DecodeError → Result Y DecodeError → Type 0

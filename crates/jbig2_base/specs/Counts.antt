@@ -1,5 +1,5 @@
 -- What the step bounds count (our own rule): each field is a number of calls.
-use Rattle.std.specs.Prelude.{ℕ}
+use Rattle.std.specs.Prelude.{ℕ, ◌+◌}
 
 pub record Counts : Type 0 where
   pub loads : ℕ
@@ -11,3 +11,7 @@ pub record Counts : Type 0 where
 
 abbrev pub no_steps : Counts
 no_steps = record { loads = 0; words = 0; decisions = 0; run_tests = 0; groups = 0; pixels = 0 }
+
+-- so many words more are loaded and written
+abbrev pub words_copied : ℕ → Counts → Counts
+words_copied n c = record c { loads = c.loads + n; words = c.words + n }

@@ -2,12 +2,15 @@ pub mod Answer
 pub mod Bits
 pub mod Combination
 pub mod Counts
+pub mod EndMarker
 pub mod Fields
 pub mod File
 pub mod FileHeader
 pub mod Grid
 pub mod Operator
 pub mod PageInfo
+pub mod Parsing
+pub mod Search
 pub mod Parts
 pub mod Segment
 pub mod Sequential

@@ -3,10 +3,11 @@ use Rattle.std.specs.Prelude.{ℕ, suc, zero, ◌+◌, ◌*◌, ◌/◌, ◌%◌
 use Rattle.std.specs.List.{list_any}
 use Rattle.std.specs.Int.{w8, w16, w32, from_be_bytes}
 use Rattle.jbig2_base.specs.Answer.{◌>>=◌, refuse_if}
+use Rattle.jbig2_base.specs.EndMarker.{unknown_length_of}
 use Rattle.jbig2_base.specs.Fields.{bytes_at, number_at}
 use Rattle.jbig2_base.specs.declared.error.DecodeError.{DecodeError}
 use Rattle.jbig2_base.specs.declared.error.DecodeError.TheVariants.{Segment}
-use Rattle.jbig2_base.specs.declared.error.SegmentError.TheVariants.{UnknownType, InvalidReferredCount, InvalidReference, InvalidUnknownLength, MissingEndMarker}
+use Rattle.jbig2_base.specs.declared.error.SegmentError.TheVariants.{UnknownType, InvalidReferredCount, InvalidReference, InvalidUnknownLength}
 use Rattle.jbig2_base.specs.declared.segment.SegmentType.{SegmentType}
 use Rattle.jbig2_base.specs.declared.segment.SegmentType.TheVariants as types
 
@@ -132,47 +133,6 @@ header_at strict bytes = do
     },
     n.1,
   )
-
--- the least k below n that passes the test
-abbrev pub first_of : Option ℕ → Option ℕ → Option ℕ
-first_of (Some k) other = Some k
-first_of None other = other
-
-abbrev pub least : (ℕ → Bool) → ℕ → Option ℕ
-least test zero = None
-least test (suc n) = first_of (least test n) (if test n then Some n else None)
-
--- the adaptive pixels' bytes of a generic region, by its flags (7.4.6.3)
-abbrev pub adaptive_bytes : ℕ → ℕ
-adaptive_bytes flags =
-    if flags % 2 == 1 then 0
-    else if flags / 2 % 4 == 0 then (if flags / 16 % 2 == 1 then 24 else 8)
-    else 2
-
--- The marker that ends data of unknown length stands here, with the four bytes of the row count behind it (7.2.7).
-abbrev pub is_end_marker : ℕ → List ℕ → Bool
-is_end_marker flags bytes =
-    nat_le 6 (length bytes)
-    && (if flags % 2 == 1 then slice_index bytes 0 == 0 && slice_index bytes 1 == 0
-    else slice_index bytes 0 == 255 && slice_index bytes 1 == 172)
-
-abbrev pub marker_end : Option ℕ → ℕ → Result ℕ DecodeError
-marker_end None front = Err (Segment MissingEndMarker)
-marker_end (Some place) front = Ok (front + place + 6)
-
--- A generic region's flags, behind its region information, and the bytes behind its adaptive pixels (7.4.6).
-unfoldable pub coded_front_at : List ℕ → Result (ℕ × List ℕ) DecodeError
-coded_front_at bytes = do
-  information ← bytes_at 17 bytes
-  flags ← number_at w8 information.1
-  pixels ← bytes_at (adaptive_bytes flags.0) flags.1
-  Ok (flags.0, pixels.1)
-
--- How long data of unknown length is: a generic region's fields, then up to the first end marker and with it (7.2.7).
-abbrev pub unknown_length_of : List ℕ → Result ℕ DecodeError
-unknown_length_of bytes = do
-  front ← coded_front_at bytes
-  marker_end (least (λ k. is_end_marker front.0 (drop k front.1)) (length front.1)) (18 + adaptive_bytes front.0)
 
 -- The data of a segment, and the bytes behind it.
 abbrev pub data_at : Option ℕ → List ℕ → Result (List ℕ × List ℕ) DecodeError

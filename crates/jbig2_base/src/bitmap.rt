@@ -1,8 +1,9 @@
 //! Packed bitmaps (T.88, 6): rows of pixels behind a few reading and writing calls.
 ghost use Rattle.std.specs.Prelude.{◌≡◌, ℕ, ◌+◌, ◌-◌, ◌/◌, ◌^◌, ◌<◌, ◌≤◌, OnErr, Ok, false};
 ghost use Rattle.jbig2_base.specs.Answer.{Gives};
+ghost use Rattle.jbig2_base.specs.Counts.{words_copied};
 ghost use Rattle.jbig2_base.specs.Grid.{blank, pixel_at, bit_number};
-ghost use Rattle.jbig2_base.specs.Sizes.{blank_or_overflow, wide_or_overflow};
+ghost use Rattle.jbig2_base.specs.Sizes.{blank_or_overflow, wide_or_overflow, words_of};
 ghost use Rattle.jbig2_base.specs.inner.Table.{IsTable};
 ghost use Rattle.jbig2_base.specs.inner.WordBits.{bit};
 ghost use Rattle.jbig2_base.specs.inner.Writes.{with_pixel, with_pixels};
@@ -78,12 +79,17 @@ impl<A: Allocator> Bitmap<A> {
         Ok(bitmap)
     }
 
-    /// The same bitmap in memory of its own.
-    pub fn duplicate<B: Allocator>(&self, alloc: B) -> Result<Bitmap<B>>
-        ensures { Gives (λ b. b) result (Ok self.now) }
+    /// The same bitmap in memory of its own. Each of its words counts as loaded and written.
+    pub fn duplicate<B: Allocator, L: Ledger>(
+        &self,
+        alloc: B,
+        steps: &mut Steps<L>,
+    ) -> Result<Bitmap<B>>
+        ensures value { Gives (λ b. b) result (Ok self.now) }
+        ensures steps { steps.new ≡ words_copied (words_of self.now) steps.old }
     {
         Ok(Bitmap {
-            rows: self.rows.duplicate(alloc)?,
+            rows: self.rows.duplicate(alloc, steps)?,
         })
     }
 

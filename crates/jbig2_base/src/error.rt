@@ -43,7 +43,7 @@ pub enum DecodeError {
 }
 
 /// Why bytes could not be read.
-#[derive(Debug, Drop, PartialEq, Eq, Error)]
+#[derive(Clone, Copy, Debug, PartialEq, Eq, Error)]
 pub enum ParseError {
     /// The bytes end before the field does.
     #[error("unexpected end of input")]
@@ -51,7 +51,7 @@ pub enum ParseError {
 }
 
 /// What is wrong with a file or a page as a whole.
-#[derive(Debug, Drop, PartialEq, Eq, Error)]
+#[derive(Clone, Copy, Debug, PartialEq, Eq, Error)]
 pub enum FormatError {
     /// The file does not begin with the identification string (D.4.1).
     #[error("invalid JBIG2 file header")]
@@ -77,7 +77,7 @@ pub enum FormatError {
 }
 
 /// What is wrong with a segment.
-#[derive(Debug, Drop, PartialEq, Eq, Error)]
+#[derive(Clone, Copy, Debug, PartialEq, Eq, Error)]
 pub enum SegmentError {
     /// The type is not one of 7.3's list.
     #[error("unknown or reserved segment type")]
@@ -103,7 +103,7 @@ pub enum SegmentError {
 }
 
 /// What is wrong with prefix-coded data.
-#[derive(Debug, Drop, PartialEq, Eq, Error)]
+#[derive(Clone, Copy, Debug, PartialEq, Eq, Error)]
 pub enum HuffmanError {
     /// The bits begin no code, or lengths make no code (Annex B).
     #[error("invalid Huffman code")]
@@ -123,7 +123,7 @@ pub enum HuffmanError {
 }
 
 /// What is wrong with a region.
-#[derive(Debug, Drop, PartialEq, Eq, Error)]
+#[derive(Clone, Copy, Debug, PartialEq, Eq, Error)]
 pub enum RegionError {
     /// The operator is none of 7.4.1.5's.
     #[error("invalid combination operator")]
@@ -140,7 +140,7 @@ pub enum RegionError {
 }
 
 /// What is wrong with a template.
-#[derive(Debug, Drop, PartialEq, Eq, Error)]
+#[derive(Clone, Copy, Debug, PartialEq, Eq, Error)]
 pub enum TemplateError {
     /// No such template; never answered.
     #[error("invalid template value")]
@@ -151,7 +151,7 @@ pub enum TemplateError {
 }
 
 /// What is wrong with symbols.
-#[derive(Debug, Drop, PartialEq, Eq, Error)]
+#[derive(Clone, Copy, Debug, PartialEq, Eq, Error)]
 pub enum SymbolError {
     /// The number of exported symbols is not the stated one.
     #[error("no symbols available")]
@@ -177,7 +177,7 @@ pub enum SymbolError {
 }
 
 /// A number outside the range that this decoder keeps.
-#[derive(Debug, Drop, PartialEq, Eq, Error)]
+#[derive(Clone, Copy, Debug, PartialEq, Eq, Error)]
 pub enum OverflowError {
     /// A bitmap's width or height, or their product, is too large.
     #[error("overflow in bitmap dimension computation")]
@@ -285,135 +285,16 @@ impl DecodeError {
         ensures { result ≡ self.now }
     {
         match self {
-            DecodeError::Parse(inner) => DecodeError::Parse(inner.duplicate()),
-            DecodeError::Format(inner) => DecodeError::Format(inner.duplicate()),
-            DecodeError::Segment(inner) => DecodeError::Segment(inner.duplicate()),
-            DecodeError::Huffman(inner) => DecodeError::Huffman(inner.duplicate()),
-            DecodeError::Region(inner) => DecodeError::Region(inner.duplicate()),
-            DecodeError::Template(inner) => DecodeError::Template(inner.duplicate()),
-            DecodeError::Symbol(inner) => DecodeError::Symbol(inner.duplicate()),
-            DecodeError::Overflow(inner) => DecodeError::Overflow(inner.duplicate()),
+            DecodeError::Parse(inner) => DecodeError::Parse(*inner),
+            DecodeError::Format(inner) => DecodeError::Format(*inner),
+            DecodeError::Segment(inner) => DecodeError::Segment(*inner),
+            DecodeError::Huffman(inner) => DecodeError::Huffman(*inner),
+            DecodeError::Region(inner) => DecodeError::Region(*inner),
+            DecodeError::Template(inner) => DecodeError::Template(*inner),
+            DecodeError::Symbol(inner) => DecodeError::Symbol(*inner),
+            DecodeError::Overflow(inner) => DecodeError::Overflow(*inner),
             DecodeError::Unsupported => DecodeError::Unsupported,
             DecodeError::OutOfMemory => DecodeError::OutOfMemory,
-        }
-    }
-}
-
-impl ParseError {
-    /// An equal error, without memory.
-    pub fn duplicate(&self) -> ParseError
-        ensures { result ≡ self.now }
-    {
-        match self {
-            ParseError::UnexpectedEof => ParseError::UnexpectedEof,
-        }
-    }
-}
-
-impl FormatError {
-    /// An equal error, without memory.
-    pub fn duplicate(&self) -> FormatError
-        ensures { result ≡ self.now }
-    {
-        match self {
-            FormatError::InvalidHeader => FormatError::InvalidHeader,
-            FormatError::ReservedBits => FormatError::ReservedBits,
-            FormatError::MissingPageInfo => FormatError::MissingPageInfo,
-            FormatError::UnknownPageHeight => FormatError::UnknownPageHeight,
-            FormatError::EmptyPage => FormatError::EmptyPage,
-            FormatError::PageCountMismatch => FormatError::PageCountMismatch,
-            FormatError::InvalidEndOfPage => FormatError::InvalidEndOfPage,
-        }
-    }
-}
-
-impl SegmentError {
-    /// An equal error, without memory.
-    pub fn duplicate(&self) -> SegmentError
-        ensures { result ≡ self.now }
-    {
-        match self {
-            SegmentError::UnknownType => SegmentError::UnknownType,
-            SegmentError::InvalidReferredCount => SegmentError::InvalidReferredCount,
-            SegmentError::InvalidReference => SegmentError::InvalidReference,
-            SegmentError::InvalidUnknownLength => SegmentError::InvalidUnknownLength,
-            SegmentError::MissingEndMarker => SegmentError::MissingEndMarker,
-            SegmentError::MissingPatternDictionary => SegmentError::MissingPatternDictionary,
-            SegmentError::MissingPageAssociation => SegmentError::MissingPageAssociation,
-        }
-    }
-}
-
-impl HuffmanError {
-    /// An equal error, without memory.
-    pub fn duplicate(&self) -> HuffmanError
-        ensures { result ≡ self.now }
-    {
-        match self {
-            HuffmanError::InvalidCode => HuffmanError::InvalidCode,
-            HuffmanError::InvalidSelection => HuffmanError::InvalidSelection,
-            HuffmanError::MissingTables => HuffmanError::MissingTables,
-            HuffmanError::UnexpectedOob => HuffmanError::UnexpectedOob,
-            HuffmanError::ConflictingCodes => HuffmanError::ConflictingCodes,
-        }
-    }
-}
-
-impl RegionError {
-    /// An equal error, without memory.
-    pub fn duplicate(&self) -> RegionError
-        ensures { result ≡ self.now }
-    {
-        match self {
-            RegionError::InvalidCombinationOperator => RegionError::InvalidCombinationOperator,
-            RegionError::InvalidDimension => RegionError::InvalidDimension,
-            RegionError::InvalidMmrData => RegionError::InvalidMmrData,
-            RegionError::GrayScaleOutOfRange => RegionError::GrayScaleOutOfRange,
-        }
-    }
-}
-
-impl TemplateError {
-    /// An equal error, without memory.
-    pub fn duplicate(&self) -> TemplateError
-        ensures { result ≡ self.now }
-    {
-        match self {
-            TemplateError::Invalid => TemplateError::Invalid,
-            TemplateError::InvalidAtPixel => TemplateError::InvalidAtPixel,
-        }
-    }
-}
-
-impl SymbolError {
-    /// An equal error, without memory.
-    pub fn duplicate(&self) -> SymbolError
-        ensures { result ≡ self.now }
-    {
-        match self {
-            SymbolError::NoSymbols => SymbolError::NoSymbols,
-            SymbolError::TooManySymbols => SymbolError::TooManySymbols,
-            SymbolError::OutOfRange => SymbolError::OutOfRange,
-            SymbolError::UnexpectedOob => SymbolError::UnexpectedOob,
-            SymbolError::Invalid => SymbolError::Invalid,
-            SymbolError::InvalidStripDelta => SymbolError::InvalidStripDelta,
-            SymbolError::TooManyInstances => SymbolError::TooManyInstances,
-        }
-    }
-}
-
-impl OverflowError {
-    /// An equal error, without memory.
-    pub fn duplicate(&self) -> OverflowError
-        ensures { result ≡ self.now }
-    {
-        match self {
-            OverflowError::BitmapDimension => OverflowError::BitmapDimension,
-            OverflowError::GridDimension => OverflowError::GridDimension,
-            OverflowError::PlacementCoordinate => OverflowError::PlacementCoordinate,
-            OverflowError::ReferenceOffset => OverflowError::ReferenceOffset,
-            OverflowError::Index => OverflowError::Index,
-            OverflowError::SymbolCount => OverflowError::SymbolCount,
         }
     }
 }

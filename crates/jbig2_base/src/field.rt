@@ -1,9 +1,10 @@
 //! Fields at a reader's place, which answer an error where the bytes end (T.88, 7.1).
-ghost use Rattle.std.specs.Prelude.{◌≡◌, ◌+◌, length, OnOk, OnErr};
+ghost use Rattle.std.specs.Prelude.{◌≡◌, ◌+◌, ◌^◌, ◌<◌, ◌≤◌, drop, length, IfOk, OnOk};
 ghost use Rattle.std.specs.Int.{w8, w16, w32};
-ghost use Rattle.jbig2_base.specs.Answer.{Answers};
-ghost use Rattle.jbig2_base.specs.Bits.{IsAligned};
-ghost use Rattle.jbig2_base.specs.Fields.{bytes_at, number_at, signed_at};
+ghost use Rattle.jbig2_base.specs.Answer.{Answers, some_or};
+ghost use Rattle.jbig2_base.specs.Bits.{IsAligned, bits_left, bits_next, bits_on};
+ghost use Rattle.jbig2_base.specs.Parsing.{Parses};
+ghost use Rattle.jbig2_base.specs.Fields.{bits_at, bytes_at, number_at, signed_at};
 
 use crate::error::{DecodeError, ParseError, Result};
 use crate::reader::Reader;
@@ -11,10 +12,8 @@ use crate::reader::Reader;
 /// The next byte, or `ParseError::UnexpectedEof`.
 pub fn byte_field(reader: &mut Reader<'_>) -> Result<u8>
     requires { IsAligned reader.old }
-    ensures value { Answers (λ x. (x, reader.new.bytes)) result (number_at w8 reader.old.bytes) }
-    ensures aligned { IsAligned reader.new }
-    ensures stays { OnErr result (reader.new ≡ reader.old) }
-    ensures shorter { OnOk result (length reader.new.bytes + 1 ≡ length reader.old.bytes) }
+    ensures parses { Parses reader.old reader.new result (λ x. x) (number_at w8 reader.old.bytes) }
+    ensures taken { OnOk result (length reader.new.bytes + 1 ≡ length reader.old.bytes) }
 {
     reader
         .read_byte()
@@ -24,10 +23,8 @@ pub fn byte_field(reader: &mut Reader<'_>) -> Result<u8>
 /// The next two bytes as a number, or `ParseError::UnexpectedEof`.
 pub fn u16_field(reader: &mut Reader<'_>) -> Result<u16>
     requires { IsAligned reader.old }
-    ensures value { Answers (λ x. (x, reader.new.bytes)) result (number_at w16 reader.old.bytes) }
-    ensures aligned { IsAligned reader.new }
-    ensures stays { OnErr result (reader.new ≡ reader.old) }
-    ensures shorter { OnOk result (length reader.new.bytes + 2 ≡ length reader.old.bytes) }
+    ensures parses { Parses reader.old reader.new result (λ x. x) (number_at w16 reader.old.bytes) }
+    ensures taken { OnOk result (length reader.new.bytes + 2 ≡ length reader.old.bytes) }
 {
     reader
         .read_u16()
@@ -37,25 +34,57 @@ pub fn u16_field(reader: &mut Reader<'_>) -> Result<u16>
 /// The next four bytes as a number, or `ParseError::UnexpectedEof`.
 pub fn u32_field(reader: &mut Reader<'_>) -> Result<u32>
     requires { IsAligned reader.old }
-    ensures value { Answers (λ x. (x, reader.new.bytes)) result (number_at w32 reader.old.bytes) }
-    ensures aligned { IsAligned reader.new }
-    ensures stays { OnErr result (reader.new ≡ reader.old) }
-    ensures shorter { OnOk result (length reader.new.bytes + 4 ≡ length reader.old.bytes) }
+    ensures parses { Parses reader.old reader.new result (λ x. x) (number_at w32 reader.old.bytes) }
+    ensures taken { OnOk result (length reader.new.bytes + 4 ≡ length reader.old.bytes) }
 {
     reader
         .read_u32()
         .ok_or(DecodeError::Parse(ParseError::UnexpectedEof))
 }
 
+/// The next byte as a signed number, or `ParseError::UnexpectedEof`.
+pub fn i8_field(reader: &mut Reader<'_>) -> Result<i8>
+    requires { IsAligned reader.old }
+    ensures parses { Parses reader.old reader.new result (λ x. x) (signed_at w8 reader.old.bytes) }
+    ensures taken { OnOk result (length reader.new.bytes + 1 ≡ length reader.old.bytes) }
+{
+    let number = byte_field(reader)?;
+    Ok(number.cast_signed())
+}
+
+/// The next four bytes as a signed number, or `ParseError::UnexpectedEof`.
+pub fn i32_field(reader: &mut Reader<'_>) -> Result<i32>
+    requires { IsAligned reader.old }
+    ensures parses { Parses reader.old reader.new result (λ x. x) (signed_at w32 reader.old.bytes) }
+    ensures taken { OnOk result (length reader.new.bytes + 4 ≡ length reader.old.bytes) }
+{
+    let number = u32_field(reader)?;
+    Ok(number.cast_signed())
+}
+
 /// The next `count` bytes, or `ParseError::UnexpectedEof`.
 pub fn bytes_field<'a>(reader: &mut Reader<'a>, count: usize) -> Result<&'a [u8]>
     requires { IsAligned reader.old }
-    ensures value { Answers (λ x. (x.now, reader.new.bytes)) result (bytes_at count reader.old.bytes) }
-    ensures aligned { IsAligned reader.new }
-    ensures stays { OnErr result (reader.new ≡ reader.old) }
-    ensures shorter { OnOk result (length reader.new.bytes + count ≡ length reader.old.bytes) }
+    ensures parses { Parses reader.old reader.new result (λ x. x.now) (bytes_at count reader.old.bytes) }
+    ensures taken { OnOk result (length reader.new.bytes + count ≡ length reader.old.bytes) }
 {
     reader
         .read_bytes(count)
         .ok_or(DecodeError::Parse(ParseError::UnexpectedEof))
+}
+
+/// The next `count` bits as a number, high bit first, or the error.
+pub fn bits_field(reader: &mut Reader<'_>, count: u8, error: DecodeError) -> Result<u32>
+    requires { count ≤ 32 }
+    ensures value { Answers (λ n. (n, reader.new)) result (bits_at error count reader.old) }
+    ensures answer { result ≡ some_or error (bits_next count (bits_left reader.old)) }
+    ensures place { reader.new ≡ bits_on count reader.old }
+    ensures rest { bits_left reader.new ≡ drop count (bits_left reader.old) }
+    ensures small { IfOk result (λ n. n < 2 ^ count) }
+    ensures enough { OnOk result (count ≤ length (bits_left reader.old)) }
+{
+    match reader.read_bits(count) {
+        Some(number) => Ok(number),
+        None => Err(error),
+    }
 }

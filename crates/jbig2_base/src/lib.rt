@@ -9,5 +9,6 @@ pub mod file;
 pub mod file_header;
 pub mod page_info;
 pub mod reader;
+pub mod search;
 pub mod segment;
 pub mod sort;

@@ -3,6 +3,7 @@ ghost use Rattle.std.specs.Prelude.{◌≡◌, ◌+◌, ◌<◌, ◌≤◌, Ok, 
 ghost use Rattle.jbig2_base.specs.Answer.{Answers};
 ghost use Rattle.jbig2_base.specs.Bits.{IsAligned};
 ghost use Rattle.jbig2_base.specs.PageInfo.{default_operator_of, flags_of, striping_of, resolution_of, information_at, is_page_information, is_end_of_stripe, first_information, stripe_height, stripes_height, height_of, sheet_with, sheet_of};
+ghost use Rattle.jbig2_base.specs.Parsing.{Parses};
 ghost use Rattle.jbig2_base.specs.inner.SegmentViews.{part_view, parts};
 
 use crate::bitmap::operator::CombinationOperator;
@@ -105,9 +106,7 @@ fn resolution(number: u32) -> Option<u32>
 #[tactic(auto, unfolding(crate::specs::PageInfo::information_at))]
 pub fn parse_page_information(reader: &mut Reader<'_>) -> Result<PageInformation>
     requires { IsAligned reader.old }
-    ensures value { Answers (λ p. (p, reader.new.bytes)) result (information_at reader.old.bytes) }
-    ensures aligned { IsAligned reader.new }
-    ensures stays { OnErr result (reader.new ≡ reader.old) }
+    ensures { Parses reader.old reader.new result (λ p. p) (information_at reader.old.bytes) }
 {
     let mut ahead = reader.duplicate();
     let width = u32_field(&mut ahead)?;

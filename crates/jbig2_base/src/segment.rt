@@ -6,12 +6,16 @@ ghost use Rattle.std.specs.Option.{ForSome};
 ghost use Rattle.std.specs.Bool.{OnTrue};
 ghost use Rattle.jbig2_base.specs.Answer.{Answers, Gives};
 ghost use Rattle.jbig2_base.specs.Bits.{IsAligned};
-ghost use Rattle.jbig2_base.specs.Segment.{type_of, is_reserved, is_immediate_generic, short_or_long_at, long_count_at, count_at, number_size, coded_number, numbers_in, referred_at, page_at, length_of, header_at, adaptive_bytes, is_end_marker, least, marker_end, coded_front_at, unknown_length_of, data_at, segment_data_at, segment_at};
+ghost use Rattle.jbig2_base.specs.Parsing.{Parses, Takes};
+ghost use Rattle.jbig2_base.specs.Segment.{type_of, is_reserved, is_immediate_generic, short_or_long_at, long_count_at, count_at, number_size, coded_number, numbers_in, referred_at, page_at, length_of, header_at, data_at, segment_data_at, segment_at};
 ghost use Rattle.jbig2_base.specs.inner.SegmentViews.{header_view, part_view};
+
+mod end_marker;
 
 use crate::error::{DecodeError, Result, SegmentError};
 use crate::field::{byte_field, bytes_field, u32_field};
 use crate::reader::Reader;
+use end_marker::unknown_length;
 use std::alloc::Allocator;
 
 /// What a segment holds (T.88, 7.3); `Reserved` stands for every number that is not listed there.
@@ -257,10 +261,8 @@ pub fn parse_segment_header<A: Allocator>(
     strict: bool,
 ) -> Result<SegmentHeader<A>>
     requires { IsAligned reader.old }
-    ensures value { Gives (λ h. (header_view h, reader.new.bytes)) result (header_at strict reader.old.bytes) }
-    ensures aligned { IsAligned reader.new }
-    ensures stays { OnErr result (reader.new ≡ reader.old) }
-    ensures shorter { OnOk result (length reader.new.bytes < length reader.old.bytes) }
+    ensures parses { Takes reader.old reader.new result header_view (header_at strict reader.old.bytes) }
+    ensures taken { OnOk result (length reader.new.bytes < length reader.old.bytes) }
 {
     let mut ahead = reader.duplicate();
     let segment_number = u32_field(&mut ahead)?;
@@ -284,83 +286,9 @@ pub fn parse_segment_header<A: Allocator>(
     })
 }
 
-/// How many bytes of adaptive pixels a generic region has, by its flags (T.88, 7.4.6.3).
-fn adaptive_bytes(flags: u8) -> usize
-    ensures { result ≡ adaptive_bytes flags }
-{
-    if flags % 2 == 1 {
-        return 0;
-    }
-    if flags / 2 % 4 != 0 {
-        return 2;
-    }
-    if flags / 16 % 2 == 1 { 24 } else { 8 }
-}
-
-fn is_end_marker(flags: u8, bytes: &[u8]) -> bool
-    ensures value { result ≡ is_end_marker flags bytes.now }
-    ensures room { OnTrue result (6 ≤ length bytes.now) }
-{
-    if bytes.len() < 6 {
-        return false;
-    }
-    if flags % 2 == 1 {
-        return bytes[0] == 0 && bytes[1] == 0;
-    }
-    bytes[0] == 0xFF && bytes[1] == 0xAC
-}
-
-/// The least place of an end marker in `bytes` (T.88, 7.2.7).
-fn end_marker(flags: u8, bytes: &[u8]) -> Option<usize>
-    ensures value { result ≡ least (λ k. is_end_marker flags (drop k bytes.now)) (length bytes.now) }
-    ensures inside { IfSome result (λ k. k + 6 ≤ length bytes.now) }
-{
-    for place in 0..bytes.len() {
-        if is_end_marker(flags, &bytes[place..]) {
-            return Some(place);
-        }
-    }
-    None
-}
-
-fn marker_end(place: Option<usize>, front: usize) -> Result<usize>
-    requires { ForSome place (λ k. front + k + 6 < 2 ^ 64) }
-    ensures { Answers (λ n. n) result (marker_end place front) }
-{
-    match place {
-        Some(place) => Ok(front + place + 6),
-        None => Err(DecodeError::Segment(SegmentError::MissingEndMarker)),
-    }
-}
-
-/// A generic region's flags; the reader then stands behind its adaptive pixels.
-#[tactic(auto, unfolding(crate::specs::Segment::coded_front_at))]
-fn coded_front(reader: &mut Reader<'_>) -> Result<u8>
-    requires { IsAligned reader.old }
-    ensures value { Answers (λ flags. (flags, reader.new.bytes)) result (coded_front_at reader.old.bytes) }
-    ensures length { IfOk result (λ flags. length reader.new.bytes + 18 + adaptive_bytes flags ≡ length reader.old.bytes) }
-{
-    bytes_field(reader, 17)?;
-    let flags = byte_field(reader)?;
-    bytes_field(reader, adaptive_bytes(flags))?;
-    Ok(flags)
-}
-
-/// The length of the data at the front of `bytes` whose header leaves it open (T.88, 7.2.7).
-fn unknown_length(bytes: &[u8]) -> Result<usize>
-    ensures { Answers (λ n. n) result (unknown_length_of bytes.now) }
-{
-    let mut reader = Reader::new(bytes);
-    let flags = coded_front(&mut reader)?;
-    marker_end(end_marker(flags, reader.tail()), 18 + adaptive_bytes(flags))
-}
-
 fn segment_bytes<'a>(reader: &mut Reader<'a>, data_length: Option<u32>) -> Result<&'a [u8]>
     requires { IsAligned reader.old }
-    ensures value { Answers (λ x. (x.now, reader.new.bytes)) result (data_at data_length reader.old.bytes) }
-    ensures aligned { IsAligned reader.new }
-    ensures stays { OnErr result (reader.new ≡ reader.old) }
-    ensures shorter { OnOk result (length reader.new.bytes ≤ length reader.old.bytes) }
+    ensures { Parses reader.old reader.new result (λ x. x.now) (data_at data_length reader.old.bytes) }
 {
     match data_length {
         Some(length) => bytes_field(reader, length as usize),
@@ -381,10 +309,7 @@ pub fn parse_segment_data<'a, A: Allocator>(
     header: SegmentHeader<A>,
 ) -> Result<Segment<'a, A>>
     requires { IsAligned reader.old }
-    ensures value { Answers (λ s. (part_view s, reader.new.bytes)) result (segment_data_at (header_view header) reader.old.bytes) }
-    ensures aligned { IsAligned reader.new }
-    ensures stays { OnErr result (reader.new ≡ reader.old) }
-    ensures shorter { OnOk result (length reader.new.bytes ≤ length reader.old.bytes) }
+    ensures { Parses reader.old reader.new result part_view (segment_data_at (header_view header) reader.old.bytes) }
 {
     let bytes = segment_bytes(reader, header.data_length)?;
     Ok(Segment { header, bytes })
@@ -399,10 +324,8 @@ pub fn parse_segment<'a, A: Allocator>(
     strict: bool,
 ) -> Result<Segment<'a, A>>
     requires { IsAligned reader.old }
-    ensures value { Gives (λ s. (part_view s, reader.new.bytes)) result (segment_at strict reader.old.bytes) }
-    ensures aligned { IsAligned reader.new }
-    ensures stays { OnErr result (reader.new ≡ reader.old) }
-    ensures shorter { OnOk result (length reader.new.bytes < length reader.old.bytes) }
+    ensures parses { Takes reader.old reader.new result part_view (segment_at strict reader.old.bytes) }
+    ensures taken { OnOk result (length reader.new.bytes < length reader.old.bytes) }
 {
     let mut ahead = reader.duplicate();
     let header = parse_segment_header(alloc, &mut ahead, strict)?;

@@ -1,6 +1,7 @@
 -- The lines that a custom table's bits spell (T.88, B.2). Each step reads on from a place.
 use Rattle.std.specs.Prelude.{ℕ, zero, suc, ◌+◌, ◌/◌, ◌%◌, ◌^◌, ◌<◌, ◌≤◌, nat_lt, ◌==◌, List, [], ◌∷◌, ◌++◌, length, Option, Some, None, Result, Ok, Err, if◌then◌else◌, ℤ, pos, ◌+ℤ◌, ◌-ℤ◌, int_lt}
 use Rattle.std.specs.Int.{w32, cast_signed}
+use Rattle.jbig2_base.specs.Answer.{some_or}
 use Rattle.jbig2_base.specs.Bits.{Place, bits_left, bits_next, bits_on}
 use Rattle.jbig2_base.specs.declared.error.DecodeError.{DecodeError}
 use Rattle.jbig2_base.specs.declared.error.DecodeError.TheVariants.{Parse, Huffman}
@@ -27,10 +28,6 @@ s >>- next = go_on s.answer s.place next
 
 abbrev pub done : {A : Type 0} → A → Place → Step A
 done x p = record { answer = Ok x; place = p }
-
-abbrev pub some_or : DecodeError → Option ℕ → Result ℕ DecodeError
-some_or e None = Err e
-some_or e (Some n) = Ok n
 
 -- the next count bits as a number, or the error
 abbrev pub field : DecodeError → ℕ → Place → Step ℕ

@@ -5,7 +5,6 @@ use Rattle.std.proofs.lemmas.Int.{ints, to_z-of_z}
 use Rattle.std.proofs.Math.Nat.{mul-le-mul_left}
 use Rattle.std.specs.Int.{int_shr, w32, w64}
 use mir.Val.{SFits, of_z, to_z}
-use Rattle.jbig2_mmr.specs.T6.{least}
 use Rattle.std.specs.List.{range_with_len}
 use Rattle.std.proofs.lemmas.List.FromFn.{get_or-map-range_with_len, length-map-range_with_len, map-range_with_len_more}
 use Rattle.std.proofs.lemmas.List.{drop_all}
@@ -18,7 +17,7 @@ use Rattle.jbig2_base.specs.inner.Writes.{with_pixel}
 use Rattle.jbig2_base.proofs.GridLemmas.{grid_of-ext}
 use Rattle.jbig2_region.specs.Raster.{so_far}
 use Rattle.jbig2_region.proofs.RasterLemmas.{so_far-push, blank-so_far}
-use Rattle.jbig2_halftone.specs.Halftone.{code_length, column_of, row_of, lies_outside, skip_grid, pattern_for, with_cell, cells_drawn}
+use Rattle.jbig2_halftone.specs.Halftone.{column_of, row_of, lies_outside, skip_grid, pattern_for, with_cell, cells_drawn}
 use Rattle.jbig2_halftone.specs.HalftoneHeader.{HalftoneHeader}
 use Rattle.jbig2_halftone.specs.Patterns.{Patterns}
 
@@ -61,30 +60,6 @@ difference-known o r s t m n v u fits rows columns first second is_r is_s is_t =
 -- which fits 32 bits in whole pixels
 pub difference-fits : (o : ℤ) (m n v u : ℕ) → SFits w32 o → m < 65536 → n < 65536 → v < 65536 → u < 65536 → SFits w32 (int_shr (o +ℤ pos (m * v) -ℤ pos (n * u)) 8)
 difference-fits o m n v u fits rows columns first second = place-fits (o +ℤ pos (m * v) -ℤ pos (n * u)) o (m * v) (n * u) fits (product-small m v rows first) (product-small n u columns second) refl
-
--- the least place where a test holds
-least-is : (p : ℕ → Bool) (n to k : ℕ) → n ≤ to → to - n ≤ k → k ≤ to → (k < to → p k ≡ true) → ((j : ℕ) → to - n ≤ j → j < k → p j ≡ false) → least p n to ≡ k
-unfolding least
-least-is p zero to k inside from up here before = omega arith
-least-is p (suc n) to k inside from up here before =
-    ⊎_elim
-    (λ (same : to - suc n ≡ k). rw (same, here (omega arith)))
-    (λ (other : to - suc n ≡ k → ⊥).
-    let first : p (to - suc n) ≡ false = before (to - suc n) (omega arith) (omega arith) in
-    rw first (least-is p n to k (omega arith) (omega arith) up here (λ j above below. before j (omega arith) below)))
-    (cases_eq (to - suc n) k)
-
-below-pow : (n : ℕ) → n < 2 ^ n
-below-pow zero = omega arith
-below-pow (suc n) = rw pow-suc (omega (arith, below-pow n))
-
-few : (n k : ℕ) → ((j : ℕ) → j < k → 2 ^ j < n) → k ≤ n
-few n zero below = omega arith
-few n (suc k) below = omega (arith, below k (omega arith), below-pow k)
-
-pub code-length-is : (n k : ℕ) → n ≤ 2 ^ k → ((j : ℕ) → j < k → 2 ^ j < n) → k ≡ code_length n
-code-length-is n k enough below =
-    sym (least-is (λ b. leb n (2 ^ b)) (n - 0) n k (omega arith) (omega arith) (few n k below) (λ _. le-leb n (2 ^ k) enough) (λ j above under. lt-leb n (2 ^ j) (below j under)))
 
 -- ---- the cells that are skipped
 -- of the first k cells, row by row, whether each is skipped

@@ -10,7 +10,7 @@ use Rattle.jbig2_base.specs.declared.error.OverflowError.TheVariants.{BitmapDime
 use Rattle.jbig2_base.specs.declared.error.RegionError.TheVariants.{GrayScaleOutOfRange}
 use Rattle.jbig2_coder.specs.Coder.{Context}
 use Rattle.jbig2_region.specs.Generic.{PlacedRegion}
-use Rattle.jbig2_mmr.specs.T6.{place_from}
+use Rattle.jbig2_base.specs.Search.{code_length}
 use Rattle.jbig2_halftone.specs.GrayScale.{GrayScale, gray_scale_image, gray_contexts}
 use Rattle.jbig2_halftone.specs.HalftoneHeader.{HalftoneHeader}
 use Rattle.jbig2_halftone.specs.Patterns.{Patterns}
@@ -41,10 +41,6 @@ abbrev pub skip_mask : HalftoneHeader → Patterns → Option Grid
 skip_mask h d = if h.flags.enable_skip && not h.flags.mmr then Some (skip_grid h d) else None
 
 -- ---- the gray values
--- the least b for which n is at most 2 to the power of b (HBPP; 6.6.5, step 3)
-abbrev pub code_length : ℕ → ℕ
-code_length n = place_from (λ b. nat_le n (2 ^ b)) 0 n
-
 -- a value for each cell, row by row, with as many bits as the number of the last pattern has (Table 23)
 abbrev pub gray_params : HalftoneHeader → Patterns → GrayScale
 gray_params h d = record {

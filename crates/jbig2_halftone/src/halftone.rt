@@ -5,7 +5,7 @@ ghost use Rattle.jbig2_base.specs.Answer.{Answers, Gives, Leaves};
 ghost use Rattle.jbig2_base.specs.Grid.{blank};
 ghost use Rattle.jbig2_region.specs.Generic.{region_view};
 ghost use Rattle.jbig2_halftone.specs.GrayScale.{gray_scale_image};
-ghost use Rattle.jbig2_halftone.specs.Halftone.{gray_params, column_of, row_of, is_apart, lies_outside, skip_grid, skip_mask, code_length, pattern_for, cells_drawn, halftone_answer, halftone_contexts, halftone_decoded, decoded_contexts};
+ghost use Rattle.jbig2_halftone.specs.Halftone.{gray_params, column_of, row_of, is_apart, lies_outside, skip_grid, skip_mask, pattern_for, cells_drawn, halftone_answer, halftone_contexts, halftone_decoded, decoded_contexts};
 ghost use Rattle.jbig2_halftone.specs.HalftoneHeader.{header_view};
 ghost use Rattle.jbig2_halftone.specs.Patterns.{dictionary_view};
 
@@ -17,6 +17,7 @@ pub use header::{HalftoneRegionHeader, parse};
 use jbig2_base::bitmap::Bitmap;
 use jbig2_base::bitmap::steps::Steps;
 use jbig2_base::error::{DecodeError, RegionError, Result};
+use jbig2_base::search::code_length;
 use jbig2_coder::arithmetic_decoder::ArithmeticDecoderContext;
 use jbig2_region::generic::DecodedRegion;
 use std::alloc::Allocator;
@@ -72,19 +73,6 @@ fn lies_outside<A: Allocator>(
     let (x, y) = cell_place(header, m, n);
     is_apart(x, dictionary.pattern_width, region.width)
         || is_apart(y, dictionary.pattern_height, region.height)
-}
-
-/// How many bits the values of so many patterns have (T.88, 6.6.5, step 3).
-fn code_length(patterns: usize) -> u32
-    requires { patterns ≤ 65535 }
-    ensures value { result ≡ code_length patterns }
-    ensures small { result ≤ 16 }
-{
-    let mut bits = 0;
-    while 1 << bits < patterns {
-        bits += 1;
-    }
-    bits
 }
 
 /// The cells that are skipped: the pixel in column `n` of row `m` is black where cell (`m`, `n`)

@@ -8,8 +8,10 @@ use Rattle.std.proofs.lemmas.Bool.{true≢false, cases_eq, cases_lt, cond-true, 
 use Rattle.jbig2_base.specs.Grid.{Grid, pixel_at, bit_number}
 use Rattle.jbig2_base.specs.inner.Table.{IsTable}
 use Rattle.jbig2_base.proofs.GridLemmas.{pixel_at-below}
+use Rattle.jbig2_base.proofs.SearchLemmas.{place-is, place-past}
 use Rattle.jbig2_mmr.specs.declared.mmr.row.Turn.{Turn}
-use Rattle.jbig2_mmr.specs.T6.{differ, least, place_from, left_of, is_change, is_change_from, Head, Step, b1_of, b2_of, run, after_pass, after_runs, after_vertical, after_mode, next_step, read_code, row_from, row_start, black_at, ◌and_then◌}
+use Rattle.jbig2_base.specs.Search.{least, place_from}
+use Rattle.jbig2_mmr.specs.T6.{differ, left_of, is_change, is_change_from, Head, Step, b1_of, b2_of, run, after_pass, after_runs, after_vertical, after_mode, next_step, read_code, row_from, row_start, black_at, ◌and_then◌}
 use Rattle.jbig2_mmr.specs.T6Codes.{modes}
 use Rattle.jbig2_mmr.specs.inner.T6Reading.{row_above, row_of, IsFirst, IsSpan, IsTurn}
 use Rattle.jbig2_mmr.specs.inner.T6Calls.{head_of, ReadStep, ReadRow}
@@ -47,27 +49,6 @@ change-one c x =
 
 pub change-two : (c d x : ℕ) → black_at (c ∷ d ∷ []) x ≡ differ (leb c x) (leb d x)
 change-two c d x = changes-both (c ∷ []) (d ∷ []) x ∙ ap (λ (t : Bool). differ t (black_at (d ∷ []) x)) (change-one c x) ∙ ap (λ (t : Bool). differ (leb c x) t) (change-one d x)
-
--- ---- least places
-least-is : (n : ℕ) (p : ℕ → Bool) (to place : ℕ) → n ≤ to → to - n ≤ place → place ≤ to → ((i : ℕ) → to - n ≤ i → i < place → p i ≡ false) → (place < to → p place ≡ true) → least p n to ≡ place
-unfolding least
-least-is zero p to place fits after within before found = omega arith
-least-is (suc n) p to place fits after within before found =
-    ⊎_elim
-    (λ (here : to - suc n ≡ place). cond-true (p (to - suc n)) (to - suc n) (least p n to) (ap p here ∙ found (omega arith)) ∙ here)
-    (λ (o : to - suc n ≡ place → ⊥).
-    cond-false (p (to - suc n)) (to - suc n) (least p n to) (before (to - suc n) (omega arith) (omega (arith, o)))
-    ∙ least-is n p to place (omega arith) (omega (arith, o)) within (λ i a b. before i (omega arith) b) found)
-    (cases_eq (to - suc n) place)
-
-pub place-is : (p : ℕ → Bool) (from to place : ℕ) → from ≤ to → from ≤ place → place ≤ to → ((i : ℕ) → from ≤ i → i < place → p i ≡ false) → (place < to → p place ≡ true) → place_from p from to ≡ place
-place-is p from to place order after within before found =
-    let at : to - (to - from) ≡ from = omega arith in
-    least-is (to - from) p to place (omega arith) (omega arith) within (λ i a b. before i (omega arith) b) found
-
-pub place-past : (p : ℕ → Bool) (from to : ℕ) → to ≤ from → place_from p from to ≡ to
-unfolding least
-place-past p from to past = let none : to - from ≡ 0 = omega arith in ap (λ (n : ℕ). least p n to) none
 
 -- ---- changing elements
 left-here : (row : ℕ → Bool) (x : ℕ) → 1 ≤ x → left_of row x ≡ row (x - 1)

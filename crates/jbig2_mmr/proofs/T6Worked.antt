@@ -4,7 +4,8 @@ use Rattle.jbig2_base.specs.Grid.{table}
 use Rattle.jbig2_base.specs.declared.error.DecodeError.TheVariants.{Region}
 use Rattle.jbig2_base.specs.declared.error.RegionError.TheVariants.{InvalidMmrData}
 use Rattle.jbig2_mmr.specs.T6Codes.{modes, longer_runs, white_runs, black_runs}
-use Rattle.jbig2_mmr.specs.T6.{read_code, is_prefix_free, run_from, least, is_change, is_change_from, b1_of, b2_of, after_pass, after_runs, after_vertical, next_step, row_from, black_at, ends_block, rows_from, rows_of, decoded}
+use Rattle.jbig2_base.specs.Search.{least}
+use Rattle.jbig2_mmr.specs.T6.{read_code, is_prefix_free, run_from, is_change, is_change_from, b1_of, b2_of, after_pass, after_runs, after_vertical, next_step, row_from, black_at, ends_block, rows_from, rows_of, decoded}
 
 white_row-strict : decoded true 8 1 (0x80 ∷ []) ≡ Ok (record { grid = record { width = 8; height = 1; pixels = false ∷ false ∷ false ∷ false ∷ false ∷ false ∷ false ∷ false ∷ [] }; used = 1 })
 unfolding decoded rows_of rows_from ends_block black_at row_from next_step after_vertical after_runs after_pass b2_of b1_of is_change_from is_change least run_from read_code modes white_runs black_runs longer_runs table

@@ -3,6 +3,7 @@ use Rattle.std.specs.Prelude.{ℕ, zero, suc, ◌+◌, ◌-◌, ◌/◌, ◌%◌
 use Rattle.std.specs.List.{flat_map}
 use Rattle.jbig2_base.specs.Bits.{byte_bits, number_after}
 use Rattle.jbig2_base.specs.Grid.{Grid, grid_of}
+use Rattle.jbig2_base.specs.Search.{place_from}
 use Rattle.jbig2_base.specs.declared.error.DecodeError.{DecodeError}
 use Rattle.jbig2_base.specs.declared.error.DecodeError.TheVariants.{Region}
 use Rattle.jbig2_base.specs.declared.error.RegionError.TheVariants.{InvalidMmrData}
@@ -56,14 +57,6 @@ abbrev pub run : Bool → ℕ → List ℕ → Option (ℕ × List ℕ)
 run black room bits = run_from (length bits) black room 0 bits
 
 -- ---- the changing elements of the reference row
--- the least place from `from` on and below `to` where the test holds, else `to`
-unfoldable pub least : (ℕ → Bool) → ℕ → ℕ → ℕ
-least p zero to = to
-least p (suc n) to = if p (to - suc n) then to - suc n else least p n to
-
-abbrev pub place_from : (ℕ → Bool) → ℕ → ℕ → ℕ
-place_from p from to = least p (to - from) to
-
 -- the pixel left of x: white left of pixel 0
 abbrev pub left_of : (ℕ → Bool) → ℕ → Bool
 left_of row zero = false

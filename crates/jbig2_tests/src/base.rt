@@ -162,12 +162,4 @@ fn each_step<L: Ledger>(blank: Blank)
 fn steps_operators_and_errors(rt: HostRuntime) {
     each_step::<Brand>(Blank::new(6));
     assert!(rt; CombinationOperator::from_value(3) == Ok(CombinationOperator::Xnor));
-    assert!(rt; ParseError::UnexpectedEof.duplicate() == ParseError::UnexpectedEof);
-    assert!(rt; FormatError::EmptyPage.duplicate() == FormatError::EmptyPage);
-    assert!(rt; SegmentError::UnknownType.duplicate() == SegmentError::UnknownType);
-    assert!(rt; HuffmanError::InvalidCode.duplicate() == HuffmanError::InvalidCode);
-    assert!(rt; RegionError::InvalidMmrData.duplicate() == RegionError::InvalidMmrData);
-    assert!(rt; TemplateError::Invalid.duplicate() == TemplateError::Invalid);
-    assert!(rt; SymbolError::NoSymbols.duplicate() == SymbolError::NoSymbols);
-    assert!(rt; OverflowError::Index.duplicate() == OverflowError::Index);
 }

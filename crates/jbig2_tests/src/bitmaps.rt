@@ -69,7 +69,7 @@ fn copied<L: Ledger, A: Allocator + Clone>(alloc: A, blank: Blank) -> Result<(u3
     let mut steps: Steps<L> = Steps::new(blank);
     let mut bitmap = Bitmap::new(alloc.clone()?, 72, 2)?;
     bitmap.set_pixel(71, 1, true, &mut steps);
-    let copy = bitmap.duplicate(alloc)?;
+    let copy = bitmap.duplicate(alloc, &mut steps)?;
     bitmap.set_pixel(71, 1, false, &mut steps);
     Ok((
         copy.width(),

@@ -1,4 +1,3 @@
-pub mod CodeLength
 pub mod InstanceLemmas
 pub mod RefiningLemmas
 pub mod SymbolLemmas

@@ -15,7 +15,7 @@ use Rattle.jbig2_region.specs.Raster.{so_far, with_next, after_pixel, after_pixe
 use Rattle.jbig2_region.specs.Refinement.{refined_context}
 use Rattle.jbig2_region.specs.RefinementHeader.{refinement_pixels_at}
 use Rattle.jbig2_region.specs.RegionInfo.{region_info_at}
-use Rattle.jbig2_mmr.specs.T6.{least}
+use Rattle.jbig2_base.specs.Search.{least}
 use Rattle.jbig2_text.specs.Text.{strip_delta, strip_begun, moved, instance_symbol, refined_symbol, placed, with_instance, after_instances, text_instances, text_region}
 use Rattle.jbig2_text.specs.TextCoding.{refined_by}
 use Rattle.jbig2_text.specs.TextHeader.{text_flags_at, text_header_at}

@@ -13,7 +13,7 @@ use Rattle.jbig2_coder.specs.Tables.{lines_a, lines_f, lines_g, lines_h, lines_i
 use Rattle.jbig2_region.specs.Generic.{PlacedRegion}
 use Rattle.jbig2_region.specs.Raster.{fresh_contexts}
 use Rattle.jbig2_region.specs.Refinement.{refinement_bits}
-use Rattle.jbig2_mmr.specs.T6.{place_from}
+use Rattle.jbig2_base.specs.Search.{code_length}
 use Rattle.jbig2_text.specs.Text.{TextParams, text_region}
 use Rattle.jbig2_text.specs.TextCoding.{Coded, Refining, TextTables, by_coder, by_prefix_codes}
 use Rattle.jbig2_text.specs.TextHeader.{TextHeader}
@@ -83,10 +83,6 @@ text_tables flags customs = do
       )
 
 -- ---- the region
--- the least number of bits that tells so many symbols apart (SBSYMCODELEN)
-abbrev pub code_length : ℕ → ℕ
-code_length count = place_from (λ b. nat_le count (2 ^ b)) 0 count
-
 abbrev pub text_params : TextHeader → List Grid → TextParams
 text_params h symbols = record { flags = h.flags; symbols = symbols; count = h.instances; data_length = h.data_length; strict = h.strict }
 

@@ -4,7 +4,7 @@ ghost use Rattle.jbig2_base.specs.Answer.{Gives};
 ghost use Rattle.jbig2_base.specs.Grid.{blank};
 ghost use Rattle.jbig2_region.specs.Generic.{region_view};
 ghost use Rattle.jbig2_text.specs.TextHeader.{header_view};
-ghost use Rattle.jbig2_text.specs.TextRegion.{code_length, coded_region, prefixed_region, refining_of, text_params, text_answer, text_decoded};
+ghost use Rattle.jbig2_text.specs.TextRegion.{coded_region, prefixed_region, refining_of, text_params, text_answer, text_decoded};
 ghost use Rattle.jbig2_text.specs.inner.TextViews.{customs_view, params_view, symbols_view};
 
 pub(crate) mod coded;
@@ -33,23 +33,11 @@ use jbig2_base::bitmap::Bitmap;
 use jbig2_base::bitmap::steps::Steps;
 use jbig2_base::error::Result;
 use jbig2_base::reader::Reader;
+use jbig2_base::search::code_length;
 use jbig2_coder::huffman_table::{HuffmanTable, StandardHuffmanTables};
 use jbig2_region::generic::DecodedRegion;
 use std::alloc::Allocator;
 use std::sync::ledger::Ledger;
-
-/// The least number of bits that tells so many symbols, at most 2^21, apart.
-pub(crate) fn code_length(count: usize) -> u32
-    requires { count ≤ 2 ^ 21 }
-    ensures value { result ≡ code_length count }
-    ensures small { result ≤ 21 }
-{
-    let mut bits = 0;
-    while 1 << bits < count {
-        bits += 1;
-    }
-    bits
-}
 
 /// What the instances of a region are read and placed by.
 fn params_of<'a, H: Allocator, B: Allocator>(

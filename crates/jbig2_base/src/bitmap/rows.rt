@@ -1,6 +1,8 @@
 //! Rows of pixels packed into words. Only this module knows the size of a word.
 ghost use Rattle.std.specs.Prelude.{◌≡◌, ℕ, ◌+◌, ◌-◌, ◌*◌, ◌/◌, ◌^◌, ◌<◌, ◌≤◌, OnErr, Ok, true, false, length, slice_index};
 ghost use Rattle.jbig2_base.specs.Answer.{Gives};
+ghost use Rattle.jbig2_base.specs.Counts.{words_copied};
+ghost use Rattle.jbig2_base.specs.Sizes.{words_of};
 ghost use Rattle.jbig2_base.specs.Grid.{blank, pixel_at, bit_number};
 ghost use Rattle.jbig2_base.specs.inner.Packed.{blank_word};
 ghost use Rattle.jbig2_base.specs.inner.Table.{IsTable};
@@ -66,10 +68,16 @@ impl<A: Allocator> PackedRows<A> {
         Ok(())
     }
 
-    /// The same rows in memory of their own.
-    pub fn duplicate<B: Allocator>(&self, alloc: B) -> Result<PackedRows<B>>
-        ensures { Gives (λ r. r) result (Ok self.now) }
+    /// The same rows in memory of their own. Each word counts as loaded and written.
+    pub fn duplicate<B: Allocator, L: Ledger>(
+        &self,
+        alloc: B,
+        steps: &mut Steps<L>,
+    ) -> Result<PackedRows<B>>
+        ensures value { Gives (λ r. r) result (Ok self.now) }
+        ensures steps { steps.new ≡ words_copied (words_of self.now) steps.old }
     {
+        steps.copy(self.words.len() as u64);
         let mut words = Vec::new(alloc);
         words.extend_from_slice(&self.words)?;
         Ok(PackedRows {

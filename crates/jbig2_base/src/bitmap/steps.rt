@@ -35,7 +35,7 @@ impl<L: Ledger> Model for Steps<L> {
 
 impl<L: Ledger> Steps<L> {
     ghost use Rattle.std.specs.Prelude.{◌≡◌, ◌+◌};
-    ghost use Rattle.jbig2_base.specs.Counts.{Counts, no_steps};
+    ghost use Rattle.jbig2_base.specs.Counts.{Counts, no_steps, words_copied};
 
     /// A counter that stands at nothing, for the ledger that `blank` opens.
     pub fn new(blank: Blank) -> Steps<L>
@@ -73,6 +73,14 @@ impl<L: Ledger> Steps<L> {
         ensures { self.new ≡ record self.old { words = self.old.words + 1 } }
     {
         self.book.add(&mut self.words, 1);
+    }
+
+    /// So many words loaded and written.
+    pub fn copy(&mut self, words: u64)
+        ensures { self.new ≡ words_copied words self.old }
+    {
+        self.book.add(&mut self.loads, words);
+        self.book.add(&mut self.words, words);
     }
 
     /// One decision of the arithmetic coder.

@@ -2,11 +2,12 @@
 ghost use Rattle.std.specs.Prelude.{◌≡◌, ◌+◌, ◌≤◌, ◌<◌, ◌^◌, drop, length, OnOk, IfOk};
 ghost use Rattle.jbig2_base.specs.Answer.{Gives, Leaves};
 ghost use Rattle.jbig2_base.specs.Bits.{bits_left, bits_on};
-ghost use Rattle.jbig2_coder.specs.CustomTable.{field, next_low, custom_header, custom_line, range_lines, end_lines, behind, custom_lines, HasWidths};
+ghost use Rattle.jbig2_coder.specs.CustomTable.{next_low, custom_header, custom_line, range_lines, end_lines, behind, custom_lines, HasWidths};
 ghost use Rattle.jbig2_coder.specs.PrefixCode.{AreShort};
 
 use super::line::TableLine;
 use jbig2_base::error::{DecodeError, HuffmanError, ParseError, Result};
+use jbig2_base::field::bits_field;
 use jbig2_base::reader::Reader;
 use std::alloc::Allocator;
 
@@ -25,30 +26,15 @@ pub(super) struct Header {
     pub(super) maximum: i32,
 }
 
-/// The next `count` bits as a number, or the error.
-fn read_field(reader: &mut Reader<'_>, count: u8, error: DecodeError) -> Result<u32>
-    requires { count ≤ 32 }
-    ensures value { result ≡ (field error count reader.old).answer }
-    ensures place { reader.new ≡ bits_on count reader.old }
-    ensures rest { bits_left reader.new ≡ drop count (bits_left reader.old) }
-    ensures small { IfOk result (λ n. n < 2 ^ count) }
-    ensures enough { OnOk result (count ≤ length (bits_left reader.old)) }
-{
-    match reader.read_bits(count) {
-        Some(number) => Ok(number),
-        None => Err(error),
-    }
-}
-
 /// Reads the fields before the lines.
 fn read_header(reader: &mut Reader<'_>) -> Result<Header>
     ensures value { result ≡ (custom_header reader.old).answer }
     ensures place { reader.new ≡ (custom_header reader.old).place }
     ensures widths { IfOk result HasWidths }
 {
-    let flags = read_field(reader, 8, DecodeError::Parse(ParseError::UnexpectedEof))?;
-    let minimum = read_field(reader, 32, DecodeError::Parse(ParseError::UnexpectedEof))?;
-    let maximum = read_field(reader, 32, DecodeError::Parse(ParseError::UnexpectedEof))?;
+    let flags = bits_field(reader, 8, DecodeError::Parse(ParseError::UnexpectedEof))?;
+    let minimum = bits_field(reader, 32, DecodeError::Parse(ParseError::UnexpectedEof))?;
+    let maximum = bits_field(reader, 32, DecodeError::Parse(ParseError::UnexpectedEof))?;
     Ok(Header {
         has_out_of_band: flags % 2 == 1,
         prefix_bits: (flags / 2 % 8) as u8 + 1,
@@ -66,12 +52,12 @@ fn read_range_line(reader: &mut Reader<'_>, header: &Header, low: i32) -> Result
     ensures shorter { OnOk result (length (bits_left reader.new) < length (bits_left reader.old)) }
     ensures short { IfOk result (λ x. x.0.range_length ≤ 32) }
 {
-    let prefix_length = read_field(
+    let prefix_length = bits_field(
         reader,
         header.prefix_bits,
         DecodeError::Huffman(HuffmanError::InvalidCode),
     )?;
-    let range_length = read_field(
+    let range_length = bits_field(
         reader,
         header.range_bits,
         DecodeError::Huffman(HuffmanError::InvalidCode),
@@ -129,12 +115,12 @@ fn push_end_lines<A: Allocator>(
     ensures place { Leaves result reader.new (end_lines header.now reader.old).place }
     ensures short { OnOk result (AreShort lines.new.items) }
 {
-    let lower = read_field(
+    let lower = bits_field(
         reader,
         header.prefix_bits,
         DecodeError::Huffman(HuffmanError::InvalidCode),
     )?;
-    let upper = read_field(
+    let upper = bits_field(
         reader,
         header.prefix_bits,
         DecodeError::Huffman(HuffmanError::InvalidCode),
@@ -142,7 +128,7 @@ fn push_end_lines<A: Allocator>(
     lines.push(TableLine::lower(header.minimum, lower as u8))?;
     lines.push(TableLine::new(header.maximum, upper as u8, 32))?;
     if header.has_out_of_band {
-        let out_of_band = read_field(
+        let out_of_band = bits_field(
             reader,
             header.prefix_bits,
             DecodeError::Huffman(HuffmanError::InvalidCode),

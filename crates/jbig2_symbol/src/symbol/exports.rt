@@ -76,45 +76,54 @@ pub fn read_runs<A: Allocator, B: Allocator, S: Allocator, T: Allocator, L: Ledg
 }
 
 /// A copy of a symbol, by its number among those that are referred to and the new ones behind them.
-fn duplicate_symbol<A: Allocator, S: Allocator>(
+fn duplicate_symbol<A: Allocator, S: Allocator, L: Ledger>(
     alloc: A,
     symbols: &[&Bitmap<S>],
     new: &[Bitmap<A>],
     index: usize,
+    steps: &mut Steps<L>,
 ) -> Result<Bitmap<A>>
     requires { index < length symbols.now + length new.now }
     ensures { Gives (λ symbol. symbol) result (Ok (slice_index_or (all_symbols symbols.now new.now) index (blank 0 0 false))) }
 {
     if index < symbols.len() {
-        return symbols[index].duplicate(alloc);
+        return symbols[index].duplicate(alloc, steps);
     }
-    new[index - symbols.len()].duplicate(alloc)
+    new[index - symbols.len()].duplicate(alloc, steps)
 }
 
 /// Puts copies of `count` symbols from number `first` on behind those that are exported so far.
-fn push_symbols<A: Allocator + Clone, S: Allocator>(
+fn push_symbols<A: Allocator + Clone, S: Allocator, L: Ledger>(
     alloc: A,
     symbols: &[&Bitmap<S>],
     new: &[Bitmap<A>],
     first: usize,
     count: usize,
     exported: &mut Vec<Bitmap<A>, A>,
+    steps: &mut Steps<L>,
 ) -> Result<()>
     requires { first + count ≤ length symbols.now + length new.now }
     ensures { Gives (λ _. exported.new.items) result (Ok (exported.old.items ++ take count (drop first (all_symbols symbols.now new.now)))) }
 {
     for k in 0..count {
-        exported.push(duplicate_symbol(alloc.clone()?, symbols, new, first + k)?)?;
+        exported.push(duplicate_symbol(
+            alloc.clone()?,
+            symbols,
+            new,
+            first + k,
+            steps,
+        )?)?;
     }
     Ok(())
 }
 
 /// The symbols that the runs export, of those that are referred to and the new ones behind them.
-pub fn export_symbols<A: Allocator + Clone, S: Allocator>(
+pub fn export_symbols<A: Allocator + Clone, S: Allocator, L: Ledger>(
     alloc: A,
     runs: &[u32],
     symbols: &[&Bitmap<S>],
     new: &[Bitmap<A>],
+    steps: &mut Steps<L>,
 ) -> Result<Vec<Bitmap<A>, A>>
     requires { sum runs.now ≡ length symbols.now + length new.now }
     ensures { Gives (λ symbols. symbols.items) result (Ok (exported runs.now (all_symbols symbols.now new.now))) }
@@ -124,7 +133,15 @@ pub fn export_symbols<A: Allocator + Clone, S: Allocator>(
     for (k, run) in runs.iter().enumerate() {
         let count = *run as usize;
         if k % 2 == 1 {
-            match push_symbols(alloc.clone()?, symbols, new, first, count, &mut exported) {
+            match push_symbols(
+                alloc.clone()?,
+                symbols,
+                new,
+                first,
+                count,
+                &mut exported,
+                steps,
+            ) {
                 Ok(()) => {}
                 Err(error) => return Err(error),
             }
@@ -152,7 +169,7 @@ pub fn read_exports<A: Allocator + Clone, S: Allocator, T: Allocator, L: Ledger>
 {
     let count = input.symbols.len() as u64 + new.len() as u64;
     let runs = read_runs(alloc.clone()?, input, count, reader, steps)?;
-    let exported = export_symbols(alloc, &runs, input.symbols, new)?;
+    let exported = export_symbols(alloc, &runs, input.symbols, new, steps)?;
     if exported.len() != input.header.num_exported_symbols as usize {
         return Err(DecodeError::Symbol(SymbolError::NoSymbols));
     }

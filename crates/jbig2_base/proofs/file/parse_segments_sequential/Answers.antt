@@ -25,8 +25,8 @@ loop-reader-init g c =
 pub returns-then-last : goal.returns-then-last
 returns-then-last g c =
     let front = parts c.loop-reader.segments.items in
-    let some : 0 < length c.loop-reader.reader.bytes = omega (arith, c.in-Ok.ensures.shorter) in
-    last front c.args.strict c.loop-reader.reader.bytes c.parse_segment.new.reader.bytes (sequential c.args.strict c.args.bytes.now) (part_view c.in-Ok.segment) c.loop-reader.invariant.reads c.in-Ok.ensures.value some (sym c.if-last.ensures)
+    let some : 0 < length c.loop-reader.reader.bytes = omega (arith, c.in-Ok.ensures.taken) in
+    last front c.args.strict c.loop-reader.reader.bytes c.parse_segment.new.reader.bytes (sequential c.args.strict c.args.bytes.now) (part_view c.in-Ok.segment) c.loop-reader.invariant.reads c.in-Ok.ensures.parses.value some (sym c.if-last.ensures)
     ∙ ap (λ (ps : List Part). Ok ps) (sym (ap (λ (ss : List (Segment g.row.A.Denot)). parts ss) c.in_ok-push-in-Ok.ensures.items ∙ map_push (λ (s : Segment g.row.A.Denot). part_view s) c.loop-reader.segments.items c.in-Ok.segment))
 
 pub loop-reader-preserved : goal.loop-reader-preserved
@@ -35,10 +35,10 @@ loop-reader-preserved g c =
     let meant = sequential c.args.strict c.args.bytes.now in
     let p = part_view c.in-Ok.segment in
     record {
-      aligned = c.in-Ok.ensures.aligned;
+      aligned = c.in-Ok.ensures.parses.aligned;
       reads = Reads-as (front ++ p ∷ []) (parts c.push.new.self.items) c.args.strict c.parse_segment.new.reader.bytes meant
           (sym (ap (λ (ss : List (Segment g.row.A.Denot)). parts ss) c.in_ok-push-in-Ok.ensures.items ∙ map_push (λ (s : Segment g.row.A.Denot). part_view s) c.loop-reader.segments.items c.in-Ok.segment))
-          (next front c.args.strict c.loop-reader.reader.bytes c.parse_segment.new.reader.bytes meant p c.loop-reader.invariant.reads c.in-Ok.ensures.value c.in-Ok.ensures.shorter (sym c.if-last.ensures));
+          (next front c.args.strict c.loop-reader.reader.bytes c.parse_segment.new.reader.bytes meant p c.loop-reader.invariant.reads c.in-Ok.ensures.parses.value c.in-Ok.ensures.taken (sym c.if-last.ensures));
     }
 
 -- an error that cuts off is no want of memory
@@ -54,14 +54,14 @@ pub returns-then-is_cut_off : goal.returns-then-is_cut_off
 returns-then-is_cut_off g c =
     let some : 0 < length c.loop-reader.reader.bytes = omega (arith, eqb-false (length c.loop-reader.reader.bytes) 0 (sym c.loop-reader-test.ensures)) in
     drops (parts c.loop-reader.segments.items) c.args.strict c.loop-reader.reader.bytes (sequential c.args.strict c.args.bytes.now) c.in-Err.error c.loop-reader.invariant.reads
-    (given c.args.strict c.in-Err.error (segment_at c.args.strict c.loop-reader.reader.bytes) c.in-Err.ensures.value (sym c.if-is_cut_off.ensures)) some (sym c.if-is_cut_off.ensures)
+    (given c.args.strict c.in-Err.error (segment_at c.args.strict c.loop-reader.reader.bytes) c.in-Err.ensures.parses.value (sym c.if-is_cut_off.ensures)) some (sym c.if-is_cut_off.ensures)
 
 pub returns-in-Err : goal.returns-in-Err
 returns-in-Err g c =
     let some : 0 < length c.loop-reader.reader.bytes = omega (arith, eqb-false (length c.loop-reader.reader.bytes) 0 (sym c.loop-reader-test.ensures)) in
     ⊎_elim (λ (e : c.in-Err.error ≡ OutOfMemory). inl e)
     (λ (e : segment_at c.args.strict c.loop-reader.reader.bytes ≡ Err c.in-Err.error). inr (gives_up (parts c.loop-reader.segments.items) c.args.strict c.loop-reader.reader.bytes (sequential c.args.strict c.args.bytes.now) c.in-Err.error c.loop-reader.invariant.reads e some (sym c.if-is_cut_off.ensures)))
-    c.in-Err.ensures.value
+    c.in-Err.ensures.parses.value
 
 pub returns : goal.returns
 returns g c =

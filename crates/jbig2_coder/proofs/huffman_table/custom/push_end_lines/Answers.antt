@@ -13,8 +13,8 @@ pub returns-in_ok-push-3-clause-lines : goal.returns-in_ok-push-3-clause-lines
 returns-in_ok-push-3-clause-lines g c =
     let h = c.args.header.now in
     let p = c.args.reader.now in
-    let q = c.read_field.new.reader in
-    let r = c.read_field-2.new.reader in
+    let q = c.bits_field.new.reader in
+    let r = c.bits_field-2.new.reader in
     let fits_low : SFits w32 h.minimum = search rules in
     let fits_high : SFits w32 h.maximum = search rules in
     let first : c.lower.result ≡ lower c.in_ok-lower.lower (h.minimum -ℤ pos 1) = c.lower.ensures ∙ ap (λ (n : ℤ). lower c.in_ok-lower.lower (n -ℤ pos 1)) (to_z-of_z w32 h.minimum fits_low) in
@@ -22,8 +22,8 @@ returns-in_ok-push-3-clause-lines g c =
     let one = c.in_ok-push.ensures.items ∙ ap (λ (x : TableLine). c.args.lines.now.items ++ x ∷ []) first in
     let two = c.in_ok-push-2.ensures.items ∙ ap (λ (x : TableLine). c.push.new.self.items ++ x ∷ []) second in
     let three = c.in_ok-push-3.ensures.items ∙ ap (λ (x : TableLine). c.push-2.new.self.items ++ x ∷ []) c.out_of_band.ensures in
-    let whole = ends-oob h p q r c.read_field-then-header.new.reader c.in_ok-lower.lower c.in_ok-upper.upper c.in_ok-out_of_band.out_of_band c.args.lines.now.items c.push.new.self.items c.push-2.new.self.items c.push-then-header.new.self.items
-    c.in_ok-lower.ensures.value c.in_ok-lower.ensures.place c.in_ok-upper.ensures.value c.in_ok-upper.ensures.place c.in_ok-out_of_band.ensures.value c.in_ok-out_of_band.ensures.place one two three c.if-header.true in
+    let whole = ends-oob h p q r c.bits_field-then-header.new.reader c.in_ok-lower.lower c.in_ok-upper.upper c.in_ok-out_of_band.out_of_band c.args.lines.now.items c.push.new.self.items c.push-2.new.self.items c.push-then-header.new.self.items
+    c.in_ok-lower.ensures.answer c.in_ok-lower.ensures.place c.in_ok-upper.ensures.answer c.in_ok-upper.ensures.place c.in_ok-out_of_band.ensures.answer c.in_ok-out_of_band.ensures.place one two three c.if-header.true in
     ap (λ (s : Step (List TableLine)). s.answer) whole
 
 pub returns-in_ok-push-3-clause-short : goal.returns-in_ok-push-3-clause-short
@@ -36,8 +36,8 @@ pub returns-else-header-clause-lines : goal.returns-else-header-clause-lines
 returns-else-header-clause-lines g c =
     let h = c.args.header.now in
     let p = c.args.reader.now in
-    let q = c.read_field.new.reader in
-    let r = c.read_field-2.new.reader in
+    let q = c.bits_field.new.reader in
+    let r = c.bits_field-2.new.reader in
     let fits_low : SFits w32 h.minimum = search rules in
     let fits_high : SFits w32 h.maximum = search rules in
     let first : c.lower.result ≡ lower c.in_ok-lower.lower (h.minimum -ℤ pos 1) = c.lower.ensures ∙ ap (λ (n : ℤ). lower c.in_ok-lower.lower (n -ℤ pos 1)) (to_z-of_z w32 h.minimum fits_low) in
@@ -45,7 +45,7 @@ returns-else-header-clause-lines g c =
     let one = c.in_ok-push.ensures.items ∙ ap (λ (x : TableLine). c.args.lines.now.items ++ x ∷ []) first in
     let two = c.in_ok-push-2.ensures.items ∙ ap (λ (x : TableLine). c.push.new.self.items ++ x ∷ []) second in
     let whole = ends-none h p q r c.in_ok-lower.lower c.in_ok-upper.upper c.args.lines.now.items c.push.new.self.items c.push-2.new.self.items
-    c.in_ok-lower.ensures.value c.in_ok-lower.ensures.place c.in_ok-upper.ensures.value c.in_ok-upper.ensures.place one two c.if-header.false in
+    c.in_ok-lower.ensures.answer c.in_ok-lower.ensures.place c.in_ok-upper.ensures.answer c.in_ok-upper.ensures.place one two c.if-header.false in
     ap (λ (s : Step (List TableLine)). s.answer) whole
 
 pub returns-else-header-clause-short : goal.returns-else-header-clause-short

@@ -11,7 +11,7 @@ returns-clause-shorter c =
       ap (λ (bs : List ℕ). length bs) first,
       ap (λ (bs : List ℕ). length bs) second,
       length-drop c.args.header.now.prefix_bits (bits_left c.args.reader.now),
-      length-drop c.args.header.now.range_bits (bits_left c.read_field.new.reader),
+      length-drop c.args.header.now.range_bits (bits_left c.bits_field.new.reader),
       c.in_ok-prefix_length.ensures.enough,
       c.requires.0,
     )

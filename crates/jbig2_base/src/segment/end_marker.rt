@@ -1,0 +1,75 @@
+//! Where data of unknown length ends (T.88, 7.2.7).
+ghost use Rattle.std.specs.Prelude.{◌≡◌, ◌+◌, ◌≤◌, length, IfOk};
+ghost use Rattle.std.specs.Bool.{OnTrue};
+ghost use Rattle.jbig2_base.specs.Answer.{Answers};
+ghost use Rattle.jbig2_base.specs.Bits.{IsAligned};
+ghost use Rattle.jbig2_base.specs.EndMarker.{adaptive_bytes, is_end_marker, first_end_marker, coded_front_at, unknown_length_of};
+
+use crate::error::{DecodeError, Result, SegmentError};
+use crate::field::{byte_field, bytes_field};
+use crate::reader::Reader;
+
+/// How many bytes of adaptive pixels a generic region has, by its flags (T.88, 7.4.6.3).
+fn adaptive_bytes(flags: u8) -> usize
+    ensures { result ≡ adaptive_bytes flags }
+{
+    if flags % 2 == 1 {
+        return 0;
+    }
+    if flags / 2 % 4 != 0 {
+        return 2;
+    }
+    if flags / 16 % 2 == 1 { 24 } else { 8 }
+}
+
+fn is_end_marker(flags: u8, bytes: &[u8]) -> bool
+    ensures value { result ≡ is_end_marker flags bytes.now }
+    ensures room { OnTrue result (6 ≤ length bytes.now) }
+{
+    if bytes.len() < 6 {
+        return false;
+    }
+    if flags % 2 == 1 {
+        return bytes[0] == 0 && bytes[1] == 0;
+    }
+    bytes[0] == 0xFF && bytes[1] == 0xAC
+}
+
+/// The place of the first end marker in `bytes`.
+fn first_end_marker(flags: u8, bytes: &[u8]) -> Result<usize>
+    ensures value { Answers (λ place. place) result (first_end_marker flags bytes.now) }
+    ensures inside { IfOk result (λ place. place + 6 ≤ length bytes.now) }
+{
+    for place in 0..bytes.len() {
+        if is_end_marker(flags, &bytes[place..]) {
+            return Ok(place);
+        }
+    }
+    Err(DecodeError::Segment(SegmentError::MissingEndMarker))
+}
+
+/// A generic region's flags; the reader then stands behind its adaptive pixels.
+#[tactic(auto, unfolding(crate::specs::EndMarker::coded_front_at))]
+fn coded_front(reader: &mut Reader<'_>) -> Result<u8>
+    requires { IsAligned reader.old }
+    ensures value { Answers (λ flags. (flags, reader.new.bytes)) result (coded_front_at reader.old.bytes) }
+    ensures length { IfOk result (λ flags. length reader.new.bytes + 18 + adaptive_bytes flags ≡ length reader.old.bytes) }
+{
+    bytes_field(reader, 17)?;
+    let flags = byte_field(reader)?;
+    bytes_field(reader, adaptive_bytes(flags))?;
+    Ok(flags)
+}
+
+/// The length of the data at the front of `bytes` whose header leaves it open.
+///
+/// `SegmentError::MissingEndMarker` where no end marker comes.
+#[tactic(auto, unfolding(crate::specs::EndMarker::unknown_length_of))]
+pub(super) fn unknown_length(bytes: &[u8]) -> Result<usize>
+    ensures { Answers (λ n. n) result (unknown_length_of bytes.now) }
+{
+    let mut reader = Reader::new(bytes);
+    let flags = coded_front(&mut reader)?;
+    let place = first_end_marker(flags, reader.tail())?;
+    Ok(18 + adaptive_bytes(flags) + place + 6)
+}

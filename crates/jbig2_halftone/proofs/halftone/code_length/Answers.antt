@@ -1,6 +1,0 @@
-use Rattle.std.proofs.Common.{arith}
-use Rattle.jbig2_halftone.proofs.CellLemmas.{code-length-is}
-use Rattle.jbig2_halftone.proofs.halftone.code_length.Goals as goal
-
-pub returns-clause-value : goal.returns-clause-value
-returns-clause-value c = code-length-is c.args.patterns c.loop-bits.bits (omega arith) c.loop-bits.invariant.below

@@ -1,6 +1,0 @@
-use Rattle.std.proofs.Common.{arith}
-use Rattle.jbig2_text.proofs.CodeLength.{code-length-is}
-use Rattle.jbig2_text.proofs.text.code_length.Goals as goal
-
-pub returns-clause-value : goal.returns-clause-value
-returns-clause-value c = code-length-is c.args.count c.loop-bits.bits (omega arith) c.loop-bits.invariant.below
