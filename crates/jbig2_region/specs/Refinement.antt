@@ -54,13 +54,19 @@ common_colour r x y =
 abbrev pub predicted_colour : Reference → Bool → ℕ → ℕ → Option Bool
 predicted_colour r predicted x y = if predicted then common_colour r x y else None
 
--- by the template, whether typical prediction is on, the two adaptive pixels, and the reference
-abbrev pub refinement_coding : RefinementTemplate → Bool → List AdaptiveTemplatePixel → Reference → Coding
-refinement_coding template typical a r = record {
-  context = refined_context r (reference_pixels template a) (region_pixels template a);
+-- by the template, whether typical prediction is on, the template's pixels in the reference and in the region, and the
+-- reference
+abbrev pub refined_coding : RefinementTemplate → Bool → List AdaptiveTemplatePixel → List AdaptiveTemplatePixel → Reference → Coding
+refined_coding template typical in_reference in_region r = record {
+  context = refined_context r in_reference in_region;
   known = λ predicted g x y. predicted_colour r predicted x y;
   row_context = (if typical then Some (refinement_row_context template) else None);
 }
+
+-- by the two adaptive pixels
+abbrev pub refinement_coding : RefinementTemplate → Bool → List AdaptiveTemplatePixel → Reference → Coding
+refinement_coding template typical a r =
+    refined_coding template typical (reference_pixels template a) (region_pixels template a) r
 
 -- a reference at a place on the page, seen from a region at its place
 abbrev pub reference_of : RefinementHeader → PlacedRegion → Reference

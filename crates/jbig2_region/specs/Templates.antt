@@ -2,10 +2,10 @@
 -- context's number, bit 0 first, the pixel that it is taken from. All that a template is stands here: its pixels, where
 -- its adaptive pixels lie by default (6.2.5.4), how a segment holds these (7.4.6.3), and the context in which a row begins.
 use Rattle.std.specs.Prelude.{ℕ, ◌==◌, ◌≡◌, Bool, true, false, not, ◌&&◌, ◌||◌, ℤ, pos, negsuc, ◌-ℤ◌, int_lt, int_le, List, [], ◌∷◌, zero, suc, slice_index_or, if◌then◌else◌, Result, Ok}
-use Rattle.std.specs.Int.{w8, cast_signed}
+use Rattle.std.specs.Int.{w8}
 use Rattle.std.specs.Ordering.{int_eq}
 use Rattle.jbig2_base.specs.Answer.{◌>>=◌, refuse_if}
-use Rattle.jbig2_base.specs.Fields.{number_at}
+use Rattle.jbig2_base.specs.Fields.{signed_at}
 use Rattle.jbig2_base.specs.declared.error.DecodeError.{DecodeError}
 use Rattle.jbig2_base.specs.declared.error.DecodeError.TheVariants as errors
 use Rattle.jbig2_base.specs.declared.error.TemplateError.TheVariants.{InvalidAtPixel}
@@ -96,15 +96,11 @@ is_nominal Template3 a = lies_at (adaptive a 0) (pos 2) (negsuc 0)
 abbrev pub is_earlier : AdaptiveTemplatePixel → Bool
 is_earlier p = int_lt p.y (pos 0) || (int_le p.y (pos 0) && int_lt p.x (pos 0))
 
--- a byte in two's complement
-abbrev pub signed_byte_at : List ℕ → Result (ℤ × List ℕ) DecodeError
-signed_byte_at bytes = number_at w8 bytes >>= λ n. Ok (cast_signed w8 n.0, n.1)
-
--- a pixel at any place: two bytes, its columns to the right and its rows down
+-- a pixel at any place: two bytes in two's complement, its columns to the right and its rows down
 abbrev pub free_pixel_at : List ℕ → Result (AdaptiveTemplatePixel × List ℕ) DecodeError
 free_pixel_at bytes = do
-  x ← signed_byte_at bytes
-  y ← signed_byte_at x.1
+  x ← signed_at w8 bytes
+  y ← signed_at w8 x.1
   Ok (record { x = x.0; y = y.0 }, y.1)
 
 -- an adaptive pixel (7.4.6.3)

@@ -1,10 +1,10 @@
 //! Generic regions (T.88, 6.2 and 7.4.6).
-ghost use Rattle.std.specs.Prelude.{◌≡◌, ◌≤◌, length, false, IfOk, OnErr, OnOk};
+ghost use Rattle.std.specs.Prelude.{◌≤◌, length, IfOk, OnOk};
 ghost use Rattle.jbig2_base.specs.Answer.{Answers, Gives, Leaves};
 ghost use Rattle.jbig2_base.specs.Bits.{IsAligned};
-ghost use Rattle.jbig2_base.specs.Grid.{blank};
+ghost use Rattle.jbig2_base.specs.Parsing.{Parses};
 ghost use Rattle.jbig2_region.specs.Generic.{contexts_after, generic_answer, generic_decoded};
-ghost use Rattle.jbig2_region.specs.RegionInfo.{region_view};
+ghost use Rattle.jbig2_region.specs.RegionInfo.{IsWhiteFor, region_view};
 ghost use Rattle.jbig2_region.specs.inner.Layouts.{CountsGeneric};
 ghost use Rattle.jbig2_region.specs.GenericHeader.{header_view, rows_at, generic_header_at, IsParsed};
 
@@ -72,10 +72,9 @@ pub fn parse<'a>(
     strict: bool,
 ) -> Result<GenericRegionHeader<'a>>
     requires { IsAligned reader.old }
-    ensures value { Answers (λ h. (header_view h, reader.new.bytes)) result (generic_header_at unknown_length strict reader.old.bytes) }
-    ensures aligned { IsAligned reader.new }
+    ensures parses { Parses reader.old reader.new result header_view
+        (generic_header_at unknown_length strict reader.old.bytes) }
     ensures parsed { IfOk result (λ h. IsParsed (header_view h)) }
-    ensures stays { OnErr result (reader.new ≡ reader.old) }
 {
     let mut ahead = reader.duplicate();
     let mut region_info = parse_region_segment_info(&mut ahead)?;
@@ -119,7 +118,7 @@ pub fn decode_into<A: Allocator, B: Allocator, L: Ledger>(
     steps: &mut Steps<L>,
 ) -> Result<()>
     requires parsed { IsParsed (header_view header.now) }
-    requires white { bitmap.old ≡ blank header.now.region_info.width header.now.region_info.height false }
+    requires white { IsWhiteFor header.now.region_info bitmap.old }
     ensures value { Gives (λ _. bitmap.new) result (generic_answer (header_view header.now)) }
     ensures contexts { Leaves result contexts.new.items (contexts_after (header_view header.now) contexts.old.items) }
     ensures steps { OnOk result (CountsGeneric (header_view header.now) steps.old steps.new) }
@@ -152,7 +151,7 @@ pub fn decode<A: Allocator, B: Allocator, L: Ledger>(
     steps: &mut Steps<L>,
 ) -> Result<DecodedRegion<A>>
     requires { IsParsed (header_view header.now) }
-    ensures value { Gives (λ region. region_view region) result (generic_decoded (header_view header.now)) }
+    ensures value { Gives region_view result (generic_decoded (header_view header.now)) }
     ensures contexts { Leaves result contexts.new.items (contexts_after (header_view header.now) contexts.old.items) }
     ensures steps { OnOk result (CountsGeneric (header_view header.now) steps.old steps.new) }
 {

@@ -153,28 +153,6 @@ impl<M: Allocator> PixelCoding for GenericCoding<'_, M> {
     }
 }
 
-/// A region of a template that is not extended, by the kernels.
-fn decode_regular<A: Allocator, L: Ledger>(
-    template: Template,
-    typical: bool,
-    adaptive: &[AdaptiveTemplatePixel; 4],
-    bitmap: &mut Bitmap<A>,
-    decoder: &mut ArithmeticDecoder<'_>,
-    contexts: &mut [ArithmeticDecoderContext],
-    steps: &mut Steps<L>,
-)
-    requires columns { bitmap.old.width ≤ 65535 }
-    requires rows { bitmap.old.height ≤ 65535 }
-    requires white { bitmap.old ≡ blank bitmap.old.width bitmap.old.height false }
-    requires contexts { length contexts.old ≡ 2 ^ context_bits template }
-    ensures holds { DecodesRegion (coding_of typical template (template_pixels template (Regular adaptive.now))) bitmap.old decoder.old contexts.old bitmap.new decoder.new contexts.new }
-    ensures steps { CountsRegion (template_pixels template (Regular adaptive.now)) (is_nominal template adaptive.now) (read_pixels template adaptive.now) (coding_of typical template (template_pixels template (Regular adaptive.now))) bitmap.old.width bitmap.old.height decoder.old.bytes (no_pixels decoder.old.registers contexts.old) steps.old steps.new }
-{
-    let layout = layout_of(template, adaptive);
-    let row_context = typical_context(template, typical);
-    decode_layout(&layout, row_context, bitmap, decoder, contexts, steps);
-}
-
 /// A region that the arithmetic coder wrote, into a white bitmap of its size. The coder and the contexts
 /// go on from where they stand. Takes no memory.
 pub fn decode_coded<A: Allocator, L: Ledger>(
@@ -191,8 +169,12 @@ pub fn decode_coded<A: Allocator, L: Ledger>(
     requires rows { bitmap.old.height ≤ 65535 }
     requires white { bitmap.old ≡ blank bitmap.old.width bitmap.old.height false }
     requires contexts { length contexts.old ≡ 2 ^ context_bits template }
-    ensures holds { DecodesRegion (coding_of typical template (template_pixels template adaptive.now)) bitmap.old decoder.old contexts.old bitmap.new decoder.new contexts.new }
-    ensures steps { CountsCoded template adaptive.now (coding_of typical template (template_pixels template adaptive.now)) bitmap.old.width bitmap.old.height decoder.old.bytes (no_pixels decoder.old.registers contexts.old) steps.old steps.new }
+    ensures holds { DecodesRegion (coding_of typical template (template_pixels template adaptive.now))
+        bitmap.old decoder.old contexts.old bitmap.new decoder.new contexts.new }
+    ensures steps { CountsCoded template adaptive.now
+        (coding_of typical template (template_pixels template adaptive.now))
+        bitmap.old.width bitmap.old.height decoder.old.bytes
+        (no_pixels decoder.old.registers contexts.old) steps.old steps.new }
 {
     match adaptive {
         GenericTemplatePixels::Extended(a) => {
@@ -205,7 +187,9 @@ pub fn decode_coded<A: Allocator, L: Ledger>(
             decode_region(&coding, bitmap, decoder, contexts, steps);
         }
         GenericTemplatePixels::Regular(a) => {
-            decode_regular(template, typical, a, bitmap, decoder, contexts, steps)
+            let layout = layout_of(template, a);
+            let row_context = typical_context(template, typical);
+            decode_layout(&layout, row_context, bitmap, decoder, contexts, steps);
         }
     }
 }

@@ -1,9 +1,9 @@
 //! Refinement regions (T.88, 6.3 and 7.4.7).
-ghost use Rattle.std.specs.Prelude.{◌≡◌, false, IfOk, OnErr};
+ghost use Rattle.std.specs.Prelude.{◌≡◌, IfOk, OnErr};
 ghost use Rattle.jbig2_base.specs.Answer.{Answers, Gives, Leaves};
 ghost use Rattle.jbig2_base.specs.Bits.{IsAligned};
-ghost use Rattle.jbig2_base.specs.Grid.{blank};
-ghost use Rattle.jbig2_region.specs.RegionInfo.{region_view};
+ghost use Rattle.jbig2_base.specs.Parsing.{Parses};
+ghost use Rattle.jbig2_region.specs.RegionInfo.{IsWhiteFor, region_view};
 ghost use Rattle.jbig2_region.specs.Refinement.{is_far, is_smaller, offset, refined_answer, refined_contexts, refined_decoded};
 ghost use Rattle.jbig2_region.specs.RefinementHeader.{IsRefinement, header_view, refinement_header_at};
 
@@ -52,10 +52,8 @@ pub struct ReferenceBitmap<'a, B: Allocator> {
 #[tactic(auto, unfolding(crate::specs::RefinementHeader::refinement_header_at))]
 pub fn parse<'a>(reader: &mut Reader<'a>) -> Result<GenericRefinementRegionHeader<'a>>
     requires { IsAligned reader.old }
-    ensures value { Answers (λ h. (header_view h, reader.new.bytes)) result (refinement_header_at reader.old.bytes) }
-    ensures aligned { IsAligned reader.new }
+    ensures parses { Parses reader.old reader.new result header_view (refinement_header_at reader.old.bytes) }
     ensures parsed { IfOk result (λ h. IsRefinement (header_view h)) }
-    ensures stays { OnErr result (reader.new ≡ reader.old) }
 {
     let mut ahead = reader.duplicate();
     let region_info = parse_region_segment_info(&mut ahead)?;
@@ -127,9 +125,11 @@ pub fn decode_into<A: Allocator, B: Allocator, C: Allocator, L: Ledger>(
     steps: &mut Steps<L>,
 ) -> Result<()>
     requires parsed { IsRefinement (header_view header.now) }
-    requires white { bitmap.old ≡ blank header.now.region_info.width header.now.region_info.height false }
-    ensures value { Gives (λ _. bitmap.new) result (refined_answer (header_view header.now) (region_view reference.now)) }
-    ensures contexts { Leaves result contexts.new.items (refined_contexts (header_view header.now) (region_view reference.now) contexts.old.items) }
+    requires white { IsWhiteFor header.now.region_info bitmap.old }
+    ensures value { Gives (λ _. bitmap.new) result
+        (refined_answer (header_view header.now) (region_view reference.now)) }
+    ensures contexts { Leaves result contexts.new.items
+        (refined_contexts (header_view header.now) (region_view reference.now) contexts.old.items) }
     ensures same { OnErr result (bitmap.new ≡ bitmap.old) }
 {
     let region_info = &header.region_info;
@@ -165,8 +165,9 @@ pub fn decode<A: Allocator, B: Allocator, C: Allocator, L: Ledger>(
     steps: &mut Steps<L>,
 ) -> Result<DecodedRegion<A>>
     requires { IsRefinement (header_view header.now) }
-    ensures value { Gives (λ region. region_view region) result (refined_decoded (header_view header.now) (region_view reference.now)) }
-    ensures contexts { Leaves result contexts.new.items (refined_contexts (header_view header.now) (region_view reference.now) contexts.old.items) }
+    ensures value { Gives region_view result (refined_decoded (header_view header.now) (region_view reference.now)) }
+    ensures contexts { Leaves result contexts.new.items
+        (refined_contexts (header_view header.now) (region_view reference.now) contexts.old.items) }
 {
     let region_info = &header.region_info;
     let mut bitmap = Bitmap::new(alloc, region_info.width, region_info.height)?;

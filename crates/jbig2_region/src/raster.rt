@@ -87,7 +87,8 @@ fn decode_pixel<C: PixelCoding, A: Allocator, L: Ledger>(
     requires columns { bitmap.old.width ≤ 65535 }
     requires rows { bitmap.old.height ≤ 65535 }
     requires contexts { length contexts.old ≡ 2 ^ C.bits coding.now }
-    ensures holds { GoesOn (y * bitmap.old.width + x) predicted (after_pixel (C.coding coding.now)) bitmap.old decoder.old contexts.old bitmap.new decoder.new contexts.new }
+    ensures holds { GoesOn (y * bitmap.old.width + x) predicted (after_pixel (C.coding coding.now))
+        bitmap.old decoder.old contexts.old bitmap.new decoder.new contexts.new }
     ensures width { bitmap.new.width ≡ bitmap.old.width }
     ensures height { bitmap.new.height ≡ bitmap.old.height }
     ensures bytes { decoder.new.bytes ≡ decoder.old.bytes }
@@ -115,7 +116,8 @@ fn decode_row<C: PixelCoding, A: Allocator, L: Ledger>(
     requires columns { bitmap.old.width ≤ 65535 }
     requires rows { bitmap.old.height ≤ 65535 }
     requires contexts { length contexts.old ≡ 2 ^ C.bits coding.now }
-    ensures holds { GoesOn (y * bitmap.old.width) predicted (λ w h bytes r. after_pixels (C.coding coding.now) w h bytes w r) bitmap.old decoder.old contexts.old bitmap.new decoder.new contexts.new }
+    ensures holds { GoesOn (y * bitmap.old.width) predicted (λ w h bytes r. after_pixels (C.coding coding.now) w h bytes w r)
+        bitmap.old decoder.old contexts.old bitmap.new decoder.new contexts.new }
     ensures width { bitmap.new.width ≡ bitmap.old.width }
     ensures height { bitmap.new.height ≡ bitmap.old.height }
     ensures bytes { decoder.new.bytes ≡ decoder.old.bytes }
@@ -135,9 +137,12 @@ pub fn begin_row<L: Ledger>(
     steps: &mut Steps<L>,
 ) -> bool
     requires context { IfSome row_context (λ k. k < length contexts.old) }
-    ensures row { (w h : ℕ) (grid : Grid) (r : Region) → r.predicted ≡ predicted → Holds w h decoder.old.bytes r grid decoder.old contexts.old → BeginsRow w h row_context r result grid decoder.old decoder.new contexts.new }
+    ensures row { (w h : ℕ) (grid : Grid) (r : Region) → r.predicted ≡ predicted
+        → Holds w h decoder.old.bytes r grid decoder.old contexts.old
+        → BeginsRow w h row_context r result grid decoder.old decoder.new contexts.new }
     ensures bytes { decoder.new.bytes ≡ decoder.old.bytes }
-    ensures steps { steps.new ≡ record steps.old { decisions = steps.old.decisions + row_decisions row_context } }
+    ensures steps { steps.new
+        ≡ record steps.old { decisions = steps.old.decisions + row_decisions row_context } }
 {
     let Some(context) = row_context else {
         return predicted;
@@ -161,7 +166,8 @@ pub fn decode_region<C: PixelCoding, A: Allocator, L: Ledger>(
     requires rows { bitmap.old.height ≤ 65535 }
     requires white { bitmap.old ≡ blank bitmap.old.width bitmap.old.height false }
     requires contexts { length contexts.old ≡ 2 ^ C.bits coding.now }
-    ensures holds { DecodesRegion (C.coding coding.now) bitmap.old decoder.old contexts.old bitmap.new decoder.new contexts.new }
+    ensures holds { DecodesRegion (C.coding coding.now)
+        bitmap.old decoder.old contexts.old bitmap.new decoder.new contexts.new }
     ensures empty { bitmap.old.width * bitmap.old.height ≡ 0 → steps.new ≡ steps.old }
 {
     if bitmap.width() == 0 {

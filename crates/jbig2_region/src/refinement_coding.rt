@@ -119,7 +119,9 @@ impl<B: Allocator> RefinementCoding<'_, B> {
         requires row { y < 65536 }
         requires few { length pixels.now ≤ 9 }
         requires high { high < 16 }
-        ensures { (bits : List Bool) → high ≡ number_of bits → result ≡ number_of (map (reference_pixel (reference_view self.now.reference.now) x y) pixels.now ++ bits) }
+        ensures { (bits : List Bool) → high ≡ number_of bits
+            → result ≡ number_of
+            (map (reference_pixel (reference_view self.now.reference.now) x y) pixels.now ++ bits) }
     {
         let mut number = high;
         let mut left = pixels.len();
@@ -147,12 +149,12 @@ impl<B: Allocator> RefinementCoding<'_, B> {
 }
 
 impl<B: Allocator> PixelCoding for RefinementCoding<'_, B> {
-    ghost use Rattle.std.specs.Prelude.{if◌then◌else◌, Some, None};
-    ghost use Rattle.jbig2_region.specs.Refinement.{predicted_colour, refined_context};
-    ghost use Rattle.jbig2_region.specs.RefinementTemplates.{refinement_bits, refinement_row_context};
+    ghost use Rattle.jbig2_region.specs.Refinement.{refined_coding};
+    ghost use Rattle.jbig2_region.specs.RefinementTemplates.{refinement_bits};
     ghost use Rattle.jbig2_region.specs.inner.RefinementViews.{reference_view};
 
-    ghost coding = { λ c. record { context = refined_context (reference_view c.reference.now) c.in_reference.now c.in_region.now; known = λ predicted g x y. predicted_colour (reference_view c.reference.now) predicted x y; row_context = if c.typical then Some (refinement_row_context c.template) else None } };
+    ghost coding = { λ c. refined_coding c.template c.typical c.in_reference.now c.in_region.now
+        (reference_view c.reference.now) };
 
     ghost bits = { λ c. refinement_bits c.template };
 
@@ -208,7 +210,8 @@ pub fn decode_bitmap<A: Allocator, B: Allocator, L: Ledger>(
     requires rows { bitmap.old.height ≤ 65535 }
     requires white { bitmap.old ≡ blank bitmap.old.width bitmap.old.height false }
     requires contexts { length contexts.old ≡ 2 ^ refinement_bits template }
-    ensures holds { DecodesRegion (refinement_coding template typical adaptive.now (reference_view reference.now)) bitmap.old decoder.old contexts.old bitmap.new decoder.new contexts.new }
+    ensures holds { DecodesRegion (refinement_coding template typical adaptive.now (reference_view reference.now))
+        bitmap.old decoder.old contexts.old bitmap.new decoder.new contexts.new }
 {
     match template {
         RefinementTemplate::Template0 => {

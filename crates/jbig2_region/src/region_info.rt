@@ -1,7 +1,7 @@
 //! What every region segment begins with (T.88, 7.4.1).
-ghost use Rattle.std.specs.Prelude.{◌≡◌, OnErr};
-ghost use Rattle.jbig2_base.specs.Answer.{Answers};
+ghost use Rattle.std.specs.Prelude.{◌≡◌};
 ghost use Rattle.jbig2_base.specs.Bits.{IsAligned};
+ghost use Rattle.jbig2_base.specs.Parsing.{Parses};
 ghost use Rattle.jbig2_region.specs.RegionInfo.{placed, region_info_at, region_view};
 
 use jbig2_base::bitmap::Bitmap;
@@ -33,9 +33,7 @@ pub struct RegionSegmentInfo {
 #[tactic(auto, unfolding(crate::specs::RegionInfo::region_info_at))]
 pub fn parse_region_segment_info(reader: &mut Reader<'_>) -> Result<RegionSegmentInfo>
     requires { IsAligned reader.old }
-    ensures value { Answers (λ info. (info, reader.new.bytes)) result (region_info_at reader.old.bytes) }
-    ensures aligned { IsAligned reader.new }
-    ensures stays { OnErr result (reader.new ≡ reader.old) }
+    ensures { Parses reader.old reader.new result (λ info. info) (region_info_at reader.old.bytes) }
 {
     let mut ahead = reader.duplicate();
     let width = u32_field(&mut ahead)?;

@@ -32,7 +32,8 @@ pub fn decode_skipping<M: Allocator, A: Allocator, L: Ledger>(
     requires rows { bitmap.old.height ≤ 65535 }
     requires white { bitmap.old ≡ blank bitmap.old.width bitmap.old.height false }
     requires contexts { length contexts.old ≡ 2 ^ context_bits template }
-    ensures holds { DecodesRegion (skipping_coding (template_pixels template (Regular adaptive.now)) (skip_of skip.entry)) bitmap.old decoder.old contexts.old bitmap.new decoder.new contexts.new }
+    ensures holds { DecodesRegion (skipping_coding (template_pixels template (Regular adaptive.now)) (skip_of skip.entry))
+        bitmap.old decoder.old contexts.old bitmap.new decoder.new contexts.new }
 {
     let pixels = TemplatePixels::regular(template, adaptive);
     let coding = GenericCoding {

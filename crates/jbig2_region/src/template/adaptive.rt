@@ -1,23 +1,15 @@
 //! The adaptive pixels of templates, as segments hold them (T.88, 7.4.6.3 and 7.4.7.3).
-ghost use Rattle.std.specs.Prelude.{◌≡◌, IfOk, OnErr};
+ghost use Rattle.std.specs.Prelude.{◌≡◌, ◌≤◌, length, IfOk, OnOk};
 ghost use Rattle.jbig2_base.specs.Answer.{Answers};
 ghost use Rattle.jbig2_base.specs.Bits.{IsAligned};
+ghost use Rattle.jbig2_base.specs.Parsing.{Parses};
 ghost use Rattle.jbig2_region.specs.RefinementTemplates.{refinement_pixels_at};
-ghost use Rattle.jbig2_region.specs.Templates.{FitsTemplate, adaptive_pixel_at, adaptive_pixels_at, first_alone, free_pixel_at, is_earlier, regular_pixels_at, signed_byte_at, template_pixels_at};
+ghost use Rattle.jbig2_region.specs.Templates.{FitsTemplate, adaptive_pixel_at, adaptive_pixels_at, first_alone, free_pixel_at, is_earlier, regular_pixels_at, template_pixels_at};
 
 use crate::template::{AdaptiveTemplatePixel, GenericTemplatePixels, RefinementTemplate, Template};
 use jbig2_base::error::{DecodeError, Result, TemplateError};
-use jbig2_base::field::byte_field;
+use jbig2_base::field::i8_field;
 use jbig2_base::reader::Reader;
-
-fn signed_field(reader: &mut Reader<'_>) -> Result<i16>
-    requires { IsAligned reader.old }
-    ensures value { Answers (λ x. (x, reader.new.bytes)) result (signed_byte_at reader.old.bytes) }
-    ensures aligned { IsAligned reader.new }
-{
-    let byte = byte_field(reader)?;
-    Ok(i16::from(byte.cast_signed()))
-}
 
 /// A pixel that may lie anywhere.
 #[tactic(auto, unfolding(crate::specs::Templates::free_pixel_at))]
@@ -25,9 +17,10 @@ fn parse_free_pixel(reader: &mut Reader<'_>) -> Result<AdaptiveTemplatePixel>
     requires { IsAligned reader.old }
     ensures value { Answers (λ pixel. (pixel, reader.new.bytes)) result (free_pixel_at reader.old.bytes) }
     ensures aligned { IsAligned reader.new }
+    ensures shorter { OnOk result (length reader.new.bytes ≤ length reader.old.bytes) }
 {
-    let x = signed_field(reader)?;
-    let y = signed_field(reader)?;
+    let x = i16::from(i8_field(reader)?);
+    let y = i16::from(i8_field(reader)?);
     Ok(AdaptiveTemplatePixel { x, y })
 }
 
@@ -44,6 +37,7 @@ fn parse_adaptive_template_pixel(reader: &mut Reader<'_>) -> Result<AdaptiveTemp
     requires { IsAligned reader.old }
     ensures value { Answers (λ pixel. (pixel, reader.new.bytes)) result (adaptive_pixel_at reader.old.bytes) }
     ensures aligned { IsAligned reader.new }
+    ensures shorter { OnOk result (length reader.new.bytes ≤ length reader.old.bytes) }
 {
     let pixel = parse_free_pixel(reader)?;
     if !is_earlier(pixel) {
@@ -56,6 +50,7 @@ fn parse_four(reader: &mut Reader<'_>) -> Result<[AdaptiveTemplatePixel; 4]>
     requires { IsAligned reader.old }
     ensures value { Answers (λ pixels. (pixels, reader.new.bytes)) result (adaptive_pixels_at 4 reader.old.bytes) }
     ensures aligned { IsAligned reader.new }
+    ensures shorter { OnOk result (length reader.new.bytes ≤ length reader.old.bytes) }
 {
     let first = parse_adaptive_template_pixel(reader)?;
     let second = parse_adaptive_template_pixel(reader)?;
@@ -68,6 +63,7 @@ fn parse_twelve(reader: &mut Reader<'_>) -> Result<[AdaptiveTemplatePixel; 12]>
     requires { IsAligned reader.old }
     ensures value { Answers (λ pixels. (pixels, reader.new.bytes)) result (adaptive_pixels_at 12 reader.old.bytes) }
     ensures aligned { IsAligned reader.new }
+    ensures shorter { OnOk result (length reader.new.bytes ≤ length reader.old.bytes) }
 {
     let [a1, a2, a3, a4] = parse_four(reader)?;
     let [a5, a6, a7, a8] = parse_four(reader)?;
@@ -95,9 +91,8 @@ pub fn parse_adaptive_template_pixels(
     template: Template,
 ) -> Result<[AdaptiveTemplatePixel; 4]>
     requires { IsAligned reader.old }
-    ensures value { Answers (λ pixels. (pixels, reader.new.bytes)) result (regular_pixels_at template reader.old.bytes) }
-    ensures aligned { IsAligned reader.new }
-    ensures stays { OnErr result (reader.new ≡ reader.old) }
+    ensures { Parses reader.old reader.new result (λ pixels. pixels)
+        (regular_pixels_at template reader.old.bytes) }
 {
     let mut ahead = reader.duplicate();
     let pixels = match template {
@@ -117,8 +112,10 @@ pub fn parse_generic_template_pixels(
     template: Template,
 ) -> Result<GenericTemplatePixels>
     requires { IsAligned reader.old }
-    ensures value { Answers (λ pixels. (pixels, reader.new.bytes)) result (template_pixels_at mmr extended template reader.old.bytes) }
+    ensures value { Answers (λ pixels. (pixels, reader.new.bytes)) result
+        (template_pixels_at mmr extended template reader.old.bytes) }
     ensures aligned { IsAligned reader.new }
+    ensures shorter { OnOk result (length reader.new.bytes ≤ length reader.old.bytes) }
     ensures fits { IfOk result (λ pixels. FitsTemplate pixels template) }
 {
     if mmr {
@@ -142,9 +139,8 @@ pub fn parse_template_pixels(
     template: RefinementTemplate,
 ) -> Result<[AdaptiveTemplatePixel; 2]>
     requires { IsAligned reader.old }
-    ensures value { Answers (λ pixels. (pixels, reader.new.bytes)) result (refinement_pixels_at template reader.old.bytes) }
-    ensures aligned { IsAligned reader.new }
-    ensures stays { OnErr result (reader.new ≡ reader.old) }
+    ensures { Parses reader.old reader.new result (λ pixels. pixels)
+        (refinement_pixels_at template reader.old.bytes) }
 {
     match template {
         RefinementTemplate::Template0 => {
