@@ -21,8 +21,12 @@ def number(value, size=4):
 
 
 def segment(at, kind, data, referred=(), page=1):
-    flags = bytes([kind, len(referred) * 32])
-    return number(at) + flags + bytes(referred) + bytes([page]) + number(len(data)) + data
+    if len(referred) <= 4:
+        count = bytes([len(referred) * 32])
+    else:
+        # The long form has a bit for each segment that is referred to, and for this one.
+        count = number(7 << 29 | len(referred)) + bytes(len(referred) // 8 + 1)
+    return number(at) + bytes([kind]) + count + bytes(referred) + bytes([page]) + number(len(data)) + data
 
 
 def page_information(width, height, black, operator):

@@ -1,0 +1,146 @@
+#!/usr/bin/env python3
+"""Makes up documents of symbols and text, and compares what is drawn of them with what was meant, and with jbig2dec.
+
+usage: comparison/symbols.py [COUNT [SEED]]
+
+Each document is made by an encoder of its own (comparison/encoder), which knows the picture. KINDS may name some of
+`coder prefix refined aggregates tables`, the forms that jbig2dec draws too, and `more`, those that it does not: these
+are compared with what was meant alone.
+"""
+import dataclasses
+import os
+import random
+import sys
+import tempfile
+
+from compare import HEADER, ROOT, number, our_picture, page_information, pixels, segment, their_picture
+from encoder.bitmap import Bitmap
+from encoder.segments import Form, random_dictionary, random_text
+
+KINDS = "coder prefix refined aggregates tables"
+# What jbig2dec has not: contexts that a dictionary hands on, and tables whose data ends with their last bit.
+PLAIN = Form(hands_on=False, padding=b"\0")
+
+
+def plain(**changes):
+    return dataclasses.replace(PLAIN, **changes)
+
+
+def forms_of(chance, kind):
+    """What a dictionary and what a text region of a document of that kind may be made of."""
+    coding = plain(prefix=chance.random() < 0.5)
+    if kind == "coder":
+        return PLAIN, PLAIN
+    if kind == "prefix":
+        return coding, plain(prefix=True)
+    if kind == "refined":
+        return coding, plain(refined=True)
+    if kind == "aggregates":
+        return plain(aggregates=True, refinement_templates=(1,)), coding
+    if kind == "tables":
+        return plain(prefix=True, custom=True), plain(prefix=True, custom=True)
+    # Nothing is left out: all dictionaries and refined text by both codings, with any tables.
+    prefix = chance.random() < 0.6
+    any_form = Form(prefix=prefix, aggregates=chance.random() < 0.5, custom=prefix and chance.random() < 0.5, most_ranges=40)
+    return any_form, dataclasses.replace(any_form, refined=chance.random() < 0.7)
+
+
+def with_references(form, count):
+    """Of more than four references jbig2dec reads the long form, whose flags of retention it counts otherwise (7.2.4)."""
+    return form if form.hands_on else dataclasses.replace(form, most_tables=4 - count)
+
+
+class Document:
+    """A file under way: its bytes, and its page as it is meant to be."""
+
+    def __init__(self, chance):
+        self.chance = chance
+        colour, operator = chance.randrange(2), chance.randrange(4)
+        self.page = Bitmap(chance.randrange(1, 120), chance.randrange(1, 80), colour)
+        information = page_information(self.page.width, self.page.height, colour, operator)
+        self.bytes = HEADER + segment(0, 48, information)
+        self.at = 1
+        self.dictionaries = {}
+
+    def put(self, kind, data, referred=()):
+        self.bytes += segment(self.at, kind, data, referred)
+        self.at += 1
+        return self.at - 1
+
+    def put_tables(self, tables):
+        return [self.put(53, data) for data in tables]
+
+    def some_dictionaries(self, least):
+        numbers = list(self.dictionaries)
+        count = self.chance.randrange(min(least, len(numbers)), len(numbers) + 1)
+        return sorted(self.chance.sample(numbers, count))
+
+    def symbols_of(self, numbers):
+        return [symbol for at in numbers for symbol in self.dictionaries[at].symbols]
+
+    def put_dictionary(self, form):
+        referred = self.some_dictionaries(0)
+        last = self.dictionaries[referred[-1]] if referred else None
+        form = with_references(form, len(referred))
+        data, tables, dictionary = random_dictionary(self.chance, form, self.symbols_of(referred), last)
+        self.dictionaries[self.put(0, data, referred + self.put_tables(tables))] = dictionary
+
+    def put_text(self, form):
+        referred = self.some_dictionaries(1)
+        symbols = self.symbols_of(referred)
+        if not symbols:
+            return
+        width, height = self.chance.randrange(1, 100), self.chance.randrange(1, 70)
+        form = with_references(form, len(referred))
+        data, tables, bitmap = random_text(self.chance, form, symbols, width, height)
+        x, y = self.chance.randrange(self.page.width), self.chance.randrange(self.page.height)
+        operator = self.chance.randrange(5)
+        place = b"".join(map(number, (width, height, x, y))) + bytes([operator])
+        self.put(self.chance.choice((6, 7)), place + data, referred + self.put_tables(tables))
+        self.page.combine(bitmap, x, y, operator)
+
+    def finished(self):
+        return self.bytes + segment(self.at, 49, b"") + segment(self.at + 1, 51, b"", page=0)
+
+
+def random_document(chance, kind):
+    document = Document(chance)
+    for _ in range(chance.randrange(1, 4)):
+        document.put_dictionary(forms_of(chance, kind)[0])
+    for _ in range(chance.randrange(1, 4)):
+        document.put_text(forms_of(chance, kind)[1])
+    return document
+
+
+def main():
+    count = int(sys.argv[1]) if len(sys.argv) > 1 else 100
+    seed = int(sys.argv[2]) if len(sys.argv) > 2 else 1
+    kinds = os.environ.get("KINDS", KINDS).split()
+    program = os.environ.get("PROGRAM", os.path.join(ROOT, "jbig2-decode"))
+    chance = random.Random(seed)
+    differing = 0
+    with tempfile.TemporaryDirectory() as folder:
+        name = os.path.join(folder, "page.jb2")
+        theirs_name = os.path.join(folder, "page.pbm")
+        for turn in range(count):
+            kind = chance.choice(kinds)
+            document = random_document(chance, kind)
+            with open(name, "wb") as file:
+                file.write(document.finished())
+            meant = document.page.numbers()
+            pictures = {} if program == "none" else {"here": our_picture(program, name)}
+            if kind != "more":
+                pictures["jbig2dec"] = their_picture(name, theirs_name)
+            faults = [f"{who}: {fault}" for who, (picture, fault) in pictures.items() if pixels(picture) != meant]
+            if faults:
+                differing += 1
+                kept = os.path.join(tempfile.gettempdir(), f"differs-{seed}-{turn}.jb2")
+                with open(kept, "wb") as file:
+                    file.write(document.finished())
+                print(f"document {turn} ({kind}) differs ({kept}): {' / '.join(faults)}")
+    print(f"{count} documents, {differing} differ")
+    return 1 if differing else 0
+
+
+if __name__ == "__main__":
+    sys.exit(main())
