@@ -9,7 +9,7 @@ use Rattle.jbig2_base.specs.declared.error.DecodeError.TheVariants.{Overflow, Re
 use Rattle.jbig2_base.specs.declared.error.OverflowError.TheVariants.{BitmapDimension}
 use Rattle.jbig2_base.specs.declared.error.RegionError.TheVariants.{GrayScaleOutOfRange}
 use Rattle.jbig2_coder.specs.Coder.{Context}
-use Rattle.jbig2_region.specs.Generic.{PlacedRegion}
+use Rattle.jbig2_region.specs.RegionInfo.{PlacedRegion, placed}
 use Rattle.jbig2_base.specs.Search.{code_length}
 use Rattle.jbig2_halftone.specs.GrayScale.{GrayScale, gray_scale_image, gray_contexts}
 use Rattle.jbig2_halftone.specs.HalftoneHeader.{HalftoneHeader}
@@ -92,7 +92,7 @@ unfoldable pub halftone_decoded : HalftoneHeader → Patterns → Result PlacedR
 halftone_decoded h d = do
   fits ← refuse_if (region_is_too_large h) (Overflow BitmapDimension)
   grid ← halftone_answer h d
-  Ok (record { grid = grid; x_location = h.region_info.x_location; y_location = h.region_info.y_location; combination_operator = h.region_info.combination_operator })
+  Ok (placed h.region_info grid)
 
 -- The contexts afterwards; a side that is too large leaves them alone.
 abbrev pub decoded_contexts : HalftoneHeader → Patterns → List Context → List Context

@@ -3,7 +3,7 @@ ghost use Rattle.std.specs.Prelude.{◌≡◌, ◌*◌, ◌<◌, ◌≤◌, leng
 ghost use Rattle.std.specs.Int.{w32, int_shr};
 ghost use Rattle.jbig2_base.specs.Answer.{Answers, Gives, Leaves};
 ghost use Rattle.jbig2_base.specs.Grid.{blank};
-ghost use Rattle.jbig2_region.specs.Generic.{region_view};
+ghost use Rattle.jbig2_region.specs.RegionInfo.{region_view};
 ghost use Rattle.jbig2_halftone.specs.GrayScale.{gray_scale_image};
 ghost use Rattle.jbig2_halftone.specs.Halftone.{gray_params, column_of, row_of, is_apart, lies_outside, skip_grid, skip_mask, pattern_for, cells_drawn, halftone_answer, halftone_contexts, halftone_decoded, decoded_contexts};
 ghost use Rattle.jbig2_halftone.specs.HalftoneHeader.{header_view};
@@ -19,7 +19,7 @@ use jbig2_base::bitmap::steps::Steps;
 use jbig2_base::error::{DecodeError, RegionError, Result};
 use jbig2_base::search::code_length;
 use jbig2_coder::arithmetic_decoder::ArithmeticDecoderContext;
-use jbig2_region::generic::DecodedRegion;
+use jbig2_region::region_info::DecodedRegion;
 use std::alloc::Allocator;
 use std::sync::ledger::Ledger;
 
@@ -265,10 +265,5 @@ pub fn decode<D: Allocator, A: Allocator + Clone, B: Allocator, L: Ledger>(
         header.flags.initial_pixel_color,
     )?;
     decode_into(alloc, header, dictionary, &mut bitmap, contexts, steps)?;
-    Ok(DecodedRegion {
-        bitmap,
-        x_location: region_info.x_location,
-        y_location: region_info.y_location,
-        combination_operator: region_info.combination_operator,
-    })
+    Ok(DecodedRegion::new(region_info, bitmap))
 }

@@ -10,7 +10,7 @@ use Rattle.jbig2_base.specs.declared.error.OverflowError.TheVariants.{BitmapDime
 use Rattle.jbig2_coder.specs.Coder.{Context, fresh, started}
 use Rattle.jbig2_coder.specs.PrefixCode.{Member, prefix_code}
 use Rattle.jbig2_coder.specs.Tables.{lines_a, lines_f, lines_g, lines_h, lines_i, lines_j, lines_k, lines_l, lines_m, lines_n, lines_o}
-use Rattle.jbig2_region.specs.Generic.{PlacedRegion}
+use Rattle.jbig2_region.specs.RegionInfo.{PlacedRegion, placed}
 use Rattle.jbig2_region.specs.Raster.{fresh_contexts}
 use Rattle.jbig2_region.specs.Refinement.{refinement_bits}
 use Rattle.jbig2_base.specs.Search.{code_length}
@@ -134,4 +134,4 @@ unfoldable pub text_decoded : TextHeader → List Grid → List (List Member) �
 text_decoded h symbols customs = do
   fits ← refuse_if (nat_lt 65535 h.region_info.width || nat_lt 65535 h.region_info.height) (Overflow BitmapDimension)
   grid ← text_answer h symbols customs
-  Ok (record { grid = grid; x_location = h.region_info.x_location; y_location = h.region_info.y_location; combination_operator = h.region_info.combination_operator })
+  Ok (placed h.region_info grid)

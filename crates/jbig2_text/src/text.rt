@@ -2,7 +2,7 @@
 ghost use Rattle.std.specs.Prelude.{◌≡◌, ◌≤◌, ◌^◌, length, Ok, OnErr};
 ghost use Rattle.jbig2_base.specs.Answer.{Gives};
 ghost use Rattle.jbig2_base.specs.Grid.{blank};
-ghost use Rattle.jbig2_region.specs.Generic.{region_view};
+ghost use Rattle.jbig2_region.specs.RegionInfo.{region_view};
 ghost use Rattle.jbig2_text.specs.TextHeader.{header_view};
 ghost use Rattle.jbig2_text.specs.TextRegion.{coded_region, prefixed_region, refining_of, text_params, text_answer, text_decoded};
 ghost use Rattle.jbig2_text.specs.inner.TextViews.{customs_view, params_view, symbols_view};
@@ -35,7 +35,7 @@ use jbig2_base::error::Result;
 use jbig2_base::reader::Reader;
 use jbig2_base::search::code_length;
 use jbig2_coder::huffman_table::{HuffmanTable, StandardHuffmanTables};
-use jbig2_region::generic::DecodedRegion;
+use jbig2_region::region_info::DecodedRegion;
 use std::alloc::Allocator;
 use std::sync::ledger::Ledger;
 
@@ -212,10 +212,5 @@ pub fn decode<H: Allocator, B: Allocator, T: Allocator, M: Allocator + Clone, L:
         &mut bitmap,
         steps,
     )?;
-    Ok(DecodedRegion {
-        bitmap,
-        x_location: region_info.x_location,
-        y_location: region_info.y_location,
-        combination_operator: region_info.combination_operator,
-    })
+    Ok(DecodedRegion::new(region_info, bitmap))
 }
