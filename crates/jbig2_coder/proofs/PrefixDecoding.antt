@@ -5,7 +5,7 @@ use Rattle.std.proofs.lemmas.List.{drop-drop}
 use Rattle.jbig2_base.specs.Bits.{Place, bits_left, bits_next, bits_on}
 use Rattle.jbig2_base.specs.declared.error.DecodeError.{DecodeError}
 use Rattle.jbig2_coder.specs.declared.huffman_table.line.TableLine.{TableLine}
-use Rattle.jbig2_coder.specs.PrefixCode.{Member, Reading, read_code, decoded, valued, value_by, value_after, range_bits}
+use Rattle.jbig2_coder.specs.PrefixCode.{Member, CodeReading, read_code, decoded, valued, value_by, value_after, range_bits}
 use Rattle.jbig2_coder.specs.inner.PrefixLevels.{walk, codes_at}
 use Rattle.jbig2_coder.proofs.PrefixWalk.{walk-reads}
 use Rattle.jbig2_coder.proofs.PrefixReading.{bits_on-add, Leaves}
@@ -18,19 +18,19 @@ pub record Decodes (ms : List Member) (a : Result (Option ℤ) DecodeError) (p q
 
 decoded-is : (gs : List (List TableLine)) (ms : List Member) (bits : List ℕ) → codes_at 0 0 gs ≡ ms → decoded ms bits ≡ valued (walk gs 0 0 bits) bits
 unfolding decoded read_code
-decoded-is gs ms bits e = ap (λ (r : Reading TableLine). valued r bits) (sym (walk-reads gs bits ∙ ap (λ (ns : List Member). read_code ns bits) e))
+decoded-is gs ms bits e = ap (λ (r : CodeReading TableLine). valued r bits) (sym (walk-reads gs bits ∙ ap (λ (ns : List Member). read_code ns bits) e))
 
-valued-err : (r : Reading TableLine) (bits : List ℕ) (e : DecodeError) → Err e ≡ r.answer → valued r bits ≡ record { answer = Err e; taken = r.taken }
+valued-err : (r : CodeReading TableLine) (bits : List ℕ) (e : DecodeError) → Err e ≡ r.answer → valued r bits ≡ record { answer = Err e; taken = r.taken }
 valued-err r bits e h = ap (λ (a : Result TableLine DecodeError). valued (record { answer = a; taken = r.taken }) bits) (sym h)
 
-valued-ok : (r : Reading TableLine) (bits : List ℕ) (x : TableLine) → Ok x ≡ r.answer → valued r bits ≡ record { answer = value_after x (drop r.taken bits); taken = r.taken + range_bits x }
+valued-ok : (r : CodeReading TableLine) (bits : List ℕ) (x : TableLine) → Ok x ≡ r.answer → valued r bits ≡ record { answer = value_after x (drop r.taken bits); taken = r.taken + range_bits x }
 valued-ok r bits x h = ap (λ (a : Result TableLine DecodeError). valued (record { answer = a; taken = r.taken }) bits) (sym h)
 
 decodes : (ms : List Member) (a : Result (Option ℤ) DecodeError) (n : ℕ) (p q : Place) → decoded ms (bits_left p) ≡ record { answer = a; taken = n } → q ≡ bits_on n p → bits_left q ≡ drop n (bits_left p) → Decodes ms a p q
 decodes ms a n p q e place rest = record {
-  value = sym (ap (λ (r : Reading (Option ℤ)). r.answer) e);
-  place = place ∙ ap (λ (r : Reading (Option ℤ)). bits_on r.taken p) (sym e);
-  rest = rest ∙ ap (λ (r : Reading (Option ℤ)). drop r.taken (bits_left p)) (sym e);
+  value = sym (ap (λ (r : CodeReading (Option ℤ)). r.answer) e);
+  place = place ∙ ap (λ (r : CodeReading (Option ℤ)). bits_on r.taken p) (sym e);
+  rest = rest ∙ ap (λ (r : CodeReading (Option ℤ)). drop r.taken (bits_left p)) (sym e);
 }
 
 pub decodes-err : (gs : List (List TableLine)) (ms : List Member) (e : DecodeError) (p q : Place) → codes_at 0 0 gs ≡ ms → Leaves gs (Err e) p q → Decodes ms (Err e) p q

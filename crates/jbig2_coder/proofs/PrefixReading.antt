@@ -9,7 +9,7 @@ use Rattle.jbig2_base.specs.declared.error.DecodeError.{DecodeError}
 use Rattle.jbig2_base.proofs.ReaderLemmas.{bits_on-enough, bits_on-past, end-on}
 use Rattle.jbig2_coder.specs.declared.huffman_table.line.TableLine.{TableLine}
 use Rattle.jbig2_coder.specs.declared.huffman_table.levels.Level.{Level}
-use Rattle.jbig2_coder.specs.PrefixCode.{Reading, found_or, refused, ended}
+use Rattle.jbig2_coder.specs.PrefixCode.{CodeReading, found_or, refused, ended}
 use Rattle.jbig2_coder.specs.inner.PrefixLevels.{nodes, walk, groups_of, AreLevels}
 
 -- m bits on from n bits on
@@ -60,9 +60,9 @@ pub record Leaves (gs : List (List TableLine)) (answer : Result TableLine Decode
 leaves : (lines : List TableLine) (levels : List Level) (i node : ℕ) (p q r : Place) (a : Result TableLine DecodeError) → AtLevel lines levels i node p q → r ≡ bits_on 1 q → bits_left r ≡ drop 1 (bits_left q) → walk (groups_of lines (drop i levels)) i node (bits_left q) ≡ record { answer = a; taken = i + 1 } → Leaves (groups_of lines levels) a p r
 leaves lines levels i node p q r a at place rest ends =
     let whole : walk (groups_of lines levels) 0 0 (bits_left p) ≡ record { answer = a; taken = i + 1 } = sym at.walks ∙ ends in
-    let taken : (walk (groups_of lines levels) 0 0 (bits_left p)).taken ≡ i + 1 = ap (λ (w : Reading TableLine). w.taken) whole in
+    let taken : (walk (groups_of lines levels) 0 0 (bits_left p)).taken ≡ i + 1 = ap (λ (w : CodeReading TableLine). w.taken) whole in
     record {
-      line = sym (ap (λ (w : Reading TableLine). w.answer) whole);
+      line = sym (ap (λ (w : CodeReading TableLine). w.answer) whole);
       place = place ∙ at.place 1 ∙ ap (λ (k : ℕ). bits_on k p) (sym taken);
       rest = rest ∙ ap (λ (bs : List ℕ). drop 1 bs) at.rest ∙ drop-drop 1 i (bits_left p) ∙ ap (λ (k : ℕ). drop k (bits_left p)) (sym taken);
     }
@@ -122,7 +122,7 @@ abbrev child-of : List Level → ℕ → ℕ → ℕ → Level → ℕ
 child-of levels i node b d = 2 * node + b - (get_or levels i d).count
 
 -- the walk where the child is no line of the level
-abbrev turned : List TableLine → List Level → ℕ → ℕ → ℕ → List ℕ → Level → Reading TableLine
+abbrev turned : List TableLine → List Level → ℕ → ℕ → ℕ → List ℕ → Level → CodeReading TableLine
 turned lines levels i node b bits d =
     let v = get_or levels i d in
     let g = take v.count (drop v.first lines) in

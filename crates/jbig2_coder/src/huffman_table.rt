@@ -104,17 +104,6 @@ impl<A: Allocator + Clone> HuffmanTable<A> {
 }
 
 impl<A: Allocator> HuffmanTable<A> {
-    /// The same table in memory of its own.
-    pub fn duplicate<B: Allocator + Clone>(&self, alloc: B) -> Result<HuffmanTable<B>>
-        ensures { Gives (λ t. t) result (Ok self.now) }
-    {
-        let mut lines = Vec::new(alloc.clone()?);
-        lines.extend_from_slice(&self.lines)?;
-        let mut levels = Vec::new(alloc);
-        levels.extend_from_slice(&self.levels)?;
-        Ok(HuffmanTable { lines, levels })
-    }
-
     /// Reads a code and its range bits (B.4): the value, or None for out of band.
     ///
     /// Bits that end in the code are an unexpected end; the first bits that begin no code, range

@@ -2,7 +2,7 @@
 use Rattle.std.specs.Prelude.{ℕ, ◌-◌, ◌/◌, ◌%◌, ◌≤◌, ◌≡◌, ◌==◌, nat_lt, Bool, true, false, not, ◌&&◌, ◌||◌, ℤ, pos, int_lt, int_le, List, [], ◌∷◌, zero, suc, length, take, drop, Result, Ok}
 use Rattle.std.specs.Int.{w8, w32, cast_signed}
 use Rattle.jbig2_base.specs.Answer.{◌>>=◌, refuse_if}
-use Rattle.jbig2_base.specs.Fields.{number_at}
+use Rattle.jbig2_base.specs.Fields.{number_at, signed_at}
 use Rattle.jbig2_base.specs.declared.error.DecodeError.{DecodeError}
 use Rattle.jbig2_base.specs.declared.error.DecodeError.TheVariants as errors
 use Rattle.jbig2_base.specs.declared.error.OverflowError.TheVariants.{BitmapDimension}
@@ -43,15 +43,11 @@ header_view h = record {
 abbrev pub is_earlier : ℤ → ℤ → Bool
 is_earlier x y = int_lt y (pos 0) || (int_le y (pos 0) && int_lt x (pos 0))
 
--- a byte in two's complement
-abbrev pub signed_byte_at : List ℕ → Result (ℤ × List ℕ) DecodeError
-signed_byte_at bytes = number_at w8 bytes >>= λ n. Ok (cast_signed w8 n.0, n.1)
-
 -- an adaptive pixel (7.4.6.3)
 unfoldable pub adaptive_pixel_at : List ℕ → Result (AdaptiveTemplatePixel × List ℕ) DecodeError
 adaptive_pixel_at bytes = do
-  x ← signed_byte_at bytes
-  y ← signed_byte_at x.1
+  x ← signed_at w8 bytes
+  y ← signed_at w8 x.1
   earlier ← refuse_if (not (is_earlier x.0 y.0)) (errors.Template InvalidAtPixel)
   Ok (record { x = x.0; y = y.0 }, y.1)
 

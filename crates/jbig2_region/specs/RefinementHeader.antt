@@ -2,11 +2,10 @@
 use Rattle.std.specs.Prelude.{ℕ, ◌/◌, ◌%◌, ◌≤◌, ◌==◌, nat_lt, Bool, ◌||◌, List, [], ◌∷◌, Result, Ok, if◌then◌else◌}
 use Rattle.std.specs.Int.{w8}
 use Rattle.jbig2_base.specs.Answer.{◌>>=◌, refuse_if}
-use Rattle.jbig2_base.specs.Fields.{number_at}
+use Rattle.jbig2_base.specs.Fields.{number_at, signed_at}
 use Rattle.jbig2_base.specs.declared.error.DecodeError.{DecodeError}
 use Rattle.jbig2_base.specs.declared.error.DecodeError.TheVariants as errors
 use Rattle.jbig2_base.specs.declared.error.OverflowError.TheVariants.{BitmapDimension}
-use Rattle.jbig2_region.specs.GenericHeader.{signed_byte_at}
 use Rattle.jbig2_region.specs.RegionInfo.{region_info_at}
 use Rattle.jbig2_region.specs.Templates.{right}
 use Rattle.jbig2_region.specs.declared.generic_refinement.GenericRefinementRegionHeader.{GenericRefinementRegionHeader}
@@ -38,8 +37,8 @@ refinement_template_of n = if n == 0 then Template0 else Template1
 -- a pixel at any place
 unfoldable pub free_pixel_at : List ℕ → Result (AdaptiveTemplatePixel × List ℕ) DecodeError
 free_pixel_at bytes = do
-  x ← signed_byte_at bytes
-  y ← signed_byte_at x.1
+  x ← signed_at w8 bytes
+  y ← signed_at w8 x.1
   Ok (record { x = x.0; y = y.0 }, y.1)
 
 -- The adaptive pixels (7.4.7.3): two at template 0, whose places are not checked; none at template 1, where the two

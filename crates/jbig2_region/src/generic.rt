@@ -5,10 +5,9 @@ ghost use Rattle.jbig2_base.specs.Bits.{IsAligned};
 ghost use Rattle.jbig2_base.specs.Grid.{blank};
 ghost use Rattle.jbig2_region.specs.Generic.{contexts_after, generic_answer, generic_decoded, region_view};
 ghost use Rattle.jbig2_region.specs.inner.Layouts.{CountsGeneric};
-ghost use Rattle.jbig2_region.specs.GenericHeader.{header_view, is_earlier, first_alone, signed_byte_at, adaptive_pixel_at, adaptive_pixels_at, regular_pixels_at, template_pixels_at, rows_at, generic_header_at, FitsTemplate, IsParsed};
+ghost use Rattle.jbig2_region.specs.GenericHeader.{header_view, is_earlier, first_alone, adaptive_pixel_at, adaptive_pixels_at, regular_pixels_at, template_pixels_at, rows_at, generic_header_at, FitsTemplate, IsParsed};
 
 pub use crate::generic_coding::decode_coded;
-use jbig2_mmr::mmr;
 use crate::raster::fresh_contexts;
 use crate::region_info::{RegionSegmentInfo, parse_region_segment_info};
 use crate::template::{AdaptiveTemplatePixel, GenericTemplatePixels, Template};
@@ -16,9 +15,10 @@ use jbig2_base::bitmap::Bitmap;
 use jbig2_base::bitmap::operator::CombinationOperator;
 use jbig2_base::bitmap::steps::Steps;
 use jbig2_base::error::{DecodeError, OverflowError, RegionError, Result, TemplateError};
-use jbig2_base::field::{byte_field, u32_field};
+use jbig2_base::field::{byte_field, i8_field, u32_field};
 use jbig2_base::reader::Reader;
 use jbig2_coder::arithmetic_decoder::{ArithmeticDecoder, ArithmeticDecoderContext};
+use jbig2_mmr::mmr;
 use std::alloc::Allocator;
 use std::sync::ledger::Ledger;
 
@@ -44,23 +44,14 @@ fn is_earlier(x: i16, y: i16) -> bool
     y < 0 || (y <= 0 && x < 0)
 }
 
-pub(crate) fn signed_field(reader: &mut Reader<'_>) -> Result<i16>
-    requires { IsAligned reader.old }
-    ensures value { Answers (λ x. (x, reader.new.bytes)) result (signed_byte_at reader.old.bytes) }
-    ensures aligned { IsAligned reader.new }
-{
-    let byte = byte_field(reader)?;
-    Ok(i16::from(byte.cast_signed()))
-}
-
 #[tactic(auto, unfolding(crate::specs::GenericHeader::adaptive_pixel_at))]
 fn parse_adaptive_template_pixel(reader: &mut Reader<'_>) -> Result<AdaptiveTemplatePixel>
     requires { IsAligned reader.old }
     ensures value { Answers (λ pixel. (pixel, reader.new.bytes)) result (adaptive_pixel_at reader.old.bytes) }
     ensures aligned { IsAligned reader.new }
 {
-    let x = signed_field(reader)?;
-    let y = signed_field(reader)?;
+    let x = i16::from(i8_field(reader)?);
+    let y = i16::from(i8_field(reader)?);
     if !is_earlier(x, y) {
         return Err(DecodeError::Template(TemplateError::InvalidAtPixel));
     }

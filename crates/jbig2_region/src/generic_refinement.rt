@@ -8,7 +8,7 @@ ghost use Rattle.jbig2_region.specs.Refinement.{is_far, is_smaller, offset, refi
 ghost use Rattle.jbig2_region.specs.inner.RefinementViews.{reference_view};
 ghost use Rattle.jbig2_region.specs.RefinementHeader.{IsRefinement, free_pixel_at, header_view, refinement_header_at, refinement_pixels_at};
 
-use crate::generic::{DecodedRegion, signed_field};
+use crate::generic::DecodedRegion;
 use crate::raster::fresh_contexts;
 pub use crate::refinement_coding::decode_bitmap;
 use crate::region_info::{RegionSegmentInfo, parse_region_segment_info};
@@ -16,7 +16,7 @@ use crate::template::{AdaptiveTemplatePixel, RefinementTemplate};
 use jbig2_base::bitmap::Bitmap;
 use jbig2_base::bitmap::steps::Steps;
 use jbig2_base::error::{DecodeError, OverflowError, RegionError, Result};
-use jbig2_base::field::byte_field;
+use jbig2_base::field::{byte_field, i8_field};
 use jbig2_base::reader::Reader;
 use jbig2_coder::arithmetic_decoder::{ArithmeticDecoder, ArithmeticDecoderContext};
 use std::alloc::Allocator;
@@ -50,8 +50,8 @@ fn parse_pixel(reader: &mut Reader<'_>) -> Result<AdaptiveTemplatePixel>
     ensures value { Answers (λ pixel. (pixel, reader.new.bytes)) result (free_pixel_at reader.old.bytes) }
     ensures aligned { IsAligned reader.new }
 {
-    let x = signed_field(reader)?;
-    let y = signed_field(reader)?;
+    let x = i16::from(i8_field(reader)?);
+    let y = i16::from(i8_field(reader)?);
     Ok(AdaptiveTemplatePixel { x, y })
 }
 
