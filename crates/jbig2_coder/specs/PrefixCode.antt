@@ -1,6 +1,6 @@
 -- Prefix codes (T.88, B.3 and B.4): the codes that prefix lengths make, and how bits are read by them.
 use Rattle.std.specs.Prelude.{◌≡◌, AllPairs, ℕ, zero, suc, ◌+◌, ◌-◌, ◌*◌, ◌/◌, ◌^◌, ◌≤◌, nat_lt, nat_le, ◌==◌, Bool, false, ◌&&◌, ◌||◌, List, [], ◌∷◌, ◌++◌, drop, max, filter, All, Option, Some, None, Result, Ok, Err, if◌then◌else◌, ℤ, pos, negsuc, ◌+ℤ◌, ◌-ℤ◌}
-use Rattle.jbig2_base.specs.Bits.{bits_next}
+use Rattle.jbig2_base.specs.Bits.{Place, bits_left, bits_next, bits_on}
 use Rattle.jbig2_base.specs.declared.error.DecodeError.{DecodeError}
 use Rattle.jbig2_base.specs.declared.error.DecodeError.TheVariants.{Parse, Huffman}
 use Rattle.jbig2_base.specs.declared.error.ParseError.TheVariants.{UnexpectedEof}
@@ -18,6 +18,12 @@ pub record Member : Type 0 where
 pub record CodeReading (A : Type 0) : Type 0 where
   pub answer : Result A DecodeError
   pub taken : ℕ
+
+-- A call that answers what a reading answers, and leaves the bits that it takes behind it.
+pub record Reads {A : Type 0} (old new : Place) (result : Result A DecodeError) (reading : CodeReading A) : Type 0 where
+  pub value : result ≡ reading.answer
+  pub place : new ≡ bits_on reading.taken old
+  pub rest : bits_left new ≡ drop reading.taken (bits_left old)
 
 -- the greatest prefix length
 abbrev pub longest : List TableLine → ℕ
@@ -140,6 +146,9 @@ abbrev pub no_oob : Result (Option ℤ) DecodeError → Result ℤ DecodeError
 no_oob (Ok (Some n)) = Ok n
 no_oob (Ok None) = Err (Huffman UnexpectedOob)
 no_oob (Err e) = Err e
+
+abbrev pub without_oob : CodeReading (Option ℤ) → CodeReading ℤ
+without_oob reading = record { answer = no_oob reading.answer; taken = reading.taken }
 
 -- range lengths that one read of bits can take
 abbrev pub AreShort : List TableLine → Type 0
