@@ -15,7 +15,8 @@ use Rattle.jbig2_region.specs.Raster.{Region, no_pixels, so_far, decoded as deco
 use Rattle.jbig2_region.specs.Refinement.{Reference, refinement_coding}
 use Rattle.jbig2_region.specs.declared.template.AdaptiveTemplatePixel.{AdaptiveTemplatePixel}
 use Rattle.jbig2_region.specs.declared.template.RefinementTemplate.{RefinementTemplate}
-use Rattle.jbig2_text.specs.BitFields.{invalid_code, bits_at, behind_value, value_at}
+use Rattle.jbig2_base.specs.Fields.{bits_at}
+use Rattle.jbig2_text.specs.BitFields.{invalid_code, behind_value, value_at}
 use Rattle.jbig2_text.specs.Text.{Readings}
 
 -- ---- refined symbols

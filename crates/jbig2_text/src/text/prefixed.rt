@@ -4,14 +4,14 @@ ghost use Rattle.jbig2_base.specs.Answer.{Answers};
 ghost use Rattle.jbig2_text.specs.TextCoding.{sized_bytes};
 ghost use Rattle.jbig2_text.specs.inner.TextViews.{prefixed_view};
 
-use crate::bit_fields::{bits_field, value_field};
+use crate::bit_fields::value_field;
 use crate::text::readings::ReadInstances;
 use crate::text::refining::Refining;
 use crate::text::tables::TextRegionHuffmanTables;
 use jbig2_base::bitmap::Bitmap;
 use jbig2_base::bitmap::steps::Steps;
 use jbig2_base::error::{DecodeError, HuffmanError, ParseError, Result};
-use jbig2_base::field::bytes_field;
+use jbig2_base::field::{bits_field, bytes_field};
 use jbig2_base::reader::Reader;
 use jbig2_coder::arithmetic_decoder::ArithmeticDecoder;
 use jbig2_coder::huffman_table::HuffmanTable;
