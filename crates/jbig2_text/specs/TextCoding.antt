@@ -3,7 +3,7 @@
 use Rattle.std.specs.Prelude.{ℕ, ◌%◌, ◌^◌, ◌==◌, Bool, not, ℤ, pos, negsuc, nat_abs, List, Option, Some, None, Result, Ok, Err, replicate}
 use Rattle.jbig2_base.specs.Answer.{◌>>=◌}
 use Rattle.jbig2_base.specs.Bits.{Place, bits_left, start_of, aligned}
-use Rattle.jbig2_base.specs.Fields.{bytes_at, end_of_bytes}
+use Rattle.jbig2_base.specs.Fields.{bits_at, bytes_at, end_of_bytes}
 use Rattle.jbig2_base.specs.Grid.{Grid}
 use Rattle.jbig2_base.specs.declared.error.DecodeError.{DecodeError}
 use Rattle.jbig2_base.specs.declared.error.DecodeError.TheVariants.{Symbol}
@@ -15,7 +15,6 @@ use Rattle.jbig2_coder.specs.Procedures.{Procedures, asked, fresh_procedures}
 use Rattle.jbig2_coder.specs.declared.integer_procedures.IntegerProcedure.{IntegerProcedure}
 use Rattle.jbig2_coder.specs.declared.integer_procedures.IntegerProcedure.TheVariants.{Iads, Iadt, Iafs, Iait, Iardh, Iardw, Iardx, Iardy, Iari}
 use Rattle.jbig2_region.specs.Refinement.{Reference}
-use Rattle.jbig2_base.specs.Fields.{bits_at}
 use Rattle.jbig2_text.specs.BitFields.{invalid_code, behind_value, value_at}
 use Rattle.jbig2_text.specs.Refining.{Refining, refined_with}
 use Rattle.jbig2_text.specs.Text.{Readings}
