@@ -20,6 +20,7 @@ pub mod PrefixDecoding
 pub mod PrefixFree
 pub mod PrefixKraft
 pub mod PrefixReading
+mod PrefixSums
 pub mod PrefixStandard
 pub mod PrefixWalk
 pub mod PrefixWorked
