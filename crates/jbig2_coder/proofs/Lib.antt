@@ -17,6 +17,7 @@ pub mod InverseShift
 pub mod ListSteps
 pub mod PrefixBuilding
 pub mod PrefixDecoding
+mod PrefixFewest
 pub mod PrefixFree
 pub mod PrefixKraft
 pub mod PrefixReading

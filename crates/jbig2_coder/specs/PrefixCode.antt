@@ -1,6 +1,7 @@
 -- Prefix codes (T.88, B.3 and B.4): the codes that prefix lengths make, and how bits are read by them.
-use Rattle.std.specs.Prelude.{◌≡◌, AllPairs, ℕ, zero, suc, ◌+◌, ◌-◌, ◌*◌, ◌/◌, ◌^◌, ◌≤◌, nat_lt, nat_le, ◌==◌, Bool, false, ◌&&◌, ◌||◌, List, [], ◌∷◌, ◌++◌, length, drop, max, filter, All, Option, Some, None, Result, Ok, Err, if◌then◌else◌, ℤ, pos, negsuc, ◌+ℤ◌, ◌-ℤ◌}
-use Rattle.jbig2_base.specs.Bits.{Place, bits_left, bits_next, bits_on}
+use Rattle.std.specs.Prelude.{◌≡◌, AllPairs, ℕ, zero, suc, ◌+◌, ◌-◌, ◌*◌, ◌/◌, ◌^◌, ◌≤◌, nat_lt, nat_le, ◌==◌, Bool, true, false, not, ◌&&◌, ◌||◌, List, [], ◌∷◌, ◌++◌, length, take, drop, max, filter, All, Option, Some, None, Result, Ok, Err, if◌then◌else◌, ℤ, pos, negsuc, ◌+ℤ◌, ◌-ℤ◌}
+use Rattle.jbig2_base.specs.Bits.{Place, bits_left, bits_next, bits_on, number_after}
+use Rattle.jbig2_base.specs.Search.{place_from}
 use Rattle.jbig2_base.specs.declared.error.DecodeError.{DecodeError}
 use Rattle.jbig2_base.specs.declared.error.DecodeError.TheVariants.{Parse, Huffman}
 use Rattle.jbig2_base.specs.declared.error.ParseError.TheVariants.{UnexpectedEof}
@@ -98,16 +99,25 @@ abbrev pub found_or : Option TableLine → ℕ → CodeReading TableLine → Cod
 found_or (Some line) k other = record { answer = Ok line; taken = k }
 found_or None k other = other
 
--- The member that begins the bits, k of which are taken and spell v. The shortest beginning that
--- begins no member is refused.
-abbrev pub read_on : List Member → ℕ → ℕ → List ℕ → CodeReading TableLine
-read_on ms k v [] = ended (k + 1)
-read_on ms k v (b ∷ bits) =
-    found_or (line_of ms (k + 1) (2 * v + b)) (k + 1)
-    (if begins_longer ms (k + 1) (2 * v + b) then read_on ms (k + 1) (2 * v + b) bits else refused (k + 1))
+-- the number that the first k bits spell
+abbrev pub front_number : ℕ → List ℕ → ℕ
+front_number k bits = number_after 0 (take k bits)
 
+abbrev pub is_found : Option TableLine → Bool
+is_found (Some line) = true
+is_found None = false
+
+-- whether the first k bits are a code, or begin none
+abbrev pub is_decided : List Member → List ℕ → ℕ → Bool
+is_decided ms bits k = is_found (line_of ms k (front_number k bits)) || not (begins_longer ms k (front_number k bits))
+
+-- what the first k bits give, where no fewer are enough
+abbrev pub read_of : List Member → List ℕ → ℕ → CodeReading TableLine
+read_of ms bits k = if nat_lt (length bits) k then ended k else found_or (line_of ms k (front_number k bits)) k (refused k)
+
+-- The line of the code that begins the bits; else the shortest beginning that begins no code is refused.
 unfoldable pub read_code : List Member → List ℕ → CodeReading TableLine
-read_code ms bits = read_on ms 0 0 bits
+read_code ms bits = read_of ms bits (place_from (is_decided ms bits) 1 (length bits + 1))
 
 -- a number in signed 32 bits
 abbrev pub in_word : ℤ → Result ℤ DecodeError

@@ -2,7 +2,7 @@
 use Rattle.std.specs.Prelude.{◌≡◌, ℕ, zero, suc, ◌+◌, ◌-◌, ◌*◌, ◌/◌, ◌≤◌, nat_lt, List, [], ◌∷◌, ◌++◌, length, take, drop, slice_get, if◌then◌else◌}
 use Rattle.jbig2_coder.specs.declared.huffman_table.line.TableLine.{TableLine}
 use Rattle.jbig2_coder.specs.declared.huffman_table.levels.Level.{Level}
-use Rattle.jbig2_coder.specs.PrefixCode.{Member, CodeReading, shorter, level, found_or, refused, ended}
+use Rattle.jbig2_coder.specs.PrefixCode.{Member, CodeReading, shorter, level, line_of, begins_longer, found_or, refused, ended}
 
 -- the lines of each level
 abbrev pub groups_of : List TableLine → List Level → List (List TableLine)
@@ -23,6 +23,13 @@ numbered l n (x ∷ xs) = record { bits = l; number = n; line = x } ∷ numbered
 abbrev pub codes_from : ℕ → ℕ → List TableLine → List Member
 codes_from zero l lines = []
 codes_from (suc n) l lines = numbered l (shorter l lines) (level l lines) ++ codes_from n (l + 1) lines
+
+-- A read bit by bit: of a code's bits k are taken, and spell v.
+abbrev pub read_on : List Member → ℕ → ℕ → List ℕ → CodeReading TableLine
+read_on ms k v [] = ended (k + 1)
+read_on ms k v (b ∷ bits) =
+    found_or (line_of ms (k + 1) (2 * v + b)) (k + 1)
+    (if begins_longer ms (k + 1) (2 * v + b) then read_on ms (k + 1) (2 * v + b) bits else refused (k + 1))
 
 -- how many inner nodes stand above the groups, where each has at most two children
 abbrev pub nodes : List (List TableLine) → ℕ
