@@ -17,9 +17,11 @@ pub mod InverseShift
 pub mod ListSteps
 pub mod PrefixBuilding
 pub mod PrefixDecoding
+mod PrefixFewest
 pub mod PrefixFree
 pub mod PrefixKraft
 pub mod PrefixReading
+mod PrefixSums
 pub mod PrefixStandard
 pub mod PrefixWalk
 pub mod PrefixWorked

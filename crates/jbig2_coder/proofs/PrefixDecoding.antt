@@ -12,7 +12,7 @@ use Rattle.jbig2_coder.proofs.PrefixWalk.{walk-reads}
 use Rattle.jbig2_coder.proofs.PrefixReading.{bits_on-add}
 
 decoded-is : (gs : List (List TableLine)) (ms : List Member) (bits : List ℕ) → codes_at 0 0 gs ≡ ms → decoded ms bits ≡ valued (walk gs 0 0 bits) bits
-unfolding decoded read_code
+unfolding decoded
 decoded-is gs ms bits e = ap (λ (r : CodeReading TableLine). valued r bits) (sym (walk-reads gs bits ∙ ap (λ (ns : List Member). read_code ns bits) e))
 
 valued-err : (r : CodeReading TableLine) (bits : List ℕ) (e : DecodeError) → Err e ≡ r.answer → valued r bits ≡ record { answer = Err e; taken = r.taken }

@@ -4,8 +4,9 @@ use Rattle.std.proofs.Math.Nat.{div-div-eq-div-mul}
 use Rattle.std.proofs.lemmas.Bool.{cases_lt, cases_eq, cond-true, cond-false, lt-ltb, le-ltb, eq-eqb, ne_eqb, eqb-true, and_left, and_right, and_from, or_left, or_right, or_from}
 use Rattle.std.specs.List.{slice_get}
 use Rattle.jbig2_coder.specs.declared.huffman_table.line.TableLine.{TableLine}
-use Rattle.jbig2_coder.specs.PrefixCode.{Member, CodeReading, numbered, line_of, begins_longer, found_or, read_on, refused}
-use Rattle.jbig2_coder.specs.inner.PrefixLevels.{nodes, codes_at, walk}
+use Rattle.jbig2_coder.specs.PrefixCode.{Member, CodeReading, line_of, begins_longer, found_or, refused, read_code}
+use Rattle.jbig2_coder.proofs.PrefixFewest.{read_code-is}
+use Rattle.jbig2_coder.specs.inner.PrefixLevels.{read_on, numbered, nodes, codes_at, walk}
 
 -- the first line, or else the other
 abbrev pick : Option TableLine → Option TableLine → Option TableLine
@@ -203,5 +204,5 @@ walk-on ms (g ∷ gs) k b d (bit ∷ bits) sees =
     ∙ ap (λ (o : Option TableLine). found_or o (k + 1) (cond (begins_longer ms (k + 1) n) (read_on ms (k + 1) n bits) (refused (k + 1)))) (sym line)
 
 -- the walk from the root reads by the members
-pub walk-reads : (gs : List (List TableLine)) (bits : List ℕ) → walk gs 0 0 bits ≡ read_on (codes_at 0 0 gs) 0 0 bits
-walk-reads gs bits = walk-on (codes_at 0 0 gs) gs 0 0 0 bits (record { lines = λ l v h. refl; longer = λ l v h. refl })
+pub walk-reads : (gs : List (List TableLine)) (bits : List ℕ) → walk gs 0 0 bits ≡ read_code (codes_at 0 0 gs) bits
+walk-reads gs bits = walk-on (codes_at 0 0 gs) gs 0 0 0 bits (record { lines = λ l v h. refl; longer = λ l v h. refl }) ∙ read_code-is (codes_at 0 0 gs) bits

@@ -1,11 +1,10 @@
 -- Reading bits: their number, PREV, and how a call's state stands to what was read.
-use Rattle.std.specs.Prelude.{bit_and, bit_or, ◌==◌}
-use Rattle.std.proofs.Common.{◌≡◌, ℕ, zero, suc, ◌+◌, ◌-◌, ◌*◌, ◌%◌, ◌^◌, ◌<◌, ◌≤◌, Bool, true, false, List, [], ◌∷◌, ◌++◌, length, drop, get_or, set, ℤ, Some, None, refl, sym, ap, ◌∙◌, arith, subst, add-one, length-append}
+use Rattle.std.specs.Prelude.{◌==◌}
+use Rattle.std.proofs.Common.{◌≡◌, ℕ, zero, suc, ◌+◌, ◌-◌, ◌*◌, ◌%◌, ◌^◌, ◌<◌, ◌≤◌, Bool, true, false, List, [], ◌∷◌, ◌++◌, length, drop, get_or, set, ℤ, Some, None, refl, sym, ap, ◌∙◌, arith, subst, add-one, length-append, length-drop, ⊎_elim}
 use Rattle.std.proofs.Math.Nat.{pow-suc, pow-le-pow_right}
 use Rattle.std.proofs.Math.Seq.{drop-length}
-use Rattle.std.proofs.lemmas.Nat.{or_lt, and_mask}
-use Rattle.std.proofs.lemmas.List.{drop-append-le, get_or_default}
-use Rattle.std.proofs.lemmas.Bool.{cond-true, cond-false, eq-eqb, ne_eqb}
+use Rattle.std.proofs.lemmas.List.{drop-append-le, drop_more, get_or_default}
+use Rattle.std.proofs.lemmas.Bool.{cases_lt, cond-true, cond-false, eq-eqb, ne_eqb}
 use Rattle.std.proofs.lemmas.Bool.Decides.{nat_tests}
 use Rattle.std.proofs.lemmas.Int.{of_z-to_z}
 use mir.Val.{to_z, of_z}
@@ -13,8 +12,8 @@ use mir.Syntax.{w32}
 use Rattle.jbig2_base.specs.Counts.{Counts}
 use Rattle.jbig2_base.specs.Grid.{bit_number}
 use Rattle.jbig2_coder.specs.Coder.{Coder, Context, Decision, decision, fresh}
-use Rattle.jbig2_coder.specs.Integers.{Reading, number, next, read, read_more, prev_next, prev_after, prev_of, prefix, signed, value_of, range_of, integer, Ids, id, place_of}
-use Rattle.jbig2_coder.specs.inner.Stands.{Stands}
+use Rattle.jbig2_coder.specs.Integers.{Reading, number, next, read, read_more, prev_of, prefix, signed, value_of, range_of, integer, Ids, id, place_of}
+use Rattle.jbig2_coder.specs.inner.Stands.{Stands, prev_next}
 use Rattle.jbig2_coder.specs.declared.arithmetic_decoder.registers.Registers.{Registers}
 
 pub bit_number-same : (a b : Bool) → bit_number a ≡ bit_number b → a ≡ b
@@ -29,17 +28,9 @@ pub prev_next-small : (p : ℕ) (b : Bool) → p < 256 → 2 * p + bit_number b 
 unfolding prev_next
 prev_next-small p b h = grind (arith, nat_tests)
 
-pub prev_next-large : (p : ℕ) (b : Bool) → 256 ≤ p → bit_or (bit_and (2 * p + bit_number b) 511) 256 ≡ prev_next p b
+pub prev_next-large : (p : ℕ) (b : Bool) → 256 ≤ p → 256 + (2 * p + bit_number b) % 256 ≡ prev_next p b
 unfolding prev_next
 prev_next-large p b h = grind (arith, nat_tests)
-
-pub kept-below : (n : ℕ) → bit_or (bit_and n 511) 256 < 512
-kept-below n = or_lt 9 (bit_and n 511) 256 (rw (and_mask n 9) (omega arith)) (omega arith)
-
-pub prev_after-push : (p : ℕ) (bits : List Bool) (b : Bool) → prev_after p (bits ++ b ∷ []) ≡ prev_next (prev_after p bits) b
-unfolding prev_after
-prev_after-push p [] b = refl
-prev_after-push p (x ∷ bits) b = prev_after-push (prev_next p x) bits b
 
 -- numbers
 
@@ -54,11 +45,59 @@ bit-small : (b : Bool) → bit_number b < 2
 bit-small true = omega arith
 bit-small false = omega arith
 
+number-cons : (b : Bool) (bits : List Bool) → number (b ∷ bits) ≡ bit_number b * 2 ^ length bits + number bits
+unfolding number
+number-cons b bits = refl
+
 pub number-below : (bits : List Bool) → number bits < 2 ^ length bits
 unfolding number
 number-below [] = omega arith
 number-below (true ∷ bits) = rw pow-suc (omega (arith, number-below bits))
 number-below (false ∷ bits) = rw pow-suc (omega (arith, number-below bits))
+
+-- what a 1 and the bits spell
+number-marked : (bits : List Bool) → number (true ∷ bits) ≡ 2 ^ length bits + number bits
+unfolding number
+number-marked bits = omega arith
+
+prev-short : (bits : List Bool) (b : Bool) → length bits < 8 → prev_of (bits ++ b ∷ []) ≡ prev_next (prev_of bits) b
+prev-short bits b short =
+    let more : length (bits ++ b ∷ []) - 8 ≡ 0 = omega (arith, length-append bits (b ∷ [])) in
+    let none : length bits - 8 ≡ 0 = omega arith in
+    let power : 2 ^ length bits ≤ 2 ^ 7 = pow-le-pow_right (omega arith) (let few : length bits ≤ 7 = omega arith in few) in
+    let small : number (true ∷ bits) < 256 = omega (arith, number-marked bits, number-below bits, power) in
+    ap (λ (k : ℕ). number (true ∷ drop k (bits ++ b ∷ []))) more
+    ∙ number-push (true ∷ bits) b
+    ∙ prev_next-small (number (true ∷ bits)) b small
+    ∙ sym (ap (λ (k : ℕ). prev_next (number (true ∷ drop k bits)) b) none)
+
+prev-long : (bits : List Bool) (b : Bool) → 8 ≤ length bits → prev_of (bits ++ b ∷ []) ≡ prev_next (prev_of bits) b
+prev-long bits b long =
+    let k = length bits - 8 in
+    let first : Bool = get_or bits k false in
+    let rest : List Bool = drop (k + 1) bits in
+    let size : length rest ≡ 7 = length-drop (k + 1) bits ∙ (let e : length bits - (k + 1) ≡ 7 = omega arith in e) in
+    let more : length (bits ++ b ∷ []) - 8 ≡ k + 1 = omega (arith, length-append bits (b ∷ [])) in
+    let left : drop k bits ≡ first ∷ rest = drop_more bits k false (omega arith) in
+    let old : prev_of bits ≡ number (true ∷ first ∷ rest) = ap (λ (ys : List Bool). number (true ∷ ys)) left in
+    let power : 2 ^ length rest ≡ 128 = ap (λ (n : ℕ). 2 ^ n) size in
+    let wide : 2 ^ length (first ∷ rest) ≡ 256 = ap (λ (n : ℕ). 2 ^ suc n) size in
+    let marked : number (true ∷ first ∷ rest) ≡ 2 ^ length (first ∷ rest) + number (first ∷ rest) = number-marked (first ∷ rest) in
+    let below : number (first ∷ rest) < 2 ^ length (first ∷ rest) = number-below (first ∷ rest) in
+    let new : number (true ∷ (rest ++ b ∷ [])) ≡ 2 * number (true ∷ rest) + bit_number b = number-push (true ∷ rest) b in
+    let head : number (first ∷ rest) ≡ bit_number first * 2 ^ length rest + number rest = number-cons first rest in
+    let scaled : bit_number first * 2 ^ length rest ≡ bit_number first * 128 = ap (λ (n : ℕ). bit_number first * n) power in
+    let inner : number (true ∷ rest) ≡ 2 ^ length rest + number rest = number-marked rest in
+    let low : number rest < 2 ^ length rest = number-below rest in
+    let kept : 2 * number (true ∷ rest) + bit_number b ≡ 256 + (2 * number (true ∷ first ∷ rest) + bit_number b) % 256 = omega (arith, bit-small b, bit-small first) in
+    ap (λ (n : ℕ). number (true ∷ drop n (bits ++ b ∷ []))) more
+    ∙ ap (λ (ys : List Bool). number (true ∷ ys)) (drop-append-le (k + 1) bits (b ∷ []) (omega arith))
+    ∙ new ∙ kept
+    ∙ prev_next-large (number (true ∷ first ∷ rest)) b (omega arith)
+    ∙ ap (λ (n : ℕ). prev_next n b) (sym old)
+
+pub prev_of-push : (bits : List Bool) (b : Bool) → prev_of (bits ++ b ∷ []) ≡ prev_next (prev_of bits) b
+prev_of-push bits b = ⊎_elim (λ (short : length bits < 8). prev-short bits b short) (λ (long : 8 ≤ length bits). prev-long bits b long) (cases_lt (length bits) 8)
 
 -- values
 

@@ -1,4 +1,7 @@
--- The arithmetic decoder (T.88, Annexes E and G: the software conventions), one shift at a time.
+-- The arithmetic decoder (T.88, Annex E in the software conventions of Annex G), one shift at a time.
+--
+-- The annexes differ where a byte from 80 to 8F follows a byte FF, which no encoder writes, and Annex G
+-- decides: in a fresh context the bytes FF 8F begin with the decision 0, where Annex E has 1.
 use Rattle.std.specs.Prelude.{ℕ, suc, zero, ◌+◌, ◌-◌, ◌*◌, ◌/◌, ◌%◌, ◌^◌, ◌<◌, ◌≤◌, length, Bool, true, false, not, ◌&&◌, if◌then◌else◌, ◌==◌, nat_lt, nat_le, List, slice_index_or}
 use Rattle.jbig2_coder.specs.Table.{row_of}
 use Rattle.jbig2_coder.specs.declared.arithmetic_decoder.registers.CodeRegister.{CodeRegister}

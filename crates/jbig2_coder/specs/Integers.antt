@@ -1,5 +1,5 @@
 -- Integers and symbol ids (T.88, Annex A): decisions whose contexts the bits read so far name.
-use Rattle.std.specs.Prelude.{ℕ, suc, zero, ◌+◌, ◌-◌, ◌*◌, ◌%◌, ◌^◌, Bool, true, if◌then◌else◌, ◌==◌, nat_lt, bit_and, bit_or, List, [], ◌∷◌, ◌++◌, length, drop, slice_index_or, slice_set, Some, None, Option, ℤ, pos, ◌-ℤ◌}
+use Rattle.std.specs.Prelude.{ℕ, suc, zero, ◌+◌, ◌-◌, ◌*◌, ◌%◌, ◌^◌, Bool, true, if◌then◌else◌, ◌==◌, nat_lt, List, [], ◌∷◌, ◌++◌, length, drop, slice_index_or, slice_set, Some, None, Option, ℤ, pos, ◌-ℤ◌}
 use Rattle.jbig2_base.specs.Grid.{bit_number}
 use Rattle.jbig2_coder.specs.Coder.{Context, Decision, fresh, decision}
 use Rattle.jbig2_coder.specs.declared.arithmetic_decoder.registers.Registers.{Registers}
@@ -30,18 +30,9 @@ unfoldable pub read_more : (List Bool → ℕ) → ℕ → List ℕ → Reading 
 read_more name zero bytes r = r
 read_more name (suc n) bytes r = read name bytes (read_more name n bytes r)
 
--- PREV (A.2): at first it grows by a bit at a time, then it keeps the last eight bits behind a 1.
-unfoldable pub prev_next : ℕ → Bool → ℕ
-prev_next prev bit =
-    let grown = 2 * prev + bit_number bit in
-    if nat_lt prev 256 then grown else bit_or (bit_and grown 511) 256
-
-unfoldable pub prev_after : ℕ → List Bool → ℕ
-prev_after prev [] = prev
-prev_after prev (b ∷ bits) = prev_after (prev_next prev b) bits
-
+-- PREV (A.2): the number that a 1 and the last bits spell, at most eight of them.
 abbrev pub prev_of : List Bool → ℕ
-prev_of bits = prev_after 1 bits
+prev_of bits = number (true ∷ drop (length bits - 8) bits)
 
 -- The ranges of Table A.1 by the ones in their prefix: how many bits the value has, and the least
 -- number of the range.

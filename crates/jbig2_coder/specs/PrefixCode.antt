@@ -1,6 +1,7 @@
 -- Prefix codes (T.88, B.3 and B.4): the codes that prefix lengths make, and how bits are read by them.
-use Rattle.std.specs.Prelude.{◌≡◌, AllPairs, ℕ, zero, suc, ◌+◌, ◌-◌, ◌*◌, ◌/◌, ◌^◌, ◌≤◌, nat_lt, nat_le, ◌==◌, Bool, false, ◌&&◌, ◌||◌, List, [], ◌∷◌, ◌++◌, drop, max, filter, All, Option, Some, None, Result, Ok, Err, if◌then◌else◌, ℤ, pos, negsuc, ◌+ℤ◌, ◌-ℤ◌}
-use Rattle.jbig2_base.specs.Bits.{Place, bits_left, bits_next, bits_on}
+use Rattle.std.specs.Prelude.{◌≡◌, AllPairs, ℕ, zero, suc, ◌+◌, ◌-◌, ◌*◌, ◌/◌, ◌^◌, ◌≤◌, nat_lt, nat_le, ◌==◌, Bool, true, false, not, ◌&&◌, ◌||◌, List, [], ◌∷◌, ◌++◌, length, take, drop, max, filter, All, Option, Some, None, Result, Ok, Err, if◌then◌else◌, ℤ, pos, negsuc, ◌+ℤ◌, ◌-ℤ◌}
+use Rattle.jbig2_base.specs.Bits.{Place, bits_left, bits_next, bits_on, number_after}
+use Rattle.jbig2_base.specs.Search.{place_from}
 use Rattle.jbig2_base.specs.declared.error.DecodeError.{DecodeError}
 use Rattle.jbig2_base.specs.declared.error.DecodeError.TheVariants.{Parse, Huffman}
 use Rattle.jbig2_base.specs.declared.error.ParseError.TheVariants.{UnexpectedEof}
@@ -48,20 +49,26 @@ unfoldable pub shorter : ℕ → List TableLine → ℕ
 shorter l [] = 0
 shorter l (x ∷ xs) = (if nat_lt x.prefix_length l then share l x.prefix_length else 0) + shorter l xs
 
--- the codes n, n + 1 and so on, of l bits
-abbrev pub numbered : ℕ → ℕ → List TableLine → List Member
-numbered l n [] = []
-numbered l n (x ∷ xs) = record { bits = l; number = n; line = x } ∷ numbered l (n + 1) xs
+-- The code of a line of l bits (B.3): the sum of 2^(l - len) over the lines that are shorter, or as long
+-- and earlier. Each of those that are as long adds 1.
+abbrev pub code_of : ℕ → List TableLine → List TableLine → ℕ
+code_of l lines earlier = shorter l lines + length (level l earlier)
 
--- the codes of n lengths from l on
-abbrev pub codes_from : ℕ → ℕ → List TableLine → List Member
-codes_from zero l lines = []
-codes_from (suc n) l lines = numbered l (shorter l lines) (level l lines) ++ codes_from n (l + 1) lines
+-- the members of l bits, of all lines, where `earlier` stand before the others
+abbrev pub members_of : ℕ → List TableLine → List TableLine → List TableLine → List Member
+members_of l lines earlier [] = []
+members_of l lines earlier (x ∷ xs) =
+    let others = members_of l lines (earlier ++ x ∷ []) xs in
+    if x.prefix_length == l then record { bits = l; number = code_of l lines earlier; line = x } ∷ others else others
 
--- The code of a line of l bits is the sum of 2^(l - len) over the lines that are shorter, or as long
--- and earlier (B.3). The members are listed by length, then by place.
+-- the members of n lengths from l on
+abbrev pub members_from : ℕ → ℕ → List TableLine → List Member
+members_from zero l lines = []
+members_from (suc n) l lines = members_of l lines [] lines ++ members_from n (l + 1) lines
+
+-- the code that the prefix lengths of these lines make, by length, then by place
 unfoldable pub prefix_code : List TableLine → List Member
-prefix_code lines = codes_from (longest lines) 1 lines
+prefix_code lines = members_from (longest lines) 1 lines
 
 -- whether the sum of 2^-len over the lines that have a code exceeds 1
 unfoldable pub is_crowded : List TableLine → Bool
@@ -92,16 +99,25 @@ abbrev pub found_or : Option TableLine → ℕ → CodeReading TableLine → Cod
 found_or (Some line) k other = record { answer = Ok line; taken = k }
 found_or None k other = other
 
--- The member that begins the bits, k of which are taken and spell v. The shortest beginning that
--- begins no member is refused.
-abbrev pub read_on : List Member → ℕ → ℕ → List ℕ → CodeReading TableLine
-read_on ms k v [] = ended (k + 1)
-read_on ms k v (b ∷ bits) =
-    found_or (line_of ms (k + 1) (2 * v + b)) (k + 1)
-    (if begins_longer ms (k + 1) (2 * v + b) then read_on ms (k + 1) (2 * v + b) bits else refused (k + 1))
+-- the number that the first k bits spell
+abbrev pub front_number : ℕ → List ℕ → ℕ
+front_number k bits = number_after 0 (take k bits)
 
+abbrev pub is_found : Option TableLine → Bool
+is_found (Some line) = true
+is_found None = false
+
+-- whether the first k bits are a code, or begin none
+abbrev pub is_decided : List Member → List ℕ → ℕ → Bool
+is_decided ms bits k = is_found (line_of ms k (front_number k bits)) || not (begins_longer ms k (front_number k bits))
+
+-- what the first k bits give, where no fewer are enough
+abbrev pub read_of : List Member → List ℕ → ℕ → CodeReading TableLine
+read_of ms bits k = if nat_lt (length bits) k then ended k else found_or (line_of ms k (front_number k bits)) k (refused k)
+
+-- The line of the code that begins the bits; else the shortest beginning that begins no code is refused.
 unfoldable pub read_code : List Member → List ℕ → CodeReading TableLine
-read_code ms bits = read_on ms 0 0 bits
+read_code ms bits = read_of ms bits (place_from (is_decided ms bits) 1 (length bits + 1))
 
 -- a number in signed 32 bits
 abbrev pub in_word : ℤ → Result ℤ DecodeError

@@ -5,8 +5,8 @@ ghost use Rattle.jbig2_base.specs.Answer.{Gives};
 ghost use Rattle.jbig2_base.specs.Counts.{Counts};
 ghost use Rattle.jbig2_base.specs.Grid.{bit_number};
 ghost use Rattle.jbig2_coder.specs.Coder.{fresh};
-ghost use Rattle.jbig2_coder.specs.Integers.{Reading, number, next, read, read_more, prev_of, prev_next, range_of, prefix, value_of, integer};
-ghost use Rattle.jbig2_coder.specs.inner.Stands.{Stands};
+ghost use Rattle.jbig2_coder.specs.Integers.{Reading, number, next, read, read_more, prev_of, range_of, prefix, value_of, integer};
+ghost use Rattle.jbig2_coder.specs.inner.Stands.{Stands, prev_next};
 
 use crate::arithmetic_decoder::{ArithmeticDecoder, ArithmeticDecoderContext};
 use jbig2_base::bitmap::steps::Steps;
@@ -78,7 +78,7 @@ fn range(ones: u32) -> (u32, u32)
     }
 }
 
-// What PREV becomes after a bit.
+// What PREV becomes after a bit: it keeps the last eight bits behind a 1.
 #[inline(always)]
 fn following(prev: u32, bit: u32) -> u32
     requires below { prev < 512 }
@@ -90,7 +90,7 @@ fn following(prev: u32, bit: u32) -> u32
     if prev < 256 {
         return grown;
     }
-    grown & 511 | 256
+    256 + grown % 256
 }
 
 // The value of an integer, from its sign and its sum.

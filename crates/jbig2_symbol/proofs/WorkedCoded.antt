@@ -5,7 +5,7 @@ use Rattle.jbig2_base.specs.Grid.{table, pixel_at}
 use Rattle.jbig2_base.specs.declared.error.DecodeError.{DecodeError}
 use Rattle.jbig2_coder.specs.Coder.{byte_at, byte_in, filled, doubled, renormed, started, likely_next, unlikely_next, choice, decision}
 use Rattle.jbig2_coder.specs.Encoder.{opened, plain, stuffed, byte_out, shifted, renormed as encoder_renormed, narrowed_likely, narrowed_unlikely, narrowed, encoding, set_bits, flushed, is_full, closed}
-use Rattle.jbig2_coder.specs.Integers.{integer, number, next, read, read_more, prev_next, prev_after, ranges, range_of, prefix, signed, value_of}
+use Rattle.jbig2_coder.specs.Integers.{integer, number, next, read, read_more, ranges, range_of, prefix, signed, value_of}
 use Rattle.jbig2_coder.specs.Lists.{with_context, encode_from, encoded}
 use Rattle.jbig2_coder.specs.Table.{rows, row_of}
 use Rattle.jbig2_region.specs.Generic.{context_at}
@@ -44,5 +44,5 @@ dictionary : List ℕ → Result Symbols DecodeError
 dictionary bytes = symbol_header_at true bytes >>= λ h. dictionary_at h.0 [] [] None
 
 row_R8_6 : dictionary (8 ∷ 0 ∷ 2 ∷ 0xFF ∷ 0 ∷ 0 ∷ 0 ∷ 1 ∷ 0 ∷ 0 ∷ 0 ∷ 1 ∷ coded) ≡ Ok (record { exported = record { width = 1; height = 1; pixels = true ∷ [] } ∷ []; kept = None })
-unfolding dictionary symbol_header_at symbol_flags_of regular_pixels_at adaptive_pixel_at dictionary_at first_contexts symbol_tables table_for classes_from height_class class_of_height height_difference class_from width_difference with_symbol bitmaps_with coded_symbol coded_region class_ended exports runs_from next_run export_run exported_from ended_runs integer number next read read_more prev_next prev_after ranges range_of prefix signed value_of byte_at byte_in filled doubled renormed started likely_next unlikely_next choice decision rows row_of context_at so_far with_next after_pixel after_pixels row_begun after_rows decoded table pixel_at
+unfolding dictionary symbol_header_at symbol_flags_of regular_pixels_at adaptive_pixel_at dictionary_at first_contexts symbol_tables table_for classes_from height_class class_of_height height_difference class_from width_difference with_symbol bitmaps_with coded_symbol coded_region class_ended exports runs_from next_run export_run exported_from ended_runs integer number next read read_more ranges range_of prefix signed value_of byte_at byte_in filled doubled renormed started likely_next unlikely_next choice decision rows row_of context_at so_far with_next after_pixel after_pixels row_begun after_rows decoded table pixel_at
 row_R8_6 = refl

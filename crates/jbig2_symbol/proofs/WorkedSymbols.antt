@@ -9,6 +9,7 @@ use Rattle.jbig2_base.specs.declared.error.DecodeError.TheVariants as errors
 use Rattle.jbig2_base.specs.declared.error.HuffmanError.TheVariants.{InvalidSelection, MissingTables}
 use Rattle.jbig2_base.specs.declared.error.OverflowError.TheVariants.{SymbolCount}
 use Rattle.jbig2_base.specs.declared.error.SymbolError.TheVariants.{Invalid, NoSymbols}
+use Rattle.jbig2_base.specs.Search.{least}
 use Rattle.jbig2_coder.specs.PrefixCode.{prefix_code, shorter, decoded, read_code}
 use Rattle.jbig2_coder.specs.Tables.{lines_a, lines_b, lines_d}
 use Rattle.jbig2_symbol.specs.Exports.{ended_runs, exported_from, next_run, runs_from, exports}
@@ -32,11 +33,11 @@ abbrev one_symbol : ℕ → List ℕ
 one_symbol row = 0 ∷ 1 ∷ 0 ∷ 0 ∷ 0 ∷ 1 ∷ 0 ∷ 0 ∷ 0 ∷ 1 ∷ 0x5F ∷ 0x80 ∷ row ∷ 0 ∷ 0x40 ∷ []
 
 row_S : dictionary (one_symbol 0x80) ≡ Ok (record { exported = dot ∷ []; kept = None })
-unfolding dictionary symbol_header_at symbol_flags_of dictionary_at first_contexts symbol_tables table_for classes_from height_class class_of_height height_difference class_from width_difference with_symbol bitmaps_with class_ended collective_bitmap raw_rows bit symbols_cut symbol_cut exports runs_from next_run export_run exported_from ended_runs decoded read_code prefix_code shorter lines_a lines_b lines_d bits_left bits_on table pixel_at
+unfolding dictionary symbol_header_at symbol_flags_of dictionary_at first_contexts symbol_tables table_for classes_from height_class class_of_height height_difference class_from width_difference with_symbol bitmaps_with class_ended collective_bitmap raw_rows bit symbols_cut symbol_cut exports runs_from next_run export_run exported_from ended_runs decoded read_code least prefix_code shorter lines_a lines_b lines_d bits_left bits_on table pixel_at
 row_S = refl
 
 row_R8_2-white : dictionary (one_symbol 0x00) ≡ Ok (record { exported = white ∷ []; kept = None })
-unfolding dictionary symbol_header_at symbol_flags_of dictionary_at first_contexts symbol_tables table_for classes_from height_class class_of_height height_difference class_from width_difference with_symbol bitmaps_with class_ended collective_bitmap raw_rows bit symbols_cut symbol_cut exports runs_from next_run export_run exported_from ended_runs decoded read_code prefix_code shorter lines_a lines_b lines_d bits_left bits_on table pixel_at
+unfolding dictionary symbol_header_at symbol_flags_of dictionary_at first_contexts symbol_tables table_for classes_from height_class class_of_height height_difference class_from width_difference with_symbol bitmaps_with class_ended collective_bitmap raw_rows bit symbols_cut symbol_cut exports runs_from next_run export_run exported_from ended_runs decoded read_code least prefix_code shorter lines_a lines_b lines_d bits_left bits_on table pixel_at
 row_R8_2-white = refl
 
 row_R8_1-contexts : dictionary (1 ∷ 1 ∷ 0 ∷ 0 ∷ 0 ∷ 1 ∷ 0 ∷ 0 ∷ 0 ∷ 1 ∷ 0x5F ∷ 0x80 ∷ 0x80 ∷ 0 ∷ 0x40 ∷ []) ≡ Err (errors.Symbol Invalid)
@@ -52,7 +53,7 @@ unfolding dictionary symbol_header_at symbol_flags_of dictionary_at first_contex
 row_R8_1-tables = refl
 
 row_R8_1-exported : dictionary (0 ∷ 1 ∷ 0 ∷ 0 ∷ 0 ∷ 2 ∷ 0 ∷ 0 ∷ 0 ∷ 1 ∷ 0x5F ∷ 0x80 ∷ 0x80 ∷ 0 ∷ 0x40 ∷ []) ≡ Err (errors.Symbol NoSymbols)
-unfolding dictionary symbol_header_at symbol_flags_of dictionary_at first_contexts symbol_tables table_for classes_from height_class class_of_height height_difference class_from width_difference with_symbol bitmaps_with class_ended collective_bitmap raw_rows bit symbols_cut symbol_cut exports runs_from next_run export_run exported_from ended_runs decoded read_code prefix_code shorter lines_a lines_b lines_d bits_left bits_on table pixel_at
+unfolding dictionary symbol_header_at symbol_flags_of dictionary_at first_contexts symbol_tables table_for classes_from height_class class_of_height height_difference class_from width_difference with_symbol bitmaps_with class_ended collective_bitmap raw_rows bit symbols_cut symbol_cut exports runs_from next_run export_run exported_from ended_runs decoded read_code least prefix_code shorter lines_a lines_b lines_d bits_left bits_on table pixel_at
 row_R8_1-exported = refl
 
 row_R8_1-new : dictionary (0 ∷ 1 ∷ 0 ∷ 0 ∷ 0 ∷ 1 ∷ 0 ∷ 0x10 ∷ 0 ∷ 1 ∷ 0x5F ∷ 0x80 ∷ 0x80 ∷ 0 ∷ 0x40 ∷ []) ≡ Err (errors.Overflow SymbolCount)

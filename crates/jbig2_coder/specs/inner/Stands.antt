@@ -1,6 +1,7 @@
 -- How the state of a call stands to what it has read so far (our own rule).
-use Rattle.std.specs.Prelude.{◌≡◌, ℕ, ◌+◌, Bool, List, length}
+use Rattle.std.specs.Prelude.{◌≡◌, ℕ, ◌+◌, ◌*◌, ◌%◌, nat_lt, if◌then◌else◌, Bool, List, length}
 use Rattle.jbig2_base.specs.Counts.{Counts}
+use Rattle.jbig2_base.specs.Grid.{bit_number}
 use Rattle.jbig2_coder.specs.Coder.{Coder, Context}
 use Rattle.jbig2_coder.specs.Integers.{Reading}
 
@@ -10,3 +11,9 @@ pub record Stands (name : List Bool → ℕ) (start : Counts) (r : Reading) (pla
   pub registers : coder.registers ≡ r.registers
   pub learned : contexts ≡ r.contexts
   pub counted : steps ≡ record start { decisions = start.decisions + length r.bits }
+
+-- PREV, one bit on: it grows until it has eight bits behind its 1
+unfoldable pub prev_next : ℕ → Bool → ℕ
+prev_next prev bit =
+    let grown = 2 * prev + bit_number bit in
+    if nat_lt prev 256 then grown else 256 + grown % 256
