@@ -8,7 +8,7 @@ ghost use Rattle.jbig2_region.specs.declared.template.GenericTemplatePixels.TheV
 
 use crate::generic_coding::GenericCoding;
 use crate::raster::decode_region;
-use crate::template::generic::TemplatePixels;
+use crate::template::pixels::TemplatePixels;
 use crate::template::{AdaptiveTemplatePixel, Template};
 use jbig2_base::bitmap::Bitmap;
 use jbig2_base::bitmap::steps::Steps;
