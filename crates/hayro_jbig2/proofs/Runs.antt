@@ -6,10 +6,10 @@ use Rattle.std.proofs.lemmas.List.{take_all, length-take-le, length-drop, drop-d
 use Rattle.std.proofs.lemmas.List.FromFn.{take-map-range_with_len, length-map-range_with_len}
 use Rattle.std.proofs.lemmas.Nat.Bits.{same_from_bits_below}
 use Rattle.std.specs.List.{range_with_len, flat_map}
-use Rattle.jbig2_base.specs.Grid.{Grid, pixel_at, bit_number}
+use Rattle.jbig2_base.specs.Grid.{Grid, pixel_at, bit_number, same_colour}
 use Rattle.jbig2_base.specs.inner.WordBits.{bit}
 use Rattle.jbig2_base.proofs.BitLemmas.{bit-ones, bit-zero, bit_number-bit}
-use Rattle.hayro_jbig2.specs.Calls.{Call, Pixel, Chunk, Line, is_colour, is_all, singles, with_whole, with_byte, whole_calls, run_of, row_of, row_calls, line_calls, calls_of}
+use Rattle.hayro_jbig2.specs.Calls.{Call, Pixel, Chunk, Line, is_all, singles, with_whole, with_byte, whole_calls, run_of, row_of, row_calls, line_calls, calls_of}
 
 -- a byte that is not all of one colour begins with a pixel
 with_whole-singles : (black : Bool) (bits : List Bool) (calls : List Call) → is_all black bits ≡ false → with_whole black (singles bits ++ calls) ≡ Chunk black 1 ∷ (singles bits ++ calls)
@@ -136,11 +136,11 @@ pub length-row : (g : Grid) (y : ℕ) → length (row_of g y) ≡ g.width
 unfolding row_of
 length-row g y = length-map-range_with_len (λ i. pixel_at g i y) 0 g.width
 
-same_colour : (black : Bool) → is_colour black black ≡ true
-same_colour true = refl
-same_colour false = refl
+own_colour : (black : Bool) → same_colour black black ≡ true
+own_colour true = refl
+own_colour false = refl
 
-pub colour_is : (black b : Bool) → is_colour black b ≡ true → b ≡ black
+pub colour_is : (black b : Bool) → same_colour black b ≡ true → b ≡ black
 colour_is true b e = e
 colour_is false true e = absurd (let never : false ≡ true = e in cc)
 colour_is false false e = refl
@@ -149,15 +149,15 @@ all-from : (black : Bool) (f : ℕ → Bool) (a n : ℕ) → ((k : ℕ) → k < 
 all-from black f a zero each = refl
 all-from black f a (suc n) each =
     let here : f a ≡ black = ap f (let e : a ≡ a + 0 = omega arith in e) ∙ each 0 (omega arith) in
-    and_from (is_colour black (f a)) (is_all black (map f (range_with_len (a + 1) n))) (ap (λ (b : Bool). is_colour black b) here ∙ same_colour black)
+    and_from (same_colour black (f a)) (is_all black (map f (range_with_len (a + 1) n))) (ap (λ (b : Bool). same_colour black b) here ∙ own_colour black)
     (all-from black f (a + 1) n (λ k h. ap f (let e : a + 1 + k ≡ a + suc k = omega arith in e) ∙ each (suc k) (omega arith)))
 
 all-to : (black : Bool) (f : ℕ → Bool) (a n : ℕ) → is_all black (map f (range_with_len a n)) ≡ true → (k : ℕ) → k < n → f (a + k) ≡ black
 all-to black f a zero all k h = absurd (omega arith)
-all-to black f a (suc n) all zero h = ap f (let e : a + zero ≡ a = omega arith in e) ∙ colour_is black (f a) (and_parts (is_colour black (f a)) (is_all black (map f (range_with_len (a + 1) n))) all).0
+all-to black f a (suc n) all zero h = ap f (let e : a + zero ≡ a = omega arith in e) ∙ colour_is black (f a) (and_parts (same_colour black (f a)) (is_all black (map f (range_with_len (a + 1) n))) all).0
 all-to black f a (suc n) all (suc k) h =
     ap f (let e : a + suc k ≡ a + 1 + k = omega arith in e)
-    ∙ all-to black f (a + 1) n (and_parts (is_colour black (f a)) (is_all black (map f (range_with_len (a + 1) n))) all).1 k (omega arith)
+    ∙ all-to black f (a + 1) n (and_parts (same_colour black (f a)) (is_all black (map f (range_with_len (a + 1) n))) all).1 k (omega arith)
 
 -- the byte of eight pixels of one colour
 abbrev pub byte_of : Bool → ℕ

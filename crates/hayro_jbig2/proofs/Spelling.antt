@@ -4,8 +4,8 @@ use Rattle.std.specs.List.{range_with_len, flat_map}
 use Rattle.std.proofs.lemmas.Bool.{cond_both, and_parts}
 use Rattle.std.proofs.lemmas.List.{append_assoc, append-nil, replicate-append-replicate, take-append-drop, length-take-le, length-drop}
 use Rattle.std.proofs.lemmas.List.Sums.{sum_by-append}
-use Rattle.jbig2_base.specs.Grid.{Grid}
-use Rattle.hayro_jbig2.specs.Calls.{Call, Pixel, Chunk, Line, is_colour, is_all, is_line, singles, with_whole, with_byte, whole_calls, row_calls, row_of, line_calls, calls_of, rows_after, Spells}
+use Rattle.jbig2_base.specs.Grid.{Grid, same_colour}
+use Rattle.hayro_jbig2.specs.Calls.{Call, Pixel, Chunk, Line, is_all, is_line, singles, with_whole, with_byte, whole_calls, row_calls, row_of, line_calls, calls_of, rows_after, Spells}
 use Rattle.hayro_jbig2.proofs.Runs.{length-row, colour_is}
 
 rows-singles : (front bits : List Bool) (cs : List Call) → rows_after front (singles bits ++ cs) ≡ rows_after (front ++ bits) cs
@@ -33,7 +33,7 @@ rows-whole front false (Chunk false n ∷ calls) cs = rows-chunk front false n (
 all-replicate : (black : Bool) (bits : List Bool) → is_all black bits ≡ true → replicate (length bits) black ≡ bits
 all-replicate black [] all = refl
 all-replicate black (b ∷ bs) all =
-    let parts = and_parts (is_colour black b) (is_all black bs) all in
+    let parts = and_parts (same_colour black b) (is_all black bs) all in
     ap (λ (c : Bool). c ∷ replicate (length bs) black) (sym (colour_is black b parts.0)) ∙ ap (λ (cs : List Bool). b ∷ cs) (all-replicate black bs parts.1)
 
 rows-byte : (front byte : List Bool) (calls cs : List Call) → length byte ≡ 8 → rows_after front (with_byte byte calls ++ cs) ≡ rows_after (front ++ byte) (calls ++ cs)

@@ -1,7 +1,7 @@
 -- The calls that spell a page (our own rule).
 use Rattle.std.specs.Prelude.{◌≡◌, ◌<◌, ◌≤◌, Option, Some, None, ℕ, suc, zero, ◌+◌, ◌*◌, ◌/◌, Bool, true, false, not, ◌&&◌, List, [], ◌∷◌, ◌++◌, length, take, drop, replicate, map, count_by, if◌then◌else◌}
 use Rattle.std.specs.List.{range_with_len, flat_map}
-use Rattle.jbig2_base.specs.Grid.{Grid, pixel_at}
+use Rattle.jbig2_base.specs.Grid.{Grid, pixel_at, same_colour}
 
 -- A call of a Decoder: one pixel, that many times eight pixels of one colour, the end of a row.
 pub data Call : Type 0 where
@@ -9,14 +9,10 @@ pub data Call : Type 0 where
   Chunk : (black : Bool) (bytes : ℕ) → Call
   Line : Call
 
-abbrev pub is_colour : Bool → Bool → Bool
-is_colour true b = b
-is_colour false b = not b
-
 -- all of these pixels have one colour
 abbrev pub is_all : Bool → List Bool → Bool
 is_all black [] = true
-is_all black (b ∷ bs) = is_colour black b && is_all black bs
+is_all black (b ∷ bs) = same_colour black b && is_all black bs
 
 abbrev pub singles : List Bool → List Call
 singles [] = []
@@ -24,7 +20,7 @@ singles (b ∷ bs) = Pixel b ∷ singles bs
 
 -- A whole byte of one colour joins a chunk of that colour behind it.
 abbrev pub with_whole : Bool → List Call → List Call
-with_whole black (Chunk other n ∷ calls) = if is_colour black other then Chunk black (n + 1) ∷ calls else Chunk black 1 ∷ (Chunk other n ∷ calls)
+with_whole black (Chunk other n ∷ calls) = if same_colour black other then Chunk black (n + 1) ∷ calls else Chunk black 1 ∷ (Chunk other n ∷ calls)
 with_whole black (Pixel b ∷ calls) = Chunk black 1 ∷ (Pixel b ∷ calls)
 with_whole black (Line ∷ calls) = Chunk black 1 ∷ (Line ∷ calls)
 with_whole black [] = Chunk black 1 ∷ []

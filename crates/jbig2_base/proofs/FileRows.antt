@@ -6,7 +6,7 @@ use Rattle.jbig2_base.specs.File.{file_at, headers_in}
 use Rattle.jbig2_base.specs.FileHeader.{file_header_at, identification}
 use Rattle.jbig2_base.specs.Segment.{Part, type_of, count_at, referred_at, header_at, segment_at}
 use Rattle.jbig2_base.specs.Sequential.{segments_in, is_end_of_bytes}
-use Rattle.jbig2_base.specs.Spelled.{Spelled, AreSpelled, Spells}
+use Rattle.jbig2_base.specs.Spelled.{Spelled, AreSpelled, SpellsFile}
 use Rattle.jbig2_base.specs.declared.error.DecodeError.{DecodeError}
 use Rattle.jbig2_base.specs.declared.error.DecodeError.TheVariants.{Format}
 use Rattle.jbig2_base.specs.declared.error.FormatError.TheVariants.{InvalidHeader, ReservedBits}
@@ -92,10 +92,10 @@ are_spelled : AreSpelled true listed
 unfolding header_at referred_at count_at type_of
 are_spelled = (record { accepted = refl; known = refl }, refl, (record { accepted = refl; known = refl }, refl, (record { accepted = refl; known = refl }, refl)))
 
-spelled_by_turns : Spells true sequential_file (one_page Sequential) listed
+spelled_by_turns : SpellsFile true sequential_file (one_page Sequential) listed
 unfolding file_header_at
 spelled_by_turns = (refl, are_spelled)
 
-spelled_headers_first : Spells true random_file (one_page RandomAccess) listed
+spelled_headers_first : SpellsFile true random_file (one_page RandomAccess) listed
 unfolding file_header_at
 spelled_headers_first = (refl, are_spelled)

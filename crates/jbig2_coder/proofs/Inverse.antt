@@ -2,7 +2,7 @@
 use Rattle.std.proofs.Common.{◌≡◌, ℕ, Bool, List, [], ◌∷◌, length, map, refl, sym, ap, ◌∙◌, subst}
 use Rattle.jbig2_coder.specs.Coder.{Context, Decision, byte_at, decision, started}
 use Rattle.jbig2_coder.specs.Encoder.{Coding, Encoding, opened, encoding, flushed, closed}
-use Rattle.jbig2_coder.specs.Lists.{Contexts, all_fresh, with_context, encode_from, encoded, decoded_from, decoded, DecodesBack}
+use Rattle.jbig2_coder.specs.Lists.{Contexts, all_fresh, with_context, encode_from, encoded, decoded_from, read_back, DecodesBack}
 use Rattle.jbig2_coder.specs.declared.arithmetic_decoder.registers.Registers.{Registers}
 use Rattle.jbig2_coder.proofs.InverseBytes.{Valid, first}
 use Rattle.jbig2_coder.proofs.InverseShift.{KnowsAt}
@@ -69,8 +69,8 @@ unfolding encoded
 encoded-is es = refl
 
 decodes-some : (e : ℕ × Bool) (es : List (ℕ × Bool)) (out bytes : List ℕ) → out ≡ (flushed (encode_from opened all_fresh (e ∷ es))).out
-    → bytes ≡ closed out → decoded bytes (map (λ e. e.0) (e ∷ es)) ≡ map (λ e. e.1) (e ∷ es)
-unfolding decoded
+    → bytes ≡ closed out → read_back bytes (map (λ e. e.0) (e ∷ es)) ≡ map (λ e. e.1) (e ∷ es)
+unfolding read_back
 decodes-some e es out bytes eo eb =
     let x : Context = all_fresh e.0 in
     let c : Encoding = encoding x e.1 opened in
@@ -90,8 +90,8 @@ decodes-some e es out bytes eo eb =
     let know : KnowsAt f m opened.range opened.writer = i.narrow f m (i.renorm f m next) in
     decodes-from bytes m closing (e ∷ es) opened all_fresh (started bytes) opened-begun (start bytes m closing know) ends
 
-decoded-none : (bytes : List ℕ) → decoded bytes [] ≡ []
-unfolding decoded
+decoded-none : (bytes : List ℕ) → read_back bytes [] ≡ []
+unfolding read_back
 decoded-none bytes = decoded_from-none bytes (started bytes) all_fresh
 
 pub decodes_back : DecodesBack

@@ -8,7 +8,7 @@ use Rattle.jbig2_base.specs.Answer.{Gives}
 use Rattle.jbig2_base.specs.Grid.{bit_number}
 use Rattle.jbig2_coder.specs.Coder.{Coder, Context, Decision, fresh, decision, started}
 use Rattle.jbig2_coder.specs.Encoder.{Coding, opened, encoding, flushed, closed}
-use Rattle.jbig2_coder.specs.Lists.{Contexts, all_fresh, contexts_of, with_context, encode_from, encoded, decoded_from, decoded}
+use Rattle.jbig2_coder.specs.Lists.{Contexts, all_fresh, contexts_of, with_context, encode_from, encoded, decoded_from, read_back}
 use Rattle.jbig2_coder.specs.declared.arithmetic_decoder.registers.Registers.{Registers}
 
 pub contexts_of-fresh : (known : List Context) → ((k : ℕ) → k < length known → get_or known k fresh ≡ fresh) → contexts_of known ≡ all_fresh
@@ -97,8 +97,8 @@ encode_from-more s t known entries i k x y h ek hk ex coding context =
 -- the loop that reads a list: before its first turn, and after its last
 pub decoded-begin : (d : Coder) (bytes : List ℕ) (known : List Context) (asked : List ℕ) (out : List Bool)
     → d.bytes ≡ bytes → d.registers ≡ started bytes → contexts_of known ≡ all_fresh → out ≡ []
-    → decoded bytes asked ≡ out ++ decoded_from d.bytes d.registers (contexts_of known) asked
-unfolding decoded
+    → read_back bytes asked ≡ out ++ decoded_from d.bytes d.registers (contexts_of known) asked
+unfolding read_back
 decoded-begin d bytes known asked out bs registers fresh_ones none =
     λ j. sym none j ++ decoded_from (sym bs j) (sym registers j) (sym fresh_ones j) asked
 
@@ -107,7 +107,7 @@ unfolding decoded_from
 decoded_from-end d contexts asked e = rw e refl
 
 pub decoded-done : (d : Coder) (bytes asked : List ℕ) (contexts : Contexts) (i : ℕ) (out : List Bool)
-    → decoded bytes asked ≡ out ++ decoded_from d.bytes d.registers contexts (drop i asked) → length asked ≤ i → decoded bytes asked ≡ out
+    → read_back bytes asked ≡ out ++ decoded_from d.bytes d.registers contexts (drop i asked) → length asked ≤ i → read_back bytes asked ≡ out
 decoded-done d bytes asked contexts i out e h =
     e ∙ ap (λ (ys : List Bool). out ++ ys) (decoded_from-end d contexts (drop i asked) (drop_all i asked h)) ∙ append-nil out
 

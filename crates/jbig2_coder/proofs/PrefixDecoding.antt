@@ -5,59 +5,59 @@ use Rattle.std.proofs.lemmas.List.{drop-drop}
 use Rattle.jbig2_base.specs.Bits.{Place, bits_left, bits_next, bits_on}
 use Rattle.jbig2_base.specs.declared.error.DecodeError.{DecodeError}
 use Rattle.jbig2_coder.specs.declared.huffman_table.line.TableLine.{TableLine}
-use Rattle.jbig2_coder.specs.PrefixCode.{Member, Reading, read_code, decoded, valued, value_by, value_after, range_bits}
-use Rattle.jbig2_coder.specs.inner.PrefixLevels.{walk, codes_at}
+use Rattle.jbig2_coder.specs.declared.huffman_table.levels.Level.{Level}
+use Rattle.jbig2_coder.specs.PrefixCode.{Member, CodeReading, Reads, read_code, decoded, valued, value_by, value_after, range_bits}
+use Rattle.jbig2_coder.specs.inner.PrefixLevels.{walk, groups_of, codes_at}
 use Rattle.jbig2_coder.proofs.PrefixWalk.{walk-reads}
-use Rattle.jbig2_coder.proofs.PrefixReading.{bits_on-add, Leaves}
-
--- a read of a value that answers a and moves from p to q
-pub record Decodes (ms : List Member) (a : Result (Option ℤ) DecodeError) (p q : Place) : Type 0 where
-  pub value : a ≡ (decoded ms (bits_left p)).answer
-  pub place : q ≡ bits_on (decoded ms (bits_left p)).taken p
-  pub rest : bits_left q ≡ drop (decoded ms (bits_left p)).taken (bits_left p)
+use Rattle.jbig2_coder.proofs.PrefixReading.{bits_on-add}
 
 decoded-is : (gs : List (List TableLine)) (ms : List Member) (bits : List ℕ) → codes_at 0 0 gs ≡ ms → decoded ms bits ≡ valued (walk gs 0 0 bits) bits
 unfolding decoded read_code
-decoded-is gs ms bits e = ap (λ (r : Reading TableLine). valued r bits) (sym (walk-reads gs bits ∙ ap (λ (ns : List Member). read_code ns bits) e))
+decoded-is gs ms bits e = ap (λ (r : CodeReading TableLine). valued r bits) (sym (walk-reads gs bits ∙ ap (λ (ns : List Member). read_code ns bits) e))
 
-valued-err : (r : Reading TableLine) (bits : List ℕ) (e : DecodeError) → Err e ≡ r.answer → valued r bits ≡ record { answer = Err e; taken = r.taken }
+valued-err : (r : CodeReading TableLine) (bits : List ℕ) (e : DecodeError) → Err e ≡ r.answer → valued r bits ≡ record { answer = Err e; taken = r.taken }
 valued-err r bits e h = ap (λ (a : Result TableLine DecodeError). valued (record { answer = a; taken = r.taken }) bits) (sym h)
 
-valued-ok : (r : Reading TableLine) (bits : List ℕ) (x : TableLine) → Ok x ≡ r.answer → valued r bits ≡ record { answer = value_after x (drop r.taken bits); taken = r.taken + range_bits x }
+valued-ok : (r : CodeReading TableLine) (bits : List ℕ) (x : TableLine) → Ok x ≡ r.answer → valued r bits ≡ record { answer = value_after x (drop r.taken bits); taken = r.taken + range_bits x }
 valued-ok r bits x h = ap (λ (a : Result TableLine DecodeError). valued (record { answer = a; taken = r.taken }) bits) (sym h)
 
-decodes : (ms : List Member) (a : Result (Option ℤ) DecodeError) (n : ℕ) (p q : Place) → decoded ms (bits_left p) ≡ record { answer = a; taken = n } → q ≡ bits_on n p → bits_left q ≡ drop n (bits_left p) → Decodes ms a p q
+decodes : (ms : List Member) (a : Result (Option ℤ) DecodeError) (n : ℕ) (p q : Place) → decoded ms (bits_left p) ≡ record { answer = a; taken = n } → q ≡ bits_on n p → bits_left q ≡ drop n (bits_left p) → Reads p q a (decoded ms (bits_left p))
 decodes ms a n p q e place rest = record {
-  value = sym (ap (λ (r : Reading (Option ℤ)). r.answer) e);
-  place = place ∙ ap (λ (r : Reading (Option ℤ)). bits_on r.taken p) (sym e);
-  rest = rest ∙ ap (λ (r : Reading (Option ℤ)). drop r.taken (bits_left p)) (sym e);
+  value = sym (ap (λ (r : CodeReading (Option ℤ)). r.answer) e);
+  place = place ∙ ap (λ (r : CodeReading (Option ℤ)). bits_on r.taken p) (sym e);
+  rest = rest ∙ ap (λ (r : CodeReading (Option ℤ)). drop r.taken (bits_left p)) (sym e);
 }
 
-pub decodes-err : (gs : List (List TableLine)) (ms : List Member) (e : DecodeError) (p q : Place) → codes_at 0 0 gs ≡ ms → Leaves gs (Err e) p q → Decodes ms (Err e) p q
-decodes-err gs ms e p q view leaves =
-    decodes ms (Err e) (walk gs 0 0 (bits_left p)).taken p q (decoded-is gs ms (bits_left p) view ∙ valued-err (walk gs 0 0 (bits_left p)) (bits_left p) e leaves.line) leaves.place leaves.rest
+pub decodes-err : (gs : List (List TableLine)) (ms : List Member) (e : DecodeError) (p q : Place) → codes_at 0 0 gs ≡ ms → Reads p q (Err e) (walk gs 0 0 (bits_left p)) → Reads p q (Err e) (decoded ms (bits_left p))
+decodes-err gs ms e p q view read =
+    decodes ms (Err e) (walk gs 0 0 (bits_left p)).taken p q (decoded-is gs ms (bits_left p) view ∙ valued-err (walk gs 0 0 (bits_left p)) (bits_left p) e read.value) read.place read.rest
 
-pub decodes-oob : (gs : List (List TableLine)) (ms : List Member) (x : TableLine) (p q : Place) → codes_at 0 0 gs ≡ ms → Leaves gs (Ok x) p q → x.is_out_of_band ≡ true → Decodes ms (Ok None) p q
-decodes-oob gs ms x p q view leaves oob =
+pub decodes-oob : (gs : List (List TableLine)) (ms : List Member) (x : TableLine) (p q : Place) → codes_at 0 0 gs ≡ ms → Reads p q (Ok x) (walk gs 0 0 (bits_left p)) → x.is_out_of_band ≡ true → Reads p q (Ok None) (decoded ms (bits_left p))
+decodes-oob gs ms x p q view read oob =
     let w = walk gs 0 0 (bits_left p) in
     let none : value_after x (drop w.taken (bits_left p)) ≡ Ok None = cond-true x.is_out_of_band (Ok None) (value_by x (bits_next x.range_length (drop w.taken (bits_left p)))) oob in
     let taken : w.taken + range_bits x ≡ w.taken = ap (λ (n : ℕ). w.taken + n) (cond-true x.is_out_of_band 0 x.range_length oob) ∙ (let e : w.taken + 0 ≡ w.taken = omega arith in e) in
     decodes ms (Ok None) w.taken p q
-    (decoded-is gs ms (bits_left p) view ∙ valued-ok w (bits_left p) x leaves.line
+    (decoded-is gs ms (bits_left p) view ∙ valued-ok w (bits_left p) x read.value
     ∙ ap (λ (a : Result (Option ℤ) DecodeError). record { answer = a; taken = w.taken + range_bits x }) none
     ∙ ap (λ (n : ℕ). record { answer = Ok None; taken = n }) taken)
-    leaves.place leaves.rest
+    read.place read.rest
 
-pub decodes-value : (gs : List (List TableLine)) (ms : List Member) (x : TableLine) (a : Result (Option ℤ) DecodeError) (p q r : Place) → codes_at 0 0 gs ≡ ms → Leaves gs (Ok x) p q → x.is_out_of_band ≡ false → a ≡ value_by x (bits_next x.range_length (bits_left q)) → r ≡ bits_on x.range_length q → bits_left r ≡ drop x.range_length (bits_left q) → Decodes ms a p r
-decodes-value gs ms x a p q r view leaves oob value place rest =
+pub decodes-value : (gs : List (List TableLine)) (ms : List Member) (x : TableLine) (a : Result (Option ℤ) DecodeError) (p q r : Place) → codes_at 0 0 gs ≡ ms → Reads p q (Ok x) (walk gs 0 0 (bits_left p)) → x.is_out_of_band ≡ false → a ≡ value_by x (bits_next x.range_length (bits_left q)) → r ≡ bits_on x.range_length q → bits_left r ≡ drop x.range_length (bits_left q) → Reads p r a (decoded ms (bits_left p))
+decodes-value gs ms x a p q r view read oob value place rest =
     let w = walk gs 0 0 (bits_left p) in
     let some : value_after x (drop w.taken (bits_left p)) ≡ a =
     cond-false x.is_out_of_band (Ok None) (value_by x (bits_next x.range_length (drop w.taken (bits_left p)))) oob
-    ∙ sym (value ∙ ap (λ (bs : List ℕ). value_by x (bits_next x.range_length bs)) leaves.rest) in
+    ∙ sym (value ∙ ap (λ (bs : List ℕ). value_by x (bits_next x.range_length bs)) read.rest) in
     let taken : w.taken + range_bits x ≡ w.taken + x.range_length = ap (λ (n : ℕ). w.taken + n) (cond-false x.is_out_of_band 0 x.range_length oob) in
     decodes ms a (w.taken + x.range_length) p r
-    (decoded-is gs ms (bits_left p) view ∙ valued-ok w (bits_left p) x leaves.line
+    (decoded-is gs ms (bits_left p) view ∙ valued-ok w (bits_left p) x read.value
     ∙ ap (λ (b : Result (Option ℤ) DecodeError). record { answer = b; taken = w.taken + range_bits x }) some
     ∙ ap (λ (n : ℕ). record { answer = a; taken = n }) taken)
-    (place ∙ bits_on-add w.taken x.range_length p q leaves.place leaves.rest)
-    (rest ∙ ap (λ (bs : List ℕ). drop x.range_length bs) leaves.rest ∙ drop-drop x.range_length w.taken (bits_left p))
+    (place ∙ bits_on-add w.taken x.range_length p q read.place read.rest)
+    (rest ∙ ap (λ (bs : List ℕ). drop x.range_length bs) read.rest ∙ drop-drop x.range_length w.taken (bits_left p))
+
+-- the members of a table, by its fields as the code reads them
+pub view-read : (lines items : List TableLine) (levels vs : List Level) (ms : List Member) → lines ≡ items → levels ≡ vs → codes_at 0 0 (groups_of items vs) ≡ ms → codes_at 0 0 (groups_of lines levels) ≡ ms
+view-read lines items levels vs ms same alike view =
+    ap (λ (ls : List TableLine). codes_at 0 0 (groups_of ls levels)) same ∙ ap (λ (ws : List Level). codes_at 0 0 (groups_of items ws)) alike ∙ view

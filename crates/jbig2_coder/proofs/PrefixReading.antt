@@ -9,8 +9,8 @@ use Rattle.jbig2_base.specs.declared.error.DecodeError.{DecodeError}
 use Rattle.jbig2_base.proofs.ReaderLemmas.{bits_on-enough, bits_on-past, end-on}
 use Rattle.jbig2_coder.specs.declared.huffman_table.line.TableLine.{TableLine}
 use Rattle.jbig2_coder.specs.declared.huffman_table.levels.Level.{Level}
-use Rattle.jbig2_coder.specs.PrefixCode.{Reading, found_or, refused, ended}
-use Rattle.jbig2_coder.specs.inner.PrefixLevels.{nodes, walk, groups_of, AreLevels}
+use Rattle.jbig2_coder.specs.PrefixCode.{CodeReading, Reads, found_or, refused, ended}
+use Rattle.jbig2_coder.specs.inner.PrefixLevels.{nodes, walk, walk_of, groups_of, AreLevels}
 
 -- m bits on from n bits on
 pub bits_on-add : (n m : ℕ) (p q : Place) → q ≡ bits_on n p → bits_left q ≡ drop n (bits_left p) → bits_on m q ≡ bits_on (n + m) p
@@ -52,17 +52,12 @@ at-root lines levels p are = record {
 }
 
 -- where a read ends with this answer, one bit on
-pub record Leaves (gs : List (List TableLine)) (answer : Result TableLine DecodeError) (p q : Place) : Type 0 where
-  pub line : answer ≡ (walk gs 0 0 (bits_left p)).answer
-  pub place : q ≡ bits_on (walk gs 0 0 (bits_left p)).taken p
-  pub rest : bits_left q ≡ drop (walk gs 0 0 (bits_left p)).taken (bits_left p)
-
-leaves : (lines : List TableLine) (levels : List Level) (i node : ℕ) (p q r : Place) (a : Result TableLine DecodeError) → AtLevel lines levels i node p q → r ≡ bits_on 1 q → bits_left r ≡ drop 1 (bits_left q) → walk (groups_of lines (drop i levels)) i node (bits_left q) ≡ record { answer = a; taken = i + 1 } → Leaves (groups_of lines levels) a p r
+leaves : (lines : List TableLine) (levels : List Level) (i node : ℕ) (p q r : Place) (a : Result TableLine DecodeError) → AtLevel lines levels i node p q → r ≡ bits_on 1 q → bits_left r ≡ drop 1 (bits_left q) → walk (groups_of lines (drop i levels)) i node (bits_left q) ≡ record { answer = a; taken = i + 1 } → Reads p r a (walk_of lines levels (bits_left p))
 leaves lines levels i node p q r a at place rest ends =
     let whole : walk (groups_of lines levels) 0 0 (bits_left p) ≡ record { answer = a; taken = i + 1 } = sym at.walks ∙ ends in
-    let taken : (walk (groups_of lines levels) 0 0 (bits_left p)).taken ≡ i + 1 = ap (λ (w : Reading TableLine). w.taken) whole in
+    let taken : (walk (groups_of lines levels) 0 0 (bits_left p)).taken ≡ i + 1 = ap (λ (w : CodeReading TableLine). w.taken) whole in
     record {
-      line = sym (ap (λ (w : Reading TableLine). w.answer) whole);
+      value = sym (ap (λ (w : CodeReading TableLine). w.answer) whole);
       place = place ∙ at.place 1 ∙ ap (λ (k : ℕ). bits_on k p) (sym taken);
       rest = rest ∙ ap (λ (bs : List ℕ). drop 1 bs) at.rest ∙ drop-drop 1 i (bits_left p) ∙ ap (λ (k : ℕ). drop k (bits_left p)) (sym taken);
     }
@@ -89,12 +84,12 @@ walk-ends gs i node bits none = ap (λ (bs : List ℕ). walk gs i node bs) (no_b
     at_end (g ∷ gs) = refl
 
 -- no bit is left
-pub leaves-ended : (lines : List TableLine) (levels : List Level) (i node : ℕ) (p q r : Place) → AtLevel lines levels i node p q → r ≡ bits_on 1 q → bits_left r ≡ drop 1 (bits_left q) → ◌≡◌ {A = Option ℕ} None (bits_next 1 (bits_left q)) → Leaves (groups_of lines levels) ((ended {A = TableLine} 0).answer) p r
+pub leaves-ended : (lines : List TableLine) (levels : List Level) (i node : ℕ) (p q r : Place) → AtLevel lines levels i node p q → r ≡ bits_on 1 q → bits_left r ≡ drop 1 (bits_left q) → ◌≡◌ {A = Option ℕ} None (bits_next 1 (bits_left q)) → Reads p r ((ended {A = TableLine} 0).answer) (walk_of lines levels (bits_left p))
 leaves-ended lines levels i node p q r at place rest none =
     leaves lines levels i node p q r ((ended {A = TableLine} 0).answer) at place rest (walk-ends (groups_of lines (drop i levels)) i node (bits_left q) none)
 
 -- a bit behind the last level
-pub leaves-past : (lines : List TableLine) (levels : List Level) (i node b : ℕ) (p q r : Place) → AtLevel lines levels i node p q → r ≡ bits_on 1 q → bits_left r ≡ drop 1 (bits_left q) → Some b ≡ bits_next 1 (bits_left q) → length levels ≤ i → Leaves (groups_of lines levels) ((refused {A = TableLine} 0).answer) p r
+pub leaves-past : (lines : List TableLine) (levels : List Level) (i node b : ℕ) (p q r : Place) → AtLevel lines levels i node p q → r ≡ bits_on 1 q → bits_left r ≡ drop 1 (bits_left q) → Some b ≡ bits_next 1 (bits_left q) → length levels ≤ i → Reads p r ((refused {A = TableLine} 0).answer) (walk_of lines levels (bits_left p))
 leaves-past lines levels i node b p q r at place rest some past =
     let none : drop i levels ≡ [] = drop_all i levels past in
     leaves lines levels i node p q r ((refused {A = TableLine} 0).answer) at place rest
@@ -122,7 +117,7 @@ abbrev child-of : List Level → ℕ → ℕ → ℕ → Level → ℕ
 child-of levels i node b d = 2 * node + b - (get_or levels i d).count
 
 -- the walk where the child is no line of the level
-abbrev turned : List TableLine → List Level → ℕ → ℕ → ℕ → List ℕ → Level → Reading TableLine
+abbrev turned : List TableLine → List Level → ℕ → ℕ → ℕ → List ℕ → Level → CodeReading TableLine
 turned lines levels i node b bits d =
     let v = get_or levels i d in
     let g = take v.count (drop v.first lines) in
@@ -139,7 +134,7 @@ not_found lines levels i node b bits d are past =
     ∙ ap (λ (n : ℕ). cond (ltb (child-of levels i node b d) n) (walk (groups_of lines (drop (i + 1) levels)) (i + 1) (child-of levels i node b d) bits) (refused (i + 1))) (sym are.1)
 
 -- the child is a line of the level
-pub leaves-found : (lines : List TableLine) (levels : List Level) (i node b : ℕ) (p q r : Place) (d : Level) (x : TableLine) → AtLevel lines levels i node p q → r ≡ bits_on 1 q → bits_left r ≡ drop 1 (bits_left q) → Some b ≡ bits_next 1 (bits_left q) → i < length levels → 2 * node + b < (get_or levels i d).count → Leaves (groups_of lines levels) (Ok (get_or lines ((get_or levels i d).first + (2 * node + b)) x)) p r
+pub leaves-found : (lines : List TableLine) (levels : List Level) (i node b : ℕ) (p q r : Place) (d : Level) (x : TableLine) → AtLevel lines levels i node p q → r ≡ bits_on 1 q → bits_left r ≡ drop 1 (bits_left q) → Some b ≡ bits_next 1 (bits_left q) → i < length levels → 2 * node + b < (get_or levels i d).count → Reads p r (Ok (get_or lines ((get_or levels i d).first + (2 * node + b)) x)) (walk_of lines levels (bits_left p))
 leaves-found lines levels i node b p q r d x at place rest some inside found =
     let v = get_or levels i d in
     let e = 2 * node + b in
@@ -150,7 +145,7 @@ leaves-found lines levels i node b p q r d x at place rest some inside found =
     ∙ ap (λ (o : Option TableLine). found_or o (i + 1) (turned lines levels i node b (drop 1 (bits_left q)) d)) (get-take v.count e (drop v.first lines) x found within ∙ ap (λ (y : TableLine). Some y) (get_or-drop v.first lines e x)))
 
 -- the child begins no code
-pub leaves-refused : (lines : List TableLine) (levels : List Level) (i node b : ℕ) (p q r : Place) (d : Level) → AtLevel lines levels i node p q → r ≡ bits_on 1 q → bits_left r ≡ drop 1 (bits_left q) → Some b ≡ bits_next 1 (bits_left q) → i < length levels → (get_or levels i d).count ≤ 2 * node + b → (get_or levels i d).nodes ≤ 2 * node + b - (get_or levels i d).count → Leaves (groups_of lines levels) ((refused {A = TableLine} 0).answer) p r
+pub leaves-refused : (lines : List TableLine) (levels : List Level) (i node b : ℕ) (p q r : Place) (d : Level) → AtLevel lines levels i node p q → r ≡ bits_on 1 q → bits_left r ≡ drop 1 (bits_left q) → Some b ≡ bits_next 1 (bits_left q) → i < length levels → (get_or levels i d).count ≤ 2 * node + b → (get_or levels i d).nodes ≤ 2 * node + b - (get_or levels i d).count → Reads p r ((refused {A = TableLine} 0).answer) (walk_of lines levels (bits_left p))
 leaves-refused lines levels i node b p q r d at place rest some inside past none =
     let are = level-next lines levels i d inside at.are in
     leaves lines levels i node p q r ((refused {A = TableLine} 0).answer) at place rest

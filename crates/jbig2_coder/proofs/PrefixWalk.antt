@@ -4,7 +4,7 @@ use Rattle.std.proofs.Math.Nat.{div-div-eq-div-mul}
 use Rattle.std.proofs.lemmas.Bool.{cases_lt, cases_eq, cond-true, cond-false, lt-ltb, le-ltb, eq-eqb, ne_eqb, eqb-true, and_left, and_right, and_from, or_left, or_right, or_from}
 use Rattle.std.specs.List.{slice_get}
 use Rattle.jbig2_coder.specs.declared.huffman_table.line.TableLine.{TableLine}
-use Rattle.jbig2_coder.specs.PrefixCode.{Member, Reading, numbered, line_of, begins_longer, found_or, read_on, refused}
+use Rattle.jbig2_coder.specs.PrefixCode.{Member, CodeReading, numbered, line_of, begins_longer, found_or, read_on, refused}
 use Rattle.jbig2_coder.specs.inner.PrefixLevels.{nodes, codes_at, walk}
 
 -- the first line, or else the other
@@ -160,7 +160,7 @@ sees-next ms k b g gs sees =
       longer = λ l v h. sees.longer l v (omega arith) ∙ begins-append (numbered (k + 1) (2 * b) g) tail l v ∙ ap (λ (t : Bool). t || begins_longer tail l v) (begins-not_below (k + 1) (2 * b) g l v (omega arith));
     }
 
-found-both : (o : Option TableLine) (k : ℕ) (x y : Reading TableLine) → (o ≡ None → x ≡ y) → found_or o k x ≡ found_or (pick o None) k y
+found-both : (o : Option TableLine) (k : ℕ) (x y : CodeReading TableLine) → (o ≡ None → x ≡ y) → found_or o k x ≡ found_or (pick o None) k y
 found-both (Some line) k x y h = refl
 found-both None k x y h = h refl
 
@@ -198,7 +198,7 @@ walk-on ms (g ∷ gs) k b d (bit ∷ bits) sees =
     ∙ ap (λ (t : Bool). t || begins_longer tail (k + 1) n) (begins-not_below (k + 1) (2 * b) g (k + 1) n (omega arith))
     ∙ ap (λ (v : ℕ). begins_longer tail (k + 1) v) here
     ∙ begins-nodes (k + 1) base gs (e - length g) in
-    ap (λ (r : Reading TableLine). cond (ltb (e - length g) (nodes gs)) r (refused (k + 1))) (walk-on ms gs (k + 1) base (e - length g) bits next ∙ ap (λ (v : ℕ). read_on ms (k + 1) v bits) (sym here))
+    ap (λ (r : CodeReading TableLine). cond (ltb (e - length g) (nodes gs)) r (refused (k + 1))) (walk-on ms gs (k + 1) base (e - length g) bits next ∙ ap (λ (v : ℕ). read_on ms (k + 1) v bits) (sym here))
     ∙ ap (λ (t : Bool). cond t (read_on ms (k + 1) n bits) (refused (k + 1))) (sym longer))
     ∙ ap (λ (o : Option TableLine). found_or o (k + 1) (cond (begins_longer ms (k + 1) n) (read_on ms (k + 1) n bits) (refused (k + 1)))) (sym line)
 

@@ -4,6 +4,7 @@ pub mod Encoder
 pub mod Integers
 pub mod Lists
 pub mod PrefixCode
+pub mod Procedures
 pub mod Table
 pub mod Tables
 pub mod inner

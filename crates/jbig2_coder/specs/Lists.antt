@@ -37,9 +37,9 @@ decoded_from bytes registers contexts (k ∷ asked) =
     let next = decision bytes registers (contexts k) in
     next.symbol ∷ decoded_from bytes next.registers (with_context contexts k next.context) asked
 
-unfoldable pub decoded : List ℕ → List ℕ → List Bool
-decoded bytes asked = decoded_from bytes (started bytes) all_fresh asked
+unfoldable pub read_back : List ℕ → List ℕ → List Bool
+read_back bytes asked = decoded_from bytes (started bytes) all_fresh asked
 
 -- whatever is encoded, the decoder that is asked in the same contexts reads back
 abbrev pub DecodesBack : Type 0
-DecodesBack = (entries : List (ℕ × Bool)) → decoded (encoded entries) (map (λ entry. entry.0) entries) ≡ map (λ entry. entry.1) entries
+DecodesBack = (entries : List (ℕ × Bool)) → read_back (encoded entries) (map (λ entry. entry.0) entries) ≡ map (λ entry. entry.1) entries

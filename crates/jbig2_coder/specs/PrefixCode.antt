@@ -1,6 +1,6 @@
 -- Prefix codes (T.88, B.3 and B.4): the codes that prefix lengths make, and how bits are read by them.
 use Rattle.std.specs.Prelude.{◌≡◌, AllPairs, ℕ, zero, suc, ◌+◌, ◌-◌, ◌*◌, ◌/◌, ◌^◌, ◌≤◌, nat_lt, nat_le, ◌==◌, Bool, false, ◌&&◌, ◌||◌, List, [], ◌∷◌, ◌++◌, drop, max, filter, All, Option, Some, None, Result, Ok, Err, if◌then◌else◌, ℤ, pos, negsuc, ◌+ℤ◌, ◌-ℤ◌}
-use Rattle.jbig2_base.specs.Bits.{bits_next}
+use Rattle.jbig2_base.specs.Bits.{Place, bits_left, bits_next, bits_on}
 use Rattle.jbig2_base.specs.declared.error.DecodeError.{DecodeError}
 use Rattle.jbig2_base.specs.declared.error.DecodeError.TheVariants.{Parse, Huffman}
 use Rattle.jbig2_base.specs.declared.error.ParseError.TheVariants.{UnexpectedEof}
@@ -15,9 +15,15 @@ pub record Member : Type 0 where
   pub line : TableLine
 
 -- What a read answers, and how many bits it takes; where the bits end first, one more than there are.
-pub record Reading (A : Type 0) : Type 0 where
+pub record CodeReading (A : Type 0) : Type 0 where
   pub answer : Result A DecodeError
   pub taken : ℕ
+
+-- A call that answers what a reading answers, and leaves the bits that it takes behind it.
+pub record Reads {A : Type 0} (old new : Place) (result : Result A DecodeError) (reading : CodeReading A) : Type 0 where
+  pub value : result ≡ reading.answer
+  pub place : new ≡ bits_on reading.taken old
+  pub rest : bits_left new ≡ drop reading.taken (bits_left old)
 
 -- the greatest prefix length
 abbrev pub longest : List TableLine → ℕ
@@ -75,26 +81,26 @@ abbrev pub begins_longer : List Member → ℕ → ℕ → Bool
 begins_longer [] k v = false
 begins_longer (m ∷ ms) k v = (nat_lt k m.bits && (m.number / 2 ^ (m.bits - k) == v)) || begins_longer ms k v
 
-abbrev pub ended : {A : Type 0} → ℕ → Reading A
+abbrev pub ended : {A : Type 0} → ℕ → CodeReading A
 ended k = record { answer = Err (Parse UnexpectedEof); taken = k }
 
-abbrev pub refused : {A : Type 0} → ℕ → Reading A
+abbrev pub refused : {A : Type 0} → ℕ → CodeReading A
 refused k = record { answer = Err (Huffman InvalidCode); taken = k }
 
 -- the line that was found, or what stands in its place
-abbrev pub found_or : Option TableLine → ℕ → Reading TableLine → Reading TableLine
+abbrev pub found_or : Option TableLine → ℕ → CodeReading TableLine → CodeReading TableLine
 found_or (Some line) k other = record { answer = Ok line; taken = k }
 found_or None k other = other
 
 -- The member that begins the bits, k of which are taken and spell v. The shortest beginning that
 -- begins no member is refused.
-abbrev pub read_on : List Member → ℕ → ℕ → List ℕ → Reading TableLine
+abbrev pub read_on : List Member → ℕ → ℕ → List ℕ → CodeReading TableLine
 read_on ms k v [] = ended (k + 1)
 read_on ms k v (b ∷ bits) =
     found_or (line_of ms (k + 1) (2 * v + b)) (k + 1)
     (if begins_longer ms (k + 1) (2 * v + b) then read_on ms (k + 1) (2 * v + b) bits else refused (k + 1))
 
-unfoldable pub read_code : List Member → List ℕ → Reading TableLine
+unfoldable pub read_code : List Member → List ℕ → CodeReading TableLine
 read_code ms bits = read_on ms 0 0 bits
 
 -- a number in signed 32 bits
@@ -124,7 +130,7 @@ abbrev pub range_bits : TableLine → ℕ
 range_bits line = if line.is_out_of_band then 0 else line.range_length
 
 -- what a code's line gives, k bits being taken
-abbrev pub valued : Reading TableLine → List ℕ → Reading (Option ℤ)
+abbrev pub valued : CodeReading TableLine → List ℕ → CodeReading (Option ℤ)
 valued reading bits =
     elim reading.answer [
       | Ok line ↦ record { answer = value_after line (drop reading.taken bits); taken = reading.taken + range_bits line }
@@ -132,7 +138,7 @@ valued reading bits =
     ]
 
 -- A value read by a table (B.4).
-unfoldable pub decoded : List Member → List ℕ → Reading (Option ℤ)
+unfoldable pub decoded : List Member → List ℕ → CodeReading (Option ℤ)
 decoded ms bits = valued (read_code ms bits) bits
 
 -- a value where none may be out of band
@@ -140,6 +146,9 @@ abbrev pub no_oob : Result (Option ℤ) DecodeError → Result ℤ DecodeError
 no_oob (Ok (Some n)) = Ok n
 no_oob (Ok None) = Err (Huffman UnexpectedOob)
 no_oob (Err e) = Err e
+
+abbrev pub without_oob : CodeReading (Option ℤ) → CodeReading ℤ
+without_oob reading = record { answer = no_oob reading.answer; taken = reading.taken }
 
 -- range lengths that one read of bits can take
 abbrev pub AreShort : List TableLine → Type 0

@@ -1,8 +1,8 @@
 //! Prefix codes and the tables that hold them (T.88, Annex B).
 ghost use Rattle.std.specs.Prelude.{◌≡◌, ◌≤◌, ◌^◌, drop, IfOk, Ok};
 ghost use Rattle.jbig2_base.specs.Answer.{Gives, Leaves};
-ghost use Rattle.jbig2_base.specs.Bits.{bits_left, bits_on};
-ghost use Rattle.jbig2_coder.specs.PrefixCode.{table_of, decoded, no_oob, AreShort, IsFree};
+ghost use Rattle.jbig2_base.specs.Bits.{bits_left};
+ghost use Rattle.jbig2_coder.specs.PrefixCode.{table_of, decoded, without_oob, AreShort, IsFree, Reads};
 ghost use Rattle.jbig2_coder.specs.Tables.{uniform};
 ghost use Rattle.jbig2_coder.specs.CustomTable.{custom_table};
 
@@ -104,25 +104,12 @@ impl<A: Allocator + Clone> HuffmanTable<A> {
 }
 
 impl<A: Allocator> HuffmanTable<A> {
-    /// The same table in memory of its own.
-    pub fn duplicate<B: Allocator + Clone>(&self, alloc: B) -> Result<HuffmanTable<B>>
-        ensures { Gives (λ t. t) result (Ok self.now) }
-    {
-        let mut lines = Vec::new(alloc.clone()?);
-        lines.extend_from_slice(&self.lines)?;
-        let mut levels = Vec::new(alloc);
-        levels.extend_from_slice(&self.levels)?;
-        Ok(HuffmanTable { lines, levels })
-    }
-
     /// Reads a code and its range bits (B.4): the value, or None for out of band.
     ///
     /// Bits that end in the code are an unexpected end; the first bits that begin no code, range
     /// bits that end, and a value outside signed 32 bits are an invalid code.
     pub fn decode(&self, reader: &mut Reader<'_>) -> Result<Option<i32>>
-        ensures value { result ≡ (decoded self.now (bits_left reader.old)).answer }
-        ensures place { reader.new ≡ bits_on (decoded self.now (bits_left reader.old)).taken reader.old }
-        ensures rest { bits_left reader.new ≡ drop (decoded self.now (bits_left reader.old)).taken (bits_left reader.old) }
+        ensures { Reads reader.old reader.new result (decoded self.now (bits_left reader.old)) }
     {
         let line = read_line(&self.lines, &self.levels, reader)?;
         if line.is_out_of_band {
@@ -133,9 +120,7 @@ impl<A: Allocator> HuffmanTable<A> {
 
     /// Reads a value where out of band is an error.
     pub fn decode_no_oob(&self, reader: &mut Reader<'_>) -> Result<i32>
-        ensures value { result ≡ no_oob (decoded self.now (bits_left reader.old)).answer }
-        ensures place { reader.new ≡ bits_on (decoded self.now (bits_left reader.old)).taken reader.old }
-        ensures rest { bits_left reader.new ≡ drop (decoded self.now (bits_left reader.old)).taken (bits_left reader.old) }
+        ensures { Reads reader.old reader.new result (without_oob (decoded self.now (bits_left reader.old))) }
     {
         let Some(value) = self.decode(reader)? else {
             return Err(DecodeError::Huffman(HuffmanError::UnexpectedOob));

@@ -5,5 +5,6 @@
 pub mod arithmetic_decoder;
 pub mod huffman_table;
 pub mod integer_decoder;
+pub mod integer_procedures;
 pub mod mq;
 pub mod symbol_id_decoder;

@@ -3,7 +3,7 @@
 ghost use Rattle.std.specs.Prelude.{◌≡◌, ◌+◌, length, vec_len, IfOk, IfErr, OnOk, Ok};
 ghost use Rattle.jbig2_base.specs.Answer.{Gives};
 ghost use Rattle.jbig2_base.specs.declared.error.DecodeError.TheVariants.{OutOfMemory};
-ghost use Rattle.jbig2_coder.specs.Lists.{contexts_of, all_fresh, encoded, decoded, DecodesBack};
+ghost use Rattle.jbig2_coder.specs.Lists.{contexts_of, all_fresh, encoded, read_back, DecodesBack};
 
 use crate::arithmetic_decoder::{ArithmeticDecoder, ArithmeticDecoderContext};
 use crate::mq::encoder::ArithmeticEncoder;
@@ -52,7 +52,7 @@ pub fn decode_list<A: Allocator + Clone, L: Ledger>(
     contexts: &[u16],
     steps: &mut Steps<L>,
 ) -> Result<Vec<bool, A>>
-    ensures value { Gives (λ v. v.items) result (Ok (decoded bytes.now contexts.now)) }
+    ensures value { Gives (λ v. v.items) result (Ok (read_back bytes.now contexts.now)) }
     ensures steps { OnOk result (steps.new ≡ record steps.old { decisions = steps.old.decisions + length contexts.now }) }
 {
     let mut table = fresh_contexts(alloc.clone()?)?;

@@ -56,8 +56,8 @@ halftone_grid_at bytes = do
   width ← number_at w32 bytes
   height ← number_at w32 width.1
   fits ← refuse_if (nat_lt 65535 width.0 || nat_lt 65535 height.0) (Overflow GridDimension)
-  x ← signed_at height.1
-  y ← signed_at x.1
+  x ← signed_at w32 height.1
+  y ← signed_at w32 x.1
   Ok (record { width = width.0; height = height.0; horizontal_offset = x.0; vertical_offset = y.0 }, y.1)
 
 -- All of it, and the place where the coded bytes begin.

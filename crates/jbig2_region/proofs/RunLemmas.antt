@@ -13,7 +13,8 @@ use Rattle.jbig2_region.specs.inner.Neighbours.{left_pixels, stretch_pixels, nom
 use Rattle.jbig2_coder.specs.Coder.{Coder, Context, fresh, all_quiet}
 use Rattle.jbig2_region.specs.inner.Holds.{Holds}
 use Rattle.jbig2_region.specs.Raster.{Region, so_far}
-use Rattle.jbig2_region.specs.RunBytes.{all_of, has_all, stays, same_colour, is_run_of}
+use Rattle.jbig2_base.specs.Grid.{same_colour}
+use Rattle.jbig2_region.specs.RunBytes.{all_of, has_all, stays, is_run_of}
 use Rattle.jbig2_region.specs.declared.template.neighbours.Neighbours.{Neighbours}
 use Rattle.jbig2_region.specs.declared.template.neighbours.Stretch.{Stretch}
 use Rattle.jbig2_region.specs.declared.generic_kernel.windows.Windows.{Windows}

@@ -14,7 +14,8 @@ use Rattle.jbig2_region.specs.Generic.{context_at}
 use Rattle.jbig2_region.specs.inner.Holds.{Holds}
 use Rattle.jbig2_region.specs.inner.Neighbours.{IsLeft, row_coding}
 use Rattle.jbig2_region.specs.Raster.{Region, so_far, after_pixel, after_pixels}
-use Rattle.jbig2_region.specs.RunBytes.{all_of, stays, same_colour, is_run_of}
+use Rattle.jbig2_base.specs.Grid.{same_colour}
+use Rattle.jbig2_region.specs.RunBytes.{all_of, stays, is_run_of}
 use Rattle.jbig2_region.specs.declared.template.AdaptiveTemplatePixel.{AdaptiveTemplatePixel}
 use Rattle.jbig2_region.proofs.RasterLemmas.{Holds-decided, so_far-push, after_pixels-length, after_pixels-predicted}
 use Rattle.jbig2_region.proofs.RunLemmas.{stays-context}

@@ -1,7 +1,7 @@
 -- Run bytes of generic regions, and the counts that speak of them (our own rule).
 use Rattle.std.specs.Prelude.{◌≡◌, ℕ, zero, suc, ◌+◌, ◌-◌, ◌*◌, ◌/◌, ◌%◌, ◌≤◌, ◌==◌, Bool, true, false, not, ◌&&◌, ◌||◌, nat_lt, if◌then◌else◌, List, ◌++◌, length, replicate, slice_index_or}
 use Rattle.jbig2_base.specs.Counts.{Counts}
-use Rattle.jbig2_base.specs.Grid.{Grid, bit_number}
+use Rattle.jbig2_base.specs.Grid.{Grid, bit_number, same_colour}
 use Rattle.jbig2_coder.specs.Coder.{Coder, Context, fresh, all_quiet}
 use Rattle.jbig2_region.specs.Generic.{context_at, number_of}
 use Rattle.jbig2_region.specs.inner.Holds.{Holds}
@@ -21,9 +21,6 @@ has_all template w h colour bits = context_at template (so_far w h bits) (length
 unfoldable pub stays : List AdaptiveTemplatePixel → ℕ → ℕ → Bool → ℕ → List Bool → Bool
 stays template w h colour zero bits = has_all template w h colour bits
 stays template w h colour (suc n) bits = stays template w h colour n bits && has_all template w h colour (bits ++ replicate (suc n) colour)
-
-abbrev pub same_colour : Bool → Bool → Bool
-same_colour one other = if one then other else not other
 
 -- whether the next eight pixels are a run of a colour: of likely symbols, quiet, and in one context
 unfoldable pub is_run_of : List AdaptiveTemplatePixel → ℕ → ℕ → List ℕ → Region → Bool → Bool

@@ -6,14 +6,14 @@ ghost use Rattle.std.specs.Prelude.{◌≡◌};
 
 use jbig2_base::bitmap::operator::CombinationOperator;
 use jbig2_base::bitmap::steps::Steps;
-use jbig2_base::error::{
-    DecodeError, FormatError, HuffmanError, OverflowError, ParseError, RegionError, Result,
-    SegmentError, SymbolError, TemplateError,
+use jbig2_base::error::{DecodeError, HuffmanError, ParseError, Result, SegmentError};
+use jbig2_base::field::{
+    bits_field, byte_field, bytes_field, i8_field, i32_field, u16_field, u32_field,
 };
-use jbig2_base::field::{byte_field, bytes_field, u16_field, u32_field};
 use jbig2_base::file::parse_segments_sequential;
 use jbig2_base::page_info::{Sheet, parse_page_information};
 use jbig2_base::reader::Reader;
+use jbig2_base::search::code_length;
 use jbig2_base::segment::{SegmentType, parse_segment, parse_segment_data, parse_segment_header};
 use std::alloc::Allocator;
 use std::marker::Brand;
@@ -61,6 +61,21 @@ fn fields_are_read(rt: HostRuntime) {
     assert!(rt; bytes_field(&mut reader, 2) == Ok(&[4, 5]));
     let refused = Err(DecodeError::Parse(ParseError::UnexpectedEof));
     assert!(rt; byte_field(&mut reader) == refused);
+    let mut signed = Reader::new(&[0xFF, 0xFF, 0xFF, 0xFF, 0xFE, 0b1010_0000]);
+    assert!(rt; i8_field(&mut signed) == Ok(-1));
+    assert!(rt; i32_field(&mut signed) == Ok(-2));
+    let invalid = DecodeError::Huffman(HuffmanError::InvalidCode);
+    assert!(rt; bits_field(&mut signed, 3, invalid.duplicate()) == Ok(0b101));
+    assert!(rt; bits_field(&mut signed, 6, invalid.duplicate()) == Err(invalid));
+}
+
+#[test]
+fn codes_have_the_fewest_bits(rt: HostRuntime) {
+    assert_eq!(rt; code_length(0), 0);
+    assert_eq!(rt; code_length(1), 0);
+    assert_eq!(rt; code_length(4), 2);
+    assert_eq!(rt; code_length(5), 3);
+    assert_eq!(rt; code_length(1 << 21), 21);
 }
 
 /// The length of the data of a generic region of unknown length, with another type and another last byte, cut
@@ -152,6 +167,7 @@ fn each_step<L: Ledger>(blank: Blank)
     let mut steps: Steps<L> = Steps::new(blank);
     steps.load();
     steps.word();
+    steps.copy(2);
     steps.decision();
     steps.run_test();
     steps.group();

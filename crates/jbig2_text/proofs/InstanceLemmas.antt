@@ -1,5 +1,5 @@
 -- The steps of reading the instances of a text region.
-use Rattle.std.proofs.Common.{◌≡◌, ℕ, suc, ◌+◌, ◌-◌, ◌<◌, ◌≤◌, List, ◌∷◌, length, drop, get_or, Result, Ok, Err, refl, sym, ◌∙◌, ap, arith, inl, inr, ◌⊎◌}
+use Rattle.std.proofs.Common.{◌≡◌, ℕ, suc, ◌+◌, ◌-◌, ◌<◌, ◌≤◌, ℤ, pos, List, [], ◌∷◌, length, drop, get_or, Result, Ok, Err, refl, sym, ◌∙◌, ap, arith, inl, inr, ◌⊎◌}
 use Rattle.std.proofs.Math.Seq.{drop-cons}
 use Rattle.jbig2_base.specs.Answer.{◌>>=◌}
 use Rattle.jbig2_base.specs.Combination.{combined}
@@ -7,8 +7,11 @@ use Rattle.jbig2_base.specs.Grid.{Grid}
 use Rattle.jbig2_base.specs.declared.bitmap.operator.CombinationOperator.{CombinationOperator}
 use Rattle.jbig2_base.specs.declared.error.DecodeError.{DecodeError}
 use Rattle.jbig2_base.specs.declared.error.DecodeError.TheVariants.{OutOfMemory}
-use Rattle.jbig2_text.specs.Text.{Readings, Reached, TextParams, with_next, after_instances, drawn}
-use Rattle.jbig2_text.specs.inner.TextViews.{instances_view, symbol_view}
+use Rattle.jbig2_text.specs.Refining.{Refining}
+use Rattle.jbig2_text.specs.Text.{Instance, Readings, Reached, TextParams, reached, strip_begun, some_strips, with_last, with_next, after_instances, drawn}
+use Rattle.jbig2_text.specs.inner.TextViews.{instances_view, reached_view, symbol_view}
+use Rattle.jbig2_text.specs.declared.text.cursor.Cursor.{Cursor}
+use Rattle.jbig2_text.specs.declared.text.instances.PlacedInstances.{PlacedInstances}
 use Rattle.jbig2_text.specs.declared.text.placement.Instance.{Instance as PlacedSymbol}
 
 inner-step : {S : Type 0} (r : Readings S) (p : TextParams) (n : ℕ) (x : Reached S) → after_instances r p (suc n) x ≡ (with_next r p x >>= λ y. after_instances r p n y)
@@ -31,6 +34,13 @@ unfolding after_instances
 inner-done r p n k x whole done goes =
     let e : n - k ≡ 0 = omega arith in
     sym goes ∙ ap (λ m. after_instances r p m x) e
+
+-- the strips, from what the code holds where the first one begins
+pub begun-is : {B M S : Type 0} (r : Readings S) (p : TextParams) (t : ℤ) (f : Refining) (s next : S) (c : Cursor) (placed : PlacedInstances B M) → strip_begun r p.flags t (pos 0) s ≡ Ok (c, next) → instances_view placed.instances.items ≡ [] → placed.cursor ≡ c → some_strips r p t f s ≡ (after_instances r p (p.count - 1) (reached_view placed f next) >>= λ x. with_last r p x)
+begun-is {B} {M} {S} r p t f s next c placed begun none is =
+    ap (λ (z : Result (Cursor × S) DecodeError). z >>= λ y. after_instances r p (p.count - 1) (reached [] y.0 f y.1) >>= λ x. with_last r p x) begun
+    ∙ ap (λ (l : List Instance). after_instances r p (p.count - 1) (reached l c f next) >>= λ x. with_last r p x) (sym none)
+    ∙ ap (λ (d : Cursor). after_instances r p (p.count - 1) (reached (instances_view placed.instances.items) d f next) >>= λ x. with_last r p x) (sym is)
 
 pub draw-next : {B M : Type 0} (operator : CombinationOperator) (all : List (PlacedSymbol B M)) (k : ℕ) (i : PlacedSymbol B M) (region next whole : Grid) → k < length all → i ≡ get_or all k i → drawn operator (instances_view (drop k all)) region ≡ whole → next ≡ combined operator region (symbol_view i.symbol) i.x i.y → drawn operator (instances_view (drop (k + 1) all)) next ≡ whole
 draw-next {B} {M} operator all k i region next whole inside is goes done =

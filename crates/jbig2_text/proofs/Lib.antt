@@ -1,5 +1,6 @@
 pub mod InstanceLemmas
 pub mod RefiningLemmas
+pub mod RegionLemmas
 pub mod SymbolLemmas
 mod WorkedCodedTexts
 mod WorkedTexts

@@ -1,19 +1,14 @@
 -- Numbers that are read from bits (T.88, B.4): each gives its value and the place behind it.
 use Rattle.std.specs.Prelude.{ℕ, List, Result, Ok, ℤ}
 use Rattle.jbig2_base.specs.Answer.{◌>>=◌}
-use Rattle.jbig2_base.specs.Bits.{Place, bits_left, bits_next, bits_on}
+use Rattle.jbig2_base.specs.Bits.{Place, bits_left, bits_on}
 use Rattle.jbig2_base.specs.declared.error.DecodeError.{DecodeError}
 use Rattle.jbig2_base.specs.declared.error.DecodeError.TheVariants.{Huffman}
 use Rattle.jbig2_base.specs.declared.error.HuffmanError.TheVariants.{InvalidCode}
-use Rattle.jbig2_coder.specs.CustomTable.{some_or}
 use Rattle.jbig2_coder.specs.PrefixCode.{Member, decoded, no_oob}
 
 abbrev pub invalid_code : DecodeError
 invalid_code = Huffman InvalidCode
-
--- the next count bits as a number, or the error
-abbrev pub bits_at : DecodeError → ℕ → Place → Result (ℕ × Place) DecodeError
-bits_at e count p = some_or e (bits_next count (bits_left p)) >>= λ n. Ok (n, bits_on count p)
 
 -- the place behind a value that is read by a table
 abbrev pub behind_value : List Member → Place → Place

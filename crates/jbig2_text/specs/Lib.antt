@@ -1,4 +1,5 @@
 pub mod BitFields
+pub mod Refining
 pub mod SymbolCodes
 pub mod Text
 pub mod TextCoding

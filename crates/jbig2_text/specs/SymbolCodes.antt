@@ -3,11 +3,12 @@ use Rattle.std.specs.Prelude.{ℕ, zero, suc, ◌+◌, ◌-◌, nat_lt, ◌==◌
 use Rattle.jbig2_base.specs.Answer.{◌>>=◌, refuse_if}
 use Rattle.jbig2_base.specs.Bits.{Place, start_of, aligned}
 use Rattle.jbig2_base.specs.declared.error.DecodeError.{DecodeError}
-use Rattle.jbig2_coder.specs.CustomTable.{some_or}
+use Rattle.jbig2_base.specs.Answer.{some_or}
 use Rattle.jbig2_coder.specs.PrefixCode.{Member, table_of}
 use Rattle.jbig2_coder.specs.Tables.{line}
 use Rattle.jbig2_coder.specs.declared.huffman_table.line.TableLine.{TableLine}
-use Rattle.jbig2_text.specs.BitFields.{invalid_code, bits_at, value_at}
+use Rattle.jbig2_base.specs.Fields.{bits_at}
+use Rattle.jbig2_text.specs.BitFields.{invalid_code, value_at}
 
 -- the numbers from n on, by the lengths of their codes
 abbrev pub lines_from : ℕ → List ℕ → List TableLine

@@ -11,12 +11,15 @@ use Rattle.jbig2_base.specs.declared.error.DecodeError.TheVariants.{Overflow, Sy
 use Rattle.jbig2_base.specs.declared.error.OverflowError.TheVariants.{BitmapDimension, PlacementCoordinate, ReferenceOffset}
 use Rattle.jbig2_base.specs.declared.error.SymbolError.TheVariants.{InvalidStripDelta, OutOfRange, TooManyInstances}
 use Rattle.jbig2_region.specs.Refinement.{Reference}
+use Rattle.jbig2_text.specs.Refining.{Refining}
 use Rattle.jbig2_text.specs.declared.text.cursor.Cursor.{Cursor}
 use Rattle.jbig2_text.specs.declared.text.header.ReferenceCorner.{ReferenceCorner}
 use Rattle.jbig2_text.specs.declared.text.header.ReferenceCorner.TheVariants.{BottomLeft, BottomRight, TopRight}
 use Rattle.jbig2_text.specs.declared.text.header.TextRegionFlags.{TextRegionFlags}
+use Rattle.jbig2_text.specs.declared.text.refined.RefinementDeltas.{RefinementDeltas}
 
--- What the instances are read and placed by (Table 9). `data_length` is that of the segment.
+-- What the instances are read and placed by (Table 9): the flags, SBSYMS and SBNUMINSTANCES. `data_length` is that of
+-- the segment.
 pub record TextParams : Type 0 where
   pub flags : TextRegionFlags
   pub symbols : List Grid
@@ -32,7 +35,8 @@ pub record Instance : Type 0 where
 
 -- How the numbers are coded (6.4.6 to 6.4.11): each reading goes from a state of the coder to a value and the state
 -- behind it. What a reading of delta S has used up is used up also where it is refused; None ends a strip. `t_bits`
--- is by the log of the strip size; `refined` is by the reference, the width and the height.
+-- is by the log of the strip size; `refined` is by the reference, the width, the height and the refining contexts,
+-- and answers these as they are behind the symbol.
 pub record Readings (S : Type 0) : Type 0 where
   pub delta_t : S → Result (ℤ × S) DecodeError
   pub first_s : S → Result (ℤ × S) DecodeError
@@ -45,16 +49,17 @@ pub record Readings (S : Type 0) : Type 0 where
   pub height_delta : S → Result (ℤ × S) DecodeError
   pub x_delta : S → Result (ℤ × S) DecodeError
   pub y_delta : S → Result (ℤ × S) DecodeError
-  pub refined : Reference → ℕ → ℕ → S → Result (Grid × S) DecodeError
+  pub refined : Reference → ℕ → ℕ → Refining → S → Result (Grid × Refining × S) DecodeError
 
--- The instances so far, where the next one stands, and the state of the coder.
+-- The instances so far, where the next one stands, the refining contexts and the state of the coder.
 pub record Reached (S : Type 0) : Type 0 where
   pub instances : List Instance
   pub cursor : Cursor
+  pub refining : Refining
   pub state : S
 
-abbrev pub reached : {S : Type 0} → List Instance → Cursor → S → Reached S
-reached found c s = record { instances = found; cursor = c; state = s }
+abbrev pub reached : {S : Type 0} → List Instance → Cursor → Refining → S → Reached S
+reached found c f s = record { instances = found; cursor = c; refining = f; state = s }
 
 -- ---- numbers of 32 bits
 -- a number in signed 32 bits, or the error
@@ -66,34 +71,34 @@ abbrev pub coordinate : ℤ → Result ℤ DecodeError
 coordinate n = word_or (Overflow PlacementCoordinate) n
 
 -- ---- strips (6.4.5, steps 1 to 4)
--- a difference of T, in whole strips (6.4.6)
+-- DT, in rows: it is read in whole strips (6.4.6)
 unfoldable pub strip_delta : {S : Type 0} → Readings S → TextRegionFlags → S → Result (ℤ × S) DecodeError
 strip_delta r flags s = do
-  delta ← r.delta_t s
-  t ← word_or (Symbol InvalidStripDelta) (delta.0 *ℤ pos (2 ^ flags.log_strip_size))
-  Ok (t, delta.1)
+  strips ← r.delta_t s
+  dt ← word_or (Symbol InvalidStripDelta) (strips.0 *ℤ pos (2 ^ flags.log_strip_size))
+  Ok (dt, strips.1)
 
--- a strip begins: its T and its first S, by those of the strip before it
+-- a strip begins: STRIPT and FIRSTS go on by DT and DFS (6.4.6 and 6.4.7), and CURS is FIRSTS (steps 3 b and 3 c i)
 unfoldable pub strip_begun : {S : Type 0} → Readings S → TextRegionFlags → ℤ → ℤ → S → Result (Cursor × S) DecodeError
-strip_begun r flags strip_t first_s s = do
-  delta ← strip_delta r flags s
-  t ← coordinate (strip_t +ℤ delta.0)
-  first ← r.first_s delta.1
-  start ← coordinate (first_s +ℤ first.0)
-  Ok (record { strip_t = t; first_s = start; s = start }, first.1)
+strip_begun r flags stript firsts s = do
+  dt ← strip_delta r flags s
+  next_stript ← coordinate (stript +ℤ dt.0)
+  dfs ← r.first_s dt.1
+  next_firsts ← coordinate (firsts +ℤ dfs.0)
+  Ok (record { strip_t = next_stript; first_s = next_firsts; cur_s = next_firsts }, dfs.1)
 
--- the next instance stands further on in the strip, or else begins the next one (6.4.8)
+-- CURS goes on by IDS and SBDSOFFSET in the strip, or else the next strip begins (step 3 c ii, and 6.4.8)
 abbrev pub moved_by : {S : Type 0} → Readings S → TextRegionFlags → Cursor → Option ℤ → S → Result (Cursor × S) DecodeError
 moved_by r flags c None s = strip_begun r flags c.strip_t c.first_s s
-moved_by r flags c (Some delta) s = do
-  apart ← coordinate (c.s +ℤ delta)
-  place ← coordinate (apart +ℤ flags.delta_s_offset)
-  Ok (record c { s = place }, s)
+moved_by r flags c (Some ids) s = do
+  apart ← coordinate (c.cur_s +ℤ ids)
+  curs ← coordinate (apart +ℤ flags.delta_s_offset)
+  Ok (record c { cur_s = curs }, s)
 
 unfoldable pub moved : {S : Type 0} → Readings S → TextRegionFlags → Cursor → S → Result (Cursor × S) DecodeError
-moved r flags c s = r.delta_s s >>= λ delta. moved_by r flags c delta (r.behind_delta_s s)
+moved r flags c s = r.delta_s s >>= λ ids. moved_by r flags c ids (r.behind_delta_s s)
 
--- T in the strip, which is read in strips of more than one row alone (6.4.9)
+-- CURT, which is read in strips of more than one row alone (6.4.9)
 abbrev pub t_in_strip : {S : Type 0} → Readings S → TextRegionFlags → S → Result (ℤ × S) DecodeError
 t_in_strip r flags s = if flags.log_strip_size == 0 then Ok (pos 0, s) else r.t_bits flags.log_strip_size s
 
@@ -112,40 +117,60 @@ abbrev pub side_of : ℤ → Result ℕ DecodeError
 side_of (pos n) = refuse_if (nat_le 2147483648 n) (Overflow BitmapDimension) >>= λ fits. Ok n
 side_of (negsuc n) = Err (Overflow BitmapDimension)
 
--- where the reference lies: half the growth of a side, rounded down, and a difference
+-- where the reference lies: half the growth of a side, rounded down, and a difference (Table 12, GRREFERENCEDX)
 abbrev pub reference_offset : ℤ → ℤ → Result ℤ DecodeError
 reference_offset growth delta = word_or (Overflow ReferenceOffset) (int_shr growth 1 +ℤ delta)
 
+-- RDW, RDH, RDX and RDY (6.4.11, steps 1 to 4)
+unfoldable pub refinement_deltas : {S : Type 0} → Readings S → S → Result (RefinementDeltas × S) DecodeError
+refinement_deltas r s = do
+  rdw ← r.width_delta s
+  rdh ← r.height_delta rdw.1
+  rdx ← r.x_delta rdh.1
+  rdy ← r.y_delta rdx.1
+  Ok (record { width = rdw.0; height = rdh.0; x = rdx.0; y = rdy.0 }, rdy.1)
+
+-- The width and the height of a refined symbol, and where its reference lies (Table 12).
+pub record Outline : Type 0 where
+  pub width : ℕ
+  pub height : ℕ
+  pub dx : ℤ
+  pub dy : ℤ
+
+unfoldable pub refined_outline : Grid → RefinementDeltas → Result Outline DecodeError
+refined_outline from rd = do
+  width ← side_of (pos from.width +ℤ rd.width)
+  height ← side_of (pos from.height +ℤ rd.height)
+  dx ← reference_offset rd.width rd.x
+  dy ← reference_offset rd.height rd.y
+  Ok (record { width = width; height = height; dx = dx; dy = dy })
+
 -- a symbol that is refined from that of the id; neither side may pass 65535 (our own rule)
-unfoldable pub refined_symbol : {S : Type 0} → Readings S → List Grid → ℤ → S → Result (Grid × S) DecodeError
-refined_symbol r symbols id s = do
+unfoldable pub refined_symbol : {S : Type 0} → Readings S → List Grid → ℤ → Refining → S → Result (Grid × Refining × S) DecodeError
+refined_symbol r symbols id f s = do
   from ← some_symbol (symbol_of symbols id)
-  dw ← r.width_delta s
-  dh ← r.height_delta dw.1
-  dx ← r.x_delta dh.1
-  dy ← r.y_delta dx.1
-  width ← side_of (pos from.width +ℤ dw.0)
-  height ← side_of (pos from.height +ℤ dh.0)
-  x ← reference_offset dw.0 dx.0
-  y ← reference_offset dh.0 dy.0
-  fits ← refuse_if (nat_lt 65535 width || nat_lt 65535 height) (Overflow BitmapDimension)
-  r.refined (record { grid = from; dx = x; dy = y }) width height dy.1
+  rd ← refinement_deltas r s
+  o ← refined_outline from rd.0
+  fits ← refuse_if (nat_lt 65535 o.width || nat_lt 65535 o.height) (Overflow BitmapDimension)
+  r.refined (record { grid = from; dx = o.dx; dy = o.dy }) o.width o.height f rd.1
 
 -- an id without a symbol is refused in strict mode, and otherwise stands for nothing (our own rule)
-abbrev pub plain_symbol : {S : Type 0} → Bool → Option Grid → S → Result (Option Grid × S) DecodeError
-plain_symbol strict (Some g) s = Ok (Some g, s)
-plain_symbol true None s = Err (Symbol OutOfRange)
-plain_symbol false None s = Ok (None, s)
+abbrev pub plain_symbol : Bool → Option Grid → Result (Option Grid) DecodeError
+plain_symbol strict (Some g) = Ok (Some g)
+plain_symbol true None = Err (Symbol OutOfRange)
+plain_symbol false None = Ok None
 
-abbrev pub symbol_by : {S : Type 0} → Readings S → TextParams → ℤ → Bool → S → Result (Option Grid × S) DecodeError
-symbol_by r p id true s = refined_symbol r p.symbols id s >>= λ g. Ok (Some g.0, g.1)
-symbol_by r p id false s = plain_symbol p.strict (symbol_of p.symbols id) s
+-- R_I, which is 0 where nothing is refined (6.4.11)
+abbrev pub refinement_flag : {S : Type 0} → Readings S → TextRegionFlags → S → Result (Bool × S) DecodeError
+refinement_flag r flags s = if flags.use_refinement then r.is_refined s else Ok (false, s)
 
--- the symbol of an instance (6.4.11)
-unfoldable pub instance_symbol : {S : Type 0} → Readings S → TextParams → ℤ → S → Result (Option Grid × S) DecodeError
-instance_symbol r p id s =
-    if p.flags.use_refinement then (r.is_refined s >>= λ refined. symbol_by r p id refined.0 refined.1)
-    else symbol_by r p id false s
+abbrev pub symbol_by : {S : Type 0} → Readings S → TextParams → ℤ → Bool → Refining → S → Result (Option Grid × Refining × S) DecodeError
+symbol_by r p id true f s = refined_symbol r p.symbols id f s >>= λ g. Ok (Some g.0, g.1, g.2)
+symbol_by r p id false f s = plain_symbol p.strict (symbol_of p.symbols id) >>= λ g. Ok (g, f, s)
+
+-- the symbol of an instance, IB (6.4.11)
+unfoldable pub instance_symbol : {S : Type 0} → Readings S → TextParams → ℤ → Refining → S → Result (Option Grid × Refining × S) DecodeError
+instance_symbol r p id f s = refinement_flag r p.flags s >>= λ ri. symbol_by r p id ri.0 f ri.1
 
 -- ---- places (6.4.5, step 3 c)
 abbrev pub is_right : ReferenceCorner → Bool
@@ -165,49 +190,54 @@ behind_first side = pos side -ℤ pos 1
 abbrev pub is_last_along_s : TextRegionFlags → Bool
 is_last_along_s flags = if flags.transposed then is_bottom flags.reference_corner else is_right flags.reference_corner
 
--- S at the other end of a symbol
+-- CURS at the other end of a symbol
 abbrev pub grown : TextRegionFlags → Grid → ℤ → Result ℤ DecodeError
-grown flags g s = coordinate (s +ℤ behind_first (if flags.transposed then g.height else g.width))
+grown flags g curs = coordinate (curs +ℤ behind_first (if flags.transposed then g.height else g.width))
 
--- S goes on by the symbol's extent: before it is placed where its corner is the last one along S, else afterwards
+-- CURS goes on by the symbol's extent: before it is placed where its corner is the last one along S (step 3 c vi),
+-- else afterwards (step 3 c x)
 abbrev pub s_before : TextRegionFlags → Grid → ℤ → Result ℤ DecodeError
-s_before flags g s = if is_last_along_s flags then grown flags g s else Ok s
+s_before flags g curs = if is_last_along_s flags then grown flags g curs else Ok curs
 
 abbrev pub s_behind : TextRegionFlags → Grid → ℤ → Result ℤ DecodeError
-s_behind flags g s = if is_last_along_s flags then Ok s else grown flags g s
+s_behind flags g curs = if is_last_along_s flags then Ok curs else grown flags g curs
 
 -- the first column (or row), where the corner at this one may be at the last
 abbrev pub edge : Bool → ℕ → ℤ → Result ℤ DecodeError
 edge at_last side place = if at_last then coordinate (place -ℤ behind_first side) else Ok place
 
--- a symbol at S and T, and S behind it
+-- a symbol at SI and TI, and CURS behind it (steps 3 c vi to x)
 unfoldable pub placed : TextRegionFlags → Grid → ℤ → ℤ → Result (Instance × ℤ) DecodeError
-placed flags g s t = do
-  start ← s_before flags g s
-  x ← edge (is_right flags.reference_corner) g.width (if flags.transposed then t else start)
-  y ← edge (is_bottom flags.reference_corner) g.height (if flags.transposed then start else t)
-  next ← s_behind flags g start
+placed flags g curs ti = do
+  si ← s_before flags g curs
+  x ← edge (is_right flags.reference_corner) g.width (if flags.transposed then ti else si)
+  y ← edge (is_bottom flags.reference_corner) g.height (if flags.transposed then si else ti)
+  next ← s_behind flags g si
   Ok (record { grid = g; x = x; y = y }, next)
 
 -- ---- instances
 -- an instance whose id has no symbol moves nothing
 abbrev pub with_symbol : TextRegionFlags → List Instance → Cursor → ℤ → Option Grid → Result (List Instance × Cursor) DecodeError
-with_symbol flags before c t None = Ok (before, c)
-with_symbol flags before c t (Some g) = placed flags g c.s t >>= λ i. Ok (before ++ i.0 ∷ [], record c { s = i.1 })
+with_symbol flags before c ti None = Ok (before, c)
+with_symbol flags before c ti (Some g) =
+    placed flags g c.cur_s ti >>= λ i. Ok (before ++ i.0 ∷ [], record c { cur_s = i.1 })
 
--- one instance more
+-- one instance more: TI is STRIPT and CURT, then come ID and IB (steps 3 c iii to x)
 unfoldable pub with_instance : {S : Type 0} → Readings S → TextParams → Reached S → Result (Reached S) DecodeError
 with_instance r p x = do
-  t ← t_in_strip r p.flags x.state
-  place ← coordinate (x.cursor.strip_t +ℤ t.0)
-  id ← r.id t.1
-  symbol ← instance_symbol r p id.0 id.1
-  more ← with_symbol p.flags x.instances x.cursor place symbol.0
-  Ok (reached more.0 more.1 symbol.1)
+  curt ← t_in_strip r p.flags x.state
+  ti ← coordinate (x.cursor.strip_t +ℤ curt.0)
+  id ← r.id curt.1
+  ib ← instance_symbol r p id.0 x.refining id.1
+  more ← with_symbol p.flags x.instances x.cursor ti ib.0
+  Ok (reached more.0 more.1 ib.1 ib.2)
 
 -- one more, and where the one behind it stands
 abbrev pub with_next : {S : Type 0} → Readings S → TextParams → Reached S → Result (Reached S) DecodeError
-with_next r p x = with_instance r p x >>= λ y. moved r p.flags y.cursor y.state >>= λ c. Ok (reached y.instances c.0 c.1)
+with_next r p x = do
+  y ← with_instance r p x
+  c ← moved r p.flags y.cursor y.state
+  Ok (reached y.instances c.0 y.refining c.1)
 
 -- so many more, with others behind them
 unfoldable pub after_instances : {S : Type 0} → Readings S → TextParams → ℕ → Reached S → Result (Reached S) DecodeError
@@ -216,42 +246,48 @@ after_instances r p (suc n) x = with_next r p x >>= λ y. after_instances r p n 
 
 -- A strip ends out of band. In strict mode it is refused otherwise; lenient reading takes any end (our own rule).
 abbrev pub end_of_strip : Bool → Result (Option ℤ) DecodeError → Result (Unit {0}) DecodeError
-end_of_strip false delta = Ok tt
+end_of_strip false ids = Ok tt
 end_of_strip true (Ok None) = Ok tt
-end_of_strip true (Ok (Some delta)) = Err (Symbol TooManyInstances)
+end_of_strip true (Ok (Some ids)) = Err (Symbol TooManyInstances)
 end_of_strip true (Err e) = Err e
 
--- the last instance, and the difference of S behind it
-abbrev pub with_last : {S : Type 0} → Readings S → TextParams → Reached S → Result (List Instance × S) DecodeError
+-- Instances, and the refining contexts and the state of the coder behind them.
+abbrev pub Found : Type 0 → Type 0
+Found S = List Instance × Refining × S
+
+-- the last instance, and the IDS behind it
+abbrev pub with_last : {S : Type 0} → Readings S → TextParams → Reached S → Result (Found S) DecodeError
 with_last r p x = do
   last ← with_instance r p x
   ends ← end_of_strip p.strict (r.delta_s last.state)
-  Ok (last.instances, r.behind_delta_s last.state)
+  Ok (last.instances, last.refining, r.behind_delta_s last.state)
 
--- the instances of all strips, the first strip beginning below this T; none take no strip
-abbrev pub some_strips : {S : Type 0} → Readings S → TextParams → ℤ → S → Result (List Instance × S) DecodeError
-some_strips r p t s = do
-  c ← strip_begun r p.flags t (pos 0) s
-  x ← after_instances r p (p.count - 1) (reached [] c.0 c.1)
+-- the instances of all strips (step 3 and 4) behind this STRIPT; none take no strip
+abbrev pub some_strips : {S : Type 0} → Readings S → TextParams → ℤ → Refining → S → Result (Found S) DecodeError
+some_strips r p stript f s = do
+  c ← strip_begun r p.flags stript (pos 0) s
+  x ← after_instances r p (p.count - 1) (reached [] c.0 f c.1)
   with_last r p x
 
-abbrev pub strips : {S : Type 0} → Readings S → TextParams → ℤ → S → Result (List Instance × S) DecodeError
-strips r p t s = if p.count == 0 then Ok ([], s) else some_strips r p t s
+abbrev pub strips : {S : Type 0} → Readings S → TextParams → ℤ → Refining → S → Result (Found S) DecodeError
+strips r p stript f s = if p.count == 0 then Ok ([], f, s) else some_strips r p stript f s
 
--- All instances, and the state of the coder behind them. More than 32 for each byte of the segment are refused (our
--- own rule).
-unfoldable pub text_instances : {S : Type 0} → Readings S → TextParams → S → Result (List Instance × S) DecodeError
-text_instances r p s = do
+-- All instances; STRIPT begins at the negative of the first DT (step 1). More than 32 for each byte of the segment are
+-- refused (our own rule).
+unfoldable pub text_instances : {S : Type 0} → Readings S → TextParams → Refining → S → Result (Found S) DecodeError
+text_instances r p f s = do
   few ← refuse_if (nat_lt (32 * p.data_length) p.count) (Symbol TooManyInstances)
-  delta ← strip_delta r p.flags s
-  t ← coordinate (pos 0 -ℤ delta.0)
-  strips r p t delta.1
+  dt ← strip_delta r p.flags s
+  stript ← coordinate (pos 0 -ℤ dt.0)
+  strips r p stript f dt.1
 
 -- The instances drawn onto a region, the first one first.
 abbrev pub drawn : CombinationOperator → List Instance → Grid → Grid
 drawn operator [] region = region
 drawn operator (i ∷ others) region = drawn operator others (combined operator region i.grid i.x i.y)
 
--- A region from its default colour on, and the state of the coder behind it.
-unfoldable pub text_region : {S : Type 0} → Readings S → TextParams → Grid → S → Result (Grid × S) DecodeError
-text_region r p region s = text_instances r p s >>= λ found. Ok (drawn p.flags.combination_operator found.0 region, found.1)
+-- A region (6.4.5) from its default colour on, and the refining contexts and the state of the coder behind it.
+unfoldable pub text_region : {S : Type 0} → Readings S → TextParams → Grid → Refining → S → Result (Grid × Refining × S) DecodeError
+text_region r p region f s = do
+  found ← text_instances r p f s
+  Ok (drawn p.flags.combination_operator found.0 region, found.1, found.2)

@@ -1,5 +1,6 @@
--- The two ways in which the numbers of a text region are coded (T.88, 6.4.6 to 6.4.11).
-use Rattle.std.specs.Prelude.{ℕ, ◌%◌, ◌==◌, Bool, false, not, ℤ, pos, negsuc, nat_abs, List, Option, Some, None, Result, Ok, Err}
+-- The two ways in which the numbers of a text region are coded (T.88, 6.4.6 to 6.4.11): by the arithmetic coder with
+-- its integer procedures, and by prefix codes. Symbol dictionaries read by the same states.
+use Rattle.std.specs.Prelude.{ℕ, ◌%◌, ◌^◌, ◌==◌, Bool, not, ℤ, pos, negsuc, nat_abs, List, Option, Some, None, Result, Ok, Err, replicate}
 use Rattle.jbig2_base.specs.Answer.{◌>>=◌}
 use Rattle.jbig2_base.specs.Bits.{Place, bits_left, start_of, aligned}
 use Rattle.jbig2_base.specs.Fields.{bytes_at, end_of_bytes}
@@ -7,98 +8,79 @@ use Rattle.jbig2_base.specs.Grid.{Grid}
 use Rattle.jbig2_base.specs.declared.error.DecodeError.{DecodeError}
 use Rattle.jbig2_base.specs.declared.error.DecodeError.TheVariants.{Symbol}
 use Rattle.jbig2_base.specs.declared.error.SymbolError.TheVariants.{UnexpectedOob}
-use Rattle.jbig2_coder.specs.Coder.{Coder, Context, started}
-use Rattle.jbig2_coder.specs.Integers.{Integer, integer, Ids, id, number}
+use Rattle.jbig2_coder.specs.Coder.{Coder, fresh, started}
+use Rattle.jbig2_coder.specs.Integers.{Ids, id, number}
 use Rattle.jbig2_coder.specs.PrefixCode.{Member, decoded}
-use Rattle.jbig2_coder.specs.declared.arithmetic_decoder.registers.Registers.{Registers}
-use Rattle.jbig2_region.specs.Raster.{Region, no_pixels, so_far, decoded as decoded_region}
-use Rattle.jbig2_region.specs.Refinement.{Reference, refinement_coding}
-use Rattle.jbig2_region.specs.declared.template.AdaptiveTemplatePixel.{AdaptiveTemplatePixel}
-use Rattle.jbig2_region.specs.declared.template.RefinementTemplate.{RefinementTemplate}
-use Rattle.jbig2_text.specs.BitFields.{invalid_code, bits_at, behind_value, value_at}
+use Rattle.jbig2_coder.specs.Procedures.{Procedures, asked, fresh_procedures}
+use Rattle.jbig2_coder.specs.declared.integer_procedures.IntegerProcedure.{IntegerProcedure}
+use Rattle.jbig2_coder.specs.declared.integer_procedures.IntegerProcedure.TheVariants.{Iads, Iadt, Iafs, Iait, Iardh, Iardw, Iardx, Iardy, Iari}
+use Rattle.jbig2_region.specs.Refinement.{Reference}
+use Rattle.jbig2_base.specs.Fields.{bits_at}
+use Rattle.jbig2_text.specs.BitFields.{invalid_code, behind_value, value_at}
+use Rattle.jbig2_text.specs.Refining.{Refining, refined_with}
 use Rattle.jbig2_text.specs.Text.{Readings}
 
--- ---- refined symbols
--- How symbols are refined, and what the contexts have learned.
-pub record Refining : Type 0 where
-  pub template : RefinementTemplate
-  pub pixels : List AdaptiveTemplatePixel
-  pub contexts : List Context
-
--- a symbol refined by a coder over these bytes (6.4.11, Table 12)
-unfoldable pub refined_by : Refining → Reference → ℕ → ℕ → List ℕ → Registers → Region
-refined_by f from width height bytes registers =
-    decoded_region (refinement_coding f.template false f.pixels from) width height bytes (no_pixels registers f.contexts)
-
 -- ---- by the arithmetic coder
--- The coder, the contexts of each integer procedure and of the ids, and those of refinements.
+-- The coder, and what the contexts of the integer procedures and of the ids (IAID) have learned.
 pub record Coded : Type 0 where
   pub coder : Coder
-  pub iadt : List Context
-  pub iafs : List Context
-  pub iads : List Context
-  pub iait : List Context
-  pub iaid : Ids
-  pub iari : List Context
-  pub iardw : List Context
-  pub iardh : List Context
-  pub iardx : List Context
-  pub iardy : List Context
-  pub refining : Refining
+  pub procedures : Procedures
+  pub ids : Ids
 
-abbrev pub integer_by : Coder → List Context → Integer
-integer_by c contexts = integer c.bytes c.registers contexts
+abbrev pub coder_at_start : List ℕ → Coder
+coder_at_start bytes = record { bytes = bytes; registers = started bytes }
 
-abbrev pub coder_behind : Coder → Registers → Coder
-coder_behind c registers = record c { registers = registers }
+-- at the start of the bytes, with ids of so many bits
+unfoldable pub coded_start : List ℕ → ℕ → Coded
+coded_start bytes bits = record {
+  coder = coder_at_start bytes;
+  procedures = fresh_procedures;
+  ids = record { code_len = bits; contexts = replicate (2 ^ bits) fresh };
+}
+
+-- an integer or out of band (A.2), and the state behind it
+abbrev pub next_integer : IntegerProcedure → Coded → Option ℤ × Coded
+next_integer procedure s =
+    let a = asked procedure s.coder s.procedures in
+    (a.value, record s { coder = a.coder; procedures = a.procedures })
+
+-- an id (A.3), and the state behind it
+abbrev pub next_id : Coded → ℤ × Coded
+next_id s =
+    let r = id s.coder.bytes s.coder.registers s.ids in
+    let behind : Coder = record s.coder { registers = r.registers } in
+    (pos (number r.bits), record s { coder = behind; ids = record s.ids { contexts = r.contexts } })
 
 -- a number that may not be out of band
 abbrev pub in_band : Option ℤ → Result ℤ DecodeError
 in_band (Some n) = Ok n
 in_band None = Err (Symbol UnexpectedOob)
 
--- the same, and the state behind it
-abbrev pub band_at : Option ℤ → Coded → Result (ℤ × Coded) DecodeError
-band_at number s = in_band number >>= λ n. Ok (n, s)
+abbrev pub coded_number : IntegerProcedure → Coded → Result (ℤ × Coded) DecodeError
+coded_number procedure s = let i = next_integer procedure s in in_band i.0 >>= λ n. Ok (n, i.1)
 
 -- the low eight bits of a flag count (our own rule)
 abbrev pub is_flag : ℤ → Bool
 is_flag n = not (nat_abs n % 256 == 0)
 
-abbrev pub coded_delta_s : Coded → Coded
-coded_delta_s s =
-    let i = integer_by s.coder s.iads in
-    record s { coder = coder_behind s.coder i.reading.registers; iads = i.reading.contexts }
-
-abbrev pub coded_id : Coded → Coded
-coded_id s =
-    let r = id s.coder.bytes s.coder.registers s.iaid in
-    record s { coder = coder_behind s.coder r.registers; iaid = record s.iaid { contexts = r.contexts } }
-
-abbrev pub coded_flag : Coded → Result (ℤ × Coded) DecodeError
-coded_flag s =
-    let i = integer_by s.coder s.iari in
-    band_at i.value (record s { coder = coder_behind s.coder i.reading.registers; iari = i.reading.contexts })
-
-abbrev pub coded_refined : Reference → ℕ → ℕ → Coded → Grid × Coded
-coded_refined from width height s =
-    let region = refined_by s.refining from width height s.coder.bytes s.coder.registers in
-    (so_far width height region.pixels, record s { coder = coder_behind s.coder region.registers; refining = record s.refining { contexts = region.contexts } })
+abbrev pub coded_refined : Reference → ℕ → ℕ → Refining → Coded → Grid × Refining × Coded
+coded_refined from width height f s =
+    let r = refined_with f from width height s.coder in (r.grid, r.refining, record s { coder = r.coder })
 
 abbrev pub by_coder : Readings Coded
 by_coder = record {
-  delta_t = λ s. let i = integer_by s.coder s.iadt in band_at i.value (record s { coder = coder_behind s.coder i.reading.registers; iadt = i.reading.contexts });
-  first_s = λ s. let i = integer_by s.coder s.iafs in band_at i.value (record s { coder = coder_behind s.coder i.reading.registers; iafs = i.reading.contexts });
-  delta_s = λ s. Ok (integer_by s.coder s.iads).value;
-  behind_delta_s = coded_delta_s;
-  t_bits = λ _ s. let i = integer_by s.coder s.iait in band_at i.value (record s { coder = coder_behind s.coder i.reading.registers; iait = i.reading.contexts });
-  id = λ s. Ok (pos (number (id s.coder.bytes s.coder.registers s.iaid).bits), coded_id s);
-  is_refined = λ s. coded_flag s >>= λ flag. Ok (is_flag flag.0, flag.1);
-  width_delta = λ s. let i = integer_by s.coder s.iardw in band_at i.value (record s { coder = coder_behind s.coder i.reading.registers; iardw = i.reading.contexts });
-  height_delta = λ s. let i = integer_by s.coder s.iardh in band_at i.value (record s { coder = coder_behind s.coder i.reading.registers; iardh = i.reading.contexts });
-  x_delta = λ s. let i = integer_by s.coder s.iardx in band_at i.value (record s { coder = coder_behind s.coder i.reading.registers; iardx = i.reading.contexts });
-  y_delta = λ s. let i = integer_by s.coder s.iardy in band_at i.value (record s { coder = coder_behind s.coder i.reading.registers; iardy = i.reading.contexts });
-  refined = λ from width height s. Ok (coded_refined from width height s);
+  delta_t = coded_number Iadt;
+  first_s = coded_number Iafs;
+  delta_s = λ s. Ok (next_integer Iads s).0;
+  behind_delta_s = λ s. (next_integer Iads s).1;
+  t_bits = λ _. coded_number Iait;
+  id = λ s. Ok (next_id s);
+  is_refined = λ s. coded_number Iari s >>= λ flag. Ok (is_flag flag.0, flag.1);
+  width_delta = coded_number Iardw;
+  height_delta = coded_number Iardh;
+  x_delta = coded_number Iardx;
+  y_delta = coded_number Iardy;
+  refined = λ from width height f s. Ok (coded_refined from width height f s);
 }
 
 -- ---- by prefix codes
@@ -113,12 +95,11 @@ pub record TextTables : Type 0 where
   pub refinement_y : List Member
   pub refinement_size : List Member
 
--- The place in the bits, the tables and the codes of the ids, and the contexts of refinements.
+-- The place in the bits, the tables, and the codes of the ids (SBSYMCODES).
 pub record Prefixed : Type 0 where
   pub place : Place
   pub tables : TextTables
   pub ids : List Member
-  pub refining : Refining
 
 abbrev pub prefixed_value : List Member → Prefixed → Result (ℤ × Prefixed) DecodeError
 prefixed_value table s = value_at table s.place >>= λ n. Ok (n.0, record s { place = n.1 })
@@ -131,17 +112,16 @@ abbrev pub sized_bytes : ℤ → Place → Result (List ℕ × Place) DecodeErro
 sized_bytes (pos size) p = bytes_at size (aligned p).bytes >>= λ coded. Ok (coded.0, start_of coded.1)
 sized_bytes (negsuc size) p = Err end_of_bytes
 
-abbrev pub refined_there : Reference → ℕ → ℕ → Prefixed → List ℕ → Place → Grid × Prefixed
-refined_there from width height s bytes behind =
-    let region = refined_by s.refining from width height bytes (started bytes) in
-    (so_far width height region.pixels, record s { place = behind; refining = record s.refining { contexts = region.contexts } })
+abbrev pub refined_there : Reference → ℕ → ℕ → Refining → List ℕ → Prefixed → Grid × Refining × Prefixed
+refined_there from width height f bytes behind =
+    let r = refined_with f from width height (coder_at_start bytes) in (r.grid, r.refining, behind)
 
--- A refined symbol has bytes of its own, and a coder that begins there; the contexts go on.
-abbrev pub prefixed_refined : Reference → ℕ → ℕ → Prefixed → Result (Grid × Prefixed) DecodeError
-prefixed_refined from width height s = do
+-- A refined symbol has bytes of its own, and a coder that begins there (6.4.11, steps 5 to 7).
+abbrev pub prefixed_refined : Reference → ℕ → ℕ → Refining → Prefixed → Result (Grid × Refining × Prefixed) DecodeError
+prefixed_refined from width height f s = do
   size ← value_at s.tables.refinement_size s.place
   coded ← sized_bytes size.0 size.1
-  Ok (refined_there from width height s coded.0 coded.1)
+  Ok (refined_there from width height f coded.0 (record s { place = coded.1 }))
 
 abbrev pub by_prefix_codes : Readings Prefixed
 by_prefix_codes = record {

@@ -1,5 +1,5 @@
 -- A text region segment (T.88, 7.4.3): its tables, and its region decoded from fresh states.
-use Rattle.std.specs.Prelude.{ℕ, ◌^◌, nat_le, nat_lt, ◌==◌, ◌||◌, if◌then◌else◌, List, [], ◌∷◌, length, replicate, Option, Some, Result, Ok, Err}
+use Rattle.std.specs.Prelude.{ℕ, ◌^◌, nat_le, nat_lt, ◌==◌, ◌||◌, if◌then◌else◌, List, [], ◌∷◌, length, Option, Some, Result, Ok, Err}
 use Rattle.jbig2_base.specs.Answer.{◌>>=◌, refuse_if}
 use Rattle.jbig2_base.specs.Bits.{start_of}
 use Rattle.jbig2_base.specs.Grid.{Grid, blank}
@@ -7,15 +7,13 @@ use Rattle.jbig2_base.specs.declared.error.DecodeError.{DecodeError}
 use Rattle.jbig2_base.specs.declared.error.DecodeError.TheVariants.{Huffman, Overflow}
 use Rattle.jbig2_base.specs.declared.error.HuffmanError.TheVariants.{InvalidSelection, MissingTables}
 use Rattle.jbig2_base.specs.declared.error.OverflowError.TheVariants.{BitmapDimension}
-use Rattle.jbig2_coder.specs.Coder.{Context, fresh, started}
 use Rattle.jbig2_coder.specs.PrefixCode.{Member, prefix_code}
 use Rattle.jbig2_coder.specs.Tables.{lines_a, lines_f, lines_g, lines_h, lines_i, lines_j, lines_k, lines_l, lines_m, lines_n, lines_o}
 use Rattle.jbig2_region.specs.RegionInfo.{PlacedRegion, placed}
-use Rattle.jbig2_region.specs.Raster.{fresh_contexts}
-use Rattle.jbig2_region.specs.Refinement.{refinement_bits}
 use Rattle.jbig2_base.specs.Search.{code_length}
+use Rattle.jbig2_text.specs.Refining.{Refining, fresh_refining}
 use Rattle.jbig2_text.specs.Text.{TextParams, text_region}
-use Rattle.jbig2_text.specs.TextCoding.{Coded, Refining, TextTables, by_coder, by_prefix_codes}
+use Rattle.jbig2_text.specs.TextCoding.{Prefixed, TextTables, by_coder, by_prefix_codes, coded_start}
 use Rattle.jbig2_text.specs.TextHeader.{TextHeader}
 use Rattle.jbig2_text.specs.declared.text.header.TextRegionHuffmanFlags.{TextRegionHuffmanFlags}
 
@@ -58,6 +56,19 @@ table_of_refinement n customs = one_of_two (prefix_code lines_n) (prefix_code li
 abbrev pub table_of_size : ℕ → List (List Member) → Result (List Member × List (List Member)) DecodeError
 table_of_size n customs = if n == 0 then standard (prefix_code lines_a) customs else custom customs
 
+-- the tables of an aggregate symbol's instances (6.5.8.2, Table 17)
+abbrev pub aggregate_tables : TextTables
+aggregate_tables = record {
+  first_s = prefix_code lines_f;
+  delta_s = prefix_code lines_h;
+  delta_t = prefix_code lines_k;
+  refinement_width = prefix_code lines_o;
+  refinement_height = prefix_code lines_o;
+  refinement_x = prefix_code lines_o;
+  refinement_y = prefix_code lines_o;
+  refinement_size = prefix_code lines_a;
+}
+
 -- all tables, in the order of the flags' bits
 unfoldable pub text_tables : TextRegionHuffmanFlags → List (List Member) → Result TextTables DecodeError
 text_tables flags customs = do
@@ -84,40 +95,30 @@ text_tables flags customs = do
 
 -- ---- the region
 abbrev pub text_params : TextHeader → List Grid → TextParams
-text_params h symbols = record { flags = h.flags; symbols = symbols; count = h.instances; data_length = h.data_length; strict = h.strict }
-
-abbrev pub refining_of : TextHeader → Refining
-refining_of h = record { template = h.flags.refinement_template; pixels = h.refinement_pixels; contexts = fresh_contexts (refinement_bits h.flags.refinement_template) }
-
--- an integer procedure of which nothing is known (A.2)
-abbrev pub fresh_integer : List Context
-fresh_integer = replicate 512 fresh
-
--- a coder of ids of so many bits, and refinements
-abbrev pub coded_start : List ℕ → ℕ → Refining → Coded
-coded_start bytes bits refining = record {
-  coder = record { bytes = bytes; registers = started bytes };
-  iadt = fresh_integer;
-  iafs = fresh_integer;
-  iads = fresh_integer;
-  iait = fresh_integer;
-  iaid = record { code_len = bits; contexts = replicate (2 ^ bits) fresh };
-  iari = fresh_integer;
-  iardw = fresh_integer;
-  iardh = fresh_integer;
-  iardx = fresh_integer;
-  iardy = fresh_integer;
-  refining = refining;
+text_params h symbols = record {
+  flags = h.flags;
+  symbols = symbols;
+  count = h.instances;
+  data_length = h.data_length;
+  strict = h.strict;
 }
 
+abbrev pub refining_of : TextHeader → Refining
+refining_of h = fresh_refining h.flags.refinement_template h.refinement_pixels
+
 abbrev pub coded_region : TextHeader → List Grid → Grid → Result Grid DecodeError
-coded_region h symbols region =
-    text_region by_coder (text_params h symbols) region (coded_start h.bytes (code_length (length symbols)) (refining_of h)) >>= λ found. Ok found.0
+coded_region h symbols region = do
+  found ← text_region by_coder (text_params h symbols) region (refining_of h) (coded_start h.bytes (code_length (length symbols)))
+  Ok found.0
+
+-- the tables, the codes of the ids and the coded bytes
+abbrev pub prefixed_start : List ℕ → TextTables → List Member → Prefixed
+prefixed_start bytes tables ids = record { place = start_of bytes; tables = tables; ids = ids }
 
 abbrev pub prefixed_region : TextHeader → TextRegionHuffmanFlags → List Member → List Grid → List (List Member) → Grid → Result Grid DecodeError
 prefixed_region h numbers ids symbols customs region = do
   tables ← text_tables numbers customs
-  found ← text_region by_prefix_codes (text_params h symbols) region (record { place = start_of h.bytes; tables = tables; ids = ids; refining = refining_of h })
+  found ← text_region by_prefix_codes (text_params h symbols) region (refining_of h) (prefixed_start h.bytes tables ids)
   Ok found.0
 
 -- by prefix codes where the header has tables and codes, else by the arithmetic coder
@@ -127,7 +128,9 @@ region_by h _ _ symbols customs region = coded_region h symbols region
 
 -- The region of these symbols, with these custom tables.
 unfoldable pub text_answer : TextHeader → List Grid → List (List Member) → Result Grid DecodeError
-text_answer h symbols customs = region_by h h.huffman_flags h.symbol_codes symbols customs (blank h.region_info.width h.region_info.height h.flags.default_pixel)
+text_answer h symbols customs =
+    let region = blank h.region_info.width h.region_info.height h.flags.default_pixel in
+    region_by h h.huffman_flags h.symbol_codes symbols customs region
 
 -- A region and its place; a side above 65535 is refused (our own rule).
 unfoldable pub text_decoded : TextHeader → List Grid → List (List Member) → Result PlacedRegion DecodeError

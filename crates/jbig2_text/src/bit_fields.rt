@@ -1,9 +1,8 @@
 //! Numbers that are read from bits.
-ghost use Rattle.std.specs.Prelude.{◌≡◌, ◌≤◌, ◌<◌, ◌^◌, IfOk};
 ghost use Rattle.jbig2_base.specs.Answer.{Answers};
-ghost use Rattle.jbig2_text.specs.BitFields.{bits_at, value_at};
+ghost use Rattle.jbig2_text.specs.BitFields.{value_at};
 
-use jbig2_base::error::{DecodeError, Result};
+use jbig2_base::error::Result;
 use jbig2_base::reader::Reader;
 use jbig2_coder::huffman_table::HuffmanTable;
 use std::alloc::Allocator;

@@ -1,5 +1,5 @@
 //! Text regions of JBIG2 (ITU-T T.88, 6.4 and 7.4.3).
 #![tactic(auto)]
 
-mod bit_fields;
+pub mod bit_fields;
 pub mod text;

@@ -3,9 +3,11 @@ ghost use Rattle.std.specs.Prelude.{◌≡◌, ◌≤◌, ◌^◌, length, Ok, O
 ghost use Rattle.jbig2_base.specs.Answer.{Gives};
 ghost use Rattle.jbig2_base.specs.Grid.{blank};
 ghost use Rattle.jbig2_region.specs.RegionInfo.{region_view};
+ghost use Rattle.jbig2_base.specs.Search.{code_length};
+ghost use Rattle.jbig2_text.specs.TextCoding.{coded_start};
 ghost use Rattle.jbig2_text.specs.TextHeader.{header_view};
 ghost use Rattle.jbig2_text.specs.TextRegion.{coded_region, prefixed_region, refining_of, text_params, text_answer, text_decoded};
-ghost use Rattle.jbig2_text.specs.inner.TextViews.{customs_view, params_view, symbols_view};
+ghost use Rattle.jbig2_text.specs.inner.TextViews.{coded_view, customs_view, params_view, symbols_view};
 
 pub(crate) mod coded;
 pub(crate) mod cursor;
@@ -15,18 +17,23 @@ mod numbers;
 pub(crate) mod placement;
 pub(crate) mod prefixed;
 pub(crate) mod readings;
+pub(crate) mod refined;
 pub(crate) mod refining;
 mod strips;
 mod symbol_codes;
+pub(crate) mod symbol_list;
 pub(crate) mod symbols;
 pub(crate) mod tables;
 
-use crate::text::coded::CodedReadings;
+pub use crate::text::coded::CodedReadings;
 use crate::text::header::{TextRegionHeader, TextRegionHuffmanFlags};
-use crate::text::instances::decode_with;
-use crate::text::prefixed::PrefixedReadings;
-use crate::text::refining::Refining;
-use crate::text::symbols::TextParams;
+pub use crate::text::instances::draw_instances_by;
+pub use crate::text::prefixed::PrefixedReadings;
+pub use crate::text::readings::ReadInstances;
+pub use crate::text::refining::Refining;
+pub use crate::text::symbol_list::SymbolList;
+pub use crate::text::symbols::TextParams;
+pub use crate::text::tables::TextRegionHuffmanTables;
 use crate::text::tables::select_tables;
 pub use header::parse;
 use jbig2_base::bitmap::Bitmap;
@@ -48,7 +55,10 @@ fn params_of<'a, H: Allocator, B: Allocator>(
 {
     TextParams {
         flags: header.flags,
-        symbols,
+        symbols: SymbolList {
+            input_symbols: symbols,
+            new_symbols: &[],
+        },
         num_instances: header.num_instances,
         data_len: header.segment_data_len,
         strict: header.strict,
@@ -69,6 +79,19 @@ fn refining_of<H: Allocator, M: Allocator>(
     )
 }
 
+/// The coder at the start of a region's bytes, and contexts that know nothing yet.
+fn start_coded<'a, H: Allocator, B: Allocator, M: Allocator + Clone>(
+    alloc: M,
+    header: &TextRegionHeader<'a, H>,
+    symbols: &[&Bitmap<B>],
+) -> Result<CodedReadings<'a, M>>
+    requires { length symbols.now ≤ 2 ^ 21 }
+    ensures { let bits = code_length (length (symbols_view symbols.now)) in
+        Gives (λ r. coded_view r) result (Ok (coded_start (header_view header.now).bytes bits)) }
+{
+    CodedReadings::new(alloc, header.bytes, code_length(symbols.len()))
+}
+
 /// Decodes a region that the arithmetic coder wrote.
 fn decode_coded<H: Allocator, B: Allocator, M: Allocator + Clone, D: Allocator, L: Ledger>(
     alloc: M,
@@ -82,11 +105,10 @@ fn decode_coded<H: Allocator, B: Allocator, M: Allocator + Clone, D: Allocator, 
     ensures value { Gives (λ _. bitmap.new) result (coded_region (header_view header.now) (symbols_view symbols.now) bitmap.old) }
     ensures same { OnErr result (bitmap.new ≡ bitmap.old) }
 {
-    let refining = refining_of(alloc.clone()?, header)?;
-    let bits = code_length(symbols.len());
-    let mut readings = CodedReadings::new(alloc.clone()?, header.bytes, bits, refining)?;
+    let mut refining = refining_of(alloc.clone()?, header)?;
+    let mut readings = start_coded(alloc.clone()?, header, symbols)?;
     let params = params_of(header, symbols);
-    decode_with(alloc, &mut readings, &params, bitmap, steps)
+    draw_instances_by(alloc, &mut readings, &mut refining, &params, bitmap, steps)
 }
 
 /// Decodes a region that is written in prefix codes.
@@ -113,15 +135,14 @@ fn decode_prefixed<
     ensures same { OnErr result (bitmap.new ≡ bitmap.old) }
 {
     let tables = select_tables(numbers, customs, standard)?;
-    let refining = refining_of(alloc.clone()?, header)?;
+    let mut refining = refining_of(alloc.clone()?, header)?;
     let mut readings = PrefixedReadings {
         reader: Reader::new(header.bytes),
         tables,
         ids,
-        refining,
     };
     let params = params_of(header, symbols);
-    decode_with(alloc, &mut readings, &params, bitmap, steps)
+    draw_instances_by(alloc, &mut readings, &mut refining, &params, bitmap, steps)
 }
 
 /// Decodes a text region (T.88, 6.4) of these symbols, at most 2^21, into a bitmap of its size

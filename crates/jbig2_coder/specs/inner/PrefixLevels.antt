@@ -2,7 +2,7 @@
 use Rattle.std.specs.Prelude.{◌≡◌, ℕ, zero, suc, ◌+◌, ◌-◌, ◌*◌, ◌/◌, ◌≤◌, nat_lt, List, [], ◌∷◌, ◌++◌, length, take, drop, slice_get, if◌then◌else◌}
 use Rattle.jbig2_coder.specs.declared.huffman_table.line.TableLine.{TableLine}
 use Rattle.jbig2_coder.specs.declared.huffman_table.levels.Level.{Level}
-use Rattle.jbig2_coder.specs.PrefixCode.{Member, Reading, numbered, level, found_or, refused, ended}
+use Rattle.jbig2_coder.specs.PrefixCode.{Member, CodeReading, numbered, level, found_or, refused, ended}
 
 -- the lines of each level
 abbrev pub groups_of : List TableLine → List Level → List (List TableLine)
@@ -25,12 +25,16 @@ codes_at k b [] = []
 codes_at k b (g ∷ gs) = numbered (k + 1) (2 * b) g ++ codes_at (k + 1) (2 * b + length g) gs
 
 -- The walk down the groups: d is which inner node, k bits being taken.
-abbrev pub walk : List (List TableLine) → ℕ → ℕ → List ℕ → Reading TableLine
+abbrev pub walk : List (List TableLine) → ℕ → ℕ → List ℕ → CodeReading TableLine
 walk gs k d [] = ended (k + 1)
 walk [] k d (b ∷ bits) = refused (k + 1)
 walk (g ∷ gs) k d (b ∷ bits) =
     found_or (slice_get g (2 * d + b)) (k + 1)
     (if nat_lt (2 * d + b - length g) (nodes gs) then walk gs (k + 1) (2 * d + b - length g) bits else refused (k + 1))
+
+-- the walk from the root down the levels
+abbrev pub walk_of : List TableLine → List Level → List ℕ → CodeReading TableLine
+walk_of lines levels bits = walk (groups_of lines levels) 0 0 bits
 
 -- levels that lie within the lines and have the right numbers of nodes
 abbrev pub AreLevels : List TableLine → List Level → Type 0

@@ -1,8 +1,8 @@
 //! The levels of a table: the lines of each prefix length, and the inner nodes of the code's tree.
-ghost use Rattle.std.specs.Prelude.{◌≡◌, ◌++◌, drop, OnOk, IfErr, IfOk, ◌≤◌};
-ghost use Rattle.jbig2_base.specs.Bits.{bits_left, bits_on};
-ghost use Rattle.jbig2_coder.specs.PrefixCode.{longest, level, AreShort};
-ghost use Rattle.jbig2_coder.specs.inner.PrefixLevels.{groups_of, walk, AreLevels};
+ghost use Rattle.std.specs.Prelude.{◌≡◌, ◌++◌, OnOk, IfErr, IfOk, ◌≤◌};
+ghost use Rattle.jbig2_base.specs.Bits.{bits_left};
+ghost use Rattle.jbig2_coder.specs.PrefixCode.{longest, level, AreShort, Reads};
+ghost use Rattle.jbig2_coder.specs.inner.PrefixLevels.{walk_of, AreLevels};
 
 use super::line::TableLine;
 use jbig2_base::error::{DecodeError, HuffmanError, ParseError, Result};
@@ -58,9 +58,7 @@ pub(super) fn read_line(
 ) -> Result<TableLine>
     requires levels { AreLevels lines.now levels.now }
     requires short { AreShort lines.now }
-    ensures line { result ≡ (walk (groups_of lines.now levels.now) 0 0 (bits_left reader.old)).answer }
-    ensures place { reader.new ≡ bits_on (walk (groups_of lines.now levels.now) 0 0 (bits_left reader.old)).taken reader.old }
-    ensures rest { bits_left reader.new ≡ drop (walk (groups_of lines.now levels.now) 0 0 (bits_left reader.old)).taken (bits_left reader.old) }
+    ensures reads { Reads reader.old reader.new result (walk_of lines.now levels.now (bits_left reader.old)) }
     ensures short { IfOk result (λ line. line.range_length ≤ 32) }
 {
     let mut node = 0;

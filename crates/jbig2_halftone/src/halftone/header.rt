@@ -7,7 +7,7 @@ ghost use Rattle.jbig2_halftone.specs.HalftoneHeader.{header_view, halftone_flag
 
 use jbig2_base::bitmap::operator::CombinationOperator;
 use jbig2_base::error::{DecodeError, OverflowError, Result};
-use jbig2_base::field::{byte_field, u16_field, u32_field};
+use jbig2_base::field::{byte_field, i32_field, u16_field, u32_field};
 use jbig2_base::reader::Reader;
 use jbig2_region::region_info::{RegionSegmentInfo, parse_region_segment_info};
 use jbig2_region::template::Template;
@@ -62,16 +62,6 @@ pub struct HalftoneRegionHeader<'a> {
     pub bytes: &'a [u8],
     /// Whether faulty MMR data and values without a pattern are refused.
     pub strict: bool,
-}
-
-/// The next four bytes as a signed number.
-fn i32_field(reader: &mut Reader<'_>) -> Result<i32>
-    requires { IsAligned reader.old }
-    ensures value { Answers (λ x. (x, reader.new.bytes)) result (signed_at reader.old.bytes) }
-    ensures aligned { IsAligned reader.new }
-{
-    let number = u32_field(reader)?;
-    Ok(number.cast_signed())
 }
 
 #[tactic(auto, unfolding(crate::specs::HalftoneHeader::halftone_flags_at))]

@@ -6,7 +6,8 @@ ghost use Rattle.jbig2_coder.specs.Table.{row_of};
 ghost use Rattle.jbig2_region.specs.inner.Holds.{Holds};
 ghost use Rattle.jbig2_region.specs.inner.Neighbours.{Decodes, IsLeft, IsNear, Shows, is_field, neighbour_count, neighbours_stay, nominal_pixels, stretch_stays};
 ghost use Rattle.jbig2_region.specs.Raster.{Region};
-ghost use Rattle.jbig2_region.specs.RunBytes.{CountsRuns, all_of, is_run_of, same_colour};
+ghost use Rattle.jbig2_base.specs.Grid.{same_colour};
+ghost use Rattle.jbig2_region.specs.RunBytes.{CountsRuns, all_of, is_run_of};
 
 use crate::generic_kernel::windows::{Windows, windows_at};
 use crate::template::neighbours::{Neighbours, Stretch};

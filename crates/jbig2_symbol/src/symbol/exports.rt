@@ -106,13 +106,7 @@ fn push_symbols<A: Allocator + Clone, S: Allocator, L: Ledger>(
     ensures { Gives (λ _. exported.new.items) result (Ok (exported.old.items ++ take count (drop first (all_symbols symbols.now new.now)))) }
 {
     for k in 0..count {
-        exported.push(duplicate_symbol(
-            alloc.clone()?,
-            symbols,
-            new,
-            first + k,
-            steps,
-        )?)?;
+        exported.push(duplicate_symbol(alloc.clone()?, symbols, new, first + k, steps)?)?;
     }
     Ok(())
 }

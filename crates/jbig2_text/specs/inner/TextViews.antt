@@ -1,33 +1,24 @@
 -- States of the code's readings, seen as states of the definitions.
-use Rattle.std.specs.Prelude.{List, map}
+use Rattle.std.specs.Prelude.{List, ◌++◌, map}
 use Rattle.std.specs.Borrow.{Bor}
 use Rattle.jbig2_base.specs.Grid.{Grid}
 use Rattle.jbig2_coder.specs.PrefixCode.{Member}
-use Rattle.jbig2_text.specs.Text.{Instance, TextParams as Params}
+use Rattle.jbig2_text.specs.Refining.{Refining}
+use Rattle.jbig2_text.specs.Text.{Instance, Outline, Reached, TextParams as Params, reached}
 use Rattle.jbig2_text.specs.TextCoding.{Coded, Prefixed, TextTables}
 use Rattle.jbig2_text.specs.declared.text.coded.CodedReadings.{CodedReadings}
+use Rattle.jbig2_text.specs.declared.text.instances.PlacedInstances.{PlacedInstances}
 use Rattle.jbig2_text.specs.declared.text.placement.Instance.{Instance as PlacedSymbol}
 use Rattle.jbig2_text.specs.declared.text.prefixed.PrefixedReadings.{PrefixedReadings}
+use Rattle.jbig2_text.specs.declared.text.refined.Outline.{Outline as RefinedOutline}
+use Rattle.jbig2_text.specs.declared.text.symbol_list.SymbolList.{SymbolList}
 use Rattle.jbig2_text.specs.declared.text.symbols.InstanceSymbol.{InstanceSymbol}
 use Rattle.jbig2_text.specs.declared.text.symbols.InstanceSymbol.TheVariants.{Shared, Refined}
 use Rattle.jbig2_text.specs.declared.text.symbols.TextParams.{TextParams}
 use Rattle.jbig2_text.specs.declared.text.tables.TextRegionHuffmanTables.{TextRegionHuffmanTables}
 
 abbrev pub coded_view : {A : Type 0} → CodedReadings A → Coded
-coded_view r = record {
-  coder = r.decoder;
-  iadt = r.iadt;
-  iafs = r.iafs;
-  iads = r.iads;
-  iait = r.iait;
-  iaid = r.iaid;
-  iari = r.iari;
-  iardw = r.iardw;
-  iardh = r.iardh;
-  iardx = r.iardx;
-  iardy = r.iardy;
-  refining = r.refining;
-}
+coded_view r = record { coder = r.decoder; procedures = r.procedures; ids = r.ids }
 
 abbrev pub tables_view : {T : Type 0} → TextRegionHuffmanTables T → TextTables
 tables_view t = record {
@@ -41,8 +32,8 @@ tables_view t = record {
   refinement_size = t.refinement_size.now;
 }
 
-abbrev pub prefixed_view : {T I A : Type 0} → PrefixedReadings T I A → Prefixed
-prefixed_view r = record { place = r.reader; tables = tables_view r.tables; ids = r.ids.now; refining = r.refining }
+abbrev pub prefixed_view : {T I : Type 0} → PrefixedReadings T I → Prefixed
+prefixed_view r = record { place = r.reader; tables = tables_view r.tables; ids = r.ids.now }
 
 -- what each reference of a list refers to
 abbrev pub customs_view : List (Bor (List Member)) → List (List Member)
@@ -51,8 +42,21 @@ customs_view customs = map (λ table. table.now) customs
 abbrev pub symbols_view : List (Bor Grid) → List Grid
 symbols_view symbols = map (λ symbol. symbol.now) symbols
 
+-- the symbols of other dictionaries, then those of this one
+abbrev pub list_view : {B : Type 0} → SymbolList B → List Grid
+list_view symbols = symbols_view symbols.input_symbols.now ++ symbols.new_symbols.now
+
 abbrev pub params_view : {B : Type 0} → TextParams B → Params
-params_view p = record { flags = p.flags; symbols = symbols_view p.symbols.now; count = p.num_instances; data_length = p.data_len; strict = p.strict }
+params_view p = record {
+  flags = p.flags;
+  symbols = list_view p.symbols;
+  count = p.num_instances;
+  data_length = p.data_len;
+  strict = p.strict;
+}
+
+abbrev pub outline_view : RefinedOutline → Outline
+outline_view o = record { width = o.width; height = o.height; dx = o.dx; dy = o.dy }
 
 abbrev pub symbol_view : {B M : Type 0} → InstanceSymbol B M → Grid
 symbol_view (Shared bitmap) = bitmap.now
@@ -63,3 +67,7 @@ instance_view i = record { grid = symbol_view i.symbol; x = i.x; y = i.y }
 
 abbrev pub instances_view : {B M : Type 0} → List (PlacedSymbol B M) → List Instance
 instances_view instances = map (λ i. instance_view i) instances
+
+-- the instances so far, and the lent states
+abbrev pub reached_view : {B M S : Type 0} → PlacedInstances B M → Refining → S → Reached S
+reached_view placed f s = reached (instances_view placed.instances.items) placed.cursor f s

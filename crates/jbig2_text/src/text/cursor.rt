@@ -1,9 +1,10 @@
 //! Where the instances of a text region stand (T.88, 6.4.5).
 
-/// Where the next instance stands: the T of its strip, the first S of the strip, and its own S.
+/// Where the next instance stands: the T of its strip (STRIPT), the first S of the strip (FIRSTS),
+/// and its own S (CURS).
 #[derive(Clone, Copy, Debug)]
 pub struct Cursor {
     pub strip_t: i32,
     pub first_s: i32,
-    pub s: i32,
+    pub cur_s: i32,
 }

@@ -1,14 +1,15 @@
 //! The instances of a text region (T.88, 6.4.5).
 ghost use Rattle.std.specs.Prelude.{◌≡◌, ◌*◌, ◌≤◌, [], nat_lt, option_map, OnErr};
 ghost use Rattle.jbig2_base.specs.Answer.{Gives};
-ghost use Rattle.jbig2_text.specs.Text.{with_symbol, with_instance, with_next, with_last, after_instances, strips, text_instances, drawn, reached, text_region};
-ghost use Rattle.jbig2_text.specs.inner.TextViews.{instances_view, params_view, symbol_view};
+ghost use Rattle.jbig2_text.specs.Text.{with_symbol, with_instance, with_next, with_last, after_instances, some_strips, strips, text_instances, drawn, text_region};
+ghost use Rattle.jbig2_text.specs.inner.TextViews.{instances_view, params_view, reached_view, symbol_view};
 
 use crate::text::cursor::Cursor;
 use crate::text::header::TextRegionFlags;
 use crate::text::numbers;
 use crate::text::placement::{Instance, place};
 use crate::text::readings::ReadInstances;
+use crate::text::refining::Refining;
 use crate::text::strips::{begin_strip, check_end, move_on, read_strip_delta, read_t_in_strip};
 use crate::text::symbols::{InstanceSymbol, TextParams, read_symbol};
 use jbig2_base::bitmap::steps::Steps;
@@ -20,78 +21,103 @@ use std::sync::ledger::Ledger;
 /// How many instances a byte of a segment may stand for.
 const INSTANCES_PER_BYTE: usize = 32;
 
-/// Adds the instance of a symbol at the cursor's S and at T; without a symbol nothing moves.
-fn push_symbol<'a, B: Allocator, M: Allocator, V: Allocator>(
-    flags: &TextRegionFlags,
-    instances: &mut Vec<Instance<'a, B, M>, V>,
-    cursor: &mut Cursor,
-    t: i32,
-    symbol: Option<InstanceSymbol<'a, B, M>>,
-) -> Result<()>
-    ensures { Gives (λ _. (instances_view instances.new.items, cursor.new)) result (with_symbol flags.now (instances_view instances.old.items) cursor.old t (option_map (λ x. symbol_view x) symbol.entry)) }
-{
-    let Some(symbol) = symbol else {
-        return Ok(());
-    };
-    let (instance, next) = place(flags, symbol, cursor.s, t)?;
-    instances.push(instance)?;
-    cursor.s = next;
-    Ok(())
+/// The instances so far, and where the next one stands.
+#[derive(Drop)]
+pub struct PlacedInstances<'a, B: Allocator, M: Allocator> {
+    instances: Vec<Instance<'a, B, M>, M>,
+    cursor: Cursor,
+}
+
+impl<'a, B: Allocator, M: Allocator> PlacedInstances<'a, B, M> {
+    /// No instances, and where the first one stands.
+    fn new(alloc: M, cursor: Cursor) -> PlacedInstances<'a, B, M>
+        ensures none { instances_view result.instances.items ≡ [] }
+        ensures cursor { result.cursor ≡ cursor }
+    {
+        PlacedInstances {
+            instances: Vec::new(alloc),
+            cursor,
+        }
+    }
+
+    /// Adds the instance of a symbol at CURS and at T; without a symbol nothing moves.
+    fn push_symbol(
+        &mut self,
+        flags: &TextRegionFlags,
+        t: i32,
+        symbol: Option<InstanceSymbol<'a, B, M>>,
+    ) -> Result<()>
+        ensures { let before = instances_view self.old.instances.items in
+            let ib = option_map (λ x. symbol_view x) symbol.entry in
+            let meant = with_symbol flags.now before self.old.cursor t ib in
+            Gives (λ _. (instances_view self.new.instances.items, self.new.cursor)) result meant }
+    {
+        let Some(symbol) = symbol else {
+            return Ok(());
+        };
+        let (instance, next) = place(flags, symbol, self.cursor.cur_s, t)?;
+        self.instances.push(instance)?;
+        self.cursor.cur_s = next;
+        Ok(())
+    }
 }
 
 /// Reads the instance at the cursor.
 #[tactic(auto, unfolding(crate::specs::Text::with_instance))]
-fn read_instance<'a, R: ReadInstances, B: Allocator, M: Allocator, V: Allocator, L: Ledger>(
-    alloc: M,
+fn read_instance<'a, R: ReadInstances, B: Allocator, M: Allocator + Clone, C: Allocator, L: Ledger>(
     readings: &mut R,
+    refining: &mut Refining<C>,
     params: &TextParams<'a, B>,
-    instances: &mut Vec<Instance<'a, B, M>, V>,
-    cursor: &mut Cursor,
+    placed: &mut PlacedInstances<'a, B, M>,
     steps: &mut Steps<L>,
 ) -> Result<()>
     requires { params.now.flags.log_strip_size ≤ 3 }
-    ensures { Gives (λ _. reached (instances_view instances.new.items) cursor.new (R.state readings.new)) result (with_instance R.readings (params_view params.now) (reached (instances_view instances.old.items) cursor.old (R.state readings.old))) }
+    ensures { let before = reached_view placed.old refining.old (R.state readings.old) in
+        let meant = with_instance R.readings (params_view params.now) before in
+        Gives (λ _. reached_view placed.new refining.new (R.state readings.new)) result meant }
 {
     let t = read_t_in_strip(readings, &params.flags, steps)?;
-    let t = numbers::moved(cursor.strip_t, t)?;
+    let t = numbers::moved(placed.cursor.strip_t, t)?;
     let id = readings.id(steps)?;
-    let symbol = read_symbol(alloc, readings, params, id, steps)?;
-    push_symbol(&params.flags, instances, cursor, t, symbol)
+    let alloc = placed.instances.allocator().clone()?;
+    let symbol = read_symbol(alloc, readings, refining, params, id, steps)?;
+    placed.push_symbol(&params.flags, t, symbol)
 }
 
 /// Reads the instance at the cursor, which moves on to the one behind it.
-fn read_and_move<'a, R: ReadInstances, B: Allocator, M: Allocator, V: Allocator, L: Ledger>(
-    alloc: M,
+fn read_and_move<'a, R: ReadInstances, B: Allocator, M: Allocator + Clone, C: Allocator, L: Ledger>(
     readings: &mut R,
+    refining: &mut Refining<C>,
     params: &TextParams<'a, B>,
-    instances: &mut Vec<Instance<'a, B, M>, V>,
-    cursor: &mut Cursor,
+    placed: &mut PlacedInstances<'a, B, M>,
     steps: &mut Steps<L>,
 ) -> Result<()>
     requires { params.now.flags.log_strip_size ≤ 3 }
-    ensures { Gives (λ _. reached (instances_view instances.new.items) cursor.new (R.state readings.new)) result (with_next R.readings (params_view params.now) (reached (instances_view instances.old.items) cursor.old (R.state readings.old))) }
+    ensures { let before = reached_view placed.old refining.old (R.state readings.old) in
+        let meant = with_next R.readings (params_view params.now) before in
+        Gives (λ _. reached_view placed.new refining.new (R.state readings.new)) result meant }
 {
-    read_instance(alloc, readings, params, instances, cursor, steps)?;
-    *cursor = move_on(readings, &params.flags, *cursor, steps)?;
+    read_instance(readings, refining, params, placed, steps)?;
+    placed.cursor = move_on(readings, &params.flags, placed.cursor, steps)?;
     Ok(())
 }
 
 /// Reads so many instances, behind which there is another.
-fn read_inner<'a, R: ReadInstances, B: Allocator, M: Allocator + Clone, V: Allocator, L: Ledger>(
-    alloc: &M,
+fn read_inner<'a, R: ReadInstances, B: Allocator, M: Allocator + Clone, C: Allocator, L: Ledger>(
     readings: &mut R,
+    refining: &mut Refining<C>,
     params: &TextParams<'a, B>,
     count: u32,
-    instances: &mut Vec<Instance<'a, B, M>, V>,
-    cursor: &mut Cursor,
+    placed: &mut PlacedInstances<'a, B, M>,
     steps: &mut Steps<L>,
 ) -> Result<()>
     requires { params.now.flags.log_strip_size ≤ 3 }
-    ensures { Gives (λ _. reached (instances_view instances.new.items) cursor.new (R.state readings.new)) result (after_instances R.readings (params_view params.now) count (reached (instances_view instances.old.items) cursor.old (R.state readings.old))) }
+    ensures { let before = reached_view placed.old refining.old (R.state readings.old) in
+        let meant = after_instances R.readings (params_view params.now) count before in
+        Gives (λ _. reached_view placed.new refining.new (R.state readings.new)) result meant }
 {
     for _ in 0..count {
-        let alloc = alloc.clone()?;
-        match read_and_move(alloc, readings, params, instances, cursor, steps) {
+        match read_and_move(readings, refining, params, placed, steps) {
             Ok(()) => {}
             Err(error) => return Err(error),
         }
@@ -100,58 +126,72 @@ fn read_inner<'a, R: ReadInstances, B: Allocator, M: Allocator + Clone, V: Alloc
 }
 
 /// Reads the last instance, and the difference of S behind it.
-fn read_last<'a, R: ReadInstances, B: Allocator, M: Allocator, V: Allocator, L: Ledger>(
-    alloc: M,
+fn read_last<'a, R: ReadInstances, B: Allocator, M: Allocator + Clone, C: Allocator, L: Ledger>(
     readings: &mut R,
+    refining: &mut Refining<C>,
     params: &TextParams<'a, B>,
-    instances: &mut Vec<Instance<'a, B, M>, V>,
-    cursor: &mut Cursor,
+    placed: PlacedInstances<'a, B, M>,
     steps: &mut Steps<L>,
-) -> Result<()>
+) -> Result<Vec<Instance<'a, B, M>, M>>
     requires { params.now.flags.log_strip_size ≤ 3 }
-    ensures { Gives (λ _. (instances_view instances.new.items, R.state readings.new)) result (with_last R.readings (params_view params.now) (reached (instances_view instances.old.items) cursor.old (R.state readings.old))) }
+    ensures { let before = reached_view placed.entry refining.old (R.state readings.old) in
+        let meant = with_last R.readings (params_view params.now) before in
+        Gives (λ i. (instances_view i.items, refining.new, R.state readings.new)) result meant }
 {
-    read_instance(alloc, readings, params, instances, cursor, steps)?;
+    let mut placed = placed;
+    read_instance(readings, refining, params, &mut placed, steps)?;
     let end = readings.delta_s(steps);
-    check_end(params.strict, end)
+    check_end(params.strict, end)?;
+    Ok(placed.instances)
 }
 
-/// Reads the instances of all strips, the first strip beginning below this T.
-fn read_strips<'a, R: ReadInstances, B: Allocator, M: Allocator + Clone, V: Allocator, L: Ledger>(
-    alloc: &M,
+/// Reads the strips, of which there is one at least, behind this T.
+fn read_some_strips<
+    'a,
+    R: ReadInstances,
+    B: Allocator,
+    M: Allocator + Clone,
+    C: Allocator,
+    L: Ledger,
+>(
+    alloc: M,
     readings: &mut R,
+    refining: &mut Refining<C>,
     params: &TextParams<'a, B>,
     strip_t: i32,
-    instances: &mut Vec<Instance<'a, B, M>, V>,
     steps: &mut Steps<L>,
-) -> Result<()>
+) -> Result<Vec<Instance<'a, B, M>, M>>
     requires strip { params.now.flags.log_strip_size ≤ 3 }
-    requires none { instances.old.items ≡ [] }
-    ensures { Gives (λ _. (instances_view instances.new.items, R.state readings.new)) result (strips R.readings (params_view params.now) strip_t (R.state readings.old)) }
+    requires some { 1 ≤ params.now.num_instances }
+    ensures { let state = R.state readings.old in
+        let meant = some_strips R.readings (params_view params.now) strip_t refining.old state in
+        Gives (λ i. (instances_view i.items, refining.new, R.state readings.new)) result meant }
+{
+    let cursor = begin_strip(readings, &params.flags, strip_t, 0, steps)?;
+    let mut placed = PlacedInstances::new(alloc, cursor);
+    let inner = params.num_instances - 1;
+    read_inner(readings, refining, params, inner, &mut placed, steps)?;
+    read_last(readings, refining, params, placed, steps)
+}
+
+/// Reads all strips behind this T.
+fn read_strips<'a, R: ReadInstances, B: Allocator, M: Allocator + Clone, C: Allocator, L: Ledger>(
+    alloc: M,
+    readings: &mut R,
+    refining: &mut Refining<C>,
+    params: &TextParams<'a, B>,
+    strip_t: i32,
+    steps: &mut Steps<L>,
+) -> Result<Vec<Instance<'a, B, M>, M>>
+    requires { params.now.flags.log_strip_size ≤ 3 }
+    ensures { let state = R.state readings.old in
+        let meant = strips R.readings (params_view params.now) strip_t refining.old state in
+        Gives (λ i. (instances_view i.items, refining.new, R.state readings.new)) result meant }
 {
     if params.num_instances == 0 {
-        return Ok(());
+        return Ok(Vec::new(alloc));
     }
-    let flags = &params.flags;
-    let mut cursor = begin_strip(readings, flags, strip_t, 0, steps)?;
-    let inner = params.num_instances - 1;
-    read_inner(
-        alloc,
-        readings,
-        params,
-        inner,
-        instances,
-        &mut cursor,
-        steps,
-    )?;
-    read_last(
-        alloc.clone()?,
-        readings,
-        params,
-        instances,
-        &mut cursor,
-        steps,
-    )
+    read_some_strips(alloc, readings, refining, params, strip_t, steps)
 }
 
 /// Whether there are more instances than the segment's bytes may stand for.
@@ -168,25 +208,26 @@ fn read_instances<
     R: ReadInstances,
     B: Allocator,
     M: Allocator + Clone,
-    V: Allocator,
+    C: Allocator,
     L: Ledger,
 >(
-    alloc: &M,
+    alloc: M,
     readings: &mut R,
+    refining: &mut Refining<C>,
     params: &TextParams<'a, B>,
-    instances: &mut Vec<Instance<'a, B, M>, V>,
     steps: &mut Steps<L>,
-) -> Result<()>
-    requires strip { params.now.flags.log_strip_size ≤ 3 }
-    requires none { instances.old.items ≡ [] }
-    ensures { Gives (λ _. (instances_view instances.new.items, R.state readings.new)) result (text_instances R.readings (params_view params.now) (R.state readings.old)) }
+) -> Result<Vec<Instance<'a, B, M>, M>>
+    requires { params.now.flags.log_strip_size ≤ 3 }
+    ensures { let state = R.state readings.old in
+        let meant = text_instances R.readings (params_view params.now) refining.old state in
+        Gives (λ i. (instances_view i.items, refining.new, R.state readings.new)) result meant }
 {
     if is_too_many(params.num_instances, params.data_len) {
         return Err(DecodeError::Symbol(SymbolError::TooManyInstances));
     }
     let delta = read_strip_delta(readings, &params.flags, steps)?;
     let strip_t = numbers::opposite(delta)?;
-    read_strips(alloc, readings, params, strip_t, instances, steps)
+    read_strips(alloc, readings, refining, params, strip_t, steps)
 }
 
 /// Draws instances onto a region, the first one first.
@@ -205,22 +246,34 @@ fn draw_instances<B: Allocator, M: Allocator, D: Allocator, L: Ledger>(
     }
 }
 
-/// Reads the instances of a text region and draws them onto `region`. `alloc` is for the list of
-/// instances and for refined symbols. A refusal leaves the region as it was.
+/// Reads the instances of a text region (T.88, 6.4.5) by states that go on from where they stand,
+/// and draws them onto `region`, which is all in its default colour. `alloc` is for the list of
+/// instances and for refined symbols. An error leaves the region as it was.
+///
+/// The errors are those of `decode_into` behind its tables.
 #[tactic(auto, unfolding(crate::specs::Text::text_region))]
-pub fn decode_with<R: ReadInstances, B: Allocator, M: Allocator + Clone, D: Allocator, L: Ledger>(
+pub fn draw_instances_by<
+    R: ReadInstances,
+    B: Allocator,
+    M: Allocator + Clone,
+    C: Allocator,
+    D: Allocator,
+    L: Ledger,
+>(
     alloc: M,
     readings: &mut R,
+    refining: &mut Refining<C>,
     params: &TextParams<'_, B>,
     region: &mut Bitmap<D>,
     steps: &mut Steps<L>,
 ) -> Result<()>
     requires { params.now.flags.log_strip_size ≤ 3 }
-    ensures value { Gives (λ _. (region.new, R.state readings.new)) result (text_region R.readings (params_view params.now) region.old (R.state readings.old)) }
+    ensures value { let state = R.state readings.old in
+        let meant = text_region R.readings (params_view params.now) region.old refining.old state in
+        Gives (λ _. (region.new, refining.new, R.state readings.new)) result meant }
     ensures same { OnErr result (region.new ≡ region.old) }
 {
-    let mut instances = Vec::new(alloc.clone()?);
-    read_instances(&alloc, readings, params, &mut instances, steps)?;
+    let instances = read_instances(alloc, readings, refining, params, steps)?;
     let operator = params.flags.combination_operator;
     draw_instances(operator, &instances, region, steps);
     Ok(())

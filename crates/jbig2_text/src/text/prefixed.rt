@@ -4,14 +4,14 @@ ghost use Rattle.jbig2_base.specs.Answer.{Answers};
 ghost use Rattle.jbig2_text.specs.TextCoding.{sized_bytes};
 ghost use Rattle.jbig2_text.specs.inner.TextViews.{prefixed_view};
 
-use crate::bit_fields::{bits_field, value_field};
+use crate::bit_fields::value_field;
 use crate::text::readings::ReadInstances;
 use crate::text::refining::Refining;
 use crate::text::tables::TextRegionHuffmanTables;
 use jbig2_base::bitmap::Bitmap;
 use jbig2_base::bitmap::steps::Steps;
 use jbig2_base::error::{DecodeError, HuffmanError, ParseError, Result};
-use jbig2_base::field::bytes_field;
+use jbig2_base::field::{bits_field, bytes_field};
 use jbig2_base::reader::Reader;
 use jbig2_coder::arithmetic_decoder::ArithmeticDecoder;
 use jbig2_coder::huffman_table::HuffmanTable;
@@ -19,14 +19,13 @@ use jbig2_region::generic_refinement::ReferenceBitmap;
 use std::alloc::Allocator;
 use std::sync::ledger::Ledger;
 
-/// The place in the bits, the tables and the codes of the symbols' ids, and the contexts of
-/// refinements.
+/// The place in the bits, the tables, and the codes of the symbols' ids. A dictionary hands it a
+/// duplicate of its own reader, and takes the reader back.
 #[derive(Drop)]
-pub struct PrefixedReadings<'a, T: Allocator, I: Allocator, A: Allocator> {
+pub struct PrefixedReadings<'a, 't, T: Allocator, I: Allocator> {
     pub reader: Reader<'a>,
-    pub tables: TextRegionHuffmanTables<'a, T>,
-    pub ids: &'a HuffmanTable<I>,
-    pub refining: Refining<A>,
+    pub tables: TextRegionHuffmanTables<'t, T>,
+    pub ids: &'t HuffmanTable<I>,
 }
 
 /// So many bytes from the next whole one on.
@@ -40,7 +39,7 @@ fn sized_bytes<'a>(size: i32, reader: &mut Reader<'a>) -> Result<&'a [u8]>
     bytes_field(reader, size)
 }
 
-impl<T: Allocator, I: Allocator, A: Allocator> ReadInstances for PrefixedReadings<'_, T, I, A> {
+impl<T: Allocator, I: Allocator> ReadInstances for PrefixedReadings<'_, '_, T, I> {
     ghost use Rattle.jbig2_text.specs.TextCoding.{Prefixed, by_prefix_codes};
     ghost use Rattle.jbig2_text.specs.inner.TextViews.{prefixed_view};
 
@@ -101,16 +100,17 @@ impl<T: Allocator, I: Allocator, A: Allocator> ReadInstances for PrefixedReading
         value_field(self.tables.refinement_y, &mut self.reader)
     }
 
-    fn refine<M: Allocator, B: Allocator, L: Ledger>(
+    fn refine<M: Allocator, B: Allocator, C: Allocator, L: Ledger>(
         &mut self,
         reference: &ReferenceBitmap<'_, B>,
+        refining: &mut Refining<C>,
         bitmap: &mut Bitmap<M>,
         steps: &mut Steps<L>,
     ) -> Result<()> {
         let size = value_field(self.tables.refinement_size, &mut self.reader)?;
         let bytes = sized_bytes(size, &mut self.reader)?;
         let mut decoder = ArithmeticDecoder::new(bytes);
-        self.refining.refine(reference, bitmap, &mut decoder, steps);
+        refining.refine(reference, bitmap, &mut decoder, steps);
         Ok(())
     }
 }

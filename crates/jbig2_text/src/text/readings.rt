@@ -5,6 +5,7 @@ ghost use Rattle.jbig2_base.specs.Grid.{blank};
 ghost use Rattle.jbig2_region.specs.inner.RefinementViews.{reference_view};
 ghost use Rattle.jbig2_text.specs.Text.{Readings};
 
+use crate::text::refining::Refining;
 use jbig2_base::bitmap::Bitmap;
 use jbig2_base::bitmap::steps::Steps;
 use jbig2_base::error::Result;
@@ -44,7 +45,7 @@ pub trait ReadInstances {
 
     /// Whether the symbol is refined.
     fn is_refined<L: Ledger>(&mut self, steps: &mut Steps<L>) -> Result<bool>
-        ensures { Answers (λ refined. (refined, state self.new)) result (readings.is_refined (state self.old)) };
+        ensures { Answers (λ b. (b, state self.new)) result (readings.is_refined (state self.old)) };
 
     /// How much wider a refined symbol is.
     fn width_delta<L: Ledger>(&mut self, steps: &mut Steps<L>) -> Result<i32>
@@ -62,15 +63,20 @@ pub trait ReadInstances {
     fn y_delta<L: Ledger>(&mut self, steps: &mut Steps<L>) -> Result<i32>
         ensures { Answers (λ n. (n, state self.new)) result (readings.y_delta (state self.old)) };
 
-    /// Refines `reference` into a white bitmap.
-    fn refine<A: Allocator, B: Allocator, L: Ledger>(
+    /// Refines `reference` into a white bitmap, by contexts that go on from where they stand.
+    fn refine<A: Allocator, B: Allocator, C: Allocator, L: Ledger>(
         &mut self,
         reference: &ReferenceBitmap<'_, B>,
+        refining: &mut Refining<C>,
         bitmap: &mut Bitmap<A>,
         steps: &mut Steps<L>,
     ) -> Result<()>
         requires columns { bitmap.old.width ≤ 65535 }
         requires rows { bitmap.old.height ≤ 65535 }
         requires white { bitmap.old ≡ blank bitmap.old.width bitmap.old.height false }
-        ensures { Answers (λ _. (bitmap.new, state self.new)) result (readings.refined (reference_view reference.now) bitmap.old.width bitmap.old.height (state self.old)) };
+        ensures { let width = bitmap.old.width in
+            let height = bitmap.old.height in
+            let from = reference_view reference.now in
+            let meant = readings.refined from width height refining.old (state self.old) in
+            Answers (λ _. (bitmap.new, refining.new, state self.new)) result meant };
 }

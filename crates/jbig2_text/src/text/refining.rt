@@ -1,11 +1,11 @@
-//! Symbols that are refined from others (T.88, 6.4.11).
+//! Refinements of symbols by contexts that are lent (T.88, 6.4.11).
 ghost use Rattle.std.specs.Prelude.{◌≡◌, ◌≤◌, ◌^◌, length, false, Ok};
 ghost use Rattle.jbig2_base.specs.Answer.{Gives};
 ghost use Rattle.jbig2_base.specs.Grid.{blank};
-ghost use Rattle.jbig2_region.specs.Raster.{fresh_contexts, so_far};
+ghost use Rattle.jbig2_region.specs.Raster.{so_far};
 ghost use Rattle.jbig2_region.specs.Refinement.{refinement_bits};
 ghost use Rattle.jbig2_region.specs.inner.RefinementViews.{reference_view};
-ghost use Rattle.jbig2_text.specs.TextCoding.{refined_by};
+ghost use Rattle.jbig2_text.specs.Refining.{fresh_refining, refined_by, refined_with};
 
 use jbig2_base::bitmap::Bitmap;
 use jbig2_base::bitmap::steps::Steps;
@@ -29,7 +29,7 @@ pub struct Refining<A: Allocator> {
 impl<A: Allocator> Model for Refining<A> {
     ghost use Rattle.std.specs.Prelude.{◌≡◌, ◌^◌, length};
     ghost use Rattle.jbig2_region.specs.Refinement.{refinement_bits};
-    ghost use Rattle.jbig2_text.specs.TextCoding.{Refining};
+    ghost use Rattle.jbig2_text.specs.Refining.{Refining};
 
     ghost Value = { Refining };
 
@@ -48,7 +48,7 @@ impl<A: Allocator> Refining<A> {
         template: RefinementTemplate,
         pixels: [AdaptiveTemplatePixel; 2],
     ) -> Result<Refining<A>>
-        ensures { Gives (λ r. r) result (Ok (record { template = template; pixels = pixels; contexts = fresh_contexts (refinement_bits template) })) }
+        ensures { Gives (λ r. r) result (Ok (fresh_refining template pixels)) }
     {
         let mut contexts = Vec::new(alloc);
         fresh_contexts(&mut contexts, template.context_bits())?;
@@ -57,6 +57,30 @@ impl<A: Allocator> Refining<A> {
             pixels,
             contexts,
         })
+    }
+
+    /// Refinements by contexts that have learned, as many as the template has.
+    pub fn from_contexts(
+        template: RefinementTemplate,
+        pixels: [AdaptiveTemplatePixel; 2],
+        contexts: Vec<ArithmeticDecoderContext, A>,
+    ) -> Refining<A>
+        requires { length contexts.items ≡ 2 ^ refinement_bits template }
+        ensures { result ≡ record { template = template; pixels = pixels; contexts = contexts.items } }
+    {
+        Refining {
+            template,
+            pixels,
+            contexts,
+        }
+    }
+
+    /// The contexts, with what they have learned.
+    pub fn into_contexts(self) -> Vec<ArithmeticDecoderContext, A>
+        ensures contexts { result.items ≡ self.contexts }
+        ensures all { length result.items ≡ 2 ^ refinement_bits self.template }
+    {
+        self.contexts
     }
 
     /// Refines `reference` into a white bitmap. The coder and the contexts go on from where they
@@ -71,9 +95,9 @@ impl<A: Allocator> Refining<A> {
         requires columns { bitmap.old.width ≤ 65535 }
         requires rows { bitmap.old.height ≤ 65535 }
         requires white { bitmap.old ≡ blank bitmap.old.width bitmap.old.height false }
-        ensures grid { bitmap.new ≡ so_far bitmap.old.width bitmap.old.height (refined_by self.old (reference_view reference.now) bitmap.old.width bitmap.old.height decoder.old.bytes decoder.old.registers).pixels }
-        ensures coder { decoder.new ≡ record decoder.old { registers = (refined_by self.old (reference_view reference.now) bitmap.old.width bitmap.old.height decoder.old.bytes decoder.old.registers).registers } }
-        ensures contexts { self.new ≡ record self.old { contexts = (refined_by self.old (reference_view reference.now) bitmap.old.width bitmap.old.height decoder.old.bytes decoder.old.registers).contexts } }
+        ensures { let from = reference_view reference.now in
+            refined_with self.old from bitmap.old.width bitmap.old.height decoder.old
+            ≡ record { grid = bitmap.new; coder = decoder.new; refining = self.new } }
     {
         refine_by(
             self.template,

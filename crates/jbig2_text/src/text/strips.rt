@@ -45,7 +45,7 @@ pub fn begin_strip<R: ReadInstances, L: Ledger>(
     Ok(Cursor {
         strip_t,
         first_s,
-        s: first_s,
+        cur_s: first_s,
     })
 }
 
@@ -63,9 +63,9 @@ fn move_by<R: ReadInstances, L: Ledger>(
     let Some(delta) = delta else {
         return begin_strip(readings, flags, cursor.strip_t, cursor.first_s, steps);
     };
-    let apart = numbers::moved(cursor.s, delta)?;
-    let s = numbers::moved(apart, i32::from(flags.delta_s_offset))?;
-    Ok(Cursor { s, ..cursor })
+    let apart = numbers::moved(cursor.cur_s, delta)?;
+    let cur_s = numbers::moved(apart, i32::from(flags.delta_s_offset))?;
+    Ok(Cursor { cur_s, ..cursor })
 }
 
 /// Where the next instance stands.

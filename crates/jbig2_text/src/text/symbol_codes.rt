@@ -6,8 +6,9 @@ ghost use Rattle.jbig2_coder.specs.PrefixCode.{AreShort, table_of};
 ghost use Rattle.jbig2_text.specs.BitFields.{invalid_code};
 ghost use Rattle.jbig2_text.specs.SymbolCodes.{lines_from, short_lengths, repeated, run_at, next_run, runs_at, symbol_codes_at, symbol_codes_from};
 
-use crate::bit_fields::{bits_field, value_field};
+use crate::bit_fields::value_field;
 use jbig2_base::error::{DecodeError, HuffmanError, Result};
+use jbig2_base::field::bits_field;
 use jbig2_base::reader::Reader;
 use jbig2_coder::huffman_table::{HuffmanTable, TableLine};
 use std::alloc::Allocator;

@@ -1,18 +1,17 @@
 //! The symbols of a text region's instances (T.88, 6.4.10 and 6.4.11).
-ghost use Rattle.std.specs.Prelude.{◌≡◌, ◌≤◌, false, option_map, IfOk};
-ghost use Rattle.jbig2_base.specs.Answer.{Gives};
-ghost use Rattle.jbig2_base.specs.Grid.{blank};
-ghost use Rattle.jbig2_base.specs.Sizes.{blank_or_overflow};
-ghost use Rattle.jbig2_text.specs.Text.{symbol_of, refined_symbol, symbol_by, instance_symbol};
-ghost use Rattle.jbig2_text.specs.inner.TextViews.{symbols_view, params_view, symbol_view};
+ghost use Rattle.std.specs.Prelude.{◌≡◌, option_map};
+ghost use Rattle.jbig2_base.specs.Answer.{Answers, Gives};
+ghost use Rattle.jbig2_text.specs.Text.{instance_symbol, plain_symbol, refinement_flag, symbol_of};
+ghost use Rattle.jbig2_text.specs.inner.TextViews.{list_view, params_view, symbol_view};
 
 use crate::text::header::TextRegionFlags;
-use crate::text::numbers;
 use crate::text::readings::ReadInstances;
+use crate::text::refined::read_refined;
+use crate::text::refining::Refining;
+use crate::text::symbol_list::SymbolList;
 use jbig2_base::bitmap::steps::Steps;
 use jbig2_base::bitmap::{Bitmap, CombinationOperator};
 use jbig2_base::error::{DecodeError, Result, SymbolError};
-use jbig2_region::generic_refinement::ReferenceBitmap;
 use std::alloc::Allocator;
 use std::sync::ledger::Ledger;
 
@@ -20,7 +19,7 @@ use std::sync::ledger::Ledger;
 #[derive(Drop)]
 pub struct TextParams<'a, B: Allocator> {
     pub flags: TextRegionFlags,
-    pub symbols: &'a [&'a Bitmap<B>],
+    pub symbols: SymbolList<'a, B>,
     pub num_instances: u32,
     /// How many bytes the segment's data has.
     pub data_len: usize,
@@ -35,80 +34,31 @@ pub enum InstanceSymbol<'a, B: Allocator, M: Allocator> {
     Refined(Bitmap<M>),
 }
 
-/// The symbol of an id, if it has one.
-fn symbol_of<'a, B: Allocator>(symbols: &[&'a Bitmap<B>], id: i64) -> Option<&'a Bitmap<B>>
-    ensures { option_map (λ s. s.now) result ≡ symbol_of (symbols_view symbols.now) id }
-{
-    let Ok(index) = usize::try_from(id) else {
-        return None;
-    };
-    if index >= symbols.len() {
-        return None;
-    }
-    Some(symbols[index])
-}
-
-/// A white bitmap for a refined symbol.
-fn new_symbol<M: Allocator>(alloc: M, width: u32, height: u32) -> Result<Bitmap<M>>
-    ensures value { Gives (λ b. b) result (blank_or_overflow width height false) }
-    ensures width { IfOk result (λ b. b.width ≡ width) }
-    ensures height { IfOk result (λ b. b.height ≡ height) }
-    ensures columns { IfOk result (λ b. b.width ≤ 65535) }
-    ensures rows { IfOk result (λ b. b.height ≤ 65535) }
-    ensures white { IfOk result (λ b. b ≡ blank b.width b.height false) }
-{
-    Bitmap::new(alloc, width, height)
-}
-
-/// A symbol that is refined from that of the id (T.88, 6.4.11).
-#[tactic(auto, unfolding(crate::specs::Text::refined_symbol))]
-fn read_refined<R: ReadInstances, B: Allocator, M: Allocator, L: Ledger>(
-    alloc: M,
+/// Whether the symbol is refined, which is read where symbols may be.
+fn read_refinement_flag<R: ReadInstances, L: Ledger>(
     readings: &mut R,
-    symbols: &[&Bitmap<B>],
-    id: i64,
+    flags: &TextRegionFlags,
     steps: &mut Steps<L>,
-) -> Result<Bitmap<M>>
-    ensures { Gives (λ g. (g, R.state readings.new)) result (refined_symbol R.readings (symbols_view symbols.now) id (R.state readings.old)) }
+) -> Result<bool>
+    ensures { let meant = refinement_flag R.readings flags.now (R.state readings.old) in
+        Answers (λ b. (b, R.state readings.new)) result meant }
 {
-    let Some(from) = symbol_of(symbols, id) else {
-        return Err(DecodeError::Symbol(SymbolError::OutOfRange));
-    };
-    let width_delta = readings.width_delta(steps)?;
-    let height_delta = readings.height_delta(steps)?;
-    let x_delta = readings.x_delta(steps)?;
-    let y_delta = readings.y_delta(steps)?;
-    let width = numbers::refined_side(from.width(), width_delta)?;
-    let height = numbers::refined_side(from.height(), height_delta)?;
-    let dx = numbers::reference_offset(width_delta, x_delta)?;
-    let dy = numbers::reference_offset(height_delta, y_delta)?;
-    let mut bitmap = new_symbol(alloc, width, height)?;
-    let reference = ReferenceBitmap {
-        bitmap: from,
-        dx,
-        dy,
-    };
-    readings.refine(&reference, &mut bitmap, steps)?;
-    Ok(bitmap)
+    if !flags.use_refinement {
+        return Ok(false);
+    }
+    readings.is_refined(steps)
 }
 
-/// The symbol of an id, refined or as it is. In lenient mode an id without a symbol stands for
-/// nothing.
-fn symbol_by<'a, R: ReadInstances, B: Allocator, M: Allocator, L: Ledger>(
-    alloc: M,
-    readings: &mut R,
+/// The symbol of an id as it is. In lenient mode an id without a symbol stands for nothing.
+fn plain_symbol<'a, B: Allocator, M: Allocator>(
     params: &TextParams<'a, B>,
     id: i64,
-    refined: bool,
-    steps: &mut Steps<L>,
 ) -> Result<Option<InstanceSymbol<'a, B, M>>>
-    ensures { Gives (λ s. (option_map (λ x. symbol_view x) s, R.state readings.new)) result (symbol_by R.readings (params_view params.now) id refined (R.state readings.old)) }
+    ensures { let symbol = symbol_of (list_view params.now.symbols) id in
+        let meant = plain_symbol params.now.strict symbol in
+        Answers (λ s. option_map (λ x. symbol_view x) s) result meant }
 {
-    if refined {
-        let bitmap = read_refined(alloc, readings, params.symbols, id, steps)?;
-        return Ok(Some(InstanceSymbol::Refined(bitmap)));
-    }
-    match symbol_of(params.symbols, id) {
+    match params.symbols.symbol(id) {
         Some(bitmap) => Ok(Some(InstanceSymbol::Shared(bitmap))),
         None if params.strict => Err(DecodeError::Symbol(SymbolError::OutOfRange)),
         None => Ok(None),
@@ -117,20 +67,24 @@ fn symbol_by<'a, R: ReadInstances, B: Allocator, M: Allocator, L: Ledger>(
 
 /// The symbol of an instance, whose id is read.
 #[tactic(auto, unfolding(crate::specs::Text::instance_symbol))]
-pub fn read_symbol<'a, R: ReadInstances, B: Allocator, M: Allocator, L: Ledger>(
+pub fn read_symbol<'a, R: ReadInstances, B: Allocator, M: Allocator, C: Allocator, L: Ledger>(
     alloc: M,
     readings: &mut R,
+    refining: &mut Refining<C>,
     params: &TextParams<'a, B>,
     id: i64,
     steps: &mut Steps<L>,
 ) -> Result<Option<InstanceSymbol<'a, B, M>>>
-    ensures { Gives (λ s. (option_map (λ x. symbol_view x) s, R.state readings.new)) result (instance_symbol R.readings (params_view params.now) id (R.state readings.old)) }
+    ensures { let state = R.state readings.old in
+        let meant = instance_symbol R.readings (params_view params.now) id refining.old state in
+        let view = option_map (λ x. symbol_view x) in
+        Gives (λ s. (view s, refining.new, R.state readings.new)) result meant }
 {
-    if !params.flags.use_refinement {
-        return symbol_by(alloc, readings, params, id, false, steps);
+    if read_refinement_flag(readings, &params.flags, steps)? {
+        let bitmap = read_refined(alloc, readings, refining, &params.symbols, id, steps)?;
+        return Ok(Some(InstanceSymbol::Refined(bitmap)));
     }
-    let refined = readings.is_refined(steps)?;
-    symbol_by(alloc, readings, params, id, refined, steps)
+    plain_symbol(params, id)
 }
 
 impl<B: Allocator, M: Allocator> InstanceSymbol<'_, B, M> {

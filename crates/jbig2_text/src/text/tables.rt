@@ -1,7 +1,7 @@
 //! The tables of a text region (T.88, 7.4.3.1.6).
 ghost use Rattle.std.specs.Prelude.{◌≡◌};
 ghost use Rattle.jbig2_base.specs.Answer.{Answers};
-ghost use Rattle.jbig2_text.specs.TextRegion.{custom, one_of_two, one_of_three, table_of_first_s, table_of_delta_s, table_of_delta_t, table_of_refinement, table_of_size, text_tables};
+ghost use Rattle.jbig2_text.specs.TextRegion.{aggregate_tables, custom, one_of_two, one_of_three, table_of_first_s, table_of_delta_s, table_of_delta_t, table_of_refinement, table_of_size, text_tables};
 ghost use Rattle.jbig2_text.specs.inner.TextViews.{customs_view, tables_view};
 
 use crate::text::header::TextRegionHuffmanFlags;
@@ -20,6 +20,24 @@ pub struct TextRegionHuffmanTables<'a, T: Allocator> {
     pub refinement_x: &'a HuffmanTable<T>,
     pub refinement_y: &'a HuffmanTable<T>,
     pub refinement_size: &'a HuffmanTable<T>,
+}
+
+impl<'a, T: Allocator> TextRegionHuffmanTables<'a, T> {
+    /// The tables of an aggregate symbol's instances (T.88, 6.5.8.2, Table 17).
+    pub fn of_aggregates(standard: &'a StandardHuffmanTables<T>) -> TextRegionHuffmanTables<'a, T>
+        ensures { tables_view result ≡ aggregate_tables }
+    {
+        TextRegionHuffmanTables {
+            first_s: standard.table_f(),
+            delta_s: standard.table_h(),
+            delta_t: standard.table_k(),
+            refinement_width: standard.table_o(),
+            refinement_height: standard.table_o(),
+            refinement_x: standard.table_o(),
+            refinement_y: standard.table_o(),
+            refinement_size: standard.table_a(),
+        }
+    }
 }
 
 /// The next custom table, and those behind it.

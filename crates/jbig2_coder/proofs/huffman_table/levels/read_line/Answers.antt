@@ -6,56 +6,21 @@ use Rattle.jbig2_coder.proofs.huffman_table.levels.read_line.Goals as goal
 pub loop-level-init : goal.loop-level-init
 loop-level-init c = at-root c.args.lines.now c.args.levels.now c.args.reader.now c.requires.levels
 
-pub returns-then-child-level-clause-line : goal.returns-then-child-level-clause-line
-returns-then-child-level-clause-line c =
+pub returns-then-child-level-clause-reads : goal.returns-then-child-level-clause-reads
+returns-then-child-level-clause-reads c =
     let bit : Some c.from.result ≡ bits_next 1 (bits_left c.loop-level.reader) = ap (λ (b : ℕ). Some b) c.from.ensures ∙ c.in-Some.ensures.value in
-    let inside : c.loop-level.level-index < length c.args.levels.now = omega arith in
-    (leaves-found c.args.lines.now c.args.levels.now c.loop-level.level-index c.loop-level.node c.from.result c.args.reader.now c.loop-level.reader c.read_bit.new.self (record { first = 0; count = 0; nodes = 0 }) (record { range_low = pos 0; prefix_length = 0; range_length = 0; is_lower = false; is_out_of_band = false }) c.loop-level.invariant c.read_bit.ensures.place c.read_bit.ensures.rest bit inside c.if-child-level.true).line
+    leaves-found c.args.lines.now c.args.levels.now c.loop-level.level-index c.loop-level.node c.from.result c.args.reader.now c.loop-level.reader c.read_bit.new.self (record { first = 0; count = 0; nodes = 0 }) (record { range_low = pos 0; prefix_length = 0; range_length = 0; is_lower = false; is_out_of_band = false }) c.loop-level.invariant c.read_bit.ensures.place c.read_bit.ensures.rest bit (omega arith) c.if-child-level.true
 
-pub returns-then-node-level-clause-line : goal.returns-then-node-level-clause-line
-returns-then-node-level-clause-line c =
+pub returns-then-node-level-clause-reads : goal.returns-then-node-level-clause-reads
+returns-then-node-level-clause-reads c =
     let bit : Some c.from.result ≡ bits_next 1 (bits_left c.loop-level.reader) = ap (λ (b : ℕ). Some b) c.from.ensures ∙ c.in-Some.ensures.value in
-    let inside : c.loop-level.level-index < length c.args.levels.now = omega arith in
-    (leaves-refused c.args.lines.now c.args.levels.now c.loop-level.level-index c.loop-level.node c.from.result c.args.reader.now c.loop-level.reader c.read_bit.new.self (record { first = 0; count = 0; nodes = 0 }) c.loop-level.invariant c.read_bit.ensures.place c.read_bit.ensures.rest bit inside c.if-child-level.false c.if-node-level.true).line
-
-pub returns-then-child-level-clause-place : goal.returns-then-child-level-clause-place
-returns-then-child-level-clause-place c =
-    let bit : Some c.from.result ≡ bits_next 1 (bits_left c.loop-level.reader) = ap (λ (b : ℕ). Some b) c.from.ensures ∙ c.in-Some.ensures.value in
-    let inside : c.loop-level.level-index < length c.args.levels.now = omega arith in
-    (leaves-found c.args.lines.now c.args.levels.now c.loop-level.level-index c.loop-level.node c.from.result c.args.reader.now c.loop-level.reader c.read_bit.new.self (record { first = 0; count = 0; nodes = 0 }) (record { range_low = pos 0; prefix_length = 0; range_length = 0; is_lower = false; is_out_of_band = false }) c.loop-level.invariant c.read_bit.ensures.place c.read_bit.ensures.rest bit inside c.if-child-level.true).place
-
-pub returns-then-node-level-clause-place : goal.returns-then-node-level-clause-place
-returns-then-node-level-clause-place c =
-    let bit : Some c.from.result ≡ bits_next 1 (bits_left c.loop-level.reader) = ap (λ (b : ℕ). Some b) c.from.ensures ∙ c.in-Some.ensures.value in
-    let inside : c.loop-level.level-index < length c.args.levels.now = omega arith in
-    (leaves-refused c.args.lines.now c.args.levels.now c.loop-level.level-index c.loop-level.node c.from.result c.args.reader.now c.loop-level.reader c.read_bit.new.self (record { first = 0; count = 0; nodes = 0 }) c.loop-level.invariant c.read_bit.ensures.place c.read_bit.ensures.rest bit inside c.if-child-level.false c.if-node-level.true).place
-
-pub returns-then-child-level-clause-rest : goal.returns-then-child-level-clause-rest
-returns-then-child-level-clause-rest c =
-    let bit : Some c.from.result ≡ bits_next 1 (bits_left c.loop-level.reader) = ap (λ (b : ℕ). Some b) c.from.ensures ∙ c.in-Some.ensures.value in
-    let inside : c.loop-level.level-index < length c.args.levels.now = omega arith in
-    (leaves-found c.args.lines.now c.args.levels.now c.loop-level.level-index c.loop-level.node c.from.result c.args.reader.now c.loop-level.reader c.read_bit.new.self (record { first = 0; count = 0; nodes = 0 }) (record { range_low = pos 0; prefix_length = 0; range_length = 0; is_lower = false; is_out_of_band = false }) c.loop-level.invariant c.read_bit.ensures.place c.read_bit.ensures.rest bit inside c.if-child-level.true).rest
-
-pub returns-then-node-level-clause-rest : goal.returns-then-node-level-clause-rest
-returns-then-node-level-clause-rest c =
-    let bit : Some c.from.result ≡ bits_next 1 (bits_left c.loop-level.reader) = ap (λ (b : ℕ). Some b) c.from.ensures ∙ c.in-Some.ensures.value in
-    let inside : c.loop-level.level-index < length c.args.levels.now = omega arith in
-    (leaves-refused c.args.lines.now c.args.levels.now c.loop-level.level-index c.loop-level.node c.from.result c.args.reader.now c.loop-level.reader c.read_bit.new.self (record { first = 0; count = 0; nodes = 0 }) c.loop-level.invariant c.read_bit.ensures.place c.read_bit.ensures.rest bit inside c.if-child-level.false c.if-node-level.true).rest
+    leaves-refused c.args.lines.now c.args.levels.now c.loop-level.level-index c.loop-level.node c.from.result c.args.reader.now c.loop-level.reader c.read_bit.new.self (record { first = 0; count = 0; nodes = 0 }) c.loop-level.invariant c.read_bit.ensures.place c.read_bit.ensures.rest bit (omega arith) c.if-child-level.false c.if-node-level.true
 
 pub loop-level-preserved : goal.loop-level-preserved
 loop-level-preserved c =
     let bit : Some c.from.result ≡ bits_next 1 (bits_left c.loop-level.reader) = ap (λ (b : ℕ). Some b) c.from.ensures ∙ c.in-Some.ensures.value in
-    let inside : c.loop-level.level-index < length c.args.levels.now = omega arith in
-    at-next c.args.lines.now c.args.levels.now c.loop-level.level-index c.loop-level.node c.from.result c.args.reader.now c.loop-level.reader c.read_bit.new.self (record { first = 0; count = 0; nodes = 0 }) c.loop-level.invariant c.read_bit.ensures.place c.read_bit.ensures.rest bit inside c.if-child-level.false c.if-node-level.false
+    at-next c.args.lines.now c.args.levels.now c.loop-level.level-index c.loop-level.node c.from.result c.args.reader.now c.loop-level.reader c.read_bit.new.self (record { first = 0; count = 0; nodes = 0 }) c.loop-level.invariant c.read_bit.ensures.place c.read_bit.ensures.rest bit (omega arith) c.if-child-level.false c.if-node-level.false
 
-pub returns-in-Some-read_bit-clause-line : goal.returns-in-Some-read_bit-clause-line
-returns-in-Some-read_bit-clause-line c =
-    (leaves-past c.args.lines.now c.args.levels.now c.loop-level.level-index c.loop-level.node c.in-Some-read_bit.field-0 c.args.reader.now c.loop-level.reader c.read_bit-2.new.self c.loop-level.invariant c.read_bit-2.ensures.place c.read_bit-2.ensures.rest c.in-Some-read_bit.ensures.value c.loop-level-test.false).line
-
-pub returns-in-Some-read_bit-clause-place : goal.returns-in-Some-read_bit-clause-place
-returns-in-Some-read_bit-clause-place c =
-    (leaves-past c.args.lines.now c.args.levels.now c.loop-level.level-index c.loop-level.node c.in-Some-read_bit.field-0 c.args.reader.now c.loop-level.reader c.read_bit-2.new.self c.loop-level.invariant c.read_bit-2.ensures.place c.read_bit-2.ensures.rest c.in-Some-read_bit.ensures.value c.loop-level-test.false).place
-
-pub returns-in-Some-read_bit-clause-rest : goal.returns-in-Some-read_bit-clause-rest
-returns-in-Some-read_bit-clause-rest c =
-    (leaves-past c.args.lines.now c.args.levels.now c.loop-level.level-index c.loop-level.node c.in-Some-read_bit.field-0 c.args.reader.now c.loop-level.reader c.read_bit-2.new.self c.loop-level.invariant c.read_bit-2.ensures.place c.read_bit-2.ensures.rest c.in-Some-read_bit.ensures.value c.loop-level-test.false).rest
+pub returns-in-Some-read_bit-clause-reads : goal.returns-in-Some-read_bit-clause-reads
+returns-in-Some-read_bit-clause-reads c =
+    leaves-past c.args.lines.now c.args.levels.now c.loop-level.level-index c.loop-level.node c.in-Some-read_bit.field-0 c.args.reader.now c.loop-level.reader c.read_bit-2.new.self c.loop-level.invariant c.read_bit-2.ensures.place c.read_bit-2.ensures.rest c.in-Some-read_bit.ensures.value c.loop-level-test.false

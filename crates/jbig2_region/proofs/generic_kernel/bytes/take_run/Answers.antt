@@ -4,7 +4,8 @@ use Rattle.std.proofs.lemmas.List.{get_or_default}
 use Rattle.jbig2_coder.specs.Coder.{Context, fresh, all_quiet}
 use Rattle.jbig2_coder.specs.Table.{row_of}
 use Rattle.jbig2_region.specs.inner.Neighbours.{nominal_pixels}
-use Rattle.jbig2_region.specs.RunBytes.{all_of, same_colour}
+use Rattle.jbig2_base.specs.Grid.{same_colour}
+use Rattle.jbig2_region.specs.RunBytes.{all_of}
 use Rattle.jbig2_region.proofs.RunLemmas.{run-parts, uniform-number, not-staying, and-last, and-middle}
 use Rattle.jbig2_region.proofs.generic_kernel.bytes.take_run.Goals as goal
 

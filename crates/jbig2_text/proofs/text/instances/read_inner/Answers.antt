@@ -1,19 +1,29 @@
-use Rattle.jbig2_text.specs.Text.{after_instances, reached}
-use Rattle.jbig2_text.specs.inner.TextViews.{instances_view, params_view}
+use Rattle.jbig2_text.specs.Text.{after_instances}
+use Rattle.jbig2_text.specs.inner.TextViews.{params_view, reached_view}
 use Rattle.jbig2_text.proofs.InstanceLemmas.{inner-next, inner-fault, inner-done}
 use Rattle.jbig2_text.proofs.text.instances.read_inner.Goals as goal
 
 pub returns-in-Err : goal.returns-in-Err
 returns-in-Err g c =
     let r = g.R.ReadInstances in
-    inner-fault r.readings (params_view c.args.params.now) c.args.count c.loop.counter (reached (instances_view c.loop.instances.items) c.loop.cursor (r.state c.loop.readings)) c.in-Err.error (after_instances r.readings (params_view c.args.params.now) c.args.count (reached (instances_view c.args.instances.now.items) c.args.cursor.now (r.state c.args.readings.now))) c.loop-test.true c.loop.invariant c.in-Err.ensures
+    let p = params_view c.args.params.now in
+    let whole = after_instances r.readings p c.args.count (reached_view c.args.placed.now c.args.refining.now (r.state c.args.readings.now)) in
+    let here = reached_view c.loop.placed c.loop.refining (r.state c.loop.readings) in
+    inner-fault r.readings p c.args.count c.loop.counter here c.in-Err.error whole c.loop-test.true c.loop.invariant c.in-Err.ensures
 
 pub loop-preserved : goal.loop-preserved
 loop-preserved g c =
     let r = g.R.ReadInstances in
-    inner-next r.readings (params_view c.args.params.now) c.args.count c.loop.counter (reached (instances_view c.loop.instances.items) c.loop.cursor (r.state c.loop.readings)) (reached (instances_view c.read_and_move.new.instances.items) c.read_and_move.new.cursor (r.state c.read_and_move.new.readings)) (after_instances r.readings (params_view c.args.params.now) c.args.count (reached (instances_view c.args.instances.now.items) c.args.cursor.now (r.state c.args.readings.now))) c.loop-test.true c.loop.invariant c.in-Ok.ensures
+    let p = params_view c.args.params.now in
+    let whole = after_instances r.readings p c.args.count (reached_view c.args.placed.now c.args.refining.now (r.state c.args.readings.now)) in
+    let here = reached_view c.loop.placed c.loop.refining (r.state c.loop.readings) in
+    let next = reached_view c.read_and_move.new.placed c.read_and_move.new.refining (r.state c.read_and_move.new.readings) in
+    inner-next r.readings p c.args.count c.loop.counter here next whole c.loop-test.true c.loop.invariant c.in-Ok.ensures
 
 pub returns : goal.returns
 returns g c =
     let r = g.R.ReadInstances in
-    inner-done r.readings (params_view c.args.params.now) c.args.count c.loop.counter (reached (instances_view c.loop.instances.items) c.loop.cursor (r.state c.loop.readings)) (after_instances r.readings (params_view c.args.params.now) c.args.count (reached (instances_view c.args.instances.now.items) c.args.cursor.now (r.state c.args.readings.now))) c.loop-test.false c.loop.invariant
+    let p = params_view c.args.params.now in
+    let whole = after_instances r.readings p c.args.count (reached_view c.args.placed.now c.args.refining.now (r.state c.args.readings.now)) in
+    let here = reached_view c.loop.placed c.loop.refining (r.state c.loop.readings) in
+    inner-done r.readings p c.args.count c.loop.counter here whole c.loop-test.false c.loop.invariant

@@ -1,5 +1,5 @@
 use Rattle.jbig2_region.specs.inner.RefinementViews.{reference_view}
-use Rattle.jbig2_text.specs.TextCoding.{Refining}
+use Rattle.jbig2_text.specs.Refining.{Refining}
 use Rattle.jbig2_text.proofs.RefiningLemmas.{refined-holds, coder-is}
 use Rattle.jbig2_text.proofs.text.refining.refine_by.Goals as goal
 

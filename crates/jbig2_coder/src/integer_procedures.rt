@@ -1,0 +1,108 @@
+//! The integer procedures of text regions and symbol dictionaries, which share a coder (T.88, A.2).
+
+ghost use Rattle.std.specs.Prelude.{◌≡◌, ◌+◌, ◌<◌, length, Ok};
+ghost use Rattle.jbig2_base.specs.Answer.{Gives};
+ghost use Rattle.jbig2_coder.specs.Procedures.{asked, asked_integer, fresh_procedures, index_of};
+
+use crate::arithmetic_decoder::ArithmeticDecoder;
+use crate::integer_decoder::IntegerDecoder;
+use jbig2_base::bitmap::steps::Steps;
+use jbig2_base::error::Result;
+use std::alloc::Allocator;
+use std::marker::Model;
+use std::sync::ledger::Ledger;
+
+/// How many procedures there are.
+const PROCEDURES: usize = 13;
+
+/// What an integer says (T.88, 6.4 and 6.5).
+#[derive(Clone, Copy, Debug, PartialEq, Eq)]
+pub enum IntegerProcedure {
+    /// The number of instances of an aggregate symbol.
+    Iaai,
+    /// The difference in height of two height classes.
+    Iadh,
+    /// The difference in S of two instances of a strip.
+    Iads,
+    /// The difference in T of two strips.
+    Iadt,
+    /// The difference in width of two symbols.
+    Iadw,
+    /// A run of symbols that are exported, or are not.
+    Iaex,
+    /// The difference in S of the first instances of two strips.
+    Iafs,
+    /// T in a strip.
+    Iait,
+    /// How much higher a refined symbol is.
+    Iardh,
+    /// How much wider a refined symbol is.
+    Iardw,
+    /// How far a refined symbol lies to the right.
+    Iardx,
+    /// How far a refined symbol lies below.
+    Iardy,
+    /// Whether a symbol is refined.
+    Iari,
+}
+
+impl IntegerProcedure {
+    /// The procedure's number, from 0 on.
+    fn index(self) -> usize
+        ensures index { result ≡ index_of self }
+        ensures below { result < 13 }
+    {
+        self as usize
+    }
+}
+
+/// What the contexts of each procedure have learned.
+#[derive(Drop)]
+pub struct IntegerProcedures<A: Allocator> {
+    decoders: Vec<IntegerDecoder<A>, A>,
+}
+
+impl<A: Allocator> Model for IntegerProcedures<A> {
+    ghost use Rattle.std.specs.Prelude.{◌≡◌, length};
+    ghost use Rattle.jbig2_coder.specs.Procedures.{Procedures};
+
+    ghost Value = { Procedures };
+
+    ghost view = { λ s. s.decoders.items };
+
+    ghost invariant = { λ s. length s.decoders.items ≡ 13 };
+}
+
+impl<A: Allocator + Clone> IntegerProcedures<A> {
+    /// Procedures whose contexts know nothing yet.
+    ///
+    /// # Errors
+    /// `OutOfMemory` where the contexts find no room.
+    pub fn new(alloc: A) -> Result<IntegerProcedures<A>>
+        ensures { Gives (λ procedures. procedures) result (Ok fresh_procedures) }
+    {
+        let mut decoders = Vec::new(alloc.clone()?);
+        for _ in 0..PROCEDURES {
+            decoders.push(IntegerDecoder::new(alloc.clone()?)?)?;
+        }
+        Ok(IntegerProcedures { decoders })
+    }
+}
+
+impl<A: Allocator> IntegerProcedures<A> {
+    /// The next integer of a procedure, or `None` where it is out of band.
+    #[tactic(auto, unfolding(crate::specs::Procedures::asked))]
+    pub fn ask<L: Ledger>(
+        &mut self,
+        procedure: IntegerProcedure,
+        decoder: &mut ArithmeticDecoder<'_>,
+        steps: &mut Steps<L>,
+    ) -> Option<i32>
+        ensures value { result ≡ (asked procedure decoder.old self.old).value }
+        ensures coder { decoder.new ≡ (asked procedure decoder.old self.old).coder }
+        ensures procedures { self.new ≡ (asked procedure decoder.old self.old).procedures }
+        ensures steps { let taken = length (asked_integer procedure decoder.old self.old).reading.bits in steps.new ≡ record steps.old { decisions = steps.old.decisions + taken } }
+    {
+        self.decoders[procedure.index()].decode(decoder, steps)
+    }
+}

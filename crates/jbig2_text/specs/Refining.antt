@@ -1,0 +1,41 @@
+-- Symbols that are refined from others (T.88, 6.4.11): by the refinement template and the contexts of a region or a
+-- dictionary, which go on from symbol to symbol. Whoever reads lends them.
+use Rattle.std.specs.Prelude.{ℕ, false, List}
+use Rattle.jbig2_base.specs.Grid.{Grid}
+use Rattle.jbig2_coder.specs.Coder.{Coder, Context}
+use Rattle.jbig2_coder.specs.declared.arithmetic_decoder.registers.Registers.{Registers}
+use Rattle.jbig2_region.specs.Raster.{Region, no_pixels, fresh_contexts, so_far, decoded}
+use Rattle.jbig2_region.specs.Refinement.{Reference, refinement_bits, refinement_coding}
+use Rattle.jbig2_region.specs.declared.template.AdaptiveTemplatePixel.{AdaptiveTemplatePixel}
+use Rattle.jbig2_region.specs.declared.template.RefinementTemplate.{RefinementTemplate}
+
+-- How symbols are refined (SBRTEMPLATE, SBRAT), and what the contexts have learned.
+pub record Refining : Type 0 where
+  pub template : RefinementTemplate
+  pub pixels : List AdaptiveTemplatePixel
+  pub contexts : List Context
+
+abbrev pub fresh_refining : RefinementTemplate → List AdaptiveTemplatePixel → Refining
+fresh_refining template pixels =
+    record { template = template; pixels = pixels; contexts = fresh_contexts (refinement_bits template) }
+
+-- a symbol of this width and height, refined by a coder over these bytes (Table 12)
+unfoldable pub refined_by : Refining → Reference → ℕ → ℕ → List ℕ → Registers → Region
+refined_by f from width height bytes registers =
+    let coding = refinement_coding f.template false f.pixels from in
+    decoded coding width height bytes (no_pixels registers f.contexts)
+
+-- The symbol, and the coder and the contexts behind it.
+pub record Refined : Type 0 where
+  pub grid : Grid
+  pub coder : Coder
+  pub refining : Refining
+
+abbrev pub refined_with : Refining → Reference → ℕ → ℕ → Coder → Refined
+refined_with f from width height c =
+    let region = refined_by f from width height c.bytes c.registers in
+    record {
+      grid = so_far width height region.pixels;
+      coder = record c { registers = region.registers };
+      refining = record f { contexts = region.contexts };
+    }

@@ -1,0 +1,115 @@
+//! Symbols that are refined from others as their numbers are read (T.88, 6.4.11).
+ghost use Rattle.std.specs.Prelude.{◌≡◌, ◌≤◌, false, IfOk};
+ghost use Rattle.jbig2_base.specs.Answer.{Answers, Gives};
+ghost use Rattle.jbig2_base.specs.Grid.{blank};
+ghost use Rattle.jbig2_base.specs.Sizes.{blank_or_overflow};
+ghost use Rattle.jbig2_text.specs.Text.{Outline, refinement_deltas, refined_outline, refined_symbol};
+ghost use Rattle.jbig2_text.specs.inner.TextViews.{list_view, outline_view};
+
+use crate::text::numbers;
+use crate::text::readings::ReadInstances;
+use crate::text::refining::Refining;
+use crate::text::symbol_list::SymbolList;
+use jbig2_base::bitmap::Bitmap;
+use jbig2_base::bitmap::steps::Steps;
+use jbig2_base::error::{DecodeError, Result, SymbolError};
+use jbig2_region::generic_refinement::ReferenceBitmap;
+use std::alloc::Allocator;
+use std::sync::ledger::Ledger;
+
+/// How much wider and higher a refined symbol is (RDW, RDH), and how far it lies to the right and
+/// below (RDX, RDY).
+#[derive(Clone, Copy, Debug)]
+pub struct RefinementDeltas {
+    pub width: i32,
+    pub height: i32,
+    pub x: i32,
+    pub y: i32,
+}
+
+/// The size of a refined symbol, and where its reference lies.
+#[derive(Clone, Copy, Debug)]
+pub struct Outline {
+    pub width: u32,
+    pub height: u32,
+    pub dx: i32,
+    pub dy: i32,
+}
+
+#[tactic(auto, unfolding(crate::specs::Text::refinement_deltas))]
+fn read_deltas<R: ReadInstances, L: Ledger>(
+    readings: &mut R,
+    steps: &mut Steps<L>,
+) -> Result<RefinementDeltas>
+    ensures { let meant = refinement_deltas R.readings (R.state readings.old) in
+        Answers (λ deltas. (deltas, R.state readings.new)) result meant }
+{
+    let width = readings.width_delta(steps)?;
+    let height = readings.height_delta(steps)?;
+    let x = readings.x_delta(steps)?;
+    let y = readings.y_delta(steps)?;
+    Ok(RefinementDeltas {
+        width,
+        height,
+        x,
+        y,
+    })
+}
+
+/// The outline of a symbol that is refined from `from`.
+#[tactic(auto, unfolding(crate::specs::Text::refined_outline))]
+fn outline_of<B: Allocator>(from: &Bitmap<B>, deltas: &RefinementDeltas) -> Result<Outline>
+    ensures { Answers (λ o. outline_view o) result (refined_outline from.now deltas.now) }
+{
+    let width = numbers::refined_side(from.width(), deltas.width)?;
+    let height = numbers::refined_side(from.height(), deltas.height)?;
+    let dx = numbers::reference_offset(deltas.width, deltas.x)?;
+    let dy = numbers::reference_offset(deltas.height, deltas.y)?;
+    Ok(Outline {
+        width,
+        height,
+        dx,
+        dy,
+    })
+}
+
+/// A white bitmap for a refined symbol.
+fn new_symbol<M: Allocator>(alloc: M, width: u32, height: u32) -> Result<Bitmap<M>>
+    ensures value { Gives (λ b. b) result (blank_or_overflow width height false) }
+    ensures width { IfOk result (λ b. b.width ≡ width) }
+    ensures height { IfOk result (λ b. b.height ≡ height) }
+    ensures columns { IfOk result (λ b. b.width ≤ 65535) }
+    ensures rows { IfOk result (λ b. b.height ≤ 65535) }
+    ensures white { IfOk result (λ b. b ≡ blank b.width b.height false) }
+{
+    Bitmap::new(alloc, width, height)
+}
+
+/// A symbol that is refined from that of the id.
+#[tactic(auto, unfolding(crate::specs::Text::refined_symbol))]
+pub fn read_refined<R: ReadInstances, B: Allocator, M: Allocator, C: Allocator, L: Ledger>(
+    alloc: M,
+    readings: &mut R,
+    refining: &mut Refining<C>,
+    symbols: &SymbolList<'_, B>,
+    id: i64,
+    steps: &mut Steps<L>,
+) -> Result<Bitmap<M>>
+    ensures { let state = R.state readings.old in
+        let meant = refined_symbol R.readings (list_view symbols.now) id refining.old state in
+        Gives (λ g. (g, refining.new, R.state readings.new)) result meant }
+{
+    let Some(bitmap) = symbols.symbol(id) else {
+        return Err(DecodeError::Symbol(SymbolError::OutOfRange));
+    };
+    let deltas = read_deltas(readings, steps)?;
+    let outline = outline_of(bitmap, &deltas)?;
+    let mut refined = new_symbol(alloc, outline.width, outline.height)?;
+    let reference = ReferenceBitmap {
+        bitmap,
+        dx: outline.dx,
+        dy: outline.dy,
+    };
+    readings.refine(&reference, refining, &mut refined, steps)?;
+    Ok(refined)
+}
