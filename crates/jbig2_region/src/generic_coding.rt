@@ -165,7 +165,8 @@ pub fn decode_coded<A: Allocator, L: Ledger>(
 )
     requires fits { FitsTemplate adaptive.now template }
     requires ready { IsReady (context_bits template) bitmap.old contexts.old }
-    ensures holds { DecodesRegion (coding_of typical template (template_pixels template adaptive.now))
+    ensures holds { DecodesRegion
+        (coding_of typical template (template_pixels template adaptive.now))
         bitmap.old decoder.old contexts.old bitmap.new decoder.new contexts.new }
     ensures steps { CountsCoded template adaptive.now
         (coding_of typical template (template_pixels template adaptive.now))

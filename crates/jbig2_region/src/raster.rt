@@ -93,7 +93,8 @@ fn decode_pixel<C: PixelCoding, A: Allocator, L: Ledger>(
     requires columns { bitmap.old.width ≤ 65535 }
     requires rows { bitmap.old.height ≤ 65535 }
     requires contexts { length contexts.old ≡ 2 ^ C.bits coding.now }
-    ensures holds { GoesOn (row.y * bitmap.old.width + x) row.predicted (after_pixel (C.coding coding.now))
+    ensures holds { GoesOn (row.y * bitmap.old.width + x) row.predicted
+        (after_pixel (C.coding coding.now))
         bitmap.old decoder.old contexts.old bitmap.new decoder.new contexts.new }
     ensures width { bitmap.new.width ≡ bitmap.old.width }
     ensures height { bitmap.new.height ≡ bitmap.old.height }
@@ -121,7 +122,8 @@ fn decode_row<C: PixelCoding, A: Allocator, L: Ledger>(
     requires columns { bitmap.old.width ≤ 65535 }
     requires rows { bitmap.old.height ≤ 65535 }
     requires contexts { length contexts.old ≡ 2 ^ C.bits coding.now }
-    ensures holds { GoesOn (row.y * bitmap.old.width) row.predicted (λ w h bytes r. after_pixels (C.coding coding.now) w h bytes w r)
+    ensures holds { GoesOn (row.y * bitmap.old.width) row.predicted
+        (λ w h bytes r. after_pixels (C.coding coding.now) w h bytes w r)
         bitmap.old decoder.old contexts.old bitmap.new decoder.new contexts.new }
     ensures width { bitmap.new.width ≡ bitmap.old.width }
     ensures height { bitmap.new.height ≡ bitmap.old.height }

@@ -94,7 +94,8 @@ impl<B: Allocator> RefinementCoding<'_, B> {
     ) -> u8
         requires column { x < 65536 }
         requires row { y < 65536 }
-        ensures { result ≡ bit_number (reference_pixel (reference_view self.now.reference.now) x y place) }
+        ensures { result ≡ bit_number
+            (reference_pixel (reference_view self.now.reference.now) x y place) }
     {
         far_pixel(
             self.reference.bitmap,
@@ -206,7 +207,8 @@ pub fn decode_bitmap<A: Allocator, B: Allocator, L: Ledger>(
     steps: &mut Steps<L>,
 )
     requires { IsReady (refinement_bits template) bitmap.old contexts.old }
-    ensures holds { DecodesRegion (refinement_coding template typical adaptive.now (reference_view reference.now))
+    ensures holds { DecodesRegion
+        (refinement_coding template typical adaptive.now (reference_view reference.now))
         bitmap.old decoder.old contexts.old bitmap.new decoder.new contexts.new }
 {
     match template {

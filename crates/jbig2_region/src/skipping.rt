@@ -27,7 +27,8 @@ pub fn decode_skipping<M: Allocator, A: Allocator, L: Ledger>(
     steps: &mut Steps<L>,
 )
     requires { IsReady (context_bits template) bitmap.old contexts.old }
-    ensures holds { DecodesRegion (skipping_coding (template_pixels template (Regular adaptive.now)) (skip_of skip.entry))
+    ensures holds { DecodesRegion
+        (skipping_coding (template_pixels template (Regular adaptive.now)) (skip_of skip.entry))
         bitmap.old decoder.old contexts.old bitmap.new decoder.new contexts.new }
 {
     let pixels = TemplatePixels::regular(template, adaptive);
