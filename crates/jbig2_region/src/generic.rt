@@ -44,7 +44,8 @@ pub struct GenericRegionHeader<'a> {
 /// The number of rows, which may replace `height`, and the coded bytes.
 #[tactic(auto, unfolding(crate::specs::GenericHeader::rows_at))]
 fn rows<'a>(unknown_length: bool, height: u32, bytes: &'a [u8]) -> Result<(u32, &'a [u8])>
-    ensures { Answers (λ rows. (rows.0, rows.1.now)) result (rows_at unknown_length height bytes.now) }
+    ensures { Answers (λ rows. (rows.0, rows.1.now)) result
+        (rows_at unknown_length height bytes.now) }
 {
     if !unknown_length {
         return Ok((height, bytes));
@@ -120,7 +121,8 @@ pub fn decode_into<A: Allocator, B: Allocator, L: Ledger>(
     requires parsed { IsParsed (header_view header.now) }
     requires white { IsWhiteFor header.now.region_info bitmap.old }
     ensures value { Gives (λ _. bitmap.new) result (generic_answer (header_view header.now)) }
-    ensures contexts { Leaves result contexts.new.items (contexts_after (header_view header.now) contexts.old.items) }
+    ensures contexts { Leaves result contexts.new.items
+        (contexts_after (header_view header.now) contexts.old.items) }
     ensures steps { OnOk result (CountsGeneric (header_view header.now) steps.old steps.new) }
 {
     if header.mmr {
@@ -152,7 +154,8 @@ pub fn decode<A: Allocator, B: Allocator, L: Ledger>(
 ) -> Result<DecodedRegion<A>>
     requires { IsParsed (header_view header.now) }
     ensures value { Gives region_view result (generic_decoded (header_view header.now)) }
-    ensures contexts { Leaves result contexts.new.items (contexts_after (header_view header.now) contexts.old.items) }
+    ensures contexts { Leaves result contexts.new.items
+        (contexts_after (header_view header.now) contexts.old.items) }
     ensures steps { OnOk result (CountsGeneric (header_view header.now) steps.old steps.new) }
 {
     let region_info = &header.region_info;

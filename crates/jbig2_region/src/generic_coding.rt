@@ -1,8 +1,8 @@
 //! How generic regions are coded (T.88, 6.2.5.3 to 6.2.5.7): their contexts, and the pixels that take no
 //! decision.
 ghost use Rattle.std.specs.Prelude.{◌≡◌, ◌+◌, ◌*◌, ◌^◌, ◌<◌, ◌≤◌, length, pos, negsuc, ◌+ℤ◌, false};
-ghost use Rattle.jbig2_base.specs.Grid.{blank, pixel, bit_number};
-ghost use Rattle.jbig2_region.specs.inner.Holds.{DecodesRegion};
+ghost use Rattle.jbig2_base.specs.Grid.{pixel, bit_number};
+ghost use Rattle.jbig2_region.specs.inner.Holds.{DecodesRegion, IsReady};
 ghost use Rattle.jbig2_region.specs.Raster.{no_pixels};
 ghost use Rattle.jbig2_region.specs.Generic.{context_at, coding_of};
 ghost use Rattle.jbig2_region.specs.Skipping.{skip_of, white_if_skipped};
@@ -12,7 +12,7 @@ ghost use Rattle.jbig2_region.specs.Templates.{FitsTemplate, context_bits, is_no
 ghost use Rattle.jbig2_region.specs.declared.template.GenericTemplatePixels.TheVariants.{Regular};
 
 use crate::generic_kernel::decode_layout;
-use crate::raster::{PixelCoding, decode_region, pixel_at};
+use crate::raster::{PixelCoding, Row, decode_region, pixel_at};
 use crate::template::generic::{extended_template_0, typical_context};
 use crate::template::layouts::layout_of;
 use crate::template::{AdaptiveTemplatePixel, GenericTemplatePixels, Template};
@@ -136,16 +136,15 @@ impl<M: Allocator> PixelCoding for GenericCoding<'_, M> {
     #[inline(always)]
     fn known_colour<A: Allocator, L: Ledger>(
         &self,
-        predicted: bool,
-        bitmap: &Bitmap<A>,
+        row: Row,
         x: u32,
-        y: u32,
+        bitmap: &Bitmap<A>,
         steps: &mut Steps<L>,
     ) -> Option<bool> {
-        if predicted {
-            return Some(colour_above(bitmap, x, y, steps));
+        if row.predicted {
+            return Some(colour_above(bitmap, x, row.y, steps));
         }
-        white_if_skipped(self.skip, x, y, steps)
+        white_if_skipped(self.skip, x, row.y, steps)
     }
 
     fn row_context(&self) -> Option<u32> {
@@ -165,11 +164,9 @@ pub fn decode_coded<A: Allocator, L: Ledger>(
     steps: &mut Steps<L>,
 )
     requires fits { FitsTemplate adaptive.now template }
-    requires columns { bitmap.old.width ≤ 65535 }
-    requires rows { bitmap.old.height ≤ 65535 }
-    requires white { bitmap.old ≡ blank bitmap.old.width bitmap.old.height false }
-    requires contexts { length contexts.old ≡ 2 ^ context_bits template }
-    ensures holds { DecodesRegion (coding_of typical template (template_pixels template adaptive.now))
+    requires ready { IsReady (context_bits template) bitmap.old contexts.old }
+    ensures holds { DecodesRegion
+        (coding_of typical template (template_pixels template adaptive.now))
         bitmap.old decoder.old contexts.old bitmap.new decoder.new contexts.new }
     ensures steps { CountsCoded template adaptive.now
         (coding_of typical template (template_pixels template adaptive.now))

@@ -52,7 +52,8 @@ pub struct ReferenceBitmap<'a, B: Allocator> {
 #[tactic(auto, unfolding(crate::specs::RefinementHeader::refinement_header_at))]
 pub fn parse<'a>(reader: &mut Reader<'a>) -> Result<GenericRefinementRegionHeader<'a>>
     requires { IsAligned reader.old }
-    ensures parses { Parses reader.old reader.new result header_view (refinement_header_at reader.old.bytes) }
+    ensures parses { Parses reader.old reader.new result header_view
+        (refinement_header_at reader.old.bytes) }
     ensures parsed { IfOk result (λ h. IsRefinement (header_view h)) }
 {
     let mut ahead = reader.duplicate();
@@ -165,7 +166,8 @@ pub fn decode<A: Allocator, B: Allocator, C: Allocator, L: Ledger>(
     steps: &mut Steps<L>,
 ) -> Result<DecodedRegion<A>>
     requires { IsRefinement (header_view header.now) }
-    ensures value { Gives region_view result (refined_decoded (header_view header.now) (region_view reference.now)) }
+    ensures value { Gives region_view result
+        (refined_decoded (header_view header.now) (region_view reference.now)) }
     ensures contexts { Leaves result contexts.new.items
         (refined_contexts (header_view header.now) (region_view reference.now) contexts.old.items) }
 {

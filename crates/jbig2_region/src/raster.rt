@@ -2,9 +2,9 @@
 //! refinements have in common.
 ghost use Rattle.std.specs.Prelude.{◌≡◌, ℕ, ◌+◌, ◌*◌, ◌^◌, ◌<◌, ◌≤◌, [], length, IfSome, false, Ok};
 ghost use Rattle.jbig2_base.specs.Answer.{Gives};
-ghost use Rattle.jbig2_base.specs.Grid.{Grid, blank, pixel, bit_number};
+ghost use Rattle.jbig2_base.specs.Grid.{Grid, pixel, bit_number};
 ghost use Rattle.jbig2_region.specs.Raster.{Coding, Region, after_pixel, after_pixels, row_decisions, decoded, fresh_contexts};
-ghost use Rattle.jbig2_region.specs.inner.Holds.{Holds, BeginsRow, DecodesRegion, GoesOn};
+ghost use Rattle.jbig2_region.specs.inner.Holds.{Holds, BeginsRow, DecodesRegion, GoesOn, IsReady};
 
 use jbig2_base::bitmap::Bitmap;
 use jbig2_base::bitmap::steps::Steps;
@@ -12,6 +12,14 @@ use jbig2_base::error::Result;
 use jbig2_coder::arithmetic_decoder::{ArithmeticDecoder, ArithmeticDecoderContext};
 use std::alloc::Allocator;
 use std::sync::ledger::Ledger;
+
+/// A row in the making.
+#[derive(Clone, Copy)]
+pub struct Row {
+    pub y: u32,
+    /// Whether typical prediction has it predicted from what is known already.
+    pub predicted: bool,
+}
 
 /// How the pixels of a region are coded.
 pub trait PixelCoding {
@@ -32,19 +40,18 @@ pub trait PixelCoding {
         ensures value { result ≡ (coding self.now).context bitmap.now x y }
         ensures small { result < 2 ^ bits self.now };
 
-    /// The colour that the pixel at column `x` of row `y` takes without a decision, if any (`true`
-    /// is black), where its row is predicted if `predicted` says so.
+    /// The colour that the pixel at column `x` of a row takes without a decision, if any (`true` is
+    /// black).
     fn known_colour<A: Allocator, L: Ledger>(
         &self,
-        predicted: bool,
-        bitmap: &Bitmap<A>,
+        row: Row,
         x: u32,
-        y: u32,
+        bitmap: &Bitmap<A>,
         steps: &mut Steps<L>,
     ) -> Option<bool>
         requires column { x < 65536 }
-        requires row { y < 65536 }
-        ensures { result ≡ (coding self.now).known predicted bitmap.now x y };
+        requires row { row.y < 65536 }
+        ensures { result ≡ (coding self.now).known row.predicted bitmap.now x row.y };
 
     /// With typical prediction, the number of the context of the decision that begins a row.
     fn row_context(&self) -> Option<u32>
@@ -70,60 +77,60 @@ pub fn pixel_at<A: Allocator, L: Ledger>(
     bitmap.get_pixel(column as u32, row as u32, steps)
 }
 
-/// The next pixel of a region, at column `x` of row `y`.
+/// The next pixel of a region, at column `x` of a row.
 #[inline(always)]
 fn decode_pixel<C: PixelCoding, A: Allocator, L: Ledger>(
     coding: &C,
-    bitmap: &mut Bitmap<A>,
+    row: Row,
     x: u32,
-    y: u32,
-    predicted: bool,
+    bitmap: &mut Bitmap<A>,
     decoder: &mut ArithmeticDecoder<'_>,
     contexts: &mut [ArithmeticDecoderContext],
     steps: &mut Steps<L>,
 )
     requires column { x < bitmap.old.width }
-    requires row { y < bitmap.old.height }
+    requires row { row.y < bitmap.old.height }
     requires columns { bitmap.old.width ≤ 65535 }
     requires rows { bitmap.old.height ≤ 65535 }
     requires contexts { length contexts.old ≡ 2 ^ C.bits coding.now }
-    ensures holds { GoesOn (y * bitmap.old.width + x) predicted (after_pixel (C.coding coding.now))
+    ensures holds { GoesOn (row.y * bitmap.old.width + x) row.predicted
+        (after_pixel (C.coding coding.now))
         bitmap.old decoder.old contexts.old bitmap.new decoder.new contexts.new }
     ensures width { bitmap.new.width ≡ bitmap.old.width }
     ensures height { bitmap.new.height ≡ bitmap.old.height }
     ensures bytes { decoder.new.bytes ≡ decoder.old.bytes }
 {
-    if let Some(colour) = coding.known_colour(predicted, bitmap, x, y, steps) {
-        bitmap.set_pixel(x, y, colour, steps);
+    if let Some(colour) = coding.known_colour(row, x, bitmap, steps) {
+        bitmap.set_pixel(x, row.y, colour, steps);
         return;
     }
-    let context = coding.context(bitmap, x, y, steps);
+    let context = coding.context(bitmap, x, row.y, steps);
     let symbol = decoder.decode(&mut contexts[context as usize], steps);
-    bitmap.set_pixel(x, y, symbol == 1, steps);
+    bitmap.set_pixel(x, row.y, symbol == 1, steps);
 }
 
-/// Row `y` of a region, whose rows above are decoded.
+/// A row of a region, whose rows above are decoded.
 fn decode_row<C: PixelCoding, A: Allocator, L: Ledger>(
     coding: &C,
+    row: Row,
     bitmap: &mut Bitmap<A>,
-    y: u32,
-    predicted: bool,
     decoder: &mut ArithmeticDecoder<'_>,
     contexts: &mut [ArithmeticDecoderContext],
     steps: &mut Steps<L>,
 )
-    requires row { y < bitmap.old.height }
+    requires row { row.y < bitmap.old.height }
     requires columns { bitmap.old.width ≤ 65535 }
     requires rows { bitmap.old.height ≤ 65535 }
     requires contexts { length contexts.old ≡ 2 ^ C.bits coding.now }
-    ensures holds { GoesOn (y * bitmap.old.width) predicted (λ w h bytes r. after_pixels (C.coding coding.now) w h bytes w r)
+    ensures holds { GoesOn (row.y * bitmap.old.width) row.predicted
+        (λ w h bytes r. after_pixels (C.coding coding.now) w h bytes w r)
         bitmap.old decoder.old contexts.old bitmap.new decoder.new contexts.new }
     ensures width { bitmap.new.width ≡ bitmap.old.width }
     ensures height { bitmap.new.height ≡ bitmap.old.height }
     ensures bytes { decoder.new.bytes ≡ decoder.old.bytes }
 {
     for x in 0..bitmap.width() {
-        decode_pixel(coding, bitmap, x, y, predicted, decoder, contexts, steps);
+        decode_pixel(coding, row, x, bitmap, decoder, contexts, steps);
     }
 }
 
@@ -162,10 +169,7 @@ pub fn decode_region<C: PixelCoding, A: Allocator, L: Ledger>(
     contexts: &mut [ArithmeticDecoderContext],
     steps: &mut Steps<L>,
 )
-    requires columns { bitmap.old.width ≤ 65535 }
-    requires rows { bitmap.old.height ≤ 65535 }
-    requires white { bitmap.old ≡ blank bitmap.old.width bitmap.old.height false }
-    requires contexts { length contexts.old ≡ 2 ^ C.bits coding.now }
+    requires { IsReady (C.bits coding.now) bitmap.old contexts.old }
     ensures holds { DecodesRegion (C.coding coding.now)
         bitmap.old decoder.old contexts.old bitmap.new decoder.new contexts.new }
     ensures empty { bitmap.old.width * bitmap.old.height ≡ 0 → steps.new ≡ steps.old }
@@ -176,7 +180,14 @@ pub fn decode_region<C: PixelCoding, A: Allocator, L: Ledger>(
     let mut predicted = false;
     for y in 0..bitmap.height() {
         predicted = begin_row(coding.row_context(), predicted, decoder, contexts, steps);
-        decode_row(coding, bitmap, y, predicted, decoder, contexts, steps);
+        decode_row(
+            coding,
+            Row { y, predicted },
+            bitmap,
+            decoder,
+            contexts,
+            steps,
+        );
     }
 }
 

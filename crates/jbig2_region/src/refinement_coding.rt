@@ -1,15 +1,15 @@
 //! The contexts of refinements (T.88, 6.3.5.3 to 6.3.5.6).
-ghost use Rattle.std.specs.Prelude.{◌≡◌, ◌+◌, ◌^◌, ◌<◌, ◌≤◌, ◌++◌, Bool, List, length, map, pos, ◌+ℤ◌, ◌-ℤ◌, ◌<ℤ◌, false};
-ghost use Rattle.jbig2_base.specs.Grid.{blank, pixel, bit_number};
+ghost use Rattle.std.specs.Prelude.{◌≡◌, ◌+◌, ◌^◌, ◌<◌, ◌≤◌, ◌++◌, Bool, List, length, map, pos, ◌+ℤ◌, ◌-ℤ◌, ◌<ℤ◌};
+ghost use Rattle.jbig2_base.specs.Grid.{pixel, bit_number};
 ghost use Rattle.jbig2_region.specs.Generic.{number_of};
-ghost use Rattle.jbig2_region.specs.inner.Holds.{DecodesRegion};
+ghost use Rattle.jbig2_region.specs.inner.Holds.{DecodesRegion, IsReady};
 ghost use Rattle.jbig2_region.specs.inner.RefinementViews.{reference_view};
 ghost use Rattle.jbig2_region.specs.Refinement.{nine, common_colour, reference_pixel, refinement_coding};
 ghost use Rattle.jbig2_region.specs.RefinementTemplates.{refinement_bits};
 
 use crate::generic_coding::context_at;
 use crate::generic_refinement::ReferenceBitmap;
-use crate::raster::{PixelCoding, decode_region};
+use crate::raster::{PixelCoding, Row, decode_region};
 use crate::template::refinement::{reference_0, reference_1, region_0, region_1, row_context};
 use crate::template::{AdaptiveTemplatePixel, RefinementTemplate, pixel};
 use jbig2_base::bitmap::Bitmap;
@@ -94,7 +94,8 @@ impl<B: Allocator> RefinementCoding<'_, B> {
     ) -> u8
         requires column { x < 65536 }
         requires row { y < 65536 }
-        ensures { result ≡ bit_number (reference_pixel (reference_view self.now.reference.now) x y place) }
+        ensures { result ≡ bit_number
+            (reference_pixel (reference_view self.now.reference.now) x y place) }
     {
         far_pixel(
             self.reference.bitmap,
@@ -173,16 +174,15 @@ impl<B: Allocator> PixelCoding for RefinementCoding<'_, B> {
     #[inline(always)]
     fn known_colour<A: Allocator, L: Ledger>(
         &self,
-        predicted: bool,
-        _bitmap: &Bitmap<A>,
+        row: Row,
         x: u32,
-        y: u32,
+        _bitmap: &Bitmap<A>,
         steps: &mut Steps<L>,
     ) -> Option<bool> {
-        if !predicted {
+        if !row.predicted {
             return None;
         }
-        self.common_colour(x, y, steps)
+        self.common_colour(x, row.y, steps)
     }
 
     fn row_context(&self) -> Option<u32> {
@@ -206,11 +206,9 @@ pub fn decode_bitmap<A: Allocator, B: Allocator, L: Ledger>(
     contexts: &mut [ArithmeticDecoderContext],
     steps: &mut Steps<L>,
 )
-    requires columns { bitmap.old.width ≤ 65535 }
-    requires rows { bitmap.old.height ≤ 65535 }
-    requires white { bitmap.old ≡ blank bitmap.old.width bitmap.old.height false }
-    requires contexts { length contexts.old ≡ 2 ^ refinement_bits template }
-    ensures holds { DecodesRegion (refinement_coding template typical adaptive.now (reference_view reference.now))
+    requires { IsReady (refinement_bits template) bitmap.old contexts.old }
+    ensures holds { DecodesRegion
+        (refinement_coding template typical adaptive.now (reference_view reference.now))
         bitmap.old decoder.old contexts.old bitmap.new decoder.new contexts.new }
 {
     match template {

@@ -1,14 +1,12 @@
 //! Generic regions of which pixels are skipped (T.88, 6.2.5.7), as the planes of a gray-scale image.
-ghost use Rattle.std.specs.Prelude.{◌≡◌, ◌^◌, ◌≤◌, length, false};
-ghost use Rattle.jbig2_base.specs.Grid.{blank};
-ghost use Rattle.jbig2_region.specs.inner.Holds.{DecodesRegion};
+ghost use Rattle.jbig2_region.specs.inner.Holds.{DecodesRegion, IsReady};
 ghost use Rattle.jbig2_region.specs.Skipping.{skipping_coding, skip_of};
 ghost use Rattle.jbig2_region.specs.Templates.{context_bits, template_pixels};
 ghost use Rattle.jbig2_region.specs.declared.template.GenericTemplatePixels.TheVariants.{Regular};
 
 use crate::generic_coding::GenericCoding;
 use crate::raster::decode_region;
-use crate::template::generic::TemplatePixels;
+use crate::template::pixels::TemplatePixels;
 use crate::template::{AdaptiveTemplatePixel, Template};
 use jbig2_base::bitmap::Bitmap;
 use jbig2_base::bitmap::steps::Steps;
@@ -28,11 +26,9 @@ pub fn decode_skipping<M: Allocator, A: Allocator, L: Ledger>(
     contexts: &mut [ArithmeticDecoderContext],
     steps: &mut Steps<L>,
 )
-    requires columns { bitmap.old.width ≤ 65535 }
-    requires rows { bitmap.old.height ≤ 65535 }
-    requires white { bitmap.old ≡ blank bitmap.old.width bitmap.old.height false }
-    requires contexts { length contexts.old ≡ 2 ^ context_bits template }
-    ensures holds { DecodesRegion (skipping_coding (template_pixels template (Regular adaptive.now)) (skip_of skip.entry))
+    requires { IsReady (context_bits template) bitmap.old contexts.old }
+    ensures holds { DecodesRegion
+        (skipping_coding (template_pixels template (Regular adaptive.now)) (skip_of skip.entry))
         bitmap.old decoder.old contexts.old bitmap.new decoder.new contexts.new }
 {
     let pixels = TemplatePixels::regular(template, adaptive);

@@ -8,6 +8,7 @@ pub(crate) mod adaptive;
 pub(crate) mod generic;
 pub(crate) mod layouts;
 pub(crate) mod neighbours;
+pub(crate) mod pixels;
 pub(crate) mod refinement;
 
 /// Which pixels a context is made from.

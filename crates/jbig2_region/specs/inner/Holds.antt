@@ -1,8 +1,15 @@
 -- What the decoder holds of a region in the making (our own rule).
-use Rattle.std.specs.Prelude.{◌≡◌, ℕ, Bool, List, Option, length}
-use Rattle.jbig2_base.specs.Grid.{Grid}
+use Rattle.std.specs.Prelude.{◌≡◌, ◌≤◌, ◌^◌, ℕ, Bool, false, List, Option, length}
+use Rattle.jbig2_base.specs.Grid.{Grid, blank}
 use Rattle.jbig2_coder.specs.Coder.{Coder, Context}
 use Rattle.jbig2_region.specs.Raster.{Coding, Region, so_far, row_begun, decoded, no_pixels}
+
+-- A white bitmap of no longer sides than a region may have, and so many contexts as a number of these bits tells apart.
+pub record IsReady (bits : ℕ) (grid : Grid) (states : List Context) : Type 0 where
+  pub columns : grid.width ≤ 65535
+  pub rows : grid.height ≤ 65535
+  pub white : grid ≡ blank grid.width grid.height false
+  pub contexts : length states ≡ 2 ^ bits
 
 pub record Holds (w h : ℕ) (input : List ℕ) (r : Region) (grid : Grid) (coder : Coder) (states : List Context) : Type 0 where
   pub pixels : grid ≡ so_far w h r.pixels

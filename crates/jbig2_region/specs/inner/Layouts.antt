@@ -8,8 +8,6 @@ use Rattle.jbig2_region.specs.inner.Neighbours.{IsMixed, adaptive_count, mixed_c
 use Rattle.jbig2_region.specs.Raster.{Coding, Region, no_pixels, fresh_contexts}
 use Rattle.jbig2_region.specs.RunBytes.{CountsRegion}
 use Rattle.jbig2_region.specs.Templates.{context_bits, is_nominal, template_pixels}
-use Rattle.jbig2_region.specs.declared.template.generic.TemplatePixels.{TemplatePixels}
-use Rattle.jbig2_region.specs.declared.template.generic.TemplatePixels.TheVariants.{Ten, Thirteen, Sixteen}
 use Rattle.jbig2_region.specs.declared.template.neighbours.Adaptives.{Adaptives}
 use Rattle.jbig2_region.specs.declared.template.neighbours.Neighbours.{Neighbours}
 use Rattle.jbig2_region.specs.declared.template.AdaptiveTemplatePixel.{AdaptiveTemplatePixel}
@@ -17,12 +15,6 @@ use Rattle.jbig2_region.specs.declared.template.GenericTemplatePixels.{GenericTe
 use Rattle.jbig2_region.specs.declared.template.GenericTemplatePixels.TheVariants.{Regular, Extended}
 use Rattle.jbig2_region.specs.declared.template.Template.{Template}
 use Rattle.jbig2_region.specs.declared.template.Template.TheVariants.{Template0, Template1, Template2, Template3}
-
--- all of a template's pixels, in a list of one of three lengths
-abbrev pub pixels_of : TemplatePixels → List AdaptiveTemplatePixel
-pixels_of (Ten pixels) = pixels
-pixels_of (Thirteen pixels) = pixels
-pixels_of (Sixteen pixels) = pixels
 
 abbrev pub neighbours_of : ℕ → ℕ → ℕ → ℕ → ℕ → Neighbours
 neighbours_of left above_reach above_count top_reach top_count = record { left = left; above = record { reach = above_reach; count = above_count }; top = record { reach = top_reach; count = top_count } }

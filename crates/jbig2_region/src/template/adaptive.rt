@@ -15,7 +15,8 @@ use jbig2_base::reader::Reader;
 #[tactic(auto, unfolding(crate::specs::Templates::free_pixel_at))]
 fn parse_free_pixel(reader: &mut Reader<'_>) -> Result<AdaptiveTemplatePixel>
     requires { IsAligned reader.old }
-    ensures value { Answers (λ pixel. (pixel, reader.new.bytes)) result (free_pixel_at reader.old.bytes) }
+    ensures value { Answers (λ pixel. (pixel, reader.new.bytes)) result
+        (free_pixel_at reader.old.bytes) }
     ensures aligned { IsAligned reader.new }
     ensures shorter { OnOk result (length reader.new.bytes ≤ length reader.old.bytes) }
 {
@@ -35,7 +36,8 @@ fn is_earlier(pixel: AdaptiveTemplatePixel) -> bool
 #[tactic(auto, unfolding(crate::specs::Templates::adaptive_pixel_at))]
 fn parse_adaptive_template_pixel(reader: &mut Reader<'_>) -> Result<AdaptiveTemplatePixel>
     requires { IsAligned reader.old }
-    ensures value { Answers (λ pixel. (pixel, reader.new.bytes)) result (adaptive_pixel_at reader.old.bytes) }
+    ensures value { Answers (λ pixel. (pixel, reader.new.bytes)) result
+        (adaptive_pixel_at reader.old.bytes) }
     ensures aligned { IsAligned reader.new }
     ensures shorter { OnOk result (length reader.new.bytes ≤ length reader.old.bytes) }
 {
@@ -48,7 +50,8 @@ fn parse_adaptive_template_pixel(reader: &mut Reader<'_>) -> Result<AdaptiveTemp
 
 fn parse_four(reader: &mut Reader<'_>) -> Result<[AdaptiveTemplatePixel; 4]>
     requires { IsAligned reader.old }
-    ensures value { Answers (λ pixels. (pixels, reader.new.bytes)) result (adaptive_pixels_at 4 reader.old.bytes) }
+    ensures value { Answers (λ pixels. (pixels, reader.new.bytes)) result
+        (adaptive_pixels_at 4 reader.old.bytes) }
     ensures aligned { IsAligned reader.new }
     ensures shorter { OnOk result (length reader.new.bytes ≤ length reader.old.bytes) }
 {
@@ -61,7 +64,8 @@ fn parse_four(reader: &mut Reader<'_>) -> Result<[AdaptiveTemplatePixel; 4]>
 
 fn parse_twelve(reader: &mut Reader<'_>) -> Result<[AdaptiveTemplatePixel; 12]>
     requires { IsAligned reader.old }
-    ensures value { Answers (λ pixels. (pixels, reader.new.bytes)) result (adaptive_pixels_at 12 reader.old.bytes) }
+    ensures value { Answers (λ pixels. (pixels, reader.new.bytes)) result
+        (adaptive_pixels_at 12 reader.old.bytes) }
     ensures aligned { IsAligned reader.new }
     ensures shorter { OnOk result (length reader.new.bytes ≤ length reader.old.bytes) }
 {

@@ -43,7 +43,7 @@ fn nominal_neighbours(template: Template) -> Neighbours
 }
 
 /// The pixels side by side of a template, its adaptive pixels left out.
-fn fixed_neighbours(template: Template) -> Neighbours
+pub fn fixed_neighbours(template: Template) -> Neighbours
     ensures { result ≡ fixed_neighbours template }
 {
     match template {
@@ -101,7 +101,7 @@ fn one_adaptive(a: &[AdaptiveTemplatePixel; 4]) -> Adaptives<'_>
     }
 }
 
-fn adaptives(template: Template, a: &[AdaptiveTemplatePixel; 4]) -> Adaptives<'_>
+pub fn adaptives(template: Template, a: &[AdaptiveTemplatePixel; 4]) -> Adaptives<'_>
     ensures { FitsAdaptives template a.now result }
 {
     match template {

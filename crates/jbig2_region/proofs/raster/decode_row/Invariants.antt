@@ -8,6 +8,6 @@ invariant-loop-x g l = record {
   width : l.bitmap.width ≡ l.initial.bitmap.width;
   height : l.bitmap.height ≡ l.initial.bitmap.height;
   bytes : l.decoder.bytes ≡ l.initial.decoder.bytes;
-  holds : (r : Region) → length r.pixels ≡ l.fn.y * l.initial.bitmap.width → r.predicted ≡ l.fn.predicted → Holds l.initial.bitmap.width l.initial.bitmap.height l.initial.decoder.bytes r l.initial.bitmap l.initial.decoder l.initial.contexts
+  holds : (r : Region) → length r.pixels ≡ l.fn.row.y * l.initial.bitmap.width → r.predicted ≡ l.fn.row.predicted → Holds l.initial.bitmap.width l.initial.bitmap.height l.initial.decoder.bytes r l.initial.bitmap l.initial.decoder l.initial.contexts
       → Holds l.initial.bitmap.width l.initial.bitmap.height l.initial.decoder.bytes (after_pixels (g.C.PixelCoding.coding l.fn.coding) l.initial.bitmap.width l.initial.bitmap.height l.initial.decoder.bytes l.x r) l.bitmap l.decoder l.contexts;
 }
