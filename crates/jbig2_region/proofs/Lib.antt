@@ -5,6 +5,7 @@ pub mod GenericLemmas
 pub mod RasterLemmas
 pub mod RefinementLemmas
 pub mod RegionLemmas
+pub mod RegisterLemmas
 pub mod RunLemmas
 pub mod RunSteps
 pub mod StepLemmas

@@ -12,6 +12,7 @@ ghost use Rattle.jbig2_region.specs.declared.template.AdaptiveTemplatePixel.{Ada
 
 mod bytes;
 mod pixels;
+mod runs;
 mod windows;
 
 use crate::generic_kernel::bytes::decode_row_by_bytes;
