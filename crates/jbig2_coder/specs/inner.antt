@@ -1,3 +1,4 @@
 pub mod EncoderViews
+pub mod Floor
 pub mod PrefixLevels
 pub mod Stands

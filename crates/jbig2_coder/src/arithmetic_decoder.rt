@@ -1,9 +1,10 @@
 //! The arithmetic decoder (T.88, Annexes E and G).
 
-ghost use Rattle.std.specs.Prelude.{◌≡◌, ◌+◌, ◌-◌, ◌*◌, ◌/◌, ◌^◌, ◌<◌, ◌≤◌, not, true, if◌then◌else◌};
+ghost use Rattle.std.specs.Prelude.{◌≡◌, ◌+◌, ◌-◌, ◌*◌, ◌/◌, ◌^◌, ◌<◌, ◌≤◌, not, true, false, max, if◌then◌else◌};
 ghost use Rattle.jbig2_base.specs.Grid.{bit_number};
 ghost use Rattle.jbig2_coder.specs.Table.{row_of};
 ghost use Rattle.jbig2_coder.specs.Coder.{fresh, byte_at, byte_in, renormed, started, choice, likely_next, unlikely_next, decision, all_quiet};
+ghost use Rattle.jbig2_coder.specs.inner.Floor.{floor_of};
 
 use crate::arithmetic_decoder::qe_table::{QeData, row_at};
 use crate::arithmetic_decoder::registers::{
@@ -122,22 +123,49 @@ impl ArithmeticDecoderContext {
     }
 }
 
+/// Where A has to stay for a decision to be quiet, by the code register C.
+#[inline(always)]
+fn floor_of(c: u32) -> u32
+    ensures { result ≡ floor_of c }
+{
+    ((c >> 16) + 1).max(0x8000)
+}
+
+/// How often `total` goes into `room`, but no more than `most` times.
+#[inline(always)]
+fn whole_groups(room: u32, total: u32, most: u32) -> u32
+    requires some { 1 ≤ total }
+    requires fits { total * most < 2 ^ 32 }
+    ensures most { result ≤ most }
+    ensures within { total * result ≤ room }
+    ensures last { result < most → room < total * (result + 1) }
+{
+    if room >= total * most {
+        return most;
+    }
+    room / total
+}
+
 /// Reads the decisions that an arithmetic coder wrote into a slice. Past the end of the slice every
 /// byte is FF.
 #[derive(Drop)]
 pub struct ArithmeticDecoder<'a> {
     bytes: &'a [u8],
     registers: Registers,
+    /// Where A has to stay for a decision to be quiet. It changes with C alone, so it is kept.
+    floor: u32,
 }
 
 impl<'a> Model for ArithmeticDecoder<'a> {
+    ghost use Rattle.std.specs.Prelude.{◌≡◌};
     ghost use Rattle.jbig2_coder.specs.Coder.{Coder, IsAtRest};
+    ghost use Rattle.jbig2_coder.specs.inner.Floor.{floor_of};
 
     ghost Value = { Coder };
 
     ghost view = { λ s. record { bytes = s.bytes.now; registers = s.registers } };
 
-    ghost invariant = { λ s. IsAtRest s.bytes.now s.registers };
+    ghost invariant = { λ s. IsAtRest s.bytes.now s.registers × (s.floor ≡ floor_of s.registers.code.c) };
 }
 
 impl<'a> ArithmeticDecoder<'a> {
@@ -149,16 +177,18 @@ impl<'a> ArithmeticDecoder<'a> {
     {
         let first = u32::from(!byte_at(bytes, 0)) << 16;
         let code = byte_in(bytes, first, 0);
+        let c = code.c << 7;
         ArithmeticDecoder {
             bytes,
             registers: Registers {
                 a: 0x8000,
                 code: CodeRegister {
-                    c: code.c << 7,
+                    c,
                     ct: code.ct - 7,
                     place: code.place,
                 },
             },
+            floor: floor_of(c),
         }
     }
 
@@ -177,12 +207,13 @@ impl<'a> ArithmeticDecoder<'a> {
     {
         steps.decision();
         let rest = self.registers.a - row_at(context.row).qe;
-        if self.registers.code.c >> 16 < rest && rest >= 0x8000 {
+        if rest >= self.floor {
             self.registers.a = rest;
             return u32::from(context.likely);
         }
         let symbol = context.exchange(&mut self.registers);
         self.registers = renormalize(self.bytes, self.registers);
+        self.floor = floor_of(self.registers.code.c);
         u32::from(symbol)
     }
 
@@ -203,11 +234,40 @@ impl<'a> ArithmeticDecoder<'a> {
     {
         steps.run_test();
         let total = row_at(context.row).qe * count;
-        let floor = ((self.registers.code.c >> 16) + 1).max(0x8000);
-        if self.registers.a < floor + total {
+        if self.registers.a < self.floor + total {
             return false;
         }
         self.registers.a -= total;
         true
+    }
+
+    /// How many groups of `count` decisions in `context`, but no more than `most`, are all the likely
+    /// symbol, each without a renormalization. They are taken. Each counts as a test for a run, and so
+    /// does a call that takes none.
+    #[inline(always)]
+    pub fn decode_mps_runs<L: Ledger>(
+        &mut self,
+        context: &ArithmeticDecoderContext,
+        count: u32,
+        most: u32,
+        steps: &mut Steps<L>,
+    ) -> u32
+        requires some { 1 ≤ count }
+        requires group { 1 ≤ most }
+        requires few { count * most ≤ 65535 }
+        ensures most { result ≤ most }
+        ensures quiet { all_quiet (count * result) self.old.bytes self.old.registers context.now ≡ true }
+        ensures last { result < most → all_quiet (count * (result + 1)) self.old.bytes self.old.registers context.now ≡ false }
+        ensures coder { self.new ≡ record self.old { registers = record self.old.registers { a = self.old.registers.a - count * result * (row_of context.now.row).qe } } }
+        ensures steps { steps.new ≡ record steps.old { run_tests = steps.old.run_tests + max result 1 } }
+    {
+        let total = row_at(context.row).qe * count;
+        let room = self.registers.a.saturating_sub(self.floor);
+        let groups = whole_groups(room, total, most);
+        for _ in 0..groups.max(1) {
+            steps.run_test();
+        }
+        self.registers.a -= total * groups;
+        groups
     }
 }

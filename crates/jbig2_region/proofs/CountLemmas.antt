@@ -1,5 +1,5 @@
 -- Counting decisions and run bytes.
-use Rattle.std.proofs.Common.{subst, ◌≡◌, ℕ, zero, suc, ◌+◌, ◌*◌, ◌%◌, ◌<◌, ◌≤◌, Bool, true, false, not, ◌||◌, eqb, ltb, List, length, Option, Some, None, refl, ap, ◌∙◌, ⊎_elim, arith}
+use Rattle.std.proofs.Common.{subst, ◌≡◌, ℕ, zero, suc, ◌+◌, ◌*◌, ◌/◌, ◌%◌, ◌<◌, ◌≤◌, Bool, true, false, not, ◌||◌, eqb, ltb, List, length, Option, Some, None, refl, ap, ◌∙◌, ⊎_elim, arith}
 use Rattle.std.proofs.Math.Bool.{or-false}
 use Rattle.std.proofs.lemmas.Bool.{cases_eq, cases_lt, eq-eqb, ne_eqb, lt-ltb, le-ltb, and_left, and_right}
 use Rattle.std.proofs.lemmas.Nat.{mod-mul-add}
@@ -65,7 +65,7 @@ last-runs template w h input (suc n) r x y len left last =
     let none : is_run_byte template w h input made ≡ false = not-run template w h input made (x + n) y size (omega arith) (λ _ more. omega arith) in
     rw none (omega (arith, last-runs template w h input n r x y len (omega arith) last))
 
-runs-add : (template : List AdaptiveTemplatePixel) (w h : ℕ) (input : List ℕ) (n m : ℕ) (r : Region) → run_bytes template w h input (n + m) r ≡ run_bytes template w h input n r + run_bytes template w h input m (after_pixels (row_coding template) w h input n r)
+pub runs-add : (template : List AdaptiveTemplatePixel) (w h : ℕ) (input : List ℕ) (n m : ℕ) (r : Region) → run_bytes template w h input (n + m) r ≡ run_bytes template w h input n r + run_bytes template w h input m (after_pixels (row_coding template) w h input n r)
 unfolding run_bytes
 runs-add template w h input n zero r =
     let same : n + 0 ≡ n = omega arith in
@@ -96,6 +96,14 @@ counts-last template x y n g d s before after is left last = λ w h input r len 
 
 pub counts-byte : (count after runs : ℕ) (t : Bool) → runs ≡ bit_number t → after + 8 * bit_number t ≡ count + 8 → after + 8 * runs ≡ count + 8
 counts-byte count after runs t is total = rw is total
+
+-- loads of windows, which serve four bytes each
+pub loads-on : (start before shown after done bytes : ℕ) → before ≤ start + 2 * ((done + 3) / 4) → shown ≤ before + 2 → (1 ≤ done % 4 → shown ≡ before) → after ≡ shown → 1 ≤ bytes → after ≤ start + 2 * ((done + bytes + 3) / 4)
+loads-on start before shown after done bytes so_far more kept same some =
+    ⊎_elim
+    (λ (first : done % 4 < 1). omega arith)
+    (λ (later : 1 ≤ done % 4). omega (arith, kept later))
+    (cases_lt (done % 4) 1)
 
 -- ---- a whole row
 pub row-nominal : (n : Neighbours) (adaptive : Option Adaptives) (p : Bool) (y : ℕ) (g : Grid) (d : Coder) (s : List Context) (before after : ℕ) → adaptive ≡ None → p ≡ false → CountsRuns (nominal_pixels n) 0 y g.width g d s before after → CountsRow (optional_pixels n adaptive) (is_nominal_layout adaptive) p y g d s before after

@@ -6,6 +6,7 @@ pub mod PixelLemmas
 pub mod RasterLemmas
 pub mod RefinementLemmas
 pub mod RegionLemmas
+pub mod RegisterLemmas
 pub mod RunLemmas
 pub mod RunSteps
 pub mod StepLemmas

@@ -61,7 +61,7 @@ so_far-push w h bits x y b len left above =
     ∙ pushed w bits x y i j b len left il)
 
 -- the next pixel, said by its column and its row
-after_pixel-at : (coding : Coding) (w h : ℕ) (input : List ℕ) (r : Region) (grid : Grid) (p : Bool) (x y : ℕ) → length r.pixels ≡ y * w + x → x < w → r.predicted ≡ p → grid ≡ so_far w h r.pixels → after_pixel coding w h input r ≡ with_next input r (coding.context grid x y) (coding.known p grid x y)
+pub after_pixel-at : (coding : Coding) (w h : ℕ) (input : List ℕ) (r : Region) (grid : Grid) (p : Bool) (x y : ℕ) → length r.pixels ≡ y * w + x → x < w → r.predicted ≡ p → grid ≡ so_far w h r.pixels → after_pixel coding w h input r ≡ with_next input r (coding.context grid x y) (coding.known p grid x y)
 unfolding after_pixel
 after_pixel-at coding w h input r grid p x y len left predicted same =
     let column : length r.pixels % w ≡ x = ap (λ (n : ℕ). n % w) len ∙ mod-mul-add y w x left in

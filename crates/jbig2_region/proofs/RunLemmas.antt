@@ -9,21 +9,23 @@ use Rattle.jbig2_base.specs.Grid.{Grid, pixel, pixel_at}
 use Rattle.jbig2_base.specs.inner.WordBits.{bit}
 use Rattle.jbig2_base.proofs.GridLemmas.{pixel_at-grid_of, pixel_at-right, pixel_at-below}
 use Rattle.jbig2_region.specs.Generic.{context_at}
-use Rattle.jbig2_region.specs.inner.Neighbours.{left_pixels, stretch_pixels, nominal_pixels, neighbours_stay, stretch_stays, is_field, neighbour_count, IsNear, IsLeft, IsWindow, Shows}
+use Rattle.jbig2_region.specs.inner.Neighbours.{left_pixels, stretch_pixels, nominal_pixels, neighbours_stay, stretch_stays, is_field, neighbour_count, IsNear, IsLeft, IsWindow, Shows, SameAbove}
 use Rattle.jbig2_coder.specs.Coder.{Coder, Context, fresh, all_quiet}
+use Rattle.jbig2_coder.specs.declared.arithmetic_decoder.registers.Registers.{Registers}
 use Rattle.jbig2_region.specs.inner.Holds.{Holds}
 use Rattle.jbig2_region.specs.Raster.{Region, so_far}
 use Rattle.jbig2_base.specs.Grid.{same_colour}
 use Rattle.jbig2_region.specs.RunBytes.{all_of, has_all, stays, is_run_of}
+use Rattle.jbig2_region.specs.inner.LongRuns.{is_run_for}
 use Rattle.jbig2_region.specs.declared.template.neighbours.Neighbours.{Neighbours}
 use Rattle.jbig2_region.specs.declared.template.neighbours.Stretch.{Stretch}
 use Rattle.jbig2_region.specs.declared.generic_kernel.windows.Windows.{Windows}
 use Rattle.jbig2_region.specs.declared.template.AdaptiveTemplatePixel.{AdaptiveTemplatePixel}
 use Rattle.jbig2_region.proofs.ContextBits.{context-append, context-lt_few, length-side}
 use Rattle.jbig2_region.proofs.UniformLemmas.{full, full-lt, full-add, full-black, full-white, field-gives, field-all, side-pixel, side-all, side-gives, same-parts}
-use Rattle.jbig2_region.proofs.WindowLemmas.{SameAbove, same-above, pixel-inside, pixel-left_of_all}
+use Rattle.jbig2_region.proofs.WindowLemmas.{same-above, pixel-inside, pixel-left_of_all}
 
-eq_from : (a b : Bool) → (a ≡ true → b ≡ true) → (b ≡ true → a ≡ true) → a ≡ b
+pub eq_from : (a b : Bool) → (a ≡ true → b ≡ true) → (b ≡ true → a ≡ true) → a ≡ b
 eq_from true b f g = sym (f refl)
 eq_from false true f g = g refl
 eq_from false false f g = refl
@@ -70,7 +72,7 @@ pub record Uniform (n : Neighbours) (g : Grid) (X y : ℕ) (c : Bool) : Type 0 w
   pub above : (i : ℕ) → i < n.above.count → side-pixel g X y (pos n.above.reach) 1 i ≡ c
   pub top : (i : ℕ) → i < n.top.count → side-pixel g X y (pos n.top.reach) 2 i ≡ c
 
-nominal-length : (n : Neighbours) → length (nominal_pixels n) ≡ neighbour_count n
+pub nominal-length : (n : Neighbours) → length (nominal_pixels n) ≡ neighbour_count n
 nominal-length n =
     length-append (left_pixels n) (stretch_pixels n.above 1 ++ stretch_pixels n.top 2)
     ∙ rw (length-append (stretch_pixels n.above 1) (stretch_pixels n.top 2), length-side (negsuc 0) 0 n.left, length-side (pos n.above.reach) 1 n.above.count, length-side (pos n.top.reach) 2 n.top.count) refl
@@ -115,46 +117,46 @@ old-column w h bits more x y m len =
     pixel-left_of_all (so_far w h (bits ++ more)) (pos x -ℤ pos (m + 1)) (pos y) (m - x) column ∙ sym (pixel-left_of_all (so_far w h bits) (pos x -ℤ pos (m + 1)) (pos y) (m - x) column))
     (cases_lt m x)
 
-stretch-field : (s : Stretch) (c : Bool) (word : ℕ) → stretch_stays s c word ≡ true → 1 ≤ s.count → is_field word (47 - s.reach) (s.count + 8) c ≡ true
-stretch-field s c word is some =
+stretch-field : (s : Stretch) (m : ℕ) (c : Bool) (word : ℕ) → stretch_stays s m c word ≡ true → 1 ≤ s.count → is_field word (55 - m - s.reach) (s.count + m) c ≡ true
+stretch-field s m c word is some =
     let none : eqb s.count 0 ≡ false = ne_eqb s.count 0 (λ e. omega arith) in
-    sym (cond-false (eqb s.count 0) true (is_field word (47 - s.reach) (s.count + 8) c) none) ∙ is
+    sym (cond-false (eqb s.count 0) true (is_field word (55 - m - s.reach) (s.count + m) c) none) ∙ is
 
-stretch-forward : (s : Stretch) (c : Bool) (word : ℕ) (g g' : Grid) (x y k rows i : ℕ) → s.reach ≤ 3 → s.count ≤ 7 → 1 ≤ rows → k ≤ 8 → SameAbove g g' y → IsWindow g x (pos y -ℤ pos rows) word → stretch_stays s c word ≡ true → i < s.count → side-pixel g' (x + k) y (pos s.reach) rows i ≡ c
-stretch-forward s c word g g' x y k rows i near few some within same shows is inside =
-    let place : 47 - s.reach + (8 - k + i) ≡ 63 - (8 + k + s.reach - i) = omega arith in
+stretch-forward : (s : Stretch) (m : ℕ) (c : Bool) (word : ℕ) (g g' : Grid) (x y k rows i seen : ℕ) → s.reach ≤ 3 → s.count ≤ 7 → 1 ≤ rows → k ≤ m → m ≤ 32 → m + 12 ≤ seen → SameAbove g g' y → IsWindow g x (pos y -ℤ pos rows) seen word → stretch_stays s m c word ≡ true → i < s.count → side-pixel g' (x + k) y (pos s.reach) rows i ≡ c
+stretch-forward s m c word g g' x y k rows i seen near few some within most wide same shows is inside =
+    let place : 55 - m - s.reach + (m - k + i) ≡ 63 - (8 + k + s.reach - i) = omega arith in
     let column : pos (x + (8 + k + s.reach - i)) -ℤ pos 8 ≡ pos (x + k) +ℤ (pos s.reach -ℤ pos i) = omega (arith, ints) in
     let row : pos y -ℤ pos rows ≡ pos y +ℤ (pos 0 -ℤ pos rows) = omega (arith, ints) in
     sym (
-    sym (field-gives word (47 - s.reach) (s.count + 8) (8 - k + i) c (stretch-field s c word is (omega arith)) (omega arith))
+    sym (field-gives word (55 - m - s.reach) (s.count + m) (m - k + i) c (stretch-field s m c word is (omega arith)) (omega arith))
     ∙ ap (λ (n : ℕ). bit word n) place ∙ shows (8 + k + s.reach - i) (omega arith) ∙ same-above g g' (pos (x + (8 + k + s.reach - i)) -ℤ pos 8) y rows some same
     ∙ ap (λ (z : ℤ). pixel g' z (pos y -ℤ pos rows)) column ∙ ap (λ (z : ℤ). pixel g' (pos (x + k) +ℤ (pos s.reach -ℤ pos i)) z) row
     )
 
 -- a bit of the window is a pixel of one of the contexts
-stretch-back : (s : Stretch) (c : Bool) (word : ℕ) (g g' : Grid) (x y k rows i j : ℕ) → s.reach ≤ 3 → s.count ≤ 7 → 1 ≤ rows → k ≤ 8 → SameAbove g g' y → IsWindow g x (pos y -ℤ pos rows) word → i < s.count → j ≡ 8 - k + i → side-pixel g' (x + k) y (pos s.reach) rows i ≡ c → bit word (47 - s.reach + j) ≡ c
-stretch-back s c word g g' x y k rows i j near few some within same shows inside is_place is =
-    let place : 47 - s.reach + j ≡ 63 - (8 + k + s.reach - i) = omega arith in
+stretch-back : (s : Stretch) (m : ℕ) (c : Bool) (word : ℕ) (g g' : Grid) (x y k rows i j seen : ℕ) → s.reach ≤ 3 → s.count ≤ 7 → 1 ≤ rows → k ≤ m → m ≤ 32 → m + 12 ≤ seen → SameAbove g g' y → IsWindow g x (pos y -ℤ pos rows) seen word → i < s.count → j ≡ m - k + i → side-pixel g' (x + k) y (pos s.reach) rows i ≡ c → bit word (55 - m - s.reach + j) ≡ c
+stretch-back s m c word g g' x y k rows i j seen near few some within most wide same shows inside is_place is =
+    let place : 55 - m - s.reach + j ≡ 63 - (8 + k + s.reach - i) = omega arith in
     let column : pos (x + (8 + k + s.reach - i)) -ℤ pos 8 ≡ pos (x + k) +ℤ (pos s.reach -ℤ pos i) = omega (arith, ints) in
     let row : pos y -ℤ pos rows ≡ pos y +ℤ (pos 0 -ℤ pos rows) = omega (arith, ints) in
     ap (λ (n : ℕ). bit word n) place ∙ shows (8 + k + s.reach - i) (omega arith) ∙ same-above g g' (pos (x + (8 + k + s.reach - i)) -ℤ pos 8) y rows some same
     ∙ ap (λ (z : ℤ). pixel g' z (pos y -ℤ pos rows)) column ∙ ap (λ (z : ℤ). pixel g' (pos (x + k) +ℤ (pos s.reach -ℤ pos i)) z) row ∙ is
 
--- Of each of the nine contexts: the pixels of a stretch.
-abbrev StretchAll : Stretch → ℕ → (ℕ → Grid) → ℕ → ℕ → Bool → Type 0
-StretchAll s rows grids x y c = (k i : ℕ) → k ≤ 8 → i < s.count → side-pixel (grids k) (x + k) y (pos s.reach) rows i ≡ c
+-- Of each of the contexts: the pixels of a stretch.
+abbrev StretchAll : Stretch → ℕ → ℕ → (ℕ → Grid) → ℕ → ℕ → Bool → Type 0
+StretchAll s m rows grids x y c = (k i : ℕ) → k ≤ m → i < s.count → side-pixel (grids k) (x + k) y (pos s.reach) rows i ≡ c
 
-stretch-all : (s : Stretch) (c : Bool) (word : ℕ) (g : Grid) (grids : ℕ → Grid) (x y rows : ℕ) → s.reach ≤ 3 → s.count ≤ 7 → 1 ≤ rows → ((k : ℕ) → SameAbove g (grids k) y) → IsWindow g x (pos y -ℤ pos rows) word → StretchAll s rows grids x y c → stretch_stays s c word ≡ true
-stretch-all s c word g grids x y rows near few some same shows all =
+stretch-all : (s : Stretch) (m : ℕ) (c : Bool) (word : ℕ) (g : Grid) (grids : ℕ → Grid) (x y rows seen : ℕ) → s.reach ≤ 3 → s.count ≤ 7 → 1 ≤ rows → m ≤ 32 → m + 12 ≤ seen → ((k : ℕ) → SameAbove g (grids k) y) → IsWindow g x (pos y -ℤ pos rows) seen word → StretchAll s m rows grids x y c → stretch_stays s m c word ≡ true
+stretch-all s m c word g grids x y rows seen near few some most wide same shows all =
     ⊎_elim
-    (λ (none : s.count ≡ 0). cond-true (eqb s.count 0) true (is_field word (47 - s.reach) (s.count + 8) c) (eq-eqb s.count 0 none))
+    (λ (none : s.count ≡ 0). cond-true (eqb s.count 0) true (is_field word (55 - m - s.reach) (s.count + m) c) (eq-eqb s.count 0 none))
     (λ (other : s.count ≡ 0 → ⊥).
-    cond-false (eqb s.count 0) true (is_field word (47 - s.reach) (s.count + 8) c) (ne_eqb s.count 0 other)
-    ∙ field-all word (47 - s.reach) (s.count + 8) c (λ j inside.
+    cond-false (eqb s.count 0) true (is_field word (55 - m - s.reach) (s.count + m) c) (ne_eqb s.count 0 other)
+    ∙ field-all word (55 - m - s.reach) (s.count + m) c (λ j inside.
     ⊎_elim
-    (λ (low : j < 8). stretch-back s c word g (grids (8 - j)) x y (8 - j) rows 0 j near few some (omega arith) (same (8 - j)) shows (omega (arith, other)) (omega arith) (all (8 - j) 0 (omega arith) (omega (arith, other))))
-    (λ (high : 8 ≤ j). stretch-back s c word g (grids 0) x y 0 rows (j - 8) j near few some (omega arith) (same 0) shows (omega arith) (omega arith) (all 0 (j - 8) (omega arith) (omega arith)))
-    (cases_lt j 8)))
+    (λ (low : j < m). stretch-back s m c word g (grids (m - j)) x y (m - j) rows 0 j seen near few some (omega arith) most wide (same (m - j)) shows (omega (arith, other)) (omega arith) (all (m - j) 0 (omega arith) (omega (arith, other))))
+    (λ (high : m ≤ j). stretch-back s m c word g (grids 0) x y 0 rows (j - m) j seen near few some (omega arith) most wide (same 0) shows (omega arith) (omega arith) (all 0 (j - m) (omega arith) (omega arith)))
+    (cases_lt j m)))
     (cases_eq s.count 0)
 
 left-forward : (count : ℕ) (c : Bool) (left w h : ℕ) (bits : List Bool) (x y k i : ℕ) → count ≤ 4 → length bits ≡ y * w + x → x + k < w + 1 → y < h → IsLeft (so_far w h bits) x y left → is_field left 0 count c ≡ true → i < count → side-pixel (so_far w h (bits ++ replicate k c)) (x + k) y (negsuc 0) 0 i ≡ c
@@ -182,18 +184,18 @@ left-back count c left w h bits x y i few len before is inside =
     ∙ ap (λ (z : ℤ). pixel g z (pos y)) column ∙ ap (λ (z : ℤ). pixel g (pos (x + 0) +ℤ (negsuc 0 -ℤ pos i)) z) row ∙ is
 
 -- ---- the definition's test, context by context
-has_all-is : (template : List AdaptiveTemplatePixel) (w h : ℕ) (bits : List Bool) (c : Bool) (x y k : ℕ) → length bits ≡ y * w + x → x + k < w → has_all template w h c (bits ++ replicate k c) ≡ eqb (context_at template (so_far w h (bits ++ replicate k c)) (x + k) y) (all_of template c)
+pub has_all-is : (template : List AdaptiveTemplatePixel) (w h : ℕ) (bits : List Bool) (c : Bool) (x y k : ℕ) → length bits ≡ y * w + x → x + k < w → has_all template w h c (bits ++ replicate k c) ≡ eqb (context_at template (so_far w h (bits ++ replicate k c)) (x + k) y) (all_of template c)
 unfolding has_all
 has_all-is template w h bits c x y k len left =
     let size : length (bits ++ replicate k c) ≡ y * w + (x + k) = length-append bits (replicate k c) ∙ rw (length-replicate k c, len) (omega arith) in
     rw (size, mod-mul-add y w (x + k) left, div-mul-add y w (x + k) left) refl
 
-stays-from : (template : List AdaptiveTemplatePixel) (w h : ℕ) (c : Bool) (n : ℕ) (bits : List Bool) → ((k : ℕ) → k ≤ n → has_all template w h c (bits ++ replicate k c) ≡ true) → stays template w h c n bits ≡ true
+pub stays-from : (template : List AdaptiveTemplatePixel) (w h : ℕ) (c : Bool) (n : ℕ) (bits : List Bool) → ((k : ℕ) → k ≤ n → has_all template w h c (bits ++ replicate k c) ≡ true) → stays template w h c n bits ≡ true
 unfolding stays
 stays-from template w h c zero bits each = ap (λ (l : List Bool). has_all template w h c l) (sym (append-nil bits)) ∙ each 0 (omega arith)
 stays-from template w h c (suc n) bits each = and_from _ _ (stays-from template w h c n bits (λ k le. each k (omega arith))) (each (suc n) (omega arith))
 
-stays-gives : (template : List AdaptiveTemplatePixel) (w h : ℕ) (c : Bool) (n : ℕ) (bits : List Bool) (k : ℕ) → stays template w h c n bits ≡ true → k ≤ n → has_all template w h c (bits ++ replicate k c) ≡ true
+pub stays-gives : (template : List AdaptiveTemplatePixel) (w h : ℕ) (c : Bool) (n : ℕ) (bits : List Bool) (k : ℕ) → stays template w h c n bits ≡ true → k ≤ n → has_all template w h c (bits ++ replicate k c) ≡ true
 unfolding stays
 stays-gives template w h c zero bits k is le =
     let none : k ≡ 0 = omega arith in
@@ -206,41 +208,60 @@ stays-gives template w h c (suc n) bits k is le =
     (cases_eq k (suc n))
 
 -- the context of pixel k of a run
-pub stays-context : (template : List AdaptiveTemplatePixel) (w h : ℕ) (c : Bool) (bits : List Bool) (x y k : ℕ) → length bits ≡ y * w + x → x + 8 < w → k ≤ 8 → stays template w h c 8 bits ≡ true → context_at template (so_far w h (bits ++ replicate k c)) (x + k) y ≡ all_of template c
-stays-context template w h c bits x y k len left le is = eqb-true _ _ (sym (has_all-is template w h bits c x y k len (omega arith)) ∙ stays-gives template w h c 8 bits k is le)
+pub stays-context : (template : List AdaptiveTemplatePixel) (w h : ℕ) (c : Bool) (bits : List Bool) (x y k m : ℕ) → length bits ≡ y * w + x → x + m < w → k ≤ m → stays template w h c m bits ≡ true → context_at template (so_far w h (bits ++ replicate k c)) (x + k) y ≡ all_of template c
+stays-context template w h c bits x y k m len left le is = eqb-true _ _ (sym (has_all-is template w h bits c x y k len (omega arith)) ∙ stays-gives template w h c m bits k is le)
 
 -- the kernel's test is the definition's
-pub stays-is : (n : Neighbours) (c : Bool) (left : ℕ) (v : Windows) (w h x y : ℕ) (bits : List Bool) → IsNear n → length bits ≡ y * w + x → x + 8 < w → y < h → Shows (so_far w h bits) x y v → IsLeft (so_far w h bits) x y left → neighbours_stay n c left v ≡ stays (nominal_pixels n) w h c 8 bits
-stays-is n c left v w h x y bits near len within above shows before =
+pub stays-is : (n : Neighbours) (m : ℕ) (c : Bool) (left : ℕ) (v : Windows) (w h x y seen : ℕ) (bits : List Bool) → IsNear n → m ≤ 32 → m + 12 ≤ seen → length bits ≡ y * w + x → x + m < w → y < h → Shows (so_far w h bits) x y seen v → IsLeft (so_far w h bits) x y left → neighbours_stay n m c left v ≡ stays (nominal_pixels n) w h c m bits
+stays-is n m c left v w h x y seen bits near most wide len within above shows before =
     let template : List AdaptiveTemplatePixel = nominal_pixels n in
     let g : Grid = so_far w h bits in
     let grids : ℕ → Grid = λ k. so_far w h (bits ++ replicate k c) in
-    eq_from (neighbours_stay n c left v) (stays template w h c 8 bits)
+    eq_from (neighbours_stay n m c left v) (stays template w h c m bits)
     (λ is.
     let one = and_parts _ _ is in
     let two = and_parts _ _ one.1 in
-    stays-from template w h c 8 bits (λ k le.
+    stays-from template w h c m bits (λ k le.
     has_all-is template w h bits c x y k len (omega arith)
     ∙ eq-eqb _ _ (uniform-context n (grids k) (x + k) y c (record {
       left = λ i inside. left-forward n.left c left w h bits x y k i near.left len (omega arith) above before one.0 inside;
-      above = λ i inside. stretch-forward n.above c v.above g (grids k) x y k 1 i near.above_reach near.above_count (omega arith) le (more-above w h bits (replicate k c) x y len) shows.above two.0 inside;
-      top = λ i inside. stretch-forward n.top c v.top g (grids k) x y k 2 i near.top_reach near.top_count (omega arith) le (more-above w h bits (replicate k c) x y len) shows.top two.1 inside;
+      above = λ i inside. stretch-forward n.above m c v.above g (grids k) x y k 1 i seen near.above_reach near.above_count (omega arith) le most wide (more-above w h bits (replicate k c) x y len) shows.above two.0 inside;
+      top = λ i inside. stretch-forward n.top m c v.top g (grids k) x y k 2 i seen near.top_reach near.top_count (omega arith) le most wide (more-above w h bits (replicate k c) x y len) shows.top two.1 inside;
     }))))
     (λ is.
-    let each : (k : ℕ) → k ≤ 8 → Uniform n (grids k) (x + k) y c = λ k le. context-uniform n (grids k) (x + k) y c (stays-context template w h c bits x y k len within le is) in
+    let each : (k : ℕ) → k ≤ m → Uniform n (grids k) (x + k) y c = λ k le. context-uniform n (grids k) (x + k) y c (stays-context template w h c bits x y k m len within le is) in
     and_from _ _ (field-all left 0 n.left c (λ i inside. left-back n.left c left w h bits x y i near.left len before ((each 0 (omega arith)).left i inside) inside))
     (and_from _ _
-    (stretch-all n.above c v.above g grids x y 1 near.above_reach near.above_count (omega arith) (λ k. more-above w h bits (replicate k c) x y len) shows.above (λ k i le inside. (each k le).above i inside))
-    (stretch-all n.top c v.top g grids x y 2 near.top_reach near.top_count (omega arith) (λ k. more-above w h bits (replicate k c) x y len) shows.top (λ k i le inside. (each k le).top i inside))))
+    (stretch-all n.above m c v.above g grids x y 1 seen near.above_reach near.above_count (omega arith) most wide (λ k. more-above w h bits (replicate k c) x y len) shows.above (λ k i le inside. (each k le).above i inside))
+    (stretch-all n.top m c v.top g grids x y 2 seen near.top_reach near.top_count (omega arith) most wide (λ k. more-above w h bits (replicate k c) x y len) shows.top (λ k i le inside. (each k le).top i inside))))
 
 -- a run, by what the kernel knows of it
-pub run-parts : (n : Neighbours) (c : Bool) (left : ℕ) (v : Windows) (w h x y : ℕ) (r : Region) (grid : Grid) (d : Coder) (s : List Context) → IsNear n → length r.pixels ≡ y * w + x → x + 8 < w → y < h → Shows grid x y v → IsLeft grid x y left → Holds w h d.bytes r grid d s
-    → is_run_of (nominal_pixels n) w h d.bytes r c ≡ (neighbours_stay n c left v && (same_colour c (get_or s (all_of (nominal_pixels n) c) fresh).likely && all_quiet 8 d.bytes d.registers (get_or s (all_of (nominal_pixels n) c) fresh)))
-unfolding is_run_of
-run-parts n c left v w h x y r grid d s near len within above shows before holds =
-    let now : Shows (so_far w h r.pixels) x y v = subst (λ (g : Grid). Shows g x y v) holds.pixels shows in
+pub run-parts : (n : Neighbours) (m : ℕ) (c : Bool) (left : ℕ) (v : Windows) (w h x y seen : ℕ) (r : Region) (grid : Grid) (d : Coder) (s : List Context) → IsNear n → m ≤ 32 → m + 12 ≤ seen → length r.pixels ≡ y * w + x → x + m < w → y < h → Shows grid x y seen v → IsLeft grid x y left → Holds w h d.bytes r grid d s
+    → is_run_for (nominal_pixels n) w h d.bytes r c m ≡ (neighbours_stay n m c left v && (same_colour c (get_or s (all_of (nominal_pixels n) c) fresh).likely && all_quiet m d.bytes d.registers (get_or s (all_of (nominal_pixels n) c) fresh)))
+unfolding is_run_for
+run-parts n m c left v w h x y seen r grid d s near most wide len within above shows before holds =
+    let now : Shows (so_far w h r.pixels) x y seen v = subst (λ (g : Grid). Shows g x y seen v) holds.pixels shows in
     let then : IsLeft (so_far w h r.pixels) x y left = subst (λ (g : Grid). IsLeft g x y left) holds.pixels before in
-    rw (holds.registers, holds.contexts, stays-is n c left v w h x y r.pixels near len within above now then) refl
+    rw (holds.registers, holds.contexts, stays-is n m c left v w h x y seen r.pixels near most wide len within above now then) refl
+
+-- a run byte's run is one of eight pixels
+pub run-of : (template : List AdaptiveTemplatePixel) (w h : ℕ) (input : List ℕ) (r : Region) (c : Bool) → is_run_of template w h input r c ≡ is_run_for template w h input r c 8
+unfolding is_run_of is_run_for
+run-of template w h input r c = refl
+
+-- a run as long as that of the kernel's test, or shorter
+pub run-made : (n : Neighbours) (m all : ℕ) (c : Bool) (left : ℕ) (v : Windows) (w h x y seen : ℕ) (r : Region) (grid : Grid) (d : Coder) (s : List Context) → IsNear n → m ≤ all → all ≤ 32 → all + 12 ≤ seen → length r.pixels ≡ y * w + x → x + all < w → y < h → Shows grid x y seen v → IsLeft grid x y left → Holds w h d.bytes r grid d s
+    → neighbours_stay n all c left v ≡ true → same_colour c (get_or s (all_of (nominal_pixels n) c) fresh).likely ≡ true → all_quiet m d.bytes d.registers (get_or s (all_of (nominal_pixels n) c) fresh) ≡ true → is_run_for (nominal_pixels n) w h d.bytes r c m ≡ true
+unfolding is_run_for
+run-made n m all c left v w h x y seen r grid d s near few most wide len within above shows before holds is colour quiet =
+    let template : List AdaptiveTemplatePixel = nominal_pixels n in
+    let now : Shows (so_far w h r.pixels) x y seen v = subst (λ (g : Grid). Shows g x y seen v) holds.pixels shows in
+    let then : IsLeft (so_far w h r.pixels) x y left = subst (λ (g : Grid). IsLeft g x y left) holds.pixels before in
+    let whole : stays template w h c all r.pixels ≡ true = sym (stays-is n all c left v w h x y seen r.pixels near most wide len within above now then) ∙ is in
+    let quiet_here : all_quiet m d.bytes r.registers (get_or s (all_of template c) fresh) ≡ true = subst (λ (q : Registers). all_quiet m d.bytes q (get_or s (all_of template c) fresh) ≡ true) holds.registers quiet in
+    and_from _ _ (stays-from template w h c m r.pixels (λ k le. stays-gives template w h c all r.pixels k whole (omega arith)))
+    (and_from _ _ (subst (λ (l : List Context). same_colour c (get_or l (all_of template c) fresh).likely ≡ true) holds.contexts colour)
+    (subst (λ (l : List Context). all_quiet m d.bytes r.registers (get_or l (all_of template c) fresh) ≡ true) holds.contexts quiet_here))
 
 -- the context that is all of a colour
 pub context-black : (n : Neighbours) (size : ℕ) → size ≡ 2 ^ neighbour_count n → size - 1 ≡ all_of (nominal_pixels n) true
@@ -250,8 +271,8 @@ pub context-white : (n : Neighbours) → 0 ≡ all_of (nominal_pixels n) false
 context-white n = sym (full-white (length (nominal_pixels n)))
 
 -- the colour of a run is that of the pixel at the left
-pub run-colour : (n : Neighbours) (c b : Bool) (left : ℕ) (v : Windows) → IsNear n → bit left 0 ≡ b → (c ≡ b → ⊥) → neighbours_stay n c left v ≡ false
-run-colour n c b left v near is other =
+pub run-colour : (n : Neighbours) (m : ℕ) (c b : Bool) (left : ℕ) (v : Windows) → IsNear n → bit left 0 ≡ b → (c ≡ b → ⊥) → neighbours_stay n m c left v ≡ false
+run-colour n m c b left v near is other =
     and_left _ _ (is-false (is_field left 0 n.left c) (λ same. other (sym (field-gives left 0 n.left 0 c same near.some) ∙ is)))
   where
     is-false : (t : Bool) → (t ≡ true → ⊥) → t ≡ false
@@ -262,10 +283,10 @@ pub uniform-number : (n : Neighbours) (size : ℕ) (c : Bool) → size ≡ 2 ^ n
 uniform-number n size true all = context-black n size all
 uniform-number n size false all = context-white n
 
-pub not-staying : (n : Neighbours) (c : Bool) (left : ℕ) (v : Windows) (w h x y : ℕ) (r : Region) (grid : Grid) (d : Coder) (s : List Context) → neighbours_stay n c left v ≡ false → IsNear n → length r.pixels ≡ y * w + x → x + 8 < w → y < h → Shows grid x y v → IsLeft grid x y left → Holds w h d.bytes r grid d s
+pub not-staying : (n : Neighbours) (c : Bool) (left : ℕ) (v : Windows) (w h x y seen : ℕ) (r : Region) (grid : Grid) (d : Coder) (s : List Context) → neighbours_stay n 8 c left v ≡ false → IsNear n → 20 ≤ seen → length r.pixels ≡ y * w + x → x + 8 < w → y < h → Shows grid x y seen v → IsLeft grid x y left → Holds w h d.bytes r grid d s
     → is_run_of (nominal_pixels n) w h d.bytes r c ≡ false
-not-staying n c left v w h x y r grid d s other near len within above shows before holds =
-    run-parts n c left v w h x y r grid d s near len within above shows before holds ∙ and_left _ _ other
+not-staying n c left v w h x y seen r grid d s other near wide len within above shows before holds =
+    run-of (nominal_pixels n) w h d.bytes r c ∙ run-parts n 8 c left v w h x y seen r grid d s near (omega arith) (omega arith) len within above shows before holds ∙ and_left _ _ other
 
 pub and-last : (a b q : Bool) → a ≡ true → b ≡ true → (a && (b && q)) ≡ q
 and-last a b q one two = rw (one, two) refl

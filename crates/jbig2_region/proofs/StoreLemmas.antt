@@ -13,11 +13,11 @@ use Rattle.jbig2_base.proofs.WriteLemmas.{in_field, before_field, behind_field, 
 use Rattle.jbig2_coder.specs.Coder.{Coder, Context, decision, fresh}
 use Rattle.jbig2_region.specs.Generic.{context_at}
 use Rattle.jbig2_region.specs.inner.Holds.{Holds}
-use Rattle.jbig2_region.specs.inner.Neighbours.{Decodes, IsLeft, row_coding}
+use Rattle.jbig2_region.specs.inner.Neighbours.{Decodes, IsLeft, row_coding, SameAbove}
 use Rattle.jbig2_region.specs.Raster.{Region, so_far, after_pixels}
 use Rattle.jbig2_region.specs.declared.template.AdaptiveTemplatePixel.{AdaptiveTemplatePixel}
 use Rattle.jbig2_region.proofs.RasterLemmas.{Holds-known, Holds-decided, after_pixels-length, after_pixels-predicted, after_pixels-one, after_pixels-none, after_pixels-add}
-use Rattle.jbig2_region.proofs.WindowLemmas.{SameAbove, same-above, pixel-inside, pixel-left_of_all}
+use Rattle.jbig2_region.proofs.WindowLemmas.{same-above, pixel-inside, pixel-left_of_all}
 
 -- a pixel after a store, at any place
 stored-at : (g : Grid) (x y n b i j : ℕ) → i < g.width → j < g.height → pixel_at (with_pixels g x y n b) i j ≡ cond (eqb j y && leb x i && ltb i (x + n)) (bit b (x + n - 1 - i)) (pixel_at g i j)

@@ -1,12 +1,12 @@
 -- Contexts out of windows on the rows above and the pixels at the left.
-use Rattle.std.proofs.Common.{pos, negsuc, ℤ, ◌+ℤ◌, ◌-ℤ◌, ◌≡◌, ℕ, ◌+◌, ◌-◌, ◌*◌, ◌/◌, ◌%◌, ◌^◌, ◌<◌, ◌≤◌, false, ◌++◌, length, refl, sym, ap, ◌∙◌, ⊎_elim, arith}
+use Rattle.std.proofs.Common.{pos, negsuc, ℤ, ◌+ℤ◌, ◌-ℤ◌, ◌≡◌, ℕ, ◌+◌, ◌-◌, ◌*◌, ◌/◌, ◌%◌, ◌^◌, ◌<◌, ◌≤◌, false, ◌++◌, length, refl, subst, sym, ap, ◌∙◌, ⊎_elim, arith}
 use Rattle.std.proofs.lemmas.Bool.{cases_lt}
 use Rattle.std.proofs.lemmas.Int.{ints}
 use Rattle.jbig2_base.specs.Grid.{Grid, pixel, pixel_at}
 use Rattle.jbig2_base.specs.inner.WordBits.{bit}
-use Rattle.jbig2_base.proofs.BitLemmas.{bit-above, bit-zero}
+use Rattle.jbig2_base.proofs.BitLemmas.{bit-above, bit-shl_high, bit-zero}
 use Rattle.jbig2_region.specs.Generic.{context_at}
-use Rattle.jbig2_region.specs.inner.Neighbours.{left_pixels, stretch_pixels, nominal_pixels, mixed_pixels, IsNear, IsWindow, Shows, IsLeft, stretch_bits}
+use Rattle.jbig2_region.specs.inner.Neighbours.{left_pixels, stretch_pixels, mixed_pixels, IsNear, IsWindow, SameAbove, Shows, IsLeft, stretch_bits}
 use Rattle.jbig2_region.specs.declared.template.neighbours.Adaptives.{Adaptives}
 use Rattle.jbig2_region.specs.declared.template.neighbours.Neighbours.{Neighbours}
 use Rattle.jbig2_region.specs.declared.template.neighbours.Stretch.{Stretch}
@@ -30,10 +30,10 @@ pub pixel-left_of_all : (g : Grid) (X Y : ℤ) (m : ℕ) → X ≡ negsuc m → 
 pixel-left_of_all g X Y m column = rw column refl
 
 -- ---- windows
-pub window-none : (g : Grid) (x y back : ℕ) → y < back → IsWindow g x (pos y -ℤ pos back) 0
-window-none g x y back less = λ k inside. bit-zero (63 - k) ∙ sym (pixel-above_all g (pos (x + k) -ℤ pos 8) y back less)
+pub window-none : (g : Grid) (x y back seen : ℕ) → y < back → IsWindow g x (pos y -ℤ pos back) seen 0
+window-none g x y back seen less = λ k inside. bit-zero (63 - k) ∙ sym (pixel-above_all g (pos (x + k) -ℤ pos 8) y back less)
 
-pub window-first : (g : Grid) (y back word : ℕ) → (y < back → ⊥) → ((k : ℕ) → k < 56 → bit word (56 - 1 - k) ≡ pixel_at g (0 + k) (y - back)) → word < 2 ^ 56 → IsWindow g 0 (pos y -ℤ pos back) word
+pub window-first : (g : Grid) (y back word : ℕ) → (y < back → ⊥) → ((k : ℕ) → k < 56 → bit word (56 - 1 - k) ≡ pixel_at g (0 + k) (y - back)) → word < 2 ^ 56 → IsWindow g 0 (pos y -ℤ pos back) 64 word
 window-first g y back word enough bits small = λ k inside.
     ⊎_elim
     (λ (outside : k < 8).
@@ -46,11 +46,23 @@ window-first g y back word enough bits small = λ k inside.
     ap (λ (n : ℕ). bit word n) place ∙ bits (k - 8) (omega arith) ∙ sym (pixel-inside g (pos (0 + k) -ℤ pos 8) (pos y -ℤ pos back) (0 + (k - 8)) (y - back) column row))
     (cases_lt k 8)
 
--- ---- what the rows above have in common
--- the same pixels in all rows above row y
-abbrev pub SameAbove : Grid → Grid → ℕ → Type 0
-SameAbove g g' y = (i j : ℕ) → j < y → pixel_at g i j ≡ pixel_at g' i j
+-- the window so many columns further on
+pub window-moved : (g : Grid) (x seen word by : ℕ) (row : ℤ) → seen ≤ 64 → IsWindow g x row seen word → IsWindow g (x + by) row (seen - by) (word * 2 ^ by % 2 ^ 64)
+window-moved g x seen word by row few shows = λ k inside.
+    let place : 63 - k - by ≡ 63 - (k + by) = omega arith in
+    let column : x + (k + by) ≡ x + by + k = omega arith in
+    bit-shl_high word by 64 (63 - k) (omega arith) (omega arith) ∙ ap (λ (n : ℕ). bit word n) place ∙ shows (k + by) (omega arith) ∙ ap (λ (n : ℕ). pixel g (pos n -ℤ pos 8) row) column
 
+pub shows-moved : (g : Grid) (x y seen by : ℕ) (v w : Windows) → seen ≤ 64 → v.above ≡ w.above * 2 ^ by % 2 ^ 64 → v.top ≡ w.top * 2 ^ by % 2 ^ 64 → Shows g x y seen w → Shows g (x + by) y (seen - by) v
+shows-moved g x y seen by v w few above top shows = record {
+  above = subst (λ (n : ℕ). IsWindow g (x + by) (pos y -ℤ pos 1) (seen - by) n) (sym above) (window-moved g x seen w.above by (pos y -ℤ pos 1) few shows.above);
+  top = subst (λ (n : ℕ). IsWindow g (x + by) (pos y -ℤ pos 2) (seen - by) n) (sym top) (window-moved g x seen w.top by (pos y -ℤ pos 2) few shows.top);
+}
+
+pub shows-less : (g : Grid) (x y seen less : ℕ) (w : Windows) → less ≤ seen → Shows g x y seen w → Shows g x y less w
+shows-less g x y seen less w few shows = record { above = λ k inside. shows.above k (omega arith); top = λ k inside. shows.top k (omega arith) }
+
+-- ---- what the rows above have in common
 pub same-above : (g g' : Grid) (X : ℤ) (y back : ℕ) → 1 ≤ back → SameAbove g g' y → pixel g X (pos y -ℤ pos back) ≡ pixel g' X (pos y -ℤ pos back)
 same-above g g' (pos i) y back some same =
     ⊎_elim
@@ -61,14 +73,14 @@ same-above g g' (pos i) y back some same =
     (cases_lt y back)
 same-above g g' (negsuc i) y back some same = refl
 
-pub shows-same : (g g' : Grid) (x y : ℕ) (w : Windows) → SameAbove g g' y → Shows g x y w → Shows g' x y w
-shows-same g g' x y w same shows = record {
+pub shows-same : (g g' : Grid) (x y seen : ℕ) (w : Windows) → SameAbove g g' y → Shows g x y seen w → Shows g' x y seen w
+shows-same g g' x y seen w same shows = record {
   above = λ k inside. shows.above k inside ∙ same-above g g' (pos (x + k) -ℤ pos 8) y 1 (omega arith) same;
   top = λ k inside. shows.top k inside ∙ same-above g g' (pos (x + k) -ℤ pos 8) y 2 (omega arith) same;
 }
 
 -- ---- the parts of a context
-pub stretch-context : (s : Stretch) (g g' : Grid) (x y k rows word : ℕ) → s.reach ≤ 3 → s.count ≤ 7 → k < 32 → 1 ≤ rows → SameAbove g g' y → IsWindow g x (pos y -ℤ pos rows) word → stretch_bits s word k ≡ context_at (stretch_pixels s rows) g' (x + k) y
+pub stretch-context : (s : Stretch) (g g' : Grid) (x y k rows word : ℕ) → s.reach ≤ 3 → s.count ≤ 7 → k < 32 → 1 ≤ rows → SameAbove g g' y → IsWindow g x (pos y -ℤ pos rows) 64 word → stretch_bits s word k ≡ context_at (stretch_pixels s rows) g' (x + k) y
 stretch-context s g g' x y k rows word reach few near some same shows =
     side-context g' (x + k) y rows s.count word (55 - k - s.reach) (pos s.reach) (λ i inside.
     let place : 55 - k - s.reach + i ≡ 63 - (8 + k + s.reach - i) = omega arith in
@@ -88,16 +100,7 @@ left-context n g x y left few is =
     whole : (a m : ℕ) → a % 2 ^ m ≡ a / 2 ^ 0 % 2 ^ m
     whole a m = ap (λ (b : ℕ). b % 2 ^ m) (omega arith)
 
-pub nominal-context : (n : Neighbours) (g g' : Grid) (x y k left : ℕ) (w : Windows) → IsNear n → k < 32 → SameAbove g g' y → Shows g x y w → IsLeft g' (x + k) y left
-    → left % 2 ^ n.left + (stretch_bits n.above w.above k + stretch_bits n.top w.top k * 2 ^ n.above.count) * 2 ^ n.left ≡ context_at (nominal_pixels n) g' (x + k) y
-nominal-context n g g' x y k left w near few same shows is =
-    rw (left-context n g' (x + k) y left near.left is, stretch-context n.above g g' x y k 1 w.above near.above_reach near.above_count few (omega arith) same shows.above, stretch-context n.top g g' x y k 2 w.top near.top_reach near.top_count few (omega arith) same shows.top)
-    (sym (
-    context-append (left_pixels n) (stretch_pixels n.above 1 ++ stretch_pixels n.top 2) g' (x + k) y
-    ∙ rw (context-append (stretch_pixels n.above 1) (stretch_pixels n.top 2) g' (x + k) y, length-side (negsuc 0) 0 n.left, length-side (pos n.above.reach) 1 n.above.count) refl
-    ))
-
-pub mixed-context : (n : Neighbours) (a : Adaptives) (g g' : Grid) (x y k left : ℕ) (w : Windows) → IsNear n → k < 32 → SameAbove g g' y → Shows g x y w → IsLeft g' (x + k) y left
+pub mixed-context : (n : Neighbours) (a : Adaptives) (g g' : Grid) (x y k left : ℕ) (w : Windows) → IsNear n → k < 32 → SameAbove g g' y → Shows g x y 64 w → IsLeft g' (x + k) y left
     → left % 2 ^ n.left + (context_at a.first.now g' (x + k) y + (stretch_bits n.above w.above k + (context_at a.middle.now g' (x + k) y + (stretch_bits n.top w.top k + context_at a.last.now g' (x + k) y * 2 ^ n.top.count) * 2 ^ length a.middle.now) * 2 ^ n.above.count) * 2 ^ length a.first.now) * 2 ^ n.left
     ≡ context_at (mixed_pixels n a) g' (x + k) y
 mixed-context n a g g' x y k left w near few same shows is =

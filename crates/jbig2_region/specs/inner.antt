@@ -1,4 +1,5 @@
 pub mod Holds
 pub mod Layouts
+pub mod LongRuns
 pub mod Neighbours
 pub mod RefinementViews

@@ -11,10 +11,12 @@ ghost use Rattle.jbig2_region.specs.RunBytes.{CountsRegion, CountsRow, row_loads
 ghost use Rattle.jbig2_region.specs.declared.template.AdaptiveTemplatePixel.{AdaptiveTemplatePixel};
 
 mod bytes;
+mod nominal;
 mod pixels;
+mod runs;
 mod windows;
 
-use crate::generic_kernel::bytes::decode_row_by_bytes;
+use crate::generic_kernel::nominal::decode_nominal_row;
 use crate::generic_kernel::pixels::decode_row_by_pixels;
 use crate::raster::begin_row;
 use crate::template::neighbours::Layout;
@@ -99,7 +101,7 @@ fn decode_row<A: Allocator, L: Ledger>(
     }
     let neighbours = layout.neighbours;
     let Some(adaptive) = &layout.adaptive else {
-        decode_row_by_bytes(neighbours, bitmap, y, decoder, contexts, steps);
+        decode_nominal_row(neighbours, bitmap, y, decoder, contexts, steps);
         return;
     };
     decode_row_by_pixels(neighbours, adaptive, bitmap, y, decoder, contexts, steps);

@@ -1,6 +1,6 @@
 -- Templates of generic regions as neighbours that lie side by side, with adaptive pixels between them (our own rule).
 use Rattle.std.specs.Prelude.{◌≡◌, ◌==◌, ℕ, zero, suc, ◌+◌, ◌-◌, ◌*◌, ◌/◌, ◌%◌, ◌^◌, ◌<◌, ◌≤◌, ℤ, pos, negsuc, ◌-ℤ◌, List, [], ◌∷◌, ◌++◌, length, Bool, true, false, ◌&&◌, if◌then◌else◌, Option, Some, None}
-use Rattle.jbig2_base.specs.Grid.{Grid, pixel}
+use Rattle.jbig2_base.specs.Grid.{Grid, pixel, pixel_at}
 use Rattle.jbig2_base.specs.inner.WordBits.{bit}
 use Rattle.jbig2_coder.specs.Coder.{Coder, Context}
 use Rattle.jbig2_region.specs.Generic.{context_at, colour_above}
@@ -51,14 +51,19 @@ pub record IsNear (n : Neighbours) : Type 0 where
   pub top_count : n.top.count ≤ 7
   pub few : neighbour_count n ≤ 16
 
--- A window on a row about column x: bit 55 is the pixel at x, and those to the right of it stand lower.
-abbrev pub IsWindow : Grid → ℕ → ℤ → ℕ → Type 0
-IsWindow g x row word = (k : ℕ) → k < 64 → bit word (63 - k) ≡ pixel g (pos (x + k) -ℤ pos 8) row
+-- A window on a row about column x: bit 55 is the pixel at x, and those to the right of it stand lower. It shows so many
+-- columns, the first of them eight left of x.
+abbrev pub IsWindow : Grid → ℕ → ℤ → ℕ → ℕ → Type 0
+IsWindow g x row seen word = (k : ℕ) → k < seen → bit word (63 - k) ≡ pixel g (pos (x + k) -ℤ pos 8) row
 
 -- windows on the two rows above row y
-pub record Shows (g : Grid) (x y : ℕ) (w : Windows) : Type 0 where
-  pub above : IsWindow g x (pos y -ℤ pos 1) w.above
-  pub top : IsWindow g x (pos y -ℤ pos 2) w.top
+pub record Shows (g : Grid) (x y seen : ℕ) (w : Windows) : Type 0 where
+  pub above : IsWindow g x (pos y -ℤ pos 1) seen w.above
+  pub top : IsWindow g x (pos y -ℤ pos 2) seen w.top
+
+-- the same pixels in all rows above row y
+abbrev pub SameAbove : Grid → Grid → ℕ → Type 0
+SameAbove g g' y = (i j : ℕ) → j < y → pixel_at g i j ≡ pixel_at g' i j
 
 -- the four pixels left of column x, the nearest in bit 0
 abbrev pub IsLeft : Grid → ℕ → ℕ → ℕ → Type 0
@@ -81,12 +86,21 @@ stretch_bits s word offset = word / 2 ^ (55 - offset - s.reach) % 2 ^ s.count
 abbrev pub is_field : ℕ → ℕ → ℕ → Bool → Bool
 is_field word shift count colour = word / 2 ^ shift % 2 ^ count == (if colour then 2 ^ count - 1 else 0)
 
--- a stretch, from the window's column and each of the eight columns right of it; none is of either colour
-abbrev pub stretch_stays : Stretch → Bool → ℕ → Bool
-stretch_stays s colour word = if s.count == 0 then true else is_field word (47 - s.reach) (s.count + 8) colour
+-- a stretch, from the window's column and each of the next m columns right of it; none is of either colour
+abbrev pub stretch_stays : Stretch → ℕ → Bool → ℕ → Bool
+stretch_stays s m colour word = if s.count == 0 then true else is_field word (55 - m - s.reach) (s.count + m) colour
 
-abbrev pub neighbours_stay : Neighbours → Bool → ℕ → Windows → Bool
-neighbours_stay n colour left w = is_field left 0 n.left colour && (stretch_stays n.above colour w.above && stretch_stays n.top colour w.top)
+abbrev pub neighbours_stay : Neighbours → ℕ → Bool → ℕ → Windows → Bool
+neighbours_stay n m colour left w = is_field left 0 n.left colour && (stretch_stays n.above m colour w.above && stretch_stays n.top m colour w.top)
+
+-- The pixels at the left and what the windows show of the stretches, in one number: it moves on by doubling, and each
+-- pixel that is decoded comes in at the low end.
+abbrev pub register_of : Neighbours → ℕ → Windows → ℕ
+register_of n left w = left + w.above / 2 ^ (48 - n.above.reach) % 2 ^ 16 * 2 ^ 16 + w.top / 2 ^ (48 - n.top.reach) % 2 ^ 16 * 2 ^ 40
+
+-- the context that it holds
+abbrev pub cut_of : Neighbours → ℕ → ℕ
+cut_of n register = register % 2 ^ n.left + (register / 2 ^ 23 % 2 ^ n.above.count + register / 2 ^ 47 % 2 ^ n.top.count * 2 ^ n.above.count) * 2 ^ n.left
 
 abbrev pub adaptive_count : Adaptives → ℕ
 adaptive_count a = length a.first.now + (length a.middle.now + length a.last.now)

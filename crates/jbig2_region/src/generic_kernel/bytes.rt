@@ -1,70 +1,21 @@
 //! Rows of a template without adaptive pixels, byte by byte, with runs of likely symbols.
-ghost use Rattle.std.specs.Prelude.{◌≡◌, ℕ, ◌+◌, ◌-◌, ◌*◌, ◌/◌, ◌%◌, ◌^◌, ◌<◌, ◌≤◌, false, length, slice_index_or, if◌then◌else◌};
-ghost use Rattle.jbig2_base.specs.Grid.{Grid};
-ghost use Rattle.jbig2_coder.specs.Coder.{fresh};
-ghost use Rattle.jbig2_coder.specs.Table.{row_of};
-ghost use Rattle.jbig2_region.specs.inner.Holds.{Holds};
-ghost use Rattle.jbig2_region.specs.inner.Neighbours.{Decodes, IsLeft, IsNear, Shows, is_field, neighbour_count, neighbours_stay, nominal_pixels, stretch_stays};
-ghost use Rattle.jbig2_region.specs.Raster.{Region};
-ghost use Rattle.jbig2_base.specs.Grid.{same_colour};
-ghost use Rattle.jbig2_region.specs.RunBytes.{CountsRuns, all_of, is_run_of};
+ghost use Rattle.std.specs.Prelude.{◌≡◌, ℕ, ◌+◌, ◌-◌, ◌*◌, ◌/◌, ◌%◌, ◌^◌, ◌<◌, ◌≤◌, false, length, if◌then◌else◌};
+ghost use Rattle.jbig2_region.specs.inner.Neighbours.{Decodes, IsLeft, IsNear, SameAbove, Shows, neighbour_count, nominal_pixels};
+ghost use Rattle.jbig2_region.specs.RunBytes.{CountsRuns};
 
+use crate::generic_kernel::runs::take_runs;
 use crate::generic_kernel::windows::{Windows, windows_at};
-use crate::template::neighbours::{Neighbours, Stretch};
+use crate::template::neighbours::Neighbours;
 use jbig2_base::bitmap::Bitmap;
 use jbig2_base::bitmap::steps::Steps;
 use jbig2_coder::arithmetic_decoder::{ArithmeticDecoder, ArithmeticDecoderContext};
 use std::alloc::Allocator;
 use std::sync::ledger::Ledger;
 
-/// Whether a stretch is all of one colour, seen from the window's column and from each of the
-/// eight columns right of it.
-#[inline(always)]
-fn stretch_stays(stretch: Stretch, black: bool, window: u64) -> bool
-    requires reach { stretch.reach ≤ 3 }
-    requires count { stretch.count ≤ 7 }
-    ensures { result ≡ stretch_stays stretch black window }
-{
-    if stretch.count == 0 {
-        return true;
-    }
-    let count = stretch.count + 8;
-    let bits = (window >> (47 - stretch.reach)) % (1 << count);
-    if black {
-        return bits == (1 << count) - 1;
-    }
-    bits == 0
-}
-
-/// Whether the pixels at the left are all of one colour.
-#[inline(always)]
-fn left_stays(count: u32, black: bool, left: u32) -> bool
-    requires count { count ≤ 4 }
-    ensures { result ≡ is_field left 0 count black }
-{
-    let bits = left % (1 << count);
-    if black {
-        return bits == (1 << count) - 1;
-    }
-    bits == 0
-}
-
-/// Whether, with the next eight pixels of one colour, their contexts and the one after them are all
-/// of that colour.
-#[inline(always)]
-fn stays(neighbours: Neighbours, black: bool, left: u32, windows: Windows) -> bool
-    requires near { IsNear neighbours }
-    ensures { result ≡ neighbours_stay neighbours black left windows }
-{
-    left_stays(neighbours.left, black, left)
-        && stretch_stays(neighbours.above, black, windows.above)
-        && stretch_stays(neighbours.top, black, windows.top)
-}
-
 /// `count` bits of one colour.
 #[inline(always)]
-fn uniform(black: bool, count: u32) -> u32
-    requires { count ≤ 8 }
+fn uniform(black: bool, count: u32) -> u64
+    requires { count ≤ 32 }
     ensures value { result ≡ (if black then 2 ^ count - 1 else 0) }
     ensures bound { result < 2 ^ count }
 {
@@ -72,58 +23,6 @@ fn uniform(black: bool, count: u32) -> u32
         return (1 << count) - 1;
     }
     0
-}
-
-/// The number of the context whose pixels are all of one colour, out of `count`.
-#[inline(always)]
-fn uniform_context(black: bool, count: usize) -> usize
-    requires { 1 ≤ count }
-    ensures value { result ≡ (if black then count - 1 else 0) }
-    ensures inside { result < count }
-{
-    if black {
-        return count - 1;
-    }
-    0
-}
-
-#[inline(always)]
-fn same_colour(black: bool, other: bool) -> bool
-    ensures { result ≡ same_colour black other }
-{
-    if black {
-        return other;
-    }
-    !other
-}
-
-/// Takes the next eight pixels as a run of `black`, if they are one.
-#[inline(always)]
-fn take_run<L: Ledger>(
-    neighbours: Neighbours,
-    black: bool,
-    left: u32,
-    windows: Windows,
-    decoder: &mut ArithmeticDecoder<'_>,
-    contexts: &[ArithmeticDecoderContext],
-    steps: &mut Steps<L>,
-) -> bool
-    requires near { IsNear neighbours }
-    requires contexts { length contexts.now ≡ 2 ^ neighbour_count neighbours }
-    ensures exact { (w h x y : ℕ) (r : Region) (grid : Grid) → length r.pixels ≡ y * w + x → x + 8 < w → y < h → Shows grid x y windows → IsLeft grid x y left → Holds w h decoder.old.bytes r grid decoder.old contexts.now → result ≡ is_run_of (nominal_pixels neighbours) w h decoder.old.bytes r black }
-    ensures coder { decoder.new ≡ (if result then record decoder.old { registers = record decoder.old.registers { a = decoder.old.registers.a - 8 * (row_of (slice_index_or contexts.now (all_of (nominal_pixels neighbours) black) fresh).row).qe } } else decoder.old) }
-    ensures run_tests { steps.new.run_tests ≤ steps.old.run_tests + 1 }
-    ensures steps { steps.new ≡ record steps.old { run_tests = steps.new.run_tests } }
-{
-    if !stays(neighbours, black, left, windows) {
-        return false;
-    }
-    let number = uniform_context(black, contexts.len());
-    let context = contexts[number];
-    if !same_colour(black, context.likely_symbol()) {
-        return false;
-    }
-    decoder.decode_mps_run(&context, 8, steps)
 }
 
 /// The `count` pixels from column `x` of row `y` on, at most a byte, one by one into a number that
@@ -148,7 +47,7 @@ fn decode_bits<A: Allocator, L: Ledger>(
     requires aligned { x % 8 ≡ 0 }
     requires columns { x + count ≤ bitmap.old.width }
     requires row { y < bitmap.old.height }
-    requires shows { Shows bitmap.old x y windows }
+    requires shows { Shows bitmap.old x y 20 windows }
     requires left { IsLeft bitmap.old x y left }
     requires small { left < 16 }
     ensures holds { Decodes (nominal_pixels neighbours) false x y count bitmap.old decoder.old contexts.old bitmap.new decoder.new contexts.new }
@@ -158,63 +57,107 @@ fn decode_bits<A: Allocator, L: Ledger>(
     ensures height { bitmap.new.height ≡ bitmap.old.height }
     ensures bytes { decoder.new.bytes ≡ decoder.old.bytes }
     ensures contexts { length contexts.new ≡ length contexts.old }
+    ensures rows { SameAbove bitmap.old bitmap.new y }
     ensures steps { steps.new ≡ record steps.old { decisions = steps.old.decisions + count; words = steps.old.words + 1 } }
 {
-    let mut left = left;
-    let mut byte = 0;
-    for offset in 0..count {
-        let context = neighbours.context(left, windows, offset);
+    let mut register = neighbours.register(left, windows);
+    for _ in 0..count {
+        let context = neighbours.context(register);
         let symbol = decoder.decode(&mut contexts[context as usize], steps);
-        left = (left * 2 + symbol) % 16;
-        byte = byte * 2 + symbol;
+        register = register * 2 + u64::from(symbol);
     }
-    bitmap.store_pixels(x, y, count, u64::from(byte), steps);
-    left
+    bitmap.store_pixels(x, y, count, register % (1 << count), steps);
+    (register % 16) as u32
 }
 
-/// The eight pixels from column `x` of row `y` on, which are not the row's last byte.
+/// What is decoded of a row: so many bytes, and the four pixels left of the next column.
+#[derive(Clone, Copy)]
+struct Taken {
+    bytes: u32,
+    left: u32,
+}
+
+/// The next bytes of row `y`, from column `x` on: a run of `most` or fewer, or else one that is decoded
+/// bit by bit.
 #[inline(always)]
-fn decode_byte<A: Allocator, L: Ledger>(
+fn decode_bytes<A: Allocator, L: Ledger>(
     neighbours: Neighbours,
     bitmap: &mut Bitmap<A>,
     x: u32,
     y: u32,
+    most: u32,
     left: u32,
+    windows: Windows,
     decoder: &mut ArithmeticDecoder<'_>,
     contexts: &mut [ArithmeticDecoderContext],
     steps: &mut Steps<L>,
-) -> u32
+) -> Taken
     requires near { IsNear neighbours }
     requires contexts { length contexts.old ≡ 2 ^ neighbour_count neighbours }
     requires aligned { x % 8 ≡ 0 }
-    requires columns { x + 8 < bitmap.old.width }
+    requires some { 1 ≤ most }
+    requires group { x % 32 + 8 * most ≤ 32 }
+    requires columns { x + 8 * most < bitmap.old.width }
     requires row { y < bitmap.old.height }
+    requires shows { Shows bitmap.old x y (8 * most + 12) windows }
     requires left { IsLeft bitmap.old x y left }
     requires small { left < 16 }
-    ensures holds { Decodes (nominal_pixels neighbours) false x y 8 bitmap.old decoder.old contexts.old bitmap.new decoder.new contexts.new }
-    ensures left { IsLeft bitmap.new (x + 8) y result }
-    ensures small { result < 16 }
+    ensures some { 1 ≤ result.bytes }
+    ensures most { result.bytes ≤ most }
+    ensures holds { Decodes (nominal_pixels neighbours) false x y (8 * result.bytes) bitmap.old decoder.old contexts.old bitmap.new decoder.new contexts.new }
+    ensures rows { SameAbove bitmap.old bitmap.new y }
+    ensures left { IsLeft bitmap.new (x + 8 * result.bytes) y result.left }
+    ensures small { result.left < 16 }
     ensures width { bitmap.new.width ≡ bitmap.old.width }
     ensures height { bitmap.new.height ≡ bitmap.old.height }
     ensures bytes { decoder.new.bytes ≡ decoder.old.bytes }
     ensures contexts { length contexts.new ≡ length contexts.old }
-    ensures decisions { CountsRuns (nominal_pixels neighbours) x y 8 bitmap.old decoder.old contexts.old steps.old.decisions steps.new.decisions }
-    ensures run_tests { steps.new.run_tests ≤ steps.old.run_tests + 1 }
-    ensures loads { steps.new.loads ≡ steps.old.loads + 2 }
+    ensures decisions { CountsRuns (nominal_pixels neighbours) x y (8 * result.bytes) bitmap.old decoder.old contexts.old steps.old.decisions steps.new.decisions }
+    ensures run_tests { steps.new.run_tests ≤ steps.old.run_tests + result.bytes }
+    ensures loads { steps.new.loads ≡ steps.old.loads }
     ensures words { steps.new.words ≡ steps.old.words + 1 }
 {
-    let windows = windows_at(bitmap, x, y, steps);
     let black = left % 2 == 1;
-    if take_run(neighbours, black, left, windows, decoder, contexts, steps) {
-        bitmap.store_pixels(x, y, 8, u64::from(uniform(black, 8)), steps);
-        return uniform(black, 4);
+    let bytes = take_runs(
+        neighbours, black, left, windows, most, decoder, contexts, steps,
+    );
+    if bytes > 0 {
+        let count = 8 * bytes;
+        bitmap.store_pixels(x, y, count, uniform(black, count), steps);
+        let left = uniform(black, 4) as u32;
+        return Taken { bytes, left };
     }
-    decode_bits(
+    let left = decode_bits(
         neighbours, bitmap, x, y, 8, left, windows, decoder, contexts, steps,
-    )
+    );
+    Taken { bytes: 1, left }
+}
+
+/// The windows about column `8 * done`: new ones at the start of each four bytes.
+#[inline(always)]
+fn refilled<A: Allocator, L: Ledger>(
+    windows: Windows,
+    bitmap: &Bitmap<A>,
+    done: u32,
+    y: u32,
+    steps: &mut Steps<L>,
+) -> Windows
+    requires column { 8 * done < 2 ^ 32 }
+    requires shows { 1 ≤ done % 4 → Shows bitmap.now (8 * done) y (64 - 8 * (done % 4)) windows }
+    ensures shows { Shows bitmap.now (8 * done) y (64 - 8 * (done % 4)) result }
+    ensures loads { steps.new.loads ≤ steps.old.loads + 2 }
+    ensures kept { 1 ≤ done % 4 → steps.new.loads ≡ steps.old.loads }
+    ensures steps { steps.new ≡ record steps.old { loads = steps.new.loads } }
+{
+    let phase = done % 4;
+    if phase > 0 {
+        return windows;
+    }
+    windows_at(bitmap, 8 * done, y, steps)
 }
 
 /// Row `y`, whose rows above are decoded.
+#[inline(always)]
 pub fn decode_row_by_bytes<A: Allocator, L: Ledger>(
     neighbours: Neighbours,
     bitmap: &mut Bitmap<A>,
@@ -234,26 +177,35 @@ pub fn decode_row_by_bytes<A: Allocator, L: Ledger>(
     ensures contexts { length contexts.new ≡ length contexts.old }
     ensures decisions { CountsRuns (nominal_pixels neighbours) 0 y bitmap.old.width bitmap.old decoder.old contexts.old steps.old.decisions steps.new.decisions }
     ensures run_tests { steps.new.run_tests ≤ steps.old.run_tests + (bitmap.old.width - 1) / 8 }
-    ensures loads { steps.new.loads ≡ steps.old.loads + 2 * ((bitmap.old.width - 1) / 8 + 1) }
-    ensures words { steps.new.words ≡ steps.old.words + ((bitmap.old.width - 1) / 8 + 1) }
+    ensures loads { steps.new.loads ≤ steps.old.loads + 2 * ((bitmap.old.width - 1) / 8 + 1) }
+    ensures words { steps.new.words ≤ steps.old.words + ((bitmap.old.width - 1) / 8 + 1) }
 {
     let width = bitmap.width();
     let whole = (width - 1) / 8;
+    let mut done = 0;
     let mut left = 0;
-    for index in 0..whole {
-        left = decode_byte(
+    let mut windows = Windows { above: 0, top: 0 };
+    while done < whole {
+        let shown = refilled(windows, bitmap, done, y, steps);
+        let most = (4 - done % 4).min(whole - done);
+        let taken = decode_bytes(
             neighbours,
             bitmap,
-            index * 8,
+            8 * done,
             y,
+            most,
             left,
+            shown,
             decoder,
             contexts,
             steps,
         );
+        windows = shown.moved(8 * taken.bytes);
+        left = taken.left;
+        done += taken.bytes;
     }
-    let x = whole * 8;
-    let windows = windows_at(bitmap, x, y, steps);
+    let x = 8 * whole;
+    let last = windows_at(bitmap, x, y, steps);
     decode_bits(
         neighbours,
         bitmap,
@@ -261,7 +213,7 @@ pub fn decode_row_by_bytes<A: Allocator, L: Ledger>(
         y,
         width - x,
         left,
-        windows,
+        last,
         decoder,
         contexts,
         steps,

@@ -30,7 +30,7 @@ fn mixed_context<A: Allocator, L: Ledger>(
     requires offset { offset < 32 }
     requires column { x + offset < 65536 }
     requires row { y < 65536 }
-    requires shows { Shows bitmap.now x y windows }
+    requires shows { Shows bitmap.now x y 64 windows }
     requires left { IsLeft bitmap.now (x + offset) y left }
     ensures value { result ≡ context_at (mixed_pixels neighbours adaptive.now) bitmap.now (x + offset) y }
     ensures bound { result < 2 ^ mixed_count neighbours adaptive.now }

@@ -1,6 +1,7 @@
 //! Windows on the rows above: 64 pixels of each, of which one load serves many contexts.
 ghost use Rattle.std.specs.Prelude.{◌≡◌, ℕ, ◌+◌, ◌-◌, ◌*◌, ◌/◌, ◌%◌, ◌^◌, ◌<◌, ◌≤◌, pos, ◌-ℤ◌};
-ghost use Rattle.jbig2_region.specs.inner.Neighbours.{IsNear, IsWindow, Shows, neighbour_count, stretch_bits};
+ghost use Rattle.jbig2_region.specs.inner.Neighbours.{IsNear, IsWindow, Shows, cut_of, neighbour_count, register_of, stretch_bits};
+ghost use Rattle.jbig2_base.specs.Grid.{Grid};
 
 use crate::template::neighbours::{Neighbours, Stretch, joined};
 use jbig2_base::bitmap::Bitmap;
@@ -26,7 +27,7 @@ fn window<A: Allocator, L: Ledger>(
     steps: &mut Steps<L>,
 ) -> u64
     requires aligned { x % 8 ≡ 0 }
-    ensures value { IsWindow bitmap.now x (pos y -ℤ pos back) result }
+    ensures value { IsWindow bitmap.now x (pos y -ℤ pos back) 64 result }
     ensures steps { steps.new ≡ record steps.old { loads = steps.old.loads + 1 } }
 {
     if y < back {
@@ -48,7 +49,7 @@ pub fn windows_at<A: Allocator, L: Ledger>(
     steps: &mut Steps<L>,
 ) -> Windows
     requires aligned { x % 8 ≡ 0 }
-    ensures value { Shows bitmap.now x y result }
+    ensures value { Shows bitmap.now x y 64 result }
     ensures steps { steps.new ≡ record steps.old { loads = steps.old.loads + 2 } }
 {
     let above = window(bitmap, x, y, 1, steps);
@@ -68,19 +69,47 @@ pub fn stretch_bits(stretch: Stretch, window: u64, offset: u32) -> u32
     ((window >> (55 - offset - stretch.reach)) % (1 << stretch.count)) as u32
 }
 
-impl Neighbours {
-    /// The number of the context `offset` columns right of the windows' column, of neighbours alone:
-    /// `left` are the pixels at the left, the nearest in bit 0.
+impl Windows {
+    /// The windows about the column so many pixels to the right, which show as many columns less.
     #[inline(always)]
-    pub fn context(self, left: u32, windows: Windows, offset: u32) -> u32
+    pub fn moved(self, pixels: u32) -> Windows
+        requires few { pixels ≤ 32 }
+        ensures { (g : Grid) (x y seen : ℕ) → seen ≤ 64 → Shows g x y seen self → Shows g (x + pixels) y (seen - pixels) result }
+    {
+        Windows {
+            above: self.above << pixels,
+            top: self.top << pixels,
+        }
+    }
+}
+
+impl Neighbours {
+    /// The pixels at the left and what the windows show of the two stretches, in one number. It moves
+    /// on by doubling, and each decoded pixel comes in at its low end: after so many pixels, up to
+    /// seven, `context` finds the next one's context in it.
+    #[inline(always)]
+    pub fn register(self, left: u32, windows: Windows) -> u64
         requires near { IsNear self }
-        requires offset { offset < 32 }
-        ensures value { result ≡ left % 2 ^ self.left + (stretch_bits self.above windows.above offset + stretch_bits self.top windows.top offset * 2 ^ self.above.count) * 2 ^ self.left }
+        requires small { left < 16 }
+        ensures value { result ≡ register_of self left windows }
+        ensures bound { result < 2 ^ 56 }
+    {
+        let above = (windows.above >> (48 - self.above.reach)) % 65536;
+        let top = (windows.top >> (48 - self.top.reach)) % 65536;
+        u64::from(left) + above * 65536 + top * 1099511627776
+    }
+
+    /// The number of the context that a register holds.
+    #[inline(always)]
+    pub fn context(self, register: u64) -> u32
+        requires near { IsNear self }
+        ensures value { result ≡ cut_of self register }
         ensures bound { result < 2 ^ neighbour_count self }
     {
-        let above = stretch_bits(self.above, windows.above, offset);
-        let top = stretch_bits(self.top, windows.top, offset);
+        let left = (register % (1 << self.left)) as u32;
+        let above = ((register >> 23) % (1 << self.above.count)) as u32;
+        let top = ((register >> 47) % (1 << self.top.count)) as u32;
         let higher = joined(above, top, self.above.count);
-        joined(left % (1 << self.left), higher, self.left)
+        joined(left, higher, self.left)
     }
 }

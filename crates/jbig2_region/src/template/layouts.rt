@@ -8,7 +8,8 @@ ghost use Rattle.jbig2_region.specs.declared.template.GenericTemplatePixels.TheV
 use crate::template::neighbours::{Adaptives, Layout, Neighbours, Stretch};
 use crate::template::{AdaptiveTemplatePixel, Template};
 
-fn neighbours_of(
+#[inline(always)]
+pub(crate) fn neighbours_of(
     left: u32,
     above_reach: u32,
     above_count: u32,

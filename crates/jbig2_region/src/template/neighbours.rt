@@ -5,7 +5,7 @@ use crate::template::AdaptiveTemplatePixel;
 
 /// `count` pixels of a row above, the rightmost of them `reach` columns right of the pixel that is
 /// decoded.
-#[derive(Clone, Copy)]
+#[derive(Clone, Copy, PartialEq, Eq)]
 pub struct Stretch {
     pub reach: u32,
     pub count: u32,
@@ -13,7 +13,7 @@ pub struct Stretch {
 
 /// Pixels side by side: `left` of them left of the pixel that is decoded, and a stretch in each of
 /// the two rows above.
-#[derive(Clone, Copy)]
+#[derive(Clone, Copy, PartialEq, Eq)]
 pub struct Neighbours {
     pub left: u32,
     pub above: Stretch,

@@ -11,7 +11,7 @@ returns-then-predicted-clause-holds g c =
 pub returns-in_default-clause-decisions : goal.returns-in_default-clause-decisions
 returns-in_default-clause-decisions g c =
     let none : c.args.layout.now.adaptive ≡ None = search rules in
-    row-nominal c.args.layout.now.neighbours c.args.layout.now.adaptive c.args.predicted c.args.y c.args.bitmap.now c.args.decoder.now c.args.contexts.now c.args.steps.now.decisions c.decode_row_by_bytes.new.steps.decisions none c.if-predicted.false c.decode_row_by_bytes.ensures.decisions
+    row-nominal c.args.layout.now.neighbours c.args.layout.now.adaptive c.args.predicted c.args.y c.args.bitmap.now c.args.decoder.now c.args.contexts.now c.args.steps.now.decisions c.decode_nominal_row.new.steps.decisions none c.if-predicted.false c.decode_nominal_row.ensures.decisions
 
 pub returns-clause-decisions : goal.returns-clause-decisions
 returns-clause-decisions g c =

@@ -2,9 +2,9 @@ use Rattle.std.proofs.Common.{arith, refl, length, ◌≡◌, ◌<◌, ◌+◌, 
 use Rattle.jbig2_base.specs.Counts.{Counts}
 use Rattle.jbig2_base.specs.Grid.{Grid}
 use Rattle.jbig2_base.specs.inner.Writes.{with_pixels}
-use Rattle.jbig2_region.specs.inner.Neighbours.{IsLeft, mixed_pixels}
+use Rattle.jbig2_region.specs.inner.Neighbours.{IsLeft, mixed_pixels, SameAbove}
 use Rattle.jbig2_region.proofs.StoreLemmas.{decodes-none, decodes-pixel, left-pixel, stored-above, same-above-then, inside-states}
-use Rattle.jbig2_region.proofs.WindowLemmas.{SameAbove, shows-same}
+use Rattle.jbig2_region.proofs.WindowLemmas.{shows-same}
 use Rattle.jbig2_region.proofs.generic_kernel.pixels.decode_pixels.Goals as goal
 
 pub loop-offset-init : goal.loop-offset-init
@@ -25,7 +25,7 @@ loop-offset-init g c =
     }
 
 pub mixed_context-context-requires-clause-shows : goal.mixed_context-context-requires-clause-shows
-mixed_context-context-requires-clause-shows g c = shows-same c.args.bitmap.now c.loop-offset.bitmap c.args.x c.args.y c.windows_at-windows.result c.loop-offset.invariant.above c.windows_at-windows.ensures.value
+mixed_context-context-requires-clause-shows g c = shows-same c.args.bitmap.now c.loop-offset.bitmap c.args.x c.args.y 64 c.windows_at-windows.result c.loop-offset.invariant.above c.windows_at-windows.ensures.value
 
 pub loop-offset-preserved : goal.loop-offset-preserved
 loop-offset-preserved g c =

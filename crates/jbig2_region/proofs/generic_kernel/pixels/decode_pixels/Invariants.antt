@@ -1,6 +1,5 @@
 use Rattle.std.proofs.Common.{◌≡◌, ◌+◌, ◌*◌, ◌<◌, false}
-use Rattle.jbig2_region.specs.inner.Neighbours.{Decodes, IsLeft, adaptive_count, mixed_pixels}
-use Rattle.jbig2_region.proofs.WindowLemmas.{SameAbove}
+use Rattle.jbig2_region.specs.inner.Neighbours.{Decodes, IsLeft, adaptive_count, mixed_pixels, SameAbove}
 use Rattle.jbig2_region.proofs.generic_kernel.pixels.decode_pixels.Given as goal
 
 abbrev pub invariant-loop-offset : goal.invariant-loop-offset

@@ -1,0 +1,94 @@
+//! Rows of the templates with nominal adaptive pixels: each template has a loop of its own, in which
+//! the places of its pixels are constants.
+ghost use Rattle.std.specs.Prelude.{◌≡◌, ◌+◌, ◌-◌, ◌*◌, ◌/◌, ◌^◌, ◌<◌, ◌≤◌, false, length};
+ghost use Rattle.jbig2_region.specs.inner.Layouts.{neighbours_of};
+ghost use Rattle.jbig2_region.specs.inner.Neighbours.{Decodes, IsNear, neighbour_count, nominal_pixels};
+ghost use Rattle.jbig2_region.specs.RunBytes.{CountsRuns};
+
+use crate::generic_kernel::bytes::decode_row_by_bytes;
+use crate::template::layouts::neighbours_of;
+use crate::template::neighbours::Neighbours;
+use jbig2_base::bitmap::Bitmap;
+use jbig2_base::bitmap::steps::Steps;
+use jbig2_coder::arithmetic_decoder::{ArithmeticDecoder, ArithmeticDecoderContext};
+use std::alloc::Allocator;
+use std::sync::ledger::Ledger;
+
+/// Row `y`, whose rows above are decoded, of the template that the constants say.
+#[inline(never)]
+fn decode_constant_row<
+    A: Allocator,
+    L: Ledger,
+    const LEFT: u32,
+    const ABOVE_REACH: u32,
+    const ABOVE_COUNT: u32,
+    const TOP_REACH: u32,
+    const TOP_COUNT: u32,
+>(
+    neighbours: Neighbours,
+    bitmap: &mut Bitmap<A>,
+    y: u32,
+    decoder: &mut ArithmeticDecoder<'_>,
+    contexts: &mut [ArithmeticDecoderContext],
+    steps: &mut Steps<L>,
+)
+    requires same { neighbours ≡ neighbours_of LEFT ABOVE_REACH ABOVE_COUNT TOP_REACH TOP_COUNT }
+    requires near { IsNear neighbours }
+    requires contexts { length contexts.old ≡ 2 ^ neighbour_count neighbours }
+    requires some { 1 ≤ bitmap.old.width }
+    requires row { y < bitmap.old.height }
+    ensures holds { Decodes (nominal_pixels neighbours) false 0 y bitmap.old.width bitmap.old decoder.old contexts.old bitmap.new decoder.new contexts.new }
+    ensures width { bitmap.new.width ≡ bitmap.old.width }
+    ensures height { bitmap.new.height ≡ bitmap.old.height }
+    ensures bytes { decoder.new.bytes ≡ decoder.old.bytes }
+    ensures contexts { length contexts.new ≡ length contexts.old }
+    ensures decisions { CountsRuns (nominal_pixels neighbours) 0 y bitmap.old.width bitmap.old decoder.old contexts.old steps.old.decisions steps.new.decisions }
+    ensures run_tests { steps.new.run_tests ≤ steps.old.run_tests + (bitmap.old.width - 1) / 8 }
+    ensures loads { steps.new.loads ≤ steps.old.loads + 2 * ((bitmap.old.width - 1) / 8 + 1) }
+    ensures words { steps.new.words ≤ steps.old.words + ((bitmap.old.width - 1) / 8 + 1) }
+{
+    let constant = neighbours_of(LEFT, ABOVE_REACH, ABOVE_COUNT, TOP_REACH, TOP_COUNT);
+    decode_row_by_bytes(constant, bitmap, y, decoder, contexts, steps);
+}
+
+/// Row `y`, whose rows above are decoded.
+pub fn decode_nominal_row<A: Allocator, L: Ledger>(
+    neighbours: Neighbours,
+    bitmap: &mut Bitmap<A>,
+    y: u32,
+    decoder: &mut ArithmeticDecoder<'_>,
+    contexts: &mut [ArithmeticDecoderContext],
+    steps: &mut Steps<L>,
+)
+    requires near { IsNear neighbours }
+    requires contexts { length contexts.old ≡ 2 ^ neighbour_count neighbours }
+    requires some { 1 ≤ bitmap.old.width }
+    requires row { y < bitmap.old.height }
+    ensures holds { Decodes (nominal_pixels neighbours) false 0 y bitmap.old.width bitmap.old decoder.old contexts.old bitmap.new decoder.new contexts.new }
+    ensures width { bitmap.new.width ≡ bitmap.old.width }
+    ensures height { bitmap.new.height ≡ bitmap.old.height }
+    ensures bytes { decoder.new.bytes ≡ decoder.old.bytes }
+    ensures contexts { length contexts.new ≡ length contexts.old }
+    ensures decisions { CountsRuns (nominal_pixels neighbours) 0 y bitmap.old.width bitmap.old decoder.old contexts.old steps.old.decisions steps.new.decisions }
+    ensures run_tests { steps.new.run_tests ≤ steps.old.run_tests + (bitmap.old.width - 1) / 8 }
+    ensures loads { steps.new.loads ≤ steps.old.loads + 2 * ((bitmap.old.width - 1) / 8 + 1) }
+    ensures words { steps.new.words ≤ steps.old.words + ((bitmap.old.width - 1) / 8 + 1) }
+{
+    if neighbours == neighbours_of(4, 3, 7, 2, 5) {
+        decode_constant_row::<A, L, 4, 3, 7, 2, 5>(neighbours, bitmap, y, decoder, contexts, steps);
+        return;
+    }
+    if neighbours == neighbours_of(3, 3, 6, 2, 4) {
+        decode_constant_row::<A, L, 3, 3, 6, 2, 4>(neighbours, bitmap, y, decoder, contexts, steps);
+        return;
+    }
+    if neighbours == neighbours_of(2, 2, 5, 1, 3) {
+        decode_constant_row::<A, L, 2, 2, 5, 1, 3>(neighbours, bitmap, y, decoder, contexts, steps);
+        return;
+    }
+    if neighbours == neighbours_of(4, 2, 6, 0, 0) {
+        decode_constant_row::<A, L, 4, 2, 6, 0, 0>(neighbours, bitmap, y, decoder, contexts, steps);
+        return;
+    }
+    decode_row_by_bytes(neighbours, bitmap, y, decoder, contexts, steps);
+}

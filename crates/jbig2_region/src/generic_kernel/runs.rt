@@ -1,0 +1,140 @@
+//! Runs of likely symbols in rows of a template without adaptive pixels.
+ghost use Rattle.std.specs.Prelude.{◌≡◌, ℕ, ◌+◌, ◌-◌, ◌*◌, ◌/◌, ◌%◌, ◌^◌, ◌<◌, ◌≤◌, false, true, max, length, slice_index_or, if◌then◌else◌};
+ghost use Rattle.jbig2_base.specs.Grid.{Grid};
+ghost use Rattle.jbig2_coder.specs.Coder.{fresh};
+ghost use Rattle.jbig2_coder.specs.Table.{row_of};
+ghost use Rattle.jbig2_region.specs.inner.Holds.{Holds};
+ghost use Rattle.jbig2_region.specs.inner.LongRuns.{is_run_for};
+ghost use Rattle.jbig2_region.specs.inner.Neighbours.{IsLeft, IsNear, Shows, is_field, neighbour_count, neighbours_stay, nominal_pixels, stretch_stays};
+ghost use Rattle.jbig2_region.specs.Raster.{Region};
+ghost use Rattle.jbig2_region.specs.RunBytes.{all_of, is_run_of, same_colour};
+
+use crate::generic_kernel::windows::Windows;
+use crate::template::neighbours::{Neighbours, Stretch};
+use jbig2_base::bitmap::steps::Steps;
+use jbig2_coder::arithmetic_decoder::{ArithmeticDecoder, ArithmeticDecoderContext};
+use std::sync::ledger::Ledger;
+
+/// Whether a stretch is all of one colour, seen from the window's column and from each of the next
+/// `pixels` columns right of it.
+#[inline(always)]
+fn stretch_stays(stretch: Stretch, pixels: u32, black: bool, window: u64) -> bool
+    requires reach { stretch.reach ≤ 3 }
+    requires count { stretch.count ≤ 7 }
+    requires few { pixels ≤ 32 }
+    ensures { result ≡ stretch_stays stretch pixels black window }
+{
+    if stretch.count == 0 {
+        return true;
+    }
+    let count = stretch.count + pixels;
+    let bits = (window >> (55 - pixels - stretch.reach)) % (1 << count);
+    if black {
+        return bits == (1 << count) - 1;
+    }
+    bits == 0
+}
+
+/// Whether the pixels at the left are all of one colour.
+#[inline(always)]
+fn left_stays(count: u32, black: bool, left: u32) -> bool
+    requires count { count ≤ 4 }
+    ensures { result ≡ is_field left 0 count black }
+{
+    let bits = left % (1 << count);
+    if black {
+        return bits == (1 << count) - 1;
+    }
+    bits == 0
+}
+
+/// Whether, with the next `pixels` of one colour, their contexts and the one after them are all of
+/// that colour.
+#[inline(always)]
+fn stays(neighbours: Neighbours, pixels: u32, black: bool, left: u32, windows: Windows) -> bool
+    requires near { IsNear neighbours }
+    requires few { pixels ≤ 32 }
+    ensures { result ≡ neighbours_stay neighbours pixels black left windows }
+{
+    left_stays(neighbours.left, black, left)
+        && stretch_stays(neighbours.above, pixels, black, windows.above)
+        && stretch_stays(neighbours.top, pixels, black, windows.top)
+}
+
+/// How many of the next bytes stay in one context: all of four, or one, or none.
+#[inline(always)]
+fn staying_bytes(neighbours: Neighbours, black: bool, left: u32, windows: Windows, most: u32) -> u32
+    requires near { IsNear neighbours }
+    requires some { 1 ≤ most }
+    requires few { most ≤ 4 }
+    ensures most { result ≤ most }
+    ensures none { result ≡ 0 → neighbours_stay neighbours 8 black left windows ≡ false }
+    ensures stay { 1 ≤ result → neighbours_stay neighbours (8 * result) black left windows ≡ true }
+{
+    if most == 4 && stays(neighbours, 32, black, left, windows) {
+        return 4;
+    }
+    if stays(neighbours, 8, black, left, windows) {
+        return 1;
+    }
+    0
+}
+
+/// The number of the context whose pixels are all of one colour, out of `count`.
+#[inline(always)]
+fn uniform_context(black: bool, count: usize) -> usize
+    requires { 1 ≤ count }
+    ensures value { result ≡ (if black then count - 1 else 0) }
+    ensures inside { result < count }
+{
+    if black {
+        return count - 1;
+    }
+    0
+}
+
+#[inline(always)]
+fn same_colour(black: bool, other: bool) -> bool
+    ensures { result ≡ same_colour black other }
+{
+    if black {
+        return other;
+    }
+    !other
+}
+
+/// Takes of the next `most` bytes as many as are one run of `black` from the first on, or so many of
+/// these as are tested at once: none only if the first is no such run.
+#[inline(always)]
+pub fn take_runs<L: Ledger>(
+    neighbours: Neighbours,
+    black: bool,
+    left: u32,
+    windows: Windows,
+    most: u32,
+    decoder: &mut ArithmeticDecoder<'_>,
+    contexts: &[ArithmeticDecoderContext],
+    steps: &mut Steps<L>,
+) -> u32
+    requires near { IsNear neighbours }
+    requires contexts { length contexts.now ≡ 2 ^ neighbour_count neighbours }
+    requires some { 1 ≤ most }
+    requires few { most ≤ 4 }
+    ensures most { result ≤ most }
+    ensures none { (w h x y : ℕ) (r : Region) (grid : Grid) → length r.pixels ≡ y * w + x → x + 8 * most < w → y < h → Shows grid x y (8 * most + 12) windows → IsLeft grid x y left → Holds w h decoder.old.bytes r grid decoder.old contexts.now → result ≡ 0 → is_run_of (nominal_pixels neighbours) w h decoder.old.bytes r black ≡ false }
+    ensures run { (w h x y : ℕ) (r : Region) (grid : Grid) → length r.pixels ≡ y * w + x → x + 8 * most < w → y < h → Shows grid x y (8 * most + 12) windows → IsLeft grid x y left → Holds w h decoder.old.bytes r grid decoder.old contexts.now → 1 ≤ result → is_run_for (nominal_pixels neighbours) w h decoder.old.bytes r black (8 * result) ≡ true }
+    ensures coder { decoder.new ≡ record decoder.old { registers = record decoder.old.registers { a = decoder.old.registers.a - 8 * result * (row_of (slice_index_or contexts.now (all_of (nominal_pixels neighbours) black) fresh).row).qe } } }
+    ensures run_tests { steps.new.run_tests ≤ steps.old.run_tests + max result 1 }
+    ensures steps { steps.new ≡ record steps.old { run_tests = steps.new.run_tests } }
+{
+    let staying = staying_bytes(neighbours, black, left, windows, most);
+    if staying == 0 {
+        return 0;
+    }
+    let number = uniform_context(black, contexts.len());
+    let context = contexts[number];
+    if !same_colour(black, context.likely_symbol()) {
+        return 0;
+    }
+    decoder.decode_mps_runs(&context, 8, staying, steps)
+}
