@@ -2,7 +2,8 @@
 use Rattle.std.specs.Prelude.{ℕ, Bool, ◌&&◌, List, slice_index_or}
 use Rattle.jbig2_coder.specs.Coder.{fresh, all_quiet}
 use Rattle.jbig2_region.specs.Raster.{Region}
-use Rattle.jbig2_region.specs.RunBytes.{all_of, stays, same_colour}
+use Rattle.jbig2_base.specs.Grid.{same_colour}
+use Rattle.jbig2_region.specs.RunBytes.{all_of, stays}
 use Rattle.jbig2_region.specs.declared.template.AdaptiveTemplatePixel.{AdaptiveTemplatePixel}
 
 -- whether the next n pixels are a run of a colour: of likely symbols, quiet, and in one context

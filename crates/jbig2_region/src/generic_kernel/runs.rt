@@ -1,13 +1,13 @@
 //! Runs of likely symbols in rows of a template without adaptive pixels.
 ghost use Rattle.std.specs.Prelude.{◌≡◌, ℕ, ◌+◌, ◌-◌, ◌*◌, ◌/◌, ◌%◌, ◌^◌, ◌<◌, ◌≤◌, false, true, max, length, slice_index_or, if◌then◌else◌};
-ghost use Rattle.jbig2_base.specs.Grid.{Grid};
+ghost use Rattle.jbig2_base.specs.Grid.{Grid, same_colour};
 ghost use Rattle.jbig2_coder.specs.Coder.{fresh};
 ghost use Rattle.jbig2_coder.specs.Table.{row_of};
 ghost use Rattle.jbig2_region.specs.inner.Holds.{Holds};
 ghost use Rattle.jbig2_region.specs.inner.LongRuns.{is_run_for};
 ghost use Rattle.jbig2_region.specs.inner.Neighbours.{IsLeft, IsNear, Shows, is_field, neighbour_count, neighbours_stay, nominal_pixels, stretch_stays};
 ghost use Rattle.jbig2_region.specs.Raster.{Region};
-ghost use Rattle.jbig2_region.specs.RunBytes.{all_of, is_run_of, same_colour};
+ghost use Rattle.jbig2_region.specs.RunBytes.{all_of, is_run_of};
 
 use crate::generic_kernel::windows::Windows;
 use crate::template::neighbours::{Neighbours, Stretch};
