@@ -4,7 +4,7 @@ ghost use Rattle.jbig2_base.specs.Answer.{Gives};
 ghost use Rattle.jbig2_base.specs.Bits.{IsAligned};
 ghost use Rattle.jbig2_coder.specs.PrefixCode.{AreShort, table_of};
 ghost use Rattle.jbig2_text.specs.BitFields.{invalid_code};
-ghost use Rattle.jbig2_text.specs.SymbolCodes.{lines_from, short_lengths, repeated, run_at, next_run, runs_at, symbol_codes_at, symbol_codes_from};
+ghost use Rattle.jbig2_text.specs.SymbolCodes.{lines_from, short_lengths, repeated, run_at, next_run, runs_at, runcodes_at, symbol_lengths_at, symbol_codes_at, symbol_codes_from};
 
 use crate::bit_fields::value_field;
 use jbig2_base::error::{DecodeError, HuffmanError, Result};
@@ -123,6 +123,15 @@ fn read_run<A: Allocator, B: Allocator>(
     push_run(runcode, reader, lengths)
 }
 
+/// The codes of the runcodes.
+#[tactic(auto, unfolding(crate::specs::SymbolCodes::runcodes_at))]
+fn read_runcodes<A: Allocator + Clone>(alloc: A, reader: &mut Reader<'_>) -> Result<HuffmanTable<A>>
+    ensures { Gives (λ table. (table, reader.new)) result (runcodes_at reader.old) }
+{
+    let lengths = read_short_lengths(alloc.clone()?, reader)?;
+    codes_of(alloc, &lengths)
+}
+
 /// The lengths of so many symbols, or more where a run goes past them.
 fn read_lengths<A: Allocator, B: Allocator>(
     alloc: A,
@@ -131,7 +140,7 @@ fn read_lengths<A: Allocator, B: Allocator>(
     reader: &mut Reader<'_>,
 ) -> Result<Vec<u8, A>>
     requires { count ≤ 2 ^ 21 }
-    ensures { Gives (λ lengths. (lengths.items, reader.new)) result (runs_at count count runcodes.now [] reader.old) }
+    ensures { Gives (λ lens. (lens.items, reader.new)) result (runs_at count count runcodes.now [] reader.old) }
 {
     let mut lengths = Vec::new(alloc);
     // Each run has one length at least.
@@ -147,6 +156,26 @@ fn read_lengths<A: Allocator, B: Allocator>(
     Ok(lengths)
 }
 
+/// The lengths of so many symbols.
+#[tactic(auto, unfolding(crate::specs::SymbolCodes::symbol_lengths_at))]
+fn read_symbol_lengths<A: Allocator, B: Allocator>(
+    alloc: A,
+    count: u32,
+    runcodes: &HuffmanTable<B>,
+    reader: &mut Reader<'_>,
+) -> Result<Vec<u8, A>>
+    requires { count ≤ 2 ^ 21 }
+    ensures value { let meant = symbol_lengths_at count runcodes.now reader.old in
+        Gives (λ lens. (lens.items, reader.new)) result meant }
+    ensures few { IfOk result (λ lens. length lens.items ≤ count) }
+{
+    let lengths = read_lengths(alloc, count, runcodes, reader)?;
+    if lengths.len() > count as usize {
+        return Err(invalid_code());
+    }
+    Ok(lengths)
+}
+
 /// Reads the codes of so many symbols.
 #[tactic(auto, unfolding(crate::specs::SymbolCodes::symbol_codes_from))]
 fn read_symbol_codes<A: Allocator + Clone>(
@@ -158,12 +187,8 @@ fn read_symbol_codes<A: Allocator + Clone>(
     ensures value { Gives (λ table. (table, reader.new)) result (symbol_codes_from count reader.old) }
     ensures aligned { OnOk result (IsAligned reader.new) }
 {
-    let short = read_short_lengths(alloc.clone()?, reader)?;
-    let runcodes = codes_of(alloc.clone()?, &short)?;
-    let lengths = read_lengths(alloc.clone()?, count, &runcodes, reader)?;
-    if lengths.len() > count as usize {
-        return Err(invalid_code());
-    }
+    let runcodes = read_runcodes(alloc.clone()?, reader)?;
+    let lengths = read_symbol_lengths(alloc.clone()?, count, &runcodes, reader)?;
     let codes = codes_of(alloc, &lengths)?;
     reader.align();
     Ok(codes)
