@@ -89,8 +89,8 @@ across = record {
     width = 4;
     height = 8;
     pixels =
-      replicate 20 false
-      ++ false ∷ false ∷ true ∷ false ∷ false ∷ false ∷ false ∷ true ∷ false ∷ false ∷ true ∷ true ∷ [];
+        replicate 20 false
+        ++ false ∷ false ∷ true ∷ false ∷ false ∷ false ∷ false ∷ true ∷ false ∷ false ∷ true ∷ true ∷ [];
   };
   x_location = 0;
   y_location = 0;

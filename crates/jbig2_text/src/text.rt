@@ -171,8 +171,11 @@ pub fn decode_into<
 ) -> Result<()>
     requires strips { header.now.flags.log_strip_size ≤ 3 }
     requires few { length symbols.now ≤ 2 ^ 21 }
-    requires coloured { bitmap.old ≡ blank header.now.region_info.width header.now.region_info.height header.now.flags.default_pixel }
-    ensures value { Gives (λ _. bitmap.new) result (text_answer (header_view header.now) (symbols_view symbols.now) (customs_view referred_tables.now)) }
+    requires coloured { let info = header.now.region_info in
+        bitmap.old ≡ blank info.width info.height header.now.flags.default_pixel }
+    ensures value { let customs = customs_view referred_tables.now in
+        let meant = text_answer (header_view header.now) (symbols_view symbols.now) customs in
+        Gives (λ _. bitmap.new) result meant }
     ensures same { OnErr result (bitmap.new ≡ bitmap.old) }
 {
     match &header.coding {
@@ -208,7 +211,9 @@ pub fn decode<H: Allocator, B: Allocator, T: Allocator, M: Allocator + Clone, L:
 ) -> Result<DecodedRegion<M>>
     requires strips { header.now.flags.log_strip_size ≤ 3 }
     requires few { length symbols.now ≤ 2 ^ 21 }
-    ensures { Gives (λ region. region_view region) result (text_decoded (header_view header.now) (symbols_view symbols.now) (customs_view referred_tables.now)) }
+    ensures { let customs = customs_view referred_tables.now in
+        let meant = text_decoded (header_view header.now) (symbols_view symbols.now) customs in
+        Gives (λ region. region_view region) result meant }
 {
     let region_info = &header.region_info;
     let mut bitmap = Bitmap::new_with(

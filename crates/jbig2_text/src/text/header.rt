@@ -139,7 +139,8 @@ fn other_flags(flags: u16, combination_operator: CombinationOperator) -> TextReg
 #[tactic(auto, unfolding(crate::specs::TextHeader::text_flags_at))]
 fn parse_flags(reader: &mut Reader<'_>) -> Result<(bool, TextRegionFlags)>
     requires { IsAligned reader.old }
-    ensures value { Answers (λ flags. (flags, reader.new.bytes)) result (text_flags_at reader.old.bytes) }
+    ensures value { let meant = text_flags_at reader.old.bytes in
+        Answers (λ flags. (flags, reader.new.bytes)) result meant }
     ensures aligned { IsAligned reader.new }
     ensures strips { IfOk result (λ flags. flags.1.log_strip_size ≤ 3) }
 {
@@ -169,7 +170,8 @@ fn parse_table_numbers(
     use_huffman: bool,
 ) -> Result<Option<TextRegionHuffmanFlags>>
     requires { IsAligned reader.old }
-    ensures value { Answers (λ numbers. (numbers, reader.new.bytes)) result (table_numbers_at use_huffman reader.old.bytes) }
+    ensures value { let meant = table_numbers_at use_huffman reader.old.bytes in
+        Answers (λ numbers. (numbers, reader.new.bytes)) result meant }
     ensures aligned { IsAligned reader.new }
 {
     if !use_huffman {
@@ -185,7 +187,8 @@ fn parse_refinement_pixels(
     flags: &TextRegionFlags,
 ) -> Result<[AdaptiveTemplatePixel; 2]>
     requires { IsAligned reader.old }
-    ensures value { Answers (λ pixels. (pixels, reader.new.bytes)) result (text_pixels_at flags.now.use_refinement flags.now.refinement_template reader.old.bytes) }
+    ensures value { let meant = text_pixels_at flags.now.use_refinement flags.now.refinement_template reader.old.bytes in
+        Answers (λ pixels. (pixels, reader.new.bytes)) result meant }
     ensures aligned { IsAligned reader.new }
 {
     if flags.use_refinement {
@@ -199,7 +202,8 @@ fn parse_refinement_pixels(
 #[tactic(auto, unfolding(crate::specs::TextHeader::text_fields_at))]
 fn parse_fields(reader: &mut Reader<'_>) -> Result<TextFields>
     requires { IsAligned reader.old }
-    ensures value { Answers (λ fields. (fields, reader.new.bytes)) result (text_fields_at reader.old.bytes) }
+    ensures value { let meant = text_fields_at reader.old.bytes in
+        Answers (λ fields. (fields, reader.new.bytes)) result meant }
     ensures aligned { IsAligned reader.new }
     ensures strips { IfOk result (λ fields. fields.flags.log_strip_size ≤ 3) }
 {
@@ -251,7 +255,8 @@ pub fn parse<'a, A: Allocator + Clone>(
 ) -> Result<TextRegionHeader<'a, A>>
     requires aligned { IsAligned reader.old }
     requires few { num_symbols ≤ 2 ^ 21 }
-    ensures value { Gives (λ h. (header_view h, reader.new.bytes)) result (text_header_at num_symbols strict reader.old.bytes) }
+    ensures value { let meant = text_header_at num_symbols strict reader.old.bytes in
+        Gives (λ h. (header_view h, reader.new.bytes)) result meant }
     ensures aligned { IsAligned reader.new }
     ensures strips { IfOk result (λ h. h.flags.log_strip_size ≤ 3) }
     ensures stays { OnErr result (reader.new ≡ reader.old) }
