@@ -1,6 +1,9 @@
 mod CellLemmas
+mod DrawSteps
 mod GrayLemmas
 mod HalftoneLemmas
+mod LaneLemmas
 mod PatternLemmas
 mod PlaneLemmas
+mod RowLemmas
 mod WorkedHalftones

@@ -1,0 +1,23 @@
+use Rattle.std.proofs.Common.{◌≡◌, false, arith}
+use Rattle.jbig2_halftone.specs.GrayScale.{GrayScale, gray_view}
+use Rattle.jbig2_halftone.proofs.PatternLemmas.{blank-made}
+use Rattle.jbig2_halftone.proofs.PlaneLemmas.{image-sides, behind-none, coded-holds, coded-next, coded-all, coded-contexts}
+use Rattle.jbig2_halftone.proofs.gray_scale.planes.read_coded_planes.Goals as goal
+
+pub loop-init : goal.loop-init
+loop-init g c =
+    behind-none (gray_view c.args.params.now) c.args.bytes.now c.new-planes.result.items c.new-decoder.result c.args.contexts.now c.new-planes.ensures.items c.new-decoder.ensures.bytes c.new-decoder.ensures.registers c.requires.fresh
+
+pub loop-preserved : goal.loop-preserved
+loop-preserved g c =
+    let p : GrayScale = gray_view c.args.params.now in
+    let sides = image-sides p c.loop.counter c.requires.sides (omega arith) in
+    let white = blank-made p.width p.height false c.in_ok-plane.plane sides.0 sides.1 c.in_ok-plane.ensures in
+    let holds = coded-holds p c.args.bytes.now c.loop.counter c.loop.planes.items c.in_ok-plane.plane c.decode_plane.new.plane c.loop.decoder c.decode_plane.new.decoder c.loop.contexts c.decode_plane.new.contexts white c.decode_plane.ensures.holds c.loop.invariant in
+    coded-next p c.args.bytes.now c.loop.counter c.loop.planes.items c.push.new.self.items c.decode_plane.new.plane c.loop.decoder c.decode_plane.new.decoder c.loop.contexts c.decode_plane.new.contexts holds c.in_ok-push.ensures.items c.loop.invariant
+
+pub returns-clause-value : goal.returns-clause-value
+returns-clause-value g c = coded-all (gray_view c.args.params.now) c.args.bytes.now c.loop.counter c.loop.planes.items c.loop.decoder c.loop.contexts (omega arith) c.loop.invariant
+
+pub returns-clause-contexts : goal.returns-clause-contexts
+returns-clause-contexts g c = coded-contexts (gray_view c.args.params.now) c.args.bytes.now c.loop.counter c.loop.planes.items c.loop.decoder c.loop.contexts (omega arith) c.loop.invariant
