@@ -1,5 +1,6 @@
 mod CellLemmas
 mod DrawSteps
+mod GrayCounts
 mod GrayLemmas
 mod HalftoneLemmas
 mod LaneLemmas

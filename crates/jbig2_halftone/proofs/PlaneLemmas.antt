@@ -58,7 +58,7 @@ unskipped-pixels pixels t w h input (suc n) r plain =
     unskipped-pixel pixels t w h input (after_pixels (coding_of false t pixels) w h input n r) (after_pixels-predicted (coding_of false t pixels) w h input n r ∙ plain)
     ∙ ap (λ (s : Region). after_pixel (skipping_coding pixels None) w h input s) (unskipped-pixels pixels t w h input n r plain)
 
-rows-plain : (pixels : List AdaptiveTemplatePixel) (t : Template) (w h : ℕ) (input : List ℕ) (n : ℕ) (r : Region) → r.predicted ≡ false → (after_rows (coding_of false t pixels) w h input n r).predicted ≡ false
+pub rows-plain : (pixels : List AdaptiveTemplatePixel) (t : Template) (w h : ℕ) (input : List ℕ) (n : ℕ) (r : Region) → r.predicted ≡ false → (after_rows (coding_of false t pixels) w h input n r).predicted ≡ false
 unfolding after_rows row_begun
 rows-plain pixels t w h input zero r plain = plain
 rows-plain pixels t w h input (suc n) r plain =

@@ -1,7 +1,8 @@
 //! Gray-scale images (T.88, Annex C).
-ghost use Rattle.std.specs.Prelude.{◌≡◌, ◌≤◌, [], Ok};
+ghost use Rattle.std.specs.Prelude.{◌≡◌, ◌≤◌, [], Ok, OnOk};
 ghost use Rattle.jbig2_base.specs.Answer.{Gives, Leaves};
 ghost use Rattle.jbig2_halftone.specs.GrayScale.{gray_view, gray_values, gray_scale_image, gray_contexts};
+ghost use Rattle.jbig2_halftone.specs.GraySteps.{CountsImage};
 
 mod lanes;
 pub(crate) mod planes;
@@ -66,6 +67,7 @@ pub fn decode_gray_scale_image<M: Allocator, A: Allocator + Clone, B: Allocator,
     requires { params.now.bits_per_pixel ≤ 32 }
     ensures value { Gives (λ values. values.items) result (gray_scale_image (gray_view params.now) bytes.now) }
     ensures contexts { Leaves result contexts.new.items (gray_contexts (gray_view params.now) bytes.now contexts.old.items) }
+    ensures steps { OnOk result (CountsImage (gray_view params.now) bytes.now steps.old steps.new) }
 {
     let too_long = params.width > MAX_DIMENSION || params.height > MAX_DIMENSION;
     if params.bits_per_pixel > 0 && too_long {

@@ -1,11 +1,13 @@
 //! The coded planes of a gray-scale image, the highest first (T.88, C.5).
-ghost use Rattle.std.specs.Prelude.{◌≡◌, ◌^◌, ◌≤◌, false, length};
+ghost use Rattle.std.specs.Prelude.{◌≡◌, ◌^◌, ◌≤◌, false, length, None, OnOk};
 ghost use Rattle.jbig2_base.specs.Answer.{Gives, Leaves};
 ghost use Rattle.jbig2_base.specs.Grid.{blank};
-ghost use Rattle.jbig2_region.specs.Raster.{fresh_contexts};
+ghost use Rattle.jbig2_region.specs.Raster.{fresh_contexts, no_pixels};
+ghost use Rattle.jbig2_region.specs.Skipping.{skip_of};
 ghost use Rattle.jbig2_region.specs.Templates.{context_bits};
 ghost use Rattle.jbig2_region.specs.inner.Holds.{DecodesRegion};
 ghost use Rattle.jbig2_halftone.specs.GrayScale.{gray_view, nominal_pixels, plane_coding, mmr_plane, planes_by_coder, planes_by_mmr, planes_of, planes_contexts, after_planes, image_is_too_large};
+ghost use Rattle.jbig2_halftone.specs.GraySteps.{CountsPlane, CountsPlanes, CountsRead};
 
 use crate::gray_scale::GrayScaleParams;
 use jbig2_base::bitmap::Bitmap;
@@ -49,6 +51,8 @@ fn decode_plane<M: Allocator, A: Allocator, L: Ledger>(
     requires white { plane.old ≡ blank plane.old.width plane.old.height false }
     requires contexts { length contexts.old ≡ 2 ^ context_bits params.now.template }
     ensures holds { DecodesRegion (plane_coding (gray_view params.now)) plane.old decoder.old contexts.old plane.new decoder.new contexts.new }
+    ensures steps { skip_of params.now.skip_mask ≡ None → CountsPlane (gray_view params.now) plane.old.width plane.old.height decoder.old.bytes
+        (no_pixels decoder.old.registers contexts.old) steps.old steps.new }
 {
     let adaptive = nominal_pixels(params.template);
     if params.skip_mask.is_none() {
@@ -87,6 +91,7 @@ fn read_coded_planes<M: Allocator, A: Allocator + Clone, L: Ledger>(
     requires fresh { contexts.old ≡ fresh_contexts (context_bits params.now.template) }
     ensures value { Gives (λ planes. planes.items) result (planes_by_coder (gray_view params.now) bytes.now) }
     ensures contexts { Leaves result contexts.new (after_planes (gray_view params.now) bytes.now params.now.bits_per_pixel).contexts }
+    ensures steps { OnOk result (skip_of params.now.skip_mask ≡ None → CountsPlanes (gray_view params.now) bytes.now params.now.bits_per_pixel steps.old steps.new) }
 {
     let mut decoder = ArithmeticDecoder::new(bytes);
     let mut planes = Vec::new(alloc.clone()?);
@@ -152,6 +157,7 @@ pub fn read_planes<M: Allocator, A: Allocator + Clone, B: Allocator, L: Ledger>(
     requires sides { image_is_too_large (gray_view params.now) ≡ false }
     ensures value { Gives (λ planes. planes.items) result (planes_of (gray_view params.now) bytes.now) }
     ensures contexts { Leaves result contexts.new.items (planes_contexts (gray_view params.now) bytes.now contexts.old.items) }
+    ensures steps { OnOk result (CountsRead (gray_view params.now) bytes.now steps.old steps.new) }
 {
     if params.use_mmr {
         return read_mmr_planes(alloc, bytes, params, steps);
