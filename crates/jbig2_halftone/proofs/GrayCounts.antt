@@ -8,11 +8,11 @@ use Rattle.jbig2_base.specs.Grid.{Grid, blank}
 use Rattle.jbig2_coder.specs.Coder.{Coder, Context}
 use Rattle.jbig2_coder.specs.declared.arithmetic_decoder.registers.Registers.{Registers}
 use Rattle.jbig2_region.specs.Generic.{coding_of}
-use Rattle.jbig2_region.specs.inner.Layouts.{is_nominal, read_pixels}
+use Rattle.jbig2_region.specs.inner.Layouts.{read_pixels}
 use Rattle.jbig2_region.specs.Raster.{Region, after_rows, row_begun, no_pixels}
 use Rattle.jbig2_region.specs.RunBytes.{CountsRegion, coded_rows, coded_runs, row_loads, row_tests, row_words}
 use Rattle.jbig2_region.specs.Skipping.{skip_of}
-use Rattle.jbig2_region.specs.Templates.{template_pixels}
+use Rattle.jbig2_region.specs.Templates.{is_nominal, template_pixels}
 use Rattle.jbig2_region.specs.declared.template.AdaptiveTemplatePixel.{AdaptiveTemplatePixel}
 use Rattle.jbig2_region.specs.declared.template.GenericTemplatePixels.TheVariants.{Regular}
 use Rattle.jbig2_region.specs.declared.template.Template.{Template}

@@ -47,40 +47,17 @@ unfolding so_far
 plane-height w h bits grid e = ap (λ (g : Grid). g.height) e
 
 -- ---- a plane without skipped pixels is a generic region without typical prediction
-unskipped-pixel : (pixels : List AdaptiveTemplatePixel) (t : Template) (w h : ℕ) (input : List ℕ) (r : Region) → r.predicted ≡ false → after_pixel (coding_of false t pixels) w h input r ≡ after_pixel (skipping_coding pixels None) w h input r
-unfolding after_pixel
-unskipped-pixel pixels t w h input r plain = rw plain refl
-
-unskipped-pixels : (pixels : List AdaptiveTemplatePixel) (t : Template) (w h : ℕ) (input : List ℕ) (n : ℕ) (r : Region) → r.predicted ≡ false → after_pixels (coding_of false t pixels) w h input n r ≡ after_pixels (skipping_coding pixels None) w h input n r
-unfolding after_pixels
-unskipped-pixels pixels t w h input zero r plain = refl
-unskipped-pixels pixels t w h input (suc n) r plain =
-    unskipped-pixel pixels t w h input (after_pixels (coding_of false t pixels) w h input n r) (after_pixels-predicted (coding_of false t pixels) w h input n r ∙ plain)
-    ∙ ap (λ (s : Region). after_pixel (skipping_coding pixels None) w h input s) (unskipped-pixels pixels t w h input n r plain)
-
 pub rows-plain : (pixels : List AdaptiveTemplatePixel) (t : Template) (w h : ℕ) (input : List ℕ) (n : ℕ) (r : Region) → r.predicted ≡ false → (after_rows (coding_of false t pixels) w h input n r).predicted ≡ false
 unfolding after_rows row_begun
 rows-plain pixels t w h input zero r plain = plain
 rows-plain pixels t w h input (suc n) r plain =
     after_pixels-predicted (coding_of false t pixels) w h input w (after_rows (coding_of false t pixels) w h input n r) ∙ rows-plain pixels t w h input n r plain
 
-unskipped-rows : (pixels : List AdaptiveTemplatePixel) (t : Template) (w h : ℕ) (input : List ℕ) (n : ℕ) (r : Region) → r.predicted ≡ false → after_rows (coding_of false t pixels) w h input n r ≡ after_rows (skipping_coding pixels None) w h input n r
-unfolding after_rows row_begun
-unskipped-rows pixels t w h input zero r plain = refl
-unskipped-rows pixels t w h input (suc n) r plain =
-    unskipped-pixels pixels t w h input w (after_rows (coding_of false t pixels) w h input n r) (rows-plain pixels t w h input n r plain)
-    ∙ ap (λ (s : Region). after_pixels (skipping_coding pixels None) w h input w s) (unskipped-rows pixels t w h input n r plain)
-
-unskipped-region : (pixels : List AdaptiveTemplatePixel) (t : Template) (w h : ℕ) (input : List ℕ) (r : Region) → r.predicted ≡ false → decoded (coding_of false t pixels) w h input r ≡ decoded (skipping_coding pixels None) w h input r
-unfolding decoded
-unskipped-region pixels t w h input r plain = rw (unskipped-rows pixels t w h input h r plain) refl
-
 pub unskipped : (p : GrayScale) (adaptive : List AdaptiveTemplatePixel) (old : Grid) (coder : Coder) (states : List Context) (grid : Grid) (next : Coder) (after : List Context) → p.skip_mask ≡ None → adaptive ≡ nominal_pixels p.template
     → DecodesRegion (coding_of false p.template (template_pixels p.template (Regular adaptive))) old coder states grid next after → DecodesRegion (plane_coding p) old coder states grid next after
 unskipped p adaptive old coder states grid next after none nominal holds =
     let pixels : List AdaptiveTemplatePixel = template_pixels p.template (Regular adaptive) in
-    let plain = subst (λ (r : Region). Holds old.width old.height coder.bytes r grid next after) (unskipped-region pixels p.template old.width old.height coder.bytes (no_pixels coder.registers states) refl) holds in
-    let masked = subst (λ (m : Option Grid). Holds old.width old.height coder.bytes (decoded (skipping_coding pixels m) old.width old.height coder.bytes (no_pixels coder.registers states)) grid next after) (sym none) plain in
+    let masked = subst (λ (m : Option Grid). Holds old.width old.height coder.bytes (decoded (skipping_coding pixels m) old.width old.height coder.bytes (no_pixels coder.registers states)) grid next after) (sym none) holds in
     subst (λ (a : List AdaptiveTemplatePixel). Holds old.width old.height coder.bytes (decoded (skipping_coding (template_pixels p.template (Regular a)) p.skip_mask) old.width old.height coder.bytes (no_pixels coder.registers states)) grid next after) nominal masked
 
 -- what a mask is that isn't there
