@@ -42,8 +42,8 @@ fn decode_symbols<'a, A: Allocator + Clone, L: Ledger>(
         &header,
         &referred.symbols,
         &referred.tables,
-        referred.retained_contexts,
         standard_tables,
+        referred.retained_contexts,
         steps,
     )
 }

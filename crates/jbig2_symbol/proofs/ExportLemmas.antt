@@ -1,44 +1,31 @@
 -- The symbols that are exported, and the runs that say which.
-use Rattle.std.proofs.Common.{◌≡◌, ℕ, zero, suc, ◌+◌, ◌-◌, ◌<◌, ◌≤◌, Bool, true, false, eqb, List, [], ◌∷◌, ◌++◌, Result, Ok, Err, refl, sym, ap, ◌∙◌, append_assoc, ⊎_elim, arith}
+use Rattle.std.proofs.Common.{◌≡◌, ℕ, zero, suc, ◌+◌, ◌-◌, ◌<◌, ◌≤◌, Bool, true, false, eqb, List, [], ◌∷◌, ◌++◌, Ok, Err, refl, ap, ◌∙◌, ⊎_elim, arith}
 use Rattle.std.proofs.lemmas.List.{append-nil}
 use Rattle.std.specs.Prelude.{sum}
 use Rattle.std.proofs.lemmas.Bool.{cases_eq, eq-eqb, ne_eqb}
 use Rattle.std.proofs.lemmas.List.Sums.{sum_by-append}
-use Rattle.jbig2_base.specs.Answer.{◌>>=◌}
 use Rattle.jbig2_base.specs.Grid.{bit_number}
 use Rattle.jbig2_base.specs.declared.error.DecodeError.{DecodeError}
-use Rattle.jbig2_symbol.specs.Exports.{next_run, run_before, runs_from}
+use Rattle.jbig2_symbol.specs.Exports.{next_run, runs_from}
 use Rattle.jbig2_symbol.specs.SymbolReading.{SymbolInput, SymbolState}
+use Rattle.jbig2_symbol.specs.inner.SymbolViews.{behind}
+use Rattle.jbig2_symbol.proofs.BehindLemmas.{behind-cons}
 
 -- ---- the runs
--- runs behind others
-abbrev pub runs_behind : List ℕ → Result (List ℕ × SymbolState) DecodeError → Result (List ℕ × SymbolState) DecodeError
-runs_behind before answer = answer >>= λ others. Ok (before ++ others.0, others.1)
 
-runs-moved : (before : List ℕ) (run : ℕ) (answer : Result (List ℕ × SymbolState) DecodeError) → runs_behind before (run_before run answer) ≡ runs_behind (before ++ run ∷ []) answer
-runs-moved before run (Ok others) = ap (λ (all : List ℕ). Ok (all, others.1)) (sym (append_assoc before (run ∷ []) others.0))
-runs-moved before run (Err e) = refl
-
-runs-begun : (answer : Result (List ℕ × SymbolState) DecodeError) → runs_behind [] answer ≡ answer
-runs-begun (Ok others) = refl
-runs-begun (Err e) = refl
-
-pub runs-start : (before : List ℕ) (answer : Result (List ℕ × SymbolState) DecodeError) → before ≡ [] → runs_behind before answer ≡ answer
-runs-start before answer none = ap (λ (all : List ℕ). runs_behind all answer) none ∙ runs-begun answer
-
-pub runs-next : (d : SymbolInput) (n m empty left run : ℕ) (before : List ℕ) (s t : SymbolState) → n ≡ suc m → 0 < left → next_run d empty left s ≡ Ok (run, t) → runs_behind before (runs_from d n empty left s) ≡ runs_behind (before ++ run ∷ []) (runs_from d m (empty + bit_number (eqb run 0)) (left - run) t)
+pub runs-next : (d : SymbolInput) (n m empty left run : ℕ) (before : List ℕ) (s t : SymbolState) → n ≡ suc m → 0 < left → next_run d empty left s ≡ Ok (run, t) → behind before (runs_from d n empty left s) ≡ behind (before ++ run ∷ []) (runs_from d m (empty + bit_number (eqb run 0)) (left - run) t)
 unfolding runs_from
 runs-next d n m empty left run before s t more some e =
     let test : eqb left 0 ≡ false = ne_eqb left 0 (λ none. omega arith) in
-    rw (more, test, e) (runs-moved before run (runs_from d m (empty + bit_number (eqb run 0)) (left - run) t))
+    rw (more, test, e) (behind-cons before run (runs_from d m (empty + bit_number (eqb run 0)) (left - run) t))
 
-pub runs-fault : (d : SymbolInput) (n m empty left : ℕ) (before : List ℕ) (s : SymbolState) (error : DecodeError) → n ≡ suc m → 0 < left → next_run d empty left s ≡ Err error → runs_behind before (runs_from d n empty left s) ≡ Err error
+pub runs-fault : (d : SymbolInput) (n m empty left : ℕ) (before : List ℕ) (s : SymbolState) (error : DecodeError) → n ≡ suc m → 0 < left → next_run d empty left s ≡ Err error → behind before (runs_from d n empty left s) ≡ Err error
 unfolding runs_from
 runs-fault d n m empty left before s error more some e =
     let test : eqb left 0 ≡ false = ne_eqb left 0 (λ none. omega arith) in
     rw (more, test, e) refl
 
-pub runs-done : (d : SymbolInput) (n empty left : ℕ) (before : List ℕ) (s : SymbolState) → left ≡ 0 → runs_behind before (runs_from d n empty left s) ≡ Ok (before, s)
+pub runs-done : (d : SymbolInput) (n empty left : ℕ) (before : List ℕ) (s : SymbolState) → left ≡ 0 → behind before (runs_from d n empty left s) ≡ Ok (before, s)
 unfolding runs_from
 runs-done d zero empty left before s none = ap (λ (all : List ℕ). Ok (all, s)) (append-nil before)
 runs-done d (suc n) empty left before s none = let test : eqb left 0 ≡ true = eq-eqb left 0 none in rw test (ap (λ (all : List ℕ). Ok (all, s)) (append-nil before))

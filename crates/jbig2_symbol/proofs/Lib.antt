@@ -1,3 +1,4 @@
+pub mod BehindLemmas
 pub mod ClassLemmas
 pub mod CodedLemmas
 pub mod CutLemmas

@@ -12,9 +12,9 @@ pub mod contexts;
 pub mod dictionary;
 pub mod exports;
 pub mod header;
-pub mod height_class;
 pub mod reading;
 pub mod tables;
+pub mod widths;
 
 use crate::symbol::classes::read_new_symbols;
 use crate::symbol::contexts::first_contexts;
@@ -39,7 +39,7 @@ fn decode_with<A: Allocator + Clone, S: Allocator, T: Allocator, L: Ledger>(
     contexts: RetainedContexts<A>,
     steps: &mut Steps<L>,
 ) -> Result<SymbolDictionary<A>>
-    requires few { length input.now.symbols.now ≤ 1048576 }
+    requires few { length input.now.symbols.now ≤ 2097152 }
     requires fresh { input.now.header.now.num_new_symbols ≤ 1048576 }
     ensures { Gives (λ d. dictionary_view d) result (symbols_at (input_view input.now) (first_state input.now.header.now.bytes.now (contexts_view contexts))) }
 {
@@ -58,7 +58,7 @@ fn decode_with<A: Allocator + Clone, S: Allocator, T: Allocator, L: Ledger>(
     })
 }
 
-/// Decodes a symbol dictionary (T.88, 6.5). It refers to these symbols, at most 2^20, to these custom
+/// Decodes a symbol dictionary (T.88, 6.5). It refers to these symbols, at most 2^21, to these custom
 /// tables, and to the contexts that another dictionary has kept.
 ///
 /// `Unsupported` where symbols are refined or put together from others; the errors of `first_contexts`, then those of `symbol_tables`, `read_new_symbols` and `read_exports`;
@@ -69,11 +69,11 @@ pub fn decode<A: Allocator + Clone, S: Allocator, T: Allocator, K: Allocator, L:
     header: &SymbolDictionaryHeader<'_>,
     symbols: &[&Bitmap<S>],
     referred_tables: &[&HuffmanTable<T>],
-    retained_contexts: Option<&RetainedContexts<K>>,
     standard_tables: &StandardHuffmanTables<T>,
+    retained_contexts: Option<&RetainedContexts<K>>,
     steps: &mut Steps<L>,
 ) -> Result<SymbolDictionary<A>>
-    requires few { length symbols.now ≤ 1048576 }
+    requires few { length symbols.now ≤ 2097152 }
     requires fresh { header.now.num_new_symbols ≤ 1048576 }
     ensures { Gives (λ d. dictionary_view d) result (dictionary_at (header_view header.now) (map (λ b. b.now) symbols.now) (referred_view referred_tables.now) (kept_view retained_contexts.entry)) }
 {

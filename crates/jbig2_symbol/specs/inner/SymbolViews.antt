@@ -1,15 +1,15 @@
 -- How a dictionary's input is seen by the definitions (our own rule).
 use Rattle.std.specs.Borrow.{Bor}
-use Rattle.std.specs.Prelude.{◌++◌, List, map, Option, option_map}
+use Rattle.std.specs.Prelude.{ℕ, ◌++◌, List, map, Option, option_map, Result, Ok}
+use Rattle.jbig2_base.specs.Answer.{◌>>=◌}
+use Rattle.jbig2_base.specs.declared.error.DecodeError.{DecodeError}
 use Rattle.jbig2_base.specs.Grid.{Grid}
 use Rattle.jbig2_coder.specs.PrefixCode.{Member}
 use Rattle.jbig2_symbol.specs.SymbolHeader.{header_view}
-use Rattle.jbig2_symbol.specs.SymbolReading.{BitmapContexts, SymbolInput, SymbolTables, contexts_view}
-use Rattle.jbig2_symbol.specs.Symbols.{HeightClass, NewSymbols, Symbols}
+use Rattle.jbig2_symbol.specs.SymbolReading.{BitmapContexts, SymbolInput, SymbolState, SymbolTables, contexts_view}
+use Rattle.jbig2_symbol.specs.Symbols.{HeightClass, Symbols, empty_with}
 use Rattle.jbig2_symbol.specs.declared.symbol.dictionary.RetainedContexts.{RetainedContexts}
 use Rattle.jbig2_symbol.specs.declared.symbol.dictionary.SymbolDictionary.{SymbolDictionary}
-use Rattle.jbig2_symbol.specs.declared.symbol.height_class.HeightClass.{HeightClass as Class}
-use Rattle.jbig2_symbol.specs.declared.symbol.height_class.NewSymbols.{NewSymbols as New}
 use Rattle.jbig2_symbol.specs.declared.symbol.reading.SymbolInput.{SymbolInput as Input}
 use Rattle.jbig2_symbol.specs.declared.symbol.reading.SymbolTables.{SymbolTables as Tables}
 
@@ -25,12 +25,13 @@ tables_view t = record {
 abbrev pub input_view : {S T : Type 0} → Input S T → SymbolInput
 input_view d = record { header = header_view d.header.now; symbols = map (λ b. b.now) d.symbols.now; tables = tables_view d.tables.now }
 
--- a height class, and the new symbols so far
-abbrev pub class_view : {A : Type 0} → Class A → List Grid → HeightClass
-class_view c grids = record { widths = c.widths.items; width = c.width; total = c.total; grids = grids }
+-- what is read, behind others
+abbrev pub behind : {X : Type 0} → List X → Result (List X × SymbolState) DecodeError → Result (List X × SymbolState) DecodeError
+behind before answer = answer >>= λ more. Ok (before ++ more.0, more.1)
 
-abbrev pub new_view : {A : Type 0} → New A → NewSymbols
-new_view n = record { grids = n.bitmaps.items; height = n.height; empty = n.empty }
+-- a class behind others, by all symbols, its height, and how many classes had no symbol
+abbrev pub class_behind : List Grid → ℕ → Result (HeightClass × SymbolState) DecodeError → Result (List Grid × (ℕ × (ℕ × SymbolState))) DecodeError
+class_behind before empty answer = answer >>= λ class. Ok (before ++ class.0.symbols, (class.0.height, (empty_with class.0 empty, class.1)))
 
 -- the symbols that are referred to, and the new ones behind them
 abbrev pub all_symbols : List (Bor Grid) → List Grid → List Grid

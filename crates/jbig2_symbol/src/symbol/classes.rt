@@ -1,173 +1,141 @@
 //! The height classes of a symbol dictionary (T.88, 6.5.5).
-ghost use Rattle.std.specs.Prelude.{◌≡◌, ◌-◌, ◌≤◌, length};
+ghost use Rattle.std.specs.Prelude.{◌≡◌, ◌+◌, ◌-◌, ◌<◌, ◌≤◌, length, OnOk};
 ghost use Rattle.jbig2_base.specs.Answer.{Answers, Gives};
-ghost use Rattle.jbig2_symbol.specs.Symbols.{class_ended, class_from, class_of_height, classes_from, height_class, new_symbols, size_in_word, bitmaps_with, with_symbol};
-ghost use Rattle.jbig2_symbol.specs.inner.SymbolViews.{class_view, input_view, new_view};
+ghost use Rattle.jbig2_symbol.specs.Symbols.{class_of_height, classes_from, collective_class, drawn_class, empty_class, height_class, is_collective, new_symbols, symbols_from};
+ghost use Rattle.jbig2_symbol.specs.inner.SymbolViews.{behind, class_behind, input_view};
 
 use crate::symbol::bitmaps::cut_symbols;
-use crate::symbol::height_class::{HeightClass, NewSymbols};
+use crate::symbol::header::SymbolDictionaryFlags;
 use crate::symbol::reading::{SymbolInput, SymbolReader};
+use crate::symbol::widths::{read_width, read_widths, size_moved};
 use jbig2_base::bitmap::Bitmap;
 use jbig2_base::bitmap::steps::Steps;
-use jbig2_base::error::{DecodeError, OverflowError, Result, SymbolError};
+use jbig2_base::error::{DecodeError, Result, SymbolError};
 use std::alloc::Allocator;
 use std::sync::ledger::Ledger;
 
 /// The most height classes without a symbol.
 const MAX_EMPTY: u32 = 1 << 20;
 
-fn size_in_word(size: i64) -> Result<u32>
-    ensures { Answers (λ s. s) result (size_in_word size) }
-{
-    if size < 0 || size > 0xFFFF_FFFF {
-        return Err(DecodeError::Overflow(OverflowError::BitmapDimension));
-    }
-    Ok(size as u32)
+/// The new symbols of a dictionary so far.
+#[derive(Drop)]
+struct NewSymbols<A: Allocator> {
+    bitmaps: Vec<Bitmap<A>, A>,
+    /// The height of the last class.
+    height: u32,
+    /// How many classes had no symbol.
+    empty: u32,
 }
 
-/// Puts the bitmap of a symbol behind the others, unless it is read with its class.
-#[tactic(auto, unfolding(crate::specs::Symbols::bitmaps_with))]
-fn push_bitmap<A: Allocator, S: Allocator, T: Allocator, L: Ledger>(
+/// Refuses a class without a symbol, where too many came before.
+fn check_class(symbols: usize, empty: u32) -> Result<()>
+    ensures { Answers (λ few. few) result (empty_class symbols empty) }
+{
+    if symbols == 0 && empty >= MAX_EMPTY {
+        return Err(DecodeError::Symbol(SymbolError::Invalid));
+    }
+    Ok(())
+}
+
+/// Whether the symbols of a class stand in one collective bitmap.
+fn is_collective(flags: &SymbolDictionaryFlags) -> bool
+    ensures { result ≡ is_collective flags.now }
+{
+    flags.use_huffman && !flags.use_refagg
+}
+
+/// Puts the symbols of a class with a collective bitmap behind the others.
+#[tactic(auto, unfolding(crate::specs::Symbols::collective_class))]
+fn read_collective_class<A: Allocator + Clone, S: Allocator, T: Allocator, L: Ledger>(
     alloc: A,
     input: &SymbolInput<'_, S, T>,
-    width: u32,
     height: u32,
+    empty: u32,
     bitmaps: &mut Vec<Bitmap<A>, A>,
     reader: &mut SymbolReader<'_, A>,
     steps: &mut Steps<L>,
 ) -> Result<()>
-    ensures { Gives (λ _. (bitmaps.new.items, reader.new)) result (bitmaps_with (input_view input.now) width height bitmaps.old.items reader.old) }
+    requires { length bitmaps.old.items ≤ input.now.header.now.num_new_symbols }
+    ensures { Gives (λ _. (bitmaps.new.items, reader.new)) result (behind bitmaps.old.items (collective_class (input_view input.now) (input.now.header.now.num_new_symbols - length bitmaps.old.items) height empty reader.old)) }
 {
-    if input.header.flags.use_huffman {
-        return Ok(());
-    }
-    bitmaps.push(reader.decode_symbol(alloc, input.header, width, height, steps)?)?;
-    Ok(())
+    let room = input.header.num_new_symbols - bitmaps.len() as u32;
+    let widths = read_widths(alloc.clone()?, input, room, reader, steps)?;
+    check_class(widths.each.len(), empty)?;
+    let total = widths.total;
+    let collective = reader.read_collective(alloc.clone()?, input, total, height, steps)?;
+    cut_symbols(alloc, &collective, height, &widths.each, bitmaps, steps)
 }
 
-/// Reads one symbol more of a class, by its difference in width.
-#[tactic(auto, unfolding(crate::specs::Symbols::with_symbol))]
-fn read_symbol<A: Allocator, S: Allocator, T: Allocator, L: Ledger>(
-    alloc: A,
-    input: &SymbolInput<'_, S, T>,
-    height: u32,
-    difference: i32,
-    class: &mut HeightClass<A>,
-    bitmaps: &mut Vec<Bitmap<A>, A>,
-    reader: &mut SymbolReader<'_, A>,
-    steps: &mut Steps<L>,
-) -> Result<()>
-    ensures { Gives (λ _. (class_view class.new bitmaps.new.items, reader.new)) result (with_symbol (input_view input.now) height (class_view class.old bitmaps.old.items) difference reader.old) }
-{
-    let width = size_in_word(i64::from(class.width) + i64::from(difference))?;
-    let total = size_in_word(i64::from(class.total) + i64::from(width))?;
-    push_bitmap(alloc, input, width, height, bitmaps, reader, steps)?;
-    class.widths.push(width)?;
-    class.width = width;
-    class.total = total;
-    Ok(())
-}
-
-/// Reads the symbols of a class up to out of band; at most `room` of them may come.
-fn read_class<A: Allocator + Clone, S: Allocator, T: Allocator, L: Ledger>(
+/// Puts the symbols of a class, each of which has a bitmap of its own, behind the others.
+fn read_symbols<A: Allocator + Clone, S: Allocator, T: Allocator, L: Ledger>(
     alloc: A,
     input: &SymbolInput<'_, S, T>,
     room: u32,
     height: u32,
-    class: &mut HeightClass<A>,
     bitmaps: &mut Vec<Bitmap<A>, A>,
     reader: &mut SymbolReader<'_, A>,
     steps: &mut Steps<L>,
 ) -> Result<()>
-    ensures { Gives (λ _. (class_view class.new bitmaps.new.items, reader.new)) result (class_from (input_view input.now) room height (class_view class.old bitmaps.old.items) reader.old) }
+    ensures { Gives (λ _. (bitmaps.new.items, reader.new)) result (behind bitmaps.old.items (symbols_from (input_view input.now) room height 0 0 bitmaps.old.items reader.old)) }
 {
-    for _ in 0..room {
-        let difference = match reader.read_width(input, steps) {
-            Ok(Some(difference)) => difference,
+    let mut width = 0;
+    let mut total = 0;
+    let mut left = room;
+    loop {
+        let (next, all) = match read_width(input, left, width, total, reader, steps) {
+            Ok(Some(next)) => next,
             Ok(None) => return Ok(()),
             Err(error) => return Err(error),
         };
         let alloc = alloc.clone()?;
-        match read_symbol(
-            alloc, input, height, difference, class, bitmaps, reader, steps,
-        ) {
-            Ok(()) => {}
+        let symbol = match reader.decode_symbol(alloc, input.header, next, height, steps) {
+            Ok(symbol) => symbol,
             Err(error) => return Err(error),
-        }
-    }
-    match reader.read_width(input, steps) {
-        Ok(Some(_)) => Err(DecodeError::Symbol(SymbolError::TooManySymbols)),
-        Ok(None) => Ok(()),
-        Err(error) => Err(error),
+        };
+        bitmaps.push(symbol)?;
+        width = next;
+        total = all;
+        left -= 1;
     }
 }
 
-/// Puts the bitmaps that are read with their class behind the others.
-#[tactic(auto, unfolding(crate::specs::Symbols::class_ended))]
-fn end_class<A: Allocator + Clone, S: Allocator, T: Allocator, L: Ledger>(
+/// Puts the symbols of any other class behind the others.
+#[tactic(auto, unfolding(crate::specs::Symbols::drawn_class))]
+fn read_drawn_class<A: Allocator + Clone, S: Allocator, T: Allocator, L: Ledger>(
     alloc: A,
     input: &SymbolInput<'_, S, T>,
     height: u32,
-    class: &HeightClass<A>,
+    empty: u32,
     bitmaps: &mut Vec<Bitmap<A>, A>,
     reader: &mut SymbolReader<'_, A>,
     steps: &mut Steps<L>,
 ) -> Result<()>
-    ensures { Gives (λ _. (bitmaps.new.items, reader.new)) result (class_ended (input_view input.now) height (class_view class.now bitmaps.old.items) reader.old) }
+    requires { length bitmaps.old.items ≤ input.now.header.now.num_new_symbols }
+    ensures { Gives (λ _. (bitmaps.new.items, reader.new)) result (behind bitmaps.old.items (drawn_class (input_view input.now) (input.now.header.now.num_new_symbols - length bitmaps.old.items) height empty bitmaps.old.items reader.old)) }
 {
-    if !input.header.flags.use_huffman {
-        return Ok(());
-    }
-    let collective = reader.read_collective(alloc.clone()?, input, class.total, height, steps)?;
-    cut_symbols(alloc, &collective, height, &class.widths, bitmaps, steps)
+    let before = bitmaps.len();
+    let room = input.header.num_new_symbols - before as u32;
+    read_symbols(alloc, input, room, height, bitmaps, reader, steps)?;
+    check_class(bitmaps.len() - before, empty)
 }
 
-/// Reads the symbols of a class of this height, and its bitmaps.
-#[tactic(auto, unfolding(crate::specs::Symbols::class_of_height))]
+/// Puts the symbols of a class of this height behind the others.
 fn read_class_of_height<A: Allocator + Clone, S: Allocator, T: Allocator, L: Ledger>(
     alloc: A,
     input: &SymbolInput<'_, S, T>,
     height: u32,
-    symbols: &mut NewSymbols<A>,
+    empty: u32,
+    bitmaps: &mut Vec<Bitmap<A>, A>,
     reader: &mut SymbolReader<'_, A>,
     steps: &mut Steps<L>,
 ) -> Result<()>
-    requires { length symbols.old.bitmaps.items ≤ input.now.header.now.num_new_symbols }
-    ensures { Gives (λ _. (new_view symbols.new, reader.new)) result (class_of_height (input_view input.now) height (new_view symbols.old) reader.old) }
+    requires { length bitmaps.old.items ≤ input.now.header.now.num_new_symbols }
+    ensures { Gives (λ _. (bitmaps.new.items, reader.new)) result (behind bitmaps.old.items (class_of_height (input_view input.now) height empty bitmaps.old.items reader.old)) }
 {
-    let room = input.header.num_new_symbols - symbols.bitmaps.len() as u32;
-    let mut class = HeightClass {
-        widths: Vec::new(alloc.clone()?),
-        width: 0,
-        total: 0,
-    };
-    let bitmaps = &mut symbols.bitmaps;
-    read_class(
-        alloc.clone()?,
-        input,
-        room,
-        height,
-        &mut class,
-        bitmaps,
-        reader,
-        steps,
-    )?;
-    let is_empty = class.widths.is_empty();
-    if is_empty && symbols.empty >= MAX_EMPTY {
-        return Err(DecodeError::Symbol(SymbolError::Invalid));
+    if is_collective(&input.header.flags) {
+        return read_collective_class(alloc, input, height, empty, bitmaps, reader, steps);
     }
-    end_class(
-        alloc,
-        input,
-        height,
-        &class,
-        &mut symbols.bitmaps,
-        reader,
-        steps,
-    )?;
-    symbols.height = height;
-    symbols.empty += u32::from(is_empty);
-    Ok(())
+    read_drawn_class(alloc, input, height, empty, bitmaps, reader, steps)
 }
 
 /// Reads one height class more.
@@ -179,14 +147,24 @@ fn read_height_class<A: Allocator + Clone, S: Allocator, T: Allocator, L: Ledger
     reader: &mut SymbolReader<'_, A>,
     steps: &mut Steps<L>,
 ) -> Result<()>
-    requires { length symbols.old.bitmaps.items ≤ input.now.header.now.num_new_symbols }
-    ensures { Gives (λ _. (new_view symbols.new, reader.new)) result (height_class (input_view input.now) (new_view symbols.old) reader.old) }
+    requires room { length symbols.old.bitmaps.items ≤ input.now.header.now.num_new_symbols }
+    requires few { symbols.old.empty < 4294967295 }
+    ensures value { Gives (λ _. (symbols.new.bitmaps.items, (symbols.new.height, (symbols.new.empty, reader.new)))) result (class_behind symbols.old.bitmaps.items symbols.old.empty (height_class (input_view input.now) symbols.old.height symbols.old.empty symbols.old.bitmaps.items reader.old)) }
+    ensures few { OnOk result (symbols.new.empty ≤ symbols.old.empty + 1) }
 {
     let Some(difference) = reader.read_height(input, steps)? else {
         return Err(DecodeError::Symbol(SymbolError::UnexpectedOob));
     };
-    let height = size_in_word(i64::from(symbols.height) + i64::from(difference))?;
-    read_class_of_height(alloc, input, height, symbols, reader, steps)
+    let height = size_moved(symbols.height, difference)?;
+    let before = symbols.bitmaps.len();
+    let bitmaps = &mut symbols.bitmaps;
+    match read_class_of_height(alloc, input, height, symbols.empty, bitmaps, reader, steps) {
+        Ok(()) => {}
+        Err(error) => return Err(error),
+    }
+    symbols.height = height;
+    symbols.empty += u32::from(symbols.bitmaps.len() == before);
+    Ok(())
 }
 
 /// Reads the new symbols of a dictionary (T.88, 6.5.5).

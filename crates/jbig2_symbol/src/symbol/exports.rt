@@ -158,7 +158,7 @@ pub fn read_exports<A: Allocator + Clone, S: Allocator, T: Allocator, L: Ledger>
     reader: &mut SymbolReader<'_, A>,
     steps: &mut Steps<L>,
 ) -> Result<Vec<Bitmap<A>, A>>
-    requires { length input.now.symbols.now ≤ 1048576 }
+    requires { length input.now.symbols.now ≤ 2097152 }
     ensures { Gives (λ symbols. (symbols.items, reader.new)) result (exports (input_view input.now) (all_symbols input.now.symbols.now new.now) reader.old) }
 {
     let count = input.symbols.len() as u64 + new.len() as u64;

@@ -1,22 +1,25 @@
 use Rattle.std.proofs.Common.{◌+◌, ◌-◌, sym, ◌∙◌, arith}
-use Rattle.jbig2_symbol.specs.inner.SymbolViews.{input_view, new_view}
+use Rattle.jbig2_symbol.specs.inner.SymbolViews.{input_view}
 use Rattle.jbig2_symbol.proofs.ClassLemmas.{classes-done, classes-fault, classes-next, classes-none}
 use Rattle.jbig2_symbol.proofs.symbol.classes.read_new_symbols.Goals as goal
 use Rattle.jbig2_symbol.proofs.symbol.classes.read_new_symbols.Goals.{else-loop-test, then-loop-test+then-len-input}
 
 pub returns-in-Err : goal.returns-in-Err
 returns-in-Err g c =
-    classes-fault (input_view c.args.input.now) _ (c.args.input.now.header.now.num_new_symbols + 1048576 - (c.loop.counter + 1)) (new_view c.loop.symbols) c.loop.reader c.in-Err.error _ (omega arith) c.loop.invariant (omega arith) c.in-Err.ensures
+    classes-fault (input_view c.args.input.now) _ (c.args.input.now.header.now.num_new_symbols + 1048576 - (c.loop.counter + 1)) c.loop.symbols.height c.loop.symbols.empty c.loop.symbols.bitmaps.items c.loop.reader c.in-Err.error _ (omega arith) c.loop.invariant.reads (omega arith) c.in-Err.ensures.value
 
 pub loop-preserved : goal.loop-preserved
-loop-preserved g c =
-    sym (classes-next (input_view c.args.input.now) _ (c.args.input.now.header.now.num_new_symbols + 1048576 - (c.loop.counter + 1)) (new_view c.loop.symbols) _ c.loop.reader _ (omega arith) (omega arith) c.in-Ok.ensures)
-    ∙ c.loop.invariant
+loop-preserved g c = record {
+  few = omega (arith, c.in-Ok.ensures.few, c.loop.invariant.few);
+  reads =
+      sym (classes-next (input_view c.args.input.now) _ (c.args.input.now.header.now.num_new_symbols + 1048576 - (c.loop.counter + 1)) c.loop.symbols.height c.loop.symbols.empty c.read_height_class.new.symbols.height c.read_height_class.new.symbols.empty c.loop.symbols.bitmaps.items c.read_height_class.new.symbols.bitmaps.items c.loop.reader _ (omega arith) (omega arith) c.in-Ok.ensures.value)
+      ∙ c.loop.invariant.reads;
+}
 
 pub returns : goal.returns
 returns g c =
-    sym c.loop.invariant
+    sym c.loop.invariant.reads
     ∙ elim c.loop-test.branch [
-      | else-loop-test w ↦ classes-none (input_view c.args.input.now) (c.args.input.now.header.now.num_new_symbols + 1048576 - c.loop.counter) (new_view c.loop.symbols) c.loop.reader (omega arith)
-      | then-loop-test+then-len-input w ↦ classes-done (input_view c.args.input.now) (c.args.input.now.header.now.num_new_symbols + 1048576 - c.loop.counter) (new_view c.loop.symbols) c.loop.reader (omega arith)
+      | else-loop-test w ↦ classes-none (input_view c.args.input.now) (c.args.input.now.header.now.num_new_symbols + 1048576 - c.loop.counter) c.loop.symbols.height c.loop.symbols.empty c.loop.symbols.bitmaps.items c.loop.reader (omega arith)
+      | then-loop-test+then-len-input w ↦ classes-done (input_view c.args.input.now) (c.args.input.now.header.now.num_new_symbols + 1048576 - c.loop.counter) c.loop.symbols.height c.loop.symbols.empty c.loop.symbols.bitmaps.items c.loop.reader (omega arith)
     ]

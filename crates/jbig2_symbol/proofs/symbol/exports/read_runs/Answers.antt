@@ -1,8 +1,8 @@
 use Rattle.std.proofs.Common.{◌≡◌, ◌+◌, ◌-◌, ◌++◌, [], ◌∷◌, eqb, List, sym, ap, ◌∙◌, inr, arith, rules}
 use Rattle.jbig2_base.specs.Grid.{bit_number}
 use Rattle.jbig2_symbol.specs.Exports.{runs_from}
-use Rattle.jbig2_symbol.specs.inner.SymbolViews.{input_view}
-use Rattle.jbig2_symbol.proofs.ExportLemmas.{covered-more, room-left, runs_behind, runs-done, runs-fault, runs-next}
+use Rattle.jbig2_symbol.specs.inner.SymbolViews.{behind, input_view}
+use Rattle.jbig2_symbol.proofs.ExportLemmas.{covered-more, room-left, runs-done, runs-fault, runs-next}
 use Rattle.jbig2_symbol.proofs.symbol.exports.read_runs.Goals as goal
 use Rattle.jbig2_symbol.proofs.symbol.exports.read_runs.Goals.{else-loop-test, then-loop-test+then-left-eq0}
 
@@ -21,8 +21,8 @@ loop-preserved g c =
       enough = room.1;
       covered = covered-more c.loop.runs.items c.push.new.self.items c.in-Ok.run' c.loop.left c.args.count c.in-Ok.ensures.within c.loop.invariant.covered c.in_ok-push.ensures.items;
       reads =
-          ap (λ (all : List _). runs_behind all (runs_from (input_view c.args.input.now) (c.args.count + 1048576 - (c.loop.counter + 1)) (c.loop.empty + c.from-empty.result) (c.loop.left - c.in-Ok.run') c.read_run.new.reader)) c.in_ok-push.ensures.items
-          ∙ ap (λ n. runs_behind (c.loop.runs.items ++ c.in-Ok.run' ∷ []) (runs_from (input_view c.args.input.now) (c.args.count + 1048576 - (c.loop.counter + 1)) (c.loop.empty + n) (c.loop.left - c.in-Ok.run') c.read_run.new.reader)) is
+          ap (λ (all : List _). behind all (runs_from (input_view c.args.input.now) (c.args.count + 1048576 - (c.loop.counter + 1)) (c.loop.empty + c.from-empty.result) (c.loop.left - c.in-Ok.run') c.read_run.new.reader)) c.in_ok-push.ensures.items
+          ∙ ap (λ n. behind (c.loop.runs.items ++ c.in-Ok.run' ∷ []) (runs_from (input_view c.args.input.now) (c.args.count + 1048576 - (c.loop.counter + 1)) (c.loop.empty + n) (c.loop.left - c.in-Ok.run') c.read_run.new.reader)) is
           ∙ sym (runs-next (input_view c.args.input.now) (c.args.count + 1048576 - c.loop.counter) (c.args.count + 1048576 - (c.loop.counter + 1)) c.loop.empty c.loop.left c.in-Ok.run' c.loop.runs.items c.loop.reader c.read_run.new.reader (omega arith) (omega arith) c.in-Ok.ensures.value)
           ∙ c.loop.invariant.reads;
     }

@@ -1,8 +1,7 @@
 use Rattle.std.proofs.Common.{◌≡◌, ◌+◌, ◌-◌, ◌≤◌}
 use Rattle.std.specs.Prelude.{sum}
 use Rattle.jbig2_symbol.specs.Exports.{export_runs, runs_from}
-use Rattle.jbig2_symbol.specs.inner.SymbolViews.{input_view}
-use Rattle.jbig2_symbol.proofs.ExportLemmas.{runs_behind}
+use Rattle.jbig2_symbol.specs.inner.SymbolViews.{behind, input_view}
 use Rattle.jbig2_symbol.proofs.symbol.exports.read_runs.Given as goal
 
 abbrev pub invariant-loop : goal.invariant-loop
@@ -10,5 +9,5 @@ invariant-loop g l = record {
   few : l.empty ≤ 1048576;
   enough : l.left + (1048576 - l.empty) ≤ l.count + 1048576 - l.counter;
   covered : sum l.runs.items + l.left ≡ l.count;
-  reads : runs_behind l.runs.items (runs_from (input_view l.input) (l.count + 1048576 - l.counter) l.empty l.left l.reader) ≡ export_runs (input_view l.input) l.count l.fn.reader;
+  reads : behind l.runs.items (runs_from (input_view l.input) (l.count + 1048576 - l.counter) l.empty l.left l.reader) ≡ export_runs (input_view l.input) l.count l.fn.reader;
 }
