@@ -1,5 +1,5 @@
 use Rattle.std.proofs.Common.{◌≡◌}
-use Rattle.jbig2_decode.proofs.packer.Packer.pack_bytes.Given as goal
+use Rattle.jbig2_decode.proofs.packer.Packer.pack_chunk.Given as goal
 
 abbrev pub invariant-loop-pixel : goal.invariant-loop-pixel
 invariant-loop-pixel g l = l.self.refusals ≡ l.fn.self.refusals
