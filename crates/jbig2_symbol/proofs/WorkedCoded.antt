@@ -14,8 +14,8 @@ use Rattle.jbig2_region.specs.Raster.{so_far, with_next, after_pixel, after_pixe
 use Rattle.jbig2_symbol.specs.Exports.{ended_runs, exported_from, next_run, runs_from, exports}
 use Rattle.jbig2_symbol.specs.SymbolBitmaps.{coded_region, coded_symbol}
 use Rattle.jbig2_symbol.specs.SymbolHeader.{symbol_flags_of, symbol_header_at}
-use Rattle.jbig2_symbol.specs.SymbolReading.{table_for, symbol_tables, first_contexts, height_difference, width_difference, export_run}
-use Rattle.jbig2_symbol.specs.Symbols.{Symbols, next_width, widths_from, collective_class, symbols_from, drawn_class, height_class, classes_from, dictionary_at}
+use Rattle.jbig2_symbol.specs.SymbolReading.{table_for, symbol_tables, first_contexts, number_by}
+use Rattle.jbig2_symbol.specs.Symbols.{Symbols, next_width, widths_from, collective_class, symbols_from, symbol_bitmap, drawn_class, height_class, classes_from, dictionary_at}
 
 -- four decisions of an integer in its first four contexts, which for each integer begin elsewhere
 abbrev four : ℕ → List (ℕ × Bool)
@@ -44,5 +44,5 @@ dictionary : List ℕ → Result Symbols DecodeError
 dictionary bytes = symbol_header_at true bytes >>= λ h. dictionary_at h.0 [] [] None
 
 row_R8_6 : dictionary (8 ∷ 0 ∷ 2 ∷ 0xFF ∷ 0 ∷ 0 ∷ 0 ∷ 1 ∷ 0 ∷ 0 ∷ 0 ∷ 1 ∷ coded) ≡ Ok (record { exported = record { width = 1; height = 1; pixels = true ∷ [] } ∷ []; kept = None })
-unfolding dictionary symbol_header_at symbol_flags_of regular_pixels_at adaptive_pixel_at dictionary_at first_contexts symbol_tables table_for classes_from height_class height_difference collective_class widths_from drawn_class symbols_from next_width width_difference coded_symbol coded_region exports runs_from next_run export_run exported_from ended_runs integer number next read read_more ranges range_of prefix signed value_of byte_at byte_in filled doubled renormed started likely_next unlikely_next choice decision rows row_of context_at so_far with_next after_pixel after_pixels row_begun after_rows decoded table pixel_at
+unfolding dictionary symbol_header_at symbol_flags_of regular_pixels_at adaptive_pixel_at dictionary_at first_contexts symbol_tables least table_of is_crowded weight table_for classes_from height_class number_by collective_class widths_from drawn_class symbols_from symbol_bitmap next_width coded_symbol coded_region exports runs_from next_run exported_from ended_runs integer number next read read_more ranges range_of prefix signed value_of byte_at byte_in filled doubled renormed started likely_next unlikely_next choice decision rows row_of context_at so_far with_next after_pixel after_pixels row_begun after_rows decoded table pixel_at
 row_R8_6 = refl

@@ -5,6 +5,7 @@ use Rattle.std.specs.Prelude.{ℕ, suc, zero, ◌+◌, ◌==◌, max, Bool, true
 use Rattle.jbig2_base.specs.Answer.{◌>>=◌}
 use Rattle.jbig2_base.specs.Fields.{end_of_bytes}
 use Rattle.jbig2_base.specs.Grid.{Grid, blank}
+use Rattle.jbig2_base.specs.Search.{code_length}
 use Rattle.jbig2_base.specs.declared.bitmap.operator.CombinationOperator.TheVariants.{Or}
 use Rattle.jbig2_base.specs.declared.error.DecodeError.{DecodeError}
 use Rattle.jbig2_base.specs.declared.error.DecodeError.TheVariants.{Symbol}
@@ -15,7 +16,7 @@ use Rattle.jbig2_region.specs.Refinement.{Reference}
 use Rattle.jbig2_text.specs.Refining.{Refining}
 use Rattle.jbig2_text.specs.Text.{Readings, TextParams, some_symbol, symbol_of, text_region}
 use Rattle.jbig2_text.specs.TextCoding.{Coded, Prefixed, by_coder, by_prefix_codes, next_id, prefixed_bits}
-use Rattle.jbig2_text.specs.TextRegion.{aggregate_tables, code_length}
+use Rattle.jbig2_text.specs.TextRegion.{aggregate_tables}
 use Rattle.jbig2_text.specs.declared.text.header.ReferenceCorner.TheVariants.{TopLeft}
 use Rattle.jbig2_text.specs.declared.text.header.TextRegionFlags.{TextRegionFlags}
 use Rattle.jbig2_symbol.specs.SymbolBitmaps.{fits_symbol}
@@ -115,9 +116,10 @@ prefixed_aggregate d p width height s = do
   symbol ← by_instances by_prefix_codes (plain_id (max 1 (id_bits d.header (length d.symbols)))) p width height s.refining (prefixed_at d s)
   Ok (symbol.0, record s { place = symbol.2.place; refining = symbol.1 })
 
+abbrev pub aggregate_by : SymbolInput → TextParams → ℕ → ℕ → SymbolState → Result (Grid × SymbolState) DecodeError
+aggregate_by d p width height s = if d.header.flags.use_huffman then prefixed_aggregate d p width height s else coded_aggregate p width height s
+
 -- A symbol of this width and height, from the symbols that are there.
 unfoldable pub aggregate_symbol : SymbolInput → List Grid → ℕ → ℕ → SymbolState → Result (Grid × SymbolState) DecodeError
-aggregate_symbol d symbols width height s = do
-  count ← instance_count d s
-  (if d.header.flags.use_huffman then prefixed_aggregate d (aggregate_params d symbols count.0) width height count.1
-  else coded_aggregate (aggregate_params d symbols count.0) width height count.1)
+aggregate_symbol d symbols width height s =
+    instance_count d s >>= λ count. aggregate_by d (aggregate_params d symbols count.0) width height count.1

@@ -1,10 +1,11 @@
 //! Symbol dictionaries (T.88, 6.5 and 7.4.2).
 ghost use Rattle.std.specs.Prelude.{◌≡◌, ◌≤◌, length, map};
 ghost use Rattle.jbig2_base.specs.Answer.{Gives};
+ghost use Rattle.jbig2_symbol.specs.Aggregates.{state_bits};
 ghost use Rattle.jbig2_symbol.specs.SymbolHeader.{header_view};
 ghost use Rattle.jbig2_symbol.specs.SymbolReading.{contexts_view, first_state};
 ghost use Rattle.jbig2_symbol.specs.inner.SymbolViews.{dictionary_view, input_view, kept_view, referred_view};
-ghost use Rattle.jbig2_symbol.specs.Symbols.{dictionary_at, state_bits, symbols_at};
+ghost use Rattle.jbig2_symbol.specs.Symbols.{dictionary_at, symbols_at};
 
 pub mod aggregates;
 pub mod bitmaps;

@@ -5,21 +5,21 @@ ghost use Rattle.jbig2_symbol.specs.Aggregates.{aggregate_flags, aggregate_param
 ghost use Rattle.jbig2_symbol.specs.SymbolHeader.{header_view};
 ghost use Rattle.jbig2_symbol.specs.inner.SymbolViews.{all_symbols, input_view};
 ghost use Rattle.jbig2_text.specs.TextCoding.{by_prefix_codes};
-ghost use Rattle.jbig2_text.specs.TextRegion.{aggregate_tables};
-ghost use Rattle.jbig2_text.specs.inner.TextViews.{list_view, params_view, prefixed_view, tables_view};
+ghost use Rattle.jbig2_text.specs.inner.TextViews.{list_view, params_view, prefixed_view};
 
 use crate::symbol::header::{SymbolDictionaryFlags, SymbolDictionaryHeader};
 use crate::symbol::reading::{SymbolInput, SymbolReader};
 use jbig2_base::bitmap::steps::Steps;
 use jbig2_base::bitmap::{Bitmap, CombinationOperator};
 use jbig2_base::error::{DecodeError, ParseError, Result, SymbolError};
-use jbig2_coder::huffman_table::{HuffmanTable, StandardHuffmanTables};
+use jbig2_base::field::bits_field;
+use jbig2_base::search::code_length;
+use jbig2_coder::huffman_table::HuffmanTable;
 use jbig2_region::generic_refinement::ReferenceBitmap;
-use jbig2_text::bit_fields::bits_field;
 use jbig2_text::text::header::{ReferenceCorner, TextRegionFlags};
 use jbig2_text::text::{
-    PrefixedReadings, ReadInstances, Refining, SymbolList, TextParams,
-    TextRegionHuffmanTables, code_length, draw_instances_by, new_symbol,
+    PrefixedReadings, ReadInstances, Refining, SymbolList, TextParams, TextRegionHuffmanTables,
+    draw_instances_by, new_symbol,
 };
 use std::alloc::Allocator;
 use std::sync::ledger::Ledger;
@@ -70,24 +70,6 @@ pub fn id_codes<A: Allocator + Clone>(
         0
     };
     HuffmanTable::build_uniform(alloc, count, id_bits(header, symbols).max(1))
-}
-
-/// The tables of the instances in symbols that are put together (T.88, Table 17).
-fn aggregate_tables<'a, T: Allocator>(
-    standard: &'a StandardHuffmanTables<T>,
-) -> TextRegionHuffmanTables<'a, T>
-    ensures { tables_view result ≡ aggregate_tables }
-{
-    TextRegionHuffmanTables {
-        first_s: standard.table_f(),
-        delta_s: standard.table_h(),
-        delta_t: standard.table_k(),
-        refinement_width: standard.table_o(),
-        refinement_height: standard.table_o(),
-        refinement_x: standard.table_o(),
-        refinement_y: standard.table_o(),
-        refinement_size: standard.table_a(),
-    }
 }
 
 /// How the instances of a symbol are placed: as in a text region in strips of one row, from the top
@@ -234,13 +216,17 @@ impl<A: Allocator> SymbolReader<'_, A> {
         let bits = id_bits(input.header, input.symbols.len()).max(1) as u8;
         let mut readings = PrefixedReadings {
             reader: self.reader.duplicate(),
-            tables: aggregate_tables(input.standard),
+            tables: TextRegionHuffmanTables::of_aggregates(input.standard),
             ids: input.ids,
         };
         let refining = &mut self.refining;
-        let symbol = read_prefixed(alloc, &mut readings, refining, bits, params, size, steps)?;
-        self.reader = readings.reader;
-        Ok(symbol)
+        match read_prefixed(alloc, &mut readings, refining, bits, params, size, steps) {
+            Ok(symbol) => {
+                self.reader = readings.reader;
+                Ok(symbol)
+            }
+            Err(error) => Err(error),
+        }
     }
 
     /// A symbol that is refined from another one or put together from several, of those that are
