@@ -3,9 +3,9 @@
 
 usage: comparison/symbols.py [COUNT [SEED]]
 
-Each document is made by an encoder of its own (comparison/encoder), which knows the picture. KINDS may name some of
-`coder prefix refined aggregates tables`, the forms that jbig2dec draws too, and `more`, those that it does not: these
-are compared with what was meant alone.
+Each document is made by the encoder in comparison/encoder, which knows the picture. KINDS may name some of `coder prefix
+refined aggregates tables`, the forms that jbig2dec draws too, and `more`, which it does not: that is compared with what was
+meant alone. PROGRAM=none compares jbig2dec alone with what was meant, which checks the encoder.
 """
 import dataclasses
 import os

@@ -130,6 +130,16 @@ def random_lengths(chance, count):
     return lengths
 
 
+def some_lengths(chance, count):
+    """Prefix lengths for so many symbols, of which some stretch may have no code."""
+    if count < 3 or chance.random() < 0.5:
+        return random_lengths(chance, count)
+    used = chance.randrange(1, count)
+    lengths = random_lengths(chance, used)
+    at = chance.randrange(used + 1)
+    return lengths[:at] + [0] * (count - used) + lengths[at:]
+
+
 def random_table(chance, most, out_of_band):
     """A custom table of at most so many ranges with a lower and an upper line, and the segment data that spells it (B.2)."""
     low = start = chance.randrange(-40, 4)

@@ -4,7 +4,7 @@ import dataclasses
 from .arithmetic import ArithmeticEncoder, Procedures
 from .bitmap import NOMINAL, Bitmap
 from .dictionary import CoderSymbols, DictionaryMaker, PrefixSymbols, Templates, random_classes
-from .prefix import STANDARD, Bits, put_symbol_codes, random_lengths, random_table
+from .prefix import STANDARD, Bits, put_symbol_codes, random_table, some_lengths
 from .text import CoderText, PrefixText, Settings, TextMaker, code_length
 
 # The standard tables of each number of a text region by their selections, in the order of the Huffman flags (7.4.3.1.2).
@@ -28,6 +28,7 @@ class Form:
     refined: bool = False
     custom: bool = False
     most_tables: int = 8
+    most_symbols: int = 8
     most_ranges: int = 5
     padding: bytes = b""
     refinement_templates: tuple = (0, 1)
@@ -94,7 +95,7 @@ def random_dictionary(chance, form, inputs, last):
     keeps = form.hands_on and not form.prefix and chance.random() < 0.5
     tables, flags, custom = chosen_tables(chance, form, SYMBOL_TABLES) if form.prefix else ({}, 0, [])
     rises = [form.prefix and not tables[name].takes(-1) for name in ("IADH", "IADW")]
-    classes = random_classes(chance, 6, *rises)
+    classes = random_classes(chance, form.most_symbols, *rises) if not inputs or chance.random() < 0.9 else []
     total = sum(len(widths) for _, widths in classes)
     count = len(inputs) + total
     if form.prefix:
@@ -140,13 +141,13 @@ def random_text(chance, form, symbols, width, height):
     """A text region's data behind its region information, the data of its custom tables, and its bitmap."""
     settings = random_settings(chance, form)
     bitmap = Bitmap(width, height, settings.colour)
-    count = chance.randrange(1, 25)
+    count = chance.randrange(25)
     data = text_flags(settings, form.prefix)
     tables, flags, custom = chosen_tables(chance, form, TEXT_TABLES) if form.prefix else ({}, 0, [])
     if form.prefix:
         data += flags.to_bytes(2, "big")
         bits = Bits()
-        lengths = random_lengths(chance, len(symbols))
+        lengths = some_lengths(chance, len(symbols))
         codes = put_symbol_codes(bits, chance, lengths)
         writer = PrefixText(bits, tables, codes, lengths, {})
     else:

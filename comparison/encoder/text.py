@@ -58,6 +58,9 @@ class CoderText:
         self.refining = refining
         self.id_length = id_length
 
+    def has_code(self, symbol):
+        return True
+
     def takes(self, name, value):
         return True
 
@@ -90,6 +93,9 @@ class PrefixText:
         self.id_codes = id_codes
         self.id_lengths = id_lengths
         self.refining = refining
+
+    def has_code(self, symbol):
+        return self.id_lengths[symbol] > 0
 
     def takes(self, name, value):
         return self.tables[name].takes(value)
@@ -130,6 +136,7 @@ class TextMaker:
         self.settings = settings
         self.symbols = symbols
         self.bitmap = bitmap
+        self.ids = [at for at in range(len(symbols)) if writer.has_code(at)]
         # S runs along the rows, or down the columns of what is transposed.
         sides = (bitmap.width, bitmap.height)
         self.s_side, self.t_side = reversed(sides) if settings.transposed else sides
@@ -161,7 +168,7 @@ class TextMaker:
             left -= here
 
     def instance(self, s, t):
-        at = self.chance.randrange(len(self.symbols))
+        at = self.chance.choice(self.ids)
         symbol = self.symbols[at]
         self.writer.put_id(at)
         if self.settings.refined:

@@ -18,6 +18,11 @@ use Rattle.jbig2_base.proofs.GridLemmas.{grid_of-ext}
 use Rattle.jbig2_region.specs.Raster.{so_far}
 use Rattle.jbig2_region.proofs.RasterLemmas.{so_far-push, blank-so_far}
 use Rattle.jbig2_halftone.specs.Halftone.{column_of, row_of, lies_outside, skip_grid, pattern_for, with_cell, cells_drawn}
+use Rattle.jbig2_halftone.specs.GrayScale.{gray_values}
+use Rattle.jbig2_halftone.specs.inner.NextValues.{row_values}
+use Rattle.jbig2_halftone.proofs.RowLemmas.{values-length, rows-next, first-rows}
+use Rattle.jbig2_base.specs.Answer.{◌>>=◌}
+use Rattle.std.specs.Prelude.{Result}
 use Rattle.jbig2_halftone.specs.HalftoneHeader.{HalftoneHeader}
 use Rattle.jbig2_halftone.specs.Patterns.{Patterns}
 
@@ -102,23 +107,75 @@ skips-all h d m skip whole e =
     inside y w x rows above left = omega (arith, mul-add-lt y w x rows above left)
 
 -- ---- the cells that are drawn
-pub cells-next : (h : HalftoneHeader) (d : Patterns) (k : ℕ) (values : List ℕ) (region pattern : Grid) → k < length values → pattern_for h.strict d.grids (get_or values k 0) ≡ Ok pattern → cells_drawn h d k (drop k values) region ≡ cells_drawn h d (k + 1) (drop (k + 1) values) (with_cell h k pattern region)
+pub cells-next : (h : HalftoneHeader) (d : Patterns) (k n : ℕ) (values : List ℕ) (region pattern : Grid) → n < length values → pattern_for h.strict d.grids (get_or values n 0) ≡ Ok pattern → cells_drawn h d k (drop n values) region ≡ cells_drawn h d (k + 1) (drop (n + 1) values) (with_cell h k pattern region)
 unfolding cells_drawn
-cells-next h d k values region pattern inside e =
-    let one : suc k ≡ k + 1 = omega arith in
-    rw (drop-cons values k 0 inside, e) (ap (λ (n : ℕ). cells_drawn h d (k + 1) (drop n values) (with_cell h k pattern region)) one)
+cells-next h d k n values region pattern inside e =
+    let one : suc n ≡ n + 1 = omega arith in
+    rw (drop-cons values n 0 inside, e) (ap (λ (m : ℕ). cells_drawn h d (k + 1) (drop m values) (with_cell h k pattern region)) one)
 
-pub cells-fault : (h : HalftoneHeader) (d : Patterns) (k : ℕ) (values : List ℕ) (region : Grid) (error : DecodeError) → k < length values → pattern_for h.strict d.grids (get_or values k 0) ≡ Err error → cells_drawn h d k (drop k values) region ≡ Err error
+pub cells-fault : (h : HalftoneHeader) (d : Patterns) (k n : ℕ) (values : List ℕ) (region : Grid) (error : DecodeError) → n < length values → pattern_for h.strict d.grids (get_or values n 0) ≡ Err error → cells_drawn h d k (drop n values) region ≡ Err error
 unfolding cells_drawn
-cells-fault h d k values region error inside e = rw (drop-cons values k 0 inside, e)
+cells-fault h d k n values region error inside e = rw (drop-cons values n 0 inside, e)
 
-pub cells-all : (h : HalftoneHeader) (d : Patterns) (k : ℕ) (values : List ℕ) (region : Grid) → length values ≤ k → cells_drawn h d k (drop k values) region ≡ Ok region
+pub cells-all : (h : HalftoneHeader) (d : Patterns) (k n : ℕ) (values : List ℕ) (region : Grid) → length values ≤ n → cells_drawn h d k (drop n values) region ≡ Ok region
 unfolding cells_drawn
-cells-all h d k values region all = rw (drop_all k values all)
+cells-all h d k n values region all = rw (drop_all n values all)
 
-pub cell-made : (h : HalftoneHeader) (k : ℕ) (region pattern new : Grid) (x y : ℤ) → SFits w32 x → SFits w32 y → x ≡ column_of h (k / h.grid_position_and_size.width) (k % h.grid_position_and_size.width) → y ≡ row_of h (k / h.grid_position_and_size.width) (k % h.grid_position_and_size.width)
-    → new ≡ combined h.flags.combination_operator region pattern (to_z w32 (of_z w32 x)) (to_z w32 (of_z w32 y)) → new ≡ with_cell h k pattern region
-cell-made h k region pattern new x y fits_x fits_y column row drawn =
+-- cell n of row m
+pub cell-made : (h : HalftoneHeader) (m n : ℕ) (region pattern new : Grid) (x y : ℤ) → n < h.grid_position_and_size.width → SFits w32 x → SFits w32 y → x ≡ column_of h m n → y ≡ row_of h m n
+    → new ≡ combined h.flags.combination_operator region pattern (to_z w32 (of_z w32 x)) (to_z w32 (of_z w32 y)) → new ≡ with_cell h (m * h.grid_position_and_size.width + n) pattern region
+cell-made h m n region pattern new x y inside fits_x fits_y column row drawn =
+    let w : ℕ = h.grid_position_and_size.width in
+    let k : ℕ = m * w + n in
+    let at : column_of h m n ≡ column_of h (k / w) (k % w) = sym (ap (λ (i : ℕ). column_of h i (k % w)) (div-mul-add m w n inside) ∙ ap (λ (i : ℕ). column_of h m i) (mod-mul-add m w n inside)) in
+    let above : row_of h m n ≡ row_of h (k / w) (k % w) = sym (ap (λ (i : ℕ). row_of h i (k % w)) (div-mul-add m w n inside) ∙ ap (λ (i : ℕ). row_of h m i) (mod-mul-add m w n inside)) in
     drawn
-    ∙ ap (λ (z : ℤ). combined h.flags.combination_operator region pattern z (to_z w32 (of_z w32 y))) (to_z-of_z w32 x fits_x ∙ column)
-    ∙ ap (λ (z : ℤ). combined h.flags.combination_operator region pattern (column_of h (k / h.grid_position_and_size.width) (k % h.grid_position_and_size.width)) z) (to_z-of_z w32 y fits_y ∙ row)
+    ∙ ap (λ (z : ℤ). combined h.flags.combination_operator region pattern z (to_z w32 (of_z w32 y))) (to_z-of_z w32 x fits_x ∙ column ∙ at)
+    ∙ ap (λ (z : ℤ). combined h.flags.combination_operator region pattern (column_of h (k / w) (k % w)) z) (to_z-of_z w32 y fits_y ∙ row ∙ above)
+
+-- cells, and those behind them
+pub cells-append : (h : HalftoneHeader) (d : Patterns) (k : ℕ) (values others : List ℕ) (region : Grid) → cells_drawn h d k (values ++ others) region ≡ (cells_drawn h d k values region >>= λ drawn. cells_drawn h d (k + length values) others drawn)
+unfolding cells_drawn
+cells-append h d k [] others region =
+    let none : k + 0 ≡ k = omega arith in
+    rw none refl
+cells-append h d k (value ∷ values) others region = next (pattern_for h.strict d.grids value) (λ pattern. cells-append h d (k + 1) values others (with_cell h k pattern region))
+  where
+    more : k + 1 + length values ≡ k + length (value ∷ values)
+    more = omega arith
+
+    next : (r : Result Grid DecodeError)
+        → ((pattern : Grid) → cells_drawn h d (k + 1) (values ++ others) (with_cell h k pattern region) ≡ (cells_drawn h d (k + 1) values (with_cell h k pattern region) >>= λ drawn. cells_drawn h d (k + 1 + length values) others drawn))
+        → (r >>= λ pattern. cells_drawn h d (k + 1) (values ++ others) (with_cell h k pattern region)) ≡ ((r >>= λ pattern. cells_drawn h d (k + 1) values (with_cell h k pattern region)) >>= λ drawn. cells_drawn h d (k + length (value ∷ values)) others drawn)
+    next (Err e) each = refl
+    next (Ok pattern) each = each pattern ∙ ap (λ (n : ℕ). cells_drawn h d (k + 1) values (with_cell h k pattern region) >>= λ drawn. cells_drawn h d n others drawn) more
+
+-- a row more
+pub rows-drawn : (h : HalftoneHeader) (d : Patterns) (m : ℕ) (planes : List Grid) (start region : Grid) (row : List ℕ) → row ≡ row_values h.grid_position_and_size.width planes m → cells_drawn h d 0 (gray_values h.grid_position_and_size.width m planes) start ≡ Ok region
+    → cells_drawn h d 0 (gray_values h.grid_position_and_size.width (m + 1) planes) start ≡ cells_drawn h d (m * h.grid_position_and_size.width) row region
+rows-drawn h d m planes start region row made before =
+    let w : ℕ = h.grid_position_and_size.width in
+    let place : 0 + length (gray_values w m planes) ≡ m * w = omega (arith, values-length w m planes) in
+    ap (λ (vs : List ℕ). cells_drawn h d 0 vs start) (sym (rows-next w m planes) ∙ ap (λ (vs : List ℕ). gray_values w m planes ++ vs) (sym made))
+    ∙ cells-append h d 0 (gray_values w m planes) row start
+    ∙ rw (before, place) refl
+
+-- a fault in a row is the region's
+pub rows-fault : (h : HalftoneHeader) (d : Patterns) (m rows : ℕ) (planes : List Grid) (start : Grid) (error : DecodeError) → m ≤ rows → cells_drawn h d 0 (gray_values h.grid_position_and_size.width m planes) start ≡ Err error
+    → cells_drawn h d 0 (gray_values h.grid_position_and_size.width rows planes) start ≡ Err error
+rows-fault h d m rows planes start error below fault =
+    let w : ℕ = h.grid_position_and_size.width in
+    ap (λ (vs : List ℕ). cells_drawn h d 0 vs start) (first-rows w m rows planes below)
+    ∙ cells-append h d 0 (gray_values w m planes) (drop (w * m) (gray_values w rows planes)) start
+    ∙ rw fault refl
+
+pub cells-first : (h : HalftoneHeader) (d : Patterns) (m : ℕ) (values : List ℕ) (region : Grid) → cells_drawn h d (m * h.grid_position_and_size.width + 0) (drop 0 values) region ≡ cells_drawn h d (m * h.grid_position_and_size.width) values region
+cells-first h d m values region =
+    let first : m * h.grid_position_and_size.width + 0 ≡ m * h.grid_position_and_size.width = omega arith in
+    rw first refl
+
+pub rows-none : (h : HalftoneHeader) (d : Patterns) (planes : List Grid) (region : Grid) → cells_drawn h d 0 (gray_values h.grid_position_and_size.width 0 planes) region ≡ Ok region
+unfolding cells_drawn gray_values
+rows-none h d planes region =
+    let none : h.grid_position_and_size.width * 0 ≡ 0 = omega arith in
+    rw none refl

@@ -1,17 +1,15 @@
 -- The values of a gray-scale image, plane by plane.
-use Rattle.std.proofs.Common.{◌≡◌, ℕ, zero, suc, ◌+◌, ◌-◌, ◌*◌, ◌/◌, ◌%◌, ◌<◌, ◌≤◌, Bool, true, false, eqb, List, [], ◌∷◌, ◌++◌, length, take, map, replicate, get_or, add-one, length-append, refl, sym, ap, ◌∙◌, arith}
+use Rattle.std.proofs.Common.{◌≡◌, ℕ, zero, suc, ◌+◌, ◌-◌, ◌*◌, ◌/◌, ◌%◌, ◌^◌, ◌<◌, ◌≤◌, Bool, true, false, eqb, List, [], ◌∷◌, ◌++◌, length, take, map, replicate, get_or, add-one, length-append, refl, sym, ap, subst, ◌∙◌, arith}
 use Rattle.std.specs.List.{range_with_len}
 use Rattle.std.proofs.lemmas.List.{take-append-le}
 use Rattle.std.proofs.Math.Seq.{take-length}
-use Rattle.std.proofs.lemmas.List.FromFn.{fill_by_all, get_or-map-range_with_len}
+use Rattle.std.proofs.lemmas.List.FromFn.{length-map-range_with_len}
+use Rattle.jbig2_region.proofs.ContextLemmas.{number_of-lt}
+use Rattle.jbig2_halftone.specs.inner.NextValues.{next_value}
 use Rattle.jbig2_base.specs.Grid.{Grid, bit_number, pixel_at}
 use Rattle.jbig2_region.specs.Generic.{number_of}
 use Rattle.jbig2_mmr.specs.T6.{differ}
 use Rattle.jbig2_halftone.specs.GrayScale.{parity, gray_bit, gray_value, gray_values}
-
--- a value after one plane more
-abbrev pub next_value : ℕ → Bool → ℕ
-next_value v black = 2 * v + bit_number (differ black (eqb (v % 2) 1))
 
 differ-swap : (a b c : Bool) → differ a (differ b c) ≡ differ b (differ a c)
 differ-swap true true c = refl
@@ -71,14 +69,13 @@ gray-last planes plane x y =
     ∙ ap (λ (v : ℕ). bit_number (differ (pixel_at plane x y) (eqb (gray_value planes x y % 2) 1)) + 2 * v) high
     ∙ omega arith
 
--- all values, one plane more
-pub values-next : (w h : ℕ) (planes : List Grid) (plane : Grid) (old new : List ℕ) → old ≡ gray_values w h planes → length new ≡ w * h → ((k : ℕ) → k < w * h → get_or new k 0 ≡ next_value (get_or old k 0) (pixel_at plane (k % w) (k / w))) → new ≡ gray_values w h (planes ++ plane ∷ [])
-unfolding gray_values
-values-next w h planes plane old new before all each =
-    fill_by_all (λ n. gray_value (planes ++ plane ∷ []) (n % w) (n / w)) new (w * h) 0 all
-    (λ k below.
-    let read : get_or old k 0 ≡ gray_value planes (k % w) (k / w) = ap (λ (vs : List ℕ). get_or vs k 0) before ∙ get_or-map-range_with_len (λ n. gray_value planes (n % w) (n / w)) 0 (w * h) k k 0 below (omega arith) in
-    each k below ∙ ap (λ (v : ℕ). next_value v (pixel_at plane (k % w) (k / w))) read ∙ sym (gray-last planes plane (k % w) (k / w)))
+-- so many planes make values of so many bits
+pub gray_value-lt : (planes : List Grid) (x y : ℕ) → gray_value planes x y < 2 ^ length planes
+unfolding gray_value
+gray_value-lt planes x y =
+    subst (λ (n : ℕ). number_of (map (gray_bit planes x y) (range_with_len 0 (length planes))) < 2 ^ n)
+    (length-map-range_with_len (gray_bit planes x y) 0 (length planes))
+    (number_of-lt (map (gray_bit planes x y) (range_with_len 0 (length planes))))
 
 none-zero : (w a n : ℕ) → map (λ k. gray_value [] (k % w) (k / w)) (range_with_len a n) ≡ replicate n 0
 unfolding gray_value

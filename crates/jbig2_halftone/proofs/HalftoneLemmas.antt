@@ -1,30 +1,53 @@
 -- What decoding a whole halftone region gives: a value for each cell, and in lenient mode never a refusal.
-use Rattle.std.proofs.Common.{◌≡◌, ℕ, zero, suc, ◌+◌, ◌*◌, ◌≤◌, Bool, true, false, ltb, List, [], ◌∷◌, length, drop, get_or, ◌-◌, Result, Ok, Err, refl, sym, ap, subst, ◌∙◌, ⊎_elim}
+use Rattle.std.proofs.Common.{◌≡◌, ℕ, zero, suc, ◌+◌, ◌*◌, ◌≤◌, Bool, true, false, ltb, List, [], ◌∷◌, length, drop, get_or, ◌-◌, Result, Ok, Err, refl, sym, ap, subst, ◌∙◌, ◌⊎◌, inl, inr, ⊎_elim, arith}
 use Rattle.std.specs.Prelude.{if◌then◌else◌, IfErr}
 use Rattle.std.proofs.lemmas.Bool.{le-ltb, and_right}
-use Rattle.jbig2_base.specs.Answer.{◌>>=◌, refuse_if, Gives}
+use Rattle.jbig2_base.specs.Answer.{◌>>=◌, refuse_if, Answers, Gives, Leaves}
 use Rattle.jbig2_base.specs.Grid.{Grid, blank}
 use Rattle.jbig2_base.specs.declared.error.DecodeError.{DecodeError}
 use Rattle.jbig2_base.specs.declared.error.DecodeError.TheVariants.{OutOfMemory, Region}
 use Rattle.jbig2_base.specs.declared.error.RegionError.TheVariants.{GrayScaleOutOfRange}
+use Rattle.jbig2_coder.specs.Coder.{Context}
+use Rattle.jbig2_base.specs.Search.{code_length}
 use Rattle.jbig2_mmr.specs.T6.{decoded as mmr_rows}
-use Rattle.jbig2_halftone.specs.GrayScale.{GrayScale, mmr_planes, planes_by_coder, planes_by_mmr, planes_of, values_by, gray_values, gray_scale_image}
-use Rattle.jbig2_halftone.specs.Halftone.{gray_params, pattern_for, with_cell, cells_drawn, halftone_answer}
+use Rattle.jbig2_halftone.specs.GrayScale.{GrayScale, mmr_plane, mmr_planes, planes_by_coder, planes_by_mmr, planes_of, values_by, gray_values, image_is_too_large, planes_contexts, gray_scale_image}
+use Rattle.jbig2_halftone.specs.Halftone.{gray_params, pattern_for, with_cell, cells_drawn, halftone_answer, halftone_contexts}
 use Rattle.jbig2_halftone.specs.HalftoneHeader.{HalftoneHeader}
 use Rattle.jbig2_halftone.specs.Patterns.{Patterns}
-use Rattle.jbig2_halftone.proofs.PlaneLemmas.{values-length}
 
-image-step : (refused : Bool) (e : DecodeError) (p : GrayScale) (planes : Result (List Grid) DecodeError) (values : List ℕ) → (refuse_if refused e >>= λ _. values_by p planes) ≡ Ok values → length values ≡ p.width * p.height
-image-step true e p planes values made = absurd (cc)
-image-step false e p (Err f) values made = absurd (cc)
-image-step false e p (Ok planes) values made =
-    let same : gray_values p.width p.height planes ≡ values = cc in
-    ap length (sym same) ∙ values-length p.width p.height planes
+-- an image whose sides fit
+pub image-fits : (p : GrayScale) → p.width ≤ 65535 → p.height ≤ 65535 → image_is_too_large p ≡ false
+image-fits p columns rows = rw (le-ltb 65535 p.width columns, le-ltb 65535 p.height rows, and_right (ltb 0 p.bits_per_pixel) false refl) refl
 
--- a value for each pixel
-pub image-sized : (p : GrayScale) (input values : List ℕ) → gray_scale_image p input ≡ Ok values → length values ≡ p.width * p.height
-unfolding gray_scale_image
-image-sized p input values made = image-step _ _ p (planes_of p input) values made
+-- what a region is, from its planes
+pub answer-of-planes : (h : HalftoneHeader) (d : Patterns) (planes : List Grid) → image_is_too_large (gray_params h d) ≡ false → planes_of (gray_params h d) h.bytes ≡ Ok planes
+    → halftone_answer h d ≡ cells_drawn h d 0 (gray_values h.grid_position_and_size.width h.grid_position_and_size.height planes) (blank h.region_info.width h.region_info.height h.flags.initial_pixel_color)
+unfolding halftone_answer gray_scale_image
+answer-of-planes h d planes fits read = rw (fits, read) refl
+
+pub answer-of-fault : (h : HalftoneHeader) (d : Patterns) (e : DecodeError) → image_is_too_large (gray_params h d) ≡ false → planes_of (gray_params h d) h.bytes ≡ Err e → halftone_answer h d ≡ Err e
+unfolding halftone_answer gray_scale_image
+answer-of-fault h d e fits read = rw (fits, read) refl
+
+pub contexts-of-planes : (h : HalftoneHeader) (d : Patterns) (old new : List Context) → image_is_too_large (gray_params h d) ≡ false → new ≡ planes_contexts (gray_params h d) h.bytes old → new ≡ halftone_contexts h d old
+contexts-of-planes h d old new fits left = rw fits left
+
+-- an exact answer is one
+pub answers-gives : {X Y : Type 0} (view : X → Y) (result : Result X DecodeError) (drawn meant : Result Y DecodeError) → meant ≡ drawn → Answers view result drawn → Gives view result meant
+answers-gives view (Ok x) drawn meant same answers = same ∙ answers
+answers-gives view (Err e) drawn meant same answers = inr (same ∙ answers)
+
+pub refused-or : {X : Type 0} (result : Result X DecodeError) (P : DecodeError → Type 0) (Q : Type 0) → IfErr result P → IfErr result (λ e. P e ⊎ Q)
+refused-or (Ok x) P Q refused = _
+refused-or (Err e) P Q refused = inl refused
+
+pub leaves-known : {X : Type 0} (result : Result X DecodeError) (left meant : List Context) → left ≡ meant → Leaves result left meant
+leaves-known (Ok x) left meant same = same
+leaves-known (Err e) left meant same = inr same
+
+-- a dictionary's patterns take few bits
+pub code-length-few : (n bits : ℕ) → bits ≡ code_length n → bits ≤ 16 → code_length n ≤ 32
+code-length-few n bits same few = omega (arith, same)
 
 -- ---- lenient mode
 -- an answer that is no refusal
@@ -40,13 +63,20 @@ rows-lenient : (w h : ℕ) (input : List ℕ) → Answered (mmr_rows false w h i
 unfolding mmr_rows
 rows-lenient w h input = (_, refl)
 
+plane-lenient : (p : GrayScale) (input : List ℕ) → p.strict ≡ false → Answered (mmr_plane p input)
+unfolding mmr_plane
+plane-lenient p input lenient =
+    then-answered (mmr_rows p.strict p.width p.height input) (λ rows. Ok (rows.grid, drop rows.used input))
+    (subst (λ (b : Bool). Answered (mmr_rows b p.width p.height input)) (sym lenient) (rows-lenient p.width p.height input))
+    (λ rows. ((rows.grid, drop rows.used input), refl))
+
 planes-lenient : (p : GrayScale) (input : List ℕ) (count : ℕ) → p.strict ≡ false → Answered (mmr_planes p input count)
 unfolding mmr_planes
 planes-lenient p input zero lenient = ([], refl)
 planes-lenient p input (suc count) lenient =
-    then-answered (mmr_rows p.strict p.width p.height input) (λ rows. mmr_planes p (drop rows.used input) count >>= λ others. Ok (rows.grid ∷ others))
-    (subst (λ (b : Bool). Answered (mmr_rows b p.width p.height input)) (sym lenient) (rows-lenient p.width p.height input))
-    (λ rows. then-answered (mmr_planes p (drop rows.used input) count) (λ others. Ok (rows.grid ∷ others)) (planes-lenient p (drop rows.used input) count lenient) (λ others. (rows.grid ∷ others, refl)))
+    then-answered (mmr_plane p input) (λ plane. mmr_planes p plane.1 count >>= λ others. Ok (plane.0 ∷ others))
+    (plane-lenient p input lenient)
+    (λ plane. then-answered (mmr_planes p plane.1 count) (λ others. Ok (plane.0 ∷ others)) (planes-lenient p plane.1 count lenient) (λ others. (plane.0 ∷ others, refl)))
 
 values-lenient : (use_mmr : Bool) (p : GrayScale) (input : List ℕ) → p.strict ≡ false → Answered (if use_mmr then planes_by_mmr p input else planes_by_coder p input)
 values-lenient true p input lenient = planes-lenient p input p.bits_per_pixel lenient

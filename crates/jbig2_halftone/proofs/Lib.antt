@@ -1,6 +1,10 @@
 mod CellLemmas
+mod DrawSteps
+mod GrayCounts
 mod GrayLemmas
 mod HalftoneLemmas
+mod LaneLemmas
 mod PatternLemmas
 mod PlaneLemmas
+mod RowLemmas
 mod WorkedHalftones

@@ -1,9 +1,10 @@
 -- Patterns cut out of a collective bitmap.
-use Rattle.std.proofs.Common.{◌≡◌, ℕ, ◌+◌, ◌*◌, ◌<◌, ◌≤◌, Bool, false, ltb, List, [], ◌∷◌, ◌++◌, length, ℤ, pos, ◌-ℤ◌, Result, Ok, refl, sym, ap, ◌∙◌, ⊎_elim, arith}
+use Rattle.std.proofs.Common.{◌≡◌, ℕ, ◌+◌, ◌*◌, ◌<◌, ◌≤◌, Bool, false, ltb, List, [], ◌∷◌, ◌++◌, length, ℤ, pos, ◌-ℤ◌, Result, Ok, refl, sym, ap, subst, ◌∙◌, ⊎_elim, arith}
+use Rattle.std.specs.List.{All}
 use Rattle.std.proofs.lemmas.Bool.{cases_lt, lt-ltb, le-ltb, and_right}
 use Rattle.std.proofs.lemmas.Int.{ints}
 use Rattle.std.proofs.Math.Nat.{mul-le-mul_left}
-use Rattle.std.proofs.lemmas.List.FromFn.{map-range_with_len_more, length-map-range_with_len}
+use Rattle.std.proofs.lemmas.List.FromFn.{get_or-map-range_with_len, map-range_with_len_more, length-map-range_with_len}
 use Rattle.jbig2_base.specs.declared.bitmap.operator.CombinationOperator.TheVariants.{Replace}
 use Rattle.jbig2_base.specs.Combination.{combined, drawn_pixel}
 use Rattle.jbig2_base.specs.Grid.{Grid, blank, pixel_at}
@@ -11,6 +12,7 @@ use Rattle.jbig2_base.specs.declared.error.DecodeError.{DecodeError}
 use Rattle.jbig2_base.specs.Sizes.{blank_or_overflow}
 use Rattle.jbig2_base.proofs.GridLemmas.{grid_of-ext, pixel_at-grid_of, pixel_at-right, pixel_at-below}
 use Rattle.jbig2_halftone.specs.Patterns.{pattern_of, patterns_of}
+use Rattle.jbig2_halftone.specs.Sizes.{HasSize}
 
 -- a pixel of a white bitmap that a collective bitmap was put on, `from` columns to the left
 cut-pixel : (collective : Grid) (w h from i j : ℕ) → i < w → j < h → drawn_pixel Replace (blank w h false) collective (pos 0 -ℤ pos from) (pos 0) i j ≡ pixel_at collective (from + i) j
@@ -60,3 +62,14 @@ cut-length collective w h n items e =
 -- few patterns, where they have few columns together
 pub few-patterns : (n w : ℕ) → 1 ≤ w → n * w ≤ 65535 → n ≤ 65535
 few-patterns n w some few = omega (arith, mul-le-mul_left n some)
+
+-- each pattern has its dictionary's size
+pub cut-sized : (collective : Grid) (w h n : ℕ) (items : List Grid) → ◌≡◌ {A = Result (List Grid) DecodeError} (Ok (patterns_of collective w h n)) (Ok items) → All (HasSize w h) items
+unfolding patterns_of
+cut-sized collective w h n items e =
+    let same : patterns_of collective w h n ≡ items = cc in
+    subst (λ (ps : List Grid). All (HasSize w h) ps) same
+    (λ k d inside.
+    let within : k < n = omega (arith, patterns_of-length collective w h n) in
+    let one = get_or-map-range_with_len (λ i. pattern_of collective w h i) 0 n k k d within (omega arith) in
+    record { columns = ap (λ (g : Grid). g.width) one; rows = ap (λ (g : Grid). g.height) one })

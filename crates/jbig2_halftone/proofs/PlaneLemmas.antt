@@ -1,7 +1,8 @@
 -- Planes read one after another, and the values gathered from them.
-use Rattle.std.proofs.Common.{◌≡◌, ℕ, suc, ◌+◌, ◌-◌, ◌*◌, ◌/◌, ◌%◌, ◌^◌, ◌<◌, ◌≤◌, Bool, true, false, ltb, not, ◌&&◌, ◌||◌, List, [], ◌∷◌, ◌++◌, length, take, drop, map, Result, Ok, Err, add-one, length-append, refl, sym, ap, subst, ◌∙◌, arith}
+use Rattle.std.proofs.Common.{◌≡◌, ℕ, suc, ◌+◌, ◌-◌, ◌*◌, ◌/◌, ◌%◌, ◌^◌, ◌<◌, ◌≤◌, Bool, true, false, ltb, not, ◌&&◌, ◌||◌, zero, List, [], ◌∷◌, ◌++◌, length, get_or, take, drop, map, Result, Ok, Err, add-one, length-append, refl, sym, ap, subst, ◌∙◌, arith}
 use Rattle.std.specs.List.{All, range_with_len}
-use Rattle.std.specs.Prelude.{if◌then◌else◌}
+use Rattle.std.specs.Prelude.{if◌then◌else◌, Option, None, Some, is_some}
+use Rattle.std.specs.Borrow.{Bor}
 use Rattle.std.proofs.lemmas.Bool.{lt-ltb, ltb-false}
 use Rattle.std.proofs.Math.Nat.{pow-le-pow_right}
 use Rattle.std.proofs.lemmas.List.{append_assoc, append-nil, length-drop, take_all}
@@ -11,16 +12,17 @@ use Rattle.jbig2_base.specs.Grid.{Grid, blank}
 use Rattle.jbig2_base.specs.declared.error.DecodeError.{DecodeError}
 use Rattle.jbig2_coder.specs.Coder.{Coder, Context, started}
 use Rattle.jbig2_coder.specs.declared.arithmetic_decoder.registers.Registers.{Registers}
-use Rattle.jbig2_region.specs.Generic.{number_of}
-use Rattle.jbig2_region.specs.inner.Holds.{Holds}
-use Rattle.jbig2_region.specs.Raster.{so_far, decoded, no_pixels, fresh_contexts}
-use Rattle.jbig2_region.specs.Skipping.{skipping_coding}
+use Rattle.jbig2_region.specs.Generic.{coding_of}
+use Rattle.jbig2_region.specs.inner.Holds.{DecodesRegion, Holds}
+use Rattle.jbig2_region.specs.Raster.{Region, so_far, after_pixel, after_pixels, row_begun, after_rows, decoded, no_pixels, fresh_contexts}
+use Rattle.jbig2_region.proofs.RasterLemmas.{after_pixels-predicted}
+use Rattle.jbig2_region.specs.Skipping.{skipping_coding, skip_of}
 use Rattle.jbig2_mmr.specs.T6.{Decoded, Rows, decoded as mmr_rows, grid_of_rows, rows_of}
 use Rattle.jbig2_region.specs.Templates.{context_bits, template_pixels}
 use Rattle.jbig2_region.specs.declared.template.AdaptiveTemplatePixel.{AdaptiveTemplatePixel}
+use Rattle.jbig2_region.specs.declared.template.Template.{Template}
 use Rattle.jbig2_region.specs.declared.template.GenericTemplatePixels.TheVariants.{Regular}
-use Rattle.jbig2_region.proofs.ContextLemmas.{number_of-lt}
-use Rattle.jbig2_halftone.specs.GrayScale.{GrayScale, nominal_pixels, plane_coding, after_planes, coded_plane, coded_planes, mmr_planes, planes_by_coder, planes_by_mmr, gray_bit, gray_value, gray_values, values_by, image_is_too_large}
+use Rattle.jbig2_halftone.specs.GrayScale.{GrayScale, nominal_pixels, plane_coding, after_planes, coded_plane, coded_planes, mmr_planes, mmr_plane, planes_by_coder, planes_by_mmr, planes_of, image_is_too_large}
 
 -- neither side of an image that has a plane is too long
 pub image-sides : (p : GrayScale) (i : ℕ) → image_is_too_large p ≡ false → i < p.bits_per_pixel → (p.width ≤ 65535) × (p.height ≤ 65535)
@@ -36,50 +38,6 @@ image-sides p i fits more =
     or-right true b e = absurd (cc)
     or-right false b e = e
 
--- `gathered` are the values of the i planes that are done
-pub record Gathers (w h i : ℕ) (gathered : List ℕ) (done : List Grid) : Type 0 where
-  pub many : length done ≡ i
-  pub values : gathered ≡ gray_values w h done
-
--- what adding a plane says, in the image's own size
-added-sized : (w h : ℕ) (plane : Grid) (old new : List ℕ) → plane.width ≡ w → plane.height ≡ h → ((planes : List Grid) → old ≡ gray_values plane.width plane.height planes → new ≡ gray_values plane.width plane.height (planes ++ plane ∷ [])) → (planes : List Grid) → old ≡ gray_values w h planes → new ≡ gray_values w h (planes ++ plane ∷ [])
-added-sized w h plane old new columns rows added planes before =
-    added planes (before ∙ sym (ap (λ (n : ℕ). gray_values n plane.height planes) columns ∙ ap (λ (n : ℕ). gray_values w n planes) rows))
-    ∙ ap (λ (n : ℕ). gray_values n plane.height (planes ++ plane ∷ [])) columns
-    ∙ ap (λ (n : ℕ). gray_values w n (planes ++ plane ∷ [])) rows
-
-pub gathers-next : (w h i : ℕ) (old new : List ℕ) (done : List Grid) (plane : Grid) → plane.width ≡ w → plane.height ≡ h
-    → ((planes : List Grid) → old ≡ gray_values plane.width plane.height planes → new ≡ gray_values plane.width plane.height (planes ++ plane ∷ [])) → Gathers w h i old done → Gathers w h (i + 1) new (done ++ plane ∷ [])
-gathers-next w h i old new done plane columns rows added gathers = record {
-  many = length-append done (plane ∷ []) ∙ ap (λ (n : ℕ). n + 1) gathers.many;
-  values = added-sized w h plane old new columns rows added done gathers.values;
-}
-
-gray_value-lt : (planes : List Grid) (x y : ℕ) → gray_value planes x y < 2 ^ length planes
-unfolding gray_value
-gray_value-lt planes x y =
-    subst (λ (n : ℕ). number_of (map (gray_bit planes x y) (range_with_len 0 (length planes))) < 2 ^ n)
-    (length-map-range_with_len (gray_bit planes x y) 0 (length planes))
-    (number_of-lt (map (gray_bit planes x y) (range_with_len 0 (length planes))))
-
-pub values-length : (w h : ℕ) (planes : List Grid) → length (gray_values w h planes) ≡ w * h
-unfolding gray_values
-values-length w h planes = length-map-range_with_len (λ n. gray_value planes (n % w) (n / w)) 0 (w * h)
-
-values-small : (w h : ℕ) (planes : List Grid) → length planes < 32 → All (λ v. v < 2 ^ 31) (gray_values w h planes)
-unfolding gray_values
-values-small w h planes few = λ k d inside.
-    let within : k < w * h = omega (arith, values-length w h planes) in
-    let read = get_or-map-range_with_len (λ n. gray_value planes (n % w) (n / w)) 0 (w * h) k k d within (omega arith) in
-    let below : 2 ^ length planes ≤ 2 ^ 31 = pow-le-pow_right {n = 2} (omega arith) {i = length planes} {j = 31} (omega arith) in
-    rw read (omega (arith, gray_value-lt planes (k % w) (k / w)))
-
-pub gathers-small : (w h i : ℕ) (old : List ℕ) (done : List Grid) → i < 32 → Gathers w h i old done → All (λ v. v < 2 ^ 31) old
-gathers-small w h i old done few gathers = subst (λ (vs : List ℕ). All (λ v. v < 2 ^ 31) vs) (sym gathers.values) (values-small w h done (omega (arith, gathers.many)))
-
-pub gathers-sized : (w h i : ℕ) (gathered : List ℕ) (done : List Grid) (plane : Grid) → plane.width ≡ w → plane.height ≡ h → Gathers w h i gathered done → length gathered ≡ plane.width * plane.height
-gathers-sized w h i gathered done plane columns rows gathers = ap length gathers.values ∙ values-length w h done ∙ sym (ap (λ (n : ℕ). n * plane.height) columns ∙ ap (λ (n : ℕ). w * n) rows)
-
 pub plane-width : (w h : ℕ) (bits : List _) (grid : Grid) → grid ≡ so_far w h bits → grid.width ≡ w
 unfolding so_far
 plane-width w h bits grid e = ap (λ (g : Grid). g.width) e
@@ -88,123 +46,132 @@ pub plane-height : (w h : ℕ) (bits : List _) (grid : Grid) → grid ≡ so_far
 unfolding so_far
 plane-height w h bits grid e = ap (λ (g : Grid). g.height) e
 
+-- ---- a plane without skipped pixels is a generic region without typical prediction
+pub rows-plain : (pixels : List AdaptiveTemplatePixel) (t : Template) (w h : ℕ) (input : List ℕ) (n : ℕ) (r : Region) → r.predicted ≡ false → (after_rows (coding_of false t pixels) w h input n r).predicted ≡ false
+unfolding after_rows row_begun
+rows-plain pixels t w h input zero r plain = plain
+rows-plain pixels t w h input (suc n) r plain =
+    after_pixels-predicted (coding_of false t pixels) w h input w (after_rows (coding_of false t pixels) w h input n r) ∙ rows-plain pixels t w h input n r plain
+
+pub unskipped : (p : GrayScale) (adaptive : List AdaptiveTemplatePixel) (old : Grid) (coder : Coder) (states : List Context) (grid : Grid) (next : Coder) (after : List Context) → p.skip_mask ≡ None → adaptive ≡ nominal_pixels p.template
+    → DecodesRegion (coding_of false p.template (template_pixels p.template (Regular adaptive))) old coder states grid next after → DecodesRegion (plane_coding p) old coder states grid next after
+unskipped p adaptive old coder states grid next after none nominal holds =
+    let pixels : List AdaptiveTemplatePixel = template_pixels p.template (Regular adaptive) in
+    let masked = subst (λ (m : Option Grid). Holds old.width old.height coder.bytes (decoded (skipping_coding pixels m) old.width old.height coder.bytes (no_pixels coder.registers states)) grid next after) (sym none) holds in
+    subst (λ (a : List AdaptiveTemplatePixel). Holds old.width old.height coder.bytes (decoded (skipping_coding (template_pixels p.template (Regular a)) p.skip_mask) old.width old.height coder.bytes (no_pixels coder.registers states)) grid next after) nominal masked
+
+-- what a mask is that isn't there
+pub no-mask : (mask : Option (Bor Grid)) → is_some mask ≡ false → skip_of mask ≡ None
+no-mask None e = refl
+no-mask (Some m) e = absurd (cc)
+
 -- ---- planes by the coder
 -- what is held behind the i highest planes
-pub record BehindPlanes (p : GrayScale) (input : List ℕ) (i : ℕ) (gathered : List ℕ) (coder : Coder) (states : List Context) : Type 0 where
-  pub gathers : Gathers p.width p.height i gathered (coded_planes p input i)
+pub record BehindPlanes (p : GrayScale) (input : List ℕ) (i : ℕ) (planes : List Grid) (coder : Coder) (states : List Context) : Type 0 where
+  pub done : planes ≡ coded_planes p input i
   pub bytes : coder.bytes ≡ input
   pub registers : coder.registers ≡ (after_planes p input i).registers
   pub contexts : states ≡ (after_planes p input i).contexts
 
-pub behind-none : (p : GrayScale) (input gathered : List ℕ) (coder : Coder) (states : List Context) → gathered ≡ gray_values p.width p.height [] → coder.bytes ≡ input → coder.registers ≡ started input → states ≡ fresh_contexts (context_bits p.template) → BehindPlanes p input 0 gathered coder states
+pub behind-none : (p : GrayScale) (input : List ℕ) (planes : List Grid) (coder : Coder) (states : List Context) → planes ≡ [] → coder.bytes ≡ input → coder.registers ≡ started input → states ≡ fresh_contexts (context_bits p.template) → BehindPlanes p input 0 planes coder states
 unfolding after_planes coded_planes
-behind-none p input gathered coder states none bytes registers contexts = record { gathers = record { many = refl; values = none }; bytes = bytes; registers = registers; contexts = contexts }
+behind-none p input planes coder states none bytes registers contexts = record { done = none; bytes = bytes; registers = registers; contexts = contexts }
 
-pub coded-holds : (p : GrayScale) (input : List ℕ) (i : ℕ) (gathered : List ℕ) (before grid : Grid) (coder next : Coder) (states after : List Context) (adaptive : List AdaptiveTemplatePixel) → before ≡ blank p.width p.height false → adaptive ≡ nominal_pixels p.template
-    → Holds before.width before.height coder.bytes (decoded (skipping_coding (template_pixels p.template (Regular adaptive)) p.skip_mask) before.width before.height coder.bytes (no_pixels coder.registers states)) grid next after
-    → BehindPlanes p input i gathered coder states
+pub coded-holds : (p : GrayScale) (input : List ℕ) (i : ℕ) (planes : List Grid) (before grid : Grid) (coder next : Coder) (states after : List Context) → before ≡ blank p.width p.height false
+    → Holds before.width before.height coder.bytes (decoded (plane_coding p) before.width before.height coder.bytes (no_pixels coder.registers states)) grid next after
+    → BehindPlanes p input i planes coder states
     → Holds p.width p.height input (after_planes p input (i + 1)) grid next after
 unfolding after_planes
-coded-holds p input i gathered before grid coder next states after adaptive white nominal holds behind =
-    let one = subst (λ (a : List AdaptiveTemplatePixel). Holds before.width before.height coder.bytes (decoded (skipping_coding (template_pixels p.template (Regular a)) p.skip_mask) before.width before.height coder.bytes (no_pixels coder.registers states)) grid next after) nominal holds in
-    let two = subst (λ (b : List ℕ). Holds before.width before.height b (decoded (plane_coding p) before.width before.height b (no_pixels coder.registers states)) grid next after) behind.bytes one in
+coded-holds p input i planes before grid coder next states after white holds behind =
+    let two = subst (λ (b : List ℕ). Holds before.width before.height b (decoded (plane_coding p) before.width before.height b (no_pixels coder.registers states)) grid next after) behind.bytes holds in
     let three = subst (λ (g : Grid). Holds g.width g.height input (decoded (plane_coding p) g.width g.height input (no_pixels coder.registers states)) grid next after) white two in
     let four = subst (λ (r : Registers). Holds p.width p.height input (decoded (plane_coding p) p.width p.height input (no_pixels r states)) grid next after) behind.registers three in
     let five = subst (λ (s : List Context). Holds p.width p.height input (decoded (plane_coding p) p.width p.height input (no_pixels (after_planes p input i).registers s)) grid next after) behind.contexts four in
     rw add-one five
 
-pub coded-next : (p : GrayScale) (input : List ℕ) (i : ℕ) (old new : List ℕ) (grid : Grid) (coder next : Coder) (states after : List Context) → Holds p.width p.height input (after_planes p input (i + 1)) grid next after
-    → ((planes : List Grid) → old ≡ gray_values grid.width grid.height planes → new ≡ gray_values grid.width grid.height (planes ++ grid ∷ []))
-    → BehindPlanes p input i old coder states → BehindPlanes p input (i + 1) new next after
+pub coded-next : (p : GrayScale) (input : List ℕ) (i : ℕ) (old new : List Grid) (grid : Grid) (coder next : Coder) (states after : List Context) → Holds p.width p.height input (after_planes p input (i + 1)) grid next after
+    → new ≡ old ++ grid ∷ [] → BehindPlanes p input i old coder states → BehindPlanes p input (i + 1) new next after
 unfolding coded_planes
-coded-next p input i old new grid coder next states after holds added behind =
-    let planes : coded_planes p input i ++ grid ∷ [] ≡ coded_planes p input (i + 1) =
-    ap (λ (g : Grid). coded_planes p input i ++ g ∷ []) holds.pixels ∙ sym (map-range_with_len_more (coded_plane p input) 0 i i (omega arith)) in
-    record {
-      gathers =
-          subst (λ (ps : List Grid). Gathers p.width p.height (i + 1) new ps) planes
-          (gathers-next p.width p.height i old new (coded_planes p input i) grid (plane-width p.width p.height _ grid holds.pixels) (plane-height p.width p.height _ grid holds.pixels) added behind.gathers);
-      bytes = holds.bytes;
-      registers = holds.registers;
-      contexts = holds.contexts;
-    }
+coded-next p input i old new grid coder next states after holds pushed behind = record {
+  done =
+      pushed ∙ ap (λ (ps : List Grid). ps ++ grid ∷ []) behind.done
+      ∙ ap (λ (g : Grid). coded_planes p input i ++ g ∷ []) holds.pixels ∙ sym (map-range_with_len_more (coded_plane p input) 0 i i (omega arith));
+  bytes = holds.bytes;
+  registers = holds.registers;
+  contexts = holds.contexts;
+}
 
 -- all planes are read
-pub coded-values : (p : GrayScale) (input : List ℕ) (i : ℕ) (gathered : List ℕ) (coder : Coder) (states : List Context) → i ≡ p.bits_per_pixel → BehindPlanes p input i gathered coder states → values_by p (planes_by_coder p input) ≡ Ok gathered
-coded-values p input i gathered coder states all behind =
-    sym (ap (λ (vs : List ℕ). Ok vs) (behind.gathers.values ∙ ap (λ (n : ℕ). gray_values p.width p.height (coded_planes p input n)) all))
+pub coded-all : (p : GrayScale) (input : List ℕ) (i : ℕ) (planes : List Grid) (coder : Coder) (states : List Context) → i ≡ p.bits_per_pixel → BehindPlanes p input i planes coder states → planes_by_coder p input ≡ Ok planes
+coded-all p input i planes coder states all behind =
+    sym (ap (λ (ps : List Grid). Ok ps) (behind.done ∙ ap (λ (n : ℕ). coded_planes p input n) all))
 
-pub coded-contexts : (p : GrayScale) (input : List ℕ) (i : ℕ) (gathered : List ℕ) (coder : Coder) (states : List Context) → i ≡ p.bits_per_pixel → BehindPlanes p input i gathered coder states → states ≡ (after_planes p input p.bits_per_pixel).contexts
-coded-contexts p input i gathered coder states all behind = behind.contexts ∙ ap (λ (n : ℕ). (after_planes p input n).contexts) all
+pub coded-contexts : (p : GrayScale) (input : List ℕ) (i : ℕ) (planes : List Grid) (coder : Coder) (states : List Context) → i ≡ p.bits_per_pixel → BehindPlanes p input i planes coder states → states ≡ (after_planes p input p.bits_per_pixel).contexts
+coded-contexts p input i planes coder states all behind = behind.contexts ∙ ap (λ (n : ℕ). (after_planes p input n).contexts) all
 
 -- ---- planes by MMR
 -- i planes are read, and `rest` is left
-pub record ReadsMmr (p : GrayScale) (input : List ℕ) (i : ℕ) (gathered rest : List ℕ) : Type 0 where
-  pub done : List Grid
-  pub gathers : Gathers p.width p.height i gathered done
-  pub all : (mmr_planes p rest (p.bits_per_pixel - i) >>= λ others. Ok (done ++ others)) ≡ mmr_planes p input p.bits_per_pixel
+pub record ReadsMmr (p : GrayScale) (input : List ℕ) (i : ℕ) (planes : List Grid) (rest : List ℕ) : Type 0 where
+  pub all : (mmr_planes p rest (p.bits_per_pixel - i) >>= λ others. Ok (planes ++ others)) ≡ mmr_planes p input p.bits_per_pixel
 
 same-planes : (planes : Result (List Grid) DecodeError) → (planes >>= λ others. Ok ([] ++ others)) ≡ planes
 same-planes (Ok planes) = refl
 same-planes (Err e) = refl
 
-pub mmr-none : (p : GrayScale) (input gathered : List ℕ) → gathered ≡ gray_values p.width p.height [] → ReadsMmr p input 0 gathered input
-mmr-none p input gathered none =
+pub mmr-none : (p : GrayScale) (input : List ℕ) (planes : List Grid) → planes ≡ [] → ReadsMmr p input 0 planes input
+mmr-none p input planes none =
     let all : p.bits_per_pixel - 0 ≡ p.bits_per_pixel = omega arith in
-    record {
-      done = [];
-      gathers = record { many = refl; values = none };
-      all = rw all (same-planes (mmr_planes p input p.bits_per_pixel));
-    }
-
-mmr-sized : (p : GrayScale) (before : Grid) (left : List ℕ) (answer : Result Decoded DecodeError) → before ≡ blank p.width p.height false → mmr_rows p.strict before.width before.height left ≡ answer → mmr_rows p.strict p.width p.height left ≡ answer
-mmr-sized p before left answer white e = subst (λ (g : Grid). mmr_rows p.strict g.width g.height left ≡ answer) white e
+    record { all = rw (none, all) (same-planes (mmr_planes p input p.bits_per_pixel)) }
 
 -- a plane, and those behind it
 one-more : (done : List Grid) (grid : Grid) (planes : Result (List Grid) DecodeError) → ((planes >>= λ others. Ok (grid ∷ others)) >>= λ others. Ok (done ++ others)) ≡ (planes >>= λ others. Ok ((done ++ grid ∷ []) ++ others))
 one-more done grid (Ok others) = ap (λ (ps : List Grid). Ok ps) (sym (append_assoc done (grid ∷ []) others))
 one-more done grid (Err e) = refl
 
-mmr-step : (p : GrayScale) (i : ℕ) (left : List ℕ) (made : Decoded) → i < p.bits_per_pixel → mmr_rows p.strict p.width p.height left ≡ Ok made
-    → mmr_planes p left (p.bits_per_pixel - i) ≡ (mmr_planes p (drop made.used left) (p.bits_per_pixel - (i + 1)) >>= λ others. Ok (made.grid ∷ others))
+mmr-step : (p : GrayScale) (i : ℕ) (left : List ℕ) (grid : Grid) (rest : List ℕ) → i < p.bits_per_pixel → mmr_plane p left ≡ Ok (grid, rest)
+    → mmr_planes p left (p.bits_per_pixel - i) ≡ (mmr_planes p rest (p.bits_per_pixel - (i + 1)) >>= λ others. Ok (grid ∷ others))
 unfolding mmr_planes
-mmr-step p i left made more rows =
+mmr-step p i left grid rest more read =
     let one : p.bits_per_pixel - i ≡ suc (p.bits_per_pixel - (i + 1)) = omega arith in
-    rw (one, rows)
+    rw (one, read)
 
-pub mmr-next : (p : GrayScale) (input : List ℕ) (i : ℕ) (before grid : Grid) (old new : List ℕ) (left : List ℕ) (used : ℕ) (rest : List ℕ) → i < p.bits_per_pixel → before ≡ blank p.width p.height false → rest ≡ drop used left → mmr_rows p.strict before.width before.height left ≡ Ok (record { grid = grid; used = used })
-    → grid.width ≡ p.width → grid.height ≡ p.height → ((planes : List Grid) → old ≡ gray_values grid.width grid.height planes → new ≡ gray_values grid.width grid.height (planes ++ grid ∷ []))
-    → ReadsMmr p input i old left → ReadsMmr p input (i + 1) new rest
-mmr-next p input i before grid old new left used rest more white behind e columns rows added reads =
-    let made : Decoded = record { grid = grid; used = used } in
-    let step = mmr-step p i left made more (mmr-sized p before left (Ok made) white e) in
-    record {
-      done = reads.done ++ grid ∷ [];
-      gathers = gathers-next p.width p.height i old new reads.done grid columns rows added reads.gathers;
-      all =
-          ap (λ (bytes : List ℕ). mmr_planes p bytes (p.bits_per_pixel - (i + 1)) >>= λ others. Ok ((reads.done ++ grid ∷ []) ++ others)) behind
-          ∙ sym (one-more reads.done grid (mmr_planes p (drop used left) (p.bits_per_pixel - (i + 1))))
-          ∙ sym (ap (λ (planes : Result (List Grid) DecodeError). planes >>= λ others. Ok (reads.done ++ others)) step)
-          ∙ reads.all;
-    }
+pub mmr-next : (p : GrayScale) (input : List ℕ) (i : ℕ) (grid : Grid) (old new : List Grid) (left rest : List ℕ) → i < p.bits_per_pixel → mmr_plane p left ≡ Ok (grid, rest)
+    → new ≡ old ++ grid ∷ [] → ReadsMmr p input i old left → ReadsMmr p input (i + 1) new rest
+mmr-next p input i grid old new left rest more read pushed reads = record {
+  all =
+      ap (λ (ps : List Grid). mmr_planes p rest (p.bits_per_pixel - (i + 1)) >>= λ others. Ok (ps ++ others)) pushed
+      ∙ sym (one-more old grid (mmr_planes p rest (p.bits_per_pixel - (i + 1))))
+      ∙ sym (ap (λ (planes : Result (List Grid) DecodeError). planes >>= λ others. Ok (old ++ others)) (mmr-step p i left grid rest more read))
+      ∙ reads.all;
+}
 
 -- all planes are read
-pub mmr-values : (p : GrayScale) (input : List ℕ) (i : ℕ) (gathered rest : List ℕ) → p.bits_per_pixel ≤ i → ReadsMmr p input i gathered rest → values_by p (planes_by_mmr p input) ≡ Ok gathered
+pub mmr-all : (p : GrayScale) (input : List ℕ) (i : ℕ) (planes : List Grid) (rest : List ℕ) → p.bits_per_pixel ≤ i → ReadsMmr p input i planes rest → planes_by_mmr p input ≡ Ok planes
 unfolding mmr_planes
-mmr-values p input i gathered rest all reads =
+mmr-all p input i planes rest all reads =
     let none : p.bits_per_pixel - i ≡ 0 = omega arith in
-    let planes : Ok (reads.done ++ []) ≡ mmr_planes p input p.bits_per_pixel = rw none at reads.all in
-    ap (λ (r : Result (List Grid) DecodeError). values_by p r) (sym planes ∙ ap (λ (ps : List Grid). Ok ps) (append-nil reads.done))
-    ∙ ap (λ (vs : List ℕ). Ok vs) (sym reads.gathers.values)
+    let made : Ok (planes ++ []) ≡ mmr_planes p input p.bits_per_pixel = rw none at reads.all in
+    sym made ∙ ap (λ (ps : List Grid). Ok ps) (append-nil planes)
 
 -- a fault ends the reading
-pub mmr-fault : (p : GrayScale) (input : List ℕ) (i : ℕ) (before : Grid) (gathered left : List ℕ) (error : DecodeError) → i < p.bits_per_pixel → before ≡ blank p.width p.height false → mmr_rows p.strict before.width before.height left ≡ Err error → ReadsMmr p input i gathered left → values_by p (planes_by_mmr p input) ≡ Err error
+pub mmr-fault : (p : GrayScale) (input : List ℕ) (i : ℕ) (planes : List Grid) (left : List ℕ) (error : DecodeError) → i < p.bits_per_pixel → mmr_plane p left ≡ Err error → ReadsMmr p input i planes left → planes_by_mmr p input ≡ Err error
 unfolding mmr_planes
-mmr-fault p input i before gathered left error more white e reads =
+mmr-fault p input i planes left error more e reads =
     let one : p.bits_per_pixel - i ≡ suc (p.bits_per_pixel - (i + 1)) = omega arith in
-    let rows : mmr_rows p.strict p.width p.height left ≡ Err error = mmr-sized p before left (Err error) white e in
-    let planes : Err error ≡ mmr_planes p input p.bits_per_pixel = rw (one, rows) at reads.all in
-    ap (λ (r : Result (List Grid) DecodeError). values_by p r) (sym planes)
+    let made : Err error ≡ mmr_planes p input p.bits_per_pixel = rw (one, e) at reads.all in
+    sym made
+
+-- one plane
+mmr-sized : (p : GrayScale) (before : Grid) (left : List ℕ) (answer : Result Decoded DecodeError) → before ≡ blank p.width p.height false → mmr_rows p.strict before.width before.height left ≡ answer → mmr_rows p.strict p.width p.height left ≡ answer
+mmr-sized p before left answer white e = subst (λ (g : Grid). mmr_rows p.strict g.width g.height left ≡ answer) white e
+
+pub plane-made : (p : GrayScale) (before grid : Grid) (left : List ℕ) (used : ℕ) (rest : List ℕ) → before ≡ blank p.width p.height false → mmr_rows p.strict before.width before.height left ≡ Ok (record { grid = grid; used = used }) → rest ≡ drop used left → mmr_plane p left ≡ Ok (grid, rest)
+unfolding mmr_plane
+plane-made p before grid left used rest white e behind = rw (mmr-sized p before left (Ok (record { grid = grid; used = used })) white e, behind)
+
+pub plane-fault : (p : GrayScale) (before : Grid) (left : List ℕ) (error : DecodeError) → before ≡ blank p.width p.height false → mmr_rows p.strict before.width before.height left ≡ Err error → mmr_plane p left ≡ Err error
+unfolding mmr_plane
+plane-fault p before left error white e = rw (mmr-sized p before left (Err error) white e)
 
 not_refused : (b : Bool) (error : DecodeError) (made d : Decoded) → (if b then Err error else Ok made) ≡ Ok d → made ≡ d
 not_refused true error made d e = cc
@@ -230,3 +197,63 @@ mmr-made p before grid left used white e =
 -- the part of a slice from a place to its end
 pub drop-whole : (k : ℕ) (bytes : List ℕ) → take (length bytes - k) (drop k bytes) ≡ drop k bytes
 drop-whole k bytes = take_all (length bytes - k) (drop k bytes) (omega (arith, length-drop k bytes))
+
+-- ---- all planes have the image's width
+all-cons : {X : Type 0} (P : X → Type 0) (x : X) (xs : List X) → P x → All P xs → (k : ℕ) (d : X) → k < length (x ∷ xs) → P (get_or (x ∷ xs) k d)
+all-cons P x xs first others zero d inside = first
+all-cons P x xs first others (suc k) d inside = others k d (omega arith)
+
+-- so many planes, each so wide
+pub record AreSized (p : GrayScale) (count : ℕ) (planes : List Grid) : Type 0 where
+  pub many : length planes ≡ count
+  pub wide : All (λ (g : Grid). g.width ≡ p.width) planes
+
+coded-sized : (p : GrayScale) (input : List ℕ) (count : ℕ) → AreSized p count (coded_planes p input count)
+unfolding coded_planes so_far
+coded-sized p input count = record {
+  many = length-map-range_with_len (coded_plane p input) 0 count;
+  wide = λ k d inside. ap (λ (g : Grid). g.width) (get_or-map-range_with_len (coded_plane p input) 0 count k k d (omega (arith, length-map-range_with_len (coded_plane p input) 0 count)) (omega arith));
+}
+
+plane-sized : (p : GrayScale) (left : List ℕ) (grid : Grid) (rest : List ℕ) (r : Result Decoded DecodeError) → mmr_rows p.strict p.width p.height left ≡ r → ◌≡◌ {A = Result (Grid × List ℕ) DecodeError} (r >>= λ rows. Ok (rows.grid, drop rows.used left)) (Ok (grid, rest)) → grid.width ≡ p.width
+plane-sized p left grid rest (Err e) rows made = absurd (cc)
+plane-sized p left grid rest (Ok d) rows made =
+    let same : d.grid ≡ grid = ap (first-of d.grid) made in
+    ap (λ (g : Grid). g.width) (sym same ∙ (rows-made p.strict p.width p.height left d rows).0)
+  where
+    first-of : Grid → Result (Grid × List ℕ) DecodeError → Grid
+    first-of other (Ok read) = read.0
+    first-of other (Err e) = other
+
+planes-sized-then : (p : GrayScale) (count : ℕ) (grid : Grid) (planes : List Grid) (r : Result (List Grid) DecodeError) → grid.width ≡ p.width → ((others : List Grid) → r ≡ Ok others → AreSized p count others) → (r >>= λ others. Ok (grid ∷ others)) ≡ Ok planes → AreSized p (count + 1) planes
+planes-sized-then p count grid planes (Err e) wide each made = absurd (cc)
+planes-sized-then p count grid planes (Ok others) wide each made =
+    let same : grid ∷ others ≡ planes = cc in
+    let sized : AreSized p count others = each others refl in
+    subst (λ (ps : List Grid). AreSized p (count + 1) ps) same (record { many = omega (arith, sized.many); wide = all-cons (λ (g : Grid). g.width ≡ p.width) grid others wide sized.wide })
+
+planes-sized-step : (p : GrayScale) (count : ℕ) (input : List ℕ) (planes : List Grid) (r : Result (Grid × List ℕ) DecodeError) → mmr_plane p input ≡ r → ((rest : List ℕ) (others : List Grid) → mmr_planes p rest count ≡ Ok others → AreSized p count others)
+    → (r >>= λ plane. mmr_planes p plane.1 count >>= λ others. Ok (plane.0 ∷ others)) ≡ Ok planes → AreSized p (count + 1) planes
+unfolding mmr_plane
+planes-sized-step p count input planes (Err e) read each made = absurd (cc)
+planes-sized-step p count input planes (Ok (grid, rest)) read each made =
+    let wide : grid.width ≡ p.width = plane-sized p input grid rest (mmr_rows p.strict p.width p.height input) refl read in
+    planes-sized-then p count grid planes (mmr_planes p rest count) wide (each rest) made
+
+mmr-planes-sized : (p : GrayScale) (count : ℕ) (input : List ℕ) (planes : List Grid) → mmr_planes p input count ≡ Ok planes → AreSized p count planes
+unfolding mmr_planes
+mmr-planes-sized p zero input planes made =
+    let none : [] ≡ planes = cc in
+    subst (λ (ps : List Grid). AreSized p 0 ps) none (record { many = refl; wide = λ k d inside. absurd (omega arith) })
+mmr-planes-sized p (suc count) input planes made =
+    let next : count + 1 ≡ suc count = omega arith in
+    subst (λ (n : ℕ). AreSized p n planes) next (planes-sized-step p count input planes (mmr_plane p input) refl (λ rest others e. mmr-planes-sized p count rest others e) made)
+
+pub planes-sized : (p : GrayScale) (input : List ℕ) (planes : List Grid) → planes_of p input ≡ Ok planes → AreSized p p.bits_per_pixel planes
+planes-sized p input planes made = by p.use_mmr made
+  where
+    by : (mmr : Bool) → (if mmr then planes_by_mmr p input else planes_by_coder p input) ≡ Ok planes → AreSized p p.bits_per_pixel planes
+    by true e = mmr-planes-sized p p.bits_per_pixel input planes e
+    by false e =
+        let same : coded_planes p input p.bits_per_pixel ≡ planes = cc in
+        subst (λ (ps : List Grid). AreSized p p.bits_per_pixel ps) same (coded-sized p input p.bits_per_pixel)

@@ -69,13 +69,17 @@ coded_plane p bytes k = so_far p.width p.height (after_planes p bytes (k + 1)).p
 unfoldable pub coded_planes : GrayScale → List ℕ → ℕ → List Grid
 coded_planes p bytes count = map (coded_plane p bytes) (range_with_len 0 count)
 
--- with MMR, a plane and then the others, which stand behind the bytes that it used
+-- with MMR, a plane and the bytes behind those that it used
+unfoldable pub mmr_plane : GrayScale → List ℕ → Result (Grid × List ℕ) DecodeError
+mmr_plane p bytes = mmr_rows p.strict p.width p.height bytes >>= λ rows. Ok (rows.grid, drop rows.used bytes)
+
+-- a plane and then the others
 unfoldable pub mmr_planes : GrayScale → List ℕ → ℕ → Result (List Grid) DecodeError
 mmr_planes p bytes zero = Ok []
 mmr_planes p bytes (suc count) = do
-  rows ← mmr_rows p.strict p.width p.height bytes
-  others ← mmr_planes p (drop rows.used bytes) count
-  Ok (rows.grid ∷ others)
+  plane ← mmr_plane p bytes
+  others ← mmr_planes p plane.1 count
+  Ok (plane.0 ∷ others)
 
 -- all planes of an image
 abbrev pub planes_by_coder : GrayScale → List ℕ → Result (List Grid) DecodeError

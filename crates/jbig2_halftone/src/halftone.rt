@@ -1,17 +1,23 @@
 //! Halftone regions (T.88, 6.6 and 7.4.5).
-ghost use Rattle.std.specs.Prelude.{◌≡◌, ◌*◌, ◌<◌, ◌≤◌, length, false, ◌⊎◌, IfErr, FitsSigned, Ok};
+ghost use Rattle.std.specs.Prelude.{◌≡◌, ◌*◌, ◌<◌, ◌≤◌, length, false, ◌⊎◌, IfErr, IfOk, OnOk, FitsSigned, Ok};
 ghost use Rattle.std.specs.Int.{w32, int_shr};
 ghost use Rattle.jbig2_base.specs.Answer.{Answers, Gives, Leaves};
+ghost use Rattle.std.specs.List.{All};
+ghost use Rattle.jbig2_base.specs.Combination.{WritesWithin};
 ghost use Rattle.jbig2_base.specs.Grid.{blank};
+ghost use Rattle.jbig2_base.specs.Search.{code_length};
 ghost use Rattle.jbig2_region.specs.RegionInfo.{region_view};
-ghost use Rattle.jbig2_halftone.specs.GrayScale.{gray_scale_image};
+ghost use Rattle.jbig2_halftone.specs.GrayScale.{planes_of, planes_contexts, gray_values};
 ghost use Rattle.jbig2_halftone.specs.Halftone.{gray_params, column_of, row_of, is_apart, lies_outside, skip_grid, skip_mask, pattern_for, cells_drawn, halftone_answer, halftone_contexts, halftone_decoded, decoded_contexts};
 ghost use Rattle.jbig2_halftone.specs.HalftoneHeader.{header_view};
-ghost use Rattle.jbig2_halftone.specs.Patterns.{dictionary_view};
+ghost use Rattle.jbig2_halftone.specs.Patterns.{dictionary_view, pattern_words};
+ghost use Rattle.jbig2_halftone.specs.Sizes.{HasSize};
 
 pub mod header;
 
-use crate::gray_scale::{GrayScaleParams, decode_gray_scale_image};
+use crate::gray_scale::GrayScaleParams;
+use crate::gray_scale::planes::read_planes;
+use crate::gray_scale::rows::gray_row;
 use crate::pattern::PatternDictionary;
 pub use header::{HalftoneRegionHeader, parse};
 use jbig2_base::bitmap::Bitmap;
@@ -107,6 +113,7 @@ fn pattern_for<A: Allocator>(
 ) -> Result<&Bitmap<A>>
     ensures value { Answers (λ pattern. pattern.now) result (pattern_for strict dictionary.now.patterns.items value) }
     ensures refused { IfErr result (λ e. e ≡ DecodeError.Region RegionError.GrayScaleOutOfRange) }
+    ensures sized { IfOk result (λ pattern. HasSize dictionary.now.pattern_width dictionary.now.pattern_height pattern.now) }
 {
     let patterns = &dictionary.patterns;
     let value = value as usize;
@@ -119,29 +126,60 @@ fn pattern_for<A: Allocator>(
     Ok(&patterns[patterns.len() - 1])
 }
 
-/// Draws the patterns of the values onto a region, row by row (T.88, 6.6.5.2).
-fn draw_cells<D: Allocator, A: Allocator, L: Ledger>(
+/// Draws the patterns of the values of row `m` of the grid onto a region (T.88, 6.6.5.2).
+fn draw_row<D: Allocator, A: Allocator, L: Ledger>(
     header: &HalftoneRegionHeader<'_>,
     dictionary: &PatternDictionary<D>,
+    m: u32,
     values: &[u32],
     bitmap: &mut Bitmap<A>,
     steps: &mut Steps<L>,
 ) -> Result<()>
+    requires row { m < 65536 }
     requires columns { header.now.grid_position_and_size.width ≤ 65535 }
-    requires rows { header.now.grid_position_and_size.height ≤ 65535 }
-    requires sized { length values.now ≡ header.now.grid_position_and_size.width * header.now.grid_position_and_size.height }
-    ensures value { Answers (λ _. bitmap.new) result (cells_drawn (header_view header.now) (dictionary_view dictionary.now) 0 values.now bitmap.old) }
+    requires sized { length values.now ≡ header.now.grid_position_and_size.width }
+    ensures value { Answers (λ _. bitmap.new) result
+        (cells_drawn (header_view header.now) (dictionary_view dictionary.now) (m * header.now.grid_position_and_size.width) values.now bitmap.old) }
     ensures refused { IfErr result (λ e. e ≡ DecodeError.Region RegionError.GrayScaleOutOfRange) }
+    ensures steps { WritesWithin (length values.now * pattern_words (dictionary_view dictionary.now)) steps.old steps.new }
 {
-    let columns = header.grid_position_and_size.width as usize;
     let operator = header.flags.combination_operator;
-    for (k, value) in values.iter().enumerate() {
-        let (x, y) = cell_place(header, (k / columns) as u32, (k % columns) as u32);
+    for (n, value) in values.iter().enumerate() {
+        let (x, y) = cell_place(header, m, n as u32);
         let pattern = match pattern_for(header.strict, dictionary, *value) {
             Ok(pattern) => pattern,
             Err(error) => return Err(error),
         };
         bitmap.combine(pattern, x, y, operator, steps);
+    }
+    Ok(())
+}
+
+/// Draws the patterns of all cells onto a region, row by row. `values` holds one row of them.
+fn draw_rows<D: Allocator, P: Allocator, A: Allocator, L: Ledger>(
+    header: &HalftoneRegionHeader<'_>,
+    dictionary: &PatternDictionary<D>,
+    planes: &[Bitmap<P>],
+    values: &mut [u32],
+    bitmap: &mut Bitmap<A>,
+    steps: &mut Steps<L>,
+) -> Result<()>
+    requires columns { header.now.grid_position_and_size.width ≤ 65535 }
+    requires rows { header.now.grid_position_and_size.height ≤ 65535 }
+    requires sized { All (λ plane. plane.width ≡ header.now.grid_position_and_size.width) planes.now }
+    requires few { length planes.now ≤ 32 }
+    requires row { length values.old ≡ header.now.grid_position_and_size.width }
+    ensures value { Answers (λ _. bitmap.new) result
+        (cells_drawn (header_view header.now) (dictionary_view dictionary.now) 0
+        (gray_values header.now.grid_position_and_size.width header.now.grid_position_and_size.height planes.now) bitmap.old) }
+    ensures refused { IfErr result (λ e. e ≡ DecodeError.Region RegionError.GrayScaleOutOfRange) }
+{
+    for m in 0..header.grid_position_and_size.height {
+        gray_row(planes, m, values, steps);
+        match draw_row(header, dictionary, m, values, bitmap, steps) {
+            Ok(()) => {}
+            Err(error) => return Err(error),
+        }
     }
     Ok(())
 }
@@ -163,18 +201,19 @@ fn skip_mask<D: Allocator, A: Allocator, L: Ledger>(
     Ok(None)
 }
 
-/// The value of each cell, row by row (T.88, 6.6.5, steps 2 to 4).
-fn decode_values<D: Allocator, A: Allocator + Clone, B: Allocator, L: Ledger>(
+/// The planes of the cells' values (T.88, 6.6.5, steps 2 to 4).
+fn read_cells<D: Allocator, A: Allocator + Clone, B: Allocator, L: Ledger>(
     alloc: A,
     header: &HalftoneRegionHeader<'_>,
     dictionary: &PatternDictionary<D>,
     contexts: &mut Vec<ArithmeticDecoderContext, B>,
     steps: &mut Steps<L>,
-) -> Result<Vec<u32, A>>
+) -> Result<Vec<Bitmap<A>, A>>
     requires columns { header.now.grid_position_and_size.width ≤ 65535 }
     requires rows { header.now.grid_position_and_size.height ≤ 65535 }
-    ensures value { Gives (λ values. values.items) result (gray_scale_image (gray_params (header_view header.now) (dictionary_view dictionary.now)) header.now.bytes.now) }
-    ensures contexts { Leaves result contexts.new.items (halftone_contexts (header_view header.now) (dictionary_view dictionary.now) contexts.old.items) }
+    ensures value { Gives (λ planes. planes.items) result (planes_of (gray_params (header_view header.now) (dictionary_view dictionary.now)) header.now.bytes.now) }
+    ensures contexts { Leaves result contexts.new.items (planes_contexts (gray_params (header_view header.now) (dictionary_view dictionary.now)) header.now.bytes.now contexts.old.items) }
+    ensures few { OnOk result (code_length (length dictionary.now.patterns.items) ≤ 32) }
 {
     let skip = skip_mask(alloc.clone()?, header, dictionary, steps)?;
     let grid = &header.grid_position_and_size;
@@ -187,11 +226,20 @@ fn decode_values<D: Allocator, A: Allocator + Clone, B: Allocator, L: Ledger>(
         skip_mask: skip.as_ref(),
         strict: header.strict,
     };
-    decode_gray_scale_image(alloc, header.bytes, &params, contexts, steps)
+    read_planes(alloc, header.bytes, &params, contexts, steps)
+}
+
+/// Room for one row of values.
+fn value_row<A: Allocator>(alloc: A, width: u32) -> Result<Vec<u32, A>>
+    ensures value { IfOk result (λ values. length values.items ≡ width) }
+    ensures memory { IfErr result (λ e. e ≡ DecodeError.OutOfMemory) }
+{
+    let mut values = Vec::new(alloc);
+    values.resize(width as usize, 0)?;
+    Ok(values)
 }
 
 /// Draws a region onto a bitmap of its size that is all in its initial colour.
-#[tactic(auto, unfolding(crate::specs::Halftone::halftone_answer))]
 fn draw_region<D: Allocator, M: Allocator, A: Allocator + Clone, B: Allocator, L: Ledger>(
     alloc: A,
     header: &HalftoneRegionHeader<'_>,
@@ -207,8 +255,12 @@ fn draw_region<D: Allocator, M: Allocator, A: Allocator + Clone, B: Allocator, L
     ensures bitmap { IfErr result (λ e. (e ≡ DecodeError.Region RegionError.GrayScaleOutOfRange) ⊎ (bitmap.new ≡ bitmap.old)) }
     ensures contexts { Leaves result contexts.new.items (halftone_contexts (header_view header.now) (dictionary_view dictionary.now) contexts.old.items) }
 {
-    let values = decode_values(alloc, header, dictionary, contexts, steps)?;
-    draw_cells(header, dictionary, &values, bitmap, steps)
+    let mut values = value_row(alloc.clone()?, header.grid_position_and_size.width)?;
+    let planes = match read_cells(alloc, header, dictionary, contexts, steps) {
+        Ok(planes) => planes,
+        Err(error) => return Err(error),
+    };
+    draw_rows(header, dictionary, &planes, &mut values, bitmap, steps)
 }
 
 /// Decodes a halftone region (T.88, 6.6) into a bitmap of its size that is all in its initial

@@ -1,5 +1,5 @@
--- Numbers that are read from bits (T.88, B.4): each gives its value and the place behind it.
-use Rattle.std.specs.Prelude.{ℕ, List, Result, Ok, ℤ}
+-- Numbers that are read by a table of prefix codes (T.88, B.4): each gives its value and the place behind it.
+use Rattle.std.specs.Prelude.{List, Result, Ok, ℤ}
 use Rattle.jbig2_base.specs.Answer.{◌>>=◌}
 use Rattle.jbig2_base.specs.Bits.{Place, bits_left, bits_on}
 use Rattle.jbig2_base.specs.declared.error.DecodeError.{DecodeError}

@@ -15,9 +15,11 @@ pub record Refining : Type 0 where
   pub pixels : List AdaptiveTemplatePixel
   pub contexts : List Context
 
+abbrev pub refining_by : RefinementTemplate → List AdaptiveTemplatePixel → List Context → Refining
+refining_by template pixels contexts = record { template = template; pixels = pixels; contexts = contexts }
+
 abbrev pub fresh_refining : RefinementTemplate → List AdaptiveTemplatePixel → Refining
-fresh_refining template pixels =
-    record { template = template; pixels = pixels; contexts = fresh_contexts (refinement_bits template) }
+fresh_refining template pixels = refining_by template pixels (fresh_contexts (refinement_bits template))
 
 -- a symbol of this width and height, refined by a coder over these bytes (Table 12)
 unfoldable pub refined_by : Refining → Reference → ℕ → ℕ → List ℕ → Registers → Region

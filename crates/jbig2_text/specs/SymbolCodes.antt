@@ -1,13 +1,12 @@
 -- The prefix codes of the symbols' ids (T.88, 7.4.3.1.7): their lengths, as runs that are prefix-coded themselves.
 use Rattle.std.specs.Prelude.{ℕ, zero, suc, ◌+◌, ◌-◌, nat_lt, ◌==◌, List, [], ◌∷◌, ◌++◌, length, replicate, slice_get, Result, Ok, Err, ℤ, pos, negsuc, if◌then◌else◌}
-use Rattle.jbig2_base.specs.Answer.{◌>>=◌, refuse_if}
+use Rattle.jbig2_base.specs.Answer.{◌>>=◌, refuse_if, some_or}
 use Rattle.jbig2_base.specs.Bits.{Place, start_of, aligned}
+use Rattle.jbig2_base.specs.Fields.{bits_at}
 use Rattle.jbig2_base.specs.declared.error.DecodeError.{DecodeError}
-use Rattle.jbig2_base.specs.Answer.{some_or}
 use Rattle.jbig2_coder.specs.PrefixCode.{Member, table_of}
 use Rattle.jbig2_coder.specs.Tables.{line}
 use Rattle.jbig2_coder.specs.declared.huffman_table.line.TableLine.{TableLine}
-use Rattle.jbig2_base.specs.Fields.{bits_at}
 use Rattle.jbig2_text.specs.BitFields.{invalid_code, value_at}
 
 -- the numbers from n on, by the lengths of their codes
@@ -47,13 +46,25 @@ runs_at (suc most) count runcodes so_far p =
     if nat_lt (length so_far) count then (next_run runcodes so_far p >>= λ more. runs_at most count runcodes more.0 more.1)
     else Ok (so_far, p)
 
--- The codes of `count` symbols, and the whole byte behind them.
+-- the codes of the 35 runcodes (steps 1 and 2)
+unfoldable pub runcodes_at : Place → Result (List Member × Place) DecodeError
+runcodes_at p = do
+  lens ← short_lengths 35 [] p
+  runcodes ← table_of (lines_from 0 lens.0)
+  Ok (runcodes, lens.1)
+
+-- the lengths of the codes of `count` symbols (steps 3 and 4); a run that goes past them is refused
+unfoldable pub symbol_lengths_at : ℕ → List Member → Place → Result (List ℕ × Place) DecodeError
+symbol_lengths_at count runcodes p = do
+  lens ← runs_at count count runcodes [] p
+  fit ← refuse_if (nat_lt count (length lens.0)) invalid_code
+  Ok lens
+
+-- The codes of `count` symbols, and the whole byte behind them (step 5).
 unfoldable pub symbol_codes_from : ℕ → Place → Result (List Member × Place) DecodeError
 symbol_codes_from count p = do
-  short ← short_lengths 35 [] p
-  runcodes ← table_of (lines_from 0 short.0)
-  lens ← runs_at count count runcodes [] short.1
-  fit ← refuse_if (nat_lt count (length lens.0)) invalid_code
+  runcodes ← runcodes_at p
+  lens ← symbol_lengths_at count runcodes.0 runcodes.1
   codes ← table_of (lines_from 0 lens.0)
   Ok (codes, aligned lens.1)
 

@@ -4,6 +4,7 @@ use Rattle.std.specs.Int.{w16, w32}
 use Rattle.jbig2_base.specs.Answer.{◌>>=◌}
 use Rattle.jbig2_base.specs.Fields.{number_at}
 use Rattle.jbig2_base.specs.Operator.{operator_of}
+use Rattle.jbig2_base.specs.declared.bitmap.operator.CombinationOperator.{CombinationOperator}
 use Rattle.jbig2_base.specs.declared.error.DecodeError.{DecodeError}
 use Rattle.jbig2_coder.specs.PrefixCode.{Member}
 use Rattle.jbig2_region.specs.RefinementHeader.{refinement_pixels_at, refinement_template_of}
@@ -15,31 +16,41 @@ use Rattle.jbig2_region.specs.declared.template.RefinementTemplate.{RefinementTe
 use Rattle.jbig2_text.specs.SymbolCodes.{symbol_codes_at}
 use Rattle.jbig2_text.specs.declared.text.header.ReferenceCorner.{ReferenceCorner}
 use Rattle.jbig2_text.specs.declared.text.header.ReferenceCorner.TheVariants.{BottomLeft, TopLeft, BottomRight, TopRight}
+use Rattle.jbig2_text.specs.declared.text.header.TextFields.{TextFields}
+use Rattle.jbig2_text.specs.declared.text.header.TextRegionCoding.{TextRegionCoding}
+use Rattle.jbig2_text.specs.declared.text.header.TextRegionCoding.TheVariants as codings
 use Rattle.jbig2_text.specs.declared.text.header.TextRegionFlags.{TextRegionFlags}
 use Rattle.jbig2_text.specs.declared.text.header.TextRegionHeader.{TextRegionHeader}
 use Rattle.jbig2_text.specs.declared.text.header.TextRegionHuffmanFlags.{TextRegionHuffmanFlags}
 
--- What a text region's coded bytes are decoded by. With prefix codes there are the numbers of the tables and the
--- codes of the symbols' ids.
+-- How the numbers are coded (SBHUFF): by the arithmetic coder, or by prefix codes, whose tables have numbers in the
+-- header and which have the codes of the symbols' ids (SBSYMCODES).
+pub data NumberCoding : Type 0 where
+  ArithmeticCoding : NumberCoding
+  HuffmanCoding : (tables : TextRegionHuffmanFlags) (ids : List Member) → NumberCoding
+
+-- What a text region's coded bytes are decoded by.
 pub record TextHeader : Type 0 where
   pub region_info : RegionSegmentInfo
   pub flags : TextRegionFlags
-  pub huffman_flags : Option TextRegionHuffmanFlags
+  pub coding : NumberCoding
   pub refinement_pixels : List AdaptiveTemplatePixel
   pub instances : ℕ
-  pub symbol_codes : Option (List Member)
   pub data_length : ℕ
   pub bytes : List ℕ
   pub strict : Bool
+
+abbrev pub coding_view : {A : Type 0} → TextRegionCoding A → NumberCoding
+coding_view codings.Arithmetic = ArithmeticCoding
+coding_view (codings.Huffman tables ids) = HuffmanCoding tables ids
 
 abbrev pub header_view : {A : Type 0} → TextRegionHeader A → TextHeader
 header_view h = record {
   region_info = h.region_info;
   flags = h.flags;
-  huffman_flags = h.huffman_flags;
+  coding = coding_view h.coding;
   refinement_pixels = h.refinement_at_pixels;
   instances = h.num_instances;
-  symbol_codes = h.symbol_id_table;
   data_length = h.segment_data_len;
   bytes = h.bytes.now;
   strict = h.strict;
@@ -52,25 +63,25 @@ corner_of n = if n == 0 then BottomLeft else if n == 1 then TopLeft else if n ==
 abbrev pub signed_5 : ℕ → ℤ
 signed_5 n = if nat_lt n 16 then pos n else pos n -ℤ pos 32
 
--- the flags (7.4.3.1.1)
-unfoldable pub text_flags_at : List ℕ → Result (TextRegionFlags × List ℕ) DecodeError
+-- the bits of the flags behind SBHUFF
+abbrev pub other_flags : ℕ → CombinationOperator → TextRegionFlags
+other_flags flags operator = record {
+  use_refinement = flags / 2 % 2 == 1;
+  log_strip_size = flags / 4 % 4;
+  reference_corner = corner_of (flags / 16 % 4);
+  transposed = flags / 64 % 2 == 1;
+  combination_operator = operator;
+  default_pixel = flags / 512 % 2 == 1;
+  delta_s_offset = signed_5 (flags / 1024 % 32);
+  refinement_template = refinement_template_of (flags / 32768);
+}
+
+-- whether there are prefix codes (SBHUFF), and the other flags (7.4.3.1.1)
+unfoldable pub text_flags_at : List ℕ → Result ((Bool × TextRegionFlags) × List ℕ) DecodeError
 text_flags_at bytes = do
   flags ← number_at w16 bytes
   operator ← operator_of (flags.0 / 128 % 4)
-  Ok (
-    record {
-      use_huffman = flags.0 % 2 == 1;
-      use_refinement = flags.0 / 2 % 2 == 1;
-      log_strip_size = flags.0 / 4 % 4;
-      reference_corner = corner_of (flags.0 / 16 % 4);
-      transposed = flags.0 / 64 % 2 == 1;
-      combination_operator = operator;
-      default_pixel = flags.0 / 512 % 2 == 1;
-      delta_s_offset = signed_5 (flags.0 / 1024 % 32);
-      refinement_template = refinement_template_of (flags.0 / 32768);
-    },
-    flags.1,
-  )
+  Ok ((flags.0 % 2 == 1, other_flags flags.0 operator), flags.1)
 
 -- the numbers of the tables (7.4.3.1.2)
 abbrev pub table_numbers : ℕ → TextRegionHuffmanFlags
@@ -90,36 +101,50 @@ abbrev pub table_numbers_at : Bool → List ℕ → Result (Option TextRegionHuf
 table_numbers_at true bytes = number_at w16 bytes >>= λ flags. Ok (Some (table_numbers flags.0), flags.1)
 table_numbers_at false bytes = Ok (None, bytes)
 
-abbrev pub codes_at : Bool → ℕ → List ℕ → Result (Option (List Member) × List ℕ) DecodeError
-codes_at true count bytes = symbol_codes_at count bytes >>= λ codes. Ok (Some codes.0, codes.1)
-codes_at false count bytes = Ok (None, bytes)
-
 -- The refinement's adaptive pixels (7.4.3.1.3): two where symbols may be refined at template 0, else none, and the
 -- two are without meaning.
 abbrev pub text_pixels_at : Bool → RefinementTemplate → List ℕ → Result (List AdaptiveTemplatePixel × List ℕ) DecodeError
 text_pixels_at true template bytes = refinement_pixels_at template bytes
 text_pixels_at false template bytes = Ok (right 0 0 ∷ right 0 0 ∷ [], bytes)
 
+-- the fields between the region information and the codes of the ids
+unfoldable pub text_fields_at : List ℕ → Result (TextFields × List ℕ) DecodeError
+text_fields_at bytes = do
+  flags ← text_flags_at bytes
+  tables ← table_numbers_at flags.0.0 flags.1
+  pixels ← text_pixels_at flags.0.1.use_refinement flags.0.1.refinement_template tables.1
+  instances ← number_at w32 pixels.1
+  Ok (
+    record {
+      flags = flags.0.1;
+      table_numbers = tables.0;
+      refinement_at_pixels = pixels.0;
+      num_instances = instances.0;
+    },
+    instances.1,
+  )
+
+-- the codes of the ids of so many symbols, with prefix codes alone
+abbrev pub coding_at : Option TextRegionHuffmanFlags → ℕ → List ℕ → Result (NumberCoding × List ℕ) DecodeError
+coding_at (Some tables) count bytes = symbol_codes_at count bytes >>= λ ids. Ok (HuffmanCoding tables ids.0, ids.1)
+coding_at None count bytes = Ok (ArithmeticCoding, bytes)
+
 -- All of it, for so many symbols, and the place where the coded bytes begin.
 unfoldable pub text_header_at : ℕ → Bool → List ℕ → Result (TextHeader × List ℕ) DecodeError
 text_header_at symbols strict bytes = do
   info ← region_info_at bytes
-  flags ← text_flags_at info.1
-  tables ← table_numbers_at flags.0.use_huffman flags.1
-  pixels ← text_pixels_at flags.0.use_refinement flags.0.refinement_template tables.1
-  instances ← number_at w32 pixels.1
-  codes ← codes_at flags.0.use_huffman symbols instances.1
+  fields ← text_fields_at info.1
+  coding ← coding_at fields.0.table_numbers symbols fields.1
   Ok (
     record {
       region_info = info.0;
-      flags = flags.0;
-      huffman_flags = tables.0;
-      refinement_pixels = pixels.0;
-      instances = instances.0;
-      symbol_codes = codes.0;
+      flags = fields.0.flags;
+      coding = coding.0;
+      refinement_pixels = fields.0.refinement_at_pixels;
+      instances = fields.0.num_instances;
       data_length = length bytes;
-      bytes = codes.1;
+      bytes = coding.1;
       strict = strict;
     },
-    codes.1,
+    coding.1,
   )

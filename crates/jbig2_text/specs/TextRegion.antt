@@ -1,5 +1,5 @@
 -- A text region segment (T.88, 7.4.3): its tables, and its region decoded from fresh states.
-use Rattle.std.specs.Prelude.{ℕ, ◌^◌, nat_le, nat_lt, ◌==◌, ◌||◌, if◌then◌else◌, List, [], ◌∷◌, length, Option, Some, Result, Ok, Err}
+use Rattle.std.specs.Prelude.{ℕ, ◌^◌, nat_le, nat_lt, ◌==◌, ◌||◌, if◌then◌else◌, List, [], ◌∷◌, length, Result, Ok, Err}
 use Rattle.jbig2_base.specs.Answer.{◌>>=◌, refuse_if}
 use Rattle.jbig2_base.specs.Bits.{start_of}
 use Rattle.jbig2_base.specs.Grid.{Grid, blank}
@@ -12,9 +12,9 @@ use Rattle.jbig2_coder.specs.Tables.{lines_a, lines_f, lines_g, lines_h, lines_i
 use Rattle.jbig2_region.specs.RegionInfo.{PlacedRegion, placed}
 use Rattle.jbig2_base.specs.Search.{code_length}
 use Rattle.jbig2_text.specs.Refining.{Refining, fresh_refining}
-use Rattle.jbig2_text.specs.Text.{TextParams, text_region}
-use Rattle.jbig2_text.specs.TextCoding.{Prefixed, TextTables, by_coder, by_prefix_codes, coded_start}
-use Rattle.jbig2_text.specs.TextHeader.{TextHeader}
+use Rattle.jbig2_text.specs.Text.{Readings, TextParams, text_region}
+use Rattle.jbig2_text.specs.TextCoding.{Coded, Prefixed, TextTables, by_coder, by_prefix_codes, coded_start}
+use Rattle.jbig2_text.specs.TextHeader.{NumberCoding, TextHeader, ArithmeticCoding, HuffmanCoding}
 use Rattle.jbig2_text.specs.declared.text.header.TextRegionHuffmanFlags.{TextRegionHuffmanFlags}
 
 -- ---- tables (7.4.3.1.6)
@@ -106,31 +106,31 @@ text_params h symbols = record {
 abbrev pub refining_of : TextHeader → Refining
 refining_of h = fresh_refining h.flags.refinement_template h.refinement_pixels
 
-abbrev pub coded_region : TextHeader → List Grid → Grid → Result Grid DecodeError
-coded_region h symbols region = do
-  found ← text_region by_coder (text_params h symbols) region (refining_of h) (coded_start h.bytes (code_length (length symbols)))
-  Ok found.0
+-- a region from these states on
+unfoldable pub region_from : {S : Type 0} → Readings S → TextHeader → List Grid → Grid → S → Result Grid DecodeError
+region_from r h symbols region s = text_region r (text_params h symbols) region (refining_of h) s >>= λ found. Ok found.0
+
+-- the coder, with ids of as many bits as tell the symbols apart (SBSYMCODELEN)
+abbrev pub coder_of : TextHeader → List Grid → Coded
+coder_of h symbols = coded_start h.bytes (code_length (length symbols))
 
 -- the tables, the codes of the ids and the coded bytes
 abbrev pub prefixed_start : List ℕ → TextTables → List Member → Prefixed
 prefixed_start bytes tables ids = record { place = start_of bytes; tables = tables; ids = ids }
 
-abbrev pub prefixed_region : TextHeader → TextRegionHuffmanFlags → List Member → List Grid → List (List Member) → Grid → Result Grid DecodeError
-prefixed_region h numbers ids symbols customs region = do
-  tables ← text_tables numbers customs
-  found ← text_region by_prefix_codes (text_params h symbols) region (refining_of h) (prefixed_start h.bytes tables ids)
-  Ok found.0
+abbrev pub prefix_codes_of : TextHeader → TextRegionHuffmanFlags → List Member → List (List Member) → Result Prefixed DecodeError
+prefix_codes_of h numbers ids customs = text_tables numbers customs >>= λ tables. Ok (prefixed_start h.bytes tables ids)
 
--- by prefix codes where the header has tables and codes, else by the arithmetic coder
-abbrev pub region_by : TextHeader → Option TextRegionHuffmanFlags → Option (List Member) → List Grid → List (List Member) → Grid → Result Grid DecodeError
-region_by h (Some numbers) (Some ids) symbols customs region = prefixed_region h numbers ids symbols customs region
-region_by h _ _ symbols customs region = coded_region h symbols region
+abbrev pub region_by : TextHeader → NumberCoding → List Grid → List (List Member) → Grid → Result Grid DecodeError
+region_by h ArithmeticCoding symbols customs region = region_from by_coder h symbols region (coder_of h symbols)
+region_by h (HuffmanCoding numbers ids) symbols customs region =
+    prefix_codes_of h numbers ids customs >>= λ s. region_from by_prefix_codes h symbols region s
 
 -- The region of these symbols, with these custom tables.
 unfoldable pub text_answer : TextHeader → List Grid → List (List Member) → Result Grid DecodeError
 text_answer h symbols customs =
     let region = blank h.region_info.width h.region_info.height h.flags.default_pixel in
-    region_by h h.huffman_flags h.symbol_codes symbols customs region
+    region_by h h.coding symbols customs region
 
 -- A region and its place; a side above 65535 is refused (our own rule).
 unfoldable pub text_decoded : TextHeader → List Grid → List (List Member) → Result PlacedRegion DecodeError

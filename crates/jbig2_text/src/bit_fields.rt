@@ -1,4 +1,5 @@
-//! Numbers that are read from bits.
+//! Numbers that are read by prefix codes.
+ghost use Rattle.std.specs.Prelude.{◌≡◌};
 ghost use Rattle.jbig2_base.specs.Answer.{Answers};
 ghost use Rattle.jbig2_text.specs.BitFields.{value_at};
 

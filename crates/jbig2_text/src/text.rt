@@ -1,13 +1,11 @@
 //! Text regions (T.88, 6.4 and 7.4.3).
 ghost use Rattle.std.specs.Prelude.{◌≡◌, ◌≤◌, ◌^◌, length, Ok, OnErr};
-ghost use Rattle.jbig2_base.specs.Answer.{Gives};
+ghost use Rattle.jbig2_base.specs.Answer.{Answers, Gives};
 ghost use Rattle.jbig2_base.specs.Grid.{blank};
 ghost use Rattle.jbig2_region.specs.RegionInfo.{region_view};
-ghost use Rattle.jbig2_base.specs.Search.{code_length};
-ghost use Rattle.jbig2_text.specs.TextCoding.{coded_start};
 ghost use Rattle.jbig2_text.specs.TextHeader.{header_view};
-ghost use Rattle.jbig2_text.specs.TextRegion.{coded_region, prefixed_region, refining_of, text_params, text_answer, text_decoded};
-ghost use Rattle.jbig2_text.specs.inner.TextViews.{coded_view, customs_view, params_view, symbols_view};
+ghost use Rattle.jbig2_text.specs.TextRegion.{coder_of, prefix_codes_of, refining_of, region_from, text_params, text_answer, text_decoded};
+ghost use Rattle.jbig2_text.specs.inner.TextViews.{coded_view, customs_view, params_view, prefixed_view, symbols_view};
 
 pub(crate) mod coded;
 pub(crate) mod cursor;
@@ -26,7 +24,7 @@ pub(crate) mod symbols;
 pub(crate) mod tables;
 
 pub use crate::text::coded::CodedReadings;
-use crate::text::header::{TextRegionHeader, TextRegionHuffmanFlags};
+use crate::text::header::{TextRegionCoding, TextRegionHeader, TextRegionHuffmanFlags};
 pub use crate::text::instances::draw_instances_by;
 pub use crate::text::prefixed::PrefixedReadings;
 pub use crate::text::readings::ReadInstances;
@@ -87,63 +85,59 @@ fn start_coded<'a, H: Allocator, B: Allocator, M: Allocator + Clone>(
     symbols: &[&Bitmap<B>],
 ) -> Result<CodedReadings<'a, M>>
     requires { length symbols.now ≤ 2 ^ 21 }
-    ensures { let bits = code_length (length (symbols_view symbols.now)) in
-        Gives (λ r. coded_view r) result (Ok (coded_start (header_view header.now).bytes bits)) }
+    ensures { let meant = coder_of (header_view header.now) (symbols_view symbols.now) in
+        Gives (λ r. coded_view r) result (Ok meant) }
 {
     CodedReadings::new(alloc, header.bytes, code_length(symbols.len()))
 }
 
-/// Decodes a region that the arithmetic coder wrote.
-fn decode_coded<H: Allocator, B: Allocator, M: Allocator + Clone, D: Allocator, L: Ledger>(
-    alloc: M,
-    header: &TextRegionHeader<'_, H>,
-    symbols: &[&Bitmap<B>],
-    bitmap: &mut Bitmap<D>,
-    steps: &mut Steps<L>,
-) -> Result<()>
-    requires strips { header.now.flags.log_strip_size ≤ 3 }
-    requires few { length symbols.now ≤ 2 ^ 21 }
-    ensures value { Gives (λ _. bitmap.new) result (coded_region (header_view header.now) (symbols_view symbols.now) bitmap.old) }
-    ensures same { OnErr result (bitmap.new ≡ bitmap.old) }
+/// The prefix codes at the start of a region's bytes.
+fn start_prefixed<'a, 't, H: Allocator, T: Allocator>(
+    header: &'t TextRegionHeader<'a, H>,
+    numbers: &TextRegionHuffmanFlags,
+    ids: &'t HuffmanTable<H>,
+    customs: &'t [&'t HuffmanTable<T>],
+    standard: &'t StandardHuffmanTables<T>,
+) -> Result<PrefixedReadings<'a, 't, T, H>>
+    ensures { let h = header_view header.now in
+        let meant = prefix_codes_of h numbers.now ids.now (customs_view customs.now) in
+        Answers (λ r. prefixed_view r) result meant }
 {
-    let mut refining = refining_of(alloc.clone()?, header)?;
-    let mut readings = start_coded(alloc.clone()?, header, symbols)?;
-    let params = params_of(header, symbols);
-    draw_instances_by(alloc, &mut readings, &mut refining, &params, bitmap, steps)
+    let tables = select_tables(numbers, customs, standard)?;
+    Ok(PrefixedReadings {
+        reader: Reader::new(header.bytes),
+        tables,
+        ids,
+    })
 }
 
-/// Decodes a region that is written in prefix codes.
-fn decode_prefixed<
+/// Decodes a region by states at its start.
+#[tactic(auto, unfolding(crate::specs::TextRegion::region_from))]
+fn decode_by<
+    R: ReadInstances,
     H: Allocator,
     B: Allocator,
-    T: Allocator,
     M: Allocator + Clone,
     D: Allocator,
     L: Ledger,
 >(
     alloc: M,
+    readings: &mut R,
     header: &TextRegionHeader<'_, H>,
-    numbers: &TextRegionHuffmanFlags,
-    ids: &HuffmanTable<H>,
     symbols: &[&Bitmap<B>],
-    customs: &[&HuffmanTable<T>],
-    standard: &StandardHuffmanTables<T>,
     bitmap: &mut Bitmap<D>,
     steps: &mut Steps<L>,
 ) -> Result<()>
     requires { header.now.flags.log_strip_size ≤ 3 }
-    ensures value { Gives (λ _. bitmap.new) result (prefixed_region (header_view header.now) numbers.now ids.now (symbols_view symbols.now) (customs_view customs.now) bitmap.old) }
+    ensures value { let h = header_view header.now in
+        let state = R.state readings.old in
+        let meant = region_from R.readings h (symbols_view symbols.now) bitmap.old state in
+        Gives (λ _. bitmap.new) result meant }
     ensures same { OnErr result (bitmap.new ≡ bitmap.old) }
 {
-    let tables = select_tables(numbers, customs, standard)?;
     let mut refining = refining_of(alloc.clone()?, header)?;
-    let mut readings = PrefixedReadings {
-        reader: Reader::new(header.bytes),
-        tables,
-        ids,
-    };
     let params = params_of(header, symbols);
-    draw_instances_by(alloc, &mut readings, &mut refining, &params, bitmap, steps)
+    draw_instances_by(alloc, readings, &mut refining, &params, bitmap, steps)
 }
 
 /// Decodes a text region (T.88, 6.4) of these symbols, at most 2^21, into a bitmap of its size
@@ -178,27 +172,29 @@ pub fn decode_into<
 ) -> Result<()>
     requires strips { header.now.flags.log_strip_size ≤ 3 }
     requires few { length symbols.now ≤ 2 ^ 21 }
-    requires coloured { bitmap.old ≡ blank header.now.region_info.width header.now.region_info.height header.now.flags.default_pixel }
-    ensures value { Gives (λ _. bitmap.new) result (text_answer (header_view header.now) (symbols_view symbols.now) (customs_view referred_tables.now)) }
+    requires coloured { let info = header.now.region_info in
+        bitmap.old ≡ blank info.width info.height header.now.flags.default_pixel }
+    ensures value { let customs = customs_view referred_tables.now in
+        let meant = text_answer (header_view header.now) (symbols_view symbols.now) customs in
+        Gives (λ _. bitmap.new) result meant }
     ensures same { OnErr result (bitmap.new ≡ bitmap.old) }
 {
-    let Some(numbers) = &header.huffman_flags else {
-        return decode_coded(alloc, header, symbols, bitmap, steps);
-    };
-    let Some(ids) = &header.symbol_id_table else {
-        return decode_coded(alloc, header, symbols, bitmap, steps);
-    };
-    decode_prefixed(
-        alloc,
-        header,
-        numbers,
-        ids,
-        symbols,
-        referred_tables,
-        standard_tables,
-        bitmap,
-        steps,
-    )
+    match &header.coding {
+        TextRegionCoding::Arithmetic => {
+            let mut readings = start_coded(alloc.clone()?, header, symbols)?;
+            decode_by(alloc, &mut readings, header, symbols, bitmap, steps)
+        }
+        TextRegionCoding::Huffman { tables, ids } => {
+            let mut readings = start_prefixed(
+                header,
+                tables,
+                ids,
+                referred_tables,
+                standard_tables,
+            )?;
+            decode_by(alloc, &mut readings, header, symbols, bitmap, steps)
+        }
+    }
 }
 
 /// Decodes a text region (T.88, 6.4), as `decode_into` does, into a bitmap of its own.
@@ -216,7 +212,9 @@ pub fn decode<H: Allocator, B: Allocator, T: Allocator, M: Allocator + Clone, L:
 ) -> Result<DecodedRegion<M>>
     requires strips { header.now.flags.log_strip_size ≤ 3 }
     requires few { length symbols.now ≤ 2 ^ 21 }
-    ensures { Gives (λ region. region_view region) result (text_decoded (header_view header.now) (symbols_view symbols.now) (customs_view referred_tables.now)) }
+    ensures { let customs = customs_view referred_tables.now in
+        let meant = text_decoded (header_view header.now) (symbols_view symbols.now) customs in
+        Gives (λ region. region_view region) result meant }
 {
     let region_info = &header.region_info;
     let mut bitmap = Bitmap::new_with(

@@ -1,5 +1,7 @@
 //! The patterns of a dictionary.
+ghost use Rattle.std.specs.List.{All};
 ghost use Rattle.std.specs.Prelude.{◌≤◌, length};
+ghost use Rattle.jbig2_halftone.specs.Sizes.{HasSize};
 
 use jbig2_base::bitmap::Bitmap;
 use std::alloc::Allocator;
@@ -14,5 +16,6 @@ pub struct PatternDictionary<A: Allocator> {
     /// In pixels.
     pub pattern_height: u32,
     ghost some: { 1 ≤ length patterns.items },
+    ghost sized: { All (HasSize pattern_width pattern_height) patterns.items },
     ghost few: { length patterns.items ≤ 65535 },
 }

@@ -2,7 +2,7 @@
 ghost use Rattle.std.specs.Prelude.{◌≡◌, ◌≤◌, ◌%◌, ◌^◌, IfOk, OnErr, OnOk};
 ghost use Rattle.jbig2_base.specs.Answer.{Answers, Gives};
 ghost use Rattle.jbig2_base.specs.Bits.{IsAligned};
-ghost use Rattle.jbig2_text.specs.TextHeader.{header_view, corner_of, signed_5, text_flags_at, table_numbers, table_numbers_at, codes_at, text_pixels_at, text_header_at};
+ghost use Rattle.jbig2_text.specs.TextHeader.{coding_view, header_view, corner_of, signed_5, other_flags, text_flags_at, table_numbers, table_numbers_at, text_fields_at, coding_at, text_pixels_at, text_header_at};
 
 use crate::text::symbol_codes::parse_symbol_codes;
 use jbig2_base::bitmap::CombinationOperator;
@@ -27,8 +27,6 @@ pub enum ReferenceCorner {
 /// The flags of a text region (T.88, 7.4.3.1.1).
 #[derive(Clone, Copy, Debug)]
 pub struct TextRegionFlags {
-    /// Whether prefix codes are used, in place of the arithmetic coder.
-    pub use_huffman: bool,
     /// Whether symbols may be refined.
     pub use_refinement: bool,
     /// The strip size is 2 to the power of this.
@@ -59,18 +57,37 @@ pub struct TextRegionHuffmanFlags {
     pub refinement_size_table: u8,
 }
 
+/// How the numbers of a text region are coded (T.88, SBHUFF).
+#[derive(Drop)]
+pub enum TextRegionCoding<A: Allocator> {
+    /// By the arithmetic coder.
+    Arithmetic,
+    /// By prefix codes, with their tables and the codes of the symbols' ids.
+    Huffman {
+        tables: TextRegionHuffmanFlags,
+        ids: HuffmanTable<A>,
+    },
+}
+
+/// The fields between the region information and the codes of the symbols' ids.
+#[derive(Clone, Copy)]
+pub struct TextFields {
+    pub flags: TextRegionFlags,
+    /// With prefix codes alone.
+    pub table_numbers: Option<TextRegionHuffmanFlags>,
+    pub refinement_at_pixels: [AdaptiveTemplatePixel; 2],
+    pub num_instances: u32,
+}
+
 /// What a text region's coded bytes are decoded by (T.88, 7.4.3.1).
 #[derive(Drop)]
 pub struct TextRegionHeader<'a, A: Allocator> {
     pub region_info: RegionSegmentInfo,
     pub flags: TextRegionFlags,
-    /// With prefix codes alone.
-    pub huffman_flags: Option<TextRegionHuffmanFlags>,
+    pub coding: TextRegionCoding<A>,
     /// Without meaning unless symbols may be refined at template 0.
     pub refinement_at_pixels: [AdaptiveTemplatePixel; 2],
     pub num_instances: u32,
-    /// The codes of the symbols' ids, with prefix codes alone.
-    pub symbol_id_table: Option<HuffmanTable<A>>,
     /// How many bytes the segment's data has.
     pub segment_data_len: usize,
     /// The coded bytes.
@@ -101,17 +118,12 @@ fn signed_5(value: u16) -> i8
     if low < 16 { low } else { low - 32 }
 }
 
-#[tactic(auto, unfolding(crate::specs::TextHeader::text_flags_at))]
-fn parse_flags(reader: &mut Reader<'_>) -> Result<TextRegionFlags>
-    requires { IsAligned reader.old }
-    ensures value { Answers (λ flags. (flags, reader.new.bytes)) result (text_flags_at reader.old.bytes) }
-    ensures aligned { IsAligned reader.new }
-    ensures strips { IfOk result (λ flags. flags.log_strip_size ≤ 3) }
+/// The bits of the flags behind the first.
+fn other_flags(flags: u16, combination_operator: CombinationOperator) -> TextRegionFlags
+    ensures value { result ≡ other_flags flags combination_operator }
+    ensures strips { result.log_strip_size ≤ 3 }
 {
-    let flags = u16_field(reader)?;
-    let combination_operator = CombinationOperator::from_value((flags / 128 % 4) as u8)?;
-    Ok(TextRegionFlags {
-        use_huffman: flags % 2 == 1,
+    TextRegionFlags {
         use_refinement: flags / 2 % 2 == 1,
         log_strip_size: (flags / 4 % 4) as u8,
         reference_corner: ReferenceCorner::from_value(flags / 16),
@@ -120,7 +132,21 @@ fn parse_flags(reader: &mut Reader<'_>) -> Result<TextRegionFlags>
         default_pixel: flags / 512 % 2 == 1,
         delta_s_offset: signed_5(flags / 1024),
         refinement_template: RefinementTemplate::from_byte((flags / 32768) as u8),
-    })
+    }
+}
+
+/// Whether there are prefix codes, and the other flags.
+#[tactic(auto, unfolding(crate::specs::TextHeader::text_flags_at))]
+fn parse_flags(reader: &mut Reader<'_>) -> Result<(bool, TextRegionFlags)>
+    requires { IsAligned reader.old }
+    ensures value { let meant = text_flags_at reader.old.bytes in
+        Answers (λ flags. (flags, reader.new.bytes)) result meant }
+    ensures aligned { IsAligned reader.new }
+    ensures strips { IfOk result (λ flags. flags.1.log_strip_size ≤ 3) }
+{
+    let flags = u16_field(reader)?;
+    let combination_operator = CombinationOperator::from_value((flags / 128 % 4) as u8)?;
+    Ok((flags % 2 == 1, other_flags(flags, combination_operator)))
 }
 
 fn table_numbers(flags: u16) -> TextRegionHuffmanFlags
@@ -144,7 +170,8 @@ fn parse_table_numbers(
     use_huffman: bool,
 ) -> Result<Option<TextRegionHuffmanFlags>>
     requires { IsAligned reader.old }
-    ensures value { Answers (λ numbers. (numbers, reader.new.bytes)) result (table_numbers_at use_huffman reader.old.bytes) }
+    ensures value { let meant = table_numbers_at use_huffman reader.old.bytes in
+        Answers (λ numbers. (numbers, reader.new.bytes)) result meant }
     ensures aligned { IsAligned reader.new }
 {
     if !use_huffman {
@@ -160,7 +187,8 @@ fn parse_refinement_pixels(
     flags: &TextRegionFlags,
 ) -> Result<[AdaptiveTemplatePixel; 2]>
     requires { IsAligned reader.old }
-    ensures value { Answers (λ pixels. (pixels, reader.new.bytes)) result (text_pixels_at flags.now.use_refinement flags.now.refinement_template reader.old.bytes) }
+    ensures value { let meant = text_pixels_at flags.now.use_refinement flags.now.refinement_template reader.old.bytes in
+        Answers (λ pixels. (pixels, reader.new.bytes)) result meant }
     ensures aligned { IsAligned reader.new }
 {
     if flags.use_refinement {
@@ -170,23 +198,45 @@ fn parse_refinement_pixels(
     Ok([unused, unused])
 }
 
-/// The codes of the symbols' ids, with prefix codes alone.
-fn parse_codes<A: Allocator + Clone>(
+/// The fields behind the region information.
+#[tactic(auto, unfolding(crate::specs::TextHeader::text_fields_at))]
+fn parse_fields(reader: &mut Reader<'_>) -> Result<TextFields>
+    requires { IsAligned reader.old }
+    ensures value { let meant = text_fields_at reader.old.bytes in
+        Answers (λ fields. (fields, reader.new.bytes)) result meant }
+    ensures aligned { IsAligned reader.new }
+    ensures strips { IfOk result (λ fields. fields.flags.log_strip_size ≤ 3) }
+{
+    let (use_huffman, flags) = parse_flags(reader)?;
+    let table_numbers = parse_table_numbers(reader, use_huffman)?;
+    let refinement_at_pixels = parse_refinement_pixels(reader, &flags)?;
+    let num_instances = u32_field(reader)?;
+    Ok(TextFields {
+        flags,
+        table_numbers,
+        refinement_at_pixels,
+        num_instances,
+    })
+}
+
+/// How the numbers are coded; with prefix codes the codes of the symbols' ids are read.
+fn parse_coding<A: Allocator + Clone>(
     alloc: A,
     reader: &mut Reader<'_>,
-    use_huffman: bool,
+    table_numbers: Option<TextRegionHuffmanFlags>,
     num_symbols: u32,
-) -> Result<Option<HuffmanTable<A>>>
+) -> Result<TextRegionCoding<A>>
     requires aligned { IsAligned reader.old }
     requires few { num_symbols ≤ 2 ^ 21 }
-    ensures value { Gives (λ codes. (codes, reader.new.bytes)) result (codes_at use_huffman num_symbols reader.old.bytes) }
+    ensures value { let meant = coding_at table_numbers num_symbols reader.old.bytes in
+        Gives (λ c. (coding_view c, reader.new.bytes)) result meant }
     ensures aligned { OnOk result (IsAligned reader.new) }
 {
-    if !use_huffman {
-        return Ok(None);
-    }
-    let codes = parse_symbol_codes(alloc, reader, num_symbols)?;
-    Ok(Some(codes))
+    let Some(tables) = table_numbers else {
+        return Ok(TextRegionCoding::Arithmetic);
+    };
+    let ids = parse_symbol_codes(alloc, reader, num_symbols)?;
+    Ok(TextRegionCoding::Huffman { tables, ids })
 }
 
 /// The header of a text region of so many symbols, at most 2^21, at the reader's place, which
@@ -205,7 +255,8 @@ pub fn parse<'a, A: Allocator + Clone>(
 ) -> Result<TextRegionHeader<'a, A>>
     requires aligned { IsAligned reader.old }
     requires few { num_symbols ≤ 2 ^ 21 }
-    ensures value { Gives (λ h. (header_view h, reader.new.bytes)) result (text_header_at num_symbols strict reader.old.bytes) }
+    ensures value { let meant = text_header_at num_symbols strict reader.old.bytes in
+        Gives (λ h. (header_view h, reader.new.bytes)) result meant }
     ensures aligned { IsAligned reader.new }
     ensures strips { IfOk result (λ h. h.flags.log_strip_size ≤ 3) }
     ensures stays { OnErr result (reader.new ≡ reader.old) }
@@ -213,19 +264,16 @@ pub fn parse<'a, A: Allocator + Clone>(
     let mut ahead = reader.duplicate();
     let segment_data_len = ahead.tail().len();
     let region_info = parse_region_segment_info(&mut ahead)?;
-    let flags = parse_flags(&mut ahead)?;
-    let huffman_flags = parse_table_numbers(&mut ahead, flags.use_huffman)?;
-    let refinement_at_pixels = parse_refinement_pixels(&mut ahead, &flags)?;
-    let num_instances = u32_field(&mut ahead)?;
-    let symbol_id_table = parse_codes(alloc, &mut ahead, flags.use_huffman, num_symbols)?;
+    let fields = parse_fields(&mut ahead)?;
+    let refinement_at_pixels = fields.refinement_at_pixels;
+    let coding = parse_coding(alloc, &mut ahead, fields.table_numbers, num_symbols)?;
     *reader = ahead;
     Ok(TextRegionHeader {
         region_info,
-        flags,
-        huffman_flags,
+        flags: fields.flags,
+        coding,
         refinement_at_pixels,
-        num_instances,
-        symbol_id_table,
+        num_instances: fields.num_instances,
         segment_data_len,
         bytes: reader.tail(),
         strict,

@@ -57,7 +57,8 @@ pub fn opposite(place: i32) -> Result<i32>
 /// So many strips of 2 to the power of `log` rows.
 pub fn strips(count: i32, log: u8) -> Result<i32>
     requires { log ≤ 3 }
-    ensures { Answers (λ n. n) result (word_or (Symbol InvalidStripDelta) (count *ℤ pos (2 ^ log))) }
+    ensures { let meant = word_or (Symbol InvalidStripDelta) (count *ℤ pos (2 ^ log)) in
+        Answers (λ n. n) result meant }
 {
     let rows = 1_u32 << log;
     word_or(

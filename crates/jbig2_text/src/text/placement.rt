@@ -118,7 +118,8 @@ pub fn place<'a, B: Allocator, M: Allocator>(
     s: i32,
     t: i32,
 ) -> Result<(Instance<'a, B, M>, i32)>
-    ensures { Answers (λ i. (instance_view i.0, i.1)) result (placed flags.now (symbol_view symbol.entry) s t) }
+    ensures { let meant = placed flags.now (symbol_view symbol.entry) s t in
+        Answers (λ i. (instance_view i.0, i.1)) result meant }
 {
     let start = s_before(flags, &symbol, s)?;
     let (column, row) = column_and_row(flags.transposed, start, t);

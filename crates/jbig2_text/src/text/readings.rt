@@ -37,7 +37,8 @@ pub trait ReadInstances {
     /// T in a strip of 2 to the power of `log` rows.
     fn t_bits<L: Ledger>(&mut self, log: u8, steps: &mut Steps<L>) -> Result<i32>
         requires { log ≤ 3 }
-        ensures { Answers (λ n. (n, state self.new)) result (readings.t_bits log (state self.old)) };
+        ensures { let meant = readings.t_bits log (state self.old) in
+            Answers (λ n. (n, state self.new)) result meant };
 
     /// The id of a symbol.
     fn id<L: Ledger>(&mut self, steps: &mut Steps<L>) -> Result<i64>
@@ -45,15 +46,18 @@ pub trait ReadInstances {
 
     /// Whether the symbol is refined.
     fn is_refined<L: Ledger>(&mut self, steps: &mut Steps<L>) -> Result<bool>
-        ensures { Answers (λ b. (b, state self.new)) result (readings.is_refined (state self.old)) };
+        ensures { let meant = readings.is_refined (state self.old) in
+            Answers (λ b. (b, state self.new)) result meant };
 
     /// How much wider a refined symbol is.
     fn width_delta<L: Ledger>(&mut self, steps: &mut Steps<L>) -> Result<i32>
-        ensures { Answers (λ n. (n, state self.new)) result (readings.width_delta (state self.old)) };
+        ensures { let meant = readings.width_delta (state self.old) in
+            Answers (λ n. (n, state self.new)) result meant };
 
     /// How much higher a refined symbol is.
     fn height_delta<L: Ledger>(&mut self, steps: &mut Steps<L>) -> Result<i32>
-        ensures { Answers (λ n. (n, state self.new)) result (readings.height_delta (state self.old)) };
+        ensures { let meant = readings.height_delta (state self.old) in
+            Answers (λ n. (n, state self.new)) result meant };
 
     /// How far a refined symbol lies to the right.
     fn x_delta<L: Ledger>(&mut self, steps: &mut Steps<L>) -> Result<i32>

@@ -2,10 +2,9 @@
 ghost use Rattle.std.specs.Prelude.{◌≡◌, ◌≤◌, ◌^◌, length, false, Ok};
 ghost use Rattle.jbig2_base.specs.Answer.{Gives};
 ghost use Rattle.jbig2_base.specs.Grid.{blank};
-ghost use Rattle.jbig2_region.specs.Raster.{so_far};
 ghost use Rattle.jbig2_region.specs.Refinement.{refinement_bits};
 ghost use Rattle.jbig2_region.specs.inner.RefinementViews.{reference_view};
-ghost use Rattle.jbig2_text.specs.Refining.{fresh_refining, refined_by, refined_with};
+ghost use Rattle.jbig2_text.specs.Refining.{fresh_refining, refining_by, refined_with};
 
 use jbig2_base::bitmap::Bitmap;
 use jbig2_base::bitmap::steps::Steps;
@@ -66,7 +65,7 @@ impl<A: Allocator> Refining<A> {
         contexts: Vec<ArithmeticDecoderContext, A>,
     ) -> Refining<A>
         requires { length contexts.items ≡ 2 ^ refinement_bits template }
-        ensures { result ≡ record { template = template; pixels = pixels; contexts = contexts.items } }
+        ensures { result ≡ refining_by template pixels contexts.items }
     {
         Refining {
             template,
@@ -131,9 +130,15 @@ fn refine_by<M: Allocator, B: Allocator, L: Ledger>(
     requires columns { bitmap.old.width ≤ 65535 }
     requires rows { bitmap.old.height ≤ 65535 }
     requires white { bitmap.old ≡ blank bitmap.old.width bitmap.old.height false }
-    ensures grid { bitmap.new ≡ so_far bitmap.old.width bitmap.old.height (refined_by (record { template = template; pixels = pixels.now; contexts = contexts.old }) (reference_view reference.now) bitmap.old.width bitmap.old.height decoder.old.bytes decoder.old.registers).pixels }
-    ensures coder { decoder.new ≡ record decoder.old { registers = (refined_by (record { template = template; pixels = pixels.now; contexts = contexts.old }) (reference_view reference.now) bitmap.old.width bitmap.old.height decoder.old.bytes decoder.old.registers).registers } }
-    ensures contexts { contexts.new ≡ (refined_by (record { template = template; pixels = pixels.now; contexts = contexts.old }) (reference_view reference.now) bitmap.old.width bitmap.old.height decoder.old.bytes decoder.old.registers).contexts }
+    ensures grid { let f = refining_by template pixels.now contexts.old in
+        let from = reference_view reference.now in
+        bitmap.new ≡ (refined_with f from bitmap.old.width bitmap.old.height decoder.old).grid }
+    ensures coder { let f = refining_by template pixels.now contexts.old in
+        let from = reference_view reference.now in
+        decoder.new ≡ (refined_with f from bitmap.old.width bitmap.old.height decoder.old).coder }
+    ensures contexts { let f = refining_by template pixels.now contexts.old in
+        let from = reference_view reference.now in
+        contexts.new ≡ (refined_with f from bitmap.old.width bitmap.old.height decoder.old).refining.contexts }
 {
     decode_bitmap(
         template, false, pixels, reference, bitmap, decoder, contexts, steps,

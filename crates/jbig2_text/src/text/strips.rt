@@ -19,7 +19,8 @@ pub fn read_strip_delta<R: ReadInstances, L: Ledger>(
     steps: &mut Steps<L>,
 ) -> Result<i32>
     requires { flags.now.log_strip_size ≤ 3 }
-    ensures { Answers (λ t. (t, R.state readings.new)) result (strip_delta R.readings flags.now (R.state readings.old)) }
+    ensures { let meant = strip_delta R.readings flags.now (R.state readings.old) in
+        Answers (λ t. (t, R.state readings.new)) result meant }
 {
     let delta = readings.delta_t(steps)?;
     numbers::strips(delta, flags.log_strip_size)
@@ -36,7 +37,8 @@ pub fn begin_strip<R: ReadInstances, L: Ledger>(
     steps: &mut Steps<L>,
 ) -> Result<Cursor>
     requires { flags.now.log_strip_size ≤ 3 }
-    ensures { Answers (λ cursor. (cursor, R.state readings.new)) result (strip_begun R.readings flags.now strip_t first_s (R.state readings.old)) }
+    ensures { let meant = strip_begun R.readings flags.now strip_t first_s (R.state readings.old) in
+        Answers (λ cursor. (cursor, R.state readings.new)) result meant }
 {
     let delta = read_strip_delta(readings, flags, steps)?;
     let strip_t = numbers::moved(strip_t, delta)?;
@@ -58,7 +60,8 @@ fn move_by<R: ReadInstances, L: Ledger>(
     steps: &mut Steps<L>,
 ) -> Result<Cursor>
     requires { flags.now.log_strip_size ≤ 3 }
-    ensures { Answers (λ next. (next, R.state readings.new)) result (moved_by R.readings flags.now cursor delta (R.state readings.old)) }
+    ensures { let meant = moved_by R.readings flags.now cursor delta (R.state readings.old) in
+        Answers (λ next. (next, R.state readings.new)) result meant }
 {
     let Some(delta) = delta else {
         return begin_strip(readings, flags, cursor.strip_t, cursor.first_s, steps);
@@ -77,7 +80,8 @@ pub fn move_on<R: ReadInstances, L: Ledger>(
     steps: &mut Steps<L>,
 ) -> Result<Cursor>
     requires { flags.now.log_strip_size ≤ 3 }
-    ensures { Answers (λ next. (next, R.state readings.new)) result (moved R.readings flags.now cursor (R.state readings.old)) }
+    ensures { let meant = moved R.readings flags.now cursor (R.state readings.old) in
+        Answers (λ next. (next, R.state readings.new)) result meant }
 {
     let delta = readings.delta_s(steps)?;
     move_by(readings, flags, cursor, delta, steps)
@@ -90,7 +94,8 @@ pub fn read_t_in_strip<R: ReadInstances, L: Ledger>(
     steps: &mut Steps<L>,
 ) -> Result<i32>
     requires { flags.now.log_strip_size ≤ 3 }
-    ensures { Answers (λ t. (t, R.state readings.new)) result (t_in_strip R.readings flags.now (R.state readings.old)) }
+    ensures { let meant = t_in_strip R.readings flags.now (R.state readings.old) in
+        Answers (λ t. (t, R.state readings.new)) result meant }
 {
     if flags.log_strip_size == 0 {
         return Ok(0);

@@ -4,7 +4,7 @@ ghost use Rattle.jbig2_base.specs.Answer.{Gives};
 ghost use Rattle.jbig2_base.specs.Bits.{IsAligned};
 ghost use Rattle.jbig2_coder.specs.PrefixCode.{AreShort, table_of};
 ghost use Rattle.jbig2_text.specs.BitFields.{invalid_code};
-ghost use Rattle.jbig2_text.specs.SymbolCodes.{lines_from, short_lengths, repeated, run_at, next_run, runs_at, symbol_codes_at, symbol_codes_from};
+ghost use Rattle.jbig2_text.specs.SymbolCodes.{lines_from, short_lengths, repeated, run_at, next_run, runs_at, runcodes_at, symbol_lengths_at, symbol_codes_at, symbol_codes_from};
 
 use crate::bit_fields::value_field;
 use jbig2_base::error::{DecodeError, HuffmanError, Result};
@@ -46,7 +46,8 @@ fn codes_of<A: Allocator + Clone>(alloc: A, lengths: &[u8]) -> Result<HuffmanTab
 
 /// The lengths of the runcodes.
 fn read_short_lengths<A: Allocator>(alloc: A, reader: &mut Reader<'_>) -> Result<Vec<u8, A>>
-    ensures value { Gives (λ lengths. (lengths.items, reader.new)) result (short_lengths 35 [] reader.old) }
+    ensures value { let meant = short_lengths 35 [] reader.old in
+        Gives (λ lengths. (lengths.items, reader.new)) result meant }
     ensures count { IfOk result (λ lengths. length lengths.items ≡ 35) }
 {
     let mut lengths = Vec::new(alloc);
@@ -63,7 +64,8 @@ fn read_short_lengths<A: Allocator>(alloc: A, reader: &mut Reader<'_>) -> Result
 /// Adds a length so many times.
 fn push_lengths<A: Allocator>(lengths: &mut Vec<u8, A>, value: u8, count: u32) -> Result<()>
     requires { length lengths.old.items ≤ 2 ^ 21 }
-    ensures { Gives (λ _. lengths.new.items) result (Ok (lengths.old.items ++ replicate count value)) }
+    ensures { let meant = Ok (lengths.old.items ++ replicate count value) in
+        Gives (λ _. lengths.new.items) result meant }
 {
     let len = lengths.len() + count as usize;
     lengths.resize(len, value)?;
@@ -89,7 +91,8 @@ fn push_run<A: Allocator>(
     lengths: &mut Vec<u8, A>,
 ) -> Result<()>
     requires { length lengths.old.items ≤ 2 ^ 21 }
-    ensures { Gives (λ _. (lengths.new.items, reader.new)) result (run_at runcode lengths.old.items reader.old) }
+    ensures { let meant = run_at runcode lengths.old.items reader.old in
+        Gives (λ _. (lengths.new.items, reader.new)) result meant }
 {
     let Ok(code) = u32::try_from(runcode) else {
         return Err(invalid_code());
@@ -117,10 +120,20 @@ fn read_run<A: Allocator, B: Allocator>(
     lengths: &mut Vec<u8, B>,
 ) -> Result<()>
     requires { length lengths.old.items ≤ 2 ^ 21 }
-    ensures { Gives (λ _. (lengths.new.items, reader.new)) result (next_run runcodes.now lengths.old.items reader.old) }
+    ensures { let meant = next_run runcodes.now lengths.old.items reader.old in
+        Gives (λ _. (lengths.new.items, reader.new)) result meant }
 {
     let runcode = value_field(runcodes, reader)?;
     push_run(runcode, reader, lengths)
+}
+
+/// The codes of the runcodes.
+#[tactic(auto, unfolding(crate::specs::SymbolCodes::runcodes_at))]
+fn read_runcodes<A: Allocator + Clone>(alloc: A, reader: &mut Reader<'_>) -> Result<HuffmanTable<A>>
+    ensures { Gives (λ table. (table, reader.new)) result (runcodes_at reader.old) }
+{
+    let lengths = read_short_lengths(alloc.clone()?, reader)?;
+    codes_of(alloc, &lengths)
 }
 
 /// The lengths of so many symbols, or more where a run goes past them.
@@ -131,7 +144,8 @@ fn read_lengths<A: Allocator, B: Allocator>(
     reader: &mut Reader<'_>,
 ) -> Result<Vec<u8, A>>
     requires { count ≤ 2 ^ 21 }
-    ensures { Gives (λ lengths. (lengths.items, reader.new)) result (runs_at count count runcodes.now [] reader.old) }
+    ensures { let meant = runs_at count count runcodes.now [] reader.old in
+        Gives (λ lens. (lens.items, reader.new)) result meant }
 {
     let mut lengths = Vec::new(alloc);
     // Each run has one length at least.
@@ -147,6 +161,26 @@ fn read_lengths<A: Allocator, B: Allocator>(
     Ok(lengths)
 }
 
+/// The lengths of so many symbols.
+#[tactic(auto, unfolding(crate::specs::SymbolCodes::symbol_lengths_at))]
+fn read_symbol_lengths<A: Allocator, B: Allocator>(
+    alloc: A,
+    count: u32,
+    runcodes: &HuffmanTable<B>,
+    reader: &mut Reader<'_>,
+) -> Result<Vec<u8, A>>
+    requires { count ≤ 2 ^ 21 }
+    ensures value { let meant = symbol_lengths_at count runcodes.now reader.old in
+        Gives (λ lens. (lens.items, reader.new)) result meant }
+    ensures few { IfOk result (λ lens. length lens.items ≤ count) }
+{
+    let lengths = read_lengths(alloc, count, runcodes, reader)?;
+    if lengths.len() > count as usize {
+        return Err(invalid_code());
+    }
+    Ok(lengths)
+}
+
 /// Reads the codes of so many symbols.
 #[tactic(auto, unfolding(crate::specs::SymbolCodes::symbol_codes_from))]
 fn read_symbol_codes<A: Allocator + Clone>(
@@ -155,15 +189,12 @@ fn read_symbol_codes<A: Allocator + Clone>(
     count: u32,
 ) -> Result<HuffmanTable<A>>
     requires { count ≤ 2 ^ 21 }
-    ensures value { Gives (λ table. (table, reader.new)) result (symbol_codes_from count reader.old) }
+    ensures value { let meant = symbol_codes_from count reader.old in
+        Gives (λ table. (table, reader.new)) result meant }
     ensures aligned { OnOk result (IsAligned reader.new) }
 {
-    let short = read_short_lengths(alloc.clone()?, reader)?;
-    let runcodes = codes_of(alloc.clone()?, &short)?;
-    let lengths = read_lengths(alloc.clone()?, count, &runcodes, reader)?;
-    if lengths.len() > count as usize {
-        return Err(invalid_code());
-    }
+    let runcodes = read_runcodes(alloc.clone()?, reader)?;
+    let lengths = read_symbol_lengths(alloc.clone()?, count, &runcodes, reader)?;
     let codes = codes_of(alloc, &lengths)?;
     reader.align();
     Ok(codes)
@@ -182,7 +213,8 @@ pub fn parse_symbol_codes<A: Allocator + Clone>(
 ) -> Result<HuffmanTable<A>>
     requires aligned { IsAligned reader.old }
     requires few { count ≤ 2 ^ 21 }
-    ensures value { Gives (λ table. (table, reader.new.bytes)) result (symbol_codes_at count reader.old.bytes) }
+    ensures value { let meant = symbol_codes_at count reader.old.bytes in
+        Gives (λ table. (table, reader.new.bytes)) result meant }
     ensures aligned { OnOk result (IsAligned reader.new) }
 {
     read_symbol_codes(alloc, reader, count)

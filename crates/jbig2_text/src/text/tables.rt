@@ -44,7 +44,8 @@ impl<'a, T: Allocator> TextRegionHuffmanTables<'a, T> {
 fn custom<'a, T: Allocator>(
     customs: &'a [&'a HuffmanTable<T>],
 ) -> Result<(&'a HuffmanTable<T>, &'a [&'a HuffmanTable<T>])>
-    ensures { Answers (λ t. (t.0.now, customs_view t.1.now)) result (custom (customs_view customs.now)) }
+    ensures { let meant = custom (customs_view customs.now) in
+        Answers (λ t. (t.0.now, customs_view t.1.now)) result meant }
 {
     if customs.is_empty() {
         return Err(DecodeError::Huffman(HuffmanError::MissingTables));
@@ -59,7 +60,8 @@ fn one_of_two<'a, T: Allocator>(
     number: u8,
     customs: &'a [&'a HuffmanTable<T>],
 ) -> Result<(&'a HuffmanTable<T>, &'a [&'a HuffmanTable<T>])>
-    ensures { Answers (λ t. (t.0.now, customs_view t.1.now)) result (one_of_two first.now second.now number (customs_view customs.now)) }
+    ensures { let meant = one_of_two first.now second.now number (customs_view customs.now) in
+        Answers (λ t. (t.0.now, customs_view t.1.now)) result meant }
 {
     match number {
         0 => Ok((first, customs)),
@@ -77,7 +79,9 @@ fn one_of_three<'a, T: Allocator>(
     number: u8,
     customs: &'a [&'a HuffmanTable<T>],
 ) -> Result<(&'a HuffmanTable<T>, &'a [&'a HuffmanTable<T>])>
-    ensures { Answers (λ t. (t.0.now, customs_view t.1.now)) result (one_of_three first.now second.now third.now number (customs_view customs.now)) }
+    ensures { let customs = customs_view customs.now in
+        let meant = one_of_three first.now second.now third.now number customs in
+        Answers (λ t. (t.0.now, customs_view t.1.now)) result meant }
 {
     match number {
         0 => Ok((first, customs)),
@@ -93,7 +97,8 @@ fn refinement_table<'a, T: Allocator>(
     number: u8,
     customs: &'a [&'a HuffmanTable<T>],
 ) -> Result<(&'a HuffmanTable<T>, &'a [&'a HuffmanTable<T>])>
-    ensures { Answers (λ t. (t.0.now, customs_view t.1.now)) result (table_of_refinement number (customs_view customs.now)) }
+    ensures { let meant = table_of_refinement number (customs_view customs.now) in
+        Answers (λ t. (t.0.now, customs_view t.1.now)) result meant }
 {
     one_of_two(standard.table_n(), standard.table_o(), number, customs)
 }
@@ -104,7 +109,8 @@ fn size_table<'a, T: Allocator>(
     number: u8,
     customs: &'a [&'a HuffmanTable<T>],
 ) -> Result<(&'a HuffmanTable<T>, &'a [&'a HuffmanTable<T>])>
-    ensures { Answers (λ t. (t.0.now, customs_view t.1.now)) result (table_of_size number (customs_view customs.now)) }
+    ensures { let meant = table_of_size number (customs_view customs.now) in
+        Answers (λ t. (t.0.now, customs_view t.1.now)) result meant }
 {
     if number == 0 {
         return Ok((standard.table_a(), customs));
@@ -122,7 +128,8 @@ pub fn select_tables<'a, T: Allocator>(
     customs: &'a [&'a HuffmanTable<T>],
     standard: &'a StandardHuffmanTables<T>,
 ) -> Result<TextRegionHuffmanTables<'a, T>>
-    ensures { Answers (λ tables. tables_view tables) result (text_tables flags.now (customs_view customs.now)) }
+    ensures { let meant = text_tables flags.now (customs_view customs.now) in
+        Answers (λ tables. tables_view tables) result meant }
 {
     let (first_s, customs) = one_of_two(
         standard.table_f(),

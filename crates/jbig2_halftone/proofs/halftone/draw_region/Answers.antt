@@ -1,9 +1,44 @@
-use Rattle.std.proofs.Common.{List, ℕ, length, ap, ◌∙◌}
-use Rattle.jbig2_halftone.specs.Halftone.{gray_params}
-use Rattle.jbig2_halftone.specs.HalftoneHeader.{header_view}
-use Rattle.jbig2_halftone.specs.Patterns.{dictionary_view}
-use Rattle.jbig2_halftone.proofs.HalftoneLemmas.{image-sized}
+use Rattle.std.proofs.Common.{◌≡◌, List, length, Ok, Err, inl, inr, ⊎_elim, sym, ap, subst, ◌∙◌, arith}
+use Rattle.std.specs.List.{All}
+use Rattle.jbig2_base.specs.Grid.{Grid, blank}
+use Rattle.jbig2_base.specs.declared.error.DecodeError.TheVariants.{OutOfMemory}
+use Rattle.jbig2_halftone.specs.GrayScale.{GrayScale, gray_values, planes_of}
+use Rattle.jbig2_halftone.specs.Halftone.{cells_drawn, gray_params}
+use Rattle.jbig2_halftone.specs.HalftoneHeader.{HalftoneHeader, header_view}
+use Rattle.jbig2_halftone.specs.Patterns.{Patterns, dictionary_view}
+use Rattle.jbig2_halftone.proofs.HalftoneLemmas.{image-fits, answer-of-planes, answer-of-fault, contexts-of-planes, answers-gives, refused-or, leaves-known}
+use Rattle.jbig2_halftone.proofs.PlaneLemmas.{planes-sized}
 use Rattle.jbig2_halftone.proofs.halftone.draw_region.Goals as goal
 
-pub draw_cells-requires-clause-sized : goal.draw_cells-requires-clause-sized
-draw_cells-requires-clause-sized g c = ap (λ (vs : List ℕ). length vs) c.deref.ensures.value ∙ image-sized (gray_params (header_view c.args.header.now) (dictionary_view c.args.dictionary.now)) c.args.header.now.bytes.now c.in_ok-values.values.items c.in_ok-values.ensures.value
+pub draw_rows-requires-clause-sized : goal.draw_rows-requires-clause-sized
+draw_rows-requires-clause-sized g c =
+    let p : GrayScale = gray_params (header_view c.args.header.now) (dictionary_view c.args.dictionary.now) in
+    subst (λ (ps : List Grid). All (λ (b : Grid). b.width ≡ p.width) ps) (sym c.deref.ensures.value) (planes-sized p c.args.header.now.bytes.now c.in-Ok.planes.items c.in-Ok.ensures.value).wide
+
+pub draw_rows-requires-clause-few : goal.draw_rows-requires-clause-few
+draw_rows-requires-clause-few g c =
+    let d : Patterns = dictionary_view c.args.dictionary.now in
+    let p : GrayScale = gray_params (header_view c.args.header.now) d in
+    omega (arith, ap (λ (ps : List Grid). length ps) c.deref.ensures.value, (planes-sized p c.args.header.now.bytes.now c.in-Ok.planes.items c.in-Ok.ensures.value).many, c.in-Ok.ensures.few)
+
+pub returns-in-Err-clause-value : goal.returns-in-Err-clause-value
+returns-in-Err-clause-value g c =
+    let h : HalftoneHeader = header_view c.args.header.now in
+    let d : Patterns = dictionary_view c.args.dictionary.now in
+    ⊎_elim
+    (λ (memory : c.in-Err.error ≡ OutOfMemory). inl memory)
+    (λ (fault : planes_of (gray_params h d) h.bytes ≡ Err c.in-Err.error). inr (answer-of-fault h d c.in-Err.error (image-fits (gray_params h d) c.requires.columns c.requires.rows) fault))
+    c.in-Err.ensures.value
+
+pub returns : goal.returns
+returns g c =
+    let h : HalftoneHeader = header_view c.args.header.now in
+    let d : Patterns = dictionary_view c.args.dictionary.now in
+    let fits = image-fits (gray_params h d) c.requires.columns c.requires.rows in
+    let made = answer-of-planes h d c.in-Ok.planes.items fits c.in-Ok.ensures.value in
+    let same = sym (ap (λ (ps : List Grid). cells_drawn h d 0 (gray_values h.grid_position_and_size.width h.grid_position_and_size.height ps) c.args.bitmap.now) c.deref.ensures.value ∙ ap (λ (b : Grid). cells_drawn h d 0 (gray_values h.grid_position_and_size.width h.grid_position_and_size.height c.in-Ok.planes.items) b) c.requires.coloured) in
+    record {
+      value = answers-gives (λ _. c.draw_rows.new.bitmap) c.draw_rows.result _ _ (made ∙ same) c.draw_rows.ensures.value;
+      bitmap = refused-or c.draw_rows.result _ _ c.draw_rows.ensures.refused;
+      contexts = leaves-known c.draw_rows.result _ _ (contexts-of-planes h d _ _ fits c.in-Ok.ensures.contexts);
+    }

@@ -1,0 +1,82 @@
+-- What the planes of an image take.
+use Rattle.std.proofs.Common.{◌≡◌, ℕ, zero, suc, ◌+◌, ◌-◌, ◌*◌, ◌/◌, ◌<◌, ◌≤◌, Bool, true, false, List, Option, None, Some, add-one, add-mul, refl, sym, ap, subst, ◌∙◌, ⊎_elim, arith}
+use Rattle.std.specs.Borrow.{Bor}
+use Rattle.std.specs.Prelude.{is_some, if◌then◌else◌}
+use Rattle.std.proofs.lemmas.Bool.{cases_lt}
+use Rattle.jbig2_base.specs.Counts.{Counts}
+use Rattle.jbig2_base.specs.Grid.{Grid, blank}
+use Rattle.jbig2_coder.specs.Coder.{Coder, Context}
+use Rattle.jbig2_coder.specs.declared.arithmetic_decoder.registers.Registers.{Registers}
+use Rattle.jbig2_region.specs.Generic.{coding_of}
+use Rattle.jbig2_region.specs.inner.Layouts.{read_pixels}
+use Rattle.jbig2_region.specs.Raster.{Region, after_rows, row_begun, no_pixels}
+use Rattle.jbig2_region.specs.RunBytes.{CountsRegion, coded_rows, coded_runs, row_loads, row_tests, row_words}
+use Rattle.jbig2_region.specs.Skipping.{skip_of}
+use Rattle.jbig2_region.specs.Templates.{is_nominal, template_pixels}
+use Rattle.jbig2_region.specs.declared.template.AdaptiveTemplatePixel.{AdaptiveTemplatePixel}
+use Rattle.jbig2_region.specs.declared.template.GenericTemplatePixels.TheVariants.{Regular}
+use Rattle.jbig2_region.specs.declared.template.Template.{Template}
+use Rattle.jbig2_region.specs.declared.template.Template.TheVariants.{Template0, Template1, Template2, Template3}
+use Rattle.jbig2_halftone.specs.GrayScale.{GrayScale, nominal_pixels, after_planes}
+use Rattle.jbig2_halftone.specs.GraySteps.{plane_pixels, plain_coding, plane_start, plane_runs, CountsPlane, CountsPlanes}
+use Rattle.jbig2_halftone.proofs.PlaneLemmas.{BehindPlanes, rows-plain}
+
+pub some-mask : (mask : Option (Bor Grid)) → is_some mask ≡ true → skip_of mask ≡ None → ⊥
+some-mask None e none = cc
+some-mask (Some m) e none = cc
+
+nominal : (t : Template) → is_nominal t (nominal_pixels t) ≡ true
+nominal Template0 = refl
+nominal Template1 = refl
+nominal Template2 = refl
+nominal Template3 = refl
+
+none-read : (t : Template) → read_pixels t (nominal_pixels t) ≡ 0
+none-read t = rw (nominal t) refl
+
+-- what a generic region says of a plane
+pub plain-counts : (p : GrayScale) (adaptive : List AdaptiveTemplatePixel) (w h : ℕ) (bytes : List ℕ) (start : Region) (before after : Counts) → adaptive ≡ nominal_pixels p.template
+    → CountsRegion (template_pixels p.template (Regular adaptive)) (is_nominal p.template adaptive) (read_pixels p.template adaptive) (coding_of false p.template (template_pixels p.template (Regular adaptive))) w h bytes start before after
+    → CountsPlane p w h bytes start before after
+plain-counts p adaptive w h bytes start before after at counts =
+    let here = subst (λ (a : List AdaptiveTemplatePixel). CountsRegion (template_pixels p.template (Regular a)) (is_nominal p.template a) (read_pixels p.template a) (coding_of false p.template (template_pixels p.template (Regular a))) w h bytes start before after) at counts in
+    let none = subst (λ (n : ℕ). CountsRegion (plane_pixels p) (is_nominal p.template (nominal_pixels p.template)) n (plain_coding p) w h bytes start before after) (none-read p.template) here in
+    subst (λ (b : Bool). CountsRegion (plane_pixels p) b 0 (plain_coding p) w h bytes start before after) (nominal p.template) none
+
+-- every row of a plane is coded
+all-coded : (pixels : List AdaptiveTemplatePixel) (t : Template) (w h : ℕ) (bytes : List ℕ) (n : ℕ) (r : Region) → r.predicted ≡ false → coded_rows (coding_of false t pixels) w h bytes n r ≡ n
+unfolding coded_rows row_begun
+all-coded pixels t w h bytes zero r plain = refl
+all-coded pixels t w h bytes (suc n) r plain = rw (rows-plain pixels t w h bytes n r plain, all-coded pixels t w h bytes n r plain) (omega arith)
+
+pub planes-begin : (p : GrayScale) (bytes : List ℕ) (steps : Counts) → CountsPlanes p bytes 0 steps steps
+unfolding plane_runs
+planes-begin p bytes steps = record { decisions = λ _. omega arith; run_tests = omega arith; words = omega arith; loads = omega arith }
+
+one-more : (n v : ℕ) → (n + 1) * v ≡ n * v + v
+one-more n v = omega (arith, add-mul n 1 v)
+
+planes-more : (p : GrayScale) (bytes : List ℕ) (i : ℕ) (old mid new : Counts) → CountsPlanes p bytes i old mid → CountsPlane p p.width p.height bytes (plane_start p bytes i) mid new → CountsPlanes p bytes (i + 1) old new
+unfolding plane_runs
+planes-more p bytes i old mid new before one =
+    let runs : plane_runs p bytes (i + 1) ≡ plane_runs p bytes i + coded_runs (plane_pixels p) true (plain_coding p) p.width p.height bytes p.height (plane_start p bytes i) = rw add-one refl in
+    let coded = all-coded (plane_pixels p) p.template p.width p.height bytes p.height (plane_start p bytes i) refl in
+    let none : p.width * p.height * 0 ≡ 0 = omega arith in
+    record {
+      decisions = λ some.
+          let here = one.decisions some in
+          let plain = rw coded at here in
+          rw (runs, one-more i (p.width * p.height)) (omega (arith, before.decisions some, plain));
+      run_tests = rw (one-more i (p.height * row_tests true p.width)) (omega (arith, before.run_tests, one.run_tests));
+      words = rw (one-more i (p.height * row_words true p.width)) (omega (arith, before.words, one.words));
+      loads = let plain = rw (coded, none) at one.loads in rw (one-more i (p.height * row_loads true p.width)) (omega (arith, before.loads, plain));
+    }
+
+pub planes-next : (p : GrayScale) (bytes : List ℕ) (i : ℕ) (plane : Grid) (coder : Coder) (states : List Context) (old mid new : Counts) (planes : List Grid) → plane ≡ blank p.width p.height false → BehindPlanes p bytes i planes coder states
+    → CountsPlanes p bytes i old mid → CountsPlane p plane.width plane.height coder.bytes (no_pixels coder.registers states) mid new → CountsPlanes p bytes (i + 1) old new
+planes-next p bytes i plane coder states old mid new planes white behind before one =
+    let two = subst (λ (b : List ℕ). CountsPlane p plane.width plane.height b (no_pixels coder.registers states) mid new) behind.bytes one in
+    let three = subst (λ (g : Grid). CountsPlane p g.width g.height bytes (no_pixels coder.registers states) mid new) white two in
+    let four = subst (λ (r : Registers). CountsPlane p p.width p.height bytes (no_pixels r states) mid new) behind.registers three in
+    let five = subst (λ (s : List Context). CountsPlane p p.width p.height bytes (no_pixels (after_planes p bytes i).registers s) mid new) behind.contexts four in
+    planes-more p bytes i old mid new before five

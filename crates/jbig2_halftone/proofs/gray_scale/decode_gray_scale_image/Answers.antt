@@ -1,0 +1,23 @@
+use Rattle.std.proofs.Common.{◌≡◌, ℕ, ◌*◌, List, length, sym, ap, subst, ◌∙◌, arith}
+use Rattle.std.specs.List.{All}
+use Rattle.jbig2_base.specs.Grid.{Grid}
+use Rattle.jbig2_halftone.specs.GrayScale.{GrayScale, gray_view}
+use Rattle.jbig2_halftone.specs.GraySteps.{after_lane_rows}
+use Rattle.jbig2_halftone.proofs.PlaneLemmas.{planes-sized}
+use Rattle.jbig2_halftone.proofs.gray_scale.decode_gray_scale_image.Goals as goal
+
+pub gray_rows-requires-clause-sized : goal.gray_rows-requires-clause-sized
+gray_rows-requires-clause-sized g c =
+    let p : GrayScale = gray_view c.args.params.now in
+    subst (λ (ps : List Grid). All (λ (b : Grid). b.width ≡ p.width) ps) (sym c.deref.ensures.value) (planes-sized p c.args.bytes.now c.in_ok-planes.planes.items c.in_ok-planes.ensures.value).wide
+
+pub gray_rows-requires-clause-few : goal.gray_rows-requires-clause-few
+gray_rows-requires-clause-few g c =
+    let p : GrayScale = gray_view c.args.params.now in
+    omega (arith, ap (λ (ps : List Grid). length ps) c.deref.ensures.value, (planes-sized p c.args.bytes.now c.in_ok-planes.planes.items c.in_ok-planes.ensures.value).many)
+
+pub returns-clause-steps : goal.returns-clause-steps
+returns-clause-steps g c =
+    let p : GrayScale = gray_view c.args.params.now in
+    let many : length c.deref.result.now ≡ p.bits_per_pixel = ap (λ (ps : List Grid). length ps) c.deref.ensures.value ∙ (planes-sized p c.args.bytes.now c.in_ok-planes.planes.items c.in_ok-planes.ensures.value).many in
+    (c.read_planes.new.steps, (c.in_ok-planes.ensures.steps, c.gray_rows.ensures.steps ∙ ap (λ (n : ℕ). after_lane_rows (p.height * n) p.width c.read_planes.new.steps) many))

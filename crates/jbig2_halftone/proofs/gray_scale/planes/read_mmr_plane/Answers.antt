@@ -1,0 +1,30 @@
+use Rattle.std.proofs.Common.{◌≡◌, ◌≤◌, false, inr, length, rules, sym, ◌∙◌}
+use Rattle.jbig2_halftone.specs.GrayScale.{GrayScale, gray_view}
+use Rattle.jbig2_halftone.proofs.PatternLemmas.{blank-made}
+use Rattle.jbig2_halftone.proofs.PlaneLemmas.{mmr-made, drop-whole, plane-made, plane-fault}
+use Rattle.jbig2_halftone.proofs.gray_scale.planes.read_mmr_plane.Goals as goal
+
+pub returns-in-Err : goal.returns-in-Err
+returns-in-Err g c =
+    let p : GrayScale = gray_view c.args.params.now in
+    let white = blank-made p.width p.height false c.in_ok-plane.plane c.requires.columns c.requires.rows c.in_ok-plane.ensures in
+    inr (plane-fault p c.in_ok-plane.plane c.args.bytes.now c.in-Err.error white c.in-Err.ensures.value)
+
+pub slice_bounds-result-start : goal.slice_bounds-result-start
+slice_bounds-result-start g c =
+    let p : GrayScale = gray_view c.args.params.now in
+    let white = blank-made p.width p.height false c.in_ok-plane.plane c.requires.columns c.requires.rows c.in_ok-plane.ensures in
+    let within : c.in-Ok.used ≤ length c.args.bytes.now = (mmr-made p c.in_ok-plane.plane c.decode.new.bitmap c.args.bytes.now c.in-Ok.used white c.in-Ok.ensures.value).2 in
+    search (rules, within)
+
+pub slice_bounds-result-count : goal.slice_bounds-result-count
+slice_bounds-result-count g c =
+    let p : GrayScale = gray_view c.args.params.now in
+    let white = blank-made p.width p.height false c.in_ok-plane.plane c.requires.columns c.requires.rows c.in_ok-plane.ensures in
+    (mmr-made p c.in_ok-plane.plane c.decode.new.bitmap c.args.bytes.now c.in-Ok.used white c.in-Ok.ensures.value).2
+
+pub returns : goal.returns
+returns g c =
+    let p : GrayScale = gray_view c.args.params.now in
+    let white = blank-made p.width p.height false c.in_ok-plane.plane c.requires.columns c.requires.rows c.in_ok-plane.ensures in
+    plane-made p c.in_ok-plane.plane c.decode.new.bitmap c.args.bytes.now c.in-Ok.used _ white c.in-Ok.ensures.value (drop-whole c.in-Ok.used c.args.bytes.now)

@@ -1,0 +1,24 @@
+use Rattle.std.proofs.Common.{◌≡◌, ⊎_elim, inl, inr, arith}
+use Rattle.jbig2_base.specs.declared.error.DecodeError.TheVariants.{OutOfMemory}
+use Rattle.std.specs.Prelude.{Err}
+use Rattle.jbig2_halftone.specs.GrayScale.{GrayScale, gray_view, mmr_plane}
+use Rattle.jbig2_halftone.proofs.PlaneLemmas.{mmr-none, mmr-next, mmr-all, mmr-fault}
+use Rattle.jbig2_halftone.proofs.gray_scale.planes.read_mmr_planes.Goals as goal
+
+pub loop-init : goal.loop-init
+loop-init g c = mmr-none (gray_view c.args.params.now) c.args.bytes.now c.new-planes.result.items c.new-planes.ensures.items
+
+pub returns-in-Err : goal.returns-in-Err
+returns-in-Err g c =
+    let p : GrayScale = gray_view c.args.params.now in
+    ⊎_elim
+    (λ (memory : c.in-Err.error ≡ OutOfMemory). inl memory)
+    (λ (fault : mmr_plane p c.loop.rest.now ≡ Err c.in-Err.error). inr (mmr-fault p c.args.bytes.now c.loop.counter c.loop.planes.items c.loop.rest.now c.in-Err.error (omega arith) fault c.loop.invariant))
+    c.in-Err.ensures
+
+pub loop-preserved : goal.loop-preserved
+loop-preserved g c =
+    mmr-next (gray_view c.args.params.now) c.args.bytes.now c.loop.counter c.in-Ok.read.0 c.loop.planes.items c.push.new.self.items c.loop.rest.now c.in-Ok.read.1.now (omega arith) c.in-Ok.ensures c.in_ok-push.ensures.items c.loop.invariant
+
+pub returns : goal.returns
+returns g c = mmr-all (gray_view c.args.params.now) c.args.bytes.now c.loop.counter c.loop.planes.items c.loop.rest.now (omega arith) c.loop.invariant

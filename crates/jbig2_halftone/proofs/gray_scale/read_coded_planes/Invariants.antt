@@ -1,6 +1,0 @@
-use Rattle.jbig2_halftone.specs.GrayScale.{gray_view}
-use Rattle.jbig2_halftone.proofs.PlaneLemmas.{BehindPlanes}
-use Rattle.jbig2_halftone.proofs.gray_scale.read_coded_planes.Given as goal
-
-abbrev pub invariant-loop : goal.invariant-loop
-invariant-loop g l = BehindPlanes (gray_view l.params) l.bytes l.counter l.values l.decoder l.contexts

@@ -1,0 +1,71 @@
+-- The steps of gray-scale images (our own rule).
+use Rattle.std.specs.Prelude.{ℕ, zero, suc, ◌≡◌, ◌≤◌, ◌+◌, ◌*◌, ◌/◌, ◌%◌, Bool, true, false, List, None}
+use Rattle.jbig2_base.specs.Counts.{Counts}
+use Rattle.jbig2_region.specs.Generic.{coding_of}
+use Rattle.jbig2_region.specs.Raster.{Coding, Region, no_pixels}
+use Rattle.jbig2_region.specs.RunBytes.{CountsRegion, coded_runs, row_loads, row_tests, row_words}
+use Rattle.jbig2_region.specs.Templates.{template_pixels}
+use Rattle.jbig2_region.specs.declared.template.AdaptiveTemplatePixel.{AdaptiveTemplatePixel}
+use Rattle.jbig2_region.specs.declared.template.GenericTemplatePixels.TheVariants.{Regular}
+use Rattle.jbig2_halftone.specs.GrayScale.{GrayScale, nominal_pixels, after_planes}
+
+-- ---- planes without skipped pixels
+abbrev pub plane_pixels : GrayScale → List AdaptiveTemplatePixel
+plane_pixels p = template_pixels p.template (Regular (nominal_pixels p.template))
+
+-- a plane as a generic region without typical prediction, whose adaptive pixels are nominal
+abbrev pub plain_coding : GrayScale → Coding
+plain_coding p = coding_of false p.template (plane_pixels p)
+
+-- where the plane behind the k highest ones begins
+abbrev pub plane_start : GrayScale → List ℕ → ℕ → Region
+plane_start p bytes k = no_pixels (after_planes p bytes k).registers (after_planes p bytes k).contexts
+
+-- how many run bytes the highest planes have
+unfoldable pub plane_runs : GrayScale → List ℕ → ℕ → ℕ
+plane_runs p bytes zero = 0
+plane_runs p bytes (suc count) =
+    plane_runs p bytes count + coded_runs (plane_pixels p) true (plain_coding p) p.width p.height bytes p.height (plane_start p bytes count)
+
+-- one such plane
+abbrev pub CountsPlane : GrayScale → ℕ → ℕ → List ℕ → Region → Counts → Counts → Type 0
+CountsPlane p w h bytes start before after = CountsRegion (plane_pixels p) true 0 (plain_coding p) w h bytes start before after
+
+-- the highest planes: a decision for each pixel, less eight for each run byte
+pub record CountsPlanes (p : GrayScale) (bytes : List ℕ) (count : ℕ) (before after : Counts) : Type 0 where
+  pub decisions : 1 ≤ p.width → after.decisions + 8 * plane_runs p bytes count ≡ before.decisions + count * (p.width * p.height)
+  pub run_tests : after.run_tests ≤ before.run_tests + count * (p.height * row_tests true p.width)
+  pub words : after.words ≤ before.words + count * (p.height * row_words true p.width)
+  pub loads : after.loads ≤ before.loads + count * (p.height * row_loads true p.width)
+
+-- only planes of the arithmetic coder are counted, and of these those without skipped pixels
+abbrev pub CountsRead : GrayScale → List ℕ → Counts → Counts → Type 0
+CountsRead p bytes before after = p.use_mmr ≡ false → p.skip_mask ≡ None → CountsPlanes p bytes p.bits_per_pixel before after
+
+-- ---- the values
+-- how many groups of eight lanes and how many single pixels a row of w pixels has
+abbrev pub lane_groups : ℕ → ℕ
+lane_groups w = w / 8
+
+abbrev pub single_pixels : ℕ → ℕ
+single_pixels w = w % 8
+
+-- so many rows of w pixels, taken out of planes: one load for each group and for each single pixel
+abbrev pub after_lane_rows : ℕ → ℕ → Counts → Counts
+after_lane_rows rows w before = record before {
+  loads = before.loads + rows * (lane_groups w + single_pixels w);
+  groups = before.groups + rows * lane_groups w;
+  pixels = before.pixels + rows * single_pixels w;
+}
+
+-- one such row
+abbrev pub after_lanes : ℕ → Counts → Counts
+after_lanes w before = record before {
+  loads = before.loads + (lane_groups w + single_pixels w);
+  groups = before.groups + lane_groups w;
+  pixels = before.pixels + single_pixels w;
+}
+
+-- an image: its planes are read, and then each row of each plane is taken
+abbrev pub CountsImage : GrayScale → List ℕ → Counts → Counts → Type 0
+CountsImage p bytes before after = (read : Counts) × (CountsRead p bytes before read × (after ≡ after_lane_rows (p.height * p.bits_per_pixel) p.width read))

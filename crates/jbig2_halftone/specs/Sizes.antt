@@ -1,0 +1,7 @@
+-- The size of a pattern (T.88, 6.7).
+use Rattle.std.specs.Prelude.{ℕ, ◌≡◌}
+use Rattle.jbig2_base.specs.Grid.{Grid}
+
+pub record HasSize (width height : ℕ) (grid : Grid) : Type 0 where
+  pub columns : grid.width ≡ width
+  pub rows : grid.height ≡ height

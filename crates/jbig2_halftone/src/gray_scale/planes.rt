@@ -1,0 +1,167 @@
+//! The coded planes of a gray-scale image, the highest first (T.88, C.5).
+ghost use Rattle.std.specs.Prelude.{◌≡◌, ◌^◌, ◌≤◌, false, length, None, OnOk};
+ghost use Rattle.jbig2_base.specs.Answer.{Gives, Leaves};
+ghost use Rattle.jbig2_base.specs.Grid.{blank};
+ghost use Rattle.jbig2_region.specs.Raster.{fresh_contexts, no_pixels};
+ghost use Rattle.jbig2_region.specs.Skipping.{skip_of};
+ghost use Rattle.jbig2_region.specs.Templates.{context_bits};
+ghost use Rattle.jbig2_region.specs.inner.Holds.{DecodesRegion};
+ghost use Rattle.jbig2_halftone.specs.GrayScale.{gray_view, nominal_pixels, plane_coding, mmr_plane, planes_by_coder, planes_by_mmr, planes_of, planes_contexts, after_planes, image_is_too_large};
+ghost use Rattle.jbig2_halftone.specs.GraySteps.{CountsPlane, CountsPlanes, CountsRead};
+
+use crate::gray_scale::GrayScaleParams;
+use jbig2_base::bitmap::Bitmap;
+use jbig2_base::bitmap::steps::Steps;
+use jbig2_base::error::Result;
+use jbig2_coder::arithmetic_decoder::{ArithmeticDecoder, ArithmeticDecoderContext};
+use jbig2_mmr::mmr;
+use jbig2_region::generic::decode_coded;
+use jbig2_region::raster::fresh_contexts;
+use jbig2_region::skipping::decode_skipping;
+use jbig2_region::template::{AdaptiveTemplatePixel, GenericTemplatePixels, Template};
+use std::alloc::Allocator;
+use std::sync::ledger::Ledger;
+
+/// The adaptive pixels of a plane, at their nominal places (T.88, Table C.4).
+fn nominal_pixels(template: Template) -> [AdaptiveTemplatePixel; 4]
+    ensures { result ≡ nominal_pixels template }
+{
+    let first = match template {
+        Template::Template0 | Template::Template1 => AdaptiveTemplatePixel { x: 3, y: -1 },
+        Template::Template2 | Template::Template3 => AdaptiveTemplatePixel { x: 2, y: -1 },
+    };
+    [
+        first,
+        AdaptiveTemplatePixel { x: -3, y: -1 },
+        AdaptiveTemplatePixel { x: 2, y: -2 },
+        AdaptiveTemplatePixel { x: -2, y: -2 },
+    ]
+}
+
+/// The next plane that the arithmetic coder wrote, into a white bitmap of its size.
+fn decode_plane<M: Allocator, A: Allocator, L: Ledger>(
+    params: &GrayScaleParams<'_, M>,
+    plane: &mut Bitmap<A>,
+    decoder: &mut ArithmeticDecoder<'_>,
+    contexts: &mut [ArithmeticDecoderContext],
+    steps: &mut Steps<L>,
+)
+    requires columns { plane.old.width ≤ 65535 }
+    requires rows { plane.old.height ≤ 65535 }
+    requires white { plane.old ≡ blank plane.old.width plane.old.height false }
+    requires contexts { length contexts.old ≡ 2 ^ context_bits params.now.template }
+    ensures holds { DecodesRegion (plane_coding (gray_view params.now)) plane.old decoder.old contexts.old plane.new decoder.new contexts.new }
+    ensures steps { skip_of params.now.skip_mask ≡ None → CountsPlane (gray_view params.now) plane.old.width plane.old.height decoder.old.bytes
+        (no_pixels decoder.old.registers contexts.old) steps.old steps.new }
+{
+    let adaptive = nominal_pixels(params.template);
+    if params.skip_mask.is_none() {
+        let adaptive = GenericTemplatePixels::Regular(adaptive);
+        decode_coded(
+            params.template,
+            false,
+            &adaptive,
+            plane,
+            decoder,
+            contexts,
+            steps,
+        );
+        return;
+    }
+    decode_skipping(
+        params.template,
+        &adaptive,
+        params.skip_mask,
+        plane,
+        decoder,
+        contexts,
+        steps,
+    );
+}
+
+/// The planes that the arithmetic coder wrote.
+fn read_coded_planes<M: Allocator, A: Allocator + Clone, L: Ledger>(
+    alloc: A,
+    bytes: &[u8],
+    params: &GrayScaleParams<'_, M>,
+    contexts: &mut [ArithmeticDecoderContext],
+    steps: &mut Steps<L>,
+) -> Result<Vec<Bitmap<A>, A>>
+    requires sides { image_is_too_large (gray_view params.now) ≡ false }
+    requires fresh { contexts.old ≡ fresh_contexts (context_bits params.now.template) }
+    ensures value { Gives (λ planes. planes.items) result (planes_by_coder (gray_view params.now) bytes.now) }
+    ensures contexts { Leaves result contexts.new (after_planes (gray_view params.now) bytes.now params.now.bits_per_pixel).contexts }
+    ensures steps { OnOk result (skip_of params.now.skip_mask ≡ None → CountsPlanes (gray_view params.now) bytes.now params.now.bits_per_pixel steps.old steps.new) }
+{
+    let mut decoder = ArithmeticDecoder::new(bytes);
+    let mut planes = Vec::new(alloc.clone()?);
+    for _ in 0..params.bits_per_pixel {
+        let mut plane = Bitmap::new(alloc.clone()?, params.width, params.height)?;
+        decode_plane(params, &mut plane, &mut decoder, contexts, steps);
+        planes.push(plane)?;
+    }
+    Ok(planes)
+}
+
+/// The next plane that MMR wrote, and the bytes behind it.
+fn read_mmr_plane<'a, M: Allocator, A: Allocator, L: Ledger>(
+    alloc: A,
+    bytes: &'a [u8],
+    params: &GrayScaleParams<'_, M>,
+    steps: &mut Steps<L>,
+) -> Result<(Bitmap<A>, &'a [u8])>
+    requires columns { params.now.width ≤ 65535 }
+    requires rows { params.now.height ≤ 65535 }
+    ensures { Gives (λ read. (read.0, read.1.now)) result (mmr_plane (gray_view params.now) bytes.now) }
+{
+    let mut plane = Bitmap::new(alloc, params.width, params.height)?;
+    let used = match mmr::decode(&mut plane, bytes, params.strict, steps) {
+        Ok(used) => used,
+        Err(error) => return Err(error),
+    };
+    Ok((plane, &bytes[used..]))
+}
+
+/// The planes that MMR wrote.
+fn read_mmr_planes<M: Allocator, A: Allocator + Clone, L: Ledger>(
+    alloc: A,
+    bytes: &[u8],
+    params: &GrayScaleParams<'_, M>,
+    steps: &mut Steps<L>,
+) -> Result<Vec<Bitmap<A>, A>>
+    requires sides { image_is_too_large (gray_view params.now) ≡ false }
+    ensures { Gives (λ planes. planes.items) result (planes_by_mmr (gray_view params.now) bytes.now) }
+{
+    let mut rest = bytes;
+    let mut planes = Vec::new(alloc.clone()?);
+    for _ in 0..params.bits_per_pixel {
+        let (plane, behind) = match read_mmr_plane(alloc.clone()?, rest, params, steps) {
+            Ok(read) => read,
+            Err(error) => return Err(error),
+        };
+        rest = behind;
+        planes.push(plane)?;
+    }
+    Ok(planes)
+}
+
+/// The planes of an image. The contexts are left as the last plane leaves them; MMR data does not
+/// touch them.
+pub fn read_planes<M: Allocator, A: Allocator + Clone, B: Allocator, L: Ledger>(
+    alloc: A,
+    bytes: &[u8],
+    params: &GrayScaleParams<'_, M>,
+    contexts: &mut Vec<ArithmeticDecoderContext, B>,
+    steps: &mut Steps<L>,
+) -> Result<Vec<Bitmap<A>, A>>
+    requires sides { image_is_too_large (gray_view params.now) ≡ false }
+    ensures value { Gives (λ planes. planes.items) result (planes_of (gray_view params.now) bytes.now) }
+    ensures contexts { Leaves result contexts.new.items (planes_contexts (gray_view params.now) bytes.now contexts.old.items) }
+    ensures steps { OnOk result (CountsRead (gray_view params.now) bytes.now steps.old steps.new) }
+{
+    if params.use_mmr {
+        return read_mmr_planes(alloc, bytes, params, steps);
+    }
+    fresh_contexts(contexts, params.template.context_bits())?;
+    read_coded_planes(alloc, bytes, params, contexts, steps)
+}
