@@ -68,7 +68,6 @@ refined_alone r symbols id width height f s = do
 -- A text region of the symbol's size, in strips of one row from the top left (Table 17).
 abbrev pub aggregate_flags : SymbolDictionaryFlags → TextRegionFlags
 aggregate_flags flags = record {
-  use_huffman = flags.use_huffman;
   use_refinement = true;
   log_strip_size = 0;
   reference_corner = TopLeft;

@@ -78,7 +78,6 @@ fn aggregate_flags(flags: &SymbolDictionaryFlags) -> TextRegionFlags
     ensures { result ≡ aggregate_flags flags.now }
 {
     TextRegionFlags {
-        use_huffman: flags.use_huffman,
         use_refinement: true,
         log_strip_size: 0,
         reference_corner: ReferenceCorner::TopLeft,

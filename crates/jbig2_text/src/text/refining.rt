@@ -74,6 +74,7 @@ impl<A: Allocator> Refining<A> {
         }
     }
 
+    /// The template of its contexts.
     pub fn template(&self) -> RefinementTemplate
         ensures { result ≡ self.now.template }
     {

@@ -10,4 +10,4 @@ pub loop-y-init : goal.loop-y-init
 loop-y-init g c = blank-filled _ _ _ _ (wide-blank c.args.width c.args.height c.in_ok-bitmap.bitmap c.in_ok-bitmap.ensures)
 
 pub returns-clause-value : goal.returns-clause-value
-returns-clause-value g c = raw-made c.args.width c.args.height c.div_ceil-stride.result c.loop-y.y c.in_ok-bitmap.bitmap c.loop-y.bitmap c.args.reader.now.bytes c.in_ok-bytes.bytes.now _ c.in_ok-bitmap.ensures (omega arith) c.in_ok-bytes.ensures.value (omega arith) c.loop-y.invariant
+returns-clause-value g c = raw-made c.args.width c.args.height c.div_ceil-stride.result c.loop-y.y c.in_ok-bitmap.bitmap c.loop-y.bitmap c.args.reader.now.bytes c.in_ok-bytes.bytes.now _ c.in_ok-bitmap.ensures (omega arith) c.in_ok-bytes.ensures.parses.value (omega arith) c.loop-y.invariant
