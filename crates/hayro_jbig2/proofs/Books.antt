@@ -14,9 +14,10 @@ use Rattle.jbig2_base.specs.declared.error.OverflowError.TheVariants.{BitmapDime
 use Rattle.jbig2_base.specs.declared.file_header.FileHeader.{FileHeader}
 use Rattle.jbig2_base.specs.declared.page_info.PageInformation.{PageInformation}
 use Rattle.jbig2_base.specs.declared.page_info.Sheet.{Sheet}
-use Rattle.hayro_jbig2.specs.Files.{Filed, Book, of_page, by_pages, ends_of, filed_from, filed_each, numbers_after, miscounts, associated, book_at, leaf_of, leaf_from, PagesStandAlone}
-use Rattle.hayro_jbig2.specs.Globals.{named}
-use Rattle.hayro_jbig2.specs.Page.{Leaf, Names, no_names}
+use Rattle.hayro_jbig2.specs.Files.{PageInFile, ReadFile, of_page, by_pages, ends_of, filed_from, filed_each, numbers_after, miscounts, associated, book_at, page_in, page_from, PagesStandAlone}
+use Rattle.hayro_jbig2.specs.Globals.{named_from}
+use Rattle.hayro_jbig2.specs.Names.{Names, no_names}
+use Rattle.hayro_jbig2.specs.Page.{ReadPage}
 
 from_front : {X Y : Type 0} (f : X → Y) (xs : List X) (i : ℕ) → i < length xs → TakesFirst (λ (y : Y). y) (map f (drop i xs)) (option_map f (slice_get xs i)) (map f (drop (suc i) xs))
 from_front f [] i h = absurd (omega arith)
@@ -76,29 +77,29 @@ number-of_page n ps sheet h =
     number-of_sheet first.first.header.page_association info.first.0 height.first sheet height.then ∙ first-of_page n ps first.first first.was
 
 -- A filed page is made of the segments of its own number.
-record IsOwn (ps : List Part) (page : Filed) : Type 0 where
+record IsOwn (ps : List Part) (page : PageInFile) : Type 0 where
   sheet : sheet_of (of_page page.sheet.number ps) ≡ Ok page.sheet
   parts : page.parts ≡ of_page page.sheet.number ps
 
-own-filed : (strict : Bool) (ps : List Part) (n : ℕ) (page : Filed) → filed_from strict (of_page n ps) ≡ Ok page → IsOwn ps page
+own-filed : (strict : Bool) (ps : List Part) (n : ℕ) (page : PageInFile) → filed_from strict (of_page n ps) ≡ Ok page → IsOwn ps page
 unfolding filed_from
 own-filed strict ps n page h =
     let own : List Part = of_page n ps in
     let ended = answered (refuse_if (strict && not (ends_of own == 1)) (Format InvalidEndOfPage)) (λ ended. sheet_of own >>= λ sheet. Ok (record { sheet = sheet; parts = own })) page h in
     let sheet = answered (sheet_of own) (λ sheet. Ok (record { sheet = sheet; parts = own })) page ended.then in
-    let made : Filed = record { sheet = sheet.first; parts = own } in
+    let made : PageInFile = record { sheet = sheet.first; parts = own } in
     let same : made ≡ page = let told = sheet.then in cc in
     let number : n ≡ sheet.first.number = sym (number-of_page n ps sheet.first sheet.was) in
     let Own : ℕ → Type 0 = λ m. (sheet_of (of_page m ps) ≡ Ok sheet.first) × (own ≡ of_page m ps) in
     let told = subst Own number (sheet.was, refl) in
     let is : IsOwn ps made = record { sheet = told.0; parts = told.1 } in
-    subst (λ (p : Filed). IsOwn ps p) same is
+    subst (λ (p : PageInFile). IsOwn ps p) same is
 
-abbrev AllOwn : List Part → List Filed → Type 0
+abbrev AllOwn : List Part → List PageInFile → Type 0
 AllOwn ps [] = Unit {0}
 AllOwn ps (page ∷ pages) = IsOwn ps page × AllOwn ps pages
 
-own-each : (strict : Bool) (ps : List Part) (ns : List ℕ) (pages : List Filed) → filed_each strict (map (λ n. of_page n ps) ns) ≡ Ok pages → AllOwn ps pages
+own-each : (strict : Bool) (ps : List Part) (ns : List ℕ) (pages : List PageInFile) → filed_each strict (map (λ n. of_page n ps) ns) ≡ Ok pages → AllOwn ps pages
 own-each strict ps [] pages h =
     let same : [] ≡ pages = cc in
     subst (AllOwn ps) same tt
@@ -109,7 +110,7 @@ own-each strict ps (n ∷ ns) pages h =
     let same : page.first ∷ others.first ≡ pages = let told = others.then in cc in
     subst (AllOwn ps) same (own-filed strict ps n page.first page.was, own-each strict ps ns others.first others.was)
 
-own-at : (ps : List Part) (pages : List Filed) (index : ℕ) (page : Filed) → AllOwn ps pages → slice_get pages index ≡ Some page → IsOwn ps page
+own-at : (ps : List Part) (pages : List PageInFile) (index : ℕ) (page : PageInFile) → AllOwn ps pages → slice_get pages index ≡ Some page → IsOwn ps page
 own-at ps [] index page all h = absurd (cc)
 own-at ps (p ∷ pages) zero page all h =
     let same : p ≡ page = cc in
@@ -117,30 +118,30 @@ own-at ps (p ∷ pages) zero page all h =
 own-at ps (p ∷ pages) (suc index) page all h = own-at ps pages index page all.1 h
 
 -- a file's book, from its header and its segments
-abbrev pages_with : Bool → FileHeader × List Part → Result Book DecodeError
-pages_with strict file = filed_each strict (by_pages file.1) >>= λ pages. Ok (record { strict = strict; pages = pages; globals = named strict (of_page 0 file.1) no_names })
+abbrev pages_with : Bool → FileHeader × List Part → Result ReadFile DecodeError
+pages_with strict file = filed_each strict (by_pages file.1) >>= λ pages. Ok (record { strict = strict; pages = pages; globals = named_from strict (of_page 0 file.1) no_names })
 
-abbrev counted_with : Bool → FileHeader × List Part → Result Book DecodeError
+abbrev counted_with : Bool → FileHeader × List Part → Result ReadFile DecodeError
 counted_with strict file = refuse_if (strict && miscounts file.0.number_of_pages (length (by_pages file.1))) (Format PageCountMismatch) >>= λ counted. pages_with strict file
 
-abbrev book_with : Bool → FileHeader × List Part → Result Book DecodeError
+abbrev book_with : Bool → FileHeader × List Part → Result ReadFile DecodeError
 book_with strict file = associated strict file.1 >>= λ known. counted_with strict file
 
-record Filled (strict : Bool) (ps : List Part) (book : Book) : Type 0 where
+record Filled (strict : Bool) (ps : List Part) (book : ReadFile) : Type 0 where
   own : AllOwn ps book.pages
   strictly : book.strict ≡ strict
-  shared : book.globals ≡ named strict (of_page 0 ps) no_names
+  shared : book.globals ≡ named_from strict (of_page 0 ps) no_names
 
-filled : (strict : Bool) (file : FileHeader × List Part) (book : Book) → book_with strict file ≡ Ok book → Filled strict file.1 book
+filled : (strict : Bool) (file : FileHeader × List Part) (book : ReadFile) → book_with strict file ≡ Ok book → Filled strict file.1 book
 filled strict file book h =
     let known = answered (associated strict file.1) (λ known. counted_with strict file) book h in
     let counted = answered (refuse_if (strict && miscounts file.0.number_of_pages (length (by_pages file.1))) (Format PageCountMismatch)) (λ counted. pages_with strict file) book known.then in
-    let pages = answered (filed_each strict (by_pages file.1)) (λ pages. Ok (record { strict = strict; pages = pages; globals = named strict (of_page 0 file.1) no_names })) book counted.then in
-    let made : Book = record { strict = strict; pages = pages.first; globals = named strict (of_page 0 file.1) no_names } in
+    let pages = answered (filed_each strict (by_pages file.1)) (λ pages. Ok (record { strict = strict; pages = pages; globals = named_from strict (of_page 0 file.1) no_names })) book counted.then in
+    let made : ReadFile = record { strict = strict; pages = pages.first; globals = named_from strict (of_page 0 file.1) no_names } in
     let same : made ≡ book = let told = pages.then in cc in
     let own : AllOwn file.1 pages.first = own-each strict file.1 (numbers_after [] file.1) pages.first pages.was in
     let is : Filled strict file.1 made = record { own = own; strictly = refl; shared = refl } in
-    subst (λ (b : Book). Filled strict file.1 b) same is
+    subst (λ (b : ReadFile). Filled strict file.1 b) same is
 
 record Mapped {X Y : Type 0} (f : X → Y) (o : Option X) (y : Y) : Type 0 where
   from : X
@@ -151,13 +152,13 @@ mapped : {X Y : Type 0} (f : X → Y) (o : Option X) (y : Y) → option_map f o 
 mapped f None y h = absurd (cc)
 mapped f (Some x) y h = record { from = x; was = refl; is = cc }
 
-own-leaf : (strict : Bool) (ps : List Part) (book : Book) (page : Filed) → Filled strict ps book → IsOwn ps page → leaf_from strict (of_page page.sheet.number ps) (of_page 0 ps) ≡ Ok (leaf_of book page)
+own-leaf : (strict : Bool) (ps : List Part) (book : ReadFile) (page : PageInFile) → Filled strict ps book → IsOwn ps page → page_from strict (of_page page.sheet.number ps) (of_page 0 ps) ≡ Ok (page_in book page)
 own-leaf strict ps book page filled own =
-    let ending : Sheet → Result Leaf DecodeError = λ sheet. Ok (record { strict = strict; sheet = sheet; parts = of_page page.sheet.number ps; globals = named strict (of_page 0 ps) no_names }) in
-    let told : leaf_from strict (of_page page.sheet.number ps) (of_page 0 ps) ≡ ending page.sheet = ap (λ (r : Result Sheet DecodeError). r >>= ending) own.sheet in
+    let ending : Sheet → Result ReadPage DecodeError = λ sheet. Ok (record { strict = strict; sheet = sheet; parts = of_page page.sheet.number ps; globals = named_from strict (of_page 0 ps) no_names }) in
+    let told : page_from strict (of_page page.sheet.number ps) (of_page 0 ps) ≡ ending page.sheet = ap (λ (r : Result Sheet DecodeError). r >>= ending) own.sheet in
     told
-    ∙ ap (λ (b : Bool). Ok (record { strict = b; sheet = page.sheet; parts = of_page page.sheet.number ps; globals = named strict (of_page 0 ps) no_names })) (sym filled.strictly)
-    ∙ ap (λ (own_parts : List Part). Ok (record { strict = book.strict; sheet = page.sheet; parts = own_parts; globals = named strict (of_page 0 ps) no_names })) (sym own.parts)
+    ∙ ap (λ (b : Bool). Ok (record { strict = b; sheet = page.sheet; parts = of_page page.sheet.number ps; globals = named_from strict (of_page 0 ps) no_names })) (sym filled.strictly)
+    ∙ ap (λ (own_parts : List Part). Ok (record { strict = book.strict; sheet = page.sheet; parts = own_parts; globals = named_from strict (of_page 0 ps) no_names })) (sym own.parts)
     ∙ ap (λ (names : Result Names DecodeError). Ok (record { strict = book.strict; sheet = page.sheet; parts = page.parts; globals = names })) (sym filled.shared)
 
 pub pages_stand_alone : PagesStandAlone
@@ -165,33 +166,33 @@ unfolding book_at
 pages_stand_alone strict bytes file book index page read h at =
     let with_file : book_with strict file ≡ Ok book = sym (ap (λ (r : Result (FileHeader × List Part) DecodeError). r >>= book_with strict) read) ∙ h in
     let all = filled strict file book with_file in
-    let leaf = mapped (leaf_of book) (slice_get book.pages index) page at in
+    let leaf = mapped (page_in book) (slice_get book.pages index) page at in
     let own = own-at file.1 book.pages index leaf.from all.own leaf.was in
-    let Alone : Leaf → Type 0 = λ l. leaf_from strict (of_page l.sheet.number file.1) (of_page 0 file.1) ≡ Ok l in
+    let Alone : ReadPage → Type 0 = λ l. page_from strict (of_page l.sheet.number file.1) (of_page 0 file.1) ≡ Ok l in
     subst Alone leaf.is (own-leaf strict file.1 book leaf.from all own)
 
 -- the pages that are made, and those that follow them
-abbrev pub with_pages : List Filed → Result (List Filed) DecodeError → Result (List Filed) DecodeError
+abbrev pub with_pages : List PageInFile → Result (List PageInFile) DecodeError → Result (List PageInFile) DecodeError
 with_pages front r = r >>= λ pages. Ok (front ++ pages)
 
-pub pages-begin : (r : Result (List Filed) DecodeError) → with_pages [] r ≡ r
+pub pages-begin : (r : Result (List PageInFile) DecodeError) → with_pages [] r ≡ r
 pages-begin (Ok pages) = refl
 pages-begin (Err e) = refl
 
-pages-next : (front : List Filed) (page : Filed) (r : Result (List Filed) DecodeError) → with_pages (front ++ page ∷ []) r ≡ with_pages front (r >>= λ pages. Ok (page ∷ pages))
-pages-next front page (Ok pages) = ap (λ (all : List Filed). Ok all) (append_assoc front (page ∷ []) pages)
+pages-next : (front : List PageInFile) (page : PageInFile) (r : Result (List PageInFile) DecodeError) → with_pages (front ++ page ∷ []) r ≡ with_pages front (r >>= λ pages. Ok (page ∷ pages))
+pages-next front page (Ok pages) = ap (λ (all : List PageInFile). Ok all) (append_assoc front (page ∷ []) pages)
 pages-next front page (Err e) = refl
 
-pub page-made : (front next : List Filed) (strict : Bool) (own : List Part) (before others : List (List Part)) (meant : Result (List Filed) DecodeError) (page : Filed) → next ≡ front ++ page ∷ [] → before ≡ own ∷ others → with_pages front (filed_each strict before) ≡ meant → filed_from strict own ≡ Ok page → with_pages next (filed_each strict others) ≡ meant
+pub page-made : (front next : List PageInFile) (strict : Bool) (own : List Part) (before others : List (List Part)) (meant : Result (List PageInFile) DecodeError) (page : PageInFile) → next ≡ front ++ page ∷ [] → before ≡ own ∷ others → with_pages front (filed_each strict before) ≡ meant → filed_from strict own ≡ Ok page → with_pages next (filed_each strict others) ≡ meant
 page-made front next strict own before others meant page pushed is so_far made =
-    ap (λ (pages : List Filed). with_pages pages (filed_each strict others)) pushed
+    ap (λ (pages : List PageInFile). with_pages pages (filed_each strict others)) pushed
     ∙ pages-next front page (filed_each strict others)
-    ∙ ap (λ (r : Result Filed DecodeError). with_pages front (r >>= λ page. filed_each strict others >>= λ pages. Ok (page ∷ pages))) (sym made)
+    ∙ ap (λ (r : Result PageInFile DecodeError). with_pages front (r >>= λ page. filed_each strict others >>= λ pages. Ok (page ∷ pages))) (sym made)
     ∙ ap (λ (rest : List (List Part)). with_pages front (filed_each strict rest)) (sym is)
     ∙ so_far
 
-pub page-refused : (front : List Filed) (strict : Bool) (own : List Part) (before others : List (List Part)) (meant : Result (List Filed) DecodeError) (e : DecodeError) → before ≡ own ∷ others → with_pages front (filed_each strict before) ≡ meant → filed_from strict own ≡ Err e → meant ≡ Err e
+pub page-refused : (front : List PageInFile) (strict : Bool) (own : List Part) (before others : List (List Part)) (meant : Result (List PageInFile) DecodeError) (e : DecodeError) → before ≡ own ∷ others → with_pages front (filed_each strict before) ≡ meant → filed_from strict own ≡ Err e → meant ≡ Err e
 page-refused front strict own before others meant e is so_far refused =
     sym so_far
     ∙ ap (λ (rest : List (List Part)). with_pages front (filed_each strict rest)) is
-    ∙ ap (λ (r : Result Filed DecodeError). with_pages front (r >>= λ page. filed_each strict others >>= λ pages. Ok (page ∷ pages))) refused
+    ∙ ap (λ (r : Result PageInFile DecodeError). with_pages front (r >>= λ page. filed_each strict others >>= λ pages. Ok (page ∷ pages))) refused

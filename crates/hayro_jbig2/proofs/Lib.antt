@@ -3,6 +3,7 @@ pub mod ByPages
 pub mod Consuming
 mod Direct
 mod FileRows
+pub mod KeptLemmas
 mod PageArea
 pub mod Runs
 pub mod Sending

@@ -16,7 +16,7 @@ use Rattle.jbig2_region.specs.Generic.{PlacedRegion}
 use Rattle.jbig2_region.specs.Refinement.{is_far, offset, refined_grid, refined_decoded}
 use Rattle.jbig2_region.specs.RefinementHeader.{RefinementHeader}
 use Rattle.jbig2_region.specs.declared.region_info.RegionSegmentInfo.{RegionSegmentInfo}
-use Rattle.hayro_jbig2.specs.Page.{page_area}
+use Rattle.hayro_jbig2.specs.Regions.{page_area}
 use Rattle.hayro_jbig2.specs.inner.PageViews.{near_area}
 use Rattle.jbig2_base.proofs.GridLemmas.{grid_of-ext, pixel_at-grid_of}
 

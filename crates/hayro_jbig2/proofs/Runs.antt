@@ -1,13 +1,14 @@
 -- Runs of whole bytes of one colour, from the left.
 use Rattle.std.proofs.Common.{◌≡◌, ℕ, suc, zero, ◌+◌, ◌-◌, ◌*◌, ◌<◌, ◌≤◌, Bool, true, false, not, cond, List, [], ◌∷◌, ◌++◌, length, take, drop, refl, sym, ◌∙◌, ap, arith}
 use Rattle.std.proofs.Common.{subst, map, nat_eq, ⊎_elim, ◌/◌, ◌^◌, if◌then◌else◌}
-use Rattle.std.proofs.lemmas.Bool.{cond_both, cond-true, cond-false, and_from, and_parts, cases_Bool, eq-eqb, ne_eqb, false≢true}
-use Rattle.std.proofs.lemmas.List.{take_all, length-take-le, length-drop, drop-drop, drop-map}
+use Rattle.std.proofs.lemmas.Bool.{cond_both, cond-true, cond-false, and_from, and_parts, cases_Bool, cases_lt, eq-eqb, ne_eqb, false≢true}
+use Rattle.std.proofs.lemmas.List.{append_assoc, take_all, length-take-le, length-drop, drop-drop, drop-map}
 use Rattle.std.proofs.lemmas.List.FromFn.{take-map-range_with_len, length-map-range_with_len}
 use Rattle.std.proofs.lemmas.Nat.Bits.{same_from_bits_below}
 use Rattle.std.specs.List.{range_with_len, flat_map}
 use Rattle.jbig2_base.specs.Grid.{Grid, pixel_at, bit_number, same_colour}
 use Rattle.jbig2_base.specs.inner.WordBits.{bit}
+use Rattle.jbig2_mmr.specs.inner.T6Reading.{IsFirst}
 use Rattle.jbig2_base.proofs.BitLemmas.{bit-ones, bit-zero, bit_number-bit}
 use Rattle.hayro_jbig2.specs.Calls.{Call, Pixel, Chunk, Line, is_all, singles, with_whole, with_byte, whole_calls, run_of, row_of, row_calls, line_calls, calls_of}
 
@@ -189,31 +190,88 @@ byte-test black f a v low bits =
     ∙ sym not_all)
     (cases_Bool (is_all black (map f (range_with_len a 8))))
 
--- one byte more of a run
-pub run_of-more : (most count x : ℕ) (black : Bool) (row : List Bool) → count < most → is_all black (take 8 (drop (x + 8 * count) row)) ≡ true → run_of (most - (count + 1)) black (drop (x + 8 * (count + 1)) row) + (count + 1) ≡ run_of (most - count) black (drop (x + 8 * count) row) + count
-run_of-more most count x black row h all =
-    let left : most - count ≡ suc (most - (count + 1)) = omega arith in
-    let place : x + 8 * count + 8 ≡ x + 8 * (count + 1) = omega arith in
-    let rest : ℕ = run_of (most - (count + 1)) black (drop (x + 8 * (count + 1)) row) in
-    let on : run_of (most - count) black (drop (x + 8 * count) row) ≡ suc rest =
-    ap (λ (n : ℕ). run_of n black (drop (x + 8 * count) row)) left
-    ∙ cond-true (is_all black (take 8 (drop (x + 8 * count) row))) (suc (run_of (most - (count + 1)) black (drop 8 (drop (x + 8 * count) row)))) 0 all
-    ∙ ap (λ (bs : List Bool). suc (run_of (most - (count + 1)) black bs)) (drop-drop 8 (x + 8 * count) row ∙ ap (λ (n : ℕ). drop n row) place) in
+-- a byte of one colour, and one that is not all of it
+pub byte-is : (black : Bool) (f : ℕ → Bool) (a v : ℕ) → v < 2 ^ 8 → ((k : ℕ) → k < 8 → bit v (8 - 1 - k) ≡ f (a + k)) → v ≡ byte_of black → is_all black (map f (range_with_len a 8)) ≡ true
+byte-is black f a v low bits e = sym (byte-test black f a v low bits) ∙ eq-eqb v (byte_of black) e
+
+pub byte-is_not : (black : Bool) (f : ℕ → Bool) (a v : ℕ) → v < 2 ^ 8 → ((k : ℕ) → k < 8 → bit v (8 - 1 - k) ≡ f (a + k)) → (v ≡ byte_of black → ⊥) → is_all black (map f (range_with_len a 8)) ≡ false
+byte-is_not black f a v low bits differs = sym (byte-test black f a v low bits) ∙ ne_eqb v (byte_of black) differs
+
+-- a first byte that ends the run, and one that begins it
+pub run_of-none : (n : ℕ) (black : Bool) (bits : List Bool) → is_all black (take 8 bits) ≡ false → run_of n black bits ≡ 0
+run_of-none zero black bits h = refl
+run_of-none (suc n) black bits h = cond-false (is_all black (take 8 bits)) (suc (run_of n black (drop 8 bits))) 0 h
+
+pub run_of-some : (n : ℕ) (black : Bool) (bits : List Bool) → 1 ≤ n → is_all black (take 8 bits) ≡ true → 0 < run_of n black bits
+run_of-some zero black bits some h = absurd (omega arith)
+run_of-some (suc n) black bits some h =
+    let e : run_of (suc n) black bits ≡ suc (run_of n black (drop 8 bits)) = cond-true (is_all black (take 8 bits)) (suc (run_of n black (drop 8 bits))) 0 h in
     omega arith
 
-pixel-test : (b : Bool) (r : ℕ) → r ≡ bit_number b → nat_eq r 1 ≡ b
-pixel-test true r e = eq-eqb r 1 e
-pixel-test false r e = ne_eqb r 1 (λ one. absurd (omega arith))
+differ : (b : Bool) → b ≡ not b → ⊥
+differ true e = false≢true (sym e)
+differ false e = false≢true e
+
+twice : (b : Bool) → not (not b) ≡ b
+twice true = refl
+twice false = refl
+
+-- As far as a colour goes, its whole bytes go.
+run-found : (n x len place : ℕ) (black : Bool) (f : ℕ → Bool) → 8 * n ≤ len → len < 8 * n + 8 → x ≤ place → place ≤ x + len → ((k : ℕ) → x ≤ k → k < place → f k ≡ black) → (place < x + len → f place ≡ not black) → run_of n black (map f (range_with_len x len)) ≡ (place - x) / 8
+run-found zero x len place black f many few after within before found = omega arith
+run-found (suc n) x len place black f many few after within before found =
+    let bits : List Bool = map f (range_with_len x len) in
+    let behind : List Bool = map f (range_with_len (x + 8) (len - 8)) in
+    let first : take 8 bits ≡ map f (range_with_len x 8) = take-map-range_with_len f x len 8 (omega arith) in
+    let rest : drop 8 bits ≡ behind = drop-map f 8 (range_with_len x len) ∙ ap (λ (ns : List ℕ). map f ns) (drop-range 8 x len (omega arith)) in
+    ap (λ (bs : List Bool). cond (is_all black bs) (suc (run_of n black (drop 8 bits))) 0) first
+    ∙ ap (λ (bs : List Bool). cond (is_all black (map f (range_with_len x 8))) (suc (run_of n black bs)) 0) rest
+    ∙ ⊎_elim
+    (λ (cut : place < x + 8).
+    let other : f (x + (place - x)) ≡ not black = ap f (let e : x + (place - x) ≡ place = omega arith in e) ∙ found (omega arith) in
+    let mixed : is_all black (map f (range_with_len x 8)) ≡ false =
+    ⊎_elim
+    (λ (all : is_all black (map f (range_with_len x 8)) ≡ true). absurd (differ black (sym (all-to black f x 8 all (place - x) (omega arith)) ∙ other)))
+    (λ (none : is_all black (map f (range_with_len x 8)) ≡ false). none)
+    (cases_Bool (is_all black (map f (range_with_len x 8)))) in
+    let short : 0 ≡ (place - x) / 8 = omega arith in
+    cond-false (is_all black (map f (range_with_len x 8))) (suc (run_of n black behind)) 0 mixed ∙ short)
+    (λ (whole : x + 8 ≤ place).
+    let all : is_all black (map f (range_with_len x 8)) ≡ true = all-from black f x 8 (λ k h. before (x + k) (omega arith) (omega arith)) in
+    let more : suc ((place - (x + 8)) / 8) ≡ (place - x) / 8 = omega arith in
+    cond-true (is_all black (map f (range_with_len x 8))) (suc (run_of n black behind)) 0 all
+    ∙ ap (λ (m : ℕ). suc m) (run-found n (x + 8) (len - 8) place black f (omega arith) (omega arith) whole (omega arith) (λ k from to. before k (omega arith) to) (λ inside. found (omega arith)))
+    ∙ more)
+    (cases_lt place (x + 8))
+
+pub run-to : (g : Grid) (x y place : ℕ) (black : Bool) → x ≤ g.width → IsFirst (λ i. pixel_at g i y) (not black) x g.width place → (place - x) / 8 ≡ run_of ((g.width - x) / 8) black (drop x (row_of g y))
+run-to g x y place black inside first =
+    sym
+    (ap (λ (bs : List Bool). run_of ((g.width - x) / 8) black bs) (row-from g x y inside)
+    ∙ run-found ((g.width - x) / 8) x (g.width - x) place black (λ i. pixel_at g i y) (omega arith) (omega arith) first.after (omega (arith, first.within))
+    (λ k from to. first.before k from to ∙ twice black)
+    (λ within. first.found (omega arith)))
+
+-- one of the pixels that were loaded together
+pub loaded-pixel : (g : Grid) (x y count column pixels : ℕ) → x ≤ column → column < x + count → ((k : ℕ) → k < count → bit pixels (count - 1 - k) ≡ pixel_at g (x + k) y) → bit pixels (x + (count - 1) - column) ≡ pixel_at g column y
+loaded-pixel g x y count column pixels from to bits =
+    let place : x + (count - 1) - column ≡ count - 1 - (column - x) = omega arith in
+    let on : x + (column - x) ≡ column = omega arith in
+    ap (λ (k : ℕ). bit pixels k) place ∙ bits (column - x) (omega arith) ∙ ap (λ (k : ℕ). pixel_at g k y) on
+
+pub bit-test : (b : Bool) (r : ℕ) → r ≡ bit_number b → nat_eq r 1 ≡ b
+bit-test true r e = eq-eqb r 1 e
+bit-test false r e = ne_eqb r 1 (λ one. absurd (omega arith))
 
 -- the first of some single pixels
-pub singles-first : (g : Grid) (x end y r : ℕ) → x < end → end ≤ g.width → r ≡ bit_number (pixel_at g x y) → singles (take (end - x) (drop x (row_of g y))) ≡ Pixel (nat_eq r 1) ∷ singles (take (end - (x + 1)) (drop (x + 1) (row_of g y)))
-singles-first g x end y r inside within value =
+pub singles-first : (g : Grid) (x end y : ℕ) (black : Bool) → x < end → end ≤ g.width → black ≡ pixel_at g x y → singles (take (end - x) (drop x (row_of g y))) ≡ Pixel black ∷ singles (take (end - (x + 1)) (drop (x + 1) (row_of g y)))
+singles-first g x end y black inside within is =
     let count : end - x ≡ suc (end - (x + 1)) = omega arith in
     let others : List Call = singles (map (λ i. pixel_at g i y) (range_with_len (x + 1) (end - (x + 1)))) in
     ap (λ (bs : List Bool). singles bs) (row-part g x y (end - x) (omega arith))
     ∙ ap (λ (n : ℕ). singles (map (λ i. pixel_at g i y) (range_with_len x n))) count
-    ∙ ap (λ (b : Bool). Pixel b ∷ others) (sym (pixel-test (pixel_at g x y) r value))
-    ∙ ap (λ (bs : List Bool). Pixel (nat_eq r 1) ∷ singles bs) (sym (row-part g (x + 1) y (end - (x + 1)) (omega arith)))
+    ∙ ap (λ (b : Bool). Pixel b ∷ others) (sym is)
+    ∙ ap (λ (bs : List Bool). Pixel black ∷ singles bs) (sym (row-part g (x + 1) y (end - (x + 1)) (omega arith)))
 
 -- a row from its beginning
 pub line-start : (g : Grid) (y : ℕ) → row_calls (row_of g y) ≡ whole_calls ((g.width - 0) / 8) (row_of g y)
@@ -248,6 +306,29 @@ rest-last width x row len few =
     let none : (width - x) / 8 ≡ 0 = omega arith in
     ap (λ (n : ℕ). whole_calls n (drop x row)) none
     ∙ ap (λ (bs : List Bool). singles bs) (sym (take_all (width - x) (drop x row) (omega (arith, length-drop x row))))
+
+-- The calls of a row from a column on, its end with them.
+abbrev pub left_calls : Grid → ℕ → ℕ → List Call
+left_calls g y x = whole_calls ((g.width - x) / 8) (drop x (row_of g y)) ++ Line ∷ []
+
+pub left-start : (g : Grid) (y : ℕ) → line_calls g y ≡ left_calls g y 0
+left-start g y = ap (λ (cs : List Call). cs ++ Line ∷ []) (line-start g y)
+
+pub left-run : (g : Grid) (y x k : ℕ) (black : Bool) → x ≤ g.width → run_of ((g.width - x) / 8) black (drop x (row_of g y)) ≡ k → 0 < k → left_calls g y x ≡ (Chunk black k ∷ []) ++ left_calls g y (x + 8 * k)
+left-run g y x k black within e some =
+    ap (λ (cs : List Call). cs ++ Line ∷ []) (run-first g.width x k black (row_of g y) (length-row g y) within e some)
+
+pub left-byte : (g : Grid) (y x : ℕ) → x + 8 ≤ g.width → run_of ((g.width - x) / 8) true (drop x (row_of g y)) ≡ 0 → run_of ((g.width - x) / 8) false (drop x (row_of g y)) ≡ 0 → left_calls g y x ≡ singles (take (x + 8 - x) (drop x (row_of g y))) ++ left_calls g y (x + 8)
+left-byte g y x room black white =
+    let row = row_of g y in
+    ap (λ (cs : List Call). cs ++ Line ∷ []) (byte-first g.width x row room black white)
+    ∙ append_assoc (singles (take (x + 8 - x) (drop x row))) (whole_calls ((g.width - (x + 8)) / 8) (drop (x + 8) row)) (Line ∷ [])
+
+pub left-last : (g : Grid) (y x width : ℕ) → width ≡ g.width → width - x < 8 → left_calls g y x ≡ singles (take (width - x) (drop x (row_of g y))) ++ Line ∷ []
+left-last g y x width is few =
+    let row = row_of g y in
+    ap (λ (cs : List Call). cs ++ Line ∷ []) (rest-last g.width x row (length-row g y) (omega arith))
+    ∙ ap (λ (w : ℕ). singles (take (w - x) (drop x row)) ++ Line ∷ []) (sym is)
 
 -- one row more
 pub lines-first : (g : Grid) (y : ℕ) → y < g.height → flat_map (line_calls g) (range_with_len y (g.height - y)) ≡ line_calls g y ++ flat_map (line_calls g) (range_with_len (y + 1) (g.height - (y + 1)))

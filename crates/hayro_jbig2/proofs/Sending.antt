@@ -50,3 +50,14 @@ half_stops step all cs rest p n q m s k h stopped = record {
 -- one call, taken or refused
 pub one_stops : {P : Type 0} (step : P → Call → P) (call : Call) (p : P) (n : ℕ) (q : P) (m : ℕ) → (q ≡ p) × (m ≡ n + 1) → Stopped step (call ∷ []) p n q m
 one_stops step call p n q m refused = record { made = []; refused = call; others = []; split = refl; picture = refused.0; counted = refused.1 }
+
+-- The same where the rest is written in another way.
+pub goes_on : {P : Type 0} {step : P → Call → P} {all rest others : List Call} {p : P} {n : ℕ} {q : P} {m : ℕ} {s : P} {k : ℕ} (cs : List Call)
+    → rest ≡ cs ++ others → Half step all rest p n q m → (s ≡ after_calls step q cs) × (k ≡ m) → Half step all others p n s k
+goes_on {P} {step} {all} {rest} {others} {p} {n} {q} {m} {s} {k} cs is h sent =
+    half_more step all cs others p n q m s k (half_as step all rest (cs ++ others) p n q m is h) sent
+
+pub stops_at : {P : Type 0} {step : P → Call → P} {all rest cs : List Call} {p : P} {n : ℕ} {q : P} {m : ℕ} {s : P} {k : ℕ} (others : List Call)
+    → rest ≡ cs ++ others → Half step all rest p n q m → Stopped step cs q m s k → Stopped step all p n s k
+stops_at {P} {step} {all} {rest} {cs} {p} {n} {q} {m} {s} {k} others is h stopped =
+    half_stops step all cs others p n q m s k (half_as step all rest (cs ++ others) p n q m is h) stopped

@@ -27,9 +27,10 @@ use Rattle.jbig2_text.specs.Text.{strip_delta, strip_begun, moved, instance_symb
 use Rattle.jbig2_text.specs.TextHeader.{text_fields_at, text_flags_at, text_header_at}
 use Rattle.jbig2_text.specs.TextRegion.{region_from, text_tables, text_answer, text_decoded}
 use Rattle.hayro_jbig2.specs.Calls.{Call, Pixel, Line, singles, whole_calls, row_of, calls_of}
-use Rattle.hayro_jbig2.specs.Globals.{globals_at, with_symbols_name}
-use Rattle.hayro_jbig2.specs.Page.{embedded, grid_of_page, with_symbols, immediate_text}
-use Rattle.hayro_jbig2.specs.SymbolNames.{symbols_at, text_at}
+use Rattle.hayro_jbig2.specs.Dictionaries.{symbol_dictionary_at, with_symbols}
+use Rattle.hayro_jbig2.specs.Globals.{globals_at}
+use Rattle.hayro_jbig2.specs.Page.{embedded, grid_of_page, immediate}
+use Rattle.hayro_jbig2.specs.Regions.{text_at}
 use Rattle.hayro_jbig2.proofs.WorkedRows.{calls_at, page, one, eight, white}
 
 -- a dictionary of one symbol, 1 by 1: its segment's first bytes, the flags, and the symbol's row
@@ -48,36 +49,36 @@ abbrev dot : List Call
 dot = Pixel true ∷ (singles (replicate 7 false) ++ Line ∷ [])
 
 row_11 : calls_at true (page 0 eight one 0 ++ dictionary 1 0x80 ++ text 1) ≡ Ok dot
-unfolding calls_at embedded segments_in segment_at header_at referred_at count_at type_of sheet_of information_at grid_of_page table pixel_at calls_of row_of whole_calls with_symbols symbols_at symbol_header_at symbol_flags_of dictionary_at first_contexts symbol_tables table_for classes_from height_class number_by collective_class widths_from drawn_class symbols_from symbol_bitmap next_width collective_bitmap raw_rows bit symbols_cut symbol_cut exports runs_from next_run exported_from ended_runs lines_a lines_b lines_d immediate_text text_at text_header_at region_info_at text_flags_at symbol_codes_from short_lengths runs_at text_decoded text_answer text_tables text_region text_instances after_instances with_instance placed instance_symbol moved strip_begun strip_delta lines_f lines_h lines_k drawn_pixel prefix_code is_crowded weight shorter read_code least decoded bits_left bits_on runcodes_at symbol_lengths_at text_fields_at region_from
+unfolding calls_at embedded segments_in segment_at header_at referred_at count_at type_of sheet_of information_at grid_of_page table pixel_at calls_of row_of whole_calls with_symbols symbol_dictionary_at symbol_header_at symbol_flags_of dictionary_at first_contexts symbol_tables table_for classes_from height_class number_by collective_class widths_from drawn_class symbol_bitmap symbols_from next_width collective_bitmap raw_rows bit symbols_cut symbol_cut exports runs_from next_run exported_from ended_runs lines_a lines_b lines_d immediate text_at text_header_at region_info_at text_fields_at text_flags_at symbol_codes_from runcodes_at symbol_lengths_at short_lengths runs_at text_decoded text_answer region_from text_tables text_region text_instances after_instances with_instance placed instance_symbol moved strip_begun strip_delta lines_f lines_h lines_k drawn_pixel prefix_code is_crowded weight shorter read_code least decoded bits_left bits_on
 row_11 = refl
 
 row_12-strict : calls_at true (page 0 eight one 0 ++ dictionary 1 0x80 ++ text 2) ≡ Err (Parse UnexpectedEof)
-unfolding calls_at embedded segments_in segment_at header_at referred_at count_at type_of sheet_of information_at grid_of_page table pixel_at calls_of row_of whole_calls with_symbols symbols_at symbol_header_at symbol_flags_of dictionary_at first_contexts symbol_tables table_for classes_from height_class number_by collective_class widths_from drawn_class symbols_from symbol_bitmap next_width collective_bitmap raw_rows bit symbols_cut symbol_cut exports runs_from next_run exported_from ended_runs lines_a lines_b lines_d immediate_text text_at text_header_at region_info_at text_flags_at symbol_codes_from short_lengths runs_at text_decoded text_answer text_tables text_region text_instances after_instances with_instance placed instance_symbol moved strip_begun strip_delta lines_f lines_h lines_k drawn_pixel prefix_code is_crowded weight shorter read_code least decoded bits_left bits_on runcodes_at symbol_lengths_at text_fields_at region_from
+unfolding calls_at embedded segments_in segment_at header_at referred_at count_at type_of sheet_of information_at grid_of_page table pixel_at calls_of row_of whole_calls with_symbols symbol_dictionary_at symbol_header_at symbol_flags_of dictionary_at first_contexts symbol_tables table_for classes_from height_class number_by collective_class widths_from drawn_class symbol_bitmap symbols_from next_width collective_bitmap raw_rows bit symbols_cut symbol_cut exports runs_from next_run exported_from ended_runs lines_a lines_b lines_d immediate text_at text_header_at region_info_at text_fields_at text_flags_at symbol_codes_from runcodes_at symbol_lengths_at short_lengths runs_at text_decoded text_answer region_from text_tables text_region text_instances after_instances with_instance placed instance_symbol moved strip_begun strip_delta lines_f lines_h lines_k drawn_pixel prefix_code is_crowded weight shorter read_code least decoded bits_left bits_on
 row_12-strict = refl
 
 row_12-lenient : calls_at false (page 0 eight one 0 ++ dictionary 1 0x80 ++ text 2) ≡ Ok white
-unfolding calls_at embedded segments_in segment_at header_at referred_at count_at type_of sheet_of information_at grid_of_page table pixel_at calls_of row_of whole_calls with_symbols symbols_at symbol_header_at symbol_flags_of dictionary_at first_contexts symbol_tables table_for classes_from height_class number_by collective_class widths_from drawn_class symbols_from symbol_bitmap next_width collective_bitmap raw_rows bit symbols_cut symbol_cut exports runs_from next_run exported_from ended_runs lines_a lines_b lines_d immediate_text text_at text_header_at region_info_at text_flags_at symbol_codes_from short_lengths runs_at text_decoded text_answer text_tables text_region text_instances after_instances with_instance placed instance_symbol moved strip_begun strip_delta lines_f lines_h lines_k drawn_pixel prefix_code is_crowded weight shorter read_code least decoded bits_left bits_on runcodes_at symbol_lengths_at text_fields_at region_from
+unfolding calls_at embedded segments_in segment_at header_at referred_at count_at type_of sheet_of information_at grid_of_page table pixel_at calls_of row_of whole_calls with_symbols symbol_dictionary_at symbol_header_at symbol_flags_of dictionary_at first_contexts symbol_tables table_for classes_from height_class number_by collective_class widths_from drawn_class symbol_bitmap symbols_from next_width collective_bitmap raw_rows bit symbols_cut symbol_cut exports runs_from next_run exported_from ended_runs lines_a lines_b lines_d immediate text_at text_header_at region_info_at text_fields_at text_flags_at symbol_codes_from runcodes_at symbol_lengths_at short_lengths runs_at text_decoded text_answer region_from text_tables text_region text_instances after_instances with_instance placed instance_symbol moved strip_begun strip_delta lines_f lines_h lines_k drawn_pixel prefix_code is_crowded weight shorter read_code least decoded bits_left bits_on
 row_12-lenient = refl
 
 -- the first of two dictionaries of one number
 row_R13_3 : calls_at true (page 0 eight one 0 ++ dictionary 1 0x80 ++ dictionary 1 0 ++ text 1) ≡ Ok dot
-unfolding calls_at embedded segments_in segment_at header_at referred_at count_at type_of sheet_of information_at grid_of_page table pixel_at calls_of row_of whole_calls with_symbols symbols_at symbol_header_at symbol_flags_of dictionary_at first_contexts symbol_tables table_for classes_from height_class number_by collective_class widths_from drawn_class symbols_from symbol_bitmap next_width collective_bitmap raw_rows bit symbols_cut symbol_cut exports runs_from next_run exported_from ended_runs lines_a lines_b lines_d immediate_text text_at text_header_at region_info_at text_flags_at symbol_codes_from short_lengths runs_at text_decoded text_answer text_tables text_region text_instances after_instances with_instance placed instance_symbol moved strip_begun strip_delta lines_f lines_h lines_k drawn_pixel prefix_code is_crowded weight shorter read_code least decoded bits_left bits_on runcodes_at symbol_lengths_at text_fields_at region_from
+unfolding calls_at embedded segments_in segment_at header_at referred_at count_at type_of sheet_of information_at grid_of_page table pixel_at calls_of row_of whole_calls with_symbols symbol_dictionary_at symbol_header_at symbol_flags_of dictionary_at first_contexts symbol_tables table_for classes_from height_class number_by collective_class widths_from drawn_class symbol_bitmap symbols_from next_width collective_bitmap raw_rows bit symbols_cut symbol_cut exports runs_from next_run exported_from ended_runs lines_a lines_b lines_d immediate text_at text_header_at region_info_at text_fields_at text_flags_at symbol_codes_from runcodes_at symbol_lengths_at short_lengths runs_at text_decoded text_answer region_from text_tables text_region text_instances after_instances with_instance placed instance_symbol moved strip_begun strip_delta lines_f lines_h lines_k drawn_pixel prefix_code is_crowded weight shorter read_code least decoded bits_left bits_on
 row_R13_3 = refl
 
 -- a dictionary's error is never passed over
 row_R8_1-lenient : calls_at false (page 0 eight one 0 ++ dictionary 9 0x80) ≡ Err (Huffman InvalidSelection)
-unfolding calls_at embedded segments_in segment_at header_at referred_at count_at type_of sheet_of information_at grid_of_page table pixel_at calls_of row_of whole_calls with_symbols symbols_at symbol_header_at symbol_flags_of dictionary_at first_contexts symbol_tables table_for classes_from height_class number_by collective_class widths_from drawn_class symbols_from symbol_bitmap next_width collective_bitmap raw_rows bit symbols_cut symbol_cut exports runs_from next_run exported_from ended_runs lines_a lines_b lines_d prefix_code is_crowded weight shorter read_code least decoded bits_left bits_on
+unfolding calls_at embedded segments_in segment_at header_at referred_at count_at type_of sheet_of information_at grid_of_page table pixel_at calls_of row_of whole_calls with_symbols symbol_dictionary_at symbol_header_at symbol_flags_of dictionary_at first_contexts symbol_tables table_for classes_from height_class number_by collective_class widths_from drawn_class symbol_bitmap symbols_from next_width collective_bitmap raw_rows bit symbols_cut symbol_cut exports runs_from next_run exported_from ended_runs lines_a lines_b lines_d prefix_code is_crowded weight shorter read_code least decoded bits_left bits_on
 row_R8_1-lenient = refl
 
 -- a number that names nothing
 unnamed-strict : calls_at true (page 0 eight one 0 ++ text 1) ≡ Err (Segment InvalidReference)
-unfolding calls_at embedded segments_in segment_at header_at referred_at count_at type_of sheet_of information_at grid_of_page table pixel_at calls_of row_of whole_calls immediate_text text_at text_header_at region_info_at text_fields_at text_flags_at symbol_codes_from runcodes_at symbol_lengths_at short_lengths runs_at text_decoded text_answer region_from text_tables text_region text_instances after_instances with_instance placed instance_symbol moved strip_begun strip_delta lines_f lines_h lines_k drawn_pixel prefix_code is_crowded weight shorter read_code least decoded bits_left bits_on
+unfolding calls_at embedded segments_in segment_at header_at referred_at count_at type_of sheet_of information_at grid_of_page table pixel_at calls_of row_of whole_calls immediate text_at text_header_at region_info_at text_fields_at text_flags_at symbol_codes_from runcodes_at symbol_lengths_at short_lengths runs_at text_decoded text_answer region_from text_tables text_region text_instances after_instances with_instance placed instance_symbol moved strip_begun strip_delta lines_f lines_h lines_k drawn_pixel prefix_code is_crowded weight shorter read_code least decoded bits_left bits_on
 unnamed-strict = refl
 
 row_R9_2 : calls_with true (dictionary 1 0x80) (page 0 eight one 0 ++ text 1) ≡ Ok dot
-unfolding calls_with globals_at with_symbols_name embedded segments_in segment_at header_at referred_at count_at type_of sheet_of information_at grid_of_page table pixel_at calls_of row_of whole_calls with_symbols symbols_at symbol_header_at symbol_flags_of dictionary_at first_contexts symbol_tables table_for classes_from height_class number_by collective_class widths_from drawn_class symbols_from symbol_bitmap next_width collective_bitmap raw_rows bit symbols_cut symbol_cut exports runs_from next_run exported_from ended_runs lines_a lines_b lines_d immediate_text text_at text_header_at region_info_at text_flags_at symbol_codes_from short_lengths runs_at text_decoded text_answer text_tables text_region text_instances after_instances with_instance placed instance_symbol moved strip_begun strip_delta lines_f lines_h lines_k drawn_pixel prefix_code is_crowded weight shorter read_code least decoded bits_left bits_on runcodes_at symbol_lengths_at text_fields_at region_from
+unfolding calls_with globals_at embedded segments_in segment_at header_at referred_at count_at type_of sheet_of information_at grid_of_page table pixel_at calls_of row_of whole_calls with_symbols symbol_dictionary_at symbol_header_at symbol_flags_of dictionary_at first_contexts symbol_tables table_for classes_from height_class number_by collective_class widths_from drawn_class symbol_bitmap symbols_from next_width collective_bitmap raw_rows bit symbols_cut symbol_cut exports runs_from next_run exported_from ended_runs lines_a lines_b lines_d immediate text_at text_header_at region_info_at text_fields_at text_flags_at symbol_codes_from runcodes_at symbol_lengths_at short_lengths runs_at text_decoded text_answer region_from text_tables text_region text_instances after_instances with_instance placed instance_symbol moved strip_begun strip_delta lines_f lines_h lines_k drawn_pixel prefix_code is_crowded weight shorter read_code least decoded bits_left bits_on
 row_R9_2 = refl
 
 row_R9_2-own : calls_with true (dictionary 1 0) (page 0 eight one 0 ++ dictionary 1 0x80 ++ text 1) ≡ Ok dot
-unfolding calls_with globals_at with_symbols_name embedded segments_in segment_at header_at referred_at count_at type_of sheet_of information_at grid_of_page table pixel_at calls_of row_of whole_calls with_symbols symbols_at symbol_header_at symbol_flags_of dictionary_at first_contexts symbol_tables table_for classes_from height_class number_by collective_class widths_from drawn_class symbols_from symbol_bitmap next_width collective_bitmap raw_rows bit symbols_cut symbol_cut exports runs_from next_run exported_from ended_runs lines_a lines_b lines_d immediate_text text_at text_header_at region_info_at text_flags_at symbol_codes_from short_lengths runs_at text_decoded text_answer text_tables text_region text_instances after_instances with_instance placed instance_symbol moved strip_begun strip_delta lines_f lines_h lines_k drawn_pixel prefix_code is_crowded weight shorter read_code least decoded bits_left bits_on runcodes_at symbol_lengths_at text_fields_at region_from
+unfolding calls_with globals_at embedded segments_in segment_at header_at referred_at count_at type_of sheet_of information_at grid_of_page table pixel_at calls_of row_of whole_calls with_symbols symbol_dictionary_at symbol_header_at symbol_flags_of dictionary_at first_contexts symbol_tables table_for classes_from height_class number_by collective_class widths_from drawn_class symbol_bitmap symbols_from next_width collective_bitmap raw_rows bit symbols_cut symbol_cut exports runs_from next_run exported_from ended_runs lines_a lines_b lines_d immediate text_at text_header_at region_info_at text_fields_at text_flags_at symbol_codes_from runcodes_at symbol_lengths_at short_lengths runs_at text_decoded text_answer region_from text_tables text_region text_instances after_instances with_instance placed instance_symbol moved strip_begun strip_delta lines_f lines_h lines_k drawn_pixel prefix_code is_crowded weight shorter read_code least decoded bits_left bits_on
 row_R9_2-own = refl

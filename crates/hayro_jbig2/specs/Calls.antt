@@ -63,6 +63,11 @@ abbrev pub run_of : ℕ → Bool → List Bool → ℕ
 run_of zero black bits = 0
 run_of (suc n) black bits = if is_all black (take 8 bits) then suc (run_of n black (drop 8 bits)) else 0
 
+-- The colour of all these pixels, if they have one.
+abbrev pub IsColourOf : List Bool → Option Bool → Type 0
+IsColourOf bits None = (is_all true bits ≡ false) × (is_all false bits ≡ false)
+IsColourOf bits (Some black) = is_all black bits ≡ true
+
 -- Either no byte of one colour begins the pixels, or a run of whole bytes of a colour does.
 abbrev pub IsRunAt : ℕ → List Bool → Option (Bool × ℕ) → Type 0
 IsRunAt n bits None = (run_of n true bits ≡ 0) × (run_of n false bits ≡ 0)

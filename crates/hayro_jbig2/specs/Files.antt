@@ -13,18 +13,19 @@ use Rattle.jbig2_base.specs.declared.file_header.FileHeader.{FileHeader}
 use Rattle.jbig2_base.specs.declared.page_info.Sheet.{Sheet}
 use Rattle.jbig2_base.specs.declared.segment.SegmentType.{SegmentType}
 use Rattle.jbig2_base.specs.declared.segment.SegmentType.TheVariants as types
-use Rattle.hayro_jbig2.specs.Globals.{named}
-use Rattle.hayro_jbig2.specs.Page.{Names, no_names, Leaf}
+use Rattle.hayro_jbig2.specs.Globals.{named_from}
+use Rattle.hayro_jbig2.specs.Names.{Names, no_names}
+use Rattle.hayro_jbig2.specs.Page.{ReadPage}
 
 -- A page in a file: what it begins as, and its segments in order.
-pub record Filed : Type 0 where
+pub record PageInFile : Type 0 where
   pub sheet : Sheet
   pub parts : List Part
 
 -- A file: whether it is read strictly, its pages, and the names of its globals or the error that decoding them gave.
-pub record Book : Type 0 where
+pub record ReadFile : Type 0 where
   pub strict : Bool
-  pub pages : List Filed
+  pub pages : List PageInFile
   pub globals : Result Names DecodeError
 
 -- What can't stand outside of a page: regions, page information, and the ends of pages and stripes (7.3.2).
@@ -75,14 +76,14 @@ ends_of [] = 0
 ends_of (p ∷ ps) = (if is_end_of_page p.header.segment_type then 1 else 0) + ends_of ps
 
 -- The page that these segments make: strict reading wants one end of page (7.4.9).
-unfoldable pub filed_from : Bool → List Part → Result Filed DecodeError
+unfoldable pub filed_from : Bool → List Part → Result PageInFile DecodeError
 filed_from strict own = do
   ended ← refuse_if (strict && not (ends_of own == 1)) (Format InvalidEndOfPage)
   sheet ← sheet_of own
   Ok (record { sheet = sheet; parts = own })
 
 -- the pages that these lists of segments make
-abbrev pub filed_each : Bool → List (List Part) → Result (List Filed) DecodeError
+abbrev pub filed_each : Bool → List (List Part) → Result (List PageInFile) DecodeError
 filed_each strict [] = Ok []
 filed_each strict (own ∷ others) = do
   page ← filed_from strict own
@@ -95,32 +96,32 @@ miscounts None n = false
 miscounts (Some told) n = not (told == n)
 
 -- A file's pages, and the names of the segments of no page.
-unfoldable pub book_at : Bool → List ℕ → Result Book DecodeError
+unfoldable pub book_at : Bool → List ℕ → Result ReadFile DecodeError
 book_at strict bytes = do
   file ← file_at strict bytes
   known ← associated strict file.1
   counted ← refuse_if (strict && miscounts file.0.number_of_pages (length (by_pages file.1))) (Format PageCountMismatch)
   pages ← filed_each strict (by_pages file.1)
-  Ok (record { strict = strict; pages = pages; globals = named strict (of_page 0 file.1) no_names })
+  Ok (record { strict = strict; pages = pages; globals = named_from strict (of_page 0 file.1) no_names })
 
-abbrev pub leaf_of : Book → Filed → Leaf
-leaf_of book page = record { strict = book.strict; sheet = page.sheet; parts = page.parts; globals = book.globals }
+abbrev pub page_in : ReadFile → PageInFile → ReadPage
+page_in book page = record { strict = book.strict; sheet = page.sheet; parts = page.parts; globals = book.globals }
 
 -- the page at this index, from 0
-abbrev pub page_of : Book → ℕ → Option Leaf
-page_of book index = option_map (leaf_of book) (slice_get book.pages index)
+abbrev pub page_of : ReadFile → ℕ → Option ReadPage
+page_of book index = option_map (page_in book) (slice_get book.pages index)
 
 -- the pages in order
-abbrev pub pages_of : Book → List Leaf
-pages_of book = map (leaf_of book) book.pages
+abbrev pub pages_of : ReadFile → List ReadPage
+pages_of book = map (page_in book) book.pages
 
 -- A page that is made of its own segments and of those of no page.
-abbrev pub leaf_from : Bool → List Part → List Part → Result Leaf DecodeError
-leaf_from strict own shared = sheet_of own >>= λ sheet. Ok (record { strict = strict; sheet = sheet; parts = own; globals = named strict shared no_names })
+abbrev pub page_from : Bool → List Part → List Part → Result ReadPage DecodeError
+page_from strict own shared = sheet_of own >>= λ sheet. Ok (record { strict = strict; sheet = sheet; parts = own; globals = named_from strict shared no_names })
 
 -- Each page of a file is made of the segments whose association is its number, those of association 0 and the
 -- strictness alone.
 abbrev pub PagesStandAlone : Type 0
-PagesStandAlone = (strict : Bool) (bytes : List ℕ) (file : FileHeader × List Part) (book : Book) (index : ℕ) (page : Leaf)
+PagesStandAlone = (strict : Bool) (bytes : List ℕ) (file : FileHeader × List Part) (book : ReadFile) (index : ℕ) (page : ReadPage)
     → file_at strict bytes ≡ Ok file → book_at strict bytes ≡ Ok book → page_of book index ≡ Some page
-    → leaf_from strict (of_page page.sheet.number file.1) (of_page 0 file.1) ≡ Ok page
+    → page_from strict (of_page page.sheet.number file.1) (of_page 0 file.1) ≡ Ok page

@@ -6,16 +6,16 @@ use Rattle.jbig2_base.specs.declared.error.DecodeError.TheVariants.{Format, OutO
 use Rattle.jbig2_base.specs.declared.error.FormatError.TheVariants.{MissingPageInfo}
 use Rattle.hayro_jbig2.specs.Files.{book_at, page_of}
 use Rattle.hayro_jbig2.specs.Image.{image_of_page}
-use Rattle.hayro_jbig2.specs.Page.{Leaf}
+use Rattle.hayro_jbig2.specs.Page.{ReadPage}
 use Rattle.hayro_jbig2.specs.declared.jbig2_error.Jbig2Error.{Jbig2Error}
 use Rattle.hayro_jbig2.specs.declared.jbig2_error.Jbig2Error.TheVariants.{Io, Decode}
 
 -- a file without pages lacks the information of one
-abbrev pub some_page : Option Leaf → Result Leaf DecodeError
+abbrev pub some_page : Option ReadPage → Result ReadPage DecodeError
 some_page (Some page) = Ok page
 some_page None = Err (Format MissingPageInfo)
 
-unfoldable pub first_page : List ℕ → Result Leaf DecodeError
+unfoldable pub first_page : List ℕ → Result ReadPage DecodeError
 first_page bytes = book_at false bytes >>= λ book. some_page (page_of book 0)
 
 -- its width and its height

@@ -4,7 +4,7 @@ use Rattle.std.specs.List.{range_with_len}
 use Rattle.jbig2_base.specs.Answer.{◌>>=◌}
 use Rattle.jbig2_base.specs.Grid.{Grid, pixel_at}
 use Rattle.jbig2_base.specs.declared.error.DecodeError.{DecodeError}
-use Rattle.hayro_jbig2.specs.Page.{Leaf, grid_of_page}
+use Rattle.hayro_jbig2.specs.Page.{ReadPage, grid_of_page}
 
 -- black is 0, and white is 255
 abbrev pub shade : Bool → ℕ
@@ -15,5 +15,5 @@ unfoldable pub image_of : ℕ → ℕ → Grid → List ℕ
 image_of width height g = map (λ n. shade (pixel_at g (n % width) (n / width))) (range_with_len 0 (width * height))
 
 -- the bytes of the page's grid, or the page's error
-abbrev pub image_of_page : Leaf → Result (List ℕ) DecodeError
+abbrev pub image_of_page : ReadPage → Result (List ℕ) DecodeError
 image_of_page page = grid_of_page page >>= λ g. Ok (image_of page.sheet.width page.sheet.height g)

@@ -1,9 +1,12 @@
 pub mod Calls
+pub mod Dictionaries
 pub mod Files
 pub mod FirstPage
 pub mod Globals
 pub mod Image
+pub mod Names
 pub mod Page
+pub mod Referred
+pub mod Regions
 pub mod Sends
-pub mod SymbolNames
 pub mod inner

@@ -1,4 +1,4 @@
 pub mod ByPages
+pub mod KeptViews
 pub mod PageViews
 pub mod SegmentLists
-pub mod SymbolViews

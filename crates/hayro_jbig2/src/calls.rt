@@ -1,35 +1,36 @@
 //! The calls that spell a bitmap.
 ghost use Rattle.std.specs.Prelude.{◌≡◌, ℕ, ◌+◌, ◌-◌, ◌*◌, ◌/◌, ◌^◌, ◌<◌, ◌≤◌, drop, take, if◌then◌else◌};
 ghost use Rattle.jbig2_base.specs.Grid.{Grid};
-ghost use Rattle.hayro_jbig2.specs.Calls.{row_of, is_all, run_of, IsRunAt, singles, line_calls, calls_of};
+ghost use Rattle.jbig2_base.specs.inner.WordBits.{bit};
+ghost use Rattle.hayro_jbig2.specs.Calls.{row_of, run_of, IsColourOf, IsRunAt, singles, line_calls, calls_of};
 ghost use Rattle.hayro_jbig2.specs.Sends.{Sends};
 
 use crate::decoder::Decoder;
 use jbig2_base::bitmap::Bitmap;
 use jbig2_base::bitmap::steps::Steps;
 use jbig2_base::error::Result;
+use jbig2_mmr::mmr::span::find_colour;
 use std::alloc::Allocator;
 use std::sync::ledger::Ledger;
 
-/// The byte of eight pixels of one colour.
-fn byte_of(black: bool) -> u64
-    ensures { result ≡ (if black then 255 else 0) }
-{
-    if black { 0xFF } else { 0 }
-}
-
-/// Whether the eight pixels of row `y` from column `x` on have this colour.
-fn is_whole_byte<A: Allocator, L: Ledger>(
+/// The colour that the eight pixels of row `y` from column `x` on have together, if they have one.
+fn byte_colour<A: Allocator, L: Ledger>(
     bitmap: &Bitmap<A>,
     x: u32,
     y: u32,
-    black: bool,
     steps: &mut Steps<L>,
-) -> bool
+) -> Option<bool>
     requires { x + 8 ≤ bitmap.now.width }
-    ensures { result ≡ is_all black (take 8 (drop x (row_of bitmap.now y))) }
+    ensures { IsColourOf (take 8 (drop x (row_of bitmap.now y))) result }
 {
-    bitmap.load_pixels(x, y, 8, steps) == byte_of(black)
+    let pixels = bitmap.load_pixels(x, y, 8, steps);
+    if pixels == 0xFF {
+        return Some(true);
+    }
+    if pixels == 0 {
+        return Some(false);
+    }
+    None
 }
 
 /// How many of the whole bytes of row `y` from column `x` on have this colour.
@@ -44,37 +45,8 @@ fn run<A: Allocator, L: Ledger>(
     ensures value { result ≡ run_of ((bitmap.now.width - x) / 8) black (drop x (row_of bitmap.now y)) }
     ensures within { result ≤ (bitmap.now.width - x) / 8 }
 {
-    let most = (bitmap.width() - x) / 8;
-    for count in 0..most {
-        if !is_whole_byte(bitmap, x + 8 * count, y, black, steps) {
-            return count;
-        }
-    }
-    most
-}
-
-/// Pushes the pixels of row `y` from column `x` up to column `end`, one by one.
-fn push_pixels<A: Allocator, D: Decoder, L: Ledger>(
-    bitmap: &Bitmap<A>,
-    x: u32,
-    end: u32,
-    y: u32,
-    decoder: &mut D,
-    steps: &mut Steps<L>,
-) -> Result<()>
-    requires order { x ≤ end }
-    requires inside { end ≤ bitmap.now.width }
-    requires countable { D.refusals decoder.old < 2 ^ 64 - 1 }
-    ensures { Sends D.step (singles (take (end - x) (drop x (row_of bitmap.now y)))) result (D.picture decoder.old) (D.refusals decoder.old) (D.picture decoder.new) (D.refusals decoder.new) }
-{
-    for column in x..end {
-        let black = bitmap.get_pixel(column, y, steps) == 1;
-        match decoder.push_pixel(black) {
-            Ok(()) => {}
-            Err(error) => return Err(error),
-        }
-    }
-    Ok(())
+    let end = find_colour(bitmap, y, x, !black, steps);
+    (end - x) / 8
 }
 
 /// The run of whole bytes of one colour at column `x` of row `y`: its colour, and how many there
@@ -85,18 +57,48 @@ fn run_at<A: Allocator, L: Ledger>(
     y: u32,
     steps: &mut Steps<L>,
 ) -> Option<(bool, u32)>
-    requires { x ≤ bitmap.now.width }
+    requires { x + 8 ≤ bitmap.now.width }
     ensures { IsRunAt ((bitmap.now.width - x) / 8) (drop x (row_of bitmap.now y)) result }
 {
-    let black = run(bitmap, x, y, true, steps);
-    if black > 0 {
-        return Some((true, black));
+    match byte_colour(bitmap, x, y, steps) {
+        Some(black) => Some((black, run(bitmap, x, y, black, steps))),
+        None => None,
     }
-    let white = run(bitmap, x, y, false, steps);
-    if white > 0 {
-        return Some((false, white));
+}
+
+/// The pixel at a place of loaded ones, the last at place 0.
+fn pixel_of(pixels: u64, place: u32) -> bool
+    requires { place < 64 }
+    ensures { result ≡ bit pixels place }
+{
+    (pixels >> place) & 1 == 1
+}
+
+/// Pushes the pixels of row `y` from column `x` up to column `end`, at most 64 of them, one by one.
+fn push_pixels<A: Allocator, D: Decoder, L: Ledger>(
+    bitmap: &Bitmap<A>,
+    x: u32,
+    end: u32,
+    y: u32,
+    decoder: &mut D,
+    steps: &mut Steps<L>,
+) -> Result<()>
+    requires order { x ≤ end }
+    requires few { end - x ≤ 64 }
+    requires inside { end ≤ bitmap.now.width }
+    requires countable { D.refusals decoder.old < 2 ^ 64 - 1 }
+    ensures { Sends D.step (singles (take (end - x) (drop x (row_of bitmap.now y)))) result (D.picture decoder.old) (D.refusals decoder.old) (D.picture decoder.new) (D.refusals decoder.new) }
+{
+    let count = (end - x).max(1);
+    let pixels = bitmap.load_pixels(x, y, count, steps);
+    for column in x..end {
+        let black = pixel_of(pixels, x + (count - 1) - column);
+        match decoder.push_pixel(black) {
+            Ok(()) => {}
+            Err(error) => return Err(error),
+        }
     }
-    None
+    Ok(())
 }
 
 /// Makes the calls of one row.

@@ -5,8 +5,9 @@ ghost use Rattle.jbig2_base.specs.Answer.{Answers, Gives};
 ghost use Rattle.jbig2_base.specs.inner.SegmentViews.{header_view, parts};
 ghost use Rattle.hayro_jbig2.specs.inner.ByPages.{pages_view};
 ghost use Rattle.hayro_jbig2.specs.Files.{needs_page, lacks_page, associated, is_end_of_page, ends_of, filed_from, filed_each, miscounts, book_at, page_of, pages_of, PagesStandAlone};
-ghost use Rattle.hayro_jbig2.specs.Globals.{named};
-ghost use Rattle.hayro_jbig2.specs.Page.{Leaf, no_names};
+ghost use Rattle.hayro_jbig2.specs.Globals.{named_from};
+ghost use Rattle.hayro_jbig2.specs.Names.{no_names};
+ghost use Rattle.hayro_jbig2.specs.Page.{ReadPage};
 ghost use Rattle.hayro_jbig2.specs.inner.PageViews.{kept_names};
 
 use crate::globals::Globals;
@@ -31,9 +32,9 @@ struct FilePage<'a, A: Allocator> {
 impl<'a, A: Allocator> Model for FilePage<'a, A> {
     ghost use Rattle.std.specs.Prelude.{◌≤◌};
     ghost use Rattle.jbig2_base.specs.inner.SegmentViews.{parts};
-    ghost use Rattle.hayro_jbig2.specs.Files.{Filed};
+    ghost use Rattle.hayro_jbig2.specs.Files.{PageInFile};
 
-    ghost Value = { Filed };
+    ghost Value = { PageInFile };
 
     ghost view = { λ page. record { sheet = page.sheet; parts = parts page.segments.items } };
 
@@ -49,9 +50,9 @@ pub struct File<'a, A: Allocator> {
 }
 
 impl<'a, A: Allocator> Model for File<'a, A> {
-    ghost use Rattle.hayro_jbig2.specs.Files.{Book};
+    ghost use Rattle.hayro_jbig2.specs.Files.{ReadFile};
 
-    ghost Value = { Book };
+    ghost Value = { ReadFile };
 
     ghost view = { λ file. record { strict = file.strict; pages = file.pages.items; globals = file.globals } };
 }
@@ -153,7 +154,7 @@ fn kept_globals<A: Allocator + Clone>(
     strict: bool,
     segments: &[Segment<'_, A>],
 ) -> Result<Result<Globals<A>>>
-    ensures { Gives (λ kept. kept) result (Ok (named strict (parts segments.now) no_names)) }
+    ensures { Gives (λ kept. kept) result (Ok (named_from strict (parts segments.now) no_names)) }
 {
     match Globals::from_segments(alloc, strict, segments) {
         Ok(globals) => Ok(Ok(globals)),
@@ -227,7 +228,7 @@ impl<'a, A: Allocator> File<'a, A> {
     pub fn pages(&self) -> Pages<'_, A>
         ensures all { result ≡ pages_of self.now }
         ensures each { (index : ℕ) → slice_get result index ≡ page_of self.now index }
-        ensures runs { GivesInOrder Leaf }
+        ensures runs { GivesInOrder ReadPage }
     {
         Pages::of_file(self)
     }

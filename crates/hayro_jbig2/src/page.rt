@@ -7,7 +7,7 @@ ghost use Rattle.jbig2_base.specs.inner.Table.{IsTable};
 ghost use Rattle.jbig2_base.specs.declared.bitmap.operator.CombinationOperator.{CombinationOperator};
 ghost use Rattle.hayro_jbig2.specs.Calls.{Spells, calls_of};
 ghost use Rattle.hayro_jbig2.specs.Image.{image_of_page};
-ghost use Rattle.hayro_jbig2.specs.Page.{Leaf, embedded, grid_of_page, draws_over};
+ghost use Rattle.hayro_jbig2.specs.Page.{ReadPage, drawn, embedded, grid_of_page, draws_over, page_begun};
 ghost use Rattle.hayro_jbig2.specs.inner.PageViews.{given_names, kept_names};
 ghost use Rattle.hayro_jbig2.specs.inner.SegmentLists.{segment_list};
 ghost use Rattle.jbig2_base.specs.inner.SegmentViews.{parts};
@@ -16,9 +16,10 @@ ghost use Rattle.hayro_jbig2.specs.Sends.{Decodes};
 use crate::calls::push_bitmap;
 use crate::context::DecoderContext;
 use crate::decoder::Decoder;
-use crate::drawing::draw_segments;
+use crate::drawing::Drawer;
 use crate::globals::Globals;
 use crate::image::write_image;
+use crate::names::KeptNames;
 use crate::settings::DecodeSettings;
 use jbig2_base::bitmap::steps::Steps;
 use jbig2_base::error::Result;
@@ -61,11 +62,11 @@ impl<'a, A: Allocator> Model for Page<'a, A> {
     ghost use Rattle.std.specs.Prelude.{◌≤◌};
     ghost use Rattle.jbig2_base.specs.inner.SegmentViews.{parts};
     ghost use Rattle.hayro_jbig2.specs.Calls.{Spells, calls_of};
-    ghost use Rattle.hayro_jbig2.specs.Page.{Leaf};
+    ghost use Rattle.hayro_jbig2.specs.Page.{ReadPage};
     ghost use Rattle.hayro_jbig2.specs.inner.PageViews.{kept_names};
     ghost use Rattle.hayro_jbig2.specs.inner.SegmentLists.{segment_list};
 
-    ghost Value = { Leaf };
+    ghost Value = { ReadPage };
 
     ghost view = { λ page. record { strict = page.strict; sheet = page.sheet; parts = parts (segment_list page.segments); globals = kept_names page.globals } };
 
@@ -234,11 +235,30 @@ impl<'a, A: Allocator + Clone> Page<'a, A> {
     ) -> Result<()>
         ensures { Gives (λ _. context.new.grid) result (grid_of_page self.now) }
     {
-        let globals = match &self.globals {
-            Ok(globals) => *globals,
-            Err(error) => return Err(error.duplicate()),
-        };
+        match &self.globals {
+            Ok(Some(globals)) => self.draw_with(globals.names(), context, steps),
+            Ok(None) => {
+                let none = KeptNames::new(self.segments.as_vec().allocator().clone()?)?;
+                self.draw_with(&none, context, steps)
+            }
+            Err(error) => Err(error.duplicate()),
+        }
+    }
+
+    /// Draws the page, whose segments may refer to what `globals` keeps.
+    fn draw_with<L: Ledger>(
+        &self,
+        globals: &KeptNames<A>,
+        context: &mut DecoderContext<A>,
+        steps: &mut Steps<L>,
+    ) -> Result<()>
+        ensures { Gives (λ _. context.new) result (drawn self.now.strict globals.now self.now.parts (page_begun self.now.sheet)) }
+    {
         context.begin(&self.sheet)?;
-        draw_segments(self.strict, globals, self.segments.as_vec(), context, steps)
+        let drawer = Drawer {
+            strict: self.strict,
+            globals,
+        };
+        drawer.draw_segments(self.segments.as_vec(), context, steps)
     }
 }

@@ -21,12 +21,12 @@ pub struct Pages<'a, A: Allocator> {
 /// It is seen as the list of the pages that are left.
 impl<'a, A: Allocator> Model for Pages<'a, A> {
     ghost use Rattle.std.specs.Prelude.{◌≡◌, ◌≤◌, List, length, map, drop};
-    ghost use Rattle.hayro_jbig2.specs.Files.{leaf_of};
-    ghost use Rattle.hayro_jbig2.specs.Page.{Leaf};
+    ghost use Rattle.hayro_jbig2.specs.Files.{page_in};
+    ghost use Rattle.hayro_jbig2.specs.Page.{ReadPage};
 
-    ghost Value = { List Leaf };
+    ghost Value = { List ReadPage };
 
-    ghost view = { λ pages. map (leaf_of pages.file.now) (drop pages.indices.start pages.file.now.pages) };
+    ghost view = { λ pages. map (page_in pages.file.now) (drop pages.indices.start pages.file.now.pages) };
 
     ghost invariant = { λ pages. (pages.indices.start ≤ pages.indices.end) × (pages.indices.end ≡ length pages.file.now.pages) };
 }

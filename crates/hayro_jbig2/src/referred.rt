@@ -1,12 +1,10 @@
 //! What symbol dictionaries and text regions refer to by numbers (T.88, 7.3.1).
 ghost use Rattle.std.specs.Prelude.{◌≡◌, ◌≤◌, ◌+◌, ◌++◌, length, map, Ok, OnOk, IfErr};
 ghost use Rattle.jbig2_base.specs.Answer.{Gives};
-ghost use Rattle.hayro_jbig2.specs.inner.PageViews.{given_names};
-ghost use Rattle.hayro_jbig2.specs.SymbolNames.{nothing_referred, own_else, symbols_named, code_named, with_dictionary, with_table, with_number, with_numbers, referred_by};
-ghost use Rattle.hayro_jbig2.specs.inner.SymbolViews.{found_symbols, found_code, symbols_view};
+ghost use Rattle.hayro_jbig2.specs.Referred.{nothing_referred, with_dictionary, with_table, with_number, with_numbers, referred_by};
+ghost use Rattle.hayro_jbig2.specs.inner.KeptViews.{found, symbols_view};
 
-use crate::globals::Globals;
-use crate::library::SymbolLibrary;
+use crate::names::Lookup;
 use jbig2_base::bitmap::Bitmap;
 use jbig2_base::error::{DecodeError, OverflowError, Result, SegmentError};
 use jbig2_coder::huffman_table::HuffmanTable;
@@ -28,7 +26,7 @@ pub(crate) struct ReferredSegments<'a, A: Allocator> {
 
 impl<'a, A: Allocator> Model for ReferredSegments<'a, A> {
     ghost use Rattle.std.specs.Prelude.{◌≤◌, length, map};
-    ghost use Rattle.hayro_jbig2.specs.SymbolNames.{Referred};
+    ghost use Rattle.hayro_jbig2.specs.Referred.{Referred};
     ghost use Rattle.jbig2_symbol.specs.inner.SymbolViews.{kept_view};
 
     ghost Value = { Referred };
@@ -66,7 +64,7 @@ impl<'a, A: Allocator> ReferredSegments<'a, A> {
 
     /// A custom table, or nothing, which strict reading refuses.
     fn add_table(&mut self, strict: bool, table: Option<&'a HuffmanTable<A>>) -> Result<()>
-        ensures { Gives (λ _. self.new) result (with_table strict (found_code table.entry) self.old) }
+        ensures { Gives (λ _. self.new) result (with_table strict (found (λ code. code) table.entry) self.old) }
     {
         match table {
             Some(table) => {
@@ -78,48 +76,14 @@ impl<'a, A: Allocator> ReferredSegments<'a, A> {
         }
     }
 
-    /// What one number names.
-    fn add_number(
-        &mut self,
-        strict: bool,
-        own: &'a SymbolLibrary<A>,
-        globals: Option<&'a Globals<A>>,
-        number: u32,
-    ) -> Result<()>
-        ensures { Gives (λ _. self.new) result (with_number strict own.now (given_names globals.entry).library number self.old) }
+    /// What one number names: a dictionary, else a table.
+    fn add_number(&mut self, lookup: &Lookup<'a, A>, number: u32) -> Result<()>
+        ensures { Gives (λ _. self.new) result (with_number lookup.now.strict lookup.now.own.now lookup.now.globals.now number self.old) }
     {
-        if let Some(dictionary) = find_symbols(own, globals, number) {
+        if let Some(dictionary) = lookup.symbols(number) {
             return self.add_dictionary(dictionary);
         }
-        self.add_table(strict, find_table(own, globals, number))
-    }
-}
-
-/// The dictionary that a number names: the page's own, else the one of the globals.
-fn find_symbols<'a, A: Allocator>(
-    own: &'a SymbolLibrary<A>,
-    globals: Option<&'a Globals<A>>,
-    number: u32,
-) -> Option<&'a SymbolDictionary<A>>
-    ensures { found_symbols result ≡ own_else (symbols_named number own.now.dictionaries) (symbols_named number (given_names globals.entry).library.dictionaries) }
-{
-    match own.find_symbols(number) {
-        Some(dictionary) => Some(dictionary),
-        None => globals?.library().find_symbols(number),
-    }
-}
-
-/// The custom table that a number names: the page's own, else the one of the globals.
-fn find_table<'a, A: Allocator>(
-    own: &'a SymbolLibrary<A>,
-    globals: Option<&'a Globals<A>>,
-    number: u32,
-) -> Option<&'a HuffmanTable<A>>
-    ensures { found_code result ≡ own_else (code_named number own.now.codes) (code_named number (given_names globals.entry).library.codes) }
-{
-    match own.find_table(number) {
-        Some(table) => Some(table),
-        None => globals?.library().find_table(number),
+        self.add_table(lookup.strict, lookup.table(number))
     }
 }
 
@@ -129,12 +93,10 @@ fn find_table<'a, A: Allocator>(
 /// that names neither.
 pub(crate) fn gather_referred<'a, A: Allocator + Clone>(
     alloc: A,
-    strict: bool,
-    own: &'a SymbolLibrary<A>,
-    globals: Option<&'a Globals<A>>,
+    lookup: &Lookup<'a, A>,
     numbers: &[u32],
 ) -> Result<ReferredSegments<'a, A>>
-    ensures { Gives (λ referred. referred) result (referred_by strict own.now (given_names globals.entry).library numbers.now) }
+    ensures { Gives (λ referred. referred) result (referred_by lookup.now.strict lookup.now.own.now lookup.now.globals.now numbers.now) }
 {
     let mut referred = ReferredSegments {
         symbols: Vec::new(alloc.clone()?),
@@ -142,7 +104,7 @@ pub(crate) fn gather_referred<'a, A: Allocator + Clone>(
         retained_contexts: None,
     };
     for number in numbers {
-        match referred.add_number(strict, own, globals, *number) {
+        match referred.add_number(lookup, *number) {
             Ok(()) => {}
             Err(error) => return Err(error),
         }

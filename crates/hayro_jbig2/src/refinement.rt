@@ -5,11 +5,13 @@ ghost use Rattle.jbig2_base.specs.inner.SegmentViews.{part_view};
 ghost use Rattle.jbig2_region.specs.Generic.{PlacedRegion, region_view};
 ghost use Rattle.jbig2_region.specs.Refinement.{refined_decoded};
 ghost use Rattle.jbig2_region.specs.RefinementHeader.{IsRefinement, header_view};
-ghost use Rattle.hayro_jbig2.specs.Page.{Drawing, immediate_refinement, intermediate_refinement, page_area, referred_region, refinement_at, region_named};
-ghost use Rattle.hayro_jbig2.specs.inner.PageViews.{found_view, near_area, stored_regions};
+ghost use Rattle.hayro_jbig2.specs.Names.{first_named};
+ghost use Rattle.hayro_jbig2.specs.Regions.{page_area, referred_region, refinement_at};
+ghost use Rattle.hayro_jbig2.specs.inner.KeptViews.{found, seen};
+ghost use Rattle.hayro_jbig2.specs.inner.PageViews.{near_area};
 
-use crate::context::{DecoderContext, StoredRegion};
-use crate::drawing::finish_immediate;
+use crate::kept::{Kept, first_under};
+use crate::workspace::Workspace;
 use jbig2_base::bitmap::Bitmap;
 use jbig2_base::bitmap::operator::CombinationOperator;
 use jbig2_base::bitmap::steps::Steps;
@@ -24,17 +26,12 @@ use std::sync::ledger::Ledger;
 
 /// The region that a number names: the first that was kept under it.
 fn region_named<'a, A: Allocator>(
-    regions: &'a [StoredRegion<A>],
+    regions: &'a [Kept<DecodedRegion<A>>],
     number: u32,
 ) -> Option<&'a DecodedRegion<A>>
-    ensures { found_view result ≡ region_named number (stored_regions regions.now) }
+    ensures { found region_view result ≡ first_named number (seen region_view regions.now) }
 {
-    for stored in regions {
-        if stored.segment_number == number {
-            return Some(&stored.region);
-        }
-    }
-    None
+    first_under(regions, number)
 }
 
 /// The region that a segment's first referred number names, if it refers to any. Strict reading
@@ -42,18 +39,18 @@ fn region_named<'a, A: Allocator>(
 fn referred_region<'a, A: Allocator>(
     strict: bool,
     numbers: &[u32],
-    regions: &'a [StoredRegion<A>],
+    regions: &'a [Kept<DecodedRegion<A>>],
 ) -> Result<Option<&'a DecodedRegion<A>>>
-    ensures { Answers (λ found. found_view found) result (referred_region strict numbers.now (stored_regions regions.now)) }
+    ensures { Answers (λ r. found region_view r) result (referred_region strict numbers.now (seen region_view regions.now)) }
 {
     let Some(number) = numbers.first() else {
         return Ok(None);
     };
-    let found = region_named(regions, *number);
-    if strict && found.is_none() {
+    let region = region_named(regions, *number);
+    if strict && region.is_none() {
         return Err(DecodeError::Segment(SegmentError::InvalidReference));
     }
-    Ok(found)
+    Ok(region)
 }
 
 /// The area of the page that a region covers, white outside the page. A place of 2^31 or more is
@@ -92,79 +89,52 @@ fn page_area<A: Allocator, B: Allocator, L: Ledger>(
 /// A refinement of the page's area (T.88, 7.4.7.4).
 fn refine_page<A: Allocator + Clone, L: Ledger>(
     header: &GenericRefinementRegionHeader<'_>,
-    context: &mut DecoderContext<A>,
+    page: &Bitmap<A>,
+    workspace: &mut Workspace<A>,
     steps: &mut Steps<L>,
 ) -> Result<DecodedRegion<A>>
     requires parsed { IsRefinement (header_view header.now) }
-    ensures value { Gives (λ region. region_view region) result (refined_decoded (header_view header.now) (page_area context.old.grid header.now.region_info)) }
-    ensures same { context.new ≡ context.old }
+    ensures { Gives (λ region. region_view region) result (refined_decoded (header_view header.now) (page_area page.now header.now.region_info)) }
 {
-    let area = page_area(
-        context.alloc.clone()?,
-        &context.bitmap,
-        &header.region_info,
-        steps,
-    )?;
+    let area = page_area(workspace.alloc.clone()?, page, &header.region_info, steps)?;
     generic_refinement::decode(
-        context.alloc.clone()?,
+        workspace.alloc.clone()?,
         header,
         &area,
-        &mut context.contexts,
+        &mut workspace.contexts,
         steps,
     )
 }
 
+/// What a refinement may refine: the page so far, and the intermediate regions.
+#[derive(Drop)]
+pub(crate) struct References<'a, A: Allocator> {
+    pub(crate) page: &'a Bitmap<A>,
+    pub(crate) regions: &'a [Kept<DecodedRegion<A>>],
+}
+
 /// A refinement, decoded into a bitmap of its own (T.88, 7.4.7).
-#[tactic(auto, unfolding(crate::specs::Page::refinement_at))]
-fn decode_refinement<A: Allocator + Clone, L: Ledger>(
+#[tactic(auto, unfolding(crate::specs::Regions::refinement_at))]
+pub(crate) fn decode_refinement<A: Allocator + Clone, L: Ledger>(
     strict: bool,
     is_intermediate: bool,
+    references: &References<'_, A>,
     segment: &Segment<'_, A>,
-    context: &mut DecoderContext<A>,
+    workspace: &mut Workspace<A>,
     steps: &mut Steps<L>,
 ) -> Result<DecodedRegion<A>>
-    ensures value { Gives (λ region. region_view region) result (refinement_at strict is_intermediate (part_view segment.now) context.old) }
-    ensures same { context.new ≡ context.old }
+    ensures { Gives (λ region. region_view region) result (refinement_at strict is_intermediate references.now.page.now (seen region_view references.now.regions.now) (part_view segment.now)) }
 {
-    let referred = referred_region(
-        strict,
-        &segment.header.referred_to_segments,
-        &context.regions,
-    )?;
+    let numbers = &segment.header.referred_to_segments;
+    let referred = referred_region(strict, numbers, references.regions)?;
     if strict && is_intermediate && referred.is_none() {
         return Err(DecodeError::Segment(SegmentError::InvalidReference));
     }
     let mut reader = Reader::new(segment.bytes);
     let header = generic_refinement::parse(&mut reader)?;
-    let alloc = context.alloc.clone()?;
-    if let Some(reference) = referred {
-        return generic_refinement::decode(alloc, &header, reference, &mut context.contexts, steps);
-    }
-    refine_page(&header, context, steps)
-}
-
-#[tactic(auto, unfolding(crate::specs::Page::immediate_refinement))]
-pub(crate) fn draw_immediate_refinement<A: Allocator + Clone, L: Ledger>(
-    strict: bool,
-    segment: &Segment<'_, A>,
-    context: &mut DecoderContext<A>,
-    steps: &mut Steps<L>,
-) -> Result<()>
-    ensures { Gives (λ _. context.new) result (immediate_refinement strict (part_view segment.now) context.old) }
-{
-    let decoded = decode_refinement(strict, false, segment, context, steps);
-    finish_immediate(strict, decoded, context, steps)
-}
-
-#[tactic(auto, unfolding(crate::specs::Page::intermediate_refinement))]
-pub(crate) fn store_intermediate_refinement<A: Allocator + Clone, L: Ledger>(
-    strict: bool,
-    segment: &Segment<'_, A>,
-    context: &mut DecoderContext<A>,
-    steps: &mut Steps<L>,
-) -> Result<()>
-    ensures { Gives (λ _. context.new) result (intermediate_refinement strict (part_view segment.now) context.old) }
-{
-    let region = decode_refinement(strict, true, segment, context, steps)?;
-    context.store(segment.header.segment_number, region)
+    let Some(reference) = referred else {
+        return refine_page(&header, references.page, workspace, steps);
+    };
+    let alloc = workspace.alloc.clone()?;
+    generic_refinement::decode(alloc, &header, reference, &mut workspace.contexts, steps)
 }

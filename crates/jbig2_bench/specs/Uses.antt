@@ -8,7 +8,8 @@ use Rattle.hayro_jbig2.specs.Files.{book_at, page_of}
 use Rattle.hayro_jbig2.specs.FirstPage.{some_page, first_size, first_image}
 use Rattle.hayro_jbig2.specs.Globals.{globals_at}
 use Rattle.hayro_jbig2.specs.Image.{image_of_page}
-use Rattle.hayro_jbig2.specs.Page.{Names, no_names, embedded, grid_of_page}
+use Rattle.hayro_jbig2.specs.Names.{Names, no_names}
+use Rattle.hayro_jbig2.specs.Page.{embedded, grid_of_page}
 use Rattle.hayro_jbig2.specs.declared.jbig2_error.Jbig2Error.{Jbig2Error}
 use Rattle.hayro_jbig2.specs.declared.jbig2_error.Jbig2Error.TheVariants.{Io, Decode}
 

@@ -5,6 +5,7 @@ mod fault;
 mod packer;
 mod printer;
 mod program;
+mod refusals;
 mod request;
 #[cfg(test)]
 mod tests;

@@ -1,12 +1,16 @@
 //! A Decoder that packs the pixels that it takes.
-ghost use Rattle.std.specs.Prelude.{◌≡◌, ℕ, ◌+◌, ◌-◌, ◌^◌, ◌<◌, nat_lt, OnOk, OnErr};
+ghost use Rattle.std.specs.Prelude.{◌≡◌, ℕ, nat_lt};
 
-use hayro_jbig2::{DecodeError, Decoder, Result};
+use crate::refusals::Refusals;
+use hayro_jbig2::{Decoder, Result};
 use std::io;
 use std::io::Write;
 
 /// The place of a byte's first pixel.
 const FIRST: u8 = 128;
+
+/// How many bytes of a chunk are written at once.
+const BLOCK: usize = 256;
 
 /// Writes eight pixels to a byte, black 1, the first in the high bit; each row begins a byte. A call
 /// whose byte cannot be written is refused.
@@ -15,26 +19,26 @@ pub struct Packer<W: Write + Drop> {
     out: W,
     byte: u8,
     place: u8,
-    refusals: u64,
+    refusals: Refusals,
 }
 
 impl<W: Write + Drop> Packer<W> {
     pub fn new(out: W) -> Packer<W>
-        ensures { result.refusals ≡ 0 }
+        ensures { result.refusals.count ≡ 0 }
     {
         Packer {
             out,
             byte: 0,
             place: FIRST,
-            refusals: 0,
+            refusals: Refusals::new(),
         }
     }
 
     /// Whether a byte could not be written.
     pub fn has_refused(&self) -> bool
-        ensures { result ≡ nat_lt 0 self.now.refusals }
+        ensures { result ≡ nat_lt 0 self.now.refusals.count }
     {
-        self.refusals > 0
+        self.refusals.any()
     }
 
     pub fn into_inner(self) -> W {
@@ -69,9 +73,25 @@ impl<W: Write + Drop> Packer<W> {
         Ok(())
     }
 
-    fn pack_bytes(&mut self, black: bool, count: u32) -> io::Result<()>
+    /// Writes whole bytes of one colour.
+    fn fill(&mut self, black: bool, count: u32) -> io::Result<()>
         ensures { self.new.refusals ≡ self.old.refusals }
     {
+        let block = [if black { 0xFF } else { 0 }; BLOCK];
+        let count = count as usize;
+        for _block in 0..count / BLOCK {
+            self.out.write_all(&block)?;
+        }
+        self.out.write_all(&block[..count % BLOCK])
+    }
+
+    /// Packs a chunk. Within a byte, where no page has one, its pixels are packed one by one.
+    fn pack_chunk(&mut self, black: bool, count: u32) -> io::Result<()>
+        ensures { self.new.refusals ≡ self.old.refusals }
+    {
+        if self.place == FIRST {
+            return self.fill(black, count);
+        }
         for _byte in 0..count {
             for _pixel in 0..8 {
                 self.pack(black)?;
@@ -88,20 +108,6 @@ impl<W: Write + Drop> Packer<W> {
         }
         Ok(())
     }
-
-    fn taken(&mut self, written: io::Result<()>) -> Result<()>
-        requires { self.old.refusals < 2 ^ 64 - 1 }
-        ensures ok { OnOk result (self.new.refusals ≡ self.old.refusals) }
-        ensures err { OnErr result (self.new.refusals ≡ self.old.refusals + 1) }
-    {
-        match written {
-            Ok(()) => Ok(()),
-            Err(_) => {
-                self.refusals += 1;
-                Err(DecodeError::Unsupported)
-            }
-        }
-    }
 }
 
 impl<W: Write + Drop> Decoder for Packer<W> {
@@ -111,20 +117,20 @@ impl<W: Write + Drop> Decoder for Packer<W> {
 
     ghost step = { λ p _. p };
 
-    ghost refusals = { λ packer. packer.refusals };
+    ghost refusals = { λ packer. packer.refusals.count };
 
     fn push_pixel(&mut self, black: bool) -> Result<()> {
         let written = self.pack(black);
-        self.taken(written)
+        self.refusals.answer(written)
     }
 
     fn push_pixel_chunk(&mut self, black: bool, chunk_count: u32) -> Result<()> {
-        let written = self.pack_bytes(black, chunk_count);
-        self.taken(written)
+        let written = self.pack_chunk(black, chunk_count);
+        self.refusals.answer(written)
     }
 
     fn next_line(&mut self) -> Result<()> {
         let written = self.end_row();
-        self.taken(written)
+        self.refusals.answer(written)
     }
 }

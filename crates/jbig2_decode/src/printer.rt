@@ -1,7 +1,8 @@
 //! A Decoder that prints the calls that it takes.
-ghost use Rattle.std.specs.Prelude.{◌≡◌, ℕ, ◌+◌, ◌-◌, ◌^◌, ◌<◌, nat_lt, OnOk, OnErr};
+ghost use Rattle.std.specs.Prelude.{◌≡◌, ℕ, nat_lt};
 
-use hayro_jbig2::{DecodeError, Decoder, Result};
+use crate::refusals::Refusals;
+use hayro_jbig2::{Decoder, Result};
 use std::io;
 use std::io::Write;
 
@@ -9,21 +10,24 @@ use std::io::Write;
 #[derive(Drop)]
 pub struct Printer<W: Write + Drop> {
     out: W,
-    refusals: u64,
+    refusals: Refusals,
 }
 
 impl<W: Write + Drop> Printer<W> {
     pub fn new(out: W) -> Printer<W>
-        ensures { result.refusals ≡ 0 }
+        ensures { result.refusals.count ≡ 0 }
     {
-        Printer { out, refusals: 0 }
+        Printer {
+            out,
+            refusals: Refusals::new(),
+        }
     }
 
     /// Whether a line could not be written.
     pub fn has_refused(&self) -> bool
-        ensures { result ≡ nat_lt 0 self.now.refusals }
+        ensures { result ≡ nat_lt 0 self.now.refusals.count }
     {
-        self.refusals > 0
+        self.refusals.any()
     }
 
     pub fn into_inner(self) -> W {
@@ -31,18 +35,15 @@ impl<W: Write + Drop> Printer<W> {
         out
     }
 
-    fn taken(&mut self, written: io::Result<()>) -> Result<()>
-        requires { self.old.refusals < 2 ^ 64 - 1 }
-        ensures ok { OnOk result (self.new.refusals ≡ self.old.refusals) }
-        ensures err { OnErr result (self.new.refusals ≡ self.old.refusals + 1) }
+    fn write_chunk(&mut self, black: bool, chunk_count: u32) -> io::Result<()>
+        ensures { self.new.refusals ≡ self.old.refusals }
     {
-        match written {
-            Ok(()) => Ok(()),
-            Err(_) => {
-                self.refusals += 1;
-                Err(DecodeError::Unsupported)
-            }
-        }
+        self.out.write_all(if black {
+            b"push_pixel_chunk true "
+        } else {
+            b"push_pixel_chunk false "
+        })?;
+        writeln!(self.out, "{chunk_count}")
     }
 }
 
@@ -53,20 +54,24 @@ impl<W: Write + Drop> Decoder for Printer<W> {
 
     ghost step = { λ p _. p };
 
-    ghost refusals = { λ printer. printer.refusals };
+    ghost refusals = { λ printer. printer.refusals.count };
 
     fn push_pixel(&mut self, black: bool) -> Result<()> {
-        let written = writeln!(self.out, "push_pixel {black}");
-        self.taken(written)
+        let written = self.out.write_all(if black {
+            b"push_pixel true\n"
+        } else {
+            b"push_pixel false\n"
+        });
+        self.refusals.answer(written)
     }
 
     fn push_pixel_chunk(&mut self, black: bool, chunk_count: u32) -> Result<()> {
-        let written = writeln!(self.out, "push_pixel_chunk {black} {chunk_count}");
-        self.taken(written)
+        let written = self.write_chunk(black, chunk_count);
+        self.refusals.answer(written)
     }
 
     fn next_line(&mut self) -> Result<()> {
-        let written = writeln!(self.out, "next_line");
-        self.taken(written)
+        let written = self.out.write_all(b"next_line\n");
+        self.refusals.answer(written)
     }
 }

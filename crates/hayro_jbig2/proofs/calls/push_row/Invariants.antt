@@ -1,12 +1,13 @@
-use Rattle.std.proofs.Common.{◌-◌, ◌/◌, ◌≤◌, [], ◌∷◌, ◌++◌, drop}
-use Rattle.hayro_jbig2.specs.Calls.{Line, row_of, line_calls, whole_calls}
+use Rattle.std.proofs.Common.{◌-◌, ◌≤◌}
+use Rattle.hayro_jbig2.specs.Calls.{line_calls}
+use Rattle.hayro_jbig2.proofs.Runs.{left_calls}
 use Rattle.hayro_jbig2.proofs.Sending.{Half}
 use Rattle.hayro_jbig2.proofs.calls.push_row.Given as goal
 
 abbrev pub invariant-loop-x : goal.invariant-loop-x
 invariant-loop-x g l = record {
   within : l.x ≤ l.width;
-  sent : Half g.D.Decoder.step (line_calls l.bitmap l.y) (whole_calls ((l.width - l.x) / 8) (drop l.x (row_of l.bitmap l.y)) ++ Line ∷ []) (g.D.Decoder.picture l.fn.decoder) (g.D.Decoder.refusals l.fn.decoder) (g.D.Decoder.picture l.decoder) (g.D.Decoder.refusals l.decoder);
+  sent : Half g.D.Decoder.step (line_calls l.bitmap l.y) (left_calls l.bitmap l.y l.x) (g.D.Decoder.picture l.fn.decoder) (g.D.Decoder.refusals l.fn.decoder) (g.D.Decoder.picture l.decoder) (g.D.Decoder.refusals l.decoder);
 }
 
 abbrev pub decreases-loop-x : goal.decreases-loop-x

@@ -4,7 +4,7 @@ use Rattle.jbig2_base.specs.inner.SegmentViews.{parts}
 use Rattle.jbig2_base.specs.declared.error.DecodeError.TheVariants.{OutOfMemory}
 use Rattle.hayro_jbig2.proofs.Books.{pages-begin, with_pages, page-made, page-refused}
 use Rattle.hayro_jbig2.specs.inner.ByPages.{pages_view}
-use Rattle.hayro_jbig2.specs.Files.{Filed, filed_each}
+use Rattle.hayro_jbig2.specs.Files.{PageInFile, filed_each}
 use Rattle.hayro_jbig2.proofs.file.read_pages.Goals as goal
 
 pub loop-own-init : goal.loop-own-init
@@ -13,7 +13,7 @@ loop-own-init g c =
     let meant = filed_each c.args.strict (pages_view (into_iter_items c.into_iter-own-iterator.result)) in
     record {
       counted = gives.1 ∙ c.args.segments.ok.0 ∙ ap (λ xs. length xs) (sym gives.0);
-      filed = ap (λ (front : List Filed). with_pages front meant) c.new-pages.ensures.items ∙ pages-begin meant ∙ ap (λ xs. filed_each c.args.strict (pages_view xs)) gives.0;
+      filed = ap (λ (front : List PageInFile). with_pages front meant) c.new-pages.ensures.items ∙ pages-begin meant ∙ ap (λ xs. filed_each c.args.strict (pages_view xs)) gives.0;
     }
 
 pub loop-own-preserved : goal.loop-own-preserved

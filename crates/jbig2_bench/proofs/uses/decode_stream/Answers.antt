@@ -7,7 +7,8 @@ use Rattle.jbig2_base.specs.declared.error.DecodeError.{DecodeError}
 use Rattle.jbig2_base.specs.declared.error.DecodeError.TheVariants.{OutOfMemory}
 use Rattle.hayro_jbig2.specs.Calls.{Call}
 use Rattle.hayro_jbig2.specs.Globals.{globals_at}
-use Rattle.hayro_jbig2.specs.Page.{Names, embedded}
+use Rattle.hayro_jbig2.specs.Names.{Names}
+use Rattle.hayro_jbig2.specs.Page.{embedded}
 use Rattle.hayro_jbig2.specs.Sends.{Decodes}
 use Rattle.jbig2_bench.specs.Uses.{grid_of_stream}
 use Rattle.jbig2_bench.proofs.uses.decode_stream.Goals as goal

@@ -1,0 +1,43 @@
+-- What is looked up among kept values is what is looked up among their views.
+use Rattle.std.proofs.Common.{◌≡◌, ℕ, ◌==◌, Bool, true, false, cond, List, [], ◌∷◌, Option, Some, None, refl, sym, ◌∙◌, ap}
+use Rattle.std.specs.Borrow.{Bor}
+use Rattle.std.specs.Option.{option_map}
+use Rattle.std.proofs.lemmas.Bool.{cond_both}
+use Rattle.hayro_jbig2.specs.Names.{first_named, named, own_else}
+use Rattle.hayro_jbig2.specs.inner.KeptViews.{found, seen}
+use Rattle.hayro_jbig2.specs.declared.kept.Kept.{Kept}
+
+mapped-cond : {X V : Type 0} (view : X → V) (b : Bool) (x : X) (o : Option X) → option_map view (cond b (Some x) o) ≡ cond b (Some (view x)) (option_map view o)
+mapped-cond view true x o = refl
+mapped-cond view false x o = refl
+
+first_named-seen : {X V : Type 0} (view : X → V) (number : ℕ) (kept : List (Kept X)) → first_named number (seen view kept) ≡ option_map view (first_named number kept)
+first_named-seen view number [] = refl
+first_named-seen view number (k ∷ kept) =
+    ap (λ (o : Option _). cond (k.segment_number == number) (Some (view k.value)) o) (first_named-seen view number kept)
+    ∙ sym (mapped-cond view (k.segment_number == number) k.value (first_named number kept))
+
+mapped-else : {X V : Type 0} (view : X → V) (own shared : Option X) → option_map view (own_else own shared) ≡ own_else (option_map view own) (option_map view shared)
+mapped-else view None shared = refl
+mapped-else view (Some x) shared = refl
+
+found-mapped : {X V : Type 0} (view : X → V) (value : Option (Bor X)) → found view value ≡ option_map view (found (λ v. v) value)
+found-mapped view None = refl
+found-mapped view (Some b) = refl
+
+-- A value that was found, by its view.
+pub found-named : {X V : Type 0} (view : X → V) (value : Option (Bor X)) (number : ℕ) (own shared : List (Kept X)) (owns shares : List (Kept V))
+    → seen view own ≡ owns → seen view shared ≡ shares → found (λ v. v) value ≡ named number own shared → found view value ≡ named number owns shares
+found-named view value number own shared owns shares is_own is_shared h =
+    found-mapped view value
+    ∙ ap (λ (o : Option _). option_map view o) h
+    ∙ mapped-else view (first_named number own) (first_named number shared)
+    ∙ ap (λ (o : Option _). own_else o (option_map view (first_named number shared))) (sym (first_named-seen view number own))
+    ∙ ap (λ (o : Option _). own_else (first_named number (seen view own)) o) (sym (first_named-seen view number shared))
+    ∙ ap (λ (ks : List (Kept _)). own_else (first_named number ks) (first_named number (seen view shared))) is_own
+    ∙ ap (λ (ks : List (Kept _)). own_else (first_named number owns) (first_named number ks)) is_shared
+
+-- the same of what is kept in one place
+pub found-first : {X V : Type 0} (view : X → V) (value : Option (Bor X)) (number : ℕ) (kept : List (Kept X)) → found (λ v. v) value ≡ first_named number kept → found view value ≡ first_named number (seen view kept)
+found-first view value number kept h =
+    found-mapped view value ∙ ap (λ (o : Option _). option_map view o) h ∙ sym (first_named-seen view number kept)

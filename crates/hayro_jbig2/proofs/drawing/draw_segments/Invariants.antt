@@ -1,8 +1,0 @@
-use Rattle.std.proofs.Common.{◌≡◌, drop}
-use Rattle.jbig2_base.specs.inner.SegmentViews.{parts}
-use Rattle.hayro_jbig2.specs.Page.{drawn}
-use Rattle.hayro_jbig2.specs.inner.PageViews.{given_names}
-use Rattle.hayro_jbig2.proofs.drawing.draw_segments.Given as goal
-
-abbrev pub invariant-loop-segment : goal.invariant-loop-segment
-invariant-loop-segment g l = drawn l.strict (given_names l.globals) (parts (drop l.segment-index l.segments)) l.context ≡ drawn l.strict (given_names l.globals) (parts l.segments) l.fn.context

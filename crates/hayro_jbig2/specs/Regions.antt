@@ -1,0 +1,84 @@
+-- The regions of a page (T.88, 7.4.3 and 7.4.5 to 7.4.7): what each kind of region decodes to.
+--
+-- A region is a grid of its own at a place. What becomes of it, drawn or kept, is said in `Page`.
+use Rattle.std.specs.Prelude.{ℕ, ◌+◌, Bool, ◌&&◌, not, is_none, List, [], ◌∷◌, length, Option, Some, None, Result, Ok, Err}
+use Rattle.jbig2_base.specs.Answer.{◌>>=◌, refuse_if}
+use Rattle.jbig2_base.specs.Grid.{Grid, grid_of, pixel_at}
+use Rattle.jbig2_base.specs.Segment.{Part}
+use Rattle.jbig2_base.specs.declared.error.DecodeError.{DecodeError}
+use Rattle.jbig2_base.specs.declared.error.DecodeError.TheVariants.{Segment}
+use Rattle.jbig2_base.specs.declared.error.SegmentError.TheVariants.{InvalidReference, MissingPatternDictionary}
+use Rattle.jbig2_halftone.specs.Halftone.{halftone_decoded}
+use Rattle.jbig2_halftone.specs.HalftoneHeader.{halftone_header_at}
+use Rattle.jbig2_halftone.specs.Patterns.{Patterns}
+use Rattle.jbig2_region.specs.Generic.{PlacedRegion, generic_decoded}
+use Rattle.jbig2_region.specs.GenericHeader.{generic_header_at}
+use Rattle.jbig2_region.specs.Refinement.{refined_decoded}
+use Rattle.jbig2_region.specs.RefinementHeader.{refinement_header_at}
+use Rattle.jbig2_region.specs.declared.region_info.RegionSegmentInfo.{RegionSegmentInfo}
+use Rattle.jbig2_text.specs.TextHeader.{text_header_at}
+use Rattle.jbig2_text.specs.TextRegion.{text_decoded}
+use Rattle.hayro_jbig2.specs.Names.{Names, first_named, named}
+use Rattle.hayro_jbig2.specs.Referred.{referred_by}
+use Rattle.hayro_jbig2.specs.declared.kept.Kept.{Kept}
+use Rattle.hayro_jbig2.specs.declared.region.RegionKind.{RegionKind}
+use Rattle.hayro_jbig2.specs.declared.region.RegionKind.TheVariants as kinds
+
+-- A text region (7.4.3), after what it refers to.
+unfoldable pub text_at : Bool → Names → Names → Part → Result PlacedRegion DecodeError
+text_at strict own shared p = do
+  referred ← referred_by strict own shared p.header.referred_to_segments
+  header ← text_header_at (length referred.symbols) strict p.bytes
+  text_decoded header.0 referred.symbols referred.codes
+
+-- The dictionary that the first of a halftone region's numbers names (7.4.5).
+abbrev pub patterns_for : Names → Names → List ℕ → Option Patterns
+patterns_for own shared [] = None
+patterns_for own shared (number ∷ numbers) = named number own.patterns shared.patterns
+
+abbrev pub some_patterns : Option Patterns → Result Patterns DecodeError
+some_patterns (Some patterns) = Ok patterns
+some_patterns None = Err (Segment MissingPatternDictionary)
+
+-- A halftone region (7.4.5), drawn with these patterns.
+unfoldable pub halftone_at : Bool → Names → Names → Part → Result PlacedRegion DecodeError
+halftone_at strict own shared p = do
+  patterns ← some_patterns (patterns_for own shared p.header.referred_to_segments)
+  header ← halftone_header_at strict p.bytes
+  halftone_decoded header.0 patterns
+
+-- A generic region (7.4.6). The last four bytes of an immediate one of unknown length are the number of its rows;
+-- an intermediate one is no special case, and the row count stays in its data.
+unfoldable pub generic_at : Bool → Bool → Part → Result PlacedRegion DecodeError
+generic_at strict is_intermediate p = do
+  header ← generic_header_at (not is_intermediate && is_none p.header.data_length) strict p.bytes
+  generic_decoded header.0
+
+-- The region that a refinement's first number names, if it refers to any. Strict reading refuses a number that names none.
+abbrev pub referred_region : Bool → List ℕ → List (Kept PlacedRegion) → Result (Option PlacedRegion) DecodeError
+referred_region strict [] regions = Ok None
+referred_region strict (number ∷ others) regions = do
+  known ← refuse_if (strict && is_none (first_named number regions)) (Segment InvalidReference)
+  Ok (first_named number regions)
+
+-- The area of the page that a region covers, white outside the page.
+abbrev pub page_area : Grid → RegionSegmentInfo → PlacedRegion
+page_area page info = record {
+  grid = grid_of info.width info.height (λ i j. pixel_at page (info.x_location + i) (info.y_location + j));
+  x_location = info.x_location;
+  y_location = info.y_location;
+  combination_operator = info.combination_operator;
+}
+
+-- What is refined (7.4.7.4): the region that is referred to, or else the page's area.
+abbrev pub reference_region : Grid → RegionSegmentInfo → Option PlacedRegion → PlacedRegion
+reference_region page info (Some region) = region
+reference_region page info None = page_area page info
+
+-- A refinement (7.4.7). Strict reading refuses an intermediate one that refers to no region.
+unfoldable pub refinement_at : Bool → Bool → Grid → List (Kept PlacedRegion) → Part → Result PlacedRegion DecodeError
+refinement_at strict is_intermediate page regions p = do
+  referred ← referred_region strict p.header.referred_to_segments regions
+  known ← refuse_if (strict && is_intermediate && is_none referred) (Segment InvalidReference)
+  header ← refinement_header_at p.bytes
+  refined_decoded header.0 (reference_region page header.0.region_info referred)

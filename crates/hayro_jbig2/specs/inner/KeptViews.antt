@@ -1,0 +1,23 @@
+-- What is kept under numbers, seen as the definitions see it: each value by the view of its own type.
+use Rattle.std.specs.Prelude.{List, map, Option, Some, None}
+use Rattle.std.specs.Borrow.{Bor}
+use Rattle.jbig2_halftone.specs.Patterns.{Patterns, dictionary_view}
+use Rattle.jbig2_halftone.specs.declared.pattern.dictionary.PatternDictionary.{PatternDictionary}
+use Rattle.jbig2_symbol.specs.inner.SymbolViews as symbol_views
+use Rattle.jbig2_symbol.specs.Symbols.{Symbols}
+use Rattle.jbig2_symbol.specs.declared.symbol.dictionary.SymbolDictionary.{SymbolDictionary}
+use Rattle.hayro_jbig2.specs.declared.kept.Kept.{Kept}
+
+abbrev pub seen : {X V : Type 0} → (X → V) → List (Kept X) → List (Kept V)
+seen view kept = map (λ k. record { segment_number = k.segment_number; value = view k.value }) kept
+
+-- what was looked for
+abbrev pub found : {X V : Type 0} → (X → V) → Option (Bor X) → Option V
+found view None = None
+found view (Some value) = Some (view value.now)
+
+abbrev pub symbols_view : {A : Type 0} → SymbolDictionary A → Symbols
+symbols_view d = symbol_views.dictionary_view d
+
+abbrev pub patterns_view : {A : Type 0} → PatternDictionary A → Patterns
+patterns_view d = dictionary_view d

@@ -1,0 +1,131 @@
+//! Segments that draw nothing and leave something for later ones (T.88, 7.4.2, 7.4.4 and 7.4.13), of
+//! a page as of its globals. One that fails is never passed over.
+ghost use Rattle.std.specs.Prelude.{◌≡◌};
+ghost use Rattle.jbig2_base.specs.Answer.{Answers, Gives};
+ghost use Rattle.jbig2_base.specs.inner.SegmentViews.{part_view};
+ghost use Rattle.hayro_jbig2.specs.Dictionaries.{symbol_dictionary_at, with_symbols, pattern_dictionary_at, with_patterns, with_code, extension};
+ghost use Rattle.hayro_jbig2.specs.inner.KeptViews.{patterns_view, symbols_view};
+
+use crate::names::{KeptNames, Lookup};
+use crate::referred::gather_referred;
+use crate::workspace::Workspace;
+use jbig2_base::bitmap::steps::Steps;
+use jbig2_base::error::{DecodeError, Result};
+use jbig2_base::field::u32_field;
+use jbig2_base::reader::Reader;
+use jbig2_base::segment::Segment;
+use jbig2_coder::huffman_table::HuffmanTable;
+use jbig2_halftone::pattern::{self, PatternDictionary};
+use jbig2_symbol::symbol::{self, SymbolDictionary};
+use std::alloc::Allocator;
+use std::sync::ledger::Ledger;
+
+/// A symbol dictionary (T.88, 7.4.2), after what it refers to.
+#[tactic(auto, unfolding(crate::specs::Dictionaries::symbol_dictionary_at))]
+fn decode_symbols<A: Allocator + Clone, L: Ledger>(
+    lookup: &Lookup<'_, A>,
+    segment: &Segment<'_, A>,
+    workspace: &Workspace<A>,
+    steps: &mut Steps<L>,
+) -> Result<SymbolDictionary<A>>
+    ensures { Gives (λ d. symbols_view d) result (symbol_dictionary_at lookup.now.strict lookup.now.own.now lookup.now.globals.now (part_view segment.now)) }
+{
+    let numbers = &segment.header.referred_to_segments;
+    let referred = gather_referred(workspace.alloc.clone()?, lookup, numbers)?;
+    let mut reader = Reader::new(segment.bytes);
+    let header = symbol::parse(&mut reader, lookup.strict)?;
+    symbol::decode(
+        workspace.alloc.clone()?,
+        &header,
+        &referred.symbols,
+        &referred.tables,
+        &workspace.standard_tables,
+        referred.retained_contexts,
+        steps,
+    )
+}
+
+/// A pattern dictionary (T.88, 7.4.4).
+#[tactic(auto, unfolding(crate::specs::Dictionaries::pattern_dictionary_at))]
+fn decode_patterns<A: Allocator + Clone, L: Ledger>(
+    strict: bool,
+    bytes: &[u8],
+    workspace: &mut Workspace<A>,
+    steps: &mut Steps<L>,
+) -> Result<PatternDictionary<A>>
+    ensures { Gives (λ d. patterns_view d) result (pattern_dictionary_at strict bytes.now) }
+{
+    let mut reader = Reader::new(bytes);
+    let header = pattern::parse(&mut reader, strict)?;
+    pattern::decode(
+        workspace.alloc.clone()?,
+        &header,
+        &mut workspace.contexts,
+        steps,
+    )
+}
+
+/// Keeps a symbol dictionary, which may refer to what is kept and to `globals`.
+#[tactic(auto, unfolding(crate::specs::Dictionaries::with_symbols))]
+pub(crate) fn keep_symbols<A: Allocator + Clone, L: Ledger>(
+    names: &mut KeptNames<A>,
+    strict: bool,
+    globals: &KeptNames<A>,
+    segment: &Segment<'_, A>,
+    workspace: &Workspace<A>,
+    steps: &mut Steps<L>,
+) -> Result<()>
+    ensures { Gives (λ _. names.new) result (with_symbols strict globals.now (part_view segment.now) names.old) }
+{
+    let lookup = Lookup {
+        strict,
+        own: names,
+        globals,
+    };
+    let dictionary = decode_symbols(&lookup, segment, workspace, steps)?;
+    names.store_symbols(segment.header.segment_number, dictionary)
+}
+
+/// Keeps a pattern dictionary.
+#[tactic(auto, unfolding(crate::specs::Dictionaries::with_patterns))]
+pub(crate) fn keep_patterns<A: Allocator + Clone, L: Ledger>(
+    names: &mut KeptNames<A>,
+    strict: bool,
+    segment: &Segment<'_, A>,
+    workspace: &mut Workspace<A>,
+    steps: &mut Steps<L>,
+) -> Result<()>
+    ensures { Gives (λ _. names.new) result (with_patterns strict (part_view segment.now) names.old) }
+{
+    let dictionary = decode_patterns(strict, segment.bytes, workspace, steps)?;
+    names.store_patterns(segment.header.segment_number, dictionary)
+}
+
+/// Keeps a custom table (T.88, 7.4.13 and B.2).
+#[tactic(auto, unfolding(crate::specs::Dictionaries::with_code))]
+pub(crate) fn keep_table<A: Allocator + Clone>(
+    names: &mut KeptNames<A>,
+    segment: &Segment<'_, A>,
+    workspace: &Workspace<A>,
+) -> Result<()>
+    ensures { Gives (λ _. names.new) result (with_code (part_view segment.now) names.old) }
+{
+    let mut reader = Reader::new(segment.bytes);
+    let table = HuffmanTable::read_custom(workspace.alloc.clone()?, &mut reader)?;
+    names.store_table(segment.header.segment_number, table)
+}
+
+/// An extension segment (T.88, 7.4.14): strict reading refuses one that a decoder has to know.
+pub(crate) fn extension(strict: bool, bytes: &[u8]) -> Result<()>
+    ensures { Answers (λ known. known) result (extension strict bytes.now) }
+{
+    if !strict {
+        return Ok(());
+    }
+    let mut reader = Reader::new(bytes);
+    let kind = u32_field(&mut reader)?;
+    if kind >= 0x8000_0000 {
+        return Err(DecodeError::Unsupported);
+    }
+    Ok(())
+}

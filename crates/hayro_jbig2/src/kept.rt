@@ -1,0 +1,33 @@
+//! What is kept under the numbers of segments (T.88, 7.3.1).
+ghost use Rattle.std.specs.Prelude.{◌≡◌};
+ghost use Rattle.hayro_jbig2.specs.Names.{first_named, named};
+ghost use Rattle.hayro_jbig2.specs.inner.KeptViews.{found};
+
+/// What a segment left for later ones, under its number.
+#[derive(Drop)]
+pub(crate) struct Kept<T> {
+    pub(crate) segment_number: u32,
+    pub(crate) value: T,
+}
+
+/// The first that is kept under a number.
+pub(crate) fn first_under<T>(kept: &[Kept<T>], number: u32) -> Option<&T>
+    ensures { found (λ v. v) result ≡ first_named number kept.now }
+{
+    for candidate in kept {
+        if candidate.segment_number == number {
+            return Some(&candidate.value);
+        }
+    }
+    None
+}
+
+/// What a number names: the page's own, else the one of the globals.
+pub(crate) fn named<'a, T>(own: &'a [Kept<T>], shared: &'a [Kept<T>], number: u32) -> Option<&'a T>
+    ensures { found (λ v. v) result ≡ named number own.now shared.now }
+{
+    if let Some(value) = first_under(own, number) {
+        return Some(value);
+    }
+    first_under(shared, number)
+}

@@ -1,0 +1,28 @@
+//! What decoding uses for one segment after another.
+ghost use Rattle.std.specs.Prelude.{◌≡◌, IfErr};
+
+use jbig2_base::error::{DecodeError, Result};
+use jbig2_coder::arithmetic_decoder::ArithmeticDecoderContext;
+use jbig2_coder::huffman_table::StandardHuffmanTables;
+use std::alloc::Allocator;
+
+/// The standard tables, and the room for the contexts of the arithmetic coder. What the room holds
+/// from an earlier segment changes nothing of the next.
+#[derive(Drop)]
+pub(crate) struct Workspace<A: Allocator> {
+    pub(crate) alloc: A,
+    pub(crate) standard_tables: StandardHuffmanTables<A>,
+    pub(crate) contexts: Vec<ArithmeticDecoderContext, A>,
+}
+
+impl<A: Allocator + Clone> Workspace<A> {
+    pub(crate) fn new(alloc: A) -> Result<Workspace<A>>
+        ensures { IfErr result (λ e. e ≡ DecodeError.OutOfMemory) }
+    {
+        Ok(Workspace {
+            standard_tables: StandardHuffmanTables::new(alloc.clone()?)?,
+            contexts: Vec::new(alloc.clone()?),
+            alloc,
+        })
+    }
+}
