@@ -8,10 +8,10 @@ use Rattle.jbig2_base.specs.Answer.{◌>>=◌, Gives}
 use Rattle.jbig2_base.specs.Grid.{Grid}
 use Rattle.jbig2_base.specs.declared.error.DecodeError.{DecodeError}
 use Rattle.jbig2_base.specs.declared.error.DecodeError.TheVariants as errors
-use Rattle.jbig2_symbol.specs.SymbolBitmaps.{coded_symbol, collective_bitmap, put_behind, symbols_cut}
+use Rattle.jbig2_symbol.specs.SymbolBitmaps.{collective_bitmap, put_behind, symbols_cut}
 use Rattle.jbig2_region.proofs.GenericLemmas.{ok-inner}
 use Rattle.jbig2_symbol.specs.SymbolReading.{SymbolInput, SymbolState, height_difference}
-use Rattle.jbig2_symbol.specs.Symbols.{HeightClass, class_of_height, classes_from, collective_class, drawn_class, empty_class, empty_with, height_class, next_width, size_in_word, symbols_from, symbols_of, widths_from}
+use Rattle.jbig2_symbol.specs.Symbols.{HeightClass, class_of_height, classes_from, collective_class, drawn_class, empty_class, empty_with, height_class, next_width, size_in_word, symbol_bitmap, symbols_from, symbols_of, widths_from}
 use Rattle.jbig2_symbol.specs.inner.SymbolViews.{behind, class_behind}
 use Rattle.jbig2_symbol.proofs.BehindLemmas.{behind-cons}
 
@@ -49,13 +49,13 @@ unfolding symbols_from
 symbols-fault d zero height width total before s error e = rw e refl
 symbols-fault d (suc room) height width total before s error e = rw e refl
 
-pub symbols-next : (d : SymbolInput) (room left height width total : ℕ) (before after : List Grid) (symbol : Grid) (s t u : SymbolState) (next : Option (ℕ × ℕ)) (pair : ℕ × ℕ) → room ≡ suc left → next ≡ Some pair → after ≡ before ++ symbol ∷ [] → next_width d room width total s ≡ Ok (next, t) → coded_symbol d.header pair.0 height t ≡ Ok (symbol, u) → behind before (symbols_from d room height width total before s) ≡ behind after (symbols_from d left height pair.0 pair.1 after u)
+pub symbols-next : (d : SymbolInput) (room left height width total : ℕ) (before after : List Grid) (symbol : Grid) (s t u : SymbolState) (next : Option (ℕ × ℕ)) (pair : ℕ × ℕ) → room ≡ suc left → next ≡ Some pair → after ≡ before ++ symbol ∷ [] → next_width d room width total s ≡ Ok (next, t) → symbol_bitmap d before pair.0 height t ≡ Ok (symbol, u) → behind before (symbols_from d room height width total before s) ≡ behind after (symbols_from d left height pair.0 pair.1 after u)
 unfolding symbols_from
 symbols-next d room left height width total before after symbol s t u next pair more some pushed e drawn =
     let read : next_width d (suc left) width total s ≡ Ok (Some pair, t) = rw (some, more) at e in
     rw (more, pushed, read, drawn) (behind-cons before symbol (symbols_from d left height pair.0 pair.1 (before ++ symbol ∷ []) u))
 
-pub symbols-undrawn : (d : SymbolInput) (room left height width total : ℕ) (before : List Grid) (s t : SymbolState) (next : Option (ℕ × ℕ)) (pair : ℕ × ℕ) (error : DecodeError) (whole : Result (List Grid × SymbolState) DecodeError) → room ≡ suc left → next ≡ Some pair → next_width d room width total s ≡ Ok (next, t) → behind before (symbols_from d room height width total before s) ≡ whole → (error ≡ errors.OutOfMemory) ⊎ (coded_symbol d.header pair.0 height t ≡ Err error) → (error ≡ errors.OutOfMemory) ⊎ (whole ≡ Err error)
+pub symbols-undrawn : (d : SymbolInput) (room left height width total : ℕ) (before : List Grid) (s t : SymbolState) (next : Option (ℕ × ℕ)) (pair : ℕ × ℕ) (error : DecodeError) (whole : Result (List Grid × SymbolState) DecodeError) → room ≡ suc left → next ≡ Some pair → next_width d room width total s ≡ Ok (next, t) → behind before (symbols_from d room height width total before s) ≡ whole → (error ≡ errors.OutOfMemory) ⊎ (symbol_bitmap d before pair.0 height t ≡ Err error) → (error ≡ errors.OutOfMemory) ⊎ (whole ≡ Err error)
 unfolding symbols_from
 symbols-undrawn d room left height width total before s t next pair error whole more some e so_far (inl memory) = inl memory
 symbols-undrawn d room left height width total before s t next pair error whole more some e so_far (inr undrawn) = inr (sym so_far ∙ fault)

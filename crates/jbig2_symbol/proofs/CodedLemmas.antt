@@ -14,26 +14,26 @@ use Rattle.jbig2_symbol.proofs.FillLemmas.{symbol-made}
 
 -- the state behind a symbol
 abbrev pub behind_symbol : SymbolState → Coder → List Context → SymbolState
-behind_symbol s coder contexts = record s { coder = coder; bitmaps = record s.bitmaps { generic = contexts } }
+behind_symbol s coder contexts = record s { coded = record s.coded { coder = coder }; generic = contexts }
 
-holds-made : (s : SymbolState) (width height : ℕ) (r : Region) (grid : Grid) (next : Coder) (after : List Context) → Holds width height s.coder.bytes r grid next after → ◌≡◌ {A = Result (Grid × SymbolState) DecodeError} (Ok (so_far width height r.pixels, after_region r s)) (Ok (grid, behind_symbol s next after))
-holds-made s width height r grid next after holds = rw (holds.pixels, holds.contexts) (ap (λ (c : Coder). Ok (so_far width height r.pixels, record s { coder = c; bitmaps = record s.bitmaps { generic = r.contexts } })) coder)
+holds-made : (s : SymbolState) (width height : ℕ) (r : Region) (grid : Grid) (next : Coder) (after : List Context) → Holds width height s.coded.coder.bytes r grid next after → ◌≡◌ {A = Result (Grid × SymbolState) DecodeError} (Ok (so_far width height r.pixels, after_region r s)) (Ok (grid, behind_symbol s next after))
+holds-made s width height r grid next after holds = rw (holds.pixels, holds.contexts) (ap (λ (c : Coder). Ok (so_far width height r.pixels, record s { coded = record s.coded { coder = c }; generic = r.contexts })) coder)
   where
     made : List ℕ → Registers → Coder
     made bytes registers = record { bytes = bytes; registers = registers }
 
-    coder : made s.coder.bytes r.registers ≡ next
+    coder : made s.coded.coder.bytes r.registers ≡ next
     coder = ap (λ (bytes : List ℕ). made bytes r.registers) (sym holds.bytes) ∙ ap (λ (registers : Registers). made next.bytes registers) (sym holds.registers)
 
-state-made : (h : SymbolHeader) (s : SymbolState) (width height : ℕ) (white grid : Grid) (next : Coder) (after : List Context) → blank_or_overflow width height false ≡ Ok white → Holds white.width white.height s.coder.bytes (decoded (symbol_coding h s.bitmaps) white.width white.height s.coder.bytes (no_pixels s.coder.registers s.bitmaps.generic)) grid next after → coded_symbol h width height s ≡ Ok (grid, behind_symbol s next after)
+state-made : (h : SymbolHeader) (s : SymbolState) (width height : ℕ) (white grid : Grid) (next : Coder) (after : List Context) → blank_or_overflow width height false ≡ Ok white → Holds white.width white.height s.coded.coder.bytes (decoded (symbol_coding h s.template) white.width white.height s.coded.coder.bytes (no_pixels s.coded.coder.registers s.generic)) grid next after → coded_symbol h width height s ≡ Ok (grid, behind_symbol s next after)
 unfolding coded_symbol coded_region
 state-made h s width height white grid next after made holds =
     let fits = symbol-made width height false white made in
-    let sized = subst (λ (g : Grid). Holds g.width g.height s.coder.bytes (decoded (symbol_coding h s.bitmaps) g.width g.height s.coder.bytes (no_pixels s.coder.registers s.bitmaps.generic)) grid next after) fits.1 holds in
-    rw fits.0 (holds-made s width height (decoded (symbol_coding h s.bitmaps) width height s.coder.bytes (no_pixels s.coder.registers s.bitmaps.generic)) grid next after sized)
+    let sized = subst (λ (g : Grid). Holds g.width g.height s.coded.coder.bytes (decoded (symbol_coding h s.template) g.width g.height s.coded.coder.bytes (no_pixels s.coded.coder.registers s.generic)) grid next after) fits.1 holds in
+    rw fits.0 (holds-made s width height (decoded (symbol_coding h s.template) width height s.coded.coder.bytes (no_pixels s.coded.coder.registers s.generic)) grid next after sized)
 
-pub coded-made : (h : SymbolHeader) (t s : SymbolState) (width height : ℕ) (white grid : Grid) (states : List Context) (next : Coder) (after left : List Context) → left ≡ after → t ≡ s → states ≡ t.bitmaps.generic → blank_or_overflow width height false ≡ Ok white → Holds white.width white.height t.coder.bytes (decoded (symbol_coding h t.bitmaps) white.width white.height t.coder.bytes (no_pixels t.coder.registers states)) grid next after → coded_symbol h width height s ≡ Ok (grid, behind_symbol t next left)
+pub coded-made : (h : SymbolHeader) (t s : SymbolState) (width height : ℕ) (white grid : Grid) (states : List Context) (next : Coder) (after left : List Context) → left ≡ after → t ≡ s → states ≡ t.generic → blank_or_overflow width height false ≡ Ok white → Holds white.width white.height t.coded.coder.bytes (decoded (symbol_coding h t.template) white.width white.height t.coded.coder.bytes (no_pixels t.coded.coder.registers states)) grid next after → coded_symbol h width height s ≡ Ok (grid, behind_symbol t next left)
 coded-made h t s width height white grid states next after left kept same learned made holds =
     ap (λ (u : SymbolState). coded_symbol h width height u) (sym same)
-    ∙ state-made h t width height white grid next after made (subst (λ (known : List Context). Holds white.width white.height t.coder.bytes (decoded (symbol_coding h t.bitmaps) white.width white.height t.coder.bytes (no_pixels t.coder.registers known)) grid next after) learned holds)
+    ∙ state-made h t width height white grid next after made (subst (λ (known : List Context). Holds white.width white.height t.coded.coder.bytes (decoded (symbol_coding h t.template) white.width white.height t.coded.coder.bytes (no_pixels t.coded.coder.registers known)) grid next after) learned holds)
     ∙ ap (λ (c : List Context). Ok (grid, behind_symbol t next c)) (sym kept)

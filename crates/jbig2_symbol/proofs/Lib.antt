@@ -1,3 +1,4 @@
+pub mod AggregateLemmas
 pub mod BehindLemmas
 pub mod ClassLemmas
 pub mod CodedLemmas
@@ -5,5 +6,6 @@ pub mod CutLemmas
 pub mod ExportLemmas
 pub mod ExportedLemmas
 pub mod FillLemmas
+mod WorkedAggregates
 mod WorkedCoded
 mod WorkedSymbols

@@ -1,3 +1,4 @@
+pub mod Aggregates
 pub mod Exports
 pub mod SymbolBitmaps
 pub mod SymbolHeader

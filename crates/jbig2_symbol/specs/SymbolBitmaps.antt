@@ -15,8 +15,9 @@ use Rattle.jbig2_region.specs.Raster.{Coding, Region, so_far, decoded, no_pixels
 use Rattle.jbig2_mmr.specs.T6.{decoded as mmr_rows}
 use Rattle.jbig2_region.specs.Templates.{template_pixels}
 use Rattle.jbig2_region.specs.declared.template.GenericTemplatePixels.TheVariants.{Regular}
+use Rattle.jbig2_region.specs.declared.template.Template.{Template}
 use Rattle.jbig2_symbol.specs.SymbolHeader.{SymbolHeader}
-use Rattle.jbig2_symbol.specs.SymbolReading.{BitmapContexts, SymbolInput, SymbolState, by_table, in_band, not_negative}
+use Rattle.jbig2_symbol.specs.SymbolReading.{SymbolInput, SymbolState, by_table, in_band, not_negative}
 
 -- neither side of a symbol may pass 65535 (our own rule)
 abbrev pub fits_symbol : ℕ → ℕ → Result (Unit {0}) DecodeError
@@ -24,17 +25,17 @@ fits_symbol w h = refuse_if (nat_lt 65535 w || nat_lt 65535 h) (Overflow BitmapD
 
 -- ---- by the arithmetic coder
 -- a generic region without typical prediction (Table 16)
-abbrev pub symbol_coding : SymbolHeader → BitmapContexts → Coding
-symbol_coding h contexts = coding_of false contexts.template (template_pixels contexts.template (Regular h.adaptive_template_pixels))
+abbrev pub symbol_coding : SymbolHeader → Template → Coding
+symbol_coding h template = coding_of false template (template_pixels template (Regular h.adaptive_template_pixels))
 
 -- it goes on with the dictionary's coder and contexts
 unfoldable pub coded_region : SymbolHeader → ℕ → ℕ → SymbolState → Region
-coded_region h width height s = decoded (symbol_coding h s.bitmaps) width height s.coder.bytes (no_pixels s.coder.registers s.bitmaps.generic)
+coded_region h width height s = decoded (symbol_coding h s.template) width height s.coded.coder.bytes (no_pixels s.coded.coder.registers s.generic)
 
 abbrev pub after_region : Region → SymbolState → SymbolState
 after_region r s = record s {
-  coder = record s.coder { registers = r.registers };
-  bitmaps = record s.bitmaps { generic = r.contexts };
+  coded = record s.coded { coder = record s.coded.coder { registers = r.registers } };
+  generic = r.contexts;
 }
 
 unfoldable pub coded_symbol : SymbolHeader → ℕ → ℕ → SymbolState → Result (Grid × SymbolState) DecodeError

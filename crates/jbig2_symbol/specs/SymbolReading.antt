@@ -1,5 +1,5 @@
 -- How the numbers of a symbol dictionary are read (T.88, 6.5 and 7.4.2): by prefix codes, or by the arithmetic coder.
-use Rattle.std.specs.Prelude.{ℕ, ◌+◌, nat_lt, Bool, true, false, not, ◌&&◌, if◌then◌else◌, List, [], length, replicate, slice_index_or, Option, Some, None, Result, Ok, Err, ℤ, pos, negsuc}
+use Rattle.std.specs.Prelude.{ℕ, ◌+◌, nat_lt, Bool, true, false, not, ◌&&◌, if◌then◌else◌, List, [], length, slice_index_or, Option, Some, None, Result, Ok, Err, ℤ, pos, negsuc}
 use Rattle.jbig2_base.specs.Answer.{◌>>=◌, refuse_if}
 use Rattle.jbig2_base.specs.Bits.{Place, start_of, bits_left, bits_on}
 use Rattle.jbig2_base.specs.Grid.{Grid, bit_number}
@@ -7,10 +7,11 @@ use Rattle.jbig2_base.specs.declared.error.DecodeError.{DecodeError}
 use Rattle.jbig2_base.specs.declared.error.DecodeError.TheVariants as errors
 use Rattle.jbig2_base.specs.declared.error.HuffmanError.TheVariants.{MissingTables}
 use Rattle.jbig2_base.specs.declared.error.SymbolError.TheVariants.{Invalid}
-use Rattle.jbig2_coder.specs.Coder.{Coder, Context, fresh, started}
-use Rattle.jbig2_coder.specs.Integers.{integer}
+use Rattle.jbig2_coder.specs.Coder.{Context}
 use Rattle.jbig2_coder.specs.PrefixCode.{Member, decoded, prefix_code}
 use Rattle.jbig2_coder.specs.Tables.{lines_a, lines_b, lines_c, lines_d, lines_e}
+use Rattle.jbig2_coder.specs.declared.integer_procedures.IntegerProcedure.{IntegerProcedure}
+use Rattle.jbig2_coder.specs.declared.integer_procedures.IntegerProcedure.TheVariants.{Iaai, Iadh, Iadw, Iaex}
 use Rattle.jbig2_region.specs.Raster.{fresh_contexts}
 use Rattle.jbig2_region.specs.Refinement.{refinement_bits}
 use Rattle.jbig2_region.specs.Templates.{context_bits}
@@ -18,6 +19,8 @@ use Rattle.jbig2_region.specs.declared.template.RefinementTemplate.{RefinementTe
 use Rattle.jbig2_region.specs.declared.template.RefinementTemplate.TheVariants as refinements
 use Rattle.jbig2_region.specs.declared.template.Template.{Template}
 use Rattle.jbig2_region.specs.declared.template.Template.TheVariants.{Template0, Template1, Template2, Template3}
+use Rattle.jbig2_text.specs.Refining.{Refining}
+use Rattle.jbig2_text.specs.TextCoding.{Coded, coded_start, next_integer}
 use Rattle.jbig2_symbol.specs.SymbolHeader.{SymbolHeader}
 use Rattle.jbig2_symbol.specs.declared.symbol.dictionary.RetainedContexts.{RetainedContexts}
 use Rattle.jbig2_symbol.specs.declared.symbol.header.HuffmanTableSelection.{HuffmanTableSelection}
@@ -120,33 +123,40 @@ first_contexts flags kept =
     ])
 
 -- ---- the readings
--- What a dictionary is decoded by, besides what it has come to.
+-- What a dictionary is decoded by, besides what its reading has come to. `ids` are the codes of the ids in symbols that
+-- are put together from others.
 pub record SymbolInput : Type 0 where
   pub header : SymbolHeader
   pub symbols : List Grid
   pub tables : SymbolTables
+  pub ids : List Member
 
--- What a dictionary's reading has come to: a place in the bits for prefix codes, the coder, and what the contexts of
--- the integers IADH, IADW and IAEX (6.5.5 and 6.5.10) and of the bitmaps have learned.
+-- What a dictionary's reading has come to: the place in the bits for prefix codes; the coder with its integer
+-- procedures and ids; and what the contexts of bitmaps and of refinements have learned.
 pub record SymbolState : Type 0 where
   pub place : Place
-  pub coder : Coder
-  pub heights : List Context
-  pub widths : List Context
-  pub runs : List Context
-  pub bitmaps : BitmapContexts
+  pub coded : Coded
+  pub template : Template
+  pub generic : List Context
+  pub refining : Refining
 
-abbrev pub no_integers : List Context
-no_integers = replicate 512 fresh
+-- at the start of the bytes, with ids of so many bits
+abbrev pub first_state : SymbolHeader → ℕ → BitmapContexts → SymbolState
+first_state h bits contexts = record {
+  place = start_of h.bytes;
+  coded = coded_start h.bytes bits;
+  template = contexts.template;
+  generic = contexts.generic;
+  refining = record { template = contexts.refinement_template; pixels = h.refinement_at_pixels; contexts = contexts.refinement };
+}
 
-abbrev pub first_state : List ℕ → BitmapContexts → SymbolState
-first_state bytes contexts = record {
-  place = start_of bytes;
-  coder = record { bytes = bytes; registers = started bytes };
-  heights = no_integers;
-  widths = no_integers;
-  runs = no_integers;
-  bitmaps = contexts;
+-- what the contexts of the bitmaps have learned, for another dictionary
+abbrev pub learned : SymbolState → BitmapContexts
+learned s = record {
+  template = s.template;
+  refinement_template = s.refining.template;
+  generic = s.generic;
+  refinement = s.refining.contexts;
 }
 
 -- a value by a table of prefix codes, or out of band
@@ -155,26 +165,29 @@ by_table table s =
     let reading = decoded table (bits_left s.place) in
     reading.answer >>= λ value. Ok (value, record s { place = bits_on reading.taken s.place })
 
+-- a value by an integer procedure
+abbrev pub by_procedure : IntegerProcedure → SymbolState → Option ℤ × SymbolState
+by_procedure procedure s = let i = next_integer procedure s.coded in (i.0, record s { coded = i.1 })
+
+-- a number of the dictionary, or out of band: by its table with prefix codes, else by its integer procedure
+unfoldable pub number_by : SymbolInput → List Member → IntegerProcedure → SymbolState → Result (Option ℤ × SymbolState) DecodeError
+number_by d table procedure s = if d.header.flags.use_huffman then by_table table s else Ok (by_procedure procedure s)
+
 -- a height class's difference in height (6.5.6)
-unfoldable pub height_difference : SymbolInput → SymbolState → Result (Option ℤ × SymbolState) DecodeError
-height_difference d s =
-    let n = integer s.coder.bytes s.coder.registers s.heights in
-    if d.header.flags.use_huffman then by_table d.tables.heights s
-    else Ok (n.value, record s { coder = record s.coder { registers = n.reading.registers }; heights = n.reading.contexts })
+abbrev pub height_difference : SymbolInput → SymbolState → Result (Option ℤ × SymbolState) DecodeError
+height_difference d s = number_by d d.tables.heights Iadh s
 
 -- a symbol's difference in width (6.5.7); out of band ends a height class
-unfoldable pub width_difference : SymbolInput → SymbolState → Result (Option ℤ × SymbolState) DecodeError
-width_difference d s =
-    let n = integer s.coder.bytes s.coder.registers s.widths in
-    if d.header.flags.use_huffman then by_table d.tables.widths s
-    else Ok (n.value, record s { coder = record s.coder { registers = n.reading.registers }; widths = n.reading.contexts })
+abbrev pub width_difference : SymbolInput → SymbolState → Result (Option ℤ × SymbolState) DecodeError
+width_difference d s = number_by d d.tables.widths Iadw s
+
+-- how many instances a symbol is put together from (REFAGGNINST, 6.5.8.2.1)
+abbrev pub instance_number : SymbolInput → SymbolState → Result (Option ℤ × SymbolState) DecodeError
+instance_number d s = number_by d d.tables.counts Iaai s
 
 -- a run of symbols that are exported, or are not (6.5.10)
-unfoldable pub export_run : SymbolInput → SymbolState → Result (Option ℤ × SymbolState) DecodeError
-export_run d s =
-    let n = integer s.coder.bytes s.coder.registers s.runs in
-    if d.header.flags.use_huffman then by_table d.tables.runs s
-    else Ok (n.value, record s { coder = record s.coder { registers = n.reading.registers }; runs = n.reading.contexts })
+abbrev pub export_run : SymbolInput → SymbolState → Result (Option ℤ × SymbolState) DecodeError
+export_run d s = number_by d d.tables.runs Iaex s
 
 -- a value that may not be out of band, nor below 0
 abbrev pub in_band : DecodeError → Option ℤ → Result ℤ DecodeError

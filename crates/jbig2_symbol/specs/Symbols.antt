@@ -8,10 +8,11 @@ use Rattle.jbig2_base.specs.declared.error.DecodeError.TheVariants as errors
 use Rattle.jbig2_base.specs.declared.error.OverflowError.TheVariants.{BitmapDimension}
 use Rattle.jbig2_base.specs.declared.error.SymbolError.TheVariants.{Invalid, TooManySymbols, UnexpectedOob}
 use Rattle.jbig2_coder.specs.PrefixCode.{Member}
+use Rattle.jbig2_symbol.specs.Aggregates.{aggregate_symbol, id_codes, state_bits}
 use Rattle.jbig2_symbol.specs.Exports.{exports, most_empty}
 use Rattle.jbig2_symbol.specs.SymbolBitmaps.{coded_symbol, collective_bitmap, symbols_cut}
 use Rattle.jbig2_symbol.specs.SymbolHeader.{SymbolHeader}
-use Rattle.jbig2_symbol.specs.SymbolReading.{BitmapContexts, SymbolInput, SymbolState, first_contexts, first_state, height_difference, in_band, symbol_tables, width_difference}
+use Rattle.jbig2_symbol.specs.SymbolReading.{BitmapContexts, SymbolInput, SymbolState, first_contexts, first_state, height_difference, in_band, learned, symbol_tables, width_difference}
 use Rattle.jbig2_symbol.specs.declared.symbol.header.SymbolDictionaryFlags.{SymbolDictionaryFlags}
 
 -- a size, refused outside 32 bits (our own rule)
@@ -61,6 +62,12 @@ collective_class d room height empty s = do
   Ok (symbols, collective.1)
 
 -- ---- any other class
+-- The bitmap of a symbol (6.5.8), behind these new ones: refined or put together from the symbols that are there, or else
+-- by the arithmetic coder alone.
+unfoldable pub symbol_bitmap : SymbolInput → List Grid → ℕ → ℕ → SymbolState → Result (Grid × SymbolState) DecodeError
+symbol_bitmap d new width height s =
+    if d.header.flags.use_refagg then aggregate_symbol d (d.symbols ++ new) width height s else coded_symbol d.header width height s
+
 -- the symbols of a class behind these new ones and one of this width and total, each with its bitmap
 unfoldable pub symbols_from : SymbolInput → ℕ → ℕ → ℕ → ℕ → List Grid → SymbolState → Result (List Grid × SymbolState) DecodeError
 symbols_from d zero height width total new s = next_width d 0 width total s >>= λ end. Ok ([], end.1)
@@ -68,7 +75,7 @@ symbols_from d (suc room) height width total new s =
     next_width d (suc room) width total s >>= λ next. (elim next.0 [
       | None ↦ Ok ([], next.1)
       | Some at ↦
-          coded_symbol d.header at.0 height next.1 >>= λ symbol.
+          symbol_bitmap d new at.0 height next.1 >>= λ symbol.
           symbols_from d room height at.0 at.1 (new ++ symbol.0 ∷ []) symbol.1 >>= λ others. Ok (symbol.0 ∷ others.0, others.1)
     ])
 
@@ -136,13 +143,13 @@ abbrev pub symbols_at : SymbolInput → SymbolState → Result Symbols DecodeErr
 symbols_at d s = do
   new ← new_symbols d s
   exported ← exports d (d.symbols ++ new.0) new.1
-  Ok (record { exported = exported.0; kept = (if d.header.flags.bitmap_context_retained then Some exported.1.bitmaps else None) })
+  Ok (record { exported = exported.0; kept = (if d.header.flags.bitmap_context_retained then Some (learned exported.1) else None) })
 
 -- The dictionary, by its header, the symbols and the tables that it refers to, and the contexts that the last dictionary
--- that it refers to has kept. Symbols that are refined or put together from others are not decoded yet.
+-- that it refers to has kept.
 unfoldable pub dictionary_at : SymbolHeader → List Grid → List (List Member) → Option BitmapContexts → Result Symbols DecodeError
 dictionary_at h symbols referred kept = do
-  carried ← refuse_if h.flags.use_refagg errors.Unsupported
   contexts ← first_contexts h.flags kept
   tables ← symbol_tables h.flags referred
-  symbols_at (record { header = h; symbols = symbols; tables = tables }) (first_state h.bytes contexts)
+  ids ← id_codes h (length symbols)
+  symbols_at (record { header = h; symbols = symbols; tables = tables; ids = ids }) (first_state h (state_bits h (length symbols)) contexts)

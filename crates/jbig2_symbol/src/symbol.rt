@@ -1,11 +1,13 @@
 //! Symbol dictionaries (T.88, 6.5 and 7.4.2).
 ghost use Rattle.std.specs.Prelude.{◌≡◌, ◌≤◌, length, map};
 ghost use Rattle.jbig2_base.specs.Answer.{Gives};
+ghost use Rattle.jbig2_symbol.specs.Aggregates.{state_bits};
 ghost use Rattle.jbig2_symbol.specs.SymbolHeader.{header_view};
 ghost use Rattle.jbig2_symbol.specs.SymbolReading.{contexts_view, first_state};
 ghost use Rattle.jbig2_symbol.specs.inner.SymbolViews.{dictionary_view, input_view, kept_view, referred_view};
 ghost use Rattle.jbig2_symbol.specs.Symbols.{dictionary_at, symbols_at};
 
+pub mod aggregates;
 pub mod bitmaps;
 pub mod classes;
 pub mod contexts;
@@ -16,6 +18,7 @@ pub mod reading;
 pub mod tables;
 pub mod widths;
 
+use crate::symbol::aggregates::{id_codes, state_bits};
 use crate::symbol::classes::read_new_symbols;
 use crate::symbol::contexts::first_contexts;
 pub use crate::symbol::dictionary::{RetainedContexts, SymbolDictionary};
@@ -27,23 +30,24 @@ use crate::symbol::reading::{SymbolInput, SymbolReader};
 use crate::symbol::tables::symbol_tables;
 use jbig2_base::bitmap::Bitmap;
 use jbig2_base::bitmap::steps::Steps;
-use jbig2_base::error::{DecodeError, Result};
+use jbig2_base::error::Result;
 use jbig2_coder::huffman_table::{HuffmanTable, StandardHuffmanTables};
 use std::alloc::Allocator;
 use std::sync::ledger::Ledger;
 
 /// Decodes a dictionary whose tables and contexts are there.
-fn decode_with<A: Allocator + Clone, S: Allocator, T: Allocator, L: Ledger>(
+fn decode_with<A: Allocator + Clone, T: Allocator, L: Ledger>(
     alloc: A,
-    input: &SymbolInput<'_, S, T>,
+    input: &SymbolInput<'_, A, T>,
     contexts: RetainedContexts<A>,
     steps: &mut Steps<L>,
 ) -> Result<SymbolDictionary<A>>
     requires few { length input.now.symbols.now ≤ 2097152 }
     requires fresh { input.now.header.now.num_new_symbols ≤ 1048576 }
-    ensures { Gives (λ d. dictionary_view d) result (symbols_at (input_view input.now) (first_state input.now.header.now.bytes.now (contexts_view contexts))) }
+    ensures { Gives (λ d. dictionary_view d) result (symbols_at (input_view input.now) (first_state (header_view input.now.header.now) (state_bits (header_view input.now.header.now) (length input.now.symbols.now)) (contexts_view contexts))) }
 {
-    let mut reader = SymbolReader::new(alloc.clone()?, input.header.bytes, contexts)?;
+    let bits = state_bits(input.header, input.symbols.len());
+    let mut reader = SymbolReader::new(alloc.clone()?, input.header, bits, contexts)?;
     let new = read_new_symbols(alloc.clone()?, input, &mut reader, steps)?;
     let exported_symbols = read_exports(alloc, input, &new, &mut reader, steps)?;
     if input.header.flags.bitmap_context_retained {
@@ -61,13 +65,13 @@ fn decode_with<A: Allocator + Clone, S: Allocator, T: Allocator, L: Ledger>(
 /// Decodes a symbol dictionary (T.88, 6.5). It refers to these symbols, at most 2^21, to these custom
 /// tables, and to the contexts that another dictionary has kept.
 ///
-/// `Unsupported` where symbols are refined or put together from others; the errors of `first_contexts`, then those of `symbol_tables`, `read_new_symbols` and `read_exports`;
-/// `OutOfMemory`.
+/// The errors of `first_contexts`, then those of `symbol_tables`, `read_new_symbols` and
+/// `read_exports`; `OutOfMemory`.
 #[tactic(auto, unfolding(crate::specs::Symbols::dictionary_at))]
-pub fn decode<A: Allocator + Clone, S: Allocator, T: Allocator, K: Allocator, L: Ledger>(
+pub fn decode<A: Allocator + Clone, T: Allocator, K: Allocator, L: Ledger>(
     alloc: A,
     header: &SymbolDictionaryHeader<'_>,
-    symbols: &[&Bitmap<S>],
+    symbols: &[&Bitmap<A>],
     referred_tables: &[&HuffmanTable<T>],
     standard_tables: &StandardHuffmanTables<T>,
     retained_contexts: Option<&RetainedContexts<K>>,
@@ -77,15 +81,15 @@ pub fn decode<A: Allocator + Clone, S: Allocator, T: Allocator, K: Allocator, L:
     requires fresh { header.now.num_new_symbols ≤ 1048576 }
     ensures { Gives (λ d. dictionary_view d) result (dictionary_at (header_view header.now) (map (λ b. b.now) symbols.now) (referred_view referred_tables.now) (kept_view retained_contexts.entry)) }
 {
-    if header.flags.use_refagg {
-        return Err(DecodeError::Unsupported);
-    }
     let contexts = first_contexts(alloc.clone()?, &header.flags, retained_contexts)?;
     let tables = symbol_tables(&header.flags, standard_tables, referred_tables)?;
+    let ids = id_codes(alloc.clone()?, header, symbols.len())?;
     let input = SymbolInput {
         header,
         symbols,
         tables: &tables,
+        ids: &ids,
+        standard: standard_tables,
     };
     decode_with(alloc, &input, contexts, steps)
 }

@@ -28,6 +28,7 @@ use crate::text::header::{TextRegionCoding, TextRegionHeader, TextRegionHuffmanF
 pub use crate::text::instances::draw_instances_by;
 pub use crate::text::prefixed::PrefixedReadings;
 pub use crate::text::readings::ReadInstances;
+pub use crate::text::refined::new_symbol;
 pub use crate::text::refining::Refining;
 pub use crate::text::symbol_list::SymbolList;
 pub use crate::text::symbols::TextParams;

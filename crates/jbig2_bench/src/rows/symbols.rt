@@ -109,6 +109,26 @@ const ROWS_8: &[Row] = &[
         ],
     },
     Row {
+        name: "R8.2",
+        cases: &[
+            Page(
+                Both,
+                "P S@23=00 000000020020010100 00000E 1003 00000001 00000001 4100FC21 X@0=00000003@6=02",
+                Calls(DOT),
+            ),
+            Page(
+                Both,
+                "P S@23=00 000000020020010100 00000E 1003 00000001 00000001 4180FC21 X@0=00000003@6=02",
+                Undrawn(DecodeError::Symbol(SymbolError::OutOfRange)),
+            ),
+            Page(
+                Both,
+                "P S@23=00 000000020020010100 00000E 1003 00000001 00000001 4000FC21 X@0=00000003@6=02",
+                Undrawn(INVALID),
+            ),
+        ],
+    },
+    Row {
         name: "R8.3",
         cases: &[
             Page(Strict, "P S X@33=000005A1", Undrawn(TOO_MANY)),

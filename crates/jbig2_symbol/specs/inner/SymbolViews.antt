@@ -23,7 +23,12 @@ tables_view t = record {
 }
 
 abbrev pub input_view : {S T : Type 0} → Input S T → SymbolInput
-input_view d = record { header = header_view d.header.now; symbols = map (λ b. b.now) d.symbols.now; tables = tables_view d.tables.now }
+input_view d = record {
+  header = header_view d.header.now;
+  symbols = map (λ b. b.now) d.symbols.now;
+  tables = tables_view d.tables.now;
+  ids = d.ids.now;
+}
 
 -- what is read, behind others
 abbrev pub behind : {X : Type 0} → List X → Result (List X × SymbolState) DecodeError → Result (List X × SymbolState) DecodeError

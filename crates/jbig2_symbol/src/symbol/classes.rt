@@ -1,9 +1,10 @@
 //! The height classes of a symbol dictionary (T.88, 6.5.5).
 ghost use Rattle.std.specs.Prelude.{◌≡◌, ◌+◌, ◌-◌, ◌<◌, ◌≤◌, length, OnOk};
 ghost use Rattle.jbig2_base.specs.Answer.{Answers, Gives};
-ghost use Rattle.jbig2_symbol.specs.Symbols.{class_of_height, classes_from, collective_class, drawn_class, empty_class, height_class, is_collective, new_symbols, symbols_from};
+ghost use Rattle.jbig2_symbol.specs.Symbols.{class_of_height, classes_from, collective_class, drawn_class, empty_class, height_class, is_collective, new_symbols, symbol_bitmap, symbols_from};
 ghost use Rattle.jbig2_symbol.specs.inner.SymbolViews.{behind, class_behind, input_view};
 
+use crate::symbol::aggregates::SymbolSize;
 use crate::symbol::bitmaps::cut_symbols;
 use crate::symbol::header::SymbolDictionaryFlags;
 use crate::symbol::reading::{SymbolInput, SymbolReader};
@@ -46,9 +47,9 @@ fn is_collective(flags: &SymbolDictionaryFlags) -> bool
 
 /// Puts the symbols of a class with a collective bitmap behind the others.
 #[tactic(auto, unfolding(crate::specs::Symbols::collective_class))]
-fn read_collective_class<A: Allocator + Clone, S: Allocator, T: Allocator, L: Ledger>(
+fn read_collective_class<A: Allocator + Clone, T: Allocator, L: Ledger>(
     alloc: A,
-    input: &SymbolInput<'_, S, T>,
+    input: &SymbolInput<'_, A, T>,
     height: u32,
     empty: u32,
     bitmaps: &mut Vec<Bitmap<A>, A>,
@@ -66,16 +67,38 @@ fn read_collective_class<A: Allocator + Clone, S: Allocator, T: Allocator, L: Le
     cut_symbols(alloc, &collective, height, &widths.each, bitmaps, steps)
 }
 
-/// Puts the symbols of a class, each of which has a bitmap of its own, behind the others.
-fn read_symbols<A: Allocator + Clone, S: Allocator, T: Allocator, L: Ledger>(
+/// The bitmap of a symbol behind these new ones (T.88, 6.5.8).
+#[tactic(auto, unfolding(crate::specs::Symbols::symbol_bitmap))]
+fn read_bitmap<A: Allocator + Clone, T: Allocator, L: Ledger>(
     alloc: A,
-    input: &SymbolInput<'_, S, T>,
+    input: &SymbolInput<'_, A, T>,
+    new: &[Bitmap<A>],
+    size: SymbolSize,
+    reader: &mut SymbolReader<'_, A>,
+    steps: &mut Steps<L>,
+) -> Result<Bitmap<A>>
+    requires symbols { length input.now.symbols.now ≤ 2097152 }
+    requires fresh { input.now.header.now.num_new_symbols ≤ 1048576 }
+    ensures { Gives (λ g. (g, reader.new)) result (symbol_bitmap (input_view input.now) new.now size.width size.height reader.old) }
+{
+    if input.header.flags.use_refagg {
+        return reader.read_aggregate(alloc, input, new, size, steps);
+    }
+    reader.decode_symbol(alloc, input.header, size.width, size.height, steps)
+}
+
+/// Puts the symbols of a class, each of which has a bitmap of its own, behind the others.
+fn read_symbols<A: Allocator + Clone, T: Allocator, L: Ledger>(
+    alloc: A,
+    input: &SymbolInput<'_, A, T>,
     room: u32,
     height: u32,
     bitmaps: &mut Vec<Bitmap<A>, A>,
     reader: &mut SymbolReader<'_, A>,
     steps: &mut Steps<L>,
 ) -> Result<()>
+    requires symbols { length input.now.symbols.now ≤ 2097152 }
+    requires fresh { input.now.header.now.num_new_symbols ≤ 1048576 }
     ensures { Gives (λ _. (bitmaps.new.items, reader.new)) result (behind bitmaps.old.items (symbols_from (input_view input.now) room height 0 0 bitmaps.old.items reader.old)) }
 {
     let mut width = 0;
@@ -87,8 +110,11 @@ fn read_symbols<A: Allocator + Clone, S: Allocator, T: Allocator, L: Ledger>(
             Ok(None) => return Ok(()),
             Err(error) => return Err(error),
         };
-        let alloc = alloc.clone()?;
-        let symbol = match reader.decode_symbol(alloc, input.header, next, height, steps) {
+        let size = SymbolSize {
+            width: next,
+            height,
+        };
+        let symbol = match read_bitmap(alloc.clone()?, input, bitmaps, size, reader, steps) {
             Ok(symbol) => symbol,
             Err(error) => return Err(error),
         };
@@ -101,16 +127,18 @@ fn read_symbols<A: Allocator + Clone, S: Allocator, T: Allocator, L: Ledger>(
 
 /// Puts the symbols of any other class behind the others.
 #[tactic(auto, unfolding(crate::specs::Symbols::drawn_class))]
-fn read_drawn_class<A: Allocator + Clone, S: Allocator, T: Allocator, L: Ledger>(
+fn read_drawn_class<A: Allocator + Clone, T: Allocator, L: Ledger>(
     alloc: A,
-    input: &SymbolInput<'_, S, T>,
+    input: &SymbolInput<'_, A, T>,
     height: u32,
     empty: u32,
     bitmaps: &mut Vec<Bitmap<A>, A>,
     reader: &mut SymbolReader<'_, A>,
     steps: &mut Steps<L>,
 ) -> Result<()>
-    requires { length bitmaps.old.items ≤ input.now.header.now.num_new_symbols }
+    requires symbols { length input.now.symbols.now ≤ 2097152 }
+    requires fresh { input.now.header.now.num_new_symbols ≤ 1048576 }
+    requires room { length bitmaps.old.items ≤ input.now.header.now.num_new_symbols }
     ensures { Gives (λ _. (bitmaps.new.items, reader.new)) result (behind bitmaps.old.items (drawn_class (input_view input.now) (input.now.header.now.num_new_symbols - length bitmaps.old.items) height empty bitmaps.old.items reader.old)) }
 {
     let before = bitmaps.len();
@@ -120,16 +148,18 @@ fn read_drawn_class<A: Allocator + Clone, S: Allocator, T: Allocator, L: Ledger>
 }
 
 /// Puts the symbols of a class of this height behind the others.
-fn read_class_of_height<A: Allocator + Clone, S: Allocator, T: Allocator, L: Ledger>(
+fn read_class_of_height<A: Allocator + Clone, T: Allocator, L: Ledger>(
     alloc: A,
-    input: &SymbolInput<'_, S, T>,
+    input: &SymbolInput<'_, A, T>,
     height: u32,
     empty: u32,
     bitmaps: &mut Vec<Bitmap<A>, A>,
     reader: &mut SymbolReader<'_, A>,
     steps: &mut Steps<L>,
 ) -> Result<()>
-    requires { length bitmaps.old.items ≤ input.now.header.now.num_new_symbols }
+    requires symbols { length input.now.symbols.now ≤ 2097152 }
+    requires fresh { input.now.header.now.num_new_symbols ≤ 1048576 }
+    requires room { length bitmaps.old.items ≤ input.now.header.now.num_new_symbols }
     ensures { Gives (λ _. (bitmaps.new.items, reader.new)) result (behind bitmaps.old.items (class_of_height (input_view input.now) height empty bitmaps.old.items reader.old)) }
 {
     if is_collective(&input.header.flags) {
@@ -140,13 +170,15 @@ fn read_class_of_height<A: Allocator + Clone, S: Allocator, T: Allocator, L: Led
 
 /// Reads one height class more.
 #[tactic(auto, unfolding(crate::specs::Symbols::height_class))]
-fn read_height_class<A: Allocator + Clone, S: Allocator, T: Allocator, L: Ledger>(
+fn read_height_class<A: Allocator + Clone, T: Allocator, L: Ledger>(
     alloc: A,
-    input: &SymbolInput<'_, S, T>,
+    input: &SymbolInput<'_, A, T>,
     symbols: &mut NewSymbols<A>,
     reader: &mut SymbolReader<'_, A>,
     steps: &mut Steps<L>,
 ) -> Result<()>
+    requires symbols { length input.now.symbols.now ≤ 2097152 }
+    requires fresh { input.now.header.now.num_new_symbols ≤ 1048576 }
     requires room { length symbols.old.bitmaps.items ≤ input.now.header.now.num_new_symbols }
     requires few { symbols.old.empty < 4294967295 }
     ensures value { Gives (λ _. (symbols.new.bitmaps.items, (symbols.new.height, (symbols.new.empty, reader.new)))) result (class_behind symbols.old.bitmaps.items symbols.old.empty (height_class (input_view input.now) symbols.old.height symbols.old.empty symbols.old.bitmaps.items reader.old)) }
@@ -168,13 +200,14 @@ fn read_height_class<A: Allocator + Clone, S: Allocator, T: Allocator, L: Ledger
 }
 
 /// Reads the new symbols of a dictionary (T.88, 6.5.5).
-pub fn read_new_symbols<A: Allocator + Clone, S: Allocator, T: Allocator, L: Ledger>(
+pub fn read_new_symbols<A: Allocator + Clone, T: Allocator, L: Ledger>(
     alloc: A,
-    input: &SymbolInput<'_, S, T>,
+    input: &SymbolInput<'_, A, T>,
     reader: &mut SymbolReader<'_, A>,
     steps: &mut Steps<L>,
 ) -> Result<Vec<Bitmap<A>, A>>
-    requires { input.now.header.now.num_new_symbols ≤ 1048576 }
+    requires symbols { length input.now.symbols.now ≤ 2097152 }
+    requires fresh { input.now.header.now.num_new_symbols ≤ 1048576 }
     ensures { Gives (λ symbols. (symbols.items, reader.new)) result (new_symbols (input_view input.now) reader.old) }
 {
     let mut symbols = NewSymbols {

@@ -151,9 +151,9 @@ pub fn export_symbols<A: Allocator + Clone, S: Allocator, L: Ledger>(
 /// The errors of `read_runs`; `SymbolError::NoSymbols` where they are not as many as the header states;
 /// `OutOfMemory` where there is no room for them.
 #[tactic(auto, unfolding(crate::specs::Exports::exports))]
-pub fn read_exports<A: Allocator + Clone, S: Allocator, T: Allocator, L: Ledger>(
+pub fn read_exports<A: Allocator + Clone, T: Allocator, L: Ledger>(
     alloc: A,
-    input: &SymbolInput<'_, S, T>,
+    input: &SymbolInput<'_, A, T>,
     new: &[Bitmap<A>],
     reader: &mut SymbolReader<'_, A>,
     steps: &mut Steps<L>,

@@ -1,9 +1,9 @@
-//! The numbers of a symbol dictionary, by prefix codes or by the arithmetic coder (T.88, 6.5).
-ghost use Rattle.std.specs.Prelude.{◌≡◌, Ok};
+//! The numbers and bitmaps of a symbol dictionary, by prefix codes or by the arithmetic coder (T.88, 6.5).
+ghost use Rattle.std.specs.Prelude.{◌≡◌, ◌≤◌, ◌^◌, length, Ok};
 ghost use Rattle.jbig2_base.specs.Answer.{Answers, Gives};
 ghost use Rattle.jbig2_symbol.specs.SymbolBitmaps.{coded_symbol, collective_bitmap};
 ghost use Rattle.jbig2_symbol.specs.SymbolHeader.{header_view};
-ghost use Rattle.jbig2_symbol.specs.SymbolReading.{contexts_view, export_run, first_state, height_difference, width_difference};
+ghost use Rattle.jbig2_symbol.specs.SymbolReading.{contexts_view, export_run, first_state, height_difference, instance_number, learned, number_by, width_difference};
 ghost use Rattle.jbig2_symbol.specs.inner.SymbolViews.{input_view};
 
 use crate::symbol::bitmaps::read_rows;
@@ -13,11 +13,12 @@ use jbig2_base::bitmap::Bitmap;
 use jbig2_base::bitmap::steps::Steps;
 use jbig2_base::error::{DecodeError, HuffmanError, OverflowError, Result};
 use jbig2_base::reader::Reader;
-use jbig2_coder::arithmetic_decoder::ArithmeticDecoder;
-use jbig2_coder::huffman_table::HuffmanTable;
-use jbig2_coder::integer_decoder::IntegerDecoder;
+use jbig2_coder::arithmetic_decoder::ArithmeticDecoderContext;
+use jbig2_coder::huffman_table::{HuffmanTable, StandardHuffmanTables};
+use jbig2_coder::integer_procedures::IntegerProcedure;
 use jbig2_region::generic::decode_coded;
-use jbig2_region::template::GenericTemplatePixels;
+use jbig2_region::template::{GenericTemplatePixels, Template};
+use jbig2_text::text::{CodedReadings, Refining};
 use std::alloc::Allocator;
 use std::marker::Model;
 use std::sync::ledger::Ledger;
@@ -34,49 +35,67 @@ pub struct SymbolTables<'a, T: Allocator> {
 
 /// What a dictionary is decoded by, besides what its reading has come to.
 #[derive(Drop)]
-pub struct SymbolInput<'a, S: Allocator, T: Allocator> {
+pub struct SymbolInput<'a, A: Allocator, T: Allocator> {
     pub header: &'a SymbolDictionaryHeader<'a>,
     /// The symbols of the dictionaries that are referred to.
-    pub symbols: &'a [&'a Bitmap<S>],
+    pub symbols: &'a [&'a Bitmap<A>],
     pub tables: &'a SymbolTables<'a, T>,
+    /// The codes of the ids in symbols that are put together from others.
+    pub ids: &'a HuffmanTable<A>,
+    pub standard: &'a StandardHuffmanTables<T>,
 }
 
 /// What a dictionary's reading has come to.
 #[derive(Drop)]
 pub struct SymbolReader<'a, A: Allocator> {
     /// For prefix codes.
-    reader: Reader<'a>,
-    decoder: ArithmeticDecoder<'a>,
-    heights: IntegerDecoder<A>,
-    widths: IntegerDecoder<A>,
-    runs: IntegerDecoder<A>,
-    bitmaps: RetainedContexts<A>,
+    pub(crate) reader: Reader<'a>,
+    pub(crate) coded: CodedReadings<'a, A>,
+    template: Template,
+    /// What the contexts of the bitmaps have learned.
+    generic: Vec<ArithmeticDecoderContext, A>,
+    pub(crate) refining: Refining<A>,
 }
 
 impl<'a, A: Allocator> Model for SymbolReader<'a, A> {
-    ghost use Rattle.jbig2_symbol.specs.SymbolReading.{SymbolState, contexts_view};
+    ghost use Rattle.std.specs.Prelude.{◌≡◌, ◌^◌, length};
+    ghost use Rattle.jbig2_region.specs.Templates.{context_bits};
+    ghost use Rattle.jbig2_symbol.specs.SymbolReading.{SymbolState};
+    ghost use Rattle.jbig2_text.specs.inner.TextViews.{coded_view};
 
     ghost Value = { SymbolState };
 
-    ghost view = { λ r. record { place = r.reader; coder = r.decoder; heights = r.heights; widths = r.widths; runs = r.runs; bitmaps = contexts_view r.bitmaps } };
+    ghost view = { λ r. record { place = r.reader; coded = coded_view r.coded; template = r.template; generic = r.generic.items; refining = r.refining } };
+
+    ghost invariant = { λ r. length r.generic.items ≡ 2 ^ context_bits r.template };
 }
 
 impl<'a, A: Allocator + Clone> SymbolReader<'a, A> {
-    /// A reader at the beginning of a dictionary's coded bytes, with these contexts of its bitmaps.
+    /// A reader at the beginning of a dictionary's coded bytes, with these contexts of its bitmaps and
+    /// with ids of so many bits.
     pub fn new(
         alloc: A,
-        bytes: &'a [u8],
-        bitmaps: RetainedContexts<A>,
+        header: &SymbolDictionaryHeader<'a>,
+        id_bits: u32,
+        contexts: RetainedContexts<A>,
     ) -> Result<SymbolReader<'a, A>>
-        ensures { Gives (λ reader. reader) result (Ok (first_state bytes.now (contexts_view bitmaps))) }
+        requires { id_bits ≤ 30 }
+        ensures { Gives (λ reader. reader) result (Ok (first_state (header_view header.now) id_bits (contexts_view contexts))) }
     {
+        let coded = CodedReadings::new(alloc, header.bytes, id_bits)?;
+        let RetainedContexts {
+            template,
+            refinement_template,
+            generic_region,
+            refinement_region,
+        } = contexts;
+        let pixels = header.refinement_at_pixels;
         Ok(SymbolReader {
-            reader: Reader::new(bytes),
-            decoder: ArithmeticDecoder::new(bytes),
-            heights: IntegerDecoder::new(alloc.clone()?)?,
-            widths: IntegerDecoder::new(alloc.clone()?)?,
-            runs: IntegerDecoder::new(alloc)?,
-            bitmaps,
+            reader: Reader::new(header.bytes),
+            coded,
+            template,
+            generic: generic_region,
+            refining: Refining::from_contexts(refinement_template, pixels, refinement_region),
         })
     }
 }
@@ -84,13 +103,34 @@ impl<'a, A: Allocator + Clone> SymbolReader<'a, A> {
 impl<A: Allocator> SymbolReader<'_, A> {
     /// What the contexts of the bitmaps have learned.
     pub fn into_contexts(self) -> RetainedContexts<A>
-        ensures { contexts_view result ≡ self.entry.bitmaps }
+        ensures { contexts_view result ≡ learned self.entry }
     {
-        self.bitmaps
+        RetainedContexts {
+            template: self.template,
+            refinement_template: self.refining.template(),
+            generic_region: self.generic,
+            refinement_region: self.refining.into_contexts(),
+        }
+    }
+
+    /// A number, or out of band: by a table of prefix codes, or else by an integer procedure.
+    #[tactic(auto, unfolding(crate::specs::SymbolReading::number_by))]
+    fn read_number<S: Allocator, T: Allocator, L: Ledger>(
+        &mut self,
+        input: &SymbolInput<'_, S, T>,
+        table: &HuffmanTable<T>,
+        procedure: IntegerProcedure,
+        steps: &mut Steps<L>,
+    ) -> Result<Option<i32>>
+        ensures { Answers (λ value. (value, self.new)) result (number_by (input_view input.now) table.now procedure self.old) }
+    {
+        if input.header.flags.use_huffman {
+            return table.decode(&mut self.reader);
+        }
+        Ok(self.coded.next_integer(procedure, steps))
     }
 
     /// A height class's difference in height, or out of band (T.88, 6.5.6).
-    #[tactic(auto, unfolding(crate::specs::SymbolReading::height_difference))]
     pub fn read_height<S: Allocator, T: Allocator, L: Ledger>(
         &mut self,
         input: &SymbolInput<'_, S, T>,
@@ -98,14 +138,10 @@ impl<A: Allocator> SymbolReader<'_, A> {
     ) -> Result<Option<i32>>
         ensures { Answers (λ value. (value, self.new)) result (height_difference (input_view input.now) self.old) }
     {
-        if input.header.flags.use_huffman {
-            return input.tables.heights.decode(&mut self.reader);
-        }
-        Ok(self.heights.decode(&mut self.decoder, steps))
+        self.read_number(input, input.tables.heights, IntegerProcedure::Iadh, steps)
     }
 
     /// A symbol's difference in width; out of band ends a height class (T.88, 6.5.7).
-    #[tactic(auto, unfolding(crate::specs::SymbolReading::width_difference))]
     pub fn read_width<S: Allocator, T: Allocator, L: Ledger>(
         &mut self,
         input: &SymbolInput<'_, S, T>,
@@ -113,14 +149,21 @@ impl<A: Allocator> SymbolReader<'_, A> {
     ) -> Result<Option<i32>>
         ensures { Answers (λ value. (value, self.new)) result (width_difference (input_view input.now) self.old) }
     {
-        if input.header.flags.use_huffman {
-            return input.tables.widths.decode(&mut self.reader);
-        }
-        Ok(self.widths.decode(&mut self.decoder, steps))
+        self.read_number(input, input.tables.widths, IntegerProcedure::Iadw, steps)
+    }
+
+    /// How many instances a symbol is put together from (T.88, 6.5.8.2.1).
+    pub fn read_instance_number<S: Allocator, T: Allocator, L: Ledger>(
+        &mut self,
+        input: &SymbolInput<'_, S, T>,
+        steps: &mut Steps<L>,
+    ) -> Result<Option<i32>>
+        ensures { Answers (λ value. (value, self.new)) result (instance_number (input_view input.now) self.old) }
+    {
+        self.read_number(input, input.tables.counts, IntegerProcedure::Iaai, steps)
     }
 
     /// A run of symbols that are exported, or are not (T.88, 6.5.10).
-    #[tactic(auto, unfolding(crate::specs::SymbolReading::export_run))]
     pub fn read_run<S: Allocator, T: Allocator, L: Ledger>(
         &mut self,
         input: &SymbolInput<'_, S, T>,
@@ -128,10 +171,7 @@ impl<A: Allocator> SymbolReader<'_, A> {
     ) -> Result<Option<i32>>
         ensures { Answers (λ value. (value, self.new)) result (export_run (input_view input.now) self.old) }
     {
-        if input.header.flags.use_huffman {
-            return input.tables.runs.decode(&mut self.reader);
-        }
-        Ok(self.runs.decode(&mut self.decoder, steps))
+        self.read_number(input, input.tables.runs, IntegerProcedure::Iaex, steps)
     }
 
     /// The bitmap of a symbol by the arithmetic coder, which goes on with the dictionary's contexts
@@ -149,12 +189,12 @@ impl<A: Allocator> SymbolReader<'_, A> {
     {
         let mut bitmap = Bitmap::new(alloc, width, height)?;
         decode_coded(
-            self.bitmaps.template,
+            self.template,
             false,
             &GenericTemplatePixels::Regular(header.adaptive_template_pixels),
             &mut bitmap,
-            &mut self.decoder,
-            &mut self.bitmaps.generic_region,
+            &mut self.coded.decoder,
+            &mut self.generic,
             steps,
         );
         Ok(bitmap)

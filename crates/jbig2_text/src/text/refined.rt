@@ -74,7 +74,7 @@ fn outline_of<B: Allocator>(from: &Bitmap<B>, deltas: &RefinementDeltas) -> Resu
 }
 
 /// A white bitmap for a refined symbol.
-fn new_symbol<M: Allocator>(alloc: M, width: u32, height: u32) -> Result<Bitmap<M>>
+pub fn new_symbol<M: Allocator>(alloc: M, width: u32, height: u32) -> Result<Bitmap<M>>
     ensures value { Gives (λ b. b) result (blank_or_overflow width height false) }
     ensures width { IfOk result (λ b. b.width ≡ width) }
     ensures height { IfOk result (λ b. b.height ≡ height) }

@@ -74,6 +74,13 @@ impl<A: Allocator> Refining<A> {
         }
     }
 
+    /// The template of its contexts.
+    pub fn template(&self) -> RefinementTemplate
+        ensures { result ≡ self.now.template }
+    {
+        self.template
+    }
+
     /// The contexts, with what they have learned.
     pub fn into_contexts(self) -> Vec<ArithmeticDecoderContext, A>
         ensures contexts { result.items ≡ self.contexts }

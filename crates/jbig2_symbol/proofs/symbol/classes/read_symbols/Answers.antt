@@ -14,13 +14,13 @@ returns-in-Err g c =
     (sym c.loop-next.invariant
     ∙ symbols-fault (input_view c.args.input.now) c.loop-next.left c.args.height c.loop-next.width c.loop-next.total c.loop-next.bitmaps.items c.loop-next.reader c.in-Err.error c.in-Err.ensures.value)
 
-pub returns-in-Err-decode_symbol : goal.returns-in-Err-decode_symbol
-returns-in-Err-decode_symbol g c =
+pub returns-in-Err-read_bitmap : goal.returns-in-Err-read_bitmap
+returns-in-Err-read_bitmap g c =
     let some = rw c.in-Ok-Some.field-0-is at c.in-Ok-Some.ensures in
-    symbols-undrawn (input_view c.args.input.now) c.loop-next.left (c.loop-next.left - 1) c.args.height c.loop-next.width c.loop-next.total c.loop-next.bitmaps.items c.loop-next.reader c.read_width.new.reader c.in-Ok-Some.field-0 c.in-Ok-Some.next c.in-Err-decode_symbol.error _ (let more = some.some in omega arith) c.in-Ok-Some.field-0-is c.in-Ok-Some.ensures.value c.loop-next.invariant c.in-Err-decode_symbol.ensures
+    symbols-undrawn (input_view c.args.input.now) c.loop-next.left (c.loop-next.left - 1) c.args.height c.loop-next.width c.loop-next.total c.loop-next.bitmaps.items c.loop-next.reader c.read_width.new.reader c.in-Ok-Some.field-0 c.in-Ok-Some.next c.in-Err-read_bitmap.error _ (let more = some.some in omega arith) c.in-Ok-Some.field-0-is c.in-Ok-Some.ensures.value c.loop-next.invariant (rw c.deref.ensures.value at c.in-Err-read_bitmap.ensures)
 
 pub loop-next-preserved : goal.loop-next-preserved
 loop-next-preserved g c =
     let some = rw c.in-Ok-Some.field-0-is at c.in-Ok-Some.ensures in
-    sym (symbols-next (input_view c.args.input.now) c.loop-next.left (c.loop-next.left - 1) c.args.height c.loop-next.width c.loop-next.total c.loop-next.bitmaps.items c.push.new.self.items c.in-Ok.symbol c.loop-next.reader c.read_width.new.reader c.decode_symbol.new.self c.in-Ok-Some.field-0 c.in-Ok-Some.next (let more = some.some in omega arith) c.in-Ok-Some.field-0-is c.in_ok-push.ensures.items c.in-Ok-Some.ensures.value c.in-Ok.ensures)
+    sym (symbols-next (input_view c.args.input.now) c.loop-next.left (c.loop-next.left - 1) c.args.height c.loop-next.width c.loop-next.total c.loop-next.bitmaps.items c.push.new.self.items c.in-Ok.symbol c.loop-next.reader c.read_width.new.reader c.read_bitmap.new.reader c.in-Ok-Some.field-0 c.in-Ok-Some.next (let more = some.some in omega arith) c.in-Ok-Some.field-0-is c.in_ok-push.ensures.items c.in-Ok-Some.ensures.value (rw c.deref.ensures.value at c.in-Ok.ensures))
     ∙ c.loop-next.invariant
