@@ -2,6 +2,8 @@
 //!
 //! `rt try --test --fail-alloc N` in this crate's folder runs these tests with the Nth request for memory
 //! refused; they are written to hold for each N.
+mod t88_example;
+
 use crate::program::run;
 use crate::request::file_word;
 use std::alloc::{AllocError, Global};
@@ -49,11 +51,11 @@ fn ran(
 
 /// Compares a run's status and what it writes. At most one request for memory is refused in a test's run, so
 /// a run that says so is tried again.
-fn expect(
+fn expect_bytes(
     rt: &(impl Abort + Alloc<A = Global>),
     words: &[&str],
     file: Option<&[u8]>,
-    expected: (u8, &str, &str),
+    expected: (u8, &[u8], &str),
 ) {
     let (expected_status, expected_out, expected_err) = expected;
     for attempt in 0..2 {
@@ -66,11 +68,22 @@ fn expect(
             continue;
         }
         assert_eq!(rt; status, expected_status, "{words:?}");
-        assert_eq!(rt; out.as_slice(), expected_out.as_bytes(), "{words:?}");
+        assert_eq!(rt; out.as_slice(), expected_out, "{words:?}");
         assert_eq!(rt; err.as_slice(), expected_err.as_bytes(), "{words:?}");
         return;
     }
     assert!(rt; false, "memory is refused twice");
+}
+
+/// The same, where what is written is text.
+fn expect(
+    rt: &(impl Abort + Alloc<A = Global>),
+    words: &[&str],
+    file: Option<&[u8]>,
+    expected: (u8, &str, &str),
+) {
+    let (status, out, err) = expected;
+    expect_bytes(rt, words, file, (status, out.as_bytes(), err));
 }
 
 #[test]
