@@ -1,5 +1,5 @@
 -- Symbols that are refined from another one or put together from several, computed from the definitions alone.
-use Rattle.std.proofs.Common.{◌≡◌, ℕ, true, false, List, [], ◌∷◌, ◌++◌, None, Result, Ok, Err, refl}
+use Rattle.std.proofs.Common.{◌≡◌, ℕ, true, false, List, [], ◌∷◌, None, Result, Ok, Err, refl}
 use Rattle.jbig2_base.specs.Answer.{◌>>=◌}
 use Rattle.jbig2_base.specs.Bits.{bits_left, bits_on}
 use Rattle.jbig2_base.specs.Combination.{drawn_pixel}
