@@ -1,11 +1,13 @@
 -- Symbols that are refined from another one or put together from several, computed from the definitions alone.
-use Rattle.std.proofs.Common.{◌≡◌, ℕ, true, false, List, [], ◌∷◌, ◌++◌, None, Result, Ok, refl}
+use Rattle.std.proofs.Common.{◌≡◌, ℕ, true, false, List, [], ◌∷◌, None, Result, Ok, Err, refl}
 use Rattle.jbig2_base.specs.Answer.{◌>>=◌}
 use Rattle.jbig2_base.specs.Bits.{bits_left, bits_on}
 use Rattle.jbig2_base.specs.Combination.{drawn_pixel}
 use Rattle.jbig2_base.specs.Grid.{Grid, table, pixel_at}
 use Rattle.jbig2_base.specs.Search.{least}
 use Rattle.jbig2_base.specs.declared.error.DecodeError.{DecodeError}
+use Rattle.jbig2_base.specs.declared.error.DecodeError.TheVariants.{Symbol}
+use Rattle.jbig2_base.specs.declared.error.SymbolError.TheVariants.{Invalid, OutOfRange}
 use Rattle.jbig2_coder.specs.Coder.{byte_at, byte_in, filled, doubled, renormed, started, likely_next, unlikely_next, choice, decision}
 use Rattle.jbig2_coder.specs.PrefixCode.{is_crowded, weight, prefix_code, shorter, decoded, read_code}
 use Rattle.jbig2_coder.specs.Procedures.{asked}
@@ -41,6 +43,16 @@ one_symbol coded = 0x10 ∷ 3 ∷ 0 ∷ 0 ∷ 0 ∷ 1 ∷ 0 ∷ 0 ∷ 0 ∷ 1 �
 row_R8_2 : dictionary white (one_symbol (0x41 ∷ 0 ∷ 0xFC ∷ 0x21 ∷ [])) ≡ Ok (record { exported = dot ∷ []; kept = None })
 unfolding dictionary symbol_header_at symbol_flags_of dictionary_at first_contexts symbol_tables is_crowded weight coded_start asked table_for classes_from height_class number_by drawn_class symbols_from symbol_bitmap next_width aggregate_symbol instance_count refined_alone put_together exports runs_from next_run exported_from ended_runs decoded read_code least prefix_code shorter lines_a lines_b lines_d lines_o bits_left bits_on table pixel_at refined_by decoded_region after_rows after_pixels after_pixel with_next row_begun so_far refined_context byte_at byte_in filled doubled renormed started likely_next unlikely_next choice decision rows row_of refinement_pixels_at
 row_R8_2 = refl
+
+-- an id that is not there yet
+row_R8_2-missing : dictionary white (one_symbol (0x41 ∷ 0x80 ∷ 0xFC ∷ 0x21 ∷ [])) ≡ Err (Symbol OutOfRange)
+unfolding dictionary symbol_header_at symbol_flags_of dictionary_at first_contexts symbol_tables is_crowded weight coded_start asked table_for classes_from height_class number_by drawn_class symbols_from symbol_bitmap next_width aggregate_symbol instance_count refined_alone put_together exports runs_from next_run exported_from ended_runs decoded read_code least prefix_code shorter lines_a lines_b lines_d lines_o bits_left bits_on table pixel_at refinement_pixels_at
+row_R8_2-missing = refl
+
+-- no instance
+row_R8_2-none : dictionary white (one_symbol (0x40 ∷ 0 ∷ 0xFC ∷ 0x21 ∷ [])) ≡ Err (Symbol Invalid)
+unfolding dictionary symbol_header_at symbol_flags_of dictionary_at first_contexts symbol_tables is_crowded weight coded_start asked table_for classes_from height_class number_by drawn_class symbols_from symbol_bitmap next_width aggregate_symbol instance_count put_together exports runs_from next_run exported_from ended_runs decoded read_code least prefix_code shorter lines_a lines_b lines_d bits_left bits_on table pixel_at refinement_pixels_at
+row_R8_2-none = refl
 
 -- a black symbol drawn twice at the same place, and the delta S behind the second instance
 two_instances : dictionary dot (one_symbol (0x42 ∷ 0 ∷ 0 ∷ 0x1F ∷ 0xC2 ∷ 0x10 ∷ [])) ≡ Ok (record { exported = dot ∷ []; kept = None })

@@ -1,7 +1,7 @@
 -- Symbols that are refined from another one or put together from several (T.88, 6.5.8.2), by the readings of text regions.
 -- The coder, the integer procedures, the ids and the refining contexts are those of the dictionary, and go on from symbol
 -- to symbol.
-use Rattle.std.specs.Prelude.{ℕ, suc, zero, ◌+◌, ◌==◌, max, Bool, true, false, ◌&&◌, if◌then◌else◌, List, length, Result, Ok, Err, ℤ, pos, negsuc}
+use Rattle.std.specs.Prelude.{ℕ, suc, zero, ◌+◌, ◌==◌, max, true, false, ◌&&◌, if◌then◌else◌, List, length, Result, Ok, Err, ℤ, pos, negsuc}
 use Rattle.jbig2_base.specs.Answer.{◌>>=◌}
 use Rattle.jbig2_base.specs.Fields.{end_of_bytes}
 use Rattle.jbig2_base.specs.Grid.{Grid, blank}
@@ -12,10 +12,9 @@ use Rattle.jbig2_base.specs.declared.error.DecodeError.TheVariants.{Symbol}
 use Rattle.jbig2_base.specs.declared.error.SymbolError.TheVariants.{Invalid, UnexpectedOob}
 use Rattle.jbig2_coder.specs.PrefixCode.{Member, table_of}
 use Rattle.jbig2_coder.specs.Tables.{uniform}
-use Rattle.jbig2_region.specs.Refinement.{Reference}
 use Rattle.jbig2_text.specs.Refining.{Refining}
 use Rattle.jbig2_text.specs.Text.{Readings, TextParams, some_symbol, symbol_of, text_region}
-use Rattle.jbig2_text.specs.TextCoding.{Coded, Prefixed, by_coder, by_prefix_codes, next_id, prefixed_bits}
+use Rattle.jbig2_text.specs.TextCoding.{Prefixed, by_coder, by_prefix_codes, next_id, prefixed_bits}
 use Rattle.jbig2_text.specs.TextRegion.{aggregate_tables}
 use Rattle.jbig2_text.specs.declared.text.header.ReferenceCorner.TheVariants.{TopLeft}
 use Rattle.jbig2_text.specs.declared.text.header.TextRegionFlags.{TextRegionFlags}

@@ -44,7 +44,11 @@ fn decode_with<A: Allocator + Clone, T: Allocator, L: Ledger>(
 ) -> Result<SymbolDictionary<A>>
     requires few { length input.now.symbols.now ≤ 2097152 }
     requires fresh { input.now.header.now.num_new_symbols ≤ 1048576 }
-    ensures { Gives (λ d. dictionary_view d) result (symbols_at (input_view input.now) (first_state (header_view input.now.header.now) (state_bits (header_view input.now.header.now) (length input.now.symbols.now)) (contexts_view contexts))) }
+    ensures { let d = input_view input.now in
+        let h = header_view input.now.header.now in
+        let bits = state_bits h (length input.now.symbols.now) in
+        let meant = symbols_at d (first_state h bits (contexts_view contexts)) in
+        Gives (λ d. dictionary_view d) result meant }
 {
     let bits = state_bits(input.header, input.symbols.len());
     let mut reader = SymbolReader::new(alloc.clone()?, input.header, bits, contexts)?;
@@ -79,7 +83,11 @@ pub fn decode<A: Allocator + Clone, T: Allocator, K: Allocator, L: Ledger>(
 ) -> Result<SymbolDictionary<A>>
     requires few { length symbols.now ≤ 2097152 }
     requires fresh { header.now.num_new_symbols ≤ 1048576 }
-    ensures { Gives (λ d. dictionary_view d) result (dictionary_at (header_view header.now) (map (λ b. b.now) symbols.now) (referred_view referred_tables.now) (kept_view retained_contexts.entry)) }
+    ensures { let h = header_view header.now in
+        let grids = map (λ b. b.now) symbols.now in
+        let referred = referred_view referred_tables.now in
+        let meant = dictionary_at h grids referred (kept_view retained_contexts.entry) in
+        Gives (λ d. dictionary_view d) result meant }
 {
     let contexts = first_contexts(alloc.clone()?, &header.flags, retained_contexts)?;
     let tables = symbol_tables(&header.flags, standard_tables, referred_tables)?;

@@ -101,7 +101,8 @@ fn refine_alone<R: ReadInstances, A: Allocator, M: Allocator, C: Allocator, L: L
     steps: &mut Steps<L>,
 ) -> Result<Bitmap<M>>
     ensures { let state = R.state readings.old in
-        let meant = refined_alone R.readings (list_view symbols.now) id size.width size.height refining.old state in
+        let all = list_view symbols.now in
+        let meant = refined_alone R.readings all id size.width size.height refining.old state in
         Gives (λ g. (g, refining.new, R.state readings.new)) result meant }
 {
     let dx = readings.x_delta(steps)?;
@@ -127,7 +128,8 @@ fn put_together<R: ReadInstances, A: Allocator, M: Allocator + Clone, C: Allocat
 ) -> Result<Bitmap<M>>
     requires { params.now.flags.log_strip_size ≤ 3 }
     ensures { let state = R.state readings.old in
-        let meant = put_together R.readings (params_view params.now) size.width size.height refining.old state in
+        let p = params_view params.now in
+        let meant = put_together R.readings p size.width size.height refining.old state in
         Gives (λ g. (g, refining.new, R.state readings.new)) result meant }
 {
     let mut symbol = new_symbol(alloc.clone()?, size.width, size.height)?;
@@ -148,7 +150,9 @@ fn read_prefixed<T: Allocator, A: Allocator, M: Allocator + Clone, C: Allocator,
     requires bits { id_bits ≤ 32 }
     requires strips { params.now.flags.log_strip_size ≤ 3 }
     ensures { let state = prefixed_view readings.old in
-        let meant = by_instances by_prefix_codes (plain_id id_bits) (params_view params.now) size.width size.height refining.old state in
+        let p = params_view params.now in
+        let read = by_instances by_prefix_codes (plain_id id_bits) p in
+        let meant = read size.width size.height refining.old state in
         Gives (λ g. (g, refining.new, prefixed_view readings.new)) result meant }
 {
     if params.num_instances != 1 {
@@ -167,7 +171,8 @@ impl<A: Allocator> SymbolReader<'_, A> {
         input: &SymbolInput<'_, S, T>,
         steps: &mut Steps<L>,
     ) -> Result<u32>
-        ensures { Answers (λ count. (count, self.new)) result (instance_count (input_view input.now) self.old) }
+        ensures { let meant = instance_count (input_view input.now) self.old in
+            Answers (λ count. (count, self.new)) result meant }
     {
         let Some(number) = self.read_instance_number(input, steps)? else {
             return Err(DecodeError::Symbol(SymbolError::UnexpectedOob));
@@ -187,7 +192,9 @@ impl<A: Allocator> SymbolReader<'_, A> {
         steps: &mut Steps<L>,
     ) -> Result<Bitmap<M>>
         requires { params.now.flags.log_strip_size ≤ 3 }
-        ensures { Gives (λ g. (g, self.new)) result (coded_aggregate (params_view params.now) size.width size.height self.old) }
+        ensures { let p = params_view params.now in
+            let meant = coded_aggregate p size.width size.height self.old in
+            Gives (λ g. (g, self.new)) result meant }
     {
         let readings = &mut self.coded;
         let refining = &mut self.refining;
@@ -210,7 +217,10 @@ impl<A: Allocator> SymbolReader<'_, A> {
         requires symbols { length input.now.symbols.now ≤ 2097152 }
         requires fresh { input.now.header.now.num_new_symbols ≤ 1048576 }
         requires strips { params.now.flags.log_strip_size ≤ 3 }
-        ensures { Gives (λ g. (g, self.new)) result (prefixed_aggregate (input_view input.now) (params_view params.now) size.width size.height self.old) }
+        ensures { let d = input_view input.now in
+            let p = params_view params.now in
+            let meant = prefixed_aggregate d p size.width size.height self.old in
+            Gives (λ g. (g, self.new)) result meant }
     {
         let bits = id_bits(input.header, input.symbols.len()).max(1) as u8;
         let mut readings = PrefixedReadings {
@@ -241,7 +251,10 @@ impl<A: Allocator> SymbolReader<'_, A> {
     ) -> Result<Bitmap<M>>
         requires symbols { length input.now.symbols.now ≤ 2097152 }
         requires fresh { input.now.header.now.num_new_symbols ≤ 1048576 }
-        ensures { Gives (λ g. (g, self.new)) result (aggregate_symbol (input_view input.now) (all_symbols input.now.symbols.now new.now) size.width size.height self.old) }
+        ensures { let d = input_view input.now in
+            let symbols = all_symbols input.now.symbols.now new.now in
+            let meant = aggregate_symbol d symbols size.width size.height self.old in
+            Gives (λ g. (g, self.new)) result meant }
     {
         let count = self.read_instance_count(input, steps)?;
         let params = TextParams {

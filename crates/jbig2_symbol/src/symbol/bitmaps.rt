@@ -91,7 +91,8 @@ fn read_raw_rows<A: Allocator, L: Ledger>(
     steps: &mut Steps<L>,
 ) -> Result<Bitmap<A>>
     requires { IsAligned reader.old }
-    ensures value { Gives (λ bitmap. (bitmap, reader.new.bytes)) result (raw_rows width height reader.old.bytes) }
+    ensures value { let meant = raw_rows width height reader.old.bytes in
+        Gives (λ bitmap. (bitmap, reader.new.bytes)) result meant }
     ensures aligned { IsAligned reader.new }
 {
     let mut bitmap = Bitmap::new_wide(alloc, width, height)?;
@@ -118,7 +119,8 @@ fn read_mmr_rows<A: Allocator, L: Ledger>(
     steps: &mut Steps<L>,
 ) -> Result<Bitmap<A>>
     requires { IsAligned reader.old }
-    ensures value { Gives (λ bitmap. (bitmap, reader.new.bytes)) result (mmr_bytes strict size width height reader.old.bytes) }
+    ensures value { let meant = mmr_bytes strict size width height reader.old.bytes in
+        Gives (λ bitmap. (bitmap, reader.new.bytes)) result meant }
     ensures aligned { IsAligned reader.new }
 {
     let bytes = bytes_field(reader, size)?;
@@ -139,7 +141,8 @@ pub fn read_rows<A: Allocator, L: Ledger>(
     steps: &mut Steps<L>,
 ) -> Result<Bitmap<A>>
     requires { IsAligned reader.old }
-    ensures value { Gives (λ bitmap. (bitmap, reader.new.bytes)) result (rows_of_size strict size width height reader.old.bytes) }
+    ensures value { let meant = rows_of_size strict size width height reader.old.bytes in
+        Gives (λ bitmap. (bitmap, reader.new.bytes)) result meant }
     ensures aligned { IsAligned reader.new }
 {
     if size == 0 {
@@ -159,7 +162,9 @@ pub fn cut_symbols<A: Allocator + Clone, B: Allocator, L: Ledger>(
     steps: &mut Steps<L>,
 ) -> Result<()>
     requires { sum widths.now ≤ 4294967295 }
-    ensures { Gives (λ _. symbols.new.items) result (put_behind symbols.old.items (symbols_cut collective.now height 0 widths.now)) }
+    ensures { let cut = symbols_cut collective.now height 0 widths.now in
+        let meant = put_behind symbols.old.items cut in
+        Gives (λ _. symbols.new.items) result meant }
 {
     let mut left = 0;
     for width in widths {

@@ -57,7 +57,10 @@ fn read_collective_class<A: Allocator + Clone, T: Allocator, L: Ledger>(
     steps: &mut Steps<L>,
 ) -> Result<()>
     requires { length bitmaps.old.items ≤ input.now.header.now.num_new_symbols }
-    ensures { Gives (λ _. (bitmaps.new.items, reader.new)) result (behind bitmaps.old.items (collective_class (input_view input.now) (input.now.header.now.num_new_symbols - length bitmaps.old.items) height empty reader.old)) }
+    ensures { let room = input.now.header.now.num_new_symbols - length bitmaps.old.items in
+        let d = input_view input.now in
+        let meant = behind bitmaps.old.items (collective_class d room height empty reader.old) in
+        Gives (λ _. (bitmaps.new.items, reader.new)) result meant }
 {
     let room = input.header.num_new_symbols - bitmaps.len() as u32;
     let widths = read_widths(alloc.clone()?, input, room, reader, steps)?;
@@ -79,7 +82,9 @@ fn read_bitmap<A: Allocator + Clone, T: Allocator, L: Ledger>(
 ) -> Result<Bitmap<A>>
     requires symbols { length input.now.symbols.now ≤ 2097152 }
     requires fresh { input.now.header.now.num_new_symbols ≤ 1048576 }
-    ensures { Gives (λ g. (g, reader.new)) result (symbol_bitmap (input_view input.now) new.now size.width size.height reader.old) }
+    ensures { let d = input_view input.now in
+        let meant = symbol_bitmap d new.now size.width size.height reader.old in
+        Gives (λ g. (g, reader.new)) result meant }
 {
     if input.header.flags.use_refagg {
         return reader.read_aggregate(alloc, input, new, size, steps);
@@ -99,7 +104,10 @@ fn read_symbols<A: Allocator + Clone, T: Allocator, L: Ledger>(
 ) -> Result<()>
     requires symbols { length input.now.symbols.now ≤ 2097152 }
     requires fresh { input.now.header.now.num_new_symbols ≤ 1048576 }
-    ensures { Gives (λ _. (bitmaps.new.items, reader.new)) result (behind bitmaps.old.items (symbols_from (input_view input.now) room height 0 0 bitmaps.old.items reader.old)) }
+    ensures { let d = input_view input.now in
+        let before = bitmaps.old.items in
+        let meant = behind before (symbols_from d room height 0 0 before reader.old) in
+        Gives (λ _. (bitmaps.new.items, reader.new)) result meant }
 {
     let mut width = 0;
     let mut total = 0;
@@ -139,7 +147,11 @@ fn read_drawn_class<A: Allocator + Clone, T: Allocator, L: Ledger>(
     requires symbols { length input.now.symbols.now ≤ 2097152 }
     requires fresh { input.now.header.now.num_new_symbols ≤ 1048576 }
     requires room { length bitmaps.old.items ≤ input.now.header.now.num_new_symbols }
-    ensures { Gives (λ _. (bitmaps.new.items, reader.new)) result (behind bitmaps.old.items (drawn_class (input_view input.now) (input.now.header.now.num_new_symbols - length bitmaps.old.items) height empty bitmaps.old.items reader.old)) }
+    ensures { let room = input.now.header.now.num_new_symbols - length bitmaps.old.items in
+        let d = input_view input.now in
+        let before = bitmaps.old.items in
+        let meant = behind before (drawn_class d room height empty before reader.old) in
+        Gives (λ _. (bitmaps.new.items, reader.new)) result meant }
 {
     let before = bitmaps.len();
     let room = input.header.num_new_symbols - before as u32;
@@ -160,7 +172,10 @@ fn read_class_of_height<A: Allocator + Clone, T: Allocator, L: Ledger>(
     requires symbols { length input.now.symbols.now ≤ 2097152 }
     requires fresh { input.now.header.now.num_new_symbols ≤ 1048576 }
     requires room { length bitmaps.old.items ≤ input.now.header.now.num_new_symbols }
-    ensures { Gives (λ _. (bitmaps.new.items, reader.new)) result (behind bitmaps.old.items (class_of_height (input_view input.now) height empty bitmaps.old.items reader.old)) }
+    ensures { let d = input_view input.now in
+        let before = bitmaps.old.items in
+        let meant = behind before (class_of_height d height empty before reader.old) in
+        Gives (λ _. (bitmaps.new.items, reader.new)) result meant }
 {
     if is_collective(&input.header.flags) {
         return read_collective_class(alloc, input, height, empty, bitmaps, reader, steps);
@@ -181,7 +196,12 @@ fn read_height_class<A: Allocator + Clone, T: Allocator, L: Ledger>(
     requires fresh { input.now.header.now.num_new_symbols ≤ 1048576 }
     requires room { length symbols.old.bitmaps.items ≤ input.now.header.now.num_new_symbols }
     requires few { symbols.old.empty < 4294967295 }
-    ensures value { Gives (λ _. (symbols.new.bitmaps.items, (symbols.new.height, (symbols.new.empty, reader.new)))) result (class_behind symbols.old.bitmaps.items symbols.old.empty (height_class (input_view input.now) symbols.old.height symbols.old.empty symbols.old.bitmaps.items reader.old)) }
+    ensures value { let d = input_view input.now in
+        let before = symbols.old in
+        let class = height_class d before.height before.empty before.bitmaps.items reader.old in
+        let meant = class_behind before.bitmaps.items before.empty class in
+        let all = symbols.new in
+        Gives (λ _. (all.bitmaps.items, (all.height, (all.empty, reader.new)))) result meant }
     ensures few { OnOk result (symbols.new.empty ≤ symbols.old.empty + 1) }
 {
     let Some(difference) = reader.read_height(input, steps)? else {
@@ -208,7 +228,8 @@ pub fn read_new_symbols<A: Allocator + Clone, T: Allocator, L: Ledger>(
 ) -> Result<Vec<Bitmap<A>, A>>
     requires symbols { length input.now.symbols.now ≤ 2097152 }
     requires fresh { input.now.header.now.num_new_symbols ≤ 1048576 }
-    ensures { Gives (λ symbols. (symbols.items, reader.new)) result (new_symbols (input_view input.now) reader.old) }
+    ensures { let meant = new_symbols (input_view input.now) reader.old in
+        Gives (λ symbols. (symbols.items, reader.new)) result meant }
 {
     let mut symbols = NewSymbols {
         bitmaps: Vec::new(alloc.clone()?),

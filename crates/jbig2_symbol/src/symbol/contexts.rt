@@ -37,7 +37,8 @@ fn fresh_contexts<A: Allocator + Clone>(
     alloc: A,
     flags: &SymbolDictionaryFlags,
 ) -> Result<RetainedContexts<A>>
-    ensures { Gives (λ contexts. contexts_view contexts) result (Ok (fresh_bitmap_contexts flags.now)) }
+    ensures { let meant = Ok (fresh_bitmap_contexts flags.now) in
+        Gives (λ contexts. contexts_view contexts) result meant }
 {
     let mut generic_region = Vec::new(alloc.clone()?);
     raster::fresh_contexts(&mut generic_region, flags.template.context_bits())?;
@@ -83,7 +84,9 @@ pub fn first_contexts<A: Allocator + Clone, K: Allocator>(
     flags: &SymbolDictionaryFlags,
     kept: Option<&RetainedContexts<K>>,
 ) -> Result<RetainedContexts<A>>
-    ensures { Gives (λ contexts. contexts_view contexts) result (first_contexts flags.now (option_map (λ c. contexts_view c.now) kept.entry)) }
+    ensures { let others = option_map (λ c. contexts_view c.now) kept.entry in
+        let meant = first_contexts flags.now others in
+        Gives (λ contexts. contexts_view contexts) result meant }
 {
     if !flags.bitmap_context_used {
         return fresh_contexts(alloc, flags);

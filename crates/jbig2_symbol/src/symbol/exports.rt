@@ -24,7 +24,8 @@ fn read_run<A: Allocator, S: Allocator, T: Allocator, L: Ledger>(
     reader: &mut SymbolReader<'_, A>,
     steps: &mut Steps<L>,
 ) -> Result<u32>
-    ensures value { Answers (λ run. (run, reader.new)) result (next_run (input_view input.now) empty left reader.old) }
+    ensures value { let meant = next_run (input_view input.now) empty left reader.old in
+        Answers (λ run. (run, reader.new)) result meant }
     ensures within { IfOk result (λ run. run ≤ left) }
     ensures few { IfOk result (λ run. run ≡ 0 → empty < 1048576) }
 {
@@ -53,7 +54,8 @@ pub fn read_runs<A: Allocator, B: Allocator, S: Allocator, T: Allocator, L: Ledg
     steps: &mut Steps<L>,
 ) -> Result<Vec<u32, B>>
     requires { count ≤ 9223372036855824384 }
-    ensures value { Gives (λ runs. (runs.items, reader.new)) result (export_runs (input_view input.now) count reader.old) }
+    ensures value { let meant = export_runs (input_view input.now) count reader.old in
+        Gives (λ runs. (runs.items, reader.new)) result meant }
     ensures whole { IfOk result (λ runs. sum runs.items ≡ count) }
 {
     let mut runs = Vec::new(alloc);
@@ -84,7 +86,9 @@ fn duplicate_symbol<A: Allocator, S: Allocator, L: Ledger>(
     steps: &mut Steps<L>,
 ) -> Result<Bitmap<A>>
     requires { index < length symbols.now + length new.now }
-    ensures { Gives (λ symbol. symbol) result (Ok (slice_index_or (all_symbols symbols.now new.now) index (blank 0 0 false))) }
+    ensures { let all = all_symbols symbols.now new.now in
+        let meant = Ok (slice_index_or all index (blank 0 0 false)) in
+        Gives (λ symbol. symbol) result meant }
 {
     if index < symbols.len() {
         return symbols[index].duplicate(alloc, steps);
@@ -103,7 +107,9 @@ fn push_symbols<A: Allocator + Clone, S: Allocator, L: Ledger>(
     steps: &mut Steps<L>,
 ) -> Result<()>
     requires { first + count ≤ length symbols.now + length new.now }
-    ensures { Gives (λ _. exported.new.items) result (Ok (exported.old.items ++ take count (drop first (all_symbols symbols.now new.now)))) }
+    ensures { let all = all_symbols symbols.now new.now in
+        let meant = Ok (exported.old.items ++ take count (drop first all)) in
+        Gives (λ _. exported.new.items) result meant }
 {
     for k in 0..count {
         exported.push(duplicate_symbol(alloc.clone()?, symbols, new, first + k, steps)?)?;
@@ -120,7 +126,8 @@ pub fn export_symbols<A: Allocator + Clone, S: Allocator, L: Ledger>(
     steps: &mut Steps<L>,
 ) -> Result<Vec<Bitmap<A>, A>>
     requires { sum runs.now ≡ length symbols.now + length new.now }
-    ensures { Gives (λ symbols. symbols.items) result (Ok (exported runs.now (all_symbols symbols.now new.now))) }
+    ensures { let meant = Ok (exported runs.now (all_symbols symbols.now new.now)) in
+        Gives (λ symbols. symbols.items) result meant }
 {
     let mut exported = Vec::new(alloc.clone()?);
     let mut first = 0;
@@ -159,7 +166,9 @@ pub fn read_exports<A: Allocator + Clone, T: Allocator, L: Ledger>(
     steps: &mut Steps<L>,
 ) -> Result<Vec<Bitmap<A>, A>>
     requires { length input.now.symbols.now ≤ 2097152 }
-    ensures { Gives (λ symbols. (symbols.items, reader.new)) result (exports (input_view input.now) (all_symbols input.now.symbols.now new.now) reader.old) }
+    ensures { let d = input_view input.now in
+        let meant = exports d (all_symbols input.now.symbols.now new.now) reader.old in
+        Gives (λ symbols. (symbols.items, reader.new)) result meant }
 {
     let count = input.symbols.len() as u64 + new.len() as u64;
     let runs = read_runs(alloc.clone()?, input, count, reader, steps)?;

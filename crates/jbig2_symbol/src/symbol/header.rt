@@ -123,7 +123,8 @@ fn parse_coded_pixels(
     flags: &SymbolDictionaryFlags,
 ) -> Result<[AdaptiveTemplatePixel; 4]>
     requires { IsAligned reader.old }
-    ensures value { Answers (λ pixels. (pixels, reader.new.bytes)) result (coded_pixels_at flags.now reader.old.bytes) }
+    ensures value { let meant = coded_pixels_at flags.now reader.old.bytes in
+        Answers (λ pixels. (pixels, reader.new.bytes)) result meant }
     ensures aligned { IsAligned reader.new }
 {
     if flags.use_huffman {
@@ -138,7 +139,8 @@ fn parse_refined_pixels(
     flags: &SymbolDictionaryFlags,
 ) -> Result<[AdaptiveTemplatePixel; 2]>
     requires { IsAligned reader.old }
-    ensures value { Answers (λ pixels. (pixels, reader.new.bytes)) result (refined_pixels_at flags.now reader.old.bytes) }
+    ensures value { let meant = refined_pixels_at flags.now reader.old.bytes in
+        Answers (λ pixels. (pixels, reader.new.bytes)) result meant }
     ensures aligned { IsAligned reader.new }
 {
     if !flags.use_refagg {
@@ -158,7 +160,8 @@ fn parse_refined_pixels(
 #[tactic(auto, unfolding(crate::specs::SymbolHeader::symbol_header_at))]
 pub fn parse<'a>(reader: &mut Reader<'a>, strict: bool) -> Result<SymbolDictionaryHeader<'a>>
     requires { IsAligned reader.old }
-    ensures value { Answers (λ h. (header_view h, reader.new.bytes)) result (symbol_header_at strict reader.old.bytes) }
+    ensures value { let meant = symbol_header_at strict reader.old.bytes in
+        Answers (λ h. (header_view h, reader.new.bytes)) result meant }
     ensures aligned { IsAligned reader.new }
     ensures exported { IfOk result (λ h. h.num_exported_symbols ≤ 1048576) }
     ensures fresh { IfOk result (λ h. h.num_new_symbols ≤ 1048576) }

@@ -80,7 +80,9 @@ impl<'a, A: Allocator + Clone> SymbolReader<'a, A> {
         contexts: RetainedContexts<A>,
     ) -> Result<SymbolReader<'a, A>>
         requires { id_bits ≤ 30 }
-        ensures { Gives (λ reader. reader) result (Ok (first_state (header_view header.now) id_bits (contexts_view contexts))) }
+        ensures { let h = header_view header.now in
+            let meant = Ok (first_state h id_bits (contexts_view contexts)) in
+            Gives (λ reader. reader) result meant }
     {
         let coded = CodedReadings::new(alloc, header.bytes, id_bits)?;
         let RetainedContexts {
@@ -122,7 +124,8 @@ impl<A: Allocator> SymbolReader<'_, A> {
         procedure: IntegerProcedure,
         steps: &mut Steps<L>,
     ) -> Result<Option<i32>>
-        ensures { Answers (λ value. (value, self.new)) result (number_by (input_view input.now) table.now procedure self.old) }
+        ensures { let meant = number_by (input_view input.now) table.now procedure self.old in
+            Answers (λ value. (value, self.new)) result meant }
     {
         if input.header.flags.use_huffman {
             return table.decode(&mut self.reader);
@@ -136,7 +139,8 @@ impl<A: Allocator> SymbolReader<'_, A> {
         input: &SymbolInput<'_, S, T>,
         steps: &mut Steps<L>,
     ) -> Result<Option<i32>>
-        ensures { Answers (λ value. (value, self.new)) result (height_difference (input_view input.now) self.old) }
+        ensures { let meant = height_difference (input_view input.now) self.old in
+            Answers (λ value. (value, self.new)) result meant }
     {
         self.read_number(input, input.tables.heights, IntegerProcedure::Iadh, steps)
     }
@@ -147,7 +151,8 @@ impl<A: Allocator> SymbolReader<'_, A> {
         input: &SymbolInput<'_, S, T>,
         steps: &mut Steps<L>,
     ) -> Result<Option<i32>>
-        ensures { Answers (λ value. (value, self.new)) result (width_difference (input_view input.now) self.old) }
+        ensures { let meant = width_difference (input_view input.now) self.old in
+            Answers (λ value. (value, self.new)) result meant }
     {
         self.read_number(input, input.tables.widths, IntegerProcedure::Iadw, steps)
     }
@@ -158,7 +163,8 @@ impl<A: Allocator> SymbolReader<'_, A> {
         input: &SymbolInput<'_, S, T>,
         steps: &mut Steps<L>,
     ) -> Result<Option<i32>>
-        ensures { Answers (λ value. (value, self.new)) result (instance_number (input_view input.now) self.old) }
+        ensures { let meant = instance_number (input_view input.now) self.old in
+            Answers (λ value. (value, self.new)) result meant }
     {
         self.read_number(input, input.tables.counts, IntegerProcedure::Iaai, steps)
     }
@@ -169,7 +175,8 @@ impl<A: Allocator> SymbolReader<'_, A> {
         input: &SymbolInput<'_, S, T>,
         steps: &mut Steps<L>,
     ) -> Result<Option<i32>>
-        ensures { Answers (λ value. (value, self.new)) result (export_run (input_view input.now) self.old) }
+        ensures { let meant = export_run (input_view input.now) self.old in
+            Answers (λ value. (value, self.new)) result meant }
     {
         self.read_number(input, input.tables.runs, IntegerProcedure::Iaex, steps)
     }
@@ -185,7 +192,8 @@ impl<A: Allocator> SymbolReader<'_, A> {
         height: u32,
         steps: &mut Steps<L>,
     ) -> Result<Bitmap<B>>
-        ensures { Gives (λ symbol. (symbol, self.new)) result (coded_symbol (header_view header.now) width height self.old) }
+        ensures { let meant = coded_symbol (header_view header.now) width height self.old in
+            Gives (λ symbol. (symbol, self.new)) result meant }
     {
         let mut bitmap = Bitmap::new(alloc, width, height)?;
         decode_coded(
@@ -210,7 +218,8 @@ impl<A: Allocator> SymbolReader<'_, A> {
         height: u32,
         steps: &mut Steps<L>,
     ) -> Result<Bitmap<B>>
-        ensures { Gives (λ bitmap. (bitmap, self.new)) result (collective_bitmap (input_view input.now) width height self.old) }
+        ensures { let meant = collective_bitmap (input_view input.now) width height self.old in
+            Gives (λ bitmap. (bitmap, self.new)) result meant }
     {
         let Some(size) = input.tables.sizes.decode(&mut self.reader)? else {
             return Err(DecodeError::Huffman(HuffmanError::UnexpectedOob));

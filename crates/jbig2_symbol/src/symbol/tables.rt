@@ -51,7 +51,8 @@ pub fn symbol_tables<'a, T: Allocator>(
     standard: &'a StandardHuffmanTables<T>,
     referred: &'a [&'a HuffmanTable<T>],
 ) -> Result<SymbolTables<'a, T>>
-    ensures { Answers (λ tables. tables_view tables) result (symbol_tables flags.now (referred_view referred.now)) }
+    ensures { let meant = symbol_tables flags.now (referred_view referred.now) in
+        Answers (λ tables. tables_view tables) result meant }
 {
     let heights = custom(flags.delta_height_table);
     let widths = heights + custom(flags.delta_width_table);

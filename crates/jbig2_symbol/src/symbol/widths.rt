@@ -75,7 +75,8 @@ pub fn read_width<A: Allocator, S: Allocator, T: Allocator, L: Ledger>(
     reader: &mut SymbolReader<'_, A>,
     steps: &mut Steps<L>,
 ) -> Result<Option<(u32, u32)>>
-    ensures value { Answers (λ next. (next, reader.new)) result (next_width (input_view input.now) room width total reader.old) }
+    ensures value { let meant = next_width (input_view input.now) room width total reader.old in
+        Answers (λ next. (next, reader.new)) result meant }
     ensures some { IfOk result (λ next. IfSome next (λ _. 0 < room)) }
     ensures exact { IfOk result (λ next. IfSome next (λ pair. pair.1 ≡ total + pair.0)) }
 {
@@ -91,7 +92,8 @@ pub fn read_widths<A: Allocator, B: Allocator, S: Allocator, T: Allocator, L: Le
     reader: &mut SymbolReader<'_, A>,
     steps: &mut Steps<L>,
 ) -> Result<ClassWidths<B>>
-    ensures { Gives (λ widths. (widths.each.items, reader.new)) result (widths_from (input_view input.now) room 0 0 reader.old) }
+    ensures { let meant = widths_from (input_view input.now) room 0 0 reader.old in
+        Gives (λ widths. (widths.each.items, reader.new)) result meant }
 {
     let mut each = Vec::new(alloc);
     let mut width = 0;

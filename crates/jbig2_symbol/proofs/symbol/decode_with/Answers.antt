@@ -1,7 +1,4 @@
-use Rattle.std.proofs.Common.{length, rules, ⊎_elim}
 use Rattle.std.proofs.lemmas.Result.{err_from_is_err_and}
-use Rattle.jbig2_symbol.specs.Aggregates.{state_bits}
-use Rattle.jbig2_symbol.specs.SymbolHeader.{header_view}
 use Rattle.jbig2_symbol.specs.SymbolReading.{contexts_view}
 use Rattle.jbig2_symbol.specs.inner.SymbolViews.{input_view}
 use Rattle.jbig2_symbol.proofs.AggregateLemmas.{not-exported}
