@@ -5,7 +5,7 @@ use Rattle.jbig2_base.specs.declared.error.DecodeError.{DecodeError}
 use Rattle.jbig2_base.specs.declared.error.DecodeError.TheVariants.{Format, OutOfMemory}
 use Rattle.jbig2_base.specs.declared.error.FormatError.TheVariants.{MissingPageInfo}
 use Rattle.hayro_jbig2.specs.Files.{book_at, page_of}
-use Rattle.hayro_jbig2.specs.Image.{image_of_page}
+use Rattle.hayro_jbig2.specs.Image.{image_of_page, packed_of_page}
 use Rattle.hayro_jbig2.specs.Page.{ReadPage}
 use Rattle.hayro_jbig2.specs.declared.jbig2_error.Jbig2Error.{Jbig2Error}
 use Rattle.hayro_jbig2.specs.declared.jbig2_error.Jbig2Error.TheVariants.{Io, Decode}
@@ -25,6 +25,10 @@ first_size bytes = first_page bytes >>= λ page. Ok (page.sheet.width, page.shee
 -- a byte for each of its pixels
 abbrev pub first_image : List ℕ → Result (List ℕ) DecodeError
 first_image bytes = first_page bytes >>= λ page. image_of_page page
+
+-- its packed rows
+abbrev pub first_packed : List ℕ → Result (List ℕ) DecodeError
+first_packed bytes = first_page bytes >>= λ page. packed_of_page page
 
 -- All bytes of a file, and the size of its first page.
 pub record Scan : Type 0 where

@@ -1,9 +1,10 @@
 -- A page as bytes (our own rule).
-use Rattle.std.specs.Prelude.{ℕ, ◌*◌, ◌/◌, ◌%◌, Bool, List, map, Result, Ok, if◌then◌else◌}
+use Rattle.std.specs.Prelude.{ℕ, ◌+◌, ◌-◌, ◌*◌, ◌/◌, ◌%◌, Bool, List, map, Result, Ok, if◌then◌else◌}
 use Rattle.std.specs.List.{range_with_len}
 use Rattle.jbig2_base.specs.Answer.{◌>>=◌}
 use Rattle.jbig2_base.specs.Grid.{Grid, pixel_at}
 use Rattle.jbig2_base.specs.declared.error.DecodeError.{DecodeError}
+use Rattle.jbig2_coder.specs.Integers.{number}
 use Rattle.hayro_jbig2.specs.Page.{ReadPage, grid_of_page}
 
 -- black is 0, and white is 255
@@ -17,3 +18,27 @@ image_of width height g = map (λ n. shade (pixel_at g (n % width) (n / width)))
 -- the bytes of the page's grid, or the page's error
 abbrev pub image_of_page : ReadPage → Result (List ℕ) DecodeError
 image_of_page page = grid_of_page page >>= λ g. Ok (image_of page.sheet.width page.sheet.height g)
+
+-- the bytes of a packed row: eight pixels each, the last one filled up with white
+abbrev pub row_bytes : ℕ → ℕ
+row_bytes width = (width + 7) / 8
+
+abbrev pub packed_size : ℕ → ℕ → ℕ
+packed_size width height = row_bytes width * height
+
+-- Byte k of row y: the pixels from column 8k on, 1 for black, the first the highest bit; 0 past the row's end.
+unfoldable pub packed_byte : Grid → ℕ → ℕ → ℕ
+packed_byte g k y = number (map (λ i. pixel_at g (8 * k + i) y) (range_with_len 0 8))
+
+-- The packed rows from the top.
+unfoldable pub packed_of : ℕ → ℕ → Grid → List ℕ
+packed_of width height g =
+    map (λ n. packed_byte g (n % row_bytes width) (n / row_bytes width)) (range_with_len 0 (packed_size width height))
+
+-- the packed rows of the page's grid, or the page's error
+abbrev pub packed_of_page : ReadPage → Result (List ℕ) DecodeError
+packed_of_page page = grid_of_page page >>= λ g. Ok (packed_of page.sheet.width page.sheet.height g)
+
+-- the highest byte of a word by its bits
+abbrev pub top_byte : (ℕ → Bool) → ℕ
+top_byte bits = number (map (λ i. bits (63 - i)) (range_with_len 0 8))

@@ -1,7 +1,8 @@
 //! The first page of a file that a reader gives.
 ghost use Rattle.std.specs.Prelude.{◌≡◌, ◌*◌, Ok, IfOk, IfSome, OnErr, length};
 ghost use Rattle.jbig2_base.specs.Answer.{Gives};
-ghost use Rattle.hayro_jbig2.specs.FirstPage.{first_size, first_image, Opens, GivesAgain};
+ghost use Rattle.hayro_jbig2.specs.FirstPage.{first_size, first_image, first_packed, Opens, GivesAgain};
+ghost use Rattle.hayro_jbig2.specs.Image.{packed_size};
 
 use crate::file::File;
 use crate::jbig2_error::Jbig2Error;
@@ -63,6 +64,24 @@ fn first_image<A: Allocator + Clone>(
     }
 }
 
+/// Writes the first page, as `Page::read_packed` does.
+#[tactic(auto, unfolding(crate::specs::FirstPage::first_page))]
+fn first_packed<A: Allocator + Clone>(
+    alloc: A,
+    bytes: &[u8],
+    buf: &mut [u8],
+) -> jbig2_base::error::Result<()>
+    requires { IfOk (first_size bytes.now) (λ size. length buf.old ≡ packed_size size.0 size.1) }
+    ensures value { Gives (λ _. buf.new) result (first_packed bytes.now) }
+    ensures unchanged { OnErr result (buf.new ≡ buf.old) }
+{
+    let file = File::new(alloc, bytes, &LENIENT)?;
+    match file.page(0) {
+        Some(page) => page.read_packed(buf),
+        None => Err(DecodeError::Format(FormatError::MissingPageInfo)),
+    }
+}
+
 impl<A: Allocator + Clone> Jbig2Decoder<A> {
     /// Reads the whole input, going on after an interruption, and finds its first page.
     ///
@@ -92,6 +111,19 @@ impl<A: Allocator + Clone> Jbig2Decoder<A> {
     {
         let alloc = self.bytes.allocator().clone()?;
         first_image(alloc, &self.bytes, buf)?;
+        Ok(())
+    }
+
+    /// Writes the page into `buf` as packed rows, as `Page::read_packed` does.
+    ///
+    /// Answers `Jbig2Error::Decode` alone; `buf` is then as it was.
+    pub fn read_packed(&self, buf: &mut [u8]) -> Result<(), Jbig2Error>
+        requires { length buf.old ≡ packed_size self.now.width self.now.height }
+        ensures value { GivesAgain (λ _. buf.new) result (first_packed self.now.bytes) }
+        ensures unchanged { OnErr result (buf.new ≡ buf.old) }
+    {
+        let alloc = self.bytes.allocator().clone()?;
+        first_packed(alloc, &self.bytes, buf)?;
         Ok(())
     }
 }

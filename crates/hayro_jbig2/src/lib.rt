@@ -19,6 +19,7 @@ mod jbig2_decoder;
 mod jbig2_error;
 mod kept;
 mod names;
+mod packed;
 mod page;
 mod pages;
 pub mod parts;

@@ -6,7 +6,7 @@ ghost use Rattle.jbig2_base.specs.Grid.{Grid, blank};
 ghost use Rattle.jbig2_base.specs.inner.Table.{IsTable};
 ghost use Rattle.jbig2_base.specs.declared.bitmap.operator.CombinationOperator.{CombinationOperator};
 ghost use Rattle.hayro_jbig2.specs.Calls.{Spells, calls_of};
-ghost use Rattle.hayro_jbig2.specs.Image.{image_of_page};
+ghost use Rattle.hayro_jbig2.specs.Image.{image_of_page, packed_of_page, packed_size};
 ghost use Rattle.hayro_jbig2.specs.Page.{ReadPage, drawn, embedded, grid_of_page, draws_over, page_begun};
 ghost use Rattle.hayro_jbig2.specs.inner.PageViews.{given_names, kept_names};
 ghost use Rattle.hayro_jbig2.specs.inner.SegmentLists.{segment_list};
@@ -20,6 +20,7 @@ use crate::drawing::Drawer;
 use crate::globals::Globals;
 use crate::image::write_image;
 use crate::names::KeptNames;
+use crate::packed::write_packed;
 use crate::settings::DecodeSettings;
 use jbig2_base::bitmap::steps::Steps;
 use jbig2_base::error::Result;
@@ -182,10 +183,46 @@ impl<'a, A: Allocator + Clone> Page<'a, A> {
         ensures unchanged { OnErr result (buf.new ≡ buf.old) }
     {
         let mut steps = Steps::<L>::new(blank);
-        let mut context = DecoderContext::new(self.segments.as_vec().allocator().clone()?)?;
-        self.draw_into(&mut context, &mut steps)?;
+        let context = self.drawn(&mut steps)?;
         write_image(&context.bitmap, &self.sheet, buf, &mut steps);
         Ok(())
+    }
+
+    /// Writes the page into `buf` as packed rows, from the top: a bit for each pixel, 1 for black, the
+    /// leftmost the highest of its byte. A row takes `width.div_ceil(8)` bytes, whose last bits are 0
+    /// past the width: the form of PBM, TIFF and PDF.
+    ///
+    /// Answers the first fault of a segment that lenient reading does not pass over; `buf` is then
+    /// as it was.
+    pub fn read_packed(&self, buf: &mut [u8]) -> Result<()>
+        requires { length buf.old ≡ packed_size self.now.sheet.width self.now.sheet.height }
+        ensures value { Gives (λ _. buf.new) result (packed_of_page self.now) }
+        ensures unchanged { OnErr result (buf.new ≡ buf.old) }
+    {
+        self.read_packed_counted::<Brand>(buf, Blank::new(6))
+    }
+
+    fn read_packed_counted<L: Ledger>(&self, buf: &mut [u8], blank: Blank) -> Result<()>
+        requires sized { length buf.old ≡ packed_size self.now.sheet.width self.now.sheet.height }
+        requires name { blank.name ≡ L.name }
+        requires parts { blank.parts ≡ L.parts }
+        requires enough { blank.parts ≡ 6 }
+        ensures value { Gives (λ _. buf.new) result (packed_of_page self.now) }
+        ensures unchanged { OnErr result (buf.new ≡ buf.old) }
+    {
+        let mut steps = Steps::<L>::new(blank);
+        let context = self.drawn(&mut steps)?;
+        write_packed(&context.bitmap, &self.sheet, buf, &mut steps);
+        Ok(())
+    }
+
+    /// The context that the page is drawn in, a fresh one.
+    fn drawn<L: Ledger>(&self, steps: &mut Steps<L>) -> Result<DecoderContext<A>>
+        ensures { Gives (λ context. context.grid) result (grid_of_page self.now) }
+    {
+        let mut context = DecoderContext::new(self.segments.as_vec().allocator().clone()?)?;
+        self.draw_into(&mut context, steps)?;
+        Ok(context)
     }
 
     /// Makes the calls that spell the page, in the room of a context that earlier pages may have
