@@ -16,4 +16,4 @@ image_of width height g = map (λ n. shade (pixel_at g (n % width) (n / width)))
 
 -- the bytes of the page's grid, or the page's error
 abbrev pub image_of_page : ReadPage → Result (List ℕ) DecodeError
-image_of_page page = grid_of_page page >>= λ g. Ok (image_of page.sheet.width page.sheet.height g)
+image_of_page page = grid_of_page page >>= λ g. Ok (image_of page.initial_page.width page.initial_page.height g)
