@@ -5,15 +5,15 @@ use Rattle.std.proofs.lemmas.List.{append_assoc}
 use Rattle.std.specs.Map.Iter.{TakesFirst}
 use Rattle.std.specs.Prelude.{slice_get, option_map}
 use Rattle.jbig2_base.specs.Answer.{◌>>=◌, refuse_if}
-use Rattle.jbig2_base.specs.PageInfo.{sheet_of, sheet_with, first_information, information_at, is_page_information, height_of, stripes_height}
-use Rattle.jbig2_base.specs.Segment.{Part}
+use Rattle.jbig2_base.specs.PageInfo.{initial_page_of, initial_page_with, first_information, information_at, is_page_information, height_of, stripes_height}
+use Rattle.jbig2_base.specs.Segment.{SegmentView}
 use Rattle.jbig2_base.specs.declared.error.DecodeError.{DecodeError}
 use Rattle.jbig2_base.specs.declared.error.DecodeError.TheVariants.{Format, Overflow}
 use Rattle.jbig2_base.specs.declared.error.FormatError.TheVariants.{EmptyPage, InvalidEndOfPage, PageCountMismatch}
 use Rattle.jbig2_base.specs.declared.error.OverflowError.TheVariants.{BitmapDimension}
 use Rattle.jbig2_base.specs.declared.file_header.FileHeader.{FileHeader}
 use Rattle.jbig2_base.specs.declared.page_info.PageInformation.{PageInformation}
-use Rattle.jbig2_base.specs.declared.page_info.Sheet.{Sheet}
+use Rattle.jbig2_base.specs.declared.page_info.InitialPage.{InitialPage}
 use Rattle.hayro_jbig2.specs.Files.{PageInFile, ReadFile, of_page, by_pages, ends_of, filed_from, filed_each, numbers_after, miscounts, associated, book_at, page_in, page_from, PagesStandAlone}
 use Rattle.hayro_jbig2.specs.Globals.{named_from}
 use Rattle.hayro_jbig2.specs.Names.{Names, no_names}
@@ -42,64 +42,64 @@ answered (Ok x) next y h = record { first = x; was = refl; then = h }
 answered (Err e) next y h = absurd (cc)
 
 -- The first page information among the segments of one association has that association.
-information-of : (b : Bool) (n : ℕ) (q p : Part) (others : Result Part DecodeError) → q.header.page_association ≡ n → (others ≡ Ok p → p.header.page_association ≡ n) → cond b (Ok q) others ≡ Ok p → p.header.page_association ≡ n
+information-of : (b : Bool) (n : ℕ) (q p : SegmentView) (others : Result SegmentView DecodeError) → q.header.page_association ≡ n → (others ≡ Ok p → p.header.page_association ≡ n) → cond b (Ok q) others ≡ Ok p → p.header.page_association ≡ n
 information-of true n q p others e later h =
     let same : q ≡ p = cc in
-    ap (λ (r : Part). r.header.page_association) (sym same) ∙ e
+    ap (λ (r : SegmentView). r.header.page_association) (sym same) ∙ e
 information-of false n q p others e later h = later h
 
-first-of : (b : Bool) (n : ℕ) (q p : Part) (qs : List Part) → (q.header.page_association == n) ≡ b → (first_information qs ≡ Ok p → p.header.page_association ≡ n) → first_information (cond b (q ∷ qs) qs) ≡ Ok p → p.header.page_association ≡ n
+first-of : (b : Bool) (n : ℕ) (q p : SegmentView) (qs : List SegmentView) → (q.header.page_association == n) ≡ b → (first_information qs ≡ Ok p → p.header.page_association ≡ n) → first_information (cond b (q ∷ qs) qs) ≡ Ok p → p.header.page_association ≡ n
 first-of true n q p qs e later h = information-of (is_page_information q.header.segment_type) n q p (first_information qs) (eqb-true q.header.page_association n e) later h
 first-of false n q p qs e later h = later h
 
-first-of_page : (n : ℕ) (ps : List Part) (p : Part) → first_information (of_page n ps) ≡ Ok p → p.header.page_association ≡ n
+first-of_page : (n : ℕ) (ps : List SegmentView) (p : SegmentView) → first_information (of_page n ps) ≡ Ok p → p.header.page_association ≡ n
 first-of_page n [] p h = absurd (cc)
 first-of_page n (q ∷ qs) p h = first-of (q.header.page_association == n) n q p (of_page n qs) refl (first-of_page n qs p) h
 
 -- a page's number is its segments' association
-abbrev sheet_of_first : List Part → Part → Result Sheet DecodeError
-sheet_of_first ps first = information_at first.bytes >>= λ info. height_of info.0.height (stripes_height ps) >>= λ height. sheet_with first.header.page_association info.0 height
+abbrev initial_page_of_first : List SegmentView → SegmentView → Result InitialPage DecodeError
+initial_page_of_first ps first = information_at first.bytes >>= λ info. height_of info.0.height (stripes_height ps) >>= λ height. initial_page_with first.header.page_association info.0 height
 
-number-of_sheet : (number : ℕ) (info : PageInformation) (height : ℕ) (sheet : Sheet) → sheet_with number info height ≡ Ok sheet → sheet.number ≡ number
-number-of_sheet number info height sheet h =
-    let some = answered (refuse_if (info.width == 0 || height == 0) (Format EmptyPage)) (λ some. refuse_if (nat_lt 65535 info.width || nat_lt 65535 height) (Overflow BitmapDimension) >>= λ fits. Ok (record { number = number; width = info.width; height = height; default_pixel = info.flags.default_pixel })) sheet h in
-    let fits = answered (refuse_if (nat_lt 65535 info.width || nat_lt 65535 height) (Overflow BitmapDimension)) (λ fits. Ok (record { number = number; width = info.width; height = height; default_pixel = info.flags.default_pixel })) sheet some.then in
-    let sized : Sheet = record { number = number; width = info.width; height = height; default_pixel = info.flags.default_pixel } in
-    let same : sized ≡ sheet = let told = fits.then in cc in
-    ap (λ (t : Sheet). t.number) (sym same)
+number-of_initial_page : (number : ℕ) (info : PageInformation) (height : ℕ) (initial_page : InitialPage) → initial_page_with number info height ≡ Ok initial_page → initial_page.number ≡ number
+number-of_initial_page number info height initial_page h =
+    let some = answered (refuse_if (info.width == 0 || height == 0) (Format EmptyPage)) (λ some. refuse_if (nat_lt 65535 info.width || nat_lt 65535 height) (Overflow BitmapDimension) >>= λ fits. Ok (record { number = number; width = info.width; height = height; default_pixel = info.flags.default_pixel })) initial_page h in
+    let fits = answered (refuse_if (nat_lt 65535 info.width || nat_lt 65535 height) (Overflow BitmapDimension)) (λ fits. Ok (record { number = number; width = info.width; height = height; default_pixel = info.flags.default_pixel })) initial_page some.then in
+    let sized : InitialPage = record { number = number; width = info.width; height = height; default_pixel = info.flags.default_pixel } in
+    let same : sized ≡ initial_page = let told = fits.then in cc in
+    ap (λ (t : InitialPage). t.number) (sym same)
 
-number-of_page : (n : ℕ) (ps : List Part) (sheet : Sheet) → sheet_of (of_page n ps) ≡ Ok sheet → sheet.number ≡ n
-unfolding sheet_of
-number-of_page n ps sheet h =
-    let first = answered (first_information (of_page n ps)) (sheet_of_first (of_page n ps)) sheet h in
-    let info = answered (information_at first.first.bytes) (λ info. height_of info.0.height (stripes_height (of_page n ps)) >>= λ height. sheet_with first.first.header.page_association info.0 height) sheet first.then in
-    let height = answered (height_of info.first.0.height (stripes_height (of_page n ps))) (λ height. sheet_with first.first.header.page_association info.first.0 height) sheet info.then in
-    number-of_sheet first.first.header.page_association info.first.0 height.first sheet height.then ∙ first-of_page n ps first.first first.was
+number-of_page : (n : ℕ) (ps : List SegmentView) (initial_page : InitialPage) → initial_page_of (of_page n ps) ≡ Ok initial_page → initial_page.number ≡ n
+unfolding initial_page_of
+number-of_page n ps initial_page h =
+    let first = answered (first_information (of_page n ps)) (initial_page_of_first (of_page n ps)) initial_page h in
+    let info = answered (information_at first.first.bytes) (λ info. height_of info.0.height (stripes_height (of_page n ps)) >>= λ height. initial_page_with first.first.header.page_association info.0 height) initial_page first.then in
+    let height = answered (height_of info.first.0.height (stripes_height (of_page n ps))) (λ height. initial_page_with first.first.header.page_association info.first.0 height) initial_page info.then in
+    number-of_initial_page first.first.header.page_association info.first.0 height.first initial_page height.then ∙ first-of_page n ps first.first first.was
 
 -- A filed page is made of the segments of its own number.
-record IsOwn (ps : List Part) (page : PageInFile) : Type 0 where
-  sheet : sheet_of (of_page page.sheet.number ps) ≡ Ok page.sheet
-  parts : page.parts ≡ of_page page.sheet.number ps
+record IsOwn (ps : List SegmentView) (page : PageInFile) : Type 0 where
+  initial_page : initial_page_of (of_page page.initial_page.number ps) ≡ Ok page.initial_page
+  segments : page.segments ≡ of_page page.initial_page.number ps
 
-own-filed : (strict : Bool) (ps : List Part) (n : ℕ) (page : PageInFile) → filed_from strict (of_page n ps) ≡ Ok page → IsOwn ps page
+own-filed : (strict : Bool) (ps : List SegmentView) (n : ℕ) (page : PageInFile) → filed_from strict (of_page n ps) ≡ Ok page → IsOwn ps page
 unfolding filed_from
 own-filed strict ps n page h =
-    let own : List Part = of_page n ps in
-    let ended = answered (refuse_if (strict && not (ends_of own == 1)) (Format InvalidEndOfPage)) (λ ended. sheet_of own >>= λ sheet. Ok (record { sheet = sheet; parts = own })) page h in
-    let sheet = answered (sheet_of own) (λ sheet. Ok (record { sheet = sheet; parts = own })) page ended.then in
-    let made : PageInFile = record { sheet = sheet.first; parts = own } in
-    let same : made ≡ page = let told = sheet.then in cc in
-    let number : n ≡ sheet.first.number = sym (number-of_page n ps sheet.first sheet.was) in
-    let Own : ℕ → Type 0 = λ m. (sheet_of (of_page m ps) ≡ Ok sheet.first) × (own ≡ of_page m ps) in
-    let told = subst Own number (sheet.was, refl) in
-    let is : IsOwn ps made = record { sheet = told.0; parts = told.1 } in
+    let own : List SegmentView = of_page n ps in
+    let ended = answered (refuse_if (strict && not (ends_of own == 1)) (Format InvalidEndOfPage)) (λ ended. initial_page_of own >>= λ initial_page. Ok (record { initial_page = initial_page; segments = own })) page h in
+    let initial_page = answered (initial_page_of own) (λ initial_page. Ok (record { initial_page = initial_page; segments = own })) page ended.then in
+    let made : PageInFile = record { initial_page = initial_page.first; segments = own } in
+    let same : made ≡ page = let told = initial_page.then in cc in
+    let number : n ≡ initial_page.first.number = sym (number-of_page n ps initial_page.first initial_page.was) in
+    let Own : ℕ → Type 0 = λ m. (initial_page_of (of_page m ps) ≡ Ok initial_page.first) × (own ≡ of_page m ps) in
+    let told = subst Own number (initial_page.was, refl) in
+    let is : IsOwn ps made = record { initial_page = told.0; segments = told.1 } in
     subst (λ (p : PageInFile). IsOwn ps p) same is
 
-abbrev AllOwn : List Part → List PageInFile → Type 0
+abbrev AllOwn : List SegmentView → List PageInFile → Type 0
 AllOwn ps [] = Unit {0}
 AllOwn ps (page ∷ pages) = IsOwn ps page × AllOwn ps pages
 
-own-each : (strict : Bool) (ps : List Part) (ns : List ℕ) (pages : List PageInFile) → filed_each strict (map (λ n. of_page n ps) ns) ≡ Ok pages → AllOwn ps pages
+own-each : (strict : Bool) (ps : List SegmentView) (ns : List ℕ) (pages : List PageInFile) → filed_each strict (map (λ n. of_page n ps) ns) ≡ Ok pages → AllOwn ps pages
 own-each strict ps [] pages h =
     let same : [] ≡ pages = cc in
     subst (AllOwn ps) same tt
@@ -110,7 +110,7 @@ own-each strict ps (n ∷ ns) pages h =
     let same : page.first ∷ others.first ≡ pages = let told = others.then in cc in
     subst (AllOwn ps) same (own-filed strict ps n page.first page.was, own-each strict ps ns others.first others.was)
 
-own-at : (ps : List Part) (pages : List PageInFile) (index : ℕ) (page : PageInFile) → AllOwn ps pages → slice_get pages index ≡ Some page → IsOwn ps page
+own-at : (ps : List SegmentView) (pages : List PageInFile) (index : ℕ) (page : PageInFile) → AllOwn ps pages → slice_get pages index ≡ Some page → IsOwn ps page
 own-at ps [] index page all h = absurd (cc)
 own-at ps (p ∷ pages) zero page all h =
     let same : p ≡ page = cc in
@@ -118,21 +118,21 @@ own-at ps (p ∷ pages) zero page all h =
 own-at ps (p ∷ pages) (suc index) page all h = own-at ps pages index page all.1 h
 
 -- a file's book, from its header and its segments
-abbrev pages_with : Bool → FileHeader × List Part → Result ReadFile DecodeError
+abbrev pages_with : Bool → FileHeader × List SegmentView → Result ReadFile DecodeError
 pages_with strict file = filed_each strict (by_pages file.1) >>= λ pages. Ok (record { strict = strict; pages = pages; globals = named_from strict (of_page 0 file.1) no_names })
 
-abbrev counted_with : Bool → FileHeader × List Part → Result ReadFile DecodeError
+abbrev counted_with : Bool → FileHeader × List SegmentView → Result ReadFile DecodeError
 counted_with strict file = refuse_if (strict && miscounts file.0.number_of_pages (length (by_pages file.1))) (Format PageCountMismatch) >>= λ counted. pages_with strict file
 
-abbrev book_with : Bool → FileHeader × List Part → Result ReadFile DecodeError
+abbrev book_with : Bool → FileHeader × List SegmentView → Result ReadFile DecodeError
 book_with strict file = associated strict file.1 >>= λ known. counted_with strict file
 
-record Filled (strict : Bool) (ps : List Part) (book : ReadFile) : Type 0 where
+record Filled (strict : Bool) (ps : List SegmentView) (book : ReadFile) : Type 0 where
   own : AllOwn ps book.pages
   strictly : book.strict ≡ strict
   shared : book.globals ≡ named_from strict (of_page 0 ps) no_names
 
-filled : (strict : Bool) (file : FileHeader × List Part) (book : ReadFile) → book_with strict file ≡ Ok book → Filled strict file.1 book
+filled : (strict : Bool) (file : FileHeader × List SegmentView) (book : ReadFile) → book_with strict file ≡ Ok book → Filled strict file.1 book
 filled strict file book h =
     let known = answered (associated strict file.1) (λ known. counted_with strict file) book h in
     let counted = answered (refuse_if (strict && miscounts file.0.number_of_pages (length (by_pages file.1))) (Format PageCountMismatch)) (λ counted. pages_with strict file) book known.then in
@@ -152,23 +152,23 @@ mapped : {X Y : Type 0} (f : X → Y) (o : Option X) (y : Y) → option_map f o 
 mapped f None y h = absurd (cc)
 mapped f (Some x) y h = record { from = x; was = refl; is = cc }
 
-own-leaf : (strict : Bool) (ps : List Part) (book : ReadFile) (page : PageInFile) → Filled strict ps book → IsOwn ps page → page_from strict (of_page page.sheet.number ps) (of_page 0 ps) ≡ Ok (page_in book page)
+own-leaf : (strict : Bool) (ps : List SegmentView) (book : ReadFile) (page : PageInFile) → Filled strict ps book → IsOwn ps page → page_from strict (of_page page.initial_page.number ps) (of_page 0 ps) ≡ Ok (page_in book page)
 own-leaf strict ps book page filled own =
-    let ending : Sheet → Result ReadPage DecodeError = λ sheet. Ok (record { strict = strict; sheet = sheet; parts = of_page page.sheet.number ps; globals = named_from strict (of_page 0 ps) no_names }) in
-    let told : page_from strict (of_page page.sheet.number ps) (of_page 0 ps) ≡ ending page.sheet = ap (λ (r : Result Sheet DecodeError). r >>= ending) own.sheet in
+    let ending : InitialPage → Result ReadPage DecodeError = λ initial_page. Ok (record { strict = strict; initial_page = initial_page; segments = of_page page.initial_page.number ps; globals = named_from strict (of_page 0 ps) no_names }) in
+    let told : page_from strict (of_page page.initial_page.number ps) (of_page 0 ps) ≡ ending page.initial_page = ap (λ (r : Result InitialPage DecodeError). r >>= ending) own.initial_page in
     told
-    ∙ ap (λ (b : Bool). Ok (record { strict = b; sheet = page.sheet; parts = of_page page.sheet.number ps; globals = named_from strict (of_page 0 ps) no_names })) (sym filled.strictly)
-    ∙ ap (λ (own_parts : List Part). Ok (record { strict = book.strict; sheet = page.sheet; parts = own_parts; globals = named_from strict (of_page 0 ps) no_names })) (sym own.parts)
-    ∙ ap (λ (names : Result Names DecodeError). Ok (record { strict = book.strict; sheet = page.sheet; parts = page.parts; globals = names })) (sym filled.shared)
+    ∙ ap (λ (b : Bool). Ok (record { strict = b; initial_page = page.initial_page; segments = of_page page.initial_page.number ps; globals = named_from strict (of_page 0 ps) no_names })) (sym filled.strictly)
+    ∙ ap (λ (own_segments : List SegmentView). Ok (record { strict = book.strict; initial_page = page.initial_page; segments = own_segments; globals = named_from strict (of_page 0 ps) no_names })) (sym own.segments)
+    ∙ ap (λ (names : Result Names DecodeError). Ok (record { strict = book.strict; initial_page = page.initial_page; segments = page.segments; globals = names })) (sym filled.shared)
 
 pub pages_stand_alone : PagesStandAlone
 unfolding book_at
 pages_stand_alone strict bytes file book index page read h at =
-    let with_file : book_with strict file ≡ Ok book = sym (ap (λ (r : Result (FileHeader × List Part) DecodeError). r >>= book_with strict) read) ∙ h in
+    let with_file : book_with strict file ≡ Ok book = sym (ap (λ (r : Result (FileHeader × List SegmentView) DecodeError). r >>= book_with strict) read) ∙ h in
     let all = filled strict file book with_file in
     let leaf = mapped (page_in book) (slice_get book.pages index) page at in
     let own = own-at file.1 book.pages index leaf.from all.own leaf.was in
-    let Alone : ReadPage → Type 0 = λ l. page_from strict (of_page l.sheet.number file.1) (of_page 0 file.1) ≡ Ok l in
+    let Alone : ReadPage → Type 0 = λ l. page_from strict (of_page l.initial_page.number file.1) (of_page 0 file.1) ≡ Ok l in
     subst Alone leaf.is (own-leaf strict file.1 book leaf.from all own)
 
 -- the pages that are made, and those that follow them
@@ -183,16 +183,16 @@ pages-next : (front : List PageInFile) (page : PageInFile) (r : Result (List Pag
 pages-next front page (Ok pages) = ap (λ (all : List PageInFile). Ok all) (append_assoc front (page ∷ []) pages)
 pages-next front page (Err e) = refl
 
-pub page-made : (front next : List PageInFile) (strict : Bool) (own : List Part) (before others : List (List Part)) (meant : Result (List PageInFile) DecodeError) (page : PageInFile) → next ≡ front ++ page ∷ [] → before ≡ own ∷ others → with_pages front (filed_each strict before) ≡ meant → filed_from strict own ≡ Ok page → with_pages next (filed_each strict others) ≡ meant
+pub page-made : (front next : List PageInFile) (strict : Bool) (own : List SegmentView) (before others : List (List SegmentView)) (meant : Result (List PageInFile) DecodeError) (page : PageInFile) → next ≡ front ++ page ∷ [] → before ≡ own ∷ others → with_pages front (filed_each strict before) ≡ meant → filed_from strict own ≡ Ok page → with_pages next (filed_each strict others) ≡ meant
 page-made front next strict own before others meant page pushed is so_far made =
     ap (λ (pages : List PageInFile). with_pages pages (filed_each strict others)) pushed
     ∙ pages-next front page (filed_each strict others)
     ∙ ap (λ (r : Result PageInFile DecodeError). with_pages front (r >>= λ page. filed_each strict others >>= λ pages. Ok (page ∷ pages))) (sym made)
-    ∙ ap (λ (rest : List (List Part)). with_pages front (filed_each strict rest)) (sym is)
+    ∙ ap (λ (rest : List (List SegmentView)). with_pages front (filed_each strict rest)) (sym is)
     ∙ so_far
 
-pub page-refused : (front : List PageInFile) (strict : Bool) (own : List Part) (before others : List (List Part)) (meant : Result (List PageInFile) DecodeError) (e : DecodeError) → before ≡ own ∷ others → with_pages front (filed_each strict before) ≡ meant → filed_from strict own ≡ Err e → meant ≡ Err e
+pub page-refused : (front : List PageInFile) (strict : Bool) (own : List SegmentView) (before others : List (List SegmentView)) (meant : Result (List PageInFile) DecodeError) (e : DecodeError) → before ≡ own ∷ others → with_pages front (filed_each strict before) ≡ meant → filed_from strict own ≡ Err e → meant ≡ Err e
 page-refused front strict own before others meant e is so_far refused =
     sym so_far
-    ∙ ap (λ (rest : List (List Part)). with_pages front (filed_each strict rest)) is
+    ∙ ap (λ (rest : List (List SegmentView)). with_pages front (filed_each strict rest)) is
     ∙ ap (λ (r : Result PageInFile DecodeError). with_pages front (r >>= λ page. filed_each strict others >>= λ pages. Ok (page ∷ pages))) refused

@@ -11,10 +11,10 @@ use Rattle.std.specs.Map.{lookup}
 use Rattle.std.specs.Ordering.{nat_cmp, is_eq}
 use Rattle.std.specs.declared.cmp.Ordering.TheVariants.{Less, Equal, Greater}
 use Rattle.std.specs.declared.vec.Vec.{Vec}
-use Rattle.jbig2_base.specs.Segment.{Part}
-use Rattle.jbig2_base.specs.inner.SegmentViews.{part_view, parts}
+use Rattle.jbig2_base.specs.Segment.{SegmentView}
+use Rattle.jbig2_base.specs.inner.SegmentViews.{segment_view, segment_views}
 use Rattle.jbig2_base.specs.declared.segment.Segment.{Segment}
-use Rattle.hayro_jbig2.specs.inner.ByPages.{pages_view, place_of, Holds}
+use Rattle.hayro_jbig2.specs.inner.ByPages.{pages_view, place_of, HoldsByPage}
 use Rattle.hayro_jbig2.specs.declared.segments_by_page.SegmentsByPage.{SegmentsByPage}
 use Rattle.hayro_jbig2.specs.Files.{is_known, with_number, numbers_after, of_page, by_pages}
 
@@ -90,16 +90,16 @@ ArePages-next false n ns known pages =
       above = place_of-push n 0 ns none ∙ cond-false (n == 0) (Some (length ns)) (place_of 0 ns) new.0 ∙ pages.above;
     }
 
-ArePages-after : (ns : List ℕ) (ps : List Part) → ArePages ns → ArePages (numbers_after ns ps)
+ArePages-after : (ns : List ℕ) (ps : List SegmentView) → ArePages ns → ArePages (numbers_after ns ps)
 ArePages-after ns [] pages = pages
 ArePages-after ns (p ∷ ps) pages =
     let n = p.header.page_association in
     ArePages-after (with_number n ns) ps (ArePages-next (is_known n ns) n ns refl pages)
 
-are_pages : (ps : List Part) → ArePages (numbers_after [] ps)
+are_pages : (ps : List SegmentView) → ArePages (numbers_after [] ps)
 are_pages ps = ArePages-after [] ps (record { differ = tt; above = refl })
 
-numbers-push : (ns : List ℕ) (ps : List Part) (p : Part) → numbers_after ns (ps ++ p ∷ []) ≡ with_number p.header.page_association (numbers_after ns ps)
+numbers-push : (ns : List ℕ) (ps : List SegmentView) (p : SegmentView) → numbers_after ns (ps ++ p ∷ []) ≡ with_number p.header.page_association (numbers_after ns ps)
 numbers-push ns [] p = refl
 numbers-push ns (q ∷ ps) p = numbers-push (with_number q.header.page_association ns) ps p
 
@@ -109,7 +109,7 @@ stays-next : (b : Bool) (n q : ℕ) (ns : List ℕ) → is_among n ns ≡ true �
 stays-next true n q ns among = among
 stays-next false n q ns among = list_any-append (λ m. m == n) ns (q ∷ []) ∙ or_left (is_among n ns) (is_among n (q ∷ [])) among
 
-stays : (n : ℕ) (ns : List ℕ) (ps : List Part) → is_among n ns ≡ true → is_among n (numbers_after ns ps) ≡ true
+stays : (n : ℕ) (ns : List ℕ) (ps : List SegmentView) → is_among n ns ≡ true → is_among n (numbers_after ns ps) ≡ true
 stays n ns [] among = among
 stays n ns (p ∷ ps) among =
     let q = p.header.page_association in
@@ -119,14 +119,14 @@ new-next : (b : Bool) (n : ℕ) (ns : List ℕ) → is_known n ns ≡ b → (n =
 new-next true n ns known above = sym (ap (λ (b : Bool). b || is_among n ns) above) ∙ known
 new-next false n ns known above = list_any-append (λ m. m == n) ns (n ∷ []) ∙ or_right (is_among n ns) (is_among n (n ∷ [])) (or_left (n == n) false (eq-eqb n n refl))
 
-none-next : (b : Bool) (n : ℕ) (ns : List ℕ) (p : Part) (ps : List Part) → (p.header.page_association == n) ≡ b → (n == 0) ≡ false → is_among n (numbers_after ns (p ∷ ps)) ≡ false → of_page n ps ≡ [] → cond b (p ∷ of_page n ps) (of_page n ps) ≡ []
+none-next : (b : Bool) (n : ℕ) (ns : List ℕ) (p : SegmentView) (ps : List SegmentView) → (p.header.page_association == n) ≡ b → (n == 0) ≡ false → is_among n (numbers_after ns (p ∷ ps)) ≡ false → of_page n ps ≡ [] → cond b (p ∷ of_page n ps) (of_page n ps) ≡ []
 none-next true n ns p ps here above none others =
     let Among : ℕ → Type 0 = λ q. is_among n (with_number q ns) ≡ true in
     let among = subst Among (sym (eqb-true p.header.page_association n here)) (new-next (is_known n ns) n ns refl above) in
     absurd (both_ways (is_among n (numbers_after ns (p ∷ ps))) none (stays n (with_number p.header.page_association ns) ps among))
 none-next false n ns p ps here above none others = others
 
-no_segments : (n : ℕ) (ns : List ℕ) (ps : List Part) → (n == 0) ≡ false → is_among n (numbers_after ns ps) ≡ false → of_page n ps ≡ []
+no_segments : (n : ℕ) (ns : List ℕ) (ps : List SegmentView) → (n == 0) ≡ false → is_among n (numbers_after ns ps) ≡ false → of_page n ps ≡ []
 no_segments n ns [] above none = refl
 no_segments n ns (p ∷ ps) above none = none-next (p.header.page_association == n) n ns p ps refl above none (no_segments n (with_number p.header.page_association ns) ps above none)
 
@@ -163,28 +163,28 @@ map-at n f g (m ∷ ms) i same differ at = map-next (m == n) (place_of n ms) n f
 
 -- ---- one more segment
 
-of_page-same : (p : Part) (ps : List Part) → AgreeBut p.header.page_association (λ n. of_page n ps) (λ n. of_page n (ps ++ p ∷ []))
+of_page-same : (p : SegmentView) (ps : List SegmentView) → AgreeBut p.header.page_association (λ n. of_page n ps) (λ n. of_page n (ps ++ p ∷ []))
 of_page-same p ps m apart =
-    filter-append (λ (q : Part). q.header.page_association == m) ps (p ∷ [])
+    filter-append (λ (q : SegmentView). q.header.page_association == m) ps (p ∷ [])
     ∙ ap (λ (b : Bool). of_page m ps ++ cond b (p ∷ []) []) (flipped m p.header.page_association apart)
     ∙ append-nil (of_page m ps)
 
-of_page-more : (p : Part) (ps : List Part) (n : ℕ) → p.header.page_association ≡ n → of_page n (ps ++ p ∷ []) ≡ of_page n ps ++ p ∷ []
+of_page-more : (p : SegmentView) (ps : List SegmentView) (n : ℕ) → p.header.page_association ≡ n → of_page n (ps ++ p ∷ []) ≡ of_page n ps ++ p ∷ []
 of_page-more p ps n here =
-    filter-append (λ (q : Part). q.header.page_association == n) ps (p ∷ [])
+    filter-append (λ (q : SegmentView). q.header.page_association == n) ps (p ∷ [])
     ∙ ap (λ (b : Bool). of_page n ps ++ cond b (p ∷ []) []) (eq-eqb p.header.page_association n here)
 
-numbers-known : (ps : List Part) (p : Part) → is_known p.header.page_association (numbers_after [] ps) ≡ true → numbers_after [] (ps ++ p ∷ []) ≡ numbers_after [] ps
+numbers-known : (ps : List SegmentView) (p : SegmentView) → is_known p.header.page_association (numbers_after [] ps) ≡ true → numbers_after [] (ps ++ p ∷ []) ≡ numbers_after [] ps
 numbers-known ps p known =
     let ns = numbers_after [] ps in
     numbers-push [] ps p ∙ cond-true (is_known p.header.page_association ns) ns (ns ++ p.header.page_association ∷ []) known
 
-numbers-new : (ps : List Part) (p : Part) → is_known p.header.page_association (numbers_after [] ps) ≡ false → numbers_after [] (ps ++ p ∷ []) ≡ numbers_after [] ps ++ p.header.page_association ∷ []
+numbers-new : (ps : List SegmentView) (p : SegmentView) → is_known p.header.page_association (numbers_after [] ps) ≡ false → numbers_after [] (ps ++ p ∷ []) ≡ numbers_after [] ps ++ p.header.page_association ∷ []
 numbers-new ps p known =
     let ns = numbers_after [] ps in
     numbers-push [] ps p ∙ cond-false (is_known p.header.page_association ns) ns (ns ++ p.header.page_association ∷ []) known
 
-by_pages-shared : (ps : List Part) (p : Part) → p.header.page_association ≡ 0 → by_pages (ps ++ p ∷ []) ≡ by_pages ps
+by_pages-shared : (ps : List SegmentView) (p : SegmentView) → p.header.page_association ≡ 0 → by_pages (ps ++ p ∷ []) ≡ by_pages ps
 by_pages-shared ps p here =
     let n = p.header.page_association in
     let ns = numbers_after [] ps in
@@ -192,25 +192,25 @@ by_pages-shared ps p here =
     ap (λ (ms : List ℕ). map (λ m. of_page m (ps ++ p ∷ [])) ms) (numbers-known ps p (or_left (n == 0) (is_among n ns) (eq-eqb n 0 here)))
     ∙ map-apart n (λ m. of_page m ps) (λ m. of_page m (ps ++ p ∷ [])) ns (of_page-same p ps) (unplaced n ns none)
 
-by_pages-known : (ps : List Part) (p : Part) (i : ℕ) → place_of p.header.page_association (numbers_after [] ps) ≡ Some i → by_pages (ps ++ p ∷ []) ≡ set (by_pages ps) i (of_page p.header.page_association ps ++ p ∷ [])
+by_pages-known : (ps : List SegmentView) (p : SegmentView) (i : ℕ) → place_of p.header.page_association (numbers_after [] ps) ≡ Some i → by_pages (ps ++ p ∷ []) ≡ set (by_pages ps) i (of_page p.header.page_association ps ++ p ∷ [])
 by_pages-known ps p i at =
     let n = p.header.page_association in
     let ns = numbers_after [] ps in
     let there = map-at n (λ m. of_page m ps) (λ m. of_page m (ps ++ p ∷ [])) ns i (of_page-same p ps) (are_pages ps).differ at in
     ap (λ (ms : List ℕ). map (λ m. of_page m (ps ++ p ∷ [])) ms) (numbers-known ps p (or_right (n == 0) (is_among n ns) (placed n ns i at)))
-    ∙ there.1 ∙ ap (λ (own : List Part). set (by_pages ps) i own) (of_page-more p ps n refl)
+    ∙ there.1 ∙ ap (λ (own : List SegmentView). set (by_pages ps) i own) (of_page-more p ps n refl)
 
-by_pages-new : (ps : List Part) (p : Part) → (p.header.page_association == 0) ≡ false → place_of p.header.page_association (numbers_after [] ps) ≡ None → by_pages (ps ++ p ∷ []) ≡ by_pages ps ++ (p ∷ []) ∷ []
+by_pages-new : (ps : List SegmentView) (p : SegmentView) → (p.header.page_association == 0) ≡ false → place_of p.header.page_association (numbers_after [] ps) ≡ None → by_pages (ps ++ p ∷ []) ≡ by_pages ps ++ (p ∷ []) ∷ []
 by_pages-new ps p above none =
     let n = p.header.page_association in
     let ns = numbers_after [] ps in
     let new : is_among n ns ≡ false = unplaced n ns none in
-    let f : ℕ → List Part = λ m. of_page m ps in
-    let g : ℕ → List Part = λ m. of_page m (ps ++ p ∷ []) in
+    let f : ℕ → List SegmentView = λ m. of_page m ps in
+    let g : ℕ → List SegmentView = λ m. of_page m (ps ++ p ∷ []) in
     ap (λ (ms : List ℕ). map g ms) (numbers-new ps p (or_from (n == 0) (is_among n ns) above new))
     ∙ map_push g ns n
-    ∙ ap (λ (pages : List (List Part)). pages ++ g n ∷ []) (map-apart n f g ns (of_page-same p ps) new)
-    ∙ ap (λ (own : List Part). by_pages ps ++ own ∷ []) (of_page-more p ps n refl ∙ ap (λ (own : List Part). own ++ p ∷ []) (no_segments n [] ps above new))
+    ∙ ap (λ (pages : List (List SegmentView)). pages ++ g n ∷ []) (map-apart n f g ns (of_page-same p ps) new)
+    ∙ ap (λ (own : List SegmentView). by_pages ps ++ own ∷ []) (of_page-more p ps n refl ∙ ap (λ (own : List SegmentView). own ++ p ∷ []) (no_segments n [] ps above new))
 
 -- ---- the same as they are kept
 
@@ -222,71 +222,71 @@ tests-next false false apart = refl
 same_test : (m n : ℕ) → is_eq (nat_cmp m n) ≡ (m == n)
 same_test m n = tests-next (nat_lt m n) (m == n) (λ less. ne_eqb m n (λ e. let below : m < n = ltb-true m n less in omega arith))
 
-counted : {A : Type 0} (s : SegmentsByPage A) (ps : List Part) → Holds s ps → length s.pages.items ≡ length (numbers_after [] ps)
+counted : {A : Type 0} (s : SegmentsByPage A) (ps : List SegmentView) → HoldsByPage s ps → length s.pages.items ≡ length (numbers_after [] ps)
 counted {A} s ps holds =
-    sym (length-map s.pages.items (λ (v : Vec (Segment A) A). parts v.items))
-    ∙ ap (λ (pages : List (List Part)). length pages) holds.pages
+    sym (length-map s.pages.items (λ (v : Vec (Segment A) A). segment_views v.items))
+    ∙ ap (λ (pages : List (List SegmentView)). length pages) holds.pages
     ∙ length-map (numbers_after [] ps) (λ n. of_page n ps)
 
 -- the page at the place of a number
-in_page : {A : Type 0} (s : SegmentsByPage A) (ps : List Part) (n i : ℕ) → get nat_cmp s.places n ≡ Some i → Holds s ps → (place_of n (numbers_after [] ps) ≡ Some i) × (i < length s.pages.items) × (get_or (by_pages ps) i (of_page n ps) ≡ of_page n ps)
+in_page : {A : Type 0} (s : SegmentsByPage A) (ps : List SegmentView) (n i : ℕ) → get nat_cmp s.places n ≡ Some i → HoldsByPage s ps → (place_of n (numbers_after [] ps) ≡ Some i) × (i < length s.pages.items) × (get_or (by_pages ps) i (of_page n ps) ≡ of_page n ps)
 in_page s ps n i at holds =
     let there : place_of n (numbers_after [] ps) ≡ Some i = sym (holds.found n) ∙ at in
     let same = map-at n (λ m. of_page m ps) (λ m. of_page m ps) (numbers_after [] ps) i (λ m apart. refl) (are_pages ps).differ there in
     (there, omega (arith, same.0, counted s ps holds), same.2)
 
-pub within : {A : Type 0} (s : SegmentsByPage A) (ps : List Part) (n i : ℕ) → get nat_cmp s.places n ≡ Some i → Holds s ps → i < length s.pages.items
+pub within : {A : Type 0} (s : SegmentsByPage A) (ps : List SegmentView) (n i : ℕ) → get nat_cmp s.places n ≡ Some i → HoldsByPage s ps → i < length s.pages.items
 within s ps n i at holds = (in_page s ps n i at holds).1
 
-module _ {A : Type 0} (s t : SegmentsByPage A) (x : Segment A) (ps : List Part) where
+module _ {A : Type 0} (s t : SegmentsByPage A) (x : Segment A) (ps : List SegmentView) where
   -- one that stands outside of the pages
-  pub holds-shared : x.header.page_association ≡ 0 → t.shared.items ≡ s.shared.items ++ x ∷ [] → t.pages ≡ s.pages → t.places ≡ s.places → Holds s ps → Holds t (ps ++ part_view x ∷ [])
+  pub holds-shared : x.header.page_association ≡ 0 → t.shared.items ≡ s.shared.items ++ x ∷ [] → t.pages ≡ s.pages → t.places ≡ s.places → HoldsByPage s ps → HoldsByPage t (ps ++ segment_view x ∷ [])
   holds-shared here shared pages places holds =
-      let p = part_view x in
+      let p = segment_view x in
       let ns = numbers_after [] ps in
       let numbers = numbers-known ps p (or_left (p.header.page_association == 0) (is_among p.header.page_association ns) (eq-eqb p.header.page_association 0 here)) in
       record {
-        shared = ap (λ (xs : List (Segment A)). parts xs) shared ∙ map_push (λ (y : Segment A). part_view y) s.shared.items x ∙ ap (λ (own : List Part). own ++ p ∷ []) holds.shared ∙ sym (of_page-more p ps 0 here);
+        shared = ap (λ (xs : List (Segment A)). segment_views xs) shared ∙ map_push (λ (y : Segment A). segment_view y) s.shared.items x ∙ ap (λ (own : List SegmentView). own ++ p ∷ []) holds.shared ∙ sym (of_page-more p ps 0 here);
         pages = ap (λ v. pages_view v.items) pages ∙ holds.pages ∙ sym (by_pages-shared ps p here);
         found = λ n. ap (λ m. get nat_cmp m n) places ∙ holds.found n ∙ ap (λ (ms : List ℕ). place_of n ms) (sym numbers);
       }
 
   -- one of a page that is known
-  pub holds-known : (i : ℕ) (own y : Vec (Segment A) A) → (x.header.page_association == 0) ≡ false → get nat_cmp s.places x.header.page_association ≡ Some i → own ≡ get_or s.pages.items i own → y.items ≡ own.items ++ x ∷ [] → t.shared ≡ s.shared → t.pages.items ≡ set s.pages.items i y → t.places ≡ s.places → Holds s ps → Holds t (ps ++ part_view x ∷ [])
+  pub holds-known : (i : ℕ) (own y : Vec (Segment A) A) → (x.header.page_association == 0) ≡ false → get nat_cmp s.places x.header.page_association ≡ Some i → own ≡ get_or s.pages.items i own → y.items ≡ own.items ++ x ∷ [] → t.shared ≡ s.shared → t.pages.items ≡ set s.pages.items i y → t.places ≡ s.places → HoldsByPage s ps → HoldsByPage t (ps ++ segment_view x ∷ [])
   holds-known i own y above at is more shared pages places holds =
-      let p = part_view x in
+      let p = segment_view x in
       let n = p.header.page_association in
       let there = in_page s ps n i at holds in
       let numbers = numbers-known ps p (or_right (n == 0) (is_among n (numbers_after [] ps)) (placed n (numbers_after [] ps) i there.0)) in
-      let before : parts own.items ≡ of_page n ps =
-      sym (get_or-map (λ (v : Vec (Segment A) A). parts v.items) s.pages.items i own (of_page n ps) there.1 ∙ ap (λ (v : Vec (Segment A) A). parts v.items) (sym is))
-      ∙ ap (λ (own_parts : List (List Part)). get_or own_parts i (of_page n ps)) holds.pages ∙ there.2 in
+      let before : segment_views own.items ≡ of_page n ps =
+      sym (get_or-map (λ (v : Vec (Segment A) A). segment_views v.items) s.pages.items i own (of_page n ps) there.1 ∙ ap (λ (v : Vec (Segment A) A). segment_views v.items) (sym is))
+      ∙ ap (λ (own_segments : List (List SegmentView)). get_or own_segments i (of_page n ps)) holds.pages ∙ there.2 in
       record {
-        shared = ap (λ v. parts v.items) shared ∙ holds.shared ∙ sym (of_page-same p ps 0 (flipped n 0 above));
+        shared = ap (λ v. segment_views v.items) shared ∙ holds.shared ∙ sym (of_page-same p ps 0 (flipped n 0 above));
         pages =
             ap (λ (vs : List (Vec (Segment A) A)). pages_view vs) pages
-            ∙ map-set (λ (v : Vec (Segment A) A). parts v.items) s.pages.items i y
-            ∙ ap (λ (own_parts : List (List Part)). set own_parts i (parts y.items)) holds.pages
-            ∙ ap (λ (own_parts : List Part). set (by_pages ps) i own_parts) (ap (λ (xs : List (Segment A)). parts xs) more ∙ map_push (λ (z : Segment A). part_view z) own.items x ∙ ap (λ (own_parts : List Part). own_parts ++ p ∷ []) before)
+            ∙ map-set (λ (v : Vec (Segment A) A). segment_views v.items) s.pages.items i y
+            ∙ ap (λ (own_segments : List (List SegmentView)). set own_segments i (segment_views y.items)) holds.pages
+            ∙ ap (λ (own_segments : List SegmentView). set (by_pages ps) i own_segments) (ap (λ (xs : List (Segment A)). segment_views xs) more ∙ map_push (λ (z : Segment A). segment_view z) own.items x ∙ ap (λ (own_segments : List SegmentView). own_segments ++ p ∷ []) before)
             ∙ sym (by_pages-known ps p i there.0);
         found = λ m. ap (λ v. get nat_cmp v m) places ∙ holds.found m ∙ ap (λ (ms : List ℕ). place_of m ms) (sym numbers);
       }
 
   -- the first one of a page
-  pub holds-new : (k : ℕ) (y : Vec (Segment A) A) → k ≡ length s.pages.items → (x.header.page_association == 0) ≡ false → get nat_cmp s.places x.header.page_association ≡ None → y.items ≡ x ∷ [] → t.shared ≡ s.shared → t.pages.items ≡ s.pages.items ++ y ∷ [] → Updates nat_cmp s.places t.places x.header.page_association (Some k) → Holds s ps → Holds t (ps ++ part_view x ∷ [])
+  pub holds-new : (k : ℕ) (y : Vec (Segment A) A) → k ≡ length s.pages.items → (x.header.page_association == 0) ≡ false → get nat_cmp s.places x.header.page_association ≡ None → y.items ≡ x ∷ [] → t.shared ≡ s.shared → t.pages.items ≡ s.pages.items ++ y ∷ [] → Updates nat_cmp s.places t.places x.header.page_association (Some k) → HoldsByPage s ps → HoldsByPage t (ps ++ segment_view x ∷ [])
   holds-new k y count above at one shared pages places holds =
-      let p = part_view x in
+      let p = segment_view x in
       let n = p.header.page_association in
       let ns = numbers_after [] ps in
       let none : place_of n ns ≡ None = sym (holds.found n) ∙ at in
       let numbers = numbers-new ps p (or_from (n == 0) (is_among n ns) above (unplaced n ns none)) in
       record {
-        shared = ap (λ v. parts v.items) shared ∙ holds.shared ∙ sym (of_page-same p ps 0 (flipped n 0 above));
+        shared = ap (λ v. segment_views v.items) shared ∙ holds.shared ∙ sym (of_page-same p ps 0 (flipped n 0 above));
         pages =
             ap (λ (vs : List (Vec (Segment A) A)). pages_view vs) pages
-            ∙ map_push (λ (v : Vec (Segment A) A). parts v.items) s.pages.items y
-            ∙ ap (λ (own_parts : List (List Part)). own_parts ++ parts y.items ∷ []) holds.pages
-            ∙ ap (λ (xs : List (Segment A)). by_pages ps ++ parts xs ∷ []) one
+            ∙ map_push (λ (v : Vec (Segment A) A). segment_views v.items) s.pages.items y
+            ∙ ap (λ (own_segments : List (List SegmentView)). own_segments ++ segment_views y.items ∷ []) holds.pages
+            ∙ ap (λ (xs : List (Segment A)). by_pages ps ++ segment_views xs ∷ []) one
             ∙ sym (by_pages-new ps p above none);
         found = λ m.
             places.0 m
@@ -297,25 +297,25 @@ module _ {A : Type 0} (s t : SegmentsByPage A) (x : Segment A) (ps : List Part) 
       }
 
 -- Those that came are held, and the rest follow them.
-pub record HoldsSome {A : Type 0} (s : SegmentsByPage A) (rest all : List Part) : Type 0 where
-  pub came : List Part
-  pub holds : Holds s came
+pub record HoldsSome {A : Type 0} (s : SegmentsByPage A) (rest all : List SegmentView) : Type 0 where
+  pub came : List SegmentView
+  pub holds : HoldsByPage s came
   pub all_are : came ++ rest ≡ all
 
-pub holds-none : {A : Type 0} (s : SegmentsByPage A) (rest all : List Part) → s.shared.items ≡ [] → s.pages.items ≡ [] → s.places.entries ≡ [] → rest ≡ all → HoldsSome s rest all
+pub holds-none : {A : Type 0} (s : SegmentsByPage A) (rest all : List SegmentView) → s.shared.items ≡ [] → s.pages.items ≡ [] → s.places.entries ≡ [] → rest ≡ all → HoldsSome s rest all
 holds-none {A} s rest all shared pages places is = record {
   came = [];
   holds = record {
-    shared = ap (λ (xs : List (Segment A)). parts xs) shared;
+    shared = ap (λ (xs : List (Segment A)). segment_views xs) shared;
     pages = ap (λ (vs : List (Vec (Segment A) A)). pages_view vs) pages;
     found = λ n. ap (λ es. lookup (is_at (nat_cmp n)) es) places;
   };
   all_are = is;
 }
 
-pub holds-more : {A : Type 0} (s t : SegmentsByPage A) (p : Part) (before rest all : List Part) → before ≡ p ∷ rest → (some : HoldsSome s before all) → Holds t (some.came ++ p ∷ []) → HoldsSome t rest all
+pub holds-more : {A : Type 0} (s t : SegmentsByPage A) (p : SegmentView) (before rest all : List SegmentView) → before ≡ p ∷ rest → (some : HoldsSome s before all) → HoldsByPage t (some.came ++ p ∷ []) → HoldsSome t rest all
 holds-more s t p before rest all is some more = record {
   came = some.came ++ p ∷ [];
   holds = more;
-  all_are = append_assoc some.came (p ∷ []) rest ∙ ap (λ (ps : List Part). some.came ++ ps) (sym is) ∙ some.all_are;
+  all_are = append_assoc some.came (p ∷ []) rest ∙ ap (λ (ps : List SegmentView). some.came ++ ps) (sym is) ∙ some.all_are;
 }

@@ -4,7 +4,7 @@ use Rattle.jbig2_base.specs.Answer.{◌>>=◌}
 use Rattle.jbig2_base.specs.File.{file_at, headers_in}
 use Rattle.jbig2_base.specs.FileHeader.{identification, file_header_at}
 use Rattle.jbig2_base.specs.Grid.{table, pixel_at}
-use Rattle.jbig2_base.specs.PageInfo.{information_at, sheet_of}
+use Rattle.jbig2_base.specs.PageInfo.{information_at, initial_page_of}
 use Rattle.jbig2_base.specs.Segment.{type_of, count_at, referred_at, header_at, segment_at}
 use Rattle.jbig2_base.specs.Sequential.{segments_in}
 use Rattle.jbig2_base.specs.declared.error.DecodeError.{DecodeError}
@@ -21,7 +21,7 @@ use Rattle.hayro_jbig2.specs.Page.{grid_of_page}
 
 -- for each page of a file its number, and its calls or its error
 calls_in : Bool → List ℕ → Result (List (ℕ × Result (List Call) DecodeError)) DecodeError
-calls_in strict bytes = book_at strict bytes >>= λ book. Ok (map (λ page. (page.sheet.number, grid_of_page page >>= λ g. Ok (calls_of g))) (pages_of book))
+calls_in strict bytes = book_at strict bytes >>= λ book. Ok (map (λ page. (page.initial_page.number, grid_of_page page >>= λ g. Ok (calls_of g))) (pages_of book))
 
 -- one page, of a row of eight white pixels
 abbrev one_white : List (ℕ × Result (List Call) DecodeError)
@@ -81,7 +81,7 @@ unfolding globals_at segments_in segment_at header_at referred_at count_at type_
 row_3-reference = refl
 
 row_16 : calls_in true (headed 1 (page_header ++ (page_data ++ end_of_page))) ≡ Ok one_white
-unfolding calls_in book_at file_at file_header_at segments_in segment_at header_at referred_at count_at type_of filed_from sheet_of information_at grid_of_page table pixel_at calls_of row_of whole_calls
+unfolding calls_in book_at file_at file_header_at segments_in segment_at header_at referred_at count_at type_of filed_from initial_page_of information_at grid_of_page table pixel_at calls_of row_of whole_calls
 row_16 = refl
 
 row_16-unended : book_at true (headed 1 (page_header ++ page_data)) ≡ Err (Format InvalidEndOfPage)
@@ -89,15 +89,15 @@ unfolding book_at file_at file_header_at segments_in segment_at header_at referr
 row_16-unended = refl
 
 row_16-headers_first : calls_in true (headed 0 (page_header ++ (end_of_page ++ (end_of_file ++ page_data)))) ≡ Ok one_white
-unfolding calls_in book_at file_at file_header_at headers_in header_at referred_at count_at type_of filed_from sheet_of information_at grid_of_page table pixel_at calls_of row_of whole_calls
+unfolding calls_in book_at file_at file_header_at headers_in header_at referred_at count_at type_of filed_from initial_page_of information_at grid_of_page table pixel_at calls_of row_of whole_calls
 row_16-headers_first = refl
 
 row_R9_3-size : first_size (headed 1 (page_header ++ (page_data ++ end_of_page))) ≡ Ok (8, 1)
-unfolding first_page book_at file_at file_header_at segments_in segment_at header_at referred_at count_at type_of filed_from sheet_of information_at
+unfolding first_page book_at file_at file_header_at segments_in segment_at header_at referred_at count_at type_of filed_from initial_page_of information_at
 row_R9_3-size = refl
 
 row_R9_3-image : first_image (headed 1 (page_header ++ (page_data ++ end_of_page))) ≡ Ok (replicate 8 255)
-unfolding first_page book_at file_at file_header_at segments_in segment_at header_at referred_at count_at type_of filed_from sheet_of information_at grid_of_page table pixel_at image_of
+unfolding first_page book_at file_at file_header_at segments_in segment_at header_at referred_at count_at type_of filed_from initial_page_of information_at grid_of_page table pixel_at image_of
 row_R9_3-image = refl
 
 row_R9_4 : first_image (identification ++ 3 ∷ []) ≡ Err (Format MissingPageInfo)

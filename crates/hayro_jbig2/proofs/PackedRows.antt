@@ -7,7 +7,7 @@ use Rattle.std.specs.List.{range_with_len}
 use Rattle.jbig2_base.specs.Grid.{Grid, pixel_at, bit_number}
 use Rattle.jbig2_base.specs.inner.WordBits.{bit}
 use Rattle.jbig2_base.proofs.BitLemmas.{bit_number-bit, bit-shr}
-use Rattle.jbig2_coder.specs.Integers.{number}
+use Rattle.jbig2_coder.specs.Integers.{value_of_bits}
 use Rattle.hayro_jbig2.specs.Image.{packed_byte, row_bytes, top_byte}
 
 map-same : {X : Type 0} (f g : ℕ → X) (a n : ℕ) → ((i : ℕ) → a ≤ i → i < a + n → f i ≡ g i) → map f (range_with_len a n) ≡ map g (range_with_len a n)
@@ -20,7 +20,7 @@ by_eights m small = omega (arith, small)
 
 -- the highest byte of a word is what its bits spell
 pub byte-bits : (n : ℕ) → n < 2 ^ 64 → n / 2 ^ 56 ≡ top_byte (bit n)
-unfolding number
+unfolding value_of_bits
 byte-bits n small =
     let digit : (j : ℕ) → n / 2 ^ 56 / 2 ^ j % 2 ≡ bit_number (bit n (56 + j)) = λ j. sym (bit_number-bit (n / 2 ^ 56) j) ∙ ap (λ (b : Bool). bit_number b) (bit-shr n 56 j) in
     by_eights (n / 2 ^ 56) (omega (arith, small))
@@ -29,7 +29,7 @@ byte-bits n small =
 -- it is the byte of the pixels that the word holds
 pub byte-pixels : (g : Grid) (n k y : ℕ) → ((j : ℕ) → j < 8 → bit n (63 - j) ≡ pixel_at g (8 * k + j) y) → top_byte (bit n) ≡ packed_byte g k y
 unfolding packed_byte
-byte-pixels g n k y same = ap (λ (bits : List Bool). number bits) (map-same (λ i. bit n (63 - i)) (λ i. pixel_at g (8 * k + i) y) 0 8 (λ i above below. same i below))
+byte-pixels g n k y same = ap (λ (bits : List Bool). value_of_bits bits) (map-same (λ i. bit n (63 - i)) (λ i. pixel_at g (8 * k + i) y) 0 8 (λ i above below. same i below))
 
 -- a byte more of the rows, at column x of row y
 pub written-more : (g : Grid) (w : ℕ) (bytes : List ℕ) (x y place byte : ℕ)

@@ -5,7 +5,7 @@ use Rattle.std.proofs.lemmas.Bool.{cond_both, and_parts}
 use Rattle.std.proofs.lemmas.List.{append_assoc, append-nil, replicate-append-replicate, take-append-drop, length-take-le, length-drop}
 use Rattle.std.proofs.lemmas.List.Sums.{sum_by-append}
 use Rattle.jbig2_base.specs.Grid.{Grid, same_colour}
-use Rattle.hayro_jbig2.specs.Calls.{Call, Pixel, Chunk, Line, is_all, is_line, singles, with_whole, with_byte, whole_calls, row_calls, row_of, line_calls, calls_of, rows_after, Spells}
+use Rattle.hayro_jbig2.specs.Calls.{Call, Pixel, Chunk, Line, is_all, is_line, singles, with_whole, with_byte, whole_calls, row_calls, row_of, line_calls, calls_of, rows_after, DrawsGrid}
 use Rattle.hayro_jbig2.proofs.Runs.{length-row, colour_is}
 
 rows-singles : (front bits : List Bool) (cs : List Call) → rows_after front (singles bits ++ cs) ≡ rows_after (front ++ bits) cs
@@ -106,6 +106,6 @@ count-lines g a (suc n) =
     let one : count_by is_line line ≡ 1 = refl in
     omega (arith, count-append (line_calls g a) rest, count-append cs line, count-calls (length (row_of g a) / 8) (row_of g a), count-lines g (a + 1) n, one)
 
-pub spells : (g : Grid) → Spells (calls_of g) g
+pub spells : (g : Grid) → DrawsGrid (calls_of g) g
 unfolding calls_of
 spells g = record { lines = count-lines g 0 g.height; widths = length-row g; rows = rows-lines g 0 g.height }

@@ -79,7 +79,7 @@ is_line _ = false
 
 -- The calls spell a grid: as many line calls as rows, each row as wide as the grid, and whoever draws the calls
 -- gets the grid's rows.
-pub record Spells (calls : List Call) (g : Grid) : Type 0 where
+pub record DrawsGrid (calls : List Call) (g : Grid) : Type 0 where
   pub lines : count_by is_line calls ≡ g.height
   pub widths : (y : ℕ) → length (row_of g y) ≡ g.width
   pub rows : rows_after [] calls ≡ map (row_of g) (range_with_len 0 g.height)

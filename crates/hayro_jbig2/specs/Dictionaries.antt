@@ -7,26 +7,26 @@ use Rattle.std.specs.Int.{w32}
 use Rattle.jbig2_base.specs.Answer.{◌>>=◌, refuse_if}
 use Rattle.jbig2_base.specs.Bits.{start_of}
 use Rattle.jbig2_base.specs.Fields.{number_at}
-use Rattle.jbig2_base.specs.Segment.{Part}
+use Rattle.jbig2_base.specs.Segment.{SegmentView}
 use Rattle.jbig2_base.specs.declared.error.DecodeError.{DecodeError}
 use Rattle.jbig2_base.specs.declared.error.DecodeError.TheVariants.{Unsupported}
 use Rattle.jbig2_coder.specs.CustomTable.{custom_table}
 use Rattle.jbig2_coder.specs.PrefixCode.{Member}
 use Rattle.jbig2_halftone.specs.PatternHeader.{pattern_header_at}
-use Rattle.jbig2_halftone.specs.Patterns.{Patterns, patterns_at}
+use Rattle.jbig2_halftone.specs.Patterns.{Patterns, patterns_decoded}
 use Rattle.jbig2_symbol.specs.SymbolHeader.{symbol_header_at}
-use Rattle.jbig2_symbol.specs.Symbols.{Symbols, dictionary_at}
+use Rattle.jbig2_symbol.specs.Symbols.{Symbols, symbols_decoded}
 use Rattle.hayro_jbig2.specs.Names.{Names, kept_under}
 use Rattle.hayro_jbig2.specs.Referred.{referred_by}
 
 -- A symbol dictionary (7.4.2), after what it refers to among its own page's names and those of the globals.
-unfoldable pub symbol_dictionary_at : Bool → Names → Names → Part → Result Symbols DecodeError
+unfoldable pub symbol_dictionary_at : Bool → Names → Names → SegmentView → Result Symbols DecodeError
 symbol_dictionary_at strict own shared p = do
   referred ← referred_by strict own shared p.header.referred_to_segments
   header ← symbol_header_at strict p.bytes
-  dictionary_at header.0 referred.symbols referred.codes referred.kept
+  symbols_decoded header.0 referred.symbols referred.codes referred.kept
 
-unfoldable pub with_symbols : Bool → Names → Part → Names → Result Names DecodeError
+unfoldable pub with_symbols : Bool → Names → SegmentView → Names → Result Names DecodeError
 with_symbols strict shared p own = do
   symbols ← symbol_dictionary_at strict own shared p
   Ok (record own { symbols = kept_under p.header.segment_number symbols own.symbols })
@@ -35,9 +35,9 @@ with_symbols strict shared p own = do
 unfoldable pub pattern_dictionary_at : Bool → List ℕ → Result Patterns DecodeError
 pattern_dictionary_at strict bytes = do
   header ← pattern_header_at strict bytes
-  patterns_at header.0
+  patterns_decoded header.0
 
-unfoldable pub with_patterns : Bool → Part → Names → Result Names DecodeError
+unfoldable pub with_patterns : Bool → SegmentView → Names → Result Names DecodeError
 with_patterns strict p own = do
   patterns ← pattern_dictionary_at strict p.bytes
   Ok (record own { patterns = kept_under p.header.segment_number patterns own.patterns })
@@ -46,7 +46,7 @@ with_patterns strict p own = do
 abbrev pub code_at : List ℕ → Result (List Member) DecodeError
 code_at bytes = (custom_table (start_of bytes)).answer
 
-unfoldable pub with_code : Part → Names → Result Names DecodeError
+unfoldable pub with_code : SegmentView → Names → Result Names DecodeError
 with_code p own = do
   code ← code_at p.bytes
   Ok (record own { codes = kept_under p.header.segment_number code own.codes })

@@ -3,14 +3,14 @@ use Rattle.std.specs.Prelude.{◌≡◌, ℕ, ◌+◌, ◌==◌, Bool, true, fal
 use Rattle.std.specs.List.{list_any}
 use Rattle.jbig2_base.specs.Answer.{◌>>=◌, refuse_if}
 use Rattle.jbig2_base.specs.File.{file_at}
-use Rattle.jbig2_base.specs.PageInfo.{sheet_of}
-use Rattle.jbig2_base.specs.Segment.{Header, Part}
+use Rattle.jbig2_base.specs.PageInfo.{initial_page_of}
+use Rattle.jbig2_base.specs.Segment.{Header, SegmentView}
 use Rattle.jbig2_base.specs.declared.error.DecodeError.{DecodeError}
 use Rattle.jbig2_base.specs.declared.error.DecodeError.TheVariants.{Format, Segment}
 use Rattle.jbig2_base.specs.declared.error.FormatError.TheVariants.{PageCountMismatch, InvalidEndOfPage}
 use Rattle.jbig2_base.specs.declared.error.SegmentError.TheVariants.{MissingPageAssociation}
 use Rattle.jbig2_base.specs.declared.file_header.FileHeader.{FileHeader}
-use Rattle.jbig2_base.specs.declared.page_info.Sheet.{Sheet}
+use Rattle.jbig2_base.specs.declared.page_info.InitialPage.{InitialPage}
 use Rattle.jbig2_base.specs.declared.segment.SegmentType.{SegmentType}
 use Rattle.jbig2_base.specs.declared.segment.SegmentType.TheVariants as types
 use Rattle.hayro_jbig2.specs.Globals.{named_from}
@@ -19,8 +19,8 @@ use Rattle.hayro_jbig2.specs.Page.{ReadPage}
 
 -- A page in a file: what it begins as, and its segments in order.
 pub record PageInFile : Type 0 where
-  pub sheet : Sheet
-  pub parts : List Part
+  pub initial_page : InitialPage
+  pub segments : List SegmentView
 
 -- A file: whether it is read strictly, its pages, and the names of its globals or the error that decoding them gave.
 pub record ReadFile : Type 0 where
@@ -44,7 +44,7 @@ needs_page _ = true
 abbrev pub lacks_page : Bool → Header → Bool
 lacks_page strict h = strict && h.page_association == 0 && needs_page h.segment_type
 
-abbrev pub associated : Bool → List Part → Result (Unit {0}) DecodeError
+abbrev pub associated : Bool → List SegmentView → Result (Unit {0}) DecodeError
 associated strict [] = Ok tt
 associated strict (p ∷ ps) = if lacks_page strict p.header then Err (Segment MissingPageAssociation) else associated strict ps
 
@@ -55,35 +55,35 @@ abbrev pub with_number : ℕ → List ℕ → List ℕ
 with_number n ns = if is_known n ns then ns else ns ++ n ∷ []
 
 -- The pages' numbers behind these, in the order in which they first occur.
-abbrev pub numbers_after : List ℕ → List Part → List ℕ
+abbrev pub numbers_after : List ℕ → List SegmentView → List ℕ
 numbers_after ns [] = ns
 numbers_after ns (p ∷ ps) = numbers_after (with_number p.header.page_association ns) ps
 
 -- the segments with this association
-abbrev pub of_page : ℕ → List Part → List Part
+abbrev pub of_page : ℕ → List SegmentView → List SegmentView
 of_page n ps = filter (λ p. p.header.page_association == n) ps
 
 -- each page's own segments, in the order in which the pages' numbers first occur
-abbrev pub by_pages : List Part → List (List Part)
+abbrev pub by_pages : List SegmentView → List (List SegmentView)
 by_pages ps = map (λ n. of_page n ps) (numbers_after [] ps)
 
 abbrev pub is_end_of_page : SegmentType → Bool
 is_end_of_page types.EndOfPage = true
 is_end_of_page _ = false
 
-abbrev pub ends_of : List Part → ℕ
+abbrev pub ends_of : List SegmentView → ℕ
 ends_of [] = 0
 ends_of (p ∷ ps) = (if is_end_of_page p.header.segment_type then 1 else 0) + ends_of ps
 
 -- The page that these segments make: strict reading wants one end of page (7.4.9).
-unfoldable pub filed_from : Bool → List Part → Result PageInFile DecodeError
+unfoldable pub filed_from : Bool → List SegmentView → Result PageInFile DecodeError
 filed_from strict own = do
   ended ← refuse_if (strict && not (ends_of own == 1)) (Format InvalidEndOfPage)
-  sheet ← sheet_of own
-  Ok (record { sheet = sheet; parts = own })
+  initial_page ← initial_page_of own
+  Ok (record { initial_page = initial_page; segments = own })
 
 -- the pages that these lists of segments make
-abbrev pub filed_each : Bool → List (List Part) → Result (List PageInFile) DecodeError
+abbrev pub filed_each : Bool → List (List SegmentView) → Result (List PageInFile) DecodeError
 filed_each strict [] = Ok []
 filed_each strict (own ∷ others) = do
   page ← filed_from strict own
@@ -105,7 +105,7 @@ book_at strict bytes = do
   Ok (record { strict = strict; pages = pages; globals = named_from strict (of_page 0 file.1) no_names })
 
 abbrev pub page_in : ReadFile → PageInFile → ReadPage
-page_in book page = record { strict = book.strict; sheet = page.sheet; parts = page.parts; globals = book.globals }
+page_in book page = record { strict = book.strict; initial_page = page.initial_page; segments = page.segments; globals = book.globals }
 
 -- the page at this index, from 0
 abbrev pub page_of : ReadFile → ℕ → Option ReadPage
@@ -116,12 +116,12 @@ abbrev pub pages_of : ReadFile → List ReadPage
 pages_of book = map (page_in book) book.pages
 
 -- A page that is made of its own segments and of those of no page.
-abbrev pub page_from : Bool → List Part → List Part → Result ReadPage DecodeError
-page_from strict own shared = sheet_of own >>= λ sheet. Ok (record { strict = strict; sheet = sheet; parts = own; globals = named_from strict shared no_names })
+abbrev pub page_from : Bool → List SegmentView → List SegmentView → Result ReadPage DecodeError
+page_from strict own shared = initial_page_of own >>= λ initial_page. Ok (record { strict = strict; initial_page = initial_page; segments = own; globals = named_from strict shared no_names })
 
 -- Each page of a file is made of the segments whose association is its number, those of association 0 and the
 -- strictness alone.
 abbrev pub PagesStandAlone : Type 0
-PagesStandAlone = (strict : Bool) (bytes : List ℕ) (file : FileHeader × List Part) (book : ReadFile) (index : ℕ) (page : ReadPage)
+PagesStandAlone = (strict : Bool) (bytes : List ℕ) (file : FileHeader × List SegmentView) (book : ReadFile) (index : ℕ) (page : ReadPage)
     → file_at strict bytes ≡ Ok file → book_at strict bytes ≡ Ok book → page_of book index ≡ Some page
-    → page_from strict (of_page page.sheet.number file.1) (of_page 0 file.1) ≡ Ok page
+    → page_from strict (of_page page.initial_page.number file.1) (of_page 0 file.1) ≡ Ok page

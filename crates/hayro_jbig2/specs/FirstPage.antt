@@ -20,7 +20,7 @@ first_page bytes = book_at false bytes >>= λ book. some_page (page_of book 0)
 
 -- its width and its height
 abbrev pub first_size : List ℕ → Result (ℕ × ℕ) DecodeError
-first_size bytes = first_page bytes >>= λ page. Ok (page.sheet.width, page.sheet.height)
+first_size bytes = first_page bytes >>= λ page. Ok (page.initial_page.width, page.initial_page.height)
 
 -- a byte for each of its pixels
 abbrev pub first_image : List ℕ → Result (List ℕ) DecodeError

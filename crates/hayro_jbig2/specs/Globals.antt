@@ -3,7 +3,7 @@
 -- They are read in the order of their numbers, and each may refer to those before it.
 use Rattle.std.specs.Prelude.{ℕ, Bool, List, [], ◌∷◌, Result, Ok}
 use Rattle.jbig2_base.specs.Answer.{◌>>=◌}
-use Rattle.jbig2_base.specs.Segment.{Part}
+use Rattle.jbig2_base.specs.Segment.{SegmentView}
 use Rattle.jbig2_base.specs.Sequential.{sorted_segments}
 use Rattle.jbig2_base.specs.declared.error.DecodeError.{DecodeError}
 use Rattle.jbig2_base.specs.declared.segment.SegmentType.{SegmentType}
@@ -12,7 +12,7 @@ use Rattle.hayro_jbig2.specs.Dictionaries.{extension, with_code, with_patterns, 
 use Rattle.hayro_jbig2.specs.Names.{Names, no_names}
 
 -- One segment: dictionaries, tables and extensions are decoded, and nothing else.
-abbrev pub named_by : Bool → Part → Names → Result Names DecodeError
+abbrev pub named_by : Bool → SegmentView → Names → Result Names DecodeError
 named_by strict p names = on p.header.segment_type
   where
     on : SegmentType → Result Names DecodeError
@@ -23,12 +23,12 @@ named_by strict p names = on p.header.segment_type
     on _ = Ok names
 
 -- the segments in order
-abbrev pub named_from : Bool → List Part → Names → Result Names DecodeError
+abbrev pub named_from : Bool → List SegmentView → Names → Result Names DecodeError
 named_from strict [] names = Ok names
 named_from strict (p ∷ ps) names = named_by strict p names >>= λ more. named_from strict ps more
 
 -- The names of globals whose segments stand one behind the other, sorted before they are decoded.
 unfoldable pub globals_at : Bool → List ℕ → Result Names DecodeError
 globals_at strict bytes = do
-  parts ← sorted_segments strict bytes
-  named_from strict parts no_names
+  segments ← sorted_segments strict bytes
+  named_from strict segments no_names

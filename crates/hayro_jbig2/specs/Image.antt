@@ -4,7 +4,7 @@ use Rattle.std.specs.List.{range_with_len}
 use Rattle.jbig2_base.specs.Answer.{◌>>=◌}
 use Rattle.jbig2_base.specs.Grid.{Grid, pixel_at}
 use Rattle.jbig2_base.specs.declared.error.DecodeError.{DecodeError}
-use Rattle.jbig2_coder.specs.Integers.{number}
+use Rattle.jbig2_coder.specs.Integers.{value_of_bits}
 use Rattle.hayro_jbig2.specs.Page.{ReadPage, grid_of_page}
 
 -- black is 0, and white is 255
@@ -17,7 +17,7 @@ image_of width height g = map (λ n. shade (pixel_at g (n % width) (n / width)))
 
 -- the bytes of the page's grid, or the page's error
 abbrev pub image_of_page : ReadPage → Result (List ℕ) DecodeError
-image_of_page page = grid_of_page page >>= λ g. Ok (image_of page.sheet.width page.sheet.height g)
+image_of_page page = grid_of_page page >>= λ g. Ok (image_of page.initial_page.width page.initial_page.height g)
 
 -- the bytes of a packed row: eight pixels each, the last one filled up with white
 abbrev pub row_bytes : ℕ → ℕ
@@ -28,7 +28,7 @@ packed_size width height = row_bytes width * height
 
 -- Byte k of row y: the pixels from column 8k on, 1 for black, the first the highest bit; 0 past the row's end.
 unfoldable pub packed_byte : Grid → ℕ → ℕ → ℕ
-packed_byte g k y = number (map (λ i. pixel_at g (8 * k + i) y) (range_with_len 0 8))
+packed_byte g k y = value_of_bits (map (λ i. pixel_at g (8 * k + i) y) (range_with_len 0 8))
 
 -- The packed rows from the top.
 unfoldable pub packed_of : ℕ → ℕ → Grid → List ℕ
@@ -37,8 +37,8 @@ packed_of width height g =
 
 -- the packed rows of the page's grid, or the page's error
 abbrev pub packed_of_page : ReadPage → Result (List ℕ) DecodeError
-packed_of_page page = grid_of_page page >>= λ g. Ok (packed_of page.sheet.width page.sheet.height g)
+packed_of_page page = grid_of_page page >>= λ g. Ok (packed_of page.initial_page.width page.initial_page.height g)
 
 -- the highest byte of a word by its bits
 abbrev pub top_byte : (ℕ → Bool) → ℕ
-top_byte bits = number (map (λ i. bits (63 - i)) (range_with_len 0 8))
+top_byte bits = value_of_bits (map (λ i. bits (63 - i)) (range_with_len 0 8))

@@ -6,13 +6,13 @@ use Rattle.std.specs.Int.{w32, cast_signed}
 use Rattle.jbig2_base.specs.Answer.{◌>>=◌}
 use Rattle.jbig2_base.specs.Combination.{combined}
 use Rattle.jbig2_base.specs.Grid.{Grid, blank}
-use Rattle.jbig2_base.specs.PageInfo.{sheet_of}
-use Rattle.jbig2_base.specs.Segment.{Part}
+use Rattle.jbig2_base.specs.PageInfo.{initial_page_of}
+use Rattle.jbig2_base.specs.Segment.{SegmentView}
 use Rattle.jbig2_base.specs.Sequential.{sorted_segments}
 use Rattle.jbig2_base.specs.declared.bitmap.operator.CombinationOperator.{CombinationOperator}
 use Rattle.jbig2_base.specs.declared.bitmap.operator.CombinationOperator.TheVariants.{Or, And, Xor, Xnor, Replace}
 use Rattle.jbig2_base.specs.declared.error.DecodeError.{DecodeError}
-use Rattle.jbig2_base.specs.declared.page_info.Sheet.{Sheet}
+use Rattle.jbig2_base.specs.declared.page_info.InitialPage.{InitialPage}
 use Rattle.jbig2_base.specs.declared.segment.SegmentType.{SegmentType}
 use Rattle.jbig2_base.specs.declared.segment.SegmentType.TheVariants as types
 use Rattle.jbig2_region.specs.Generic.{PlacedRegion}
@@ -27,8 +27,8 @@ use Rattle.hayro_jbig2.specs.declared.region.RegionKind.TheVariants as kinds
 -- or the error that decoding those gave.
 pub record ReadPage : Type 0 where
   pub strict : Bool
-  pub sheet : Sheet
-  pub parts : List Part
+  pub initial_page : InitialPage
+  pub segments : List SegmentView
   pub globals : Result Names DecodeError
 
 -- What was drawn so far, the intermediate regions and the names that are kept, and whether no immediate region came
@@ -45,7 +45,7 @@ ends_page types.EndOfFile = true
 ends_page _ = false
 
 -- A region of this kind.
-abbrev pub region_at : Bool → Names → RegionKind → Bool → Part → Drawing → Result PlacedRegion DecodeError
+abbrev pub region_at : Bool → Names → RegionKind → Bool → SegmentView → Drawing → Result PlacedRegion DecodeError
 region_at strict globals kinds.Text is_intermediate p d = text_at strict d.names globals p
 region_at strict globals kinds.Halftone is_intermediate p d = halftone_at strict d.names globals p
 region_at strict globals kinds.Generic is_intermediate p d = generic_at strict is_intermediate p
@@ -57,14 +57,14 @@ abbrev pub shown : Bool → Drawing → Result PlacedRegion DecodeError → Resu
 shown strict d (Ok r) = Ok (record d { grid = combined r.combination_operator d.grid r.grid (cast_signed w32 r.x_location) (cast_signed w32 r.y_location); untouched = false })
 shown strict d (Err e) = if strict then Err e else Ok (record d { untouched = false })
 
-unfoldable pub immediate : Bool → Names → RegionKind → Part → Drawing → Result Drawing DecodeError
+unfoldable pub immediate : Bool → Names → RegionKind → SegmentView → Drawing → Result Drawing DecodeError
 immediate strict globals kind p d = shown strict d (region_at strict globals kind false p d)
 
 -- An intermediate region is kept under its segment's number.
 abbrev pub with_region : ℕ → Drawing → PlacedRegion → Drawing
 with_region number d region = record d { regions = kept_under number region d.regions }
 
-unfoldable pub intermediate : Bool → Names → RegionKind → Part → Drawing → Result Drawing DecodeError
+unfoldable pub intermediate : Bool → Names → RegionKind → SegmentView → Drawing → Result Drawing DecodeError
 intermediate strict globals kind p d = do
   region ← region_at strict globals kind true p d
   Ok (with_region p.header.segment_number d region)
@@ -75,7 +75,7 @@ keeping d kept = kept >>= λ names. Ok (record d { names = names })
 
 -- One segment. Page information after the beginning, stripes, profiles, palettes, types without a meaning, and an end
 -- by itself change nothing.
-abbrev pub segment_on : Bool → Names → Part → Drawing → Result Drawing DecodeError
+abbrev pub segment_on : Bool → Names → SegmentView → Drawing → Result Drawing DecodeError
 segment_on strict globals p d = on p.header.segment_type
   where
     on : SegmentType → Result Drawing DecodeError
@@ -104,26 +104,26 @@ segment_on strict globals p d = on p.header.segment_type
     on types.Reserved = Ok d
 
 -- The segments in order, up to an end of page or an end of file.
-abbrev pub drawn : Bool → Names → List Part → Drawing → Result Drawing DecodeError
-drawn strict globals [] d = Ok d
-drawn strict globals (p ∷ ps) d = if ends_page p.header.segment_type then Ok d else (segment_on strict globals p d >>= λ e. drawn strict globals ps e)
+abbrev pub segments_drawn : Bool → Names → List SegmentView → Drawing → Result Drawing DecodeError
+segments_drawn strict globals [] d = Ok d
+segments_drawn strict globals (p ∷ ps) d = if ends_page p.header.segment_type then Ok d else (segment_on strict globals p d >>= λ e. segments_drawn strict globals ps e)
 
 -- The page begins in its default pixel.
-abbrev pub page_begun : Sheet → Drawing
-page_begun sheet = record { grid = blank sheet.width sheet.height sheet.default_pixel; regions = []; names = no_names; untouched = true }
+abbrev pub page_begun : InitialPage → Drawing
+page_begun initial_page = record { grid = blank initial_page.width initial_page.height initial_page.default_pixel; regions = []; names = no_names; untouched = true }
 
 unfoldable pub grid_of_page : ReadPage → Result Grid DecodeError
 grid_of_page page = do
   globals ← page.globals
-  d ← drawn page.strict globals page.parts (page_begun page.sheet)
+  d ← segments_drawn page.strict globals page.segments (page_begun page.initial_page)
   Ok d.grid
 
 -- An embedded page (D.3; PDF keeps one so): its segments read one behind the other, sorted.
 unfoldable pub embedded : Bool → Names → List ℕ → Result ReadPage DecodeError
 embedded strict globals bytes = do
-  parts ← sorted_segments strict bytes
-  sheet ← sheet_of parts
-  Ok (record { strict = strict; sheet = sheet; parts = parts; globals = Ok globals })
+  segments ← sorted_segments strict bytes
+  initial_page ← initial_page_of segments
+  Ok (record { strict = strict; initial_page = initial_page; segments = segments; globals = Ok globals })
 
 -- On a page of one colour this operator gives the region's pixels themselves.
 abbrev pub draws_over : CombinationOperator → Bool → Bool

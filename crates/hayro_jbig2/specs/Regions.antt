@@ -4,7 +4,7 @@
 use Rattle.std.specs.Prelude.{ℕ, ◌+◌, Bool, ◌&&◌, not, is_none, List, [], ◌∷◌, length, Option, Some, None, Result, Ok, Err}
 use Rattle.jbig2_base.specs.Answer.{◌>>=◌, refuse_if}
 use Rattle.jbig2_base.specs.Grid.{Grid, grid_of, pixel_at}
-use Rattle.jbig2_base.specs.Segment.{Part}
+use Rattle.jbig2_base.specs.Segment.{SegmentView}
 use Rattle.jbig2_base.specs.declared.error.DecodeError.{DecodeError}
 use Rattle.jbig2_base.specs.declared.error.DecodeError.TheVariants.{Segment}
 use Rattle.jbig2_base.specs.declared.error.SegmentError.TheVariants.{InvalidReference, MissingPatternDictionary}
@@ -25,7 +25,7 @@ use Rattle.hayro_jbig2.specs.declared.region.RegionKind.{RegionKind}
 use Rattle.hayro_jbig2.specs.declared.region.RegionKind.TheVariants as kinds
 
 -- A text region (7.4.3), after what it refers to.
-unfoldable pub text_at : Bool → Names → Names → Part → Result PlacedRegion DecodeError
+unfoldable pub text_at : Bool → Names → Names → SegmentView → Result PlacedRegion DecodeError
 text_at strict own shared p = do
   referred ← referred_by strict own shared p.header.referred_to_segments
   header ← text_header_at (length referred.symbols) strict p.bytes
@@ -41,7 +41,7 @@ some_patterns (Some patterns) = Ok patterns
 some_patterns None = Err (Segment MissingPatternDictionary)
 
 -- A halftone region (7.4.5), drawn with these patterns.
-unfoldable pub halftone_at : Bool → Names → Names → Part → Result PlacedRegion DecodeError
+unfoldable pub halftone_at : Bool → Names → Names → SegmentView → Result PlacedRegion DecodeError
 halftone_at strict own shared p = do
   patterns ← some_patterns (patterns_for own shared p.header.referred_to_segments)
   header ← halftone_header_at strict p.bytes
@@ -49,7 +49,7 @@ halftone_at strict own shared p = do
 
 -- A generic region (7.4.6). The last four bytes of an immediate one of unknown length are the number of its rows;
 -- an intermediate one is no special case, and the row count stays in its data.
-unfoldable pub generic_at : Bool → Bool → Part → Result PlacedRegion DecodeError
+unfoldable pub generic_at : Bool → Bool → SegmentView → Result PlacedRegion DecodeError
 generic_at strict is_intermediate p = do
   header ← generic_header_at (not is_intermediate && is_none p.header.data_length) strict p.bytes
   generic_decoded header.0
@@ -76,7 +76,7 @@ reference_region page info (Some region) = region
 reference_region page info None = page_area page info
 
 -- A refinement (7.4.7). Strict reading refuses an intermediate one that refers to no region.
-unfoldable pub refinement_at : Bool → Bool → Grid → List (Kept PlacedRegion) → Part → Result PlacedRegion DecodeError
+unfoldable pub refinement_at : Bool → Bool → Grid → List (Kept PlacedRegion) → SegmentView → Result PlacedRegion DecodeError
 refinement_at strict is_intermediate page regions p = do
   referred ← referred_region strict p.header.referred_to_segments regions
   known ← refuse_if (strict && is_intermediate && is_none referred) (Segment InvalidReference)

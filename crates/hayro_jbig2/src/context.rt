@@ -12,7 +12,7 @@ use crate::workspace::Workspace;
 use jbig2_base::bitmap::Bitmap;
 use jbig2_base::bitmap::steps::Steps;
 use jbig2_base::error::Result;
-use jbig2_base::page_info::Sheet;
+use jbig2_base::page_info::InitialPage;
 use jbig2_region::generic::DecodedRegion;
 use std::alloc::Allocator;
 use std::marker::Model;
@@ -56,13 +56,16 @@ impl<A: Allocator + Clone> DecoderContext<A> {
 
 impl<A: Allocator> DecoderContext<A> {
     /// Begins a page: nothing of an earlier one is left.
-    pub(crate) fn begin(&mut self, sheet: &Sheet) -> Result<()>
-        requires width { sheet.now.width ≤ 65535 }
-        requires height { sheet.now.height ≤ 65535 }
-        ensures { Gives (λ _. self.new) result (Ok (page_begun sheet.now)) }
+    pub(crate) fn begin(&mut self, initial_page: &InitialPage) -> Result<()>
+        requires width { initial_page.now.width ≤ 65535 }
+        requires height { initial_page.now.height ≤ 65535 }
+        ensures { Gives (λ _. self.new) result (Ok (page_begun initial_page.now)) }
     {
-        self.bitmap
-            .reinitialize(sheet.width, sheet.height, sheet.default_pixel)?;
+        self.bitmap.reinitialize(
+            initial_page.width,
+            initial_page.height,
+            initial_page.default_pixel,
+        )?;
         self.regions.clear();
         self.names.clear();
         self.untouched = true;

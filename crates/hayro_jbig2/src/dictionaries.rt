@@ -2,7 +2,7 @@
 //! a page as of its globals. One that fails is never passed over.
 ghost use Rattle.std.specs.Prelude.{◌≡◌};
 ghost use Rattle.jbig2_base.specs.Answer.{Answers, Gives};
-ghost use Rattle.jbig2_base.specs.inner.SegmentViews.{part_view};
+ghost use Rattle.jbig2_base.specs.inner.SegmentViews.{segment_view};
 ghost use Rattle.hayro_jbig2.specs.Dictionaries.{symbol_dictionary_at, with_symbols, pattern_dictionary_at, with_patterns, with_code, extension};
 ghost use Rattle.hayro_jbig2.specs.inner.KeptViews.{patterns_view, symbols_view};
 
@@ -28,7 +28,7 @@ fn decode_symbols<A: Allocator + Clone, L: Ledger>(
     workspace: &Workspace<A>,
     steps: &mut Steps<L>,
 ) -> Result<SymbolDictionary<A>>
-    ensures { Gives (λ d. symbols_view d) result (symbol_dictionary_at lookup.now.strict lookup.now.own.now lookup.now.globals.now (part_view segment.now)) }
+    ensures { Gives (λ d. symbols_view d) result (symbol_dictionary_at lookup.now.strict lookup.now.own.now lookup.now.globals.now (segment_view segment.now)) }
 {
     let numbers = &segment.header.referred_to_segments;
     let referred = gather_referred(workspace.alloc.clone()?, lookup, numbers)?;
@@ -75,7 +75,7 @@ pub(crate) fn keep_symbols<A: Allocator + Clone, L: Ledger>(
     workspace: &Workspace<A>,
     steps: &mut Steps<L>,
 ) -> Result<()>
-    ensures { Gives (λ _. names.new) result (with_symbols strict globals.now (part_view segment.now) names.old) }
+    ensures { Gives (λ _. names.new) result (with_symbols strict globals.now (segment_view segment.now) names.old) }
 {
     let lookup = Lookup {
         strict,
@@ -95,7 +95,7 @@ pub(crate) fn keep_patterns<A: Allocator + Clone, L: Ledger>(
     workspace: &mut Workspace<A>,
     steps: &mut Steps<L>,
 ) -> Result<()>
-    ensures { Gives (λ _. names.new) result (with_patterns strict (part_view segment.now) names.old) }
+    ensures { Gives (λ _. names.new) result (with_patterns strict (segment_view segment.now) names.old) }
 {
     let dictionary = decode_patterns(strict, segment.bytes, workspace, steps)?;
     names.store_patterns(segment.header.segment_number, dictionary)
@@ -108,7 +108,7 @@ pub(crate) fn keep_table<A: Allocator + Clone>(
     segment: &Segment<'_, A>,
     workspace: &Workspace<A>,
 ) -> Result<()>
-    ensures { Gives (λ _. names.new) result (with_code (part_view segment.now) names.old) }
+    ensures { Gives (λ _. names.new) result (with_code (segment_view segment.now) names.old) }
 {
     let mut reader = Reader::new(segment.bytes);
     let table = HuffmanTable::read_custom(workspace.alloc.clone()?, &mut reader)?;

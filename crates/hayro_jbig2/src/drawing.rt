@@ -1,9 +1,9 @@
 //! Segments drawn onto the page (T.88, 8.2).
 ghost use Rattle.std.specs.Prelude.{◌≡◌, true, false, Ok};
 ghost use Rattle.jbig2_base.specs.Answer.{Gives};
-ghost use Rattle.jbig2_base.specs.inner.SegmentViews.{part_view, parts};
+ghost use Rattle.jbig2_base.specs.inner.SegmentViews.{segment_view, segment_views};
 ghost use Rattle.jbig2_region.specs.Generic.{region_view};
-ghost use Rattle.hayro_jbig2.specs.Page.{drawn, ends_page, immediate, intermediate, region_at, segment_on, shown};
+ghost use Rattle.hayro_jbig2.specs.Page.{segments_drawn, ends_page, immediate, intermediate, region_at, segment_on, shown};
 
 use crate::context::DecoderContext;
 use crate::dictionaries::{extension, keep_patterns, keep_symbols, keep_table};
@@ -42,7 +42,7 @@ impl<'a, A: Allocator + Clone> Drawer<'a, A> {
         context: &mut DecoderContext<A>,
         steps: &mut Steps<L>,
     ) -> Result<()>
-        ensures { Gives (λ _. context.new) result (drawn self.now.strict self.now.globals.now (parts segments.now) context.old) }
+        ensures { Gives (λ _. context.new) result (segments_drawn self.now.strict self.now.globals.now (segment_views segments.now) context.old) }
     {
         for segment in segments {
             if ends_page(segment.header.segment_type) {
@@ -63,7 +63,7 @@ impl<'a, A: Allocator + Clone> Drawer<'a, A> {
         context: &mut DecoderContext<A>,
         steps: &mut Steps<L>,
     ) -> Result<()>
-        ensures { Gives (λ _. context.new) result (segment_on self.now.strict self.now.globals.now (part_view segment.now) context.old) }
+        ensures { Gives (λ _. context.new) result (segment_on self.now.strict self.now.globals.now (segment_view segment.now) context.old) }
     {
         match segment.header.segment_type {
             SegmentType::SymbolDictionary => {
@@ -128,7 +128,7 @@ impl<'a, A: Allocator + Clone> Drawer<'a, A> {
         context: &mut DecoderContext<A>,
         steps: &mut Steps<L>,
     ) -> Result<()>
-        ensures { Gives (λ _. context.new) result (immediate self.now.strict self.now.globals.now kind (part_view segment.now) context.old) }
+        ensures { Gives (λ _. context.new) result (immediate self.now.strict self.now.globals.now kind (segment_view segment.now) context.old) }
     {
         match self.decode_region(kind, false, segment, context, steps) {
             Ok(region) => {
@@ -155,7 +155,7 @@ impl<'a, A: Allocator + Clone> Drawer<'a, A> {
         context: &mut DecoderContext<A>,
         steps: &mut Steps<L>,
     ) -> Result<()>
-        ensures { Gives (λ _. context.new) result (intermediate self.now.strict self.now.globals.now kind (part_view segment.now) context.old) }
+        ensures { Gives (λ _. context.new) result (intermediate self.now.strict self.now.globals.now kind (segment_view segment.now) context.old) }
     {
         let region = self.decode_region(kind, true, segment, context, steps)?;
         context.store(segment.header.segment_number, region)
@@ -170,7 +170,7 @@ impl<'a, A: Allocator + Clone> Drawer<'a, A> {
         context: &mut DecoderContext<A>,
         steps: &mut Steps<L>,
     ) -> Result<DecodedRegion<A>>
-        ensures value { Gives (λ region. region_view region) result (region_at self.now.strict self.now.globals.now kind is_intermediate (part_view segment.now) context.old) }
+        ensures value { Gives (λ region. region_view region) result (region_at self.now.strict self.now.globals.now kind is_intermediate (segment_view segment.now) context.old) }
         ensures same { context.new ≡ context.old }
     {
         let strict = self.strict;

@@ -2,7 +2,7 @@
 ghost use Rattle.std.specs.Prelude.{◌≡◌, ℕ, Ok, length, slice_get};
 ghost use Rattle.std.specs.Map.Iter.{GivesInOrder};
 ghost use Rattle.jbig2_base.specs.Answer.{Answers, Gives};
-ghost use Rattle.jbig2_base.specs.inner.SegmentViews.{header_view, parts};
+ghost use Rattle.jbig2_base.specs.inner.SegmentViews.{header_view, segment_views};
 ghost use Rattle.hayro_jbig2.specs.inner.ByPages.{pages_view};
 ghost use Rattle.hayro_jbig2.specs.Files.{needs_page, lacks_page, associated, is_end_of_page, ends_of, filed_from, filed_each, miscounts, book_at, page_of, pages_of, PagesStandAlone};
 ghost use Rattle.hayro_jbig2.specs.Globals.{named_from};
@@ -17,7 +17,7 @@ use crate::segments_by_page::SegmentsByPage;
 use crate::settings::DecodeSettings;
 use jbig2_base::error::{DecodeError, FormatError, Result, SegmentError};
 use jbig2_base::file::parse_file;
-use jbig2_base::page_info::Sheet;
+use jbig2_base::page_info::InitialPage;
 use jbig2_base::segment::{Segment, SegmentHeader, SegmentType};
 use std::alloc::Allocator;
 use std::marker::Model;
@@ -25,20 +25,20 @@ use std::marker::Model;
 /// A page in a file.
 #[derive(Drop)]
 struct FilePage<'a, A: Allocator> {
-    sheet: Sheet,
+    initial_page: InitialPage,
     segments: Vec<Segment<'a, A>, A>,
 }
 
 impl<'a, A: Allocator> Model for FilePage<'a, A> {
     ghost use Rattle.std.specs.Prelude.{◌≤◌};
-    ghost use Rattle.jbig2_base.specs.inner.SegmentViews.{parts};
+    ghost use Rattle.jbig2_base.specs.inner.SegmentViews.{segment_views};
     ghost use Rattle.hayro_jbig2.specs.Files.{PageInFile};
 
     ghost Value = { PageInFile };
 
-    ghost view = { λ page. record { sheet = page.sheet; parts = parts page.segments.items } };
+    ghost view = { λ page. record { initial_page = page.initial_page; segments = segment_views page.segments.items } };
 
-    ghost invariant = { λ page. (page.sheet.width ≤ 65535) × (page.sheet.height ≤ 65535) };
+    ghost invariant = { λ page. (page.initial_page.width ≤ 65535) × (page.initial_page.height ≤ 65535) };
 }
 
 /// A file: its pages, and what they share. It borrows the bytes that it was read from.
@@ -80,7 +80,7 @@ fn lacks_page<A: Allocator>(strict: bool, header: &SegmentHeader<A>) -> bool
 }
 
 fn check_associations<A: Allocator>(strict: bool, segments: &[Segment<'_, A>]) -> Result<()>
-    ensures { Answers (λ known. known) result (associated strict (parts segments.now)) }
+    ensures { Answers (λ known. known) result (associated strict (segment_views segments.now)) }
 {
     for segment in segments {
         if lacks_page(strict, &segment.header) {
@@ -97,7 +97,7 @@ fn is_end_of_page(kind: SegmentType) -> bool
 }
 
 fn count_ends<A: Allocator>(segments: &[Segment<'_, A>]) -> usize
-    ensures { result ≡ ends_of (parts segments.now) }
+    ensures { result ≡ ends_of (segment_views segments.now) }
 {
     let mut count = 0;
     for segment in segments {
@@ -110,14 +110,14 @@ fn count_ends<A: Allocator>(segments: &[Segment<'_, A>]) -> usize
 
 #[tactic(auto, unfolding(crate::specs::Files::filed_from))]
 fn read_page<'a, A: Allocator>(strict: bool, own: Vec<Segment<'a, A>, A>) -> Result<FilePage<'a, A>>
-    ensures { Gives (λ page. page) result (filed_from strict (parts own.entry.items)) }
+    ensures { Gives (λ page. page) result (filed_from strict (segment_views own.entry.items)) }
 {
     if strict && count_ends(&own) != 1 {
         return Err(DecodeError::Format(FormatError::InvalidEndOfPage));
     }
-    let sheet = Sheet::of_segments(&own)?;
+    let initial_page = InitialPage::of_segments(&own)?;
     Ok(FilePage {
-        sheet,
+        initial_page,
         segments: own,
     })
 }
@@ -154,7 +154,7 @@ fn kept_globals<A: Allocator + Clone>(
     strict: bool,
     segments: &[Segment<'_, A>],
 ) -> Result<Result<Globals<A>>>
-    ensures { Gives (λ kept. kept) result (Ok (named_from strict (parts segments.now) no_names)) }
+    ensures { Gives (λ kept. kept) result (Ok (named_from strict (segment_views segments.now) no_names)) }
 {
     match Globals::from_segments(alloc, strict, segments) {
         Ok(globals) => Ok(Ok(globals)),
@@ -216,7 +216,7 @@ impl<'a, A: Allocator> File<'a, A> {
         match self.pages.get(index) {
             Some(page) => Some(Page::of_file(
                 self.strict,
-                page.sheet,
+                page.initial_page,
                 &page.segments,
                 self.globals(),
             )),

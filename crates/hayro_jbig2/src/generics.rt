@@ -1,7 +1,7 @@
 //! Generic regions of a page (T.88, 7.4.6).
 ghost use Rattle.std.specs.Prelude.{◌≡◌, not, is_none};
 ghost use Rattle.jbig2_base.specs.Answer.{Gives};
-ghost use Rattle.jbig2_base.specs.inner.SegmentViews.{part_view};
+ghost use Rattle.jbig2_base.specs.inner.SegmentViews.{segment_view};
 ghost use Rattle.jbig2_region.specs.Generic.{region_view};
 ghost use Rattle.hayro_jbig2.specs.Regions.{generic_at};
 
@@ -23,7 +23,7 @@ pub(crate) fn decode_generic<A: Allocator + Clone, L: Ledger>(
     workspace: &mut Workspace<A>,
     steps: &mut Steps<L>,
 ) -> Result<DecodedRegion<A>>
-    ensures { Gives (λ region. region_view region) result (generic_at strict is_intermediate (part_view segment.now)) }
+    ensures { Gives (λ region. region_view region) result (generic_at strict is_intermediate (segment_view segment.now)) }
 {
     let unknown_length = !is_intermediate && segment.header.data_length.is_none();
     let mut reader = Reader::new(segment.bytes);

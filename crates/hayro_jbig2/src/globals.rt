@@ -1,7 +1,7 @@
 //! Segments that several pages share.
 ghost use Rattle.std.specs.Prelude.{◌≡◌};
 ghost use Rattle.jbig2_base.specs.Answer.{Gives};
-ghost use Rattle.jbig2_base.specs.inner.SegmentViews.{part_view, parts};
+ghost use Rattle.jbig2_base.specs.inner.SegmentViews.{segment_view, segment_views};
 ghost use Rattle.hayro_jbig2.specs.Globals.{globals_at, named_by, named_from};
 ghost use Rattle.hayro_jbig2.specs.Names.{no_names};
 
@@ -61,7 +61,7 @@ impl<A: Allocator + Clone> Globals<A> {
         strict: bool,
         segments: &[Segment<'_, A>],
     ) -> Result<Globals<A>>
-        ensures { Gives (λ globals. globals) result (named_from strict (parts segments.now) no_names) }
+        ensures { Gives (λ globals. globals) result (named_from strict (segment_views segments.now) no_names) }
     {
         let names = decode_names::<A, Brand>(alloc, strict, segments, Blank::new(6))?;
         Ok(Globals { names })
@@ -78,7 +78,7 @@ fn decode_names<A: Allocator + Clone, L: Ledger>(
     requires name { blank.name ≡ L.name }
     requires parts { blank.parts ≡ L.parts }
     requires enough { blank.parts ≡ 6 }
-    ensures { Gives (λ names. names) result (named_from strict (parts segments.now) no_names) }
+    ensures { Gives (λ names. names) result (named_from strict (segment_views segments.now) no_names) }
 {
     let mut steps = Steps::<L>::new(blank);
     let mut names = KeptNames::new(alloc.clone()?)?;
@@ -99,7 +99,7 @@ fn keep_segment<A: Allocator + Clone, L: Ledger>(
     workspace: &mut Workspace<A>,
     steps: &mut Steps<L>,
 ) -> Result<()>
-    ensures { Gives (λ _. names.new) result (named_by strict (part_view segment.now) names.old) }
+    ensures { Gives (λ _. names.new) result (named_by strict (segment_view segment.now) names.old) }
 {
     match segment.header.segment_type {
         SegmentType::SymbolDictionary => {

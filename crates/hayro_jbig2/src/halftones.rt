@@ -1,7 +1,7 @@
 //! Halftone regions of a page (T.88, 7.4.5).
 ghost use Rattle.std.specs.Prelude.{◌≡◌};
 ghost use Rattle.jbig2_base.specs.Answer.{Answers, Gives};
-ghost use Rattle.jbig2_base.specs.inner.SegmentViews.{part_view};
+ghost use Rattle.jbig2_base.specs.inner.SegmentViews.{segment_view};
 ghost use Rattle.jbig2_region.specs.Generic.{region_view};
 ghost use Rattle.hayro_jbig2.specs.Regions.{halftone_at, patterns_for, some_patterns};
 ghost use Rattle.hayro_jbig2.specs.inner.KeptViews.{patterns_view};
@@ -41,7 +41,7 @@ pub(crate) fn decode_halftone<A: Allocator + Clone, L: Ledger>(
     workspace: &mut Workspace<A>,
     steps: &mut Steps<L>,
 ) -> Result<DecodedRegion<A>>
-    ensures { Gives (λ region. region_view region) result (halftone_at lookup.now.strict lookup.now.own.now lookup.now.globals.now (part_view segment.now)) }
+    ensures { Gives (λ region. region_view region) result (halftone_at lookup.now.strict lookup.now.own.now lookup.now.globals.now (segment_view segment.now)) }
 {
     let patterns = referred_patterns(lookup, &segment.header.referred_to_segments)?;
     let mut reader = Reader::new(segment.bytes);

@@ -4,7 +4,7 @@ ghost use Rattle.hayro_jbig2.specs.Image.{image_of};
 
 use jbig2_base::bitmap::Bitmap;
 use jbig2_base::bitmap::steps::Steps;
-use jbig2_base::page_info::Sheet;
+use jbig2_base::page_info::InitialPage;
 use std::alloc::Allocator;
 use std::sync::ledger::Ledger;
 
@@ -13,16 +13,16 @@ use std::sync::ledger::Ledger;
 #[tactic(auto, unfolding(crate::specs::Image::image_of))]
 pub(crate) fn write_image<A: Allocator, L: Ledger>(
     bitmap: &Bitmap<A>,
-    sheet: &Sheet,
+    initial_page: &InitialPage,
     buf: &mut [u8],
     steps: &mut Steps<L>,
 )
-    requires width { sheet.now.width ≤ 65535 }
-    requires height { sheet.now.height ≤ 65535 }
-    requires sized { length buf.old ≡ sheet.now.width * sheet.now.height }
-    ensures { buf.new ≡ image_of sheet.now.width sheet.now.height bitmap.now }
+    requires width { initial_page.now.width ≤ 65535 }
+    requires height { initial_page.now.height ≤ 65535 }
+    requires sized { length buf.old ≡ initial_page.now.width * initial_page.now.height }
+    ensures { buf.new ≡ image_of initial_page.now.width initial_page.now.height bitmap.now }
 {
-    let width = sheet.width as usize;
+    let width = initial_page.width as usize;
     for (place, byte) in buf.iter_mut().enumerate() {
         let x = (place % width) as u32;
         let y = (place / width) as u32;

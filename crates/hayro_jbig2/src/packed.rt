@@ -5,7 +5,7 @@ ghost use Rattle.hayro_jbig2.specs.Image.{packed_of, packed_size, top_byte};
 
 use jbig2_base::bitmap::Bitmap;
 use jbig2_base::bitmap::steps::Steps;
-use jbig2_base::page_info::Sheet;
+use jbig2_base::page_info::InitialPage;
 use std::alloc::Allocator;
 use std::sync::ledger::Ledger;
 
@@ -25,14 +25,14 @@ fn take_byte(word: &mut u64) -> u8
 #[tactic(auto, unfolding(crate::specs::Image::packed_of))]
 pub(crate) fn write_packed<A: Allocator, L: Ledger>(
     bitmap: &Bitmap<A>,
-    sheet: &Sheet,
+    initial_page: &InitialPage,
     buf: &mut [u8],
     steps: &mut Steps<L>,
 )
-    requires width { sheet.now.width ≤ 65535 }
-    requires height { sheet.now.height ≤ 65535 }
-    requires sized { length buf.old ≡ packed_size sheet.now.width sheet.now.height }
-    ensures { buf.new ≡ packed_of sheet.now.width sheet.now.height bitmap.now }
+    requires width { initial_page.now.width ≤ 65535 }
+    requires height { initial_page.now.height ≤ 65535 }
+    requires sized { length buf.old ≡ packed_size initial_page.now.width initial_page.now.height }
+    ensures { buf.new ≡ packed_of initial_page.now.width initial_page.now.height bitmap.now }
 {
     let (mut x, mut y, mut ahead) = (0, 0, 0);
     for place in 0..buf.len() {
@@ -41,7 +41,7 @@ pub(crate) fn write_packed<A: Allocator, L: Ledger>(
         }
         buf[place] = take_byte(&mut ahead);
         x += 8;
-        if x >= sheet.width {
+        if x >= initial_page.width {
             x = 0;
             y += 1;
         }

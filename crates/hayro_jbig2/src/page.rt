@@ -5,12 +5,12 @@ ghost use Rattle.jbig2_base.specs.Combination.{combined};
 ghost use Rattle.jbig2_base.specs.Grid.{Grid, blank};
 ghost use Rattle.jbig2_base.specs.inner.Table.{IsTable};
 ghost use Rattle.jbig2_base.specs.declared.bitmap.operator.CombinationOperator.{CombinationOperator};
-ghost use Rattle.hayro_jbig2.specs.Calls.{Spells, calls_of};
+ghost use Rattle.hayro_jbig2.specs.Calls.{DrawsGrid, calls_of};
 ghost use Rattle.hayro_jbig2.specs.Image.{image_of_page, packed_of_page, packed_size};
-ghost use Rattle.hayro_jbig2.specs.Page.{ReadPage, drawn, embedded, grid_of_page, draws_over, page_begun};
+ghost use Rattle.hayro_jbig2.specs.Page.{ReadPage, segments_drawn, embedded, grid_of_page, draws_over, page_begun};
 ghost use Rattle.hayro_jbig2.specs.inner.PageViews.{given_names, kept_names};
 ghost use Rattle.hayro_jbig2.specs.inner.SegmentLists.{segment_list};
-ghost use Rattle.jbig2_base.specs.inner.SegmentViews.{parts};
+ghost use Rattle.jbig2_base.specs.inner.SegmentViews.{segment_views};
 ghost use Rattle.hayro_jbig2.specs.Sends.{Decodes};
 
 use crate::calls::push_bitmap;
@@ -25,7 +25,7 @@ use crate::settings::DecodeSettings;
 use jbig2_base::bitmap::steps::Steps;
 use jbig2_base::error::Result;
 use jbig2_base::file::parse_segments_sequential;
-use jbig2_base::page_info::Sheet;
+use jbig2_base::page_info::InitialPage;
 use jbig2_base::segment::Segment;
 use jbig2_base::sort::sort_segments;
 use std::alloc::Allocator;
@@ -54,41 +54,41 @@ impl<'a, A: Allocator> PageSegments<'a, A> {
 #[derive(Drop)]
 pub struct Page<'a, A: Allocator> {
     strict: bool,
-    sheet: Sheet,
+    initial_page: InitialPage,
     segments: PageSegments<'a, A>,
     globals: Result<Option<&'a Globals<A>>>,
 }
 
 impl<'a, A: Allocator> Model for Page<'a, A> {
     ghost use Rattle.std.specs.Prelude.{◌≤◌};
-    ghost use Rattle.jbig2_base.specs.inner.SegmentViews.{parts};
-    ghost use Rattle.hayro_jbig2.specs.Calls.{Spells, calls_of};
+    ghost use Rattle.jbig2_base.specs.inner.SegmentViews.{segment_views};
+    ghost use Rattle.hayro_jbig2.specs.Calls.{DrawsGrid, calls_of};
     ghost use Rattle.hayro_jbig2.specs.Page.{ReadPage};
     ghost use Rattle.hayro_jbig2.specs.inner.PageViews.{kept_names};
     ghost use Rattle.hayro_jbig2.specs.inner.SegmentLists.{segment_list};
 
     ghost Value = { ReadPage };
 
-    ghost view = { λ page. record { strict = page.strict; sheet = page.sheet; parts = parts (segment_list page.segments); globals = kept_names page.globals } };
+    ghost view = { λ page. record { strict = page.strict; initial_page = page.initial_page; segments = segment_views (segment_list page.segments); globals = kept_names page.globals } };
 
-    ghost invariant = { λ page. (page.sheet.width ≤ 65535) × (page.sheet.height ≤ 65535) };
+    ghost invariant = { λ page. (page.initial_page.width ≤ 65535) × (page.initial_page.height ≤ 65535) };
 }
 
 impl<'a, A: Allocator> Page<'a, A> {
     /// A page of a file, which holds its segments and keeps what decoding the globals answered.
     pub(crate) fn of_file(
         strict: bool,
-        sheet: Sheet,
+        initial_page: InitialPage,
         segments: &'a Vec<Segment<'a, A>, A>,
         globals: Result<Option<&'a Globals<A>>>,
     ) -> Page<'a, A>
-        requires width { sheet.width ≤ 65535 }
-        requires height { sheet.height ≤ 65535 }
-        ensures { result ≡ record { strict = strict; sheet = sheet; parts = parts segments.now.items; globals = kept_names globals.entry } }
+        requires width { initial_page.width ≤ 65535 }
+        requires height { initial_page.height ≤ 65535 }
+        ensures { result ≡ record { strict = strict; initial_page = initial_page; segments = segment_views segments.now.items; globals = kept_names globals.entry } }
     {
         Page {
             strict,
-            sheet,
+            initial_page,
             segments: PageSegments::Borrowed(segments),
             globals,
         }
@@ -96,30 +96,30 @@ impl<'a, A: Allocator> Page<'a, A> {
 
     /// The page's number, its association.
     pub fn number(&self) -> u32
-        ensures { result ≡ self.now.sheet.number }
+        ensures { result ≡ self.now.initial_page.number }
     {
-        self.sheet.number
+        self.initial_page.number
     }
 
     /// The width in pixels.
     pub fn width(&self) -> u32
-        ensures { result ≡ self.now.sheet.width }
+        ensures { result ≡ self.now.initial_page.width }
     {
-        self.sheet.width
+        self.initial_page.width
     }
 
     /// The height in pixels.
     pub fn height(&self) -> u32
-        ensures { result ≡ self.now.sheet.height }
+        ensures { result ≡ self.now.initial_page.height }
     {
-        self.sheet.height
+        self.initial_page.height
     }
 
     /// The width and the height in pixels.
     pub fn dimensions(&self) -> (u32, u32)
-        ensures { result ≡ (self.now.sheet.width, self.now.sheet.height) }
+        ensures { result ≡ (self.now.initial_page.width, self.now.initial_page.height) }
     {
-        (self.sheet.width, self.sheet.height)
+        (self.initial_page.width, self.initial_page.height)
     }
 }
 
@@ -140,10 +140,10 @@ impl<'a, A: Allocator + Clone> Page<'a, A> {
         let strict = settings.strict;
         let mut segments = parse_segments_sequential(alloc, bytes, strict)?;
         sort_segments(&mut segments)?;
-        let sheet = Sheet::of_segments(&segments)?;
+        let initial_page = InitialPage::of_segments(&segments)?;
         Ok(Page {
             strict,
-            sheet,
+            initial_page,
             segments: PageSegments::Owned(segments),
             globals: Ok(globals),
         })
@@ -167,7 +167,7 @@ impl<'a, A: Allocator + Clone> Page<'a, A> {
     /// Answers the first fault of a segment that lenient reading does not pass over; `buf` is then
     /// as it was.
     pub fn read_image(&self, buf: &mut [u8]) -> Result<()>
-        requires { length buf.old ≡ self.now.sheet.width * self.now.sheet.height }
+        requires { length buf.old ≡ self.now.initial_page.width * self.now.initial_page.height }
         ensures value { Gives (λ _. buf.new) result (image_of_page self.now) }
         ensures unchanged { OnErr result (buf.new ≡ buf.old) }
     {
@@ -175,7 +175,7 @@ impl<'a, A: Allocator + Clone> Page<'a, A> {
     }
 
     fn read_counted<L: Ledger>(&self, buf: &mut [u8], blank: Blank) -> Result<()>
-        requires sized { length buf.old ≡ self.now.sheet.width * self.now.sheet.height }
+        requires sized { length buf.old ≡ self.now.initial_page.width * self.now.initial_page.height }
         requires name { blank.name ≡ L.name }
         requires parts { blank.parts ≡ L.parts }
         requires enough { blank.parts ≡ 6 }
@@ -184,7 +184,7 @@ impl<'a, A: Allocator + Clone> Page<'a, A> {
     {
         let mut steps = Steps::<L>::new(blank);
         let context = self.drawn(&mut steps)?;
-        write_image(&context.bitmap, &self.sheet, buf, &mut steps);
+        write_image(&context.bitmap, &self.initial_page, buf, &mut steps);
         Ok(())
     }
 
@@ -195,7 +195,7 @@ impl<'a, A: Allocator + Clone> Page<'a, A> {
     /// Answers the first fault of a segment that lenient reading does not pass over; `buf` is then
     /// as it was.
     pub fn read_packed(&self, buf: &mut [u8]) -> Result<()>
-        requires { length buf.old ≡ packed_size self.now.sheet.width self.now.sheet.height }
+        requires { length buf.old ≡ packed_size self.now.initial_page.width self.now.initial_page.height }
         ensures value { Gives (λ _. buf.new) result (packed_of_page self.now) }
         ensures unchanged { OnErr result (buf.new ≡ buf.old) }
     {
@@ -203,7 +203,7 @@ impl<'a, A: Allocator + Clone> Page<'a, A> {
     }
 
     fn read_packed_counted<L: Ledger>(&self, buf: &mut [u8], blank: Blank) -> Result<()>
-        requires sized { length buf.old ≡ packed_size self.now.sheet.width self.now.sheet.height }
+        requires sized { length buf.old ≡ packed_size self.now.initial_page.width self.now.initial_page.height }
         requires name { blank.name ≡ L.name }
         requires parts { blank.parts ≡ L.parts }
         requires enough { blank.parts ≡ 6 }
@@ -212,7 +212,7 @@ impl<'a, A: Allocator + Clone> Page<'a, A> {
     {
         let mut steps = Steps::<L>::new(blank);
         let context = self.drawn(&mut steps)?;
-        write_packed(&context.bitmap, &self.sheet, buf, &mut steps);
+        write_packed(&context.bitmap, &self.initial_page, buf, &mut steps);
         Ok(())
     }
 
@@ -237,7 +237,7 @@ impl<'a, A: Allocator + Clone> Page<'a, A> {
     ) -> Result<()>
         requires { D.refusals decoder.old < 2 ^ 64 - 1 }
         ensures calls { Decodes D.step (grid_of_page self.now) result (D.picture decoder.old) (D.refusals decoder.old) (D.picture decoder.new) (D.refusals decoder.new) }
-        ensures spelling { (g : Grid) → Spells (calls_of g) g }
+        ensures spelling { (g : Grid) → DrawsGrid (calls_of g) g }
         ensures direct { (operator : CombinationOperator) (black : Bool) (region : Grid) → IsTable region → IsTrue (draws_over operator black)
             → combined operator (blank region.width region.height black) region (pos 0) (pos 0) ≡ region }
     {
@@ -289,9 +289,9 @@ impl<'a, A: Allocator + Clone> Page<'a, A> {
         context: &mut DecoderContext<A>,
         steps: &mut Steps<L>,
     ) -> Result<()>
-        ensures { Gives (λ _. context.new) result (drawn self.now.strict globals.now self.now.parts (page_begun self.now.sheet)) }
+        ensures { Gives (λ _. context.new) result (segments_drawn self.now.strict globals.now self.now.segments (page_begun self.now.initial_page)) }
     {
-        context.begin(&self.sheet)?;
+        context.begin(&self.initial_page)?;
         let drawer = Drawer {
             strict: self.strict,
             globals,

@@ -1,7 +1,7 @@
 //! Refinements on a page (T.88, 7.4.7).
 ghost use Rattle.std.specs.Prelude.{◌≡◌, ◌≤◌, true, false};
 ghost use Rattle.jbig2_base.specs.Answer.{Answers, Gives};
-ghost use Rattle.jbig2_base.specs.inner.SegmentViews.{part_view};
+ghost use Rattle.jbig2_base.specs.inner.SegmentViews.{segment_view};
 ghost use Rattle.jbig2_region.specs.Generic.{PlacedRegion, region_view};
 ghost use Rattle.jbig2_region.specs.Refinement.{refined_decoded};
 ghost use Rattle.jbig2_region.specs.RefinementHeader.{IsRefinement, header_view};
@@ -123,7 +123,7 @@ pub(crate) fn decode_refinement<A: Allocator + Clone, L: Ledger>(
     workspace: &mut Workspace<A>,
     steps: &mut Steps<L>,
 ) -> Result<DecodedRegion<A>>
-    ensures { Gives (λ region. region_view region) result (refinement_at strict is_intermediate references.now.page.now (seen region_view references.now.regions.now) (part_view segment.now)) }
+    ensures { Gives (λ region. region_view region) result (refinement_at strict is_intermediate references.now.page.now (seen region_view references.now.regions.now) (segment_view segment.now)) }
 {
     let numbers = &segment.header.referred_to_segments;
     let referred = referred_region(strict, numbers, references.regions)?;

@@ -1,10 +1,10 @@
 //! The segments of a file by their pages (T.88, 7.2.6).
 ghost use Rattle.std.specs.Prelude.{◌≡◌, List, [], ◌∷◌, ◌++◌, Ok, MatchResult};
 ghost use Rattle.jbig2_base.specs.Answer.{Gives};
-ghost use Rattle.jbig2_base.specs.Segment.{Part};
-ghost use Rattle.jbig2_base.specs.inner.SegmentViews.{part_view, parts};
+ghost use Rattle.jbig2_base.specs.Segment.{SegmentView};
+ghost use Rattle.jbig2_base.specs.inner.SegmentViews.{segment_view, segment_views};
 ghost use Rattle.jbig2_base.specs.declared.error.DecodeError.TheVariants.{OutOfMemory};
-ghost use Rattle.hayro_jbig2.specs.inner.ByPages.{Holds, by_page_view};
+ghost use Rattle.hayro_jbig2.specs.inner.ByPages.{HoldsByPage, by_page_view};
 ghost use Rattle.hayro_jbig2.specs.Files.{by_pages, of_page};
 
 use jbig2_base::error::Result;
@@ -26,7 +26,7 @@ pub(crate) struct SegmentsByPage<'a, A: Allocator> {
 impl<'a, A: Allocator + Clone> SegmentsByPage<'a, A> {
     /// The segments of a file, in its order.
     pub(crate) fn new(alloc: A, segments: Vec<Segment<'a, A>, A>) -> Result<SegmentsByPage<'a, A>>
-        ensures { Gives by_page_view result (Ok (of_page 0 (parts segments.entry.items), by_pages (parts segments.entry.items))) }
+        ensures { Gives by_page_view result (Ok (of_page 0 (segment_views segments.entry.items), by_pages (segment_views segments.entry.items))) }
     {
         let mut by_page = SegmentsByPage {
             shared: Vec::new(alloc.clone()?),
@@ -44,8 +44,8 @@ impl<'a, A: Allocator + Clone> SegmentsByPage<'a, A> {
 
     /// Puts a segment behind those of its page, or of association 0.
     fn add(&mut self, segment: Segment<'a, A>) -> Result<()>
-        requires { (ps : List Part) × Holds self.old ps }
-        ensures { (ps : List Part) → Holds self.old ps → MatchResult result (λ _. Holds self.new (ps ++ part_view segment.entry ∷ [])) (λ e. e ≡ OutOfMemory) }
+        requires { (ps : List SegmentView) × HoldsByPage self.old ps }
+        ensures { (ps : List SegmentView) → HoldsByPage self.old ps → MatchResult result (λ _. HoldsByPage self.new (ps ++ segment_view segment.entry ∷ [])) (λ e. e ≡ OutOfMemory) }
     {
         let number = segment.header.page_association;
         if number == 0 {

@@ -1,7 +1,7 @@
 //! Text regions of a page (T.88, 7.4.3).
 ghost use Rattle.std.specs.Prelude.{◌≡◌, map};
 ghost use Rattle.jbig2_base.specs.Answer.{Gives};
-ghost use Rattle.jbig2_base.specs.inner.SegmentViews.{part_view};
+ghost use Rattle.jbig2_base.specs.inner.SegmentViews.{segment_view};
 ghost use Rattle.jbig2_region.specs.Generic.{region_view};
 ghost use Rattle.jbig2_text.specs.TextHeader.{header_view};
 ghost use Rattle.jbig2_text.specs.TextRegion.{text_decoded};
@@ -27,7 +27,7 @@ pub(crate) fn decode_text<A: Allocator + Clone, L: Ledger>(
     workspace: &Workspace<A>,
     steps: &mut Steps<L>,
 ) -> Result<DecodedRegion<A>>
-    ensures { Gives (λ region. region_view region) result (text_at lookup.now.strict lookup.now.own.now lookup.now.globals.now (part_view segment.now)) }
+    ensures { Gives (λ region. region_view region) result (text_at lookup.now.strict lookup.now.own.now lookup.now.globals.now (segment_view segment.now)) }
 {
     let numbers = &segment.header.referred_to_segments;
     let referred = gather_referred(workspace.alloc.clone()?, lookup, numbers)?;

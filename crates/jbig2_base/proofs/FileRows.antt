@@ -4,7 +4,7 @@ use Rattle.std.specs.List.{list_all, range_with_len}
 use Rattle.jbig2_base.specs.Fields.{end_of_bytes}
 use Rattle.jbig2_base.specs.File.{file_at, headers_in}
 use Rattle.jbig2_base.specs.FileHeader.{file_header_at, identification}
-use Rattle.jbig2_base.specs.Segment.{Part, type_of, count_at, referred_at, header_at, segment_at}
+use Rattle.jbig2_base.specs.Segment.{SegmentView, type_of, count_at, referred_at, header_at, segment_at}
 use Rattle.jbig2_base.specs.Sequential.{segments_in, is_end_of_bytes}
 use Rattle.jbig2_base.specs.Spelled.{Spelled, AreSpelled, SpellsFile}
 use Rattle.jbig2_base.specs.declared.error.DecodeError.{DecodeError}
@@ -44,14 +44,14 @@ end_of_page = 0 ∷ 0 ∷ 0 ∷ 1 ∷ 49 ∷ 0 ∷ 1 ∷ 0 ∷ 0 ∷ 0 ∷ 0 ∷
 abbrev end_of_file : List ℕ
 end_of_file = 0 ∷ 0 ∷ 0 ∷ 2 ∷ 51 ∷ 0 ∷ 0 ∷ 0 ∷ 0 ∷ 0 ∷ 0 ∷ []
 
-abbrev part : ℕ → SegmentType → ℕ → List ℕ → Part
-part number kind page bytes = record {
+abbrev segment : ℕ → SegmentType → ℕ → List ℕ → SegmentView
+segment number kind page bytes = record {
   header = record { segment_number = number; segment_type = kind; retain_flag = true; page_association = page; referred_to_segments = []; data_length = Some (length bytes) };
   bytes = bytes;
 }
 
-abbrev three : List Part
-three = part 0 types.PageInformation 1 page_data ∷ part 1 types.EndOfPage 1 [] ∷ part 2 types.EndOfFile 0 [] ∷ []
+abbrev three : List SegmentView
+three = segment 0 types.PageInformation 1 page_data ∷ segment 1 types.EndOfPage 1 [] ∷ segment 2 types.EndOfFile 0 [] ∷ []
 
 abbrev sequential_file : List ℕ
 sequential_file = identification ++ (1 ∷ 0 ∷ 0 ∷ 0 ∷ 1 ∷ page_header ++ (page_data ++ (end_of_page ++ end_of_file)))
@@ -72,7 +72,7 @@ no_segments : file_at false (take 13 random_file) ≡ Ok (one_page RandomAccess,
 unfolding file_at file_header_at headers_in header_at referred_at count_at type_of
 no_segments = refl
 
-abbrev is_cut_off : Result (FileHeader × List Part) DecodeError → Bool
+abbrev is_cut_off : Result (FileHeader × List SegmentView) DecodeError → Bool
 is_cut_off (Ok file) = false
 is_cut_off (Err e) = is_end_of_bytes e
 
@@ -83,9 +83,9 @@ cut_off = refl
 -- both files spell the same segments
 abbrev listed : List Spelled
 listed =
-    record { header_bytes = page_header; part = part 0 types.PageInformation 1 page_data }
-    ∷ record { header_bytes = end_of_page; part = part 1 types.EndOfPage 1 [] }
-    ∷ record { header_bytes = end_of_file; part = part 2 types.EndOfFile 0 [] }
+    record { header_bytes = page_header; segment = segment 0 types.PageInformation 1 page_data }
+    ∷ record { header_bytes = end_of_page; segment = segment 1 types.EndOfPage 1 [] }
+    ∷ record { header_bytes = end_of_file; segment = segment 2 types.EndOfFile 0 [] }
     ∷ []
 
 are_spelled : AreSpelled true listed

@@ -4,7 +4,7 @@ use Rattle.std.proofs.lemmas.List.{append_assoc, append-nil}
 use Rattle.std.proofs.lemmas.Bool.{cond-true, cond-false, ne_eqb, eq-eqb}
 use Rattle.jbig2_base.specs.Answer.{◌>>=◌}
 use Rattle.jbig2_base.specs.File.{headers_in, with_header, gathered}
-use Rattle.jbig2_base.specs.Segment.{Header, Part, header_at, segment_data_at}
+use Rattle.jbig2_base.specs.Segment.{Header, SegmentView, header_at, segment_data_at}
 use Rattle.jbig2_base.specs.Sequential.{is_end_of_file}
 use Rattle.jbig2_base.specs.declared.error.DecodeError.{DecodeError}
 use Rattle.jbig2_base.proofs.Sequential.{with_front, one_more}
@@ -77,15 +77,15 @@ pub ReadsHeaders-as : (front others : List Header) (strict : Bool) (bytes : List
 ReadsHeaders-as front others strict bytes meant e reads = record { most = reads.most; enough = reads.enough; same = ap (λ (hs : List Header). with_headers hs (headers_in reads.most strict bytes)) (sym e) ∙ reads.same }
 
 -- data behind data
-pub gathers_one : (front : List Part) (h : Header) (hs : List Header) (bytes rest : List ℕ) (p : Part) (meant : Result (List Part) DecodeError) → with_front front (gathered (h ∷ hs) bytes) ≡ meant → segment_data_at h bytes ≡ Ok (p, rest) → with_front (front ++ p ∷ []) (gathered hs rest) ≡ meant
+pub gathers_one : (front : List SegmentView) (h : Header) (hs : List Header) (bytes rest : List ℕ) (p : SegmentView) (meant : Result (List SegmentView) DecodeError) → with_front front (gathered (h ∷ hs) bytes) ≡ meant → segment_data_at h bytes ≡ Ok (p, rest) → with_front (front ++ p ∷ []) (gathered hs rest) ≡ meant
 gathers_one front h hs bytes rest p meant same e =
     one_more front p (gathered hs rest)
-    ∙ ap (λ (r : Result (Part × List ℕ) DecodeError). with_front front (r >>= λ q. gathered hs q.1 >>= λ ps. Ok (q.0 ∷ ps))) (sym e)
+    ∙ ap (λ (r : Result (SegmentView × List ℕ) DecodeError). with_front front (r >>= λ q. gathered hs q.1 >>= λ ps. Ok (q.0 ∷ ps))) (sym e)
     ∙ same
 
-pub gathers_none : (front : List Part) (h : Header) (hs : List Header) (bytes : List ℕ) (error : DecodeError) (meant : Result (List Part) DecodeError) → with_front front (gathered (h ∷ hs) bytes) ≡ meant → segment_data_at h bytes ≡ Err error → meant ≡ Err error
+pub gathers_none : (front : List SegmentView) (h : Header) (hs : List Header) (bytes : List ℕ) (error : DecodeError) (meant : Result (List SegmentView) DecodeError) → with_front front (gathered (h ∷ hs) bytes) ≡ meant → segment_data_at h bytes ≡ Err error → meant ≡ Err error
 gathers_none front h hs bytes error meant same e =
-    sym same ∙ ap (λ (r : Result (Part × List ℕ) DecodeError). with_front front (r >>= λ q. gathered hs q.1 >>= λ ps. Ok (q.0 ∷ ps))) e
+    sym same ∙ ap (λ (r : Result (SegmentView × List ℕ) DecodeError). with_front front (r >>= λ q. gathered hs q.1 >>= λ ps. Ok (q.0 ∷ ps))) e
 
-pub gathers_all : (front : List Part) (bytes : List ℕ) (meant : Result (List Part) DecodeError) → with_front front (gathered [] bytes) ≡ meant → meant ≡ Ok front
-gathers_all front bytes meant same = sym same ∙ ap (λ (ps : List Part). Ok ps) (append-nil front)
+pub gathers_all : (front : List SegmentView) (bytes : List ℕ) (meant : Result (List SegmentView) DecodeError) → with_front front (gathered [] bytes) ≡ meant → meant ≡ Ok front
+gathers_all front bytes meant same = sym same ∙ ap (λ (ps : List SegmentView). Ok ps) (append-nil front)

@@ -7,10 +7,10 @@ use Rattle.std.specs.Result.{is_ok}
 use Rattle.jbig2_base.specs.Answer.{◌>>=◌}
 use Rattle.jbig2_base.specs.Fields.{bytes_at, end_of_bytes}
 use Rattle.jbig2_base.specs.File.{headers_in, with_header, gathered, segments_by, file_at}
-use Rattle.jbig2_base.specs.Segment.{Header, Part, header_at, data_at, segment_data_at, segment_at}
+use Rattle.jbig2_base.specs.Segment.{Header, SegmentView, header_at, data_at, segment_data_at, segment_at}
 use Rattle.jbig2_base.specs.Sequential.{is_end_of_file, goes_on, segments_in}
 use Rattle.jbig2_base.specs.Sorted.{by_number}
-use Rattle.jbig2_base.specs.Spelled.{Spelled, IsSpelled, AreSpelled, SpellsFile, by_turns, all_headers, all_data, spelling, spelled_parts}
+use Rattle.jbig2_base.specs.Spelled.{Spelled, IsSpelled, AreSpelled, SpellsFile, by_turns, all_headers, all_data, spelling, spelled_segments}
 use Rattle.jbig2_base.specs.declared.error.DecodeError.{DecodeError}
 use Rattle.jbig2_base.specs.declared.file_header.FileHeader.{FileHeader}
 use Rattle.jbig2_base.specs.declared.file_header.FileOrganization.{FileOrganization}
@@ -26,18 +26,18 @@ bytes_there xs rest =
     ∙ ap (λ (ys : List ℕ). Ok (ys, drop (length xs) (xs ++ rest))) (take-append_seam xs rest)
     ∙ ap (λ (ys : List ℕ). Ok (xs, ys)) (drop-append_seam xs rest)
 
-data_there : (strict : Bool) (s : Spelled) (rest : List ℕ) → IsSpelled strict s → segment_data_at s.part.header (s.part.bytes ++ rest) ≡ Ok (s.part, rest)
+data_there : (strict : Bool) (s : Spelled) (rest : List ℕ) → IsSpelled strict s → segment_data_at s.segment.header (s.segment.bytes ++ rest) ≡ Ok (s.segment, rest)
 data_there strict s rest is =
-    ap (λ (r : Result (List ℕ × List ℕ) DecodeError). r >>= λ coded. Ok (record { header = s.part.header; bytes = coded.0 }, coded.1))
-    (ap (λ (n : Option ℕ). data_at n (s.part.bytes ++ rest)) is.known ∙ bytes_there s.part.bytes rest)
+    ap (λ (r : Result (List ℕ × List ℕ) DecodeError). r >>= λ coded. Ok (record { header = s.segment.header; bytes = coded.0 }, coded.1))
+    (ap (λ (n : Option ℕ). data_at n (s.segment.bytes ++ rest)) is.known ∙ bytes_there s.segment.bytes rest)
 
-header_there : (strict : Bool) (s : Spelled) (rest : List ℕ) → IsSpelled strict s → header_at strict (s.header_bytes ++ rest) ≡ Ok (s.part.header, rest)
-header_there strict s rest is = header_extends strict s.header_bytes rest s.part.header [] is.accepted
+header_there : (strict : Bool) (s : Spelled) (rest : List ℕ) → IsSpelled strict s → header_at strict (s.header_bytes ++ rest) ≡ Ok (s.segment.header, rest)
+header_there strict s rest is = header_extends strict s.header_bytes rest s.segment.header [] is.accepted
 
-segment_there : (strict : Bool) (s : Spelled) (rest : List ℕ) → IsSpelled strict s → segment_at strict (s.header_bytes ++ (s.part.bytes ++ rest)) ≡ Ok (s.part, rest)
+segment_there : (strict : Bool) (s : Spelled) (rest : List ℕ) → IsSpelled strict s → segment_at strict (s.header_bytes ++ (s.segment.bytes ++ rest)) ≡ Ok (s.segment, rest)
 unfolding segment_at
 segment_there strict s rest is =
-    ap (λ (r : Result (Header × List ℕ) DecodeError). r >>= λ h. segment_data_at h.0 h.1) (header_there strict s (s.part.bytes ++ rest) is)
+    ap (λ (r : Result (Header × List ℕ) DecodeError). r >>= λ h. segment_data_at h.0 h.1) (header_there strict s (s.segment.bytes ++ rest) is)
     ∙ data_there strict s rest is
 
 -- no header without bytes
@@ -49,36 +49,36 @@ some_bytes : (strict : Bool) (bytes : List ℕ) (h : Header) → header_at stric
 some_bytes strict [] h e = absurd (false≢true (ap (λ (r : Result (Header × List ℕ) DecodeError). is_ok r) (sym (no_bytes strict) ∙ e)))
 some_bytes strict (b ∷ bs) h e = omega arith
 
-segment_read : (most : ℕ) (strict : Bool) (s : Spelled) (rest : List ℕ) → IsSpelled strict s → length (s.header_bytes ++ (s.part.bytes ++ rest)) ≤ most → segments_in most strict (s.header_bytes ++ (s.part.bytes ++ rest)) ≡ goes_on strict (Ok (s.part, rest)) (segments_in (most - 1) strict)
+segment_read : (most : ℕ) (strict : Bool) (s : Spelled) (rest : List ℕ) → IsSpelled strict s → length (s.header_bytes ++ (s.segment.bytes ++ rest)) ≤ most → segments_in most strict (s.header_bytes ++ (s.segment.bytes ++ rest)) ≡ goes_on strict (Ok (s.segment, rest)) (segments_in (most - 1) strict)
 segment_read most strict s rest is enough =
-    let bytes = s.header_bytes ++ (s.part.bytes ++ rest) in
-    let some : 0 < length bytes = omega (arith, length-append s.header_bytes (s.part.bytes ++ rest), some_bytes strict s.header_bytes s.part.header is.accepted) in
+    let bytes = s.header_bytes ++ (s.segment.bytes ++ rest) in
+    let some : 0 < length bytes = omega (arith, length-append s.header_bytes (s.segment.bytes ++ rest), some_bytes strict s.header_bytes s.segment.header is.accepted) in
     let next : most ≡ suc (most - 1) = omega (arith, some, enough) in
     ap (λ (n : ℕ). segments_in n strict bytes) next
     ∙ next_in (most - 1) strict bytes some
-    ∙ ap (λ (r : Result (Part × List ℕ) DecodeError). goes_on strict r (segments_in (most - 1) strict)) (segment_there strict s rest is)
+    ∙ ap (λ (r : Result (SegmentView × List ℕ) DecodeError). goes_on strict r (segments_in (most - 1) strict)) (segment_there strict s rest is)
 
 shorter : (strict : Bool) (s : Spelled) (xs rest : List ℕ) (most : ℕ) → IsSpelled strict s → length (s.header_bytes ++ (xs ++ rest)) ≤ most → length rest ≤ most - 1
-shorter strict s xs rest most is enough = omega (arith, enough, length-append s.header_bytes (xs ++ rest), length-append xs rest, some_bytes strict s.header_bytes s.part.header is.accepted)
+shorter strict s xs rest most is enough = omega (arith, enough, length-append s.header_bytes (xs ++ rest), length-append xs rest, some_bytes strict s.header_bytes s.segment.header is.accepted)
 
-turns_read : (most : ℕ) (strict : Bool) (ss : List Spelled) → length (by_turns ss) ≤ most → AreSpelled strict ss → segments_in most strict (by_turns ss) ≡ Ok (spelled_parts ss)
+turns_read : (most : ℕ) (strict : Bool) (ss : List Spelled) → length (by_turns ss) ≤ most → AreSpelled strict ss → segments_in most strict (by_turns ss) ≡ Ok (spelled_segments ss)
 turns_read most strict [] enough are = absurd are
 turns_read most strict (s ∷ []) enough are =
     segment_read most strict s [] are.0 enough
-    ∙ cond-true (is_end_of_file s.part.header.segment_type) (Ok (s.part ∷ [])) (segments_in (most - 1) strict [] >>= λ ps. Ok (s.part ∷ ps)) are.1
+    ∙ cond-true (is_end_of_file s.segment.header.segment_type) (Ok (s.segment ∷ [])) (segments_in (most - 1) strict [] >>= λ ps. Ok (s.segment ∷ ps)) are.1
 turns_read most strict (s ∷ t ∷ ts) enough are =
     let rest = by_turns (t ∷ ts) in
     segment_read most strict s rest are.0 enough
-    ∙ cond-false (is_end_of_file s.part.header.segment_type) (Ok (s.part ∷ [])) (segments_in (most - 1) strict rest >>= λ ps. Ok (s.part ∷ ps)) are.1
-    ∙ ap (λ (r : Result (List Part) DecodeError). r >>= λ ps. Ok (s.part ∷ ps)) (turns_read (most - 1) strict (t ∷ ts) (shorter strict s s.part.bytes rest most are.0 enough) are.2)
+    ∙ cond-false (is_end_of_file s.segment.header.segment_type) (Ok (s.segment ∷ [])) (segments_in (most - 1) strict rest >>= λ ps. Ok (s.segment ∷ ps)) are.1
+    ∙ ap (λ (r : Result (List SegmentView) DecodeError). r >>= λ ps. Ok (s.segment ∷ ps)) (turns_read (most - 1) strict (t ∷ ts) (shorter strict s s.segment.bytes rest most are.0 enough) are.2)
 
 abbrev headers_of : List Spelled → List Header
-headers_of ss = map (λ s. s.part.header) ss
+headers_of ss = map (λ s. s.segment.header) ss
 
-header_read : (most : ℕ) (strict : Bool) (s : Spelled) (rest : List ℕ) → IsSpelled strict s → length (s.header_bytes ++ rest) ≤ most → headers_in most strict (s.header_bytes ++ rest) ≡ with_header (s.part.header, rest) (headers_in (most - 1) strict)
+header_read : (most : ℕ) (strict : Bool) (s : Spelled) (rest : List ℕ) → IsSpelled strict s → length (s.header_bytes ++ rest) ≤ most → headers_in most strict (s.header_bytes ++ rest) ≡ with_header (s.segment.header, rest) (headers_in (most - 1) strict)
 header_read most strict s rest is enough =
     let bytes = s.header_bytes ++ rest in
-    let some : 0 < length bytes = omega (arith, length-append s.header_bytes rest, some_bytes strict s.header_bytes s.part.header is.accepted) in
+    let some : 0 < length bytes = omega (arith, length-append s.header_bytes rest, some_bytes strict s.header_bytes s.segment.header is.accepted) in
     let next : most ≡ suc (most - 1) = omega (arith, some, enough) in
     ap (λ (n : ℕ). headers_in n strict bytes) next
     ∙ header_in (most - 1) strict bytes some
@@ -90,33 +90,33 @@ headers_read most strict (s ∷ []) rest enough are =
     let seam : (s.header_bytes ++ []) ++ rest ≡ s.header_bytes ++ rest = append_assoc s.header_bytes [] rest in
     ap (λ (bytes : List ℕ). headers_in most strict bytes) seam
     ∙ header_read most strict s rest are.0 (subst (λ (bytes : List ℕ). length bytes ≤ most) seam enough)
-    ∙ cond-true (is_end_of_file s.part.header.segment_type) (Ok (s.part.header ∷ [], rest)) (headers_in (most - 1) strict rest >>= λ hs. Ok (s.part.header ∷ hs.0, hs.1)) are.1
+    ∙ cond-true (is_end_of_file s.segment.header.segment_type) (Ok (s.segment.header ∷ [], rest)) (headers_in (most - 1) strict rest >>= λ hs. Ok (s.segment.header ∷ hs.0, hs.1)) are.1
 headers_read most strict (s ∷ t ∷ ts) rest enough are =
     let others = all_headers (t ∷ ts) ++ rest in
     let seam : (s.header_bytes ++ all_headers (t ∷ ts)) ++ rest ≡ s.header_bytes ++ others = append_assoc s.header_bytes (all_headers (t ∷ ts)) rest in
     let room : length (s.header_bytes ++ others) ≤ most = subst (λ (bytes : List ℕ). length bytes ≤ most) seam enough in
     ap (λ (bytes : List ℕ). headers_in most strict bytes) seam
     ∙ header_read most strict s others are.0 room
-    ∙ cond-false (is_end_of_file s.part.header.segment_type) (Ok (s.part.header ∷ [], others)) (headers_in (most - 1) strict others >>= λ hs. Ok (s.part.header ∷ hs.0, hs.1)) are.1
-    ∙ ap (λ (r : Result (List Header × List ℕ) DecodeError). r >>= λ hs. Ok (s.part.header ∷ hs.0, hs.1)) (headers_read (most - 1) strict (t ∷ ts) rest (shorter strict s [] others most are.0 room) are.2)
+    ∙ cond-false (is_end_of_file s.segment.header.segment_type) (Ok (s.segment.header ∷ [], others)) (headers_in (most - 1) strict others >>= λ hs. Ok (s.segment.header ∷ hs.0, hs.1)) are.1
+    ∙ ap (λ (r : Result (List Header × List ℕ) DecodeError). r >>= λ hs. Ok (s.segment.header ∷ hs.0, hs.1)) (headers_read (most - 1) strict (t ∷ ts) rest (shorter strict s [] others most are.0 room) are.2)
 
-data_read : (strict : Bool) (ss : List Spelled) → AreSpelled strict ss → gathered (headers_of ss) (all_data ss) ≡ Ok (spelled_parts ss)
+data_read : (strict : Bool) (ss : List Spelled) → AreSpelled strict ss → gathered (headers_of ss) (all_data ss) ≡ Ok (spelled_segments ss)
 data_read strict [] are = refl
 data_read strict (s ∷ []) are =
-    ap (λ (r : Result (Part × List ℕ) DecodeError). r >>= λ p. gathered [] p.1 >>= λ ps. Ok (p.0 ∷ ps)) (data_there strict s [] are.0)
+    ap (λ (r : Result (SegmentView × List ℕ) DecodeError). r >>= λ p. gathered [] p.1 >>= λ ps. Ok (p.0 ∷ ps)) (data_there strict s [] are.0)
 data_read strict (s ∷ t ∷ ts) are =
-    ap (λ (r : Result (Part × List ℕ) DecodeError). r >>= λ p. gathered (headers_of (t ∷ ts)) p.1 >>= λ ps. Ok (p.0 ∷ ps)) (data_there strict s (all_data (t ∷ ts)) are.0)
-    ∙ ap (λ (r : Result (List Part) DecodeError). r >>= λ ps. Ok (s.part ∷ ps)) (data_read strict (t ∷ ts) are.2)
+    ap (λ (r : Result (SegmentView × List ℕ) DecodeError). r >>= λ p. gathered (headers_of (t ∷ ts)) p.1 >>= λ ps. Ok (p.0 ∷ ps)) (data_there strict s (all_data (t ∷ ts)) are.0)
+    ∙ ap (λ (r : Result (List SegmentView) DecodeError). r >>= λ ps. Ok (s.segment ∷ ps)) (data_read strict (t ∷ ts) are.2)
 
-spelling_read : (organization : FileOrganization) (strict : Bool) (ss : List Spelled) → AreSpelled strict ss → segments_by organization strict (spelling organization ss) ≡ Ok (spelled_parts ss)
+spelling_read : (organization : FileOrganization) (strict : Bool) (ss : List Spelled) → AreSpelled strict ss → segments_by organization strict (spelling organization ss) ≡ Ok (spelled_segments ss)
 spelling_read Sequential strict ss are = turns_read (length (by_turns ss)) strict ss (omega arith) are
 spelling_read RandomAccess strict ss are =
     ap (λ (r : Result (List Header × List ℕ) DecodeError). r >>= λ hs. gathered hs.0 hs.1) (headers_read (length (all_headers ss ++ all_data ss)) strict ss (all_data ss) (omega arith) are)
     ∙ data_read strict ss are
 
 -- A file is read as the segments that it spells.
-pub file_read : (strict : Bool) (bytes : List ℕ) (header : FileHeader) (ss : List Spelled) → SpellsFile strict bytes header ss → file_at strict bytes ≡ Ok (header, by_number (spelled_parts ss))
+pub file_read : (strict : Bool) (bytes : List ℕ) (header : FileHeader) (ss : List Spelled) → SpellsFile strict bytes header ss → file_at strict bytes ≡ Ok (header, by_number (spelled_segments ss))
 unfolding file_at
 file_read strict bytes header ss e =
     ap (λ (r : Result (FileHeader × List ℕ) DecodeError). r >>= λ h. segments_by h.0.organization strict h.1 >>= λ ps. Ok (h.0, by_number ps)) e.0
-    ∙ ap (λ (r : Result (List Part) DecodeError). r >>= λ ps. Ok (header, by_number ps)) (spelling_read header.organization strict ss e.1)
+    ∙ ap (λ (r : Result (List SegmentView) DecodeError). r >>= λ ps. Ok (header, by_number ps)) (spelling_read header.organization strict ss e.1)

@@ -3,7 +3,7 @@ use Rattle.std.specs.Prelude.{ℕ, ◌+◌, ◌/◌, ◌%◌, ◌==◌, max, nat
 use Rattle.std.specs.Int.{w8, w16, w32, from_be_bytes}
 use Rattle.jbig2_base.specs.Answer.{◌>>=◌, refuse_if}
 use Rattle.jbig2_base.specs.Fields.{number_at}
-use Rattle.jbig2_base.specs.Segment.{Part}
+use Rattle.jbig2_base.specs.Segment.{SegmentView}
 use Rattle.jbig2_base.specs.declared.bitmap.operator.CombinationOperator.{CombinationOperator}
 use Rattle.jbig2_base.specs.declared.bitmap.operator.CombinationOperator.TheVariants.{Or, And, Xor, Xnor}
 use Rattle.jbig2_base.specs.declared.error.DecodeError.{DecodeError}
@@ -13,7 +13,7 @@ use Rattle.jbig2_base.specs.declared.error.OverflowError.TheVariants.{BitmapDime
 use Rattle.jbig2_base.specs.declared.page_info.PageFlags.{PageFlags}
 use Rattle.jbig2_base.specs.declared.page_info.PageInformation.{PageInformation}
 use Rattle.jbig2_base.specs.declared.page_info.PageStriping.{PageStriping}
-use Rattle.jbig2_base.specs.declared.page_info.Sheet.{Sheet}
+use Rattle.jbig2_base.specs.declared.page_info.InitialPage.{InitialPage}
 use Rattle.jbig2_base.specs.declared.segment.SegmentType.{SegmentType}
 use Rattle.jbig2_base.specs.declared.segment.SegmentType.TheVariants as types
 
@@ -73,7 +73,7 @@ is_end_of_stripe types.EndOfStripe = true
 is_end_of_stripe _ = false
 
 -- the first page information segment
-abbrev pub first_information : List Part → Result Part DecodeError
+abbrev pub first_information : List SegmentView → Result SegmentView DecodeError
 first_information [] = Err (Format MissingPageInfo)
 first_information (p ∷ ps) = if is_page_information p.header.segment_type then Ok p else first_information ps
 
@@ -81,12 +81,12 @@ first_information (p ∷ ps) = if is_page_information p.header.segment_type then
 abbrev pub last_row : List ℕ → ℕ
 last_row bytes = from_be_bytes w32 (take 4 bytes)
 
-abbrev pub stripe_height : Part → ℕ
+abbrev pub stripe_height : SegmentView → ℕ
 stripe_height p =
     if is_end_of_stripe p.header.segment_type && length p.bytes == 4 && not (last_row p.bytes == 4294967295) then last_row p.bytes + 1
     else 0
 
-abbrev pub stripes_height : List Part → ℕ
+abbrev pub stripes_height : List SegmentView → ℕ
 stripes_height [] = 0
 stripes_height (p ∷ ps) = max (stripe_height p) (stripes_height ps)
 
@@ -95,16 +95,16 @@ abbrev pub height_of : ℕ → ℕ → Result ℕ DecodeError
 height_of stated stripes = if stated == 4294967295 then (refuse_if (stripes == 0) (Format UnknownPageHeight) >>= λ told. Ok stripes) else Ok stated
 
 -- a page of this size has pixels, and no more than a bitmap may have
-abbrev pub sheet_with : ℕ → PageInformation → ℕ → Result Sheet DecodeError
-sheet_with number info height = do
+abbrev pub initial_page_with : ℕ → PageInformation → ℕ → Result InitialPage DecodeError
+initial_page_with number info height = do
   some ← refuse_if (info.width == 0 || height == 0) (Format EmptyPage)
   fits ← refuse_if (nat_lt 65535 info.width || nat_lt 65535 height) (Overflow BitmapDimension)
   Ok (record { number = number; width = info.width; height = height; default_pixel = info.flags.default_pixel })
 
 -- What a page begins as, by its first page information and its stripes.
-unfoldable pub sheet_of : List Part → Result Sheet DecodeError
-sheet_of ps = do
+unfoldable pub initial_page_of : List SegmentView → Result InitialPage DecodeError
+initial_page_of ps = do
   first ← first_information ps
   info ← information_at first.bytes
   height ← height_of info.0.height (stripes_height ps)
-  sheet_with first.header.page_association info.0 height
+  initial_page_with first.header.page_association info.0 height

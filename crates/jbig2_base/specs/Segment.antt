@@ -21,7 +21,7 @@ pub record Header : Type 0 where
   pub data_length : Option ℕ
 
 -- A segment: its header and its data.
-pub record Part : Type 0 where
+pub record SegmentView : Type 0 where
   pub header : Header
   pub bytes : List ℕ
 
@@ -140,13 +140,13 @@ data_at (Some n) bytes = bytes_at n bytes
 data_at None bytes = unknown_length_of bytes >>= λ n. bytes_at n bytes
 
 -- A segment by its header and the data at the front, and the bytes behind it.
-abbrev pub segment_data_at : Header → List ℕ → Result (Part × List ℕ) DecodeError
+abbrev pub segment_data_at : Header → List ℕ → Result (SegmentView × List ℕ) DecodeError
 segment_data_at header bytes = do
   coded ← data_at header.data_length bytes
   Ok (record { header = header; bytes = coded.0 }, coded.1)
 
 -- A segment: its header and the data behind it, and the bytes behind that.
-unfoldable pub segment_at : Bool → List ℕ → Result (Part × List ℕ) DecodeError
+unfoldable pub segment_at : Bool → List ℕ → Result (SegmentView × List ℕ) DecodeError
 segment_at strict bytes = do
   header ← header_at strict bytes
   segment_data_at header.0 header.1

@@ -1,7 +1,7 @@
 -- Segments one behind the other, header and data by turns (T.88, D.1 and D.3).
 use Rattle.std.specs.Prelude.{ℕ, suc, zero, Bool, true, false, not, ◌&&◌, ◌==◌, List, [], ◌∷◌, length, Result, Ok, Err, if◌then◌else◌}
 use Rattle.jbig2_base.specs.Answer.{◌>>=◌}
-use Rattle.jbig2_base.specs.Segment.{Part, segment_at}
+use Rattle.jbig2_base.specs.Segment.{SegmentView, segment_at}
 use Rattle.jbig2_base.specs.Sorted.{by_number}
 use Rattle.jbig2_base.specs.declared.error.DecodeError.{DecodeError}
 use Rattle.jbig2_base.specs.declared.error.DecodeError.TheVariants.{Parse}
@@ -21,19 +21,19 @@ abbrev pub is_cut_off : Bool → DecodeError → Bool
 is_cut_off strict error = not strict && is_end_of_bytes error
 
 -- What follows a segment: nothing behind an end of file, else the segments in the bytes that are left.
-abbrev pub goes_on : Bool → Result (Part × List ℕ) DecodeError → (List ℕ → Result (List Part) DecodeError) → Result (List Part) DecodeError
+abbrev pub goes_on : Bool → Result (SegmentView × List ℕ) DecodeError → (List ℕ → Result (List SegmentView) DecodeError) → Result (List SegmentView) DecodeError
 goes_on strict (Ok x) others = if is_end_of_file x.0.header.segment_type then Ok (x.0 ∷ []) else (others x.1 >>= λ ps. Ok (x.0 ∷ ps))
 goes_on strict (Err e) others = if is_cut_off strict e then Ok [] else Err e
 
 -- The segments in the bytes, at most so many; each has at least one byte, so the number of bytes is enough.
-unfoldable pub segments_in : ℕ → Bool → List ℕ → Result (List Part) DecodeError
+unfoldable pub segments_in : ℕ → Bool → List ℕ → Result (List SegmentView) DecodeError
 segments_in zero strict bytes = Ok []
 segments_in (suc most) strict bytes =
     if length bytes == 0 then Ok [] else goes_on strict (segment_at strict bytes) (segments_in most strict)
 
-abbrev pub sequential : Bool → List ℕ → Result (List Part) DecodeError
+abbrev pub sequential : Bool → List ℕ → Result (List SegmentView) DecodeError
 sequential strict bytes = segments_in (length bytes) strict bytes
 
 -- The segments of an embedded page or of globals: read one behind the other, then sorted.
-abbrev pub sorted_segments : Bool → List ℕ → Result (List Part) DecodeError
+abbrev pub sorted_segments : Bool → List ℕ → Result (List SegmentView) DecodeError
 sorted_segments strict bytes = sequential strict bytes >>= λ ps. Ok (by_number ps)

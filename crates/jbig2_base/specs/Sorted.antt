@@ -1,6 +1,6 @@
 -- Segments in order of their numbers, equal numbers in the order in which they stand (our own rule).
 use Rattle.std.specs.Prelude.{ℕ, nat_lt, List, [], ◌∷◌, if◌then◌else◌}
-use Rattle.jbig2_base.specs.Segment.{Part}
+use Rattle.jbig2_base.specs.Segment.{SegmentView}
 
 -- x before the first element whose key is not less
 abbrev pub insert_by : {X : Type 0} → (X → ℕ) → X → List X → List X
@@ -11,5 +11,5 @@ abbrev pub sorted_by : {X : Type 0} → (X → ℕ) → List X → List X
 sorted_by key [] = []
 sorted_by key (x ∷ xs) = insert_by key x (sorted_by key xs)
 
-abbrev pub by_number : List Part → List Part
-by_number parts = sorted_by (λ p. p.header.segment_number) parts
+abbrev pub by_number : List SegmentView → List SegmentView
+by_number segments = sorted_by (λ p. p.header.segment_number) segments

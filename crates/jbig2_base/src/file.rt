@@ -4,9 +4,9 @@ ghost use Rattle.jbig2_base.specs.Answer.{Gives};
 ghost use Rattle.jbig2_base.specs.Bits.{IsAligned};
 ghost use Rattle.jbig2_base.specs.File.{headers_in, gathered, random_access, segments_by, file_at};
 ghost use Rattle.jbig2_base.specs.Sorted.{by_number};
-ghost use Rattle.jbig2_base.specs.Spelled.{Spelled, SpellsFile, spelled_parts};
+ghost use Rattle.jbig2_base.specs.Spelled.{Spelled, SpellsFile, spelled_segments};
 ghost use Rattle.jbig2_base.specs.declared.file_header.FileHeader.{FileHeader};
-ghost use Rattle.jbig2_base.specs.inner.SegmentViews.{header_views, parts, file_view};
+ghost use Rattle.jbig2_base.specs.inner.SegmentViews.{header_views, segment_views, file_view};
 ghost use Rattle.jbig2_base.specs.Sequential.{is_cut_off, is_end_of_file, sequential};
 
 use crate::error::{DecodeError, Result};
@@ -45,7 +45,7 @@ pub fn parse_segments_sequential<'a, A: Allocator + Clone>(
     bytes: &'a [u8],
     strict: bool,
 ) -> Result<Vec<Segment<'a, A>, A>>
-    ensures { Gives (λ v. parts v.items) result (sequential strict bytes.now) }
+    ensures { Gives (λ v. segment_views v.items) result (sequential strict bytes.now) }
 {
     let mut reader = Reader::new(bytes);
     let mut segments = Vec::new(alloc.clone()?);
@@ -103,7 +103,7 @@ fn gather_segments<'a, A: Allocator>(
     headers: Vec<SegmentHeader<A>, A>,
 ) -> Result<Vec<Segment<'a, A>, A>>
     requires { IsAligned reader.old }
-    ensures { Gives (λ v. parts v.items) result (gathered (header_views headers.items) reader.old.bytes) }
+    ensures { Gives (λ v. segment_views v.items) result (gathered (header_views headers.items) reader.old.bytes) }
 {
     let mut segments = Vec::new(alloc);
     for header in headers {
@@ -123,7 +123,7 @@ fn parse_segments_random_access<'a, A: Allocator + Clone>(
     bytes: &'a [u8],
     strict: bool,
 ) -> Result<Vec<Segment<'a, A>, A>>
-    ensures { Gives (λ v. parts v.items) result (random_access strict bytes.now) }
+    ensures { Gives (λ v. segment_views v.items) result (random_access strict bytes.now) }
 {
     let mut reader = Reader::new(bytes);
     let headers = parse_segment_headers(alloc.clone()?, &mut reader, strict)?;
@@ -136,7 +136,7 @@ fn parse_segments<'a, A: Allocator + Clone>(
     organization: FileOrganization,
     strict: bool,
 ) -> Result<Vec<Segment<'a, A>, A>>
-    ensures { Gives (λ v. parts v.items) result (segments_by organization strict bytes.now) }
+    ensures { Gives (λ v. segment_views v.items) result (segments_by organization strict bytes.now) }
 {
     match organization {
         FileOrganization::Sequential => parse_segments_sequential(alloc, bytes, strict),
@@ -179,7 +179,7 @@ pub fn parse_file<'a, A: Allocator + Clone>(
     strict: bool,
 ) -> Result<File<'a, A>>
     ensures value { Gives file_view result (file_at strict bytes.now) }
-    ensures either_organization { (header : FileHeader) (ss : List Spelled) → SpellsFile strict bytes.now header ss → Gives file_view result (Ok (header, by_number (spelled_parts ss))) }
+    ensures either_organization { (header : FileHeader) (ss : List Spelled) → SpellsFile strict bytes.now header ss → Gives file_view result (Ok (header, by_number (spelled_segments ss))) }
 {
     read_file(alloc, bytes, strict)
 }

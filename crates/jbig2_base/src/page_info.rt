@@ -2,9 +2,9 @@
 ghost use Rattle.std.specs.Prelude.{◌≡◌, ◌+◌, ◌<◌, ◌≤◌, Ok, IfOk, OnErr, OnOk, Option, length};
 ghost use Rattle.jbig2_base.specs.Answer.{Answers};
 ghost use Rattle.jbig2_base.specs.Bits.{IsAligned};
-ghost use Rattle.jbig2_base.specs.PageInfo.{default_operator_of, flags_of, striping_of, resolution_of, information_at, is_page_information, is_end_of_stripe, first_information, stripe_height, stripes_height, height_of, sheet_with, sheet_of};
+ghost use Rattle.jbig2_base.specs.PageInfo.{default_operator_of, flags_of, striping_of, resolution_of, information_at, is_page_information, is_end_of_stripe, first_information, stripe_height, stripes_height, height_of, initial_page_with, initial_page_of};
 ghost use Rattle.jbig2_base.specs.Parsing.{Parses};
-ghost use Rattle.jbig2_base.specs.inner.SegmentViews.{part_view, parts};
+ghost use Rattle.jbig2_base.specs.inner.SegmentViews.{segment_view, segment_views};
 
 use crate::bitmap::operator::CombinationOperator;
 use crate::error::{DecodeError, FormatError, OverflowError, Result};
@@ -50,7 +50,7 @@ pub struct PageStriping {
 
 /// What a page begins as: its number, its size in pixels and its colour.
 #[derive(Clone, Copy, Debug, PartialEq, Eq)]
-pub struct Sheet {
+pub struct InitialPage {
     pub number: u32,
     pub width: u32,
     pub height: u32,
@@ -141,7 +141,7 @@ fn is_end_of_stripe(kind: SegmentType) -> bool
 fn first_information<'s, 'a, A: Allocator>(
     segments: &'s [Segment<'a, A>],
 ) -> Result<&'s Segment<'a, A>>
-    ensures { Answers (λ s. part_view s.now) result (first_information (parts segments.now)) }
+    ensures { Answers (λ s. segment_view s.now) result (first_information (segment_views segments.now)) }
 {
     for segment in segments {
         if is_page_information(segment.header.segment_type) {
@@ -152,7 +152,7 @@ fn first_information<'s, 'a, A: Allocator>(
 }
 
 fn stripe_height<A: Allocator>(segment: &Segment<'_, A>) -> u32
-    ensures { result ≡ stripe_height (part_view segment.now) }
+    ensures { result ≡ stripe_height (segment_view segment.now) }
 {
     let bytes = segment.bytes;
     if !is_end_of_stripe(segment.header.segment_type) || bytes.len() != 4 {
@@ -166,7 +166,7 @@ fn stripe_height<A: Allocator>(segment: &Segment<'_, A>) -> u32
 }
 
 fn stripes_height<A: Allocator>(segments: &[Segment<'_, A>]) -> u32
-    ensures { result ≡ stripes_height (parts segments.now) }
+    ensures { result ≡ stripes_height (segment_views segments.now) }
 {
     let mut height = 0;
     for segment in segments {
@@ -187,9 +187,9 @@ fn page_height(stated: u32, stripes: u32) -> Result<u32>
     Ok(stripes)
 }
 
-fn sheet_with(number: u32, information: &PageInformation, height: u32) -> Result<Sheet>
-    ensures value { Answers (λ sheet. sheet) result (sheet_with number information.now height) }
-    ensures fits { IfOk result (λ sheet. (sheet.width ≤ 65535) × (sheet.height ≤ 65535)) }
+fn initial_page_with(number: u32, information: &PageInformation, height: u32) -> Result<InitialPage>
+    ensures value { Answers (λ initial_page. initial_page) result (initial_page_with number information.now height) }
+    ensures fits { IfOk result (λ initial_page. (initial_page.width ≤ 65535) × (initial_page.height ≤ 65535)) }
 {
     let width = information.width;
     if width == 0 || height == 0 {
@@ -198,7 +198,7 @@ fn sheet_with(number: u32, information: &PageInformation, height: u32) -> Result
     if width > 65535 || height > 65535 {
         return Err(DecodeError::Overflow(OverflowError::BitmapDimension));
     }
-    Ok(Sheet {
+    Ok(InitialPage {
         number,
         width,
         height,
@@ -206,22 +206,22 @@ fn sheet_with(number: u32, information: &PageInformation, height: u32) -> Result
     })
 }
 
-impl Sheet {
+impl InitialPage {
     /// What a page with these segments begins as: its first page information, and where that
     /// leaves the height open the largest end of stripe (T.88, 7.4.8 and 7.4.10).
     ///
     /// `FormatError::MissingPageInfo`, `UnknownPageHeight` or `EmptyPage`,
     /// `ParseError::UnexpectedEof` where the segment is too short, `OverflowError::BitmapDimension`
     /// above 65535 pixels either way. Takes no memory.
-    #[tactic(auto, unfolding(crate::specs::PageInfo::sheet_of))]
-    pub fn of_segments<A: Allocator>(segments: &[Segment<'_, A>]) -> Result<Sheet>
-        ensures value { Answers (λ sheet. sheet) result (sheet_of (parts segments.now)) }
-        ensures fits { IfOk result (λ sheet. (sheet.width ≤ 65535) × (sheet.height ≤ 65535)) }
+    #[tactic(auto, unfolding(crate::specs::PageInfo::initial_page_of))]
+    pub fn of_segments<A: Allocator>(segments: &[Segment<'_, A>]) -> Result<InitialPage>
+        ensures value { Answers (λ initial_page. initial_page) result (initial_page_of (segment_views segments.now)) }
+        ensures fits { IfOk result (λ initial_page. (initial_page.width ≤ 65535) × (initial_page.height ≤ 65535)) }
     {
         let first = first_information(segments)?;
         let mut reader = Reader::new(first.bytes);
         let information = parse_page_information(&mut reader)?;
         let height = page_height(information.height, stripes_height(segments))?;
-        sheet_with(first.header.page_association, &information, height)
+        initial_page_with(first.header.page_association, &information, height)
     }
 }

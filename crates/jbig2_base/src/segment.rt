@@ -8,7 +8,7 @@ ghost use Rattle.jbig2_base.specs.Answer.{Answers, Gives};
 ghost use Rattle.jbig2_base.specs.Bits.{IsAligned};
 ghost use Rattle.jbig2_base.specs.Parsing.{Parses, Takes};
 ghost use Rattle.jbig2_base.specs.Segment.{type_of, is_reserved, is_immediate_generic, short_or_long_at, long_count_at, count_at, number_size, coded_number, numbers_in, referred_at, page_at, length_of, header_at, data_at, segment_data_at, segment_at};
-ghost use Rattle.jbig2_base.specs.inner.SegmentViews.{header_view, part_view};
+ghost use Rattle.jbig2_base.specs.inner.SegmentViews.{header_view, segment_view};
 
 mod end_marker;
 
@@ -309,7 +309,7 @@ pub fn parse_segment_data<'a, A: Allocator>(
     header: SegmentHeader<A>,
 ) -> Result<Segment<'a, A>>
     requires { IsAligned reader.old }
-    ensures { Parses reader.old reader.new result part_view (segment_data_at (header_view header) reader.old.bytes) }
+    ensures { Parses reader.old reader.new result segment_view (segment_data_at (header_view header) reader.old.bytes) }
 {
     let bytes = segment_bytes(reader, header.data_length)?;
     Ok(Segment { header, bytes })
@@ -324,7 +324,7 @@ pub fn parse_segment<'a, A: Allocator>(
     strict: bool,
 ) -> Result<Segment<'a, A>>
     requires { IsAligned reader.old }
-    ensures parses { Takes reader.old reader.new result part_view (segment_at strict reader.old.bytes) }
+    ensures parses { Takes reader.old reader.new result segment_view (segment_at strict reader.old.bytes) }
     ensures taken { OnOk result (length reader.new.bytes < length reader.old.bytes) }
 {
     let mut ahead = reader.duplicate();

@@ -1,6 +1,6 @@
 -- The decoder reads from a list's bytes that list's decisions.
 use Rattle.std.proofs.Common.{◌≡◌, ℕ, Bool, List, [], ◌∷◌, length, map, refl, sym, ap, ◌∙◌, subst}
-use Rattle.jbig2_coder.specs.Coder.{Context, Decision, byte_at, decision, started}
+use Rattle.jbig2_coder.specs.Coder.{Context, Decision, byte_at, decision, initial_registers}
 use Rattle.jbig2_coder.specs.Encoder.{Coding, Encoding, opened, encoding, flushed, closed}
 use Rattle.jbig2_coder.specs.Lists.{Contexts, all_fresh, with_context, encode_from, encoded, decoded_from, read_back, DecodesBack}
 use Rattle.jbig2_coder.specs.declared.arithmetic_decoder.registers.Registers.{Registers}
@@ -88,11 +88,11 @@ decodes-some e es out bytes eo eb =
     subst (λ (b : List ℕ). Closing (byte_at b) m) (sym eb) (Closing-closed out (subst Valid (sym last) flush.valid)) in
     let next : KnowsAt f m c.coding.range c.coding.writer = ends-next f m opened all_fresh e es opened-begun ends in
     let know : KnowsAt f m opened.range opened.writer = i.narrow f m (i.renorm f m next) in
-    decodes-from bytes m closing (e ∷ es) opened all_fresh (started bytes) opened-begun (start bytes m closing know) ends
+    decodes-from bytes m closing (e ∷ es) opened all_fresh (initial_registers bytes) opened-begun (start bytes m closing know) ends
 
 decoded-none : (bytes : List ℕ) → read_back bytes [] ≡ []
 unfolding read_back
-decoded-none bytes = decoded_from-none bytes (started bytes) all_fresh
+decoded-none bytes = decoded_from-none bytes (initial_registers bytes) all_fresh
 
 pub decodes_back : DecodesBack
 decodes_back [] = decoded-none (encoded [])

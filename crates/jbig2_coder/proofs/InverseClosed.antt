@@ -2,7 +2,7 @@
 use Rattle.std.proofs.Common.{◌≡◌, ℕ, zero, suc, ◌+◌, ◌-◌, ◌*◌, ◌%◌, ◌^◌, ◌<◌, ◌≤◌, true, false, List, [], ◌∷◌, ◌++◌, append_assoc, length, reverse, get_or, refl, sym, ap, ◌∙◌, arith, subst, ⊎_elim, ◌⊎◌, inl}
 use Rattle.std.proofs.lemmas.Bool.{cases_Bool, eqb-true}
 use Rattle.std.proofs.lemmas.List.{reverse-append, reverse-reverse, length-reverse, get_or_at, get_or-append-add}
-use Rattle.jbig2_coder.specs.Coder.{byte_at, byte_in, started}
+use Rattle.jbig2_coder.specs.Coder.{byte_at, byte_in, initial_registers}
 use Rattle.jbig2_coder.specs.Encoder.{opened, is_full, closed}
 use Rattle.jbig2_coder.specs.declared.arithmetic_decoder.registers.CodeRegister.{CodeRegister}
 use Rattle.jbig2_coder.proofs.Encoders.{is_full-last, closed-full, closed-plain}
@@ -117,8 +117,8 @@ first-byte f (suc zero) h v = v.0
 first-byte f (suc (suc m)) h v = first-byte f (suc m) (omega arith) v.2
 
 pub start : (bytes : List ℕ) (m : ℕ) → Closing (byte_at bytes) m → KnowsAt (byte_at bytes) m opened.range opened.writer
-    → Together (byte_at bytes) m opened (started bytes)
-unfolding started opened
+    → Together (byte_at bytes) m opened (initial_registers bytes)
+unfolding initial_registers opened
 start bytes m closing know =
     let f : ℕ → ℕ = byte_at bytes in
     let b : f 0 ≤ 255 = first-byte f m know.some closing.valid in

@@ -6,7 +6,7 @@ use Rattle.std.proofs.lemmas.List.{get_or_past, get_or_default, drop_all, append
 use Rattle.jbig2_base.specs.declared.error.DecodeError.{DecodeError}
 use Rattle.jbig2_base.specs.Answer.{Gives}
 use Rattle.jbig2_base.specs.Grid.{bit_number}
-use Rattle.jbig2_coder.specs.Coder.{Coder, Context, Decision, fresh, decision, started}
+use Rattle.jbig2_coder.specs.Coder.{Coder, Context, Decision, fresh, decision, initial_registers}
 use Rattle.jbig2_coder.specs.Encoder.{Coding, opened, encoding, flushed, closed}
 use Rattle.jbig2_coder.specs.Lists.{Contexts, all_fresh, contexts_of, with_context, encode_from, encoded, decoded_from, read_back}
 use Rattle.jbig2_coder.specs.declared.arithmetic_decoder.registers.Registers.{Registers}
@@ -96,7 +96,7 @@ encode_from-more s t known entries i k x y h ek hk ex coding context =
 
 -- the loop that reads a list: before its first turn, and after its last
 pub decoded-begin : (d : Coder) (bytes : List ℕ) (known : List Context) (asked : List ℕ) (out : List Bool)
-    → d.bytes ≡ bytes → d.registers ≡ started bytes → contexts_of known ≡ all_fresh → out ≡ []
+    → d.bytes ≡ bytes → d.registers ≡ initial_registers bytes → contexts_of known ≡ all_fresh → out ≡ []
     → read_back bytes asked ≡ out ++ decoded_from d.bytes d.registers (contexts_of known) asked
 unfolding read_back
 decoded-begin d bytes known asked out bs registers fresh_ones none =

@@ -6,13 +6,13 @@ use Rattle.jbig2_base.specs.Bits.{Place, bits_left, bits_next, bits_on}
 use Rattle.jbig2_base.specs.declared.error.DecodeError.{DecodeError}
 use Rattle.jbig2_coder.specs.declared.huffman_table.line.TableLine.{TableLine}
 use Rattle.jbig2_coder.specs.declared.huffman_table.levels.Level.{Level}
-use Rattle.jbig2_coder.specs.PrefixCode.{Member, CodeReading, Reads, read_code, decoded, valued, value_by, value_after, range_bits}
+use Rattle.jbig2_coder.specs.PrefixCode.{Member, CodeReading, Reads, read_code, decoded_value, valued, value_by, value_after, range_bits}
 use Rattle.jbig2_coder.specs.inner.PrefixLevels.{walk, groups_of, codes_at}
 use Rattle.jbig2_coder.proofs.PrefixWalk.{walk-reads}
 use Rattle.jbig2_coder.proofs.PrefixReading.{bits_on-add}
 
-decoded-is : (gs : List (List TableLine)) (ms : List Member) (bits : List ℕ) → codes_at 0 0 gs ≡ ms → decoded ms bits ≡ valued (walk gs 0 0 bits) bits
-unfolding decoded
+decoded-is : (gs : List (List TableLine)) (ms : List Member) (bits : List ℕ) → codes_at 0 0 gs ≡ ms → decoded_value ms bits ≡ valued (walk gs 0 0 bits) bits
+unfolding decoded_value
 decoded-is gs ms bits e = ap (λ (r : CodeReading TableLine). valued r bits) (sym (walk-reads gs bits ∙ ap (λ (ns : List Member). read_code ns bits) e))
 
 valued-err : (r : CodeReading TableLine) (bits : List ℕ) (e : DecodeError) → Err e ≡ r.answer → valued r bits ≡ record { answer = Err e; taken = r.taken }
@@ -21,18 +21,18 @@ valued-err r bits e h = ap (λ (a : Result TableLine DecodeError). valued (recor
 valued-ok : (r : CodeReading TableLine) (bits : List ℕ) (x : TableLine) → Ok x ≡ r.answer → valued r bits ≡ record { answer = value_after x (drop r.taken bits); taken = r.taken + range_bits x }
 valued-ok r bits x h = ap (λ (a : Result TableLine DecodeError). valued (record { answer = a; taken = r.taken }) bits) (sym h)
 
-decodes : (ms : List Member) (a : Result (Option ℤ) DecodeError) (n : ℕ) (p q : Place) → decoded ms (bits_left p) ≡ record { answer = a; taken = n } → q ≡ bits_on n p → bits_left q ≡ drop n (bits_left p) → Reads p q a (decoded ms (bits_left p))
+decodes : (ms : List Member) (a : Result (Option ℤ) DecodeError) (n : ℕ) (p q : Place) → decoded_value ms (bits_left p) ≡ record { answer = a; taken = n } → q ≡ bits_on n p → bits_left q ≡ drop n (bits_left p) → Reads p q a (decoded_value ms (bits_left p))
 decodes ms a n p q e place rest = record {
   value = sym (ap (λ (r : CodeReading (Option ℤ)). r.answer) e);
   place = place ∙ ap (λ (r : CodeReading (Option ℤ)). bits_on r.taken p) (sym e);
   rest = rest ∙ ap (λ (r : CodeReading (Option ℤ)). drop r.taken (bits_left p)) (sym e);
 }
 
-pub decodes-err : (gs : List (List TableLine)) (ms : List Member) (e : DecodeError) (p q : Place) → codes_at 0 0 gs ≡ ms → Reads p q (Err e) (walk gs 0 0 (bits_left p)) → Reads p q (Err e) (decoded ms (bits_left p))
+pub decodes-err : (gs : List (List TableLine)) (ms : List Member) (e : DecodeError) (p q : Place) → codes_at 0 0 gs ≡ ms → Reads p q (Err e) (walk gs 0 0 (bits_left p)) → Reads p q (Err e) (decoded_value ms (bits_left p))
 decodes-err gs ms e p q view read =
     decodes ms (Err e) (walk gs 0 0 (bits_left p)).taken p q (decoded-is gs ms (bits_left p) view ∙ valued-err (walk gs 0 0 (bits_left p)) (bits_left p) e read.value) read.place read.rest
 
-pub decodes-oob : (gs : List (List TableLine)) (ms : List Member) (x : TableLine) (p q : Place) → codes_at 0 0 gs ≡ ms → Reads p q (Ok x) (walk gs 0 0 (bits_left p)) → x.is_out_of_band ≡ true → Reads p q (Ok None) (decoded ms (bits_left p))
+pub decodes-oob : (gs : List (List TableLine)) (ms : List Member) (x : TableLine) (p q : Place) → codes_at 0 0 gs ≡ ms → Reads p q (Ok x) (walk gs 0 0 (bits_left p)) → x.is_out_of_band ≡ true → Reads p q (Ok None) (decoded_value ms (bits_left p))
 decodes-oob gs ms x p q view read oob =
     let w = walk gs 0 0 (bits_left p) in
     let none : value_after x (drop w.taken (bits_left p)) ≡ Ok None = cond-true x.is_out_of_band (Ok None) (value_by x (bits_next x.range_length (drop w.taken (bits_left p)))) oob in
@@ -43,7 +43,7 @@ decodes-oob gs ms x p q view read oob =
     ∙ ap (λ (n : ℕ). record { answer = Ok None; taken = n }) taken)
     read.place read.rest
 
-pub decodes-value : (gs : List (List TableLine)) (ms : List Member) (x : TableLine) (a : Result (Option ℤ) DecodeError) (p q r : Place) → codes_at 0 0 gs ≡ ms → Reads p q (Ok x) (walk gs 0 0 (bits_left p)) → x.is_out_of_band ≡ false → a ≡ value_by x (bits_next x.range_length (bits_left q)) → r ≡ bits_on x.range_length q → bits_left r ≡ drop x.range_length (bits_left q) → Reads p r a (decoded ms (bits_left p))
+pub decodes-value : (gs : List (List TableLine)) (ms : List Member) (x : TableLine) (a : Result (Option ℤ) DecodeError) (p q r : Place) → codes_at 0 0 gs ≡ ms → Reads p q (Ok x) (walk gs 0 0 (bits_left p)) → x.is_out_of_band ≡ false → a ≡ value_by x (bits_next x.range_length (bits_left q)) → r ≡ bits_on x.range_length q → bits_left r ≡ drop x.range_length (bits_left q) → Reads p r a (decoded_value ms (bits_left p))
 decodes-value gs ms x a p q r view read oob value place rest =
     let w = walk gs 0 0 (bits_left p) in
     let some : value_after x (drop w.taken (bits_left p)) ≡ a =

@@ -5,16 +5,16 @@ use Rattle.jbig2_base.specs.declared.error.HuffmanError.TheVariants.{InvalidCode
 use Rattle.jbig2_base.specs.Bits.{start_of, bits_left, bits_on}
 use Rattle.jbig2_coder.specs.CustomTable.{custom_table, custom_lines, range_lines}
 use Rattle.jbig2_base.specs.Search.{least}
-use Rattle.jbig2_coder.specs.PrefixCode.{prefix_code, table_of, is_crowded, weight, shorter, decoded, read_code, refused, ended}
+use Rattle.jbig2_coder.specs.PrefixCode.{prefix_code, table_of, is_crowded, weight, shorter, decoded_value, read_code, refused, ended}
 use Rattle.jbig2_coder.specs.Tables.{lines_a, line, lower, upper}
 
 -- row 15
-five : decoded (prefix_code lines_a) (0 ∷ 0 ∷ 1 ∷ 0 ∷ 1 ∷ []) ≡ record { answer = Ok (Some (pos 5)); taken = 5 }
-unfolding decoded read_code least prefix_code shorter lines_a
+five : decoded_value (prefix_code lines_a) (0 ∷ 0 ∷ 1 ∷ 0 ∷ 1 ∷ []) ≡ record { answer = Ok (Some (pos 5)); taken = 5 }
+unfolding decoded_value read_code least prefix_code shorter lines_a
 five = refl
 
-nineteen : decoded (prefix_code lines_a) (1 ∷ 0 ∷ 0 ∷ 0 ∷ 0 ∷ 0 ∷ 0 ∷ 0 ∷ 1 ∷ 1 ∷ []) ≡ record { answer = Ok (Some (pos 19)); taken = 10 }
-unfolding decoded read_code least prefix_code shorter lines_a
+nineteen : decoded_value (prefix_code lines_a) (1 ∷ 0 ∷ 0 ∷ 0 ∷ 0 ∷ 0 ∷ 0 ∷ 0 ∷ 1 ∷ 1 ∷ []) ≡ record { answer = Ok (Some (pos 19)); taken = 10 }
+unfolding decoded_value read_code least prefix_code shorter lines_a
 nineteen = refl
 
 -- row R5.1
@@ -22,25 +22,25 @@ three_of_one_bit : table_of (line 1 0 (pos 0) ∷ line 1 0 (pos 1) ∷ line 1 0 
 unfolding is_crowded weight
 three_of_one_bit = refl
 
-second_of_one_bit : decoded (prefix_code (line 1 0 (pos 0) ∷ line 1 0 (pos 1) ∷ [])) (1 ∷ []) ≡ record { answer = Ok (Some (pos 1)); taken = 1 }
-unfolding decoded read_code least prefix_code shorter
+second_of_one_bit : decoded_value (prefix_code (line 1 0 (pos 0) ∷ line 1 0 (pos 1) ∷ [])) (1 ∷ []) ≡ record { answer = Ok (Some (pos 1)); taken = 1 }
+unfolding decoded_value read_code least prefix_code shorter
 second_of_one_bit = refl
 
-no_lines : decoded (prefix_code []) (1 ∷ []) ≡ refused 1
-unfolding decoded read_code least prefix_code shorter
+no_lines : decoded_value (prefix_code []) (1 ∷ []) ≡ refused 1
+unfolding decoded_value read_code least prefix_code shorter
 no_lines = refl
 
-no_bits : decoded (prefix_code []) [] ≡ ended 1
-unfolding decoded read_code least prefix_code shorter
+no_bits : decoded_value (prefix_code []) [] ≡ ended 1
+unfolding decoded_value read_code least prefix_code shorter
 no_bits = refl
 
 -- row R5.2
-lower_down : decoded (prefix_code (lower 1 (negsuc 0) ∷ upper 1 (pos 0) ∷ [])) (0 ∷ replicate 32 0) ≡ record { answer = Ok (Some (negsuc 0)); taken = 33 }
-unfolding decoded read_code least prefix_code shorter
+lower_down : decoded_value (prefix_code (lower 1 (negsuc 0) ∷ upper 1 (pos 0) ∷ [])) (0 ∷ replicate 32 0) ≡ record { answer = Ok (Some (negsuc 0)); taken = 33 }
+unfolding decoded_value read_code least prefix_code shorter
 lower_down = refl
 
-upper_past : decoded (prefix_code (lower 1 (negsuc 0) ∷ upper 1 (pos 0) ∷ [])) (1 ∷ 1 ∷ replicate 31 0) ≡ refused 33
-unfolding decoded read_code least prefix_code shorter
+upper_past : decoded_value (prefix_code (lower 1 (negsuc 0) ∷ upper 1 (pos 0) ∷ [])) (1 ∷ 1 ∷ replicate 31 0) ≡ refused 33
+unfolding decoded_value read_code least prefix_code shorter
 upper_past = refl
 
 -- row R5.2

@@ -12,7 +12,7 @@ use mir.Syntax.{w32}
 use Rattle.jbig2_base.specs.Counts.{Counts}
 use Rattle.jbig2_base.specs.Grid.{bit_number}
 use Rattle.jbig2_coder.specs.Coder.{Coder, Context, Decision, decision, fresh}
-use Rattle.jbig2_coder.specs.Integers.{Reading, number, next, read, read_more, prev_of, prefix, signed, value_of, range_of, integer, Ids, id, place_of}
+use Rattle.jbig2_coder.specs.Integers.{Reading, value_of_bits, next, read, read_more, prev_of, prefix, signed, value_of, range_of, integer, Ids, id, place_of}
 use Rattle.jbig2_coder.specs.inner.Stands.{Stands, prev_next}
 use Rattle.jbig2_coder.specs.declared.arithmetic_decoder.registers.Registers.{Registers}
 
@@ -34,8 +34,8 @@ prev_next-large p b h = grind (arith, nat_tests)
 
 -- numbers
 
-pub number-push : (bits : List Bool) (b : Bool) → number (bits ++ b ∷ []) ≡ 2 * number bits + bit_number b
-unfolding number
+pub number-push : (bits : List Bool) (b : Bool) → value_of_bits (bits ++ b ∷ []) ≡ 2 * value_of_bits bits + bit_number b
+unfolding value_of_bits
 number-push [] b = omega arith
 number-push (x ∷ bits) b =
     let e : length (bits ++ b ∷ []) ≡ suc (length bits) = length-append bits (b ∷ []) ∙ (omega arith) in
@@ -45,19 +45,19 @@ bit-small : (b : Bool) → bit_number b < 2
 bit-small true = omega arith
 bit-small false = omega arith
 
-number-cons : (b : Bool) (bits : List Bool) → number (b ∷ bits) ≡ bit_number b * 2 ^ length bits + number bits
-unfolding number
+number-cons : (b : Bool) (bits : List Bool) → value_of_bits (b ∷ bits) ≡ bit_number b * 2 ^ length bits + value_of_bits bits
+unfolding value_of_bits
 number-cons b bits = refl
 
-pub number-below : (bits : List Bool) → number bits < 2 ^ length bits
-unfolding number
+pub number-below : (bits : List Bool) → value_of_bits bits < 2 ^ length bits
+unfolding value_of_bits
 number-below [] = omega arith
 number-below (true ∷ bits) = rw pow-suc (omega (arith, number-below bits))
 number-below (false ∷ bits) = rw pow-suc (omega (arith, number-below bits))
 
 -- what a 1 and the bits spell
-number-marked : (bits : List Bool) → number (true ∷ bits) ≡ 2 ^ length bits + number bits
-unfolding number
+number-marked : (bits : List Bool) → value_of_bits (true ∷ bits) ≡ 2 ^ length bits + value_of_bits bits
+unfolding value_of_bits
 number-marked bits = omega arith
 
 prev-short : (bits : List Bool) (b : Bool) → length bits < 8 → prev_of (bits ++ b ∷ []) ≡ prev_next (prev_of bits) b
@@ -65,11 +65,11 @@ prev-short bits b short =
     let more : length (bits ++ b ∷ []) - 8 ≡ 0 = omega (arith, length-append bits (b ∷ [])) in
     let none : length bits - 8 ≡ 0 = omega arith in
     let power : 2 ^ length bits ≤ 2 ^ 7 = pow-le-pow_right (omega arith) (let few : length bits ≤ 7 = omega arith in few) in
-    let small : number (true ∷ bits) < 256 = omega (arith, number-marked bits, number-below bits, power) in
-    ap (λ (k : ℕ). number (true ∷ drop k (bits ++ b ∷ []))) more
+    let small : value_of_bits (true ∷ bits) < 256 = omega (arith, number-marked bits, number-below bits, power) in
+    ap (λ (k : ℕ). value_of_bits (true ∷ drop k (bits ++ b ∷ []))) more
     ∙ number-push (true ∷ bits) b
-    ∙ prev_next-small (number (true ∷ bits)) b small
-    ∙ sym (ap (λ (k : ℕ). prev_next (number (true ∷ drop k bits)) b) none)
+    ∙ prev_next-small (value_of_bits (true ∷ bits)) b small
+    ∙ sym (ap (λ (k : ℕ). prev_next (value_of_bits (true ∷ drop k bits)) b) none)
 
 prev-long : (bits : List Bool) (b : Bool) → 8 ≤ length bits → prev_of (bits ++ b ∷ []) ≡ prev_next (prev_of bits) b
 prev-long bits b long =
@@ -79,21 +79,21 @@ prev-long bits b long =
     let size : length rest ≡ 7 = length-drop (k + 1) bits ∙ (let e : length bits - (k + 1) ≡ 7 = omega arith in e) in
     let more : length (bits ++ b ∷ []) - 8 ≡ k + 1 = omega (arith, length-append bits (b ∷ [])) in
     let left : drop k bits ≡ first ∷ rest = drop_more bits k false (omega arith) in
-    let old : prev_of bits ≡ number (true ∷ first ∷ rest) = ap (λ (ys : List Bool). number (true ∷ ys)) left in
+    let old : prev_of bits ≡ value_of_bits (true ∷ first ∷ rest) = ap (λ (ys : List Bool). value_of_bits (true ∷ ys)) left in
     let power : 2 ^ length rest ≡ 128 = ap (λ (n : ℕ). 2 ^ n) size in
     let wide : 2 ^ length (first ∷ rest) ≡ 256 = ap (λ (n : ℕ). 2 ^ suc n) size in
-    let marked : number (true ∷ first ∷ rest) ≡ 2 ^ length (first ∷ rest) + number (first ∷ rest) = number-marked (first ∷ rest) in
-    let below : number (first ∷ rest) < 2 ^ length (first ∷ rest) = number-below (first ∷ rest) in
-    let new : number (true ∷ (rest ++ b ∷ [])) ≡ 2 * number (true ∷ rest) + bit_number b = number-push (true ∷ rest) b in
-    let head : number (first ∷ rest) ≡ bit_number first * 2 ^ length rest + number rest = number-cons first rest in
+    let marked : value_of_bits (true ∷ first ∷ rest) ≡ 2 ^ length (first ∷ rest) + value_of_bits (first ∷ rest) = number-marked (first ∷ rest) in
+    let below : value_of_bits (first ∷ rest) < 2 ^ length (first ∷ rest) = number-below (first ∷ rest) in
+    let new : value_of_bits (true ∷ (rest ++ b ∷ [])) ≡ 2 * value_of_bits (true ∷ rest) + bit_number b = number-push (true ∷ rest) b in
+    let head : value_of_bits (first ∷ rest) ≡ bit_number first * 2 ^ length rest + value_of_bits rest = number-cons first rest in
     let scaled : bit_number first * 2 ^ length rest ≡ bit_number first * 128 = ap (λ (n : ℕ). bit_number first * n) power in
-    let inner : number (true ∷ rest) ≡ 2 ^ length rest + number rest = number-marked rest in
-    let low : number rest < 2 ^ length rest = number-below rest in
-    let kept : 2 * number (true ∷ rest) + bit_number b ≡ 256 + (2 * number (true ∷ first ∷ rest) + bit_number b) % 256 = omega (arith, bit-small b, bit-small first) in
-    ap (λ (n : ℕ). number (true ∷ drop n (bits ++ b ∷ []))) more
-    ∙ ap (λ (ys : List Bool). number (true ∷ ys)) (drop-append-le (k + 1) bits (b ∷ []) (omega arith))
+    let inner : value_of_bits (true ∷ rest) ≡ 2 ^ length rest + value_of_bits rest = number-marked rest in
+    let low : value_of_bits rest < 2 ^ length rest = number-below rest in
+    let kept : 2 * value_of_bits (true ∷ rest) + bit_number b ≡ 256 + (2 * value_of_bits (true ∷ first ∷ rest) + bit_number b) % 256 = omega (arith, bit-small b, bit-small first) in
+    ap (λ (n : ℕ). value_of_bits (true ∷ drop n (bits ++ b ∷ []))) more
+    ∙ ap (λ (ys : List Bool). value_of_bits (true ∷ ys)) (drop-append-le (k + 1) bits (b ∷ []) (omega arith))
     ∙ new ∙ kept
-    ∙ prev_next-large (number (true ∷ first ∷ rest)) b (omega arith)
+    ∙ prev_next-large (value_of_bits (true ∷ first ∷ rest)) b (omega arith)
     ∙ ap (λ (n : ℕ). prev_next n b) (sym old)
 
 pub prev_of-push : (bits : List Bool) (b : Bool) → prev_of (bits ++ b ∷ []) ≡ prev_next (prev_of bits) b
@@ -138,8 +138,8 @@ length-read_more name (suc n) bytes r =
 
 -- the number of the bits read, with one more
 pub read_more-number : (name : List Bool → ℕ) (n : ℕ) (bytes : List ℕ) (r : Reading)
-    → number (drop (length r.bits) (read_more name (suc n) bytes r).bits)
-    ≡ 2 * number (drop (length r.bits) (read_more name n bytes r).bits) + bit_number (next name bytes (read_more name n bytes r)).symbol
+    → value_of_bits (drop (length r.bits) (read_more name (suc n) bytes r).bits)
+    ≡ 2 * value_of_bits (drop (length r.bits) (read_more name n bytes r).bits) + bit_number (next name bytes (read_more name n bytes r)).symbol
 unfolding read_more read
 read_more-number name n bytes r =
     let s = read_more name n bytes r in
@@ -231,16 +231,16 @@ unfolding read_more
 read_more-none name bytes r = refl
 
 -- before the first bit
-pub number-none : (name : List Bool → ℕ) (bytes : List ℕ) (r : Reading) → 0 ≡ number (drop (length r.bits) (read_more name 0 bytes r).bits)
-unfolding read_more number
-number-none name bytes r = sym (ap number (drop-length r.bits))
+pub number-none : (name : List Bool → ℕ) (bytes : List ℕ) (r : Reading) → 0 ≡ value_of_bits (drop (length r.bits) (read_more name 0 bytes r).bits)
+unfolding read_more value_of_bits
+number-none name bytes r = sym (ap value_of_bits (drop-length r.bits))
 
 pub number-next : (name : List Bool → ℕ) (n : ℕ) (bytes : List ℕ) (r : Reading) (value bit : ℕ)
-    → value ≡ number (drop (length r.bits) (read_more name n bytes r).bits) → bit ≡ bit_number (next name bytes (read_more name n bytes r)).symbol
-    → 2 * value + bit ≡ number (drop (length r.bits) (read_more name (n + 1) bytes r).bits)
+    → value ≡ value_of_bits (drop (length r.bits) (read_more name n bytes r).bits) → bit ≡ bit_number (next name bytes (read_more name n bytes r)).symbol
+    → 2 * value + bit ≡ value_of_bits (drop (length r.bits) (read_more name (n + 1) bytes r).bits)
 number-next name n bytes r value bit e f =
     (λ i. 2 * e i + f i) ∙ sym (read_more-number name n bytes r)
-    ∙ ap (λ m. number (drop (length r.bits) (read_more name m bytes r).bits)) (sym (add-one n))
+    ∙ ap (λ m. value_of_bits (drop (length r.bits) (read_more name m bytes r).bits)) (sym (add-one n))
 
 -- An integer
 
@@ -270,7 +270,7 @@ integer-reading b b1 b2 registers contexts count ones e1 e2 o k =
 pub integer-value : (b b1 b2 : List ℕ) (registers : Registers) (contexts : List Context) (negative : Bool) (count ones value offset : ℕ) → b1 ≡ b → b2 ≡ b
     → negative ≡ (next prev_of b (start_of registers contexts)).symbol
     → ones ≡ (prefix 5 0 b1 (read prev_of b (start_of registers contexts))).ones → count ≡ (range_of ones).bits → offset ≡ (range_of ones).offset
-    → value ≡ number (drop (length (prefix 5 0 b1 (read prev_of b (start_of registers contexts))).reading.bits) (read_more prev_of count b2 (prefix 5 0 b1 (read prev_of b (start_of registers contexts))).reading).bits)
+    → value ≡ value_of_bits (drop (length (prefix 5 0 b1 (read prev_of b (start_of registers contexts))).reading.bits) (read_more prev_of count b2 (prefix 5 0 b1 (read prev_of b (start_of registers contexts))).reading).bits)
     → value_of negative ((value + offset) % 2 ^ 32) ≡ (integer b registers contexts).value
 unfolding integer start_of
 integer-value b b1 b2 registers contexts negative count ones value offset e1 e2 n o k l v =
@@ -278,13 +278,13 @@ integer-value b b1 b2 registers contexts negative count ones value offset e1 e2 
     let p : ones ≡ (prefix 5 0 b r).ones = o ∙ ap (λ v. (prefix 5 0 v r).ones) e1 in
     let f : count ≡ (range_of (prefix 5 0 b r).ones).bits = k ∙ ap (λ n. (range_of n).bits) p in
     let g : offset ≡ (range_of (prefix 5 0 b r).ones).offset = l ∙ ap (λ n. (range_of n).offset) p in
-    let h = v ∙ (λ i. number (drop (length (prefix 5 0 (e1 i) r).reading.bits) (read_more prev_of (f i) (e2 i) (prefix 5 0 (e1 i) r).reading).bits)) in
+    let h = v ∙ (λ i. value_of_bits (drop (length (prefix 5 0 (e1 i) r).reading.bits) (read_more prev_of (f i) (e2 i) (prefix 5 0 (e1 i) r).reading).bits)) in
     λ i. value_of (n i) ((h i + g i) % 2 ^ 32)
 
 -- Symbol ids
 
-pub place_of-is : (bits : List Bool) → place_of bits ≡ 2 ^ length bits + number bits
-unfolding number
+pub place_of-is : (bits : List Bool) → place_of bits ≡ 2 ^ length bits + value_of_bits bits
+unfolding value_of_bits
 place_of-is bits = omega arith
 
 pub Stands-id : (n : ℕ) (ids : Ids) (coder : Coder) (steps : Counts) (prev : ℕ) (coder' : Coder) (contexts' : List Context) (steps' : Counts) → n ≡ ids.code_len
@@ -304,11 +304,11 @@ one-shifted n h =
     let p : 2 ^ n ≤ 2 ^ 30 = pow-le-pow_right (omega arith) h in
     omega (arith, p)
 
-pub id-place : (bytes : List ℕ) (registers : Registers) (ids : Ids) → place_of (id bytes registers ids).bits ≡ 2 ^ ids.code_len + number (id bytes registers ids).bits
+pub id-place : (bytes : List ℕ) (registers : Registers) (ids : Ids) → place_of (id bytes registers ids).bits ≡ 2 ^ ids.code_len + value_of_bits (id bytes registers ids).bits
 id-place bytes registers ids =
-    place_of-is (id bytes registers ids).bits ∙ ap (λ n. 2 ^ n + number (id bytes registers ids).bits) (id-length bytes registers ids)
+    place_of-is (id bytes registers ids).bits ∙ ap (λ n. 2 ^ n + value_of_bits (id bytes registers ids).bits) (id-length bytes registers ids)
 
-pub id-below : (bytes : List ℕ) (registers : Registers) (ids : Ids) → number (id bytes registers ids).bits < 2 ^ ids.code_len
+pub id-below : (bytes : List ℕ) (registers : Registers) (ids : Ids) → value_of_bits (id bytes registers ids).bits < 2 ^ ids.code_len
 id-below bytes registers ids =
-    let P : ℕ → Type 0 = λ n. number (id bytes registers ids).bits < 2 ^ n in
+    let P : ℕ → Type 0 = λ n. value_of_bits (id bytes registers ids).bits < 2 ^ n in
     subst P (id-length bytes registers ids) (number-below (id bytes registers ids).bits)

@@ -2,7 +2,7 @@
 use Rattle.std.proofs.Common.{◌≡◌, ℕ, ◌/◌, ◌%◌, ◌^◌, Bool, true, false, List, [], ◌∷◌, map, refl}
 use Rattle.std.specs.Prelude.{◌==◌}
 use Rattle.jbig2_coder.specs.Table.{rows, row_of}
-use Rattle.jbig2_coder.specs.Coder.{byte_at, byte_in, filled, doubled, renormed, started, likely_next, unlikely_next, choice, decision}
+use Rattle.jbig2_coder.specs.Coder.{byte_at, byte_in, filled, doubled, renormed, initial_registers, likely_next, unlikely_next, choice, decision}
 use Rattle.jbig2_coder.specs.Encoder.{opened, plain, stuffed, byte_out, shifted, renormed as encoder_renormed, narrowed_likely, narrowed_unlikely, narrowed, encoding, set_bits, flushed, is_full, closed}
 use Rattle.jbig2_coder.specs.Lists.{with_context, encode_from, encoded, decoded_from, read_back}
 
@@ -40,5 +40,5 @@ unfolding opened plain stuffed byte_out set_bits flushed is_full closed encode_f
 encoded-annex_h = refl
 
 decoded-annex_h : read_back annex_h_coded (map (λ _. 0) (bits annex_h_bytes)) ≡ bits annex_h_bytes
-unfolding byte_at byte_in filled doubled renormed started likely_next unlikely_next choice decision rows row_of with_context decoded_from read_back annex_h_coded annex_h_bytes bits
+unfolding byte_at byte_in filled doubled renormed initial_registers likely_next unlikely_next choice decision rows row_of with_context decoded_from read_back annex_h_coded annex_h_bytes bits
 decoded-annex_h = refl

@@ -59,8 +59,8 @@ renormed bytes (suc n) a r =
     if nat_lt a 0x8000 then more else record { a = a; code = r }
 
 -- INITDEC (Figure G.1)
-unfoldable pub started : List ℕ → Registers
-started bytes =
+unfoldable pub initial_registers : List ℕ → Registers
+initial_registers bytes =
     let r = byte_in bytes ((0xFF - byte_at bytes 0) * 2 ^ 16) 0 in
     record { a = 0x8000; code = record { c = r.c * 2 ^ 7 % 2 ^ 32; ct = r.ct - 7; place = r.place } }
 

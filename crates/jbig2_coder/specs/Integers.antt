@@ -5,9 +5,9 @@ use Rattle.jbig2_coder.specs.Coder.{Context, Decision, fresh, decision}
 use Rattle.jbig2_coder.specs.declared.arithmetic_decoder.registers.Registers.{Registers}
 
 -- The number that bits spell, the high bit first.
-unfoldable pub number : List Bool → ℕ
-number [] = 0
-number (b ∷ bits) = bit_number b * 2 ^ length bits + number bits
+unfoldable pub value_of_bits : List Bool → ℕ
+value_of_bits [] = 0
+value_of_bits (b ∷ bits) = bit_number b * 2 ^ length bits + value_of_bits bits
 
 -- What has been read so far, and the registers and the contexts after it.
 pub record Reading : Type 0 where
@@ -32,7 +32,7 @@ read_more name (suc n) bytes r = read name bytes (read_more name n bytes r)
 
 -- PREV (A.2): the number that a 1 and the last bits spell, at most eight of them.
 abbrev pub prev_of : List Bool → ℕ
-prev_of bits = number (true ∷ drop (length bits - 8) bits)
+prev_of bits = value_of_bits (true ∷ drop (length bits - 8) bits)
 
 -- The ranges of Table A.1 by the ones in their prefix: how many bits the value has, and the least
 -- number of the range.
@@ -80,13 +80,13 @@ integer bytes registers contexts =
     let before = prefix 5 0 bytes (read prev_of bytes start) in
     let row = range_of before.ones in
     let after = read_more prev_of row.bits bytes before.reading in
-    let sum = (number (drop (length before.reading.bits) after.bits) + row.offset) % 2 ^ 32 in
+    let sum = (value_of_bits (drop (length before.reading.bits) after.bits) + row.offset) % 2 ^ 32 in
     record { value = value_of (next prev_of bytes start).symbol sum; reading = after }
 
 -- A symbol id (A.3): as many bits as the code length says, each in the context that the bits so far
 -- spell behind a 1.
 abbrev pub place_of : List Bool → ℕ
-place_of bits = number (true ∷ bits)
+place_of bits = value_of_bits (true ∷ bits)
 
 pub record Ids : Type 0 where
   pub code_len : ℕ

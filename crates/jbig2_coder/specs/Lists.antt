@@ -1,7 +1,7 @@
 -- Whole lists of decisions, each in a context that its number names: what the encoder makes of them,
 -- and what the decoder reads (T.88, Annexes E and G). Before the first decision every context is fresh.
 use Rattle.std.specs.Prelude.{ℕ, Bool, if◌then◌else◌, ◌==◌, List, [], ◌∷◌, map, slice_index_or, ◌≡◌}
-use Rattle.jbig2_coder.specs.Coder.{Context, fresh, decision, started}
+use Rattle.jbig2_coder.specs.Coder.{Context, fresh, decision, initial_registers}
 use Rattle.jbig2_coder.specs.Encoder.{Coding, opened, encoding, flushed, closed}
 use Rattle.jbig2_coder.specs.declared.arithmetic_decoder.registers.Registers.{Registers}
 
@@ -38,7 +38,7 @@ decoded_from bytes registers contexts (k ∷ asked) =
     next.symbol ∷ decoded_from bytes next.registers (with_context contexts k next.context) asked
 
 unfoldable pub read_back : List ℕ → List ℕ → List Bool
-read_back bytes asked = decoded_from bytes (started bytes) all_fresh asked
+read_back bytes asked = decoded_from bytes (initial_registers bytes) all_fresh asked
 
 -- whatever is encoded, the decoder that is asked in the same contexts reads back
 abbrev pub DecodesBack : Type 0

@@ -154,8 +154,8 @@ valued reading bits =
     ]
 
 -- A value read by a table (B.4).
-unfoldable pub decoded : List Member → List ℕ → CodeReading (Option ℤ)
-decoded ms bits = valued (read_code ms bits) bits
+unfoldable pub decoded_value : List Member → List ℕ → CodeReading (Option ℤ)
+decoded_value ms bits = valued (read_code ms bits) bits
 
 -- a value where none may be out of band
 abbrev pub no_oob : Result (Option ℤ) DecodeError → Result ℤ DecodeError

@@ -3,7 +3,7 @@
 ghost use Rattle.std.specs.Prelude.{◌≡◌, ◌+◌, ◌-◌, ◌*◌, ◌/◌, ◌^◌, ◌<◌, ◌≤◌, not, true, false, max, if◌then◌else◌};
 ghost use Rattle.jbig2_base.specs.Grid.{bit_number};
 ghost use Rattle.jbig2_coder.specs.Table.{row_of};
-ghost use Rattle.jbig2_coder.specs.Coder.{fresh, byte_at, byte_in, renormed, started, choice, likely_next, unlikely_next, decision, all_quiet};
+ghost use Rattle.jbig2_coder.specs.Coder.{fresh, byte_at, byte_in, renormed, initial_registers, choice, likely_next, unlikely_next, decision, all_quiet};
 ghost use Rattle.jbig2_coder.specs.inner.Floor.{floor_of};
 
 use crate::arithmetic_decoder::qe_table::{QeData, row_at};
@@ -169,11 +169,11 @@ impl<'a> Model for ArithmeticDecoder<'a> {
 }
 
 impl<'a> ArithmeticDecoder<'a> {
-    #[tactic(auto, unfolding(crate::specs::Coder::started))]
+    #[tactic(auto, unfolding(crate::specs::Coder::initial_registers))]
     /// A decoder at the start of `bytes` (INITDEC, Figure G.1).
     pub fn new(bytes: &'a [u8]) -> Self
         ensures bytes { result.bytes ≡ bytes.now }
-        ensures registers { result.registers ≡ started bytes.now }
+        ensures registers { result.registers ≡ initial_registers bytes.now }
     {
         let first = u32::from(!byte_at(bytes, 0)) << 16;
         let code = byte_in(bytes, first, 0);

@@ -2,7 +2,7 @@
 ghost use Rattle.std.specs.Prelude.{◌≡◌, ◌≤◌, ◌^◌, drop, IfOk, Ok};
 ghost use Rattle.jbig2_base.specs.Answer.{Gives, Leaves};
 ghost use Rattle.jbig2_base.specs.Bits.{bits_left};
-ghost use Rattle.jbig2_coder.specs.PrefixCode.{table_of, decoded, without_oob, AreShort, IsFree, Reads};
+ghost use Rattle.jbig2_coder.specs.PrefixCode.{table_of, decoded_value, without_oob, AreShort, IsFree, Reads};
 ghost use Rattle.jbig2_coder.specs.Tables.{uniform};
 ghost use Rattle.jbig2_coder.specs.CustomTable.{custom_table};
 
@@ -109,7 +109,7 @@ impl<A: Allocator> HuffmanTable<A> {
     /// Bits that end in the code are an unexpected end; the first bits that begin no code, range
     /// bits that end, and a value outside signed 32 bits are an invalid code.
     pub fn decode(&self, reader: &mut Reader<'_>) -> Result<Option<i32>>
-        ensures { Reads reader.old reader.new result (decoded self.now (bits_left reader.old)) }
+        ensures { Reads reader.old reader.new result (decoded_value self.now (bits_left reader.old)) }
     {
         let line = read_line(&self.lines, &self.levels, reader)?;
         if line.is_out_of_band {
@@ -120,7 +120,7 @@ impl<A: Allocator> HuffmanTable<A> {
 
     /// Reads a value where out of band is an error.
     pub fn decode_no_oob(&self, reader: &mut Reader<'_>) -> Result<i32>
-        ensures { Reads reader.old reader.new result (without_oob (decoded self.now (bits_left reader.old))) }
+        ensures { Reads reader.old reader.new result (without_oob (decoded_value self.now (bits_left reader.old))) }
     {
         let Some(value) = self.decode(reader)? else {
             return Err(DecodeError::Huffman(HuffmanError::UnexpectedOob));

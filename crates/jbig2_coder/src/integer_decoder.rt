@@ -5,7 +5,7 @@ ghost use Rattle.jbig2_base.specs.Answer.{Gives};
 ghost use Rattle.jbig2_base.specs.Counts.{Counts};
 ghost use Rattle.jbig2_base.specs.Grid.{bit_number};
 ghost use Rattle.jbig2_coder.specs.Coder.{fresh};
-ghost use Rattle.jbig2_coder.specs.Integers.{Reading, number, next, read, read_more, prev_of, range_of, prefix, value_of, integer};
+ghost use Rattle.jbig2_coder.specs.Integers.{Reading, value_of_bits, next, read, read_more, prev_of, range_of, prefix, value_of, integer};
 ghost use Rattle.jbig2_coder.specs.inner.Stands.{Stands, prev_next};
 
 use crate::arithmetic_decoder::{ArithmeticDecoder, ArithmeticDecoderContext};
@@ -161,7 +161,7 @@ fn read_bits<L: Ledger>(
     requires size { length contexts.old ≡ 512 }
     requires below { prev.old < 512 }
     ensures bytes { decoder.new.bytes ≡ decoder.old.bytes }
-    ensures value { (start : Counts) (r : Reading) → Stands prev_of start r prev.old decoder.old contexts.old steps.old → result ≡ number (drop (length r.bits) (read_more prev_of count decoder.old.bytes r).bits) }
+    ensures value { (start : Counts) (r : Reading) → Stands prev_of start r prev.old decoder.old contexts.old steps.old → result ≡ value_of_bits (drop (length r.bits) (read_more prev_of count decoder.old.bytes r).bits) }
     ensures reads { (start : Counts) (r : Reading) → Stands prev_of start r prev.old decoder.old contexts.old steps.old → Stands prev_of start (read_more prev_of count decoder.old.bytes r) prev.new decoder.new contexts.new steps.new }
 {
     let mut value = 0;

@@ -3,7 +3,7 @@
 ghost use Rattle.std.specs.Prelude.{◌≡◌, ◌+◌, ◌^◌, ◌<◌, ◌≤◌, length, replicate, Ok};
 ghost use Rattle.jbig2_base.specs.Answer.{Gives};
 ghost use Rattle.jbig2_coder.specs.Coder.{fresh};
-ghost use Rattle.jbig2_coder.specs.Integers.{Ids, number, id};
+ghost use Rattle.jbig2_coder.specs.Integers.{Ids, value_of_bits, id};
 
 use crate::arithmetic_decoder::{ArithmeticDecoder, ArithmeticDecoderContext};
 use jbig2_base::bitmap::steps::Steps;
@@ -49,7 +49,7 @@ impl<A: Allocator> SymbolIdDecoder<A> {
         decoder: &mut ArithmeticDecoder<'_>,
         steps: &mut Steps<L>,
     ) -> u32
-        ensures value { result ≡ number (id decoder.old.bytes decoder.old.registers self.old).bits }
+        ensures value { result ≡ value_of_bits (id decoder.old.bytes decoder.old.registers self.old).bits }
         ensures below { result < 2 ^ self.old.code_len }
         ensures coder { decoder.new ≡ record decoder.old { registers = (id decoder.old.bytes decoder.old.registers self.old).registers } }
         ensures contexts { self.new ≡ record self.old { contexts = (id decoder.old.bytes decoder.old.registers self.old).contexts } }
@@ -68,7 +68,7 @@ fn read_id<L: Ledger>(
 ) -> u32
     requires few { code_len ≤ 30 }
     requires size { length contexts.old ≡ 2 ^ code_len }
-    ensures value { result ≡ number (id decoder.old.bytes decoder.old.registers (record { code_len = code_len; contexts = contexts.old })).bits }
+    ensures value { result ≡ value_of_bits (id decoder.old.bytes decoder.old.registers (record { code_len = code_len; contexts = contexts.old })).bits }
     ensures below { result < 2 ^ code_len }
     ensures coder { decoder.new ≡ record decoder.old { registers = (id decoder.old.bytes decoder.old.registers (record { code_len = code_len; contexts = contexts.old })).registers } }
     ensures contexts { contexts.new ≡ (id decoder.old.bytes decoder.old.registers (record { code_len = code_len; contexts = contexts.old })).contexts }

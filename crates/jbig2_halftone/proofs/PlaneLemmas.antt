@@ -10,14 +10,14 @@ use Rattle.std.proofs.lemmas.List.FromFn.{get_or-map-range_with_len, length-map-
 use Rattle.jbig2_base.specs.Answer.{◌>>=◌}
 use Rattle.jbig2_base.specs.Grid.{Grid, blank}
 use Rattle.jbig2_base.specs.declared.error.DecodeError.{DecodeError}
-use Rattle.jbig2_coder.specs.Coder.{Coder, Context, started}
+use Rattle.jbig2_coder.specs.Coder.{Coder, Context, initial_registers}
 use Rattle.jbig2_coder.specs.declared.arithmetic_decoder.registers.Registers.{Registers}
 use Rattle.jbig2_region.specs.Generic.{coding_of}
 use Rattle.jbig2_region.specs.inner.Holds.{DecodesRegion, Holds}
-use Rattle.jbig2_region.specs.Raster.{Region, so_far, after_pixel, after_pixels, row_begun, after_rows, decoded, no_pixels, fresh_contexts}
+use Rattle.jbig2_region.specs.Raster.{Region, so_far, after_pixel, after_pixels, row_begun, after_rows, decoded_region, no_pixels, fresh_contexts}
 use Rattle.jbig2_region.proofs.RasterLemmas.{after_pixels-predicted}
 use Rattle.jbig2_region.specs.Skipping.{skipping_coding, skip_of}
-use Rattle.jbig2_mmr.specs.T6.{Decoded, Rows, decoded as mmr_rows, grid_of_rows, rows_of}
+use Rattle.jbig2_mmr.specs.T6.{Decoded, Rows, mmr_rows, grid_of_rows, rows_of}
 use Rattle.jbig2_region.specs.Templates.{context_bits, template_pixels}
 use Rattle.jbig2_region.specs.declared.template.AdaptiveTemplatePixel.{AdaptiveTemplatePixel}
 use Rattle.jbig2_region.specs.declared.template.Template.{Template}
@@ -57,8 +57,8 @@ pub unskipped : (p : GrayScale) (adaptive : List AdaptiveTemplatePixel) (old : G
     → DecodesRegion (coding_of false p.template (template_pixels p.template (Regular adaptive))) old coder states grid next after → DecodesRegion (plane_coding p) old coder states grid next after
 unskipped p adaptive old coder states grid next after none nominal holds =
     let pixels : List AdaptiveTemplatePixel = template_pixels p.template (Regular adaptive) in
-    let masked = subst (λ (m : Option Grid). Holds old.width old.height coder.bytes (decoded (skipping_coding pixels m) old.width old.height coder.bytes (no_pixels coder.registers states)) grid next after) (sym none) holds in
-    subst (λ (a : List AdaptiveTemplatePixel). Holds old.width old.height coder.bytes (decoded (skipping_coding (template_pixels p.template (Regular a)) p.skip_mask) old.width old.height coder.bytes (no_pixels coder.registers states)) grid next after) nominal masked
+    let masked = subst (λ (m : Option Grid). Holds old.width old.height coder.bytes (decoded_region (skipping_coding pixels m) old.width old.height coder.bytes (no_pixels coder.registers states)) grid next after) (sym none) holds in
+    subst (λ (a : List AdaptiveTemplatePixel). Holds old.width old.height coder.bytes (decoded_region (skipping_coding (template_pixels p.template (Regular a)) p.skip_mask) old.width old.height coder.bytes (no_pixels coder.registers states)) grid next after) nominal masked
 
 -- what a mask is that isn't there
 pub no-mask : (mask : Option (Bor Grid)) → is_some mask ≡ false → skip_of mask ≡ None
@@ -73,20 +73,20 @@ pub record BehindPlanes (p : GrayScale) (input : List ℕ) (i : ℕ) (planes : L
   pub registers : coder.registers ≡ (after_planes p input i).registers
   pub contexts : states ≡ (after_planes p input i).contexts
 
-pub behind-none : (p : GrayScale) (input : List ℕ) (planes : List Grid) (coder : Coder) (states : List Context) → planes ≡ [] → coder.bytes ≡ input → coder.registers ≡ started input → states ≡ fresh_contexts (context_bits p.template) → BehindPlanes p input 0 planes coder states
+pub behind-none : (p : GrayScale) (input : List ℕ) (planes : List Grid) (coder : Coder) (states : List Context) → planes ≡ [] → coder.bytes ≡ input → coder.registers ≡ initial_registers input → states ≡ fresh_contexts (context_bits p.template) → BehindPlanes p input 0 planes coder states
 unfolding after_planes coded_planes
 behind-none p input planes coder states none bytes registers contexts = record { done = none; bytes = bytes; registers = registers; contexts = contexts }
 
 pub coded-holds : (p : GrayScale) (input : List ℕ) (i : ℕ) (planes : List Grid) (before grid : Grid) (coder next : Coder) (states after : List Context) → before ≡ blank p.width p.height false
-    → Holds before.width before.height coder.bytes (decoded (plane_coding p) before.width before.height coder.bytes (no_pixels coder.registers states)) grid next after
+    → Holds before.width before.height coder.bytes (decoded_region (plane_coding p) before.width before.height coder.bytes (no_pixels coder.registers states)) grid next after
     → BehindPlanes p input i planes coder states
     → Holds p.width p.height input (after_planes p input (i + 1)) grid next after
 unfolding after_planes
 coded-holds p input i planes before grid coder next states after white holds behind =
-    let two = subst (λ (b : List ℕ). Holds before.width before.height b (decoded (plane_coding p) before.width before.height b (no_pixels coder.registers states)) grid next after) behind.bytes holds in
-    let three = subst (λ (g : Grid). Holds g.width g.height input (decoded (plane_coding p) g.width g.height input (no_pixels coder.registers states)) grid next after) white two in
-    let four = subst (λ (r : Registers). Holds p.width p.height input (decoded (plane_coding p) p.width p.height input (no_pixels r states)) grid next after) behind.registers three in
-    let five = subst (λ (s : List Context). Holds p.width p.height input (decoded (plane_coding p) p.width p.height input (no_pixels (after_planes p input i).registers s)) grid next after) behind.contexts four in
+    let two = subst (λ (b : List ℕ). Holds before.width before.height b (decoded_region (plane_coding p) before.width before.height b (no_pixels coder.registers states)) grid next after) behind.bytes holds in
+    let three = subst (λ (g : Grid). Holds g.width g.height input (decoded_region (plane_coding p) g.width g.height input (no_pixels coder.registers states)) grid next after) white two in
+    let four = subst (λ (r : Registers). Holds p.width p.height input (decoded_region (plane_coding p) p.width p.height input (no_pixels r states)) grid next after) behind.registers three in
+    let five = subst (λ (s : List Context). Holds p.width p.height input (decoded_region (plane_coding p) p.width p.height input (no_pixels (after_planes p input i).registers s)) grid next after) behind.contexts four in
     rw add-one five
 
 pub coded-next : (p : GrayScale) (input : List ℕ) (i : ℕ) (old new : List Grid) (grid : Grid) (coder next : Coder) (states after : List Context) → Holds p.width p.height input (after_planes p input (i + 1)) grid next after

@@ -12,15 +12,15 @@ use Rattle.jbig2_region.specs.Generic.{PlacedRegion}
 use Rattle.jbig2_region.specs.RegionInfo.{region_info_at}
 use Rattle.jbig2_mmr.specs.T6Codes.{modes, longer_runs, white_runs, black_runs}
 use Rattle.jbig2_base.specs.Search.{least, code_length}
-use Rattle.jbig2_mmr.specs.T6.{read_code, run_from, is_change, is_change_from, b1_of, b2_of, after_pass, after_runs, after_vertical, next_step, row_from, black_at, ends_block, rows_from, rows_of, decoded}
+use Rattle.jbig2_mmr.specs.T6.{read_code, run_from, is_change, is_change_from, b1_of, b2_of, after_pass, after_runs, after_vertical, next_step, row_from, black_at, ends_block, rows_from, rows_of, mmr_rows}
 use Rattle.jbig2_halftone.specs.GrayScale.{mmr_planes, gray_value, gray_values, gray_scale_image}
 use Rattle.jbig2_halftone.specs.Halftone.{cells_drawn, halftone_answer, halftone_decoded}
 use Rattle.jbig2_halftone.specs.HalftoneHeader.{halftone_flags_at, halftone_grid_at, halftone_header_at}
 use Rattle.jbig2_halftone.specs.PatternHeader.{pattern_header_at}
-use Rattle.jbig2_halftone.specs.Patterns.{Patterns, patterns_of, patterns_at}
+use Rattle.jbig2_halftone.specs.Patterns.{Patterns, patterns_of, patterns_decoded}
 
 dictionary : List ℕ → Result Patterns DecodeError
-dictionary bytes = pattern_header_at true bytes >>= λ h. patterns_at h.0
+dictionary bytes = pattern_header_at true bytes >>= λ h. patterns_decoded h.0
 
 -- one black pattern of 8 by 1
 abbrev black : Grid
@@ -30,11 +30,11 @@ abbrev one_black : Patterns
 one_black = record { grids = black ∷ []; width = 8; height = 1 }
 
 row_13-dictionary : dictionary (1 ∷ 8 ∷ 1 ∷ 0 ∷ 0 ∷ 0 ∷ 0 ∷ 0x26 ∷ 0xA2 ∷ 0x80 ∷ 0x08 ∷ 0x00 ∷ 0x80 ∷ []) ≡ Ok one_black
-unfolding dictionary pattern_header_at patterns_at patterns_of decoded rows_of rows_from ends_block black_at row_from next_step after_vertical after_runs after_pass b2_of b1_of is_change_from is_change least run_from read_code modes white_runs black_runs longer_runs table pixel_at
+unfolding dictionary pattern_header_at patterns_decoded patterns_of mmr_rows rows_of rows_from ends_block black_at row_from next_step after_vertical after_runs after_pass b2_of b1_of is_change_from is_change least run_from read_code modes white_runs black_runs longer_runs table pixel_at
 row_13-dictionary = refl
 
 row_R7_1-wide : dictionary (1 ∷ 8 ∷ 1 ∷ 255 ∷ 255 ∷ 255 ∷ 255 ∷ []) ≡ Err (Overflow BitmapDimension)
-unfolding dictionary pattern_header_at patterns_at
+unfolding dictionary pattern_header_at patterns_decoded
 row_R7_1-wide = refl
 
 row_R7_1-no_width : dictionary (1 ∷ 0 ∷ 1 ∷ 255 ∷ 255 ∷ 255 ∷ 255 ∷ []) ≡ Err (Parse UnexpectedEof)

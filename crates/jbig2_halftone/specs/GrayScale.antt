@@ -6,11 +6,11 @@ use Rattle.jbig2_base.specs.Grid.{Grid, pixel_at}
 use Rattle.jbig2_base.specs.declared.error.DecodeError.{DecodeError}
 use Rattle.jbig2_base.specs.declared.error.DecodeError.TheVariants.{Overflow}
 use Rattle.jbig2_base.specs.declared.error.OverflowError.TheVariants.{BitmapDimension}
-use Rattle.jbig2_coder.specs.Coder.{Context, started}
+use Rattle.jbig2_coder.specs.Coder.{Context, initial_registers}
 use Rattle.jbig2_region.specs.Generic.{number_of}
-use Rattle.jbig2_region.specs.Raster.{Coding, Region, so_far, decoded, no_pixels, fresh_contexts}
+use Rattle.jbig2_region.specs.Raster.{Coding, Region, so_far, decoded_region, no_pixels, fresh_contexts}
 use Rattle.jbig2_region.specs.Skipping.{skipping_coding, skip_of}
-use Rattle.jbig2_mmr.specs.T6.{differ, decoded as mmr_rows}
+use Rattle.jbig2_mmr.specs.T6.{differ, mmr_rows}
 use Rattle.jbig2_region.specs.Templates.{context_bits, left, right, template_pixels}
 use Rattle.jbig2_region.specs.declared.template.AdaptiveTemplatePixel.{AdaptiveTemplatePixel}
 use Rattle.jbig2_region.specs.declared.template.GenericTemplatePixels.TheVariants.{Regular}
@@ -57,10 +57,10 @@ plane_coding p = skipping_coding (template_pixels p.template (Regular (nominal_p
 -- The last of the `count` highest planes. Each begins with the registers and the contexts that the one before it left,
 -- the first with fresh contexts.
 unfoldable pub after_planes : GrayScale → List ℕ → ℕ → Region
-after_planes p bytes zero = no_pixels (started bytes) (fresh_contexts (context_bits p.template))
+after_planes p bytes zero = no_pixels (initial_registers bytes) (fresh_contexts (context_bits p.template))
 after_planes p bytes (suc count) =
     let before = after_planes p bytes count in
-    decoded (plane_coding p) p.width p.height bytes (no_pixels before.registers before.contexts)
+    decoded_region (plane_coding p) p.width p.height bytes (no_pixels before.registers before.contexts)
 
 -- the plane behind the k highest ones
 abbrev pub coded_plane : GrayScale → List ℕ → ℕ → Grid

@@ -8,14 +8,14 @@ use Rattle.jbig2_region.specs.Templates.{template_of}
 use Rattle.jbig2_region.specs.declared.template.Template.{Template}
 use Rattle.jbig2_halftone.specs.declared.pattern.PatternDictionaryHeader.{PatternDictionaryHeader}
 
--- What a dictionary's coded bytes are decoded by. There is one pattern more than num_patterns, which is the largest
--- gray value (7.4.4.1.4).
+-- What a dictionary's coded bytes are decoded by. GRAYMAX is the largest gray value (7.4.4.1.4): there is one pattern
+-- more.
 pub record PatternHeader : Type 0 where
   pub mmr : Bool
   pub template : Template
   pub pattern_width : ℕ
   pub pattern_height : ℕ
-  pub num_patterns : ℕ
+  pub gray_max : ℕ
   pub bytes : List ℕ
   pub strict : Bool
 
@@ -25,7 +25,7 @@ header_view h = record {
   template = h.template;
   pattern_width = h.pattern_width;
   pattern_height = h.pattern_height;
-  num_patterns = h.num_patterns;
+  gray_max = h.num_patterns;
   bytes = h.bytes.now;
   strict = h.strict;
 }
@@ -47,7 +47,7 @@ pattern_header_at strict bytes = do
       template = template_of (flags.0 / 2 % 4);
       pattern_width = width.0;
       pattern_height = height.0;
-      num_patterns = largest.0;
+      gray_max = largest.0;
       bytes = largest.1;
       strict = strict;
     },

@@ -31,7 +31,7 @@ abbrev pub pattern_words : Patterns → ℕ
 pattern_words d = d.height * most_words d.width
 
 abbrev pub number_of_patterns : PatternHeader → ℕ
-number_of_patterns h = h.num_patterns + 1
+number_of_patterns h = h.gray_max + 1
 
 abbrev pub collective_width : PatternHeader → ℕ
 collective_width h = number_of_patterns h * h.pattern_width
@@ -64,8 +64,8 @@ abbrev pub collective_is_too_wide : PatternHeader → Bool
 collective_is_too_wide h = nat_lt 65535 (collective_width h)
 
 -- The dictionary.
-unfoldable pub patterns_at : PatternHeader → Result Patterns DecodeError
-patterns_at h = do
+unfoldable pub patterns_decoded : PatternHeader → Result Patterns DecodeError
+patterns_decoded h = do
   fits ← refuse_if (collective_is_too_wide h) (Overflow BitmapDimension)
   collective ← generic_answer (collective_header h)
   Ok (record { grids = patterns_of collective h.pattern_width h.pattern_height (number_of_patterns h); width = h.pattern_width; height = h.pattern_height })

@@ -4,7 +4,7 @@ ghost use Rattle.jbig2_base.specs.Answer.{Answers, Gives, Leaves};
 ghost use Rattle.jbig2_base.specs.Bits.{IsAligned};
 ghost use Rattle.jbig2_region.specs.Generic.{generic_answer, contexts_after};
 ghost use Rattle.jbig2_halftone.specs.PatternHeader.{header_view, side_at, pattern_header_at};
-ghost use Rattle.jbig2_halftone.specs.Patterns.{dictionary_view, collective_width, collective_pixels, collective_header, pattern_of, patterns_of, patterns_at, dictionary_contexts};
+ghost use Rattle.jbig2_halftone.specs.Patterns.{dictionary_view, collective_width, collective_pixels, collective_header, pattern_of, patterns_of, patterns_decoded, dictionary_contexts};
 
 mod dictionary;
 
@@ -35,7 +35,7 @@ pub struct PatternDictionaryHeader<'a> {
     pub pattern_width: u8,
     /// In pixels.
     pub pattern_height: u8,
-    /// The largest gray value: one less than the number of patterns.
+    /// GRAYMAX, the largest gray value: one less than the number of patterns.
     pub num_patterns: u32,
     /// The coded bytes.
     pub bytes: &'a [u8],
@@ -75,14 +75,14 @@ pub fn parse<'a>(reader: &mut Reader<'a>, strict: bool) -> Result<PatternDiction
     let flags = byte_field(&mut ahead)?;
     let pattern_width = side_field(&mut ahead)?;
     let pattern_height = side_field(&mut ahead)?;
-    let num_patterns = u32_field(&mut ahead)?;
+    let gray_max = u32_field(&mut ahead)?;
     *reader = ahead;
     Ok(PatternDictionaryHeader {
         mmr: flags % 2 == 1,
         template: Template::from_byte(flags / 2),
         pattern_width,
         pattern_height,
-        num_patterns,
+        num_patterns: gray_max,
         bytes: reader.tail(),
         strict,
     })
@@ -185,7 +185,7 @@ fn decode_collective<A: Allocator, B: Allocator, L: Ledger>(
 /// `OverflowError::BitmapDimension` where the patterns side by side have more than 65535 columns; in
 /// strict mode `RegionError::InvalidMmrData` where MMR data has a fault or lacks a row;
 /// `OutOfMemory` where there is no room, which alone leaves open what `contexts` holds.
-#[tactic(auto, unfolding(crate::specs::Patterns::patterns_at))]
+#[tactic(auto, unfolding(crate::specs::Patterns::patterns_decoded))]
 pub fn decode<A: Allocator + Clone, B: Allocator, L: Ledger>(
     alloc: A,
     header: &PatternDictionaryHeader<'_>,
@@ -193,7 +193,7 @@ pub fn decode<A: Allocator + Clone, B: Allocator, L: Ledger>(
     steps: &mut Steps<L>,
 ) -> Result<PatternDictionary<A>>
     requires { 1 ≤ header.now.pattern_width }
-    ensures value { Gives (λ dictionary. dictionary_view dictionary) result (patterns_at (header_view header.now)) }
+    ensures value { Gives (λ dictionary. dictionary_view dictionary) result (patterns_decoded (header_view header.now)) }
     ensures contexts { Leaves result contexts.new.items (dictionary_contexts (header_view header.now) contexts.old.items) }
 {
     let width = u32::from(header.pattern_width);

@@ -177,8 +177,8 @@ pub record Decoded : Type 0 where
   pub used : ℕ
 
 -- A missing row is refused in strict mode, and else white.
-unfoldable pub decoded : Bool → ℕ → ℕ → List ℕ → Result Decoded DecodeError
-decoded strict w h bytes =
+unfoldable pub mmr_rows : Bool → ℕ → ℕ → List ℕ → Result Decoded DecodeError
+mmr_rows strict w h bytes =
     let r = rows_of w h bytes in
     if strict && not r.whole then Err (Region InvalidMmrData)
     else Ok (record { grid = grid_of_rows w h r.rows; used = length bytes - length r.left / 8 })

@@ -5,7 +5,7 @@ use Rattle.std.proofs.lemmas.Bool.{cases_eq, cases_lt, eq-eqb, ne_eqb, lt-ltb, l
 use Rattle.std.proofs.lemmas.Nat.{mod-mul-add}
 use Rattle.jbig2_base.specs.Grid.{Grid, bit_number}
 use Rattle.jbig2_coder.specs.Coder.{Coder, Context}
-use Rattle.jbig2_region.specs.inner.Neighbours.{Decodes, is_nominal_layout, nominal_pixels, optional_pixels, row_coding}
+use Rattle.jbig2_region.specs.inner.Neighbours.{DecodesPixels, is_nominal_layout, nominal_pixels, optional_pixels, row_coding}
 use Rattle.jbig2_region.specs.Raster.{Region, after_pixels}
 use Rattle.jbig2_region.specs.RunBytes.{is_run_of, is_run_byte, run_bytes, CountsRow, CountsRuns}
 use Rattle.jbig2_region.specs.declared.template.neighbours.Adaptives.{Adaptives}
@@ -80,7 +80,7 @@ pub counts-none : (template : List AdaptiveTemplatePixel) (x y : ℕ) (g : Grid)
 unfolding run_bytes
 counts-none template x y g d s count = λ w h input r len predicted holds. omega arith
 
-pub counts-then : (template : List AdaptiveTemplatePixel) (x x' y n m k : ℕ) (g0 g1 : Grid) (d0 d1 : Coder) (s0 s1 : List Context) (a b c : ℕ) → CountsRuns template x y n g0 d0 s0 a b → Decodes template false x y n g0 d0 s0 g1 d1 s1 → CountsRuns template x' y m g1 d1 s1 b c → x' ≡ x + n → k ≡ n + m → CountsRuns template x y k g0 d0 s0 a c
+pub counts-then : (template : List AdaptiveTemplatePixel) (x x' y n m k : ℕ) (g0 g1 : Grid) (d0 d1 : Coder) (s0 s1 : List Context) (a b c : ℕ) → CountsRuns template x y n g0 d0 s0 a b → DecodesPixels template false x y n g0 d0 s0 g1 d1 s1 → CountsRuns template x' y m g1 d1 s1 b c → x' ≡ x + n → k ≡ n + m → CountsRuns template x y k g0 d0 s0 a c
 counts-then template x x' y n m k g0 g1 d0 d1 s0 s1 a b c one decodes two place sum = λ w h input r len predicted holds.
     let made : Region = after_pixels (row_coding template) w h input n r in
     let size : length made.pixels ≡ y * w + x' = after_pixels-length (row_coding template) w h input n r ∙ omega arith in

@@ -8,7 +8,7 @@ use Rattle.std.proofs.lemmas.Nat.{same_from_place, mod-mul-add, div-mul-add}
 use Rattle.jbig2_base.specs.Grid.{Grid, grid_of, blank, pixel_at, bit_number}
 use Rattle.jbig2_base.specs.inner.Writes.{with_pixel}
 use Rattle.jbig2_base.proofs.GridLemmas.{grid_of-ext, pixel_at-grid_of}
-use Rattle.jbig2_region.specs.Raster.{Coding, Region, so_far, with_next, after_pixel, after_pixels, row_begun, after_rows, decoded, no_pixels}
+use Rattle.jbig2_region.specs.Raster.{Coding, Region, so_far, with_next, after_pixel, after_pixels, row_begun, after_rows, decoded_region, no_pixels}
 use Rattle.jbig2_region.specs.inner.Holds.{Holds, BeginsRow}
 use Rattle.jbig2_coder.specs.Coder.{Coder, Context, Decision, fresh, decision}
 
@@ -185,12 +185,12 @@ pub blank-so_far : (w h : ℕ) → blank w h false ≡ so_far w h []
 unfolding so_far
 blank-so_far w h = refl
 
-pub decoded-empty : (coding : Coding) (w h : ℕ) (input : List ℕ) (r : Region) → w ≡ 0 → decoded coding w h input r ≡ r
-unfolding decoded
+pub decoded-empty : (coding : Coding) (w h : ℕ) (input : List ℕ) (r : Region) → w ≡ 0 → decoded_region coding w h input r ≡ r
+unfolding decoded_region
 decoded-empty coding w h input r none = rw none
 
-pub decoded-rows : (coding : Coding) (w h : ℕ) (input : List ℕ) (r : Region) → eqb w 0 ≡ false → decoded coding w h input r ≡ after_rows coding w h input h r
-unfolding decoded
+pub decoded-rows : (coding : Coding) (w h : ℕ) (input : List ℕ) (r : Region) → eqb w 0 ≡ false → decoded_region coding w h input r ≡ after_rows coding w h input h r
+unfolding decoded_region
 decoded-rows coding w h input r some = rw some
 
 pub digit-black : (b : Bool) (n : ℕ) → n ≡ bit_number b → n ≡ 1 → b ≡ true
@@ -250,11 +250,11 @@ pub after_rows-none : (coding : Coding) (w h : ℕ) (input : List ℕ) (r : Regi
 unfolding after_rows
 after_rows-none coding w h input r = refl
 
-pub region-empty : (coding : Coding) (w h : ℕ) (grid : Grid) (coder : Coder) (states : List Context) → w ≡ 0 → grid ≡ blank w h false → Holds w h coder.bytes (decoded coding w h coder.bytes (no_pixels coder.registers states)) grid coder states
+pub region-empty : (coding : Coding) (w h : ℕ) (grid : Grid) (coder : Coder) (states : List Context) → w ≡ 0 → grid ≡ blank w h false → Holds w h coder.bytes (decoded_region coding w h coder.bytes (no_pixels coder.registers states)) grid coder states
 region-empty coding w h grid coder states none white =
     subst (λ (n : Region). Holds w h coder.bytes n grid coder states) (sym (decoded-empty coding w h coder.bytes (no_pixels coder.registers states) none)) (region-start w h grid coder states white)
 
-pub region-whole : (coding : Coding) (w h n : ℕ) (input : List ℕ) (start : Region) (grid : Grid) (coder : Coder) (states : List Context) → (w ≡ 0 → ⊥) → n ≡ h → Holds w h input (after_rows coding w h input n start) grid coder states → Holds w h input (decoded coding w h input start) grid coder states
+pub region-whole : (coding : Coding) (w h n : ℕ) (input : List ℕ) (start : Region) (grid : Grid) (coder : Coder) (states : List Context) → (w ≡ 0 → ⊥) → n ≡ h → Holds w h input (after_rows coding w h input n start) grid coder states → Holds w h input (decoded_region coding w h input start) grid coder states
 region-whole coding w h n input start grid coder states some all holds =
     subst (λ (r : Region). Holds w h input r grid coder states) (ap (λ (k : ℕ). after_rows coding w h input k start) all ∙ sym (decoded-rows coding w h input start (ne_eqb w 0 some))) holds
 

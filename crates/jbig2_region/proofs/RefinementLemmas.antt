@@ -11,8 +11,8 @@ use Rattle.jbig2_region.specs.Refinement.{Reference, reference_pixel, region_pix
 use Rattle.jbig2_region.specs.RefinementHeader.{RefinementHeader}
 use Rattle.jbig2_region.specs.RefinementTemplates.{refinement_bits}
 use Rattle.jbig2_region.specs.inner.Holds.{Holds}
-use Rattle.jbig2_region.specs.Raster.{decoded, no_pixels, fresh_contexts}
-use Rattle.jbig2_coder.specs.Coder.{Coder, Context, started}
+use Rattle.jbig2_region.specs.Raster.{decoded_region, no_pixels, fresh_contexts}
+use Rattle.jbig2_coder.specs.Coder.{Coder, Context, initial_registers}
 use Rattle.jbig2_base.specs.Answer.{◌>>=◌, refuse_if}
 use Rattle.jbig2_base.specs.declared.error.DecodeError.{DecodeError}
 use Rattle.jbig2_region.proofs.ContextLemmas.{number_of-lt}
@@ -141,12 +141,12 @@ common-none r x y n e full none =
     (λ (some : list_all (λ p. not (reference_pixel r x y p)) nine ≡ false). rw (other, some) refl) (cases_Bool (list_all (λ p. not (reference_pixel r x y p)) nine))
 
 -- a region that a coder and contexts that stand at the start refine
-pub refined-decoded : (h : RefinementHeader) (from : PlacedRegion) (r : Reference) (before grid : Grid) (first coder : Coder) (fresh states : List Context) → r ≡ reference_of h from → before ≡ blank h.region_info.width h.region_info.height false → first.bytes ≡ h.bytes → first.registers ≡ started h.bytes → fresh ≡ fresh_contexts (refinement_bits h.template)
-    → Holds before.width before.height first.bytes (decoded (refinement_coding h.template h.tpgron h.adaptive_template_pixels r) before.width before.height first.bytes (no_pixels first.registers fresh)) grid coder states
+pub refined-decoded : (h : RefinementHeader) (from : PlacedRegion) (r : Reference) (before grid : Grid) (first coder : Coder) (fresh states : List Context) → r ≡ reference_of h from → before ≡ blank h.region_info.width h.region_info.height false → first.bytes ≡ h.bytes → first.registers ≡ initial_registers h.bytes → fresh ≡ fresh_contexts (refinement_bits h.template)
+    → Holds before.width before.height first.bytes (decoded_region (refinement_coding h.template h.tpgron h.adaptive_template_pixels r) before.width before.height first.bytes (no_pixels first.registers fresh)) grid coder states
     → Holds h.region_info.width h.region_info.height h.bytes (refined_region h from) grid coder states
 unfolding refined_region
 refined-decoded h from r before grid first coder fresh states place white bytes registers contexts holds =
-    let placed = subst (λ (q : Reference). Holds before.width before.height first.bytes (decoded (refinement_coding h.template h.tpgron h.adaptive_template_pixels q) before.width before.height first.bytes (no_pixels first.registers fresh)) grid coder states) place holds in
+    let placed = subst (λ (q : Reference). Holds before.width before.height first.bytes (decoded_region (refinement_coding h.template h.tpgron h.adaptive_template_pixels q) before.width before.height first.bytes (no_pixels first.registers fresh)) grid coder states) place holds in
     fresh-decoded (refinement_coding h.template h.tpgron h.adaptive_template_pixels (reference_of h from)) h.region_info.width h.region_info.height (refinement_bits h.template) h.bytes before grid first coder fresh states white bytes registers contexts placed
 
 pub refined-answer : (h : RefinementHeader) (from : PlacedRegion) (d : ℤ × ℤ) (grid : Grid) (coder : Coder) (states : List Context) → offset from h.region_info ≡ Ok d → Holds h.region_info.width h.region_info.height h.bytes (refined_region h from) grid coder states → refined_answer h from ≡ Ok grid

@@ -5,7 +5,7 @@ use Rattle.jbig2_base.specs.Grid.{Grid}
 use Rattle.jbig2_coder.specs.Coder.{Coder, Context}
 use Rattle.jbig2_region.specs.Generic.{context_at, colour_above}
 use Rattle.jbig2_region.specs.inner.Holds.{Holds, BeginsRow}
-use Rattle.jbig2_region.specs.inner.Neighbours.{Decodes, row_coding}
+use Rattle.jbig2_region.specs.inner.Neighbours.{DecodesPixels, row_coding}
 use Rattle.jbig2_region.specs.Raster.{Coding, Region, after_pixel, after_pixels, row_begun, row_decisions, after_rows}
 use Rattle.jbig2_region.specs.RunBytes.{CountsRegion, CountsRow, coded_rows, coded_runs, row_loads, row_tests, row_words, run_bytes}
 use Rattle.jbig2_region.specs.declared.template.AdaptiveTemplatePixel.{AdaptiveTemplatePixel}
@@ -90,7 +90,7 @@ loads-next false l0 l1 l2 row w coded a y one two = omega arith
 pub layout-step : (template : List AdaptiveTemplatePixel) (row_context : Option ℕ) (y : ℕ) (p q : Bool) (g1 : Grid) (c1 : Coder) (s1 : List Context) (c2 : Coder) (s2 : List Context) (g3 : Grid) (c3 : Coder) (s3 : List Context) (start : Region) (w h : ℕ) (input : List ℕ)
     → c1.bytes ≡ input → c2.bytes ≡ c1.bytes → length start.pixels ≡ 0
     → ((w h : ℕ) (g : Grid) (r : Region) → r.predicted ≡ p → Holds w h c1.bytes r g c1 s1 → BeginsRow w h row_context r q g c1 c2 s2)
-    → Decodes template q 0 y w g1 c2 s2 g3 c3 s3
+    → DecodesPixels template q 0 y w g1 c2 s2 g3 c3 s3
     → Holds w h input (after_rows (coding_with template row_context) w h input y start) g1 c1 s1 → (after_rows (coding_with template row_context) w h input y start).predicted ≡ p
     → Holds w h input (after_rows (coding_with template row_context) w h input (y + 1) start) g3 c3 s3 × ((after_rows (coding_with template row_context) w h input (y + 1) start).predicted ≡ q)
 layout-step template row_context y p q g1 c1 s1 c2 s2 g3 c3 s3 start w h input same after none begin decodes holds predicted =

@@ -3,10 +3,10 @@ use Rattle.std.specs.Prelude.{ℕ, ◌+◌, ◌*◌, Bool, if◌then◌else◌, 
 use Rattle.jbig2_base.specs.Answer.{◌>>=◌}
 use Rattle.jbig2_base.specs.Grid.{Grid, pixel, bit_number}
 use Rattle.jbig2_base.specs.declared.error.DecodeError.{DecodeError}
-use Rattle.jbig2_coder.specs.Coder.{Context, started}
+use Rattle.jbig2_coder.specs.Coder.{Context, initial_registers}
 use Rattle.jbig2_region.specs.GenericHeader.{GenericHeader}
-use Rattle.jbig2_region.specs.Raster.{Coding, Region, so_far, decoded, no_pixels, fresh_contexts}
-use Rattle.jbig2_mmr.specs.T6.{decoded as mmr_rows}
+use Rattle.jbig2_region.specs.Raster.{Coding, Region, so_far, decoded_region, no_pixels, fresh_contexts}
+use Rattle.jbig2_mmr.specs.T6.{mmr_rows}
 pub use Rattle.jbig2_region.specs.RegionInfo.{PlacedRegion, region_view}
 use Rattle.jbig2_region.specs.RegionInfo.{placed}
 use Rattle.jbig2_region.specs.Templates.{context_bits, row_context, template_pixels}
@@ -40,7 +40,7 @@ generic_coding h = coding_of h.tpgdon h.template (template_pixels h.template h.a
 -- the region and what the coder has come to, from fresh contexts
 unfoldable pub generic_region : GenericHeader → Region
 generic_region h =
-    decoded (generic_coding h) h.region_info.width h.region_info.height h.bytes (no_pixels (started h.bytes) (fresh_contexts (context_bits h.template)))
+    decoded_region (generic_coding h) h.region_info.width h.region_info.height h.bytes (no_pixels (initial_registers h.bytes) (fresh_contexts (context_bits h.template)))
 
 unfoldable pub generic_grid : GenericHeader → Grid
 generic_grid h = so_far h.region_info.width h.region_info.height (generic_region h).pixels

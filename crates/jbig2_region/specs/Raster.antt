@@ -67,8 +67,8 @@ abbrev pub no_pixels : Registers → List Context → Region
 no_pixels registers contexts = record { pixels = []; predicted = false; registers = registers; contexts = contexts }
 
 -- the whole region; one without columns takes no decision (our own rule)
-unfoldable pub decoded : Coding → ℕ → ℕ → List ℕ → Region → Region
-decoded coding w h bytes r = if w == 0 then r else after_rows coding w h bytes h r
+unfoldable pub decoded_region : Coding → ℕ → ℕ → List ℕ → Region → Region
+decoded_region coding w h bytes r = if w == 0 then r else after_rows coding w h bytes h r
 
 -- so many contexts of which nothing is known
 abbrev pub fresh_contexts : ℕ → List Context

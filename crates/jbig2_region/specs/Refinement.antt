@@ -7,9 +7,9 @@ use Rattle.jbig2_base.specs.declared.error.DecodeError.{DecodeError}
 use Rattle.jbig2_base.specs.declared.error.DecodeError.TheVariants as errors
 use Rattle.jbig2_base.specs.declared.error.OverflowError.TheVariants.{ReferenceOffset}
 use Rattle.jbig2_base.specs.declared.error.RegionError.TheVariants.{InvalidDimension}
-use Rattle.jbig2_coder.specs.Coder.{Context, started}
+use Rattle.jbig2_coder.specs.Coder.{Context, initial_registers}
 use Rattle.jbig2_region.specs.Generic.{number_of}
-use Rattle.jbig2_region.specs.Raster.{Coding, Region, so_far, decoded, no_pixels, fresh_contexts}
+use Rattle.jbig2_region.specs.Raster.{Coding, Region, so_far, decoded_region, no_pixels, fresh_contexts}
 use Rattle.jbig2_region.specs.RefinementHeader.{RefinementHeader}
 pub use Rattle.jbig2_region.specs.RefinementTemplates.{refinement_bits}
 use Rattle.jbig2_region.specs.RefinementTemplates.{apart, reference_pixels, refinement_row_context, region_pixels}
@@ -79,7 +79,7 @@ reference_of h from = record {
 -- the region and what the coder has come to, from fresh contexts
 unfoldable pub refined_region : RefinementHeader → PlacedRegion → Region
 refined_region h from =
-    decoded (refinement_coding h.template h.tpgron h.adaptive_template_pixels (reference_of h from)) h.region_info.width h.region_info.height h.bytes (no_pixels (started h.bytes) (fresh_contexts (refinement_bits h.template)))
+    decoded_region (refinement_coding h.template h.tpgron h.adaptive_template_pixels (reference_of h from)) h.region_info.width h.region_info.height h.bytes (no_pixels (initial_registers h.bytes) (fresh_contexts (refinement_bits h.template)))
 
 unfoldable pub refined_grid : RefinementHeader → PlacedRegion → Grid
 refined_grid h from = so_far h.region_info.width h.region_info.height (refined_region h from).pixels

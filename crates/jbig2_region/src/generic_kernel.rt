@@ -5,8 +5,8 @@ ghost use Rattle.jbig2_base.specs.Grid.{blank, pixel};
 ghost use Rattle.jbig2_base.specs.inner.WordBits.{bit};
 ghost use Rattle.jbig2_coder.specs.Coder.{Coder, Context};
 ghost use Rattle.jbig2_region.specs.inner.Holds.{DecodesRegion};
-ghost use Rattle.jbig2_region.specs.inner.Neighbours.{Decodes, IsLayout, is_nominal_layout, layout_coding, layout_count, layout_loads, layout_pixels};
-ghost use Rattle.jbig2_region.specs.Raster.{decoded, no_pixels};
+ghost use Rattle.jbig2_region.specs.inner.Neighbours.{DecodesPixels, IsLayout, is_nominal_layout, layout_coding, layout_count, layout_loads, layout_pixels};
+ghost use Rattle.jbig2_region.specs.Raster.{decoded_region, no_pixels};
 ghost use Rattle.jbig2_region.specs.RunBytes.{CountsRegion, CountsRow, row_loads, row_tests, row_words};
 ghost use Rattle.jbig2_region.specs.declared.template.AdaptiveTemplatePixel.{AdaptiveTemplatePixel};
 
@@ -51,7 +51,7 @@ fn pixels_above<A: Allocator, L: Ledger>(
 /// Makes row `y` the same as the row above it.
 fn copy_row<A: Allocator, L: Ledger>(bitmap: &mut Bitmap<A>, y: u32, steps: &mut Steps<L>)
     requires row { y < bitmap.old.height }
-    ensures holds { (template : List AdaptiveTemplatePixel) (coder : Coder) (states : List Context) → Decodes template true 0 y bitmap.old.width bitmap.old coder states bitmap.new coder states }
+    ensures holds { (template : List AdaptiveTemplatePixel) (coder : Coder) (states : List Context) → DecodesPixels template true 0 y bitmap.old.width bitmap.old coder states bitmap.new coder states }
     ensures width { bitmap.new.width ≡ bitmap.old.width }
     ensures height { bitmap.new.height ≡ bitmap.old.height }
     ensures loads { steps.new.loads ≡ steps.old.loads + (bitmap.old.width + 63) / 64 }
@@ -85,7 +85,7 @@ fn decode_row<A: Allocator, L: Ledger>(
     requires row { y < bitmap.old.height }
     requires columns { bitmap.old.width ≤ 65535 }
     requires rows { bitmap.old.height ≤ 65535 }
-    ensures holds { Decodes (layout_pixels layout.now) predicted 0 y bitmap.old.width bitmap.old decoder.old contexts.old bitmap.new decoder.new contexts.new }
+    ensures holds { DecodesPixels (layout_pixels layout.now) predicted 0 y bitmap.old.width bitmap.old decoder.old contexts.old bitmap.new decoder.new contexts.new }
     ensures width { bitmap.new.width ≡ bitmap.old.width }
     ensures height { bitmap.new.height ≡ bitmap.old.height }
     ensures bytes { decoder.new.bytes ≡ decoder.old.bytes }

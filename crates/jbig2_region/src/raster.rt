@@ -3,7 +3,7 @@
 ghost use Rattle.std.specs.Prelude.{◌≡◌, ℕ, ◌+◌, ◌*◌, ◌^◌, ◌<◌, ◌≤◌, [], length, IfSome, false, Ok};
 ghost use Rattle.jbig2_base.specs.Answer.{Gives};
 ghost use Rattle.jbig2_base.specs.Grid.{Grid, pixel, bit_number};
-ghost use Rattle.jbig2_region.specs.Raster.{Coding, Region, after_pixel, after_pixels, row_decisions, decoded, fresh_contexts};
+ghost use Rattle.jbig2_region.specs.Raster.{Coding, Region, after_pixel, after_pixels, row_decisions, decoded_region, fresh_contexts};
 ghost use Rattle.jbig2_region.specs.inner.Holds.{Holds, BeginsRow, DecodesRegion, GoesOn, IsReady};
 
 use jbig2_base::bitmap::Bitmap;

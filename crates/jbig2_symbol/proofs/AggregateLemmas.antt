@@ -12,7 +12,7 @@ use Rattle.jbig2_symbol.specs.Aggregates.{by_instances, id_bits, plain_id, prefi
 use Rattle.jbig2_region.proofs.GenericLemmas.{ok-inner}
 use Rattle.jbig2_symbol.specs.Exports.{exports}
 use Rattle.jbig2_symbol.specs.SymbolReading.{BitmapContexts, SymbolInput, SymbolState, first_state}
-use Rattle.jbig2_symbol.specs.Symbols.{new_symbols, symbols_at}
+use Rattle.jbig2_symbol.specs.Symbols.{new_symbols, dictionary_from}
 
 -- a refusal by prefix codes, where the reader, the tables and the contexts are those of the dictionary
 pub prefixed-fault : (d : SymbolInput) (p : TextParams) (width height bits : ℕ) (s t : SymbolState) (place : Place) (tables : TextTables) (f : Refining) (error : DecodeError) → s ≡ t → place ≡ s.place → tables ≡ aggregate_tables → f ≡ s.refining → bits ≡ max 1 (id_bits d.header (length d.symbols)) → (error ≡ OutOfMemory) ⊎ (by_instances by_prefix_codes (plain_id bits) p width height f (record { place = place; tables = tables; ids = d.ids }) ≡ Err error) → (error ≡ OutOfMemory) ⊎ (prefixed_aggregate d p width height t ≡ Err error)
@@ -23,7 +23,7 @@ prefixed-fault d p width height bits s t place tables f error same there meant l
     fault = rw (sym there, sym meant, sym learned, sym many) e
 
 -- a refusal of what is exported, where the new symbols are there
-pub not-exported : (d : SymbolInput) (bits meant : ℕ) (contexts : BitmapContexts) (s t : SymbolState) (new seen : List Grid) (error : DecodeError) → bits ≡ meant → ◌≡◌ {A = Result SymbolState DecodeError} (Ok (first_state d.header bits contexts)) (Ok s) → new_symbols d s ≡ Ok (new, t) → seen ≡ new → (error ≡ OutOfMemory) ⊎ (exports d (d.symbols ++ seen) t ≡ Err error) → (error ≡ OutOfMemory) ⊎ (symbols_at d (first_state d.header meant contexts) ≡ Err error)
+pub not-exported : (d : SymbolInput) (bits meant : ℕ) (contexts : BitmapContexts) (s t : SymbolState) (new seen : List Grid) (error : DecodeError) → bits ≡ meant → ◌≡◌ {A = Result SymbolState DecodeError} (Ok (first_state d.header bits contexts)) (Ok s) → new_symbols d s ≡ Ok (new, t) → seen ≡ new → (error ≡ OutOfMemory) ⊎ (exports d (d.symbols ++ seen) t ≡ Err error) → (error ≡ OutOfMemory) ⊎ (dictionary_from d (first_state d.header meant contexts) ≡ Err error)
 not-exported d bits meant contexts s t new seen error many begun made all (inl memory) = inl memory
 not-exported d bits meant contexts s t new seen error many begun made all (inr e) = inr (rw (sym many, ok-inner _ _ begun, made) (rw fault refl))
   where

@@ -6,7 +6,7 @@ use Rattle.jbig2_base.specs.declared.error.DecodeError.{DecodeError}
 use Rattle.jbig2_coder.specs.Coder.{Coder, Context}
 use Rattle.jbig2_coder.specs.declared.arithmetic_decoder.registers.Registers.{Registers}
 use Rattle.jbig2_region.specs.inner.Holds.{Holds}
-use Rattle.jbig2_region.specs.Raster.{Region, so_far, decoded, no_pixels}
+use Rattle.jbig2_region.specs.Raster.{Region, so_far, decoded_region, no_pixels}
 use Rattle.jbig2_symbol.specs.SymbolBitmaps.{after_region, coded_region, coded_symbol, symbol_coding}
 use Rattle.jbig2_symbol.specs.SymbolHeader.{SymbolHeader}
 use Rattle.jbig2_symbol.specs.SymbolReading.{SymbolState}
@@ -25,15 +25,15 @@ holds-made s width height r grid next after holds = rw (holds.pixels, holds.cont
     coder : made s.coded.coder.bytes r.registers ≡ next
     coder = ap (λ (bytes : List ℕ). made bytes r.registers) (sym holds.bytes) ∙ ap (λ (registers : Registers). made next.bytes registers) (sym holds.registers)
 
-state-made : (h : SymbolHeader) (s : SymbolState) (width height : ℕ) (white grid : Grid) (next : Coder) (after : List Context) → blank_or_overflow width height false ≡ Ok white → Holds white.width white.height s.coded.coder.bytes (decoded (symbol_coding h s.template) white.width white.height s.coded.coder.bytes (no_pixels s.coded.coder.registers s.generic)) grid next after → coded_symbol h width height s ≡ Ok (grid, behind_symbol s next after)
+state-made : (h : SymbolHeader) (s : SymbolState) (width height : ℕ) (white grid : Grid) (next : Coder) (after : List Context) → blank_or_overflow width height false ≡ Ok white → Holds white.width white.height s.coded.coder.bytes (decoded_region (symbol_coding h s.template) white.width white.height s.coded.coder.bytes (no_pixels s.coded.coder.registers s.generic)) grid next after → coded_symbol h width height s ≡ Ok (grid, behind_symbol s next after)
 unfolding coded_symbol coded_region
 state-made h s width height white grid next after made holds =
     let fits = symbol-made width height false white made in
-    let sized = subst (λ (g : Grid). Holds g.width g.height s.coded.coder.bytes (decoded (symbol_coding h s.template) g.width g.height s.coded.coder.bytes (no_pixels s.coded.coder.registers s.generic)) grid next after) fits.1 holds in
-    rw fits.0 (holds-made s width height (decoded (symbol_coding h s.template) width height s.coded.coder.bytes (no_pixels s.coded.coder.registers s.generic)) grid next after sized)
+    let sized = subst (λ (g : Grid). Holds g.width g.height s.coded.coder.bytes (decoded_region (symbol_coding h s.template) g.width g.height s.coded.coder.bytes (no_pixels s.coded.coder.registers s.generic)) grid next after) fits.1 holds in
+    rw fits.0 (holds-made s width height (decoded_region (symbol_coding h s.template) width height s.coded.coder.bytes (no_pixels s.coded.coder.registers s.generic)) grid next after sized)
 
-pub coded-made : (h : SymbolHeader) (t s : SymbolState) (width height : ℕ) (white grid : Grid) (states : List Context) (next : Coder) (after left : List Context) → left ≡ after → t ≡ s → states ≡ t.generic → blank_or_overflow width height false ≡ Ok white → Holds white.width white.height t.coded.coder.bytes (decoded (symbol_coding h t.template) white.width white.height t.coded.coder.bytes (no_pixels t.coded.coder.registers states)) grid next after → coded_symbol h width height s ≡ Ok (grid, behind_symbol t next left)
+pub coded-made : (h : SymbolHeader) (t s : SymbolState) (width height : ℕ) (white grid : Grid) (states : List Context) (next : Coder) (after left : List Context) → left ≡ after → t ≡ s → states ≡ t.generic → blank_or_overflow width height false ≡ Ok white → Holds white.width white.height t.coded.coder.bytes (decoded_region (symbol_coding h t.template) white.width white.height t.coded.coder.bytes (no_pixels t.coded.coder.registers states)) grid next after → coded_symbol h width height s ≡ Ok (grid, behind_symbol t next left)
 coded-made h t s width height white grid states next after left kept same learned made holds =
     ap (λ (u : SymbolState). coded_symbol h width height u) (sym same)
-    ∙ state-made h t width height white grid next after made (subst (λ (known : List Context). Holds white.width white.height t.coded.coder.bytes (decoded (symbol_coding h t.template) white.width white.height t.coded.coder.bytes (no_pixels t.coded.coder.registers known)) grid next after) learned holds)
+    ∙ state-made h t width height white grid next after made (subst (λ (known : List Context). Holds white.width white.height t.coded.coder.bytes (decoded_region (symbol_coding h t.template) white.width white.height t.coded.coder.bytes (no_pixels t.coded.coder.registers known)) grid next after) learned holds)
     ∙ ap (λ (c : List Context). Ok (grid, behind_symbol t next c)) (sym kept)

@@ -4,22 +4,22 @@ use Rattle.jbig2_base.specs.Answer.{◌>>=◌}
 use Rattle.jbig2_base.specs.Search.{least}
 use Rattle.jbig2_base.specs.Grid.{table, pixel_at}
 use Rattle.jbig2_base.specs.declared.error.DecodeError.{DecodeError}
-use Rattle.jbig2_coder.specs.Coder.{byte_at, byte_in, filled, doubled, renormed, started, likely_next, unlikely_next, choice, decision}
+use Rattle.jbig2_coder.specs.Coder.{byte_at, byte_in, filled, doubled, renormed, initial_registers, likely_next, unlikely_next, choice, decision}
 use Rattle.jbig2_coder.specs.Encoder.{opened, plain, stuffed, byte_out, shifted, renormed as encoder_renormed, narrowed_likely, narrowed_unlikely, narrowed, encoding, set_bits, flushed, is_full, closed}
-use Rattle.jbig2_coder.specs.Integers.{integer, number, next, read, read_more, ranges, range_of, prefix, signed, value_of}
+use Rattle.jbig2_coder.specs.Integers.{integer, value_of_bits, next, read, read_more, ranges, range_of, prefix, signed, value_of}
 use Rattle.jbig2_coder.specs.Lists.{with_context, encode_from, encoded}
 use Rattle.jbig2_coder.specs.PrefixCode.{is_crowded, weight}
 use Rattle.jbig2_coder.specs.Table.{rows, row_of}
 use Rattle.jbig2_region.specs.Generic.{context_at}
 use Rattle.jbig2_region.specs.GenericHeader.{adaptive_pixel_at, regular_pixels_at}
-use Rattle.jbig2_region.specs.Raster.{so_far, with_next, after_pixel, after_pixels, row_begun, after_rows, decoded}
+use Rattle.jbig2_region.specs.Raster.{so_far, with_next, after_pixel, after_pixels, row_begun, after_rows, decoded_region}
 use Rattle.jbig2_symbol.specs.Exports.{ended_runs, exported_from, next_run, runs_from, exports}
 use Rattle.jbig2_symbol.specs.SymbolBitmaps.{coded_region, coded_symbol}
 use Rattle.jbig2_symbol.specs.SymbolHeader.{symbol_flags_of, symbol_header_at}
 use Rattle.jbig2_text.specs.TextCoding.{coded_start}
 use Rattle.jbig2_coder.specs.Procedures.{asked}
 use Rattle.jbig2_symbol.specs.SymbolReading.{table_for, symbol_tables, first_contexts, number_by}
-use Rattle.jbig2_symbol.specs.Symbols.{Symbols, next_width, widths_from, collective_class, symbols_from, symbol_bitmap, drawn_class, height_class, classes_from, dictionary_at}
+use Rattle.jbig2_symbol.specs.Symbols.{Symbols, next_width, widths_from, collective_class, symbols_from, symbol_bitmap, drawn_class, height_class, classes_from, symbols_decoded}
 
 -- four decisions of an integer in its first four contexts, which for each integer begin elsewhere
 abbrev four : ℕ → List (ℕ × Bool)
@@ -45,8 +45,8 @@ unfolding opened plain stuffed byte_out set_bits flushed is_full closed encode_f
 row_R8_6-bytes = refl
 
 dictionary : List ℕ → Result Symbols DecodeError
-dictionary bytes = symbol_header_at true bytes >>= λ h. dictionary_at h.0 [] [] None
+dictionary bytes = symbol_header_at true bytes >>= λ h. symbols_decoded h.0 [] [] None
 
 row_R8_6 : dictionary (8 ∷ 0 ∷ 2 ∷ 0xFF ∷ 0 ∷ 0 ∷ 0 ∷ 1 ∷ 0 ∷ 0 ∷ 0 ∷ 1 ∷ coded) ≡ Ok (record { exported = record { width = 1; height = 1; pixels = true ∷ [] } ∷ []; kept = None })
-unfolding dictionary symbol_header_at symbol_flags_of regular_pixels_at adaptive_pixel_at dictionary_at first_contexts symbol_tables least is_crowded weight coded_start asked table_for classes_from height_class number_by collective_class widths_from drawn_class symbols_from symbol_bitmap next_width coded_symbol coded_region exports runs_from next_run exported_from ended_runs integer number next read read_more ranges range_of prefix signed value_of byte_at byte_in filled doubled renormed started likely_next unlikely_next choice decision rows row_of context_at so_far with_next after_pixel after_pixels row_begun after_rows decoded table pixel_at
+unfolding dictionary symbol_header_at symbol_flags_of regular_pixels_at adaptive_pixel_at symbols_decoded first_contexts symbol_tables least is_crowded weight coded_start asked table_for classes_from height_class number_by collective_class widths_from drawn_class symbols_from symbol_bitmap next_width coded_symbol coded_region exports runs_from next_run exported_from ended_runs integer value_of_bits next read read_more ranges range_of prefix signed value_of byte_at byte_in filled doubled renormed initial_registers likely_next unlikely_next choice decision rows row_of context_at so_far with_next after_pixel after_pixels row_begun after_rows decoded_region table pixel_at
 row_R8_6 = refl

@@ -10,7 +10,7 @@ use Rattle.jbig2_base.specs.declared.error.HuffmanError.TheVariants.{InvalidSele
 use Rattle.jbig2_base.specs.declared.error.OverflowError.TheVariants.{SymbolCount}
 use Rattle.jbig2_base.specs.declared.error.SymbolError.TheVariants.{Invalid, NoSymbols}
 use Rattle.jbig2_base.specs.Search.{least}
-use Rattle.jbig2_coder.specs.PrefixCode.{is_crowded, weight, prefix_code, shorter, decoded, read_code}
+use Rattle.jbig2_coder.specs.PrefixCode.{is_crowded, weight, prefix_code, shorter, decoded_value, read_code}
 use Rattle.jbig2_coder.specs.Tables.{lines_a, lines_b, lines_d}
 use Rattle.jbig2_symbol.specs.Exports.{ended_runs, exported_from, next_run, runs_from, exports}
 use Rattle.jbig2_symbol.specs.SymbolBitmaps.{raw_rows, collective_bitmap, symbols_cut, symbol_cut}
@@ -18,11 +18,11 @@ use Rattle.jbig2_symbol.specs.SymbolHeader.{symbol_flags_of, symbol_header_at}
 use Rattle.jbig2_text.specs.TextCoding.{coded_start}
 use Rattle.jbig2_coder.specs.Procedures.{asked}
 use Rattle.jbig2_symbol.specs.SymbolReading.{table_for, symbol_tables, first_contexts, number_by}
-use Rattle.jbig2_symbol.specs.Symbols.{Symbols, next_width, widths_from, collective_class, symbols_from, symbol_bitmap, drawn_class, height_class, classes_from, dictionary_at}
+use Rattle.jbig2_symbol.specs.Symbols.{Symbols, next_width, widths_from, collective_class, symbols_from, symbol_bitmap, drawn_class, height_class, classes_from, symbols_decoded}
 
 -- a dictionary that refers to nothing
 dictionary : List ℕ → Result Symbols DecodeError
-dictionary bytes = symbol_header_at true bytes >>= λ h. dictionary_at h.0 [] [] None
+dictionary bytes = symbol_header_at true bytes >>= λ h. symbols_decoded h.0 [] [] None
 
 abbrev dot : Grid
 dot = record { width = 1; height = 1; pixels = true ∷ [] }
@@ -35,15 +35,15 @@ abbrev one_symbol : ℕ → List ℕ
 one_symbol row = 0 ∷ 1 ∷ 0 ∷ 0 ∷ 0 ∷ 1 ∷ 0 ∷ 0 ∷ 0 ∷ 1 ∷ 0x5F ∷ 0x80 ∷ row ∷ 0 ∷ 0x40 ∷ []
 
 row_S : dictionary (one_symbol 0x80) ≡ Ok (record { exported = dot ∷ []; kept = None })
-unfolding dictionary symbol_header_at symbol_flags_of dictionary_at first_contexts symbol_tables is_crowded weight coded_start asked table_for classes_from height_class number_by collective_class widths_from drawn_class symbols_from symbol_bitmap next_width collective_bitmap raw_rows bit symbols_cut symbol_cut exports runs_from next_run exported_from ended_runs decoded read_code least prefix_code shorter lines_a lines_b lines_d bits_left bits_on table pixel_at
+unfolding dictionary symbol_header_at symbol_flags_of symbols_decoded first_contexts symbol_tables is_crowded weight coded_start asked table_for classes_from height_class number_by collective_class widths_from drawn_class symbols_from symbol_bitmap next_width collective_bitmap raw_rows bit symbols_cut symbol_cut exports runs_from next_run exported_from ended_runs decoded_value read_code least prefix_code shorter lines_a lines_b lines_d bits_left bits_on table pixel_at
 row_S = refl
 
 row_R8_2-white : dictionary (one_symbol 0x00) ≡ Ok (record { exported = white ∷ []; kept = None })
-unfolding dictionary symbol_header_at symbol_flags_of dictionary_at first_contexts symbol_tables is_crowded weight coded_start asked table_for classes_from height_class number_by collective_class widths_from drawn_class symbols_from symbol_bitmap next_width collective_bitmap raw_rows bit symbols_cut symbol_cut exports runs_from next_run exported_from ended_runs decoded read_code least prefix_code shorter lines_a lines_b lines_d bits_left bits_on table pixel_at
+unfolding dictionary symbol_header_at symbol_flags_of symbols_decoded first_contexts symbol_tables is_crowded weight coded_start asked table_for classes_from height_class number_by collective_class widths_from drawn_class symbols_from symbol_bitmap next_width collective_bitmap raw_rows bit symbols_cut symbol_cut exports runs_from next_run exported_from ended_runs decoded_value read_code least prefix_code shorter lines_a lines_b lines_d bits_left bits_on table pixel_at
 row_R8_2-white = refl
 
 row_R8_1-contexts : dictionary (1 ∷ 1 ∷ 0 ∷ 0 ∷ 0 ∷ 1 ∷ 0 ∷ 0 ∷ 0 ∷ 1 ∷ 0x5F ∷ 0x80 ∷ 0x80 ∷ 0 ∷ 0x40 ∷ []) ≡ Err (errors.Symbol Invalid)
-unfolding dictionary symbol_header_at symbol_flags_of dictionary_at first_contexts
+unfolding dictionary symbol_header_at symbol_flags_of symbols_decoded first_contexts
 row_R8_1-contexts = refl
 
 row_R8_1-selection : dictionary (0 ∷ 9 ∷ 0 ∷ 0 ∷ 0 ∷ 1 ∷ 0 ∷ 0 ∷ 0 ∷ 1 ∷ 0x5F ∷ 0x80 ∷ 0x80 ∷ 0 ∷ 0x40 ∷ []) ≡ Err (errors.Huffman InvalidSelection)
@@ -51,11 +51,11 @@ unfolding dictionary symbol_header_at symbol_flags_of
 row_R8_1-selection = refl
 
 row_R8_1-tables : dictionary (0 ∷ 0x0D ∷ 0 ∷ 0 ∷ 0 ∷ 1 ∷ 0 ∷ 0 ∷ 0 ∷ 1 ∷ 0x5F ∷ 0x80 ∷ 0x80 ∷ 0 ∷ 0x40 ∷ []) ≡ Err (errors.Huffman MissingTables)
-unfolding dictionary symbol_header_at symbol_flags_of dictionary_at first_contexts symbol_tables
+unfolding dictionary symbol_header_at symbol_flags_of symbols_decoded first_contexts symbol_tables
 row_R8_1-tables = refl
 
 row_R8_1-exported : dictionary (0 ∷ 1 ∷ 0 ∷ 0 ∷ 0 ∷ 2 ∷ 0 ∷ 0 ∷ 0 ∷ 1 ∷ 0x5F ∷ 0x80 ∷ 0x80 ∷ 0 ∷ 0x40 ∷ []) ≡ Err (errors.Symbol NoSymbols)
-unfolding dictionary symbol_header_at symbol_flags_of dictionary_at first_contexts symbol_tables is_crowded weight coded_start asked table_for classes_from height_class number_by collective_class widths_from drawn_class symbols_from symbol_bitmap next_width collective_bitmap raw_rows bit symbols_cut symbol_cut exports runs_from next_run exported_from ended_runs decoded read_code least prefix_code shorter lines_a lines_b lines_d bits_left bits_on table pixel_at
+unfolding dictionary symbol_header_at symbol_flags_of symbols_decoded first_contexts symbol_tables is_crowded weight coded_start asked table_for classes_from height_class number_by collective_class widths_from drawn_class symbols_from symbol_bitmap next_width collective_bitmap raw_rows bit symbols_cut symbol_cut exports runs_from next_run exported_from ended_runs decoded_value read_code least prefix_code shorter lines_a lines_b lines_d bits_left bits_on table pixel_at
 row_R8_1-exported = refl
 
 row_R8_1-new : dictionary (0 ∷ 1 ∷ 0 ∷ 0 ∷ 0 ∷ 1 ∷ 0 ∷ 0x10 ∷ 0 ∷ 1 ∷ 0x5F ∷ 0x80 ∷ 0x80 ∷ 0 ∷ 0x40 ∷ []) ≡ Err (errors.Overflow SymbolCount)

@@ -14,13 +14,13 @@ use Rattle.jbig2_coder.specs.PrefixCode.{Member, table_of}
 use Rattle.jbig2_coder.specs.Tables.{uniform}
 use Rattle.jbig2_text.specs.Refining.{Refining}
 use Rattle.jbig2_text.specs.Text.{Readings, TextParams, some_symbol, symbol_of, text_region}
-use Rattle.jbig2_text.specs.TextCoding.{Prefixed, by_coder, by_prefix_codes, next_id, prefixed_bits}
+use Rattle.jbig2_text.specs.TextCoding.{Prefixed, by_coder, by_prefix_codes, in_band, next_id, prefixed_bits}
 use Rattle.jbig2_text.specs.TextRegion.{aggregate_tables}
 use Rattle.jbig2_text.specs.declared.text.header.ReferenceCorner.TheVariants.{TopLeft}
 use Rattle.jbig2_text.specs.declared.text.header.TextRegionFlags.{TextRegionFlags}
 use Rattle.jbig2_symbol.specs.SymbolBitmaps.{fits_symbol}
 use Rattle.jbig2_symbol.specs.SymbolHeader.{SymbolHeader}
-use Rattle.jbig2_symbol.specs.SymbolReading.{SymbolInput, SymbolState, in_band, instance_number}
+use Rattle.jbig2_symbol.specs.SymbolReading.{SymbolInput, SymbolState, instance_number}
 use Rattle.jbig2_symbol.specs.declared.symbol.header.SymbolDictionaryFlags.{SymbolDictionaryFlags}
 
 -- ---- ids

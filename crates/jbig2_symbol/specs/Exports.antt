@@ -6,7 +6,8 @@ use Rattle.jbig2_base.specs.declared.error.DecodeError.{DecodeError}
 use Rattle.jbig2_base.specs.declared.error.DecodeError.TheVariants.{Huffman, Symbol}
 use Rattle.jbig2_base.specs.declared.error.HuffmanError.TheVariants.{InvalidCode, UnexpectedOob}
 use Rattle.jbig2_base.specs.declared.error.SymbolError.TheVariants.{Invalid, NoSymbols, OutOfRange}
-use Rattle.jbig2_symbol.specs.SymbolReading.{SymbolInput, SymbolState, export_run, in_band, not_negative}
+use Rattle.jbig2_text.specs.TextCoding.{in_band}
+use Rattle.jbig2_symbol.specs.SymbolReading.{SymbolInput, SymbolState, export_run, not_negative}
 
 -- the most runs of length 0, and the most height classes without a symbol (our own rule)
 abbrev pub most_empty : ℕ

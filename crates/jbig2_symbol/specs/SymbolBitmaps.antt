@@ -11,13 +11,14 @@ use Rattle.jbig2_base.specs.declared.error.DecodeError.TheVariants.{Huffman, Ove
 use Rattle.jbig2_base.specs.declared.error.HuffmanError.TheVariants.{UnexpectedOob}
 use Rattle.jbig2_base.specs.declared.error.OverflowError.TheVariants.{BitmapDimension}
 use Rattle.jbig2_region.specs.Generic.{coding_of}
-use Rattle.jbig2_region.specs.Raster.{Coding, Region, so_far, decoded, no_pixels}
-use Rattle.jbig2_mmr.specs.T6.{decoded as mmr_rows}
+use Rattle.jbig2_region.specs.Raster.{Coding, Region, so_far, decoded_region, no_pixels}
+use Rattle.jbig2_mmr.specs.T6.{mmr_rows}
 use Rattle.jbig2_region.specs.Templates.{template_pixels}
 use Rattle.jbig2_region.specs.declared.template.GenericTemplatePixels.TheVariants.{Regular}
 use Rattle.jbig2_region.specs.declared.template.Template.{Template}
+use Rattle.jbig2_text.specs.TextCoding.{in_band}
 use Rattle.jbig2_symbol.specs.SymbolHeader.{SymbolHeader}
-use Rattle.jbig2_symbol.specs.SymbolReading.{SymbolInput, SymbolState, by_table, in_band, not_negative}
+use Rattle.jbig2_symbol.specs.SymbolReading.{SymbolInput, SymbolState, by_table, not_negative}
 
 -- neither side of a symbol may pass 65535 (our own rule)
 abbrev pub fits_symbol : ℕ → ℕ → Result (Unit {0}) DecodeError
@@ -30,7 +31,7 @@ symbol_coding h template = coding_of false template (template_pixels template (R
 
 -- it goes on with the dictionary's coder and contexts
 unfoldable pub coded_region : SymbolHeader → ℕ → ℕ → SymbolState → Region
-coded_region h width height s = decoded (symbol_coding h s.template) width height s.coded.coder.bytes (no_pixels s.coded.coder.registers s.generic)
+coded_region h width height s = decoded_region (symbol_coding h s.template) width height s.coded.coder.bytes (no_pixels s.coded.coder.registers s.generic)
 
 abbrev pub after_region : Region → SymbolState → SymbolState
 after_region r s = record s {

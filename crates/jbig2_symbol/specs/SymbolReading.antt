@@ -8,7 +8,7 @@ use Rattle.jbig2_base.specs.declared.error.DecodeError.TheVariants as errors
 use Rattle.jbig2_base.specs.declared.error.HuffmanError.TheVariants.{MissingTables}
 use Rattle.jbig2_base.specs.declared.error.SymbolError.TheVariants.{Invalid}
 use Rattle.jbig2_coder.specs.Coder.{Context}
-use Rattle.jbig2_coder.specs.PrefixCode.{Member, decoded, prefix_code}
+use Rattle.jbig2_coder.specs.PrefixCode.{Member, decoded_value, prefix_code}
 use Rattle.jbig2_coder.specs.Tables.{lines_a, lines_b, lines_c, lines_d, lines_e}
 use Rattle.jbig2_coder.specs.declared.integer_procedures.IntegerProcedure.{IntegerProcedure}
 use Rattle.jbig2_coder.specs.declared.integer_procedures.IntegerProcedure.TheVariants.{Iaai, Iadh, Iadw, Iaex}
@@ -162,7 +162,7 @@ learned s = record {
 -- a value by a table of prefix codes, or out of band
 abbrev pub by_table : List Member → SymbolState → Result (Option ℤ × SymbolState) DecodeError
 by_table table s =
-    let reading = decoded table (bits_left s.place) in
+    let reading = decoded_value table (bits_left s.place) in
     reading.answer >>= λ value. Ok (value, record s { place = bits_on reading.taken s.place })
 
 -- a value by an integer procedure
@@ -189,11 +189,7 @@ instance_number d s = number_by d d.tables.counts Iaai s
 abbrev pub export_run : SymbolInput → SymbolState → Result (Option ℤ × SymbolState) DecodeError
 export_run d s = number_by d d.tables.runs Iaex s
 
--- a value that may not be out of band, nor below 0
-abbrev pub in_band : DecodeError → Option ℤ → Result ℤ DecodeError
-in_band e None = Err e
-in_band e (Some n) = Ok n
-
+-- a value that may not be below 0
 abbrev pub not_negative : DecodeError → ℤ → Result ℕ DecodeError
 not_negative e (pos n) = Ok n
 not_negative e (negsuc n) = Err e

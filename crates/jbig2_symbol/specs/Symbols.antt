@@ -8,11 +8,12 @@ use Rattle.jbig2_base.specs.declared.error.DecodeError.TheVariants as errors
 use Rattle.jbig2_base.specs.declared.error.OverflowError.TheVariants.{BitmapDimension}
 use Rattle.jbig2_base.specs.declared.error.SymbolError.TheVariants.{Invalid, TooManySymbols, UnexpectedOob}
 use Rattle.jbig2_coder.specs.PrefixCode.{Member}
+use Rattle.jbig2_text.specs.TextCoding.{in_band}
 use Rattle.jbig2_symbol.specs.Aggregates.{aggregate_symbol, id_codes, state_bits}
 use Rattle.jbig2_symbol.specs.Exports.{exports, most_empty}
 use Rattle.jbig2_symbol.specs.SymbolBitmaps.{coded_symbol, collective_bitmap, symbols_cut}
 use Rattle.jbig2_symbol.specs.SymbolHeader.{SymbolHeader}
-use Rattle.jbig2_symbol.specs.SymbolReading.{BitmapContexts, SymbolInput, SymbolState, first_contexts, first_state, height_difference, in_band, learned, symbol_tables, width_difference}
+use Rattle.jbig2_symbol.specs.SymbolReading.{BitmapContexts, SymbolInput, SymbolState, first_contexts, first_state, height_difference, learned, symbol_tables, width_difference}
 use Rattle.jbig2_symbol.specs.declared.symbol.header.SymbolDictionaryFlags.{SymbolDictionaryFlags}
 
 -- a size, refused outside 32 bits (our own rule)
@@ -139,17 +140,17 @@ pub record Symbols : Type 0 where
   pub exported : List Grid
   pub kept : Option BitmapContexts
 
-abbrev pub symbols_at : SymbolInput → SymbolState → Result Symbols DecodeError
-symbols_at d s = do
+abbrev pub dictionary_from : SymbolInput → SymbolState → Result Symbols DecodeError
+dictionary_from d s = do
   new ← new_symbols d s
   exported ← exports d (d.symbols ++ new.0) new.1
   Ok (record { exported = exported.0; kept = (if d.header.flags.bitmap_context_retained then Some (learned exported.1) else None) })
 
 -- The dictionary, by its header, the symbols and the tables that it refers to, and the contexts that the last dictionary
 -- that it refers to has kept.
-unfoldable pub dictionary_at : SymbolHeader → List Grid → List (List Member) → Option BitmapContexts → Result Symbols DecodeError
-dictionary_at h symbols referred kept = do
+unfoldable pub symbols_decoded : SymbolHeader → List Grid → List (List Member) → Option BitmapContexts → Result Symbols DecodeError
+symbols_decoded h symbols referred kept = do
   contexts ← first_contexts h.flags kept
   tables ← symbol_tables h.flags referred
   ids ← id_codes h (length symbols)
-  symbols_at (record { header = h; symbols = symbols; tables = tables; ids = ids }) (first_state h (state_bits h (length symbols)) contexts)
+  dictionary_from (record { header = h; symbols = symbols; tables = tables; ids = ids }) (first_state h (state_bits h (length symbols)) contexts)

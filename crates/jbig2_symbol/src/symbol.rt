@@ -5,7 +5,7 @@ ghost use Rattle.jbig2_symbol.specs.Aggregates.{state_bits};
 ghost use Rattle.jbig2_symbol.specs.SymbolHeader.{header_view};
 ghost use Rattle.jbig2_symbol.specs.SymbolReading.{contexts_view, first_state};
 ghost use Rattle.jbig2_symbol.specs.inner.SymbolViews.{dictionary_view, input_view, kept_view, referred_view};
-ghost use Rattle.jbig2_symbol.specs.Symbols.{dictionary_at, symbols_at};
+ghost use Rattle.jbig2_symbol.specs.Symbols.{symbols_decoded, dictionary_from};
 
 pub mod aggregates;
 pub mod bitmaps;
@@ -47,7 +47,7 @@ fn decode_with<A: Allocator + Clone, T: Allocator, L: Ledger>(
     ensures { let d = input_view input.now in
         let h = header_view input.now.header.now in
         let bits = state_bits h (length input.now.symbols.now) in
-        let meant = symbols_at d (first_state h bits (contexts_view contexts)) in
+        let meant = dictionary_from d (first_state h bits (contexts_view contexts)) in
         Gives (λ d. dictionary_view d) result meant }
 {
     let bits = state_bits(input.header, input.symbols.len());
@@ -71,7 +71,7 @@ fn decode_with<A: Allocator + Clone, T: Allocator, L: Ledger>(
 ///
 /// The errors of `first_contexts`, then those of `symbol_tables`, `read_new_symbols` and
 /// `read_exports`; `OutOfMemory`.
-#[tactic(auto, unfolding(crate::specs::Symbols::dictionary_at))]
+#[tactic(auto, unfolding(crate::specs::Symbols::symbols_decoded))]
 pub fn decode<A: Allocator + Clone, T: Allocator, K: Allocator, L: Ledger>(
     alloc: A,
     header: &SymbolDictionaryHeader<'_>,
@@ -86,7 +86,7 @@ pub fn decode<A: Allocator + Clone, T: Allocator, K: Allocator, L: Ledger>(
     ensures { let h = header_view header.now in
         let grids = map (λ b. b.now) symbols.now in
         let referred = referred_view referred_tables.now in
-        let meant = dictionary_at h grids referred (kept_view retained_contexts.entry) in
+        let meant = symbols_decoded h grids referred (kept_view retained_contexts.entry) in
         Gives (λ d. dictionary_view d) result meant }
 {
     let contexts = first_contexts(alloc.clone()?, &header.flags, retained_contexts)?;

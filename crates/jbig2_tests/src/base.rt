@@ -11,7 +11,7 @@ use jbig2_base::field::{
     bits_field, byte_field, bytes_field, i8_field, i32_field, u16_field, u32_field,
 };
 use jbig2_base::file::parse_segments_sequential;
-use jbig2_base::page_info::{Sheet, parse_page_information};
+use jbig2_base::page_info::{InitialPage, parse_page_information};
 use jbig2_base::reader::Reader;
 use jbig2_base::search::code_length;
 use jbig2_base::segment::{SegmentType, parse_segment, parse_segment_data, parse_segment_header};
@@ -135,17 +135,22 @@ fn header_and_data_are_read_apart(rt: HostRuntime) {
 }
 
 /// What a page begins as.
-fn sheet<A: Allocator + Clone>(alloc: A, bytes: &[u8]) -> Result<(u32, u32, u32, bool)> {
+fn initial_page<A: Allocator + Clone>(alloc: A, bytes: &[u8]) -> Result<(u32, u32, u32, bool)> {
     let segments = parse_segments_sequential(alloc, bytes, true)?;
-    let sheet = Sheet::of_segments(&segments)?;
-    Ok((sheet.number, sheet.width, sheet.height, sheet.default_pixel))
+    let initial_page = InitialPage::of_segments(&segments)?;
+    Ok((
+        initial_page.number,
+        initial_page.width,
+        initial_page.height,
+        initial_page.default_pixel,
+    ))
 }
 
 #[test]
 fn page_information_is_read(rt: HostRuntime) {
-    let mut read = sheet(rt.alloc(), &PAGE);
+    let mut read = initial_page(rt.alloc(), &PAGE);
     if read == Err(DecodeError::OutOfMemory) {
-        read = sheet(rt.alloc(), &PAGE);
+        read = initial_page(rt.alloc(), &PAGE);
     }
     assert!(rt; read == Ok((7, 8, 1, true)));
     let Ok(information) = parse_page_information(&mut Reader::new(&PAGE[11..])) else {

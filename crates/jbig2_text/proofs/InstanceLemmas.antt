@@ -8,7 +8,7 @@ use Rattle.jbig2_base.specs.declared.bitmap.operator.CombinationOperator.{Combin
 use Rattle.jbig2_base.specs.declared.error.DecodeError.{DecodeError}
 use Rattle.jbig2_base.specs.declared.error.DecodeError.TheVariants.{OutOfMemory}
 use Rattle.jbig2_text.specs.Refining.{Refining}
-use Rattle.jbig2_text.specs.Text.{Instance, Readings, Reached, TextParams, reached, strip_begun, some_strips, with_last, with_next, after_instances, drawn}
+use Rattle.jbig2_text.specs.Text.{Instance, Readings, Reached, TextParams, reached, strip_begun, some_strips, with_last, with_next, after_instances, instances_drawn}
 use Rattle.jbig2_text.specs.inner.TextViews.{instances_view, reached_view, symbol_view}
 use Rattle.jbig2_text.specs.declared.text.cursor.Cursor.{Cursor}
 use Rattle.jbig2_text.specs.declared.text.instances.PlacedInstances.{PlacedInstances}
@@ -42,8 +42,8 @@ begun-is {B} {M} {S} r p t f s next c placed begun none is =
     ∙ ap (λ (l : List Instance). after_instances r p (p.count - 1) (reached l c f next) >>= λ x. with_last r p x) (sym none)
     ∙ ap (λ (d : Cursor). after_instances r p (p.count - 1) (reached (instances_view placed.instances.items) d f next) >>= λ x. with_last r p x) (sym is)
 
-pub draw-next : {B M : Type 0} (operator : CombinationOperator) (all : List (PlacedSymbol B M)) (k : ℕ) (i : PlacedSymbol B M) (region next whole : Grid) → k < length all → i ≡ get_or all k i → drawn operator (instances_view (drop k all)) region ≡ whole → next ≡ combined operator region (symbol_view i.symbol) i.x i.y → drawn operator (instances_view (drop (k + 1) all)) next ≡ whole
+pub draw-next : {B M : Type 0} (operator : CombinationOperator) (all : List (PlacedSymbol B M)) (k : ℕ) (i : PlacedSymbol B M) (region next whole : Grid) → k < length all → i ≡ get_or all k i → instances_drawn operator (instances_view (drop k all)) region ≡ whole → next ≡ combined operator region (symbol_view i.symbol) i.x i.y → instances_drawn operator (instances_view (drop (k + 1) all)) next ≡ whole
 draw-next {B} {M} operator all k i region next whole inside is goes done =
     let split : drop k all ≡ i ∷ drop (suc k) all = drop-cons all k i inside ∙ ap (λ (j : PlacedSymbol B M). j ∷ drop (suc k) all) (sym is) in
     let e : k + 1 ≡ suc k = omega arith in
-    rw (done, e) (sym (ap (λ (l : List (PlacedSymbol B M)). drawn operator (instances_view l) region) split) ∙ goes)
+    rw (done, e) (sym (ap (λ (l : List (PlacedSymbol B M)). instances_drawn operator (instances_view l) region) split) ∙ goes)

@@ -4,11 +4,11 @@ use Rattle.jbig2_base.specs.Grid.{Grid}
 use Rattle.jbig2_coder.specs.Coder.{Coder, Context}
 use Rattle.jbig2_coder.specs.declared.arithmetic_decoder.registers.Registers.{Registers}
 use Rattle.jbig2_region.specs.inner.Holds.{Holds}
-use Rattle.jbig2_region.specs.Raster.{decoded, no_pixels}
+use Rattle.jbig2_region.specs.Raster.{decoded_region, no_pixels}
 use Rattle.jbig2_region.specs.Refinement.{Reference, refinement_coding}
 use Rattle.jbig2_text.specs.Refining.{Refining, refined_by}
 
-pub refined-holds : (f : Refining) (from : Reference) (w h : ℕ) (bytes : List ℕ) (registers : Registers) (grid : Grid) (coder : Coder) (states : List Context) → Holds w h bytes (decoded (refinement_coding f.template false f.pixels from) w h bytes (no_pixels registers f.contexts)) grid coder states → Holds w h bytes (refined_by f from w h bytes registers) grid coder states
+pub refined-holds : (f : Refining) (from : Reference) (w h : ℕ) (bytes : List ℕ) (registers : Registers) (grid : Grid) (coder : Coder) (states : List Context) → Holds w h bytes (decoded_region (refinement_coding f.template false f.pixels from) w h bytes (no_pixels registers f.contexts)) grid coder states → Holds w h bytes (refined_by f from w h bytes registers) grid coder states
 unfolding refined_by
 refined-holds f from w h bytes registers grid coder states holds = holds
 

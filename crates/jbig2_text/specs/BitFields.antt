@@ -5,15 +5,15 @@ use Rattle.jbig2_base.specs.Bits.{Place, bits_left, bits_on}
 use Rattle.jbig2_base.specs.declared.error.DecodeError.{DecodeError}
 use Rattle.jbig2_base.specs.declared.error.DecodeError.TheVariants.{Huffman}
 use Rattle.jbig2_base.specs.declared.error.HuffmanError.TheVariants.{InvalidCode}
-use Rattle.jbig2_coder.specs.PrefixCode.{Member, decoded, no_oob}
+use Rattle.jbig2_coder.specs.PrefixCode.{Member, decoded_value, no_oob}
 
 abbrev pub invalid_code : DecodeError
 invalid_code = Huffman InvalidCode
 
 -- the place behind a value that is read by a table
 abbrev pub behind_value : List Member → Place → Place
-behind_value table p = bits_on (decoded table (bits_left p)).taken p
+behind_value table p = bits_on (decoded_value table (bits_left p)).taken p
 
 -- a number by a table of prefix codes, which may not be out of band
 abbrev pub value_at : List Member → Place → Result (ℤ × Place) DecodeError
-value_at table p = no_oob (decoded table (bits_left p)).answer >>= λ n. Ok (n, behind_value table p)
+value_at table p = no_oob (decoded_value table (bits_left p)).answer >>= λ n. Ok (n, behind_value table p)

@@ -4,7 +4,7 @@ use Rattle.std.specs.Prelude.{ℕ, false, List}
 use Rattle.jbig2_base.specs.Grid.{Grid}
 use Rattle.jbig2_coder.specs.Coder.{Coder, Context}
 use Rattle.jbig2_coder.specs.declared.arithmetic_decoder.registers.Registers.{Registers}
-use Rattle.jbig2_region.specs.Raster.{Region, no_pixels, fresh_contexts, so_far, decoded}
+use Rattle.jbig2_region.specs.Raster.{Region, no_pixels, fresh_contexts, so_far, decoded_region}
 use Rattle.jbig2_region.specs.Refinement.{Reference, refinement_bits, refinement_coding}
 use Rattle.jbig2_region.specs.declared.template.AdaptiveTemplatePixel.{AdaptiveTemplatePixel}
 use Rattle.jbig2_region.specs.declared.template.RefinementTemplate.{RefinementTemplate}
@@ -25,7 +25,7 @@ fresh_refining template pixels = refining_by template pixels (fresh_contexts (re
 unfoldable pub refined_by : Refining → Reference → ℕ → ℕ → List ℕ → Registers → Region
 refined_by f from width height bytes registers =
     let coding = refinement_coding f.template false f.pixels from in
-    decoded coding width height bytes (no_pixels registers f.contexts)
+    decoded_region coding width height bytes (no_pixels registers f.contexts)
 
 -- The symbol, and the coder and the contexts behind it.
 pub record Refined : Type 0 where

@@ -282,12 +282,12 @@ text_instances r p f s = do
   strips r p stript f dt.1
 
 -- The instances drawn onto a region, the first one first.
-abbrev pub drawn : CombinationOperator → List Instance → Grid → Grid
-drawn operator [] region = region
-drawn operator (i ∷ others) region = drawn operator others (combined operator region i.grid i.x i.y)
+abbrev pub instances_drawn : CombinationOperator → List Instance → Grid → Grid
+instances_drawn operator [] region = region
+instances_drawn operator (i ∷ others) region = instances_drawn operator others (combined operator region i.grid i.x i.y)
 
 -- A region (6.4.5) from its default colour on, and the refining contexts and the state of the coder behind it.
 unfoldable pub text_region : {S : Type 0} → Readings S → TextParams → Grid → Refining → S → Result (Grid × Refining × S) DecodeError
 text_region r p region f s = do
   found ← text_instances r p f s
-  Ok (drawn p.flags.combination_operator found.0 region, found.1, found.2)
+  Ok (instances_drawn p.flags.combination_operator found.0 region, found.1, found.2)

@@ -8,9 +8,9 @@ use Rattle.jbig2_base.specs.Grid.{Grid}
 use Rattle.jbig2_base.specs.declared.error.DecodeError.{DecodeError}
 use Rattle.jbig2_base.specs.declared.error.DecodeError.TheVariants.{Symbol}
 use Rattle.jbig2_base.specs.declared.error.SymbolError.TheVariants.{UnexpectedOob}
-use Rattle.jbig2_coder.specs.Coder.{Coder, fresh, started}
-use Rattle.jbig2_coder.specs.Integers.{Ids, id, number}
-use Rattle.jbig2_coder.specs.PrefixCode.{Member, decoded}
+use Rattle.jbig2_coder.specs.Coder.{Coder, fresh, initial_registers}
+use Rattle.jbig2_coder.specs.Integers.{Ids, id, value_of_bits}
+use Rattle.jbig2_coder.specs.PrefixCode.{Member, decoded_value}
 use Rattle.jbig2_coder.specs.Procedures.{Procedures, asked, fresh_procedures}
 use Rattle.jbig2_coder.specs.declared.integer_procedures.IntegerProcedure.{IntegerProcedure}
 use Rattle.jbig2_coder.specs.declared.integer_procedures.IntegerProcedure.TheVariants.{Iads, Iadt, Iafs, Iait, Iardh, Iardw, Iardx, Iardy, Iari}
@@ -27,7 +27,7 @@ pub record Coded : Type 0 where
   pub ids : Ids
 
 abbrev pub coder_at_start : List ℕ → Coder
-coder_at_start bytes = record { bytes = bytes; registers = started bytes }
+coder_at_start bytes = record { bytes = bytes; registers = initial_registers bytes }
 
 -- at the start of the bytes, with ids of so many bits
 unfoldable pub coded_start : List ℕ → ℕ → Coded
@@ -48,15 +48,15 @@ abbrev pub next_id : Coded → ℤ × Coded
 next_id s =
     let r = id s.coder.bytes s.coder.registers s.ids in
     let behind : Coder = record s.coder { registers = r.registers } in
-    (pos (number r.bits), record s { coder = behind; ids = record s.ids { contexts = r.contexts } })
+    (pos (value_of_bits r.bits), record s { coder = behind; ids = record s.ids { contexts = r.contexts } })
 
--- a number that may not be out of band
-abbrev pub in_band : Option ℤ → Result ℤ DecodeError
-in_band (Some n) = Ok n
-in_band None = Err (Symbol UnexpectedOob)
+-- a number that may not be out of band, else this error
+abbrev pub in_band : DecodeError → Option ℤ → Result ℤ DecodeError
+in_band e None = Err e
+in_band e (Some n) = Ok n
 
 abbrev pub coded_number : IntegerProcedure → Coded → Result (ℤ × Coded) DecodeError
-coded_number procedure s = let i = next_integer procedure s in in_band i.0 >>= λ n. Ok (n, i.1)
+coded_number procedure s = let i = next_integer procedure s in in_band (Symbol UnexpectedOob) i.0 >>= λ n. Ok (n, i.1)
 
 -- the low eight bits of a flag count (our own rule)
 abbrev pub is_flag : ℤ → Bool
@@ -126,7 +126,7 @@ abbrev pub by_prefix_codes : Readings Prefixed
 by_prefix_codes = record {
   delta_t = λ s. prefixed_value s.tables.delta_t s;
   first_s = λ s. prefixed_value s.tables.first_s s;
-  delta_s = λ s. (decoded s.tables.delta_s (bits_left s.place)).answer;
+  delta_s = λ s. (decoded_value s.tables.delta_s (bits_left s.place)).answer;
   behind_delta_s = λ s. record s { place = behind_value s.tables.delta_s s.place };
   t_bits = λ log s. prefixed_bits invalid_code log s >>= λ n. Ok (pos n.0, n.1);
   id = λ s. prefixed_value s.ids s;

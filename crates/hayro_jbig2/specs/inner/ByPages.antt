@@ -3,18 +3,18 @@ use Rattle.std.specs.Prelude.{◌≡◌, ℕ, suc, ◌==◌, List, [], ◌∷◌
 use Rattle.std.specs.BTreeMap.{get}
 use Rattle.std.specs.Ordering.{nat_cmp}
 use Rattle.std.specs.declared.vec.Vec.{Vec}
-use Rattle.jbig2_base.specs.Segment.{Part}
-use Rattle.jbig2_base.specs.inner.SegmentViews.{parts}
+use Rattle.jbig2_base.specs.Segment.{SegmentView}
+use Rattle.jbig2_base.specs.inner.SegmentViews.{segment_views}
 use Rattle.jbig2_base.specs.declared.segment.Segment.{Segment}
 use Rattle.hayro_jbig2.specs.Files.{of_page, numbers_after, by_pages}
 use Rattle.hayro_jbig2.specs.declared.segments_by_page.SegmentsByPage.{SegmentsByPage}
 
-abbrev pub pages_view : {A : Type 0} → List (Vec (Segment A) A) → List (List Part)
-pages_view pages = map (λ own. parts own.items) pages
+abbrev pub pages_view : {A : Type 0} → List (Vec (Segment A) A) → List (List SegmentView)
+pages_view pages = map (λ own. segment_views own.items) pages
 
 -- those of no page, and each page's own
-abbrev pub by_page_view : {A : Type 0} → SegmentsByPage A → List Part × List (List Part)
-by_page_view s = (parts s.shared.items, pages_view s.pages.items)
+abbrev pub by_page_view : {A : Type 0} → SegmentsByPage A → List SegmentView × List (List SegmentView)
+by_page_view s = (segment_views s.shared.items, pages_view s.pages.items)
 
 -- where a number first stands among others
 abbrev pub place_of : ℕ → List ℕ → Option ℕ
@@ -22,7 +22,7 @@ place_of n [] = None
 place_of n (m ∷ ms) = if m == n then Some 0 else option_map suc (place_of n ms)
 
 -- The segments ps by their pages, each of which is found by its number.
-pub record Holds {A : Type 0} (s : SegmentsByPage A) (ps : List Part) : Type 0 where
-  pub shared : parts s.shared.items ≡ of_page 0 ps
+pub record HoldsByPage {A : Type 0} (s : SegmentsByPage A) (ps : List SegmentView) : Type 0 where
+  pub shared : segment_views s.shared.items ≡ of_page 0 ps
   pub pages : pages_view s.pages.items ≡ by_pages ps
   pub found : (n : ℕ) → get nat_cmp s.places n ≡ place_of n (numbers_after [] ps)

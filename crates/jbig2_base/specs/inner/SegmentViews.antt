@@ -1,6 +1,6 @@
 -- Segments of the code, seen as segments of the definitions.
 use Rattle.std.specs.Prelude.{List, map}
-use Rattle.jbig2_base.specs.Segment.{Header, Part}
+use Rattle.jbig2_base.specs.Segment.{Header, SegmentView}
 use Rattle.jbig2_base.specs.declared.file.File.{File}
 use Rattle.jbig2_base.specs.declared.file_header.FileHeader.{FileHeader}
 use Rattle.jbig2_base.specs.declared.segment.SegmentHeader.{SegmentHeader}
@@ -16,14 +16,14 @@ header_view h = record {
   data_length = h.data_length;
 }
 
-abbrev pub part_view : {A : Type 0} → Segment A → Part
-part_view s = record { header = header_view s.header; bytes = s.bytes.now }
+abbrev pub segment_view : {A : Type 0} → Segment A → SegmentView
+segment_view s = record { header = header_view s.header; bytes = s.bytes.now }
 
-abbrev pub parts : {A : Type 0} → List (Segment A) → List Part
-parts segments = map (λ s. part_view s) segments
+abbrev pub segment_views : {A : Type 0} → List (Segment A) → List SegmentView
+segment_views segments = map (λ s. segment_view s) segments
 
 abbrev pub header_views : {A : Type 0} → List (SegmentHeader A) → List Header
 header_views headers = map (λ h. header_view h) headers
 
-abbrev pub file_view : {A : Type 0} → File A → FileHeader × List Part
-file_view f = (f.header, parts f.segments.items)
+abbrev pub file_view : {A : Type 0} → File A → FileHeader × List SegmentView
+file_view f = (f.header, segment_views f.segments.items)

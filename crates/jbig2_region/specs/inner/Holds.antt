@@ -2,7 +2,7 @@
 use Rattle.std.specs.Prelude.{◌≡◌, ◌≤◌, ◌^◌, ℕ, Bool, false, List, Option, length}
 use Rattle.jbig2_base.specs.Grid.{Grid, blank}
 use Rattle.jbig2_coder.specs.Coder.{Coder, Context}
-use Rattle.jbig2_region.specs.Raster.{Coding, Region, so_far, row_begun, decoded, no_pixels}
+use Rattle.jbig2_region.specs.Raster.{Coding, Region, so_far, row_begun, decoded_region, no_pixels}
 
 -- A white bitmap of no longer sides than a region may have, and so many contexts as a number of these bits tells apart.
 pub record IsReady (bits : ℕ) (grid : Grid) (states : List Context) : Type 0 where
@@ -28,4 +28,4 @@ GoesOn n predicted next g d s g' d' s' = (r : Region) → length r.pixels ≡ n 
 
 -- A whole region is decoded, from where the coder and the contexts stand.
 abbrev pub DecodesRegion : Coding → Grid → Coder → List Context → Grid → Coder → List Context → Type 0
-DecodesRegion coding g d s g' d' s' = Holds g.width g.height d.bytes (decoded coding g.width g.height d.bytes (no_pixels d.registers s)) g' d' s'
+DecodesRegion coding g d s g' d' s' = Holds g.width g.height d.bytes (decoded_region coding g.width g.height d.bytes (no_pixels d.registers s)) g' d' s'

@@ -1,7 +1,7 @@
 -- The templates of generic regions by their neighbours (our own rule).
 use Rattle.std.specs.Prelude.{ℕ, ◌*◌, ◌≡◌, false, if◌then◌else◌, List}
 use Rattle.jbig2_base.specs.Counts.{Counts}
-use Rattle.jbig2_coder.specs.Coder.{started}
+use Rattle.jbig2_coder.specs.Coder.{initial_registers}
 use Rattle.jbig2_region.specs.Generic.{generic_coding}
 use Rattle.jbig2_region.specs.GenericHeader.{GenericHeader}
 use Rattle.jbig2_region.specs.inner.Neighbours.{IsMixed, adaptive_count, mixed_count, mixed_pixels}
@@ -58,4 +58,4 @@ CountsCoded template (Regular a) coding w h bytes start before after = CountsReg
 -- those of a region whose header is read; with MMR they aren't counted
 abbrev pub CountsGeneric : GenericHeader → Counts → Counts → Type 0
 CountsGeneric h before after =
-    h.mmr ≡ false → CountsCoded h.template h.adaptive_template_pixels (generic_coding h) h.region_info.width h.region_info.height h.bytes (no_pixels (started h.bytes) (fresh_contexts (context_bits h.template))) before after
+    h.mmr ≡ false → CountsCoded h.template h.adaptive_template_pixels (generic_coding h) h.region_info.width h.region_info.height h.bytes (no_pixels (initial_registers h.bytes) (fresh_contexts (context_bits h.template))) before after

@@ -74,8 +74,8 @@ abbrev pub row_coding : List AdaptiveTemplatePixel → Coding
 row_coding template = record { context = context_at template; known = colour_above; row_context = None }
 
 -- A bitmap, a coder and contexts before and after n pixels of row y, from column x on.
-abbrev pub Decodes : List AdaptiveTemplatePixel → Bool → ℕ → ℕ → ℕ → Grid → Coder → List Context → Grid → Coder → List Context → Type 0
-Decodes template predicted x y n grid coder states grid' coder' states' =
+abbrev pub DecodesPixels : List AdaptiveTemplatePixel → Bool → ℕ → ℕ → ℕ → Grid → Coder → List Context → Grid → Coder → List Context → Type 0
+DecodesPixels template predicted x y n grid coder states grid' coder' states' =
     (w h : ℕ) (input : List ℕ) (r : Region) → length r.pixels ≡ y * w + x → r.predicted ≡ predicted → Holds w h input r grid coder states → Holds w h input (after_pixels (row_coding template) w h input n r) grid' coder' states'
 
 -- the part of a context that a window holds of a stretch, seen from `offset` columns right of the window's column

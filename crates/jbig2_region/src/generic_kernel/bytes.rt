@@ -1,6 +1,6 @@
 //! Rows of a template without adaptive pixels, byte by byte, with runs of likely symbols.
 ghost use Rattle.std.specs.Prelude.{◌≡◌, ℕ, ◌+◌, ◌-◌, ◌*◌, ◌/◌, ◌%◌, ◌^◌, ◌<◌, ◌≤◌, false, length, if◌then◌else◌};
-ghost use Rattle.jbig2_region.specs.inner.Neighbours.{Decodes, IsLeft, IsNear, SameAbove, Shows, neighbour_count, nominal_pixels};
+ghost use Rattle.jbig2_region.specs.inner.Neighbours.{DecodesPixels, IsLeft, IsNear, SameAbove, Shows, neighbour_count, nominal_pixels};
 ghost use Rattle.jbig2_region.specs.RunBytes.{CountsRuns};
 
 use crate::generic_kernel::runs::take_runs;
@@ -50,7 +50,7 @@ fn decode_bits<A: Allocator, L: Ledger>(
     requires shows { Shows bitmap.old x y 20 windows }
     requires left { IsLeft bitmap.old x y left }
     requires small { left < 16 }
-    ensures holds { Decodes (nominal_pixels neighbours) false x y count bitmap.old decoder.old contexts.old bitmap.new decoder.new contexts.new }
+    ensures holds { DecodesPixels (nominal_pixels neighbours) false x y count bitmap.old decoder.old contexts.old bitmap.new decoder.new contexts.new }
     ensures left { IsLeft bitmap.new (x + count) y result }
     ensures small { result < 16 }
     ensures width { bitmap.new.width ≡ bitmap.old.width }
@@ -104,7 +104,7 @@ fn decode_bytes<A: Allocator, L: Ledger>(
     requires small { left < 16 }
     ensures some { 1 ≤ result.bytes }
     ensures most { result.bytes ≤ most }
-    ensures holds { Decodes (nominal_pixels neighbours) false x y (8 * result.bytes) bitmap.old decoder.old contexts.old bitmap.new decoder.new contexts.new }
+    ensures holds { DecodesPixels (nominal_pixels neighbours) false x y (8 * result.bytes) bitmap.old decoder.old contexts.old bitmap.new decoder.new contexts.new }
     ensures rows { SameAbove bitmap.old bitmap.new y }
     ensures left { IsLeft bitmap.new (x + 8 * result.bytes) y result.left }
     ensures small { result.left < 16 }
@@ -170,7 +170,7 @@ pub fn decode_row_by_bytes<A: Allocator, L: Ledger>(
     requires contexts { length contexts.old ≡ 2 ^ neighbour_count neighbours }
     requires some { 1 ≤ bitmap.old.width }
     requires row { y < bitmap.old.height }
-    ensures holds { Decodes (nominal_pixels neighbours) false 0 y bitmap.old.width bitmap.old decoder.old contexts.old bitmap.new decoder.new contexts.new }
+    ensures holds { DecodesPixels (nominal_pixels neighbours) false 0 y bitmap.old.width bitmap.old decoder.old contexts.old bitmap.new decoder.new contexts.new }
     ensures width { bitmap.new.width ≡ bitmap.old.width }
     ensures height { bitmap.new.height ≡ bitmap.old.height }
     ensures bytes { decoder.new.bytes ≡ decoder.old.bytes }

@@ -2,7 +2,7 @@
 //! the places of its pixels are constants.
 ghost use Rattle.std.specs.Prelude.{◌≡◌, ◌+◌, ◌-◌, ◌*◌, ◌/◌, ◌^◌, ◌<◌, ◌≤◌, false, length};
 ghost use Rattle.jbig2_region.specs.inner.Layouts.{neighbours_of};
-ghost use Rattle.jbig2_region.specs.inner.Neighbours.{Decodes, IsNear, neighbour_count, nominal_pixels};
+ghost use Rattle.jbig2_region.specs.inner.Neighbours.{DecodesPixels, IsNear, neighbour_count, nominal_pixels};
 ghost use Rattle.jbig2_region.specs.RunBytes.{CountsRuns};
 
 use crate::generic_kernel::bytes::decode_row_by_bytes;
@@ -37,7 +37,7 @@ fn decode_constant_row<
     requires contexts { length contexts.old ≡ 2 ^ neighbour_count neighbours }
     requires some { 1 ≤ bitmap.old.width }
     requires row { y < bitmap.old.height }
-    ensures holds { Decodes (nominal_pixels neighbours) false 0 y bitmap.old.width bitmap.old decoder.old contexts.old bitmap.new decoder.new contexts.new }
+    ensures holds { DecodesPixels (nominal_pixels neighbours) false 0 y bitmap.old.width bitmap.old decoder.old contexts.old bitmap.new decoder.new contexts.new }
     ensures width { bitmap.new.width ≡ bitmap.old.width }
     ensures height { bitmap.new.height ≡ bitmap.old.height }
     ensures bytes { decoder.new.bytes ≡ decoder.old.bytes }
@@ -64,7 +64,7 @@ pub fn decode_nominal_row<A: Allocator, L: Ledger>(
     requires contexts { length contexts.old ≡ 2 ^ neighbour_count neighbours }
     requires some { 1 ≤ bitmap.old.width }
     requires row { y < bitmap.old.height }
-    ensures holds { Decodes (nominal_pixels neighbours) false 0 y bitmap.old.width bitmap.old decoder.old contexts.old bitmap.new decoder.new contexts.new }
+    ensures holds { DecodesPixels (nominal_pixels neighbours) false 0 y bitmap.old.width bitmap.old decoder.old contexts.old bitmap.new decoder.new contexts.new }
     ensures width { bitmap.new.width ≡ bitmap.old.width }
     ensures height { bitmap.new.height ≡ bitmap.old.height }
     ensures bytes { decoder.new.bytes ≡ decoder.old.bytes }

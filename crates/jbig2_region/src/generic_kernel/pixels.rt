@@ -1,7 +1,7 @@
 //! Rows of a template with adaptive pixels, which are read one by one.
 ghost use Rattle.std.specs.Prelude.{◌≡◌, ℕ, ◌+◌, ◌-◌, ◌*◌, ◌/◌, ◌%◌, ◌^◌, ◌<◌, ◌≤◌, false, length};
 ghost use Rattle.jbig2_region.specs.Generic.{context_at};
-ghost use Rattle.jbig2_region.specs.inner.Neighbours.{Decodes, IsLeft, IsMixed, Shows, adaptive_count, mixed_count, mixed_pixels};
+ghost use Rattle.jbig2_region.specs.inner.Neighbours.{DecodesPixels, IsLeft, IsMixed, Shows, adaptive_count, mixed_count, mixed_pixels};
 
 use crate::generic_coding::context_at;
 use crate::generic_kernel::windows::{Windows, stretch_bits, windows_at};
@@ -73,7 +73,7 @@ fn decode_pixels<A: Allocator, L: Ledger>(
     requires heights { bitmap.old.height ≤ 65535 }
     requires left { IsLeft bitmap.old x y left }
     requires small { left < 16 }
-    ensures holds { Decodes (mixed_pixels neighbours adaptive.now) false x y count bitmap.old decoder.old contexts.old bitmap.new decoder.new contexts.new }
+    ensures holds { DecodesPixels (mixed_pixels neighbours adaptive.now) false x y count bitmap.old decoder.old contexts.old bitmap.new decoder.new contexts.new }
     ensures left { IsLeft bitmap.new (x + count) y result }
     ensures small { result < 16 }
     ensures width { bitmap.new.width ≡ bitmap.old.width }
@@ -113,7 +113,7 @@ pub fn decode_row_by_pixels<A: Allocator, L: Ledger>(
     requires row { y < bitmap.old.height }
     requires widths { bitmap.old.width ≤ 65535 }
     requires heights { bitmap.old.height ≤ 65535 }
-    ensures holds { Decodes (mixed_pixels neighbours adaptive.now) false 0 y bitmap.old.width bitmap.old decoder.old contexts.old bitmap.new decoder.new contexts.new }
+    ensures holds { DecodesPixels (mixed_pixels neighbours adaptive.now) false 0 y bitmap.old.width bitmap.old decoder.old contexts.old bitmap.new decoder.new contexts.new }
     ensures width { bitmap.new.width ≡ bitmap.old.width }
     ensures height { bitmap.new.height ≡ bitmap.old.height }
     ensures bytes { decoder.new.bytes ≡ decoder.old.bytes }

@@ -48,7 +48,7 @@ impl<'a, A: Allocator + Clone> CodedReadings<'a, A> {
 
 /// A number that may not be out of band.
 fn in_band(number: Option<i32>) -> Result<i32>
-    ensures { Answers (λ n. n) result (in_band number) }
+    ensures { Answers (λ n. n) result (in_band (DecodeError.Symbol SymbolError.UnexpectedOob) number) }
 {
     number.ok_or(DecodeError::Symbol(SymbolError::UnexpectedOob))
 }

@@ -1,7 +1,7 @@
 //! The instances of a text region (T.88, 6.4.5).
 ghost use Rattle.std.specs.Prelude.{◌≡◌, ◌*◌, ◌≤◌, [], nat_lt, option_map, OnErr};
 ghost use Rattle.jbig2_base.specs.Answer.{Gives};
-ghost use Rattle.jbig2_text.specs.Text.{with_symbol, with_instance, with_next, with_last, after_instances, some_strips, strips, text_instances, drawn, text_region};
+ghost use Rattle.jbig2_text.specs.Text.{with_symbol, with_instance, with_next, with_last, after_instances, some_strips, strips, text_instances, instances_drawn, text_region};
 ghost use Rattle.jbig2_text.specs.inner.TextViews.{instances_view, params_view, reached_view, symbol_view};
 
 use crate::text::cursor::Cursor;
@@ -237,7 +237,7 @@ fn draw_instances<B: Allocator, M: Allocator, D: Allocator, L: Ledger>(
     region: &mut Bitmap<D>,
     steps: &mut Steps<L>,
 )
-    ensures { region.new ≡ drawn operator (instances_view instances.now) region.old }
+    ensures { region.new ≡ instances_drawn operator (instances_view instances.now) region.old }
 {
     for instance in instances {
         instance

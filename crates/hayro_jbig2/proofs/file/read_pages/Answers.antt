@@ -1,6 +1,6 @@
 use Rattle.std.proofs.Common.{◌≡◌, List, ◌∙◌, ap, arith, inl, inr, ⊎_elim, length, sym}
 use Rattle.std.specs.Vec.Iter.{into_iter_items}
-use Rattle.jbig2_base.specs.inner.SegmentViews.{parts}
+use Rattle.jbig2_base.specs.inner.SegmentViews.{segment_views}
 use Rattle.jbig2_base.specs.declared.error.DecodeError.TheVariants.{OutOfMemory}
 use Rattle.hayro_jbig2.proofs.Books.{pages-begin, with_pages, page-made, page-refused}
 use Rattle.hayro_jbig2.specs.inner.ByPages.{pages_view}
@@ -23,7 +23,7 @@ loop-own-preserved g c =
     record {
       counted = omega (arith, c.loop-own.invariant.counted, steps.1, ap length steps.0);
       filed =
-          page-made c.loop-own.pages.items _ c.args.strict (parts c.in-Some.own.items) _ others _ c.in-Ok.page c.in_ok-push-in-Ok.ensures.items (ap (λ xs. pages_view xs) steps.0) c.loop-own.invariant.filed c.in-Ok.ensures;
+          page-made c.loop-own.pages.items _ c.args.strict (segment_views c.in-Some.own.items) _ others _ c.in-Ok.page c.in_ok-push-in-Ok.ensures.items (ap (λ xs. pages_view xs) steps.0) c.loop-own.invariant.filed c.in-Ok.ensures;
     }
 
 pub returns-in-Err : goal.returns-in-Err
@@ -31,5 +31,5 @@ returns-in-Err g c =
     let others = pages_view (into_iter_items c.next.new.self) in
     ⊎_elim
     (λ (memory : c.in-Err.error ≡ OutOfMemory). inl memory)
-    (λ refused. inr (page-refused c.loop-own.pages.items c.args.strict (parts c.in-Some.own.items) _ others _ c.in-Err.error (ap (λ xs. pages_view xs) c.in-Some.ensures.steps.0) c.loop-own.invariant.filed refused))
+    (λ refused. inr (page-refused c.loop-own.pages.items c.args.strict (segment_views c.in-Some.own.items) _ others _ c.in-Err.error (ap (λ xs. pages_view xs) c.in-Some.ensures.steps.0) c.loop-own.invariant.filed refused))
     c.in-Err.ensures

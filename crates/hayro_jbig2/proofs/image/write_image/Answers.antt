@@ -8,7 +8,7 @@ use Rattle.hayro_jbig2.proofs.image.write_image.Goals as goal
 pub returns : goal.returns
 unfolding image_of
 returns g c =
-    let w = c.args.sheet.now.width in
+    let w = c.args.initial_page.now.width in
     let f : ℕ → ℕ = λ n. shade (pixel_at c.args.bitmap.now (n % w) (n / w)) in
     fill_by_all f c.loop-place.buf (length c.args.buf.now) 0 c.loop-place.auto.buf (λ k h. c.loop-place.invariant k (omega (arith, h, c.loop-place-test.false)))
     ∙ ap (λ (n : ℕ). map f (range_with_len 0 n)) c.requires.sized

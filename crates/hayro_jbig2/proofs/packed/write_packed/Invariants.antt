@@ -6,10 +6,10 @@ use Rattle.hayro_jbig2.proofs.packed.write_packed.Given as goal
 
 abbrev pub invariant-loop-place : goal.invariant-loop-place
 invariant-loop-place g l = record {
-  sized : length l.buf ≡ packed_size l.sheet.width l.sheet.height;
-  counted : l.place ≡ l.y * row_bytes l.sheet.width + l.x / 8;
+  sized : length l.buf ≡ packed_size l.initial_page.width l.initial_page.height;
+  counted : l.place ≡ l.y * row_bytes l.initial_page.width + l.x / 8;
   eighth : l.x % 8 ≡ 0;
-  column : 0 < l.sheet.width → l.x < l.sheet.width;
+  column : 0 < l.initial_page.width → l.x < l.initial_page.width;
   held : (k : ℕ) → 0 < l.x % 64 → k < 64 - l.x % 64 → bit l.ahead (63 - k) ≡ pixel_at l.bitmap (l.x + k) l.y;
-  written : (k : ℕ) → k < l.place → get_or l.buf k 0 ≡ packed_byte l.bitmap (k % row_bytes l.sheet.width) (k / row_bytes l.sheet.width);
+  written : (k : ℕ) → k < l.place → get_or l.buf k 0 ≡ packed_byte l.bitmap (k % row_bytes l.initial_page.width) (k / row_bytes l.initial_page.width);
 }

@@ -1,7 +1,7 @@
 use Rattle.std.proofs.Common.{◌≡◌, length}
 use Rattle.std.specs.Vec.Iter.{into_iter_items, into_iter_len}
 use Rattle.jbig2_base.specs.File.{gathered}
-use Rattle.jbig2_base.specs.inner.SegmentViews.{header_views, parts}
+use Rattle.jbig2_base.specs.inner.SegmentViews.{header_views, segment_views}
 use Rattle.jbig2_base.proofs.Sequential.{with_front}
 use Rattle.jbig2_base.proofs.file.gather_segments.Given as goal
 
@@ -9,5 +9,5 @@ abbrev pub invariant-loop-header : goal.invariant-loop-header
 invariant-loop-header g l = record {
   aligned : l.reader.bit ≡ 0;
   counted : into_iter_len l.header-iterator ≡ length (into_iter_items l.header-iterator);
-  gathers : with_front (parts l.segments.items) (gathered (header_views (into_iter_items l.header-iterator)) l.reader.bytes) ≡ gathered (header_views l.fn.headers.items) l.fn.reader.bytes;
+  gathers : with_front (segment_views l.segments.items) (gathered (header_views (into_iter_items l.header-iterator)) l.reader.bytes) ≡ gathered (header_views l.fn.headers.items) l.fn.reader.bytes;
 }

@@ -1,6 +1,6 @@
 use Rattle.std.proofs.Common.{List, Result, subst}
 use Rattle.jbig2_base.specs.Answer.{Gives}
-use Rattle.jbig2_base.specs.Segment.{Part}
+use Rattle.jbig2_base.specs.Segment.{SegmentView}
 use Rattle.jbig2_base.specs.inner.SegmentViews.{file_view}
 use Rattle.jbig2_base.specs.declared.error.DecodeError.{DecodeError}
 use Rattle.jbig2_base.specs.declared.file_header.FileHeader.{FileHeader}
@@ -9,6 +9,6 @@ use Rattle.jbig2_base.proofs.file.parse_file.Goals as goal
 
 pub returns-clause-either_organization : goal.returns-clause-either_organization
 returns-clause-either_organization g c = λ header ss spells.
-    subst (λ (meant : Result (FileHeader × List Part) DecodeError). Gives file_view c.read_file.result meant)
+    subst (λ (meant : Result (FileHeader × List SegmentView) DecodeError). Gives file_view c.read_file.result meant)
     (file_read c.args.strict c.args.bytes.now header ss spells)
     c.read_file.ensures

@@ -2,8 +2,8 @@ use Rattle.std.proofs.Common.{◌≡◌, ℕ, ◌<◌, subst, List, ◌++◌, �
 use Rattle.std.proofs.lemmas.Bool.{eqb-false, eqb-true, false≢true}
 use Rattle.std.proofs.lemmas.List.{map_push}
 use Rattle.jbig2_base.specs.Bits.{Place}
-use Rattle.jbig2_base.specs.Segment.{Part, segment_at}
-use Rattle.jbig2_base.specs.inner.SegmentViews.{parts, part_view}
+use Rattle.jbig2_base.specs.Segment.{SegmentView, segment_at}
+use Rattle.jbig2_base.specs.inner.SegmentViews.{segment_views, segment_view}
 use Rattle.jbig2_base.specs.Sequential.{sequential, is_cut_off}
 use Rattle.jbig2_base.specs.declared.error.DecodeError.{DecodeError}
 use Rattle.jbig2_base.specs.declared.error.DecodeError.TheVariants.{OutOfMemory}
@@ -18,31 +18,31 @@ loop-reader-init g c =
     let begun : c.new-reader.result.bytes ≡ bytes = ap (λ (p : Place). p.bytes) c.new-reader.ensures in
     record {
       aligned = ap (λ (p : Place). p.bit) c.new-reader.ensures;
-      reads = subst (λ (left : List ℕ). Reads (parts c.new-segments.result.items) c.args.strict left meant) (sym begun)
-          (Reads-as [] (parts c.new-segments.result.items) c.args.strict bytes meant (sym (ap (λ (ss : List (Segment g.row.A.Denot)). parts ss) c.new-segments.ensures.items)) (begins c.args.strict bytes));
+      reads = subst (λ (left : List ℕ). Reads (segment_views c.new-segments.result.items) c.args.strict left meant) (sym begun)
+          (Reads-as [] (segment_views c.new-segments.result.items) c.args.strict bytes meant (sym (ap (λ (ss : List (Segment g.row.A.Denot)). segment_views ss) c.new-segments.ensures.items)) (begins c.args.strict bytes));
     }
 
 pub returns-then-last : goal.returns-then-last
 returns-then-last g c =
-    let front = parts c.loop-reader.segments.items in
+    let front = segment_views c.loop-reader.segments.items in
     let some : 0 < length c.loop-reader.reader.bytes = omega (arith, c.in-Ok.ensures.taken) in
-    last front c.args.strict c.loop-reader.reader.bytes c.parse_segment.new.reader.bytes (sequential c.args.strict c.args.bytes.now) (part_view c.in-Ok.segment) c.loop-reader.invariant.reads c.in-Ok.ensures.parses.value some (sym c.if-last.ensures)
-    ∙ ap (λ (ps : List Part). Ok ps) (sym (ap (λ (ss : List (Segment g.row.A.Denot)). parts ss) c.in_ok-push-in-Ok.ensures.items ∙ map_push (λ (s : Segment g.row.A.Denot). part_view s) c.loop-reader.segments.items c.in-Ok.segment))
+    last front c.args.strict c.loop-reader.reader.bytes c.parse_segment.new.reader.bytes (sequential c.args.strict c.args.bytes.now) (segment_view c.in-Ok.segment) c.loop-reader.invariant.reads c.in-Ok.ensures.parses.value some (sym c.if-last.ensures)
+    ∙ ap (λ (ps : List SegmentView). Ok ps) (sym (ap (λ (ss : List (Segment g.row.A.Denot)). segment_views ss) c.in_ok-push-in-Ok.ensures.items ∙ map_push (λ (s : Segment g.row.A.Denot). segment_view s) c.loop-reader.segments.items c.in-Ok.segment))
 
 pub loop-reader-preserved : goal.loop-reader-preserved
 loop-reader-preserved g c =
-    let front = parts c.loop-reader.segments.items in
+    let front = segment_views c.loop-reader.segments.items in
     let meant = sequential c.args.strict c.args.bytes.now in
-    let p = part_view c.in-Ok.segment in
+    let p = segment_view c.in-Ok.segment in
     record {
       aligned = c.in-Ok.ensures.parses.aligned;
-      reads = Reads-as (front ++ p ∷ []) (parts c.push.new.self.items) c.args.strict c.parse_segment.new.reader.bytes meant
-          (sym (ap (λ (ss : List (Segment g.row.A.Denot)). parts ss) c.in_ok-push-in-Ok.ensures.items ∙ map_push (λ (s : Segment g.row.A.Denot). part_view s) c.loop-reader.segments.items c.in-Ok.segment))
+      reads = Reads-as (front ++ p ∷ []) (segment_views c.push.new.self.items) c.args.strict c.parse_segment.new.reader.bytes meant
+          (sym (ap (λ (ss : List (Segment g.row.A.Denot)). segment_views ss) c.in_ok-push-in-Ok.ensures.items ∙ map_push (λ (s : Segment g.row.A.Denot). segment_view s) c.loop-reader.segments.items c.in-Ok.segment))
           (next front c.args.strict c.loop-reader.reader.bytes c.parse_segment.new.reader.bytes meant p c.loop-reader.invariant.reads c.in-Ok.ensures.parses.value c.in-Ok.ensures.taken (sym c.if-last.ensures));
     }
 
 -- an error that cuts off is no want of memory
-given : (strict : Bool) (error : DecodeError) (r : Result (Part × List ℕ) DecodeError) → (error ≡ OutOfMemory) ⊎ (r ≡ Err error) → is_cut_off strict error ≡ true → r ≡ Err error
+given : (strict : Bool) (error : DecodeError) (r : Result (SegmentView × List ℕ) DecodeError) → (error ≡ OutOfMemory) ⊎ (r ≡ Err error) → is_cut_off strict error ≡ true → r ≡ Err error
 given strict error r (inl e) cut = absurd (false≢true (sym (ap (λ (x : DecodeError). is_cut_off strict x) e ∙ never strict) ∙ cut))
   where
     never : (b : Bool) → is_cut_off b OutOfMemory ≡ false
@@ -53,16 +53,16 @@ given strict error r (inr e) cut = e
 pub returns-then-is_cut_off : goal.returns-then-is_cut_off
 returns-then-is_cut_off g c =
     let some : 0 < length c.loop-reader.reader.bytes = omega (arith, eqb-false (length c.loop-reader.reader.bytes) 0 (sym c.loop-reader-test.ensures)) in
-    drops (parts c.loop-reader.segments.items) c.args.strict c.loop-reader.reader.bytes (sequential c.args.strict c.args.bytes.now) c.in-Err.error c.loop-reader.invariant.reads
+    drops (segment_views c.loop-reader.segments.items) c.args.strict c.loop-reader.reader.bytes (sequential c.args.strict c.args.bytes.now) c.in-Err.error c.loop-reader.invariant.reads
     (given c.args.strict c.in-Err.error (segment_at c.args.strict c.loop-reader.reader.bytes) c.in-Err.ensures.parses.value (sym c.if-is_cut_off.ensures)) some (sym c.if-is_cut_off.ensures)
 
 pub returns-in-Err : goal.returns-in-Err
 returns-in-Err g c =
     let some : 0 < length c.loop-reader.reader.bytes = omega (arith, eqb-false (length c.loop-reader.reader.bytes) 0 (sym c.loop-reader-test.ensures)) in
     ⊎_elim (λ (e : c.in-Err.error ≡ OutOfMemory). inl e)
-    (λ (e : segment_at c.args.strict c.loop-reader.reader.bytes ≡ Err c.in-Err.error). inr (gives_up (parts c.loop-reader.segments.items) c.args.strict c.loop-reader.reader.bytes (sequential c.args.strict c.args.bytes.now) c.in-Err.error c.loop-reader.invariant.reads e some (sym c.if-is_cut_off.ensures)))
+    (λ (e : segment_at c.args.strict c.loop-reader.reader.bytes ≡ Err c.in-Err.error). inr (gives_up (segment_views c.loop-reader.segments.items) c.args.strict c.loop-reader.reader.bytes (sequential c.args.strict c.args.bytes.now) c.in-Err.error c.loop-reader.invariant.reads e some (sym c.if-is_cut_off.ensures)))
     c.in-Err.ensures.parses.value
 
 pub returns : goal.returns
 returns g c =
-    ends (parts c.loop-reader.segments.items) c.args.strict c.loop-reader.reader.bytes (sequential c.args.strict c.args.bytes.now) c.loop-reader.invariant.reads (eqb-true (length c.loop-reader.reader.bytes) 0 (sym c.loop-reader-test.ensures))
+    ends (segment_views c.loop-reader.segments.items) c.args.strict c.loop-reader.reader.bytes (sequential c.args.strict c.args.bytes.now) c.loop-reader.invariant.reads (eqb-true (length c.loop-reader.reader.bytes) 0 (sym c.loop-reader-test.ensures))

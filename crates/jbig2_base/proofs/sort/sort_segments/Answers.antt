@@ -1,7 +1,7 @@
 use Rattle.std.proofs.Common.{rules, Ok, sym, ◌∙◌, ap}
 use Rattle.std.proofs.lemmas.List.Sorted.{IsNonDecreasingBy-from_sort_by_key, answers_always}
-use Rattle.jbig2_base.specs.Segment.{Part}
-use Rattle.jbig2_base.specs.inner.SegmentViews.{parts, part_view}
+use Rattle.jbig2_base.specs.Segment.{SegmentView}
+use Rattle.jbig2_base.specs.inner.SegmentViews.{segment_views, segment_view}
 use Rattle.jbig2_base.proofs.Sorting.{stable_sort, map_sorted}
 use Rattle.jbig2_base.proofs.sort.sort_segments.Goals as goal
 
@@ -11,4 +11,4 @@ returns-clause-value g c =
     let new = c.sort_by_key.new.self.items in
     let up = IsNonDecreasingBy-from_sort_by_key (λ s. s.header.segment_number) _ c.in_ok-sort_by_key.ensures.sorted (λ a r q k. search rules) in
     let stable = c.sort_by_key.ensures.stable (λ s. s.header.segment_number) (answers_always _ _ _ (λ f a r g h. search rules)) in
-    ap (λ ps. Ok ps) (sym (ap parts (stable_sort (λ s. s.header.segment_number) old new up stable) ∙ map_sorted (λ s. part_view s) (λ (p : Part). p.header.segment_number) old))
+    ap (λ ps. Ok ps) (sym (ap segment_views (stable_sort (λ s. s.header.segment_number) old new up stable) ∙ map_sorted (λ s. segment_view s) (λ (p : SegmentView). p.header.segment_number) old))

@@ -1,7 +1,7 @@
 use Rattle.std.proofs.Common.{◌≡◌, ℕ, ◌+◌, ◌*◌, ◌^◌, ◌<◌, List, refl, ap, subst, ◌∙◌, arith, add-one, drop, length}
 use Rattle.std.proofs.Math.Nat.{pow-suc}
 use Rattle.jbig2_base.specs.Grid.{bit_number}
-use Rattle.jbig2_coder.specs.Integers.{Reading, next, read_more, prev_of, number}
+use Rattle.jbig2_coder.specs.Integers.{Reading, next, read_more, prev_of, value_of_bits}
 use Rattle.jbig2_coder.specs.inner.Stands.{Stands}
 use Rattle.jbig2_coder.proofs.Readings.{read_more-none, read_more-next, number-none, number-next, Stands-bytes}
 use Rattle.jbig2_coder.proofs.integer_decoder.read_bits.Goals as goal
@@ -36,7 +36,7 @@ loop-preserved g c = record {
 pub returns-clause-value : goal.returns-clause-value
 returns-clause-value g c start r s =
     let e : c.loop.counter ≡ c.args.count = omega arith in
-    subst (λ n. c.loop.value ≡ number (drop (length r.bits) (read_more prev_of n c.args.decoder.now.bytes r).bits)) e (c.loop.invariant.value start r s)
+    subst (λ n. c.loop.value ≡ value_of_bits (drop (length r.bits) (read_more prev_of n c.args.decoder.now.bytes r).bits)) e (c.loop.invariant.value start r s)
 
 pub returns-clause-reads : goal.returns-clause-reads
 returns-clause-reads g c start r s =

@@ -1,7 +1,7 @@
 use Rattle.std.proofs.Common.{arith, refl, ◌≡◌, ◌≤◌, ◌+◌, ◌*◌, ◌∙◌, ℕ, sym, ap, subst, cond}
 use Rattle.jbig2_base.specs.Counts.{Counts}
 use Rattle.jbig2_region.specs.inner.Holds.{Holds}
-use Rattle.jbig2_region.specs.inner.Neighbours.{Decodes, is_nominal_layout, layout_coding, layout_loads, layout_pixels}
+use Rattle.jbig2_region.specs.inner.Neighbours.{DecodesPixels, is_nominal_layout, layout_coding, layout_loads, layout_pixels}
 use Rattle.jbig2_region.specs.Raster.{Region, no_pixels, after_rows}
 use Rattle.jbig2_region.specs.RunBytes.{row_loads, row_tests, row_words, coded_rows}
 use Rattle.jbig2_region.proofs.RasterLemmas.{after_rows-none, region-start, region-empty, region-whole}
@@ -40,7 +40,7 @@ loop-y-preserved g c =
     let w : ℕ = c.args.bitmap.now.width in
     let h : ℕ = c.args.bitmap.now.height in
     let input = c.args.decoder.now.bytes in
-    let decodes = subst (λ (n : ℕ). Decodes template c.begin_row-predicted.result 0 c.loop-y.y n c.loop-y.bitmap c.begin_row-predicted.new.decoder c.begin_row-predicted.new.contexts c.decode_row.new.bitmap c.decode_row.new.decoder c.decode_row.new.contexts) c.loop-y.invariant.width c.decode_row.ensures.holds in
+    let decodes = subst (λ (n : ℕ). DecodesPixels template c.begin_row-predicted.result 0 c.loop-y.y n c.loop-y.bitmap c.begin_row-predicted.new.decoder c.begin_row-predicted.new.contexts c.decode_row.new.bitmap c.decode_row.new.decoder c.decode_row.new.contexts) c.loop-y.invariant.width c.decode_row.ensures.holds in
     let next =
     layout-step template c.args.row_context c.loop-y.y c.loop-y.predicted c.begin_row-predicted.result c.loop-y.bitmap c.loop-y.decoder c.loop-y.contexts c.begin_row-predicted.new.decoder c.begin_row-predicted.new.contexts c.decode_row.new.bitmap c.decode_row.new.decoder c.decode_row.new.contexts start w h input
     c.loop-y.invariant.bytes c.begin_row-predicted.ensures.bytes refl c.begin_row-predicted.ensures.row decodes c.loop-y.invariant.holds c.loop-y.invariant.predicted in

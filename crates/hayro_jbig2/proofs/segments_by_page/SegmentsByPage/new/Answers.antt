@@ -1,5 +1,5 @@
 use Rattle.std.proofs.Common.{◌∙◌, ap, arith, inl, length, sym}
-use Rattle.jbig2_base.specs.inner.SegmentViews.{part_view, parts}
+use Rattle.jbig2_base.specs.inner.SegmentViews.{segment_view, segment_views}
 use Rattle.hayro_jbig2.proofs.ByPages.{holds-none, holds-more}
 use Rattle.hayro_jbig2.proofs.segments_by_page.SegmentsByPage.new.Goals as goal
 
@@ -8,7 +8,7 @@ loop-segment-init g c =
     let gives = c.into_iter-segment-iterator.ensures.into_iter_gives in
     record {
       counted = gives.1 ∙ c.args.segments.ok.0 ∙ ap (λ xs. length xs) (sym gives.0);
-      holds = holds-none _ _ _ c.new.ensures.items c.new-2.ensures.items c.new-3.ensures.empty (ap (λ xs. parts xs) gives.0);
+      holds = holds-none _ _ _ c.new.ensures.items c.new-2.ensures.items c.new-3.ensures.empty (ap (λ xs. segment_views xs) gives.0);
     }
 
 pub loop-segment-preserved : goal.loop-segment-preserved
@@ -16,7 +16,7 @@ loop-segment-preserved g c =
     let some = c.loop-segment.invariant.holds in
     record {
       counted = omega (arith, c.loop-segment.invariant.counted, c.in-Some.ensures.steps.1, ap length c.in-Some.ensures.steps.0);
-      holds = holds-more c.loop-segment.by_page _ (part_view c.in-Some.segment) _ _ _ (ap (λ xs. parts xs) c.in-Some.ensures.steps.0) some (c.in-Ok.ensures some.came some.holds);
+      holds = holds-more c.loop-segment.by_page _ (segment_view c.in-Some.segment) _ _ _ (ap (λ xs. segment_views xs) c.in-Some.ensures.steps.0) some (c.in-Ok.ensures some.came some.holds);
     }
 
 pub returns-in-Err : goal.returns-in-Err

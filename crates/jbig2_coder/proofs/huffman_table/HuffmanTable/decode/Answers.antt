@@ -2,7 +2,7 @@ use Rattle.std.proofs.Common.{◌≡◌, ap, sym, ◌∙◌, subst, Result, Err,
 use Rattle.std.proofs.lemmas.Result.{err_from_is_err_and}
 use Rattle.jbig2_base.specs.Bits.{bits_left}
 use Rattle.jbig2_base.specs.declared.error.DecodeError.{DecodeError}
-use Rattle.jbig2_coder.specs.PrefixCode.{Reads, decoded}
+use Rattle.jbig2_coder.specs.PrefixCode.{Reads, decoded_value}
 use Rattle.jbig2_coder.specs.inner.PrefixLevels.{groups_of}
 use Rattle.jbig2_coder.proofs.PrefixDecoding.{decodes-err, decodes-oob, decodes-value, view-read}
 use Rattle.jbig2_coder.proofs.huffman_table.HuffmanTable.decode.Goals as goal

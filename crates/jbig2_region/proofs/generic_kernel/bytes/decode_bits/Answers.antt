@@ -1,7 +1,7 @@
 use Rattle.std.proofs.Common.{arith, refl, set, length, ℕ, ◌≡◌, ◌<◌, ◌∙◌, ◌+◌, ◌*◌, ◌%◌, ◌^◌, ap, sym, subst, false}
 use Rattle.std.proofs.lemmas.Nat.{mod_below, pow_pos}
 use Rattle.jbig2_base.specs.inner.Writes.{with_pixels}
-use Rattle.jbig2_region.specs.inner.Neighbours.{Decodes, IsLeft, SameAbove, nominal_pixels, register_of}
+use Rattle.jbig2_region.specs.inner.Neighbours.{DecodesPixels, IsLeft, SameAbove, nominal_pixels, register_of}
 use Rattle.jbig2_base.specs.Grid.{Grid}
 use Rattle.jbig2_region.proofs.RegisterLemmas.{register-context, low-bits, next-made, register-fits, left-few, left-whole, left-register}
 use Rattle.jbig2_region.proofs.StepLemmas.{no-decisions, more-decisions}
@@ -38,7 +38,7 @@ loop-preserved g c =
           (subst (λ (b : ℕ). IsLeft (with_pixels c.args.bitmap.now c.args.x c.args.y (k + 1) b) (c.args.x + (k + 1)) c.args.y ((r * 2 + c.from.result) % 16)) (sym next.0)
           (left-bit c.args.bitmap.now c.args.x c.args.y k r byte c.from.result _ (c.from.ensures ∙ c.decode-symbol.ensures.value) (omega arith) c.requires.row c.loop.invariant.left));
       holds =
-          subst (λ (b : ℕ). Decodes (nominal_pixels c.args.neighbours) false c.args.x c.args.y (k + 1) c.args.bitmap.now c.args.decoder.now c.args.contexts.now (with_pixels c.args.bitmap.now c.args.x c.args.y (k + 1) b) c.decode-symbol.new.self (set c.loop.contexts c.context-context.result c.decode-symbol.new.context)) (sym next.0)
+          subst (λ (b : ℕ). DecodesPixels (nominal_pixels c.args.neighbours) false c.args.x c.args.y (k + 1) c.args.bitmap.now c.args.decoder.now c.args.contexts.now (with_pixels c.args.bitmap.now c.args.x c.args.y (k + 1) b) c.decode-symbol.new.self (set c.loop.contexts c.context-context.result c.decode-symbol.new.context)) (sym next.0)
           (decodes-bit (nominal_pixels c.args.neighbours) c.args.x c.args.y k c.args.bitmap.now c.args.decoder.now c.loop.decoder c.decode-symbol.new.self c.args.contexts.now c.loop.contexts c.context-context.result byte c.from.result c.index-contexts-context.result c.decode-symbol.new.context
           c.loop.invariant.holds (omega arith) c.requires.row is_context inside (c.from.ensures ∙ c.decode-symbol.ensures.value) c.decode-symbol.ensures.coder c.decode-symbol.ensures.context);
       steps = more-decisions c.args.steps.now c.loop.steps c.decode-symbol.new.steps k 1 (k + 1) c.loop.invariant.steps c.decode-symbol.ensures.steps refl;
@@ -75,5 +75,5 @@ returns-clause-holds g c =
     let bits : c.loop.register % 2 ^ c.loop.counter ≡ c.loop.register % (1 * 2 ^ c.args.count % 2 ^ 64) = rw all (sym (low-bits c.loop.register c.args.count (omega arith))) in
     let stored : with_pixels c.args.bitmap.now c.args.x c.args.y c.loop.counter (c.loop.register % 2 ^ c.loop.counter) ≡ c.store_pixels.new.self =
     ap (λ (n : ℕ). with_pixels c.args.bitmap.now c.args.x c.args.y n (c.loop.register % 2 ^ c.loop.counter)) all ∙ ap (λ (b : ℕ). with_pixels c.args.bitmap.now c.args.x c.args.y c.args.count b) bits ∙ sym c.store_pixels.ensures.value in
-    subst (λ (q : Grid). Decodes (nominal_pixels c.args.neighbours) false c.args.x c.args.y c.args.count c.args.bitmap.now c.args.decoder.now c.args.contexts.now q c.loop.decoder c.loop.contexts) stored
-    (subst (λ (n : ℕ). Decodes (nominal_pixels c.args.neighbours) false c.args.x c.args.y n c.args.bitmap.now c.args.decoder.now c.args.contexts.now (with_pixels c.args.bitmap.now c.args.x c.args.y c.loop.counter (c.loop.register % 2 ^ c.loop.counter)) c.loop.decoder c.loop.contexts) all c.loop.invariant.holds)
+    subst (λ (q : Grid). DecodesPixels (nominal_pixels c.args.neighbours) false c.args.x c.args.y c.args.count c.args.bitmap.now c.args.decoder.now c.args.contexts.now q c.loop.decoder c.loop.contexts) stored
+    (subst (λ (n : ℕ). DecodesPixels (nominal_pixels c.args.neighbours) false c.args.x c.args.y n c.args.bitmap.now c.args.decoder.now c.args.contexts.now (with_pixels c.args.bitmap.now c.args.x c.args.y c.loop.counter (c.loop.register % 2 ^ c.loop.counter)) c.loop.decoder c.loop.contexts) all c.loop.invariant.holds)

@@ -1,5 +1,5 @@
 use Rattle.std.proofs.Common.{◌≡◌, ◌<◌, ◌≤◌, ◌+◌, ◌-◌, ◌*◌, ◌/◌, ◌%◌, false}
-use Rattle.jbig2_region.specs.inner.Neighbours.{Decodes, IsLeft, Shows, nominal_pixels}
+use Rattle.jbig2_region.specs.inner.Neighbours.{DecodesPixels, IsLeft, Shows, nominal_pixels}
 use Rattle.jbig2_region.specs.RunBytes.{CountsRuns}
 use Rattle.jbig2_region.proofs.generic_kernel.bytes.decode_row_by_bytes.Given as goal
 
@@ -12,7 +12,7 @@ invariant-loop-done g l = record {
   few : l.left < 16;
   left : IsLeft l.bitmap (8 * l.done) l.fn.y l.left;
   shows : 1 ≤ l.done % 4 → Shows l.bitmap (8 * l.done) l.fn.y (64 - 8 * (l.done % 4)) l.windows;
-  holds : Decodes (nominal_pixels l.fn.neighbours) false 0 l.fn.y (8 * l.done) l.initial.bitmap l.initial.decoder l.initial.contexts l.bitmap l.decoder l.contexts;
+  holds : DecodesPixels (nominal_pixels l.fn.neighbours) false 0 l.fn.y (8 * l.done) l.initial.bitmap l.initial.decoder l.initial.contexts l.bitmap l.decoder l.contexts;
   decisions : CountsRuns (nominal_pixels l.fn.neighbours) 0 l.fn.y (8 * l.done) l.initial.bitmap l.initial.decoder l.initial.contexts l.initial.steps.decisions l.steps.decisions;
   run_tests : l.steps.run_tests ≤ l.initial.steps.run_tests + l.done;
   loads : l.steps.loads ≤ l.initial.steps.loads + 2 * ((l.done + 3) / 4);

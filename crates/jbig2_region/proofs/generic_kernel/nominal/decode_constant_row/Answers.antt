@@ -1,5 +1,5 @@
 use Rattle.std.proofs.Common.{◌≡◌, ◌∙◌, ◌^◌, false, length, subst, sym}
-use Rattle.jbig2_region.specs.inner.Neighbours.{Decodes, IsNear, neighbour_count, nominal_pixels}
+use Rattle.jbig2_region.specs.inner.Neighbours.{DecodesPixels, IsNear, neighbour_count, nominal_pixels}
 use Rattle.jbig2_region.specs.RunBytes.{CountsRuns}
 use Rattle.jbig2_region.specs.declared.template.neighbours.Neighbours.{Neighbours}
 use Rattle.jbig2_region.proofs.generic_kernel.nominal.decode_constant_row.Goals as goal
@@ -12,7 +12,7 @@ decode_row_by_bytes-requires-clause-contexts g c = subst (λ (n : Neighbours). l
 
 pub returns-clause-holds : goal.returns-clause-holds
 returns-clause-holds g c =
-    subst (λ (n : Neighbours). Decodes (nominal_pixels n) false 0 c.args.y c.args.bitmap.now.width c.args.bitmap.now c.args.decoder.now c.args.contexts.now c.decode_row_by_bytes.new.bitmap c.decode_row_by_bytes.new.decoder c.decode_row_by_bytes.new.contexts) (c.neighbours_of-constant.ensures ∙ sym c.requires.same)
+    subst (λ (n : Neighbours). DecodesPixels (nominal_pixels n) false 0 c.args.y c.args.bitmap.now.width c.args.bitmap.now c.args.decoder.now c.args.contexts.now c.decode_row_by_bytes.new.bitmap c.decode_row_by_bytes.new.decoder c.decode_row_by_bytes.new.contexts) (c.neighbours_of-constant.ensures ∙ sym c.requires.same)
     c.decode_row_by_bytes.ensures.holds
 
 pub returns-clause-decisions : goal.returns-clause-decisions

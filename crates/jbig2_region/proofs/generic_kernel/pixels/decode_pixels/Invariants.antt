@@ -1,5 +1,5 @@
 use Rattle.std.proofs.Common.{◌≡◌, ◌+◌, ◌*◌, ◌<◌, false}
-use Rattle.jbig2_region.specs.inner.Neighbours.{Decodes, IsLeft, adaptive_count, mixed_pixels, SameAbove}
+use Rattle.jbig2_region.specs.inner.Neighbours.{DecodesPixels, IsLeft, adaptive_count, mixed_pixels, SameAbove}
 use Rattle.jbig2_region.proofs.generic_kernel.pixels.decode_pixels.Given as goal
 
 abbrev pub invariant-loop-offset : goal.invariant-loop-offset
@@ -10,7 +10,7 @@ invariant-loop-offset g l = record {
   few : l.left < 16;
   above : SameAbove l.initial.bitmap l.bitmap l.fn.y;
   left : IsLeft l.bitmap (l.fn.x + l.offset) l.fn.y l.left;
-  holds : Decodes (mixed_pixels l.fn.neighbours l.fn.adaptive) false l.fn.x l.fn.y l.offset l.initial.bitmap l.initial.decoder l.initial.contexts l.bitmap l.decoder l.contexts;
+  holds : DecodesPixels (mixed_pixels l.fn.neighbours l.fn.adaptive) false l.fn.x l.fn.y l.offset l.initial.bitmap l.initial.decoder l.initial.contexts l.bitmap l.decoder l.contexts;
   decisions : l.steps.decisions ≡ l.initial.steps.decisions + l.offset;
   words : l.steps.words ≡ l.initial.steps.words + l.offset;
   run_tests : l.steps.run_tests ≡ l.initial.steps.run_tests;

@@ -1,5 +1,5 @@
 use Rattle.std.proofs.Common.{arith, refl, false, min, subst, ◌≡◌, ◌+◌, ◌*◌, ℕ, ◌∙◌}
-use Rattle.jbig2_region.specs.inner.Neighbours.{Decodes, IsLeft, mixed_pixels, adaptive_count}
+use Rattle.jbig2_region.specs.inner.Neighbours.{DecodesPixels, IsLeft, mixed_pixels, adaptive_count}
 use Rattle.jbig2_region.proofs.StepLemmas.{block-loads, none-loads}
 use Rattle.jbig2_region.proofs.StoreLemmas.{decodes-none, decodes-then, left-none}
 use Rattle.jbig2_region.proofs.generic_kernel.pixels.decode_row_by_pixels.Goals as goal
@@ -14,7 +14,7 @@ loop-index-init g c =
       few = omega arith;
       left = subst (λ (n : ℕ). IsLeft c.args.bitmap.now n c.args.y 0) none (left-none c.args.bitmap.now c.args.y);
       holds =
-          subst (λ (n : ℕ). Decodes (mixed_pixels c.args.neighbours c.args.adaptive.now) false 0 c.args.y n c.args.bitmap.now c.args.decoder.now c.args.contexts.now c.args.bitmap.now c.args.decoder.now c.args.contexts.now) none
+          subst (λ (n : ℕ). DecodesPixels (mixed_pixels c.args.neighbours c.args.adaptive.now) false 0 c.args.y n c.args.bitmap.now c.args.decoder.now c.args.contexts.now c.args.bitmap.now c.args.decoder.now c.args.contexts.now) none
           (decodes-none (mixed_pixels c.args.neighbours c.args.adaptive.now) false 0 c.args.y c.args.bitmap.now c.args.decoder.now c.args.contexts.now);
       decisions = omega arith;
       words = omega arith;

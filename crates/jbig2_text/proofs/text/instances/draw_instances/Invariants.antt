@@ -1,7 +1,7 @@
 use Rattle.std.proofs.Common.{◌≡◌, drop}
-use Rattle.jbig2_text.specs.Text.{drawn}
+use Rattle.jbig2_text.specs.Text.{instances_drawn}
 use Rattle.jbig2_text.specs.inner.TextViews.{instances_view}
 use Rattle.jbig2_text.proofs.text.instances.draw_instances.Given as goal
 
 abbrev pub invariant-loop-instance : goal.invariant-loop-instance
-invariant-loop-instance g l = drawn l.operator (instances_view (drop l.instance-index l.instances)) l.region ≡ drawn l.operator (instances_view l.instances) l.fn.region
+invariant-loop-instance g l = instances_drawn l.operator (instances_view (drop l.instance-index l.instances)) l.region ≡ instances_drawn l.operator (instances_view l.instances) l.fn.region
