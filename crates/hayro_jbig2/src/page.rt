@@ -12,6 +12,7 @@ ghost use Rattle.hayro_jbig2.specs.inner.PageViews.{given_names, kept_names};
 ghost use Rattle.hayro_jbig2.specs.inner.SegmentLists.{segment_list};
 ghost use Rattle.jbig2_base.specs.inner.SegmentViews.{parts};
 ghost use Rattle.hayro_jbig2.specs.Sends.{Decodes, IsCountable};
+ghost use Rattle.hayro_jbig2.specs.Untouched.{UntouchedIsBlank};
 
 use crate::calls::push_bitmap;
 use crate::context::DecoderContext;
@@ -201,6 +202,7 @@ impl<'a, A: Allocator + Clone> Page<'a, A> {
         requires { IsCountable D.conduct decoder.old }
         ensures calls { Decodes D.conduct (grid_of_page self.now) result decoder.old decoder.new }
         ensures spelling { (g : Grid) → Spells (calls_of g) g }
+        ensures untouched { UntouchedIsBlank }
         ensures direct { (operator : CombinationOperator) (black : Bool) (region : Grid) → IsTable region → IsTrue (draws_over operator black)
             → combined operator (blank region.width region.height black) region (pos 0) (pos 0) ≡ region }
     {
