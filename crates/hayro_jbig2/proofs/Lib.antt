@@ -9,6 +9,7 @@ mod PageArea
 pub mod Runs
 pub mod Sending
 pub mod Spelling
+pub mod Untouched
 mod WorkedRefinements
 mod WorkedRows
 mod WorkedTexts

@@ -1,24 +1,25 @@
 -- The calls of a grid spell its rows.
-use Rattle.std.proofs.Common.{◌≡◌, ℕ, suc, zero, ◌+◌, ◌*◌, ◌/◌, ◌≤◌, Bool, true, false, cond, List, [], ◌∷◌, ◌++◌, length, take, drop, replicate, map, count_by, refl, sym, ◌∙◌, ap, arith}
-use Rattle.std.specs.List.{range_with_len, flat_map}
+use Rattle.std.proofs.Common.{◌≡◌, ℕ, suc, zero, ◌+◌, ◌*◌, ◌/◌, ◌≤◌, Bool, true, false, cond, Some, List, [], ◌∷◌, ◌++◌, length, take, drop, replicate, map, count_by, refl, sym, subst, ◌∙◌, ap, arith}
+use Rattle.std.specs.List.{All, range_with_len, flat_map}
+use Rattle.std.proofs.lemmas.List.Elements.{All-nil, All-cons}
 use Rattle.std.proofs.lemmas.Bool.{cond_both, and_parts}
 use Rattle.std.proofs.lemmas.List.{append_assoc, append-nil, replicate-append-replicate, take-append-drop, length-take-le, length-drop}
 use Rattle.std.proofs.lemmas.List.Sums.{sum_by-append}
 use Rattle.jbig2_base.specs.Grid.{Grid, same_colour}
-use Rattle.hayro_jbig2.specs.Calls.{Call, Pixel, Chunk, Line, is_all, is_line, singles, with_whole, with_byte, whole_calls, row_calls, row_of, line_calls, calls_of, rows_after, DrawsGrid}
+use Rattle.hayro_jbig2.specs.Calls.{Call, Pixel, Chunk, Line, is_all, is_line, singles, with_whole, with_byte, whole_calls, row_calls, row_of, line_calls, calls_of, rows_after, rows_drawn, DrawsGrid}
 use Rattle.hayro_jbig2.proofs.Runs.{length-row, colour_is}
 
-rows-singles : (front bits : List Bool) (cs : List Call) → rows_after front (singles bits ++ cs) ≡ rows_after (front ++ bits) cs
-rows-singles front [] cs = ap (λ (r : List Bool). rows_after r cs) (sym (append-nil front))
-rows-singles front (b ∷ bs) cs = rows-singles (front ++ b ∷ []) bs cs ∙ ap (λ (r : List Bool). rows_after r cs) (append_assoc front (b ∷ []) bs)
+rows-singles : (front bits : List Bool) (cs : List Call) → rows_after (Some front) (singles bits ++ cs) ≡ rows_after (Some (front ++ bits)) cs
+rows-singles front [] cs = ap (λ (r : List Bool). rows_after (Some r) cs) (sym (append-nil front))
+rows-singles front (b ∷ bs) cs = rows-singles (front ++ b ∷ []) bs cs ∙ ap (λ (r : List Bool). rows_after (Some r) cs) (append_assoc front (b ∷ []) bs)
 
-rows-chunk : (front : List Bool) (black : Bool) (n : ℕ) (cs : List Call) → rows_after front (Chunk black (n + 1) ∷ cs) ≡ rows_after (front ++ replicate 8 black) (Chunk black n ∷ cs)
+rows-chunk : (front : List Bool) (black : Bool) (n : ℕ) (cs : List Call) → rows_after (Some front) (Chunk black (n + 1) ∷ cs) ≡ rows_after (Some (front ++ replicate 8 black)) (Chunk black n ∷ cs)
 rows-chunk front black n cs =
     let more : 8 * (n + 1) ≡ 8 + 8 * n = omega arith in
-    ap (λ (r : List Bool). rows_after (front ++ r) cs) (ap (λ (m : ℕ). replicate m black) more ∙ sym (replicate-append-replicate 8 (8 * n) black))
-    ∙ ap (λ (r : List Bool). rows_after r cs) (sym (append_assoc front (replicate 8 black) (replicate (8 * n) black)))
+    ap (λ (r : List Bool). rows_after (Some (front ++ r)) cs) (ap (λ (m : ℕ). replicate m black) more ∙ sym (replicate-append-replicate 8 (8 * n) black))
+    ∙ ap (λ (r : List Bool). rows_after (Some r) cs) (sym (append_assoc front (replicate 8 black) (replicate (8 * n) black)))
 
-rows-whole : (front : List Bool) (black : Bool) (calls cs : List Call) → rows_after front (with_whole black calls ++ cs) ≡ rows_after (front ++ replicate 8 black) (calls ++ cs)
+rows-whole : (front : List Bool) (black : Bool) (calls cs : List Call) → rows_after (Some front) (with_whole black calls ++ cs) ≡ rows_after (Some (front ++ replicate 8 black)) (calls ++ cs)
 rows-whole front true [] cs = refl
 rows-whole front false [] cs = refl
 rows-whole front true (Pixel b ∷ calls) cs = refl
@@ -36,33 +37,45 @@ all-replicate black (b ∷ bs) all =
     let parts = and_parts (same_colour black b) (is_all black bs) all in
     ap (λ (c : Bool). c ∷ replicate (length bs) black) (sym (colour_is black b parts.0)) ∙ ap (λ (cs : List Bool). b ∷ cs) (all-replicate black bs parts.1)
 
-rows-byte : (front byte : List Bool) (calls cs : List Call) → length byte ≡ 8 → rows_after front (with_byte byte calls ++ cs) ≡ rows_after (front ++ byte) (calls ++ cs)
+rows-byte : (front byte : List Bool) (calls cs : List Call) → length byte ≡ 8 → rows_after (Some front) (with_byte byte calls ++ cs) ≡ rows_after (Some (front ++ byte)) (calls ++ cs)
 rows-byte front byte calls cs eight =
-    let P : List Call → Type 0 = λ ds. rows_after front (ds ++ cs) ≡ rows_after (front ++ byte) (calls ++ cs) in
+    let P : List Call → Type 0 = λ ds. rows_after (Some front) (ds ++ cs) ≡ rows_after (Some (front ++ byte)) (calls ++ cs) in
     let whole : (black : Bool) → is_all black byte ≡ true → P (with_whole black calls) = λ black all.
-    rows-whole front black calls cs ∙ ap (λ (r : List Bool). rows_after (front ++ r) (calls ++ cs)) (ap (λ (n : ℕ). replicate n black) (sym eight) ∙ all-replicate black byte all) in
+    rows-whole front black calls cs ∙ ap (λ (r : List Bool). rows_after (Some (front ++ r)) (calls ++ cs)) (ap (λ (n : ℕ). replicate n black) (sym eight) ∙ all-replicate black byte all) in
     cond_both (is_all true byte) (with_whole true calls) (cond (is_all false byte) (with_whole false calls) (singles byte ++ calls)) P
     (λ all. whole true all)
     (λ other. cond_both (is_all false byte) (with_whole false calls) (singles byte ++ calls) P
     (λ all. whole false all)
-    (λ mixed. ap (λ (ds : List Call). rows_after front ds) (append_assoc (singles byte) calls cs) ∙ rows-singles front byte (calls ++ cs)))
+    (λ mixed. ap (λ (ds : List Call). rows_after (Some front) ds) (append_assoc (singles byte) calls cs) ∙ rows-singles front byte (calls ++ cs)))
 
-rows-calls : (n : ℕ) (front bits : List Bool) (cs : List Call) → 8 * n ≤ length bits → rows_after front (whole_calls n bits ++ cs) ≡ rows_after (front ++ bits) cs
+rows-calls : (n : ℕ) (front bits : List Bool) (cs : List Call) → 8 * n ≤ length bits → rows_after (Some front) (whole_calls n bits ++ cs) ≡ rows_after (Some (front ++ bits)) cs
 unfolding whole_calls
 rows-calls zero front bits cs room = rows-singles front bits cs
 rows-calls (suc n) front bits cs room =
     rows-byte front (take 8 bits) (whole_calls n (drop 8 bits)) cs (length-take-le 8 bits (omega arith))
     ∙ rows-calls n (front ++ take 8 bits) (drop 8 bits) cs (omega (arith, length-drop 8 bits))
-    ∙ ap (λ (r : List Bool). rows_after r cs) (append_assoc front (take 8 bits) (drop 8 bits) ∙ ap (λ (r : List Bool). front ++ r) (take-append-drop 8 bits))
+    ∙ ap (λ (r : List Bool). rows_after (Some r) cs) (append_assoc front (take 8 bits) (drop 8 bits) ∙ ap (λ (r : List Bool). front ++ r) (take-append-drop 8 bits))
 
-rows-line : (g : Grid) (y : ℕ) (cs : List Call) → rows_after [] (line_calls g y ++ cs) ≡ row_of g y ∷ rows_after [] cs
+-- a row begins without pixels
+rows-begun : (ds cs : List Call) → rows_drawn (ds ++ Line ∷ cs) ≡ rows_after (Some []) (ds ++ Line ∷ cs)
+rows-begun [] cs = refl
+rows-begun (Pixel b ∷ ds) cs = refl
+rows-begun (Chunk b n ∷ ds) cs = refl
+rows-begun (Line ∷ ds) cs = refl
+
+rows-line : (g : Grid) (y : ℕ) (cs : List Call) → rows_drawn (line_calls g y ++ cs) ≡ row_of g y ∷ rows_drawn cs
 rows-line g y cs =
-    ap (λ (ds : List Call). rows_after [] ds) (append_assoc (row_calls (row_of g y)) (Line ∷ []) cs)
+    ap rows_drawn (append_assoc (row_calls (row_of g y)) (Line ∷ []) cs)
+    ∙ rows-begun (row_calls (row_of g y)) cs
     ∙ rows-calls (length (row_of g y) / 8) [] (row_of g y) (Line ∷ cs) (omega arith)
 
-rows-lines : (g : Grid) (a n : ℕ) → rows_after [] (flat_map (line_calls g) (range_with_len a n)) ≡ map (row_of g) (range_with_len a n)
+rows-lines : (g : Grid) (a n : ℕ) → rows_drawn (flat_map (line_calls g) (range_with_len a n)) ≡ map (row_of g) (range_with_len a n)
 rows-lines g a zero = refl
 rows-lines g a (suc n) = rows-line g a (flat_map (line_calls g) (range_with_len (a + 1) n)) ∙ ap (λ (rs : List (List Bool)). row_of g a ∷ rs) (rows-lines g (a + 1) n)
+
+widths-rows : (g : Grid) (a n : ℕ) → All (λ row. length row ≡ g.width) (map (row_of g) (range_with_len a n))
+widths-rows g a zero = All-nil (λ row. length row ≡ g.width)
+widths-rows g a (suc n) = All-cons (λ row. length row ≡ g.width) (row_of g a) (map (row_of g) (range_with_len (a + 1) n)) (length-row g a) (widths-rows g (a + 1) n)
 
 count-append : (cs ds : List Call) → count_by is_line (cs ++ ds) ≡ count_by is_line cs + count_by is_line ds
 count-append cs ds = sum_by-append (λ c. cond (is_line c) 1 0) cs ds
@@ -108,4 +121,7 @@ count-lines g a (suc n) =
 
 pub spells : (g : Grid) → DrawsGrid (calls_of g) g
 unfolding calls_of
-spells g = record { lines = count-lines g 0 g.height; widths = length-row g; rows = rows-lines g 0 g.height }
+spells g =
+    let rows = rows-lines g 0 g.height in
+    let P : List (List Bool) → Type 0 = λ rs. All (λ row. length row ≡ g.width) rs in
+    record { lines = count-lines g 0 g.height; widths = subst P (sym rows) (widths-rows g 0 g.height); rows = rows }

@@ -1,5 +1,5 @@
 -- The calls that spell a page (our own rule).
-use Rattle.std.specs.Prelude.{◌≡◌, ◌<◌, ◌≤◌, Option, Some, None, ℕ, suc, zero, ◌+◌, ◌*◌, ◌/◌, Bool, true, false, not, ◌&&◌, List, [], ◌∷◌, ◌++◌, length, take, drop, replicate, map, count_by, if◌then◌else◌}
+use Rattle.std.specs.Prelude.{◌≡◌, ◌<◌, ◌≤◌, All, Option, Some, None, option_to_list, ℕ, suc, zero, ◌+◌, ◌*◌, ◌/◌, Bool, true, false, not, ◌&&◌, List, [], ◌∷◌, ◌++◌, length, take, drop, replicate, map, count_by, if◌then◌else◌}
 use Rattle.std.specs.List.{range_with_len, flat_map}
 use Rattle.jbig2_base.specs.Grid.{Grid, pixel_at, same_colour}
 
@@ -51,12 +51,20 @@ line_calls g y = row_calls (row_of g y) ++ Line ∷ []
 unfoldable pub calls_of : Grid → List Call
 calls_of g = flat_map (line_calls g) (range_with_len 0 g.height)
 
--- The rows that calls spell, behind the pixels of a row that is begun.
-abbrev pub rows_after : List Bool → List Call → List (List Bool)
-rows_after row [] = []
-rows_after row (Pixel black ∷ calls) = rows_after (row ++ black ∷ []) calls
-rows_after row (Chunk black bytes ∷ calls) = rows_after (row ++ replicate (8 * bytes) black) calls
-rows_after row (Line ∷ calls) = row ∷ rows_after [] calls
+-- the pixels of a row that may be begun
+abbrev pub begun_pixels : Option (List Bool) → List Bool
+begun_pixels None = []
+begun_pixels (Some row) = row
+
+-- The rows that calls draw, behind a row that may be begun. What no line call ends is a row too.
+abbrev pub rows_after : Option (List Bool) → List Call → List (List Bool)
+rows_after begun [] = option_to_list begun
+rows_after begun (Pixel black ∷ calls) = rows_after (Some (begun_pixels begun ++ black ∷ [])) calls
+rows_after begun (Chunk black bytes ∷ calls) = rows_after (Some (begun_pixels begun ++ replicate (8 * bytes) black)) calls
+rows_after begun (Line ∷ calls) = begun_pixels begun ∷ rows_after None calls
+
+abbrev pub rows_drawn : List Call → List (List Bool)
+rows_drawn calls = rows_after None calls
 
 -- how many of the whole bytes, from the left, have this colour
 abbrev pub run_of : ℕ → Bool → List Bool → ℕ
@@ -77,9 +85,9 @@ abbrev pub is_line : Call → Bool
 is_line Line = true
 is_line _ = false
 
--- The calls spell a grid: as many line calls as rows, each row as wide as the grid, and whoever draws the calls
--- gets the grid's rows.
+-- The calls spell a grid: as many line calls as rows, each row that they draw as wide as the grid, and whoever draws
+-- the calls gets the grid's rows, and nothing behind the last one.
 pub record DrawsGrid (calls : List Call) (g : Grid) : Type 0 where
   pub lines : count_by is_line calls ≡ g.height
-  pub widths : (y : ℕ) → length (row_of g y) ≡ g.width
-  pub rows : rows_after [] calls ≡ map (row_of g) (range_with_len 0 g.height)
+  pub widths : All (λ row. length row ≡ g.width) (rows_drawn calls)
+  pub rows : rows_drawn calls ≡ map (row_of g) (range_with_len 0 g.height)

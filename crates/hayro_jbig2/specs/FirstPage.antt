@@ -1,5 +1,7 @@
 -- What a viewer shows of a file that a reader gives (our own rule): the first page, read leniently.
-use Rattle.std.specs.Prelude.{◌≡◌, ◌⊎◌, ℕ, false, List, Option, Some, None, Result, Ok, Err, IfSome}
+use Rattle.std.specs.Prelude.{◌≡◌, ◌≢◌, ◌⊎◌, ℕ, false, List, Option, Some, None, Result, Ok, Err, IfSome}
+use Rattle.std.specs.IoError.{error_kind}
+use Rattle.std.specs.declared.io.ErrorKind.TheVariants.{Interrupted}
 use Rattle.jbig2_base.specs.Answer.{◌>>=◌}
 use Rattle.jbig2_base.specs.declared.error.DecodeError.{DecodeError}
 use Rattle.jbig2_base.specs.declared.error.DecodeError.TheVariants.{Format, OutOfMemory}
@@ -41,6 +43,11 @@ abbrev pub ReadsAll : {V : Type 0} → (V → List ℕ) → Option (List ℕ) �
 ReadsAll view told (Ok v) = IfSome told (λ bytes. view v ≡ bytes)
 ReadsAll view told (Err (Io e)) = Unit {0}
 ReadsAll view told (Err (Decode e)) = e ≡ OutOfMemory
+
+-- An interruption of the reader is passed over, and so never answered.
+abbrev pub IsLasting : Jbig2Error → Type 0
+IsLasting (Io e) = error_kind e ≢ Interrupted
+IsLasting (Decode e) = Unit {0}
 
 -- The answer to a reader that tells these bytes: their first page, or the error that stands in its way, unless the
 -- reader failed or memory ran out.

@@ -9,4 +9,5 @@ pub mod Page
 pub mod Referred
 pub mod Regions
 pub mod Sends
+pub mod Untouched
 pub mod inner

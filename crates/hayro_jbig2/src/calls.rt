@@ -1,9 +1,9 @@
 //! The calls that spell a bitmap.
-ghost use Rattle.std.specs.Prelude.{◌≡◌, ℕ, ◌+◌, ◌-◌, ◌*◌, ◌/◌, ◌^◌, ◌<◌, ◌≤◌, drop, take, if◌then◌else◌};
+ghost use Rattle.std.specs.Prelude.{◌≡◌, ◌+◌, ◌-◌, ◌/◌, ◌<◌, ◌≤◌, drop, take};
 ghost use Rattle.jbig2_base.specs.Grid.{Grid};
 ghost use Rattle.jbig2_base.specs.inner.WordBits.{bit};
 ghost use Rattle.hayro_jbig2.specs.Calls.{row_of, run_of, IsColourOf, IsRunAt, singles, line_calls, calls_of};
-ghost use Rattle.hayro_jbig2.specs.Sends.{Sends};
+ghost use Rattle.hayro_jbig2.specs.Sends.{IsCountable, Sends};
 
 use crate::decoder::Decoder;
 use jbig2_base::bitmap::Bitmap;
@@ -86,8 +86,8 @@ fn push_pixels<A: Allocator, D: Decoder, L: Ledger>(
     requires order { x ≤ end }
     requires few { end - x ≤ 64 }
     requires inside { end ≤ bitmap.now.width }
-    requires countable { D.refusals decoder.old < 2 ^ 64 - 1 }
-    ensures { Sends D.step (singles (take (end - x) (drop x (row_of bitmap.now y)))) result (D.picture decoder.old) (D.refusals decoder.old) (D.picture decoder.new) (D.refusals decoder.new) }
+    requires countable { IsCountable D.conduct decoder.old }
+    ensures { Sends D.conduct (singles (take (end - x) (drop x (row_of bitmap.now y)))) result decoder.old decoder.new }
 {
     let count = (end - x).max(1);
     let pixels = bitmap.load_pixels(x, y, count, steps);
@@ -108,8 +108,8 @@ fn push_row<A: Allocator, D: Decoder, L: Ledger>(
     decoder: &mut D,
     steps: &mut Steps<L>,
 ) -> Result<()>
-    requires { D.refusals decoder.old < 2 ^ 64 - 1 }
-    ensures { Sends D.step (line_calls bitmap.now y) result (D.picture decoder.old) (D.refusals decoder.old) (D.picture decoder.new) (D.refusals decoder.new) }
+    requires { IsCountable D.conduct decoder.old }
+    ensures { Sends D.conduct (line_calls bitmap.now y) result decoder.old decoder.new }
 {
     let width = bitmap.width();
     let mut x = 0;
@@ -141,8 +141,8 @@ pub fn push_bitmap<A: Allocator, D: Decoder, L: Ledger>(
     decoder: &mut D,
     steps: &mut Steps<L>,
 ) -> Result<()>
-    requires { D.refusals decoder.old < 2 ^ 64 - 1 }
-    ensures { Sends D.step (calls_of bitmap.now) result (D.picture decoder.old) (D.refusals decoder.old) (D.picture decoder.new) (D.refusals decoder.new) }
+    requires { IsCountable D.conduct decoder.old }
+    ensures { Sends D.conduct (calls_of bitmap.now) result decoder.old decoder.new }
 {
     for y in 0..bitmap.height() {
         match push_row(bitmap, y, decoder, steps) {

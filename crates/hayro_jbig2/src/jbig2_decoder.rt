@@ -1,7 +1,7 @@
 //! The first page of a file that a reader gives.
-ghost use Rattle.std.specs.Prelude.{◌≡◌, ◌*◌, Ok, IfOk, IfSome, OnErr, length};
+ghost use Rattle.std.specs.Prelude.{◌≡◌, ◌*◌, Ok, IfErr, IfOk, IfSome, OnErr, length};
 ghost use Rattle.jbig2_base.specs.Answer.{Gives};
-ghost use Rattle.hayro_jbig2.specs.FirstPage.{first_size, first_image, first_packed, Opens, GivesAgain};
+ghost use Rattle.hayro_jbig2.specs.FirstPage.{first_size, first_image, first_packed, IsLasting, Opens, GivesAgain};
 ghost use Rattle.hayro_jbig2.specs.Image.{packed_size};
 
 use crate::file::File;
@@ -89,7 +89,8 @@ impl<A: Allocator + Clone> Jbig2Decoder<A> {
     /// 2^64 - 1 reads, and `Jbig2Error::Decode` for a fault of the file or want of memory. The reader is
     /// dropped.
     pub fn new<R: Read + Drop>(alloc: A, mut reader: R) -> Result<Jbig2Decoder<A>, Jbig2Error>
-        ensures { IfSome (R.remaining reader) (λ told. Opens told result) }
+        ensures opens { IfSome (R.remaining reader) (λ told. Opens told result) }
+        ensures lasting { IfErr result IsLasting }
     {
         let bytes = read_all(alloc.clone()?, &mut reader)?;
         let (width, height) = first_size(alloc, &bytes)?;

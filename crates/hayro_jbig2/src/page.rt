@@ -11,7 +11,8 @@ ghost use Rattle.hayro_jbig2.specs.Page.{ReadPage, segments_drawn, embedded, gri
 ghost use Rattle.hayro_jbig2.specs.inner.PageViews.{given_names, kept_names};
 ghost use Rattle.hayro_jbig2.specs.inner.SegmentLists.{segment_list};
 ghost use Rattle.jbig2_base.specs.inner.SegmentViews.{segment_views};
-ghost use Rattle.hayro_jbig2.specs.Sends.{Decodes};
+ghost use Rattle.hayro_jbig2.specs.Sends.{Decodes, IsCountable};
+ghost use Rattle.hayro_jbig2.specs.Untouched.{UntouchedIsBlank};
 
 use crate::calls::push_bitmap;
 use crate::context::DecoderContext;
@@ -154,8 +155,8 @@ impl<'a, A: Allocator + Clone> Page<'a, A> {
     /// Answers the first fault of a segment that lenient reading does not pass over, or the
     /// Decoder's own refusal.
     pub fn decode<D: Decoder>(&self, decoder: &mut D) -> Result<()>
-        requires { D.refusals decoder.old < 2 ^ 64 - 1 }
-        ensures { Decodes D.step (grid_of_page self.now) result (D.picture decoder.old) (D.refusals decoder.old) (D.picture decoder.new) (D.refusals decoder.new) }
+        requires { IsCountable D.conduct decoder.old }
+        ensures { Decodes D.conduct (grid_of_page self.now) result decoder.old decoder.new }
     {
         let mut context = DecoderContext::new(self.segments.as_vec().allocator().clone()?)?;
         self.decode_with(decoder, &mut context)
@@ -235,9 +236,10 @@ impl<'a, A: Allocator + Clone> Page<'a, A> {
         decoder: &mut D,
         context: &mut DecoderContext<A>,
     ) -> Result<()>
-        requires { D.refusals decoder.old < 2 ^ 64 - 1 }
-        ensures calls { Decodes D.step (grid_of_page self.now) result (D.picture decoder.old) (D.refusals decoder.old) (D.picture decoder.new) (D.refusals decoder.new) }
+        requires { IsCountable D.conduct decoder.old }
+        ensures calls { Decodes D.conduct (grid_of_page self.now) result decoder.old decoder.new }
         ensures spelling { (g : Grid) → DrawsGrid (calls_of g) g }
+        ensures untouched { UntouchedIsBlank }
         ensures direct { (operator : CombinationOperator) (black : Bool) (region : Grid) → IsTable region → IsTrue (draws_over operator black)
             → combined operator (blank region.width region.height black) region (pos 0) (pos 0) ≡ region }
     {
@@ -250,11 +252,11 @@ impl<'a, A: Allocator + Clone> Page<'a, A> {
         context: &mut DecoderContext<A>,
         blank: Blank,
     ) -> Result<()>
-        requires countable { D.refusals decoder.old < 2 ^ 64 - 1 }
+        requires countable { IsCountable D.conduct decoder.old }
         requires name { blank.name ≡ L.name }
         requires parts { blank.parts ≡ L.parts }
         requires enough { blank.parts ≡ 6 }
-        ensures { Decodes D.step (grid_of_page self.now) result (D.picture decoder.old) (D.refusals decoder.old) (D.picture decoder.new) (D.refusals decoder.new) }
+        ensures { Decodes D.conduct (grid_of_page self.now) result decoder.old decoder.new }
     {
         let mut steps = Steps::<L>::new(blank);
         match self.draw_into(context, &mut steps) {

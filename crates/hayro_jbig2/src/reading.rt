@@ -1,5 +1,6 @@
 //! All bytes of a reader.
-ghost use Rattle.hayro_jbig2.specs.FirstPage.{ReadsAll};
+ghost use Rattle.std.specs.Prelude.{IfErr};
+ghost use Rattle.hayro_jbig2.specs.FirstPage.{ReadsAll, IsLasting};
 
 use crate::jbig2_error::Jbig2Error;
 use std::alloc::Allocator;
@@ -14,7 +15,8 @@ const BLOCK: usize = 4096;
 /// Answers the reader's fault, or `ErrorKind::TimedOut` where no end comes within 2^64 - 1 reads. Want of
 /// memory is told apart from a reader's fault of that kind, which `Read::read_to_end` cannot do.
 pub fn read_all<A: Allocator, R: Read>(alloc: A, reader: &mut R) -> Result<Vec<u8, A>, Jbig2Error>
-    ensures { ReadsAll (λ v. v.items) (R.remaining reader.old) result }
+    ensures bytes { ReadsAll (λ v. v.items) (R.remaining reader.old) result }
+    ensures lasting { IfErr result IsLasting }
 {
     let mut bytes = Vec::new(alloc);
     let mut block = [0; BLOCK];

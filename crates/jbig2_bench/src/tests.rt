@@ -16,7 +16,9 @@ use crate::case::{Answer, Case, Row, page_holds, row_holds};
 use crate::rows::families;
 use crate::spelling::spelled;
 use crate::watcher::Watcher;
-use hayro_jbig2::{DecodeError, DecodeSettings, DecoderContext, Page, Result};
+use hayro_jbig2::{
+    DecodeError, DecodeSettings, DecoderContext, HuffmanError, Page, ParseError, RegionError, Result,
+};
 use std::alloc::Global;
 
 const WHITE_PAGE: Answer = Answer::Calls(WHITE);
@@ -71,7 +73,18 @@ fn a_context_serves_on_after_each_row_and_each_refusal(rt: HostRuntime) {
     }
 }
 
-/// Whether a Decoder that refuses a call, whichever it is, has taken those before it and no other.
+/// The error that a call is refused with in these tests: another for each of four calls.
+fn refusal_of(call: usize) -> DecodeError {
+    match call % 4 {
+        0 => DecodeError::Unsupported,
+        1 => DecodeError::Parse(ParseError::UnexpectedEof),
+        2 => DecodeError::Huffman(HuffmanError::InvalidCode),
+        _ => DecodeError::Region(RegionError::InvalidDimension),
+    }
+}
+
+/// Whether a Decoder that refuses a call, whichever it is, has taken those before it and no other, and its error is
+/// the answer.
 fn refusals_hold(
     alloc: Global,
     bytes: &[u8],
@@ -81,12 +94,12 @@ fn refusals_hold(
 ) -> Result<bool> {
     let page = Page::new_embedded(alloc, bytes, None, &DecodeSettings { strict })?;
     for taken in 0..calls.len() {
-        let mut watcher = Watcher::with_patience(&calls[..taken], taken);
+        let mut watcher = Watcher::with_patience(&calls[..taken], taken, refusal_of(taken));
         let decoded = page.decode_with(&mut watcher, context);
         if decoded == Err(DecodeError::OutOfMemory) {
             return Err(DecodeError::OutOfMemory);
         }
-        let refused_once = decoded == Err(DecodeError::Unsupported) && watcher.refusals() == 1;
+        let refused_once = decoded == Err(refusal_of(taken)) && watcher.refusals() == 1;
         if !refused_once || !watcher.is_satisfied() {
             return Ok(false);
         }

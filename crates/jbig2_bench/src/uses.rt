@@ -2,7 +2,7 @@
 ghost use Rattle.std.specs.Prelude.{◌≡◌, ◌-◌, ◌^◌, ◌<◌, IfSome, option_map};
 ghost use Rattle.jbig2_base.specs.Answer.{Gives};
 ghost use Rattle.hayro_jbig2.specs.Image.{image_of_page};
-ghost use Rattle.hayro_jbig2.specs.Sends.{Decodes};
+ghost use Rattle.hayro_jbig2.specs.Sends.{Decodes, IsCountable};
 ghost use Rattle.jbig2_bench.specs.Uses.{grid_of_stream, image_at, Shows};
 
 use hayro_jbig2::{
@@ -23,8 +23,8 @@ pub fn decode_stream<A: Allocator + Clone, D: Decoder>(
     decoder: &mut D,
     context: &mut DecoderContext<A>,
 ) -> Result<()>
-    requires { D.refusals decoder.old < 2 ^ 64 - 1 }
-    ensures { Decodes D.step (grid_of_stream (option_map (λ bytes. bytes.now) globals.entry) stream.now) result (D.picture decoder.old) (D.refusals decoder.old) (D.picture decoder.new) (D.refusals decoder.new) }
+    requires { IsCountable D.conduct decoder.old }
+    ensures { Decodes D.conduct (grid_of_stream (option_map (λ bytes. bytes.now) globals.entry) stream.now) result decoder.old decoder.new }
 {
     match globals {
         None => {

@@ -1,5 +1,5 @@
 //! A Decoder that compares the calls with those of a row.
-ghost use Rattle.std.specs.Prelude.{◌≡◌, ℕ, ◌+◌, ◌-◌, ◌^◌, ◌<◌, OnOk, OnErr};
+ghost use Rattle.std.specs.Prelude.{◌≡◌, ◌+◌, ◌-◌, ◌^◌, ◌<◌, IfErr, OnOk, OnErr};
 
 use crate::call::Call;
 use hayro_jbig2::{DecodeError, Decoder, Result};
@@ -12,6 +12,8 @@ pub struct Watcher<'c> {
     has_taken: bool,
     /// How many calls it takes before it refuses one; None where it refuses none.
     patience: Option<usize>,
+    /// The error that it refuses calls with.
+    refusal: DecodeError,
     refusals: u64,
 }
 
@@ -25,12 +27,17 @@ impl<'c> Watcher<'c> {
             differs: false,
             has_taken: false,
             patience: None,
+            refusal: DecodeError::Unsupported,
             refusals: 0,
         }
     }
 
-    /// Takes so many calls and refuses the others.
-    pub fn with_patience(expected: &'c [Call], patience: usize) -> Watcher<'c>
+    /// Takes so many calls and refuses the others with this error.
+    pub fn with_patience(
+        expected: &'c [Call],
+        patience: usize,
+        refusal: DecodeError,
+    ) -> Watcher<'c>
         ensures { result.refusals ≡ 0 }
     {
         Watcher {
@@ -38,6 +45,7 @@ impl<'c> Watcher<'c> {
             differs: false,
             has_taken: false,
             patience: Some(patience),
+            refusal,
             refusals: 0,
         }
     }
@@ -60,7 +68,8 @@ impl<'c> Watcher<'c> {
     }
 
     fn take(&mut self, call: Call)
-        ensures { self.new.refusals ≡ self.old.refusals }
+        ensures refusal { self.new.refusal ≡ self.old.refusal }
+        ensures refusals { self.new.refusals ≡ self.old.refusals }
     {
         self.has_taken = true;
         match self.awaited {
@@ -76,12 +85,14 @@ impl<'c> Watcher<'c> {
         requires { self.old.refusals < 2 ^ 64 - 1 }
         ensures ok { OnOk result (self.new.refusals ≡ self.old.refusals) }
         ensures err { OnErr result (self.new.refusals ≡ self.old.refusals + 1) }
+        ensures refusal { self.new.refusal ≡ self.old.refusal }
+        ensures error { IfErr result (λ error. error ≡ self.old.refusal) }
     {
         match self.patience {
             None => {}
             Some(0) => {
                 self.refusals += 1;
-                return Err(DecodeError::Unsupported);
+                return Err(self.refusal.duplicate());
             }
             Some(count) => self.patience = Some(count - 1),
         }
@@ -91,13 +102,10 @@ impl<'c> Watcher<'c> {
 }
 
 impl<'c> Decoder for Watcher<'c> {
-    ghost Picture = { Unit {0} };
+    ghost use Rattle.jbig2_base.specs.declared.error.DecodeError.{DecodeError};
 
-    ghost picture = { λ _. tt };
-
-    ghost step = { λ p _. p };
-
-    ghost refusals = { λ watcher. watcher.refusals };
+    // What it keeps in all calls is the error that it refuses with.
+    ghost conduct = { record { Picture = DecodeError; picture = λ watcher. watcher.refusal; step = λ error _. error; refuses = λ own _ error. error ≡ own; refusals = λ watcher. watcher.refusals } };
 
     fn push_pixel(&mut self, black: bool) -> Result<()> {
         self.answer(Call::Pixel(black))

@@ -1,5 +1,6 @@
 //! A Decoder that packs the pixels that it takes.
-ghost use Rattle.std.specs.Prelude.{◌≡◌, ℕ, nat_lt};
+ghost use Rattle.std.specs.Prelude.{◌≡◌, nat_lt};
+ghost use Rattle.jbig2_base.specs.declared.error.DecodeError.TheVariants.{Unsupported};
 
 use crate::refusals::Refusals;
 use hayro_jbig2::{Decoder, Result};
@@ -111,13 +112,7 @@ impl<W: Write + Drop> Packer<W> {
 }
 
 impl<W: Write + Drop> Decoder for Packer<W> {
-    ghost Picture = { Unit {0} };
-
-    ghost picture = { λ _. tt };
-
-    ghost step = { λ p _. p };
-
-    ghost refusals = { λ packer. packer.refusals.count };
+    ghost conduct = { record { Picture = Unit {0}; picture = λ _. tt; step = λ p _. p; refuses = λ _ _ error. error ≡ Unsupported; refusals = λ packer. packer.refusals.count } };
 
     fn push_pixel(&mut self, black: bool) -> Result<()> {
         let written = self.pack(black);

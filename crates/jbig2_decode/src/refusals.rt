@@ -1,5 +1,5 @@
 //! How many calls a Decoder of this program has refused.
-ghost use Rattle.std.specs.Prelude.{◌≡◌, ◌+◌, ◌-◌, ◌^◌, ◌<◌, nat_lt, OnOk, OnErr};
+ghost use Rattle.std.specs.Prelude.{◌≡◌, ◌+◌, ◌-◌, ◌^◌, ◌<◌, nat_lt, IfErr, OnOk, OnErr};
 
 use hayro_jbig2::{DecodeError, Result};
 use std::io;
@@ -28,6 +28,7 @@ impl Refusals {
         requires { self.old.count < 2 ^ 64 - 1 }
         ensures ok { OnOk result (self.new.count ≡ self.old.count) }
         ensures err { OnErr result (self.new.count ≡ self.old.count + 1) }
+        ensures error { IfErr result (λ error. error ≡ DecodeError.Unsupported) }
     {
         match written {
             Ok(()) => Ok(()),

@@ -6,5 +6,5 @@ use Rattle.hayro_jbig2.proofs.calls.push_bitmap.Given as goal
 
 abbrev pub invariant-loop-y : goal.invariant-loop-y
 invariant-loop-y g l = record {
-  sent : Half g.D.Decoder.step (calls_of l.bitmap) (flat_map (line_calls l.bitmap) (range_with_len l.y (l.bitmap.height - l.y))) (g.D.Decoder.picture l.fn.decoder) (g.D.Decoder.refusals l.fn.decoder) (g.D.Decoder.picture l.decoder) (g.D.Decoder.refusals l.decoder);
+  sent : Half g.D.Decoder.conduct (calls_of l.bitmap) (flat_map (line_calls l.bitmap) (range_with_len l.y (l.bitmap.height - l.y))) l.fn.decoder l.decoder;
 }

@@ -5,5 +5,5 @@ use Rattle.hayro_jbig2.proofs.calls.push_pixels.Given as goal
 
 abbrev pub invariant-loop-column : goal.invariant-loop-column
 invariant-loop-column g l = record {
-  sent : Half g.D.Decoder.step (singles (take (l.end - l.x) (drop l.x (row_of l.bitmap l.y)))) (singles (take (l.end - l.column) (drop l.column (row_of l.bitmap l.y)))) (g.D.Decoder.picture l.fn.decoder) (g.D.Decoder.refusals l.fn.decoder) (g.D.Decoder.picture l.decoder) (g.D.Decoder.refusals l.decoder);
+  sent : Half g.D.Decoder.conduct (singles (take (l.end - l.x) (drop l.x (row_of l.bitmap l.y)))) (singles (take (l.end - l.column) (drop l.column (row_of l.bitmap l.y)))) l.fn.decoder l.decoder;
 }

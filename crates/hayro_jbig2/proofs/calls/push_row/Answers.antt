@@ -1,7 +1,7 @@
-use Rattle.std.proofs.Common.{◌≡◌, ℕ, ◌+◌, ◌-◌, ◌*◌, take, drop, List, [], ◌∷◌, Result, Ok, Err, refl, arith}
+use Rattle.std.proofs.Common.{◌+◌, ◌-◌, ◌*◌, take, drop, List, [], ◌∷◌, Result, Ok, Err, refl, arith}
 use Rattle.jbig2_base.specs.declared.error.DecodeError.{DecodeError}
 use Rattle.hayro_jbig2.specs.Calls.{Call, Chunk, Line, row_of, singles}
-use Rattle.hayro_jbig2.specs.Sends.{Sends, Takes}
+use Rattle.hayro_jbig2.specs.Sends.{Conduct, Sends, Takes}
 use Rattle.hayro_jbig2.proofs.Runs.{left_calls, left-byte, left-last, left-run, left-start}
 use Rattle.hayro_jbig2.proofs.Sending.{Half, goes_on, half_as, half_done, half_none, one_stops, stops_at}
 use Rattle.hayro_jbig2.proofs.calls.push_row.Goals as goal
@@ -9,13 +9,13 @@ use Rattle.hayro_jbig2.proofs.calls.push_row.Goals as goal
 pub loop-x-init : goal.loop-x-init
 loop-x-init g c = record {
   within = omega arith;
-  sent = half_as _ _ _ _ _ _ _ _ (left-start c.args.bitmap.now c.args.y) (half_none _ _ _ _);
+  sent = half_as _ _ _ _ _ _ (left-start c.args.bitmap.now c.args.y) (half_none _ _ _);
 }
 
 pub returns-in-Err : goal.returns-in-Err
 returns-in-Err g c =
-    stops_at (left_calls c.args.bitmap.now c.args.y (c.loop-x.x + 8 * c.in-Some.count)) (left-run c.args.bitmap.now c.args.y c.loop-x.x c.in-Some.count c.in-Some.black (omega arith) c.in-Some.ensures.0 c.in-Some.ensures.1)
-    c.loop-x.invariant.sent (one_stops _ (Chunk c.in-Some.black c.in-Some.count) _ _ _ _ c.in-Err.ensures)
+    stops_at g.D.Decoder.conduct (left_calls c.args.bitmap.now c.args.y (c.loop-x.x + 8 * c.in-Some.count)) (left-run c.args.bitmap.now c.args.y c.loop-x.x c.in-Some.count c.in-Some.black (omega arith) c.in-Some.ensures.0 c.in-Some.ensures.1)
+    c.loop-x.invariant.sent (one_stops g.D.Decoder.conduct (Chunk c.in-Some.black c.in-Some.count) c.in-Err.error c.loop-x.decoder c.push_pixel_chunk.new.self c.in-Err.ensures)
 
 pub overflow_mul-x : goal.overflow_mul-x
 overflow_mul-x g c = omega (arith, c.in-Some.ensures.2)
@@ -27,35 +27,35 @@ pub loop-x-preserved-in-Some : goal.loop-x-preserved-in-Some
 loop-x-preserved-in-Some g c = record {
   within = omega (arith, c.in-Some.ensures.2);
   sent =
-      goes_on (Chunk c.in-Some.black c.in-Some.count ∷ []) (left-run c.args.bitmap.now c.args.y c.loop-x.x c.in-Some.count c.in-Some.black (omega arith) c.in-Some.ensures.0 c.in-Some.ensures.1)
+      goes_on g.D.Decoder.conduct (Chunk c.in-Some.black c.in-Some.count ∷ []) (left-run c.args.bitmap.now c.args.y c.loop-x.x c.in-Some.count c.in-Some.black (omega arith) c.in-Some.ensures.0 c.in-Some.ensures.1)
       c.loop-x.invariant.sent c.in-Ok.ensures;
 }
 
 pub returns-in-Err-push_pixels : goal.returns-in-Err-push_pixels
 returns-in-Err-push_pixels g c =
-    stops_at (left_calls c.args.bitmap.now c.args.y (c.loop-x.x + 8)) (left-byte c.args.bitmap.now c.args.y c.loop-x.x (omega arith) c.in_default.ensures.0 c.in_default.ensures.1)
+    stops_at g.D.Decoder.conduct (left_calls c.args.bitmap.now c.args.y (c.loop-x.x + 8)) (left-byte c.args.bitmap.now c.args.y c.loop-x.x (omega arith) c.in_default.ensures.0 c.in_default.ensures.1)
     c.loop-x.invariant.sent c.in-Err-push_pixels.ensures
 
 pub loop-x-preserved : goal.loop-x-preserved
 loop-x-preserved g c = record {
   within = omega arith;
   sent =
-      goes_on (singles (take (c.loop-x.x + 8 - c.loop-x.x) (drop c.loop-x.x (row_of c.args.bitmap.now c.args.y)))) (left-byte c.args.bitmap.now c.args.y c.loop-x.x (omega arith) c.in_default.ensures.0 c.in_default.ensures.1)
+      goes_on g.D.Decoder.conduct (singles (take (c.loop-x.x + 8 - c.loop-x.x) (drop c.loop-x.x (row_of c.args.bitmap.now c.args.y)))) (left-byte c.args.bitmap.now c.args.y c.loop-x.x (omega arith) c.in_default.ensures.0 c.in_default.ensures.1)
       c.loop-x.invariant.sent c.in-Ok-push_pixels.ensures;
 }
 
 pub returns-in-Err-push_pixels-2 : goal.returns-in-Err-push_pixels-2
 returns-in-Err-push_pixels-2 g c =
-    stops_at (Line ∷ []) (left-last c.args.bitmap.now c.args.y c.loop-x.x c.width-width.result c.width-width.ensures.value (omega arith))
+    stops_at g.D.Decoder.conduct (Line ∷ []) (left-last c.args.bitmap.now c.args.y c.loop-x.x c.width-width.result c.width-width.ensures.value (omega arith))
     c.loop-x.invariant.sent c.in-Err-push_pixels-2.ensures
 
 -- the last call, taken or refused
-last_call : {P : Type 0} (step : P → Call → P) (all : List Call) (call : Call) (r : Result (Unit {0}) DecodeError) (p : P) (n : ℕ) (q : P) (m : ℕ) (s : P) (k : ℕ) → Half step all (call ∷ []) p n q m → Takes step call r q m s k → Sends step all r p n s k
-last_call step all call (Ok u) p n q m s k h taken = half_done step all p n s k (goes_on (call ∷ []) refl h taken)
-last_call step all call (Err e) p n q m s k h refused = stops_at [] refl h (one_stops step call q m s k refused)
+last_call : {S : Type 0} (d : Conduct S) (all : List Call) (call : Call) (r : Result (Unit {0}) DecodeError) (old mid new : S) → Half d all (call ∷ []) old mid → Takes d call r mid new → Sends d all r old new
+last_call d all call (Ok u) old mid new h taken = half_done d all old new (goes_on d (call ∷ []) refl h taken)
+last_call d all call (Err e) old mid new h refused = stops_at d [] refl h (one_stops d call e mid new refused)
 
 pub returns : goal.returns
 returns g c =
-    last_call _ _ Line c.next_line.result _ _ _ _ _ _
-    (goes_on (singles (take (c.width-width.result - c.loop-x.x) (drop c.loop-x.x (row_of c.args.bitmap.now c.args.y)))) (left-last c.args.bitmap.now c.args.y c.loop-x.x c.width-width.result c.width-width.ensures.value (omega arith)) c.loop-x.invariant.sent c.in-Ok-push_pixels-2.ensures)
+    last_call g.D.Decoder.conduct _ Line c.next_line.result _ _ _
+    (goes_on g.D.Decoder.conduct (singles (take (c.width-width.result - c.loop-x.x) (drop c.loop-x.x (row_of c.args.bitmap.now c.args.y)))) (left-last c.args.bitmap.now c.args.y c.loop-x.x c.width-width.result c.width-width.ensures.value (omega arith)) c.loop-x.invariant.sent c.in-Ok-push_pixels-2.ensures)
     c.next_line.ensures

@@ -7,7 +7,7 @@ use Rattle.hayro_jbig2.proofs.calls.push_row.Given as goal
 abbrev pub invariant-loop-x : goal.invariant-loop-x
 invariant-loop-x g l = record {
   within : l.x ≤ l.width;
-  sent : Half g.D.Decoder.step (line_calls l.bitmap l.y) (left_calls l.bitmap l.y l.x) (g.D.Decoder.picture l.fn.decoder) (g.D.Decoder.refusals l.fn.decoder) (g.D.Decoder.picture l.decoder) (g.D.Decoder.refusals l.decoder);
+  sent : Half g.D.Decoder.conduct (line_calls l.bitmap l.y) (left_calls l.bitmap l.y l.x) l.fn.decoder l.decoder;
 }
 
 abbrev pub decreases-loop-x : goal.decreases-loop-x

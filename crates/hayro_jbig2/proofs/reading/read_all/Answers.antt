@@ -4,8 +4,8 @@ use Rattle.hayro_jbig2.proofs.Consuming.{consumes-all, consumes-kept, consumes-m
 use Rattle.hayro_jbig2.proofs.reading.read_all.Goals as goal
 use Rattle.hayro_jbig2.proofs.reading.read_all.Goals.{in-Ok+in_ok-extend_from_slice-in-Ok, in-Err+else-ne}
 
-pub returns-in-Ok-eq0 : goal.returns-in-Ok-eq0
-returns-in-Ok-eq0 g c =
+pub returns-in-Ok-eq0-clause-bytes : goal.returns-in-Ok-eq0-clause-bytes
+returns-in-Ok-eq0-clause-bytes g c =
     let told : Option (List ℕ) = g.R.Read.remaining c.args.reader.now in
     let before : Option (List ℕ) = g.R.Read.remaining c.loop-turn.reader in
     let after : Option (List ℕ) = g.R.Read.remaining c.read.new.self in

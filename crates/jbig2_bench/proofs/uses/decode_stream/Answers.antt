@@ -1,22 +1,21 @@
-use Rattle.std.proofs.Common.{◌≡◌, ℕ, false, List, Option, Some, Result, Ok, Err, ◌⊎◌, inl, inr, ⊎_elim, refl}
+use Rattle.std.proofs.Common.{◌≡◌, false, List, Option, Some, Result, Ok, Err, ◌⊎◌, inl, inr, ⊎_elim, refl}
 use Rattle.std.proofs.lemmas.Result.{err_from_is_err_and}
 use Rattle.std.specs.Borrow.{Bor}
 use Rattle.std.specs.Option.{option_map}
 use Rattle.jbig2_base.specs.Grid.{Grid}
 use Rattle.jbig2_base.specs.declared.error.DecodeError.{DecodeError}
 use Rattle.jbig2_base.specs.declared.error.DecodeError.TheVariants.{OutOfMemory}
-use Rattle.hayro_jbig2.specs.Calls.{Call}
 use Rattle.hayro_jbig2.specs.Globals.{globals_at}
 use Rattle.hayro_jbig2.specs.Names.{Names}
 use Rattle.hayro_jbig2.specs.Page.{embedded}
-use Rattle.hayro_jbig2.specs.Sends.{Decodes}
+use Rattle.hayro_jbig2.specs.Sends.{Conduct, Decodes}
 use Rattle.jbig2_bench.specs.Uses.{grid_of_stream}
 use Rattle.jbig2_bench.proofs.uses.decode_stream.Goals as goal
 
 -- an error before any call
-refused : {P : Type 0} (step : P → Call → P) (meant : Result Grid DecodeError) (e : DecodeError) (p : P) (n : ℕ) → (e ≡ OutOfMemory) ⊎ (meant ≡ Err e) → Decodes step meant (Err e) p n p n
-refused step (Ok grid) e p n why = ⊎_elim (λ (memory : e ≡ OutOfMemory). inr (memory, refl, refl)) (λ (is : Ok grid ≡ Err e). absurd (cc)) why
-refused step (Err f) e p n why = ⊎_elim (λ (memory : e ≡ OutOfMemory). (inr memory, refl, refl)) (λ (is : Err f ≡ Err e). (inl (cc), refl, refl)) why
+refused : {S : Type 0} (d : Conduct S) (meant : Result Grid DecodeError) (e : DecodeError) (s : S) → (e ≡ OutOfMemory) ⊎ (meant ≡ Err e) → Decodes d meant (Err e) s s
+refused d (Ok grid) e s why = ⊎_elim (λ (memory : e ≡ OutOfMemory). inr (memory, (refl, refl))) (λ (is : Ok grid ≡ Err e). absurd (cc)) why
+refused d (Err f) e s why = ⊎_elim (λ (memory : e ≡ OutOfMemory). (inr memory, (refl, refl))) (λ (is : Err f ≡ Err e). (inl (cc), (refl, refl))) why
 
 -- a page that is refused, with globals that were read
 page-refused : (given : Option (Bor (List ℕ))) (bytes : Bor (List ℕ)) (stream : List ℕ) (names : Names) (e : DecodeError) → given ≡ Some bytes → globals_at false bytes.now ≡ Ok names → embedded false names stream ≡ Err e → grid_of_stream (option_map (λ b. b.now) given) stream ≡ Err e
@@ -32,4 +31,4 @@ returns-in_err-page-in-Some g c =
     (λ unread. inr (page-refused c.args.globals c.in-Some.bytes c.args.stream.now c.in_ok-globals-in-Some.globals e c.in-Some.is c.in_ok-globals-in-Some.ensures unread))
     c.in_err-page-in-Some.ensures
     in
-    rw (answered.1, answered.2) (refused g.D.Decoder.step (grid_of_stream (option_map (λ b. b.now) c.args.globals) c.args.stream.now) e (g.D.Decoder.picture c.args.decoder.now) (g.D.Decoder.refusals c.args.decoder.now) why)
+    rw (answered.1, answered.2) (refused g.D.Decoder.conduct (grid_of_stream (option_map (λ b. b.now) c.args.globals) c.args.stream.now) e c.args.decoder.now why)
