@@ -8,6 +8,7 @@ use Rattle.std.proofs.lemmas.List.{length-append}
 use Rattle.std.proofs.lemmas.List.Elements.{filter-append}
 use Rattle.std.proofs.lemmas.Bool.{true≢false, cases_eq, cases_lt, cond-true, cond-false, and_from, and_left, and_right, or_left, or_right, or_from, le-leb, lt-leb, lt-ltb, le-ltb, eq-eqb, ne_eqb}
 use Rattle.jbig2_base.specs.Grid.{Grid, pixel_at, bit_number}
+use Rattle.jbig2_base.specs.inner.Colour.{IsFirst}
 use Rattle.jbig2_base.specs.inner.Table.{IsTable}
 use Rattle.jbig2_base.proofs.GridLemmas.{pixel_at-below}
 use Rattle.jbig2_base.proofs.SearchLemmas.{place-is, place-past}
@@ -16,7 +17,7 @@ use Rattle.jbig2_mmr.specs.declared.mmr.row.Turn.{Turn}
 use Rattle.jbig2_base.specs.Search.{least, place_from}
 use Rattle.jbig2_mmr.specs.T6.{differ, left_of, is_change, is_change_from, Head, Step, b1_of, b2_of, run, after_pass, after_runs, after_vertical, place_in, after_mode, next_step, read_code, row_from, row_start, black_at, ◌>>=◌}
 use Rattle.jbig2_mmr.specs.T6Codes.{modes}
-use Rattle.jbig2_mmr.specs.inner.T6Reading.{row_above, row_of, IsFirst, IsSpan, IsTurn, ReadRun}
+use Rattle.jbig2_mmr.specs.inner.T6Reading.{row_above, row_of, IsSpan, IsTurn, ReadRun}
 use Rattle.jbig2_mmr.specs.inner.T6Calls.{head_of, ReadStep, ReadRow}
 
 -- ---- parity of changes

@@ -61,13 +61,6 @@ abbrev pub row_above : Grid → ℕ → ℕ → Bool
 row_above g zero x = false
 row_above g (suc y) x = pixel_at g x y
 
--- the first place of a colour from `from` on, or the end
-pub record IsFirst (row : ℕ → Bool) (black : Bool) (from to place : ℕ) : Type 0 where
-  pub after : from ≤ place
-  pub within : place ≤ to
-  pub before : (x : ℕ) → from ≤ x → x < place → row x ≡ not black
-  pub found : place < to → row place ≡ black
-
 -- row y has the pixels of f, and the other rows are the old ones
 pub record IsRow (old new : Grid) (y : ℕ) (f : ℕ → Bool) : Type 0 where
   pub width : new.width ≡ old.width

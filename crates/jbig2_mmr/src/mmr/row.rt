@@ -7,8 +7,9 @@ ghost use Rattle.jbig2_mmr.specs.inner.T6Reading.{row_above, row_of};
 
 use crate::mmr::bits::CodeReader;
 use crate::mmr::codes::Mode;
-use crate::mmr::span::{fill_span, find_colour};
+use crate::mmr::span::fill_span;
 use jbig2_base::bitmap::Bitmap;
+use jbig2_base::bitmap::colour::find_colour;
 use jbig2_base::bitmap::steps::Steps;
 use std::alloc::Allocator;
 use std::sync::ledger::Ledger;
