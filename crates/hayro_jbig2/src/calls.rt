@@ -7,9 +7,9 @@ ghost use Rattle.hayro_jbig2.specs.Sends.{IsCountable, Sends};
 
 use crate::decoder::Decoder;
 use jbig2_base::bitmap::Bitmap;
+use jbig2_base::bitmap::colour::find_colour;
 use jbig2_base::bitmap::steps::Steps;
 use jbig2_base::error::Result;
-use jbig2_mmr::mmr::span::find_colour;
 use std::alloc::Allocator;
 use std::sync::ledger::Ledger;
 

@@ -1,4 +1,5 @@
 pub mod Blocks
+pub mod Colour
 pub mod Filled
 pub mod Packed
 pub mod SegmentViews

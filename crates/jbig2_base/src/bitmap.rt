@@ -8,6 +8,7 @@ ghost use Rattle.jbig2_base.specs.inner.Table.{IsTable};
 ghost use Rattle.jbig2_base.specs.inner.WordBits.{bit};
 ghost use Rattle.jbig2_base.specs.inner.Writes.{with_pixel, with_pixels};
 
+pub mod colour;
 mod combine;
 pub mod operator;
 pub mod part;

@@ -1,5 +1,6 @@
 mod T6Bits
 mod T6Decoding
+mod T6Lookup
 pub mod T6Rows
 mod T6Runs
 mod T6Spans

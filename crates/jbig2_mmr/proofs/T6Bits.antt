@@ -1,9 +1,9 @@
 -- Bits of bytes, their numbers, and the codes that begin them.
-use Rattle.std.proofs.Common.{◌≡◌, ℕ, zero, suc, ◌+◌, ◌-◌, ◌*◌, ◌/◌, ◌%◌, ◌^◌, ◌<◌, ◌≤◌, Bool, true, false, ◌&&◌, eqb, ltb, leb, List, [], ◌∷◌, ◌++◌, length, take, drop, map, get_or, min, Some, None, refl, sym, ap, subst, ◌∙◌, ⊎_elim, zero-add, arith}
+use Rattle.std.proofs.Common.{◌≡◌, ℕ, zero, suc, ◌+◌, ◌-◌, ◌*◌, ◌/◌, ◌%◌, ◌^◌, ◌<◌, ◌≤◌, Bool, true, false, ◌&&◌, eqb, ltb, leb, List, [], ◌∷◌, ◌++◌, length, take, drop, map, replicate, get_or, min, Some, None, refl, sym, ap, subst, ◌∙◌, ⊎_elim, zero-add, arith}
 use Rattle.std.proofs.Math.Nat.{pow-suc}
 use Rattle.std.specs.List.{flat_map}
 use Rattle.std.proofs.lemmas.Nat.{pow-add, shr-shr, mod_low, shr_high, shl_below}
-use Rattle.std.proofs.lemmas.List.{drop-drop, length-drop, take-append-drop, drop-append-le, take-append-le, drop_more, drop_all}
+use Rattle.std.proofs.lemmas.List.{take-replicate, drop-drop, length-drop, take-append-drop, drop-append-le, take-append-le, drop_more, drop_all}
 use Rattle.std.proofs.lemmas.Bool.{cases_eq, cases_lt, cond-true, cond-false, and_from, and_left, and_right, and_parts, le-leb, lt-leb, eq-eqb, ne_eqb, ltb-true, leb-true}
 use Rattle.jbig2_base.specs.Bits.{byte_bits, number_after}
 use Rattle.jbig2_mmr.specs.declared.mmr.codes.Code.{Code}
@@ -71,7 +71,7 @@ used-begun byte bit len left inside few end e some =
 regroup : (f b p n : ℕ) → (2 * f + b) * p + n ≡ f * (2 * p) + (b * p + n)
 regroup f b p n = omega arith
 
-number-front : (f : ℕ) (xs : List ℕ) → number_after f xs ≡ f * 2 ^ length xs + number_after 0 xs
+pub number-front : (f : ℕ) (xs : List ℕ) → number_after f xs ≡ f * 2 ^ length xs + number_after 0 xs
 number-front f [] = omega arith
 number-front f (b ∷ xs) =
     let p : ℕ = 2 ^ length xs in
@@ -93,7 +93,7 @@ below-both zero p n h k = omega arith
 below-both (suc zero) p n h k = omega arith
 below-both (suc (suc b)) p n h k = absurd (omega arith)
 
-number-lt : (xs : List ℕ) → AreBits xs → number_after 0 xs < 2 ^ length xs
+pub number-lt : (xs : List ℕ) → AreBits xs → number_after 0 xs < 2 ^ length xs
 number-lt [] h = omega arith
 number-lt (b ∷ xs) h =
     let twice : 2 ^ length (b ∷ xs) ≡ 2 * 2 ^ length xs = pow-suc 2 (length xs) ∙ omega arith in
@@ -166,6 +166,27 @@ four-bits (a ∷ b ∷ []) k n few short inside = front-same (flat_map byte_bits
 four-bits (a ∷ b ∷ c ∷ []) k n few short inside = front-same (flat_map byte_bits (a ∷ b ∷ c ∷ [])) (flat_map byte_bits (0 ∷ [])) k n inside
 four-bits (a ∷ b ∷ c ∷ d ∷ ps) k n few short inside = sym (front-same (flat_map byte_bits (a ∷ b ∷ c ∷ d ∷ [])) (flat_map byte_bits ps) k n (omega arith))
 
+-- bits with zeros behind them, as far as the zeros reach
+zeros-same : (n : ℕ) (xs : List ℕ) (p q : ℕ) → n ≤ length xs + p → n ≤ length xs + q → take n (xs ++ replicate p 0) ≡ take n (xs ++ replicate q 0)
+zeros-same n [] p q short enough = take-replicate n p 0 (omega arith) ∙ sym (take-replicate n q 0 (omega arith))
+zeros-same zero (x ∷ xs) p q short enough = refl
+zeros-same (suc n) (x ∷ xs) p q short enough = ap (λ (ys : List ℕ). x ∷ ys) (zeros-same n xs p q (omega arith) (omega arith))
+
+zeros-behind : (xs : List ℕ) (k n p : ℕ) → k ≤ length xs → n ≤ 24 → k + n ≤ length xs + p → take n (drop k (xs ++ replicate p 0)) ≡ take n (drop k xs ++ replicate 24 0)
+zeros-behind xs k n p inside few enough =
+    ap (λ (ys : List ℕ). take n ys) (drop-append-le k xs (replicate p 0) inside)
+    ∙ zeros-same n (drop k xs) p 24 (omega (arith, length-drop k xs)) (omega arith)
+
+four-padded : (ps : List ℕ) (k n : ℕ) → k < 8 → n ≤ 24 → k ≤ length (flat_map byte_bits ps) → take n (drop k (flat_map byte_bits (four ps))) ≡ take n (drop k (flat_map byte_bits ps) ++ replicate 24 0)
+four-padded [] k n few short inside = zeros-behind [] k n 32 inside short (omega arith)
+four-padded (a ∷ []) k n few short inside = zeros-behind (byte_bits a) k n 24 inside short (omega arith)
+four-padded (a ∷ b ∷ []) k n few short inside = zeros-behind (flat_map byte_bits (a ∷ b ∷ [])) k n 16 inside short (omega arith)
+four-padded (a ∷ b ∷ c ∷ []) k n few short inside = zeros-behind (flat_map byte_bits (a ∷ b ∷ c ∷ [])) k n 8 inside short (omega arith)
+four-padded (a ∷ b ∷ c ∷ d ∷ ps) k n few short inside =
+    let rest : List ℕ = drop k (flat_map byte_bits (a ∷ b ∷ c ∷ d ∷ ps)) in
+    four-bits (a ∷ b ∷ c ∷ d ∷ ps) k n few short (omega (arith, length-bits (a ∷ b ∷ c ∷ d ∷ ps)))
+    ∙ sym (take-append-le n rest (replicate 24 0) (omega (arith, length-drop k (flat_map byte_bits (a ∷ b ∷ c ∷ d ∷ ps)), length-bits (a ∷ b ∷ c ∷ d ∷ ps))))
+
 byte-front : (b : ℕ) (bytes : List ℕ) → b < 256 → number_after 0 (flat_map byte_bits (b ∷ bytes)) ≡ b * 2 ^ (8 * length bytes) + number_after 0 (flat_map byte_bits bytes)
 byte-front b bytes h =
     number-both (byte_bits b) (flat_map byte_bits bytes)
@@ -184,6 +205,14 @@ window-is word a b c d ps k n e ea eb ec ed p q r s few short inside =
     ∙ window-bits (flat_map byte_bits (a ∷ b ∷ c ∷ d ∷ [])) k n (bits-bytes (a ∷ b ∷ c ∷ d ∷ [])) refl few short
     ∙ ap (λ (l : List ℕ). number_after 0 (take n (drop k l))) same
     ∙ ap (λ (l : List ℕ). number_after 0 l) (four-bits ps k n few short inside)
+
+pub window-padded : (word a b c d : ℕ) (ps : List ℕ) (k n : ℕ) → word ≡ a * 16777216 + (b * 65536 + (c * 256 + d)) → a ≡ get_or ps 0 0 → b ≡ get_or ps 1 0 → c ≡ get_or ps 2 0 → d ≡ get_or ps 3 0 → a < 256 → b < 256 → c < 256 → d < 256 → k < 8 → n ≤ 24 → k ≤ length (flat_map byte_bits ps) → word * 2 ^ k % 2 ^ 32 / 2 ^ 8 / 2 ^ (24 - n) ≡ number_after 0 (take n (drop k (flat_map byte_bits ps) ++ replicate 24 0))
+window-padded word a b c d ps k n e ea eb ec ed p q r s few short inside =
+    let same : flat_map byte_bits (a ∷ b ∷ c ∷ d ∷ []) ≡ flat_map byte_bits (four ps) = ap (λ (l : List ℕ). flat_map byte_bits l) (let l : a ∷ b ∷ c ∷ d ∷ [] ≡ four ps = cc in l) in
+    ap (λ (v : ℕ). v * 2 ^ k % 2 ^ 32 / 2 ^ 8 / 2 ^ (24 - n)) (e ∙ sym (four-number a b c d p q r s))
+    ∙ window-bits (flat_map byte_bits (a ∷ b ∷ c ∷ d ∷ [])) k n (bits-bytes (a ∷ b ∷ c ∷ d ∷ [])) refl few short
+    ∙ ap (λ (l : List ℕ). number_after 0 (take n (drop k l))) same
+    ∙ ap (λ (l : List ℕ). number_after 0 l) (four-padded ps k n few short inside)
 
 -- ---- code words
 digit : (f g b c : ℕ) → b < 2 → c < 2 → eqb (2 * g + b) (2 * f + c) ≡ (eqb g f && eqb b c)

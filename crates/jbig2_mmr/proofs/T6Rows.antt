@@ -1,19 +1,23 @@
 -- Changes, changing elements, modes and rows.
-use Rattle.std.proofs.Common.{◌≡◌, ℕ, zero, suc, ◌+◌, ◌-◌, ◌%◌, ◌<◌, ◌≤◌, Bool, true, false, not, cond, eqb, ltb, leb, List, [], ◌∷◌, ◌++◌, length, Option, Some, None, refl, sym, ap, subst, ◌∙◌, ⊎_elim, add-one, arith}
-use Rattle.std.specs.Prelude.{filter, ◌||◌, ◌⊎◌}
+use Rattle.std.proofs.Common.{◌≡◌, ℕ, zero, suc, ◌+◌, ◌-◌, ◌%◌, ◌^◌, ◌<◌, ◌≤◌, ◌&&◌, ℤ, pos, negsuc, ◌+ℤ◌, Bool, true, false, not, cond, eqb, ltb, leb, List, [], ◌∷◌, ◌++◌, length, Option, Some, None, refl, sym, ap, subst, ◌∙◌, ⊎_elim, add-one, arith}
+use Rattle.std.specs.Prelude.{filter, ◌⊎◌, unsigned_abs, ◌≤ℤ◌}
+use Rattle.std.specs.Int.{FitsUnsigned, w32}
+use Rattle.std.proofs.lemmas.Int.{ints}
 use mathlib.Core.Bool.{beq}
 use Rattle.std.proofs.lemmas.List.{length-append}
 use Rattle.std.proofs.lemmas.List.Elements.{filter-append}
 use Rattle.std.proofs.lemmas.Bool.{true≢false, cases_eq, cases_lt, cond-true, cond-false, and_from, and_left, and_right, or_left, or_right, or_from, le-leb, lt-leb, lt-ltb, le-ltb, eq-eqb, ne_eqb}
 use Rattle.jbig2_base.specs.Grid.{Grid, pixel_at, bit_number}
+use Rattle.jbig2_base.specs.inner.Colour.{IsFirst}
 use Rattle.jbig2_base.specs.inner.Table.{IsTable}
 use Rattle.jbig2_base.proofs.GridLemmas.{pixel_at-below}
 use Rattle.jbig2_base.proofs.SearchLemmas.{place-is, place-past}
+use Rattle.jbig2_mmr.specs.declared.mmr.codes.Mode.{Mode}
 use Rattle.jbig2_mmr.specs.declared.mmr.row.Turn.{Turn}
 use Rattle.jbig2_base.specs.Search.{least, place_from}
-use Rattle.jbig2_mmr.specs.T6.{differ, left_of, is_change, is_change_from, Head, Step, b1_of, b2_of, run, after_pass, after_runs, after_vertical, after_mode, next_step, read_code, row_from, row_start, black_at, ◌and_then◌}
+use Rattle.jbig2_mmr.specs.T6.{differ, left_of, is_change, is_change_from, Head, Step, b1_of, b2_of, run, after_pass, after_runs, after_vertical, place_in, after_mode, next_step, read_code, row_from, row_start, black_at, ◌>>=◌}
 use Rattle.jbig2_mmr.specs.T6Codes.{modes}
-use Rattle.jbig2_mmr.specs.inner.T6Reading.{row_above, row_of, IsFirst, IsSpan, IsTurn}
+use Rattle.jbig2_mmr.specs.inner.T6Reading.{row_above, row_of, IsSpan, IsTurn, ReadRun}
 use Rattle.jbig2_mmr.specs.inner.T6Calls.{head_of, ReadStep, ReadRow}
 
 -- ---- parity of changes
@@ -203,61 +207,113 @@ pass-read w above h b1 b2 t bits e within other forward first turn next =
       subst (λ (m : Head). IsTurn w h [] t.turn m) (sym next) (subst (λ (n : ℕ). IsTurn w h [] n (record { a0 = b2; begun = true; black = h.black })) (sym turn) (pass-turn w h b2 (omega (arith, first.after)) first.within)),
     )
 
-pub vertical-read : (w : ℕ) (above : ℕ → Bool) (h : Head) (b1 v : ℕ) (t : Turn) (bits : List ℕ) → b1 ≡ b1_of w above h → h.a0 + 3 ≤ b1 + v → b1 + v ≤ w + 3 → t.turn ≡ b1 + v - 3 → head_of t.next ≡ record { a0 = b1 + v - 3; begun = true; black = not h.black } → ReadStep w h (after_vertical w above h v bits) (Some t) bits
+-- ---- vertical modes
+abbrev vertical_made : Head → ℕ → List ℕ → Step
+vertical_made h a1 bits = record { head = record { a0 = a1; begun = true; black = not h.black }; added = a1 ∷ []; left = bits }
+
+pub vertical-read : (w : ℕ) (above : ℕ → Bool) (h : Head) (b1 a1 : ℕ) (distance : ℤ) (t : Turn) (bits : List ℕ) → b1 ≡ b1_of w above h → pos b1 +ℤ distance ≡ pos a1 → h.a0 ≤ a1 → a1 ≤ w → t.turn ≡ a1 → head_of t.next ≡ record { a0 = a1; begun = true; black = not h.black } → ReadStep w h (after_vertical w above h distance bits) (Some t) bits
 unfolding after_vertical
-vertical-read w above h b1 v t bits e forward within turn next =
-    let made : Step = record { head = record { a0 = b1 + v - 3; begun = true; black = not h.black }; added = (b1 + v - 3) ∷ []; left = bits } in
-    let meant = λ (b : ℕ). cond (ltb (b + v) (h.a0 + 3) || ltb (w + 3) (b + v)) None (let s : Step = record { head = record { a0 = b + v - 3; begun = true; black = not h.black }; added = (b + v - 3) ∷ []; left = bits } in Some s) in
-    let is : meant (b1_of w above h) ≡ Some made =
-    ap meant (sym e) ∙ cond-false (ltb (b1 + v) (h.a0 + 3) || ltb (w + 3) (b1 + v)) None (Some made) (or_from (ltb (b1 + v) (h.a0 + 3)) (ltb (w + 3) (b1 + v)) (le-ltb (b1 + v) (h.a0 + 3) forward) (le-ltb (w + 3) (b1 + v) within)) in
+vertical-read w above h b1 a1 distance t bits e sum forward within turn next =
+    let place : place_in h.a0 w (pos (b1_of w above h) +ℤ distance) ≡ Some a1 =
+    ap (λ (b : ℕ). place_in h.a0 w (pos b +ℤ distance)) (sym e) ∙ ap (λ (z : ℤ). place_in h.a0 w z) sum
+    ∙ cond-true (leb h.a0 a1 && leb a1 w) (Some a1) None (and_from (leb h.a0 a1) (leb a1 w) (le-leb h.a0 a1 forward) (le-leb a1 w within)) in
+    let is : after_vertical w above h distance bits ≡ Some (vertical_made h a1 bits) = ap (λ (o : Option ℕ). o >>= (λ a. Some (vertical_made h a bits))) place in
     subst (λ (o : Option Step). ReadStep w h o (Some t) bits) (sym is) (
       sym next,
       refl,
-      subst (λ (m : Head). IsTurn w h ((b1 + v - 3) ∷ []) t.turn m) (sym next) (subst (λ (n : ℕ). IsTurn w h ((b1 + v - 3) ∷ []) n (record { a0 = b1 + v - 3; begun = true; black = not h.black })) (sym turn) (vertical-turn w h (b1 + v - 3) (omega arith) (omega arith))),
+      subst (λ (m : Head). IsTurn w h (a1 ∷ []) t.turn m) (sym next) (subst (λ (n : ℕ). IsTurn w h (a1 ∷ []) n (record { a0 = a1; begun = true; black = not h.black })) (sym turn) (vertical-turn w h a1 forward within)),
     )
 
-pub vertical-fault : (w : ℕ) (above : ℕ → Bool) (h : Head) (b1 v : ℕ) (bits : List ℕ) → b1 ≡ b1_of w above h → (b1 + v < h.a0 + 3) ⊎ (w + 3 < b1 + v) → ReadStep w h (after_vertical w above h v bits) None bits
-unfolding after_vertical
-vertical-fault w above h b1 v bits e fault =
-    let meant = λ (b : ℕ). cond (ltb (b + v) (h.a0 + 3) || ltb (w + 3) (b + v)) None (let s : Step = record { head = record { a0 = b + v - 3; begun = true; black = not h.black }; added = (b + v - 3) ∷ []; left = bits } in Some s) in
-    let made : Step = record { head = record { a0 = b1 + v - 3; begun = true; black = not h.black }; added = (b1 + v - 3) ∷ []; left = bits } in
-    let test : (ltb (b1 + v) (h.a0 + 3) || ltb (w + 3) (b1 + v)) ≡ true =
-    ⊎_elim (λ (p : b1 + v < h.a0 + 3). or_left (ltb (b1 + v) (h.a0 + 3)) (ltb (w + 3) (b1 + v)) (lt-ltb (b1 + v) (h.a0 + 3) p)) (λ (p : w + 3 < b1 + v). or_right (ltb (b1 + v) (h.a0 + 3)) (ltb (w + 3) (b1 + v)) (lt-ltb (w + 3) (b1 + v) p)) fault in
-    subst (λ (o : Option Step). ReadStep w h o None bits) (sym (ap meant (sym e) ∙ cond-true (ltb (b1 + v) (h.a0 + 3) || ltb (w + 3) (b1 + v)) None (Some made) test)) tt
+-- a1 is no place of the row
+pub outside-low : (a0 w a1 : ℕ) (z : ℤ) → z ≡ pos a1 → a1 < a0 → place_in a0 w z ≡ None
+outside-low a0 w a1 z e low = ap (λ (z : ℤ). place_in a0 w z) e ∙ cond-false (leb a0 a1 && leb a1 w) (Some a1) None (and_left (leb a0 a1) (leb a1 w) (lt-leb a0 a1 low))
 
--- two runs
-pub runs-read : (w : ℕ) (h : Head) (r s : ℕ) (bits middle left : List ℕ) (t : Turn) → h.a0 ≤ w → Some (r, middle) ≡ run h.black (w - h.a0) bits → r ≤ w - h.a0 → Some (s, left) ≡ run (not h.black) (w - (h.a0 + r)) middle → s ≤ w - (h.a0 + r) → t.turn ≡ h.a0 + r → head_of t.next ≡ record { a0 = h.a0 + r + s; begun = true; black = h.black } → ReadStep w h (after_runs w h bits) (Some t) left
+pub outside-high : (a0 w a1 : ℕ) (z : ℤ) → z ≡ pos a1 → w < a1 → place_in a0 w z ≡ None
+outside-high a0 w a1 z e high = ap (λ (z : ℤ). place_in a0 w z) e ∙ cond-false (leb a0 a1 && leb a1 w) (Some a1) None (and_right (leb a0 a1) (leb a1 w) (lt-leb a1 w high))
+
+pub outside-word : (a0 w : ℕ) (z : ℤ) → w < 2 ^ 32 → (FitsUnsigned w32 z → ⊥) → place_in a0 w z ≡ None
+outside-word a0 w (pos n) few none = outside-high a0 w n (pos n) refl (⊎_elim (λ (h : w < n). h) (λ (h : n ≤ w). absurd (none (omega (arith, ints), omega (arith, ints)))) (cases_lt w n))
+outside-word a0 w (negsuc n) few none = refl
+
+-- what a checked sum says of the sum
+pub sum-is : (z : ℤ) (a1 : ℕ) → FitsUnsigned w32 z → a1 ≡ unsigned_abs z → z ≡ pos a1
+sum-is (pos n) a1 fits e = ap (λ (k : ℕ). pos k) (sym e)
+sum-is (negsuc n) a1 fits e = absurd (let low : pos 0 ≤ℤ negsuc n = fits.0 in omega (arith, ints, low))
+
+pub vertical-fault : (w : ℕ) (above : ℕ → Bool) (h : Head) (b1 : ℕ) (distance : ℤ) (bits : List ℕ) → b1 ≡ b1_of w above h → place_in h.a0 w (pos b1 +ℤ distance) ≡ None → ReadStep w h (after_vertical w above h distance bits) None bits
+unfolding after_vertical
+vertical-fault w above h b1 distance bits e fault =
+    let place : place_in h.a0 w (pos (b1_of w above h) +ℤ distance) ≡ None = ap (λ (b : ℕ). place_in h.a0 w (pos b +ℤ distance)) (sym e) ∙ fault in
+    let is : after_vertical w above h distance bits ≡ None = ap (λ (o : Option ℕ). o >>= (λ a. Some (vertical_made h a bits))) place in
+    subst (λ (o : Option Step). ReadStep w h o None bits) (sym is) tt
+
+-- ---- two runs
+abbrev runs_made : Head → ℕ → ℕ → List ℕ → Step
+runs_made h a1 a2 bits = record { head = record { a0 = a2; begun = true; black = h.black }; added = a1 ∷ a2 ∷ []; left = bits }
+
+abbrev second_run : ℕ → Head → ℕ → Option (ℕ × List ℕ) → Option Step
+second_run w h first o = o >>= (λ q. cond (leb (h.a0 + first + q.0) w) (Some (runs_made h (h.a0 + first) (h.a0 + first + q.0) q.1)) None)
+
+abbrev first_run : ℕ → Head → Option (ℕ × List ℕ) → Option Step
+first_run w h o = o >>= (λ p. second_run w h p.0 (run (not h.black) p.1))
+
+-- what a run that was read says
+run-is : (o : Option (ℕ × List ℕ)) (room n : ℕ) (left : List ℕ) → ReadRun o room (Some n) left → (o ≡ Some (n, left)) × (n ≤ room)
+run-is None room n left read = absurd read
+run-is (Some r) room n left read = (ap (λ (k : ℕ). Some (k, r.1)) read.0 ∙ ap (λ (ys : List ℕ). Some (n, ys)) read.1, read.2)
+
+second-past : (w : ℕ) (h : Head) (first : ℕ) (o : Option (ℕ × List ℕ)) → w < h.a0 + first → second_run w h first o ≡ None
+second-past w h first None past = refl
+second-past w h first (Some q) past = cond-false (leb (h.a0 + first + q.0) w) (Some (runs_made h (h.a0 + first) (h.a0 + first + q.0) q.1)) None (lt-leb (h.a0 + first + q.0) w (omega arith))
+
+first-fault : (w : ℕ) (h : Head) (o : Option (ℕ × List ℕ)) (left : List ℕ) → h.a0 ≤ w → ReadRun o (w - h.a0) None left → first_run w h o ≡ None
+first-fault w h None left inside read = refl
+first-fault w h (Some p) left inside read = second-past w h p.0 (run (not h.black) p.1) (omega (arith, read))
+
+second-fault : (w : ℕ) (h : Head) (first : ℕ) (o : Option (ℕ × List ℕ)) (left : List ℕ) → h.a0 + first ≤ w → ReadRun o (w - (h.a0 + first)) None left → second_run w h first o ≡ None
+second-fault w h first None left inside read = refl
+second-fault w h first (Some q) left inside read = cond-false (leb (h.a0 + first + q.0) w) (Some (runs_made h (h.a0 + first) (h.a0 + first + q.0) q.1)) None (lt-leb (h.a0 + first + q.0) w (omega (arith, read)))
+
+pub run-within : (o : Option (ℕ × List ℕ)) (room n : ℕ) (left : List ℕ) → ReadRun o room (Some n) left → n ≤ room
+run-within o room n left read = (run-is o room n left read).1
+
+pub runs-read : (w : ℕ) (h : Head) (r s : ℕ) (bits middle left : List ℕ) (t : Turn) → h.a0 ≤ w → ReadRun (run h.black bits) (w - h.a0) (Some r) middle → ReadRun (run (not h.black) middle) (w - (h.a0 + r)) (Some s) left → t.turn ≡ h.a0 + r → head_of t.next ≡ record { a0 = h.a0 + r + s; begun = true; black = h.black } → ReadStep w h (after_runs w h bits) (Some t) left
 unfolding after_runs
-runs-read w h r s bits middle left t inside first fits second more turn next =
-    let second_step = λ (o : Option (ℕ × List ℕ)). o and_then (λ q. let m : Step = record { head = record { a0 = h.a0 + r + q.0; begun = true; black = h.black }; added = (h.a0 + r) ∷ (h.a0 + r + q.0) ∷ []; left = q.1 } in Some m) in
-    let first_step = λ (o : Option (ℕ × List ℕ)). o and_then (λ p. run (not h.black) (w - (h.a0 + p.0)) p.1 and_then (λ q. let m : Step = record { head = record { a0 = h.a0 + p.0 + q.0; begun = true; black = h.black }; added = (h.a0 + p.0) ∷ (h.a0 + p.0 + q.0) ∷ []; left = q.1 } in Some m)) in
-    subst (λ (o : Option Step). ReadStep w h o (Some t) left) (ap second_step second ∙ ap first_step first) (
+runs-read w h r s bits middle left t inside first second turn next =
+    let one = run-is (run h.black bits) (w - h.a0) r middle first in
+    let two = run-is (run (not h.black) middle) (w - (h.a0 + r)) s left second in
+    let within : h.a0 + r + s ≤ w = omega (arith, one.1, two.1) in
+    let is : after_runs w h bits ≡ Some (runs_made h (h.a0 + r) (h.a0 + r + s) left) =
+    ap (λ (o : Option (ℕ × List ℕ)). first_run w h o) one.0 ∙ ap (λ (o : Option (ℕ × List ℕ)). second_run w h r o) two.0
+    ∙ cond-true (leb (h.a0 + r + s) w) (Some (runs_made h (h.a0 + r) (h.a0 + r + s) left)) None (le-leb (h.a0 + r + s) w within) in
+    subst (λ (o : Option Step). ReadStep w h o (Some t) left) (sym is) (
       sym next,
       refl,
-      subst (λ (m : Head). IsTurn w h ((h.a0 + r) ∷ (h.a0 + r + s) ∷ []) t.turn m) (sym next) (subst (λ (n : ℕ). IsTurn w h ((h.a0 + r) ∷ (h.a0 + r + s) ∷ []) n (record { a0 = h.a0 + r + s; begun = true; black = h.black })) (sym turn) (runs-turn w h r s (omega arith))),
+      subst (λ (m : Head). IsTurn w h ((h.a0 + r) ∷ (h.a0 + r + s) ∷ []) t.turn m) (sym next) (subst (λ (n : ℕ). IsTurn w h ((h.a0 + r) ∷ (h.a0 + r + s) ∷ []) n (record { a0 = h.a0 + r + s; begun = true; black = h.black })) (sym turn) (runs-turn w h r s within)),
     )
 
-pub runs-fault-first : (w : ℕ) (h : Head) (bits left : List ℕ) → None ≡ run h.black (w - h.a0) bits → ReadStep w h (after_runs w h bits) None left
+pub runs-fault-first : (w : ℕ) (h : Head) (bits left : List ℕ) → h.a0 ≤ w → ReadRun (run h.black bits) (w - h.a0) None left → ReadStep w h (after_runs w h bits) None left
 unfolding after_runs
-runs-fault-first w h bits left first =
-    let first_step = λ (o : Option (ℕ × List ℕ)). o and_then (λ p. run (not h.black) (w - (h.a0 + p.0)) p.1 and_then (λ q. let m : Step = record { head = record { a0 = h.a0 + p.0 + q.0; begun = true; black = h.black }; added = (h.a0 + p.0) ∷ (h.a0 + p.0 + q.0) ∷ []; left = q.1 } in Some m)) in
-    subst (λ (o : Option Step). ReadStep w h o None left) (ap first_step first) tt
+runs-fault-first w h bits left inside first =
+    let is : after_runs w h bits ≡ None = first-fault w h (run h.black bits) left inside first in
+    subst (λ (o : Option Step). ReadStep w h o None left) (sym is) tt
 
-pub runs-fault-second : (w : ℕ) (h : Head) (r : ℕ) (bits middle left : List ℕ) → Some (r, middle) ≡ run h.black (w - h.a0) bits → None ≡ run (not h.black) (w - (h.a0 + r)) middle → ReadStep w h (after_runs w h bits) None left
+pub runs-fault-second : (w : ℕ) (h : Head) (r : ℕ) (bits middle left : List ℕ) → h.a0 ≤ w → ReadRun (run h.black bits) (w - h.a0) (Some r) middle → ReadRun (run (not h.black) middle) (w - (h.a0 + r)) None left → ReadStep w h (after_runs w h bits) None left
 unfolding after_runs
-runs-fault-second w h r bits middle left first second =
-    let second_step = λ (o : Option (ℕ × List ℕ)). o and_then (λ q. let m : Step = record { head = record { a0 = h.a0 + r + q.0; begun = true; black = h.black }; added = (h.a0 + r) ∷ (h.a0 + r + q.0) ∷ []; left = q.1 } in Some m) in
-    let first_step = λ (o : Option (ℕ × List ℕ)). o and_then (λ p. run (not h.black) (w - (h.a0 + p.0)) p.1 and_then (λ q. let m : Step = record { head = record { a0 = h.a0 + p.0 + q.0; begun = true; black = h.black }; added = (h.a0 + p.0) ∷ (h.a0 + p.0 + q.0) ∷ []; left = q.1 } in Some m)) in
-    subst (λ (o : Option Step). ReadStep w h o None left) (ap second_step second ∙ ap first_step first) tt
+runs-fault-second w h r bits middle left inside first second =
+    let one = run-is (run h.black bits) (w - h.a0) r middle first in
+    let is : after_runs w h bits ≡ None =
+    ap (λ (o : Option (ℕ × List ℕ)). first_run w h o) one.0 ∙ second-fault w h r (run (not h.black) middle) left (omega (arith, one.1)) second in
+    subst (λ (o : Option Step). ReadStep w h o None left) (sym is) tt
 
 -- the mode that a code names
-pub step-by : (w : ℕ) (above : ℕ → Bool) (h : Head) (mode : ℕ) (bits middle : List ℕ) → Some (mode, middle) ≡ read_code modes bits → next_step w above h bits ≡ after_mode w above h mode middle
+pub step-by : (w : ℕ) (above : ℕ → Bool) (h : Head) (mode : Mode) (bits middle : List ℕ) → Some (mode, middle) ≡ read_code modes bits → next_step w above h bits ≡ after_mode w above h mode middle
 unfolding next_step
-step-by w above h mode bits middle e = sym (ap (λ (o : Option (ℕ × List ℕ)). o and_then (λ m. after_mode w above h m.0 m.1)) e)
+step-by w above h mode bits middle e = sym (ap (λ (o : Option (Mode × List ℕ)). o >>= (λ m. after_mode w above h m.0 m.1)) e)
 
 pub step-none : (w : ℕ) (above : ℕ → Bool) (h : Head) (bits left : List ℕ) → None ≡ read_code modes bits → ReadStep w h (next_step w above h bits) None left
 unfolding next_step
-step-none w above h bits left e = subst (λ (o : Option Step). ReadStep w h o None left) (ap (λ (o : Option (ℕ × List ℕ)). o and_then (λ m. after_mode w above h m.0 m.1)) e) tt
+step-none w above h bits left e = subst (λ (o : Option Step). ReadStep w h o None left) (ap (λ (o : Option (Mode × List ℕ)). o >>= (λ m. after_mode w above h m.0 m.1)) e) tt
 
 -- ---- a row, mode by mode
 pub record RowReading (g new : Grid) (y : ℕ) (h : Head) (bits : List ℕ) (meant : Option (List ℕ × List ℕ)) : Type 0 where
@@ -300,8 +356,8 @@ step-from zero w above h changes bits s inside some e = absurd (omega arith)
 step-from (suc n) w above h changes bits s inside some e = (
   n,
   refl,
-  cond-false (leb w h.a0) (Some (changes, bits)) (next_step w above h bits and_then (λ m. row_from n w above m.head (changes ++ m.added) m.left)) (lt-leb w h.a0 inside)
-      ∙ ap (λ (o : Option Step). o and_then (λ m. row_from n w above m.head (changes ++ m.added) m.left)) e,
+  cond-false (leb w h.a0) (Some (changes, bits)) (next_step w above h bits >>= (λ m. row_from n w above m.head (changes ++ m.added) m.left)) (lt-leb w h.a0 inside)
+      ∙ ap (λ (o : Option Step). o >>= (λ m. row_from n w above m.head (changes ++ m.added) m.left)) e,
 )
 
 next-by : (g new one two : Grid) (y : ℕ) (h : Head) (bits left : List ℕ) (meant : Option (List ℕ × List ℕ)) (t : Turn) (s : Step) → RowReading g new y h bits meant → h.a0 < g.width → length left < length bits → next_step g.width (row_above g y) h bits ≡ Some s → ReadStep g.width h (Some s) (Some t) left → IsSpan new one y h.a0 t.turn h.black → IsSpan one two y t.turn t.next.a0 (not h.black) → RowReading g two y (head_of t.next) left meant
@@ -356,8 +412,8 @@ fault-from : (most w : ℕ) (above : ℕ → Bool) (h : Head) (changes bits : Li
 unfolding row_from
 fault-from zero w above h changes bits inside e = cond-false (leb w h.a0) (Some (changes, bits)) None (lt-leb w h.a0 inside)
 fault-from (suc n) w above h changes bits inside e =
-    cond-false (leb w h.a0) (Some (changes, bits)) (next_step w above h bits and_then (λ m. row_from n w above m.head (changes ++ m.added) m.left)) (lt-leb w h.a0 inside)
-    ∙ ap (λ (o : Option Step). o and_then (λ m. row_from n w above m.head (changes ++ m.added) m.left)) e
+    cond-false (leb w h.a0) (Some (changes, bits)) (next_step w above h bits >>= (λ m. row_from n w above m.head (changes ++ m.added) m.left)) (lt-leb w h.a0 inside)
+    ∙ ap (λ (o : Option Step). o >>= (λ m. row_from n w above m.head (changes ++ m.added) m.left)) e
 
 none-of : (w : ℕ) (h : Head) (left : List ℕ) (o : Option Step) → ReadStep w h o None left → o ≡ None
 none-of w h left None read = refl
@@ -374,7 +430,7 @@ row-fault g new white y above h bits left meant reading inside same read span =
 done-from : (most w : ℕ) (above : ℕ → Bool) (h : Head) (changes bits : List ℕ) → w ≤ h.a0 → row_from most w above h changes bits ≡ Some (changes, bits)
 unfolding row_from
 done-from zero w above h changes bits past = cond-true (leb w h.a0) (Some (changes, bits)) None (le-leb w h.a0 past)
-done-from (suc n) w above h changes bits past = cond-true (leb w h.a0) (Some (changes, bits)) (next_step w above h bits and_then (λ m. row_from n w above m.head (changes ++ m.added) m.left)) (le-leb w h.a0 past)
+done-from (suc n) w above h changes bits past = cond-true (leb w h.a0) (Some (changes, bits)) (next_step w above h bits >>= (λ m. row_from n w above m.head (changes ++ m.added) m.left)) (le-leb w h.a0 past)
 
 pub row-done : (g new : Grid) (y : ℕ) (h : Head) (bits : List ℕ) (meant : Option (List ℕ × List ℕ)) → RowReading g new y h bits meant → g.width ≤ h.a0 → ReadRow meant true g new y bits
 row-done g new y h bits meant reading past =
@@ -429,8 +485,3 @@ find-b1 w row h from middle place left start moved first =
     (λ (m : (left ≡ not h.black) × IsFirst row h.black from w middle). b1-outside row h.black from w middle place start.within (sym start.left_is ∙ m.0) m.1 first)
     (λ (m : (left ≡ h.black) × (middle ≡ from)). b1-inside row h.black from w place start.within (sym start.left_is ∙ m.0) (subst (λ (n : ℕ). IsFirst row (not h.black) n w place) m.1 first))
     moved.cases)
-
-pub mode-vertical : (w : ℕ) (above : ℕ → Bool) (h : Head) (mode : ℕ) (bits : List ℕ) → (mode ≡ 0 → ⊥) → (mode ≡ 1 → ⊥) → after_mode w above h mode bits ≡ after_vertical w above h (mode - 2) bits
-mode-vertical w above h zero bits no_pass no_runs = absurd (no_pass refl)
-mode-vertical w above h (suc zero) bits no_pass no_runs = absurd (no_runs refl)
-mode-vertical w above h (suc (suc v)) bits no_pass no_runs = let at : v ≡ suc (suc v) - 2 = omega arith in ap (λ (n : ℕ). after_vertical w above h n bits) at

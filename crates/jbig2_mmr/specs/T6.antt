@@ -1,5 +1,9 @@
--- Two-dimensional coding of bitmaps by T.6 (MMR; T.88, 6.2.6), in JBIG2's profile.
-use Rattle.std.specs.Prelude.{ℕ, zero, suc, ◌+◌, ◌-◌, ◌/◌, ◌%◌, ◌==◌, Bool, true, false, not, ◌&&◌, ◌||◌, nat_le, nat_lt, List, [], ◌∷◌, ◌++◌, length, take, drop, filter, slice_index_or, Option, Some, None, Result, Ok, Err, if◌then◌else◌}
+-- Two-dimensional coding of bitmaps by ITU-T T.6 (2.2; T.88 calls it MMR, 6.2.6), in JBIG2's profile.
+--
+-- A row is coded against the row above it, its reference row: modes and runs say where its changing elements
+-- lie, the pixels that differ in colour from their left neighbour. The definition takes a width, a height
+-- and bytes, and gives the bitmap and how many bytes it took, or an error: see `mmr_rows` at the end.
+use Rattle.std.specs.Prelude.{ℕ, zero, suc, ◌+◌, ◌-◌, ◌/◌, ◌%◌, ◌==◌, ℤ, pos, negsuc, ◌+ℤ◌, Bool, true, false, not, ◌&&◌, ◌||◌, nat_le, nat_lt, List, [], ◌∷◌, ◌++◌, length, take, drop, filter, slice_index_or, Option, Some, None, Result, Ok, Err, if◌then◌else◌}
 use Rattle.std.specs.List.{flat_map}
 use Rattle.jbig2_base.specs.Bits.{byte_bits, number_after}
 use Rattle.jbig2_base.specs.Grid.{Grid, grid_of}
@@ -7,19 +11,21 @@ use Rattle.jbig2_base.specs.Search.{place_from}
 use Rattle.jbig2_base.specs.declared.error.DecodeError.{DecodeError}
 use Rattle.jbig2_base.specs.declared.error.DecodeError.TheVariants.{Region}
 use Rattle.jbig2_base.specs.declared.error.RegionError.TheVariants.{InvalidMmrData}
+use Rattle.jbig2_mmr.specs.declared.mmr.codes.Mode.{Mode}
+use Rattle.jbig2_mmr.specs.declared.mmr.codes.Mode.TheVariants.{Pass, Horizontal, Vertical}
 use Rattle.jbig2_mmr.specs.T6Codes.{modes, white_runs, black_runs}
 
-infixl 10 ◌and_then◌
+infixl 10 ◌>>=◌
 -- the next step, unless the last one was a fault
-abbrev pub ◌and_then◌ : {A B : Type 0} → Option A → (A → Option B) → Option B
-(Some x) and_then f = f x
-None and_then f = None
+abbrev pub ◌>>=◌ : {A B : Type 0} → Option A → (A → Option B) → Option B
+(Some x) >>= next = next x
+None >>= next = None
 
 abbrev pub differ : Bool → Bool → Bool
 differ true b = not b
 differ false b = b
 
--- ---- codes
+-- ---- codes (T.6, tables 1 to 3)
 -- the word stands at the front of the bits
 abbrev pub begins : List ℕ → List ℕ → Bool
 begins [] bits = true
@@ -27,16 +33,16 @@ begins (b ∷ word) [] = false
 begins (b ∷ word) (c ∷ bits) = b == c && begins word bits
 
 -- what the code that begins the bits stands for, and the bits behind it
-unfoldable pub read_code : List (ℕ × List ℕ) → List ℕ → Option (ℕ × List ℕ)
+unfoldable pub read_code : {A : Type 0} → List (A × List ℕ) → List ℕ → Option (A × List ℕ)
 read_code [] bits = None
 read_code (c ∷ cs) bits = if begins c.1 bits then Some (c.0, drop (length c.1) bits) else read_code cs bits
 
 -- no word of the list begins another one
-abbrev pub apart_from : List ℕ → List (ℕ × List ℕ) → Bool
+abbrev pub apart_from : {A : Type 0} → List ℕ → List (A × List ℕ) → Bool
 apart_from word [] = true
 apart_from word (c ∷ cs) = not (begins word c.1) && not (begins c.1 word) && apart_from word cs
 
-unfoldable pub is_prefix_free : List (ℕ × List ℕ) → Bool
+unfoldable pub is_prefix_free : {A : Type 0} → List (A × List ℕ) → Bool
 is_prefix_free [] = true
 is_prefix_free (c ∷ cs) = apart_from c.1 cs && is_prefix_free cs
 
@@ -44,19 +50,18 @@ abbrev pub runs_of : Bool → List (ℕ × List ℕ)
 runs_of true = black_runs
 runs_of false = white_runs
 
--- A run: make-up codes, then a terminating code (0 to 63). A run above `room` is a fault.
-unfoldable pub run_from : ℕ → Bool → ℕ → ℕ → List ℕ → Option (ℕ × List ℕ)
-run_from zero black room sum bits = None
-run_from (suc n) black room sum bits =
-    read_code (runs_of black) bits and_then λ r.
-    if nat_lt room (sum + r.0) then None
-    else if nat_lt r.0 64 then Some (sum + r.0, r.1)
-    else run_from n black room (sum + r.0) r.1
+-- A run of a colour (tables 2 and 3) is the sum of its codes: make-up codes (64 and more), then a terminating
+-- code (0 to 63). Each code has a bit at least, so there are no more codes than bits.
+unfoldable pub run_from : ℕ → Bool → List ℕ → Option (ℕ × List ℕ)
+run_from zero black bits = None
+run_from (suc most) black bits = do
+  code ← read_code (runs_of black) bits
+  if nat_lt code.0 64 then Some code else (run_from most black code.1 >>= λ rest. Some (code.0 + rest.0, rest.1))
 
-abbrev pub run : Bool → ℕ → List ℕ → Option (ℕ × List ℕ)
-run black room bits = run_from (length bits) black room 0 bits
+abbrev pub run : Bool → List ℕ → Option (ℕ × List ℕ)
+run black bits = run_from (length bits) black bits
 
--- ---- the changing elements of the reference row
+-- ---- the changing elements of the reference row (2.2.1)
 -- the pixel left of x: white left of pixel 0
 abbrev pub left_of : (ℕ → Bool) → ℕ → Bool
 left_of row zero = false
@@ -70,59 +75,74 @@ is_change row x = differ (row x) (left_of row x)
 unfoldable pub is_change_from : (ℕ → Bool) → Bool → ℕ → Bool
 is_change_from row black x = is_change row x && differ (row x) black
 
--- ---- one mode
--- Where a row stands: at a0, the colour from there on, and whether a mode was read. Before the
--- first mode a0 is left of pixel 0, and counts as 0.
+-- ---- one mode (2.2.2)
+-- Where a row stands: at a0, the colour from there on, and whether a mode was read. Before the first mode a0
+-- is left of pixel 0, and counts as 0.
 pub record Head : Type 0 where
   pub a0 : ℕ
   pub begun : Bool
   pub black : Bool
 
--- what a mode does: where it leaves the row, the changes that it adds, and the bits behind it
+-- what a mode does: where it leaves the row, the changing elements that it adds, and the bits behind it
 pub record Step : Type 0 where
   pub head : Head
   pub added : List ℕ
   pub left : List ℕ
 
+-- b1: the first changing element of the reference row right of a0 whose colour is not that of a0 (2.2.1)
 unfoldable pub b1_of : ℕ → (ℕ → Bool) → Head → ℕ
 b1_of w above h = place_from (is_change_from above h.black) (if h.begun then h.a0 + 1 else 0) w
 
+-- b2: the next changing element right of b1 (2.2.1)
 unfoldable pub b2_of : ℕ → (ℕ → Bool) → Head → ℕ
 b2_of w above h = place_from (is_change above) (b1_of w above h + 1) w
 
+-- Pass: a0 moves under b2, and the colour stays.
 unfoldable pub after_pass : ℕ → (ℕ → Bool) → Head → List ℕ → Option Step
 after_pass w above h bits = Some (record { head = record { a0 = b2_of w above h; begun = true; black = h.black }; added = []; left = bits })
 
+-- Horizontal: a run of the colour up to a1, then one of the other up to a2, where a0 moves. It is a fault where
+-- that passes the row's end.
 unfoldable pub after_runs : ℕ → Head → List ℕ → Option Step
-after_runs w h bits =
-    run h.black (w - h.a0) bits and_then λ r.
-    run (not h.black) (w - (h.a0 + r.0)) r.1 and_then λ s.
-    Some (record { head = record { a0 = h.a0 + r.0 + s.0; begun = true; black = h.black }; added = (h.a0 + r.0) ∷ (h.a0 + r.0 + s.0) ∷ []; left = s.1 })
+after_runs w h bits = do
+  first ← run h.black bits
+  second ← run (not h.black) first.1
+  let a1 = h.a0 + first.0 in
+      let a2 = a1 + second.0 in
+      if nat_le a2 w then Some (record { head = record { a0 = a2; begun = true; black = h.black }; added = a1 ∷ a2 ∷ []; left = second.1 }) else None
 
--- a1 is b1 plus v minus 3
-unfoldable pub after_vertical : ℕ → (ℕ → Bool) → Head → ℕ → List ℕ → Option Step
-after_vertical w above h v bits =
-    if nat_lt (b1_of w above h + v) (h.a0 + 3) || nat_lt (w + 3) (b1_of w above h + v) then None
-    else Some (record { head = record { a0 = b1_of w above h + v - 3; begun = true; black = not h.black }; added = (b1_of w above h + v - 3) ∷ []; left = bits })
+-- A place in the row that is not left of a0. It is a fault where there is none.
+abbrev pub place_in : ℕ → ℕ → ℤ → Option ℕ
+place_in a0 w (pos x) = if nat_le a0 x && nat_le x w then Some x else None
+place_in a0 w (negsuc x) = None
 
-abbrev pub after_mode : ℕ → (ℕ → Bool) → Head → ℕ → List ℕ → Option Step
-after_mode w above h zero bits = after_pass w above h bits
-after_mode w above h (suc zero) bits = after_runs w h bits
-after_mode w above h (suc (suc v)) bits = after_vertical w above h v bits
+-- Vertical: a1 is b1 plus the mode's distance, a0 moves there, and the colour changes.
+unfoldable pub after_vertical : ℕ → (ℕ → Bool) → Head → ℤ → List ℕ → Option Step
+after_vertical w above h distance bits = do
+  a1 ← place_in h.a0 w (pos (b1_of w above h) +ℤ distance)
+  Some (record { head = record { a0 = a1; begun = true; black = not h.black }; added = a1 ∷ []; left = bits })
 
--- the next mode, and what it does
+abbrev pub after_mode : ℕ → (ℕ → Bool) → Head → Mode → List ℕ → Option Step
+after_mode w above h Pass bits = after_pass w above h bits
+after_mode w above h Horizontal bits = after_runs w h bits
+after_mode w above h (Vertical distance) bits = after_vertical w above h distance bits
+
+-- the next mode (table 1), and what it does
 unfoldable pub next_step : ℕ → (ℕ → Bool) → Head → List ℕ → Option Step
-next_step w above h bits = read_code modes bits and_then λ m. after_mode w above h m.0 m.1
+next_step w above h bits = do
+  mode ← read_code modes bits
+  after_mode w above h mode.0 mode.1
 
--- ---- rows
--- the changes of a row, and the bits behind it; a fault is None
+-- ---- rows (2.2.3)
+-- The changing elements of a row, and the bits behind it: mode by mode until a0 is the row's end; a fault is
+-- None. Each mode takes a bit at least, so there are no more modes than bits.
 unfoldable pub row_from : ℕ → ℕ → (ℕ → Bool) → Head → List ℕ → List ℕ → Option (List ℕ × List ℕ)
 row_from zero w above h changes bits = if nat_le w h.a0 then Some (changes, bits) else None
-row_from (suc n) w above h changes bits =
+row_from (suc most) w above h changes bits =
     if nat_le w h.a0 then Some (changes, bits)
-    else (next_step w above h bits and_then λ s. row_from n w above s.head (changes ++ s.added) s.left)
+    else (next_step w above h bits >>= λ s. row_from most w above s.head (changes ++ s.added) s.left)
 
--- a row begins white
+-- a row begins white, left of its first pixel (2.2.1)
 abbrev pub row_start : Head
 row_start = record { a0 = 0; begun = false; black = false }
 
@@ -136,7 +156,7 @@ black_at changes x = length (filter (λ c. nat_le c x) changes) % 2 == 1
 abbrev pub pixel_of : ℕ → List ℕ → ℕ → Bool
 pixel_of w changes x = nat_lt x w && black_at changes x
 
--- the end of block: 000000000001 twice
+-- the end of block (EOFB; T.88, 6.2.6): 000000000001 twice
 unfoldable pub ends_block : List ℕ → Bool
 ends_block bits = nat_le 24 (length bits) && (number_after 0 (take 24 bits) == 0x001001)
 
@@ -154,7 +174,7 @@ abbrev pub or_fault : List (List ℕ) → Option (List ℕ × List ℕ) → (Lis
 or_fault done None f = record { rows = done; whole = false; left = [] }
 or_fault done (Some r) f = f r
 
--- Row by row: the end of block ends them early, and a fault too. Above row 0 all is white.
+-- So many rows more: the end of block ends them early, and a fault too. Above row 0 all is white.
 unfoldable pub rows_from : ℕ → ℕ → List ℕ → List (List ℕ) → List ℕ → Rows
 rows_from zero w above done bits = record { rows = done; whole = true; left = after_end bits }
 rows_from (suc n) w above done bits =
@@ -176,7 +196,8 @@ pub record Decoded : Type 0 where
   pub grid : Grid
   pub used : ℕ
 
--- A missing row is refused in strict mode, and else white.
+-- Rows of a width and a height, read from bytes (T.88, 6.2.6). A missing row is refused in strict mode, and
+-- else white.
 unfoldable pub mmr_rows : Bool → ℕ → ℕ → List ℕ → Result Decoded DecodeError
 mmr_rows strict w h bytes =
     let r = rows_of w h bytes in

@@ -1,17 +1,26 @@
--- The code tables of T.6: each line is a number and the code word that stands for it.
-use Rattle.std.specs.Prelude.{ℕ, ◌-◌, List, [], ◌∷◌, map, codes}
+-- The code tables of ITU-T T.6 (tables 1 to 3): each line is a mode or the length of a run, and the code word
+-- that stands for it.
+use Rattle.std.specs.Prelude.{ℕ, ◌-◌, ℤ, pos, ◌-ℤ◌, List, [], ◌∷◌, map, codes}
+use Rattle.jbig2_mmr.specs.declared.mmr.codes.Mode.{Mode}
+use Rattle.jbig2_mmr.specs.declared.mmr.codes.Mode.TheVariants.{Pass, Horizontal, Vertical}
 
 -- the bits that a text of 0s and 1s spells
 abbrev pub word : List ℕ → List ℕ
 word text = map (λ c. c - 48) text
 
--- T.6, table 1 (two-dimensional codes): 0 is the pass mode, 1 the horizontal mode, and 2 to 8 are
--- the vertical modes with a1 three, two and one left of b1, under it, and one, two and three right.
-unfoldable pub modes : List (ℕ × List ℕ)
+-- the vertical modes VR(n) and VL(n): a1 is n right of b1, or n left of it
+abbrev pub vertical_right : ℕ → Mode
+vertical_right n = Vertical (pos n)
+
+abbrev pub vertical_left : ℕ → Mode
+vertical_left n = Vertical (pos 0 -ℤ pos n)
+
+-- T.6, table 1 (two-dimensional codes)
+unfoldable pub modes : List (Mode × List ℕ)
 modes =
-    (0, word (codes "0001")) ∷ (1, word (codes "001")) ∷ (2, word (codes "0000010")) ∷
-    (3, word (codes "000010")) ∷ (4, word (codes "010")) ∷ (5, word (codes "1")) ∷
-    (6, word (codes "011")) ∷ (7, word (codes "000011")) ∷ (8, word (codes "0000011")) ∷
+    (Pass, word (codes "0001")) ∷ (Horizontal, word (codes "001")) ∷ (vertical_right 0, word (codes "1")) ∷
+    (vertical_right 1, word (codes "011")) ∷ (vertical_right 2, word (codes "000011")) ∷ (vertical_right 3, word (codes "0000011")) ∷
+    (vertical_left 1, word (codes "010")) ∷ (vertical_left 2, word (codes "000010")) ∷ (vertical_left 3, word (codes "0000010")) ∷
     []
 
 -- T.6, table 3 (make-up codes of both colours), and the run that each stands for

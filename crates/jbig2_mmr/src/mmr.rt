@@ -7,7 +7,7 @@ ghost use Rattle.jbig2_mmr.specs.T6.{mmr_rows, grid_of_rows, rows_of};
 mod bits;
 pub mod codes;
 mod row;
-pub mod span;
+mod span;
 
 use crate::mmr::bits::CodeReader;
 use crate::mmr::row::read_row;

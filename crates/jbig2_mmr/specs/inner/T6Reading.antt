@@ -1,9 +1,9 @@
 -- What single calls of a T.6 decoder say (our own rule).
-use Rattle.std.specs.Prelude.{◌≡◌, ℕ, zero, suc, ◌/◌, ◌%◌, ◌^◌, ◌<◌, ◌≤◌, nat_le, nat_lt, Bool, true, false, not, ◌&&◌, List, [], ◌∷◌, Option, Some, None}
+use Rattle.std.specs.Prelude.{◌≡◌, ℕ, zero, suc, ◌/◌, ◌%◌, ◌^◌, ◌<◌, ◌≤◌, nat_le, nat_lt, Bool, true, false, not, ◌&&◌, List, [], ◌∷◌, ◌++◌, length, replicate, Option, Some, None, if◌then◌else◌}
 use Rattle.jbig2_base.specs.Grid.{Grid, pixel_at}
 use Rattle.jbig2_base.specs.inner.Table.{IsTable}
 use Rattle.jbig2_mmr.specs.declared.mmr.codes.Code.{Code}
-use Rattle.jbig2_mmr.specs.T6.{differ, Head, black_at}
+use Rattle.jbig2_mmr.specs.T6.{differ, begins, Head, black_at}
 
 -- the lowest n bits of a number, high bit first, before others
 abbrev pub spell : ℕ → ℕ → List ℕ → List ℕ
@@ -31,10 +31,26 @@ pub record Rest : Type 0 where
   pub bytes : List ℕ
   pub left : List ℕ
 
+-- what the code that begins the bits stands for, and how many bits it takes
+unfoldable pub code_at : {A : Type 0} → List (A × List ℕ) → List ℕ → Option (A × ℕ)
+code_at [] bits = None
+code_at (c ∷ cs) bits = if begins c.1 bits then Some (c.0, length c.1) else code_at cs bits
+
+-- zeros behind the bits
+abbrev pub padded : List ℕ → List ℕ
+padded bits = bits ++ replicate 24 0
+
 -- what was read, and the bits behind it
-abbrev pub with_rest : Option ℕ → List ℕ → Option (ℕ × List ℕ)
+abbrev pub with_rest : {A : Type 0} → Option A → List ℕ → Option (A × List ℕ)
 with_rest None left = None
 with_rest (Some n) left = Some (n, left)
+
+-- a run that was read, against its meaning: none where it is longer than the room
+abbrev pub ReadRun : Option (ℕ × List ℕ) → ℕ → Option ℕ → List ℕ → Type 0
+ReadRun (Some r) room (Some n) left = (r.0 ≡ n) × (r.1 ≡ left) × (n ≤ room)
+ReadRun (Some r) room None left = room < r.0
+ReadRun None room (Some n) left = ⊥
+ReadRun None room None left = Unit {0}
 
 -- row y
 abbrev pub row_of : Grid → ℕ → ℕ → Bool
@@ -44,13 +60,6 @@ row_of g y x = pixel_at g x y
 abbrev pub row_above : Grid → ℕ → ℕ → Bool
 row_above g zero x = false
 row_above g (suc y) x = pixel_at g x y
-
--- the first place of a colour from `from` on, or the end
-pub record IsFirst (row : ℕ → Bool) (black : Bool) (from to place : ℕ) : Type 0 where
-  pub after : from ≤ place
-  pub within : place ≤ to
-  pub before : (x : ℕ) → from ≤ x → x < place → row x ≡ not black
-  pub found : place < to → row place ≡ black
 
 -- row y has the pixels of f, and the other rows are the old ones
 pub record IsRow (old new : Grid) (y : ℕ) (f : ℕ → Bool) : Type 0 where

@@ -1,13 +1,13 @@
 //! The bits of MMR data, and the codes in them (T.6).
-ghost use Rattle.std.specs.Prelude.{◌≡◌, ℕ, ◌+◌, ◌-◌, ◌*◌, ◌/◌, ◌^◌, ◌<◌, ◌≤◌, ◌++◌, List, length, drop, take, map, min, slice_index, IfSome, IsTrue, if◌then◌else◌};
+ghost use Rattle.std.specs.Prelude.{◌≡◌, ℕ, ◌+◌, ◌-◌, ◌*◌, ◌/◌, ◌^◌, ◌<◌, ◌≤◌, ◌++◌, List, length, drop, take, map, min, slice_index, [], IfSome, IsTrue, if◌then◌else◌};
 ghost use Rattle.jbig2_base.specs.Bits.{number_after};
 ghost use Rattle.jbig2_mmr.specs.T6.{read_code, run, bits_of, ends_block, after_end, is_prefix_free, runs_of};
 ghost use Rattle.jbig2_mmr.specs.T6Codes.{modes};
-ghost use Rattle.jbig2_mmr.specs.inner.T6Reading.{AreBits, with_rest, line_of, are_words};
+ghost use Rattle.jbig2_mmr.specs.inner.T6Reading.{AreBits, with_rest, line_of, are_words, ReadRun, padded, spell, code_at};
 
 use crate::mmr::codes::black::BLACK_RUNS;
 use crate::mmr::codes::white::WHITE_RUNS;
-use crate::mmr::codes::{Code, MODES};
+use crate::mmr::codes::{Code, Mode};
 use std::marker::Model;
 
 /// Data and a place in it, by byte and bit apart, so that no length overflows.
@@ -56,6 +56,7 @@ impl<'a> CodeReader<'a> {
     /// The next 24 bits as a number, zeros behind the end.
     fn window(&self) -> u32
         ensures value { (n : ℕ) → n ≤ 24 → n ≤ length self.now.left → result / 2 ^ (24 - n) ≡ number_after 0 (take n self.now.left) }
+        ensures padded { (n : ℕ) → n ≤ 24 → result / 2 ^ (24 - n) ≡ number_after 0 (take n (padded self.now.left)) }
         ensures bits { AreBits self.now.left }
     {
         let bytes = &self.bytes[self.byte..];
@@ -122,14 +123,19 @@ impl<'a> CodeReader<'a> {
         None
     }
 
-    /// The number of the next mode (T.6, table 1).
-    pub fn read_mode(&mut self) -> Option<u16>
+    /// The next mode (T.6, table 1). None where the bits begin with no code of one; the place stays.
+    pub fn read_mode(&mut self) -> Option<Mode>
         ensures value { with_rest result self.new.left ≡ read_code modes self.old.left }
         ensures bytes { self.new.bytes ≡ self.old.bytes }
         ensures shorter { IfSome result (λ _. length self.new.left < length self.old.left) }
         ensures law { IsTrue (is_prefix_free modes) }
     {
-        self.read_code(&MODES)
+        let (mode, size) = mode_at(self.window() >> 17)?;
+        if size > self.few() {
+            return None;
+        }
+        self.skip(size);
+        Some(mode)
     }
 
     /// The run that the next code of the colour stands for (T.6, tables 2 and 3).
@@ -149,8 +155,7 @@ impl<'a> CodeReader<'a> {
     /// The next run of a colour: make-up codes, then a terminating code. None where it is longer
     /// than `room`, or bits stand there that are no code.
     pub fn read_run(&mut self, black: bool, room: u32) -> Option<u32>
-        ensures value { with_rest result self.new.left ≡ run black room self.old.left }
-        ensures within { IfSome result (λ r. r ≤ room) }
+        ensures value { ReadRun (run black self.old.left) room result self.new.left }
         ensures bytes { self.new.bytes ≡ self.old.bytes }
         ensures shorter { IfSome result (λ _. length self.new.left ≤ length self.old.left) }
     {
@@ -166,6 +171,25 @@ impl<'a> CodeReader<'a> {
             }
         }
         None
+    }
+}
+
+/// The mode whose code begins these 7 bits, and how many of them it takes.
+fn mode_at(bits: u32) -> Option<(Mode, u32)>
+    requires { bits < 128 }
+    ensures { result ≡ code_at modes (spell 7 bits []) }
+{
+    match bits {
+        64..=127 => Some((Mode::Vertical(0), 1)),
+        48..=63 => Some((Mode::Vertical(1), 3)),
+        32..=47 => Some((Mode::Vertical(-1), 3)),
+        16..=31 => Some((Mode::Horizontal, 3)),
+        8..=15 => Some((Mode::Pass, 4)),
+        6..=7 => Some((Mode::Vertical(2), 6)),
+        4..=5 => Some((Mode::Vertical(-2), 6)),
+        3 => Some((Mode::Vertical(3), 7)),
+        2 => Some((Mode::Vertical(-3), 7)),
+        _ => None,
     }
 }
 

@@ -6,18 +6,13 @@ ghost use Rattle.jbig2_mmr.specs.inner.T6Calls.{ReadStep, ReadRow, head_of};
 ghost use Rattle.jbig2_mmr.specs.inner.T6Reading.{row_above, row_of};
 
 use crate::mmr::bits::CodeReader;
-use crate::mmr::span::{fill_span, find_colour};
+use crate::mmr::codes::Mode;
+use crate::mmr::span::fill_span;
 use jbig2_base::bitmap::Bitmap;
+use jbig2_base::bitmap::colour::find_colour;
 use jbig2_base::bitmap::steps::Steps;
 use std::alloc::Allocator;
 use std::sync::ledger::Ledger;
-
-/// The numbers of modes in the code table: vertical modes follow, from three left on.
-const PASS: u16 = 0;
-
-const HORIZONTAL: u16 = 1;
-
-const VERTICAL: u16 = 2;
 
 /// Where a row stands: at `a0`, with the colour from there on.
 #[derive(Clone, Copy)]
@@ -92,9 +87,9 @@ fn read_turn<A: Allocator, L: Ledger>(
     ensures shorter { IfSome result (λ _. length reader.new.left < length reader.old.left) }
 {
     match reader.read_mode()? {
-        PASS => Some(pass(bitmap, above, place, steps)),
-        HORIZONTAL => horizontal(reader, place, bitmap.width()),
-        mode => vertical(bitmap, above, place, mode - VERTICAL, steps),
+        Mode::Pass => Some(pass(bitmap, above, place, steps)),
+        Mode::Horizontal => horizontal(reader, place, bitmap.width()),
+        Mode::Vertical(distance) => vertical(bitmap, above, place, distance, steps),
     }
 }
 
@@ -140,23 +135,23 @@ fn horizontal(reader: &mut CodeReader, place: Place, width: u32) -> Option<Turn>
     })
 }
 
-/// A vertical mode: a1 is b1 plus `offset` minus 3. None where it lies left of a0 or past the width.
+/// A vertical mode: a1 is b1 plus `distance`. None where it lies left of a0 or past the width.
 fn vertical<A: Allocator, L: Ledger>(
     bitmap: &Bitmap<A>,
     above: u32,
     place: Place,
-    offset: u16,
+    distance: i32,
     steps: &mut Steps<L>,
 ) -> Option<Turn>
     requires { place.a0 < bitmap.now.width }
-    ensures { (bits : List ℕ) → ReadStep bitmap.now.width (head_of place) (after_vertical bitmap.now.width (row_of bitmap.now above) (head_of place) offset bits) result bits }
+    ensures { (bits : List ℕ) → ReadStep bitmap.now.width (head_of place) (after_vertical bitmap.now.width (row_of bitmap.now above) (head_of place) distance bits) result bits }
 {
+    let width = bitmap.width();
     let b1 = find_b1(bitmap, above, place, steps);
-    let moved = u64::from(b1) + u64::from(offset);
-    if moved < u64::from(place.a0) + 3 || moved > u64::from(bitmap.width()) + 3 {
+    let a1 = b1.checked_add_signed(distance)?;
+    if a1 < place.a0 || a1 > width {
         return None;
     }
-    let a1 = (moved - 3) as u32;
     Some(Turn {
         turn: a1,
         next: Place {

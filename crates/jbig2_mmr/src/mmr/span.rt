@@ -1,9 +1,8 @@
 //! Spans of one colour in a row of a bitmap, by words.
-ghost use Rattle.std.specs.Prelude.{◌≡◌, ℕ, ◌+◌, ◌-◌, ◌^◌, ◌<◌, ◌≤◌, not};
-ghost use Rattle.jbig2_base.specs.Grid.{pixel_at};
+ghost use Rattle.std.specs.Prelude.{◌≡◌, ℕ, ◌<◌, ◌≤◌};
 ghost use Rattle.jbig2_base.specs.inner.Table.{IsTable};
 ghost use Rattle.jbig2_base.specs.inner.WordBits.{bit};
-ghost use Rattle.jbig2_mmr.specs.inner.T6Reading.{IsFirst, IsSpan};
+ghost use Rattle.jbig2_mmr.specs.inner.T6Reading.{IsSpan};
 
 use jbig2_base::bitmap::Bitmap;
 use jbig2_base::bitmap::steps::Steps;
@@ -41,48 +40,4 @@ fn word_of(black: bool, count: u32) -> u64
     ensures { (k : ℕ) → k < count → bit result k ≡ black }
 {
     if black { u64::MAX >> (64 - count) } else { 0 }
-}
-
-/// The first column from `from` on whose pixel in row `y` is black, or white; else the width. A row
-/// outside is white.
-pub fn find_colour<A: Allocator, L: Ledger>(
-    bitmap: &Bitmap<A>,
-    y: u32,
-    from: u32,
-    black: bool,
-    steps: &mut Steps<L>,
-) -> u32
-    requires { from ≤ bitmap.now.width }
-    ensures { IsFirst (λ x. pixel_at bitmap.now x y) black from bitmap.now.width result }
-{
-    let width = bitmap.width();
-    let mut x = from;
-    while x < width {
-        let count = (width - x).min(64);
-        let pixels = bitmap.load_pixels(x, y, count, steps);
-        let others = leading_others(pixels, count, black);
-        x += others;
-        if others < count {
-            return x;
-        }
-    }
-    width
-}
-
-/// How many of the lowest `count` bits come before the first one of the colour, from the high end.
-#[inline(always)]
-fn leading_others(pixels: u64, count: u32, black: bool) -> u32
-    requires some { 1 ≤ count }
-    requires few { count ≤ 64 }
-    requires bound { pixels < 2 ^ count }
-    ensures within { result ≤ count }
-    ensures before { (k : ℕ) → k < result → bit pixels (count - 1 - k) ≡ not black }
-    ensures found { result < count → bit pixels (count - 1 - result) ≡ black }
-{
-    let wanted = if black {
-        pixels
-    } else {
-        pixels ^ (u64::MAX >> (64 - count))
-    };
-    wanted.leading_zeros() - (64 - count)
 }

@@ -1,5 +1,6 @@
 use Rattle.std.proofs.Common.{ℕ, inl, inr, sym, subst}
-use Rattle.jbig2_mmr.specs.inner.T6Reading.{row_of, IsFirst}
+use Rattle.jbig2_base.specs.inner.Colour.{IsFirst}
+use Rattle.jbig2_mmr.specs.inner.T6Reading.{row_of}
 use Rattle.jbig2_mmr.specs.inner.T6Calls.{head_of}
 use Rattle.jbig2_mmr.proofs.T6Rows.{IsStart, IsMoved, start-begun, start-white, find-b1, other-colour, same-colour}
 use Rattle.jbig2_mmr.proofs.mmr.row.find_b1.Goals as goal

@@ -1,6 +1,6 @@
 use Rattle.jbig2_base.proofs.BitLemmas.{bit-zero}
 use Rattle.std.proofs.Common.{sym, ◌∙◌}
-use Rattle.jbig2_mmr.proofs.T6Spans.{ones-bit}
+use Rattle.jbig2_base.proofs.ColourLemmas.{ones-bit}
 use Rattle.jbig2_mmr.proofs.mmr.span.word_of.Goals as goal
 
 pub returns-then-black : goal.returns-then-black

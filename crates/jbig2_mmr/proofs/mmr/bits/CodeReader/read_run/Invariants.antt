@@ -6,7 +6,7 @@ use Rattle.jbig2_mmr.proofs.mmr.bits.CodeReader.read_run.Given as goal
 abbrev pub invariant-loop-code : goal.invariant-loop-code
 invariant-loop-code l = record {
   within : l.sum ≤ l.room;
-  reading : RunReading l.black l.room l.sum l.self.left (run l.black l.room l.fn.self.left);
+  reading : RunReading l.black l.sum l.self.left (run l.black l.fn.self.left);
   bytes : l.self.bytes ≡ l.fn.self.bytes;
   shorter : length l.self.left ≤ length l.fn.self.left;
 }

@@ -1,6 +1,6 @@
 use Rattle.std.proofs.Common.{◌≡◌, ℕ, ◌-◌, ◌<◌, ◌≤◌, not}
 use Rattle.jbig2_base.specs.Grid.{pixel_at}
-use Rattle.jbig2_mmr.proofs.mmr.span.find_colour.Given as goal
+use Rattle.jbig2_base.proofs.bitmap.colour.find_colour.Given as goal
 
 abbrev pub invariant-loop-x : goal.invariant-loop-x
 invariant-loop-x g l = record {

@@ -1,7 +1,7 @@
 use Rattle.std.proofs.Common.{ℕ, arith}
 use Rattle.jbig2_base.specs.Grid.{pixel_at}
-use Rattle.jbig2_mmr.proofs.T6Spans.{search-before, search-found}
-use Rattle.jbig2_mmr.proofs.mmr.span.find_colour.Goals as goal
+use Rattle.jbig2_base.proofs.ColourLemmas.{search-before, search-found}
+use Rattle.jbig2_base.proofs.bitmap.colour.find_colour.Goals as goal
 
 pub returns-then-others-count : goal.returns-then-others-count
 returns-then-others-count g c =

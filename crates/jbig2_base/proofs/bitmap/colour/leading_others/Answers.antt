@@ -1,6 +1,6 @@
-use Rattle.jbig2_mmr.proofs.T6Spans.{IsWanted, leading-is, wanted-black, wanted-white, leading-before, leading-found}
-use Rattle.jbig2_mmr.proofs.mmr.span.leading_others.Goals as goal
-use Rattle.jbig2_mmr.proofs.mmr.span.leading_others.Goals.{then-black, else-black}
+use Rattle.jbig2_base.proofs.ColourLemmas.{IsWanted, leading-is, wanted-black, wanted-white, leading-before, leading-found}
+use Rattle.jbig2_base.proofs.bitmap.colour.leading_others.Goals as goal
+use Rattle.jbig2_base.proofs.bitmap.colour.leading_others.Goals.{then-black, else-black}
 
 pub overflow_sub-result-2 : goal.overflow_sub-result-2
 overflow_sub-result-2 c =
