@@ -3,6 +3,7 @@ use Rattle.std.proofs.Common.{◌≡◌, ℕ, zero, suc, ◌+◌, ◌-◌, ◌*�
 use Rattle.std.specs.Borrow.{Bor}
 use Rattle.std.specs.Prelude.{is_some, if◌then◌else◌}
 use Rattle.std.proofs.lemmas.Bool.{cases_lt}
+use Rattle.jbig2_base.proofs.LaneCounts.{lanes-none, lanes-then}
 use Rattle.jbig2_base.specs.Counts.{Counts}
 use Rattle.jbig2_base.specs.Grid.{Grid, blank}
 use Rattle.jbig2_coder.specs.Coder.{Coder, Context}
@@ -51,7 +52,7 @@ all-coded pixels t w h bytes (suc n) r plain = rw (rows-plain pixels t w h bytes
 
 pub planes-begin : (p : GrayScale) (bytes : List ℕ) (steps : Counts) → CountsPlanes p bytes 0 steps steps
 unfolding plane_runs
-planes-begin p bytes steps = record { decisions = λ _. omega arith; run_tests = omega arith; words = omega arith; loads = omega arith }
+planes-begin p bytes steps = record { decisions = λ _. omega arith; run_tests = omega arith; words = omega arith; loads = omega arith; lanes = lanes-none steps }
 
 one-more : (n v : ℕ) → (n + 1) * v ≡ n * v + v
 one-more n v = omega (arith, add-mul n 1 v)
@@ -70,6 +71,7 @@ planes-more p bytes i old mid new before one =
       run_tests = rw (one-more i (p.height * row_tests true p.width)) (omega (arith, before.run_tests, one.run_tests));
       words = rw (one-more i (p.height * row_words true p.width)) (omega (arith, before.words, one.words));
       loads = let plain = rw (coded, none) at one.loads in rw (one-more i (p.height * row_loads true p.width)) (omega (arith, before.loads, plain));
+      lanes = lanes-then old mid new before.lanes one.lanes;
     }
 
 pub planes-next : (p : GrayScale) (bytes : List ℕ) (i : ℕ) (plane : Grid) (coder : Coder) (states : List Context) (old mid new : Counts) (planes : List Grid) → plane ≡ blank p.width p.height false → BehindPlanes p bytes i planes coder states
