@@ -70,3 +70,14 @@ after_lanes w before = record before {
 -- an image: its planes are read, and then each row of each plane is taken
 abbrev pub CountsImage : GrayScale → List ℕ → Counts → Counts → Type 0
 CountsImage p bytes before after = (read : Counts) × (CountsRead p bytes before read × (after ≡ after_lane_rows (p.height * p.bits_per_pixel) p.width read))
+
+-- So many rows of w pixels take a group for each whole eight pixels, and the others one by one: at most floor(w / 8) + 7
+-- of both a row.
+pub record TakesLanes (rows w : ℕ) (before after : Counts) : Type 0 where
+  pub groups : after.groups ≡ before.groups + rows * lane_groups w
+  pub pixels : after.pixels ≡ before.pixels + rows * single_pixels w
+  pub both : after.groups + after.pixels ≤ before.groups + before.pixels + rows * (w / 8 + 7)
+
+-- an image's rows, of each plane
+abbrev pub CountsLanes : GrayScale → Counts → Counts → Type 0
+CountsLanes p before after = p.use_mmr ≡ false → p.skip_mask ≡ None → TakesLanes (p.height * p.bits_per_pixel) p.width before after
