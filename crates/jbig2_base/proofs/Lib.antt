@@ -8,6 +8,7 @@ mod Extends
 mod FileRows
 pub mod FillLemmas
 pub mod GridLemmas
+pub mod LaneCounts
 mod PackedLemmas
 pub mod RandomAccess
 pub mod ReaderLemmas

@@ -1,5 +1,5 @@
 -- What the step bounds count (our own rule): each field is a number of calls.
-use Rattle.std.specs.Prelude.{ℕ, ◌+◌}
+use Rattle.std.specs.Prelude.{◌≡◌, ℕ, ◌+◌}
 
 pub record Counts : Type 0 where
   pub loads : ℕ
@@ -15,3 +15,8 @@ no_steps = record { loads = 0; words = 0; decisions = 0; run_tests = 0; groups =
 -- so many words more are loaded and written
 abbrev pub words_copied : ℕ → Counts → Counts
 words_copied n c = record c { loads = c.loads + n; words = c.words + n }
+
+-- no group of lanes and no single pixel was counted
+pub record KeepsLanes (old new : Counts) : Type 0 where
+  pub groups : new.groups ≡ old.groups
+  pub pixels : new.pixels ≡ old.pixels

@@ -1,51 +1,157 @@
 -- What drawing patterns takes.
-use Rattle.std.proofs.Common.{◌≡◌, ℕ, zero, suc, ◌+◌, ◌-◌, ◌*◌, ◌/◌, ◌≤◌, ℤ, pos, negsuc, refl, sym, ap, ◌∙◌, add-mul, arith}
-use Rattle.std.specs.Prelude.{min}
-use Rattle.std.proofs.Math.Nat.{mul-le-mul_left, mul-le-mul_right}
+use Rattle.std.proofs.Common.{◌≡◌, ℕ, zero, suc, ◌+◌, ◌-◌, ◌*◌, ◌/◌, ◌%◌, ◌<◌, ◌≤◌, ℤ, add-one, refl, sym, ap, subst, ◌∙◌, add-mul, arith, Bool, Result, Ok, Err}
+use Rattle.std.proofs.lemmas.Nat.{div-mul-add, mod-mul-add}
 use Rattle.jbig2_base.specs.Combination.{overlap, most_words, WritesWithin}
 use Rattle.jbig2_base.specs.Counts.{Counts}
-use Rattle.jbig2_base.specs.Grid.{Grid}
+use Rattle.std.specs.Prelude.{OnOk}
+use Rattle.jbig2_base.specs.Grid.{Grid, blank}
+use Rattle.jbig2_halftone.specs.GraySteps.{CountsRead, after_lane_rows}
+use Rattle.jbig2_halftone.specs.Halftone.{column_of, gray_params, row_of}
+use Rattle.jbig2_halftone.specs.HalftoneHeader.{HalftoneHeader}
+use Rattle.jbig2_halftone.specs.HalftoneSteps.{CountsHalftone, after_mask, cell_words, words_of_cells}
+use Rattle.jbig2_halftone.specs.Patterns.{Patterns}
 use Rattle.jbig2_halftone.specs.Sizes.{HasSize}
 
-overlap-le : (page source : ℕ) (place : ℤ) → overlap page source place ≤ source
-overlap-le page source (pos x) = omega arith
-overlap-le page source (negsuc x) = omega arith
+pub draws-none : (old : Counts) → WritesWithin 0 old old
+draws-none old = record { words = omega arith; loads = omega arith; decisions = refl; run_tests = refl; groups = refl; pixels = refl }
 
-words-le : (a b : ℕ) → a ≤ b → most_words a ≤ most_words b
-words-le zero b few = omega arith
-words-le (suc a) zero few = absurd (omega arith)
-words-le (suc a) (suc b) few = omega arith
+-- more words may be written than were
+draws-within : (most more : ℕ) (old new : Counts) → most ≤ more → WritesWithin most old new → WritesWithin more old new
+draws-within most more old new less draws = record {
+  words = omega (arith, draws.words);
+  loads = omega (arith, draws.loads);
+  decisions = draws.decisions;
+  run_tests = draws.run_tests;
+  groups = draws.groups;
+  pixels = draws.pixels;
+}
 
-product-le : (a b c d : ℕ) → a ≤ c → b ≤ d → a * b ≤ c * d
-product-le a b c d few less = omega (arith, mul-le-mul_left {m = b} {n = d} a less, mul-le-mul_right {m = a} {n = c} d few)
+-- one part after another
+draws-then : (first second : ℕ) (old mid new : Counts) → WritesWithin first old mid → WritesWithin second mid new → WritesWithin (first + second) old new
+draws-then first second old mid new before after = record {
+  words = omega (arith, before.words, after.words);
+  loads = omega (arith, before.loads, after.loads);
+  decisions = after.decisions ∙ before.decisions;
+  run_tests = after.run_tests ∙ before.run_tests;
+  groups = after.groups ∙ before.groups;
+  pixels = after.pixels ∙ before.pixels;
+}
 
-drawn-le : (page_width page_height width height : ℕ) (pattern : Grid) (x y : ℤ) → HasSize width height pattern → overlap page_height pattern.height y * most_words (overlap page_width pattern.width x) ≤ height * most_words width
-drawn-le page_width page_height width height pattern x y sized =
-    product-le (overlap page_height pattern.height y) (most_words (overlap page_width pattern.width x)) height (most_words width)
-    (omega (arith, overlap-le page_height pattern.height y, sized.rows))
-    (words-le (overlap page_width pattern.width x) width (omega (arith, overlap-le page_width pattern.width x, sized.columns)))
+-- ---- cells
+pub cells-start : (h : HalftoneHeader) (d : Patterns) (k : ℕ) (old : Counts) → WritesWithin (words_of_cells h d k 0) old old
+unfolding words_of_cells
+cells-start h d k old = draws-none old
 
-pub draws-none : (most : ℕ) (old : Counts) → WritesWithin (0 * most) old old
-draws-none most old = record { words = omega arith; loads = omega arith; decisions = refl; run_tests = refl; groups = refl; pixels = refl }
+words-more : (h : HalftoneHeader) (d : Patterns) (k n : ℕ) → words_of_cells h d k (n + 1) ≡ words_of_cells h d k n + cell_words h d (k + n)
+unfolding words_of_cells
+words-more h d k n = rw add-one refl
 
-pub draws-within : (n m most : ℕ) (old new : Counts) → n ≤ m → WritesWithin (n * most) old new → WritesWithin (m * most) old new
-draws-within n m most old new few draws =
-    let more : n * most ≤ m * most = mul-le-mul_right {m = n} {n = m} most few in
-    record { words = omega (arith, draws.words); loads = omega (arith, draws.loads); decisions = draws.decisions; run_tests = draws.run_tests; groups = draws.groups; pixels = draws.pixels }
+-- fewer cells write fewer words
+words-fewer : (h : HalftoneHeader) (d : Patterns) (k n m : ℕ) → words_of_cells h d k n ≤ words_of_cells h d k (n + m)
+unfolding words_of_cells
+words-fewer h d k n zero =
+    let none : n + 0 ≡ n = omega arith in
+    rw none (omega arith)
+words-fewer h d k n (suc m) =
+    let more : n + suc m ≡ suc (n + m) = omega arith in
+    rw more (omega (arith, words-fewer h d k n m))
 
-pub draws-next : (n width height : ℕ) (pattern : Grid) (page_width page_height : ℕ) (x y : ℤ) (old mid new : Counts) → HasSize width height pattern → WritesWithin (n * (height * most_words width)) old mid
-    → WritesWithin (overlap page_height pattern.height y * most_words (overlap page_width pattern.width x)) mid new → WritesWithin ((n + 1) * (height * most_words width)) old new
-draws-next n width height pattern page_width page_height x y old mid new sized before one =
-    let bound = drawn-le page_width page_height width height pattern x y sized in
-    let all : (n + 1) * (height * most_words width) ≡ n * (height * most_words width) + height * most_words width = one-more n (height * most_words width) in
-    record {
-      words = rw all (omega (arith, before.words, one.words, bound));
-      loads = rw all (omega (arith, before.loads, one.loads, bound));
-      decisions = one.decisions ∙ before.decisions;
-      run_tests = one.run_tests ∙ before.run_tests;
-      groups = one.groups ∙ before.groups;
-      pixels = one.pixels ∙ before.pixels;
-    }
+pub cells-within : (h : HalftoneHeader) (d : Patterns) (k n m : ℕ) (old new : Counts) → n ≤ m → WritesWithin (words_of_cells h d k n) old new → WritesWithin (words_of_cells h d k m) old new
+cells-within h d k n m old new few draws =
+    let sum : n + (m - n) ≡ m = omega arith in
+    let less : words_of_cells h d k n ≤ words_of_cells h d k m = subst (λ (i : ℕ). words_of_cells h d k n ≤ words_of_cells h d k i) sum (words-fewer h d k n (m - n)) in
+    draws-within (words_of_cells h d k n) (words_of_cells h d k m) old new less draws
+
+-- the words of the cell in row m and column n
+words-at : (h : HalftoneHeader) (d : Patterns) (m n : ℕ) → n < h.grid_position_and_size.width
+    → cell_words h d (m * h.grid_position_and_size.width + n) ≡ overlap h.region_info.height d.height (row_of h m n) * most_words (overlap h.region_info.width d.width (column_of h m n))
+unfolding cell_words
+words-at h d m n inside =
+    ap (λ (i : ℕ). overlap h.region_info.height d.height (row_of h i ((m * h.grid_position_and_size.width + n) % h.grid_position_and_size.width)) * most_words (overlap h.region_info.width d.width (column_of h i ((m * h.grid_position_and_size.width + n) % h.grid_position_and_size.width)))) (div-mul-add m h.grid_position_and_size.width n inside)
+    ∙ ap (λ (j : ℕ). overlap h.region_info.height d.height (row_of h m j) * most_words (overlap h.region_info.width d.width (column_of h m j))) (mod-mul-add m h.grid_position_and_size.width n inside)
+
+-- a cell more
+pub cells-more : (h : HalftoneHeader) (d : Patterns) (m n : ℕ) (page pattern : Grid) (x y : ℤ) (old mid new : Counts) → n < h.grid_position_and_size.width → x ≡ column_of h m n → y ≡ row_of h m n
+    → HasSize h.region_info.width h.region_info.height page → HasSize d.width d.height pattern → WritesWithin (words_of_cells h d (m * h.grid_position_and_size.width) n) old mid
+    → WritesWithin (overlap page.height pattern.height y * most_words (overlap page.width pattern.width x)) mid new → WritesWithin (words_of_cells h d (m * h.grid_position_and_size.width) (n + 1)) old new
+cells-more h d m n page pattern x y old mid new inside column row region sized before one =
+    let same : overlap page.height pattern.height y * most_words (overlap page.width pattern.width x) ≡ cell_words h d (m * h.grid_position_and_size.width + n) =
+    ap (λ (i : ℕ). overlap i pattern.height y * most_words (overlap page.width pattern.width x)) region.rows
+    ∙ ap (λ (i : ℕ). overlap h.region_info.height i y * most_words (overlap page.width pattern.width x)) sized.rows
+    ∙ ap (λ (i : ℕ). overlap h.region_info.height d.height y * most_words (overlap i pattern.width x)) region.columns
+    ∙ ap (λ (i : ℕ). overlap h.region_info.height d.height y * most_words (overlap h.region_info.width i x)) sized.columns
+    ∙ ap (λ (i : ℤ). overlap h.region_info.height d.height i * most_words (overlap h.region_info.width d.width x)) row
+    ∙ ap (λ (i : ℤ). overlap h.region_info.height d.height (row_of h m n) * most_words (overlap h.region_info.width d.width i)) column
+    ∙ sym (words-at h d m n inside) in
+    let here = subst (λ (i : ℕ). WritesWithin i mid new) same one in
+    subst (λ (i : ℕ). WritesWithin i old new) (sym (words-more h d (m * h.grid_position_and_size.width) n)) (draws-then (words_of_cells h d (m * h.grid_position_and_size.width) n) (cell_words h d (m * h.grid_position_and_size.width + n)) old mid new before here)
+
+-- ---- rows of cells
+words-append : (h : HalftoneHeader) (d : Patterns) (k n : ℕ) → words_of_cells h d 0 (k + n) ≡ words_of_cells h d 0 k + words_of_cells h d k n
+unfolding words_of_cells
+words-append h d k zero =
+    let none : k + 0 ≡ k = omega arith in
+    rw none (omega arith)
+words-append h d k (suc n) =
+    let more : k + suc n ≡ suc (k + n) = omega arith in
+    let first : 0 + (k + n) ≡ k + n = omega arith in
+    rw (more, first, words-append h d k n) (omega arith)
+
+pub rows-start : (h : HalftoneHeader) (d : Patterns) (w : ℕ) (old mid : Counts) → old ≡ mid → WritesWithin (words_of_cells h d 0 (0 * w)) mid old
+unfolding words_of_cells
+rows-start h d w old mid same =
+    let none : 0 * w ≡ 0 = omega arith in
+    rw none (subst (λ (s : Counts). WritesWithin 0 s old) same (draws-none old))
+
+-- a row more, behind that row of the planes
+pub rows-more : (h : HalftoneHeader) (d : Patterns) (m planes w : ℕ) (old read mid new : Counts) → WritesWithin (words_of_cells h d 0 (m * w)) (after_lane_rows (m * planes) w old) read → mid ≡ after_lane_rows planes w read
+    → WritesWithin (words_of_cells h d (m * w) w) mid new → WritesWithin (words_of_cells h d 0 ((m + 1) * w)) (after_lane_rows ((m + 1) * planes) w old) new
+rows-more h d m planes w old read mid new before taken one =
+    let sum : m * w + w ≡ (m + 1) * w = omega arith in
+    let words : words_of_cells h d 0 ((m + 1) * w) ≡ words_of_cells h d 0 (m * w) + words_of_cells h d (m * w) w = sym (ap (λ (k : ℕ). words_of_cells h d 0 k) sum) ∙ words-append h d (m * w) w in
+    let here = subst (λ (s : Counts). WritesWithin (words_of_cells h d (m * w) w) s new) taken one in
+    rw words
+    (record {
+      words = omega (arith, before.words, here.words);
+      loads = rw (more m planes (w / 8 + w % 8)) (omega (arith, before.loads, here.loads));
+      decisions = here.decisions ∙ before.decisions;
+      run_tests = here.run_tests ∙ before.run_tests;
+      groups = rw (more m planes (w / 8)) (omega (arith, before.groups, here.groups));
+      pixels = rw (more m planes (w % 8)) (omega (arith, before.pixels, here.pixels));
+    })
   where
-    one-more : (n v : ℕ) → (n + 1) * v ≡ n * v + v
-    one-more n v = omega (arith, add-mul n 1 v)
+    more : (m planes v : ℕ) → (m + 1) * planes * v ≡ m * planes * v + planes * v
+    more m planes v =
+        let sum : (m + 1) * planes ≡ m * planes + planes = omega arith in
+        rw sum (add-mul (m * planes) planes v)
+
+-- ---- the skip mask
+pub mask-start : (w : ℕ) (old : Counts) → old ≡ record old { words = old.words + 0 * w }
+mask-start w old =
+    let none : old.words + 0 * w ≡ old.words = omega arith in
+    rw none refl
+
+pub mask-more : (cells n : ℕ) (old mid new : Counts) → mid ≡ record old { words = old.words + (cells + n) } → new ≡ record mid { words = mid.words + 1 } → new ≡ record old { words = old.words + (cells + (n + 1)) }
+mask-more cells n old mid new before one =
+    let more : old.words + (cells + n) + 1 ≡ old.words + (cells + (n + 1)) = omega arith in
+    one ∙ ap (λ (c : Counts). let made : Counts = record c { words = c.words + 1 } in made) before ∙ rw more refl
+
+pub no-mask : (old : Counts) → old ≡ record old { words = old.words + 0 }
+no-mask old =
+    let none : old.words + 0 ≡ old.words = omega arith in
+    rw none refl
+
+-- ---- whole regions
+pub on-ok : {X E : Type 0} (result : Result X E) (P Q : Type 0) → (P → Q) → OnOk result P → OnOk result Q
+on-ok (Ok x) P Q f p = f p
+on-ok (Err e) P Q f p = _
+
+pub region-size : (w h : ℕ) (black : Bool) (region : Grid) → region ≡ blank w h black → HasSize w h region
+region-size w h black region e = record { columns = ap (λ (g : Grid). g.width) e; rows = ap (λ (g : Grid). g.height) e }
+
+pub region-steps : (h : HalftoneHeader) (d : Patterns) (planes : ℕ) (old read new : Counts) → planes ≡ (gray_params h d).bits_per_pixel → CountsRead (gray_params h d) h.bytes (after_mask h d old) read
+    → WritesWithin (words_of_cells h d 0 (h.grid_position_and_size.height * h.grid_position_and_size.width)) (after_lane_rows (h.grid_position_and_size.height * planes) h.grid_position_and_size.width read) new → CountsHalftone h d old new
+region-steps h d planes old read new many reads draws = (
+  after_lane_rows (h.grid_position_and_size.height * planes) h.grid_position_and_size.width read,
+  ((read, (reads, ap (λ (n : ℕ). after_lane_rows (h.grid_position_and_size.height * n) h.grid_position_and_size.width read) many)), draws),
+)

@@ -1,9 +1,11 @@
 -- What the planes of an image take.
-use Rattle.std.proofs.Common.{◌≡◌, ℕ, zero, suc, ◌+◌, ◌-◌, ◌*◌, ◌/◌, ◌<◌, ◌≤◌, Bool, true, false, List, Option, None, Some, add-one, add-mul, refl, sym, ap, subst, ◌∙◌, ⊎_elim, arith}
+use Rattle.std.proofs.Common.{◌≡◌, ℕ, zero, suc, ◌+◌, ◌-◌, ◌*◌, ◌/◌, ◌%◌, ◌<◌, ◌≤◌, Bool, true, false, List, Option, None, Some, add-one, add-mul, refl, sym, ap, subst, ◌∙◌, ⊎_elim, arith}
 use Rattle.std.specs.Borrow.{Bor}
 use Rattle.std.specs.Prelude.{is_some, if◌then◌else◌}
+use Rattle.std.proofs.Math.Nat.{mul-le-mul_left}
 use Rattle.std.proofs.lemmas.Bool.{cases_lt}
-use Rattle.jbig2_base.specs.Counts.{Counts}
+use Rattle.jbig2_base.proofs.LaneCounts.{lanes-none, lanes-then}
+use Rattle.jbig2_base.specs.Counts.{Counts, KeepsLanes}
 use Rattle.jbig2_base.specs.Grid.{Grid, blank}
 use Rattle.jbig2_coder.specs.Coder.{Coder, Context}
 use Rattle.jbig2_coder.specs.declared.arithmetic_decoder.registers.Registers.{Registers}
@@ -18,7 +20,7 @@ use Rattle.jbig2_region.specs.declared.template.GenericTemplatePixels.TheVariant
 use Rattle.jbig2_region.specs.declared.template.Template.{Template}
 use Rattle.jbig2_region.specs.declared.template.Template.TheVariants.{Template0, Template1, Template2, Template3}
 use Rattle.jbig2_halftone.specs.GrayScale.{GrayScale, nominal_pixels, after_planes}
-use Rattle.jbig2_halftone.specs.GraySteps.{plane_pixels, plain_coding, plane_start, plane_runs, CountsPlane, CountsPlanes}
+use Rattle.jbig2_halftone.specs.GraySteps.{CountsImage, CountsLanes, CountsPlane, CountsPlanes, TakesLanes, after_lane_rows, plain_coding, plane_pixels, plane_runs, plane_start}
 use Rattle.jbig2_halftone.proofs.PlaneLemmas.{BehindPlanes, rows-plain}
 
 pub some-mask : (mask : Option (Bor Grid)) → is_some mask ≡ true → skip_of mask ≡ None → ⊥
@@ -51,7 +53,7 @@ all-coded pixels t w h bytes (suc n) r plain = rw (rows-plain pixels t w h bytes
 
 pub planes-begin : (p : GrayScale) (bytes : List ℕ) (steps : Counts) → CountsPlanes p bytes 0 steps steps
 unfolding plane_runs
-planes-begin p bytes steps = record { decisions = λ _. omega arith; run_tests = omega arith; words = omega arith; loads = omega arith }
+planes-begin p bytes steps = record { decisions = λ _. omega arith; run_tests = omega arith; words = omega arith; loads = omega arith; lanes = lanes-none steps }
 
 one-more : (n v : ℕ) → (n + 1) * v ≡ n * v + v
 one-more n v = omega (arith, add-mul n 1 v)
@@ -70,6 +72,7 @@ planes-more p bytes i old mid new before one =
       run_tests = rw (one-more i (p.height * row_tests true p.width)) (omega (arith, before.run_tests, one.run_tests));
       words = rw (one-more i (p.height * row_words true p.width)) (omega (arith, before.words, one.words));
       loads = let plain = rw (coded, none) at one.loads in rw (one-more i (p.height * row_loads true p.width)) (omega (arith, before.loads, plain));
+      lanes = lanes-then old mid new before.lanes one.lanes;
     }
 
 pub planes-next : (p : GrayScale) (bytes : List ℕ) (i : ℕ) (plane : Grid) (coder : Coder) (states : List Context) (old mid new : Counts) (planes : List Grid) → plane ≡ blank p.width p.height false → BehindPlanes p bytes i planes coder states
@@ -80,3 +83,44 @@ planes-next p bytes i plane coder states old mid new planes white behind before 
     let four = subst (λ (r : Registers). CountsPlane p p.width p.height bytes (no_pixels r states) mid new) behind.registers three in
     let five = subst (λ (s : List Context). CountsPlane p p.width p.height bytes (no_pixels (after_planes p bytes i).registers s) mid new) behind.contexts four in
     planes-more p bytes i old mid new before five
+
+-- what the values take beside the planes
+pub image-lanes : (p : GrayScale) (bytes : List ℕ) (old new : Counts) → CountsImage p bytes old new → CountsLanes p old new
+image-lanes p bytes old new (read, (reads, taken)) = λ coded plain.
+    lanes-of (p.height * p.bits_per_pixel) p.width old read new (reads coded plain).lanes taken
+  where
+    lanes-of : (rows w : ℕ) (old read new : Counts) → KeepsLanes old read → new ≡ after_lane_rows rows w read → TakesLanes rows w old new
+    lanes-of rows w old read new stay taken =
+        let groups = ap (λ (c : Counts). c.groups) taken in
+        let pixels = ap (λ (c : Counts). c.pixels) taken in
+        let rest : rows * (w % 8) ≤ rows * 7 = mul-le-mul_left {m = w % 8} {n = 7} rows (omega arith) in
+        record {
+          groups = omega (arith, groups, stay.groups);
+          pixels = omega (arith, pixels, stay.pixels);
+          both = omega (arith, groups, pixels, rest, stay.groups, stay.pixels);
+        }
+
+-- no step before the first plane
+unfoldable pub NoneYet : ℕ → Counts → Counts → Type 0
+NoneYet count old new = count ≡ 0 → new ≡ old
+
+pub none-start : (old : Counts) → NoneYet 0 old old
+unfolding NoneYet
+none-start old = λ _. refl
+
+pub none-more : (count : ℕ) (old new : Counts) → NoneYet (count + 1) old new
+unfolding NoneYet
+none-more count old new = λ never. absurd (omega arith)
+
+pub none-left : (count : ℕ) (old new : Counts) → NoneYet count old new → count ≡ 0 → new ≡ old
+unfolding NoneYet
+none-left count old new none = none
+
+-- no planes
+pub no-lane-rows : (h n w : ℕ) (old new : Counts) → n ≡ 0 → new ≡ after_lane_rows (h * n) w old → new ≡ old
+no-lane-rows h n w old new none taken =
+    let rows : h * n ≡ 0 = rw none (omega arith) in
+    let loads : old.loads + 0 * (w / 8 + w % 8) ≡ old.loads = omega arith in
+    let groups : old.groups + 0 * (w / 8) ≡ old.groups = omega arith in
+    let pixels : old.pixels + 0 * (w % 8) ≡ old.pixels = omega arith in
+    taken ∙ ap (λ (k : ℕ). after_lane_rows k w old) rows ∙ rw (loads, groups, pixels) refl

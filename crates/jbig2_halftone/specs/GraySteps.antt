@@ -1,6 +1,6 @@
 -- The steps of gray-scale images (our own rule).
 use Rattle.std.specs.Prelude.{ℕ, zero, suc, ◌≡◌, ◌≤◌, ◌+◌, ◌*◌, ◌/◌, ◌%◌, Bool, true, false, List, None}
-use Rattle.jbig2_base.specs.Counts.{Counts}
+use Rattle.jbig2_base.specs.Counts.{Counts, KeepsLanes}
 use Rattle.jbig2_region.specs.Generic.{coding_of}
 use Rattle.jbig2_region.specs.Raster.{Coding, Region, no_pixels}
 use Rattle.jbig2_region.specs.RunBytes.{CountsRegion, coded_runs, row_loads, row_tests, row_words}
@@ -31,12 +31,13 @@ plane_runs p bytes (suc count) =
 abbrev pub CountsPlane : GrayScale → ℕ → ℕ → List ℕ → Region → Counts → Counts → Type 0
 CountsPlane p w h bytes start before after = CountsRegion (plane_pixels p) true 0 (plain_coding p) w h bytes start before after
 
--- the highest planes: a decision for each pixel, less eight for each run byte
+-- the highest planes: a decision for each pixel, less eight for each run byte, and no lanes
 pub record CountsPlanes (p : GrayScale) (bytes : List ℕ) (count : ℕ) (before after : Counts) : Type 0 where
   pub decisions : 1 ≤ p.width → after.decisions + 8 * plane_runs p bytes count ≡ before.decisions + count * (p.width * p.height)
   pub run_tests : after.run_tests ≤ before.run_tests + count * (p.height * row_tests true p.width)
   pub words : after.words ≤ before.words + count * (p.height * row_words true p.width)
   pub loads : after.loads ≤ before.loads + count * (p.height * row_loads true p.width)
+  pub lanes : KeepsLanes before after
 
 -- only planes of the arithmetic coder are counted, and of these those without skipped pixels
 abbrev pub CountsRead : GrayScale → List ℕ → Counts → Counts → Type 0
@@ -69,3 +70,14 @@ after_lanes w before = record before {
 -- an image: its planes are read, and then each row of each plane is taken
 abbrev pub CountsImage : GrayScale → List ℕ → Counts → Counts → Type 0
 CountsImage p bytes before after = (read : Counts) × (CountsRead p bytes before read × (after ≡ after_lane_rows (p.height * p.bits_per_pixel) p.width read))
+
+-- So many rows of w pixels take a group for each whole eight pixels, and the others one by one: at most floor(w / 8) + 7
+-- of both a row.
+pub record TakesLanes (rows w : ℕ) (before after : Counts) : Type 0 where
+  pub groups : after.groups ≡ before.groups + rows * lane_groups w
+  pub pixels : after.pixels ≡ before.pixels + rows * single_pixels w
+  pub both : after.groups + after.pixels ≤ before.groups + before.pixels + rows * (w / 8 + 7)
+
+-- an image's rows, of each plane
+abbrev pub CountsLanes : GrayScale → Counts → Counts → Type 0
+CountsLanes p before after = p.use_mmr ≡ false → p.skip_mask ≡ None → TakesLanes (p.height * p.bits_per_pixel) p.width before after

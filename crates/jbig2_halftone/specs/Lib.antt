@@ -2,6 +2,7 @@ pub mod GrayScale
 pub mod GraySteps
 pub mod Halftone
 pub mod HalftoneHeader
+pub mod HalftoneSteps
 pub mod PatternHeader
 pub mod Patterns
 pub mod Sizes

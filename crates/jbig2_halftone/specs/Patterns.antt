@@ -2,7 +2,6 @@
 use Rattle.std.specs.Prelude.{ℕ, ◌+◌, ◌*◌, nat_lt, Bool, false, if◌then◌else◌, List, [], ◌∷◌, map, Result, Ok}
 use Rattle.std.specs.List.{range_with_len}
 use Rattle.jbig2_base.specs.Answer.{◌>>=◌, refuse_if}
-use Rattle.jbig2_base.specs.Combination.{most_words}
 use Rattle.jbig2_base.specs.Grid.{Grid, grid_of, pixel_at}
 use Rattle.jbig2_base.specs.declared.bitmap.operator.CombinationOperator.TheVariants.{Or}
 use Rattle.jbig2_base.specs.declared.error.DecodeError.{DecodeError}
@@ -25,10 +24,6 @@ pub record Patterns : Type 0 where
 
 abbrev pub dictionary_view : {A : Type 0} → PatternDictionary A → Patterns
 dictionary_view d = record { grids = d.patterns.items; width = d.pattern_width; height = d.pattern_height }
-
--- at most so many words are written where a pattern is drawn
-abbrev pub pattern_words : Patterns → ℕ
-pattern_words d = d.height * most_words d.width
 
 abbrev pub number_of_patterns : PatternHeader → ℕ
 number_of_patterns h = h.gray_max + 1

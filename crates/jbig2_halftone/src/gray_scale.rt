@@ -2,7 +2,7 @@
 ghost use Rattle.std.specs.Prelude.{◌≡◌, ◌≤◌, [], Ok, OnOk};
 ghost use Rattle.jbig2_base.specs.Answer.{Gives, Leaves};
 ghost use Rattle.jbig2_halftone.specs.GrayScale.{gray_view, gray_values, gray_scale_image, gray_contexts};
-ghost use Rattle.jbig2_halftone.specs.GraySteps.{CountsImage};
+ghost use Rattle.jbig2_halftone.specs.GraySteps.{CountsImage, CountsLanes};
 
 mod lanes;
 pub(crate) mod planes;
@@ -68,6 +68,8 @@ pub fn decode_gray_scale_image<M: Allocator, A: Allocator + Clone, B: Allocator,
     ensures value { Gives (λ values. values.items) result (gray_scale_image (gray_view params.now) bytes.now) }
     ensures contexts { Leaves result contexts.new.items (gray_contexts (gray_view params.now) bytes.now contexts.old.items) }
     ensures steps { OnOk result (CountsImage (gray_view params.now) bytes.now steps.old steps.new) }
+    ensures lanes { OnOk result (CountsLanes (gray_view params.now) steps.old steps.new) }
+    ensures no_planes { params.now.bits_per_pixel ≡ 0 → OnOk result (steps.new ≡ steps.old) }
 {
     let too_long = params.width > MAX_DIMENSION || params.height > MAX_DIMENSION;
     if params.bits_per_pixel > 0 && too_long {

@@ -1,5 +1,5 @@
 //! Halftone regions (T.88, 6.6 and 7.4.5).
-ghost use Rattle.std.specs.Prelude.{◌≡◌, ◌*◌, ◌<◌, ◌≤◌, length, false, ◌⊎◌, IfErr, IfOk, OnOk, FitsSigned, Ok};
+ghost use Rattle.std.specs.Prelude.{◌≡◌, ◌+◌, ◌*◌, ◌<◌, ◌≤◌, length, false, ◌⊎◌, IfErr, IfOk, OnOk, FitsSigned, Ok};
 ghost use Rattle.std.specs.Int.{w32, int_shr};
 ghost use Rattle.jbig2_base.specs.Answer.{Answers, Gives, Leaves};
 ghost use Rattle.std.specs.List.{All};
@@ -8,9 +8,11 @@ ghost use Rattle.jbig2_base.specs.Grid.{blank};
 ghost use Rattle.jbig2_base.specs.Search.{code_length};
 ghost use Rattle.jbig2_region.specs.RegionInfo.{region_view};
 ghost use Rattle.jbig2_halftone.specs.GrayScale.{planes_of, planes_contexts, gray_values};
+ghost use Rattle.jbig2_halftone.specs.GraySteps.{CountsRead, after_lane_rows};
 ghost use Rattle.jbig2_halftone.specs.Halftone.{gray_params, column_of, row_of, is_apart, lies_outside, skip_grid, skip_mask, pattern_for, cells_drawn, halftone_answer, halftone_contexts, halftone_decoded, decoded_contexts};
 ghost use Rattle.jbig2_halftone.specs.HalftoneHeader.{header_view};
-ghost use Rattle.jbig2_halftone.specs.Patterns.{dictionary_view, pattern_words};
+ghost use Rattle.jbig2_halftone.specs.HalftoneSteps.{CountsHalftone, after_mask, words_of_cells};
+ghost use Rattle.jbig2_halftone.specs.Patterns.{dictionary_view};
 ghost use Rattle.jbig2_halftone.specs.Sizes.{HasSize};
 
 pub mod header;
@@ -91,7 +93,11 @@ fn skip_bitmap<D: Allocator, A: Allocator, L: Ledger>(
 ) -> Result<Bitmap<A>>
     requires columns { header.now.grid_position_and_size.width ≤ 65535 }
     requires rows { header.now.grid_position_and_size.height ≤ 65535 }
-    ensures { Gives (λ skip. skip) result (Ok (skip_grid (header_view header.now) (dictionary_view dictionary.now))) }
+    ensures value { Gives (λ skip. skip) result (Ok (skip_grid (header_view header.now) (dictionary_view dictionary.now))) }
+    ensures steps { OnOk result (steps.new ≡ record steps.old {
+      words = steps.old.words
+          + header.now.grid_position_and_size.height * header.now.grid_position_and_size.width;
+    }) }
 {
     let grid = &header.grid_position_and_size;
     let mut skip = Bitmap::new(alloc, grid.width, grid.height)?;
@@ -138,10 +144,14 @@ fn draw_row<D: Allocator, A: Allocator, L: Ledger>(
     requires row { m < 65536 }
     requires columns { header.now.grid_position_and_size.width ≤ 65535 }
     requires sized { length values.now ≡ header.now.grid_position_and_size.width }
+    requires region { HasSize header.now.region_info.width header.now.region_info.height bitmap.old }
     ensures value { Answers (λ _. bitmap.new) result
         (cells_drawn (header_view header.now) (dictionary_view dictionary.now) (m * header.now.grid_position_and_size.width) values.now bitmap.old) }
     ensures refused { IfErr result (λ e. e ≡ DecodeError.Region RegionError.GrayScaleOutOfRange) }
-    ensures steps { WritesWithin (length values.now * pattern_words (dictionary_view dictionary.now)) steps.old steps.new }
+    ensures size { HasSize bitmap.old.width bitmap.old.height bitmap.new }
+    ensures steps { WritesWithin
+        (words_of_cells (header_view header.now) (dictionary_view dictionary.now) (m * header.now.grid_position_and_size.width) (length values.now))
+        steps.old steps.new }
 {
     let operator = header.flags.combination_operator;
     for (n, value) in values.iter().enumerate() {
@@ -169,10 +179,14 @@ fn draw_rows<D: Allocator, P: Allocator, A: Allocator, L: Ledger>(
     requires sized { All (λ plane. plane.width ≡ header.now.grid_position_and_size.width) planes.now }
     requires few { length planes.now ≤ 32 }
     requires row { length values.old ≡ header.now.grid_position_and_size.width }
+    requires region { HasSize header.now.region_info.width header.now.region_info.height bitmap.old }
     ensures value { Answers (λ _. bitmap.new) result
         (cells_drawn (header_view header.now) (dictionary_view dictionary.now) 0
         (gray_values header.now.grid_position_and_size.width header.now.grid_position_and_size.height planes.now) bitmap.old) }
     ensures refused { IfErr result (λ e. e ≡ DecodeError.Region RegionError.GrayScaleOutOfRange) }
+    ensures steps { let grid = header.now.grid_position_and_size in OnOk result (WritesWithin
+        (words_of_cells (header_view header.now) (dictionary_view dictionary.now) 0 (grid.height * grid.width))
+        (after_lane_rows (grid.height * length planes.now) grid.width steps.old) steps.new) }
 {
     for m in 0..header.grid_position_and_size.height {
         gray_row(planes, m, values, steps);
@@ -193,7 +207,8 @@ fn skip_mask<D: Allocator, A: Allocator, L: Ledger>(
 ) -> Result<Option<Bitmap<A>>>
     requires columns { header.now.grid_position_and_size.width ≤ 65535 }
     requires rows { header.now.grid_position_and_size.height ≤ 65535 }
-    ensures { Gives (λ mask. mask) result (Ok (skip_mask (header_view header.now) (dictionary_view dictionary.now))) }
+    ensures value { Gives (λ mask. mask) result (Ok (skip_mask (header_view header.now) (dictionary_view dictionary.now))) }
+    ensures steps { OnOk result (steps.new ≡ after_mask (header_view header.now) (dictionary_view dictionary.now) steps.old) }
 {
     if header.flags.enable_skip && !header.flags.mmr {
         return Ok(Some(skip_bitmap(alloc, header, dictionary, steps)?));
@@ -214,6 +229,8 @@ fn read_cells<D: Allocator, A: Allocator + Clone, B: Allocator, L: Ledger>(
     ensures value { Gives (λ planes. planes.items) result (planes_of (gray_params (header_view header.now) (dictionary_view dictionary.now)) header.now.bytes.now) }
     ensures contexts { Leaves result contexts.new.items (planes_contexts (gray_params (header_view header.now) (dictionary_view dictionary.now)) header.now.bytes.now contexts.old.items) }
     ensures few { OnOk result (code_length (length dictionary.now.patterns.items) ≤ 32) }
+    ensures steps { OnOk result (CountsRead (gray_params (header_view header.now) (dictionary_view dictionary.now)) header.now.bytes.now
+        (after_mask (header_view header.now) (dictionary_view dictionary.now) steps.old) steps.new) }
 {
     let skip = skip_mask(alloc.clone()?, header, dictionary, steps)?;
     let grid = &header.grid_position_and_size;
@@ -254,6 +271,7 @@ fn draw_region<D: Allocator, M: Allocator, A: Allocator + Clone, B: Allocator, L
     ensures value { Gives (λ _. bitmap.new) result (halftone_answer (header_view header.now) (dictionary_view dictionary.now)) }
     ensures bitmap { IfErr result (λ e. (e ≡ DecodeError.Region RegionError.GrayScaleOutOfRange) ⊎ (bitmap.new ≡ bitmap.old)) }
     ensures contexts { Leaves result contexts.new.items (halftone_contexts (header_view header.now) (dictionary_view dictionary.now) contexts.old.items) }
+    ensures steps { OnOk result (CountsHalftone (header_view header.now) (dictionary_view dictionary.now) steps.old steps.new) }
 {
     let mut values = value_row(alloc.clone()?, header.grid_position_and_size.width)?;
     let planes = match read_cells(alloc, header, dictionary, contexts, steps) {
@@ -287,6 +305,7 @@ pub fn decode_into<D: Allocator, M: Allocator, A: Allocator + Clone, B: Allocato
     ensures bitmap { IfErr result (λ e. (e ≡ DecodeError.Region RegionError.GrayScaleOutOfRange) ⊎ (bitmap.new ≡ bitmap.old)) }
     ensures contexts { Leaves result contexts.new.items (halftone_contexts (header_view header.now) (dictionary_view dictionary.now) contexts.old.items) }
     ensures lenient { header.now.strict ≡ false → IfErr result (λ e. e ≡ DecodeError.OutOfMemory) }
+    ensures steps { OnOk result (CountsHalftone (header_view header.now) (dictionary_view dictionary.now) steps.old steps.new) }
 {
     draw_region(alloc, header, dictionary, bitmap, contexts, steps)
 }
@@ -308,6 +327,7 @@ pub fn decode<D: Allocator, A: Allocator + Clone, B: Allocator, L: Ledger>(
     requires rows { header.now.grid_position_and_size.height ≤ 65535 }
     ensures value { Gives (λ region. region_view region) result (halftone_decoded (header_view header.now) (dictionary_view dictionary.now)) }
     ensures contexts { Leaves result contexts.new.items (decoded_contexts (header_view header.now) (dictionary_view dictionary.now) contexts.old.items) }
+    ensures steps { OnOk result (CountsHalftone (header_view header.now) (dictionary_view dictionary.now) steps.old steps.new) }
 {
     let region_info = &header.region_info;
     let mut bitmap = Bitmap::new_with(

@@ -1,6 +1,7 @@
 -- Regions row by row, with their counts.
 use Rattle.std.proofs.Common.{subst, ◌≡◌, ℕ, zero, suc, ◌+◌, ◌*◌, ◌≤◌, Bool, true, false, cond, add-one, List, length, Option, refl, sym, ap, ◌∙◌, arith}
-use Rattle.jbig2_base.specs.Counts.{Counts}
+use Rattle.jbig2_base.specs.Counts.{Counts, KeepsLanes}
+use Rattle.jbig2_base.proofs.LaneCounts.{lanes-none}
 use Rattle.jbig2_base.specs.Grid.{Grid}
 use Rattle.jbig2_coder.specs.Coder.{Coder, Context}
 use Rattle.jbig2_region.specs.Generic.{context_at, colour_above}
@@ -112,15 +113,17 @@ empty-counts template nominal adaptive coding w h input start steps none = recor
   run_tests = omega arith;
   words = omega arith;
   loads = omega arith;
+  lanes = lanes-none steps;
 }
 
 pub region-counts : (template : List AdaptiveTemplatePixel) (nominal : Bool) (adaptive : ℕ) (coding : Coding) (w h y : ℕ) (input : List ℕ) (start : Region) (before after : Counts) → (w ≡ 0 → ⊥) → y ≡ h → (y ≡ 0 → after ≡ before)
-    → Counted template nominal coding w h input y start before.decisions after.decisions → after.run_tests ≤ before.run_tests + y * row_tests nominal w → after.words ≤ before.words + y * row_words nominal w → after.loads ≤ before.loads + (y * row_loads nominal w + w * coded_rows coding w h input y start * adaptive)
+    → Counted template nominal coding w h input y start before.decisions after.decisions → after.run_tests ≤ before.run_tests + y * row_tests nominal w → after.words ≤ before.words + y * row_words nominal w → after.loads ≤ before.loads + (y * row_loads nominal w + w * coded_rows coding w h input y start * adaptive) → KeepsLanes before after
     → CountsRegion template nominal adaptive coding w h input start before after
-region-counts template nominal adaptive coding w h y input start before after some all none counted tests words loads = record {
+region-counts template nominal adaptive coding w h y input start before after some all none counted tests words loads lanes = record {
   empty = λ product. none (no-rows w h y some all product);
   decisions = λ _. subst (λ (n : ℕ). after.decisions + 8 * coded_runs template nominal coding w h input n start ≡ before.decisions + (n * row_decisions coding.row_context + w * coded_rows coding w h input n start)) all counted.total;
   words = subst (λ (n : ℕ). after.words ≤ before.words + n * row_words nominal w) all words;
   run_tests = subst (λ (n : ℕ). after.run_tests ≤ before.run_tests + n * row_tests nominal w) all tests;
   loads = subst (λ (n : ℕ). after.loads ≤ before.loads + (n * row_loads nominal w + w * coded_rows coding w h input n start * adaptive)) all loads;
+  lanes = lanes;
 }

@@ -1,6 +1,6 @@
 -- Run bytes of generic regions, and the counts that speak of them (our own rule).
 use Rattle.std.specs.Prelude.{◌≡◌, ℕ, zero, suc, ◌+◌, ◌-◌, ◌*◌, ◌/◌, ◌%◌, ◌≤◌, ◌==◌, Bool, true, false, ◌&&◌, ◌||◌, nat_lt, if◌then◌else◌, List, ◌++◌, length, replicate, slice_index_or}
-use Rattle.jbig2_base.specs.Counts.{Counts}
+use Rattle.jbig2_base.specs.Counts.{Counts, KeepsLanes}
 use Rattle.jbig2_base.specs.Grid.{Grid, bit_number, same_colour}
 use Rattle.jbig2_coder.specs.Coder.{Coder, Context, fresh, all_quiet}
 use Rattle.jbig2_region.specs.Generic.{context_at, number_of}
@@ -76,10 +76,11 @@ abbrev pub row_words : Bool → ℕ → ℕ
 row_words nominal w = if nominal then (w - 1) / 8 + 1 else w
 
 -- What a region of w columns and h rows takes: one decision for each coded pixel, less eight for each run byte, and one
--- for each row that begins with one. An empty region takes no step.
+-- for each row that begins with one, and no lanes. An empty region takes no step.
 pub record CountsRegion (template : List AdaptiveTemplatePixel) (nominal : Bool) (adaptive : ℕ) (coding : Coding) (w h : ℕ) (bytes : List ℕ) (start : Region) (before after : Counts) : Type 0 where
   pub empty : w * h ≡ 0 → after ≡ before
   pub decisions : 1 ≤ w → after.decisions + 8 * coded_runs template nominal coding w h bytes h start ≡ before.decisions + (h * row_decisions coding.row_context + w * coded_rows coding w h bytes h start)
   pub run_tests : after.run_tests ≤ before.run_tests + h * row_tests nominal w
   pub words : after.words ≤ before.words + h * row_words nominal w
   pub loads : after.loads ≤ before.loads + (h * row_loads nominal w + w * coded_rows coding w h bytes h start * adaptive)
+  pub lanes : KeepsLanes before after

@@ -1,6 +1,7 @@
 //! The kernels of generic regions (T.88, 6.2.5): loops that take their contexts from windows on the
 //! rows above, and by whole bytes where the adaptive pixels are nominal.
 ghost use Rattle.std.specs.Prelude.{◌≡◌, ℕ, ◌+◌, ◌-◌, ◌*◌, ◌/◌, ◌^◌, ◌<◌, ◌≤◌, false, true, length, pos, negsuc, ◌+ℤ◌, List, IfSome, if◌then◌else◌};
+ghost use Rattle.jbig2_base.specs.Counts.{KeepsLanes};
 ghost use Rattle.jbig2_base.specs.Grid.{blank, pixel};
 ghost use Rattle.jbig2_base.specs.inner.WordBits.{bit};
 ghost use Rattle.jbig2_coder.specs.Coder.{Coder, Context};
@@ -58,6 +59,7 @@ fn copy_row<A: Allocator, L: Ledger>(bitmap: &mut Bitmap<A>, y: u32, steps: &mut
     ensures words { steps.new.words ≡ steps.old.words + (bitmap.old.width + 63) / 64 }
     ensures decisions { steps.new.decisions ≡ steps.old.decisions }
     ensures run_tests { steps.new.run_tests ≡ steps.old.run_tests }
+    ensures lanes { KeepsLanes steps.old steps.new }
 {
     let width = bitmap.width();
     for index in 0..width.div_ceil(64) {
@@ -94,6 +96,7 @@ fn decode_row<A: Allocator, L: Ledger>(
     ensures run_tests { steps.new.run_tests ≤ steps.old.run_tests + row_tests (is_nominal_layout layout.now.adaptive) bitmap.old.width }
     ensures words { steps.new.words ≤ steps.old.words + row_words (is_nominal_layout layout.now.adaptive) bitmap.old.width }
     ensures loads { steps.new.loads ≤ steps.old.loads + (row_loads (is_nominal_layout layout.now.adaptive) bitmap.old.width + bitmap.old.width * (if predicted then 0 else layout_loads layout.now.adaptive)) }
+    ensures lanes { KeepsLanes steps.old steps.new }
 {
     if predicted {
         copy_row(bitmap, y, steps);

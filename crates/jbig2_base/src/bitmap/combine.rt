@@ -69,7 +69,35 @@ fn starts(x: i32) -> (u32, u32)
     (x as u32, 0)
 }
 
+/// Combines one span that lies in one word of the page and in one word of the source.
+#[inline(always)]
+fn combine_word<A: Allocator, B: Allocator, L: Ledger>(
+    page: &mut Bitmap<A>,
+    source: &Bitmap<B>,
+    operator: CombinationOperator,
+    span: Span,
+    steps: &mut Steps<L>,
+)
+    requires table { IsTable page.old }
+    requires some { span.left < span.right }
+    requires inside { span.right ≤ page.old.width }
+    requires row { span.row < page.old.height }
+    requires source { span.from + (span.right - span.left) ≤ source.now.width }
+    requires source_row { span.from_row < source.now.height }
+    requires one_word { span.left / 64 ≡ (span.right - 1) / 64 }
+    requires one_source_word { span.from / 64 ≡ (span.from + (span.right - span.left) - 1) / 64 }
+    ensures value { page.new ≡ with_block operator page.old source.now span.left span.right span.row (span.row + 1) span.from span.from_row }
+    ensures steps { let words = (span.right - 1) / 64 + 1 - span.left / 64 in steps.new ≡ record steps.old { words = steps.old.words + words; loads = steps.old.loads + 2 * words } }
+{
+    let count = span.right - span.left;
+    let page_bits = page.load_inside(span.left, span.row, count, steps);
+    let source_bits = source.load_inside(span.from, span.from_row, count, steps);
+    let bits = combined_bits(operator, page_bits, source_bits, count);
+    page.store_pixels(span.left, span.row, count, bits, steps);
+}
+
 /// Combines one span, word by word of the page.
+#[inline(always)]
 fn combine_row<A: Allocator, B: Allocator, L: Ledger>(
     page: &mut Bitmap<A>,
     source: &Bitmap<B>,
@@ -82,11 +110,18 @@ fn combine_row<A: Allocator, B: Allocator, L: Ledger>(
     requires inside { span.right ≤ page.old.width }
     requires row { span.row < page.old.height }
     requires fits { span.from + (span.right - span.left) < 2 ^ 32 }
+    requires source { span.from + (span.right - span.left) ≤ source.now.width }
+    requires source_row { span.from_row < source.now.height }
     ensures value { page.new ≡ with_block operator page.old source.now span.left span.right span.row (span.row + 1) span.from span.from_row }
     ensures steps { let words = (span.right - 1) / 64 + 1 - span.left / 64 in steps.new ≡ record steps.old { words = steps.old.words + words; loads = steps.old.loads + 2 * words } }
 {
     let left = span.left;
     let right = span.right;
+    let last = span.from + (right - left) - 1;
+    if left / 64 == (right - 1) / 64 && span.from / 64 == last / 64 {
+        combine_word(page, source, operator, span, steps);
+        return;
+    }
     for index in left / 64..(right - 1) / 64 + 1 {
         let start = left.max(index * 64);
         let count = (right - start).min(64 - start % 64);

@@ -92,6 +92,7 @@ fn read_coded_planes<M: Allocator, A: Allocator + Clone, L: Ledger>(
     ensures value { Gives (λ planes. planes.items) result (planes_by_coder (gray_view params.now) bytes.now) }
     ensures contexts { Leaves result contexts.new (after_planes (gray_view params.now) bytes.now params.now.bits_per_pixel).contexts }
     ensures steps { OnOk result (skip_of params.now.skip_mask ≡ None → CountsPlanes (gray_view params.now) bytes.now params.now.bits_per_pixel steps.old steps.new) }
+    ensures no_planes { params.now.bits_per_pixel ≡ 0 → OnOk result (steps.new ≡ steps.old) }
 {
     let mut decoder = ArithmeticDecoder::new(bytes);
     let mut planes = Vec::new(alloc.clone()?);
@@ -130,7 +131,8 @@ fn read_mmr_planes<M: Allocator, A: Allocator + Clone, L: Ledger>(
     steps: &mut Steps<L>,
 ) -> Result<Vec<Bitmap<A>, A>>
     requires sides { image_is_too_large (gray_view params.now) ≡ false }
-    ensures { Gives (λ planes. planes.items) result (planes_by_mmr (gray_view params.now) bytes.now) }
+    ensures value { Gives (λ planes. planes.items) result (planes_by_mmr (gray_view params.now) bytes.now) }
+    ensures no_planes { params.now.bits_per_pixel ≡ 0 → OnOk result (steps.new ≡ steps.old) }
 {
     let mut rest = bytes;
     let mut planes = Vec::new(alloc.clone()?);
@@ -158,6 +160,7 @@ pub fn read_planes<M: Allocator, A: Allocator + Clone, B: Allocator, L: Ledger>(
     ensures value { Gives (λ planes. planes.items) result (planes_of (gray_view params.now) bytes.now) }
     ensures contexts { Leaves result contexts.new.items (planes_contexts (gray_view params.now) bytes.now contexts.old.items) }
     ensures steps { OnOk result (CountsRead (gray_view params.now) bytes.now steps.old steps.new) }
+    ensures no_planes { params.now.bits_per_pixel ≡ 0 → OnOk result (steps.new ≡ steps.old) }
 {
     if params.use_mmr {
         return read_mmr_planes(alloc, bytes, params, steps);

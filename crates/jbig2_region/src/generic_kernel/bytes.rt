@@ -1,5 +1,6 @@
 //! Rows of a template without adaptive pixels, byte by byte, with runs of likely symbols.
 ghost use Rattle.std.specs.Prelude.{◌≡◌, ℕ, ◌+◌, ◌-◌, ◌*◌, ◌/◌, ◌%◌, ◌^◌, ◌<◌, ◌≤◌, false, length, if◌then◌else◌};
+ghost use Rattle.jbig2_base.specs.Counts.{KeepsLanes};
 ghost use Rattle.jbig2_region.specs.inner.Neighbours.{DecodesPixels, IsLeft, IsNear, SameAbove, Shows, neighbour_count, nominal_pixels};
 ghost use Rattle.jbig2_region.specs.RunBytes.{CountsRuns};
 
@@ -116,6 +117,7 @@ fn decode_bytes<A: Allocator, L: Ledger>(
     ensures run_tests { steps.new.run_tests ≤ steps.old.run_tests + result.bytes }
     ensures loads { steps.new.loads ≡ steps.old.loads }
     ensures words { steps.new.words ≡ steps.old.words + 1 }
+    ensures lanes { KeepsLanes steps.old steps.new }
 {
     let black = left % 2 == 1;
     let bytes = take_runs(
@@ -179,6 +181,7 @@ pub fn decode_row_by_bytes<A: Allocator, L: Ledger>(
     ensures run_tests { steps.new.run_tests ≤ steps.old.run_tests + (bitmap.old.width - 1) / 8 }
     ensures loads { steps.new.loads ≤ steps.old.loads + 2 * ((bitmap.old.width - 1) / 8 + 1) }
     ensures words { steps.new.words ≤ steps.old.words + ((bitmap.old.width - 1) / 8 + 1) }
+    ensures lanes { KeepsLanes steps.old steps.new }
 {
     let width = bitmap.width();
     let whole = (width - 1) / 8;

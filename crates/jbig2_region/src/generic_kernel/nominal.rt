@@ -1,6 +1,7 @@
 //! Rows of the templates with nominal adaptive pixels: each template has a loop of its own, in which
 //! the places of its pixels are constants.
 ghost use Rattle.std.specs.Prelude.{◌≡◌, ◌+◌, ◌-◌, ◌*◌, ◌/◌, ◌^◌, ◌<◌, ◌≤◌, false, length};
+ghost use Rattle.jbig2_base.specs.Counts.{KeepsLanes};
 ghost use Rattle.jbig2_region.specs.inner.Layouts.{neighbours_of};
 ghost use Rattle.jbig2_region.specs.inner.Neighbours.{DecodesPixels, IsNear, neighbour_count, nominal_pixels};
 ghost use Rattle.jbig2_region.specs.RunBytes.{CountsRuns};
@@ -46,6 +47,7 @@ fn decode_constant_row<
     ensures run_tests { steps.new.run_tests ≤ steps.old.run_tests + (bitmap.old.width - 1) / 8 }
     ensures loads { steps.new.loads ≤ steps.old.loads + 2 * ((bitmap.old.width - 1) / 8 + 1) }
     ensures words { steps.new.words ≤ steps.old.words + ((bitmap.old.width - 1) / 8 + 1) }
+    ensures lanes { KeepsLanes steps.old steps.new }
 {
     let constant = neighbours_of(LEFT, ABOVE_REACH, ABOVE_COUNT, TOP_REACH, TOP_COUNT);
     decode_row_by_bytes(constant, bitmap, y, decoder, contexts, steps);
@@ -73,6 +75,7 @@ pub fn decode_nominal_row<A: Allocator, L: Ledger>(
     ensures run_tests { steps.new.run_tests ≤ steps.old.run_tests + (bitmap.old.width - 1) / 8 }
     ensures loads { steps.new.loads ≤ steps.old.loads + 2 * ((bitmap.old.width - 1) / 8 + 1) }
     ensures words { steps.new.words ≤ steps.old.words + ((bitmap.old.width - 1) / 8 + 1) }
+    ensures lanes { KeepsLanes steps.old steps.new }
 {
     if neighbours == neighbours_of(4, 3, 7, 2, 5) {
         decode_constant_row::<A, L, 4, 3, 7, 2, 5>(neighbours, bitmap, y, decoder, contexts, steps);

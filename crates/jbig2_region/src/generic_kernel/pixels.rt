@@ -1,5 +1,6 @@
 //! Rows of a template with adaptive pixels, which are read one by one.
 ghost use Rattle.std.specs.Prelude.{◌≡◌, ℕ, ◌+◌, ◌-◌, ◌*◌, ◌/◌, ◌%◌, ◌^◌, ◌<◌, ◌≤◌, false, length};
+ghost use Rattle.jbig2_base.specs.Counts.{KeepsLanes};
 ghost use Rattle.jbig2_region.specs.Generic.{context_at};
 ghost use Rattle.jbig2_region.specs.inner.Neighbours.{DecodesPixels, IsLeft, IsMixed, Shows, adaptive_count, mixed_count, mixed_pixels};
 
@@ -84,6 +85,7 @@ fn decode_pixels<A: Allocator, L: Ledger>(
     ensures run_tests { steps.new.run_tests ≡ steps.old.run_tests }
     ensures loads { steps.new.loads ≡ steps.old.loads + (2 + count * adaptive_count adaptive.now) }
     ensures words { steps.new.words ≡ steps.old.words + count }
+    ensures lanes { KeepsLanes steps.old steps.new }
 {
     let windows = windows_at(bitmap, x, y, steps);
     let mut left = left;
@@ -122,6 +124,7 @@ pub fn decode_row_by_pixels<A: Allocator, L: Ledger>(
     ensures run_tests { steps.new.run_tests ≡ steps.old.run_tests }
     ensures loads { steps.new.loads ≤ steps.old.loads + (2 * (bitmap.old.width / 32 + 1) + bitmap.old.width * adaptive_count adaptive.now) }
     ensures words { steps.new.words ≡ steps.old.words + bitmap.old.width }
+    ensures lanes { KeepsLanes steps.old steps.new }
 {
     let width = bitmap.width();
     let mut left = 0;

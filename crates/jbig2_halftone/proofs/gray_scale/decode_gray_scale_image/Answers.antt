@@ -3,6 +3,7 @@ use Rattle.std.specs.List.{All}
 use Rattle.jbig2_base.specs.Grid.{Grid}
 use Rattle.jbig2_halftone.specs.GrayScale.{GrayScale, gray_view}
 use Rattle.jbig2_halftone.specs.GraySteps.{after_lane_rows}
+use Rattle.jbig2_halftone.proofs.GrayCounts.{image-lanes, no-lane-rows}
 use Rattle.jbig2_halftone.proofs.PlaneLemmas.{planes-sized}
 use Rattle.jbig2_halftone.proofs.gray_scale.decode_gray_scale_image.Goals as goal
 
@@ -21,3 +22,15 @@ returns-clause-steps g c =
     let p : GrayScale = gray_view c.args.params.now in
     let many : length c.deref.result.now ≡ p.bits_per_pixel = ap (λ (ps : List Grid). length ps) c.deref.ensures.value ∙ (planes-sized p c.args.bytes.now c.in_ok-planes.planes.items c.in_ok-planes.ensures.value).many in
     (c.read_planes.new.steps, (c.in_ok-planes.ensures.steps, c.gray_rows.ensures.steps ∙ ap (λ (n : ℕ). after_lane_rows (p.height * n) p.width c.read_planes.new.steps) many))
+
+pub returns-clause-lanes : goal.returns-clause-lanes
+returns-clause-lanes g c =
+    let p : GrayScale = gray_view c.args.params.now in
+    let many : length c.deref.result.now ≡ p.bits_per_pixel = ap (λ (ps : List Grid). length ps) c.deref.ensures.value ∙ (planes-sized p c.args.bytes.now c.in_ok-planes.planes.items c.in_ok-planes.ensures.value).many in
+    image-lanes p c.args.bytes.now c.args.steps.now c.gray_rows.new.steps (c.read_planes.new.steps, (c.in_ok-planes.ensures.steps, c.gray_rows.ensures.steps ∙ ap (λ (n : ℕ). after_lane_rows (p.height * n) p.width c.read_planes.new.steps) many))
+
+pub returns-clause-no_planes : goal.returns-clause-no_planes
+returns-clause-no_planes g c = λ none.
+    let p : GrayScale = gray_view c.args.params.now in
+    let many : length c.deref.result.now ≡ p.bits_per_pixel = ap (λ (ps : List Grid). length ps) c.deref.ensures.value ∙ (planes-sized p c.args.bytes.now c.in_ok-planes.planes.items c.in_ok-planes.ensures.value).many in
+    no-lane-rows p.height (length c.deref.result.now) p.width c.read_planes.new.steps c.gray_rows.new.steps (many ∙ none) c.gray_rows.ensures.steps ∙ c.in_ok-planes.ensures.no_planes none

@@ -1,9 +1,17 @@
-use Rattle.std.proofs.Common.{◌≡◌, Ok}
+use Rattle.std.proofs.Common.{◌≡◌, ◌*◌, Ok, length}
+use Rattle.jbig2_base.specs.Combination.{WritesWithin}
 use Rattle.jbig2_halftone.specs.GrayScale.{gray_values}
+use Rattle.jbig2_halftone.specs.GraySteps.{after_lane_rows}
 use Rattle.jbig2_halftone.specs.Halftone.{cells_drawn}
 use Rattle.jbig2_halftone.specs.HalftoneHeader.{header_view}
+use Rattle.jbig2_halftone.specs.HalftoneSteps.{words_of_cells}
 use Rattle.jbig2_halftone.specs.Patterns.{dictionary_view}
+use Rattle.jbig2_halftone.specs.Sizes.{HasSize}
 use Rattle.jbig2_halftone.proofs.halftone.draw_rows.Given as goal
 
 abbrev pub invariant-loop-m : goal.invariant-loop-m
-invariant-loop-m g l = cells_drawn (header_view l.header) (dictionary_view l.dictionary) 0 (gray_values l.header.grid_position_and_size.width l.m l.planes) l.fn.bitmap ≡ Ok l.bitmap
+invariant-loop-m g l = record {
+  drawn : cells_drawn (header_view l.header) (dictionary_view l.dictionary) 0 (gray_values l.header.grid_position_and_size.width l.m l.planes) l.fn.bitmap ≡ Ok l.bitmap;
+  size : HasSize l.header.region_info.width l.header.region_info.height l.bitmap;
+  counts : WritesWithin (words_of_cells (header_view l.header) (dictionary_view l.dictionary) 0 (l.m * l.header.grid_position_and_size.width)) (after_lane_rows (l.m * length l.planes) l.header.grid_position_and_size.width l.fn.steps) l.steps;
+}

@@ -6,9 +6,13 @@ use Rattle.jbig2_halftone.proofs.CellLemmas.{skips}
 use Rattle.jbig2_halftone.proofs.halftone.skip_bitmap.Given as goal
 
 abbrev pub invariant-loop-m : goal.invariant-loop-m
-invariant-loop-m g l =
-    l.skip ≡ so_far l.header.grid_position_and_size.width l.header.grid_position_and_size.height (skips (header_view l.header) (dictionary_view l.dictionary) l.header.grid_position_and_size.width (l.m * l.header.grid_position_and_size.width))
+invariant-loop-m g l = record {
+  skips : l.skip ≡ so_far l.header.grid_position_and_size.width l.header.grid_position_and_size.height (skips (header_view l.header) (dictionary_view l.dictionary) l.header.grid_position_and_size.width (l.m * l.header.grid_position_and_size.width));
+  counts : l.steps ≡ record l.fn.steps { words = l.fn.steps.words + l.m * l.header.grid_position_and_size.width };
+}
 
 abbrev pub invariant-loop-n : goal.invariant-loop-n
-invariant-loop-n g l =
-    l.skip ≡ so_far l.header.grid_position_and_size.width l.header.grid_position_and_size.height (skips (header_view l.header) (dictionary_view l.dictionary) l.header.grid_position_and_size.width (l.m * l.header.grid_position_and_size.width + l.n))
+invariant-loop-n g l = record {
+  skips : l.skip ≡ so_far l.header.grid_position_and_size.width l.header.grid_position_and_size.height (skips (header_view l.header) (dictionary_view l.dictionary) l.header.grid_position_and_size.width (l.m * l.header.grid_position_and_size.width + l.n));
+  counts : l.steps ≡ record l.fn.steps { words = l.fn.steps.words + (l.m * l.header.grid_position_and_size.width + l.n) };
+}

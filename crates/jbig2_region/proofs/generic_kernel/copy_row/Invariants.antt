@@ -1,4 +1,5 @@
 use Rattle.std.proofs.Common.{◌≡◌, ◌+◌, ◌*◌, min, true, List}
+use Rattle.jbig2_base.specs.Counts.{KeepsLanes}
 use Rattle.jbig2_coder.specs.Coder.{Coder, Context}
 use Rattle.jbig2_region.specs.inner.Neighbours.{DecodesPixels}
 use Rattle.jbig2_region.specs.declared.template.AdaptiveTemplatePixel.{AdaptiveTemplatePixel}
@@ -13,4 +14,5 @@ invariant-loop-index g l = record {
   words : l.steps.words ≡ l.initial.steps.words + l.index;
   decisions : l.steps.decisions ≡ l.initial.steps.decisions;
   run_tests : l.steps.run_tests ≡ l.initial.steps.run_tests;
+  lanes : KeepsLanes l.initial.steps l.steps;
 }

@@ -1,4 +1,5 @@
 use Rattle.std.proofs.Common.{arith, refl, ◌≡◌, ◌≤◌, ◌+◌, ◌*◌, ◌∙◌, ℕ, sym, ap, subst, cond}
+use Rattle.jbig2_base.proofs.LaneCounts.{lanes-none, lanes-then}
 use Rattle.jbig2_base.specs.Counts.{Counts}
 use Rattle.jbig2_region.specs.inner.Holds.{Holds}
 use Rattle.jbig2_region.specs.inner.Neighbours.{DecodesPixels, is_nominal_layout, layout_coding, layout_loads, layout_pixels}
@@ -29,6 +30,7 @@ loop-y-init g c =
       run_tests = omega arith;
       words = omega arith;
       loads = omega arith;
+      lanes = lanes-none c.args.steps.now;
     }
 
 pub loop-y-preserved : goal.loop-y-preserved
@@ -64,6 +66,9 @@ loop-y-preserved g c =
           c.args.steps.now.decisions c.loop-y.steps.decisions c.begin_row-predicted.new.steps.decisions c.decode_row.new.steps.decisions
           c.loop-y.invariant.bytes refl c.begin_row-predicted.ensures.row c.loop-y.invariant.holds c.loop-y.invariant.predicted c.loop-y.invariant.decisions (ap (λ (s : Counts). s.decisions) begun) c.decode_row.ensures.decisions;
       run_tests = tests-next c.args.steps.now.run_tests c.loop-y.steps.run_tests c.decode_row.new.steps.run_tests (row_tests nominal w) c.loop-y.y c.loop-y.invariant.run_tests (subst (λ (n : ℕ). c.decode_row.new.steps.run_tests ≤ n + row_tests nominal w) same_tests tests);
+      lanes =
+          lanes-then c.args.steps.now c.loop-y.steps c.decode_row.new.steps c.loop-y.invariant.lanes
+          (lanes-then c.loop-y.steps c.begin_row-predicted.new.steps c.decode_row.new.steps (record { groups = ap (λ (s : Counts). s.groups) begun; pixels = ap (λ (s : Counts). s.pixels) begun }) c.decode_row.ensures.lanes);
       words = tests-next c.args.steps.now.words c.loop-y.steps.words c.decode_row.new.steps.words (row_words nominal w) c.loop-y.y c.loop-y.invariant.words (subst (λ (n : ℕ). c.decode_row.new.steps.words ≤ n + row_words nominal w) same_words written);
       loads =
           rw coded
@@ -80,4 +85,4 @@ returns-clause-holds g c =
 pub returns-clause-steps : goal.returns-clause-steps
 returns-clause-steps g c =
     region-counts (layout_pixels c.args.layout.now) (is_nominal_layout c.args.layout.now.adaptive) (layout_loads c.args.layout.now.adaptive) (layout_coding c.args.layout.now c.args.row_context) c.args.bitmap.now.width c.args.bitmap.now.height c.loop-y.y c.args.decoder.now.bytes (no_pixels c.args.decoder.now.registers c.args.contexts.now) c.args.steps.now c.loop-y.steps
-    (λ none. c.if-width-eq0.false (c.width.ensures.value ∙ none)) (omega arith) c.loop-y.invariant.none c.loop-y.invariant.decisions c.loop-y.invariant.run_tests c.loop-y.invariant.words c.loop-y.invariant.loads
+    (λ none. c.if-width-eq0.false (c.width.ensures.value ∙ none)) (omega arith) c.loop-y.invariant.none c.loop-y.invariant.decisions c.loop-y.invariant.run_tests c.loop-y.invariant.words c.loop-y.invariant.loads c.loop-y.invariant.lanes

@@ -1,4 +1,5 @@
 use Rattle.std.proofs.Common.{◌≡◌, ◌≤◌, ◌+◌, ◌*◌}
+use Rattle.jbig2_base.specs.Counts.{KeepsLanes}
 use Rattle.jbig2_region.specs.inner.Holds.{Holds}
 use Rattle.jbig2_region.specs.inner.Neighbours.{is_nominal_layout, layout_coding, layout_loads, layout_pixels}
 use Rattle.jbig2_region.specs.Raster.{after_rows, no_pixels}
@@ -18,4 +19,5 @@ invariant-loop-y g l = record {
   run_tests : l.steps.run_tests ≤ l.initial.steps.run_tests + l.y * row_tests (is_nominal_layout l.fn.layout.adaptive) l.initial.bitmap.width;
   words : l.steps.words ≤ l.initial.steps.words + l.y * row_words (is_nominal_layout l.fn.layout.adaptive) l.initial.bitmap.width;
   loads : l.steps.loads ≤ l.initial.steps.loads + (l.y * row_loads (is_nominal_layout l.fn.layout.adaptive) l.initial.bitmap.width + l.initial.bitmap.width * coded_rows (layout_coding l.fn.layout l.fn.row_context) l.initial.bitmap.width l.initial.bitmap.height l.initial.decoder.bytes l.y (no_pixels l.initial.decoder.registers l.initial.contexts) * layout_loads l.fn.layout.adaptive);
+  lanes : KeepsLanes l.initial.steps l.steps;
 }

@@ -2,23 +2,29 @@ use Rattle.std.proofs.Common.{◌≡◌, ⊎_elim, inl, inr, arith}
 use Rattle.jbig2_base.specs.declared.error.DecodeError.TheVariants.{OutOfMemory}
 use Rattle.std.specs.Prelude.{Err}
 use Rattle.jbig2_halftone.specs.GrayScale.{GrayScale, gray_view, mmr_plane}
+use Rattle.jbig2_halftone.proofs.GrayCounts.{none-left, none-more, none-start}
 use Rattle.jbig2_halftone.proofs.PlaneLemmas.{mmr-none, mmr-next, mmr-all, mmr-fault}
 use Rattle.jbig2_halftone.proofs.gray_scale.planes.read_mmr_planes.Goals as goal
 
 pub loop-init : goal.loop-init
-loop-init g c = mmr-none (gray_view c.args.params.now) c.args.bytes.now c.new-planes.result.items c.new-planes.ensures.items
+loop-init g c = record { reads = mmr-none (gray_view c.args.params.now) c.args.bytes.now c.new-planes.result.items c.new-planes.ensures.items; none = none-start c.args.steps.now }
 
-pub returns-in-Err : goal.returns-in-Err
-returns-in-Err g c =
+pub returns-in-Err-clause-value : goal.returns-in-Err-clause-value
+returns-in-Err-clause-value g c =
     let p : GrayScale = gray_view c.args.params.now in
     ⊎_elim
     (λ (memory : c.in-Err.error ≡ OutOfMemory). inl memory)
-    (λ (fault : mmr_plane p c.loop.rest.now ≡ Err c.in-Err.error). inr (mmr-fault p c.args.bytes.now c.loop.counter c.loop.planes.items c.loop.rest.now c.in-Err.error (omega arith) fault c.loop.invariant))
+    (λ (fault : mmr_plane p c.loop.rest.now ≡ Err c.in-Err.error). inr (mmr-fault p c.args.bytes.now c.loop.counter c.loop.planes.items c.loop.rest.now c.in-Err.error (omega arith) fault c.loop.invariant.reads))
     c.in-Err.ensures
 
 pub loop-preserved : goal.loop-preserved
-loop-preserved g c =
-    mmr-next (gray_view c.args.params.now) c.args.bytes.now c.loop.counter c.in-Ok.read.0 c.loop.planes.items c.push.new.self.items c.loop.rest.now c.in-Ok.read.1.now (omega arith) c.in-Ok.ensures c.in_ok-push.ensures.items c.loop.invariant
+loop-preserved g c = record {
+  reads = mmr-next (gray_view c.args.params.now) c.args.bytes.now c.loop.counter c.in-Ok.read.0 c.loop.planes.items c.push.new.self.items c.loop.rest.now c.in-Ok.read.1.now (omega arith) c.in-Ok.ensures c.in_ok-push.ensures.items c.loop.invariant.reads;
+  none = none-more c.loop.counter c.args.steps.now c.read_mmr_plane.new.steps;
+}
 
-pub returns : goal.returns
-returns g c = mmr-all (gray_view c.args.params.now) c.args.bytes.now c.loop.counter c.loop.planes.items c.loop.rest.now (omega arith) c.loop.invariant
+pub returns-clause-value : goal.returns-clause-value
+returns-clause-value g c = mmr-all (gray_view c.args.params.now) c.args.bytes.now c.loop.counter c.loop.planes.items c.loop.rest.now (omega arith) c.loop.invariant.reads
+
+pub returns-clause-no_planes : goal.returns-clause-no_planes
+returns-clause-no_planes g c = λ none. none-left c.loop.counter c.args.steps.now c.loop.steps c.loop.invariant.none (omega arith)

@@ -1,6 +1,10 @@
 use Rattle.jbig2_halftone.specs.GrayScale.{gray_view}
+use Rattle.jbig2_halftone.proofs.GrayCounts.{NoneYet}
 use Rattle.jbig2_halftone.proofs.PlaneLemmas.{ReadsMmr}
 use Rattle.jbig2_halftone.proofs.gray_scale.planes.read_mmr_planes.Given as goal
 
 abbrev pub invariant-loop : goal.invariant-loop
-invariant-loop g l = ReadsMmr (gray_view l.params) l.bytes l.counter l.planes.items l.rest
+invariant-loop g l = record {
+  reads : ReadsMmr (gray_view l.params) l.bytes l.counter l.planes.items l.rest;
+  none : NoneYet l.counter l.fn.steps l.steps;
+}

@@ -1,4 +1,5 @@
 use Rattle.std.proofs.Common.{arith, ap, rules, refl, false, subst, sym, ◌≡◌, ◌+◌, ◌-◌, ◌*◌, ◌/◌, ◌%◌, ℕ, ◌∙◌}
+use Rattle.jbig2_base.proofs.LaneCounts.{lanes-none, lanes-then}
 use Rattle.jbig2_base.specs.Counts.{Counts}
 use Rattle.jbig2_region.specs.inner.Neighbours.{IsLeft, Shows, nominal_pixels}
 use Rattle.jbig2_region.specs.RunBytes.{CountsRuns}
@@ -21,6 +22,7 @@ loop-done-init g c = record {
   run_tests = omega arith;
   loads = omega arith;
   words = omega arith;
+  lanes = lanes-none c.args.steps.now;
 }
 
 pub decode_bytes-taken-requires-clause-shows : goal.decode_bytes-taken-requires-clause-shows
@@ -60,6 +62,9 @@ loop-done-preserved g c =
       run_tests = omega (arith, c.decode_bytes-taken.ensures.run_tests, c.loop-done.invariant.run_tests, same_tests);
       loads = loads-on c.args.steps.now.loads c.loop-done.steps.loads c.refilled-shown.new.steps.loads c.decode_bytes-taken.new.steps.loads done bytes c.loop-done.invariant.loads c.refilled-shown.ensures.loads c.refilled-shown.ensures.kept c.decode_bytes-taken.ensures.loads c.decode_bytes-taken.ensures.some;
       words = omega (arith, same_words, c.decode_bytes-taken.ensures.words, c.loop-done.invariant.words, c.decode_bytes-taken.ensures.some);
+      lanes =
+          lanes-then c.args.steps.now c.loop-done.steps c.decode_bytes-taken.new.steps c.loop-done.invariant.lanes
+          (lanes-then c.loop-done.steps c.refilled-shown.new.steps c.decode_bytes-taken.new.steps (record { groups = ap (λ (s : Counts). s.groups) c.refilled-shown.ensures.steps; pixels = ap (λ (s : Counts). s.pixels) c.refilled-shown.ensures.steps }) c.decode_bytes-taken.ensures.lanes);
     }
 
 pub returns-clause-holds : goal.returns-clause-holds

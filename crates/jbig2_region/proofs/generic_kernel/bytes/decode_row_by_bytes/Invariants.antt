@@ -1,4 +1,5 @@
 use Rattle.std.proofs.Common.{◌≡◌, ◌<◌, ◌≤◌, ◌+◌, ◌-◌, ◌*◌, ◌/◌, ◌%◌, false}
+use Rattle.jbig2_base.specs.Counts.{KeepsLanes}
 use Rattle.jbig2_region.specs.inner.Neighbours.{DecodesPixels, IsLeft, Shows, nominal_pixels}
 use Rattle.jbig2_region.specs.RunBytes.{CountsRuns}
 use Rattle.jbig2_region.proofs.generic_kernel.bytes.decode_row_by_bytes.Given as goal
@@ -17,6 +18,7 @@ invariant-loop-done g l = record {
   run_tests : l.steps.run_tests ≤ l.initial.steps.run_tests + l.done;
   loads : l.steps.loads ≤ l.initial.steps.loads + 2 * ((l.done + 3) / 4);
   words : l.steps.words ≤ l.initial.steps.words + l.done;
+  lanes : KeepsLanes l.initial.steps l.steps;
 }
 
 abbrev pub decreases-loop-done : goal.decreases-loop-done

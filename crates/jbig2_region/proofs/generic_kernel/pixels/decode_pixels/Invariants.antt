@@ -1,4 +1,5 @@
 use Rattle.std.proofs.Common.{◌≡◌, ◌+◌, ◌*◌, ◌<◌, false}
+use Rattle.jbig2_base.specs.Counts.{KeepsLanes}
 use Rattle.jbig2_region.specs.inner.Neighbours.{DecodesPixels, IsLeft, adaptive_count, mixed_pixels, SameAbove}
 use Rattle.jbig2_region.proofs.generic_kernel.pixels.decode_pixels.Given as goal
 
@@ -14,5 +15,6 @@ invariant-loop-offset g l = record {
   decisions : l.steps.decisions ≡ l.initial.steps.decisions + l.offset;
   words : l.steps.words ≡ l.initial.steps.words + l.offset;
   run_tests : l.steps.run_tests ≡ l.initial.steps.run_tests;
+  lanes : KeepsLanes l.initial.steps l.steps;
   loads : l.steps.loads ≡ l.initial.steps.loads + l.offset * adaptive_count l.fn.adaptive;
 }

@@ -1,4 +1,5 @@
 use Rattle.std.proofs.Common.{arith, refl, false, min, subst, ◌≡◌, ◌+◌, ◌*◌, ℕ, ◌∙◌}
+use Rattle.jbig2_base.proofs.LaneCounts.{lanes-none, lanes-then}
 use Rattle.jbig2_region.specs.inner.Neighbours.{DecodesPixels, IsLeft, mixed_pixels, adaptive_count}
 use Rattle.jbig2_region.proofs.StepLemmas.{block-loads, none-loads}
 use Rattle.jbig2_region.proofs.StoreLemmas.{decodes-none, decodes-then, left-none}
@@ -19,6 +20,7 @@ loop-index-init g c =
       decisions = omega arith;
       words = omega arith;
       run_tests = refl;
+      lanes = lanes-none c.args.steps.now;
       loads = none-loads c.args.steps.now.loads _ (adaptive_count c.args.adaptive.now) none;
     }
 
@@ -40,5 +42,6 @@ loop-index-preserved g c =
       decisions = omega (arith, c.decode_pixels-left.ensures.decisions, c.loop-index.invariant.decisions);
       words = omega (arith, c.decode_pixels-left.ensures.words, c.loop-index.invariant.words);
       run_tests = c.decode_pixels-left.ensures.run_tests ∙ c.loop-index.invariant.run_tests;
+      lanes = lanes-then c.args.steps.now c.loop-index.steps c.decode_pixels-left.new.steps c.loop-index.invariant.lanes c.decode_pixels-left.ensures.lanes;
       loads = block-loads c.args.steps.now.loads c.loop-index.steps.loads c.decode_pixels-left.new.steps.loads c.loop-index.index c.min-count.result (adaptive_count c.args.adaptive.now) (min (c.loop-index.index * 32) c.args.bitmap.now.width) _ c.loop-index.invariant.loads c.decode_pixels-left.ensures.loads next;
     }

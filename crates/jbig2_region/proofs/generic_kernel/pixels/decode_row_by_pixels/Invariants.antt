@@ -1,4 +1,5 @@
 use Rattle.std.proofs.Common.{◌≡◌, ◌+◌, ◌*◌, ◌<◌, min, false}
+use Rattle.jbig2_base.specs.Counts.{KeepsLanes}
 use Rattle.jbig2_region.specs.inner.Neighbours.{DecodesPixels, IsLeft, adaptive_count, mixed_pixels}
 use Rattle.jbig2_region.proofs.generic_kernel.pixels.decode_row_by_pixels.Given as goal
 
@@ -13,5 +14,6 @@ invariant-loop-index g l = record {
   decisions : l.steps.decisions ≡ l.initial.steps.decisions + min (l.index * 32) l.initial.bitmap.width;
   words : l.steps.words ≡ l.initial.steps.words + min (l.index * 32) l.initial.bitmap.width;
   run_tests : l.steps.run_tests ≡ l.initial.steps.run_tests;
+  lanes : KeepsLanes l.initial.steps l.steps;
   loads : l.steps.loads ≡ l.initial.steps.loads + (2 * l.index + min (l.index * 32) l.initial.bitmap.width * adaptive_count l.fn.adaptive);
 }

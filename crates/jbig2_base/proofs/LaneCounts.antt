@@ -1,0 +1,9 @@
+-- Counts of lanes and single pixels that stay.
+use Rattle.std.proofs.Common.{refl, ◌∙◌}
+use Rattle.jbig2_base.specs.Counts.{Counts, KeepsLanes}
+
+pub lanes-none : (s : Counts) → KeepsLanes s s
+lanes-none s = record { groups = refl; pixels = refl }
+
+pub lanes-then : (old mid new : Counts) → KeepsLanes old mid → KeepsLanes mid new → KeepsLanes old new
+lanes-then old mid new first second = record { groups = second.groups ∙ first.groups; pixels = second.pixels ∙ first.pixels }
