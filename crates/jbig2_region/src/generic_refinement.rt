@@ -1,10 +1,11 @@
 //! Refinement regions (T.88, 6.3 and 7.4.7).
-ghost use Rattle.std.specs.Prelude.{◌≡◌, IfOk, OnErr};
+ghost use Rattle.std.specs.Prelude.{◌≡◌, IfOk, OnErr, OnOk};
 ghost use Rattle.jbig2_base.specs.Answer.{Answers, Gives, Leaves};
 ghost use Rattle.jbig2_base.specs.Bits.{IsAligned};
 ghost use Rattle.jbig2_base.specs.Parsing.{Parses};
 ghost use Rattle.jbig2_region.specs.RegionInfo.{IsWhiteFor, region_view};
 ghost use Rattle.jbig2_region.specs.Refinement.{is_far, is_smaller, offset, refined_answer, refined_contexts, refined_decoded};
+ghost use Rattle.jbig2_region.specs.RefinementSteps.{CountsRefined};
 ghost use Rattle.jbig2_region.specs.RefinementHeader.{IsRefinement, header_view, refinement_header_at};
 
 use crate::raster::fresh_contexts;
@@ -117,7 +118,8 @@ fn offset<B: Allocator>(
 /// `RegionError::InvalidDimension` where the reference is narrower or lower than the region;
 /// `OverflowError::ReferenceOffset` where a place of either is 2^31 or more; `OutOfMemory` where
 /// there is no room for the contexts. An error leaves the bitmap as it was, and the
-/// contexts too unless memory ran out.
+/// contexts too unless memory ran out. The steps of a region are bounded where its adaptive pixels are
+/// nominal.
 pub fn decode_into<A: Allocator, B: Allocator, C: Allocator, L: Ledger>(
     header: &GenericRefinementRegionHeader<'_>,
     reference: &DecodedRegion<B>,
@@ -132,6 +134,8 @@ pub fn decode_into<A: Allocator, B: Allocator, C: Allocator, L: Ledger>(
     ensures contexts { Leaves result contexts.new.items
         (refined_contexts (header_view header.now) (region_view reference.now) contexts.old.items) }
     ensures same { OnErr result (bitmap.new ≡ bitmap.old) }
+    ensures steps { OnOk result
+        (CountsRefined (header_view header.now) (region_view reference.now) steps.old steps.new) }
 {
     let region_info = &header.region_info;
     let (dx, dy) = offset(reference, region_info)?;
@@ -170,6 +174,8 @@ pub fn decode<A: Allocator, B: Allocator, C: Allocator, L: Ledger>(
         (refined_decoded (header_view header.now) (region_view reference.now)) }
     ensures contexts { Leaves result contexts.new.items
         (refined_contexts (header_view header.now) (region_view reference.now) contexts.old.items) }
+    ensures steps { OnOk result
+        (CountsRefined (header_view header.now) (region_view reference.now) steps.old steps.new) }
 {
     let region_info = &header.region_info;
     let mut bitmap = Bitmap::new(alloc, region_info.width, region_info.height)?;

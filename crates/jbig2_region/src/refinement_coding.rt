@@ -1,7 +1,10 @@
 //! The contexts of refinements (T.88, 6.3.5.3 to 6.3.5.6).
-ghost use Rattle.std.specs.Prelude.{◌≡◌, ◌+◌, ◌^◌, ◌<◌, ◌≤◌, ◌++◌, Bool, List, length, map, pos, ◌+ℤ◌, ◌-ℤ◌, ◌<ℤ◌};
+ghost use Rattle.std.specs.Prelude.{◌≡◌, ◌+◌, ◌^◌, ◌<◌, ◌≤◌, ◌++◌, Bool, List, length, map, pos, ◌+ℤ◌, ◌-ℤ◌, ◌<ℤ◌, true};
 ghost use Rattle.jbig2_base.specs.Grid.{pixel, bit_number};
+ghost use Rattle.jbig2_region.specs.Decisions.{CountsDecided};
 ghost use Rattle.jbig2_region.specs.Generic.{number_of};
+ghost use Rattle.jbig2_region.specs.Raster.{no_pixels};
+ghost use Rattle.jbig2_region.specs.RefinementSteps.{is_nominal, window_loads};
 ghost use Rattle.jbig2_region.specs.inner.Holds.{DecodesRegion, IsReady};
 ghost use Rattle.jbig2_region.specs.inner.RefinementViews.{reference_view};
 ghost use Rattle.jbig2_region.specs.Refinement.{nine, common_colour, reference_pixel, refinement_coding};
@@ -10,7 +13,8 @@ ghost use Rattle.jbig2_region.specs.RefinementTemplates.{refinement_bits};
 use crate::generic_coding::context_at;
 use crate::generic_refinement::ReferenceBitmap;
 use crate::raster::{PixelCoding, Row, decode_region};
-use crate::template::refinement::{reference_0, reference_1, region_0, region_1, row_context};
+use crate::refinement_kernel::{WindowedCoding, decode_windowed};
+use crate::template::refinement::{is_nominal, reference_0, region_0, row_context};
 use crate::template::{AdaptiveTemplatePixel, RefinementTemplate, pixel};
 use jbig2_base::bitmap::Bitmap;
 use jbig2_base::bitmap::steps::Steps;
@@ -195,7 +199,8 @@ impl<B: Allocator> PixelCoding for RefinementCoding<'_, B> {
 }
 
 /// Refines `reference` (T.88, 6.3) into a white bitmap of the region's size. The coder and the
-/// contexts go on from where they stand. Takes no memory.
+/// contexts go on from where they stand. Takes no memory. The steps are bounded where the adaptive
+/// pixels are nominal.
 pub fn decode_bitmap<A: Allocator, B: Allocator, L: Ledger>(
     template: RefinementTemplate,
     typical: bool,
@@ -210,9 +215,22 @@ pub fn decode_bitmap<A: Allocator, B: Allocator, L: Ledger>(
     ensures holds { DecodesRegion
         (refinement_coding template typical adaptive.now (reference_view reference.now))
         bitmap.old decoder.old contexts.old bitmap.new decoder.new contexts.new }
+    ensures steps { is_nominal template adaptive.now ≡ true → CountsDecided
+        (refinement_coding template typical adaptive.now (reference_view reference.now))
+        (window_loads bitmap.old.width) bitmap.old.width bitmap.old.height decoder.old.bytes
+        (no_pixels decoder.old.registers contexts.old) steps.old steps.new }
 {
+    let windowed = WindowedCoding {
+        template,
+        typical,
+        reference,
+    };
     match template {
         RefinementTemplate::Template0 => {
+            if is_nominal(template, adaptive) {
+                decode_windowed(&windowed, bitmap, decoder, contexts, steps);
+                return;
+            }
             let coding = RefinementCoding {
                 template,
                 typical,
@@ -223,14 +241,7 @@ pub fn decode_bitmap<A: Allocator, B: Allocator, L: Ledger>(
             decode_region(&coding, bitmap, decoder, contexts, steps);
         }
         RefinementTemplate::Template1 => {
-            let coding = RefinementCoding {
-                template,
-                typical,
-                reference,
-                in_reference: &reference_1(),
-                in_region: &region_1(),
-            };
-            decode_region(&coding, bitmap, decoder, contexts, steps);
+            decode_windowed(&windowed, bitmap, decoder, contexts, steps);
         }
     }
 }

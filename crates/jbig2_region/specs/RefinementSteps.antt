@@ -1,0 +1,29 @@
+-- The steps of refinements (our own rule). Where all of a template's pixels lie about the pixel that is decoded they are
+-- taken from windows of 64 pixels, else they are read one by one.
+use Rattle.std.specs.Prelude.{◌≡◌, ℕ, ◌+◌, ◌*◌, ◌/◌, negsuc, Bool, true, ◌&&◌, List}
+use Rattle.jbig2_base.specs.Counts.{Counts}
+use Rattle.jbig2_coder.specs.Coder.{started}
+use Rattle.jbig2_region.specs.Decisions.{CountsDecided}
+use Rattle.jbig2_region.specs.Raster.{no_pixels, fresh_contexts}
+use Rattle.jbig2_region.specs.Refinement.{reference_of, refinement_coding}
+use Rattle.jbig2_region.specs.RefinementHeader.{RefinementHeader}
+use Rattle.jbig2_region.specs.RefinementTemplates.{refinement_bits}
+use Rattle.jbig2_region.specs.RegionInfo.{PlacedRegion}
+use Rattle.jbig2_region.specs.Templates.{adaptive, lies_at}
+use Rattle.jbig2_region.specs.declared.template.AdaptiveTemplatePixel.{AdaptiveTemplatePixel}
+use Rattle.jbig2_region.specs.declared.template.RefinementTemplate.{RefinementTemplate}
+use Rattle.jbig2_region.specs.declared.template.RefinementTemplate.TheVariants.{Template0, Template1}
+
+-- the adaptive pixels lie where the standard has them by default (6.3.5.3, Figure 12); template 1 has none
+abbrev pub is_nominal : RefinementTemplate → List AdaptiveTemplatePixel → Bool
+is_nominal Template0 a = lies_at (adaptive a 0) (negsuc 0) (negsuc 0) && lies_at (adaptive a 1) (negsuc 0) (negsuc 0)
+is_nominal Template1 a = true
+
+-- loads of a row of w pixels, from its windows
+abbrev pub window_loads : ℕ → ℕ
+window_loads w = 5 * (w / 32 + 2)
+
+-- those of a region whose header is read
+abbrev pub CountsRefined : RefinementHeader → PlacedRegion → Counts → Counts → Type 0
+CountsRefined h from before after =
+    is_nominal h.template h.adaptive_template_pixels ≡ true → CountsDecided (refinement_coding h.template h.tpgron h.adaptive_template_pixels (reference_of h from)) (window_loads h.region_info.width) h.region_info.width h.region_info.height h.bytes (no_pixels (started h.bytes) (fresh_contexts (refinement_bits h.template))) before after
