@@ -1,14 +1,14 @@
 -- Stretches of rows, decoded pixel by pixel, with their decisions.
-use Rattle.std.proofs.Common.{subst, ◌≡◌, ℕ, zero, suc, ◌+◌, ◌*◌, ◌/◌, ◌%◌, ◌<◌, Bool, List, length, get_or, add-one, Option, Some, None, is_none, refl, sym, ap, ◌∙◌, arith}
+use Rattle.std.proofs.Common.{set, subst, ◌≡◌, ℕ, zero, suc, ◌+◌, ◌*◌, ◌/◌, ◌%◌, ◌<◌, Bool, List, length, get_or, add-one, Option, Some, None, is_none, refl, sym, ap, ◌∙◌, arith}
 use Rattle.std.proofs.lemmas.Nat.{mod-mul-add, div-mul-add}
 use Rattle.jbig2_base.specs.Counts.{Counts}
 use Rattle.jbig2_base.specs.Grid.{Grid, bit_number}
-use Rattle.jbig2_base.specs.inner.Writes.{with_pixels}
+use Rattle.jbig2_base.specs.inner.Writes.{with_pixel, with_pixels}
 use Rattle.jbig2_coder.specs.Coder.{Coder, Context, decision, fresh}
 use Rattle.jbig2_region.specs.Decisions.{decided_pixels, takes_decision}
 use Rattle.jbig2_region.specs.inner.Codes.{Codes, CountsCodes, Takes}
 use Rattle.jbig2_region.specs.inner.Holds.{Holds}
-use Rattle.jbig2_region.specs.Raster.{Coding, Region, after_pixels}
+use Rattle.jbig2_region.specs.Raster.{Coding, Region, after_pixel, after_pixels}
 use Rattle.jbig2_region.proofs.RasterLemmas.{Holds-known, Holds-decided, after_pixels-length, after_pixels-predicted, after_pixels-one, after_pixels-none, after_pixels-add}
 use Rattle.jbig2_region.proofs.StoreLemmas.{Pushes, none-stored, white-next, width-so_far, height-so_far}
 
@@ -144,3 +144,29 @@ counts-then coding p x x' y n m k g0 g1 d0 d1 s0 s1 c0 c1 c2 made one two place 
   where
     add : (a b i j : ℕ) → b ≡ a + i → b + j ≡ a + (i + j)
     add a b i j e = omega arith
+
+-- ---- a pixel by itself
+after-one : (coding : Coding) (w h : ℕ) (input : List ℕ) (r : Region) → after_pixels coding w h input 1 r ≡ after_pixel coding w h input r
+after-one coding w h input r = after_pixels-one coding w h input 0 r ∙ ap (λ (q : Region). after_pixel coding w h input q) (after_pixels-none coding w h input r)
+
+pub pixel-known : (coding : Coding) (p : Bool) (x y : ℕ) (g g' : Grid) (d : Coder) (s : List Context) (c : Bool) → x < g.width → y < g.height → coding.known p g x y ≡ Some c → g' ≡ with_pixel g x y c → Codes coding p x y 1 g d s g' d s
+pixel-known coding p x y g g' d s c left above is_known written = λ w h input r len predicted holds.
+    let wide : g.width ≡ w = ap (λ (q : Grid). q.width) holds.pixels ∙ width-so_far w h r.pixels in
+    let high : g.height ≡ h = ap (λ (q : Grid). q.height) holds.pixels ∙ height-so_far w h r.pixels in
+    subst (λ (q : Region). Holds w h input q g' d s) (sym (after-one coding w h input r))
+    (Holds-known coding w h input r g g' d s x y p c len (omega arith) (omega arith) predicted is_known written holds)
+
+pub pixel-decided : (coding : Coding) (p : Bool) (x y k : ℕ) (g g' : Grid) (d d' : Coder) (s : List Context) (old new : Context) → x < g.width → y < g.height → coding.known p g x y ≡ None → k ≡ coding.context g x y → old ≡ get_or s k fresh
+    → g' ≡ with_pixel g x y (decision d.bytes d.registers old).symbol → d' ≡ record d { registers = (decision d.bytes d.registers old).registers } → new ≡ (decision d.bytes d.registers old).context
+    → Codes coding p x y 1 g d s g' d' (set s k new)
+pixel-decided coding p x y k g g' d d' s old new left above is_open is_context is_old written is_next is_new = λ w h input r len predicted holds.
+    let wide : g.width ≡ w = ap (λ (q : Grid). q.width) holds.pixels ∙ width-so_far w h r.pixels in
+    let high : g.height ≡ h = ap (λ (q : Grid). q.height) holds.pixels ∙ height-so_far w h r.pixels in
+    subst (λ (q : Region). Holds w h input q g' d' (set s k new)) (sym (after-one coding w h input r))
+    (Holds-decided coding w h input r g g' d d' s x y k p old new len (omega arith) (omega arith) predicted is_open is_context is_old written is_next is_new holds)
+
+pub pixel-counts : (coding : Coding) (p : Bool) (x y : ℕ) (g : Grid) (d : Coder) (s : List Context) (known : Option Bool) (before after : ℕ) → x < g.width → y < g.height → coding.known p g x y ≡ known → after ≡ before + bit_number (is_none known) → CountsCodes coding p x y 1 g d s before after
+pixel-counts coding p x y g d s known before after left above is_known more =
+    let same : x + 0 ≡ x = omega arith in
+    counts-next coding p x y 0 g g d d s s known before before after (codes-none coding p x y g d s) (counts-none coding p x y g d s before) (omega arith) above
+    (ap (λ (n : ℕ). coding.known p g n y) same ∙ is_known) more

@@ -1,6 +1,5 @@
 -- Blocks, rows and regions of refinements whose pixels come from windows.
 use Rattle.std.proofs.Common.{pow-suc, add-one, subst, ◌≡◌, ℕ, ◌+◌, ◌*◌, ◌%◌, ◌^◌, ◌<◌, ◌≤◌, Bool, true, false, List, refl, sym, ap, ◌∙◌, arith}
-use Rattle.std.proofs.Math.Nat.{pow-le-pow_right}
 use Rattle.jbig2_base.specs.Counts.{Counts}
 use Rattle.jbig2_base.specs.Grid.{Grid, bit_number}
 use Rattle.jbig2_base.specs.inner.Writes.{with_pixels}
@@ -85,8 +84,3 @@ block-whole coding p x y k n g g' d0 d s0 s t0 t pixels block all stored =
       holds = subst (λ (q : Grid). Codes coding p x y n g d0 s0 q d s) same (subst (λ (m : ℕ). Codes coding p x y m g d0 s0 (with_pixels g x y k pixels) d s) all block.holds);
       decisions = subst (λ (m : ℕ). CountsCodes coding p x y m g d0 s0 t0.decisions t.decisions) all block.decisions;
     }
-
-pub few-fits : (pixels k : ℕ) → k ≤ 32 → pixels < 16 * 2 ^ k → pixels < 2 ^ 36
-few-fits pixels k few less =
-    let up : 2 ^ k ≤ 2 ^ 32 = pow-le-pow_right (omega arith) few in
-    omega arith

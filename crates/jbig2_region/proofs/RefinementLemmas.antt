@@ -11,7 +11,7 @@ use Rattle.jbig2_region.specs.Generic.{number_of, context_at, PlacedRegion}
 use Rattle.jbig2_region.specs.Refinement.{Reference, reference_pixel, region_pixel, refined_context, nine, common_colour, refinement_coding, refined_region, refined_grid, refined_answer, refined_contexts, reference_of, offset, is_smaller, is_far}
 use Rattle.jbig2_region.specs.RefinementHeader.{RefinementHeader}
 use Rattle.jbig2_region.specs.Decisions.{CountsDecided}
-use Rattle.jbig2_region.specs.RefinementSteps.{CountsRefined, is_nominal, window_loads}
+use Rattle.jbig2_region.specs.RefinementSteps.{CountsRefined, refinement_loads}
 use Rattle.jbig2_region.specs.RefinementTemplates.{refinement_bits}
 use Rattle.jbig2_coder.specs.declared.arithmetic_decoder.registers.Registers.{Registers}
 use Rattle.jbig2_region.specs.inner.Holds.{Holds}
@@ -177,12 +177,12 @@ offset-value h from d dx dy is_dx is_dy near =
 
 -- ---- steps
 pub refined-steps : (h : RefinementHeader) (from : PlacedRegion) (r : Reference) (before : Grid) (first : Coder) (fresh : List Context) (t t' : Counts) → r ≡ reference_of h from → before ≡ blank h.region_info.width h.region_info.height false → first.bytes ≡ h.bytes → first.registers ≡ started h.bytes → fresh ≡ fresh_contexts (refinement_bits h.template)
-    → (is_nominal h.template h.adaptive_template_pixels ≡ true → CountsDecided (refinement_coding h.template h.tpgron h.adaptive_template_pixels r) (window_loads before.width) before.width before.height first.bytes (no_pixels first.registers fresh) t t')
+    → CountsDecided (refinement_coding h.template h.tpgron h.adaptive_template_pixels r) (refinement_loads h.template h.adaptive_template_pixels before.width) before.width before.height first.bytes (no_pixels first.registers fresh) t t'
     → CountsRefined h from t t'
-refined-steps h from r before first fresh t t' place white bytes registers contexts steps = λ nominal.
+refined-steps h from r before first fresh t t' place white bytes registers contexts steps =
     let coding : Reference → Coding = λ q. refinement_coding h.template h.tpgron h.adaptive_template_pixels q in
-    let one = subst (λ (q : Reference). CountsDecided (coding q) (window_loads before.width) before.width before.height first.bytes (no_pixels first.registers fresh) t t') place (steps nominal) in
-    let two = subst (λ (q : Grid). CountsDecided (coding (reference_of h from)) (window_loads q.width) q.width q.height first.bytes (no_pixels first.registers fresh) t t') white one in
-    let three = subst (λ (b : List ℕ). CountsDecided (coding (reference_of h from)) (window_loads h.region_info.width) h.region_info.width h.region_info.height b (no_pixels first.registers fresh) t t') bytes two in
-    let four = subst (λ (q : Registers). CountsDecided (coding (reference_of h from)) (window_loads h.region_info.width) h.region_info.width h.region_info.height h.bytes (no_pixels q fresh) t t') registers three in
-    subst (λ (s : List Context). CountsDecided (coding (reference_of h from)) (window_loads h.region_info.width) h.region_info.width h.region_info.height h.bytes (no_pixels (started h.bytes) s) t t') contexts four
+    let one = subst (λ (q : Reference). CountsDecided (coding q) (refinement_loads h.template h.adaptive_template_pixels before.width) before.width before.height first.bytes (no_pixels first.registers fresh) t t') place steps in
+    let two = subst (λ (q : Grid). CountsDecided (coding (reference_of h from)) (refinement_loads h.template h.adaptive_template_pixels q.width) q.width q.height first.bytes (no_pixels first.registers fresh) t t') white one in
+    let three = subst (λ (b : List ℕ). CountsDecided (coding (reference_of h from)) (refinement_loads h.template h.adaptive_template_pixels h.region_info.width) h.region_info.width h.region_info.height b (no_pixels first.registers fresh) t t') bytes two in
+    let four = subst (λ (q : Registers). CountsDecided (coding (reference_of h from)) (refinement_loads h.template h.adaptive_template_pixels h.region_info.width) h.region_info.width h.region_info.height h.bytes (no_pixels q fresh) t t') registers three in
+    subst (λ (s : List Context). CountsDecided (coding (reference_of h from)) (refinement_loads h.template h.adaptive_template_pixels h.region_info.width) h.region_info.width h.region_info.height h.bytes (no_pixels (started h.bytes) s) t t') contexts four

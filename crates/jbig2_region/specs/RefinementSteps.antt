@@ -1,6 +1,6 @@
 -- The steps of refinements (our own rule). Where all of a template's pixels lie about the pixel that is decoded they are
 -- taken from windows of 64 pixels, else they are read one by one.
-use Rattle.std.specs.Prelude.{◌≡◌, ℕ, ◌+◌, ◌*◌, ◌/◌, negsuc, Bool, true, ◌&&◌, List}
+use Rattle.std.specs.Prelude.{ℕ, ◌+◌, ◌*◌, ◌/◌, negsuc, Bool, true, ◌&&◌, if◌then◌else◌, List}
 use Rattle.jbig2_base.specs.Counts.{Counts}
 use Rattle.jbig2_coder.specs.Coder.{started}
 use Rattle.jbig2_region.specs.Decisions.{CountsDecided}
@@ -23,7 +23,11 @@ is_nominal Template1 a = true
 abbrev pub window_loads : ℕ → ℕ
 window_loads w = 5 * (w / 32 + 2)
 
+-- Where an adaptive pixel lies elsewhere, all pixels of the template are read one by one, and the nine that predict too.
+abbrev pub refinement_loads : RefinementTemplate → List AdaptiveTemplatePixel → ℕ → ℕ
+refinement_loads template a w = if is_nominal template a then window_loads w else w * (refinement_bits template + 9)
+
 -- those of a region whose header is read
 abbrev pub CountsRefined : RefinementHeader → PlacedRegion → Counts → Counts → Type 0
 CountsRefined h from before after =
-    is_nominal h.template h.adaptive_template_pixels ≡ true → CountsDecided (refinement_coding h.template h.tpgron h.adaptive_template_pixels (reference_of h from)) (window_loads h.region_info.width) h.region_info.width h.region_info.height h.bytes (no_pixels (started h.bytes) (fresh_contexts (refinement_bits h.template))) before after
+    CountsDecided (refinement_coding h.template h.tpgron h.adaptive_template_pixels (reference_of h from)) (refinement_loads h.template h.adaptive_template_pixels h.region_info.width) h.region_info.width h.region_info.height h.bytes (no_pixels (started h.bytes) (fresh_contexts (refinement_bits h.template))) before after

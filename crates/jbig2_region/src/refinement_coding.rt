@@ -1,10 +1,10 @@
 //! The contexts of refinements (T.88, 6.3.5.3 to 6.3.5.6).
-ghost use Rattle.std.specs.Prelude.{◌≡◌, ◌+◌, ◌^◌, ◌<◌, ◌≤◌, ◌++◌, Bool, List, length, map, pos, ◌+ℤ◌, ◌-ℤ◌, ◌<ℤ◌, true};
+ghost use Rattle.std.specs.Prelude.{◌≡◌, ◌+◌, ◌^◌, ◌<◌, ◌≤◌, ◌++◌, Bool, List, length, map, pos, ◌+ℤ◌, ◌-ℤ◌, ◌<ℤ◌};
 ghost use Rattle.jbig2_base.specs.Grid.{pixel, bit_number};
 ghost use Rattle.jbig2_region.specs.Decisions.{CountsDecided};
 ghost use Rattle.jbig2_region.specs.Generic.{number_of};
 ghost use Rattle.jbig2_region.specs.Raster.{no_pixels};
-ghost use Rattle.jbig2_region.specs.RefinementSteps.{is_nominal, window_loads};
+ghost use Rattle.jbig2_region.specs.RefinementSteps.{refinement_loads};
 ghost use Rattle.jbig2_region.specs.inner.Holds.{DecodesRegion, IsReady};
 ghost use Rattle.jbig2_region.specs.inner.RefinementViews.{reference_view};
 ghost use Rattle.jbig2_region.specs.Refinement.{nine, common_colour, reference_pixel, refinement_coding};
@@ -51,6 +51,7 @@ fn far_pixel<A: Allocator, L: Ledger>(
     requires column { column <ℤ pos 4294967296 }
     requires row { row <ℤ pos 4294967296 }
     ensures value { result ≡ bit_number (pixel bitmap.now column row) }
+    ensures steps { steps.new ≡ record steps.old { loads = steps.old.loads + 1 } }
 {
     if column < 0 || row < 0 {
         steps.load();
@@ -98,8 +99,9 @@ impl<B: Allocator> RefinementCoding<'_, B> {
     ) -> u8
         requires column { x < 65536 }
         requires row { y < 65536 }
-        ensures { result ≡ bit_number
+        ensures value { result ≡ bit_number
             (reference_pixel (reference_view self.now.reference.now) x y place) }
+        ensures steps { steps.new ≡ record steps.old { loads = steps.old.loads + 1 } }
     {
         far_pixel(
             self.reference.bitmap,
@@ -124,9 +126,11 @@ impl<B: Allocator> RefinementCoding<'_, B> {
         requires row { y < 65536 }
         requires few { length pixels.now ≤ 9 }
         requires high { high < 16 }
-        ensures { (bits : List Bool) → high ≡ number_of bits
+        ensures value { (bits : List Bool) → high ≡ number_of bits
             → result ≡ number_of
             (map (reference_pixel (reference_view self.now.reference.now) x y) pixels.now ++ bits) }
+        ensures steps { steps.new
+            ≡ record steps.old { loads = steps.old.loads + length pixels.now } }
     {
         let mut number = high;
         let mut left = pixels.len();
@@ -143,7 +147,8 @@ impl<B: Allocator> RefinementCoding<'_, B> {
     fn common_colour<L: Ledger>(&self, x: u32, y: u32, steps: &mut Steps<L>) -> Option<bool>
         requires column { x < 65536 }
         requires row { y < 65536 }
-        ensures { result ≡ common_colour (reference_view self.now.reference.now) x y }
+        ensures value { result ≡ common_colour (reference_view self.now.reference.now) x y }
+        ensures steps { steps.new ≡ record steps.old { loads = steps.old.loads + 9 } }
     {
         match self.number(&nine(), 0, x, y, steps) {
             0x1FF => Some(true),
@@ -162,6 +167,8 @@ impl<B: Allocator> PixelCoding for RefinementCoding<'_, B> {
         (reference_view c.reference.now) };
 
     ghost bits = { λ c. refinement_bits c.template };
+
+    ghost known_loads = { λ c. 9 };
 
     #[inline(always)]
     fn context<A: Allocator, L: Ledger>(
@@ -199,8 +206,7 @@ impl<B: Allocator> PixelCoding for RefinementCoding<'_, B> {
 }
 
 /// Refines `reference` (T.88, 6.3) into a white bitmap of the region's size. The coder and the
-/// contexts go on from where they stand. Takes no memory. The steps are bounded where the adaptive
-/// pixels are nominal.
+/// contexts go on from where they stand. Takes no memory.
 pub fn decode_bitmap<A: Allocator, B: Allocator, L: Ledger>(
     template: RefinementTemplate,
     typical: bool,
@@ -215,9 +221,9 @@ pub fn decode_bitmap<A: Allocator, B: Allocator, L: Ledger>(
     ensures holds { DecodesRegion
         (refinement_coding template typical adaptive.now (reference_view reference.now))
         bitmap.old decoder.old contexts.old bitmap.new decoder.new contexts.new }
-    ensures steps { is_nominal template adaptive.now ≡ true → CountsDecided
+    ensures steps { CountsDecided
         (refinement_coding template typical adaptive.now (reference_view reference.now))
-        (window_loads bitmap.old.width) bitmap.old.width bitmap.old.height decoder.old.bytes
+        (refinement_loads template adaptive.now bitmap.old.width) bitmap.old.width bitmap.old.height decoder.old.bytes
         (no_pixels decoder.old.registers contexts.old) steps.old steps.new }
 {
     let windowed = WindowedCoding {
