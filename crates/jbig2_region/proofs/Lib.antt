@@ -13,3 +13,7 @@ pub mod StepLemmas
 pub mod StoreLemmas
 pub mod UniformLemmas
 pub mod WindowLemmas
+pub mod RefinementWindowLemmas
+pub mod CodesLemmas
+pub mod RefinementKernelLemmas
+pub mod DecisionLemmas

@@ -202,27 +202,10 @@ digit-white true n e other = absurd (other e)
 digit-white false n e other = refl
 
 -- ---- the loops
--- a step of one pixel, and what it makes of a bitmap of another size's name
-abbrev PixelStep : Coding → ℕ → ℕ → Bool → Grid → Coder → List Context → Grid → Coder → List Context → ℕ → ℕ → List ℕ → Type 0
-PixelStep coding x y p grid coder states grid' coder' states' w h input =
-    (r : Region) → length r.pixels ≡ y * w + x → r.predicted ≡ p → Holds w h input r grid coder states → Holds w h input (after_pixel coding w h input r) grid' coder' states'
-
+-- steps of so many pixels, and what they make of a bitmap of another size's name
 abbrev PixelSteps : Coding → ℕ → ℕ → Bool → Grid → Coder → List Context → Grid → Coder → List Context → ℕ → ℕ → List ℕ → Type 0
 PixelSteps coding n y p grid coder states grid' coder' states' w h input =
     (r : Region) → length r.pixels ≡ y * w → r.predicted ≡ p → Holds w h input r grid coder states → Holds w h input (after_pixels coding w h input n r) grid' coder' states'
-
-pub row-start : (coding : Coding) (y : ℕ) (p : Bool) (grid : Grid) (coder : Coder) (states : List Context) (w h : ℕ) (input : List ℕ) → PixelSteps coding 0 y p grid coder states grid coder states w h input
-row-start coding y p grid coder states w h input = λ r len predicted holds. subst (λ (n : Region). Holds w h input n grid coder states) (sym (after_pixels-none coding w h input r)) holds
-
-pub row-step : (coding : Coding) (x y : ℕ) (p : Bool) (g0 : Grid) (c0 : Coder) (s0 : List Context) (g1 : Grid) (c1 : Coder) (s1 : List Context) (g2 : Grid) (c2 : Coder) (s2 : List Context) (w h : ℕ) (input : List ℕ) (w' h' : ℕ) (input' : List ℕ)
-    → w' ≡ w → h' ≡ h → input' ≡ input → PixelSteps coding x y p g0 c0 s0 g1 c1 s1 w h input → PixelStep coding x y p g1 c1 s1 g2 c2 s2 w' h' input' → PixelSteps coding (x + 1) y p g0 c0 s0 g2 c2 s2 w h input
-row-step coding x y p g0 c0 s0 g1 c1 s1 g2 c2 s2 w h input w' h' input' ew eh ei before step = λ r len predicted holds.
-    let one = subst (λ (v : ℕ). PixelStep coding x y p g1 c1 s1 g2 c2 s2 v h' input') ew step in
-    let two = subst (λ (v : ℕ). PixelStep coding x y p g1 c1 s1 g2 c2 s2 w v input') eh one in
-    let here = subst (λ (v : List ℕ). PixelStep coding x y p g1 c1 s1 g2 c2 s2 w h v) ei two in
-    let made : Region = after_pixels coding w h input x r in
-    subst (λ (n : Region). Holds w h input n g2 c2 s2) (sym (after_pixels-one coding w h input x r))
-    (here made (after_pixels-length coding w h input x r ∙ ap (λ (k : ℕ). k + x) len) (after_pixels-predicted coding w h input x r ∙ predicted) (before r len predicted holds))
 
 pub region-step : (coding : Coding) (y : ℕ) (p q : Bool) (g1 : Grid) (c1 : Coder) (s1 : List Context) (c2 : Coder) (s2 : List Context) (g3 : Grid) (c3 : Coder) (s3 : List Context) (start : Region) (w h : ℕ) (input : List ℕ) (w' h' : ℕ)
     → w' ≡ w → h' ≡ h → c1.bytes ≡ input → c2.bytes ≡ c1.bytes → length start.pixels ≡ 0

@@ -5,13 +5,17 @@ use Rattle.std.proofs.Math.Nat.{pow-le-pow_right}
 use Rattle.std.proofs.lemmas.Bool.{cases_Bool, cond-true}
 use Rattle.std.proofs.lemmas.List.{append-nil, length-map}
 use Rattle.std.specs.List.{list_all}
+use Rattle.jbig2_base.specs.Counts.{Counts}
 use Rattle.jbig2_base.specs.Grid.{Grid, blank, bit_number}
 use Rattle.jbig2_region.specs.Generic.{number_of, context_at, PlacedRegion}
 use Rattle.jbig2_region.specs.Refinement.{Reference, reference_pixel, region_pixel, refined_context, nine, common_colour, refinement_coding, refined_region, refined_grid, refined_answer, refined_contexts, reference_of, offset, is_smaller, is_far}
 use Rattle.jbig2_region.specs.RefinementHeader.{RefinementHeader}
+use Rattle.jbig2_region.specs.Decisions.{CountsDecided}
+use Rattle.jbig2_region.specs.RefinementSteps.{CountsRefined, refinement_loads}
 use Rattle.jbig2_region.specs.RefinementTemplates.{refinement_bits}
+use Rattle.jbig2_coder.specs.declared.arithmetic_decoder.registers.Registers.{Registers}
 use Rattle.jbig2_region.specs.inner.Holds.{Holds}
-use Rattle.jbig2_region.specs.Raster.{decoded_region, no_pixels, fresh_contexts}
+use Rattle.jbig2_region.specs.Raster.{Coding, decoded_region, no_pixels, fresh_contexts}
 use Rattle.jbig2_coder.specs.Coder.{Coder, Context, initial_registers}
 use Rattle.jbig2_base.specs.Answer.{◌>>=◌, refuse_if}
 use Rattle.jbig2_base.specs.declared.error.DecodeError.{DecodeError}
@@ -170,3 +174,15 @@ offset-value h from d dx dy is_dx is_dy near =
     passed true q e f v d h = absurd (let never : ◌≡◌ {A = Result (ℤ × ℤ) DecodeError} (Err e) (Ok d) = h in cc)
     passed false true e f v d h = absurd (let never : ◌≡◌ {A = Result (ℤ × ℤ) DecodeError} (Err f) (Ok d) = h in cc)
     passed false false e f v d h = ok-inner v d h
+
+-- ---- steps
+pub refined-steps : (h : RefinementHeader) (from : PlacedRegion) (r : Reference) (before : Grid) (first : Coder) (fresh : List Context) (t t' : Counts) → r ≡ reference_of h from → before ≡ blank h.region_info.width h.region_info.height false → first.bytes ≡ h.bytes → first.registers ≡ initial_registers h.bytes → fresh ≡ fresh_contexts (refinement_bits h.template)
+    → CountsDecided (refinement_coding h.template h.tpgron h.adaptive_template_pixels r) (refinement_loads h.template h.adaptive_template_pixels before.width) before.width before.height first.bytes (no_pixels first.registers fresh) t t'
+    → CountsRefined h from t t'
+refined-steps h from r before first fresh t t' place white bytes registers contexts steps =
+    let coding : Reference → Coding = λ q. refinement_coding h.template h.tpgron h.adaptive_template_pixels q in
+    let one = subst (λ (q : Reference). CountsDecided (coding q) (refinement_loads h.template h.adaptive_template_pixels before.width) before.width before.height first.bytes (no_pixels first.registers fresh) t t') place steps in
+    let two = subst (λ (q : Grid). CountsDecided (coding (reference_of h from)) (refinement_loads h.template h.adaptive_template_pixels q.width) q.width q.height first.bytes (no_pixels first.registers fresh) t t') white one in
+    let three = subst (λ (b : List ℕ). CountsDecided (coding (reference_of h from)) (refinement_loads h.template h.adaptive_template_pixels h.region_info.width) h.region_info.width h.region_info.height b (no_pixels first.registers fresh) t t') bytes two in
+    let four = subst (λ (q : Registers). CountsDecided (coding (reference_of h from)) (refinement_loads h.template h.adaptive_template_pixels h.region_info.width) h.region_info.width h.region_info.height h.bytes (no_pixels q fresh) t t') registers three in
+    subst (λ (s : List Context). CountsDecided (coding (reference_of h from)) (refinement_loads h.template h.adaptive_template_pixels h.region_info.width) h.region_info.width h.region_info.height h.bytes (no_pixels (initial_registers h.bytes) s) t t') contexts four

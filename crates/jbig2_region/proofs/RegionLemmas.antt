@@ -22,12 +22,12 @@ after_pixels-coding template row_context w h input zero r = refl
 after_pixels-coding template row_context w h input (suc n) r = ap (λ (q : Region). after_pixel (row_coding template) w h input q) (after_pixels-coding template row_context w h input n r)
 
 -- ---- a row more
-record Begun (w h : ℕ) (input : List ℕ) (begun : Region) (y : ℕ) (q : Bool) (g : Grid) (c : Coder) (s : List Context) : Type 0 where
+pub record Begun (w h : ℕ) (input : List ℕ) (begun : Region) (y : ℕ) (q : Bool) (g : Grid) (c : Coder) (s : List Context) : Type 0 where
   pub size : length begun.pixels ≡ y * w
   pub predicted : begun.predicted ≡ q
   pub holds : Holds w h input begun g c s
 
-begin-region : (coding : Coding) (y : ℕ) (p q : Bool) (g1 : Grid) (c1 : Coder) (s1 : List Context) (c2 : Coder) (s2 : List Context) (start : Region) (w h : ℕ) (input : List ℕ)
+pub begin-region : (coding : Coding) (y : ℕ) (p q : Bool) (g1 : Grid) (c1 : Coder) (s1 : List Context) (c2 : Coder) (s2 : List Context) (start : Region) (w h : ℕ) (input : List ℕ)
     → c1.bytes ≡ input → length start.pixels ≡ 0 → ((w h : ℕ) (g : Grid) (r : Region) → r.predicted ≡ p → Holds w h c1.bytes r g c1 s1 → BeginsRow w h coding.row_context r q g c1 c2 s2)
     → Holds w h input (after_rows coding w h input y start) g1 c1 s1 → (after_rows coding w h input y start).predicted ≡ p
     → Begun w h input (row_begun coding.row_context input (after_rows coding w h input y start)) y q g1 c2 s2

@@ -1,5 +1,5 @@
 -- Contexts out of the register: the pixels at the left and the windows, in one number that moves on by doubling.
-use Rattle.std.proofs.Common.{pow-suc, pos, negsuc, ℤ, ◌+ℤ◌, ◌-ℤ◌, ◌≡◌, ℕ, ◌+◌, ◌-◌, ◌*◌, ◌/◌, ◌%◌, ◌^◌, ◌<◌, ◌≤◌, ◌++◌, length, add-one, refl, sym, ap, ◌∙◌, arith, subst}
+use Rattle.std.proofs.Common.{pow-suc, pos, negsuc, ℤ, ◌+ℤ◌, ◌-ℤ◌, ◌≡◌, ℕ, ◌+◌, ◌-◌, ◌*◌, ◌/◌, ◌%◌, ◌^◌, ◌<◌, ◌≤◌, ◌++◌, add-one, refl, sym, ap, ◌∙◌, arith, subst}
 use Rattle.std.proofs.Math.Nat.{add-mul-mod_self_right, pow-le-pow_right}
 use Rattle.std.proofs.lemmas.Int.{ints}
 use Rattle.std.proofs.lemmas.Nat.{div-mul-add, mod-mul-add, mod_below, mul-add-lt, pow_pos}
@@ -7,7 +7,7 @@ use Rattle.jbig2_base.specs.Grid.{Grid, pixel}
 use Rattle.jbig2_base.specs.inner.WordBits.{bit}
 use Rattle.jbig2_base.proofs.BitLemmas.{bit-mod, bit-shr}
 use Rattle.jbig2_region.specs.Generic.{context_at}
-use Rattle.jbig2_region.specs.inner.Neighbours.{left_pixels, stretch_pixels, nominal_pixels, cut_of, register_of, neighbour_count, IsNear, IsWindow, SameAbove, Shows, IsLeft}
+use Rattle.jbig2_region.specs.inner.Neighbours.{left_pixels, stretch_pixels, nominal_pixels, cut_of, register_of, IsNear, IsWindow, SameAbove, Shows, IsLeft}
 use Rattle.jbig2_region.specs.declared.template.neighbours.Neighbours.{Neighbours}
 use Rattle.jbig2_region.specs.declared.template.neighbours.Stretch.{Stretch}
 use Rattle.jbig2_region.specs.declared.generic_kernel.windows.Windows.{Windows}

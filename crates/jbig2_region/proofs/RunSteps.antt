@@ -1,9 +1,8 @@
 -- What a run does, pixel by pixel.
-use Rattle.std.proofs.Common.{append_assoc, length-append, set, subst, pos, ◌-ℤ◌, ◌≡◌, ℕ, zero, suc, ◌+◌, ◌-◌, ◌*◌, ◌%◌, ◌^◌, ◌<◌, ◌≤◌, Bool, true, false, not, ◌&&◌, List, [], ◌∷◌, ◌++◌, length, get_or, replicate, add-one, refl, sym, ap, ◌∙◌, arith, None}
+use Rattle.std.proofs.Common.{append_assoc, length-append, set, subst, pos, ◌-ℤ◌, ◌≡◌, ℕ, zero, suc, ◌+◌, ◌-◌, ◌*◌, ◌%◌, ◌^◌, ◌<◌, ◌≤◌, Bool, true, false, not, List, [], ◌∷◌, ◌++◌, length, get_or, replicate, refl, sym, ap, ◌∙◌, arith, None}
 use Rattle.std.proofs.lemmas.Bool.{and_from, and_left, and_parts, eqb-true, true≢false}
 use Rattle.std.proofs.lemmas.Int.{ints}
 use Rattle.std.proofs.lemmas.List.{append-nil, length-replicate, replicate-append-replicate, set-get_or}
-use Rattle.std.proofs.lemmas.Nat.{pow_pos}
 use Rattle.std.proofs.Math.Nat.{pow-le-pow_right}
 use Rattle.jbig2_base.specs.Grid.{Grid, bit_number}
 use Rattle.jbig2_base.specs.inner.WordBits.{bit}
@@ -18,11 +17,11 @@ use Rattle.jbig2_region.specs.inner.LongRuns.{is_run_for}
 use Rattle.jbig2_region.specs.inner.Neighbours.{IsLeft, row_coding}
 use Rattle.jbig2_base.specs.Grid.{same_colour}
 use Rattle.jbig2_region.specs.Raster.{Region, so_far, with_next, after_pixel, after_pixels}
-use Rattle.jbig2_region.specs.RunBytes.{all_of, has_all, stays, is_run_of, run_bytes, CountsRuns}
+use Rattle.jbig2_region.specs.RunBytes.{all_of, has_all, stays, is_run_of, run_bytes}
 use Rattle.jbig2_region.specs.declared.template.AdaptiveTemplatePixel.{AdaptiveTemplatePixel}
 use Rattle.jbig2_region.proofs.CountLemmas.{byte-runs, runs-add}
 use Rattle.jbig2_region.proofs.RasterLemmas.{after_pixel-at, so_far-push}
-use Rattle.jbig2_region.proofs.RunLemmas.{has_all-is, stays-context, stays-from, stays-gives}
+use Rattle.jbig2_region.proofs.RunLemmas.{stays-context, stays-from, stays-gives}
 use Rattle.jbig2_region.proofs.StoreLemmas.{stored-push, stored-inside, none-stored, white-next, width-so_far, height-so_far}
 use Rattle.jbig2_region.proofs.UniformLemmas.{full, full-bit, full-black, full-white}
 use Rattle.jbig2_region.proofs.WindowLemmas.{pixel-inside}

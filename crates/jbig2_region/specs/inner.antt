@@ -1,5 +1,7 @@
+pub mod Codes
 pub mod Holds
 pub mod Layouts
 pub mod LongRuns
 pub mod Neighbours
 pub mod RefinementViews
+pub mod RefinementWindows

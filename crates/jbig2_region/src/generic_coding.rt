@@ -79,7 +79,8 @@ fn colour_above<A: Allocator, L: Ledger>(
 ) -> bool
     requires column { x < 65536 }
     requires row { y < 65536 }
-    ensures { result ≡ pixel bitmap.now (pos x) (pos y +ℤ negsuc 0) }
+    ensures value { result ≡ pixel bitmap.now (pos x) (pos y +ℤ negsuc 0) }
+    ensures steps { steps.new ≡ record steps.old { loads = steps.old.loads + 1 } }
 {
     pixel_at(bitmap, x as i32, y as i32 - 1, steps) == 1
 }
@@ -92,7 +93,9 @@ fn white_if_skipped<M: Allocator, L: Ledger>(
     y: u32,
     steps: &mut Steps<L>,
 ) -> Option<bool>
-    ensures { result ≡ white_if_skipped (skip_of skip.entry) x y }
+    ensures value { result ≡ white_if_skipped (skip_of skip.entry) x y }
+    ensures loads { steps.new.loads ≤ steps.old.loads + 1 }
+    ensures steps { steps.new ≡ record steps.old { loads = steps.new.loads } }
 {
     let mask = skip?;
     if mask.get_pixel(x, y, steps) == 1 {
@@ -121,6 +124,8 @@ impl<M: Allocator> PixelCoding for GenericCoding<'_, M> {
     ghost coding = { λ c. masked_coding c.typical c.template c.pixels.now (skip_of c.skip) };
 
     ghost bits = { λ c. context_bits c.template };
+
+    ghost known_loads = { λ c. 1 };
 
     #[inline(always)]
     fn context<A: Allocator, L: Ledger>(

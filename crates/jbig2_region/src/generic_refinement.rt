@@ -1,10 +1,11 @@
 //! Refinement regions (T.88, 6.3 and 7.4.7).
-ghost use Rattle.std.specs.Prelude.{◌≡◌, IfOk, OnErr};
+ghost use Rattle.std.specs.Prelude.{◌≡◌, IfOk, OnErr, OnOk};
 ghost use Rattle.jbig2_base.specs.Answer.{Answers, Gives, Leaves};
 ghost use Rattle.jbig2_base.specs.Bits.{IsAligned};
 ghost use Rattle.jbig2_base.specs.Parsing.{Parses};
 ghost use Rattle.jbig2_region.specs.RegionInfo.{IsWhiteFor, region_view};
 ghost use Rattle.jbig2_region.specs.Refinement.{is_far, is_smaller, offset, refined_answer, refined_contexts, refined_decoded};
+ghost use Rattle.jbig2_region.specs.RefinementSteps.{CountsRefined};
 ghost use Rattle.jbig2_region.specs.RefinementHeader.{IsRefinement, header_view, refinement_header_at};
 
 use crate::raster::fresh_contexts;
@@ -132,6 +133,8 @@ pub fn decode_into<A: Allocator, B: Allocator, C: Allocator, L: Ledger>(
     ensures contexts { Leaves result contexts.new.items
         (refined_contexts (header_view header.now) (region_view reference.now) contexts.old.items) }
     ensures same { OnErr result (bitmap.new ≡ bitmap.old) }
+    ensures steps { OnOk result
+        (CountsRefined (header_view header.now) (region_view reference.now) steps.old steps.new) }
 {
     let region_info = &header.region_info;
     let (dx, dy) = offset(reference, region_info)?;
@@ -170,6 +173,8 @@ pub fn decode<A: Allocator, B: Allocator, C: Allocator, L: Ledger>(
         (refined_decoded (header_view header.now) (region_view reference.now)) }
     ensures contexts { Leaves result contexts.new.items
         (refined_contexts (header_view header.now) (region_view reference.now) contexts.old.items) }
+    ensures steps { OnOk result
+        (CountsRefined (header_view header.now) (region_view reference.now) steps.old steps.new) }
 {
     let region_info = &header.region_info;
     let mut bitmap = Bitmap::new(alloc, region_info.width, region_info.height)?;

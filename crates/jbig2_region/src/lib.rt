@@ -7,6 +7,7 @@ mod generic_kernel;
 pub mod generic_refinement;
 pub mod raster;
 mod refinement_coding;
+mod refinement_kernel;
 pub mod region_info;
 pub mod skipping;
 pub mod template;

@@ -3,8 +3,10 @@
 ghost use Rattle.std.specs.Prelude.{◌≡◌, ℕ, ◌+◌, ◌*◌, ◌^◌, ◌<◌, ◌≤◌, [], length, IfSome, false, Ok};
 ghost use Rattle.jbig2_base.specs.Answer.{Gives};
 ghost use Rattle.jbig2_base.specs.Grid.{Grid, pixel, bit_number};
-ghost use Rattle.jbig2_region.specs.Raster.{Coding, Region, after_pixel, after_pixels, row_decisions, decoded_region, fresh_contexts};
-ghost use Rattle.jbig2_region.specs.inner.Holds.{Holds, BeginsRow, DecodesRegion, GoesOn, IsReady};
+ghost use Rattle.jbig2_region.specs.Decisions.{CountsDecided};
+ghost use Rattle.jbig2_region.specs.Raster.{Coding, Region, row_decisions, no_pixels, fresh_contexts};
+ghost use Rattle.jbig2_region.specs.inner.Codes.{Codes, CountsCodes};
+ghost use Rattle.jbig2_region.specs.inner.Holds.{Holds, BeginsRow, DecodesRegion, IsReady};
 
 use jbig2_base::bitmap::Bitmap;
 use jbig2_base::bitmap::steps::Steps;
@@ -27,6 +29,8 @@ pub trait PixelCoding {
 
     ghost bits: { Self → ℕ };
 
+    ghost known_loads: { Self → ℕ };
+
     /// The number of the context of the pixel at column `x` of row `y`.
     fn context<A: Allocator, L: Ledger>(
         &self,
@@ -38,7 +42,9 @@ pub trait PixelCoding {
         requires column { x < 65536 }
         requires row { y < 65536 }
         ensures value { result ≡ (coding self.now).context bitmap.now x y }
-        ensures small { result < 2 ^ bits self.now };
+        ensures small { result < 2 ^ bits self.now }
+        ensures steps { steps.new
+            ≡ record steps.old { loads = steps.old.loads + bits self.now } };
 
     /// The colour that the pixel at column `x` of a row takes without a decision, if any (`true` is
     /// black).
@@ -51,7 +57,9 @@ pub trait PixelCoding {
     ) -> Option<bool>
         requires column { x < 65536 }
         requires row { row.y < 65536 }
-        ensures { result ≡ (coding self.now).known row.predicted bitmap.now x row.y };
+        ensures value { result ≡ (coding self.now).known row.predicted bitmap.now x row.y }
+        ensures loads { steps.new.loads ≤ steps.old.loads + known_loads self.now }
+        ensures steps { steps.new ≡ record steps.old { loads = steps.new.loads } };
 
     /// With typical prediction, the number of the context of the decision that begins a row.
     fn row_context(&self) -> Option<u32>
@@ -93,12 +101,17 @@ fn decode_pixel<C: PixelCoding, A: Allocator, L: Ledger>(
     requires columns { bitmap.old.width ≤ 65535 }
     requires rows { bitmap.old.height ≤ 65535 }
     requires contexts { length contexts.old ≡ 2 ^ C.bits coding.now }
-    ensures holds { GoesOn (row.y * bitmap.old.width + x) row.predicted
-        (after_pixel (C.coding coding.now))
+    ensures holds { Codes (C.coding coding.now) row.predicted x row.y 1
         bitmap.old decoder.old contexts.old bitmap.new decoder.new contexts.new }
     ensures width { bitmap.new.width ≡ bitmap.old.width }
     ensures height { bitmap.new.height ≡ bitmap.old.height }
     ensures bytes { decoder.new.bytes ≡ decoder.old.bytes }
+    ensures decisions { CountsCodes (C.coding coding.now) row.predicted x row.y 1
+        bitmap.old decoder.old contexts.old steps.old.decisions steps.new.decisions }
+    ensures run_tests { steps.new.run_tests ≡ steps.old.run_tests }
+    ensures words { steps.new.words ≡ steps.old.words + 1 }
+    ensures loads { steps.new.loads
+        ≤ steps.old.loads + (C.bits coding.now + C.known_loads coding.now) }
 {
     if let Some(colour) = coding.known_colour(row, x, bitmap, steps) {
         bitmap.set_pixel(x, row.y, colour, steps);
@@ -122,12 +135,17 @@ fn decode_row<C: PixelCoding, A: Allocator, L: Ledger>(
     requires columns { bitmap.old.width ≤ 65535 }
     requires rows { bitmap.old.height ≤ 65535 }
     requires contexts { length contexts.old ≡ 2 ^ C.bits coding.now }
-    ensures holds { GoesOn (row.y * bitmap.old.width) row.predicted
-        (λ w h bytes r. after_pixels (C.coding coding.now) w h bytes w r)
+    ensures holds { Codes (C.coding coding.now) row.predicted 0 row.y bitmap.old.width
         bitmap.old decoder.old contexts.old bitmap.new decoder.new contexts.new }
     ensures width { bitmap.new.width ≡ bitmap.old.width }
     ensures height { bitmap.new.height ≡ bitmap.old.height }
     ensures bytes { decoder.new.bytes ≡ decoder.old.bytes }
+    ensures decisions { CountsCodes (C.coding coding.now) row.predicted 0 row.y bitmap.old.width
+        bitmap.old decoder.old contexts.old steps.old.decisions steps.new.decisions }
+    ensures run_tests { steps.new.run_tests ≡ steps.old.run_tests }
+    ensures words { steps.new.words ≡ steps.old.words + bitmap.old.width }
+    ensures loads { steps.new.loads ≤ steps.old.loads
+        + bitmap.old.width * (C.bits coding.now + C.known_loads coding.now) }
 {
     for x in 0..bitmap.width() {
         decode_pixel(coding, row, x, bitmap, decoder, contexts, steps);
@@ -173,6 +191,10 @@ pub fn decode_region<C: PixelCoding, A: Allocator, L: Ledger>(
     ensures holds { DecodesRegion (C.coding coding.now)
         bitmap.old decoder.old contexts.old bitmap.new decoder.new contexts.new }
     ensures empty { bitmap.old.width * bitmap.old.height ≡ 0 → steps.new ≡ steps.old }
+    ensures steps { CountsDecided (C.coding coding.now)
+        (bitmap.old.width * (C.bits coding.now + C.known_loads coding.now))
+        bitmap.old.width bitmap.old.height decoder.old.bytes
+        (no_pixels decoder.old.registers contexts.old) steps.old steps.new }
 {
     if bitmap.width() == 0 {
         return;

@@ -1,7 +1,10 @@
 //! The contexts of refinements (T.88, 6.3.5.3 to 6.3.5.6).
 ghost use Rattle.std.specs.Prelude.{◌≡◌, ◌+◌, ◌^◌, ◌<◌, ◌≤◌, ◌++◌, Bool, List, length, map, pos, ◌+ℤ◌, ◌-ℤ◌, ◌<ℤ◌};
 ghost use Rattle.jbig2_base.specs.Grid.{pixel, bit_number};
+ghost use Rattle.jbig2_region.specs.Decisions.{CountsDecided};
 ghost use Rattle.jbig2_region.specs.Generic.{number_of};
+ghost use Rattle.jbig2_region.specs.Raster.{no_pixels};
+ghost use Rattle.jbig2_region.specs.RefinementSteps.{refinement_loads};
 ghost use Rattle.jbig2_region.specs.inner.Holds.{DecodesRegion, IsReady};
 ghost use Rattle.jbig2_region.specs.inner.RefinementViews.{reference_view};
 ghost use Rattle.jbig2_region.specs.Refinement.{nine, common_colour, reference_pixel, refinement_coding};
@@ -10,7 +13,8 @@ ghost use Rattle.jbig2_region.specs.RefinementTemplates.{refinement_bits};
 use crate::generic_coding::context_at;
 use crate::generic_refinement::ReferenceBitmap;
 use crate::raster::{PixelCoding, Row, decode_region};
-use crate::template::refinement::{reference_0, reference_1, region_0, region_1, row_context};
+use crate::refinement_kernel::{WindowedCoding, decode_windowed};
+use crate::template::refinement::{is_nominal, reference_0, region_0, row_context};
 use crate::template::{AdaptiveTemplatePixel, RefinementTemplate, pixel};
 use jbig2_base::bitmap::Bitmap;
 use jbig2_base::bitmap::steps::Steps;
@@ -47,6 +51,7 @@ fn far_pixel<A: Allocator, L: Ledger>(
     requires column { column <ℤ pos 4294967296 }
     requires row { row <ℤ pos 4294967296 }
     ensures value { result ≡ bit_number (pixel bitmap.now column row) }
+    ensures steps { steps.new ≡ record steps.old { loads = steps.old.loads + 1 } }
 {
     if column < 0 || row < 0 {
         steps.load();
@@ -94,8 +99,9 @@ impl<B: Allocator> RefinementCoding<'_, B> {
     ) -> u8
         requires column { x < 65536 }
         requires row { y < 65536 }
-        ensures { result ≡ bit_number
+        ensures value { result ≡ bit_number
             (reference_pixel (reference_view self.now.reference.now) x y place) }
+        ensures steps { steps.new ≡ record steps.old { loads = steps.old.loads + 1 } }
     {
         far_pixel(
             self.reference.bitmap,
@@ -120,9 +126,11 @@ impl<B: Allocator> RefinementCoding<'_, B> {
         requires row { y < 65536 }
         requires few { length pixels.now ≤ 9 }
         requires high { high < 16 }
-        ensures { (bits : List Bool) → high ≡ number_of bits
+        ensures value { (bits : List Bool) → high ≡ number_of bits
             → result ≡ number_of
             (map (reference_pixel (reference_view self.now.reference.now) x y) pixels.now ++ bits) }
+        ensures steps { steps.new
+            ≡ record steps.old { loads = steps.old.loads + length pixels.now } }
     {
         let mut number = high;
         let mut left = pixels.len();
@@ -139,7 +147,8 @@ impl<B: Allocator> RefinementCoding<'_, B> {
     fn common_colour<L: Ledger>(&self, x: u32, y: u32, steps: &mut Steps<L>) -> Option<bool>
         requires column { x < 65536 }
         requires row { y < 65536 }
-        ensures { result ≡ common_colour (reference_view self.now.reference.now) x y }
+        ensures value { result ≡ common_colour (reference_view self.now.reference.now) x y }
+        ensures steps { steps.new ≡ record steps.old { loads = steps.old.loads + 9 } }
     {
         match self.number(&nine(), 0, x, y, steps) {
             0x1FF => Some(true),
@@ -158,6 +167,8 @@ impl<B: Allocator> PixelCoding for RefinementCoding<'_, B> {
         (reference_view c.reference.now) };
 
     ghost bits = { λ c. refinement_bits c.template };
+
+    ghost known_loads = { λ c. 9 };
 
     #[inline(always)]
     fn context<A: Allocator, L: Ledger>(
@@ -210,9 +221,22 @@ pub fn decode_bitmap<A: Allocator, B: Allocator, L: Ledger>(
     ensures holds { DecodesRegion
         (refinement_coding template typical adaptive.now (reference_view reference.now))
         bitmap.old decoder.old contexts.old bitmap.new decoder.new contexts.new }
+    ensures steps { CountsDecided
+        (refinement_coding template typical adaptive.now (reference_view reference.now))
+        (refinement_loads template adaptive.now bitmap.old.width) bitmap.old.width bitmap.old.height decoder.old.bytes
+        (no_pixels decoder.old.registers contexts.old) steps.old steps.new }
 {
+    let windowed = WindowedCoding {
+        template,
+        typical,
+        reference,
+    };
     match template {
         RefinementTemplate::Template0 => {
+            if is_nominal(template, adaptive) {
+                decode_windowed(&windowed, bitmap, decoder, contexts, steps);
+                return;
+            }
             let coding = RefinementCoding {
                 template,
                 typical,
@@ -223,14 +247,7 @@ pub fn decode_bitmap<A: Allocator, B: Allocator, L: Ledger>(
             decode_region(&coding, bitmap, decoder, contexts, steps);
         }
         RefinementTemplate::Template1 => {
-            let coding = RefinementCoding {
-                template,
-                typical,
-                reference,
-                in_reference: &reference_1(),
-                in_region: &region_1(),
-            };
-            decode_region(&coding, bitmap, decoder, contexts, steps);
+            decode_windowed(&windowed, bitmap, decoder, contexts, steps);
         }
     }
 }

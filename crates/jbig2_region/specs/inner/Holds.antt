@@ -22,10 +22,6 @@ pub record BeginsRow (w h : ℕ) (row_context : Option ℕ) (r : Region) (is_pre
   pub holds : Holds w h before.bytes (row_begun row_context before.bytes r) grid coder states
   pub predicted : (row_begun row_context before.bytes r).predicted ≡ is_predicted
 
--- A region in the making of n pixels, whose row is predicted or not, goes on to what comes next of it.
-abbrev pub GoesOn : ℕ → Bool → (ℕ → ℕ → List ℕ → Region → Region) → Grid → Coder → List Context → Grid → Coder → List Context → Type 0
-GoesOn n predicted next g d s g' d' s' = (r : Region) → length r.pixels ≡ n → r.predicted ≡ predicted → Holds g.width g.height d.bytes r g d s → Holds g.width g.height d.bytes (next g.width g.height d.bytes r) g' d' s'
-
 -- A whole region is decoded, from where the coder and the contexts stand.
 abbrev pub DecodesRegion : Coding → Grid → Coder → List Context → Grid → Coder → List Context → Type 0
 DecodesRegion coding g d s g' d' s' = Holds g.width g.height d.bytes (decoded_region coding g.width g.height d.bytes (no_pixels d.registers s)) g' d' s'

@@ -55,7 +55,7 @@ pub fn fixed_neighbours(template: Template) -> Neighbours
     }
 }
 
-fn lies_at(pixel: AdaptiveTemplatePixel, x: i16, y: i16) -> bool
+pub fn lies_at(pixel: AdaptiveTemplatePixel, x: i16, y: i16) -> bool
     ensures { result ≡ lies_at pixel x y }
 {
     pixel.x == x && pixel.y == y

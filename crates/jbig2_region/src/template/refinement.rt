@@ -1,9 +1,12 @@
 //! The pixels of refinements' templates (T.88, 6.3.5.3), in the reference and in the region, and the
 //! contexts of the decisions that begin their rows (6.3.5.6).
-ghost use Rattle.std.specs.Prelude.{◌≡◌, ◌^◌, ◌<◌, []};
+ghost use Rattle.std.specs.Prelude.{◌≡◌, ◌^◌, ◌<◌, true};
+ghost use Rattle.jbig2_region.specs.RefinementSteps.{is_nominal};
 ghost use Rattle.jbig2_region.specs.RefinementTemplates.{reference_pixels, refinement_bits, refinement_row_context, region_pixels};
-ghost use Rattle.jbig2_region.specs.declared.template.RefinementTemplate.TheVariants.{Template0, Template1};
+ghost use Rattle.jbig2_region.specs.inner.RefinementWindows.{corners};
+ghost use Rattle.jbig2_region.specs.declared.template.RefinementTemplate.TheVariants.{Template0};
 
+use crate::template::layouts::lies_at;
 use crate::template::{AdaptiveTemplatePixel, RefinementTemplate, pixel};
 
 /// The reference's pixels in template 0, bit 0 of a context first (Figure 12).
@@ -30,25 +33,17 @@ pub fn region_0(a: &[AdaptiveTemplatePixel; 2]) -> [AdaptiveTemplatePixel; 4]
     [pixel(-1, 0), pixel(1, -1), pixel(0, -1), a[0]]
 }
 
-/// The reference's pixels in template 1 (Figure 13).
-pub fn reference_1() -> [AdaptiveTemplatePixel; 6]
-    ensures { result ≡ reference_pixels Template1 [] }
+/// Whether the adaptive pixels lie where the standard has them by default (Figure 12); template 1 has
+/// none.
+pub fn is_nominal(template: RefinementTemplate, a: &[AdaptiveTemplatePixel; 2]) -> bool
+    ensures value { result ≡ is_nominal template a.now }
+    ensures reference { result ≡ true → reference_pixels template a.now ≡ reference_pixels template corners }
+    ensures region { result ≡ true → region_pixels template a.now ≡ region_pixels template corners }
 {
-    [
-        pixel(1, 1),
-        pixel(0, 1),
-        pixel(1, 0),
-        pixel(0, 0),
-        pixel(-1, 0),
-        pixel(0, -1),
-    ]
-}
-
-/// The region's pixels in template 1.
-pub fn region_1() -> [AdaptiveTemplatePixel; 4]
-    ensures { result ≡ region_pixels Template1 [] }
-{
-    [pixel(-1, 0), pixel(1, -1), pixel(0, -1), pixel(-1, -1)]
+    match template {
+        RefinementTemplate::Template0 => lies_at(a[0], -1, -1) && lies_at(a[1], -1, -1),
+        RefinementTemplate::Template1 => true,
+    }
 }
 
 /// The context of the decision that begins a row under typical prediction (T.88, 6.3.5.6).

@@ -8,7 +8,7 @@ use Rattle.jbig2_region.specs.Generic.{region_view}
 use Rattle.jbig2_region.specs.inner.Holds.{Holds}
 use Rattle.jbig2_region.specs.Raster.{fresh_contexts}
 use Rattle.jbig2_region.proofs.GenericLemmas.{whole-slice, ok-inner}
-use Rattle.jbig2_region.proofs.RefinementLemmas.{refined-contexts, refined-decoded, refined-answer, offset-value}
+use Rattle.jbig2_region.proofs.RefinementLemmas.{refined-contexts, refined-decoded, refined-answer, refined-steps, offset-value}
 use Rattle.jbig2_region.proofs.generic_refinement.decode_into.Goals as goal
 
 pub returns-clause-value : goal.returns-clause-value
@@ -32,3 +32,12 @@ returns-clause-contexts g c =
     refined-decoded (header_view c.args.header.now) (region_view c.args.reference.now) _ c.args.bitmap.now c.decode_bitmap.new.bitmap c.new-decoder.result c.decode_bitmap.new.decoder c.deref_mut.result.now c.decode_bitmap.new.contexts place c.requires.white c.new-decoder.ensures.bytes c.new-decoder.ensures.registers fresh c.decode_bitmap.ensures.holds in
     refined-contexts (header_view c.args.header.now) (region_view c.args.reference.now) (c.in_ok-dx.dx, c.in_ok-dx.dy) c.args.contexts.now.items _ near
     (whole-slice c.fresh_contexts.new.contexts.len c.decode_bitmap.new.contexts (drop (length c.decode_bitmap.new.contexts) c.fresh_contexts.new.contexts.items) (c.decode_bitmap.auto.contexts ∙ c.deref_mut.ensures.len) ∙ holds.contexts)
+
+pub returns-clause-steps : goal.returns-clause-steps
+returns-clause-steps g c =
+    let fresh : c.deref_mut.result.now ≡ fresh_contexts (refinement_bits c.args.header.now.template) = c.deref_mut.ensures.value ∙ sym (ok-inner _ _ c.in_ok-fresh_contexts.ensures) ∙ ap (λ (n : ℕ). fresh_contexts n) c.context_bits.ensures in
+    let near = c.in_ok-dx.ensures in
+    let fits_dx : SFits w32 c.in_ok-dx.dx = search rules in
+    let fits_dy : SFits w32 c.in_ok-dx.dy = search rules in
+    let place = offset-value (header_view c.args.header.now) (region_view c.args.reference.now) (c.in_ok-dx.dx, c.in_ok-dx.dy) (to_z w32 (of_z w32 c.in_ok-dx.dx)) (to_z w32 (of_z w32 c.in_ok-dx.dy)) (to_z-of_z w32 c.in_ok-dx.dx fits_dx) (to_z-of_z w32 c.in_ok-dx.dy fits_dy) near in
+    refined-steps (header_view c.args.header.now) (region_view c.args.reference.now) _ c.args.bitmap.now c.new-decoder.result c.deref_mut.result.now c.args.steps.now c.decode_bitmap.new.steps place c.requires.white c.new-decoder.ensures.bytes c.new-decoder.ensures.registers fresh c.decode_bitmap.ensures.steps

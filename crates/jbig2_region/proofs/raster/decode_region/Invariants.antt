@@ -1,6 +1,7 @@
-use Rattle.std.proofs.Common.{◌≡◌}
-use Rattle.jbig2_region.specs.Raster.{after_rows, no_pixels}
+use Rattle.std.proofs.Common.{◌≡◌, ◌≤◌, ◌+◌, ◌*◌}
 use Rattle.jbig2_region.specs.inner.Holds.{Holds}
+use Rattle.jbig2_region.specs.Raster.{after_rows, no_pixels}
+use Rattle.jbig2_region.proofs.DecisionLemmas.{Decided}
 use Rattle.jbig2_region.proofs.raster.decode_region.Given as goal
 
 abbrev pub invariant-loop-y : goal.invariant-loop-y
@@ -11,4 +12,8 @@ invariant-loop-y g l = record {
   none : l.y ≡ 0 → l.steps ≡ l.initial.steps;
   holds : Holds l.initial.bitmap.width l.initial.bitmap.height l.initial.decoder.bytes (after_rows (g.C.PixelCoding.coding l.fn.coding) l.initial.bitmap.width l.initial.bitmap.height l.initial.decoder.bytes l.y (no_pixels l.initial.decoder.registers l.initial.contexts)) l.bitmap l.decoder l.contexts;
   predicted : (after_rows (g.C.PixelCoding.coding l.fn.coding) l.initial.bitmap.width l.initial.bitmap.height l.initial.decoder.bytes l.y (no_pixels l.initial.decoder.registers l.initial.contexts)).predicted ≡ l.predicted;
+  decisions : Decided (g.C.PixelCoding.coding l.fn.coding) l.initial.bitmap.width l.initial.bitmap.height l.initial.decoder.bytes l.y (no_pixels l.initial.decoder.registers l.initial.contexts) l.initial.steps.decisions l.steps.decisions;
+  run_tests : l.steps.run_tests ≡ l.initial.steps.run_tests;
+  words : l.steps.words ≤ l.initial.steps.words + l.y * l.initial.bitmap.width;
+  loads : l.steps.loads ≤ l.initial.steps.loads + l.y * (l.initial.bitmap.width * (g.C.PixelCoding.bits l.fn.coding + g.C.PixelCoding.known_loads l.fn.coding));
 }

@@ -1,4 +1,4 @@
-use Rattle.std.proofs.Common.{◌≡◌, ◌<◌, ◌≤◌, ◌-◌, ◌^◌, ◌++◌, Bool, List, length, drop, map}
+use Rattle.std.proofs.Common.{◌≡◌, ◌<◌, ◌≤◌, ◌+◌, ◌-◌, ◌^◌, ◌++◌, Bool, List, length, drop, map}
 use Rattle.jbig2_region.specs.Generic.{number_of}
 use Rattle.jbig2_region.specs.Refinement.{reference_pixel}
 use Rattle.jbig2_region.specs.inner.RefinementViews.{reference_view}
@@ -7,6 +7,7 @@ use Rattle.jbig2_region.proofs.refinement_coding.RefinementCoding.number.Given a
 abbrev pub invariant-loop-left : goal.invariant-loop-left
 invariant-loop-left g l = record {
   within : l.left ≤ length l.pixels;
+  steps : l.steps ≡ record l.initial.steps { loads = l.initial.steps.loads + (length l.pixels - l.left) };
   bound : l.number < 2 ^ (13 - l.left);
   value : (bits : List Bool) → l.high ≡ number_of bits → l.number ≡ number_of (map (reference_pixel (reference_view l.self.reference.now) l.x l.y) (drop l.left l.pixels) ++ bits);
 }

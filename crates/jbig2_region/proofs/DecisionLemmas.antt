@@ -1,0 +1,74 @@
+-- Regions row by row, with their decisions.
+use Rattle.std.proofs.Common.{subst, ◌≡◌, ℕ, ◌+◌, ◌*◌, ◌≤◌, Bool, add-one, List, length, refl, ◌∙◌, arith}
+use Rattle.jbig2_base.specs.Counts.{Counts}
+use Rattle.jbig2_base.specs.Grid.{Grid}
+use Rattle.jbig2_coder.specs.Coder.{Coder, Context}
+use Rattle.jbig2_region.specs.Decisions.{CountsDecided, decided_pixels, decided_rows}
+use Rattle.jbig2_region.specs.inner.Codes.{Codes, CountsCodes}
+use Rattle.jbig2_region.specs.inner.Holds.{Holds, BeginsRow}
+use Rattle.jbig2_region.specs.Raster.{Coding, Region, row_begun, row_decisions, after_rows}
+use Rattle.jbig2_region.proofs.RasterLemmas.{region-step, no-rows}
+use Rattle.jbig2_region.proofs.RegionLemmas.{begin-region}
+
+plus : (n : ℕ) → n ≡ n + 0
+plus n = omega arith
+
+-- ---- a row more
+pub codes-row : (coding : Coding) (y : ℕ) (p q : Bool) (g1 : Grid) (c1 : Coder) (s1 : List Context) (c2 : Coder) (s2 : List Context) (g3 : Grid) (c3 : Coder) (s3 : List Context) (start : Region) (w h : ℕ) (input : List ℕ)
+    → c1.bytes ≡ input → c2.bytes ≡ c1.bytes → length start.pixels ≡ 0
+    → ((w h : ℕ) (g : Grid) (r : Region) → r.predicted ≡ p → Holds w h c1.bytes r g c1 s1 → BeginsRow w h coding.row_context r q g c1 c2 s2)
+    → Codes coding q 0 y w g1 c2 s2 g3 c3 s3
+    → Holds w h input (after_rows coding w h input y start) g1 c1 s1 → (after_rows coding w h input y start).predicted ≡ p
+    → Holds w h input (after_rows coding w h input (y + 1) start) g3 c3 s3 × ((after_rows coding w h input (y + 1) start).predicted ≡ q)
+codes-row coding y p q g1 c1 s1 c2 s2 g3 c3 s3 start w h input same after none begin codes holds predicted =
+    region-step coding y p q g1 c1 s1 c2 s2 g3 c3 s3 start w h input w h refl refl same after none begin
+    (λ r len is held. codes w h c2.bytes r (len ∙ plus (y * w)) is held)
+    holds predicted
+
+-- what the code holds after y rows
+pub record Decided (coding : Coding) (w h : ℕ) (input : List ℕ) (y : ℕ) (start : Region) (before after : ℕ) : Type 0 where
+  pub total : after ≡ before + (y * row_decisions coding.row_context + decided_rows coding w h input y start)
+
+pub decided-none : (coding : Coding) (w h : ℕ) (input : List ℕ) (start : Region) (count : ℕ) → Decided coding w h input 0 start count count
+unfolding decided_rows
+decided-none coding w h input start count = record { total = omega arith }
+
+decided-row : (coding : Coding) (w h : ℕ) (input : List ℕ) (y : ℕ) (start : Region) → decided_rows coding w h input (y + 1) start ≡ decided_rows coding w h input y start + decided_pixels coding w h input w (row_begun coding.row_context input (after_rows coding w h input y start))
+unfolding decided_rows
+decided-row coding w h input y start = rw add-one refl
+
+pub decided-next : (coding : Coding) (y : ℕ) (p q : Bool) (g1 : Grid) (c1 : Coder) (s1 : List Context) (c2 : Coder) (s2 : List Context) (start : Region) (w h : ℕ) (input : List ℕ) (d0 d1 d2 d3 : ℕ)
+    → c1.bytes ≡ input → length start.pixels ≡ 0 → ((w h : ℕ) (g : Grid) (r : Region) → r.predicted ≡ p → Holds w h c1.bytes r g c1 s1 → BeginsRow w h coding.row_context r q g c1 c2 s2)
+    → Holds w h input (after_rows coding w h input y start) g1 c1 s1 → (after_rows coding w h input y start).predicted ≡ p
+    → Decided coding w h input y start d0 d1 → d2 ≡ d1 + row_decisions coding.row_context → CountsCodes coding q 0 y w g1 c2 s2 d2 d3
+    → Decided coding w h input (y + 1) start d0 d3
+decided-next coding y p q g1 c1 s1 c2 s2 start w h input d0 d1 d2 d3 same none begin holds predicted before more row =
+    let at = begin-region coding y p q g1 c1 s1 c2 s2 start w h input same none begin holds predicted in
+    let begun : Region = row_begun coding.row_context input (after_rows coding w h input y start) in
+    record {
+      total = rw (decided-row coding w h input y start) (sum d0 d1 d2 d3 (row_decisions coding.row_context) (decided_rows coding w h input y start) (decided_pixels coding w h input w begun) y before.total more (row w h input begun (at.size ∙ plus (y * w)) at.predicted at.holds));
+    }
+  where
+    sum : (d0 d1 d2 d3 rd rows row y : ℕ) → d1 ≡ d0 + (y * rd + rows) → d2 ≡ d1 + rd → d3 ≡ d2 + row → d3 ≡ d0 + ((y + 1) * rd + (rows + row))
+    sum d0 d1 d2 d3 rd rows row y one two three = omega arith
+
+-- ---- whole regions
+pub decided-empty : (coding : Coding) (loads w h : ℕ) (input : List ℕ) (start : Region) (steps : Counts) → w ≡ 0 → CountsDecided coding loads w h input start steps steps
+decided-empty coding loads w h input start steps none = record {
+  empty = λ _. refl;
+  decisions = λ some. absurd (omega arith);
+  run_tests = refl;
+  words = omega arith;
+  loads = omega arith;
+}
+
+pub decided-region : (coding : Coding) (loads w h y : ℕ) (input : List ℕ) (start : Region) (before after : Counts) → (w ≡ 0 → ⊥) → y ≡ h → (y ≡ 0 → after ≡ before)
+    → Decided coding w h input y start before.decisions after.decisions → after.run_tests ≡ before.run_tests → after.words ≤ before.words + y * w → after.loads ≤ before.loads + y * loads
+    → CountsDecided coding loads w h input start before after
+decided-region coding loads w h y input start before after some all none counted tests words loaded = record {
+  empty = λ product. none (no-rows w h y some all product);
+  decisions = λ _. subst (λ (n : ℕ). after.decisions ≡ before.decisions + (n * row_decisions coding.row_context + decided_rows coding w h input n start)) all counted.total;
+  run_tests = tests;
+  words = subst (λ (n : ℕ). after.words ≤ before.words + n * w) all words;
+  loads = subst (λ (n : ℕ). after.loads ≤ before.loads + n * loads) all loaded;
+}
