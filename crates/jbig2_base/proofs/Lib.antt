@@ -7,6 +7,7 @@ mod Extends
 mod FileRows
 pub mod FillLemmas
 pub mod GridLemmas
+mod NumberLemmas
 mod PackedLemmas
 pub mod RandomAccess
 pub mod ReaderLemmas
