@@ -1,5 +1,5 @@
 -- Numbers that are read from bits.
-use Rattle.std.proofs.Common.{◌≡◌, ℕ, zero, suc, ◌+◌, ◌-◌, ◌*◌, ◌^◌, ◌<◌, ◌≤◌, ltb, List, [], ◌∷◌, ◌++◌, length, take, drop, min, Some, None, refl, sym, ◌∙◌, ap, subst, arith, pow-suc, ⊎_elim}
+use Rattle.std.proofs.Common.{◌≡◌, ℕ, zero, suc, ◌+◌, ◌*◌, ◌^◌, ◌<◌, ◌≤◌, ltb, List, [], ◌∷◌, length, take, drop, min, Some, None, ◌∙◌, ap, arith, pow-suc, ⊎_elim}
 use Rattle.std.specs.List.{flat_map}
 use Rattle.std.proofs.Math.Nat.{mul-le-mul_right}
 use Rattle.std.proofs.lemmas.Bool.{cases_lt, cond-true, cond-false, lt-ltb, le-ltb}
@@ -7,28 +7,28 @@ use Rattle.std.proofs.lemmas.List.{length-take}
 use Rattle.jbig2_base.specs.Bits.{Place, byte_bits, bits_left, bits_next, number_after}
 
 -- bits are 0 or 1
-AreBits : List ℕ → Type 0
+unfoldable pub AreBits : List ℕ → Type 0
 AreBits [] = Unit {0}
 AreBits (b ∷ bs) = (b < 2) × AreBits bs
 
-bits-drop : (n : ℕ) (bits : List ℕ) → AreBits bits → AreBits (drop n bits)
+pub bits-drop : (n : ℕ) (bits : List ℕ) → AreBits bits → AreBits (drop n bits)
 unfolding AreBits
 bits-drop zero bits are = are
 bits-drop (suc n) [] are = tt
 bits-drop (suc n) (b ∷ bits) are = bits-drop n bits are.1
 
-bits-take : (n : ℕ) (bits : List ℕ) → AreBits bits → AreBits (take n bits)
+pub bits-take : (n : ℕ) (bits : List ℕ) → AreBits bits → AreBits (take n bits)
 unfolding AreBits
 bits-take zero bits are = tt
 bits-take (suc n) [] are = tt
 bits-take (suc n) (b ∷ bits) are = (are.0, bits-take n bits are.1)
 
-byte-bits : (xs : List ℕ) → AreBits (flat_map byte_bits xs)
+pub byte-bits : (xs : List ℕ) → AreBits (flat_map byte_bits xs)
 unfolding AreBits
 byte-bits [] = tt
 byte-bits (x ∷ xs) = (omega arith, (omega arith, (omega arith, (omega arith, (omega arith, (omega arith, (omega arith, (omega arith, byte-bits xs))))))))
 
-number-below : (front : ℕ) (bits : List ℕ) → AreBits bits → number_after front bits < (front + 1) * 2 ^ length bits
+pub number-below : (front : ℕ) (bits : List ℕ) → AreBits bits → number_after front bits < (front + 1) * 2 ^ length bits
 unfolding AreBits
 number-below front [] are = omega arith
 number-below front (b ∷ bits) are =

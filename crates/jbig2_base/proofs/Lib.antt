@@ -9,6 +9,7 @@ mod FileRows
 pub mod FillLemmas
 pub mod GridLemmas
 pub mod LaneCounts
+mod NumberLemmas
 mod PackedLemmas
 pub mod RandomAccess
 pub mod ReaderLemmas

@@ -1,10 +1,9 @@
 -- One bit on, and n bits on.
-use Rattle.std.proofs.Common.{add-one, ◌≡◌, ℕ, ◌+◌, ◌-◌, ◌*◌, ◌/◌, ◌%◌, ◌^◌, ◌<◌, ◌≤◌, suc, zero, List, [], ◌∷◌, ◌++◌, length, take, drop, get_or, Option, ⊎_elim, Some, None, nat_lt, refl, sym, ◌∙◌, ap, arith, bit_and}
+use Rattle.std.proofs.Common.{◌≡◌, ℕ, ◌+◌, ◌-◌, ◌/◌, ◌%◌, ◌^◌, ◌<◌, ◌≤◌, suc, zero, List, [], ◌∷◌, ◌++◌, length, take, drop, get_or, Option, Some, None, nat_lt, refl, sym, ◌∙◌, ap, arith, bit_and}
 use Rattle.std.specs.List.{flat_map}
-use Rattle.std.proofs.lemmas.List.{drop_more, drop_all, length-drop, take_more, drop-drop}
-use Rattle.std.proofs.Math.Nat.{pow-suc}
+use Rattle.std.proofs.lemmas.List.{drop_more, drop_all, drop-drop}
 use Rattle.std.proofs.lemmas.Nat.Bits.{shr_and_one}
-use Rattle.std.proofs.lemmas.Bool.{cond-true, cond-false, cond_both, cases_lt, lt-ltb, le-ltb, ltb-false}
+use Rattle.std.proofs.lemmas.Bool.{cond-true, cond-false, cond_both, lt-ltb, le-ltb, ltb-false}
 use Rattle.jbig2_base.specs.Bits.{Place, start_of, byte_bits, bits_left, bits_next, bits_on, number_after}
 
 -- the place at byte i and bit k of xs
@@ -100,56 +99,3 @@ unfolding bits_on
 end-on n = sym (cond_both (nat_lt (length (bits_left (start_of []))) n) (start_of []) (record { bytes = drop ((0 + n) / 8) []; bit = (0 + n) % 8 }) (λ q. q ≡ start_of []) (λ _. refl)
     (λ e. let none : n ≡ 0 = omega (arith, ltb-false (length (bits_left (start_of []))) n e, ap length end-bits) in
     ap (λ (m : ℕ). record { bytes = drop ((0 + m) / 8) []; bit = (0 + m) % 8 }) none))
-
-pub bits_on-none : (p : Place) → p.bit < 8 → p ≡ bits_on 0 p
-bits_on-none p h =
-    let same : p.bit ≡ (p.bit + 0) % 8 = omega arith in
-    let none : 0 ≡ (p.bit + 0) / 8 = omega arith in
-    sym (bits_on-enough 0 p (omega arith)
-    ∙ ap (λ (m : ℕ). record { bytes = drop m p.bytes; bit = (p.bit + 0) % 8 }) (sym none)
-    ∙ ap (λ (m : ℕ). record { bytes = p.bytes; bit = m }) (sym same))
-
--- one bit on from n bits on
-pub bits_on-more : (n : ℕ) (p q : Place) → q ≡ bits_on n p → n + 1 ≤ length (bits_left p) → 1 ≤ length (bits_left q) → bits_on 1 q ≡ bits_on (n + 1) p
-bits_on-more n p q e enough one =
-    let r : Place = record { bytes = drop ((p.bit + n) / 8) p.bytes; bit = (p.bit + n) % 8 } in
-    let at : q ≡ r = e ∙ bits_on-enough n p (omega arith) in
-    let bytes : (p.bit + n) / 8 + ((p.bit + n) % 8 + 1) / 8 ≡ (p.bit + (n + 1)) / 8 = omega arith in
-    let bit : ((p.bit + n) % 8 + 1) % 8 ≡ (p.bit + (n + 1)) % 8 = omega arith in
-    bits_on-enough 1 q one
-    ∙ ap (λ (s : Place). record { bytes = drop ((s.bit + 1) / 8) s.bytes; bit = (s.bit + 1) % 8 }) at
-    ∙ ap (λ (ys : List ℕ). record { bytes = ys; bit = ((p.bit + n) % 8 + 1) % 8 }) (drop-drop (((p.bit + n) % 8 + 1) / 8) ((p.bit + n) / 8) p.bytes)
-    ∙ ap (λ (m : ℕ). record { bytes = drop m p.bytes; bit = ((p.bit + n) % 8 + 1) % 8 }) bytes
-    ∙ ap (λ (m : ℕ). record { bytes = drop ((p.bit + (n + 1)) / 8) p.bytes; bit = m }) bit
-    ∙ sym (bits_on-enough (n + 1) p enough)
-
--- a bit was there, or none
-pub bits_next-some : (b : ℕ) (bs : List ℕ) → Some b ≡ bits_next 1 bs → 1 ≤ length bs
-bits_next-some b bs e = ⊎_elim (λ (h : length bs < 1). absurd (let never : Some b ≡ None = e ∙ cond-true (nat_lt (length bs) 1) None (Some (number_after 0 (take 1 bs))) (lt-ltb (length bs) 1 h) in cc)) (λ (h : 1 ≤ length bs). h) (cases_lt (length bs) 1)
-
-pub bits_next-none : (bs : List ℕ) → ◌≡◌ {A = Option ℕ} None (bits_next 1 bs) → length bs ≡ 0
-bits_next-none bs e = ⊎_elim (λ (h : length bs < 1). omega arith) (λ (h : 1 ≤ length bs). absurd (let never : ◌≡◌ {A = Option ℕ} None (Some (number_after 0 (take 1 bs))) = e ∙ cond-false (nat_lt (length bs) 1) None (Some (number_after 0 (take 1 bs))) (le-ltb (length bs) 1 h) in cc)) (cases_lt (length bs) 1)
-
-number_after-push : (front b : ℕ) (xs : List ℕ) → number_after front (xs ++ b ∷ []) ≡ 2 * number_after front xs + b
-number_after-push front b [] = refl
-number_after-push front b (x ∷ xs) = number_after-push (2 * front + x) b xs
-
--- one bit more of a number
-pub value-more : (n b v : ℕ) (bits left : List ℕ) → left ≡ drop n bits → Some b ≡ bits_next 1 left → v ≡ number_after 0 (take n bits) → 2 * v + b ≡ number_after 0 (take (n + 1) bits)
-value-more n b v bits left e some value =
-    let there : 1 ≤ length left = bits_next-some b left some in
-    let inside : n < length bits = omega (arith, ap length e, length-drop n bits) in
-    let first : left ≡ get_or bits n 0 ∷ drop (n + 1) bits = e ∙ drop_more bits n 0 inside in
-    let same : Some b ≡ Some (get_or bits n 0) = some ∙ ap (λ (ys : List ℕ). bits_next 1 ys) first ∙ one_of (get_or bits n 0) (drop (n + 1) bits) in
-    let equal : b ≡ get_or bits n 0 = cc in
-    sym (ap (λ (ys : List ℕ). number_after 0 ys) (take_more bits n 0 inside) ∙ number_after-push 0 (get_or bits n 0) (take n bits) ∙ omega arith)
-
-pub small-more : (v b n : ℕ) → v < 2 ^ n → b < 2 → 2 * v + b < 2 ^ (n + 1)
-small-more v b n small bit = rw (add-one, pow-suc) (omega arith)
-
--- there was no bit behind the first n, so the bits end before more than n
-pub refused : (n more : ℕ) (p q : Place) → bits_left q ≡ drop n (bits_left p) → n < more → ◌≡◌ {A = Option ℕ} None (bits_next 1 (bits_left q)) → bits_on 1 q ≡ bits_on more p
-refused n more p q left fewer none =
-    let over : length (bits_left q) ≡ 0 = bits_next-none (bits_left q) none in
-    let past : length (bits_left p) < more = omega (arith, ap length left, length-drop n (bits_left p)) in
-    bits_on-past 1 q (omega arith) ∙ sym (bits_on-past more p past)

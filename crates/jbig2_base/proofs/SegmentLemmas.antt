@@ -1,9 +1,7 @@
 -- Referred numbers one by one.
-use Rattle.std.proofs.Common.{add-one, ◌≡◌, ℕ, ◌+◌, ◌-◌, ◌*◌, ◌<◌, suc, zero, List, [], ◌∷◌, ◌++◌, drop, length, Option, Some, None, Result, Ok, Bool, true, false, cond, sym, ◌∙◌, ap, arith}
+use Rattle.std.proofs.Common.{◌≡◌, ℕ, ◌+◌, ◌-◌, ◌*◌, ◌<◌, suc, List, [], ◌∷◌, ◌++◌, drop, sym, ◌∙◌, ap, arith}
 use Rattle.std.proofs.lemmas.List.{append_assoc, drop-drop}
-use Rattle.jbig2_base.specs.Answer.{◌>>=◌}
 use Rattle.jbig2_base.specs.Segment.{numbers_in, number_size, coded_number}
-use Rattle.jbig2_base.specs.declared.error.DecodeError.{DecodeError}
 
 -- one number more
 pub numbers_in-more : (own count i : ℕ) (bytes front : List ℕ) → i < count → front ++ numbers_in own (count - i) (drop (i * number_size own) bytes) ≡ (front ++ coded_number own (drop (i * number_size own) bytes) ∷ []) ++ numbers_in own (count - (i + 1)) (drop ((i + 1) * number_size own) bytes)

@@ -1,7 +1,8 @@
 //! A reader of bits and of big-endian numbers over a slice (T.88, 7.1).
-ghost use Rattle.std.specs.Prelude.{◌≡◌, ◌+◌, ◌<◌, ◌≤◌, ◌==◌, drop, length, IfSome, Option, option_map, option_and_then, Some, None, if◌then◌else◌};
+ghost use Rattle.std.specs.Prelude.{◌≡◌, ◌+◌, ◌<◌, ◌≤◌, ◌==◌, drop, length, take, min, IfSome, Option, option_map, option_and_then, Some, None, if◌then◌else◌};
 ghost use Rattle.std.specs.Int.{w8, w16, w32, cast_signed};
-ghost use Rattle.jbig2_base.specs.Bits.{IsAligned, start_of, bits_left, bits_next, bits_on, aligned, bytes_next, bytes_on, number_next, nonzero};
+ghost use Rattle.std.specs.List.{flat_map};
+ghost use Rattle.jbig2_base.specs.Bits.{IsAligned, start_of, bits_left, bits_next, bits_on, aligned, bytes_next, bytes_on, number_next, number_after, byte_bits, nonzero};
 
 use std::marker::Model;
 
@@ -169,6 +170,57 @@ impl<'a> Reader<'a> {
         Some(value)
     }
 
+    /// The bytes that are left as a number, the first eight where there are more, and how many
+    /// these are.
+    fn word(&self) -> (u64, u8)
+        ensures value { result.0 ≡ number_after 0 (flat_map byte_bits (take 8 self.now.bytes)) }
+        ensures count { result.1 ≡ min 8 (length self.now.bytes) }
+    {
+        let bytes = self.tail();
+        if bytes.len() >= 8 {
+            let word = u64::from_be_bytes([
+                bytes[0], bytes[1], bytes[2], bytes[3], bytes[4], bytes[5], bytes[6], bytes[7],
+            ]);
+            return (word, 8);
+        }
+        let mut word = 0;
+        for byte in bytes {
+            word = 256 * word + u64::from(*byte);
+        }
+        (word, bytes.len() as u8)
+    }
+
+    /// The next `count` bits as a number, high bit first; the place stays.
+    pub fn peek_bits(&self, count: u8) -> Option<u32>
+        requires { count ≤ 32 }
+        ensures { result ≡ bits_next count (bits_left self.now) }
+    {
+        if count == 0 {
+            return Some(0);
+        }
+        let (word, bytes) = self.word();
+        let end = self.bit + count;
+        if end > 8 * bytes {
+            return None;
+        }
+        Some(((word >> (8 * bytes - end)) % (1 << count)) as u32)
+    }
+
+    /// Goes over `count` bits, or to the end where fewer are left.
+    pub fn advance(&mut self, count: u8)
+        ensures place { self.new ≡ bits_on count self.old }
+        ensures rest { bits_left self.new ≡ drop count (bits_left self.old) }
+    {
+        let end = usize::from(self.bit) + usize::from(count);
+        if end.div_ceil(8) > self.bytes.len() - self.byte {
+            self.byte = self.bytes.len();
+            self.bit = 0;
+        } else {
+            self.byte += end / 8;
+            self.bit = (end % 8) as u8;
+        }
+    }
+
     /// The next `count` bits as a number, high bit first.
     pub fn read_bits(&mut self, count: u8) -> Option<u32>
         requires { count ≤ 32 }
@@ -176,11 +228,8 @@ impl<'a> Reader<'a> {
         ensures place { self.new ≡ bits_on count self.old }
         ensures rest { bits_left self.new ≡ drop count (bits_left self.old) }
     {
-        let _ = &self.bit;
-        let mut value = 0;
-        for _ in 0..count {
-            value = 2 * value + u32::from(self.read_bit()?);
-        }
-        Some(value)
+        let value = self.peek_bits(count);
+        self.advance(count);
+        value
     }
 }
