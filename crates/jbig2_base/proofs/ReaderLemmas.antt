@@ -10,7 +10,7 @@ use Rattle.jbig2_base.specs.Bits.{Place, start_of, byte_bits, bits_left, bits_ne
 abbrev pub place_in : List ℕ → ℕ → ℕ → Place
 place_in xs i k = record { bytes = drop i xs; bit = k }
 
-bits_at : (b : ℕ) (rest : List ℕ) (k : ℕ) → k < 8 → drop k (byte_bits b ++ rest) ≡ b / 2 ^ (7 - k) % 2 ∷ drop (k + 1) (byte_bits b ++ rest)
+pub bits_at : (b : ℕ) (rest : List ℕ) (k : ℕ) → k < 8 → drop k (byte_bits b ++ rest) ≡ b / 2 ^ (7 - k) % 2 ∷ drop (k + 1) (byte_bits b ++ rest)
 bits_at b rest zero h = refl
 bits_at b rest (suc zero) h = refl
 bits_at b rest (suc (suc zero)) h = refl

@@ -1,5 +1,5 @@
 -- What a table's read gives, from the walk down its levels.
-use Rattle.std.proofs.Common.{◌≡◌, ℕ, ◌+◌, true, false, List, drop, Option, None, Result, Ok, Err, sym, ◌∙◌, ap, arith, ℤ}
+use Rattle.std.proofs.Common.{◌≡◌, ℕ, ◌+◌, true, false, List, drop, Option, None, Result, Ok, Err, refl, sym, subst, ◌∙◌, ap, arith, ℤ}
 use Rattle.std.proofs.lemmas.Bool.{cond-true, cond-false}
 use Rattle.std.proofs.lemmas.List.{drop-drop}
 use Rattle.jbig2_base.specs.Bits.{Place, bits_left, bits_next, bits_on}
@@ -11,9 +11,16 @@ use Rattle.jbig2_coder.specs.inner.PrefixLevels.{walk, groups_of, codes_at}
 use Rattle.jbig2_coder.proofs.PrefixWalk.{walk-reads}
 use Rattle.jbig2_coder.proofs.PrefixReading.{bits_on-add}
 
-decoded-is : (gs : List (List TableLine)) (ms : List Member) (bits : List ℕ) → codes_at 0 0 gs ≡ ms → decoded_value ms bits ≡ valued (walk gs 0 0 bits) bits
+decoded-is : (ms : List Member) (bits : List ℕ) → decoded_value ms bits ≡ valued (read_code ms bits) bits
 unfolding decoded_value
-decoded-is gs ms bits e = ap (λ (r : CodeReading TableLine). valued r bits) (sym (walk-reads gs bits ∙ ap (λ (ns : List Member). read_code ns bits) e))
+decoded-is ms bits = refl
+
+-- a line that is read by the walk
+pub read-line : (gs : List (List TableLine)) (ms : List Member) (a : Result TableLine DecodeError) (p q : Place) → codes_at 0 0 gs ≡ ms → Reads p q a (walk gs 0 0 (bits_left p)) → Reads p q a (read_code ms (bits_left p))
+read-line gs ms a p q view read =
+    let same : walk gs 0 0 (bits_left p) ≡ read_code ms (bits_left p) = walk-reads gs (bits_left p) ∙ ap (λ (ns : List Member). read_code ns (bits_left p)) view in
+    let P : CodeReading TableLine → Type 0 = λ r. Reads p q a r in
+    subst P same read
 
 valued-err : (r : CodeReading TableLine) (bits : List ℕ) (e : DecodeError) → Err e ≡ r.answer → valued r bits ≡ record { answer = Err e; taken = r.taken }
 valued-err r bits e h = ap (λ (a : Result TableLine DecodeError). valued (record { answer = a; taken = r.taken }) bits) (sym h)
@@ -28,30 +35,30 @@ decodes ms a n p q e place rest = record {
   rest = rest ∙ ap (λ (r : CodeReading (Option ℤ)). drop r.taken (bits_left p)) (sym e);
 }
 
-pub decodes-err : (gs : List (List TableLine)) (ms : List Member) (e : DecodeError) (p q : Place) → codes_at 0 0 gs ≡ ms → Reads p q (Err e) (walk gs 0 0 (bits_left p)) → Reads p q (Err e) (decoded_value ms (bits_left p))
-decodes-err gs ms e p q view read =
-    decodes ms (Err e) (walk gs 0 0 (bits_left p)).taken p q (decoded-is gs ms (bits_left p) view ∙ valued-err (walk gs 0 0 (bits_left p)) (bits_left p) e read.value) read.place read.rest
+pub decodes-err : (ms : List Member) (e : DecodeError) (p q : Place) → Reads p q (Err e) (read_code ms (bits_left p)) → Reads p q (Err e) (decoded_value ms (bits_left p))
+decodes-err ms e p q read =
+    decodes ms (Err e) (read_code ms (bits_left p)).taken p q (decoded-is ms (bits_left p) ∙ valued-err (read_code ms (bits_left p)) (bits_left p) e read.value) read.place read.rest
 
-pub decodes-oob : (gs : List (List TableLine)) (ms : List Member) (x : TableLine) (p q : Place) → codes_at 0 0 gs ≡ ms → Reads p q (Ok x) (walk gs 0 0 (bits_left p)) → x.is_out_of_band ≡ true → Reads p q (Ok None) (decoded_value ms (bits_left p))
-decodes-oob gs ms x p q view read oob =
-    let w = walk gs 0 0 (bits_left p) in
+pub decodes-oob : (ms : List Member) (x : TableLine) (p q : Place) → Reads p q (Ok x) (read_code ms (bits_left p)) → x.is_out_of_band ≡ true → Reads p q (Ok None) (decoded_value ms (bits_left p))
+decodes-oob ms x p q read oob =
+    let w = read_code ms (bits_left p) in
     let none : value_after x (drop w.taken (bits_left p)) ≡ Ok None = cond-true x.is_out_of_band (Ok None) (value_by x (bits_next x.range_length (drop w.taken (bits_left p)))) oob in
     let taken : w.taken + range_bits x ≡ w.taken = ap (λ (n : ℕ). w.taken + n) (cond-true x.is_out_of_band 0 x.range_length oob) ∙ (let e : w.taken + 0 ≡ w.taken = omega arith in e) in
     decodes ms (Ok None) w.taken p q
-    (decoded-is gs ms (bits_left p) view ∙ valued-ok w (bits_left p) x read.value
+    (decoded-is ms (bits_left p) ∙ valued-ok w (bits_left p) x read.value
     ∙ ap (λ (a : Result (Option ℤ) DecodeError). record { answer = a; taken = w.taken + range_bits x }) none
     ∙ ap (λ (n : ℕ). record { answer = Ok None; taken = n }) taken)
     read.place read.rest
 
-pub decodes-value : (gs : List (List TableLine)) (ms : List Member) (x : TableLine) (a : Result (Option ℤ) DecodeError) (p q r : Place) → codes_at 0 0 gs ≡ ms → Reads p q (Ok x) (walk gs 0 0 (bits_left p)) → x.is_out_of_band ≡ false → a ≡ value_by x (bits_next x.range_length (bits_left q)) → r ≡ bits_on x.range_length q → bits_left r ≡ drop x.range_length (bits_left q) → Reads p r a (decoded_value ms (bits_left p))
-decodes-value gs ms x a p q r view read oob value place rest =
-    let w = walk gs 0 0 (bits_left p) in
+pub decodes-value : (ms : List Member) (x : TableLine) (a : Result (Option ℤ) DecodeError) (p q r : Place) → Reads p q (Ok x) (read_code ms (bits_left p)) → x.is_out_of_band ≡ false → a ≡ value_by x (bits_next x.range_length (bits_left q)) → r ≡ bits_on x.range_length q → bits_left r ≡ drop x.range_length (bits_left q) → Reads p r a (decoded_value ms (bits_left p))
+decodes-value ms x a p q r read oob value place rest =
+    let w = read_code ms (bits_left p) in
     let some : value_after x (drop w.taken (bits_left p)) ≡ a =
     cond-false x.is_out_of_band (Ok None) (value_by x (bits_next x.range_length (drop w.taken (bits_left p)))) oob
     ∙ sym (value ∙ ap (λ (bs : List ℕ). value_by x (bits_next x.range_length bs)) read.rest) in
     let taken : w.taken + range_bits x ≡ w.taken + x.range_length = ap (λ (n : ℕ). w.taken + n) (cond-false x.is_out_of_band 0 x.range_length oob) in
     decodes ms a (w.taken + x.range_length) p r
-    (decoded-is gs ms (bits_left p) view ∙ valued-ok w (bits_left p) x read.value
+    (decoded-is ms (bits_left p) ∙ valued-ok w (bits_left p) x read.value
     ∙ ap (λ (b : Result (Option ℤ) DecodeError). record { answer = b; taken = w.taken + range_bits x }) some
     ∙ ap (λ (n : ℕ). record { answer = a; taken = n }) taken)
     (place ∙ bits_on-add w.taken x.range_length p q read.place read.rest)

@@ -34,28 +34,28 @@ bits_on-add n m p q e left =
     (cases_lt (length (bits_left q)) m))
     (cases_lt (length (bits_left p)) n)
 
--- Before level i: the walk from here is the walk from the root.
-pub record AtLevel (lines : List TableLine) (levels : List Level) (i node : ℕ) (p q : Place) : Type 0 where
-  pub walks : walk (groups_of lines (drop i levels)) i node (bits_left q) ≡ walk (groups_of lines levels) 0 0 (bits_left p)
+-- Before level i: the walk from here is the walk from the root, or from where it began.
+pub record AtLevel (lines : List TableLine) (levels : List Level) (root i node : ℕ) (p q : Place) : Type 0 where
+  pub walks : walk (groups_of lines (drop i levels)) i node (bits_left q) ≡ walk_of lines levels root (bits_left p)
   pub are : AreLevels lines (drop i levels)
   pub small : node ≤ length lines
   pub place : (n : ℕ) → bits_on n q ≡ bits_on (i + n) p
   pub rest : bits_left q ≡ drop i (bits_left p)
 
-pub at-root : (lines : List TableLine) (levels : List Level) (p : Place) → AreLevels lines levels → AtLevel lines levels 0 0 p p
-at-root lines levels p are = record {
+pub at-root : (lines : List TableLine) (levels : List Level) (root : ℕ) (p : Place) → AreLevels lines levels → root ≤ length lines → AtLevel lines levels root 0 root p p
+at-root lines levels root p are few = record {
   walks = refl;
   are = are;
-  small = omega arith;
+  small = few;
   place = λ n. ap (λ (k : ℕ). bits_on k p) (let e : n ≡ 0 + n = omega arith in e);
   rest = refl;
 }
 
 -- where a read ends with this answer, one bit on
-leaves : (lines : List TableLine) (levels : List Level) (i node : ℕ) (p q r : Place) (a : Result TableLine DecodeError) → AtLevel lines levels i node p q → r ≡ bits_on 1 q → bits_left r ≡ drop 1 (bits_left q) → walk (groups_of lines (drop i levels)) i node (bits_left q) ≡ record { answer = a; taken = i + 1 } → Reads p r a (walk_of lines levels (bits_left p))
-leaves lines levels i node p q r a at place rest ends =
-    let whole : walk (groups_of lines levels) 0 0 (bits_left p) ≡ record { answer = a; taken = i + 1 } = sym at.walks ∙ ends in
-    let taken : (walk (groups_of lines levels) 0 0 (bits_left p)).taken ≡ i + 1 = ap (λ (w : CodeReading TableLine). w.taken) whole in
+leaves : (lines : List TableLine) (levels : List Level) (root i node : ℕ) (p q r : Place) (a : Result TableLine DecodeError) → AtLevel lines levels root i node p q → r ≡ bits_on 1 q → bits_left r ≡ drop 1 (bits_left q) → walk (groups_of lines (drop i levels)) i node (bits_left q) ≡ record { answer = a; taken = i + 1 } → Reads p r a (walk_of lines levels root (bits_left p))
+leaves lines levels root i node p q r a at place rest ends =
+    let whole : walk_of lines levels root (bits_left p) ≡ record { answer = a; taken = i + 1 } = sym at.walks ∙ ends in
+    let taken : (walk_of lines levels root (bits_left p)).taken ≡ i + 1 = ap (λ (w : CodeReading TableLine). w.taken) whole in
     record {
       value = sym (ap (λ (w : CodeReading TableLine). w.answer) whole);
       place = place ∙ at.place 1 ∙ ap (λ (k : ℕ). bits_on k p) (sym taken);
@@ -84,28 +84,28 @@ walk-ends gs i node bits none = ap (λ (bs : List ℕ). walk gs i node bs) (no_b
     at_end (g ∷ gs) = refl
 
 -- no bit is left
-pub leaves-ended : (lines : List TableLine) (levels : List Level) (i node : ℕ) (p q r : Place) → AtLevel lines levels i node p q → r ≡ bits_on 1 q → bits_left r ≡ drop 1 (bits_left q) → ◌≡◌ {A = Option ℕ} None (bits_next 1 (bits_left q)) → Reads p r ((ended {A = TableLine} 0).answer) (walk_of lines levels (bits_left p))
-leaves-ended lines levels i node p q r at place rest none =
-    leaves lines levels i node p q r ((ended {A = TableLine} 0).answer) at place rest (walk-ends (groups_of lines (drop i levels)) i node (bits_left q) none)
+pub leaves-ended : (lines : List TableLine) (levels : List Level) (root i node : ℕ) (p q r : Place) → AtLevel lines levels root i node p q → r ≡ bits_on 1 q → bits_left r ≡ drop 1 (bits_left q) → ◌≡◌ {A = Option ℕ} None (bits_next 1 (bits_left q)) → Reads p r ((ended {A = TableLine} 0).answer) (walk_of lines levels root (bits_left p))
+leaves-ended lines levels root i node p q r at place rest none =
+    leaves lines levels root i node p q r ((ended {A = TableLine} 0).answer) at place rest (walk-ends (groups_of lines (drop i levels)) i node (bits_left q) none)
 
 -- a bit behind the last level
-pub leaves-past : (lines : List TableLine) (levels : List Level) (i node b : ℕ) (p q r : Place) → AtLevel lines levels i node p q → r ≡ bits_on 1 q → bits_left r ≡ drop 1 (bits_left q) → Some b ≡ bits_next 1 (bits_left q) → length levels ≤ i → Reads p r ((refused {A = TableLine} 0).answer) (walk_of lines levels (bits_left p))
-leaves-past lines levels i node b p q r at place rest some past =
+pub leaves-past : (lines : List TableLine) (levels : List Level) (root i node b : ℕ) (p q r : Place) → AtLevel lines levels root i node p q → r ≡ bits_on 1 q → bits_left r ≡ drop 1 (bits_left q) → Some b ≡ bits_next 1 (bits_left q) → length levels ≤ i → Reads p r ((refused {A = TableLine} 0).answer) (walk_of lines levels root (bits_left p))
+leaves-past lines levels root i node b p q r at place rest some past =
     let none : drop i levels ≡ [] = drop_all i levels past in
-    leaves lines levels i node p q r ((refused {A = TableLine} 0).answer) at place rest
+    leaves lines levels root i node p q r ((refused {A = TableLine} 0).answer) at place rest
     (ap (λ (vs : List Level). walk (groups_of lines vs) i node (bits_left q)) none ∙ ap (λ (bs : List ℕ). walk [] i node bs) (first_bit b (bits_left q) some))
 
-get-take : (n e : ℕ) (xs : List TableLine) (d : TableLine) → e < n → e < length xs → slice_get (take n xs) e ≡ Some (get_or xs e d)
+pub get-take : (n e : ℕ) (xs : List TableLine) (d : TableLine) → e < n → e < length xs → slice_get (take n xs) e ≡ Some (get_or xs e d)
 get-take zero e xs d h inside = absurd (omega arith)
 get-take (suc n) e [] d h inside = absurd (omega arith)
 get-take (suc n) zero (x ∷ xs) d h inside = refl
 get-take (suc n) (suc e) (x ∷ xs) d h inside = get-take n e xs d (omega arith) (omega arith)
 
-group-size : (lines : List TableLine) (v : Level) → v.first + v.count ≤ length lines → length (take v.count (drop v.first lines)) ≡ v.count
+pub group-size : (lines : List TableLine) (v : Level) → v.first + v.count ≤ length lines → length (take v.count (drop v.first lines)) ≡ v.count
 group-size lines v h = length-take-le v.count (drop v.first lines) (omega (arith, length-drop v.first lines))
 
 -- the level that the code reads is the next one
-level-next : (lines : List TableLine) (levels : List Level) (i : ℕ) (d : Level) → i < length levels → AreLevels lines (drop i levels) → AreLevels lines (get_or levels i d ∷ drop (i + 1) levels)
+pub level-next : (lines : List TableLine) (levels : List Level) (i : ℕ) (d : Level) → i < length levels → AreLevels lines (drop i levels) → AreLevels lines (get_or levels i d ∷ drop (i + 1) levels)
 level-next lines levels i d inside are = let P : List Level → Type 0 = λ vs. AreLevels lines vs in subst P (drop_more levels i d inside) are
 
 walk-next : (lines : List TableLine) (levels : List Level) (i node b : ℕ) (bits : List ℕ) (d : Level) → i < length levels → Some b ≡ bits_next 1 bits → walk (groups_of lines (drop i levels)) i node bits ≡ walk (groups_of lines (get_or levels i d ∷ drop (i + 1) levels)) i node (b ∷ drop 1 bits)
@@ -113,17 +113,17 @@ walk-next lines levels i node b bits d inside some =
     ap (λ (vs : List Level). walk (groups_of lines vs) i node bits) (drop_more levels i d inside)
     ∙ ap (λ (bs : List ℕ). walk (groups_of lines (get_or levels i d ∷ drop (i + 1) levels)) i node bs) (first_bit b bits some)
 
-abbrev child-of : List Level → ℕ → ℕ → ℕ → Level → ℕ
+abbrev pub child-of : List Level → ℕ → ℕ → ℕ → Level → ℕ
 child-of levels i node b d = 2 * node + b - (get_or levels i d).count
 
 -- the walk where the child is no line of the level
-abbrev turned : List TableLine → List Level → ℕ → ℕ → ℕ → List ℕ → Level → CodeReading TableLine
+abbrev pub turned : List TableLine → List Level → ℕ → ℕ → ℕ → List ℕ → Level → CodeReading TableLine
 turned lines levels i node b bits d =
     let v = get_or levels i d in
     let g = take v.count (drop v.first lines) in
     cond (ltb (2 * node + b - length g) (nodes (groups_of lines (drop (i + 1) levels)))) (walk (groups_of lines (drop (i + 1) levels)) (i + 1) (2 * node + b - length g) bits) (refused (i + 1))
 
-not_found : (lines : List TableLine) (levels : List Level) (i node b : ℕ) (bits : List ℕ) (d : Level) → AreLevels lines (get_or levels i d ∷ drop (i + 1) levels) → (get_or levels i d).count ≤ 2 * node + b → walk (groups_of lines (get_or levels i d ∷ drop (i + 1) levels)) i node (b ∷ bits) ≡ cond (ltb (child-of levels i node b d) (get_or levels i d).nodes) (walk (groups_of lines (drop (i + 1) levels)) (i + 1) (child-of levels i node b d) bits) (refused (i + 1))
+pub not_found : (lines : List TableLine) (levels : List Level) (i node b : ℕ) (bits : List ℕ) (d : Level) → AreLevels lines (get_or levels i d ∷ drop (i + 1) levels) → (get_or levels i d).count ≤ 2 * node + b → walk (groups_of lines (get_or levels i d ∷ drop (i + 1) levels)) i node (b ∷ bits) ≡ cond (ltb (child-of levels i node b d) (get_or levels i d).nodes) (walk (groups_of lines (drop (i + 1) levels)) (i + 1) (child-of levels i node b d) bits) (refused (i + 1))
 not_found lines levels i node b bits d are past =
     let v = get_or levels i d in
     let g = take v.count (drop v.first lines) in
@@ -134,28 +134,28 @@ not_found lines levels i node b bits d are past =
     ∙ ap (λ (n : ℕ). cond (ltb (child-of levels i node b d) n) (walk (groups_of lines (drop (i + 1) levels)) (i + 1) (child-of levels i node b d) bits) (refused (i + 1))) (sym are.1)
 
 -- the child is a line of the level
-pub leaves-found : (lines : List TableLine) (levels : List Level) (i node b : ℕ) (p q r : Place) (d : Level) (x : TableLine) → AtLevel lines levels i node p q → r ≡ bits_on 1 q → bits_left r ≡ drop 1 (bits_left q) → Some b ≡ bits_next 1 (bits_left q) → i < length levels → 2 * node + b < (get_or levels i d).count → Reads p r (Ok (get_or lines ((get_or levels i d).first + (2 * node + b)) x)) (walk_of lines levels (bits_left p))
-leaves-found lines levels i node b p q r d x at place rest some inside found =
+pub leaves-found : (lines : List TableLine) (levels : List Level) (root i node b : ℕ) (p q r : Place) (d : Level) (x : TableLine) → AtLevel lines levels root i node p q → r ≡ bits_on 1 q → bits_left r ≡ drop 1 (bits_left q) → Some b ≡ bits_next 1 (bits_left q) → i < length levels → 2 * node + b < (get_or levels i d).count → Reads p r (Ok (get_or lines ((get_or levels i d).first + (2 * node + b)) x)) (walk_of lines levels root (bits_left p))
+leaves-found lines levels root i node b p q r d x at place rest some inside found =
     let v = get_or levels i d in
     let e = 2 * node + b in
     let are = level-next lines levels i d inside at.are in
     let within : e < length (drop v.first lines) = omega (arith, length-drop v.first lines) in
-    leaves lines levels i node p q r (Ok (get_or lines (v.first + e) x)) at place rest
+    leaves lines levels root i node p q r (Ok (get_or lines (v.first + e) x)) at place rest
     (walk-next lines levels i node b (bits_left q) d inside some
     ∙ ap (λ (o : Option TableLine). found_or o (i + 1) (turned lines levels i node b (drop 1 (bits_left q)) d)) (get-take v.count e (drop v.first lines) x found within ∙ ap (λ (y : TableLine). Some y) (get_or-drop v.first lines e x)))
 
 -- the child begins no code
-pub leaves-refused : (lines : List TableLine) (levels : List Level) (i node b : ℕ) (p q r : Place) (d : Level) → AtLevel lines levels i node p q → r ≡ bits_on 1 q → bits_left r ≡ drop 1 (bits_left q) → Some b ≡ bits_next 1 (bits_left q) → i < length levels → (get_or levels i d).count ≤ 2 * node + b → (get_or levels i d).nodes ≤ 2 * node + b - (get_or levels i d).count → Reads p r ((refused {A = TableLine} 0).answer) (walk_of lines levels (bits_left p))
-leaves-refused lines levels i node b p q r d at place rest some inside past none =
+pub leaves-refused : (lines : List TableLine) (levels : List Level) (root i node b : ℕ) (p q r : Place) (d : Level) → AtLevel lines levels root i node p q → r ≡ bits_on 1 q → bits_left r ≡ drop 1 (bits_left q) → Some b ≡ bits_next 1 (bits_left q) → i < length levels → (get_or levels i d).count ≤ 2 * node + b → (get_or levels i d).nodes ≤ 2 * node + b - (get_or levels i d).count → Reads p r ((refused {A = TableLine} 0).answer) (walk_of lines levels root (bits_left p))
+leaves-refused lines levels root i node b p q r d at place rest some inside past none =
     let are = level-next lines levels i d inside at.are in
-    leaves lines levels i node p q r ((refused {A = TableLine} 0).answer) at place rest
+    leaves lines levels root i node p q r ((refused {A = TableLine} 0).answer) at place rest
     (walk-next lines levels i node b (bits_left q) d inside some
     ∙ not_found lines levels i node b (drop 1 (bits_left q)) d are past
     ∙ cond-false (ltb (child-of levels i node b d) (get_or levels i d).nodes) (walk (groups_of lines (drop (i + 1) levels)) (i + 1) (child-of levels i node b d) (drop 1 (bits_left q))) (refused (i + 1)) (le-ltb (child-of levels i node b d) (get_or levels i d).nodes none))
 
 -- the child is a node of the next depth
-pub at-next : (lines : List TableLine) (levels : List Level) (i node b : ℕ) (p q r : Place) (d : Level) → AtLevel lines levels i node p q → r ≡ bits_on 1 q → bits_left r ≡ drop 1 (bits_left q) → Some b ≡ bits_next 1 (bits_left q) → i < length levels → (get_or levels i d).count ≤ 2 * node + b → 2 * node + b - (get_or levels i d).count < (get_or levels i d).nodes → AtLevel lines levels (i + 1) (2 * node + b - (get_or levels i d).count) p r
-at-next lines levels i node b p q r d at place rest some inside past more =
+pub at-next : (lines : List TableLine) (levels : List Level) (root i node b : ℕ) (p q r : Place) (d : Level) → AtLevel lines levels root i node p q → r ≡ bits_on 1 q → bits_left r ≡ drop 1 (bits_left q) → Some b ≡ bits_next 1 (bits_left q) → i < length levels → (get_or levels i d).count ≤ 2 * node + b → 2 * node + b - (get_or levels i d).count < (get_or levels i d).nodes → AtLevel lines levels root (i + 1) (2 * node + b - (get_or levels i d).count) p r
+at-next lines levels root i node b p q r d at place rest some inside past more =
     let are = level-next lines levels i d inside at.are in
     let c = child-of levels i node b d in
     record {

@@ -1,4 +1,5 @@
 pub mod EncoderViews
+pub mod FirstCodes
 pub mod Floor
 pub mod PrefixLevels
 pub mod Stands

@@ -2,20 +2,22 @@
 ghost use Rattle.std.specs.Prelude.{◌≡◌, ◌≤◌, ◌^◌, drop, IfOk, Ok};
 ghost use Rattle.jbig2_base.specs.Answer.{Gives, Leaves};
 ghost use Rattle.jbig2_base.specs.Bits.{bits_left};
-ghost use Rattle.jbig2_coder.specs.PrefixCode.{table_of, decoded_value, without_oob, AreShort, IsFree, Reads};
+ghost use Rattle.jbig2_coder.specs.PrefixCode.{table_of, read_code, decoded_value, without_oob, AreShort, IsFree, Reads};
 ghost use Rattle.jbig2_coder.specs.FreeTables.{TablesAreFree};
 ghost use Rattle.jbig2_coder.specs.Tables.{uniform};
 ghost use Rattle.jbig2_coder.specs.CustomTable.{custom_table};
 
 mod custom;
+mod first_table;
 mod levels;
 mod line;
 mod standard;
 
 use custom::read_lines;
+use first_table::FirstTable;
 use jbig2_base::error::{DecodeError, HuffmanError, Result};
 use jbig2_base::reader::Reader;
-use levels::{Level, longest, push_level, read_line};
+use levels::{Level, longest, push_level};
 pub use line::TableLine;
 pub use standard::{StandardHuffmanTables, standard_lines};
 use std::alloc::Allocator;
@@ -29,18 +31,20 @@ const ROOTS: usize = 1;
 pub struct HuffmanTable<A: Allocator> {
     lines: Vec<TableLine, A>,
     levels: Vec<Level, A>,
+    first: FirstTable,
 }
 
 impl<A: Allocator> Model for HuffmanTable<A> {
     ghost use Rattle.std.specs.Prelude.{List};
     ghost use Rattle.jbig2_coder.specs.PrefixCode.{Member, AreShort};
     ghost use Rattle.jbig2_coder.specs.inner.PrefixLevels.{groups_of, codes_at, AreLevels};
+    ghost use Rattle.jbig2_coder.specs.inner.FirstCodes.{AreFirst};
 
     ghost Value = { List Member };
 
     ghost view = { λ t. codes_at 0 0 (groups_of t.lines.items t.levels.items) };
 
-    ghost invariant = { λ t. AreLevels t.lines.items t.levels.items × AreShort t.lines.items };
+    ghost invariant = { λ t. AreLevels t.lines.items t.levels.items × AreShort t.lines.items × AreFirst t.lines.items t.levels.items t.first };
 }
 
 impl<A: Allocator + Clone> HuffmanTable<A> {
@@ -56,10 +60,11 @@ impl<A: Allocator + Clone> HuffmanTable<A> {
         ensures free { IfOk result IsFree }
         ensures law { TablesAreFree }
     {
-        let mut sorted = Vec::new(alloc.clone()?);
-        let mut levels = Vec::new(alloc);
+        let depths = longest(lines);
+        let mut sorted = Vec::with_capacity(alloc.clone()?, lines.len())?;
+        let mut levels = Vec::with_capacity(alloc, usize::from(depths))?;
         let mut nodes = 0;
-        for depth in (0..longest(lines)).rev() {
+        for depth in (0..depths).rev() {
             let first = sorted.len();
             push_level(lines, depth + 1, &mut sorted)?;
             let count = sorted.len() - first;
@@ -74,9 +79,11 @@ impl<A: Allocator + Clone> HuffmanTable<A> {
             return Err(DecodeError::Huffman(HuffmanError::InvalidCode));
         }
         levels.reverse();
+        let first = FirstTable::new(&sorted, &levels);
         Ok(HuffmanTable {
             lines: sorted,
             levels,
+            first,
         })
     }
 
@@ -108,6 +115,15 @@ impl<A: Allocator + Clone> HuffmanTable<A> {
 }
 
 impl<A: Allocator> HuffmanTable<A> {
+    /// Reads a code: its line, or the end of the bits, or an invalid code at the first bits that
+    /// begin none.
+    fn read_line(&self, reader: &mut Reader<'_>) -> Result<TableLine>
+        ensures reads { Reads reader.old reader.new result (read_code self.now (bits_left reader.old)) }
+        ensures short { IfOk result (λ line. line.range_length ≤ 32) }
+    {
+        self.first.read_line(&self.lines, &self.levels, reader)
+    }
+
     /// Reads a code and its range bits (B.4): the value, or None for out of band.
     ///
     /// Bits that end in the code are an unexpected end; the first bits that begin no code, range
@@ -115,7 +131,7 @@ impl<A: Allocator> HuffmanTable<A> {
     pub fn decode(&self, reader: &mut Reader<'_>) -> Result<Option<i32>>
         ensures { Reads reader.old reader.new result (decoded_value self.now (bits_left reader.old)) }
     {
-        let line = read_line(&self.lines, &self.levels, reader)?;
+        let line = self.read_line(reader)?;
         if line.is_out_of_band {
             return Ok(None);
         }

@@ -37,6 +37,8 @@ fn bits_and_bytes_are_read(rt: HostRuntime) {
     let mut reader = Reader::new(&bytes);
     assert_eq!(rt; reader.read_bit(), Some(1));
     assert_eq!(rt; reader.read_bits(2), Some(0b01));
+    assert_eq!(rt; reader.peek_bits(13), Some(1));
+    reader.advance(1);
     reader.align();
     assert_eq!(rt; reader.read_nonzero_byte(), Some(1));
     assert_eq!(rt; reader.read_u16(), Some(2));
@@ -50,6 +52,7 @@ fn bits_and_bytes_are_read(rt: HostRuntime) {
     assert!(rt; !reader.at_end());
     assert_eq!(rt; reader.read_bits(8), Some(6));
     assert!(rt; reader.at_end());
+    assert_eq!(rt; reader.peek_bits(1), None);
 }
 
 #[test]

@@ -132,6 +132,19 @@ fn out_of_band(rt: HostRuntime) -> Result<(), Fail> {
     Ok(())
 }
 
+// Codes of nine bits (T.88, table B.8), and one that the end cuts off.
+#[test]
+fn codes_longer_than_a_byte(rt: HostRuntime) -> Result<(), Fail> {
+    let tables = standard_tables(rt.alloc())?;
+    assert_eq!(rt; decoded(tables.table_h(), &[0xFE, 0x80]), Ok(Some(-3)));
+    assert_eq!(rt; decoded(tables.table_h(), &[0xFE, 0x40]), Ok(Some(-6)));
+    assert_eq!(rt;
+        decoded(tables.table_h(), &[0xFE]),
+        Err(DecodeError::Parse(ParseError::UnexpectedEof))
+    );
+    Ok(())
+}
+
 // The shortest code of zeros, and range bits of zero.
 #[test]
 fn first_value_of_each_standard_table(rt: HostRuntime) -> Result<(), Fail> {

@@ -49,9 +49,9 @@ walk (g ∷ gs) k d (b ∷ bits) =
     found_or (slice_get g (2 * d + b)) (k + 1)
     (if nat_lt (2 * d + b - length g) (nodes gs) then walk gs (k + 1) (2 * d + b - length g) bits else refused (k + 1))
 
--- the walk from the root down the levels
-abbrev pub walk_of : List TableLine → List Level → List ℕ → CodeReading TableLine
-walk_of lines levels bits = walk (groups_of lines levels) 0 0 bits
+-- the walk from a node down the levels
+abbrev pub walk_of : List TableLine → List Level → ℕ → List ℕ → CodeReading TableLine
+walk_of lines levels node bits = walk (groups_of lines levels) 0 node bits
 
 -- levels that lie within the lines and have the right numbers of nodes
 abbrev pub AreLevels : List TableLine → List Level → Type 0

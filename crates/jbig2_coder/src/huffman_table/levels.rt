@@ -1,5 +1,5 @@
 //! The levels of a table: the lines of each prefix length, and the inner nodes of the code's tree.
-ghost use Rattle.std.specs.Prelude.{◌≡◌, ◌++◌, OnOk, IfErr, IfOk, ◌≤◌};
+ghost use Rattle.std.specs.Prelude.{◌≡◌, ◌++◌, OnOk, IfErr, IfOk, ◌≤◌, length};
 ghost use Rattle.jbig2_base.specs.Bits.{bits_left};
 ghost use Rattle.jbig2_coder.specs.PrefixCode.{longest, level, AreShort, Reads};
 ghost use Rattle.jbig2_coder.specs.inner.PrefixLevels.{walk_of, AreLevels};
@@ -49,19 +49,21 @@ pub(super) fn push_level<A: Allocator>(
     Ok(())
 }
 
-/// Reads a code, bit by bit down the levels: its line, or the end of the bits, or an invalid code
-/// at the first bits that begin none.
+/// Reads a code, bit by bit from a node down the levels: its line, or the end of the bits, or an
+/// invalid code at the first bits that begin none.
 pub(super) fn read_line(
     lines: &[TableLine],
     levels: &[Level],
+    node: usize,
     reader: &mut Reader<'_>,
 ) -> Result<TableLine>
     requires levels { AreLevels lines.now levels.now }
+    requires node { node ≤ length lines.now }
     requires short { AreShort lines.now }
-    ensures reads { Reads reader.old reader.new result (walk_of lines.now levels.now (bits_left reader.old)) }
+    ensures reads { Reads reader.old reader.new result (walk_of lines.now levels.now node (bits_left reader.old)) }
     ensures short { IfOk result (λ line. line.range_length ≤ 32) }
 {
-    let mut node = 0;
+    let mut node = node;
     for level in levels {
         let Some(bit) = reader.read_bit() else {
             return Err(DecodeError::Parse(ParseError::UnexpectedEof));

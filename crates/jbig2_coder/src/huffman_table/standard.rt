@@ -310,7 +310,7 @@ impl<A: Allocator + Clone> StandardHuffmanTables<A> {
     pub fn new(alloc: A) -> Result<StandardHuffmanTables<A>>
         ensures { IfErr result (λ e. e ≡ DecodeError.OutOfMemory) }
     {
-        let mut tables = Vec::new(alloc.clone()?);
+        let mut tables = Vec::with_capacity(alloc.clone()?, 15)?;
         for index in 0..15 {
             tables.push(HuffmanTable::build(alloc.clone()?, standard_lines(index))?)?;
         }
