@@ -1,6 +1,7 @@
 pub mod BitFieldLemmas
 pub mod BitLemmas
 mod BlockLemmas
+pub mod Causes
 pub mod ColourLemmas
 mod CombineLemmas
 mod CountLemmas
