@@ -14,18 +14,23 @@ takes_decision coding w h r =
 -- how many of the next n pixels do
 unfoldable pub decided_pixels : Coding → ℕ → ℕ → List ℕ → ℕ → Region → ℕ
 decided_pixels coding w h bytes zero r = 0
-decided_pixels coding w h bytes (suc n) r = decided_pixels coding w h bytes n r + bit_number (takes_decision coding w h (after_pixels coding w h bytes n r))
+decided_pixels coding w h bytes (suc n) r =
+    decided_pixels coding w h bytes n r
+    + bit_number (takes_decision coding w h (after_pixels coding w h bytes n r))
 
 -- how many of the first n rows' pixels do
 unfoldable pub decided_rows : Coding → ℕ → ℕ → List ℕ → ℕ → Region → ℕ
 decided_rows coding w h bytes zero r = 0
-decided_rows coding w h bytes (suc n) r = decided_rows coding w h bytes n r + decided_pixels coding w h bytes w (row_begun coding.row_context bytes (after_rows coding w h bytes n r))
+decided_rows coding w h bytes (suc n) r =
+    decided_rows coding w h bytes n r
+    + decided_pixels coding w h bytes w (row_begun coding.row_context bytes (after_rows coding w h bytes n r))
 
 -- What a region of w columns and h rows takes: one decision for each pixel that takes one, and one for each row that
 -- begins with one; no run test; at most one word a pixel, and so many loads a row. An empty region takes no step.
 pub record CountsDecided (coding : Coding) (row_loads : ℕ) (w h : ℕ) (bytes : List ℕ) (start : Region) (before after : Counts) : Type 0 where
   pub empty : w * h ≡ 0 → after ≡ before
-  pub decisions : 1 ≤ w → after.decisions ≡ before.decisions + (h * row_decisions coding.row_context + decided_rows coding w h bytes h start)
+  pub decisions : 1 ≤ w →
+      after.decisions ≡ before.decisions + (h * row_decisions coding.row_context + decided_rows coding w h bytes h start)
   pub run_tests : after.run_tests ≡ before.run_tests
   pub words : after.words ≤ before.words + h * w
   pub loads : after.loads ≤ before.loads + h * row_loads

@@ -30,4 +30,7 @@ refinement_loads template a w = if is_nominal template a then window_loads w els
 -- those of a region whose header is read
 abbrev pub CountsRefined : RefinementHeader → PlacedRegion → Counts → Counts → Type 0
 CountsRefined h from before after =
-    CountsDecided (refinement_coding h.template h.tpgron h.adaptive_template_pixels (reference_of h from)) (refinement_loads h.template h.adaptive_template_pixels h.region_info.width) h.region_info.width h.region_info.height h.bytes (no_pixels (initial_registers h.bytes) (fresh_contexts (refinement_bits h.template))) before after
+    CountsDecided (refinement_coding h.template h.tpgron h.adaptive_template_pixels (reference_of h from))
+    (refinement_loads h.template h.adaptive_template_pixels h.region_info.width)
+    h.region_info.width h.region_info.height h.bytes
+    (no_pixels (initial_registers h.bytes) (fresh_contexts (refinement_bits h.template))) before after

@@ -46,7 +46,8 @@ fn decode_pixel<L: Ledger>(
     requires nine { nine < 512 }
     requires four { four < 16 }
     requires contexts { length contexts.old ≡ 2 ^ refinement_bits template }
-    ensures takes { Takes (known_of predicted nine) (context_of template nine four) decoder.old contexts.old steps.old result decoder.new contexts.new steps.new }
+    ensures takes { Takes (known_of predicted nine) (context_of template nine four)
+        decoder.old contexts.old steps.old result decoder.new contexts.new steps.new }
     ensures digit { result < 2 }
     ensures contexts { length contexts.new ≡ length contexts.old }
 {
@@ -81,14 +82,16 @@ fn decode_block<A: Allocator, B: Allocator, L: Ledger>(
     requires heights { bitmap.old.height ≤ 65535 }
     requires left { IsLeft bitmap.old x row.y left }
     requires small { left < 16 }
-    ensures holds { Codes (windowed_coding coding.now) row.predicted x row.y count bitmap.old decoder.old contexts.old bitmap.new decoder.new contexts.new }
+    ensures holds { Codes (windowed_coding coding.now) row.predicted x row.y count
+        bitmap.old decoder.old contexts.old bitmap.new decoder.new contexts.new }
     ensures left { IsLeft bitmap.new (x + count) row.y result }
     ensures small { result < 16 }
     ensures width { bitmap.new.width ≡ bitmap.old.width }
     ensures height { bitmap.new.height ≡ bitmap.old.height }
     ensures bytes { decoder.new.bytes ≡ decoder.old.bytes }
     ensures contexts { length contexts.new ≡ length contexts.old }
-    ensures decisions { CountsCodes (windowed_coding coding.now) row.predicted x row.y count bitmap.old decoder.old contexts.old steps.old.decisions steps.new.decisions }
+    ensures decisions { CountsCodes (windowed_coding coding.now) row.predicted x row.y count
+        bitmap.old decoder.old contexts.old steps.old.decisions steps.new.decisions }
     ensures run_tests { steps.new.run_tests ≡ steps.old.run_tests }
     ensures loads { steps.new.loads ≡ steps.old.loads + 4 }
     ensures words { steps.new.words ≡ steps.old.words + 1 }
@@ -127,12 +130,14 @@ fn decode_row<A: Allocator, B: Allocator, L: Ledger>(
     requires row { row.y < bitmap.old.height }
     requires widths { bitmap.old.width ≤ 65535 }
     requires heights { bitmap.old.height ≤ 65535 }
-    ensures holds { Codes (windowed_coding coding.now) row.predicted 0 row.y bitmap.old.width bitmap.old decoder.old contexts.old bitmap.new decoder.new contexts.new }
+    ensures holds { Codes (windowed_coding coding.now) row.predicted 0 row.y bitmap.old.width
+        bitmap.old decoder.old contexts.old bitmap.new decoder.new contexts.new }
     ensures width { bitmap.new.width ≡ bitmap.old.width }
     ensures height { bitmap.new.height ≡ bitmap.old.height }
     ensures bytes { decoder.new.bytes ≡ decoder.old.bytes }
     ensures contexts { length contexts.new ≡ length contexts.old }
-    ensures decisions { CountsCodes (windowed_coding coding.now) row.predicted 0 row.y bitmap.old.width bitmap.old decoder.old contexts.old steps.old.decisions steps.new.decisions }
+    ensures decisions { CountsCodes (windowed_coding coding.now) row.predicted 0 row.y bitmap.old.width
+        bitmap.old decoder.old contexts.old steps.old.decisions steps.new.decisions }
     ensures run_tests { steps.new.run_tests ≡ steps.old.run_tests }
     ensures loads { steps.new.loads ≤ steps.old.loads + window_loads bitmap.old.width }
     ensures words { steps.new.words ≤ steps.old.words + bitmap.old.width }
@@ -169,8 +174,11 @@ pub fn decode_windowed<A: Allocator, B: Allocator, L: Ledger>(
     steps: &mut Steps<L>,
 )
     requires { IsReady (refinement_bits coding.now.template) bitmap.old contexts.old }
-    ensures holds { DecodesRegion (windowed_coding coding.now) bitmap.old decoder.old contexts.old bitmap.new decoder.new contexts.new }
-    ensures steps { CountsDecided (windowed_coding coding.now) (window_loads bitmap.old.width) bitmap.old.width bitmap.old.height decoder.old.bytes (no_pixels decoder.old.registers contexts.old) steps.old steps.new }
+    ensures holds { DecodesRegion (windowed_coding coding.now)
+        bitmap.old decoder.old contexts.old bitmap.new decoder.new contexts.new }
+    ensures steps { CountsDecided (windowed_coding coding.now)
+        (window_loads bitmap.old.width) bitmap.old.width bitmap.old.height decoder.old.bytes
+        (no_pixels decoder.old.registers contexts.old) steps.old steps.new }
 {
     if bitmap.width() == 0 {
         return;

@@ -37,8 +37,10 @@ pub fn region_0(a: &[AdaptiveTemplatePixel; 2]) -> [AdaptiveTemplatePixel; 4]
 /// none.
 pub fn is_nominal(template: RefinementTemplate, a: &[AdaptiveTemplatePixel; 2]) -> bool
     ensures value { result ≡ is_nominal template a.now }
-    ensures reference { result ≡ true → reference_pixels template a.now ≡ reference_pixels template corners }
-    ensures region { result ≡ true → region_pixels template a.now ≡ region_pixels template corners }
+    ensures reference { result ≡ true
+        → reference_pixels template a.now ≡ reference_pixels template corners }
+    ensures region { result ≡ true
+        → region_pixels template a.now ≡ region_pixels template corners }
 {
     match template {
         RefinementTemplate::Template0 => lies_at(a[0], -1, -1) && lies_at(a[1], -1, -1),
