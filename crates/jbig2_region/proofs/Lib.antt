@@ -2,6 +2,7 @@ pub mod ContextBits
 pub mod ContextLemmas
 pub mod CountLemmas
 pub mod GenericLemmas
+pub mod GroupLemmas
 pub mod PixelLemmas
 pub mod RasterLemmas
 pub mod RefinementLemmas

@@ -249,15 +249,12 @@ pub run-of : (template : List AdaptiveTemplatePixel) (w h : ℕ) (input : List �
 unfolding is_run_of is_run_for
 run-of template w h input r c = refl
 
--- a run as long as that of the kernel's test, or shorter
-pub run-made : (n : Neighbours) (m all : ℕ) (c : Bool) (left : ℕ) (v : Windows) (w h x y seen : ℕ) (r : Region) (grid : Grid) (d : Coder) (s : List Context) → IsNear n → m ≤ all → all ≤ 32 → all + 12 ≤ seen → length r.pixels ≡ y * w + x → x + all < w → y < h → Shows grid x y seen v → IsLeft grid x y left → Holds w h d.bytes r grid d s
-    → neighbours_stay n all c left v ≡ true → same_colour c (get_or s (all_of (nominal_pixels n) c) fresh).likely ≡ true → all_quiet m d.bytes d.registers (get_or s (all_of (nominal_pixels n) c) fresh) ≡ true → is_run_for (nominal_pixels n) w h d.bytes r c m ≡ true
+-- a run as long as the next contexts stay, or shorter
+pub run-made : (n : Neighbours) (m all : ℕ) (c : Bool) (w h : ℕ) (r : Region) (grid : Grid) (d : Coder) (s : List Context) → m ≤ all → Holds w h d.bytes r grid d s → stays (nominal_pixels n) w h c all r.pixels ≡ true
+    → same_colour c (get_or s (all_of (nominal_pixels n) c) fresh).likely ≡ true → all_quiet m d.bytes d.registers (get_or s (all_of (nominal_pixels n) c) fresh) ≡ true → is_run_for (nominal_pixels n) w h d.bytes r c m ≡ true
 unfolding is_run_for
-run-made n m all c left v w h x y seen r grid d s near few most wide len within above shows before holds is colour quiet =
+run-made n m all c w h r grid d s few holds whole colour quiet =
     let template : List AdaptiveTemplatePixel = nominal_pixels n in
-    let now : Shows (so_far w h r.pixels) x y seen v = subst (λ (g : Grid). Shows g x y seen v) holds.pixels shows in
-    let then : IsLeft (so_far w h r.pixels) x y left = subst (λ (g : Grid). IsLeft g x y left) holds.pixels before in
-    let whole : stays template w h c all r.pixels ≡ true = sym (stays-is n all c left v w h x y seen r.pixels near most wide len within above now then) ∙ is in
     let quiet_here : all_quiet m d.bytes r.registers (get_or s (all_of template c) fresh) ≡ true = subst (λ (q : Registers). all_quiet m d.bytes q (get_or s (all_of template c) fresh) ≡ true) holds.registers quiet in
     and_from _ _ (stays-from template w h c m r.pixels (λ k le. stays-gives template w h c all r.pixels k whole (omega arith)))
     (and_from _ _ (subst (λ (l : List Context). same_colour c (get_or l (all_of template c) fresh).likely ≡ true) holds.contexts colour)

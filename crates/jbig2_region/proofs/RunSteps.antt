@@ -119,7 +119,7 @@ same-symbol false false e = refl
 abbrev pub ran : List AdaptiveTemplatePixel → Bool → ℕ → Region → Region
 ran template c k r = record { pixels = r.pixels ++ replicate k c; predicted = false; registers = lowered r.registers (k * (row_of (get_or r.contexts (all_of template c) fresh).row).qe); contexts = r.contexts }
 
-run-length : (bits : List Bool) (c : Bool) (k y w x : ℕ) → length bits ≡ y * w + x → length (bits ++ replicate k c) ≡ y * w + (x + k)
+pub run-length : (bits : List Bool) (c : Bool) (k y w x : ℕ) → length bits ≡ y * w + x → length (bits ++ replicate k c) ≡ y * w + (x + k)
 run-length bits c k y w x len = length-append bits (replicate k c) ∙ rw (length-replicate k c, len) (omega arith)
 
 -- a quiet decision on the region so far

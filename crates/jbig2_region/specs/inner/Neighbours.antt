@@ -1,5 +1,5 @@
 -- Templates of generic regions as neighbours that lie side by side, with adaptive pixels between them (our own rule).
-use Rattle.std.specs.Prelude.{◌≡◌, ◌==◌, ℕ, zero, suc, ◌+◌, ◌-◌, ◌*◌, ◌/◌, ◌%◌, ◌^◌, ◌<◌, ◌≤◌, ℤ, pos, negsuc, ◌-ℤ◌, List, [], ◌∷◌, ◌++◌, length, Bool, true, false, ◌&&◌, if◌then◌else◌, Option, Some, None}
+use Rattle.std.specs.Prelude.{◌≡◌, ◌==◌, ℕ, zero, suc, ◌+◌, ◌-◌, ◌*◌, ◌/◌, ◌%◌, ◌^◌, ◌<◌, ◌≤◌, ℤ, pos, negsuc, ◌-ℤ◌, List, [], ◌∷◌, ◌++◌, length, Bool, true, false, ◌&&◌, if◌then◌else◌, Option, Some, None, min}
 use Rattle.jbig2_base.specs.Grid.{Grid, pixel, pixel_at}
 use Rattle.jbig2_base.specs.inner.WordBits.{bit}
 use Rattle.jbig2_coder.specs.Coder.{Coder, Context}
@@ -10,6 +10,7 @@ use Rattle.jbig2_region.specs.declared.template.neighbours.Adaptives.{Adaptives}
 use Rattle.jbig2_region.specs.declared.template.neighbours.Layout.{Layout}
 use Rattle.jbig2_region.specs.declared.template.neighbours.Neighbours.{Neighbours}
 use Rattle.jbig2_region.specs.declared.template.neighbours.Stretch.{Stretch}
+use Rattle.jbig2_region.specs.declared.generic_kernel.windows.WideWindows.{WideWindows}
 use Rattle.jbig2_region.specs.declared.generic_kernel.windows.Windows.{Windows}
 use Rattle.jbig2_region.specs.declared.template.AdaptiveTemplatePixel.{AdaptiveTemplatePixel}
 
@@ -60,6 +61,17 @@ IsWindow g x row seen word = (k : ℕ) → k < seen → bit word (63 - k) ≡ pi
 pub record Shows (g : Grid) (x y seen : ℕ) (w : Windows) : Type 0 where
   pub above : IsWindow g x (pos y -ℤ pos 1) seen w.above
   pub top : IsWindow g x (pos y -ℤ pos 2) seen w.top
+
+-- Windows about column x that serve so many bytes, at most eight: the second of them is asked for where there are more
+-- than four.
+pub record ShowsGroup (g : Grid) (x y bytes : ℕ) (w : WideWindows) : Type 0 where
+  pub first : Shows g x y 64 w.first
+  pub second : 5 ≤ bytes → Shows g (x + 32) y 64 w.second
+
+-- the same at a byte of the group, with what a run of `most` bytes is tested by
+pub record ShowsRun (g : Grid) (x y most : ℕ) (w : WideWindows) : Type 0 where
+  pub first : Shows g x y (8 * min most 4 + 12) w.first
+  pub second : 5 ≤ most → Shows g (x + 32) y 44 w.second
 
 -- the same pixels in all rows above row y
 abbrev pub SameAbove : Grid → Grid → ℕ → Type 0

@@ -1,11 +1,11 @@
 //! Rows of a template without adaptive pixels, byte by byte, with runs of likely symbols.
 ghost use Rattle.std.specs.Prelude.{◌≡◌, ℕ, ◌+◌, ◌-◌, ◌*◌, ◌/◌, ◌%◌, ◌^◌, ◌<◌, ◌≤◌, false, length, if◌then◌else◌};
 ghost use Rattle.jbig2_base.specs.Counts.{KeepsLanes};
-ghost use Rattle.jbig2_region.specs.inner.Neighbours.{DecodesPixels, IsLeft, IsNear, SameAbove, Shows, neighbour_count, nominal_pixels};
+ghost use Rattle.jbig2_region.specs.inner.Neighbours.{DecodesPixels, IsLeft, IsNear, SameAbove, Shows, ShowsRun, neighbour_count, nominal_pixels};
 ghost use Rattle.jbig2_region.specs.RunBytes.{CountsRuns};
 
 use crate::generic_kernel::runs::take_runs;
-use crate::generic_kernel::windows::{Windows, windows_at};
+use crate::generic_kernel::windows::{WideWindows, Windows, wide_windows_at, windows_at};
 use crate::template::neighbours::Neighbours;
 use jbig2_base::bitmap::Bitmap;
 use jbig2_base::bitmap::steps::Steps;
@@ -16,12 +16,12 @@ use std::sync::ledger::Ledger;
 /// `count` bits of one colour.
 #[inline(always)]
 fn uniform(black: bool, count: u32) -> u64
-    requires { count ≤ 32 }
+    requires { count ≤ 64 }
     ensures value { result ≡ (if black then 2 ^ count - 1 else 0) }
     ensures bound { result < 2 ^ count }
 {
-    if black {
-        return (1 << count) - 1;
+    if black && count > 0 {
+        return u64::MAX >> (64 - count);
     }
     0
 }
@@ -88,7 +88,7 @@ fn decode_bytes<A: Allocator, L: Ledger>(
     y: u32,
     most: u32,
     left: u32,
-    windows: Windows,
+    windows: WideWindows,
     decoder: &mut ArithmeticDecoder<'_>,
     contexts: &mut [ArithmeticDecoderContext],
     steps: &mut Steps<L>,
@@ -97,10 +97,10 @@ fn decode_bytes<A: Allocator, L: Ledger>(
     requires contexts { length contexts.old ≡ 2 ^ neighbour_count neighbours }
     requires aligned { x % 8 ≡ 0 }
     requires some { 1 ≤ most }
-    requires group { x % 32 + 8 * most ≤ 32 }
+    requires group { x % 64 + 8 * most ≤ 64 }
     requires columns { x + 8 * most < bitmap.old.width }
     requires row { y < bitmap.old.height }
-    requires shows { Shows bitmap.old x y (8 * most + 12) windows }
+    requires shows { ShowsRun bitmap.old x y most windows }
     requires left { IsLeft bitmap.old x y left }
     requires small { left < 16 }
     ensures some { 1 ≤ result.bytes }
@@ -130,32 +130,130 @@ fn decode_bytes<A: Allocator, L: Ledger>(
         return Taken { bytes, left };
     }
     let left = decode_bits(
-        neighbours, bitmap, x, y, 8, left, windows, decoder, contexts, steps,
+        neighbours,
+        bitmap,
+        x,
+        y,
+        8,
+        left,
+        windows.first,
+        decoder,
+        contexts,
+        steps,
     );
     Taken { bytes: 1, left }
 }
 
-/// The windows about column `8 * done`: new ones at the start of each four bytes.
+/// How many bytes a run is tested for at byte `done` of a group of so many bytes: all eight of a
+/// whole one at its start, else no more than what is left of four.
 #[inline(always)]
-fn refilled<A: Allocator, L: Ledger>(
-    windows: Windows,
-    bitmap: &Bitmap<A>,
-    done: u32,
-    y: u32,
-    steps: &mut Steps<L>,
-) -> Windows
-    requires column { 8 * done < 2 ^ 32 }
-    requires shows { 1 ≤ done % 4 → Shows bitmap.now (8 * done) y (64 - 8 * (done % 4)) windows }
-    ensures shows { Shows bitmap.now (8 * done) y (64 - 8 * (done % 4)) result }
-    ensures loads { steps.new.loads ≤ steps.old.loads + 2 }
-    ensures kept { 1 ≤ done % 4 → steps.new.loads ≡ steps.old.loads }
-    ensures steps { steps.new ≡ record steps.old { loads = steps.new.loads } }
+fn most_bytes(done: u32, bytes: u32) -> u32
+    requires some { done < bytes }
+    requires few { bytes ≤ 8 }
+    ensures some { 1 ≤ result }
+    ensures within { done + result ≤ bytes }
+    ensures later { 1 ≤ done → done % 4 + result ≤ 4 }
 {
-    let phase = done % 4;
-    if phase > 0 {
-        return windows;
+    if done == 0 && bytes == 8 {
+        return 8;
     }
-    windows_at(bitmap, 8 * done, y, steps)
+    (4 - done % 4).min(bytes - done)
+}
+
+/// The next `bytes` bytes of row `y`, at most eight, from column `x` on, which 64 divides. Answers
+/// the four pixels left of the next column.
+#[inline(always)]
+fn decode_group<A: Allocator, L: Ledger>(
+    neighbours: Neighbours,
+    bitmap: &mut Bitmap<A>,
+    x: u32,
+    y: u32,
+    bytes: u32,
+    left: u32,
+    decoder: &mut ArithmeticDecoder<'_>,
+    contexts: &mut [ArithmeticDecoderContext],
+    steps: &mut Steps<L>,
+) -> u32
+    requires near { IsNear neighbours }
+    requires contexts { length contexts.old ≡ 2 ^ neighbour_count neighbours }
+    requires aligned { x % 64 ≡ 0 }
+    requires some { 1 ≤ bytes }
+    requires few { bytes ≤ 8 }
+    requires columns { x + 8 * bytes < bitmap.old.width }
+    requires row { y < bitmap.old.height }
+    requires left { IsLeft bitmap.old x y left }
+    requires small { left < 16 }
+    ensures holds { DecodesPixels (nominal_pixels neighbours) false x y (8 * bytes) bitmap.old decoder.old contexts.old bitmap.new decoder.new contexts.new }
+    ensures left { IsLeft bitmap.new (x + 8 * bytes) y result }
+    ensures small { result < 16 }
+    ensures width { bitmap.new.width ≡ bitmap.old.width }
+    ensures height { bitmap.new.height ≡ bitmap.old.height }
+    ensures bytes { decoder.new.bytes ≡ decoder.old.bytes }
+    ensures contexts { length contexts.new ≡ length contexts.old }
+    ensures decisions { CountsRuns (nominal_pixels neighbours) x y (8 * bytes) bitmap.old decoder.old contexts.old steps.old.decisions steps.new.decisions }
+    ensures run_tests { steps.new.run_tests ≤ steps.old.run_tests + bytes }
+    ensures loads { steps.new.loads ≡ steps.old.loads + 2 * ((bytes + 3) / 4) }
+    ensures words { steps.new.words ≤ steps.old.words + bytes }
+    ensures lanes { KeepsLanes steps.old steps.new }
+{
+    let windows = wide_windows_at(bitmap, x, y, bytes, steps);
+    let mut left = left;
+    let mut done = 0;
+    while done < bytes {
+        let most = most_bytes(done, bytes);
+        let shown = windows.at_byte(done);
+        let taken = decode_bytes(
+            neighbours,
+            bitmap,
+            x + 8 * done,
+            y,
+            most,
+            left,
+            shown,
+            decoder,
+            contexts,
+            steps,
+        );
+        left = taken.left;
+        done += taken.bytes;
+    }
+    left
+}
+
+/// The last pixels of row `y`, from column `x` on: a byte, or less. It stands apart, so that the loop of
+/// the row's other bytes stays small enough to be inlined.
+#[inline(never)]
+fn decode_last<A: Allocator, L: Ledger>(
+    neighbours: Neighbours,
+    bitmap: &mut Bitmap<A>,
+    x: u32,
+    y: u32,
+    count: u32,
+    left: u32,
+    decoder: &mut ArithmeticDecoder<'_>,
+    contexts: &mut [ArithmeticDecoderContext],
+    steps: &mut Steps<L>,
+)
+    requires near { IsNear neighbours }
+    requires contexts { length contexts.old ≡ 2 ^ neighbour_count neighbours }
+    requires some { 1 ≤ count }
+    requires byte { count ≤ 8 }
+    requires aligned { x % 8 ≡ 0 }
+    requires columns { x + count ≤ bitmap.old.width }
+    requires row { y < bitmap.old.height }
+    requires left { IsLeft bitmap.old x y left }
+    requires small { left < 16 }
+    ensures holds { DecodesPixels (nominal_pixels neighbours) false x y count bitmap.old decoder.old contexts.old bitmap.new decoder.new contexts.new }
+    ensures width { bitmap.new.width ≡ bitmap.old.width }
+    ensures height { bitmap.new.height ≡ bitmap.old.height }
+    ensures bytes { decoder.new.bytes ≡ decoder.old.bytes }
+    ensures contexts { length contexts.new ≡ length contexts.old }
+    ensures steps { steps.new ≡ record steps.old { loads = steps.old.loads + 2; decisions = steps.old.decisions + count; words = steps.old.words + 1 } }
+{
+    let windows = windows_at(bitmap, x, y, steps);
+    decode_bits(
+        neighbours, bitmap, x, y, count, left, windows, decoder, contexts, steps,
+    );
 }
 
 /// Row `y`, whose rows above are decoded.
@@ -185,38 +283,22 @@ pub fn decode_row_by_bytes<A: Allocator, L: Ledger>(
 {
     let width = bitmap.width();
     let whole = (width - 1) / 8;
-    let mut done = 0;
     let mut left = 0;
-    let mut windows = Windows { above: 0, top: 0 };
-    while done < whole {
-        let shown = refilled(windows, bitmap, done, y, steps);
-        let most = (4 - done % 4).min(whole - done);
-        let taken = decode_bytes(
-            neighbours,
-            bitmap,
-            8 * done,
-            y,
-            most,
-            left,
-            shown,
-            decoder,
-            contexts,
-            steps,
+    for group in 0..whole.div_ceil(8) {
+        let x = 64 * group;
+        let bytes = (whole - 8 * group).min(8);
+        left = decode_group(
+            neighbours, bitmap, x, y, bytes, left, decoder, contexts, steps,
         );
-        windows = shown.moved(8 * taken.bytes);
-        left = taken.left;
-        done += taken.bytes;
     }
     let x = 8 * whole;
-    let last = windows_at(bitmap, x, y, steps);
-    decode_bits(
+    decode_last(
         neighbours,
         bitmap,
         x,
         y,
         width - x,
         left,
-        last,
         decoder,
         contexts,
         steps,

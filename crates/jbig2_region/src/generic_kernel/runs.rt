@@ -1,15 +1,15 @@
 //! Runs of likely symbols in rows of a template without adaptive pixels.
-ghost use Rattle.std.specs.Prelude.{◌≡◌, ℕ, ◌+◌, ◌-◌, ◌*◌, ◌/◌, ◌%◌, ◌^◌, ◌<◌, ◌≤◌, false, true, max, length, slice_index_or, if◌then◌else◌};
+ghost use Rattle.std.specs.Prelude.{◌≡◌, ℕ, ◌+◌, ◌-◌, ◌*◌, ◌/◌, ◌%◌, ◌^◌, ◌<◌, ◌≤◌, false, true, max, min, length, slice_index_or, if◌then◌else◌};
 ghost use Rattle.jbig2_base.specs.Grid.{Grid, same_colour};
 ghost use Rattle.jbig2_coder.specs.Coder.{fresh};
 ghost use Rattle.jbig2_coder.specs.Table.{row_of};
 ghost use Rattle.jbig2_region.specs.inner.Holds.{Holds};
 ghost use Rattle.jbig2_region.specs.inner.LongRuns.{is_run_for};
-ghost use Rattle.jbig2_region.specs.inner.Neighbours.{IsLeft, IsNear, Shows, is_field, neighbour_count, neighbours_stay, nominal_pixels, stretch_stays};
+ghost use Rattle.jbig2_region.specs.inner.Neighbours.{IsLeft, IsNear, ShowsRun, is_field, neighbour_count, neighbours_stay, nominal_pixels, stretch_stays};
 ghost use Rattle.jbig2_region.specs.Raster.{Region};
 ghost use Rattle.jbig2_region.specs.RunBytes.{all_of, is_run_of};
 
-use crate::generic_kernel::windows::Windows;
+use crate::generic_kernel::windows::{WideWindows, Windows};
 use crate::template::neighbours::{Neighbours, Stretch};
 use jbig2_base::bitmap::steps::Steps;
 use jbig2_coder::arithmetic_decoder::{ArithmeticDecoder, ArithmeticDecoderContext};
@@ -61,20 +61,30 @@ fn stays(neighbours: Neighbours, pixels: u32, black: bool, left: u32, windows: W
         && stretch_stays(neighbours.top, pixels, black, windows.top)
 }
 
-/// How many of the next bytes stay in one context: all of four, or one, or none.
+/// How many of the next bytes stay in one context: all of eight or of four, or one, or none.
 #[inline(always)]
-fn staying_bytes(neighbours: Neighbours, black: bool, left: u32, windows: Windows, most: u32) -> u32
+fn staying_bytes(
+    neighbours: Neighbours,
+    black: bool,
+    left: u32,
+    windows: WideWindows,
+    most: u32,
+) -> u32
     requires near { IsNear neighbours }
     requires some { 1 ≤ most }
-    requires few { most ≤ 4 }
+    requires few { most ≤ 8 }
     ensures most { result ≤ most }
-    ensures none { result ≡ 0 → neighbours_stay neighbours 8 black left windows ≡ false }
-    ensures stay { 1 ≤ result → neighbours_stay neighbours (8 * result) black left windows ≡ true }
+    ensures none { result ≡ 0 → neighbours_stay neighbours 8 black left windows.first ≡ false }
+    ensures stay { 1 ≤ result → neighbours_stay neighbours (8 * min result 4) black left windows.first ≡ true }
+    ensures eight { 5 ≤ result → (result ≡ 8) × (neighbours_stay neighbours 32 black left windows.second ≡ true) }
 {
-    if most == 4 && stays(neighbours, 32, black, left, windows) {
+    if most >= 4 && stays(neighbours, 32, black, left, windows.first) {
+        if most == 8 && stays(neighbours, 32, black, left, windows.second) {
+            return 8;
+        }
         return 4;
     }
-    if stays(neighbours, 8, black, left, windows) {
+    if stays(neighbours, 8, black, left, windows.first) {
         return 1;
     }
     0
@@ -110,7 +120,7 @@ pub fn take_runs<L: Ledger>(
     neighbours: Neighbours,
     black: bool,
     left: u32,
-    windows: Windows,
+    windows: WideWindows,
     most: u32,
     decoder: &mut ArithmeticDecoder<'_>,
     contexts: &[ArithmeticDecoderContext],
@@ -119,10 +129,10 @@ pub fn take_runs<L: Ledger>(
     requires near { IsNear neighbours }
     requires contexts { length contexts.now ≡ 2 ^ neighbour_count neighbours }
     requires some { 1 ≤ most }
-    requires few { most ≤ 4 }
+    requires few { most ≤ 8 }
     ensures most { result ≤ most }
-    ensures none { (w h x y : ℕ) (r : Region) (grid : Grid) → length r.pixels ≡ y * w + x → x + 8 * most < w → y < h → Shows grid x y (8 * most + 12) windows → IsLeft grid x y left → Holds w h decoder.old.bytes r grid decoder.old contexts.now → result ≡ 0 → is_run_of (nominal_pixels neighbours) w h decoder.old.bytes r black ≡ false }
-    ensures run { (w h x y : ℕ) (r : Region) (grid : Grid) → length r.pixels ≡ y * w + x → x + 8 * most < w → y < h → Shows grid x y (8 * most + 12) windows → IsLeft grid x y left → Holds w h decoder.old.bytes r grid decoder.old contexts.now → 1 ≤ result → is_run_for (nominal_pixels neighbours) w h decoder.old.bytes r black (8 * result) ≡ true }
+    ensures none { (w h x y : ℕ) (r : Region) (grid : Grid) → length r.pixels ≡ y * w + x → x + 8 * most < w → y < h → ShowsRun grid x y most windows → IsLeft grid x y left → Holds w h decoder.old.bytes r grid decoder.old contexts.now → result ≡ 0 → is_run_of (nominal_pixels neighbours) w h decoder.old.bytes r black ≡ false }
+    ensures run { (w h x y : ℕ) (r : Region) (grid : Grid) → length r.pixels ≡ y * w + x → x + 8 * most < w → y < h → ShowsRun grid x y most windows → IsLeft grid x y left → Holds w h decoder.old.bytes r grid decoder.old contexts.now → 1 ≤ result → is_run_for (nominal_pixels neighbours) w h decoder.old.bytes r black (8 * result) ≡ true }
     ensures coder { decoder.new ≡ record decoder.old { registers = record decoder.old.registers { a = decoder.old.registers.a - 8 * result * (row_of (slice_index_or contexts.now (all_of (nominal_pixels neighbours) black) fresh).row).qe } } }
     ensures run_tests { steps.new.run_tests ≤ steps.old.run_tests + max result 1 }
     ensures steps { steps.new ≡ record steps.old { run_tests = steps.new.run_tests } }

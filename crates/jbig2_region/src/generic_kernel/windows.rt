@@ -1,6 +1,6 @@
 //! Windows on the rows above: 64 pixels of each, of which one load serves many contexts.
 ghost use Rattle.std.specs.Prelude.{◌≡◌, ℕ, ◌+◌, ◌-◌, ◌*◌, ◌/◌, ◌%◌, ◌^◌, ◌<◌, ◌≤◌, pos, ◌-ℤ◌};
-ghost use Rattle.jbig2_region.specs.inner.Neighbours.{IsNear, IsWindow, Shows, cut_of, neighbour_count, register_of, stretch_bits};
+ghost use Rattle.jbig2_region.specs.inner.Neighbours.{IsNear, IsWindow, Shows, ShowsGroup, ShowsRun, cut_of, neighbour_count, register_of, stretch_bits};
 ghost use Rattle.jbig2_base.specs.Grid.{Grid};
 
 use crate::template::neighbours::{Neighbours, Stretch, joined};
@@ -15,6 +15,13 @@ use std::sync::ledger::Ledger;
 pub struct Windows {
     pub above: u64,
     pub top: u64,
+}
+
+/// Windows about a column, and about the column 32 to the right of it.
+#[derive(Clone, Copy)]
+pub struct WideWindows {
+    pub first: Windows,
+    pub second: Windows,
 }
 
 /// The window about column `x` in the row that stands `back` rows above row `y`.
@@ -57,6 +64,33 @@ pub fn windows_at<A: Allocator, L: Ledger>(
     Windows { above, top }
 }
 
+/// Windows about column `x` on the two rows above row `y` that serve so many bytes, at most eight.
+#[inline(always)]
+pub fn wide_windows_at<A: Allocator, L: Ledger>(
+    bitmap: &Bitmap<A>,
+    x: u32,
+    y: u32,
+    bytes: u32,
+    steps: &mut Steps<L>,
+) -> WideWindows
+    requires aligned { x % 8 ≡ 0 }
+    requires column { x + 32 < 2 ^ 32 }
+    requires some { 1 ≤ bytes }
+    requires few { bytes ≤ 8 }
+    ensures value { ShowsGroup bitmap.now x y bytes result }
+    ensures steps { steps.new ≡ record steps.old { loads = steps.old.loads + 2 * ((bytes + 3) / 4) } }
+{
+    let first = windows_at(bitmap, x, y, steps);
+    if bytes <= 4 {
+        return WideWindows {
+            first,
+            second: first,
+        };
+    }
+    let second = windows_at(bitmap, x + 32, y, steps);
+    WideWindows { first, second }
+}
+
 /// A stretch's part of a context, seen from `offset` columns right of the window's column.
 #[inline(always)]
 pub fn stretch_bits(stretch: Stretch, window: u64, offset: u32) -> u32
@@ -80,6 +114,23 @@ impl Windows {
             above: self.above << pixels,
             top: self.top << pixels,
         }
+    }
+}
+
+impl WideWindows {
+    /// The windows at byte `done` of those that they serve, for a test of the next `most` bytes.
+    #[inline(always)]
+    pub fn at_byte(self, done: u32) -> WideWindows
+        requires few { done < 8 }
+        ensures { (g : Grid) (x y bytes most : ℕ) → done + most ≤ bytes → 1 ≤ most → (1 ≤ done → done % 4 + most ≤ 4) → ShowsGroup g x y bytes self → ShowsRun g (x + 8 * done) y most result }
+    {
+        let second = self.second;
+        if done >= 4 {
+            let first = second.moved(8 * (done - 4));
+            return WideWindows { first, second };
+        }
+        let first = self.first.moved(8 * done);
+        WideWindows { first, second }
     }
 }
 

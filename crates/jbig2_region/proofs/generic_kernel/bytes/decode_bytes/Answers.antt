@@ -1,4 +1,4 @@
-use Rattle.std.proofs.Common.{arith, refl, eqb, length, ◌%◌, ◌+◌, ◌*◌, ◌≡◌, ◌≤◌, ◌∙◌, ℕ, Bool, List, true, false, not, sym, ap, subst}
+use Rattle.std.proofs.Common.{arith, min, refl, eqb, length, ◌%◌, ◌+◌, ◌*◌, ◌≡◌, ◌≤◌, ◌∙◌, ℕ, Bool, List, true, false, not, sym, ap, subst}
 use Rattle.jbig2_base.specs.Counts.{Counts}
 use Rattle.jbig2_base.specs.Grid.{Grid}
 use Rattle.jbig2_base.specs.inner.Writes.{with_pixels}
@@ -61,7 +61,7 @@ returns-clause-decisions g c = λ w h input r len predicted holds.
     let high : c.args.bitmap.now.height ≡ h = ap (λ (q : Grid). q.height) holds.pixels ∙ height-so_far w h r.pixels in
     let here : Holds w h c.args.decoder.now.bytes r c.args.bitmap.now c.args.decoder.now c.args.contexts.now = record { pixels = holds.pixels; bytes = refl; registers = holds.registers; contexts = holds.contexts } in
     let run : is_run_of (nominal_pixels c.args.neighbours) w h c.args.decoder.now.bytes r black ≡ false = c.take_runs-bytes.ensures.none w h c.args.x c.args.y r c.args.bitmap.now len (omega arith) (omega arith) c.requires.shows c.requires.left here (omega arith) in
-    let none = not-staying c.args.neighbours (not black) c.args.left c.args.windows w h c.args.x c.args.y (8 * c.args.most + 12) r c.args.bitmap.now c.args.decoder.now c.args.contexts.now (run-colour c.args.neighbours 8 (not black) black c.args.left c.args.windows c.requires.near (lowest-bit c.args.left) (other-colour black)) c.requires.near (omega arith) len (omega arith) (omega arith) c.requires.shows c.requires.left here in
+    let none = not-staying c.args.neighbours (not black) c.args.left c.args.windows.first w h c.args.x c.args.y (8 * min c.args.most 4 + 12) r c.args.bitmap.now c.args.decoder.now c.args.contexts.now (run-colour c.args.neighbours 8 (not black) black c.args.left c.args.windows.first c.requires.near (lowest-bit c.args.left) (other-colour black)) c.requires.near (omega arith) len (omega arith) (omega arith) c.requires.shows.first c.requires.left here in
     let before = ap (λ (s : Counts). s.decisions) c.take_runs-bytes.ensures.steps in
     let steps = ap (λ (s : Counts). s.decisions) c.decode_bits-left.ensures.steps ∙ ap (λ (n : ℕ). n + 8) before in
     counts-byte c.args.steps.now.decisions c.decode_bits-left.new.steps.decisions _ false
@@ -71,4 +71,4 @@ returns-clause-decisions g c = λ w h input r len predicted holds.
     (omega (arith, steps))
 
 pub decode_bits-left-requires-clause-shows : goal.decode_bits-left-requires-clause-shows
-decode_bits-left-requires-clause-shows g c = shows-less c.args.bitmap.now c.args.x c.args.y (8 * c.args.most + 12) 20 c.args.windows (omega arith) c.requires.shows
+decode_bits-left-requires-clause-shows g c = shows-less c.args.bitmap.now c.args.x c.args.y (8 * min c.args.most 4 + 12) 20 c.args.windows.first (omega arith) c.requires.shows.first
