@@ -1,4 +1,5 @@
--- Two-dimensional coding of bitmaps by T.6 (MMR; T.88, 6.2.6), in JBIG2's profile.
+-- Two-dimensional coding of bitmaps by T.6 (MMR; T.88, 6.2.6), in JBIG2's profile. A width, a height and bytes give the
+-- grid and the number of bytes that were used. A row is the list of its changes of colour, read against the row above.
 use Rattle.std.specs.Prelude.{ℕ, zero, suc, ◌+◌, ◌-◌, ◌/◌, ◌%◌, ◌==◌, Bool, true, false, not, ◌&&◌, ◌||◌, nat_le, nat_lt, List, [], ◌∷◌, ◌++◌, length, take, drop, filter, slice_index_or, Option, Some, None, Result, Ok, Err, if◌then◌else◌}
 use Rattle.std.specs.List.{flat_map}
 use Rattle.jbig2_base.specs.Bits.{byte_bits, number_after}
