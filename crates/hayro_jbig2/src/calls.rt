@@ -42,7 +42,8 @@ fn run<A: Allocator, L: Ledger>(
     steps: &mut Steps<L>,
 ) -> u32
     requires { x ≤ bitmap.now.width }
-    ensures value { result ≡ run_of ((bitmap.now.width - x) / 8) black (drop x (row_of bitmap.now y)) }
+    ensures value { result
+        ≡ run_of ((bitmap.now.width - x) / 8) black (drop x (row_of bitmap.now y)) }
     ensures within { result ≤ (bitmap.now.width - x) / 8 }
 {
     let end = find_colour(bitmap, y, x, !black, steps);
@@ -87,7 +88,9 @@ fn push_pixels<A: Allocator, D: Decoder, L: Ledger>(
     requires few { end - x ≤ 64 }
     requires inside { end ≤ bitmap.now.width }
     requires countable { D.refusals decoder.old < 2 ^ 64 - 1 }
-    ensures { Sends D.step (singles (take (end - x) (drop x (row_of bitmap.now y)))) result (D.picture decoder.old) (D.refusals decoder.old) (D.picture decoder.new) (D.refusals decoder.new) }
+    ensures { Sends D.step (singles (take (end - x) (drop x (row_of bitmap.now y)))) result
+        (D.picture decoder.old) (D.refusals decoder.old) (D.picture decoder.new)
+        (D.refusals decoder.new) }
 {
     let count = (end - x).max(1);
     let pixels = bitmap.load_pixels(x, y, count, steps);
@@ -109,7 +112,8 @@ fn push_row<A: Allocator, D: Decoder, L: Ledger>(
     steps: &mut Steps<L>,
 ) -> Result<()>
     requires { D.refusals decoder.old < 2 ^ 64 - 1 }
-    ensures { Sends D.step (line_calls bitmap.now y) result (D.picture decoder.old) (D.refusals decoder.old) (D.picture decoder.new) (D.refusals decoder.new) }
+    ensures { Sends D.step (line_calls bitmap.now y) result (D.picture decoder.old)
+        (D.refusals decoder.old) (D.picture decoder.new) (D.refusals decoder.new) }
 {
     let width = bitmap.width();
     let mut x = 0;
@@ -142,7 +146,8 @@ pub fn push_bitmap<A: Allocator, D: Decoder, L: Ledger>(
     steps: &mut Steps<L>,
 ) -> Result<()>
     requires { D.refusals decoder.old < 2 ^ 64 - 1 }
-    ensures { Sends D.step (calls_of bitmap.now) result (D.picture decoder.old) (D.refusals decoder.old) (D.picture decoder.new) (D.refusals decoder.new) }
+    ensures { Sends D.step (calls_of bitmap.now) result (D.picture decoder.old)
+        (D.refusals decoder.old) (D.picture decoder.new) (D.refusals decoder.new) }
 {
     for y in 0..bitmap.height() {
         match push_row(bitmap, y, decoder, steps) {

@@ -68,9 +68,15 @@ impl<'a, A: Allocator> Model for Page<'a, A> {
 
     ghost Value = { ReadPage };
 
-    ghost view = { λ page. record { strict = page.strict; initial_page = page.initial_page; segments = segment_views (segment_list page.segments); globals = kept_names page.globals } };
+    ghost view = { λ page. record {
+      strict = page.strict;
+      initial_page = page.initial_page;
+      segments = segment_views (segment_list page.segments);
+      globals = kept_names page.globals;
+    } };
 
-    ghost invariant = { λ page. (page.initial_page.width ≤ 65535) × (page.initial_page.height ≤ 65535) };
+    ghost invariant = { λ page. (page.initial_page.width ≤ 65535)
+        × (page.initial_page.height ≤ 65535) };
 }
 
 impl<'a, A: Allocator> Page<'a, A> {
@@ -83,7 +89,12 @@ impl<'a, A: Allocator> Page<'a, A> {
     ) -> Page<'a, A>
         requires width { initial_page.width ≤ 65535 }
         requires height { initial_page.height ≤ 65535 }
-        ensures { result ≡ record { strict = strict; initial_page = initial_page; segments = segment_views segments.now.items; globals = kept_names globals.entry } }
+        ensures { result ≡ record {
+          strict = strict;
+          initial_page = initial_page;
+          segments = segment_views segments.now.items;
+          globals = kept_names globals.entry;
+        } }
     {
         Page {
             strict,
@@ -134,7 +145,8 @@ impl<'a, A: Allocator + Clone> Page<'a, A> {
         globals: Option<&'a Globals<A>>,
         settings: &DecodeSettings,
     ) -> Result<Page<'a, A>>
-        ensures { Gives (λ page. page) result (embedded settings.now.strict (given_names globals.entry) bytes.now) }
+        ensures { Gives (λ page. page) result
+            (embedded settings.now.strict (given_names globals.entry) bytes.now) }
     {
         let strict = settings.strict;
         let mut segments = parse_segments_sequential(alloc, bytes, strict)?;
@@ -154,7 +166,8 @@ impl<'a, A: Allocator + Clone> Page<'a, A> {
     /// Decoder's own refusal.
     pub fn decode<D: Decoder>(&self, decoder: &mut D) -> Result<()>
         requires { D.refusals decoder.old < 2 ^ 64 - 1 }
-        ensures { Decodes D.step (grid_of_page self.now) result (D.picture decoder.old) (D.refusals decoder.old) (D.picture decoder.new) (D.refusals decoder.new) }
+        ensures { Decodes D.step (grid_of_page self.now) result (D.picture decoder.old)
+            (D.refusals decoder.old) (D.picture decoder.new) (D.refusals decoder.new) }
     {
         let mut context = DecoderContext::new(self.segments.as_vec().allocator().clone()?)?;
         self.decode_with(decoder, &mut context)
@@ -174,7 +187,8 @@ impl<'a, A: Allocator + Clone> Page<'a, A> {
     }
 
     fn read_counted<L: Ledger>(&self, buf: &mut [u8], blank: Blank) -> Result<()>
-        requires sized { length buf.old ≡ self.now.initial_page.width * self.now.initial_page.height }
+        requires sized { length buf.old
+            ≡ self.now.initial_page.width * self.now.initial_page.height }
         requires name { blank.name ≡ L.name }
         requires parts { blank.parts ≡ L.parts }
         requires enough { blank.parts ≡ 6 }
@@ -199,10 +213,13 @@ impl<'a, A: Allocator + Clone> Page<'a, A> {
         context: &mut DecoderContext<A>,
     ) -> Result<()>
         requires { D.refusals decoder.old < 2 ^ 64 - 1 }
-        ensures calls { Decodes D.step (grid_of_page self.now) result (D.picture decoder.old) (D.refusals decoder.old) (D.picture decoder.new) (D.refusals decoder.new) }
+        ensures calls { Decodes D.step (grid_of_page self.now) result (D.picture decoder.old)
+            (D.refusals decoder.old) (D.picture decoder.new) (D.refusals decoder.new) }
         ensures spelling { (g : Grid) → DrawsGrid (calls_of g) g }
-        ensures direct { (operator : CombinationOperator) (black : Bool) (region : Grid) → IsTable region → IsTrue (draws_over operator black)
-            → combined operator (blank region.width region.height black) region (pos 0) (pos 0) ≡ region }
+        ensures direct { (operator : CombinationOperator) (black : Bool) (region : Grid)
+            → IsTable region → IsTrue (draws_over operator black)
+            → combined operator (blank region.width region.height black) region (pos 0) (pos 0)
+            ≡ region }
     {
         self.decode_counted::<D, Brand>(decoder, context, Blank::new(6))
     }
@@ -217,7 +234,8 @@ impl<'a, A: Allocator + Clone> Page<'a, A> {
         requires name { blank.name ≡ L.name }
         requires parts { blank.parts ≡ L.parts }
         requires enough { blank.parts ≡ 6 }
-        ensures { Decodes D.step (grid_of_page self.now) result (D.picture decoder.old) (D.refusals decoder.old) (D.picture decoder.new) (D.refusals decoder.new) }
+        ensures { Decodes D.step (grid_of_page self.now) result (D.picture decoder.old)
+            (D.refusals decoder.old) (D.picture decoder.new) (D.refusals decoder.new) }
     {
         let mut steps = Steps::<L>::new(blank);
         match self.draw_into(context, &mut steps) {
@@ -252,7 +270,9 @@ impl<'a, A: Allocator + Clone> Page<'a, A> {
         context: &mut DecoderContext<A>,
         steps: &mut Steps<L>,
     ) -> Result<()>
-        ensures { Gives (λ _. context.new) result (segments_drawn self.now.strict globals.now self.now.segments (page_begun self.now.initial_page)) }
+        ensures { Gives (λ _. context.new) result
+            (segments_drawn self.now.strict globals.now self.now.segments
+            (page_begun self.now.initial_page)) }
     {
         context.begin(&self.initial_page)?;
         let drawer = Drawer {
