@@ -14,9 +14,9 @@ use Rattle.std.specs.declared.vec.Vec.{Vec}
 use Rattle.jbig2_base.specs.Segment.{SegmentView}
 use Rattle.jbig2_base.specs.inner.SegmentViews.{segment_view, segment_views}
 use Rattle.jbig2_base.specs.declared.segment.Segment.{Segment}
-use Rattle.hayro_jbig2.specs.inner.ByPages.{pages_view, place_of, HoldsByPage}
+use Rattle.hayro_jbig2.specs.inner.ByPages.{pages_view, first_place_of, HoldsByPage}
 use Rattle.hayro_jbig2.specs.declared.segments_by_page.SegmentsByPage.{SegmentsByPage}
-use Rattle.hayro_jbig2.specs.Files.{is_known, with_number, numbers_after, of_page, by_pages}
+use Rattle.hayro_jbig2.specs.Files.{is_known, with_page_number, numbers_after, of_page, by_pages}
 
 flipped : (m n : ℕ) → (m == n) ≡ false → (n == m) ≡ false
 flipped m n apart = ne_eqb n m (λ e. eqb-false m n apart (sym e))
@@ -31,54 +31,54 @@ none-head true o none = absurd (cc)
 none-head false None none = (refl, refl)
 none-head false (Some j) none = absurd (cc)
 
-unplaced : (n : ℕ) (ns : List ℕ) → place_of n ns ≡ None → is_among n ns ≡ false
+unplaced : (n : ℕ) (ns : List ℕ) → first_place_of n ns ≡ None → is_among n ns ≡ false
 unplaced n [] none = refl
 unplaced n (m ∷ ms) none =
-    let apart = none-head (m == n) (place_of n ms) none in
+    let apart = none-head (m == n) (first_place_of n ms) none in
     or_from (m == n) (is_among n ms) apart.0 (unplaced n ms apart.1)
 
-placeless : (n : ℕ) (ns : List ℕ) → is_among n ns ≡ false → place_of n ns ≡ None
+placeless : (n : ℕ) (ns : List ℕ) → is_among n ns ≡ false → first_place_of n ns ≡ None
 placeless n [] none = refl
 placeless n (m ∷ ms) none =
     let apart = or_parts (m == n) (is_among n ms) none in
-    cond-false (m == n) (Some 0) (option_map suc (place_of n ms)) apart.0 ∙ ap (λ (o : Option ℕ). option_map suc o) (placeless n ms apart.1)
+    cond-false (m == n) (Some 0) (option_map suc (first_place_of n ms)) apart.0 ∙ ap (λ (o : Option ℕ). option_map suc o) (placeless n ms apart.1)
 
 placed-next : (b r : Bool) (o : Option ℕ) (i : ℕ) → ((j : ℕ) → o ≡ Some j → r ≡ true) → cond b (Some 0) (option_map suc o) ≡ Some i → (b || r) ≡ true
 placed-next true r o i next at = refl
 placed-next false r None i next at = absurd (cc)
 placed-next false r (Some j) i next at = next j refl
 
-placed : (n : ℕ) (ns : List ℕ) (i : ℕ) → place_of n ns ≡ Some i → is_among n ns ≡ true
+placed : (n : ℕ) (ns : List ℕ) (i : ℕ) → first_place_of n ns ≡ Some i → is_among n ns ≡ true
 placed n [] i at = absurd (cc)
-placed n (m ∷ ms) i at = placed-next (m == n) (is_among n ms) (place_of n ms) i (λ j h. placed n ms j h) at
+placed n (m ∷ ms) i at = placed-next (m == n) (is_among n ms) (first_place_of n ms) i (λ j h. placed n ms j h) at
 
 push-next : (b c : Bool) (o : Option ℕ) (l : ℕ) → (b ≡ true → c ≡ false) → cond c (Some 0) (option_map suc (cond b (Some l) o)) ≡ cond b (Some (suc l)) (cond c (Some 0) (option_map suc o))
 push-next true true o l apart = absurd (both_ways true (apart refl) refl)
 push-next true false o l apart = refl
 push-next false c o l apart = refl
 
-pub place_of-push : (n m : ℕ) (ns : List ℕ) → place_of n ns ≡ None → place_of m (ns ++ n ∷ []) ≡ cond (n == m) (Some (length ns)) (place_of m ns)
+pub place_of-push : (n m : ℕ) (ns : List ℕ) → first_place_of n ns ≡ None → first_place_of m (ns ++ n ∷ []) ≡ cond (n == m) (Some (length ns)) (first_place_of m ns)
 place_of-push n m [] none = refl
 place_of-push n m (k ∷ ks) none =
-    let apart = none-head (k == n) (place_of n ks) none in
+    let apart = none-head (k == n) (first_place_of n ks) none in
     ap (λ (o : Option ℕ). cond (k == m) (Some 0) (option_map suc o)) (place_of-push n m ks apart.1)
-    ∙ push-next (n == m) (k == m) (place_of m ks) (length ks) (λ e. ap (λ (q : ℕ). k == q) (sym (eqb-true n m e)) ∙ apart.0)
+    ∙ push-next (n == m) (k == m) (first_place_of m ks) (length ks) (λ e. ap (λ (q : ℕ). k == q) (sym (eqb-true n m e)) ∙ apart.0)
 
 -- ---- numbers of which no two are equal, and none is 0
 
 abbrev AllDiffer : List ℕ → Type 0
 AllDiffer [] = Unit {0}
-AllDiffer (m ∷ ms) = (place_of m ms ≡ None) × AllDiffer ms
+AllDiffer (m ∷ ms) = (first_place_of m ms ≡ None) × AllDiffer ms
 
-AllDiffer-push : (n : ℕ) (ns : List ℕ) → AllDiffer ns → place_of n ns ≡ None → AllDiffer (ns ++ n ∷ [])
+AllDiffer-push : (n : ℕ) (ns : List ℕ) → AllDiffer ns → first_place_of n ns ≡ None → AllDiffer (ns ++ n ∷ [])
 AllDiffer-push n [] differ none = (refl, tt)
 AllDiffer-push n (m ∷ ms) differ none =
-    let apart = none-head (m == n) (place_of n ms) none in
-    (place_of-push n m ms apart.1 ∙ cond-false (n == m) (Some (length ms)) (place_of m ms) (flipped m n apart.0) ∙ differ.0, AllDiffer-push n ms differ.1 apart.1)
+    let apart = none-head (m == n) (first_place_of n ms) none in
+    (place_of-push n m ms apart.1 ∙ cond-false (n == m) (Some (length ms)) (first_place_of m ms) (flipped m n apart.0) ∙ differ.0, AllDiffer-push n ms differ.1 apart.1)
 
 record ArePages (ns : List ℕ) : Type 0 where
   differ : AllDiffer ns
-  above : place_of 0 ns ≡ None
+  above : first_place_of 0 ns ≡ None
 
 ArePages-next : (b : Bool) (n : ℕ) (ns : List ℕ) → is_known n ns ≡ b → ArePages ns → ArePages (cond b ns (ns ++ n ∷ []))
 ArePages-next true n ns known pages = pages
@@ -87,21 +87,21 @@ ArePages-next false n ns known pages =
     let none = placeless n ns new.1 in
     record {
       differ = AllDiffer-push n ns pages.differ none;
-      above = place_of-push n 0 ns none ∙ cond-false (n == 0) (Some (length ns)) (place_of 0 ns) new.0 ∙ pages.above;
+      above = place_of-push n 0 ns none ∙ cond-false (n == 0) (Some (length ns)) (first_place_of 0 ns) new.0 ∙ pages.above;
     }
 
 ArePages-after : (ns : List ℕ) (ps : List SegmentView) → ArePages ns → ArePages (numbers_after ns ps)
 ArePages-after ns [] pages = pages
 ArePages-after ns (p ∷ ps) pages =
     let n = p.header.page_association in
-    ArePages-after (with_number n ns) ps (ArePages-next (is_known n ns) n ns refl pages)
+    ArePages-after (with_page_number n ns) ps (ArePages-next (is_known n ns) n ns refl pages)
 
 are_pages : (ps : List SegmentView) → ArePages (numbers_after [] ps)
 are_pages ps = ArePages-after [] ps (record { differ = tt; above = refl })
 
-numbers-push : (ns : List ℕ) (ps : List SegmentView) (p : SegmentView) → numbers_after ns (ps ++ p ∷ []) ≡ with_number p.header.page_association (numbers_after ns ps)
+numbers-push : (ns : List ℕ) (ps : List SegmentView) (p : SegmentView) → numbers_after ns (ps ++ p ∷ []) ≡ with_page_number p.header.page_association (numbers_after ns ps)
 numbers-push ns [] p = refl
-numbers-push ns (q ∷ ps) p = numbers-push (with_number q.header.page_association ns) ps p
+numbers-push ns (q ∷ ps) p = numbers-push (with_page_number q.header.page_association ns) ps p
 
 -- ---- a number that isn't among the pages' has no segments
 
@@ -113,7 +113,7 @@ stays : (n : ℕ) (ns : List ℕ) (ps : List SegmentView) → is_among n ns ≡ 
 stays n ns [] among = among
 stays n ns (p ∷ ps) among =
     let q = p.header.page_association in
-    stays n (with_number q ns) ps (stays-next (is_known q ns) n q ns among)
+    stays n (with_page_number q ns) ps (stays-next (is_known q ns) n q ns among)
 
 new-next : (b : Bool) (n : ℕ) (ns : List ℕ) → is_known n ns ≡ b → (n == 0) ≡ false → is_among n (cond b ns (ns ++ n ∷ [])) ≡ true
 new-next true n ns known above = sym (ap (λ (b : Bool). b || is_among n ns) above) ∙ known
@@ -121,14 +121,14 @@ new-next false n ns known above = list_any-append (λ m. m == n) ns (n ∷ []) �
 
 none-next : (b : Bool) (n : ℕ) (ns : List ℕ) (p : SegmentView) (ps : List SegmentView) → (p.header.page_association == n) ≡ b → (n == 0) ≡ false → is_among n (numbers_after ns (p ∷ ps)) ≡ false → of_page n ps ≡ [] → cond b (p ∷ of_page n ps) (of_page n ps) ≡ []
 none-next true n ns p ps here above none others =
-    let Among : ℕ → Type 0 = λ q. is_among n (with_number q ns) ≡ true in
+    let Among : ℕ → Type 0 = λ q. is_among n (with_page_number q ns) ≡ true in
     let among = subst Among (sym (eqb-true p.header.page_association n here)) (new-next (is_known n ns) n ns refl above) in
-    absurd (both_ways (is_among n (numbers_after ns (p ∷ ps))) none (stays n (with_number p.header.page_association ns) ps among))
+    absurd (both_ways (is_among n (numbers_after ns (p ∷ ps))) none (stays n (with_page_number p.header.page_association ns) ps among))
 none-next false n ns p ps here above none others = others
 
 no_segments : (n : ℕ) (ns : List ℕ) (ps : List SegmentView) → (n == 0) ≡ false → is_among n (numbers_after ns ps) ≡ false → of_page n ps ≡ []
 no_segments n ns [] above none = refl
-no_segments n ns (p ∷ ps) above none = none-next (p.header.page_association == n) n ns p ps refl above none (no_segments n (with_number p.header.page_association ns) ps above none)
+no_segments n ns (p ∷ ps) above none = none-next (p.header.page_association == n) n ns p ps refl above none (no_segments n (with_page_number p.header.page_association ns) ps above none)
 
 -- ---- two functions of numbers that differ at one of them
 
@@ -145,11 +145,11 @@ map-apart {X} n f g (m ∷ ms) same none =
 abbrev SetAt : {X : Type 0} → (f g : ℕ → X) → ℕ → List ℕ → ℕ → Type 0
 SetAt f g n ns i = (i < length ns) × (map g ns ≡ set (map f ns) i (g n)) × (get_or (map f ns) i (g n) ≡ f n)
 
-map-next : {X : Type 0} (b : Bool) (o : Option ℕ) (n : ℕ) (f g : ℕ → X) (m : ℕ) (ms : List ℕ) (i : ℕ) → (m == n) ≡ b → AgreeBut n f g → place_of m ms ≡ None → ((j : ℕ) → o ≡ Some j → SetAt f g n ms j) → cond b (Some 0) (option_map suc o) ≡ Some i → SetAt f g n (m ∷ ms) i
+map-next : {X : Type 0} (b : Bool) (o : Option ℕ) (n : ℕ) (f g : ℕ → X) (m : ℕ) (ms : List ℕ) (i : ℕ) → (m == n) ≡ b → AgreeBut n f g → first_place_of m ms ≡ None → ((j : ℕ) → o ≡ Some j → SetAt f g n ms j) → cond b (Some 0) (option_map suc o) ≡ Some i → SetAt f g n (m ∷ ms) i
 map-next {X} true o n f g m ms i here same differ next at =
     let e : m ≡ n = eqb-true m n here in
     let first : 0 ≡ i = cc in
-    let others : map g ms ≡ map f ms = map-apart n f g ms same (unplaced n ms (ap (λ q. place_of q ms) (sym e) ∙ differ)) in
+    let others : map g ms ≡ map f ms = map-apart n f g ms same (unplaced n ms (ap (λ q. first_place_of q ms) (sym e) ∙ differ)) in
     subst (SetAt f g n (m ∷ ms)) first (omega arith, ap (λ q. g q ∷ map g ms) e ∙ ap (λ (xs : List X). g n ∷ xs) others, ap f e)
 map-next false None n f g m ms i here same differ next at = absurd (cc)
 map-next {X} false (Some j) n f g m ms i here same differ next at =
@@ -157,9 +157,9 @@ map-next {X} false (Some j) n f g m ms i here same differ next at =
     let rest = next j refl in
     subst (SetAt f g n (m ∷ ms)) later (omega (arith, rest.0), ap (λ (x : X). x ∷ map g ms) (same m here) ∙ ap (λ (xs : List X). f m ∷ xs) rest.1, rest.2)
 
-map-at : {X : Type 0} (n : ℕ) (f g : ℕ → X) (ns : List ℕ) (i : ℕ) → AgreeBut n f g → AllDiffer ns → place_of n ns ≡ Some i → SetAt f g n ns i
+map-at : {X : Type 0} (n : ℕ) (f g : ℕ → X) (ns : List ℕ) (i : ℕ) → AgreeBut n f g → AllDiffer ns → first_place_of n ns ≡ Some i → SetAt f g n ns i
 map-at n f g [] i same differ at = absurd (cc)
-map-at n f g (m ∷ ms) i same differ at = map-next (m == n) (place_of n ms) n f g m ms i refl same differ.0 (λ j h. map-at n f g ms j same differ.1 h) at
+map-at n f g (m ∷ ms) i same differ at = map-next (m == n) (first_place_of n ms) n f g m ms i refl same differ.0 (λ j h. map-at n f g ms j same differ.1 h) at
 
 -- ---- one more segment
 
@@ -188,11 +188,11 @@ by_pages-shared : (ps : List SegmentView) (p : SegmentView) → p.header.page_as
 by_pages-shared ps p here =
     let n = p.header.page_association in
     let ns = numbers_after [] ps in
-    let none : place_of n ns ≡ None = ap (λ (m : ℕ). place_of m ns) here ∙ (are_pages ps).above in
+    let none : first_place_of n ns ≡ None = ap (λ (m : ℕ). first_place_of m ns) here ∙ (are_pages ps).above in
     ap (λ (ms : List ℕ). map (λ m. of_page m (ps ++ p ∷ [])) ms) (numbers-known ps p (or_left (n == 0) (is_among n ns) (eq-eqb n 0 here)))
     ∙ map-apart n (λ m. of_page m ps) (λ m. of_page m (ps ++ p ∷ [])) ns (of_page-same p ps) (unplaced n ns none)
 
-by_pages-known : (ps : List SegmentView) (p : SegmentView) (i : ℕ) → place_of p.header.page_association (numbers_after [] ps) ≡ Some i → by_pages (ps ++ p ∷ []) ≡ set (by_pages ps) i (of_page p.header.page_association ps ++ p ∷ [])
+by_pages-known : (ps : List SegmentView) (p : SegmentView) (i : ℕ) → first_place_of p.header.page_association (numbers_after [] ps) ≡ Some i → by_pages (ps ++ p ∷ []) ≡ set (by_pages ps) i (of_page p.header.page_association ps ++ p ∷ [])
 by_pages-known ps p i at =
     let n = p.header.page_association in
     let ns = numbers_after [] ps in
@@ -200,7 +200,7 @@ by_pages-known ps p i at =
     ap (λ (ms : List ℕ). map (λ m. of_page m (ps ++ p ∷ [])) ms) (numbers-known ps p (or_right (n == 0) (is_among n ns) (placed n ns i at)))
     ∙ there.1 ∙ ap (λ (own : List SegmentView). set (by_pages ps) i own) (of_page-more p ps n refl)
 
-by_pages-new : (ps : List SegmentView) (p : SegmentView) → (p.header.page_association == 0) ≡ false → place_of p.header.page_association (numbers_after [] ps) ≡ None → by_pages (ps ++ p ∷ []) ≡ by_pages ps ++ (p ∷ []) ∷ []
+by_pages-new : (ps : List SegmentView) (p : SegmentView) → (p.header.page_association == 0) ≡ false → first_place_of p.header.page_association (numbers_after [] ps) ≡ None → by_pages (ps ++ p ∷ []) ≡ by_pages ps ++ (p ∷ []) ∷ []
 by_pages-new ps p above none =
     let n = p.header.page_association in
     let ns = numbers_after [] ps in
@@ -229,9 +229,9 @@ counted {A} s ps holds =
     ∙ length-map (numbers_after [] ps) (λ n. of_page n ps)
 
 -- the page at the place of a number
-in_page : {A : Type 0} (s : SegmentsByPage A) (ps : List SegmentView) (n i : ℕ) → get nat_cmp s.places n ≡ Some i → HoldsByPage s ps → (place_of n (numbers_after [] ps) ≡ Some i) × (i < length s.pages.items) × (get_or (by_pages ps) i (of_page n ps) ≡ of_page n ps)
+in_page : {A : Type 0} (s : SegmentsByPage A) (ps : List SegmentView) (n i : ℕ) → get nat_cmp s.places n ≡ Some i → HoldsByPage s ps → (first_place_of n (numbers_after [] ps) ≡ Some i) × (i < length s.pages.items) × (get_or (by_pages ps) i (of_page n ps) ≡ of_page n ps)
 in_page s ps n i at holds =
-    let there : place_of n (numbers_after [] ps) ≡ Some i = sym (holds.found n) ∙ at in
+    let there : first_place_of n (numbers_after [] ps) ≡ Some i = sym (holds.found n) ∙ at in
     let same = map-at n (λ m. of_page m ps) (λ m. of_page m ps) (numbers_after [] ps) i (λ m apart. refl) (are_pages ps).differ there in
     (there, omega (arith, same.0, counted s ps holds), same.2)
 
@@ -248,7 +248,7 @@ module _ {A : Type 0} (s t : SegmentsByPage A) (x : Segment A) (ps : List Segmen
       record {
         shared = ap (λ (xs : List (Segment A)). segment_views xs) shared ∙ map_push (λ (y : Segment A). segment_view y) s.shared.items x ∙ ap (λ (own : List SegmentView). own ++ p ∷ []) holds.shared ∙ sym (of_page-more p ps 0 here);
         pages = ap (λ v. pages_view v.items) pages ∙ holds.pages ∙ sym (by_pages-shared ps p here);
-        found = λ n. ap (λ m. get nat_cmp m n) places ∙ holds.found n ∙ ap (λ (ms : List ℕ). place_of n ms) (sym numbers);
+        found = λ n. ap (λ m. get nat_cmp m n) places ∙ holds.found n ∙ ap (λ (ms : List ℕ). first_place_of n ms) (sym numbers);
       }
 
   -- one of a page that is known
@@ -269,7 +269,7 @@ module _ {A : Type 0} (s t : SegmentsByPage A) (x : Segment A) (ps : List Segmen
             ∙ ap (λ (own_segments : List (List SegmentView)). set own_segments i (segment_views y.items)) holds.pages
             ∙ ap (λ (own_segments : List SegmentView). set (by_pages ps) i own_segments) (ap (λ (xs : List (Segment A)). segment_views xs) more ∙ map_push (λ (z : Segment A). segment_view z) own.items x ∙ ap (λ (own_segments : List SegmentView). own_segments ++ p ∷ []) before)
             ∙ sym (by_pages-known ps p i there.0);
-        found = λ m. ap (λ v. get nat_cmp v m) places ∙ holds.found m ∙ ap (λ (ms : List ℕ). place_of m ms) (sym numbers);
+        found = λ m. ap (λ v. get nat_cmp v m) places ∙ holds.found m ∙ ap (λ (ms : List ℕ). first_place_of m ms) (sym numbers);
       }
 
   -- the first one of a page
@@ -278,7 +278,7 @@ module _ {A : Type 0} (s t : SegmentsByPage A) (x : Segment A) (ps : List Segmen
       let p = segment_view x in
       let n = p.header.page_association in
       let ns = numbers_after [] ps in
-      let none : place_of n ns ≡ None = sym (holds.found n) ∙ at in
+      let none : first_place_of n ns ≡ None = sym (holds.found n) ∙ at in
       let numbers = numbers-new ps p (or_from (n == 0) (is_among n ns) above (unplaced n ns none)) in
       record {
         shared = ap (λ v. segment_views v.items) shared ∙ holds.shared ∙ sym (of_page-same p ps 0 (flipped n 0 above));
@@ -293,7 +293,7 @@ module _ {A : Type 0} (s t : SegmentsByPage A) (x : Segment A) (ps : List Segmen
             ∙ ap (λ (b : Bool). cond b (Some k) (get nat_cmp s.places m)) (same_test n m)
             ∙ ap (λ (i : ℕ). cond (n == m) (Some i) (get nat_cmp s.places m)) (count ∙ counted s ps holds)
             ∙ ap (λ (o : Option ℕ). cond (n == m) (Some (length ns)) o) (holds.found m)
-            ∙ sym (ap (λ (ms : List ℕ). place_of m ms) numbers ∙ place_of-push n m ns none);
+            ∙ sym (ap (λ (ms : List ℕ). first_place_of m ms) numbers ∙ place_of-push n m ns none);
       }
 
 -- Those that came are held, and the rest follow them.

@@ -1,4 +1,6 @@
--- The pages of a file (T.88, 7.2.6 and 7.4.8), and what they share.
+-- The pages of a file (T.88, 7.2.6 and 7.4.8), and what they share. `book_at` takes a file's bytes and gives its pages,
+-- each with the segments whose page association is its number, and the names of the segments of association 0.
+-- `page_of` gives one of its pages, by its index from 0.
 use Rattle.std.specs.Prelude.{◌≡◌, ℕ, ◌+◌, ◌==◌, Bool, true, false, not, ◌&&◌, ◌||◌, List, [], ◌∷◌, ◌++◌, length, filter, map, slice_get, option_map, Option, Some, None, Result, Ok, Err, if◌then◌else◌}
 use Rattle.std.specs.List.{list_any}
 use Rattle.jbig2_base.specs.Answer.{◌>>=◌, refuse_if}
@@ -51,13 +53,13 @@ associated strict (p ∷ ps) = if lacks_page strict p.header then Err (Segment M
 abbrev pub is_known : ℕ → List ℕ → Bool
 is_known n ns = n == 0 || list_any (λ m. m == n) ns
 
-abbrev pub with_number : ℕ → List ℕ → List ℕ
-with_number n ns = if is_known n ns then ns else ns ++ n ∷ []
+abbrev pub with_page_number : ℕ → List ℕ → List ℕ
+with_page_number n ns = if is_known n ns then ns else ns ++ n ∷ []
 
 -- The pages' numbers behind these, in the order in which they first occur.
 abbrev pub numbers_after : List ℕ → List SegmentView → List ℕ
 numbers_after ns [] = ns
-numbers_after ns (p ∷ ps) = numbers_after (with_number p.header.page_association ns) ps
+numbers_after ns (p ∷ ps) = numbers_after (with_page_number p.header.page_association ns) ps
 
 -- the segments with this association
 abbrev pub of_page : ℕ → List SegmentView → List SegmentView

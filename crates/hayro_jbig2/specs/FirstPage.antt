@@ -1,4 +1,6 @@
--- What a viewer shows of a file that a reader gives (our own rule): the first page, read leniently.
+-- What a viewer shows of a file that a reader gives (our own rule): the first page, read leniently. The definitions
+-- take the file's bytes and give that page, its size and its image; `ReadsAll` and `Opens` say what a reader's faults
+-- add.
 use Rattle.std.specs.Prelude.{◌≡◌, ◌≢◌, ◌⊎◌, ℕ, false, List, Option, Some, None, Result, Ok, Err, IfSome}
 use Rattle.std.specs.IoError.{error_kind}
 use Rattle.std.specs.declared.io.ErrorKind.TheVariants.{Interrupted}

@@ -1,4 +1,5 @@
--- A page as bytes (our own rule).
+-- A page as bytes (our own rule): one for each pixel, row by row from the top and each row from the left, as the traits
+-- of images want it. They are those of the grid that the page decodes to, or the page's error.
 use Rattle.std.specs.Prelude.{ℕ, ◌+◌, ◌-◌, ◌*◌, ◌/◌, ◌%◌, Bool, List, map, Result, Ok, if◌then◌else◌}
 use Rattle.std.specs.List.{range_with_len}
 use Rattle.jbig2_base.specs.Answer.{◌>>=◌}

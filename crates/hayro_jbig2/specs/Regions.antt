@@ -1,9 +1,10 @@
 -- The regions of a page (T.88, 7.4.3 and 7.4.5 to 7.4.7): what each kind of region decodes to.
 --
 -- A region is a grid of its own at a place. What becomes of it, drawn or kept, is said in `Page`.
-use Rattle.std.specs.Prelude.{ℕ, ◌+◌, Bool, ◌&&◌, not, is_none, List, [], ◌∷◌, length, Option, Some, None, Result, Ok, Err}
+use Rattle.std.specs.Prelude.{ℕ, Bool, ◌&&◌, not, is_none, List, [], ◌∷◌, length, Option, Some, None, Result, Ok, Err}
 use Rattle.jbig2_base.specs.Answer.{◌>>=◌, refuse_if}
-use Rattle.jbig2_base.specs.Grid.{Grid, grid_of, pixel_at}
+use Rattle.jbig2_base.specs.Grid.{Grid}
+use Rattle.jbig2_base.specs.Parts.{part_of}
 use Rattle.jbig2_base.specs.Segment.{SegmentView}
 use Rattle.jbig2_base.specs.declared.error.DecodeError.{DecodeError}
 use Rattle.jbig2_base.specs.declared.error.DecodeError.TheVariants.{Segment}
@@ -64,7 +65,7 @@ referred_region strict (number ∷ others) regions = do
 -- The area of the page that a region covers, white outside the page.
 abbrev pub page_area : Grid → RegionSegmentInfo → PlacedRegion
 page_area page info = record {
-  grid = grid_of info.width info.height (λ i j. pixel_at page (info.x_location + i) (info.y_location + j));
+  grid = part_of page (record { left = info.x_location; top = info.y_location; width = info.width; height = info.height });
   x_location = info.x_location;
   y_location = info.y_location;
   combination_operator = info.combination_operator;

@@ -42,7 +42,8 @@ fn run<A: Allocator, L: Ledger>(
     steps: &mut Steps<L>,
 ) -> u32
     requires { x ≤ bitmap.now.width }
-    ensures value { result ≡ run_of ((bitmap.now.width - x) / 8) black (drop x (row_of bitmap.now y)) }
+    ensures value { result
+        ≡ run_of ((bitmap.now.width - x) / 8) black (drop x (row_of bitmap.now y)) }
     ensures within { result ≤ (bitmap.now.width - x) / 8 }
 {
     let end = find_colour(bitmap, y, x, !black, steps);

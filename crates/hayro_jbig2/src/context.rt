@@ -36,13 +36,24 @@ impl<A: Allocator> Model for DecoderContext<A> {
 
     ghost Value = { Drawing };
 
-    ghost view = { λ c. record { grid = c.bitmap; regions = seen region_view c.regions.items; names = c.names; untouched = c.untouched } };
+    ghost view = { λ c. record {
+      grid = c.bitmap;
+      regions = seen region_view c.regions.items;
+      names = c.names;
+      untouched = c.untouched;
+    } };
 }
 
 impl<A: Allocator + Clone> DecoderContext<A> {
     /// A context that holds a page of no pixels. `DecodeError::OutOfMemory` alone refuses it.
     pub fn new(alloc: A) -> Result<DecoderContext<A>>
-        ensures { Gives (λ context. context) result (Ok (record { grid = blank 0 0 false; regions = []; names = no_names; untouched = true })) }
+        ensures { Gives (λ context. context) result
+            (Ok (record {
+              grid = blank 0 0 false;
+              regions = [];
+              names = no_names;
+              untouched = true;
+            })) }
     {
         Ok(DecoderContext {
             bitmap: Bitmap::new_empty(alloc.clone()?),
@@ -88,7 +99,8 @@ impl<A: Allocator> DecoderContext<A> {
 
     /// Keeps an intermediate region under its segment's number.
     pub(crate) fn store(&mut self, segment_number: u32, region: DecodedRegion<A>) -> Result<()>
-        ensures { Gives (λ _. self.new) result (Ok (with_region segment_number self.old (region_view region))) }
+        ensures { Gives (λ _. self.new) result
+            (Ok (with_region segment_number self.old (region_view region))) }
     {
         self.regions.push(Kept {
             segment_number,

@@ -1,5 +1,5 @@
-//! Segments that draw nothing and leave something for later ones (T.88, 7.4.2, 7.4.4 and 7.4.13), of
-//! a page as of its globals. One that fails is never passed over.
+//! Segments that draw nothing and leave something for later ones (T.88, 7.4.2, 7.4.4 and 7.4.13),
+//! of a page as of its globals. One that fails is never passed over.
 ghost use Rattle.std.specs.Prelude.{◌≡◌};
 ghost use Rattle.jbig2_base.specs.Answer.{Answers, Gives};
 ghost use Rattle.jbig2_base.specs.inner.SegmentViews.{segment_view};
@@ -28,7 +28,9 @@ fn decode_symbols<A: Allocator + Clone, L: Ledger>(
     workspace: &Workspace<A>,
     steps: &mut Steps<L>,
 ) -> Result<SymbolDictionary<A>>
-    ensures { Gives (λ d. symbols_view d) result (symbol_dictionary_at lookup.now.strict lookup.now.own.now lookup.now.globals.now (segment_view segment.now)) }
+    ensures { Gives (λ d. symbols_view d) result
+        (symbol_dictionary_at lookup.now.strict lookup.now.own.now lookup.now.globals.now
+        (segment_view segment.now)) }
 {
     let numbers = &segment.header.referred_to_segments;
     let referred = gather_referred(workspace.alloc.clone()?, lookup, numbers)?;
@@ -75,7 +77,8 @@ pub(crate) fn keep_symbols<A: Allocator + Clone, L: Ledger>(
     workspace: &Workspace<A>,
     steps: &mut Steps<L>,
 ) -> Result<()>
-    ensures { Gives (λ _. names.new) result (with_symbols strict globals.now (segment_view segment.now) names.old) }
+    ensures { Gives (λ _. names.new) result
+        (with_symbols strict globals.now (segment_view segment.now) names.old) }
 {
     let lookup = Lookup {
         strict,
@@ -95,7 +98,8 @@ pub(crate) fn keep_patterns<A: Allocator + Clone, L: Ledger>(
     workspace: &mut Workspace<A>,
     steps: &mut Steps<L>,
 ) -> Result<()>
-    ensures { Gives (λ _. names.new) result (with_patterns strict (segment_view segment.now) names.old) }
+    ensures { Gives (λ _. names.new) result
+        (with_patterns strict (segment_view segment.now) names.old) }
 {
     let dictionary = decode_patterns(strict, segment.bytes, workspace, steps)?;
     names.store_patterns(segment.header.segment_number, dictionary)

@@ -42,7 +42,9 @@ impl<'a, A: Allocator + Clone> Drawer<'a, A> {
         context: &mut DecoderContext<A>,
         steps: &mut Steps<L>,
     ) -> Result<()>
-        ensures { Gives (λ _. context.new) result (segments_drawn self.now.strict self.now.globals.now (segment_views segments.now) context.old) }
+        ensures { Gives (λ _. context.new) result
+            (segments_drawn self.now.strict self.now.globals.now (segment_views segments.now)
+            context.old) }
     {
         for segment in segments {
             if ends_page(segment.header.segment_type) {
@@ -63,7 +65,9 @@ impl<'a, A: Allocator + Clone> Drawer<'a, A> {
         context: &mut DecoderContext<A>,
         steps: &mut Steps<L>,
     ) -> Result<()>
-        ensures { Gives (λ _. context.new) result (segment_on self.now.strict self.now.globals.now (segment_view segment.now) context.old) }
+        ensures { Gives (λ _. context.new) result
+            (segment_on self.now.strict self.now.globals.now (segment_view segment.now)
+            context.old) }
     {
         match segment.header.segment_type {
             SegmentType::SymbolDictionary => {
@@ -128,7 +132,9 @@ impl<'a, A: Allocator + Clone> Drawer<'a, A> {
         context: &mut DecoderContext<A>,
         steps: &mut Steps<L>,
     ) -> Result<()>
-        ensures { Gives (λ _. context.new) result (immediate self.now.strict self.now.globals.now kind (segment_view segment.now) context.old) }
+        ensures { Gives (λ _. context.new) result
+            (immediate self.now.strict self.now.globals.now kind (segment_view segment.now)
+            context.old) }
     {
         match self.decode_region(kind, false, segment, context, steps) {
             Ok(region) => {
@@ -155,7 +161,9 @@ impl<'a, A: Allocator + Clone> Drawer<'a, A> {
         context: &mut DecoderContext<A>,
         steps: &mut Steps<L>,
     ) -> Result<()>
-        ensures { Gives (λ _. context.new) result (intermediate self.now.strict self.now.globals.now kind (segment_view segment.now) context.old) }
+        ensures { Gives (λ _. context.new) result
+            (intermediate self.now.strict self.now.globals.now kind (segment_view segment.now)
+            context.old) }
     {
         let region = self.decode_region(kind, true, segment, context, steps)?;
         context.store(segment.header.segment_number, region)
@@ -170,7 +178,9 @@ impl<'a, A: Allocator + Clone> Drawer<'a, A> {
         context: &mut DecoderContext<A>,
         steps: &mut Steps<L>,
     ) -> Result<DecodedRegion<A>>
-        ensures value { Gives (λ region. region_view region) result (region_at self.now.strict self.now.globals.now kind is_intermediate (segment_view segment.now) context.old) }
+        ensures value { Gives (λ region. region_view region) result
+            (region_at self.now.strict self.now.globals.now kind is_intermediate
+            (segment_view segment.now) context.old) }
         ensures same { context.new ≡ context.old }
     {
         let strict = self.strict;

@@ -36,9 +36,13 @@ impl<'a, A: Allocator> Model for FilePage<'a, A> {
 
     ghost Value = { PageInFile };
 
-    ghost view = { λ page. record { initial_page = page.initial_page; segments = segment_views page.segments.items } };
+    ghost view = { λ page. record {
+      initial_page = page.initial_page;
+      segments = segment_views page.segments.items;
+    } };
 
-    ghost invariant = { λ page. (page.initial_page.width ≤ 65535) × (page.initial_page.height ≤ 65535) };
+    ghost invariant = { λ page. (page.initial_page.width ≤ 65535)
+        × (page.initial_page.height ≤ 65535) };
 }
 
 /// A file: its pages, and what they share. It borrows the bytes that it was read from.
@@ -54,7 +58,8 @@ impl<'a, A: Allocator> Model for File<'a, A> {
 
     ghost Value = { ReadFile };
 
-    ghost view = { λ file. record { strict = file.strict; pages = file.pages.items; globals = file.globals } };
+    ghost view = { λ file.
+        record { strict = file.strict; pages = file.pages.items; globals = file.globals } };
 }
 
 fn needs_page(kind: SegmentType) -> bool
@@ -154,7 +159,8 @@ fn kept_globals<A: Allocator + Clone>(
     strict: bool,
     segments: &[Segment<'_, A>],
 ) -> Result<Result<Globals<A>>>
-    ensures { Gives (λ kept. kept) result (Ok (named_from strict (segment_views segments.now) no_names)) }
+    ensures { Gives (λ kept. kept) result
+        (Ok (named_from strict (segment_views segments.now) no_names)) }
 {
     match Globals::from_segments(alloc, strict, segments) {
         Ok(globals) => Ok(Ok(globals)),

@@ -23,7 +23,8 @@ pub(crate) fn decode_generic<A: Allocator + Clone, L: Ledger>(
     workspace: &mut Workspace<A>,
     steps: &mut Steps<L>,
 ) -> Result<DecodedRegion<A>>
-    ensures { Gives (λ region. region_view region) result (generic_at strict is_intermediate (segment_view segment.now)) }
+    ensures { Gives (λ region. region_view region) result
+        (generic_at strict is_intermediate (segment_view segment.now)) }
 {
     let unknown_length = !is_intermediate && segment.header.data_length.is_none();
     let mut reader = Reader::new(segment.bytes);

@@ -61,7 +61,8 @@ impl<A: Allocator + Clone> Globals<A> {
         strict: bool,
         segments: &[Segment<'_, A>],
     ) -> Result<Globals<A>>
-        ensures { Gives (λ globals. globals) result (named_from strict (segment_views segments.now) no_names) }
+        ensures { Gives (λ globals. globals) result
+            (named_from strict (segment_views segments.now) no_names) }
     {
         let names = decode_names::<A, Brand>(alloc, strict, segments, Blank::new(6))?;
         Ok(Globals { names })
@@ -78,7 +79,8 @@ fn decode_names<A: Allocator + Clone, L: Ledger>(
     requires name { blank.name ≡ L.name }
     requires parts { blank.parts ≡ L.parts }
     requires enough { blank.parts ≡ 6 }
-    ensures { Gives (λ names. names) result (named_from strict (segment_views segments.now) no_names) }
+    ensures { Gives (λ names. names) result
+        (named_from strict (segment_views segments.now) no_names) }
 {
     let mut steps = Steps::<L>::new(blank);
     let mut names = KeptNames::new(alloc.clone()?)?;

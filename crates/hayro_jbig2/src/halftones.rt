@@ -23,7 +23,8 @@ fn referred_patterns<'a, A: Allocator>(
     lookup: &Lookup<'a, A>,
     numbers: &[u32],
 ) -> Result<&'a PatternDictionary<A>>
-    ensures { Answers (λ patterns. patterns_view patterns.now) result (some_patterns (patterns_for lookup.now.own.now lookup.now.globals.now numbers.now)) }
+    ensures { Answers (λ patterns. patterns_view patterns.now) result
+        (some_patterns (patterns_for lookup.now.own.now lookup.now.globals.now numbers.now)) }
 {
     if let Some(number) = numbers.first() {
         if let Some(patterns) = lookup.patterns(*number) {
@@ -41,7 +42,9 @@ pub(crate) fn decode_halftone<A: Allocator + Clone, L: Ledger>(
     workspace: &mut Workspace<A>,
     steps: &mut Steps<L>,
 ) -> Result<DecodedRegion<A>>
-    ensures { Gives (λ region. region_view region) result (halftone_at lookup.now.strict lookup.now.own.now lookup.now.globals.now (segment_view segment.now)) }
+    ensures { Gives (λ region. region_view region) result
+        (halftone_at lookup.now.strict lookup.now.own.now lookup.now.globals.now
+        (segment_view segment.now)) }
 {
     let patterns = referred_patterns(lookup, &segment.header.referred_to_segments)?;
     let mut reader = Reader::new(segment.bytes);

@@ -29,9 +29,11 @@ impl<A: Allocator> Model for Jbig2Decoder<A> {
 
     ghost Value = { Scan };
 
-    ghost view = { λ decoder. record { bytes = decoder.bytes.items; width = decoder.width; height = decoder.height } };
+    ghost view = { λ decoder.
+        record { bytes = decoder.bytes.items; width = decoder.width; height = decoder.height } };
 
-    ghost invariant = { λ decoder. first_size decoder.bytes.items ≡ Ok (decoder.width, decoder.height) };
+    ghost invariant = { λ decoder. first_size decoder.bytes.items
+        ≡ Ok (decoder.width, decoder.height) };
 }
 
 /// The width and the height of the first page.
@@ -85,9 +87,9 @@ fn first_packed<A: Allocator + Clone>(
 impl<A: Allocator + Clone> Jbig2Decoder<A> {
     /// Reads the whole input, going on after an interruption, and finds its first page.
     ///
-    /// Answers `Jbig2Error::Io` for another fault of the reader, of any kind, or where no end comes within
-    /// 2^64 - 1 reads, and `Jbig2Error::Decode` for a fault of the file or want of memory. The reader is
-    /// dropped.
+    /// Answers `Jbig2Error::Io` for another fault of the reader, of any kind, or where no end comes
+    /// within 2^64 - 1 reads, and `Jbig2Error::Decode` for a fault of the file or want of memory.
+    /// The reader is dropped.
     pub fn new<R: Read + Drop>(alloc: A, mut reader: R) -> Result<Jbig2Decoder<A>, Jbig2Error>
         ensures opens { IfSome (R.remaining reader) (λ told. Opens told result) }
         ensures lasting { IfErr result IsLasting }

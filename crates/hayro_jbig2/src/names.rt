@@ -28,7 +28,11 @@ impl<A: Allocator> Model for KeptNames<A> {
 
     ghost Value = { Names };
 
-    ghost view = { λ n. record { symbols = seen symbols_view n.symbols.items; codes = n.tables.items; patterns = seen patterns_view n.patterns.items } };
+    ghost view = { λ n. record {
+      symbols = seen symbols_view n.symbols.items;
+      codes = n.tables.items;
+      patterns = seen patterns_view n.patterns.items;
+    } };
 }
 
 impl<A: Allocator + Clone> KeptNames<A> {
@@ -57,7 +61,10 @@ impl<A: Allocator> KeptNames<A> {
         segment_number: u32,
         value: SymbolDictionary<A>,
     ) -> Result<()>
-        ensures { Gives (λ _. self.new) result (Ok (record self.old { symbols = kept_under segment_number (symbols_view value) self.old.symbols })) }
+        ensures { Gives (λ _. self.new) result
+            (Ok (record self.old {
+              symbols = kept_under segment_number (symbols_view value) self.old.symbols;
+            })) }
     {
         self.symbols.push(Kept {
             segment_number,
@@ -67,7 +74,8 @@ impl<A: Allocator> KeptNames<A> {
     }
 
     pub(crate) fn store_table(&mut self, segment_number: u32, value: HuffmanTable<A>) -> Result<()>
-        ensures { Gives (λ _. self.new) result (Ok (record self.old { codes = kept_under segment_number value self.old.codes })) }
+        ensures { Gives (λ _. self.new) result
+            (Ok (record self.old { codes = kept_under segment_number value self.old.codes })) }
     {
         self.tables.push(Kept {
             segment_number,
@@ -81,7 +89,10 @@ impl<A: Allocator> KeptNames<A> {
         segment_number: u32,
         value: PatternDictionary<A>,
     ) -> Result<()>
-        ensures { Gives (λ _. self.new) result (Ok (record self.old { patterns = kept_under segment_number (patterns_view value) self.old.patterns })) }
+        ensures { Gives (λ _. self.new) result
+            (Ok (record self.old {
+              patterns = kept_under segment_number (patterns_view value) self.old.patterns;
+            })) }
     {
         self.patterns.push(Kept {
             segment_number,
@@ -123,7 +134,8 @@ pub(crate) struct Lookup<'a, A: Allocator> {
 
 impl<'a, A: Allocator> Lookup<'a, A> {
     pub(crate) fn symbols(&self, number: u32) -> Option<&'a SymbolDictionary<A>>
-        ensures { found symbols_view result ≡ named number self.now.own.now.symbols self.now.globals.now.symbols }
+        ensures { found symbols_view result
+            ≡ named number self.now.own.now.symbols self.now.globals.now.symbols }
     {
         let own = self.own.symbols();
         let globals = self.globals.symbols();
@@ -131,7 +143,8 @@ impl<'a, A: Allocator> Lookup<'a, A> {
     }
 
     pub(crate) fn table(&self, number: u32) -> Option<&'a HuffmanTable<A>>
-        ensures { found (λ code. code) result ≡ named number self.now.own.now.codes self.now.globals.now.codes }
+        ensures { found (λ code. code) result
+            ≡ named number self.now.own.now.codes self.now.globals.now.codes }
     {
         let own = self.own.tables();
         let globals = self.globals.tables();
@@ -139,7 +152,8 @@ impl<'a, A: Allocator> Lookup<'a, A> {
     }
 
     pub(crate) fn patterns(&self, number: u32) -> Option<&'a PatternDictionary<A>>
-        ensures { found patterns_view result ≡ named number self.now.own.now.patterns self.now.globals.now.patterns }
+        ensures { found patterns_view result
+            ≡ named number self.now.own.now.patterns self.now.globals.now.patterns }
     {
         let own = self.own.patterns();
         let globals = self.globals.patterns();

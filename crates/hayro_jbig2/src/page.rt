@@ -70,9 +70,15 @@ impl<'a, A: Allocator> Model for Page<'a, A> {
 
     ghost Value = { ReadPage };
 
-    ghost view = { λ page. record { strict = page.strict; initial_page = page.initial_page; segments = segment_views (segment_list page.segments); globals = kept_names page.globals } };
+    ghost view = { λ page. record {
+      strict = page.strict;
+      initial_page = page.initial_page;
+      segments = segment_views (segment_list page.segments);
+      globals = kept_names page.globals;
+    } };
 
-    ghost invariant = { λ page. (page.initial_page.width ≤ 65535) × (page.initial_page.height ≤ 65535) };
+    ghost invariant = { λ page. (page.initial_page.width ≤ 65535)
+        × (page.initial_page.height ≤ 65535) };
 }
 
 impl<'a, A: Allocator> Page<'a, A> {
@@ -85,7 +91,12 @@ impl<'a, A: Allocator> Page<'a, A> {
     ) -> Page<'a, A>
         requires width { initial_page.width ≤ 65535 }
         requires height { initial_page.height ≤ 65535 }
-        ensures { result ≡ record { strict = strict; initial_page = initial_page; segments = segment_views segments.now.items; globals = kept_names globals.entry } }
+        ensures { result ≡ record {
+          strict = strict;
+          initial_page = initial_page;
+          segments = segment_views segments.now.items;
+          globals = kept_names globals.entry;
+        } }
     {
         Page {
             strict,
@@ -136,7 +147,8 @@ impl<'a, A: Allocator + Clone> Page<'a, A> {
         globals: Option<&'a Globals<A>>,
         settings: &DecodeSettings,
     ) -> Result<Page<'a, A>>
-        ensures { Gives (λ page. page) result (embedded settings.now.strict (given_names globals.entry) bytes.now) }
+        ensures { Gives (λ page. page) result
+            (embedded settings.now.strict (given_names globals.entry) bytes.now) }
     {
         let strict = settings.strict;
         let mut segments = parse_segments_sequential(alloc, bytes, strict)?;
@@ -176,7 +188,8 @@ impl<'a, A: Allocator + Clone> Page<'a, A> {
     }
 
     fn read_counted<L: Ledger>(&self, buf: &mut [u8], blank: Blank) -> Result<()>
-        requires sized { length buf.old ≡ self.now.initial_page.width * self.now.initial_page.height }
+        requires sized { length buf.old
+            ≡ self.now.initial_page.width * self.now.initial_page.height }
         requires name { blank.name ≡ L.name }
         requires parts { blank.parts ≡ L.parts }
         requires enough { blank.parts ≡ 6 }
@@ -291,7 +304,9 @@ impl<'a, A: Allocator + Clone> Page<'a, A> {
         context: &mut DecoderContext<A>,
         steps: &mut Steps<L>,
     ) -> Result<()>
-        ensures { Gives (λ _. context.new) result (segments_drawn self.now.strict globals.now self.now.segments (page_begun self.now.initial_page)) }
+        ensures { Gives (λ _. context.new) result
+            (segments_drawn self.now.strict globals.now self.now.segments
+            (page_begun self.now.initial_page)) }
     {
         context.begin(&self.initial_page)?;
         let drawer = Drawer {

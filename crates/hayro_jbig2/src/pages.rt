@@ -26,9 +26,11 @@ impl<'a, A: Allocator> Model for Pages<'a, A> {
 
     ghost Value = { List ReadPage };
 
-    ghost view = { λ pages. map (page_in pages.file.now) (drop pages.indices.start pages.file.now.pages) };
+    ghost view = { λ pages. map (page_in pages.file.now)
+        (drop pages.indices.start pages.file.now.pages) };
 
-    ghost invariant = { λ pages. (pages.indices.start ≤ pages.indices.end) × (pages.indices.end ≡ length pages.file.now.pages) };
+    ghost invariant = { λ pages. (pages.indices.start ≤ pages.indices.end)
+        × (pages.indices.end ≡ length pages.file.now.pages) };
 }
 
 impl<'a, A: Allocator> Pages<'a, A> {

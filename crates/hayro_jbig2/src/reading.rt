@@ -12,8 +12,9 @@ const BLOCK: usize = 4096;
 
 /// Reads up to the end, going on after an interruption.
 ///
-/// Answers the reader's fault, or `ErrorKind::TimedOut` where no end comes within 2^64 - 1 reads. Want of
-/// memory is told apart from a reader's fault of that kind, which `Read::read_to_end` cannot do.
+/// Answers the reader's fault, or `ErrorKind::TimedOut` where no end comes within 2^64 - 1 reads.
+/// Want of memory is told apart from a reader's fault of that kind, which `Read::read_to_end`
+/// cannot do.
 pub fn read_all<A: Allocator, R: Read>(alloc: A, reader: &mut R) -> Result<Vec<u8, A>, Jbig2Error>
     ensures bytes { ReadsAll (λ v. v.items) (R.remaining reader.old) result }
     ensures lasting { IfErr result IsLasting }

@@ -15,8 +15,8 @@ use std::marker::Model;
 /// The most symbols that a segment may refer to.
 const MAX_SYMBOLS: usize = 1 << 20;
 
-/// The symbols and the custom tables that a segment refers to, and the contexts that the last of its
-/// dictionaries has kept.
+/// The symbols and the custom tables that a segment refers to, and the contexts that the last of
+/// its dictionaries has kept.
 #[derive(Drop)]
 pub(crate) struct ReferredSegments<'a, A: Allocator> {
     pub(crate) symbols: Vec<&'a Bitmap<A>, A>,
@@ -31,7 +31,11 @@ impl<'a, A: Allocator> Model for ReferredSegments<'a, A> {
 
     ghost Value = { Referred };
 
-    ghost view = { λ r. record { symbols = map (λ b. b.now) r.symbols.items; codes = map (λ t. t.now) r.tables.items; kept = kept_view r.retained_contexts } };
+    ghost view = { λ r. record {
+      symbols = map (λ b. b.now) r.symbols.items;
+      codes = map (λ t. t.now) r.tables.items;
+      kept = kept_view r.retained_contexts;
+    } };
 
     ghost invariant = { λ r. length r.symbols.items ≤ 1048576 };
 }
@@ -40,7 +44,8 @@ fn push_symbols<'a, A: Allocator>(
     symbols: &mut Vec<&'a Bitmap<A>, A>,
     bitmaps: &'a [Bitmap<A>],
 ) -> Result<()>
-    ensures items { OnOk result (map (λ b. b.now) symbols.new.items ≡ map (λ b. b.now) symbols.old.items ++ bitmaps.now) }
+    ensures items { OnOk result
+        (map (λ b. b.now) symbols.new.items ≡ map (λ b. b.now) symbols.old.items ++ bitmaps.now) }
     ensures within { length symbols.new.items ≤ length symbols.old.items + length bitmaps.now }
     ensures memory { IfErr result (λ e. e ≡ DecodeError.OutOfMemory) }
 {
@@ -52,7 +57,8 @@ fn push_symbols<'a, A: Allocator>(
 
 impl<'a, A: Allocator> ReferredSegments<'a, A> {
     fn add_dictionary(&mut self, dictionary: &'a SymbolDictionary<A>) -> Result<()>
-        ensures { Gives (λ _. self.new) result (with_dictionary (symbols_view dictionary.now) self.old) }
+        ensures { Gives (λ _. self.new) result
+            (with_dictionary (symbols_view dictionary.now) self.old) }
     {
         if dictionary.exported_symbols.len() > MAX_SYMBOLS - self.symbols.len() {
             return Err(DecodeError::Overflow(OverflowError::SymbolCount));
@@ -64,7 +70,8 @@ impl<'a, A: Allocator> ReferredSegments<'a, A> {
 
     /// A custom table, or nothing, which strict reading refuses.
     fn add_table(&mut self, strict: bool, table: Option<&'a HuffmanTable<A>>) -> Result<()>
-        ensures { Gives (λ _. self.new) result (with_table strict (found (λ code. code) table.entry) self.old) }
+        ensures { Gives (λ _. self.new) result
+            (with_table strict (found (λ code. code) table.entry) self.old) }
     {
         match table {
             Some(table) => {
@@ -78,7 +85,9 @@ impl<'a, A: Allocator> ReferredSegments<'a, A> {
 
     /// What one number names: a dictionary, else a table.
     fn add_number(&mut self, lookup: &Lookup<'a, A>, number: u32) -> Result<()>
-        ensures { Gives (λ _. self.new) result (with_number lookup.now.strict lookup.now.own.now lookup.now.globals.now number self.old) }
+        ensures { Gives (λ _. self.new) result
+            (with_number lookup.now.strict lookup.now.own.now lookup.now.globals.now number
+            self.old) }
     {
         if let Some(dictionary) = lookup.symbols(number) {
             return self.add_dictionary(dictionary);
@@ -89,14 +98,15 @@ impl<'a, A: Allocator> ReferredSegments<'a, A> {
 
 /// What a segment refers to: each number in turn names a symbol dictionary, else a custom table.
 ///
-/// `OverflowError::SymbolCount` for more than 2^20 symbols together. Strict reading refuses a number
-/// that names neither.
+/// `OverflowError::SymbolCount` for more than 2^20 symbols together. Strict reading refuses a
+/// number that names neither.
 pub(crate) fn gather_referred<'a, A: Allocator + Clone>(
     alloc: A,
     lookup: &Lookup<'a, A>,
     numbers: &[u32],
 ) -> Result<ReferredSegments<'a, A>>
-    ensures { Gives (λ referred. referred) result (referred_by lookup.now.strict lookup.now.own.now lookup.now.globals.now numbers.now) }
+    ensures { Gives (λ referred. referred) result
+        (referred_by lookup.now.strict lookup.now.own.now lookup.now.globals.now numbers.now) }
 {
     let mut referred = ReferredSegments {
         symbols: Vec::new(alloc.clone()?),

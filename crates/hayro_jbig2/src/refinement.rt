@@ -13,7 +13,7 @@ ghost use Rattle.hayro_jbig2.specs.inner.PageViews.{near_area};
 use crate::kept::{Kept, first_under};
 use crate::workspace::Workspace;
 use jbig2_base::bitmap::Bitmap;
-use jbig2_base::bitmap::operator::CombinationOperator;
+use jbig2_base::bitmap::part::Area;
 use jbig2_base::bitmap::steps::Steps;
 use jbig2_base::error::{DecodeError, OverflowError, Result, SegmentError};
 use jbig2_base::reader::Reader;
@@ -41,7 +41,8 @@ fn referred_region<'a, A: Allocator>(
     numbers: &[u32],
     regions: &'a [Kept<DecodedRegion<A>>],
 ) -> Result<Option<&'a DecodedRegion<A>>>
-    ensures { Answers (λ r. found region_view r) result (referred_region strict numbers.now (seen region_view regions.now)) }
+    ensures { Answers (λ r. found region_view r) result
+        (referred_region strict numbers.now (seen region_view regions.now)) }
 {
     let Some(number) = numbers.first() else {
         return Ok(None);
@@ -70,16 +71,14 @@ fn page_area<A: Allocator, B: Allocator, L: Ledger>(
     if x >= 0x8000_0000 || y >= 0x8000_0000 {
         return Err(DecodeError::Overflow(OverflowError::ReferenceOffset));
     }
-    let mut bitmap = Bitmap::new(alloc, region_info.width, region_info.height)?;
-    bitmap.combine(
-        page,
-        -(x as i32),
-        -(y as i32),
-        CombinationOperator::Replace,
-        steps,
-    );
+    let area = Area {
+        left: x,
+        top: y,
+        width: region_info.width,
+        height: region_info.height,
+    };
     Ok(DecodedRegion {
-        bitmap,
+        bitmap: page.part(alloc, area, steps)?,
         x_location: x,
         y_location: y,
         combination_operator: region_info.combination_operator,
@@ -94,7 +93,8 @@ fn refine_page<A: Allocator + Clone, L: Ledger>(
     steps: &mut Steps<L>,
 ) -> Result<DecodedRegion<A>>
     requires parsed { IsRefinement (header_view header.now) }
-    ensures { Gives (λ region. region_view region) result (refined_decoded (header_view header.now) (page_area page.now header.now.region_info)) }
+    ensures { Gives (λ region. region_view region) result
+        (refined_decoded (header_view header.now) (page_area page.now header.now.region_info)) }
 {
     let area = page_area(workspace.alloc.clone()?, page, &header.region_info, steps)?;
     generic_refinement::decode(
@@ -123,7 +123,9 @@ pub(crate) fn decode_refinement<A: Allocator + Clone, L: Ledger>(
     workspace: &mut Workspace<A>,
     steps: &mut Steps<L>,
 ) -> Result<DecodedRegion<A>>
-    ensures { Gives (λ region. region_view region) result (refinement_at strict is_intermediate references.now.page.now (seen region_view references.now.regions.now) (segment_view segment.now)) }
+    ensures { Gives (λ region. region_view region) result
+        (refinement_at strict is_intermediate references.now.page.now
+        (seen region_view references.now.regions.now) (segment_view segment.now)) }
 {
     let numbers = &segment.header.referred_to_segments;
     let referred = referred_region(strict, numbers, references.regions)?;

@@ -26,7 +26,11 @@ pub(crate) struct SegmentsByPage<'a, A: Allocator> {
 impl<'a, A: Allocator + Clone> SegmentsByPage<'a, A> {
     /// The segments of a file, in its order.
     pub(crate) fn new(alloc: A, segments: Vec<Segment<'a, A>, A>) -> Result<SegmentsByPage<'a, A>>
-        ensures { Gives by_page_view result (Ok (of_page 0 (segment_views segments.entry.items), by_pages (segment_views segments.entry.items))) }
+        ensures { Gives by_page_view result
+            (Ok (
+              of_page 0 (segment_views segments.entry.items),
+              by_pages (segment_views segments.entry.items),
+            )) }
     {
         let mut by_page = SegmentsByPage {
             shared: Vec::new(alloc.clone()?),
@@ -45,7 +49,9 @@ impl<'a, A: Allocator + Clone> SegmentsByPage<'a, A> {
     /// Puts a segment behind those of its page, or of association 0.
     fn add(&mut self, segment: Segment<'a, A>) -> Result<()>
         requires { (ps : List SegmentView) × HoldsByPage self.old ps }
-        ensures { (ps : List SegmentView) → HoldsByPage self.old ps → MatchResult result (λ _. HoldsByPage self.new (ps ++ segment_view segment.entry ∷ [])) (λ e. e ≡ OutOfMemory) }
+        ensures { (ps : List SegmentView) → HoldsByPage self.old ps
+            → MatchResult result (λ _. HoldsByPage self.new (ps ++ segment_view segment.entry ∷ []))
+            (λ e. e ≡ OutOfMemory) }
     {
         let number = segment.header.page_association;
         if number == 0 {

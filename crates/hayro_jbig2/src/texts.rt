@@ -27,7 +27,9 @@ pub(crate) fn decode_text<A: Allocator + Clone, L: Ledger>(
     workspace: &Workspace<A>,
     steps: &mut Steps<L>,
 ) -> Result<DecodedRegion<A>>
-    ensures { Gives (λ region. region_view region) result (text_at lookup.now.strict lookup.now.own.now lookup.now.globals.now (segment_view segment.now)) }
+    ensures { Gives (λ region. region_view region) result
+        (text_at lookup.now.strict lookup.now.own.now lookup.now.globals.now
+        (segment_view segment.now)) }
 {
     let numbers = &segment.header.referred_to_segments;
     let referred = gather_referred(workspace.alloc.clone()?, lookup, numbers)?;

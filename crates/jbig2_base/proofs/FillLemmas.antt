@@ -5,7 +5,7 @@ use Rattle.std.proofs.lemmas.Bool.{cases_lt, cond-true, cond-false, and_from, an
 use Rattle.jbig2_base.specs.Grid.{Grid, grid_of, blank, pixel_at}
 use Rattle.jbig2_base.specs.inner.WordBits.{bit}
 use Rattle.jbig2_base.specs.inner.Writes.{with_pixels}
-use Rattle.jbig2_base.specs.Parts.{part_or_overflow, pixel_of_part}
+use Rattle.jbig2_base.specs.Parts.{part_of, part_or_overflow, pixel_of_part}
 use Rattle.jbig2_base.specs.declared.bitmap.part.Area.{Area}
 use Rattle.jbig2_base.specs.inner.Filled.{is_before, filled}
 use Rattle.std.specs.Prelude.{nat_lt}
@@ -140,3 +140,7 @@ white-made w h black g e = one (nat_lt 65535 w || nat_lt 65535 h) (blank w h bla
 pub part-made : (from white g : Grid) (area : Area) (y : ℕ) → blank_or_overflow area.width area.height false ≡ Ok white → y ≡ area.height → g ≡ filled area.width area.height (pixel_of_part from area) y 0 → part_or_overflow from area ≡ Ok g
 part-made from white g area y made whole e =
     rw (white-made area.width area.height false white made).0 (ap (λ (k : Grid). Ok k) (sym (all-filled g area.width area.height (pixel_of_part from area) y whole e)))
+
+-- a part of no longer sides than a bitmap may have
+pub part-fits : (from : Grid) (area : Area) → area.width ≤ 65535 → area.height ≤ 65535 → part_or_overflow from area ≡ Ok (part_of from area)
+part-fits from area columns rows = rw (le-ltb 65535 area.width columns, le-ltb 65535 area.height rows) refl

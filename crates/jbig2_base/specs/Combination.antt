@@ -1,4 +1,5 @@
--- One bitmap combined with another (T.88, 7.4.1.5), at any whole numbers.
+-- One bitmap combined with another (T.88, 7.4.1.5): an operator, the page, a source and the place of its top left
+-- pixel, at any whole numbers, give the page afterwards. Where the source does not lie, the page stays as it was.
 use Rattle.std.specs.Prelude.{ℕ, ◌+◌, ◌-◌, ◌*◌, ◌/◌, ◌≡◌, ◌≤◌, Bool, false, ◌&&◌, nat_lt, min, if◌then◌else◌, ℤ, pos, negsuc, ◌-ℤ◌, zero, suc}
 use Rattle.jbig2_base.specs.declared.bitmap.operator.CombinationOperator.{CombinationOperator}
 use Rattle.jbig2_base.specs.Counts.{Counts}

@@ -1,4 +1,5 @@
--- What the step bounds count (our own rule): each field is a number of calls.
+-- What the step bounds count (our own rule): each field is a number of calls that load or write pixels, or that decide.
+-- A bound compares the counts before a call with those after it.
 use Rattle.std.specs.Prelude.{◌≡◌, ℕ, ◌+◌}
 
 pub record Counts : Type 0 where

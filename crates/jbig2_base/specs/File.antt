@@ -1,4 +1,6 @@
--- Files: all headers, then all data (T.88, D.2), and the segments of a file in either organisation.
+-- Files (T.88, Annex D): the random-access organisation, all headers and then all data (D.2), and the segments of a
+-- file in either organisation. `file_at` takes a file's bytes and gives its header and its segments in order of their
+-- numbers.
 use Rattle.std.specs.Prelude.{ℕ, suc, zero, Bool, ◌==◌, List, [], ◌∷◌, length, Result, Ok, if◌then◌else◌}
 use Rattle.jbig2_base.specs.Answer.{◌>>=◌}
 use Rattle.jbig2_base.specs.FileHeader.{file_header_at}

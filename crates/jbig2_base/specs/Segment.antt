@@ -1,4 +1,5 @@
--- Segments: their headers and their data (T.88, 7.2), from the bytes at their beginning.
+-- Segments: their headers and their data (T.88, 7.2). `segment_at` takes the bytes at the beginning of a segment and
+-- gives the segment and the bytes behind it, or the first fault.
 use Rattle.std.specs.Prelude.{ℕ, suc, zero, ◌+◌, ◌*◌, ◌/◌, ◌%◌, ◌==◌, nat_le, Bool, true, false, not, ◌&&◌, ◌||◌, List, [], ◌∷◌, take, drop, Option, Some, None, Result, Ok, if◌then◌else◌}
 use Rattle.std.specs.List.{list_any}
 use Rattle.std.specs.Int.{w8, w16, w32, from_be_bytes}

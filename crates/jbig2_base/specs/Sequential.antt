@@ -1,4 +1,5 @@
--- Segments one behind the other, header and data by turns (T.88, D.1 and D.3).
+-- Segments one behind the other, header and data by turns: the sequential organisation of a file (T.88, D.1), and the
+-- embedded one (D.3), as PDF keeps pages and globals. The bytes give the list of the segments.
 use Rattle.std.specs.Prelude.{ℕ, suc, zero, Bool, true, false, not, ◌&&◌, ◌==◌, List, [], ◌∷◌, length, Result, Ok, Err, if◌then◌else◌}
 use Rattle.jbig2_base.specs.Answer.{◌>>=◌}
 use Rattle.jbig2_base.specs.Segment.{SegmentView, segment_at}

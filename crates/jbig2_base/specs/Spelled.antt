@@ -1,4 +1,5 @@
--- What a list of segments looks like in either organisation (T.88, Annex D).
+-- What a list of segments looks like in either organisation (T.88, Annex D): the way back from segments to the bytes of
+-- a file. Both organisations of one list are read as the same segments.
 use Rattle.std.specs.Prelude.{◌≡◌, ℕ, Bool, true, false, List, [], ◌∷◌, ◌++◌, length, map, Some, Ok}
 use Rattle.jbig2_base.specs.FileHeader.{file_header_at}
 use Rattle.jbig2_base.specs.Segment.{SegmentView, header_at}

@@ -97,7 +97,8 @@ impl<A: Allocator> Bitmap<A> {
     /// Gives this bitmap another size and makes all pixels `default_pixel` (`true` is black). A
     /// side above 65535 is refused (`OverflowError::BitmapDimension`); a refusal changes nothing.
     pub fn reinitialize(&mut self, width: u32, height: u32, default_pixel: bool) -> Result<()>
-        ensures value { Gives (λ _. self.new) result (blank_or_overflow width height default_pixel) }
+        ensures value { Gives (λ _. self.new) result
+            (blank_or_overflow width height default_pixel) }
         ensures err { OnErr result (self.new ≡ self.old) }
     {
         if width > MAX_DIMENSION || height > MAX_DIMENSION {
@@ -149,7 +150,8 @@ impl<A: Allocator> Bitmap<A> {
     pub fn load_pixels<L: Ledger>(&self, x: u32, y: u32, count: u32, steps: &mut Steps<L>) -> u64
         requires some { 1 ≤ count }
         requires few { count ≤ 64 }
-        ensures bits { (k : ℕ) → k < count → bit result (count - 1 - k) ≡ pixel_at self.now (x + k) y }
+        ensures bits { (k : ℕ) → k < count
+            → bit result (count - 1 - k) ≡ pixel_at self.now (x + k) y }
         ensures bound { result < 2 ^ count }
         ensures steps { steps.new ≡ record steps.old { loads = steps.old.loads + 1 } }
     {
@@ -171,8 +173,8 @@ impl<A: Allocator> Bitmap<A> {
     }
 
     /// Sets `count` neighbouring pixels of row `y` from column `x` on to the lowest `count` bits of
-    /// `bits`, the first to the highest of them. The pixels lie inside, and between two columns that
-    /// 64 divides.
+    /// `bits`, the first to the highest of them. The pixels lie inside, and between two columns
+    /// that 64 divides.
     #[inline(always)]
     pub fn store_pixels<L: Ledger>(
         &mut self,

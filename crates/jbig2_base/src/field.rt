@@ -65,7 +65,8 @@ pub fn i32_field(reader: &mut Reader<'_>) -> Result<i32>
 /// The next `count` bytes, or `ParseError::UnexpectedEof`.
 pub fn bytes_field<'a>(reader: &mut Reader<'a>, count: usize) -> Result<&'a [u8]>
     requires { IsAligned reader.old }
-    ensures parses { Parses reader.old reader.new result (λ x. x.now) (bytes_at count reader.old.bytes) }
+    ensures parses { Parses reader.old reader.new result (λ x. x.now)
+        (bytes_at count reader.old.bytes) }
     ensures taken { OnOk result (length reader.new.bytes + count ≡ length reader.old.bytes) }
 {
     reader

@@ -77,7 +77,8 @@ fn parse_segment_headers<A: Allocator + Clone>(
     strict: bool,
 ) -> Result<Vec<SegmentHeader<A>, A>>
     requires { IsAligned reader.old }
-    ensures value { Gives (λ v. (header_views v.items, reader.new.bytes)) result (headers_in (length reader.old.bytes) strict reader.old.bytes) }
+    ensures value { Gives (λ v. (header_views v.items, reader.new.bytes)) result
+        (headers_in (length reader.old.bytes) strict reader.old.bytes) }
     ensures aligned { IsAligned reader.new }
 {
     let mut headers = Vec::new(alloc.clone()?);
@@ -103,7 +104,8 @@ fn gather_segments<'a, A: Allocator>(
     headers: Vec<SegmentHeader<A>, A>,
 ) -> Result<Vec<Segment<'a, A>, A>>
     requires { IsAligned reader.old }
-    ensures { Gives (λ v. segment_views v.items) result (gathered (header_views headers.items) reader.old.bytes) }
+    ensures { Gives (λ v. segment_views v.items) result
+        (gathered (header_views headers.items) reader.old.bytes) }
 {
     let mut segments = Vec::new(alloc);
     for header in headers {
@@ -136,7 +138,8 @@ fn parse_segments<'a, A: Allocator + Clone>(
     organization: FileOrganization,
     strict: bool,
 ) -> Result<Vec<Segment<'a, A>, A>>
-    ensures { Gives (λ v. segment_views v.items) result (segments_by organization strict bytes.now) }
+    ensures { Gives (λ v. segment_views v.items) result
+        (segments_by organization strict bytes.now) }
 {
     match organization {
         FileOrganization::Sequential => parse_segments_sequential(alloc, bytes, strict),
@@ -179,7 +182,9 @@ pub fn parse_file<'a, A: Allocator + Clone>(
     strict: bool,
 ) -> Result<File<'a, A>>
     ensures value { Gives file_view result (file_at strict bytes.now) }
-    ensures either_organization { (header : FileHeader) (ss : List Spelled) → SpellsFile strict bytes.now header ss → Gives file_view result (Ok (header, by_number (spelled_segments ss))) }
+    ensures either_organization { (header : FileHeader) (ss : List Spelled)
+        → SpellsFile strict bytes.now header ss
+        → Gives file_view result (Ok (header, by_number (spelled_segments ss))) }
 {
     read_file(alloc, bytes, strict)
 }

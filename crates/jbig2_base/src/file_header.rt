@@ -47,7 +47,8 @@ fn organization(flags: u8) -> FileOrganization
 
 fn page_count(reader: &mut Reader<'_>, unknown: bool) -> Result<Option<u32>>
     requires { IsAligned reader.old }
-    ensures value { Answers (λ x. (x, reader.new.bytes)) result (page_count_at unknown reader.old.bytes) }
+    ensures value { Answers (λ x. (x, reader.new.bytes)) result
+        (page_count_at unknown reader.old.bytes) }
     ensures aligned { IsAligned reader.new }
 {
     if unknown {

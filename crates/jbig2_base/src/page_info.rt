@@ -141,7 +141,8 @@ fn is_end_of_stripe(kind: SegmentType) -> bool
 fn first_information<'s, 'a, A: Allocator>(
     segments: &'s [Segment<'a, A>],
 ) -> Result<&'s Segment<'a, A>>
-    ensures { Answers (λ s. segment_view s.now) result (first_information (segment_views segments.now)) }
+    ensures { Answers (λ s. segment_view s.now) result
+        (first_information (segment_views segments.now)) }
 {
     for segment in segments {
         if is_page_information(segment.header.segment_type) {
@@ -188,8 +189,10 @@ fn page_height(stated: u32, stripes: u32) -> Result<u32>
 }
 
 fn initial_page_with(number: u32, information: &PageInformation, height: u32) -> Result<InitialPage>
-    ensures value { Answers (λ initial_page. initial_page) result (initial_page_with number information.now height) }
-    ensures fits { IfOk result (λ initial_page. (initial_page.width ≤ 65535) × (initial_page.height ≤ 65535)) }
+    ensures value { Answers (λ initial_page. initial_page) result
+        (initial_page_with number information.now height) }
+    ensures fits { IfOk result
+        (λ initial_page. (initial_page.width ≤ 65535) × (initial_page.height ≤ 65535)) }
 {
     let width = information.width;
     if width == 0 || height == 0 {
@@ -215,8 +218,10 @@ impl InitialPage {
     /// above 65535 pixels either way. Takes no memory.
     #[tactic(auto, unfolding(crate::specs::PageInfo::initial_page_of))]
     pub fn of_segments<A: Allocator>(segments: &[Segment<'_, A>]) -> Result<InitialPage>
-        ensures value { Answers (λ initial_page. initial_page) result (initial_page_of (segment_views segments.now)) }
-        ensures fits { IfOk result (λ initial_page. (initial_page.width ≤ 65535) × (initial_page.height ≤ 65535)) }
+        ensures value { Answers (λ initial_page. initial_page) result
+            (initial_page_of (segment_views segments.now)) }
+        ensures fits { IfOk result
+            (λ initial_page. (initial_page.width ≤ 65535) × (initial_page.height ≤ 65535)) }
     {
         let first = first_information(segments)?;
         let mut reader = Reader::new(first.bytes);

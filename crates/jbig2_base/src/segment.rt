@@ -118,7 +118,8 @@ pub struct Segment<'a, A: Allocator> {
 fn long_count(reader: &mut Reader<'_>, high: u8) -> Result<u32>
     requires aligned { IsAligned reader.old }
     requires small { high < 32 }
-    ensures value { Answers (λ x. (x, reader.new.bytes)) result (long_count_at high reader.old.bytes) }
+    ensures value { Answers (λ x. (x, reader.new.bytes)) result
+        (long_count_at high reader.old.bytes) }
     ensures aligned { IsAligned reader.new }
     ensures bound { IfOk result (λ n. n < 2 ^ 29) }
     ensures shorter { OnOk result (length reader.new.bytes ≤ length reader.old.bytes) }
@@ -131,7 +132,8 @@ fn long_count(reader: &mut Reader<'_>, high: u8) -> Result<u32>
 
 fn short_or_long_count(reader: &mut Reader<'_>, first: u8) -> Result<u32>
     requires { IsAligned reader.old }
-    ensures value { Answers (λ x. (x, reader.new.bytes)) result (short_or_long_at first reader.old.bytes) }
+    ensures value { Answers (λ x. (x, reader.new.bytes)) result
+        (short_or_long_at first reader.old.bytes) }
     ensures aligned { IsAligned reader.new }
     ensures bound { IfOk result (λ n. n < 2 ^ 29) }
     ensures shorter { OnOk result (length reader.new.bytes ≤ length reader.old.bytes) }
@@ -210,7 +212,8 @@ fn referred_numbers<A: Allocator>(
     own: u32,
 ) -> Result<Vec<u32, A>>
     requires { IsAligned reader.old }
-    ensures value { Gives (λ v. (v.items, reader.new.bytes)) result (referred_at own reader.old.bytes) }
+    ensures value { Gives (λ v. (v.items, reader.new.bytes)) result
+        (referred_at own reader.old.bytes) }
     ensures aligned { IsAligned reader.new }
     ensures shorter { OnOk result (length reader.new.bytes ≤ length reader.old.bytes) }
 {
@@ -261,7 +264,8 @@ pub fn parse_segment_header<A: Allocator>(
     strict: bool,
 ) -> Result<SegmentHeader<A>>
     requires { IsAligned reader.old }
-    ensures parses { Takes reader.old reader.new result header_view (header_at strict reader.old.bytes) }
+    ensures parses { Takes reader.old reader.new result header_view
+        (header_at strict reader.old.bytes) }
     ensures taken { OnOk result (length reader.new.bytes < length reader.old.bytes) }
 {
     let mut ahead = reader.duplicate();
@@ -288,7 +292,8 @@ pub fn parse_segment_header<A: Allocator>(
 
 fn segment_bytes<'a>(reader: &mut Reader<'a>, data_length: Option<u32>) -> Result<&'a [u8]>
     requires { IsAligned reader.old }
-    ensures { Parses reader.old reader.new result (λ x. x.now) (data_at data_length reader.old.bytes) }
+    ensures { Parses reader.old reader.new result (λ x. x.now)
+        (data_at data_length reader.old.bytes) }
 {
     match data_length {
         Some(length) => bytes_field(reader, length as usize),
@@ -309,7 +314,8 @@ pub fn parse_segment_data<'a, A: Allocator>(
     header: SegmentHeader<A>,
 ) -> Result<Segment<'a, A>>
     requires { IsAligned reader.old }
-    ensures { Parses reader.old reader.new result segment_view (segment_data_at (header_view header) reader.old.bytes) }
+    ensures { Parses reader.old reader.new result segment_view
+        (segment_data_at (header_view header) reader.old.bytes) }
 {
     let bytes = segment_bytes(reader, header.data_length)?;
     Ok(Segment { header, bytes })
@@ -324,7 +330,8 @@ pub fn parse_segment<'a, A: Allocator>(
     strict: bool,
 ) -> Result<Segment<'a, A>>
     requires { IsAligned reader.old }
-    ensures parses { Takes reader.old reader.new result segment_view (segment_at strict reader.old.bytes) }
+    ensures parses { Takes reader.old reader.new result segment_view
+        (segment_at strict reader.old.bytes) }
     ensures taken { OnOk result (length reader.new.bytes < length reader.old.bytes) }
 {
     let mut ahead = reader.duplicate();

@@ -14,7 +14,8 @@ use std::alloc::Allocator;
 /// The sort takes a buffer from the collection's allocator. Where there is none it answers
 /// `DecodeError::OutOfMemory`, and nothing has moved.
 pub fn sort_segments<A: Allocator>(segments: &mut Vec<Segment<'_, A>, A>) -> Result<()>
-    ensures value { Gives (λ _. segment_views segments.new.items) result (Ok (by_number (segment_views segments.old.items))) }
+    ensures value { Gives (λ _. segment_views segments.new.items) result
+        (Ok (by_number (segment_views segments.old.items))) }
     ensures unchanged { OnErr result (segments.new.items ≡ segments.old.items) }
 {
     segments.sort_by_key(|segment| segment.header.segment_number)?;

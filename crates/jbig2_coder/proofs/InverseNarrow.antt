@@ -78,53 +78,66 @@ likely-quiet x d a c e below h =
       });
     }
 
-likely-lower : (x : Context) (d : Bool) (a c : ℕ) → beq d x.likely ≡ true → 0x8000 ≤ a → a < 0x10000
-    → a - (row_of x.row).qe < 0x8000 → a - (row_of x.row).qe < (row_of x.row).qe → Narrowing x d a c
-likely-lower x d a c e normal below h k =
+-- a decision that takes the lower part, and one that takes the upper part, where A is renormalized
+takes-lower : (x : Context) (d : Bool) (a c : ℕ) (y : Context) → 0x8000 ≤ a → a < 0x10000
+    → narrowed x d a c ≡ record { range = (row_of x.row).qe; register = c; context = y; renorm = true }
+    → ((r : ℕ) → a - (row_of x.row).qe ≤ r / 2 ^ 16
+    → choice x a r ≡ record { symbol = d; a = (row_of x.row).qe; c = (r + (2 ^ 32 - (a - (row_of x.row).qe) * 2 ^ 16)) % 2 ^ 32; context = y; renorm = true })
+    → Narrowing x d a c
+takes-lower x d a c y normal below is chosen =
     let q : ℕ = (row_of x.row).qe in
     let i : IsRow (row_of x.row) = row_of-is_row x.row in
     record {
       range = q;
       register = c;
-      next = likely_next x;
+      next = y;
       renorm = true;
-      is = narrowed-likely_lower x d a c q e refl h k;
+      is = is;
       some = i.some;
       low = omega arith;
       high = omega (arith, i.half);
       below = omega (arith, i.half);
       quiet = λ f. cc;
       moves = λ _. omega (arith, i.half);
-      part = inr (record {
-        upper = a - q;
-        bottom = refl;
-        whole = omega (arith, i.half);
-        chosen = λ r l. named _ x.likely d _ _ _ _ (beq-same d x.likely e) (choice-lower_likely x a r q refl l k);
-      });
+      part = inr (record { upper = a - q; bottom = refl; whole = omega (arith, i.half); chosen = chosen });
     }
 
-likely-upper : (x : Context) (d : Bool) (a c : ℕ) → beq d x.likely ≡ true → 0x8000 ≤ a → a < 0x10000
-    → a - (row_of x.row).qe < 0x8000 → (row_of x.row).qe ≤ a - (row_of x.row).qe → Narrowing x d a c
-likely-upper x d a c e normal below h k =
+takes-upper : (x : Context) (d : Bool) (a c : ℕ) (y : Context) → 0x8000 ≤ a → a < 0x10000 → a - (row_of x.row).qe < 0x8000
+    → narrowed x d a c ≡ record { range = a - (row_of x.row).qe; register = c + (row_of x.row).qe; context = y; renorm = true }
+    → ((r : ℕ) → r / 2 ^ 16 < a - (row_of x.row).qe
+    → choice x a r ≡ record { symbol = d; a = a - (row_of x.row).qe; c = r; context = y; renorm = true })
+    → Narrowing x d a c
+takes-upper x d a c y normal below h is chosen =
     let q : ℕ = (row_of x.row).qe in
     let i : IsRow (row_of x.row) = row_of-is_row x.row in
     record {
       range = a - q;
       register = c + q;
-      next = likely_next x;
+      next = y;
       renorm = true;
-      is = narrowed-likely_upper x d a c q e refl h k;
-      some = omega (arith, i.some);
+      is = is;
+      some = omega (arith, i.half);
       low = omega arith;
       high = omega (arith, i.half);
       below = omega arith;
       quiet = λ f. cc;
       moves = λ _. h;
-      part = inl (record {
-        top = omega (arith, i.half);
-        chosen = λ r l. named _ x.likely d _ _ _ _ (beq-same d x.likely e) (choice-upper_likely x a r q refl l h k);
-      });
+      part = inl (record { top = omega (arith, i.half); chosen = chosen });
     }
+
+likely-lower : (x : Context) (d : Bool) (a c : ℕ) → beq d x.likely ≡ true → 0x8000 ≤ a → a < 0x10000
+    → a - (row_of x.row).qe < 0x8000 → a - (row_of x.row).qe < (row_of x.row).qe → Narrowing x d a c
+likely-lower x d a c e normal below h k =
+    let q : ℕ = (row_of x.row).qe in
+    takes-lower x d a c (likely_next x) normal below (narrowed-likely_lower x d a c q e refl h k)
+    (λ r l. named _ x.likely d _ _ _ _ (beq-same d x.likely e) (choice-lower_likely x a r q refl l k))
+
+likely-upper : (x : Context) (d : Bool) (a c : ℕ) → beq d x.likely ≡ true → 0x8000 ≤ a → a < 0x10000
+    → a - (row_of x.row).qe < 0x8000 → (row_of x.row).qe ≤ a - (row_of x.row).qe → Narrowing x d a c
+likely-upper x d a c e normal below h k =
+    let q : ℕ = (row_of x.row).qe in
+    takes-upper x d a c (likely_next x) normal below h (narrowed-likely_upper x d a c q e refl h k)
+    (λ r l. named _ x.likely d _ _ _ _ (beq-same d x.likely e) (choice-upper_likely x a r q refl l h k))
 
 unlikely-upper : (x : Context) (d : Bool) (a c : ℕ) → beq d x.likely ≡ false → 0x8000 ≤ a → a < 0x10000
     → a - (row_of x.row).qe < (row_of x.row).qe → Narrowing x d a c
@@ -132,48 +145,15 @@ unlikely-upper x d a c e normal below k =
     let q : ℕ = (row_of x.row).qe in
     let i : IsRow (row_of x.row) = row_of-is_row x.row in
     let h : a - q < 0x8000 = omega (arith, i.half) in
-    record {
-      range = a - q;
-      register = c + q;
-      next = unlikely_next x;
-      renorm = true;
-      is = narrowed-unlikely_upper x d a c q e refl k;
-      some = omega (arith, i.half);
-      low = omega arith;
-      high = omega (arith, i.half);
-      below = omega arith;
-      quiet = λ f. cc;
-      moves = λ _. h;
-      part = inl (record {
-        top = omega (arith, i.half);
-        chosen = λ r l. named _ (not x.likely) d _ _ _ _ (beq-other d x.likely e) (choice-upper_unlikely x a r q refl l h k);
-      });
-    }
+    takes-upper x d a c (unlikely_next x) normal below h (narrowed-unlikely_upper x d a c q e refl k)
+    (λ r l. named _ (not x.likely) d _ _ _ _ (beq-other d x.likely e) (choice-upper_unlikely x a r q refl l h k))
 
 unlikely-lower : (x : Context) (d : Bool) (a c : ℕ) → beq d x.likely ≡ false → 0x8000 ≤ a → a < 0x10000
     → (row_of x.row).qe ≤ a - (row_of x.row).qe → Narrowing x d a c
 unlikely-lower x d a c e normal below k =
     let q : ℕ = (row_of x.row).qe in
-    let i : IsRow (row_of x.row) = row_of-is_row x.row in
-    record {
-      range = q;
-      register = c;
-      next = unlikely_next x;
-      renorm = true;
-      is = narrowed-unlikely_lower x d a c q e refl k;
-      some = i.some;
-      low = omega arith;
-      high = omega (arith, i.half);
-      below = omega (arith, i.half);
-      quiet = λ f. cc;
-      moves = λ _. omega (arith, i.half);
-      part = inr (record {
-        upper = a - q;
-        bottom = refl;
-        whole = omega (arith, i.half);
-        chosen = λ r l. named _ (not x.likely) d _ _ _ _ (beq-other d x.likely e) (choice-lower_unlikely x a r q refl l k);
-      });
-    }
+    takes-lower x d a c (unlikely_next x) normal below (narrowed-unlikely_lower x d a c q e refl k)
+    (λ r l. named _ (not x.likely) d _ _ _ _ (beq-other d x.likely e) (choice-lower_unlikely x a r q refl l k))
 
 pub narrowing : (x : Context) (d : Bool) (a c : ℕ) → 0x8000 ≤ a → a < 0x10000 → Narrowing x d a c
 narrowing x d a c normal below =

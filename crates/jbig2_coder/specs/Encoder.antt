@@ -1,4 +1,5 @@
--- The arithmetic encoder (T.88, E.2), one shift at a time.
+-- The arithmetic encoder (T.88, E.2), one shift at a time. A decision and its context take the encoder's registers and
+-- the bytes so far on to the next; FLUSH ends the bytes. The decoder of `Coder` reads them back.
 use Rattle.std.specs.Prelude.{ℕ, suc, zero, ◌+◌, ◌-◌, ◌*◌, ◌/◌, ◌%◌, ◌^◌, Bool, true, false, not, if◌then◌else◌, ◌==◌, nat_lt, nat_le, List, [], ◌∷◌, reverse}
 use Rattle.jbig2_coder.specs.Table.{row_of}
 use Rattle.jbig2_coder.specs.Coder.{Context, likely_next, unlikely_next}

@@ -7,5 +7,6 @@ pub mod Lists
 pub mod PrefixCode
 pub mod Procedures
 pub mod Table
+pub mod TableSelection
 pub mod Tables
 pub mod inner

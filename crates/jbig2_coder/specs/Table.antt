@@ -1,4 +1,5 @@
--- The probability states of the adaptive coder (T.88, Table E.1).
+-- The probability states of the adaptive coder (T.88, Table E.1): for each row the probability Qe of the unlikely
+-- symbol, the rows that follow either symbol, and where the likely symbol changes.
 use Rattle.std.specs.Prelude.{ℕ, Bool, true, false, List, [], ◌∷◌, slice_index_or}
 use Rattle.jbig2_coder.specs.declared.arithmetic_decoder.qe_table.QeData.{QeData}
 

@@ -1,4 +1,5 @@
--- The standard tables (T.88, B.5), and the lines that a custom table's bits spell (B.2).
+-- The standard tables (T.88, B.5): for each of B.1 to B.15 the list of its lines, each with the length of its prefix,
+-- the number of its range bits and its lowest value.
 use Rattle.std.specs.Prelude.{ℕ, zero, suc, true, false, List, [], ◌∷◌, ◌++◌, map, ℤ, pos, negsuc}
 use Rattle.jbig2_coder.specs.declared.huffman_table.line.TableLine.{TableLine}
 use Rattle.jbig2_coder.specs.PrefixCode.{Member, prefix_code}

@@ -3,3 +3,4 @@ pub mod FirstCodes
 pub mod Floor
 pub mod PrefixLevels
 pub mod Stands
+pub mod TableViews

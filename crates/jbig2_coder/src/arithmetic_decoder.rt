@@ -98,8 +98,16 @@ impl ArithmeticDecoderContext {
     fn exchange(&mut self, registers: &mut Registers) -> bool
         requires normal { 0x8000 ≤ registers.old.a }
         requires below { registers.old.a < 0x10000 }
-        requires renorm { registers.old.code.c / 2 ^ 16 < registers.old.a - (row_of self.old.row).qe → registers.old.a - (row_of self.old.row).qe < 0x8000 }
-        ensures choice { choice self.old registers.old.a registers.old.code.c ≡ record { symbol = result; a = registers.new.a; c = registers.new.code.c; context = self.new; renorm = true } }
+        requires renorm { registers.old.code.c / 2 ^ 16 < registers.old.a - (row_of self.old.row).qe
+            → registers.old.a - (row_of self.old.row).qe < 0x8000 }
+        ensures choice { choice self.old registers.old.a registers.old.code.c
+            ≡ record {
+              symbol = result;
+              a = registers.new.a;
+              c = registers.new.code.c;
+              context = self.new;
+              renorm = true;
+            } }
         ensures bits { registers.new.code.ct ≡ registers.old.code.ct }
         ensures place { registers.new.code.place ≡ registers.old.code.place }
         ensures some { 1 ≤ registers.new.a }
@@ -165,7 +173,8 @@ impl<'a> Model for ArithmeticDecoder<'a> {
 
     ghost view = { λ s. record { bytes = s.bytes.now; registers = s.registers } };
 
-    ghost invariant = { λ s. IsAtRest s.bytes.now s.registers × (s.floor ≡ floor_of s.registers.code.c) };
+    ghost invariant = { λ s. IsAtRest s.bytes.now s.registers
+        × (s.floor ≡ floor_of s.registers.code.c) };
 }
 
 impl<'a> ArithmeticDecoder<'a> {
@@ -199,9 +208,13 @@ impl<'a> ArithmeticDecoder<'a> {
         context: &mut ArithmeticDecoderContext,
         steps: &mut Steps<L>,
     ) -> u32
-        ensures value { result ≡ bit_number (decision self.old.bytes self.old.registers context.old).symbol }
-        ensures coder { self.new ≡ record self.old { registers = (decision self.old.bytes self.old.registers context.old).registers } }
-        ensures context { context.new ≡ (decision self.old.bytes self.old.registers context.old).context }
+        ensures value { result
+            ≡ bit_number (decision self.old.bytes self.old.registers context.old).symbol }
+        ensures coder { self.new ≡ record self.old {
+          registers = (decision self.old.bytes self.old.registers context.old).registers;
+        } }
+        ensures context { context.new
+            ≡ (decision self.old.bytes self.old.registers context.old).context }
         ensures digit { result < 2 }
         ensures steps { steps.new ≡ record steps.old { decisions = steps.old.decisions + 1 } }
     {
@@ -229,7 +242,13 @@ impl<'a> ArithmeticDecoder<'a> {
         requires some { 1 ≤ count }
         requires few { count ≤ 65535 }
         ensures exact { result ≡ all_quiet count self.old.bytes self.old.registers context.now }
-        ensures coder { self.new ≡ (if result then record self.old { registers = record self.old.registers { a = self.old.registers.a - count * (row_of context.now.row).qe } } else self.old) }
+        ensures coder { self.new ≡ (if result
+            then record self.old {
+              registers = record self.old.registers {
+                a = self.old.registers.a - count * (row_of context.now.row).qe;
+              };
+            }
+            else self.old) }
         ensures steps { steps.new ≡ record steps.old { run_tests = steps.old.run_tests + 1 } }
     {
         steps.run_test();
@@ -241,9 +260,9 @@ impl<'a> ArithmeticDecoder<'a> {
         true
     }
 
-    /// How many groups of `count` decisions in `context`, but no more than `most`, are all the likely
-    /// symbol, each without a renormalization. They are taken. Each counts as a test for a run, and so
-    /// does a call that takes none.
+    /// How many groups of `count` decisions in `context`, but no more than `most`, are all the
+    /// likely symbol, each without a renormalization. They are taken. Each counts as a test for a
+    /// run, and so does a call that takes none.
     #[inline(always)]
     pub fn decode_mps_runs<L: Ledger>(
         &mut self,
@@ -256,10 +275,18 @@ impl<'a> ArithmeticDecoder<'a> {
         requires group { 1 ≤ most }
         requires few { count * most ≤ 65535 }
         ensures most { result ≤ most }
-        ensures quiet { all_quiet (count * result) self.old.bytes self.old.registers context.now ≡ true }
-        ensures last { result < most → all_quiet (count * (result + 1)) self.old.bytes self.old.registers context.now ≡ false }
-        ensures coder { self.new ≡ record self.old { registers = record self.old.registers { a = self.old.registers.a - count * result * (row_of context.now.row).qe } } }
-        ensures steps { steps.new ≡ record steps.old { run_tests = steps.old.run_tests + max result 1 } }
+        ensures quiet { all_quiet (count * result) self.old.bytes self.old.registers context.now
+            ≡ true }
+        ensures last { result < most
+            → all_quiet (count * (result + 1)) self.old.bytes self.old.registers context.now
+            ≡ false }
+        ensures coder { self.new ≡ record self.old {
+          registers = record self.old.registers {
+            a = self.old.registers.a - count * result * (row_of context.now.row).qe;
+          };
+        } }
+        ensures steps { steps.new
+            ≡ record steps.old { run_tests = steps.old.run_tests + max result 1 } }
     {
         let total = row_at(context.row).qe * count;
         let room = self.registers.a.saturating_sub(self.floor);

@@ -53,9 +53,15 @@ impl<A: Allocator> IntegerDecoder<A> {
         steps: &mut Steps<L>,
     ) -> Option<i32>
         ensures value { result ≡ (integer decoder.old.bytes decoder.old.registers self.old).value }
-        ensures coder { decoder.new ≡ record decoder.old { registers = (integer decoder.old.bytes decoder.old.registers self.old).reading.registers } }
-        ensures contexts { self.new ≡ (integer decoder.old.bytes decoder.old.registers self.old).reading.contexts }
-        ensures steps { steps.new ≡ record steps.old { decisions = steps.old.decisions + length (integer decoder.old.bytes decoder.old.registers self.old).reading.bits } }
+        ensures coder { decoder.new ≡ record decoder.old {
+          registers = (integer decoder.old.bytes decoder.old.registers self.old).reading.registers;
+        } }
+        ensures contexts { self.new
+            ≡ (integer decoder.old.bytes decoder.old.registers self.old).reading.contexts }
+        ensures steps { steps.new ≡ record steps.old {
+          decisions = steps.old.decisions + length
+              (integer decoder.old.bytes decoder.old.registers self.old).reading.bits;
+        } }
     {
         read_integer(&mut self.contexts, decoder, steps)
     }
@@ -119,8 +125,13 @@ fn read_bit<L: Ledger>(
     ensures below { prev.new < 512 }
     ensures bytes { decoder.new.bytes ≡ decoder.old.bytes }
     ensures digit { result < 2 }
-    ensures bit { (start : Counts) (r : Reading) → Stands prev_of start r prev.old decoder.old contexts.old steps.old → result ≡ bit_number (next prev_of decoder.old.bytes r).symbol }
-    ensures reads { (start : Counts) (r : Reading) → Stands prev_of start r prev.old decoder.old contexts.old steps.old → Stands prev_of start (read prev_of decoder.old.bytes r) prev.new decoder.new contexts.new steps.new }
+    ensures bit { (start : Counts) (r : Reading)
+        → Stands prev_of start r prev.old decoder.old contexts.old steps.old
+        → result ≡ bit_number (next prev_of decoder.old.bytes r).symbol }
+    ensures reads { (start : Counts) (r : Reading)
+        → Stands prev_of start r prev.old decoder.old contexts.old steps.old
+        → Stands prev_of start (read prev_of decoder.old.bytes r) prev.new decoder.new contexts.new
+        steps.new }
 {
     let bit = decoder.decode(&mut contexts[*prev as usize], steps);
     *prev = following(*prev, bit);
@@ -138,8 +149,13 @@ fn read_prefix<L: Ledger>(
     requires below { prev.old < 512 }
     ensures below { prev.new < 512 }
     ensures bytes { decoder.new.bytes ≡ decoder.old.bytes }
-    ensures ones { (start : Counts) (r : Reading) → Stands prev_of start r prev.old decoder.old contexts.old steps.old → result ≡ (prefix 5 0 decoder.old.bytes r).ones }
-    ensures reads { (start : Counts) (r : Reading) → Stands prev_of start r prev.old decoder.old contexts.old steps.old → Stands prev_of start (prefix 5 0 decoder.old.bytes r).reading prev.new decoder.new contexts.new steps.new }
+    ensures ones { (start : Counts) (r : Reading)
+        → Stands prev_of start r prev.old decoder.old contexts.old steps.old
+        → result ≡ (prefix 5 0 decoder.old.bytes r).ones }
+    ensures reads { (start : Counts) (r : Reading)
+        → Stands prev_of start r prev.old decoder.old contexts.old steps.old
+        → Stands prev_of start (prefix 5 0 decoder.old.bytes r).reading prev.new decoder.new
+        contexts.new steps.new }
 {
     for ones in 0..5 {
         if read_bit(contexts, prev, decoder, steps) == 0 {
@@ -161,8 +177,14 @@ fn read_bits<L: Ledger>(
     requires size { length contexts.old ≡ 512 }
     requires below { prev.old < 512 }
     ensures bytes { decoder.new.bytes ≡ decoder.old.bytes }
-    ensures value { (start : Counts) (r : Reading) → Stands prev_of start r prev.old decoder.old contexts.old steps.old → result ≡ value_of_bits (drop (length r.bits) (read_more prev_of count decoder.old.bytes r).bits) }
-    ensures reads { (start : Counts) (r : Reading) → Stands prev_of start r prev.old decoder.old contexts.old steps.old → Stands prev_of start (read_more prev_of count decoder.old.bytes r) prev.new decoder.new contexts.new steps.new }
+    ensures value { (start : Counts) (r : Reading)
+        → Stands prev_of start r prev.old decoder.old contexts.old steps.old
+        → result
+        ≡ value_of_bits (drop (length r.bits) (read_more prev_of count decoder.old.bytes r).bits) }
+    ensures reads { (start : Counts) (r : Reading)
+        → Stands prev_of start r prev.old decoder.old contexts.old steps.old
+        → Stands prev_of start (read_more prev_of count decoder.old.bytes r) prev.new decoder.new
+        contexts.new steps.new }
 {
     let mut value = 0;
     for _ in 0..count {
@@ -179,9 +201,15 @@ fn read_integer<L: Ledger>(
 ) -> Option<i32>
     requires { length contexts.old ≡ 512 }
     ensures value { result ≡ (integer decoder.old.bytes decoder.old.registers contexts.old).value }
-    ensures coder { decoder.new ≡ record decoder.old { registers = (integer decoder.old.bytes decoder.old.registers contexts.old).reading.registers } }
-    ensures contexts { contexts.new ≡ (integer decoder.old.bytes decoder.old.registers contexts.old).reading.contexts }
-    ensures steps { steps.new ≡ record steps.old { decisions = steps.old.decisions + length (integer decoder.old.bytes decoder.old.registers contexts.old).reading.bits } }
+    ensures coder { decoder.new ≡ record decoder.old {
+      registers = (integer decoder.old.bytes decoder.old.registers contexts.old).reading.registers;
+    } }
+    ensures contexts { contexts.new
+        ≡ (integer decoder.old.bytes decoder.old.registers contexts.old).reading.contexts }
+    ensures steps { steps.new ≡ record steps.old {
+      decisions = steps.old.decisions + length
+          (integer decoder.old.bytes decoder.old.registers contexts.old).reading.bits;
+    } }
 {
     let mut prev = 1;
     let negative = read_bit(contexts, &mut prev, decoder, steps) == 1;

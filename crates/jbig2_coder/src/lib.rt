@@ -8,3 +8,4 @@ pub mod integer_decoder;
 pub mod integer_procedures;
 pub mod mq;
 pub mod symbol_id_decoder;
+pub mod table_selection;

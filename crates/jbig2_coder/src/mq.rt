@@ -27,8 +27,8 @@ fn fresh_contexts<A: Allocator>(alloc: A) -> Result<Vec<ArithmeticDecoderContext
     Ok(contexts)
 }
 
-/// The bytes of a list of decisions, each with the number of its context (T.88, E.2). Before the first
-/// decision every context is fresh.
+/// The bytes of a list of decisions, each with the number of its context (T.88, E.2). Before the
+/// first decision every context is fresh.
 ///
 /// `OutOfMemory` where memory is refused.
 pub fn encode_list<A: Allocator + Clone>(alloc: A, list: &[(u16, bool)]) -> Result<Vec<u8, A>>
@@ -53,7 +53,8 @@ pub fn decode_list<A: Allocator + Clone, L: Ledger>(
     steps: &mut Steps<L>,
 ) -> Result<Vec<bool, A>>
     ensures value { Gives (λ v. v.items) result (Ok (read_back bytes.now contexts.now)) }
-    ensures steps { OnOk result (steps.new ≡ record steps.old { decisions = steps.old.decisions + length contexts.now }) }
+    ensures steps { OnOk result
+        (steps.new ≡ record steps.old { decisions = steps.old.decisions + length contexts.now }) }
 {
     let mut table = fresh_contexts(alloc.clone()?)?;
     let mut decoder = ArithmeticDecoder::new(bytes);
@@ -65,12 +66,13 @@ pub fn decode_list<A: Allocator + Clone, L: Ledger>(
     Ok(decisions)
 }
 
-/// The law that the decoder is the encoder's inverse: for every list of decisions, each with the number of
-/// its context, the decoder of Annex G reads from the bytes that the encoder of E.2 gives the list its
-/// decisions, when it is asked in its contexts. Before the first decision every context of both is fresh.
+/// The law that the decoder is the encoder's inverse: for every list of decisions, each with the
+/// number of its context, the decoder of Annex G reads from the bytes that the encoder of E.2 gives
+/// the list its decisions, when it is asked in its contexts. Before the first decision every
+/// context of both is fresh.
 ///
-/// The call does nothing: the law speaks of all lists, and of the definitions that `encode_list` and
-/// `decode_list` meet.
+/// The call does nothing: the law speaks of all lists, and of the definitions that `encode_list`
+/// and `decode_list` meet.
 pub fn decodes_back()
     ensures { DecodesBack }
 {}

@@ -37,7 +37,8 @@ impl<A: Allocator> SymbolIdDecoder<A> {
     /// `OutOfMemory` where the contexts find no room.
     pub fn new(alloc: A, code_len: u32) -> Result<SymbolIdDecoder<A>>
         requires { code_len ≤ 30 }
-        ensures { Gives (λ ids. ids) result (Ok (record { code_len = code_len; contexts = replicate (2 ^ code_len) fresh })) }
+        ensures { Gives (λ ids. ids) result
+            (Ok (record { code_len = code_len; contexts = replicate (2 ^ code_len) fresh })) }
     {
         let contexts = vec![in alloc; ArithmeticDecoderContext::new(); 1 << code_len]?;
         Ok(SymbolIdDecoder { contexts, code_len })
@@ -49,11 +50,17 @@ impl<A: Allocator> SymbolIdDecoder<A> {
         decoder: &mut ArithmeticDecoder<'_>,
         steps: &mut Steps<L>,
     ) -> u32
-        ensures value { result ≡ value_of_bits (id decoder.old.bytes decoder.old.registers self.old).bits }
+        ensures value { result
+            ≡ value_of_bits (id decoder.old.bytes decoder.old.registers self.old).bits }
         ensures below { result < 2 ^ self.old.code_len }
-        ensures coder { decoder.new ≡ record decoder.old { registers = (id decoder.old.bytes decoder.old.registers self.old).registers } }
-        ensures contexts { self.new ≡ record self.old { contexts = (id decoder.old.bytes decoder.old.registers self.old).contexts } }
-        ensures steps { steps.new ≡ record steps.old { decisions = steps.old.decisions + self.old.code_len } }
+        ensures coder { decoder.new ≡ record decoder.old {
+          registers = (id decoder.old.bytes decoder.old.registers self.old).registers;
+        } }
+        ensures contexts { self.new ≡ record self.old {
+          contexts = (id decoder.old.bytes decoder.old.registers self.old).contexts;
+        } }
+        ensures steps { steps.new
+            ≡ record steps.old { decisions = steps.old.decisions + self.old.code_len } }
     {
         read_id(self.code_len, &mut self.contexts, decoder, steps)
     }
@@ -68,10 +75,18 @@ fn read_id<L: Ledger>(
 ) -> u32
     requires few { code_len ≤ 30 }
     requires size { length contexts.old ≡ 2 ^ code_len }
-    ensures value { result ≡ value_of_bits (id decoder.old.bytes decoder.old.registers (record { code_len = code_len; contexts = contexts.old })).bits }
+    ensures value { result ≡ value_of_bits
+        (id decoder.old.bytes decoder.old.registers
+        (record { code_len = code_len; contexts = contexts.old })).bits }
     ensures below { result < 2 ^ code_len }
-    ensures coder { decoder.new ≡ record decoder.old { registers = (id decoder.old.bytes decoder.old.registers (record { code_len = code_len; contexts = contexts.old })).registers } }
-    ensures contexts { contexts.new ≡ (id decoder.old.bytes decoder.old.registers (record { code_len = code_len; contexts = contexts.old })).contexts }
+    ensures coder { decoder.new ≡ record decoder.old {
+      registers = (id decoder.old.bytes
+          decoder.old.registers
+          (record { code_len = code_len; contexts = contexts.old })).registers;
+    } }
+    ensures contexts { contexts.new
+        ≡ (id decoder.old.bytes decoder.old.registers
+        (record { code_len = code_len; contexts = contexts.old })).contexts }
     ensures steps { steps.new ≡ record steps.old { decisions = steps.old.decisions + code_len } }
 {
     let mut prev = 1;

@@ -1,4 +1,5 @@
--- The steps of gray-scale images (our own rule).
+-- The steps of gray-scale images (our own rule): what reading the planes may load, write and decide, and how many loads
+-- take the values out of them, by lanes of eight pixels.
 use Rattle.std.specs.Prelude.{ℕ, zero, suc, ◌≡◌, ◌≤◌, ◌+◌, ◌*◌, ◌/◌, ◌%◌, Bool, true, false, List, None}
 use Rattle.jbig2_base.specs.Counts.{Counts, KeepsLanes}
 use Rattle.jbig2_region.specs.Generic.{coding_of}

@@ -1,4 +1,5 @@
--- The data of a halftone region segment up to its coded bytes (T.88, 7.4.5).
+-- The data of a halftone region segment up to its coded bytes (T.88, 7.4.5): region information, flags, and the grid's
+-- size, place and vector. The bytes give the header, and the coded bytes stand behind it.
 use Rattle.std.specs.Prelude.{ℕ, ◌/◌, ◌%◌, ◌==◌, nat_lt, Bool, ◌||◌, List, Result, Ok}
 use Rattle.std.specs.Int.{w8, w16, w32}
 use Rattle.jbig2_base.specs.Answer.{◌>>=◌, refuse_if}

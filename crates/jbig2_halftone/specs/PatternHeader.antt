@@ -1,4 +1,5 @@
--- The data of a pattern dictionary segment up to its coded bytes (T.88, 7.4.4).
+-- The data of a pattern dictionary segment up to its coded bytes (T.88, 7.4.4): flags, a pattern's sides and GRAYMAX.
+-- The bytes give the header, and the coded bytes stand behind it.
 use Rattle.std.specs.Prelude.{ℕ, ◌/◌, ◌%◌, ◌==◌, Bool, List, Result, Ok}
 use Rattle.std.specs.Int.{w8, w32}
 use Rattle.jbig2_base.specs.Answer.{◌>>=◌, refuse_if}

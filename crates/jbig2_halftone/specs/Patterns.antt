@@ -1,8 +1,11 @@
--- Pattern dictionaries (T.88, 6.7): the patterns stand side by side in one collective bitmap.
+-- Pattern dictionaries (T.88, 6.7): the patterns stand side by side in one collective bitmap, a generic region. The
+-- header with the coded bytes gives the list of the patterns' grids, one for each gray value.
 use Rattle.std.specs.Prelude.{ℕ, ◌+◌, ◌*◌, nat_lt, Bool, false, if◌then◌else◌, List, [], ◌∷◌, map, Result, Ok}
 use Rattle.std.specs.List.{range_with_len}
 use Rattle.jbig2_base.specs.Answer.{◌>>=◌, refuse_if}
-use Rattle.jbig2_base.specs.Grid.{Grid, grid_of, pixel_at}
+use Rattle.jbig2_base.specs.Combination.{most_words}
+use Rattle.jbig2_base.specs.Grid.{Grid}
+use Rattle.jbig2_base.specs.Parts.{part_of}
 use Rattle.jbig2_base.specs.declared.bitmap.operator.CombinationOperator.TheVariants.{Or}
 use Rattle.jbig2_base.specs.declared.error.DecodeError.{DecodeError}
 use Rattle.jbig2_base.specs.declared.error.DecodeError.TheVariants.{Overflow}
@@ -49,7 +52,7 @@ collective_header h = record {
 
 -- pattern k: the columns from k * width on
 abbrev pub pattern_of : Grid → ℕ → ℕ → ℕ → Grid
-pattern_of collective width height k = grid_of width height (λ x y. pixel_at collective (k * width + x) y)
+pattern_of collective width height k = part_of collective (record { left = k * width; top = 0; width = width; height = height })
 
 unfoldable pub patterns_of : Grid → ℕ → ℕ → ℕ → List Grid
 patterns_of collective width height count = map (λ k. pattern_of collective width height k) (range_with_len 0 count)

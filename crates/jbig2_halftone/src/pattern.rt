@@ -11,6 +11,7 @@ mod dictionary;
 pub use dictionary::PatternDictionary;
 use jbig2_base::bitmap::Bitmap;
 use jbig2_base::bitmap::operator::CombinationOperator;
+use jbig2_base::bitmap::part::Area;
 use jbig2_base::bitmap::steps::Steps;
 use jbig2_base::error::{DecodeError, OverflowError, ParseError, Result};
 use jbig2_base::field::{byte_field, u32_field};
@@ -65,7 +66,8 @@ fn side_field(reader: &mut Reader<'_>) -> Result<u8>
 #[tactic(auto, unfolding(crate::specs::PatternHeader::pattern_header_at))]
 pub fn parse<'a>(reader: &mut Reader<'a>, strict: bool) -> Result<PatternDictionaryHeader<'a>>
     requires { IsAligned reader.old }
-    ensures value { Answers (λ h. (header_view h, reader.new.bytes)) result (pattern_header_at strict reader.old.bytes) }
+    ensures value { Answers (λ h. (header_view h, reader.new.bytes)) result
+        (pattern_header_at strict reader.old.bytes) }
     ensures aligned { IsAligned reader.new }
     ensures width { IfOk result (λ h. 1 ≤ h.pattern_width) }
     ensures height { IfOk result (λ h. 1 ≤ h.pattern_height) }
@@ -117,10 +119,13 @@ fn cut_pattern<A: Allocator, L: Ledger>(
     requires place { k * width ≤ 65535 }
     ensures { Gives (λ pattern. pattern) result (Ok (pattern_of collective.now width height k)) }
 {
-    let mut pattern = Bitmap::new(alloc, width, height)?;
-    let left = (k * width) as i32;
-    pattern.combine(collective, -left, 0, CombinationOperator::Replace, steps);
-    Ok(pattern)
+    let area = Area {
+        left: k * width,
+        top: 0,
+        width,
+        height,
+    };
+    collective.part(alloc, area, steps)
 }
 
 /// The patterns that a collective bitmap holds side by side.
@@ -135,7 +140,8 @@ fn cut_patterns<A: Allocator + Clone, L: Ledger>(
     requires columns { width ≤ 65535 }
     requires rows { height ≤ 65535 }
     requires all { count * width ≤ 65535 }
-    ensures { Gives (λ patterns. patterns.items) result (Ok (patterns_of collective.now width height count)) }
+    ensures { Gives (λ patterns. patterns.items) result
+        (Ok (patterns_of collective.now width height count)) }
 {
     let mut patterns = Vec::new(alloc.clone()?);
     for k in 0..count {
@@ -154,8 +160,10 @@ fn decode_collective<A: Allocator, B: Allocator, L: Ledger>(
 ) -> Result<Bitmap<A>>
     requires width { width ≡ collective_width (header_view header.now) }
     requires columns { width ≤ 65535 }
-    ensures value { Gives (λ collective. collective) result (generic_answer (collective_header (header_view header.now))) }
-    ensures contexts { Leaves result contexts.new.items (contexts_after (collective_header (header_view header.now)) contexts.old.items) }
+    ensures value { Gives (λ collective. collective) result
+        (generic_answer (collective_header (header_view header.now))) }
+    ensures contexts { Leaves result contexts.new.items
+        (contexts_after (collective_header (header_view header.now)) contexts.old.items) }
 {
     let region_info = RegionSegmentInfo {
         width,
@@ -178,12 +186,12 @@ fn decode_collective<A: Allocator, B: Allocator, L: Ledger>(
     Ok(collective)
 }
 
-/// Decodes a pattern dictionary (T.88, 6.7). The contexts begin fresh, whatever `contexts` held, and
-/// are left there as the collective bitmap leaves them; MMR data and one that is too wide do not
-/// touch them.
+/// Decodes a pattern dictionary (T.88, 6.7). The contexts begin fresh, whatever `contexts` held,
+/// and are left there as the collective bitmap leaves them; MMR data and one that is too wide do
+/// not touch them.
 ///
-/// `OverflowError::BitmapDimension` where the patterns side by side have more than 65535 columns; in
-/// strict mode `RegionError::InvalidMmrData` where MMR data has a fault or lacks a row;
+/// `OverflowError::BitmapDimension` where the patterns side by side have more than 65535 columns;
+/// in strict mode `RegionError::InvalidMmrData` where MMR data has a fault or lacks a row;
 /// `OutOfMemory` where there is no room, which alone leaves open what `contexts` holds.
 #[tactic(auto, unfolding(crate::specs::Patterns::patterns_decoded))]
 pub fn decode<A: Allocator + Clone, B: Allocator, L: Ledger>(
@@ -193,8 +201,10 @@ pub fn decode<A: Allocator + Clone, B: Allocator, L: Ledger>(
     steps: &mut Steps<L>,
 ) -> Result<PatternDictionary<A>>
     requires { 1 ≤ header.now.pattern_width }
-    ensures value { Gives (λ dictionary. dictionary_view dictionary) result (patterns_decoded (header_view header.now)) }
-    ensures contexts { Leaves result contexts.new.items (dictionary_contexts (header_view header.now) contexts.old.items) }
+    ensures value { Gives (λ dictionary. dictionary_view dictionary) result
+        (patterns_decoded (header_view header.now)) }
+    ensures contexts { Leaves result contexts.new.items
+        (dictionary_contexts (header_view header.now) contexts.old.items) }
 {
     let width = u32::from(header.pattern_width);
     let height = u32::from(header.pattern_height);

@@ -7,7 +7,7 @@ use Rattle.std.proofs.lemmas.Nat.{shr-shr}
 use Rattle.jbig2_base.specs.Grid.{Grid, pixel, pixel_at, bit_number}
 use Rattle.jbig2_base.specs.inner.WordBits.{bit}
 use Rattle.jbig2_base.specs.inner.Writes.{with_pixel, with_pixels}
-use Rattle.jbig2_base.proofs.BitLemmas.{bit-mod, bit-zero, bit_number-bit}
+use Rattle.jbig2_base.proofs.BitLemmas.{bit-mod, bit-zero, bit_number-bit, or-false}
 use Rattle.jbig2_base.proofs.GridLemmas.{grid_of-ext, pixel_at-grid_of, pixel_at-right, pixel_at-below, table-at}
 use Rattle.jbig2_base.proofs.WriteLemmas.{in_field, before_field, behind_field, other_row}
 use Rattle.jbig2_coder.specs.Coder.{Coder, Context, decision, fresh}
@@ -87,10 +87,6 @@ there : (x y : ℕ) (c : Bool) → (c && eqb x x && eqb y y) ≡ c
 there x y true = and_from _ _ (eq-eqb x x refl) (eq-eqb y y refl)
 there x y false = refl
 
-or-none : (b c : Bool) → c ≡ false → (b || c) ≡ b
-or-none true c e = refl
-or-none false c e = e
-
 or-only : (b c : Bool) → b ≡ false → (b || c) ≡ c
 or-only b c e = rw e refl
 
@@ -105,7 +101,7 @@ stored-push g x y k b s c is left above = λ white.
     rw row (
     ⊎_elim
     (λ (before : i < x + k).
-    rw (or-none (pixel_at old i y) _ (not-there (x + k) y i y c (λ e. omega arith)))
+    rw (or-false (pixel_at old i y) _ (not-there (x + k) y i y c (λ e. omega arith)))
     (⊎_elim
     (λ (out : i < x). cond-false _ (bit (b * 2 + s) (x + (k + 1) - 1 - i)) (pixel_at g i y) (before_field x y (k + 1) i y out) ∙ sym (stored-before g x y k b i out))
     (λ (low : x ≤ i).
@@ -119,13 +115,13 @@ stored-push g x y k b s c is left above = λ white.
     cond-true _ (bit (b * 2 + s) (x + (k + 1) - 1 - i)) (pixel_at g i y) (in_field x y (k + 1) i y refl (omega arith) (omega arith)) ∙ ap (λ (n : ℕ). bit (b * 2 + s) n) place ∙ low-bit b s c is
     ∙ rw same (sym (or-only (pixel_at old (x + k) y) _ white ∙ there (x + k) y c)))
     (λ (other : i ≡ x + k → ⊥).
-    rw (or-none (pixel_at old i y) _ (not-there (x + k) y i y c other))
+    rw (or-false (pixel_at old i y) _ (not-there (x + k) y i y c other))
     (cond-false _ (bit (b * 2 + s) (x + (k + 1) - 1 - i)) (pixel_at g i y) (behind_field x y (k + 1) i y (above-by-one x k i more other)) ∙ sym (stored-outside g x y k b i y (behind_field x y k i y more))))
     (cases_eq i (x + k)))
     (cases_lt i (x + k))
     ))
     (λ (other : j ≡ y → ⊥).
-    rw (or-none (pixel_at old i j) _ (not-in-row (x + k) y i j c other))
+    rw (or-false (pixel_at old i j) _ (not-in-row (x + k) y i j c other))
     (cond-false _ (bit (b * 2 + s) (x + (k + 1) - 1 - i)) (pixel_at g i j) (other_row x y (k + 1) i j other) ∙ sym (stored-outside g x y k b i j (other_row x y k i j other))))
     (cases_eq j y))
   where
@@ -144,11 +140,11 @@ stored-one g x y s c is left above = λ white.
     let place : x + 1 - 1 - x ≡ 0 = omega arith in
     rw (row, same) (cond-true _ (bit s (x + 1 - 1 - x)) (pixel_at g x y) (in_field x y 1 x y refl (omega arith) (omega arith)) ∙ ap (λ (n : ℕ). bit s n) place ∙ lowest s c is ∙ sym (or-only (pixel_at g x y) _ white ∙ there x y c)))
     (λ (other : i ≡ x → ⊥).
-    rw (or-none (pixel_at g i j) _ (not-there x y i j c other))
+    rw (or-false (pixel_at g i j) _ (not-there x y i j c other))
     (cond-false _ (bit s (x + 1 - 1 - i)) (pixel_at g i j) (apart x y i j other)))
     (cases_eq i x))
     (λ (other : j ≡ y → ⊥).
-    rw (or-none (pixel_at g i j) _ (not-in-row x y i j c other))
+    rw (or-false (pixel_at g i j) _ (not-in-row x y i j c other))
     (cond-false _ (bit s (x + 1 - 1 - i)) (pixel_at g i j) (other_row x y 1 i j other)))
     (cases_eq j y))
   where

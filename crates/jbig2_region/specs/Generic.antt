@@ -1,4 +1,5 @@
--- Generic regions (T.88, 6.2).
+-- Generic regions (T.88, 6.2): a bitmap coded by itself, by the arithmetic coder in the contexts of a template, or by
+-- MMR. The header with the coded bytes gives the grid, and what the contexts have learned.
 use Rattle.std.specs.Prelude.{ℕ, ◌+◌, ◌*◌, Bool, if◌then◌else◌, List, [], ◌∷◌, map, Option, Some, None, pos, negsuc, ◌+ℤ◌, Result, Ok}
 use Rattle.jbig2_base.specs.Answer.{◌>>=◌}
 use Rattle.jbig2_base.specs.Grid.{Grid, pixel, bit_number}

@@ -1,4 +1,5 @@
--- The data of a generic region segment up to its coded bytes (T.88, 7.4.6).
+-- The data of a generic region segment up to its coded bytes (T.88, 7.4.6): region information, flags and the adaptive
+-- pixels. The bytes give the header, and the coded bytes stand behind it.
 use Rattle.std.specs.Prelude.{ℕ, ◌-◌, ◌/◌, ◌%◌, ◌≤◌, ◌==◌, nat_lt, Bool, true, false, ◌||◌, List, length, take, drop, Result, Ok}
 use Rattle.std.specs.Int.{w8, w32}
 use Rattle.jbig2_base.specs.Answer.{◌>>=◌, refuse_if}

@@ -3,6 +3,7 @@ use Rattle.std.proofs.Common.{◌≡◌, ℕ, false, List, Result, Ok, sym, ap, 
 use Rattle.jbig2_base.specs.Grid.{Grid}
 use Rattle.jbig2_base.specs.Sizes.{blank_or_overflow}
 use Rattle.jbig2_base.specs.declared.error.DecodeError.{DecodeError}
+use Rattle.jbig2_base.proofs.FillLemmas.{white-made}
 use Rattle.jbig2_coder.specs.Coder.{Coder, Context}
 use Rattle.jbig2_coder.specs.declared.arithmetic_decoder.registers.Registers.{Registers}
 use Rattle.jbig2_region.specs.inner.Holds.{Holds}
@@ -10,7 +11,6 @@ use Rattle.jbig2_region.specs.Raster.{Region, so_far, decoded_region, no_pixels}
 use Rattle.jbig2_symbol.specs.SymbolBitmaps.{after_region, coded_region, coded_symbol, symbol_coding}
 use Rattle.jbig2_symbol.specs.SymbolHeader.{SymbolHeader}
 use Rattle.jbig2_symbol.specs.SymbolReading.{SymbolState}
-use Rattle.jbig2_symbol.proofs.FillLemmas.{symbol-made}
 
 -- the state behind a symbol
 abbrev pub behind_symbol : SymbolState → Coder → List Context → SymbolState
@@ -28,7 +28,7 @@ holds-made s width height r grid next after holds = rw (holds.pixels, holds.cont
 state-made : (h : SymbolHeader) (s : SymbolState) (width height : ℕ) (white grid : Grid) (next : Coder) (after : List Context) → blank_or_overflow width height false ≡ Ok white → Holds white.width white.height s.coded.coder.bytes (decoded_region (symbol_coding h s.template) white.width white.height s.coded.coder.bytes (no_pixels s.coded.coder.registers s.generic)) grid next after → coded_symbol h width height s ≡ Ok (grid, behind_symbol s next after)
 unfolding coded_symbol coded_region
 state-made h s width height white grid next after made holds =
-    let fits = symbol-made width height false white made in
+    let fits = white-made width height false white made in
     let sized = subst (λ (g : Grid). Holds g.width g.height s.coded.coder.bytes (decoded_region (symbol_coding h s.template) g.width g.height s.coded.coder.bytes (no_pixels s.coded.coder.registers s.generic)) grid next after) fits.1 holds in
     rw fits.0 (holds-made s width height (decoded_region (symbol_coding h s.template) width height s.coded.coder.bytes (no_pixels s.coded.coder.registers s.generic)) grid next after sized)
 

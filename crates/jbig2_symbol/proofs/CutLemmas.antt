@@ -1,5 +1,5 @@
 -- Collective bitmaps: their rows, and the symbols that are cut out of them.
-use Rattle.std.proofs.Common.{◌≡◌, ℕ, ◌+◌, ◌*◌, ◌<◌, ◌≤◌, Bool, true, false, List, [], ◌∷◌, ◌++◌, suc, length, drop, get_or, Result, Ok, Err, refl, sym, ap, subst, ltb, ◌∙◌, ◌⊎◌, inl, inr, append_assoc, drop-cons, arith}
+use Rattle.std.proofs.Common.{◌≡◌, ℕ, ◌+◌, ◌-◌, ◌*◌, ◌/◌, ◌%◌, ◌^◌, min, ◌<◌, ◌≤◌, Bool, true, false, List, [], ◌∷◌, ◌++◌, suc, length, drop, get_or, Result, Ok, Err, refl, sym, ap, subst, ltb, ◌∙◌, ◌⊎◌, inl, inr, append_assoc, drop-cons, arith}
 use Rattle.std.specs.Prelude.{sum, nat_lt}
 use Rattle.std.proofs.lemmas.List.Sums.{sum_by-drop_more}
 use Rattle.std.proofs.lemmas.List.{append-nil, drop_all}
@@ -11,10 +11,13 @@ use Rattle.jbig2_base.specs.Sizes.{wide_or_overflow}
 use Rattle.jbig2_base.specs.declared.error.DecodeError.{DecodeError}
 use Rattle.jbig2_base.specs.declared.error.DecodeError.TheVariants.{OutOfMemory, Overflow}
 use Rattle.jbig2_base.specs.declared.error.OverflowError.TheVariants.{BitmapDimension}
+use Rattle.jbig2_base.specs.inner.Filled.{filled}
+use Rattle.jbig2_base.specs.inner.WordBits.{bit}
+use Rattle.jbig2_base.specs.inner.Writes.{with_pixels}
+use Rattle.jbig2_base.proofs.BitLemmas.{bit-shr}
+use Rattle.jbig2_base.proofs.FillLemmas.{all-filled, filled-store}
 use Rattle.jbig2_base.proofs.GridLemmas.{grid_of-ext}
-use Rattle.jbig2_symbol.specs.inner.Filled.{filled}
 use Rattle.jbig2_symbol.specs.SymbolBitmaps.{put_behind, raw_pixel, raw_rows, raw_stride, symbol_cut, symbols_cut}
-use Rattle.jbig2_symbol.proofs.FillLemmas.{all-filled}
 
 -- ---- symbols behind others
 behind-cons : (before : List Grid) (symbol : Grid) (others : Result (List Grid) DecodeError) → put_behind before (others >>= λ more. Ok (symbol ∷ more)) ≡ put_behind (before ++ symbol ∷ []) others
@@ -57,6 +60,25 @@ sum-next widths k left most inside few =
     omega (arith, next)
 
 -- ---- rows that are not coded
+-- the next byte of a row that is not coded
+pub uncoded : (bytes : List ℕ) (before after : Grid) (w h y stride index count bits : ℕ) → y < h → 8 * index < w → count ≡ min (w - 8 * index) 8 → stride ≡ raw_stride w → bits ≡ get_or bytes (y * stride + index) 0 / 2 ^ (8 - count) → before ≡ filled w h (raw_pixel bytes (raw_stride w)) y (min w (8 * index)) → after ≡ with_pixels before (8 * index) y count bits → after ≡ filled w h (raw_pixel bytes (raw_stride w)) y (min w (8 * (index + 1)))
+uncoded bytes before after w h y stride index count bits above inside few wide read is_filled written =
+    let at : min w (8 * index) ≡ 8 * index = omega arith in
+    let next : 8 * index + count ≡ min w (8 * (index + 1)) = omega arith in
+    let f : ℕ → ℕ → Bool = raw_pixel bytes (raw_stride w) in
+    let byte : ℕ = get_or bytes (y * raw_stride w + index) 0 in
+    filled-store w h f y (8 * index) count bits before after (omega arith) above
+    (λ k below.
+    let place : 8 - count + (count - 1 - k) ≡ 7 - (8 * index + k) % 8 = omega arith in
+    let column : index ≡ (8 * index + k) / 8 = omega arith in
+    ap (λ (n : ℕ). bit n (count - 1 - k)) (read ∙ ap (λ (n : ℕ). get_or bytes (y * n + index) 0 / 2 ^ (8 - count)) wide)
+    ∙ bit-shr byte (8 - count) (count - 1 - k)
+    ∙ ap (λ (n : ℕ). bit byte n) place
+    ∙ ap (λ (n : ℕ). bit (get_or bytes (y * raw_stride w + n) 0) (7 - (8 * index + k) % 8)) column)
+    (is_filled ∙ ap (λ (x : ℕ). filled w h f y x) at)
+    written
+    ∙ ap (λ (x : ℕ). filled w h f y x) next
+
 wide-made : (w h : ℕ) (g : Grid) → wide_or_overflow w h ≡ Ok g → g ≡ blank w h false
 wide-made w h g e = made (nat_lt (65535 * 65535) (w * h)) (blank w h false) g e
   where

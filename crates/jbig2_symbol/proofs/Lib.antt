@@ -5,7 +5,6 @@ pub mod CodedLemmas
 pub mod CutLemmas
 pub mod ExportLemmas
 pub mod ExportedLemmas
-pub mod FillLemmas
 mod WorkedAggregates
 mod WorkedCoded
 mod WorkedSymbols

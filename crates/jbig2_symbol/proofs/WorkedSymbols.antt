@@ -51,7 +51,7 @@ unfolding dictionary symbol_header_at symbol_flags_of
 row_R8_1-selection = refl
 
 row_R8_1-tables : dictionary (0 ∷ 0x0D ∷ 0 ∷ 0 ∷ 0 ∷ 1 ∷ 0 ∷ 0 ∷ 0 ∷ 1 ∷ 0x5F ∷ 0x80 ∷ 0x80 ∷ 0 ∷ 0x40 ∷ []) ≡ Err (errors.Huffman MissingTables)
-unfolding dictionary symbol_header_at symbol_flags_of symbols_decoded first_contexts symbol_tables
+unfolding dictionary symbol_header_at symbol_flags_of symbols_decoded first_contexts symbol_tables table_for
 row_R8_1-tables = refl
 
 row_R8_1-exported : dictionary (0 ∷ 1 ∷ 0 ∷ 0 ∷ 0 ∷ 2 ∷ 0 ∷ 0 ∷ 0 ∷ 1 ∷ 0x5F ∷ 0x80 ∷ 0x80 ∷ 0 ∷ 0x40 ∷ []) ≡ Err (errors.Symbol NoSymbols)

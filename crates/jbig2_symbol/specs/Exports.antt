@@ -1,4 +1,5 @@
--- Which symbols a dictionary exports (T.88, 6.5.10).
+-- Which symbols a dictionary exports (T.88, 6.5.10): runs of symbols that are left out and that are exported, by turns,
+-- over those that it refers to and the new ones. `exports` gives the exported symbols and the state behind the runs.
 use Rattle.std.specs.Prelude.{ℕ, zero, suc, ◌+◌, ◌-◌, ◌%◌, ◌==◌, nat_le, nat_lt, Bool, not, ◌&&◌, if◌then◌else◌, List, [], ◌∷◌, length, Result, Ok}
 use Rattle.jbig2_base.specs.Answer.{◌>>=◌, refuse_if}
 use Rattle.jbig2_base.specs.Grid.{Grid, bit_number}

@@ -1,10 +1,12 @@
--- The bitmaps of symbols that are neither refined nor put together (T.88, 6.5.8.1 and 6.5.9).
+-- The bitmaps of symbols that are neither refined nor put together: generic regions of their own (T.88, 6.5.8.1), or
+-- parts of the collective bitmap of a height class (6.5.9), which MMR data or plain rows give.
 use Rattle.std.specs.Prelude.{ℕ, ◌+◌, ◌-◌, ◌*◌, ◌/◌, ◌%◌, ◌==◌, nat_lt, Bool, false, ◌||◌, if◌then◌else◌, List, [], ◌∷◌, ◌++◌, slice_index_or, Result, Ok}
 use Rattle.jbig2_base.specs.Answer.{◌>>=◌, refuse_if}
 use Rattle.jbig2_base.specs.Bits.{aligned, start_of}
 use Rattle.jbig2_base.specs.Fields.{bytes_at}
-use Rattle.jbig2_base.specs.Grid.{Grid, grid_of, pixel_at}
+use Rattle.jbig2_base.specs.Grid.{Grid, grid_of}
 use Rattle.jbig2_base.specs.inner.WordBits.{bit}
+use Rattle.jbig2_base.specs.Parts.{part_or_overflow}
 use Rattle.jbig2_base.specs.Sizes.{wide_or_overflow}
 use Rattle.jbig2_base.specs.declared.error.DecodeError.{DecodeError}
 use Rattle.jbig2_base.specs.declared.error.DecodeError.TheVariants.{Huffman, Overflow}
@@ -80,12 +82,9 @@ collective_bitmap d width height s = do
   rows ← rows_of_size d.header.strict size width height (aligned value.1.place).bytes
   Ok (rows.0, record value.1 { place = start_of rows.1 })
 
--- the columns of a bitmap from `from` on
-abbrev pub columns_of : Grid → ℕ → ℕ → ℕ → Grid
-columns_of collective from width height = grid_of width height (λ x y. pixel_at collective (from + x) y)
-
+-- the columns of a collective bitmap from `from` on
 unfoldable pub symbol_cut : Grid → ℕ → ℕ → ℕ → Result Grid DecodeError
-symbol_cut collective from width height = fits_symbol width height >>= λ fits. Ok (columns_of collective from width height)
+symbol_cut collective from width height = part_or_overflow collective (record { left = from; top = 0; width = width; height = height })
 
 -- the symbols of these widths, side by side from column `from` on
 unfoldable pub symbols_cut : Grid → ℕ → ℕ → List ℕ → Result (List Grid) DecodeError

@@ -1,4 +1,5 @@
--- The data of a symbol dictionary segment up to its coded bytes (T.88, 7.4.2.1).
+-- The data of a symbol dictionary segment up to its coded bytes (T.88, 7.4.2.1): flags, the adaptive pixels, and the
+-- numbers of exported and of new symbols. The bytes give the header, and the coded bytes stand behind it.
 use Rattle.std.specs.Prelude.{ℕ, ◌/◌, ◌%◌, ◌==◌, nat_lt, Bool, ◌||◌, List, [], ◌∷◌, Result, Ok, Err, if◌then◌else◌}
 use Rattle.std.specs.Int.{w16, w32}
 use Rattle.jbig2_base.specs.Answer.{◌>>=◌, refuse_if}

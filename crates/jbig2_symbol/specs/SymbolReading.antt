@@ -1,14 +1,15 @@
 -- How the numbers of a symbol dictionary are read (T.88, 6.5 and 7.4.2): by prefix codes, or by the arithmetic coder.
-use Rattle.std.specs.Prelude.{ℕ, ◌+◌, nat_lt, Bool, true, false, not, ◌&&◌, if◌then◌else◌, List, [], length, slice_index_or, Option, Some, None, Result, Ok, Err, ℤ, pos, negsuc}
+-- The state is all that reading goes on from; each number is given with the state behind it.
+use Rattle.std.specs.Prelude.{ℕ, Bool, true, false, not, ◌&&◌, if◌then◌else◌, List, Option, Some, None, Result, Ok, Err, ℤ, pos, negsuc}
 use Rattle.jbig2_base.specs.Answer.{◌>>=◌, refuse_if}
 use Rattle.jbig2_base.specs.Bits.{Place, start_of, bits_left, bits_on}
-use Rattle.jbig2_base.specs.Grid.{Grid, bit_number}
+use Rattle.jbig2_base.specs.Grid.{Grid}
 use Rattle.jbig2_base.specs.declared.error.DecodeError.{DecodeError}
 use Rattle.jbig2_base.specs.declared.error.DecodeError.TheVariants as errors
-use Rattle.jbig2_base.specs.declared.error.HuffmanError.TheVariants.{MissingTables}
 use Rattle.jbig2_base.specs.declared.error.SymbolError.TheVariants.{Invalid}
 use Rattle.jbig2_coder.specs.Coder.{Context}
 use Rattle.jbig2_coder.specs.PrefixCode.{Member, decoded_value, prefix_code}
+use Rattle.jbig2_coder.specs.TableSelection.{next_custom, standard}
 use Rattle.jbig2_coder.specs.Tables.{lines_a, lines_b, lines_c, lines_d, lines_e}
 use Rattle.jbig2_coder.specs.declared.integer_procedures.IntegerProcedure.{IntegerProcedure}
 use Rattle.jbig2_coder.specs.declared.integer_procedures.IntegerProcedure.TheVariants.{Iaai, Iadh, Iadw, Iaex}
@@ -36,42 +37,28 @@ pub record SymbolTables : Type 0 where
   pub counts : List Member
   pub runs : List Member
 
-abbrev pub is_custom : HuffmanTableSelection → Bool
-is_custom UserSupplied = true
-is_custom _ = false
+-- the table that a selection names, and the custom tables that are left
+unfoldable pub table_for : HuffmanTableSelection → List (List Member) → Result (List Member × List (List Member)) DecodeError
+table_for TableB1 customs = standard (prefix_code lines_a) customs
+table_for TableB2 customs = standard (prefix_code lines_b) customs
+table_for TableB3 customs = standard (prefix_code lines_c) customs
+table_for TableB4 customs = standard (prefix_code lines_d) customs
+table_for TableB5 customs = standard (prefix_code lines_e) customs
+table_for UserSupplied customs = next_custom customs
 
--- a table, where `before` tables that are referred to are taken by others
-unfoldable pub table_for : List (List Member) → ℕ → HuffmanTableSelection → List Member
-table_for referred before TableB1 = prefix_code lines_a
-table_for referred before TableB2 = prefix_code lines_b
-table_for referred before TableB3 = prefix_code lines_c
-table_for referred before TableB4 = prefix_code lines_d
-table_for referred before TableB5 = prefix_code lines_e
-table_for referred before UserSupplied = slice_index_or referred before []
-
--- how many of the tables that are referred to are taken by the heights, by the widths too, and so on
-abbrev pub custom_heights : SymbolDictionaryFlags → ℕ
-custom_heights flags = bit_number (is_custom flags.delta_height_table)
-
-abbrev pub custom_widths : SymbolDictionaryFlags → ℕ
-custom_widths flags = custom_heights flags + bit_number (is_custom flags.delta_width_table)
-
-abbrev pub custom_sizes : SymbolDictionaryFlags → ℕ
-custom_sizes flags = custom_widths flags + bit_number (is_custom flags.collective_bitmap_size_table)
-
-abbrev pub custom_counts : SymbolDictionaryFlags → ℕ
-custom_counts flags = custom_sizes flags + bit_number (is_custom flags.aggregate_instance_table)
-
--- The tables of a dictionary take those that it refers to in this order, and the runs have B.1 (7.4.2.1.6); too few are
--- refused, also without prefix codes (our own rule).
+-- The tables of a dictionary take the custom ones that it refers to in this order, and the runs have B.1 (7.4.2.1.6); too
+-- few are refused, also without prefix codes (our own rule).
 unfoldable pub symbol_tables : SymbolDictionaryFlags → List (List Member) → Result SymbolTables DecodeError
-symbol_tables flags referred = do
-  enough ← refuse_if (nat_lt (length referred) (custom_counts flags)) (errors.Huffman MissingTables)
+symbol_tables flags customs = do
+  heights ← table_for flags.delta_height_table customs
+  widths ← table_for flags.delta_width_table heights.1
+  sizes ← table_for flags.collective_bitmap_size_table widths.1
+  counts ← table_for flags.aggregate_instance_table sizes.1
   Ok (record {
-    heights = table_for referred 0 flags.delta_height_table;
-    widths = table_for referred (custom_heights flags) flags.delta_width_table;
-    sizes = table_for referred (custom_widths flags) flags.collective_bitmap_size_table;
-    counts = table_for referred (custom_sizes flags) flags.aggregate_instance_table;
+    heights = heights.0;
+    widths = widths.0;
+    sizes = sizes.0;
+    counts = counts.0;
     runs = prefix_code lines_a;
   })
 

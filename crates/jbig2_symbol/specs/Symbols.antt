@@ -1,4 +1,6 @@
--- Symbol dictionaries (T.88, 6.5): the new symbols stand in height classes, one class behind the other.
+-- Symbol dictionaries (T.88, 6.5): the new symbols stand in height classes, one class behind the other. The header with
+-- the coded bytes, the symbols and tables that the dictionary refers to and the contexts that another has kept give the
+-- symbols that it exports, and the contexts that it keeps itself.
 use Rattle.std.specs.Prelude.{ℕ, zero, suc, ◌+◌, ◌-◌, ◌==◌, nat_lt, nat_le, Bool, not, ◌&&◌, if◌then◌else◌, List, [], ◌∷◌, ◌++◌, length, sum, Option, Some, None, Result, Ok, Err, ℤ, pos, negsuc, ◌+ℤ◌}
 use Rattle.std.specs.List.{flat_map}
 use Rattle.jbig2_base.specs.Answer.{◌>>=◌, refuse_if}

@@ -4,7 +4,8 @@ ghost use Rattle.jbig2_base.specs.Answer.{Gives};
 ghost use Rattle.jbig2_symbol.specs.Aggregates.{state_bits};
 ghost use Rattle.jbig2_symbol.specs.SymbolHeader.{header_view};
 ghost use Rattle.jbig2_symbol.specs.SymbolReading.{contexts_view, first_state};
-ghost use Rattle.jbig2_symbol.specs.inner.SymbolViews.{dictionary_view, input_view, kept_view, referred_view};
+ghost use Rattle.jbig2_coder.specs.inner.TableViews.{customs_view};
+ghost use Rattle.jbig2_symbol.specs.inner.SymbolViews.{dictionary_view, input_view, kept_view};
 ghost use Rattle.jbig2_symbol.specs.Symbols.{symbols_decoded, dictionary_from};
 
 pub mod aggregates;
@@ -66,8 +67,8 @@ fn decode_with<A: Allocator + Clone, T: Allocator, L: Ledger>(
     })
 }
 
-/// Decodes a symbol dictionary (T.88, 6.5). It refers to these symbols, at most 2^21, to these custom
-/// tables, and to the contexts that another dictionary has kept.
+/// Decodes a symbol dictionary (T.88, 6.5). It refers to these symbols, at most 2^21, to these
+/// custom tables, and to the contexts that another dictionary has kept.
 ///
 /// The errors of `first_contexts`, then those of `symbol_tables`, `read_new_symbols` and
 /// `read_exports`; `OutOfMemory`.
@@ -85,7 +86,7 @@ pub fn decode<A: Allocator + Clone, T: Allocator, K: Allocator, L: Ledger>(
     requires fresh { header.now.num_new_symbols ≤ 1048576 }
     ensures { let h = header_view header.now in
         let grids = map (λ b. b.now) symbols.now in
-        let referred = referred_view referred_tables.now in
+        let referred = customs_view referred_tables.now in
         let meant = symbols_decoded h grids referred (kept_view retained_contexts.entry) in
         Gives (λ d. dictionary_view d) result meant }
 {

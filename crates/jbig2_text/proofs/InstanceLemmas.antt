@@ -8,22 +8,22 @@ use Rattle.jbig2_base.specs.declared.bitmap.operator.CombinationOperator.{Combin
 use Rattle.jbig2_base.specs.declared.error.DecodeError.{DecodeError}
 use Rattle.jbig2_base.specs.declared.error.DecodeError.TheVariants.{OutOfMemory}
 use Rattle.jbig2_text.specs.Refining.{Refining}
-use Rattle.jbig2_text.specs.Text.{Instance, Readings, Reached, TextParams, reached, strip_begun, some_strips, with_last, with_next, after_instances, instances_drawn}
+use Rattle.jbig2_text.specs.Text.{Instance, Readings, Reached, TextParams, reached, strip_begun, some_strips, with_last, with_next_instance, after_instances, instances_drawn}
 use Rattle.jbig2_text.specs.inner.TextViews.{instances_view, reached_view, symbol_view}
 use Rattle.jbig2_text.specs.declared.text.cursor.Cursor.{Cursor}
 use Rattle.jbig2_text.specs.declared.text.instances.PlacedInstances.{PlacedInstances}
 use Rattle.jbig2_text.specs.declared.text.placement.Instance.{Instance as PlacedSymbol}
 
-inner-step : {S : Type 0} (r : Readings S) (p : TextParams) (n : ℕ) (x : Reached S) → after_instances r p (suc n) x ≡ (with_next r p x >>= λ y. after_instances r p n y)
+inner-step : {S : Type 0} (r : Readings S) (p : TextParams) (n : ℕ) (x : Reached S) → after_instances r p (suc n) x ≡ (with_next_instance r p x >>= λ y. after_instances r p n y)
 unfolding after_instances
 inner-step r p n x = refl
 
-pub inner-next : {S : Type 0} (r : Readings S) (p : TextParams) (n k : ℕ) (x y : Reached S) (whole : Result (Reached S) DecodeError) → k < n → after_instances r p (n - k) x ≡ whole → with_next r p x ≡ Ok y → after_instances r p (n - (k + 1)) y ≡ whole
+pub inner-next : {S : Type 0} (r : Readings S) (p : TextParams) (n k : ℕ) (x y : Reached S) (whole : Result (Reached S) DecodeError) → k < n → after_instances r p (n - k) x ≡ whole → with_next_instance r p x ≡ Ok y → after_instances r p (n - (k + 1)) y ≡ whole
 inner-next {S} r p n k x y whole below goes read =
     let e : n - k ≡ suc (n - (k + 1)) = omega arith in
     sym (ap (λ (z : Result (Reached S) DecodeError). z >>= λ y. after_instances r p (n - (k + 1)) y) read) ∙ sym (inner-step r p (n - (k + 1)) x) ∙ ap (λ m. after_instances r p m x) (sym e) ∙ goes
 
-pub inner-fault : {S : Type 0} (r : Readings S) (p : TextParams) (n k : ℕ) (x : Reached S) (e : DecodeError) (whole : Result (Reached S) DecodeError) → k < n → after_instances r p (n - k) x ≡ whole → (e ≡ OutOfMemory) ⊎ (with_next r p x ≡ Err e) → (e ≡ OutOfMemory) ⊎ (whole ≡ Err e)
+pub inner-fault : {S : Type 0} (r : Readings S) (p : TextParams) (n k : ℕ) (x : Reached S) (e : DecodeError) (whole : Result (Reached S) DecodeError) → k < n → after_instances r p (n - k) x ≡ whole → (e ≡ OutOfMemory) ⊎ (with_next_instance r p x ≡ Err e) → (e ≡ OutOfMemory) ⊎ (whole ≡ Err e)
 inner-fault {S} r p n k x e whole below goes (inl memory) = inl memory
 inner-fault {S} r p n k x e whole below goes (inr read) =
     let f : n - k ≡ suc (n - (k + 1)) = omega arith in

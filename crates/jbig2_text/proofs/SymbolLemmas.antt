@@ -8,7 +8,7 @@ use Rattle.jbig2_base.specs.declared.error.DecodeError.{DecodeError}
 use Rattle.jbig2_base.specs.declared.error.DecodeError.TheVariants.{OutOfMemory}
 use Rattle.jbig2_coder.specs.PrefixCode.{Member}
 use Rattle.jbig2_text.specs.BitFields.{invalid_code}
-use Rattle.jbig2_text.specs.SymbolCodes.{short_lengths, next_run, runs_at, symbol_codes_from}
+use Rattle.jbig2_text.specs.SymbolCodes.{short_lengths, next_runcode, runs_at, symbol_codes_from}
 
 -- what is read: lengths, and the place behind them
 abbrev pub Lengths : Type 0
@@ -40,16 +40,16 @@ short-done k lens p whole done goes =
 abbrev after_run : ℕ → ℕ → List Member → Lengths → Lengths
 after_run m count ms r = r >>= λ more. runs_at m count ms more.0 more.1
 
-runs-step : (m count : ℕ) (ms : List Member) (lens : List ℕ) (p : Place) → length lens < count → runs_at (suc m) count ms lens p ≡ after_run m count ms (next_run ms lens p)
+runs-step : (m count : ℕ) (ms : List Member) (lens : List ℕ) (p : Place) → length lens < count → runs_at (suc m) count ms lens p ≡ after_run m count ms (next_runcode ms lens p)
 unfolding runs_at
 runs-step m count ms lens p few = cond-true _ _ _ (lt-ltb (length lens) count few)
 
-pub runs-next : (k count : ℕ) (ms : List Member) (lens more : List ℕ) (p q : Place) (whole : Lengths) → k < count → length lens < count → runs_at (count - k) count ms lens p ≡ whole → next_run ms lens p ≡ Ok (more, q) → runs_at (count - (k + 1)) count ms more q ≡ whole
+pub runs-next : (k count : ℕ) (ms : List Member) (lens more : List ℕ) (p q : Place) (whole : Lengths) → k < count → length lens < count → runs_at (count - k) count ms lens p ≡ whole → next_runcode ms lens p ≡ Ok (more, q) → runs_at (count - (k + 1)) count ms more q ≡ whole
 runs-next k count ms lens more p q whole below few goes read =
     let e : count - k ≡ suc (count - (k + 1)) = omega arith in
     sym (ap (after_run (count - (k + 1)) count ms) read) ∙ sym (runs-step (count - (k + 1)) count ms lens p few) ∙ ap (λ m. runs_at m count ms lens p) (sym e) ∙ goes
 
-pub runs-fault : (k count : ℕ) (ms : List Member) (lens : List ℕ) (p : Place) (f : DecodeError) (whole : Lengths) → k < count → length lens < count → runs_at (count - k) count ms lens p ≡ whole → (f ≡ OutOfMemory) ⊎ (next_run ms lens p ≡ Err f) → (f ≡ OutOfMemory) ⊎ (whole ≡ Err f)
+pub runs-fault : (k count : ℕ) (ms : List Member) (lens : List ℕ) (p : Place) (f : DecodeError) (whole : Lengths) → k < count → length lens < count → runs_at (count - k) count ms lens p ≡ whole → (f ≡ OutOfMemory) ⊎ (next_runcode ms lens p ≡ Err f) → (f ≡ OutOfMemory) ⊎ (whole ≡ Err f)
 runs-fault k count ms lens p f whole below few goes (inl memory) = inl memory
 runs-fault k count ms lens p f whole below few goes (inr read) =
     let e : count - k ≡ suc (count - (k + 1)) = omega arith in

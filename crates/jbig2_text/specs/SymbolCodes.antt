@@ -1,4 +1,5 @@
--- The prefix codes of the symbols' ids (T.88, 7.4.3.1.7): their lengths, as runs that are prefix-coded themselves.
+-- The prefix codes of the symbols' ids (T.88, 7.4.3.1.7): their lengths, as runs that are prefix-coded themselves. A
+-- place in the bits and the number of the symbols give the codes, and the place behind them.
 use Rattle.std.specs.Prelude.{ℕ, zero, suc, ◌+◌, ◌-◌, nat_lt, ◌==◌, List, [], ◌∷◌, ◌++◌, length, replicate, slice_get, Result, Ok, Err, ℤ, pos, negsuc, if◌then◌else◌}
 use Rattle.jbig2_base.specs.Answer.{◌>>=◌, refuse_if, some_or}
 use Rattle.jbig2_base.specs.Bits.{Place, start_of, aligned}
@@ -36,14 +37,14 @@ run_at (pos code) so_far p =
     else if code == 33 then (bits_at invalid_code 3 p >>= λ n. Ok (so_far ++ replicate (n.0 + 3) 0, n.1))
     else (bits_at invalid_code 7 p >>= λ n. Ok (so_far ++ replicate (n.0 + 11) 0, n.1))
 
-abbrev pub next_run : List Member → List ℕ → Place → Result (List ℕ × Place) DecodeError
-next_run runcodes so_far p = value_at runcodes p >>= λ code. run_at code.0 so_far code.1
+abbrev pub next_runcode : List Member → List ℕ → Place → Result (List ℕ × Place) DecodeError
+next_runcode runcodes so_far p = value_at runcodes p >>= λ code. run_at code.0 so_far code.1
 
 -- Runs, until there are `count` lengths; each run has one at least, so `most` of them are enough where it is `count`.
 unfoldable pub runs_at : ℕ → ℕ → List Member → List ℕ → Place → Result (List ℕ × Place) DecodeError
 runs_at zero count runcodes so_far p = Ok (so_far, p)
 runs_at (suc most) count runcodes so_far p =
-    if nat_lt (length so_far) count then (next_run runcodes so_far p >>= λ more. runs_at most count runcodes more.0 more.1)
+    if nat_lt (length so_far) count then (next_runcode runcodes so_far p >>= λ more. runs_at most count runcodes more.0 more.1)
     else Ok (so_far, p)
 
 -- the codes of the 35 runcodes (steps 1 and 2)

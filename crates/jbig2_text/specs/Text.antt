@@ -95,8 +95,8 @@ moved_by r flags c (Some ids) s = do
   curs ← coordinate (apart +ℤ flags.delta_s_offset)
   Ok (record c { cur_s = curs }, s)
 
-unfoldable pub moved : {S : Type 0} → Readings S → TextRegionFlags → Cursor → S → Result (Cursor × S) DecodeError
-moved r flags c s = r.delta_s s >>= λ ids. moved_by r flags c ids (r.behind_delta_s s)
+unfoldable pub cursor_moved : {S : Type 0} → Readings S → TextRegionFlags → Cursor → S → Result (Cursor × S) DecodeError
+cursor_moved r flags c s = r.delta_s s >>= λ ids. moved_by r flags c ids (r.behind_delta_s s)
 
 -- CURT, which is read in strips of more than one row alone (6.4.9)
 abbrev pub t_in_strip : {S : Type 0} → Readings S → TextRegionFlags → S → Result (ℤ × S) DecodeError
@@ -207,8 +207,8 @@ abbrev pub edge : Bool → ℕ → ℤ → Result ℤ DecodeError
 edge at_last side place = if at_last then coordinate (place -ℤ behind_first side) else Ok place
 
 -- a symbol at SI and TI, and CURS behind it (steps 3 c vi to x)
-unfoldable pub placed : TextRegionFlags → Grid → ℤ → ℤ → Result (Instance × ℤ) DecodeError
-placed flags g curs ti = do
+unfoldable pub symbol_placed : TextRegionFlags → Grid → ℤ → ℤ → Result (Instance × ℤ) DecodeError
+symbol_placed flags g curs ti = do
   si ← s_before flags g curs
   x ← edge (is_right flags.reference_corner) g.width (if flags.transposed then ti else si)
   y ← edge (is_bottom flags.reference_corner) g.height (if flags.transposed then si else ti)
@@ -220,7 +220,7 @@ placed flags g curs ti = do
 abbrev pub with_symbol : TextRegionFlags → List Instance → Cursor → ℤ → Option Grid → Result (List Instance × Cursor) DecodeError
 with_symbol flags before c ti None = Ok (before, c)
 with_symbol flags before c ti (Some g) =
-    placed flags g c.cur_s ti >>= λ i. Ok (before ++ i.0 ∷ [], record c { cur_s = i.1 })
+    symbol_placed flags g c.cur_s ti >>= λ i. Ok (before ++ i.0 ∷ [], record c { cur_s = i.1 })
 
 -- one instance more: TI is STRIPT and CURT, then come ID and IB (steps 3 c iii to x)
 unfoldable pub with_instance : {S : Type 0} → Readings S → TextParams → Reached S → Result (Reached S) DecodeError
@@ -233,16 +233,16 @@ with_instance r p x = do
   Ok (reached more.0 more.1 ib.1 ib.2)
 
 -- one more, and where the one behind it stands
-abbrev pub with_next : {S : Type 0} → Readings S → TextParams → Reached S → Result (Reached S) DecodeError
-with_next r p x = do
+abbrev pub with_next_instance : {S : Type 0} → Readings S → TextParams → Reached S → Result (Reached S) DecodeError
+with_next_instance r p x = do
   y ← with_instance r p x
-  c ← moved r p.flags y.cursor y.state
+  c ← cursor_moved r p.flags y.cursor y.state
   Ok (reached y.instances c.0 y.refining c.1)
 
 -- so many more, with others behind them
 unfoldable pub after_instances : {S : Type 0} → Readings S → TextParams → ℕ → Reached S → Result (Reached S) DecodeError
 after_instances r p zero x = Ok x
-after_instances r p (suc n) x = with_next r p x >>= λ y. after_instances r p n y
+after_instances r p (suc n) x = with_next_instance r p x >>= λ y. after_instances r p n y
 
 -- A strip ends out of band. In strict mode it is refused otherwise; lenient reading takes any end (our own rule).
 abbrev pub end_of_strip : Bool → Result (Option ℤ) DecodeError → Result (Unit {0}) DecodeError

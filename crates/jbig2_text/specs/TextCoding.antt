@@ -55,8 +55,8 @@ abbrev pub in_band : DecodeError → Option ℤ → Result ℤ DecodeError
 in_band e None = Err e
 in_band e (Some n) = Ok n
 
-abbrev pub coded_number : IntegerProcedure → Coded → Result (ℤ × Coded) DecodeError
-coded_number procedure s = let i = next_integer procedure s in in_band (Symbol UnexpectedOob) i.0 >>= λ n. Ok (n, i.1)
+abbrev pub number_by_coder : IntegerProcedure → Coded → Result (ℤ × Coded) DecodeError
+number_by_coder procedure s = let i = next_integer procedure s in in_band (Symbol UnexpectedOob) i.0 >>= λ n. Ok (n, i.1)
 
 -- the low eight bits of a flag count (our own rule)
 abbrev pub is_flag : ℤ → Bool
@@ -68,17 +68,17 @@ coded_refined from width height f s =
 
 abbrev pub by_coder : Readings Coded
 by_coder = record {
-  delta_t = coded_number Iadt;
-  first_s = coded_number Iafs;
+  delta_t = number_by_coder Iadt;
+  first_s = number_by_coder Iafs;
   delta_s = λ s. Ok (next_integer Iads s).0;
   behind_delta_s = λ s. (next_integer Iads s).1;
-  t_bits = λ _. coded_number Iait;
+  t_bits = λ _. number_by_coder Iait;
   id = λ s. Ok (next_id s);
-  is_refined = λ s. coded_number Iari s >>= λ flag. Ok (is_flag flag.0, flag.1);
-  width_delta = coded_number Iardw;
-  height_delta = coded_number Iardh;
-  x_delta = coded_number Iardx;
-  y_delta = coded_number Iardy;
+  is_refined = λ s. number_by_coder Iari s >>= λ flag. Ok (is_flag flag.0, flag.1);
+  width_delta = number_by_coder Iardw;
+  height_delta = number_by_coder Iardh;
+  x_delta = number_by_coder Iardx;
+  y_delta = number_by_coder Iardy;
   refined = λ from width height f s. Ok (coded_refined from width height f s);
 }
 

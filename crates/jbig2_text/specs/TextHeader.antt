@@ -1,4 +1,6 @@
--- The data of a text region segment up to its coded bytes (T.88, 7.4.3.1).
+-- The data of a text region segment up to its coded bytes (T.88, 7.4.3.1): region information, flags, the adaptive
+-- pixels of refinements, the number of instances and the codes of the ids. The bytes give the header, and the coded
+-- bytes stand behind it.
 use Rattle.std.specs.Prelude.{ℕ, ◌/◌, ◌%◌, ◌==◌, nat_lt, Bool, true, false, List, [], ◌∷◌, length, Option, Some, None, Result, Ok, if◌then◌else◌, ℤ, pos, ◌-ℤ◌}
 use Rattle.std.specs.Int.{w16, w32}
 use Rattle.jbig2_base.specs.Answer.{◌>>=◌}

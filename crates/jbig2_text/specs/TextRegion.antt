@@ -1,13 +1,15 @@
--- A text region segment (T.88, 7.4.3): its tables, and its region decoded from fresh states.
-use Rattle.std.specs.Prelude.{ℕ, ◌^◌, nat_le, nat_lt, ◌==◌, ◌||◌, if◌then◌else◌, List, [], ◌∷◌, length, Result, Ok, Err}
+-- A text region segment (T.88, 7.4.3): its tables, and its region decoded from fresh states. The header with the coded
+-- bytes, the symbols and the custom tables that it refers to give the region's grid at its place.
+use Rattle.std.specs.Prelude.{ℕ, ◌^◌, nat_le, nat_lt, ◌==◌, ◌||◌, if◌then◌else◌, List, length, Result, Ok, Err}
 use Rattle.jbig2_base.specs.Answer.{◌>>=◌, refuse_if}
 use Rattle.jbig2_base.specs.Bits.{start_of}
 use Rattle.jbig2_base.specs.Grid.{Grid, blank}
 use Rattle.jbig2_base.specs.declared.error.DecodeError.{DecodeError}
 use Rattle.jbig2_base.specs.declared.error.DecodeError.TheVariants.{Huffman, Overflow}
-use Rattle.jbig2_base.specs.declared.error.HuffmanError.TheVariants.{InvalidSelection, MissingTables}
+use Rattle.jbig2_base.specs.declared.error.HuffmanError.TheVariants.{InvalidSelection}
 use Rattle.jbig2_base.specs.declared.error.OverflowError.TheVariants.{BitmapDimension}
 use Rattle.jbig2_coder.specs.PrefixCode.{Member, prefix_code}
+use Rattle.jbig2_coder.specs.TableSelection.{next_custom, standard}
 use Rattle.jbig2_coder.specs.Tables.{lines_a, lines_f, lines_g, lines_h, lines_i, lines_j, lines_k, lines_l, lines_m, lines_n, lines_o}
 use Rattle.jbig2_region.specs.RegionInfo.{PlacedRegion, placed}
 use Rattle.jbig2_base.specs.Search.{code_length}
@@ -18,20 +20,12 @@ use Rattle.jbig2_text.specs.TextHeader.{NumberCoding, TextHeader, ArithmeticCodi
 use Rattle.jbig2_text.specs.declared.text.header.TextRegionHuffmanFlags.{TextRegionHuffmanFlags}
 
 -- ---- tables (7.4.3.1.6)
--- The next custom table, and those behind it; each selection of one takes the next.
-abbrev pub custom : List (List Member) → Result (List Member × List (List Member)) DecodeError
-custom [] = Err (Huffman MissingTables)
-custom (table ∷ others) = Ok (table, others)
-
-abbrev pub standard : List Member → List (List Member) → Result (List Member × List (List Member)) DecodeError
-standard table customs = Ok (table, customs)
-
 -- the table that a number names among two, and 3 for a custom one
 abbrev pub one_of_two : List Member → List Member → ℕ → List (List Member) → Result (List Member × List (List Member)) DecodeError
 one_of_two first second n customs =
     if n == 0 then standard first customs
     else if n == 1 then standard second customs
-    else if n == 3 then custom customs
+    else if n == 3 then next_custom customs
     else Err (Huffman InvalidSelection)
 
 abbrev pub one_of_three : List Member → List Member → List Member → ℕ → List (List Member) → Result (List Member × List (List Member)) DecodeError
@@ -39,7 +33,7 @@ one_of_three first second third n customs =
     if n == 0 then standard first customs
     else if n == 1 then standard second customs
     else if n == 2 then standard third customs
-    else custom customs
+    else next_custom customs
 
 abbrev pub table_of_first_s : ℕ → List (List Member) → Result (List Member × List (List Member)) DecodeError
 table_of_first_s n customs = one_of_two (prefix_code lines_f) (prefix_code lines_g) n customs
@@ -54,7 +48,7 @@ abbrev pub table_of_refinement : ℕ → List (List Member) → Result (List Mem
 table_of_refinement n customs = one_of_two (prefix_code lines_n) (prefix_code lines_o) n customs
 
 abbrev pub table_of_size : ℕ → List (List Member) → Result (List Member × List (List Member)) DecodeError
-table_of_size n customs = if n == 0 then standard (prefix_code lines_a) customs else custom customs
+table_of_size n customs = if n == 0 then standard (prefix_code lines_a) customs else next_custom customs
 
 -- the tables of an aggregate symbol's instances (6.5.8.2, Table 17)
 abbrev pub aggregate_tables : TextTables

@@ -5,7 +5,8 @@ ghost use Rattle.jbig2_base.specs.Grid.{blank};
 ghost use Rattle.jbig2_region.specs.RegionInfo.{region_view};
 ghost use Rattle.jbig2_text.specs.TextHeader.{header_view};
 ghost use Rattle.jbig2_text.specs.TextRegion.{coder_of, prefix_codes_of, refining_of, region_from, text_params, text_answer, text_decoded};
-ghost use Rattle.jbig2_text.specs.inner.TextViews.{coded_view, customs_view, params_view, prefixed_view, symbols_view};
+ghost use Rattle.jbig2_coder.specs.inner.TableViews.{customs_view};
+ghost use Rattle.jbig2_text.specs.inner.TextViews.{coded_view, params_view, prefixed_view, symbols_view};
 
 pub(crate) mod coded;
 pub(crate) mod cursor;

@@ -17,12 +17,12 @@ abbrev pub by_page_view : {A : Type 0} → SegmentsByPage A → List SegmentView
 by_page_view s = (segment_views s.shared.items, pages_view s.pages.items)
 
 -- where a number first stands among others
-abbrev pub place_of : ℕ → List ℕ → Option ℕ
-place_of n [] = None
-place_of n (m ∷ ms) = if m == n then Some 0 else option_map suc (place_of n ms)
+abbrev pub first_place_of : ℕ → List ℕ → Option ℕ
+first_place_of n [] = None
+first_place_of n (m ∷ ms) = if m == n then Some 0 else option_map suc (first_place_of n ms)
 
 -- The segments ps by their pages, each of which is found by its number.
 pub record HoldsByPage {A : Type 0} (s : SegmentsByPage A) (ps : List SegmentView) : Type 0 where
   pub shared : segment_views s.shared.items ≡ of_page 0 ps
   pub pages : pages_view s.pages.items ≡ by_pages ps
-  pub found : (n : ℕ) → get nat_cmp s.places n ≡ place_of n (numbers_after [] ps)
+  pub found : (n : ℕ) → get nat_cmp s.places n ≡ first_place_of n (numbers_after [] ps)

@@ -24,9 +24,9 @@ struct Span {
 }
 
 impl<A: Allocator> Bitmap<A> {
-    /// Combines `other` into this bitmap, its top left pixel at column `x` of row `y`: each pixel of
-    /// this bitmap that a pixel of `other` lies on becomes what `operator` makes of the two. Any place
-    /// will do, also partly or wholly outside.
+    /// Combines `other` into this bitmap, its top left pixel at column `x` of row `y`: each pixel
+    /// of this bitmap that a pixel of `other` lies on becomes what `operator` makes of the two. Any
+    /// place will do, also partly or wholly outside.
     pub fn combine<B: Allocator, L: Ledger>(
         &mut self,
         other: &Bitmap<B>,
@@ -36,7 +36,8 @@ impl<A: Allocator> Bitmap<A> {
         steps: &mut Steps<L>,
     )
         ensures value { self.new ≡ combined operator self.old other.now x y }
-        ensures steps { WritesWithin (overlap self.old.height other.now.height y * most_words (overlap self.old.width other.now.width x)) steps.old steps.new }
+        ensures steps { WritesWithin (overlap self.old.height other.now.height y
+            * most_words (overlap self.old.width other.now.width x)) steps.old steps.new }
     {
         let (left, from) = starts(x);
         let (top, from_row) = starts(y);
@@ -58,7 +59,8 @@ impl<A: Allocator> Bitmap<A> {
     }
 }
 
-/// Where a source that begins at `x` begins on the page, and with which of its own columns (or rows).
+/// Where a source that begins at `x` begins on the page, and with which of its own columns (or
+/// rows).
 fn starts(x: i32) -> (u32, u32)
     ensures difference { x ≡ pos result.0 -ℤ pos result.1 }
     ensures one { min result.0 result.1 ≡ 0 }
@@ -142,7 +144,8 @@ fn combine_row<A: Allocator, B: Allocator, L: Ledger>(
 fn combined_bits(operator: CombinationOperator, page: u64, source: u64, count: u32) -> u64
     requires some { 1 ≤ count }
     requires few { count ≤ 64 }
-    ensures { (k : ℕ) → k < count → bit result k ≡ combined_pixel operator (bit page k) (bit source k) }
+    ensures { (k : ℕ) → k < count
+        → bit result k ≡ combined_pixel operator (bit page k) (bit source k) }
 {
     match operator {
         CombinationOperator::Or => page | source,

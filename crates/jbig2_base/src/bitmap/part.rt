@@ -1,5 +1,5 @@
-//! Parts that are cut out of bitmaps: the symbols of a collective bitmap (T.88, 6.5.9), the patterns
-//! of one (6.7.5), and the area of the page that a refinement takes (7.4.7.4).
+//! Parts that are cut out of bitmaps: the symbols of a collective bitmap (T.88, 6.5.9), the
+//! patterns of one (6.7.5), and the area of the page that a refinement takes (7.4.7.4).
 ghost use Rattle.std.specs.Prelude.{◌≡◌, ◌+◌, ◌<◌, ◌≤◌};
 ghost use Rattle.jbig2_base.specs.Answer.{Gives};
 ghost use Rattle.jbig2_base.specs.Parts.{part_or_overflow, pixel_of_part};
@@ -47,8 +47,8 @@ fn copy_row<A: Allocator, B: Allocator, L: Ledger>(
 }
 
 impl<A: Allocator> Bitmap<A> {
-    /// The part of this bitmap that `area` covers, white outside, in memory of its own. A side above
-    /// 65535 is refused (`OverflowError::BitmapDimension`).
+    /// The part of this bitmap that `area` covers, white outside, in memory of its own. A side
+    /// above 65535 is refused (`OverflowError::BitmapDimension`).
     pub fn part<B: Allocator, L: Ledger>(
         &self,
         alloc: B,

@@ -138,7 +138,8 @@ impl<A: Allocator> PackedRows<A> {
     pub fn load_pixels<L: Ledger>(&self, x: u32, y: u32, count: u32, steps: &mut Steps<L>) -> u64
         requires some { 1 ≤ count }
         requires few { count ≤ 64 }
-        ensures bits { (k : ℕ) → k < count → bit result (count - 1 - k) ≡ pixel_at self.now (x + k) y }
+        ensures bits { (k : ℕ) → k < count
+            → bit result (count - 1 - k) ≡ pixel_at self.now (x + k) y }
         ensures bound { result < 2 ^ count }
         ensures steps { steps.new ≡ record steps.old { loads = steps.old.loads + 1 } }
     {
@@ -228,7 +229,8 @@ fn fill_rows<A: Allocator>(words: &mut Vec<u64, A>, width: u32, black: bool)
     requires columns { 0 < length words.old.items → 0 < width }
     requires zero { (k : ℕ) → k < length words.old.items → slice_index words.old.items k ≡ 0 }
     ensures size { length words.new.items ≡ length words.old.items }
-    ensures value { (k : ℕ) → k < length words.new.items → slice_index words.new.items k ≡ blank_word width black k }
+    ensures value { (k : ℕ) → k < length words.new.items
+        → slice_index words.new.items k ≡ blank_word width black k }
 {
     if !black {
         return;

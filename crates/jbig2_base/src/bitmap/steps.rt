@@ -30,7 +30,8 @@ impl<L: Ledger> Model for Steps<L> {
       pixels = s.pixels.amount;
     } };
 
-    ghost invariant = { λ s. (0 < s.loads.parts) × (0 < s.words.parts) × (0 < s.decisions.parts) × (0 < s.run_tests.parts) × (0 < s.groups.parts) × (0 < s.pixels.parts) };
+    ghost invariant = { λ s. (0 < s.loads.parts) × (0 < s.words.parts) × (0 < s.decisions.parts)
+        × (0 < s.run_tests.parts) × (0 < s.groups.parts) × (0 < s.pixels.parts) };
 }
 
 impl<L: Ledger> Steps<L> {

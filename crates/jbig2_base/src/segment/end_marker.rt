@@ -52,8 +52,10 @@ fn first_end_marker(flags: u8, bytes: &[u8]) -> Result<usize>
 #[tactic(auto, unfolding(crate::specs::EndMarker::coded_front_at))]
 fn coded_front(reader: &mut Reader<'_>) -> Result<u8>
     requires { IsAligned reader.old }
-    ensures value { Answers (λ flags. (flags, reader.new.bytes)) result (coded_front_at reader.old.bytes) }
-    ensures length { IfOk result (λ flags. length reader.new.bytes + 18 + adaptive_bytes flags ≡ length reader.old.bytes) }
+    ensures value { Answers (λ flags. (flags, reader.new.bytes)) result
+        (coded_front_at reader.old.bytes) }
+    ensures length { IfOk result
+        (λ flags. length reader.new.bytes + 18 + adaptive_bytes flags ≡ length reader.old.bytes) }
 {
     bytes_field(reader, 17)?;
     let flags = byte_field(reader)?;

@@ -88,8 +88,8 @@ fn batch(a: u32, bits: u32) -> u32
     (a.leading_zeros() - 16).min(bits)
 }
 
-/// The registers once A has its top bit again (RENORMD, E.3.3). The bits that the code register still
-/// has are shifted in together.
+/// The registers once A has its top bit again (RENORMD, E.3.3). The bits that the code register
+/// still has are shifted in together.
 #[inline(always)]
 pub(crate) fn renormalize(bytes: &[u8], registers: Registers) -> Registers
     requires some { 1 ≤ registers.a }

@@ -33,7 +33,8 @@ const CARRY: u32 = 0x800_0000;
 /// Writes the top eight bits of `c`, below the carry.
 #[tactic(auto, unfolding(crate::specs::Encoder::plain))]
 fn plain<A: Allocator>(bytes: &mut Vec<u8, A>, c: u32) -> Result<CodeRegister>
-    ensures value { IfOk result (λ code. writer_of bytes.new.items code ≡ plain c (reverse bytes.old.items)) }
+    ensures value { IfOk result
+        (λ code. writer_of bytes.new.items code ≡ plain c (reverse bytes.old.items)) }
     ensures err { IfErr result (λ e. e ≡ OutOfMemory) }
     ensures bits { IfOk result (λ code. code.ct ≡ 8) }
     ensures bound { IfOk result (λ code. code.c < 2 ^ 19) }
@@ -49,7 +50,8 @@ fn plain<A: Allocator>(bytes: &mut Vec<u8, A>, c: u32) -> Result<CodeRegister>
 #[tactic(auto, unfolding(crate::specs::Encoder::stuffed))]
 fn stuffed<A: Allocator>(bytes: &mut Vec<u8, A>, c: u32) -> Result<CodeRegister>
     requires { c < 2 ^ 28 }
-    ensures value { IfOk result (λ code. writer_of bytes.new.items code ≡ stuffed c (reverse bytes.old.items)) }
+    ensures value { IfOk result
+        (λ code. writer_of bytes.new.items code ≡ stuffed c (reverse bytes.old.items)) }
     ensures err { IfErr result (λ e. e ≡ OutOfMemory) }
     ensures bits { IfOk result (λ code. code.ct ≡ 7) }
     ensures bound { IfOk result (λ code. code.c < 2 ^ 20) }
@@ -62,7 +64,8 @@ fn stuffed<A: Allocator>(bytes: &mut Vec<u8, A>, c: u32) -> Result<CodeRegister>
 }
 
 fn last_out(bytes: &[u8]) -> Option<u8>
-    ensures { MatchOption result (reverse bytes.now ≡ []) (λ last. reverse bytes.now ≡ last ∷ drop 1 (reverse bytes.now)) }
+    ensures { MatchOption result (reverse bytes.now ≡ [])
+        (λ last. reverse bytes.now ≡ last ∷ drop 1 (reverse bytes.now)) }
 {
     bytes.last().copied()
 }
@@ -78,7 +81,8 @@ fn replace_last<A: Allocator>(bytes: &mut Vec<u8, A>, byte: u8)
 /// Writes the next byte of `c` (BYTEOUT, E.2.7).
 fn byte_out<A: Allocator>(bytes: &mut Vec<u8, A>, c: u32) -> Result<CodeRegister>
     requires { c < 2 ^ 28 }
-    ensures value { IfOk result (λ code. writer_of bytes.new.items code ≡ byte_out c (reverse bytes.old.items)) }
+    ensures value { IfOk result
+        (λ code. writer_of bytes.new.items code ≡ byte_out c (reverse bytes.old.items)) }
     ensures err { IfErr result (λ e. e ≡ OutOfMemory) }
     ensures room { IfOk result (λ code. (a : ℕ) → a ≤ 2 ^ 16 → HasRoom a code) }
 {
@@ -103,7 +107,8 @@ fn byte_out<A: Allocator>(bytes: &mut Vec<u8, A>, c: u32) -> Result<CodeRegister
 fn shift<A: Allocator>(bytes: &mut Vec<u8, A>, registers: Registers) -> Result<Registers>
     requires half { registers.a < 0x8000 }
     requires room { HasRoom registers.a registers.code }
-    ensures value { IfOk result (λ r. writer_of bytes.new.items r.code ≡ shifted (writer_of bytes.old.items registers.code)) }
+    ensures value { IfOk result (λ r. writer_of bytes.new.items r.code
+        ≡ shifted (writer_of bytes.old.items registers.code)) }
     ensures range { IfOk result (λ r. r.a ≡ 2 * registers.a) }
     ensures err { IfErr result (λ e. e ≡ OutOfMemory) }
     ensures room { IfOk result (λ r. HasRoom r.a r.code) }
@@ -124,7 +129,8 @@ fn renormalize<A: Allocator>(bytes: &mut Vec<u8, A>, registers: Registers) -> Re
     requires some { 1 ≤ registers.a }
     requires below { registers.a < 0x10000 }
     requires room { HasRoom registers.a registers.code }
-    ensures value { IfOk result (λ r. coding_of bytes.new.items r ≡ renormed 15 registers.a (writer_of bytes.old.items registers.code)) }
+    ensures value { IfOk result (λ r. coding_of bytes.new.items r
+        ≡ renormed 15 registers.a (writer_of bytes.old.items registers.code)) }
     ensures err { IfErr result (λ e. e ≡ OutOfMemory) }
     ensures normal { IfOk result (λ r. 0x8000 ≤ r.a) }
     ensures below { IfOk result (λ r. r.a < 0x10000) }
@@ -137,17 +143,24 @@ fn renormalize<A: Allocator>(bytes: &mut Vec<u8, A>, registers: Registers) -> Re
     Ok(registers)
 }
 
-/// Narrows the interval to the part of `decision`, and says whether it is to be renormalized (CODEMPS
-/// and CODELPS, E.2.4).
+/// Narrows the interval to the part of `decision`, and says whether it is to be renormalized
+/// (CODEMPS and CODELPS, E.2.4).
 fn narrow(registers: &mut Registers, context: &mut ArithmeticDecoderContext, decision: bool) -> bool
     requires normal { 0x8000 ≤ registers.old.a }
     requires below { registers.old.a < 0x10000 }
     requires room { registers.old.code.c < 2 ^ 28 }
-    ensures value { narrowed context.old decision registers.old.a registers.old.code.c ≡ record { range = registers.new.a; register = registers.new.code.c; context = context.new; renorm = result } }
+    ensures value { narrowed context.old decision registers.old.a registers.old.code.c
+        ≡ record {
+          range = registers.new.a;
+          register = registers.new.code.c;
+          context = context.new;
+          renorm = result;
+        } }
     ensures bits { registers.new.code.ct ≡ registers.old.code.ct }
     ensures some { 1 ≤ registers.new.a }
     ensures below { registers.new.a < 0x10000 }
-    ensures within { registers.new.code.c + registers.new.a ≤ registers.old.code.c + registers.old.a }
+    ensures within { registers.new.code.c + registers.new.a
+        ≤ registers.old.code.c + registers.old.a }
     ensures normal { OnFalse result (0x8000 ≤ registers.new.a) }
 {
     let row = row_at(context.row);
@@ -249,7 +262,8 @@ impl<A: Allocator> ArithmeticEncoder<A> {
     #[tactic(auto, unfolding(crate::specs::Encoder::encoding))]
     pub fn encode(&mut self, context: &mut ArithmeticDecoderContext, decision: bool) -> Result<()>
         ensures value { OnOk result (self.new ≡ (encoding context.old decision self.old).coding) }
-        ensures context { OnOk result (context.new ≡ (encoding context.old decision self.old).context) }
+        ensures context { OnOk result
+            (context.new ≡ (encoding context.old decision self.old).context) }
         ensures err { IfErr result (λ e. e ≡ OutOfMemory) }
     {
         let mut registers = self.registers;

@@ -67,7 +67,8 @@ pub struct HalftoneRegionHeader<'a> {
 #[tactic(auto, unfolding(crate::specs::HalftoneHeader::halftone_flags_at))]
 fn parse_flags(reader: &mut Reader<'_>) -> Result<HalftoneRegionFlags>
     requires { IsAligned reader.old }
-    ensures value { Answers (λ flags. (flags, reader.new.bytes)) result (halftone_flags_at reader.old.bytes) }
+    ensures value { Answers (λ flags. (flags, reader.new.bytes)) result
+        (halftone_flags_at reader.old.bytes) }
     ensures aligned { IsAligned reader.new }
 {
     let flags = byte_field(reader)?;
@@ -84,7 +85,8 @@ fn parse_flags(reader: &mut Reader<'_>) -> Result<HalftoneRegionFlags>
 #[tactic(auto, unfolding(crate::specs::HalftoneHeader::halftone_grid_at))]
 fn parse_grid(reader: &mut Reader<'_>) -> Result<HalftoneGridPositionAndSize>
     requires { IsAligned reader.old }
-    ensures value { Answers (λ grid. (grid, reader.new.bytes)) result (halftone_grid_at reader.old.bytes) }
+    ensures value { Answers (λ grid. (grid, reader.new.bytes)) result
+        (halftone_grid_at reader.old.bytes) }
     ensures aligned { IsAligned reader.new }
     ensures columns { IfOk result (λ grid. grid.width ≤ 65535) }
     ensures rows { IfOk result (λ grid. grid.height ≤ 65535) }
@@ -114,7 +116,8 @@ fn parse_grid(reader: &mut Reader<'_>) -> Result<HalftoneGridPositionAndSize>
 #[tactic(auto, unfolding(crate::specs::HalftoneHeader::halftone_header_at))]
 pub fn parse<'a>(reader: &mut Reader<'a>, strict: bool) -> Result<HalftoneRegionHeader<'a>>
     requires { IsAligned reader.old }
-    ensures value { Answers (λ h. (header_view h, reader.new.bytes)) result (halftone_header_at strict reader.old.bytes) }
+    ensures value { Answers (λ h. (header_view h, reader.new.bytes)) result
+        (halftone_header_at strict reader.old.bytes) }
     ensures aligned { IsAligned reader.new }
     ensures columns { IfOk result (λ h. h.grid_position_and_size.width ≤ 65535) }
     ensures rows { IfOk result (λ h. h.grid_position_and_size.height ≤ 65535) }

@@ -4,7 +4,6 @@ use Rattle.std.specs.Prelude.{ℕ, ◌++◌, List, map, Option, option_map, Resu
 use Rattle.jbig2_base.specs.Answer.{◌>>=◌}
 use Rattle.jbig2_base.specs.declared.error.DecodeError.{DecodeError}
 use Rattle.jbig2_base.specs.Grid.{Grid}
-use Rattle.jbig2_coder.specs.PrefixCode.{Member}
 use Rattle.jbig2_symbol.specs.SymbolHeader.{header_view}
 use Rattle.jbig2_symbol.specs.SymbolReading.{BitmapContexts, SymbolInput, SymbolState, SymbolTables, contexts_view}
 use Rattle.jbig2_symbol.specs.Symbols.{HeightClass, Symbols, empty_with}
@@ -41,10 +40,6 @@ class_behind before empty answer = answer >>= λ class. Ok (before ++ class.0.sy
 -- the symbols that are referred to, and the new ones behind them
 abbrev pub all_symbols : List (Bor Grid) → List Grid → List Grid
 all_symbols symbols new = map (λ b. b.now) symbols ++ new
-
--- the tables that are referred to
-abbrev pub referred_view : List (Bor (List Member)) → List (List Member)
-referred_view tables = map (λ t. t.now) tables
 
 -- contexts that another dictionary has kept, if any
 abbrev pub kept_view : {A : Type 0} → Option (Bor (RetainedContexts A)) → Option BitmapContexts

@@ -76,8 +76,8 @@ fn duplicate_contexts<A: Allocator + Clone, K: Allocator>(
 
 /// The contexts at the beginning: fresh, or as another dictionary of the same templates left them.
 ///
-/// `SymbolError::Invalid` where there are none, or of other templates; `OutOfMemory` where there is no
-/// room.
+/// `SymbolError::Invalid` where there are none, or of other templates; `OutOfMemory` where there is
+/// no room.
 #[tactic(auto, unfolding(crate::specs::SymbolReading::first_contexts))]
 pub fn first_contexts<A: Allocator + Clone, K: Allocator>(
     alloc: A,

@@ -152,11 +152,11 @@ pub fn export_symbols<A: Allocator + Clone, S: Allocator, L: Ledger>(
     Ok(exported)
 }
 
-/// Reads which symbols a dictionary exports, of those that it refers to and the new ones behind them, and
-/// copies them.
+/// Reads which symbols a dictionary exports, of those that it refers to and the new ones behind
+/// them, and copies them.
 ///
-/// The errors of `read_runs`; `SymbolError::NoSymbols` where they are not as many as the header states;
-/// `OutOfMemory` where there is no room for them.
+/// The errors of `read_runs`; `SymbolError::NoSymbols` where they are not as many as the header
+/// states; `OutOfMemory` where there is no room for them.
 #[tactic(auto, unfolding(crate::specs::Exports::exports))]
 pub fn read_exports<A: Allocator + Clone, T: Allocator, L: Ledger>(
     alloc: A,

@@ -152,11 +152,11 @@ fn parse_refined_pixels(
 /// The header of a symbol dictionary at the reader's place, which holds the coded bytes behind it
 /// (T.88, 7.4.2.1).
 ///
-/// `ParseError::UnexpectedEof` where the bytes do not hold it; `HuffmanError::InvalidSelection` where
-/// the flags name no table for heights or widths, also without prefix codes;
+/// `ParseError::UnexpectedEof` where the bytes do not hold it; `HuffmanError::InvalidSelection`
+/// where the flags name no table for heights or widths, also without prefix codes;
 /// `TemplateError::InvalidAtPixel` where an adaptive pixel does not come before the pixel that is
-/// decoded; `OverflowError::SymbolCount` for more than 2^20 symbols, new or exported. An error leaves
-/// the reader where it was. Takes no memory.
+/// decoded; `OverflowError::SymbolCount` for more than 2^20 symbols, new or exported. An error
+/// leaves the reader where it was. Takes no memory.
 #[tactic(auto, unfolding(crate::specs::SymbolHeader::symbol_header_at))]
 pub fn parse<'a>(reader: &mut Reader<'a>, strict: bool) -> Result<SymbolDictionaryHeader<'a>>
     requires { IsAligned reader.old }

@@ -1,4 +1,5 @@
-//! The numbers and bitmaps of a symbol dictionary, by prefix codes or by the arithmetic coder (T.88, 6.5).
+//! The numbers and bitmaps of a symbol dictionary, by prefix codes or by the arithmetic coder
+//! (T.88, 6.5).
 ghost use Rattle.std.specs.Prelude.{◌≡◌, ◌≤◌, ◌^◌, length, Ok};
 ghost use Rattle.jbig2_base.specs.Answer.{Answers, Gives};
 ghost use Rattle.jbig2_symbol.specs.SymbolBitmaps.{coded_symbol, collective_bitmap};
@@ -65,14 +66,20 @@ impl<'a, A: Allocator> Model for SymbolReader<'a, A> {
 
     ghost Value = { SymbolState };
 
-    ghost view = { λ r. record { place = r.reader; coded = coded_view r.coded; template = r.template; generic = r.generic.items; refining = r.refining } };
+    ghost view = { λ r. record {
+      place = r.reader;
+      coded = coded_view r.coded;
+      template = r.template;
+      generic = r.generic.items;
+      refining = r.refining;
+    } };
 
     ghost invariant = { λ r. length r.generic.items ≡ 2 ^ context_bits r.template };
 }
 
 impl<'a, A: Allocator + Clone> SymbolReader<'a, A> {
-    /// A reader at the beginning of a dictionary's coded bytes, with these contexts of its bitmaps and
-    /// with ids of so many bits.
+    /// A reader at the beginning of a dictionary's coded bytes, with these contexts of its bitmaps
+    /// and with ids of so many bits.
     pub fn new(
         alloc: A,
         header: &SymbolDictionaryHeader<'a>,

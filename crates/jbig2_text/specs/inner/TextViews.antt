@@ -2,7 +2,6 @@
 use Rattle.std.specs.Prelude.{List, ◌++◌, map}
 use Rattle.std.specs.Borrow.{Bor}
 use Rattle.jbig2_base.specs.Grid.{Grid}
-use Rattle.jbig2_coder.specs.PrefixCode.{Member}
 use Rattle.jbig2_text.specs.Refining.{Refining}
 use Rattle.jbig2_text.specs.Text.{Instance, Outline, Reached, TextParams as Params, reached}
 use Rattle.jbig2_text.specs.TextCoding.{Coded, Prefixed, TextTables}
@@ -36,9 +35,6 @@ abbrev pub prefixed_view : {T I : Type 0} → PrefixedReadings T I → Prefixed
 prefixed_view r = record { place = r.reader; tables = tables_view r.tables; ids = r.ids.now }
 
 -- what each reference of a list refers to
-abbrev pub customs_view : List (Bor (List Member)) → List (List Member)
-customs_view customs = map (λ table. table.now) customs
-
 abbrev pub symbols_view : List (Bor Grid) → List Grid
 symbols_view symbols = map (λ symbol. symbol.now) symbols
 

@@ -1,7 +1,7 @@
 //! The numbers of a text region that the arithmetic coder wrote.
 ghost use Rattle.std.specs.Prelude.{◌≡◌, ◌≤◌, Ok};
 ghost use Rattle.jbig2_base.specs.Answer.{Answers, Gives};
-ghost use Rattle.jbig2_text.specs.TextCoding.{coded_number, coded_start, in_band, next_id, next_integer};
+ghost use Rattle.jbig2_text.specs.TextCoding.{number_by_coder, coded_start, in_band, next_id, next_integer};
 ghost use Rattle.jbig2_text.specs.inner.TextViews.{coded_view};
 
 use crate::text::readings::ReadInstances;
@@ -48,7 +48,8 @@ impl<'a, A: Allocator + Clone> CodedReadings<'a, A> {
 
 /// A number that may not be out of band.
 fn in_band(number: Option<i32>) -> Result<i32>
-    ensures { Answers (λ n. n) result (in_band (DecodeError.Symbol SymbolError.UnexpectedOob) number) }
+    ensures { Answers (λ n. n) result
+        (in_band (DecodeError.Symbol SymbolError.UnexpectedOob) number) }
 {
     number.ok_or(DecodeError::Symbol(SymbolError::UnexpectedOob))
 }
@@ -74,7 +75,7 @@ impl<A: Allocator> CodedReadings<'_, A> {
         procedure: IntegerProcedure,
         steps: &mut Steps<L>,
     ) -> Result<i32>
-        ensures { let meant = coded_number procedure (coded_view self.old) in
+        ensures { let meant = number_by_coder procedure (coded_view self.old) in
             Answers (λ n. (n, coded_view self.new)) result meant }
     {
         in_band(self.next_integer(procedure, steps))

@@ -187,7 +187,8 @@ fn parse_refinement_pixels(
     flags: &TextRegionFlags,
 ) -> Result<[AdaptiveTemplatePixel; 2]>
     requires { IsAligned reader.old }
-    ensures value { let meant = text_pixels_at flags.now.use_refinement flags.now.refinement_template reader.old.bytes in
+    ensures value { let meant = text_pixels_at flags.now.use_refinement
+        flags.now.refinement_template reader.old.bytes in
         Answers (λ pixels. (pixels, reader.new.bytes)) result meant }
     ensures aligned { IsAligned reader.new }
 {

@@ -1,7 +1,7 @@
 //! The instances of a text region (T.88, 6.4.5).
 ghost use Rattle.std.specs.Prelude.{◌≡◌, ◌*◌, ◌≤◌, [], nat_lt, option_map, OnErr};
 ghost use Rattle.jbig2_base.specs.Answer.{Gives};
-ghost use Rattle.jbig2_text.specs.Text.{with_symbol, with_instance, with_next, with_last, after_instances, some_strips, strips, text_instances, instances_drawn, text_region};
+ghost use Rattle.jbig2_text.specs.Text.{with_symbol, with_instance, with_next_instance, with_last, after_instances, some_strips, strips, text_instances, instances_drawn, text_region};
 ghost use Rattle.jbig2_text.specs.inner.TextViews.{instances_view, params_view, reached_view, symbol_view};
 
 use crate::text::cursor::Cursor;
@@ -94,7 +94,7 @@ fn read_and_move<'a, R: ReadInstances, B: Allocator, M: Allocator + Clone, C: Al
 ) -> Result<()>
     requires { params.now.flags.log_strip_size ≤ 3 }
     ensures { let before = reached_view placed.old refining.old (R.state readings.old) in
-        let meant = with_next R.readings (params_view params.now) before in
+        let meant = with_next_instance R.readings (params_view params.now) before in
         Gives (λ _. reached_view placed.new refining.new (R.state readings.new)) result meant }
 {
     read_instance(readings, refining, params, placed, steps)?;

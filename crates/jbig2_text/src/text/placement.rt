@@ -1,7 +1,7 @@
 //! Where the symbols of a text region lie (T.88, 6.4.5, step 3 c).
 ghost use Rattle.std.specs.Prelude.{◌≡◌, if◌then◌else◌};
 ghost use Rattle.jbig2_base.specs.Answer.{Answers};
-ghost use Rattle.jbig2_text.specs.Text.{is_right, is_bottom, is_last_along_s, grown, s_before, s_behind, edge, placed};
+ghost use Rattle.jbig2_text.specs.Text.{is_right, is_bottom, is_last_along_s, grown, s_before, s_behind, edge, symbol_placed};
 ghost use Rattle.jbig2_text.specs.inner.TextViews.{instance_view, symbol_view};
 
 use crate::text::header::{ReferenceCorner, TextRegionFlags};
@@ -111,14 +111,14 @@ fn column_and_row(transposed: bool, s: i32, t: i32) -> (i32, i32)
 }
 
 /// A symbol at S and T, and S behind it.
-#[tactic(auto, unfolding(crate::specs::Text::placed))]
+#[tactic(auto, unfolding(crate::specs::Text::symbol_placed))]
 pub fn place<'a, B: Allocator, M: Allocator>(
     flags: &TextRegionFlags,
     symbol: InstanceSymbol<'a, B, M>,
     s: i32,
     t: i32,
 ) -> Result<(Instance<'a, B, M>, i32)>
-    ensures { let meant = placed flags.now (symbol_view symbol.entry) s t in
+    ensures { let meant = symbol_placed flags.now (symbol_view symbol.entry) s t in
         Answers (λ i. (instance_view i.0, i.1)) result meant }
 {
     let start = s_before(flags, &symbol, s)?;

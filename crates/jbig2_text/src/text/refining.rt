@@ -32,7 +32,8 @@ impl<A: Allocator> Model for Refining<A> {
 
     ghost Value = { Refining };
 
-    ghost view = { λ r. record { template = r.template; pixels = r.pixels; contexts = r.contexts.items } };
+    ghost view = { λ r.
+        record { template = r.template; pixels = r.pixels; contexts = r.contexts.items } };
 
     ghost invariant = { λ r. length r.contexts.items ≡ 2 ^ refinement_bits r.template };
 }
@@ -139,7 +140,8 @@ fn refine_by<M: Allocator, B: Allocator, L: Ledger>(
         decoder.new ≡ (refined_with f from bitmap.old.width bitmap.old.height decoder.old).coder }
     ensures contexts { let f = refining_by template pixels.now contexts.old in
         let from = reference_view reference.now in
-        contexts.new ≡ (refined_with f from bitmap.old.width bitmap.old.height decoder.old).refining.contexts }
+        let refined = refined_with f from bitmap.old.width bitmap.old.height decoder.old in
+        contexts.new ≡ refined.refining.contexts }
 {
     decode_bitmap(
         template, false, pixels, reference, bitmap, decoder, contexts, steps,

@@ -1,7 +1,7 @@
 //! The strips of a text region (T.88, 6.4.5, steps 1 to 4).
 ghost use Rattle.std.specs.Prelude.{◌≡◌, ◌≤◌};
 ghost use Rattle.jbig2_base.specs.Answer.{Answers};
-ghost use Rattle.jbig2_text.specs.Text.{strip_delta, strip_begun, moved_by, moved, t_in_strip, end_of_strip};
+ghost use Rattle.jbig2_text.specs.Text.{strip_delta, strip_begun, moved_by, cursor_moved, t_in_strip, end_of_strip};
 
 use crate::text::cursor::Cursor;
 use crate::text::header::TextRegionFlags;
@@ -72,7 +72,7 @@ fn move_by<R: ReadInstances, L: Ledger>(
 }
 
 /// Where the next instance stands.
-#[tactic(auto, unfolding(crate::specs::Text::moved))]
+#[tactic(auto, unfolding(crate::specs::Text::cursor_moved))]
 pub fn move_on<R: ReadInstances, L: Ledger>(
     readings: &mut R,
     flags: &TextRegionFlags,
@@ -80,7 +80,7 @@ pub fn move_on<R: ReadInstances, L: Ledger>(
     steps: &mut Steps<L>,
 ) -> Result<Cursor>
     requires { flags.now.log_strip_size ≤ 3 }
-    ensures { let meant = moved R.readings flags.now cursor (R.state readings.old) in
+    ensures { let meant = cursor_moved R.readings flags.now cursor (R.state readings.old) in
         Answers (λ next. (next, R.state readings.new)) result meant }
 {
     let delta = readings.delta_s(steps)?;

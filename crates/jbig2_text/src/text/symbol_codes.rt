@@ -4,7 +4,7 @@ ghost use Rattle.jbig2_base.specs.Answer.{Gives};
 ghost use Rattle.jbig2_base.specs.Bits.{IsAligned};
 ghost use Rattle.jbig2_coder.specs.PrefixCode.{AreShort, table_of};
 ghost use Rattle.jbig2_text.specs.BitFields.{invalid_code};
-ghost use Rattle.jbig2_text.specs.SymbolCodes.{lines_from, short_lengths, repeated, run_at, next_run, runs_at, runcodes_at, symbol_lengths_at, symbol_codes_at, symbol_codes_from};
+ghost use Rattle.jbig2_text.specs.SymbolCodes.{lines_from, short_lengths, repeated, run_at, next_runcode, runs_at, runcodes_at, symbol_lengths_at, symbol_codes_at, symbol_codes_from};
 
 use crate::bit_fields::value_field;
 use jbig2_base::error::{DecodeError, HuffmanError, Result};
@@ -120,7 +120,7 @@ fn read_run<A: Allocator, B: Allocator>(
     lengths: &mut Vec<u8, B>,
 ) -> Result<()>
     requires { length lengths.old.items ≤ 2 ^ 21 }
-    ensures { let meant = next_run runcodes.now lengths.old.items reader.old in
+    ensures { let meant = next_runcode runcodes.now lengths.old.items reader.old in
         Gives (λ _. (lengths.new.items, reader.new)) result meant }
 {
     let runcode = value_field(runcodes, reader)?;

@@ -1,12 +1,14 @@
 //! The tables of a text region (T.88, 7.4.3.1.6).
 ghost use Rattle.std.specs.Prelude.{◌≡◌};
 ghost use Rattle.jbig2_base.specs.Answer.{Answers};
-ghost use Rattle.jbig2_text.specs.TextRegion.{aggregate_tables, custom, one_of_two, one_of_three, table_of_first_s, table_of_delta_s, table_of_delta_t, table_of_refinement, table_of_size, text_tables};
-ghost use Rattle.jbig2_text.specs.inner.TextViews.{customs_view, tables_view};
+ghost use Rattle.jbig2_coder.specs.inner.TableViews.{customs_view};
+ghost use Rattle.jbig2_text.specs.TextRegion.{aggregate_tables, one_of_two, one_of_three, table_of_first_s, table_of_delta_s, table_of_delta_t, table_of_refinement, table_of_size, text_tables};
+ghost use Rattle.jbig2_text.specs.inner.TextViews.{tables_view};
 
 use crate::text::header::TextRegionHuffmanFlags;
 use jbig2_base::error::{DecodeError, HuffmanError, Result};
 use jbig2_coder::huffman_table::{HuffmanTable, StandardHuffmanTables};
+use jbig2_coder::table_selection::next_custom;
 use std::alloc::Allocator;
 
 /// Which table reads which numbers (T.88, Table 9).
@@ -40,19 +42,6 @@ impl<'a, T: Allocator> TextRegionHuffmanTables<'a, T> {
     }
 }
 
-/// The next custom table, and those behind it.
-fn custom<'a, T: Allocator>(
-    customs: &'a [&'a HuffmanTable<T>],
-) -> Result<(&'a HuffmanTable<T>, &'a [&'a HuffmanTable<T>])>
-    ensures { let meant = custom (customs_view customs.now) in
-        Answers (λ t. (t.0.now, customs_view t.1.now)) result meant }
-{
-    if customs.is_empty() {
-        return Err(DecodeError::Huffman(HuffmanError::MissingTables));
-    }
-    Ok((customs[0], &customs[1..]))
-}
-
 /// The table that a number names among two, and 3 for a custom one; those left to take.
 fn one_of_two<'a, T: Allocator>(
     first: &'a HuffmanTable<T>,
@@ -66,7 +55,7 @@ fn one_of_two<'a, T: Allocator>(
     match number {
         0 => Ok((first, customs)),
         1 => Ok((second, customs)),
-        3 => custom(customs),
+        3 => next_custom(customs),
         _ => Err(DecodeError::Huffman(HuffmanError::InvalidSelection)),
     }
 }
@@ -87,8 +76,46 @@ fn one_of_three<'a, T: Allocator>(
         0 => Ok((first, customs)),
         1 => Ok((second, customs)),
         2 => Ok((third, customs)),
-        _ => custom(customs),
+        _ => next_custom(customs),
     }
+}
+
+/// The table that a number names for the first S of a strip; those left to take.
+fn first_s_table<'a, T: Allocator>(
+    standard: &'a StandardHuffmanTables<T>,
+    number: u8,
+    customs: &'a [&'a HuffmanTable<T>],
+) -> Result<(&'a HuffmanTable<T>, &'a [&'a HuffmanTable<T>])>
+    ensures { let meant = table_of_first_s number (customs_view customs.now) in
+        Answers (λ t. (t.0.now, customs_view t.1.now)) result meant }
+{
+    one_of_two(standard.table_f(), standard.table_g(), number, customs)
+}
+
+/// The table that a number names for the differences of S; those left to take.
+fn delta_s_table<'a, T: Allocator>(
+    standard: &'a StandardHuffmanTables<T>,
+    number: u8,
+    customs: &'a [&'a HuffmanTable<T>],
+) -> Result<(&'a HuffmanTable<T>, &'a [&'a HuffmanTable<T>])>
+    ensures { let meant = table_of_delta_s number (customs_view customs.now) in
+        Answers (λ t. (t.0.now, customs_view t.1.now)) result meant }
+{
+    let (first, second, third) = (standard.table_h(), standard.table_i(), standard.table_j());
+    one_of_three(first, second, third, number, customs)
+}
+
+/// The table that a number names for the differences of T; those left to take.
+fn delta_t_table<'a, T: Allocator>(
+    standard: &'a StandardHuffmanTables<T>,
+    number: u8,
+    customs: &'a [&'a HuffmanTable<T>],
+) -> Result<(&'a HuffmanTable<T>, &'a [&'a HuffmanTable<T>])>
+    ensures { let meant = table_of_delta_t number (customs_view customs.now) in
+        Answers (λ t. (t.0.now, customs_view t.1.now)) result meant }
+{
+    let (first, second, third) = (standard.table_k(), standard.table_l(), standard.table_m());
+    one_of_three(first, second, third, number, customs)
 }
 
 /// The table that a number names for the differences of a refined symbol; those left to take.
@@ -115,7 +142,7 @@ fn size_table<'a, T: Allocator>(
     if number == 0 {
         return Ok((standard.table_a(), customs));
     }
-    custom(customs)
+    next_custom(customs)
 }
 
 /// The tables that the flags name; each custom one is the next of `customs`.
@@ -131,26 +158,9 @@ pub fn select_tables<'a, T: Allocator>(
     ensures { let meant = text_tables flags.now (customs_view customs.now) in
         Answers (λ tables. tables_view tables) result meant }
 {
-    let (first_s, customs) = one_of_two(
-        standard.table_f(),
-        standard.table_g(),
-        flags.first_s_table,
-        customs,
-    )?;
-    let (delta_s, customs) = one_of_three(
-        standard.table_h(),
-        standard.table_i(),
-        standard.table_j(),
-        flags.delta_s_table,
-        customs,
-    )?;
-    let (delta_t, customs) = one_of_three(
-        standard.table_k(),
-        standard.table_l(),
-        standard.table_m(),
-        flags.delta_t_table,
-        customs,
-    )?;
+    let (first_s, customs) = first_s_table(standard, flags.first_s_table, customs)?;
+    let (delta_s, customs) = delta_s_table(standard, flags.delta_s_table, customs)?;
+    let (delta_t, customs) = delta_t_table(standard, flags.delta_t_table, customs)?;
     let (refinement_width, customs) = refinement_table(
         standard,
         flags.refinement_width_table,

@@ -1,11 +1,12 @@
-use Rattle.std.proofs.Common.{arith, ap, false, Ok}
-use Rattle.std.proofs.lemmas.Int.{ints}
-use Rattle.jbig2_halftone.proofs.PatternLemmas.{blank-made, cut-pattern}
+use Rattle.std.proofs.Common.{Result, subst}
+use Rattle.jbig2_base.specs.Answer.{Gives}
+use Rattle.jbig2_base.specs.Grid.{Grid}
+use Rattle.jbig2_base.specs.declared.error.DecodeError.{DecodeError}
+use Rattle.jbig2_base.proofs.FillLemmas.{part-fits}
 use Rattle.jbig2_halftone.proofs.pattern.cut_pattern.Goals as goal
 
 pub returns : goal.returns
 returns g c =
-    ap (λ p. Ok p)
-    (cut-pattern c.args.collective.now c.in_ok-pattern.pattern c.combine.new.self c.args.width c.args.height c.args.k _
-    (blank-made c.args.width c.args.height false c.in_ok-pattern.pattern c.requires.columns c.requires.rows c.in_ok-pattern.ensures)
-    (omega (arith, ints)) c.combine.ensures.value)
+    subst (λ (meant : Result Grid DecodeError). Gives (λ (pattern : Grid). pattern) c.part.result meant)
+    (part-fits c.args.collective.now _ c.requires.columns c.requires.rows)
+    c.part.ensures

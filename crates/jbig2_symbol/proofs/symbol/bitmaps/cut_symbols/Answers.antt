@@ -1,6 +1,6 @@
 use Rattle.std.proofs.Common.{◌+◌, List, drop, get_or, sym, ap, ◌∙◌, arith}
 use Rattle.jbig2_base.specs.Grid.{Grid}
-use Rattle.jbig2_symbol.specs.SymbolBitmaps.{put_behind, symbols_cut}
+use Rattle.jbig2_symbol.specs.SymbolBitmaps.{put_behind, symbol_cut, symbols_cut}
 use Rattle.jbig2_symbol.proofs.CutLemmas.{cut-all, cut-fault, cut-next, sum-next}
 use Rattle.jbig2_symbol.proofs.symbol.bitmaps.cut_symbols.Goals as goal
 
@@ -8,10 +8,12 @@ pub returns : goal.returns
 returns g c = cut-all c.args.collective.now c.args.height c.loop-width.left c.args.widths.now c.loop-width.width-index c.loop-width.symbols.items _ (omega arith) c.loop-width.invariant.cut
 
 pub returns-in-Err : goal.returns-in-Err
+unfolding symbol_cut
 returns-in-Err g c =
     cut-fault c.args.collective.now c.args.height c.loop-width.left c.args.widths.now c.loop-width.width-index c.loop-width.symbols.items c.in-Err.error _ (omega arith) c.loop-width.invariant.cut c.in-Err.ensures
 
 pub loop-width-preserved : goal.loop-width-preserved
+unfolding symbol_cut
 loop-width-preserved g c = record {
   place = sum-next c.args.widths.now c.loop-width.width-index c.loop-width.left 4294967295 (omega arith) c.loop-width.invariant.place;
   cut =

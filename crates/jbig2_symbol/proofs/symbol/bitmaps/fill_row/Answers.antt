@@ -1,5 +1,6 @@
 use Rattle.std.proofs.Common.{arith, rules, ◌*◌}
-use Rattle.jbig2_symbol.proofs.FillLemmas.{uncoded, row-filled}
+use Rattle.jbig2_base.proofs.FillLemmas.{row-filled}
+use Rattle.jbig2_symbol.proofs.CutLemmas.{uncoded}
 use Rattle.jbig2_symbol.proofs.symbol.bitmaps.fill_row.Goals as goal
 
 pub loop-index-preserved : goal.loop-index-preserved

@@ -1,5 +1,5 @@
 use Rattle.std.proofs.Common.{◌≡◌, ◌*◌, min}
-use Rattle.jbig2_symbol.specs.inner.Filled.{filled}
+use Rattle.jbig2_base.specs.inner.Filled.{filled}
 use Rattle.jbig2_symbol.specs.SymbolBitmaps.{raw_pixel, raw_stride}
 use Rattle.jbig2_symbol.proofs.symbol.bitmaps.fill_row.Given as goal
 

@@ -1,6 +1,6 @@
 use Rattle.std.proofs.Common.{arith}
 use Rattle.jbig2_symbol.proofs.CutLemmas.{raw-made, raw-none, wide-blank}
-use Rattle.jbig2_symbol.proofs.FillLemmas.{blank-filled}
+use Rattle.jbig2_base.proofs.FillLemmas.{blank-filled}
 use Rattle.jbig2_symbol.proofs.symbol.bitmaps.read_raw_rows.Goals as goal
 
 pub returns-then-width-eq0-clause-value : goal.returns-then-width-eq0-clause-value
