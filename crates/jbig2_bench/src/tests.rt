@@ -17,7 +17,8 @@ use crate::rows::families;
 use crate::spelling::spelled;
 use crate::watcher::Watcher;
 use hayro_jbig2::{
-    DecodeError, DecodeSettings, DecoderContext, HuffmanError, Page, ParseError, RegionError, Result,
+    DecodeError, DecodeSettings, DecoderContext, HuffmanError, Page, ParseError, RegionError,
+    Result,
 };
 use std::alloc::Global;
 
