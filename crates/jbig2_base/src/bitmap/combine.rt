@@ -39,6 +39,38 @@ impl<A: Allocator> Bitmap<A> {
         ensures steps { WritesWithin (overlap self.old.height other.now.height y
             * most_words (overlap self.old.width other.now.width x)) steps.old steps.new }
     {
+        match operator {
+            CombinationOperator::Or => {
+                self.combine_by(other, x, y, CombinationOperator::Or, steps);
+            }
+            CombinationOperator::And => {
+                self.combine_by(other, x, y, CombinationOperator::And, steps);
+            }
+            CombinationOperator::Xor => {
+                self.combine_by(other, x, y, CombinationOperator::Xor, steps);
+            }
+            CombinationOperator::Xnor => {
+                self.combine_by(other, x, y, CombinationOperator::Xnor, steps);
+            }
+            CombinationOperator::Replace => {
+                self.combine_by(other, x, y, CombinationOperator::Replace, steps);
+            }
+        }
+    }
+
+    /// The same by an operator that the compiler knows: each has a loop of its own.
+    #[inline(always)]
+    fn combine_by<B: Allocator, L: Ledger>(
+        &mut self,
+        other: &Bitmap<B>,
+        x: i32,
+        y: i32,
+        operator: CombinationOperator,
+        steps: &mut Steps<L>,
+    )
+        ensures value { self.new ≡ combined operator self.old other.now x y }
+        ensures steps { WritesWithin (overlap self.old.height other.now.height y * most_words (overlap self.old.width other.now.width x)) steps.old steps.new }
+    {
         let (left, from) = starts(x);
         let (top, from_row) = starts(y);
         let columns = (other.width().saturating_sub(from)).min(self.width().saturating_sub(left));

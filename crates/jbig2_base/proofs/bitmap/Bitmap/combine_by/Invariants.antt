@@ -1,7 +1,7 @@
 use Rattle.std.proofs.Common.{◌≡◌, ◌+◌, ◌*◌}
 use Rattle.jbig2_base.specs.inner.Blocks.{with_block}
 use Rattle.jbig2_base.specs.Combination.{WritesWithin, most_words}
-use Rattle.jbig2_base.proofs.bitmap.Bitmap.combine.Given as goal
+use Rattle.jbig2_base.proofs.bitmap.Bitmap.combine_by.Given as goal
 
 abbrev pub invariant-loop-row : goal.invariant-loop-row
 invariant-loop-row g l = record {

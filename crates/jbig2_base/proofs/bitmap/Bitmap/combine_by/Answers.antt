@@ -3,7 +3,7 @@ use Rattle.jbig2_base.proofs.BlockLemmas.{block-none, page-more}
 use Rattle.jbig2_base.proofs.CombineLemmas.{axis-at, none-combined, rows-combined, within-overlap}
 use Rattle.jbig2_base.proofs.CountLemmas.{within-none, within-more}
 use Rattle.jbig2_base.proofs.GridLemmas.{table-at}
-use Rattle.jbig2_base.proofs.bitmap.Bitmap.combine.Goals as goal
+use Rattle.jbig2_base.proofs.bitmap.Bitmap.combine_by.Goals as goal
 
 pub returns-then-columns-eq0-clause-value : goal.returns-then-columns-eq0-clause-value
 returns-then-columns-eq0-clause-value g c =
