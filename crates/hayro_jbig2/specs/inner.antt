@@ -2,3 +2,4 @@ pub mod ByPages
 pub mod KeptViews
 pub mod PageViews
 pub mod SegmentLists
+pub mod Whole

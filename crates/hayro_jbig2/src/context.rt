@@ -26,10 +26,14 @@ pub struct DecoderContext<A: Allocator> {
     pub(crate) regions: Vec<Kept<DecodedRegion<A>>, A>,
     pub(crate) names: KeptNames<A>,
     pub(crate) untouched: bool,
+    /// The colour that the page begins in, and has while it is untouched.
+    pub(crate) default_pixel: bool,
     pub(crate) workspace: Workspace<A>,
 }
 
 impl<A: Allocator> Model for DecoderContext<A> {
+    ghost use Rattle.std.specs.Prelude.{◌≡◌, true};
+    ghost use Rattle.jbig2_base.specs.Grid.{blank};
     ghost use Rattle.jbig2_region.specs.Generic.{region_view};
     ghost use Rattle.hayro_jbig2.specs.Page.{Drawing};
     ghost use Rattle.hayro_jbig2.specs.inner.KeptViews.{seen};
@@ -42,6 +46,9 @@ impl<A: Allocator> Model for DecoderContext<A> {
       names = c.names;
       untouched = c.untouched;
     } };
+
+    ghost invariant = { λ c. c.untouched ≡ true
+        → c.bitmap ≡ blank c.bitmap.width c.bitmap.height c.default_pixel };
 }
 
 impl<A: Allocator + Clone> DecoderContext<A> {
@@ -60,6 +67,7 @@ impl<A: Allocator + Clone> DecoderContext<A> {
             regions: Vec::new(alloc.clone()?),
             names: KeptNames::new(alloc.clone()?)?,
             untouched: true,
+            default_pixel: false,
             workspace: Workspace::new(alloc)?,
         })
     }
@@ -77,6 +85,7 @@ impl<A: Allocator> DecoderContext<A> {
             initial_page.height,
             initial_page.default_pixel,
         )?;
+        self.default_pixel = initial_page.default_pixel;
         self.regions.clear();
         self.names.clear();
         self.untouched = true;

@@ -1,13 +1,15 @@
 //! Segments drawn onto the page (T.88, 8.2).
-ghost use Rattle.std.specs.Prelude.{◌≡◌, true, false, Ok};
+ghost use Rattle.std.specs.Prelude.{◌≡◌, true, false, Ok, Err};
 ghost use Rattle.jbig2_base.specs.Answer.{Gives};
 ghost use Rattle.jbig2_base.specs.inner.SegmentViews.{segment_view, segment_views};
 ghost use Rattle.jbig2_region.specs.Generic.{region_view};
 ghost use Rattle.hayro_jbig2.specs.Page.{segments_drawn, ends_page, immediate, intermediate, region_at, segment_on, shown};
+ghost use Rattle.jbig2_base.specs.declared.error.DecodeError.TheVariants.{OutOfMemory};
+ghost use Rattle.hayro_jbig2.specs.declared.region.RegionKind.TheVariants.{Generic};
 
 use crate::context::DecoderContext;
 use crate::dictionaries::{extension, keep_patterns, keep_symbols, keep_table};
-use crate::generics::decode_generic;
+use crate::generics::{decode_generic, parse_generic};
 use crate::halftones::decode_halftone;
 use crate::names::{KeptNames, Lookup};
 use crate::refinement::{References, decode_refinement};
@@ -102,7 +104,7 @@ impl<'a, A: Allocator + Clone> Drawer<'a, A> {
                 self.keep_region(RegionKind::Generic, segment, context, steps)
             }
             SegmentType::ImmediateGenericRegion | SegmentType::ImmediateLosslessGenericRegion => {
-                self.draw_region(RegionKind::Generic, segment, context, steps)
+                self.draw_generic(segment, context, steps)
             }
             SegmentType::IntermediateGenericRefinementRegion => {
                 self.keep_region(RegionKind::GenericRefinement, segment, context, steps)
@@ -150,6 +152,41 @@ impl<'a, A: Allocator + Clone> Drawer<'a, A> {
                 Ok(())
             }
         }
+    }
+
+    /// The same of a generic region, which is decoded into the page's own bitmap where it makes up
+    /// the page by itself.
+    fn draw_generic<L: Ledger>(
+        &self,
+        segment: &Segment<'_, A>,
+        context: &mut DecoderContext<A>,
+        steps: &mut Steps<L>,
+    ) -> Result<()>
+        ensures { Gives (λ _. context.new) result (immediate self.now.strict self.now.globals.now Generic (segment_view segment.now) context.old) }
+    {
+        let header = match parse_generic(self.strict, false, segment) {
+            Ok(header) => header,
+            Err(error) => return self.pass_over(error, context),
+        };
+        if !context.is_made_by(&header.region_info) {
+            return self.draw_region(RegionKind::Generic, segment, context, steps);
+        }
+        match context.decode_directly(&header, steps) {
+            Ok(()) => Ok(()),
+            Err(error) => self.pass_over(error, context),
+        }
+    }
+
+    /// What becomes of an immediate region that failed and left the page as it was.
+    fn pass_over(&self, error: DecodeError, context: &mut DecoderContext<A>) -> Result<()>
+        ensures value { Gives (λ _. context.new) result (shown self.now.strict context.old (Err error)) }
+        ensures memory { error ≡ OutOfMemory → result ≡ Err OutOfMemory }
+    {
+        if self.strict || matches!(error, DecodeError::OutOfMemory) {
+            return Err(error);
+        }
+        context.untouched = false;
+        Ok(())
     }
 
     /// Keeps an intermediate region under its segment's number.

@@ -30,6 +30,7 @@ mod region;
 mod segments_by_page;
 mod settings;
 mod texts;
+mod whole_page;
 mod workspace;
 
 pub use context::DecoderContext;
