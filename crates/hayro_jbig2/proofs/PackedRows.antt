@@ -15,7 +15,7 @@ map-same f g a zero same = refl
 map-same f g a (suc n) same = rw (same a (omega arith) (omega arith)) (ap (λ xs. g a ∷ xs) (map-same f g (a + 1) n (λ i above below. same i (omega arith) (omega arith))))
 
 by_eights : (m : ℕ) → m < 256
-  → m ≡ m / 2 ^ 7 % 2 * 2 ^ 7 + (m / 2 ^ 6 % 2 * 2 ^ 6 + (m / 2 ^ 5 % 2 * 2 ^ 5 + (m / 2 ^ 4 % 2 * 2 ^ 4 + (m / 2 ^ 3 % 2 * 2 ^ 3 + (m / 2 ^ 2 % 2 * 2 ^ 2 + (m / 2 ^ 1 % 2 * 2 ^ 1 + (m / 2 ^ 0 % 2 * 2 ^ 0 + 0)))))))
+    → m ≡ m / 2 ^ 7 % 2 * 2 ^ 7 + (m / 2 ^ 6 % 2 * 2 ^ 6 + (m / 2 ^ 5 % 2 * 2 ^ 5 + (m / 2 ^ 4 % 2 * 2 ^ 4 + (m / 2 ^ 3 % 2 * 2 ^ 3 + (m / 2 ^ 2 % 2 * 2 ^ 2 + (m / 2 ^ 1 % 2 * 2 ^ 1 + (m / 2 ^ 0 % 2 * 2 ^ 0 + 0)))))))
 by_eights m small = omega (arith, small)
 
 -- the highest byte of a word is what its bits spell
@@ -33,9 +33,9 @@ byte-pixels g n k y same = ap (λ (bits : List Bool). value_of_bits bits) (map-s
 
 -- a byte more of the rows, at column x of row y
 pub written-more : (g : Grid) (w : ℕ) (bytes : List ℕ) (x y place byte : ℕ)
-  → place < length bytes → place ≡ y * row_bytes w + x / 8 → x < w → byte ≡ packed_byte g (x / 8) y
-  → ((k : ℕ) → k < place → get_or bytes k 0 ≡ packed_byte g (k % row_bytes w) (k / row_bytes w))
-  → (k : ℕ) → k < place + 1 → get_or (set bytes place byte) k 0 ≡ packed_byte g (k % row_bytes w) (k / row_bytes w)
+    → place < length bytes → place ≡ y * row_bytes w + x / 8 → x < w → byte ≡ packed_byte g (x / 8) y
+    → ((k : ℕ) → k < place → get_or bytes k 0 ≡ packed_byte g (k % row_bytes w) (k / row_bytes w))
+    → (k : ℕ) → k < place + 1 → get_or (set bytes place byte) k 0 ≡ packed_byte g (k % row_bytes w) (k / row_bytes w)
 written-more g w bytes x y place byte inside counted left is written k below =
     ⊎_elim
     (λ (before : k < place). get_or-set_other bytes place k byte 0 (λ e. omega (arith, e, before)) ∙ written k before)
@@ -55,8 +55,8 @@ next-row w x y place eighth left last counted =
 
 -- the word that is left when a byte was taken off
 pub held-more : (g : Grid) (before after x y : ℕ) → ((k : ℕ) → 8 ≤ k → k < 64 → bit after k ≡ bit before (k - 8))
-  → ((k : ℕ) → k < 64 - x % 64 → bit before (63 - k) ≡ pixel_at g (x + k) y) → x % 8 ≡ 0
-  → (k : ℕ) → 0 < (x + 8) % 64 → k < 64 - (x + 8) % 64 → bit after (63 - k) ≡ pixel_at g (x + 8 + k) y
+    → ((k : ℕ) → k < 64 - x % 64 → bit before (63 - k) ≡ pixel_at g (x + k) y) → x % 8 ≡ 0
+    → (k : ℕ) → 0 < (x + 8) % 64 → k < 64 - (x + 8) % 64 → bit after (63 - k) ≡ pixel_at g (x + 8 + k) y
 held-more g before after x y rest held eighth k some below =
     let index : 63 - k - 8 ≡ 63 - (k + 8) = omega arith in
     let column : x + (k + 8) ≡ x + 8 + k = omega arith in

@@ -19,7 +19,7 @@ loop-place-preserved g c =
     let left : x < c.args.initial_page.now.width = kept.column wide in
     let loaded : (k : ℕ) → k < 64 - x % 64 → bit c.if-x-eq0.ahead (63 - k) ≡ pixel_at grid (x + k) y =
     elim c.if-x-eq0.branch [
-        then-x-eq0 w ↦ λ k below. ap (λ (n : ℕ). bit n (63 - k)) w.ahead-is ∙ w.load_pixels-ahead.ensures.bits k (omega (arith, below))
+      | then-x-eq0 w ↦ λ k below. ap (λ (n : ℕ). bit n (63 - k)) w.ahead-is ∙ w.load_pixels-ahead.ensures.bits k (omega (arith, below))
       | else-x-eq0 w ↦ λ k below. ap (λ (n : ℕ). bit n (63 - k)) w.ahead-is ∙ kept.held k (omega (arith, w.if-x-eq0)) below
     ] in
     let eighths : x ≡ 8 * (x / 8) = omega (arith, kept.eighth) in
@@ -28,22 +28,22 @@ loop-place-preserved g c =
     ∙ byte-pixels grid c.if-x-eq0.ahead (x / 8) y (λ j small. loaded j (omega (arith, small, kept.eighth)) ∙ ap (λ (n : ℕ). pixel_at grid (n + j) y) eighths) in
     let written = written-more grid c.args.initial_page.now.width c.loop-place.buf x y c.loop-place.place c.take_byte.result (omega (arith, c.loop-place-test.true, c.loop-place.auto.buf)) kept.counted left byte kept.written in
     elim c.if-x-initial_page.branch [
-        then-x-initial_page w ↦ record {
-          sized = length-set c.loop-place.buf c.loop-place.place c.take_byte.result ∙ kept.sized;
-          counted = rw (w.x-is, w.y-is) (next-row c.args.initial_page.now.width x y c.loop-place.place kept.eighth left w.if-x-initial_page.true kept.counted);
-          eighth = rw (w.x-is) refl;
-          column = λ some. rw (w.x-is) wide;
-          held = λ k some below. absurd (omega (arith, w.x-is, some));
-          written = written;
-        }
+      | then-x-initial_page w ↦ record {
+        sized = length-set c.loop-place.buf c.loop-place.place c.take_byte.result ∙ kept.sized;
+        counted = rw (w.x-is, w.y-is) (next-row c.args.initial_page.now.width x y c.loop-place.place kept.eighth left w.if-x-initial_page.true kept.counted);
+        eighth = rw (w.x-is) refl;
+        column = λ some. rw (w.x-is) wide;
+        held = λ k some below. absurd (omega (arith, w.x-is, some));
+        written = written;
+      }
       | else-x-initial_page w ↦ record {
-          sized = length-set c.loop-place.buf c.loop-place.place c.take_byte.result ∙ kept.sized;
-          counted = rw (w.x-is, w.y-is) (omega (arith, kept.counted));
-          eighth = omega (arith, w.x-is, kept.eighth);
-          column = λ some. omega (arith, w.x-is, w.if-x-initial_page.false);
-          held = rw (w.x-is, w.y-is) (held-more grid c.if-x-eq0.ahead c.take_byte.new.word x y c.take_byte.ensures.rest loaded kept.eighth);
-          written = written;
-        }
+        sized = length-set c.loop-place.buf c.loop-place.place c.take_byte.result ∙ kept.sized;
+        counted = rw (w.x-is, w.y-is) (omega (arith, kept.counted));
+        eighth = omega (arith, w.x-is, kept.eighth);
+        column = λ some. omega (arith, w.x-is, w.if-x-initial_page.false);
+        held = rw (w.x-is, w.y-is) (held-more grid c.if-x-eq0.ahead c.take_byte.new.word x y c.take_byte.ensures.rest loaded kept.eighth);
+        written = written;
+      }
     ]
 
 pub returns : goal.returns
