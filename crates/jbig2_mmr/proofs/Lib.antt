@@ -1,4 +1,5 @@
 mod T6Bits
+mod T6Changes
 mod T6Decoding
 mod T6Lookup
 pub mod T6Rows

@@ -6,9 +6,8 @@ use Rattle.std.proofs.lemmas.Nat.{pow-add, shr-shr, mod_low, shr_high, shl_below
 use Rattle.std.proofs.lemmas.List.{take-replicate, drop-drop, length-drop, take-append-drop, drop-append-le, take-append-le, drop_more, drop_all}
 use Rattle.std.proofs.lemmas.Bool.{cases_eq, cases_lt, cond-true, cond-false, and_from, and_left, and_right, and_parts, le-leb, lt-leb, eq-eqb, ne_eqb, ltb-true, leb-true}
 use Rattle.jbig2_base.specs.Bits.{byte_bits, number_after}
-use Rattle.jbig2_mmr.specs.declared.mmr.codes.Code.{Code}
-use Rattle.jbig2_mmr.specs.T6.{begins, read_code, ends_block, after_end}
-use Rattle.jbig2_mmr.specs.inner.T6Reading.{spell, line_of, is_word, are_words, AreBits}
+use Rattle.jbig2_mmr.specs.T6.{ends_block, after_end}
+use Rattle.jbig2_mmr.specs.inner.T6Reading.{spell, AreBits, padded}
 
 -- ---- bits
 pub bits-front : (n : ℕ) (xs : List ℕ) → AreBits xs → AreBits (drop n xs)
@@ -198,112 +197,24 @@ four-number a b c d p q r s =
     byte-front a (b ∷ c ∷ d ∷ []) p
     ∙ ap (λ (v : ℕ). a * 16777216 + v) (byte-front b (c ∷ d ∷ []) q ∙ ap (λ (v : ℕ). b * 65536 + v) (byte-front c (d ∷ []) r ∙ ap (λ (v : ℕ). c * 256 + v) (byte-number d s)))
 
-pub window-is : (word a b c d : ℕ) (ps : List ℕ) (k n : ℕ) → word ≡ a * 16777216 + (b * 65536 + (c * 256 + d)) → a ≡ get_or ps 0 0 → b ≡ get_or ps 1 0 → c ≡ get_or ps 2 0 → d ≡ get_or ps 3 0 → a < 256 → b < 256 → c < 256 → d < 256 → k < 8 → n ≤ 24 → k + n ≤ length (flat_map byte_bits ps) → word * 2 ^ k % 2 ^ 32 / 2 ^ 8 / 2 ^ (24 - n) ≡ number_after 0 (take n (drop k (flat_map byte_bits ps)))
+pub window-is : (word a b c d : ℕ) (ps : List ℕ) (k n : ℕ) → word ≡ a * 16777216 + (b * 65536 + (c * 256 + d)) → a ≡ get_or ps 0 0 → b ≡ get_or ps 1 0 → c ≡ get_or ps 2 0 → d ≡ get_or ps 3 0 → a < 256 → b < 256 → c < 256 → d < 256 → k < 8 → n ≤ 24 → k ≤ length (flat_map byte_bits ps) → word * 2 ^ k % 2 ^ 32 / 2 ^ 8 / 2 ^ (24 - n) ≡ number_after 0 (take n (drop k (flat_map byte_bits ps) ++ replicate 24 0))
 window-is word a b c d ps k n e ea eb ec ed p q r s few short inside =
-    let same : flat_map byte_bits (a ∷ b ∷ c ∷ d ∷ []) ≡ flat_map byte_bits (four ps) = ap (λ (l : List ℕ). flat_map byte_bits l) (let l : a ∷ b ∷ c ∷ d ∷ [] ≡ four ps = cc in l) in
-    ap (λ (v : ℕ). v * 2 ^ k % 2 ^ 32 / 2 ^ 8 / 2 ^ (24 - n)) (e ∙ sym (four-number a b c d p q r s))
-    ∙ window-bits (flat_map byte_bits (a ∷ b ∷ c ∷ d ∷ [])) k n (bits-bytes (a ∷ b ∷ c ∷ d ∷ [])) refl few short
-    ∙ ap (λ (l : List ℕ). number_after 0 (take n (drop k l))) same
-    ∙ ap (λ (l : List ℕ). number_after 0 l) (four-bits ps k n few short inside)
-
-pub window-padded : (word a b c d : ℕ) (ps : List ℕ) (k n : ℕ) → word ≡ a * 16777216 + (b * 65536 + (c * 256 + d)) → a ≡ get_or ps 0 0 → b ≡ get_or ps 1 0 → c ≡ get_or ps 2 0 → d ≡ get_or ps 3 0 → a < 256 → b < 256 → c < 256 → d < 256 → k < 8 → n ≤ 24 → k ≤ length (flat_map byte_bits ps) → word * 2 ^ k % 2 ^ 32 / 2 ^ 8 / 2 ^ (24 - n) ≡ number_after 0 (take n (drop k (flat_map byte_bits ps) ++ replicate 24 0))
-window-padded word a b c d ps k n e ea eb ec ed p q r s few short inside =
     let same : flat_map byte_bits (a ∷ b ∷ c ∷ d ∷ []) ≡ flat_map byte_bits (four ps) = ap (λ (l : List ℕ). flat_map byte_bits l) (let l : a ∷ b ∷ c ∷ d ∷ [] ≡ four ps = cc in l) in
     ap (λ (v : ℕ). v * 2 ^ k % 2 ^ 32 / 2 ^ 8 / 2 ^ (24 - n)) (e ∙ sym (four-number a b c d p q r s))
     ∙ window-bits (flat_map byte_bits (a ∷ b ∷ c ∷ d ∷ [])) k n (bits-bytes (a ∷ b ∷ c ∷ d ∷ [])) refl few short
     ∙ ap (λ (l : List ℕ). number_after 0 (take n (drop k l))) same
     ∙ ap (λ (l : List ℕ). number_after 0 l) (four-padded ps k n few short inside)
 
--- ---- code words
-digit : (f g b c : ℕ) → b < 2 → c < 2 → eqb (2 * g + b) (2 * f + c) ≡ (eqb g f && eqb b c)
-digit f g b c p q =
-    ⊎_elim
-    (λ (same : g ≡ f).
-    ⊎_elim (λ (e : b ≡ c). eq-eqb (2 * g + b) (2 * f + c) (omega arith) ∙ sym (and_from (eqb g f) (eqb b c) (eq-eqb g f same) (eq-eqb b c e)))
-    (λ (o : b ≡ c → ⊥). ne_eqb (2 * g + b) (2 * f + c) (λ h. o (omega arith)) ∙ sym (and_right (eqb g f) (eqb b c) (ne_eqb b c o))) (cases_eq b c))
-    (λ (o : g ≡ f → ⊥). ne_eqb (2 * g + b) (2 * f + c) (λ h. o (omega arith)) ∙ sym (and_left (eqb g f) (eqb b c) (ne_eqb g f o)))
-    (cases_eq g f)
-
-and-group : (a b c : Bool) → (a && (b && c)) ≡ ((a && b) && c)
-and-group true b c = refl
-and-group false b c = refl
-
-and-true : (a : Bool) → (a && true) ≡ a
-and-true true = refl
-and-true false = refl
-
-begins-number : (w bits : List ℕ) (f g : ℕ) → AreBits w → AreBits bits → length w ≤ length bits → (eqb g f && begins w bits) ≡ eqb (number_after g w) (number_after f (take (length w) bits))
-begins-number [] bits f g p q h = and-true (eqb g f)
-begins-number (b ∷ w) [] f g p q h = absurd (omega arith)
-begins-number (b ∷ w) (c ∷ bits) f g p q h =
-    and-group (eqb g f) (eqb b c) (begins w bits)
-    ∙ ap (λ (t : Bool). t && begins w bits) (sym (digit f g b c p.0 q.0))
-    ∙ begins-number w bits (2 * f + c) (2 * g + b) p.1 q.1 (omega arith)
-
-begins-short : (w bits : List ℕ) → length bits < length w → begins w bits ≡ false
-begins-short [] bits h = absurd (omega arith)
-begins-short (b ∷ w) [] h = refl
-begins-short (b ∷ w) (c ∷ bits) h = and_right (eqb b c) (begins w bits) (begins-short w bits (omega arith))
-
-half-lt : (v n : ℕ) → v < 2 ^ suc n → v / 2 < 2 ^ n
-half-lt v n h = let twice : 2 ^ suc n ≡ 2 * 2 ^ n = pow-suc 2 n ∙ omega arith in omega arith
-
-spell-number : (n v : ℕ) (xs : List ℕ) → v < 2 ^ n → number_after 0 (spell n v xs) ≡ number_after v xs
-spell-number zero v xs h = let none : v ≡ 0 = omega arith in ap (λ (i : ℕ). number_after i xs) (sym none)
-spell-number (suc n) v xs h =
-    let same : 2 * (v / 2) + v % 2 ≡ v = omega arith in
-    spell-number n (v / 2) (v % 2 ∷ xs) (half-lt v n h) ∙ ap (λ (i : ℕ). number_after i xs) same
-
-spell-length : (n v : ℕ) (xs : List ℕ) → length (spell n v xs) ≡ n + length xs
+-- ---- bits that a number spells
+pub spell-length : (n v : ℕ) (xs : List ℕ) → length (spell n v xs) ≡ n + length xs
 spell-length zero v xs = omega arith
 spell-length (suc n) v xs = spell-length n (v / 2) (v % 2 ∷ xs) ∙ omega arith
-
-spell-bits : (n v : ℕ) (xs : List ℕ) → AreBits xs → AreBits (spell n v xs)
-spell-bits zero v xs h = h
-spell-bits (suc n) v xs h = spell-bits n (v / 2) (v % 2 ∷ xs) (omega arith, h)
-
-word-size : (c : Code) → length (spell c.size c.number []) ≡ c.size
-word-size c = spell-length c.size c.number [] ∙ omega arith
-
-word-begins : (c : Code) (bits : List ℕ) → AreBits bits → is_word c ≡ true → c.size ≤ length bits → begins (spell c.size c.number []) bits ≡ eqb c.number (number_after 0 (take c.size bits))
-word-begins c bits are word inside =
-    let w : List ℕ = spell c.size c.number [] in
-    let parts = and_parts (ltb 0 c.size && leb c.size 24) (ltb c.number (2 ^ c.size)) word in
-    begins-number w bits 0 0 (spell-bits c.size c.number [] tt) are (omega (arith, word-size c))
-    ∙ ap (λ (v : ℕ). eqb v (number_after 0 (take (length w) bits))) (spell-number c.size c.number [] (ltb-true c.number (2 ^ c.size) parts.1))
-    ∙ ap (λ (i : ℕ). eqb c.number (number_after 0 (take i bits))) (word-size c)
 
 -- what a window of 24 bits says of the bits
 pub record IsWindow (window few : ℕ) (bits : List ℕ) : Type 0 where
   pub few_is : few ≡ min 24 (length bits)
-  pub value : (n : ℕ) → n ≤ 24 → n ≤ length bits → window / 2 ^ (24 - n) ≡ number_after 0 (take n bits)
+  pub value : (n : ℕ) → n ≤ 24 → window / 2 ^ (24 - n) ≡ number_after 0 (take n (padded bits))
   pub are : AreBits bits
-
-pub word-short : (c : Code) → is_word c ≡ true → (0 < c.size) × (c.size ≤ 24)
-word-short c word =
-    let parts = and_parts (ltb 0 c.size) (leb c.size 24) (and_parts (ltb 0 c.size && leb c.size 24) (ltb c.number (2 ^ c.size)) word).0 in
-    (ltb-true 0 c.size parts.0, leb-true c.size 24 parts.1)
-
-pub code-found : (c : Code) (cs : List Code) (window few : ℕ) (bits : List ℕ) → IsWindow window few bits → is_word c ≡ true → c.size ≤ few → window / 2 ^ (24 - c.size) ≡ c.number → Some (c.value, drop c.size bits) ≡ read_code (map line_of (c ∷ cs)) bits
-unfolding read_code
-code-found c cs window few bits known word inside same =
-    let w : List ℕ = spell c.size c.number [] in
-    let short = word-short c word in
-    let there : c.size ≤ length bits = omega (arith, known.few_is) in
-    let yes : begins w bits ≡ true = word-begins c bits known.are word there ∙ eq-eqb c.number (number_after 0 (take c.size bits)) (sym same ∙ known.value c.size short.1 there) in
-    sym (cond-true (begins w bits) (Some (c.value, drop (length w) bits)) (read_code (map line_of cs) bits) yes
-    ∙ ap (λ (i : ℕ). Some (c.value, drop i bits)) (word-size c))
-
-pub code-other : (c : Code) (cs : List Code) (window few : ℕ) (bits : List ℕ) → IsWindow window few bits → is_word c ≡ true → (c.size ≤ few → window / 2 ^ (24 - c.size) ≡ c.number → ⊥) → read_code (map line_of (c ∷ cs)) bits ≡ read_code (map line_of cs) bits
-unfolding read_code
-code-other c cs window few bits known word other =
-    let w : List ℕ = spell c.size c.number [] in
-    let short = word-short c word in
-    let no : begins w bits ≡ false =
-    ⊎_elim (λ (past : length bits < c.size). begins-short w bits (omega (arith, word-size c)))
-    (λ (there : c.size ≤ length bits). word-begins c bits known.are word there ∙ ne_eqb c.number (number_after 0 (take c.size bits)) (λ e. other (omega (arith, known.few_is)) (known.value c.size short.1 there ∙ sym e)))
-    (cases_lt (length bits) c.size) in
-    cond-false (begins w bits) (Some (c.value, drop (length w) bits)) (read_code (map line_of cs) bits) no
 
 -- ---- the end of block
 pub end-short : (bits : List ℕ) → length bits < 24 → ends_block bits ≡ false
@@ -316,38 +227,10 @@ end-is window few bits known enough =
     let there : 24 ≤ length bits = omega (arith, known.few_is) in
     let one : window / 2 ^ (24 - 24) ≡ window = omega arith in
     ap (λ (t : Bool). t && eqb (number_after 0 (take 24 bits)) 0x001001) (le-leb 24 (length bits) there)
-    ∙ ap (λ (v : ℕ). eqb v 0x001001) (sym (known.value 24 (omega arith) there) ∙ one)
+    ∙ ap (λ (v : ℕ). eqb v 0x001001) (sym (known.value 24 (omega arith) ∙ ap (λ (ys : List ℕ). number_after 0 ys) (take-append-le 24 bits (replicate 24 0) there)) ∙ one)
 
 pub end-after : (bits : List ℕ) → ends_block bits ≡ true → after_end bits ≡ drop 24 bits
 end-after bits e = cond-true (ends_block bits) (drop 24 bits) bits e
 
 pub end-none : (bits : List ℕ) → ends_block bits ≡ false → after_end bits ≡ bits
 end-none bits e = cond-false (ends_block bits) (drop 24 bits) bits e
-
--- ---- a code table from code i on
-abbrev pub no_code : Code
-no_code = record { value = 0; size = 0; number = 0 }
-
-from_index : (table : List Code) (i : ℕ) (bits : List ℕ) → i < length table → read_code (map line_of (drop i table)) bits ≡ read_code (map line_of (get_or table i no_code ∷ drop (i + 1) table)) bits
-from_index table i bits inside = ap (λ (cs : List Code). read_code (map line_of cs) bits) (drop_more table i no_code inside)
-
-words_at : (table : List Code) (i : ℕ) → i < length table → are_words (drop i table) ≡ true → (is_word (get_or table i no_code) ≡ true) × (are_words (drop (i + 1) table) ≡ true)
-words_at table i inside words =
-    let c : Code = get_or table i no_code in
-    and_parts (is_word c) (are_words (drop (i + 1) table)) (ap are_words (sym (drop_more table i no_code inside)) ∙ words)
-
-pub table-found : (table : List Code) (i window few : ℕ) (bits : List ℕ) (c : Code) → IsWindow window few bits → c ≡ get_or table i no_code → i < length table → are_words (drop i table) ≡ true → read_code (map line_of (drop i table)) bits ≡ read_code (map line_of table) bits → c.size ≤ few → window / 2 ^ (24 - c.size) ≡ c.number → (0 < c.size) × (Some (c.value, drop c.size bits) ≡ read_code (map line_of table) bits)
-table-found table i window few bits c known e inside words same fits equal =
-    let at : Code = get_or table i no_code in
-    let word : is_word c ≡ true = ap is_word e ∙ (words_at table i inside words).0 in
-    ((word-short c word).0, code-found c (drop (i + 1) table) window few bits known word fits equal ∙ ap (λ (d : Code). read_code (map line_of (d ∷ drop (i + 1) table)) bits) e ∙ sym (from_index table i bits inside) ∙ same)
-
-pub table-other : (table : List Code) (i window few : ℕ) (bits : List ℕ) (c : Code) → IsWindow window few bits → c ≡ get_or table i no_code → i < length table → are_words (drop i table) ≡ true → read_code (map line_of (drop i table)) bits ≡ read_code (map line_of table) bits → (c.size ≤ few → window / 2 ^ (24 - c.size) ≡ c.number → ⊥) → (read_code (map line_of (drop (i + 1) table)) bits ≡ read_code (map line_of table) bits) × (are_words (drop (i + 1) table) ≡ true)
-table-other table i window few bits c known e inside words same other =
-    let at : Code = get_or table i no_code in
-    let word : is_word c ≡ true = ap is_word e ∙ (words_at table i inside words).0 in
-    (sym (code-other c (drop (i + 1) table) window few bits known word other) ∙ ap (λ (d : Code). read_code (map line_of (d ∷ drop (i + 1) table)) bits) e ∙ sym (from_index table i bits inside) ∙ same, (words_at table i inside words).1)
-
-pub table-end : (table : List Code) (i : ℕ) (bits : List ℕ) → length table ≤ i → read_code (map line_of (drop i table)) bits ≡ read_code (map line_of table) bits → None ≡ read_code (map line_of table) bits
-unfolding read_code
-table-end table i bits past same = ap (λ (cs : List Code). read_code (map line_of cs) bits) (sym (drop_all i table past)) ∙ same

@@ -1,14 +1,14 @@
 -- The code that begins some bits, found by a table over a fixed number of them.
-use Rattle.std.proofs.Common.{◌≡◌, ℕ, zero, suc, ◌+◌, ◌-◌, ◌*◌, ◌/◌, ◌%◌, ◌^◌, ◌<◌, ◌≤◌, Bool, true, false, not, ◌&&◌, cond, eqb, ltb, leb, List, [], ◌∷◌, ◌++◌, length, take, drop, map, replicate, get_or, Option, Some, None, refl, sym, ap, subst, ◌∙◌, ⊎_elim, arith}
-use Rattle.std.specs.Prelude.{◌||◌}
+use Rattle.std.proofs.Common.{◌≡◌, ℕ, zero, suc, ◌+◌, ◌-◌, ◌*◌, ◌/◌, ◌%◌, ◌^◌, ◌<◌, ◌≤◌, Bool, true, false, not, ◌&&◌, cond, eqb, ltb, leb, List, [], ◌∷◌, ◌++◌, length, take, drop, map, replicate, get_or, Option, Some, None, refl, sym, ap, subst, ◌∙◌, ⊎_elim, zero-add, arith}
+use Rattle.std.specs.Option.{is_some}
 use Rattle.std.specs.List.{range_with_len}
 use Rattle.std.proofs.lemmas.Nat.{shr-shr, shr_high}
 use Rattle.std.proofs.lemmas.List.{length-append, append_assoc, take-append-drop, length-take-le, length-drop, length-replicate}
 use Rattle.std.proofs.lemmas.Bool.{true≢false, cases_eq, cases_lt, cases_Bool, cond-true, cond-false, and_parts, eq-eqb, eqb-true, ltb-true, leb-true}
 use Rattle.jbig2_base.specs.Bits.{number_after}
 use Rattle.jbig2_mmr.specs.T6.{begins, read_code, apart_from, is_prefix_free}
-use Rattle.jbig2_mmr.specs.inner.T6Reading.{spell, code_at, padded, with_rest, AreBits}
-use Rattle.jbig2_mmr.proofs.T6Bits.{number-front, number-lt}
+use Rattle.jbig2_mmr.specs.inner.T6Reading.{spell, code_at, entry_of, padded, AreBits}
+use Rattle.jbig2_mmr.proofs.T6Bits.{number-front, number-lt, spell-length}
 
 -- ---- a test that holds for a stretch of numbers, by computing
 pub at-all : {A : Type 0} (f : ℕ → A) (e : A) (lo n i : ℕ) → map f (range_with_len lo n) ≡ replicate n e → lo ≤ i → i < lo + n → f i ≡ e
@@ -194,6 +194,73 @@ at-none (c ∷ cs) bits more e =
     cond-false (begins c.1 bits) (Some (c.0, length c.1)) (code_at cs bits) (not-before c.1 bits more no)
     ∙ at-none cs bits more (sym (cond-false (begins c.1 (bits ++ more)) (Some (c.0, length c.1)) (code_at cs (bits ++ more)) no) ∙ e))
     (cases_Bool (begins c.1 (bits ++ more)))
+
+-- what begins fewer bits begins more
+at-longer : {A : Type 0} (cs : List (A × List ℕ)) (bits more : List ℕ) (r : A × ℕ) → is_prefix_free cs ≡ true → code_at cs bits ≡ Some r → code_at cs (bits ++ more) ≡ Some r
+unfolding code_at is_prefix_free
+at-longer [] bits more r free e = e
+at-longer {A = A} (c ∷ cs) bits more r free e =
+    let parts = and_parts (apart_from c.1 cs) (is_prefix_free cs) free in
+    ⊎_elim
+    (λ (yes : begins c.1 (bits ++ more) ≡ true).
+    ⊎_elim
+    (λ (here : begins c.1 bits ≡ true).
+    cond-true (begins c.1 (bits ++ more)) (Some (c.0, length c.1)) (code_at cs (bits ++ more)) yes
+    ∙ sym (cond-true (begins c.1 bits) (Some (c.0, length c.1)) (code_at cs bits) here) ∙ e)
+    (λ (past : begins c.1 bits ≡ false).
+    let none : code_at cs bits ≡ None = none-other cs c.1 bits more parts.0 yes in
+    let some : code_at cs bits ≡ Some r = sym (cond-false (begins c.1 bits) (Some (c.0, length c.1)) (code_at cs bits) past) ∙ e in
+    absurd (let both : ◌≡◌ {A = Option (A × ℕ)} None (Some r) = sym none ∙ some in cc))
+    (cases_Bool (begins c.1 bits)))
+    (λ (other : begins c.1 (bits ++ more) ≡ false).
+    cond-false (begins c.1 (bits ++ more)) (Some (c.0, length c.1)) (code_at cs (bits ++ more)) other
+    ∙ at-longer cs bits more r parts.1 (sym (cond-false (begins c.1 bits) (Some (c.0, length c.1)) (code_at cs bits) (not-before c.1 bits more other)) ∙ e))
+    (cases_Bool (begins c.1 (bits ++ more)))
+
+-- ---- tables over the first n of n + m bits
+spell-split : (n m v : ℕ) → spell (n + m) v [] ≡ spell n (v / 2 ^ m) [] ++ spell m v []
+spell-split zero m v = ap (λ (k : ℕ). spell k v []) (zero-add m)
+spell-split (suc n) m v =
+    let size : suc n + m ≡ suc (n + m) = omega arith in
+    let high : v / 2 ^ (n + m) ≡ v / 2 ^ m / 2 ^ n = ap (λ (k : ℕ). v / 2 ^ k) (let turned : n + m ≡ m + n = omega arith in turned) ∙ sym (shr-shr v m n) in
+    ap (λ (k : ℕ). spell k v []) size
+    ∙ spell-front (n + m) v []
+    ∙ ap (λ (k : ℕ). k % 2 ∷ spell (n + m) v []) high
+    ∙ ap (λ (ys : List ℕ). v / 2 ^ m / 2 ^ n % 2 ∷ ys) (spell-split n m v)
+    ∙ ap (λ (ys : List ℕ). ys ++ spell m v []) (sym (spell-front n (v / 2 ^ m) []))
+
+pub long-same : {A : Type 0} (cs : List (A × List ℕ)) (n m v : ℕ) → are_short n cs ≡ true → code_at cs (spell (n + m) v []) ≡ code_at cs (spell n (v / 2 ^ m) [])
+long-same cs n m v short =
+    let size : length (spell n (v / 2 ^ m) []) ≡ n = spell-length n (v / 2 ^ m) [] ∙ omega arith in
+    ap (λ (ys : List ℕ). code_at cs ys) (spell-split n m v)
+    ∙ at-front cs (spell n (v / 2 ^ m) []) (spell m v []) (ap (λ (k : ℕ). are_short k cs) size ∙ short)
+
+short-of : (cs : List (ℕ × List ℕ)) (n m v : ℕ) (o : Option (ℕ × ℕ)) → is_prefix_free cs ≡ true → code_at cs (spell n (v / 2 ^ m) []) ≡ o → is_some o ≡ true → entry_of o ≡ entry_of (code_at cs (spell (n + m) v []))
+short-of cs n m v None free e some = absurd (true≢false (sym some))
+short-of cs n m v (Some r) free e some =
+    ap entry_of (sym (ap (λ (ys : List ℕ). code_at cs ys) (spell-split n m v) ∙ at-longer cs (spell n (v / 2 ^ m) []) (spell m v []) r free e))
+
+pub short-entry : (cs : List (ℕ × List ℕ)) (n m v : ℕ) → is_prefix_free cs ≡ true → is_some (code_at cs (spell n (v / 2 ^ m) [])) ≡ true → entry_of (code_at cs (spell n (v / 2 ^ m) [])) ≡ entry_of (code_at cs (spell (n + m) v []))
+short-entry cs n m v free some = short-of cs n m v (code_at cs (spell n (v / 2 ^ m) [])) free refl some
+
+-- what an entry says
+none-of : (cs : List (ℕ × List ℕ)) (bits : List ℕ) (e : ℕ) (o : Option (ℕ × ℕ)) → are_short 13 cs ≡ true → code_at cs bits ≡ o → e ≡ entry_of o → e % 16 ≡ 0 → o ≡ None
+none-of cs bits e None short is value none = refl
+none-of cs bits e (Some r) short is value none = absurd (let size = at-size cs 13 bits r.0 r.1 short is in omega arith)
+
+pub entry-none : (cs : List (ℕ × List ℕ)) (bits : List ℕ) (e : ℕ) → are_short 13 cs ≡ true → e ≡ entry_of (code_at cs bits) → e % 16 ≡ 0 → code_at cs bits ≡ None
+entry-none cs bits e short value none = none-of cs bits e (code_at cs bits) short refl value none
+
+some-of : (cs : List (ℕ × List ℕ)) (bits : List ℕ) (e : ℕ) (o : Option (ℕ × ℕ)) → are_short 13 cs ≡ true → code_at cs bits ≡ o → e ≡ entry_of o → (e % 16 ≡ 0 → ⊥) → o ≡ Some (e / 16, e % 16)
+some-of cs bits e None short is value some = absurd (some (omega arith))
+some-of cs bits e (Some r) short is value some =
+    let size = at-size cs 13 bits r.0 r.1 short is in
+    let run : r.0 ≡ e / 16 = omega arith in
+    let bits_of_it : r.1 ≡ e % 16 = omega arith in
+    ap (λ (k : ℕ). Some (k, r.1)) run ∙ ap (λ (k : ℕ). Some (e / 16, k)) bits_of_it
+
+pub entry-some : (cs : List (ℕ × List ℕ)) (bits : List ℕ) (e : ℕ) → are_short 13 cs ≡ true → e ≡ entry_of (code_at cs bits) → (e % 16 ≡ 0 → ⊥) → code_at cs bits ≡ Some (e / 16, e % 16)
+entry-some cs bits e short value some = some-of cs bits e (code_at cs bits) short refl value some
 
 -- ---- a table over the next n bits, zeros behind the end
 -- the first n bits, with zeros

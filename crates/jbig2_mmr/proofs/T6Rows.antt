@@ -55,7 +55,7 @@ pub change-two : (c d x : ℕ) → black_at (c ∷ d ∷ []) x ≡ differ (leb c
 change-two c d x = changes-both (c ∷ []) (d ∷ []) x ∙ ap (λ (t : Bool). differ t (black_at (d ∷ []) x)) (change-one c x) ∙ ap (λ (t : Bool). differ (leb c x) t) (change-one d x)
 
 -- ---- changing elements
-left-here : (row : ℕ → Bool) (x : ℕ) → 1 ≤ x → left_of row x ≡ row (x - 1)
+pub left-here : (row : ℕ → Bool) (x : ℕ) → 1 ≤ x → left_of row x ≡ row (x - 1)
 left-here row zero h = absurd (omega arith)
 left-here row (suc x) h = let at : x ≡ suc x - 1 = omega arith in ap row at
 
@@ -74,57 +74,6 @@ differ-turned true b true e f = ap (λ (t : Bool). not t) f
 differ-turned true b false e f = absurd (true≢false e)
 differ-turned false b true e f = absurd (true≢false (sym e))
 differ-turned false b false e f = f
-
--- no change where the pixel has the colour, or its left neighbour has not
-no-change-black : (row : ℕ → Bool) (black : Bool) (x : ℕ) → row x ≡ black → is_change_from row black x ≡ false
-unfolding is_change_from
-no-change-black row black x e = and_right (is_change row x) (differ (row x) black) (differ-same (row x) black e)
-
-no-change-left : (row : ℕ → Bool) (black : Bool) (x : ℕ) → row x ≡ not black → left_of row x ≡ not black → is_change_from row black x ≡ false
-unfolding is_change_from is_change
-no-change-left row black x e f = and_left (is_change row x) (differ (row x) black) (differ-same (row x) (left_of row x) (e ∙ sym f))
-
-change-here : (row : ℕ → Bool) (black : Bool) (x : ℕ) → row x ≡ not black → left_of row x ≡ black → is_change_from row black x ≡ true
-unfolding is_change_from is_change
-change-here row black x e f =
-    and_from (is_change row x) (differ (row x) black) (ap (λ (t : Bool). differ (row x) t) f ∙ differ-not (row x) black e) (differ-not (row x) black e)
-
-not-not : (b c : Bool) → b ≡ not (not c) → b ≡ c
-not-not b true e = e
-not-not b false e = e
-
--- where the left neighbour has the colour, the first pixel of the other one
-pub b1-inside : (row : ℕ → Bool) (black : Bool) (from to place : ℕ) → from ≤ to → left_of row from ≡ black → IsFirst row (not black) from to place → place_from (is_change_from row black) from to ≡ place
-b1-inside row black from to place order left first =
-    place-is (is_change_from row black) from to place order first.after first.within
-    (λ i a b. no-change-black row black i (not-not (row i) black (first.before i a b)))
-    (λ h. change-here row black place (first.found h)
-    (⊎_elim (λ (e : from ≡ place). ap (λ (x : ℕ). left_of row x) (sym e) ∙ left)
-    (λ (o : from ≡ place → ⊥). left-here row place (omega (arith, first.after, o)) ∙ not-not (row (place - 1)) black (first.before (place - 1) (omega (arith, first.after, o)) (omega (arith, first.after, o))))
-    (cases_eq from place)))
-
--- where it has not, first a pixel of the colour is passed
-pub b1-outside : (row : ℕ → Bool) (black : Bool) (from to middle place : ℕ) → from ≤ to → left_of row from ≡ not black → IsFirst row black from to middle → IsFirst row (not black) middle to place → place_from (is_change_from row black) from to ≡ place
-b1-outside row black from to middle place order left first second =
-    place-is (is_change_from row black) from to place order (omega (arith, first.after, second.after)) second.within
-    (λ i a b.
-    ⊎_elim
-    (λ (early : i < middle).
-    no-change-left row black i (first.before i a early)
-    (⊎_elim (λ (e : from ≡ i). ap (λ (x : ℕ). left_of row x) (sym e) ∙ left)
-    (λ (o : from ≡ i → ⊥). left-here row i (omega (arith, o)) ∙ first.before (i - 1) (omega (arith, o)) (omega arith))
-    (cases_eq from i)))
-    (λ (late : middle ≤ i). no-change-black row black i (not-not (row i) black (second.before i late b)))
-    (cases_lt i middle))
-    (λ h.
-    let there : middle < to = omega (arith, second.after) in
-    let moved : middle ≡ place → ⊥ = λ e. not-both black (sym (first.found there) ∙ ap row e ∙ second.found h) in
-    change-here row black place (second.found h)
-    (left-here row place (omega (arith, second.after, moved)) ∙ not-not (row (place - 1)) black (second.before (place - 1) (omega (arith, second.after, moved)) (omega (arith, second.after, moved)))))
-  where
-    not-both : (b : Bool) → b ≡ not b → ⊥
-    not-both true e = true≢false e
-    not-both false e = true≢false (sym e)
 
 -- b2: the first pixel of the colour behind b1
 pub b2-is : (row : ℕ → Bool) (black : Bool) (b1 to place : ℕ) → b1 ≤ to → (b1 < to → row b1 ≡ not black) → IsFirst row black b1 to place → place_from (is_change row) (b1 + 1) to ≡ place
@@ -437,51 +386,3 @@ row-done g new y h bits meant reading past =
     let is : Some (reading.changes, bits) ≡ meant = sym (done-from reading.most g.width (row_above g y) h reading.changes bits past) ∙ reading.same in
     subst (λ (o : Option (List ℕ × List ℕ)). ReadRow o true g new y bits) is
     (record { width = reading.width; height = reading.height; table = reading.table; here = λ x a. reading.painted x (omega arith); other = reading.other }, refl)
-
--- ---- where the search for b1 begins
-bit_number-test : (b : Bool) → eqb (bit_number b) 1 ≡ b
-bit_number-test true = refl
-bit_number-test false = refl
-
-pub other-colour : (b c : Bool) → not (beq b c) ≡ true → b ≡ not c
-other-colour true true e = sym e
-other-colour true false e = refl
-other-colour false true e = refl
-other-colour false false e = e
-
-pub same-colour : (b c : Bool) → not (beq b c) ≡ false → b ≡ c
-same-colour true true e = refl
-same-colour true false e = e
-same-colour false true e = sym e
-same-colour false false e = refl
-
-pub record IsStart (w : ℕ) (row : ℕ → Bool) (h : Head) (from : ℕ) (left : Bool) : Type 0 where
-  pub from_is : from ≡ cond h.begun (h.a0 + 1) 0
-  pub left_is : left ≡ left_of row from
-  pub within : from ≤ w
-
-pub start-begun : (w : ℕ) (row : ℕ → Bool) (h : Head) (from p : ℕ) (left : Bool) → h.begun ≡ true → from ≡ h.a0 + 1 → left ≡ eqb p 1 → p ≡ bit_number (row h.a0) → h.a0 < w → IsStart w row h from left
-start-begun w row h from p left begun e f q inside = record {
-  from_is = e ∙ sym (cond-true h.begun (h.a0 + 1) 0 begun);
-  left_is = f ∙ ap (λ (n : ℕ). eqb n 1) q ∙ bit_number-test (row h.a0) ∙ sym (ap (λ (n : ℕ). left_of row n) (e ∙ add-one h.a0));
-  within = omega arith;
-}
-
-pub start-white : (w : ℕ) (row : ℕ → Bool) (h : Head) (from : ℕ) (left : Bool) → h.begun ≡ false → from ≡ 0 → left ≡ false → IsStart w row h from left
-start-white w row h from left begun e f = record {
-  from_is = e ∙ sym (cond-false h.begun (h.a0 + 1) 0 begun);
-  left_is = f ∙ sym (ap (λ (n : ℕ). left_of row n) e);
-  within = omega arith;
-}
-
-pub record IsMoved (w : ℕ) (row : ℕ → Bool) (black left : Bool) (from middle : ℕ) : Type 0 where
-  pub cases : ((left ≡ not black) × IsFirst row black from w middle) ⊎ ((left ≡ black) × (middle ≡ from))
-
-pub find-b1 : (w : ℕ) (row : ℕ → Bool) (h : Head) (from middle place : ℕ) (left : Bool) → IsStart w row h from left → IsMoved w row h.black left from middle → IsFirst row (not h.black) middle w place → place ≡ b1_of w row h
-unfolding b1_of
-find-b1 w row h from middle place left start moved first =
-    sym (ap (λ (n : ℕ). place_from (is_change_from row h.black) n w) (sym start.from_is)
-    ∙ ⊎_elim
-    (λ (m : (left ≡ not h.black) × IsFirst row h.black from w middle). b1-outside row h.black from w middle place start.within (sym start.left_is ∙ m.0) m.1 first)
-    (λ (m : (left ≡ h.black) × (middle ≡ from)). b1-inside row h.black from w place start.within (sym start.left_is ∙ m.0) (subst (λ (n : ℕ). IsFirst row (not h.black) n w place) m.1 first))
-    moved.cases)

@@ -5,6 +5,7 @@ ghost use Rattle.jbig2_base.specs.Grid.{blank};
 ghost use Rattle.jbig2_mmr.specs.T6.{mmr_rows, grid_of_rows, rows_of};
 
 mod bits;
+mod change;
 pub mod codes;
 mod row;
 mod span;

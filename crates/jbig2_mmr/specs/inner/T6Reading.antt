@@ -1,26 +1,13 @@
 -- What single calls of a T.6 decoder say (our own rule).
-use Rattle.std.specs.Prelude.{◌≡◌, ℕ, zero, suc, ◌/◌, ◌%◌, ◌^◌, ◌<◌, ◌≤◌, nat_le, nat_lt, Bool, true, false, not, ◌&&◌, List, [], ◌∷◌, ◌++◌, length, replicate, Option, Some, None, if◌then◌else◌}
+use Rattle.std.specs.Prelude.{◌≡◌, ℕ, zero, suc, ◌+◌, ◌*◌, ◌/◌, ◌%◌, ◌<◌, ◌≤◌, nat_le, nat_lt, Bool, true, false, not, ◌&&◌, List, [], ◌∷◌, ◌++◌, length, replicate, Option, Some, None, if◌then◌else◌}
 use Rattle.jbig2_base.specs.Grid.{Grid, pixel_at}
 use Rattle.jbig2_base.specs.inner.Table.{IsTable}
-use Rattle.jbig2_mmr.specs.declared.mmr.codes.Code.{Code}
 use Rattle.jbig2_mmr.specs.T6.{differ, begins, Head, black_at}
 
 -- the lowest n bits of a number, high bit first, before others
 abbrev pub spell : ℕ → ℕ → List ℕ → List ℕ
 spell zero v behind = behind
 spell (suc n) v behind = spell n (v / 2) (v % 2 ∷ behind)
-
--- a line of a code table
-abbrev pub line_of : Code → ℕ × List ℕ
-line_of c = (c.value, spell c.size c.number [])
-
--- a code word of 1 to 24 bits
-abbrev pub is_word : Code → Bool
-is_word c = nat_lt 0 c.size && nat_le c.size 24 && nat_lt c.number (2 ^ c.size)
-
-abbrev pub are_words : List Code → Bool
-are_words [] = true
-are_words (c ∷ cs) = is_word c && are_words cs
 
 abbrev pub AreBits : List ℕ → Type 0
 AreBits [] = Unit {0}
@@ -35,6 +22,11 @@ pub record Rest : Type 0 where
 unfoldable pub code_at : {A : Type 0} → List (A × List ℕ) → List ℕ → Option (A × ℕ)
 code_at [] bits = None
 code_at (c ∷ cs) bits = if begins c.1 bits then Some (c.0, length c.1) else code_at cs bits
+
+-- An entry of a table of runs: 16 times the run, plus the size of its code in bits; 0 where there is no code.
+abbrev pub entry_of : Option (ℕ × ℕ) → ℕ
+entry_of None = 0
+entry_of (Some r) = 16 * r.0 + r.1
 
 -- zeros behind the bits
 abbrev pub padded : List ℕ → List ℕ

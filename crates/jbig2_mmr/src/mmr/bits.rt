@@ -1,13 +1,11 @@
 //! The bits of MMR data, and the codes in them (T.6).
-ghost use Rattle.std.specs.Prelude.{◌≡◌, ℕ, ◌+◌, ◌-◌, ◌*◌, ◌/◌, ◌^◌, ◌<◌, ◌≤◌, ◌++◌, List, length, drop, take, map, min, slice_index, [], IfSome, IsTrue, if◌then◌else◌};
+ghost use Rattle.std.specs.Prelude.{◌≡◌, ℕ, ◌+◌, ◌-◌, ◌*◌, ◌/◌, ◌^◌, ◌<◌, ◌≤◌, ◌++◌, List, length, drop, take, min, slice_index, [], IfSome, IsTrue, if◌then◌else◌};
 ghost use Rattle.jbig2_base.specs.Bits.{number_after};
 ghost use Rattle.jbig2_mmr.specs.T6.{read_code, run, bits_of, ends_block, after_end, is_prefix_free, runs_of};
 ghost use Rattle.jbig2_mmr.specs.T6Codes.{modes};
-ghost use Rattle.jbig2_mmr.specs.inner.T6Reading.{AreBits, with_rest, line_of, are_words, ReadRun, padded, spell, code_at};
+ghost use Rattle.jbig2_mmr.specs.inner.T6Reading.{AreBits, with_rest, ReadRun, padded, spell, code_at};
 
-use crate::mmr::codes::black::BLACK_RUNS;
-use crate::mmr::codes::white::WHITE_RUNS;
-use crate::mmr::codes::{Code, Mode};
+use crate::mmr::codes::{Mode, run_entry};
 use std::marker::Model;
 
 /// Data and a place in it, by byte and bit apart, so that no length overflows.
@@ -55,18 +53,11 @@ impl<'a> CodeReader<'a> {
 
     /// The next 24 bits as a number, zeros behind the end.
     fn window(&self) -> u32
-        ensures value { (n : ℕ) → n ≤ 24 → n ≤ length self.now.left → result / 2 ^ (24 - n) ≡ number_after 0 (take n self.now.left) }
-        ensures padded { (n : ℕ) → n ≤ 24 → result / 2 ^ (24 - n) ≡ number_after 0 (take n (padded self.now.left)) }
+        ensures value { (n : ℕ) → n ≤ 24 → result / 2 ^ (24 - n) ≡ number_after 0 (take n (padded self.now.left)) }
         ensures bits { AreBits self.now.left }
+        ensures bound { result < 2 ^ 24 }
     {
-        let bytes = &self.bytes[self.byte..];
-        let word = u32::from_be_bytes([
-            byte_at(bytes, 0),
-            byte_at(bytes, 1),
-            byte_at(bytes, 2),
-            byte_at(bytes, 3),
-        ]);
-        (word << self.bit) >> 8
+        (first_word(&self.bytes[self.byte..]) << self.bit) >> 8
     }
 
     /// How many bits are left, counted up to 24.
@@ -103,26 +94,6 @@ impl<'a> CodeReader<'a> {
         true
     }
 
-    /// What the next code of `table` stands for. None where the bits begin with no code of it; the
-    /// place stays.
-    fn read_code(&mut self, table: &[Code]) -> Option<u16>
-        requires { IsTrue (are_words table.now) }
-        ensures value { with_rest result self.new.left ≡ read_code (map line_of table.now) self.old.left }
-        ensures bytes { self.new.bytes ≡ self.old.bytes }
-        ensures shorter { IfSome result (λ _. length self.new.left < length self.old.left) }
-    {
-        let window = self.window();
-        let few = self.few();
-        for code in table {
-            let size = u32::from(code.size);
-            if size <= few && window >> (24 - size) == u32::from(code.number) {
-                self.skip(size);
-                return Some(code.value);
-            }
-        }
-        None
-    }
-
     /// The next mode (T.6, table 1). None where the bits begin with no code of one; the place stays.
     pub fn read_mode(&mut self) -> Option<Mode>
         ensures value { with_rest result self.new.left ≡ read_code modes self.old.left }
@@ -145,11 +116,13 @@ impl<'a> CodeReader<'a> {
         ensures shorter { IfSome result (λ _. length self.new.left < length self.old.left) }
         ensures law { IsTrue (is_prefix_free (runs_of black)) }
     {
-        if black {
-            self.read_code(&BLACK_RUNS)
-        } else {
-            self.read_code(&WHITE_RUNS)
+        let entry = run_entry(black, self.window());
+        let size = u32::from(entry % 16);
+        if size == 0 || size > self.few() {
+            return None;
         }
+        self.skip(size);
+        Some(entry / 16)
     }
 
     /// The next run of a colour: make-up codes, then a terminating code. None where it is longer
@@ -191,6 +164,23 @@ fn mode_at(bits: u32) -> Option<(Mode, u32)>
         2 => Some((Mode::Vertical(-3), 7)),
         _ => None,
     }
+}
+
+/// The first four bytes as a number, zeros behind the end.
+#[inline(always)]
+fn first_word(bytes: &[u8]) -> u32
+    ensures value { result ≡ slice_index bytes.now 0 * 16777216 + (slice_index bytes.now 1 * 65536 + (slice_index bytes.now 2 * 256 + slice_index bytes.now 3)) }
+    ensures bytes { (slice_index bytes.now 0 < 256) × (slice_index bytes.now 1 < 256) × (slice_index bytes.now 2 < 256) × (slice_index bytes.now 3 < 256) }
+{
+    if bytes.len() >= 4 {
+        return u32::from_be_bytes([bytes[0], bytes[1], bytes[2], bytes[3]]);
+    }
+    u32::from_be_bytes([
+        byte_at(bytes, 0),
+        byte_at(bytes, 1),
+        byte_at(bytes, 2),
+        byte_at(bytes, 3),
+    ])
 }
 
 /// The byte at `index`, 0 past the end.

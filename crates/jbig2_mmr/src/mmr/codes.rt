@@ -1,6 +1,16 @@
 //! The codes of T.6.
-pub mod black;
-pub mod white;
+//!
+//! A table of runs is looked up by the next bits. An entry is 16 times the run that the code at their front
+//! stands for, plus the size of that code in bits; it is 0 where no code stands there.
+ghost use Rattle.std.specs.Prelude.{◌≡◌, ◌^◌, ◌<◌, []};
+ghost use Rattle.jbig2_mmr.specs.T6.{runs_of};
+ghost use Rattle.jbig2_mmr.specs.inner.T6Reading.{entry_of, code_at, spell};
+
+mod black;
+mod white;
+
+use crate::mmr::codes::black::black_entry;
+use crate::mmr::codes::white::white_entry;
 
 /// A coding mode (T.6, 2.2.2).
 #[derive(Clone, Copy)]
@@ -13,10 +23,15 @@ pub enum Mode {
     Vertical(i32),
 }
 
-/// A code word: its lowest `size` bits of `number`, high bit first, stand for `value`.
-#[derive(Clone, Copy)]
-pub struct Code {
-    pub value: u16,
-    pub size: u8,
-    pub number: u16,
+/// The entry of the code of a run that begins these 24 bits.
+#[inline(always)]
+pub fn run_entry(black: bool, bits: u32) -> u16
+    requires { bits < 2 ^ 24 }
+    ensures { result ≡ entry_of (code_at (runs_of black) (spell 24 bits [])) }
+{
+    if black {
+        black_entry(bits)
+    } else {
+        white_entry(bits)
+    }
 }

@@ -6,6 +6,7 @@ ghost use Rattle.jbig2_mmr.specs.inner.T6Calls.{ReadStep, ReadRow, head_of};
 ghost use Rattle.jbig2_mmr.specs.inner.T6Reading.{row_above, row_of};
 
 use crate::mmr::bits::CodeReader;
+use crate::mmr::change::find_change;
 use crate::mmr::codes::Mode;
 use crate::mmr::span::fill_span;
 use jbig2_base::bitmap::Bitmap;
@@ -178,14 +179,6 @@ fn find_b1<A: Allocator, L: Ledger>(
 {
     // A column of the bitmap fits 32 bits.
     let _ = bitmap.width();
-    let mut from = 0;
-    let mut left = false;
-    if place.begun {
-        from = place.a0 + 1;
-        left = bitmap.get_pixel(place.a0, above, steps) == 1;
-    }
-    if left != place.black {
-        from = find_colour(bitmap, above, from, place.black, steps);
-    }
-    find_colour(bitmap, above, from, !place.black, steps)
+    let from = if place.begun { place.a0 + 1 } else { 0 };
+    find_change(bitmap, above, from, place.black, steps)
 }

@@ -1,22 +1,17 @@
-use Rattle.std.proofs.Common.{ℕ, inl, inr, sym, subst}
-use Rattle.jbig2_base.specs.inner.Colour.{IsFirst}
+use Rattle.std.proofs.Common.{◌≡◌, ℕ, ◌+◌, cond, sym, ap, ◌∙◌}
+use Rattle.std.proofs.lemmas.Bool.{cond-true, cond-false}
+use Rattle.jbig2_base.specs.Search.{place_from}
+use Rattle.jbig2_mmr.specs.T6.{b1_of, is_change_from}
 use Rattle.jbig2_mmr.specs.inner.T6Reading.{row_of}
-use Rattle.jbig2_mmr.specs.inner.T6Calls.{head_of}
-use Rattle.jbig2_mmr.proofs.T6Rows.{IsStart, IsMoved, start-begun, start-white, find-b1, other-colour, same-colour}
 use Rattle.jbig2_mmr.proofs.mmr.row.find_b1.Goals as goal
-use Rattle.jbig2_mmr.proofs.mmr.row.find_b1.Goals.{then-place, else-place, then-left-place, else-left-place}
+use Rattle.jbig2_mmr.proofs.mmr.row.find_b1.Goals.{then-place, else-place}
 
 pub returns-clause-value : goal.returns-clause-value
+unfolding b1_of
 returns-clause-value g c =
-    let w : ℕ = c.args.bitmap.now.width in
-    let start : IsStart w (row_of c.args.bitmap.now c.args.above) (head_of c.args.place) c.if-place.from c.if-place.left =
+    let from : c.if-place.from ≡ cond c.args.place.begun (c.args.place.a0 + 1) 0 =
     elim c.if-place.branch [
-      | then-place s ↦ start-begun w (row_of c.args.bitmap.now c.args.above) (head_of c.args.place) c.if-place.from s.get_pixel-left.result c.if-place.left s.if-place.true s.from-is s.left-is s.get_pixel-left.ensures.value c.requires
-      | else-place s ↦ start-white w (row_of c.args.bitmap.now c.args.above) (head_of c.args.place) c.if-place.from c.if-place.left s.if-place.false s.from-is s.left-is
+      | then-place s ↦ s.from-is ∙ sym (cond-true c.args.place.begun (c.args.place.a0 + 1) 0 s.if-place.true)
+      | else-place s ↦ s.from-is ∙ sym (cond-false c.args.place.begun (c.args.place.a0 + 1) 0 s.if-place.false)
     ] in
-    let moved : IsMoved w (row_of c.args.bitmap.now c.args.above) c.args.place.black c.if-place.left c.if-place.from c.if-left-place.from =
-    elim c.if-left-place.branch [
-      | then-left-place s ↦ record { cases = inl (other-colour c.if-place.left c.args.place.black s.if-left-place.true, subst (λ (n : ℕ). IsFirst (row_of c.args.bitmap.now c.args.above) c.args.place.black c.if-place.from w n) (sym s.from-is) s.find_colour-from.ensures) }
-      | else-left-place s ↦ record { cases = inr (same-colour c.if-place.left c.args.place.black s.if-left-place.false, s.from-is) }
-    ] in
-    find-b1 w (row_of c.args.bitmap.now c.args.above) (head_of c.args.place) c.if-place.from c.if-left-place.from c.find_colour.result c.if-place.left start moved c.find_colour.ensures
+    c.find_change.ensures.value ∙ ap (λ (n : ℕ). place_from (is_change_from (row_of c.args.bitmap.now c.args.above) c.args.place.black) n c.args.bitmap.now.width) from

@@ -10,7 +10,7 @@ use Rattle.jbig2_mmr.proofs.mmr.bits.CodeReader.read_mode.Goals as goal
 pub returns-in_err-mode-clause-value : goal.returns-in_err-mode-clause-value
 returns-in_err-mode-clause-value c =
     ap (λ (o : Option Mode). with_rest o c.args.self.now.left) c.from_residual.ensures
-    ∙ lookup-none modes 7 (c.window.result / 2 ^ 17) c.args.self.now.left (omega arith) modes-short c.window.ensures.bits (c.window.ensures.padded 7 (omega arith)) (sym c.in_err-mode.ensures)
+    ∙ lookup-none modes 7 (c.window.result / 2 ^ 17) c.args.self.now.left (omega arith) modes-short c.window.ensures.bits (c.window.ensures.value 7 (omega arith)) (sym c.in_err-mode.ensures)
 
 pub returns-in_err-mode-clause-law : goal.returns-in_err-mode-clause-law
 returns-in_err-mode-clause-law c = modes-prefix_free
@@ -18,7 +18,7 @@ returns-in_err-mode-clause-law c = modes-prefix_free
 pub returns-then-size-few-clause-value : goal.returns-then-size-few-clause-value
 returns-then-size-few-clause-value c =
     let size = at-size modes 7 _ _ _ modes-short (sym c.in_ok-mode.ensures) in
-    lookup-short modes 7 (c.window.result / 2 ^ 17) c.args.self.now.left _ _ (omega arith) modes-short modes-prefix_free c.window.ensures.bits (c.window.ensures.padded 7 (omega arith)) (sym c.in_ok-mode.ensures) (omega (arith, size, c.if-size-few.true, c.few.ensures))
+    lookup-short modes 7 (c.window.result / 2 ^ 17) c.args.self.now.left _ _ (omega arith) modes-short modes-prefix_free c.window.ensures.bits (c.window.ensures.value 7 (omega arith)) (sym c.in_ok-mode.ensures) (omega (arith, size, c.if-size-few.true, c.few.ensures))
 
 pub returns-then-size-few-clause-law : goal.returns-then-size-few-clause-law
 returns-then-size-few-clause-law c = modes-prefix_free
@@ -27,7 +27,7 @@ pub returns-clause-value : goal.returns-clause-value
 returns-clause-value c =
     let left = ap (λ (r : Rest). r.left) c.skip.ensures in
     ap (λ (ys : List ℕ). Some (c.in_ok-mode.mode, ys)) left
-    ∙ lookup-some modes 7 (c.window.result / 2 ^ 17) c.args.self.now.left _ _ (omega arith) modes-short c.window.ensures.bits (c.window.ensures.padded 7 (omega arith)) (sym c.in_ok-mode.ensures) (omega (arith, c.if-size-few.false, c.few.ensures))
+    ∙ lookup-some modes 7 (c.window.result / 2 ^ 17) c.args.self.now.left _ _ (omega arith) modes-short c.window.ensures.bits (c.window.ensures.value 7 (omega arith)) (sym c.in_ok-mode.ensures) (omega (arith, c.if-size-few.false, c.few.ensures))
 
 pub returns-clause-shorter : goal.returns-clause-shorter
 returns-clause-shorter c =
