@@ -2,6 +2,7 @@ pub mod Choices
 pub mod CustomReading
 pub mod Decisions
 pub mod Encoders
+pub mod FreeTables
 pub mod Inverse
 pub mod InverseByteOut
 pub mod InverseBytes

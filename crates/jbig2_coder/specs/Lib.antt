@@ -1,6 +1,7 @@
 pub mod Coder
 pub mod CustomTable
 pub mod Encoder
+pub mod FreeTables
 pub mod Integers
 pub mod Lists
 pub mod PrefixCode

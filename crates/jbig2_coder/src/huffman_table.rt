@@ -3,6 +3,7 @@ ghost use Rattle.std.specs.Prelude.{◌≡◌, ◌≤◌, ◌^◌, drop, IfOk, O
 ghost use Rattle.jbig2_base.specs.Answer.{Gives, Leaves};
 ghost use Rattle.jbig2_base.specs.Bits.{bits_left};
 ghost use Rattle.jbig2_coder.specs.PrefixCode.{table_of, decoded, without_oob, AreShort, IsFree, Reads};
+ghost use Rattle.jbig2_coder.specs.FreeTables.{TablesAreFree};
 ghost use Rattle.jbig2_coder.specs.Tables.{uniform};
 ghost use Rattle.jbig2_coder.specs.CustomTable.{custom_table};
 
@@ -46,11 +47,14 @@ impl<A: Allocator + Clone> HuffmanTable<A> {
     /// The table of a list of lines with range lengths of at most 32 (B.3).
     ///
     /// It is refused as an invalid code exactly where the codes do not fit, that is where the sum of
-    /// 2^-length over the lengths above 0 exceeds 1.
+    /// 2^-length over the lengths above 0 exceeds 1. No code of a table begins another, whichever way the
+    /// table is made.
+    #[tactic(auto, using(crate::proofs::FreeTables::tables_are_free))]
     pub fn build(alloc: A, lines: &[TableLine]) -> Result<HuffmanTable<A>>
         requires { AreShort lines.now }
         ensures table { Gives (λ t. t) result (table_of lines.now) }
         ensures free { IfOk result IsFree }
+        ensures law { TablesAreFree }
     {
         let mut sorted = Vec::new(alloc.clone()?);
         let mut levels = Vec::new(alloc);
