@@ -6,7 +6,7 @@ use Rattle.jbig2_base.specs.declared.error.DecodeError.{DecodeError}
 use Rattle.jbig2_coder.specs.Coder.{Context, started}
 use Rattle.jbig2_region.specs.GenericHeader.{GenericHeader}
 use Rattle.jbig2_region.specs.Raster.{Coding, Region, so_far, decoded, no_pixels, fresh_contexts}
-use Rattle.jbig2_mmr.specs.T6.{decoded as mmr_rows}
+use Rattle.jbig2_mmr.specs.T6.{decoded as mmr_rows, grid_of_rows, rows_of}
 pub use Rattle.jbig2_region.specs.RegionInfo.{PlacedRegion, region_view}
 use Rattle.jbig2_region.specs.RegionInfo.{placed}
 use Rattle.jbig2_region.specs.Templates.{context_bits, row_context, template_pixels}
@@ -50,6 +50,13 @@ abbrev pub generic_answer : GenericHeader → Result Grid DecodeError
 generic_answer h =
     if h.mmr then (mmr_rows h.strict h.region_info.width h.region_info.height h.bytes >>= λ rows. Ok rows.grid)
     else Ok (generic_grid h)
+
+-- what a refused region leaves of its bitmap: with MMR the whole rows before the fault, and white below them
+abbrev pub refused_grid : GenericHeader → Grid → Grid
+refused_grid h g =
+    let width = h.region_info.width in
+    let height = h.region_info.height in
+    if h.mmr then grid_of_rows width height (rows_of width height h.bytes).rows else g
 
 -- the contexts afterwards; MMR leaves them alone
 abbrev pub contexts_after : GenericHeader → List Context → List Context

@@ -1,9 +1,9 @@
 //! Generic regions (T.88, 6.2 and 7.4.6).
-ghost use Rattle.std.specs.Prelude.{◌≤◌, length, IfOk, OnOk};
+ghost use Rattle.std.specs.Prelude.{◌≡◌, ◌≤◌, length, IfOk, OnErr, OnOk};
 ghost use Rattle.jbig2_base.specs.Answer.{Answers, Gives, Leaves};
 ghost use Rattle.jbig2_base.specs.Bits.{IsAligned};
 ghost use Rattle.jbig2_base.specs.Parsing.{Parses};
-ghost use Rattle.jbig2_region.specs.Generic.{contexts_after, generic_answer, generic_decoded};
+ghost use Rattle.jbig2_region.specs.Generic.{contexts_after, generic_answer, generic_decoded, refused_grid};
 ghost use Rattle.jbig2_region.specs.RegionInfo.{IsWhiteFor, region_view};
 ghost use Rattle.jbig2_region.specs.inner.Layouts.{CountsGeneric};
 ghost use Rattle.jbig2_region.specs.GenericHeader.{header_view, rows_at, generic_header_at, IsParsed};
@@ -111,7 +111,8 @@ pub fn parse<'a>(
 /// template; with nominal adaptive pixels a run of eight likely symbols takes no decision.
 ///
 /// `OutOfMemory` where there is no room for the contexts; in strict mode
-/// `RegionError::InvalidMmrData` where MMR data has a fault or lacks a row.
+/// `RegionError::InvalidMmrData` where MMR data has a fault or lacks a row. The bitmap is then as it was,
+/// but with MMR data it holds the whole rows before the fault.
 pub fn decode_into<A: Allocator, B: Allocator, L: Ledger>(
     header: &GenericRegionHeader<'_>,
     bitmap: &mut Bitmap<A>,
@@ -121,6 +122,7 @@ pub fn decode_into<A: Allocator, B: Allocator, L: Ledger>(
     requires parsed { IsParsed (header_view header.now) }
     requires white { IsWhiteFor header.now.region_info bitmap.old }
     ensures value { Gives (λ _. bitmap.new) result (generic_answer (header_view header.now)) }
+    ensures refused { OnErr result (bitmap.new ≡ refused_grid (header_view header.now) bitmap.old) }
     ensures contexts { Leaves result contexts.new.items
         (contexts_after (header_view header.now) contexts.old.items) }
     ensures steps { OnOk result (CountsGeneric (header_view header.now) steps.old steps.new) }
