@@ -1,6 +1,7 @@
 pub mod BitFieldLemmas
 pub mod BitLemmas
 mod BlockLemmas
+pub mod Causes
 mod CombineLemmas
 mod CountLemmas
 mod Extends

@@ -1,5 +1,6 @@
 pub mod Answer
 pub mod Bits
+pub mod Causes
 pub mod Combination
 pub mod Counts
 pub mod EndMarker

@@ -2,6 +2,7 @@
 ghost use Rattle.std.specs.Prelude.{◌≡◌, ◌+◌, length, OnOk, ◌≤◌};
 ghost use Rattle.jbig2_base.specs.Answer.{Answers};
 ghost use Rattle.jbig2_base.specs.Bits.{IsAligned};
+ghost use Rattle.jbig2_base.specs.Causes.{FileHeadersHaveCauses};
 ghost use Rattle.jbig2_base.specs.FileHeader.{is_identification, organization_of, page_count_at, file_header_at};
 
 use crate::error::{DecodeError, FormatError, Result};
@@ -60,11 +61,12 @@ fn page_count(reader: &mut Reader<'_>, unknown: bool) -> Result<Option<u32>>
 ///
 /// Other bytes than the identification string answer `FormatError::InvalidHeader`, a reserved bit
 /// of the flags `FormatError::ReservedBits`. Takes no memory.
-#[tactic(auto, unfolding(crate::specs::FileHeader::file_header_at))]
+#[tactic(auto, using(crate::proofs::Causes::file_header_causes), unfolding(crate::specs::FileHeader::file_header_at))]
 pub(crate) fn parse_file_header(reader: &mut Reader<'_>) -> Result<FileHeader>
     requires { IsAligned reader.old }
     ensures value { Answers (λ h. (h, reader.new.bytes)) result (file_header_at reader.old.bytes) }
     ensures aligned { IsAligned reader.new }
+    ensures causes { FileHeadersHaveCauses }
 {
     let front = bytes_field(reader, 8)?;
     if !is_identification(front) {
