@@ -2,12 +2,12 @@
 use crate::call::Call;
 use crate::coder::{CoderCase, coder_holds};
 use crate::combination::stays_white;
+use crate::drawing::{drawing_holds, page_holds, white_holds};
 use crate::file_case::{FileCase, file_holds};
 use crate::mmr::{MmrCase, mmr_holds};
 use crate::patterns::wide_patterns_hold;
 use crate::spelling::spelled;
 use crate::table::{TableCase, table_holds};
-use crate::watcher::Watcher;
 use hayro_jbig2::parts::reader::Reader;
 use hayro_jbig2::parts::segment::{SegmentType, parse_segment_header};
 use hayro_jbig2::{DecodeError, DecodeSettings, DecoderContext, Globals, Page, Result};
@@ -98,18 +98,36 @@ impl Modes {
     }
 }
 
-/// Whether every case of a row holds. Answers `DecodeError::OutOfMemory` alone.
+/// Whether every case of a row holds, and row 5's page is drawn in the same context behind each. Answers
+/// `DecodeError::OutOfMemory` alone.
 pub fn row_holds<A: Allocator + Clone>(
     alloc: A,
     row: &Row,
     context: &mut DecoderContext<A>,
 ) -> Result<bool> {
     for case in row.cases {
-        if !case_holds(alloc.clone()?, case, context)? {
+        let holds = case_holds(alloc.clone()?, case, context)?;
+        if !holds || !white_holds(alloc.clone()?, context)? {
             return Ok(false);
         }
     }
     Ok(true)
+}
+
+/// Whether a row holds. Behind a request for memory that was refused, row 5's page has to be drawn in the same
+/// context, and then the row has to hold.
+pub fn row_serves_on<A: Allocator + Clone>(
+    alloc: A,
+    row: &Row,
+    context: &mut DecoderContext<A>,
+) -> Result<bool> {
+    match row_holds(alloc.clone()?, row, context) {
+        Err(DecodeError::OutOfMemory) => {
+            let white = white_holds(alloc.clone()?, context)?;
+            Ok(white && row_holds(alloc, row, context)?)
+        }
+        answer => answer,
+    }
 }
 
 fn case_holds<A: Allocator + Clone>(
@@ -242,53 +260,6 @@ fn size_holds<A: Allocator + Clone>(
     };
     let sized = page.width() == width && page.height() == height;
     Ok(sized && page.number() == number && page.dimensions() == (width, height))
-}
-
-/// Whether an embedded page has this answer. Answers `DecodeError::OutOfMemory` alone, and only where no
-/// call was made.
-pub fn page_holds<A: Allocator + Clone>(
-    alloc: A,
-    bytes: &[u8],
-    strict: bool,
-    answer: &Answer,
-    context: &mut DecoderContext<A>,
-) -> Result<bool> {
-    let page = match Page::new_embedded(alloc, bytes, None, &DecodeSettings { strict }) {
-        Ok(page) => page,
-        Err(error) => return refused_as(
-            error,
-            match answer {
-                Answer::Refused(expected) => Some(expected),
-                _ => None,
-            },
-        ),
-    };
-    drawing_holds(&page, answer, context)
-}
-
-/// Whether decoding a page has this answer. Answers `DecodeError::OutOfMemory` alone, and only where no
-/// call was made.
-pub fn drawing_holds<A: Allocator + Clone>(
-    page: &Page<'_, A>,
-    answer: &Answer,
-    context: &mut DecoderContext<A>,
-) -> Result<bool> {
-    let calls = match answer {
-        Answer::Calls(calls) => *calls,
-        _ => &[],
-    };
-    let mut watcher = Watcher::new(calls);
-    match page.decode_with(&mut watcher, context) {
-        Ok(()) => Ok(matches!(answer, Answer::Calls(_)) && watcher.is_satisfied()),
-        Err(_) if watcher.has_taken() => Ok(false),
-        Err(error) => refused_as(
-            error,
-            match answer {
-                Answer::Undrawn(expected) => Some(expected),
-                _ => None,
-            },
-        ),
-    }
 }
 
 /// Whether this error was expected. Want of memory is passed on.

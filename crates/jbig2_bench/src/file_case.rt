@@ -1,5 +1,6 @@
 //! The cases of files, of globals, and of decoders over a reader.
-use crate::case::{Answer, Modes, drawing_holds, refused_as};
+use crate::case::{Answer, Modes, refused_as};
+use crate::drawing::drawing_holds;
 use crate::spelling::spelled;
 use hayro_jbig2::{
     DecodeError, DecodeSettings, DecoderContext, File, Globals, Jbig2Decoder, Jbig2Error,

@@ -1,10 +1,11 @@
-//! The program `jbig2-bench`: runs the worked rows against the decoder, or lists through the arithmetic coder.
+//! The program `jbig2-bench`: runs the worked rows against the decoder, one or all, or lists through the arithmetic coder.
 #![tactic(auto)]
 
 mod call;
 mod case;
 mod coder;
 mod combination;
+mod drawing;
 mod file_case;
 mod generator;
 mod lists;

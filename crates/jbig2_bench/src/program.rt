@@ -1,11 +1,11 @@
 //! The runs of the program.
 ghost use Rattle.std.specs.Prelude.{◌≡◌, ◌↔◌, false, map};
 ghost use Rattle.std.specs.Option.{is_some};
-ghost use Rattle.jbig2_bench.specs.Words.{is_lists, is_run};
+ghost use Rattle.jbig2_bench.specs.Words.{is_lists, is_row, is_run};
 
-use crate::case::{Row, row_holds};
+use crate::case::{Row, row_holds, row_serves_on};
 use crate::lists::first_that_differs;
-use crate::rows::families;
+use crate::rows::{families, row_named};
 use hayro_jbig2::{DecodeError, DecoderContext};
 use std::alloc::{AllocError, Allocator};
 use std::io;
@@ -28,6 +28,7 @@ pub fn run<A: Allocator + Clone, O: Write, E: Write>(
     };
     let outcome = match asked {
         Asked::Rows => run_rows(alloc, out),
+        Asked::Row(name) => run_row(alloc, name, out),
         Asked::Lists => run_lists(alloc, out),
     };
     match outcome {
@@ -39,9 +40,11 @@ pub fn run<A: Allocator + Clone, O: Write, E: Write>(
 
 /// What the words ask for.
 #[derive(Clone, Copy)]
-enum Asked {
+enum Asked<'w> {
     /// The worked rows.
     Rows,
+    /// The worked row of this name, also behind a request for memory that is refused.
+    Row(&'w str),
     /// Lists that are encoded and read back.
     Lists,
 }
@@ -53,9 +56,16 @@ fn is_lists(word: &str) -> bool
     word == "lists"
 }
 
-impl Asked {
+#[tactic(auto, unfolding(crate::specs::Words::is_row))]
+fn is_row(word: &str) -> bool
+    ensures { result ≡ is_row word.now }
+{
+    word == "row"
+}
+
+impl<'w> Asked<'w> {
     /// None where the words ask for nothing.
-    fn of_words(words: &[&str]) -> Option<Asked>
+    fn of_words(words: &[&'w str]) -> Option<Asked<'w>>
         ensures { is_some result ≡ is_run (map (λ word. word.now) words.now) }
     {
         match words {
@@ -63,6 +73,13 @@ impl Asked {
             [word] => {
                 if is_lists(word) {
                     Some(Asked::Lists)
+                } else {
+                    None
+                }
+            }
+            [word, name] => {
+                if is_row(word) {
+                    Some(Asked::Row(name))
                 } else {
                     None
                 }
@@ -83,7 +100,7 @@ pub fn unstarted<E: Write>(refused: bool, err: &mut E) -> u8 {
 fn refused_words<E: Write>(err: &mut E) -> u8
     ensures { result ≡ 2 }
 {
-    let _ = writeln!(err, "usage: jbig2-bench [lists]");
+    let _ = writeln!(err, "usage: jbig2-bench [lists | row NAME]");
     2
 }
 
@@ -129,11 +146,30 @@ fn run_family<A: Allocator + Clone, O: Write>(
     let mut all_hold = true;
     for row in rows {
         let holds = row_holds(alloc.clone()?, row, context)?;
-        let verdict = if holds { "ok" } else { "differs" };
-        writeln!(out, "row {} {verdict}", row.name)?;
+        print_row(row, holds, out)?;
         all_hold = all_hold && holds;
     }
     Ok(all_hold)
+}
+
+fn print_row<O: Write>(row: &Row, holds: bool, out: &mut O) -> io::Result<()> {
+    let verdict = if holds { "ok" } else { "differs" };
+    writeln!(out, "row {} {verdict}", row.name)
+}
+
+/// Runs the row of a name. Answers whether it holds; false, and nothing printed, where there is none.
+fn run_row<A: Allocator + Clone, O: Write>(
+    alloc: A,
+    name: &str,
+    out: &mut O,
+) -> Result<bool, Fault> {
+    let Some(row) = row_named(name) else {
+        return Ok(false);
+    };
+    let mut context = DecoderContext::new(alloc.clone()?)?;
+    let holds = row_serves_on(alloc, row, &mut context)?;
+    print_row(row, holds, out)?;
+    Ok(holds)
 }
 
 /// Runs all rows, in one context. Answers whether all hold.

@@ -34,3 +34,23 @@ pub fn families() -> [&'static [Row]; 16] {
         symbols::rows_16(),
     ]
 }
+
+/// The row of a name, if there is one.
+pub fn row_named(name: &str) -> Option<&'static Row> {
+    for rows in families() {
+        let found = row_among(rows, name);
+        if found.is_some() {
+            return found;
+        }
+    }
+    None
+}
+
+fn row_among(rows: &'static [Row], name: &str) -> Option<&'static Row> {
+    for row in rows {
+        if row.name == name {
+            return Some(row);
+        }
+    }
+    None
+}

@@ -5,7 +5,7 @@ use std::alloc::{AllocError, Global};
 use std::io;
 use std::io::Write;
 
-const USAGE: &[u8] = b"usage: jbig2-bench [lists]\n";
+const USAGE: &[u8] = b"usage: jbig2-bench [lists | row NAME]\n";
 
 const OUT_OF_MEMORY: &[u8] = b"error: out of memory\n";
 

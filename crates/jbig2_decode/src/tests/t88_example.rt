@@ -1,6 +1,7 @@
 //! The example of T.88 H.1: three pages of symbols and text, generic regions, patterns and halftones, by prefix
 //! codes, MMR and the arithmetic coder; `data/t88-h1.jb2` holds the same bytes.
-use super::{expect, expect_bytes};
+use super::{expect, expect_bytes, ran};
+use std::alloc::{AllocError, Global};
 
 /// The file, with its header.
 const FILE: [u8; 860] = [
@@ -94,5 +95,46 @@ fn the_example_of_the_standard_is_drawn(rt: HostRuntime) {
         expect_bytes(&rt, &["pbm", "file", index], file, (0, bitmap, ""));
         let strict = ["--strict", "pbm", "file", index];
         expect_bytes(&rt, &strict, file, (0, bitmap, ""));
+    }
+}
+
+/// What stands for a byte.
+const VALUES: [u8; 4] = [0x00, 0x7F, 0x80, 0xFF];
+
+/// The index of the page that a byte belongs to; the first page's for a byte of none.
+fn index_of(place: usize) -> &'static str {
+    match place {
+        0..=399 => "0",
+        400..=681 => "1",
+        _ => "2",
+    }
+}
+
+/// Whether a page of these bytes is drawn in either mode, or refused and nothing is written.
+fn is_drawn_or_silent(alloc: Global, bytes: &[u8], index: &str) -> Result<bool, AllocError> {
+    let words = ["--strict", "pbm", "file", index];
+    for words in [&words[..], &words[1..]] {
+        let (status, out, err) = ran(alloc, words, Some(bytes))?;
+        let drawn = status == 0 && err.is_empty();
+        let refused = status == 1 && out.is_empty() && err.starts_with(b"error: ");
+        if !drawn && !refused {
+            return Ok(false);
+        }
+    }
+    Ok(true)
+}
+
+#[test]
+fn each_byte_of_the_example_may_be_another_and_each_may_be_the_last(rt: HostRuntime) {
+    for place in 0..FILE.len() {
+        let index = index_of(place);
+        let silent = is_drawn_or_silent(rt.alloc(), &FILE[..place], index).unwrap_or(true);
+        assert!(rt; silent, "cut at {place}");
+        let mut bytes = FILE;
+        for value in VALUES {
+            bytes[place] = value;
+            let silent = is_drawn_or_silent(rt.alloc(), &bytes, index).unwrap_or(true);
+            assert!(rt; silent, "{value} at {place}");
+        }
     }
 }
