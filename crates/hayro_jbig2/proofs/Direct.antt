@@ -14,7 +14,7 @@ use Rattle.jbig2_base.specs.declared.bitmap.operator.CombinationOperator.TheVari
 use Rattle.jbig2_base.specs.Answer.{◌>>=◌}
 use Rattle.jbig2_base.specs.declared.error.DecodeError.{DecodeError}
 use Rattle.jbig2_base.proofs.GridLemmas.{table-at}
-use Rattle.jbig2_mmr.specs.T6.{Decoded, rows_of, decoded as mmr_rows}
+use Rattle.jbig2_mmr.specs.T6.{Decoded, rows_of, mmr_rows}
 use Rattle.jbig2_region.specs.Generic.{PlacedRegion, generic_answer, generic_decoded, generic_grid, generic_region}
 use Rattle.jbig2_region.specs.GenericHeader.{GenericHeader}
 use Rattle.jbig2_region.specs.Raster.{so_far}
