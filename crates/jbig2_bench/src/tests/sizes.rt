@@ -37,13 +37,8 @@ impl WhiteRows {
 }
 
 impl Decoder for WhiteRows {
-    ghost Picture = { Unit {0} };
-
-    ghost picture = { λ _. tt };
-
-    ghost step = { λ p _. p };
-
-    ghost refusals = { λ _. 0 };
+    // It refuses no call.
+    ghost conduct = { record { Picture = Unit {0}; picture = λ _. tt; step = λ p _. p; refuses = λ _ _ _. ⊥; refusals = λ _. 0 } };
 
     fn push_pixel(&mut self, black: bool) -> Result<()> {
         self.take(black, self.column.max(self.width & !7), 1);
