@@ -1,12 +1,12 @@
 #!/usr/bin/env python3
 """Puts the pages of JBIG2 files into PDF files, cuts them out again by examples/pdf-to-pbm, and compares the bitmaps
-with those that Poppler draws.
+with those that jbig2dec draws of the files themselves. Where Poppler draws another bitmap of the PDF file, it is told.
 
     pdf.py FILE.jb2 ..
 
 Each FILE is sequential and has one page. Two PDF files are made of it: one by `pdf_of` below, with dictionaries and
 tables in /JBIG2Globals, and one by pdftocairo of Poppler from that, which takes the image's data over as they are.
-Needs pdfimages and pdftocairo (Debian's poppler-utils).
+Needs jbig2dec, and pdfimages and pdftocairo (Debian's poppler-utils).
 """
 import pathlib
 import struct
@@ -99,34 +99,34 @@ def bitmap(path):
     return fields, data[place + 1 :]
 
 
-def differences(pdf, room):
-    """The images of a PDF file that we and Poppler draw differently, and how many there are."""
+def drawn_of(pdf, room):
+    """The bitmap that we draw of the image of a PDF file, and the one that Poppler draws."""
     ours, theirs = room / "ours", room / "theirs"
-    theirs.mkdir()
+    theirs.mkdir(parents=True)
     subprocess.run([ROOT / "examples/pdf-to-pbm", pdf, ours], check=True, stdout=subprocess.DEVNULL)
-    subprocess.run(["pdfimages", pdf, theirs / "image"], check=True)
-    names = sorted(path.name for path in ours.glob("*.pbm"))
-    return [name for name in names if bitmap(ours / name) != bitmap(theirs / name)], len(names)
+    subprocess.run(["pdfimages", pdf, theirs / "image"], check=True, stderr=subprocess.DEVNULL)
+    return bitmap(ours / "image-000.pbm"), bitmap(theirs / "image-000.pbm")
 
 
 def main():
     if len(sys.argv) < 2:
         sys.exit(__doc__)
     wrong = 0
-    for file in sys.argv[1:]:
+    for file in map(pathlib.Path, sys.argv[1:]):
         with tempfile.TemporaryDirectory() as folder:
             room = pathlib.Path(folder)
-            written, taken_over = room / "written.pdf", room / "cairo.pdf"
-            written.write_bytes(pdf_of(pathlib.Path(file).read_bytes()))
-            subprocess.run(["pdftocairo", "-pdf", written, taken_over], check=True)
+            written, taken_over, meant = room / "written.pdf", room / "cairo.pdf", room / "meant.pbm"
+            subprocess.run(["jbig2dec", "-o", meant, file], check=True, stderr=subprocess.DEVNULL)
+            written.write_bytes(pdf_of(file.read_bytes()))
+            subprocess.run(["pdftocairo", "-pdf", written, taken_over], check=True, stderr=subprocess.DEVNULL)
             for pdf in (written, taken_over):
                 if b"JBIG2Decode" not in pdf.read_bytes():
-                    sys.exit(f"{pdf.name} of {file} has no JBIG2 image")
-                work = room / pdf.stem
-                work.mkdir()
-                different, count = differences(pdf, work)
-                wrong += len(different)
-                print(f"{pathlib.Path(file).name} {pdf.stem}: {count} images, {len(different)} different")
+                    sys.exit(f"{pdf.name} of {file.name} has no JBIG2 image")
+                ours, theirs = drawn_of(pdf, room / pdf.stem)
+                same = ours == bitmap(meant)
+                wrong += not same
+                told = "" if ours == theirs else ", another by Poppler"
+                print(f"{file.name} {pdf.stem}: {'same' if same else 'different'}{told}")
     sys.exit(1 if wrong else 0)
 
 
