@@ -82,7 +82,10 @@ fn size_holds(
         write_number(&mut bytes, segment + 15, height);
     }
     let strict = DecodeSettings { strict: true };
-    let page = Page::new_embedded(alloc, &bytes[..30], None, &strict)?;
+    let Some(untouched) = bytes.get(..30) else {
+        return Ok(false);
+    };
+    let page = Page::new_embedded(alloc, untouched, None, &strict)?;
     let mut rows = WhiteRows {
         width,
         column: 0,
@@ -131,7 +134,10 @@ fn page_with_dictionary(alloc: Global, count: u32, export: &str) -> Result<Vec<u
     let Some(mut bytes) = spelled(alloc, "P 0000000100000100000000")? else {
         return Err(DecodeError::Unsupported);
     };
-    write_number(&mut bytes, 37, data.len() as u32);
+    let Ok(length) = u32::try_from(data.len()) else {
+        return Err(DecodeError::Unsupported);
+    };
+    write_number(&mut bytes, 37, length);
     bytes.extend_from_slice(&data)?;
     Ok(bytes)
 }
