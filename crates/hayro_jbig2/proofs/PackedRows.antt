@@ -1,14 +1,17 @@
 -- Packed rows, byte by byte.
-use Rattle.std.proofs.Common.{set, ⊎_elim, length, get_or, ◌≡◌, ℕ, zero, suc, ◌+◌, ◌-◌, ◌*◌, ◌/◌, ◌%◌, ◌^◌, ◌<◌, ◌≤◌, Bool, List, ◌∷◌, map, refl, sym, ap, ◌∙◌, arith}
+use Rattle.std.proofs.Common.{mul-le-mul_left, ⊎_elim, get_or, length, take, drop, Result, Ok, Err, ◌≡◌, ℕ, zero, suc, ◌+◌, ◌-◌, ◌*◌, ◌/◌, ◌%◌, ◌^◌, ◌<◌, ◌≤◌, Bool, List, ◌∷◌, map, refl, sym, ap, ◌∙◌, arith}
 use Rattle.std.proofs.lemmas.Bool.{cases_lt}
-use Rattle.std.proofs.lemmas.List.{get_or-set_same, get_or-set_other}
+use Rattle.std.proofs.lemmas.List.FromFn.{length-map-range_with_len, take-map-range_with_len}
 use Rattle.std.proofs.lemmas.Nat.{div-mul-add, mod-mul-add}
 use Rattle.std.specs.List.{range_with_len}
+use Rattle.jbig2_base.specs.Answer.{◌>>=◌}
+use Rattle.jbig2_base.specs.declared.error.DecodeError.{DecodeError}
 use Rattle.jbig2_base.specs.Grid.{Grid, pixel_at, bit_number}
 use Rattle.jbig2_base.specs.inner.WordBits.{bit}
 use Rattle.jbig2_base.proofs.BitLemmas.{bit_number-bit, bit-shr}
 use Rattle.jbig2_coder.specs.Integers.{value_of_bits}
-use Rattle.hayro_jbig2.specs.Image.{packed_byte, row_bytes, top_byte}
+use Rattle.hayro_jbig2.specs.Page.{ReadPage, grid_of_page}
+use Rattle.hayro_jbig2.specs.Image.{packed_byte, packed_of, packed_of_page, packed_part, packed_size, row_bytes, top_byte, word_byte}
 
 map-same : {X : Type 0} (f g : ℕ → X) (a n : ℕ) → ((i : ℕ) → a ≤ i → i < a + n → f i ≡ g i) → map f (range_with_len a n) ≡ map g (range_with_len a n)
 map-same f g a zero same = refl
@@ -26,41 +29,83 @@ byte-bits n small =
     by_eights (n / 2 ^ 56) (omega (arith, small))
     ∙ rw (digit 0, digit 1, digit 2, digit 3, digit 4, digit 5, digit 6, digit 7) refl
 
--- it is the byte of the pixels that the word holds
-pub byte-pixels : (g : Grid) (n k y : ℕ) → ((j : ℕ) → j < 8 → bit n (63 - j) ≡ pixel_at g (8 * k + j) y) → top_byte (bit n) ≡ packed_byte g k y
-unfolding packed_byte
-byte-pixels g n k y same = ap (λ (bits : List Bool). value_of_bits bits) (map-same (λ i. bit n (63 - i)) (λ i. pixel_at g (8 * k + i) y) 0 8 (λ i above below. same i below))
+-- byte i of a word is the highest of what is left when i bytes were taken off
+pub byte-of-rest : (rest word i : ℕ) → i < 8 → ((k : ℕ) → 8 * i ≤ k → k < 64 → bit rest k ≡ bit word (k - 8 * i)) → top_byte (bit rest) ≡ word_byte (bit word) i
+byte-of-rest rest word i small same =
+    ap (λ (bits : List Bool). value_of_bits bits)
+    (map-same (λ j. bit rest (63 - (8 * 0 + j))) (λ j. bit word (63 - (8 * i + j))) 0 8
+    (λ j above below.
+    let place : 63 - (8 * 0 + j) - 8 * i ≡ 63 - (8 * i + j) = omega arith in
+    same (63 - (8 * 0 + j)) (omega (arith, small, below)) (omega arith) ∙ ap (λ (n : ℕ). bit word n) place))
 
--- a byte more of the rows, at column x of row y
-pub written-more : (g : Grid) (w : ℕ) (bytes : List ℕ) (x y place byte : ℕ)
-    → place < length bytes → place ≡ y * row_bytes w + x / 8 → x < w → byte ≡ packed_byte g (x / 8) y
-    → ((k : ℕ) → k < place → get_or bytes k 0 ≡ packed_byte g (k % row_bytes w) (k / row_bytes w))
-    → (k : ℕ) → k < place + 1 → get_or (set bytes place byte) k 0 ≡ packed_byte g (k % row_bytes w) (k / row_bytes w)
-written-more g w bytes x y place byte inside counted left is written k below =
+-- it is the byte of the pixels that the word holds
+byte-pixels : (g : Grid) (word column i y : ℕ) → i < 8 → ((j : ℕ) → j < 64 → bit word (63 - j) ≡ pixel_at g (8 * column + j) y) → word_byte (bit word) i ≡ packed_byte g (column + i) y
+unfolding packed_byte
+byte-pixels g word column i y small same =
+    ap (λ (bits : List Bool). value_of_bits bits)
+    (map-same (λ j. bit word (63 - (8 * i + j))) (λ j. pixel_at g (8 * (column + i) + j) y) 0 8
+    (λ j above below.
+    let place : 8 * column + (8 * i + j) ≡ 8 * (column + i) + j = omega arith in
+    same (8 * i + j) (omega (arith, small, below)) ∙ ap (λ (n : ℕ). pixel_at g n y) place))
+
+-- some bytes more of the rows, taken off a word, from byte `column` of row y on
+pub written-more : (g : Grid) (w start place column y count word : ℕ) (before after : List ℕ)
+    → start + place ≡ y * row_bytes w + column → column + count ≤ row_bytes w → count ≤ 8
+    → ((j : ℕ) → j < 64 → bit word (63 - j) ≡ pixel_at g (8 * column + j) y)
+    → ((k : ℕ) → k < place → get_or before k 0 ≡ packed_byte g ((start + k) % row_bytes w) ((start + k) / row_bytes w))
+    → ((k : ℕ) → k < place → get_or after k 0 ≡ get_or before k 0)
+    → ((i : ℕ) → i < count → get_or after (place + i) 0 ≡ word_byte (bit word) i)
+    → (k : ℕ) → k < place + count → get_or after k 0 ≡ packed_byte g ((start + k) % row_bytes w) ((start + k) / row_bytes w)
+written-more g w start place column y count word before after counted narrow few loaded written kept bytes k below =
     ⊎_elim
-    (λ (before : k < place). get_or-set_other bytes place k byte 0 (λ e. omega (arith, e, before)) ∙ written k before)
-    (λ (at : place ≤ k).
-    let same : k ≡ place = omega (arith, at, below) in
-    let narrow : x / 8 < row_bytes w = omega (arith, left) in
-    let column : k % row_bytes w ≡ x / 8 = ap (λ (n : ℕ). n % row_bytes w) (same ∙ counted) ∙ mod-mul-add y (row_bytes w) (x / 8) narrow in
-    let row : k / row_bytes w ≡ y = ap (λ (n : ℕ). n / row_bytes w) (same ∙ counted) ∙ div-mul-add y (row_bytes w) (x / 8) narrow in
-    ap (λ (n : ℕ). get_or (set bytes place byte) n 0) same ∙ get_or-set_same bytes place byte 0 inside ∙ is ∙ ap (λ (n : ℕ). packed_byte g n y) (sym column) ∙ ap (λ (n : ℕ). packed_byte g (k % row_bytes w) n) (sym row))
+    (λ (early : k < place). kept k early ∙ written k early)
+    (λ (late : place ≤ k).
+    let i : ℕ = k - place in
+    let at : place + i ≡ k = omega (arith, late) in
+    let small : i < count = omega (arith, late, below) in
+    let whole : start + k ≡ y * row_bytes w + (column + i) = omega (arith, counted, at) in
+    let inside : column + i < row_bytes w = omega (arith, small, narrow) in
+    let x : (start + k) % row_bytes w ≡ column + i = ap (λ (n : ℕ). n % row_bytes w) whole ∙ mod-mul-add y (row_bytes w) (column + i) inside in
+    let row : (start + k) / row_bytes w ≡ y = ap (λ (n : ℕ). n / row_bytes w) whole ∙ div-mul-add y (row_bytes w) (column + i) inside in
+    ap (λ (n : ℕ). get_or after n 0) (sym at) ∙ bytes i small ∙ byte-pixels g word column i y (omega (arith, small, few)) loaded ∙ ap (λ (n : ℕ). packed_byte g n y) (sym x) ∙ ap (λ (n : ℕ). packed_byte g ((start + k) % row_bytes w) n) (sym row))
     (cases_lt k place)
 
--- the place of the first byte of the next row
-pub next-row : (w x y place : ℕ) → x % 8 ≡ 0 → x < w → w ≤ x + 8 → place ≡ y * row_bytes w + x / 8 → place + 1 ≡ (y + 1) * row_bytes w + 0 / 8
-next-row w x y place eighth left last counted =
-    let whole : row_bytes w ≡ x / 8 + 1 = omega (arith, eighth, left, last) in
-    omega (arith, counted, whole)
+-- a function's values from s on
+pub values-from : (f : ℕ → ℕ) (s a n : ℕ) → map (λ k. f (s + k)) (range_with_len a n) ≡ map f (range_with_len (s + a) n)
+values-from f s a zero = refl
+values-from f s a (suc n) = ap (λ (xs : List ℕ). f (s + a) ∷ xs) (values-from f s (a + 1) n ∙ ap (λ (m : ℕ). map f (range_with_len m n)) (omega arith))
 
--- the word that is left when a byte was taken off
-pub held-more : (g : Grid) (before after x y : ℕ) → ((k : ℕ) → 8 ≤ k → k < 64 → bit after k ≡ bit before (k - 8))
-    → ((k : ℕ) → k < 64 - x % 64 → bit before (63 - k) ≡ pixel_at g (x + k) y) → x % 8 ≡ 0
-    → (k : ℕ) → 0 < (x + 8) % 64 → k < 64 - (x + 8) % 64 → bit after (63 - k) ≡ pixel_at g (x + 8 + k) y
-held-more g before after x y rest held eighth k some below =
-    let index : 63 - k - 8 ≡ 63 - (k + 8) = omega arith in
-    let column : x + (k + 8) ≡ x + 8 + k = omega arith in
-    rest (63 - k) (omega (arith, some, below)) (omega arith)
-    ∙ ap (λ (n : ℕ). bit before n) index
-    ∙ held (k + 8) (omega (arith, some, below, eighth))
-    ∙ ap (λ (n : ℕ). pixel_at g n y) column
+values-dropped : (f : ℕ → ℕ) (s a n : ℕ) → s ≤ n → drop s (map f (range_with_len a n)) ≡ map f (range_with_len (s + a) (n - s))
+values-dropped f zero a n within = ap (λ (m : ℕ). map f (range_with_len m n)) (omega arith) ∙ ap (λ (m : ℕ). map f (range_with_len (0 + a) m)) (omega arith)
+values-dropped f (suc s) a zero within = absurd (omega (arith, within))
+values-dropped f (suc s) a (suc n) within =
+    values-dropped f s (a + 1) n (omega (arith, within))
+    ∙ ap (λ (m : ℕ). map f (range_with_len m (n - s))) (omega arith)
+    ∙ ap (λ (m : ℕ). map f (range_with_len (suc s + a) m)) (omega arith)
+
+pub packed-length : (w height : ℕ) (g : Grid) → length (packed_of w height g) ≡ packed_size w height
+unfolding packed_of packed_part
+packed-length w height g = length-map-range_with_len (λ n. packed_byte g (n % row_bytes w) (n / row_bytes w)) 0 (packed_size w height)
+
+-- the bytes of a part are those of the whole from its place on
+pub part-of-whole : (w height : ℕ) (g : Grid) (start count : ℕ) → start + count ≤ packed_size w height → packed_part w g start count ≡ take count (drop start (packed_of w height g))
+unfolding packed_part packed_of
+part-of-whole w height g start count within =
+    let f : ℕ → ℕ = λ n. packed_byte g (n % row_bytes w) (n / row_bytes w) in
+    let size : ℕ = packed_size w height in
+    let place : start + 0 ≡ start = omega arith in
+    sym
+    (ap (λ (xs : List ℕ). take count xs) (values-dropped f start 0 size (omega (arith, within)))
+    ∙ take-map-range_with_len f (start + 0) (size - start) count (omega (arith, within))
+    ∙ ap (λ (m : ℕ). map f (range_with_len m count)) place)
+
+pub rows-bounded : (w height bytes : ℕ) → height ≤ 65535 → bytes ≤ packed_size w height → bytes ≤ row_bytes w * 65535
+rows-bounded w height bytes low few = omega (arith, few, mul-le-mul_left (row_bytes w) low)
+
+-- what a page is drawn as has the size of its packed rows
+drawn-size : (drawn : Result Grid DecodeError) (w height : ℕ) (bytes : List ℕ) → (drawn >>= λ g. Ok (packed_of w height g)) ≡ Ok bytes → length bytes ≡ packed_size w height
+drawn-size (Ok g) w height bytes is = ap {B = ℕ} (λ (r : Result (List ℕ) DecodeError). elim r [ Ok xs ↦ length xs | Err error ↦ 0 ]) (sym is) ∙ packed-length w height g
+drawn-size (Err error) w height bytes is = absurd (omega (arith, ap {B = ℕ} (λ (r : Result (List ℕ) DecodeError). elim r [ Ok xs ↦ 1 | Err e ↦ 0 ]) is))
+
+pub page-size : (page : ReadPage) (bytes : List ℕ) → packed_of_page page ≡ Ok bytes → length bytes ≡ packed_size page.initial_page.width page.initial_page.height
+page-size page bytes is = drawn-size (grid_of_page page) page.initial_page.width page.initial_page.height bytes is

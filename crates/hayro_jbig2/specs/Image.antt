@@ -31,15 +31,22 @@ packed_size width height = row_bytes width * height
 unfoldable pub packed_byte : Grid → ℕ → ℕ → ℕ
 packed_byte g k y = value_of_bits (map (λ i. pixel_at g (8 * k + i) y) (range_with_len 0 8))
 
--- The packed rows from the top.
+-- `count` bytes of the packed rows from the top, from byte `start` of them all on.
+unfoldable pub packed_part : ℕ → Grid → ℕ → ℕ → List ℕ
+packed_part width g start count =
+    map (λ n. packed_byte g (n % row_bytes width) (n / row_bytes width)) (range_with_len start count)
+
+-- The packed rows.
 unfoldable pub packed_of : ℕ → ℕ → Grid → List ℕ
-packed_of width height g =
-    map (λ n. packed_byte g (n % row_bytes width) (n / row_bytes width)) (range_with_len 0 (packed_size width height))
+packed_of width height g = packed_part width g 0 (packed_size width height)
 
 -- the packed rows of the page's grid, or the page's error
 abbrev pub packed_of_page : ReadPage → Result (List ℕ) DecodeError
 packed_of_page page = grid_of_page page >>= λ g. Ok (packed_of page.initial_page.width page.initial_page.height g)
 
--- the highest byte of a word by its bits
+-- byte i of a word by its bits, byte 0 the highest
+abbrev pub word_byte : (ℕ → Bool) → ℕ → ℕ
+word_byte bits i = value_of_bits (map (λ j. bits (63 - (8 * i + j))) (range_with_len 0 8))
+
 abbrev pub top_byte : (ℕ → Bool) → ℕ
-top_byte bits = value_of_bits (map (λ i. bits (63 - i)) (range_with_len 0 8))
+top_byte bits = word_byte bits 0

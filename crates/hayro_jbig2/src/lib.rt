@@ -10,6 +10,7 @@ mod context;
 mod decoder;
 mod dictionaries;
 mod drawing;
+mod drawn_page;
 mod file;
 mod generics;
 mod globals;
@@ -35,6 +36,7 @@ mod workspace;
 
 pub use context::DecoderContext;
 pub use decoder::Decoder;
+pub use drawn_page::DrawnPage;
 pub use file::File;
 pub use globals::Globals;
 pub use jbig2_base::error::{

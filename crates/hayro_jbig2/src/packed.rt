@@ -1,11 +1,10 @@
 //! A page as packed rows.
-ghost use Rattle.std.specs.Prelude.{◌≡◌, ◌+◌, ◌-◌, ◌*◌, ◌<◌, ◌≤◌, ℕ, length};
+ghost use Rattle.std.specs.Prelude.{◌≡◌, ◌+◌, ◌-◌, ◌*◌, ◌<◌, ◌≤◌, ℕ, get_or, length};
 ghost use Rattle.jbig2_base.specs.inner.WordBits.{bit};
-ghost use Rattle.hayro_jbig2.specs.Image.{packed_of, packed_size, top_byte};
+ghost use Rattle.hayro_jbig2.specs.Image.{packed_part, row_bytes, top_byte, word_byte};
 
 use jbig2_base::bitmap::Bitmap;
 use jbig2_base::bitmap::steps::Steps;
-use jbig2_base::page_info::InitialPage;
 use std::alloc::Allocator;
 use std::sync::ledger::Ledger;
 
@@ -20,29 +19,54 @@ fn take_byte(word: &mut u64) -> u8
     byte
 }
 
-/// Writes the rows of a page of this size, from the top, each in whole bytes: a bit for each pixel, 1 for
-/// black, the leftmost the highest, and zeros behind the last.
-#[tactic(auto, unfolding(crate::specs::Image::packed_of))]
+/// Puts the highest `count` bytes of a word at a place of `buf`.
+#[inline(always)]
+fn put_bytes(buf: &mut [u8], place: usize, count: usize, word: u64)
+    requires few { count ≤ 8 }
+    requires inside { place + count ≤ length buf.old }
+    ensures sized { length buf.new ≡ length buf.old }
+    ensures before { (k : ℕ) → k < place → get_or buf.new k 0 ≡ get_or buf.old k 0 }
+    ensures bytes { (i : ℕ) → i < count → get_or buf.new (place + i) 0 ≡ word_byte (bit word) i }
+{
+    let mut rest = word;
+    for i in 0..count {
+        buf[place + i] = take_byte(&mut rest);
+    }
+}
+
+/// Writes bytes of the rows of a bitmap of this width, from byte `start` of them all on: a bit for each pixel,
+/// 1 for black, the leftmost the highest, and zeros behind the last of a row.
+#[tactic(auto, unfolding(crate::specs::Image::packed_part))]
 pub(crate) fn write_packed<A: Allocator, L: Ledger>(
     bitmap: &Bitmap<A>,
-    initial_page: &InitialPage,
+    width: u32,
+    start: usize,
     buf: &mut [u8],
     steps: &mut Steps<L>,
 )
-    requires width { initial_page.now.width ≤ 65535 }
-    requires height { initial_page.now.height ≤ 65535 }
-    requires sized { length buf.old ≡ packed_size initial_page.now.width initial_page.now.height }
-    ensures { buf.new ≡ packed_of initial_page.now.width initial_page.now.height bitmap.now }
+    requires width { width ≤ 65535 }
+    requires rows { start + length buf.old ≤ row_bytes width * 65535 }
+    ensures { buf.new ≡ packed_part width bitmap.now start (length buf.old) }
 {
-    let (mut x, mut y, mut ahead) = (0, 0, 0);
-    for place in 0..buf.len() {
-        if x % 64 == 0 {
-            ahead = bitmap.load_pixels(x, y, 64, steps);
+    let row_bytes = width.div_ceil(8) as usize;
+    let (mut place, mut column, mut y) = (0, 0, 0);
+    if place < buf.len() {
+        column = start % row_bytes;
+        y = (start / row_bytes) as u32;
+    }
+    while place < buf.len() {
+        let word = bitmap.load_pixels(8 * column as u32, y, 64, steps);
+        let count = (row_bytes - column).min(buf.len() - place).min(8);
+        if count == 8 {
+            // With a constant this is one store.
+            put_bytes(buf, place, 8, word);
+        } else {
+            put_bytes(buf, place, count, word);
         }
-        buf[place] = take_byte(&mut ahead);
-        x += 8;
-        if x >= initial_page.width {
-            x = 0;
+        place += count;
+        column += count;
+        if column == row_bytes {
+            column = 0;
             y += 1;
         }
     }

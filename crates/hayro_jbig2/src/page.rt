@@ -18,10 +18,10 @@ use crate::calls::push_bitmap;
 use crate::context::DecoderContext;
 use crate::decoder::Decoder;
 use crate::drawing::Drawer;
+use crate::drawn_page::DrawnPage;
 use crate::globals::Globals;
 use crate::image::write_image;
 use crate::names::KeptNames;
-use crate::packed::write_packed;
 use crate::settings::DecodeSettings;
 use jbig2_base::bitmap::steps::Steps;
 use jbig2_base::error::Result;
@@ -213,21 +213,35 @@ impl<'a, A: Allocator + Clone> Page<'a, A> {
         ensures value { Gives (λ _. buf.new) result (packed_of_page self.now) }
         ensures unchanged { OnErr result (buf.new ≡ buf.old) }
     {
-        self.read_packed_counted::<Brand>(buf, Blank::new(6))
+        let mut context = DecoderContext::new(self.segments.as_vec().allocator().clone()?)?;
+        let drawn = self.draw(&mut context)?;
+        drawn.read_at(0, buf);
+        Ok(())
     }
 
-    fn read_packed_counted<L: Ledger>(&self, buf: &mut [u8], blank: Blank) -> Result<()>
-        requires sized { length buf.old ≡ packed_size self.now.initial_page.width self.now.initial_page.height }
+    /// Draws the page in the room of a context that earlier pages may have used, which lends it from
+    /// then on: its packed rows, without memory of their own.
+    ///
+    /// Answers the first fault of a segment that lenient reading does not pass over.
+    pub fn draw<'c>(&self, context: &'c mut DecoderContext<A>) -> Result<DrawnPage<'c, A>>
+        ensures { Gives (λ drawn. drawn) result (packed_of_page self.now) }
+    {
+        self.draw_counted::<Brand>(context, Blank::new(6))
+    }
+
+    fn draw_counted<'c, L: Ledger>(
+        &self,
+        context: &'c mut DecoderContext<A>,
+        blank: Blank,
+    ) -> Result<DrawnPage<'c, A>>
         requires name { blank.name ≡ L.name }
         requires parts { blank.parts ≡ L.parts }
         requires enough { blank.parts ≡ 6 }
-        ensures value { Gives (λ _. buf.new) result (packed_of_page self.now) }
-        ensures unchanged { OnErr result (buf.new ≡ buf.old) }
+        ensures { Gives (λ drawn. drawn) result (packed_of_page self.now) }
     {
         let mut steps = Steps::<L>::new(blank);
-        let context = self.drawn(&mut steps)?;
-        write_packed(&context.bitmap, &self.initial_page, buf, &mut steps);
-        Ok(())
+        self.draw_into(context, &mut steps)?;
+        Ok(DrawnPage::new(&context.bitmap, &self.initial_page))
     }
 
     /// The context that the page is drawn in, a fresh one.

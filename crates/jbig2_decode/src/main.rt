@@ -2,7 +2,6 @@
 #![tactic(auto)]
 
 mod fault;
-mod packer;
 mod printer;
 mod program;
 mod refusals;

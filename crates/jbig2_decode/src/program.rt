@@ -3,14 +3,16 @@ ghost use Rattle.std.specs.Prelude.{◌≡◌, ◌↔◌, map, IsNone};
 ghost use Rattle.jbig2_decode.specs.Words.{request_of};
 
 use crate::fault::Fault;
-use crate::packer::Packer;
 use crate::printer::Printer;
 use crate::request::{Command, Request};
 use hayro_jbig2::reading::read_all;
-use hayro_jbig2::{DecodeError, DecodeSettings, File, Page};
+use hayro_jbig2::{DecodeError, DecodeSettings, DecoderContext, DrawnPage, File, Page};
 use std::alloc::{AllocError, Allocator};
 use std::io;
 use std::io::{BufWriter, Read, Write};
+
+/// How many bytes of a bitmap are written at once.
+const BLOCK: usize = 16384;
 
 const USAGE: &str = "usage: jbig2-decode [--strict] pages|embedded FILE | calls|pbm FILE INDEX";
 
@@ -180,11 +182,23 @@ fn write_bitmap<A: Allocator + Clone, O: Write>(
     page: &Page<'_, A>,
     out: &mut O,
 ) -> Result<(), Fault> {
+    let mut context = DecoderContext::new(alloc.clone()?)?;
+    let drawn = page.draw(&mut context)?;
     let (width, height) = page.dimensions();
     let mut buffered = buffered(alloc, out)?;
     let headed = write!(buffered, "P4\n{width} {height}\n");
-    let mut packer = Packer::new(buffered);
-    let decoded = page.decode(&mut packer);
-    let is_written = headed.is_ok() && !packer.has_refused();
-    finish_page(packer.into_inner(), decoded, is_written)
+    let is_written = headed.is_ok() && write_rows(&drawn, &mut buffered).is_ok();
+    finish(buffered, is_written)
+}
+
+fn write_rows<A: Allocator, W: Write>(drawn: &DrawnPage<'_, A>, out: &mut W) -> io::Result<()> {
+    let mut block = [0; BLOCK];
+    let mut place = 0;
+    while place < drawn.size() {
+        let count = (drawn.size() - place).min(BLOCK);
+        drawn.read_at(place, &mut block[..count]);
+        out.write_all(&block[..count])?;
+        place += count;
+    }
+    Ok(())
 }

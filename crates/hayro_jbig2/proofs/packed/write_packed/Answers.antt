@@ -1,55 +1,84 @@
-use Rattle.std.proofs.Common.{◌≡◌, ◌+◌, ◌-◌, ◌*◌, ◌/◌, ◌%◌, ◌<◌, ◌≤◌, ℕ, ◌∙◌, ap, sym, map, length, refl, arith}
+use Rattle.std.proofs.Common.{◌≡◌, ◌+◌, ◌-◌, ◌*◌, ◌/◌, ◌%◌, ◌<◌, ◌≤◌, ℕ, ◌∙◌, ap, get_or, length, map, List, arith}
 use Rattle.std.specs.List.{range_with_len}
-use Rattle.std.proofs.lemmas.List.{length-set}
 use Rattle.std.proofs.lemmas.List.FromFn.{fill_by_all}
-use Rattle.jbig2_base.specs.Grid.{pixel_at}
 use Rattle.jbig2_base.specs.inner.WordBits.{bit}
-use Rattle.hayro_jbig2.specs.Image.{packed_byte, packed_of, packed_size, row_bytes}
-use Rattle.hayro_jbig2.proofs.PackedRows.{byte-pixels, held-more, next-row, written-more}
+use Rattle.hayro_jbig2.specs.Image.{packed_byte, packed_part, row_bytes, word_byte}
+use Rattle.hayro_jbig2.proofs.PackedRows.{values-from, written-more}
 use Rattle.hayro_jbig2.proofs.packed.write_packed.Goals as goal
-use Rattle.hayro_jbig2.proofs.packed.write_packed.Goals.{then-x-eq0, else-x-eq0, then-x-initial_page, else-x-initial_page}
+use Rattle.hayro_jbig2.proofs.packed.write_packed.Goals.{then-count-eq8, else-count-eq8}
+
+pub loop-place-preserved-then-column-row_bytes : goal.loop-place-preserved-then-column-row_bytes
+loop-place-preserved-then-column-row_bytes g c =
+    let w = c.args.width in
+    let place = c.loop-place.place in
+    let column = c.loop-place.column in
+    let y = c.loop-place.y in
+    let count = c.min-count.result in
+    let kept = c.loop-place.invariant in
+    let left : place < length c.loop-place.buf = c.loop-place-test.true in
+    let rows : row_bytes w ≡ c.div_ceil-row_bytes.result = grind (arith) in
+    let few : count ≤ 8 = grind (arith) in
+    let narrow : column + count ≤ row_bytes w = rw (rows) (grind (arith)) in
+    let sized : length c.if-count-eq8.buf ≡ length c.loop-place.buf = elim c.if-count-eq8.branch [
+      | then-count-eq8 b ↦ rw (b.buf-is) (b.put_bytes.ensures.sized)
+      | else-count-eq8 b ↦ rw (b.buf-is) (b.put_bytes-else-count-eq8.ensures.sized)
+    ] in
+    let before : (k : ℕ) → k < place → get_or c.if-count-eq8.buf k 0 ≡ get_or c.loop-place.buf k 0 = elim c.if-count-eq8.branch [
+      | then-count-eq8 b ↦ λ k early. rw (b.buf-is) (b.put_bytes.ensures.before k early)
+      | else-count-eq8 b ↦ λ k early. rw (b.buf-is) (b.put_bytes-else-count-eq8.ensures.before k early)
+    ] in
+    let put : (i : ℕ) → i < count → get_or c.if-count-eq8.buf (place + i) 0 ≡ word_byte (bit c.load_pixels-word.result) i = elim c.if-count-eq8.branch [
+      | then-count-eq8 b ↦ λ i below. rw (b.buf-is) (b.put_bytes.ensures.bytes i (omega (arith, below, few)))
+      | else-count-eq8 b ↦ λ i below. rw (b.buf-is) (b.put_bytes-else-count-eq8.ensures.bytes i below)
+    ] in
+    record {
+      sized = sized ∙ kept.sized;
+      within = rw (sized) (grind (arith));
+      counted = λ more. omega (arith, kept.counted left, c.if-column-row_bytes.true, rows);
+      column = λ more. omega (arith, kept.column left);
+      written = written-more c.args.bitmap.now w c.args.start place column y count c.load_pixels-word.result c.loop-place.buf c.if-count-eq8.buf (kept.counted left) narrow few c.load_pixels-word.ensures.bits kept.written before put;
+    }
 
 pub loop-place-preserved : goal.loop-place-preserved
 loop-place-preserved g c =
-    let grid = c.args.bitmap.now in
-    let x = c.loop-place.x in
+    let w = c.args.width in
+    let place = c.loop-place.place in
+    let column = c.loop-place.column in
     let y = c.loop-place.y in
+    let count = c.min-count.result in
     let kept = c.loop-place.invariant in
-    let wide : 0 < c.args.initial_page.now.width = grind (arith) in
-    let left : x < c.args.initial_page.now.width = kept.column wide in
-    let loaded : (k : ℕ) → k < 64 - x % 64 → bit c.if-x-eq0.ahead (63 - k) ≡ pixel_at grid (x + k) y =
-    elim c.if-x-eq0.branch [
-      | then-x-eq0 w ↦ λ k below. ap (λ (n : ℕ). bit n (63 - k)) w.ahead-is ∙ w.load_pixels-ahead.ensures.bits k (omega (arith, below))
-      | else-x-eq0 w ↦ λ k below. ap (λ (n : ℕ). bit n (63 - k)) w.ahead-is ∙ kept.held k (omega (arith, w.if-x-eq0)) below
+    let left : place < length c.loop-place.buf = c.loop-place-test.true in
+    let rows : row_bytes w ≡ c.div_ceil-row_bytes.result = grind (arith) in
+    let few : count ≤ 8 = grind (arith) in
+    let narrow : column + count ≤ row_bytes w = rw (rows) (grind (arith)) in
+    let sized : length c.if-count-eq8.buf ≡ length c.loop-place.buf = elim c.if-count-eq8.branch [
+      | then-count-eq8 b ↦ rw (b.buf-is) (b.put_bytes.ensures.sized)
+      | else-count-eq8 b ↦ rw (b.buf-is) (b.put_bytes-else-count-eq8.ensures.sized)
     ] in
-    let eighths : x ≡ 8 * (x / 8) = omega (arith, kept.eighth) in
-    let byte : c.take_byte.result ≡ packed_byte grid (x / 8) y =
-    c.take_byte.ensures.value
-    ∙ byte-pixels grid c.if-x-eq0.ahead (x / 8) y (λ j small. loaded j (omega (arith, small, kept.eighth)) ∙ ap (λ (n : ℕ). pixel_at grid (n + j) y) eighths) in
-    let written = written-more grid c.args.initial_page.now.width c.loop-place.buf x y c.loop-place.place c.take_byte.result (omega (arith, c.loop-place-test.true, c.loop-place.auto.buf)) kept.counted left byte kept.written in
-    elim c.if-x-initial_page.branch [
-      | then-x-initial_page w ↦ record {
-        sized = length-set c.loop-place.buf c.loop-place.place c.take_byte.result ∙ kept.sized;
-        counted = rw (w.x-is, w.y-is) (next-row c.args.initial_page.now.width x y c.loop-place.place kept.eighth left w.if-x-initial_page.true kept.counted);
-        eighth = rw (w.x-is) refl;
-        column = λ some. rw (w.x-is) wide;
-        held = λ k some below. absurd (omega (arith, w.x-is, some));
-        written = written;
-      }
-      | else-x-initial_page w ↦ record {
-        sized = length-set c.loop-place.buf c.loop-place.place c.take_byte.result ∙ kept.sized;
-        counted = rw (w.x-is, w.y-is) (omega (arith, kept.counted));
-        eighth = omega (arith, w.x-is, kept.eighth);
-        column = λ some. omega (arith, w.x-is, w.if-x-initial_page.false);
-        held = rw (w.x-is, w.y-is) (held-more grid c.if-x-eq0.ahead c.take_byte.new.word x y c.take_byte.ensures.rest loaded kept.eighth);
-        written = written;
-      }
-    ]
+    let before : (k : ℕ) → k < place → get_or c.if-count-eq8.buf k 0 ≡ get_or c.loop-place.buf k 0 = elim c.if-count-eq8.branch [
+      | then-count-eq8 b ↦ λ k early. rw (b.buf-is) (b.put_bytes.ensures.before k early)
+      | else-count-eq8 b ↦ λ k early. rw (b.buf-is) (b.put_bytes-else-count-eq8.ensures.before k early)
+    ] in
+    let put : (i : ℕ) → i < count → get_or c.if-count-eq8.buf (place + i) 0 ≡ word_byte (bit c.load_pixels-word.result) i = elim c.if-count-eq8.branch [
+      | then-count-eq8 b ↦ λ i below. rw (b.buf-is) (b.put_bytes.ensures.bytes i (omega (arith, below, few)))
+      | else-count-eq8 b ↦ λ i below. rw (b.buf-is) (b.put_bytes-else-count-eq8.ensures.bytes i below)
+    ] in
+    record {
+      sized = sized ∙ kept.sized;
+      within = rw (sized) (grind (arith));
+      counted = λ more. omega (arith, kept.counted left, narrow, rows);
+      column = λ more. omega (arith, narrow, c.if-column-row_bytes.false, rows);
+      written = written-more c.args.bitmap.now w c.args.start place column y count c.load_pixels-word.result c.loop-place.buf c.if-count-eq8.buf (kept.counted left) narrow few c.load_pixels-word.ensures.bits kept.written before put;
+    }
 
 pub returns : goal.returns
-unfolding packed_of
+unfolding packed_part
 returns g c =
-    let w = c.args.initial_page.now.width in
+    let w = c.args.width in
     let f : ℕ → ℕ = λ n. packed_byte c.args.bitmap.now (n % row_bytes w) (n / row_bytes w) in
-    fill_by_all f c.loop-place.buf (length c.args.buf.now) 0 c.loop-place.auto.buf (λ k h. c.loop-place.invariant.written k (omega (arith, h, c.loop-place-test.false)))
-    ∙ ap (λ (n : ℕ). map f (range_with_len 0 n)) c.requires.sized
+    let start = c.args.start in
+    let size : ℕ = length c.args.buf.now in
+    let place : start + 0 ≡ start = omega arith in
+    fill_by_all (λ k. f (start + k)) c.loop-place.buf size 0 c.loop-place.invariant.sized (λ k h. c.loop-place.invariant.written k (omega (arith, h, c.loop-place-test.false, c.loop-place.invariant.sized)))
+    ∙ values-from f start 0 size
+    ∙ ap (λ (n : ℕ). map f (range_with_len n size)) place

@@ -1,0 +1,20 @@
+use Rattle.std.proofs.Common.{◌≡◌, ◌+◌, ◌*◌, ◌≤◌, ◌∙◌, ℕ, List, ap, sym, length, take, drop, arith}
+use Rattle.hayro_jbig2.specs.Image.{packed_size, row_bytes}
+use Rattle.hayro_jbig2.proofs.PackedRows.{packed-length, part-of-whole, rows-bounded}
+use Rattle.hayro_jbig2.proofs.drawn_page.DrawnPage.read_counted.Goals as goal
+
+pub write_packed-requires-clause-rows : goal.write_packed-requires-clause-rows
+write_packed-requires-clause-rows g c =
+    let w = c.self.inside.width in
+    let h = c.self.inside.height in
+    let whole : length c.args.self.now ≡ packed_size w h = sym (ap (λ (xs : List ℕ). length xs) c.self.view_is) ∙ packed-length w h c.self.inside.bitmap.now in
+    rows-bounded w h (c.args.place + length c.args.buf.now) (grind (arith)) (omega (arith, c.requires.inside, whole))
+
+pub returns : goal.returns
+returns g c =
+    let w = c.self.inside.width in
+    let h = c.self.inside.height in
+    let whole : length c.args.self.now ≡ packed_size w h = sym (ap (λ (xs : List ℕ). length xs) c.self.view_is) ∙ packed-length w h c.self.inside.bitmap.now in
+    c.write_packed.ensures
+    ∙ part-of-whole w h c.self.inside.bitmap.now c.args.place (length c.args.buf.now) (omega (arith, c.requires.inside, whole))
+    ∙ ap (λ (xs : List ℕ). take (length c.args.buf.now) (drop c.args.place xs)) c.self.view_is

@@ -1,0 +1,72 @@
+//! A page that is drawn, by its packed rows.
+ghost use Rattle.std.specs.Prelude.{◌≡◌, ◌+◌, ◌≤◌, drop, length, take};
+ghost use Rattle.hayro_jbig2.specs.Image.{packed_of};
+
+use crate::packed::write_packed;
+use jbig2_base::bitmap::Bitmap;
+use jbig2_base::bitmap::steps::Steps;
+use jbig2_base::page_info::InitialPage;
+use std::alloc::Allocator;
+use std::marker::{Brand, Model};
+use std::sync::ledger::{Blank, Ledger};
+
+/// A drawn page, lent by the context that it was drawn in: its packed rows from the top, which need no memory
+/// beside the page's own. A row is a bit for each pixel, 1 for black, the leftmost the highest of its byte, in
+/// `width.div_ceil(8)` bytes, whose last bits are 0 past the width: the form of PBM, TIFF and PDF.
+#[derive(Drop)]
+pub struct DrawnPage<'c, A: Allocator> {
+    bitmap: &'c Bitmap<A>,
+    width: u32,
+    height: u32,
+}
+
+impl<'c, A: Allocator> Model for DrawnPage<'c, A> {
+    ghost use Rattle.std.specs.Prelude.{List, ℕ, ◌≤◌};
+    ghost use Rattle.hayro_jbig2.specs.Image.{packed_of};
+
+    ghost Value = { List ℕ };
+
+    ghost view = { λ page. packed_of page.width page.height page.bitmap.now };
+
+    ghost invariant = { λ page. (page.width ≤ 65535) × (page.height ≤ 65535) };
+}
+
+impl<'c, A: Allocator> DrawnPage<'c, A> {
+    pub(crate) fn new(bitmap: &'c Bitmap<A>, initial_page: &InitialPage) -> DrawnPage<'c, A>
+        requires width { initial_page.now.width ≤ 65535 }
+        requires height { initial_page.now.height ≤ 65535 }
+        ensures { result ≡ packed_of initial_page.now.width initial_page.now.height bitmap.now }
+    {
+        DrawnPage {
+            bitmap,
+            width: initial_page.width,
+            height: initial_page.height,
+        }
+    }
+
+    /// The number of bytes of all rows together.
+    pub fn size(&self) -> usize
+        ensures { result ≡ length self.now }
+    {
+        self.width.div_ceil(8) as usize * self.height as usize
+    }
+
+    /// Fills `buf` with the bytes of the rows from byte `place` of them all on.
+    pub fn read_at(&self, place: usize, buf: &mut [u8])
+        requires { place + length buf.old ≤ length self.now }
+        ensures { buf.new ≡ take (length buf.old) (drop place self.now) }
+    {
+        self.read_counted::<Brand>(place, buf, Blank::new(6));
+    }
+
+    fn read_counted<L: Ledger>(&self, place: usize, buf: &mut [u8], blank: Blank)
+        requires inside { place + length buf.old ≤ length self.now }
+        requires name { blank.name ≡ L.name }
+        requires parts { blank.parts ≡ L.parts }
+        requires enough { blank.parts ≡ 6 }
+        ensures { buf.new ≡ take (length buf.old) (drop place self.now) }
+    {
+        let mut steps = Steps::<L>::new(blank);
+        write_packed(self.bitmap, self.width, place, buf, &mut steps);
+    }
+}
