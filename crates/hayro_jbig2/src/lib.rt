@@ -2,7 +2,8 @@
 //!
 //! `Page::new_embedded` reads a page as a PDF file keeps it, `File::new` a file of pages, and
 //! `Jbig2Decoder::new` the first page of what a reader gives. `Page::decode_with` makes the calls
-//! on a `Decoder` that spell the page's pixels, and `Page::read_image` writes a byte for each.
+//! on a `Decoder` that spell the page's pixels, `Page::read_image` writes a byte for each, and `Page::draw` lends
+//! packed rows.
 #![tactic(auto)]
 
 mod calls;
