@@ -17,4 +17,5 @@ pub mod WindowLemmas
 pub mod RefinementWindowLemmas
 pub mod CodesLemmas
 pub mod RefinementKernelLemmas
+pub mod RefinementPushLemmas
 pub mod DecisionLemmas

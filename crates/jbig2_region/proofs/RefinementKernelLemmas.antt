@@ -7,6 +7,7 @@ use Rattle.jbig2_coder.specs.Coder.{Coder, Context}
 use Rattle.jbig2_region.specs.Refinement.{Reference, refinement_coding}
 use Rattle.jbig2_region.specs.inner.Codes.{Codes, CountsCodes, Takes}
 use Rattle.jbig2_region.specs.inner.Neighbours.{IsLeft}
+use Rattle.jbig2_region.specs.inner.RefinementBlocks.{Block}
 use Rattle.jbig2_region.specs.inner.RefinementWindows.{SeesRows, context_of, corners, four_of, known_of, nine_of}
 use Rattle.jbig2_region.specs.Raster.{Coding}
 use Rattle.jbig2_region.specs.declared.refinement_kernel.windows.RefinementWindows.{RefinementWindows}
@@ -17,15 +18,6 @@ use Rattle.jbig2_region.proofs.RegisterLemmas.{left-few, left-whole}
 use Rattle.jbig2_region.proofs.StoreLemmas.{left-bit, left-start, stored-above, stored-push}
 
 -- ---- a block
--- what the code holds after k pixels of a block
-pub record Block (coding : Coding) (p : Bool) (x y k : ℕ) (g : Grid) (d0 : Coder) (s0 : List Context) (t0 : Counts) (pixels : ℕ) (d : Coder) (s : List Context) (t : Counts) : Type 0 where
-  pub bytes : d.bytes ≡ d0.bytes
-  pub few : pixels < 16 * 2 ^ k
-  pub left : IsLeft (with_pixels g x y k pixels) (x + k) y pixels
-  pub holds : Codes coding p x y k g d0 s0 (with_pixels g x y k pixels) d s
-  pub decisions : CountsCodes coding p x y k g d0 s0 t0.decisions t.decisions
-  pub steps : t ≡ record t0 { decisions = t.decisions }
-
 more : (pixels symbol k : ℕ) (c : Bool) → symbol ≡ bit_number c → pixels < 16 * 2 ^ k → pixels * 2 + symbol < 16 * 2 ^ (k + 1)
 more pixels symbol k c is few = rw (add-one k, pow-suc) (step c is)
   where

@@ -52,7 +52,7 @@ sees-at g column column' row row' word sees is_column is_row = λ k inside.
     sees k inside ∙ ap (λ (z : ℤ). pixel g (z +ℤ pos k) row) is_column ∙ ap (λ (z : ℤ). pixel g (column' +ℤ pos k) z) is_row
 
 -- ---- three pixels of a window
-three-bits : (n j : ℕ) → n / 2 ^ j % 8 ≡ bit_number (bit n j) + bit_number (bit n (j + 1)) * 2 + bit_number (bit n (j + 2)) * 4
+pub three-bits : (n j : ℕ) → n / 2 ^ j % 8 ≡ bit_number (bit n j) + bit_number (bit n (j + 1)) * 2 + bit_number (bit n (j + 2)) * 4
 three-bits n j =
     let one : n / 2 ^ (j + 1) ≡ n / 2 ^ j / 2 ^ 1 = sym (shr-shr n j 1) in
     let two : n / 2 ^ (j + 2) ≡ n / 2 ^ j / 2 ^ 2 = sym (shr-shr n j 2) in

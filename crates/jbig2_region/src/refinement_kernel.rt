@@ -1,6 +1,6 @@
 //! The kernel of refinements (T.88, 6.3) whose template lies about the pixel that is decoded: contexts
 //! and predicted colours come from windows on the rows.
-ghost use Rattle.std.specs.Prelude.{◌≡◌, ℕ, ◌+◌, ◌*◌, ◌/◌, ◌%◌, ◌^◌, ◌<◌, ◌≤◌, length, if◌then◌else◌, Some, None, IfSome};
+ghost use Rattle.std.specs.Prelude.{◌≡◌, ℕ, ◌+◌, ◌-◌, ◌*◌, ◌/◌, ◌%◌, ◌^◌, ◌<◌, ◌≤◌, length, false, if◌then◌else◌, Some, None, IfSome};
 ghost use Rattle.jbig2_region.specs.Decisions.{CountsDecided};
 ghost use Rattle.jbig2_region.specs.Raster.{no_pixels};
 ghost use Rattle.jbig2_region.specs.RefinementSteps.{window_loads};
@@ -8,13 +8,14 @@ ghost use Rattle.jbig2_region.specs.RefinementTemplates.{refinement_bits, refine
 ghost use Rattle.jbig2_region.specs.inner.Codes.{Codes, CountsCodes, Takes};
 ghost use Rattle.jbig2_region.specs.inner.Holds.{DecodesRegion, IsReady};
 ghost use Rattle.jbig2_region.specs.inner.Neighbours.{IsLeft};
-ghost use Rattle.jbig2_region.specs.inner.RefinementWindows.{context_of, known_of, windowed_coding};
+ghost use Rattle.jbig2_region.specs.inner.RefinementBlocks.{MovesBlock};
+ghost use Rattle.jbig2_region.specs.inner.RefinementWindows.{context_of, four_of, known_of, nine_of, windowed_coding};
 
 mod windows;
 
 use crate::generic_refinement::ReferenceBitmap;
 use crate::raster::{Row, begin_row};
-use crate::refinement_kernel::windows::{context, known_colour, windows_at};
+use crate::refinement_kernel::windows::{RefinementWindows, context, known_colour, windows_at};
 use crate::template::RefinementTemplate;
 use crate::template::refinement::row_context;
 use jbig2_base::bitmap::Bitmap;
@@ -58,6 +59,73 @@ fn decode_pixel<L: Ledger>(
     decoder.decode(&mut contexts[context as usize], steps)
 }
 
+/// The pixel `offset` columns behind the windows' column, where the row isn't predicted: `pixels`
+/// are those at the left, and it comes in at their low end.
+#[inline(always)]
+fn push_pixel<L: Ledger>(
+    template: RefinementTemplate,
+    windows: RefinementWindows,
+    offset: u32,
+    pixels: u64,
+    decoder: &mut ArithmeticDecoder<'_>,
+    contexts: &mut [ArithmeticDecoderContext],
+    steps: &mut Steps<L>,
+) -> u64
+    requires offset { offset < 32 }
+    requires room { pixels < 2 ^ 62 }
+    requires contexts { length contexts.old ≡ 2 ^ refinement_bits template }
+    ensures takes { Takes None
+        (context_of template (nine_of windows offset) (four_of windows pixels offset))
+        decoder.old contexts.old steps.old
+        (result - pixels * 2) decoder.new contexts.new steps.new }
+    ensures pushed { pixels * 2 ≤ result }
+    ensures digit { result < pixels * 2 + 2 }
+    ensures contexts { length contexts.new ≡ length contexts.old }
+{
+    let nine = windows.nine(offset);
+    let four = windows.four(pixels, offset);
+    let symbol = decode_pixel(template, false, nine, four, decoder, contexts, steps);
+    pixels * 2 + u64::from(symbol)
+}
+
+/// Four pixels as by `push_pixel`, whose places in the windows are the same in each call.
+#[inline(always)]
+fn push_four<L: Ledger>(
+    template: RefinementTemplate,
+    windows: RefinementWindows,
+    offset: u32,
+    pixels: u64,
+    decoder: &mut ArithmeticDecoder<'_>,
+    contexts: &mut [ArithmeticDecoderContext],
+    steps: &mut Steps<L>,
+) -> u64
+    requires offset { offset ≤ 28 }
+    requires room { pixels < 2 ^ 32 }
+    requires contexts { length contexts.old ≡ 2 ^ refinement_bits template }
+    ensures block { MovesBlock template windows offset 4
+        pixels decoder.old contexts.old steps.old result decoder.new contexts.new steps.new }
+    ensures contexts { length contexts.new ≡ length contexts.old }
+{
+    let near = windows.moved(offset);
+    let first = push_pixel(template, near, 0, pixels, decoder, contexts, steps);
+    let second = push_pixel(template, near, 1, first, decoder, contexts, steps);
+    let third = push_pixel(template, near, 2, second, decoder, contexts, steps);
+    push_pixel(template, near, 3, third, decoder, contexts, steps)
+}
+
+/// Of `count` columns those whose pixels are decided without a look at the prediction: all, unless
+/// the row is predicted.
+#[inline(always)]
+fn decided_columns(predicted: bool, count: u32) -> u32
+    ensures most { result ≤ count }
+    ensures plain { 0 < result → predicted ≡ false }
+{
+    if predicted {
+        return 0;
+    }
+    count
+}
+
 /// The `count` pixels from column `x` of a row on, at most 32. Answers the four pixels left of the next
 /// column.
 #[inline(always)]
@@ -97,12 +165,25 @@ fn decode_block<A: Allocator, B: Allocator, L: Ledger>(
     ensures words { steps.new.words ≡ steps.old.words + 1 }
 {
     let windows = windows_at(bitmap, coding.reference, x, row.y, steps);
+    let template = coding.template;
+    let decided = decided_columns(row.predicted, count);
+    let white = windows.white_columns(decided);
     let mut pixels = u64::from(left);
-    for offset in 0..count {
+    let mut done = 0;
+    while done < white && pixels % 2 == 0 {
+        let symbol = decode_pixel(template, false, 0, 0, decoder, contexts, steps);
+        pixels = pixels * 2 + u64::from(symbol);
+        done += 1;
+    }
+    while done + 4 <= decided {
+        pixels = push_four(template, windows, done, pixels, decoder, contexts, steps);
+        done += 4;
+    }
+    for offset in done..count {
         let nine = windows.nine(offset);
         let four = windows.four(pixels, offset);
         let symbol = decode_pixel(
-            coding.template,
+            template,
             row.predicted,
             nine,
             four,

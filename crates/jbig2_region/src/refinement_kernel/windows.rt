@@ -1,6 +1,6 @@
 //! Windows on the rows that a refinement's pixels are taken from: 64 pixels of each, of which one load
 //! serves 32 columns.
-ghost use Rattle.std.specs.Prelude.{◌≡◌, ℕ, ◌+◌, ◌-◌, ◌*◌, ◌/◌, ◌%◌, ◌^◌, ◌<◌, pos, negsuc, ◌+ℤ◌, ◌-ℤ◌, ◌<ℤ◌};
+ghost use Rattle.std.specs.Prelude.{◌≡◌, ℕ, ◌+◌, ◌-◌, ◌*◌, ◌/◌, ◌%◌, ◌^◌, ◌<◌, ◌≤◌, pos, negsuc, ◌+ℤ◌, ◌-ℤ◌, ◌<ℤ◌};
 ghost use Rattle.jbig2_region.specs.inner.RefinementViews.{reference_view};
 ghost use Rattle.jbig2_region.specs.inner.RefinementWindows.{Sees, SeesRows, colour_of, context_of, four_of, known_of, nine_of, three_of};
 
@@ -80,6 +80,36 @@ fn three(window: u64, offset: u32) -> u32
 }
 
 impl RefinementWindows {
+    /// All of `count` columns if the pixels that they are seen with are white, else none.
+    #[inline(always)]
+    pub fn white_columns(self, count: u32) -> u32
+        ensures most { result ≤ count }
+        ensures nine { 0 < result → (k : ℕ) → k < 32 → nine_of self k ≡ 0 }
+        ensures region { 0 < result → (k : ℕ) → k < 32 → three_of self.region k ≡ 0 }
+    {
+        let reference = self.above.max(self.here).max(self.below);
+        if self.region.max(reference) >> 30 == 0 {
+            return count;
+        }
+        0
+    }
+
+    /// The windows that serve the column so many to the right, and so many columns less.
+    #[inline(always)]
+    pub fn moved(self, pixels: u32) -> RefinementWindows
+        requires few { pixels < 32 }
+        ensures nine { (k : ℕ) → pixels + k < 32 → nine_of result k ≡ nine_of self (pixels + k) }
+        ensures region { (k : ℕ) → pixels + k < 32
+            → three_of result.region k ≡ three_of self.region (pixels + k) }
+    {
+        RefinementWindows {
+            region: self.region << pixels,
+            above: self.above << pixels,
+            here: self.here << pixels,
+            below: self.below << pixels,
+        }
+    }
+
     /// The reference's nine pixels about that column, the last of them in bit 0.
     #[inline(always)]
     pub fn nine(self, offset: u32) -> u32

@@ -1,0 +1,32 @@
+-- What the code holds in the middle of a block of a refinement's row, before the block is stored (our own rule).
+use Rattle.std.specs.Prelude.{◌≡◌, ℕ, ◌+◌, ◌*◌, ◌^◌, ◌<◌, ◌≤◌, Bool, false, List}
+use Rattle.jbig2_base.specs.Counts.{Counts}
+use Rattle.jbig2_base.specs.Grid.{Grid}
+use Rattle.jbig2_base.specs.inner.Writes.{with_pixels}
+use Rattle.jbig2_coder.specs.Coder.{Coder, Context}
+use Rattle.jbig2_region.specs.Raster.{Coding}
+use Rattle.jbig2_region.specs.Refinement.{Reference, refinement_coding}
+use Rattle.jbig2_region.specs.inner.Codes.{Codes, CountsCodes}
+use Rattle.jbig2_region.specs.inner.Neighbours.{IsLeft}
+use Rattle.jbig2_region.specs.inner.RefinementWindows.{SeesRows, corners}
+use Rattle.jbig2_region.specs.declared.refinement_kernel.windows.RefinementWindows.{RefinementWindows}
+use Rattle.jbig2_region.specs.declared.template.RefinementTemplate.{RefinementTemplate}
+
+-- what the code holds after k pixels of a block: the pixels as a number, behind the four at the left
+pub record Block (coding : Coding) (p : Bool) (x y k : ℕ) (g : Grid) (d0 : Coder) (s0 : List Context) (t0 : Counts) (pixels : ℕ) (d : Coder) (s : List Context) (t : Counts) : Type 0 where
+  pub bytes : d.bytes ≡ d0.bytes
+  pub few : pixels < 16 * 2 ^ k
+  pub left : IsLeft (with_pixels g x y k pixels) (x + k) y pixels
+  pub holds : Codes coding p x y k g d0 s0 (with_pixels g x y k pixels) d s
+  pub decisions : CountsCodes coding p x y k g d0 s0 t0.decisions t.decisions
+  pub steps : t ≡ record t0 { decisions = t.decisions }
+
+-- the steps once a block's windows are loaded
+abbrev pub windows_loaded : Counts → Counts
+windows_loaded c = record c { loads = c.loads + 4 }
+
+-- a block before and after n pixels more, from the k-th on, in a row that is not predicted
+abbrev pub MovesBlock : RefinementTemplate → RefinementWindows → ℕ → ℕ → ℕ → Coder → List Context → Counts → ℕ → Coder → List Context → Counts → Type 0
+MovesBlock template w k n pixels d s t pixels' d' s' t' =
+    (typical : Bool) (r : Reference) (x y : ℕ) (g : Grid) (d0 : Coder) (s0 : List Context) (t0 : Counts) → SeesRows g r x y w → k + n ≤ 32 → x + (k + n) ≤ g.width → y < g.height
+    → Block (refinement_coding template typical corners r) false x y k g d0 s0 t0 pixels d s t → Block (refinement_coding template typical corners r) false x y (k + n) g d0 s0 t0 pixels' d' s' t'
