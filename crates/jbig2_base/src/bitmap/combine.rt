@@ -77,7 +77,8 @@ fn combine_block<A: Allocator, B: Allocator, L: Ledger>(
     requires rows_fit { block.top + block.rows < 2 ^ 32 }
     requires source_columns_fit { block.from + block.columns < 2 ^ 32 }
     requires source_rows_fit { block.from_row + block.rows < 2 ^ 32 }
-    ensures value { page.new ≡ with_block operator page.old source.now block.left (block.left + block.columns) block.top (block.top + block.rows) block.from block.from_row }
+    ensures value { page.new ≡ with_block operator page.old source.now block.left
+        (block.left + block.columns) block.top (block.top + block.rows) block.from block.from_row }
     ensures steps { WritesWithin (block.rows * most_words block.columns) steps.old steps.new }
 {
     match operator {
@@ -118,7 +119,8 @@ fn combine_by<A: Allocator, B: Allocator, L: Ledger>(
     requires rows_fit { block.top + block.rows < 2 ^ 32 }
     requires source_columns_fit { block.from + block.columns < 2 ^ 32 }
     requires source_rows_fit { block.from_row + block.rows < 2 ^ 32 }
-    ensures value { page.new ≡ with_block operator page.old source.now block.left (block.left + block.columns) block.top (block.top + block.rows) block.from block.from_row }
+    ensures value { page.new ≡ with_block operator page.old source.now block.left
+        (block.left + block.columns) block.top (block.top + block.rows) block.from block.from_row }
     ensures steps { WritesWithin (block.rows * most_words block.columns) steps.old steps.new }
 {
     let last = block.from + block.columns - 1;

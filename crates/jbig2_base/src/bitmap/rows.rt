@@ -235,8 +235,9 @@ impl<A: Allocator> PackedRows<A> {
         requires source_bottom { block.from_row + block.rows ≤ source.now.height }
         requires aligned { block.from / 64 < (block.from + block.columns - 1) / 64
             → block.left % 64 ≡ block.from % 64 }
-        ensures value { self.new ≡ with_block operator self.old source.now
-            block.left (block.left + block.columns) block.top (block.top + block.rows) block.from block.from_row }
+        ensures value { self.new ≡ with_block operator self.old source.now block.left
+            (block.left + block.columns) block.top (block.top + block.rows) block.from
+            block.from_row }
         ensures steps { WritesWithin (block.rows * most_words block.columns) steps.old steps.new }
     {
         let shape = Shape {

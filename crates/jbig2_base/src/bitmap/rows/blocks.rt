@@ -5,7 +5,7 @@ ghost use Rattle.jbig2_base.specs.Combination.{most_words, WritesWithin};
 ghost use Rattle.jbig2_base.specs.Grid.{pixel_at};
 ghost use Rattle.jbig2_base.specs.Operator.{combined_pixel};
 ghost use Rattle.jbig2_base.specs.inner.Blocks.{with_block, with_run};
-ghost use Rattle.jbig2_base.specs.inner.Packed.{IsPacked, packed_grid};
+ghost use Rattle.jbig2_base.specs.inner.Shapes.{HasShape, grid_in};
 ghost use Rattle.jbig2_base.specs.inner.WordBits.{bit};
 
 use crate::bitmap::operator::CombinationOperator;
@@ -61,19 +61,18 @@ pub fn narrow_rows<L: Ledger>(
     block: Block,
     steps: &mut Steps<L>,
 )
-    requires packed { IsPacked shape.width shape.height shape.stride words.old }
-    requires source_packed { IsPacked source_shape.width source_shape.height source_shape.stride source.now }
+    requires packed { HasShape shape words.old }
+    requires source_packed { HasShape source_shape source.now }
     requires some { 1 ≤ block.columns }
     requires right { block.left + block.columns ≤ shape.width }
     requires bottom { block.top + block.rows ≤ shape.height }
     requires source_right { block.from + block.columns ≤ source_shape.width }
     requires source_bottom { block.from_row + block.rows ≤ source_shape.height }
     requires one_word { block.from / 64 ≡ (block.from + block.columns - 1) / 64 }
-    ensures packed { IsPacked shape.width shape.height shape.stride words.new }
-    ensures value { packed_grid shape.width shape.height shape.stride words.new
-        ≡ with_block operator (packed_grid shape.width shape.height shape.stride words.old)
-        (packed_grid source_shape.width source_shape.height source_shape.stride source.now)
-        block.left (block.left + block.columns) block.top (block.top + block.rows) block.from block.from_row }
+    ensures packed { HasShape shape words.new }
+    ensures value { grid_in shape words.new
+        ≡ with_block operator (grid_in shape words.old) (grid_in source_shape source.now) block.left
+        (block.left + block.columns) block.top (block.top + block.rows) block.from block.from_row }
     ensures steps { WritesWithin (block.rows * most_words block.columns) steps.old steps.new }
 {
     for row in 0..block.rows {
@@ -100,8 +99,8 @@ pub fn aligned_rows<L: Ledger>(
     block: Block,
     steps: &mut Steps<L>,
 )
-    requires packed { IsPacked shape.width shape.height shape.stride words.old }
-    requires source_packed { IsPacked source_shape.width source_shape.height source_shape.stride source.now }
+    requires packed { HasShape shape words.old }
+    requires source_packed { HasShape source_shape source.now }
     requires some { 1 ≤ block.columns }
     requires right { block.left + block.columns ≤ shape.width }
     requires bottom { block.top + block.rows ≤ shape.height }
@@ -109,11 +108,10 @@ pub fn aligned_rows<L: Ledger>(
     requires source_bottom { block.from_row + block.rows ≤ source_shape.height }
     requires aligned { block.left % 64 ≡ block.from % 64 }
     requires wide { block.left / 64 < (block.left + block.columns - 1) / 64 }
-    ensures packed { IsPacked shape.width shape.height shape.stride words.new }
-    ensures value { packed_grid shape.width shape.height shape.stride words.new
-        ≡ with_block operator (packed_grid shape.width shape.height shape.stride words.old)
-        (packed_grid source_shape.width source_shape.height source_shape.stride source.now)
-        block.left (block.left + block.columns) block.top (block.top + block.rows) block.from block.from_row }
+    ensures packed { HasShape shape words.new }
+    ensures value { grid_in shape words.new
+        ≡ with_block operator (grid_in shape words.old) (grid_in source_shape source.now) block.left
+        (block.left + block.columns) block.top (block.top + block.rows) block.from block.from_row }
     ensures steps { WritesWithin (block.rows * most_words block.columns) steps.old steps.new }
 {
     for row in 0..block.rows {
@@ -139,18 +137,19 @@ fn narrow_row<L: Ledger>(
     line: Line,
     steps: &mut Steps<L>,
 )
-    requires packed { IsPacked shape.width shape.height shape.stride words.old }
-    requires source_packed { IsPacked source_shape.width source_shape.height source_shape.stride source.now }
+    requires packed { HasShape shape words.old }
+    requires source_packed { HasShape source_shape source.now }
     requires some { 1 ≤ line.columns }
     requires right { line.left + line.columns ≤ shape.width }
     requires row { line.y < shape.height }
     requires source_right { line.from + line.columns ≤ source_shape.width }
     requires source_row { line.from_y < source_shape.height }
     requires one_word { line.from / 64 ≡ (line.from + line.columns - 1) / 64 }
-    ensures packed { IsPacked shape.width shape.height shape.stride words.new }
-    ensures value { packed_grid shape.width shape.height shape.stride words.new
-        ≡ with_run operator (packed_grid shape.width shape.height shape.stride words.old) line.left line.y line.columns
-        (λ i. pixel_at (packed_grid source_shape.width source_shape.height source_shape.stride source.now) (line.from + (i - line.left)) line.from_y) }
+    ensures packed { HasShape shape words.new }
+    ensures value { grid_in shape words.new
+        ≡ with_run operator (grid_in shape words.old) line.left line.y line.columns
+        (λ i. pixel_at (grid_in source_shape source.now) (line.from + (i - line.left))
+        line.from_y) }
     ensures steps { WritesWithin (most_words line.columns) steps.old steps.new }
 {
     steps.load();
@@ -188,8 +187,8 @@ fn aligned_row<L: Ledger>(
     line: Line,
     steps: &mut Steps<L>,
 )
-    requires packed { IsPacked shape.width shape.height shape.stride words.old }
-    requires source_packed { IsPacked source_shape.width source_shape.height source_shape.stride source.now }
+    requires packed { HasShape shape words.old }
+    requires source_packed { HasShape source_shape source.now }
     requires some { 1 ≤ line.columns }
     requires right { line.left + line.columns ≤ shape.width }
     requires row { line.y < shape.height }
@@ -197,10 +196,11 @@ fn aligned_row<L: Ledger>(
     requires source_row { line.from_y < source_shape.height }
     requires aligned { line.left % 64 ≡ line.from % 64 }
     requires wide { line.left / 64 < (line.left + line.columns - 1) / 64 }
-    ensures packed { IsPacked shape.width shape.height shape.stride words.new }
-    ensures value { packed_grid shape.width shape.height shape.stride words.new
-        ≡ with_run operator (packed_grid shape.width shape.height shape.stride words.old) line.left line.y line.columns
-        (λ i. pixel_at (packed_grid source_shape.width source_shape.height source_shape.stride source.now) (line.from + (i - line.left)) line.from_y) }
+    ensures packed { HasShape shape words.new }
+    ensures value { grid_in shape words.new
+        ≡ with_run operator (grid_in shape words.old) line.left line.y line.columns
+        (λ i. pixel_at (grid_in source_shape source.now) (line.from + (i - line.left))
+        line.from_y) }
     ensures steps { WritesWithin (most_words line.columns) steps.old steps.new }
 {
     let offset = line.left % 64;
@@ -259,16 +259,17 @@ fn combine_run<L: Ledger>(
     bits: u64,
     steps: &mut Steps<L>,
 )
-    requires packed { IsPacked shape.width shape.height shape.stride words.old }
+    requires packed { HasShape shape words.old }
     requires some { 1 ≤ run.count }
     requires one_word { run.offset + run.count ≤ 64 }
     requires right { 64 * run.word + run.offset + run.count ≤ shape.width }
     requires row { run.y < shape.height }
-    ensures packed { IsPacked shape.width shape.height shape.stride words.new }
-    ensures value { packed_grid shape.width shape.height shape.stride words.new
-        ≡ with_run operator (packed_grid shape.width shape.height shape.stride words.old)
-        (64 * run.word + run.offset) run.y run.count (λ i. bit bits (63 - i % 64)) }
-    ensures steps { steps.new ≡ record steps.old { loads = steps.old.loads + 1; words = steps.old.words + 1 } }
+    ensures packed { HasShape shape words.new }
+    ensures value { grid_in shape words.new
+        ≡ with_run operator (grid_in shape words.old) (64 * run.word + run.offset) run.y run.count
+        (λ i. bit bits (63 - i % 64)) }
+    ensures steps { steps.new
+        ≡ record steps.old { loads = steps.old.loads + 1; words = steps.old.words + 1 } }
 {
     steps.load();
     steps.word();
