@@ -174,6 +174,65 @@ bit-with_field word shift count bits b within inside =
     (cases_lt b (shift + count)))
     (cases_lt b shift)
 
+-- ---- a mask: `(MAX >> (64 - count)) << (64 - offset - count)`
+pub mask-inside : (offset count b : ℕ) → offset + count ≤ 64 → 64 - offset - count ≤ b → b < 64 - offset → bit ((2 ^ 64 - 1) / 2 ^ (64 - count) * 2 ^ (64 - offset - count) % 2 ^ 64) b ≡ true
+mask-inside offset count b within low high =
+    bit-shl_high ((2 ^ 64 - 1) / 2 ^ (64 - count)) (64 - offset - count) 64 b low (omega arith)
+    ∙ ap (λ (n : ℕ). bit n (b - (64 - offset - count))) (ones-shr count (omega arith))
+    ∙ bit-ones count (b - (64 - offset - count)) (omega arith)
+
+pub mask-below : (offset count b : ℕ) → offset + count ≤ 64 → b < 64 - offset - count → bit ((2 ^ 64 - 1) / 2 ^ (64 - count) * 2 ^ (64 - offset - count) % 2 ^ 64) b ≡ false
+mask-below offset count b within below = bit-shl_low ((2 ^ 64 - 1) / 2 ^ (64 - count)) (64 - offset - count) 64 b below (omega arith)
+
+pub mask-above : (offset count b : ℕ) → offset + count ≤ 64 → b < 64 → 64 - offset ≤ b → bit ((2 ^ 64 - 1) / 2 ^ (64 - count) * 2 ^ (64 - offset - count) % 2 ^ 64) b ≡ false
+mask-above offset count b within inside above =
+    bit-shl_high ((2 ^ 64 - 1) / 2 ^ (64 - count)) (64 - offset - count) 64 b (omega arith) inside
+    ∙ ap (λ (n : ℕ). bit n (b - (64 - offset - count))) (ones-shr count (omega arith))
+    ∙ bit-ones_above count (b - (64 - offset - count)) (omega arith)
+
+-- the operators under a mask
+or-test : (p s m : Bool) → (p || (s && m)) ≡ cond m (p || s) p
+or-test p s m = grind arith
+
+and-test : (p s m : Bool) → (p && (s || not m)) ≡ cond m (p && s) p
+and-test p s m = grind arith
+
+xor-test : (p s m : Bool) → cond p (not (s && m)) (s && m) ≡ cond m (cond p (not s) s) p
+xor-test p s m = grind arith
+
+xnor-test : (p s m : Bool) → cond p (not (not s && m)) (not s && m) ≡ cond m (cond p s (not s)) p
+xnor-test p s m = grind arith
+
+replace-test : (p s m : Bool) → ((p && not m) || (s && m)) ≡ cond m s p
+replace-test p s m = grind arith
+
+pub masked-or : (page source mask b : ℕ) → bit (bit_or page (bit_and source mask)) b ≡ cond (bit mask b) (bit page b || bit source b) (bit page b)
+masked-or page source mask b =
+    bit-or page (bit_and source mask) b
+    ∙ ap (λ (t : Bool). bit page b || t) (bit-and source mask b)
+    ∙ or-test (bit page b) (bit source b) (bit mask b)
+
+pub masked-and : (page source mask b : ℕ) → mask < 2 ^ 64 → b < 64 → bit (bit_and page (bit_or source (2 ^ 64 - 1 - mask))) b ≡ cond (bit mask b) (bit page b && bit source b) (bit page b)
+masked-and page source mask b small inside =
+    bit-and page (bit_or source (2 ^ 64 - 1 - mask)) b
+    ∙ ap (λ (t : Bool). bit page b && t) (bit-or source (2 ^ 64 - 1 - mask) b ∙ ap (λ (t : Bool). bit source b || t) (bit-not mask b small inside))
+    ∙ and-test (bit page b) (bit source b) (bit mask b)
+
+pub masked-xor : (page source mask b : ℕ) → bit (bit_xor page (bit_and source mask)) b ≡ cond (bit mask b) (cond (bit page b) (not (bit source b)) (bit source b)) (bit page b)
+masked-xor page source mask b =
+    bit-xor page (bit_and source mask) b
+    ∙ ap (λ (t : Bool). cond (bit page b) (not t) t) (bit-and source mask b)
+    ∙ xor-test (bit page b) (bit source b) (bit mask b)
+
+pub masked-xnor : (page source mask b : ℕ) → source < 2 ^ 64 → b < 64 → bit (bit_xor page (bit_and (2 ^ 64 - 1 - source) mask)) b ≡ cond (bit mask b) (cond (bit page b) (bit source b) (not (bit source b))) (bit page b)
+masked-xnor page source mask b small inside =
+    bit-xor page (bit_and (2 ^ 64 - 1 - source) mask) b
+    ∙ ap (λ (t : Bool). cond (bit page b) (not t) t) (bit-and (2 ^ 64 - 1 - source) mask b ∙ ap (λ (t : Bool). t && bit mask b) (bit-not source b small inside))
+    ∙ xnor-test (bit page b) (bit source b) (bit mask b)
+
+pub masked-replace : (page source mask b : ℕ) → mask < 2 ^ 64 → b < 64 → bit (bit_or (bit_and page (2 ^ 64 - 1 - mask)) (bit_and source mask)) b ≡ cond (bit mask b) (bit source b) (bit page b)
+masked-replace page source mask b small inside = masked page mask source b small inside ∙ replace-test (bit page b) (bit source b) (bit mask b)
+
 -- `a ^ b ^ (MAX >> (64 - count))`
 flips : (p s o : Bool) → o ≡ true → cond (cond p (not s) s) (not o) o ≡ cond p s (not s)
 flips true true o e = e

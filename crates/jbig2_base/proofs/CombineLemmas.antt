@@ -96,10 +96,10 @@ rows-combined operator page source after x y left from columns top from_row rows
     ∙ block-combined operator page source x y left from columns top from_row rows across down
 
 -- there is nothing to draw
-pub none-combined : (operator : CombinationOperator) (page source : Grid) (x y : ℤ) (left from columns top from_row rows : ℕ) → Axis x page.width source.width left from columns → Axis y page.height source.height top from_row rows → IsTable page → columns ≡ 0 → page ≡ combined operator page source x y
+pub none-combined : (operator : CombinationOperator) (page source : Grid) (x y : ℤ) (left from columns top from_row rows : ℕ) → Axis x page.width source.width left from columns → Axis y page.height source.height top from_row rows → IsTable page → (columns ≡ 0) ⊎ (rows ≡ 0) → page ≡ combined operator page source x y
 none-combined operator page source x y left from columns top from_row rows across down known none =
     rows-combined operator page source page x y left from columns top from_row rows rows across down refl
-    (block-none operator page source left (left + columns) top (top + rows) from from_row known (inl (omega arith)))
+    (block-none operator page source left (left + columns) top (top + rows) from from_row known (⊎_elim (λ (e : columns ≡ 0). inl (omega arith)) (λ (e : rows ≡ 0). inr (omega arith)) none))
 
 pub within-overlap : (page source : Grid) (x y : ℤ) (left from columns top from_row rows done : ℕ) (s t : Counts) → Axis x page.width source.width left from columns → Axis y page.height source.height top from_row rows → done ≡ rows → WritesWithin (done * most_words columns) s t → WritesWithin (overlap page.height source.height y * most_words (overlap page.width source.width x)) s t
 within-overlap page source x y left from columns top from_row rows done s t across down all within =

@@ -50,3 +50,59 @@ within-more rows left columns n s t u some before words e =
       groups = ap (λ (c : Counts). c.groups) e ∙ before.groups;
       pixels = ap (λ (c : Counts). c.pixels) e ∙ before.pixels;
     }
+
+-- a row that is read once and written in a word, or in two
+pub within-word : (columns : ℕ) (s loaded t : Counts) → 0 < columns → loaded ≡ record s { loads = s.loads + 1 } → t ≡ record loaded { loads = loaded.loads + 1; words = loaded.words + 1 } → WritesWithin (most_words columns) s t
+within-word columns s loaded t some p q =
+    let most = most_words-at columns some in
+    record {
+      words = omega (arith, most, ap (λ (c : Counts). c.words) p, ap (λ (c : Counts). c.words) q);
+      loads = omega (arith, most, ap (λ (c : Counts). c.loads) p, ap (λ (c : Counts). c.loads) q);
+      decisions = ap (λ (c : Counts). c.decisions) q ∙ ap (λ (c : Counts). c.decisions) p;
+      run_tests = ap (λ (c : Counts). c.run_tests) q ∙ ap (λ (c : Counts). c.run_tests) p;
+      groups = ap (λ (c : Counts). c.groups) q ∙ ap (λ (c : Counts). c.groups) p;
+      pixels = ap (λ (c : Counts). c.pixels) q ∙ ap (λ (c : Counts). c.pixels) p;
+    }
+
+pub within-two : (columns : ℕ) (s loaded t u : Counts) → 0 < columns → loaded ≡ record s { loads = s.loads + 1 } → t ≡ record loaded { loads = loaded.loads + 1; words = loaded.words + 1 } → u ≡ record t { loads = t.loads + 1; words = t.words + 1 } → WritesWithin (most_words columns) s u
+within-two columns s loaded t u some p q r =
+    let most = most_words-at columns some in
+    record {
+      words = omega (arith, most, ap (λ (c : Counts). c.words) p, ap (λ (c : Counts). c.words) q, ap (λ (c : Counts). c.words) r);
+      loads = omega (arith, most, ap (λ (c : Counts). c.loads) p, ap (λ (c : Counts). c.loads) q, ap (λ (c : Counts). c.loads) r);
+      decisions = ap (λ (c : Counts). c.decisions) r ∙ ap (λ (c : Counts). c.decisions) q ∙ ap (λ (c : Counts). c.decisions) p;
+      run_tests = ap (λ (c : Counts). c.run_tests) r ∙ ap (λ (c : Counts). c.run_tests) q ∙ ap (λ (c : Counts). c.run_tests) p;
+      groups = ap (λ (c : Counts). c.groups) r ∙ ap (λ (c : Counts). c.groups) q ∙ ap (λ (c : Counts). c.groups) p;
+      pixels = ap (λ (c : Counts). c.pixels) r ∙ ap (λ (c : Counts). c.pixels) q ∙ ap (λ (c : Counts). c.pixels) p;
+    }
+
+-- a load, and a word under a load
+pub after_words-run : (s t loaded u : Counts) (m n : ℕ) → t ≡ after_words s m → loaded ≡ record t { loads = t.loads + 1 } → u ≡ record loaded { loads = loaded.loads + 1; words = loaded.words + 1 } → n ≡ m + 1 → u ≡ after_words s n
+after_words-run s t loaded u m n e p q f =
+    q
+    ∙ ap (λ (c : Counts). let made : Counts = record c { loads = c.loads + 1; words = c.words + 1 } in made) p
+    ∙ after_words-more s t m n e f
+
+pub within-words : (left columns n : ℕ) (s t : Counts) → 0 < columns → n ≡ (left + columns - 1) / 64 + 1 - left / 64 → t ≡ after_words s n → WritesWithin (most_words columns) s t
+within-words left columns n s t some words e =
+    let most = most_words-at columns some in
+    let few : n ≤ most_words columns = omega (arith, most, words) in
+    record {
+      words = omega (arith, few, ap (λ (c : Counts). c.words) e);
+      loads = omega (arith, few, ap (λ (c : Counts). c.loads) e);
+      decisions = ap (λ (c : Counts). c.decisions) e;
+      run_tests = ap (λ (c : Counts). c.run_tests) e;
+      groups = ap (λ (c : Counts). c.groups) e;
+      pixels = ap (λ (c : Counts). c.pixels) e;
+    }
+
+-- a row after others
+pub within-then : (rows most : ℕ) (s t u : Counts) → WritesWithin (rows * most) s t → WritesWithin most t u → WritesWithin ((rows + 1) * most) s u
+within-then rows most s t u before row = record {
+  words = omega (arith, before.words, row.words);
+  loads = omega (arith, before.loads, row.loads);
+  decisions = row.decisions ∙ before.decisions;
+  run_tests = row.run_tests ∙ before.run_tests;
+  groups = row.groups ∙ before.groups;
+  pixels = row.pixels ∙ before.pixels;
+}

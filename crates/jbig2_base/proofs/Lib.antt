@@ -14,6 +14,7 @@ mod NumberLemmas
 mod PackedLemmas
 pub mod RandomAccess
 pub mod ReaderLemmas
+mod RunLemmas
 pub mod SearchLemmas
 pub mod SegmentLemmas
 pub mod Sequential

@@ -3,6 +3,7 @@ pub mod Colour
 pub mod Filled
 pub mod Packed
 pub mod SegmentViews
+pub mod Shapes
 pub mod Table
 pub mod WordBits
 pub mod Writes

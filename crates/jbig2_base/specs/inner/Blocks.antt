@@ -1,6 +1,6 @@
 -- A block of a page combined with the pixels of a source that lie on it (T.88, 7.4.1.5): the
 -- combination of two bitmaps, once the places where they overlap are known.
-use Rattle.std.specs.Prelude.{ℕ, ◌+◌, ◌-◌, Bool, ◌&&◌, nat_le, nat_lt, if◌then◌else◌}
+use Rattle.std.specs.Prelude.{ℕ, ◌+◌, ◌-◌, ◌==◌, Bool, ◌&&◌, nat_le, nat_lt, if◌then◌else◌}
 use Rattle.jbig2_base.specs.declared.bitmap.operator.CombinationOperator.{CombinationOperator}
 use Rattle.jbig2_base.specs.Grid.{Grid, grid_of, pixel_at}
 use Rattle.jbig2_base.specs.Operator.{combined_pixel}
@@ -15,3 +15,7 @@ block_pixel operator page source left right top bottom from from_row i j =
 
 abbrev pub with_block : CombinationOperator → Grid → Grid → ℕ → ℕ → ℕ → ℕ → ℕ → ℕ → Grid
 with_block operator page source left right top bottom from from_row = grid_of page.width page.height (block_pixel operator page source left right top bottom from from_row)
+
+-- The pixels of row y from column x on, `count` of them, are each combined with that of their column in another row.
+abbrev pub with_run : CombinationOperator → Grid → ℕ → ℕ → ℕ → (ℕ → Bool) → Grid
+with_run operator page x y count row = grid_of page.width page.height (λ i j. if j == y && nat_le x i && nat_lt i (x + count) then combined_pixel operator (pixel_at page i j) (row i) else pixel_at page i j)

@@ -1,6 +1,7 @@
 -- How rows of pixels lie in words of 64 bits (our own rule): each row begins with a word, the
 -- leftmost pixel of a word is its highest bit, and what lies past the width is zero.
 use Rattle.std.specs.Prelude.{◌≡◌, ℕ, ◌+◌, ◌-◌, ◌*◌, ◌/◌, ◌%◌, ◌^◌, ◌<◌, ◌≤◌, ◌==◌, Bool, true, false, if◌then◌else◌, List, length, slice_index}
+use Rattle.jbig2_base.specs.Grid.{Grid, grid_of}
 use Rattle.jbig2_base.specs.inner.WordBits.{bit}
 
 -- the number of words of a row
@@ -10,6 +11,10 @@ stride_of w = (w + 63) / 64
 -- the pixel at column x of row y
 unfoldable pub packed_pixel : ℕ → List ℕ → ℕ → ℕ → Bool
 packed_pixel stride words x y = bit (slice_index words (y * stride + x / 64)) (63 - x % 64)
+
+-- all pixels
+abbrev pub packed_grid : ℕ → ℕ → ℕ → List ℕ → Grid
+packed_grid w h stride words = grid_of w h (packed_pixel stride words)
 
 pub record IsPacked (w h stride : ℕ) (words : List ℕ) : Type 0 where
   pub strided : stride ≡ stride_of w

@@ -8,6 +8,7 @@ ghost use Rattle.jbig2_base.specs.inner.WordBits.{bit};
 
 use crate::bitmap::Bitmap;
 use crate::bitmap::operator::CombinationOperator;
+use crate::bitmap::rows::blocks::Block;
 use crate::bitmap::steps::Steps;
 use std::alloc::Allocator;
 use std::sync::ledger::Ledger;
@@ -39,55 +40,104 @@ impl<A: Allocator> Bitmap<A> {
         ensures steps { WritesWithin (overlap self.old.height other.now.height y
             * most_words (overlap self.old.width other.now.width x)) steps.old steps.new }
     {
-        match operator {
-            CombinationOperator::Or => {
-                self.combine_by(other, x, y, CombinationOperator::Or, steps);
-            }
-            CombinationOperator::And => {
-                self.combine_by(other, x, y, CombinationOperator::And, steps);
-            }
-            CombinationOperator::Xor => {
-                self.combine_by(other, x, y, CombinationOperator::Xor, steps);
-            }
-            CombinationOperator::Xnor => {
-                self.combine_by(other, x, y, CombinationOperator::Xnor, steps);
-            }
-            CombinationOperator::Replace => {
-                self.combine_by(other, x, y, CombinationOperator::Replace, steps);
-            }
-        }
-    }
-
-    /// The same by an operator that the compiler knows: each has a loop of its own.
-    #[inline(always)]
-    fn combine_by<B: Allocator, L: Ledger>(
-        &mut self,
-        other: &Bitmap<B>,
-        x: i32,
-        y: i32,
-        operator: CombinationOperator,
-        steps: &mut Steps<L>,
-    )
-        ensures value { self.new ≡ combined operator self.old other.now x y }
-        ensures steps { WritesWithin (overlap self.old.height other.now.height y * most_words (overlap self.old.width other.now.width x)) steps.old steps.new }
-    {
         let (left, from) = starts(x);
         let (top, from_row) = starts(y);
         let columns = (other.width().saturating_sub(from)).min(self.width().saturating_sub(left));
         let rows = (other.height().saturating_sub(from_row)).min(self.height().saturating_sub(top));
-        if columns == 0 {
+        if columns == 0 || rows == 0 {
             return;
         }
-        for row in 0..rows {
-            let span = Span {
-                left,
-                right: left + columns,
-                row: top + row,
-                from,
-                from_row: from_row + row,
-            };
-            combine_row(self, other, operator, span, steps);
+        let block = Block {
+            left,
+            top,
+            columns,
+            rows,
+            from,
+            from_row,
+        };
+        combine_block(self, other, operator, block, steps);
+    }
+}
+
+/// Combines a block of the page with the source's pixels that lie on it.
+fn combine_block<A: Allocator, B: Allocator, L: Ledger>(
+    page: &mut Bitmap<A>,
+    source: &Bitmap<B>,
+    operator: CombinationOperator,
+    block: Block,
+    steps: &mut Steps<L>,
+)
+    requires table { IsTable page.old }
+    requires some { 1 ≤ block.columns }
+    requires right { block.left + block.columns ≤ page.old.width }
+    requires bottom { block.top + block.rows ≤ page.old.height }
+    requires source_right { block.from + block.columns ≤ source.now.width }
+    requires source_bottom { block.from_row + block.rows ≤ source.now.height }
+    requires columns_fit { block.left + block.columns < 2 ^ 32 }
+    requires rows_fit { block.top + block.rows < 2 ^ 32 }
+    requires source_columns_fit { block.from + block.columns < 2 ^ 32 }
+    requires source_rows_fit { block.from_row + block.rows < 2 ^ 32 }
+    ensures value { page.new ≡ with_block operator page.old source.now block.left
+        (block.left + block.columns) block.top (block.top + block.rows) block.from block.from_row }
+    ensures steps { WritesWithin (block.rows * most_words block.columns) steps.old steps.new }
+{
+    match operator {
+        CombinationOperator::Or => {
+            combine_by(page, source, CombinationOperator::Or, block, steps);
         }
+        CombinationOperator::And => {
+            combine_by(page, source, CombinationOperator::And, block, steps);
+        }
+        CombinationOperator::Xor => {
+            combine_by(page, source, CombinationOperator::Xor, block, steps);
+        }
+        CombinationOperator::Xnor => {
+            combine_by(page, source, CombinationOperator::Xnor, block, steps);
+        }
+        CombinationOperator::Replace => {
+            combine_by(page, source, CombinationOperator::Replace, block, steps);
+        }
+    }
+}
+
+/// The same by an operator that the compiler knows: each has loops of its own.
+#[inline(always)]
+fn combine_by<A: Allocator, B: Allocator, L: Ledger>(
+    page: &mut Bitmap<A>,
+    source: &Bitmap<B>,
+    operator: CombinationOperator,
+    block: Block,
+    steps: &mut Steps<L>,
+)
+    requires table { IsTable page.old }
+    requires some { 1 ≤ block.columns }
+    requires right { block.left + block.columns ≤ page.old.width }
+    requires bottom { block.top + block.rows ≤ page.old.height }
+    requires source_right { block.from + block.columns ≤ source.now.width }
+    requires source_bottom { block.from_row + block.rows ≤ source.now.height }
+    requires columns_fit { block.left + block.columns < 2 ^ 32 }
+    requires rows_fit { block.top + block.rows < 2 ^ 32 }
+    requires source_columns_fit { block.from + block.columns < 2 ^ 32 }
+    requires source_rows_fit { block.from_row + block.rows < 2 ^ 32 }
+    ensures value { page.new ≡ with_block operator page.old source.now block.left
+        (block.left + block.columns) block.top (block.top + block.rows) block.from block.from_row }
+    ensures steps { WritesWithin (block.rows * most_words block.columns) steps.old steps.new }
+{
+    let last = block.from + block.columns - 1;
+    if block.from / 64 == last / 64 || block.left % 64 == block.from % 64 {
+        page.rows
+            .combine_block(&source.rows, operator, block, steps);
+        return;
+    }
+    for row in 0..block.rows {
+        let span = Span {
+            left: block.left,
+            right: block.left + block.columns,
+            row: block.top + row,
+            from: block.from,
+            from_row: block.from_row + row,
+        };
+        combine_row(page, source, operator, span, steps);
     }
 }
 
@@ -101,33 +151,6 @@ fn starts(x: i32) -> (u32, u32)
         return (0, x.unsigned_abs());
     }
     (x as u32, 0)
-}
-
-/// Combines one span that lies in one word of the page and in one word of the source.
-#[inline(always)]
-fn combine_word<A: Allocator, B: Allocator, L: Ledger>(
-    page: &mut Bitmap<A>,
-    source: &Bitmap<B>,
-    operator: CombinationOperator,
-    span: Span,
-    steps: &mut Steps<L>,
-)
-    requires table { IsTable page.old }
-    requires some { span.left < span.right }
-    requires inside { span.right ≤ page.old.width }
-    requires row { span.row < page.old.height }
-    requires source { span.from + (span.right - span.left) ≤ source.now.width }
-    requires source_row { span.from_row < source.now.height }
-    requires one_word { span.left / 64 ≡ (span.right - 1) / 64 }
-    requires one_source_word { span.from / 64 ≡ (span.from + (span.right - span.left) - 1) / 64 }
-    ensures value { page.new ≡ with_block operator page.old source.now span.left span.right span.row (span.row + 1) span.from span.from_row }
-    ensures steps { let words = (span.right - 1) / 64 + 1 - span.left / 64 in steps.new ≡ record steps.old { words = steps.old.words + words; loads = steps.old.loads + 2 * words } }
-{
-    let count = span.right - span.left;
-    let page_bits = page.load_inside(span.left, span.row, count, steps);
-    let source_bits = source.load_inside(span.from, span.from_row, count, steps);
-    let bits = combined_bits(operator, page_bits, source_bits, count);
-    page.store_pixels(span.left, span.row, count, bits, steps);
 }
 
 /// Combines one span, word by word of the page.
@@ -151,11 +174,6 @@ fn combine_row<A: Allocator, B: Allocator, L: Ledger>(
 {
     let left = span.left;
     let right = span.right;
-    let last = span.from + (right - left) - 1;
-    if left / 64 == (right - 1) / 64 && span.from / 64 == last / 64 {
-        combine_word(page, source, operator, span, steps);
-        return;
-    }
     for index in left / 64..(right - 1) / 64 + 1 {
         let start = left.max(index * 64);
         let count = (right - start).min(64 - start % 64);

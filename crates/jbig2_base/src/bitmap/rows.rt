@@ -1,16 +1,22 @@
 //! Rows of pixels packed into words. Only this module knows the size of a word.
-ghost use Rattle.std.specs.Prelude.{◌≡◌, ℕ, ◌+◌, ◌-◌, ◌*◌, ◌/◌, ◌^◌, ◌<◌, ◌≤◌, OnErr, Ok, true, false, length, slice_index};
+ghost use Rattle.std.specs.Prelude.{◌≡◌, ℕ, ◌+◌, ◌-◌, ◌*◌, ◌/◌, ◌%◌, ◌^◌, ◌<◌, ◌≤◌, OnErr, Ok, true, false, length, slice_index};
 ghost use Rattle.jbig2_base.specs.Answer.{Gives};
 ghost use Rattle.jbig2_base.specs.Counts.{words_copied};
 ghost use Rattle.jbig2_base.specs.Sizes.{words_of};
 ghost use Rattle.jbig2_base.specs.Grid.{blank, pixel_at, bit_number};
+ghost use Rattle.jbig2_base.specs.Combination.{most_words, WritesWithin};
+ghost use Rattle.jbig2_base.specs.inner.Blocks.{with_block};
 ghost use Rattle.jbig2_base.specs.inner.Packed.{blank_word};
 ghost use Rattle.jbig2_base.specs.inner.Table.{IsTable};
 ghost use Rattle.jbig2_base.specs.inner.WordBits.{bit, field_bit};
 ghost use Rattle.jbig2_base.specs.inner.Writes.{with_pixel, with_pixels};
 
+pub mod blocks;
+
+use crate::bitmap::operator::CombinationOperator;
 use crate::bitmap::steps::Steps;
 use crate::error::Result;
+use blocks::{Block, Shape, aligned_rows, narrow_rows};
 use std::alloc::Allocator;
 use std::marker::Model;
 use std::sync::ledger::Ledger;
@@ -210,6 +216,62 @@ impl<A: Allocator> PackedRows<A> {
         steps.word();
         let index = y as usize * self.stride + (x / 64) as usize;
         self.words[index] = with_field(self.words[index], 64 - x % 64 - count, count, bits);
+    }
+
+    /// Combines a block with the source's pixels that lie on it, if each row of it lies in one word
+    /// of the source, or begins at the same place of a word in both and takes two words or more.
+    #[inline(always)]
+    pub fn combine_block<B: Allocator, L: Ledger>(
+        &mut self,
+        source: &PackedRows<B>,
+        operator: CombinationOperator,
+        block: Block,
+        steps: &mut Steps<L>,
+    )
+        requires some { 1 ≤ block.columns }
+        requires right { block.left + block.columns ≤ self.old.width }
+        requires bottom { block.top + block.rows ≤ self.old.height }
+        requires source_right { block.from + block.columns ≤ source.now.width }
+        requires source_bottom { block.from_row + block.rows ≤ source.now.height }
+        requires aligned { block.from / 64 < (block.from + block.columns - 1) / 64
+            → block.left % 64 ≡ block.from % 64 }
+        ensures value { self.new ≡ with_block operator self.old source.now block.left
+            (block.left + block.columns) block.top (block.top + block.rows) block.from
+            block.from_row }
+        ensures steps { WritesWithin (block.rows * most_words block.columns) steps.old steps.new }
+    {
+        let shape = Shape {
+            width: self.width,
+            height: self.height,
+            stride: self.stride,
+        };
+        let source_shape = Shape {
+            width: source.width,
+            height: source.height,
+            stride: source.stride,
+        };
+        let words = &mut self.words;
+        if block.from / 64 == (block.from + block.columns - 1) / 64 {
+            narrow_rows(
+                words,
+                shape,
+                &source.words,
+                source_shape,
+                operator,
+                block,
+                steps,
+            );
+            return;
+        }
+        aligned_rows(
+            words,
+            shape,
+            &source.words,
+            source_shape,
+            operator,
+            block,
+            steps,
+        );
     }
 }
 

@@ -1,0 +1,294 @@
+//! Blocks of a page combined with a source, where the pixels that lie on a word of the page lie in
+//! one word of the source.
+ghost use Rattle.std.specs.Prelude.{◌≡◌, ℕ, ◌+◌, ◌-◌, ◌*◌, ◌/◌, ◌%◌, ◌<◌, ◌≤◌, if◌then◌else◌};
+ghost use Rattle.jbig2_base.specs.Combination.{most_words, WritesWithin};
+ghost use Rattle.jbig2_base.specs.Grid.{pixel_at};
+ghost use Rattle.jbig2_base.specs.Operator.{combined_pixel};
+ghost use Rattle.jbig2_base.specs.inner.Blocks.{with_block, with_run};
+ghost use Rattle.jbig2_base.specs.inner.Shapes.{HasShape, grid_in};
+ghost use Rattle.jbig2_base.specs.inner.WordBits.{bit};
+
+use crate::bitmap::operator::CombinationOperator;
+use crate::bitmap::steps::Steps;
+use std::sync::ledger::Ledger;
+
+/// A block of a page, and the first of the source's pixels that lie on it.
+#[derive(Clone, Copy)]
+pub struct Block {
+    pub left: u32,
+    pub top: u32,
+    pub columns: u32,
+    pub rows: u32,
+    pub from: u32,
+    pub from_row: u32,
+}
+
+/// How rows lie in words, `stride` of them for each row.
+#[derive(Clone, Copy)]
+pub struct Shape {
+    pub width: u32,
+    pub height: u32,
+    pub stride: usize,
+}
+
+/// One row of a block.
+#[derive(Clone, Copy)]
+struct Line {
+    left: u32,
+    columns: u32,
+    y: usize,
+    from: u32,
+    from_y: usize,
+}
+
+/// Neighbouring pixels of row `y` in one of its words, the first of them `offset` from its left.
+#[derive(Clone, Copy)]
+struct Run {
+    y: usize,
+    word: usize,
+    offset: u32,
+    count: u32,
+}
+
+/// Combines a block whose rows lie each in one word of the source.
+#[inline(always)]
+pub fn narrow_rows<L: Ledger>(
+    words: &mut [u64],
+    shape: Shape,
+    source: &[u64],
+    source_shape: Shape,
+    operator: CombinationOperator,
+    block: Block,
+    steps: &mut Steps<L>,
+)
+    requires packed { HasShape shape words.old }
+    requires source_packed { HasShape source_shape source.now }
+    requires some { 1 ≤ block.columns }
+    requires right { block.left + block.columns ≤ shape.width }
+    requires bottom { block.top + block.rows ≤ shape.height }
+    requires source_right { block.from + block.columns ≤ source_shape.width }
+    requires source_bottom { block.from_row + block.rows ≤ source_shape.height }
+    requires one_word { block.from / 64 ≡ (block.from + block.columns - 1) / 64 }
+    ensures packed { HasShape shape words.new }
+    ensures value { grid_in shape words.new
+        ≡ with_block operator (grid_in shape words.old) (grid_in source_shape source.now) block.left
+        (block.left + block.columns) block.top (block.top + block.rows) block.from block.from_row }
+    ensures steps { WritesWithin (block.rows * most_words block.columns) steps.old steps.new }
+{
+    for row in 0..block.rows {
+        let line = Line {
+            left: block.left,
+            columns: block.columns,
+            y: block.top as usize + row as usize,
+            from: block.from,
+            from_y: block.from_row as usize + row as usize,
+        };
+        narrow_row(words, shape, source, source_shape, operator, line, steps);
+    }
+}
+
+/// Combines a block that begins at the same place of a word in page and source, in rows of two
+/// words or more.
+#[inline(always)]
+pub fn aligned_rows<L: Ledger>(
+    words: &mut [u64],
+    shape: Shape,
+    source: &[u64],
+    source_shape: Shape,
+    operator: CombinationOperator,
+    block: Block,
+    steps: &mut Steps<L>,
+)
+    requires packed { HasShape shape words.old }
+    requires source_packed { HasShape source_shape source.now }
+    requires some { 1 ≤ block.columns }
+    requires right { block.left + block.columns ≤ shape.width }
+    requires bottom { block.top + block.rows ≤ shape.height }
+    requires source_right { block.from + block.columns ≤ source_shape.width }
+    requires source_bottom { block.from_row + block.rows ≤ source_shape.height }
+    requires aligned { block.left % 64 ≡ block.from % 64 }
+    requires wide { block.left / 64 < (block.left + block.columns - 1) / 64 }
+    ensures packed { HasShape shape words.new }
+    ensures value { grid_in shape words.new
+        ≡ with_block operator (grid_in shape words.old) (grid_in source_shape source.now) block.left
+        (block.left + block.columns) block.top (block.top + block.rows) block.from block.from_row }
+    ensures steps { WritesWithin (block.rows * most_words block.columns) steps.old steps.new }
+{
+    for row in 0..block.rows {
+        let line = Line {
+            left: block.left,
+            columns: block.columns,
+            y: block.top as usize + row as usize,
+            from: block.from,
+            from_y: block.from_row as usize + row as usize,
+        };
+        aligned_row(words, shape, source, source_shape, operator, line, steps);
+    }
+}
+
+/// Combines a row that lies in one word of the source.
+#[inline(always)]
+fn narrow_row<L: Ledger>(
+    words: &mut [u64],
+    shape: Shape,
+    source: &[u64],
+    source_shape: Shape,
+    operator: CombinationOperator,
+    line: Line,
+    steps: &mut Steps<L>,
+)
+    requires packed { HasShape shape words.old }
+    requires source_packed { HasShape source_shape source.now }
+    requires some { 1 ≤ line.columns }
+    requires right { line.left + line.columns ≤ shape.width }
+    requires row { line.y < shape.height }
+    requires source_right { line.from + line.columns ≤ source_shape.width }
+    requires source_row { line.from_y < source_shape.height }
+    requires one_word { line.from / 64 ≡ (line.from + line.columns - 1) / 64 }
+    ensures packed { HasShape shape words.new }
+    ensures value { grid_in shape words.new
+        ≡ with_run operator (grid_in shape words.old) line.left line.y line.columns
+        (λ i. pixel_at (grid_in source_shape source.now) (line.from + (i - line.left))
+        line.from_y) }
+    ensures steps { WritesWithin (most_words line.columns) steps.old steps.new }
+{
+    steps.load();
+    let from = line.from_y * source_shape.stride + (line.from / 64) as usize;
+    let bits = source[from] << (line.from % 64);
+    let offset = line.left % 64;
+    let near = line.columns.min(64 - offset);
+    let first = Run {
+        y: line.y,
+        word: (line.left / 64) as usize,
+        offset,
+        count: near,
+    };
+    combine_run(words, shape, operator, first, bits >> offset, steps);
+    if near == line.columns {
+        return;
+    }
+    let rest = Run {
+        y: line.y,
+        word: (line.left / 64) as usize + 1,
+        offset: 0,
+        count: line.columns - near,
+    };
+    combine_run(words, shape, operator, rest, bits << near, steps);
+}
+
+/// Combines a row that begins at the same place of a word in page and source, of two words or more.
+#[inline(always)]
+fn aligned_row<L: Ledger>(
+    words: &mut [u64],
+    shape: Shape,
+    source: &[u64],
+    source_shape: Shape,
+    operator: CombinationOperator,
+    line: Line,
+    steps: &mut Steps<L>,
+)
+    requires packed { HasShape shape words.old }
+    requires source_packed { HasShape source_shape source.now }
+    requires some { 1 ≤ line.columns }
+    requires right { line.left + line.columns ≤ shape.width }
+    requires row { line.y < shape.height }
+    requires source_right { line.from + line.columns ≤ source_shape.width }
+    requires source_row { line.from_y < source_shape.height }
+    requires aligned { line.left % 64 ≡ line.from % 64 }
+    requires wide { line.left / 64 < (line.left + line.columns - 1) / 64 }
+    ensures packed { HasShape shape words.new }
+    ensures value { grid_in shape words.new
+        ≡ with_run operator (grid_in shape words.old) line.left line.y line.columns
+        (λ i. pixel_at (grid_in source_shape source.now) (line.from + (i - line.left))
+        line.from_y) }
+    ensures steps { WritesWithin (most_words line.columns) steps.old steps.new }
+{
+    let offset = line.left % 64;
+    let first = (line.left / 64) as usize;
+    let last = ((line.left + line.columns - 1) / 64) as usize;
+    let from = line.from_y * source_shape.stride + (line.from / 64) as usize;
+    let begin = Run {
+        y: line.y,
+        word: first,
+        offset,
+        count: 64 - offset,
+    };
+    steps.load();
+    combine_run(words, shape, operator, begin, source[from], steps);
+    for word in first + 1..last {
+        let whole = Run {
+            y: line.y,
+            word,
+            offset: 0,
+            count: 64,
+        };
+        steps.load();
+        combine_run(
+            words,
+            shape,
+            operator,
+            whole,
+            source[from + (word - first)],
+            steps,
+        );
+    }
+    let end = Run {
+        y: line.y,
+        word: last,
+        offset: 0,
+        count: (line.left + line.columns - 1) % 64 + 1,
+    };
+    steps.load();
+    combine_run(
+        words,
+        shape,
+        operator,
+        end,
+        source[from + (last - first)],
+        steps,
+    );
+}
+
+/// Combines the pixels of a run with those at the same places of `bits`.
+#[inline(always)]
+fn combine_run<L: Ledger>(
+    words: &mut [u64],
+    shape: Shape,
+    operator: CombinationOperator,
+    run: Run,
+    bits: u64,
+    steps: &mut Steps<L>,
+)
+    requires packed { HasShape shape words.old }
+    requires some { 1 ≤ run.count }
+    requires one_word { run.offset + run.count ≤ 64 }
+    requires right { 64 * run.word + run.offset + run.count ≤ shape.width }
+    requires row { run.y < shape.height }
+    ensures packed { HasShape shape words.new }
+    ensures value { grid_in shape words.new
+        ≡ with_run operator (grid_in shape words.old) (64 * run.word + run.offset) run.y run.count
+        (λ i. bit bits (63 - i % 64)) }
+    ensures steps { steps.new
+        ≡ record steps.old { loads = steps.old.loads + 1; words = steps.old.words + 1 } }
+{
+    steps.load();
+    steps.word();
+    let place = run.y * shape.stride + run.word;
+    let mask = (u64::MAX >> (64 - run.count)) << (64 - run.offset - run.count);
+    words[place] = combined_word(operator, words[place], bits, mask);
+}
+
+/// What `operator` makes of each bit of `page` that is set in `mask`.
+#[inline(always)]
+fn combined_word(operator: CombinationOperator, page: u64, source: u64, mask: u64) -> u64
+    ensures { (b : ℕ) → b < 64 → bit result b
+        ≡ (if bit mask b then combined_pixel operator (bit page b) (bit source b) else bit page b) }
+{
+    match operator {
+        CombinationOperator::Or => page | (source & mask),
+        CombinationOperator::And => page & (source | !mask),
+        CombinationOperator::Xor => page ^ (source & mask),
+        CombinationOperator::Xnor => page ^ (!source & mask),
+        CombinationOperator::Replace => (page & !mask) | (source & mask),
+    }
+}
