@@ -180,21 +180,6 @@ impl<A: Allocator> PackedRows<A> {
         self.words[y as usize * self.stride + index as usize]
     }
 
-    /// As `load_pixels`, of pixels that lie inside and in one word.
-    #[inline(always)]
-    pub fn load_inside<L: Ledger>(&self, x: u32, y: u32, count: u32, steps: &mut Steps<L>) -> u64
-        requires some { 1 ≤ count }
-        requires columns { x + count ≤ self.now.width }
-        requires row { y < self.now.height }
-        requires one_word { x / 64 ≡ (x + count - 1) / 64 }
-        ensures bits { (k : ℕ) → k < count → bit result (count - 1 - k) ≡ pixel_at self.now (x + k) y }
-        ensures bound { result < 2 ^ count }
-        ensures steps { steps.new ≡ record steps.old { loads = steps.old.loads + 1 } }
-    {
-        steps.load();
-        (self.word_inside(x / 64, y) << (x % 64)) >> (64 - count)
-    }
-
     /// Sets `count` neighbouring pixels of row `y` from column `x` on, which lie in one word, to the
     /// lowest `count` bits of `bits`, the first to the highest of them.
     #[inline(always)]
