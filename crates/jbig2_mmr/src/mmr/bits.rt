@@ -1,10 +1,11 @@
 //! The bits of MMR data, and the codes in them (T.6).
-ghost use Rattle.std.specs.Prelude.{◌≡◌, ℕ, ◌+◌, ◌-◌, ◌*◌, ◌/◌, ◌^◌, ◌<◌, ◌≤◌, ◌++◌, List, length, drop, take, min, slice_index, [], IfSome, IsTrue, if◌then◌else◌};
+ghost use Rattle.std.specs.Prelude.{◌≡◌, ℕ, ◌+◌, ◌-◌, ◌*◌, ◌/◌, ◌^◌, ◌<◌, ◌≤◌, ◌++◌, List, length, drop, take, min, slice_index, IfSome, IsTrue, if◌then◌else◌};
 ghost use Rattle.jbig2_base.specs.Bits.{number_after};
 ghost use Rattle.jbig2_mmr.specs.T6.{read_code, run, bits_of, ends_block, after_end, is_prefix_free, runs_of};
 ghost use Rattle.jbig2_mmr.specs.T6Codes.{modes};
-ghost use Rattle.jbig2_mmr.specs.inner.T6Reading.{AreBits, with_rest, ReadRun, padded, spell, code_at};
+ghost use Rattle.jbig2_mmr.specs.inner.T6Reading.{AreBits, with_rest, ReadRun, padded};
 
+use crate::mmr::codes::modes::mode_at;
 use crate::mmr::codes::{Mode, run_entry};
 use std::marker::Model;
 
@@ -144,25 +145,6 @@ impl<'a> CodeReader<'a> {
             }
         }
         None
-    }
-}
-
-/// The mode whose code begins these 7 bits, and how many of them it takes.
-fn mode_at(bits: u32) -> Option<(Mode, u32)>
-    requires { bits < 128 }
-    ensures { result ≡ code_at modes (spell 7 bits []) }
-{
-    match bits {
-        64..=127 => Some((Mode::Vertical(0), 1)),
-        48..=63 => Some((Mode::Vertical(1), 3)),
-        32..=47 => Some((Mode::Vertical(-1), 3)),
-        16..=31 => Some((Mode::Horizontal, 3)),
-        8..=15 => Some((Mode::Pass, 4)),
-        6..=7 => Some((Mode::Vertical(2), 6)),
-        4..=5 => Some((Mode::Vertical(-2), 6)),
-        3 => Some((Mode::Vertical(3), 7)),
-        2 => Some((Mode::Vertical(-3), 7)),
-        _ => None,
     }
 }
 

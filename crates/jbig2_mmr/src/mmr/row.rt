@@ -1,12 +1,14 @@
 //! One row, mode by mode (T.6, 2.2).
-ghost use Rattle.std.specs.Prelude.{◌≡◌, ℕ, ◌+◌, ◌-◌, ◌<◌, ◌≤◌, List, length, IfSome, Some, not, true, false, ◌≢◌};
+ghost use Rattle.std.specs.Prelude.{◌≡◌, ℕ, ◌+◌, ◌-◌, ◌*◌, ◌/◌, ◌<◌, ◌≤◌, List, length, IfSome, Some, not, true, false, nat_le, if◌then◌else◌, ◌≢◌};
+ghost use Rattle.jbig2_base.specs.inner.WordBits.{bit};
+ghost use Rattle.jbig2_base.specs.Grid.{pixel_at};
 ghost use Rattle.jbig2_base.specs.inner.Table.{IsTable};
 ghost use Rattle.jbig2_mmr.specs.T6.{b1_of, after_pass, after_vertical, after_runs, next_step, row};
 ghost use Rattle.jbig2_mmr.specs.inner.T6Calls.{ReadStep, ReadRow, head_of};
 ghost use Rattle.jbig2_mmr.specs.inner.T6Reading.{row_above, row_of};
 
 use crate::mmr::bits::CodeReader;
-use crate::mmr::change::find_change;
+use crate::mmr::change::{changes_from, find_change, left_neighbours};
 use crate::mmr::codes::Mode;
 use crate::mmr::span::fill_span;
 use jbig2_base::bitmap::Bitmap;
@@ -30,14 +32,16 @@ pub struct Turn {
     next: Place,
 }
 
-/// Reads row `y`, whose reference row is the one above it. False at a fault, which leaves it white.
+/// Reads white row `y`, whose reference row is the one above it. False at a fault, which leaves it
+/// white.
 pub fn read_row<A: Allocator, L: Ledger>(
     bitmap: &mut Bitmap<A>,
     y: u32,
     reader: &mut CodeReader,
     steps: &mut Steps<L>,
 ) -> bool
-    requires { y < bitmap.old.height }
+    requires row { y < bitmap.old.height }
+    requires white { (x : ℕ) → pixel_at bitmap.old x y ≡ false }
     ensures value { ReadRow (row bitmap.old.width (row_above bitmap.old y) reader.old.left) result bitmap.old bitmap.new y reader.new.left }
     ensures bytes { reader.new.bytes ≡ reader.old.bytes }
 {
@@ -51,9 +55,16 @@ pub fn read_row<A: Allocator, L: Ledger>(
     while place.a0 < width {
         match read_turn(bitmap, above, reader, place, steps) {
             Some(turn) => {
-                fill_span(bitmap, y, place.a0, turn.turn, place.black, steps);
-                fill_span(bitmap, y, turn.turn, turn.next.a0, !place.black, steps);
-                place = turn.next;
+                if place.black {
+                    fill_span(bitmap, y, place.a0, turn.turn, true, steps);
+                } else {
+                    fill_span(bitmap, y, turn.turn, turn.next.a0, true, steps);
+                }
+                place = Place {
+                    a0: turn.next.a0,
+                    begun: true,
+                    black: turn.next.black,
+                };
             }
             None => {
                 fill_span(bitmap, y, 0, width, false, steps);
@@ -144,15 +155,17 @@ fn vertical<A: Allocator, L: Ledger>(
     distance: i32,
     steps: &mut Steps<L>,
 ) -> Option<Turn>
-    requires { place.a0 < bitmap.now.width }
+    requires column { place.a0 < bitmap.now.width }
+    requires first { place.begun ≡ false → place.a0 ≡ 0 }
     ensures { (bits : List ℕ) → ReadStep bitmap.now.width (head_of place) (after_vertical bitmap.now.width (row_of bitmap.now above) (head_of place) distance bits) result bits }
 {
     let width = bitmap.width();
     let b1 = find_b1(bitmap, above, place, steps);
-    let a1 = b1.checked_add_signed(distance)?;
-    if a1 < place.a0 || a1 > width {
+    let sum = i64::from(b1) + i64::from(distance);
+    if sum < i64::from(place.a0) || sum > i64::from(width) {
         return None;
     }
+    let a1 = sum as u32;
     Some(Turn {
         turn: a1,
         next: Place {
@@ -165,20 +178,36 @@ fn vertical<A: Allocator, L: Ledger>(
 
 /// b1: the first pixel of the reference row right of a0 that has not the colour of a0, and whose left
 /// neighbour has it.
+#[inline(always)]
 fn find_b1<A: Allocator, L: Ledger>(
     bitmap: &Bitmap<A>,
     above: u32,
     place: Place,
     steps: &mut Steps<L>,
 ) -> u32
-    requires { place.a0 < bitmap.now.width }
+    requires column { place.a0 < bitmap.now.width }
+    requires first { place.begun ≡ false → place.a0 ≡ 0 }
     ensures value { result ≡ b1_of bitmap.now.width (row_of bitmap.now above) (head_of place) }
     ensures within { result ≤ bitmap.now.width }
-    ensures forward { place.begun ≡ true → place.a0 < result }
+    ensures forward { place.a0 ≤ result }
     ensures colour { result < bitmap.now.width → row_of bitmap.now above result ≡ not place.black }
 {
-    // A column of the bitmap fits 32 bits.
-    let _ = bitmap.width();
-    let from = if place.begun { place.a0 + 1 } else { 0 };
-    find_change(bitmap, above, from, place.black, steps)
+    let width = bitmap.width();
+    let index = place.a0 / 64;
+    let pixels = bitmap.load_pixels(64 * index, above, 64, steps);
+    let changes = changes_from(pixels, left_neighbours(pixels, 0), place.black) & right_of(place);
+    if changes != 0 {
+        return (64 * index + changes.leading_zeros()).min(width);
+    }
+    find_change(bitmap, above, index + 1, pixels, place.black, steps)
+}
+
+/// The bits of a0's word where b1 may lie: right of a0, and before the first mode all.
+#[inline(always)]
+fn right_of(place: Place) -> u64
+    requires { place.begun ≡ false → place.a0 ≡ 0 }
+    ensures { (k : ℕ) → k < 64 → bit result (63 - k) ≡ nat_le (if place.begun then place.a0 + 1 else 0) (64 * (place.a0 / 64) + k) }
+{
+    let right = u64::MAX >> (place.a0 % 64);
+    if place.begun { right >> 1 } else { right }
 }

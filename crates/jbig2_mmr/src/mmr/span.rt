@@ -10,6 +10,7 @@ use std::alloc::Allocator;
 use std::sync::ledger::Ledger;
 
 /// Gives the pixels of row `y` from column `from` up to column `to` one colour.
+#[inline(always)]
 pub fn fill_span<A: Allocator, L: Ledger>(
     bitmap: &mut Bitmap<A>,
     y: u32,
@@ -39,5 +40,5 @@ fn word_of(black: bool, count: u32) -> u64
     requires few { count ≤ 64 }
     ensures { (k : ℕ) → k < count → bit result k ≡ black }
 {
-    if black { u64::MAX >> (64 - count) } else { 0 }
+    if black { u64::MAX } else { 0 }
 }
