@@ -5,7 +5,7 @@ ghost use Rattle.jbig2_mmr.specs.T6.{read_code, run, bits_of, ends_block, after_
 ghost use Rattle.jbig2_mmr.specs.T6Codes.{modes};
 ghost use Rattle.jbig2_mmr.specs.inner.T6Reading.{AreBits, with_rest, ReadRun, padded};
 
-use crate::mmr::codes::modes::mode_at;
+use crate::mmr::codes::modes::MODES;
 use crate::mmr::codes::{Mode, run_entry};
 use std::marker::Model;
 
@@ -53,6 +53,7 @@ impl<'a> CodeReader<'a> {
     }
 
     /// The next 24 bits as a number, zeros behind the end.
+    #[inline(always)]
     fn window(&self) -> u32
         ensures value { (n : ℕ) → n ≤ 24 → result / 2 ^ (24 - n) ≡ number_after 0 (take n (padded self.now.left)) }
         ensures bits { AreBits self.now.left }
@@ -62,6 +63,7 @@ impl<'a> CodeReader<'a> {
     }
 
     /// How many bits are left, counted up to 24.
+    #[inline(always)]
     fn few(&self) -> u32
         ensures { result ≡ min 24 (length self.now.left) }
     {
@@ -73,6 +75,7 @@ impl<'a> CodeReader<'a> {
     }
 
     /// Goes over `count` bits.
+    #[inline(always)]
     fn skip(&mut self, count: u32)
         requires few { count ≤ 24 }
         requires there { count ≤ length self.old.left }
@@ -96,21 +99,31 @@ impl<'a> CodeReader<'a> {
     }
 
     /// The next mode (T.6, table 1). None where the bits begin with no code of one; the place stays.
+    #[inline(always)]
     pub fn read_mode(&mut self) -> Option<Mode>
         ensures value { with_rest result self.new.left ≡ read_code modes self.old.left }
         ensures bytes { self.new.bytes ≡ self.old.bytes }
         ensures shorter { IfSome result (λ _. length self.new.left < length self.old.left) }
         ensures law { IsTrue (is_prefix_free modes) }
     {
-        let (mode, size) = mode_at(self.window() >> 17)?;
-        if size > self.few() {
+        let entry = MODES[(self.window() >> 17) as usize];
+        let size = u32::from(entry % 8);
+        if size == 0 || size > self.few() {
             return None;
         }
         self.skip(size);
-        Some(mode)
+        let kind = entry / 8;
+        if kind > 2 {
+            return Some(Mode::Vertical(i32::from(kind) - 6));
+        }
+        if kind == 2 {
+            return Some(Mode::Horizontal);
+        }
+        Some(Mode::Pass)
     }
 
     /// The run that the next code of the colour stands for (T.6, tables 2 and 3).
+    #[inline(always)]
     fn read_run_code(&mut self, black: bool) -> Option<u16>
         ensures value { with_rest result self.new.left ≡ read_code (runs_of black) self.old.left }
         ensures bytes { self.new.bytes ≡ self.old.bytes }
@@ -128,6 +141,7 @@ impl<'a> CodeReader<'a> {
 
     /// The next run of a colour: make-up codes, then a terminating code. None where it is longer
     /// than `room`, or bits stand there that are no code.
+    #[inline(always)]
     pub fn read_run(&mut self, black: bool, room: u32) -> Option<u32>
         ensures value { ReadRun (run black self.old.left) room result self.new.left }
         ensures bytes { self.new.bytes ≡ self.old.bytes }

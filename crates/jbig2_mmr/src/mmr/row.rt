@@ -85,6 +85,7 @@ fn reference_row<A: Allocator>(bitmap: &Bitmap<A>, y: u32) -> u32
 }
 
 /// Reads a mode. None at a fault.
+#[inline(always)]
 fn read_turn<A: Allocator, L: Ledger>(
     bitmap: &Bitmap<A>,
     above: u32,
@@ -106,6 +107,7 @@ fn read_turn<A: Allocator, L: Ledger>(
 }
 
 /// The pass mode: a0 moves under b2.
+#[inline(always)]
 fn pass<A: Allocator, L: Ledger>(
     bitmap: &Bitmap<A>,
     above: u32,
@@ -129,6 +131,7 @@ fn pass<A: Allocator, L: Ledger>(
 }
 
 /// The horizontal mode: two runs.
+#[inline(always)]
 fn horizontal(reader: &mut CodeReader, place: Place, width: u32) -> Option<Turn>
     requires { place.a0 < width }
     ensures value { ReadStep width (head_of place) (after_runs width (head_of place) reader.old.left) result reader.new.left }
@@ -148,6 +151,7 @@ fn horizontal(reader: &mut CodeReader, place: Place, width: u32) -> Option<Turn>
 }
 
 /// A vertical mode: a1 is b1 plus `distance`. None where it lies left of a0 or past the width.
+#[inline(always)]
 fn vertical<A: Allocator, L: Ledger>(
     bitmap: &Bitmap<A>,
     above: u32,
