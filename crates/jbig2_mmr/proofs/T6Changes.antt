@@ -5,6 +5,7 @@ use Rattle.std.proofs.lemmas.Bool.{true≢false, cases_Bool, cases_eq, cases_lt,
 use Rattle.std.proofs.lemmas.Nat.{leading_top, shr-shr}
 use Rattle.std.specs.Int.Count.{count_leading_zeros}
 use Rattle.std.specs.Int.RustNames.{bit_and, bit_or, bit_xor}
+use Rattle.jbig2_base.specs.inner.Colour.{IsFirst}
 use Rattle.jbig2_base.specs.Search.{least, place_from}
 use Rattle.jbig2_base.specs.inner.WordBits.{bit}
 use Rattle.jbig2_base.proofs.BitLemmas.{bit-above, bit-and, bit-or, bit-shl_high, bit-shl_low, bit-shr, bit-xor, bit-zero, or-false}
@@ -223,3 +224,43 @@ pub place-turned : (row : ℕ → Bool) (black : Bool) (from to : ℕ) → from 
 place-turned row black from to order =
     let found = place-of (is_change_from row black) from to order in
     (found.within, found.after, λ inside. turned row black (place_from (is_change_from row black) from to) (found.found inside))
+
+-- ---- b2
+same-colour : (p l c : Bool) → (differ p l && differ p c) ≡ false → l ≡ c → p ≡ c
+same-colour true true true e f = refl
+same-colour true true false e f = absurd (true≢false f)
+same-colour true false true e f = absurd (true≢false (sym f))
+same-colour true false false e f = absurd (true≢false e)
+same-colour false true true e f = absurd (true≢false e)
+same-colour false true false e f = absurd (true≢false f)
+same-colour false false true e f = absurd (true≢false (sym f))
+same-colour false false false e f = refl
+
+-- without a change the colour goes on
+stays : (row : ℕ → Bool) (colour : Bool) (from to : ℕ) → ((i : ℕ) → from + 1 ≤ i → i < to → is_change_from row colour i ≡ false) → row from ≡ colour → (n : ℕ) → from + n < to → row (from + n) ≡ colour
+unfolding is_change_from is_change
+stays row colour from to none start zero inside = let at : from + 0 ≡ from = omega arith in ap row at ∙ start
+stays row colour from to none start (suc n) inside =
+    let before = stays row colour from to none start n (omega arith) in
+    let at : from + suc n - 1 ≡ from + n = omega arith in
+    same-colour (row (from + suc n)) (left_of row (from + suc n)) colour (none (from + suc n) (omega arith) inside) (left-here row (from + suc n) (omega arith) ∙ ap row at ∙ before)
+
+not-not : (b : Bool) → not (not b) ≡ b
+not-not true = refl
+not-not false = refl
+
+pub first-colour : (row : ℕ → Bool) (black : Bool) (b1 to place : ℕ) → b1 < to → row b1 ≡ not black → place ≡ place_from (is_change_from row (not black)) (b1 + 1) to → IsFirst row black b1 to place
+first-colour row black b1 to place inside start e =
+    subst (λ (n : ℕ). IsFirst row black b1 to n) (sym e)
+    (let found = place-of (is_change_from row (not black)) (b1 + 1) to (omega arith) in
+    record {
+      after = omega (arith, found.after);
+      within = found.within;
+      before = λ i a b.
+          let at : b1 + (i - b1) ≡ i = omega arith in
+          ap row (sym at) ∙ stays row (not black) b1 (place_from (is_change_from row (not black)) (b1 + 1) to) found.before start (i - b1) (omega arith);
+      found = λ h. turned row (not black) (place_from (is_change_from row (not black)) (b1 + 1) to) (found.found h) ∙ not-not black;
+    })
+
+pub first-end : (row : ℕ → Bool) (black : Bool) (to place : ℕ) → place ≤ to → to ≤ place → IsFirst row black place to place
+first-end row black to place within past = record { after = omega arith; within = within; before = λ i a b. absurd (omega arith); found = λ h. absurd (omega arith) }

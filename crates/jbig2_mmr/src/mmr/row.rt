@@ -12,7 +12,6 @@ use crate::mmr::change::{changes_from, find_change, left_neighbours};
 use crate::mmr::codes::Mode;
 use crate::mmr::span::fill_span;
 use jbig2_base::bitmap::Bitmap;
-use jbig2_base::bitmap::colour::find_colour;
 use jbig2_base::bitmap::steps::Steps;
 use std::alloc::Allocator;
 use std::sync::ledger::Ledger;
@@ -106,7 +105,7 @@ fn read_turn<A: Allocator, L: Ledger>(
     }
 }
 
-/// The pass mode: a0 moves under b2.
+/// The pass mode: a0 moves under b2, the next change behind b1, which is one of the other colour.
 #[inline(always)]
 fn pass<A: Allocator, L: Ledger>(
     bitmap: &Bitmap<A>,
@@ -119,13 +118,28 @@ fn pass<A: Allocator, L: Ledger>(
     ensures { (bits : List ℕ) → ReadStep bitmap.now.width (head_of place) (after_pass bitmap.now.width (row_of bitmap.now above) (head_of place) bits) (Some result) bits }
 {
     let b1 = find_b1(bitmap, above, place, steps);
-    let b2 = find_colour(bitmap, above, b1, place.black, steps);
+    if b1 >= bitmap.width() {
+        return passed(b1, place.black);
+    }
+    let turned = Place {
+        a0: b1,
+        begun: true,
+        black: !place.black,
+    };
+    passed(find_b1(bitmap, above, turned, steps), place.black)
+}
+
+/// The turn that leaves the colour up to b2.
+#[inline(always)]
+fn passed(b2: u32, black: bool) -> Turn
+    ensures { result ≡ record { turn = b2; next = record { a0 = b2; begun = true; black = black } } }
+{
     Turn {
         turn: b2,
         next: Place {
             a0: b2,
             begun: true,
-            black: place.black,
+            black,
         },
     }
 }

@@ -1,9 +1,25 @@
-use Rattle.std.proofs.Common.{refl}
+use Rattle.std.proofs.Common.{◌≡◌, ℕ, Bool, true, not, ap, arith}
+use Rattle.jbig2_mmr.specs.declared.mmr.row.Turn.{Turn}
+use Rattle.jbig2_mmr.specs.T6.{Head, b1_of}
 use Rattle.jbig2_mmr.specs.inner.T6Reading.{row_of}
 use Rattle.jbig2_mmr.specs.inner.T6Calls.{head_of}
+use Rattle.jbig2_mmr.proofs.T6Changes.{first-colour, first-end}
 use Rattle.jbig2_mmr.proofs.T6Rows.{pass-read}
 use Rattle.jbig2_mmr.proofs.mmr.row.pass.Goals as goal
 
+pub returns-then-b1-width : goal.returns-then-b1-width
+returns-then-b1-width g c = λ bits.
+    let w : ℕ = c.args.bitmap.now.width in
+    let row : ℕ → Bool = row_of c.args.bitmap.now c.args.above in
+    pass-read w row (head_of c.args.place) c.find_b1-b1.result c.find_b1-b1.result c.passed.result bits c.find_b1-b1.ensures.value c.find_b1-b1.ensures.within c.find_b1-b1.ensures.colour c.find_b1-b1.ensures.forward
+    (first-end row c.args.place.black w c.find_b1-b1.result c.find_b1-b1.ensures.within (omega (arith, c.if-b1-width.true, c.width.ensures.value)))
+    (ap (λ (t : Turn). t.turn) c.passed.ensures) (ap (λ (t : Turn). head_of t.next) c.passed.ensures)
+
 pub returns : goal.returns
+unfolding b1_of
 returns g c = λ bits.
-    pass-read c.args.bitmap.now.width (row_of c.args.bitmap.now c.args.above) (head_of c.args.place) c.find_b1-b1.result c.find_colour-b2.result _ bits c.find_b1-b1.ensures.value c.find_b1-b1.ensures.within c.find_b1-b1.ensures.colour c.find_b1-b1.ensures.forward c.find_colour-b2.ensures refl refl
+    let w : ℕ = c.args.bitmap.now.width in
+    let row : ℕ → Bool = row_of c.args.bitmap.now c.args.above in
+    pass-read w row (head_of c.args.place) c.find_b1-b1.result c.find_b1.result c.passed-2.result bits c.find_b1-b1.ensures.value c.find_b1-b1.ensures.within c.find_b1-b1.ensures.colour c.find_b1-b1.ensures.forward
+    (first-colour row c.args.place.black c.find_b1-b1.result w c.find_b1.result (omega (arith, c.if-b1-width.false, c.width.ensures.value)) (c.find_b1-b1.ensures.colour (omega (arith, c.if-b1-width.false, c.width.ensures.value))) c.find_b1.ensures.value)
+    (ap (λ (t : Turn). t.turn) c.passed-2.ensures) (ap (λ (t : Turn). head_of t.next) c.passed-2.ensures)
