@@ -1,5 +1,6 @@
 //! The next changing element of a row (T.6, 2.2.1), by words.
 ghost use Rattle.std.specs.Prelude.{◌≡◌, ℕ, ◌+◌, ◌*◌, ◌^◌, ◌<◌, ◌≤◌, ◌&&◌};
+ghost use Rattle.jbig2_base.specs.Counts.{KeepsLanes};
 ghost use Rattle.jbig2_base.specs.Search.{place_from};
 ghost use Rattle.jbig2_base.specs.inner.WordBits.{bit};
 ghost use Rattle.jbig2_mmr.specs.T6.{differ, left_of, is_change_from};
@@ -22,7 +23,8 @@ pub fn find_change<A: Allocator, L: Ledger>(
     steps: &mut Steps<L>,
 ) -> u32
     requires { bit before 0 ≡ left_of (row_of bitmap.now y) (64 * first) }
-    ensures { result ≡ place_from (is_change_from (row_of bitmap.now y) black) (64 * first) bitmap.now.width }
+    ensures value { result ≡ place_from (is_change_from (row_of bitmap.now y) black) (64 * first) bitmap.now.width }
+    ensures lanes { KeepsLanes steps.old steps.new }
 {
     let width = bitmap.width();
     let mut before = before;

@@ -1,6 +1,7 @@
 //! One row, mode by mode (T.6, 2.2).
 ghost use Rattle.std.specs.Prelude.{◌≡◌, ℕ, ◌+◌, ◌-◌, ◌*◌, ◌/◌, ◌<◌, ◌≤◌, List, length, IfSome, Some, not, true, false, nat_le, if◌then◌else◌, ◌≢◌};
 ghost use Rattle.jbig2_base.specs.inner.WordBits.{bit};
+ghost use Rattle.jbig2_base.specs.Counts.{KeepsLanes};
 ghost use Rattle.jbig2_base.specs.Grid.{pixel_at};
 ghost use Rattle.jbig2_base.specs.inner.Table.{IsTable};
 ghost use Rattle.jbig2_mmr.specs.T6.{b1_of, after_pass, after_vertical, after_runs, next_step, row};
@@ -43,6 +44,7 @@ pub fn read_row<A: Allocator, L: Ledger>(
     requires white { (x : ℕ) → pixel_at bitmap.old x y ≡ false }
     ensures value { ReadRow (row bitmap.old.width (row_above bitmap.old y) reader.old.left) result bitmap.old bitmap.new y reader.new.left }
     ensures bytes { reader.new.bytes ≡ reader.old.bytes }
+    ensures lanes { KeepsLanes steps.old steps.new }
 {
     let width = bitmap.width();
     let above = reference_row(bitmap, y);
@@ -97,6 +99,7 @@ fn read_turn<A: Allocator, L: Ledger>(
     ensures value { ReadStep bitmap.now.width (head_of place) (next_step bitmap.now.width (row_of bitmap.now above) (head_of place) reader.old.left) result reader.new.left }
     ensures bytes { reader.new.bytes ≡ reader.old.bytes }
     ensures shorter { IfSome result (λ _. length reader.new.left < length reader.old.left) }
+    ensures lanes { KeepsLanes steps.old steps.new }
 {
     match reader.read_mode()? {
         Mode::Pass => Some(pass(bitmap, above, place, steps)),
@@ -115,7 +118,8 @@ fn pass<A: Allocator, L: Ledger>(
 ) -> Turn
     requires column { place.a0 < bitmap.now.width }
     requires first { place.begun ≡ false → place.a0 ≡ 0 }
-    ensures { (bits : List ℕ) → ReadStep bitmap.now.width (head_of place) (after_pass bitmap.now.width (row_of bitmap.now above) (head_of place) bits) (Some result) bits }
+    ensures value { (bits : List ℕ) → ReadStep bitmap.now.width (head_of place) (after_pass bitmap.now.width (row_of bitmap.now above) (head_of place) bits) (Some result) bits }
+    ensures lanes { KeepsLanes steps.old steps.new }
 {
     let b1 = find_b1(bitmap, above, place, steps);
     if b1 >= bitmap.width() {
@@ -175,7 +179,8 @@ fn vertical<A: Allocator, L: Ledger>(
 ) -> Option<Turn>
     requires column { place.a0 < bitmap.now.width }
     requires first { place.begun ≡ false → place.a0 ≡ 0 }
-    ensures { (bits : List ℕ) → ReadStep bitmap.now.width (head_of place) (after_vertical bitmap.now.width (row_of bitmap.now above) (head_of place) distance bits) result bits }
+    ensures value { (bits : List ℕ) → ReadStep bitmap.now.width (head_of place) (after_vertical bitmap.now.width (row_of bitmap.now above) (head_of place) distance bits) result bits }
+    ensures lanes { KeepsLanes steps.old steps.new }
 {
     let width = bitmap.width();
     let b1 = find_b1(bitmap, above, place, steps);
@@ -209,6 +214,7 @@ fn find_b1<A: Allocator, L: Ledger>(
     ensures within { result ≤ bitmap.now.width }
     ensures forward { place.a0 ≤ result }
     ensures colour { result < bitmap.now.width → row_of bitmap.now above result ≡ not place.black }
+    ensures lanes { KeepsLanes steps.old steps.new }
 {
     let width = bitmap.width();
     let index = place.a0 / 64;

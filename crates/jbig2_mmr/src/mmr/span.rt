@@ -1,5 +1,6 @@
 //! Spans of one colour in a row of a bitmap, by words.
 ghost use Rattle.std.specs.Prelude.{◌≡◌, ℕ, ◌<◌, ◌≤◌};
+ghost use Rattle.jbig2_base.specs.Counts.{KeepsLanes};
 ghost use Rattle.jbig2_base.specs.inner.Table.{IsTable};
 ghost use Rattle.jbig2_base.specs.inner.WordBits.{bit};
 ghost use Rattle.jbig2_mmr.specs.inner.T6Reading.{IsSpan};
@@ -23,7 +24,8 @@ pub fn fill_span<A: Allocator, L: Ledger>(
     requires row { y < bitmap.old.height }
     requires order { from ≤ to }
     requires columns { to ≤ bitmap.old.width }
-    ensures { IsSpan bitmap.old bitmap.new y from to black }
+    ensures value { IsSpan bitmap.old bitmap.new y from to black }
+    ensures lanes { KeepsLanes steps.old steps.new }
 {
     let mut x = from;
     while x < to {

@@ -3,6 +3,8 @@ use Rattle.std.proofs.lemmas.Bool.{cases_Bool, cond-true, cond-false}
 use Rattle.std.specs.Int.RustNames.{bit_and}
 use Rattle.std.proofs.lemmas.Nat.{and_le_r}
 use Rattle.jbig2_base.specs.Search.{place_from}
+use Rattle.jbig2_base.proofs.LaneCounts.{lanes-none, lanes-then}
+use Rattle.jbig2_mmr.proofs.T6Spans.{lanes-load}
 use Rattle.jbig2_mmr.specs.T6.{b1_of, is_change_from, left_of}
 use Rattle.jbig2_mmr.specs.inner.T6Reading.{row_of}
 use Rattle.jbig2_mmr.proofs.T6Changes.{IsChanges, changes-right, changes-none, changes-found, changes-later, last-left, place-turned}
@@ -41,6 +43,7 @@ returns-then-changes-ne0 g c =
       value = value;
       within = omega (arith, value, place.0);
       forward = omega (arith, value, place.1, at.0);
+      lanes = lanes-load c.args.steps.now c.load_pixels-pixels.new.steps c.load_pixels-pixels.ensures.steps;
       colour = λ inside. ap row value ∙ place.2 (omega (arith, value, inside));
     }
 
@@ -64,11 +67,12 @@ returns g c =
     let none = changes-none row black from x (bit_and c.changes_from.result c.right_of.result) is c.if-changes-ne0.false (λ i a b. absurd (omega (arith, a, b, at.0))) in
     let next : 64 * (c.args.place.a0 / 64 + 1) ≡ x + 64 = omega arith in
     let value : c.find_change.result ≡ place_from (is_change_from row black) from w =
-    c.find_change.ensures ∙ changes-later row black from (64 * (c.args.place.a0 / 64 + 1)) w (omega (arith, at.1)) (λ i a b. none i a (omega (arith, next))) in
+    c.find_change.ensures.value ∙ changes-later row black from (64 * (c.args.place.a0 / 64 + 1)) w (omega (arith, at.1)) (λ i a b. none i a (omega (arith, next))) in
     let place = place-turned row black from w (omega (arith, at.1, c.requires.column)) in
     record {
       value = value;
       within = omega (arith, value, place.0);
       forward = omega (arith, value, place.1, at.0);
+      lanes = lanes-then c.args.steps.now c.load_pixels-pixels.new.steps c.find_change.new.steps (lanes-load c.args.steps.now c.load_pixels-pixels.new.steps c.load_pixels-pixels.ensures.steps) c.find_change.ensures.lanes;
       colour = λ inside. ap row value ∙ place.2 (omega (arith, value, inside));
     }

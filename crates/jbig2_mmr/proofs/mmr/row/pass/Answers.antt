@@ -1,4 +1,5 @@
 use Rattle.std.proofs.Common.{◌≡◌, ℕ, Bool, true, not, ap, arith}
+use Rattle.jbig2_base.proofs.LaneCounts.{lanes-none, lanes-then}
 use Rattle.jbig2_mmr.specs.declared.mmr.row.Turn.{Turn}
 use Rattle.jbig2_mmr.specs.T6.{Head, b1_of}
 use Rattle.jbig2_mmr.specs.inner.T6Reading.{row_of}
@@ -7,17 +8,20 @@ use Rattle.jbig2_mmr.proofs.T6Changes.{first-colour, first-end}
 use Rattle.jbig2_mmr.proofs.T6Rows.{pass-read}
 use Rattle.jbig2_mmr.proofs.mmr.row.pass.Goals as goal
 
-pub returns-then-b1-width : goal.returns-then-b1-width
-returns-then-b1-width g c = λ bits.
+pub returns-then-b1-width-clause-value : goal.returns-then-b1-width-clause-value
+returns-then-b1-width-clause-value g c = λ bits.
     let w : ℕ = c.args.bitmap.now.width in
     let row : ℕ → Bool = row_of c.args.bitmap.now c.args.above in
     pass-read w row (head_of c.args.place) c.find_b1-b1.result c.find_b1-b1.result c.passed.result bits c.find_b1-b1.ensures.value c.find_b1-b1.ensures.within c.find_b1-b1.ensures.colour c.find_b1-b1.ensures.forward
     (first-end row c.args.place.black w c.find_b1-b1.result c.find_b1-b1.ensures.within (omega (arith, c.if-b1-width.true, c.width.ensures.value)))
     (ap (λ (t : Turn). t.turn) c.passed.ensures) (ap (λ (t : Turn). head_of t.next) c.passed.ensures)
 
-pub returns : goal.returns
+pub returns-clause-lanes : goal.returns-clause-lanes
+returns-clause-lanes g c = lanes-then c.args.steps.now c.find_b1-b1.new.steps c.find_b1.new.steps c.find_b1-b1.ensures.lanes c.find_b1.ensures.lanes
+
+pub returns-clause-value : goal.returns-clause-value
 unfolding b1_of
-returns g c = λ bits.
+returns-clause-value g c = λ bits.
     let w : ℕ = c.args.bitmap.now.width in
     let row : ℕ → Bool = row_of c.args.bitmap.now c.args.above in
     pass-read w row (head_of c.args.place) c.find_b1-b1.result c.find_b1.result c.passed-2.result bits c.find_b1-b1.ensures.value c.find_b1-b1.ensures.within c.find_b1-b1.ensures.colour c.find_b1-b1.ensures.forward

@@ -8,8 +8,8 @@ use Rattle.jbig2_mmr.proofs.T6Rows.{vertical-read, vertical-fault, outside-left,
 use Rattle.jbig2_mmr.proofs.mmr.row.vertical.Goals as goal
 use Rattle.jbig2_mmr.proofs.mmr.row.vertical.Goals.{then-sum-from-via-then-sum-from, then-sum-from-via-else-sum-from+then-sum-from-2}
 
-pub returns-then-sum-from : goal.returns-then-sum-from
-returns-then-sum-from g c = λ bits.
+pub returns-then-sum-from-clause-value : goal.returns-then-sum-from-clause-value
+returns-then-sum-from-clause-value g c = λ bits.
     let small : c.find_b1-b1.result < 2 ^ 32 = omega (arith, c.find_b1-b1.type_inv) in
     let sum = sum-wide c.find_b1-b1.result c.args.distance c.from.result c.from-2.result small c.ranges.distance c.from.ensures c.from-2.ensures in
     let start = wide-is c.args.place.a0 c.from-3.result (omega (arith, c.requires.column, c.width-width.type_inv, c.width-width.ensures.value)) c.from-3.ensures in
@@ -21,8 +21,8 @@ returns-then-sum-from g c = λ bits.
           outside-right c.args.place.a0 c.args.bitmap.now.width (pos c.find_b1-b1.result +ℤ c.args.distance) (grind (arith, ints, sum, end, w.if-sum-from-2.true, c.width-width.ensures.value))
     ])
 
-pub returns : goal.returns
-returns g c = λ bits.
+pub returns-clause-value : goal.returns-clause-value
+returns-clause-value g c = λ bits.
     let small : c.find_b1-b1.result < 2 ^ 32 = omega (arith, c.find_b1-b1.type_inv) in
     let sum = sum-wide c.find_b1-b1.result c.args.distance c.from.result c.from-2.result small c.ranges.distance c.from.ensures c.from-2.ensures in
     let start = wide-is c.args.place.a0 c.from-3.result (omega (arith, c.requires.column, c.width-width.type_inv, c.width-width.ensures.value)) c.from-3.ensures in
