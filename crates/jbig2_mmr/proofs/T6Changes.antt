@@ -1,49 +1,39 @@
 -- Changing elements in words of pixels.
-use Rattle.std.proofs.Common.{◌≡◌, ℕ, zero, suc, ◌+◌, ◌-◌, ◌*◌, ◌/◌, ◌^◌, ◌<◌, ◌≤◌, Bool, true, false, not, ◌&&◌, cond, refl, sym, ap, subst, ◌∙◌, ⊎_elim, arith}
-use Rattle.std.proofs.lemmas.Bool.{true≢false, cases_lt, and_parts}
-use Rattle.std.proofs.lemmas.Nat.{leading_top, and_le_r}
-use Rattle.std.proofs.Math.Nat.{pow-le-pow_right}
+use Rattle.std.proofs.Common.{◌≡◌, ℕ, zero, suc, ◌+◌, ◌-◌, ◌*◌, ◌/◌, ◌%◌, ◌^◌, ◌<◌, ◌≤◌, Bool, true, false, not, ◌&&◌, cond, leb, min, refl, sym, ap, subst, ◌∙◌, ⊎_elim, arith}
+use Rattle.std.specs.Prelude.{◌||◌}
+use Rattle.std.proofs.lemmas.Bool.{true≢false, cases_Bool, cases_eq, cases_lt, cond-true, cond-false, and_parts, le-leb, lt-leb}
+use Rattle.std.proofs.lemmas.Nat.{leading_top, shr-shr}
 use Rattle.std.specs.Int.Count.{count_leading_zeros}
-use Rattle.std.specs.Int.RustNames.{bit_and, bit_xor}
-use Rattle.jbig2_base.specs.Search.{place_from}
+use Rattle.std.specs.Int.RustNames.{bit_and, bit_or, bit_xor}
+use Rattle.jbig2_base.specs.inner.Colour.{IsFirst}
+use Rattle.jbig2_base.specs.Search.{least, place_from}
 use Rattle.jbig2_base.specs.inner.WordBits.{bit}
-use Rattle.jbig2_base.proofs.BitLemmas.{bit-above, bit-and, bit-shr, bit-xor, bit-zero}
+use Rattle.jbig2_base.proofs.BitLemmas.{bit-above, bit-and, bit-or, bit-shl_high, bit-shl_low, bit-shr, bit-xor, bit-zero, or-false}
 use Rattle.jbig2_base.proofs.ColourLemmas.{leading-is, ones-bit, ones-lt}
-use Rattle.jbig2_base.proofs.SearchLemmas.{place-is}
+use Rattle.jbig2_base.proofs.SearchLemmas.{place-is, place-past}
 use Rattle.jbig2_mmr.specs.T6.{differ, left_of, is_change, is_change_from}
 use Rattle.jbig2_mmr.proofs.T6Rows.{left-here}
 
 -- ---- pixels and their left neighbours
--- at the row's beginning white comes in from the left
-pub first-left : (row : ℕ → Bool) (pixels count : ℕ) → pixels < 2 ^ count → ((k : ℕ) → k < count → bit pixels (count - 1 - k) ≡ row k) → (k : ℕ) → k < count → bit (pixels / 2 ^ 1) (count - 1 - k) ≡ left_of row k
-first-left row pixels count small read zero inside = bit-shr pixels 1 (count - 1 - 0) ∙ bit-above pixels count (1 + (count - 1 - 0)) small (omega arith)
-first-left row pixels count small read (suc k) inside =
-    let at : 1 + (count - 1 - suc k) ≡ count - 1 - k = omega arith in
-    bit-shr pixels 1 (count - 1 - suc k) ∙ ap (λ (i : ℕ). bit pixels i) at ∙ read k (omega arith)
+pub neighbours-first : (pixels before : ℕ) → pixels < 2 ^ 64 → bit (bit_or (pixels / 2 ^ 1) (before * 2 ^ 63 % 2 ^ 64)) 63 ≡ bit before 0
+neighbours-first pixels before small =
+    bit-or (pixels / 2 ^ 1) (before * 2 ^ 63 % 2 ^ 64) 63
+    ∙ ap (λ (b : Bool). b || bit (before * 2 ^ 63 % 2 ^ 64) 63) (bit-shr pixels 1 63 ∙ bit-above pixels 64 64 small (omega arith))
+    ∙ bit-shl_high before 63 64 63 (omega arith) (omega arith)
 
--- further on one pixel more is there
-pub wide-pixels : (row : ℕ → Bool) (wide x count : ℕ) → 1 ≤ x → count ≤ 64 → ((k : ℕ) → k < count + 1 → bit wide (count + 1 - 1 - k) ≡ row (x - 1 + k)) → (k : ℕ) → k < count → bit (bit_and wide ((2 ^ 64 - 1) / 2 ^ (64 - count))) (count - 1 - k) ≡ row (x + k)
-wide-pixels row wide x count begun few read k inside =
-    let ones : ℕ = (2 ^ 64 - 1) / 2 ^ (64 - count) in
-    let at : count - 1 - k ≡ count + 1 - 1 - (k + 1) = omega arith in
-    let place : x - 1 + (k + 1) ≡ x + k = omega arith in
-    bit-and wide ones (count - 1 - k)
-    ∙ ap (λ (t : Bool). bit wide (count - 1 - k) && t) (ones-bit count (count - 1 - k) few (omega arith))
-    ∙ and-true (bit wide (count - 1 - k))
-    ∙ ap (λ (i : ℕ). bit wide i) at ∙ read (k + 1) (omega arith) ∙ ap row place
-  where
-    and-true : (b : Bool) → (b && true) ≡ b
-    and-true true = refl
-    and-true false = refl
+pub neighbours-others : (pixels before k : ℕ) → k < 63 → bit (bit_or (pixels / 2 ^ 1) (before * 2 ^ 63 % 2 ^ 64)) k ≡ bit pixels (k + 1)
+neighbours-others pixels before k inside =
+    let at : 1 + k ≡ k + 1 = omega arith in
+    bit-or (pixels / 2 ^ 1) (before * 2 ^ 63 % 2 ^ 64) k
+    ∙ or-false (bit (pixels / 2 ^ 1) k) (bit (before * 2 ^ 63 % 2 ^ 64) k) (bit-shl_low before 63 64 k inside (omega arith))
+    ∙ bit-shr pixels 1 k ∙ ap (λ (i : ℕ). bit pixels i) at
 
-pub wide-left : (row : ℕ → Bool) (wide x count : ℕ) → 1 ≤ x → ((k : ℕ) → k < count + 1 → bit wide (count + 1 - 1 - k) ≡ row (x - 1 + k)) → (k : ℕ) → k < count → bit (wide / 2 ^ 1) (count - 1 - k) ≡ left_of row (x + k)
-wide-left row wide x count begun read k inside =
-    let at : 1 + (count - 1 - k) ≡ count + 1 - 1 - k = omega arith in
-    let place : x - 1 + k ≡ x + k - 1 = omega arith in
-    bit-shr wide 1 (count - 1 - k) ∙ ap (λ (i : ℕ). bit wide i) at ∙ read k (omega arith) ∙ ap row place ∙ sym (left-here row (x + k) (omega arith))
-
-pub wide-bound : (wide count : ℕ) → count ≤ 64 → bit_and wide ((2 ^ 64 - 1) / 2 ^ (64 - count)) < 2 ^ count
-wide-bound wide count few = omega (arith, and_le_r wide ((2 ^ 64 - 1) / 2 ^ (64 - count)), ones-lt count few)
+-- the last pixel of a word is the one left of the next word
+pub last-left : (row : ℕ → Bool) (x pixels : ℕ) → ((k : ℕ) → k < 64 → bit pixels (64 - 1 - k) ≡ row (x + k)) → bit pixels 0 ≡ left_of row (x + 64)
+last-left row x pixels read =
+    let at : 0 ≡ 64 - 1 - 63 = omega arith in
+    let place : x + 63 ≡ x + 64 - 1 = omega arith in
+    ap (λ (i : ℕ). bit pixels i) at ∙ read 63 (omega arith) ∙ ap row place ∙ sym (left-here row (x + 64) (omega arith))
 
 -- ---- the bits of changes
 to-white : (p l : Bool) → (cond p (not l) l && l) ≡ (differ p l && differ p true)
@@ -65,37 +55,161 @@ pub black-bits : (pixels left k : ℕ) → bit (bit_and (bit_xor pixels left) pi
 black-bits pixels left k = bit-and (bit_xor pixels left) pixels k ∙ ap (λ (t : Bool). t && bit pixels k) (bit-xor pixels left k) ∙ to-black (bit pixels k) (bit left k)
 
 -- ---- a search by words
--- what a word of changes says of the row from column x on
-pub record IsChanges (row : ℕ → Bool) (black : Bool) (x count changes : ℕ) : Type 0 where
-  pub small : changes < 2 ^ count
-  pub value : (k : ℕ) → k < count → bit changes (count - 1 - k) ≡ is_change_from row black (x + k)
+-- what a word of changes says of the row from column x on: those that lie left of `from` are left out
+pub record IsChanges (row : ℕ → Bool) (black : Bool) (from x changes : ℕ) : Type 0 where
+  pub small : changes < 2 ^ 64
+  pub outside : (k : ℕ) → k < 64 → x + k < from → bit changes (63 - k) ≡ false
+  pub value : (k : ℕ) → k < 64 → from ≤ x + k → bit changes (63 - k) ≡ is_change_from row black (x + k)
 
-pub changes-are : (row : ℕ → Bool) (black : Bool) (x count pixels left changes : ℕ) → changes < 2 ^ count → ((k : ℕ) → k < count → bit pixels (count - 1 - k) ≡ row (x + k)) → ((k : ℕ) → k < count → bit left (count - 1 - k) ≡ left_of row (x + k)) → ((k : ℕ) → bit changes k ≡ (differ (bit pixels k) (bit left k) && differ (bit pixels k) black)) → IsChanges row black x count changes
+-- the bits of changes, where the pixel left of the word is known
+bits-are : (row : ℕ → Bool) (black : Bool) (x pixels left changes k : ℕ) → ((i : ℕ) → i < 64 → bit pixels (64 - 1 - i) ≡ row (x + i)) → ((i : ℕ) → i < 63 → bit left i ≡ bit pixels (i + 1)) → ((i : ℕ) → bit changes i ≡ (differ (bit pixels i) (bit left i) && differ (bit pixels i) black)) → k < 64 → (k ≡ 0 → bit left 63 ≡ left_of row x) → bit changes (63 - k) ≡ is_change_from row black (x + k)
 unfolding is_change_from is_change
-changes-are row black x count pixels left changes small read neighbour is = record {
+bits-are row black x pixels left changes k read others is inside first =
+    is (63 - k)
+    ∙ ap (λ (p : Bool). differ p (bit left (63 - k)) && differ p black) here
+    ∙ ap (λ (l : Bool). differ (row (x + k)) l && differ (row (x + k)) black) neighbour
+  where
+    here : bit pixels (63 - k) ≡ row (x + k)
+    here = let at : 63 - k ≡ 64 - 1 - k = omega arith in ap (λ (i : ℕ). bit pixels i) at ∙ read k inside
+
+    neighbour : bit left (63 - k) ≡ left_of row (x + k)
+    neighbour =
+        ⊎_elim
+        (λ (e : k ≡ 0).
+        let at : 63 - k ≡ 63 = omega arith in
+        let place : x ≡ x + k = omega arith in
+        ap (λ (i : ℕ). bit left i) at ∙ first e ∙ ap (λ (i : ℕ). left_of row i) place)
+        (λ (o : k ≡ 0 → ⊥).
+        let at : 63 - k + 1 ≡ 64 - 1 - (k - 1) = omega (arith, o) in
+        let place : x + (k - 1) ≡ x + k - 1 = omega (arith, o) in
+        others (63 - k) (omega (arith, o)) ∙ ap (λ (i : ℕ). bit pixels i) at ∙ read (k - 1) (omega arith) ∙ ap row place ∙ sym (left-here row (x + k) (omega (arith, o))))
+        (cases_eq k 0)
+
+-- a whole word, behind another one
+pub changes-are : (row : ℕ → Bool) (black : Bool) (from x pixels before left changes : ℕ) → from ≤ x → changes < 2 ^ 64 → ((k : ℕ) → k < 64 → bit pixels (64 - 1 - k) ≡ row (x + k)) → bit before 0 ≡ left_of row x → bit left 63 ≡ bit before 0 → ((k : ℕ) → k < 63 → bit left k ≡ bit pixels (k + 1)) → ((k : ℕ) → bit changes k ≡ (differ (bit pixels k) (bit left k) && differ (bit pixels k) black)) → IsChanges row black from x changes
+changes-are row black from x pixels before left changes begun small read known first others is = record {
   small = small;
-  value = λ k inside. is (count - 1 - k)
-      ∙ ap (λ (p : Bool). differ p (bit left (count - 1 - k)) && differ p black) (read k inside)
-      ∙ ap (λ (l : Bool). differ (row (x + k)) l && differ (row (x + k)) black) (neighbour k inside);
+  outside = λ k inside out. absurd (omega arith);
+  value = λ k inside after. bits-are row black x pixels left changes k read others is inside (λ e. first ∙ known);
 }
 
+-- the word with a0, of which the bits right of it are taken
+pub changes-right : (row : ℕ → Bool) (black : Bool) (from x pixels left changes right : ℕ) → (from ≤ x → x ≡ 0) → changes < 2 ^ 64 → right < 2 ^ 64 → ((k : ℕ) → k < 64 → bit pixels (64 - 1 - k) ≡ row (x + k)) → bit left 63 ≡ bit 0 0 → ((k : ℕ) → k < 63 → bit left k ≡ bit pixels (k + 1)) → ((k : ℕ) → bit changes k ≡ (differ (bit pixels k) (bit left k) && differ (bit pixels k) black)) → ((k : ℕ) → k < 64 → bit right (63 - k) ≡ leb from (x + k)) → bit_and changes right < 2 ^ 64 → IsChanges row black from x (bit_and changes right)
+changes-right row black from x pixels left changes right start small_changes small_right read first others is taken small = record {
+  small = small;
+  outside = λ k inside out. bit-and changes right (63 - k) ∙ and-false (bit changes (63 - k)) (bit right (63 - k)) (taken k inside ∙ lt-leb from (x + k) out);
+  value = λ k inside after. bit-and changes right (63 - k) ∙ and-true (bit changes (63 - k)) (bit right (63 - k)) (taken k inside ∙ le-leb from (x + k) after)
+      ∙ bits-are row black x pixels left changes k read others is inside (λ e. first ∙ bit-zero 0 ∙ ap (λ (i : ℕ). left_of row i) (sym (start (omega arith))));
+}
+  where
+    and-false : (a b : Bool) → b ≡ false → (a && b) ≡ false
+    and-false true b e = e
+    and-false false b e = refl
+
+    and-true : (a b : Bool) → b ≡ true → (a && b) ≡ a
+    and-true true b e = e
+    and-true false b e = refl
+
+-- the bits from column x + n on
+pub right-bit : (from x n k : ℕ) → n ≤ 64 → x + n ≡ from → k < 64 → bit ((2 ^ 64 - 1) / 2 ^ n) (63 - k) ≡ leb from (x + k)
+right-bit from x n k few e inside =
+    let all : n ≡ 64 - (64 - n) = omega arith in
+    ⊎_elim
+    (λ (out : k < n).
+    let small : (2 ^ 64 - 1) / 2 ^ n < 2 ^ (64 - n) = subst (λ (i : ℕ). (2 ^ 64 - 1) / 2 ^ i < 2 ^ (64 - n)) (sym all) (ones-lt (64 - n) (omega arith)) in
+    bit-above ((2 ^ 64 - 1) / 2 ^ n) (64 - n) (63 - k) small (omega arith) ∙ sym (lt-leb from (x + k) (omega arith)))
+    (λ (there : n ≤ k). ap (λ (i : ℕ). bit ((2 ^ 64 - 1) / 2 ^ i) (63 - k)) all ∙ ones-bit (64 - n) (63 - k) (omega arith) (omega arith) ∙ sym (le-leb from (x + k) (omega arith)))
+    (cases_lt k n)
+
+pub right-more : (a : ℕ) → (2 ^ 64 - 1) / 2 ^ a / 2 ^ 1 ≡ (2 ^ 64 - 1) / 2 ^ (a + 1)
+right-more a = shr-shr (2 ^ 64 - 1) a 1
+
 -- no change in this word
-pub changes-none : (row : ℕ → Bool) (black : Bool) (from x count changes : ℕ) → IsChanges row black x count changes → changes ≡ 0 → ((i : ℕ) → from ≤ i → i < x → is_change_from row black i ≡ false) → (i : ℕ) → from ≤ i → i < x + count → is_change_from row black i ≡ false
-changes-none row black from x count changes is none so_far i after inside =
+pub changes-none : (row : ℕ → Bool) (black : Bool) (from x changes : ℕ) → IsChanges row black from x changes → changes ≡ 0 → ((i : ℕ) → from ≤ i → i < x → is_change_from row black i ≡ false) → (i : ℕ) → from ≤ i → i < x + 64 → is_change_from row black i ≡ false
+changes-none row black from x changes is none so_far i after inside =
     ⊎_elim (λ (old : i < x). so_far i after old)
     (λ (fresh : x ≤ i).
     let at : x + (i - x) ≡ i = omega arith in
-    ap (λ (n : ℕ). is_change_from row black n) (sym at) ∙ sym (is.value (i - x) (omega arith)) ∙ ap (λ (n : ℕ). bit n (count - 1 - (i - x))) none ∙ bit-zero (count - 1 - (i - x)))
+    ap (λ (n : ℕ). is_change_from row black n) (sym at) ∙ sym (is.value (i - x) (omega arith) (omega arith)) ∙ ap (λ (n : ℕ). bit n (63 - (i - x))) none ∙ bit-zero (63 - (i - x)))
     (cases_lt i x)
 
 -- the first change in it
-pub leading-within : (count changes : ℕ) → count ≤ 64 → changes < 2 ^ count → (changes ≡ 0 → ⊥) → (64 - count ≤ count_leading_zeros 64 changes) × (count_leading_zeros 64 changes - (64 - count) < count)
-leading-within count changes few small some =
-    let within : changes < 2 ^ 64 = let wide : 2 ^ count ≤ 2 ^ 64 = pow-le-pow_right (omega arith) few in omega arith in
-    let top = leading_top 64 changes (omega (arith, some)) within in
-    let lead = leading-is changes count few small in
-    (lead.enough, omega (arith, lead.enough, top.1))
+pub leading-within : (changes : ℕ) → changes < 2 ^ 64 → (changes ≡ 0 → ⊥) → count_leading_zeros 64 changes < 64
+leading-within changes small some = let top = leading_top 64 changes (omega (arith, some)) small in omega (arith, top.1)
 
+pub changes-found : (row : ℕ → Bool) (black : Bool) (from x changes to : ℕ) → IsChanges row black from x changes → (changes ≡ 0 → ⊥) → from ≤ to → ((i : ℕ) → from ≤ i → i < x → is_change_from row black i ≡ false) → min (x + count_leading_zeros 64 changes) to ≡ place_from (is_change_from row black) from to
+changes-found row black from x changes to is some order so_far =
+    let lead = leading-is changes 64 (omega arith) is.small in
+    let k : ℕ = count_leading_zeros 64 changes in
+    let few : k < 64 = leading-within changes is.small some in
+    let here : bit changes (63 - k) ≡ true = let at : 63 - k ≡ 64 - 1 - (k - (64 - 64)) = omega arith in ap (λ (i : ℕ). bit changes i) at ∙ lead.found (omega arith) in
+    let after : from ≤ x + k = ⊎_elim (λ (out : x + k < from). absurd (true≢false (sym here ∙ is.outside k few out))) (λ (there : from ≤ x + k). there) (cases_lt (x + k) from) in
+    let before : (i : ℕ) → from ≤ i → i < x + k → is_change_from row black i ≡ false = λ i a b.
+    ⊎_elim (λ (old : i < x). so_far i a old)
+    (λ (fresh : x ≤ i).
+    let at : x + (i - x) ≡ i = omega arith in
+    let place : 63 - (i - x) ≡ 64 - 1 - (i - x) = omega arith in
+    ap (λ (n : ℕ). is_change_from row black n) (sym at) ∙ sym (is.value (i - x) (omega arith) (omega arith)) ∙ ap (λ (n : ℕ). bit changes n) place ∙ lead.before (i - x) (omega arith))
+    (cases_lt i x) in
+    ⊎_elim
+    (λ (inside : x + k < to).
+    let least : min (x + k) to ≡ x + k = omega arith in
+    least ∙ sym (place-is (is_change_from row black) from to (x + k) order after (omega arith) before (λ h. sym (is.value k few after) ∙ here)))
+    (λ (past : to ≤ x + k).
+    let least : min (x + k) to ≡ to = omega arith in
+    least ∙ sym (place-is (is_change_from row black) from to to order order (omega arith) (λ i a b. before i a (omega arith)) (λ h. absurd (omega arith))))
+    (cases_lt (x + k) to)
+
+pub changes-past : (row : ℕ → Bool) (black : Bool) (from x to : ℕ) → to ≤ x → ((i : ℕ) → from ≤ i → i < x → is_change_from row black i ≡ false) → to ≡ place_from (is_change_from row black) from to
+changes-past row black from x to past so_far =
+    ⊎_elim
+    (λ (out : to < from). sym (place-past (is_change_from row black) from to (omega arith)))
+    (λ (order : from ≤ to). sym (place-is (is_change_from row black) from to to order order (omega arith) (λ i after before. so_far i after (omega arith)) (λ h. absurd (omega arith))))
+    (cases_lt to from)
+
+-- what a search finds
+record IsPlace (p : ℕ → Bool) (from to place : ℕ) : Type 0 where
+  after : from ≤ place
+  within : place ≤ to
+  before : (i : ℕ) → from ≤ i → i < place → p i ≡ false
+  found : place < to → p place ≡ true
+
+place-from : (n : ℕ) (p : ℕ → Bool) (from to : ℕ) → from + n ≡ to → IsPlace p from to (least p n to)
+unfolding least
+place-from zero p from to e = record { after = omega arith; within = omega arith; before = λ i a b. absurd (omega arith); found = λ h. absurd (omega arith) }
+place-from (suc n) p from to e =
+    let at : to - suc n ≡ from = omega arith in
+    ⊎_elim
+    (λ (t : p (to - suc n) ≡ true).
+    subst (λ (place : ℕ). IsPlace p from to place) (sym (cond-true (p (to - suc n)) (to - suc n) (least p n to) t ∙ at))
+    (record { after = omega arith; within = omega arith; before = λ i a b. absurd (omega arith); found = λ h. ap p (sym at) ∙ t }))
+    (λ (f : p (to - suc n) ≡ false).
+    let rest = place-from n p (from + 1) to (omega arith) in
+    subst (λ (place : ℕ). IsPlace p from to place) (sym (cond-false (p (to - suc n)) (to - suc n) (least p n to) f))
+    (record {
+      after = omega (arith, rest.after);
+      within = rest.within;
+      before = λ i a b. ⊎_elim (λ (here : from ≡ i). ap p (sym (at ∙ here)) ∙ f) (λ (o : from ≡ i → ⊥). rest.before i (omega (arith, o)) b) (cases_eq from i);
+      found = rest.found;
+    }))
+    (cases_Bool (p (to - suc n)))
+
+place-of : (p : ℕ → Bool) (from to : ℕ) → from ≤ to → IsPlace p from to (place_from p from to)
+place-of p from to order = place-from (to - from) p from to (omega arith)
+
+-- a search that goes on behind this word
+pub changes-later : (row : ℕ → Bool) (black : Bool) (from x to : ℕ) → from ≤ x → ((i : ℕ) → from ≤ i → i < x → is_change_from row black i ≡ false) → place_from (is_change_from row black) x to ≡ place_from (is_change_from row black) from to
+changes-later row black from x to order so_far =
+    ⊎_elim
+    (λ (before : x < to).
+    let found = place-of (is_change_from row black) x to (omega arith) in
+    sym (place-is (is_change_from row black) from to (place_from (is_change_from row black) x to) (omega arith) (omega (arith, found.after)) found.within
+    (λ i a b. ⊎_elim (λ (old : i < x). so_far i a old) (λ (fresh : x ≤ i). found.before i fresh b) (cases_lt i x))
+    found.found))
+    (λ (past : to ≤ x). place-past (is_change_from row black) x to past ∙ changes-past row black from x to past so_far)
+    (cases_lt x to)
+
+-- where the search comes to
 other : (b c : Bool) → differ b c ≡ true → b ≡ not c
 other true true e = sym e
 other true false e = refl
@@ -106,23 +220,47 @@ turned : (row : ℕ → Bool) (black : Bool) (x : ℕ) → is_change_from row bl
 unfolding is_change_from
 turned row black x e = other (row x) black (and_parts (is_change row x) (differ (row x) black) e).1
 
-pub changes-found : (row : ℕ → Bool) (black : Bool) (from x count changes to : ℕ) → IsChanges row black x count changes → count ≤ 64 → (changes ≡ 0 → ⊥) → from ≤ x → x + count ≤ to → ((i : ℕ) → from ≤ i → i < x → is_change_from row black i ≡ false) → (x + (count_leading_zeros 64 changes - (64 - count)) ≡ place_from (is_change_from row black) from to) × (row (x + (count_leading_zeros 64 changes - (64 - count))) ≡ not black)
-changes-found row black from x count changes to is few some begun inside so_far =
-    let lead = leading-is changes count few is.small in
-    let there = leading-within count changes few is.small some in
-    let k : ℕ = count_leading_zeros 64 changes - (64 - count) in
-    let here : is_change_from row black (x + k) ≡ true = sym (is.value k there.1) ∙ lead.found there.1 in (
-      sym (place-is (is_change_from row black) from to (x + k) (omega arith) (omega arith) (omega (arith, there))
-          (λ i after before.
-          ⊎_elim (λ (old : i < x). so_far i after old)
-          (λ (fresh : x ≤ i).
-          let at : x + (i - x) ≡ i = omega arith in
-          ap (λ (n : ℕ). is_change_from row black n) (sym at) ∙ sym (is.value (i - x) (omega (arith, there))) ∙ lead.before (i - x) (omega arith))
-          (cases_lt i x))
-          (λ h. here)),
-      turned row black (x + k) here,
-    )
+pub place-turned : (row : ℕ → Bool) (black : Bool) (from to : ℕ) → from ≤ to → (place_from (is_change_from row black) from to ≤ to) × (from ≤ place_from (is_change_from row black) from to) × (place_from (is_change_from row black) from to < to → row (place_from (is_change_from row black) from to) ≡ not black)
+place-turned row black from to order =
+    let found = place-of (is_change_from row black) from to order in
+    (found.within, found.after, λ inside. turned row black (place_from (is_change_from row black) from to) (found.found inside))
 
-pub changes-past : (row : ℕ → Bool) (black : Bool) (from x to : ℕ) → from ≤ to → to ≤ x → x ≤ to → ((i : ℕ) → from ≤ i → i < x → is_change_from row black i ≡ false) → to ≡ place_from (is_change_from row black) from to
-changes-past row black from x to order past within so_far =
-    sym (place-is (is_change_from row black) from to to order order (omega arith) (λ i after before. so_far i after (omega arith)) (λ h. absurd (omega arith)))
+-- ---- b2
+same-colour : (p l c : Bool) → (differ p l && differ p c) ≡ false → l ≡ c → p ≡ c
+same-colour true true true e f = refl
+same-colour true true false e f = absurd (true≢false f)
+same-colour true false true e f = absurd (true≢false (sym f))
+same-colour true false false e f = absurd (true≢false e)
+same-colour false true true e f = absurd (true≢false e)
+same-colour false true false e f = absurd (true≢false f)
+same-colour false false true e f = absurd (true≢false (sym f))
+same-colour false false false e f = refl
+
+-- without a change the colour goes on
+stays : (row : ℕ → Bool) (colour : Bool) (from to : ℕ) → ((i : ℕ) → from + 1 ≤ i → i < to → is_change_from row colour i ≡ false) → row from ≡ colour → (n : ℕ) → from + n < to → row (from + n) ≡ colour
+unfolding is_change_from is_change
+stays row colour from to none start zero inside = let at : from + 0 ≡ from = omega arith in ap row at ∙ start
+stays row colour from to none start (suc n) inside =
+    let before = stays row colour from to none start n (omega arith) in
+    let at : from + suc n - 1 ≡ from + n = omega arith in
+    same-colour (row (from + suc n)) (left_of row (from + suc n)) colour (none (from + suc n) (omega arith) inside) (left-here row (from + suc n) (omega arith) ∙ ap row at ∙ before)
+
+not-not : (b : Bool) → not (not b) ≡ b
+not-not true = refl
+not-not false = refl
+
+pub first-colour : (row : ℕ → Bool) (black : Bool) (b1 to place : ℕ) → b1 < to → row b1 ≡ not black → place ≡ place_from (is_change_from row (not black)) (b1 + 1) to → IsFirst row black b1 to place
+first-colour row black b1 to place inside start e =
+    subst (λ (n : ℕ). IsFirst row black b1 to n) (sym e)
+    (let found = place-of (is_change_from row (not black)) (b1 + 1) to (omega arith) in
+    record {
+      after = omega (arith, found.after);
+      within = found.within;
+      before = λ i a b.
+          let at : b1 + (i - b1) ≡ i = omega arith in
+          ap row (sym at) ∙ stays row (not black) b1 (place_from (is_change_from row (not black)) (b1 + 1) to) found.before start (i - b1) (omega arith);
+      found = λ h. turned row (not black) (place_from (is_change_from row (not black)) (b1 + 1) to) (found.found h) ∙ not-not black;
+    })
+
+pub first-end : (row : ℕ → Bool) (black : Bool) (to place : ℕ) → place ≤ to → to ≤ place → IsFirst row black place to place
+first-end row black to place within past = record { after = omega arith; within = within; before = λ i a b. absurd (omega arith); found = λ h. absurd (omega arith) }

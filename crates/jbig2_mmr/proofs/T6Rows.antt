@@ -1,21 +1,21 @@
 -- Changes, changing elements, modes and rows.
-use Rattle.std.proofs.Common.{◌≡◌, ℕ, zero, suc, ◌+◌, ◌-◌, ◌%◌, ◌^◌, ◌<◌, ◌≤◌, ◌&&◌, ℤ, pos, negsuc, ◌+ℤ◌, Bool, true, false, not, cond, eqb, ltb, leb, List, [], ◌∷◌, ◌++◌, length, Option, Some, None, refl, sym, ap, subst, ◌∙◌, ⊎_elim, add-one, arith}
-use Rattle.std.specs.Prelude.{filter, ◌⊎◌, unsigned_abs, ◌≤ℤ◌}
-use Rattle.std.specs.Int.{FitsUnsigned, w32}
-use Rattle.std.proofs.lemmas.Int.{ints}
-use mathlib.Core.Bool.{beq}
+use Rattle.std.proofs.Common.{◌≡◌, ℕ, zero, suc, ◌+◌, ◌-◌, ◌%◌, ◌^◌, ◌<◌, ◌≤◌, ◌&&◌, ℤ, pos, negsuc, ◌+ℤ◌, Bool, true, false, not, cond, eqb, leb, List, [], ◌∷◌, ◌++◌, length, Option, Some, None, refl, sym, ap, subst, ◌∙◌, ⊎_elim, arith}
+use Rattle.std.specs.Prelude.{filter, unsigned_abs, ◌≤ℤ◌, ◌<ℤ◌}
+use Rattle.std.specs.Int.{w32}
+use Rattle.std.proofs.Common.{SFits, to_z, of_z, w64, rules}
+use Rattle.std.proofs.lemmas.Int.{ints, to_z-of_z}
 use Rattle.std.proofs.lemmas.List.{length-append}
 use Rattle.std.proofs.lemmas.List.Elements.{filter-append}
-use Rattle.std.proofs.lemmas.Bool.{true≢false, cases_eq, cases_lt, cond-true, cond-false, and_from, and_left, and_right, or_left, or_right, or_from, le-leb, lt-leb, lt-ltb, le-ltb, eq-eqb, ne_eqb}
-use Rattle.jbig2_base.specs.Grid.{Grid, pixel_at, bit_number}
+use Rattle.std.proofs.lemmas.Bool.{true≢false, cases_eq, cases_lt, cond-true, cond-false, and_from, and_left, and_right, le-leb, lt-leb, eq-eqb, ne_eqb}
+use Rattle.jbig2_base.specs.Grid.{Grid, pixel_at}
 use Rattle.jbig2_base.specs.inner.Colour.{IsFirst}
 use Rattle.jbig2_base.specs.inner.Table.{IsTable}
 use Rattle.jbig2_base.proofs.GridLemmas.{pixel_at-below}
 use Rattle.jbig2_base.proofs.SearchLemmas.{place-is, place-past}
 use Rattle.jbig2_mmr.specs.declared.mmr.codes.Mode.{Mode}
 use Rattle.jbig2_mmr.specs.declared.mmr.row.Turn.{Turn}
-use Rattle.jbig2_base.specs.Search.{least, place_from}
-use Rattle.jbig2_mmr.specs.T6.{differ, left_of, is_change, is_change_from, Head, Step, b1_of, b2_of, run, after_pass, after_runs, after_vertical, place_in, after_mode, next_step, read_code, row_from, row_start, black_at, ◌>>=◌}
+use Rattle.jbig2_base.specs.Search.{place_from}
+use Rattle.jbig2_mmr.specs.T6.{differ, left_of, is_change, Head, Step, b1_of, b2_of, run, after_pass, after_runs, after_vertical, place_in, after_mode, next_step, read_code, row_from, row_start, black_at, ◌>>=◌}
 use Rattle.jbig2_mmr.specs.T6Codes.{modes}
 use Rattle.jbig2_mmr.specs.inner.T6Reading.{row_above, row_of, IsSpan, IsTurn, ReadRun}
 use Rattle.jbig2_mmr.specs.inner.T6Calls.{head_of, ReadStep, ReadRow}
@@ -174,20 +174,18 @@ vertical-read w above h b1 a1 distance t bits e sum forward within turn next =
     )
 
 -- a1 is no place of the row
-pub outside-low : (a0 w a1 : ℕ) (z : ℤ) → z ≡ pos a1 → a1 < a0 → place_in a0 w z ≡ None
-outside-low a0 w a1 z e low = ap (λ (z : ℤ). place_in a0 w z) e ∙ cond-false (leb a0 a1 && leb a1 w) (Some a1) None (and_left (leb a0 a1) (leb a1 w) (lt-leb a0 a1 low))
+pub outside-left : (a0 w : ℕ) (z : ℤ) → z <ℤ pos a0 → place_in a0 w z ≡ None
+outside-left a0 w (pos n) low = cond-false (leb a0 n && leb n w) (Some n) None (and_left (leb a0 n) (leb n w) (lt-leb a0 n (omega (arith, ints, low))))
+outside-left a0 w (negsuc n) low = refl
 
-pub outside-high : (a0 w a1 : ℕ) (z : ℤ) → z ≡ pos a1 → w < a1 → place_in a0 w z ≡ None
-outside-high a0 w a1 z e high = ap (λ (z : ℤ). place_in a0 w z) e ∙ cond-false (leb a0 a1 && leb a1 w) (Some a1) None (and_right (leb a0 a1) (leb a1 w) (lt-leb a1 w high))
+pub outside-right : (a0 w : ℕ) (z : ℤ) → pos w <ℤ z → place_in a0 w z ≡ None
+outside-right a0 w (pos n) high = cond-false (leb a0 n && leb n w) (Some n) None (and_right (leb a0 n) (leb n w) (lt-leb n w (omega (arith, ints, high))))
+outside-right a0 w (negsuc n) high = refl
 
-pub outside-word : (a0 w : ℕ) (z : ℤ) → w < 2 ^ 32 → (FitsUnsigned w32 z → ⊥) → place_in a0 w z ≡ None
-outside-word a0 w (pos n) few none = outside-high a0 w n (pos n) refl (⊎_elim (λ (h : w < n). h) (λ (h : n ≤ w). absurd (none (omega (arith, ints), omega (arith, ints)))) (cases_lt w n))
-outside-word a0 w (negsuc n) few none = refl
-
--- what a checked sum says of the sum
-pub sum-is : (z : ℤ) (a1 : ℕ) → FitsUnsigned w32 z → a1 ≡ unsigned_abs z → z ≡ pos a1
-sum-is (pos n) a1 fits e = ap (λ (k : ℕ). pos k) (sym e)
-sum-is (negsuc n) a1 fits e = absurd (let low : pos 0 ≤ℤ negsuc n = fits.0 in omega (arith, ints, low))
+-- a1 is a place of the row
+pub sum-place : (z : ℤ) (a0 w : ℕ) → pos a0 ≤ℤ z → z ≤ℤ pos w → (z ≡ pos (unsigned_abs z)) × (a0 ≤ unsigned_abs z) × (unsigned_abs z ≤ w)
+sum-place (pos n) a0 w low high = (refl, omega (arith, ints, low), omega (arith, ints, high))
+sum-place (negsuc n) a0 w low high = absurd (omega (arith, ints, low))
 
 pub vertical-fault : (w : ℕ) (above : ℕ → Bool) (h : Head) (b1 : ℕ) (distance : ℤ) (bits : List ℕ) → b1 ≡ b1_of w above h → place_in h.a0 w (pos b1 +ℤ distance) ≡ None → ReadStep w h (after_vertical w above h distance bits) None bits
 unfolding after_vertical
@@ -195,6 +193,18 @@ vertical-fault w above h b1 distance bits e fault =
     let place : place_in h.a0 w (pos (b1_of w above h) +ℤ distance) ≡ None = ap (λ (b : ℕ). place_in h.a0 w (pos b +ℤ distance)) (sym e) ∙ fault in
     let is : after_vertical w above h distance bits ≡ None = ap (λ (o : Option ℕ). o >>= (λ a. Some (vertical_made h a bits))) place in
     subst (λ (o : Option Step). ReadStep w h o None bits) (sym is) tt
+
+-- the sum of b1 and the distance, in a wider type
+pub sum-wide : (b1 : ℕ) (d first second : ℤ) → b1 < 2 ^ 32 → SFits w32 d → first ≡ pos b1 → second ≡ to_z w32 (of_z w32 d) → to_z w64 (of_z w64 (to_z w64 (of_z w64 first) +ℤ to_z w64 (of_z w64 second))) ≡ pos b1 +ℤ d
+sum-wide b1 d first second small fits e f =
+    let one : to_z w64 (of_z w64 first) ≡ pos b1 = ap (λ (z : ℤ). to_z w64 (of_z w64 z)) e ∙ to_z-of_z w64 (pos b1) (record { sfits = omega (arith, ints) }) in
+    let two : to_z w64 (of_z w64 second) ≡ d = ap (λ (z : ℤ). to_z w64 (of_z w64 z)) (f ∙ to_z-of_z w32 d fits) ∙ to_z-of_z w64 d (record { sfits = omega (arith, ints, fits.sfits) }) in
+    ap (λ (z : ℤ). to_z w64 (of_z w64 (z +ℤ to_z w64 (of_z w64 second)))) one
+    ∙ ap (λ (z : ℤ). to_z w64 (of_z w64 (pos b1 +ℤ z))) two
+    ∙ to_z-of_z w64 (pos b1 +ℤ d) (search rules)
+
+pub wide-is : (n : ℕ) (z : ℤ) → n < 2 ^ 32 → z ≡ pos n → to_z w64 (of_z w64 z) ≡ pos n
+wide-is n z small e = ap (λ (y : ℤ). to_z w64 (of_z w64 y)) e ∙ to_z-of_z w64 (pos n) (record { sfits = omega (arith, ints) })
 
 -- ---- two runs
 abbrev runs_made : Head → ℕ → ℕ → List ℕ → Step
@@ -274,13 +284,14 @@ pub record RowReading (g new : Grid) (y : ℕ) (h : Head) (bits : List ℕ) (mea
   pub height : new.height ≡ g.height
   pub table : IsTable new
   pub painted : (x : ℕ) → x < h.a0 → pixel_at new x y ≡ black_at changes x
+  pub white : (x : ℕ) → h.a0 ≤ x → pixel_at new x y ≡ false
   pub other : (x j : ℕ) → (j ≡ y → ⊥) → pixel_at new x j ≡ pixel_at g x j
   pub ahead : (x : ℕ) → h.a0 ≤ x → black_at changes x ≡ h.black
   pub inside : h.a0 ≤ g.width
   pub first : h.begun ≡ false → h.a0 ≡ 0
 
-pub row-start : (g : Grid) (y : ℕ) (bits : List ℕ) → IsTable g → RowReading g g y row_start bits (row_from (length bits) g.width (row_above g y) row_start [] bits)
-row-start g y bits known = record {
+pub row-start : (g : Grid) (y : ℕ) (bits : List ℕ) → IsTable g → ((x : ℕ) → pixel_at g x y ≡ false) → RowReading g g y row_start bits (row_from (length bits) g.width (row_above g y) row_start [] bits)
+row-start g y bits known white = record {
   most = length bits;
   changes = [];
   enough = omega arith;
@@ -289,6 +300,7 @@ row-start g y bits known = record {
   height = refl;
   table = known;
   painted = λ x a. absurd (omega arith);
+  white = λ x a. white x;
   other = λ x j o. refl;
   ahead = λ x a. change-none x;
   inside = omega arith;
@@ -332,6 +344,7 @@ next-by g new one two y h bits left meant t s reading inside shorter e read firs
           (cases_lt x h.a0))
           (λ (late : t.turn ≤ x). second.inside x late a ∙ sym (at x ∙ ap (λ (b : Bool). differ b (black_at s.added x)) (reading.ahead x (omega (arith, turn.forward))) ∙ ap (λ (b : Bool). differ h.black b) (turn.between x late a) ∙ differ-right_true h.black))
           (cases_lt x t.turn);
+      white = λ x a. second.right x a ∙ first.right x (omega (arith, turn.ordered)) ∙ reading.white x (omega (arith, turn.forward, turn.ordered));
       other = λ x j o. second.other x j o ∙ first.other x j o ∙ reading.other x j o;
       ahead = λ x a. at x ∙ ap (λ (b : Bool). differ b (black_at s.added x)) (reading.ahead x (omega (arith, turn.forward, turn.ordered))) ∙ turn.behind x a;
       inside = turn.inside;
@@ -341,6 +354,18 @@ next-by g new one two y h bits left meant t s reading inside shorter e read firs
 next-of : (g new one two : Grid) (y : ℕ) (h : Head) (bits left : List ℕ) (meant : Option (List ℕ × List ℕ)) (t : Turn) (o : Option Step) → RowReading g new y h bits meant → h.a0 < g.width → length left < length bits → next_step g.width (row_above g y) h bits ≡ o → ReadStep g.width h o (Some t) left → IsSpan new one y h.a0 t.turn h.black → IsSpan one two y t.turn t.next.a0 (not h.black) → RowReading g two y (head_of t.next) left meant
 next-of g new one two y h bits left meant t None reading inside shorter e read first second = absurd read
 next-of g new one two y h bits left meant t (Some s) reading inside shorter e read first second = next-by g new one two y h bits left meant t s reading inside shorter e read first second
+
+-- pixels that are white already
+pub span-white : (g : Grid) (y from to : ℕ) (black : Bool) → IsTable g → ((x : ℕ) → from ≤ x → pixel_at g x y ≡ false) → black ≡ false → IsSpan g g y from to black
+span-white g y from to black known white e = record {
+  width = refl;
+  height = refl;
+  table = known;
+  inside = λ x a b. white x a ∙ sym e;
+  left = λ x a. refl;
+  right = λ x a. refl;
+  other = λ x j o. refl;
+}
 
 -- one mode more
 pub row-next : (g new one two : Grid) (y : ℕ) (above : ℕ → Bool) (h : Head) (bits left : List ℕ) (meant : Option (List ℕ × List ℕ)) (t : Turn) → RowReading g new y h bits meant → h.a0 < g.width → length left < length bits → above ≡ row_above g y → ReadStep new.width h (next_step new.width above h bits) (Some t) left → IsSpan new one y h.a0 t.turn h.black → IsSpan one two y t.turn t.next.a0 (not h.black) → RowReading g two y (head_of t.next) left meant

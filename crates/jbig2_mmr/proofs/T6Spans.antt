@@ -1,6 +1,7 @@
 -- Spans of one colour, word by word.
 use Rattle.std.proofs.Common.{◌≡◌, ℕ, ◌+◌, ◌-◌, ◌<◌, ◌≤◌, Bool, true, false, ◌&&◌, cond, eqb, ltb, leb, refl, sym, ap, ◌∙◌, ⊎_elim, arith}
 use Rattle.std.proofs.lemmas.Bool.{cases_lt, cond-true, cond-false, and_from, and_left, and_right, le-leb, lt-leb, lt-ltb, le-ltb, eq-eqb, ne_eqb}
+use Rattle.jbig2_base.specs.Counts.{Counts, KeepsLanes}
 use Rattle.jbig2_base.specs.Grid.{Grid, grid_of, pixel_at}
 use Rattle.jbig2_base.specs.inner.WordBits.{bit}
 use Rattle.jbig2_base.specs.inner.Writes.{with_pixels}
@@ -41,3 +42,11 @@ span-more old g new y from x count bits black so_far order inside row colour e =
       right = λ i a. at i y ∙ kept g x y count bits i y (and_right _ _ (le-ltb i (x + count) a)) ∙ so_far.right i (omega arith);
       other = λ i j o. at i j ∙ kept g x y count bits i j (and_left _ _ (and_left _ _ (ne_eqb j y o))) ∙ so_far.other i j o;
     }
+
+-- ---- counts
+-- what loads or writes words keeps lanes and single pixels
+pub lanes-load : (old new : Counts) → new ≡ record old { loads = old.loads + 1 } → KeepsLanes old new
+lanes-load old new e = record { groups = ap (λ (s : Counts). s.groups) e; pixels = ap (λ (s : Counts). s.pixels) e }
+
+pub lanes-word : (old new : Counts) → new ≡ record old { words = old.words + 1 } → KeepsLanes old new
+lanes-word old new e = record { groups = ap (λ (s : Counts). s.groups) e; pixels = ap (λ (s : Counts). s.pixels) e }

@@ -1,10 +1,16 @@
 -- The code's tables are T.6's: each entry is the code that begins the bits that look it up.
-use Rattle.std.proofs.Common.{◌≡◌, ℕ, ◌/◌, ◌^◌, ◌<◌, ◌≤◌, Bool, true, false, List, [], map, replicate, get_or, refl, ap, sym, ◌∙◌, arith}
+use Rattle.std.proofs.Common.{◌≡◌, ℕ, ◌/◌, ◌%◌, ◌^◌, ◌<◌, ◌≤◌, ℤ, pos, cond, eqb, ltb, to_z, of_z, w32, rules, Option, Some, None, Bool, true, false, List, [], map, replicate, get_or, refl, ap, sym, ◌∙◌, arith}
+use Rattle.std.specs.Prelude.{◌-ℤ◌}
+use Rattle.std.proofs.lemmas.Bool.{cond-true, cond-false, eq-eqb, ne_eqb, lt-ltb, le-ltb, ltb-true}
+use Rattle.std.proofs.lemmas.Int.{ints, to_z-of_z}
 use Rattle.std.specs.Option.{is_some}
 use Rattle.std.specs.List.{range_with_len}
 use Rattle.std.proofs.lemmas.List.FromFn.{get_or-map-range_with_len}
 use Rattle.jbig2_mmr.specs.declared.mmr.codes.black.TheConstants.{BLACK_SHORT, BLACK_LONG}
 use Rattle.jbig2_mmr.specs.declared.mmr.codes.white.TheConstants.{WHITE_SHORT, WHITE_LONG}
+use Rattle.jbig2_mmr.specs.declared.mmr.codes.Mode.{Mode}
+use Rattle.jbig2_mmr.specs.declared.mmr.codes.Mode.TheVariants.{Pass, Horizontal, Vertical}
+use Rattle.jbig2_mmr.specs.declared.mmr.codes.modes.TheConstants.{MODES}
 use Rattle.jbig2_mmr.specs.T6.{is_prefix_free, runs_of}
 use Rattle.jbig2_mmr.specs.T6Codes.{modes, longer_runs, white_runs, black_runs}
 use Rattle.jbig2_mmr.specs.inner.T6Reading.{spell, code_at, entry_of}
@@ -37,6 +43,68 @@ runs-window false = refl
 white-twelve : are_short 12 white_runs ≡ true
 unfolding white_runs longer_runs
 white-twelve = refl
+
+-- what an entry of the table of modes says
+abbrev pub mode_of : ℕ → Mode
+mode_of kind = cond (ltb 2 kind) (Vertical (pos kind -ℤ pos 6)) (cond (eqb kind 2) Horizontal Pass)
+
+said : ℕ → Option (Mode × ℕ)
+said e = cond (eqb (e % 8) 0) None (Some (mode_of (e / 8), e % 8))
+
+pub kind-vertical : (kind : ℕ) (z : ℤ) → 2 < kind → z ≡ pos kind -ℤ pos 6 → Vertical z ≡ mode_of kind
+kind-vertical kind z high is = ap (λ (y : ℤ). Vertical y) is ∙ sym (cond-true (ltb 2 kind) (Vertical (pos kind -ℤ pos 6)) (cond (eqb kind 2) Horizontal Pass) (lt-ltb 2 kind high))
+
+kind-low : (kind : ℕ) → kind ≤ 2 → mode_of kind ≡ cond (eqb kind 2) Horizontal Pass
+kind-low kind low = cond-false (ltb 2 kind) (Vertical (pos kind -ℤ pos 6)) (cond (eqb kind 2) Horizontal Pass) (le-ltb 2 kind low)
+
+pub kind-horizontal : (kind : ℕ) → kind ≡ 2 → Horizontal ≡ mode_of kind
+kind-horizontal kind e = sym (kind-low kind (omega arith) ∙ cond-true (eqb kind 2) Horizontal Pass (eq-eqb kind 2 e))
+
+pub kind-pass : (kind : ℕ) → kind ≤ 2 → (kind ≡ 2 → ⊥) → Pass ≡ mode_of kind
+kind-pass kind low other = sym (kind-low kind low ∙ cond-false (eqb kind 2) Horizontal Pass (ne_eqb kind 2 other))
+
+-- a small difference fits its type
+pub distance-is : (kind : ℕ) (z : ℤ) → kind < 32 → z ≡ pos kind → to_z w32 (of_z w32 (to_z w32 (of_z w32 z) -ℤ pos 6)) ≡ pos kind -ℤ pos 6
+distance-is kind z small e =
+    let inner : to_z w32 (of_z w32 z) ≡ pos kind = ap (λ (y : ℤ). to_z w32 (of_z w32 y)) e ∙ to_z-of_z w32 (pos kind) (record { sfits = omega (arith, ints) }) in
+    ap (λ (y : ℤ). to_z w32 (of_z w32 (y -ℤ pos 6))) inner ∙ to_z-of_z w32 (pos kind -ℤ pos 6) (search rules)
+
+mode_at : ℕ → Option (Mode × ℕ)
+mode_at bits = code_at modes (spell 7 bits [])
+
+said_at : ℕ → Option (Mode × ℕ)
+said_at bits = said (get_or MODES bits 0)
+
+modes-same : map said_at (range_with_len 0 128) ≡ map mode_at (range_with_len 0 128)
+unfolding said_at said mode_at code_at modes
+modes-same = refl
+
+modes-small : map (λ b. ltb (get_or MODES b 0) 256) (range_with_len 0 128) ≡ replicate 128 true
+modes-small = refl
+
+pub mode-small : (v : ℕ) → v < 128 → get_or MODES v 0 / 8 < 32
+mode-small v inside =
+    let below : get_or MODES v 0 < 256 = ltb-true (get_or MODES v 0) 256 (at-all (λ b. ltb (get_or MODES b 0) 256) true 0 128 v modes-small (omega arith) (omega arith)) in
+    omega (arith, below)
+
+mode-said : (v : ℕ) → v < 128 → said (get_or MODES v 0) ≡ code_at modes (spell 7 v [])
+unfolding said_at mode_at
+mode-said v inside =
+    sym (get_or-map-range_with_len said_at 0 128 v v None inside (omega arith))
+    ∙ ap (λ (t : List (Option (Mode × ℕ))). get_or t v None) modes-same
+    ∙ get_or-map-range_with_len mode_at 0 128 v v None inside (omega arith)
+
+pub mode-none : (v : ℕ) → v < 128 → get_or MODES v 0 % 8 ≡ 0 → code_at modes (spell 7 v []) ≡ None
+unfolding said
+mode-none v inside none =
+    let e : ℕ = get_or MODES v 0 in
+    sym (mode-said v inside) ∙ cond-true (eqb (e % 8) 0) None (Some (mode_of (e / 8), e % 8)) (eq-eqb (e % 8) 0 none)
+
+pub mode-some : (v : ℕ) → v < 128 → (get_or MODES v 0 % 8 ≡ 0 → ⊥) → code_at modes (spell 7 v []) ≡ Some (mode_of (get_or MODES v 0 / 8), get_or MODES v 0 % 8)
+unfolding said
+mode-some v inside some =
+    let e : ℕ = get_or MODES v 0 in
+    sym (mode-said v inside) ∙ cond-false (eqb (e % 8) 0) None (Some (mode_of (e / 8), e % 8)) (ne_eqb (e % 8) 0 some)
 
 -- the entry of the code that begins n bits
 entry_at : Bool → ℕ → ℕ → ℕ

@@ -1,6 +1,7 @@
 //! Bitmaps that are coded in two dimensions by T.6 (MMR; T.88, 6.2.6).
 ghost use Rattle.std.specs.Prelude.{◌≡◌, if◌then◌else◌, false, Ok, Err};
 ghost use Rattle.jbig2_base.specs.Answer.{Answers};
+ghost use Rattle.jbig2_base.specs.Counts.{KeepsLanes};
 ghost use Rattle.jbig2_base.specs.Grid.{blank};
 ghost use Rattle.jbig2_mmr.specs.T6.{mmr_rows, grid_of_rows, rows_of};
 
@@ -22,7 +23,8 @@ use std::sync::ledger::Ledger;
 ///
 /// A fault in the data, or an end of block before the last row, is refused in strict mode
 /// (`RegionError::InvalidMmrData`); otherwise a fault takes all bytes. In both modes the whole rows
-/// before it stay and the rest is white. No memory is taken.
+/// before it stay and the rest is white. No memory is taken, and no group of lanes and no single
+/// pixel is counted.
 pub fn decode<A: Allocator, L: Ledger>(
     bitmap: &mut Bitmap<A>,
     bytes: &[u8],
@@ -32,6 +34,7 @@ pub fn decode<A: Allocator, L: Ledger>(
     requires { bitmap.old ≡ blank bitmap.old.width bitmap.old.height false }
     ensures value { Answers (λ used. record { grid = bitmap.new; used = used }) result (mmr_rows strict bitmap.old.width bitmap.old.height bytes.now) }
     ensures grid { bitmap.new ≡ grid_of_rows bitmap.old.width bitmap.old.height (rows_of bitmap.old.width bitmap.old.height bytes.now).rows }
+    ensures lanes { KeepsLanes steps.old steps.new }
 {
     let height = bitmap.height();
     if bitmap.width() == 0 || height == 0 {

@@ -1,10 +1,11 @@
 //! The bits of MMR data, and the codes in them (T.6).
-ghost use Rattle.std.specs.Prelude.{◌≡◌, ℕ, ◌+◌, ◌-◌, ◌*◌, ◌/◌, ◌^◌, ◌<◌, ◌≤◌, ◌++◌, List, length, drop, take, min, slice_index, [], IfSome, IsTrue, if◌then◌else◌};
+ghost use Rattle.std.specs.Prelude.{◌≡◌, ℕ, ◌+◌, ◌-◌, ◌*◌, ◌/◌, ◌^◌, ◌<◌, ◌≤◌, ◌++◌, List, length, drop, take, min, slice_index, IfSome, IsTrue, if◌then◌else◌};
 ghost use Rattle.jbig2_base.specs.Bits.{number_after};
 ghost use Rattle.jbig2_mmr.specs.T6.{read_code, run, bits_of, ends_block, after_end, is_prefix_free, runs_of};
 ghost use Rattle.jbig2_mmr.specs.T6Codes.{modes};
-ghost use Rattle.jbig2_mmr.specs.inner.T6Reading.{AreBits, with_rest, ReadRun, padded, spell, code_at};
+ghost use Rattle.jbig2_mmr.specs.inner.T6Reading.{AreBits, with_rest, ReadRun, padded};
 
+use crate::mmr::codes::modes::MODES;
 use crate::mmr::codes::{Mode, run_entry};
 use std::marker::Model;
 
@@ -52,6 +53,7 @@ impl<'a> CodeReader<'a> {
     }
 
     /// The next 24 bits as a number, zeros behind the end.
+    #[inline(always)]
     fn window(&self) -> u32
         ensures value { (n : ℕ) → n ≤ 24 → result / 2 ^ (24 - n) ≡ number_after 0 (take n (padded self.now.left)) }
         ensures bits { AreBits self.now.left }
@@ -61,6 +63,7 @@ impl<'a> CodeReader<'a> {
     }
 
     /// How many bits are left, counted up to 24.
+    #[inline(always)]
     fn few(&self) -> u32
         ensures { result ≡ min 24 (length self.now.left) }
     {
@@ -72,6 +75,7 @@ impl<'a> CodeReader<'a> {
     }
 
     /// Goes over `count` bits.
+    #[inline(always)]
     fn skip(&mut self, count: u32)
         requires few { count ≤ 24 }
         requires there { count ≤ length self.old.left }
@@ -95,21 +99,31 @@ impl<'a> CodeReader<'a> {
     }
 
     /// The next mode (T.6, table 1). None where the bits begin with no code of one; the place stays.
+    #[inline(always)]
     pub fn read_mode(&mut self) -> Option<Mode>
         ensures value { with_rest result self.new.left ≡ read_code modes self.old.left }
         ensures bytes { self.new.bytes ≡ self.old.bytes }
         ensures shorter { IfSome result (λ _. length self.new.left < length self.old.left) }
         ensures law { IsTrue (is_prefix_free modes) }
     {
-        let (mode, size) = mode_at(self.window() >> 17)?;
-        if size > self.few() {
+        let entry = MODES[(self.window() >> 17) as usize];
+        let size = u32::from(entry % 8);
+        if size == 0 || size > self.few() {
             return None;
         }
         self.skip(size);
-        Some(mode)
+        let kind = entry / 8;
+        if kind > 2 {
+            return Some(Mode::Vertical(i32::from(kind) - 6));
+        }
+        if kind == 2 {
+            return Some(Mode::Horizontal);
+        }
+        Some(Mode::Pass)
     }
 
     /// The run that the next code of the colour stands for (T.6, tables 2 and 3).
+    #[inline(always)]
     fn read_run_code(&mut self, black: bool) -> Option<u16>
         ensures value { with_rest result self.new.left ≡ read_code (runs_of black) self.old.left }
         ensures bytes { self.new.bytes ≡ self.old.bytes }
@@ -127,6 +141,7 @@ impl<'a> CodeReader<'a> {
 
     /// The next run of a colour: make-up codes, then a terminating code. None where it is longer
     /// than `room`, or bits stand there that are no code.
+    #[inline(always)]
     pub fn read_run(&mut self, black: bool, room: u32) -> Option<u32>
         ensures value { ReadRun (run black self.old.left) room result self.new.left }
         ensures bytes { self.new.bytes ≡ self.old.bytes }
@@ -144,25 +159,6 @@ impl<'a> CodeReader<'a> {
             }
         }
         None
-    }
-}
-
-/// The mode whose code begins these 7 bits, and how many of them it takes.
-fn mode_at(bits: u32) -> Option<(Mode, u32)>
-    requires { bits < 128 }
-    ensures { result ≡ code_at modes (spell 7 bits []) }
-{
-    match bits {
-        64..=127 => Some((Mode::Vertical(0), 1)),
-        48..=63 => Some((Mode::Vertical(1), 3)),
-        32..=47 => Some((Mode::Vertical(-1), 3)),
-        16..=31 => Some((Mode::Horizontal, 3)),
-        8..=15 => Some((Mode::Pass, 4)),
-        6..=7 => Some((Mode::Vertical(2), 6)),
-        4..=5 => Some((Mode::Vertical(-2), 6)),
-        3 => Some((Mode::Vertical(3), 7)),
-        2 => Some((Mode::Vertical(-3), 7)),
-        _ => None,
     }
 }
 

@@ -7,6 +7,7 @@ ghost use Rattle.jbig2_mmr.specs.T6.{runs_of};
 ghost use Rattle.jbig2_mmr.specs.inner.T6Reading.{entry_of, code_at, spell};
 
 mod black;
+pub mod modes;
 mod white;
 
 use crate::mmr::codes::black::black_entry;

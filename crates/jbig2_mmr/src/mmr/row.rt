@@ -1,16 +1,18 @@
 //! One row, mode by mode (T.6, 2.2).
-ghost use Rattle.std.specs.Prelude.{◌≡◌, ℕ, ◌+◌, ◌-◌, ◌<◌, ◌≤◌, List, length, IfSome, Some, not, true, false, ◌≢◌};
+ghost use Rattle.std.specs.Prelude.{◌≡◌, ℕ, ◌+◌, ◌-◌, ◌*◌, ◌/◌, ◌<◌, ◌≤◌, List, length, IfSome, Some, not, true, false, nat_le, if◌then◌else◌, ◌≢◌};
+ghost use Rattle.jbig2_base.specs.inner.WordBits.{bit};
+ghost use Rattle.jbig2_base.specs.Counts.{KeepsLanes};
+ghost use Rattle.jbig2_base.specs.Grid.{pixel_at};
 ghost use Rattle.jbig2_base.specs.inner.Table.{IsTable};
 ghost use Rattle.jbig2_mmr.specs.T6.{b1_of, after_pass, after_vertical, after_runs, next_step, row};
 ghost use Rattle.jbig2_mmr.specs.inner.T6Calls.{ReadStep, ReadRow, head_of};
 ghost use Rattle.jbig2_mmr.specs.inner.T6Reading.{row_above, row_of};
 
 use crate::mmr::bits::CodeReader;
-use crate::mmr::change::find_change;
+use crate::mmr::change::{changes_from, find_change, left_neighbours};
 use crate::mmr::codes::Mode;
 use crate::mmr::span::fill_span;
 use jbig2_base::bitmap::Bitmap;
-use jbig2_base::bitmap::colour::find_colour;
 use jbig2_base::bitmap::steps::Steps;
 use std::alloc::Allocator;
 use std::sync::ledger::Ledger;
@@ -30,16 +32,19 @@ pub struct Turn {
     next: Place,
 }
 
-/// Reads row `y`, whose reference row is the one above it. False at a fault, which leaves it white.
+/// Reads white row `y`, whose reference row is the one above it. False at a fault, which leaves it
+/// white.
 pub fn read_row<A: Allocator, L: Ledger>(
     bitmap: &mut Bitmap<A>,
     y: u32,
     reader: &mut CodeReader,
     steps: &mut Steps<L>,
 ) -> bool
-    requires { y < bitmap.old.height }
+    requires row { y < bitmap.old.height }
+    requires white { (x : ℕ) → pixel_at bitmap.old x y ≡ false }
     ensures value { ReadRow (row bitmap.old.width (row_above bitmap.old y) reader.old.left) result bitmap.old bitmap.new y reader.new.left }
     ensures bytes { reader.new.bytes ≡ reader.old.bytes }
+    ensures lanes { KeepsLanes steps.old steps.new }
 {
     let width = bitmap.width();
     let above = reference_row(bitmap, y);
@@ -51,9 +56,16 @@ pub fn read_row<A: Allocator, L: Ledger>(
     while place.a0 < width {
         match read_turn(bitmap, above, reader, place, steps) {
             Some(turn) => {
-                fill_span(bitmap, y, place.a0, turn.turn, place.black, steps);
-                fill_span(bitmap, y, turn.turn, turn.next.a0, !place.black, steps);
-                place = turn.next;
+                if place.black {
+                    fill_span(bitmap, y, place.a0, turn.turn, true, steps);
+                } else {
+                    fill_span(bitmap, y, turn.turn, turn.next.a0, true, steps);
+                }
+                place = Place {
+                    a0: turn.next.a0,
+                    begun: true,
+                    black: turn.next.black,
+                };
             }
             None => {
                 fill_span(bitmap, y, 0, width, false, steps);
@@ -74,6 +86,7 @@ fn reference_row<A: Allocator>(bitmap: &Bitmap<A>, y: u32) -> u32
 }
 
 /// Reads a mode. None at a fault.
+#[inline(always)]
 fn read_turn<A: Allocator, L: Ledger>(
     bitmap: &Bitmap<A>,
     above: u32,
@@ -86,6 +99,7 @@ fn read_turn<A: Allocator, L: Ledger>(
     ensures value { ReadStep bitmap.now.width (head_of place) (next_step bitmap.now.width (row_of bitmap.now above) (head_of place) reader.old.left) result reader.new.left }
     ensures bytes { reader.new.bytes ≡ reader.old.bytes }
     ensures shorter { IfSome result (λ _. length reader.new.left < length reader.old.left) }
+    ensures lanes { KeepsLanes steps.old steps.new }
 {
     match reader.read_mode()? {
         Mode::Pass => Some(pass(bitmap, above, place, steps)),
@@ -94,7 +108,8 @@ fn read_turn<A: Allocator, L: Ledger>(
     }
 }
 
-/// The pass mode: a0 moves under b2.
+/// The pass mode: a0 moves under b2, the next change behind b1, which is one of the other colour.
+#[inline(always)]
 fn pass<A: Allocator, L: Ledger>(
     bitmap: &Bitmap<A>,
     above: u32,
@@ -103,21 +118,38 @@ fn pass<A: Allocator, L: Ledger>(
 ) -> Turn
     requires column { place.a0 < bitmap.now.width }
     requires first { place.begun ≡ false → place.a0 ≡ 0 }
-    ensures { (bits : List ℕ) → ReadStep bitmap.now.width (head_of place) (after_pass bitmap.now.width (row_of bitmap.now above) (head_of place) bits) (Some result) bits }
+    ensures value { (bits : List ℕ) → ReadStep bitmap.now.width (head_of place) (after_pass bitmap.now.width (row_of bitmap.now above) (head_of place) bits) (Some result) bits }
+    ensures lanes { KeepsLanes steps.old steps.new }
 {
     let b1 = find_b1(bitmap, above, place, steps);
-    let b2 = find_colour(bitmap, above, b1, place.black, steps);
+    if b1 >= bitmap.width() {
+        return passed(b1, place.black);
+    }
+    let turned = Place {
+        a0: b1,
+        begun: true,
+        black: !place.black,
+    };
+    passed(find_b1(bitmap, above, turned, steps), place.black)
+}
+
+/// The turn that leaves the colour up to b2.
+#[inline(always)]
+fn passed(b2: u32, black: bool) -> Turn
+    ensures { result ≡ record { turn = b2; next = record { a0 = b2; begun = true; black = black } } }
+{
     Turn {
         turn: b2,
         next: Place {
             a0: b2,
             begun: true,
-            black: place.black,
+            black,
         },
     }
 }
 
 /// The horizontal mode: two runs.
+#[inline(always)]
 fn horizontal(reader: &mut CodeReader, place: Place, width: u32) -> Option<Turn>
     requires { place.a0 < width }
     ensures value { ReadStep width (head_of place) (after_runs width (head_of place) reader.old.left) result reader.new.left }
@@ -137,6 +169,7 @@ fn horizontal(reader: &mut CodeReader, place: Place, width: u32) -> Option<Turn>
 }
 
 /// A vertical mode: a1 is b1 plus `distance`. None where it lies left of a0 or past the width.
+#[inline(always)]
 fn vertical<A: Allocator, L: Ledger>(
     bitmap: &Bitmap<A>,
     above: u32,
@@ -144,15 +177,18 @@ fn vertical<A: Allocator, L: Ledger>(
     distance: i32,
     steps: &mut Steps<L>,
 ) -> Option<Turn>
-    requires { place.a0 < bitmap.now.width }
-    ensures { (bits : List ℕ) → ReadStep bitmap.now.width (head_of place) (after_vertical bitmap.now.width (row_of bitmap.now above) (head_of place) distance bits) result bits }
+    requires column { place.a0 < bitmap.now.width }
+    requires first { place.begun ≡ false → place.a0 ≡ 0 }
+    ensures value { (bits : List ℕ) → ReadStep bitmap.now.width (head_of place) (after_vertical bitmap.now.width (row_of bitmap.now above) (head_of place) distance bits) result bits }
+    ensures lanes { KeepsLanes steps.old steps.new }
 {
     let width = bitmap.width();
     let b1 = find_b1(bitmap, above, place, steps);
-    let a1 = b1.checked_add_signed(distance)?;
-    if a1 < place.a0 || a1 > width {
+    let sum = i64::from(b1) + i64::from(distance);
+    if sum < i64::from(place.a0) || sum > i64::from(width) {
         return None;
     }
+    let a1 = sum as u32;
     Some(Turn {
         turn: a1,
         next: Place {
@@ -165,20 +201,37 @@ fn vertical<A: Allocator, L: Ledger>(
 
 /// b1: the first pixel of the reference row right of a0 that has not the colour of a0, and whose left
 /// neighbour has it.
+#[inline(always)]
 fn find_b1<A: Allocator, L: Ledger>(
     bitmap: &Bitmap<A>,
     above: u32,
     place: Place,
     steps: &mut Steps<L>,
 ) -> u32
-    requires { place.a0 < bitmap.now.width }
+    requires column { place.a0 < bitmap.now.width }
+    requires first { place.begun ≡ false → place.a0 ≡ 0 }
     ensures value { result ≡ b1_of bitmap.now.width (row_of bitmap.now above) (head_of place) }
     ensures within { result ≤ bitmap.now.width }
-    ensures forward { place.begun ≡ true → place.a0 < result }
+    ensures forward { place.a0 ≤ result }
     ensures colour { result < bitmap.now.width → row_of bitmap.now above result ≡ not place.black }
+    ensures lanes { KeepsLanes steps.old steps.new }
 {
-    // A column of the bitmap fits 32 bits.
-    let _ = bitmap.width();
-    let from = if place.begun { place.a0 + 1 } else { 0 };
-    find_change(bitmap, above, from, place.black, steps)
+    let width = bitmap.width();
+    let index = place.a0 / 64;
+    let pixels = bitmap.load_pixels(64 * index, above, 64, steps);
+    let changes = changes_from(pixels, left_neighbours(pixels, 0), place.black) & right_of(place);
+    if changes != 0 {
+        return (64 * index + changes.leading_zeros()).min(width);
+    }
+    find_change(bitmap, above, index + 1, pixels, place.black, steps)
+}
+
+/// The bits of a0's word where b1 may lie: right of a0, and before the first mode all.
+#[inline(always)]
+fn right_of(place: Place) -> u64
+    requires { place.begun ≡ false → place.a0 ≡ 0 }
+    ensures { (k : ℕ) → k < 64 → bit result (63 - k) ≡ nat_le (if place.begun then place.a0 + 1 else 0) (64 * (place.a0 / 64) + k) }
+{
+    let right = u64::MAX >> (place.a0 % 64);
+    if place.begun { right >> 1 } else { right }
 }

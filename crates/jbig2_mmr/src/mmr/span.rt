@@ -1,5 +1,6 @@
 //! Spans of one colour in a row of a bitmap, by words.
 ghost use Rattle.std.specs.Prelude.{◌≡◌, ℕ, ◌<◌, ◌≤◌};
+ghost use Rattle.jbig2_base.specs.Counts.{KeepsLanes};
 ghost use Rattle.jbig2_base.specs.inner.Table.{IsTable};
 ghost use Rattle.jbig2_base.specs.inner.WordBits.{bit};
 ghost use Rattle.jbig2_mmr.specs.inner.T6Reading.{IsSpan};
@@ -10,6 +11,7 @@ use std::alloc::Allocator;
 use std::sync::ledger::Ledger;
 
 /// Gives the pixels of row `y` from column `from` up to column `to` one colour.
+#[inline(always)]
 pub fn fill_span<A: Allocator, L: Ledger>(
     bitmap: &mut Bitmap<A>,
     y: u32,
@@ -22,7 +24,8 @@ pub fn fill_span<A: Allocator, L: Ledger>(
     requires row { y < bitmap.old.height }
     requires order { from ≤ to }
     requires columns { to ≤ bitmap.old.width }
-    ensures { IsSpan bitmap.old bitmap.new y from to black }
+    ensures value { IsSpan bitmap.old bitmap.new y from to black }
+    ensures lanes { KeepsLanes steps.old steps.new }
 {
     let mut x = from;
     while x < to {
@@ -39,5 +42,5 @@ fn word_of(black: bool, count: u32) -> u64
     requires few { count ≤ 64 }
     ensures { (k : ℕ) → k < count → bit result k ≡ black }
 {
-    if black { u64::MAX >> (64 - count) } else { 0 }
+    if black { u64::MAX } else { 0 }
 }

@@ -1,6 +1,7 @@
 use Rattle.std.proofs.Common.{◌≡◌, ℕ, ◌-◌, ◌/◌, true, false, eqb, List, [], length, drop, ap, sym, subst, ◌∙◌, arith}
 use Rattle.std.specs.Prelude.{◌||◌}
 use Rattle.std.proofs.lemmas.Bool.{eq-eqb, or_left, or_right}
+use Rattle.jbig2_base.proofs.LaneCounts.{lanes-none, lanes-then}
 use Rattle.jbig2_mmr.specs.T6.{row, ends_block, after_end, rows_of}
 use Rattle.jbig2_mmr.specs.inner.T6Reading.{Rest, row_above}
 use Rattle.jbig2_mmr.specs.inner.T6Calls.{ReadRow}
@@ -18,6 +19,7 @@ returns-then-width-eq0 g c =
     ] in
     record {
       value = answer-none c.args.strict c.args.bitmap.now c.args.bytes.now c.requires none;
+      lanes = lanes-none c.args.steps.now;
       grid = drawn-none c.args.bitmap.now c.args.bytes.now c.requires none;
     }
 
@@ -27,6 +29,7 @@ loop-y-init g c =
     record {
       reading = subst (λ (r : Rest). RowsReading c.args.bitmap.now.width c.args.bitmap.now.height 0 r.left c.args.bitmap.now (rows_of c.args.bitmap.now.width c.args.bitmap.now.height c.args.bytes.now)) (sym c.new-reader.ensures)
           (rows-start c.args.bitmap.now c.args.bytes.now c.requires c.width.ensures.table (λ e. c.if-width-eq0.false (c.width.ensures.value ∙ e)) (λ e. c.if-height-eq0.false (c.height-height.ensures.value ∙ e)));
+      lanes = lanes-none c.args.steps.now;
       bytes = ap (λ (r : Rest). r.bytes) c.new-reader.ensures;
     }
 
@@ -45,6 +48,7 @@ returns-then-skip_end_of_block g c =
     let drawn = rows-grid w h c.loop-y.y c.loop-y.reader.left c.loop-y.bitmap (rows_of w h c.args.bytes.now) inv.reading in
     record {
       value = answer-missing c.args.strict w h c.args.bytes.now inv.reading.done (drop 24 c.loop-y.reader.left) c.loop-y.bitmap c.bytes_used.result c.missing_rows.result early drawn used c.missing_rows.ensures;
+      lanes = inv.lanes;
       grid = drawn-rows w h c.args.bytes.now inv.reading.done false (drop 24 c.loop-y.reader.left) c.loop-y.bitmap early drawn;
     }
 
@@ -59,6 +63,7 @@ returns-then-not-read_row g c =
     let fault = rows-fault w h c.loop-y.y c.loop-y.reader.left c.read_row.new.reader.left c.loop-y.bitmap c.read_row.new.bitmap (rows_of w h c.args.bytes.now) inv.reading (omega (arith, c.loop-y-test.true, c.height-height.ensures.value)) goes_on read in
     record {
       value = answer-missing c.args.strict w h c.args.bytes.now inv.reading.done [] c.read_row.new.bitmap (length c.args.bytes.now) c.missing_rows-then-not-read_row.result fault.0 fault.1 (omega arith) c.missing_rows-then-not-read_row.ensures;
+      lanes = lanes-then c.args.steps.now c.loop-y.steps c.read_row.new.steps inv.lanes c.if-not-read_row.ensures.lanes;
       grid = drawn-rows w h c.args.bytes.now inv.reading.done false [] c.read_row.new.bitmap fault.0 fault.1;
     }
 
@@ -72,6 +77,7 @@ loop-y-preserved g c =
     let read = subst (λ (ys : List ℕ). ReadRow (row c.loop-y.bitmap.width (row_above c.loop-y.bitmap c.loop-y.y) ys) true c.loop-y.bitmap c.read_row.new.bitmap c.loop-y.y c.read_row.new.reader.left) left c.if-not-read_row.ensures.value in
     record {
       reading = rows-next w h c.loop-y.y c.loop-y.reader.left c.read_row.new.reader.left c.loop-y.bitmap c.read_row.new.bitmap (rows_of w h c.args.bytes.now) inv.reading (omega (arith, c.loop-y-test.true, c.height-height.ensures.value)) goes_on read;
+      lanes = lanes-then c.args.steps.now c.loop-y.steps c.read_row.new.steps inv.lanes c.if-not-read_row.ensures.lanes;
       bytes = c.if-not-read_row.ensures.bytes ∙ ap (λ (r : Rest). r.bytes) c.skip_end_of_block.ensures.rest ∙ inv.bytes;
     }
 
@@ -87,5 +93,6 @@ returns g c =
     let drawn = rows-grid w h c.loop-y.y c.loop-y.reader.left c.loop-y.bitmap (rows_of w h c.args.bytes.now) inv.reading in
     record {
       value = answer-whole c.args.strict w h c.args.bytes.now inv.reading.done (after_end c.loop-y.reader.left) c.loop-y.bitmap c.bytes_used-2.result last drawn used;
+      lanes = inv.lanes;
       grid = drawn-rows w h c.args.bytes.now inv.reading.done true (after_end c.loop-y.reader.left) c.loop-y.bitmap last drawn;
     }

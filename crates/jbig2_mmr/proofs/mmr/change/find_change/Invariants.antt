@@ -1,14 +1,13 @@
-use Rattle.std.proofs.Common.{◌≡◌, ℕ, ◌-◌, ◌<◌, ◌≤◌, false}
-use Rattle.jbig2_mmr.specs.T6.{is_change_from}
+use Rattle.std.proofs.Common.{◌≡◌, ℕ, ◌*◌, ◌<◌, ◌≤◌, false}
+use Rattle.jbig2_base.specs.inner.WordBits.{bit}
+use Rattle.jbig2_base.specs.Counts.{KeepsLanes}
+use Rattle.jbig2_mmr.specs.T6.{left_of, is_change_from}
 use Rattle.jbig2_mmr.specs.inner.T6Reading.{row_of}
 use Rattle.jbig2_mmr.proofs.mmr.change.find_change.Given as goal
 
-abbrev pub invariant-loop-x : goal.invariant-loop-x
-invariant-loop-x g l = record {
-  begun : l.from ≤ l.x;
-  within : l.x ≤ l.width;
-  before : (i : ℕ) → l.from ≤ i → i < l.x → is_change_from (row_of l.bitmap l.y) l.black i ≡ false;
+abbrev pub invariant-loop-index : goal.invariant-loop-index
+invariant-loop-index g l = record {
+  lanes : KeepsLanes l.fn.steps l.steps;
+  left : bit l.before 0 ≡ left_of (row_of l.bitmap l.y) (64 * l.index);
+  none : (i : ℕ) → 64 * l.first ≤ i → i < 64 * l.index → is_change_from (row_of l.bitmap l.y) l.black i ≡ false;
 }
-
-abbrev pub decreases-loop-x : goal.decreases-loop-x
-decreases-loop-x g l = l.width - l.x

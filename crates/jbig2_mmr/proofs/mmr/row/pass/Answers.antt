@@ -1,13 +1,29 @@
-use Rattle.std.proofs.Common.{◌≡◌, ◌≤◌, true, false, refl, arith}
+use Rattle.std.proofs.Common.{◌≡◌, ℕ, Bool, true, not, ap, arith}
+use Rattle.jbig2_base.proofs.LaneCounts.{lanes-none, lanes-then}
+use Rattle.jbig2_mmr.specs.declared.mmr.row.Turn.{Turn}
+use Rattle.jbig2_mmr.specs.T6.{Head, b1_of}
 use Rattle.jbig2_mmr.specs.inner.T6Reading.{row_of}
 use Rattle.jbig2_mmr.specs.inner.T6Calls.{head_of}
-use Rattle.std.proofs.lemmas.Bool.{cases_Bool}
-use Rattle.std.proofs.Common.{⊎_elim}
+use Rattle.jbig2_mmr.proofs.T6Changes.{first-colour, first-end}
 use Rattle.jbig2_mmr.proofs.T6Rows.{pass-read}
 use Rattle.jbig2_mmr.proofs.mmr.row.pass.Goals as goal
 
-pub returns : goal.returns
-returns g c = λ bits.
-    let forward : c.args.place.a0 ≤ c.find_b1-b1.result =
-    ⊎_elim (λ (t : c.args.place.begun ≡ true). omega (arith, c.find_b1-b1.ensures.forward t)) (λ (f : c.args.place.begun ≡ false). omega (arith, c.requires.first f)) (cases_Bool c.args.place.begun) in
-    pass-read c.args.bitmap.now.width (row_of c.args.bitmap.now c.args.above) (head_of c.args.place) c.find_b1-b1.result c.find_colour-b2.result _ bits c.find_b1-b1.ensures.value c.find_b1-b1.ensures.within c.find_b1-b1.ensures.colour forward c.find_colour-b2.ensures refl refl
+pub returns-then-b1-width-clause-value : goal.returns-then-b1-width-clause-value
+returns-then-b1-width-clause-value g c = λ bits.
+    let w : ℕ = c.args.bitmap.now.width in
+    let row : ℕ → Bool = row_of c.args.bitmap.now c.args.above in
+    pass-read w row (head_of c.args.place) c.find_b1-b1.result c.find_b1-b1.result c.passed.result bits c.find_b1-b1.ensures.value c.find_b1-b1.ensures.within c.find_b1-b1.ensures.colour c.find_b1-b1.ensures.forward
+    (first-end row c.args.place.black w c.find_b1-b1.result c.find_b1-b1.ensures.within (omega (arith, c.if-b1-width.true, c.width.ensures.value)))
+    (ap (λ (t : Turn). t.turn) c.passed.ensures) (ap (λ (t : Turn). head_of t.next) c.passed.ensures)
+
+pub returns-clause-lanes : goal.returns-clause-lanes
+returns-clause-lanes g c = lanes-then c.args.steps.now c.find_b1-b1.new.steps c.find_b1.new.steps c.find_b1-b1.ensures.lanes c.find_b1.ensures.lanes
+
+pub returns-clause-value : goal.returns-clause-value
+unfolding b1_of
+returns-clause-value g c = λ bits.
+    let w : ℕ = c.args.bitmap.now.width in
+    let row : ℕ → Bool = row_of c.args.bitmap.now c.args.above in
+    pass-read w row (head_of c.args.place) c.find_b1-b1.result c.find_b1.result c.passed-2.result bits c.find_b1-b1.ensures.value c.find_b1-b1.ensures.within c.find_b1-b1.ensures.colour c.find_b1-b1.ensures.forward
+    (first-colour row c.args.place.black c.find_b1-b1.result w c.find_b1.result (omega (arith, c.if-b1-width.false, c.width.ensures.value)) (c.find_b1-b1.ensures.colour (omega (arith, c.if-b1-width.false, c.width.ensures.value))) c.find_b1.ensures.value)
+    (ap (λ (t : Turn). t.turn) c.passed-2.ensures) (ap (λ (t : Turn). head_of t.next) c.passed-2.ensures)

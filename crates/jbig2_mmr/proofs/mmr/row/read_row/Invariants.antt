@@ -1,4 +1,5 @@
 use Rattle.std.proofs.Common.{◌≡◌, length}
+use Rattle.jbig2_base.specs.Counts.{KeepsLanes}
 use Rattle.jbig2_mmr.specs.T6.{row}
 use Rattle.jbig2_mmr.specs.inner.T6Reading.{row_above}
 use Rattle.jbig2_mmr.specs.inner.T6Calls.{head_of}
@@ -7,6 +8,7 @@ use Rattle.jbig2_mmr.proofs.mmr.row.read_row.Given as goal
 
 abbrev pub invariant-loop-place : goal.invariant-loop-place
 invariant-loop-place g l = record {
+  lanes : KeepsLanes l.fn.steps l.steps;
   reading : RowReading l.fn.bitmap l.bitmap l.y (head_of l.place) l.reader.left (row l.fn.bitmap.width (row_above l.fn.bitmap l.y) l.fn.reader.left);
   bytes : l.reader.bytes ≡ l.fn.reader.bytes;
 }

@@ -20,7 +20,7 @@ pub returns-in-Pass-clause-value : goal.returns-in-Pass-clause-value
 returns-in-Pass-clause-value g c =
     let w : ℕ = c.args.bitmap.now.width in
     let h : Head = head_of c.args.place in
-    subst (λ (o : Option Step). ReadStep w h o (Some c.pass.result) c.read_mode.new.self.left) (sym (step-by w (row_of c.args.bitmap.now c.args.above) h c.in_ok-read_mode.field-0 c.args.reader.now.left c.read_mode.new.self.left c.in_ok-read_mode.ensures.value ∙ ap (λ (m : Mode). after_mode w (row_of c.args.bitmap.now c.args.above) h m c.read_mode.new.self.left) c.in-Pass.is)) (c.pass.ensures c.read_mode.new.self.left)
+    subst (λ (o : Option Step). ReadStep w h o (Some c.pass.result) c.read_mode.new.self.left) (sym (step-by w (row_of c.args.bitmap.now c.args.above) h c.in_ok-read_mode.field-0 c.args.reader.now.left c.read_mode.new.self.left c.in_ok-read_mode.ensures.value ∙ ap (λ (m : Mode). after_mode w (row_of c.args.bitmap.now c.args.above) h m c.read_mode.new.self.left) c.in-Pass.is)) (c.pass.ensures.value c.read_mode.new.self.left)
 
 pub returns-in-Horizontal-clause-value : goal.returns-in-Horizontal-clause-value
 returns-in-Horizontal-clause-value g c =
@@ -35,4 +35,4 @@ returns-in-Vertical-clause-value g c =
     let w : ℕ = c.args.bitmap.now.width in
     let h : Head = head_of c.args.place in
     subst (λ (o : Option Step). ReadStep w h o c.vertical.result c.read_mode.new.self.left) (sym (step-by w (row_of c.args.bitmap.now c.args.above) h c.in_ok-read_mode.field-0 c.args.reader.now.left c.read_mode.new.self.left c.in_ok-read_mode.ensures.value ∙ ap (λ (m : Mode). after_mode w (row_of c.args.bitmap.now c.args.above) h m c.read_mode.new.self.left) c.in-Vertical.is))
-    (subst (λ (z : ℤ). ReadStep w h (after_vertical w (row_of c.args.bitmap.now c.args.above) h z c.read_mode.new.self.left) c.vertical.result c.read_mode.new.self.left) (to_z-of_z w32 c.in-Vertical.distance fits) (c.vertical.ensures c.read_mode.new.self.left))
+    (subst (λ (z : ℤ). ReadStep w h (after_vertical w (row_of c.args.bitmap.now c.args.above) h z c.read_mode.new.self.left) c.vertical.result c.read_mode.new.self.left) (to_z-of_z w32 c.in-Vertical.distance fits) (c.vertical.ensures.value c.read_mode.new.self.left))

@@ -1,9 +1,11 @@
 use Rattle.std.proofs.Common.{◌-◌, ◌≤◌}
+use Rattle.jbig2_base.specs.Counts.{KeepsLanes}
 use Rattle.jbig2_mmr.specs.inner.T6Reading.{IsSpan}
 use Rattle.jbig2_mmr.proofs.mmr.span.fill_span.Given as goal
 
 abbrev pub invariant-loop-x : goal.invariant-loop-x
 invariant-loop-x g l = record {
+  lanes : KeepsLanes l.fn.steps l.steps;
   begun : l.from ≤ l.x;
   within : l.x ≤ l.to;
   painted : IsSpan l.fn.bitmap l.bitmap l.y l.from l.x l.black;

@@ -1,39 +1,83 @@
-use Rattle.std.proofs.Common.{◌≡◌, ℕ, ◌/◌, ◌^◌, List, length, Option, Some, ap, sym, ◌∙◌, arith}
+use Rattle.std.proofs.Common.{◌≡◌, ℕ, ◌+◌, ◌-◌, ◌/◌, ◌%◌, ◌^◌, ◌<◌, ◌≤◌, List, length, drop, take, get_or, Option, Some, None, ap, sym, ◌∙◌, arith}
 use Rattle.std.proofs.lemmas.List.{length-drop}
+use Rattle.jbig2_base.specs.Bits.{number_after}
 use Rattle.jbig2_mmr.specs.declared.mmr.codes.Mode.{Mode}
+use Rattle.jbig2_mmr.specs.declared.mmr.codes.modes.TheConstants.{MODES}
+use Rattle.jbig2_mmr.specs.T6.{read_code}
 use Rattle.jbig2_mmr.specs.T6Codes.{modes}
-use Rattle.jbig2_mmr.specs.inner.T6Reading.{Rest, with_rest}
-use Rattle.jbig2_mmr.proofs.T6Lookup.{lookup-none, lookup-short, lookup-some, at-size}
-use Rattle.jbig2_mmr.proofs.T6Tables.{modes-prefix_free, modes-short}
+use Rattle.jbig2_mmr.specs.inner.T6Reading.{AreBits, Rest, padded}
+use Rattle.jbig2_mmr.proofs.T6Lookup.{lookup-none, lookup-short, lookup-some}
+use Rattle.jbig2_mmr.proofs.T6Tables.{modes-prefix_free, modes-short, mode_of, mode-none, mode-some, mode-small, kind-vertical, kind-horizontal, kind-pass, distance-is}
 use Rattle.jbig2_mmr.proofs.mmr.bits.CodeReader.read_mode.Goals as goal
+use Rattle.jbig2_mmr.proofs.mmr.bits.CodeReader.read_mode.Goals.{then-size-eq0-via-then-size-eq0, then-size-eq0-via-else-size-eq0+then-size-few}
 
-pub returns-in_err-mode-clause-value : goal.returns-in_err-mode-clause-value
-returns-in_err-mode-clause-value c =
-    ap (λ (o : Option Mode). with_rest o c.args.self.now.left) c.from_residual.ensures
-    ∙ lookup-none modes 7 (c.window.result / 2 ^ 17) c.args.self.now.left (omega arith) modes-short c.window.ensures.bits (c.window.ensures.value 7 (omega arith)) (sym c.in_err-mode.ensures)
+-- the mode that was found, and the bits behind its code
+found : (v size : ℕ) (bits left : List ℕ) → v < 128 → AreBits bits → v ≡ number_after 0 (take 7 (padded bits)) → size ≡ get_or MODES v 0 % 8 → (size ≡ 0 → ⊥) → size ≤ length bits → left ≡ drop size bits → Some (mode_of (get_or MODES v 0 / 8), left) ≡ read_code modes bits
+found v size bits left small are number is some there behind =
+    ap (λ (ys : List ℕ). let pair : Option (Mode × List ℕ) = Some (mode_of (get_or MODES v 0 / 8), ys) in pair) (behind ∙ ap (λ (n : ℕ). drop n bits) is)
+    ∙ lookup-some modes 7 v bits (mode_of (get_or MODES v 0 / 8)) (get_or MODES v 0 % 8) (omega arith) modes-short are number (mode-some v small (λ none. some (is ∙ none))) (omega (arith, is, there))
 
-pub returns-in_err-mode-clause-law : goal.returns-in_err-mode-clause-law
-returns-in_err-mode-clause-law c = modes-prefix_free
+shorter-by : (size : ℕ) (bits left : List ℕ) → (size ≡ 0 → ⊥) → size ≤ length bits → left ≡ drop size bits → length left < length bits
+shorter-by size bits left some there behind = omega (arith, some, ap length behind, length-drop size bits)
 
-pub returns-then-size-few-clause-value : goal.returns-then-size-few-clause-value
-returns-then-size-few-clause-value c =
-    let size = at-size modes 7 _ _ _ modes-short (sym c.in_ok-mode.ensures) in
-    lookup-short modes 7 (c.window.result / 2 ^ 17) c.args.self.now.left _ _ (omega arith) modes-short modes-prefix_free c.window.ensures.bits (c.window.ensures.value 7 (omega arith)) (sym c.in_ok-mode.ensures) (omega (arith, size, c.if-size-few.true, c.few.ensures))
+pub returns-then-size-eq0-clause-value : goal.returns-then-size-eq0-clause-value
+returns-then-size-eq0-clause-value c =
+    let v : ℕ = c.window.result / 2 ^ 17 in
+    let e : ℕ = get_or MODES v 0 in
+    let small : c.window.result / 2 ^ 17 < 128 = omega (arith, c.window.ensures.bound) in
+    elim c.then-size-eq0.branch [
+      | then-size-eq0-via-then-size-eq0 w ↦
+          lookup-none modes 7 v c.args.self.now.left (omega arith) modes-short c.window.ensures.bits (c.window.ensures.value 7 (omega arith)) (mode-none v small (sym c.from-size.ensures ∙ w.if-size-eq0.true))
+      | then-size-eq0-via-else-size-eq0+then-size-few w ↦
+          lookup-short modes 7 v c.args.self.now.left (mode_of (e / 8)) (e % 8) (omega arith) modes-short modes-prefix_free c.window.ensures.bits (c.window.ensures.value 7 (omega arith))
+          (mode-some v small (λ none. w.if-size-eq0.false (c.from-size.ensures ∙ none)))
+          (omega (arith, w.if-size-few.true, w.few.ensures, c.from-size.ensures))
+    ]
 
-pub returns-then-size-few-clause-law : goal.returns-then-size-few-clause-law
-returns-then-size-few-clause-law c = modes-prefix_free
+pub returns-then-size-eq0-clause-law : goal.returns-then-size-eq0-clause-law
+returns-then-size-eq0-clause-law c = modes-prefix_free
 
-pub returns-clause-value : goal.returns-clause-value
-returns-clause-value c =
-    let left = ap (λ (r : Rest). r.left) c.skip.ensures in
-    ap (λ (ys : List ℕ). Some (c.in_ok-mode.mode, ys)) left
-    ∙ lookup-some modes 7 (c.window.result / 2 ^ 17) c.args.self.now.left _ _ (omega arith) modes-short c.window.ensures.bits (c.window.ensures.value 7 (omega arith)) (sym c.in_ok-mode.ensures) (omega (arith, c.if-size-few.false, c.few.ensures))
+pub returns-then-kind-gt2 : goal.returns-then-kind-gt2
+returns-then-kind-gt2 c =
+    let v : ℕ = c.window.result / 2 ^ 17 in
+    let e : ℕ = get_or MODES v 0 in
+    let small : c.window.result / 2 ^ 17 < 128 = omega (arith, c.window.ensures.bound) in
+    let there : c.from-size.result ≤ length c.args.self.now.left = omega (arith, c.if-size-few.false, c.few.ensures) in
+    let left : c.skip.new.self.left ≡ drop c.from-size.result c.args.self.now.left = ap (λ (r : Rest). r.left) c.skip.ensures in
+    record {
+      value = ap (λ (m : Mode). let pair : Option (Mode × List ℕ) = Some (m, c.skip.new.self.left) in pair) (kind-vertical (e / 8) _ c.if-kind-gt2.true (distance-is (e / 8) c.from.result (mode-small v small) c.from.ensures))
+          ∙ found v c.from-size.result c.args.self.now.left c.skip.new.self.left small c.window.ensures.bits (c.window.ensures.value 7 (omega arith)) c.from-size.ensures c.if-size-eq0.false there left;
+      bytes = ap (λ (r : Rest). r.bytes) c.skip.ensures;
+      shorter = shorter-by c.from-size.result c.args.self.now.left c.skip.new.self.left c.if-size-eq0.false there left;
+      law = modes-prefix_free;
+    }
 
-pub returns-clause-shorter : goal.returns-clause-shorter
-returns-clause-shorter c =
-    let size = at-size modes 7 _ _ _ modes-short (sym c.in_ok-mode.ensures) in
-    let left = ap (λ (r : Rest). r.left) c.skip.ensures in
-    omega (arith, size, ap length left, length-drop c.in_ok-mode.size c.args.self.now.left, c.if-size-few.false, c.few.ensures)
+pub returns-then-kind-eq2 : goal.returns-then-kind-eq2
+returns-then-kind-eq2 c =
+    let v : ℕ = c.window.result / 2 ^ 17 in
+    let e : ℕ = get_or MODES v 0 in
+    let small : c.window.result / 2 ^ 17 < 128 = omega (arith, c.window.ensures.bound) in
+    let there : c.from-size.result ≤ length c.args.self.now.left = omega (arith, c.if-size-few.false, c.few.ensures) in
+    let left : c.skip.new.self.left ≡ drop c.from-size.result c.args.self.now.left = ap (λ (r : Rest). r.left) c.skip.ensures in
+    record {
+      value = ap (λ (m : Mode). let pair : Option (Mode × List ℕ) = Some (m, c.skip.new.self.left) in pair) (kind-horizontal (e / 8) c.if-kind-eq2.true)
+          ∙ found v c.from-size.result c.args.self.now.left c.skip.new.self.left small c.window.ensures.bits (c.window.ensures.value 7 (omega arith)) c.from-size.ensures c.if-size-eq0.false there left;
+      bytes = ap (λ (r : Rest). r.bytes) c.skip.ensures;
+      shorter = shorter-by c.from-size.result c.args.self.now.left c.skip.new.self.left c.if-size-eq0.false there left;
+      law = modes-prefix_free;
+    }
 
-pub returns-clause-law : goal.returns-clause-law
-returns-clause-law c = modes-prefix_free
+pub returns : goal.returns
+returns c =
+    let v : ℕ = c.window.result / 2 ^ 17 in
+    let e : ℕ = get_or MODES v 0 in
+    let small : c.window.result / 2 ^ 17 < 128 = omega (arith, c.window.ensures.bound) in
+    let there : c.from-size.result ≤ length c.args.self.now.left = omega (arith, c.if-size-few.false, c.few.ensures) in
+    let left : c.skip.new.self.left ≡ drop c.from-size.result c.args.self.now.left = ap (λ (r : Rest). r.left) c.skip.ensures in
+    record {
+      value = ap (λ (m : Mode). let pair : Option (Mode × List ℕ) = Some (m, c.skip.new.self.left) in pair) (kind-pass (e / 8) (omega (arith, c.if-kind-gt2.false)) c.if-kind-eq2.false)
+          ∙ found v c.from-size.result c.args.self.now.left c.skip.new.self.left small c.window.ensures.bits (c.window.ensures.value 7 (omega arith)) c.from-size.ensures c.if-size-eq0.false there left;
+      bytes = ap (λ (r : Rest). r.bytes) c.skip.ensures;
+      shorter = shorter-by c.from-size.result c.args.self.now.left c.skip.new.self.left c.if-size-eq0.false there left;
+      law = modes-prefix_free;
+    }
