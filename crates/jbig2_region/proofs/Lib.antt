@@ -18,3 +18,4 @@ pub mod RefinementWindowLemmas
 pub mod CodesLemmas
 pub mod RefinementKernelLemmas
 pub mod DecisionLemmas
+pub mod GatherLemmas

@@ -62,10 +62,13 @@ fn decode_bits<A: Allocator, L: Ledger>(
     ensures steps { steps.new ≡ record steps.old { decisions = steps.old.decisions + count; words = steps.old.words + 1 } }
 {
     let mut register = neighbours.register(left, windows);
+    let mut context = neighbours.context(register);
     for _ in 0..count {
-        let context = neighbours.context(register);
         let symbol = decoder.decode(&mut contexts[context as usize], steps);
-        register = register * 2 + u64::from(symbol);
+        register *= 2;
+        let higher = neighbours.context(register);
+        context = higher + symbol;
+        register += u64::from(symbol);
     }
     bitmap.store_pixels(x, y, count, register % (1 << count), steps);
     (register % 16) as u32

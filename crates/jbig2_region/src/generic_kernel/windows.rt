@@ -3,7 +3,7 @@ ghost use Rattle.std.specs.Prelude.{◌≡◌, ℕ, ◌+◌, ◌-◌, ◌*◌, �
 ghost use Rattle.jbig2_region.specs.inner.Neighbours.{IsNear, IsWindow, Shows, ShowsGroup, ShowsRun, cut_of, neighbour_count, register_of, stretch_bits};
 ghost use Rattle.jbig2_base.specs.Grid.{Grid};
 
-use crate::template::neighbours::{Neighbours, Stretch, joined};
+use crate::template::neighbours::{Neighbours, Stretch};
 use jbig2_base::bitmap::Bitmap;
 use jbig2_base::bitmap::steps::Steps;
 use std::alloc::Allocator;
@@ -150,17 +150,21 @@ impl Neighbours {
         u64::from(left) + above * 65536 + top * 1099511627776
     }
 
-    /// The number of the context that a register holds.
+    /// The number of the context that a register holds: one product brings its three fields side by
+    /// side, from bit 48 on.
     #[inline(always)]
     pub fn context(self, register: u64) -> u32
         requires near { IsNear self }
         ensures value { result ≡ cut_of self register }
         ensures bound { result < 2 ^ neighbour_count self }
     {
-        let left = (register % (1 << self.left)) as u32;
-        let above = ((register >> 23) % (1 << self.above.count)) as u32;
-        let top = ((register >> 47) % (1 << self.top.count)) as u32;
-        let higher = joined(above, top, self.above.count);
-        joined(left, higher, self.left)
+        let left = register % (1 << self.left);
+        let above = (register >> 23) % (1 << self.above.count);
+        let top = (register >> 47) % (1 << self.top.count);
+        let fields = left + above * 8388608 + top * 140737488355328;
+        let places = 281474976710656
+            + (33554432 << self.left)
+            + (2 << (self.left + self.above.count));
+        (fields.wrapping_mul(places) >> 48) as u32
     }
 }
