@@ -19,3 +19,4 @@ pub mod CodesLemmas
 pub mod RefinementKernelLemmas
 pub mod DecisionLemmas
 pub mod GatherLemmas
+pub mod CarriedLemmas

@@ -1,6 +1,6 @@
 //! Windows on the rows above: 64 pixels of each, of which one load serves many contexts.
-ghost use Rattle.std.specs.Prelude.{◌≡◌, ℕ, ◌+◌, ◌-◌, ◌*◌, ◌/◌, ◌%◌, ◌^◌, ◌<◌, ◌≤◌, pos, ◌-ℤ◌};
-ghost use Rattle.jbig2_region.specs.inner.Neighbours.{IsNear, IsWindow, Shows, ShowsGroup, ShowsRun, cut_of, neighbour_count, register_of, stretch_bits};
+ghost use Rattle.std.specs.Prelude.{◌≡◌, ℕ, ◌+◌, ◌-◌, ◌*◌, ◌/◌, ◌%◌, ◌^◌, ◌<◌, ◌≤◌, min, pos, ◌-ℤ◌};
+ghost use Rattle.jbig2_region.specs.inner.Neighbours.{IsNear, IsWindow, Shows, ShowsBefore, ShowsGroup, ShowsRun, cut_of, neighbour_count, register_of, stretch_bits};
 ghost use Rattle.jbig2_base.specs.Grid.{Grid};
 
 use crate::template::neighbours::{Neighbours, Stretch};
@@ -64,30 +64,94 @@ pub fn windows_at<A: Allocator, L: Ledger>(
     Windows { above, top }
 }
 
-/// Windows about column `x` on the two rows above row `y` that serve so many bytes, at most eight.
+/// The 64 pixels from column `x` on in the row that stands `back` rows above row `y`: a window
+/// about the column eight further on.
 #[inline(always)]
-pub fn wide_windows_at<A: Allocator, L: Ledger>(
+fn word<A: Allocator, L: Ledger>(
     bitmap: &Bitmap<A>,
     x: u32,
     y: u32,
+    back: u32,
+    steps: &mut Steps<L>,
+) -> u64
+    ensures value { IsWindow bitmap.now (x + 8) (pos y -ℤ pos back) 64 result }
+    ensures steps { steps.new ≡ record steps.old { loads = steps.old.loads + 1 } }
+{
+    if y < back {
+        steps.load();
+        return 0;
+    }
+    bitmap.load_pixels(x, y - back, 64, steps)
+}
+
+/// The words from column `x` on of the two rows above row `y`.
+#[inline(always)]
+fn words_at<A: Allocator, L: Ledger>(
+    bitmap: &Bitmap<A>,
+    x: u32,
+    y: u32,
+    steps: &mut Steps<L>,
+) -> Windows
+    ensures value { Shows bitmap.now (x + 8) y 64 result }
+    ensures steps { steps.new ≡ record steps.old { loads = steps.old.loads + 2 } }
+{
+    let above = word(bitmap, x, y, 1, steps);
+    let top = word(bitmap, x, y, 2, steps);
+    Windows { above, top }
+}
+
+/// The first words of the two rows above row `y`, if any of `bytes` bytes asks for them.
+#[inline(always)]
+pub fn first_words<A: Allocator, L: Ledger>(
+    bitmap: &Bitmap<A>,
+    y: u32,
     bytes: u32,
     steps: &mut Steps<L>,
-) -> WideWindows
-    requires aligned { x % 8 ≡ 0 }
-    requires column { x + 32 < 2 ^ 32 }
-    requires some { 1 ≤ bytes }
-    requires few { bytes ≤ 8 }
-    ensures value { ShowsGroup bitmap.now x y bytes result }
-    ensures steps { steps.new ≡ record steps.old { loads = steps.old.loads + 2 * ((bytes + 3) / 4) } }
+) -> Windows
+    ensures value { 1 ≤ bytes → Shows bitmap.now 8 y 64 result }
+    ensures few { steps.new.loads ≤ steps.old.loads + 2 * min 1 bytes }
+    ensures steps { steps.new ≡ record steps.old { loads = steps.new.loads } }
 {
-    let first = windows_at(bitmap, x, y, steps);
-    if bytes <= 4 {
-        return WideWindows {
-            first,
-            second: first,
-        };
+    if bytes == 0 {
+        return Windows { above: 0, top: 0 };
     }
-    let second = windows_at(bitmap, x + 32, y, steps);
+    words_at(bitmap, 0, y, steps)
+}
+
+/// The words after those from column `x` on: white where the rows end before.
+#[inline(always)]
+pub fn words_after<A: Allocator, L: Ledger>(
+    bitmap: &Bitmap<A>,
+    x: u32,
+    y: u32,
+    steps: &mut Steps<L>,
+) -> Windows
+    requires column { x < bitmap.now.width }
+    ensures value { Shows bitmap.now (x + 72) y 64 result }
+    ensures few { steps.new.loads ≤ steps.old.loads + 2 }
+    ensures none { bitmap.now.width ≤ x + 64 → steps.new.loads ≡ steps.old.loads }
+    ensures steps { steps.new ≡ record steps.old { loads = steps.new.loads } }
+{
+    if bitmap.width() - x <= 64 {
+        return Windows { above: 0, top: 0 };
+    }
+    words_at(bitmap, x + 64, y, steps)
+}
+
+/// The windows about a column, and about the column 32 further on, out of the words before, at and
+/// after the first of them.
+#[inline(always)]
+pub fn windows_between(before: Windows, here: Windows, after: Windows) -> WideWindows
+    ensures { (g : Grid) (x y bytes : ℕ) → ShowsBefore g x y before → Shows g (x + 8) y 64 here → Shows g (x + 72) y 64 after → ShowsGroup g x y bytes result }
+{
+    let first = Windows {
+        above: (before.above << 56) | (here.above >> 8),
+        top: (before.top << 56) | (here.top >> 8),
+    };
+    let second = Windows {
+        above: (here.above << 24) | (after.above >> 40),
+        top: (here.top << 24) | (after.top >> 40),
+    };
     WideWindows { first, second }
 }
 

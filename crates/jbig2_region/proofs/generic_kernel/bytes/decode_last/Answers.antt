@@ -1,5 +1,4 @@
-use Rattle.std.proofs.Common.{arith, ap, ◌+◌, ◌∙◌}
-use Rattle.jbig2_base.specs.Counts.{Counts}
+use Rattle.std.proofs.Common.{arith}
 use Rattle.jbig2_region.proofs.WindowLemmas.{shows-less}
 use Rattle.jbig2_region.proofs.generic_kernel.bytes.decode_last.Goals as goal
 
