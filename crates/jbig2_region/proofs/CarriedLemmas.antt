@@ -2,6 +2,7 @@
 use Rattle.std.proofs.Common.{pos, negsuc, ℤ, ◌-ℤ◌, ◌≡◌, ℕ, ◌+◌, ◌-◌, ◌*◌, ◌/◌, ◌%◌, ◌^◌, ◌<◌, ◌≤◌, Bool, ◌||◌, false, bit_or, refl, sym, ap, subst, ◌∙◌, ⊎_elim, arith}
 use Rattle.std.proofs.lemmas.Bool.{cases_lt}
 use Rattle.std.proofs.lemmas.Int.{ints}
+use Rattle.std.proofs.lemmas.Nat.{shr-shr}
 use Rattle.jbig2_base.specs.Grid.{Grid, pixel}
 use Rattle.jbig2_base.specs.inner.WordBits.{bit}
 use Rattle.jbig2_base.proofs.BitLemmas.{bit-above, bit-or, bit-shl_high, bit-shl_low, bit-shr, bit-zero, or-false}
@@ -86,3 +87,41 @@ shows-right g x y w past above top = record {
   above = subst (λ (n : ℕ). IsWindow g (x + 72) (pos y -ℤ pos 1) 64 n) (sym above) (window-right g x (pos y -ℤ pos 1) past);
   top = subst (λ (n : ℕ). IsWindow g (x + 72) (pos y -ℤ pos 2) 64 n) (sym top) (window-right g x (pos y -ℤ pos 2) past);
 }
+
+-- ---- the windows of the last byte
+-- about a column of two words that stand side by side
+cut-window : (g : Grid) (x word next by : ℕ) (row : ℤ) → next < 2 ^ 64 → by ≤ 56 → IsWindow g x row 64 word → IsWindow g (x + 64) row 64 next → IsWindow g (x + by) row 64 (bit_or (word * 2 ^ by % 2 ^ 64) (next / 2 ^ (64 - by)))
+cut-window g x word next by row small few old new = λ k inside.
+    ⊎_elim
+    (λ (low : k + by < 64).
+    let place : 63 - k - by ≡ 63 - (k + by) = omega arith in
+    let column : x + (k + by) ≡ x + by + k = omega arith in
+    joined-first word next by (63 - k) small (omega arith) (omega arith) ∙ ap (λ (n : ℕ). bit word n) place ∙ old (k + by) low ∙ ap (λ (n : ℕ). pixel g (pos n -ℤ pos 8) row) column)
+    (λ (high : 64 ≤ k + by).
+    let place : 64 - by + (63 - k) ≡ 63 - (k + by - 64) = omega arith in
+    let column : x + 64 + (k + by - 64) ≡ x + by + k = omega arith in
+    joined-second word next by (63 - k) (omega arith) (omega arith) ∙ ap (λ (n : ℕ). bit next n) place ∙ new (k + by - 64) (omega arith) ∙ ap (λ (n : ℕ). pixel g (pos n -ℤ pos 8) row) column)
+    (cases_lt (k + by) 64)
+
+-- `(word << by) | (next >> (64 - by))`
+abbrev pub cut_of_words : ℕ → ℕ → ℕ → ℕ
+cut_of_words word next by = bit_or (word * 2 ^ by % 2 ^ 64) (next / 2 ^ (64 - by))
+
+pub shows-cut : (g : Grid) (x y by : ℕ) (w v r : Windows) → v.above < 2 ^ 64 → v.top < 2 ^ 64 → by ≤ 56 → r.above ≡ cut_of_words w.above v.above by → r.top ≡ cut_of_words w.top v.top by → Shows g x y 64 w → Shows g (x + 64) y 64 v → Shows g (x + by) y 64 r
+shows-cut g x y by w v r a b few above top old new = record {
+  above = subst (λ (n : ℕ). IsWindow g (x + by) (pos y -ℤ pos 1) 64 n) (sym above) (cut-window g x w.above v.above by (pos y -ℤ pos 1) a few old.above new.above);
+  top = subst (λ (n : ℕ). IsWindow g (x + by) (pos y -ℤ pos 2) 64 n) (sym top) (cut-window g x w.top v.top by (pos y -ℤ pos 2) b few old.top new.top);
+}
+
+-- of a row of one byte
+pub shows-alone : (g : Grid) (y by : ℕ) (w v r : Windows) → v.above < 2 ^ 64 → v.top < 2 ^ 64 → by ≡ 56 → r.above ≡ cut_of_words w.above v.above by → r.top ≡ cut_of_words w.top v.top by → ShowsBefore g 0 y w → Shows g 8 y 64 v → Shows g 0 y 64 r
+shows-alone g y by w v r a b all above top old new = record {
+  above = subst (λ (n : ℕ). IsWindow g 0 (pos y -ℤ pos 1) 64 n) (sym (above ∙ ap (λ (n : ℕ). cut_of_words w.above v.above n) all)) (window-first_carried g 0 w.above v.above (pos y -ℤ pos 1) a old.above new.above);
+  top = subst (λ (n : ℕ). IsWindow g 0 (pos y -ℤ pos 2) 64 n) (sym (top ∙ ap (λ (n : ℕ). cut_of_words w.top v.top n) all)) (window-first_carried g 0 w.top v.top (pos y -ℤ pos 2) b old.top new.top);
+}
+
+-- `(next >> 8) >> (56 - by)`
+pub shr-twice : (next by : ℕ) → by ≤ 56 → next / 2 ^ 8 / 2 ^ (56 - by) ≡ next / 2 ^ (64 - by)
+shr-twice next by few =
+    let sum : 8 + (56 - by) ≡ 64 - by = omega arith in
+    shr-shr next 8 (56 - by) ∙ ap (λ (n : ℕ). next / 2 ^ n) sum

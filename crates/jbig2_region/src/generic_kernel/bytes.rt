@@ -6,7 +6,7 @@ ghost use Rattle.jbig2_region.specs.RunBytes.{CountsRuns};
 
 use crate::generic_kernel::runs::take_runs;
 use crate::generic_kernel::windows::{
-    WideWindows, Windows, first_words, windows_at, windows_between, words_after,
+    WideWindows, Windows, last_windows, windows_between, words_after, words_at,
 };
 use crate::template::neighbours::Neighbours;
 use jbig2_base::bitmap::Bitmap;
@@ -237,12 +237,14 @@ fn decode_last<A: Allocator, L: Ledger>(
     y: u32,
     count: u32,
     left: u32,
+    windows: Windows,
     decoder: &mut ArithmeticDecoder<'_>,
     contexts: &mut [ArithmeticDecoderContext],
     steps: &mut Steps<L>,
 )
     requires near { IsNear neighbours }
     requires contexts { length contexts.old ≡ 2 ^ neighbour_count neighbours }
+    requires shows { Shows bitmap.old x y 64 windows }
     requires some { 1 ≤ count }
     requires byte { count ≤ 8 }
     requires aligned { x % 8 ≡ 0 }
@@ -255,9 +257,8 @@ fn decode_last<A: Allocator, L: Ledger>(
     ensures height { bitmap.new.height ≡ bitmap.old.height }
     ensures bytes { decoder.new.bytes ≡ decoder.old.bytes }
     ensures contexts { length contexts.new ≡ length contexts.old }
-    ensures steps { steps.new ≡ record steps.old { loads = steps.old.loads + 2; decisions = steps.old.decisions + count; words = steps.old.words + 1 } }
+    ensures steps { steps.new ≡ record steps.old { decisions = steps.old.decisions + count; words = steps.old.words + 1 } }
 {
-    let windows = windows_at(bitmap, x, y, steps);
     decode_bits(
         neighbours, bitmap, x, y, count, left, windows, decoder, contexts, steps,
     );
@@ -292,7 +293,7 @@ pub fn decode_row_by_bytes<A: Allocator, L: Ledger>(
     let whole = (width - 1) / 8;
     let mut left = 0;
     let mut before = Windows { above: 0, top: 0 };
-    let mut here = first_words(bitmap, y, whole, steps);
+    let mut here = words_at(bitmap, 0, y, steps);
     for group in 0..whole.div_ceil(8) {
         let x = 64 * group;
         let bytes = (whole - 8 * group).min(8);
@@ -305,6 +306,7 @@ pub fn decode_row_by_bytes<A: Allocator, L: Ledger>(
         here = after;
     }
     let x = 8 * whole;
+    let windows = last_windows(before, here, whole);
     decode_last(
         neighbours,
         bitmap,
@@ -312,6 +314,7 @@ pub fn decode_row_by_bytes<A: Allocator, L: Ledger>(
         y,
         width - x,
         left,
+        windows,
         decoder,
         contexts,
         steps,

@@ -1,5 +1,5 @@
 //! Windows on the rows above: 64 pixels of each, of which one load serves many contexts.
-ghost use Rattle.std.specs.Prelude.{◌≡◌, ℕ, ◌+◌, ◌-◌, ◌*◌, ◌/◌, ◌%◌, ◌^◌, ◌<◌, ◌≤◌, min, pos, ◌-ℤ◌};
+ghost use Rattle.std.specs.Prelude.{◌≡◌, ℕ, ◌+◌, ◌-◌, ◌*◌, ◌/◌, ◌%◌, ◌^◌, ◌<◌, ◌≤◌, bit_or, pos, ◌-ℤ◌};
 ghost use Rattle.jbig2_region.specs.inner.Neighbours.{IsNear, IsWindow, Shows, ShowsBefore, ShowsGroup, ShowsRun, cut_of, neighbour_count, register_of, stretch_bits};
 ghost use Rattle.jbig2_base.specs.Grid.{Grid};
 
@@ -86,7 +86,7 @@ fn word<A: Allocator, L: Ledger>(
 
 /// The words from column `x` on of the two rows above row `y`.
 #[inline(always)]
-fn words_at<A: Allocator, L: Ledger>(
+pub fn words_at<A: Allocator, L: Ledger>(
     bitmap: &Bitmap<A>,
     x: u32,
     y: u32,
@@ -98,24 +98,6 @@ fn words_at<A: Allocator, L: Ledger>(
     let above = word(bitmap, x, y, 1, steps);
     let top = word(bitmap, x, y, 2, steps);
     Windows { above, top }
-}
-
-/// The first words of the two rows above row `y`, if any of `bytes` bytes asks for them.
-#[inline(always)]
-pub fn first_words<A: Allocator, L: Ledger>(
-    bitmap: &Bitmap<A>,
-    y: u32,
-    bytes: u32,
-    steps: &mut Steps<L>,
-) -> Windows
-    ensures value { 1 ≤ bytes → Shows bitmap.now 8 y 64 result }
-    ensures few { steps.new.loads ≤ steps.old.loads + 2 * min 1 bytes }
-    ensures steps { steps.new ≡ record steps.old { loads = steps.new.loads } }
-{
-    if bytes == 0 {
-        return Windows { above: 0, top: 0 };
-    }
-    words_at(bitmap, 0, y, steps)
 }
 
 /// The words after those from column `x` on: white where the rows end before.
@@ -153,6 +135,30 @@ pub fn windows_between(before: Windows, here: Windows, after: Windows) -> WideWi
         top: (here.top << 24) | (after.top >> 40),
     };
     WideWindows { first, second }
+}
+
+/// The 64 bits from bit `pixels` on, counted from the highest, of two words side by side.
+#[inline(always)]
+fn cut(word: u64, next: u64, pixels: u32) -> u64
+    requires few { pixels ≤ 56 }
+    ensures { result ≡ bit_or (word * 2 ^ pixels % 2 ^ 64) (next / 2 ^ (64 - pixels)) }
+{
+    (word << pixels) | ((next >> 8) >> (56 - pixels))
+}
+
+/// The windows about the column of a row's last byte, out of the words at the byte before it and
+/// after these; of a row of one byte, out of white words and the first.
+#[inline(always)]
+pub fn last_windows(words: Windows, after: Windows, whole: u32) -> Windows
+    requires fits { whole + 7 < 2 ^ 32 }
+    ensures alone { (g : Grid) (y : ℕ) → whole ≡ 0 → ShowsBefore g 0 y words → Shows g 8 y 64 after → Shows g 0 y 64 result }
+    ensures more { (g : Grid) (y x : ℕ) → x + 8 * ((whole + 7) % 8) ≡ 8 * whole → Shows g x y 64 words → Shows g (x + 64) y 64 after → Shows g (8 * whole) y 64 result }
+{
+    let pixels = 8 * ((whole + 7) % 8);
+    Windows {
+        above: cut(words.above, after.above, pixels),
+        top: cut(words.top, after.top, pixels),
+    }
 }
 
 /// A stretch's part of a context, seen from `offset` columns right of the window's column.
