@@ -224,8 +224,9 @@ impl<'a> ArithmeticDecoder<'a> {
             self.registers.a = rest;
             return u32::from(context.likely);
         }
-        let symbol = context.exchange(&mut self.registers);
-        self.registers = renormalize(self.bytes, self.registers);
+        let mut registers = self.registers;
+        let symbol = context.exchange(&mut registers);
+        self.registers = renormalize(self.bytes, registers);
         self.floor = floor_of(self.registers.code.c);
         u32::from(symbol)
     }

@@ -1,5 +1,5 @@
 -- Runs of up to 64 pixels, by windows about two columns.
-use Rattle.std.proofs.Common.{append_assoc, refl, subst, ◌≡◌, ℕ, ◌+◌, ◌-◌, ◌*◌, ◌/◌, ◌%◌, ◌^◌, ◌<◌, ◌≤◌, Bool, true, List, ◌++◌, length, replicate, sym, ap, ◌∙◌, ⊎_elim, arith, min}
+use Rattle.std.proofs.Common.{append_assoc, refl, subst, ◌≡◌, ℕ, ◌+◌, ◌-◌, ◌*◌, ◌/◌, ◌^◌, ◌<◌, ◌≤◌, Bool, true, List, ◌++◌, length, replicate, sym, ap, ◌∙◌, ⊎_elim, arith, min}
 use Rattle.std.proofs.lemmas.Bool.{and_from, and_parts, cases_lt}
 use Rattle.std.proofs.lemmas.List.{replicate-append-replicate}
 use Rattle.std.proofs.lemmas.Nat.Bits as bits

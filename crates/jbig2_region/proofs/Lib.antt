@@ -19,3 +19,5 @@ pub mod CodesLemmas
 pub mod RefinementKernelLemmas
 pub mod RefinementPushLemmas
 pub mod DecisionLemmas
+pub mod GatherLemmas
+pub mod CarriedLemmas

@@ -62,6 +62,14 @@ pub record Shows (g : Grid) (x y seen : ℕ) (w : Windows) : Type 0 where
   pub above : IsWindow g x (pos y -ℤ pos 1) seen w.above
   pub top : IsWindow g x (pos y -ℤ pos 2) seen w.top
 
+-- words on the two rows above row y, whose lowest eight bits are the pixels left of column x
+abbrev pub IsBefore : Grid → ℕ → ℤ → ℕ → Type 0
+IsBefore g x row word = (k : ℕ) → k < 8 → bit word (7 - k) ≡ pixel g (pos (x + k) -ℤ pos 8) row
+
+pub record ShowsBefore (g : Grid) (x y : ℕ) (w : Windows) : Type 0 where
+  pub above : IsBefore g x (pos y -ℤ pos 1) w.above
+  pub top : IsBefore g x (pos y -ℤ pos 2) w.top
+
 -- Windows about column x that serve so many bytes, at most eight: the second of them is asked for where there are more
 -- than four.
 pub record ShowsGroup (g : Grid) (x y bytes : ℕ) (w : WideWindows) : Type 0 where

@@ -1,11 +1,13 @@
 //! Rows of a template without adaptive pixels, byte by byte, with runs of likely symbols.
 ghost use Rattle.std.specs.Prelude.{◌≡◌, ℕ, ◌+◌, ◌-◌, ◌*◌, ◌/◌, ◌%◌, ◌^◌, ◌<◌, ◌≤◌, false, length, if◌then◌else◌};
 ghost use Rattle.jbig2_base.specs.Counts.{KeepsLanes};
-ghost use Rattle.jbig2_region.specs.inner.Neighbours.{DecodesPixels, IsLeft, IsNear, SameAbove, Shows, ShowsRun, neighbour_count, nominal_pixels};
+ghost use Rattle.jbig2_region.specs.inner.Neighbours.{DecodesPixels, IsLeft, IsNear, SameAbove, Shows, ShowsGroup, ShowsRun, neighbour_count, nominal_pixels};
 ghost use Rattle.jbig2_region.specs.RunBytes.{CountsRuns};
 
 use crate::generic_kernel::runs::take_runs;
-use crate::generic_kernel::windows::{WideWindows, Windows, wide_windows_at, windows_at};
+use crate::generic_kernel::windows::{
+    WideWindows, Windows, last_windows, windows_between, words_after, words_at,
+};
 use crate::template::neighbours::Neighbours;
 use jbig2_base::bitmap::Bitmap;
 use jbig2_base::bitmap::steps::Steps;
@@ -62,10 +64,13 @@ fn decode_bits<A: Allocator, L: Ledger>(
     ensures steps { steps.new ≡ record steps.old { decisions = steps.old.decisions + count; words = steps.old.words + 1 } }
 {
     let mut register = neighbours.register(left, windows);
+    let mut context = neighbours.context(register);
     for _ in 0..count {
-        let context = neighbours.context(register);
         let symbol = decoder.decode(&mut contexts[context as usize], steps);
-        register = register * 2 + u64::from(symbol);
+        register *= 2;
+        let higher = neighbours.context(register);
+        context = higher + symbol;
+        register += u64::from(symbol);
     }
     bitmap.store_pixels(x, y, count, register % (1 << count), steps);
     (register % 16) as u32
@@ -170,6 +175,7 @@ fn decode_group<A: Allocator, L: Ledger>(
     y: u32,
     bytes: u32,
     left: u32,
+    windows: WideWindows,
     decoder: &mut ArithmeticDecoder<'_>,
     contexts: &mut [ArithmeticDecoderContext],
     steps: &mut Steps<L>,
@@ -181,6 +187,7 @@ fn decode_group<A: Allocator, L: Ledger>(
     requires few { bytes ≤ 8 }
     requires columns { x + 8 * bytes < bitmap.old.width }
     requires row { y < bitmap.old.height }
+    requires shows { ShowsGroup bitmap.old x y bytes windows }
     requires left { IsLeft bitmap.old x y left }
     requires small { left < 16 }
     ensures holds { DecodesPixels (nominal_pixels neighbours) false x y (8 * bytes) bitmap.old decoder.old contexts.old bitmap.new decoder.new contexts.new }
@@ -192,11 +199,11 @@ fn decode_group<A: Allocator, L: Ledger>(
     ensures contexts { length contexts.new ≡ length contexts.old }
     ensures decisions { CountsRuns (nominal_pixels neighbours) x y (8 * bytes) bitmap.old decoder.old contexts.old steps.old.decisions steps.new.decisions }
     ensures run_tests { steps.new.run_tests ≤ steps.old.run_tests + bytes }
-    ensures loads { steps.new.loads ≡ steps.old.loads + 2 * ((bytes + 3) / 4) }
+    ensures rows { SameAbove bitmap.old bitmap.new y }
+    ensures loads { steps.new.loads ≡ steps.old.loads }
     ensures words { steps.new.words ≤ steps.old.words + bytes }
     ensures lanes { KeepsLanes steps.old steps.new }
 {
-    let windows = wide_windows_at(bitmap, x, y, bytes, steps);
     let mut left = left;
     let mut done = 0;
     while done < bytes {
@@ -230,12 +237,14 @@ fn decode_last<A: Allocator, L: Ledger>(
     y: u32,
     count: u32,
     left: u32,
+    windows: Windows,
     decoder: &mut ArithmeticDecoder<'_>,
     contexts: &mut [ArithmeticDecoderContext],
     steps: &mut Steps<L>,
 )
     requires near { IsNear neighbours }
     requires contexts { length contexts.old ≡ 2 ^ neighbour_count neighbours }
+    requires shows { Shows bitmap.old x y 64 windows }
     requires some { 1 ≤ count }
     requires byte { count ≤ 8 }
     requires aligned { x % 8 ≡ 0 }
@@ -248,9 +257,8 @@ fn decode_last<A: Allocator, L: Ledger>(
     ensures height { bitmap.new.height ≡ bitmap.old.height }
     ensures bytes { decoder.new.bytes ≡ decoder.old.bytes }
     ensures contexts { length contexts.new ≡ length contexts.old }
-    ensures steps { steps.new ≡ record steps.old { loads = steps.old.loads + 2; decisions = steps.old.decisions + count; words = steps.old.words + 1 } }
+    ensures steps { steps.new ≡ record steps.old { decisions = steps.old.decisions + count; words = steps.old.words + 1 } }
 {
-    let windows = windows_at(bitmap, x, y, steps);
     decode_bits(
         neighbours, bitmap, x, y, count, left, windows, decoder, contexts, steps,
     );
@@ -284,14 +292,21 @@ pub fn decode_row_by_bytes<A: Allocator, L: Ledger>(
     let width = bitmap.width();
     let whole = (width - 1) / 8;
     let mut left = 0;
+    let mut before = Windows { above: 0, top: 0 };
+    let mut here = words_at(bitmap, 0, y, steps);
     for group in 0..whole.div_ceil(8) {
         let x = 64 * group;
         let bytes = (whole - 8 * group).min(8);
+        let after = words_after(bitmap, x, y, steps);
+        let windows = windows_between(before, here, after);
         left = decode_group(
-            neighbours, bitmap, x, y, bytes, left, decoder, contexts, steps,
+            neighbours, bitmap, x, y, bytes, left, windows, decoder, contexts, steps,
         );
+        before = here;
+        here = after;
     }
     let x = 8 * whole;
+    let windows = last_windows(before, here, whole);
     decode_last(
         neighbours,
         bitmap,
@@ -299,6 +314,7 @@ pub fn decode_row_by_bytes<A: Allocator, L: Ledger>(
         y,
         width - x,
         left,
+        windows,
         decoder,
         contexts,
         steps,

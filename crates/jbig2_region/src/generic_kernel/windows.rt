@@ -1,9 +1,9 @@
 //! Windows on the rows above: 64 pixels of each, of which one load serves many contexts.
-ghost use Rattle.std.specs.Prelude.{◌≡◌, ℕ, ◌+◌, ◌-◌, ◌*◌, ◌/◌, ◌%◌, ◌^◌, ◌<◌, ◌≤◌, pos, ◌-ℤ◌};
-ghost use Rattle.jbig2_region.specs.inner.Neighbours.{IsNear, IsWindow, Shows, ShowsGroup, ShowsRun, cut_of, neighbour_count, register_of, stretch_bits};
+ghost use Rattle.std.specs.Prelude.{◌≡◌, ℕ, ◌+◌, ◌-◌, ◌*◌, ◌/◌, ◌%◌, ◌^◌, ◌<◌, ◌≤◌, bit_or, pos, ◌-ℤ◌};
+ghost use Rattle.jbig2_region.specs.inner.Neighbours.{IsNear, IsWindow, Shows, ShowsBefore, ShowsGroup, ShowsRun, cut_of, neighbour_count, register_of, stretch_bits};
 ghost use Rattle.jbig2_base.specs.Grid.{Grid};
 
-use crate::template::neighbours::{Neighbours, Stretch, joined};
+use crate::template::neighbours::{Neighbours, Stretch};
 use jbig2_base::bitmap::Bitmap;
 use jbig2_base::bitmap::steps::Steps;
 use std::alloc::Allocator;
@@ -64,31 +64,101 @@ pub fn windows_at<A: Allocator, L: Ledger>(
     Windows { above, top }
 }
 
-/// Windows about column `x` on the two rows above row `y` that serve so many bytes, at most eight.
+/// The 64 pixels from column `x` on in the row that stands `back` rows above row `y`: a window
+/// about the column eight further on.
 #[inline(always)]
-pub fn wide_windows_at<A: Allocator, L: Ledger>(
+fn word<A: Allocator, L: Ledger>(
     bitmap: &Bitmap<A>,
     x: u32,
     y: u32,
-    bytes: u32,
+    back: u32,
     steps: &mut Steps<L>,
-) -> WideWindows
-    requires aligned { x % 8 ≡ 0 }
-    requires column { x + 32 < 2 ^ 32 }
-    requires some { 1 ≤ bytes }
-    requires few { bytes ≤ 8 }
-    ensures value { ShowsGroup bitmap.now x y bytes result }
-    ensures steps { steps.new ≡ record steps.old { loads = steps.old.loads + 2 * ((bytes + 3) / 4) } }
+) -> u64
+    ensures value { IsWindow bitmap.now (x + 8) (pos y -ℤ pos back) 64 result }
+    ensures steps { steps.new ≡ record steps.old { loads = steps.old.loads + 1 } }
 {
-    let first = windows_at(bitmap, x, y, steps);
-    if bytes <= 4 {
-        return WideWindows {
-            first,
-            second: first,
-        };
+    if y < back {
+        steps.load();
+        return 0;
     }
-    let second = windows_at(bitmap, x + 32, y, steps);
+    bitmap.load_pixels(x, y - back, 64, steps)
+}
+
+/// The words from column `x` on of the two rows above row `y`.
+#[inline(always)]
+pub fn words_at<A: Allocator, L: Ledger>(
+    bitmap: &Bitmap<A>,
+    x: u32,
+    y: u32,
+    steps: &mut Steps<L>,
+) -> Windows
+    ensures value { Shows bitmap.now (x + 8) y 64 result }
+    ensures steps { steps.new ≡ record steps.old { loads = steps.old.loads + 2 } }
+{
+    let above = word(bitmap, x, y, 1, steps);
+    let top = word(bitmap, x, y, 2, steps);
+    Windows { above, top }
+}
+
+/// The words after those from column `x` on: white where the rows end before.
+#[inline(always)]
+pub fn words_after<A: Allocator, L: Ledger>(
+    bitmap: &Bitmap<A>,
+    x: u32,
+    y: u32,
+    steps: &mut Steps<L>,
+) -> Windows
+    requires column { x < bitmap.now.width }
+    ensures value { Shows bitmap.now (x + 72) y 64 result }
+    ensures few { steps.new.loads ≤ steps.old.loads + 2 }
+    ensures none { bitmap.now.width ≤ x + 64 → steps.new.loads ≡ steps.old.loads }
+    ensures steps { steps.new ≡ record steps.old { loads = steps.new.loads } }
+{
+    if bitmap.width() - x <= 64 {
+        return Windows { above: 0, top: 0 };
+    }
+    words_at(bitmap, x + 64, y, steps)
+}
+
+/// The windows about a column, and about the column 32 further on, out of the words before, at and
+/// after the first of them.
+#[inline(always)]
+pub fn windows_between(before: Windows, here: Windows, after: Windows) -> WideWindows
+    ensures { (g : Grid) (x y bytes : ℕ) → ShowsBefore g x y before → Shows g (x + 8) y 64 here → Shows g (x + 72) y 64 after → ShowsGroup g x y bytes result }
+{
+    let first = Windows {
+        above: (before.above << 56) | (here.above >> 8),
+        top: (before.top << 56) | (here.top >> 8),
+    };
+    let second = Windows {
+        above: (here.above << 24) | (after.above >> 40),
+        top: (here.top << 24) | (after.top >> 40),
+    };
     WideWindows { first, second }
+}
+
+/// The 64 bits from bit `pixels` on, counted from the highest, of two words side by side.
+#[inline(always)]
+fn cut(word: u64, next: u64, pixels: u32) -> u64
+    requires few { pixels ≤ 56 }
+    ensures { result ≡ bit_or (word * 2 ^ pixels % 2 ^ 64) (next / 2 ^ (64 - pixels)) }
+{
+    (word << pixels) | ((next >> 8) >> (56 - pixels))
+}
+
+/// The windows about the column of a row's last byte, out of the words at the byte before it and
+/// after these; of a row of one byte, out of white words and the first.
+#[inline(always)]
+pub fn last_windows(words: Windows, after: Windows, whole: u32) -> Windows
+    requires fits { whole + 7 < 2 ^ 32 }
+    ensures alone { (g : Grid) (y : ℕ) → whole ≡ 0 → ShowsBefore g 0 y words → Shows g 8 y 64 after → Shows g 0 y 64 result }
+    ensures more { (g : Grid) (y x : ℕ) → x + 8 * ((whole + 7) % 8) ≡ 8 * whole → Shows g x y 64 words → Shows g (x + 64) y 64 after → Shows g (8 * whole) y 64 result }
+{
+    let pixels = 8 * ((whole + 7) % 8);
+    Windows {
+        above: cut(words.above, after.above, pixels),
+        top: cut(words.top, after.top, pixels),
+    }
 }
 
 /// A stretch's part of a context, seen from `offset` columns right of the window's column.
@@ -150,17 +220,21 @@ impl Neighbours {
         u64::from(left) + above * 65536 + top * 1099511627776
     }
 
-    /// The number of the context that a register holds.
+    /// The number of the context that a register holds: one product brings its three fields side by
+    /// side, from bit 48 on.
     #[inline(always)]
     pub fn context(self, register: u64) -> u32
         requires near { IsNear self }
         ensures value { result ≡ cut_of self register }
         ensures bound { result < 2 ^ neighbour_count self }
     {
-        let left = (register % (1 << self.left)) as u32;
-        let above = ((register >> 23) % (1 << self.above.count)) as u32;
-        let top = ((register >> 47) % (1 << self.top.count)) as u32;
-        let higher = joined(above, top, self.above.count);
-        joined(left, higher, self.left)
+        let left = register % (1 << self.left);
+        let above = (register >> 23) % (1 << self.above.count);
+        let top = (register >> 47) % (1 << self.top.count);
+        let fields = left + above * 8388608 + top * 140737488355328;
+        let places = 281474976710656
+            + (33554432 << self.left)
+            + (2 << (self.left + self.above.count));
+        (fields.wrapping_mul(places) >> 48) as u32
     }
 }

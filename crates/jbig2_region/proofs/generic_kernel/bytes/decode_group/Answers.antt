@@ -1,8 +1,6 @@
-use Rattle.std.proofs.Common.{arith, ap, refl, false, subst, sym, ◌≡◌, ◌+◌, ◌-◌, ◌*◌, ◌/◌, ◌%◌, ℕ, ◌∙◌}
+use Rattle.std.proofs.Common.{arith, refl, false, subst, ◌≡◌, ◌+◌, ◌*◌, ℕ, ◌∙◌}
 use Rattle.jbig2_base.proofs.LaneCounts.{lanes-none, lanes-then}
-use Rattle.jbig2_base.specs.Counts.{Counts, KeepsLanes}
-use Rattle.jbig2_base.specs.Grid.{Grid}
-use Rattle.jbig2_region.specs.inner.Neighbours.{DecodesPixels, IsLeft, ShowsGroup, nominal_pixels}
+use Rattle.jbig2_region.specs.inner.Neighbours.{DecodesPixels, IsLeft, nominal_pixels}
 use Rattle.jbig2_region.specs.RunBytes.{CountsRuns}
 use Rattle.jbig2_region.proofs.CountLemmas.{counts-none, counts-then}
 use Rattle.jbig2_region.proofs.GroupLemmas.{group-same}
@@ -25,13 +23,13 @@ loop-done-init g c =
       run_tests = omega arith;
       loads = refl;
       words = omega arith;
-      lanes = lanes-none c.wide_windows_at-windows.new.steps;
+      lanes = lanes-none c.args.steps.now;
     }
 
 pub decode_bytes-taken-requires-clause-shows : goal.decode_bytes-taken-requires-clause-shows
 decode_bytes-taken-requires-clause-shows g c =
     c.at_byte-shown.ensures c.loop-done.bitmap c.args.x c.args.y c.args.bytes c.most_bytes-most.result c.most_bytes-most.ensures.within c.most_bytes-most.ensures.some c.most_bytes-most.ensures.later
-    (group-same c.args.bitmap.now c.loop-done.bitmap c.args.x c.args.y c.args.bytes c.wide_windows_at-windows.result c.loop-done.invariant.rows c.wide_windows_at-windows.ensures.value)
+    (group-same c.args.bitmap.now c.loop-done.bitmap c.args.x c.args.y c.args.bytes c.args.windows c.loop-done.invariant.rows c.requires.shows)
 
 pub loop-done-preserved : goal.loop-done-preserved
 loop-done-preserved g c =
@@ -69,12 +67,4 @@ returns-clause-holds g c =
 pub returns-clause-decisions : goal.returns-clause-decisions
 returns-clause-decisions g c =
     let all : c.loop-done.done ≡ c.args.bytes = omega (arith, c.loop-done.invariant.within) in
-    let same : c.wide_windows_at-windows.new.steps.decisions ≡ c.args.steps.now.decisions = ap (λ (s : Counts). s.decisions) c.wide_windows_at-windows.ensures.steps in
-    subst (λ (b : ℕ). CountsRuns (nominal_pixels c.args.neighbours) c.args.x c.args.y (8 * c.args.bytes) c.args.bitmap.now c.args.decoder.now c.args.contexts.now b c.loop-done.steps.decisions) same
-    (subst (λ (n : ℕ). CountsRuns (nominal_pixels c.args.neighbours) c.args.x c.args.y (8 * n) c.args.bitmap.now c.args.decoder.now c.args.contexts.now c.wide_windows_at-windows.new.steps.decisions c.loop-done.steps.decisions) all c.loop-done.invariant.decisions)
-
-pub returns-clause-lanes : goal.returns-clause-lanes
-returns-clause-lanes g c =
-    let shown : KeepsLanes c.args.steps.now c.wide_windows_at-windows.new.steps =
-    record { groups = ap (λ (s : Counts). s.groups) c.wide_windows_at-windows.ensures.steps; pixels = ap (λ (s : Counts). s.pixels) c.wide_windows_at-windows.ensures.steps } in
-    lanes-then c.args.steps.now c.wide_windows_at-windows.new.steps c.loop-done.steps shown c.loop-done.invariant.lanes
+    subst (λ (n : ℕ). CountsRuns (nominal_pixels c.args.neighbours) c.args.x c.args.y (8 * n) c.args.bitmap.now c.args.decoder.now c.args.contexts.now c.args.steps.now.decisions c.loop-done.steps.decisions) all c.loop-done.invariant.decisions

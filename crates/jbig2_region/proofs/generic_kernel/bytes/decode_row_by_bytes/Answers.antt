@@ -1,9 +1,13 @@
-use Rattle.std.proofs.Common.{arith, ap, rules, refl, false, min, subst, sym, ◌≡◌, ◌+◌, ◌-◌, ◌*◌, ◌/◌, ◌%◌, ℕ, ◌∙◌}
+use Rattle.std.proofs.Common.{arith, ⊎_elim, ◌<◌, ap, rules, refl, false, min, subst, ◌≡◌, ◌≤◌, ◌+◌, ◌-◌, ◌*◌, ◌/◌, ℕ, ◌∙◌}
+use Rattle.std.proofs.lemmas.Bool.{cases_lt}
 use Rattle.jbig2_base.proofs.LaneCounts.{lanes-none, lanes-then}
-use Rattle.jbig2_region.specs.inner.Neighbours.{DecodesPixels, IsLeft, nominal_pixels}
+use Rattle.jbig2_base.specs.Counts.{Counts, KeepsLanes}
+use Rattle.jbig2_region.specs.inner.Neighbours.{DecodesPixels, IsLeft, Shows, ShowsBefore, nominal_pixels}
 use Rattle.jbig2_region.specs.RunBytes.{CountsRuns}
+use Rattle.jbig2_region.proofs.CarriedLemmas.{shows-before, shows-none_before}
 use Rattle.jbig2_region.proofs.CountLemmas.{counts-none, counts-then, counts-last}
 use Rattle.jbig2_region.proofs.StoreLemmas.{decodes-none, decodes-then, left-none}
+use Rattle.jbig2_region.proofs.WindowLemmas.{shows-same}
 use Rattle.jbig2_region.proofs.generic_kernel.bytes.decode_row_by_bytes.Goals as goal
 
 pub loop-group-init : goal.loop-group-init
@@ -19,12 +23,16 @@ loop-group-init g c =
       left = subst (λ (n : ℕ). IsLeft c.args.bitmap.now n c.args.y 0) start (left-none c.args.bitmap.now c.args.y);
       holds = subst (λ (n : ℕ). DecodesPixels (nominal_pixels c.args.neighbours) false 0 c.args.y n c.args.bitmap.now c.args.decoder.now c.args.contexts.now c.args.bitmap.now c.args.decoder.now c.args.contexts.now) start
           (decodes-none (nominal_pixels c.args.neighbours) false 0 c.args.y c.args.bitmap.now c.args.decoder.now c.args.contexts.now);
-      decisions = subst (λ (n : ℕ). CountsRuns (nominal_pixels c.args.neighbours) 0 c.args.y n c.args.bitmap.now c.args.decoder.now c.args.contexts.now c.args.steps.now.decisions c.args.steps.now.decisions) start
-          (counts-none (nominal_pixels c.args.neighbours) 0 c.args.y c.args.bitmap.now c.args.decoder.now c.args.contexts.now c.args.steps.now.decisions);
+      decisions = subst (λ (n : ℕ). CountsRuns (nominal_pixels c.args.neighbours) 0 c.args.y n c.args.bitmap.now c.args.decoder.now c.args.contexts.now c.words_at-here.new.steps.decisions c.words_at-here.new.steps.decisions) start
+          (counts-none (nominal_pixels c.args.neighbours) 0 c.args.y c.args.bitmap.now c.args.decoder.now c.args.contexts.now c.words_at-here.new.steps.decisions);
       run_tests = omega arith;
+      before = shows-none_before c.args.bitmap.now c.args.y _ refl refl;
+      last = λ some. absurd (omega arith);
+      here = c.words_at-here.ensures.value;
       loads = omega arith;
+      few_loads = λ few. refl;
       words = omega arith;
-      lanes = lanes-none c.args.steps.now;
+      lanes = lanes-none c.words_at-here.new.steps;
     }
 
 pub loop-group-preserved : goal.loop-group-preserved
@@ -38,7 +46,10 @@ loop-group-preserved g c =
     let next : then ≡ here + bytes = omega (arith, c.div_ceil-group-end.ensures, c.min-bytes.ensures) in
     let column : 64 * c.loop-group.group + 8 * bytes ≡ 8 * then = omega (arith, place, next) in
     let sum : 8 * then ≡ 8 * here + 8 * bytes = omega (arith, next) in
-    let even : here % 4 ≡ 0 = omega (arith, place) in
+    let same : c.words_after-after.new.steps.decisions ≡ c.loop-group.steps.decisions = ap (λ (s : Counts). s.decisions) c.words_after-after.ensures.steps in
+    let on : 64 * c.loop-group.group + 64 ≡ 64 * (c.loop-group.group + 1) = omega arith in
+    let further : 64 * c.loop-group.group + 72 ≡ 64 * (c.loop-group.group + 1) + 8 = omega arith in
+    let back : c.loop-group.group ≡ c.loop-group.group + 1 - 1 = omega arith in
     record {
       width = c.decode_group-left.ensures.width ∙ c.loop-group.invariant.width;
       height = c.decode_group-left.ensures.height ∙ c.loop-group.invariant.height;
@@ -51,12 +62,25 @@ loop-group-preserved g c =
           c.loop-group.invariant.holds c.decode_group-left.ensures.holds start sum;
       decisions =
           counts-then (nominal_pixels c.args.neighbours) 0 (64 * c.loop-group.group) c.args.y (8 * here) (8 * bytes) (8 * then)
-          c.args.bitmap.now c.loop-group.bitmap c.args.decoder.now c.loop-group.decoder c.args.contexts.now c.loop-group.contexts c.args.steps.now.decisions c.loop-group.steps.decisions c.decode_group-left.new.steps.decisions
-          c.loop-group.invariant.decisions c.loop-group.invariant.holds c.decode_group-left.ensures.decisions start sum;
-      run_tests = omega (arith, next, c.decode_group-left.ensures.run_tests, c.loop-group.invariant.run_tests);
-      loads = omega (arith, next, even, c.decode_group-left.ensures.loads, c.loop-group.invariant.loads);
-      words = omega (arith, next, c.decode_group-left.ensures.words, c.loop-group.invariant.words);
-      lanes = lanes-then c.args.steps.now c.loop-group.steps c.decode_group-left.new.steps c.loop-group.invariant.lanes c.decode_group-left.ensures.lanes;
+          c.args.bitmap.now c.loop-group.bitmap c.args.decoder.now c.loop-group.decoder c.args.contexts.now c.loop-group.contexts c.words_at-here.new.steps.decisions c.loop-group.steps.decisions c.decode_group-left.new.steps.decisions
+          c.loop-group.invariant.decisions c.loop-group.invariant.holds
+          (subst (λ (b : ℕ). CountsRuns (nominal_pixels c.args.neighbours) (64 * c.loop-group.group) c.args.y (8 * bytes) c.loop-group.bitmap c.loop-group.decoder c.loop-group.contexts b c.decode_group-left.new.steps.decisions) same c.decode_group-left.ensures.decisions) start sum;
+      run_tests = omega (arith, next, ap (λ (s : Counts). s.run_tests) c.words_after-after.ensures.steps, c.decode_group-left.ensures.run_tests, c.loop-group.invariant.run_tests);
+      before = subst (λ (n : ℕ). ShowsBefore c.decode_group-left.new.bitmap n c.args.y c.loop-group.here) on
+          (shows-before c.decode_group-left.new.bitmap (64 * c.loop-group.group) c.args.y c.loop-group.here
+          (shows-same c.loop-group.bitmap c.decode_group-left.new.bitmap (64 * c.loop-group.group + 8) c.args.y 64 c.loop-group.here c.decode_group-left.ensures.rows c.loop-group.invariant.here));
+      last = λ _. subst (λ (n : ℕ). Shows c.decode_group-left.new.bitmap (64 * n + 8) c.args.y 64 c.loop-group.here) back
+          (shows-same c.loop-group.bitmap c.decode_group-left.new.bitmap (64 * c.loop-group.group + 8) c.args.y 64 c.loop-group.here c.decode_group-left.ensures.rows c.loop-group.invariant.here);
+      here = subst (λ (n : ℕ). Shows c.decode_group-left.new.bitmap n c.args.y 64 c.words_after-after.result) further
+          (shows-same c.loop-group.bitmap c.decode_group-left.new.bitmap (64 * c.loop-group.group + 72) c.args.y 64 c.words_after-after.result c.decode_group-left.ensures.rows c.words_after-after.ensures.value);
+      loads = omega (arith, c.words_after-after.ensures.few, c.decode_group-left.ensures.loads, c.loop-group.invariant.loads);
+      few_loads = λ few. c.decode_group-left.ensures.loads ∙ c.words_after-after.ensures.none (omega (arith, c.loop-group.invariant.width, c.width-width.ensures.value)) ∙ c.loop-group.invariant.few_loads few;
+      words = omega (arith, next, ap (λ (s : Counts). s.words) c.words_after-after.ensures.steps, c.decode_group-left.ensures.words, c.loop-group.invariant.words);
+      lanes =
+          let shown : KeepsLanes c.loop-group.steps c.words_after-after.new.steps =
+          record { groups = ap (λ (s : Counts). s.groups) c.words_after-after.ensures.steps; pixels = ap (λ (s : Counts). s.pixels) c.words_after-after.ensures.steps } in
+          lanes-then c.words_at-here.new.steps c.loop-group.steps c.decode_group-left.new.steps c.loop-group.invariant.lanes
+          (lanes-then c.loop-group.steps c.words_after-after.new.steps c.decode_group-left.new.steps shown c.decode_group-left.ensures.lanes);
     }
 
 pub returns-clause-holds : goal.returns-clause-holds
@@ -78,9 +102,35 @@ returns-clause-decisions g c =
     let n : ℕ = c.width-width.result - x in
     let all : min (8 * c.loop-group.group) whole ≡ whole = omega (arith, c.div_ceil-group-end.ensures) in
     let sum : c.args.bitmap.now.width ≡ x + n = omega (arith, c.width-width.ensures.value, c.requires.some) in
+    let same : c.words_at-here.new.steps.decisions ≡ c.args.steps.now.decisions = ap (λ (s : Counts). s.decisions) c.words_at-here.ensures.steps in
     counts-then (nominal_pixels c.args.neighbours) 0 x c.args.y x n c.args.bitmap.now.width
     c.args.bitmap.now c.loop-group.bitmap c.args.decoder.now c.loop-group.decoder c.args.contexts.now c.loop-group.contexts c.args.steps.now.decisions c.loop-group.steps.decisions c.decode_last.new.steps.decisions
-    (subst (λ (k : ℕ). CountsRuns (nominal_pixels c.args.neighbours) 0 c.args.y (8 * k) c.args.bitmap.now c.args.decoder.now c.args.contexts.now c.args.steps.now.decisions c.loop-group.steps.decisions) all c.loop-group.invariant.decisions)
+    (subst (λ (b : ℕ). CountsRuns (nominal_pixels c.args.neighbours) 0 c.args.y (8 * whole) c.args.bitmap.now c.args.decoder.now c.args.contexts.now b c.loop-group.steps.decisions) same
+    (subst (λ (k : ℕ). CountsRuns (nominal_pixels c.args.neighbours) 0 c.args.y (8 * k) c.args.bitmap.now c.args.decoder.now c.args.contexts.now c.words_at-here.new.steps.decisions c.loop-group.steps.decisions) all c.loop-group.invariant.decisions))
     (subst (λ (k : ℕ). DecodesPixels (nominal_pixels c.args.neighbours) false 0 c.args.y (8 * k) c.args.bitmap.now c.args.decoder.now c.args.contexts.now c.loop-group.bitmap c.loop-group.decoder c.loop-group.contexts) all c.loop-group.invariant.holds)
     (counts-last (nominal_pixels c.args.neighbours) x c.args.y n c.loop-group.bitmap c.loop-group.decoder c.loop-group.contexts c.loop-group.steps.decisions c.decode_last.new.steps.decisions (search rules) (omega (arith, c.width-width.ensures.value, c.loop-group.invariant.width)) (omega (arith, c.width-width.ensures.value, c.loop-group.invariant.width)))
     (omega arith) sum
+
+pub decode_group-left-requires-clause-shows : goal.decode_group-left-requires-clause-shows
+decode_group-left-requires-clause-shows g c =
+    c.windows_between-windows.ensures c.loop-group.bitmap (64 * c.loop-group.group) c.args.y c.min-bytes.result c.loop-group.invariant.before c.loop-group.invariant.here c.words_after-after.ensures.value
+
+pub decode_last-requires-clause-shows : goal.decode_last-requires-clause-shows
+decode_last-requires-clause-shows g c =
+    let whole : ℕ = (c.width-width.result - 1) / 8 in
+    ⊎_elim
+    (λ (none : whole < 1).
+    let first : c.loop-group.group ≡ 0 = omega (arith, c.div_ceil-group-end.ensures) in
+    let start : 64 * c.loop-group.group ≡ 0 = omega (arith, first) in
+    let next : 64 * c.loop-group.group + 8 ≡ 8 = omega (arith, first) in
+    let place : 0 ≡ 8 * whole = omega arith in
+    subst (λ (n : ℕ). Shows c.loop-group.bitmap n c.args.y 64 c.last_windows-windows.result) place
+    (c.last_windows-windows.ensures.alone c.loop-group.bitmap c.args.y (omega arith)
+    (subst (λ (n : ℕ). ShowsBefore c.loop-group.bitmap n c.args.y c.loop-group.before) start c.loop-group.invariant.before)
+    (subst (λ (n : ℕ). Shows c.loop-group.bitmap n c.args.y 64 c.loop-group.here) next c.loop-group.invariant.here)))
+    (λ (some : 1 ≤ whole).
+    let x : ℕ = 64 * (c.loop-group.group - 1) + 8 in
+    let next : 64 * c.loop-group.group + 8 ≡ x + 64 = omega (arith, c.div_ceil-group-end.ensures) in
+    c.last_windows-windows.ensures.more c.loop-group.bitmap c.args.y x (omega (arith, c.div_ceil-group-end.ensures)) (c.loop-group.invariant.last (omega (arith, c.div_ceil-group-end.ensures)))
+    (subst (λ (n : ℕ). Shows c.loop-group.bitmap n c.args.y 64 c.loop-group.here) next c.loop-group.invariant.here))
+    (cases_lt whole 1)

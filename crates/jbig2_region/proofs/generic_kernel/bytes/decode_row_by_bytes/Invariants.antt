@@ -1,6 +1,6 @@
-use Rattle.std.proofs.Common.{◌≡◌, ◌<◌, ◌≤◌, ◌+◌, ◌*◌, ◌/◌, min, false}
+use Rattle.std.proofs.Common.{◌≡◌, ◌<◌, ◌≤◌, ◌+◌, ◌-◌, ◌*◌, min, false}
 use Rattle.jbig2_base.specs.Counts.{KeepsLanes}
-use Rattle.jbig2_region.specs.inner.Neighbours.{DecodesPixels, IsLeft, nominal_pixels}
+use Rattle.jbig2_region.specs.inner.Neighbours.{DecodesPixels, IsLeft, Shows, ShowsBefore, nominal_pixels}
 use Rattle.jbig2_region.specs.RunBytes.{CountsRuns}
 use Rattle.jbig2_region.proofs.generic_kernel.bytes.decode_row_by_bytes.Given as goal
 
@@ -14,7 +14,11 @@ invariant-loop-group g l = record {
   holds : DecodesPixels (nominal_pixels l.fn.neighbours) false 0 l.fn.y (8 * min (8 * l.group) l.whole) l.initial.bitmap l.initial.decoder l.initial.contexts l.bitmap l.decoder l.contexts;
   decisions : CountsRuns (nominal_pixels l.fn.neighbours) 0 l.fn.y (8 * min (8 * l.group) l.whole) l.initial.bitmap l.initial.decoder l.initial.contexts l.initial.steps.decisions l.steps.decisions;
   run_tests : l.steps.run_tests ≤ l.initial.steps.run_tests + min (8 * l.group) l.whole;
-  loads : l.steps.loads ≤ l.initial.steps.loads + 2 * ((min (8 * l.group) l.whole + 3) / 4);
+  before : ShowsBefore l.bitmap (64 * l.group) l.fn.y l.before;
+  last : 1 ≤ l.group → Shows l.bitmap (64 * (l.group - 1) + 8) l.fn.y 64 l.before;
+  here : Shows l.bitmap (64 * l.group + 8) l.fn.y 64 l.here;
+  loads : l.steps.loads ≤ l.initial.steps.loads + 2 * l.group;
+  few_loads : l.whole < 8 → l.steps.loads ≡ l.initial.steps.loads;
   words : l.steps.words ≤ l.initial.steps.words + min (8 * l.group) l.whole;
   lanes : KeepsLanes l.initial.steps l.steps;
 }

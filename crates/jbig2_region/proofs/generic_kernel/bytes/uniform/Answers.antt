@@ -1,4 +1,4 @@
-use Rattle.std.proofs.Common.{arith, ap, ◌∙◌}
+use Rattle.std.proofs.Common.{arith}
 use Rattle.std.proofs.lemmas.Nat.{pow_pos}
 use Rattle.jbig2_region.proofs.GroupLemmas.{ones}
 use Rattle.jbig2_region.proofs.generic_kernel.bytes.uniform.Goals as goal
