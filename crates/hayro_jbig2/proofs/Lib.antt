@@ -4,6 +4,7 @@ pub mod Consuming
 mod Direct
 mod FileRows
 pub mod KeptLemmas
+mod LeftLemmas
 mod PackedRows
 mod PageArea
 pub mod Runs
