@@ -1,6 +1,7 @@
 mod T6Bits
 mod T6Changes
 mod T6Decoding
+mod T6Distances
 mod T6Lookup
 pub mod T6Rows
 mod T6Runs

@@ -1,9 +1,7 @@
 -- Changes, changing elements, modes and rows.
-use Rattle.std.proofs.Common.{◌≡◌, ℕ, zero, suc, ◌+◌, ◌-◌, ◌%◌, ◌^◌, ◌<◌, ◌≤◌, ◌&&◌, ℤ, pos, negsuc, ◌+ℤ◌, Bool, true, false, not, cond, eqb, leb, List, [], ◌∷◌, ◌++◌, length, Option, Some, None, refl, sym, ap, subst, ◌∙◌, ⊎_elim, arith}
+use Rattle.std.proofs.Common.{◌≡◌, ℕ, zero, suc, ◌+◌, ◌-◌, ◌%◌, ◌<◌, ◌≤◌, ◌&&◌, ℤ, pos, negsuc, ◌+ℤ◌, Bool, true, false, not, cond, eqb, leb, List, [], ◌∷◌, ◌++◌, length, Option, Some, None, refl, sym, ap, subst, ◌∙◌, ⊎_elim, arith}
 use Rattle.std.specs.Prelude.{filter, unsigned_abs, ◌≤ℤ◌, ◌<ℤ◌}
-use Rattle.std.specs.Int.{w32}
-use Rattle.std.proofs.Common.{SFits, to_z, of_z, w64, rules}
-use Rattle.std.proofs.lemmas.Int.{ints, to_z-of_z}
+use Rattle.std.proofs.lemmas.Int.{ints}
 use Rattle.std.proofs.lemmas.List.{length-append}
 use Rattle.std.proofs.lemmas.List.Elements.{filter-append}
 use Rattle.std.proofs.lemmas.Bool.{true≢false, cases_eq, cases_lt, cond-true, cond-false, and_from, and_left, and_right, le-leb, lt-leb, eq-eqb, ne_eqb}
@@ -193,18 +191,6 @@ vertical-fault w above h b1 distance bits e fault =
     let place : place_in h.a0 w (pos (b1_of w above h) +ℤ distance) ≡ None = ap (λ (b : ℕ). place_in h.a0 w (pos b +ℤ distance)) (sym e) ∙ fault in
     let is : after_vertical w above h distance bits ≡ None = ap (λ (o : Option ℕ). o >>= (λ a. Some (vertical_made h a bits))) place in
     subst (λ (o : Option Step). ReadStep w h o None bits) (sym is) tt
-
--- the sum of b1 and the distance, in a wider type
-pub sum-wide : (b1 : ℕ) (d first second : ℤ) → b1 < 2 ^ 32 → SFits w32 d → first ≡ pos b1 → second ≡ to_z w32 (of_z w32 d) → to_z w64 (of_z w64 (to_z w64 (of_z w64 first) +ℤ to_z w64 (of_z w64 second))) ≡ pos b1 +ℤ d
-sum-wide b1 d first second small fits e f =
-    let one : to_z w64 (of_z w64 first) ≡ pos b1 = ap (λ (z : ℤ). to_z w64 (of_z w64 z)) e ∙ to_z-of_z w64 (pos b1) (record { sfits = omega (arith, ints) }) in
-    let two : to_z w64 (of_z w64 second) ≡ d = ap (λ (z : ℤ). to_z w64 (of_z w64 z)) (f ∙ to_z-of_z w32 d fits) ∙ to_z-of_z w64 d (record { sfits = omega (arith, ints, fits.sfits) }) in
-    ap (λ (z : ℤ). to_z w64 (of_z w64 (z +ℤ to_z w64 (of_z w64 second)))) one
-    ∙ ap (λ (z : ℤ). to_z w64 (of_z w64 (pos b1 +ℤ z))) two
-    ∙ to_z-of_z w64 (pos b1 +ℤ d) (search rules)
-
-pub wide-is : (n : ℕ) (z : ℤ) → n < 2 ^ 32 → z ≡ pos n → to_z w64 (of_z w64 z) ≡ pos n
-wide-is n z small e = ap (λ (y : ℤ). to_z w64 (of_z w64 y)) e ∙ to_z-of_z w64 (pos n) (record { sfits = omega (arith, ints) })
 
 -- ---- two runs
 abbrev runs_made : Head → ℕ → ℕ → List ℕ → Step

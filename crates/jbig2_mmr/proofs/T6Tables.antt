@@ -1,8 +1,7 @@
 -- The code's tables are T.6's: each entry is the code that begins the bits that look it up.
-use Rattle.std.proofs.Common.{◌≡◌, ℕ, ◌/◌, ◌%◌, ◌^◌, ◌<◌, ◌≤◌, ℤ, pos, cond, eqb, ltb, to_z, of_z, w32, rules, Option, Some, None, Bool, true, false, List, [], map, replicate, get_or, refl, ap, sym, ◌∙◌, arith}
+use Rattle.std.proofs.Common.{◌≡◌, ℕ, ◌/◌, ◌%◌, ◌^◌, ◌<◌, ◌≤◌, ℤ, pos, cond, eqb, ltb, Option, Some, None, Bool, true, false, List, [], map, replicate, get_or, refl, ap, sym, ◌∙◌, arith}
 use Rattle.std.specs.Prelude.{◌-ℤ◌}
 use Rattle.std.proofs.lemmas.Bool.{cond-true, cond-false, eq-eqb, ne_eqb, lt-ltb, le-ltb, ltb-true}
-use Rattle.std.proofs.lemmas.Int.{ints, to_z-of_z}
 use Rattle.std.specs.Option.{is_some}
 use Rattle.std.specs.List.{range_with_len}
 use Rattle.std.proofs.lemmas.List.FromFn.{get_or-map-range_with_len}
@@ -62,12 +61,6 @@ kind-horizontal kind e = sym (kind-low kind (omega arith) ∙ cond-true (eqb kin
 
 pub kind-pass : (kind : ℕ) → kind ≤ 2 → (kind ≡ 2 → ⊥) → Pass ≡ mode_of kind
 kind-pass kind low other = sym (kind-low kind low ∙ cond-false (eqb kind 2) Horizontal Pass (ne_eqb kind 2 other))
-
--- a small difference fits its type
-pub distance-is : (kind : ℕ) (z : ℤ) → kind < 32 → z ≡ pos kind → to_z w32 (of_z w32 (to_z w32 (of_z w32 z) -ℤ pos 6)) ≡ pos kind -ℤ pos 6
-distance-is kind z small e =
-    let inner : to_z w32 (of_z w32 z) ≡ pos kind = ap (λ (y : ℤ). to_z w32 (of_z w32 y)) e ∙ to_z-of_z w32 (pos kind) (record { sfits = omega (arith, ints) }) in
-    ap (λ (y : ℤ). to_z w32 (of_z w32 (y -ℤ pos 6))) inner ∙ to_z-of_z w32 (pos kind -ℤ pos 6) (search rules)
 
 mode_at : ℕ → Option (Mode × ℕ)
 mode_at bits = code_at modes (spell 7 bits [])

@@ -3,7 +3,7 @@ use Rattle.std.proofs.lemmas.Bool.{cases_Bool, cond-true, cond-false}
 use Rattle.std.specs.Int.RustNames.{bit_and}
 use Rattle.std.proofs.lemmas.Nat.{and_le_r}
 use Rattle.jbig2_base.specs.Search.{place_from}
-use Rattle.jbig2_base.proofs.LaneCounts.{lanes-none, lanes-then}
+use Rattle.jbig2_base.proofs.LaneCounts.{lanes-then}
 use Rattle.jbig2_mmr.proofs.T6Spans.{lanes-load}
 use Rattle.jbig2_mmr.specs.T6.{b1_of, is_change_from, left_of}
 use Rattle.jbig2_mmr.specs.inner.T6Reading.{row_of}

@@ -1,7 +1,7 @@
-use Rattle.std.proofs.Common.{◌≡◌, ℕ, Bool, true, not, ap, arith}
-use Rattle.jbig2_base.proofs.LaneCounts.{lanes-none, lanes-then}
+use Rattle.std.proofs.Common.{ℕ, Bool, ap, arith}
+use Rattle.jbig2_base.proofs.LaneCounts.{lanes-then}
 use Rattle.jbig2_mmr.specs.declared.mmr.row.Turn.{Turn}
-use Rattle.jbig2_mmr.specs.T6.{Head, b1_of}
+use Rattle.jbig2_mmr.specs.T6.{b1_of}
 use Rattle.jbig2_mmr.specs.inner.T6Reading.{row_of}
 use Rattle.jbig2_mmr.specs.inner.T6Calls.{head_of}
 use Rattle.jbig2_mmr.proofs.T6Changes.{first-colour, first-end}

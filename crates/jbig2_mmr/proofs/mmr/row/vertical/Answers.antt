@@ -4,7 +4,8 @@ use Rattle.std.proofs.lemmas.Int.{ints}
 use Rattle.jbig2_mmr.specs.T6.{Head}
 use Rattle.jbig2_mmr.specs.inner.T6Reading.{row_of}
 use Rattle.jbig2_mmr.specs.inner.T6Calls.{head_of}
-use Rattle.jbig2_mmr.proofs.T6Rows.{vertical-read, vertical-fault, outside-left, outside-right, sum-wide, wide-is, sum-place}
+use Rattle.jbig2_mmr.proofs.T6Distances.{sum-wide, wide-is}
+use Rattle.jbig2_mmr.proofs.T6Rows.{vertical-read, vertical-fault, outside-left, outside-right, sum-place}
 use Rattle.jbig2_mmr.proofs.mmr.row.vertical.Goals as goal
 use Rattle.jbig2_mmr.proofs.mmr.row.vertical.Goals.{then-sum-from-via-then-sum-from, then-sum-from-via-else-sum-from+then-sum-from-2}
 

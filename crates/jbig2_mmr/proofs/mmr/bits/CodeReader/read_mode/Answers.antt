@@ -1,4 +1,4 @@
-use Rattle.std.proofs.Common.{◌≡◌, ℕ, ◌+◌, ◌-◌, ◌/◌, ◌%◌, ◌^◌, ◌<◌, ◌≤◌, List, length, drop, take, get_or, Option, Some, None, ap, sym, ◌∙◌, arith}
+use Rattle.std.proofs.Common.{◌≡◌, ℕ, ◌/◌, ◌%◌, ◌^◌, ◌<◌, ◌≤◌, List, length, drop, take, get_or, Option, Some, ap, sym, ◌∙◌, arith}
 use Rattle.std.proofs.lemmas.List.{length-drop}
 use Rattle.jbig2_base.specs.Bits.{number_after}
 use Rattle.jbig2_mmr.specs.declared.mmr.codes.Mode.{Mode}
@@ -6,8 +6,9 @@ use Rattle.jbig2_mmr.specs.declared.mmr.codes.modes.TheConstants.{MODES}
 use Rattle.jbig2_mmr.specs.T6.{read_code}
 use Rattle.jbig2_mmr.specs.T6Codes.{modes}
 use Rattle.jbig2_mmr.specs.inner.T6Reading.{AreBits, Rest, padded}
+use Rattle.jbig2_mmr.proofs.T6Distances.{distance-is}
 use Rattle.jbig2_mmr.proofs.T6Lookup.{lookup-none, lookup-short, lookup-some}
-use Rattle.jbig2_mmr.proofs.T6Tables.{modes-prefix_free, modes-short, mode_of, mode-none, mode-some, mode-small, kind-vertical, kind-horizontal, kind-pass, distance-is}
+use Rattle.jbig2_mmr.proofs.T6Tables.{modes-prefix_free, modes-short, mode_of, mode-none, mode-some, mode-small, kind-vertical, kind-horizontal, kind-pass}
 use Rattle.jbig2_mmr.proofs.mmr.bits.CodeReader.read_mode.Goals as goal
 use Rattle.jbig2_mmr.proofs.mmr.bits.CodeReader.read_mode.Goals.{then-size-eq0-via-then-size-eq0, then-size-eq0-via-else-size-eq0+then-size-few}
 
