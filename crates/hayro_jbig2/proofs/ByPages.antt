@@ -319,3 +319,10 @@ holds-more s t p before rest all is some more = record {
   holds = more;
   all_are = append_assoc some.came (p ∷ []) rest ∙ ap (λ (ps : List SegmentView). some.came ++ ps) (sym is) ∙ some.all_are;
 }
+
+-- all segments were put to their pages
+pub holds-all : {A : Type 0} (s : SegmentsByPage A) (rest all : List SegmentView) → length rest ≡ 0 → HoldsSome s rest all → (of_page 0 all ≡ segment_views s.shared.items) × (by_pages all ≡ pages_view s.pages.items)
+holds-all s [] all none some =
+    let whole : some.came ≡ all = sym (append-nil some.came) ∙ some.all_are in
+    (ap (λ (ps : List SegmentView). of_page 0 ps) (sym whole) ∙ sym some.holds.shared, ap (λ (ps : List SegmentView). by_pages ps) (sym whole) ∙ sym some.holds.pages)
+holds-all s (p ∷ ps) all none some = absurd (omega arith)

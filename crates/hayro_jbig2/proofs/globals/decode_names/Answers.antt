@@ -1,5 +1,6 @@
 use Rattle.std.proofs.Common.{◌≡◌, ℕ, suc, ◌+◌, ◌<◌, Bool, List, ◌∷◌, length, drop, get_or, Ok, Err, inl, inr, ⊎_elim, sym, ap, ◌∙◌, arith}
 use Rattle.std.proofs.Math.Seq.{drop-cons}
+use Rattle.std.proofs.lemmas.List.{at_drop_all}
 use Rattle.jbig2_base.specs.inner.SegmentViews.{segment_view, segment_views}
 use Rattle.jbig2_base.specs.declared.error.DecodeError.{DecodeError}
 use Rattle.jbig2_base.specs.declared.error.DecodeError.TheVariants.{OutOfMemory}
@@ -32,3 +33,8 @@ returns-in-Err g c =
     (λ (memory : c.in-Err.error ≡ OutOfMemory). inl memory)
     (λ refused. inr (sym c.loop-segment.invariant ∙ refused-segment c.args.strict c.args.segments.now c.loop-segment.segment-index c.segment-item.result c.loop-segment.names c.in-Err.error (omega arith) c.segment-item.is refused))
     c.in-Err.ensures
+
+pub returns : goal.returns
+returns g c =
+    sym c.loop-segment.invariant
+    ∙ at_drop_all (λ left. named_from c.args.strict (segment_views left) c.loop-segment.names) c.args.segments.now c.loop-segment.segment-index c.loop-segment-test.false

@@ -1,6 +1,10 @@
-use Rattle.std.proofs.Common.{◌∙◌, ap, arith, inl, length, sym}
+use Rattle.std.proofs.Common.{◌≡◌, ◌∙◌, List, Ok, ap, arith, inl, length, sym}
+use Rattle.std.proofs.lemmas.List.{length-map}
+use Rattle.std.specs.Vec.Iter.{into_iter_items}
 use Rattle.jbig2_base.specs.inner.SegmentViews.{segment_view, segment_views}
-use Rattle.hayro_jbig2.proofs.ByPages.{holds-none, holds-more}
+use Rattle.jbig2_base.specs.Segment.{SegmentView}
+use Rattle.hayro_jbig2.specs.Files.{by_pages}
+use Rattle.hayro_jbig2.proofs.ByPages.{holds-none, holds-more, holds-all}
 use Rattle.hayro_jbig2.proofs.segments_by_page.SegmentsByPage.new.Goals as goal
 
 pub loop-segment-init : goal.loop-segment-init
@@ -23,3 +27,11 @@ pub returns-in-Err : goal.returns-in-Err
 returns-in-Err g c =
     let some = c.loop-segment.invariant.holds in
     inl (c.in-Err.ensures some.came some.holds)
+
+pub returns : goal.returns
+returns g c =
+    let items = into_iter_items c.loop-segment.segment-iterator in
+    let none = length-map items (λ s. segment_view s) ∙ sym c.loop-segment.invariant.counted ∙ c.in-None.ensures.steps.0 in
+    let whole = holds-all c.loop-segment.by_page (segment_views items) (segment_views c.args.segments.items) none c.loop-segment.invariant.holds in
+    ap (λ (shared : List SegmentView). Ok (shared, by_pages (segment_views c.args.segments.items))) whole.0
+    ∙ ap (λ (pages : List (List SegmentView)). Ok (segment_views c.loop-segment.by_page.shared.items, pages)) whole.1
