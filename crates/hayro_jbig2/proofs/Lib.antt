@@ -9,6 +9,7 @@ mod PackedRows
 mod PageArea
 pub mod Runs
 pub mod Sending
+mod Shades
 pub mod Spelling
 pub mod Untouched
 mod WorkedRefinements

@@ -68,7 +68,8 @@ fn run_at<A: Allocator, L: Ledger>(
 }
 
 /// The pixel at a place of loaded ones, the last at place 0.
-fn pixel_of(pixels: u64, place: u32) -> bool
+#[inline(always)]
+pub(crate) fn pixel_of(pixels: u64, place: u32) -> bool
     requires { place < 64 }
     ensures { result ≡ bit pixels place }
 {

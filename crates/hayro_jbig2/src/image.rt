@@ -1,12 +1,36 @@
 //! A page as bytes.
-ghost use Rattle.std.specs.Prelude.{◌≡◌, ◌*◌, ◌≤◌, length};
-ghost use Rattle.hayro_jbig2.specs.Image.{image_of};
+ghost use Rattle.std.specs.Prelude.{◌≡◌, ◌+◌, ◌-◌, ◌*◌, ◌<◌, ◌≤◌, ℕ, get_or, length};
+ghost use Rattle.jbig2_base.specs.inner.WordBits.{bit};
+ghost use Rattle.hayro_jbig2.specs.Image.{image_of, shade};
 
+use crate::calls::pixel_of;
 use jbig2_base::bitmap::Bitmap;
 use jbig2_base::bitmap::steps::Steps;
 use jbig2_base::page_info::InitialPage;
 use std::alloc::Allocator;
 use std::sync::ledger::Ledger;
+
+/// The byte of a pixel: 0 for black and 255 for white.
+#[inline(always)]
+fn shade(black: bool) -> u8
+    ensures { result ≡ shade black }
+{
+    if black { 0 } else { 255 }
+}
+
+/// Puts the bytes of the pixels in the highest `count` bits of a word at a place of `buf`.
+#[inline(always)]
+fn put_shades(buf: &mut [u8], place: usize, count: usize, word: u64)
+    requires few { count ≤ 64 }
+    requires inside { place + count ≤ length buf.old }
+    ensures sized { length buf.new ≡ length buf.old }
+    ensures before { (k : ℕ) → k < place → get_or buf.new k 0 ≡ get_or buf.old k 0 }
+    ensures shades { (i : ℕ) → i < count → get_or buf.new (place + i) 0 ≡ shade (bit word (63 - i)) }
+{
+    for i in 0..count {
+        buf[place + i] = shade(pixel_of(word, 63 - i as u32));
+    }
+}
 
 /// Writes a byte for each pixel of a page of this size, rows from the top: 0 for black and 255 for
 /// white.
@@ -23,10 +47,16 @@ pub(crate) fn write_image<A: Allocator, L: Ledger>(
     ensures { buf.new ≡ image_of initial_page.now.width initial_page.now.height bitmap.now }
 {
     let width = initial_page.width as usize;
-    for (place, byte) in buf.iter_mut().enumerate() {
-        let x = (place % width) as u32;
-        let y = (place / width) as u32;
-        let black = bitmap.get_pixel(x, y, steps) == 1;
-        *byte = if black { 0 } else { 255 };
+    let (mut place, mut x, mut y) = (0, 0, 0);
+    while place < buf.len() {
+        let word = bitmap.load_pixels(x as u32, y, 64, steps);
+        let count = (width - x).min(buf.len() - place).min(64);
+        put_shades(buf, place, count, word);
+        place += count;
+        x += count;
+        if x == width {
+            x = 0;
+            y += 1;
+        }
     }
 }
