@@ -15,10 +15,10 @@ pub loop-segment-preserved : goal.loop-segment-preserved
 loop-segment-preserved g c =
     let first = ends-first c.args.segments.now c.loop-segment.segment-index c.segment-item.result in
     elim c.if-is_end_of_page.branch [
-      then-is_end_of_page w ↦
-        (let one = first true (omega arith) c.segment-item.is (sym c.is_end_of_page.ensures ∙ w.if-is_end_of_page.true) in
-        record { counted = omega (arith, one, w.count-is, c.loop-segment.invariant.counted); small = omega (arith, w.count-is, c.loop-segment.invariant.small) })
-    | else-is_end_of_page w ↦
-        (let none = first false (omega arith) c.segment-item.is (sym c.is_end_of_page.ensures ∙ w.if-is_end_of_page.false) in
-        record { counted = omega (arith, none, w.count-is, c.loop-segment.invariant.counted); small = omega (arith, w.count-is, c.loop-segment.invariant.small) })
+      | then-is_end_of_page w ↦
+          (let one = first true (omega arith) c.segment-item.is (sym c.is_end_of_page.ensures ∙ w.if-is_end_of_page.true) in
+          record { counted = omega (arith, one, w.count-is, c.loop-segment.invariant.counted); small = omega (arith, w.count-is, c.loop-segment.invariant.small) })
+      | else-is_end_of_page w ↦
+          (let none = first false (omega arith) c.segment-item.is (sym c.is_end_of_page.ensures ∙ w.if-is_end_of_page.false) in
+          record { counted = omega (arith, none, w.count-is, c.loop-segment.invariant.counted); small = omega (arith, w.count-is, c.loop-segment.invariant.small) })
     ]
