@@ -1,4 +1,4 @@
-use Rattle.std.proofs.Common.{◌≡◌, ◌∙◌, sym, arith}
+use Rattle.std.proofs.Common.{◌∙◌, sym, arith}
 use Rattle.std.proofs.lemmas.Bool.{cond-false, cond-true}
 use Rattle.jbig2_base.specs.inner.SegmentViews.{header_view, segment_views}
 use Rattle.hayro_jbig2.specs.Files.{associated, lacks_page}

@@ -1,4 +1,4 @@
-use Rattle.std.proofs.Common.{◌≡◌, ◌==◌, ◌∙◌, sym, arith}
+use Rattle.std.proofs.Common.{◌==◌, ◌∙◌, sym, arith}
 use Rattle.std.proofs.lemmas.Bool.{cond-false, cond-true, eq-eqb, ne_eqb}
 use Rattle.hayro_jbig2.specs.Names.{first_named}
 use Rattle.hayro_jbig2.proofs.LeftLemmas.{left-first}

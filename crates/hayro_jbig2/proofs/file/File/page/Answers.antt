@@ -1,10 +1,31 @@
-use Rattle.std.proofs.Common.{◌≤◌, ◌∙◌, Option, ap, arith, length, sym}
-use Rattle.std.proofs.lemmas.Option.{slice_get_past}
-use Rattle.std.specs.Prelude.{option_map}
-use Rattle.std.proofs.lemmas.Bool.{ltb-false}
+use Rattle.std.proofs.Common.{◌≡◌, ℕ, ◌<◌, ◌≤◌, ◌∙◌, List, Option, Some, Result, ap, arith, get_or, length, sym}
+use Rattle.std.proofs.lemmas.Option.{slice_get-get_or, slice_get_past}
+use Rattle.std.specs.Prelude.{option_map, slice_get}
+use Rattle.std.proofs.lemmas.Bool.{ltb-false, ltb-true}
+use Rattle.jbig2_base.specs.inner.SegmentViews.{segment_views}
+use Rattle.jbig2_base.specs.declared.error.DecodeError.{DecodeError}
 use Rattle.hayro_jbig2.proofs.Books.{pages_stand_alone}
 use Rattle.hayro_jbig2.proofs.file.File.page.Goals as goal
-use Rattle.hayro_jbig2.specs.Files.{ReadFile, PageInFile, page_in}
+use Rattle.hayro_jbig2.specs.Files.{ReadFile, PageInFile, page_in, page_of}
+use Rattle.hayro_jbig2.specs.Names.{Names}
+use Rattle.hayro_jbig2.specs.Page.{ReadPage}
+use Rattle.hayro_jbig2.specs.inner.PageViews.{kept_names}
+
+page-at : (book : ReadFile) (pages : List PageInFile) (i : ℕ) (page : PageInFile) (read : ReadPage) → pages ≡ book.pages → i < length pages → page ≡ get_or pages i page → read ≡ page_in book page → Some read ≡ page_of book i
+page-at book pages i page read are inside is made =
+    let at : slice_get book.pages i ≡ Some page = ap (λ (ps : List PageInFile). slice_get ps i) (sym are) ∙ slice_get-get_or pages i page inside ∙ ap (λ (p : PageInFile). Some p) (sym is) in
+    ap (λ (r : ReadPage). Some r) made ∙ sym (ap (λ (p : Option PageInFile). option_map (page_in book) p) at)
+
+pub returns-in-Some-clause-value : goal.returns-in-Some-clause-value
+returns-in-Some-clause-value g c =
+    let book : ReadFile = c.args.self.now in
+    let page : PageInFile = c.in-Some.page.now in
+    let there = c.in-Some.ensures.lookup in
+    let made : c.of_file.result ≡ page_in book page = c.of_file.ensures
+    ∙ ap (λ (b : ReadFile). let r : ReadPage = record { strict = b.strict; initial_page = c.page.inside.initial_page; segments = segment_views c.page.inside.segments.items; globals = kept_names c.globals.result } in r) c.self.view_is
+    ∙ ap (λ (p : PageInFile). let r : ReadPage = record { strict = book.strict; initial_page = p.initial_page; segments = p.segments; globals = kept_names c.globals.result } in r) c.page.view_is
+    ∙ ap (λ (globals : Result Names DecodeError). let r : ReadPage = record { strict = book.strict; initial_page = page.initial_page; segments = page.segments; globals = globals } in r) c.globals.ensures in
+    page-at book c.deref.result.now c.args.index page c.of_file.result (c.deref.ensures.value ∙ ap (λ (b : ReadFile). b.pages) c.self.view_is) (ltb-true _ _ (sym there.0)) there.1 made
 
 pub returns-in-Some-clause-alone : goal.returns-in-Some-clause-alone
 returns-in-Some-clause-alone g c = pages_stand_alone

@@ -1,4 +1,4 @@
-use Rattle.std.proofs.Common.{◌≡◌, ◌∙◌, List, Ok, ap, arith, inl, length, sym}
+use Rattle.std.proofs.Common.{◌∙◌, List, Ok, ap, arith, inl, length, sym}
 use Rattle.std.proofs.lemmas.List.{length-map}
 use Rattle.std.specs.Vec.Iter.{into_iter_items}
 use Rattle.jbig2_base.specs.inner.SegmentViews.{segment_view, segment_views}

@@ -1,0 +1,47 @@
+use Rattle.std.proofs.Common.{◌≡◌, ℕ, Bool, false, ◌&&◌, List, length, Result, Ok, sym, ap, ◌∙◌}
+use Rattle.std.proofs.lemmas.List.{length-map}
+use Rattle.jbig2_base.specs.File.{file_at}
+use Rattle.jbig2_base.specs.Segment.{SegmentView}
+use Rattle.jbig2_base.specs.inner.SegmentViews.{file_view, segment_views}
+use Rattle.jbig2_base.specs.declared.error.DecodeError.{DecodeError}
+use Rattle.jbig2_base.specs.declared.file_header.FileHeader.{FileHeader}
+use Rattle.hayro_jbig2.specs.Files.{PageInFile, associated, book_at, by_pages, filed_each, miscounts, of_page}
+use Rattle.hayro_jbig2.specs.Globals.{named_from}
+use Rattle.hayro_jbig2.specs.Names.{Names, no_names}
+use Rattle.hayro_jbig2.specs.inner.ByPages.{by_page_view}
+use Rattle.hayro_jbig2.proofs.file.File.new.Goals as goal
+use Rattle.hayro_jbig2.proofs.file.File.new.Goals.{else-strict-via-then-strict+else-miscounts, else-strict-via-else-strict}
+
+-- a file of which each step was taken
+book-made : (strict : Bool) (bytes : List ℕ) (file : FileHeader × List SegmentView) (parts : List SegmentView × List (List SegmentView)) (pages : List PageInFile) (globals : Result Names DecodeError)
+    → file_at strict bytes ≡ Ok file → associated strict file.1 ≡ Ok tt → of_page 0 file.1 ≡ parts.0 → by_pages file.1 ≡ parts.1
+    → (strict && miscounts file.0.number_of_pages (length parts.1)) ≡ false → filed_each strict parts.1 ≡ Ok pages → named_from strict parts.0 no_names ≡ globals
+    → book_at strict bytes ≡ Ok (record { strict = strict; pages = pages; globals = globals })
+unfolding book_at
+book-made strict bytes file parts pages globals read known shared own counted filed named = rw (read, known, shared, own, counted, filed, named)
+
+-- what an answer of two parts has
+parts-are : (shared : List SegmentView) (pages : List (List SegmentView)) (parts : List SegmentView × List (List SegmentView)) → (let meant : Result (List SegmentView × List (List SegmentView)) DecodeError = Ok (shared, pages) in meant) ≡ Ok parts → (shared ≡ parts.0) × (pages ≡ parts.1)
+parts-are shared pages parts e =
+    let same : (let both : List SegmentView × List (List SegmentView) = (shared, pages) in both) ≡ parts = cc in
+    (ap (λ (p : List SegmentView × List (List SegmentView)). p.0) same, ap (λ (p : List SegmentView × List (List SegmentView)). p.1) same)
+
+kept-is : (named globals : Result Names DecodeError) → (let meant : Result (Result Names DecodeError) DecodeError = Ok named in meant) ≡ Ok globals → named ≡ globals
+kept-is named globals e = cc
+
+pub returns : goal.returns
+returns g c =
+    let strict = c.args.settings.now.strict in
+    let file : FileHeader × List SegmentView = file_view c.in_ok-file.file in
+    let parts : List SegmentView × List (List SegmentView) = by_page_view c.in_ok-segments.segments in
+    let known : associated strict file.1 ≡ Ok tt = ap (λ s. associated strict (segment_views s)) (sym c.deref.ensures.value) ∙ c.in_ok-check_associations.ensures in
+    let split = parts-are (of_page 0 file.1) (by_pages file.1) parts c.in_ok-segments.ensures in
+    let length_is : length parts.1 ≡ length c.in_ok-segments.segments.pages.items = length-map c.in_ok-segments.segments.pages.items _ in
+    let counted : (strict && miscounts file.0.number_of_pages (length parts.1)) ≡ false = elim c.else-strict.branch [
+      | else-strict-via-then-strict+else-miscounts w ↦
+          ap (λ (b : Bool). b && miscounts file.0.number_of_pages (length parts.1)) w.if-strict.true
+          ∙ ap (λ (n : ℕ). miscounts file.0.number_of_pages n) (length_is ∙ sym (w.len.ensures ∙ c.in_ok-segments.segments.pages.ok.0)) ∙ sym w.miscounts.ensures ∙ w.if-miscounts.false
+      | else-strict-via-else-strict w ↦ ap (λ (b : Bool). b && miscounts file.0.number_of_pages (length parts.1)) w.if-strict.false
+    ] in
+    let named = ap (λ s. named_from strict (segment_views s) no_names) (sym c.deref-2.ensures.value) ∙ kept-is _ _ c.in_ok-globals.ensures in
+    book-made strict c.args.bytes.now file parts c.in_ok-pages.pages.items c.in_ok-globals.globals c.in_ok-file.ensures.value known split.0 split.1 counted c.in_ok-pages.ensures named
