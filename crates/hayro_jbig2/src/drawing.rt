@@ -3,7 +3,8 @@ ghost use Rattle.std.specs.Prelude.{◌≡◌, true, false, Ok, Err};
 ghost use Rattle.jbig2_base.specs.Answer.{Gives};
 ghost use Rattle.jbig2_base.specs.inner.SegmentViews.{segment_view, segment_views};
 ghost use Rattle.jbig2_region.specs.Generic.{region_view};
-ghost use Rattle.hayro_jbig2.specs.Page.{segments_drawn, ends_page, immediate, intermediate, region_at, segment_on, shown};
+ghost use Rattle.hayro_jbig2.specs.Dictionaries.{with_patterns, with_symbols};
+ghost use Rattle.hayro_jbig2.specs.Page.{segments_drawn, ends_page, immediate, intermediate, keeping, region_at, segment_on, shown};
 ghost use Rattle.jbig2_base.specs.declared.error.DecodeError.TheVariants.{OutOfMemory};
 ghost use Rattle.hayro_jbig2.specs.declared.region.RegionKind.TheVariants.{Generic};
 
@@ -72,21 +73,8 @@ impl<'a, A: Allocator + Clone> Drawer<'a, A> {
             context.old) }
     {
         match segment.header.segment_type {
-            SegmentType::SymbolDictionary => {
-                let (strict, workspace) = (self.strict, &context.workspace);
-                keep_symbols(
-                    &mut context.names,
-                    strict,
-                    self.globals,
-                    segment,
-                    workspace,
-                    steps,
-                )
-            }
-            SegmentType::PatternDictionary => {
-                let workspace = &mut context.workspace;
-                keep_patterns(&mut context.names, self.strict, segment, workspace, steps)
-            }
+            SegmentType::SymbolDictionary => self.keep_symbols(segment, context, steps),
+            SegmentType::PatternDictionary => self.keep_patterns(segment, context, steps),
             SegmentType::Tables => keep_table(&mut context.names, segment, &context.workspace),
             SegmentType::IntermediateTextRegion => {
                 self.keep_region(RegionKind::Text, segment, context, steps)
@@ -122,6 +110,43 @@ impl<'a, A: Allocator + Clone> Drawer<'a, A> {
             | SegmentType::ColourPalette
             | SegmentType::Reserved => Ok(()),
         }
+    }
+
+    /// Keeps a symbol dictionary under its segment's number.
+    fn keep_symbols<L: Ledger>(
+        &self,
+        segment: &Segment<'_, A>,
+        context: &mut DecoderContext<A>,
+        steps: &mut Steps<L>,
+    ) -> Result<()>
+        ensures { Gives (λ _. context.new) result
+            (keeping context.old (with_symbols self.now.strict self.now.globals.now
+            (segment_view segment.now) context.old.names)) }
+    {
+        let (strict, workspace) = (self.strict, &context.workspace);
+        keep_symbols(
+            &mut context.names,
+            strict,
+            self.globals,
+            segment,
+            workspace,
+            steps,
+        )
+    }
+
+    /// Keeps a pattern dictionary under its segment's number.
+    fn keep_patterns<L: Ledger>(
+        &self,
+        segment: &Segment<'_, A>,
+        context: &mut DecoderContext<A>,
+        steps: &mut Steps<L>,
+    ) -> Result<()>
+        ensures { Gives (λ _. context.new) result
+            (keeping context.old (with_patterns self.now.strict (segment_view segment.now)
+            context.old.names)) }
+    {
+        let workspace = &mut context.workspace;
+        keep_patterns(&mut context.names, self.strict, segment, workspace, steps)
     }
 
     /// Combines an immediate region with the page. Lenient reading passes over one that failed, but

@@ -32,6 +32,18 @@ fn put_shades(buf: &mut [u8], place: usize, count: usize, word: u64)
     }
 }
 
+/// Column `x` of row `y`, where the end of a row is the first column of the next.
+#[inline(always)]
+pub(crate) fn wrapped(x: usize, y: u32, width: usize) -> (usize, u32)
+    requires some { 0 < width }
+    requires within { x ≤ width }
+    requires few { y < 65535 }
+    ensures place { result.1 * width + result.0 ≡ y * width + x }
+    ensures inside { result.0 < width }
+{
+    if x == width { (0, y + 1) } else { (x, y) }
+}
+
 /// Writes a byte for each pixel of a page of this size, rows from the top: 0 for black and 255 for
 /// white.
 #[tactic(auto, unfolding(crate::specs::Image::image_of))]
@@ -53,10 +65,6 @@ pub(crate) fn write_image<A: Allocator, L: Ledger>(
         let count = (width - x).min(buf.len() - place).min(64);
         put_shades(buf, place, count, word);
         place += count;
-        x += count;
-        if x == width {
-            x = 0;
-            y += 1;
-        }
+        (x, y) = wrapped(x + count, y, width);
     }
 }

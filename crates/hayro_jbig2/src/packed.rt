@@ -3,6 +3,7 @@ ghost use Rattle.std.specs.Prelude.{◌≡◌, ◌+◌, ◌-◌, ◌*◌, ◌<�
 ghost use Rattle.jbig2_base.specs.inner.WordBits.{bit};
 ghost use Rattle.hayro_jbig2.specs.Image.{packed_part, row_bytes, top_byte, word_byte};
 
+use crate::image::wrapped;
 use jbig2_base::bitmap::Bitmap;
 use jbig2_base::bitmap::steps::Steps;
 use std::alloc::Allocator;
@@ -64,10 +65,6 @@ pub(crate) fn write_packed<A: Allocator, L: Ledger>(
             put_bytes(buf, place, count, word);
         }
         place += count;
-        column += count;
-        if column == row_bytes {
-            column = 0;
-            y += 1;
-        }
+        (column, y) = wrapped(column + count, y, row_bytes);
     }
 }

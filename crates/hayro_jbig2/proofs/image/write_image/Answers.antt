@@ -6,21 +6,6 @@ use Rattle.hayro_jbig2.specs.Image.{shade, image_of}
 use Rattle.hayro_jbig2.proofs.Shades.{shades-more}
 use Rattle.hayro_jbig2.proofs.image.write_image.Goals as goal
 
-pub loop-place-preserved-then-x-width : goal.loop-place-preserved-then-x-width
-loop-place-preserved-then-x-width g c =
-    let w = c.args.initial_page.now.width in
-    let kept = c.loop-place.invariant in
-    let left : c.loop-place.place < length c.loop-place.buf = c.loop-place-test.true in
-    let few : c.min-count.result ≤ 64 = grind (arith) in
-    let narrow : c.loop-place.x + c.min-count.result ≤ w = grind (arith) in
-    record {
-      sized = c.put_shades.ensures.sized ∙ kept.sized;
-      within = rw (c.put_shades.ensures.sized) (grind (arith));
-      counted = λ more. omega (arith, kept.counted left, c.if-x-width.true);
-      column = λ more. omega (arith, kept.column left);
-      written = shades-more c.args.bitmap.now w c.loop-place.place c.loop-place.x c.loop-place.y c.min-count.result c.load_pixels-word.result c.loop-place.buf c.put_shades.new.buf (kept.counted left) narrow few c.load_pixels-word.ensures.bits kept.written c.put_shades.ensures.before c.put_shades.ensures.shades;
-    }
-
 pub loop-place-preserved : goal.loop-place-preserved
 loop-place-preserved g c =
     let w = c.args.initial_page.now.width in
@@ -31,8 +16,8 @@ loop-place-preserved g c =
     record {
       sized = c.put_shades.ensures.sized ∙ kept.sized;
       within = rw (c.put_shades.ensures.sized) (grind (arith));
-      counted = λ more. omega (arith, kept.counted left);
-      column = λ more. omega (arith, narrow, c.if-x-width.false);
+      counted = λ more. omega (arith, kept.counted left, c.wrapped.ensures.place);
+      column = λ more. c.wrapped.ensures.inside;
       written = shades-more c.args.bitmap.now w c.loop-place.place c.loop-place.x c.loop-place.y c.min-count.result c.load_pixels-word.result c.loop-place.buf c.put_shades.new.buf (kept.counted left) narrow few c.load_pixels-word.ensures.bits kept.written c.put_shades.ensures.before c.put_shades.ensures.shades;
     }
 

@@ -7,38 +7,6 @@ use Rattle.hayro_jbig2.proofs.PackedRows.{values-from, written-more}
 use Rattle.hayro_jbig2.proofs.packed.write_packed.Goals as goal
 use Rattle.hayro_jbig2.proofs.packed.write_packed.Goals.{then-count-eq8, else-count-eq8}
 
-pub loop-place-preserved-then-column-row_bytes : goal.loop-place-preserved-then-column-row_bytes
-loop-place-preserved-then-column-row_bytes g c =
-    let w = c.args.width in
-    let place = c.loop-place.place in
-    let column = c.loop-place.column in
-    let y = c.loop-place.y in
-    let count = c.min-count.result in
-    let kept = c.loop-place.invariant in
-    let left : place < length c.loop-place.buf = c.loop-place-test.true in
-    let rows : row_bytes w ≡ c.div_ceil-row_bytes.result = grind (arith) in
-    let few : count ≤ 8 = grind (arith) in
-    let narrow : column + count ≤ row_bytes w = rw (rows) (grind (arith)) in
-    let sized : length c.if-count-eq8.buf ≡ length c.loop-place.buf = elim c.if-count-eq8.branch [
-      | then-count-eq8 b ↦ rw (b.buf-is) (b.put_bytes.ensures.sized)
-      | else-count-eq8 b ↦ rw (b.buf-is) (b.put_bytes-else-count-eq8.ensures.sized)
-    ] in
-    let before : (k : ℕ) → k < place → get_or c.if-count-eq8.buf k 0 ≡ get_or c.loop-place.buf k 0 = elim c.if-count-eq8.branch [
-      | then-count-eq8 b ↦ λ k early. rw (b.buf-is) (b.put_bytes.ensures.before k early)
-      | else-count-eq8 b ↦ λ k early. rw (b.buf-is) (b.put_bytes-else-count-eq8.ensures.before k early)
-    ] in
-    let put : (i : ℕ) → i < count → get_or c.if-count-eq8.buf (place + i) 0 ≡ word_byte (bit c.load_pixels-word.result) i = elim c.if-count-eq8.branch [
-      | then-count-eq8 b ↦ λ i below. rw (b.buf-is) (b.put_bytes.ensures.bytes i (omega (arith, below, few)))
-      | else-count-eq8 b ↦ λ i below. rw (b.buf-is) (b.put_bytes-else-count-eq8.ensures.bytes i below)
-    ] in
-    record {
-      sized = sized ∙ kept.sized;
-      within = rw (sized) (grind (arith));
-      counted = λ more. omega (arith, kept.counted left, c.if-column-row_bytes.true, rows);
-      column = λ more. omega (arith, kept.column left);
-      written = written-more c.args.bitmap.now w c.args.start place column y count c.load_pixels-word.result c.loop-place.buf c.if-count-eq8.buf (kept.counted left) narrow few c.load_pixels-word.ensures.bits kept.written before put;
-    }
-
 pub loop-place-preserved : goal.loop-place-preserved
 loop-place-preserved g c =
     let w = c.args.width in
@@ -66,8 +34,8 @@ loop-place-preserved g c =
     record {
       sized = sized ∙ kept.sized;
       within = rw (sized) (grind (arith));
-      counted = λ more. omega (arith, kept.counted left, narrow, rows);
-      column = λ more. omega (arith, narrow, c.if-column-row_bytes.false, rows);
+      counted = λ more. rw (rows) (omega (arith, kept.counted left, c.wrapped.ensures.place, ap (λ (n : ℕ). y * n) rows));
+      column = λ more. omega (arith, c.wrapped.ensures.inside, rows);
       written = written-more c.args.bitmap.now w c.args.start place column y count c.load_pixels-word.result c.loop-place.buf c.if-count-eq8.buf (kept.counted left) narrow few c.load_pixels-word.ensures.bits kept.written before put;
     }
 
