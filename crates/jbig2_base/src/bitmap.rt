@@ -1,5 +1,5 @@
 //! Packed bitmaps (T.88, 6): rows of pixels behind a few reading and writing calls.
-ghost use Rattle.std.specs.Prelude.{◌≡◌, ℕ, ◌+◌, ◌-◌, ◌/◌, ◌^◌, ◌<◌, ◌≤◌, OnErr, Ok, false};
+ghost use Rattle.std.specs.Prelude.{◌≡◌, ℕ, ◌+◌, ◌-◌, ◌*◌, ◌/◌, ◌^◌, ◌<◌, ◌≤◌, OnErr, Ok, false, get_or, length};
 ghost use Rattle.jbig2_base.specs.Answer.{Gives};
 ghost use Rattle.jbig2_base.specs.Counts.{words_copied};
 ghost use Rattle.jbig2_base.specs.Grid.{blank, pixel_at, bit_number};
@@ -156,6 +156,19 @@ impl<A: Allocator> Bitmap<A> {
         ensures steps { steps.new ≡ record steps.old { loads = steps.old.loads + 1 } }
     {
         self.rows.load_pixels(x, y, count, steps)
+    }
+
+    /// The pixels of row `y`, 64 in a word, the leftmost in its highest bit, and 0 past the width. They are
+    /// lent to be copied: each word counts as loaded and written.
+    #[inline(always)]
+    pub fn row_words<L: Ledger>(&self, y: u32, steps: &mut Steps<L>) -> &[u64]
+        requires { y < self.now.height }
+        ensures sized { length result.now ≡ (self.now.width + 63) / 64 }
+        ensures bits { (i k : ℕ) → i < length result.now → k < 64
+            → bit (get_or result.now i 0) (63 - k) ≡ pixel_at self.now (64 * i + k) y }
+        ensures steps { steps.new ≡ words_copied (length result.now) steps.old }
+    {
+        self.rows.row_words(y, steps)
     }
 
     /// Sets `count` neighbouring pixels of row `y` from column `x` on to the lowest `count` bits of

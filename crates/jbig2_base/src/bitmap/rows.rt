@@ -1,5 +1,5 @@
 //! Rows of pixels packed into words. Only this module knows the size of a word.
-ghost use Rattle.std.specs.Prelude.{◌≡◌, ℕ, ◌+◌, ◌-◌, ◌*◌, ◌/◌, ◌%◌, ◌^◌, ◌<◌, ◌≤◌, OnErr, Ok, true, false, length, slice_index};
+ghost use Rattle.std.specs.Prelude.{◌≡◌, ℕ, ◌+◌, ◌-◌, ◌*◌, ◌/◌, ◌%◌, ◌^◌, ◌<◌, ◌≤◌, OnErr, Ok, true, false, get_or, length, slice_index};
 ghost use Rattle.jbig2_base.specs.Answer.{Gives};
 ghost use Rattle.jbig2_base.specs.Counts.{words_copied};
 ghost use Rattle.jbig2_base.specs.Sizes.{words_of};
@@ -178,6 +178,20 @@ impl<A: Allocator> PackedRows<A> {
         ensures { (k : ℕ) → k < 64 → bit result (63 - k) ≡ pixel_at self.now (64 * index + k) y }
     {
         self.words[y as usize * self.stride + index as usize]
+    }
+
+    /// The words of row `y`, lent to be copied.
+    #[inline(always)]
+    pub fn row_words<L: Ledger>(&self, y: u32, steps: &mut Steps<L>) -> &[u64]
+        requires { y < self.now.height }
+        ensures sized { length result.now ≡ (self.now.width + 63) / 64 }
+        ensures bits { (i k : ℕ) → i < length result.now → k < 64
+            → bit (get_or result.now i 0) (63 - k) ≡ pixel_at self.now (64 * i + k) y }
+        ensures steps { steps.new ≡ words_copied (length result.now) steps.old }
+    {
+        steps.copy(self.stride as u64);
+        let first = y as usize * self.stride;
+        &self.words[first..first + self.stride]
     }
 
     /// Sets `count` neighbouring pixels of row `y` from column `x` on, which lie in one word, to the

@@ -222,15 +222,9 @@ fn aligned_row<L: Ledger>(
             offset: 0,
             count: 64,
         };
+        let bits = source[from + (word - first)];
         steps.load();
-        combine_run(
-            words,
-            shape,
-            operator,
-            whole,
-            source[from + (word - first)],
-            steps,
-        );
+        combine_run(words, shape, operator, whole, bits, steps);
     }
     let end = Run {
         y: line.y,
@@ -238,15 +232,9 @@ fn aligned_row<L: Ledger>(
         offset: 0,
         count: (line.left + line.columns - 1) % 64 + 1,
     };
+    let bits = source[from + (last - first)];
     steps.load();
-    combine_run(
-        words,
-        shape,
-        operator,
-        end,
-        source[from + (last - first)],
-        steps,
-    );
+    combine_run(words, shape, operator, end, bits, steps);
 }
 
 /// Combines the pixels of a run with those at the same places of `bits`.
