@@ -1,6 +1,7 @@
 -- The paths through a decision, and the bytes that are read.
-use Rattle.std.proofs.Common.{◌≡◌, ◌≢◌, ℕ, ◌+◌, ◌-◌, ◌*◌, ◌/◌, ◌%◌, ◌^◌, ◌<◌, ◌≤◌, true, false, not, List, length, ap, arith, ⊎_elim}
-use Rattle.std.proofs.lemmas.Bool.{cases_lt}
+use Rattle.std.proofs.Common.{◌≡◌, ◌≢◌, ℕ, ◌+◌, ◌-◌, ◌*◌, ◌/◌, ◌%◌, ◌^◌, ◌<◌, ◌≤◌, Bool, true, false, not, cond, leb, ltb, List, length, refl, sym, ap, ◌∙◌, arith, ⊎_elim}
+use Rattle.std.specs.Bool.{beq}
+use Rattle.std.proofs.lemmas.Bool.{cases_lt, cond-true, cond-false, le-leb, lt-leb, le-ltb, lt-ltb}
 use Rattle.std.proofs.lemmas.Bool.Decides.{nat_tests}
 use Rattle.std.proofs.lemmas.List.{get_or_past}
 use Rattle.jbig2_coder.specs.Table.{row_of}
@@ -36,6 +37,43 @@ pub choice-lower_unlikely : (x : Context) (a c qe : ℕ) → (row_of x.row).qe �
     → choice x a c ≡ record { symbol = not x.likely; a = qe; c = (c + (2 ^ 32 - (a - qe) * 2 ^ 16)) % 2 ^ 32; context = unlikely_next x; renorm = true }
 unfolding choice
 choice-lower_unlikely x a c qe e h k = grind (arith, nat_tests)
+
+-- the four together: whether the lower part of the interval is taken, and whether that is the unlikely symbol's
+pub choice-renorm : (x y : Context) (a c qe size below : ℕ) (symbol : Bool) → (row_of x.row).qe ≡ qe → c < 2 ^ 32 → a < 0x10000
+    → (c / 2 ^ 16 < a - qe → a - qe < 0x8000)
+    → (c / 2 ^ 16 < a - qe → size ≡ a - qe) → (a - qe ≤ c / 2 ^ 16 → size ≡ qe)
+    → (c / 2 ^ 16 < a - qe → below ≡ 0) → (a - qe ≤ c / 2 ^ 16 → below ≡ (a - qe) * 2 ^ 16 % 2 ^ 32)
+    → y ≡ cond (not (beq (leb (a - qe) (c / 2 ^ 16)) (ltb (a - qe) qe))) (unlikely_next x) (likely_next x)
+    → symbol ≡ cond (not (beq (leb (a - qe) (c / 2 ^ 16)) (ltb (a - qe) qe))) (not x.likely) x.likely
+    → choice x a c ≡ record { symbol = symbol; a = size; c = (c + (2 ^ 32 - below)) % 2 ^ 32; context = y; renorm = true }
+choice-renorm x y a c qe size below symbol e small short half upper_size lower_size upper_below lower_below context named =
+    let unlikely : Bool = not (beq (leb (a - qe) (c / 2 ^ 16)) (ltb (a - qe) qe)) in
+    ⊎_elim
+    (λ (upper : c / 2 ^ 16 < a - qe).
+    let kept : (c + (2 ^ 32 - below)) % 2 ^ 32 ≡ c = omega (arith, upper_below upper, small) in
+    ⊎_elim
+    (λ (low : a - qe < qe).
+    let is : unlikely ≡ true = rw (lt-leb _ _ upper, lt-ltb _ _ low) refl in
+    choice-upper_unlikely x a c qe e upper (half upper) low
+    ∙ (λ i. record { symbol = sym (named ∙ cond-true unlikely (not x.likely) x.likely is) i; a = sym (upper_size upper) i; c = sym kept i; context = sym (context ∙ cond-true unlikely (unlikely_next x) (likely_next x) is) i; renorm = true }))
+    (λ (high : qe ≤ a - qe).
+    let is : unlikely ≡ false = rw (lt-leb _ _ upper, le-ltb _ _ high) refl in
+    choice-upper_likely x a c qe e upper (half upper) high
+    ∙ (λ i. record { symbol = sym (named ∙ cond-false unlikely (not x.likely) x.likely is) i; a = sym (upper_size upper) i; c = sym kept i; context = sym (context ∙ cond-false unlikely (unlikely_next x) (likely_next x) is) i; renorm = true }))
+    (cases_lt (a - qe) qe))
+    (λ (lower : a - qe ≤ c / 2 ^ 16).
+    let moved : (c + (2 ^ 32 - below)) % 2 ^ 32 ≡ (c + (2 ^ 32 - (a - qe) * 2 ^ 16)) % 2 ^ 32 = omega (arith, lower_below lower, short) in
+    ⊎_elim
+    (λ (low : a - qe < qe).
+    let is : unlikely ≡ false = rw (le-leb _ _ lower, lt-ltb _ _ low) refl in
+    choice-lower_likely x a c qe e lower low
+    ∙ (λ i. record { symbol = sym (named ∙ cond-false unlikely (not x.likely) x.likely is) i; a = sym (lower_size lower) i; c = sym moved i; context = sym (context ∙ cond-false unlikely (unlikely_next x) (likely_next x) is) i; renorm = true }))
+    (λ (high : qe ≤ a - qe).
+    let is : unlikely ≡ true = rw (le-leb _ _ lower, le-ltb _ _ high) refl in
+    choice-lower_unlikely x a c qe e lower high
+    ∙ (λ i. record { symbol = sym (named ∙ cond-true unlikely (not x.likely) x.likely is) i; a = sym (lower_size lower) i; c = sym moved i; context = sym (context ∙ cond-true unlikely (unlikely_next x) (likely_next x) is) i; renorm = true }))
+    (cases_lt (a - qe) qe))
+    (cases_lt (c / 2 ^ 16) (a - qe))
 
 pub lower-c : (c rest : ℕ) → rest < 0x10000 → (c + (2 ^ 32 - rest * 2 ^ 16)) % 2 ^ 32 ≡ (c + (2 ^ 32 - rest * 2 ^ 16 % 2 ^ 32)) % 2 ^ 32
 lower-c c rest h =

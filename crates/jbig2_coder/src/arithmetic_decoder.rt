@@ -92,6 +92,22 @@ impl ArithmeticDecoderContext {
         symbol
     }
 
+    /// The symbol that was decided, of which the context then knows.
+    #[inline(always)]
+    #[tactic(auto, unfolding(crate::specs::Coder::likely_next, crate::specs::Coder::unlikely_next))]
+    fn after(&mut self, row: QeData, is_unlikely: bool) -> bool
+        requires row { row ≡ row_of self.old.row }
+        requires likely { row.nmps < 47 }
+        requires unlikely { row.nlps < 47 }
+        ensures context { self.new ≡ (if is_unlikely then unlikely_next self.old else likely_next self.old) }
+        ensures symbol { result ≡ (if is_unlikely then not self.old.likely else self.old.likely) }
+    {
+        let symbol = self.likely ^ is_unlikely;
+        self.row = if is_unlikely { row.nlps } else { row.nmps };
+        self.likely ^= is_unlikely & row.switch;
+        symbol
+    }
+
     /// The symbol of a decision that isn't quiet, which gets its part of the interval (MPS_EXCHANGE
     /// and LPS_EXCHANGE, E.3.2).
     #[inline(always)]
@@ -113,21 +129,15 @@ impl ArithmeticDecoderContext {
         ensures some { 1 ≤ registers.new.a }
         ensures half { registers.new.a < 0x8000 }
     {
+        // Which of the two it is can hardly be foretold, so no jump hangs on it.
         let row = row_at(self.row);
         let rest = registers.a - row.qe;
-        if registers.code.c >> 16 < rest {
-            registers.a = rest;
-            if rest < row.qe {
-                return self.after_unlikely(row);
-            }
-            return self.after_likely(row);
-        }
-        registers.code.c = registers.code.c.wrapping_sub(rest << 16);
-        registers.a = row.qe;
-        if rest < row.qe {
-            return self.after_likely(row);
-        }
-        self.after_unlikely(row)
+        let is_lower = registers.code.c >> 16 >= rest;
+        let is_unlikely = is_lower != (rest < row.qe);
+        let below = if is_lower { rest << 16 } else { 0 };
+        registers.code.c = registers.code.c.wrapping_sub(below);
+        registers.a = if is_lower { row.qe } else { rest };
+        self.after(row, is_unlikely)
     }
 }
 

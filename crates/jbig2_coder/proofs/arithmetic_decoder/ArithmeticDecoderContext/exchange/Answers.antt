@@ -1,46 +1,35 @@
-use Rattle.std.proofs.Common.{◌≡◌, ℕ, ◌-◌, ◌<◌, sym, ap, ◌∙◌, true, arith}
+use Rattle.std.proofs.Common.{◌≡◌, ℕ, ◌-◌, ◌*◌, ◌/◌, ◌%◌, ◌^◌, ◌<◌, ◌≤◌, sym, ap, ◌∙◌, arith}
 use Rattle.jbig2_coder.specs.Table.{row_of}
 use Rattle.jbig2_coder.specs.Coder.{Context}
 use Rattle.jbig2_coder.specs.declared.arithmetic_decoder.qe_table.QeData.{QeData}
-use Rattle.jbig2_coder.proofs.Choices.{choice-upper_unlikely, choice-upper_likely, choice-lower_unlikely, choice-lower_likely, lower-c}
+use Rattle.jbig2_coder.proofs.Choices.{choice-renorm}
 use Rattle.jbig2_coder.proofs.arithmetic_decoder.ArithmeticDecoderContext.exchange.Goals as goal
+use Rattle.jbig2_coder.proofs.arithmetic_decoder.ArithmeticDecoderContext.exchange.Goals.{then-is_lower, else-is_lower, then-is_lower-2, else-is_lower-2}
 
 -- the row that the code reads
 qe-read : (x y : Context) (row : QeData) → row ≡ row_of x.row → x ≡ y → (row_of y.row).qe ≡ row.qe
 qe-read x y row e h = sym (ap (λ (r : QeData). r.qe) (e ∙ ap (λ (z : Context). row_of z.row) h))
 
-pub returns-then-rest-row-clause-choice : goal.returns-then-rest-row-clause-choice
-returns-then-rest-row-clause-choice c =
-    let qe : ℕ = c.row_at-row.result.qe in
-    let a : ℕ = c.args.registers.now.a in
-    let e = qe-read _ c.args.self.now c.row_at-row.result c.row_at-row.ensures.value c.self.view_is in
-    let half : a - qe < 0x8000 = (rw e at c.requires.renorm) c.if-registers-rest.true in
-    choice-upper_unlikely c.args.self.now a c.args.registers.now.code.c qe e c.if-registers-rest.true half c.if-rest-row.true
-    ∙ (λ i. record { symbol = sym c.after_unlikely.ensures.symbol i; a = a - qe; c = c.args.registers.now.code.c; context = sym c.after_unlikely.ensures.context i; renorm = true })
-
-pub returns-then-registers-rest-clause-choice : goal.returns-then-registers-rest-clause-choice
-returns-then-registers-rest-clause-choice c =
-    let qe : ℕ = c.row_at-row.result.qe in
-    let a : ℕ = c.args.registers.now.a in
-    let e = qe-read _ c.args.self.now c.row_at-row.result c.row_at-row.ensures.value c.self.view_is in
-    let half : a - qe < 0x8000 = (rw e at c.requires.renorm) c.if-registers-rest.true in
-    choice-upper_likely c.args.self.now a c.args.registers.now.code.c qe e c.if-registers-rest.true half c.if-rest-row.false
-    ∙ (λ i. record { symbol = sym c.after_likely.ensures.symbol i; a = a - qe; c = c.args.registers.now.code.c; context = sym c.after_likely.ensures.context i; renorm = true })
-
-pub returns-then-rest-row-2-clause-choice : goal.returns-then-rest-row-2-clause-choice
-returns-then-rest-row-2-clause-choice c =
-    let qe : ℕ = c.row_at-row.result.qe in
-    let a : ℕ = c.args.registers.now.a in
-    let e = qe-read _ c.args.self.now c.row_at-row.result c.row_at-row.ensures.value c.self.view_is in
-    let lower = lower-c c.args.registers.now.code.c (a - qe) (omega arith) in
-    choice-lower_likely c.args.self.now a c.args.registers.now.code.c qe e c.if-registers-rest.false c.if-rest-row-2.true
-    ∙ (λ i. record { symbol = sym c.after_likely-then-rest-row-2.ensures.symbol i; a = qe; c = lower i; context = sym c.after_likely-then-rest-row-2.ensures.context i; renorm = true })
-
 pub returns-clause-choice : goal.returns-clause-choice
 returns-clause-choice c =
     let qe : ℕ = c.row_at-row.result.qe in
     let a : ℕ = c.args.registers.now.a in
+    let code : ℕ = c.args.registers.now.code.c in
     let e = qe-read _ c.args.self.now c.row_at-row.result c.row_at-row.ensures.value c.self.view_is in
-    let lower = lower-c c.args.registers.now.code.c (a - qe) (omega arith) in
-    choice-lower_unlikely c.args.self.now a c.args.registers.now.code.c qe e c.if-registers-rest.false c.if-rest-row-2.false
-    ∙ (λ i. record { symbol = sym c.after_unlikely-2.ensures.symbol i; a = qe; c = lower i; context = sym c.after_unlikely-2.ensures.context i; renorm = true })
+    let upper_size : code / 2 ^ 16 < a - qe → c.if-is_lower-2.registers ≡ a - qe = elim c.if-is_lower-2.branch [
+      | then-is_lower-2 w ↦ λ upper. absurd (omega (arith, upper, w.if-is_lower-2.true))
+      | else-is_lower-2 w ↦ λ upper. w.registers-is
+    ] in
+    let lower_size : a - qe ≤ code / 2 ^ 16 → c.if-is_lower-2.registers ≡ qe = elim c.if-is_lower-2.branch [
+      | then-is_lower-2 w ↦ λ lower. w.registers-is
+      | else-is_lower-2 w ↦ λ lower. absurd (omega (arith, lower, w.if-is_lower-2.false))
+    ] in
+    let upper_below : code / 2 ^ 16 < a - qe → c.if-is_lower.below ≡ 0 = elim c.if-is_lower.branch [
+      | then-is_lower w ↦ λ upper. absurd (omega (arith, upper, w.if-is_lower.true))
+      | else-is_lower w ↦ λ upper. w.below-is
+    ] in
+    let lower_below : a - qe ≤ code / 2 ^ 16 → c.if-is_lower.below ≡ (a - qe) * 2 ^ 16 % 2 ^ 32 = elim c.if-is_lower.branch [
+      | then-is_lower w ↦ λ lower. w.below-is
+      | else-is_lower w ↦ λ lower. absurd (omega (arith, lower, w.if-is_lower.false))
+    ] in
+    choice-renorm c.args.self.now c.after.new.self a code qe c.if-is_lower-2.registers c.if-is_lower.below c.after.result e (omega arith) c.requires.below (rw e at c.requires.renorm) upper_size lower_size upper_below lower_below c.after.ensures.context c.after.ensures.symbol
