@@ -234,11 +234,28 @@ impl<'a> ArithmeticDecoder<'a> {
             self.registers.a = rest;
             return u32::from(context.likely);
         }
+        u32::from(self.decode_renormalized(context))
+    }
+
+    /// A decision that isn't quiet. It stands apart, so that loops of decisions stay small.
+    #[inline(never)]
+    fn decode_renormalized(&mut self, context: &mut ArithmeticDecoderContext) -> bool
+        requires renorm { self.old.registers.code.c / 2 ^ 16
+            < self.old.registers.a - (row_of context.old.row).qe
+            → self.old.registers.a - (row_of context.old.row).qe < 0x8000 }
+        ensures value { result
+            ≡ (decision self.old.bytes self.old.registers context.old).symbol }
+        ensures coder { self.new ≡ record self.old {
+          registers = (decision self.old.bytes self.old.registers context.old).registers;
+        } }
+        ensures context { context.new
+            ≡ (decision self.old.bytes self.old.registers context.old).context }
+    {
         let mut registers = self.registers;
         let symbol = context.exchange(&mut registers);
         self.registers = renormalize(self.bytes, registers);
         self.floor = floor_of(self.registers.code.c);
-        u32::from(symbol)
+        symbol
     }
 
     /// Whether the next `count` decisions in `context` are all the likely symbol, each without a
