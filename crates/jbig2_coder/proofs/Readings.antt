@@ -1,5 +1,5 @@
 -- Reading bits: their number, PREV, and how a call's state stands to what was read.
-use Rattle.std.specs.Prelude.{◌==◌}
+use Rattle.std.specs.Prelude.{◌==◌, ◌&&◌, not, if◌then◌else◌}
 use Rattle.std.proofs.Common.{◌≡◌, ℕ, zero, suc, ◌+◌, ◌-◌, ◌*◌, ◌%◌, ◌^◌, ◌<◌, ◌≤◌, Bool, true, false, List, [], ◌∷◌, ◌++◌, length, drop, get_or, set, ℤ, Some, None, refl, sym, ap, ◌∙◌, arith, subst, add-one, length-append, length-drop, ⊎_elim}
 use Rattle.std.proofs.Math.Nat.{pow-suc, pow-le-pow_right}
 use Rattle.std.proofs.Math.Seq.{drop-length}
@@ -12,7 +12,8 @@ use mir.Syntax.{w32}
 use Rattle.jbig2_base.specs.Counts.{Counts}
 use Rattle.jbig2_base.specs.Grid.{bit_number}
 use Rattle.jbig2_coder.specs.Coder.{Coder, Context, Decision, decision, fresh}
-use Rattle.jbig2_coder.specs.Integers.{Reading, value_of_bits, next, read, read_more, prev_of, prefix, signed, value_of, range_of, integer, Ids, id, place_of}
+use Rattle.jbig2_coder.specs.Integers.{Reading, Range, value_of_bits, next, read, read_more, prev_of, range, ranges, are_next, next_range, signed, value_of, integer, Ids, id, place_of}
+use Rattle.jbig2_coder.specs.inner.Prefixes.{Prefix, prefix, range_of}
 use Rattle.jbig2_coder.specs.inner.Stands.{Stands, prev_next}
 use Rattle.jbig2_coder.specs.declared.arithmetic_decoder.registers.Registers.{Registers}
 
@@ -258,14 +259,77 @@ Stands-start name coder contexts steps = record {
   counted = let e : steps.decisions ≡ steps.decisions + 0 = omega arith in λ i. record steps { decisions = e i };
 }
 
+-- Table A.1 by the five decisions that may come next
+abbrev row_by : Bool → Bool → Bool → Bool → Bool → Range
+row_by d0 d1 d2 d3 d4 =
+    if not d0 && true then range (false ∷ []) 2 0
+    else if d0 && (not d1 && true) then range (true ∷ false ∷ []) 4 4
+    else if d0 && (d1 && (not d2 && true)) then range (true ∷ true ∷ false ∷ []) 6 20
+    else if d0 && (d1 && (d2 && (not d3 && true))) then range (true ∷ true ∷ true ∷ false ∷ []) 8 84
+    else if d0 && (d1 && (d2 && (d3 && (not d4 && true)))) then range (true ∷ true ∷ true ∷ true ∷ false ∷ []) 12 340
+    else if d0 && (d1 && (d2 && (d3 && (d4 && true)))) then range (true ∷ true ∷ true ∷ true ∷ true ∷ []) 32 4436
+    else range [] 0 0
+
+abbrev ended : ℕ → Reading → Prefix
+ended ones r = record { ones = ones; reading = r }
+
+-- and the prefix by them
+abbrev prefix_by : Reading → Reading → Reading → Reading → Reading → Bool → Bool → Bool → Bool → Bool → Prefix
+prefix_by r1 r2 r3 r4 r5 d0 d1 d2 d3 d4 =
+    if d0 then (if d1 then (if d2 then (if d3 then (if d4 then ended 5 r5 else ended 4 r5) else ended 3 r4) else ended 2 r3) else ended 1 r2) else ended 0 r1
+
+by_ones : (r1 r2 r3 r4 r5 : Reading) (d0 d1 d2 d3 d4 : Bool) → row_by d0 d1 d2 d3 d4 ≡ range_of (prefix_by r1 r2 r3 r4 r5 d0 d1 d2 d3 d4).ones
+unfolding range_of ranges
+by_ones r1 r2 r3 r4 r5 false d1 d2 d3 d4 = refl
+by_ones r1 r2 r3 r4 r5 true false d2 d3 d4 = refl
+by_ones r1 r2 r3 r4 r5 true true false d3 d4 = refl
+by_ones r1 r2 r3 r4 r5 true true true false d4 = refl
+by_ones r1 r2 r3 r4 r5 true true true true false = refl
+by_ones r1 r2 r3 r4 r5 true true true true true = refl
+
+-- the readings from one on
+abbrev behind : ℕ → List ℕ → Reading → Reading
+behind n b r = read_more prev_of n b r
+
+behind_ones : (b : List ℕ) (r : Reading) (d0 d1 d2 d3 d4 : Bool)
+    → read_more prev_of (length (row_by d0 d1 d2 d3 d4).prefix) b r ≡ (prefix_by (behind 1 b r) (behind 2 b r) (behind 3 b r) (behind 4 b r) (behind 5 b r) d0 d1 d2 d3 d4).reading
+behind_ones b r false d1 d2 d3 d4 = refl
+behind_ones b r true false d2 d3 d4 = refl
+behind_ones b r true true false d3 d4 = refl
+behind_ones b r true true true false d4 = refl
+behind_ones b r true true true true false = refl
+behind_ones b r true true true true true = refl
+
+-- the first row whose prefix comes next is the one with so many ones
+pub next_range-prefix : (b : List ℕ) (r : Reading) → next_range ranges b r ≡ range_of (prefix 5 0 b r).ones
+unfolding next_range ranges are_next prefix range_of
+next_range-prefix b r =
+    let r1 = read prev_of b r in
+    let r2 = read prev_of b r1 in
+    let r3 = read prev_of b r2 in
+    let r4 = read prev_of b r3 in
+    by_ones r1 r2 r3 r4 (read prev_of b r4) (next prev_of b r).symbol (next prev_of b r1).symbol (next prev_of b r2).symbol (next prev_of b r3).symbol (next prev_of b r4).symbol
+
+-- behind that row's prefix
+pub next_range-read : (b : List ℕ) (r : Reading) → read_more prev_of (length (next_range ranges b r).prefix) b r ≡ (prefix 5 0 b r).reading
+unfolding next_range ranges are_next prefix read_more
+next_range-read b r =
+    let r1 = read prev_of b r in
+    let r2 = read prev_of b r1 in
+    let r3 = read prev_of b r2 in
+    let r4 = read prev_of b r3 in
+    behind_ones b r (next prev_of b r).symbol (next prev_of b r1).symbol (next prev_of b r2).symbol (next prev_of b r3).symbol (next prev_of b r4).symbol
+
 pub integer-reading : (b b1 b2 : List ℕ) (registers : Registers) (contexts : List Context) (count ones : ℕ) → b1 ≡ b → b2 ≡ b
     → ones ≡ (prefix 5 0 b1 (read prev_of b (start_of registers contexts))).ones → count ≡ (range_of ones).bits
     → read_more prev_of count b2 (prefix 5 0 b1 (read prev_of b (start_of registers contexts))).reading ≡ (integer b registers contexts).reading
 unfolding integer start_of
 integer-reading b b1 b2 registers contexts count ones e1 e2 o k =
     let r = read prev_of b (start_of registers contexts) in
-    let f : count ≡ (range_of (prefix 5 0 b r).ones).bits = k ∙ ap (λ n. (range_of n).bits) (o ∙ ap (λ v. (prefix 5 0 v r).ones) e1) in
-    λ i. read_more prev_of (f i) (e2 i) (prefix 5 0 (e1 i) r).reading
+    let row = o ∙ ap (λ v. (prefix 5 0 v r).ones) e1 in
+    let f : count ≡ (next_range ranges b r).bits = k ∙ ap (λ n. (range_of n).bits) row ∙ ap (λ (v : Range). v.bits) (sym (next_range-prefix b r)) in
+    let before : (prefix 5 0 b1 r).reading ≡ read_more prev_of (length (next_range ranges b r).prefix) b r = ap (λ v. (prefix 5 0 v r).reading) e1 ∙ sym (next_range-read b r) in
+    λ i. read_more prev_of (f i) (e2 i) (before i)
 
 pub integer-value : (b b1 b2 : List ℕ) (registers : Registers) (contexts : List Context) (negative : Bool) (count ones value offset : ℕ) → b1 ≡ b → b2 ≡ b
     → negative ≡ (next prev_of b (start_of registers contexts)).symbol
@@ -275,10 +339,11 @@ pub integer-value : (b b1 b2 : List ℕ) (registers : Registers) (contexts : Lis
 unfolding integer start_of
 integer-value b b1 b2 registers contexts negative count ones value offset e1 e2 n o k l v =
     let r = read prev_of b (start_of registers contexts) in
-    let p : ones ≡ (prefix 5 0 b r).ones = o ∙ ap (λ v. (prefix 5 0 v r).ones) e1 in
-    let f : count ≡ (range_of (prefix 5 0 b r).ones).bits = k ∙ ap (λ n. (range_of n).bits) p in
-    let g : offset ≡ (range_of (prefix 5 0 b r).ones).offset = l ∙ ap (λ n. (range_of n).offset) p in
-    let h = v ∙ (λ i. value_of_bits (drop (length (prefix 5 0 (e1 i) r).reading.bits) (read_more prev_of (f i) (e2 i) (prefix 5 0 (e1 i) r).reading).bits)) in
+    let row = o ∙ ap (λ v. (prefix 5 0 v r).ones) e1 in
+    let f : count ≡ (next_range ranges b r).bits = k ∙ ap (λ n. (range_of n).bits) row ∙ ap (λ (v : Range). v.bits) (sym (next_range-prefix b r)) in
+    let g : offset ≡ (next_range ranges b r).offset = l ∙ ap (λ n. (range_of n).offset) row ∙ ap (λ (v : Range). v.offset) (sym (next_range-prefix b r)) in
+    let before : (prefix 5 0 b1 r).reading ≡ read_more prev_of (length (next_range ranges b r).prefix) b r = ap (λ v. (prefix 5 0 v r).reading) e1 ∙ sym (next_range-read b r) in
+    let h = v ∙ (λ i. value_of_bits (drop (length (before i).bits) (read_more prev_of (f i) (e2 i) (before i)).bits)) in
     λ i. value_of (n i) ((h i + g i) % 2 ^ 32)
 
 -- Symbol ids

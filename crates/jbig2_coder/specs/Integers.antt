@@ -1,5 +1,5 @@
 -- Integers and symbol ids (T.88, Annex A): decisions whose contexts the bits read so far name.
-use Rattle.std.specs.Prelude.{ℕ, suc, zero, ◌+◌, ◌-◌, ◌*◌, ◌%◌, ◌^◌, Bool, true, if◌then◌else◌, ◌==◌, nat_lt, List, [], ◌∷◌, ◌++◌, length, drop, slice_index_or, slice_set, Some, None, Option, ℤ, pos, ◌-ℤ◌}
+use Rattle.std.specs.Prelude.{ℕ, suc, zero, ◌+◌, ◌-◌, ◌*◌, ◌%◌, ◌^◌, Bool, true, false, not, ◌&&◌, if◌then◌else◌, ◌==◌, nat_lt, List, [], ◌∷◌, ◌++◌, length, drop, slice_index_or, slice_set, Some, None, Option, ℤ, pos, ◌-ℤ◌}
 use Rattle.jbig2_base.specs.Grid.{bit_number}
 use Rattle.jbig2_coder.specs.Coder.{Context, Decision, fresh, decision}
 use Rattle.jbig2_coder.specs.declared.arithmetic_decoder.registers.Registers.{Registers}
@@ -34,31 +34,35 @@ read_more name (suc n) bytes r = read name bytes (read_more name n bytes r)
 abbrev pub prev_of : List Bool → ℕ
 prev_of bits = value_of_bits (true ∷ drop (length bits - 8) bits)
 
--- The ranges of Table A.1 by the ones in their prefix: how many bits the value has, and the least
--- number of the range.
+-- A row of Table A.1: the decisions that name it, how many bits the value has, and the least number of its range.
 pub record Range : Type 0 where
+  pub prefix : List Bool
   pub bits : ℕ
   pub offset : ℕ
 
-abbrev pub range : ℕ → ℕ → Range
-range bits offset = record { bits = bits; offset = offset }
+abbrev pub range : List Bool → ℕ → ℕ → Range
+range prefix bits offset = record { prefix = prefix; bits = bits; offset = offset }
 
 unfoldable pub ranges : List Range
-ranges = range 2 0 ∷ range 4 4 ∷ range 6 20 ∷ range 8 84 ∷ range 12 340 ∷ range 32 4436 ∷ []
+ranges =
+    range (false ∷ []) 2 0
+    ∷ range (true ∷ false ∷ []) 4 4
+    ∷ range (true ∷ true ∷ false ∷ []) 6 20
+    ∷ range (true ∷ true ∷ true ∷ false ∷ []) 8 84
+    ∷ range (true ∷ true ∷ true ∷ true ∷ false ∷ []) 12 340
+    ∷ range (true ∷ true ∷ true ∷ true ∷ true ∷ []) 32 4436
+    ∷ []
 
-unfoldable pub range_of : ℕ → Range
-range_of ones = slice_index_or ranges ones (range 32 4436)
+-- whether the next decisions are these
+unfoldable pub are_next : List Bool → List ℕ → Reading → Bool
+are_next [] bytes r = true
+are_next (true ∷ others) bytes r = (next prev_of bytes r).symbol && are_next others bytes (read prev_of bytes r)
+are_next (false ∷ others) bytes r = not (next prev_of bytes r).symbol && are_next others bytes (read prev_of bytes r)
 
--- The prefix ends after its first 0, or with its fifth bit.
-pub record Prefix : Type 0 where
-  pub ones : ℕ
-  pub reading : Reading
-
-unfoldable pub prefix : ℕ → ℕ → List ℕ → Reading → Prefix
-prefix zero ones bytes r = record { ones = ones; reading = r }
-prefix (suc most) ones bytes r =
-    let further = prefix most (suc ones) bytes (read prev_of bytes r) in
-    if (next prev_of bytes r).symbol then further else record { ones = ones; reading = read prev_of bytes r }
+-- the first row whose prefix comes next; in Table A.1 there is always one
+unfoldable pub next_range : List Range → List ℕ → Reading → Range
+next_range [] bytes r = range [] 0 0
+next_range (row ∷ rows) bytes r = if are_next row.prefix bytes r then row else next_range rows bytes r
 
 -- a number below 2 ^ 32 as a signed one
 unfoldable pub signed : ℕ → ℤ
@@ -77,10 +81,11 @@ pub record Integer : Type 0 where
 unfoldable pub integer : List ℕ → Registers → List Context → Integer
 integer bytes registers contexts =
     let start : Reading = record { bits = []; registers = registers; contexts = contexts } in
-    let before = prefix 5 0 bytes (read prev_of bytes start) in
-    let row = range_of before.ones in
-    let after = read_more prev_of row.bits bytes before.reading in
-    let sum = (value_of_bits (drop (length before.reading.bits) after.bits) + row.offset) % 2 ^ 32 in
+    let signed = read prev_of bytes start in
+    let row = next_range ranges bytes signed in
+    let before = read_more prev_of (length row.prefix) bytes signed in
+    let after = read_more prev_of row.bits bytes before in
+    let sum = (value_of_bits (drop (length before.bits) after.bits) + row.offset) % 2 ^ 32 in
     record { value = value_of (next prev_of bytes start).symbol sum; reading = after }
 
 -- A symbol id (A.3): as many bits as the code length says, each in the context that the bits so far
