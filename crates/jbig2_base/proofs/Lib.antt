@@ -1,3 +1,4 @@
+pub mod Answered
 pub mod BitFieldLemmas
 pub mod BitLemmas
 mod BlockLemmas

@@ -1,3 +1,4 @@
+pub mod Answered
 pub mod Choices
 pub mod CustomReading
 pub mod Decisions

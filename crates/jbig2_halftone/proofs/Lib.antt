@@ -1,3 +1,4 @@
+pub mod Answered
 mod CellLemmas
 mod DrawSteps
 mod GrayCounts

@@ -1,3 +1,4 @@
+pub mod Answered
 mod T6Bits
 mod T6Changes
 mod T6Decoding

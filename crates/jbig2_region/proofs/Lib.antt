@@ -1,3 +1,4 @@
+pub mod Answered
 pub mod ContextBits
 pub mod ContextLemmas
 pub mod CountLemmas

@@ -1,3 +1,4 @@
+pub mod Answered
 pub mod AggregateLemmas
 pub mod BehindLemmas
 pub mod ClassLemmas

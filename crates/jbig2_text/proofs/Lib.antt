@@ -1,3 +1,5 @@
+pub mod Answered
+pub mod AnsweredRegions
 pub mod InstanceLemmas
 pub mod RefiningLemmas
 pub mod RegionLemmas

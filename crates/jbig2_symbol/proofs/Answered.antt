@@ -1,0 +1,224 @@
+-- Law: no definition of symbol dictionaries answers an error that bytes cannot bring about.
+use Rattle.std.proofs.Common.{ℕ, zero, suc, ◌+◌, Bool, List, [], ◌∷◌, ◌++◌, Option, Some, None, Result, Ok, ℤ, pos, negsuc}
+use Rattle.jbig2_base.specs.Grid.{Grid}
+use Rattle.jbig2_base.specs.declared.error.DecodeError.{DecodeError}
+use Rattle.jbig2_base.proofs.Answered.{Answered, IsAnswered, answered-bits, answered-bytes, answered-if, answered-next, answered-number, answered-refusal}
+use Rattle.jbig2_coder.specs.PrefixCode.{Member}
+use Rattle.jbig2_coder.specs.declared.integer_procedures.IntegerProcedure.{IntegerProcedure}
+use Rattle.jbig2_coder.proofs.Answered.{answered-decoded, answered-next_custom, answered-table_of}
+use Rattle.jbig2_mmr.proofs.Answered.{answered-mmr}
+use Rattle.jbig2_region.proofs.Answered.{answered-refinement_pixels, answered-regular}
+use Rattle.jbig2_text.specs.Refining.{Refining}
+use Rattle.jbig2_text.specs.Text.{Readings, TextParams}
+use Rattle.jbig2_text.specs.TextCoding.{Prefixed, by_coder, by_prefix_codes, next_id}
+use Rattle.jbig2_text.proofs.Answered.{AreAnswered, answered-some_symbol, answered-text_region}
+use Rattle.jbig2_text.proofs.AnsweredRegions.{answered-in_band, by_coder-answered, by_prefix_codes-answered}
+use Rattle.jbig2_symbol.specs.Aggregates.{aggregate_symbol, at_least_one, by_instances, coded_aggregate, instance_count, plain_id, prefixed_aggregate, put_together, refined_alone}
+use Rattle.jbig2_symbol.specs.Exports.{exports, next_run, runs_from}
+use Rattle.jbig2_symbol.specs.SymbolBitmaps.{coded_symbol, collective_bitmap, mmr_bytes, raw_rows, symbol_cut, symbols_cut}
+use Rattle.jbig2_symbol.specs.SymbolHeader.{SymbolHeader, coded_pixels_at, height_selection_of, refined_pixels_at, symbol_flags_of, symbol_header_at, width_selection_of}
+use Rattle.jbig2_symbol.specs.SymbolReading.{BitmapContexts, SymbolInput, SymbolState, by_table, first_contexts, not_negative, number_by, symbol_tables, table_for}
+use Rattle.jbig2_symbol.specs.Symbols.{classes_from, collective_class, dictionary_from, drawn_class, height_class, next_width, size_in_word, symbol_bitmap, symbols_decoded, symbols_from, width_by, widths_from}
+use Rattle.jbig2_symbol.specs.declared.symbol.header.HuffmanTableSelection.{HuffmanTableSelection}
+use Rattle.jbig2_symbol.specs.declared.symbol.header.HuffmanTableSelection.TheVariants.{TableB1, TableB2, TableB3, TableB4, TableB5, UserSupplied}
+use Rattle.jbig2_symbol.specs.declared.symbol.header.SymbolDictionaryFlags.{SymbolDictionaryFlags}
+
+-- ---- the header
+answered-height_selection : (n : ℕ) → Answered (height_selection_of n)
+answered-height_selection n = search answered-if
+
+answered-width_selection : (n : ℕ) → Answered (width_selection_of n)
+answered-width_selection n = search answered-if
+
+answered-flags : (flags : ℕ) → Answered (symbol_flags_of flags)
+unfolding symbol_flags_of
+answered-flags flags = search (answered-next, answered-height_selection, answered-width_selection)
+
+answered-coded_pixels : (flags : SymbolDictionaryFlags) (bytes : List ℕ) → Answered (coded_pixels_at flags bytes)
+answered-coded_pixels flags bytes = search (answered-if, answered-regular)
+
+answered-refined_pixels : (flags : SymbolDictionaryFlags) (bytes : List ℕ) → Answered (refined_pixels_at flags bytes)
+answered-refined_pixels flags bytes = search (answered-if, answered-refinement_pixels)
+
+pub answered-symbol_header : (strict : Bool) (bytes : List ℕ) → Answered (symbol_header_at strict bytes)
+unfolding symbol_header_at
+answered-symbol_header strict bytes =
+    search (answered-next, answered-number, answered-flags, answered-coded_pixels, answered-refined_pixels, answered-refusal) depth 16
+
+-- ---- tables, contexts and numbers
+answered-table : (selection : HuffmanTableSelection) (customs : List (List Member)) → Answered (table_for selection customs)
+unfolding table_for
+answered-table TableB1 customs = tt
+answered-table TableB2 customs = tt
+answered-table TableB3 customs = tt
+answered-table TableB4 customs = tt
+answered-table TableB5 customs = tt
+answered-table UserSupplied customs = answered-next_custom customs
+
+answered-tables : (flags : SymbolDictionaryFlags) (customs : List (List Member)) → Answered (symbol_tables flags customs)
+unfolding symbol_tables
+answered-tables flags customs = search (answered-next, answered-table) depth 10
+
+answered-contexts : (flags : SymbolDictionaryFlags) (kept : Option BitmapContexts) → Answered (first_contexts flags kept)
+unfolding first_contexts
+answered-contexts flags (Some contexts) = search (answered-if, answered-next, answered-refusal)
+answered-contexts flags None = search answered-if
+
+answered-by_table : (table : List Member) (s : SymbolState) → Answered (by_table table s)
+answered-by_table table s = search (answered-next, answered-decoded)
+
+answered-by : (d : SymbolInput) (table : List Member) (procedure : IntegerProcedure) (s : SymbolState) → Answered (number_by d table procedure s)
+unfolding number_by
+answered-by d table procedure s = search (answered-if, answered-by_table)
+
+answered-not_negative : (e : DecodeError) (n : ℤ) → IsAnswered e → Answered (not_negative e n)
+answered-not_negative e (pos n) is = tt
+answered-not_negative e (negsuc n) is = is
+
+-- ---- aggregates
+answered-at_least_one : (n : ℤ) → Answered (at_least_one n)
+answered-at_least_one (pos zero) = tt
+answered-at_least_one (pos (suc n)) = tt
+answered-at_least_one (negsuc n) = tt
+
+answered-count : (d : SymbolInput) (s : SymbolState) → Answered (instance_count d s)
+unfolding instance_count
+answered-count d s = search (answered-next, answered-by, answered-in_band, answered-at_least_one)
+
+answered-alone : {S : Type 0} (r : Readings S) (a : AreAnswered r) (symbols : List Grid) (id : ℤ) (width height : ℕ) (f : Refining) (s : S) → Answered (refined_alone r symbols id width height f s)
+unfolding refined_alone
+answered-alone r a symbols id width height f s = search (answered-next, a.x_delta, a.y_delta, answered-some_symbol, answered-refusal, a.refined) depth 10
+
+answered-together : {S : Type 0} (r : Readings S) (a : AreAnswered r) (p : TextParams) (width height : ℕ) (f : Refining) (s : S) → Answered (put_together r p width height f s)
+unfolding put_together
+answered-together r a p width height f s = search (answered-next, answered-refusal, answered-text_region r a)
+
+answered-instances : {S : Type 0} (r : Readings S) (a : AreAnswered r) (alone : S → Result (ℤ × S) DecodeError) → ((s : S) → Answered (alone s))
+    → (p : TextParams) (width height : ℕ) (f : Refining) (s : S) → Answered (by_instances r alone p width height f s)
+answered-instances r a alone first p width height f s = search (answered-if, answered-next, first, answered-alone r a, answered-together r a) depth 8
+
+answered-coded : (p : TextParams) (width height : ℕ) (s : SymbolState) → Answered (coded_aggregate p width height s)
+answered-coded p width height s =
+    answered-next (by_instances by_coder (λ c. Ok (next_id c)) p width height s.refining s.coded) _ (answered-instances by_coder by_coder-answered (λ c. Ok (next_id c)) (λ c. tt) p width height s.refining s.coded) (λ symbol. tt)
+
+answered-plain_id : (bits : ℕ) (s : Prefixed) → Answered (plain_id bits s)
+answered-plain_id bits s = search (answered-next, answered-bits)
+
+answered-prefixed : (d : SymbolInput) (p : TextParams) (width height : ℕ) (s : SymbolState) → Answered (prefixed_aggregate d p width height s)
+answered-prefixed d p width height s =
+    answered-next (by_instances by_prefix_codes (plain_id _) p width height s.refining _) _ (answered-instances by_prefix_codes by_prefix_codes-answered (plain_id _) (answered-plain_id _) p width height s.refining _) (λ symbol. tt)
+
+answered-aggregate : (d : SymbolInput) (symbols : List Grid) (width height : ℕ) (s : SymbolState) → Answered (aggregate_symbol d symbols width height s)
+unfolding aggregate_symbol
+answered-aggregate d symbols width height s = search (answered-next, answered-count, answered-if, answered-coded, answered-prefixed)
+
+-- ---- bitmaps
+answered-coded_symbol : (h : SymbolHeader) (width height : ℕ) (s : SymbolState) → Answered (coded_symbol h width height s)
+unfolding coded_symbol
+answered-coded_symbol h width height s = search (answered-next, answered-refusal)
+
+answered-raw : (width height : ℕ) (bytes : List ℕ) → Answered (raw_rows width height bytes)
+unfolding raw_rows
+answered-raw width height bytes = search (answered-next, answered-refusal, answered-bytes) depth 8
+
+answered-mmr_bytes : (strict : Bool) (size width height : ℕ) (bytes : List ℕ) → Answered (mmr_bytes strict size width height bytes)
+unfolding mmr_bytes
+answered-mmr_bytes strict size width height bytes = search (answered-next, answered-refusal, answered-bytes, answered-mmr) depth 8
+
+answered-collective : (d : SymbolInput) (width height : ℕ) (s : SymbolState) → Answered (collective_bitmap d width height s)
+unfolding collective_bitmap
+answered-collective d width height s =
+    search (answered-next, answered-by_table, answered-in_band, answered-not_negative, answered-if, answered-raw, answered-mmr_bytes) depth 10
+
+answered-cut : (collective : Grid) (from width height : ℕ) → Answered (symbol_cut collective from width height)
+unfolding symbol_cut
+answered-cut collective from width height = search (answered-next, answered-refusal)
+
+answered-cuts : (collective : Grid) (height from : ℕ) (widths : List ℕ) → Answered (symbols_cut collective height from widths)
+unfolding symbols_cut
+answered-cuts collective height from [] = tt
+answered-cuts collective height from (width ∷ widths) =
+    let others : (place : ℕ) → Answered (symbols_cut collective height place widths) = λ place. answered-cuts collective height place widths in
+    search (answered-next, answered-cut, others)
+
+-- ---- classes
+answered-size : (n : ℤ) → Answered (size_in_word n)
+answered-size (pos n) = search answered-if
+answered-size (negsuc n) = tt
+
+answered-width_by : (room width total : ℕ) (value : Option ℤ) → Answered (width_by room width total value)
+answered-width_by room width total None = tt
+answered-width_by room width total (Some difference) = search (answered-next, answered-refusal, answered-size) depth 8
+
+answered-width : (d : SymbolInput) (room width total : ℕ) (s : SymbolState) → Answered (next_width d room width total s)
+unfolding next_width
+answered-width d room width total s = search (answered-next, answered-by, answered-width_by)
+
+answered-either : {A B : Type 0} (x : Option A) (none : Result B DecodeError) (some : A → Result B DecodeError) → Answered none → ((y : A) → Answered (some y)) → Answered (elim x [ None ↦ none | Some y ↦ some y ])
+answered-either None none some at_none at_some = at_none
+answered-either (Some y) none some at_none at_some = at_some y
+
+answered-widths : (d : SymbolInput) (room width total : ℕ) (s : SymbolState) → Answered (widths_from d room width total s)
+unfolding widths_from
+answered-widths d zero width total s = search (answered-next, answered-width)
+answered-widths d (suc room) width total s =
+    let others : (at : ℕ × ℕ) (t : SymbolState) → Answered (widths_from d room at.0 at.1 t) = λ at t. answered-widths d room at.0 at.1 t in
+    answered-next (next_width d (suc room) width total s) _ (answered-width d (suc room) width total s) (λ next.
+    answered-either next.0 _ _ tt (λ at. answered-next (widths_from d room at.0 at.1 next.1) _ (others at next.1) (λ all. tt)))
+
+answered-collective_class : (d : SymbolInput) (room height empty : ℕ) (s : SymbolState) → Answered (collective_class d room height empty s)
+unfolding collective_class
+answered-collective_class d room height empty s =
+    search (answered-next, answered-widths, answered-refusal, answered-collective, answered-cuts) depth 10
+
+answered-symbol : (d : SymbolInput) (new : List Grid) (width height : ℕ) (s : SymbolState) → Answered (symbol_bitmap d new width height s)
+unfolding symbol_bitmap
+answered-symbol d new width height s = search (answered-if, answered-aggregate, answered-coded_symbol)
+
+answered-symbols : (d : SymbolInput) (room height width total : ℕ) (new : List Grid) (s : SymbolState) → Answered (symbols_from d room height width total new s)
+unfolding symbols_from
+answered-symbols d zero height width total new s = search (answered-next, answered-width)
+answered-symbols d (suc room) height width total new s =
+    answered-next (next_width d (suc room) width total s) _ (answered-width d (suc room) width total s) (λ next.
+    answered-either next.0 _ _ tt (λ at.
+    answered-next (symbol_bitmap d new at.0 height next.1) _ (answered-symbol d new at.0 height next.1) (λ symbol.
+    answered-next (symbols_from d room height at.0 at.1 (new ++ symbol.0 ∷ []) symbol.1) _ (answered-symbols d room height at.0 at.1 (new ++ symbol.0 ∷ []) symbol.1) (λ all. tt))))
+
+answered-drawn : (d : SymbolInput) (room height empty : ℕ) (new : List Grid) (s : SymbolState) → Answered (drawn_class d room height empty new s)
+unfolding drawn_class
+answered-drawn d room height empty new s = search (answered-next, answered-symbols, answered-refusal)
+
+answered-class : (d : SymbolInput) (before empty : ℕ) (new : List Grid) (s : SymbolState) → Answered (height_class d before empty new s)
+unfolding height_class
+answered-class d before empty new s =
+    search (answered-next, answered-by, answered-in_band, answered-size, answered-if, answered-collective_class, answered-drawn) depth 10
+
+answered-classes : (d : SymbolInput) (n before empty : ℕ) (new : List Grid) (s : SymbolState) → Answered (classes_from d n before empty new s)
+unfolding classes_from
+answered-classes d zero before empty new s = tt
+answered-classes d (suc n) before empty new s =
+    let others = answered-classes d n in
+    search (answered-if, answered-next, answered-class, others) depth 8
+
+-- ---- exports and the dictionary
+answered-next_run : (d : SymbolInput) (empty left : ℕ) (s : SymbolState) → Answered (next_run d empty left s)
+unfolding next_run
+answered-next_run d empty left s = search (answered-next, answered-by, answered-in_band, answered-not_negative, answered-refusal) depth 10
+
+answered-runs : (d : SymbolInput) (n empty left : ℕ) (s : SymbolState) → Answered (runs_from d n empty left s)
+unfolding runs_from
+answered-runs d zero empty left s = tt
+answered-runs d (suc n) empty left s =
+    let others = answered-runs d n in
+    search (answered-if, answered-next, answered-next_run, others) depth 8
+
+answered-exports : (d : SymbolInput) (grids : List Grid) (s : SymbolState) → Answered (exports d grids s)
+unfolding exports
+answered-exports d grids s = search (answered-next, answered-runs, answered-refusal)
+
+answered-dictionary : (d : SymbolInput) (s : SymbolState) → Answered (dictionary_from d s)
+answered-dictionary d s = search (answered-next, answered-classes, answered-exports) depth 8
+
+pub answered-symbols_decoded : (h : SymbolHeader) (symbols : List Grid) (referred : List (List Member)) (kept : Option BitmapContexts) → Answered (symbols_decoded h symbols referred kept)
+unfolding symbols_decoded
+answered-symbols_decoded h symbols referred kept = search (answered-next, answered-contexts, answered-tables, answered-table_of, answered-dictionary) depth 8
