@@ -1,28 +1,32 @@
 -- Places of cells, and the number of a value's bits.
-use Rattle.std.proofs.Common.{◌≡◌, ℕ, zero, suc, ◌+◌, ◌-◌, ◌*◌, ◌/◌, ◌^◌, ◌<◌, ◌≤◌, Bool, true, false, leb, length, drop, Ok, Err, List, [], ◌∷◌, ◌++◌, map, get_or, ◌%◌, ℤ, pos, negsuc, ◌+ℤ◌, ◌-ℤ◌, pow-suc, refl, sym, ap, ◌∙◌, ⊎_elim, arith}
-use Rattle.std.proofs.lemmas.Bool.{cases_eq, le-leb, lt-leb}
-use Rattle.std.proofs.lemmas.Int.{ints, to_z-of_z}
+use Rattle.std.proofs.Common.{◌≡◌, ℕ, suc, ◌+◌, ◌*◌, ◌/◌, ◌^◌, ◌<◌, ◌≤◌, Bool, true, false, ◌&&◌, ◌||◌, length, drop, Ok, Err, List, [], ◌∷◌, ◌++◌, map, get_or, ◌%◌, ℤ, pos, negsuc, ◌+ℤ◌, ◌-ℤ◌, refl, sym, ap, ◌∙◌, ⊎_elim, arith}
+use Rattle.std.proofs.lemmas.Bool.{and_left, and_right, cond-false, le-ltb, or_cases}
+use Rattle.std.proofs.lemmas.Int.{ints}
 use Rattle.std.proofs.Math.Nat.{mul-le-mul_left}
 use Rattle.std.specs.Int.{int_shr, w32, w64}
-use mir.Val.{SFits, of_z, to_z}
+use mir.Val.{SFits}
 use Rattle.std.specs.List.{range_with_len}
 use Rattle.std.proofs.lemmas.List.FromFn.{get_or-map-range_with_len, length-map-range_with_len, map-range_with_len_more}
 use Rattle.std.proofs.lemmas.List.{drop_all}
 use Rattle.std.proofs.lemmas.Nat.{mul-add-lt, div-mul-add, mod-mul-add}
 use Rattle.std.proofs.Math.Seq.{drop-cons}
-use Rattle.jbig2_base.specs.Grid.{Grid, grid_of, blank}
+use Rattle.jbig2_base.specs.Grid.{Grid, grid_of, blank, pixel, pixel_at}
 use Rattle.jbig2_base.specs.declared.error.DecodeError.{DecodeError}
-use Rattle.jbig2_base.specs.Combination.{combined}
+use Rattle.jbig2_base.specs.Combination.{combined, drawn_pixel, is_below}
 use Rattle.jbig2_base.specs.inner.Writes.{with_pixel}
 use Rattle.jbig2_base.proofs.GridLemmas.{grid_of-ext}
 use Rattle.jbig2_region.specs.Raster.{so_far}
 use Rattle.jbig2_region.proofs.RasterLemmas.{so_far-push, blank-so_far}
-use Rattle.jbig2_halftone.specs.Halftone.{column_of, row_of, lies_outside, skip_grid, pattern_for, with_cell, cells_drawn}
+use Rattle.jbig2_halftone.specs.Halftone.{column_of, row_of, is_apart, lies_outside, skip_grid, pattern_for, with_cell, cells_drawn}
 use Rattle.jbig2_halftone.specs.GrayScale.{gray_values}
 use Rattle.jbig2_halftone.specs.inner.NextValues.{row_values}
 use Rattle.jbig2_halftone.proofs.RowLemmas.{values-length, rows-next, first-rows}
 use Rattle.jbig2_base.specs.Answer.{◌>>=◌}
-use Rattle.std.specs.Prelude.{Result}
+use Rattle.std.specs.Prelude.{Result, int_le}
+use Rattle.jbig2_base.specs.Operator.{combined_pixel}
+use Rattle.jbig2_base.specs.declared.bitmap.operator.CombinationOperator.{CombinationOperator}
+use Rattle.jbig2_base.specs.inner.Table.{IsTable}
+use Rattle.jbig2_halftone.specs.inner.CellPlaces.{x_of, y_of}
 use Rattle.jbig2_halftone.specs.HalftoneHeader.{HalftoneHeader}
 use Rattle.jbig2_halftone.specs.Patterns.{Patterns}
 
@@ -37,34 +41,111 @@ place-fits (negsuc n) o a b fits first second e = record { sfits = within n (ome
     within : (n : ℕ) → n < 2 ^ 39 → n / 256 < 2 ^ 31
     within n small = omega arith
 
+sum-fits : (z o : ℤ) (a b : ℕ) → SFits w32 o → a < 2 ^ 32 → b < 2 ^ 32 → z ≡ o +ℤ pos a +ℤ pos b → SFits w32 (int_shr z 8)
+sum-fits (pos n) o a b fits first second e = record { sfits = within n (omega (arith, ints)) }
+  where
+    within : (n : ℕ) → n < 2 ^ 39 → n / 256 < 2 ^ 31
+    within n small = omega arith
+sum-fits (negsuc n) o a b fits first second e = record { sfits = within n (omega (arith, ints)) }
+  where
+    within : (n : ℕ) → n < 2 ^ 39 → n / 256 < 2 ^ 31
+    within n small = omega arith
+
 product-small : (m v : ℕ) → m < 65536 → v < 65536 → m * v < 2 ^ 32
 product-small m v few small = omega (arith, mul-le-mul_left {m = v} {n = 65535} m (omega arith))
 
--- a column in 256ths of a pixel, as it is computed in 64 bits
-pub sum-known : (o r s t : ℤ) (m n v u : ℕ) → SFits w32 o → m < 65536 → n < 65536 → v < 65536 → u < 65536 → r ≡ to_z w32 (of_z w32 o) → s ≡ pos (m * v) → t ≡ pos (n * u)
-    → to_z w64 (of_z w64 (to_z w64 (of_z w64 (to_z w64 (of_z w64 r) +ℤ to_z w64 (of_z w64 s))) +ℤ to_z w64 (of_z w64 t))) ≡ o +ℤ pos (m * v) +ℤ pos (n * u)
-sum-known o r s t m n v u fits rows columns first second is_r is_s is_t =
+-- each place fits, also in whole pixels
+pub x-fits : (o : ℤ) (m n v u : ℕ) → SFits w32 o → m < 65536 → n < 65536 → v < 65536 → u < 65536 → SFits w32 (int_shr (o +ℤ pos (m * v) +ℤ pos (n * u)) 8)
+x-fits o m n v u fits rows columns first second =
     let one : m * v < 2 ^ 32 = product-small m v rows first in
     let two : n * u < 2 ^ 32 = product-small n u columns second in
-    rw (is_r, is_s, is_t, to_z-of_z w32 o fits) (sums o (m * v) (n * u) fits one two)
-  where
-    sums : (o : ℤ) (a b : ℕ) → SFits w32 o → a < 2 ^ 32 → b < 2 ^ 32 → to_z w64 (of_z w64 (to_z w64 (of_z w64 (to_z w64 (of_z w64 o) +ℤ to_z w64 (of_z w64 (pos a)))) +ℤ to_z w64 (of_z w64 (pos b)))) ≡ o +ℤ pos a +ℤ pos b
-    sums o a b fits one two = omega (arith, ints)
+    sum-fits (o +ℤ pos (m * v) +ℤ pos (n * u)) o (m * v) (n * u) fits one two refl
 
--- and a row
-pub difference-known : (o r s t : ℤ) (m n v u : ℕ) → SFits w32 o → m < 65536 → n < 65536 → v < 65536 → u < 65536 → r ≡ to_z w32 (of_z w32 o) → s ≡ pos (m * v) → t ≡ pos (n * u)
-    → to_z w64 (of_z w64 (to_z w64 (of_z w64 (to_z w64 (of_z w64 r) +ℤ to_z w64 (of_z w64 s))) -ℤ to_z w64 (of_z w64 t))) ≡ o +ℤ pos (m * v) -ℤ pos (n * u)
-difference-known o r s t m n v u fits rows columns first second is_r is_s is_t =
+pub y-fits : (o : ℤ) (m n v u : ℕ) → SFits w32 o → m < 65536 → n < 65536 → v < 65536 → u < 65536 → SFits w32 (int_shr (o +ℤ pos (m * v) -ℤ pos (n * u)) 8)
+y-fits o m n v u fits rows columns first second = place-fits (o +ℤ pos (m * v) -ℤ pos (n * u)) o (m * v) (n * u) fits (product-small m v rows first) (product-small n u columns second) refl
+
+-- and one step further in 64 bits
+pub x-further : (o x : ℤ) (m n v u w : ℕ) → SFits w32 o → m < 65536 → n < 65536 → v < 65536 → u < 65536 → w < 65536 → x ≡ o +ℤ pos (m * v) +ℤ pos (n * u) → SFits w64 (x +ℤ pos w)
+x-further o x m n v u w fits rows columns first second step e =
     let one : m * v < 2 ^ 32 = product-small m v rows first in
     let two : n * u < 2 ^ 32 = product-small n u columns second in
-    rw (is_r, is_s, is_t, to_z-of_z w32 o fits) (sums o (m * v) (n * u) fits one two)
+    rw e (sums o (m * v) (n * u) fits one two)
   where
-    sums : (o : ℤ) (a b : ℕ) → SFits w32 o → a < 2 ^ 32 → b < 2 ^ 32 → to_z w64 (of_z w64 (to_z w64 (of_z w64 (to_z w64 (of_z w64 o) +ℤ to_z w64 (of_z w64 (pos a)))) -ℤ to_z w64 (of_z w64 (pos b)))) ≡ o +ℤ pos a -ℤ pos b
+    sums : (o : ℤ) (a b : ℕ) → SFits w32 o → a < 2 ^ 32 → b < 2 ^ 32 → SFits w64 (o +ℤ pos a +ℤ pos b +ℤ pos w)
     sums o a b fits one two = omega (arith, ints)
 
--- which fits 32 bits in whole pixels
-pub difference-fits : (o : ℤ) (m n v u : ℕ) → SFits w32 o → m < 65536 → n < 65536 → v < 65536 → u < 65536 → SFits w32 (int_shr (o +ℤ pos (m * v) -ℤ pos (n * u)) 8)
-difference-fits o m n v u fits rows columns first second = place-fits (o +ℤ pos (m * v) -ℤ pos (n * u)) o (m * v) (n * u) fits (product-small m v rows first) (product-small n u columns second) refl
+pub y-further : (o y : ℤ) (m n v u w : ℕ) → SFits w32 o → m < 65536 → n < 65536 → v < 65536 → u < 65536 → w < 65536 → y ≡ o +ℤ pos (m * v) -ℤ pos (n * u) → SFits w64 (y -ℤ pos w) × SFits w64 (y +ℤ pos w)
+y-further o y m n v u w fits rows columns first second step e =
+    let one : m * v < 2 ^ 32 = product-small m v rows first in
+    let two : n * u < 2 ^ 32 = product-small n u columns second in
+    rw e (sums o (m * v) (n * u) fits one two)
+  where
+    sums : (o : ℤ) (a b : ℕ) → SFits w32 o → a < 2 ^ 32 → b < 2 ^ 32 → SFits w64 (o +ℤ pos a -ℤ pos b -ℤ pos w) × SFits w64 (o +ℤ pos a -ℤ pos b +ℤ pos w)
+    sums o a b fits one two = (omega (arith, ints), omega (arith, ints))
+
+-- the next cell of a row
+pub right-x : (o x new : ℤ) (m n v u : ℕ) → x ≡ o +ℤ pos (m * v) +ℤ pos (n * u) → new ≡ x +ℤ pos u → new ≡ o +ℤ pos (m * v) +ℤ pos ((n + 1) * u)
+right-x o x new m n v u e step =
+    let more : (n + 1) * u ≡ n * u + u = omega arith in
+    rw (step, e, more) (sums o (m * v) (n * u) u)
+  where
+    sums : (o : ℤ) (a b c : ℕ) → o +ℤ pos a +ℤ pos b +ℤ pos c ≡ o +ℤ pos a +ℤ pos (b + c)
+    sums o a b c = omega (arith, ints)
+
+pub right-y : (o y new : ℤ) (m n v u : ℕ) → y ≡ o +ℤ pos (m * v) -ℤ pos (n * u) → new ≡ y -ℤ pos u → new ≡ o +ℤ pos (m * v) -ℤ pos ((n + 1) * u)
+right-y o y new m n v u e step =
+    let more : (n + 1) * u ≡ n * u + u = omega arith in
+    rw (step, e, more) (sums o (m * v) (n * u) u)
+  where
+    sums : (o : ℤ) (a b c : ℕ) → o +ℤ pos a -ℤ pos b -ℤ pos c ≡ o +ℤ pos a -ℤ pos (b + c)
+    sums o a b c = omega (arith, ints)
+
+-- the first cell of the next row
+pub below-x : (o x new : ℤ) (m v u : ℕ) → x ≡ o +ℤ pos (m * v) +ℤ pos (0 * u) → new ≡ x +ℤ pos v → new ≡ o +ℤ pos ((m + 1) * v) +ℤ pos (0 * u)
+below-x o x new m v u e step =
+    let more : (m + 1) * v ≡ m * v + v = omega arith in
+    rw (step, e, more) (sums o (m * v) (0 * u) v)
+  where
+    sums : (o : ℤ) (a b c : ℕ) → o +ℤ pos a +ℤ pos b +ℤ pos c ≡ o +ℤ pos (a + c) +ℤ pos b
+    sums o a b c = omega (arith, ints)
+
+pub below-y : (o y new : ℤ) (m v u : ℕ) → y ≡ o +ℤ pos (m * v) -ℤ pos (0 * u) → new ≡ y +ℤ pos v → new ≡ o +ℤ pos ((m + 1) * v) -ℤ pos (0 * u)
+below-y o y new m v u e step =
+    let more : (m + 1) * v ≡ m * v + v = omega arith in
+    rw (step, e, more) (sums o (m * v) (0 * u) v)
+  where
+    sums : (o : ℤ) (a b c : ℕ) → o +ℤ pos a -ℤ pos b +ℤ pos c ≡ o +ℤ pos (a + c) -ℤ pos b
+    sums o a b c = omega (arith, ints)
+
+-- ---- cells that lie outside
+-- no pixel of a region lies on a source that is apart from it
+apart-below : (x z : ℤ) (s p i : ℕ) → z ≡ pos i -ℤ x → is_apart x s p ≡ true → i < p → is_below s z ≡ false
+apart-below x (negsuc n) s p i e apart inside = refl
+apart-below x (pos n) s p i e apart inside =
+    le-ltb n s
+    (⊎_elim
+    (λ (before : int_le (x +ℤ pos s) (pos 0) ≡ true). grind (arith, ints))
+    (λ (behind : int_le (pos p) x ≡ true). grind (arith, ints))
+    (or_cases (int_le (x +ℤ pos s) (pos 0)) (int_le (pos p) x) apart))
+
+outside-pixel : (operator : CombinationOperator) (page source : Grid) (x y : ℤ) (i j : ℕ) → (is_apart x source.width page.width || is_apart y source.height page.height) ≡ true → i < page.width → j < page.height → drawn_pixel operator page source x y i j ≡ pixel_at page i j
+unfolding drawn_pixel
+outside-pixel operator page source x y i j outside inside below =
+    cond-false (is_below source.width (pos i -ℤ x) && is_below source.height (pos j -ℤ y)) (combined_pixel operator (pixel_at page i j) (pixel source (pos i -ℤ x) (pos j -ℤ y))) (pixel_at page i j)
+    (⊎_elim
+    (λ (apart : is_apart x source.width page.width ≡ true). and_left _ _ (apart-below x (pos i -ℤ x) source.width page.width i refl apart inside))
+    (λ (apart : is_apart y source.height page.height ≡ true). and_right (is_below source.width (pos i -ℤ x)) _ (apart-below y (pos j -ℤ y) source.height page.height j refl apart below))
+    (or_cases (is_apart x source.width page.width) (is_apart y source.height page.height) outside))
+
+-- so drawing it changes nothing
+outside-combined : (operator : CombinationOperator) (page source : Grid) (x y : ℤ) → IsTable page → (is_apart x source.width page.width || is_apart y source.height page.height) ≡ true → page ≡ combined operator page source x y
+outside-combined operator page source x y known outside =
+    known ∙ grid_of-ext page.width page.height (pixel_at page) (drawn_pixel operator page source x y) (λ i j inside below. sym (outside-pixel operator page source x y i j outside inside below))
+
+pub outside-at : (operator : CombinationOperator) (page source : Grid) (x y : ℤ) (width height columns rows : ℕ) (outside : Bool) → IsTable page → width ≡ source.width → height ≡ source.height → columns ≡ page.width → rows ≡ page.height
+    → outside ≡ (is_apart x width columns || is_apart y height rows) → outside ≡ true → page ≡ combined operator page source x y
+outside-at operator page source x y width height columns rows outside known wide high right bottom e off =
+    outside-combined operator page source x y known (rw (sym wide, sym high, sym right, sym bottom) (sym e ∙ off))
 
 -- ---- the cells that are skipped
 -- of the first k cells, row by row, whether each is skipped
@@ -122,16 +203,24 @@ unfolding cells_drawn
 cells-all h d k n values region all = rw (drop_all n values all)
 
 -- cell n of row m
-pub cell-made : (h : HalftoneHeader) (m n : ℕ) (region pattern new : Grid) (x y : ℤ) → n < h.grid_position_and_size.width → SFits w32 x → SFits w32 y → x ≡ column_of h m n → y ≡ row_of h m n
-    → new ≡ combined h.flags.combination_operator region pattern (to_z w32 (of_z w32 x)) (to_z w32 (of_z w32 y)) → new ≡ with_cell h (m * h.grid_position_and_size.width + n) pattern region
-cell-made h m n region pattern new x y inside fits_x fits_y column row drawn =
+pub cell-made : (h : HalftoneHeader) (m n : ℕ) (region pattern new : Grid) (x y : ℤ) → n < h.grid_position_and_size.width → x ≡ x_of h m n → y ≡ y_of h m n
+    → new ≡ combined h.flags.combination_operator region pattern (int_shr x 8) (int_shr y 8) → new ≡ with_cell h (m * h.grid_position_and_size.width + n) pattern region
+cell-made h m n region pattern new x y inside column row drawn =
     let w : ℕ = h.grid_position_and_size.width in
     let k : ℕ = m * w + n in
     let at : column_of h m n ≡ column_of h (k / w) (k % w) = sym (ap (λ (i : ℕ). column_of h i (k % w)) (div-mul-add m w n inside) ∙ ap (λ (i : ℕ). column_of h m i) (mod-mul-add m w n inside)) in
     let above : row_of h m n ≡ row_of h (k / w) (k % w) = sym (ap (λ (i : ℕ). row_of h i (k % w)) (div-mul-add m w n inside) ∙ ap (λ (i : ℕ). row_of h m i) (mod-mul-add m w n inside)) in
     drawn
-    ∙ ap (λ (z : ℤ). combined h.flags.combination_operator region pattern z (to_z w32 (of_z w32 y))) (to_z-of_z w32 x fits_x ∙ column ∙ at)
-    ∙ ap (λ (z : ℤ). combined h.flags.combination_operator region pattern (column_of h (k / w) (k % w)) z) (to_z-of_z w32 y fits_y ∙ row ∙ above)
+    ∙ ap (λ (z : ℤ). combined h.flags.combination_operator region pattern z (int_shr y 8)) (ap (λ (z : ℤ). int_shr z 8) column ∙ at)
+    ∙ ap (λ (z : ℤ). combined h.flags.combination_operator region pattern (column_of h (k / w) (k % w)) z) (ap (λ (z : ℤ). int_shr z 8) row ∙ above)
+
+-- a cell that is skipped
+pub outside-known : (h : HalftoneHeader) (d : Patterns) (m n : ℕ) (x y : ℤ) (outside : Bool) → x ≡ x_of h m n → y ≡ y_of h m n → outside ≡ (is_apart (int_shr x 8) d.width h.region_info.width || is_apart (int_shr y 8) d.height h.region_info.height) → outside ≡ lies_outside h d m n
+unfolding lies_outside
+outside-known h d m n x y outside column row e =
+    e
+    ∙ ap (λ (z : ℤ). is_apart (int_shr z 8) d.width h.region_info.width || is_apart (int_shr y 8) d.height h.region_info.height) column
+    ∙ ap (λ (z : ℤ). is_apart (column_of h m n) d.width h.region_info.width || is_apart (int_shr z 8) d.height h.region_info.height) row
 
 -- cells, and those behind them
 pub cells-append : (h : HalftoneHeader) (d : Patterns) (k : ℕ) (values others : List ℕ) (region : Grid) → cells_drawn h d k (values ++ others) region ≡ (cells_drawn h d k values region >>= λ drawn. cells_drawn h d (k + length values) others drawn)

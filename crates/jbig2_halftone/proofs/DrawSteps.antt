@@ -15,6 +15,9 @@ use Rattle.jbig2_halftone.specs.Sizes.{HasSize}
 pub draws-none : (old : Counts) → WritesWithin 0 old old
 draws-none old = record { words = omega arith; loads = omega arith; decisions = refl; run_tests = refl; groups = refl; pixels = refl }
 
+pub draws-nothing : (n : ℕ) (old : Counts) → WritesWithin n old old
+draws-nothing n old = record { words = omega arith; loads = omega arith; decisions = refl; run_tests = refl; groups = refl; pixels = refl }
+
 -- more words may be written than were
 draws-within : (most more : ℕ) (old new : Counts) → most ≤ more → WritesWithin most old new → WritesWithin more old new
 draws-within most more old new less draws = record {

@@ -3,26 +3,30 @@ ghost use Rattle.std.specs.Prelude.{◌≡◌, ◌+◌, ◌*◌, ◌<◌, ◌≤
 ghost use Rattle.std.specs.Int.{w32, int_shr};
 ghost use Rattle.jbig2_base.specs.Answer.{Answers, Gives, Leaves};
 ghost use Rattle.std.specs.List.{All};
-ghost use Rattle.jbig2_base.specs.Combination.{WritesWithin};
+ghost use Rattle.jbig2_base.specs.Combination.{WritesWithin, combined, most_words, overlap};
 ghost use Rattle.jbig2_base.specs.Grid.{blank};
 ghost use Rattle.jbig2_base.specs.Search.{code_length};
 ghost use Rattle.jbig2_region.specs.RegionInfo.{region_view};
 ghost use Rattle.jbig2_halftone.specs.GrayScale.{planes_of, planes_contexts, gray_values};
 ghost use Rattle.jbig2_halftone.specs.GraySteps.{CountsRead, after_lane_rows};
-ghost use Rattle.jbig2_halftone.specs.Halftone.{gray_params, column_of, row_of, is_apart, lies_outside, skip_grid, skip_mask, pattern_for, cells_drawn, halftone_answer, halftone_contexts, halftone_decoded, decoded_contexts};
+ghost use Rattle.jbig2_halftone.specs.Halftone.{gray_params, skip_grid, skip_mask, pattern_for, cells_drawn, halftone_answer, halftone_contexts, halftone_decoded, decoded_contexts};
 ghost use Rattle.jbig2_halftone.specs.HalftoneHeader.{header_view};
 ghost use Rattle.jbig2_halftone.specs.HalftoneSteps.{CountsHalftone, after_mask, words_of_cells};
 ghost use Rattle.jbig2_halftone.specs.Patterns.{dictionary_view};
 ghost use Rattle.jbig2_halftone.specs.Sizes.{HasSize};
+ghost use Rattle.jbig2_halftone.specs.inner.CellPlaces.{x_of, y_of};
 
+mod cells;
 pub mod header;
 
 use crate::gray_scale::GrayScaleParams;
 use crate::gray_scale::planes::read_planes;
 use crate::gray_scale::rows::gray_row;
 use crate::pattern::PatternDictionary;
+use cells::{CellPlace, first_place, lies_outside, next_in_row, next_row, whole_pixels};
 pub use header::{HalftoneRegionHeader, parse};
 use jbig2_base::bitmap::Bitmap;
+use jbig2_base::bitmap::operator::CombinationOperator;
 use jbig2_base::bitmap::steps::Steps;
 use jbig2_base::error::{DecodeError, RegionError, Result};
 use jbig2_base::search::code_length;
@@ -30,58 +34,6 @@ use jbig2_coder::arithmetic_decoder::ArithmeticDecoderContext;
 use jbig2_region::region_info::DecodedRegion;
 use std::alloc::Allocator;
 use std::sync::ledger::Ledger;
-
-/// A place in 256ths of a pixel as a whole pixel, rounded down.
-fn whole_pixels(place: i64) -> i32
-    requires { FitsSigned w32 (int_shr place 8) }
-    ensures { result ≡ int_shr place 8 }
-{
-    (place >> 8) as i32
-}
-
-/// The region's column and row where the pattern of the cell in row `m` and column `n` of the grid
-/// stands (T.88, 6.6.5.2).
-fn cell_place(header: &HalftoneRegionHeader<'_>, m: u32, n: u32) -> (i32, i32)
-    requires row { m < 65536 }
-    requires column { n < 65536 }
-    ensures x { result.0 ≡ column_of (header_view header.now) m n }
-    ensures y { result.1 ≡ row_of (header_view header.now) m n }
-{
-    let grid = &header.grid_position_and_size;
-    let x_vector = u32::from(header.grid_vector.x_vector);
-    let y_vector = u32::from(header.grid_vector.y_vector);
-    let x = i64::from(grid.horizontal_offset) + i64::from(m * y_vector) + i64::from(n * x_vector);
-    let y = i64::from(grid.vertical_offset) + i64::from(m * x_vector) - i64::from(n * y_vector);
-    (whole_pixels(x), whole_pixels(y))
-}
-
-/// Whether a pattern of this size at this place has no pixel in a region of `room` pixels, along one
-/// axis.
-fn is_apart(place: i32, size: u32, room: u32) -> bool
-    ensures { result ≡ is_apart place size room }
-{
-    let place = i64::from(place);
-    place + i64::from(size) <= 0 || i64::from(room) <= place
-}
-
-/// Whether the pattern of the cell in row `m` and column `n` of the grid would lie wholly outside
-/// the region (T.88, 6.6.5.1).
-#[tactic(auto, unfolding(crate::specs::Halftone::lies_outside))]
-fn lies_outside<A: Allocator>(
-    header: &HalftoneRegionHeader<'_>,
-    dictionary: &PatternDictionary<A>,
-    m: u32,
-    n: u32,
-) -> bool
-    requires row { m < 65536 }
-    requires column { n < 65536 }
-    ensures { result ≡ lies_outside (header_view header.now) (dictionary_view dictionary.now) m n }
-{
-    let region = &header.region_info;
-    let (x, y) = cell_place(header, m, n);
-    is_apart(x, dictionary.pattern_width, region.width)
-        || is_apart(y, dictionary.pattern_height, region.height)
-}
 
 /// The cells that are skipped: the pixel in column `n` of row `m` is black where cell (`m`, `n`)
 /// lies outside (T.88, 6.6.5.1).
@@ -101,11 +53,19 @@ fn skip_bitmap<D: Allocator, A: Allocator, L: Ledger>(
 {
     let grid = &header.grid_position_and_size;
     let mut skip = Bitmap::new(alloc, grid.width, grid.height)?;
+    let room = &header.region_info;
+    let (width, height) = (dictionary.pattern_width, dictionary.pattern_height);
+    let x_vector = header.grid_vector.x_vector;
+    let y_vector = header.grid_vector.y_vector;
+    let mut first = first_place(header);
     for m in 0..grid.height {
+        let mut place = first;
         for n in 0..grid.width {
-            let outside = lies_outside(header, dictionary, m, n);
+            let outside = lies_outside(place, width, height, room.width, room.height);
             skip.set_pixel(n, m, outside, steps);
+            place = next_in_row(place, x_vector, y_vector);
         }
+        first = next_row(first, x_vector, y_vector);
     }
     Ok(skip)
 }
@@ -132,16 +92,48 @@ fn pattern_for<A: Allocator>(
     Ok(&patterns[patterns.len() - 1])
 }
 
-/// Draws the patterns of the values of row `m` of the grid onto a region (T.88, 6.6.5.2).
+/// Draws a cell's pattern onto a region, if it does not lie wholly outside.
+#[inline(always)]
+fn draw_cell<D: Allocator, A: Allocator, L: Ledger>(
+    place: CellPlace,
+    pattern: &Bitmap<D>,
+    operator: CombinationOperator,
+    bitmap: &mut Bitmap<A>,
+    steps: &mut Steps<L>,
+)
+    requires x { FitsSigned w32 (int_shr place.x 8) }
+    requires y { FitsSigned w32 (int_shr place.y 8) }
+    ensures value { bitmap.new
+        ≡ combined operator bitmap.old pattern.now (int_shr place.x 8) (int_shr place.y 8) }
+    ensures steps { WritesWithin (overlap bitmap.old.height pattern.now.height (int_shr place.y 8)
+        * most_words (overlap bitmap.old.width pattern.now.width (int_shr place.x 8)))
+        steps.old steps.new }
+{
+    let (width, height) = (pattern.width(), pattern.height());
+    if lies_outside(place, width, height, bitmap.width(), bitmap.height()) {
+        return;
+    }
+    let x = whole_pixels(place.x);
+    let y = whole_pixels(place.y);
+    bitmap.combine(pattern, x, y, operator, steps);
+}
+
+/// Draws the patterns of the values of row `m` of the grid, whose first cell stands at `first`, onto
+/// a region (T.88, 6.6.5.2).
 fn draw_row<D: Allocator, A: Allocator, L: Ledger>(
     header: &HalftoneRegionHeader<'_>,
     dictionary: &PatternDictionary<D>,
     m: u32,
+    first: CellPlace,
     values: &[u32],
     bitmap: &mut Bitmap<A>,
     steps: &mut Steps<L>,
 ) -> Result<()>
     requires row { m < 65536 }
+    requires x { first.x ≡ x_of (header_view header.now) m 0 }
+    requires y { first.y ≡ y_of (header_view header.now) m 0 }
+    requires x_fits { FitsSigned w32 header.now.grid_position_and_size.horizontal_offset }
+    requires y_fits { FitsSigned w32 header.now.grid_position_and_size.vertical_offset }
     requires columns { header.now.grid_position_and_size.width ≤ 65535 }
     requires sized { length values.now ≡ header.now.grid_position_and_size.width }
     requires region { HasSize header.now.region_info.width header.now.region_info.height bitmap.old }
@@ -154,13 +146,16 @@ fn draw_row<D: Allocator, A: Allocator, L: Ledger>(
         steps.old steps.new }
 {
     let operator = header.flags.combination_operator;
-    for (n, value) in values.iter().enumerate() {
-        let (x, y) = cell_place(header, m, n as u32);
+    let x_vector = header.grid_vector.x_vector;
+    let y_vector = header.grid_vector.y_vector;
+    let mut place = first;
+    for value in values {
         let pattern = match pattern_for(header.strict, dictionary, *value) {
             Ok(pattern) => pattern,
             Err(error) => return Err(error),
         };
-        bitmap.combine(pattern, x, y, operator, steps);
+        draw_cell(place, pattern, operator, bitmap, steps);
+        place = next_in_row(place, x_vector, y_vector);
     }
     Ok(())
 }
@@ -188,12 +183,16 @@ fn draw_rows<D: Allocator, P: Allocator, A: Allocator, L: Ledger>(
         (words_of_cells (header_view header.now) (dictionary_view dictionary.now) 0 (grid.height * grid.width))
         (after_lane_rows (grid.height * length planes.now) grid.width steps.old) steps.new) }
 {
+    let x_vector = header.grid_vector.x_vector;
+    let y_vector = header.grid_vector.y_vector;
+    let mut first = first_place(header);
     for m in 0..header.grid_position_and_size.height {
         gray_row(planes, m, values, steps);
-        match draw_row(header, dictionary, m, values, bitmap, steps) {
+        match draw_row(header, dictionary, m, first, values, bitmap, steps) {
             Ok(()) => {}
             Err(error) => return Err(error),
         }
+        first = next_row(first, x_vector, y_vector);
     }
     Ok(())
 }
