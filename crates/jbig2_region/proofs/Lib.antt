@@ -11,6 +11,7 @@ pub mod RegionLemmas
 pub mod RegisterLemmas
 pub mod RunLemmas
 pub mod RunSteps
+pub mod SkippingLemmas
 pub mod StepLemmas
 pub mod StoreLemmas
 pub mod UniformLemmas

@@ -1,7 +1,8 @@
 -- Generic regions of which pixels are skipped (T.88, 6.2.5.7, USESKIP): a skipped pixel is white and takes no decision.
-use Rattle.std.specs.Prelude.{ℕ, Bool, false, if◌then◌else◌, List, Option, Some, None, pos, negsuc, ◌+ℤ◌}
+use Rattle.std.specs.Prelude.{◌≡◌, ℕ, zero, suc, ◌+◌, ◌*◌, ◌/◌, ◌≤◌, Bool, false, not, if◌then◌else◌, List, Option, Some, None, pos, negsuc, ◌+ℤ◌}
 use Rattle.std.specs.Borrow.{Bor}
-use Rattle.jbig2_base.specs.Grid.{Grid, pixel, pixel_at}
+use Rattle.jbig2_base.specs.Counts.{Counts, KeepsLanes}
+use Rattle.jbig2_base.specs.Grid.{Grid, pixel, pixel_at, bit_number}
 use Rattle.jbig2_region.specs.Generic.{context_at}
 use Rattle.jbig2_region.specs.Raster.{Coding}
 use Rattle.jbig2_region.specs.Templates.{row_context}
@@ -37,3 +38,30 @@ skipping_coding pixels skip = record { context = context_at pixels; known = know
 abbrev pub skip_of : Option (Bor Grid) → Option Grid
 skip_of None = None
 skip_of (Some skip) = Some skip.now
+
+-- ---- steps (our own rule), where the adaptive pixels are nominal
+-- how many of the first n pixels of row y are not skipped
+unfoldable pub kept_in_row : Option Grid → ℕ → ℕ → ℕ
+kept_in_row skip y zero = 0
+kept_in_row skip y (suc n) = kept_in_row skip y n + bit_number (not (is_skipped skip n y))
+
+-- how many in the first n rows of w pixels
+unfoldable pub kept_pixels : Option Grid → ℕ → ℕ → ℕ
+kept_pixels skip w zero = 0
+kept_pixels skip w (suc n) = kept_pixels skip w n + kept_in_row skip n w
+
+-- loads of a row of w pixels: for 32 columns one window on the mask, and one on each of the two rows above
+abbrev pub skipping_loads : ℕ → ℕ
+skipping_loads w = 3 * (w / 32 + 2)
+
+-- words of such a row
+abbrev pub skipping_words : ℕ → ℕ
+skipping_words w = w / 32 + 1
+
+-- What a region of w columns and h rows takes: a decision for each pixel that is not skipped, no run test and no lanes.
+pub record CountsSkipping (skip : Option Grid) (w h : ℕ) (before after : Counts) : Type 0 where
+  pub decisions : after.decisions ≡ before.decisions + kept_pixels skip w h
+  pub run_tests : after.run_tests ≡ before.run_tests
+  pub words : after.words ≤ before.words + h * skipping_words w
+  pub loads : after.loads ≤ before.loads + h * skipping_loads w
+  pub lanes : KeepsLanes before after

@@ -2,6 +2,7 @@ pub mod Codes
 pub mod Holds
 pub mod Layouts
 pub mod LongRuns
+pub mod Masks
 pub mod Neighbours
 pub mod RefinementBlocks
 pub mod RefinementViews

@@ -15,7 +15,7 @@ mod bytes;
 mod nominal;
 mod pixels;
 mod runs;
-mod windows;
+pub(crate) mod windows;
 
 use crate::generic_kernel::nominal::decode_nominal_row;
 use crate::generic_kernel::pixels::decode_row_by_pixels;

@@ -1,11 +1,16 @@
 //! Generic regions of which pixels are skipped (T.88, 6.2.5.7), as the planes of a gray-scale image.
 ghost use Rattle.jbig2_region.specs.inner.Holds.{DecodesRegion, IsReady};
-ghost use Rattle.jbig2_region.specs.Skipping.{skipping_coding, skip_of};
-ghost use Rattle.jbig2_region.specs.Templates.{context_bits, template_pixels};
+ghost use Rattle.std.specs.Prelude.{◌≡◌, true};
+ghost use Rattle.jbig2_region.specs.Skipping.{CountsSkipping, skipping_coding, skip_of};
+ghost use Rattle.jbig2_region.specs.Templates.{context_bits, is_nominal, template_pixels};
 ghost use Rattle.jbig2_region.specs.declared.template.GenericTemplatePixels.TheVariants.{Regular};
+
+mod rows;
 
 use crate::generic_coding::GenericCoding;
 use crate::raster::decode_region;
+use crate::skipping::rows::decode_rows;
+use crate::template::layouts::layout_of;
 use crate::template::pixels::TemplatePixels;
 use crate::template::{AdaptiveTemplatePixel, Template};
 use jbig2_base::bitmap::Bitmap;
@@ -30,7 +35,14 @@ pub fn decode_skipping<M: Allocator, A: Allocator, L: Ledger>(
     ensures holds { DecodesRegion
         (skipping_coding (template_pixels template (Regular adaptive.now)) (skip_of skip.entry))
         bitmap.old decoder.old contexts.old bitmap.new decoder.new contexts.new }
+    ensures steps { is_nominal template adaptive.now ≡ true
+        → CountsSkipping (skip_of skip.entry) bitmap.old.width bitmap.old.height steps.old steps.new }
 {
+    let layout = layout_of(template, adaptive);
+    if layout.adaptive.is_none() {
+        decode_rows(layout.neighbours, skip, bitmap, decoder, contexts, steps);
+        return;
+    }
     let pixels = TemplatePixels::regular(template, adaptive);
     let coding = GenericCoding {
         template,

@@ -1,0 +1,8 @@
+use Rattle.std.proofs.Common.{false}
+use Rattle.jbig2_region.specs.Skipping.{skip_of, skipping_coding}
+use Rattle.jbig2_region.specs.inner.Neighbours.{nominal_pixels}
+use Rattle.jbig2_region.specs.inner.RefinementBlocks.{Block}
+use Rattle.jbig2_region.proofs.skipping.rows.decode_block.Given as goal
+
+abbrev pub invariant-loop-offset : goal.invariant-loop-offset
+invariant-loop-offset g l = Block (skipping_coding (nominal_pixels l.fn.neighbours) (skip_of l.fn.skip)) false l.fn.x l.fn.y l.offset l.bitmap l.fn.decoder l.fn.contexts l.initial.steps l.pixels l.decoder l.contexts l.steps

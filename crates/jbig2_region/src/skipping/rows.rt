@@ -1,0 +1,186 @@
+//! Rows of which pixels are skipped, in a template without adaptive pixels: contexts come out of
+//! windows on the rows above, and a window on the mask says which of 32 pixels are skipped.
+ghost use Rattle.std.specs.Prelude.{◌≡◌, ℕ, ◌+◌, ◌-◌, ◌*◌, ◌/◌, ◌%◌, ◌^◌, ◌<◌, ◌≤◌, false, length, Some, None, if◌then◌else◌};
+ghost use Rattle.jbig2_base.specs.Counts.{KeepsLanes};
+ghost use Rattle.jbig2_region.specs.Skipping.{CountsSkipping, skip_of, skipping_coding, skipping_loads, skipping_words};
+ghost use Rattle.jbig2_region.specs.inner.Codes.{Codes, CountsCodes, Takes};
+ghost use Rattle.jbig2_region.specs.inner.Holds.{DecodesRegion, IsReady};
+ghost use Rattle.jbig2_region.specs.inner.Neighbours.{IsLeft, IsNear, neighbour_count, nominal_pixels};
+ghost use Rattle.jbig2_region.specs.inner.Masks.{IsMask, plain_context};
+
+use crate::generic_kernel::windows::{Windows, stretch_bits, windows_at};
+use crate::template::neighbours::{Neighbours, joined};
+use jbig2_base::bitmap::Bitmap;
+use jbig2_base::bitmap::steps::Steps;
+use jbig2_coder::arithmetic_decoder::{ArithmeticDecoder, ArithmeticDecoderContext};
+use std::alloc::Allocator;
+use std::sync::ledger::Ledger;
+
+/// Which of the 32 pixels from column `x` of row `y` on are skipped: bit 31 is the first.
+#[inline(always)]
+fn mask_at<M: Allocator, L: Ledger>(
+    skip: Option<&Bitmap<M>>,
+    x: u32,
+    y: u32,
+    steps: &mut Steps<L>,
+) -> u64
+    ensures value { IsMask (skip_of skip.entry) x y result }
+    ensures loads { steps.new.loads ≤ steps.old.loads + 1 }
+    ensures steps { steps.new ≡ record steps.old { loads = steps.new.loads } }
+{
+    let Some(mask) = skip else {
+        return 0;
+    };
+    mask.load_pixels(x, y, 32, steps)
+}
+
+/// The number of the context at the column `offset` columns right of the windows' column, where
+/// `left` are the pixels at the left, the nearest in bit 0.
+#[inline(always)]
+fn plain_context(neighbours: Neighbours, windows: Windows, left: u32, offset: u32) -> u32
+    requires near { IsNear neighbours }
+    requires offset { offset < 32 }
+    ensures value { result ≡ plain_context neighbours windows left offset }
+    ensures bound { result < 2 ^ neighbour_count neighbours }
+{
+    let above = stretch_bits(neighbours.above, windows.above, offset);
+    let top = stretch_bits(neighbours.top, windows.top, offset);
+    let higher = joined(above, top, neighbours.above.count);
+    joined(left % (1 << neighbours.left), higher, neighbours.left)
+}
+
+/// The next pixel, 1 for black: white where it is skipped.
+#[inline(always)]
+fn decode_pixel<L: Ledger>(
+    skipped: bool,
+    context: u32,
+    decoder: &mut ArithmeticDecoder<'_>,
+    contexts: &mut [ArithmeticDecoderContext],
+    steps: &mut Steps<L>,
+) -> u32
+    requires context { context < length contexts.old }
+    ensures takes { Takes (if skipped then Some false else None) context
+        decoder.old contexts.old steps.old result decoder.new contexts.new steps.new }
+    ensures digit { result < 2 }
+    ensures contexts { length contexts.new ≡ length contexts.old }
+{
+    if skipped {
+        return 0;
+    }
+    decoder.decode(&mut contexts[context as usize], steps)
+}
+
+/// The `count` pixels from column `x` of row `y` on, at most 32. Answers the four pixels left of the
+/// next column.
+#[inline(always)]
+fn decode_block<M: Allocator, A: Allocator, L: Ledger>(
+    neighbours: Neighbours,
+    skip: Option<&Bitmap<M>>,
+    bitmap: &mut Bitmap<A>,
+    x: u32,
+    y: u32,
+    count: u32,
+    left: u32,
+    decoder: &mut ArithmeticDecoder<'_>,
+    contexts: &mut [ArithmeticDecoderContext],
+    steps: &mut Steps<L>,
+) -> u32
+    requires near { IsNear neighbours }
+    requires contexts { length contexts.old ≡ 2 ^ neighbour_count neighbours }
+    requires some { 1 ≤ count }
+    requires few { count ≤ 32 }
+    requires aligned { x % 32 ≡ 0 }
+    requires columns { x + count ≤ bitmap.old.width }
+    requires row { y < bitmap.old.height }
+    requires left { IsLeft bitmap.old x y left }
+    requires small { left < 16 }
+    ensures holds { Codes (skipping_coding (nominal_pixels neighbours) (skip_of skip.entry)) false x y count
+        bitmap.old decoder.old contexts.old bitmap.new decoder.new contexts.new }
+    ensures left { IsLeft bitmap.new (x + count) y result }
+    ensures small { result < 16 }
+    ensures width { bitmap.new.width ≡ bitmap.old.width }
+    ensures height { bitmap.new.height ≡ bitmap.old.height }
+    ensures bytes { decoder.new.bytes ≡ decoder.old.bytes }
+    ensures contexts { length contexts.new ≡ length contexts.old }
+    ensures decisions { CountsCodes (skipping_coding (nominal_pixels neighbours) (skip_of skip.entry)) false x y count
+        bitmap.old decoder.old contexts.old steps.old.decisions steps.new.decisions }
+    ensures loads { steps.new.loads ≤ steps.old.loads + 3 }
+    ensures words { steps.new.words ≡ steps.old.words + 1 }
+    ensures run_tests { steps.new.run_tests ≡ steps.old.run_tests }
+    ensures lanes { KeepsLanes steps.old steps.new }
+{
+    let windows = windows_at(bitmap, x, y, steps);
+    let mask = mask_at(skip, x, y, steps);
+    let mut pixels = u64::from(left);
+    for offset in 0..count {
+        let left = (pixels % 16) as u32;
+        let context = plain_context(neighbours, windows, left, offset);
+        let skipped = (mask >> (31 - offset)) % 2 == 1;
+        let symbol = decode_pixel(skipped, context, decoder, contexts, steps);
+        pixels = pixels * 2 + u64::from(symbol);
+    }
+    bitmap.store_pixels(x, y, count, pixels, steps);
+    (pixels % 16) as u32
+}
+
+/// Row `y`, whose rows above are decoded.
+#[inline(always)]
+fn decode_row<M: Allocator, A: Allocator, L: Ledger>(
+    neighbours: Neighbours,
+    skip: Option<&Bitmap<M>>,
+    bitmap: &mut Bitmap<A>,
+    y: u32,
+    decoder: &mut ArithmeticDecoder<'_>,
+    contexts: &mut [ArithmeticDecoderContext],
+    steps: &mut Steps<L>,
+)
+    requires near { IsNear neighbours }
+    requires contexts { length contexts.old ≡ 2 ^ neighbour_count neighbours }
+    requires row { y < bitmap.old.height }
+    requires widths { bitmap.old.width ≤ 65535 }
+    ensures holds { Codes (skipping_coding (nominal_pixels neighbours) (skip_of skip.entry)) false 0 y bitmap.old.width
+        bitmap.old decoder.old contexts.old bitmap.new decoder.new contexts.new }
+    ensures width { bitmap.new.width ≡ bitmap.old.width }
+    ensures height { bitmap.new.height ≡ bitmap.old.height }
+    ensures bytes { decoder.new.bytes ≡ decoder.old.bytes }
+    ensures contexts { length contexts.new ≡ length contexts.old }
+    ensures decisions { CountsCodes (skipping_coding (nominal_pixels neighbours) (skip_of skip.entry)) false 0 y bitmap.old.width
+        bitmap.old decoder.old contexts.old steps.old.decisions steps.new.decisions }
+    ensures loads { steps.new.loads ≤ steps.old.loads + skipping_loads bitmap.old.width }
+    ensures words { steps.new.words ≤ steps.old.words + skipping_words bitmap.old.width }
+    ensures run_tests { steps.new.run_tests ≡ steps.old.run_tests }
+    ensures lanes { KeepsLanes steps.old steps.new }
+{
+    let width = bitmap.width();
+    let mut left = 0;
+    for index in 0..width.div_ceil(32) {
+        let x = index * 32;
+        let count = (width - x).min(32);
+        left = decode_block(
+            neighbours, skip, bitmap, x, y, count, left, decoder, contexts, steps,
+        );
+    }
+}
+
+/// A whole region, into a white bitmap of its size.
+pub fn decode_rows<M: Allocator, A: Allocator, L: Ledger>(
+    neighbours: Neighbours,
+    skip: Option<&Bitmap<M>>,
+    bitmap: &mut Bitmap<A>,
+    decoder: &mut ArithmeticDecoder<'_>,
+    contexts: &mut [ArithmeticDecoderContext],
+    steps: &mut Steps<L>,
+)
+    requires near { IsNear neighbours }
+    requires ready { IsReady (neighbour_count neighbours) bitmap.old contexts.old }
+    ensures holds { DecodesRegion (skipping_coding (nominal_pixels neighbours) (skip_of skip.entry))
+        bitmap.old decoder.old contexts.old bitmap.new decoder.new contexts.new }
+    ensures steps { CountsSkipping (skip_of skip.entry) bitmap.old.width bitmap.old.height steps.old steps.new }
+{
+    if bitmap.width() == 0 {
+        return;
+    }
+    for y in 0..bitmap.height() {
+        decode_row(neighbours, skip, bitmap, y, decoder, contexts, steps);
+    }
+}
