@@ -13,17 +13,17 @@ use Rattle.jbig2_region.specs.Generic.{coding_of}
 use Rattle.jbig2_region.specs.inner.Layouts.{read_pixels}
 use Rattle.jbig2_region.specs.Raster.{Region, after_rows, row_begun, no_pixels}
 use Rattle.jbig2_region.specs.RunBytes.{CountsRegion, coded_rows, coded_runs, row_loads, row_tests, row_words}
-use Rattle.jbig2_region.specs.Skipping.{skip_of}
+use Rattle.jbig2_region.specs.Skipping.{CountsSkipping, kept_pixels, skip_of, skipping_loads, skipping_words}
 use Rattle.jbig2_region.specs.Templates.{is_nominal, template_pixels}
 use Rattle.jbig2_region.specs.declared.template.AdaptiveTemplatePixel.{AdaptiveTemplatePixel}
 use Rattle.jbig2_region.specs.declared.template.GenericTemplatePixels.TheVariants.{Regular}
 use Rattle.jbig2_region.specs.declared.template.Template.{Template}
 use Rattle.jbig2_region.specs.declared.template.Template.TheVariants.{Template0, Template1, Template2, Template3}
 use Rattle.jbig2_halftone.specs.GrayScale.{GrayScale, nominal_pixels, after_planes}
-use Rattle.jbig2_halftone.specs.GraySteps.{CountsImage, CountsLanes, CountsPlane, CountsPlanes, TakesLanes, after_lane_rows, plain_coding, plane_pixels, plane_runs, plane_start}
-use Rattle.jbig2_halftone.proofs.PlaneLemmas.{BehindPlanes, rows-plain}
+use Rattle.jbig2_halftone.specs.GraySteps.{CountsCoded, CountsImage, CountsLanes, CountsMasked, CountsOne, CountsPlane, CountsPlanes, TakesLanes, after_lane_rows, plain_coding, plane_pixels, plane_runs, plane_start}
+use Rattle.jbig2_halftone.proofs.PlaneLemmas.{BehindPlanes, no-mask, rows-plain}
 
-pub some-mask : (mask : Option (Bor Grid)) → is_some mask ≡ true → skip_of mask ≡ None → ⊥
+some-mask : (mask : Option (Bor Grid)) → is_some mask ≡ true → skip_of mask ≡ None → ⊥
 some-mask None e none = cc
 some-mask (Some m) e none = cc
 
@@ -51,7 +51,7 @@ unfolding coded_rows row_begun
 all-coded pixels t w h bytes zero r plain = refl
 all-coded pixels t w h bytes (suc n) r plain = rw (rows-plain pixels t w h bytes n r plain, all-coded pixels t w h bytes n r plain) (omega arith)
 
-pub planes-begin : (p : GrayScale) (bytes : List ℕ) (steps : Counts) → CountsPlanes p bytes 0 steps steps
+planes-begin : (p : GrayScale) (bytes : List ℕ) (steps : Counts) → CountsPlanes p bytes 0 steps steps
 unfolding plane_runs
 planes-begin p bytes steps = record { decisions = λ _. omega arith; run_tests = omega arith; words = omega arith; loads = omega arith; lanes = lanes-none steps }
 
@@ -75,7 +75,7 @@ planes-more p bytes i old mid new before one =
       lanes = lanes-then old mid new before.lanes one.lanes;
     }
 
-pub planes-next : (p : GrayScale) (bytes : List ℕ) (i : ℕ) (plane : Grid) (coder : Coder) (states : List Context) (old mid new : Counts) (planes : List Grid) → plane ≡ blank p.width p.height false → BehindPlanes p bytes i planes coder states
+planes-next : (p : GrayScale) (bytes : List ℕ) (i : ℕ) (plane : Grid) (coder : Coder) (states : List Context) (old mid new : Counts) (planes : List Grid) → plane ≡ blank p.width p.height false → BehindPlanes p bytes i planes coder states
     → CountsPlanes p bytes i old mid → CountsPlane p plane.width plane.height coder.bytes (no_pixels coder.registers states) mid new → CountsPlanes p bytes (i + 1) old new
 planes-next p bytes i plane coder states old mid new planes white behind before one =
     let two = subst (λ (b : List ℕ). CountsPlane p plane.width plane.height b (no_pixels coder.registers states) mid new) behind.bytes one in
@@ -84,10 +84,55 @@ planes-next p bytes i plane coder states old mid new planes white behind before 
     let five = subst (λ (s : List Context). CountsPlane p p.width p.height bytes (no_pixels (after_planes p bytes i).registers s) mid new) behind.contexts four in
     planes-more p bytes i old mid new before five
 
+-- ---- planes with skipped pixels, or without
+masked-begin : (p : GrayScale) (steps : Counts) → CountsMasked p 0 steps steps
+masked-begin p steps = record { decisions = omega arith; run_tests = refl; words = omega arith; loads = omega arith }
+
+masked-more : (p : GrayScale) (i : ℕ) (old mid new : Counts) → CountsMasked p i old mid → CountsSkipping p.skip_mask p.width p.height mid new → CountsMasked p (i + 1) old new
+masked-more p i old mid new before one = record {
+  decisions = rw (one-more i (kept_pixels p.skip_mask p.width p.height)) (omega (arith, before.decisions, one.decisions));
+  run_tests = one.run_tests ∙ before.run_tests;
+  words = rw (one-more i (p.height * skipping_words p.width)) (omega (arith, before.words, one.words));
+  loads = rw (one-more i (p.height * skipping_loads p.width)) (omega (arith, before.loads, one.loads));
+}
+
+pub counts-begin : (p : GrayScale) (bytes : List ℕ) (steps : Counts) → CountsCoded p bytes 0 steps steps
+counts-begin p bytes steps = record { plain = λ _. planes-begin p bytes steps; masked = λ _. masked-begin p steps }
+
+pub counts-more : (p : GrayScale) (bytes : List ℕ) (i : ℕ) (plane : Grid) (coder : Coder) (states : List Context) (old mid new : Counts) (planes : List Grid) → plane ≡ blank p.width p.height false → BehindPlanes p bytes i planes coder states
+    → CountsCoded p bytes i old mid → CountsOne p plane.width plane.height coder.bytes (no_pixels coder.registers states) mid new → CountsCoded p bytes (i + 1) old new
+counts-more p bytes i plane coder states old mid new planes white behind before one = record {
+  plain = λ none. planes-next p bytes i plane coder states old mid new planes white behind (before.plain none) (one.plain none);
+  masked = λ some. masked-more p i old mid new (before.masked some) (subst (λ (g : Grid). CountsSkipping p.skip_mask g.width g.height mid new) white (one.masked some));
+}
+
+-- a plane of which no pixel is skipped
+pub one-plain : (p : GrayScale) (mask : Option (Bor Grid)) (w h : ℕ) (bytes : List ℕ) (start : Region) (before after : Counts) → p.skip_mask ≡ skip_of mask → is_some mask ≡ false → CountsPlane p w h bytes start before after → CountsOne p w h bytes start before after
+one-plain p mask w h bytes start before after is none counts = record {
+  plain = λ _. counts;
+  masked = λ some. absurd (no-some p.skip_mask (is ∙ no-mask mask none) some);
+  lanes = counts.lanes;
+}
+  where
+    no-some : (m : Option Grid) → m ≡ None → is_some m ≡ true → ⊥
+    no-some None none some = cc
+    no-some (Some x) none some = cc
+
+-- a plane of which some may be
+pub one-masked : (p : GrayScale) (mask : Option (Bor Grid)) (adaptive : List AdaptiveTemplatePixel) (w h : ℕ) (bytes : List ℕ) (start : Region) (before after : Counts) → p.skip_mask ≡ skip_of mask → is_some mask ≡ true → adaptive ≡ nominal_pixels p.template
+    → (is_nominal p.template adaptive ≡ true → CountsSkipping (skip_of mask) w h before after) → CountsOne p w h bytes start before after
+one-masked p mask adaptive w h bytes start before after is some at counts =
+    let here = counts (ap (λ (a : List AdaptiveTemplatePixel). is_nominal p.template a) at ∙ nominal p.template) in
+    record {
+      plain = λ none. absurd (some-mask mask some (sym is ∙ none));
+      masked = λ _. subst (λ (m : Option Grid). CountsSkipping m w h before after) (sym is) here;
+      lanes = here.lanes;
+    }
+
 -- what the values take beside the planes
 pub image-lanes : (p : GrayScale) (bytes : List ℕ) (old new : Counts) → CountsImage p bytes old new → CountsLanes p old new
-image-lanes p bytes old new (read, (reads, taken)) = λ coded plain.
-    lanes-of (p.height * p.bits_per_pixel) p.width old read new (reads coded plain).lanes taken
+image-lanes p bytes old new (read, (reads, taken)) =
+    lanes-of (p.height * p.bits_per_pixel) p.width old read new reads.lanes taken
   where
     lanes-of : (rows w : ℕ) (old read new : Counts) → KeepsLanes old read → new ≡ after_lane_rows rows w read → TakesLanes rows w old new
     lanes-of rows w old read new stay taken =

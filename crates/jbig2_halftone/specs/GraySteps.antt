@@ -1,10 +1,11 @@
 -- The steps of gray-scale images (our own rule): what reading the planes may load, write and decide, and how many loads
 -- take the values out of them, by lanes of eight pixels.
-use Rattle.std.specs.Prelude.{ℕ, zero, suc, ◌≡◌, ◌≤◌, ◌+◌, ◌*◌, ◌/◌, ◌%◌, Bool, true, false, List, None}
+use Rattle.std.specs.Prelude.{ℕ, zero, suc, ◌≡◌, ◌≤◌, ◌+◌, ◌*◌, ◌/◌, ◌%◌, Bool, true, false, List, None, is_some}
 use Rattle.jbig2_base.specs.Counts.{Counts, KeepsLanes}
 use Rattle.jbig2_region.specs.Generic.{coding_of}
 use Rattle.jbig2_region.specs.Raster.{Coding, Region, no_pixels}
 use Rattle.jbig2_region.specs.RunBytes.{CountsRegion, coded_runs, row_loads, row_tests, row_words}
+use Rattle.jbig2_region.specs.Skipping.{CountsSkipping, kept_pixels, skipping_loads, skipping_words}
 use Rattle.jbig2_region.specs.Templates.{template_pixels}
 use Rattle.jbig2_region.specs.declared.template.AdaptiveTemplatePixel.{AdaptiveTemplatePixel}
 use Rattle.jbig2_region.specs.declared.template.GenericTemplatePixels.TheVariants.{Regular}
@@ -40,9 +41,30 @@ pub record CountsPlanes (p : GrayScale) (bytes : List ℕ) (count : ℕ) (before
   pub loads : after.loads ≤ before.loads + count * (p.height * row_loads true p.width)
   pub lanes : KeepsLanes before after
 
--- only planes of the arithmetic coder are counted, and of these those without skipped pixels
-abbrev pub CountsRead : GrayScale → List ℕ → Counts → Counts → Type 0
-CountsRead p bytes before after = p.use_mmr ≡ false → p.skip_mask ≡ None → CountsPlanes p bytes p.bits_per_pixel before after
+-- ---- planes with skipped pixels
+-- the highest planes: a decision for each pixel that is not skipped, and no run test
+pub record CountsMasked (p : GrayScale) (count : ℕ) (before after : Counts) : Type 0 where
+  pub decisions : after.decisions ≡ before.decisions + count * kept_pixels p.skip_mask p.width p.height
+  pub run_tests : after.run_tests ≡ before.run_tests
+  pub words : after.words ≤ before.words + count * (p.height * skipping_words p.width)
+  pub loads : after.loads ≤ before.loads + count * (p.height * skipping_loads p.width)
+
+-- ---- planes that the arithmetic coder wrote
+-- one plane
+pub record CountsOne (p : GrayScale) (w h : ℕ) (bytes : List ℕ) (start : Region) (before after : Counts) : Type 0 where
+  pub plain : p.skip_mask ≡ None → CountsPlane p w h bytes start before after
+  pub masked : is_some p.skip_mask ≡ true → CountsSkipping p.skip_mask w h before after
+  pub lanes : KeepsLanes before after
+
+-- the highest planes
+pub record CountsCoded (p : GrayScale) (bytes : List ℕ) (count : ℕ) (before after : Counts) : Type 0 where
+  pub plain : p.skip_mask ≡ None → CountsPlanes p bytes count before after
+  pub masked : is_some p.skip_mask ≡ true → CountsMasked p count before after
+
+-- MMR data alone isn't counted, but for lanes
+pub record CountsRead (p : GrayScale) (bytes : List ℕ) (before after : Counts) : Type 0 where
+  pub coded : p.use_mmr ≡ false → CountsCoded p bytes p.bits_per_pixel before after
+  pub lanes : KeepsLanes before after
 
 -- ---- the values
 -- how many groups of eight lanes and how many single pixels a row of w pixels has
@@ -81,4 +103,4 @@ pub record TakesLanes (rows w : ℕ) (before after : Counts) : Type 0 where
 
 -- an image's rows, of each plane
 abbrev pub CountsLanes : GrayScale → Counts → Counts → Type 0
-CountsLanes p before after = p.use_mmr ≡ false → p.skip_mask ≡ None → TakesLanes (p.height * p.bits_per_pixel) p.width before after
+CountsLanes p before after = TakesLanes (p.height * p.bits_per_pixel) p.width before after

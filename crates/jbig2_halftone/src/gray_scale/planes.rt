@@ -1,13 +1,13 @@
 //! The coded planes of a gray-scale image, the highest first (T.88, C.5).
-ghost use Rattle.std.specs.Prelude.{◌≡◌, ◌^◌, ◌≤◌, false, length, None, OnOk};
+ghost use Rattle.std.specs.Prelude.{◌≡◌, ◌^◌, ◌≤◌, false, length, OnOk};
 ghost use Rattle.jbig2_base.specs.Answer.{Gives, Leaves};
+ghost use Rattle.jbig2_base.specs.Counts.{KeepsLanes};
 ghost use Rattle.jbig2_base.specs.Grid.{blank};
 ghost use Rattle.jbig2_region.specs.Raster.{fresh_contexts, no_pixels};
-ghost use Rattle.jbig2_region.specs.Skipping.{skip_of};
 ghost use Rattle.jbig2_region.specs.Templates.{context_bits};
 ghost use Rattle.jbig2_region.specs.inner.Holds.{DecodesRegion};
 ghost use Rattle.jbig2_halftone.specs.GrayScale.{gray_view, nominal_pixels, plane_coding, mmr_plane, planes_by_coder, planes_by_mmr, planes_of, planes_contexts, after_planes, image_is_too_large};
-ghost use Rattle.jbig2_halftone.specs.GraySteps.{CountsPlane, CountsPlanes, CountsRead};
+ghost use Rattle.jbig2_halftone.specs.GraySteps.{CountsCoded, CountsOne, CountsRead};
 
 use crate::gray_scale::GrayScaleParams;
 use jbig2_base::bitmap::Bitmap;
@@ -51,7 +51,7 @@ fn decode_plane<M: Allocator, A: Allocator, L: Ledger>(
     requires white { plane.old ≡ blank plane.old.width plane.old.height false }
     requires contexts { length contexts.old ≡ 2 ^ context_bits params.now.template }
     ensures holds { DecodesRegion (plane_coding (gray_view params.now)) plane.old decoder.old contexts.old plane.new decoder.new contexts.new }
-    ensures steps { skip_of params.now.skip_mask ≡ None → CountsPlane (gray_view params.now) plane.old.width plane.old.height decoder.old.bytes
+    ensures steps { CountsOne (gray_view params.now) plane.old.width plane.old.height decoder.old.bytes
         (no_pixels decoder.old.registers contexts.old) steps.old steps.new }
 {
     let adaptive = nominal_pixels(params.template);
@@ -91,7 +91,8 @@ fn read_coded_planes<M: Allocator, A: Allocator + Clone, L: Ledger>(
     requires fresh { contexts.old ≡ fresh_contexts (context_bits params.now.template) }
     ensures value { Gives (λ planes. planes.items) result (planes_by_coder (gray_view params.now) bytes.now) }
     ensures contexts { Leaves result contexts.new (after_planes (gray_view params.now) bytes.now params.now.bits_per_pixel).contexts }
-    ensures steps { OnOk result (skip_of params.now.skip_mask ≡ None → CountsPlanes (gray_view params.now) bytes.now params.now.bits_per_pixel steps.old steps.new) }
+    ensures steps { OnOk result (CountsCoded (gray_view params.now) bytes.now params.now.bits_per_pixel steps.old steps.new) }
+    ensures lanes { OnOk result (KeepsLanes steps.old steps.new) }
     ensures no_planes { params.now.bits_per_pixel ≡ 0 → OnOk result (steps.new ≡ steps.old) }
 {
     let mut decoder = ArithmeticDecoder::new(bytes);
@@ -113,7 +114,8 @@ fn read_mmr_plane<'a, M: Allocator, A: Allocator, L: Ledger>(
 ) -> Result<(Bitmap<A>, &'a [u8])>
     requires columns { params.now.width ≤ 65535 }
     requires rows { params.now.height ≤ 65535 }
-    ensures { Gives (λ read. (read.0, read.1.now)) result (mmr_plane (gray_view params.now) bytes.now) }
+    ensures value { Gives (λ read. (read.0, read.1.now)) result (mmr_plane (gray_view params.now) bytes.now) }
+    ensures lanes { KeepsLanes steps.old steps.new }
 {
     let mut plane = Bitmap::new(alloc, params.width, params.height)?;
     let used = match mmr::decode(&mut plane, bytes, params.strict, steps) {
@@ -132,6 +134,7 @@ fn read_mmr_planes<M: Allocator, A: Allocator + Clone, L: Ledger>(
 ) -> Result<Vec<Bitmap<A>, A>>
     requires sides { image_is_too_large (gray_view params.now) ≡ false }
     ensures value { Gives (λ planes. planes.items) result (planes_by_mmr (gray_view params.now) bytes.now) }
+    ensures lanes { OnOk result (KeepsLanes steps.old steps.new) }
     ensures no_planes { params.now.bits_per_pixel ≡ 0 → OnOk result (steps.new ≡ steps.old) }
 {
     let mut rest = bytes;

@@ -1,7 +1,8 @@
 use Rattle.std.proofs.Common.{◌≡◌, ℕ, false, subst, arith}
+use Rattle.jbig2_base.proofs.LaneCounts.{lanes-none, lanes-then}
 use Rattle.jbig2_halftone.specs.GrayScale.{GrayScale, gray_view}
-use Rattle.jbig2_halftone.specs.GraySteps.{CountsPlanes}
-use Rattle.jbig2_halftone.proofs.GrayCounts.{none-left, none-more, none-start, planes-begin, planes-next}
+use Rattle.jbig2_halftone.specs.GraySteps.{CountsCoded}
+use Rattle.jbig2_halftone.proofs.GrayCounts.{counts-begin, counts-more, none-left, none-more, none-start}
 use Rattle.jbig2_halftone.proofs.PatternLemmas.{blank-made}
 use Rattle.jbig2_halftone.proofs.PlaneLemmas.{image-sides, behind-none, coded-holds, coded-next, coded-all, coded-contexts}
 use Rattle.jbig2_halftone.proofs.gray_scale.planes.read_coded_planes.Goals as goal
@@ -9,7 +10,8 @@ use Rattle.jbig2_halftone.proofs.gray_scale.planes.read_coded_planes.Goals as go
 pub loop-init : goal.loop-init
 loop-init g c = record {
   behind = behind-none (gray_view c.args.params.now) c.args.bytes.now c.new-planes.result.items c.new-decoder.result c.args.contexts.now c.new-planes.ensures.items c.new-decoder.ensures.bytes c.new-decoder.ensures.registers c.requires.fresh;
-  counts = λ _. planes-begin (gray_view c.args.params.now) c.args.bytes.now c.args.steps.now;
+  counts = counts-begin (gray_view c.args.params.now) c.args.bytes.now c.args.steps.now;
+  lanes = lanes-none c.args.steps.now;
   none = none-start c.args.steps.now;
 }
 
@@ -21,7 +23,8 @@ loop-preserved g c =
     let holds = coded-holds p c.args.bytes.now c.loop.counter c.loop.planes.items c.in_ok-plane.plane c.decode_plane.new.plane c.loop.decoder c.decode_plane.new.decoder c.loop.contexts c.decode_plane.new.contexts white c.decode_plane.ensures.holds c.loop.invariant.behind in
     record {
       behind = coded-next p c.args.bytes.now c.loop.counter c.loop.planes.items c.push.new.self.items c.decode_plane.new.plane c.loop.decoder c.decode_plane.new.decoder c.loop.contexts c.decode_plane.new.contexts holds c.in_ok-push.ensures.items c.loop.invariant.behind;
-      counts = λ none. planes-next p c.args.bytes.now c.loop.counter c.in_ok-plane.plane c.loop.decoder c.loop.contexts c.args.steps.now c.loop.steps c.decode_plane.new.steps c.loop.planes.items white c.loop.invariant.behind (c.loop.invariant.counts none) (c.decode_plane.ensures.steps none);
+      counts = counts-more p c.args.bytes.now c.loop.counter c.in_ok-plane.plane c.loop.decoder c.loop.contexts c.args.steps.now c.loop.steps c.decode_plane.new.steps c.loop.planes.items white c.loop.invariant.behind c.loop.invariant.counts c.decode_plane.ensures.steps;
+      lanes = lanes-then c.args.steps.now c.loop.steps c.decode_plane.new.steps c.loop.invariant.lanes c.decode_plane.ensures.steps.lanes;
       none = none-more c.loop.counter c.args.steps.now c.decode_plane.new.steps;
     }
 
@@ -32,9 +35,9 @@ pub returns-clause-contexts : goal.returns-clause-contexts
 returns-clause-contexts g c = coded-contexts (gray_view c.args.params.now) c.args.bytes.now c.loop.counter c.loop.planes.items c.loop.decoder c.loop.contexts (omega arith) c.loop.invariant.behind
 
 pub returns-clause-steps : goal.returns-clause-steps
-returns-clause-steps g c = λ none.
+returns-clause-steps g c =
     let all : c.loop.counter ≡ c.args.params.now.bits_per_pixel = omega arith in
-    subst (λ (n : ℕ). CountsPlanes (gray_view c.args.params.now) c.args.bytes.now n c.args.steps.now c.loop.steps) all (c.loop.invariant.counts none)
+    subst (λ (n : ℕ). CountsCoded (gray_view c.args.params.now) c.args.bytes.now n c.args.steps.now c.loop.steps) all c.loop.invariant.counts
 
 pub returns-clause-no_planes : goal.returns-clause-no_planes
 returns-clause-no_planes g c = λ none. none-left c.loop.counter c.args.steps.now c.loop.steps c.loop.invariant.none (omega arith)

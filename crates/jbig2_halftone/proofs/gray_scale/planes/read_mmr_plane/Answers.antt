@@ -4,8 +4,8 @@ use Rattle.jbig2_halftone.proofs.PatternLemmas.{blank-made}
 use Rattle.jbig2_halftone.proofs.PlaneLemmas.{mmr-made, drop-whole, plane-made, plane-fault}
 use Rattle.jbig2_halftone.proofs.gray_scale.planes.read_mmr_plane.Goals as goal
 
-pub returns-in-Err : goal.returns-in-Err
-returns-in-Err g c =
+pub returns-in-Err-clause-value : goal.returns-in-Err-clause-value
+returns-in-Err-clause-value g c =
     let p : GrayScale = gray_view c.args.params.now in
     let white = blank-made p.width p.height false c.in_ok-plane.plane c.requires.columns c.requires.rows c.in_ok-plane.ensures in
     inr (plane-fault p c.in_ok-plane.plane c.args.bytes.now c.in-Err.error white c.in-Err.ensures.value)
@@ -23,8 +23,8 @@ slice_bounds-result-count g c =
     let white = blank-made p.width p.height false c.in_ok-plane.plane c.requires.columns c.requires.rows c.in_ok-plane.ensures in
     (mmr-made p c.in_ok-plane.plane c.decode.new.bitmap c.args.bytes.now c.in-Ok.used white c.in-Ok.ensures.value).2
 
-pub returns : goal.returns
-returns g c =
+pub returns-clause-value : goal.returns-clause-value
+returns-clause-value g c =
     let p : GrayScale = gray_view c.args.params.now in
     let white = blank-made p.width p.height false c.in_ok-plane.plane c.requires.columns c.requires.rows c.in_ok-plane.ensures in
     plane-made p c.in_ok-plane.plane c.decode.new.bitmap c.args.bytes.now c.in-Ok.used _ white c.in-Ok.ensures.value (drop-whole c.in-Ok.used c.args.bytes.now)

@@ -1,3 +1,4 @@
+use Rattle.jbig2_base.specs.Counts.{KeepsLanes}
 use Rattle.jbig2_halftone.specs.GrayScale.{gray_view}
 use Rattle.jbig2_halftone.proofs.GrayCounts.{NoneYet}
 use Rattle.jbig2_halftone.proofs.PlaneLemmas.{ReadsMmr}
@@ -6,5 +7,6 @@ use Rattle.jbig2_halftone.proofs.gray_scale.planes.read_mmr_planes.Given as goal
 abbrev pub invariant-loop : goal.invariant-loop
 invariant-loop g l = record {
   reads : ReadsMmr (gray_view l.params) l.bytes l.counter l.planes.items l.rest;
+  lanes : KeepsLanes l.fn.steps l.steps;
   none : NoneYet l.counter l.fn.steps l.steps;
 }
