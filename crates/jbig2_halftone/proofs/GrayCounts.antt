@@ -1,9 +1,8 @@
 -- What the planes of an image take.
-use Rattle.std.proofs.Common.{◌≡◌, ℕ, zero, suc, ◌+◌, ◌-◌, ◌*◌, ◌/◌, ◌%◌, ◌<◌, ◌≤◌, Bool, true, false, List, Option, None, Some, add-one, add-mul, refl, sym, ap, subst, ◌∙◌, ⊎_elim, arith}
+use Rattle.std.proofs.Common.{◌≡◌, ℕ, zero, suc, ◌+◌, ◌*◌, ◌/◌, ◌%◌, ◌≤◌, Bool, true, false, List, Option, None, Some, add-one, add-mul, refl, sym, ap, subst, ◌∙◌, arith}
 use Rattle.std.specs.Borrow.{Bor}
-use Rattle.std.specs.Prelude.{is_some, if◌then◌else◌}
+use Rattle.std.specs.Prelude.{is_some}
 use Rattle.std.proofs.Math.Nat.{mul-le-mul_left}
-use Rattle.std.proofs.lemmas.Bool.{cases_lt}
 use Rattle.jbig2_base.proofs.LaneCounts.{lanes-none, lanes-then}
 use Rattle.jbig2_base.specs.Counts.{Counts, KeepsLanes}
 use Rattle.jbig2_base.specs.Grid.{Grid, blank}
@@ -11,7 +10,7 @@ use Rattle.jbig2_coder.specs.Coder.{Coder, Context}
 use Rattle.jbig2_coder.specs.declared.arithmetic_decoder.registers.Registers.{Registers}
 use Rattle.jbig2_region.specs.Generic.{coding_of}
 use Rattle.jbig2_region.specs.inner.Layouts.{read_pixels}
-use Rattle.jbig2_region.specs.Raster.{Region, after_rows, row_begun, no_pixels}
+use Rattle.jbig2_region.specs.Raster.{Region, row_begun, no_pixels}
 use Rattle.jbig2_region.specs.RunBytes.{CountsRegion, coded_rows, coded_runs, row_loads, row_tests, row_words}
 use Rattle.jbig2_region.specs.Skipping.{CountsSkipping, kept_pixels, skip_of, skipping_loads, skipping_words}
 use Rattle.jbig2_region.specs.Templates.{is_nominal, template_pixels}

@@ -1,4 +1,4 @@
-use Rattle.std.proofs.Common.{◌≡◌, not, ap, refl, ◌∙◌}
+use Rattle.std.proofs.Common.{not, ap, refl, ◌∙◌}
 use Rattle.jbig2_halftone.specs.GrayScale.{gray_view}
 use Rattle.jbig2_halftone.proofs.GrayCounts.{one-masked, one-plain, plain-counts}
 use Rattle.jbig2_halftone.proofs.PlaneLemmas.{unskipped, no-mask}

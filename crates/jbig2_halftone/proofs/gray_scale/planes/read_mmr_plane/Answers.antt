@@ -1,4 +1,4 @@
-use Rattle.std.proofs.Common.{◌≡◌, ◌≤◌, false, inr, length, rules, sym, ◌∙◌}
+use Rattle.std.proofs.Common.{◌≤◌, false, inr, length, rules}
 use Rattle.jbig2_halftone.specs.GrayScale.{GrayScale, gray_view}
 use Rattle.jbig2_halftone.proofs.PatternLemmas.{blank-made}
 use Rattle.jbig2_halftone.proofs.PlaneLemmas.{mmr-made, drop-whole, plane-made, plane-fault}
