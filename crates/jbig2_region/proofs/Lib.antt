@@ -6,6 +6,7 @@ pub mod GenericLemmas
 pub mod GroupLemmas
 pub mod PixelLemmas
 pub mod RasterLemmas
+pub mod RefinementLaneLemmas
 pub mod RefinementLemmas
 pub mod RegionLemmas
 pub mod RegisterLemmas

@@ -5,7 +5,8 @@ use Rattle.std.proofs.lemmas.Int.{ints}
 use Rattle.std.proofs.lemmas.Nat.{shr-shr}
 use Rattle.jbig2_base.specs.Grid.{Grid, pixel, pixel_at, bit_number}
 use Rattle.jbig2_base.specs.inner.WordBits.{bit}
-use Rattle.jbig2_base.proofs.BitLemmas.{bit-above, bit-zero, bit_number-bit}
+use Rattle.jbig2_base.proofs.BitLemmas.{bit-above, bit-shl_high, bit-shl_low, bit-shr, bit-zero, bit_number-bit}
+use Rattle.jbig2_base.proofs.GridLemmas.{pixel_at-right}
 use Rattle.jbig2_region.specs.Generic.{number_of}
 use Rattle.jbig2_region.specs.Refinement.{Reference, reference_pixel, region_pixel, refined_context, nine, common_colour, predicted_colour}
 use Rattle.jbig2_region.specs.RefinementTemplates.{apart, reference_pixels, region_pixels}
@@ -50,6 +51,27 @@ sees-inside g column row word c r is_column is_row bits = λ k inside.
 pub sees-at : (g : Grid) (column column' row row' : ℤ) (word : ℕ) → Sees g column row word → column ≡ column' → row ≡ row' → Sees g column' row' word
 sees-at g column column' row row' word sees is_column is_row = λ k inside.
     sees k inside ∙ ap (λ (z : ℤ). pixel g (z +ℤ pos k) row) is_column ∙ ap (λ (z : ℤ). pixel g (column' +ℤ pos k) z) is_row
+
+-- the window on a row whose pixels are the lowest bits of a number
+pub sees-row : (g : Grid) (y width pixels : ℕ) → 1 ≤ width → width ≤ 32 → g.width ≡ width → ((k : ℕ) → k < width → bit pixels (width - 1 - k) ≡ pixel_at g k y) → Sees g (negsuc 0) (pos y) (pixels * 2 ^ (64 - width) % 2 ^ 64 / 2 ^ 1)
+sees-row g y width pixels some few all bits = λ k inside.
+    bit-shr (pixels * 2 ^ (64 - width) % 2 ^ 64) 1 (63 - k)
+    ∙ ⊎_elim
+    (λ (first : k < 1).
+    let column : negsuc 0 +ℤ pos k ≡ negsuc 0 = omega (arith, ints) in
+    bit-above (pixels * 2 ^ (64 - width) % 2 ^ 64) 64 (1 + (63 - k)) (omega arith) (omega arith) ∙ sym (pixel-left_of_all g (negsuc 0 +ℤ pos k) (pos y) 0 column))
+    (λ (later : 1 ≤ k).
+    let column : negsuc 0 +ℤ pos k ≡ pos (k - 1) = omega (arith, ints) in
+    ⊎_elim
+    (λ (within : k - 1 < width).
+    let place : 1 + (63 - k) - (64 - width) ≡ width - 1 - (k - 1) = omega arith in
+    bit-shl_high pixels (64 - width) 64 (1 + (63 - k)) (omega arith) (omega arith) ∙ ap (λ (n : ℕ). bit pixels n) place ∙ bits (k - 1) within
+    ∙ sym (pixel-inside g (negsuc 0 +ℤ pos k) (pos y) (k - 1) y column refl))
+    (λ (behind : width ≤ k - 1).
+    bit-shl_low pixels (64 - width) 64 (1 + (63 - k)) (omega arith) (omega arith)
+    ∙ sym (pixel-inside g (negsuc 0 +ℤ pos k) (pos y) (k - 1) y column refl ∙ pixel_at-right g (k - 1) y (omega arith)))
+    (cases_lt (k - 1) width))
+    (cases_lt k 1)
 
 -- ---- three pixels of a window
 pub three-bits : (n j : ℕ) → n / 2 ^ j % 8 ≡ bit_number (bit n j) + bit_number (bit n (j + 1)) * 2 + bit_number (bit n (j + 2)) * 4

@@ -15,12 +15,12 @@ use Rattle.jbig2_region.proofs.ContextBits.{context-append, side-context, length
 use Rattle.jbig2_region.proofs.WindowLemmas.{left-context, same-above}
 
 -- ---- the bits of a number of two parts
-bit-placed : (low n m j : ℕ) → low < 2 ^ m → bit (low + n * 2 ^ m) (m + j) ≡ bit n j
+pub bit-placed : (low n m j : ℕ) → low < 2 ^ m → bit (low + n * 2 ^ m) (m + j) ≡ bit n j
 bit-placed low n m j small =
     let order : low + n * 2 ^ m ≡ n * 2 ^ m + low = omega arith in
     sym (bit-shr (low + n * 2 ^ m) m j) ∙ ap (λ (k : ℕ). bit (k / 2 ^ m) j) order ∙ ap (λ (k : ℕ). bit k j) (div-mul-add n (2 ^ m) low small)
 
-bit-low : (low n m j : ℕ) → j < m → bit (low + n * 2 ^ m) j ≡ bit low j
+pub bit-low : (low n m j : ℕ) → j < m → bit (low + n * 2 ^ m) j ≡ bit low j
 bit-low low n m j inside = sym (bit-mod (low + n * 2 ^ m) m j inside) ∙ ap (λ (k : ℕ). bit k j) (add-mul-mod_self_right low n (2 ^ m)) ∙ bit-mod low m j inside
 
 -- ---- the register after k pixels

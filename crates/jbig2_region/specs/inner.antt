@@ -5,5 +5,6 @@ pub mod LongRuns
 pub mod Masks
 pub mod Neighbours
 pub mod RefinementBlocks
+pub mod RefinementLanes
 pub mod RefinementViews
 pub mod RefinementWindows

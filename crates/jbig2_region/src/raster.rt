@@ -1,6 +1,6 @@
 //! Regions that are decoded pixel by pixel (T.88, 6.2.5 and 6.3.5): what generic regions and
 //! refinements have in common.
-ghost use Rattle.std.specs.Prelude.{◌≡◌, ℕ, ◌+◌, ◌*◌, ◌^◌, ◌<◌, ◌≤◌, [], length, IfSome, false, Ok};
+ghost use Rattle.std.specs.Prelude.{◌≡◌, ℕ, ◌+◌, ◌*◌, ◌^◌, ◌<◌, ◌≤◌, [], length, IfSome, false, Ok, Some};
 ghost use Rattle.jbig2_base.specs.Answer.{Gives};
 ghost use Rattle.jbig2_base.specs.Grid.{Grid, pixel, bit_number};
 ghost use Rattle.jbig2_region.specs.Decisions.{CountsDecided};
@@ -153,7 +153,32 @@ fn decode_row<C: PixelCoding, A: Allocator, L: Ledger>(
 }
 
 /// The decision that begins a row, in the context of this number: whether the row is predicted, where
-/// the row above was if `predicted` says so. None where no decision begins a row.
+/// the row above was if `predicted` says so.
+#[inline(never)]
+fn decide_row<L: Ledger>(
+    context: u32,
+    predicted: bool,
+    decoder: &mut ArithmeticDecoder<'_>,
+    contexts: &mut [ArithmeticDecoderContext],
+    steps: &mut Steps<L>,
+) -> bool
+    requires context { context < length contexts.old }
+    ensures row { (w h : ℕ) (grid : Grid) (r : Region) → r.predicted ≡ predicted
+        → Holds w h decoder.old.bytes r grid decoder.old contexts.old
+        → BeginsRow w h (Some context) r result grid decoder.old decoder.new contexts.new }
+    ensures bytes { decoder.new.bytes ≡ decoder.old.bytes }
+    ensures steps { steps.new
+        ≡ record steps.old { decisions = steps.old.decisions + row_decisions (Some context) } }
+{
+    let turned = decoder.decode(&mut contexts[context as usize], steps) == 1;
+    if turned {
+        return !predicted;
+    }
+    predicted
+}
+
+/// The same, or what holds of the row above where no decision begins a row.
+#[inline(always)]
 pub fn begin_row<L: Ledger>(
     row_context: Option<u32>,
     predicted: bool,
@@ -172,11 +197,7 @@ pub fn begin_row<L: Ledger>(
     let Some(context) = row_context else {
         return predicted;
     };
-    let turned = decoder.decode(&mut contexts[context as usize], steps) == 1;
-    if turned {
-        return !predicted;
-    }
-    predicted
+    decide_row(context, predicted, decoder, contexts, steps)
 }
 
 /// A whole region, into a white bitmap of its size.

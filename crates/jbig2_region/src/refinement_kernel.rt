@@ -1,6 +1,8 @@
 //! The kernel of refinements (T.88, 6.3) whose template lies about the pixel that is decoded: contexts
 //! and predicted colours come from windows on the rows.
 ghost use Rattle.std.specs.Prelude.{◌≡◌, ℕ, ◌+◌, ◌-◌, ◌*◌, ◌/◌, ◌%◌, ◌^◌, ◌<◌, ◌≤◌, length, false, if◌then◌else◌, Some, None, IfSome};
+ghost use Rattle.jbig2_base.specs.Grid.{pixel_at};
+ghost use Rattle.jbig2_base.specs.inner.WordBits.{bit};
 ghost use Rattle.jbig2_region.specs.Decisions.{CountsDecided};
 ghost use Rattle.jbig2_region.specs.Raster.{no_pixels};
 ghost use Rattle.jbig2_region.specs.RefinementSteps.{window_loads};
@@ -9,12 +11,15 @@ ghost use Rattle.jbig2_region.specs.inner.Codes.{Codes, CountsCodes, Takes};
 ghost use Rattle.jbig2_region.specs.inner.Holds.{DecodesRegion, IsReady};
 ghost use Rattle.jbig2_region.specs.inner.Neighbours.{IsLeft};
 ghost use Rattle.jbig2_region.specs.inner.RefinementBlocks.{MovesBlock};
-ghost use Rattle.jbig2_region.specs.inner.RefinementWindows.{context_of, four_of, known_of, nine_of, windowed_coding};
+ghost use Rattle.jbig2_region.specs.inner.RefinementViews.{reference_view};
+ghost use Rattle.jbig2_region.specs.inner.RefinementWindows.{SeesRows, context_of, known_of, nine_of, three_of, windowed_coding};
 
+mod lanes;
 mod windows;
 
 use crate::generic_refinement::ReferenceBitmap;
 use crate::raster::{Row, begin_row};
+use crate::refinement_kernel::lanes::{lanes_at, lanes_context};
 use crate::refinement_kernel::windows::{RefinementWindows, context, known_colour, windows_at};
 use crate::template::RefinementTemplate;
 use crate::template::refinement::row_context;
@@ -59,58 +64,55 @@ fn decode_pixel<L: Ledger>(
     decoder.decode(&mut contexts[context as usize], steps)
 }
 
-/// The pixel `offset` columns behind the windows' column, where the row isn't predicted: `pixels`
-/// are those at the left, and it comes in at their low end.
+/// The next pixel, 1 for black, in the context of this number.
 #[inline(always)]
-fn push_pixel<L: Ledger>(
-    template: RefinementTemplate,
-    windows: RefinementWindows,
-    offset: u32,
-    pixels: u64,
+fn decide_pixel<L: Ledger>(
+    context: u32,
     decoder: &mut ArithmeticDecoder<'_>,
     contexts: &mut [ArithmeticDecoderContext],
     steps: &mut Steps<L>,
-) -> u64
-    requires offset { offset < 32 }
-    requires room { pixels < 2 ^ 62 }
-    requires contexts { length contexts.old ≡ 2 ^ refinement_bits template }
-    ensures takes { Takes None
-        (context_of template (nine_of windows offset) (four_of windows pixels offset))
-        decoder.old contexts.old steps.old
-        (result - pixels * 2) decoder.new contexts.new steps.new }
-    ensures pushed { pixels * 2 ≤ result }
-    ensures digit { result < pixels * 2 + 2 }
+) -> u32
+    requires context { context < length contexts.old }
+    ensures takes { Takes None context
+        decoder.old contexts.old steps.old result decoder.new contexts.new steps.new }
+    ensures digit { result < 2 }
     ensures contexts { length contexts.new ≡ length contexts.old }
 {
-    let nine = windows.nine(offset);
-    let four = windows.four(pixels, offset);
-    let symbol = decode_pixel(template, false, nine, four, decoder, contexts, steps);
-    pixels * 2 + u64::from(symbol)
+    decoder.decode(&mut contexts[context as usize], steps)
 }
 
-/// Four pixels as by `push_pixel`, whose places in the windows are the same in each call.
+/// The next `count` pixels of a row that isn't predicted, at most thirteen, from the column `offset`
+/// right of the windows' column on: `pixels` are those at the left, and they come in at their low end.
 #[inline(always)]
-fn push_four<L: Ledger>(
+fn push_pixels<L: Ledger>(
     template: RefinementTemplate,
     windows: RefinementWindows,
     offset: u32,
+    count: u32,
     pixels: u64,
     decoder: &mut ArithmeticDecoder<'_>,
     contexts: &mut [ArithmeticDecoderContext],
     steps: &mut Steps<L>,
 ) -> u64
-    requires offset { offset ≤ 28 }
-    requires room { pixels < 2 ^ 32 }
+    requires few { count ≤ 13 }
+    requires offset { offset < 32 }
+    requires within { offset + count ≤ 32 }
+    requires room { pixels < 16 * 2 ^ offset }
     requires contexts { length contexts.old ≡ 2 ^ refinement_bits template }
-    ensures block { MovesBlock template windows offset 4
+    ensures block { MovesBlock template windows offset count
         pixels decoder.old contexts.old steps.old result decoder.new contexts.new steps.new }
     ensures contexts { length contexts.new ≡ length contexts.old }
 {
-    let near = windows.moved(offset);
-    let first = push_pixel(template, near, 0, pixels, decoder, contexts, steps);
-    let second = push_pixel(template, near, 1, first, decoder, contexts, steps);
-    let third = push_pixel(template, near, 2, second, decoder, contexts, steps);
-    push_pixel(template, near, 3, third, decoder, contexts, steps)
+    let mut lanes = lanes_at(windows, offset);
+    let mut context = lanes_context(template, lanes, (pixels % 2) as u32);
+    let mut pixels = pixels;
+    for _ in 0..count {
+        let symbol = decide_pixel(context, decoder, contexts, steps);
+        lanes <<= 1;
+        context = lanes_context(template, lanes, symbol);
+        pixels = pixels * 2 + u64::from(symbol);
+    }
+    pixels
 }
 
 /// Of `count` columns those whose pixels are decided without a look at the prediction: all, unless
@@ -126,8 +128,21 @@ fn decided_columns(predicted: bool, count: u32) -> u32
     count
 }
 
-/// The `count` pixels from column `x` of a row on, at most 32. Answers the four pixels left of the next
-/// column.
+/// Of `count` columns those that `white_columns` finds, if they are looked for at all.
+#[inline(always)]
+fn looked_for(look: bool, windows: RefinementWindows, count: u32) -> u32
+    ensures most { result ≤ count }
+    ensures nine { 0 < result → (k : ℕ) → k < 32 → nine_of windows k ≡ 0 }
+    ensures region { 0 < result → (k : ℕ) → k < 32 → three_of windows.region k ≡ 0 }
+{
+    if look {
+        return windows.white_columns(count);
+    }
+    0
+}
+
+/// The `count` pixels from column `x` of a row on, at most 32: they are the lowest bits of the answer,
+/// above which stand those at the left. Where all is white is looked for if `look` says so.
 #[inline(always)]
 fn decode_block<A: Allocator, B: Allocator, L: Ledger>(
     coding: &WindowedCoding<'_, B>,
@@ -135,25 +150,27 @@ fn decode_block<A: Allocator, B: Allocator, L: Ledger>(
     x: u32,
     count: u32,
     left: u32,
+    windows: RefinementWindows,
+    look: bool,
     bitmap: &mut Bitmap<A>,
     decoder: &mut ArithmeticDecoder<'_>,
     contexts: &mut [ArithmeticDecoderContext],
     steps: &mut Steps<L>,
-) -> u32
+) -> u64
     requires contexts { length contexts.old ≡ 2 ^ refinement_bits coding.now.template }
     requires some { 1 ≤ count }
     requires few { count ≤ 32 }
     requires aligned { x % 32 ≡ 0 }
     requires columns { x + count ≤ bitmap.old.width }
     requires row { row.y < bitmap.old.height }
-    requires widths { bitmap.old.width ≤ 65535 }
-    requires heights { bitmap.old.height ≤ 65535 }
     requires left { IsLeft bitmap.old x row.y left }
     requires small { left < 16 }
+    requires sees { SeesRows bitmap.old (reference_view coding.now.reference.now) x row.y windows }
     ensures holds { Codes (windowed_coding coding.now) row.predicted x row.y count
         bitmap.old decoder.old contexts.old bitmap.new decoder.new contexts.new }
-    ensures left { IsLeft bitmap.new (x + count) row.y result }
-    ensures small { result < 16 }
+    ensures left { IsLeft bitmap.new (x + count) row.y (result % 16) }
+    ensures value { (k : ℕ) → k < count
+        → bit result (count - 1 - k) ≡ pixel_at bitmap.new (x + k) row.y }
     ensures width { bitmap.new.width ≡ bitmap.old.width }
     ensures height { bitmap.new.height ≡ bitmap.old.height }
     ensures bytes { decoder.new.bytes ≡ decoder.old.bytes }
@@ -161,13 +178,12 @@ fn decode_block<A: Allocator, B: Allocator, L: Ledger>(
     ensures decisions { CountsCodes (windowed_coding coding.now) row.predicted x row.y count
         bitmap.old decoder.old contexts.old steps.old.decisions steps.new.decisions }
     ensures run_tests { steps.new.run_tests ≡ steps.old.run_tests }
-    ensures loads { steps.new.loads ≡ steps.old.loads + 4 }
+    ensures loads { steps.new.loads ≡ steps.old.loads }
     ensures words { steps.new.words ≡ steps.old.words + 1 }
 {
-    let windows = windows_at(bitmap, coding.reference, x, row.y, steps);
     let template = coding.template;
     let decided = decided_columns(row.predicted, count);
-    let white = windows.white_columns(decided);
+    let white = looked_for(look, windows, decided);
     let mut pixels = u64::from(left);
     let mut done = 0;
     while done < white && pixels % 2 == 0 {
@@ -175,9 +191,12 @@ fn decode_block<A: Allocator, B: Allocator, L: Ledger>(
         pixels = pixels * 2 + u64::from(symbol);
         done += 1;
     }
-    while done + 4 <= decided {
-        pixels = push_four(template, windows, done, pixels, decoder, contexts, steps);
-        done += 4;
+    while done < decided {
+        let more = (decided - done).min(13);
+        pixels = push_pixels(
+            template, windows, done, more, pixels, decoder, contexts, steps,
+        );
+        done += more;
     }
     for offset in done..count {
         let nine = windows.nine(offset);
@@ -194,7 +213,7 @@ fn decode_block<A: Allocator, B: Allocator, L: Ledger>(
         pixels = pixels * 2 + u64::from(symbol);
     }
     bitmap.store_pixels(x, row.y, count, pixels, steps);
-    (pixels % 16) as u32
+    pixels
 }
 
 /// A row, whose rows above are decoded.
@@ -228,9 +247,11 @@ fn decode_row<A: Allocator, B: Allocator, L: Ledger>(
     for index in 0..width.div_ceil(32) {
         let x = index * 32;
         let count = (width - x).min(32);
-        left = decode_block(
-            coding, row, x, count, left, bitmap, decoder, contexts, steps,
+        let windows = windows_at(bitmap, coding.reference, x, row.y, steps);
+        let pixels = decode_block(
+            coding, row, x, count, left, windows, true, bitmap, decoder, contexts, steps,
         );
+        left = (pixels % 16) as u32;
     }
 }
 
@@ -243,6 +264,40 @@ fn typical_context(template: RefinementTemplate, typical: bool) -> Option<u32>
         return Some(row_context(template));
     }
     None
+}
+
+/// A whole region of at most 32 columns, into a white bitmap of its size: each row's windows are made
+/// out of those of the row above.
+#[inline(always)]
+fn decode_narrow<A: Allocator, B: Allocator, L: Ledger>(
+    coding: &WindowedCoding<'_, B>,
+    bitmap: &mut Bitmap<A>,
+    decoder: &mut ArithmeticDecoder<'_>,
+    contexts: &mut [ArithmeticDecoderContext],
+    steps: &mut Steps<L>,
+)
+    requires ready { IsReady (refinement_bits coding.now.template) bitmap.old contexts.old }
+    requires some { 1 ≤ bitmap.old.width }
+    requires few { bitmap.old.width ≤ 32 }
+    requires rows { 1 ≤ bitmap.old.height }
+    ensures holds { DecodesRegion (windowed_coding coding.now)
+        bitmap.old decoder.old contexts.old bitmap.new decoder.new contexts.new }
+    ensures steps { CountsDecided (windowed_coding coding.now)
+        (window_loads bitmap.old.width) bitmap.old.width bitmap.old.height decoder.old.bytes
+        (no_pixels decoder.old.registers contexts.old) steps.old steps.new }
+{
+    let width = bitmap.width();
+    let row_context = typical_context(coding.template, coding.typical);
+    let mut predicted = false;
+    let mut windows = windows_at(bitmap, coding.reference, 0, 0, steps);
+    for y in 0..bitmap.height() {
+        predicted = begin_row(row_context, predicted, decoder, contexts, steps);
+        let row = Row { y, predicted };
+        let pixels = decode_block(
+            coding, row, 0, width, 0, windows, false, bitmap, decoder, contexts, steps,
+        );
+        windows = windows.lowered(coding.reference, y + 1, pixels, width, steps);
+    }
 }
 
 /// A whole region, into a white bitmap of its size.
@@ -262,6 +317,10 @@ pub fn decode_windowed<A: Allocator, B: Allocator, L: Ledger>(
         (no_pixels decoder.old.registers contexts.old) steps.old steps.new }
 {
     if bitmap.width() == 0 {
+        return;
+    }
+    if bitmap.width() <= 32 && bitmap.height() > 0 {
+        decode_narrow(coding, bitmap, decoder, contexts, steps);
         return;
     }
     let row_context = typical_context(coding.template, coding.typical);

@@ -21,10 +21,6 @@ pub record Block (coding : Coding) (p : Bool) (x y k : ℕ) (g : Grid) (d0 : Cod
   pub decisions : CountsCodes coding p x y k g d0 s0 t0.decisions t.decisions
   pub steps : t ≡ record t0 { decisions = t.decisions }
 
--- the steps once a block's windows are loaded
-abbrev pub windows_loaded : Counts → Counts
-windows_loaded c = record c { loads = c.loads + 4 }
-
 -- a block before and after n pixels more, from the k-th on, in a row that is not predicted
 abbrev pub MovesBlock : RefinementTemplate → RefinementWindows → ℕ → ℕ → ℕ → Coder → List Context → Counts → ℕ → Coder → List Context → Counts → Type 0
 MovesBlock template w k n pixels d s t pixels' d' s' t' =

@@ -1,6 +1,8 @@
 //! Windows on the rows that a refinement's pixels are taken from: 64 pixels of each, of which one load
 //! serves 32 columns.
 ghost use Rattle.std.specs.Prelude.{◌≡◌, ℕ, ◌+◌, ◌-◌, ◌*◌, ◌/◌, ◌%◌, ◌^◌, ◌<◌, ◌≤◌, pos, negsuc, ◌+ℤ◌, ◌-ℤ◌, ◌<ℤ◌};
+ghost use Rattle.jbig2_base.specs.Grid.{Grid, pixel_at};
+ghost use Rattle.jbig2_base.specs.inner.WordBits.{bit};
 ghost use Rattle.jbig2_region.specs.inner.RefinementViews.{reference_view};
 ghost use Rattle.jbig2_region.specs.inner.RefinementWindows.{Sees, SeesRows, colour_of, context_of, four_of, known_of, nine_of, three_of};
 
@@ -69,6 +71,37 @@ pub fn windows_at<A: Allocator, B: Allocator, L: Ledger>(
     }
 }
 
+/// The last of them alone.
+#[inline(always)]
+fn window_below<B: Allocator, L: Ledger>(
+    reference: &ReferenceBitmap<'_, B>,
+    x: u32,
+    y: u32,
+    steps: &mut Steps<L>,
+) -> u64
+    requires column { x < 65536 }
+    requires row { y < 65536 }
+    ensures value { Sees reference.now.bitmap.now (pos x -ℤ reference.now.dx +ℤ negsuc 0)
+        (pos y -ℤ reference.now.dy +ℤ pos 1) result }
+    ensures steps { steps.new ≡ record steps.old { loads = steps.old.loads + 1 } }
+{
+    let column = i64::from(x) - i64::from(reference.dx) - 1;
+    let row = i64::from(y) - i64::from(reference.dy);
+    window(reference.bitmap, column, row + 1, steps)
+}
+
+/// The window from the column left of a row on, whose pixels are the lowest `width` bits of `pixels`.
+#[inline(always)]
+fn row_window(pixels: u64, width: u32) -> u64
+    requires some { 1 ≤ width }
+    requires few { width ≤ 32 }
+    ensures { (g : Grid) (y : ℕ) → g.width ≡ width
+        → ((k : ℕ) → k < width → bit pixels (width - 1 - k) ≡ pixel_at g k y)
+        → Sees g (negsuc 0) (pos y) result }
+{
+    (pixels << (64 - width)) >> 1
+}
+
 /// Of a window the pixel `offset` columns behind the windows' column, and its two neighbours.
 #[inline(always)]
 fn three(window: u64, offset: u32) -> u32
@@ -80,6 +113,34 @@ fn three(window: u64, offset: u32) -> u32
 }
 
 impl RefinementWindows {
+    /// The windows that serve column 0 of row `y`, out of those of the row above, whose pixels are the
+    /// lowest `width` bits of `pixels`.
+    #[inline(always)]
+    pub fn lowered<B: Allocator, L: Ledger>(
+        self,
+        reference: &ReferenceBitmap<'_, B>,
+        y: u32,
+        pixels: u64,
+        width: u32,
+        steps: &mut Steps<L>,
+    ) -> RefinementWindows
+        requires row { y < 65536 }
+        requires some { 1 ≤ width }
+        requires few { width ≤ 32 }
+        ensures value { (g g' : Grid) (above : ℕ) → y ≡ above + 1
+            → SeesRows g (reference_view reference.now) 0 above self → g'.width ≡ width
+            → ((k : ℕ) → k < width → bit pixels (width - 1 - k) ≡ pixel_at g' k above)
+            → SeesRows g' (reference_view reference.now) 0 y result }
+        ensures steps { steps.new ≡ record steps.old { loads = steps.old.loads + 1 } }
+    {
+        RefinementWindows {
+            region: row_window(pixels, width),
+            above: self.here,
+            here: self.below,
+            below: window_below(reference, 0, y, steps),
+        }
+    }
+
     /// All of `count` columns if the pixels that they are seen with are white, else none.
     #[inline(always)]
     pub fn white_columns(self, count: u32) -> u32
@@ -92,22 +153,6 @@ impl RefinementWindows {
             return count;
         }
         0
-    }
-
-    /// The windows that serve the column so many to the right, and so many columns less.
-    #[inline(always)]
-    pub fn moved(self, pixels: u32) -> RefinementWindows
-        requires few { pixels < 32 }
-        ensures nine { (k : ℕ) → pixels + k < 32 → nine_of result k ≡ nine_of self (pixels + k) }
-        ensures region { (k : ℕ) → pixels + k < 32
-            → three_of result.region k ≡ three_of self.region (pixels + k) }
-    {
-        RefinementWindows {
-            region: self.region << pixels,
-            above: self.above << pixels,
-            here: self.here << pixels,
-            below: self.below << pixels,
-        }
     }
 
     /// The reference's nine pixels about that column, the last of them in bit 0.

@@ -1,73 +1,84 @@
-use Rattle.std.proofs.Common.{arith, ◌≡◌, ℕ, ◌+◌, ◌*◌, ◌%◌, Bool, false, ap, sym, subst}
+use Rattle.std.proofs.Common.{arith, ◌≡◌, ℕ, ◌+◌, ◌-◌, ◌*◌, ◌%◌, ◌≤◌, ◌∙◌, Bool, false, ap, sym, subst}
 use Rattle.jbig2_base.specs.Counts.{Counts}
+use Rattle.jbig2_base.specs.Grid.{Grid, pixel_at}
+use Rattle.jbig2_base.specs.inner.WordBits.{bit}
 use Rattle.jbig2_region.specs.inner.Codes.{CountsCodes, Takes}
-use Rattle.jbig2_region.specs.inner.RefinementBlocks.{Block, windows_loaded}
+use Rattle.jbig2_region.specs.inner.RefinementBlocks.{Block}
 use Rattle.jbig2_region.specs.inner.RefinementViews.{reference_view}
 use Rattle.jbig2_region.specs.inner.RefinementWindows.{context_of, known_of, three_of, windowed_coding}
 use Rattle.jbig2_region.proofs.RefinementKernelLemmas.{block-next, block-none, block-whole}
-use Rattle.jbig2_region.proofs.RefinementPushLemmas.{four-white, pixels-room}
+use Rattle.jbig2_region.proofs.RefinementPushLemmas.{four-white}
+use Rattle.jbig2_region.proofs.StoreLemmas.{stored-inside}
 use Rattle.jbig2_region.proofs.refinement_kernel.decode_block.Goals as goal
 
 pub loop-done-init : goal.loop-done-init
 loop-done-init g c = record {
   within = omega arith;
   block =
-      subst (λ (t : Counts). Block (windowed_coding c.args.coding.now) c.args.row.predicted c.args.x c.args.row.y 0 c.args.bitmap.now c.args.decoder.now c.args.contexts.now t c.from-pixels.result c.args.decoder.now c.args.contexts.now c.windows_at-windows.new.steps) c.windows_at-windows.ensures.steps
-      (block-none (windowed_coding c.args.coding.now) c.args.row.predicted c.args.x c.args.row.y c.args.left c.from-pixels.result c.args.bitmap.now c.args.decoder.now c.args.contexts.now c.windows_at-windows.new.steps
-      c.requires.left c.requires.small c.from-pixels.ensures);
+      block-none (windowed_coding c.args.coding.now) c.args.row.predicted c.args.x c.args.row.y c.args.left c.from-pixels.result c.args.bitmap.now c.args.decoder.now c.args.contexts.now c.args.steps.now
+      c.requires.left c.requires.small c.from-pixels.ensures;
 }
 
 pub loop-done-preserved : goal.loop-done-preserved
 loop-done-preserved g c =
     let plain : c.args.row.predicted ≡ false = c.decided_columns-decided.ensures.plain (omega arith) in
-    let region : three_of c.windows_at-windows.result.region c.loop-done.done ≡ 0 = c.white_columns-white.ensures.region (omega arith) c.loop-done.done (omega arith) in
+    let region : three_of c.args.windows.region c.loop-done.done ≡ 0 = c.looked_for-white.ensures.region (omega arith) c.loop-done.done (omega arith) in
     let left : c.loop-done.pixels % 2 ≡ 0 = omega arith in
     record {
       within = omega arith;
       block =
-          subst (λ (n : ℕ). Block (windowed_coding c.args.coding.now) c.args.row.predicted c.args.x c.args.row.y (c.loop-done.done + 1) c.args.bitmap.now c.args.decoder.now c.args.contexts.now (windows_loaded c.args.steps.now) (c.loop-done.pixels * 2 + n) c.decode_pixel-symbol.new.decoder c.decode_pixel-symbol.new.contexts c.decode_pixel-symbol.new.steps) (sym c.from.ensures)
-          (block-next c.args.coding.now.template c.args.coding.now.typical c.args.row.predicted (reference_view c.args.coding.now.reference.now) c.args.x c.args.row.y c.loop-done.done c.args.bitmap.now c.windows_at-windows.result
-          c.args.decoder.now c.loop-done.decoder c.decode_pixel-symbol.new.decoder c.args.contexts.now c.loop-done.contexts c.decode_pixel-symbol.new.contexts (windows_loaded c.args.steps.now) c.loop-done.steps c.decode_pixel-symbol.new.steps
+          subst (λ (n : ℕ). Block (windowed_coding c.args.coding.now) c.args.row.predicted c.args.x c.args.row.y (c.loop-done.done + 1) c.args.bitmap.now c.args.decoder.now c.args.contexts.now c.args.steps.now (c.loop-done.pixels * 2 + n) c.decode_pixel-symbol.new.decoder c.decode_pixel-symbol.new.contexts c.decode_pixel-symbol.new.steps) (sym c.from.ensures)
+          (block-next c.args.coding.now.template c.args.coding.now.typical c.args.row.predicted (reference_view c.args.coding.now.reference.now) c.args.x c.args.row.y c.loop-done.done c.args.bitmap.now c.args.windows
+          c.args.decoder.now c.loop-done.decoder c.decode_pixel-symbol.new.decoder c.args.contexts.now c.loop-done.contexts c.decode_pixel-symbol.new.contexts c.args.steps.now c.loop-done.steps c.decode_pixel-symbol.new.steps
           c.loop-done.pixels 0 0 c.decode_pixel-symbol.result
-          c.loop-done.invariant.block c.windows_at-windows.ensures.value (omega arith) (omega arith) c.requires.row (sym (c.white_columns-white.ensures.nine (omega arith) c.loop-done.done (omega arith))) (four-white c.windows_at-windows.result c.loop-done.pixels c.loop-done.done left region) (subst (λ (q : Bool). Takes (known_of q 0) (context_of c.args.coding.now.template 0 0) c.loop-done.decoder c.loop-done.contexts c.loop-done.steps c.decode_pixel-symbol.result c.decode_pixel-symbol.new.decoder c.decode_pixel-symbol.new.contexts c.decode_pixel-symbol.new.steps) (sym plain) c.decode_pixel-symbol.ensures.takes));
+          c.loop-done.invariant.block c.requires.sees (omega arith) (omega arith) c.requires.row (sym (c.looked_for-white.ensures.nine (omega arith) c.loop-done.done (omega arith))) (four-white c.args.windows c.loop-done.pixels c.loop-done.done left region) (subst (λ (q : Bool). Takes (known_of q 0) (context_of c.args.coding.now.template 0 0) c.loop-done.decoder c.loop-done.contexts c.loop-done.steps c.decode_pixel-symbol.result c.decode_pixel-symbol.new.decoder c.decode_pixel-symbol.new.contexts c.decode_pixel-symbol.new.steps) (sym plain) c.decode_pixel-symbol.ensures.takes));
     }
 
-pub push_four-pixels-requires-clause-room : goal.push_four-pixels-requires-clause-room
-push_four-pixels-requires-clause-room g c = pixels-room c.loop-done-2.pixels c.loop-done-2.done c.loop-done-2.invariant.block.few (omega arith)
+pub push_pixels-pixels-requires-clause-room : goal.push_pixels-pixels-requires-clause-room
+push_pixels-pixels-requires-clause-room g c = c.loop-done-2.invariant.block.few
 
 pub loop-done-2-preserved : goal.loop-done-2-preserved
 loop-done-2-preserved g c =
     let plain : c.args.row.predicted ≡ false = c.decided_columns-decided.ensures.plain (omega arith) in
+    let few : c.loop-done-2.done + c.min-more.result ≤ 32 = omega arith in
     record {
       within = omega arith;
       block =
-          subst (λ (q : Bool). Block (windowed_coding c.args.coding.now) q c.args.x c.args.row.y (c.loop-done-2.done + 4) c.args.bitmap.now c.args.decoder.now c.args.contexts.now (windows_loaded c.args.steps.now) c.push_four-pixels.result c.push_four-pixels.new.decoder c.push_four-pixels.new.contexts c.push_four-pixels.new.steps) (sym plain)
-          (c.push_four-pixels.ensures.block c.args.coding.now.typical (reference_view c.args.coding.now.reference.now) c.args.x c.args.row.y c.args.bitmap.now c.args.decoder.now c.args.contexts.now (windows_loaded c.args.steps.now)
-          c.windows_at-windows.ensures.value (omega arith) (omega arith) c.requires.row
-          (subst (λ (q : Bool). Block (windowed_coding c.args.coding.now) q c.args.x c.args.row.y c.loop-done-2.done c.args.bitmap.now c.args.decoder.now c.args.contexts.now (windows_loaded c.args.steps.now) c.loop-done-2.pixels c.loop-done-2.decoder c.loop-done-2.contexts c.loop-done-2.steps) plain c.loop-done-2.invariant.block));
+          subst (λ (q : Bool). Block (windowed_coding c.args.coding.now) q c.args.x c.args.row.y (c.loop-done-2.done + c.min-more.result) c.args.bitmap.now c.args.decoder.now c.args.contexts.now c.args.steps.now c.push_pixels-pixels.result c.push_pixels-pixels.new.decoder c.push_pixels-pixels.new.contexts c.push_pixels-pixels.new.steps) (sym plain)
+          (c.push_pixels-pixels.ensures.block c.args.coding.now.typical (reference_view c.args.coding.now.reference.now) c.args.x c.args.row.y c.args.bitmap.now c.args.decoder.now c.args.contexts.now c.args.steps.now
+          c.requires.sees few (omega arith) c.requires.row
+          (subst (λ (q : Bool). Block (windowed_coding c.args.coding.now) q c.args.x c.args.row.y c.loop-done-2.done c.args.bitmap.now c.args.decoder.now c.args.contexts.now c.args.steps.now c.loop-done-2.pixels c.loop-done-2.decoder c.loop-done-2.contexts c.loop-done-2.steps) plain c.loop-done-2.invariant.block));
     }
 
 pub loop-offset-preserved : goal.loop-offset-preserved
 loop-offset-preserved g c =
-    subst (λ (n : ℕ). Block (windowed_coding c.args.coding.now) c.args.row.predicted c.args.x c.args.row.y (c.loop-offset.offset + 1) c.args.bitmap.now c.args.decoder.now c.args.contexts.now (windows_loaded c.args.steps.now) (c.loop-offset.pixels * 2 + n) c.decode_pixel-symbol-in-loop-offset.new.decoder c.decode_pixel-symbol-in-loop-offset.new.contexts c.decode_pixel-symbol-in-loop-offset.new.steps) (sym c.from-in-loop-offset.ensures)
-    (block-next c.args.coding.now.template c.args.coding.now.typical c.args.row.predicted (reference_view c.args.coding.now.reference.now) c.args.x c.args.row.y c.loop-offset.offset c.args.bitmap.now c.windows_at-windows.result
-    c.args.decoder.now c.loop-offset.decoder c.decode_pixel-symbol-in-loop-offset.new.decoder c.args.contexts.now c.loop-offset.contexts c.decode_pixel-symbol-in-loop-offset.new.contexts (windows_loaded c.args.steps.now) c.loop-offset.steps c.decode_pixel-symbol-in-loop-offset.new.steps
+    subst (λ (n : ℕ). Block (windowed_coding c.args.coding.now) c.args.row.predicted c.args.x c.args.row.y (c.loop-offset.offset + 1) c.args.bitmap.now c.args.decoder.now c.args.contexts.now c.args.steps.now (c.loop-offset.pixels * 2 + n) c.decode_pixel-symbol-in-loop-offset.new.decoder c.decode_pixel-symbol-in-loop-offset.new.contexts c.decode_pixel-symbol-in-loop-offset.new.steps) (sym c.from-in-loop-offset.ensures)
+    (block-next c.args.coding.now.template c.args.coding.now.typical c.args.row.predicted (reference_view c.args.coding.now.reference.now) c.args.x c.args.row.y c.loop-offset.offset c.args.bitmap.now c.args.windows
+    c.args.decoder.now c.loop-offset.decoder c.decode_pixel-symbol-in-loop-offset.new.decoder c.args.contexts.now c.loop-offset.contexts c.decode_pixel-symbol-in-loop-offset.new.contexts c.args.steps.now c.loop-offset.steps c.decode_pixel-symbol-in-loop-offset.new.steps
     c.loop-offset.pixels c.nine-nine.result c.four-four.result c.decode_pixel-symbol-in-loop-offset.result
-    c.loop-offset.invariant c.windows_at-windows.ensures.value (omega arith) (omega arith) c.requires.row c.nine-nine.ensures.value c.four-four.ensures.value c.decode_pixel-symbol-in-loop-offset.ensures.takes)
+    c.loop-offset.invariant c.requires.sees (omega arith) (omega arith) c.requires.row c.nine-nine.ensures.value c.four-four.ensures.value c.decode_pixel-symbol-in-loop-offset.ensures.takes)
 
 pub returns-clause-holds : goal.returns-clause-holds
 returns-clause-holds g c =
-    (block-whole (windowed_coding c.args.coding.now) c.args.row.predicted c.args.x c.args.row.y c.loop-offset.offset c.args.count c.args.bitmap.now c.store_pixels.new.self c.args.decoder.now c.loop-offset.decoder c.args.contexts.now c.loop-offset.contexts (windows_loaded c.args.steps.now) c.loop-offset.steps c.loop-offset.pixels
+    (block-whole (windowed_coding c.args.coding.now) c.args.row.predicted c.args.x c.args.row.y c.loop-offset.offset c.args.count c.args.bitmap.now c.store_pixels.new.self c.args.decoder.now c.loop-offset.decoder c.args.contexts.now c.loop-offset.contexts c.args.steps.now c.loop-offset.steps c.loop-offset.pixels
     c.loop-offset.invariant (omega arith) c.store_pixels.ensures.value).holds
 
 pub returns-clause-left : goal.returns-clause-left
 returns-clause-left g c =
-    (block-whole (windowed_coding c.args.coding.now) c.args.row.predicted c.args.x c.args.row.y c.loop-offset.offset c.args.count c.args.bitmap.now c.store_pixels.new.self c.args.decoder.now c.loop-offset.decoder c.args.contexts.now c.loop-offset.contexts (windows_loaded c.args.steps.now) c.loop-offset.steps c.loop-offset.pixels
+    (block-whole (windowed_coding c.args.coding.now) c.args.row.predicted c.args.x c.args.row.y c.loop-offset.offset c.args.count c.args.bitmap.now c.store_pixels.new.self c.args.decoder.now c.loop-offset.decoder c.args.contexts.now c.loop-offset.contexts c.args.steps.now c.loop-offset.steps c.loop-offset.pixels
     c.loop-offset.invariant (omega arith) c.store_pixels.ensures.value).left
 
 pub returns-clause-decisions : goal.returns-clause-decisions
 returns-clause-decisions g c =
     let after : c.loop-offset.steps.decisions ≡ c.store_pixels.new.steps.decisions = sym (ap (λ (t : Counts). t.decisions) c.store_pixels.ensures.steps) in
     subst (λ (n : ℕ). CountsCodes (windowed_coding c.args.coding.now) c.args.row.predicted c.args.x c.args.row.y c.args.count c.args.bitmap.now c.args.decoder.now c.args.contexts.now c.args.steps.now.decisions n) after
-    (block-whole (windowed_coding c.args.coding.now) c.args.row.predicted c.args.x c.args.row.y c.loop-offset.offset c.args.count c.args.bitmap.now c.store_pixels.new.self c.args.decoder.now c.loop-offset.decoder c.args.contexts.now c.loop-offset.contexts (windows_loaded c.args.steps.now) c.loop-offset.steps c.loop-offset.pixels
+    (block-whole (windowed_coding c.args.coding.now) c.args.row.predicted c.args.x c.args.row.y c.loop-offset.offset c.args.count c.args.bitmap.now c.store_pixels.new.self c.args.decoder.now c.loop-offset.decoder c.args.contexts.now c.loop-offset.contexts c.args.steps.now c.loop-offset.steps c.loop-offset.pixels
     c.loop-offset.invariant (omega arith) c.store_pixels.ensures.value).decisions
+
+pub returns-clause-value : goal.returns-clause-value
+returns-clause-value g c = λ k few.
+    let place : c.args.x + c.args.count - 1 - (c.args.x + k) ≡ c.args.count - 1 - k = omega arith in
+    sym
+    (ap (λ (q : Grid). pixel_at q (c.args.x + k) c.args.row.y) c.store_pixels.ensures.value
+    ∙ stored-inside c.args.bitmap.now c.args.x c.args.row.y c.args.count c.loop-offset.pixels (c.args.x + k) (omega arith) (omega arith) c.requires.columns c.requires.row
+    ∙ ap (λ (n : ℕ). bit c.loop-offset.pixels n) place)

@@ -1,12 +1,12 @@
 use Rattle.std.proofs.Common.{◌-◌, ◌≤◌}
-use Rattle.jbig2_region.specs.inner.RefinementBlocks.{Block, windows_loaded}
+use Rattle.jbig2_region.specs.inner.RefinementBlocks.{Block}
 use Rattle.jbig2_region.specs.inner.RefinementWindows.{windowed_coding}
 use Rattle.jbig2_region.proofs.refinement_kernel.decode_block.Given as goal
 
 abbrev pub invariant-loop-done : goal.invariant-loop-done
 invariant-loop-done g l = record {
   within : l.done ≤ l.fn.count;
-  block : Block (windowed_coding l.fn.coding) l.fn.row.predicted l.fn.x l.fn.row.y l.done l.bitmap l.fn.decoder l.fn.contexts (windows_loaded l.fn.steps) l.pixels l.decoder l.contexts l.steps;
+  block : Block (windowed_coding l.fn.coding) l.fn.row.predicted l.fn.x l.fn.row.y l.done l.bitmap l.fn.decoder l.fn.contexts l.fn.steps l.pixels l.decoder l.contexts l.steps;
 }
 
 abbrev pub decreases-loop-done : goal.decreases-loop-done
@@ -15,11 +15,11 @@ decreases-loop-done g l = l.fn.count - l.done
 abbrev pub invariant-loop-done-2 : goal.invariant-loop-done-2
 invariant-loop-done-2 g l = record {
   within : l.done ≤ l.fn.count;
-  block : Block (windowed_coding l.fn.coding) l.fn.row.predicted l.fn.x l.fn.row.y l.done l.bitmap l.fn.decoder l.fn.contexts (windows_loaded l.fn.steps) l.pixels l.decoder l.contexts l.steps;
+  block : Block (windowed_coding l.fn.coding) l.fn.row.predicted l.fn.x l.fn.row.y l.done l.bitmap l.fn.decoder l.fn.contexts l.fn.steps l.pixels l.decoder l.contexts l.steps;
 }
 
 abbrev pub decreases-loop-done-2 : goal.decreases-loop-done-2
 decreases-loop-done-2 g l = l.fn.count - l.done
 
 abbrev pub invariant-loop-offset : goal.invariant-loop-offset
-invariant-loop-offset g l = Block (windowed_coding l.fn.coding) l.fn.row.predicted l.fn.x l.fn.row.y l.offset l.bitmap l.fn.decoder l.fn.contexts (windows_loaded l.fn.steps) l.pixels l.decoder l.contexts l.steps
+invariant-loop-offset g l = Block (windowed_coding l.fn.coding) l.fn.row.predicted l.fn.x l.fn.row.y l.offset l.bitmap l.fn.decoder l.fn.contexts l.fn.steps l.pixels l.decoder l.contexts l.steps

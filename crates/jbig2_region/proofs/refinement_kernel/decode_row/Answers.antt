@@ -1,4 +1,5 @@
-use Rattle.std.proofs.Common.{arith, refl, min, subst, ◌≡◌, ◌+◌, ◌*◌, ℕ, ◌∙◌}
+use Rattle.std.proofs.Common.{arith, refl, min, subst, ap, ◌≡◌, ◌+◌, ◌*◌, ◌%◌, ℕ, ◌∙◌}
+use Rattle.jbig2_base.specs.Counts.{Counts}
 use Rattle.jbig2_region.specs.inner.Codes.{Codes, CountsCodes}
 use Rattle.jbig2_region.specs.inner.Neighbours.{IsLeft}
 use Rattle.jbig2_region.specs.inner.RefinementWindows.{windowed_coding}
@@ -33,21 +34,27 @@ loop-index-preserved g c =
     let here : min (c.loop-index.index * 32) c.args.bitmap.now.width ≡ c.loop-index.index * 32 = omega (arith, c.width-width.ensures.value, c.div_ceil-index-end.ensures) in
     let next : min ((c.loop-index.index + 1) * 32) c.args.bitmap.now.width ≡ min (c.loop-index.index * 32) c.args.bitmap.now.width + c.min-count.result = omega (arith, c.width-width.ensures.value, c.div_ceil-index-end.ensures, c.min-count.ensures) in
     let place : c.loop-index.index * 32 + c.min-count.result ≡ min ((c.loop-index.index + 1) * 32) c.args.bitmap.now.width = omega arith in
+    let loaded = c.windows_at-windows.ensures.steps in
+    let decided : c.windows_at-windows.new.steps.decisions ≡ c.loop-index.steps.decisions = ap (λ (t : Counts). t.decisions) loaded in
+    let tested : c.windows_at-windows.new.steps.run_tests ≡ c.loop-index.steps.run_tests = ap (λ (t : Counts). t.run_tests) loaded in
+    let more : c.windows_at-windows.new.steps.loads ≡ c.loop-index.steps.loads + 4 = ap (λ (t : Counts). t.loads) loaded in
+    let same : c.windows_at-windows.new.steps.words ≡ c.loop-index.steps.words = ap (λ (t : Counts). t.words) loaded in
     record {
-      width = c.decode_block-left.ensures.width ∙ c.loop-index.invariant.width;
-      height = c.decode_block-left.ensures.height ∙ c.loop-index.invariant.height;
-      bytes = c.decode_block-left.ensures.bytes ∙ c.loop-index.invariant.bytes;
-      few = c.decode_block-left.ensures.small;
-      left = subst (λ (n : ℕ). IsLeft c.decode_block-left.new.bitmap n c.args.row.y c.decode_block-left.result) place c.decode_block-left.ensures.left;
+      width = c.decode_block-pixels.ensures.width ∙ c.loop-index.invariant.width;
+      height = c.decode_block-pixels.ensures.height ∙ c.loop-index.invariant.height;
+      bytes = c.decode_block-pixels.ensures.bytes ∙ c.loop-index.invariant.bytes;
+      few = omega arith;
+      left = subst (λ (n : ℕ). IsLeft c.decode_block-pixels.new.bitmap n c.args.row.y (c.decode_block-pixels.result % 16)) place c.decode_block-pixels.ensures.left;
       holds =
           codes-then coding c.args.row.predicted 0 (c.loop-index.index * 32) c.args.row.y (min (c.loop-index.index * 32) c.args.bitmap.now.width) c.min-count.result (min ((c.loop-index.index + 1) * 32) c.args.bitmap.now.width)
-          c.args.bitmap.now c.loop-index.bitmap c.decode_block-left.new.bitmap c.args.decoder.now c.loop-index.decoder c.decode_block-left.new.decoder c.args.contexts.now c.loop-index.contexts c.decode_block-left.new.contexts
-          c.loop-index.invariant.holds c.decode_block-left.ensures.holds (omega arith) next;
+          c.args.bitmap.now c.loop-index.bitmap c.decode_block-pixels.new.bitmap c.args.decoder.now c.loop-index.decoder c.decode_block-pixels.new.decoder c.args.contexts.now c.loop-index.contexts c.decode_block-pixels.new.contexts
+          c.loop-index.invariant.holds c.decode_block-pixels.ensures.holds (omega arith) next;
       decisions =
           counts-then coding c.args.row.predicted 0 (c.loop-index.index * 32) c.args.row.y (min (c.loop-index.index * 32) c.args.bitmap.now.width) c.min-count.result (min ((c.loop-index.index + 1) * 32) c.args.bitmap.now.width)
-          c.args.bitmap.now c.loop-index.bitmap c.args.decoder.now c.loop-index.decoder c.args.contexts.now c.loop-index.contexts c.args.steps.now.decisions c.loop-index.steps.decisions c.decode_block-left.new.steps.decisions
-          c.loop-index.invariant.holds c.loop-index.invariant.decisions c.decode_block-left.ensures.decisions (omega arith) next;
-      run_tests = c.decode_block-left.ensures.run_tests ∙ c.loop-index.invariant.run_tests;
-      loads = omega (arith, c.decode_block-left.ensures.loads, c.loop-index.invariant.loads);
-      words = omega (arith, c.decode_block-left.ensures.words, c.loop-index.invariant.words);
+          c.args.bitmap.now c.loop-index.bitmap c.args.decoder.now c.loop-index.decoder c.args.contexts.now c.loop-index.contexts c.args.steps.now.decisions c.loop-index.steps.decisions c.decode_block-pixels.new.steps.decisions
+          c.loop-index.invariant.holds c.loop-index.invariant.decisions
+          (subst (λ (n : ℕ). CountsCodes coding c.args.row.predicted (c.loop-index.index * 32) c.args.row.y c.min-count.result c.loop-index.bitmap c.loop-index.decoder c.loop-index.contexts n c.decode_block-pixels.new.steps.decisions) decided c.decode_block-pixels.ensures.decisions) (omega arith) next;
+      run_tests = c.decode_block-pixels.ensures.run_tests ∙ tested ∙ c.loop-index.invariant.run_tests;
+      loads = omega (arith, c.decode_block-pixels.ensures.loads, c.loop-index.invariant.loads);
+      words = omega (arith, c.decode_block-pixels.ensures.words, c.loop-index.invariant.words);
     }

@@ -1,0 +1,49 @@
+use Rattle.std.proofs.Common.{arith, ℕ, ◌≡◌, ◌+◌, ◌-◌, ◌*◌, ◌%◌, ◌^◌, ◌<◌, sym, subst, false}
+use Rattle.jbig2_region.specs.Refinement.{refinement_coding}
+use Rattle.jbig2_region.specs.inner.RefinementBlocks.{Block, MovesBlock}
+use Rattle.jbig2_region.specs.inner.RefinementLanes.{Lanes}
+use Rattle.jbig2_region.specs.inner.RefinementWindows.{context_of, corners, four_of, nine_of}
+use Rattle.jbig2_region.proofs.RefinementLaneLemmas.{lanes-next}
+use Rattle.jbig2_region.proofs.RefinementPushLemmas.{block-begun, block-pushed, context-shown, pixels-more}
+use Rattle.jbig2_region.proofs.refinement_kernel.push_pixels.Goals as goal
+
+pub loop-init : goal.loop-init
+loop-init g c = record {
+  block = λ typical r x y grid d0 s0 t0 sees few wide above block.
+      block-begun (refinement_coding c.args.template typical corners r) x y c.args.offset grid d0 c.args.decoder.now s0 c.args.contexts.now t0 c.args.steps.now c.args.pixels block;
+  room = subst (λ (n : ℕ). c.args.pixels < 16 * 2 ^ n) (omega arith) c.requires.room;
+  bound = c.lanes_context-context.ensures.bound;
+  lanes = λ more.
+      let same : c.args.offset ≡ c.args.offset + 0 = omega arith in
+      subst (λ (n : ℕ). Lanes c.args.windows n 12 c.lanes_at-lanes.result) same c.lanes_at-lanes.ensures;
+  context = λ more.
+      let same : c.args.offset ≡ c.args.offset + 0 = omega arith in
+      subst (λ (n : ℕ). c.lanes_context-context.result ≡ context_of c.args.template (nine_of c.args.windows n) (four_of c.args.windows c.args.pixels n)) same
+      (context-shown c.args.template c.args.windows c.args.offset 12 c.lanes_at-lanes.result _ c.args.pixels c.lanes_context-context.result c.requires.offset c.lanes_at-lanes.ensures c.lanes_context-context.ensures.value (omega arith));
+}
+
+pub loop-preserved : goal.loop-preserved
+loop-preserved g c =
+    let k : ℕ = c.loop.counter in
+    let place : c.args.offset + (k + 1) ≡ c.args.offset + k + 1 = omega arith in
+    let shown : k + 1 < c.args.count → Lanes c.args.windows (c.args.offset + (k + 1)) (12 - (k + 1)) (c.loop.lanes * 2 ^ 1 % 2 ^ 64) = λ more.
+    subst (λ (n : ℕ). Lanes c.args.windows n (12 - (k + 1)) (c.loop.lanes * 2 ^ 1 % 2 ^ 64)) (sym place)
+    (lanes-next c.args.windows (c.args.offset + k) (12 - k) (12 - (k + 1)) c.loop.lanes (omega arith) (omega arith) (omega arith) (c.loop.invariant.lanes (omega arith))) in
+    let digit : c.decide_pixel-symbol.result ≡ (c.loop.pixels * 2 + c.from.result) % 2 = omega (arith, c.from.ensures, c.decide_pixel-symbol.ensures.digit) in
+    record {
+      block = λ typical r x y grid d0 s0 t0 sees few wide above block.
+          subst (λ (n : ℕ). Block (refinement_coding c.args.template typical corners r) false x y (c.args.offset + (k + 1)) grid d0 s0 t0 (c.loop.pixels * 2 + n) c.decide_pixel-symbol.new.decoder c.decide_pixel-symbol.new.contexts c.decide_pixel-symbol.new.steps) (sym c.from.ensures)
+          (block-pushed c.args.template typical r x y c.args.offset k grid c.args.windows d0 c.loop.decoder c.decide_pixel-symbol.new.decoder s0 c.loop.contexts c.decide_pixel-symbol.new.contexts t0 c.loop.steps c.decide_pixel-symbol.new.steps c.loop.pixels c.loop.context c.decide_pixel-symbol.result
+          sees few wide above (c.loop.invariant.context (omega arith)) c.decide_pixel-symbol.ensures.takes
+          (c.loop.invariant.block typical r x y grid d0 s0 t0 sees (omega arith) (omega arith) above block));
+      room = pixels-more c.loop.pixels c.from.result c.args.offset k c.loop.invariant.room (omega arith);
+      bound = c.lanes_context-context-in-loop.ensures.bound;
+      lanes = shown;
+      context = λ more.
+          context-shown c.args.template c.args.windows (c.args.offset + (k + 1)) (12 - (k + 1)) _ c.decide_pixel-symbol.result (c.loop.pixels * 2 + c.from.result) c.lanes_context-context-in-loop.result (omega arith) (shown more) c.lanes_context-context-in-loop.ensures.value digit;
+    }
+
+pub returns-clause-block : goal.returns-clause-block
+returns-clause-block g c =
+    let all : c.loop.counter ≡ c.args.count = omega arith in
+    subst (λ (n : ℕ). MovesBlock c.args.template c.args.windows c.args.offset n c.args.pixels c.args.decoder.now c.args.contexts.now c.args.steps.now c.loop.pixels c.loop.decoder c.loop.contexts c.loop.steps) all c.loop.invariant.block
