@@ -18,7 +18,7 @@ use Rattle.jbig2_region.proofs.RegisterLemmas.{left-few, left-whole}
 use Rattle.jbig2_region.proofs.StoreLemmas.{left-bit, left-start, stored-above, stored-push}
 
 -- ---- a block
-more : (pixels symbol k : ℕ) (c : Bool) → symbol ≡ bit_number c → pixels < 16 * 2 ^ k → pixels * 2 + symbol < 16 * 2 ^ (k + 1)
+pub more : (pixels symbol k : ℕ) (c : Bool) → symbol ≡ bit_number c → pixels < 16 * 2 ^ k → pixels * 2 + symbol < 16 * 2 ^ (k + 1)
 more pixels symbol k c is few = rw (add-one k, pow-suc) (step c is)
   where
     step : (c : Bool) → symbol ≡ bit_number c → pixels * 2 + symbol < 16 * (2 ^ k * 2)

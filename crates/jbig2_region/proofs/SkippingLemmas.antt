@@ -1,8 +1,8 @@
 -- Rows of which pixels are skipped, out of windows, and the decisions that they take.
-use Rattle.std.proofs.Common.{◌≡◌, ℕ, zero, suc, ◌+◌, ◌-◌, ◌*◌, ◌/◌, ◌%◌, ◌^◌, ◌<◌, ◌≤◌, pos, negsuc, Bool, true, false, cond, not, Option, Some, None, is_none, List, length, ◌++◌, add-one, pow-suc, refl, subst, sym, ap, ◌∙◌, arith}
+use Rattle.std.proofs.Common.{◌≡◌, ℕ, zero, suc, ◌+◌, ◌-◌, ◌*◌, ◌/◌, ◌%◌, ◌<◌, ◌≤◌, pos, negsuc, Bool, true, false, cond, not, Option, Some, None, is_none, List, length, ◌++◌, refl, subst, sym, ap, ◌∙◌, arith}
 use Rattle.std.proofs.lemmas.Nat.{mod-mul-add, div-mul-add}
 use Rattle.jbig2_base.specs.Counts.{Counts, KeepsLanes}
-use Rattle.jbig2_base.specs.Grid.{Grid, bit_number}
+use Rattle.jbig2_base.specs.Grid.{Grid}
 use Rattle.jbig2_base.specs.inner.WordBits.{bit}
 use Rattle.jbig2_base.specs.inner.Writes.{with_pixels}
 use Rattle.jbig2_base.proofs.BitLemmas.{bit-zero}
@@ -23,6 +23,7 @@ use Rattle.jbig2_region.proofs.CodesLemmas.{codes-next, counts-next, taken-bytes
 use Rattle.jbig2_region.proofs.ContextBits.{context-append, length-side}
 use Rattle.jbig2_region.proofs.DecisionLemmas.{Decided}
 use Rattle.jbig2_region.proofs.RasterLemmas.{after_pixels-length, after_pixels-predicted, after_rows-length}
+use Rattle.jbig2_region.proofs.RefinementKernelLemmas.{more}
 use Rattle.jbig2_region.proofs.RegisterLemmas.{left-few, left-whole}
 use Rattle.jbig2_region.proofs.StoreLemmas.{left-bit, stored-above, stored-push}
 use Rattle.jbig2_region.proofs.WindowLemmas.{left-context, stretch-context}
@@ -46,13 +47,6 @@ plain-is n g g' x y k left w near few same shows is =
     ))
 
 -- ---- a block
-more : (pixels symbol k : ℕ) (c : Bool) → symbol ≡ bit_number c → pixels < 16 * 2 ^ k → pixels * 2 + symbol < 16 * 2 ^ (k + 1)
-more pixels symbol k c is few = rw (add-one k, pow-suc) (step c is)
-  where
-    step : (c : Bool) → symbol ≡ bit_number c → pixels * 2 + symbol < 16 * (2 ^ k * 2)
-    step true is = omega arith
-    step false is = omega arith
-
 abbrev colour_of : Bool → Option Bool
 colour_of skipped = cond skipped (Some false) None
 

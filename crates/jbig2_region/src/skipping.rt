@@ -1,6 +1,6 @@
 //! Generic regions of which pixels are skipped (T.88, 6.2.5.7), as the planes of a gray-scale image.
-ghost use Rattle.jbig2_region.specs.inner.Holds.{DecodesRegion, IsReady};
 ghost use Rattle.std.specs.Prelude.{◌≡◌, true};
+ghost use Rattle.jbig2_region.specs.inner.Holds.{DecodesRegion, IsReady};
 ghost use Rattle.jbig2_region.specs.Skipping.{CountsSkipping, skipping_coding, skip_of};
 ghost use Rattle.jbig2_region.specs.Templates.{context_bits, is_nominal, template_pixels};
 ghost use Rattle.jbig2_region.specs.declared.template.GenericTemplatePixels.TheVariants.{Regular};
@@ -21,7 +21,8 @@ use std::sync::ledger::Ledger;
 
 /// Decodes a region that the arithmetic coder wrote, without typical prediction, into a white bitmap
 /// of its size. A pixel that is black in `skip` stays white and takes no decision. The decoder and
-/// the contexts are left as the region leaves them, for what the coder wrote behind it.
+/// the contexts are left as the region leaves them, for what the coder wrote behind it. Contexts come
+/// out of windows where the adaptive pixels are nominal, else they are read pixel by pixel.
 pub fn decode_skipping<M: Allocator, A: Allocator, L: Ledger>(
     template: Template,
     adaptive: &[AdaptiveTemplatePixel; 4],

@@ -51,8 +51,8 @@ fn decode_plane<M: Allocator, A: Allocator, L: Ledger>(
     requires white { plane.old ≡ blank plane.old.width plane.old.height false }
     requires contexts { length contexts.old ≡ 2 ^ context_bits params.now.template }
     ensures holds { DecodesRegion (plane_coding (gray_view params.now)) plane.old decoder.old contexts.old plane.new decoder.new contexts.new }
-    ensures steps { CountsOne (gray_view params.now) plane.old.width plane.old.height decoder.old.bytes
-        (no_pixels decoder.old.registers contexts.old) steps.old steps.new }
+    ensures steps { CountsOne (gray_view params.now) plane.old.width plane.old.height
+        decoder.old.bytes (no_pixels decoder.old.registers contexts.old) steps.old steps.new }
 {
     let adaptive = nominal_pixels(params.template);
     if params.skip_mask.is_none() {
@@ -91,7 +91,8 @@ fn read_coded_planes<M: Allocator, A: Allocator + Clone, L: Ledger>(
     requires fresh { contexts.old ≡ fresh_contexts (context_bits params.now.template) }
     ensures value { Gives (λ planes. planes.items) result (planes_by_coder (gray_view params.now) bytes.now) }
     ensures contexts { Leaves result contexts.new (after_planes (gray_view params.now) bytes.now params.now.bits_per_pixel).contexts }
-    ensures steps { OnOk result (CountsCoded (gray_view params.now) bytes.now params.now.bits_per_pixel steps.old steps.new) }
+    ensures steps { OnOk result (CountsCoded (gray_view params.now) bytes.now
+        params.now.bits_per_pixel steps.old steps.new) }
     ensures lanes { OnOk result (KeepsLanes steps.old steps.new) }
     ensures no_planes { params.now.bits_per_pixel ≡ 0 → OnOk result (steps.new ≡ steps.old) }
 {
@@ -114,7 +115,8 @@ fn read_mmr_plane<'a, M: Allocator, A: Allocator, L: Ledger>(
 ) -> Result<(Bitmap<A>, &'a [u8])>
     requires columns { params.now.width ≤ 65535 }
     requires rows { params.now.height ≤ 65535 }
-    ensures value { Gives (λ read. (read.0, read.1.now)) result (mmr_plane (gray_view params.now) bytes.now) }
+    ensures value { Gives (λ read. (read.0, read.1.now)) result
+        (mmr_plane (gray_view params.now) bytes.now) }
     ensures lanes { KeepsLanes steps.old steps.new }
 {
     let mut plane = Bitmap::new(alloc, params.width, params.height)?;

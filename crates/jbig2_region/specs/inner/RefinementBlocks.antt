@@ -1,4 +1,5 @@
--- What the code holds in the middle of a block of a refinement's row, before the block is stored (our own rule).
+-- What the code holds in the middle of a block of a row, before the block is stored: of a refinement, or where pixels are
+-- skipped (our own rule).
 use Rattle.std.specs.Prelude.{◌≡◌, ℕ, ◌+◌, ◌*◌, ◌^◌, ◌<◌, ◌≤◌, Bool, false, List}
 use Rattle.jbig2_base.specs.Counts.{Counts}
 use Rattle.jbig2_base.specs.Grid.{Grid}

@@ -94,7 +94,8 @@ fn decode_block<M: Allocator, A: Allocator, L: Ledger>(
     requires row { y < bitmap.old.height }
     requires left { IsLeft bitmap.old x y left }
     requires small { left < 16 }
-    ensures holds { Codes (skipping_coding (nominal_pixels neighbours) (skip_of skip.entry)) false x y count
+    ensures holds { Codes (skipping_coding (nominal_pixels neighbours) (skip_of skip.entry))
+        false x y count
         bitmap.old decoder.old contexts.old bitmap.new decoder.new contexts.new }
     ensures left { IsLeft bitmap.new (x + count) y result }
     ensures small { result < 16 }
@@ -102,7 +103,8 @@ fn decode_block<M: Allocator, A: Allocator, L: Ledger>(
     ensures height { bitmap.new.height ≡ bitmap.old.height }
     ensures bytes { decoder.new.bytes ≡ decoder.old.bytes }
     ensures contexts { length contexts.new ≡ length contexts.old }
-    ensures decisions { CountsCodes (skipping_coding (nominal_pixels neighbours) (skip_of skip.entry)) false x y count
+    ensures decisions { CountsCodes (skipping_coding (nominal_pixels neighbours) (skip_of skip.entry))
+        false x y count
         bitmap.old decoder.old contexts.old steps.old.decisions steps.new.decisions }
     ensures loads { steps.new.loads ≤ steps.old.loads + 3 }
     ensures words { steps.new.words ≡ steps.old.words + 1 }
@@ -138,13 +140,15 @@ fn decode_row<M: Allocator, A: Allocator, L: Ledger>(
     requires contexts { length contexts.old ≡ 2 ^ neighbour_count neighbours }
     requires row { y < bitmap.old.height }
     requires widths { bitmap.old.width ≤ 65535 }
-    ensures holds { Codes (skipping_coding (nominal_pixels neighbours) (skip_of skip.entry)) false 0 y bitmap.old.width
+    ensures holds { Codes (skipping_coding (nominal_pixels neighbours) (skip_of skip.entry))
+        false 0 y bitmap.old.width
         bitmap.old decoder.old contexts.old bitmap.new decoder.new contexts.new }
     ensures width { bitmap.new.width ≡ bitmap.old.width }
     ensures height { bitmap.new.height ≡ bitmap.old.height }
     ensures bytes { decoder.new.bytes ≡ decoder.old.bytes }
     ensures contexts { length contexts.new ≡ length contexts.old }
-    ensures decisions { CountsCodes (skipping_coding (nominal_pixels neighbours) (skip_of skip.entry)) false 0 y bitmap.old.width
+    ensures decisions { CountsCodes (skipping_coding (nominal_pixels neighbours) (skip_of skip.entry))
+        false 0 y bitmap.old.width
         bitmap.old decoder.old contexts.old steps.old.decisions steps.new.decisions }
     ensures loads { steps.new.loads ≤ steps.old.loads + skipping_loads bitmap.old.width }
     ensures words { steps.new.words ≤ steps.old.words + skipping_words bitmap.old.width }
@@ -175,7 +179,8 @@ pub fn decode_rows<M: Allocator, A: Allocator, L: Ledger>(
     requires ready { IsReady (neighbour_count neighbours) bitmap.old contexts.old }
     ensures holds { DecodesRegion (skipping_coding (nominal_pixels neighbours) (skip_of skip.entry))
         bitmap.old decoder.old contexts.old bitmap.new decoder.new contexts.new }
-    ensures steps { CountsSkipping (skip_of skip.entry) bitmap.old.width bitmap.old.height steps.old steps.new }
+    ensures steps { CountsSkipping (skip_of skip.entry) bitmap.old.width bitmap.old.height
+        steps.old steps.new }
 {
     if bitmap.width() == 0 {
         return;
