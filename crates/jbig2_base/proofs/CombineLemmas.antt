@@ -2,6 +2,7 @@
 use Rattle.std.proofs.Common.{◌≡◌, ℕ, ◌+◌, ◌-◌, ◌*◌, ◌<◌, ◌≤◌, min, zero, suc, true, false, ◌&&◌, ℤ, pos, negsuc, ◌-ℤ◌, refl, sym, ap, subst, ◌∙◌, ◌⊎◌, inl, inr, ⊎_elim, arith}
 use Rattle.std.proofs.lemmas.Bool.{cases_lt, cond-true, cond-false, and_from, and_left, and_right, lt-ltb, le-ltb}
 use Rattle.std.proofs.lemmas.Int.{ints, to_z-of_z}
+use Rattle.std.specs.Prelude.{int_le, nat_abs}
 use mir.Syntax.{w32}
 use mir.Val.{SFits, to_z, of_z}
 use Rattle.jbig2_base.specs.declared.bitmap.operator.CombinationOperator.{CombinationOperator}
@@ -108,3 +109,19 @@ within-overlap page source x y left from columns top from_row rows done s t acro
     subst (λ (n : ℕ). WritesWithin n s t)
     (ap (λ (r : ℕ). r * most_words columns) high ∙ ap (λ (w : ℕ). overlap page.height source.height y * most_words w) wide)
     within
+
+-- a source that lies wholly on the page
+pub stamp-combined : (operator : CombinationOperator) (page source after : Grid) (x y : ℤ) (left top : ℕ) → x ≡ pos left → y ≡ pos top → left + source.width ≤ page.width → top + source.height ≤ page.height → after ≡ with_block operator page source left (left + source.width) top (top + source.height) 0 0 → after ≡ combined operator page source x y
+stamp-combined operator page source after x y left top column row right bottom drawn =
+    rows-combined operator page source after x y left 0 source.width top 0 source.height source.height (across x page.width source.width left column right) (across y page.height source.height top row bottom) refl drawn
+  where
+    across : (x : ℤ) (p s start : ℕ) → x ≡ pos start → start + s ≤ p → Axis x p s start 0 s
+    across x p s start e fits = record { difference = e ∙ omega (arith, ints); one = omega arith; size = omega arith }
+
+-- a place that is not negative, as a number without a sign
+pub as-natural : (x : ℤ) → SFits w32 x → int_le (pos 0) (to_z w32 (of_z w32 x)) ≡ true → x ≡ pos (nat_abs (to_z w32 (of_z w32 x)))
+as-natural x fits reached = subst (λ (z : ℤ). x ≡ pos (nat_abs z)) (sym (to_z-of_z w32 x fits)) (plain x (subst (λ (z : ℤ). int_le (pos 0) z ≡ true) (to_z-of_z w32 x fits) reached))
+  where
+    plain : (z : ℤ) → int_le (pos 0) z ≡ true → z ≡ pos (nat_abs z)
+    plain (pos n) e = refl
+    plain (negsuc n) e = grind (arith, ints)

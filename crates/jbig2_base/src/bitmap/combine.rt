@@ -1,5 +1,5 @@
 //! One bitmap combined with another, word by word (T.88, 7.4.1.5).
-ghost use Rattle.std.specs.Prelude.{◌≡◌, ℕ, ◌+◌, ◌-◌, ◌*◌, ◌/◌, ◌^◌, ◌<◌, ◌≤◌, min, pos, ◌-ℤ◌};
+ghost use Rattle.std.specs.Prelude.{◌≡◌, ℕ, true, ◌+◌, ◌-◌, ◌*◌, ◌/◌, ◌^◌, ◌<◌, ◌≤◌, min, pos, ◌-ℤ◌};
 ghost use Rattle.jbig2_base.specs.inner.Blocks.{with_block};
 ghost use Rattle.jbig2_base.specs.Combination.{combined, overlap, most_words, WritesWithin};
 ghost use Rattle.jbig2_base.specs.Operator.{combined_pixel};
@@ -40,23 +40,132 @@ impl<A: Allocator> Bitmap<A> {
         ensures steps { WritesWithin (overlap self.old.height other.now.height y
             * most_words (overlap self.old.width other.now.width x)) steps.old steps.new }
     {
-        let (left, from) = starts(x);
-        let (top, from_row) = starts(y);
-        let columns = (other.width().saturating_sub(from)).min(self.width().saturating_sub(left));
-        let rows = (other.height().saturating_sub(from_row)).min(self.height().saturating_sub(top));
-        if columns == 0 || rows == 0 {
+        if x >= 0 && y >= 0 && lies_within(self, other, x as u32, y as u32) {
+            stamp(self, other, operator, x as u32, y as u32, steps);
             return;
         }
-        let block = Block {
-            left,
-            top,
-            columns,
-            rows,
-            from,
-            from_row,
-        };
-        combine_block(self, other, operator, block, steps);
+        combine_part(self, other, x, y, operator, steps);
     }
+}
+
+/// Whether a source of one word a row lies wholly on the page, without making its block.
+#[inline(always)]
+fn lies_within<A: Allocator, B: Allocator>(
+    page: &Bitmap<A>,
+    source: &Bitmap<B>,
+    left: u32,
+    top: u32,
+) -> bool
+    ensures some { result ≡ true → 1 ≤ source.now.width }
+    ensures narrow { result ≡ true → source.now.width ≤ 64 }
+    ensures right { result ≡ true → left + source.now.width ≤ page.now.width }
+    ensures bottom { result ≡ true → top + source.now.height ≤ page.now.height }
+{
+    let columns = source.width();
+    if columns == 0 || columns > 64 {
+        return false;
+    }
+    u64::from(left) + u64::from(columns) <= u64::from(page.width())
+        && u64::from(top) + u64::from(source.height()) <= u64::from(page.height())
+}
+
+/// Combines a source of one word a row that lies wholly on the page.
+fn stamp<A: Allocator, B: Allocator, L: Ledger>(
+    page: &mut Bitmap<A>,
+    source: &Bitmap<B>,
+    operator: CombinationOperator,
+    left: u32,
+    top: u32,
+    steps: &mut Steps<L>,
+)
+    requires some { 1 ≤ source.now.width }
+    requires narrow { source.now.width ≤ 64 }
+    requires right { left + source.now.width ≤ page.old.width }
+    requires bottom { top + source.now.height ≤ page.old.height }
+    ensures value { page.new ≡ with_block operator page.old source.now left
+        (left + source.now.width) top (top + source.now.height) 0 0 }
+    ensures steps { WritesWithin (source.now.height * most_words source.now.width) steps.old
+        steps.new }
+{
+    match operator {
+        CombinationOperator::Or => {
+            stamp_by(page, source, CombinationOperator::Or, left, top, steps);
+        }
+        CombinationOperator::And => {
+            stamp_by(page, source, CombinationOperator::And, left, top, steps);
+        }
+        CombinationOperator::Xor => {
+            stamp_by(page, source, CombinationOperator::Xor, left, top, steps);
+        }
+        CombinationOperator::Xnor => {
+            stamp_by(page, source, CombinationOperator::Xnor, left, top, steps);
+        }
+        CombinationOperator::Replace => {
+            stamp_by(page, source, CombinationOperator::Replace, left, top, steps);
+        }
+    }
+}
+
+/// The same by an operator that the compiler knows.
+#[inline(always)]
+fn stamp_by<A: Allocator, B: Allocator, L: Ledger>(
+    page: &mut Bitmap<A>,
+    source: &Bitmap<B>,
+    operator: CombinationOperator,
+    left: u32,
+    top: u32,
+    steps: &mut Steps<L>,
+)
+    requires some { 1 ≤ source.now.width }
+    requires narrow { source.now.width ≤ 64 }
+    requires right { left + source.now.width ≤ page.old.width }
+    requires bottom { top + source.now.height ≤ page.old.height }
+    ensures value { page.new ≡ with_block operator page.old source.now left
+        (left + source.now.width) top (top + source.now.height) 0 0 }
+    ensures steps { WritesWithin (source.now.height * most_words source.now.width) steps.old
+        steps.new }
+{
+    let block = Block {
+        left,
+        top,
+        columns: source.width(),
+        rows: source.height(),
+        from: 0,
+        from_row: 0,
+    };
+    page.rows
+        .combine_block(&source.rows, operator, block, steps);
+}
+
+/// Combines what lies on the page of a source at any place.
+fn combine_part<A: Allocator, B: Allocator, L: Ledger>(
+    page: &mut Bitmap<A>,
+    source: &Bitmap<B>,
+    x: i32,
+    y: i32,
+    operator: CombinationOperator,
+    steps: &mut Steps<L>,
+)
+    ensures value { page.new ≡ combined operator page.old source.now x y }
+    ensures steps { WritesWithin (overlap page.old.height source.now.height y
+        * most_words (overlap page.old.width source.now.width x)) steps.old steps.new }
+{
+    let (left, from) = starts(x);
+    let (top, from_row) = starts(y);
+    let columns = (source.width().saturating_sub(from)).min(page.width().saturating_sub(left));
+    let rows = (source.height().saturating_sub(from_row)).min(page.height().saturating_sub(top));
+    if columns == 0 || rows == 0 {
+        return;
+    }
+    let block = Block {
+        left,
+        top,
+        columns,
+        rows,
+        from,
+        from_row,
+    };
+    combine_block(page, source, operator, block, steps);
 }
 
 /// Combines a block of the page with the source's pixels that lie on it.

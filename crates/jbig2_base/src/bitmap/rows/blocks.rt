@@ -75,6 +75,10 @@ pub fn narrow_rows<L: Ledger>(
         (block.left + block.columns) block.top (block.top + block.rows) block.from block.from_row }
     ensures steps { WritesWithin (block.rows * most_words block.columns) steps.old steps.new }
 {
+    if block.left % 64 + block.columns <= 64 {
+        near_rows(words, shape, source, source_shape, operator, block, steps);
+        return;
+    }
     for row in 0..block.rows {
         let line = Line {
             left: block.left,
@@ -84,6 +88,44 @@ pub fn narrow_rows<L: Ledger>(
             from_y: block.from_row as usize + row as usize,
         };
         narrow_row(words, shape, source, source_shape, operator, line, steps);
+    }
+}
+
+/// The same where each row lies in one word of the page too.
+#[inline(always)]
+fn near_rows<L: Ledger>(
+    words: &mut [u64],
+    shape: Shape,
+    source: &[u64],
+    source_shape: Shape,
+    operator: CombinationOperator,
+    block: Block,
+    steps: &mut Steps<L>,
+)
+    requires packed { HasShape shape words.old }
+    requires source_packed { HasShape source_shape source.now }
+    requires some { 1 ≤ block.columns }
+    requires right { block.left + block.columns ≤ shape.width }
+    requires bottom { block.top + block.rows ≤ shape.height }
+    requires source_right { block.from + block.columns ≤ source_shape.width }
+    requires source_bottom { block.from_row + block.rows ≤ source_shape.height }
+    requires one_word { block.from / 64 ≡ (block.from + block.columns - 1) / 64 }
+    requires near { block.left % 64 + block.columns ≤ 64 }
+    ensures packed { HasShape shape words.new }
+    ensures value { grid_in shape words.new
+        ≡ with_block operator (grid_in shape words.old) (grid_in source_shape source.now) block.left
+        (block.left + block.columns) block.top (block.top + block.rows) block.from block.from_row }
+    ensures steps { WritesWithin (block.rows * most_words block.columns) steps.old steps.new }
+{
+    for row in 0..block.rows {
+        let line = Line {
+            left: block.left,
+            columns: block.columns,
+            y: block.top as usize + row as usize,
+            from: block.from,
+            from_y: block.from_row as usize + row as usize,
+        };
+        near_row(words, shape, source, source_shape, operator, line, steps);
     }
 }
 
@@ -124,6 +166,46 @@ pub fn aligned_rows<L: Ledger>(
         };
         aligned_row(words, shape, source, source_shape, operator, line, steps);
     }
+}
+
+/// Combines a row that lies in one word of the source and in one of the page.
+#[inline(always)]
+fn near_row<L: Ledger>(
+    words: &mut [u64],
+    shape: Shape,
+    source: &[u64],
+    source_shape: Shape,
+    operator: CombinationOperator,
+    line: Line,
+    steps: &mut Steps<L>,
+)
+    requires packed { HasShape shape words.old }
+    requires source_packed { HasShape source_shape source.now }
+    requires some { 1 ≤ line.columns }
+    requires right { line.left + line.columns ≤ shape.width }
+    requires row { line.y < shape.height }
+    requires source_right { line.from + line.columns ≤ source_shape.width }
+    requires source_row { line.from_y < source_shape.height }
+    requires one_word { line.from / 64 ≡ (line.from + line.columns - 1) / 64 }
+    requires near { line.left % 64 + line.columns ≤ 64 }
+    ensures packed { HasShape shape words.new }
+    ensures value { grid_in shape words.new
+        ≡ with_run operator (grid_in shape words.old) line.left line.y line.columns
+        (λ i. pixel_at (grid_in source_shape source.now) (line.from + (i - line.left))
+        line.from_y) }
+    ensures steps { WritesWithin (most_words line.columns) steps.old steps.new }
+{
+    steps.load();
+    let from = line.from_y * source_shape.stride + (line.from / 64) as usize;
+    let bits = source[from] << (line.from % 64);
+    let offset = line.left % 64;
+    let run = Run {
+        y: line.y,
+        word: (line.left / 64) as usize,
+        offset,
+        count: line.columns,
+    };
+    combine_run(words, shape, operator, run, bits >> offset, steps);
 }
 
 /// Combines a row that lies in one word of the source.

@@ -1,33 +1,5 @@
-use Rattle.std.proofs.Common.{refl, inl, inr, arith}
-use Rattle.jbig2_base.proofs.CombineLemmas.{axis-at, none-combined, rows-combined, within-overlap}
-use Rattle.jbig2_base.proofs.CountLemmas.{within-none}
+use Rattle.jbig2_base.proofs.CombineLemmas.{as-natural, stamp-combined}
 use Rattle.jbig2_base.proofs.bitmap.Bitmap.combine.Goals as goal
-use Rattle.jbig2_base.proofs.bitmap.Bitmap.combine.Goals.{then-columns-eq0-via-then-columns-eq0, then-columns-eq0-via-else-columns-eq0+then-rows-eq0}
 
-pub returns-then-columns-eq0-clause-value : goal.returns-then-columns-eq0-clause-value
-returns-then-columns-eq0-clause-value g c =
-    none-combined c.args.operator c.args.self.now c.args.other.now c.args.x c.args.y c.starts-left.result.0 c.starts-left.result.1 c.min-columns.result c.starts-top.result.0 c.starts-top.result.1 c.min-rows.result
-    (axis-at c.args.x c.args.self.now.width c.args.other.now.width c.starts-left.result.0 c.starts-left.result.1 c.min-columns.result c.ranges.x c.starts-left.ensures.difference c.starts-left.ensures.one (omega (arith, c.min-columns.ensures)))
-    (axis-at c.args.y c.args.self.now.height c.args.other.now.height c.starts-top.result.0 c.starts-top.result.1 c.min-rows.result c.ranges.y c.starts-top.ensures.difference c.starts-top.ensures.one (omega (arith, c.min-rows.ensures)))
-    c.width-2.ensures.table
-    (elim c.then-columns-eq0.branch [
-      | then-columns-eq0-via-then-columns-eq0 w ↦ inl w.if-columns-eq0.true
-      | then-columns-eq0-via-else-columns-eq0+then-rows-eq0 w ↦ inr w.if-rows-eq0.true
-    ])
-
-pub returns-then-columns-eq0-clause-steps : goal.returns-then-columns-eq0-clause-steps
-returns-then-columns-eq0-clause-steps g c = within-none _ c.args.steps.now
-
-pub returns-clause-value : goal.returns-clause-value
-returns-clause-value g c =
-    rows-combined c.args.operator c.args.self.now c.args.other.now c.combine_block.new.page c.args.x c.args.y c.starts-left.result.0 c.starts-left.result.1 c.min-columns.result c.starts-top.result.0 c.starts-top.result.1 c.min-rows.result c.min-rows.result
-    (axis-at c.args.x c.args.self.now.width c.args.other.now.width c.starts-left.result.0 c.starts-left.result.1 c.min-columns.result c.ranges.x c.starts-left.ensures.difference c.starts-left.ensures.one (omega (arith, c.min-columns.ensures)))
-    (axis-at c.args.y c.args.self.now.height c.args.other.now.height c.starts-top.result.0 c.starts-top.result.1 c.min-rows.result c.ranges.y c.starts-top.ensures.difference c.starts-top.ensures.one (omega (arith, c.min-rows.ensures)))
-    refl c.combine_block.ensures.value
-
-pub returns-clause-steps : goal.returns-clause-steps
-returns-clause-steps g c =
-    within-overlap c.args.self.now c.args.other.now c.args.x c.args.y c.starts-left.result.0 c.starts-left.result.1 c.min-columns.result c.starts-top.result.0 c.starts-top.result.1 c.min-rows.result c.min-rows.result c.args.steps.now c.combine_block.new.steps
-    (axis-at c.args.x c.args.self.now.width c.args.other.now.width c.starts-left.result.0 c.starts-left.result.1 c.min-columns.result c.ranges.x c.starts-left.ensures.difference c.starts-left.ensures.one (omega (arith, c.min-columns.ensures)))
-    (axis-at c.args.y c.args.self.now.height c.args.other.now.height c.starts-top.result.0 c.starts-top.result.1 c.min-rows.result c.ranges.y c.starts-top.ensures.difference c.starts-top.ensures.one (omega (arith, c.min-rows.ensures)))
-    refl c.combine_block.ensures.steps
+pub returns-then-lies_within-clause-value : goal.returns-then-lies_within-clause-value
+returns-then-lies_within-clause-value g c = stamp-combined c.args.operator c.args.self.now c.args.other.now c.stamp.new.page c.args.x c.args.y _ _ (as-natural c.args.x c.ranges.x c.if-x-ge0.true) (as-natural c.args.y c.ranges.y c.if-y-ge0.true) (c.lies_within.ensures.right c.if-lies_within.true) (c.lies_within.ensures.bottom c.if-lies_within.true) c.stamp.ensures.value

@@ -1,0 +1,51 @@
+use Rattle.std.proofs.Common.{◌≡◌, ◌+◌, ◌*◌, ◌∙◌, sym, subst, ap, ℕ, inr, arith}
+use Rattle.jbig2_base.specs.Grid.{Grid}
+use Rattle.jbig2_base.specs.Combination.{WritesWithin, most_words}
+use Rattle.jbig2_base.specs.inner.Blocks.{with_block}
+use Rattle.jbig2_base.specs.inner.Packed.{packed_pixel}
+use Rattle.jbig2_base.specs.inner.Shapes.{grid_in}
+use Rattle.jbig2_base.proofs.BlockLemmas.{block-none}
+use Rattle.jbig2_base.proofs.CountLemmas.{within-none, within-then}
+use Rattle.jbig2_base.proofs.GridLemmas.{grid_of-pixel_at}
+use Rattle.jbig2_base.proofs.RunLemmas.{rows-more}
+use Rattle.jbig2_base.proofs.bitmap.rows.blocks.near_rows.Goals as goal
+
+pub loop-row-init : goal.loop-row-init
+loop-row-init g c =
+    let s = c.args.shape in
+    let b = c.args.block in
+    let page : Grid = grid_in s c.args.words.now in
+    let source : Grid = grid_in c.args.source_shape c.args.source.now in
+    record {
+      packed = c.requires.packed;
+      value = block-none c.args.operator page source b.left (b.left + b.columns) b.top (b.top + 0) b.from b.from_row (sym (grid_of-pixel_at s.width s.height (packed_pixel s.stride c.args.words.now))) (inr (omega arith));
+      steps = within-none _ c.args.steps.now;
+    }
+
+pub loop-row-preserved : goal.loop-row-preserved
+loop-row-preserved g c =
+    let s = c.args.shape in
+    let b = c.args.block in
+    let page : Grid = grid_in s c.args.words.now in
+    let source : Grid = grid_in c.args.source_shape c.args.source.now in
+    let row : ℕ = c.loop-row.row in
+    record {
+      packed = c.near_row.ensures.packed;
+      value = rows-more c.args.operator page source (grid_in s c.loop-row.words) (grid_in s c.near_row.new.words) b.left b.columns b.top row (b.top + row) b.from b.from_row (b.from_row + row) (omega arith) (omega arith) (omega arith) c.loop-row.invariant.value c.near_row.ensures.value;
+      steps = within-then row (most_words b.columns) c.args.steps.now c.loop-row.steps c.near_row.new.steps c.loop-row.invariant.steps c.near_row.ensures.steps;
+    }
+
+pub returns-clause-value : goal.returns-clause-value
+returns-clause-value g c =
+    let s = c.args.shape in
+    let b = c.args.block in
+    let page : Grid = grid_in s c.args.words.now in
+    let source : Grid = grid_in c.args.source_shape c.args.source.now in
+    let all : c.loop-row.row ≡ b.rows = omega arith in
+    c.loop-row.invariant.value ∙ ap (λ (n : ℕ). with_block c.args.operator page source b.left (b.left + b.columns) b.top (b.top + n) b.from b.from_row) all
+
+pub returns-clause-steps : goal.returns-clause-steps
+returns-clause-steps g c =
+    let b = c.args.block in
+    let all : c.loop-row.row ≡ b.rows = omega arith in
+    subst (λ (n : ℕ). WritesWithin (n * most_words b.columns) c.args.steps.now c.loop-row.steps) all c.loop-row.invariant.steps
