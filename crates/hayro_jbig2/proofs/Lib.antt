@@ -1,3 +1,4 @@
+mod Answered
 pub mod Books
 pub mod ByPages
 pub mod Consuming

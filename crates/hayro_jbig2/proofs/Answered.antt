@@ -1,0 +1,219 @@
+-- Law: no definition answers an error that bytes cannot bring about: that of files, of pages and of what they draw.
+use Rattle.std.proofs.Common.{ℕ, Bool, true, false, List, [], ◌∷◌, Option, Some, None, Result, Ok, Err}
+use Rattle.jbig2_base.specs.Grid.{Grid}
+use Rattle.jbig2_base.specs.Segment.{Header, SegmentView}
+use Rattle.jbig2_base.specs.declared.error.DecodeError.{DecodeError}
+use Rattle.jbig2_base.specs.declared.segment.SegmentType.{SegmentType}
+use Rattle.jbig2_base.specs.declared.segment.SegmentType.TheVariants as types
+use Rattle.jbig2_base.proofs.Answered.{Answered, answered-file, answered-if, answered-initial_page, answered-next, answered-number, answered-refusal, answered-sorted}
+use Rattle.jbig2_coder.specs.PrefixCode.{Member}
+use Rattle.jbig2_coder.proofs.Answered.{answered-custom}
+use Rattle.jbig2_halftone.specs.Patterns.{Patterns}
+use Rattle.jbig2_halftone.proofs.Answered.{answered-halftone, answered-halftone_header, answered-pattern_header, answered-patterns}
+use Rattle.jbig2_region.specs.RegionInfo.{PlacedRegion}
+use Rattle.jbig2_region.proofs.Answered.{answered-generic, answered-generic_header, answered-refined, answered-refinement_header}
+use Rattle.jbig2_symbol.specs.Symbols.{Symbols}
+use Rattle.jbig2_symbol.proofs.Answered.{answered-symbol_header, answered-symbols_decoded}
+use Rattle.jbig2_text.proofs.AnsweredRegions.{answered-text, answered-text_header}
+use Rattle.hayro_jbig2.specs.Dictionaries.{extension, pattern_dictionary_at, symbol_dictionary_at, with_code, with_patterns, with_symbols}
+use Rattle.hayro_jbig2.specs.Files.{associated, book_at, filed_each, filed_from}
+use Rattle.hayro_jbig2.specs.FirstPage.{first_page, some_page}
+use Rattle.hayro_jbig2.specs.Globals.{globals_at, named_by, named_from}
+use Rattle.hayro_jbig2.specs.Names.{Names, no_names}
+use Rattle.hayro_jbig2.specs.Page.{Drawing, ReadPage, embedded, grid_of_page, immediate, intermediate, keeping, page_begun, region_at, segment_on, segments_drawn, shown}
+use Rattle.hayro_jbig2.specs.Referred.{Referred, with_either, with_number, with_numbers, with_table}
+use Rattle.hayro_jbig2.specs.Regions.{generic_at, halftone_at, referred_region, refinement_at, some_patterns, text_at}
+use Rattle.hayro_jbig2.specs.declared.kept.Kept.{Kept}
+use Rattle.hayro_jbig2.specs.declared.region.RegionKind.{RegionKind}
+use Rattle.hayro_jbig2.specs.declared.region.RegionKind.TheVariants as kinds
+
+-- ---- what a segment refers to
+answered-with_table : (strict : Bool) (code : Option (List Member)) (r : Referred) → Answered (with_table strict code r)
+answered-with_table strict (Some code) r = tt
+answered-with_table strict None r = search (answered-next, answered-refusal)
+
+answered-with_either : (strict : Bool) (s : Option Symbols) (code : Option (List Member)) (r : Referred) → Answered (with_either strict s code r)
+answered-with_either strict (Some s) code r = search (answered-next, answered-refusal)
+answered-with_either strict None code r = answered-with_table strict code r
+
+answered-with_numbers : (strict : Bool) (own shared : Names) (numbers : List ℕ) (r : Referred) → Answered (with_numbers strict own shared numbers r)
+answered-with_numbers strict own shared [] r = tt
+answered-with_numbers strict own shared (number ∷ numbers) r =
+    answered-next (with_number strict own shared number r) _ (answered-with_either strict _ _ r) (λ more. answered-with_numbers strict own shared numbers more)
+
+-- ---- dictionaries and tables
+answered-symbol_dictionary : (strict : Bool) (own shared : Names) (p : SegmentView) → Answered (symbol_dictionary_at strict own shared p)
+unfolding symbol_dictionary_at
+answered-symbol_dictionary strict own shared p = search (answered-next, answered-with_numbers, answered-symbol_header, answered-symbols_decoded)
+
+answered-with_symbols : (strict : Bool) (shared : Names) (p : SegmentView) (own : Names) → Answered (with_symbols strict shared p own)
+unfolding with_symbols
+answered-with_symbols strict shared p own = search (answered-next, answered-symbol_dictionary)
+
+answered-pattern_dictionary : (strict : Bool) (bytes : List ℕ) → Answered (pattern_dictionary_at strict bytes)
+unfolding pattern_dictionary_at
+answered-pattern_dictionary strict bytes = search (answered-next, answered-pattern_header, answered-patterns)
+
+answered-with_patterns : (strict : Bool) (p : SegmentView) (own : Names) → Answered (with_patterns strict p own)
+unfolding with_patterns
+answered-with_patterns strict p own = search (answered-next, answered-pattern_dictionary)
+
+answered-with_code : (p : SegmentView) (own : Names) → Answered (with_code p own)
+unfolding with_code
+answered-with_code p own = search (answered-next, answered-custom)
+
+answered-extension : (strict : Bool) (bytes : List ℕ) → Answered (extension strict bytes)
+answered-extension true bytes = search (answered-next, answered-number, answered-refusal)
+answered-extension false bytes = tt
+
+-- ---- regions
+answered-text_at : (strict : Bool) (own shared : Names) (p : SegmentView) → Answered (text_at strict own shared p)
+unfolding text_at
+answered-text_at strict own shared p = search (answered-next, answered-with_numbers, answered-text_header, answered-text)
+
+answered-some_patterns : (patterns : Option Patterns) → Answered (some_patterns patterns)
+answered-some_patterns (Some patterns) = tt
+answered-some_patterns None = tt
+
+answered-halftone_at : (strict : Bool) (own shared : Names) (p : SegmentView) → Answered (halftone_at strict own shared p)
+unfolding halftone_at
+answered-halftone_at strict own shared p = search (answered-next, answered-some_patterns, answered-halftone_header, answered-halftone)
+
+answered-generic_at : (strict is_intermediate : Bool) (p : SegmentView) → Answered (generic_at strict is_intermediate p)
+unfolding generic_at
+answered-generic_at strict is_intermediate p = search (answered-next, answered-generic_header, answered-generic)
+
+answered-referred_region : (strict : Bool) (numbers : List ℕ) (regions : List (Kept PlacedRegion)) → Answered (referred_region strict numbers regions)
+answered-referred_region strict [] regions = tt
+answered-referred_region strict (number ∷ others) regions = search (answered-next, answered-refusal)
+
+answered-refinement_at : (strict is_intermediate : Bool) (page : Grid) (regions : List (Kept PlacedRegion)) (p : SegmentView) → Answered (refinement_at strict is_intermediate page regions p)
+unfolding refinement_at
+answered-refinement_at strict is_intermediate page regions p =
+    search (answered-next, answered-referred_region, answered-refusal, answered-refinement_header, answered-refined) depth 8
+
+answered-region_at : (strict : Bool) (globals : Names) (kind : RegionKind) (is_intermediate : Bool) (p : SegmentView) (d : Drawing) → Answered (region_at strict globals kind is_intermediate p d)
+answered-region_at strict globals kinds.Text is_intermediate p d = answered-text_at strict d.names globals p
+answered-region_at strict globals kinds.Halftone is_intermediate p d = answered-halftone_at strict d.names globals p
+answered-region_at strict globals kinds.Generic is_intermediate p d = answered-generic_at strict is_intermediate p
+answered-region_at strict globals kinds.GenericRefinement is_intermediate p d = answered-refinement_at strict is_intermediate d.grid d.regions p
+
+answered-shown : (strict : Bool) (d : Drawing) (r : Result PlacedRegion DecodeError) → Answered r → Answered (shown strict d r)
+answered-shown strict d (Ok r) is = tt
+answered-shown strict d (Err e) is = answered-if strict (Err e) _ is tt
+
+answered-immediate : (strict : Bool) (globals : Names) (kind : RegionKind) (p : SegmentView) (d : Drawing) → Answered (immediate strict globals kind p d)
+unfolding immediate
+answered-immediate strict globals kind p d = answered-shown strict d (region_at strict globals kind false p d) (answered-region_at strict globals kind false p d)
+
+answered-intermediate : (strict : Bool) (globals : Names) (kind : RegionKind) (p : SegmentView) (d : Drawing) → Answered (intermediate strict globals kind p d)
+unfolding intermediate
+answered-intermediate strict globals kind p d = answered-next (region_at strict globals kind true p d) _ (answered-region_at strict globals kind true p d) (λ region. tt)
+
+answered-keeping : (d : Drawing) (kept : Result Names DecodeError) → Answered kept → Answered (keeping d kept)
+answered-keeping d kept is = answered-next kept _ is (λ names. tt)
+
+-- ---- segments
+-- one with this header but for its type
+abbrev of_type : SegmentType → Header → List ℕ → SegmentView
+of_type kind h bytes = record { header = record h { segment_type = kind }; bytes = bytes }
+
+answered-named_by : (strict : Bool) (kind : SegmentType) (h : Header) (bytes : List ℕ) (names : Names) → Answered (named_by strict (of_type kind h bytes) names)
+answered-named_by strict types.SymbolDictionary h bytes names = answered-with_symbols strict no_names (of_type types.SymbolDictionary h bytes) names
+answered-named_by strict types.IntermediateTextRegion h bytes names = tt
+answered-named_by strict types.ImmediateTextRegion h bytes names = tt
+answered-named_by strict types.ImmediateLosslessTextRegion h bytes names = tt
+answered-named_by strict types.PatternDictionary h bytes names = answered-with_patterns strict (of_type types.PatternDictionary h bytes) names
+answered-named_by strict types.IntermediateHalftoneRegion h bytes names = tt
+answered-named_by strict types.ImmediateHalftoneRegion h bytes names = tt
+answered-named_by strict types.ImmediateLosslessHalftoneRegion h bytes names = tt
+answered-named_by strict types.IntermediateGenericRegion h bytes names = tt
+answered-named_by strict types.ImmediateGenericRegion h bytes names = tt
+answered-named_by strict types.ImmediateLosslessGenericRegion h bytes names = tt
+answered-named_by strict types.IntermediateGenericRefinementRegion h bytes names = tt
+answered-named_by strict types.ImmediateGenericRefinementRegion h bytes names = tt
+answered-named_by strict types.ImmediateLosslessGenericRefinementRegion h bytes names = tt
+answered-named_by strict types.PageInformation h bytes names = tt
+answered-named_by strict types.EndOfPage h bytes names = tt
+answered-named_by strict types.EndOfStripe h bytes names = tt
+answered-named_by strict types.EndOfFile h bytes names = tt
+answered-named_by strict types.Profiles h bytes names = tt
+answered-named_by strict types.Tables h bytes names = answered-with_code (of_type types.Tables h bytes) names
+answered-named_by strict types.ColourPalette h bytes names = tt
+answered-named_by strict types.Extension h bytes names = answered-next (extension strict bytes) _ (answered-extension strict bytes) (λ known. tt)
+answered-named_by strict types.Reserved h bytes names = tt
+
+answered-named : (strict : Bool) (ps : List SegmentView) (names : Names) → Answered (named_from strict ps names)
+answered-named strict [] names = tt
+answered-named strict (p ∷ ps) names =
+    answered-next (named_by strict p names) _ (answered-named_by strict p.header.segment_type p.header p.bytes names) (λ more. answered-named strict ps more)
+
+pub answered-globals : (strict : Bool) (bytes : List ℕ) → Answered (globals_at strict bytes)
+unfolding globals_at
+answered-globals strict bytes = search (answered-next, answered-sorted, answered-named)
+
+answered-segment_on : (strict : Bool) (globals : Names) (kind : SegmentType) (h : Header) (bytes : List ℕ) (d : Drawing) → Answered (segment_on strict globals (of_type kind h bytes) d)
+answered-segment_on strict globals types.SymbolDictionary h bytes d = answered-keeping d _ (answered-with_symbols strict globals (of_type types.SymbolDictionary h bytes) d.names)
+answered-segment_on strict globals types.IntermediateTextRegion h bytes d = answered-intermediate strict globals kinds.Text (of_type types.IntermediateTextRegion h bytes) d
+answered-segment_on strict globals types.ImmediateTextRegion h bytes d = answered-immediate strict globals kinds.Text (of_type types.ImmediateTextRegion h bytes) d
+answered-segment_on strict globals types.ImmediateLosslessTextRegion h bytes d = answered-immediate strict globals kinds.Text (of_type types.ImmediateLosslessTextRegion h bytes) d
+answered-segment_on strict globals types.PatternDictionary h bytes d = answered-keeping d _ (answered-with_patterns strict (of_type types.PatternDictionary h bytes) d.names)
+answered-segment_on strict globals types.IntermediateHalftoneRegion h bytes d = answered-intermediate strict globals kinds.Halftone (of_type types.IntermediateHalftoneRegion h bytes) d
+answered-segment_on strict globals types.ImmediateHalftoneRegion h bytes d = answered-immediate strict globals kinds.Halftone (of_type types.ImmediateHalftoneRegion h bytes) d
+answered-segment_on strict globals types.ImmediateLosslessHalftoneRegion h bytes d = answered-immediate strict globals kinds.Halftone (of_type types.ImmediateLosslessHalftoneRegion h bytes) d
+answered-segment_on strict globals types.IntermediateGenericRegion h bytes d = answered-intermediate strict globals kinds.Generic (of_type types.IntermediateGenericRegion h bytes) d
+answered-segment_on strict globals types.ImmediateGenericRegion h bytes d = answered-immediate strict globals kinds.Generic (of_type types.ImmediateGenericRegion h bytes) d
+answered-segment_on strict globals types.ImmediateLosslessGenericRegion h bytes d = answered-immediate strict globals kinds.Generic (of_type types.ImmediateLosslessGenericRegion h bytes) d
+answered-segment_on strict globals types.IntermediateGenericRefinementRegion h bytes d = answered-intermediate strict globals kinds.GenericRefinement (of_type types.IntermediateGenericRefinementRegion h bytes) d
+answered-segment_on strict globals types.ImmediateGenericRefinementRegion h bytes d = answered-immediate strict globals kinds.GenericRefinement (of_type types.ImmediateGenericRefinementRegion h bytes) d
+answered-segment_on strict globals types.ImmediateLosslessGenericRefinementRegion h bytes d = answered-immediate strict globals kinds.GenericRefinement (of_type types.ImmediateLosslessGenericRefinementRegion h bytes) d
+answered-segment_on strict globals types.PageInformation h bytes d = tt
+answered-segment_on strict globals types.EndOfPage h bytes d = tt
+answered-segment_on strict globals types.EndOfStripe h bytes d = tt
+answered-segment_on strict globals types.EndOfFile h bytes d = tt
+answered-segment_on strict globals types.Profiles h bytes d = tt
+answered-segment_on strict globals types.Tables h bytes d = answered-keeping d _ (answered-with_code (of_type types.Tables h bytes) d.names)
+answered-segment_on strict globals types.ColourPalette h bytes d = tt
+answered-segment_on strict globals types.Extension h bytes d = answered-next (extension strict bytes) _ (answered-extension strict bytes) (λ known. tt)
+answered-segment_on strict globals types.Reserved h bytes d = tt
+
+answered-drawn : (strict : Bool) (globals : Names) (ps : List SegmentView) (d : Drawing) → Answered (segments_drawn strict globals ps d)
+answered-drawn strict globals [] d = tt
+answered-drawn strict globals (p ∷ ps) d =
+    answered-if _ (Ok d) _ tt
+    (answered-next (segment_on strict globals p d) _ (answered-segment_on strict globals p.header.segment_type p.header p.bytes d) (λ e. answered-drawn strict globals ps e))
+
+-- ---- pages and files
+-- a page whose globals gave names, or such an error
+pub answered-grid : (page : ReadPage) → Answered page.globals → Answered (grid_of_page page)
+unfolding grid_of_page
+answered-grid page is = answered-next page.globals _ is (λ globals. answered-next (segments_drawn page.strict globals page.segments (page_begun page.initial_page)) _ (answered-drawn page.strict globals page.segments _) (λ d. tt))
+
+pub answered-embedded : (strict : Bool) (globals : Names) (bytes : List ℕ) → Answered (embedded strict globals bytes)
+unfolding embedded
+answered-embedded strict globals bytes = search (answered-next, answered-sorted, answered-initial_page)
+
+answered-associated : (strict : Bool) (ps : List SegmentView) → Answered (associated strict ps)
+answered-associated strict [] = tt
+answered-associated strict (p ∷ ps) = answered-if _ (Err _) (associated strict ps) tt (answered-associated strict ps)
+
+answered-filed : (strict : Bool) (own : List SegmentView) → Answered (filed_from strict own)
+unfolding filed_from
+answered-filed strict own = search (answered-next, answered-refusal, answered-initial_page)
+
+answered-each : (strict : Bool) (all : List (List SegmentView)) → Answered (filed_each strict all)
+answered-each strict [] = tt
+answered-each strict (own ∷ others) =
+    answered-next (filed_from strict own) _ (answered-filed strict own) (λ page. answered-next (filed_each strict others) _ (answered-each strict others) (λ pages. tt))
+
+pub answered-book : (strict : Bool) (bytes : List ℕ) → Answered (book_at strict bytes)
+unfolding book_at
+answered-book strict bytes = search (answered-next, answered-file, answered-associated, answered-refusal, answered-each) depth 8
+
+answered-some_page : (page : Option ReadPage) → Answered (some_page page)
+answered-some_page (Some page) = tt
+answered-some_page None = tt
+
+pub answered-first_page : (bytes : List ℕ) → Answered (first_page bytes)
+unfolding first_page
+answered-first_page bytes = search (answered-next, answered-book, answered-some_page)
