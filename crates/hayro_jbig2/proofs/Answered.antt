@@ -1,5 +1,8 @@
 -- Law: no definition answers an error that bytes cannot bring about: that of files, of pages and of what they draw.
-use Rattle.std.proofs.Common.{ℕ, Bool, true, false, List, [], ◌∷◌, Option, Some, None, Result, Ok, Err}
+use Rattle.std.proofs.Common.{ℕ, Bool, true, false, List, [], ◌∷◌, length, Option, Some, None, Result, Ok, Err}
+use Rattle.std.specs.Prelude.{IfOk, ◌&&◌}
+use Rattle.jbig2_base.specs.Answer.{◌>>=◌, refuse_if}
+use Rattle.jbig2_base.specs.File.{file_at}
 use Rattle.jbig2_base.specs.Grid.{Grid}
 use Rattle.jbig2_base.specs.Segment.{Header, SegmentView}
 use Rattle.jbig2_base.specs.declared.error.DecodeError.{DecodeError}
@@ -16,7 +19,7 @@ use Rattle.jbig2_symbol.specs.Symbols.{Symbols}
 use Rattle.jbig2_symbol.proofs.Answered.{answered-symbol_header, answered-symbols_decoded}
 use Rattle.jbig2_text.proofs.AnsweredRegions.{answered-text, answered-text_header}
 use Rattle.hayro_jbig2.specs.Dictionaries.{extension, pattern_dictionary_at, symbol_dictionary_at, with_code, with_patterns, with_symbols}
-use Rattle.hayro_jbig2.specs.Files.{associated, book_at, filed_each, filed_from}
+use Rattle.hayro_jbig2.specs.Files.{ReadFile, associated, book_at, by_pages, filed_each, filed_from, miscounts, of_page}
 use Rattle.hayro_jbig2.specs.FirstPage.{first_page, some_page}
 use Rattle.hayro_jbig2.specs.Globals.{globals_at, named_by, named_from}
 use Rattle.hayro_jbig2.specs.Names.{Names, no_names}
@@ -209,6 +212,21 @@ answered-each strict (own ∷ others) =
 pub answered-book : (strict : Bool) (bytes : List ℕ) → Answered (book_at strict bytes)
 unfolding book_at
 answered-book strict bytes = search (answered-next, answered-file, answered-associated, answered-refusal, answered-each) depth 8
+
+-- what holds of the last step's value holds of the whole
+answered-last : {A B : Type 0} (P : B → Type 0) (r : Result A DecodeError) (next : A → Result B DecodeError) → ((x : A) → IfOk (next x) P) → IfOk (r >>= next) P
+answered-last P (Ok x) next rest = rest x
+answered-last P (Err e) next rest = tt
+
+-- the error that a file's globals gave, for its pages
+pub answered-book_globals : (strict : Bool) (bytes : List ℕ) → IfOk (book_at strict bytes) (λ book. Answered book.globals)
+unfolding book_at
+answered-book_globals strict bytes =
+    let P : ReadFile → Type 0 = λ book. Answered book.globals in
+    answered-last P (file_at strict bytes) _ (λ file.
+    answered-last P (associated strict file.1) _ (λ known.
+    answered-last P (refuse_if (strict && miscounts file.0.number_of_pages (length (by_pages file.1))) _) _ (λ counted.
+    answered-last P (filed_each strict (by_pages file.1)) _ (λ pages. answered-named strict (of_page 0 file.1) no_names))))
 
 answered-some_page : (page : Option ReadPage) → Answered (some_page page)
 answered-some_page (Some page) = tt
