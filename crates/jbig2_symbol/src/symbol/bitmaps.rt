@@ -9,12 +9,15 @@ ghost use Rattle.jbig2_symbol.specs.SymbolBitmaps.{symbols_cut, put_behind, raw_
 use jbig2_base::bitmap::Bitmap;
 use jbig2_base::bitmap::part::Area;
 use jbig2_base::bitmap::steps::Steps;
-use jbig2_base::error::Result;
+use jbig2_base::error::{DecodeError, OverflowError, Result};
 use jbig2_base::field::bytes_field;
 use jbig2_base::reader::Reader;
 use jbig2_mmr::mmr;
 use std::alloc::Allocator;
 use std::sync::ledger::Ledger;
+
+/// The most pixels of a collective bitmap.
+const MOST_PIXELS: u64 = 65535 * 65535;
 
 /// Row `y` of rows that are not coded, onto a bitmap that has the rows above.
 fn fill_row<A: Allocator, L: Ledger>(
@@ -41,7 +44,8 @@ fn fill_row<A: Allocator, L: Ledger>(
     }
 }
 
-/// Rows that are not coded, at the reader's place (T.88, 6.5.9).
+/// Rows that are not coded, at the reader's place (T.88, 6.5.9). Memory is taken for them once their
+/// bytes are there.
 #[tactic(auto, unfolding(crate::specs::SymbolBitmaps::raw_rows))]
 fn read_raw_rows<A: Allocator, L: Ledger>(
     alloc: A,
@@ -55,12 +59,16 @@ fn read_raw_rows<A: Allocator, L: Ledger>(
         Gives (λ bitmap. (bitmap, reader.new.bytes)) result meant }
     ensures aligned { IsAligned reader.new }
 {
-    let mut bitmap = Bitmap::new_wide(alloc, width, height)?;
+    if u64::from(width) * u64::from(height) > MOST_PIXELS {
+        return Err(DecodeError::Overflow(OverflowError::BitmapDimension));
+    }
     if width == 0 {
-        return Ok(bitmap);
+        let empty = Bitmap::new_wide(alloc, width, height)?;
+        return Ok(empty);
     }
     let stride = width.div_ceil(8) as usize;
     let bytes = bytes_field(reader, height as usize * stride)?;
+    let mut bitmap = Bitmap::new_wide(alloc, width, height)?;
     for y in 0..height {
         fill_row(bytes, y, &mut bitmap, steps);
     }

@@ -4,7 +4,7 @@ use Rattle.jbig2_base.proofs.FillLemmas.{blank-filled}
 use Rattle.jbig2_symbol.proofs.symbol.bitmaps.read_raw_rows.Goals as goal
 
 pub returns-then-width-eq0-clause-value : goal.returns-then-width-eq0-clause-value
-returns-then-width-eq0-clause-value g c = raw-none c.args.width c.args.height c.in_ok-bitmap.bitmap c.args.reader.now.bytes c.if-width-eq0.true c.in_ok-bitmap.ensures
+returns-then-width-eq0-clause-value g c = raw-none c.args.width c.args.height c.in_ok-empty.empty c.args.reader.now.bytes c.if-width-eq0.true c.in_ok-empty.ensures
 
 pub loop-y-init : goal.loop-y-init
 loop-y-init g c = blank-filled _ _ _ _ (wide-blank c.args.width c.args.height c.in_ok-bitmap.bitmap c.in_ok-bitmap.ensures)
