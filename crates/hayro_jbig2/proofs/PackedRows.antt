@@ -39,7 +39,7 @@ byte-of-rest rest word i small same =
     same (63 - (8 * 0 + j)) (omega (arith, small, below)) (omega arith) ∙ ap (λ (n : ℕ). bit word n) place))
 
 -- it is the byte of the pixels that the word holds
-byte-pixels : (g : Grid) (word column i y : ℕ) → i < 8 → ((j : ℕ) → j < 64 → bit word (63 - j) ≡ pixel_at g (8 * column + j) y) → word_byte (bit word) i ≡ packed_byte g (column + i) y
+pub byte-pixels : (g : Grid) (word column i y : ℕ) → i < 8 → ((j : ℕ) → j < 64 → bit word (63 - j) ≡ pixel_at g (8 * column + j) y) → word_byte (bit word) i ≡ packed_byte g (column + i) y
 unfolding packed_byte
 byte-pixels g word column i y small same =
     ap (λ (bits : List Bool). value_of_bits bits)
@@ -48,15 +48,42 @@ byte-pixels g word column i y small same =
     let place : 8 * column + (8 * i + j) ≡ 8 * (column + i) + j = omega arith in
     same (8 * i + j) (omega (arith, small, below)) ∙ ap (λ (n : ℕ). pixel_at g n y) place))
 
--- some bytes more of the rows, taken off a word, from byte `column` of row y on
-pub written-more : (g : Grid) (w start place column y count word : ℕ) (before after : List ℕ)
-    → start + place ≡ y * row_bytes w + column → column + count ≤ row_bytes w → count ≤ 8
-    → ((j : ℕ) → j < 64 → bit word (63 - j) ≡ pixel_at g (8 * column + j) y)
+-- byte j of a word of a row that begins at byte `column` from word `first` on
+pub row-word-byte : (g : Grid) (words : List ℕ) (first index column y j : ℕ) → 8 * first ≡ column → first + index < length words → j < 8
+    → ((i k : ℕ) → i < length words → k < 64 → bit (get_or words i 0) (63 - k) ≡ pixel_at g (64 * i + k) y)
+    → word_byte (bit (get_or words (first + index) 0)) j ≡ packed_byte g (column + (8 * index + j)) y
+row-word-byte g words first index column y j at inside small loaded =
+    let place : 8 * (first + index) + j ≡ column + (8 * index + j) = omega (arith, at) in
+    let pixels : 64 * (first + index) ≡ 8 * (8 * (first + index)) = omega arith in
+    byte-pixels g (get_or words (first + index) 0) (8 * (first + index)) j y small (λ k few. loaded (first + index) k inside few ∙ ap (λ (n : ℕ). pixel_at g (n + k) y) pixels)
+    ∙ ap (λ (n : ℕ). packed_byte g n y) place
+
+-- a word more of them
+pub words-more : (g : Grid) (words before after : List ℕ) (first index column y place : ℕ) → 8 * first ≡ column → first + index < length words
+    → ((i k : ℕ) → i < length words → k < 64 → bit (get_or words i 0) (63 - k) ≡ pixel_at g (64 * i + k) y)
+    → ((i : ℕ) → i < 8 * index → get_or before (place + i) 0 ≡ packed_byte g (column + i) y)
+    → ((k : ℕ) → k < place + 8 * index → get_or after k 0 ≡ get_or before k 0)
+    → ((j : ℕ) → j < 8 → get_or after (place + 8 * index + j) 0 ≡ word_byte (bit (get_or words (first + index) 0)) j)
+    → (i : ℕ) → i < 8 * (index + 1) → get_or after (place + i) 0 ≡ packed_byte g (column + i) y
+words-more g words before after first index column y place at inside loaded written kept put i below =
+    ⊎_elim
+    (λ (early : i < 8 * index). kept (place + i) (omega (arith, early)) ∙ written i early)
+    (λ (late : 8 * index ≤ i).
+    let j : ℕ = i - 8 * index in
+    let small : j < 8 = omega (arith, late, below) in
+    let there : place + 8 * index + j ≡ place + i = omega (arith, late) in
+    let byte : 8 * index + j ≡ i = omega (arith, late) in
+    ap (λ (n : ℕ). get_or after n 0) (sym there) ∙ put j small ∙ row-word-byte g words first index column y j at inside small loaded ∙ ap (λ (n : ℕ). packed_byte g (column + n) y) byte)
+    (cases_lt i (8 * index))
+
+-- some bytes more of the rows, from byte `column` of row y on
+pub written-more : (g : Grid) (w start place column y count : ℕ) (before after : List ℕ)
+    → start + place ≡ y * row_bytes w + column → column + count ≤ row_bytes w
     → ((k : ℕ) → k < place → get_or before k 0 ≡ packed_byte g ((start + k) % row_bytes w) ((start + k) / row_bytes w))
     → ((k : ℕ) → k < place → get_or after k 0 ≡ get_or before k 0)
-    → ((i : ℕ) → i < count → get_or after (place + i) 0 ≡ word_byte (bit word) i)
+    → ((i : ℕ) → i < count → get_or after (place + i) 0 ≡ packed_byte g (column + i) y)
     → (k : ℕ) → k < place + count → get_or after k 0 ≡ packed_byte g ((start + k) % row_bytes w) ((start + k) / row_bytes w)
-written-more g w start place column y count word before after counted narrow few loaded written kept bytes k below =
+written-more g w start place column y count before after counted narrow written kept bytes k below =
     ⊎_elim
     (λ (early : k < place). kept k early ∙ written k early)
     (λ (late : place ≤ k).
@@ -67,7 +94,7 @@ written-more g w start place column y count word before after counted narrow few
     let inside : column + i < row_bytes w = omega (arith, small, narrow) in
     let x : (start + k) % row_bytes w ≡ column + i = ap (λ (n : ℕ). n % row_bytes w) whole ∙ mod-mul-add y (row_bytes w) (column + i) inside in
     let row : (start + k) / row_bytes w ≡ y = ap (λ (n : ℕ). n / row_bytes w) whole ∙ div-mul-add y (row_bytes w) (column + i) inside in
-    ap (λ (n : ℕ). get_or after n 0) (sym at) ∙ bytes i small ∙ byte-pixels g word column i y (omega (arith, small, few)) loaded ∙ ap (λ (n : ℕ). packed_byte g n y) (sym x) ∙ ap (λ (n : ℕ). packed_byte g ((start + k) % row_bytes w) n) (sym row))
+    ap (λ (n : ℕ). get_or after n 0) (sym at) ∙ bytes i small ∙ ap (λ (n : ℕ). packed_byte g n y) (sym x) ∙ ap (λ (n : ℕ). packed_byte g ((start + k) % row_bytes w) n) (sym row))
     (cases_lt k place)
 
 -- a function's values from s on

@@ -1,7 +1,7 @@
 //! A page as packed rows.
 ghost use Rattle.std.specs.Prelude.{◌≡◌, ◌+◌, ◌-◌, ◌*◌, ◌<◌, ◌≤◌, ℕ, get_or, length};
 ghost use Rattle.jbig2_base.specs.inner.WordBits.{bit};
-ghost use Rattle.hayro_jbig2.specs.Image.{packed_part, row_bytes, top_byte, word_byte};
+ghost use Rattle.hayro_jbig2.specs.Image.{packed_byte, packed_part, row_bytes, top_byte, word_byte};
 
 use crate::image::wrapped;
 use jbig2_base::bitmap::Bitmap;
@@ -35,6 +35,64 @@ fn put_bytes(buf: &mut [u8], place: usize, count: usize, word: u64)
     }
 }
 
+/// Puts what is left of a word of row `y`, from byte `column` on, at a place of `buf`, but no more than `most`
+/// bytes. Answers how many.
+#[inline(always)]
+fn put_rest<A: Allocator, L: Ledger>(
+    bitmap: &Bitmap<A>,
+    column: usize,
+    y: u32,
+    most: usize,
+    buf: &mut [u8],
+    place: usize,
+    steps: &mut Steps<L>,
+) -> usize
+    requires column { column ≤ 8192 }
+    requires some { 1 ≤ most }
+    requires inside { place + most ≤ length buf.old }
+    ensures some { 1 ≤ result }
+    ensures most { result ≤ most }
+    ensures sized { length buf.new ≡ length buf.old }
+    ensures before { (k : ℕ) → k < place → get_or buf.new k 0 ≡ get_or buf.old k 0 }
+    ensures bytes { (i : ℕ) → i < result → get_or buf.new (place + i) 0 ≡ packed_byte bitmap.now (column + i) y }
+{
+    let word = bitmap.load_pixels(8 * column as u32, y, 64, steps);
+    let count = most.min(8 - column % 8);
+    put_bytes(buf, place, count, word);
+    count
+}
+
+/// Puts the whole words of row `y`, from byte `column` on, at a place of `buf`: those that are there and lie in
+/// `most` bytes, and none where no word begins. Answers how many bytes.
+#[inline(always)]
+fn put_words<A: Allocator, L: Ledger>(
+    bitmap: &Bitmap<A>,
+    column: usize,
+    y: u32,
+    most: usize,
+    buf: &mut [u8],
+    place: usize,
+    steps: &mut Steps<L>,
+) -> usize
+    requires inside { place + most ≤ length buf.old }
+    ensures most { result ≤ most }
+    ensures sized { length buf.new ≡ length buf.old }
+    ensures before { (k : ℕ) → k < place → get_or buf.new k 0 ≡ get_or buf.old k 0 }
+    ensures bytes { (i : ℕ) → i < result → get_or buf.new (place + i) 0 ≡ packed_byte bitmap.now (column + i) y }
+{
+    if column % 8 != 0 || y >= bitmap.height() {
+        return 0;
+    }
+    let words = bitmap.row_words(y, steps);
+    let first = column / 8;
+    let count = (most / 8).min(words.len().saturating_sub(first));
+    for index in 0..count {
+        // With a constant this is one store.
+        put_bytes(buf, place + 8 * index, 8, words[first + index]);
+    }
+    8 * count
+}
+
 /// Writes bytes of the rows of a bitmap of this width, from byte `start` of them all on: a bit for each pixel,
 /// 1 for black, the leftmost the highest, and zeros behind the last of a row.
 #[tactic(auto, unfolding(crate::specs::Image::packed_part))]
@@ -56,13 +114,10 @@ pub(crate) fn write_packed<A: Allocator, L: Ledger>(
         y = (start / row_bytes) as u32;
     }
     while place < buf.len() {
-        let word = bitmap.load_pixels(8 * column as u32, y, 64, steps);
-        let count = (row_bytes - column).min(buf.len() - place).min(8);
-        if count == 8 {
-            // With a constant this is one store.
-            put_bytes(buf, place, 8, word);
-        } else {
-            put_bytes(buf, place, count, word);
+        let most = (row_bytes - column).min(buf.len() - place);
+        let mut count = put_words(bitmap, column, y, most, buf, place, steps);
+        if count == 0 {
+            count = put_rest(bitmap, column, y, most, buf, place, steps);
         }
         place += count;
         (column, y) = wrapped(column + count, y, row_bytes);

@@ -1,11 +1,10 @@
 use Rattle.std.proofs.Common.{◌≡◌, ◌+◌, ◌-◌, ◌*◌, ◌/◌, ◌%◌, ◌<◌, ◌≤◌, ℕ, ◌∙◌, ap, get_or, length, map, List, arith}
 use Rattle.std.specs.List.{range_with_len}
 use Rattle.std.proofs.lemmas.List.FromFn.{fill_by_all}
-use Rattle.jbig2_base.specs.inner.WordBits.{bit}
-use Rattle.hayro_jbig2.specs.Image.{packed_byte, packed_part, row_bytes, word_byte}
+use Rattle.hayro_jbig2.specs.Image.{packed_byte, packed_part, row_bytes}
 use Rattle.hayro_jbig2.proofs.PackedRows.{values-from, written-more}
 use Rattle.hayro_jbig2.proofs.packed.write_packed.Goals as goal
-use Rattle.hayro_jbig2.proofs.packed.write_packed.Goals.{then-count-eq8, else-count-eq8}
+use Rattle.hayro_jbig2.proofs.packed.write_packed.Goals.{then-count-eq0, else-count-eq0}
 
 pub loop-place-preserved : goal.loop-place-preserved
 loop-place-preserved g c =
@@ -13,30 +12,32 @@ loop-place-preserved g c =
     let place = c.loop-place.place in
     let column = c.loop-place.column in
     let y = c.loop-place.y in
-    let count = c.min-count.result in
     let kept = c.loop-place.invariant in
     let left : place < length c.loop-place.buf = c.loop-place-test.true in
     let rows : row_bytes w ≡ c.div_ceil-row_bytes.result = grind (arith) in
-    let few : count ≤ 8 = grind (arith) in
-    let narrow : column + count ≤ row_bytes w = rw (rows) (grind (arith)) in
-    let sized : length c.if-count-eq8.buf ≡ length c.loop-place.buf = elim c.if-count-eq8.branch [
-      | then-count-eq8 b ↦ rw (b.buf-is) (b.put_bytes.ensures.sized)
-      | else-count-eq8 b ↦ rw (b.buf-is) (b.put_bytes-else-count-eq8.ensures.sized)
+    let most : c.if-count-eq0.count ≤ c.min-most.result = elim c.if-count-eq0.branch [
+      | then-count-eq0 b ↦ rw (b.count-is) (b.put_rest-count.ensures.most)
+      | else-count-eq0 b ↦ rw (b.count-is) (c.put_words-count.ensures.most)
     ] in
-    let before : (k : ℕ) → k < place → get_or c.if-count-eq8.buf k 0 ≡ get_or c.loop-place.buf k 0 = elim c.if-count-eq8.branch [
-      | then-count-eq8 b ↦ λ k early. rw (b.buf-is) (b.put_bytes.ensures.before k early)
-      | else-count-eq8 b ↦ λ k early. rw (b.buf-is) (b.put_bytes-else-count-eq8.ensures.before k early)
+    let narrow : column + c.if-count-eq0.count ≤ row_bytes w = rw (rows) (grind (arith)) in
+    let sized : length c.if-count-eq0.buf ≡ length c.loop-place.buf = elim c.if-count-eq0.branch [
+      | then-count-eq0 b ↦ rw (b.buf-is) (b.put_rest-count.ensures.sized ∙ c.put_words-count.ensures.sized)
+      | else-count-eq0 b ↦ rw (b.buf-is) (c.put_words-count.ensures.sized)
     ] in
-    let put : (i : ℕ) → i < count → get_or c.if-count-eq8.buf (place + i) 0 ≡ word_byte (bit c.load_pixels-word.result) i = elim c.if-count-eq8.branch [
-      | then-count-eq8 b ↦ λ i below. rw (b.buf-is) (b.put_bytes.ensures.bytes i (omega (arith, below, few)))
-      | else-count-eq8 b ↦ λ i below. rw (b.buf-is) (b.put_bytes-else-count-eq8.ensures.bytes i below)
+    let before : (k : ℕ) → k < place → get_or c.if-count-eq0.buf k 0 ≡ get_or c.loop-place.buf k 0 = elim c.if-count-eq0.branch [
+      | then-count-eq0 b ↦ λ k early. rw (b.buf-is) (b.put_rest-count.ensures.before k early ∙ c.put_words-count.ensures.before k early)
+      | else-count-eq0 b ↦ λ k early. rw (b.buf-is) (c.put_words-count.ensures.before k early)
+    ] in
+    let put : (i : ℕ) → i < c.if-count-eq0.count → get_or c.if-count-eq0.buf (place + i) 0 ≡ packed_byte c.args.bitmap.now (column + i) y = elim c.if-count-eq0.branch [
+      | then-count-eq0 b ↦ λ i below. rw (b.buf-is) (b.put_rest-count.ensures.bytes i (rw (b.count-is) at below))
+      | else-count-eq0 b ↦ λ i below. rw (b.buf-is) (c.put_words-count.ensures.bytes i (rw (b.count-is) at below))
     ] in
     record {
       sized = sized ∙ kept.sized;
       within = rw (sized) (grind (arith));
       counted = λ more. rw (rows) (omega (arith, kept.counted left, c.wrapped.ensures.place, ap (λ (n : ℕ). y * n) rows));
       column = λ more. omega (arith, c.wrapped.ensures.inside, rows);
-      written = written-more c.args.bitmap.now w c.args.start place column y count c.load_pixels-word.result c.loop-place.buf c.if-count-eq8.buf (kept.counted left) narrow few c.load_pixels-word.ensures.bits kept.written before put;
+      written = written-more c.args.bitmap.now w c.args.start place column y c.if-count-eq0.count c.loop-place.buf c.if-count-eq0.buf (kept.counted left) narrow kept.written before put;
     }
 
 pub returns : goal.returns
