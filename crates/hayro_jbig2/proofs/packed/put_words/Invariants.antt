@@ -1,4 +1,4 @@
-use Rattle.std.proofs.Common.{◌≡◌, ◌+◌, ◌*◌, ◌<◌, ◌≤◌, ℕ, get_or, length}
+use Rattle.std.proofs.Common.{◌≡◌, ◌+◌, ◌*◌, ◌<◌, ℕ, get_or, length}
 use Rattle.hayro_jbig2.specs.Image.{packed_byte}
 use Rattle.hayro_jbig2.proofs.packed.put_words.Given as goal
 
