@@ -92,19 +92,22 @@ impl ArithmeticDecoderContext {
         symbol
     }
 
-    /// The symbol that was decided, of which the context then knows.
+    /// The symbol that was decided, of which the context then knows: `likely` and `unlikely` are the rows
+    /// behind its own, and `switch` says whether the unlikely symbol becomes the likely one.
     #[inline(always)]
     #[tactic(auto, unfolding(crate::specs::Coder::likely_next, crate::specs::Coder::unlikely_next))]
-    fn after(&mut self, row: QeData, is_unlikely: bool) -> bool
-        requires row { row ≡ row_of self.old.row }
-        requires likely { row.nmps < 47 }
-        requires unlikely { row.nlps < 47 }
+    fn after(&mut self, likely: u8, unlikely: u8, switch: bool, is_unlikely: bool) -> bool
+        requires likely_row { likely ≡ (row_of self.old.row).nmps }
+        requires unlikely_row { unlikely ≡ (row_of self.old.row).nlps }
+        requires switch { switch ≡ (row_of self.old.row).switch }
+        requires likely { likely < 47 }
+        requires unlikely { unlikely < 47 }
         ensures context { self.new ≡ (if is_unlikely then unlikely_next self.old else likely_next self.old) }
         ensures symbol { result ≡ (if is_unlikely then not self.old.likely else self.old.likely) }
     {
         let symbol = self.likely ^ is_unlikely;
-        self.row = if is_unlikely { row.nlps } else { row.nmps };
-        self.likely ^= is_unlikely & row.switch;
+        self.row = if is_unlikely { unlikely } else { likely };
+        self.likely ^= is_unlikely & switch;
         symbol
     }
 
@@ -137,7 +140,7 @@ impl ArithmeticDecoderContext {
         let below = if is_lower { rest << 16 } else { 0 };
         registers.code.c = registers.code.c.wrapping_sub(below);
         registers.a = if is_lower { row.qe } else { rest };
-        self.after(row, is_unlikely)
+        self.after(row.nmps, row.nlps, row.switch, is_unlikely)
     }
 }
 
