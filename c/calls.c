@@ -1,6 +1,6 @@
 /* Calls libjbig2_c.a as a C program does. usage: calls PAGE FILE, which are page.jb2 and t88-h1.jb2 of
  * crates/jbig2_decode/data. It is linked with malloc, realloc and free wrapped, so that it can refuse memory. */
-#include "jbig2_c.h"
+#include "jbig2.h"
 
 #include <stdio.h>
 #include <stdlib.h>
@@ -308,13 +308,13 @@ static void tells_want_of_memory(void) {
 }
 
 static void has_texts(void) {
-    CHECK(strcmp(jbig2_answer_text(JBIG2_OK), "no error") == 0);
-    CHECK(strcmp(jbig2_answer_text(JBIG2_OUT_OF_MEMORY), "out of memory") == 0);
-    CHECK(strcmp(jbig2_answer_text(JBIG2_NO_SUCH_PAGE), "no such page") == 0);
+    CHECK(strcmp(jbig2_error_text(JBIG2_OK), "no error") == 0);
+    CHECK(strcmp(jbig2_error_text(JBIG2_OUT_OF_MEMORY), "out of memory") == 0);
+    CHECK(strcmp(jbig2_error_text(JBIG2_NO_SUCH_PAGE), "no such page") == 0);
     for (uint32_t answer = 0; answer <= JBIG2_OUT_OF_MEMORY; answer++)
-        CHECK(jbig2_answer_text(answer) != NULL && jbig2_answer_text(answer) != jbig2_answer_text(99));
-    CHECK(jbig2_answer_text(42) == jbig2_answer_text(99));
-    CHECK(jbig2_answer_text(UINT32_MAX) == jbig2_answer_text(99));
+        CHECK(jbig2_error_text(answer) != NULL && jbig2_error_text(answer) != jbig2_error_text(99));
+    CHECK(jbig2_error_text(42) == jbig2_error_text(99));
+    CHECK(jbig2_error_text(UINT32_MAX) == jbig2_error_text(99));
 }
 
 int main(int count, char **words) {

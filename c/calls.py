@@ -47,7 +47,7 @@ def library_errors():
 
 def compare_numbers(library):
     """The header's, the definitions' and the library's own."""
-    header = text_of(HERE, "jbig2_c.h")
+    header = text_of(HERE, "jbig2.h")
     numbers = {name: int(number) for name, number in re.findall(r"^    JBIG2_(\w+) = (\d+)", header, re.M)}
     defined = re.findall(r"^\w+_number (\w+)\.(\w+) = (\d+)$", text_of(HERE, "source", "specs", "Numbers.antt.txt"), re.M)
     defined = {(enum, variant): int(number) for enum, variant, number in defined}
@@ -59,7 +59,7 @@ def compare_numbers(library):
         check(numbers.get(name) == number, f"JBIG2_{name} is {number} in the header")
         place = ("errors" if of_decoder else enum.lower(), variant)
         check(defined.get(place) == number, f"{place[0]}.{variant} is {number} in the definitions")
-        check(library.jbig2_answer_text(number) == text.encode(), f"the text of {number} is {text}")
+        check(library.jbig2_error_text(number) == text.encode(), f"the text of {number} is {text}")
     for name, number in ("OK", 0), ("OTHER_SIZE", 100), ("NO_SUCH_PAGE", 101):
         check(numbers.get(name) == number, f"JBIG2_{name} is {number} in the header")
 
@@ -71,8 +71,8 @@ def loaded(path):
     library.jbig2_page_size.argtypes = [ctypes.c_bool, *BYTES, ctypes.c_size_t, *sizes]
     for call in library.jbig2_page_image, library.jbig2_page_packed:
         call.argtypes = [ctypes.c_bool, *BYTES, ctypes.c_size_t, *BYTES]
-    library.jbig2_answer_text.argtypes = [ctypes.c_uint32]
-    library.jbig2_answer_text.restype = ctypes.c_char_p
+    library.jbig2_error_text.argtypes = [ctypes.c_uint32]
+    library.jbig2_error_text.restype = ctypes.c_char_p
     return library
 
 

@@ -1,5 +1,5 @@
 /* Writes a page of a JBIG2 file as a PBM file. usage: example FILE INDEX */
-#include "jbig2_c.h"
+#include "jbig2.h"
 
 #include <stdio.h>
 #include <stdlib.h>
@@ -51,6 +51,6 @@ int main(int count, char **words) {
     uint32_t answer = print_page(file, length, strtoul(words[2], NULL, 10));
     free(file);
     if (answer != JBIG2_OK)
-        fprintf(stderr, "error: %s\n", jbig2_answer_text(answer));
+        fprintf(stderr, "error: %s\n", jbig2_error_text(answer));
     return answer != JBIG2_OK;
 }

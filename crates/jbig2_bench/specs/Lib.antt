@@ -1,3 +1,2 @@
 pub mod Generator
-pub mod Uses
 pub mod Words

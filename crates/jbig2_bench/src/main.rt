@@ -18,7 +18,6 @@ mod spelling;
 mod table;
 #[cfg(test)]
 mod tests;
-pub mod uses;
 mod watcher;
 
 pub use program::run;

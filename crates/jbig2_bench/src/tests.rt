@@ -9,7 +9,6 @@ mod lists;
 mod replaced;
 mod sizes;
 mod surface;
-mod uses;
 
 use crate::call::WHITE;
 use crate::spelling::spelled;

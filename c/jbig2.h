@@ -31,8 +31,8 @@
  *   last bits are 0 past the width; rows from the top, (width + 7) / 8 * height bytes. That is the form of PBM.
  * - No width and no height is above 65535, so with a size_t of 64 bits these products fit.
  */
-#ifndef JBIG2_C_H
-#define JBIG2_C_H
+#ifndef JBIG2_H
+#define JBIG2_H
 
 #include <stdbool.h>
 #include <stddef.h>
@@ -130,7 +130,7 @@ uint32_t jbig2_embedded_packed(bool strict, const uint8_t *globals, size_t globa
                                size_t stream_length, uint8_t *rows, size_t rows_length);
 
 /* A text for what a call answered, never null and never to be freed. The only function here that is written in C. */
-const char *jbig2_answer_text(uint32_t answer);
+const char *jbig2_error_text(uint32_t answer);
 
 #ifdef __cplusplus
 }

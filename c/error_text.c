@@ -1,5 +1,5 @@
-/* The texts of jbig2_c.h's answers. c/test compares them with those of the Rattle library. */
-#include "jbig2_c.h"
+/* The texts of jbig2.h's answers. c/test compares them with those of the Rattle library. */
+#include "jbig2.h"
 
 static const char *const errors[] = {
     [JBIG2_OK] = "no error",
@@ -46,7 +46,7 @@ static const char *const errors[] = {
     [JBIG2_OUT_OF_MEMORY] = "out of memory",
 };
 
-const char *jbig2_answer_text(uint32_t answer) {
+const char *jbig2_error_text(uint32_t answer) {
     if (answer < sizeof errors / sizeof *errors)
         return errors[answer];
     switch (answer) {

@@ -9,8 +9,8 @@ use Rattle.hayro_jbig2.specs.Globals.{globals_at}
 use Rattle.hayro_jbig2.specs.Names.{Names}
 use Rattle.hayro_jbig2.specs.Page.{embedded}
 use Rattle.hayro_jbig2.specs.Sends.{Conduct, Decodes}
-use Rattle.jbig2_bench.specs.Uses.{grid_of_stream}
-use Rattle.jbig2_bench.proofs.uses.decode_stream.Goals as goal
+use Rattle.jbig2_examples.specs.Callers.{grid_of_stream}
+use Rattle.jbig2_examples.proofs.pdf_reader.decode_stream.Goals as goal
 
 -- an error before any call
 refused : {S : Type 0} (d : Conduct S) (meant : Result Grid DecodeError) (e : DecodeError) (s : S) → (e ≡ OutOfMemory) ⊎ (meant ≡ Err e) → Decodes d meant (Err e) s s
