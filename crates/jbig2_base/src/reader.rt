@@ -25,7 +25,8 @@ impl<'a> Model for Reader<'a> {
 
     ghost view = { λ r. record { bytes = drop r.byte r.bytes.now; bit = r.bit } };
 
-    ghost invariant = { λ r. (r.byte ≤ length r.bytes.now) × (r.bit < 8) × (r.byte ≡ length r.bytes.now → r.bit ≡ 0) };
+    ghost invariant = { λ r. (r.byte ≤ length r.bytes.now) × (r.bit < 8) ×
+        (r.byte ≡ length r.bytes.now → r.bit ≡ 0) };
 }
 
 impl<'a> Reader<'a> {

@@ -101,7 +101,13 @@ impl<'c> Decoder for Watcher<'c> {
     ghost use Rattle.jbig2_base.specs.declared.error.DecodeError.{DecodeError};
 
     // What it keeps in all calls is the error that it refuses with.
-    ghost conduct = { record { Picture = DecodeError; picture = λ watcher. watcher.refusal; step = λ error _. error; refuses = λ own _ error. error ≡ own; refusals = λ watcher. watcher.refusals } };
+    ghost conduct = { record {
+      Picture = DecodeError;
+      picture = λ watcher. watcher.refusal;
+      step = λ error _. error;
+      refuses = λ own _ error. error ≡ own;
+      refusals = λ watcher. watcher.refusals;
+    } };
 
     fn push_pixel(&mut self, black: bool) -> Result<()> {
         self.answer(Call::Pixel(black))

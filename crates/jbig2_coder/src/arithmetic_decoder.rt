@@ -102,7 +102,8 @@ impl ArithmeticDecoderContext {
         requires switch { switch ≡ (row_of self.old.row).switch }
         requires likely { likely < 47 }
         requires unlikely { unlikely < 47 }
-        ensures context { self.new ≡ (if is_unlikely then unlikely_next self.old else likely_next self.old) }
+        ensures context { self.new ≡
+            (if is_unlikely then unlikely_next self.old else likely_next self.old) }
         ensures symbol { result ≡ (if is_unlikely then not self.old.likely else self.old.likely) }
     {
         let symbol = self.likely ^ is_unlikely;

@@ -44,7 +44,8 @@ impl<A: Allocator> Model for HuffmanTable<A> {
 
     ghost view = { λ t. codes_at 0 0 (groups_of t.lines.items t.levels.items) };
 
-    ghost invariant = { λ t. AreLevels t.lines.items t.levels.items × AreShort t.lines.items × AreFirst t.lines.items t.levels.items t.first };
+    ghost invariant = { λ t. AreLevels t.lines.items t.levels.items × AreShort t.lines.items ×
+        AreFirst t.lines.items t.levels.items t.first };
 }
 
 impl<A: Allocator + Clone> HuffmanTable<A> {
@@ -118,7 +119,8 @@ impl<A: Allocator> HuffmanTable<A> {
     /// Reads a code: its line, or the end of the bits, or an invalid code at the first bits that
     /// begin none.
     fn read_line(&self, reader: &mut Reader<'_>) -> Result<TableLine>
-        ensures reads { Reads reader.old reader.new result (read_code self.now (bits_left reader.old)) }
+        ensures reads { Reads reader.old reader.new result
+            (read_code self.now (bits_left reader.old)) }
         ensures short { IfOk result (λ line. line.range_length ≤ 32) }
     {
         self.first.read_line(&self.lines, &self.levels, reader)
@@ -129,7 +131,8 @@ impl<A: Allocator> HuffmanTable<A> {
     /// Bits that end in the code are an unexpected end; the first bits that begin no code, range
     /// bits that end, and a value outside signed 32 bits are an invalid code.
     pub fn decode(&self, reader: &mut Reader<'_>) -> Result<Option<i32>>
-        ensures { Reads reader.old reader.new result (decoded_value self.now (bits_left reader.old)) }
+        ensures { Reads reader.old reader.new result
+            (decoded_value self.now (bits_left reader.old)) }
     {
         let line = self.read_line(reader)?;
         if line.is_out_of_band {
@@ -140,7 +143,8 @@ impl<A: Allocator> HuffmanTable<A> {
 
     /// Reads a value where out of band is an error.
     pub fn decode_no_oob(&self, reader: &mut Reader<'_>) -> Result<i32>
-        ensures { Reads reader.old reader.new result (without_oob (decoded_value self.now (bits_left reader.old))) }
+        ensures { Reads reader.old reader.new result
+            (without_oob (decoded_value self.now (bits_left reader.old))) }
     {
         let Some(value) = self.decode(reader)? else {
             return Err(DecodeError::Huffman(HuffmanError::UnexpectedOob));

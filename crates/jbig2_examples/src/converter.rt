@@ -20,7 +20,9 @@ pub fn first_picture<A: Allocator + Clone, R: Read + Drop>(
     alloc: A,
     reader: R,
 ) -> std::result::Result<Picture<A>, Jbig2Error>
-    ensures { IfSome (R.remaining reader) (λ told. Shows (λ picture. ((picture.width, picture.height), picture.pixels.items)) told result) }
+    ensures { IfSome (R.remaining reader)
+        (λ told. Shows (λ picture. ((picture.width, picture.height), picture.pixels.items)) told
+        result) }
 {
     let decoder = Jbig2Decoder::new(alloc.clone()?, reader)?;
     let (width, height) = decoder.dimensions();

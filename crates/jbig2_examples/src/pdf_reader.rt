@@ -18,7 +18,8 @@ pub fn decode_stream<A: Allocator + Clone, D: Decoder>(
     context: &mut DecoderContext<A>,
 ) -> Result<()>
     requires { IsCountable D.conduct decoder.old }
-    ensures { Decodes D.conduct (grid_of_stream (option_map (λ bytes. bytes.now) globals.entry) stream.now) result decoder.old decoder.new }
+    ensures { Decodes D.conduct (grid_of_stream (option_map (λ bytes. bytes.now) globals.entry)
+        stream.now) result decoder.old decoder.new }
 {
     match globals {
         None => {

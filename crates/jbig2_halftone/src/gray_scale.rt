@@ -65,8 +65,10 @@ pub fn decode_gray_scale_image<M: Allocator, A: Allocator + Clone, B: Allocator,
     steps: &mut Steps<L>,
 ) -> Result<Vec<u32, A>>
     requires { params.now.bits_per_pixel ≤ 32 }
-    ensures value { Gives (λ values. values.items) result (gray_scale_image (gray_view params.now) bytes.now) }
-    ensures contexts { Leaves result contexts.new.items (gray_contexts (gray_view params.now) bytes.now contexts.old.items) }
+    ensures value { Gives (λ values. values.items) result
+        (gray_scale_image (gray_view params.now) bytes.now) }
+    ensures contexts { Leaves result contexts.new.items
+        (gray_contexts (gray_view params.now) bytes.now contexts.old.items) }
     ensures steps { OnOk result (CountsImage (gray_view params.now) bytes.now steps.old steps.new) }
     ensures lanes { OnOk result (CountsLanes (gray_view params.now) steps.old steps.new) }
     ensures no_planes { params.now.bits_per_pixel ≡ 0 → OnOk result (steps.new ≡ steps.old) }

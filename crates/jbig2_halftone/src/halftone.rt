@@ -45,7 +45,8 @@ fn skip_bitmap<D: Allocator, A: Allocator, L: Ledger>(
 ) -> Result<Bitmap<A>>
     requires columns { header.now.grid_position_and_size.width ≤ 65535 }
     requires rows { header.now.grid_position_and_size.height ≤ 65535 }
-    ensures value { Gives (λ skip. skip) result (Ok (skip_grid (header_view header.now) (dictionary_view dictionary.now))) }
+    ensures value { Gives (λ skip. skip) result
+        (Ok (skip_grid (header_view header.now) (dictionary_view dictionary.now))) }
     ensures steps { OnOk result (steps.new ≡ record steps.old {
       words = steps.old.words
           + header.now.grid_position_and_size.height * header.now.grid_position_and_size.width;
@@ -77,9 +78,11 @@ fn pattern_for<A: Allocator>(
     dictionary: &PatternDictionary<A>,
     value: u32,
 ) -> Result<&Bitmap<A>>
-    ensures value { Answers (λ pattern. pattern.now) result (pattern_for strict dictionary.now.patterns.items value) }
+    ensures value { Answers (λ pattern. pattern.now) result
+        (pattern_for strict dictionary.now.patterns.items value) }
     ensures refused { IfErr result (λ e. e ≡ DecodeError.Region RegionError.GrayScaleOutOfRange) }
-    ensures sized { IfOk result (λ pattern. HasSize dictionary.now.pattern_width dictionary.now.pattern_height pattern.now) }
+    ensures sized { IfOk result (λ pattern. HasSize dictionary.now.pattern_width
+        dictionary.now.pattern_height pattern.now) }
 {
     let patterns = &dictionary.patterns;
     let value = value as usize;
@@ -136,13 +139,16 @@ fn draw_row<D: Allocator, A: Allocator, L: Ledger>(
     requires y_fits { FitsSigned w32 header.now.grid_position_and_size.vertical_offset }
     requires columns { header.now.grid_position_and_size.width ≤ 65535 }
     requires sized { length values.now ≡ header.now.grid_position_and_size.width }
-    requires region { HasSize header.now.region_info.width header.now.region_info.height bitmap.old }
+    requires region { HasSize header.now.region_info.width header.now.region_info.height
+        bitmap.old }
     ensures value { Answers (λ _. bitmap.new) result
-        (cells_drawn (header_view header.now) (dictionary_view dictionary.now) (m * header.now.grid_position_and_size.width) values.now bitmap.old) }
+        (cells_drawn (header_view header.now) (dictionary_view dictionary.now)
+        (m * header.now.grid_position_and_size.width) values.now bitmap.old) }
     ensures refused { IfErr result (λ e. e ≡ DecodeError.Region RegionError.GrayScaleOutOfRange) }
     ensures size { HasSize bitmap.old.width bitmap.old.height bitmap.new }
     ensures steps { WritesWithin
-        (words_of_cells (header_view header.now) (dictionary_view dictionary.now) (m * header.now.grid_position_and_size.width) (length values.now))
+        (words_of_cells (header_view header.now) (dictionary_view dictionary.now)
+        (m * header.now.grid_position_and_size.width) (length values.now))
         steps.old steps.new }
 {
     let operator = header.flags.combination_operator;
@@ -171,16 +177,20 @@ fn draw_rows<D: Allocator, P: Allocator, A: Allocator, L: Ledger>(
 ) -> Result<()>
     requires columns { header.now.grid_position_and_size.width ≤ 65535 }
     requires rows { header.now.grid_position_and_size.height ≤ 65535 }
-    requires sized { All (λ plane. plane.width ≡ header.now.grid_position_and_size.width) planes.now }
+    requires sized { All (λ plane. plane.width ≡ header.now.grid_position_and_size.width)
+        planes.now }
     requires few { length planes.now ≤ 32 }
     requires row { length values.old ≡ header.now.grid_position_and_size.width }
-    requires region { HasSize header.now.region_info.width header.now.region_info.height bitmap.old }
+    requires region { HasSize header.now.region_info.width header.now.region_info.height
+        bitmap.old }
     ensures value { Answers (λ _. bitmap.new) result
         (cells_drawn (header_view header.now) (dictionary_view dictionary.now) 0
-        (gray_values header.now.grid_position_and_size.width header.now.grid_position_and_size.height planes.now) bitmap.old) }
+        (gray_values header.now.grid_position_and_size.width
+        header.now.grid_position_and_size.height planes.now) bitmap.old) }
     ensures refused { IfErr result (λ e. e ≡ DecodeError.Region RegionError.GrayScaleOutOfRange) }
     ensures steps { let grid = header.now.grid_position_and_size in OnOk result (WritesWithin
-        (words_of_cells (header_view header.now) (dictionary_view dictionary.now) 0 (grid.height * grid.width))
+        (words_of_cells (header_view header.now) (dictionary_view dictionary.now) 0
+        (grid.height * grid.width))
         (after_lane_rows (grid.height * length planes.now) grid.width steps.old) steps.new) }
 {
     let x_vector = header.grid_vector.x_vector;
@@ -206,8 +216,10 @@ fn skip_mask<D: Allocator, A: Allocator, L: Ledger>(
 ) -> Result<Option<Bitmap<A>>>
     requires columns { header.now.grid_position_and_size.width ≤ 65535 }
     requires rows { header.now.grid_position_and_size.height ≤ 65535 }
-    ensures value { Gives (λ mask. mask) result (Ok (skip_mask (header_view header.now) (dictionary_view dictionary.now))) }
-    ensures steps { OnOk result (steps.new ≡ after_mask (header_view header.now) (dictionary_view dictionary.now) steps.old) }
+    ensures value { Gives (λ mask. mask) result
+        (Ok (skip_mask (header_view header.now) (dictionary_view dictionary.now))) }
+    ensures steps { OnOk result (steps.new ≡
+        after_mask (header_view header.now) (dictionary_view dictionary.now) steps.old) }
 {
     if header.flags.enable_skip && !header.flags.mmr {
         return Ok(Some(skip_bitmap(alloc, header, dictionary, steps)?));
@@ -225,11 +237,17 @@ fn read_cells<D: Allocator, A: Allocator + Clone, B: Allocator, L: Ledger>(
 ) -> Result<Vec<Bitmap<A>, A>>
     requires columns { header.now.grid_position_and_size.width ≤ 65535 }
     requires rows { header.now.grid_position_and_size.height ≤ 65535 }
-    ensures value { Gives (λ planes. planes.items) result (planes_of (gray_params (header_view header.now) (dictionary_view dictionary.now)) header.now.bytes.now) }
-    ensures contexts { Leaves result contexts.new.items (planes_contexts (gray_params (header_view header.now) (dictionary_view dictionary.now)) header.now.bytes.now contexts.old.items) }
+    ensures value { Gives (λ planes. planes.items) result
+        (planes_of (gray_params (header_view header.now) (dictionary_view dictionary.now))
+        header.now.bytes.now) }
+    ensures contexts { Leaves result contexts.new.items
+        (planes_contexts (gray_params (header_view header.now) (dictionary_view dictionary.now))
+        header.now.bytes.now contexts.old.items) }
     ensures few { OnOk result (code_length (length dictionary.now.patterns.items) ≤ 32) }
-    ensures steps { OnOk result (CountsRead (gray_params (header_view header.now) (dictionary_view dictionary.now)) header.now.bytes.now
-        (after_mask (header_view header.now) (dictionary_view dictionary.now) steps.old) steps.new) }
+    ensures steps { OnOk result (CountsRead
+        (gray_params (header_view header.now) (dictionary_view dictionary.now)) header.now.bytes.now
+        (after_mask (header_view header.now) (dictionary_view dictionary.now) steps.old)
+        steps.new) }
 {
     let skip = skip_mask(alloc.clone()?, header, dictionary, steps)?;
     let grid = &header.grid_position_and_size;
@@ -266,11 +284,17 @@ fn draw_region<D: Allocator, M: Allocator, A: Allocator + Clone, B: Allocator, L
 ) -> Result<()>
     requires columns { header.now.grid_position_and_size.width ≤ 65535 }
     requires rows { header.now.grid_position_and_size.height ≤ 65535 }
-    requires coloured { bitmap.old ≡ blank header.now.region_info.width header.now.region_info.height header.now.flags.initial_pixel_color }
-    ensures value { Gives (λ _. bitmap.new) result (halftone_answer (header_view header.now) (dictionary_view dictionary.now)) }
-    ensures bitmap { IfErr result (λ e. (e ≡ DecodeError.Region RegionError.GrayScaleOutOfRange) ⊎ (bitmap.new ≡ bitmap.old)) }
-    ensures contexts { Leaves result contexts.new.items (halftone_contexts (header_view header.now) (dictionary_view dictionary.now) contexts.old.items) }
-    ensures steps { OnOk result (CountsHalftone (header_view header.now) (dictionary_view dictionary.now) steps.old steps.new) }
+    requires coloured { bitmap.old ≡ blank header.now.region_info.width
+        header.now.region_info.height header.now.flags.initial_pixel_color }
+    ensures value { Gives (λ _. bitmap.new) result
+        (halftone_answer (header_view header.now) (dictionary_view dictionary.now)) }
+    ensures bitmap { IfErr result (λ e. (e ≡ DecodeError.Region RegionError.GrayScaleOutOfRange) ⊎
+        (bitmap.new ≡ bitmap.old)) }
+    ensures contexts { Leaves result contexts.new.items
+        (halftone_contexts (header_view header.now) (dictionary_view dictionary.now)
+        contexts.old.items) }
+    ensures steps { OnOk result (CountsHalftone (header_view header.now)
+        (dictionary_view dictionary.now) steps.old steps.new) }
 {
     let mut values = value_row(alloc.clone()?, header.grid_position_and_size.width)?;
     let planes = match read_cells(alloc, header, dictionary, contexts, steps) {
@@ -299,12 +323,18 @@ pub fn decode_into<D: Allocator, M: Allocator, A: Allocator + Clone, B: Allocato
 ) -> Result<()>
     requires columns { header.now.grid_position_and_size.width ≤ 65535 }
     requires rows { header.now.grid_position_and_size.height ≤ 65535 }
-    requires coloured { bitmap.old ≡ blank header.now.region_info.width header.now.region_info.height header.now.flags.initial_pixel_color }
-    ensures value { Gives (λ _. bitmap.new) result (halftone_answer (header_view header.now) (dictionary_view dictionary.now)) }
-    ensures bitmap { IfErr result (λ e. (e ≡ DecodeError.Region RegionError.GrayScaleOutOfRange) ⊎ (bitmap.new ≡ bitmap.old)) }
-    ensures contexts { Leaves result contexts.new.items (halftone_contexts (header_view header.now) (dictionary_view dictionary.now) contexts.old.items) }
+    requires coloured { bitmap.old ≡ blank header.now.region_info.width
+        header.now.region_info.height header.now.flags.initial_pixel_color }
+    ensures value { Gives (λ _. bitmap.new) result
+        (halftone_answer (header_view header.now) (dictionary_view dictionary.now)) }
+    ensures bitmap { IfErr result (λ e. (e ≡ DecodeError.Region RegionError.GrayScaleOutOfRange) ⊎
+        (bitmap.new ≡ bitmap.old)) }
+    ensures contexts { Leaves result contexts.new.items
+        (halftone_contexts (header_view header.now) (dictionary_view dictionary.now)
+        contexts.old.items) }
     ensures lenient { header.now.strict ≡ false → IfErr result (λ e. e ≡ DecodeError.OutOfMemory) }
-    ensures steps { OnOk result (CountsHalftone (header_view header.now) (dictionary_view dictionary.now) steps.old steps.new) }
+    ensures steps { OnOk result (CountsHalftone (header_view header.now)
+        (dictionary_view dictionary.now) steps.old steps.new) }
 {
     draw_region(alloc, header, dictionary, bitmap, contexts, steps)
 }
@@ -324,9 +354,13 @@ pub fn decode<D: Allocator, A: Allocator + Clone, B: Allocator, L: Ledger>(
 ) -> Result<DecodedRegion<A>>
     requires columns { header.now.grid_position_and_size.width ≤ 65535 }
     requires rows { header.now.grid_position_and_size.height ≤ 65535 }
-    ensures value { Gives (λ region. region_view region) result (halftone_decoded (header_view header.now) (dictionary_view dictionary.now)) }
-    ensures contexts { Leaves result contexts.new.items (decoded_contexts (header_view header.now) (dictionary_view dictionary.now) contexts.old.items) }
-    ensures steps { OnOk result (CountsHalftone (header_view header.now) (dictionary_view dictionary.now) steps.old steps.new) }
+    ensures value { Gives (λ region. region_view region) result
+        (halftone_decoded (header_view header.now) (dictionary_view dictionary.now)) }
+    ensures contexts { Leaves result contexts.new.items
+        (decoded_contexts (header_view header.now) (dictionary_view dictionary.now)
+        contexts.old.items) }
+    ensures steps { OnOk result (CountsHalftone (header_view header.now)
+        (dictionary_view dictionary.now) steps.old steps.new) }
 {
     let region_info = &header.region_info;
     let mut bitmap = Bitmap::new_with(

@@ -32,8 +32,10 @@ pub fn decode<A: Allocator, L: Ledger>(
     steps: &mut Steps<L>,
 ) -> Result<usize>
     requires { bitmap.old ≡ blank bitmap.old.width bitmap.old.height false }
-    ensures value { Answers (λ used. record { grid = bitmap.new; used = used }) result (mmr_rows strict bitmap.old.width bitmap.old.height bytes.now) }
-    ensures grid { bitmap.new ≡ grid_of_rows bitmap.old.width bitmap.old.height (rows_of bitmap.old.width bitmap.old.height bytes.now).rows }
+    ensures value { Answers (λ used. record { grid = bitmap.new; used = used }) result
+        (mmr_rows strict bitmap.old.width bitmap.old.height bytes.now) }
+    ensures grid { bitmap.new ≡ grid_of_rows bitmap.old.width bitmap.old.height
+        (rows_of bitmap.old.width bitmap.old.height bytes.now).rows }
     ensures lanes { KeepsLanes steps.old steps.new }
 {
     let height = bitmap.height();
@@ -55,7 +57,8 @@ pub fn decode<A: Allocator, L: Ledger>(
 
 /// The answer where not all rows are there.
 fn missing_rows(strict: bool, used: usize) -> Result<usize>
-    ensures { result ≡ (if strict then Err (DecodeError.Region RegionError.InvalidMmrData) else Ok used) }
+    ensures { result ≡
+        (if strict then Err (DecodeError.Region RegionError.InvalidMmrData) else Ok used) }
 {
     if strict {
         return Err(DecodeError::Region(RegionError::InvalidMmrData));

@@ -38,7 +38,8 @@ fn pixels_above<A: Allocator, L: Ledger>(
 ) -> u64
     requires some { 1 ≤ count }
     requires few { count ≤ 64 }
-    ensures bits { (k : ℕ) → k < count → bit result (count - 1 - k) ≡ pixel bitmap.now (pos (x + k)) (pos y +ℤ negsuc 0) }
+    ensures bits { (k : ℕ) → k < count →
+        bit result (count - 1 - k) ≡ pixel bitmap.now (pos (x + k)) (pos y +ℤ negsuc 0) }
     ensures bound { result < 2 ^ count }
     ensures steps { steps.new ≡ record steps.old { loads = steps.old.loads + 1 } }
 {
@@ -52,7 +53,9 @@ fn pixels_above<A: Allocator, L: Ledger>(
 /// Makes row `y` the same as the row above it.
 fn copy_row<A: Allocator, L: Ledger>(bitmap: &mut Bitmap<A>, y: u32, steps: &mut Steps<L>)
     requires row { y < bitmap.old.height }
-    ensures holds { (template : List AdaptiveTemplatePixel) (coder : Coder) (states : List Context) → DecodesPixels template true 0 y bitmap.old.width bitmap.old coder states bitmap.new coder states }
+    ensures holds { (template : List AdaptiveTemplatePixel) (coder : Coder)
+        (states : List Context) → DecodesPixels template true 0 y bitmap.old.width bitmap.old coder
+        states bitmap.new coder states }
     ensures width { bitmap.new.width ≡ bitmap.old.width }
     ensures height { bitmap.new.height ≡ bitmap.old.height }
     ensures loads { steps.new.loads ≡ steps.old.loads + (bitmap.old.width + 63) / 64 }
@@ -82,20 +85,27 @@ fn decode_row<A: Allocator, L: Ledger>(
     steps: &mut Steps<L>,
 )
     requires fits { IsLayout layout.now.neighbours layout.now.adaptive }
-    requires contexts { length contexts.old ≡ 2 ^ layout_count layout.now.neighbours layout.now.adaptive }
+    requires contexts { length contexts.old ≡
+        2 ^ layout_count layout.now.neighbours layout.now.adaptive }
     requires some { 1 ≤ bitmap.old.width }
     requires row { y < bitmap.old.height }
     requires columns { bitmap.old.width ≤ 65535 }
     requires rows { bitmap.old.height ≤ 65535 }
-    ensures holds { DecodesPixels (layout_pixels layout.now) predicted 0 y bitmap.old.width bitmap.old decoder.old contexts.old bitmap.new decoder.new contexts.new }
+    ensures holds { DecodesPixels (layout_pixels layout.now) predicted 0 y bitmap.old.width
+        bitmap.old decoder.old contexts.old bitmap.new decoder.new contexts.new }
     ensures width { bitmap.new.width ≡ bitmap.old.width }
     ensures height { bitmap.new.height ≡ bitmap.old.height }
     ensures bytes { decoder.new.bytes ≡ decoder.old.bytes }
     ensures contexts { length contexts.new ≡ length contexts.old }
-    ensures decisions { CountsRow (layout_pixels layout.now) (is_nominal_layout layout.now.adaptive) predicted y bitmap.old decoder.old contexts.old steps.old.decisions steps.new.decisions }
-    ensures run_tests { steps.new.run_tests ≤ steps.old.run_tests + row_tests (is_nominal_layout layout.now.adaptive) bitmap.old.width }
-    ensures words { steps.new.words ≤ steps.old.words + row_words (is_nominal_layout layout.now.adaptive) bitmap.old.width }
-    ensures loads { steps.new.loads ≤ steps.old.loads + (row_loads (is_nominal_layout layout.now.adaptive) bitmap.old.width + bitmap.old.width * (if predicted then 0 else layout_loads layout.now.adaptive)) }
+    ensures decisions { CountsRow (layout_pixels layout.now) (is_nominal_layout layout.now.adaptive)
+        predicted y bitmap.old decoder.old contexts.old steps.old.decisions steps.new.decisions }
+    ensures run_tests { steps.new.run_tests ≤
+        steps.old.run_tests + row_tests (is_nominal_layout layout.now.adaptive) bitmap.old.width }
+    ensures words { steps.new.words ≤ steps.old.words +
+        row_words (is_nominal_layout layout.now.adaptive) bitmap.old.width }
+    ensures loads { steps.new.loads ≤ steps.old.loads +
+        (row_loads (is_nominal_layout layout.now.adaptive) bitmap.old.width + bitmap.old.width *
+        (if predicted then 0 else layout_loads layout.now.adaptive)) }
     ensures lanes { KeepsLanes steps.old steps.new }
 {
     if predicted {
@@ -121,13 +131,18 @@ pub fn decode_layout<A: Allocator, L: Ledger>(
     steps: &mut Steps<L>,
 )
     requires fits { IsLayout layout.now.neighbours layout.now.adaptive }
-    requires contexts { length contexts.old ≡ 2 ^ layout_count layout.now.neighbours layout.now.adaptive }
+    requires contexts { length contexts.old ≡
+        2 ^ layout_count layout.now.neighbours layout.now.adaptive }
     requires context { IfSome row_context (λ k. k < length contexts.old) }
     requires columns { bitmap.old.width ≤ 65535 }
     requires rows { bitmap.old.height ≤ 65535 }
     requires white { bitmap.old ≡ blank bitmap.old.width bitmap.old.height false }
-    ensures holds { DecodesRegion (layout_coding layout.now row_context) bitmap.old decoder.old contexts.old bitmap.new decoder.new contexts.new }
-    ensures steps { CountsRegion (layout_pixels layout.now) (is_nominal_layout layout.now.adaptive) (layout_loads layout.now.adaptive) (layout_coding layout.now row_context) bitmap.old.width bitmap.old.height decoder.old.bytes (no_pixels decoder.old.registers contexts.old) steps.old steps.new }
+    ensures holds { DecodesRegion (layout_coding layout.now row_context) bitmap.old decoder.old
+        contexts.old bitmap.new decoder.new contexts.new }
+    ensures steps { CountsRegion (layout_pixels layout.now) (is_nominal_layout layout.now.adaptive)
+        (layout_loads layout.now.adaptive) (layout_coding layout.now row_context) bitmap.old.width
+        bitmap.old.height decoder.old.bytes (no_pixels decoder.old.registers contexts.old) steps.old
+        steps.new }
 {
     if bitmap.width() == 0 {
         return;

@@ -223,7 +223,8 @@ pub fn decode_bitmap<A: Allocator, B: Allocator, L: Ledger>(
         bitmap.old decoder.old contexts.old bitmap.new decoder.new contexts.new }
     ensures steps { CountsDecided
         (refinement_coding template typical adaptive.now (reference_view reference.now))
-        (refinement_loads template adaptive.now bitmap.old.width) bitmap.old.width bitmap.old.height decoder.old.bytes
+        (refinement_loads template adaptive.now bitmap.old.width) bitmap.old.width bitmap.old.height
+        decoder.old.bytes
         (no_pixels decoder.old.registers contexts.old) steps.old steps.new }
 {
     let windowed = WindowedCoding {

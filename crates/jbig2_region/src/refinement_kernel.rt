@@ -236,7 +236,8 @@ fn decode_row<A: Allocator, B: Allocator, L: Ledger>(
     ensures height { bitmap.new.height ≡ bitmap.old.height }
     ensures bytes { decoder.new.bytes ≡ decoder.old.bytes }
     ensures contexts { length contexts.new ≡ length contexts.old }
-    ensures decisions { CountsCodes (windowed_coding coding.now) row.predicted 0 row.y bitmap.old.width
+    ensures decisions { CountsCodes (windowed_coding coding.now) row.predicted 0 row.y
+        bitmap.old.width
         bitmap.old decoder.old contexts.old steps.old.decisions steps.new.decisions }
     ensures run_tests { steps.new.run_tests ≡ steps.old.run_tests }
     ensures loads { steps.new.loads ≤ steps.old.loads + window_loads bitmap.old.width }

@@ -37,7 +37,8 @@ pub fn decode_skipping<M: Allocator, A: Allocator, L: Ledger>(
         (skipping_coding (template_pixels template (Regular adaptive.now)) (skip_of skip.entry))
         bitmap.old decoder.old contexts.old bitmap.new decoder.new contexts.new }
     ensures steps { is_nominal template adaptive.now ≡ true
-        → CountsSkipping (skip_of skip.entry) bitmap.old.width bitmap.old.height steps.old steps.new }
+        → CountsSkipping (skip_of skip.entry) bitmap.old.width bitmap.old.height steps.old
+        steps.new }
 {
     let layout = layout_of(template, adaptive);
     if layout.adaptive.is_none() {

@@ -278,8 +278,13 @@ fn combine_row<A: Allocator, B: Allocator, L: Ledger>(
     requires fits { span.from + (span.right - span.left) < 2 ^ 32 }
     requires source { span.from + (span.right - span.left) ≤ source.now.width }
     requires source_row { span.from_row < source.now.height }
-    ensures value { page.new ≡ with_block operator page.old source.now span.left span.right span.row (span.row + 1) span.from span.from_row }
-    ensures steps { let words = (span.right - 1) / 64 + 1 - span.left / 64 in steps.new ≡ record steps.old { words = steps.old.words + words; loads = steps.old.loads + 2 * words } }
+    ensures value { page.new ≡ with_block operator page.old source.now span.left span.right span.row
+        (span.row + 1) span.from span.from_row }
+    ensures steps { let words = (span.right - 1) / 64 + 1 - span.left / 64 in
+        steps.new ≡ record steps.old {
+          words = steps.old.words + words;
+          loads = steps.old.loads + 2 * words;
+        } }
 {
     let left = span.left;
     let right = span.right;

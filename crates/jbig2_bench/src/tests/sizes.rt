@@ -38,7 +38,13 @@ impl WhiteRows {
 
 impl Decoder for WhiteRows {
     // It refuses no call.
-    ghost conduct = { record { Picture = Unit {0}; picture = λ _. tt; step = λ p _. p; refuses = λ _ _ _. ⊥; refusals = λ _. 0 } };
+    ghost conduct = { record {
+      Picture = Unit {0};
+      picture = λ _. tt;
+      step = λ p _. p;
+      refuses = λ _ _ _. ⊥;
+      refusals = λ _. 0;
+    } };
 
     fn push_pixel(&mut self, black: bool) -> Result<()> {
         self.take(black, self.column.max(self.width & !7), 1);

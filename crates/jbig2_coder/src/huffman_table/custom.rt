@@ -111,7 +111,8 @@ fn push_end_lines<A: Allocator>(
 ) -> Result<()>
     requires widths { HasWidths header.now }
     requires short { AreShort lines.old.items }
-    ensures lines { Gives (λ _. lines.new.items) result (behind lines.old.items (end_lines header.now reader.old)).answer }
+    ensures lines { Gives (λ _. lines.new.items) result
+        (behind lines.old.items (end_lines header.now reader.old)).answer }
     ensures place { Leaves result reader.new (end_lines header.now reader.old).place }
     ensures short { OnOk result (AreShort lines.new.items) }
 {

@@ -80,7 +80,8 @@ impl FirstTable {
         requires levels { AreLevels lines.now levels.now }
         requires short { AreShort lines.now }
         requires first { AreFirst lines.now levels.now self.now }
-        ensures reads { Reads reader.old reader.new result (walk_of lines.now levels.now 0 (bits_left reader.old)) }
+        ensures reads { Reads reader.old reader.new result
+            (walk_of lines.now levels.now 0 (bits_left reader.old)) }
         ensures short { IfOk result (λ line. line.range_length ≤ 32) }
     {
         let Some(byte) = reader.peek_bits(8) else {

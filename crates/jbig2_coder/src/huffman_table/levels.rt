@@ -60,7 +60,8 @@ pub(super) fn read_line(
     requires levels { AreLevels lines.now levels.now }
     requires node { node ≤ length lines.now }
     requires short { AreShort lines.now }
-    ensures reads { Reads reader.old reader.new result (walk_of lines.now levels.now node (bits_left reader.old)) }
+    ensures reads { Reads reader.old reader.new result
+        (walk_of lines.now levels.now node (bits_left reader.old)) }
     ensures short { IfOk result (λ line. line.range_length ≤ 32) }
 {
     let mut node = node;

@@ -97,7 +97,8 @@ impl TableLine {
     /// the value is outside signed 32 bits.
     pub(super) fn read_value(&self, reader: &mut Reader<'_>) -> Result<Option<i32>>
         requires { self.now.range_length ≤ 32 }
-        ensures value { result ≡ value_by self.now (bits_next self.now.range_length (bits_left reader.old)) }
+        ensures value { result ≡ value_by self.now
+            (bits_next self.now.range_length (bits_left reader.old)) }
         ensures place { reader.new ≡ bits_on self.now.range_length reader.old }
         ensures rest { bits_left reader.new ≡ drop self.now.range_length (bits_left reader.old) }
     {

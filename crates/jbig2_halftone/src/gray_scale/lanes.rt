@@ -32,7 +32,8 @@ fn next_group(byte: u32, values: u32x8) -> u32x8
     requires lanes { length values ≡ 8 }
     requires small { All (λ v. v < 2 ^ 31) values }
     ensures lanes { length result ≡ 8 }
-    ensures value { (k : ℕ) → k < 8 → slice_index result k ≡ next_value (slice_index values k) (bit byte (7 - k)) }
+    ensures value { (k : ℕ) → k < 8 → slice_index result k ≡
+        next_value (slice_index values k) (bit byte (7 - k)) }
 {
     values + values + (spread(byte) ^ (values & u32x8::splat(1)))
 }

@@ -50,7 +50,8 @@ fn decode_plane<M: Allocator, A: Allocator, L: Ledger>(
     requires rows { plane.old.height ≤ 65535 }
     requires white { plane.old ≡ blank plane.old.width plane.old.height false }
     requires contexts { length contexts.old ≡ 2 ^ context_bits params.now.template }
-    ensures holds { DecodesRegion (plane_coding (gray_view params.now)) plane.old decoder.old contexts.old plane.new decoder.new contexts.new }
+    ensures holds { DecodesRegion (plane_coding (gray_view params.now)) plane.old decoder.old
+        contexts.old plane.new decoder.new contexts.new }
     ensures steps { CountsOne (gray_view params.now) plane.old.width plane.old.height
         decoder.old.bytes (no_pixels decoder.old.registers contexts.old) steps.old steps.new }
 {
@@ -89,8 +90,10 @@ fn read_coded_planes<M: Allocator, A: Allocator + Clone, L: Ledger>(
 ) -> Result<Vec<Bitmap<A>, A>>
     requires sides { image_is_too_large (gray_view params.now) ≡ false }
     requires fresh { contexts.old ≡ fresh_contexts (context_bits params.now.template) }
-    ensures value { Gives (λ planes. planes.items) result (planes_by_coder (gray_view params.now) bytes.now) }
-    ensures contexts { Leaves result contexts.new (after_planes (gray_view params.now) bytes.now params.now.bits_per_pixel).contexts }
+    ensures value { Gives (λ planes. planes.items) result
+        (planes_by_coder (gray_view params.now) bytes.now) }
+    ensures contexts { Leaves result contexts.new
+        (after_planes (gray_view params.now) bytes.now params.now.bits_per_pixel).contexts }
     ensures steps { OnOk result (CountsCoded (gray_view params.now) bytes.now
         params.now.bits_per_pixel steps.old steps.new) }
     ensures lanes { OnOk result (KeepsLanes steps.old steps.new) }
@@ -135,7 +138,8 @@ fn read_mmr_planes<M: Allocator, A: Allocator + Clone, L: Ledger>(
     steps: &mut Steps<L>,
 ) -> Result<Vec<Bitmap<A>, A>>
     requires sides { image_is_too_large (gray_view params.now) ≡ false }
-    ensures value { Gives (λ planes. planes.items) result (planes_by_mmr (gray_view params.now) bytes.now) }
+    ensures value { Gives (λ planes. planes.items) result
+        (planes_by_mmr (gray_view params.now) bytes.now) }
     ensures lanes { OnOk result (KeepsLanes steps.old steps.new) }
     ensures no_planes { params.now.bits_per_pixel ≡ 0 → OnOk result (steps.new ≡ steps.old) }
 {
@@ -162,8 +166,10 @@ pub fn read_planes<M: Allocator, A: Allocator + Clone, B: Allocator, L: Ledger>(
     steps: &mut Steps<L>,
 ) -> Result<Vec<Bitmap<A>, A>>
     requires sides { image_is_too_large (gray_view params.now) ≡ false }
-    ensures value { Gives (λ planes. planes.items) result (planes_of (gray_view params.now) bytes.now) }
-    ensures contexts { Leaves result contexts.new.items (planes_contexts (gray_view params.now) bytes.now contexts.old.items) }
+    ensures value { Gives (λ planes. planes.items) result
+        (planes_of (gray_view params.now) bytes.now) }
+    ensures contexts { Leaves result contexts.new.items
+        (planes_contexts (gray_view params.now) bytes.now contexts.old.items) }
     ensures steps { OnOk result (CountsRead (gray_view params.now) bytes.now steps.old steps.new) }
     ensures no_planes { params.now.bits_per_pixel ≡ 0 → OnOk result (steps.new ≡ steps.old) }
 {

@@ -24,9 +24,13 @@ impl<'a> Model for CodeReader<'a> {
 
     ghost Value = { Rest };
 
-    ghost view = { λ r. record { bytes = r.bytes.now; left = drop r.bit (bits_of (drop r.byte r.bytes.now)) } };
+    ghost view = { λ r. record {
+      bytes = r.bytes.now;
+      left = drop r.bit (bits_of (drop r.byte r.bytes.now));
+    } };
 
-    ghost invariant = { λ r. (r.byte ≤ length r.bytes.now) × (r.bit < 8) × (r.byte ≡ length r.bytes.now → r.bit ≡ 0) };
+    ghost invariant = { λ r. (r.byte ≤ length r.bytes.now) × (r.bit < 8) ×
+        (r.byte ≡ length r.bytes.now → r.bit ≡ 0) };
 }
 
 impl<'a> CodeReader<'a> {
@@ -55,7 +59,8 @@ impl<'a> CodeReader<'a> {
     /// The next 24 bits as a number, zeros behind the end.
     #[inline(always)]
     fn window(&self) -> u32
-        ensures value { (n : ℕ) → n ≤ 24 → result / 2 ^ (24 - n) ≡ number_after 0 (take n (padded self.now.left)) }
+        ensures value { (n : ℕ) → n ≤ 24 → result / 2 ^ (24 - n) ≡
+            number_after 0 (take n (padded self.now.left)) }
         ensures bits { AreBits self.now.left }
         ensures bound { result < 2 ^ 24 }
     {
@@ -165,8 +170,11 @@ impl<'a> CodeReader<'a> {
 /// The first four bytes as a number, zeros behind the end.
 #[inline(always)]
 fn first_word(bytes: &[u8]) -> u32
-    ensures value { result ≡ slice_index bytes.now 0 * 16777216 + (slice_index bytes.now 1 * 65536 + (slice_index bytes.now 2 * 256 + slice_index bytes.now 3)) }
-    ensures bytes { (slice_index bytes.now 0 < 256) × (slice_index bytes.now 1 < 256) × (slice_index bytes.now 2 < 256) × (slice_index bytes.now 3 < 256) }
+    ensures value { result ≡ slice_index bytes.now 0 * 16777216 +
+        (slice_index bytes.now 1 * 65536 + (slice_index bytes.now 2 * 256 +
+        slice_index bytes.now 3)) }
+    ensures bytes { (slice_index bytes.now 0 < 256) × (slice_index bytes.now 1 < 256) ×
+        (slice_index bytes.now 2 < 256) × (slice_index bytes.now 3 < 256) }
 {
     if bytes.len() >= 4 {
         return u32::from_be_bytes([bytes[0], bytes[1], bytes[2], bytes[3]]);

@@ -23,7 +23,8 @@ pub fn find_change<A: Allocator, L: Ledger>(
     steps: &mut Steps<L>,
 ) -> u32
     requires { bit before 0 ≡ left_of (row_of bitmap.now y) (64 * first) }
-    ensures value { result ≡ place_from (is_change_from (row_of bitmap.now y) black) (64 * first) bitmap.now.width }
+    ensures value { result ≡ place_from (is_change_from (row_of bitmap.now y) black) (64 * first)
+        bitmap.now.width }
     ensures lanes { KeepsLanes steps.old steps.new }
 {
     let width = bitmap.width();
@@ -51,7 +52,8 @@ pub fn left_neighbours(pixels: u64, before: u64) -> u64
 /// The bits where pixels have not the colour `black` and their left neighbours have it.
 #[inline(always)]
 pub fn changes_from(pixels: u64, left: u64, black: bool) -> u64
-    ensures { (k : ℕ) → bit result k ≡ (differ (bit pixels k) (bit left k) && differ (bit pixels k) black) }
+    ensures { (k : ℕ) →
+        bit result k ≡ (differ (bit pixels k) (bit left k) && differ (bit pixels k) black) }
 {
     if black {
         (pixels ^ left) & left

@@ -42,7 +42,8 @@ pub fn read_row<A: Allocator, L: Ledger>(
 ) -> bool
     requires row { y < bitmap.old.height }
     requires white { (x : ℕ) → pixel_at bitmap.old x y ≡ false }
-    ensures value { ReadRow (row bitmap.old.width (row_above bitmap.old y) reader.old.left) result bitmap.old bitmap.new y reader.new.left }
+    ensures value { ReadRow (row bitmap.old.width (row_above bitmap.old y) reader.old.left) result
+        bitmap.old bitmap.new y reader.new.left }
     ensures bytes { reader.new.bytes ≡ reader.old.bytes }
     ensures lanes { KeepsLanes steps.old steps.new }
 {
@@ -96,7 +97,9 @@ fn read_turn<A: Allocator, L: Ledger>(
 ) -> Option<Turn>
     requires column { place.a0 < bitmap.now.width }
     requires first { place.begun ≡ false → place.a0 ≡ 0 }
-    ensures value { ReadStep bitmap.now.width (head_of place) (next_step bitmap.now.width (row_of bitmap.now above) (head_of place) reader.old.left) result reader.new.left }
+    ensures value { ReadStep bitmap.now.width (head_of place)
+        (next_step bitmap.now.width (row_of bitmap.now above) (head_of place) reader.old.left)
+        result reader.new.left }
     ensures bytes { reader.new.bytes ≡ reader.old.bytes }
     ensures shorter { IfSome result (λ _. length reader.new.left < length reader.old.left) }
     ensures lanes { KeepsLanes steps.old steps.new }
@@ -118,7 +121,9 @@ fn pass<A: Allocator, L: Ledger>(
 ) -> Turn
     requires column { place.a0 < bitmap.now.width }
     requires first { place.begun ≡ false → place.a0 ≡ 0 }
-    ensures value { (bits : List ℕ) → ReadStep bitmap.now.width (head_of place) (after_pass bitmap.now.width (row_of bitmap.now above) (head_of place) bits) (Some result) bits }
+    ensures value { (bits : List ℕ) → ReadStep bitmap.now.width (head_of place)
+        (after_pass bitmap.now.width (row_of bitmap.now above) (head_of place) bits) (Some result)
+        bits }
     ensures lanes { KeepsLanes steps.old steps.new }
 {
     let b1 = find_b1(bitmap, above, place, steps);
@@ -136,7 +141,10 @@ fn pass<A: Allocator, L: Ledger>(
 /// The turn that leaves the colour up to b2.
 #[inline(always)]
 fn passed(b2: u32, black: bool) -> Turn
-    ensures { result ≡ record { turn = b2; next = record { a0 = b2; begun = true; black = black } } }
+    ensures { result ≡ record {
+      turn = b2;
+      next = record { a0 = b2; begun = true; black = black };
+    } }
 {
     Turn {
         turn: b2,
@@ -152,7 +160,8 @@ fn passed(b2: u32, black: bool) -> Turn
 #[inline(always)]
 fn horizontal(reader: &mut CodeReader, place: Place, width: u32) -> Option<Turn>
     requires { place.a0 < width }
-    ensures value { ReadStep width (head_of place) (after_runs width (head_of place) reader.old.left) result reader.new.left }
+    ensures value { ReadStep width (head_of place)
+        (after_runs width (head_of place) reader.old.left) result reader.new.left }
     ensures bytes { reader.new.bytes ≡ reader.old.bytes }
     ensures shorter { IfSome result (λ _. length reader.new.left ≤ length reader.old.left) }
 {
@@ -179,7 +188,9 @@ fn vertical<A: Allocator, L: Ledger>(
 ) -> Option<Turn>
     requires column { place.a0 < bitmap.now.width }
     requires first { place.begun ≡ false → place.a0 ≡ 0 }
-    ensures value { (bits : List ℕ) → ReadStep bitmap.now.width (head_of place) (after_vertical bitmap.now.width (row_of bitmap.now above) (head_of place) distance bits) result bits }
+    ensures value { (bits : List ℕ) → ReadStep bitmap.now.width (head_of place)
+        (after_vertical bitmap.now.width (row_of bitmap.now above) (head_of place) distance bits)
+        result bits }
     ensures lanes { KeepsLanes steps.old steps.new }
 {
     let width = bitmap.width();
@@ -230,7 +241,8 @@ fn find_b1<A: Allocator, L: Ledger>(
 #[inline(always)]
 fn right_of(place: Place) -> u64
     requires { place.begun ≡ false → place.a0 ≡ 0 }
-    ensures { (k : ℕ) → k < 64 → bit result (63 - k) ≡ nat_le (if place.begun then place.a0 + 1 else 0) (64 * (place.a0 / 64) + k) }
+    ensures { (k : ℕ) → k < 64 → bit result (63 - k) ≡
+        nat_le (if place.begun then place.a0 + 1 else 0) (64 * (place.a0 / 64) + k) }
 {
     let right = u64::MAX >> (place.a0 % 64);
     if place.begun { right >> 1 } else { right }

@@ -53,7 +53,8 @@ fn decode_bits<A: Allocator, L: Ledger>(
     requires shows { Shows bitmap.old x y 20 windows }
     requires left { IsLeft bitmap.old x y left }
     requires small { left < 16 }
-    ensures holds { DecodesPixels (nominal_pixels neighbours) false x y count bitmap.old decoder.old contexts.old bitmap.new decoder.new contexts.new }
+    ensures holds { DecodesPixels (nominal_pixels neighbours) false x y count bitmap.old decoder.old
+        contexts.old bitmap.new decoder.new contexts.new }
     ensures left { IsLeft bitmap.new (x + count) y result }
     ensures small { result < 16 }
     ensures width { bitmap.new.width ≡ bitmap.old.width }
@@ -61,7 +62,10 @@ fn decode_bits<A: Allocator, L: Ledger>(
     ensures bytes { decoder.new.bytes ≡ decoder.old.bytes }
     ensures contexts { length contexts.new ≡ length contexts.old }
     ensures rows { SameAbove bitmap.old bitmap.new y }
-    ensures steps { steps.new ≡ record steps.old { decisions = steps.old.decisions + count; words = steps.old.words + 1 } }
+    ensures steps { steps.new ≡ record steps.old {
+      decisions = steps.old.decisions + count;
+      words = steps.old.words + 1;
+    } }
 {
     let mut register = neighbours.register(left, windows);
     let mut context = neighbours.context(register);
@@ -110,7 +114,8 @@ fn decode_bytes<A: Allocator, L: Ledger>(
     requires small { left < 16 }
     ensures some { 1 ≤ result.bytes }
     ensures most { result.bytes ≤ most }
-    ensures holds { DecodesPixels (nominal_pixels neighbours) false x y (8 * result.bytes) bitmap.old decoder.old contexts.old bitmap.new decoder.new contexts.new }
+    ensures holds { DecodesPixels (nominal_pixels neighbours) false x y (8 * result.bytes)
+        bitmap.old decoder.old contexts.old bitmap.new decoder.new contexts.new }
     ensures rows { SameAbove bitmap.old bitmap.new y }
     ensures left { IsLeft bitmap.new (x + 8 * result.bytes) y result.left }
     ensures small { result.left < 16 }
@@ -118,7 +123,8 @@ fn decode_bytes<A: Allocator, L: Ledger>(
     ensures height { bitmap.new.height ≡ bitmap.old.height }
     ensures bytes { decoder.new.bytes ≡ decoder.old.bytes }
     ensures contexts { length contexts.new ≡ length contexts.old }
-    ensures decisions { CountsRuns (nominal_pixels neighbours) x y (8 * result.bytes) bitmap.old decoder.old contexts.old steps.old.decisions steps.new.decisions }
+    ensures decisions { CountsRuns (nominal_pixels neighbours) x y (8 * result.bytes) bitmap.old
+        decoder.old contexts.old steps.old.decisions steps.new.decisions }
     ensures run_tests { steps.new.run_tests ≤ steps.old.run_tests + result.bytes }
     ensures loads { steps.new.loads ≡ steps.old.loads }
     ensures words { steps.new.words ≡ steps.old.words + 1 }
@@ -190,14 +196,16 @@ fn decode_group<A: Allocator, L: Ledger>(
     requires shows { ShowsGroup bitmap.old x y bytes windows }
     requires left { IsLeft bitmap.old x y left }
     requires small { left < 16 }
-    ensures holds { DecodesPixels (nominal_pixels neighbours) false x y (8 * bytes) bitmap.old decoder.old contexts.old bitmap.new decoder.new contexts.new }
+    ensures holds { DecodesPixels (nominal_pixels neighbours) false x y (8 * bytes) bitmap.old
+        decoder.old contexts.old bitmap.new decoder.new contexts.new }
     ensures left { IsLeft bitmap.new (x + 8 * bytes) y result }
     ensures small { result < 16 }
     ensures width { bitmap.new.width ≡ bitmap.old.width }
     ensures height { bitmap.new.height ≡ bitmap.old.height }
     ensures bytes { decoder.new.bytes ≡ decoder.old.bytes }
     ensures contexts { length contexts.new ≡ length contexts.old }
-    ensures decisions { CountsRuns (nominal_pixels neighbours) x y (8 * bytes) bitmap.old decoder.old contexts.old steps.old.decisions steps.new.decisions }
+    ensures decisions { CountsRuns (nominal_pixels neighbours) x y (8 * bytes) bitmap.old
+        decoder.old contexts.old steps.old.decisions steps.new.decisions }
     ensures run_tests { steps.new.run_tests ≤ steps.old.run_tests + bytes }
     ensures rows { SameAbove bitmap.old bitmap.new y }
     ensures loads { steps.new.loads ≡ steps.old.loads }
@@ -252,12 +260,16 @@ fn decode_last<A: Allocator, L: Ledger>(
     requires row { y < bitmap.old.height }
     requires left { IsLeft bitmap.old x y left }
     requires small { left < 16 }
-    ensures holds { DecodesPixels (nominal_pixels neighbours) false x y count bitmap.old decoder.old contexts.old bitmap.new decoder.new contexts.new }
+    ensures holds { DecodesPixels (nominal_pixels neighbours) false x y count bitmap.old decoder.old
+        contexts.old bitmap.new decoder.new contexts.new }
     ensures width { bitmap.new.width ≡ bitmap.old.width }
     ensures height { bitmap.new.height ≡ bitmap.old.height }
     ensures bytes { decoder.new.bytes ≡ decoder.old.bytes }
     ensures contexts { length contexts.new ≡ length contexts.old }
-    ensures steps { steps.new ≡ record steps.old { decisions = steps.old.decisions + count; words = steps.old.words + 1 } }
+    ensures steps { steps.new ≡ record steps.old {
+      decisions = steps.old.decisions + count;
+      words = steps.old.words + 1;
+    } }
 {
     decode_bits(
         neighbours, bitmap, x, y, count, left, windows, decoder, contexts, steps,
@@ -278,12 +290,14 @@ pub fn decode_row_by_bytes<A: Allocator, L: Ledger>(
     requires contexts { length contexts.old ≡ 2 ^ neighbour_count neighbours }
     requires some { 1 ≤ bitmap.old.width }
     requires row { y < bitmap.old.height }
-    ensures holds { DecodesPixels (nominal_pixels neighbours) false 0 y bitmap.old.width bitmap.old decoder.old contexts.old bitmap.new decoder.new contexts.new }
+    ensures holds { DecodesPixels (nominal_pixels neighbours) false 0 y bitmap.old.width bitmap.old
+        decoder.old contexts.old bitmap.new decoder.new contexts.new }
     ensures width { bitmap.new.width ≡ bitmap.old.width }
     ensures height { bitmap.new.height ≡ bitmap.old.height }
     ensures bytes { decoder.new.bytes ≡ decoder.old.bytes }
     ensures contexts { length contexts.new ≡ length contexts.old }
-    ensures decisions { CountsRuns (nominal_pixels neighbours) 0 y bitmap.old.width bitmap.old decoder.old contexts.old steps.old.decisions steps.new.decisions }
+    ensures decisions { CountsRuns (nominal_pixels neighbours) 0 y bitmap.old.width bitmap.old
+        decoder.old contexts.old steps.old.decisions steps.new.decisions }
     ensures run_tests { steps.new.run_tests ≤ steps.old.run_tests + (bitmap.old.width - 1) / 8 }
     ensures loads { steps.new.loads ≤ steps.old.loads + 2 * ((bitmap.old.width - 1) / 8 + 1) }
     ensures words { steps.new.words ≤ steps.old.words + ((bitmap.old.width - 1) / 8 + 1) }

@@ -38,12 +38,14 @@ fn decode_constant_row<
     requires contexts { length contexts.old ≡ 2 ^ neighbour_count neighbours }
     requires some { 1 ≤ bitmap.old.width }
     requires row { y < bitmap.old.height }
-    ensures holds { DecodesPixels (nominal_pixels neighbours) false 0 y bitmap.old.width bitmap.old decoder.old contexts.old bitmap.new decoder.new contexts.new }
+    ensures holds { DecodesPixels (nominal_pixels neighbours) false 0 y bitmap.old.width bitmap.old
+        decoder.old contexts.old bitmap.new decoder.new contexts.new }
     ensures width { bitmap.new.width ≡ bitmap.old.width }
     ensures height { bitmap.new.height ≡ bitmap.old.height }
     ensures bytes { decoder.new.bytes ≡ decoder.old.bytes }
     ensures contexts { length contexts.new ≡ length contexts.old }
-    ensures decisions { CountsRuns (nominal_pixels neighbours) 0 y bitmap.old.width bitmap.old decoder.old contexts.old steps.old.decisions steps.new.decisions }
+    ensures decisions { CountsRuns (nominal_pixels neighbours) 0 y bitmap.old.width bitmap.old
+        decoder.old contexts.old steps.old.decisions steps.new.decisions }
     ensures run_tests { steps.new.run_tests ≤ steps.old.run_tests + (bitmap.old.width - 1) / 8 }
     ensures loads { steps.new.loads ≤ steps.old.loads + 2 * ((bitmap.old.width - 1) / 8 + 1) }
     ensures words { steps.new.words ≤ steps.old.words + ((bitmap.old.width - 1) / 8 + 1) }
@@ -66,12 +68,14 @@ pub fn decode_nominal_row<A: Allocator, L: Ledger>(
     requires contexts { length contexts.old ≡ 2 ^ neighbour_count neighbours }
     requires some { 1 ≤ bitmap.old.width }
     requires row { y < bitmap.old.height }
-    ensures holds { DecodesPixels (nominal_pixels neighbours) false 0 y bitmap.old.width bitmap.old decoder.old contexts.old bitmap.new decoder.new contexts.new }
+    ensures holds { DecodesPixels (nominal_pixels neighbours) false 0 y bitmap.old.width bitmap.old
+        decoder.old contexts.old bitmap.new decoder.new contexts.new }
     ensures width { bitmap.new.width ≡ bitmap.old.width }
     ensures height { bitmap.new.height ≡ bitmap.old.height }
     ensures bytes { decoder.new.bytes ≡ decoder.old.bytes }
     ensures contexts { length contexts.new ≡ length contexts.old }
-    ensures decisions { CountsRuns (nominal_pixels neighbours) 0 y bitmap.old.width bitmap.old decoder.old contexts.old steps.old.decisions steps.new.decisions }
+    ensures decisions { CountsRuns (nominal_pixels neighbours) 0 y bitmap.old.width bitmap.old
+        decoder.old contexts.old steps.old.decisions steps.new.decisions }
     ensures run_tests { steps.new.run_tests ≤ steps.old.run_tests + (bitmap.old.width - 1) / 8 }
     ensures loads { steps.new.loads ≤ steps.old.loads + 2 * ((bitmap.old.width - 1) / 8 + 1) }
     ensures words { steps.new.words ≤ steps.old.words + ((bitmap.old.width - 1) / 8 + 1) }

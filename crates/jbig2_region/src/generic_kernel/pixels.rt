@@ -33,9 +33,11 @@ fn mixed_context<A: Allocator, L: Ledger>(
     requires row { y < 65536 }
     requires shows { Shows bitmap.now x y 64 windows }
     requires left { IsLeft bitmap.now (x + offset) y left }
-    ensures value { result ≡ context_at (mixed_pixels neighbours adaptive.now) bitmap.now (x + offset) y }
+    ensures value { result ≡ context_at (mixed_pixels neighbours adaptive.now) bitmap.now
+        (x + offset) y }
     ensures bound { result < 2 ^ mixed_count neighbours adaptive.now }
-    ensures steps { steps.new ≡ record steps.old { loads = steps.old.loads + adaptive_count adaptive.now } }
+    ensures steps { steps.new ≡
+        record steps.old { loads = steps.old.loads + adaptive_count adaptive.now } }
 {
     let first = context_at(adaptive.first, bitmap, x + offset, y, steps);
     let middle = context_at(adaptive.middle, bitmap, x + offset, y, steps);
@@ -74,7 +76,8 @@ fn decode_pixels<A: Allocator, L: Ledger>(
     requires heights { bitmap.old.height ≤ 65535 }
     requires left { IsLeft bitmap.old x y left }
     requires small { left < 16 }
-    ensures holds { DecodesPixels (mixed_pixels neighbours adaptive.now) false x y count bitmap.old decoder.old contexts.old bitmap.new decoder.new contexts.new }
+    ensures holds { DecodesPixels (mixed_pixels neighbours adaptive.now) false x y count bitmap.old
+        decoder.old contexts.old bitmap.new decoder.new contexts.new }
     ensures left { IsLeft bitmap.new (x + count) y result }
     ensures small { result < 16 }
     ensures width { bitmap.new.width ≡ bitmap.old.width }
@@ -115,14 +118,16 @@ pub fn decode_row_by_pixels<A: Allocator, L: Ledger>(
     requires row { y < bitmap.old.height }
     requires widths { bitmap.old.width ≤ 65535 }
     requires heights { bitmap.old.height ≤ 65535 }
-    ensures holds { DecodesPixels (mixed_pixels neighbours adaptive.now) false 0 y bitmap.old.width bitmap.old decoder.old contexts.old bitmap.new decoder.new contexts.new }
+    ensures holds { DecodesPixels (mixed_pixels neighbours adaptive.now) false 0 y bitmap.old.width
+        bitmap.old decoder.old contexts.old bitmap.new decoder.new contexts.new }
     ensures width { bitmap.new.width ≡ bitmap.old.width }
     ensures height { bitmap.new.height ≡ bitmap.old.height }
     ensures bytes { decoder.new.bytes ≡ decoder.old.bytes }
     ensures contexts { length contexts.new ≡ length contexts.old }
     ensures decisions { steps.new.decisions ≡ steps.old.decisions + bitmap.old.width }
     ensures run_tests { steps.new.run_tests ≡ steps.old.run_tests }
-    ensures loads { steps.new.loads ≤ steps.old.loads + (2 * (bitmap.old.width / 32 + 1) + bitmap.old.width * adaptive_count adaptive.now) }
+    ensures loads { steps.new.loads ≤ steps.old.loads +
+        (2 * (bitmap.old.width / 32 + 1) + bitmap.old.width * adaptive_count adaptive.now) }
     ensures words { steps.new.words ≡ steps.old.words + bitmap.old.width }
     ensures lanes { KeepsLanes steps.old steps.new }
 {

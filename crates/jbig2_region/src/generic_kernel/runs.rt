@@ -75,8 +75,10 @@ fn staying_bytes(
     requires few { most ≤ 8 }
     ensures most { result ≤ most }
     ensures none { result ≡ 0 → neighbours_stay neighbours 8 black left windows.first ≡ false }
-    ensures stay { 1 ≤ result → neighbours_stay neighbours (8 * min result 4) black left windows.first ≡ true }
-    ensures eight { 5 ≤ result → (result ≡ 8) × (neighbours_stay neighbours 32 black left windows.second ≡ true) }
+    ensures stay { 1 ≤ result → neighbours_stay neighbours (8 * min result 4) black left
+        windows.first ≡ true }
+    ensures eight { 5 ≤ result → (result ≡ 8) ×
+        (neighbours_stay neighbours 32 black left windows.second ≡ true) }
 {
     if most >= 4 && stays(neighbours, 32, black, left, windows.first) {
         if most == 8 && stays(neighbours, 32, black, left, windows.second) {
@@ -131,9 +133,23 @@ pub fn take_runs<L: Ledger>(
     requires some { 1 ≤ most }
     requires few { most ≤ 8 }
     ensures most { result ≤ most }
-    ensures none { (w h x y : ℕ) (r : Region) (grid : Grid) → length r.pixels ≡ y * w + x → x + 8 * most < w → y < h → ShowsRun grid x y most windows → IsLeft grid x y left → Holds w h decoder.old.bytes r grid decoder.old contexts.now → result ≡ 0 → is_run_of (nominal_pixels neighbours) w h decoder.old.bytes r black ≡ false }
-    ensures run { (w h x y : ℕ) (r : Region) (grid : Grid) → length r.pixels ≡ y * w + x → x + 8 * most < w → y < h → ShowsRun grid x y most windows → IsLeft grid x y left → Holds w h decoder.old.bytes r grid decoder.old contexts.now → 1 ≤ result → is_run_for (nominal_pixels neighbours) w h decoder.old.bytes r black (8 * result) ≡ true }
-    ensures coder { decoder.new ≡ record decoder.old { registers = record decoder.old.registers { a = decoder.old.registers.a - 8 * result * (row_of (slice_index_or contexts.now (all_of (nominal_pixels neighbours) black) fresh).row).qe } } }
+    ensures none { (w h x y : ℕ) (r : Region) (grid : Grid) → length r.pixels ≡ y * w + x →
+        x + 8 * most < w → y < h → ShowsRun grid x y most windows → IsLeft grid x y left →
+        Holds w h decoder.old.bytes r grid decoder.old contexts.now → result ≡ 0 →
+        is_run_of (nominal_pixels neighbours) w h decoder.old.bytes r black ≡ false }
+    ensures run { (w h x y : ℕ) (r : Region) (grid : Grid) → length r.pixels ≡ y * w + x →
+        x + 8 * most < w → y < h → ShowsRun grid x y most windows → IsLeft grid x y left →
+        Holds w h decoder.old.bytes r grid decoder.old contexts.now → 1 ≤ result →
+        is_run_for (nominal_pixels neighbours) w h decoder.old.bytes r black (8 * result) ≡ true }
+    ensures coder { decoder.new ≡
+        record decoder.old {
+          registers = record decoder.old.registers {
+            a =
+                decoder.old.registers.a - 8 * result *
+                (row_of (slice_index_or contexts.now (all_of (nominal_pixels neighbours) black)
+                fresh).row).qe;
+          };
+        } }
     ensures run_tests { steps.new.run_tests ≤ steps.old.run_tests + max result 1 }
     ensures steps { steps.new ≡ record steps.old { run_tests = steps.new.run_tests } }
 {

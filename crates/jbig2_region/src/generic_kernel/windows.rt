@@ -124,7 +124,8 @@ pub fn words_after<A: Allocator, L: Ledger>(
 /// after the first of them.
 #[inline(always)]
 pub fn windows_between(before: Windows, here: Windows, after: Windows) -> WideWindows
-    ensures { (g : Grid) (x y bytes : ℕ) → ShowsBefore g x y before → Shows g (x + 8) y 64 here → Shows g (x + 72) y 64 after → ShowsGroup g x y bytes result }
+    ensures { (g : Grid) (x y bytes : ℕ) → ShowsBefore g x y before → Shows g (x + 8) y 64 here →
+        Shows g (x + 72) y 64 after → ShowsGroup g x y bytes result }
 {
     let first = Windows {
         above: (before.above << 56) | (here.above >> 8),
@@ -151,8 +152,10 @@ fn cut(word: u64, next: u64, pixels: u32) -> u64
 #[inline(always)]
 pub fn last_windows(words: Windows, after: Windows, whole: u32) -> Windows
     requires fits { whole + 7 < 2 ^ 32 }
-    ensures alone { (g : Grid) (y : ℕ) → whole ≡ 0 → ShowsBefore g 0 y words → Shows g 8 y 64 after → Shows g 0 y 64 result }
-    ensures more { (g : Grid) (y x : ℕ) → x + 8 * ((whole + 7) % 8) ≡ 8 * whole → Shows g x y 64 words → Shows g (x + 64) y 64 after → Shows g (8 * whole) y 64 result }
+    ensures alone { (g : Grid) (y : ℕ) → whole ≡ 0 → ShowsBefore g 0 y words →
+        Shows g 8 y 64 after → Shows g 0 y 64 result }
+    ensures more { (g : Grid) (y x : ℕ) → x + 8 * ((whole + 7) % 8) ≡ 8 * whole →
+        Shows g x y 64 words → Shows g (x + 64) y 64 after → Shows g (8 * whole) y 64 result }
 {
     let pixels = 8 * ((whole + 7) % 8);
     Windows {
@@ -178,7 +181,8 @@ impl Windows {
     #[inline(always)]
     pub fn moved(self, pixels: u32) -> Windows
         requires few { pixels ≤ 32 }
-        ensures { (g : Grid) (x y seen : ℕ) → seen ≤ 64 → Shows g x y seen self → Shows g (x + pixels) y (seen - pixels) result }
+        ensures { (g : Grid) (x y seen : ℕ) → seen ≤ 64 → Shows g x y seen self →
+            Shows g (x + pixels) y (seen - pixels) result }
     {
         Windows {
             above: self.above << pixels,
@@ -192,7 +196,9 @@ impl WideWindows {
     #[inline(always)]
     pub fn at_byte(self, done: u32) -> WideWindows
         requires few { done < 8 }
-        ensures { (g : Grid) (x y bytes most : ℕ) → done + most ≤ bytes → 1 ≤ most → (1 ≤ done → done % 4 + most ≤ 4) → ShowsGroup g x y bytes self → ShowsRun g (x + 8 * done) y most result }
+        ensures { (g : Grid) (x y bytes most : ℕ) → done + most ≤ bytes → 1 ≤ most →
+            (1 ≤ done → done % 4 + most ≤ 4) → ShowsGroup g x y bytes self →
+            ShowsRun g (x + 8 * done) y most result }
     {
         let second = self.second;
         if done >= 4 {

@@ -103,7 +103,8 @@ fn decode_block<M: Allocator, A: Allocator, L: Ledger>(
     ensures height { bitmap.new.height ≡ bitmap.old.height }
     ensures bytes { decoder.new.bytes ≡ decoder.old.bytes }
     ensures contexts { length contexts.new ≡ length contexts.old }
-    ensures decisions { CountsCodes (skipping_coding (nominal_pixels neighbours) (skip_of skip.entry))
+    ensures decisions { CountsCodes (skipping_coding (nominal_pixels neighbours)
+        (skip_of skip.entry))
         false x y count
         bitmap.old decoder.old contexts.old steps.old.decisions steps.new.decisions }
     ensures loads { steps.new.loads ≤ steps.old.loads + 3 }
@@ -147,7 +148,8 @@ fn decode_row<M: Allocator, A: Allocator, L: Ledger>(
     ensures height { bitmap.new.height ≡ bitmap.old.height }
     ensures bytes { decoder.new.bytes ≡ decoder.old.bytes }
     ensures contexts { length contexts.new ≡ length contexts.old }
-    ensures decisions { CountsCodes (skipping_coding (nominal_pixels neighbours) (skip_of skip.entry))
+    ensures decisions { CountsCodes (skipping_coding (nominal_pixels neighbours)
+        (skip_of skip.entry))
         false 0 y bitmap.old.width
         bitmap.old decoder.old contexts.old steps.old.decisions steps.new.decisions }
     ensures loads { steps.new.loads ≤ steps.old.loads + skipping_loads bitmap.old.width }
