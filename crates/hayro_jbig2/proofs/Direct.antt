@@ -1,34 +1,45 @@
 -- A region over a whole page of one colour.
-use Rattle.std.proofs.Common.{◌≡◌, ℕ, ◌+◌, ◌*◌, ◌<◌, Bool, true, false, not, ◌&&◌, if◌then◌else◌, nat_lt, cond, ℤ, List, slice_index_or, ◌⊎◌, inl, inr, subst, Result, Ok, Err, refl, sym, ◌∙◌, ap, arith}
+use Rattle.std.proofs.Common.{◌≡◌, ℕ, List, ◌<◌, ◌≤◌, Bool, true, false, ◌&&◌, if◌then◌else◌, nat_lt, cond, ℤ, ◌⊎◌, inl, inr, subst, Result, Ok, Err, refl, sym, ◌∙◌, ap, arith}
 use Rattle.std.specs.Int.{w32, cast_signed}
-use Rattle.std.specs.Prelude.{pos, ◌-ℤ◌}
-use Rattle.std.proofs.lemmas.Bool.{cond-true, and_from, lt-ltb}
+use Rattle.std.specs.Prelude.{IfErr, pos, ◌-ℤ◌}
+use Rattle.std.proofs.lemmas.Bool.{cond-true, and_from, le-ltb, lt-ltb}
 use Rattle.std.proofs.lemmas.Int.{ints}
+use Rattle.jbig2_base.specs.Answer.{Gives, ◌>>=◌}
 use Rattle.jbig2_base.specs.Combination.{combined, drawn_pixel, is_below}
-use Rattle.jbig2_base.specs.Grid.{Grid, grid_of, pixel_at, pixel, blank}
+use Rattle.jbig2_base.specs.Grid.{Grid, pixel_at, pixel, blank}
 use Rattle.jbig2_base.specs.Operator.{combined_pixel}
+use Rattle.jbig2_base.specs.Segment.{SegmentView}
 use Rattle.jbig2_base.specs.inner.Table.{IsTable}
-use Rattle.jbig2_base.proofs.GridLemmas.{grid_of-ext, pixel_at-grid_of}
 use Rattle.jbig2_base.specs.declared.bitmap.operator.CombinationOperator.{CombinationOperator}
 use Rattle.jbig2_base.specs.declared.bitmap.operator.CombinationOperator.TheVariants.{Or, And, Xor, Xnor, Replace}
-use Rattle.jbig2_base.specs.Answer.{◌>>=◌}
 use Rattle.jbig2_base.specs.declared.error.DecodeError.{DecodeError}
-use Rattle.jbig2_base.proofs.GridLemmas.{table-at}
-use Rattle.jbig2_mmr.specs.T6.{Decoded, rows_of, mmr_rows}
-use Rattle.jbig2_region.specs.Generic.{PlacedRegion, generic_answer, generic_decoded, generic_grid, generic_region}
-use Rattle.jbig2_region.specs.GenericHeader.{GenericHeader}
-use Rattle.jbig2_region.specs.Raster.{so_far}
-use Rattle.jbig2_region.specs.RegionInfo.{placed}
-use Rattle.jbig2_region.specs.declared.region_info.RegionSegmentInfo.{RegionSegmentInfo}
-use Rattle.hayro_jbig2.specs.Page.{Drawing, draws_over, shown}
-use Rattle.jbig2_base.specs.Answer.{Gives}
-use Rattle.jbig2_base.specs.Segment.{SegmentView}
 use Rattle.jbig2_base.specs.declared.error.DecodeError.TheVariants.{OutOfMemory}
+use Rattle.jbig2_base.proofs.GridLemmas.{grid_of-ext, pixel_at-grid_of, table-at}
+use Rattle.jbig2_halftone.specs.HalftoneHeader as halftones
+use Rattle.jbig2_halftone.specs.Patterns.{dictionary_view}
+use Rattle.jbig2_region.specs.Generic.{PlacedRegion, region_view}
+use Rattle.jbig2_region.specs.GenericHeader as generics
+use Rattle.jbig2_region.specs.RefinementHeader as refinements
+use Rattle.jbig2_region.specs.RegionInfo.{placed}
+use Rattle.jbig2_region.specs.Refinement.{refined_decoded}
+use Rattle.jbig2_region.specs.declared.generic_refinement.GenericRefinementRegionHeader.{GenericRefinementRegionHeader}
+use Rattle.jbig2_region.specs.declared.region_info.DecodedRegion.{DecodedRegion}
+use Rattle.jbig2_region.specs.declared.region_info.RegionSegmentInfo.{RegionSegmentInfo}
+use Rattle.jbig2_text.specs.TextHeader as texts
 use Rattle.hayro_jbig2.specs.Names.{Names}
-use Rattle.hayro_jbig2.specs.Page.{immediate}
-use Rattle.hayro_jbig2.specs.Regions.{generic_at}
-use Rattle.hayro_jbig2.specs.declared.region.RegionKind.TheVariants.{Generic}
-use Rattle.hayro_jbig2.specs.inner.Whole.{IsWhole, generic_header}
+use Rattle.hayro_jbig2.specs.Page.{Drawing, draws_over, region_at, shown, with_region}
+use Rattle.hayro_jbig2.specs.declared.parsed_region.ParsedRegion.{ParsedRegion}
+use Rattle.hayro_jbig2.specs.declared.parsed_region.ParsedRegion.TheVariants.{Text, Halftone, Generic, Refinement, PageRefinement}
+use Rattle.hayro_jbig2.specs.declared.region.RegionKind.{RegionKind}
+use Rattle.hayro_jbig2.specs.declared.region.RegionKind.TheVariants as kinds
+use Rattle.hayro_jbig2.specs.Regions.{page_area}
+use Rattle.hayro_jbig2.specs.declared.kept.Kept.{Kept}
+use Rattle.hayro_jbig2.specs.inner.KeptViews.{seen}
+use Rattle.hayro_jbig2.specs.inner.PageViews.{near_area}
+use Rattle.hayro_jbig2.specs.inner.Parsed.{apart, drawn, info_of, initial_of}
+use Rattle.hayro_jbig2.specs.inner.Whole.{IsBegun, IsWhole, touched}
+use Rattle.hayro_jbig2.proofs.PageArea.{area-near}
+use Rattle.hayro_jbig2.proofs.RegionSizes.{Made, bad, generic-made, good, halftone-made, refined-made, text-made}
 
 over_pixel : (op : CombinationOperator) (black s : Bool) → draws_over op black ≡ true → combined_pixel op black s ≡ s
 over_pixel Replace black s h = refl
@@ -62,65 +73,106 @@ combined-over op black region table over =
     ∙ sym table
 
 -- ---- a region that is the whole page
-pub whole-page : (info : RegionSegmentInfo) (page : Grid) (black : Bool) → page ≡ blank page.width page.height black → info.x_location ≡ 0 → info.y_location ≡ 0 → info.width ≡ page.width → info.height ≡ page.height → draws_over info.combination_operator black ≡ true → IsWhole info page
-whole-page info page black made x y wide high over = record {
-  width = sym wide;
-  height = sym high;
+pub whole-page : (info : RegionSegmentInfo) (page : Grid) (black : Bool) → IsBegun black page → info.x_location ≡ 0 → info.y_location ≡ 0 → info.width ≡ page.width → info.height ≡ page.height → draws_over info.combination_operator black ≡ true → IsWhole info black page
+whole-page info page black begun x y wide high over = record {
+  columns = subst (λ (n : ℕ). n ≤ 65535) (sym wide) begun.columns;
+  rows = subst (λ (n : ℕ). n ≤ 65535) (sym high) begun.rows;
+  coloured = begun.blank ∙ ap (λ (n : ℕ). blank n page.height black) (sym wide) ∙ ap (λ (n : ℕ). blank info.width n black) (sym high);
   over = λ g table columns rows.
       let op : CombinationOperator = info.combination_operator in
       let start : Grid = blank g.width g.height black in
       let across : page.width ≡ g.width = sym wide ∙ sym columns in
       let down : page.height ≡ g.height = sym high ∙ sym rows in
-      let same : page ≡ start = made ∙ ap (λ (n : ℕ). blank n page.height black) across ∙ ap (λ (n : ℕ). blank g.width n black) down in
+      let same : page ≡ start = begun.blank ∙ ap (λ (n : ℕ). blank n page.height black) across ∙ ap (λ (n : ℕ). blank g.width n black) down in
       ap (λ (q : Grid). combined op q g (cast_signed w32 info.x_location) (cast_signed w32 info.y_location)) same
       ∙ ap (λ (n : ℕ). combined op start g (cast_signed w32 n) (cast_signed w32 info.y_location)) x
       ∙ ap (λ (n : ℕ). combined op start g (cast_signed w32 0) (cast_signed w32 n)) y
       ∙ combined-over op black g table over;
 }
 
--- ---- what a generic region answers is a table of its size
-abbrev Made : ℕ → ℕ → Grid → Type 0
-Made w h g = (f : ℕ → ℕ → Bool) × (g ≡ grid_of w h f)
+-- what is decoded is a table of its size
+drawn-made : {A : Type 0} (r : ParsedRegion A) (g : Grid) → drawn r ≡ Ok g → Made (info_of r).width (info_of r).height g
+drawn-made (Text header referred) g is = text-made (texts.header_view header) referred.symbols referred.codes g is
+drawn-made (Halftone header patterns) g is = halftone-made (halftones.header_view header) (dictionary_view patterns.now) g is
+drawn-made (Generic header) g is = generic-made (generics.header_view header) g is
+drawn-made (Refinement header reference) g is = refined-made (refinements.header_view header) (region_view reference.now) g is
+drawn-made (PageRefinement header area) g is = refined-made (refinements.header_view header) (region_view area) g is
 
-abbrev good : {X : Type 0} → X → Result X DecodeError
-good x = Ok x
+-- no side of a page is too long
+pub apart-within : {A : Type 0} (r : ParsedRegion A) → (info_of r).width ≤ 65535 → (info_of r).height ≤ 65535 → apart r ≡ (drawn r >>= λ g. Ok (placed (info_of r) g))
+apart-within r columns rows = rw (le-ltb 65535 (info_of r).width columns, le-ltb 65535 (info_of r).height rows) refl
 
-abbrev bad : {X : Type 0} → DecodeError → Result X DecodeError
-bad e = Err e
+whole-shown : {A : Type 0} (r : ParsedRegion A) (meant : Result PlacedRegion DecodeError) (d : Drawing) (g : Grid) → IsWhole (info_of r) (initial_of r) d.grid → meant ≡ apart r → drawn r ≡ Ok g → shown true d meant ≡ Ok (record d { grid = g; untouched = false })
+whole-shown r meant d g whole leads is =
+    let info : RegionSegmentInfo = info_of r in
+    let made = drawn-made r g is in
+    let wide : g.width ≡ info.width = ap (λ (q : Grid). q.width) made.1 in
+    let high : g.height ≡ info.height = ap (λ (q : Grid). q.height) made.1 in
+    ap (λ (a : Result PlacedRegion DecodeError). shown true d a) (leads ∙ apart-within r whole.columns whole.rows)
+    ∙ ap (λ (a : Result Grid DecodeError). shown true d (a >>= λ q. Ok (placed info q))) is
+    ∙ ap (λ (q : Grid). let e : Result Drawing DecodeError = Ok (record d { grid = q; untouched = false }) in e) (whole.over g (table-at g info.width info.height made.0 made.1) wide high)
 
-ok-same : (g q : Grid) → good g ≡ good q → q ≡ g
-ok-same g q is = cc
+whole-failed : {A : Type 0} (r : ParsedRegion A) (meant : Result PlacedRegion DecodeError) (d : Drawing) (e : DecodeError) → (info_of r).width ≤ 65535 → (info_of r).height ≤ 65535 → meant ≡ apart r → drawn r ≡ Err e → shown true d meant ≡ Err e
+whole-failed r meant d e columns rows leads is =
+    ap (λ (a : Result PlacedRegion DecodeError). shown true d a) (leads ∙ apart-within r columns rows)
+    ∙ ap (λ (a : Result Grid DecodeError). shown true d (a >>= λ q. Ok (placed (info_of r) q))) is
 
-rows-grid : (t : Bool) (e : DecodeError) (r : Decoded) (g : Grid) → ((if t then Err e else Ok r) >>= λ rows. Ok rows.grid) ≡ Ok g → g ≡ r.grid
-rows-grid true e r g is = absurd (let never : bad {X = Grid} e ≡ good g = is in cc)
-rows-grid false e r g is = ok-same r.grid g is
+-- the page's area is refined
+pub page-refined : {A : Type 0} (header : GenericRefinementRegionHeader) (page : Grid) (area : DecodedRegion A) → refinements.IsRefinement (refinements.header_view header) → near_area page header.region_info ≡ Ok (region_view area) → refined_decoded (refinements.header_view header) (page_area page header.region_info) ≡ apart (PageRefinement header area)
+page-refined header page area parsed near =
+    ap (λ (from : PlacedRegion). refined_decoded (refinements.header_view header) from) (area-near page header.region_info (region_view area) near)
+    ∙ sym (apart-within (PageRefinement header area) parsed.columns parsed.rows)
 
-rows-made : (strict : Bool) (w h : ℕ) (bytes : List ℕ) (g : Grid) → (mmr_rows strict w h bytes >>= λ rows. Ok rows.grid) ≡ Ok g → Made w h g
-unfolding mmr_rows
-rows-made strict w h bytes g is = (_, rows-grid (strict && not (rows_of w h bytes).whole) _ _ g is)
+-- drawn directly
+pub whole-gives : {A : Type 0} (r : ParsedRegion A) (meant : Result PlacedRegion DecodeError) (d : Drawing) (g : Grid) (answer : Result (Unit {0}) DecodeError) → IsWhole (info_of r) (initial_of r) d.grid → meant ≡ apart r → Gives (λ _. g) answer (drawn r) → Gives (λ _. record d { grid = g; untouched = false }) answer (shown true d meant)
+whole-gives r meant d g (Ok u) whole leads is = whole-shown r meant d g whole leads is
+whole-gives r meant d g (Err e) whole leads (inl memory) = inl memory
+whole-gives r meant d g (Err e) whole leads (inr failed) = inr (whole-failed r meant d e whole.columns whole.rows leads failed)
 
-generic-made : (h : GenericHeader) (g : Grid) → generic_answer h ≡ Ok g → Made h.region_info.width h.region_info.height g
-unfolding generic_grid so_far
-generic-made h g is = either h.mmr is
-  where
-    either : (t : Bool) → (if t then (mmr_rows h.strict h.region_info.width h.region_info.height h.bytes >>= λ rows. Ok rows.grid) else Ok (generic_grid h)) ≡ Ok g → Made h.region_info.width h.region_info.height g
-    either true done = rows-made h.strict h.region_info.width h.region_info.height h.bytes g done
-    either false done = ((λ x y. slice_index_or (generic_region h).pixels (y * h.region_info.width + x) false), ok-same (generic_grid h) g done)
+-- drawn apart and then combined
+pub combined-shown : {A : Type 0} (r : ParsedRegion A) (meant : Result PlacedRegion DecodeError) (d d' : Drawing) (region : PlacedRegion) → meant ≡ apart r → apart r ≡ Ok region → Ok d' ≡ shown true d (Ok region) → shown true d meant ≡ Ok d'
+combined-shown r meant d d' region leads is drawn = ap (λ (a : Result PlacedRegion DecodeError). shown true d a) (leads ∙ is) ∙ sym drawn
 
--- ---- drawn directly
-pub direct-made : (h : GenericHeader) (d : Drawing) (g : Grid) → IsWhole h.region_info d.grid → generic_answer h ≡ Ok g → shown true d (generic_decoded h) ≡ Ok (record d { grid = g; untouched = false })
-direct-made h d g whole is =
-    let made = generic-made h g is in
-    let wide : g.width ≡ h.region_info.width = ap (λ (q : Grid). q.width) made.1 in
-    let high : g.height ≡ h.region_info.height = ap (λ (q : Grid). q.height) made.1 in
-    ap (λ (a : Result Grid DecodeError). shown true d (a >>= λ q. Ok (placed h.region_info q))) is
-    ∙ ap (λ (q : Grid). let e : Result Drawing DecodeError = Ok (record d { grid = q; untouched = false }) in e) (whole.over g (table-at g h.region_info.width h.region_info.height made.0 made.1) wide high)
+-- refused
+pub shown-refused : (d : Drawing) (meant : Result PlacedRegion DecodeError) (e : DecodeError) → (e ≡ OutOfMemory) ⊎ (meant ≡ Err e) → (e ≡ OutOfMemory) ⊎ (shown true d meant ≡ Err e)
+shown-refused d meant e (inl memory) = inl memory
+shown-refused d meant e (inr failed) = inr (ap (λ (a : Result PlacedRegion DecodeError). shown true d a) failed)
 
-pub direct-failed : (h : GenericHeader) (d : Drawing) (e : DecodeError) → generic_answer h ≡ Err e → shown true d (generic_decoded h) ≡ Err e
-direct-failed h d e is = ap (λ (a : Result Grid DecodeError). shown true d (a >>= λ q. Ok (placed h.region_info q))) is
+pub led-to : {A : Type 0} (r : ParsedRegion A) (meant : Result PlacedRegion DecodeError) (e : DecodeError) → meant ≡ apart r → (e ≡ OutOfMemory) ⊎ (apart r ≡ Err e) → (e ≡ OutOfMemory) ⊎ (meant ≡ Err e)
+led-to r meant e leads (inl memory) = inl memory
+led-to r meant e leads (inr failed) = inr (leads ∙ failed)
 
--- in either mode
-drawn-either : (strict : Bool) (d d' : Drawing) (r : Result PlacedRegion DecodeError) → shown true d r ≡ Ok d' → shown strict d r ≡ Ok d'
+-- whether a page was touched changes no region
+pub region-touched : (strict : Bool) (globals : Names) (kind : RegionKind) (is_intermediate : Bool) (p : SegmentView) (d : Drawing) → region_at strict globals kind is_intermediate p (touched d) ≡ region_at strict globals kind is_intermediate p d
+region-touched strict globals kinds.Text is_intermediate p d = refl
+region-touched strict globals kinds.Halftone is_intermediate p d = refl
+region-touched strict globals kinds.Generic is_intermediate p d = refl
+region-touched strict globals kinds.GenericRefinement is_intermediate p d = refl
+
+-- the drawing that references see
+pub led : {A : Type 0} (strict : Bool) (globals : Names) (kind : RegionKind) (is_intermediate : Bool) (p : SegmentView) (page : Grid) (regions items : List (Kept (DecodedRegion A))) (names : Names) (untouched : Bool) (d : Drawing) (meant : Result PlacedRegion DecodeError)
+    → regions ≡ items → record { grid = page; regions = seen region_view items; names = names; untouched = untouched } ≡ d → region_at strict globals kind is_intermediate p (record { grid = page; regions = seen region_view regions; names = names; untouched = false }) ≡ meant → region_at strict globals kind is_intermediate p d ≡ meant
+led {A = A} strict globals kind is_intermediate p page regions items names untouched d meant same view leads =
+    let inside : Drawing = record { grid = page; regions = seen region_view items; names = names; untouched = untouched } in
+    ap (λ (b : Drawing). region_at strict globals kind is_intermediate p b) (sym view)
+    ∙ sym (region-touched strict globals kind is_intermediate p inside)
+    ∙ ap (λ (xs : List (Kept (DecodedRegion A))). region_at strict globals kind is_intermediate p (record { grid = page; regions = seen region_view xs; names = names; untouched = false })) (sym same)
+    ∙ leads
+
+-- a page that is as it was
+pub left-as-was : (inside d : Drawing) (page : Grid) (answer : Result (Unit {0}) DecodeError) → inside ≡ d → IfErr answer (λ e. (e ≡ OutOfMemory) ⊎ (page ≡ inside.grid)) → IfErr answer (λ e. (e ≡ OutOfMemory) ⊎ (touched (record inside { grid = page }) ≡ touched d))
+left-as-was inside d page (Ok u) view left = left
+left-as-was inside d page (Err e) view (inl memory) = inl memory
+left-as-was inside d page (Err e) view (inr same) = inr (ap (λ (g : Grid). touched (record inside { grid = g })) same ∙ ap touched view)
+
+-- an intermediate region is kept
+pub stored : (number : ℕ) (inside d : Drawing) (meant : Result PlacedRegion DecodeError) (region : PlacedRegion) → inside ≡ d → meant ≡ Ok region → Ok (with_region number inside region) ≡ (meant >>= λ r. Ok (with_region number d r))
+stored number inside d meant region view is =
+    ap (λ (b : Drawing). let e : Result Drawing DecodeError = Ok (with_region number b region) in e) view
+    ∙ sym (ap (λ (a : Result PlacedRegion DecodeError). a >>= λ r. let e : Result Drawing DecodeError = Ok (with_region number d r) in e) is)
+
+-- ---- in either mode
+pub drawn-either : (strict : Bool) (d d' : Drawing) (r : Result PlacedRegion DecodeError) → shown true d r ≡ Ok d' → shown strict d r ≡ Ok d'
 drawn-either strict d d' (Ok r) is = is
 drawn-either strict d d' (Err e) is = absurd (let never : bad {X = Drawing} e ≡ good d' = is in cc)
 
@@ -130,40 +182,11 @@ failed-either d (Err f) e is =
     let same : f ≡ e = let both : bad {X = Drawing} f ≡ bad e = is in cc in
     ap (λ (x : DecodeError). let made : Result PlacedRegion DecodeError = Err x in made) same
 
--- the header first
-header-failed : (a : Result (GenericHeader × List ℕ) DecodeError) (e : DecodeError) → (a >>= λ h. Ok h.0) ≡ Err e → (a >>= λ h. generic_decoded h.0) ≡ Err e
-header-failed (Ok h) e is = absurd (let never : good h.0 ≡ bad e = is in cc)
-header-failed (Err f) e is =
-    let same : f ≡ e = let both : bad {X = GenericHeader} f ≡ bad e = is in cc in
-    ap (λ (x : DecodeError). let made : Result PlacedRegion DecodeError = Err x in made) same
-
-header-made : (a : Result (GenericHeader × List ℕ) DecodeError) (h : GenericHeader) → (a >>= λ h. Ok h.0) ≡ Ok h → (a >>= λ h. generic_decoded h.0) ≡ generic_decoded h
-header-made (Ok q) h is =
-    let same : q.0 ≡ h = let both : good q.0 ≡ good h = is in cc in
-    ap generic_decoded same
-header-made (Err f) h is = absurd (let never : bad {X = GenericHeader} f ≡ good h = is in cc)
-
-generic-failed : (strict : Bool) (p : SegmentView) (e : DecodeError) → generic_header strict false p ≡ Err e → generic_at strict false p ≡ Err e
-unfolding generic_at
-generic-failed strict p e is = header-failed _ e is
-
-generic-header : (strict : Bool) (p : SegmentView) (h : GenericHeader) → generic_header strict false p ≡ Ok h → generic_at strict false p ≡ generic_decoded h
-unfolding generic_at
-generic-header strict p h is = header-made _ h is
-
-pub header-passed : (strict : Bool) (globals : Names) (p : SegmentView) (d d' : Drawing) (e : DecodeError) (answer : Result (Unit {0}) DecodeError) → generic_header strict false p ≡ Err e → Gives (λ _. d') answer (shown strict d (Err e)) → Gives (λ _. d') answer (immediate strict globals Generic p d)
-unfolding immediate
-header-passed strict globals p d d' e answer is gives = subst (λ (r : Result PlacedRegion DecodeError). Gives (λ _. d') answer (shown strict d r)) (sym (generic-failed strict p e is)) gives
-
-pub drawn-directly : (strict : Bool) (globals : Names) (p : SegmentView) (d d' : Drawing) (h : GenericHeader) → generic_header strict false p ≡ Ok h → shown true d (generic_decoded h) ≡ Ok d' → immediate strict globals Generic p d ≡ Ok d'
-unfolding immediate
-drawn-directly strict globals p d d' h is made = ap (λ (r : Result PlacedRegion DecodeError). shown strict d r) (generic-header strict p h is) ∙ drawn-either strict d d' (generic_decoded h) made
-
-pub passed-directly : (strict : Bool) (globals : Names) (p : SegmentView) (d d1 d' : Drawing) (h : GenericHeader) (e : DecodeError) (answer : Result (Unit {0}) DecodeError) → generic_header strict false p ≡ Ok h
-    → (e ≡ OutOfMemory) ⊎ (shown true d (generic_decoded h) ≡ Err e) → (e ≡ OutOfMemory) ⊎ (d1 ≡ record d { untouched = false }) → (e ≡ OutOfMemory → answer ≡ Err OutOfMemory) → Gives (λ _. d') answer (shown strict d1 (Err e)) → Gives (λ _. d') answer (immediate strict globals Generic p d)
-unfolding immediate
-passed-directly strict globals p d d1 d' h e answer is (inl memory) left refused gives = subst (λ (a : Result (Unit {0}) DecodeError). Gives (λ _. d') a (immediate strict globals Generic p d)) (sym (refused memory)) (inl refl)
-passed-directly strict globals p d d1 d' h e answer is (inr failed) (inl memory) refused gives = subst (λ (a : Result (Unit {0}) DecodeError). Gives (λ _. d') a (immediate strict globals Generic p d)) (sym (refused memory)) (inl refl)
-passed-directly strict globals p d d1 d' h e answer is (inr failed) (inr same) refused gives =
-    subst (λ (r : Result PlacedRegion DecodeError). Gives (λ _. d') answer (shown strict d r)) (sym (generic-header strict p h is ∙ failed-either d (generic_decoded h) e failed))
-    (subst (λ (b : Drawing). Gives (λ _. d') answer (shown strict b (Err e))) same gives)
+-- a region that failed is passed over
+pub passed : (strict : Bool) (d d1 d' : Drawing) (meant : Result PlacedRegion DecodeError) (e : DecodeError) (answer : Result (Unit {0}) DecodeError)
+    → (e ≡ OutOfMemory) ⊎ (shown true d meant ≡ Err e) → (e ≡ OutOfMemory) ⊎ (touched d1 ≡ touched d) → (e ≡ OutOfMemory → answer ≡ Err OutOfMemory) → Gives (λ _. d') answer (shown strict d1 (Err e)) → Gives (λ _. d') answer (shown strict d meant)
+passed strict d d1 d' meant e answer (inl memory) left refused gives = subst (λ (a : Result (Unit {0}) DecodeError). Gives (λ _. d') a (shown strict d meant)) (sym (refused memory)) (inl refl)
+passed strict d d1 d' meant e answer (inr failed) (inl memory) refused gives = subst (λ (a : Result (Unit {0}) DecodeError). Gives (λ _. d') a (shown strict d meant)) (sym (refused memory)) (inl refl)
+passed strict d d1 d' meant e answer (inr failed) (inr same) refused gives =
+    subst (λ (r : Result PlacedRegion DecodeError). Gives (λ _. d') answer (shown strict d r)) (sym (failed-either d meant e failed))
+    (subst (λ (b : Drawing). Gives (λ _. d') answer (if strict then Err e else Ok b)) same gives)

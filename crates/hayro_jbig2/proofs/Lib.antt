@@ -8,6 +8,7 @@ pub mod KeptLemmas
 mod LeftLemmas
 mod PackedRows
 mod PageArea
+mod RegionSizes
 pub mod Runs
 pub mod Sending
 mod Shades

@@ -1,5 +1,6 @@
 pub mod ByPages
 pub mod KeptViews
 pub mod PageViews
+pub mod Parsed
 pub mod SegmentLists
 pub mod Whole

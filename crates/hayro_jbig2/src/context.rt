@@ -33,10 +33,10 @@ pub struct DecoderContext<A: Allocator> {
 
 impl<A: Allocator> Model for DecoderContext<A> {
     ghost use Rattle.std.specs.Prelude.{◌≡◌, true};
-    ghost use Rattle.jbig2_base.specs.Grid.{blank};
     ghost use Rattle.jbig2_region.specs.Generic.{region_view};
     ghost use Rattle.hayro_jbig2.specs.Page.{Drawing};
     ghost use Rattle.hayro_jbig2.specs.inner.KeptViews.{seen};
+    ghost use Rattle.hayro_jbig2.specs.inner.Whole.{IsBegun};
 
     ghost Value = { Drawing };
 
@@ -47,8 +47,7 @@ impl<A: Allocator> Model for DecoderContext<A> {
       untouched = c.untouched;
     } };
 
-    ghost invariant = { λ c. c.untouched ≡ true
-        → c.bitmap ≡ blank c.bitmap.width c.bitmap.height c.default_pixel };
+    ghost invariant = { λ c. c.untouched ≡ true → IsBegun c.default_pixel c.bitmap };
 }
 
 impl<A: Allocator + Clone> DecoderContext<A> {

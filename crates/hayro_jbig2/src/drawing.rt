@@ -1,25 +1,20 @@
 //! Segments drawn onto the page (T.88, 8.2).
-ghost use Rattle.std.specs.Prelude.{◌≡◌, true, false, Ok, Err};
+ghost use Rattle.std.specs.Prelude.{◌≡◌, ◌⊎◌, true, false, Err, IfErr};
 ghost use Rattle.jbig2_base.specs.Answer.{Gives};
 ghost use Rattle.jbig2_base.specs.inner.SegmentViews.{segment_view, segment_views};
-ghost use Rattle.jbig2_region.specs.Generic.{region_view};
 ghost use Rattle.hayro_jbig2.specs.Dictionaries.{with_patterns, with_symbols};
 ghost use Rattle.hayro_jbig2.specs.Page.{segments_drawn, ends_page, immediate, intermediate, keeping, region_at, segment_on, shown};
 ghost use Rattle.jbig2_base.specs.declared.error.DecodeError.TheVariants.{OutOfMemory};
-ghost use Rattle.hayro_jbig2.specs.declared.region.RegionKind.TheVariants.{Generic};
+ghost use Rattle.hayro_jbig2.specs.inner.Whole.{touched};
 
 use crate::context::DecoderContext;
 use crate::dictionaries::{extension, keep_patterns, keep_symbols, keep_table};
-use crate::generics::{decode_generic, parse_generic};
-use crate::halftones::decode_halftone;
 use crate::names::{KeptNames, Lookup};
-use crate::refinement::{References, decode_refinement};
+use crate::references::References;
 use crate::region::RegionKind;
-use crate::texts::decode_text;
 use jbig2_base::bitmap::steps::Steps;
 use jbig2_base::error::{DecodeError, Result};
 use jbig2_base::segment::{Segment, SegmentType};
-use jbig2_region::generic::DecodedRegion;
 use std::alloc::Allocator;
 use std::sync::ledger::Ledger;
 
@@ -92,7 +87,7 @@ impl<'a, A: Allocator + Clone> Drawer<'a, A> {
                 self.keep_region(RegionKind::Generic, segment, context, steps)
             }
             SegmentType::ImmediateGenericRegion | SegmentType::ImmediateLosslessGenericRegion => {
-                self.draw_generic(segment, context, steps)
+                self.draw_region(RegionKind::Generic, segment, context, steps)
             }
             SegmentType::IntermediateGenericRefinementRegion => {
                 self.keep_region(RegionKind::GenericRefinement, segment, context, steps)
@@ -149,8 +144,8 @@ impl<'a, A: Allocator + Clone> Drawer<'a, A> {
         keep_patterns(&mut context.names, self.strict, segment, workspace, steps)
     }
 
-    /// Combines an immediate region with the page. Lenient reading passes over one that failed, but
-    /// never over want of memory.
+    /// Draws an immediate region. Lenient reading passes over one that failed, but never over want of
+    /// memory.
     #[tactic(auto, unfolding(crate::specs::Page::immediate))]
     fn draw_region<L: Ledger>(
         &self,
@@ -163,43 +158,45 @@ impl<'a, A: Allocator + Clone> Drawer<'a, A> {
             (immediate self.now.strict self.now.globals.now kind (segment_view segment.now)
             context.old) }
     {
-        match self.decode_region(kind, false, segment, context, steps) {
-            Ok(region) => {
-                context.combine(&region, steps);
-                Ok(())
-            }
-            Err(DecodeError::OutOfMemory) => Err(DecodeError::OutOfMemory),
-            Err(error) => {
-                if self.strict {
-                    return Err(error);
-                }
-                context.untouched = false;
-                Ok(())
-            }
+        match self.show_region(kind, segment, context, steps) {
+            Ok(()) => Ok(()),
+            Err(error) => self.pass_over(error, context),
         }
     }
 
-    /// The same of a generic region, which is decoded into the page's own bitmap where it makes up
-    /// the page by itself.
-    fn draw_generic<L: Ledger>(
+    /// Combines an immediate region with the page. One that makes up the page by itself is decoded
+    /// into the page's own bitmap.
+    fn show_region<L: Ledger>(
         &self,
+        kind: RegionKind,
         segment: &Segment<'_, A>,
         context: &mut DecoderContext<A>,
         steps: &mut Steps<L>,
     ) -> Result<()>
-        ensures { Gives (λ _. context.new) result (immediate self.now.strict self.now.globals.now Generic (segment_view segment.now) context.old) }
+        ensures value { Gives (λ _. context.new) result
+            (shown true context.old (region_at self.now.strict self.now.globals.now kind false
+            (segment_view segment.now) context.old)) }
+        ensures err { IfErr result (λ e. (e ≡ OutOfMemory) ⊎ (touched context.new ≡ touched context.old)) }
     {
-        let header = match parse_generic(self.strict, false, segment) {
-            Ok(header) => header,
-            Err(error) => return self.pass_over(error, context),
+        let is_white = context.is_white();
+        let references = References {
+            names: Lookup {
+                strict: self.strict,
+                own: &context.names,
+                globals: self.globals,
+            },
+            regions: &context.regions,
+            page: &context.bitmap,
         };
-        if !context.is_made_by(&header.region_info) {
-            return self.draw_region(RegionKind::Generic, segment, context, steps);
+        let workspace = &context.workspace;
+        let parsed = references.parse_region(kind, false, segment, workspace, steps)?;
+        if is_white && parsed.makes_up(&context.bitmap) {
+            context.untouched = false;
+            return parsed.decode_onto(&mut context.bitmap, &mut context.workspace, steps);
         }
-        match context.decode_directly(&header, steps) {
-            Ok(()) => Ok(()),
-            Err(error) => self.pass_over(error, context),
-        }
+        let region = parsed.decode(&mut context.workspace, steps)?;
+        context.combine(&region, steps);
+        Ok(())
     }
 
     /// What becomes of an immediate region that failed and left the page as it was.
@@ -227,51 +224,18 @@ impl<'a, A: Allocator + Clone> Drawer<'a, A> {
             (intermediate self.now.strict self.now.globals.now kind (segment_view segment.now)
             context.old) }
     {
-        let region = self.decode_region(kind, true, segment, context, steps)?;
-        context.store(segment.header.segment_number, region)
-    }
-
-    /// The region that a segment holds, in a bitmap of its own.
-    fn decode_region<L: Ledger>(
-        &self,
-        kind: RegionKind,
-        is_intermediate: bool,
-        segment: &Segment<'_, A>,
-        context: &mut DecoderContext<A>,
-        steps: &mut Steps<L>,
-    ) -> Result<DecodedRegion<A>>
-        ensures value { Gives (λ region. region_view region) result
-            (region_at self.now.strict self.now.globals.now kind is_intermediate
-            (segment_view segment.now) context.old) }
-        ensures same { context.new ≡ context.old }
-    {
-        let strict = self.strict;
-        let lookup = Lookup {
-            strict,
-            own: &context.names,
-            globals: self.globals,
+        let references = References {
+            names: Lookup {
+                strict: self.strict,
+                own: &context.names,
+                globals: self.globals,
+            },
+            regions: &context.regions,
+            page: &context.bitmap,
         };
-        let workspace = &mut context.workspace;
-        match kind {
-            RegionKind::Text => decode_text(&lookup, segment, workspace, steps),
-            RegionKind::Halftone => decode_halftone(&lookup, segment, workspace, steps),
-            RegionKind::Generic => {
-                decode_generic(strict, is_intermediate, segment, workspace, steps)
-            }
-            RegionKind::GenericRefinement => {
-                let references = References {
-                    page: &context.bitmap,
-                    regions: &context.regions,
-                };
-                decode_refinement(
-                    strict,
-                    is_intermediate,
-                    &references,
-                    segment,
-                    workspace,
-                    steps,
-                )
-            }
-        }
+        let workspace = &context.workspace;
+        let parsed = references.parse_region(kind, true, segment, workspace, steps)?;
+        let region = parsed.decode(&mut context.workspace, steps)?;
+        context.store(segment.header.segment_number, region)
     }
 }

@@ -1,22 +1,20 @@
 //! Halftone regions of a page (T.88, 7.4.5).
-ghost use Rattle.std.specs.Prelude.{◌≡◌};
-ghost use Rattle.jbig2_base.specs.Answer.{Answers, Gives};
+ghost use Rattle.std.specs.Prelude.{◌≡◌, IfOk};
+ghost use Rattle.jbig2_base.specs.Answer.{Answers};
 ghost use Rattle.jbig2_base.specs.inner.SegmentViews.{segment_view};
-ghost use Rattle.jbig2_region.specs.Generic.{region_view};
 ghost use Rattle.hayro_jbig2.specs.Regions.{halftone_at, patterns_for, some_patterns};
 ghost use Rattle.hayro_jbig2.specs.inner.KeptViews.{patterns_view};
+ghost use Rattle.hayro_jbig2.specs.inner.Parsed.{IsDecodable, Leads};
 
 use crate::names::Lookup;
-use crate::workspace::Workspace;
-use jbig2_base::bitmap::steps::Steps;
+use crate::parsed_region::ParsedRegion;
+use crate::references::References;
 use jbig2_base::error::{DecodeError, Result, SegmentError};
 use jbig2_base::reader::Reader;
 use jbig2_base::segment::Segment;
 use jbig2_halftone::halftone;
 use jbig2_halftone::pattern::PatternDictionary;
-use jbig2_region::generic::DecodedRegion;
 use std::alloc::Allocator;
-use std::sync::ledger::Ledger;
 
 /// The dictionary that the first referred number names.
 fn referred_patterns<'a, A: Allocator>(
@@ -34,26 +32,20 @@ fn referred_patterns<'a, A: Allocator>(
     Err(DecodeError::Segment(SegmentError::MissingPatternDictionary))
 }
 
-/// A halftone region, drawn with the patterns of the dictionary that it refers to.
-#[tactic(auto, unfolding(crate::specs::Regions::halftone_at))]
-pub(crate) fn decode_halftone<A: Allocator + Clone, L: Ledger>(
-    lookup: &Lookup<'_, A>,
-    segment: &Segment<'_, A>,
-    workspace: &mut Workspace<A>,
-    steps: &mut Steps<L>,
-) -> Result<DecodedRegion<A>>
-    ensures { Gives (λ region. region_view region) result
-        (halftone_at lookup.now.strict lookup.now.own.now lookup.now.globals.now
+/// A halftone region, with the patterns of the dictionary that it refers to.
+#[tactic(auto, unfolding(crate::specs::Regions::halftone_at, jbig2_halftone::specs::Halftone::halftone_decoded))]
+pub(crate) fn parse_halftone<'a, 'n, 'r, A: Allocator>(
+    references: &References<'n, 'r, '_, A>,
+    segment: &Segment<'a, A>,
+) -> Result<ParsedRegion<'a, 'n, 'r, A>>
+    ensures value { Leads result
+        (halftone_at references.now.names.strict references.now.names.own.now references.now.names.globals.now
         (segment_view segment.now)) }
+    ensures parsed { IfOk result (λ region. IsDecodable region) }
 {
+    let lookup = &references.names;
     let patterns = referred_patterns(lookup, &segment.header.referred_to_segments)?;
     let mut reader = Reader::new(segment.bytes);
     let header = halftone::parse(&mut reader, lookup.strict)?;
-    halftone::decode(
-        workspace.alloc.clone()?,
-        &header,
-        patterns,
-        &mut workspace.contexts,
-        steps,
-    )
+    Ok(ParsedRegion::Halftone { header, patterns })
 }

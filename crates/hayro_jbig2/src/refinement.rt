@@ -1,5 +1,5 @@
 //! Refinements on a page (T.88, 7.4.7).
-ghost use Rattle.std.specs.Prelude.{◌≡◌, ◌≤◌, true, false};
+ghost use Rattle.std.specs.Prelude.{◌≡◌, ◌≤◌, IfOk};
 ghost use Rattle.jbig2_base.specs.Answer.{Answers, Gives};
 ghost use Rattle.jbig2_base.specs.inner.SegmentViews.{segment_view};
 ghost use Rattle.jbig2_region.specs.Generic.{PlacedRegion, region_view};
@@ -9,8 +9,11 @@ ghost use Rattle.hayro_jbig2.specs.Names.{first_named};
 ghost use Rattle.hayro_jbig2.specs.Regions.{page_area, referred_region, refinement_at};
 ghost use Rattle.hayro_jbig2.specs.inner.KeptViews.{found, seen};
 ghost use Rattle.hayro_jbig2.specs.inner.PageViews.{near_area};
+ghost use Rattle.hayro_jbig2.specs.inner.Parsed.{IsDecodable, Leads};
 
 use crate::kept::{Kept, first_under};
+use crate::parsed_region::ParsedRegion;
+use crate::references::References;
 use crate::workspace::Workspace;
 use jbig2_base::bitmap::Bitmap;
 use jbig2_base::bitmap::part::Area;
@@ -86,47 +89,41 @@ fn page_area<A: Allocator, B: Allocator, L: Ledger>(
 }
 
 /// A refinement of the page's area (T.88, 7.4.7.4).
-fn refine_page<A: Allocator + Clone, L: Ledger>(
-    header: &GenericRefinementRegionHeader<'_>,
-    page: &Bitmap<A>,
-    workspace: &mut Workspace<A>,
+fn parse_page_refinement<'a, 'n, 'r, A: Allocator + Clone, L: Ledger>(
+    header: GenericRefinementRegionHeader<'a>,
+    references: &References<'n, 'r, '_, A>,
+    workspace: &Workspace<A>,
     steps: &mut Steps<L>,
-) -> Result<DecodedRegion<A>>
-    requires parsed { IsRefinement (header_view header.now) }
-    ensures { Gives (λ region. region_view region) result
-        (refined_decoded (header_view header.now) (page_area page.now header.now.region_info)) }
+) -> Result<ParsedRegion<'a, 'n, 'r, A>>
+    requires parsed { IsRefinement (header_view header) }
+    ensures value { Leads result
+        (refined_decoded (header_view header.entry) (page_area references.now.page.now header.entry.region_info)) }
+    ensures parsed { IfOk result (λ region. IsDecodable region) }
 {
-    let area = page_area(workspace.alloc.clone()?, page, &header.region_info, steps)?;
-    generic_refinement::decode(
+    let area = page_area(
         workspace.alloc.clone()?,
-        header,
-        &area,
-        &mut workspace.contexts,
+        references.page,
+        &header.region_info,
         steps,
-    )
+    )?;
+    Ok(ParsedRegion::PageRefinement { header, area })
 }
 
-/// What a refinement may refine: the page so far, and the intermediate regions.
-#[derive(Drop)]
-pub(crate) struct References<'a, A: Allocator> {
-    pub(crate) page: &'a Bitmap<A>,
-    pub(crate) regions: &'a [Kept<DecodedRegion<A>>],
-}
-
-/// A refinement, decoded into a bitmap of its own (T.88, 7.4.7).
+/// A refinement, of the region that it refers to or else of the page so far (T.88, 7.4.7).
 #[tactic(auto, unfolding(crate::specs::Regions::refinement_at))]
-pub(crate) fn decode_refinement<A: Allocator + Clone, L: Ledger>(
-    strict: bool,
+pub(crate) fn parse_refinement<'a, 'n, 'r, A: Allocator + Clone, L: Ledger>(
+    references: &References<'n, 'r, '_, A>,
     is_intermediate: bool,
-    references: &References<'_, A>,
-    segment: &Segment<'_, A>,
-    workspace: &mut Workspace<A>,
+    segment: &Segment<'a, A>,
+    workspace: &Workspace<A>,
     steps: &mut Steps<L>,
-) -> Result<DecodedRegion<A>>
-    ensures { Gives (λ region. region_view region) result
-        (refinement_at strict is_intermediate references.now.page.now
+) -> Result<ParsedRegion<'a, 'n, 'r, A>>
+    ensures value { Leads result
+        (refinement_at references.now.names.strict is_intermediate references.now.page.now
         (seen region_view references.now.regions.now) (segment_view segment.now)) }
+    ensures parsed { IfOk result (λ region. IsDecodable region) }
 {
+    let strict = references.names.strict;
     let numbers = &segment.header.referred_to_segments;
     let referred = referred_region(strict, numbers, references.regions)?;
     if strict && is_intermediate && referred.is_none() {
@@ -135,8 +132,7 @@ pub(crate) fn decode_refinement<A: Allocator + Clone, L: Ledger>(
     let mut reader = Reader::new(segment.bytes);
     let header = generic_refinement::parse(&mut reader)?;
     let Some(reference) = referred else {
-        return refine_page(&header, references.page, workspace, steps);
+        return parse_page_refinement(header, references, workspace, steps);
     };
-    let alloc = workspace.alloc.clone()?;
-    generic_refinement::decode(alloc, &header, reference, &mut workspace.contexts, steps)
+    Ok(ParsedRegion::Refinement { header, reference })
 }

@@ -1,0 +1,72 @@
+-- What a region is decoded by, once its header is read and what it refers to is found (T.88, 7.4.3 and 7.4.5 to 7.4.7).
+use Rattle.std.specs.Prelude.{◌≡◌, ◌≤◌, Bool, false, ◌||◌, nat_lt, Result, Ok, Err, ◌⊎◌}
+use Rattle.jbig2_base.specs.Answer.{◌>>=◌, refuse_if}
+use Rattle.jbig2_base.specs.Grid.{Grid}
+use Rattle.jbig2_base.specs.declared.error.DecodeError.{DecodeError}
+use Rattle.jbig2_base.specs.declared.error.DecodeError.TheVariants.{OutOfMemory, Overflow}
+use Rattle.jbig2_base.specs.declared.error.OverflowError.TheVariants.{BitmapDimension}
+use Rattle.jbig2_halftone.specs.Halftone.{halftone_answer}
+use Rattle.jbig2_halftone.specs.HalftoneHeader as halftones
+use Rattle.jbig2_halftone.specs.Patterns.{dictionary_view}
+use Rattle.jbig2_region.specs.Generic.{PlacedRegion, generic_answer, region_view}
+use Rattle.jbig2_region.specs.GenericHeader as generics
+use Rattle.jbig2_region.specs.Refinement.{refined_answer}
+use Rattle.jbig2_region.specs.RefinementHeader as refinements
+use Rattle.jbig2_region.specs.RegionInfo.{placed}
+use Rattle.jbig2_region.specs.declared.region_info.RegionSegmentInfo.{RegionSegmentInfo}
+use Rattle.jbig2_text.specs.TextHeader as texts
+use Rattle.jbig2_text.specs.TextRegion.{text_answer}
+use Rattle.hayro_jbig2.specs.Page.{Drawing}
+use Rattle.hayro_jbig2.specs.declared.parsed_region.ParsedRegion.{ParsedRegion}
+use Rattle.hayro_jbig2.specs.declared.parsed_region.ParsedRegion.TheVariants.{Text, Halftone, Generic, Refinement, PageRefinement}
+use Rattle.hayro_jbig2.specs.declared.references.References.{References}
+use Rattle.hayro_jbig2.specs.inner.KeptViews.{seen}
+
+abbrev pub info_of : {A : Type 0} → ParsedRegion A → RegionSegmentInfo
+info_of (Text header referred) = header.region_info
+info_of (Halftone header patterns) = header.region_info
+info_of (Generic header) = header.region_info
+info_of (Refinement header reference) = header.region_info
+info_of (PageRefinement header area) = header.region_info
+
+-- the colour that it begins in
+abbrev pub initial_of : {A : Type 0} → ParsedRegion A → Bool
+initial_of (Text header referred) = header.flags.default_pixel
+initial_of (Halftone header patterns) = header.flags.initial_pixel_color
+initial_of (Generic header) = false
+initial_of (Refinement header reference) = false
+initial_of (PageRefinement header area) = false
+
+-- the grid that it decodes to
+abbrev pub drawn : {A : Type 0} → ParsedRegion A → Result Grid DecodeError
+drawn (Text header referred) = text_answer (texts.header_view header) referred.symbols referred.codes
+drawn (Halftone header patterns) = halftone_answer (halftones.header_view header) (dictionary_view patterns.now)
+drawn (Generic header) = generic_answer (generics.header_view header)
+drawn (Refinement header reference) = refined_answer (refinements.header_view header) (region_view reference.now)
+drawn (PageRefinement header area) = refined_answer (refinements.header_view header) (region_view area)
+
+-- at its place
+abbrev pub apart : {A : Type 0} → ParsedRegion A → Result PlacedRegion DecodeError
+apart r = refuse_if (nat_lt 65535 (info_of r).width || nat_lt 65535 (info_of r).height) (Overflow BitmapDimension) >>= λ fits. drawn r >>= λ g. Ok (placed (info_of r) g)
+
+-- a halftone's grid is no larger than is read
+pub record HasCells (header : halftones.HalftoneHeader) : Type 0 where
+  pub columns : header.grid_position_and_size.width ≤ 65535
+  pub rows : header.grid_position_and_size.height ≤ 65535
+
+-- what holds of every region that is parsed
+abbrev pub IsDecodable : {A : Type 0} → ParsedRegion A → Type 0
+IsDecodable (Text header referred) = header.flags.log_strip_size ≤ 3
+IsDecodable (Halftone header patterns) = HasCells (halftones.header_view header)
+IsDecodable (Generic header) = generics.IsParsed (generics.header_view header)
+IsDecodable (Refinement header reference) = refinements.IsRefinement (refinements.header_view header)
+IsDecodable (PageRefinement header area) = refinements.IsRefinement (refinements.header_view header)
+
+-- What was parsed decodes to what was meant, unless memory ran out.
+abbrev pub Leads : {A : Type 0} → Result (ParsedRegion A) DecodeError → Result PlacedRegion DecodeError → Type 0
+Leads (Ok parsed) meant = meant ≡ apart parsed
+Leads (Err e) meant = (e ≡ OutOfMemory) ⊎ (meant ≡ Err e)
+
+-- the page that references see
+abbrev pub drawing_of : {A : Type 0} → References A → Drawing
+drawing_of r = record { grid = r.page.now; regions = seen region_view r.regions.now; names = r.names.own.now; untouched = false }

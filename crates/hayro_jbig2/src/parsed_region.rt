@@ -1,0 +1,127 @@
+//! Regions whose headers are read (T.88, 7.4.3 and 7.4.5 to 7.4.7).
+ghost use Rattle.std.specs.Prelude.{◌≡◌};
+ghost use Rattle.jbig2_base.specs.Answer.{Gives};
+ghost use Rattle.jbig2_base.specs.Grid.{blank};
+ghost use Rattle.jbig2_region.specs.Generic.{region_view};
+ghost use Rattle.hayro_jbig2.specs.inner.Parsed.{IsDecodable, apart, drawn, info_of, initial_of};
+
+use crate::referred::ReferredSegments;
+use crate::workspace::Workspace;
+use jbig2_base::bitmap::Bitmap;
+use jbig2_base::bitmap::steps::Steps;
+use jbig2_base::error::Result;
+use jbig2_halftone::halftone::{self, HalftoneRegionHeader};
+use jbig2_halftone::pattern::PatternDictionary;
+use jbig2_region::generic::{self, DecodedRegion, GenericRegionHeader};
+use jbig2_region::generic_refinement::{self, GenericRefinementRegionHeader};
+use jbig2_region::region_info::RegionSegmentInfo;
+use jbig2_text::text;
+use jbig2_text::text::header::TextRegionHeader;
+use std::alloc::Allocator;
+use std::sync::ledger::Ledger;
+
+/// What a region is decoded by: its header with the coded bytes, and what it refers to.
+#[derive(Drop)]
+pub(crate) enum ParsedRegion<'a, 'n, 'r, A: Allocator> {
+    Text {
+        header: TextRegionHeader<'a, A>,
+        referred: ReferredSegments<'n, A>,
+    },
+    Halftone {
+        header: HalftoneRegionHeader<'a>,
+        patterns: &'n PatternDictionary<A>,
+    },
+    Generic {
+        header: GenericRegionHeader<'a>,
+    },
+    Refinement {
+        header: GenericRefinementRegionHeader<'a>,
+        reference: &'r DecodedRegion<A>,
+    },
+    PageRefinement {
+        header: GenericRefinementRegionHeader<'a>,
+        /// The page's area that is refined.
+        area: DecodedRegion<A>,
+    },
+}
+
+impl<'a, 'n, 'r, A: Allocator + Clone> ParsedRegion<'a, 'n, 'r, A> {
+    pub(crate) fn region_info(&self) -> RegionSegmentInfo
+        ensures { result ≡ info_of self.now }
+    {
+        match self {
+            ParsedRegion::Text { header, .. } => header.region_info,
+            ParsedRegion::Halftone { header, .. } => header.region_info,
+            ParsedRegion::Generic { header } => header.region_info,
+            ParsedRegion::Refinement { header, .. } => header.region_info,
+            ParsedRegion::PageRefinement { header, .. } => header.region_info,
+        }
+    }
+
+    /// The region's colour before anything is drawn, `true` for black.
+    pub(crate) fn initial_pixel(&self) -> bool
+        ensures { result ≡ initial_of self.now }
+    {
+        match self {
+            ParsedRegion::Text { header, .. } => header.flags.default_pixel,
+            ParsedRegion::Halftone { header, .. } => header.flags.initial_pixel_color,
+            ParsedRegion::Generic { .. } => false,
+            ParsedRegion::Refinement { .. } => false,
+            ParsedRegion::PageRefinement { .. } => false,
+        }
+    }
+
+    /// Decodes the region into a bitmap of its size that is all in its initial colour.
+    pub(crate) fn decode_into<L: Ledger>(
+        &self,
+        bitmap: &mut Bitmap<A>,
+        workspace: &mut Workspace<A>,
+        steps: &mut Steps<L>,
+    ) -> Result<()>
+        requires parsed { IsDecodable self.now }
+        requires coloured { let info = info_of self.now in bitmap.old ≡ blank info.width info.height (initial_of self.now) }
+        ensures { Gives (λ _. bitmap.new) result (drawn self.now) }
+    {
+        let contexts = &mut workspace.contexts;
+        match self {
+            ParsedRegion::Text { header, referred } => text::decode_into(
+                workspace.alloc.clone()?,
+                header,
+                &referred.symbols,
+                &referred.tables,
+                &workspace.standard_tables,
+                bitmap,
+                steps,
+            ),
+            ParsedRegion::Halftone { header, patterns } => {
+                let alloc = workspace.alloc.clone()?;
+                halftone::decode_into(alloc, header, patterns, bitmap, contexts, steps)
+            }
+            ParsedRegion::Generic { header } => {
+                generic::decode_into(header, bitmap, contexts, steps)
+            }
+            ParsedRegion::Refinement { header, reference } => {
+                generic_refinement::decode_into(header, reference, bitmap, contexts, steps)
+            }
+            ParsedRegion::PageRefinement { header, area } => {
+                generic_refinement::decode_into(header, area, bitmap, contexts, steps)
+            }
+        }
+    }
+
+    /// Decodes the region into a bitmap of its own.
+    pub(crate) fn decode<L: Ledger>(
+        self,
+        workspace: &mut Workspace<A>,
+        steps: &mut Steps<L>,
+    ) -> Result<DecodedRegion<A>>
+        requires { IsDecodable self }
+        ensures { Gives (λ region. region_view region) result (apart self.entry) }
+    {
+        let info = self.region_info();
+        let alloc = workspace.alloc.clone()?;
+        let mut bitmap = Bitmap::new_with(alloc, info.width, info.height, self.initial_pixel())?;
+        self.decode_into(&mut bitmap, workspace, steps)?;
+        Ok(DecodedRegion::new(&info, bitmap))
+    }
+}
