@@ -89,7 +89,8 @@ fn push_pixels<A: Allocator, D: Decoder, L: Ledger>(
     requires few { end - x ≤ 64 }
     requires inside { end ≤ bitmap.now.width }
     requires countable { IsCountable D.conduct decoder.old }
-    ensures { Sends D.conduct (singles (take (end - x) (drop x (row_of bitmap.now y)))) result decoder.old decoder.new }
+    ensures { Sends D.conduct (singles (take (end - x) (drop x (row_of bitmap.now y)))) result
+        decoder.old decoder.new }
 {
     let count = (end - x).max(1);
     let pixels = bitmap.load_pixels(x, y, count, steps);

@@ -176,7 +176,8 @@ impl<'a, A: Allocator + Clone> Drawer<'a, A> {
         ensures value { Gives (λ _. context.new) result
             (shown true context.old (region_at self.now.strict self.now.globals.now kind false
             (segment_view segment.now) context.old)) }
-        ensures err { IfErr result (λ e. (e ≡ OutOfMemory) ⊎ (touched context.new ≡ touched context.old)) }
+        ensures err { IfErr result (λ e. (e ≡ OutOfMemory) ⊎
+            (touched context.new ≡ touched context.old)) }
     {
         let is_white = context.is_white();
         let references = References {
@@ -201,7 +202,8 @@ impl<'a, A: Allocator + Clone> Drawer<'a, A> {
 
     /// What becomes of an immediate region that failed and left the page as it was.
     fn pass_over(&self, error: DecodeError, context: &mut DecoderContext<A>) -> Result<()>
-        ensures value { Gives (λ _. context.new) result (shown self.now.strict context.old (Err error)) }
+        ensures value { Gives (λ _. context.new) result
+            (shown self.now.strict context.old (Err error)) }
         ensures memory { error ≡ OutOfMemory → result ≡ Err OutOfMemory }
     {
         if self.strict || matches!(error, DecodeError::OutOfMemory) {

@@ -19,7 +19,8 @@ pub(crate) fn parse_generic<'a, 'n, 'r, A: Allocator>(
     is_intermediate: bool,
     segment: &Segment<'a, A>,
 ) -> Result<ParsedRegion<'a, 'n, 'r, A>>
-    ensures value { Leads result (generic_at references.now.names.strict is_intermediate (segment_view segment.now)) }
+    ensures value { Leads result (generic_at references.now.names.strict is_intermediate
+        (segment_view segment.now)) }
     ensures parsed { IfOk result (λ region. IsDecodable region) }
 {
     let unknown_length = !is_intermediate && segment.header.data_length.is_none();

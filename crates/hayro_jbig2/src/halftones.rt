@@ -39,7 +39,8 @@ pub(crate) fn parse_halftone<'a, 'n, 'r, A: Allocator>(
     segment: &Segment<'a, A>,
 ) -> Result<ParsedRegion<'a, 'n, 'r, A>>
     ensures value { Leads result
-        (halftone_at references.now.names.strict references.now.names.own.now references.now.names.globals.now
+        (halftone_at references.now.names.strict references.now.names.own.now
+        references.now.names.globals.now
         (segment_view segment.now)) }
     ensures parsed { IfOk result (λ region. IsDecodable region) }
 {

@@ -25,7 +25,8 @@ fn put_shades(buf: &mut [u8], place: usize, count: usize, word: u64)
     requires inside { place + count ≤ length buf.old }
     ensures sized { length buf.new ≡ length buf.old }
     ensures before { (k : ℕ) → k < place → get_or buf.new k 0 ≡ get_or buf.old k 0 }
-    ensures shades { (i : ℕ) → i < count → get_or buf.new (place + i) 0 ≡ shade (bit word (63 - i)) }
+    ensures shades { (i : ℕ) → i < count →
+        get_or buf.new (place + i) 0 ≡ shade (bit word (63 - i)) }
 {
     for i in 0..count {
         buf[place + i] = shade(pixel_of(word, 63 - i as u32));

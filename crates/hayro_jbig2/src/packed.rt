@@ -54,7 +54,8 @@ fn put_rest<A: Allocator, L: Ledger>(
     ensures most { result ≤ most }
     ensures sized { length buf.new ≡ length buf.old }
     ensures before { (k : ℕ) → k < place → get_or buf.new k 0 ≡ get_or buf.old k 0 }
-    ensures bytes { (i : ℕ) → i < result → get_or buf.new (place + i) 0 ≡ packed_byte bitmap.now (column + i) y }
+    ensures bytes { (i : ℕ) → i < result →
+        get_or buf.new (place + i) 0 ≡ packed_byte bitmap.now (column + i) y }
 {
     let word = bitmap.load_pixels(8 * column as u32, y, 64, steps);
     let count = most.min(8 - column % 8);
@@ -78,7 +79,8 @@ fn put_words<A: Allocator, L: Ledger>(
     ensures most { result ≤ most }
     ensures sized { length buf.new ≡ length buf.old }
     ensures before { (k : ℕ) → k < place → get_or buf.new k 0 ≡ get_or buf.old k 0 }
-    ensures bytes { (i : ℕ) → i < result → get_or buf.new (place + i) 0 ≡ packed_byte bitmap.now (column + i) y }
+    ensures bytes { (i : ℕ) → i < result →
+        get_or buf.new (place + i) 0 ≡ packed_byte bitmap.now (column + i) y }
 {
     if column % 8 != 0 || y >= bitmap.height() {
         return 0;

@@ -209,7 +209,8 @@ impl<'a, A: Allocator + Clone> Page<'a, A> {
     /// Answers the first fault of a segment that lenient reading does not pass over; `buf` is then
     /// as it was.
     pub fn read_packed(&self, buf: &mut [u8]) -> Result<()>
-        requires { length buf.old ≡ packed_size self.now.initial_page.width self.now.initial_page.height }
+        requires { length buf.old ≡ packed_size self.now.initial_page.width
+            self.now.initial_page.height }
         ensures value { Gives (λ _. buf.new) result (packed_of_page self.now) }
         ensures unchanged { OnErr result (buf.new ≡ buf.old) }
     {
@@ -267,8 +268,10 @@ impl<'a, A: Allocator + Clone> Page<'a, A> {
         ensures calls { Decodes D.conduct (grid_of_page self.now) result decoder.old decoder.new }
         ensures spelling { (g : Grid) → DrawsGrid (calls_of g) g }
         ensures untouched { UntouchedIsBlank }
-        ensures direct { (operator : CombinationOperator) (black : Bool) (region : Grid) → IsTable region → IsTrue (draws_over operator black)
-            → combined operator (blank region.width region.height black) region (pos 0) (pos 0) ≡ region }
+        ensures direct { (operator : CombinationOperator) (black : Bool) (region : Grid) →
+            IsTable region → IsTrue (draws_over operator black)
+            → combined operator (blank region.width region.height black) region (pos 0) (pos 0) ≡
+            region }
     {
         self.decode_counted::<D, Brand>(decoder, context, Blank::new(6))
     }

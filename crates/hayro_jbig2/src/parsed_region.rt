@@ -79,7 +79,8 @@ impl<'a, 'n, 'r, A: Allocator + Clone> ParsedRegion<'a, 'n, 'r, A> {
         steps: &mut Steps<L>,
     ) -> Result<()>
         requires parsed { IsDecodable self.now }
-        requires coloured { let info = info_of self.now in bitmap.old ≡ blank info.width info.height (initial_of self.now) }
+        requires coloured { let info = info_of self.now in
+            bitmap.old ≡ blank info.width info.height (initial_of self.now) }
         ensures { Gives (λ _. bitmap.new) result (drawn self.now) }
     {
         let contexts = &mut workspace.contexts;

@@ -97,7 +97,8 @@ fn parse_page_refinement<'a, 'n, 'r, A: Allocator + Clone, L: Ledger>(
 ) -> Result<ParsedRegion<'a, 'n, 'r, A>>
     requires parsed { IsRefinement (header_view header) }
     ensures value { Leads result
-        (refined_decoded (header_view header.entry) (page_area references.now.page.now header.entry.region_info)) }
+        (refined_decoded (header_view header.entry)
+        (page_area references.now.page.now header.entry.region_info)) }
     ensures parsed { IfOk result (λ region. IsDecodable region) }
 {
     let area = page_area(

@@ -22,7 +22,8 @@ pub(crate) fn parse_text<'a, 'n, 'r, A: Allocator + Clone>(
     workspace: &Workspace<A>,
 ) -> Result<ParsedRegion<'a, 'n, 'r, A>>
     ensures value { Leads result
-        (text_at references.now.names.strict references.now.names.own.now references.now.names.globals.now
+        (text_at references.now.names.strict references.now.names.own.now
+        references.now.names.globals.now
         (segment_view segment.now)) }
     ensures parsed { IfOk result (λ region. IsDecodable region) }
 {

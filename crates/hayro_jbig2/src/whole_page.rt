@@ -41,7 +41,8 @@ impl<'a, 'n, 'r, A: Allocator + Clone> ParsedRegion<'a, 'n, 'r, A> {
     /// Whether a white page is the region once that is drawn: it begins white and has the page's
     /// size, and its operator draws over white.
     pub(crate) fn makes_up(&self, page: &Bitmap<A>) -> bool
-        ensures { result ≡ true → IsBegun false page.now → IsWhole (info_of self.now) (initial_of self.now) page.now }
+        ensures { result ≡ true → IsBegun false page.now →
+            IsWhole (info_of self.now) (initial_of self.now) page.now }
     {
         if self.initial_pixel() {
             return false;
