@@ -1,2 +1,6 @@
+pub mod Held
+pub mod Printed
+pub mod Printing
+pub mod Prints
 pub mod Requests
 pub mod Words

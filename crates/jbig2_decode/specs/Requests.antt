@@ -1,5 +1,6 @@
 -- A request as the words have it.
 use Rattle.std.specs.Prelude.{ℕ, Bool, List}
+use Rattle.std.specs.Str.Parse.{IsNumeral}
 use Rattle.jbig2_decode.specs.Words.{Task, Pages as PagesTask, Embedded as EmbeddedTask, Calls as CallsTask, Pbm as PbmTask}
 use Rattle.jbig2_decode.specs.declared.request.Command.{Command}
 use Rattle.jbig2_decode.specs.declared.request.Command.TheVariants.{Pages, Embedded, Calls, Pbm}
@@ -13,3 +14,9 @@ task_view (Pbm index) = PbmTask index.now
 
 abbrev pub request_view : Request → Bool × Task × List ℕ
 request_view request = (request.strict, task_view request.command, request.file.now)
+
+-- what names a page is a numeral
+abbrev pub HasIndex : Task → Type 0
+HasIndex (CallsTask index) = IsNumeral 10 index
+HasIndex (PbmTask index) = IsNumeral 10 index
+HasIndex _ = Unit {0}

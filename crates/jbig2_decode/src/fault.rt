@@ -1,5 +1,9 @@
 //! Why a run stops.
-use hayro_jbig2::{DecodeError, Jbig2Error};
+ghost use Rattle.std.specs.Prelude.{◌≡◌};
+ghost use Rattle.jbig2_base.specs.declared.error.DecodeError.TheVariants.{OutOfMemory};
+ghost use Rattle.jbig2_decode.specs.declared.fault.Fault.TheVariants.{Decode};
+
+use hayro_jbig2::DecodeError;
 use std::alloc::AllocError;
 use thiserror::Error;
 
@@ -18,23 +22,17 @@ pub enum Fault {
 }
 
 impl From<DecodeError> for Fault {
+    ghost from_gives = { λ error fault. fault ≡ Decode error };
+
     fn from(error: DecodeError) -> Fault {
         Fault::Decode(error)
     }
 }
 
 impl From<AllocError> for Fault {
+    ghost from_gives = { λ _ fault. fault ≡ Decode OutOfMemory };
+
     fn from(_refusal: AllocError) -> Fault {
         Fault::Decode(DecodeError::OutOfMemory)
-    }
-}
-
-/// Of what a reader gives.
-impl From<Jbig2Error> for Fault {
-    fn from(error: Jbig2Error) -> Fault {
-        match error {
-            Jbig2Error::Io(_) => Fault::Unreadable,
-            Jbig2Error::Decode(error) => Fault::Decode(error),
-        }
     }
 }

@@ -1,7 +1,11 @@
 //! The program `jbig2-decode`: prints the pages of a JBIG2 file, the calls that spell a page, or a bitmap.
 #![tactic(auto)]
 
+mod bitmap;
+mod calls;
 mod fault;
+mod output;
+mod pages;
 mod printer;
 mod program;
 mod refusals;

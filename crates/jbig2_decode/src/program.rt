@@ -1,18 +1,21 @@
 //! The runs of the program.
-ghost use Rattle.std.specs.Prelude.{◌≡◌, ◌↔◌, map, IsNone};
+ghost use Rattle.std.specs.Prelude.{◌≡◌, ◌↔◌, ◌⊎◌, map, option_map, IsNone, IfSome, Ok, Err, IfOk, IfErr, OnOk};
+ghost use Rattle.std.specs.Io.KnownBytes.{Keeps};
+ghost use Rattle.std.specs.Str.Parse.{IsNumeral};
+ghost use Rattle.jbig2_decode.specs.Printed.{page_named, printed};
+ghost use Rattle.jbig2_decode.specs.Prints.{Ends, IsUntold, Prints, RunEnds, status_of};
+ghost use Rattle.jbig2_decode.specs.Requests.{HasIndex, task_view};
 ghost use Rattle.jbig2_decode.specs.Words.{request_of};
 
+use crate::bitmap::write_bitmap;
+use crate::calls::print_calls;
 use crate::fault::Fault;
-use crate::printer::Printer;
+use crate::pages::print_pages;
 use crate::request::{Command, Request};
 use hayro_jbig2::reading::read_all;
-use hayro_jbig2::{DecodeError, DecodeSettings, DecoderContext, DrawnPage, File, Page};
-use std::alloc::{AllocError, Allocator};
-use std::io;
-use std::io::{BufWriter, Read, Write};
-
-/// How many bytes of a bitmap are written at once.
-const BLOCK: usize = 16384;
+use hayro_jbig2::{DecodeError, DecodeSettings, File, Jbig2Error, Page};
+use std::alloc::Allocator;
+use std::io::{Read, Write};
 
 const USAGE: &str = "usage: jbig2-decode [--strict] pages|embedded FILE | calls|pbm FILE INDEX";
 
@@ -28,20 +31,21 @@ pub fn run<A: Allocator + Clone, R: Read, O: Write, E: Write>(
     err: &mut E,
 ) -> u8
     ensures usage { (result ≡ 2) ↔ IsNone (request_of (map (λ word. word.now) words.now)) }
+    ensures ends { RunEnds (request_of (map (λ word. word.now) words.now))
+        (option_map (λ reader. R.remaining reader.now) file.entry) result
+        (O.contents out.old) (O.contents out.new) (E.contents err.old) (E.contents err.new) }
 {
     let Some(request) = Request::of_words(words) else {
         return refused_words(err);
     };
-    match answer(alloc, request, file, out) {
-        Ok(()) => 0,
-        Err(fault) => status_of(fault, err),
-    }
+    let ended = answer(alloc, request, file, out);
+    status_of(ended, err)
 }
 
 /// The status of a run whose words could not be had: memory was refused, or they are no text.
 pub fn unstarted<E: Write>(refused: bool, err: &mut E) -> u8 {
     if refused {
-        return status_of(Fault::Decode(DecodeError::OutOfMemory), err);
+        return status_of(Err(Fault::Decode(DecodeError::OutOfMemory)), err);
     }
     refused_words(err)
 }
@@ -53,13 +57,19 @@ fn refused_words<E: Write>(err: &mut E) -> u8
     2
 }
 
-fn status_of<E: Write>(fault: Fault, err: &mut E) -> u8
-    ensures { result ≡ 1 }
+/// The status of a run that ended so, after its fault is told.
+fn status_of<E: Write>(ended: Result<(), Fault>, err: &mut E) -> u8
+    ensures status { result ≡ status_of ended }
+    ensures silent { IsUntold ended → Keeps (E.contents err.old) (E.contents err.new) }
 {
-    if fault != Fault::Unwritable {
-        let _ = writeln!(err, "error: {fault}");
+    match ended {
+        Ok(()) => 0,
+        Err(Fault::Unwritable) => 1,
+        Err(fault) => {
+            let _ = writeln!(err, "error: {fault}");
+            1
+        }
     }
-    1
 }
 
 fn answer<A: Allocator + Clone, R: Read, O: Write>(
@@ -67,12 +77,37 @@ fn answer<A: Allocator + Clone, R: Read, O: Write>(
     request: Request<'_>,
     file: Option<&mut R>,
     out: &mut O,
-) -> Result<(), Fault> {
+) -> Result<(), Fault>
+    requires { HasIndex (task_view request.command) }
+    ensures { Ends request.entry.strict (task_view request.entry.command)
+        (option_map (λ reader. R.remaining reader.now) file.entry) result
+        (O.contents out.old) (O.contents out.new) }
+{
     let Some(reader) = file else {
         return Err(Fault::Unreadable);
     };
-    let bytes = read_all(alloc.clone()?, reader)?;
+    let Ok(other) = alloc.clone() else {
+        return Err(Fault::Decode(DecodeError::OutOfMemory));
+    };
+    let bytes = match bytes_of(other, reader) {
+        Ok(bytes) => bytes,
+        Err(fault) => return Err(fault),
+    };
     answer_bytes(alloc, &bytes, request, out)
+}
+
+/// All bytes of a reader.
+fn bytes_of<A: Allocator, R: Read>(alloc: A, reader: &mut R) -> Result<Vec<u8, A>, Fault>
+    ensures bytes { IfOk result (λ bytes. IfSome (R.remaining reader.old)
+        (λ told. bytes.items ≡ told)) }
+    ensures fault { IfErr result (λ fault. (fault ≡ Fault.Unreadable)
+        ⊎ (fault ≡ Fault.Decode DecodeError.OutOfMemory)) }
+{
+    match read_all(alloc, reader) {
+        Ok(bytes) => Ok(bytes),
+        Err(Jbig2Error::Io(_)) => Err(Fault::Unreadable),
+        Err(Jbig2Error::Decode(error)) => Err(Fault::Decode(error)),
+    }
 }
 
 fn answer_bytes<A: Allocator + Clone, O: Write>(
@@ -80,7 +115,11 @@ fn answer_bytes<A: Allocator + Clone, O: Write>(
     bytes: &[u8],
     request: Request<'_>,
     out: &mut O,
-) -> Result<(), Fault> {
+) -> Result<(), Fault>
+    requires { HasIndex (task_view request.command) }
+    ensures { Prints (printed request.entry.strict (task_view request.entry.command) bytes.now)
+        result (O.contents out.old) (O.contents out.new) }
+{
     let settings = DecodeSettings {
         strict: request.strict,
     };
@@ -105,100 +144,18 @@ fn answer_bytes<A: Allocator + Clone, O: Write>(
 }
 
 /// The page that decimal digits name.
-fn page_at<'f, A: Allocator>(file: &'f File<'_, A>, index: &str) -> Result<Page<'f, A>, Fault> {
-    let Ok(index) = index.parse::<usize>() else {
-        return Err(Fault::NoSuchPage);
+fn page_at<'f, A: Allocator>(file: &'f File<'_, A>, index: &str) -> Result<Page<'f, A>, Fault>
+    requires { IsNumeral 10 index.now }
+    ensures page { IfOk result (λ page. page_named index.now file.now ≡ Ok page) }
+    ensures fault { IfErr result (λ fault. page_named index.now file.now ≡ Err fault) }
+{
+    let index = match index.parse::<usize>() {
+        Ok(index) => index,
+        // No file has so many pages.
+        Err(_) => file.page_count(),
     };
-    file.page(index).ok_or(Fault::NoSuchPage)
-}
-
-fn buffered<A: Allocator, O: Write>(alloc: A, out: &mut O) -> Result<BufWriter<&mut O, A>, Fault> {
-    BufWriter::new(alloc, out).map_err(|_| Fault::Decode(DecodeError::OutOfMemory))
-}
-
-/// Writes what is left in the buffer, unless something could not be written before.
-fn finish<A: Allocator, W: Write + Drop>(
-    mut buffered: BufWriter<W, A>,
-    is_written: bool,
-) -> Result<(), Fault> {
-    if !is_written || buffered.flush().is_err() {
-        // What is left in the buffer is not to be written any more.
-        let _ = buffered.into_parts();
-        return Err(Fault::Unwritable);
+    match file.page(index) {
+        Some(page) => Ok(page),
+        None => Err(Fault::NoSuchPage),
     }
-    Ok(())
-}
-
-/// The same behind a page. One that cannot be decoded is its own fault, and then nothing is written.
-fn finish_page<A: Allocator, W: Write + Drop>(
-    buffered: BufWriter<W, A>,
-    decoded: Result<(), DecodeError>,
-    is_written: bool,
-) -> Result<(), Fault> {
-    match decoded {
-        Err(error) if is_written => {
-            // No call was made, and what stands before the calls is not to be written either.
-            let _ = buffered.into_parts();
-            Err(Fault::Decode(error))
-        }
-        _ => finish(buffered, is_written),
-    }
-}
-
-/// Prints a line for each page.
-fn print_pages<A: Allocator + Clone, O: Write>(
-    alloc: A,
-    file: &File<'_, A>,
-    out: &mut O,
-) -> Result<(), Fault> {
-    let mut buffered = buffered(alloc, out)?;
-    let written = write_sizes(file, &mut buffered);
-    finish(buffered, written.is_ok())
-}
-
-fn write_sizes<A: Allocator, W: Write>(file: &File<'_, A>, out: &mut W) -> io::Result<()> {
-    for page in file.pages() {
-        let (width, height) = page.dimensions();
-        writeln!(out, "{} {width} {height}", page.number())?;
-    }
-    Ok(())
-}
-
-/// Prints the calls that spell a page.
-fn print_calls<A: Allocator + Clone, O: Write>(
-    alloc: A,
-    page: &Page<'_, A>,
-    out: &mut O,
-) -> Result<(), Fault> {
-    let mut printer = Printer::new(buffered(alloc, out)?);
-    let decoded = page.decode(&mut printer);
-    let is_written = !printer.has_refused();
-    finish_page(printer.into_inner(), decoded, is_written)
-}
-
-/// Writes a page as a binary bitmap of the PBM format.
-fn write_bitmap<A: Allocator + Clone, O: Write>(
-    alloc: A,
-    page: &Page<'_, A>,
-    out: &mut O,
-) -> Result<(), Fault> {
-    let mut context = DecoderContext::new(alloc.clone()?)?;
-    let drawn = page.draw(&mut context)?;
-    let (width, height) = page.dimensions();
-    let mut buffered = buffered(alloc, out)?;
-    let headed = write!(buffered, "P4\n{width} {height}\n");
-    let is_written = headed.is_ok() && write_rows(&drawn, &mut buffered).is_ok();
-    finish(buffered, is_written)
-}
-
-fn write_rows<A: Allocator, W: Write>(drawn: &DrawnPage<'_, A>, out: &mut W) -> io::Result<()> {
-    let mut block = [0; BLOCK];
-    let mut place = 0;
-    while place < drawn.size() {
-        let count = (drawn.size() - place).min(BLOCK);
-        drawn.read_at(place, &mut block[..count]);
-        out.write_all(&block[..count])?;
-        place += count;
-    }
-    Ok(())
 }

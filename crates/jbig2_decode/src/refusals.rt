@@ -1,8 +1,8 @@
 //! How many calls a Decoder of this program has refused.
-ghost use Rattle.std.specs.Prelude.{◌≡◌, ◌+◌, ◌-◌, ◌^◌, ◌<◌, nat_lt, IfErr, OnOk, OnErr};
+ghost use Rattle.std.specs.Prelude.{◌≡◌, ◌-◌, ◌^◌, ◌<◌, nat_lt};
+ghost use Rattle.jbig2_decode.specs.Printing.{Counts};
 
 use hayro_jbig2::{DecodeError, Result};
-use std::io;
 
 /// The count of refused calls: those whose output could not be written.
 #[derive(Drop)]
@@ -23,19 +23,15 @@ impl Refusals {
         self.count > 0
     }
 
-    /// The answer of a call that has written so.
-    pub fn answer(&mut self, written: io::Result<()>) -> Result<()>
+    /// The answer of a call whose line was taken, or was not.
+    pub fn answer(&mut self, is_taken: bool) -> Result<()>
         requires { self.old.count < 2 ^ 64 - 1 }
-        ensures ok { OnOk result (self.new.count ≡ self.old.count) }
-        ensures err { OnErr result (self.new.count ≡ self.old.count + 1) }
-        ensures error { IfErr result (λ error. error ≡ DecodeError.Unsupported) }
+        ensures { Counts is_taken result self.old.count self.new.count }
     {
-        match written {
-            Ok(()) => Ok(()),
-            Err(_) => {
-                self.count += 1;
-                Err(DecodeError::Unsupported)
-            }
+        if !is_taken {
+            self.count += 1;
+            return Err(DecodeError::Unsupported);
         }
+        Ok(())
     }
 }

@@ -1,0 +1,27 @@
+-- What a printer does with one call.
+use Rattle.std.specs.Prelude.{◌≡◌, ℕ, ◌+◌, ◌-◌, ◌^◌, Bool, true, false, List, Option, Some, None, Result, Ok, Err, if◌then◌else◌}
+use Rattle.std.specs.Io.KnownBytes.{Appends, Keeps}
+use Rattle.jbig2_base.specs.declared.error.DecodeError.{DecodeError}
+use Rattle.jbig2_base.specs.declared.error.DecodeError.TheVariants.{Unsupported}
+
+-- bytes are taken whole, or leave no trace
+abbrev pub Pushes : Bool → Option (List ℕ) → Option (List ℕ) → List ℕ → Type 0
+Pushes true old new bytes = Appends old new bytes
+Pushes false old new bytes = Keeps old new
+
+-- one more refusal is counted where a call was not taken
+abbrev pub Counts : Bool → Result (Unit {0}) DecodeError → ℕ → ℕ → Type 0
+Counts true (Ok u) old new = new ≡ old
+Counts true (Err e) old new = ⊥
+Counts false (Ok u) old new = ⊥
+Counts false (Err e) old new = (new ≡ old + 1) × (e ≡ Unsupported)
+
+-- what is known of an output, where a proof says that its bytes are told
+abbrev pub known_if : Bool → Option (List ℕ) → Option (List ℕ)
+known_if is_told known = if is_told then known else None
+
+-- A printer whose output no longer tells its bytes, though a proof says so, counts as one that may refuse no more.
+abbrev pub refusals_if : Bool → Option (List ℕ) → ℕ → ℕ
+refusals_if true None count = 2 ^ 64 - 1
+refusals_if true (Some bytes) count = count
+refusals_if false known count = count
