@@ -4,6 +4,7 @@ pub mod Causes
 pub mod Combination
 pub mod Counts
 pub mod EndMarker
+pub mod ErrorTexts
 pub mod Fields
 pub mod File
 pub mod FileHeader

@@ -11,34 +11,24 @@ pub type Result<T> = std::result::Result<T, DecodeError>;
 #[derive(Debug, Drop, PartialEq, Eq, Error)]
 pub enum DecodeError {
     /// The bytes end too early.
-    #[error(transparent)]
     Parse(ParseError),
     /// The file or the page as a whole.
-    #[error(transparent)]
     Format(FormatError),
     /// A segment's header or its references.
-    #[error(transparent)]
     Segment(SegmentError),
     /// Prefix-coded data.
-    #[error(transparent)]
     Huffman(HuffmanError),
     /// A region's fields or data.
-    #[error(transparent)]
     Region(RegionError),
     /// A template's adaptive pixels.
-    #[error(transparent)]
     Template(TemplateError),
     /// Symbol dictionaries and text.
-    #[error(transparent)]
     Symbol(SymbolError),
     /// A number out of range.
-    #[error(transparent)]
     Overflow(OverflowError),
     /// A feature that this decoder does not have.
-    #[error("unsupported feature")]
     Unsupported,
     /// A request for memory was refused. No mode swallows it.
-    #[error("out of memory")]
     OutOfMemory,
 }
 
@@ -46,7 +36,6 @@ pub enum DecodeError {
 #[derive(Clone, Copy, Debug, PartialEq, Eq, Error)]
 pub enum ParseError {
     /// The bytes end before the field does.
-    #[error("unexpected end of input")]
     UnexpectedEof,
 }
 
@@ -54,25 +43,18 @@ pub enum ParseError {
 #[derive(Clone, Copy, Debug, PartialEq, Eq, Error)]
 pub enum FormatError {
     /// The file does not begin with the identification string (D.4.1).
-    #[error("invalid JBIG2 file header")]
     InvalidHeader,
     /// A reserved bit of the file's flags is set (D.4.2).
-    #[error("reserved bits must be zero")]
     ReservedBits,
     /// The page has no segment of type 48.
-    #[error("missing page information segment")]
     MissingPageInfo,
     /// The height is unknown and no stripe tells it (7.4.8.2).
-    #[error("page height unknown with no stripe segments")]
     UnknownPageHeight,
     /// The page's width or height is 0.
-    #[error("page has zero width or height")]
     EmptyPage,
     /// The file's page count is not the number of its pages (D.4.3).
-    #[error("page count in file header doesn't match")]
     PageCountMismatch,
     /// A page has no end of page segment, or several (7.4.9).
-    #[error("page without exactly one end of page segment")]
     InvalidEndOfPage,
 }
 
@@ -80,25 +62,18 @@ pub enum FormatError {
 #[derive(Clone, Copy, Debug, PartialEq, Eq, Error)]
 pub enum SegmentError {
     /// The type is not one of 7.3's list.
-    #[error("unknown or reserved segment type")]
     UnknownType,
     /// The count of referred segments is coded as 5 or 6 (7.2.4).
-    #[error("invalid referred-to segment count")]
     InvalidReferredCount,
     /// A referred number is not below the segment's own, or names nothing that serves.
-    #[error("segment refers to an invalid segment")]
     InvalidReference,
     /// Only an immediate generic region may have an unknown length (7.2.7).
-    #[error("unknown segment length for this type")]
     InvalidUnknownLength,
     /// The data of unknown length has no end marker (7.2.7).
-    #[error("missing end marker for unknown-length region")]
     MissingEndMarker,
     /// A halftone region names no pattern dictionary.
-    #[error("missing required pattern dictionary")]
     MissingPatternDictionary,
     /// A segment that needs a page is associated with page 0.
-    #[error("segment not associated with a page")]
     MissingPageAssociation,
 }
 
@@ -106,19 +81,14 @@ pub enum SegmentError {
 #[derive(Clone, Copy, Debug, PartialEq, Eq, Error)]
 pub enum HuffmanError {
     /// The bits begin no code, or lengths make no code (Annex B).
-    #[error("invalid Huffman code")]
     InvalidCode,
     /// A table selection has a value without a meaning.
-    #[error("invalid Huffman table selection")]
     InvalidSelection,
     /// More custom tables are selected than referred to.
-    #[error("not enough referred Huffman tables")]
     MissingTables,
     /// Out of band where a number has to stand.
-    #[error("unexpected out-of-band value")]
     UnexpectedOob,
     /// Two lines have one code; never answered.
-    #[error("conflicting Huffman codes")]
     ConflictingCodes,
 }
 
@@ -126,16 +96,12 @@ pub enum HuffmanError {
 #[derive(Clone, Copy, Debug, PartialEq, Eq, Error)]
 pub enum RegionError {
     /// The operator is none of 7.4.1.5's.
-    #[error("invalid combination operator")]
     InvalidCombinationOperator,
     /// A row count or a size does not fit the region.
-    #[error("invalid dimension value")]
     InvalidDimension,
     /// The T.6 data has a fault or lacks a row.
-    #[error("invalid MMR-encoded data")]
     InvalidMmrData,
     /// A gray value names no pattern.
-    #[error("gray-scale value exceeds pattern count")]
     GrayScaleOutOfRange,
 }
 
@@ -143,10 +109,8 @@ pub enum RegionError {
 #[derive(Clone, Copy, Debug, PartialEq, Eq, Error)]
 pub enum TemplateError {
     /// No such template; never answered.
-    #[error("invalid template value")]
     Invalid,
     /// An adaptive pixel lies at or behind the pixel that is decoded.
-    #[error("invalid adaptive template pixel location")]
     InvalidAtPixel,
 }
 
@@ -154,25 +118,18 @@ pub enum TemplateError {
 #[derive(Clone, Copy, Debug, PartialEq, Eq, Error)]
 pub enum SymbolError {
     /// The number of exported symbols is not the stated one.
-    #[error("no symbols available")]
     NoSymbols,
     /// More new symbols than stated.
-    #[error("symbol dictionary contains too many symbols")]
     TooManySymbols,
     /// A symbol number names none, or a run passes the end.
-    #[error("symbol ID out of range")]
     OutOfRange,
     /// Out of band where a number has to stand.
-    #[error("unexpected out-of-band value")]
     UnexpectedOob,
     /// A symbol dictionary breaks a rule that has no error of its own.
-    #[error("invalid symbol encountered")]
     Invalid,
     /// A strip's delta T does not fit.
-    #[error("strip delta overflow")]
     InvalidStripDelta,
     /// More symbol instances than the data can hold.
-    #[error("too many symbol instances")]
     TooManyInstances,
 }
 
@@ -180,22 +137,16 @@ pub enum SymbolError {
 #[derive(Clone, Copy, Debug, PartialEq, Eq, Error)]
 pub enum OverflowError {
     /// A bitmap's width or height, or their product, is too large.
-    #[error("overflow in bitmap dimension computation")]
     BitmapDimension,
     /// A halftone grid's width or height is too large.
-    #[error("overflow in grid dimension computation")]
     GridDimension,
     /// A symbol's place does not fit.
-    #[error("overflow in placement coordinate computation")]
     PlacementCoordinate,
     /// A reference's offset does not fit.
-    #[error("overflow in reference offset computation")]
     ReferenceOffset,
     /// An index does not fit; never answered.
-    #[error("overflow in index computation")]
     Index,
     /// More symbols than a dictionary may have.
-    #[error("too many symbols")]
     SymbolCount,
 }
 

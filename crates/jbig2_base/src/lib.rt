@@ -4,6 +4,7 @@
 
 pub mod bitmap;
 pub mod error;
+mod error_text;
 pub mod field;
 pub mod file;
 pub mod file_header;
