@@ -34,15 +34,9 @@ def in_capitals(name):
 
 
 def library_errors():
-    """The errors in the order of the enums, each as (enum without Error, variant, text)."""
-    source = text_of(CRATES, "jbig2_base", "src", "error.rt")
-    enums = re.findall(r"^pub enum (\w+)Error \{\n(.*?)^\}", source, re.M | re.S)
-    errors = []
-    for enum, body in enums:
-        for text, variant in re.findall(r'#\[error\("(.*)"\)\]\s+(\w+),', body):
-            errors.append((enum, variant, text))
-    inner = [error for error in errors if error[0] != "Decode"]
-    return inner + [error for error in errors if error[0] == "Decode"]
+    """The errors and their texts as the definitions list them, each as (enum, variant, text)."""
+    definitions = text_of(CRATES, "jbig2_base", "specs", "ErrorTexts.antt")
+    return re.findall(r'^\w+_text (\w+)\.(\w+) = codes "(.*)"$', definitions, re.M)
 
 
 def compare_numbers(library):
@@ -54,11 +48,9 @@ def compare_numbers(library):
     errors = library_errors()
     check(len(errors) == 41 and len(defined) == 41 and len(numbers) == 44, "there are 41 errors")
     for number, (enum, variant, text) in enumerate(errors, 1):
-        of_decoder = enum == "Decode"
-        name = in_capitals(variant) if of_decoder else in_capitals(enum) + "_" + in_capitals(variant)
+        name = in_capitals(variant) if enum == "errors" else enum.upper() + "_" + in_capitals(variant)
         check(numbers.get(name) == number, f"JBIG2_{name} is {number} in the header")
-        place = ("errors" if of_decoder else enum.lower(), variant)
-        check(defined.get(place) == number, f"{place[0]}.{variant} is {number} in the definitions")
+        check(defined.get((enum, variant)) == number, f"{enum}.{variant} is {number} in the definitions")
         check(library.jbig2_error_text(number) == text.encode(), f"the text of {number} is {text}")
     for name, number in ("OK", 0), ("OTHER_SIZE", 100), ("NO_SUCH_PAGE", 101):
         check(numbers.get(name) == number, f"JBIG2_{name} is {number} in the header")

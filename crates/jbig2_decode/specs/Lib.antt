@@ -3,4 +3,5 @@ pub mod Printed
 pub mod Printing
 pub mod Prints
 pub mod Requests
+pub mod Told
 pub mod Words

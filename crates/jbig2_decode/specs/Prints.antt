@@ -4,6 +4,7 @@ use Rattle.std.specs.Io.KnownBytes.{Appends, Keeps}
 use Rattle.jbig2_base.specs.declared.error.DecodeError.{DecodeError}
 use Rattle.jbig2_base.specs.declared.error.DecodeError.TheVariants.{OutOfMemory}
 use Rattle.jbig2_decode.specs.Printed.{printed}
+use Rattle.jbig2_decode.specs.Told.{Told, status_of, told_line, usage_line}
 use Rattle.jbig2_decode.specs.Words.{Task}
 use Rattle.jbig2_decode.specs.declared.fault.Fault.{Fault}
 use Rattle.jbig2_decode.specs.declared.fault.Fault.TheVariants.{Decode, Unreadable, Unwritable}
@@ -29,17 +30,8 @@ Ends strict task (Some told) result old new =
     ((result ≡ Err Unreadable) × Keeps old new)
     ⊎ ((bytes : List ℕ) × IfSome told (λ all. bytes ≡ all) × Prints (printed strict task bytes) result old new)
 
-abbrev pub status_of : Result (Unit {0}) Fault → ℕ
-status_of (Ok u) = 0
-status_of (Err fault) = 1
-
--- nothing is told of success and of a failing output
-abbrev pub IsUntold : Result (Unit {0}) Fault → Type 0
-IsUntold (Ok u) = Unit {0}
-IsUntold (Err fault) = fault ≡ Unwritable
-
--- A whole run: the status, what is added to the output, and where nothing is added to the output for errors.
-abbrev pub RunEnds : Option (Bool × Task × List ℕ) → Option (Option (List ℕ)) → ℕ → Option (List ℕ) → Option (List ℕ) → Option (List ℕ) → Option (List ℕ) → Type 0
-RunEnds None file status out out' err err' = (status ≡ 2) × Keeps out out'
-RunEnds (Some request) file status out out' err err' =
-    (result : Result (Unit {0}) Fault) × Ends request.0 request.1 file result out out' × (status ≡ status_of result) × (IsUntold result → Keeps err err')
+-- A whole run: its status, what is added to the output, and what standard error is told.
+abbrev pub RunEnds : Option (Bool × Task × List ℕ) → Option (Option (List ℕ)) → ℕ → Bool → Option (List ℕ) → Option (List ℕ) → Option (List ℕ) → Option (List ℕ) → Type 0
+RunEnds None file status told out out' err err' = (status ≡ 2) × Told told usage_line err err' × Keeps out out'
+RunEnds (Some request) file status told out out' err err' =
+    (result : Result (Unit {0}) Fault) × Ends request.0 request.1 file result out out' × (status ≡ status_of result) × Told told (told_line result) err err'

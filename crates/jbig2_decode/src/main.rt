@@ -3,6 +3,7 @@
 
 mod bitmap;
 mod calls;
+mod ended;
 mod fault;
 mod output;
 mod pages;
@@ -13,6 +14,7 @@ mod request;
 #[cfg(test)]
 mod tests;
 
+pub use ended::Ended;
 pub use program::run;
 pub use request::file_word;
 use std::fs::File;
@@ -33,7 +35,8 @@ fn status(rt: &HostRuntime) -> io::Result<u8> {
     };
     let mut out = rt.stdout();
     let mut err = rt.stderr();
-    Ok(run(alloc, &words, file.as_mut(), &mut out, &mut err))
+    let ended = run(alloc, &words, file.as_mut(), &mut out, &mut err);
+    Ok(ended.status)
 }
 
 fn main(rt: HostRuntime) -> ExitCode {
@@ -42,7 +45,7 @@ fn main(rt: HostRuntime) -> ExitCode {
         Err(error) => {
             // Words that are no text are no words of this program.
             let refused = error.kind() == ErrorKind::OutOfMemory;
-            program::unstarted(refused, &mut rt.stderr())
+            Ended::unstarted(refused, &mut rt.stderr()).status
         }
     };
     ExitCode::from(status)

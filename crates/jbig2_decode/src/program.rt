@@ -1,14 +1,14 @@
 //! The runs of the program.
 ghost use Rattle.std.specs.Prelude.{◌≡◌, ◌↔◌, ◌⊎◌, map, option_map, IsNone, IfSome, Ok, Err, IfOk, IfErr, OnOk};
-ghost use Rattle.std.specs.Io.KnownBytes.{Keeps};
 ghost use Rattle.std.specs.Str.Parse.{IsNumeral};
 ghost use Rattle.jbig2_decode.specs.Printed.{page_named, printed};
-ghost use Rattle.jbig2_decode.specs.Prints.{Ends, IsUntold, Prints, RunEnds, status_of};
+ghost use Rattle.jbig2_decode.specs.Prints.{Ends, Prints, RunEnds};
 ghost use Rattle.jbig2_decode.specs.Requests.{HasIndex, task_view};
 ghost use Rattle.jbig2_decode.specs.Words.{request_of};
 
 use crate::bitmap::write_bitmap;
 use crate::calls::print_calls;
+use crate::ended::Ended;
 use crate::fault::Fault;
 use crate::pages::print_pages;
 use crate::request::{Command, Request};
@@ -17,59 +17,27 @@ use hayro_jbig2::{DecodeError, DecodeSettings, File, Jbig2Error, Page};
 use std::alloc::Allocator;
 use std::io::{Read, Write};
 
-const USAGE: &str = "usage: jbig2-decode [--strict] pages|embedded FILE | calls|pbm FILE INDEX";
-
 /// Runs the program: `words` are the words behind its name, `file` reads the file that they name,
 /// None where it could not be opened.
 ///
-/// Answers the status of the process: 0, 1 after a fault, 2 where the words ask for nothing.
+/// Answers the status of the process, and whether standard error took what it was told.
 pub fn run<A: Allocator + Clone, R: Read, O: Write, E: Write>(
     alloc: A,
     words: &[&str],
     file: Option<&mut R>,
     out: &mut O,
     err: &mut E,
-) -> u8
-    ensures usage { (result ≡ 2) ↔ IsNone (request_of (map (λ word. word.now) words.now)) }
+) -> Ended
+    ensures usage { (result.status ≡ 2) ↔ IsNone (request_of (map (λ word. word.now) words.now)) }
     ensures ends { RunEnds (request_of (map (λ word. word.now) words.now))
-        (option_map (λ reader. R.remaining reader.now) file.entry) result
+        (option_map (λ reader. R.remaining reader.now) file.entry) result.status result.told
         (O.contents out.old) (O.contents out.new) (E.contents err.old) (E.contents err.new) }
 {
     let Some(request) = Request::of_words(words) else {
-        return refused_words(err);
+        return Ended::refused(err);
     };
     let ended = answer(alloc, request, file, out);
-    status_of(ended, err)
-}
-
-/// The status of a run whose words could not be had: memory was refused, or they are no text.
-pub fn unstarted<E: Write>(refused: bool, err: &mut E) -> u8 {
-    if refused {
-        return status_of(Err(Fault::Decode(DecodeError::OutOfMemory)), err);
-    }
-    refused_words(err)
-}
-
-fn refused_words<E: Write>(err: &mut E) -> u8
-    ensures { result ≡ 2 }
-{
-    let _ = writeln!(err, "{USAGE}");
-    2
-}
-
-/// The status of a run that ended so, after its fault is told.
-fn status_of<E: Write>(ended: Result<(), Fault>, err: &mut E) -> u8
-    ensures status { result ≡ status_of ended }
-    ensures silent { IsUntold ended → Keeps (E.contents err.old) (E.contents err.new) }
-{
-    match ended {
-        Ok(()) => 0,
-        Err(Fault::Unwritable) => 1,
-        Err(fault) => {
-            let _ = writeln!(err, "error: {fault}");
-            1
-        }
-    }
+    Ended::of(ended, err)
 }
 
 fn answer<A: Allocator + Clone, R: Read, O: Write>(

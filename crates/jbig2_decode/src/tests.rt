@@ -45,7 +45,7 @@ fn ran(
     let mut out = Vec::with_capacity(alloc, 256)?;
     let mut err = Vec::with_capacity(alloc, 256)?;
     let mut reader = file.map(|bytes| Cursor::new(bytes));
-    let status = run(alloc, words, reader.as_mut(), &mut out, &mut err);
+    let status = run(alloc, words, reader.as_mut(), &mut out, &mut err).status;
     Ok((status, out, err))
 }
 
@@ -279,7 +279,7 @@ fn a_slow_reader_changes_nothing_and_a_broken_one_is_unreadable(rt: HostRuntime)
             return;
         };
         let words = ["embedded", "page"];
-        let status = run(rt.alloc(), &words, Some(&mut reader), &mut out, &mut err);
+        let status = run(rt.alloc(), &words, Some(&mut reader), &mut out, &mut err).status;
         if err.as_slice() == OUT_OF_MEMORY.as_bytes() {
             continue;
         }
@@ -324,7 +324,7 @@ fn output_that_cannot_be_written_ends_the_run(rt: HostRuntime) {
         };
         let words = ["embedded", "page"];
         let mut reader = Cursor::new(bytes);
-        let status = run(rt.alloc(), &words, Some(&mut reader), &mut out, &mut err);
+        let status = run(rt.alloc(), &words, Some(&mut reader), &mut out, &mut err).status;
         if err.as_slice() == OUT_OF_MEMORY.as_bytes() {
             return;
         }
@@ -364,7 +364,7 @@ fn a_page_that_is_not_decoded_is_not_flushed(rt: HostRuntime) {
             return;
         };
         let mut reader = Cursor::new(undecodable());
-        let status = run(rt.alloc(), words, Some(&mut reader), &mut out, &mut err);
+        let status = run(rt.alloc(), words, Some(&mut reader), &mut out, &mut err).status;
         if err.as_slice() == OUT_OF_MEMORY.as_bytes() {
             continue;
         }
@@ -387,7 +387,7 @@ fn each_byte_of_the_output_may_be_the_one_that_cannot_be_written(rt: HostRuntime
                 return;
             };
             let mut reader = Cursor::new(FILE);
-            let status = run(rt.alloc(), words, Some(&mut reader), &mut out, &mut err);
+            let status = run(rt.alloc(), words, Some(&mut reader), &mut out, &mut err).status;
             if err.as_slice() == OUT_OF_MEMORY.as_bytes() {
                 continue;
             }
