@@ -1,14 +1,22 @@
 -- Packed rows, byte by byte.
-use Rattle.std.proofs.Common.{mul-le-mul_left, ⊎_elim, get_or, length, take, drop, Result, Ok, Err, ◌≡◌, ℕ, zero, suc, ◌+◌, ◌-◌, ◌*◌, ◌/◌, ◌%◌, ◌^◌, ◌<◌, ◌≤◌, Bool, List, ◌∷◌, map, refl, sym, ap, ◌∙◌, arith}
+use Rattle.std.proofs.Common.{mul-le-mul_left, ⊎_elim, ◌&&◌, true, false, eqb, get_or, length, take, drop, Result, Ok, Err, ◌≡◌, ℕ, zero, suc, ◌+◌, ◌-◌, ◌*◌, ◌/◌, ◌%◌, ◌^◌, ◌<◌, ◌≤◌, Bool, List, ◌∷◌, map, replicate, refl, sym, ap, ◌∙◌, arith}
 use Rattle.std.proofs.lemmas.Bool.{cases_lt}
+use Rattle.std.proofs.lemmas.List.{get_or-drop, get_or-replicate, get_or-take, length-drop, length-replicate, length-take}
+use Rattle.std.proofs.lemmas.Bool.{eqb-true, false≢true, ne_eqb, true_from_ne_false}
+use Rattle.std.proofs.lemmas.List.Folds.{list_all_at}
 use Rattle.std.proofs.lemmas.List.FromFn.{length-map-range_with_len, take-map-range_with_len}
-use Rattle.std.proofs.lemmas.Nat.{div-mul-add, mod-mul-add}
-use Rattle.std.specs.List.{range_with_len}
+use Rattle.std.proofs.lemmas.Nat.{div-mul-add, le_or_l, mod-mul-add}
+use Rattle.std.proofs.Math.Seq.{get_or-append_right}
+use Rattle.std.proofs.lemmas.Slice.{take-put_mid}
+use borrow.Rule.Slice.PartMut.{put_mid}
+use Rattle.std.specs.Int.Bits.{or_zero_l}
+use Rattle.std.specs.Int.RustNames.{bit_or}
+use Rattle.std.specs.List.{list_all, range_with_len}
 use Rattle.jbig2_base.specs.Answer.{◌>>=◌}
 use Rattle.jbig2_base.specs.declared.error.DecodeError.{DecodeError}
 use Rattle.jbig2_base.specs.Grid.{Grid, pixel_at, bit_number}
 use Rattle.jbig2_base.specs.inner.WordBits.{bit}
-use Rattle.jbig2_base.proofs.BitLemmas.{bit_number-bit, bit-shr}
+use Rattle.jbig2_base.proofs.BitLemmas.{bit_number-bit, bit-shr, bit-zero}
 use Rattle.jbig2_coder.specs.Integers.{value_of_bits}
 use Rattle.hayro_jbig2.specs.Page.{ReadPage, grid_of_page}
 use Rattle.hayro_jbig2.specs.Image.{packed_byte, packed_of, packed_of_page, packed_part, packed_size, row_bytes, top_byte, word_byte}
@@ -57,6 +65,55 @@ row-word-byte g words first index column y j at inside small loaded =
     let pixels : 64 * (first + index) ≡ 8 * (8 * (first + index)) = omega arith in
     byte-pixels g (get_or words (first + index) 0) (8 * (first + index)) j y small (λ k few. loaded (first + index) k inside few ∙ ap (λ (n : ℕ). pixel_at g (n + k) y) pixels)
     ∙ ap (λ (n : ℕ). packed_byte g n y) place
+
+-- two words are white where their pixels, taken together, are
+pub or-white : (a b : ℕ) → eqb (bit_or a b) 0 ≡ (eqb a 0 && eqb b 0)
+or-white zero b = ap (λ (n : ℕ). eqb n 0) (or_zero_l b)
+or-white (suc a) b = ne_eqb (bit_or (suc a) b) 0 (λ none. omega (arith, none, le_or_l (suc a) b)) ∙ sym (ap (λ (c : Bool). c && eqb b 0) (ne_eqb (suc a) 0 (λ none. omega (arith, none))))
+
+white-at : (words : List ℕ) (i : ℕ) → i < length words → list_all (λ (w : ℕ). eqb w 0) words ≡ true → get_or words i 0 ≡ 0
+white-at words i inside white =
+    eqb-true (get_or words i 0) 0
+    (true_from_ne_false (eqb (get_or words i 0) 0)
+    (λ black. false≢true (sym (list_all_at (λ (w : ℕ). eqb w 0) words i 0 inside black) ∙ white)))
+
+white-byte : (j : ℕ) → word_byte (bit 0) j ≡ 0
+unfolding value_of_bits
+white-byte j = ap (λ (bits : List Bool). value_of_bits bits) (map-same (λ k. bit 0 (63 - (8 * j + k))) (λ k. false) 0 8 (λ k above below. bit-zero (63 - (8 * j + k))))
+
+-- the bytes of white words
+pub white-words : (g : Grid) (words after : List ℕ) (first count column y place : ℕ) → 8 * first ≡ column → first + count ≤ length words
+    → ((i k : ℕ) → i < length words → k < 64 → bit (get_or words i 0) (63 - k) ≡ pixel_at g (64 * i + k) y)
+    → list_all (λ (w : ℕ). eqb w 0) (take count (drop first words)) ≡ true
+    → ((i : ℕ) → i < 8 * count → get_or after (place + i) 0 ≡ 0)
+    → (i : ℕ) → i < 8 * count → get_or after (place + i) 0 ≡ packed_byte g (column + i) y
+white-words g words after first count column y place at inside loaded white filled i below =
+    let index : ℕ = i / 8 in
+    let j : ℕ = i % 8 in
+    let few : index < count = omega (arith, below) in
+    let whole : 8 * index + j ≡ i = omega arith in
+    let part : List ℕ = take count (drop first words) in
+    let word : get_or words (first + index) 0 ≡ 0 =
+    sym (get_or-take count (drop first words) index 0 few ∙ get_or-drop first words index 0)
+    ∙ white-at part index (omega (arith, length-take count (drop first words), length-drop first words, inside, few)) white in
+    filled i below
+    ∙ sym (white-byte j)
+    ∙ ap (λ (n : ℕ). word_byte (bit n) j) (sym word)
+    ∙ row-word-byte g words first index column y j at (omega (arith, inside, few)) (omega arith) loaded
+    ∙ ap (λ (n : ℕ). packed_byte g (column + n) y) whole
+
+-- what a fill with 0 puts at a place
+pub zeros-at : (a k i : ℕ) (xs ys : List ℕ) → a + k ≤ length xs → ys ≡ replicate k 0 → i < k → get_or (put_mid a k xs ys) (a + i) 0 ≡ 0
+zeros-at a k i xs ys inside zeros below =
+    let size : length ys ≡ k = ap length zeros ∙ length-replicate k 0 in
+    let front : length (take a xs) ≡ a = omega (arith, length-take a xs, inside) in
+    let behind : a + i - length (take a xs) ≡ i = omega (arith, front) in
+    sym (get_or-take (a + length ys) (put_mid a k xs ys) (a + i) 0 (omega (arith, size, below)))
+    ∙ ap (λ (l : List ℕ). get_or l (a + i) 0) (take-put_mid a k xs ys (a + length ys) refl (omega (arith, inside)))
+    ∙ get_or-append_right (take a xs) ys (a + i) 0 (omega (arith, front))
+    ∙ ap (λ (n : ℕ). get_or ys n 0) behind
+    ∙ ap (λ (l : List ℕ). get_or l i 0) zeros
+    ∙ get_or-replicate k i 0 0 below
 
 -- a word more of them
 pub words-more : (g : Grid) (words before after : List ℕ) (first index column y place : ℕ) → 8 * first ≡ column → first + index < length words
