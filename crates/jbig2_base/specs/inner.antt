@@ -1,6 +1,7 @@
 pub mod Blocks
 pub mod Colour
 pub mod Filled
+pub mod Layouts
 pub mod Packed
 pub mod SegmentViews
 pub mod Shapes

@@ -16,7 +16,7 @@ pub mod blocks;
 use crate::bitmap::operator::CombinationOperator;
 use crate::bitmap::steps::Steps;
 use crate::error::Result;
-use blocks::{Block, Shape, aligned_rows, narrow_rows};
+use blocks::{Block, Shape, Source, combine_rows};
 use std::alloc::Allocator;
 use std::marker::Model;
 use std::sync::ledger::Ledger;
@@ -244,33 +244,15 @@ impl<A: Allocator> PackedRows<A> {
             height: self.height,
             stride: self.stride,
         };
-        let source_shape = Shape {
-            width: source.width,
-            height: source.height,
-            stride: source.stride,
+        let source = Source {
+            words: &source.words,
+            shape: Shape {
+                width: source.width,
+                height: source.height,
+                stride: source.stride,
+            },
         };
-        let words = &mut self.words;
-        if block.from / 64 == (block.from + block.columns - 1) / 64 {
-            narrow_rows(
-                words,
-                shape,
-                &source.words,
-                source_shape,
-                operator,
-                block,
-                steps,
-            );
-            return;
-        }
-        aligned_rows(
-            words,
-            shape,
-            &source.words,
-            source_shape,
-            operator,
-            block,
-            steps,
-        );
+        combine_rows(&mut self.words, shape, source, operator, block, steps);
     }
 }
 

@@ -5,6 +5,7 @@ ghost use Rattle.jbig2_base.specs.Combination.{most_words, WritesWithin};
 ghost use Rattle.jbig2_base.specs.Grid.{pixel_at};
 ghost use Rattle.jbig2_base.specs.Operator.{combined_pixel};
 ghost use Rattle.jbig2_base.specs.inner.Blocks.{with_block, with_run};
+ghost use Rattle.jbig2_base.specs.inner.Layouts.{IsLaid};
 ghost use Rattle.jbig2_base.specs.inner.Shapes.{HasShape, grid_in};
 ghost use Rattle.jbig2_base.specs.inner.WordBits.{bit};
 
@@ -31,6 +32,24 @@ pub struct Shape {
     pub stride: usize,
 }
 
+/// The words of a source, and how its rows lie in them.
+#[derive(Clone, Copy)]
+pub struct Source<'a> {
+    pub words: &'a [u64],
+    pub shape: Shape,
+}
+
+/// How each row of a block lies in words.
+#[derive(Clone, Copy)]
+pub enum Layout {
+    /// In one word of the source and in one of the page.
+    Near,
+    /// In one word of the source.
+    Narrow,
+    /// From the same place of a word on in page and source, over two words or more.
+    Aligned,
+}
+
 /// One row of a block.
 #[derive(Clone, Copy)]
 struct Line {
@@ -50,109 +69,72 @@ struct Run {
     count: u32,
 }
 
-/// Combines a block whose rows lie each in one word of the source.
+/// Combines a block with the source's pixels that lie on it, if each row of it lies in one word of the
+/// source, or begins at the same place of a word in both and takes two words or more.
 #[inline(always)]
-pub fn narrow_rows<L: Ledger>(
+pub fn combine_rows<L: Ledger>(
     words: &mut [u64],
     shape: Shape,
-    source: &[u64],
-    source_shape: Shape,
+    source: Source,
     operator: CombinationOperator,
     block: Block,
     steps: &mut Steps<L>,
 )
     requires packed { HasShape shape words.old }
-    requires source_packed { HasShape source_shape source.now }
+    requires source_packed { HasShape source.shape source.words.now }
     requires some { 1 ≤ block.columns }
     requires right { block.left + block.columns ≤ shape.width }
     requires bottom { block.top + block.rows ≤ shape.height }
-    requires source_right { block.from + block.columns ≤ source_shape.width }
-    requires source_bottom { block.from_row + block.rows ≤ source_shape.height }
-    requires one_word { block.from / 64 ≡ (block.from + block.columns - 1) / 64 }
+    requires source_right { block.from + block.columns ≤ source.shape.width }
+    requires source_bottom { block.from_row + block.rows ≤ source.shape.height }
+    requires aligned { block.from / 64 < (block.from + block.columns - 1) / 64
+        → block.left % 64 ≡ block.from % 64 }
     ensures packed { HasShape shape words.new }
     ensures value { grid_in shape words.new
-        ≡ with_block operator (grid_in shape words.old) (grid_in source_shape source.now) block.left
+        ≡ with_block operator (grid_in shape words.old) (grid_in source.entry.shape source.entry.words.now) block.left
         (block.left + block.columns) block.top (block.top + block.rows) block.from block.from_row }
     ensures steps { WritesWithin (block.rows * most_words block.columns) steps.old steps.new }
 {
-    if block.left % 64 + block.columns <= 64 {
-        near_rows(words, shape, source, source_shape, operator, block, steps);
-        return;
-    }
-    for row in 0..block.rows {
-        let line = Line {
-            left: block.left,
-            columns: block.columns,
-            y: block.top as usize + row as usize,
-            from: block.from,
-            from_y: block.from_row as usize + row as usize,
-        };
-        narrow_row(words, shape, source, source_shape, operator, line, steps);
-    }
-}
-
-/// The same where each row lies in one word of the page too.
-#[inline(always)]
-fn near_rows<L: Ledger>(
-    words: &mut [u64],
-    shape: Shape,
-    source: &[u64],
-    source_shape: Shape,
-    operator: CombinationOperator,
-    block: Block,
-    steps: &mut Steps<L>,
-)
-    requires packed { HasShape shape words.old }
-    requires source_packed { HasShape source_shape source.now }
-    requires some { 1 ≤ block.columns }
-    requires right { block.left + block.columns ≤ shape.width }
-    requires bottom { block.top + block.rows ≤ shape.height }
-    requires source_right { block.from + block.columns ≤ source_shape.width }
-    requires source_bottom { block.from_row + block.rows ≤ source_shape.height }
-    requires one_word { block.from / 64 ≡ (block.from + block.columns - 1) / 64 }
-    requires near { block.left % 64 + block.columns ≤ 64 }
-    ensures packed { HasShape shape words.new }
-    ensures value { grid_in shape words.new
-        ≡ with_block operator (grid_in shape words.old) (grid_in source_shape source.now) block.left
-        (block.left + block.columns) block.top (block.top + block.rows) block.from block.from_row }
-    ensures steps { WritesWithin (block.rows * most_words block.columns) steps.old steps.new }
-{
-    for row in 0..block.rows {
-        let line = Line {
-            left: block.left,
-            columns: block.columns,
-            y: block.top as usize + row as usize,
-            from: block.from,
-            from_y: block.from_row as usize + row as usize,
-        };
-        near_row(words, shape, source, source_shape, operator, line, steps);
+    // A call of its own for each layout, so that each has a loop of its own.
+    if block.from / 64 != (block.from + block.columns - 1) / 64 {
+        combine_laid(
+            Layout::Aligned,
+            words,
+            shape,
+            source,
+            operator,
+            block,
+            steps,
+        );
+    } else if block.left % 64 + block.columns <= 64 {
+        combine_laid(Layout::Near, words, shape, source, operator, block, steps);
+    } else {
+        combine_laid(Layout::Narrow, words, shape, source, operator, block, steps);
     }
 }
 
-/// Combines a block that begins at the same place of a word in page and source, in rows of two
-/// words or more.
+/// The same where each row lies so.
 #[inline(always)]
-pub fn aligned_rows<L: Ledger>(
+fn combine_laid<L: Ledger>(
+    layout: Layout,
     words: &mut [u64],
     shape: Shape,
-    source: &[u64],
-    source_shape: Shape,
+    source: Source,
     operator: CombinationOperator,
     block: Block,
     steps: &mut Steps<L>,
 )
     requires packed { HasShape shape words.old }
-    requires source_packed { HasShape source_shape source.now }
+    requires source_packed { HasShape source.shape source.words.now }
     requires some { 1 ≤ block.columns }
     requires right { block.left + block.columns ≤ shape.width }
     requires bottom { block.top + block.rows ≤ shape.height }
-    requires source_right { block.from + block.columns ≤ source_shape.width }
-    requires source_bottom { block.from_row + block.rows ≤ source_shape.height }
-    requires aligned { block.left % 64 ≡ block.from % 64 }
-    requires wide { block.left / 64 < (block.left + block.columns - 1) / 64 }
+    requires source_right { block.from + block.columns ≤ source.shape.width }
+    requires source_bottom { block.from_row + block.rows ≤ source.shape.height }
+    requires laid { IsLaid layout block.left block.columns block.from }
     ensures packed { HasShape shape words.new }
     ensures value { grid_in shape words.new
-        ≡ with_block operator (grid_in shape words.old) (grid_in source_shape source.now) block.left
+        ≡ with_block operator (grid_in shape words.old) (grid_in source.entry.shape source.entry.words.now) block.left
         (block.left + block.columns) block.top (block.top + block.rows) block.from block.from_row }
     ensures steps { WritesWithin (block.rows * most_words block.columns) steps.old steps.new }
 {
@@ -164,7 +146,40 @@ pub fn aligned_rows<L: Ledger>(
             from: block.from,
             from_y: block.from_row as usize + row as usize,
         };
-        aligned_row(words, shape, source, source_shape, operator, line, steps);
+        combine_line(layout, words, shape, source, operator, line, steps);
+    }
+}
+
+/// Combines a row that lies so.
+#[inline(always)]
+fn combine_line<L: Ledger>(
+    layout: Layout,
+    words: &mut [u64],
+    shape: Shape,
+    source: Source,
+    operator: CombinationOperator,
+    line: Line,
+    steps: &mut Steps<L>,
+)
+    requires packed { HasShape shape words.old }
+    requires source_packed { HasShape source.shape source.words.now }
+    requires some { 1 ≤ line.columns }
+    requires right { line.left + line.columns ≤ shape.width }
+    requires row { line.y < shape.height }
+    requires source_right { line.from + line.columns ≤ source.shape.width }
+    requires source_row { line.from_y < source.shape.height }
+    requires laid { IsLaid layout line.left line.columns line.from }
+    ensures packed { HasShape shape words.new }
+    ensures value { grid_in shape words.new
+        ≡ with_run operator (grid_in shape words.old) line.left line.y line.columns
+        (λ i. pixel_at (grid_in source.entry.shape source.entry.words.now) (line.from + (i - line.left))
+        line.from_y) }
+    ensures steps { WritesWithin (most_words line.columns) steps.old steps.new }
+{
+    match layout {
+        Layout::Near => near_row(words, shape, source, operator, line, steps),
+        Layout::Narrow => narrow_row(words, shape, source, operator, line, steps),
+        Layout::Aligned => aligned_row(words, shape, source, operator, line, steps),
     }
 }
 
@@ -173,31 +188,30 @@ pub fn aligned_rows<L: Ledger>(
 fn near_row<L: Ledger>(
     words: &mut [u64],
     shape: Shape,
-    source: &[u64],
-    source_shape: Shape,
+    source: Source,
     operator: CombinationOperator,
     line: Line,
     steps: &mut Steps<L>,
 )
     requires packed { HasShape shape words.old }
-    requires source_packed { HasShape source_shape source.now }
+    requires source_packed { HasShape source.shape source.words.now }
     requires some { 1 ≤ line.columns }
     requires right { line.left + line.columns ≤ shape.width }
     requires row { line.y < shape.height }
-    requires source_right { line.from + line.columns ≤ source_shape.width }
-    requires source_row { line.from_y < source_shape.height }
+    requires source_right { line.from + line.columns ≤ source.shape.width }
+    requires source_row { line.from_y < source.shape.height }
     requires one_word { line.from / 64 ≡ (line.from + line.columns - 1) / 64 }
     requires near { line.left % 64 + line.columns ≤ 64 }
     ensures packed { HasShape shape words.new }
     ensures value { grid_in shape words.new
         ≡ with_run operator (grid_in shape words.old) line.left line.y line.columns
-        (λ i. pixel_at (grid_in source_shape source.now) (line.from + (i - line.left))
+        (λ i. pixel_at (grid_in source.entry.shape source.entry.words.now) (line.from + (i - line.left))
         line.from_y) }
     ensures steps { WritesWithin (most_words line.columns) steps.old steps.new }
 {
     steps.load();
-    let from = line.from_y * source_shape.stride + (line.from / 64) as usize;
-    let bits = source[from] << (line.from % 64);
+    let from = line.from_y * source.shape.stride + (line.from / 64) as usize;
+    let bits = source.words[from] << (line.from % 64);
     let offset = line.left % 64;
     let run = Run {
         y: line.y,
@@ -213,30 +227,29 @@ fn near_row<L: Ledger>(
 fn narrow_row<L: Ledger>(
     words: &mut [u64],
     shape: Shape,
-    source: &[u64],
-    source_shape: Shape,
+    source: Source,
     operator: CombinationOperator,
     line: Line,
     steps: &mut Steps<L>,
 )
     requires packed { HasShape shape words.old }
-    requires source_packed { HasShape source_shape source.now }
+    requires source_packed { HasShape source.shape source.words.now }
     requires some { 1 ≤ line.columns }
     requires right { line.left + line.columns ≤ shape.width }
     requires row { line.y < shape.height }
-    requires source_right { line.from + line.columns ≤ source_shape.width }
-    requires source_row { line.from_y < source_shape.height }
+    requires source_right { line.from + line.columns ≤ source.shape.width }
+    requires source_row { line.from_y < source.shape.height }
     requires one_word { line.from / 64 ≡ (line.from + line.columns - 1) / 64 }
     ensures packed { HasShape shape words.new }
     ensures value { grid_in shape words.new
         ≡ with_run operator (grid_in shape words.old) line.left line.y line.columns
-        (λ i. pixel_at (grid_in source_shape source.now) (line.from + (i - line.left))
+        (λ i. pixel_at (grid_in source.entry.shape source.entry.words.now) (line.from + (i - line.left))
         line.from_y) }
     ensures steps { WritesWithin (most_words line.columns) steps.old steps.new }
 {
     steps.load();
-    let from = line.from_y * source_shape.stride + (line.from / 64) as usize;
-    let bits = source[from] << (line.from % 64);
+    let from = line.from_y * source.shape.stride + (line.from / 64) as usize;
+    let bits = source.words[from] << (line.from % 64);
     let offset = line.left % 64;
     let near = line.columns.min(64 - offset);
     let first = Run {
@@ -263,32 +276,31 @@ fn narrow_row<L: Ledger>(
 fn aligned_row<L: Ledger>(
     words: &mut [u64],
     shape: Shape,
-    source: &[u64],
-    source_shape: Shape,
+    source: Source,
     operator: CombinationOperator,
     line: Line,
     steps: &mut Steps<L>,
 )
     requires packed { HasShape shape words.old }
-    requires source_packed { HasShape source_shape source.now }
+    requires source_packed { HasShape source.shape source.words.now }
     requires some { 1 ≤ line.columns }
     requires right { line.left + line.columns ≤ shape.width }
     requires row { line.y < shape.height }
-    requires source_right { line.from + line.columns ≤ source_shape.width }
-    requires source_row { line.from_y < source_shape.height }
+    requires source_right { line.from + line.columns ≤ source.shape.width }
+    requires source_row { line.from_y < source.shape.height }
     requires aligned { line.left % 64 ≡ line.from % 64 }
     requires wide { line.left / 64 < (line.left + line.columns - 1) / 64 }
     ensures packed { HasShape shape words.new }
     ensures value { grid_in shape words.new
         ≡ with_run operator (grid_in shape words.old) line.left line.y line.columns
-        (λ i. pixel_at (grid_in source_shape source.now) (line.from + (i - line.left))
+        (λ i. pixel_at (grid_in source.entry.shape source.entry.words.now) (line.from + (i - line.left))
         line.from_y) }
     ensures steps { WritesWithin (most_words line.columns) steps.old steps.new }
 {
     let offset = line.left % 64;
     let first = (line.left / 64) as usize;
     let last = ((line.left + line.columns - 1) / 64) as usize;
-    let from = line.from_y * source_shape.stride + (line.from / 64) as usize;
+    let from = line.from_y * source.shape.stride + (line.from / 64) as usize;
     let begin = Run {
         y: line.y,
         word: first,
@@ -296,7 +308,7 @@ fn aligned_row<L: Ledger>(
         count: 64 - offset,
     };
     steps.load();
-    combine_run(words, shape, operator, begin, source[from], steps);
+    combine_run(words, shape, operator, begin, source.words[from], steps);
     for word in first + 1..last {
         let whole = Run {
             y: line.y,
@@ -304,7 +316,7 @@ fn aligned_row<L: Ledger>(
             offset: 0,
             count: 64,
         };
-        let bits = source[from + (word - first)];
+        let bits = source.words[from + (word - first)];
         steps.load();
         combine_run(words, shape, operator, whole, bits, steps);
     }
@@ -314,7 +326,7 @@ fn aligned_row<L: Ledger>(
         offset: 0,
         count: (line.left + line.columns - 1) % 64 + 1,
     };
-    let bits = source[from + (last - first)];
+    let bits = source.words[from + (last - first)];
     steps.load();
     combine_run(words, shape, operator, end, bits, steps);
 }

@@ -8,6 +8,6 @@ use Rattle.jbig2_base.proofs.bitmap.rows.blocks.aligned_row.Given as goal
 abbrev pub invariant-loop-word : goal.invariant-loop-word
 invariant-loop-word g l = record {
   packed : HasShape l.fn.shape l.words;
-  value : grid_in l.fn.shape l.words ≡ with_run l.fn.operator (grid_in l.fn.shape l.fn.words) l.fn.line.left l.fn.line.y (64 * l.word - l.fn.line.left) (λ i. pixel_at (grid_in l.fn.source_shape l.fn.source) (l.fn.line.from + (i - l.fn.line.left)) l.fn.line.from_y);
+  value : grid_in l.fn.shape l.words ≡ with_run l.fn.operator (grid_in l.fn.shape l.fn.words) l.fn.line.left l.fn.line.y (64 * l.word - l.fn.line.left) (λ i. pixel_at (grid_in l.fn.source.shape l.fn.source.words.now) (l.fn.line.from + (i - l.fn.line.left)) l.fn.line.from_y);
   steps : l.steps ≡ after_words l.fn.steps (l.word - l.first);
 }

@@ -9,21 +9,21 @@ pub returns-then-near-line-clause-value : goal.returns-then-near-line-clause-val
 returns-then-near-line-clause-value g c =
     let s = c.args.shape in
     let l = c.args.line in
-    let from = c.args.source_shape in
-    let source : Grid = grid_in from c.args.source.now in
-    let word : ℕ = get_or c.args.source.now (l.from_y * from.stride + l.from / 64) 0 * 2 ^ (l.from % 64) % 2 ^ 64 in
+    let from = c.args.source.shape in
+    let source : Grid = grid_in from c.args.source.words.now in
+    let word : ℕ = get_or c.args.source.words.now (l.from_y * from.stride + l.from / 64) 0 * 2 ^ (l.from % 64) % 2 ^ 64 in
     run-same c.args.operator (grid_in s c.args.words.now) (grid_in s c.combine_run.new.words) l.left (64 * (l.left / 64) + l.left % 64) l.y c.min-near.result l.columns (λ i. pixel_at source (l.from + (i - l.left)) l.from_y) (λ i. bit (word / 2 ^ (l.left % 64)) (63 - i % 64)) c.combine_run.ensures.value (omega arith) c.if-near-line.true
-    (λ i low high. near-source from.width from.height from.stride c.args.source.now l.from l.from_y l.left i c.requires.source_packed (omega (arith, c.requires.some)) c.requires.source_row low (omega (arith, c.requires.some, c.requires.one_word)) (omega (arith, c.min-near.ensures, c.if-near-line.true)))
+    (λ i low high. near-source from.width from.height from.stride c.args.source.words.now l.from l.from_y l.left i c.requires.source_packed (omega (arith, c.requires.some)) c.requires.source_row low (omega (arith, c.requires.some, c.requires.one_word)) (omega (arith, c.min-near.ensures, c.if-near-line.true)))
 
 pub returns-clause-value : goal.returns-clause-value
 returns-clause-value g c =
     let s = c.args.shape in
     let l = c.args.line in
-    let from = c.args.source_shape in
-    let source : Grid = grid_in from c.args.source.now in
-    let word : ℕ = get_or c.args.source.now (l.from_y * from.stride + l.from / 64) 0 * 2 ^ (l.from % 64) % 2 ^ 64 in
+    let from = c.args.source.shape in
+    let source : Grid = grid_in from c.args.source.words.now in
+    let word : ℕ = get_or c.args.source.words.now (l.from_y * from.stride + l.from / 64) 0 * 2 ^ (l.from % 64) % 2 ^ 64 in
     let near : ℕ = c.min-near.result in
     let first = run-same c.args.operator (grid_in s c.args.words.now) (grid_in s c.combine_run.new.words) l.left (64 * (l.left / 64) + l.left % 64) l.y near near (λ i. pixel_at source (l.from + (i - l.left)) l.from_y) (λ i. bit (word / 2 ^ (l.left % 64)) (63 - i % 64)) c.combine_run.ensures.value (omega arith) refl
-    (λ i low high. near-source from.width from.height from.stride c.args.source.now l.from l.from_y l.left i c.requires.source_packed (omega (arith, c.requires.some)) c.requires.source_row low (omega (arith, c.requires.some, c.requires.one_word, c.min-near.ensures)) (omega (arith, c.min-near.ensures))) in
+    (λ i low high. near-source from.width from.height from.stride c.args.source.words.now l.from l.from_y l.left i c.requires.source_packed (omega (arith, c.requires.some)) c.requires.source_row low (omega (arith, c.requires.some, c.requires.one_word, c.min-near.ensures)) (omega (arith, c.min-near.ensures))) in
     run-more c.args.operator (grid_in s c.args.words.now) (grid_in s c.combine_run.new.words) (grid_in s c.combine_run-2.new.words) l.left (64 * (l.left / 64 + 1) + 0) l.y near (l.columns - near) l.columns (λ i. pixel_at source (l.from + (i - l.left)) l.from_y) (λ i. bit (word * 2 ^ near % 2 ^ 64) (63 - i % 64)) first c.combine_run-2.ensures.value (omega (arith, c.min-near.ensures, c.if-near-line.false)) (omega (arith, c.min-near.ensures))
-    (λ i low high. far-source from.width from.height from.stride c.args.source.now l.from l.from_y l.left near i c.requires.source_packed (omega (arith, c.requires.some)) c.requires.source_row (omega (arith, c.min-near.ensures, c.if-near-line.false)) (omega (arith, c.min-near.ensures, c.if-near-line.false)) (omega (arith, c.requires.some, c.requires.one_word, c.min-near.ensures, c.if-near-line.false)))
+    (λ i low high. far-source from.width from.height from.stride c.args.source.words.now l.from l.from_y l.left near i c.requires.source_packed (omega (arith, c.requires.some)) c.requires.source_row (omega (arith, c.min-near.ensures, c.if-near-line.false)) (omega (arith, c.min-near.ensures, c.if-near-line.false)) (omega (arith, c.requires.some, c.requires.one_word, c.min-near.ensures, c.if-near-line.false)))

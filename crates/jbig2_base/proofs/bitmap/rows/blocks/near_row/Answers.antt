@@ -9,8 +9,8 @@ pub returns-clause-value : goal.returns-clause-value
 returns-clause-value g c =
     let s = c.args.shape in
     let l = c.args.line in
-    let from = c.args.source_shape in
-    let source : Grid = grid_in from c.args.source.now in
-    let word : ℕ = get_or c.args.source.now (l.from_y * from.stride + l.from / 64) 0 * 2 ^ (l.from % 64) % 2 ^ 64 in
+    let from = c.args.source.shape in
+    let source : Grid = grid_in from c.args.source.words.now in
+    let word : ℕ = get_or c.args.source.words.now (l.from_y * from.stride + l.from / 64) 0 * 2 ^ (l.from % 64) % 2 ^ 64 in
     run-same c.args.operator (grid_in s c.args.words.now) (grid_in s c.combine_run.new.words) l.left (64 * (l.left / 64) + l.left % 64) l.y l.columns l.columns (λ i. pixel_at source (l.from + (i - l.left)) l.from_y) (λ i. bit (word / 2 ^ (l.left % 64)) (63 - i % 64)) c.combine_run.ensures.value (omega arith) refl
-    (λ i low high. near-source from.width from.height from.stride c.args.source.now l.from l.from_y l.left i c.requires.source_packed (omega (arith, c.requires.some)) c.requires.source_row low (omega (arith, c.requires.some, c.requires.one_word)) (omega (arith, c.requires.near)))
+    (λ i low high. near-source from.width from.height from.stride c.args.source.words.now l.from l.from_y l.left i c.requires.source_packed (omega (arith, c.requires.some)) c.requires.source_row low (omega (arith, c.requires.some, c.requires.one_word)) (omega (arith, c.requires.near)))
