@@ -14,7 +14,8 @@ use Rattle.jbig2_coder.specs.Coder.{Coder, Context, initial_registers}
 use Rattle.jbig2_coder.specs.declared.arithmetic_decoder.registers.Registers.{Registers}
 use Rattle.jbig2_region.specs.Generic.{coding_of}
 use Rattle.jbig2_region.specs.inner.Holds.{DecodesRegion, Holds}
-use Rattle.jbig2_region.specs.Raster.{Region, so_far, after_pixel, after_pixels, row_begun, after_rows, decoded_region, no_pixels, fresh_contexts}
+use Rattle.jbig2_region.specs.Raster.{Region, so_far, row_begun, decoded_region, no_pixels, fresh_contexts}
+use Rattle.jbig2_region.specs.inner.Rows.{after_rows}
 use Rattle.jbig2_region.proofs.RasterLemmas.{after_pixels-predicted}
 use Rattle.jbig2_region.specs.Skipping.{skipping_coding, skip_of}
 use Rattle.jbig2_mmr.specs.T6.{Decoded, Rows, mmr_rows, grid_of_rows, rows_of}

@@ -8,7 +8,8 @@ use Rattle.jbig2_coder.specs.Coder.{Coder, Context, decision, fresh}
 use Rattle.jbig2_region.specs.Decisions.{decided_pixels, takes_decision}
 use Rattle.jbig2_region.specs.inner.Codes.{Codes, CountsCodes, Takes}
 use Rattle.jbig2_region.specs.inner.Holds.{Holds}
-use Rattle.jbig2_region.specs.Raster.{Coding, Region, after_pixel, after_pixels}
+use Rattle.jbig2_region.specs.Raster.{Coding, Region, after_pixel}
+use Rattle.jbig2_region.specs.inner.Rows.{after_pixels}
 use Rattle.jbig2_region.proofs.RasterLemmas.{Holds-known, Holds-decided, after_pixels-length, after_pixels-predicted, after_pixels-one, after_pixels-none, after_pixels-add}
 use Rattle.jbig2_region.proofs.StoreLemmas.{Pushes, none-stored, white-next, width-so_far, height-so_far}
 

@@ -6,7 +6,8 @@ use Rattle.jbig2_coder.specs.Coder.{Coder, Context}
 use Rattle.jbig2_region.specs.Decisions.{CountsDecided, decided_pixels, decided_rows}
 use Rattle.jbig2_region.specs.inner.Codes.{Codes, CountsCodes}
 use Rattle.jbig2_region.specs.inner.Holds.{Holds, BeginsRow}
-use Rattle.jbig2_region.specs.Raster.{Coding, Region, row_begun, row_decisions, after_rows}
+use Rattle.jbig2_region.specs.Raster.{Coding, Region, row_begun, row_decisions}
+use Rattle.jbig2_region.specs.inner.Rows.{after_rows}
 use Rattle.jbig2_region.proofs.RasterLemmas.{region-step, no-rows}
 use Rattle.jbig2_region.proofs.RegionLemmas.{begin-region}
 

@@ -24,3 +24,4 @@ pub mod RefinementPushLemmas
 pub mod DecisionLemmas
 pub mod GatherLemmas
 pub mod CarriedLemmas
+pub mod PlaceLemmas

@@ -8,7 +8,8 @@ use Rattle.std.proofs.lemmas.Nat.{same_from_place, mod-mul-add, div-mul-add}
 use Rattle.jbig2_base.specs.Grid.{Grid, grid_of, blank, pixel_at, bit_number}
 use Rattle.jbig2_base.specs.inner.Writes.{with_pixel}
 use Rattle.jbig2_base.proofs.GridLemmas.{grid_of-ext, pixel_at-grid_of}
-use Rattle.jbig2_region.specs.Raster.{Coding, Region, so_far, with_next, after_pixel, after_pixels, row_begun, after_rows, decoded_region, no_pixels}
+use Rattle.jbig2_region.specs.Raster.{Coding, Region, so_far, with_next, after_pixel, row_begun, no_pixels}
+use Rattle.jbig2_region.specs.inner.Rows.{after_pixels, after_rows}
 use Rattle.jbig2_region.specs.inner.Holds.{Holds, BeginsRow}
 use Rattle.jbig2_coder.specs.Coder.{Coder, Context, Decision, fresh, decision}
 
@@ -129,7 +130,7 @@ pub some-inside : (row_context : Option ℕ) (k n : ℕ) → row_context ≡ Som
 some-inside row_context k n is inside = rw is at inside
 
 -- ---- several pixels and rows
-with_next-length : (input : List ℕ) (r : Region) (k : ℕ) (c : Option Bool) → length (with_next input r k c).pixels ≡ length r.pixels + 1
+pub with_next-length : (input : List ℕ) (r : Region) (k : ℕ) (c : Option Bool) → length (with_next input r k c).pixels ≡ length r.pixels + 1
 unfolding with_next
 with_next-length input r k (Some colour) = length-append r.pixels (colour ∷ [])
 with_next-length input r k None = length-append r.pixels ((decision input r.registers (get_or r.contexts k fresh)).symbol ∷ [])
@@ -166,7 +167,7 @@ after_pixels-add coding w h input n (suc m) r =
     let next : n + suc m ≡ suc (n + m) = omega arith in
     ap (λ (k : ℕ). after_pixels coding w h input k r) next ∙ ap (λ (q : Region). after_pixel coding w h input q) (after_pixels-add coding w h input n m r)
 
-row_begun-pixels : (row_context : Option ℕ) (input : List ℕ) (r : Region) → (row_begun row_context input r).pixels ≡ r.pixels
+pub row_begun-pixels : (row_context : Option ℕ) (input : List ℕ) (r : Region) → (row_begun row_context input r).pixels ≡ r.pixels
 unfolding row_begun
 row_begun-pixels None input r = refl
 row_begun-pixels (Some k) input r = refl
@@ -184,14 +185,6 @@ after_rows-length coding w h input (suc n) r none =
 pub blank-so_far : (w h : ℕ) → blank w h false ≡ so_far w h []
 unfolding so_far
 blank-so_far w h = refl
-
-pub decoded-empty : (coding : Coding) (w h : ℕ) (input : List ℕ) (r : Region) → w ≡ 0 → decoded_region coding w h input r ≡ r
-unfolding decoded_region
-decoded-empty coding w h input r none = rw none
-
-pub decoded-rows : (coding : Coding) (w h : ℕ) (input : List ℕ) (r : Region) → eqb w 0 ≡ false → decoded_region coding w h input r ≡ after_rows coding w h input h r
-unfolding decoded_region
-decoded-rows coding w h input r some = rw some
 
 pub digit-black : (b : Bool) (n : ℕ) → n ≡ bit_number b → n ≡ 1 → b ≡ true
 digit-black true n e one = refl
@@ -232,14 +225,6 @@ region-start w h grid coder states white = record { pixels = white ∙ blank-so_
 pub after_rows-none : (coding : Coding) (w h : ℕ) (input : List ℕ) (r : Region) → after_rows coding w h input 0 r ≡ r
 unfolding after_rows
 after_rows-none coding w h input r = refl
-
-pub region-empty : (coding : Coding) (w h : ℕ) (grid : Grid) (coder : Coder) (states : List Context) → w ≡ 0 → grid ≡ blank w h false → Holds w h coder.bytes (decoded_region coding w h coder.bytes (no_pixels coder.registers states)) grid coder states
-region-empty coding w h grid coder states none white =
-    subst (λ (n : Region). Holds w h coder.bytes n grid coder states) (sym (decoded-empty coding w h coder.bytes (no_pixels coder.registers states) none)) (region-start w h grid coder states white)
-
-pub region-whole : (coding : Coding) (w h n : ℕ) (input : List ℕ) (start : Region) (grid : Grid) (coder : Coder) (states : List Context) → (w ≡ 0 → ⊥) → n ≡ h → Holds w h input (after_rows coding w h input n start) grid coder states → Holds w h input (decoded_region coding w h input start) grid coder states
-region-whole coding w h n input start grid coder states some all holds =
-    subst (λ (r : Region). Holds w h input r grid coder states) (ap (λ (k : ℕ). after_rows coding w h input k start) all ∙ sym (decoded-rows coding w h input start (ne_eqb w 0 some))) holds
 
 pub no-rows : (w h y : ℕ) → (w ≡ 0 → ⊥) → y ≡ h → w * h ≡ 0 → y ≡ 0
 no-rows zero h y some all product = absurd (some refl)

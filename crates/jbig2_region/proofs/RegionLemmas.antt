@@ -7,7 +7,8 @@ use Rattle.jbig2_coder.specs.Coder.{Coder, Context}
 use Rattle.jbig2_region.specs.Generic.{context_at, colour_above}
 use Rattle.jbig2_region.specs.inner.Holds.{Holds, BeginsRow}
 use Rattle.jbig2_region.specs.inner.Neighbours.{DecodesPixels, row_coding}
-use Rattle.jbig2_region.specs.Raster.{Coding, Region, after_pixel, after_pixels, row_begun, row_decisions, after_rows}
+use Rattle.jbig2_region.specs.Raster.{Coding, Region, after_pixel, row_begun, row_decisions}
+use Rattle.jbig2_region.specs.inner.Rows.{after_pixels, after_rows}
 use Rattle.jbig2_region.specs.RunBytes.{CountsRegion, CountsRow, coded_rows, coded_runs, row_loads, row_tests, row_words, run_bytes}
 use Rattle.jbig2_region.specs.declared.template.AdaptiveTemplatePixel.{AdaptiveTemplatePixel}
 use Rattle.jbig2_region.proofs.RasterLemmas.{after_rows-length, region-step, no-rows}

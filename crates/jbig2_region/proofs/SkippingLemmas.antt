@@ -10,7 +10,8 @@ use Rattle.jbig2_base.proofs.LaneCounts.{lanes-none}
 use Rattle.jbig2_coder.specs.Coder.{Coder, Context}
 use Rattle.jbig2_region.specs.Decisions.{decided_pixels, decided_rows, takes_decision}
 use Rattle.jbig2_region.specs.Generic.{context_at}
-use Rattle.jbig2_region.specs.Raster.{Coding, Region, after_pixels, after_rows, row_begun}
+use Rattle.jbig2_region.specs.Raster.{Coding, Region, row_begun}
+use Rattle.jbig2_region.specs.inner.Rows.{after_pixels, after_rows}
 use Rattle.jbig2_region.specs.Skipping.{CountsSkipping, is_skipped, kept_in_row, kept_pixels, skipping_coding, skipping_loads, skipping_words}
 use Rattle.jbig2_region.specs.inner.Codes.{Takes}
 use Rattle.jbig2_region.specs.inner.Masks.{IsMask, plain_context}

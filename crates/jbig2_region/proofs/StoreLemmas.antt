@@ -14,7 +14,8 @@ use Rattle.jbig2_coder.specs.Coder.{Coder, Context, decision, fresh}
 use Rattle.jbig2_region.specs.Generic.{context_at}
 use Rattle.jbig2_region.specs.inner.Holds.{Holds}
 use Rattle.jbig2_region.specs.inner.Neighbours.{DecodesPixels, IsLeft, row_coding, SameAbove}
-use Rattle.jbig2_region.specs.Raster.{Region, so_far, after_pixels}
+use Rattle.jbig2_region.specs.Raster.{Region, so_far}
+use Rattle.jbig2_region.specs.inner.Rows.{after_pixels}
 use Rattle.jbig2_region.specs.declared.template.AdaptiveTemplatePixel.{AdaptiveTemplatePixel}
 use Rattle.jbig2_region.proofs.RasterLemmas.{Holds-known, Holds-decided, after_pixels-length, after_pixels-predicted, after_pixels-one, after_pixels-none, after_pixels-add}
 use Rattle.jbig2_region.proofs.WindowLemmas.{same-above, pixel-inside, pixel-left_of_all}

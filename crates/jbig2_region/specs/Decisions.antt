@@ -3,7 +3,8 @@
 use Rattle.std.specs.Prelude.{◌≡◌, ℕ, zero, suc, ◌+◌, ◌*◌, ◌/◌, ◌%◌, ◌≤◌, Bool, List, length, is_none}
 use Rattle.jbig2_base.specs.Counts.{Counts}
 use Rattle.jbig2_base.specs.Grid.{bit_number}
-use Rattle.jbig2_region.specs.Raster.{Coding, Region, so_far, after_pixels, row_begun, row_decisions, after_rows}
+use Rattle.jbig2_region.specs.Raster.{Coding, Region, so_far, row_begun, row_decisions}
+use Rattle.jbig2_region.specs.inner.Rows.{after_pixels, after_rows}
 
 -- whether the next pixel takes a decision: its colour is not known
 unfoldable pub takes_decision : Coding → ℕ → ℕ → Region → Bool

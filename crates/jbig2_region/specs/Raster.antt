@@ -38,10 +38,6 @@ after_pixel coding w h bytes r =
     let g = so_far w h r.pixels in
     with_next bytes r (coding.context g (n % w) (n / w)) (coding.known r.predicted g (n % w) (n / w))
 
-unfoldable pub after_pixels : Coding → ℕ → ℕ → List ℕ → ℕ → Region → Region
-after_pixels coding w h bytes zero r = r
-after_pixels coding w h bytes (suc n) r = after_pixel coding w h bytes (after_pixels coding w h bytes n r)
-
 -- With typical prediction a row begins with a decision; 1 turns it round whether rows are predicted (6.2.5.7).
 unfoldable pub row_begun : Option ℕ → List ℕ → Region → Region
 row_begun None bytes r = r
@@ -58,17 +54,23 @@ abbrev pub row_decisions : Option ℕ → ℕ
 row_decisions None = 0
 row_decisions (Some _) = 1
 
-unfoldable pub after_rows : Coding → ℕ → ℕ → List ℕ → ℕ → Region → Region
-after_rows coding w h bytes zero r = r
-after_rows coding w h bytes (suc n) r = after_pixels coding w h bytes w (row_begun coding.row_context bytes (after_rows coding w h bytes n r))
+-- The region as its next pixel finds it: where the pixels so far fill their rows, the next row begins.
+unfoldable pub at_next : Coding → ℕ → List ℕ → Region → Region
+at_next coding w bytes r = if length r.pixels % w == 0 then row_begun coding.row_context bytes r else r
+
+-- the region once its first n pixels are there, row by row from the top and each row from the left
+unfoldable pub first_pixels : Coding → ℕ → ℕ → List ℕ → Region → ℕ → Region
+first_pixels coding w h bytes start zero = start
+first_pixels coding w h bytes start (suc n) =
+    after_pixel coding w h bytes (at_next coding w bytes (first_pixels coding w h bytes start n))
 
 -- no pixel yet, and a coder and contexts
 abbrev pub no_pixels : Registers → List Context → Region
 no_pixels registers contexts = record { pixels = []; predicted = false; registers = registers; contexts = contexts }
 
--- the whole region; one without columns takes no decision (our own rule)
+-- the whole region; one without columns takes no decision, nor does one without rows (our own rule)
 unfoldable pub decoded_region : Coding → ℕ → ℕ → List ℕ → Region → Region
-decoded_region coding w h bytes r = if w == 0 then r else after_rows coding w h bytes h r
+decoded_region coding w h bytes start = first_pixels coding w h bytes start (w * h)
 
 -- so many contexts of which nothing is known
 abbrev pub fresh_contexts : ℕ → List Context

@@ -6,7 +6,8 @@ use Rattle.jbig2_coder.specs.Coder.{Coder, Context, fresh, all_quiet}
 use Rattle.jbig2_region.specs.Generic.{context_at, number_of}
 use Rattle.jbig2_region.specs.inner.Holds.{Holds}
 use Rattle.jbig2_region.specs.inner.Neighbours.{row_coding}
-use Rattle.jbig2_region.specs.Raster.{Coding, Region, so_far, after_pixels, row_begun, row_decisions, after_rows}
+use Rattle.jbig2_region.specs.Raster.{Coding, Region, so_far, row_begun, row_decisions}
+use Rattle.jbig2_region.specs.inner.Rows.{after_pixels, after_rows}
 use Rattle.jbig2_region.specs.declared.template.AdaptiveTemplatePixel.{AdaptiveTemplatePixel}
 
 -- the context of a template whose pixels are all of one colour

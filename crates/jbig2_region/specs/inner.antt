@@ -8,3 +8,4 @@ pub mod RefinementBlocks
 pub mod RefinementLanes
 pub mod RefinementViews
 pub mod RefinementWindows
+pub mod Rows

@@ -13,7 +13,7 @@ use Rattle.jbig2_coder.specs.PrefixCode.{is_crowded, weight, prefix_code, shorte
 use Rattle.jbig2_coder.specs.Procedures.{asked}
 use Rattle.jbig2_coder.specs.Table.{rows, row_of}
 use Rattle.jbig2_coder.specs.Tables.{lines_a, lines_b, lines_d, lines_f, lines_h, lines_k, lines_o}
-use Rattle.jbig2_region.specs.Raster.{so_far, with_next, after_pixel, after_pixels, row_begun, after_rows, decoded_region}
+use Rattle.jbig2_region.specs.Raster.{so_far, with_next, after_pixel, row_begun, at_next, first_pixels, decoded_region}
 use Rattle.jbig2_region.specs.Refinement.{refined_context}
 use Rattle.jbig2_region.specs.RefinementTemplates.{refinement_pixels_at}
 use Rattle.jbig2_text.specs.Refining.{refined_by}
@@ -41,7 +41,7 @@ one_symbol coded = 0x10 ∷ 3 ∷ 0 ∷ 0 ∷ 0 ∷ 1 ∷ 0 ∷ 0 ∷ 0 ∷ 1 �
 
 -- a white symbol refined into a black one, with no bytes of its own
 row_R8_2 : dictionary white (one_symbol (0x41 ∷ 0 ∷ 0xFC ∷ 0x21 ∷ [])) ≡ Ok (record { exported = dot ∷ []; kept = None })
-unfolding dictionary symbol_header_at symbol_flags_of symbols_decoded first_contexts symbol_tables is_crowded weight coded_start asked table_for classes_from height_class number_by drawn_class symbols_from symbol_bitmap next_width aggregate_symbol instance_count refined_alone put_together exports runs_from next_run exported_from ended_runs decoded_value read_code least prefix_code shorter lines_a lines_b lines_d lines_o bits_left bits_on table pixel_at refined_by decoded_region after_rows after_pixels after_pixel with_next row_begun so_far refined_context byte_at byte_in filled doubled renormed initial_registers likely_next unlikely_next choice decision rows row_of refinement_pixels_at
+unfolding dictionary symbol_header_at symbol_flags_of symbols_decoded first_contexts symbol_tables is_crowded weight coded_start asked table_for classes_from height_class number_by drawn_class symbols_from symbol_bitmap next_width aggregate_symbol instance_count refined_alone put_together exports runs_from next_run exported_from ended_runs decoded_value read_code least prefix_code shorter lines_a lines_b lines_d lines_o bits_left bits_on table pixel_at refined_by decoded_region first_pixels at_next after_pixel with_next row_begun so_far refined_context byte_at byte_in filled doubled renormed initial_registers likely_next unlikely_next choice decision rows row_of refinement_pixels_at
 row_R8_2 = refl
 
 -- an id that is not there yet

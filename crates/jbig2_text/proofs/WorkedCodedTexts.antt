@@ -12,7 +12,7 @@ use Rattle.jbig2_coder.specs.Lists.{with_context, encode_from, encoded}
 use Rattle.jbig2_coder.specs.Procedures.{asked}
 use Rattle.jbig2_coder.specs.Table.{rows, row_of}
 use Rattle.jbig2_region.specs.Generic.{PlacedRegion}
-use Rattle.jbig2_region.specs.Raster.{so_far, with_next, after_pixel, after_pixels, row_begun, after_rows, decoded_region}
+use Rattle.jbig2_region.specs.Raster.{so_far, with_next, after_pixel, row_begun, at_next, first_pixels, decoded_region}
 use Rattle.jbig2_region.specs.Refinement.{refined_context}
 use Rattle.jbig2_region.specs.RefinementHeader.{refinement_pixels_at}
 use Rattle.jbig2_region.specs.RegionInfo.{region_info_at}
@@ -67,5 +67,5 @@ unfolding opened plain stuffed byte_out set_bits flushed is_full closed encode_f
 refined-bytes = refl
 
 refined_symbol_by_coder : region false (0 ∷ 0 ∷ 0 ∷ 8 ∷ 0 ∷ 0 ∷ 0 ∷ 1 ∷ (replicate 9 0 ++ 0x80 ∷ 0x12 ∷ 0 ∷ 0 ∷ 0 ∷ 1 ∷ refined)) ≡ Ok dot
-unfolding region text_header_at region_info_at text_fields_at text_flags_at text_decoded text_answer region_from text_region text_instances after_instances with_instance symbol_placed instance_symbol cursor_moved strip_begun strip_delta least coded_start asked integer value_of_bits next read read_more ranges are_next next_range signed value_of id byte_at byte_in filled doubled renormed initial_registers likely_next unlikely_next choice decision rows row_of drawn_pixel table pixel_at refined_symbol refinement_deltas refined_outline refined_by decoded_region after_rows after_pixels after_pixel with_next row_begun so_far refined_context refinement_pixels_at
+unfolding region text_header_at region_info_at text_fields_at text_flags_at text_decoded text_answer region_from text_region text_instances after_instances with_instance symbol_placed instance_symbol cursor_moved strip_begun strip_delta least coded_start asked integer value_of_bits next read read_more ranges are_next next_range signed value_of id byte_at byte_in filled doubled renormed initial_registers likely_next unlikely_next choice decision rows row_of drawn_pixel table pixel_at refined_symbol refinement_deltas refined_outline refined_by decoded_region first_pixels at_next after_pixel with_next row_begun so_far refined_context refinement_pixels_at
 refined_symbol_by_coder = refl

@@ -5,7 +5,8 @@ use Rattle.jbig2_base.specs.Grid.{Grid, bit_number}
 use Rattle.jbig2_coder.specs.Coder.{Coder, Context, Decision, fresh, decision}
 use Rattle.jbig2_region.specs.Decisions.{decided_pixels}
 use Rattle.jbig2_region.specs.inner.Holds.{Holds}
-use Rattle.jbig2_region.specs.Raster.{Coding, Region, after_pixels}
+use Rattle.jbig2_region.specs.Raster.{Coding, Region}
+use Rattle.jbig2_region.specs.inner.Rows.{after_pixels}
 
 -- A bitmap, a coder and contexts before and after n pixels of row y, from column x on.
 abbrev pub Codes : Coding → Bool → ℕ → ℕ → ℕ → Grid → Coder → List Context → Grid → Coder → List Context → Type 0

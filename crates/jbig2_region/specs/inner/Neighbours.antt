@@ -5,7 +5,8 @@ use Rattle.jbig2_base.specs.inner.WordBits.{bit}
 use Rattle.jbig2_coder.specs.Coder.{Coder, Context}
 use Rattle.jbig2_region.specs.Generic.{context_at, colour_above}
 use Rattle.jbig2_region.specs.inner.Holds.{Holds}
-use Rattle.jbig2_region.specs.Raster.{Coding, Region, after_pixels}
+use Rattle.jbig2_region.specs.Raster.{Coding, Region}
+use Rattle.jbig2_region.specs.inner.Rows.{after_pixels}
 use Rattle.jbig2_region.specs.declared.template.neighbours.Adaptives.{Adaptives}
 use Rattle.jbig2_region.specs.declared.template.neighbours.Layout.{Layout}
 use Rattle.jbig2_region.specs.declared.template.neighbours.Neighbours.{Neighbours}

@@ -3,9 +3,11 @@ use Rattle.jbig2_base.proofs.LaneCounts.{lanes-none, lanes-then}
 use Rattle.jbig2_base.specs.Counts.{Counts}
 use Rattle.jbig2_region.specs.inner.Holds.{Holds}
 use Rattle.jbig2_region.specs.inner.Neighbours.{DecodesPixels, is_nominal_layout, layout_coding, layout_loads, layout_pixels}
-use Rattle.jbig2_region.specs.Raster.{Region, no_pixels, after_rows}
+use Rattle.jbig2_region.specs.Raster.{Region, no_pixels}
+use Rattle.jbig2_region.specs.inner.Rows.{after_rows}
 use Rattle.jbig2_region.specs.RunBytes.{row_loads, row_tests, row_words, coded_rows}
-use Rattle.jbig2_region.proofs.RasterLemmas.{after_rows-none, region-start, region-empty, region-whole}
+use Rattle.jbig2_region.proofs.PlaceLemmas.{region-empty, region-whole}
+use Rattle.jbig2_region.proofs.RasterLemmas.{after_rows-none, region-start}
 use Rattle.jbig2_region.proofs.RegionLemmas.{counted-none, counted-next, predicted-next, loads-next, tests-next, layout-step, empty-counts, region-counts}
 use Rattle.jbig2_region.proofs.generic_kernel.decode_layout.Goals as goal
 
@@ -80,7 +82,7 @@ loop-y-preserved g c =
 pub returns-clause-holds : goal.returns-clause-holds
 returns-clause-holds g c =
     region-whole (layout_coding c.args.layout.now c.args.row_context) c.args.bitmap.now.width c.args.bitmap.now.height c.loop-y.y c.args.decoder.now.bytes (no_pixels c.args.decoder.now.registers c.args.contexts.now) c.loop-y.bitmap c.loop-y.decoder c.loop-y.contexts
-    (λ none. c.if-width-eq0.false (c.width.ensures.value ∙ none)) (omega arith) c.loop-y.invariant.holds
+    refl (λ none. c.if-width-eq0.false (c.width.ensures.value ∙ none)) (omega arith) c.loop-y.invariant.holds
 
 pub returns-clause-steps : goal.returns-clause-steps
 returns-clause-steps g c =

@@ -1,6 +1,7 @@
 use Rattle.std.proofs.Common.{◌≡◌, ◌≤◌, ◌+◌, ◌*◌}
 use Rattle.jbig2_region.specs.inner.Holds.{Holds}
-use Rattle.jbig2_region.specs.Raster.{after_rows, no_pixels}
+use Rattle.jbig2_region.specs.Raster.{no_pixels}
+use Rattle.jbig2_region.specs.inner.Rows.{after_rows}
 use Rattle.jbig2_region.proofs.DecisionLemmas.{Decided}
 use Rattle.jbig2_region.proofs.raster.decode_region.Given as goal
 

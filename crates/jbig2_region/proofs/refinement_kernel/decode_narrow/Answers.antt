@@ -5,10 +5,12 @@ use Rattle.jbig2_base.specs.Grid.{Grid, pixel_at}
 use Rattle.jbig2_region.specs.inner.Codes.{Codes, CountsCodes}
 use Rattle.jbig2_region.specs.inner.Holds.{Holds, BeginsRow}
 use Rattle.jbig2_region.specs.inner.RefinementWindows.{windowed_coding}
-use Rattle.jbig2_region.specs.Raster.{Region, no_pixels, after_rows, row_decisions}
+use Rattle.jbig2_region.specs.Raster.{Region, no_pixels, row_decisions}
+use Rattle.jbig2_region.specs.inner.Rows.{after_rows}
 use Rattle.jbig2_region.specs.RefinementSteps.{window_loads}
 use Rattle.jbig2_region.proofs.DecisionLemmas.{Decided, codes-row, decided-none, decided-next, decided-region}
-use Rattle.jbig2_region.proofs.RasterLemmas.{after_rows-none, region-start, region-whole}
+use Rattle.jbig2_region.proofs.PlaceLemmas.{region-whole}
+use Rattle.jbig2_region.proofs.RasterLemmas.{after_rows-none, region-start}
 use Rattle.jbig2_region.proofs.RegionLemmas.{tests-next}
 use Rattle.jbig2_region.proofs.StoreLemmas.{left-none}
 use Rattle.jbig2_region.proofs.refinement_kernel.decode_narrow.Goals as goal
@@ -87,7 +89,7 @@ loop-y-preserved g c =
 pub returns-clause-holds : goal.returns-clause-holds
 returns-clause-holds g c =
     region-whole (windowed_coding c.args.coding.now) c.args.bitmap.now.width c.args.bitmap.now.height c.loop-y.y c.args.decoder.now.bytes (no_pixels c.args.decoder.now.registers c.args.contexts.now) c.loop-y.bitmap c.loop-y.decoder c.loop-y.contexts
-    (λ none. absurd (omega (arith, c.requires.some))) (omega arith) c.loop-y.invariant.holds
+    refl (λ none. absurd (omega (arith, c.requires.some))) (omega arith) c.loop-y.invariant.holds
 
 pub returns-clause-steps : goal.returns-clause-steps
 returns-clause-steps g c =

@@ -4,10 +4,12 @@ use Rattle.jbig2_base.specs.Grid.{Grid}
 use Rattle.jbig2_region.specs.inner.Codes.{Codes, CountsCodes}
 use Rattle.jbig2_region.specs.inner.Holds.{Holds, BeginsRow}
 use Rattle.jbig2_region.specs.inner.RefinementWindows.{windowed_coding}
-use Rattle.jbig2_region.specs.Raster.{Region, no_pixels, after_rows, row_decisions}
+use Rattle.jbig2_region.specs.Raster.{Region, no_pixels, row_decisions}
+use Rattle.jbig2_region.specs.inner.Rows.{after_rows}
 use Rattle.jbig2_region.specs.RefinementSteps.{window_loads}
 use Rattle.jbig2_region.proofs.DecisionLemmas.{codes-row, decided-none, decided-next, decided-empty, decided-region}
-use Rattle.jbig2_region.proofs.RasterLemmas.{after_rows-none, region-start, region-empty, region-whole}
+use Rattle.jbig2_region.proofs.PlaceLemmas.{region-empty, region-whole}
+use Rattle.jbig2_region.proofs.RasterLemmas.{after_rows-none, region-start}
 use Rattle.jbig2_region.proofs.RegionLemmas.{tests-next}
 use Rattle.jbig2_region.proofs.refinement_kernel.decode_windowed.Goals as goal
 
@@ -77,7 +79,7 @@ loop-y-preserved g c =
 pub returns-clause-holds : goal.returns-clause-holds
 returns-clause-holds g c =
     region-whole (windowed_coding c.args.coding.now) c.args.bitmap.now.width c.args.bitmap.now.height c.loop-y.y c.args.decoder.now.bytes (no_pixels c.args.decoder.now.registers c.args.contexts.now) c.loop-y.bitmap c.loop-y.decoder c.loop-y.contexts
-    (λ none. c.if-width-eq0.false (c.width.ensures.value ∙ none)) (omega arith) c.loop-y.invariant.holds
+    refl (λ none. c.if-width-eq0.false (c.width.ensures.value ∙ none)) (omega arith) c.loop-y.invariant.holds
 
 pub returns-clause-steps : goal.returns-clause-steps
 returns-clause-steps g c =

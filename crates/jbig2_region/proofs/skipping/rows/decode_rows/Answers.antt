@@ -1,13 +1,15 @@
 use Rattle.std.proofs.Common.{◌≡◌, ◌≤◌, ℕ, ◌+◌, false, None, refl, sym, ap, subst, arith, ◌∙◌}
 use Rattle.jbig2_base.proofs.LaneCounts.{lanes-none, lanes-then}
 use Rattle.jbig2_base.specs.Grid.{Grid}
-use Rattle.jbig2_region.specs.Raster.{Coding, Region, after_rows, no_pixels}
+use Rattle.jbig2_region.specs.Raster.{Coding, Region, no_pixels}
+use Rattle.jbig2_region.specs.inner.Rows.{after_rows}
 use Rattle.jbig2_region.specs.Skipping.{skip_of, skipping_coding, skipping_loads, skipping_words}
 use Rattle.jbig2_region.specs.inner.Codes.{Codes, CountsCodes}
 use Rattle.jbig2_region.specs.inner.Holds.{BeginsRow, Holds}
 use Rattle.jbig2_region.specs.inner.Neighbours.{nominal_pixels}
 use Rattle.jbig2_region.proofs.DecisionLemmas.{codes-row, decided-next, decided-none}
-use Rattle.jbig2_region.proofs.RasterLemmas.{after_rows-none, begun-plainly, region-empty, region-start, region-whole}
+use Rattle.jbig2_region.proofs.PlaceLemmas.{region-empty, region-whole}
+use Rattle.jbig2_region.proofs.RasterLemmas.{after_rows-none, begun-plainly, region-start}
 use Rattle.jbig2_region.proofs.RegionLemmas.{tests-next}
 use Rattle.jbig2_region.proofs.SkippingLemmas.{skipping-empty, skipping-region}
 use Rattle.jbig2_region.proofs.skipping.rows.decode_rows.Goals as goal
@@ -74,7 +76,7 @@ loop-y-preserved g c =
 pub returns-clause-holds : goal.returns-clause-holds
 returns-clause-holds g c =
     region-whole (skipping_coding (nominal_pixels c.args.neighbours) (skip_of c.args.skip)) c.args.bitmap.now.width c.args.bitmap.now.height c.loop-y.y c.args.decoder.now.bytes (no_pixels c.args.decoder.now.registers c.args.contexts.now) c.loop-y.bitmap c.loop-y.decoder c.loop-y.contexts
-    (λ none. c.if-width-eq0.false (c.width.ensures.value ∙ none)) (omega arith) c.loop-y.invariant.holds
+    refl (λ none. c.if-width-eq0.false (c.width.ensures.value ∙ none)) (omega arith) c.loop-y.invariant.holds
 
 pub returns-clause-steps : goal.returns-clause-steps
 returns-clause-steps g c =

@@ -1,6 +1,7 @@
 use Rattle.std.proofs.Common.{◌≡◌, ◌≤◌, ◌+◌, ◌*◌, false}
 use Rattle.jbig2_base.specs.Counts.{KeepsLanes}
-use Rattle.jbig2_region.specs.Raster.{after_rows, no_pixels}
+use Rattle.jbig2_region.specs.Raster.{no_pixels}
+use Rattle.jbig2_region.specs.inner.Rows.{after_rows}
 use Rattle.jbig2_region.specs.Skipping.{skip_of, skipping_coding, skipping_loads, skipping_words}
 use Rattle.jbig2_region.specs.inner.Holds.{Holds}
 use Rattle.jbig2_region.specs.inner.Neighbours.{nominal_pixels}
