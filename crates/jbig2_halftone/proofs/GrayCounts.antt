@@ -1,5 +1,5 @@
 -- What the planes of an image take.
-use Rattle.std.proofs.Common.{◌≡◌, ℕ, zero, suc, ◌+◌, ◌*◌, ◌/◌, ◌%◌, ◌≤◌, Bool, true, false, List, Option, None, Some, add-one, add-mul, refl, sym, ap, subst, ◌∙◌, arith}
+use Rattle.std.proofs.Common.{◌≡◌, ℕ, ◌+◌, ◌*◌, ◌/◌, ◌%◌, ◌≤◌, Bool, true, false, not, List, Option, None, Some, add-one, add-mul, refl, sym, ap, subst, ◌∙◌, arith}
 use Rattle.std.specs.Borrow.{Bor}
 use Rattle.std.specs.Prelude.{is_some}
 use Rattle.std.proofs.Math.Nat.{mul-le-mul_left}
@@ -10,8 +10,8 @@ use Rattle.jbig2_coder.specs.Coder.{Coder, Context}
 use Rattle.jbig2_coder.specs.declared.arithmetic_decoder.registers.Registers.{Registers}
 use Rattle.jbig2_region.specs.Generic.{coding_of}
 use Rattle.jbig2_region.specs.inner.Layouts.{read_pixels}
-use Rattle.jbig2_region.specs.Raster.{Region, row_begun, no_pixels}
-use Rattle.jbig2_region.specs.RunBytes.{CountsRegion, coded_rows, coded_runs, row_loads, row_tests, row_words}
+use Rattle.jbig2_region.specs.Raster.{Coding, Region, at_pixel, no_pixels}
+use Rattle.jbig2_region.specs.RunBytes.{CountsRegion, coded_pixels, coded_runs, row_loads, row_tests, row_words}
 use Rattle.jbig2_region.specs.Skipping.{CountsSkipping, kept_pixels, skip_of, skipping_loads, skipping_words}
 use Rattle.jbig2_region.specs.Templates.{is_nominal, template_pixels}
 use Rattle.jbig2_region.specs.declared.template.AdaptiveTemplatePixel.{AdaptiveTemplatePixel}
@@ -20,7 +20,9 @@ use Rattle.jbig2_region.specs.declared.template.Template.{Template}
 use Rattle.jbig2_region.specs.declared.template.Template.TheVariants.{Template0, Template1, Template2, Template3}
 use Rattle.jbig2_halftone.specs.GrayScale.{GrayScale, nominal_pixels, after_planes}
 use Rattle.jbig2_halftone.specs.GraySteps.{CountsCoded, CountsImage, CountsLanes, CountsMasked, CountsOne, CountsPlane, CountsPlanes, TakesLanes, after_lane_rows, plain_coding, plane_pixels, plane_runs, plane_start}
-use Rattle.jbig2_halftone.proofs.PlaneLemmas.{BehindPlanes, no-mask, rows-plain}
+use Rattle.jbig2_halftone.proofs.PlaneLemmas.{BehindPlanes, no-mask}
+use Rattle.jbig2_region.proofs.PlaceCounts.{how_many-all}
+use Rattle.jbig2_region.proofs.PlaceLemmas.{at_pixel-plain}
 
 some-mask : (mask : Option (Bor Grid)) → is_some mask ≡ true → skip_of mask ≡ None → ⊥
 some-mask None e none = cc
@@ -45,10 +47,11 @@ plain-counts p adaptive w h bytes start before after at counts =
     subst (λ (b : Bool). CountsRegion (plane_pixels p) b 0 (plain_coding p) w h bytes start before after) (nominal p.template) none
 
 -- every row of a plane is coded
-all-coded : (pixels : List AdaptiveTemplatePixel) (t : Template) (w h : ℕ) (bytes : List ℕ) (n : ℕ) (r : Region) → r.predicted ≡ false → coded_rows (coding_of false t pixels) w h bytes n r ≡ n
-unfolding coded_rows row_begun
-all-coded pixels t w h bytes zero r plain = refl
-all-coded pixels t w h bytes (suc n) r plain = rw (rows-plain pixels t w h bytes n r plain, all-coded pixels t w h bytes n r plain) (omega arith)
+all-coded : (pixels : List AdaptiveTemplatePixel) (t : Template) (w h : ℕ) (bytes : List ℕ) (start : Region) → start.predicted ≡ false → coded_pixels (coding_of false t pixels) w h bytes start ≡ w * h
+unfolding coded_pixels
+all-coded pixels t w h bytes start plain =
+    let coding : Coding = coding_of false t pixels in
+    how_many-all (λ n. not (at_pixel coding w h bytes start n).predicted) true (w * h) (λ n _. ap not (at_pixel-plain coding w h bytes start n refl plain)) ∙ omega arith
 
 planes-begin : (p : GrayScale) (bytes : List ℕ) (steps : Counts) → CountsPlanes p bytes 0 steps steps
 unfolding plane_runs
@@ -60,8 +63,8 @@ one-more n v = omega (arith, add-mul n 1 v)
 planes-more : (p : GrayScale) (bytes : List ℕ) (i : ℕ) (old mid new : Counts) → CountsPlanes p bytes i old mid → CountsPlane p p.width p.height bytes (plane_start p bytes i) mid new → CountsPlanes p bytes (i + 1) old new
 unfolding plane_runs
 planes-more p bytes i old mid new before one =
-    let runs : plane_runs p bytes (i + 1) ≡ plane_runs p bytes i + coded_runs (plane_pixels p) true (plain_coding p) p.width p.height bytes p.height (plane_start p bytes i) = rw add-one refl in
-    let coded = all-coded (plane_pixels p) p.template p.width p.height bytes p.height (plane_start p bytes i) refl in
+    let runs : plane_runs p bytes (i + 1) ≡ plane_runs p bytes i + coded_runs (plane_pixels p) true (plain_coding p) p.width p.height bytes (plane_start p bytes i) = rw add-one refl in
+    let coded = all-coded (plane_pixels p) p.template p.width p.height bytes (plane_start p bytes i) refl in
     let none : p.width * p.height * 0 ≡ 0 = omega arith in
     record {
       decisions = λ some.

@@ -1,10 +1,9 @@
 -- Planes read one after another, and the values gathered from them.
-use Rattle.std.proofs.Common.{◌≡◌, ℕ, suc, ◌+◌, ◌-◌, ◌*◌, ◌/◌, ◌%◌, ◌^◌, ◌<◌, ◌≤◌, Bool, true, false, ltb, not, ◌&&◌, ◌||◌, zero, List, [], ◌∷◌, ◌++◌, length, get_or, take, drop, map, Result, Ok, Err, add-one, length-append, refl, sym, ap, subst, ◌∙◌, arith}
-use Rattle.std.specs.List.{All, range_with_len}
+use Rattle.std.proofs.Common.{◌≡◌, ℕ, suc, ◌+◌, ◌-◌, ◌/◌, ◌<◌, ◌≤◌, Bool, true, false, ltb, not, ◌&&◌, ◌||◌, zero, List, [], ◌∷◌, ◌++◌, length, get_or, take, drop, Result, Ok, Err, add-one, refl, sym, ap, subst, ◌∙◌, arith}
+use Rattle.std.specs.List.{All}
 use Rattle.std.specs.Prelude.{if◌then◌else◌, Option, None, Some, is_some}
 use Rattle.std.specs.Borrow.{Bor}
 use Rattle.std.proofs.lemmas.Bool.{lt-ltb, ltb-false}
-use Rattle.std.proofs.Math.Nat.{pow-le-pow_right}
 use Rattle.std.proofs.lemmas.List.{append_assoc, append-nil, length-drop, take_all}
 use Rattle.std.proofs.lemmas.List.FromFn.{get_or-map-range_with_len, length-map-range_with_len, map-range_with_len_more}
 use Rattle.jbig2_base.specs.Answer.{◌>>=◌}
@@ -14,14 +13,11 @@ use Rattle.jbig2_coder.specs.Coder.{Coder, Context, initial_registers}
 use Rattle.jbig2_coder.specs.declared.arithmetic_decoder.registers.Registers.{Registers}
 use Rattle.jbig2_region.specs.Generic.{coding_of}
 use Rattle.jbig2_region.specs.inner.Holds.{DecodesRegion, Holds}
-use Rattle.jbig2_region.specs.Raster.{Region, so_far, row_begun, decoded_region, no_pixels, fresh_contexts}
-use Rattle.jbig2_region.specs.inner.Rows.{after_rows}
-use Rattle.jbig2_region.proofs.RasterLemmas.{after_pixels-predicted}
+use Rattle.jbig2_region.specs.Raster.{so_far, decoded_region, no_pixels, fresh_contexts}
 use Rattle.jbig2_region.specs.Skipping.{skipping_coding, skip_of}
 use Rattle.jbig2_mmr.specs.T6.{Decoded, Rows, mmr_rows, grid_of_rows, rows_of}
 use Rattle.jbig2_region.specs.Templates.{context_bits, template_pixels}
 use Rattle.jbig2_region.specs.declared.template.AdaptiveTemplatePixel.{AdaptiveTemplatePixel}
-use Rattle.jbig2_region.specs.declared.template.Template.{Template}
 use Rattle.jbig2_region.specs.declared.template.GenericTemplatePixels.TheVariants.{Regular}
 use Rattle.jbig2_halftone.specs.GrayScale.{GrayScale, nominal_pixels, plane_coding, after_planes, coded_plane, coded_planes, mmr_planes, mmr_plane, planes_by_coder, planes_by_mmr, planes_of, image_is_too_large}
 
@@ -48,12 +44,6 @@ unfolding so_far
 plane-height w h bits grid e = ap (λ (g : Grid). g.height) e
 
 -- ---- a plane without skipped pixels is a generic region without typical prediction
-pub rows-plain : (pixels : List AdaptiveTemplatePixel) (t : Template) (w h : ℕ) (input : List ℕ) (n : ℕ) (r : Region) → r.predicted ≡ false → (after_rows (coding_of false t pixels) w h input n r).predicted ≡ false
-unfolding after_rows row_begun
-rows-plain pixels t w h input zero r plain = plain
-rows-plain pixels t w h input (suc n) r plain =
-    after_pixels-predicted (coding_of false t pixels) w h input w (after_rows (coding_of false t pixels) w h input n r) ∙ rows-plain pixels t w h input n r plain
-
 pub unskipped : (p : GrayScale) (adaptive : List AdaptiveTemplatePixel) (old : Grid) (coder : Coder) (states : List Context) (grid : Grid) (next : Coder) (after : List Context) → p.skip_mask ≡ None → adaptive ≡ nominal_pixels p.template
     → DecodesRegion (coding_of false p.template (template_pixels p.template (Regular adaptive))) old coder states grid next after → DecodesRegion (plane_coding p) old coder states grid next after
 unskipped p adaptive old coder states grid next after none nominal holds =

@@ -27,7 +27,7 @@ plane_start p bytes k = no_pixels (after_planes p bytes k).registers (after_plan
 unfoldable pub plane_runs : GrayScale → List ℕ → ℕ → ℕ
 plane_runs p bytes zero = 0
 plane_runs p bytes (suc count) =
-    plane_runs p bytes count + coded_runs (plane_pixels p) true (plain_coding p) p.width p.height bytes p.height (plane_start p bytes count)
+    plane_runs p bytes count + coded_runs (plane_pixels p) true (plain_coding p) p.width p.height bytes (plane_start p bytes count)
 
 -- one such plane
 abbrev pub CountsPlane : GrayScale → ℕ → ℕ → List ℕ → Region → Counts → Counts → Type 0

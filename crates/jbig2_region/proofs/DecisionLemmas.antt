@@ -3,11 +3,13 @@ use Rattle.std.proofs.Common.{subst, ◌≡◌, ℕ, ◌+◌, ◌*◌, ◌≤◌
 use Rattle.jbig2_base.specs.Counts.{Counts}
 use Rattle.jbig2_base.specs.Grid.{Grid}
 use Rattle.jbig2_coder.specs.Coder.{Coder, Context}
-use Rattle.jbig2_region.specs.Decisions.{CountsDecided, decided_pixels, decided_rows}
+use Rattle.jbig2_region.specs.Decisions.{CountsDecided}
+use Rattle.jbig2_region.specs.inner.RowCounts.{decided_pixels, decided_rows}
 use Rattle.jbig2_region.specs.inner.Codes.{Codes, CountsCodes}
 use Rattle.jbig2_region.specs.inner.Holds.{Holds, BeginsRow}
 use Rattle.jbig2_region.specs.Raster.{Coding, Region, row_begun, row_decisions}
 use Rattle.jbig2_region.specs.inner.Rows.{after_rows}
+use Rattle.jbig2_region.proofs.PlaceCounts.{decisions-by-rows}
 use Rattle.jbig2_region.proofs.RasterLemmas.{region-step, no-rows}
 use Rattle.jbig2_region.proofs.RegionLemmas.{begin-region}
 
@@ -63,12 +65,14 @@ decided-empty coding loads w h input start steps none = record {
   loads = omega arith;
 }
 
-pub decided-region : (coding : Coding) (loads w h y : ℕ) (input : List ℕ) (start : Region) (before after : Counts) → (w ≡ 0 → ⊥) → y ≡ h → (y ≡ 0 → after ≡ before)
+pub decided-region : (coding : Coding) (loads w h y : ℕ) (input : List ℕ) (start : Region) (before after : Counts) → length start.pixels ≡ 0 → (w ≡ 0 → ⊥) → y ≡ h → (y ≡ 0 → after ≡ before)
     → Decided coding w h input y start before.decisions after.decisions → after.run_tests ≡ before.run_tests → after.words ≤ before.words + y * w → after.loads ≤ before.loads + y * loads
     → CountsDecided coding loads w h input start before after
-decided-region coding loads w h y input start before after some all none counted tests words loaded = record {
+decided-region coding loads w h y input start before after empty some all none counted tests words loaded = record {
   empty = λ product. none (no-rows w h y some all product);
-  decisions = λ _. subst (λ (n : ℕ). after.decisions ≡ before.decisions + (n * row_decisions coding.row_context + decided_rows coding w h input n start)) all counted.total;
+  decisions = λ _.
+      rw (decisions-by-rows coding w h input start empty)
+      (subst (λ (n : ℕ). after.decisions ≡ before.decisions + (n * row_decisions coding.row_context + decided_rows coding w h input n start)) all counted.total);
   run_tests = tests;
   words = subst (λ (n : ℕ). after.words ≤ before.words + n * w) all words;
   loads = subst (λ (n : ℕ). after.loads ≤ before.loads + n * loads) all loaded;

@@ -25,3 +25,4 @@ pub mod DecisionLemmas
 pub mod GatherLemmas
 pub mod CarriedLemmas
 pub mod PlaceLemmas
+pub mod PlaceCounts

@@ -1,13 +1,13 @@
 -- A region by its raster places is the same by its rows.
-use Rattle.std.proofs.Common.{subst, ◌≡◌, ℕ, zero, suc, ◌+◌, ◌*◌, ◌%◌, ◌<◌, Bool, true, false, cond, eqb, List, length, refl, sym, ap, ◌∙◌, arith}
+use Rattle.std.proofs.Common.{subst, ◌≡◌, ℕ, zero, suc, ◌+◌, ◌*◌, ◌%◌, ◌<◌, Bool, true, false, cond, eqb, List, length, refl, sym, ap, ◌∙◌, arith, None}
 use Rattle.std.proofs.lemmas.Bool.{eq-eqb, ne_eqb}
 use Rattle.std.proofs.lemmas.Nat.{mod-mul-add}
 use Rattle.jbig2_base.specs.Grid.{Grid, blank}
 use Rattle.jbig2_coder.specs.Coder.{Coder, Context}
-use Rattle.jbig2_region.specs.Raster.{Coding, Region, after_pixel, at_next, decoded_region, first_pixels, no_pixels, row_begun}
+use Rattle.jbig2_region.specs.Raster.{Coding, Region, after_pixel, at_next, at_pixel, decoded_region, first_pixels, no_pixels, row_begun}
 use Rattle.jbig2_region.specs.inner.Holds.{Holds}
 use Rattle.jbig2_region.specs.inner.Rows.{after_pixels, after_rows, rows_region}
-use Rattle.jbig2_region.proofs.RasterLemmas.{region-start, row_begun-pixels, with_next-length}
+use Rattle.jbig2_region.proofs.RasterLemmas.{region-start, row_begun-pixels, with_next-length, with_next-predicted}
 
 -- ---- one place
 at_next-pixels : (coding : Coding) (w : ℕ) (input : List ℕ) (r : Region) → (at_next coding w input r).pixels ≡ r.pixels
@@ -23,6 +23,24 @@ unfolding first_pixels after_pixel
 first_pixels-length coding w h input start zero none = none
 first_pixels-length coding w h input start (suc n) none =
     with_next-length input _ _ _ ∙ ap (λ (k : ℕ). k + 1) (ap length (at_next-pixels coding w input (first_pixels coding w h input start n)) ∙ first_pixels-length coding w h input start n none) ∙ omega arith
+
+pub at_pixel-length : (coding : Coding) (w h : ℕ) (input : List ℕ) (start : Region) (n : ℕ) → length start.pixels ≡ 0 → length (at_pixel coding w h input start n).pixels ≡ n
+at_pixel-length coding w h input start n none = ap length (at_next-pixels coding w input (first_pixels coding w h input start n)) ∙ first_pixels-length coding w h input start n none
+
+-- without typical prediction no row is predicted
+at_next-plain : (coding : Coding) (w : ℕ) (input : List ℕ) (r : Region) → coding.row_context ≡ None → (at_next coding w input r).predicted ≡ r.predicted
+unfolding at_next row_begun
+at_next-plain coding w input r never = rw never (either (eqb (length r.pixels % w) 0))
+  where
+    either : (b : Bool) → (cond b r r).predicted ≡ r.predicted
+    either true = refl
+    either false = refl
+
+pub at_pixel-plain : (coding : Coding) (w h : ℕ) (input : List ℕ) (start : Region) (n : ℕ) → coding.row_context ≡ None → start.predicted ≡ false → (at_pixel coding w h input start n).predicted ≡ false
+unfolding first_pixels after_pixel
+at_pixel-plain coding w h input start zero never plain = at_next-plain coding w input start never ∙ plain
+at_pixel-plain coding w h input start (suc n) never plain =
+    at_next-plain coding w input (first_pixels coding w h input start (suc n)) never ∙ with_next-predicted input _ _ _ ∙ at_pixel-plain coding w h input start n never plain
 
 -- a row begins here, or doesn't
 begins-here : (coding : Coding) (w : ℕ) (input : List ℕ) (r : Region) → length r.pixels % w ≡ 0 → at_next coding w input r ≡ row_begun coding.row_context input r

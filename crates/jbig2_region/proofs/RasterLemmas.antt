@@ -135,7 +135,7 @@ unfolding with_next
 with_next-length input r k (Some colour) = length-append r.pixels (colour ∷ [])
 with_next-length input r k None = length-append r.pixels ((decision input r.registers (get_or r.contexts k fresh)).symbol ∷ [])
 
-with_next-predicted : (input : List ℕ) (r : Region) (k : ℕ) (c : Option Bool) → (with_next input r k c).predicted ≡ r.predicted
+pub with_next-predicted : (input : List ℕ) (r : Region) (k : ℕ) (c : Option Bool) → (with_next input r k c).predicted ≡ r.predicted
 unfolding with_next
 with_next-predicted input r k (Some colour) = refl
 with_next-predicted input r k None = refl

@@ -1,26 +1,18 @@
 -- Regions row by row, with their counts.
-use Rattle.std.proofs.Common.{subst, ◌≡◌, ℕ, zero, suc, ◌+◌, ◌*◌, ◌≤◌, Bool, true, false, cond, add-one, List, length, Option, refl, sym, ap, ◌∙◌, arith}
+use Rattle.std.proofs.Common.{subst, ◌≡◌, ℕ, ◌+◌, ◌*◌, ◌≤◌, Bool, true, false, cond, add-one, List, length, Option, refl, sym, ◌∙◌, arith}
 use Rattle.jbig2_base.specs.Counts.{Counts, KeepsLanes}
 use Rattle.jbig2_base.proofs.LaneCounts.{lanes-none}
 use Rattle.jbig2_base.specs.Grid.{Grid}
 use Rattle.jbig2_coder.specs.Coder.{Coder, Context}
-use Rattle.jbig2_region.specs.Generic.{context_at, colour_above}
 use Rattle.jbig2_region.specs.inner.Holds.{Holds, BeginsRow}
-use Rattle.jbig2_region.specs.inner.Neighbours.{DecodesPixels, row_coding}
-use Rattle.jbig2_region.specs.Raster.{Coding, Region, after_pixel, row_begun, row_decisions}
-use Rattle.jbig2_region.specs.inner.Rows.{after_pixels, after_rows}
-use Rattle.jbig2_region.specs.RunBytes.{CountsRegion, CountsRow, coded_rows, coded_runs, row_loads, row_tests, row_words, run_bytes}
+use Rattle.jbig2_region.specs.inner.Neighbours.{DecodesPixels}
+use Rattle.jbig2_region.specs.Raster.{Coding, Region, row_begun, row_decisions}
+use Rattle.jbig2_region.specs.inner.Rows.{after_rows}
+use Rattle.jbig2_region.specs.RunBytes.{CountsRegion, row_loads, row_tests, row_words}
+use Rattle.jbig2_region.specs.inner.RowCounts.{CountsRow, coded_rows, rows_runs, run_bytes}
 use Rattle.jbig2_region.specs.declared.template.AdaptiveTemplatePixel.{AdaptiveTemplatePixel}
+use Rattle.jbig2_region.proofs.PlaceCounts.{after_pixels-coding, coded-by-rows, coding_with, runs-by-rows}
 use Rattle.jbig2_region.proofs.RasterLemmas.{after_rows-length, region-step, no-rows}
-
-abbrev pub coding_with : List AdaptiveTemplatePixel → Option ℕ → Coding
-coding_with template row_context = record { context = context_at template; known = colour_above; row_context = row_context }
-
--- the decision that begins rows has no part in their pixels
-pub after_pixels-coding : (template : List AdaptiveTemplatePixel) (row_context : Option ℕ) (w h : ℕ) (input : List ℕ) (n : ℕ) (r : Region) → after_pixels (coding_with template row_context) w h input n r ≡ after_pixels (row_coding template) w h input n r
-unfolding after_pixels after_pixel
-after_pixels-coding template row_context w h input zero r = refl
-after_pixels-coding template row_context w h input (suc n) r = ap (λ (q : Region). after_pixel (row_coding template) w h input q) (after_pixels-coding template row_context w h input n r)
 
 -- ---- a row more
 pub record Begun (w h : ℕ) (input : List ℕ) (begun : Region) (y : ℕ) (q : Bool) (g : Grid) (c : Coder) (s : List Context) : Type 0 where
@@ -43,10 +35,10 @@ begin-region coding y p q g1 c1 s1 c2 s2 start w h input same none begin holds p
 
 -- what the code holds after y rows
 pub record Counted (template : List AdaptiveTemplatePixel) (nominal : Bool) (coding : Coding) (w h : ℕ) (input : List ℕ) (y : ℕ) (start : Region) (before after : ℕ) : Type 0 where
-  pub total : after + 8 * coded_runs template nominal coding w h input y start ≡ before + (y * row_decisions coding.row_context + w * coded_rows coding w h input y start)
+  pub total : after + 8 * rows_runs template nominal coding w h input y start ≡ before + (y * row_decisions coding.row_context + w * coded_rows coding w h input y start)
 
 pub counted-none : (template : List AdaptiveTemplatePixel) (nominal : Bool) (coding : Coding) (w h : ℕ) (input : List ℕ) (start : Region) (count : ℕ) → Counted template nominal coding w h input 0 start count count
-unfolding coded_runs coded_rows
+unfolding rows_runs coded_rows
 counted-none template nominal coding w h input start count = record { total = omega arith }
 
 -- one coded row more, or none
@@ -55,8 +47,8 @@ unfolding coded_rows
 coded-next coding w h input y start q is = rw (add-one, is) refl
 
 runs-next : (template : List AdaptiveTemplatePixel) (nominal : Bool) (coding : Coding) (w h : ℕ) (input : List ℕ) (y : ℕ) (start : Region) (q : Bool) → (row_begun coding.row_context input (after_rows coding w h input y start)).predicted ≡ q
-    → coded_runs template nominal coding w h input (y + 1) start ≡ coded_runs template nominal coding w h input y start + cond q 0 (cond nominal (run_bytes template w h input w (row_begun coding.row_context input (after_rows coding w h input y start))) 0)
-unfolding coded_runs
+    → rows_runs template nominal coding w h input (y + 1) start ≡ rows_runs template nominal coding w h input y start + cond q 0 (cond nominal (run_bytes template w h input w (row_begun coding.row_context input (after_rows coding w h input y start))) 0)
+unfolding rows_runs
 runs-next template nominal coding w h input y start q is = rw (add-one, is) refl
 
 more-total : (q : Bool) (d0 d1 d2 d3 rd runs coded w row y : ℕ) → d1 + 8 * runs ≡ d0 + (y * rd + w * coded) → d2 ≡ d1 + rd → d3 + 8 * cond q 0 row ≡ d2 + cond q 0 w → d3 + 8 * (runs + cond q 0 row) ≡ d0 + ((y + 1) * rd + w * (coded + cond q 0 1))
@@ -74,7 +66,7 @@ counted-next template nominal coding y p q g1 c1 s1 c2 s2 start w h input d0 d1 
     record {
       total =
           rw (coded-next coding w h input y start q at.predicted, runs-next template nominal coding w h input y start q at.predicted)
-          (more-total q d0 d1 d2 d3 (row_decisions coding.row_context) (coded_runs template nominal coding w h input y start) (coded_rows coding w h input y start) w (cond nominal (run_bytes template w h input w begun) 0) y counted.total more (row w h input begun at.size at.predicted at.holds));
+          (more-total q d0 d1 d2 d3 (row_decisions coding.row_context) (rows_runs template nominal coding w h input y start) (coded_rows coding w h input y start) w (cond nominal (run_bytes template w h input w begun) 0) y counted.total more (row w h input begun at.size at.predicted at.holds));
     }
 
 pub predicted-next : (coding : Coding) (y : ℕ) (p q : Bool) (g1 : Grid) (c1 : Coder) (s1 : List Context) (c2 : Coder) (s2 : List Context) (start : Region) (w h : ℕ) (input : List ℕ)
@@ -117,14 +109,22 @@ empty-counts template nominal adaptive coding w h input start steps none = recor
   lanes = lanes-none steps;
 }
 
-pub region-counts : (template : List AdaptiveTemplatePixel) (nominal : Bool) (adaptive : ℕ) (coding : Coding) (w h y : ℕ) (input : List ℕ) (start : Region) (before after : Counts) → (w ≡ 0 → ⊥) → y ≡ h → (y ≡ 0 → after ≡ before)
-    → Counted template nominal coding w h input y start before.decisions after.decisions → after.run_tests ≤ before.run_tests + y * row_tests nominal w → after.words ≤ before.words + y * row_words nominal w → after.loads ≤ before.loads + (y * row_loads nominal w + w * coded_rows coding w h input y start * adaptive) → KeepsLanes before after
-    → CountsRegion template nominal adaptive coding w h input start before after
-region-counts template nominal adaptive coding w h y input start before after some all none counted tests words loads lanes = record {
-  empty = λ product. none (no-rows w h y some all product);
-  decisions = λ _. subst (λ (n : ℕ). after.decisions + 8 * coded_runs template nominal coding w h input n start ≡ before.decisions + (n * row_decisions coding.row_context + w * coded_rows coding w h input n start)) all counted.total;
-  words = subst (λ (n : ℕ). after.words ≤ before.words + n * row_words nominal w) all words;
-  run_tests = subst (λ (n : ℕ). after.run_tests ≤ before.run_tests + n * row_tests nominal w) all tests;
-  loads = subst (λ (n : ℕ). after.loads ≤ before.loads + (n * row_loads nominal w + w * coded_rows coding w h input n start * adaptive)) all loads;
-  lanes = lanes;
-}
+pub region-counts : (template : List AdaptiveTemplatePixel) (row_context : Option ℕ) (nominal : Bool) (adaptive : ℕ) (w h y : ℕ) (input : List ℕ) (start : Region) (before after : Counts) → length start.pixels ≡ 0 → (w ≡ 0 → ⊥) → y ≡ h → (y ≡ 0 → after ≡ before)
+    → Counted template nominal (coding_with template row_context) w h input y start before.decisions after.decisions → after.run_tests ≤ before.run_tests + y * row_tests nominal w → after.words ≤ before.words + y * row_words nominal w → after.loads ≤ before.loads + (y * row_loads nominal w + w * coded_rows (coding_with template row_context) w h input y start * adaptive) → KeepsLanes before after
+    → CountsRegion template nominal adaptive (coding_with template row_context) w h input start before after
+region-counts template row_context nominal adaptive w h y input start before after empty some all none counted tests words loads lanes =
+    let coding : Coding = coding_with template row_context in
+    let runs = runs-by-rows template nominal row_context w h input start empty in
+    let coded = coded-by-rows coding w h input start empty in
+    record {
+      empty = λ product. none (no-rows w h y some all product);
+      decisions = λ _.
+          rw (runs, coded)
+          (subst (λ (n : ℕ). after.decisions + 8 * rows_runs template nominal coding w h input n start ≡ before.decisions + (n * row_decisions coding.row_context + w * coded_rows coding w h input n start)) all counted.total);
+      words = subst (λ (n : ℕ). after.words ≤ before.words + n * row_words nominal w) all words;
+      run_tests = subst (λ (n : ℕ). after.run_tests ≤ before.run_tests + n * row_tests nominal w) all tests;
+      loads =
+          rw coded
+          (subst (λ (n : ℕ). after.loads ≤ before.loads + (n * row_loads nominal w + w * coded_rows coding w h input n start * adaptive)) all loads);
+      lanes = lanes;
+    }

@@ -18,7 +18,8 @@ use Rattle.jbig2_region.specs.inner.Neighbours.{IsLeft, row_coding}
 use Rattle.jbig2_base.specs.Grid.{same_colour}
 use Rattle.jbig2_region.specs.Raster.{Region, so_far, with_next, after_pixel}
 use Rattle.jbig2_region.specs.inner.Rows.{after_pixels}
-use Rattle.jbig2_region.specs.RunBytes.{all_of, has_all, stays, is_run_of, run_bytes}
+use Rattle.jbig2_region.specs.RunBytes.{all_of, has_all, stays, is_run_of}
+use Rattle.jbig2_region.specs.inner.RowCounts.{run_bytes}
 use Rattle.jbig2_region.specs.declared.template.AdaptiveTemplatePixel.{AdaptiveTemplatePixel}
 use Rattle.jbig2_region.proofs.CountLemmas.{byte-runs, runs-add}
 use Rattle.jbig2_region.proofs.RasterLemmas.{after_pixel-at, so_far-push}

@@ -1,6 +1,5 @@
 -- Rows of which pixels are skipped, out of windows, and the decisions that they take.
-use Rattle.std.proofs.Common.{◌≡◌, ℕ, zero, suc, ◌+◌, ◌-◌, ◌*◌, ◌/◌, ◌%◌, ◌<◌, ◌≤◌, pos, negsuc, Bool, true, false, cond, not, Option, Some, None, is_none, List, length, ◌++◌, refl, subst, sym, ap, ◌∙◌, arith}
-use Rattle.std.proofs.lemmas.Nat.{mod-mul-add, div-mul-add}
+use Rattle.std.proofs.Common.{◌≡◌, ℕ, ◌+◌, ◌-◌, ◌*◌, ◌/◌, ◌%◌, ◌<◌, ◌≤◌, pos, negsuc, Bool, true, false, cond, not, Option, Some, None, is_none, List, length, ◌++◌, refl, subst, sym, ap, ◌∙◌, arith}
 use Rattle.jbig2_base.specs.Counts.{Counts, KeepsLanes}
 use Rattle.jbig2_base.specs.Grid.{Grid}
 use Rattle.jbig2_base.specs.inner.WordBits.{bit}
@@ -8,11 +7,11 @@ use Rattle.jbig2_base.specs.inner.Writes.{with_pixels}
 use Rattle.jbig2_base.proofs.BitLemmas.{bit-zero}
 use Rattle.jbig2_base.proofs.LaneCounts.{lanes-none}
 use Rattle.jbig2_coder.specs.Coder.{Coder, Context}
-use Rattle.jbig2_region.specs.Decisions.{decided_pixels, decided_rows, takes_decision}
+use Rattle.jbig2_region.specs.Decisions.{how_many, pixel_decisions, takes_decision}
+use Rattle.jbig2_region.specs.inner.RowCounts.{decided_rows}
 use Rattle.jbig2_region.specs.Generic.{context_at}
-use Rattle.jbig2_region.specs.Raster.{Coding, Region, row_begun}
-use Rattle.jbig2_region.specs.inner.Rows.{after_pixels, after_rows}
-use Rattle.jbig2_region.specs.Skipping.{CountsSkipping, is_skipped, kept_in_row, kept_pixels, skipping_coding, skipping_loads, skipping_words}
+use Rattle.jbig2_region.specs.Raster.{Coding, Region, at_pixel}
+use Rattle.jbig2_region.specs.Skipping.{CountsSkipping, is_skipped, kept_pixels, skipping_coding, skipping_loads, skipping_words}
 use Rattle.jbig2_region.specs.inner.Codes.{Takes}
 use Rattle.jbig2_region.specs.inner.Masks.{IsMask, plain_context}
 use Rattle.jbig2_region.specs.inner.Neighbours.{IsLeft, IsNear, SameAbove, Shows, left_pixels, nominal_pixels, stretch_pixels}
@@ -23,7 +22,8 @@ use Rattle.jbig2_region.specs.declared.generic_kernel.windows.Windows.{Windows}
 use Rattle.jbig2_region.proofs.CodesLemmas.{codes-next, counts-next, taken-bytes, taken-decisions, taken-digit, taken-others}
 use Rattle.jbig2_region.proofs.ContextBits.{context-append, length-side}
 use Rattle.jbig2_region.proofs.DecisionLemmas.{Decided}
-use Rattle.jbig2_region.proofs.RasterLemmas.{after_pixels-length, after_pixels-predicted, after_rows-length}
+use Rattle.jbig2_region.proofs.PlaceCounts.{decisions-by-rows, how_many-same}
+use Rattle.jbig2_region.proofs.PlaceLemmas.{at_pixel-length, at_pixel-plain}
 use Rattle.jbig2_region.proofs.RefinementKernelLemmas.{more}
 use Rattle.jbig2_region.proofs.RegisterLemmas.{left-few, left-whole}
 use Rattle.jbig2_region.proofs.StoreLemmas.{left-bit, stored-above, stored-push}
@@ -82,47 +82,26 @@ open-is : (skipped : Bool) → is_none (colour_of skipped) ≡ not skipped
 open-is true = refl
 open-is false = refl
 
-takes-kept : (template : List AdaptiveTemplatePixel) (skip : Option Grid) (w h x y : ℕ) (r : Region) → length r.pixels ≡ y * w + x → x < w → r.predicted ≡ false → takes_decision (skipping_coding template skip) w h r ≡ not (is_skipped skip x y)
+takes-kept : (template : List AdaptiveTemplatePixel) (skip : Option Grid) (w h : ℕ) (input : List ℕ) (start : Region) (n : ℕ) → length start.pixels ≡ 0 → start.predicted ≡ false → takes_decision (skipping_coding template skip) w h (at_pixel (skipping_coding template skip) w h input start n) ≡ not (is_skipped skip (n % w) (n / w))
 unfolding takes_decision
-takes-kept template skip w h x y r size inside plain =
-    let column : length r.pixels % w ≡ x = ap (λ (n : ℕ). n % w) size ∙ mod-mul-add y w x inside in
-    let row : length r.pixels / w ≡ y = ap (λ (n : ℕ). n / w) size ∙ div-mul-add y w x inside in
-    rw (column, row, plain) (open-is (is_skipped skip x y))
-
-row-kept : (template : List AdaptiveTemplatePixel) (skip : Option Grid) (w h : ℕ) (input : List ℕ) (y n : ℕ) (r : Region) → length r.pixels ≡ y * w → r.predicted ≡ false → n ≤ w → decided_pixels (skipping_coding template skip) w h input n r ≡ kept_in_row skip y n
-unfolding decided_pixels kept_in_row
-row-kept template skip w h input y zero r size plain few = refl
-row-kept template skip w h input y (suc n) r size plain few =
+takes-kept template skip w h input start n none plain =
     let coding : Coding = skipping_coding template skip in
-    let made : Region = after_pixels coding w h input n r in
-    let place : length made.pixels ≡ y * w + n = after_pixels-length coding w h input n r ∙ omega arith in
-    let next = takes-kept template skip w h n y made place (omega arith) (after_pixels-predicted coding w h input n r ∙ plain) in
-    rw (row-kept template skip w h input y n r size plain (omega arith), next) refl
+    let size : length (at_pixel coding w h input start n).pixels ≡ n = at_pixel-length coding w h input start n none in
+    let still : (at_pixel coding w h input start n).predicted ≡ false = at_pixel-plain coding w h input start n refl plain in
+    rw (size, still) (open-is (is_skipped skip (n % w) (n / w)))
 
-rows-plain : (template : List AdaptiveTemplatePixel) (skip : Option Grid) (w h : ℕ) (input : List ℕ) (n : ℕ) (start : Region) → start.predicted ≡ false → (after_rows (skipping_coding template skip) w h input n start).predicted ≡ false
-unfolding after_rows row_begun
-rows-plain template skip w h input zero start plain = plain
-rows-plain template skip w h input (suc n) start plain =
-    after_pixels-predicted (skipping_coding template skip) w h input w (after_rows (skipping_coding template skip) w h input n start) ∙ rows-plain template skip w h input n start plain
-
-begun-same : (input : List ℕ) (r : Region) → row_begun None input r ≡ r
-unfolding row_begun
-begun-same input r = refl
-
-rows-kept : (template : List AdaptiveTemplatePixel) (skip : Option Grid) (w h : ℕ) (input : List ℕ) (n : ℕ) (start : Region) → length start.pixels ≡ 0 → start.predicted ≡ false → decided_rows (skipping_coding template skip) w h input n start ≡ kept_pixels skip w n
-unfolding decided_rows kept_pixels
-rows-kept template skip w h input zero start none plain = refl
-rows-kept template skip w h input (suc n) start none plain =
+rows-kept : (template : List AdaptiveTemplatePixel) (skip : Option Grid) (w h : ℕ) (input : List ℕ) (start : Region) → length start.pixels ≡ 0 → start.predicted ≡ false → decided_rows (skipping_coding template skip) w h input h start ≡ kept_pixels skip w h
+unfolding pixel_decisions kept_pixels
+rows-kept template skip w h input start none plain =
     let coding : Coding = skipping_coding template skip in
-    let made : Region = after_rows coding w h input n start in
-    let is_plain : (row_begun None input made).predicted ≡ false = ap (λ (r : Region). r.predicted) (begun-same input made) ∙ rows-plain template skip w h input n start plain in
-    let row = row-kept template skip w h input n w (row_begun None input made) (after_rows-length coding w h input n start none) is_plain (omega arith) in
-    rw (rows-kept template skip w h input n start none plain, row) refl
+    sym (decisions-by-rows coding w h input start none)
+    ∙ how_many-same (λ n. takes_decision coding w h (at_pixel coding w h input start n)) (λ n. not (is_skipped skip (n % w) (n / w))) (w * h) (λ n _. takes-kept template skip w h input start n none plain)
 
 none-kept : (skip : Option Grid) (h : ℕ) → kept_pixels skip 0 h ≡ 0
-unfolding kept_pixels kept_in_row
-none-kept skip zero = refl
-none-kept skip (suc h) = rw (none-kept skip h) refl
+unfolding kept_pixels how_many
+none-kept skip h =
+    let empty : 0 * h ≡ 0 = omega arith in
+    ap (λ (k : ℕ). how_many (λ n. not (is_skipped skip (n % 0) (n / 0))) k) empty
 
 -- ---- whole regions
 pub skipping-empty : (skip : Option Grid) (w h : ℕ) (steps : Counts) → w ≡ 0 → CountsSkipping skip w h steps steps
@@ -140,10 +119,9 @@ pub skipping-region : (template : List AdaptiveTemplatePixel) (skip : Option Gri
     → Decided (skipping_coding template skip) w h input y start before.decisions after.decisions → after.run_tests ≡ before.run_tests → after.words ≤ before.words + y * skipping_words w → after.loads ≤ before.loads + y * skipping_loads w → KeepsLanes before after
     → CountsSkipping skip w h before after
 skipping-region template skip w h y input start before after all none plain counted tests words loads lanes =
-    let kept = rows-kept template skip w h input y start none plain in
-    let total : after.decisions ≡ before.decisions + kept_pixels skip w y = counted.total ∙ sum before.decisions y _ _ kept in
+    let counts : Decided (skipping_coding template skip) w h input h start before.decisions after.decisions = subst (λ (n : ℕ). Decided (skipping_coding template skip) w h input n start before.decisions after.decisions) all counted in
     record {
-      decisions = subst (λ (n : ℕ). after.decisions ≡ before.decisions + kept_pixels skip w n) all total;
+      decisions = counts.total ∙ sum before.decisions h _ _ (rows-kept template skip w h input start none plain);
       run_tests = tests;
       words = subst (λ (n : ℕ). after.words ≤ before.words + n * skipping_words w) all words;
       loads = subst (λ (n : ℕ). after.loads ≤ before.loads + n * skipping_loads w) all loads;

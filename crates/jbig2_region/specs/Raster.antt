@@ -54,7 +54,8 @@ abbrev pub row_decisions : Option ℕ → ℕ
 row_decisions None = 0
 row_decisions (Some _) = 1
 
--- The region as its next pixel finds it: where the pixels so far fill their rows, the next row begins.
+-- The region as its next pixel finds it (6.2.5.7, 6.3.5.6): where the pixels so far fill their rows, the next row
+-- begins.
 unfoldable pub at_next : Coding → ℕ → List ℕ → Region → Region
 at_next coding w bytes r = if length r.pixels % w == 0 then row_begun coding.row_context bytes r else r
 
@@ -63,6 +64,10 @@ unfoldable pub first_pixels : Coding → ℕ → ℕ → List ℕ → Region →
 first_pixels coding w h bytes start zero = start
 first_pixels coding w h bytes start (suc n) =
     after_pixel coding w h bytes (at_next coding w bytes (first_pixels coding w h bytes start n))
+
+-- the region as pixel n of the raster finds it
+abbrev pub at_pixel : Coding → ℕ → ℕ → List ℕ → Region → ℕ → Region
+at_pixel coding w h bytes start n = at_next coding w bytes (first_pixels coding w h bytes start n)
 
 -- no pixel yet, and a coder and contexts
 abbrev pub no_pixels : Registers → List Context → Region

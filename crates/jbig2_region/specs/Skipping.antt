@@ -1,8 +1,9 @@
 -- Generic regions of which pixels are skipped (T.88, 6.2.5.7, USESKIP): a skipped pixel is white and takes no decision.
-use Rattle.std.specs.Prelude.{◌≡◌, ℕ, zero, suc, ◌+◌, ◌*◌, ◌/◌, ◌≤◌, Bool, false, not, if◌then◌else◌, List, Option, Some, None, pos, negsuc, ◌+ℤ◌}
+use Rattle.std.specs.Prelude.{◌≡◌, ℕ, ◌+◌, ◌*◌, ◌/◌, ◌%◌, ◌≤◌, Bool, false, not, if◌then◌else◌, List, Option, Some, None, pos, negsuc, ◌+ℤ◌}
 use Rattle.std.specs.Borrow.{Bor}
 use Rattle.jbig2_base.specs.Counts.{Counts, KeepsLanes}
-use Rattle.jbig2_base.specs.Grid.{Grid, pixel, pixel_at, bit_number}
+use Rattle.jbig2_base.specs.Grid.{Grid, pixel, pixel_at}
+use Rattle.jbig2_region.specs.Decisions.{how_many}
 use Rattle.jbig2_region.specs.Generic.{context_at}
 use Rattle.jbig2_region.specs.Raster.{Coding}
 use Rattle.jbig2_region.specs.Templates.{row_context}
@@ -40,15 +41,9 @@ skip_of None = None
 skip_of (Some skip) = Some skip.now
 
 -- ---- steps (our own rule), where the adaptive pixels are nominal
--- how many of the first n pixels of row y are not skipped
-unfoldable pub kept_in_row : Option Grid → ℕ → ℕ → ℕ
-kept_in_row skip y zero = 0
-kept_in_row skip y (suc n) = kept_in_row skip y n + bit_number (not (is_skipped skip n y))
-
--- how many in the first n rows of w pixels
+-- how many pixels of a region of w columns and h rows are not skipped
 unfoldable pub kept_pixels : Option Grid → ℕ → ℕ → ℕ
-kept_pixels skip w zero = 0
-kept_pixels skip w (suc n) = kept_pixels skip w n + kept_in_row skip n w
+kept_pixels skip w h = how_many (λ n. not (is_skipped skip (n % w) (n / w))) (w * h)
 
 -- loads of a row of w pixels: for 32 columns one window on the mask, and one on each of the two rows above
 abbrev pub skipping_loads : ℕ → ℕ

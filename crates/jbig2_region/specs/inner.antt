@@ -8,4 +8,5 @@ pub mod RefinementBlocks
 pub mod RefinementLanes
 pub mod RefinementViews
 pub mod RefinementWindows
+pub mod RowCounts
 pub mod Rows

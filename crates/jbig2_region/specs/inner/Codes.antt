@@ -3,7 +3,7 @@ use Rattle.std.specs.Prelude.{◌≡◌, ◌+◌, ◌*◌, ℕ, Bool, List, Opti
 use Rattle.jbig2_base.specs.Counts.{Counts}
 use Rattle.jbig2_base.specs.Grid.{Grid, bit_number}
 use Rattle.jbig2_coder.specs.Coder.{Coder, Context, Decision, fresh, decision}
-use Rattle.jbig2_region.specs.Decisions.{decided_pixels}
+use Rattle.jbig2_region.specs.inner.RowCounts.{decided_pixels}
 use Rattle.jbig2_region.specs.inner.Holds.{Holds}
 use Rattle.jbig2_region.specs.Raster.{Coding, Region}
 use Rattle.jbig2_region.specs.inner.Rows.{after_pixels}

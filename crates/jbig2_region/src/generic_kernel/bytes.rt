@@ -2,7 +2,7 @@
 ghost use Rattle.std.specs.Prelude.{◌≡◌, ℕ, ◌+◌, ◌-◌, ◌*◌, ◌/◌, ◌%◌, ◌^◌, ◌<◌, ◌≤◌, false, length, if◌then◌else◌};
 ghost use Rattle.jbig2_base.specs.Counts.{KeepsLanes};
 ghost use Rattle.jbig2_region.specs.inner.Neighbours.{DecodesPixels, IsLeft, IsNear, SameAbove, Shows, ShowsGroup, ShowsRun, neighbour_count, nominal_pixels};
-ghost use Rattle.jbig2_region.specs.RunBytes.{CountsRuns};
+ghost use Rattle.jbig2_region.specs.inner.RowCounts.{CountsRuns};
 
 use crate::generic_kernel::runs::take_runs;
 use crate::generic_kernel::windows::{

@@ -4,7 +4,7 @@ ghost use Rattle.std.specs.Prelude.{◌≡◌, ◌+◌, ◌-◌, ◌*◌, ◌/�
 ghost use Rattle.jbig2_base.specs.Counts.{KeepsLanes};
 ghost use Rattle.jbig2_region.specs.inner.Layouts.{neighbours_of};
 ghost use Rattle.jbig2_region.specs.inner.Neighbours.{DecodesPixels, IsNear, neighbour_count, nominal_pixels};
-ghost use Rattle.jbig2_region.specs.RunBytes.{CountsRuns};
+ghost use Rattle.jbig2_region.specs.inner.RowCounts.{CountsRuns};
 
 use crate::generic_kernel::bytes::decode_row_by_bytes;
 use crate::template::layouts::neighbours_of;

@@ -5,7 +5,8 @@ use Rattle.jbig2_region.specs.inner.Holds.{Holds}
 use Rattle.jbig2_region.specs.inner.Neighbours.{DecodesPixels, is_nominal_layout, layout_coding, layout_loads, layout_pixels}
 use Rattle.jbig2_region.specs.Raster.{Region, no_pixels}
 use Rattle.jbig2_region.specs.inner.Rows.{after_rows}
-use Rattle.jbig2_region.specs.RunBytes.{row_loads, row_tests, row_words, coded_rows}
+use Rattle.jbig2_region.specs.RunBytes.{row_loads, row_tests, row_words}
+use Rattle.jbig2_region.specs.inner.RowCounts.{coded_rows}
 use Rattle.jbig2_region.proofs.PlaceLemmas.{region-empty, region-whole}
 use Rattle.jbig2_region.proofs.RasterLemmas.{after_rows-none, region-start}
 use Rattle.jbig2_region.proofs.RegionLemmas.{counted-none, counted-next, predicted-next, loads-next, tests-next, layout-step, empty-counts, region-counts}
@@ -86,5 +87,5 @@ returns-clause-holds g c =
 
 pub returns-clause-steps : goal.returns-clause-steps
 returns-clause-steps g c =
-    region-counts (layout_pixels c.args.layout.now) (is_nominal_layout c.args.layout.now.adaptive) (layout_loads c.args.layout.now.adaptive) (layout_coding c.args.layout.now c.args.row_context) c.args.bitmap.now.width c.args.bitmap.now.height c.loop-y.y c.args.decoder.now.bytes (no_pixels c.args.decoder.now.registers c.args.contexts.now) c.args.steps.now c.loop-y.steps
-    (λ none. c.if-width-eq0.false (c.width.ensures.value ∙ none)) (omega arith) c.loop-y.invariant.none c.loop-y.invariant.decisions c.loop-y.invariant.run_tests c.loop-y.invariant.words c.loop-y.invariant.loads c.loop-y.invariant.lanes
+    region-counts (layout_pixels c.args.layout.now) c.args.row_context (is_nominal_layout c.args.layout.now.adaptive) (layout_loads c.args.layout.now.adaptive) c.args.bitmap.now.width c.args.bitmap.now.height c.loop-y.y c.args.decoder.now.bytes (no_pixels c.args.decoder.now.registers c.args.contexts.now) c.args.steps.now c.loop-y.steps
+    refl (λ none. c.if-width-eq0.false (c.width.ensures.value ∙ none)) (omega arith) c.loop-y.invariant.none c.loop-y.invariant.decisions c.loop-y.invariant.run_tests c.loop-y.invariant.words c.loop-y.invariant.loads c.loop-y.invariant.lanes

@@ -82,7 +82,7 @@ returns-clause-holds g c =
 pub returns-clause-steps : goal.returns-clause-steps
 returns-clause-steps g c =
     decided-region (g.C.PixelCoding.coding c.args.coding.now) (c.args.bitmap.now.width * (g.C.PixelCoding.bits c.args.coding.now + g.C.PixelCoding.known_loads c.args.coding.now)) c.args.bitmap.now.width c.args.bitmap.now.height c.loop-y.y c.args.decoder.now.bytes (no_pixels c.args.decoder.now.registers c.args.contexts.now) c.args.steps.now c.loop-y.steps
-    (λ none. c.if-width-eq0.false (c.width.ensures.value ∙ none)) (omega arith) c.loop-y.invariant.none c.loop-y.invariant.decisions c.loop-y.invariant.run_tests c.loop-y.invariant.words c.loop-y.invariant.loads
+    refl (λ none. c.if-width-eq0.false (c.width.ensures.value ∙ none)) (omega arith) c.loop-y.invariant.none c.loop-y.invariant.decisions c.loop-y.invariant.run_tests c.loop-y.invariant.words c.loop-y.invariant.loads
 
 pub returns-clause-empty : goal.returns-clause-empty
 returns-clause-empty g c = λ product. c.loop-y.invariant.none (no-rows c.args.bitmap.now.width c.args.bitmap.now.height c.loop-y.y (λ none. c.if-width-eq0.false (c.width.ensures.value ∙ none)) (omega arith) product)

@@ -107,6 +107,6 @@ returns-clause-steps g c =
     let still : c.loop-y.y ≤ c.loop-y.y = omega arith in
     let enough : c.loop-y.y * 10 ≤ c.loop-y.y * window_loads w = mul-le-mul still ten in
     decided-region coding (window_loads w) w h c.loop-y.y c.args.decoder.now.bytes start c.args.steps.now c.loop-y.steps
-    (λ none. absurd (omega (arith, c.requires.some))) all (λ none. absurd (omega (arith, c.requires.rows)))
+    refl (λ none. absurd (omega (arith, c.requires.some))) all (λ none. absurd (omega (arith, c.requires.rows)))
     (subst (λ (n : ℕ). Decided coding w h c.args.decoder.now.bytes c.loop-y.y start n c.loop-y.steps.decisions) decided c.loop-y.invariant.decisions)
     (c.loop-y.invariant.run_tests ∙ tested) (subst (λ (n : ℕ). c.loop-y.steps.words ≤ n + c.loop-y.y * w) same c.loop-y.invariant.words) (omega (arith, enough, more, c.loop-y.invariant.loads, c.requires.rows))

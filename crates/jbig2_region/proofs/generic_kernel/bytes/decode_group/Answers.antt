@@ -1,7 +1,7 @@
 use Rattle.std.proofs.Common.{arith, refl, false, subst, ◌≡◌, ◌+◌, ◌*◌, ℕ, ◌∙◌}
 use Rattle.jbig2_base.proofs.LaneCounts.{lanes-none, lanes-then}
 use Rattle.jbig2_region.specs.inner.Neighbours.{DecodesPixels, IsLeft, nominal_pixels}
-use Rattle.jbig2_region.specs.RunBytes.{CountsRuns}
+use Rattle.jbig2_region.specs.inner.RowCounts.{CountsRuns}
 use Rattle.jbig2_region.proofs.CountLemmas.{counts-none, counts-then}
 use Rattle.jbig2_region.proofs.GroupLemmas.{group-same}
 use Rattle.jbig2_region.proofs.StoreLemmas.{decodes-none, decodes-then}

@@ -1,7 +1,7 @@
 use Rattle.std.proofs.Common.{◌≡◌, ◌<◌, ◌≤◌, ◌+◌, ◌-◌, ◌*◌, false}
 use Rattle.jbig2_base.specs.Counts.{KeepsLanes}
 use Rattle.jbig2_region.specs.inner.Neighbours.{DecodesPixels, IsLeft, SameAbove, nominal_pixels}
-use Rattle.jbig2_region.specs.RunBytes.{CountsRuns}
+use Rattle.jbig2_region.specs.inner.RowCounts.{CountsRuns}
 use Rattle.jbig2_region.proofs.generic_kernel.bytes.decode_group.Given as goal
 
 abbrev pub invariant-loop-done : goal.invariant-loop-done

@@ -3,7 +3,7 @@ use Rattle.std.proofs.lemmas.Bool.{cases_lt}
 use Rattle.jbig2_base.proofs.LaneCounts.{lanes-none, lanes-then}
 use Rattle.jbig2_base.specs.Counts.{Counts, KeepsLanes}
 use Rattle.jbig2_region.specs.inner.Neighbours.{DecodesPixels, IsLeft, Shows, ShowsBefore, nominal_pixels}
-use Rattle.jbig2_region.specs.RunBytes.{CountsRuns}
+use Rattle.jbig2_region.specs.inner.RowCounts.{CountsRuns}
 use Rattle.jbig2_region.proofs.CarriedLemmas.{shows-before, shows-none_before}
 use Rattle.jbig2_region.proofs.CountLemmas.{counts-none, counts-then, counts-last}
 use Rattle.jbig2_region.proofs.StoreLemmas.{decodes-none, decodes-then, left-none}
