@@ -12,6 +12,7 @@ use Rattle.jbig2_region.specs.Raster.{Coding, Region, so_far, with_next, after_p
 use Rattle.jbig2_region.specs.inner.Rows.{after_pixels, after_rows}
 use Rattle.jbig2_region.specs.inner.Holds.{Holds, BeginsRow}
 use Rattle.jbig2_coder.specs.Coder.{Coder, Context, Decision, fresh, decision}
+use Rattle.jbig2_mmr.specs.T6.{differ}
 
 not_here : (b p q : Bool) → (p && q) ≡ false → (b && p && q) ≡ false
 not_here false p q e = refl
@@ -109,6 +110,10 @@ pub begun-plainly : (w h : ℕ) (row_context : Option ℕ) (r : Region) (p : Boo
 unfolding row_begun
 begun-plainly w h row_context r p grid coder states none predicted holds = rw none (record { holds = holds; predicted = predicted })
 
+turned : (symbol p : Bool) → differ symbol p ≡ cond symbol (not p) p
+turned true p = refl
+turned false p = refl
+
 pub begun-decided : (w h : ℕ) (row_context : Option ℕ) (r : Region) (p symbol after : Bool) (grid : Grid) (coder next : Coder) (states : List Context) (k : ℕ) (old new : Context) → row_context ≡ Some k → r.predicted ≡ p → old ≡ get_or states k fresh → (decision coder.bytes coder.registers old).symbol ≡ symbol → after ≡ cond symbol (not p) p → next ≡ record coder { registers = (decision coder.bytes coder.registers old).registers } → new ≡ (decision coder.bytes coder.registers old).context → Holds w h coder.bytes r grid coder states → BeginsRow w h row_context r after grid coder next (set states k new)
 unfolding row_begun
 begun-decided w h row_context r p symbol after grid coder next states k old new some predicted is_old is_symbol is_after is_next is_new holds =
@@ -123,7 +128,7 @@ begun-decided w h row_context r p symbol after grid coder next states k old new 
         registers = ap (λ (c : Coder). c.registers) is_next ∙ ap (λ (q : Decision). q.registers) same;
         contexts = ap (λ (n : Context). set states k n) (is_new ∙ ap (λ (q : Decision). q.context) same) ∙ ap (λ (s : List Context). set s k e.context) holds.contexts;
       };
-      predicted = ap (λ (b : Bool). cond b (not r.predicted) r.predicted) (sym (ap (λ (q : Decision). q.symbol) same) ∙ is_symbol) ∙ ap (λ (b : Bool). cond symbol (not b) b) predicted ∙ sym is_after;
+      predicted = ap (λ (b : Bool). differ b r.predicted) (sym (ap (λ (q : Decision). q.symbol) same) ∙ is_symbol) ∙ ap (λ (b : Bool). differ symbol b) predicted ∙ turned symbol p ∙ sym is_after;
     })
 
 pub some-inside : (row_context : Option ℕ) (k n : ℕ) → row_context ≡ Some k → IfSome row_context (λ (k : ℕ). k < n) → k < n

@@ -1,7 +1,8 @@
 -- Regions that are decoded pixel by pixel, row by row from the top and each row from the left (T.88, 6.2.5 and 6.3.5).
-use Rattle.std.specs.Prelude.{ℕ, suc, zero, ◌+◌, ◌*◌, ◌/◌, ◌%◌, ◌^◌, ◌==◌, Bool, false, not, if◌then◌else◌, List, [], ◌∷◌, ◌++◌, length, replicate, slice_index_or, slice_set, Option, Some, None}
+use Rattle.std.specs.Prelude.{ℕ, suc, zero, ◌+◌, ◌*◌, ◌/◌, ◌%◌, ◌^◌, ◌==◌, Bool, false, if◌then◌else◌, List, [], ◌∷◌, ◌++◌, length, replicate, slice_index_or, slice_set, Option, Some, None}
 use Rattle.jbig2_base.specs.Grid.{Grid, grid_of}
 use Rattle.jbig2_coder.specs.Coder.{Context, fresh, decision}
+use Rattle.jbig2_mmr.specs.T6.{differ}
 use Rattle.jbig2_coder.specs.declared.arithmetic_decoder.registers.Registers.{Registers}
 
 -- The grid of the pixels decoded so far; a pixel that is not decoded yet is white.
@@ -38,13 +39,14 @@ after_pixel coding w h bytes r =
     let g = so_far w h r.pixels in
     with_next bytes r (coding.context g (n % w) (n / w)) (coding.known r.predicted g (n % w) (n / w))
 
--- With typical prediction a row begins with a decision; 1 turns it round whether rows are predicted (6.2.5.7).
+-- With typical prediction a row begins with a decision. LTP, whether rows are predicted, is the exclusive or of all these
+-- bits so far (6.2.5.7).
 unfoldable pub row_begun : Option ℕ → List ℕ → Region → Region
 row_begun None bytes r = r
 row_begun (Some k) bytes r =
     let d = decision bytes r.registers (slice_index_or r.contexts k fresh) in
     record r {
-      predicted = (if d.symbol then not r.predicted else r.predicted);
+      predicted = differ d.symbol r.predicted;
       registers = d.registers;
       contexts = slice_set r.contexts k d.context;
     }
