@@ -2,6 +2,7 @@ pub mod Answered
 pub mod BitFieldLemmas
 pub mod BitLemmas
 mod BlockLemmas
+mod CauseSteps
 pub mod Causes
 pub mod ColourLemmas
 mod CombineLemmas
@@ -10,13 +11,16 @@ mod Extends
 mod FileRows
 pub mod FillLemmas
 pub mod GridLemmas
+pub mod InitialCauses
 pub mod LaneCounts
 mod NumberLemmas
 mod PackedLemmas
+pub mod PageCauses
 pub mod RandomAccess
 pub mod ReaderLemmas
 mod RunLemmas
 pub mod SearchLemmas
+pub mod SegmentCauses
 pub mod SegmentLemmas
 pub mod Sequential
 pub mod Sorting

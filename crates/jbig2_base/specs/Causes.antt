@@ -1,11 +1,20 @@
 -- Which rule the bytes break where a parser of this crate refuses them (docs/FORMAT.md), a line for each error.
-use Rattle.std.specs.Prelude.{◌≡◌, ◌≢◌, ◌<◌, ◌≤◌, ℕ, List, take, drop, length, IfErr}
-use Rattle.std.specs.Int.{Width, w8, byte_len, from_be_bytes}
+use Rattle.std.specs.Prelude.{◌≡◌, ◌≢◌, ◌<◌, ◌≤◌, ◌+◌, ◌*◌, ◌-◌, ◌/◌, ◌%◌, ◌^◌, ◌==◌, ◌⊎◌, ℕ, Bool, true, List, [], ◌∷◌, take, drop, length, All, Any, Option, Some, None, Ok, IfErr, if◌then◌else◌}
+use Rattle.std.specs.Int.{Width, w8, w32, byte_len, from_be_bytes}
+use Rattle.jbig2_base.specs.EndMarker.{adaptive_bytes, unknown_length_of}
 use Rattle.jbig2_base.specs.FileHeader.{file_header_at, identification}
+use Rattle.jbig2_base.specs.Operator.{operator_of}
+use Rattle.jbig2_base.specs.PageInfo.{information_at, height_of, initial_page_of, initial_page_with}
+use Rattle.jbig2_base.specs.Segment.{SegmentView, coded_number, number_size, header_at, data_at, segment_at}
 use Rattle.jbig2_base.specs.declared.error.DecodeError.{DecodeError}
-use Rattle.jbig2_base.specs.declared.error.DecodeError.TheVariants.{Parse, Format}
-use Rattle.jbig2_base.specs.declared.error.FormatError.TheVariants.{InvalidHeader, ReservedBits}
+use Rattle.jbig2_base.specs.declared.error.DecodeError.TheVariants.{Parse, Format, Segment, Region, Overflow}
+use Rattle.jbig2_base.specs.declared.error.FormatError.TheVariants.{InvalidHeader, ReservedBits, MissingPageInfo, UnknownPageHeight, EmptyPage}
+use Rattle.jbig2_base.specs.declared.error.OverflowError.TheVariants.{BitmapDimension}
 use Rattle.jbig2_base.specs.declared.error.ParseError.TheVariants.{UnexpectedEof}
+use Rattle.jbig2_base.specs.declared.error.RegionError.TheVariants.{InvalidCombinationOperator}
+use Rattle.jbig2_base.specs.declared.error.SegmentError.TheVariants.{UnknownType, InvalidReferredCount, InvalidReference, InvalidUnknownLength, MissingEndMarker}
+use Rattle.jbig2_base.specs.declared.page_info.PageInformation.{PageInformation}
+use Rattle.jbig2_base.specs.declared.segment.SegmentType.TheVariants as types
 
 -- the number that stands at this byte, high byte first
 abbrev pub number_in : Width → ℕ → List ℕ → ℕ
@@ -20,3 +29,99 @@ BreaksFileHeader bytes _ = ⊥
 
 abbrev pub FileHeadersHaveCauses : Type 0
 FileHeadersHaveCauses = (bytes : List ℕ) → IfErr (file_header_at bytes) (BreaksFileHeader bytes)
+
+-- ---- page information and the beginning of a page (7.4.8)
+-- Page information has 19 bytes.
+abbrev pub BreaksInformation : List ℕ → DecodeError → Type 0
+BreaksInformation bytes (Parse UnexpectedEof) = length bytes < 19
+BreaksInformation bytes _ = ⊥
+
+abbrev pub InformationHasCauses : Type 0
+InformationHasCauses = (bytes : List ℕ) → IfErr (information_at bytes) (BreaksInformation bytes)
+
+-- The first page information among the segments has these bytes.
+abbrev pub FirstInformation : (List ℕ → Type 0) → List SegmentView → Type 0
+FirstInformation P [] = ⊥
+FirstInformation P (p ∷ ps) =
+    ((p.header.segment_type ≡ types.PageInformation) × P p.bytes)
+    ⊎ ((p.header.segment_type ≢ types.PageInformation) × FirstInformation P ps)
+
+-- an end of stripe that tells a height: four bytes, not all ones (7.4.10)
+abbrev pub TellsHeight : SegmentView → Type 0
+TellsHeight p = (p.header.segment_type ≡ types.EndOfStripe) × (length p.bytes ≡ 4) × (number_in w32 0 p.bytes ≢ 4294967295)
+
+-- a stripe that ends below row 65534
+abbrev pub TellsTooMuch : SegmentView → Type 0
+TellsTooMuch p = (p.header.segment_type ≡ types.EndOfStripe) × (length p.bytes ≡ 4) × (65535 ≤ number_in w32 0 p.bytes)
+
+-- a width or a stated height above 65535, or an unknown one
+abbrev pub StatesTooMuch : List ℕ → Type 0
+StatesTooMuch bytes = (65535 < number_in w32 0 bytes) ⊎ ((65535 < number_in w32 4 bytes) × (number_in w32 4 bytes ≢ 4294967295))
+
+-- The page's first segment of type 48 has the width in its first four bytes and the height in the next four.
+abbrev pub BreaksInitialPage : List SegmentView → DecodeError → Type 0
+BreaksInitialPage ps (Format MissingPageInfo) = All (λ p. p.header.segment_type ≢ types.PageInformation) ps
+BreaksInitialPage ps (Parse UnexpectedEof) = FirstInformation (λ bytes. length bytes < 19) ps
+BreaksInitialPage ps (Format UnknownPageHeight) = FirstInformation (λ bytes. number_in w32 4 bytes ≡ 4294967295) ps × All (λ p. TellsHeight p → ⊥) ps
+BreaksInitialPage ps (Format EmptyPage) = FirstInformation (λ bytes. (19 ≤ length bytes) × ((number_in w32 0 bytes ≡ 0) ⊎ (number_in w32 4 bytes ≡ 0))) ps
+BreaksInitialPage ps (Overflow BitmapDimension) = FirstInformation StatesTooMuch ps ⊎ (FirstInformation (λ bytes. number_in w32 4 bytes ≡ 4294967295) ps × Any TellsTooMuch ps)
+BreaksInitialPage ps _ = ⊥
+
+abbrev pub InitialPagesHaveCauses : Type 0
+InitialPagesHaveCauses = (ps : List SegmentView) → IfErr (initial_page_of ps) (BreaksInitialPage ps)
+
+-- ---- combination operators (7.4.1.5)
+abbrev pub BreaksOperator : ℕ → DecodeError → Type 0
+BreaksOperator n (Region InvalidCombinationOperator) = 5 ≤ n
+BreaksOperator n _ = ⊥
+
+abbrev pub OperatorsHaveCauses : Type 0
+OperatorsHaveCauses = (n : ℕ) → IfErr (operator_of n) (BreaksOperator n)
+
+-- ---- segment headers (7.2)
+-- the numbers of 7.3's types
+abbrev pub listed_types : List ℕ
+listed_types = 0 ∷ 4 ∷ 6 ∷ 7 ∷ 16 ∷ 20 ∷ 22 ∷ 23 ∷ 36 ∷ 38 ∷ 39 ∷ 40 ∷ 42 ∷ 43 ∷ 48 ∷ 49 ∷ 50 ∷ 51 ∷ 52 ∷ 53 ∷ 54 ∷ 62 ∷ []
+
+-- how many segments are referred to: byte 5's top three bits, or where they are 7 what follows these bits in bytes 5 to 8
+abbrev pub referred_count : List ℕ → ℕ
+referred_count bytes =
+    if number_in w8 5 bytes / 32 == 7 then number_in w32 5 bytes - 7 * 2 ^ 29
+    else number_in w8 5 bytes / 32
+
+-- where the first referred number stands: behind the count and the retention flags of a long count
+abbrev pub referred_place : List ℕ → ℕ
+referred_place bytes = if number_in w8 5 bytes / 32 == 7 then 9 + (referred_count bytes + 8) / 8 else 6
+
+-- where the page association stands, and the data length behind it
+abbrev pub page_place : List ℕ → ℕ
+page_place bytes = referred_place bytes + referred_count bytes * number_size (number_in w32 0 bytes)
+
+abbrev pub length_place : List ℕ → ℕ
+length_place bytes = page_place bytes + (if number_in w8 4 bytes / 64 % 2 == 1 then 4 else 1)
+
+-- how many bytes the header has, as its own fields state it
+abbrev pub header_size : List ℕ → ℕ
+header_size bytes = length_place bytes + 4
+
+-- the length of the data as it is stated
+abbrev pub stated_length : List ℕ → Option ℕ
+stated_length bytes =
+    if number_in w32 (length_place bytes) bytes == 4294967295 then None
+    else Some (number_in w32 (length_place bytes) bytes)
+
+-- the referred number with this index
+abbrev pub referred_number : List ℕ → ℕ → ℕ
+referred_number bytes k = coded_number (number_in w32 0 bytes) (drop (referred_place bytes + k * number_size (number_in w32 0 bytes)) bytes)
+
+-- A header's first four bytes are its segment's number; byte 4 has the type in its low six bits.
+abbrev pub BreaksHeader : Bool → List ℕ → DecodeError → Type 0
+BreaksHeader strict bytes (Parse UnexpectedEof) = length bytes < header_size bytes
+BreaksHeader strict bytes (Segment UnknownType) = (strict ≡ true) × (5 ≤ length bytes) × All (λ n. number_in w8 4 bytes % 64 ≢ n) listed_types
+BreaksHeader strict bytes (Segment InvalidReferredCount) = (6 ≤ length bytes) × ((number_in w8 5 bytes / 32 ≡ 5) ⊎ (number_in w8 5 bytes / 32 ≡ 6))
+BreaksHeader strict bytes (Segment InvalidReference) = (page_place bytes ≤ length bytes) × ((k : ℕ) × (k < referred_count bytes) × (number_in w32 0 bytes ≤ referred_number bytes k))
+BreaksHeader strict bytes (Segment InvalidUnknownLength) = (strict ≡ true) × (header_size bytes ≤ length bytes) × (number_in w32 (length_place bytes) bytes ≡ 4294967295) × (number_in w8 4 bytes % 64 ≢ 38)
+BreaksHeader strict bytes _ = ⊥
+
+unfoldable pub HeadersHaveCauses : Type 0
+HeadersHaveCauses = (strict : Bool) (bytes : List ℕ) → IfErr (header_at strict bytes) (BreaksHeader strict bytes)

@@ -2,6 +2,7 @@
 ghost use Rattle.std.specs.Prelude.{◌≡◌, ◌+◌, ◌<◌, ◌≤◌, Ok, IfOk, OnErr, OnOk, Option, length};
 ghost use Rattle.jbig2_base.specs.Answer.{Answers};
 ghost use Rattle.jbig2_base.specs.Bits.{IsAligned};
+ghost use Rattle.jbig2_base.specs.Causes.{InformationHasCauses, InitialPagesHaveCauses};
 ghost use Rattle.jbig2_base.specs.PageInfo.{default_operator_of, flags_of, striping_of, resolution_of, information_at, is_page_information, is_end_of_stripe, first_information, stripe_height, stripes_height, height_of, initial_page_with, initial_page_of};
 ghost use Rattle.jbig2_base.specs.Parsing.{Parses};
 ghost use Rattle.jbig2_base.specs.inner.SegmentViews.{segment_view, segment_views};
@@ -103,10 +104,11 @@ fn resolution(number: u32) -> Option<u32>
 ///
 /// `ParseError::UnexpectedEof` where the bytes do not hold them, which leaves the reader where it
 /// was. Takes no memory.
-#[tactic(auto, unfolding(crate::specs::PageInfo::information_at))]
+#[tactic(auto, using(crate::proofs::PageCauses::information_causes), unfolding(crate::specs::PageInfo::information_at))]
 pub fn parse_page_information(reader: &mut Reader<'_>) -> Result<PageInformation>
     requires { IsAligned reader.old }
-    ensures { Parses reader.old reader.new result (λ p. p) (information_at reader.old.bytes) }
+    ensures causes { InformationHasCauses }
+    ensures parses { Parses reader.old reader.new result (λ p. p) (information_at reader.old.bytes) }
 {
     let mut ahead = reader.duplicate();
     let width = u32_field(&mut ahead)?;
@@ -216,8 +218,9 @@ impl InitialPage {
     /// `FormatError::MissingPageInfo`, `UnknownPageHeight` or `EmptyPage`,
     /// `ParseError::UnexpectedEof` where the segment is too short, `OverflowError::BitmapDimension`
     /// above 65535 pixels either way. Takes no memory.
-    #[tactic(auto, unfolding(crate::specs::PageInfo::initial_page_of))]
+    #[tactic(auto, using(crate::proofs::InitialCauses::initial_page_causes), unfolding(crate::specs::PageInfo::initial_page_of))]
     pub fn of_segments<A: Allocator>(segments: &[Segment<'_, A>]) -> Result<InitialPage>
+        ensures causes { InitialPagesHaveCauses }
         ensures value { Answers (λ initial_page. initial_page) result
             (initial_page_of (segment_views segments.now)) }
         ensures fits { IfOk result

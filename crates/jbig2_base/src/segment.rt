@@ -6,6 +6,7 @@ ghost use Rattle.std.specs.Option.{ForSome};
 ghost use Rattle.std.specs.Bool.{OnTrue};
 ghost use Rattle.jbig2_base.specs.Answer.{Answers, Gives};
 ghost use Rattle.jbig2_base.specs.Bits.{IsAligned};
+ghost use Rattle.jbig2_base.specs.Causes.{HeadersHaveCauses};
 ghost use Rattle.jbig2_base.specs.Parsing.{Parses, Takes};
 ghost use Rattle.jbig2_base.specs.Segment.{type_of, is_reserved, is_immediate_generic, short_or_long_at, long_count_at, count_at, number_size, coded_number, numbers_in, referred_at, page_at, length_of, header_at, data_at, segment_data_at, segment_at};
 ghost use Rattle.jbig2_base.specs.inner.SegmentViews.{header_view, segment_view};
@@ -257,13 +258,14 @@ fn data_length(strict: bool, kind: SegmentType, number: u32) -> Result<Option<u3
 /// In strict mode a type that is not listed answers `SegmentError::UnknownType`, and an unknown
 /// length of another segment than an immediate generic region `SegmentError::InvalidUnknownLength`.
 /// An error leaves the reader where it was.
-#[tactic(auto, unfolding(crate::specs::Segment::header_at))]
+#[tactic(auto, using(crate::proofs::SegmentCauses::header_causes), unfolding(crate::specs::Segment::header_at))]
 pub fn parse_segment_header<A: Allocator>(
     alloc: A,
     reader: &mut Reader<'_>,
     strict: bool,
 ) -> Result<SegmentHeader<A>>
     requires { IsAligned reader.old }
+    ensures causes { HeadersHaveCauses }
     ensures parses { Takes reader.old reader.new result header_view
         (header_at strict reader.old.bytes) }
     ensures taken { OnOk result (length reader.new.bytes < length reader.old.bytes) }

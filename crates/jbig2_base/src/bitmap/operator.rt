@@ -1,6 +1,7 @@
 //! How a region is combined with what lies under it (T.88, 7.4.1.5).
 ghost use Rattle.std.specs.Prelude.{◌%◌};
 ghost use Rattle.jbig2_base.specs.Answer.{Answers};
+ghost use Rattle.jbig2_base.specs.Causes.{OperatorsHaveCauses};
 ghost use Rattle.jbig2_base.specs.Operator.{operator_of};
 
 use crate::error::{DecodeError, RegionError, Result};
@@ -23,8 +24,10 @@ pub enum CombinationOperator {
 impl CombinationOperator {
     /// The operator that the low three bits of `value` name; 5 to 7 name none
     /// (`RegionError::InvalidCombinationOperator`).
+    #[tactic(auto, using(crate::proofs::PageCauses::operator_causes))]
     pub fn from_value(value: u8) -> Result<CombinationOperator>
-        ensures { Answers (λ operator. operator) result (operator_of (value % 8)) }
+        ensures causes { OperatorsHaveCauses }
+        ensures value { Answers (λ operator. operator) result (operator_of (value % 8)) }
     {
         match value % 8 {
             0 => Ok(CombinationOperator::Or),

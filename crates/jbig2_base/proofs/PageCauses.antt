@@ -1,0 +1,44 @@
+-- Which rule page information and its page break.
+use Rattle.std.proofs.Common.{◌≡◌, ℕ, ◌<◌, ◌≤◌, eqb, Bool, true, false, List, [], ◌∷◌, drop, length, Result, Ok, Err, refl, sym, ◌∙◌, ap, arith}
+use Rattle.std.specs.Prelude.{IfErr}
+use Rattle.std.specs.Int.{Width, w8, w16, w32}
+use Rattle.std.proofs.lemmas.Bool.Decides.{nat_tests}
+use Rattle.std.proofs.lemmas.Bool.{cond_both, eqb-false}
+use Rattle.jbig2_base.specs.Causes.{BreaksInformation, InformationHasCauses, BreaksOperator, OperatorsHaveCauses, number_in}
+use Rattle.jbig2_base.specs.Fields.{end_of_bytes}
+use Rattle.jbig2_base.specs.Operator.{operator_of}
+use Rattle.jbig2_base.specs.PageInfo.{information_at}
+use Rattle.jbig2_base.specs.declared.bitmap.operator.CombinationOperator.{CombinationOperator}
+use Rattle.jbig2_base.specs.declared.error.DecodeError.{DecodeError}
+use Rattle.jbig2_base.specs.declared.page_info.PageInformation.{PageInformation}
+use Rattle.jbig2_base.proofs.CauseSteps.{Told, told-cause, next-number}
+
+-- page information states its size in its first eight bytes
+abbrev pub HasSize : List ℕ → PageInformation × List ℕ → Type 0
+HasSize bytes x = (19 ≤ length bytes) × (x.0.width ≡ number_in w32 0 bytes) × (x.0.height ≡ number_in w32 4 bytes)
+
+pub information-told : (P : DecodeError → Type 0) (bytes : List ℕ) → (length bytes < 19 → P end_of_bytes) → Told (HasSize bytes) P (information_at bytes)
+unfolding information_at
+information-told P bytes why =
+    let Q : PageInformation × List ℕ → Type 0 = HasSize bytes in
+    next-number Q P w32 bytes 0 _ (omega arith) (λ cut. why (omega (arith, cut))) (λ at_4.
+    next-number Q P w32 bytes 4 _ at_4 (λ cut. why (omega (arith, cut))) (λ at_8.
+    next-number Q P w32 bytes 8 _ at_8 (λ cut. why (omega (arith, cut))) (λ at_12.
+    next-number Q P w32 bytes 12 _ at_12 (λ cut. why (omega (arith, cut))) (λ at_16.
+    next-number Q P w8 bytes 16 _ at_16 (λ cut. why (omega (arith, cut))) (λ at_17.
+    next-number Q P w16 bytes 17 _ at_17 (λ cut. why (omega (arith, cut))) (λ at_19. (at_19, refl, refl)))))))
+
+pub information_causes : InformationHasCauses
+information_causes bytes =
+    let P : DecodeError → Type 0 = BreaksInformation bytes in
+    told-cause (HasSize bytes) P (information_at bytes) (information-told P bytes (λ short. short))
+
+pub operator_causes : OperatorsHaveCauses
+operator_causes n =
+    let P : Result CombinationOperator DecodeError → Type 0 = λ r. IfErr r (BreaksOperator n) in
+    cond_both (eqb n 0) _ _ P (λ is. tt) (λ n0.
+    cond_both (eqb n 1) _ _ P (λ is. tt) (λ n1.
+    cond_both (eqb n 2) _ _ P (λ is. tt) (λ n2.
+    cond_both (eqb n 3) _ _ P (λ is. tt) (λ n3.
+    cond_both (eqb n 4) _ _ P (λ is. tt) (λ n4.
+    omega (arith, eqb-false n 0 n0, eqb-false n 1 n1, eqb-false n 2 n2, eqb-false n 3 n3, eqb-false n 4 n4))))))
