@@ -18,6 +18,10 @@ pub told-cause : {A : Type 0} (Q : A → Type 0) (P : DecodeError → Type 0) (r
 told-cause Q P (Ok x) told = tt
 told-cause Q P (Err e) told = told
 
+pub told-all : {A : Type 0} (P : DecodeError → Type 0) (r : Result A DecodeError) → IfErr r P → Told (λ (x : A). Unit {0}) P r
+told-all P (Ok x) why = tt
+told-all P (Err e) why = why
+
 pub told-next : {A B : Type 0} (Q : A → Type 0) (R : B → Type 0) (P : DecodeError → Type 0) (r : Result A DecodeError) (next : A → Result B DecodeError)
     → Told Q P r → ((x : A) → Q x → Told R P (next x)) → Told R P (r >>= next)
 told-next Q R P (Ok x) next first rest = rest x first

@@ -1,13 +1,13 @@
 -- Which rule the bytes break where a parser refuses them.
-use Rattle.std.proofs.Common.{◌≡◌, ℕ, Some, ◌+◌, ◌<◌, ◌≤◌, ◌/◌, ◌%◌, eqb, ltb, Bool, true, false, not, List, take, drop, length, Result, Ok, Err, refl, sym, ◌∙◌, ap, subst, arith, length-drop}
-use Rattle.std.specs.Prelude.{IfErr, Option}
+use Rattle.std.proofs.Common.{◌≡◌, ℕ, Some, ◌+◌, ◌<◌, ◌≤◌, ◌/◌, ◌%◌, eqb, ltb, Bool, true, false, not, List, take, drop, length, Result, Ok, Err, refl, sym, ◌∙◌, ap, arith, length-drop}
+use Rattle.std.specs.Prelude.{IfErr}
 use Rattle.std.specs.Int.{Width, w8, w32, byte_len, from_be_bytes}
 use Rattle.std.proofs.lemmas.Bool.Decides.{nat_tests}
-use Rattle.std.proofs.lemmas.Bool.{cond_both, ltb-true, ltb-false, not-true, eq-eqb, false≢true}
+use Rattle.std.proofs.lemmas.Bool.{cond_both, ltb-true, ltb-false, not-true, false≢true}
 use Rattle.jbig2_base.specs.Answer.{◌>>=◌, refuse_if}
 use Rattle.jbig2_base.specs.Fields.{bytes_at, number_at, end_of_bytes}
-use Rattle.jbig2_base.specs.FileHeader.{file_header_at, identification, is_identification, organization_of, page_count_at}
-use Rattle.jbig2_base.specs.Causes.{BreaksFileHeader, FileHeadersHaveCauses, number_in}
+use Rattle.jbig2_base.specs.FileHeader.{file_header_at, identification, is_identification, page_count_at}
+use Rattle.jbig2_base.specs.Causes.{BreaksFileHeader, FileHeadersHaveCauses}
 use Rattle.jbig2_base.specs.declared.error.DecodeError.{DecodeError}
 
 -- an error of the first step, or of the next one

@@ -1,11 +1,10 @@
 -- Which rule the segments of a page break, where its size is refused.
-use Rattle.std.proofs.Common.{◌≡◌, ℕ, zero, suc, ◌+◌, ◌<◌, ◌≤◌, max, eqb, ltb, Bool, true, false, not, cond, List, [], ◌∷◌, drop, length, Result, Ok, Err, refl, sym, ◌∙◌, ap, subst, arith, inl, inr, ⊎_elim}
-use Rattle.std.specs.Prelude.{◌≢◌, ◌⊎◌, ◌&&◌, ◌||◌, IfErr, All, Any}
-use Rattle.std.specs.Int.{w32, from_be_bytes}
-use Rattle.std.proofs.lemmas.Bool.{cond_both, cond-true, cond-false, eqb-true, eqb-false, eq-eqb, ne_eqb, ltb-true, ltb-false, and_from, and_parts, or_cases, or_parts, not-true, not_from_false, true≢false, false≢true, cases_eq}
+use Rattle.std.proofs.Common.{◌≡◌, ℕ, zero, suc, ◌+◌, ◌<◌, ◌≤◌, eqb, ltb, Bool, true, false, not, List, [], ◌∷◌, length, Result, Ok, refl, sym, ◌∙◌, ap, subst, arith, inl, inr, ⊎_elim}
+use Rattle.std.specs.Prelude.{◌≢◌, ◌⊎◌, ◌&&◌, ◌||◌, All, Any}
+use Rattle.std.specs.Int.{w32}
+use Rattle.std.proofs.lemmas.Bool.{cond_both, cond-true, eqb-true, eqb-false, eq-eqb, ne_eqb, ltb-true, ltb-false, and_from, and_parts, or_cases, not-true, not_from_false, true≢false, false≢true}
 use Rattle.jbig2_base.specs.Answer.{◌>>=◌, refuse_if}
 use Rattle.jbig2_base.specs.Causes.{FirstInformation, TellsHeight, TellsTooMuch, StatesTooMuch, BreaksInitialPage, InitialPagesHaveCauses, number_in}
-use Rattle.jbig2_base.specs.Fields.{end_of_bytes}
 use Rattle.jbig2_base.specs.PageInfo.{first_information, height_of, information_at, initial_page_of, initial_page_with, is_end_of_stripe, is_page_information, last_row, stripe_height, stripes_height}
 use Rattle.jbig2_base.specs.Segment.{SegmentView}
 use Rattle.jbig2_base.specs.declared.error.DecodeError.{DecodeError}
@@ -84,7 +83,7 @@ too-much p =
     (λ all much.
     let parts = and_parts (stripe && four) known all in
     let front = and_parts stripe four parts.0 in
-    (is-stripe p.header.segment_type front.0, eqb-true (length p.bytes) 4 front.1, omega (arith, much)))
+    ((is-stripe p.header.segment_type front.0, eqb-true (length p.bytes) 4 front.1, eqb-false row 4294967295 (not-true (eqb row 4294967295) parts.1)), omega (arith, much)))
     (λ none much. absurd (omega (arith, much)))
 
 any-too-much : (ps : List SegmentView) → 65535 < stripes_height ps → Any TellsTooMuch ps

@@ -7,7 +7,9 @@ pub mod Causes
 pub mod ColourLemmas
 mod CombineLemmas
 mod CountLemmas
+pub mod DataCauses
 mod Extends
+pub mod FileCauses
 mod FileRows
 pub mod FillLemmas
 pub mod GridLemmas

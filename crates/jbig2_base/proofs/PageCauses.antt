@@ -1,12 +1,10 @@
 -- Which rule page information and its page break.
-use Rattle.std.proofs.Common.{◌≡◌, ℕ, ◌<◌, ◌≤◌, eqb, Bool, true, false, List, [], ◌∷◌, drop, length, Result, Ok, Err, refl, sym, ◌∙◌, ap, arith}
+use Rattle.std.proofs.Common.{◌≡◌, ℕ, ◌<◌, ◌≤◌, eqb, List, length, Result, refl, arith}
 use Rattle.std.specs.Prelude.{IfErr}
-use Rattle.std.specs.Int.{Width, w8, w16, w32}
-use Rattle.std.proofs.lemmas.Bool.Decides.{nat_tests}
+use Rattle.std.specs.Int.{w8, w16, w32}
 use Rattle.std.proofs.lemmas.Bool.{cond_both, eqb-false}
 use Rattle.jbig2_base.specs.Causes.{BreaksInformation, InformationHasCauses, BreaksOperator, OperatorsHaveCauses, number_in}
 use Rattle.jbig2_base.specs.Fields.{end_of_bytes}
-use Rattle.jbig2_base.specs.Operator.{operator_of}
 use Rattle.jbig2_base.specs.PageInfo.{information_at}
 use Rattle.jbig2_base.specs.declared.bitmap.operator.CombinationOperator.{CombinationOperator}
 use Rattle.jbig2_base.specs.declared.error.DecodeError.{DecodeError}

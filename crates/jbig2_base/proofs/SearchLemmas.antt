@@ -1,6 +1,6 @@
 -- The least number that passes a test, and the fewest bits that tell so many things apart.
 use Rattle.std.proofs.Common.{◌≡◌, ℕ, zero, suc, ◌-◌, ◌^◌, ◌<◌, ◌≤◌, leb, Bool, true, false, sym, ◌∙◌, ap, arith, pow-suc, ⊎_elim}
-use Rattle.std.proofs.lemmas.Bool.{cases_eq, cond-true, cond-false, le-leb, lt-leb}
+use Rattle.std.proofs.lemmas.Bool.{cases_eq, cond-true, cond-false, le-leb, lt-leb, cond_both}
 use Rattle.jbig2_base.specs.Search.{least, place_from, code_length}
 
 least-is : (n : ℕ) (p : ℕ → Bool) (to place : ℕ) → n ≤ to → to - n ≤ place → place ≤ to → ((i : ℕ) → to - n ≤ i → i < place → p i ≡ false) → (place < to → p place ≡ true) → least p n to ≡ place
@@ -22,6 +22,28 @@ place-is p from to place order after within before found =
 pub place-past : (p : ℕ → Bool) (from to : ℕ) → to ≤ from → place_from p from to ≡ to
 unfolding least
 place-past p from to past = let none : to - from ≡ 0 = omega arith in ap (λ (n : ℕ). least p n to) none
+
+-- the place that is found passes
+least-found : (n : ℕ) (p : ℕ → Bool) (to : ℕ) → least p n to < to → p (least p n to) ≡ true
+unfolding least
+least-found zero p to below = absurd (omega (arith, below))
+least-found (suc n) p to below = cond_both (p (to - suc n)) (to - suc n) (least p n to) (λ m. m < to → p m ≡ true) (λ here inside. here) (λ other inside. least-found n p to inside) below
+
+pub place-found : (p : ℕ → Bool) (to : ℕ) → place_from p 0 to < to → p (place_from p 0 to) ≡ true
+place-found p to below = least-found (to - 0) p to below
+
+-- where none is found none passes
+least-none : (n : ℕ) (p : ℕ → Bool) (to i : ℕ) → n ≤ to → to ≤ least p n to → to - n ≤ i → i < to → p i ≡ false
+unfolding least
+least-none zero p to i fits past after below = absurd (omega (arith, after, below))
+least-none (suc n) p to i fits past after below =
+    cond_both (p (to - suc n)) (to - suc n) (least p n to) (λ m. to ≤ m → p i ≡ false)
+    (λ here large. absurd (omega (arith, large, fits)))
+    (λ other large. ⊎_elim (λ (same : i ≡ to - suc n). ap p same ∙ other) (λ (differs : i ≡ to - suc n → ⊥). least-none n p to i (omega arith) large (omega (arith, after, differs)) below) (cases_eq i (to - suc n)))
+    past
+
+pub place-none : (p : ℕ → Bool) (to i : ℕ) → to ≤ place_from p 0 to → i < to → p i ≡ false
+place-none p to i past below = least-none (to - 0) p to i (omega arith) past (omega arith) below
 
 below-pow : (n : ℕ) → n < 2 ^ n
 below-pow zero = omega arith

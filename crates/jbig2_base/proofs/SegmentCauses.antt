@@ -1,12 +1,12 @@
 -- Which rule a segment header breaks.
-use Rattle.std.proofs.Common.{◌≡◌, ℕ, zero, suc, ◌+◌, ◌-◌, ◌*◌, ◌/◌, ◌%◌, ◌^◌, ◌<◌, ◌≤◌, eqb, leb, Bool, true, false, not, cond, List, [], ◌∷◌, take, drop, length, Option, Some, None, Result, Ok, Err, refl, sym, ◌∙◌, ap, subst, arith, inl, inr, ⊎_elim, length-drop}
-use Rattle.std.specs.Prelude.{◌≢◌, ◌⊎◌, ◌&&◌, ◌||◌, IfErr, All}
+use Rattle.std.proofs.Common.{◌≡◌, ℕ, zero, suc, ◌+◌, ◌-◌, ◌*◌, ◌/◌, ◌%◌, ◌^◌, ◌<◌, ◌≤◌, eqb, leb, Bool, true, false, not, cond, List, [], ◌∷◌, take, drop, length, Option, Some, None, Ok, refl, sym, ◌∙◌, ap, subst, arith, inl, inr, ⊎_elim, length-drop}
+use Rattle.std.specs.Prelude.{◌≢◌, ◌⊎◌, ◌&&◌, ◌||◌, All}
 use Rattle.std.specs.Int.{Width, w8, w16, w32, byte_len, from_be_bytes}
 use Rattle.std.specs.List.{list_any, list_all}
-use Rattle.std.proofs.lemmas.Bool.{cond_both, eqb-true, leb-true, and_parts, or_cases, not-true, true≢false, false≢true}
+use Rattle.std.proofs.lemmas.Bool.{eqb-true, leb-true, and_parts, or_cases, not-true, true≢false, false≢true}
 use Rattle.std.proofs.lemmas.List.{drop-drop, drop-take, take-take}
 use Rattle.jbig2_base.specs.Answer.{◌>>=◌, refuse_if}
-use Rattle.jbig2_base.specs.Causes.{listed_types, referred_count, referred_place, page_place, length_place, header_size, stated_length, referred_number, BreaksHeader, HeadersHaveCauses, number_in}
+use Rattle.jbig2_base.specs.Causes.{listed_types, referred_count, referred_place, page_place, length_place, header_size, stated_length, BreaksHeader, HeadersHaveCauses, number_in}
 use Rattle.jbig2_base.specs.Fields.{bytes_at, number_at, end_of_bytes}
 use Rattle.jbig2_base.specs.Segment.{Header, type_of, is_reserved, is_immediate_generic, long_count_at, count_at, number_size, coded_number, numbers_in, referred_at, page_at, length_of, header_at}
 use Rattle.jbig2_base.specs.declared.error.DecodeError.{DecodeError}

@@ -7,6 +7,7 @@ pub mod EndMarker
 pub mod ErrorTexts
 pub mod Fields
 pub mod File
+pub mod FileCauses
 pub mod FileHeader
 pub mod Grid
 pub mod Operator

@@ -3,6 +3,7 @@ ghost use Rattle.std.specs.Prelude.{◌≡◌, ℕ, ◌+◌, ◌-◌, ◌*◌, �
 ghost use Rattle.jbig2_base.specs.Answer.{Gives};
 ghost use Rattle.jbig2_base.specs.Counts.{words_copied};
 ghost use Rattle.jbig2_base.specs.Grid.{blank, pixel_at, bit_number};
+ghost use Rattle.jbig2_base.specs.Causes.{SizesHaveCauses};
 ghost use Rattle.jbig2_base.specs.Sizes.{blank_or_overflow, wide_or_overflow, words_of};
 ghost use Rattle.jbig2_base.specs.inner.Table.{IsTable};
 ghost use Rattle.jbig2_base.specs.inner.WordBits.{bit};
@@ -96,7 +97,9 @@ impl<A: Allocator> Bitmap<A> {
 
     /// Gives this bitmap another size and makes all pixels `default_pixel` (`true` is black). A
     /// side above 65535 is refused (`OverflowError::BitmapDimension`); a refusal changes nothing.
+    #[tactic(auto, using(crate::proofs::DataCauses::size_causes))]
     pub fn reinitialize(&mut self, width: u32, height: u32, default_pixel: bool) -> Result<()>
+        ensures causes { SizesHaveCauses }
         ensures value { Gives (λ _. self.new) result
             (blank_or_overflow width height default_pixel) }
         ensures err { OnErr result (self.new ≡ self.old) }

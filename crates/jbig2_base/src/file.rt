@@ -2,6 +2,7 @@
 ghost use Rattle.std.specs.Prelude.{◌≡◌, List, length, Ok};
 ghost use Rattle.jbig2_base.specs.Answer.{Gives};
 ghost use Rattle.jbig2_base.specs.Bits.{IsAligned};
+ghost use Rattle.jbig2_base.specs.FileCauses.{SequencesHaveCauses, RandomAccessHasCauses, FilesHaveCauses};
 ghost use Rattle.jbig2_base.specs.File.{headers_in, gathered, random_access, segments_by, file_at};
 ghost use Rattle.jbig2_base.specs.Sorted.{by_number};
 ghost use Rattle.jbig2_base.specs.Spelled.{Spelled, SpellsFile, spelled_segments};
@@ -120,25 +121,29 @@ fn gather_segments<'a, A: Allocator>(
 /// The segments in the bytes, all headers before all data (T.88, D.2).
 ///
 /// Bytes that end too early are an error in both modes.
+#[tactic(auto, using(crate::proofs::FileCauses::random_access_causes))]
 fn parse_segments_random_access<'a, A: Allocator + Clone>(
     alloc: A,
     bytes: &'a [u8],
     strict: bool,
 ) -> Result<Vec<Segment<'a, A>, A>>
-    ensures { Gives (λ v. segment_views v.items) result (random_access strict bytes.now) }
+    ensures causes { RandomAccessHasCauses }
+    ensures value { Gives (λ v. segment_views v.items) result (random_access strict bytes.now) }
 {
     let mut reader = Reader::new(bytes);
     let headers = parse_segment_headers(alloc.clone()?, &mut reader, strict)?;
     gather_segments(alloc, &mut reader, headers)
 }
 
+#[tactic(auto, using(crate::proofs::FileCauses::sequence_causes))]
 fn parse_segments<'a, A: Allocator + Clone>(
     alloc: A,
     bytes: &'a [u8],
     organization: FileOrganization,
     strict: bool,
 ) -> Result<Vec<Segment<'a, A>, A>>
-    ensures { Gives (λ v. segment_views v.items) result
+    ensures causes { SequencesHaveCauses }
+    ensures value { Gives (λ v. segment_views v.items) result
         (segments_by organization strict bytes.now) }
 {
     match organization {
@@ -176,11 +181,13 @@ fn read_file<'a, A: Allocator + Clone>(
 /// `ParseError` where the bytes end), or `DecodeError::OutOfMemory`. Either organization gives the
 /// same segments: where the bytes spell some that the mode accepts, each of known length and the
 /// last one the only end of file, the file has those.
+#[tactic(auto, using(crate::proofs::FileCauses::file_causes))]
 pub fn parse_file<'a, A: Allocator + Clone>(
     alloc: A,
     bytes: &'a [u8],
     strict: bool,
 ) -> Result<File<'a, A>>
+    ensures causes { FilesHaveCauses }
     ensures value { Gives file_view result (file_at strict bytes.now) }
     ensures either_organization { (header : FileHeader) (ss : List Spelled)
         → SpellsFile strict bytes.now header ss

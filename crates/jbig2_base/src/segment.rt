@@ -6,7 +6,7 @@ ghost use Rattle.std.specs.Option.{ForSome};
 ghost use Rattle.std.specs.Bool.{OnTrue};
 ghost use Rattle.jbig2_base.specs.Answer.{Answers, Gives};
 ghost use Rattle.jbig2_base.specs.Bits.{IsAligned};
-ghost use Rattle.jbig2_base.specs.Causes.{HeadersHaveCauses};
+ghost use Rattle.jbig2_base.specs.Causes.{HeadersHaveCauses, DataHasCauses, SegmentsHaveCauses};
 ghost use Rattle.jbig2_base.specs.Parsing.{Parses, Takes};
 ghost use Rattle.jbig2_base.specs.Segment.{type_of, is_reserved, is_immediate_generic, short_or_long_at, long_count_at, count_at, number_size, coded_number, numbers_in, referred_at, page_at, length_of, header_at, data_at, segment_data_at, segment_at};
 ghost use Rattle.jbig2_base.specs.inner.SegmentViews.{header_view, segment_view};
@@ -311,12 +311,14 @@ fn segment_bytes<'a>(reader: &mut Reader<'a>, data_length: Option<u32>) -> Resul
 ///
 /// Data of unknown length ends with the first end marker; none answers
 /// `SegmentError::MissingEndMarker`, which leaves the reader where it was. Takes no memory.
+#[tactic(auto, using(crate::proofs::DataCauses::data_causes))]
 pub fn parse_segment_data<'a, A: Allocator>(
     reader: &mut Reader<'a>,
     header: SegmentHeader<A>,
 ) -> Result<Segment<'a, A>>
     requires { IsAligned reader.old }
-    ensures { Parses reader.old reader.new result segment_view
+    ensures causes { DataHasCauses }
+    ensures parses { Parses reader.old reader.new result segment_view
         (segment_data_at (header_view header) reader.old.bytes) }
 {
     let bytes = segment_bytes(reader, header.data_length)?;
@@ -325,13 +327,14 @@ pub fn parse_segment_data<'a, A: Allocator>(
 
 /// A segment at the reader's place: its header and the data behind it (T.88, 7.2). An error leaves
 /// the reader where it was.
-#[tactic(auto, unfolding(crate::specs::Segment::segment_at))]
+#[tactic(auto, using(crate::proofs::DataCauses::segment_causes), unfolding(crate::specs::Segment::segment_at))]
 pub fn parse_segment<'a, A: Allocator>(
     alloc: A,
     reader: &mut Reader<'a>,
     strict: bool,
 ) -> Result<Segment<'a, A>>
     requires { IsAligned reader.old }
+    ensures causes { SegmentsHaveCauses }
     ensures parses { Takes reader.old reader.new result segment_view
         (segment_at strict reader.old.bytes) }
     ensures taken { OnOk result (length reader.new.bytes < length reader.old.bytes) }

@@ -3,6 +3,7 @@ ghost use Rattle.std.specs.Prelude.{◌≡◌, ◌+◌, ◌≤◌, length, IfOk}
 ghost use Rattle.std.specs.Bool.{OnTrue};
 ghost use Rattle.jbig2_base.specs.Answer.{Answers};
 ghost use Rattle.jbig2_base.specs.Bits.{IsAligned};
+ghost use Rattle.jbig2_base.specs.Causes.{UnknownLengthsHaveCauses};
 ghost use Rattle.jbig2_base.specs.EndMarker.{adaptive_bytes, is_end_marker, first_end_marker, coded_front_at, unknown_length_of};
 
 use crate::error::{DecodeError, Result, SegmentError};
@@ -66,9 +67,10 @@ fn coded_front(reader: &mut Reader<'_>) -> Result<u8>
 /// The length of the data at the front of `bytes` whose header leaves it open.
 ///
 /// `SegmentError::MissingEndMarker` where no end marker comes.
-#[tactic(auto, unfolding(crate::specs::EndMarker::unknown_length_of))]
+#[tactic(auto, using(crate::proofs::DataCauses::unknown_causes), unfolding(crate::specs::EndMarker::unknown_length_of))]
 pub(super) fn unknown_length(bytes: &[u8]) -> Result<usize>
-    ensures { Answers (λ n. n) result (unknown_length_of bytes.now) }
+    ensures causes { UnknownLengthsHaveCauses }
+    ensures value { Answers (λ n. n) result (unknown_length_of bytes.now) }
 {
     let mut reader = Reader::new(bytes);
     let flags = coded_front(&mut reader)?;

@@ -30,13 +30,13 @@ loop-header-preserved g c =
     let meant = gathered (header_views c.args.headers.items) c.args.reader.now.bytes in
     let rest = c.parse_segment_data.new.reader.bytes in
     record {
-      aligned = c.in-Ok.ensures.aligned;
+      aligned = c.in-Ok.ensures.parses.aligned;
       counted = omega (arith, c.loop-header.invariant.counted, c.in-Some.ensures.steps.1, ap length c.in-Some.ensures.steps.0);
       gathers =
           ap (λ (ps : List SegmentView). with_front ps (gathered hs rest)) (ap (λ (ss : List (Segment g.row.A.Denot)). segment_views ss) c.in_ok-push-in-Ok.ensures.items ∙ map_push (λ (s : Segment g.row.A.Denot). segment_view s) c.loop-header.segments.items c.in-Ok.segment)
           ∙ gathers_one front (header_view c.in-Some.header) hs bytes rest (segment_view c.in-Ok.segment) meant
           (ap (λ (ks : List (SegmentHeader g.row.A.Denot)). with_front front (gathered (header_views ks) bytes)) (sym c.in-Some.ensures.steps.0) ∙ c.loop-header.invariant.gathers)
-          c.in-Ok.ensures.value;
+          c.in-Ok.ensures.parses.value;
     }
 
 pub returns-in-Err : goal.returns-in-Err
@@ -45,7 +45,7 @@ returns-in-Err g c =
     let bytes = c.loop-header.reader.bytes in
     inr (gathers_none front (header_view c.in-Some.header) (header_views (into_iter_items c.next.new.self)) bytes c.in-Err.error (gathered (header_views c.args.headers.items) c.args.reader.now.bytes)
     (ap (λ (ks : List (SegmentHeader g.row.A.Denot)). with_front front (gathered (header_views ks) bytes)) (sym c.in-Some.ensures.steps.0) ∙ c.loop-header.invariant.gathers)
-    c.in-Err.ensures.value)
+    c.in-Err.ensures.parses.value)
 
 pub returns : goal.returns
 returns g c =

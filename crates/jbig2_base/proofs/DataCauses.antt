@@ -1,0 +1,126 @@
+-- Which rule the data of a segment breaks, and a segment as a whole; and the sizes of bitmaps.
+use Rattle.std.proofs.Common.{◌≡◌, ℕ, ◌+◌, ◌-◌, ◌*◌, ◌%◌, ◌<◌, ◌≤◌, eqb, leb, ltb, Bool, true, false, cond, List, [], ◌∷◌, take, drop, length, Option, Some, None, Result, Ok, Err, refl, sym, ◌∙◌, ap, subst, arith, inl, inr, ⊎_elim, length-drop}
+use Rattle.std.specs.Prelude.{◌≢◌, ◌⊎◌, ◌&&◌, ◌||◌, slice_index, IfErr}
+use Rattle.std.specs.Int.{w8}
+use Rattle.std.proofs.lemmas.Bool.{cond_both, and_from, and_parts, or_cases, eq-eqb, le-leb, leb-true, ltb-true, ltb-false, true≢false}
+use Rattle.std.proofs.lemmas.List.{drop-drop}
+use Rattle.jbig2_base.specs.Answer.{◌>>=◌, refuse_if}
+use Rattle.jbig2_base.specs.Causes.{end_marker, coded_place, stated_length, number_in, BreaksUnknownLength, UnknownLengthsHaveCauses, BreaksData, DataHasCauses, BreaksSegment, SegmentsHaveCauses, BreaksSides, BreaksArea, SizesHaveCauses}
+use Rattle.jbig2_base.specs.EndMarker.{adaptive_bytes, coded_front_at, first_end_marker, is_end_marker, unknown_length_of}
+use Rattle.jbig2_base.specs.Fields.{bytes_at, end_of_bytes}
+use Rattle.jbig2_base.specs.Search.{place_from}
+use Rattle.jbig2_base.specs.Segment.{Header, SegmentView, data_at, header_at, segment_at, segment_data_at}
+use Rattle.jbig2_base.specs.declared.error.DecodeError.{DecodeError}
+use Rattle.jbig2_base.specs.declared.error.DecodeError.TheVariants.{Overflow, Segment}
+use Rattle.jbig2_base.specs.declared.error.OverflowError.TheVariants.{BitmapDimension}
+use Rattle.jbig2_base.specs.declared.error.SegmentError.TheVariants.{MissingEndMarker}
+use Rattle.jbig2_base.proofs.Causes.{cause-bytes, cause-next, cause-refused}
+use Rattle.jbig2_base.proofs.CauseSteps.{Told, Steps, told-all, told-cause, told-next, next-steps, next-bytes, next-number}
+use Rattle.jbig2_base.proofs.SearchLemmas.{place-found, place-none}
+use Rattle.jbig2_base.proofs.SegmentCauses.{HasHeader, header-told}
+
+-- ---- the end marker
+marker-by : (mmr : Bool) (a b : ℕ) → a ∷ b ∷ [] ≡ cond mmr (0 ∷ 0 ∷ []) (255 ∷ 172 ∷ []) → cond mmr (eqb a 0 && eqb b 0) (eqb a 255 && eqb b 172) ≡ true
+marker-by true a b same = and_from (eqb a 0) (eqb b 0) (eq-eqb a 0 (ap (λ (l : List ℕ). slice_index l 0) same)) (eq-eqb b 0 (ap (λ (l : List ℕ). slice_index l 1) same))
+marker-by false a b same = and_from (eqb a 255) (eqb b 172) (eq-eqb a 255 (ap (λ (l : List ℕ). slice_index l 0) same)) (eq-eqb b 172 (ap (λ (l : List ℕ). slice_index l 1) same))
+
+marker-there : (flags : ℕ) (bytes : List ℕ) → 6 ≤ length bytes → take 2 bytes ≡ end_marker flags → is_end_marker flags bytes ≡ true
+marker-there flags [] room same = absurd (omega (arith, room))
+marker-there flags (a ∷ []) room same = absurd (omega (arith, room))
+marker-there flags (a ∷ b ∷ rest) room same =
+    let mmr : Bool = eqb (flags % 2) 1 in
+    and_from (leb 6 (length (a ∷ b ∷ rest))) (cond mmr (eqb a 0 && eqb b 0) (eqb a 255 && eqb b 172)) (le-leb 6 (length (a ∷ b ∷ rest)) room) (marker-by mmr a b same)
+
+marker-told : (P : DecodeError → Type 0) (flags : ℕ) (rest : List ℕ) → (((k : ℕ) → k < length rest → is_end_marker flags (drop k rest) ≡ false) → P (Segment MissingEndMarker))
+    → Told (λ (place : ℕ). place + 6 ≤ length rest) P (first_end_marker flags rest)
+marker-told P flags rest why =
+    let test : ℕ → Bool = λ k. is_end_marker flags (drop k rest) in
+    let place : ℕ = place_from test 0 (length rest) in
+    let Q : Result ℕ DecodeError → Type 0 = λ r. Told (λ (p : ℕ). p + 6 ≤ length rest) P r in
+    cond_both (ltb place (length rest)) (Ok place) (Err (Segment MissingEndMarker)) Q
+    (λ inside.
+    let found : test place ≡ true = place-found test (length rest) (ltb-true place (length rest) inside) in
+    let room : 6 ≤ length (drop place rest) = leb-true 6 (length (drop place rest)) (and_parts (leb 6 (length (drop place rest))) _ found).0 in
+    omega (arith, room, length-drop place rest))
+    (λ past. why (λ k below. place-none test (length rest) k (ltb-false place (length rest) past) below))
+
+front-told : (P : DecodeError → Type 0) (bytes : List ℕ) → (length bytes < coded_place bytes → P end_of_bytes)
+    → Steps (number_in w8 17 bytes, drop (coded_place bytes) bytes) (coded_place bytes ≤ length bytes) P (coded_front_at bytes)
+unfolding coded_front_at
+front-told P bytes short =
+    let R : ℕ × List ℕ → Type 0 = λ x. (x ≡ (number_in w8 17 bytes, drop (coded_place bytes) bytes)) × (coded_place bytes ≤ length bytes) in
+    next-bytes R P 17 bytes 0 _ (omega arith) (λ cut. short (omega (arith, cut))) (λ at_flags.
+    next-number R P w8 bytes 17 _ at_flags (λ cut. short (omega (arith, cut))) (λ at_pixels.
+    next-bytes R P (adaptive_bytes (number_in w8 17 bytes)) bytes 18 _ at_pixels short (λ there. (refl, there))))
+
+no-marker : (bytes : List ℕ) (flags place : ℕ) → ((k : ℕ) → k < length (drop place bytes) → is_end_marker flags (drop k (drop place bytes)) ≡ false)
+    → (k : ℕ) → place ≤ k → k + 6 ≤ length bytes → take 2 (drop k bytes) ≢ end_marker flags
+no-marker bytes flags place none k after room = λ same.
+    let there : is_end_marker flags (drop k bytes) ≡ true = marker-there flags (drop k bytes) (omega (arith, room, length-drop k bytes)) same in
+    let behind : drop (k - place) (drop place bytes) ≡ drop k bytes = drop-drop (k - place) place bytes ∙ ap (λ (m : ℕ). drop m bytes) (omega (arith, after)) in
+    true≢false (sym there ∙ ap (λ (ys : List ℕ). is_end_marker flags ys) (sym behind) ∙ none (k - place) (omega (arith, length-drop place bytes, after, room)))
+
+pub unknown-told : (P : DecodeError → Type 0) (bytes : List ℕ) → ((e : DecodeError) → BreaksUnknownLength bytes e → P e) → Told (λ (n : ℕ). n ≤ length bytes) P (unknown_length_of bytes)
+unfolding unknown_length_of
+unknown-told P bytes why =
+    let flags : ℕ = number_in w8 17 bytes in
+    let place : ℕ = coded_place bytes in
+    let R : ℕ → Type 0 = λ n. n ≤ length bytes in
+    next-steps (flags, drop place bytes) (place ≤ length bytes) R P (coded_front_at bytes) _ (front-told P bytes (λ cut. why end_of_bytes cut)) (λ at_coded.
+    told-next (λ (p : ℕ). p + 6 ≤ length (drop place bytes)) R P (first_end_marker flags (drop place bytes)) _
+    (marker-told P flags (drop place bytes) (λ none. why (Segment MissingEndMarker) (no-marker bytes flags place none))) (λ p fits.
+    omega (arith, fits, at_coded, length-drop place bytes)))
+
+pub unknown_causes : UnknownLengthsHaveCauses
+unfolding UnknownLengthsHaveCauses
+unknown_causes = λ bytes.
+    let P : DecodeError → Type 0 = BreaksUnknownLength bytes in
+    told-cause (λ (n : ℕ). n ≤ length bytes) P (unknown_length_of bytes) (unknown-told P bytes (λ e why. why))
+
+-- ---- data and segments
+there-told : (P : DecodeError → Type 0) (n : ℕ) (bytes : List ℕ) → n ≤ length bytes → Told (λ (x : List ℕ × List ℕ). Unit {0}) P (bytes_at n bytes)
+there-told P n bytes fits =
+    let Q : Result (List ℕ × List ℕ) DecodeError → Type 0 = λ r. Told (λ (x : List ℕ × List ℕ). Unit {0}) P r in
+    cond_both (ltb (length bytes) n) (Err end_of_bytes) (Ok (take n bytes, drop n bytes)) Q (λ short. absurd (omega (arith, fits, ltb-true (length bytes) n short))) (λ whole. tt)
+
+data-cause : (P : DecodeError → Type 0) (n : Option ℕ) (bytes : List ℕ) → ((e : DecodeError) → BreaksData n bytes e → P e) → IfErr (data_at n bytes) P
+data-cause P (Some n) bytes why = cause-bytes P n bytes (λ short. why end_of_bytes short)
+data-cause P None bytes why =
+    let R : List ℕ × List ℕ → Type 0 = λ x. Unit {0} in
+    told-cause R P (data_at None bytes) (told-next (λ (n : ℕ). n ≤ length bytes) R P (unknown_length_of bytes) _ (unknown-told P bytes why) (λ n fits. there-told P n bytes fits))
+
+pub segment-data-cause : (P : DecodeError → Type 0) (header : Header) (bytes : List ℕ) → ((e : DecodeError) → BreaksData header.data_length bytes e → P e) → IfErr (segment_data_at header bytes) P
+segment-data-cause P header bytes why =
+    cause-next P (data_at header.data_length bytes) _ (data-cause P header.data_length bytes why) (λ coded is. tt)
+
+pub data_causes : DataHasCauses
+unfolding DataHasCauses
+data_causes = λ header bytes. segment-data-cause (BreaksData header.data_length bytes) header bytes (λ e why. why)
+
+pub segment_causes : SegmentsHaveCauses
+unfolding SegmentsHaveCauses segment_at
+segment_causes = λ strict bytes.
+    let P : DecodeError → Type 0 = BreaksSegment strict bytes in
+    let R : SegmentView × List ℕ → Type 0 = λ x. Unit {0} in
+    told-cause R P (segment_at strict bytes)
+    (told-next (HasHeader bytes) R P (header_at strict bytes) _ (header-told P strict bytes (λ e why. inl why)) (λ x known.
+    told-all P (segment_data_at x.0 x.1) (segment-data-cause P x.0 x.1 (λ e why. inr (known.0, subst (λ (ys : List ℕ). BreaksData (stated_length bytes) ys e) known.1 (subst (λ (n : Option ℕ). BreaksData n x.1 e) known.2 why))))))
+
+-- ---- bitmaps
+sides-cause : {A : Type 0} (w h : ℕ) (x : Unit {0} → Result A DecodeError) → IfErr (x tt) (BreaksSides w h) → IfErr (refuse_if (ltb 65535 w || ltb 65535 h) (Overflow BitmapDimension) >>= x) (BreaksSides w h)
+sides-cause w h x rest =
+    let P : DecodeError → Type 0 = BreaksSides w h in
+    cause-next P (refuse_if (ltb 65535 w || ltb 65535 h) (Overflow BitmapDimension)) x
+    (cause-refused P (ltb 65535 w || ltb 65535 h) (Overflow BitmapDimension)
+    (λ long. ⊎_elim {C = (65535 < w) ⊎ (65535 < h)} (λ l. inl (ltb-true 65535 w l)) (λ r. inr (ltb-true 65535 h r)) (or_cases (ltb 65535 w) (ltb 65535 h) long)))
+    (λ y is. rest)
+
+pub size_causes : SizesHaveCauses
+unfolding SizesHaveCauses
+size_causes = (
+  λ w h black. sides-cause w h _ tt,
+  λ w h.
+      cause-next (BreaksArea w h) (refuse_if (ltb (65535 * 65535) (w * h)) (Overflow BitmapDimension)) _
+      (cause-refused (BreaksArea w h) (ltb (65535 * 65535) (w * h)) (Overflow BitmapDimension) (λ large. ltb-true (65535 * 65535) (w * h) large)) (λ y is. tt),
+  λ g area. sides-cause area.width area.height _ tt,
+)
