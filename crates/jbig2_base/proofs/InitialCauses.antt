@@ -148,8 +148,8 @@ large-side ps bytes info height is size known much =
     much
 
 pub initial_page_causes : InitialPagesHaveCauses
-unfolding initial_page_of
-initial_page_causes ps =
+unfolding InitialPagesHaveCauses initial_page_of
+initial_page_causes = λ ps.
     let P : DecodeError → Type 0 = BreaksInitialPage ps in
     let R : InitialPage → Type 0 = λ page. Unit {0} in
     told-cause R P (initial_page_of ps)

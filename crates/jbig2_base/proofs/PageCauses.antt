@@ -27,12 +27,14 @@ information-told P bytes why =
     next-number Q P w16 bytes 17 _ at_17 (λ cut. why (omega (arith, cut))) (λ at_19. (at_19, refl, refl)))))))
 
 pub information_causes : InformationHasCauses
-information_causes bytes =
+unfolding InformationHasCauses
+information_causes = λ bytes.
     let P : DecodeError → Type 0 = BreaksInformation bytes in
     told-cause (HasSize bytes) P (information_at bytes) (information-told P bytes (λ short. short))
 
 pub operator_causes : OperatorsHaveCauses
-operator_causes n =
+unfolding OperatorsHaveCauses
+operator_causes = λ n.
     let P : Result CombinationOperator DecodeError → Type 0 = λ r. IfErr r (BreaksOperator n) in
     cond_both (eqb n 0) _ _ P (λ is. tt) (λ n0.
     cond_both (eqb n 1) _ _ P (λ is. tt) (λ n1.

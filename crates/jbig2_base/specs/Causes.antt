@@ -39,7 +39,7 @@ abbrev pub BreaksInformation : List ℕ → DecodeError → Type 0
 BreaksInformation bytes (Parse UnexpectedEof) = length bytes < 19
 BreaksInformation bytes _ = ⊥
 
-abbrev pub InformationHasCauses : Type 0
+unfoldable pub InformationHasCauses : Type 0
 InformationHasCauses = (bytes : List ℕ) → IfErr (information_at bytes) (BreaksInformation bytes)
 
 -- The first page information among the segments has these bytes.
@@ -76,7 +76,7 @@ BreaksInitialPage ps (Overflow BitmapDimension) =
     ⊎ (FirstInformation (λ bytes. number_in w32 4 bytes ≡ 4294967295) ps × Any TellsTooMuch ps)
 BreaksInitialPage ps _ = ⊥
 
-abbrev pub InitialPagesHaveCauses : Type 0
+unfoldable pub InitialPagesHaveCauses : Type 0
 InitialPagesHaveCauses = (ps : List SegmentView) → IfErr (initial_page_of ps) (BreaksInitialPage ps)
 
 -- ---- combination operators (7.4.1.5)
@@ -84,7 +84,7 @@ abbrev pub BreaksOperator : ℕ → DecodeError → Type 0
 BreaksOperator n (Region InvalidCombinationOperator) = 5 ≤ n
 BreaksOperator n _ = ⊥
 
-abbrev pub OperatorsHaveCauses : Type 0
+unfoldable pub OperatorsHaveCauses : Type 0
 OperatorsHaveCauses = (n : ℕ) → IfErr (operator_of n) (BreaksOperator n)
 
 -- ---- segment headers (7.2)
