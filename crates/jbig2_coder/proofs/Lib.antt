@@ -1,5 +1,7 @@
 pub mod Answered
+pub mod Causes
 pub mod Choices
+pub mod CustomCauses
 pub mod CustomReading
 pub mod Decisions
 pub mod Encoders

@@ -1,3 +1,4 @@
+pub mod Causes
 pub mod Coder
 pub mod CustomTable
 pub mod Encoder

@@ -1,5 +1,6 @@
 //! The custom tables that a segment refers to (T.88, 7.4.2.1.6 and 7.4.3.1.6).
 ghost use Rattle.jbig2_base.specs.Answer.{Answers};
+ghost use Rattle.jbig2_coder.specs.Causes.{SelectionsHaveCauses};
 ghost use Rattle.jbig2_coder.specs.TableSelection.{next_custom};
 ghost use Rattle.jbig2_coder.specs.inner.TableViews.{customs_view};
 
@@ -8,11 +9,13 @@ use jbig2_base::error::{DecodeError, HuffmanError, Result};
 use std::alloc::Allocator;
 
 /// The next custom table, and those behind it; `HuffmanError::MissingTables` where there is none.
+#[tactic(auto, using(crate::proofs::Causes::selection_causes))]
 pub fn next_custom<'a, T: Allocator>(
     customs: &'a [&'a HuffmanTable<T>],
 ) -> Result<(&'a HuffmanTable<T>, &'a [&'a HuffmanTable<T>])>
-    ensures { let meant = next_custom (customs_view customs.now) in
+    ensures value { let meant = next_custom (customs_view customs.now) in
         Answers (λ t. (t.0.now, customs_view t.1.now)) result meant }
+    ensures causes { SelectionsHaveCauses }
 {
     if customs.is_empty() {
         return Err(DecodeError::Huffman(HuffmanError::MissingTables));
