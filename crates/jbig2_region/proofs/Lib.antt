@@ -1,9 +1,12 @@
 pub mod Answered
+pub mod Causes
 pub mod ContextBits
 pub mod ContextLemmas
 pub mod CountLemmas
 pub mod GenericLemmas
 pub mod GroupLemmas
+pub mod HeaderCauses
+pub mod PixelCauses
 pub mod PixelLemmas
 pub mod RasterLemmas
 pub mod RefinementLaneLemmas

@@ -1,3 +1,4 @@
+pub mod Causes
 pub mod Decisions
 pub mod Generic
 pub mod GenericHeader

@@ -6,6 +6,7 @@ ghost use Rattle.jbig2_base.specs.Parsing.{Parses};
 ghost use Rattle.jbig2_region.specs.Generic.{contexts_after, generic_answer, generic_decoded, refused_grid};
 ghost use Rattle.jbig2_region.specs.RegionInfo.{IsWhiteFor, region_view};
 ghost use Rattle.jbig2_region.specs.inner.Layouts.{CountsGeneric};
+ghost use Rattle.jbig2_region.specs.Causes.{GenericHeadersHaveCauses, RowsHaveCauses};
 ghost use Rattle.jbig2_region.specs.GenericHeader.{header_view, rows_at, generic_header_at, IsParsed};
 
 pub use crate::generic_coding::decode_coded;
@@ -42,10 +43,11 @@ pub struct GenericRegionHeader<'a> {
 }
 
 /// The number of rows, which may replace `height`, and the coded bytes.
-#[tactic(auto, unfolding(crate::specs::GenericHeader::rows_at))]
+#[tactic(auto, using(crate::proofs::Causes::rows_causes), unfolding(crate::specs::GenericHeader::rows_at))]
 fn rows<'a>(unknown_length: bool, height: u32, bytes: &'a [u8]) -> Result<(u32, &'a [u8])>
-    ensures { Answers (λ rows. (rows.0, rows.1.now)) result
+    ensures value { Answers (λ rows. (rows.0, rows.1.now)) result
         (rows_at unknown_length height bytes.now) }
+    ensures causes { RowsHaveCauses }
 {
     if !unknown_length {
         return Ok((height, bytes));
@@ -66,7 +68,7 @@ fn rows<'a>(unknown_length: bool, height: u32, bytes: &'a [u8]) -> Result<(u32, 
 /// come before the pixel that is decoded; `RegionError::InvalidDimension` where there are more rows
 /// than the stated height; `OverflowError::BitmapDimension` above 65535 pixels either way. An error
 /// leaves the reader where it was. Takes no memory.
-#[tactic(auto, unfolding(crate::specs::GenericHeader::generic_header_at))]
+#[tactic(auto, using(crate::proofs::HeaderCauses::generic_header_causes), unfolding(crate::specs::GenericHeader::generic_header_at))]
 pub fn parse<'a>(
     reader: &mut Reader<'a>,
     unknown_length: bool,
@@ -76,6 +78,7 @@ pub fn parse<'a>(
     ensures parses { Parses reader.old reader.new result header_view
         (generic_header_at unknown_length strict reader.old.bytes) }
     ensures parsed { IfOk result (λ h. IsParsed (header_view h)) }
+    ensures causes { GenericHeadersHaveCauses }
 {
     let mut ahead = reader.duplicate();
     let mut region_info = parse_region_segment_info(&mut ahead)?;

@@ -3,6 +3,7 @@ ghost use Rattle.std.specs.Prelude.{◌≡◌, IfOk, OnErr, OnOk};
 ghost use Rattle.jbig2_base.specs.Answer.{Answers, Gives, Leaves};
 ghost use Rattle.jbig2_base.specs.Bits.{IsAligned};
 ghost use Rattle.jbig2_base.specs.Parsing.{Parses};
+ghost use Rattle.jbig2_region.specs.Causes.{OffsetsHaveCauses, RefinementHeadersHaveCauses};
 ghost use Rattle.jbig2_region.specs.RegionInfo.{IsWhiteFor, region_view};
 ghost use Rattle.jbig2_region.specs.Refinement.{is_far, is_smaller, offset, refined_answer, refined_contexts, refined_decoded};
 ghost use Rattle.jbig2_region.specs.RefinementSteps.{CountsRefined};
@@ -50,12 +51,13 @@ pub struct ReferenceBitmap<'a, B: Allocator> {
 /// `ParseError::UnexpectedEof` where the bytes do not hold it; the errors of
 /// `parse_region_segment_info`; `OverflowError::BitmapDimension` above 65535 pixels either way. An
 /// error leaves the reader where it was. The adaptive pixels may lie anywhere. Takes no memory.
-#[tactic(auto, unfolding(crate::specs::RefinementHeader::refinement_header_at))]
+#[tactic(auto, using(crate::proofs::HeaderCauses::refinement_header_causes), unfolding(crate::specs::RefinementHeader::refinement_header_at))]
 pub fn parse<'a>(reader: &mut Reader<'a>) -> Result<GenericRefinementRegionHeader<'a>>
     requires { IsAligned reader.old }
     ensures parses { Parses reader.old reader.new result header_view
         (refinement_header_at reader.old.bytes) }
     ensures parsed { IfOk result (λ h. IsRefinement (header_view h)) }
+    ensures causes { RefinementHeadersHaveCauses }
 {
     let mut ahead = reader.duplicate();
     let region_info = parse_region_segment_info(&mut ahead)?;
@@ -89,12 +91,13 @@ fn is_far(location: u32) -> bool
 }
 
 /// Where the reference lies, seen from the region: columns to the right and rows down.
-#[tactic(auto, unfolding(crate::specs::Refinement::offset))]
+#[tactic(auto, using(crate::proofs::HeaderCauses::offset_causes), unfolding(crate::specs::Refinement::offset))]
 fn offset<B: Allocator>(
     reference: &DecodedRegion<B>,
     region_info: &RegionSegmentInfo,
 ) -> Result<(i32, i32)>
-    ensures { Answers (λ d. d) result (offset (region_view reference.now) region_info.now) }
+    ensures value { Answers (λ d. d) result (offset (region_view reference.now) region_info.now) }
+    ensures causes { OffsetsHaveCauses }
 {
     if is_smaller(reference, region_info) {
         return Err(DecodeError::Region(RegionError::InvalidDimension));

@@ -2,6 +2,7 @@
 ghost use Rattle.std.specs.Prelude.{◌≡◌};
 ghost use Rattle.jbig2_base.specs.Bits.{IsAligned};
 ghost use Rattle.jbig2_base.specs.Parsing.{Parses};
+ghost use Rattle.jbig2_region.specs.Causes.{RegionInfosHaveCauses};
 ghost use Rattle.jbig2_region.specs.RegionInfo.{placed, region_info_at, region_view};
 
 use jbig2_base::bitmap::Bitmap;
@@ -30,10 +31,11 @@ pub struct RegionSegmentInfo {
 /// `ParseError::UnexpectedEof` where the bytes do not hold it,
 /// `RegionError::InvalidCombinationOperator` where the flags name no operator, `Unsupported` where
 /// they ask for colours. An error leaves the reader where it was. Takes no memory.
-#[tactic(auto, unfolding(crate::specs::RegionInfo::region_info_at))]
+#[tactic(auto, using(crate::proofs::Causes::info_causes), unfolding(crate::specs::RegionInfo::region_info_at))]
 pub fn parse_region_segment_info(reader: &mut Reader<'_>) -> Result<RegionSegmentInfo>
     requires { IsAligned reader.old }
-    ensures { Parses reader.old reader.new result (λ info. info) (region_info_at reader.old.bytes) }
+    ensures parses { Parses reader.old reader.new result (λ info. info) (region_info_at reader.old.bytes) }
+    ensures causes { RegionInfosHaveCauses }
 {
     let mut ahead = reader.duplicate();
     let width = u32_field(&mut ahead)?;

@@ -3,6 +3,7 @@ ghost use Rattle.std.specs.Prelude.{◌≡◌, ◌≤◌, length, IfOk, OnOk};
 ghost use Rattle.jbig2_base.specs.Answer.{Answers};
 ghost use Rattle.jbig2_base.specs.Bits.{IsAligned};
 ghost use Rattle.jbig2_base.specs.Parsing.{Parses};
+ghost use Rattle.jbig2_region.specs.Causes.{RefinementPixelsHaveCauses, TemplatePixelsHaveCauses};
 ghost use Rattle.jbig2_region.specs.RefinementTemplates.{refinement_pixels_at};
 ghost use Rattle.jbig2_region.specs.Templates.{FitsTemplate, adaptive_pixel_at, adaptive_pixels_at, first_alone, free_pixel_at, is_earlier, regular_pixels_at, template_pixels_at};
 
@@ -108,7 +109,7 @@ pub fn parse_adaptive_template_pixels(
 }
 
 /// All adaptive pixels of a generic region: none with MMR, twelve with the extended template 0.
-#[tactic(auto, unfolding(crate::specs::Templates::template_pixels_at))]
+#[tactic(auto, using(crate::proofs::PixelCauses::template_pixels_causes), unfolding(crate::specs::Templates::template_pixels_at))]
 pub fn parse_generic_template_pixels(
     reader: &mut Reader<'_>,
     mmr: bool,
@@ -118,6 +119,7 @@ pub fn parse_generic_template_pixels(
     requires { IsAligned reader.old }
     ensures value { Answers (λ pixels. (pixels, reader.new.bytes)) result
         (template_pixels_at mmr extended template reader.old.bytes) }
+    ensures causes { TemplatePixelsHaveCauses }
     ensures aligned { IsAligned reader.new }
     ensures shorter { OnOk result (length reader.new.bytes ≤ length reader.old.bytes) }
     ensures fits { IfOk result (λ pixels. FitsTemplate pixels template) }
@@ -137,14 +139,15 @@ pub fn parse_generic_template_pixels(
 ///
 /// `ParseError::UnexpectedEof` where the bytes do not hold them. An error leaves the reader where it was.
 /// Takes no memory.
-#[tactic(auto, unfolding(crate::specs::RefinementTemplates::refinement_pixels_at))]
+#[tactic(auto, using(crate::proofs::PixelCauses::refinement_pixels_causes), unfolding(crate::specs::RefinementTemplates::refinement_pixels_at))]
 pub fn parse_template_pixels(
     reader: &mut Reader<'_>,
     template: RefinementTemplate,
 ) -> Result<[AdaptiveTemplatePixel; 2]>
     requires { IsAligned reader.old }
-    ensures { Parses reader.old reader.new result (λ pixels. pixels)
+    ensures parses { Parses reader.old reader.new result (λ pixels. pixels)
         (refinement_pixels_at template reader.old.bytes) }
+    ensures causes { RefinementPixelsHaveCauses }
 {
     match template {
         RefinementTemplate::Template0 => {

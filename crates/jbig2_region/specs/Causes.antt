@@ -1,0 +1,138 @@
+-- Which rule the bytes break where a header or a region of this crate is refused (docs/FORMAT.md), a line for each error.
+use Rattle.std.specs.Prelude.{◌≡◌, ◌<◌, ◌≤◌, ◌⊎◌, ℕ, ◌+◌, ◌-◌, ◌*◌, ◌/◌, ◌%◌, ◌^◌, ◌==◌, Bool, true, false, if◌then◌else◌, List, length, IfErr, ℤ, pos, negsuc}
+use Rattle.std.specs.Int.{w8, w32, cast_signed}
+use Rattle.jbig2_base.specs.Causes.{number_in}
+use Rattle.jbig2_base.specs.declared.error.DecodeError.{DecodeError}
+use Rattle.jbig2_base.specs.declared.error.DecodeError.TheVariants as errors
+use Rattle.jbig2_base.specs.declared.error.OverflowError.TheVariants.{BitmapDimension, ReferenceOffset}
+use Rattle.jbig2_base.specs.declared.error.ParseError.TheVariants.{UnexpectedEof}
+use Rattle.jbig2_base.specs.declared.error.RegionError.TheVariants.{InvalidCombinationOperator, InvalidDimension}
+use Rattle.jbig2_base.specs.declared.error.TemplateError.TheVariants.{InvalidAtPixel}
+use Rattle.jbig2_region.specs.GenericHeader.{generic_header_at, rows_at}
+use Rattle.jbig2_region.specs.Refinement.{offset}
+use Rattle.jbig2_region.specs.RefinementHeader.{refinement_header_at}
+use Rattle.jbig2_region.specs.RefinementTemplates.{refinement_pixels_at}
+use Rattle.jbig2_region.specs.RegionInfo.{PlacedRegion, region_info_at}
+use Rattle.jbig2_region.specs.Templates.{template_of, template_pixels_at}
+use Rattle.jbig2_region.specs.declared.region_info.RegionSegmentInfo.{RegionSegmentInfo}
+use Rattle.jbig2_region.specs.declared.template.RefinementTemplate.{RefinementTemplate}
+use Rattle.jbig2_region.specs.declared.template.RefinementTemplate.TheVariants as refinements
+use Rattle.jbig2_region.specs.declared.template.Template.{Template}
+use Rattle.jbig2_region.specs.declared.template.Template.TheVariants.{Template0}
+
+-- ---- region information (7.4.1)
+-- It has 17 bytes: the two sides and the place, four bytes each, and the flags.
+abbrev pub BreaksRegionInfo : List ℕ → DecodeError → Type 0
+BreaksRegionInfo bytes (errors.Parse UnexpectedEof) = length bytes < 17
+BreaksRegionInfo bytes (errors.Region InvalidCombinationOperator) = (17 ≤ length bytes) × (4 < number_in w8 16 bytes % 8)
+BreaksRegionInfo bytes errors.Unsupported = (17 ≤ length bytes) × (number_in w8 16 bytes / 8 % 2 ≡ 1)
+BreaksRegionInfo bytes _ = ⊥
+
+abbrev pub RegionInfosHaveCauses : Type 0
+RegionInfosHaveCauses = (bytes : List ℕ) → IfErr (region_info_at bytes) (BreaksRegionInfo bytes)
+
+-- ---- adaptive pixels (7.4.6.3)
+-- So many columns to the right and rows down: at the pixel that is decoded, or behind it.
+abbrev pub IsLate : ℤ → ℤ → Type 0
+IsLate (pos columns) (pos rows) = Unit {0}
+IsLate (negsuc columns) (pos rows) = 0 < rows
+IsLate columns (negsuc rows) = ⊥
+
+-- the pixel that stands at this byte and the next one, in two's complement
+abbrev pub IsLateIn : ℕ → List ℕ → Type 0
+IsLateIn place bytes = IsLate (cast_signed w8 (number_in w8 place bytes)) (cast_signed w8 (number_in w8 (place + 1) bytes))
+
+-- So many pixels from this byte on, two bytes each.
+abbrev pub BreaksPixels : ℕ → ℕ → List ℕ → DecodeError → Type 0
+BreaksPixels count place bytes (errors.Parse UnexpectedEof) = length bytes < place + 2 * count
+BreaksPixels count place bytes (errors.Template InvalidAtPixel) =
+    (k : ℕ) × (k < count) × (place + 2 * k + 2 ≤ length bytes) × IsLateIn (place + 2 * k) bytes
+BreaksPixels count place bytes _ = ⊥
+
+-- how many a region has, by whether it is coded with MMR, the extended template is asked for, and the template
+abbrev pub pixel_count : Bool → Bool → Template → ℕ
+pixel_count true extended template = 0
+pixel_count false true Template0 = 12
+pixel_count false false Template0 = 4
+pixel_count false extended template = 1
+
+abbrev pub TemplatePixelsHaveCauses : Type 0
+TemplatePixelsHaveCauses =
+    (mmr extended : Bool) (template : Template) (bytes : List ℕ)
+    → IfErr (template_pixels_at mmr extended template bytes) (BreaksPixels (pixel_count mmr extended template) 0 bytes)
+
+-- ---- generic regions (7.4.6)
+-- Where the length is unknown the last four bytes are the number of rows.
+abbrev pub BreaksRows : Bool → ℕ → List ℕ → DecodeError → Type 0
+BreaksRows unknown_length height bytes (errors.Parse UnexpectedEof) = (unknown_length ≡ true) × (length bytes < 4)
+BreaksRows unknown_length height bytes (errors.Region InvalidDimension) =
+    (unknown_length ≡ true) × (4 ≤ length bytes) × (height < number_in w32 (length bytes - 4) bytes)
+BreaksRows unknown_length height bytes _ = ⊥
+
+abbrev pub RowsHaveCauses : Type 0
+RowsHaveCauses =
+    (unknown_length : Bool) (height : ℕ) (bytes : List ℕ) → IfErr (rows_at unknown_length height bytes) (BreaksRows unknown_length height bytes)
+
+-- how many adaptive pixels these flags ask for
+abbrev pub pixels_by : ℕ → ℕ
+pixels_by flags = pixel_count (flags % 2 == 1) (flags / 16 % 2 == 1) (template_of (flags / 2 % 4))
+
+-- The header: region information, the flags at byte 17, and the adaptive pixels from byte 18 on.
+abbrev pub header_length : List ℕ → ℕ
+header_length bytes = 18 + 2 * pixels_by (number_in w8 17 bytes)
+
+-- Its width stands at byte 0, its height at byte 4; the number of rows, where that is unknown, in the last four bytes.
+abbrev pub BreaksGenericHeader : Bool → List ℕ → DecodeError → Type 0
+BreaksGenericHeader unknown_length bytes (errors.Parse UnexpectedEof) =
+    length bytes < header_length bytes + (if unknown_length then 4 else 0)
+BreaksGenericHeader unknown_length bytes (errors.Region InvalidDimension) =
+    (unknown_length ≡ true) × (header_length bytes + 4 ≤ length bytes)
+    × (number_in w32 4 bytes < number_in w32 (length bytes - 4) bytes)
+BreaksGenericHeader unknown_length bytes (errors.Overflow BitmapDimension) =
+    (header_length bytes ≤ length bytes)
+    × ((65535 < number_in w32 0 bytes)
+    ⊎ (65535 < number_in w32 (if unknown_length then length bytes - 4 else 4) bytes))
+BreaksGenericHeader unknown_length bytes (errors.Template InvalidAtPixel) =
+    BreaksPixels (pixels_by (number_in w8 17 bytes)) 18 bytes (errors.Template InvalidAtPixel)
+BreaksGenericHeader unknown_length bytes e = BreaksRegionInfo bytes e
+
+abbrev pub GenericHeadersHaveCauses : Type 0
+GenericHeadersHaveCauses =
+    (unknown_length strict : Bool) (bytes : List ℕ)
+    → IfErr (generic_header_at unknown_length strict bytes) (BreaksGenericHeader unknown_length bytes)
+
+-- ---- refinements (7.4.7)
+-- two adaptive pixels at template 0, which may lie anywhere, and none at template 1
+abbrev pub refinement_pixel_count : RefinementTemplate → ℕ
+refinement_pixel_count refinements.Template0 = 2
+refinement_pixel_count refinements.Template1 = 0
+
+abbrev pub BreaksRefinementPixels : RefinementTemplate → List ℕ → DecodeError → Type 0
+BreaksRefinementPixels template bytes (errors.Parse UnexpectedEof) = length bytes < 2 * refinement_pixel_count template
+BreaksRefinementPixels template bytes _ = ⊥
+
+abbrev pub RefinementPixelsHaveCauses : Type 0
+RefinementPixelsHaveCauses =
+    (template : RefinementTemplate) (bytes : List ℕ) → IfErr (refinement_pixels_at template bytes) (BreaksRefinementPixels template bytes)
+
+-- Region information, the flags at byte 17, and the adaptive pixels from byte 18 on: template 0 where bit 0 is clear.
+abbrev pub BreaksRefinementHeader : List ℕ → DecodeError → Type 0
+BreaksRefinementHeader bytes (errors.Parse UnexpectedEof) =
+    length bytes < 18 + (if number_in w8 17 bytes % 2 == 0 then 4 else 0)
+BreaksRefinementHeader bytes (errors.Overflow BitmapDimension) =
+    (18 ≤ length bytes) × ((65535 < number_in w32 0 bytes) ⊎ (65535 < number_in w32 4 bytes))
+BreaksRefinementHeader bytes e = BreaksRegionInfo bytes e
+
+abbrev pub RefinementHeadersHaveCauses : Type 0
+RefinementHeadersHaveCauses = (bytes : List ℕ) → IfErr (refinement_header_at bytes) (BreaksRefinementHeader bytes)
+
+-- The reference is narrower or lower than the region, or a place of either is 2^31 or more.
+abbrev pub BreaksOffset : PlacedRegion → RegionSegmentInfo → DecodeError → Type 0
+BreaksOffset from info (errors.Region InvalidDimension) =
+    (from.grid.width < info.width) ⊎ (from.grid.height < info.height)
+BreaksOffset from info (errors.Overflow ReferenceOffset) =
+    ((2 ^ 31 ≤ from.x_location) ⊎ (2 ^ 31 ≤ info.x_location)) ⊎ ((2 ^ 31 ≤ from.y_location) ⊎ (2 ^ 31 ≤ info.y_location))
+BreaksOffset from info _ = ⊥
+
+abbrev pub OffsetsHaveCauses : Type 0
+OffsetsHaveCauses = (from : PlacedRegion) (info : RegionSegmentInfo) → IfErr (offset from info) (BreaksOffset from info)
