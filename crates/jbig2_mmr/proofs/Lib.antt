@@ -1,4 +1,5 @@
 pub mod Answered
+pub mod Causes
 mod T6Bits
 mod T6Changes
 mod T6Decoding

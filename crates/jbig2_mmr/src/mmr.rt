@@ -3,6 +3,7 @@ ghost use Rattle.std.specs.Prelude.{◌≡◌, if◌then◌else◌, false, Ok, E
 ghost use Rattle.jbig2_base.specs.Answer.{Answers};
 ghost use Rattle.jbig2_base.specs.Counts.{KeepsLanes};
 ghost use Rattle.jbig2_base.specs.Grid.{blank};
+ghost use Rattle.jbig2_mmr.specs.Causes.{MmrDataHasCauses};
 ghost use Rattle.jbig2_mmr.specs.T6.{mmr_rows, grid_of_rows, rows_of};
 
 mod bits;
@@ -56,9 +57,11 @@ pub fn decode<A: Allocator, L: Ledger>(
 }
 
 /// The answer where not all rows are there.
+#[tactic(auto, using(crate::proofs::Causes::mmr_causes))]
 fn missing_rows(strict: bool, used: usize) -> Result<usize>
-    ensures { result ≡
+    ensures value { result ≡
         (if strict then Err (DecodeError.Region RegionError.InvalidMmrData) else Ok used) }
+    ensures causes { MmrDataHasCauses }
 {
     if strict {
         return Err(DecodeError::Region(RegionError::InvalidMmrData));

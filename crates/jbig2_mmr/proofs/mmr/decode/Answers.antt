@@ -47,7 +47,7 @@ returns-then-skip_end_of_block g c =
     let early = rows-early w h c.loop-y.y c.loop-y.reader.left c.loop-y.bitmap (rows_of w h c.args.bytes.now) inv.reading (omega (arith, c.loop-y-test.true, c.height-height.ensures.value)) ends in
     let drawn = rows-grid w h c.loop-y.y c.loop-y.reader.left c.loop-y.bitmap (rows_of w h c.args.bytes.now) inv.reading in
     record {
-      value = answer-missing c.args.strict w h c.args.bytes.now inv.reading.done (drop 24 c.loop-y.reader.left) c.loop-y.bitmap c.bytes_used.result c.missing_rows.result early drawn used c.missing_rows.ensures;
+      value = answer-missing c.args.strict w h c.args.bytes.now inv.reading.done (drop 24 c.loop-y.reader.left) c.loop-y.bitmap c.bytes_used.result c.missing_rows.result early drawn used c.missing_rows.ensures.value;
       lanes = inv.lanes;
       grid = drawn-rows w h c.args.bytes.now inv.reading.done false (drop 24 c.loop-y.reader.left) c.loop-y.bitmap early drawn;
     }
@@ -62,7 +62,7 @@ returns-then-not-read_row g c =
     let read = subst (λ (ys : List ℕ). ReadRow (row c.loop-y.bitmap.width (row_above c.loop-y.bitmap c.loop-y.y) ys) false c.loop-y.bitmap c.read_row.new.bitmap c.loop-y.y c.read_row.new.reader.left) left c.if-not-read_row.ensures.value in
     let fault = rows-fault w h c.loop-y.y c.loop-y.reader.left c.read_row.new.reader.left c.loop-y.bitmap c.read_row.new.bitmap (rows_of w h c.args.bytes.now) inv.reading (omega (arith, c.loop-y-test.true, c.height-height.ensures.value)) goes_on read in
     record {
-      value = answer-missing c.args.strict w h c.args.bytes.now inv.reading.done [] c.read_row.new.bitmap (length c.args.bytes.now) c.missing_rows-then-not-read_row.result fault.0 fault.1 (omega arith) c.missing_rows-then-not-read_row.ensures;
+      value = answer-missing c.args.strict w h c.args.bytes.now inv.reading.done [] c.read_row.new.bitmap (length c.args.bytes.now) c.missing_rows-then-not-read_row.result fault.0 fault.1 (omega arith) c.missing_rows-then-not-read_row.ensures.value;
       lanes = lanes-then c.args.steps.now c.loop-y.steps c.read_row.new.steps inv.lanes c.if-not-read_row.ensures.lanes;
       grid = drawn-rows w h c.args.bytes.now inv.reading.done false [] c.read_row.new.bitmap fault.0 fault.1;
     }

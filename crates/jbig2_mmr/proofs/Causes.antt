@@ -1,0 +1,138 @@
+-- Which rule of T.6 the bits break where strict mode refuses MMR data.
+use Rattle.std.proofs.Common.{◌≡◌, ℕ, zero, suc, ◌+◌, ◌-◌, ◌/◌, ◌<◌, ◌≤◌, eqb, ltb, leb, Bool, true, false, not, ◌&&◌, ◌||◌, cond, List, [], ◌∷◌, ◌++◌, drop, length, All, Option, Some, None, Result, Ok, Err, ℤ, pos, negsuc, ◌+ℤ◌, refl, sym, ◌∙◌, ap, subst, arith, ◌⊎◌, ⊎_elim, inl, inr, leb-false}
+use Rattle.std.specs.Prelude.{IfErr}
+use Rattle.std.proofs.lemmas.Bool.{and_cases, and_parts, cond_both, eqb-false, false≢true, not-true, or_parts}
+use Rattle.jbig2_base.specs.declared.error.DecodeError.{DecodeError}
+use Rattle.jbig2_base.specs.declared.error.DecodeError.TheVariants.{Region}
+use Rattle.jbig2_base.specs.declared.error.RegionError.TheVariants.{InvalidMmrData}
+use Rattle.jbig2_mmr.specs.Causes.{BeginNone, BreaksMmr, BreaksMode, BreaksRow, BreaksRows, BreaksRuns, IsOutside, MmrDataHasCauses}
+use Rattle.jbig2_mmr.specs.T6.{Decoded, Head, Rows, Step, after_end, after_mode, after_pass, after_runs, after_vertical, b1_of, begins, bits_of, ends_block, grid_of_rows, mmr_rows, next_step, or_fault, pixel_of, place_in, read_code, row, row_from, row_start, rows_from, rows_of, run, ◌>>=◌}
+use Rattle.jbig2_mmr.specs.T6Codes.{modes}
+use Rattle.jbig2_mmr.specs.declared.mmr.codes.Mode.{Mode}
+use Rattle.jbig2_mmr.specs.declared.mmr.codes.Mode.TheVariants.{Pass, Horizontal, Vertical}
+
+never-none : {A : Type 0} (x : A) → ◌≡◌ {A = Option A} (Some x) None → ⊥
+never-none x same = cc
+
+-- ---- a code
+all-cons : {X : Type 0} (P : X → Type 0) (x : X) (xs : List X) → P x → All P xs → All P (x ∷ xs)
+all-cons P x xs first others zero d inside = first
+all-cons P x xs first others (suc k) d inside = others k d (omega arith)
+
+code-none : {A : Type 0} (cs : List (A × List ℕ)) (bits : List ℕ) → read_code cs bits ≡ None → BeginNone cs bits
+unfolding read_code
+code-none [] bits is = λ i d inside. absurd (omega arith)
+code-none {A} (c ∷ cs) bits is =
+    let P : A × List ℕ → Type 0 = λ c. begins c.1 bits ≡ false in
+    let Q : Option (A × List ℕ) → Type 0 = λ o. o ≡ None → All P (c ∷ cs) in
+    cond_both (begins c.1 bits) (Some (c.0, drop (length c.1) bits)) (read_code cs bits) Q
+    (λ yes same. absurd (never-none (c.0, drop (length c.1) bits) same))
+    (λ no same. all-cons P c cs no (code-none cs bits same))
+    is
+
+-- ---- a mode
+outside : (a0 w : ℕ) (z : ℤ) → place_in a0 w z ≡ None → IsOutside a0 w z
+outside a0 w (negsuc x) is = tt
+outside a0 w (pos x) is =
+    let Q : Option ℕ → Type 0 = λ o. o ≡ None → IsOutside a0 w (pos x) in
+    cond_both (leb a0 x && leb x w) (Some x) None Q
+    (λ yes same. absurd (never-none x same))
+    (λ no same. ⊎_elim (λ (below : leb a0 x ≡ false). inl (leb-false a0 x below)) (λ (past : leb x w ≡ false). inr (leb-false x w past)) (and_cases (leb a0 x) (leb x w) no))
+    is
+
+vertical-fault : (w : ℕ) (above : ℕ → Bool) (h : Head) (distance : ℤ) (bits : List ℕ) → after_vertical w above h distance bits ≡ None → IsOutside h.a0 w (pos (b1_of w above h) +ℤ distance)
+unfolding after_vertical
+vertical-fault w above h distance bits is =
+    let z = pos (b1_of w above h) +ℤ distance in
+    outside h.a0 w z (no-place (λ a1. record { head = record { a0 = a1; begun = true; black = not h.black }; added = a1 ∷ []; left = bits }) (place_in h.a0 w z) is)
+  where
+    no-place : (f : ℕ → Step) (o : Option ℕ) → (o >>= λ a1. Some (f a1)) ≡ None → o ≡ None
+    no-place f None is = refl
+    no-place f (Some x) is = absurd (never-none (f x) is)
+
+runs-fault : (w : ℕ) (h : Head) (bits : List ℕ) → after_runs w h bits ≡ None → BreaksRuns w h bits
+unfolding after_runs
+runs-fault w h bits is = by-first (run h.black bits) refl is
+  where
+    end : ℕ → ℕ → ℕ → List ℕ → Option Step
+    end w a1 a2 left = cond (leb a2 w) (Some (record { head = record { a0 = a2; begun = true; black = h.black }; added = a1 ∷ a2 ∷ []; left = left })) None
+
+    past : (first second : ℕ × List ℕ) → end w (h.a0 + first.0) (h.a0 + first.0 + second.0) second.1 ≡ None → w < h.a0 + first.0 + second.0
+    past first second =
+        let a2 = h.a0 + first.0 + second.0 in
+        let made : Step = record { head = record { a0 = a2; begun = true; black = h.black }; added = (h.a0 + first.0) ∷ a2 ∷ []; left = second.1 } in
+        let Q : Option Step → Type 0 = λ o. o ≡ None → w < a2 in
+        cond_both (leb a2 w) (Some made) None Q (λ yes same. absurd (never-none made same)) (λ no same. leb-false a2 w no)
+
+    by-second : (first : ℕ × List ℕ) → run h.black bits ≡ Some first → (o : Option (ℕ × List ℕ)) → run (not h.black) first.1 ≡ o → (o >>= λ second. end w (h.a0 + first.0) (h.a0 + first.0 + second.0) second.1) ≡ None → BreaksRuns w h bits
+    by-second first there None none is = inr (first, there, inl none)
+    by-second first there (Some second) some is = inr (first, there, inr (second, some, past first second is))
+
+    by-first : (o : Option (ℕ × List ℕ)) → run h.black bits ≡ o → (o >>= λ first. run (not h.black) first.1 >>= λ second. end w (h.a0 + first.0) (h.a0 + first.0 + second.0) second.1) ≡ None → BreaksRuns w h bits
+    by-first None none is = inl none
+    by-first (Some first) there is = by-second first there (run (not h.black) first.1) refl is
+
+pass-goes : (w : ℕ) (above : ℕ → Bool) (h : Head) (bits : List ℕ) → after_pass w above h bits ≡ None → ⊥
+unfolding after_pass
+pass-goes w above h bits is = never-none _ is
+
+mode-fault : (w : ℕ) (above : ℕ → Bool) (h : Head) (bits : List ℕ) → next_step w above h bits ≡ None → BreaksMode w above h bits
+unfolding next_step
+mode-fault w above h bits is = by-mode (read_code modes bits) refl is
+  where
+    by-mode : (o : Option (Mode × List ℕ)) → read_code modes bits ≡ o → (o >>= λ mode. after_mode w above h mode.0 mode.1) ≡ None → BreaksMode w above h bits
+    by-mode None none is = inl (code-none modes bits none)
+    by-mode (Some (Pass, left)) some is = absurd (pass-goes w above h left is)
+    by-mode (Some (Horizontal, left)) some is = inr (inl (left, some, runs-fault w h left is))
+    by-mode (Some (Vertical distance, left)) some is = inr (inr (distance, left, some, vertical-fault w above h distance left is))
+
+-- ---- rows
+row-fault : (most w : ℕ) (above : ℕ → Bool) (h : Head) (changes bits : List ℕ) → row_from most w above h changes bits ≡ None → BreaksRow most w above h bits
+unfolding row_from
+row-fault zero w above h changes bits =
+    let Q : Option (List ℕ × List ℕ) → Type 0 = λ o. o ≡ None → h.a0 < w in
+    cond_both (leb w h.a0) (Some (changes, bits)) None Q (λ yes same. absurd (never-none (changes, bits) same)) (λ no same. leb-false w h.a0 no)
+row-fault (suc most) w above h changes bits =
+    let next : Step → Option (List ℕ × List ℕ) = λ s. row_from most w above s.head (changes ++ s.added) s.left in
+    let Q : Option (List ℕ × List ℕ) → Type 0 = λ o. o ≡ None → BreaksRow (suc most) w above h bits in
+    cond_both (leb w h.a0) (Some (changes, bits)) (next_step w above h bits >>= next) Q
+    (λ yes same. absurd (never-none (changes, bits) same))
+    (λ no same. (leb-false w h.a0 no, by-step (next_step w above h bits) refl (λ s is. row-fault most w above s.head (changes ++ s.added) s.left is) same))
+  where
+    by-step : (o : Option Step) → next_step w above h bits ≡ o → ((s : Step) → row_from most w above s.head (changes ++ s.added) s.left ≡ None → BreaksRow most w above s.head s.left) → (o >>= λ s. row_from most w above s.head (changes ++ s.added) s.left) ≡ None → BreaksMode w above h bits ⊎ ((s : Step) × (next_step w above h bits ≡ Some s) × BreaksRow most w above s.head s.left)
+    by-step None none later is = inl (mode-fault w above h bits none)
+    by-step (Some s) some later is = inr (s, some, later s is)
+
+rows-fault : (n w : ℕ) (above : List ℕ) (done : List (List ℕ)) (bits : List ℕ) → (rows_from n w above done bits).whole ≡ false → BreaksRows n w above bits
+unfolding rows_from
+rows-fault zero w above done bits = λ is. absurd (false≢true (sym is))
+rows-fault (suc n) w above done bits =
+    let Q : Rows → Type 0 = λ r. r.whole ≡ false → BreaksRows (suc n) w above bits in
+    let o = row w (pixel_of w above) bits in
+    cond_both (ends_block bits) (record { rows = done; whole = false; left = drop 24 bits }) (or_fault done o (λ r. rows_from n w r.0 (done ++ r.0 ∷ []) r.1)) Q
+    (λ ends is. inl ends)
+    (λ goes is. inr (by-row o refl (λ r is. rows-fault n w r.0 (done ++ r.0 ∷ []) r.1 is) is))
+  where
+    by-row : (o : Option (List ℕ × List ℕ)) → row w (pixel_of w above) bits ≡ o → ((r : List ℕ × List ℕ) → (rows_from n w r.0 (done ++ r.0 ∷ []) r.1).whole ≡ false → BreaksRows n w r.0 r.1) → (or_fault done o (λ r. rows_from n w r.0 (done ++ r.0 ∷ []) r.1)).whole ≡ false → BreaksRow (length bits) w (pixel_of w above) row_start bits ⊎ ((r : List ℕ × List ℕ) × (row w (pixel_of w above) bits ≡ Some r) × BreaksRows n w r.0 r.1)
+    by-row None none later is = inl (row-fault (length bits) w (pixel_of w above) row_start [] bits none)
+    by-row (Some r) some later is = inr (r, some, later r is)
+
+all-fault : (w h : ℕ) (bytes : List ℕ) → (rows_of w h bytes).whole ≡ false → (0 < w) × BreaksRows h w [] (bits_of bytes)
+unfolding rows_of
+all-fault w h bytes =
+    let Q : Rows → Type 0 = λ r. r.whole ≡ false → (0 < w) × BreaksRows h w [] (bits_of bytes) in
+    cond_both (eqb w 0 || eqb h 0) (record { rows = []; whole = true; left = bits_of bytes }) (rows_from h w [] [] (bits_of bytes)) Q
+    (λ none is. absurd (false≢true (sym is)))
+    (λ some is. (omega (arith, eqb-false w 0 (or_parts (eqb w 0) (eqb h 0) some).0), rows-fault h w [] [] (bits_of bytes) is))
+
+pub cause-mmr : (P : DecodeError → Type 0) (strict : Bool) (w h : ℕ) (bytes : List ℕ) → ((strict ≡ true) × (0 < w) × BreaksRows h w [] (bits_of bytes) → P (Region InvalidMmrData)) → IfErr (mmr_rows strict w h bytes) P
+unfolding mmr_rows
+cause-mmr P strict w h bytes why =
+    let r = rows_of w h bytes in
+    let Q : Result Decoded DecodeError → Type 0 = λ a. IfErr a P in
+    cond_both (strict && not r.whole) (Err (Region InvalidMmrData)) (Ok (record { grid = grid_of_rows w h r.rows; used = length bytes - length r.left / 8 })) Q
+    (λ refused. let parts = and_parts strict (not r.whole) refused in let fault = all-fault w h bytes (not-true r.whole parts.1) in why (parts.0, fault.0, fault.1))
+    (λ taken. tt)
+
+pub mmr_causes : MmrDataHasCauses
+mmr_causes strict w h bytes = cause-mmr (BreaksMmr strict w h bytes) strict w h bytes (λ why. why)

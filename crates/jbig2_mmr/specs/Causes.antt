@@ -1,0 +1,59 @@
+-- Which rule of T.6 the bits break where strict mode refuses MMR data (docs/FORMAT.md).
+use Rattle.std.specs.Prelude.{◌≡◌, ◌<◌, ◌⊎◌, ℕ, zero, suc, ◌+◌, Bool, true, false, not, List, [], length, All, Option, Some, None, IfErr, ℤ, pos, negsuc, ◌+ℤ◌}
+use Rattle.jbig2_base.specs.declared.error.DecodeError.{DecodeError}
+use Rattle.jbig2_base.specs.declared.error.DecodeError.TheVariants.{Region}
+use Rattle.jbig2_base.specs.declared.error.RegionError.TheVariants.{InvalidMmrData}
+use Rattle.jbig2_mmr.specs.T6.{Head, Step, b1_of, begins, bits_of, ends_block, mmr_rows, next_step, pixel_of, read_code, row, row_start, run}
+use Rattle.jbig2_mmr.specs.T6Codes.{modes}
+use Rattle.jbig2_mmr.specs.declared.mmr.codes.Mode.{Mode}
+use Rattle.jbig2_mmr.specs.declared.mmr.codes.Mode.TheVariants.{Horizontal, Vertical}
+
+-- no word of the table begins the bits
+abbrev pub BeginNone : {A : Type 0} → List (A × List ℕ) → List ℕ → Type 0
+BeginNone words bits = All (λ c. begins c.1 bits ≡ false) words
+
+-- Horizontal: the first run is not there; or the second is not there, or both pass the row's end.
+abbrev pub BreaksRuns : ℕ → Head → List ℕ → Type 0
+BreaksRuns w h bits =
+    (run h.black bits ≡ None)
+    ⊎ ((first : ℕ × List ℕ) × (run h.black bits ≡ Some first)
+    × ((run (not h.black) first.1 ≡ None)
+    ⊎ ((second : ℕ × List ℕ) × (run (not h.black) first.1 ≡ Some second) × (w < h.a0 + first.0 + second.0))))
+
+-- left of a0, or past the row's end
+abbrev pub IsOutside : ℕ → ℕ → ℤ → Type 0
+IsOutside a0 w (pos x) = (x < a0) ⊎ (w < x)
+IsOutside a0 w (negsuc x) = Unit {0}
+
+-- No mode's word begins the bits (2.2.2, table 1); or the mode's runs are at fault, or its a1 lies outside.
+abbrev pub BreaksMode : ℕ → (ℕ → Bool) → Head → List ℕ → Type 0
+BreaksMode w above h bits =
+    BeginNone modes bits
+    ⊎ (((left : List ℕ) × (read_code modes bits ≡ Some (Horizontal, left)) × BreaksRuns w h left)
+    ⊎ ((distance : ℤ) × (left : List ℕ) × (read_code modes bits ≡ Some (Vertical distance, left))
+    × IsOutside h.a0 w (pos (b1_of w above h) +ℤ distance)))
+
+-- The row is not at its end, and the next mode is at fault, or one of those behind it; or as many modes were read as
+-- there were bits.
+abbrev pub BreaksRow : ℕ → ℕ → (ℕ → Bool) → Head → List ℕ → Type 0
+BreaksRow zero w above h bits = h.a0 < w
+BreaksRow (suc most) w above h bits =
+    (h.a0 < w)
+    × (BreaksMode w above h bits
+    ⊎ ((s : Step) × (next_step w above h bits ≡ Some s) × BreaksRow most w above s.head s.left))
+
+-- Of n rows the next one is missing, since the end of block stands in its place, or is at fault; or one behind it is.
+abbrev pub BreaksRows : ℕ → ℕ → List ℕ → List ℕ → Type 0
+BreaksRows zero w above bits = ⊥
+BreaksRows (suc n) w above bits =
+    (ends_block bits ≡ true)
+    ⊎ (BreaksRow (length bits) w (pixel_of w above) row_start bits
+    ⊎ ((r : List ℕ × List ℕ) × (row w (pixel_of w above) bits ≡ Some r) × BreaksRows n w r.0 r.1))
+
+-- Only in strict mode, and only where there are columns.
+abbrev pub BreaksMmr : Bool → ℕ → ℕ → List ℕ → DecodeError → Type 0
+BreaksMmr strict w h bytes (Region InvalidMmrData) = (strict ≡ true) × (0 < w) × BreaksRows h w [] (bits_of bytes)
+BreaksMmr strict w h bytes _ = ⊥
+
+abbrev pub MmrDataHasCauses : Type 0
+MmrDataHasCauses = (strict : Bool) (w h : ℕ) (bytes : List ℕ) → IfErr (mmr_rows strict w h bytes) (BreaksMmr strict w h bytes)
