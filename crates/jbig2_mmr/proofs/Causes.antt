@@ -1,18 +1,21 @@
 -- Which rule of T.6 the bits break where strict mode refuses MMR data.
-use Rattle.std.proofs.Common.{◌≡◌, ℕ, zero, suc, ◌+◌, ◌-◌, ◌/◌, ◌<◌, ◌≤◌, eqb, ltb, leb, Bool, true, false, not, ◌&&◌, ◌||◌, cond, List, [], ◌∷◌, ◌++◌, drop, length, All, Option, Some, None, Result, Ok, Err, ℤ, pos, negsuc, ◌+ℤ◌, refl, sym, ◌∙◌, ap, subst, arith, ◌⊎◌, ⊎_elim, inl, inr, leb-false}
+use Rattle.std.proofs.Common.{◌≡◌, ℕ, zero, suc, ◌+◌, ◌-◌, ◌/◌, ◌<◌, ◌≤◌, eqb, ltb, leb, Bool, true, false, not, ◌&&◌, ◌||◌, cond, List, [], ◌∷◌, ◌++◌, drop, length, All, Option, Some, None, Result, Ok, Err, ℤ, pos, negsuc, ◌+ℤ◌, refl, sym, ◌∙◌, ap, subst, arith, ◌⊎◌, ⊎_elim, inl, inr, leb-false, length-drop, ltb-false, ltb-true}
 use Rattle.std.specs.Prelude.{IfErr}
 use Rattle.std.proofs.lemmas.Bool.{and_cases, and_parts, cond_both, eqb-false, false≢true, not-true, or_parts}
 use Rattle.jbig2_base.specs.declared.error.DecodeError.{DecodeError}
 use Rattle.jbig2_base.specs.declared.error.DecodeError.TheVariants.{Region}
 use Rattle.jbig2_base.specs.declared.error.RegionError.TheVariants.{InvalidMmrData}
-use Rattle.jbig2_mmr.specs.Causes.{BeginNone, BreaksMmr, BreaksMode, BreaksRow, BreaksRows, BreaksRuns, IsOutside, MmrDataHasCauses}
-use Rattle.jbig2_mmr.specs.T6.{Decoded, Head, Rows, Step, after_end, after_mode, after_pass, after_runs, after_vertical, b1_of, begins, bits_of, ends_block, grid_of_rows, mmr_rows, next_step, or_fault, pixel_of, place_in, read_code, row, row_from, row_start, rows_from, rows_of, run, ◌>>=◌}
-use Rattle.jbig2_mmr.specs.T6Codes.{modes}
+use Rattle.jbig2_mmr.specs.Causes.{BeginNone, BreaksMmr, BreaksMode, BreaksRow, BreaksRows, BreaksRun, BreaksRuns, IsOutside, MmrDataHasCauses}
+use Rattle.jbig2_mmr.specs.T6.{Decoded, Head, Rows, Step, after_end, after_mode, after_pass, after_runs, after_vertical, b1_of, begins, bits_of, ends_block, grid_of_rows, mmr_rows, next_step, or_fault, pixel_of, place_in, read_code, row, row_from, row_start, rows_from, rows_of, run, run_from, runs_of, ◌>>=◌}
+use Rattle.jbig2_mmr.specs.T6Codes.{black_runs, longer_runs, modes, white_runs}
 use Rattle.jbig2_mmr.specs.declared.mmr.codes.Mode.{Mode}
 use Rattle.jbig2_mmr.specs.declared.mmr.codes.Mode.TheVariants.{Pass, Horizontal, Vertical}
 
 never-none : {A : Type 0} (x : A) → ◌≡◌ {A = Option A} (Some x) None → ⊥
 never-none x same = cc
+
+same-some : {A : Type 0} (x y : A) → ◌≡◌ {A = Option A} (Some x) (Some y) → x ≡ y
+same-some x y same = cc
 
 -- ---- a code
 all-cons : {X : Type 0} (P : X → Type 0) (x : X) (xs : List X) → P x → All P xs → All P (x ∷ xs)
@@ -29,6 +32,84 @@ code-none {A} (c ∷ cs) bits is =
     (λ yes same. absurd (never-none (c.0, drop (length c.1) bits) same))
     (λ no same. all-cons P c cs no (code-none cs bits same))
     is
+
+-- ---- a run
+-- each word has a bit
+abbrev some-bits : {A : Type 0} → List (A × List ℕ) → Bool
+some-bits [] = true
+some-bits (c ∷ cs) = ltb 0 (length c.1) && some-bits cs
+
+white-bits : some-bits white_runs ≡ true
+unfolding white_runs longer_runs
+white-bits = refl
+
+black-bits : some-bits black_runs ≡ true
+unfolding black_runs longer_runs
+black-bits = refl
+
+runs-bits : (black : Bool) → some-bits (runs_of black) ≡ true
+runs-bits true = black-bits
+runs-bits false = white-bits
+
+begins-less : (word bits : List ℕ) → begins word bits ≡ true → length word ≤ length bits
+begins-less [] bits is = omega arith
+begins-less (b ∷ word) [] is = absurd (false≢true is)
+begins-less (b ∷ word) (c ∷ bits) is = let others = begins-less word bits (and_parts (eqb b c) (begins word bits) is).1 in omega arith
+
+not-empty : (word : List ℕ) → ltb 0 (length word) ≡ true → begins word [] ≡ false
+not-empty [] is = absurd (false≢true is)
+not-empty (b ∷ word) is = refl
+
+none-empty : {A : Type 0} (cs : List (A × List ℕ)) → some-bits cs ≡ true → BeginNone cs []
+none-empty [] is = λ i d inside. absurd (omega arith)
+none-empty {A} (c ∷ cs) is =
+    let parts = and_parts (ltb 0 (length c.1)) (some-bits cs) is in
+    let P : A × List ℕ → Type 0 = λ c. begins c.1 [] ≡ false in
+    all-cons P c cs (not-empty c.1 parts.0) (none-empty cs parts.1)
+
+code-shorter : {A : Type 0} (cs : List (A × List ℕ)) (bits : List ℕ) (c : A × List ℕ) → some-bits cs ≡ true → read_code cs bits ≡ Some c → length c.1 < length bits
+unfolding read_code
+code-shorter {A} [] bits c all is = absurd (let never : ◌≡◌ {A = Option (A × List ℕ)} None (Some c) = is in cc)
+code-shorter {A} (x ∷ cs) bits c all is =
+    let parts = and_parts (ltb 0 (length x.1)) (some-bits cs) all in
+    let found : A × List ℕ = (x.0, drop (length x.1) bits) in
+    let Q : Option (A × List ℕ) → Type 0 = λ o. o ≡ Some c → length c.1 < length bits in
+    cond_both (begins x.1 bits) (Some found) (read_code cs bits) Q
+    (λ yes same.
+    let e : found ≡ c = same-some found c same in
+    let rest : drop (length x.1) bits ≡ c.1 = ap (λ (y : A × List ℕ). y.1) e in
+    omega (arith, ap length rest, length-drop (length x.1) bits, begins-less x.1 bits yes, ltb-true 0 (length x.1) parts.0))
+    (λ no same. code-shorter cs bits c parts.1 same)
+    is
+
+empty : (bits : List ℕ) → length bits ≤ 0 → bits ≡ []
+empty [] none = refl
+empty (b ∷ bits) none = absurd (omega arith)
+
+abbrev plus-rest : ℕ → ℕ × List ℕ → ℕ × List ℕ
+plus-rest part rest = (part + rest.0, rest.1)
+
+run-fault : (most : ℕ) (black : Bool) (bits : List ℕ) → length bits ≤ most → run_from most black bits ≡ None → BreaksRun most black bits
+unfolding run_from
+run-fault zero black bits few is =
+    let P : List ℕ → Type 0 = λ bs. BeginNone (runs_of black) bs in
+    subst P (sym (empty bits few)) (none-empty (runs_of black) (runs-bits black))
+run-fault (suc most) black bits few is =
+    by-code (read_code (runs_of black) bits) refl (λ c some is. run-fault most black c.1 (omega (arith, code-shorter (runs_of black) bits c (runs-bits black) some)) is) is
+  where
+    rest-none : (part : ℕ) (o : Option (ℕ × List ℕ)) → (o >>= λ rest. Some (plus-rest part rest)) ≡ None → o ≡ None
+    rest-none part None is = refl
+    rest-none part (Some r) is = absurd (never-none (plus-rest part r) is)
+
+    by-code : (o : Option (ℕ × List ℕ)) → read_code (runs_of black) bits ≡ o → ((c : ℕ × List ℕ) → read_code (runs_of black) bits ≡ Some c → run_from most black c.1 ≡ None → BreaksRun most black c.1) → (o >>= λ code. cond (ltb code.0 64) (Some code) (run_from most black code.1 >>= λ rest. Some (plus-rest code.0 rest))) ≡ None → BreaksRun (suc most) black bits
+    by-code None none later is = inl (code-none (runs_of black) bits none)
+    by-code (Some c) some later is =
+        let next : Option (ℕ × List ℕ) = run_from most black c.1 >>= λ rest. Some (plus-rest c.0 rest) in
+        let Q : Option (ℕ × List ℕ) → Type 0 = λ o. o ≡ None → BreaksRun (suc most) black bits in
+        cond_both (ltb c.0 64) (Some c) next Q
+        (λ small same. absurd (never-none c same))
+        (λ large same. inr (c, some, ltb-false c.0 64 large, later c some (rest-none c.0 (run_from most black c.1) same)))
+        is
 
 -- ---- a mode
 outside : (a0 w : ℕ) (z : ℤ) → place_in a0 w z ≡ None → IsOutside a0 w z
@@ -65,11 +146,11 @@ runs-fault w h bits is = by-first (run h.black bits) refl is
         cond_both (leb a2 w) (Some made) None Q (λ yes same. absurd (never-none made same)) (λ no same. leb-false a2 w no)
 
     by-second : (first : ℕ × List ℕ) → run h.black bits ≡ Some first → (o : Option (ℕ × List ℕ)) → run (not h.black) first.1 ≡ o → (o >>= λ second. end w (h.a0 + first.0) (h.a0 + first.0 + second.0) second.1) ≡ None → BreaksRuns w h bits
-    by-second first there None none is = inr (first, there, inl none)
+    by-second first there None none is = inr (first, there, inl (run-fault (length first.1) (not h.black) first.1 (omega arith) none))
     by-second first there (Some second) some is = inr (first, there, inr (second, some, past first second is))
 
     by-first : (o : Option (ℕ × List ℕ)) → run h.black bits ≡ o → (o >>= λ first. run (not h.black) first.1 >>= λ second. end w (h.a0 + first.0) (h.a0 + first.0 + second.0) second.1) ≡ None → BreaksRuns w h bits
-    by-first None none is = inl none
+    by-first None none is = inl (run-fault (length bits) h.black bits (omega arith) none)
     by-first (Some first) there is = by-second first there (run (not h.black) first.1) refl is
 
 pass-goes : (w : ℕ) (above : ℕ → Bool) (h : Head) (bits : List ℕ) → after_pass w above h bits ≡ None → ⊥

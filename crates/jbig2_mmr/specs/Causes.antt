@@ -1,9 +1,9 @@
 -- Which rule of T.6 the bits break where strict mode refuses MMR data (docs/FORMAT.md).
-use Rattle.std.specs.Prelude.{◌≡◌, ◌<◌, ◌⊎◌, ℕ, zero, suc, ◌+◌, Bool, true, false, not, List, [], length, All, Option, Some, None, IfErr, ℤ, pos, negsuc, ◌+ℤ◌}
+use Rattle.std.specs.Prelude.{◌≡◌, ◌<◌, ◌≤◌, ◌⊎◌, ℕ, zero, suc, ◌+◌, Bool, true, false, not, List, [], length, All, Some, IfErr, ℤ, pos, negsuc, ◌+ℤ◌}
 use Rattle.jbig2_base.specs.declared.error.DecodeError.{DecodeError}
 use Rattle.jbig2_base.specs.declared.error.DecodeError.TheVariants.{Region}
 use Rattle.jbig2_base.specs.declared.error.RegionError.TheVariants.{InvalidMmrData}
-use Rattle.jbig2_mmr.specs.T6.{Head, Step, b1_of, begins, bits_of, ends_block, mmr_rows, next_step, pixel_of, read_code, row, row_start, run}
+use Rattle.jbig2_mmr.specs.T6.{Head, Step, b1_of, begins, bits_of, ends_block, mmr_rows, next_step, pixel_of, read_code, row, row_start, run, runs_of}
 use Rattle.jbig2_mmr.specs.T6Codes.{modes}
 use Rattle.jbig2_mmr.specs.declared.mmr.codes.Mode.{Mode}
 use Rattle.jbig2_mmr.specs.declared.mmr.codes.Mode.TheVariants.{Horizontal, Vertical}
@@ -12,12 +12,20 @@ use Rattle.jbig2_mmr.specs.declared.mmr.codes.Mode.TheVariants.{Horizontal, Vert
 abbrev pub BeginNone : {A : Type 0} → List (A × List ℕ) → List ℕ → Type 0
 BeginNone words bits = All (λ c. begins c.1 bits ≡ false) words
 
+-- A run: no word of its colour's table (tables 2 and 3) begins the bits, or a make-up code does, and the rest of the run
+-- behind it is at fault.
+abbrev pub BreaksRun : ℕ → Bool → List ℕ → Type 0
+BreaksRun zero black bits = BeginNone (runs_of black) bits
+BreaksRun (suc most) black bits =
+    BeginNone (runs_of black) bits
+    ⊎ ((code : ℕ × List ℕ) × (read_code (runs_of black) bits ≡ Some code) × (64 ≤ code.0) × BreaksRun most black code.1)
+
 -- Horizontal: the first run is not there; or the second is not there, or both pass the row's end.
 abbrev pub BreaksRuns : ℕ → Head → List ℕ → Type 0
 BreaksRuns w h bits =
-    (run h.black bits ≡ None)
+    BreaksRun (length bits) h.black bits
     ⊎ ((first : ℕ × List ℕ) × (run h.black bits ≡ Some first)
-    × ((run (not h.black) first.1 ≡ None)
+    × (BreaksRun (length first.1) (not h.black) first.1
     ⊎ ((second : ℕ × List ℕ) × (run (not h.black) first.1 ≡ Some second) × (w < h.a0 + first.0 + second.0))))
 
 -- left of a0, or past the row's end
