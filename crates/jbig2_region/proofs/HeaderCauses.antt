@@ -2,7 +2,7 @@
 use Rattle.std.proofs.Common.{◌≡◌, ℕ, ◌+◌, ◌-◌, ◌*◌, ◌/◌, ◌%◌, ◌^◌, ◌<◌, ◌≤◌, eqb, ltb, leb, Bool, true, false, ◌||◌, cond, List, take, drop, length, Result, Ok, Err, refl, sym, ◌∙◌, ap, subst, arith, ◌⊎◌, ⊎_elim, inl, inr, length-drop, ltb-true, leb-true}
 use Rattle.std.specs.Prelude.{IfErr}
 use Rattle.std.specs.Int.{Width, w8, w32, byte_len, from_be_bytes}
-use Rattle.std.proofs.lemmas.Bool.{cond-true, cond-false, or_cases}
+use Rattle.std.proofs.lemmas.Bool.{cond-true, cond_both, or_cases}
 use Rattle.std.proofs.lemmas.List.{drop-drop}
 use Rattle.jbig2_base.specs.Answer.{◌>>=◌, refuse_if}
 use Rattle.jbig2_base.specs.Causes.{number_in}
@@ -12,12 +12,16 @@ use Rattle.jbig2_base.specs.declared.error.DecodeError.TheVariants as errors
 use Rattle.jbig2_base.specs.declared.error.OverflowError.TheVariants.{BitmapDimension, ReferenceOffset}
 use Rattle.jbig2_base.specs.declared.error.RegionError.TheVariants.{InvalidDimension}
 use Rattle.jbig2_base.proofs.Causes.{cause-next, cause-number, cause-refused, number-there}
-use Rattle.jbig2_region.specs.Causes.{BreaksGenericHeader, BreaksOffset, BreaksRefinementHeader, GenericHeadersHaveCauses, OffsetsHaveCauses, RefinementHeadersHaveCauses, header_length, pixel_count, pixels_by, refinement_pixel_count}
-use Rattle.jbig2_region.specs.GenericHeader.{generic_header_at, rows_at}
-use Rattle.jbig2_region.specs.Refinement.{is_far, is_smaller, offset}
-use Rattle.jbig2_region.specs.RefinementHeader.{refinement_header_at}
+use Rattle.jbig2_region.specs.Causes.{BreaksGeneric, BreaksGenericHeader, BreaksOffset, BreaksRefinementHeader, GenericHeadersHaveCauses, GenericRegionsHaveCauses, OffsetsHaveCauses, RefinedRegionsHaveCauses, RefinementHeadersHaveCauses, header_length, pixel_count, pixels_by, refinement_pixel_count}
+use Rattle.jbig2_base.specs.Grid.{Grid}
+use Rattle.jbig2_mmr.specs.T6.{mmr_rows}
+use Rattle.jbig2_mmr.proofs.Causes.{cause-mmr}
+use Rattle.jbig2_region.specs.Generic.{generic_answer, generic_grid}
+use Rattle.jbig2_region.specs.GenericHeader.{GenericHeader, generic_header_at, rows_at}
+use Rattle.jbig2_region.specs.Refinement.{is_far, is_smaller, offset, refined_answer, refined_grid}
+use Rattle.jbig2_region.specs.RefinementHeader.{RefinementHeader, refinement_header_at}
 use Rattle.jbig2_region.specs.RefinementTemplates.{refinement_pixels_at, refinement_template_of}
-use Rattle.jbig2_region.specs.RegionInfo.{PlacedRegion, region_info_at}
+use Rattle.jbig2_region.specs.RegionInfo.{PlacedRegion, placed, region_info_at}
 use Rattle.jbig2_region.specs.Templates.{template_of, template_pixels_at}
 use Rattle.jbig2_region.specs.declared.region_info.RegionSegmentInfo.{RegionSegmentInfo}
 use Rattle.jbig2_region.specs.declared.template.RefinementTemplate.{RefinementTemplate}
@@ -144,3 +148,22 @@ offset_causes from info =
     (or_cases (a || b) c abc))
     (λ (last : d ≡ true). inr (inr (far info.y_location last)))
     (or_cases (a || b || c) d is))) (λ near near_is. tt))
+
+-- ---- decoded regions
+pub generic_causes : GenericRegionsHaveCauses
+generic_causes h =
+    let P : DecodeError → Type 0 = BreaksGeneric h in
+    let w = h.region_info.width in
+    let rows = h.region_info.height in
+    let Q : Result Grid DecodeError → Type 0 = λ r. IfErr r P in
+    cause-next P (generic_answer h) (λ g. Ok (placed h.region_info g))
+    (cond_both h.mmr (mmr_rows h.strict w rows h.bytes >>= λ d. Ok d.grid) (Ok (generic_grid h)) Q
+    (λ mmr. cause-next P (mmr_rows h.strict w rows h.bytes) (λ d. Ok d.grid) (cause-mmr P h.strict w rows h.bytes (λ breaks. (mmr, breaks))) (λ d is. tt))
+    (λ arithmetic. tt))
+    (λ g is. tt)
+
+pub refined_causes : RefinedRegionsHaveCauses
+refined_causes h from =
+    let P : DecodeError → Type 0 = BreaksOffset from h.region_info in
+    cause-next P (refined_answer h from) (λ g. Ok (placed h.region_info g))
+    (cause-next P (offset from h.region_info) (λ d. Ok (refined_grid h from)) (offset_causes from h.region_info) (λ d is. tt)) (λ g is. tt)

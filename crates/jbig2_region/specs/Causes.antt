@@ -8,9 +8,11 @@ use Rattle.jbig2_base.specs.declared.error.OverflowError.TheVariants.{BitmapDime
 use Rattle.jbig2_base.specs.declared.error.ParseError.TheVariants.{UnexpectedEof}
 use Rattle.jbig2_base.specs.declared.error.RegionError.TheVariants.{InvalidCombinationOperator, InvalidDimension}
 use Rattle.jbig2_base.specs.declared.error.TemplateError.TheVariants.{InvalidAtPixel}
-use Rattle.jbig2_region.specs.GenericHeader.{generic_header_at, rows_at}
-use Rattle.jbig2_region.specs.Refinement.{offset}
-use Rattle.jbig2_region.specs.RefinementHeader.{refinement_header_at}
+use Rattle.jbig2_mmr.specs.Causes.{BreaksMmr}
+use Rattle.jbig2_region.specs.Generic.{generic_decoded}
+use Rattle.jbig2_region.specs.GenericHeader.{GenericHeader, generic_header_at, rows_at}
+use Rattle.jbig2_region.specs.Refinement.{offset, refined_decoded}
+use Rattle.jbig2_region.specs.RefinementHeader.{RefinementHeader, refinement_header_at}
 use Rattle.jbig2_region.specs.RefinementTemplates.{refinement_pixels_at}
 use Rattle.jbig2_region.specs.RegionInfo.{PlacedRegion, region_info_at}
 use Rattle.jbig2_region.specs.Templates.{template_of, template_pixels_at}
@@ -136,3 +138,15 @@ BreaksOffset from info _ = ⊥
 
 abbrev pub OffsetsHaveCauses : Type 0
 OffsetsHaveCauses = (from : PlacedRegion) (info : RegionSegmentInfo) → IfErr (offset from info) (BreaksOffset from info)
+
+-- ---- decoded regions
+-- A generic region: its MMR data.
+abbrev pub BreaksGeneric : GenericHeader → DecodeError → Type 0
+BreaksGeneric h e = (h.mmr ≡ true) × BreaksMmr h.strict h.region_info.width h.region_info.height h.bytes e
+
+abbrev pub GenericRegionsHaveCauses : Type 0
+GenericRegionsHaveCauses = (h : GenericHeader) → IfErr (generic_decoded h) (BreaksGeneric h)
+
+-- A refined region: its reference.
+abbrev pub RefinedRegionsHaveCauses : Type 0
+RefinedRegionsHaveCauses = (h : RefinementHeader) (from : PlacedRegion) → IfErr (refined_decoded h from) (BreaksOffset from h.region_info)

@@ -6,7 +6,7 @@ ghost use Rattle.jbig2_base.specs.Parsing.{Parses};
 ghost use Rattle.jbig2_region.specs.Generic.{contexts_after, generic_answer, generic_decoded, refused_grid};
 ghost use Rattle.jbig2_region.specs.RegionInfo.{IsWhiteFor, region_view};
 ghost use Rattle.jbig2_region.specs.inner.Layouts.{CountsGeneric};
-ghost use Rattle.jbig2_region.specs.Causes.{GenericHeadersHaveCauses, RowsHaveCauses};
+ghost use Rattle.jbig2_region.specs.Causes.{GenericHeadersHaveCauses, GenericRegionsHaveCauses, RowsHaveCauses};
 ghost use Rattle.jbig2_region.specs.GenericHeader.{header_view, rows_at, generic_header_at, IsParsed};
 
 pub use crate::generic_coding::decode_coded;
@@ -151,6 +151,7 @@ pub fn decode_into<A: Allocator, B: Allocator, L: Ledger>(
 /// Decodes a region (T.88, 6.2), as `decode_into` does, into a bitmap of its own.
 ///
 /// `OutOfMemory` where there is no room for the bitmap or the contexts, else as `decode_into`.
+#[tactic(auto, using(crate::proofs::HeaderCauses::generic_causes))]
 pub fn decode<A: Allocator, B: Allocator, L: Ledger>(
     alloc: A,
     header: &GenericRegionHeader<'_>,
@@ -162,6 +163,7 @@ pub fn decode<A: Allocator, B: Allocator, L: Ledger>(
     ensures contexts { Leaves result contexts.new.items
         (contexts_after (header_view header.now) contexts.old.items) }
     ensures steps { OnOk result (CountsGeneric (header_view header.now) steps.old steps.new) }
+    ensures causes { GenericRegionsHaveCauses }
 {
     let region_info = &header.region_info;
     let mut bitmap = Bitmap::new(alloc, region_info.width, region_info.height)?;

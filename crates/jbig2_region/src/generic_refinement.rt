@@ -3,7 +3,7 @@ ghost use Rattle.std.specs.Prelude.{◌≡◌, IfOk, OnErr, OnOk};
 ghost use Rattle.jbig2_base.specs.Answer.{Answers, Gives, Leaves};
 ghost use Rattle.jbig2_base.specs.Bits.{IsAligned};
 ghost use Rattle.jbig2_base.specs.Parsing.{Parses};
-ghost use Rattle.jbig2_region.specs.Causes.{OffsetsHaveCauses, RefinementHeadersHaveCauses};
+ghost use Rattle.jbig2_region.specs.Causes.{OffsetsHaveCauses, RefinedRegionsHaveCauses, RefinementHeadersHaveCauses};
 ghost use Rattle.jbig2_region.specs.RegionInfo.{IsWhiteFor, region_view};
 ghost use Rattle.jbig2_region.specs.Refinement.{is_far, is_smaller, offset, refined_answer, refined_contexts, refined_decoded};
 ghost use Rattle.jbig2_region.specs.RefinementSteps.{CountsRefined};
@@ -164,6 +164,7 @@ pub fn decode_into<A: Allocator, B: Allocator, C: Allocator, L: Ledger>(
 /// Refines `reference` (T.88, 6.3), as `decode_into` does, into a bitmap of its own.
 ///
 /// `OutOfMemory` where there is no room for the bitmap or the contexts, else as `decode_into`.
+#[tactic(auto, using(crate::proofs::HeaderCauses::refined_causes))]
 pub fn decode<A: Allocator, B: Allocator, C: Allocator, L: Ledger>(
     alloc: A,
     header: &GenericRefinementRegionHeader<'_>,
@@ -178,6 +179,7 @@ pub fn decode<A: Allocator, B: Allocator, C: Allocator, L: Ledger>(
         (refined_contexts (header_view header.now) (region_view reference.now) contexts.old.items) }
     ensures steps { OnOk result
         (CountsRefined (header_view header.now) (region_view reference.now) steps.old steps.new) }
+    ensures causes { RefinedRegionsHaveCauses }
 {
     let region_info = &header.region_info;
     let mut bitmap = Bitmap::new(alloc, region_info.width, region_info.height)?;

@@ -14,7 +14,7 @@ use Rattle.jbig2_region.proofs.generic_refinement.decode_into.Goals as goal
 pub returns-clause-value : goal.returns-clause-value
 returns-clause-value g c =
     let fresh : c.deref_mut.result.now ≡ fresh_contexts (refinement_bits c.args.header.now.template) = c.deref_mut.ensures.value ∙ sym (ok-inner _ _ c.in_ok-fresh_contexts.ensures) ∙ ap (λ (n : ℕ). fresh_contexts n) c.context_bits.ensures in
-    let near = c.in_ok-dx.ensures in
+    let near = c.in_ok-dx.ensures.value in
     let fits_dx : SFits w32 c.in_ok-dx.dx = search rules in
     let fits_dy : SFits w32 c.in_ok-dx.dy = search rules in
     let place = offset-value (header_view c.args.header.now) (region_view c.args.reference.now) (c.in_ok-dx.dx, c.in_ok-dx.dy) (to_z w32 (of_z w32 c.in_ok-dx.dx)) (to_z w32 (of_z w32 c.in_ok-dx.dy)) (to_z-of_z w32 c.in_ok-dx.dx fits_dx) (to_z-of_z w32 c.in_ok-dx.dy fits_dy) near in
@@ -24,7 +24,7 @@ returns-clause-value g c =
 pub returns-clause-contexts : goal.returns-clause-contexts
 returns-clause-contexts g c =
     let fresh : c.deref_mut.result.now ≡ fresh_contexts (refinement_bits c.args.header.now.template) = c.deref_mut.ensures.value ∙ sym (ok-inner _ _ c.in_ok-fresh_contexts.ensures) ∙ ap (λ (n : ℕ). fresh_contexts n) c.context_bits.ensures in
-    let near = c.in_ok-dx.ensures in
+    let near = c.in_ok-dx.ensures.value in
     let fits_dx : SFits w32 c.in_ok-dx.dx = search rules in
     let fits_dy : SFits w32 c.in_ok-dx.dy = search rules in
     let place = offset-value (header_view c.args.header.now) (region_view c.args.reference.now) (c.in_ok-dx.dx, c.in_ok-dx.dy) (to_z w32 (of_z w32 c.in_ok-dx.dx)) (to_z w32 (of_z w32 c.in_ok-dx.dy)) (to_z-of_z w32 c.in_ok-dx.dx fits_dx) (to_z-of_z w32 c.in_ok-dx.dy fits_dy) near in
@@ -36,7 +36,7 @@ returns-clause-contexts g c =
 pub returns-clause-steps : goal.returns-clause-steps
 returns-clause-steps g c =
     let fresh : c.deref_mut.result.now ≡ fresh_contexts (refinement_bits c.args.header.now.template) = c.deref_mut.ensures.value ∙ sym (ok-inner _ _ c.in_ok-fresh_contexts.ensures) ∙ ap (λ (n : ℕ). fresh_contexts n) c.context_bits.ensures in
-    let near = c.in_ok-dx.ensures in
+    let near = c.in_ok-dx.ensures.value in
     let fits_dx : SFits w32 c.in_ok-dx.dx = search rules in
     let fits_dy : SFits w32 c.in_ok-dx.dy = search rules in
     let place = offset-value (header_view c.args.header.now) (region_view c.args.reference.now) (c.in_ok-dx.dx, c.in_ok-dx.dy) (to_z w32 (of_z w32 c.in_ok-dx.dx)) (to_z w32 (of_z w32 c.in_ok-dx.dy)) (to_z-of_z w32 c.in_ok-dx.dx fits_dx) (to_z-of_z w32 c.in_ok-dx.dy fits_dy) near in
