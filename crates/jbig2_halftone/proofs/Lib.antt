@@ -1,4 +1,5 @@
 pub mod Answered
+pub mod Causes
 mod CellLemmas
 mod DrawSteps
 mod GrayCounts
@@ -8,4 +9,5 @@ mod LaneLemmas
 mod PatternLemmas
 mod PlaneLemmas
 mod RowLemmas
+mod Told
 mod WorkedHalftones

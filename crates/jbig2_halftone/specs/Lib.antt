@@ -1,3 +1,4 @@
+pub mod Causes
 pub mod GrayScale
 pub mod GraySteps
 pub mod Halftone

@@ -3,6 +3,7 @@ ghost use Rattle.std.specs.Prelude.{◌≡◌, ◌+◌, ◌*◌, ◌≤◌, leng
 ghost use Rattle.jbig2_base.specs.Answer.{Answers, Gives, Leaves};
 ghost use Rattle.jbig2_base.specs.Bits.{IsAligned};
 ghost use Rattle.jbig2_region.specs.Generic.{generic_answer, contexts_after};
+ghost use Rattle.jbig2_halftone.specs.Causes.{PatternHeadersHaveCauses};
 ghost use Rattle.jbig2_halftone.specs.PatternHeader.{header_view, side_at, pattern_header_at};
 ghost use Rattle.jbig2_halftone.specs.Patterns.{dictionary_view, collective_width, collective_pixels, collective_header, pattern_of, patterns_of, patterns_decoded, dictionary_contexts};
 
@@ -63,7 +64,7 @@ fn side_field(reader: &mut Reader<'_>) -> Result<u8>
 ///
 /// `ParseError::UnexpectedEof` where the bytes do not hold it, or where a pattern has no pixels. An
 /// error leaves the reader where it was. Takes no memory.
-#[tactic(auto, unfolding(crate::specs::PatternHeader::pattern_header_at))]
+#[tactic(auto, using(crate::proofs::Causes::pattern_header_causes), unfolding(crate::specs::PatternHeader::pattern_header_at))]
 pub fn parse<'a>(reader: &mut Reader<'a>, strict: bool) -> Result<PatternDictionaryHeader<'a>>
     requires { IsAligned reader.old }
     ensures value { Answers (λ h. (header_view h, reader.new.bytes)) result
@@ -72,6 +73,7 @@ pub fn parse<'a>(reader: &mut Reader<'a>, strict: bool) -> Result<PatternDiction
     ensures width { IfOk result (λ h. 1 ≤ h.pattern_width) }
     ensures height { IfOk result (λ h. 1 ≤ h.pattern_height) }
     ensures stays { OnErr result (reader.new ≡ reader.old) }
+    ensures causes { PatternHeadersHaveCauses }
 {
     let mut ahead = reader.duplicate();
     let flags = byte_field(&mut ahead)?;

@@ -3,6 +3,7 @@ ghost use Rattle.std.specs.Prelude.{◌≡◌, ◌≤◌, IfOk, OnErr};
 ghost use Rattle.jbig2_base.specs.Answer.{Answers};
 ghost use Rattle.jbig2_base.specs.Bits.{IsAligned};
 ghost use Rattle.jbig2_base.specs.Fields.{signed_at};
+ghost use Rattle.jbig2_halftone.specs.Causes.{HalftoneHeadersHaveCauses};
 ghost use Rattle.jbig2_halftone.specs.HalftoneHeader.{header_view, halftone_flags_at, halftone_grid_at, halftone_header_at};
 
 use jbig2_base::bitmap::operator::CombinationOperator;
@@ -113,7 +114,7 @@ fn parse_grid(reader: &mut Reader<'_>) -> Result<HalftoneGridPositionAndSize>
 /// `parse_region_segment_info`; `RegionError::InvalidCombinationOperator` where the flags name no
 /// operator; `OverflowError::GridDimension` for a grid of more than 65535 columns or rows. An error
 /// leaves the reader where it was. Takes no memory.
-#[tactic(auto, unfolding(crate::specs::HalftoneHeader::halftone_header_at))]
+#[tactic(auto, using(crate::proofs::Causes::halftone_header_causes), unfolding(crate::specs::HalftoneHeader::halftone_header_at))]
 pub fn parse<'a>(reader: &mut Reader<'a>, strict: bool) -> Result<HalftoneRegionHeader<'a>>
     requires { IsAligned reader.old }
     ensures value { Answers (λ h. (header_view h, reader.new.bytes)) result
@@ -122,6 +123,7 @@ pub fn parse<'a>(reader: &mut Reader<'a>, strict: bool) -> Result<HalftoneRegion
     ensures columns { IfOk result (λ h. h.grid_position_and_size.width ≤ 65535) }
     ensures rows { IfOk result (λ h. h.grid_position_and_size.height ≤ 65535) }
     ensures stays { OnErr result (reader.new ≡ reader.old) }
+    ensures causes { HalftoneHeadersHaveCauses }
 {
     let mut ahead = reader.duplicate();
     let region_info = parse_region_segment_info(&mut ahead)?;

@@ -1,0 +1,87 @@
+-- Which rule the input breaks where patterns or a halftone region are refused (docs/FORMAT.md), a line for each error.
+use Rattle.std.specs.Prelude.{◌≡◌, ◌<◌, ◌≤◌, ◌⊎◌, ℕ, zero, suc, ◌+◌, ◌-◌, ◌*◌, ◌/◌, ◌%◌, Bool, true, false, List, length, drop, Result, Ok, IfErr}
+use Rattle.std.specs.Int.{w8, w32}
+use Rattle.jbig2_base.specs.Causes.{number_in}
+use Rattle.jbig2_base.specs.Grid.{Grid}
+use Rattle.jbig2_base.specs.declared.error.DecodeError.{DecodeError}
+use Rattle.jbig2_base.specs.declared.error.DecodeError.TheVariants.{Overflow, Parse, Region, Unsupported}
+use Rattle.jbig2_base.specs.declared.error.OverflowError.TheVariants.{BitmapDimension, GridDimension}
+use Rattle.jbig2_base.specs.declared.error.ParseError.TheVariants.{UnexpectedEof}
+use Rattle.jbig2_base.specs.declared.error.RegionError.TheVariants.{GrayScaleOutOfRange, InvalidCombinationOperator, InvalidMmrData}
+use Rattle.jbig2_mmr.specs.T6.{rows_of}
+use Rattle.jbig2_halftone.specs.GrayScale.{GrayScale, gray_scale_image, gray_value, planes_of}
+use Rattle.jbig2_halftone.specs.Halftone.{gray_params, halftone_decoded}
+use Rattle.jbig2_halftone.specs.HalftoneHeader.{HalftoneHeader, halftone_header_at}
+use Rattle.jbig2_halftone.specs.PatternHeader.{PatternHeader, pattern_header_at}
+use Rattle.jbig2_halftone.specs.Patterns.{Patterns, patterns_decoded}
+
+-- ---- headers
+-- A pattern dictionary's header has seven bytes: flags, the width and the height of a pattern, GRAYMAX.
+abbrev pub BreaksPatternHeader : List ℕ → DecodeError → Type 0
+BreaksPatternHeader bytes (Parse UnexpectedEof) = (length bytes < 7) ⊎ (number_in w8 1 bytes ≡ 0) ⊎ (number_in w8 2 bytes ≡ 0)
+BreaksPatternHeader bytes _ = ⊥
+
+abbrev pub PatternHeadersHaveCauses : Type 0
+PatternHeadersHaveCauses = (strict : Bool) (bytes : List ℕ) → IfErr (pattern_header_at strict bytes) (BreaksPatternHeader bytes)
+
+-- A halftone region's header has 38 bytes. The region information's flags stand at byte 16, those of the halftone at
+-- byte 17, and the width and the height of the grid at bytes 18 and 22.
+abbrev pub BreaksHalftoneHeader : List ℕ → DecodeError → Type 0
+BreaksHalftoneHeader bytes (Parse UnexpectedEof) = length bytes < 38
+BreaksHalftoneHeader bytes (Region InvalidCombinationOperator) = (4 < number_in w8 16 bytes % 8) ⊎ (4 < number_in w8 17 bytes / 16 % 8)
+BreaksHalftoneHeader bytes Unsupported = number_in w8 16 bytes / 8 % 2 ≡ 1
+BreaksHalftoneHeader bytes (Overflow GridDimension) = (65535 < number_in w32 18 bytes) ⊎ (65535 < number_in w32 22 bytes)
+BreaksHalftoneHeader bytes _ = ⊥
+
+abbrev pub HalftoneHeadersHaveCauses : Type 0
+HalftoneHeadersHaveCauses = (strict : Bool) (bytes : List ℕ) → IfErr (halftone_header_at strict bytes) (BreaksHalftoneHeader bytes)
+
+-- ---- patterns and planes
+-- the bytes begin with fewer than `height` whole rows of T.6 data
+abbrev pub LacksRows : ℕ → ℕ → List ℕ → Type 0
+LacksRows width height bytes = (rows_of width height bytes).whole ≡ false
+
+-- The patterns side by side may have 65535 columns at most; MMR data is refused in strict mode alone.
+abbrev pub BreaksPatterns : PatternHeader → DecodeError → Type 0
+BreaksPatterns h (Overflow BitmapDimension) = 65535 < (h.gray_max + 1) * h.pattern_width
+BreaksPatterns h (Region InvalidMmrData) = (h.strict ≡ true) × (h.mmr ≡ true) × LacksRows ((h.gray_max + 1) * h.pattern_width) h.pattern_height h.bytes
+BreaksPatterns h _ = ⊥
+
+abbrev pub PatternsHaveCauses : Type 0
+PatternsHaveCauses = (h : PatternHeader) → IfErr (patterns_decoded h) (BreaksPatterns h)
+
+-- where plane k of MMR data begins, behind the whole bytes that each plane before it used
+unfoldable pub plane_start : GrayScale → List ℕ → ℕ → List ℕ
+plane_start p bytes zero = bytes
+plane_start p bytes (suc k) =
+    let here = plane_start p bytes k in
+    drop (length here - length (rows_of p.width p.height here).left / 8) here
+
+abbrev pub APlaneLacksRows : GrayScale → List ℕ → Type 0
+APlaneLacksRows p bytes = (k : ℕ) × (k < p.bits_per_pixel) × LacksRows p.width p.height (plane_start p bytes k)
+
+-- The image has planes, and a side above 65535 pixels; a plane of MMR data lacks rows.
+abbrev pub BreaksGrayScale : GrayScale → List ℕ → DecodeError → Type 0
+BreaksGrayScale p bytes (Overflow BitmapDimension) = (0 < p.bits_per_pixel) × ((65535 < p.width) ⊎ (65535 < p.height))
+BreaksGrayScale p bytes (Region InvalidMmrData) = (p.strict ≡ true) × (p.use_mmr ≡ true) × APlaneLacksRows p bytes
+BreaksGrayScale p bytes _ = ⊥
+
+abbrev pub GrayScaleHasCauses : Type 0
+GrayScaleHasCauses = (p : GrayScale) (bytes : List ℕ) → IfErr (gray_scale_image p bytes) (BreaksGrayScale p bytes)
+
+-- ---- halftone regions
+-- The value of a cell of the grid, which the planes of the bytes give, is not below the number of the patterns.
+abbrev pub AValueNamesNoPattern : HalftoneHeader → Patterns → Type 0
+AValueNamesNoPattern h d =
+    let p = gray_params h d in
+    (planes : List Grid) × (x : ℕ) × (y : ℕ) × (planes_of p h.bytes ≡ Ok planes) × (x < p.width) × (y < p.height) × (length d.grids ≤ gray_value planes x y)
+
+-- A side of the region or of the grid is above 65535; the bytes of the gray values or one of these values is faulty.
+abbrev pub BreaksHalftone : HalftoneHeader → Patterns → DecodeError → Type 0
+BreaksHalftone h d (Overflow BitmapDimension) = (65535 < h.region_info.width) ⊎ (65535 < h.region_info.height) ⊎ BreaksGrayScale (gray_params h d) h.bytes (Overflow BitmapDimension)
+BreaksHalftone h d (Region InvalidMmrData) = BreaksGrayScale (gray_params h d) h.bytes (Region InvalidMmrData)
+BreaksHalftone h d (Region GrayScaleOutOfRange) = (h.strict ≡ true) × AValueNamesNoPattern h d
+BreaksHalftone h d _ = ⊥
+
+abbrev pub HalftonesHaveCauses : Type 0
+HalftonesHaveCauses = (h : HalftoneHeader) (d : Patterns) → IfErr (halftone_decoded h d) (BreaksHalftone h d)
