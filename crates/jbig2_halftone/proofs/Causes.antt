@@ -1,9 +1,8 @@
 -- Which rule the input breaks where patterns or a halftone region are refused.
-use Rattle.std.proofs.Common.{◌≡◌, ◌⊎◌, inl, inr, ⊎_elim, ℕ, zero, suc, ◌+◌, ◌-◌, ◌*◌, ◌<◌, ◌≤◌, ◌/◌, ◌%◌, eqb, ltb, Bool, true, false, not, ◌||◌, List, [], ◌∷◌, take, drop, length, Result, Ok, Err, refl, sym, ◌∙◌, ap, subst, arith}
-use Rattle.std.specs.Prelude.{IfErr}
+use Rattle.std.proofs.Common.{◌≡◌, ◌⊎◌, inl, inr, ⊎_elim, ℕ, ◌+◌, ◌<◌, ◌/◌, ◌%◌, eqb, ltb, true, ◌||◌, List, length, ◌∙◌, arith}
 use Rattle.std.specs.Int.{w8, w16, w32}
 use Rattle.std.proofs.lemmas.Bool.{eqb-true, ltb-true, or_cases}
-use Rattle.jbig2_base.specs.Answer.{◌>>=◌, refuse_if}
+use Rattle.jbig2_base.specs.Answer.{refuse_if}
 use Rattle.jbig2_base.specs.Causes.{number_in}
 use Rattle.jbig2_base.specs.Fields.{number_at, signed_at, end_of_bytes}
 use Rattle.jbig2_base.specs.Operator.{operator_of}
@@ -14,10 +13,10 @@ use Rattle.jbig2_base.specs.declared.error.RegionError.TheVariants.{InvalidCombi
 use Rattle.jbig2_region.specs.RegionInfo.{region_info_at}
 use Rattle.jbig2_halftone.specs.Causes.{BreaksHalftoneHeader, BreaksPatternHeader, HalftoneHeadersHaveCauses, PatternHeadersHaveCauses}
 use Rattle.jbig2_halftone.specs.HalftoneHeader.{halftone_flags_at, halftone_grid_at, halftone_header_at}
-use Rattle.jbig2_halftone.specs.PatternHeader.{PatternHeader, pattern_header_at, side_at}
+use Rattle.jbig2_halftone.specs.PatternHeader.{pattern_header_at, side_at}
 use Rattle.jbig2_halftone.specs.declared.halftone.header.HalftoneGridPositionAndSize.{HalftoneGridPositionAndSize}
 use Rattle.jbig2_halftone.specs.declared.halftone.header.HalftoneRegionFlags.{HalftoneRegionFlags}
-use Rattle.jbig2_halftone.proofs.Told.{Number, Stands, Told, at-start, cause-last, told-next, told-number, told-operator, told-refused, told-region_info, told-signed}
+use Rattle.jbig2_halftone.proofs.Told.{Stands, Told, at-start, cause-last, told-next, told-number, told-operator, told-refused, told-region_info, told-signed}
 
 -- ---- headers
 told-side : (P : DecodeError → Type 0) (bytes : List ℕ) (place : ℕ) (rest : List ℕ) → Stands bytes place rest

@@ -1,5 +1,6 @@
 pub mod Answered
 pub mod Causes
+pub mod CausesOfRegions
 mod CellLemmas
 mod DrawSteps
 mod GrayCounts

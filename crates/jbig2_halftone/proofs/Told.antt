@@ -14,7 +14,7 @@ use Rattle.jbig2_base.specs.declared.bitmap.operator.CombinationOperator.{Combin
 use Rattle.jbig2_base.specs.declared.error.DecodeError.{DecodeError}
 use Rattle.jbig2_base.specs.declared.error.DecodeError.TheVariants.{Region, Unsupported}
 use Rattle.jbig2_base.specs.declared.error.RegionError.TheVariants.{InvalidCombinationOperator}
-use Rattle.jbig2_base.proofs.Causes.{cause-number, cause-refused, number-there}
+use Rattle.jbig2_base.proofs.Causes.{cause-number, number-there}
 use Rattle.jbig2_region.specs.RegionInfo.{region_info_at}
 use Rattle.jbig2_region.specs.declared.region_info.RegionSegmentInfo.{RegionSegmentInfo}
 
@@ -31,6 +31,15 @@ pub told-next : {A B : Type 0} (P : DecodeError → Type 0) (Q : A → Type 0) (
     → Told r P Q → ((x : A) → Q x → Told (next x) P R) → Told (r >>= next) P R
 told-next P Q R (Ok x) next first rest = rest x first
 told-next P Q R (Err e) next first rest = first
+
+pub cause-if : {A : Type 0} (P : DecodeError → Type 0) (b : Bool) (r s : Result A DecodeError) → (b ≡ true → IfErr r P) → (b ≡ false → IfErr s P) → IfErr (cond b r s) P
+cause-if P true r s at_true at_false = at_true refl
+cause-if P false r s at_true at_false = at_false refl
+
+-- of what is told, the cause alone
+pub cause-of : {A : Type 0} (P : DecodeError → Type 0) (Q : A → Type 0) (r : Result A DecodeError) → Told r P Q → IfErr r P
+cause-of P Q (Ok x) is = tt
+cause-of P Q (Err e) is = is
 
 -- the last step
 pub cause-last : {A B : Type 0} (P : DecodeError → Type 0) (Q : A → Type 0) (r : Result A DecodeError) (next : A → Result B DecodeError)

@@ -1,6 +1,7 @@
 //! Gray-scale images (T.88, Annex C).
 ghost use Rattle.std.specs.Prelude.{◌≡◌, ◌≤◌, [], Ok, OnOk};
 ghost use Rattle.jbig2_base.specs.Answer.{Gives, Leaves};
+ghost use Rattle.jbig2_halftone.specs.Causes.{GrayScaleHasCauses};
 ghost use Rattle.jbig2_halftone.specs.GrayScale.{gray_view, gray_values, gray_scale_image, gray_contexts};
 ghost use Rattle.jbig2_halftone.specs.GraySteps.{CountsImage, CountsLanes};
 
@@ -56,7 +57,7 @@ fn zeros<A: Allocator>(alloc: A, width: u32, height: u32) -> Result<Vec<u32, A>>
 /// `OverflowError::BitmapDimension` for a side above 65535 with 1 bit a pixel or more; in strict mode
 /// `RegionError::InvalidMmrData` where MMR data has a fault or lacks a row; `OutOfMemory` where there
 /// is no room, which alone leaves open what `contexts` holds.
-#[tactic(auto, unfolding(crate::specs::GrayScale::gray_scale_image))]
+#[tactic(auto, using(crate::proofs::CausesOfRegions::gray_scale_causes), unfolding(crate::specs::GrayScale::gray_scale_image))]
 pub fn decode_gray_scale_image<M: Allocator, A: Allocator + Clone, B: Allocator, L: Ledger>(
     alloc: A,
     bytes: &[u8],
@@ -72,6 +73,7 @@ pub fn decode_gray_scale_image<M: Allocator, A: Allocator + Clone, B: Allocator,
     ensures steps { OnOk result (CountsImage (gray_view params.now) bytes.now steps.old steps.new) }
     ensures lanes { OnOk result (CountsLanes (gray_view params.now) steps.old steps.new) }
     ensures no_planes { params.now.bits_per_pixel ≡ 0 → OnOk result (steps.new ≡ steps.old) }
+    ensures causes { GrayScaleHasCauses }
 {
     let too_long = params.width > MAX_DIMENSION || params.height > MAX_DIMENSION;
     if params.bits_per_pixel > 0 && too_long {

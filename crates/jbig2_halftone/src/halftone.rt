@@ -7,6 +7,7 @@ ghost use Rattle.jbig2_base.specs.Combination.{WritesWithin, combined, most_word
 ghost use Rattle.jbig2_base.specs.Grid.{blank};
 ghost use Rattle.jbig2_base.specs.Search.{code_length};
 ghost use Rattle.jbig2_region.specs.RegionInfo.{region_view};
+ghost use Rattle.jbig2_halftone.specs.Causes.{HalftonesHaveCauses};
 ghost use Rattle.jbig2_halftone.specs.GrayScale.{planes_of, planes_contexts, gray_values};
 ghost use Rattle.jbig2_halftone.specs.GraySteps.{CountsRead, after_lane_rows};
 ghost use Rattle.jbig2_halftone.specs.Halftone.{gray_params, skip_grid, skip_mask, pattern_for, cells_drawn, halftone_answer, halftone_contexts, halftone_decoded, decoded_contexts};
@@ -344,7 +345,7 @@ pub fn decode_into<D: Allocator, M: Allocator, A: Allocator + Clone, B: Allocato
 ///
 /// `OverflowError::BitmapDimension` above 65535 pixels either way; `OutOfMemory` where there is no
 /// room for the bitmap, else as `decode_into`.
-#[tactic(auto, unfolding(crate::specs::Halftone::halftone_decoded))]
+#[tactic(auto, using(crate::proofs::CausesOfRegions::halftone_causes), unfolding(crate::specs::Halftone::halftone_decoded))]
 pub fn decode<D: Allocator, A: Allocator + Clone, B: Allocator, L: Ledger>(
     alloc: A,
     header: &HalftoneRegionHeader<'_>,
@@ -361,6 +362,7 @@ pub fn decode<D: Allocator, A: Allocator + Clone, B: Allocator, L: Ledger>(
         contexts.old.items) }
     ensures steps { OnOk result (CountsHalftone (header_view header.now)
         (dictionary_view dictionary.now) steps.old steps.new) }
+    ensures causes { HalftonesHaveCauses }
 {
     let region_info = &header.region_info;
     let mut bitmap = Bitmap::new_with(

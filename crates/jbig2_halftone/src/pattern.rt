@@ -3,7 +3,7 @@ ghost use Rattle.std.specs.Prelude.{◌≡◌, ◌+◌, ◌*◌, ◌≤◌, leng
 ghost use Rattle.jbig2_base.specs.Answer.{Answers, Gives, Leaves};
 ghost use Rattle.jbig2_base.specs.Bits.{IsAligned};
 ghost use Rattle.jbig2_region.specs.Generic.{generic_answer, contexts_after};
-ghost use Rattle.jbig2_halftone.specs.Causes.{PatternHeadersHaveCauses};
+ghost use Rattle.jbig2_halftone.specs.Causes.{PatternHeadersHaveCauses, PatternsHaveCauses};
 ghost use Rattle.jbig2_halftone.specs.PatternHeader.{header_view, side_at, pattern_header_at};
 ghost use Rattle.jbig2_halftone.specs.Patterns.{dictionary_view, collective_width, collective_pixels, collective_header, pattern_of, patterns_of, patterns_decoded, dictionary_contexts};
 
@@ -195,7 +195,7 @@ fn decode_collective<A: Allocator, B: Allocator, L: Ledger>(
 /// `OverflowError::BitmapDimension` where the patterns side by side have more than 65535 columns;
 /// in strict mode `RegionError::InvalidMmrData` where MMR data has a fault or lacks a row;
 /// `OutOfMemory` where there is no room, which alone leaves open what `contexts` holds.
-#[tactic(auto, unfolding(crate::specs::Patterns::patterns_decoded))]
+#[tactic(auto, using(crate::proofs::CausesOfRegions::pattern_causes), unfolding(crate::specs::Patterns::patterns_decoded))]
 pub fn decode<A: Allocator + Clone, B: Allocator, L: Ledger>(
     alloc: A,
     header: &PatternDictionaryHeader<'_>,
@@ -207,6 +207,7 @@ pub fn decode<A: Allocator + Clone, B: Allocator, L: Ledger>(
         (patterns_decoded (header_view header.now)) }
     ensures contexts { Leaves result contexts.new.items
         (dictionary_contexts (header_view header.now) contexts.old.items) }
+    ensures causes { PatternsHaveCauses }
 {
     let width = u32::from(header.pattern_width);
     let height = u32::from(header.pattern_height);

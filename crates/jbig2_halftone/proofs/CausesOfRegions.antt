@@ -1,0 +1,136 @@
+-- Which rule the input breaks where the data of patterns, gray-scale images or halftone regions is refused.
+use Rattle.std.proofs.Common.{◌≡◌, ◌⊎◌, inl, inr, ⊎_elim, ℕ, zero, suc, ◌+◌, ◌-◌, ◌*◌, ◌<◌, ◌≤◌, ◌/◌, ◌%◌, ltb, Bool, true, not, ◌&&◌, ◌||◌, List, map, drop, length, Ok, refl, ◌∙◌, ap, subst, arith}
+use Rattle.std.specs.Prelude.{IfErr}
+use Rattle.std.specs.List.{range_with_len}
+use Rattle.std.proofs.lemmas.Bool.{and_parts, ltb-true, ltb-false, not-true, or_cases}
+use Rattle.std.proofs.lemmas.Nat.{mod_below, row-Below}
+use Rattle.jbig2_base.specs.Answer.{refuse_if}
+use Rattle.jbig2_base.specs.Grid.{Grid}
+use Rattle.jbig2_base.specs.declared.error.DecodeError.{DecodeError}
+use Rattle.jbig2_base.specs.declared.error.DecodeError.TheVariants.{Overflow, Region}
+use Rattle.jbig2_base.specs.declared.error.OverflowError.TheVariants.{BitmapDimension}
+use Rattle.jbig2_base.specs.declared.error.RegionError.TheVariants.{GrayScaleOutOfRange, InvalidMmrData}
+use Rattle.jbig2_base.proofs.Causes.{cause-next}
+use Rattle.jbig2_mmr.specs.T6.{Decoded, mmr_rows, rows_of}
+use Rattle.jbig2_region.specs.Generic.{generic_answer}
+use Rattle.jbig2_halftone.specs.Causes.{APlaneLacksRows, BreaksGrayScale, BreaksHalftone, BreaksPatterns, GrayScaleHasCauses, HalftonesHaveCauses, LacksRows, PatternsHaveCauses, plane_start}
+use Rattle.jbig2_halftone.specs.GrayScale.{GrayScale, gray_scale_image, gray_value, gray_values, image_is_too_large, mmr_plane, mmr_planes, planes_by_coder, planes_by_mmr, planes_of}
+use Rattle.jbig2_halftone.specs.Halftone.{cells_drawn, gray_params, halftone_answer, halftone_decoded, pattern_for, with_cell}
+use Rattle.jbig2_halftone.specs.HalftoneHeader.{HalftoneHeader}
+use Rattle.jbig2_halftone.specs.Patterns.{Patterns, collective_header, collective_is_too_wide, patterns_decoded}
+use Rattle.jbig2_halftone.proofs.Told.{Told, cause-if, cause-last, cause-of, told, told-if, told-next, told-refused}
+
+-- ---- MMR data
+-- how many bytes the rows used, a begun one whole
+used : ℕ → ℕ → List ℕ → ℕ
+used w h bytes = length bytes - length (rows_of w h bytes).left / 8
+
+told-mmr : (P : DecodeError → Type 0) (strict : Bool) (w h : ℕ) (bytes : List ℕ) → (strict ≡ true → LacksRows w h bytes → P (Region InvalidMmrData))
+    → Told (mmr_rows strict w h bytes) P (λ (d : Decoded). used w h bytes ≡ d.used)
+unfolding mmr_rows used
+told-mmr P strict w h bytes why =
+    told-if P _ (strict && not (rows_of w h bytes).whole) _ _
+    (λ is. let parts = and_parts strict (not (rows_of w h bytes).whole) is in why parts.0 (not-true (rows_of w h bytes).whole parts.1)) (λ is. refl)
+
+-- ---- patterns
+pub pattern_causes : PatternsHaveCauses
+unfolding patterns_decoded
+pattern_causes h =
+    let P : DecodeError → Type 0 = BreaksPatterns h in
+    cause-last P _ (refuse_if (collective_is_too_wide h) (Overflow BitmapDimension)) _ (told-refused P (collective_is_too_wide h) (Overflow BitmapDimension) (λ wide. ltb-true 65535 _ wide)) (λ fits is.
+    cause-last P (λ g. Unit {0}) (generic_answer (collective_header h)) _
+    (told-if P (λ g. Unit {0}) h.mmr _ _ (λ mmr. told-next P _ (λ g. Unit {0}) (mmr_rows h.strict _ _ h.bytes) _ (told-mmr P h.strict _ _ h.bytes (λ strict lacks. (strict, mmr, lacks))) (λ rows r. tt)) (λ coded. tt)) (λ g r. tt))
+
+-- ---- planes
+-- planes from plane k on
+cause-planes : (P : DecodeError → Type 0) (p : GrayScale) (bytes : List ℕ) (k : ℕ) (rest : List ℕ) (count : ℕ) → plane_start p bytes k ≡ rest
+    → ((j : ℕ) → j < k + count → LacksRows p.width p.height (plane_start p bytes j) → p.strict ≡ true → P (Region InvalidMmrData)) → IfErr (mmr_planes p rest count) P
+unfolding mmr_planes mmr_plane plane_start used
+cause-planes P p bytes k rest zero at why = tt
+cause-planes P p bytes k rest (suc count) at why =
+    let Q : Grid × List ℕ → Type 0 = λ x. plane_start p bytes (suc k) ≡ x.1 in
+    let lacks : LacksRows p.width p.height rest → LacksRows p.width p.height (plane_start p bytes k) = λ is. rw at is in
+    cause-last P Q (mmr_plane p rest) _
+    (told-next P _ Q (mmr_rows p.strict p.width p.height rest) _ (told-mmr P p.strict p.width p.height rest (λ strict is. why k (omega arith) (lacks is) strict))
+    (λ rows taken. ap (λ (l : List ℕ). drop (used p.width p.height l) l) at ∙ ap (λ (n : ℕ). drop n rest) taken)) (λ plane next.
+    cause-next P (mmr_planes p plane.1 count) _ (cause-planes P p bytes (suc k) plane.1 count next (λ j below. why j (omega (arith, below)))) (λ others is. tt))
+
+too-large : (p : GrayScale) → image_is_too_large p ≡ true → (0 < p.bits_per_pixel) × ((65535 < p.width) ⊎ (65535 < p.height))
+too-large p is =
+    let parts = and_parts (ltb 0 p.bits_per_pixel) (ltb 65535 p.width || ltb 65535 p.height) is in
+    (ltb-true 0 p.bits_per_pixel parts.0, ⊎_elim (λ wide. inl (ltb-true 65535 p.width wide)) (λ high. inr (ltb-true 65535 p.height high)) (or_cases (ltb 65535 p.width) (ltb 65535 p.height) parts.1))
+
+cause-coded : (P : DecodeError → Type 0) (p : GrayScale) (bytes : List ℕ) → (p.strict ≡ true → p.use_mmr ≡ true → APlaneLacksRows p bytes → P (Region InvalidMmrData))
+    → IfErr (planes_of p bytes) P
+unfolding plane_start
+cause-coded P p bytes why =
+    cause-if P p.use_mmr (planes_by_mmr p bytes) (planes_by_coder p bytes)
+    (λ mmr. cause-planes P p bytes 0 bytes p.bits_per_pixel refl (λ j below lacks strict. why strict mmr (j, omega (arith, below), lacks))) (λ coded. tt)
+
+-- the image's values, which planes give, or why there is none
+told-image : (P : DecodeError → Type 0) (p : GrayScale) (bytes : List ℕ) → ((0 < p.bits_per_pixel) × ((65535 < p.width) ⊎ (65535 < p.height)) → P (Overflow BitmapDimension))
+    → (p.strict ≡ true → p.use_mmr ≡ true → APlaneLacksRows p bytes → P (Region InvalidMmrData))
+    → Told (gray_scale_image p bytes) P (λ values. (planes : List Grid) × (planes_of p bytes ≡ Ok planes) × (gray_values p.width p.height planes ≡ values))
+unfolding gray_scale_image
+told-image P p bytes large lacks =
+    let Q : List ℕ → Type 0 = λ values. (planes : List Grid) × (planes_of p bytes ≡ Ok planes) × (gray_values p.width p.height planes ≡ values) in
+    let R : List Grid → Type 0 = λ planes. planes_of p bytes ≡ Ok planes in
+    told-next P _ Q (refuse_if (image_is_too_large p) (Overflow BitmapDimension)) _ (told-refused P (image_is_too_large p) (Overflow BitmapDimension) (λ is. large (too-large p is))) (λ fits is.
+    told-next P R Q (planes_of p bytes) _ (told P R (planes_of p bytes) (cause-coded P p bytes lacks) (λ planes r. r)) (λ planes r. (planes, r, refl)))
+
+pub gray_scale_causes : GrayScaleHasCauses
+gray_scale_causes p bytes =
+    let P : DecodeError → Type 0 = BreaksGrayScale p bytes in
+    cause-of P _ (gray_scale_image p bytes) (told-image P p bytes (λ large. large) (λ strict mmr lacks. (strict, mmr, lacks)))
+
+-- ---- cells
+no-pattern : (P : DecodeError → Type 0) (strict : Bool) (grids : List Grid) (value : ℕ) → (strict ≡ true → length grids ≤ value → P (Region GrayScaleOutOfRange))
+    → IfErr (pattern_for strict grids value) P
+no-pattern P strict grids value why =
+    cause-if P (ltb value (length grids)) _ _ (λ is. tt) (λ none. cause-if P strict _ _ (λ refused. why refused (ltb-false value (length grids) none)) (λ lenient. tt))
+
+-- cells with these values, whose numbers begin at a
+cause-cells : (P : DecodeError → Type 0) (h : HalftoneHeader) (d : Patterns) (f : ℕ → ℕ) (k a n : ℕ) (region : Grid)
+    → ((i : ℕ) → i < a + n → h.strict ≡ true → length d.grids ≤ f i → P (Region GrayScaleOutOfRange)) → IfErr (cells_drawn h d k (map f (range_with_len a n)) region) P
+unfolding cells_drawn
+cause-cells P h d f k a zero region why = tt
+cause-cells P h d f k a (suc n) region why =
+    cause-next P (pattern_for h.strict d.grids (f a)) _ (no-pattern P h.strict d.grids (f a) (why a (omega arith))) (λ pattern is.
+    cause-cells P h d f (k + 1) (a + 1) n (with_cell h k pattern region) (λ i below. why i (omega (arith, below))))
+
+cause-image : (P : DecodeError → Type 0) (h : HalftoneHeader) (d : Patterns) (w rows : ℕ) (planes : List Grid) (region : Grid)
+    → ((x y : ℕ) → x < w → y < rows → h.strict ≡ true → length d.grids ≤ gray_value planes x y → P (Region GrayScaleOutOfRange)) → IfErr (cells_drawn h d 0 (gray_values w rows planes) region) P
+unfolding gray_values
+cause-image P h d w rows planes region why =
+    cause-cells P h d (λ n. gray_value planes (n % w) (n / w)) 0 0 (w * rows) region (λ i below.
+    let within : i < w * rows = omega (arith, below) in
+    let wide : 0 < w = grind arith in
+    why (i % w) (i / w) (mod_below i w wide) (row-Below i w w rows within (omega arith)).1)
+
+too-long : (b c : ℕ) → (ltb 65535 b || ltb 65535 c) ≡ true → (65535 < b) ⊎ (65535 < c)
+too-long b c is = ⊎_elim (λ wide. inl (ltb-true 65535 b wide)) (λ high. inr (ltb-true 65535 c high)) (or_cases (ltb 65535 b) (ltb 65535 c) is)
+
+-- the values of planes that were read
+cause-values : (h : HalftoneHeader) (d : Patterns) (region : Grid) (values : List ℕ) (planes : List Grid) → planes_of (gray_params h d) h.bytes ≡ Ok planes
+    → gray_values h.grid_position_and_size.width h.grid_position_and_size.height planes ≡ values → IfErr (cells_drawn h d 0 values region) (BreaksHalftone h d)
+cause-values h d region values planes read are =
+    subst (λ (vs : List ℕ). IfErr (cells_drawn h d 0 vs region) (BreaksHalftone h d)) are
+    (cause-image (BreaksHalftone h d) h d h.grid_position_and_size.width h.grid_position_and_size.height planes region
+    (λ x y column row strict none. (strict, (planes, x, y, read, column, row, none))))
+
+cause-answer : (h : HalftoneHeader) (d : Patterns) → IfErr (halftone_answer h d) (BreaksHalftone h d)
+unfolding halftone_answer
+cause-answer h d =
+    let P : DecodeError → Type 0 = BreaksHalftone h d in
+    cause-last P _ (gray_scale_image (gray_params h d) h.bytes) _ (told-image P (gray_params h d) h.bytes (λ large. inr (inr large)) (λ strict mmr lacks. (strict, mmr, lacks))) (λ values read.
+    cause-values h d _ values read.0 read.1 read.2)
+
+pub halftone_causes : HalftonesHaveCauses
+unfolding halftone_decoded
+halftone_causes h d =
+    let P : DecodeError → Type 0 = BreaksHalftone h d in
+    let width : ℕ = h.region_info.width in
+    let height : ℕ = h.region_info.height in
+    cause-last P _ (refuse_if (ltb 65535 width || ltb 65535 height) (Overflow BitmapDimension)) _
+    (told-refused P (ltb 65535 width || ltb 65535 height) (Overflow BitmapDimension) (λ large. ⊎_elim (λ wide. inl wide) (λ high. inr (inl high)) (too-long width height large))) (λ fits is.
+    cause-next P (halftone_answer h d) _ (cause-answer h d) (λ grid r. tt))
