@@ -1,8 +1,14 @@
 pub mod Answered
 pub mod AnsweredRegions
+pub mod Causes
+pub mod CausesOfHeaders
+pub mod CausesOfInstances
+pub mod CausesOfRegions
+pub mod CausesOfText
 pub mod InstanceLemmas
 pub mod RefiningLemmas
 pub mod RegionLemmas
 pub mod SymbolLemmas
+mod Told
 mod WorkedCodedTexts
 mod WorkedTexts

@@ -1,4 +1,7 @@
 pub mod BitFields
+pub mod Causes
+pub mod CausesOfRegions
+pub mod CausesOfText
 pub mod Refining
 pub mod SymbolCodes
 pub mod Text

@@ -3,6 +3,7 @@ ghost use Rattle.std.specs.Prelude.{◌≡◌, ◌≤◌, ◌^◌, length, Ok, O
 ghost use Rattle.jbig2_base.specs.Answer.{Answers, Gives};
 ghost use Rattle.jbig2_base.specs.Grid.{blank};
 ghost use Rattle.jbig2_region.specs.RegionInfo.{region_view};
+ghost use Rattle.jbig2_text.specs.CausesOfRegions.{TextRegionsHaveCauses};
 ghost use Rattle.jbig2_text.specs.TextHeader.{header_view};
 ghost use Rattle.jbig2_text.specs.TextRegion.{coder_of, prefix_codes_of, refining_of, region_from, text_params, text_answer, text_decoded};
 ghost use Rattle.jbig2_coder.specs.inner.TableViews.{customs_view};
@@ -154,7 +155,7 @@ fn decode_by<
 /// `OverflowError::PlacementCoordinate`, `OverflowError::BitmapDimension` and
 /// `OverflowError::ReferenceOffset` for numbers that leave their ranges; `SymbolError::OutOfRange`
 /// for an id without a symbol, in lenient mode only where it is refined; `OutOfMemory`.
-#[tactic(auto, unfolding(crate::specs::TextRegion::text_answer))]
+#[tactic(auto, using(crate::proofs::CausesOfRegions::text_region_causes), unfolding(crate::specs::TextRegion::text_answer))]
 pub fn decode_into<
     H: Allocator,
     B: Allocator,
@@ -179,6 +180,7 @@ pub fn decode_into<
         let meant = text_answer (header_view header.now) (symbols_view symbols.now) customs in
         Gives (λ _. bitmap.new) result meant }
     ensures same { OnErr result (bitmap.new ≡ bitmap.old) }
+    ensures causes { TextRegionsHaveCauses }
 {
     match &header.coding {
         TextRegionCoding::Arithmetic => {

@@ -2,6 +2,7 @@
 ghost use Rattle.std.specs.Prelude.{◌≡◌, ◌≤◌, ◌%◌, ◌^◌, IfOk, OnErr, OnOk};
 ghost use Rattle.jbig2_base.specs.Answer.{Answers, Gives};
 ghost use Rattle.jbig2_base.specs.Bits.{IsAligned};
+ghost use Rattle.jbig2_text.specs.Causes.{TextHeadersHaveCauses};
 ghost use Rattle.jbig2_text.specs.TextHeader.{coding_view, header_view, corner_of, signed_5, other_flags, text_flags_at, table_numbers, table_numbers_at, text_fields_at, coding_at, text_pixels_at, text_header_at};
 
 use crate::text::symbol_codes::parse_symbol_codes;
@@ -247,7 +248,7 @@ fn parse_coding<A: Allocator + Clone>(
 /// `parse_region_segment_info`; `HuffmanError::InvalidCode` where the codes of the symbols' ids
 /// end early, do not fit or are not as many as the symbols; `OutOfMemory` where there is no room
 /// for them.
-#[tactic(auto, unfolding(crate::specs::TextHeader::text_header_at))]
+#[tactic(auto, using(crate::proofs::CausesOfHeaders::text_header_causes), unfolding(crate::specs::TextHeader::text_header_at))]
 pub fn parse<'a, A: Allocator + Clone>(
     alloc: A,
     reader: &mut Reader<'a>,
@@ -261,6 +262,7 @@ pub fn parse<'a, A: Allocator + Clone>(
     ensures aligned { IsAligned reader.new }
     ensures strips { IfOk result (λ h. h.flags.log_strip_size ≤ 3) }
     ensures stays { OnErr result (reader.new ≡ reader.old) }
+    ensures causes { TextHeadersHaveCauses }
 {
     let mut ahead = reader.duplicate();
     let segment_data_len = ahead.tail().len();

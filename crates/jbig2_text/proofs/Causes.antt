@@ -1,0 +1,107 @@
+-- Which rule the input breaks where the codes of the ids are refused.
+use Rattle.std.proofs.Common.{◌≡◌, ◌⊎◌, inl, inr, ℕ, zero, suc, ◌+◌, ◌-◌, ◌*◌, ◌^◌, ◌<◌, ◌≤◌, eqb, ltb, Bool, true, false, List, [], ◌∷◌, ◌++◌, length, get_or, Option, Some, None, Result, Ok, Err, refl, sym, ◌∙◌, ap, subst, arith, ℤ, pos, negsuc}
+use Rattle.std.specs.Prelude.{IfErr, slice_get}
+use Rattle.std.proofs.lemmas.Option.{slice_get-get_or}
+use Rattle.std.proofs.lemmas.Bool.{cond_both, eqb-true, eqb-false, ltb-true, ltb-false}
+use Rattle.jbig2_base.specs.Answer.{◌>>=◌, refuse_if, some_or}
+use Rattle.jbig2_base.specs.Bits.{Place, bits_left, bits_next, number_after}
+use Rattle.jbig2_base.specs.Fields.{bits_at}
+use Rattle.jbig2_base.specs.declared.error.DecodeError.{DecodeError}
+use Rattle.jbig2_base.proofs.Causes.{cause-next, cause-refused}
+use Rattle.jbig2_coder.specs.PrefixCode.{Member, decoded_value, is_crowded, longest, no_oob, table_of, weight}
+use Rattle.jbig2_coder.specs.declared.huffman_table.line.TableLine.{TableLine}
+use Rattle.jbig2_text.specs.BitFields.{invalid_code, value_at}
+use Rattle.jbig2_text.specs.Causes.{ARun, AreCrowded, Behind, BreaksRun, BreaksSymbolCodes, RefusesNumber, SymbolCodesHaveCauses, behind_runs}
+use Rattle.jbig2_text.specs.SymbolCodes.{last_length, lines_from, next_runcode, repeated, run_at, runcodes_at, runs_at, short_lengths, symbol_codes_from, symbol_lengths_at}
+use Rattle.jbig2_text.proofs.Told.{Told, cause-if, cause-last, told, told-next, told-refused}
+
+-- ---- bits and codes
+-- an answer has its own error
+pub own-error : {A : Type 0} (P : DecodeError → Type 0) (r : Result A DecodeError) → ((e : DecodeError) → r ≡ Err e → P e) → IfErr r P
+own-error P (Ok x) why = tt
+own-error P (Err e) why = why e refl
+
+pub cause-bits : (P : DecodeError → Type 0) (e : DecodeError) (count : ℕ) (p : Place) → (length (bits_left p) < count → P e) → IfErr (bits_at e count p) P
+cause-bits P e count p why =
+    let bits : List ℕ = bits_left p in
+    let Q : Option ℕ → Type 0 = λ n. IfErr (some_or e n) P in
+    cause-next P (some_or e (bits_next count bits)) _ (cond_both (ltb (length bits) count) None _ Q (λ short. why (ltb-true (length bits) count short)) (λ there. tt)) (λ n is. tt)
+
+pub cause-value : (P : DecodeError → Type 0) (table : List Member) (p : Place) → ((e : DecodeError) → RefusesNumber table (bits_left p) e → P e) → IfErr (value_at table p) P
+cause-value P table p why = cause-next P (no_oob (decoded_value table (bits_left p)).answer) _ (own-error P (no_oob (decoded_value table (bits_left p)).answer) why) (λ n is. tt)
+
+cause-table : (P : DecodeError → Type 0) (lines : List TableLine) → (AreCrowded lines → P invalid_code) → IfErr (table_of lines) P
+unfolding is_crowded
+cause-table P lines why = cause-if P (is_crowded lines) _ _ (λ is. why (ltb-true (2 ^ longest lines) (weight (longest lines) lines) is)) (λ fit. tt)
+
+-- ---- the runcodes' lengths
+cause-short : (P : DecodeError → Type 0) (count : ℕ) (so_far : List ℕ) (p : Place)
+    → ((k : ℕ) → k < count → Behind (short_lengths k so_far p) (λ lens. length (bits_left lens.1) < 4) → P invalid_code) → IfErr (short_lengths count so_far p) P
+unfolding short_lengths
+cause-short P zero so_far p why = tt
+cause-short P (suc count) so_far p why =
+    cause-next P (bits_at invalid_code 4 p) _ (cause-bits P invalid_code 4 p (λ short. why 0 (omega arith) ((so_far, p), refl, short))) (λ len len_is.
+    cause-short P count (so_far ++ len.0 ∷ []) len.1 (λ k below there.
+    why (suc k) (omega (arith, below)) (there.0, ap (λ r. r >>= λ (l : ℕ × Place). short_lengths k (so_far ++ l.0 ∷ []) l.1) len_is ∙ there.1, there.2)))
+
+cause-runcodes : (P : DecodeError → Type 0) (p : Place) → ((k : ℕ) → k < 35 → Behind (short_lengths k [] p) (λ lens. length (bits_left lens.1) < 4) → P invalid_code)
+    → (Behind (short_lengths 35 [] p) (λ lens. AreCrowded (lines_from 0 lens.0)) → P invalid_code) → IfErr (runcodes_at p) P
+unfolding runcodes_at
+cause-runcodes P p missing crowded =
+    cause-next P (short_lengths 35 [] p) _ (cause-short P 35 [] p missing) (λ lens is.
+    cause-next P (table_of (lines_from 0 lens.0)) _ (cause-table P (lines_from 0 lens.0) (λ are. crowded (lens, is, are))) (λ table r. tt))
+
+-- ---- runs
+cause-last_length : (P : DecodeError → Type 0) (so_far : List ℕ) → (so_far ≡ [] → P invalid_code) → IfErr (last_length so_far) P
+cause-last_length P [] why = why refl
+cause-last_length P (x ∷ xs) why =
+    let there : slice_get (x ∷ xs) (length (x ∷ xs) - 1) ≡ Some (get_or (x ∷ xs) (length (x ∷ xs) - 1) 0) = slice_get-get_or (x ∷ xs) (length (x ∷ xs) - 1) 0 (omega arith) in
+    rw there tt
+
+cause-run : (P : DecodeError → Type 0) (code : ℤ) (so_far : List ℕ) (p : Place) → (BreaksRun code so_far p → P invalid_code) → IfErr (run_at code so_far p) P
+cause-run P (negsuc n) so_far p why = why tt
+cause-run P (pos code) so_far p why =
+    cause-if P (ltb code 32) _ _ (λ short. tt) (λ long.
+    cause-if P (eqb code 32) _ _ (λ at_last.
+    cause-next P (bits_at invalid_code 2 p) _ (cause-bits P invalid_code 2 p (λ short. why (inl (eqb-true code 32 at_last, inl short)))) (λ n n_is.
+    cause-next P (repeated so_far (n.0 + 3)) _ (cause-next P (last_length so_far) _ (cause-last_length P so_far (λ none. why (inl (eqb-true code 32 at_last, inr none)))) (λ len is. tt)) (λ lens is. tt))) (λ other.
+    cause-if P (eqb code 33) _ _ (λ at_zeros.
+    cause-next P (bits_at invalid_code 3 p) _ (cause-bits P invalid_code 3 p (λ short. why (inr (inl (eqb-true code 33 at_zeros, short))))) (λ n n_is. tt)) (λ more.
+    cause-next P (bits_at invalid_code 7 p) _ (cause-bits P invalid_code 7 p (λ short. why (inr (inr (above code long other more, short))))) (λ n n_is. tt))))
+  where
+    above : (code : ℕ) → ltb code 32 ≡ false → eqb code 32 ≡ false → eqb code 33 ≡ false → 33 < code
+    above code a b c = omega (arith, ltb-false code 32 a, eqb-false code 32 b, eqb-false code 33 c)
+
+cause-runs : (P : DecodeError → Type 0) (most count : ℕ) (runcodes : List Member) (so_far : List ℕ) (p : Place)
+    → ((k : ℕ) (e : DecodeError) → Behind (behind_runs runcodes k so_far p) (λ lens. (length lens.0 < count) × RefusesNumber runcodes (bits_left lens.1) e) → P e)
+    → ((k : ℕ) → Behind (behind_runs runcodes k so_far p) (λ lens. (length lens.0 < count) × Behind (value_at runcodes lens.1) (λ code. BreaksRun code.0 lens.0 code.1)) → P invalid_code)
+    → IfErr (runs_at most count runcodes so_far p) P
+unfolding runs_at behind_runs
+cause-runs P zero count runcodes so_far p refused faulty = tt
+cause-runs P (suc most) count runcodes so_far p refused faulty =
+    cause-if P (ltb (length so_far) count) _ _ (λ few.
+    let less : length so_far < count = ltb-true (length so_far) count few in
+    cause-next P (next_runcode runcodes so_far p) _
+    (cause-next P (value_at runcodes p) _ (cause-value P runcodes p (λ e no. refused 0 e ((so_far, p), refl, (less, no)))) (λ code code_is.
+    cause-run P code.0 so_far code.1 (λ bad. faulty 0 ((so_far, p), refl, (less, (code, code_is, bad))))))
+    (λ more more_is.
+    let on : ℕ → Result (List ℕ × Place) DecodeError → Result (List ℕ × Place) DecodeError = λ k r. r >>= λ m. behind_runs runcodes k m.0 m.1 in
+    cause-runs P most count runcodes more.0 more.1
+    (λ k e there. refused (suc k) e (there.0, ap (on k) more_is ∙ there.1, there.2))
+    (λ k there. faulty (suc k) (there.0, ap (on k) more_is ∙ there.1, there.2)))) (λ full. tt)
+
+-- ---- all of it
+pub symbol_code_causes : SymbolCodesHaveCauses
+unfolding symbol_codes_from symbol_lengths_at
+symbol_code_causes count p =
+    let P : DecodeError → Type 0 = BreaksSymbolCodes count p in
+    cause-next P (runcodes_at p) _ (cause-runcodes P p (λ k below there. inl (inl (k, below, there))) (λ crowded. inl (inr (inl crowded)))) (λ runcodes is.
+    let runs : Result (List ℕ × Place) DecodeError = runs_at count count runcodes.0 [] runcodes.1 in
+    let Q : List ℕ × Place → Type 0 = λ lens. runs ≡ Ok lens in
+    cause-last P Q (symbol_lengths_at count runcodes.0 runcodes.1) _
+    (told-next P Q Q runs _
+    (told P Q runs (cause-runs P count count runcodes.0 [] runcodes.1 (λ k e there. inr (runcodes, is, (k, there))) (λ k there. inl (inr (inr (inl (runcodes, is, (k, there))))))) (λ lens lens_are. lens_are))
+    (λ lens lens_are. told-next P _ Q (refuse_if (ltb count (length lens.0)) invalid_code) _
+    (told-refused P (ltb count (length lens.0)) invalid_code (λ past. inl (inr (inr (inr (runcodes, is, (lens, lens_are, inl (ltb-true count (length lens.0) past)))))))) (λ fit r. lens_are)))
+    (λ lens lens_are. cause-next P (table_of (lines_from 0 lens.0)) _
+    (cause-table P (lines_from 0 lens.0) (λ crowded. inl (inr (inr (inr (runcodes, is, (lens, lens_are, inr crowded))))))) (λ codes r. tt)))

@@ -1,0 +1,57 @@
+-- Which rule the input breaks where the instances of a text region are refused.
+use Rattle.std.proofs.Common.{◌≡◌, ◌⊎◌, inl, inr, ⊎_elim, ℕ, zero, suc, ◌+◌, ◌-◌, ◌*◌, ◌^◌, ◌<◌, ◌≤◌, eqb, ltb, Bool, true, false, cond, ◌||◌, List, [], ◌∷◌, ◌++◌, length, Option, Some, None, Result, Ok, Err, refl, sym, ◌∙◌, ap, subst, arith, ℤ, pos, negsuc}
+use Rattle.std.specs.Prelude.{IfErr, nat_le, slice_get, ◌+ℤ◌, ◌-ℤ◌, ◌*ℤ◌}
+use Rattle.std.specs.Int.{int_shr}
+use Rattle.std.proofs.lemmas.Bool.{leb-true, ltb-true, ltb-false, or_cases}
+use Rattle.jbig2_base.specs.Answer.{◌>>=◌, refuse_if}
+use Rattle.jbig2_base.specs.Grid.{Grid}
+use Rattle.jbig2_base.specs.declared.error.DecodeError.{DecodeError}
+use Rattle.jbig2_base.specs.declared.error.DecodeError.TheVariants.{Overflow, Symbol}
+use Rattle.jbig2_base.specs.declared.error.OverflowError.TheVariants.{BitmapDimension, PlacementCoordinate, ReferenceOffset}
+use Rattle.jbig2_base.specs.declared.error.SymbolError.TheVariants.{InvalidStripDelta, OutOfRange, TooManyInstances}
+use Rattle.jbig2_base.proofs.Causes.{cause-next, cause-refused}
+use Rattle.jbig2_text.specs.Causes.{Behind}
+use Rattle.jbig2_text.specs.CausesOfText.{ADeltaLeaves, AStartLeaves, BreaksInstance, BreaksInstances, BreaksMove, BreaksMoveBy, BreaksStrip, HaveCauses, InstancesHaveCauses, LeavesWord, ReadingCauses}
+use Rattle.jbig2_text.specs.Text.{Readings, TextParams, coordinate, cursor_moved, moved_by, strip_begun, strip_delta, text_instances, word_or}
+use Rattle.jbig2_text.specs.declared.text.cursor.Cursor.{Cursor}
+use Rattle.jbig2_text.specs.declared.text.header.TextRegionFlags.{TextRegionFlags}
+use Rattle.jbig2_text.proofs.Told.{Told, cause-if, cause-last, cause-more, told, told-if, told-next, told-refused}
+
+-- ---- numbers
+pub told-word : (P : DecodeError → Type 0) (e : DecodeError) (n : ℤ) → (LeavesWord n → P e) → Told (word_or e n) P (λ x. n ≡ x)
+told-word P e (pos n) why = told-if P (λ x. pos n ≡ x) (ltb n 2147483648) _ _ (λ is. refl) (λ large. why (ltb-false n 2147483648 large))
+told-word P e (negsuc n) why = told-if P (λ x. negsuc n ≡ x) (ltb n 2147483648) _ _ (λ is. refl) (λ large. why (ltb-false n 2147483648 large))
+
+-- ---- strips
+pub cause-delta : {S : Type 0} (c : ReadingCauses S) (r : Readings S) (a : HaveCauses r c) (flags : TextRegionFlags) (s : S) (P : DecodeError → Type 0)
+    → (ADeltaLeaves r flags s → P (Symbol InvalidStripDelta)) → ((e : DecodeError) → c.delta_t s e → P e) → IfErr (strip_delta r flags s) P
+unfolding strip_delta
+cause-delta c r a flags s P leaves refused =
+    cause-next P (r.delta_t s) _ (cause-more (c.delta_t s) P (r.delta_t s) (a.delta_t s) refused) (λ strips is.
+    cause-last P _ (word_or (Symbol InvalidStripDelta) (strips.0 *ℤ pos (2 ^ flags.log_strip_size))) _ (told-word P _ (strips.0 *ℤ pos (2 ^ flags.log_strip_size)) (λ large. leaves (strips, is, large))) (λ dt r. tt))
+
+pub cause-strip : {S : Type 0} (c : ReadingCauses S) (r : Readings S) (a : HaveCauses r c) (flags : TextRegionFlags) (stript firsts : ℤ) (s : S)
+    → IfErr (strip_begun r flags stript firsts s) (BreaksStrip c r flags stript firsts s)
+unfolding strip_begun
+cause-strip c r a flags stript firsts s =
+    let P : DecodeError → Type 0 = BreaksStrip c r flags stript firsts s in
+    cause-next P (strip_delta r flags s) _ (cause-delta c r a flags s P (λ leaves. inl leaves) (λ e refused. inr (inl refused))) (λ dt dt_is.
+    cause-last P _ (coordinate (stript +ℤ dt.0)) _ (told-word P _ (stript +ℤ dt.0) (λ large. inl (dt, dt_is, inl large))) (λ next next_is.
+    cause-next P (r.first_s dt.1) _ (cause-more (c.first_s dt.1) P (r.first_s dt.1) (a.first_s dt.1) (λ e refused. inr (inr (dt, dt_is, refused)))) (λ dfs dfs_is.
+    cause-last P _ (coordinate (firsts +ℤ dfs.0)) _ (told-word P _ (firsts +ℤ dfs.0) (λ large. inl (dt, dt_is, inr (dfs, dfs_is, large)))) (λ first r. tt))))
+
+cause-moved : {S : Type 0} (c : ReadingCauses S) (r : Readings S) (a : HaveCauses r c) (flags : TextRegionFlags) (at : Cursor) (ids : Option ℤ) (s : S)
+    → IfErr (moved_by r flags at ids s) (BreaksMoveBy c r flags at ids s)
+cause-moved c r a flags at None s = cause-strip c r a flags at.strip_t at.first_s s
+cause-moved c r a flags at (Some ids) s =
+    let P : DecodeError → Type 0 = BreaksMoveBy c r flags at (Some ids) s in
+    cause-last P _ (coordinate (at.cur_s +ℤ ids)) _ (told-word P _ (at.cur_s +ℤ ids) (λ large. inl large)) (λ apart is.
+    cause-last P _ (coordinate (apart +ℤ flags.delta_s_offset)) _ (told-word P _ (apart +ℤ flags.delta_s_offset) (λ large. inr (rw is large))) (λ curs r. tt))
+
+pub cause-move : {S : Type 0} (c : ReadingCauses S) (r : Readings S) (a : HaveCauses r c) (flags : TextRegionFlags) (at : Cursor) (s : S)
+    → IfErr (cursor_moved r flags at s) (BreaksMove c r flags at s)
+unfolding cursor_moved
+cause-move c r a flags at s =
+    let P : DecodeError → Type 0 = BreaksMove c r flags at s in
+    cause-next P (r.delta_s s) _ (cause-more (c.delta_s s) P (r.delta_s s) (a.delta_s s) (λ e refused. inl refused)) (λ ids is.
+    cause-more (BreaksMoveBy c r flags at ids (r.behind_delta_s s)) P (moved_by r flags at ids (r.behind_delta_s s)) (cause-moved c r a flags at ids (r.behind_delta_s s)) (λ e broken. inr (ids, is, broken)))
