@@ -1,19 +1,19 @@
 -- Which rule the input breaks where the codes of the ids are refused.
-use Rattle.std.proofs.Common.{◌≡◌, ◌⊎◌, inl, inr, ℕ, zero, suc, ◌+◌, ◌-◌, ◌*◌, ◌^◌, ◌<◌, ◌≤◌, eqb, ltb, Bool, true, false, List, [], ◌∷◌, ◌++◌, length, get_or, Option, Some, None, Result, Ok, Err, refl, sym, ◌∙◌, ap, subst, arith, ℤ, pos, negsuc}
+use Rattle.std.proofs.Common.{◌≡◌, inl, inr, ℕ, zero, suc, ◌+◌, ◌-◌, ◌^◌, ◌<◌, eqb, ltb, false, List, [], ◌∷◌, ◌++◌, length, get_or, Option, Some, None, Result, Ok, Err, refl, ◌∙◌, ap, arith, ℤ, pos, negsuc}
 use Rattle.std.specs.Prelude.{IfErr, slice_get}
 use Rattle.std.proofs.lemmas.Option.{slice_get-get_or}
 use Rattle.std.proofs.lemmas.Bool.{cond_both, eqb-true, eqb-false, ltb-true, ltb-false}
 use Rattle.jbig2_base.specs.Answer.{◌>>=◌, refuse_if, some_or}
-use Rattle.jbig2_base.specs.Bits.{Place, bits_left, bits_next, number_after}
+use Rattle.jbig2_base.specs.Bits.{Place, bits_left, bits_next}
 use Rattle.jbig2_base.specs.Fields.{bits_at}
 use Rattle.jbig2_base.specs.declared.error.DecodeError.{DecodeError}
-use Rattle.jbig2_base.proofs.Causes.{cause-next, cause-refused}
+use Rattle.jbig2_base.proofs.Causes.{cause-next}
 use Rattle.jbig2_coder.specs.PrefixCode.{Member, decoded_value, is_crowded, longest, no_oob, table_of, weight}
 use Rattle.jbig2_coder.specs.declared.huffman_table.line.TableLine.{TableLine}
 use Rattle.jbig2_text.specs.BitFields.{invalid_code, value_at}
-use Rattle.jbig2_text.specs.Causes.{ARun, AreCrowded, Behind, BreaksRun, BreaksSymbolCodes, RefusesNumber, SymbolCodesHaveCauses, behind_runs}
+use Rattle.jbig2_text.specs.Causes.{AreCrowded, Behind, BreaksRun, BreaksSymbolCodes, RefusesNumber, SymbolCodesHaveCauses, behind_runs}
 use Rattle.jbig2_text.specs.SymbolCodes.{last_length, lines_from, next_runcode, repeated, run_at, runcodes_at, runs_at, short_lengths, symbol_codes_from, symbol_lengths_at}
-use Rattle.jbig2_text.proofs.Told.{Told, cause-if, cause-last, told, told-next, told-refused}
+use Rattle.jbig2_text.proofs.Told.{cause-if, cause-last, told, told-next, told-refused}
 
 -- ---- bits and codes
 -- an answer has its own error

@@ -1,12 +1,10 @@
 -- Which rule the input breaks where the header of a text region is refused.
-use Rattle.std.proofs.Common.{◌≡◌, ◌⊎◌, inl, inr, ℕ, ◌+◌, ◌<◌, ◌≤◌, ◌/◌, ◌%◌, eqb, Bool, true, false, cond, ◌&&◌, List, drop, length, Option, Some, None, Result, Ok, Err, refl, sym, ◌∙◌, ap, subst, arith, ℤ}
+use Rattle.std.proofs.Common.{◌≡◌, inl, inr, ℕ, ◌+◌, ◌<◌, ◌≤◌, ◌/◌, ◌%◌, eqb, Bool, true, false, cond, ◌&&◌, List, length, Option, Some, None, refl, sym, ◌∙◌, ap, subst, arith}
 use Rattle.std.specs.Prelude.{IfErr}
 use Rattle.std.specs.Int.{w8, w16, w32}
 use Rattle.std.specs.Option.{is_some}
 use Rattle.std.proofs.lemmas.Bool.{cond_both, eqb-true}
-use Rattle.jbig2_base.specs.Answer.{◌>>=◌}
 use Rattle.jbig2_base.specs.Bits.{start_of}
-use Rattle.jbig2_base.specs.Causes.{number_in}
 use Rattle.jbig2_base.specs.Fields.{end_of_bytes, number_at, signed_at}
 use Rattle.jbig2_base.specs.Operator.{operator_of}
 use Rattle.jbig2_base.specs.declared.error.DecodeError.{DecodeError}
@@ -15,7 +13,6 @@ use Rattle.jbig2_region.specs.RefinementTemplates.{refinement_pixels_at, refinem
 use Rattle.jbig2_region.specs.RegionInfo.{region_info_at}
 use Rattle.jbig2_region.specs.Templates.{free_pixel_at}
 use Rattle.jbig2_region.specs.declared.template.AdaptiveTemplatePixel.{AdaptiveTemplatePixel}
-use Rattle.jbig2_region.specs.declared.template.RefinementTemplate.{RefinementTemplate}
 use Rattle.jbig2_region.specs.declared.template.RefinementTemplate.TheVariants.{Template0, Template1}
 use Rattle.jbig2_text.specs.Causes.{BreaksIds, BreaksSymbolCodes, BreaksTextHeader, TextHeadersHaveCauses, count_place, fields_length, pixels_place, text_flags_in}
 use Rattle.jbig2_text.specs.SymbolCodes.{symbol_codes_at, symbol_codes_from}
@@ -24,7 +21,7 @@ use Rattle.jbig2_text.specs.declared.text.header.TextFields.{TextFields}
 use Rattle.jbig2_text.specs.declared.text.header.TextRegionFlags.{TextRegionFlags}
 use Rattle.jbig2_text.specs.declared.text.header.TextRegionHuffmanFlags.{TextRegionHuffmanFlags}
 use Rattle.jbig2_text.proofs.Causes.{symbol_code_causes}
-use Rattle.jbig2_text.proofs.Told.{Number, Stands, Told, cause-last, cause-more, told-next, told-number, told-operator, told-region_info, told-signed}
+use Rattle.jbig2_text.proofs.Told.{Stands, Told, cause-last, cause-more, told-next, told-number, told-operator, told-region_info, told-signed}
 
 -- the same place, said otherwise
 there : (bytes : List ℕ) (m n : ℕ) (rest : List ℕ) → m ≡ n → Stands bytes m rest → Stands bytes n rest

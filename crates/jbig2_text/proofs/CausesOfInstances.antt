@@ -1,10 +1,10 @@
 -- Which rule the input breaks where an instance of a symbol is refused.
-use Rattle.std.proofs.Common.{◌≡◌, ◌⊎◌, inl, inr, ⊎_elim, ℕ, ◌+◌, ◌<◌, ◌≤◌, eqb, ltb, Bool, true, false, cond, ◌||◌, List, [], ◌∷◌, ◌++◌, length, get_or, Option, Some, None, Result, Ok, Err, refl, sym, ◌∙◌, ap, subst, arith, ℤ, pos, negsuc}
-use Rattle.std.specs.Prelude.{IfErr, nat_le, slice_get, ◌+ℤ◌, ◌-ℤ◌}
+use Rattle.std.proofs.Common.{◌≡◌, ◌⊎◌, inl, inr, ⊎_elim, ℕ, ◌<◌, eqb, ltb, Bool, true, false, cond, ◌||◌, List, length, get_or, Option, Some, None, Ok, refl, sym, ◌∙◌, subst, arith, ℤ, pos, negsuc}
+use Rattle.std.specs.Prelude.{IfErr, nat_le, ◌+ℤ◌, ◌-ℤ◌}
 use Rattle.std.specs.Int.{int_shr}
 use Rattle.std.proofs.lemmas.Bool.{cases_lt, cond-false, cond-true, leb-true, ltb-true, or_cases}
 use Rattle.std.proofs.lemmas.Option.{slice_get-get_or}
-use Rattle.jbig2_base.specs.Answer.{◌>>=◌, refuse_if}
+use Rattle.jbig2_base.specs.Answer.{refuse_if}
 use Rattle.jbig2_base.specs.Grid.{Grid, blank}
 use Rattle.jbig2_base.specs.declared.error.DecodeError.{DecodeError}
 use Rattle.jbig2_base.specs.declared.error.DecodeError.TheVariants.{Overflow, Symbol}
@@ -19,7 +19,7 @@ use Rattle.jbig2_text.specs.declared.text.cursor.Cursor.{Cursor}
 use Rattle.jbig2_text.specs.declared.text.header.TextRegionFlags.{TextRegionFlags}
 use Rattle.jbig2_text.specs.declared.text.refined.RefinementDeltas.{RefinementDeltas}
 use Rattle.jbig2_text.proofs.CausesOfText.{told-word}
-use Rattle.jbig2_text.proofs.Told.{Told, cause-if, cause-last, cause-more, cause-of, told, told-any, told-more, told-if, told-next, told-refused}
+use Rattle.jbig2_text.proofs.Told.{Told, cause-if, cause-last, cause-more, cause-of, told-any, told-more, told-if, told-next}
 
 -- ---- symbols
 -- an id without a symbol

@@ -1,10 +1,10 @@
 -- Which rule the input breaks where a text region is refused.
-use Rattle.std.proofs.Common.{◌≡◌, ◌⊎◌, inl, inr, ⊎_elim, ℕ, zero, suc, ◌+◌, ◌-◌, ◌*◌, ◌<◌, ◌≤◌, eqb, ltb, Bool, true, false, cond, ◌||◌, List, [], ◌∷◌, length, Option, Some, None, Result, Ok, Err, refl, sym, ◌∙◌, ap, subst, arith, ℤ, pos, negsuc}
+use Rattle.std.proofs.Common.{◌≡◌, ◌⊎◌, inl, inr, ⊎_elim, ℕ, zero, suc, ◌+◌, ◌-◌, ◌*◌, ◌<◌, eqb, ltb, Bool, true, false, ◌||◌, List, [], ◌∷◌, length, Option, Some, None, Result, Ok, Err, refl, sym, ◌∙◌, ap, subst, arith, ℤ, pos, negsuc}
 use Rattle.std.specs.Prelude.{IfErr, ◌-ℤ◌}
 use Rattle.std.proofs.lemmas.Bool.{cond-false, cond-true, eqb-false, eqb-true, lt-ltb, ltb-true, or_cases}
 use Rattle.jbig2_base.specs.Answer.{◌>>=◌, refuse_if}
 use Rattle.jbig2_base.specs.Bits.{Place, aligned, bits_left}
-use Rattle.jbig2_base.specs.Fields.{bits_at, bytes_at, end_of_bytes}
+use Rattle.jbig2_base.specs.Fields.{bytes_at, end_of_bytes}
 use Rattle.jbig2_base.specs.Grid.{Grid, blank}
 use Rattle.jbig2_base.specs.declared.error.DecodeError.{DecodeError}
 use Rattle.jbig2_base.specs.declared.error.DecodeError.TheVariants.{Huffman, Overflow, Symbol}
@@ -22,15 +22,14 @@ use Rattle.jbig2_text.specs.Causes.{Behind, RefusesNumber}
 use Rattle.jbig2_text.specs.CausesOfRegions.{BreaksRegionBy, BreaksTextRegion, BreaksTextTables, HasNoMeaning, IsOutOfBand, LacksBytes, LacksSymbol, RefusesValue, TextRegionsHaveCauses, TextTablesHaveCauses, coder_causes, customs_of_size, customs_of_three, customs_of_two, prefix_causes}
 use Rattle.jbig2_text.specs.CausesOfText.{BreaksInstance, BreaksInstances, BreaksMove, BreaksStrip, HaveCauses, InstancesHaveCauses, ReadingCauses}
 use Rattle.jbig2_text.specs.Refining.{Refining}
-use Rattle.jbig2_text.specs.Text.{Reached, Readings, TextParams, after_instances, coordinate, cursor_moved, end_of_strip, reached, some_strips, strip_begun, strip_delta, strips, text_instances, text_region, with_instance, with_last, with_next_instance}
-use Rattle.jbig2_text.specs.TextCoding.{Coded, Prefixed, by_coder, by_prefix_codes, in_band, next_integer, number_by_coder, prefixed_bits, prefixed_refined, prefixed_value, sized_bytes}
+use Rattle.jbig2_text.specs.Text.{Reached, Readings, TextParams, after_instances, coordinate, cursor_moved, end_of_strip, reached, some_strips, strip_begun, strip_delta, strips, text_instances, text_region, with_instance, with_next_instance}
+use Rattle.jbig2_text.specs.TextCoding.{Coded, Prefixed, by_coder, by_prefix_codes, in_band, next_integer, number_by_coder, prefixed_refined, prefixed_value, sized_bytes}
 use Rattle.jbig2_text.specs.TextHeader.{ArithmeticCoding, HuffmanCoding, NumberCoding, TextHeader}
 use Rattle.jbig2_text.specs.TextRegion.{coder_of, one_of_three, one_of_two, prefix_codes_of, refining_of, region_by, region_from, table_of_size, text_answer, text_decoded, text_params, text_tables}
-use Rattle.jbig2_text.specs.declared.text.header.TextRegionHuffmanFlags.{TextRegionHuffmanFlags}
 use Rattle.jbig2_text.proofs.Causes.{cause-bits, cause-value, own-error}
 use Rattle.jbig2_text.proofs.CausesOfInstances.{instance_causes}
 use Rattle.jbig2_text.proofs.CausesOfText.{cause-delta, cause-move, cause-strip, told-word}
-use Rattle.jbig2_text.proofs.Told.{Told, cause-if, cause-last, cause-more, told, told-if, told-next, told-refused}
+use Rattle.jbig2_text.proofs.Told.{Told, cause-if, cause-last, cause-more, told-if}
 
 -- ---- all instances
 cause-after : {S : Type 0} (c : ReadingCauses S) (r : Readings S) (a : HaveCauses r c) (p : TextParams) (P : DecodeError → Type 0) (n : ℕ) (x : Reached S)

@@ -1,21 +1,16 @@
 -- Which rule the input breaks where the instances of a text region are refused.
-use Rattle.std.proofs.Common.{◌≡◌, ◌⊎◌, inl, inr, ⊎_elim, ℕ, zero, suc, ◌+◌, ◌-◌, ◌*◌, ◌^◌, ◌<◌, ◌≤◌, eqb, ltb, Bool, true, false, cond, ◌||◌, List, [], ◌∷◌, ◌++◌, length, Option, Some, None, Result, Ok, Err, refl, sym, ◌∙◌, ap, subst, arith, ℤ, pos, negsuc}
-use Rattle.std.specs.Prelude.{IfErr, nat_le, slice_get, ◌+ℤ◌, ◌-ℤ◌, ◌*ℤ◌}
-use Rattle.std.specs.Int.{int_shr}
-use Rattle.std.proofs.lemmas.Bool.{leb-true, ltb-true, ltb-false, or_cases}
-use Rattle.jbig2_base.specs.Answer.{◌>>=◌, refuse_if}
-use Rattle.jbig2_base.specs.Grid.{Grid}
+use Rattle.std.proofs.Common.{◌≡◌, inl, inr, ◌^◌, ltb, Option, Some, None, refl, ℤ, pos, negsuc}
+use Rattle.std.specs.Prelude.{IfErr, ◌+ℤ◌, ◌*ℤ◌}
+use Rattle.std.proofs.lemmas.Bool.{ltb-false}
 use Rattle.jbig2_base.specs.declared.error.DecodeError.{DecodeError}
-use Rattle.jbig2_base.specs.declared.error.DecodeError.TheVariants.{Overflow, Symbol}
-use Rattle.jbig2_base.specs.declared.error.OverflowError.TheVariants.{BitmapDimension, PlacementCoordinate, ReferenceOffset}
-use Rattle.jbig2_base.specs.declared.error.SymbolError.TheVariants.{InvalidStripDelta, OutOfRange, TooManyInstances}
-use Rattle.jbig2_base.proofs.Causes.{cause-next, cause-refused}
-use Rattle.jbig2_text.specs.Causes.{Behind}
-use Rattle.jbig2_text.specs.CausesOfText.{ADeltaLeaves, AStartLeaves, BreaksInstance, BreaksInstances, BreaksMove, BreaksMoveBy, BreaksStrip, HaveCauses, InstancesHaveCauses, LeavesWord, ReadingCauses}
-use Rattle.jbig2_text.specs.Text.{Readings, TextParams, coordinate, cursor_moved, moved_by, strip_begun, strip_delta, text_instances, word_or}
+use Rattle.jbig2_base.specs.declared.error.DecodeError.TheVariants.{Symbol}
+use Rattle.jbig2_base.specs.declared.error.SymbolError.TheVariants.{InvalidStripDelta}
+use Rattle.jbig2_base.proofs.Causes.{cause-next}
+use Rattle.jbig2_text.specs.CausesOfText.{ADeltaLeaves, BreaksMove, BreaksMoveBy, BreaksStrip, HaveCauses, LeavesWord, ReadingCauses}
+use Rattle.jbig2_text.specs.Text.{Readings, coordinate, cursor_moved, moved_by, strip_begun, strip_delta, word_or}
 use Rattle.jbig2_text.specs.declared.text.cursor.Cursor.{Cursor}
 use Rattle.jbig2_text.specs.declared.text.header.TextRegionFlags.{TextRegionFlags}
-use Rattle.jbig2_text.proofs.Told.{Told, cause-if, cause-last, cause-more, told, told-if, told-next, told-refused}
+use Rattle.jbig2_text.proofs.Told.{Told, cause-last, cause-more, told-if}
 
 -- ---- numbers
 pub told-word : (P : DecodeError → Type 0) (e : DecodeError) (n : ℤ) → (LeavesWord n → P e) → Told (word_or e n) P (λ x. n ≡ x)

@@ -14,7 +14,7 @@ use Rattle.jbig2_base.specs.declared.bitmap.operator.CombinationOperator.{Combin
 use Rattle.jbig2_base.specs.declared.error.DecodeError.{DecodeError}
 use Rattle.jbig2_base.specs.declared.error.DecodeError.TheVariants.{Region, Unsupported}
 use Rattle.jbig2_base.specs.declared.error.RegionError.TheVariants.{InvalidCombinationOperator}
-use Rattle.jbig2_base.proofs.Causes.{cause-number, cause-refused, number-there}
+use Rattle.jbig2_base.proofs.Causes.{cause-number, number-there}
 use Rattle.jbig2_region.specs.RegionInfo.{region_info_at}
 use Rattle.jbig2_region.specs.declared.region_info.RegionSegmentInfo.{RegionSegmentInfo}
 

@@ -1,6 +1,6 @@
 -- Which rule the input breaks where a text region is refused (docs/FORMAT.md): its tables, and its numbers as they are
 -- coded.
-use Rattle.std.specs.Prelude.{◌≡◌, ◌≢◌, ◌<◌, ◌≤◌, ◌⊎◌, ℕ, ◌+◌, ◌==◌, nat_lt, if◌then◌else◌, ℤ, pos, negsuc, List, [], length, None, Result, Ok, Err, IfErr}
+use Rattle.std.specs.Prelude.{◌≡◌, ◌≢◌, ◌<◌, ◌≤◌, ◌⊎◌, ℕ, ◌+◌, ◌==◌, nat_lt, if◌then◌else◌, ℤ, pos, negsuc, List, length, None, Err, IfErr}
 use Rattle.jbig2_base.specs.Bits.{Place, aligned, bits_left}
 use Rattle.jbig2_base.specs.Grid.{Grid}
 use Rattle.jbig2_base.specs.declared.error.DecodeError.{DecodeError}

@@ -1,8 +1,7 @@
 -- Which rule the input breaks where the instances of a text region are refused (docs/FORMAT.md), whatever the numbers
 -- are coded by. What is refused at an instance is refused behind those before it, which are read.
-use Rattle.std.specs.Prelude.{◌≡◌, ◌<◌, ◌≤◌, ◌⊎◌, ℕ, ◌+◌, ◌-◌, ◌*◌, ◌^◌, Bool, true, false, if◌then◌else◌, ℤ, pos, negsuc, ◌+ℤ◌, ◌-ℤ◌, ◌*ℤ◌, List, [], length, Option, Some, None, Result, IfErr}
+use Rattle.std.specs.Prelude.{◌≡◌, ◌<◌, ◌≤◌, ◌⊎◌, ℕ, ◌-◌, ◌*◌, ◌^◌, true, if◌then◌else◌, ℤ, pos, negsuc, ◌+ℤ◌, ◌-ℤ◌, ◌*ℤ◌, List, [], length, Option, Some, None, IfErr}
 use Rattle.std.specs.Int.{int_shr}
-use Rattle.jbig2_base.specs.Answer.{◌>>=◌}
 use Rattle.jbig2_base.specs.Grid.{Grid}
 use Rattle.jbig2_base.specs.declared.error.DecodeError.{DecodeError}
 use Rattle.jbig2_base.specs.declared.error.DecodeError.TheVariants.{Overflow, Symbol}
@@ -11,7 +10,7 @@ use Rattle.jbig2_base.specs.declared.error.SymbolError.TheVariants.{InvalidStrip
 use Rattle.jbig2_region.specs.Refinement.{Reference}
 use Rattle.jbig2_text.specs.Causes.{Behind}
 use Rattle.jbig2_text.specs.Refining.{Refining}
-use Rattle.jbig2_text.specs.Text.{Outline, Reached, Readings, TextParams, after_instances, behind_first, instance_symbol, is_bottom, is_last_along_s, is_right, reached, refined_outline, refinement_deltas, refinement_flag, strip_begun, strip_delta, symbol_of, t_in_strip, text_instances, with_instance}
+use Rattle.jbig2_text.specs.Text.{Reached, Readings, TextParams, after_instances, behind_first, instance_symbol, is_bottom, is_last_along_s, is_right, reached, refinement_deltas, refinement_flag, strip_begun, strip_delta, symbol_of, t_in_strip, text_instances, with_instance}
 use Rattle.jbig2_text.specs.declared.text.cursor.Cursor.{Cursor}
 use Rattle.jbig2_text.specs.declared.text.header.TextRegionFlags.{TextRegionFlags}
 use Rattle.jbig2_text.specs.declared.text.refined.RefinementDeltas.{RefinementDeltas}
