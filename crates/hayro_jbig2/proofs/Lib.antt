@@ -1,6 +1,7 @@
 mod Answered
 pub mod Books
 pub mod ByPages
+pub mod Causes
 pub mod Consuming
 mod Direct
 mod FileRows
@@ -8,9 +9,11 @@ pub mod KeptLemmas
 mod LeftLemmas
 mod PackedRows
 mod PageArea
+pub mod PageCauses
 mod RegionSizes
 pub mod Runs
 pub mod Sending
+pub mod SegmentCauses
 mod Shades
 pub mod Spelling
 pub mod Untouched

@@ -1,4 +1,5 @@
 pub mod Calls
+pub mod Causes
 pub mod Dictionaries
 pub mod Files
 pub mod FirstPage
@@ -6,6 +7,7 @@ pub mod Globals
 pub mod Image
 pub mod Names
 pub mod Page
+pub mod PageCauses
 pub mod Referred
 pub mod Regions
 pub mod Sends

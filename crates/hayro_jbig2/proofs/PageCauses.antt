@@ -1,0 +1,180 @@
+-- Which segment breaks a rule where globals or a page are refused.
+use Rattle.std.proofs.Common.{◌≡◌, ℕ, suc, Bool, true, false, List, [], ◌∷◌, take, slice_get, Some, Result, Ok, Err, refl, sym, ap, ◌∙◌}
+use Rattle.std.proofs.lemmas.Bool.{cond-false}
+use Rattle.std.specs.Prelude.{IfErr, IsTrue, IsFalse}
+use Rattle.jbig2_base.specs.Answer.{◌>>=◌}
+use Rattle.jbig2_base.specs.PageInfo.{initial_page_of}
+use Rattle.jbig2_base.specs.Segment.{Header, SegmentView}
+use Rattle.jbig2_base.specs.Sequential.{sorted_segments}
+use Rattle.jbig2_base.specs.declared.error.DecodeError.{DecodeError}
+use Rattle.jbig2_base.specs.declared.segment.SegmentType.{SegmentType}
+use Rattle.jbig2_base.specs.declared.segment.SegmentType.TheVariants as types
+use Rattle.jbig2_base.proofs.Causes.{cause-next}
+use Rattle.jbig2_region.specs.Generic.{PlacedRegion}
+use Rattle.hayro_jbig2.specs.Causes.{BreaksBeginning, BreaksExtension, IsOf}
+use Rattle.hayro_jbig2.specs.PageCauses.{BreaksDrawing, BreaksGlobal, BreaksImmediate, BreaksNames, BreaksRegion, BreaksSegment, EmbeddedPagesHaveCauses, FileGlobalsHaveCauses, GlobalsHaveCauses, PagesHaveCauses}
+use Rattle.hayro_jbig2.specs.Dictionaries.{code_at, extension, pattern_dictionary_at, symbol_dictionary_at, with_code, with_patterns, with_symbols}
+use Rattle.hayro_jbig2.specs.Globals.{globals_at, named_by, named_from}
+use Rattle.hayro_jbig2.specs.Names.{Names, no_names}
+use Rattle.hayro_jbig2.specs.Page.{Drawing, embedded, ends_page, grid_of_page, immediate, intermediate, keeping, page_begun, region_at, segment_on, segments_drawn, shown}
+use Rattle.hayro_jbig2.specs.Regions.{generic_at}
+use Rattle.hayro_jbig2.specs.declared.region.RegionKind.{RegionKind}
+use Rattle.hayro_jbig2.specs.declared.region.RegionKind.TheVariants as kinds
+use Rattle.hayro_jbig2.proofs.Causes.{beginning_causes, cause-by, cause-if, in-steps, own-error}
+use Rattle.hayro_jbig2.proofs.SegmentCauses.{extension_causes, halftone_causes, refinement_causes, symbol_dictionary_causes, text_causes}
+
+-- one with this header but for its type
+abbrev of_type : SegmentType → Header → List ℕ → SegmentView
+of_type kind h bytes = record { header = record h { segment_type = kind }; bytes = bytes }
+
+-- ---- what is kept
+symbols-cause : (P : DecodeError → Type 0) (strict : Bool) (shared : Names) (p : SegmentView) (own : Names) → IfErr (symbol_dictionary_at strict own shared p) P → IfErr (with_symbols strict shared p own) P
+unfolding with_symbols
+symbols-cause P strict shared p own is = cause-next P (symbol_dictionary_at strict own shared p) _ is (λ symbols symbols_is. tt)
+
+patterns-cause : (strict : Bool) (p : SegmentView) (own : Names) → IfErr (with_patterns strict p own) (IsOf (pattern_dictionary_at strict p.bytes))
+unfolding with_patterns
+patterns-cause strict p own = cause-next (IsOf (pattern_dictionary_at strict p.bytes)) (pattern_dictionary_at strict p.bytes) _ (own-error (pattern_dictionary_at strict p.bytes)) (λ patterns patterns_is. tt)
+
+code-cause : (p : SegmentView) (own : Names) → IfErr (with_code p own) (IsOf (code_at p.bytes))
+unfolding with_code
+code-cause p own = cause-next (IsOf (code_at p.bytes)) (code_at p.bytes) _ (own-error (code_at p.bytes)) (λ code code_is. tt)
+
+keeping-cause : (P : DecodeError → Type 0) (d : Drawing) (kept : Result Names DecodeError) → IfErr kept P → IfErr (keeping d kept) P
+keeping-cause P d kept is = cause-next P kept _ is (λ names names_is. tt)
+
+-- ---- regions
+region-causes : (strict : Bool) (globals : Names) (kind : RegionKind) (is_intermediate : Bool) (p : SegmentView) (d : Drawing) → IfErr (region_at strict globals kind is_intermediate p d) (BreaksRegion strict globals kind is_intermediate p d)
+region-causes strict globals kinds.Text is_intermediate p d = text_causes strict d.names globals p
+region-causes strict globals kinds.Halftone is_intermediate p d = halftone_causes strict d.names globals p
+region-causes strict globals kinds.Generic is_intermediate p d = own-error (generic_at strict is_intermediate p)
+region-causes strict globals kinds.GenericRefinement is_intermediate p d = refinement_causes strict is_intermediate d.grid d.regions p
+
+shown-cause : (P : DecodeError → Type 0) (strict : Bool) (d : Drawing) (r : Result PlacedRegion DecodeError) → IfErr r P → IfErr (shown strict d r) (λ e. IsTrue strict × P e)
+shown-cause P strict d (Ok r) is = tt
+shown-cause P true d (Err e) is = (refl, is)
+shown-cause P false d (Err e) is = tt
+
+immediate-causes : (strict : Bool) (globals : Names) (kind : RegionKind) (p : SegmentView) (d : Drawing) → IfErr (immediate strict globals kind p d) (BreaksImmediate strict globals kind p d)
+unfolding immediate
+immediate-causes strict globals kind p d =
+    shown-cause (BreaksRegion strict globals kind false p d) strict d (region_at strict globals kind false p d) (region-causes strict globals kind false p d)
+
+intermediate-causes : (strict : Bool) (globals : Names) (kind : RegionKind) (p : SegmentView) (d : Drawing) → IfErr (intermediate strict globals kind p d) (BreaksRegion strict globals kind true p d)
+unfolding intermediate
+intermediate-causes strict globals kind p d =
+    cause-next (BreaksRegion strict globals kind true p d) (region_at strict globals kind true p d) _ (region-causes strict globals kind true p d) (λ region region_is. tt)
+
+-- ---- segments of globals
+global-causes : (strict : Bool) (kind : SegmentType) (h : Header) (bytes : List ℕ) (names : Names) → IfErr (named_by strict (of_type kind h bytes) names) (BreaksGlobal strict names (of_type kind h bytes))
+global-causes strict types.SymbolDictionary h bytes names = let p = of_type types.SymbolDictionary h bytes in symbols-cause (BreaksGlobal strict names p) strict no_names p names (symbol_dictionary_causes strict names no_names p)
+global-causes strict types.IntermediateTextRegion h bytes names = tt
+global-causes strict types.ImmediateTextRegion h bytes names = tt
+global-causes strict types.ImmediateLosslessTextRegion h bytes names = tt
+global-causes strict types.PatternDictionary h bytes names = patterns-cause strict (of_type types.PatternDictionary h bytes) names
+global-causes strict types.IntermediateHalftoneRegion h bytes names = tt
+global-causes strict types.ImmediateHalftoneRegion h bytes names = tt
+global-causes strict types.ImmediateLosslessHalftoneRegion h bytes names = tt
+global-causes strict types.IntermediateGenericRegion h bytes names = tt
+global-causes strict types.ImmediateGenericRegion h bytes names = tt
+global-causes strict types.ImmediateLosslessGenericRegion h bytes names = tt
+global-causes strict types.IntermediateGenericRefinementRegion h bytes names = tt
+global-causes strict types.ImmediateGenericRefinementRegion h bytes names = tt
+global-causes strict types.ImmediateLosslessGenericRefinementRegion h bytes names = tt
+global-causes strict types.PageInformation h bytes names = tt
+global-causes strict types.EndOfPage h bytes names = tt
+global-causes strict types.EndOfStripe h bytes names = tt
+global-causes strict types.EndOfFile h bytes names = tt
+global-causes strict types.Profiles h bytes names = tt
+global-causes strict types.Tables h bytes names = code-cause (of_type types.Tables h bytes) names
+global-causes strict types.ColourPalette h bytes names = tt
+global-causes strict types.Extension h bytes names = cause-next (BreaksExtension strict bytes) (extension strict bytes) _ (extension_causes strict bytes) (λ known known_is. tt)
+global-causes strict types.Reserved h bytes names = tt
+
+-- the place of the segment that is refused, one behind another segment
+names-later : (strict : Bool) (p : SegmentView) (ps : List SegmentView) (names more : Names) (e : DecodeError) → named_by strict p names ≡ Ok more → BreaksNames strict ps more e → BreaksNames strict (p ∷ ps) names e
+names-later strict p ps names more e is some =
+    (suc some.0, some.1, some.2, some.3, ap (λ (r : Result Names DecodeError). r >>= λ next. named_from strict (take some.0 ps) next) is ∙ some.4, some.5)
+
+pub file_globals_causes : FileGlobalsHaveCauses
+file_globals_causes strict [] names = tt
+file_globals_causes strict (p ∷ ps) names =
+    let P : DecodeError → Type 0 = BreaksNames strict (p ∷ ps) names in
+    cause-next P (named_by strict p names) _
+    (cause-by (named_by strict p names) (BreaksGlobal strict names p) P (global-causes strict p.header.segment_type p.header p.bytes names) (λ e is broken. (0, p, names, refl, refl, broken)))
+    (λ more more_is. cause-by (named_from strict ps more) (BreaksNames strict ps more) P (file_globals_causes strict ps more) (λ e is some. names-later strict p ps names more e more_is some))
+
+pub globals_causes : GlobalsHaveCauses
+unfolding globals_at
+globals_causes strict bytes =
+    in-steps (sorted_segments strict bytes) _ (IsOf (sorted_segments strict bytes)) (λ ps. BreaksNames strict ps no_names) (own-error (sorted_segments strict bytes)) (λ ps ps_is. file_globals_causes strict ps no_names)
+
+-- ---- segments of a page
+segment-causes : (strict : Bool) (globals : Names) (kind : SegmentType) (h : Header) (bytes : List ℕ) (d : Drawing) → IfErr (segment_on strict globals (of_type kind h bytes) d) (BreaksSegment strict globals (of_type kind h bytes) d)
+segment-causes strict globals types.SymbolDictionary h bytes d =
+    let p = of_type types.SymbolDictionary h bytes in
+    let P : DecodeError → Type 0 = BreaksSegment strict globals p d in
+    keeping-cause P d (with_symbols strict globals p d.names) (symbols-cause P strict globals p d.names (symbol_dictionary_causes strict d.names globals p))
+segment-causes strict globals types.IntermediateTextRegion h bytes d = intermediate-causes strict globals kinds.Text (of_type types.IntermediateTextRegion h bytes) d
+segment-causes strict globals types.ImmediateTextRegion h bytes d = immediate-causes strict globals kinds.Text (of_type types.ImmediateTextRegion h bytes) d
+segment-causes strict globals types.ImmediateLosslessTextRegion h bytes d = immediate-causes strict globals kinds.Text (of_type types.ImmediateLosslessTextRegion h bytes) d
+segment-causes strict globals types.PatternDictionary h bytes d =
+    let p = of_type types.PatternDictionary h bytes in
+    keeping-cause (IsOf (pattern_dictionary_at strict bytes)) d (with_patterns strict p d.names) (patterns-cause strict p d.names)
+segment-causes strict globals types.IntermediateHalftoneRegion h bytes d = intermediate-causes strict globals kinds.Halftone (of_type types.IntermediateHalftoneRegion h bytes) d
+segment-causes strict globals types.ImmediateHalftoneRegion h bytes d = immediate-causes strict globals kinds.Halftone (of_type types.ImmediateHalftoneRegion h bytes) d
+segment-causes strict globals types.ImmediateLosslessHalftoneRegion h bytes d = immediate-causes strict globals kinds.Halftone (of_type types.ImmediateLosslessHalftoneRegion h bytes) d
+segment-causes strict globals types.IntermediateGenericRegion h bytes d = intermediate-causes strict globals kinds.Generic (of_type types.IntermediateGenericRegion h bytes) d
+segment-causes strict globals types.ImmediateGenericRegion h bytes d = immediate-causes strict globals kinds.Generic (of_type types.ImmediateGenericRegion h bytes) d
+segment-causes strict globals types.ImmediateLosslessGenericRegion h bytes d = immediate-causes strict globals kinds.Generic (of_type types.ImmediateLosslessGenericRegion h bytes) d
+segment-causes strict globals types.IntermediateGenericRefinementRegion h bytes d = intermediate-causes strict globals kinds.GenericRefinement (of_type types.IntermediateGenericRefinementRegion h bytes) d
+segment-causes strict globals types.ImmediateGenericRefinementRegion h bytes d = immediate-causes strict globals kinds.GenericRefinement (of_type types.ImmediateGenericRefinementRegion h bytes) d
+segment-causes strict globals types.ImmediateLosslessGenericRefinementRegion h bytes d = immediate-causes strict globals kinds.GenericRefinement (of_type types.ImmediateLosslessGenericRefinementRegion h bytes) d
+segment-causes strict globals types.PageInformation h bytes d = tt
+segment-causes strict globals types.EndOfPage h bytes d = tt
+segment-causes strict globals types.EndOfStripe h bytes d = tt
+segment-causes strict globals types.EndOfFile h bytes d = tt
+segment-causes strict globals types.Profiles h bytes d = tt
+segment-causes strict globals types.Tables h bytes d =
+    let p = of_type types.Tables h bytes in
+    keeping-cause (IsOf (code_at bytes)) d (with_code p d.names) (code-cause p d.names)
+segment-causes strict globals types.ColourPalette h bytes d = tt
+segment-causes strict globals types.Extension h bytes d = cause-next (BreaksExtension strict bytes) (extension strict bytes) _ (extension_causes strict bytes) (λ known known_is. tt)
+segment-causes strict globals types.Reserved h bytes d = tt
+
+drawing-later : (strict : Bool) (globals : Names) (p : SegmentView) (ps : List SegmentView) (d more : Drawing) (e : DecodeError)
+    → IsFalse (ends_page p.header.segment_type) → segment_on strict globals p d ≡ Ok more → BreaksDrawing strict globals ps more e → BreaksDrawing strict globals (p ∷ ps) d e
+drawing-later strict globals p ps d more e on is some =
+    let goes = segment_on strict globals p d >>= λ next. segments_drawn strict globals (take some.0 ps) next in
+    (
+      suc some.0,
+      some.1,
+      some.2,
+      some.3,
+      (on, some.4),
+      cond-false (ends_page p.header.segment_type) (Ok d) goes on ∙ ap (λ (r : Result Drawing DecodeError). r >>= λ next. segments_drawn strict globals (take some.0 ps) next) is ∙ some.5,
+      some.6,
+    )
+
+drawing-causes : (strict : Bool) (globals : Names) (ps : List SegmentView) (d : Drawing) → IfErr (segments_drawn strict globals ps d) (BreaksDrawing strict globals ps d)
+drawing-causes strict globals [] d = tt
+drawing-causes strict globals (p ∷ ps) d =
+    let P : DecodeError → Type 0 = BreaksDrawing strict globals (p ∷ ps) d in
+    cause-if P (ends_page p.header.segment_type) (Ok d) (segment_on strict globals p d >>= λ e. segments_drawn strict globals ps e) (λ ends. tt) (λ on.
+    cause-next P (segment_on strict globals p d) _
+    (cause-by (segment_on strict globals p d) (BreaksSegment strict globals p d) P (segment-causes strict globals p.header.segment_type p.header p.bytes d) (λ e is broken. (0, p, d, refl, (on, tt), refl, broken)))
+    (λ more more_is. cause-by (segments_drawn strict globals ps more) (BreaksDrawing strict globals ps more) P (drawing-causes strict globals ps more) (λ e is some. drawing-later strict globals p ps d more e on more_is some)))
+
+-- ---- pages
+pub page_causes : PagesHaveCauses
+unfolding grid_of_page
+page_causes page =
+    in-steps page.globals _ (IsOf page.globals) (λ globals. BreaksDrawing page.strict globals page.segments (page_begun page.initial_page)) (own-error page.globals) (λ globals globals_is.
+    let P : DecodeError → Type 0 = BreaksDrawing page.strict globals page.segments (page_begun page.initial_page) in
+    cause-next P (segments_drawn page.strict globals page.segments (page_begun page.initial_page)) _ (drawing-causes page.strict globals page.segments (page_begun page.initial_page)) (λ d d_is. tt))
+
+pub embedded_causes : EmbeddedPagesHaveCauses
+unfolding embedded
+embedded_causes strict globals bytes =
+    in-steps (sorted_segments strict bytes) _ (IsOf (sorted_segments strict bytes)) (λ ps. BreaksBeginning ps) (own-error (sorted_segments strict bytes)) (λ ps ps_is.
+    cause-next (BreaksBeginning ps) (initial_page_of ps) _ (beginning_causes ps) (λ page page_is. tt))

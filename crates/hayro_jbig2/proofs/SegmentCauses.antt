@@ -1,0 +1,169 @@
+-- Which rule is broken where a segment of a page or of globals is refused.
+use Rattle.std.proofs.Common.{◌≡◌, ◌≢◌, ◌⊎◌, inl, inr, ℕ, ◌+◌, ◌<◌, ◌≤◌, Bool, true, false, not, ◌&&◌, ◌==◌, nat_le, nat_lt, is_none, List, [], ◌∷◌, ◌++◌, length, length-append, take, Option, Some, None, Result, Ok, Err, refl, sym, ap, subst, ◌∙◌, arith}
+use Rattle.std.proofs.lemmas.Bool.{and_parts, cond_both, eqb-false, leb-true, ltb-true}
+use Rattle.std.specs.Prelude.{IfErr, IfOk, IsTrue}
+use Rattle.std.specs.Int.{w32, from_be_bytes}
+use Rattle.jbig2_base.specs.Answer.{◌>>=◌, refuse_if}
+use Rattle.jbig2_base.specs.Fields.{number_at}
+use Rattle.jbig2_base.specs.Grid.{Grid}
+use Rattle.jbig2_base.specs.Segment.{SegmentView}
+use Rattle.jbig2_base.specs.declared.error.DecodeError.{DecodeError}
+use Rattle.jbig2_base.specs.declared.error.DecodeError.TheVariants.{Overflow, Segment, Unsupported}
+use Rattle.jbig2_base.specs.declared.error.OverflowError.TheVariants.{SymbolCount}
+use Rattle.jbig2_base.specs.declared.error.SegmentError.TheVariants.{InvalidReference}
+use Rattle.jbig2_base.proofs.Causes.{cause-next, cause-number, cause-refused, number-there}
+use Rattle.jbig2_coder.specs.PrefixCode.{Member}
+use Rattle.jbig2_halftone.specs.Patterns.{Patterns}
+use Rattle.jbig2_region.specs.Generic.{PlacedRegion}
+use Rattle.jbig2_symbol.specs.Symbols.{Symbols}
+use Rattle.hayro_jbig2.specs.Causes.{AtSome, BreaksExtension, BreaksPatterns, BreaksReference, BreaksReferred, BreaksRefinement, ExtensionsHaveCauses, HalftonesHaveCauses, IsOf, LacksPatterns, LacksRegion, NamesNone, NamesNothing, ReferredHasCauses, RefinementsHaveCauses, SymbolDictionariesHaveCauses, TextsHaveCauses, first_region, halftone_with, refinement_with, symbols_in, symbols_under, symbols_with, text_with}
+use Rattle.hayro_jbig2.specs.Dictionaries.{extension, symbol_dictionary_at}
+use Rattle.hayro_jbig2.specs.Names.{Names, first_named, named, own_else}
+use Rattle.hayro_jbig2.specs.Referred.{Referred, nothing_referred, referred_by, with_either, with_number, with_numbers}
+use Rattle.hayro_jbig2.specs.Regions.{halftone_at, patterns_for, referred_region, refinement_at, some_patterns, text_at}
+use Rattle.hayro_jbig2.specs.declared.kept.Kept.{Kept}
+use Rattle.hayro_jbig2.proofs.Causes.{at-first, at-later, cause-by, in-steps, own-error}
+
+-- ---- names
+unnamed : {V : Type 0} (number : ℕ) (kept : List (Kept V)) → first_named number kept ≡ None → NamesNone kept number
+unnamed number [] none = tt
+unnamed {V} number (k ∷ kept) none =
+    let Q : Option V → Type 0 = λ o. o ≡ None → NamesNone (k ∷ kept) number in
+    cond_both (k.segment_number == number) (Some k.value) (first_named number kept) Q
+    (λ here is. absurd (cc))
+    (λ apart is. (eqb-false k.segment_number number apart, unnamed number kept is)) none
+
+neither : {V : Type 0} (a b : Option V) → own_else a b ≡ None → (a ≡ None) × (b ≡ None)
+neither (Some v) b none = absurd (cc)
+neither None b none = (refl, none)
+
+unnamed-both : {V : Type 0} (number : ℕ) (own shared : List (Kept V)) → named number own shared ≡ None → NamesNone own number × NamesNone shared number
+unnamed-both number own shared none =
+    let both = neither (first_named number own) (first_named number shared) none in
+    (unnamed number own both.0, unnamed number shared both.1)
+
+-- ---- what a segment refers to
+-- what holds of the last step's value holds of the whole
+ok-last : {A B : Type 0} (P : B → Type 0) (r : Result A DecodeError) (next : A → Result B DecodeError) → ((x : A) → IfOk (next x) P) → IfOk (r >>= next) P
+ok-last P (Ok x) next rest = rest x
+ok-last P (Err e) next rest = tt
+
+ok-holds : {A : Type 0} (P : A → Type 0) (r : Result A DecodeError) (x : A) → IfOk r P → r ≡ Ok x → P x
+ok-holds P (Ok y) x is same =
+    let values : y ≡ x = cc in
+    subst P values is
+ok-holds P (Err e) x is same = absurd (cc)
+
+either-cause : (P : DecodeError → Type 0) (strict : Bool) (s : Option Symbols) (code : Option (List Member)) (r : Referred)
+    → (1048576 < length r.symbols + symbols_in s → P (Overflow SymbolCount))
+    → (IsTrue strict → s ≡ None → code ≡ None → P (Segment InvalidReference)) → IfErr (with_either strict s code r) P
+either-cause P strict (Some s) code r many none =
+    let over : Bool = nat_lt 1048576 (length (r.symbols ++ s.exported)) in
+    cause-next P (refuse_if over _) _ (cause-refused P over _ (λ is.
+    let above = ltb-true 1048576 (length (r.symbols ++ s.exported)) is in
+    many (omega (arith, above, length-append r.symbols s.exported)))) (λ few few_is. tt)
+either-cause P strict None (Some code) r many none = tt
+either-cause P strict None None r many none =
+    cause-next P (refuse_if strict _) _ (cause-refused P strict _ (λ is. none is refl refl)) (λ known known_is. tt)
+
+grown : (strict : Bool) (s : Option Symbols) (code : Option (List Member)) (r : Referred) → IfOk (with_either strict s code r) (λ more. length more.symbols ≡ length r.symbols + symbols_in s)
+grown strict (Some s) code r =
+    ok-last (λ (more : Referred). length more.symbols ≡ length r.symbols + length s.exported) (refuse_if (nat_lt 1048576 (length (r.symbols ++ s.exported))) _) _ (λ few. length-append r.symbols s.exported)
+grown strict None (Some code) r = omega arith
+grown strict None None r =
+    ok-last (λ (more : Referred). length more.symbols ≡ length r.symbols + 0) (refuse_if strict _) _ (λ known. omega arith)
+
+numbers-cause : (P : DecodeError → Type 0) (strict : Bool) (own shared : Names) (numbers : List ℕ) (r : Referred)
+    → (1048576 < length r.symbols + symbols_under own shared numbers → P (Overflow SymbolCount))
+    → (IsTrue strict → AtSome (NamesNothing own shared) numbers → P (Segment InvalidReference)) → IfErr (with_numbers strict own shared numbers r) P
+numbers-cause P strict own shared [] r many none = tt
+numbers-cause P strict own shared (number ∷ numbers) r many none =
+    let s = named number own.symbols shared.symbols in
+    let code = named number own.codes shared.codes in
+    cause-next P (with_number strict own shared number r) _
+    (either-cause P strict s code r (λ over. many (omega (arith, over))) (λ is no_symbols no_code.
+    let first = unnamed-both number own.symbols shared.symbols no_symbols in
+    let second = unnamed-both number own.codes shared.codes no_code in
+    none is (at-first (NamesNothing own shared) number numbers (first.0, first.1, second.0, second.1))))
+    (λ more more_is.
+    let size = ok-holds (λ (x : Referred). length x.symbols ≡ length r.symbols + symbols_in s) (with_either strict s code r) more (grown strict s code r) more_is in
+    numbers-cause P strict own shared numbers more (λ over. many (omega (arith, over, size))) (λ is some. none is (at-later (NamesNothing own shared) number numbers some)))
+
+pub referred_causes : ReferredHasCauses
+referred_causes strict own shared numbers =
+    numbers-cause (BreaksReferred strict own shared numbers) strict own shared numbers nothing_referred (λ over. omega (arith, over)) (λ is some. (is, some))
+
+-- ---- dictionaries and extensions
+pub symbol_dictionary_causes : SymbolDictionariesHaveCauses
+unfolding symbol_dictionary_at
+symbol_dictionary_causes strict own shared p =
+    let numbers = p.header.referred_to_segments in
+    in-steps (referred_by strict own shared numbers) (symbols_with strict p.bytes) (BreaksReferred strict own shared numbers) (λ referred. IsOf (symbols_with strict p.bytes referred)) (referred_causes strict own shared numbers) (λ referred referred_is. own-error (symbols_with strict p.bytes referred))
+
+pub extension_causes : ExtensionsHaveCauses
+extension_causes true bytes =
+    let P : DecodeError → Type 0 = BreaksExtension true bytes in
+    cause-next P (number_at w32 bytes) _ (cause-number P w32 bytes (λ short. (refl, short))) (λ kind kind_is.
+    let there = number-there w32 bytes kind kind_is in
+    let value : from_be_bytes w32 (take 4 bytes) ≡ kind.0 = ap (λ (x : ℕ × List ℕ). x.0) there.1 in
+    cause-refused P (nat_le 2147483648 kind.0) Unsupported (λ high. (refl, there.0, omega (arith, value, leb-true 2147483648 kind.0 high))))
+extension_causes false bytes = tt
+
+-- ---- regions
+pub text_causes : TextsHaveCauses
+unfolding text_at
+text_causes strict own shared p =
+    let numbers = p.header.referred_to_segments in
+    in-steps (referred_by strict own shared numbers) (text_with strict p.bytes) (BreaksReferred strict own shared numbers) (λ referred. IsOf (text_with strict p.bytes referred)) (referred_causes strict own shared numbers) (λ referred referred_is. own-error (text_with strict p.bytes referred))
+
+lacks-patterns : (own shared : Names) (numbers : List ℕ) → patterns_for own shared numbers ≡ None → LacksPatterns own shared numbers
+lacks-patterns own shared [] none = tt
+lacks-patterns own shared (number ∷ numbers) none = unnamed-both number own.patterns shared.patterns none
+
+some-patterns : (own shared : Names) (numbers : List ℕ) (o : Option Patterns) → (o ≡ None → LacksPatterns own shared numbers) → IfErr (some_patterns o) (BreaksPatterns own shared numbers)
+some-patterns own shared numbers (Some patterns) none = tt
+some-patterns own shared numbers None none = none refl
+
+pub halftone_causes : HalftonesHaveCauses
+unfolding halftone_at
+halftone_causes strict own shared p =
+    let numbers = p.header.referred_to_segments in
+    let found = patterns_for own shared numbers in
+    in-steps (some_patterns found) (halftone_with strict p.bytes) (BreaksPatterns own shared numbers) (λ patterns. IsOf (halftone_with strict p.bytes patterns)) (some-patterns own shared numbers found (lacks-patterns own shared numbers)) (λ patterns patterns_is. own-error (halftone_with strict p.bytes patterns))
+
+is-none : {X : Type 0} (o : Option X) → is_none o ≡ true → o ≡ None
+is-none (Some x) is = absurd (cc)
+is-none None is = refl
+
+lacks-region : (is_intermediate : Bool) (numbers : List ℕ) (regions : List (Kept PlacedRegion)) → IsTrue is_intermediate → first_region numbers regions ≡ None → LacksRegion is_intermediate numbers regions
+lacks-region is_intermediate [] regions is none = is
+lacks-region is_intermediate (number ∷ others) regions is none = unnamed number regions none
+
+reference-cause : (P : DecodeError → Type 0) (strict is_intermediate : Bool) (numbers : List ℕ) (regions : List (Kept PlacedRegion))
+    → (IsTrue strict → LacksRegion is_intermediate numbers regions → P (Segment InvalidReference)) → IfErr (referred_region strict numbers regions) P
+reference-cause P strict is_intermediate [] regions why = tt
+reference-cause P strict is_intermediate (number ∷ others) regions why =
+    let missing : Bool = is_none (first_named number regions) in
+    cause-next P (refuse_if (strict && missing) (Segment InvalidReference)) _ (cause-refused P (strict && missing) (Segment InvalidReference) (λ both.
+    let parts = and_parts strict missing both in
+    why parts.0 (unnamed number regions (is-none (first_named number regions) parts.1)))) (λ known known_is. tt)
+
+reference-is : (strict : Bool) (numbers : List ℕ) (regions : List (Kept PlacedRegion)) → IfOk (referred_region strict numbers regions) (λ r. r ≡ first_region numbers regions)
+reference-is strict [] regions = refl
+reference-is strict (number ∷ others) regions =
+    ok-last (λ (r : Option PlacedRegion). r ≡ first_named number regions) (refuse_if (strict && is_none (first_named number regions)) _) _ (λ known. refl)
+
+pub refinement_causes : RefinementsHaveCauses
+unfolding refinement_at
+refinement_causes strict is_intermediate page regions p =
+    let P : DecodeError → Type 0 = BreaksRefinement strict is_intermediate page regions p in
+    let numbers = p.header.referred_to_segments in
+    cause-next P (referred_region strict numbers regions) _ (reference-cause P strict is_intermediate numbers regions (λ is lacks. inl (is, lacks))) (λ referred referred_is.
+    let same : referred ≡ first_region numbers regions = ok-holds (λ (r : Option PlacedRegion). r ≡ first_region numbers regions) (referred_region strict numbers regions) referred (reference-is strict numbers regions) referred_is in
+    let lone : Bool = strict && is_intermediate && is_none referred in
+    cause-next P (refuse_if lone (Segment InvalidReference)) _ (cause-refused P lone (Segment InvalidReference) (λ both.
+    let parts = and_parts (strict && is_intermediate) (is_none referred) both in
+    let rest = and_parts strict is_intermediate parts.0 in
+    inl (rest.0, lacks-region is_intermediate numbers regions rest.1 (sym same ∙ is-none referred parts.1)))) (λ known known_is.
+    cause-by (refinement_with page p.bytes referred) (IsOf (refinement_with page p.bytes referred)) P (own-error (refinement_with page p.bytes referred)) (λ e is own.
+    inr (ap (λ (r : Option PlacedRegion). refinement_with page p.bytes r) (sym same) ∙ own))))
