@@ -145,8 +145,7 @@ segment-causes strict globals types.Reserved h bytes d = tt
 drawing-later : (strict : Bool) (globals : Names) (p : SegmentView) (ps : List SegmentView) (d more : Drawing) (e : DecodeError)
     → IsFalse (ends_page p.header.segment_type) → segment_on strict globals p d ≡ Ok more → BreaksDrawing strict globals ps more e → BreaksDrawing strict globals (p ∷ ps) d e
 drawing-later strict globals p ps d more e on is some =
-    let goes = segment_on strict globals p d >>= λ next. segments_drawn strict globals (take some.0 ps) next in
-    (
+    let goes = segment_on strict globals p d >>= λ next. segments_drawn strict globals (take some.0 ps) next in (
       suc some.0,
       some.1,
       some.2,

@@ -3,6 +3,7 @@
 ghost use Rattle.std.specs.Prelude.{◌≡◌};
 ghost use Rattle.jbig2_base.specs.Answer.{Answers, Gives};
 ghost use Rattle.jbig2_base.specs.inner.SegmentViews.{segment_view};
+ghost use Rattle.hayro_jbig2.specs.Causes.{ExtensionsHaveCauses, ReferredHasCauses, SymbolDictionariesHaveCauses};
 ghost use Rattle.hayro_jbig2.specs.Dictionaries.{symbol_dictionary_at, with_symbols, pattern_dictionary_at, with_patterns, with_code, extension};
 ghost use Rattle.hayro_jbig2.specs.inner.KeptViews.{patterns_view, symbols_view};
 
@@ -21,16 +22,18 @@ use std::alloc::Allocator;
 use std::sync::ledger::Ledger;
 
 /// A symbol dictionary (T.88, 7.4.2), after what it refers to.
-#[tactic(auto, unfolding(crate::specs::Dictionaries::symbol_dictionary_at))]
+#[tactic(auto, using(crate::proofs::SegmentCauses::symbol_dictionary_causes, crate::proofs::SegmentCauses::referred_causes), unfolding(crate::specs::Dictionaries::symbol_dictionary_at))]
 fn decode_symbols<A: Allocator + Clone, L: Ledger>(
     lookup: &Lookup<'_, A>,
     segment: &Segment<'_, A>,
     workspace: &Workspace<A>,
     steps: &mut Steps<L>,
 ) -> Result<SymbolDictionary<A>>
-    ensures { Gives (λ d. symbols_view d) result
+    ensures value { Gives (λ d. symbols_view d) result
         (symbol_dictionary_at lookup.now.strict lookup.now.own.now lookup.now.globals.now
         (segment_view segment.now)) }
+    ensures causes { SymbolDictionariesHaveCauses }
+    ensures references { ReferredHasCauses }
 {
     let numbers = &segment.header.referred_to_segments;
     let referred = gather_referred(workspace.alloc.clone()?, lookup, numbers)?;
@@ -120,8 +123,10 @@ pub(crate) fn keep_table<A: Allocator + Clone>(
 }
 
 /// An extension segment (T.88, 7.4.14): strict reading refuses one that a decoder has to know.
+#[tactic(auto, using(crate::proofs::SegmentCauses::extension_causes))]
 pub(crate) fn extension(strict: bool, bytes: &[u8]) -> Result<()>
-    ensures { Answers (λ known. known) result (extension strict bytes.now) }
+    ensures value { Answers (λ known. known) result (extension strict bytes.now) }
+    ensures causes { ExtensionsHaveCauses }
 {
     if !strict {
         return Ok(());

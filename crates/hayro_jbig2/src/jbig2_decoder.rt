@@ -1,6 +1,7 @@
 //! The first page of a file that a reader gives.
 ghost use Rattle.std.specs.Prelude.{◌≡◌, ◌*◌, Ok, IfErr, IfOk, IfSome, OnErr, length};
 ghost use Rattle.jbig2_base.specs.Answer.{Gives};
+ghost use Rattle.hayro_jbig2.specs.Causes.{FirstPagesHaveCauses};
 ghost use Rattle.hayro_jbig2.specs.FirstPage.{first_size, first_image, first_packed, IsLasting, Opens, GivesAgain};
 ghost use Rattle.hayro_jbig2.specs.Image.{packed_size};
 
@@ -90,9 +91,11 @@ impl<A: Allocator + Clone> Jbig2Decoder<A> {
     /// Answers `Jbig2Error::Io` for another fault of the reader, of any kind, or where no end comes
     /// within 2^64 - 1 reads, and `Jbig2Error::Decode` for a fault of the file or want of memory.
     /// The reader is dropped.
+    #[tactic(auto, using(crate::proofs::Causes::first_page_causes))]
     pub fn new<R: Read + Drop>(alloc: A, mut reader: R) -> Result<Jbig2Decoder<A>, Jbig2Error>
         ensures opens { IfSome (R.remaining reader) (λ told. Opens told result) }
         ensures lasting { IfErr result IsLasting }
+        ensures causes { FirstPagesHaveCauses }
     {
         let bytes = read_all(alloc.clone()?, &mut reader)?;
         let (width, height) = first_size(alloc, &bytes)?;

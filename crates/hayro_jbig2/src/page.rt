@@ -8,6 +8,7 @@ ghost use Rattle.jbig2_base.specs.declared.bitmap.operator.CombinationOperator.{
 ghost use Rattle.hayro_jbig2.specs.Calls.{DrawsGrid, calls_of};
 ghost use Rattle.hayro_jbig2.specs.Image.{image_of_page, packed_of_page, packed_size};
 ghost use Rattle.hayro_jbig2.specs.Page.{ReadPage, segments_drawn, embedded, grid_of_page, draws_over, page_begun};
+ghost use Rattle.hayro_jbig2.specs.PageCauses.{PagesHaveCauses};
 ghost use Rattle.hayro_jbig2.specs.inner.PageViews.{given_names, kept_names};
 ghost use Rattle.hayro_jbig2.specs.inner.SegmentLists.{segment_list};
 ghost use Rattle.jbig2_base.specs.inner.SegmentViews.{segment_views};
@@ -272,6 +273,7 @@ impl<'a, A: Allocator + Clone> Page<'a, A> {
             IsTable region → IsTrue (draws_over operator black)
             → combined operator (blank region.width region.height black) region (pos 0) (pos 0) ≡
             region }
+        ensures causes { PagesHaveCauses }
     {
         self.decode_counted::<D, Brand>(decoder, context, Blank::new(6))
     }

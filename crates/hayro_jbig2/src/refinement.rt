@@ -5,6 +5,7 @@ ghost use Rattle.jbig2_base.specs.inner.SegmentViews.{segment_view};
 ghost use Rattle.jbig2_region.specs.Generic.{PlacedRegion, region_view};
 ghost use Rattle.jbig2_region.specs.Refinement.{refined_decoded};
 ghost use Rattle.jbig2_region.specs.RefinementHeader.{IsRefinement, header_view};
+ghost use Rattle.hayro_jbig2.specs.Causes.{RefinementsHaveCauses};
 ghost use Rattle.hayro_jbig2.specs.Names.{first_named};
 ghost use Rattle.hayro_jbig2.specs.Regions.{page_area, referred_region, refinement_at};
 ghost use Rattle.hayro_jbig2.specs.inner.KeptViews.{found, seen};
@@ -111,7 +112,7 @@ fn parse_page_refinement<'a, 'n, 'r, A: Allocator + Clone, L: Ledger>(
 }
 
 /// A refinement, of the region that it refers to or else of the page so far (T.88, 7.4.7).
-#[tactic(auto, unfolding(crate::specs::Regions::refinement_at))]
+#[tactic(auto, using(crate::proofs::SegmentCauses::refinement_causes), unfolding(crate::specs::Regions::refinement_at))]
 pub(crate) fn parse_refinement<'a, 'n, 'r, A: Allocator + Clone, L: Ledger>(
     references: &References<'n, 'r, '_, A>,
     is_intermediate: bool,
@@ -123,6 +124,7 @@ pub(crate) fn parse_refinement<'a, 'n, 'r, A: Allocator + Clone, L: Ledger>(
         (refinement_at references.now.names.strict is_intermediate references.now.page.now
         (seen region_view references.now.regions.now) (segment_view segment.now)) }
     ensures parsed { IfOk result (λ region. IsDecodable region) }
+    ensures causes { RefinementsHaveCauses }
 {
     let strict = references.names.strict;
     let numbers = &segment.header.referred_to_segments;

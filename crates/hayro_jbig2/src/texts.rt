@@ -1,6 +1,7 @@
 //! Text regions of a page (T.88, 7.4.3).
 ghost use Rattle.std.specs.Prelude.{IfOk};
 ghost use Rattle.jbig2_base.specs.inner.SegmentViews.{segment_view};
+ghost use Rattle.hayro_jbig2.specs.Causes.{TextsHaveCauses};
 ghost use Rattle.hayro_jbig2.specs.Regions.{text_at};
 ghost use Rattle.hayro_jbig2.specs.inner.Parsed.{IsDecodable, Leads};
 
@@ -15,7 +16,7 @@ use jbig2_text::text;
 use std::alloc::Allocator;
 
 /// A text region, after what it refers to.
-#[tactic(auto, unfolding(crate::specs::Regions::text_at, jbig2_text::specs::TextRegion::text_decoded))]
+#[tactic(auto, using(crate::proofs::SegmentCauses::text_causes), unfolding(crate::specs::Regions::text_at, jbig2_text::specs::TextRegion::text_decoded))]
 pub(crate) fn parse_text<'a, 'n, 'r, A: Allocator + Clone>(
     references: &References<'n, 'r, '_, A>,
     segment: &Segment<'a, A>,
@@ -26,6 +27,7 @@ pub(crate) fn parse_text<'a, 'n, 'r, A: Allocator + Clone>(
         references.now.names.globals.now
         (segment_view segment.now)) }
     ensures parsed { IfOk result (λ region. IsDecodable region) }
+    ensures causes { TextsHaveCauses }
 {
     let lookup = &references.names;
     let numbers = &segment.header.referred_to_segments;

@@ -3,4 +3,4 @@ use Rattle.hayro_jbig2.proofs.jbig2_decoder.first_packed.Goals as goal
 
 pub returns-in-Some-clause-value : goal.returns-in-Some-clause-value
 unfolding first_page
-returns-in-Some-clause-value g c = rw (c.in_ok-file.ensures, ← c.in-Some.ensures.value) c.read_packed.ensures.value
+returns-in-Some-clause-value g c = rw (c.in_ok-file.ensures.value, ← c.in-Some.ensures.value) c.read_packed.ensures.value

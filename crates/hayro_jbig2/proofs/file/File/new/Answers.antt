@@ -29,8 +29,8 @@ parts-are shared pages parts e =
 kept-is : (named globals : Result Names DecodeError) → (let meant : Result (Result Names DecodeError) DecodeError = Ok named in meant) ≡ Ok globals → named ≡ globals
 kept-is named globals e = cc
 
-pub returns : goal.returns
-returns g c =
+pub returns-clause-value : goal.returns-clause-value
+returns-clause-value g c =
     let strict = c.args.settings.now.strict in
     let file : FileHeader × List SegmentView = file_view c.in_ok-file.file in
     let parts : List SegmentView × List (List SegmentView) = by_page_view c.in_ok-segments.segments in
