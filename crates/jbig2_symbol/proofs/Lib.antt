@@ -1,11 +1,13 @@
 pub mod Answered
 pub mod AggregateLemmas
 pub mod BehindLemmas
+pub mod Causes
 pub mod ClassLemmas
 pub mod CodedLemmas
 pub mod CutLemmas
 pub mod ExportLemmas
 pub mod ExportedLemmas
+pub mod ReadingCauses
 mod WorkedAggregates
 mod WorkedCoded
 mod WorkedSymbols

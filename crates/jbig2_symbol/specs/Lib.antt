@@ -1,4 +1,5 @@
 pub mod Aggregates
+pub mod Causes
 pub mod Exports
 pub mod SymbolBitmaps
 pub mod SymbolHeader

@@ -2,6 +2,7 @@
 ghost use Rattle.std.specs.Prelude.{◌≡◌, ◌/◌, ◌%◌, ◌≤◌, IfOk, OnErr};
 ghost use Rattle.jbig2_base.specs.Answer.{Answers};
 ghost use Rattle.jbig2_base.specs.Bits.{IsAligned};
+ghost use Rattle.jbig2_symbol.specs.Causes.{SymbolHeadersHaveCauses};
 ghost use Rattle.jbig2_symbol.specs.SymbolHeader.{header_view, height_selection_of, width_selection_of, other_selection_of, symbol_flags_of, coded_pixels_at, refined_pixels_at, symbol_header_at};
 
 use jbig2_base::error::{DecodeError, HuffmanError, OverflowError, Result};
@@ -157,7 +158,7 @@ fn parse_refined_pixels(
 /// `TemplateError::InvalidAtPixel` where an adaptive pixel does not come before the pixel that is
 /// decoded; `OverflowError::SymbolCount` for more than 2^20 symbols, new or exported. An error
 /// leaves the reader where it was. Takes no memory.
-#[tactic(auto, unfolding(crate::specs::SymbolHeader::symbol_header_at))]
+#[tactic(auto, using(crate::proofs::Causes::symbol_header_causes), unfolding(crate::specs::SymbolHeader::symbol_header_at))]
 pub fn parse<'a>(reader: &mut Reader<'a>, strict: bool) -> Result<SymbolDictionaryHeader<'a>>
     requires { IsAligned reader.old }
     ensures value { let meant = symbol_header_at strict reader.old.bytes in
@@ -166,6 +167,7 @@ pub fn parse<'a>(reader: &mut Reader<'a>, strict: bool) -> Result<SymbolDictiona
     ensures exported { IfOk result (λ h. h.num_exported_symbols ≤ 1048576) }
     ensures fresh { IfOk result (λ h. h.num_new_symbols ≤ 1048576) }
     ensures stays { OnErr result (reader.new ≡ reader.old) }
+    ensures causes { SymbolHeadersHaveCauses }
 {
     let mut ahead = reader.duplicate();
     let flags = symbol_flags(u16_field(&mut ahead)?)?;

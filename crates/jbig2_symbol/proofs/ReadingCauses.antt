@@ -1,0 +1,171 @@
+-- Which rule is broken where the tables, the contexts, the exports or a number of a symbol dictionary are refused.
+use Rattle.std.proofs.Common.{◌≡◌, ◌≢◌, ◌⊎◌, inl, inr, ℕ, zero, suc, ◌+◌, ◌-◌, ◌<◌, ◌≤◌, ◌==◌, nat_le, nat_lt, Bool, true, false, not, ◌&&◌, if◌then◌else◌, List, [], ◌∷◌, length, Option, Some, None, Result, Ok, Err, ℤ, pos, negsuc, ◌+ℤ◌, refl, sym, ap, subst, ◌∙◌, arith}
+use Rattle.std.proofs.lemmas.Bool.{and_cases, and_parts, cond_both, eq-eqb, eqb-true, false≢true, leb-true, ltb-false, not-false, not-true}
+use Rattle.std.proofs.lemmas.Bool as tests
+use Rattle.std.specs.Prelude.{IfErr}
+use Rattle.jbig2_base.specs.Answer.{◌>>=◌, refuse_if}
+use Rattle.jbig2_base.specs.Grid.{Grid, bit_number}
+use Rattle.jbig2_base.specs.declared.error.DecodeError.{DecodeError}
+use Rattle.jbig2_base.specs.declared.error.DecodeError.TheVariants as errors
+use Rattle.jbig2_base.specs.declared.error.HuffmanError.TheVariants as huffman
+use Rattle.jbig2_base.specs.declared.error.OverflowError.TheVariants.{BitmapDimension}
+use Rattle.jbig2_base.specs.declared.error.SymbolError.TheVariants as symbols
+use Rattle.jbig2_base.proofs.Causes.{cause-next, cause-refused}
+use Rattle.jbig2_coder.specs.PrefixCode.{Member}
+use Rattle.jbig2_text.specs.TextCoding.{in_band}
+use Rattle.jbig2_symbol.specs.Aggregates.{at_least_one, instance_count}
+use Rattle.jbig2_symbol.specs.Causes.{BreaksContexts, BreaksCount, BreaksExported, BreaksRun, BreaksRunBehind, BreaksRunValue, BreaksRuns, BreaksTables, BreaksWidth, ContextsHaveCauses, ExportsHaveCauses, InSteps, InstanceCountsHaveCauses, IsNoSize, IsOf, SymbolTablesHaveCauses, WidthsHaveCauses, customs_of, taken_by}
+use Rattle.jbig2_symbol.specs.Exports.{export_runs, exported, exports, most_empty, next_run, not_same, runs_from}
+use Rattle.jbig2_symbol.specs.SymbolReading.{BitmapContexts, SymbolInput, SymbolState, export_run, first_contexts, instance_number, is_refinement_template, is_template, not_negative, symbol_tables, table_for, width_difference}
+use Rattle.jbig2_symbol.specs.Symbols.{next_width, size_in_word, width_by}
+use Rattle.jbig2_symbol.specs.declared.symbol.header.HuffmanTableSelection.{HuffmanTableSelection}
+use Rattle.jbig2_symbol.specs.declared.symbol.header.HuffmanTableSelection.TheVariants.{TableB1, TableB2, TableB3, TableB4, TableB5, UserSupplied}
+use Rattle.jbig2_symbol.specs.declared.symbol.header.SymbolDictionaryFlags.{SymbolDictionaryFlags}
+use Rattle.jbig2_symbol.proofs.Causes.{Meets, error-of, meets-next, meets-refusal}
+
+-- ---- steps
+pub in-steps : {A B : Type 0} (r : Result A DecodeError) (next : A → Result B DecodeError) (F : DecodeError → Type 0) (N : A → DecodeError → Type 0)
+    → IfErr r F → ((x : A) → r ≡ Ok x → IfErr (next x) (N x)) → IfErr (r >>= next) (λ e. InSteps r (F e) (λ x. N x e))
+in-steps (Ok x) next F N first rest = rest x refl
+in-steps (Err e) next F N first rest = first
+
+pub own-error : {A : Type 0} (r : Result A DecodeError) → IfErr r (IsOf r)
+own-error (Ok x) = tt
+own-error (Err e) = refl
+
+pub cause-by : {A : Type 0} (r : Result A DecodeError) (P Q : DecodeError → Type 0) → IfErr r P → ((e : DecodeError) → r ≡ Err e → P e → Q e) → IfErr r Q
+cause-by (Ok x) P Q is why = tt
+cause-by (Err e) P Q is why = why e refl is
+
+pub cause-if : {A : Type 0} (P : DecodeError → Type 0) (b : Bool) (r s : Result A DecodeError) → (b ≡ true → IfErr r P) → (b ≡ false → IfErr s P) → IfErr (if b then r else s) P
+cause-if {A} P b r s at_true at_false =
+    let Q : Result A DecodeError → Type 0 = λ x. IfErr x P in
+    cond_both b r s Q at_true at_false
+
+differ : (m n : ℕ) → not (m == n) ≡ true → m ≢ n
+differ m n apart same = false≢true (sym (not-true (m == n) apart) ∙ eq-eqb m n same)
+
+-- ---- tables
+abbrev Left : ℕ → List (List Member) → List Member × List (List Member) → Type 0
+Left taken customs x = length customs ≡ taken + length x.1
+
+meets-table : (P : DecodeError → Type 0) (selection : HuffmanTableSelection) (customs : List (List Member)) → (length customs < taken_by selection → P (errors.Huffman huffman.MissingTables)) → Meets (table_for selection customs) (Left (taken_by selection) customs) P
+unfolding table_for
+meets-table P TableB1 customs why = omega arith
+meets-table P TableB2 customs why = omega arith
+meets-table P TableB3 customs why = omega arith
+meets-table P TableB4 customs why = omega arith
+meets-table P TableB5 customs why = omega arith
+meets-table P UserSupplied [] why = why (omega arith)
+meets-table P UserSupplied (table ∷ others) why = omega arith
+
+pub symbol_tables_causes : SymbolTablesHaveCauses
+unfolding symbol_tables
+symbol_tables_causes flags customs =
+    let P : DecodeError → Type 0 = BreaksTables flags customs in
+    let End : _ → Type 0 = λ x. Unit {0} in
+    let h = taken_by flags.delta_height_table in
+    let w = taken_by flags.delta_width_table in
+    let c = taken_by flags.collective_bitmap_size_table in
+    let a = taken_by flags.aggregate_instance_table in
+    error-of End P (symbol_tables flags customs)
+    (meets-next (Left h customs) End P (table_for flags.delta_height_table customs) _ (meets-table P flags.delta_height_table customs (λ few. omega (arith, few))) (λ heights one.
+    meets-next (Left w heights.1) End P (table_for flags.delta_width_table heights.1) _ (meets-table P flags.delta_width_table heights.1 (λ few. omega (arith, few, one))) (λ widths two.
+    meets-next (Left c widths.1) End P (table_for flags.collective_bitmap_size_table widths.1) _ (meets-table P flags.collective_bitmap_size_table widths.1 (λ few. omega (arith, few, one, two))) (λ sizes three.
+    meets-next (Left a sizes.1) End P (table_for flags.aggregate_instance_table sizes.1) _ (meets-table P flags.aggregate_instance_table sizes.1 (λ few. omega (arith, few, one, two, three))) (λ counts four. tt)))))
+
+-- ---- contexts
+pub contexts_causes : ContextsHaveCauses
+unfolding first_contexts
+contexts_causes flags None =
+    cause-if (BreaksContexts flags None) (not flags.bitmap_context_used) _ _ (λ fresh. tt) (λ used. (not-false flags.bitmap_context_used used, tt))
+contexts_causes flags (Some contexts) =
+    let P : DecodeError → Type 0 = BreaksContexts flags (Some contexts) in
+    let generic : Bool = is_template contexts.template flags.template in
+    let refined : Bool = is_refinement_template contexts.refinement_template flags.refinement_template in
+    let other : Bool = not (generic && refined) in
+    cause-if P (not flags.bitmap_context_used) _ (refuse_if other (errors.Symbol symbols.Invalid) >>= λ same. Ok contexts) (λ fresh. tt) (λ used.
+    cause-next P (refuse_if other (errors.Symbol symbols.Invalid)) _ (cause-refused P other (errors.Symbol symbols.Invalid) (λ is. (not-false flags.bitmap_context_used used, and_cases generic refined (not-true (generic && refined) is)))) (λ same same_is. tt))
+
+-- ---- exports
+run-of : (empty left : ℕ) (value : Option ℤ) (after : SymbolState)
+    → IfErr (in_band (errors.Huffman huffman.UnexpectedOob) value >>= λ number. not_negative (errors.Huffman huffman.InvalidCode) number >>= λ run. refuse_if (run == 0 && nat_le most_empty empty) (errors.Symbol symbols.Invalid) >>= λ few. refuse_if (nat_lt left run) (errors.Symbol symbols.OutOfRange) >>= λ within. (let r : Result (ℕ × SymbolState) DecodeError = Ok (run, after) in r)) (BreaksRunValue empty left value)
+run-of empty left None after = refl
+run-of empty left (Some (negsuc n)) after = (n, refl)
+run-of empty left (Some (pos run)) after =
+    let P : DecodeError → Type 0 = BreaksRunValue empty left (Some (pos run)) in
+    let idle : Bool = run == 0 && nat_le most_empty empty in
+    let far : Bool = nat_lt left run in
+    cause-next P (refuse_if idle (errors.Symbol symbols.Invalid)) _ (cause-refused P idle (errors.Symbol symbols.Invalid) (λ is.
+    let both = and_parts (run == 0) (nat_le most_empty empty) is in
+    (ap (λ (n : ℕ). Some (pos n)) (eqb-true run 0 both.0), leb-true most_empty empty both.1))) (λ few few_is.
+    cause-next P (refuse_if far (errors.Symbol symbols.OutOfRange)) _ (cause-refused P far (errors.Symbol symbols.OutOfRange) (λ is. (run, refl, tests.ltb-true left run is))) (λ within within_is. tt))
+
+run-causes : (d : SymbolInput) (empty left : ℕ) (s : SymbolState) → IfErr (next_run d empty left s) (BreaksRun d empty left s)
+unfolding next_run
+run-causes d empty left s =
+    in-steps (export_run d s) _ (IsOf (export_run d s)) (λ value. BreaksRunValue empty left value.0) (own-error (export_run d s)) (λ value value_is. run-of empty left value.0 value.1)
+
+abbrev Runs : SymbolInput → ℕ → ℕ → SymbolState → DecodeError → Type 0
+Runs d empty left s e = (before : List ℕ) × BreaksRunBehind before d empty left s e
+
+runs-later : (d : SymbolInput) (empty left : ℕ) (s : SymbolState) (run : ℕ × SymbolState) (e : DecodeError) → next_run d empty left s ≡ Ok run → Runs d (empty + bit_number (run.0 == 0)) (left - run.0) run.1 e → Runs d empty left s e
+runs-later d empty left s run e is later =
+    let broken : BreaksRunBehind (run.0 ∷ later.0) d empty left s e = (run.1, is, later.1) in
+    (run.0 ∷ later.0, broken)
+
+runs-cause : (d : SymbolInput) (n empty left : ℕ) (s : SymbolState) → IfErr (runs_from d n empty left s) (Runs d empty left s)
+unfolding runs_from
+runs-cause d zero empty left s = tt
+runs-cause d (suc n) empty left s =
+    let P : DecodeError → Type 0 = Runs d empty left s in
+    cause-if P (left == 0) _ _ (λ whole. tt) (λ more.
+    cause-next P (next_run d empty left s) _ (cause-by (next_run d empty left s) (BreaksRun d empty left s) P (run-causes d empty left s) (λ e is broken. ([], broken))) (λ run run_is.
+    let others = runs_from d n (empty + bit_number (run.0 == 0)) (left - run.0) run.1 in
+    let Q : DecodeError → Type 0 = Runs d (empty + bit_number (run.0 == 0)) (left - run.0) run.1 in
+    cause-next P others _ (cause-by others Q P (runs-cause d n (empty + bit_number (run.0 == 0)) (left - run.0) run.1) (λ e is later. runs-later d empty left s run e run_is later)) (λ all all_is. tt)))
+
+pub exports_causes : ExportsHaveCauses
+unfolding exports
+exports_causes d grids s =
+    let count = length grids in
+    in-steps (export_runs d count s) _ (BreaksRuns d count s) (λ runs. BreaksExported d grids runs.0) (runs-cause d (count + most_empty) 0 count s) (λ runs runs_is.
+    let P : DecodeError → Type 0 = BreaksExported d grids runs.0 in
+    let other : Bool = not_same (length (exported runs.0 grids)) d.header.num_exported_symbols in
+    cause-next P (refuse_if other (errors.Symbol symbols.NoSymbols)) _ (cause-refused P other (errors.Symbol symbols.NoSymbols) (λ is. differ (length (exported runs.0 grids)) d.header.num_exported_symbols is)) (λ right right_is. tt))
+
+-- ---- widths and instances
+meets-size : (P : DecodeError → Type 0) (z : ℤ) → (IsNoSize z → P (errors.Overflow BitmapDimension)) → Meets (size_in_word z) (λ n. z ≡ pos n) P
+meets-size P (pos n) why =
+    let Q : Result ℕ DecodeError → Type 0 = λ r. Meets r (λ m. pos n ≡ pos m) P in
+    cond_both (nat_lt n 4294967296) (Ok n) (Err (errors.Overflow BitmapDimension)) Q (λ fits. refl) (λ large. why (ltb-false n 4294967296 large))
+meets-size P (negsuc n) why = why tt
+
+width-cause : (room width total : ℕ) (value : Option ℤ) → IfErr (width_by room width total value) (BreaksWidth room width total value)
+width-cause room width total None = tt
+width-cause room width total (Some difference) =
+    let P : DecodeError → Type 0 = BreaksWidth room width total (Some difference) in
+    let none : Bool = room == 0 in
+    let next_width_is = pos width +ℤ difference in
+    let End : Option (ℕ × ℕ) → Type 0 = λ x. Unit {0} in
+    error-of End P (width_by room width total (Some difference))
+    (meets-next (λ x. none ≡ false) End P (refuse_if none (errors.Symbol symbols.TooManySymbols)) _ (meets-refusal P none (errors.Symbol symbols.TooManySymbols) (λ is. (eqb-true room 0 is, λ same. absurd (cc)))) (λ missing there.
+    meets-next (λ (n : ℕ). next_width_is ≡ pos n) End P (size_in_word next_width_is) _ (meets-size P next_width_is (λ no. (difference, refl, inl no))) (λ next is.
+    meets-next (λ (n : ℕ). pos total +ℤ pos next ≡ pos n) End P (size_in_word (pos total +ℤ pos next)) _ (meets-size P (pos total +ℤ pos next) (λ no. (difference, refl, inr (subst (λ (z : ℤ). IsNoSize (pos total +ℤ z)) (sym is) no)))) (λ all all_is. tt))))
+
+pub widths_causes : WidthsHaveCauses
+unfolding next_width
+widths_causes d room width total s =
+    in-steps (width_difference d s) _ (IsOf (width_difference d s)) (λ value. BreaksWidth room width total value.0) (own-error (width_difference d s)) (λ value value_is.
+    cause-next (BreaksWidth room width total value.0) (width_by room width total value.0) _ (width-cause room width total value.0) (λ next next_is. tt))
+
+count-of : (value : Option ℤ) (after : SymbolState) → IfErr (in_band (errors.Symbol symbols.UnexpectedOob) value >>= λ number. at_least_one number >>= λ count. (let r : Result (ℕ × SymbolState) DecodeError = Ok (count, after) in r)) (BreaksCount value)
+count-of None after = refl
+count-of (Some (pos zero)) after = inl refl
+count-of (Some (pos (suc n))) after = tt
+count-of (Some (negsuc n)) after = inr (n, refl)
+
+pub instance_count_causes : InstanceCountsHaveCauses
+unfolding instance_count
+instance_count_causes d s =
+    in-steps (instance_number d s) _ (IsOf (instance_number d s)) (λ value. BreaksCount value.0) (own-error (instance_number d s)) (λ value value_is. count-of value.0 value.1)
