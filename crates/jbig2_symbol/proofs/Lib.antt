@@ -2,6 +2,7 @@ pub mod Answered
 pub mod AggregateLemmas
 pub mod BehindLemmas
 pub mod Causes
+pub mod ClassCauses
 pub mod ClassLemmas
 pub mod CodedLemmas
 pub mod CutLemmas

@@ -135,7 +135,7 @@ exports_causes d grids s =
     cause-next P (refuse_if other (errors.Symbol symbols.NoSymbols)) _ (cause-refused P other (errors.Symbol symbols.NoSymbols) (λ is. differ (length (exported runs.0 grids)) d.header.num_exported_symbols is)) (λ right right_is. tt))
 
 -- ---- widths and instances
-meets-size : (P : DecodeError → Type 0) (z : ℤ) → (IsNoSize z → P (errors.Overflow BitmapDimension)) → Meets (size_in_word z) (λ n. z ≡ pos n) P
+pub meets-size : (P : DecodeError → Type 0) (z : ℤ) → (IsNoSize z → P (errors.Overflow BitmapDimension)) → Meets (size_in_word z) (λ n. z ≡ pos n) P
 meets-size P (pos n) why =
     let Q : Result ℕ DecodeError → Type 0 = λ r. Meets r (λ m. pos n ≡ pos m) P in
     cond_both (nat_lt n 4294967296) (Ok n) (Err (errors.Overflow BitmapDimension)) Q (λ fits. refl) (λ large. why (ltb-false n 4294967296 large))

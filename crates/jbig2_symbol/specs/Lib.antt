@@ -1,5 +1,6 @@
 pub mod Aggregates
 pub mod Causes
+pub mod ClassCauses
 pub mod Exports
 pub mod SymbolBitmaps
 pub mod SymbolHeader
