@@ -1,5 +1,5 @@
 -- Which rule the bytes break where a parser of this crate refuses them (docs/FORMAT.md), a line for each error.
-use Rattle.std.specs.Prelude.{◌≡◌, ◌≢◌, ◌<◌, ◌≤◌, ◌+◌, ◌*◌, ◌-◌, ◌/◌, ◌%◌, ◌^◌, ◌==◌, ◌⊎◌, ℕ, Bool, true, List, [], ◌∷◌, take, drop, length, All, Any, Option, Some, None, IfErr, if◌then◌else◌}
+use Rattle.std.specs.Prelude.{◌≡◌, ◌≢◌, ◌<◌, ◌≤◌, ◌+◌, ◌*◌, ◌-◌, ◌/◌, ◌%◌, ◌^◌, ◌==◌, ◌⊎◌, ℕ, Bool, true, List, [], ◌∷◌, take, drop, length, All, Any, Option, Some, None, Result, Ok, Err, IfErr, if◌then◌else◌}
 use Rattle.std.specs.Int.{Width, w8, w32, byte_len, from_be_bytes}
 use Rattle.jbig2_base.specs.EndMarker.{adaptive_bytes, unknown_length_of}
 use Rattle.jbig2_base.specs.FileHeader.{file_header_at, identification}
@@ -22,6 +22,15 @@ use Rattle.jbig2_base.specs.declared.segment.SegmentType.TheVariants as types
 -- the number that stands at this byte, high byte first
 abbrev pub number_in : Width → ℕ → List ℕ → ℕ
 number_in w place bytes = from_be_bytes w (take (byte_len w) (drop place bytes))
+
+-- the error of a step, whose own law says which rule it breaks
+abbrev pub IsOf : {A : Type 0} → Result A DecodeError → DecodeError → Type 0
+IsOf step e = step ≡ Err e
+
+-- What is broken in the first of two steps, or, where that one has a value, in the next.
+abbrev pub InSteps : {A : Type 0} → Result A DecodeError → Type 0 → (A → Type 0) → Type 0
+InSteps (Err e) first next = first
+InSteps (Ok x) first next = next x
 
 -- The header of a file (D.4) has thirteen bytes at most; no other error is answered.
 abbrev pub BreaksFileHeader : List ℕ → DecodeError → Type 0
