@@ -18,7 +18,7 @@ use Rattle.jbig2_halftone.specs.GrayScale.{GrayScale, gray_scale_image, gray_val
 use Rattle.jbig2_halftone.specs.Halftone.{cells_drawn, gray_params, halftone_answer, halftone_decoded, pattern_for, with_cell}
 use Rattle.jbig2_halftone.specs.HalftoneHeader.{HalftoneHeader}
 use Rattle.jbig2_halftone.specs.Patterns.{Patterns, collective_header, collective_is_too_wide, patterns_decoded}
-use Rattle.jbig2_halftone.proofs.Told.{Told, cause-if, cause-last, cause-of, told, told-if, told-next, told-refused}
+use Rattle.jbig2_region.proofs.Told.{Told, cause-if, cause-last, cause-of, told, told-if, told-next, told-refused}
 
 -- ---- MMR data
 -- how many bytes the rows used, a begun one whole

@@ -8,12 +8,14 @@ use Rattle.jbig2_base.specs.Bits.{Place, bits_left, bits_next}
 use Rattle.jbig2_base.specs.Fields.{bits_at}
 use Rattle.jbig2_base.specs.declared.error.DecodeError.{DecodeError}
 use Rattle.jbig2_base.proofs.Causes.{cause-next}
-use Rattle.jbig2_coder.specs.PrefixCode.{Member, decoded_value, is_crowded, longest, no_oob, table_of, weight}
+use Rattle.jbig2_coder.specs.Causes.{AreCrowded}
+use Rattle.jbig2_coder.specs.PrefixCode.{Member, decoded_value, no_oob, table_of}
+use Rattle.jbig2_coder.proofs.Causes.{table-cause}
 use Rattle.jbig2_coder.specs.declared.huffman_table.line.TableLine.{TableLine}
 use Rattle.jbig2_text.specs.BitFields.{invalid_code, value_at}
-use Rattle.jbig2_text.specs.Causes.{AreCrowded, Behind, BreaksRun, BreaksSymbolCodes, RefusesNumber, SymbolCodesHaveCauses, behind_runs}
+use Rattle.jbig2_text.specs.Causes.{Behind, BreaksRun, BreaksSymbolCodes, RefusesNumber, SymbolCodesHaveCauses, behind_runs}
 use Rattle.jbig2_text.specs.SymbolCodes.{last_length, lines_from, next_runcode, repeated, run_at, runcodes_at, runs_at, short_lengths, symbol_codes_from, symbol_lengths_at}
-use Rattle.jbig2_text.proofs.Told.{cause-if, cause-last, told, told-next, told-refused}
+use Rattle.jbig2_region.proofs.Told.{cause-if, cause-last, told, told-next, told-refused}
 
 -- ---- bits and codes
 -- an answer has its own error
@@ -30,10 +32,6 @@ cause-bits P e count p why =
 pub cause-value : (P : DecodeError → Type 0) (table : List Member) (p : Place) → ((e : DecodeError) → RefusesNumber table (bits_left p) e → P e) → IfErr (value_at table p) P
 cause-value P table p why = cause-next P (no_oob (decoded_value table (bits_left p)).answer) _ (own-error P (no_oob (decoded_value table (bits_left p)).answer) why) (λ n is. tt)
 
-cause-table : (P : DecodeError → Type 0) (lines : List TableLine) → (AreCrowded lines → P invalid_code) → IfErr (table_of lines) P
-unfolding is_crowded
-cause-table P lines why = cause-if P (is_crowded lines) _ _ (λ is. why (ltb-true (2 ^ longest lines) (weight (longest lines) lines) is)) (λ fit. tt)
-
 -- ---- the runcodes' lengths
 cause-short : (P : DecodeError → Type 0) (count : ℕ) (so_far : List ℕ) (p : Place)
     → ((k : ℕ) → k < count → Behind (short_lengths k so_far p) (λ lens. length (bits_left lens.1) < 4) → P invalid_code) → IfErr (short_lengths count so_far p) P
@@ -49,7 +47,7 @@ cause-runcodes : (P : DecodeError → Type 0) (p : Place) → ((k : ℕ) → k <
 unfolding runcodes_at
 cause-runcodes P p missing crowded =
     cause-next P (short_lengths 35 [] p) _ (cause-short P 35 [] p missing) (λ lens is.
-    cause-next P (table_of (lines_from 0 lens.0)) _ (cause-table P (lines_from 0 lens.0) (λ are. crowded (lens, is, are))) (λ table r. tt))
+    cause-next P (table_of (lines_from 0 lens.0)) _ (table-cause P (lines_from 0 lens.0) (λ are. crowded (lens, is, are))) (λ table r. tt))
 
 -- ---- runs
 cause-last_length : (P : DecodeError → Type 0) (so_far : List ℕ) → (so_far ≡ [] → P invalid_code) → IfErr (last_length so_far) P
@@ -104,4 +102,4 @@ symbol_code_causes count p =
     (λ lens lens_are. told-next P _ Q (refuse_if (ltb count (length lens.0)) invalid_code) _
     (told-refused P (ltb count (length lens.0)) invalid_code (λ past. inl (inr (inr (inr (runcodes, is, (lens, lens_are, inl (ltb-true count (length lens.0) past)))))))) (λ fit r. lens_are)))
     (λ lens lens_are. cause-next P (table_of (lines_from 0 lens.0)) _
-    (cause-table P (lines_from 0 lens.0) (λ crowded. inl (inr (inr (inr (runcodes, is, (lens, lens_are, inr crowded))))))) (λ codes r. tt)))
+    (table-cause P (lines_from 0 lens.0) (λ crowded. inl (inr (inr (inr (runcodes, is, (lens, lens_are, inr crowded))))))) (λ codes r. tt)))

@@ -21,7 +21,7 @@ use Rattle.jbig2_text.specs.declared.text.header.TextFields.{TextFields}
 use Rattle.jbig2_text.specs.declared.text.header.TextRegionFlags.{TextRegionFlags}
 use Rattle.jbig2_text.specs.declared.text.header.TextRegionHuffmanFlags.{TextRegionHuffmanFlags}
 use Rattle.jbig2_text.proofs.Causes.{symbol_code_causes}
-use Rattle.jbig2_text.proofs.Told.{Stands, Told, cause-last, cause-more, told-next, told-number, told-operator, told-region_info, told-signed}
+use Rattle.jbig2_region.proofs.Told.{Stands, Told, cause-last, cause-more, told-next, told-number, told-operator, told-region_info, told-signed}
 
 -- the same place, said otherwise
 there : (bytes : List ℕ) (m n : ℕ) (rest : List ℕ) → m ≡ n → Stands bytes m rest → Stands bytes n rest

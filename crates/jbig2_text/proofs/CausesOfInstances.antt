@@ -19,7 +19,7 @@ use Rattle.jbig2_text.specs.declared.text.cursor.Cursor.{Cursor}
 use Rattle.jbig2_text.specs.declared.text.header.TextRegionFlags.{TextRegionFlags}
 use Rattle.jbig2_text.specs.declared.text.refined.RefinementDeltas.{RefinementDeltas}
 use Rattle.jbig2_text.proofs.CausesOfText.{told-word}
-use Rattle.jbig2_text.proofs.Told.{Told, cause-if, cause-last, cause-more, cause-of, told-any, told-more, told-if, told-next}
+use Rattle.jbig2_region.proofs.Told.{Told, cause-if, cause-last, cause-more, cause-of, told-any, told-more, told-if, told-next}
 
 -- ---- symbols
 -- an id without a symbol

@@ -29,7 +29,7 @@ use Rattle.jbig2_text.specs.TextRegion.{coder_of, one_of_three, one_of_two, pref
 use Rattle.jbig2_text.proofs.Causes.{cause-bits, cause-value, own-error}
 use Rattle.jbig2_text.proofs.CausesOfInstances.{instance_causes}
 use Rattle.jbig2_text.proofs.CausesOfText.{cause-delta, cause-move, cause-strip, told-word}
-use Rattle.jbig2_text.proofs.Told.{Told, cause-if, cause-last, cause-more, told-if}
+use Rattle.jbig2_region.proofs.Told.{Told, cause-if, cause-last, cause-more, told-if}
 
 -- ---- all instances
 cause-after : {S : Type 0} (c : ReadingCauses S) (r : Readings S) (a : HaveCauses r c) (p : TextParams) (P : DecodeError → Type 0) (n : ℕ) (x : Reached S)

@@ -10,7 +10,7 @@ use Rattle.jbig2_text.specs.CausesOfText.{ADeltaLeaves, BreaksMove, BreaksMoveBy
 use Rattle.jbig2_text.specs.Text.{Readings, coordinate, cursor_moved, moved_by, strip_begun, strip_delta, word_or}
 use Rattle.jbig2_text.specs.declared.text.cursor.Cursor.{Cursor}
 use Rattle.jbig2_text.specs.declared.text.header.TextRegionFlags.{TextRegionFlags}
-use Rattle.jbig2_text.proofs.Told.{Told, cause-last, cause-more, told-if}
+use Rattle.jbig2_region.proofs.Told.{Told, cause-last, cause-more, told-if}
 
 -- ---- numbers
 pub told-word : (P : DecodeError → Type 0) (e : DecodeError) (n : ℤ) → (LeavesWord n → P e) → Told (word_or e n) P (λ x. n ≡ x)

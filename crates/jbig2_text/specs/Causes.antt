@@ -9,8 +9,8 @@ use Rattle.jbig2_base.specs.declared.error.DecodeError.TheVariants.{Huffman, Par
 use Rattle.jbig2_base.specs.declared.error.HuffmanError.TheVariants.{InvalidCode}
 use Rattle.jbig2_base.specs.declared.error.ParseError.TheVariants.{UnexpectedEof}
 use Rattle.jbig2_base.specs.declared.error.RegionError.TheVariants.{InvalidCombinationOperator}
-use Rattle.jbig2_coder.specs.PrefixCode.{Member, decoded_value, longest, no_oob, weight}
-use Rattle.jbig2_coder.specs.declared.huffman_table.line.TableLine.{TableLine}
+use Rattle.jbig2_coder.specs.Causes.{AreCrowded}
+use Rattle.jbig2_coder.specs.PrefixCode.{Member, decoded_value, no_oob}
 use Rattle.jbig2_text.specs.BitFields.{value_at}
 use Rattle.jbig2_text.specs.SymbolCodes.{lines_from, next_runcode, runcodes_at, runs_at, short_lengths, symbol_codes_from}
 use Rattle.jbig2_text.specs.TextHeader.{text_header_at}
@@ -24,10 +24,6 @@ abbrev pub RefusesNumber : List Member → List ℕ → DecodeError → Type 0
 RefusesNumber table bits e = no_oob (decoded_value table bits).answer ≡ Err e
 
 -- ---- the codes of the ids (7.4.3.1.7)
--- more codes of the longest length lie under the lines than there are
-abbrev pub AreCrowded : List TableLine → Type 0
-AreCrowded lines = 2 ^ longest lines < weight (longest lines) lines
-
 -- Behind a runcode its bits are missing: two behind 32, three behind 33, seven behind 34; or 32 repeats no length.
 abbrev pub BreaksRun : ℤ → List ℕ → Place → Type 0
 BreaksRun (pos code) so_far p =
