@@ -1,6 +1,7 @@
 //! Symbol dictionaries (T.88, 6.5 and 7.4.2).
 ghost use Rattle.std.specs.Prelude.{◌≡◌, ◌≤◌, length, map};
 ghost use Rattle.jbig2_base.specs.Answer.{Gives};
+ghost use Rattle.jbig2_symbol.specs.ClassCauses.{SymbolsHaveCauses};
 ghost use Rattle.jbig2_symbol.specs.Aggregates.{state_bits};
 ghost use Rattle.jbig2_symbol.specs.SymbolHeader.{header_view};
 ghost use Rattle.jbig2_symbol.specs.SymbolReading.{contexts_view, first_state};
@@ -72,7 +73,7 @@ fn decode_with<A: Allocator + Clone, T: Allocator, L: Ledger>(
 ///
 /// The errors of `first_contexts`, then those of `symbol_tables`, `read_new_symbols` and
 /// `read_exports`; `OutOfMemory`.
-#[tactic(auto, unfolding(crate::specs::Symbols::symbols_decoded))]
+#[tactic(auto, using(crate::proofs::ClassCauses::symbols_causes), unfolding(crate::specs::Symbols::symbols_decoded))]
 pub fn decode<A: Allocator + Clone, T: Allocator, K: Allocator, L: Ledger>(
     alloc: A,
     header: &SymbolDictionaryHeader<'_>,
@@ -84,11 +85,12 @@ pub fn decode<A: Allocator + Clone, T: Allocator, K: Allocator, L: Ledger>(
 ) -> Result<SymbolDictionary<A>>
     requires few { length symbols.now ≤ 2097152 }
     requires fresh { header.now.num_new_symbols ≤ 1048576 }
-    ensures { let h = header_view header.now in
+    ensures value { let h = header_view header.now in
         let grids = map (λ b. b.now) symbols.now in
         let referred = customs_view referred_tables.now in
         let meant = symbols_decoded h grids referred (kept_view retained_contexts.entry) in
         Gives (λ d. dictionary_view d) result meant }
+    ensures causes { SymbolsHaveCauses }
 {
     let contexts = first_contexts(alloc.clone()?, &header.flags, retained_contexts)?;
     let tables = symbol_tables(&header.flags, standard_tables, referred_tables)?;

@@ -1,6 +1,7 @@
 //! The contexts with which a symbol dictionary begins (T.88, 7.4.2.2).
 ghost use Rattle.std.specs.Prelude.{◌≡◌, option_map, Ok};
 ghost use Rattle.jbig2_base.specs.Answer.{Gives};
+ghost use Rattle.jbig2_symbol.specs.Causes.{ContextsHaveCauses};
 ghost use Rattle.jbig2_symbol.specs.SymbolReading.{contexts_view, first_contexts, first_state, fresh_bitmap_contexts, is_refinement_template, is_template};
 
 use crate::symbol::dictionary::RetainedContexts;
@@ -78,15 +79,16 @@ fn duplicate_contexts<A: Allocator + Clone, K: Allocator>(
 ///
 /// `SymbolError::Invalid` where there are none, or of other templates; `OutOfMemory` where there is
 /// no room.
-#[tactic(auto, unfolding(crate::specs::SymbolReading::first_contexts))]
+#[tactic(auto, using(crate::proofs::ReadingCauses::contexts_causes), unfolding(crate::specs::SymbolReading::first_contexts))]
 pub fn first_contexts<A: Allocator + Clone, K: Allocator>(
     alloc: A,
     flags: &SymbolDictionaryFlags,
     kept: Option<&RetainedContexts<K>>,
 ) -> Result<RetainedContexts<A>>
-    ensures { let others = option_map (λ c. contexts_view c.now) kept.entry in
+    ensures value { let others = option_map (λ c. contexts_view c.now) kept.entry in
         let meant = first_contexts flags.now others in
         Gives (λ contexts. contexts_view contexts) result meant }
+    ensures causes { ContextsHaveCauses }
 {
     if !flags.bitmap_context_used {
         return fresh_contexts(alloc, flags);

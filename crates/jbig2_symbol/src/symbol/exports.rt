@@ -2,6 +2,7 @@
 ghost use Rattle.std.specs.Prelude.{◌≡◌, ◌+◌, ◌<◌, ◌≤◌, ◌++◌, IfOk, length, sum, take, drop, slice_index_or, false, Ok};
 ghost use Rattle.jbig2_base.specs.Answer.{Answers, Gives};
 ghost use Rattle.jbig2_base.specs.Grid.{blank};
+ghost use Rattle.jbig2_symbol.specs.Causes.{ExportsHaveCauses};
 ghost use Rattle.jbig2_symbol.specs.Exports.{export_runs, exported, exports, next_run};
 ghost use Rattle.jbig2_symbol.specs.inner.SymbolViews.{all_symbols, input_view};
 
@@ -157,7 +158,7 @@ pub fn export_symbols<A: Allocator + Clone, S: Allocator, L: Ledger>(
 ///
 /// The errors of `read_runs`; `SymbolError::NoSymbols` where they are not as many as the header
 /// states; `OutOfMemory` where there is no room for them.
-#[tactic(auto, unfolding(crate::specs::Exports::exports))]
+#[tactic(auto, using(crate::proofs::ReadingCauses::exports_causes), unfolding(crate::specs::Exports::exports))]
 pub fn read_exports<A: Allocator + Clone, T: Allocator, L: Ledger>(
     alloc: A,
     input: &SymbolInput<'_, A, T>,
@@ -166,9 +167,10 @@ pub fn read_exports<A: Allocator + Clone, T: Allocator, L: Ledger>(
     steps: &mut Steps<L>,
 ) -> Result<Vec<Bitmap<A>, A>>
     requires { length input.now.symbols.now ≤ 2097152 }
-    ensures { let d = input_view input.now in
+    ensures value { let d = input_view input.now in
         let meant = exports d (all_symbols input.now.symbols.now new.now) reader.old in
         Gives (λ symbols. (symbols.items, reader.new)) result meant }
+    ensures causes { ExportsHaveCauses }
 {
     let count = input.symbols.len() as u64 + new.len() as u64;
     let runs = read_runs(alloc.clone()?, input, count, reader, steps)?;

@@ -1,6 +1,7 @@
 //! The tables of prefix codes of a symbol dictionary (T.88, 7.4.2.1.6).
 ghost use Rattle.jbig2_base.specs.Answer.{Answers};
 ghost use Rattle.jbig2_coder.specs.inner.TableViews.{customs_view};
+ghost use Rattle.jbig2_symbol.specs.Causes.{SymbolTablesHaveCauses};
 ghost use Rattle.jbig2_symbol.specs.SymbolReading.{symbol_tables, table_for};
 ghost use Rattle.jbig2_symbol.specs.inner.SymbolViews.{tables_view};
 
@@ -34,14 +35,15 @@ fn table_for<'a, T: Allocator>(
 /// The tables of a dictionary, which takes the custom ones that it refers to in their order.
 ///
 /// `HuffmanError::MissingTables` where it refers to too few, also without prefix codes.
-#[tactic(auto, unfolding(crate::specs::SymbolReading::symbol_tables))]
+#[tactic(auto, using(crate::proofs::ReadingCauses::symbol_tables_causes), unfolding(crate::specs::SymbolReading::symbol_tables))]
 pub fn symbol_tables<'a, T: Allocator>(
     flags: &SymbolDictionaryFlags,
     standard: &'a StandardHuffmanTables<T>,
     referred: &'a [&'a HuffmanTable<T>],
 ) -> Result<SymbolTables<'a, T>>
-    ensures { let meant = symbol_tables flags.now (customs_view referred.now) in
+    ensures value { let meant = symbol_tables flags.now (customs_view referred.now) in
         Answers (λ tables. tables_view tables) result meant }
+    ensures causes { SymbolTablesHaveCauses }
 {
     let (heights, customs) = table_for(standard, flags.delta_height_table, referred)?;
     let (widths, customs) = table_for(standard, flags.delta_width_table, customs)?;

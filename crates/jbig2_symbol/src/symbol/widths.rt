@@ -1,6 +1,7 @@
 //! The widths of the symbols of a height class (T.88, 6.5.5, step 4 c).
 ghost use Rattle.std.specs.Prelude.{◌≡◌, ◌+◌, ◌<◌, pos, ◌+ℤ◌, IfOk, IfSome, sum};
 ghost use Rattle.jbig2_base.specs.Answer.{Answers, Gives};
+ghost use Rattle.jbig2_symbol.specs.Causes.{WidthsHaveCauses};
 ghost use Rattle.jbig2_symbol.specs.Symbols.{next_width, size_in_word, width_by, widths_from};
 ghost use Rattle.jbig2_symbol.specs.inner.SymbolViews.{input_view};
 
@@ -66,7 +67,7 @@ fn width_by(
 
 /// Reads the next width of a class, and the total with it, behind these; `None` ends the class, in
 /// which at most `room` more symbols may come.
-#[tactic(auto, unfolding(crate::specs::Symbols::next_width))]
+#[tactic(auto, using(crate::proofs::ReadingCauses::widths_causes), unfolding(crate::specs::Symbols::next_width))]
 pub fn read_width<A: Allocator, S: Allocator, T: Allocator, L: Ledger>(
     input: &SymbolInput<'_, S, T>,
     room: u32,
@@ -78,6 +79,7 @@ pub fn read_width<A: Allocator, S: Allocator, T: Allocator, L: Ledger>(
     ensures value { let meant = next_width (input_view input.now) room width total reader.old in
         Answers (λ next. (next, reader.new)) result meant }
     ensures some { IfOk result (λ next. IfSome next (λ _. 0 < room)) }
+    ensures causes { WidthsHaveCauses }
     ensures exact { IfOk result (λ next. IfSome next (λ pair. pair.1 ≡ total + pair.0)) }
 {
     let difference = reader.read_width(input, steps)?;
