@@ -1,5 +1,5 @@
 -- Which segment breaks a rule where globals or a page are refused.
-use Rattle.std.proofs.Common.{◌≡◌, ℕ, suc, Bool, true, false, List, [], ◌∷◌, take, slice_get, Some, Result, Ok, Err, refl, sym, ap, ◌∙◌}
+use Rattle.std.proofs.Common.{◌≡◌, ℕ, suc, Bool, true, false, List, [], ◌∷◌, take, Result, Ok, Err, refl, ap, ◌∙◌}
 use Rattle.std.proofs.lemmas.Bool.{cond-false}
 use Rattle.std.specs.Prelude.{IfErr, IsTrue, IsFalse}
 use Rattle.jbig2_base.specs.Answer.{◌>>=◌}

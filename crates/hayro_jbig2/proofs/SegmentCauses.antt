@@ -1,12 +1,10 @@
 -- Which rule is broken where a segment of a page or of globals is refused.
-use Rattle.std.proofs.Common.{◌≡◌, ◌≢◌, ◌⊎◌, inl, inr, ℕ, ◌+◌, ◌<◌, ◌≤◌, Bool, true, false, not, ◌&&◌, ◌==◌, nat_le, nat_lt, is_none, List, [], ◌∷◌, ◌++◌, length, length-append, take, Option, Some, None, Result, Ok, Err, refl, sym, ap, subst, ◌∙◌, arith}
+use Rattle.std.proofs.Common.{◌≡◌, inl, inr, ℕ, ◌+◌, ◌<◌, Bool, true, false, ◌&&◌, ◌==◌, nat_le, nat_lt, is_none, List, [], ◌∷◌, ◌++◌, length, length-append, take, Option, Some, None, Result, Ok, Err, refl, sym, ap, subst, ◌∙◌, arith}
 use Rattle.std.proofs.lemmas.Bool.{and_parts, cond_both, eqb-false, leb-true, ltb-true}
 use Rattle.std.specs.Prelude.{IfErr, IfOk, IsTrue}
 use Rattle.std.specs.Int.{w32, from_be_bytes}
 use Rattle.jbig2_base.specs.Answer.{◌>>=◌, refuse_if}
 use Rattle.jbig2_base.specs.Fields.{number_at}
-use Rattle.jbig2_base.specs.Grid.{Grid}
-use Rattle.jbig2_base.specs.Segment.{SegmentView}
 use Rattle.jbig2_base.specs.declared.error.DecodeError.{DecodeError}
 use Rattle.jbig2_base.specs.declared.error.DecodeError.TheVariants.{Overflow, Segment, Unsupported}
 use Rattle.jbig2_base.specs.declared.error.OverflowError.TheVariants.{SymbolCount}
@@ -16,8 +14,8 @@ use Rattle.jbig2_coder.specs.PrefixCode.{Member}
 use Rattle.jbig2_halftone.specs.Patterns.{Patterns}
 use Rattle.jbig2_region.specs.Generic.{PlacedRegion}
 use Rattle.jbig2_symbol.specs.Symbols.{Symbols}
-use Rattle.hayro_jbig2.specs.Causes.{AtSome, BreaksExtension, BreaksPatterns, BreaksReference, BreaksReferred, BreaksRefinement, ExtensionsHaveCauses, HalftonesHaveCauses, IsOf, LacksPatterns, LacksRegion, NamesNone, NamesNothing, ReferredHasCauses, RefinementsHaveCauses, SymbolDictionariesHaveCauses, TextsHaveCauses, first_region, halftone_with, refinement_with, symbols_in, symbols_under, symbols_with, text_with}
-use Rattle.hayro_jbig2.specs.Dictionaries.{extension, symbol_dictionary_at}
+use Rattle.hayro_jbig2.specs.Causes.{AtSome, BreaksExtension, BreaksPatterns, BreaksReferred, BreaksRefinement, ExtensionsHaveCauses, HalftonesHaveCauses, IsOf, LacksPatterns, LacksRegion, NamesNone, NamesNothing, ReferredHasCauses, RefinementsHaveCauses, SymbolDictionariesHaveCauses, TextsHaveCauses, first_region, halftone_with, refinement_with, symbols_in, symbols_under, symbols_with, text_with}
+use Rattle.hayro_jbig2.specs.Dictionaries.{symbol_dictionary_at}
 use Rattle.hayro_jbig2.specs.Names.{Names, first_named, named, own_else}
 use Rattle.hayro_jbig2.specs.Referred.{Referred, nothing_referred, referred_by, with_either, with_number, with_numbers}
 use Rattle.hayro_jbig2.specs.Regions.{halftone_at, patterns_for, referred_region, refinement_at, some_patterns, text_at}

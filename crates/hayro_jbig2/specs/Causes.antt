@@ -3,7 +3,7 @@
 --
 -- A definition goes in steps, and some of the steps are those of lower crates. An error of such a step stands here as
 -- that step's own (`IsOf`), and the law of that crate says which rule it breaks.
-use Rattle.std.specs.Prelude.{◌≡◌, ◌≢◌, ◌⊎◌, ◌<◌, ◌≤◌, ℕ, suc, ◌+◌, Bool, true, false, IsTrue, IsFalse, List, [], ◌∷◌, length, take, slice_get, Option, Some, None, Result, Ok, Err, IfErr}
+use Rattle.std.specs.Prelude.{◌≡◌, ◌≢◌, ◌⊎◌, ◌<◌, ◌≤◌, ℕ, ◌+◌, Bool, false, IsTrue, IsFalse, List, [], ◌∷◌, length, slice_get, Option, Some, None, Result, Ok, Err, IfErr}
 use Rattle.std.specs.List.{AllByRecursion}
 use Rattle.std.specs.Int.{w32}
 use Rattle.jbig2_base.specs.Answer.{◌>>=◌}
@@ -12,7 +12,6 @@ use Rattle.jbig2_base.specs.File.{file_at}
 use Rattle.jbig2_base.specs.Grid.{Grid}
 use Rattle.jbig2_base.specs.PageInfo.{initial_page_of, is_page_information}
 use Rattle.jbig2_base.specs.Segment.{SegmentView}
-use Rattle.jbig2_base.specs.Sequential.{sorted_segments}
 use Rattle.jbig2_base.specs.declared.error.DecodeError.{DecodeError}
 use Rattle.jbig2_base.specs.declared.error.DecodeError.TheVariants.{Parse, Format, Segment, Overflow, Unsupported}
 use Rattle.jbig2_base.specs.declared.error.FormatError.TheVariants.{MissingPageInfo, UnknownPageHeight, EmptyPage, PageCountMismatch, InvalidEndOfPage}
@@ -20,8 +19,6 @@ use Rattle.jbig2_base.specs.declared.error.OverflowError.TheVariants.{BitmapDime
 use Rattle.jbig2_base.specs.declared.error.ParseError.TheVariants.{UnexpectedEof}
 use Rattle.jbig2_base.specs.declared.error.SegmentError.TheVariants.{InvalidReference, MissingPatternDictionary, MissingPageAssociation}
 use Rattle.jbig2_base.specs.declared.file_header.FileHeader.{FileHeader}
-use Rattle.jbig2_base.specs.declared.segment.SegmentType.{SegmentType}
-use Rattle.jbig2_base.specs.declared.segment.SegmentType.TheVariants as types
 use Rattle.jbig2_halftone.specs.Halftone.{halftone_decoded}
 use Rattle.jbig2_halftone.specs.HalftoneHeader.{halftone_header_at}
 use Rattle.jbig2_halftone.specs.Patterns.{Patterns}
@@ -32,17 +29,13 @@ use Rattle.jbig2_symbol.specs.SymbolHeader.{symbol_header_at}
 use Rattle.jbig2_symbol.specs.Symbols.{Symbols, symbols_decoded}
 use Rattle.jbig2_text.specs.TextHeader.{text_header_at}
 use Rattle.jbig2_text.specs.TextRegion.{text_decoded}
-use Rattle.hayro_jbig2.specs.Dictionaries.{code_at, extension, pattern_dictionary_at, symbol_dictionary_at}
-use Rattle.hayro_jbig2.specs.Files.{ReadFile, book_at, by_pages, ends_of, needs_page, of_page}
+use Rattle.hayro_jbig2.specs.Dictionaries.{extension, symbol_dictionary_at}
+use Rattle.hayro_jbig2.specs.Files.{ReadFile, book_at, by_pages, ends_of, needs_page}
 use Rattle.hayro_jbig2.specs.FirstPage.{first_page}
-use Rattle.hayro_jbig2.specs.Globals.{globals_at, named_from}
-use Rattle.hayro_jbig2.specs.Names.{Names, first_named, named, no_names}
-use Rattle.hayro_jbig2.specs.Page.{Drawing, ReadPage, embedded, ends_page, grid_of_page, page_begun, segments_drawn}
+use Rattle.hayro_jbig2.specs.Names.{Names, first_named, named}
 use Rattle.hayro_jbig2.specs.Referred.{Referred, referred_by}
-use Rattle.hayro_jbig2.specs.Regions.{generic_at, halftone_at, patterns_for, reference_region, refinement_at, some_patterns, text_at}
+use Rattle.hayro_jbig2.specs.Regions.{halftone_at, patterns_for, reference_region, refinement_at, some_patterns, text_at}
 use Rattle.hayro_jbig2.specs.declared.kept.Kept.{Kept}
-use Rattle.hayro_jbig2.specs.declared.region.RegionKind.{RegionKind}
-use Rattle.hayro_jbig2.specs.declared.region.RegionKind.TheVariants as kinds
 
 -- ---- steps and places
 -- the error of a step of a lower crate
