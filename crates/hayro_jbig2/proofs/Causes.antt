@@ -8,6 +8,7 @@ use Rattle.jbig2_base.specs.Fields.{number_at}
 use Rattle.jbig2_base.specs.File.{file_at}
 use Rattle.jbig2_base.specs.PageInfo.{first_information, height_of, information_at, initial_page_of, initial_page_with, is_page_information, stripes_height}
 use Rattle.jbig2_base.specs.Segment.{SegmentView}
+use Rattle.jbig2_base.specs.Causes.{InSteps, IsOf}
 use Rattle.jbig2_base.specs.declared.error.DecodeError.{DecodeError}
 use Rattle.jbig2_base.specs.declared.error.DecodeError.TheVariants as errors
 use Rattle.jbig2_base.specs.declared.error.FormatError.TheVariants as formats
@@ -17,30 +18,13 @@ use Rattle.jbig2_base.specs.declared.error.SegmentError.TheVariants as segments
 use Rattle.jbig2_base.specs.declared.file_header.FileHeader.{FileHeader}
 use Rattle.jbig2_base.specs.declared.page_info.PageInformation.{PageInformation}
 use Rattle.jbig2_base.proofs.Causes.{cause-next, cause-number, cause-refused}
-use Rattle.hayro_jbig2.specs.Causes.{AtSome, BreaksBeginning, BreaksFile, BreaksFirst, BreaksPages, FilesHaveCauses, FirstPagesHaveCauses, InSteps, IsOf, LacksInformation, StandsOutside}
+use Rattle.jbig2_symbol.proofs.ReadingCauses.{cause-by, cause-if, in-steps, own-error}
+use Rattle.hayro_jbig2.specs.Causes.{AtSome, BreaksBeginning, BreaksBook, BreaksFirst, BreaksPages, BooksHaveCauses, FirstPagesHaveCauses, LacksInformation, StandsOutside}
 use Rattle.hayro_jbig2.specs.Files.{ReadFile, associated, book_at, by_pages, ends_of, filed_each, filed_from, lacks_page, miscounts, needs_page, page_in, page_of}
 use Rattle.hayro_jbig2.specs.FirstPage.{first_page, some_page}
 use Rattle.hayro_jbig2.specs.Page.{ReadPage}
 
--- ---- steps and places
-pub in-steps : {A B : Type 0} (r : Result A DecodeError) (next : A → Result B DecodeError) (F : DecodeError → Type 0) (N : A → DecodeError → Type 0)
-    → IfErr r F → ((x : A) → r ≡ Ok x → IfErr (next x) (N x)) → IfErr (r >>= next) (λ e. InSteps r (F e) (λ x. N x e))
-in-steps (Ok x) next F N first rest = rest x refl
-in-steps (Err e) next F N first rest = first
-
-pub own-error : {A : Type 0} (r : Result A DecodeError) → IfErr r (IsOf r)
-own-error (Ok x) = tt
-own-error (Err e) = refl
-
-pub cause-by : {A : Type 0} (r : Result A DecodeError) (P Q : DecodeError → Type 0) → IfErr r P → ((e : DecodeError) → r ≡ Err e → P e → Q e) → IfErr r Q
-cause-by (Ok x) P Q is why = tt
-cause-by (Err e) P Q is why = why e refl is
-
-pub cause-if : {A : Type 0} (P : DecodeError → Type 0) (b : Bool) (r s : Result A DecodeError) → (b ≡ true → IfErr r P) → (b ≡ false → IfErr s P) → IfErr (if b then r else s) P
-cause-if {A} P b r s at_true at_false =
-    let Q : Result A DecodeError → Type 0 = λ x. IfErr x P in
-    cond_both b r s Q at_true at_false
-
+-- ---- places
 pub at-first : {X : Type 0} (P : X → Type 0) (x : X) (xs : List X) → P x → AtSome P (x ∷ xs)
 at-first P x xs is = (0, x, refl, is)
 
@@ -189,7 +173,7 @@ page-begins strict h ps (errors.Overflow e) some = some
 page-begins strict h ps errors.Unsupported some = some
 page-begins strict h ps errors.OutOfMemory some = some
 
-pub file_causes : FilesHaveCauses
+pub file_causes : BooksHaveCauses
 unfolding book_at
 file_causes strict bytes =
     in-steps (file_at strict bytes) _ (IsOf (file_at strict bytes)) (λ file. BreaksPages strict file.0 file.1) (own-error (file_at strict bytes)) (λ file file_is.
@@ -214,4 +198,4 @@ some-page book None none = none refl
 pub first_page_causes : FirstPagesHaveCauses
 unfolding first_page
 first_page_causes bytes =
-    in-steps (book_at false bytes) _ (BreaksFile false bytes) (λ book. BreaksFirst book) (file_causes false bytes) (λ book book_is. some-page book (page_of book 0) (no-page (page_in book) book.pages))
+    in-steps (book_at false bytes) _ (BreaksBook false bytes) (λ book. BreaksFirst book) (file_causes false bytes) (λ book book_is. some-page book (page_of book 0) (no-page (page_in book) book.pages))

@@ -6,13 +6,15 @@ use Rattle.jbig2_base.specs.Answer.{◌>>=◌}
 use Rattle.jbig2_base.specs.PageInfo.{initial_page_of}
 use Rattle.jbig2_base.specs.Segment.{Header, SegmentView}
 use Rattle.jbig2_base.specs.Sequential.{sorted_segments}
+use Rattle.jbig2_base.specs.Causes.{IsOf}
 use Rattle.jbig2_base.specs.declared.error.DecodeError.{DecodeError}
 use Rattle.jbig2_base.specs.declared.segment.SegmentType.{SegmentType}
 use Rattle.jbig2_base.specs.declared.segment.SegmentType.TheVariants as types
 use Rattle.jbig2_base.proofs.Causes.{cause-next}
 use Rattle.jbig2_region.specs.Generic.{PlacedRegion}
-use Rattle.hayro_jbig2.specs.Causes.{BreaksBeginning, BreaksExtension, IsOf}
-use Rattle.hayro_jbig2.specs.PageCauses.{BreaksDrawing, BreaksGlobal, BreaksImmediate, BreaksNames, BreaksRegion, BreaksSegment, EmbeddedPagesHaveCauses, FileGlobalsHaveCauses, GlobalsHaveCauses, PagesHaveCauses}
+use Rattle.jbig2_symbol.proofs.ReadingCauses.{cause-by, cause-if, in-steps, own-error}
+use Rattle.hayro_jbig2.specs.Causes.{BreaksBeginning, BreaksExtension}
+use Rattle.hayro_jbig2.specs.PageCauses.{BreaksDrawing, BreaksGlobal, BreaksImmediate, BreaksNames, BreaksRegion, BreaksSegmentOn, EmbeddedPagesHaveCauses, FileGlobalsHaveCauses, GlobalsHaveCauses, PagesHaveCauses}
 use Rattle.hayro_jbig2.specs.Dictionaries.{code_at, extension, pattern_dictionary_at, symbol_dictionary_at, with_code, with_patterns, with_symbols}
 use Rattle.hayro_jbig2.specs.Globals.{globals_at, named_by, named_from}
 use Rattle.hayro_jbig2.specs.Names.{Names, no_names}
@@ -20,7 +22,7 @@ use Rattle.hayro_jbig2.specs.Page.{Drawing, embedded, ends_page, grid_of_page, i
 use Rattle.hayro_jbig2.specs.Regions.{generic_at}
 use Rattle.hayro_jbig2.specs.declared.region.RegionKind.{RegionKind}
 use Rattle.hayro_jbig2.specs.declared.region.RegionKind.TheVariants as kinds
-use Rattle.hayro_jbig2.proofs.Causes.{beginning_causes, cause-by, cause-if, in-steps, own-error}
+use Rattle.hayro_jbig2.proofs.Causes.{beginning_causes}
 use Rattle.hayro_jbig2.proofs.SegmentCauses.{extension_causes, halftone_causes, refinement_causes, symbol_dictionary_causes, text_causes}
 
 -- one with this header but for its type
@@ -110,10 +112,10 @@ globals_causes strict bytes =
     in-steps (sorted_segments strict bytes) _ (IsOf (sorted_segments strict bytes)) (λ ps. BreaksNames strict ps no_names) (own-error (sorted_segments strict bytes)) (λ ps ps_is. file_globals_causes strict ps no_names)
 
 -- ---- segments of a page
-segment-causes : (strict : Bool) (globals : Names) (kind : SegmentType) (h : Header) (bytes : List ℕ) (d : Drawing) → IfErr (segment_on strict globals (of_type kind h bytes) d) (BreaksSegment strict globals (of_type kind h bytes) d)
+segment-causes : (strict : Bool) (globals : Names) (kind : SegmentType) (h : Header) (bytes : List ℕ) (d : Drawing) → IfErr (segment_on strict globals (of_type kind h bytes) d) (BreaksSegmentOn strict globals (of_type kind h bytes) d)
 segment-causes strict globals types.SymbolDictionary h bytes d =
     let p = of_type types.SymbolDictionary h bytes in
-    let P : DecodeError → Type 0 = BreaksSegment strict globals p d in
+    let P : DecodeError → Type 0 = BreaksSegmentOn strict globals p d in
     keeping-cause P d (with_symbols strict globals p d.names) (symbols-cause P strict globals p d.names (symbol_dictionary_causes strict d.names globals p))
 segment-causes strict globals types.IntermediateTextRegion h bytes d = intermediate-causes strict globals kinds.Text (of_type types.IntermediateTextRegion h bytes) d
 segment-causes strict globals types.ImmediateTextRegion h bytes d = immediate-causes strict globals kinds.Text (of_type types.ImmediateTextRegion h bytes) d
@@ -161,7 +163,7 @@ drawing-causes strict globals (p ∷ ps) d =
     let P : DecodeError → Type 0 = BreaksDrawing strict globals (p ∷ ps) d in
     cause-if P (ends_page p.header.segment_type) (Ok d) (segment_on strict globals p d >>= λ e. segments_drawn strict globals ps e) (λ ends. tt) (λ on.
     cause-next P (segment_on strict globals p d) _
-    (cause-by (segment_on strict globals p d) (BreaksSegment strict globals p d) P (segment-causes strict globals p.header.segment_type p.header p.bytes d) (λ e is broken. (0, p, d, refl, (on, tt), refl, broken)))
+    (cause-by (segment_on strict globals p d) (BreaksSegmentOn strict globals p d) P (segment-causes strict globals p.header.segment_type p.header p.bytes d) (λ e is broken. (0, p, d, refl, (on, tt), refl, broken)))
     (λ more more_is. cause-by (segments_drawn strict globals ps more) (BreaksDrawing strict globals ps more) P (drawing-causes strict globals ps more) (λ e is some. drawing-later strict globals p ps d more e on more_is some)))
 
 -- ---- pages

@@ -5,6 +5,7 @@ use Rattle.std.specs.Prelude.{IfErr, IfOk, IsTrue}
 use Rattle.std.specs.Int.{w32, from_be_bytes}
 use Rattle.jbig2_base.specs.Answer.{◌>>=◌, refuse_if}
 use Rattle.jbig2_base.specs.Fields.{number_at}
+use Rattle.jbig2_base.specs.Causes.{IsOf}
 use Rattle.jbig2_base.specs.declared.error.DecodeError.{DecodeError}
 use Rattle.jbig2_base.specs.declared.error.DecodeError.TheVariants.{Overflow, Segment, Unsupported}
 use Rattle.jbig2_base.specs.declared.error.OverflowError.TheVariants.{SymbolCount}
@@ -14,13 +15,14 @@ use Rattle.jbig2_coder.specs.PrefixCode.{Member}
 use Rattle.jbig2_halftone.specs.Patterns.{Patterns}
 use Rattle.jbig2_region.specs.Generic.{PlacedRegion}
 use Rattle.jbig2_symbol.specs.Symbols.{Symbols}
-use Rattle.hayro_jbig2.specs.Causes.{AtSome, BreaksExtension, BreaksPatterns, BreaksReferred, BreaksRefinement, ExtensionsHaveCauses, HalftonesHaveCauses, IsOf, LacksPatterns, LacksRegion, NamesNone, NamesNothing, ReferredHasCauses, RefinementsHaveCauses, SymbolDictionariesHaveCauses, TextsHaveCauses, first_region, halftone_with, refinement_with, symbols_in, symbols_under, symbols_with, text_with}
+use Rattle.jbig2_symbol.proofs.ReadingCauses.{cause-by, in-steps, own-error}
+use Rattle.hayro_jbig2.specs.Causes.{AtSome, BreaksExtension, BreaksPatternReference, BreaksReferred, BreaksRefinement, ExtensionsHaveCauses, HalftoneSegmentsHaveCauses, LacksPatterns, LacksRegion, NamesNone, NamesNothing, ReferredHasCauses, RefinementsHaveCauses, SymbolDictionariesHaveCauses, TextsHaveCauses, first_region, halftone_with, refinement_with, symbols_in, symbols_under, symbols_with, text_with}
 use Rattle.hayro_jbig2.specs.Dictionaries.{symbol_dictionary_at}
 use Rattle.hayro_jbig2.specs.Names.{Names, first_named, named, own_else}
 use Rattle.hayro_jbig2.specs.Referred.{Referred, nothing_referred, referred_by, with_either, with_number, with_numbers}
 use Rattle.hayro_jbig2.specs.Regions.{halftone_at, patterns_for, referred_region, refinement_at, some_patterns, text_at}
 use Rattle.hayro_jbig2.specs.declared.kept.Kept.{Kept}
-use Rattle.hayro_jbig2.proofs.Causes.{at-first, at-later, cause-by, in-steps, own-error}
+use Rattle.hayro_jbig2.proofs.Causes.{at-first, at-later}
 
 -- ---- names
 unnamed : {V : Type 0} (number : ℕ) (kept : List (Kept V)) → first_named number kept ≡ None → NamesNone kept number
@@ -118,16 +120,16 @@ lacks-patterns : (own shared : Names) (numbers : List ℕ) → patterns_for own 
 lacks-patterns own shared [] none = tt
 lacks-patterns own shared (number ∷ numbers) none = unnamed-both number own.patterns shared.patterns none
 
-some-patterns : (own shared : Names) (numbers : List ℕ) (o : Option Patterns) → (o ≡ None → LacksPatterns own shared numbers) → IfErr (some_patterns o) (BreaksPatterns own shared numbers)
+some-patterns : (own shared : Names) (numbers : List ℕ) (o : Option Patterns) → (o ≡ None → LacksPatterns own shared numbers) → IfErr (some_patterns o) (BreaksPatternReference own shared numbers)
 some-patterns own shared numbers (Some patterns) none = tt
 some-patterns own shared numbers None none = none refl
 
-pub halftone_causes : HalftonesHaveCauses
+pub halftone_causes : HalftoneSegmentsHaveCauses
 unfolding halftone_at
 halftone_causes strict own shared p =
     let numbers = p.header.referred_to_segments in
     let found = patterns_for own shared numbers in
-    in-steps (some_patterns found) (halftone_with strict p.bytes) (BreaksPatterns own shared numbers) (λ patterns. IsOf (halftone_with strict p.bytes patterns)) (some-patterns own shared numbers found (lacks-patterns own shared numbers)) (λ patterns patterns_is. own-error (halftone_with strict p.bytes patterns))
+    in-steps (some_patterns found) (halftone_with strict p.bytes) (BreaksPatternReference own shared numbers) (λ patterns. IsOf (halftone_with strict p.bytes patterns)) (some-patterns own shared numbers found (lacks-patterns own shared numbers)) (λ patterns patterns_is. own-error (halftone_with strict p.bytes patterns))
 
 is-none : {X : Type 0} (o : Option X) → is_none o ≡ true → o ≡ None
 is-none (Some x) is = absurd (cc)

@@ -1,13 +1,12 @@
 -- Which rule is broken where a file, a page or one of its segments is refused (docs/FORMAT.md, 1, 4 and 8), a line for
 -- each error.
 --
--- A definition goes in steps, and some of the steps are those of lower crates. An error of such a step stands here as
--- that step's own (`IsOf`), and the law of that crate says which rule it breaks.
+-- Some of the steps of a definition are those of lower crates: their errors stand here as the step's own (`IsOf`).
 use Rattle.std.specs.Prelude.{◌≡◌, ◌≢◌, ◌⊎◌, ◌<◌, ◌≤◌, ℕ, ◌+◌, Bool, false, IsTrue, IsFalse, List, [], ◌∷◌, length, slice_get, Option, Some, None, Result, Ok, Err, IfErr}
 use Rattle.std.specs.List.{AllByRecursion}
 use Rattle.std.specs.Int.{w32}
 use Rattle.jbig2_base.specs.Answer.{◌>>=◌}
-use Rattle.jbig2_base.specs.Causes.{number_in}
+use Rattle.jbig2_base.specs.Causes.{InSteps, IsOf, number_in}
 use Rattle.jbig2_base.specs.File.{file_at}
 use Rattle.jbig2_base.specs.Grid.{Grid}
 use Rattle.jbig2_base.specs.PageInfo.{initial_page_of, is_page_information}
@@ -37,15 +36,7 @@ use Rattle.hayro_jbig2.specs.Referred.{Referred, referred_by}
 use Rattle.hayro_jbig2.specs.Regions.{halftone_at, patterns_for, reference_region, refinement_at, some_patterns, text_at}
 use Rattle.hayro_jbig2.specs.declared.kept.Kept.{Kept}
 
--- ---- steps and places
--- the error of a step of a lower crate
-abbrev pub IsOf : {A : Type 0} → Result A DecodeError → DecodeError → Type 0
-IsOf step e = step ≡ Err e
-
--- What is broken in the first of two steps, or, where that one has a value, in the next.
-abbrev pub InSteps : {A : Type 0} → Result A DecodeError → Type 0 → (A → Type 0) → Type 0
-InSteps (Err e) first next = first
-InSteps (Ok x) first next = next x
+-- ---- places
 
 -- it holds of the one at some place
 abbrev pub AtSome : {X : Type 0} → (X → Type 0) → List X → Type 0
@@ -76,11 +67,11 @@ BreaksPages strict h ps (Format PageCountMismatch) = IsTrue strict × (told : �
 BreaksPages strict h ps (Format InvalidEndOfPage) = IsTrue strict × AtSome (λ own. ends_of own ≢ 1) (by_pages ps)
 BreaksPages strict h ps e = AtSome (λ own. BreaksBeginning own e) (by_pages ps)
 
-abbrev pub BreaksFile : Bool → List ℕ → DecodeError → Type 0
-BreaksFile strict bytes e = InSteps (file_at strict bytes) (IsOf (file_at strict bytes) e) (λ file. BreaksPages strict file.0 file.1 e)
+abbrev pub BreaksBook : Bool → List ℕ → DecodeError → Type 0
+BreaksBook strict bytes e = InSteps (file_at strict bytes) (IsOf (file_at strict bytes) e) (λ file. BreaksPages strict file.0 file.1 e)
 
-abbrev pub FilesHaveCauses : Type 0
-FilesHaveCauses = (strict : Bool) (bytes : List ℕ) → IfErr (book_at strict bytes) (BreaksFile strict bytes)
+abbrev pub BooksHaveCauses : Type 0
+BooksHaveCauses = (strict : Bool) (bytes : List ℕ) → IfErr (book_at strict bytes) (BreaksBook strict bytes)
 
 -- the first page of a file that has none
 abbrev pub BreaksFirst : ReadFile → DecodeError → Type 0
@@ -88,7 +79,7 @@ BreaksFirst book (Format MissingPageInfo) = book.pages ≡ []
 BreaksFirst book _ = ⊥
 
 abbrev pub FirstPagesHaveCauses : Type 0
-FirstPagesHaveCauses = (bytes : List ℕ) → IfErr (first_page bytes) (λ e. InSteps (book_at false bytes) (BreaksFile false bytes e) (λ book. BreaksFirst book e))
+FirstPagesHaveCauses = (bytes : List ℕ) → IfErr (first_page bytes) (λ e. InSteps (book_at false bytes) (BreaksBook false bytes e) (λ book. BreaksFirst book e))
 
 -- ---- what a segment refers to (7.3.1)
 -- nothing is kept under this number
@@ -162,22 +153,22 @@ abbrev pub LacksPatterns : Names → Names → List ℕ → Type 0
 LacksPatterns own shared [] = Unit {0}
 LacksPatterns own shared (number ∷ numbers) = NamesNone own.patterns number × NamesNone shared.patterns number
 
-abbrev pub BreaksPatterns : Names → Names → List ℕ → DecodeError → Type 0
-BreaksPatterns own shared numbers (Segment MissingPatternDictionary) = LacksPatterns own shared numbers
-BreaksPatterns own shared numbers _ = ⊥
+abbrev pub BreaksPatternReference : Names → Names → List ℕ → DecodeError → Type 0
+BreaksPatternReference own shared numbers (Segment MissingPatternDictionary) = LacksPatterns own shared numbers
+BreaksPatternReference own shared numbers _ = ⊥
 
 abbrev pub halftone_with : Bool → List ℕ → Patterns → Result PlacedRegion DecodeError
 halftone_with strict bytes patterns = halftone_header_at strict bytes >>= λ header. halftone_decoded header.0 patterns
 
-abbrev pub BreaksHalftone : Bool → Names → Names → SegmentView → DecodeError → Type 0
-BreaksHalftone strict own shared p e =
+abbrev pub BreaksHalftoneSegment : Bool → Names → Names → SegmentView → DecodeError → Type 0
+BreaksHalftoneSegment strict own shared p e =
     InSteps
     (some_patterns (patterns_for own shared p.header.referred_to_segments))
-    (BreaksPatterns own shared p.header.referred_to_segments e)
+    (BreaksPatternReference own shared p.header.referred_to_segments e)
     (λ patterns. IsOf (halftone_with strict p.bytes patterns) e)
 
-abbrev pub HalftonesHaveCauses : Type 0
-HalftonesHaveCauses = (strict : Bool) (own shared : Names) (p : SegmentView) → IfErr (halftone_at strict own shared p) (BreaksHalftone strict own shared p)
+abbrev pub HalftoneSegmentsHaveCauses : Type 0
+HalftoneSegmentsHaveCauses = (strict : Bool) (own shared : Names) (p : SegmentView) → IfErr (halftone_at strict own shared p) (BreaksHalftoneSegment strict own shared p)
 
 -- A refinement's first number names no region that is kept, or an intermediate one refers to nothing.
 abbrev pub LacksRegion : Bool → List ℕ → List (Kept PlacedRegion) → Type 0

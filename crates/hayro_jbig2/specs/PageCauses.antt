@@ -4,10 +4,11 @@ use Rattle.std.specs.Prelude.{◌≡◌, ℕ, suc, Bool, true, false, IsTrue, Is
 use Rattle.std.specs.List.{AllByRecursion}
 use Rattle.jbig2_base.specs.Segment.{SegmentView}
 use Rattle.jbig2_base.specs.Sequential.{sorted_segments}
+use Rattle.jbig2_base.specs.Causes.{InSteps, IsOf}
 use Rattle.jbig2_base.specs.declared.error.DecodeError.{DecodeError}
 use Rattle.jbig2_base.specs.declared.segment.SegmentType.{SegmentType}
 use Rattle.jbig2_base.specs.declared.segment.SegmentType.TheVariants as types
-use Rattle.hayro_jbig2.specs.Causes.{BreaksBeginning, BreaksExtension, BreaksHalftone, BreaksRefinement, BreaksSymbolDictionary, BreaksText, InSteps, IsOf}
+use Rattle.hayro_jbig2.specs.Causes.{BreaksBeginning, BreaksExtension, BreaksHalftoneSegment, BreaksRefinement, BreaksSymbolDictionary, BreaksText}
 use Rattle.hayro_jbig2.specs.Dictionaries.{code_at, pattern_dictionary_at}
 use Rattle.hayro_jbig2.specs.Globals.{globals_at, named_from}
 use Rattle.hayro_jbig2.specs.Names.{Names, no_names}
@@ -40,7 +41,7 @@ GlobalsHaveCauses = (strict : Bool) (bytes : List ℕ) → IfErr (globals_at str
 -- ---- pages
 abbrev pub BreaksRegion : Bool → Names → RegionKind → Bool → SegmentView → Drawing → DecodeError → Type 0
 BreaksRegion strict globals kinds.Text is_intermediate p d e = BreaksText strict d.names globals p e
-BreaksRegion strict globals kinds.Halftone is_intermediate p d e = BreaksHalftone strict d.names globals p e
+BreaksRegion strict globals kinds.Halftone is_intermediate p d e = BreaksHalftoneSegment strict d.names globals p e
 BreaksRegion strict globals kinds.Generic is_intermediate p d e = IsOf (generic_at strict is_intermediate p) e
 BreaksRegion strict globals kinds.GenericRefinement is_intermediate p d e = BreaksRefinement strict is_intermediate d.grid d.regions p e
 
@@ -49,8 +50,8 @@ abbrev pub BreaksImmediate : Bool → Names → RegionKind → SegmentView → D
 BreaksImmediate strict globals kind p d e = IsTrue strict × BreaksRegion strict globals kind false p d e
 
 -- One segment of a page on what those before it drew and kept; the types that are left out are never refused.
-abbrev pub BreaksSegment : Bool → Names → SegmentView → Drawing → DecodeError → Type 0
-BreaksSegment strict globals p d e = on p.header.segment_type
+abbrev pub BreaksSegmentOn : Bool → Names → SegmentView → Drawing → DecodeError → Type 0
+BreaksSegmentOn strict globals p d e = on p.header.segment_type
   where
     on : SegmentType → Type 0
     on types.SymbolDictionary = BreaksSymbolDictionary strict d.names globals p e
@@ -78,7 +79,7 @@ BreaksDrawing strict globals ps d e =
     × (slice_get ps k ≡ Some p)
     × AllByRecursion (λ q. IsFalse (ends_page q.header.segment_type)) (take (suc k) ps)
     × (segments_drawn strict globals (take k ps) d ≡ Ok before)
-    × BreaksSegment strict globals p before e
+    × BreaksSegmentOn strict globals p before e
 
 -- A page: its globals were refused, or else one of its own segments is.
 abbrev pub BreaksPage : ReadPage → DecodeError → Type 0

@@ -4,7 +4,7 @@ ghost use Rattle.std.specs.Map.Iter.{GivesInOrder};
 ghost use Rattle.jbig2_base.specs.Answer.{Answers, Gives};
 ghost use Rattle.jbig2_base.specs.inner.SegmentViews.{header_view, segment_views};
 ghost use Rattle.hayro_jbig2.specs.inner.ByPages.{pages_view};
-ghost use Rattle.hayro_jbig2.specs.Causes.{FilesHaveCauses};
+ghost use Rattle.hayro_jbig2.specs.Causes.{BooksHaveCauses};
 ghost use Rattle.hayro_jbig2.specs.Files.{needs_page, lacks_page, associated, is_end_of_page, ends_of, filed_from, filed_each, miscounts, book_at, page_of, pages_of, PagesStandAlone};
 ghost use Rattle.hayro_jbig2.specs.Globals.{named_from};
 ghost use Rattle.hayro_jbig2.specs.Names.{no_names};
@@ -179,7 +179,7 @@ impl<'a, A: Allocator + Clone> File<'a, A> {
     #[tactic(auto, using(crate::proofs::Causes::file_causes), unfolding(crate::specs::Files::book_at))]
     pub fn new(alloc: A, bytes: &'a [u8], settings: &DecodeSettings) -> Result<File<'a, A>>
         ensures value { Gives (λ file. file) result (book_at settings.now.strict bytes.now) }
-        ensures causes { FilesHaveCauses }
+        ensures causes { BooksHaveCauses }
     {
         let strict = settings.strict;
         let file = parse_file(alloc.clone()?, bytes, strict)?;

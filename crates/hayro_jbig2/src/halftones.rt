@@ -2,7 +2,7 @@
 ghost use Rattle.std.specs.Prelude.{◌≡◌, IfOk};
 ghost use Rattle.jbig2_base.specs.Answer.{Answers};
 ghost use Rattle.jbig2_base.specs.inner.SegmentViews.{segment_view};
-ghost use Rattle.hayro_jbig2.specs.Causes.{HalftonesHaveCauses};
+ghost use Rattle.hayro_jbig2.specs.Causes.{HalftoneSegmentsHaveCauses};
 ghost use Rattle.hayro_jbig2.specs.Regions.{halftone_at, patterns_for, some_patterns};
 ghost use Rattle.hayro_jbig2.specs.inner.KeptViews.{patterns_view};
 ghost use Rattle.hayro_jbig2.specs.inner.Parsed.{IsDecodable, Leads};
@@ -44,7 +44,7 @@ pub(crate) fn parse_halftone<'a, 'n, 'r, A: Allocator>(
         references.now.names.globals.now
         (segment_view segment.now)) }
     ensures parsed { IfOk result (λ region. IsDecodable region) }
-    ensures causes { HalftonesHaveCauses }
+    ensures causes { HalftoneSegmentsHaveCauses }
 {
     let lookup = &references.names;
     let patterns = referred_patterns(lookup, &segment.header.referred_to_segments)?;

@@ -10,5 +10,4 @@ mod LaneLemmas
 mod PatternLemmas
 mod PlaneLemmas
 mod RowLemmas
-mod Told
 mod WorkedHalftones

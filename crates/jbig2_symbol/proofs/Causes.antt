@@ -5,7 +5,7 @@ use Rattle.std.proofs.lemmas.Bool.Decides.{nat_tests}
 use Rattle.std.specs.Prelude.{IfErr, MatchResult}
 use Rattle.std.specs.Int.{Width, w8, w16, w32, byte_len, from_be_bytes}
 use Rattle.jbig2_base.specs.Answer.{◌>>=◌, refuse_if}
-use Rattle.jbig2_base.specs.Causes.{number_in}
+use Rattle.jbig2_base.specs.Causes.{IsOf, number_in}
 use Rattle.jbig2_base.specs.Fields.{end_of_bytes, number_at, signed_at}
 use Rattle.jbig2_base.specs.declared.error.DecodeError.{DecodeError}
 use Rattle.jbig2_base.specs.declared.error.DecodeError.TheVariants as errors
@@ -20,7 +20,7 @@ use Rattle.jbig2_region.specs.declared.template.RefinementTemplate.{RefinementTe
 use Rattle.jbig2_region.specs.declared.template.RefinementTemplate.TheVariants as refinements
 use Rattle.jbig2_region.specs.declared.template.Template.{Template}
 use Rattle.jbig2_region.specs.declared.template.Template.TheVariants.{Template0, Template1, Template2, Template3}
-use Rattle.jbig2_symbol.specs.Causes.{BreaksHeader, BreaksSymbolHeader, IsOf, SymbolHeadersHaveCauses, counts_place, pixel_bytes, refinement_bytes}
+use Rattle.jbig2_symbol.specs.Causes.{BreaksSymbolFields, BreaksSymbolHeader, SymbolHeadersHaveCauses, counts_place, pixel_bytes, refinement_bytes}
 use Rattle.jbig2_symbol.specs.SymbolHeader.{SymbolHeader, coded_pixels_at, height_selection_of, refined_pixels_at, symbol_flags_of, symbol_header_at, width_selection_of}
 use Rattle.jbig2_symbol.specs.declared.symbol.header.HuffmanTableSelection.{HuffmanTableSelection}
 use Rattle.jbig2_symbol.specs.declared.symbol.header.SymbolDictionaryFlags.{SymbolDictionaryFlags}
@@ -238,7 +238,7 @@ symbol_header_causes strict bytes =
     error-of End P (symbol_header_at strict bytes)
     (meets-next (Field bytes w16 0) End P (number_at w16 bytes) _ (meets-number P w16 bytes bytes 0 start (λ short. omega (arith, short))) (λ number field.
     let n : ℕ = number.0 in
-    let Q : DecodeError → Type 0 = BreaksHeader n bytes in
+    let Q : DecodeError → Type 0 = BreaksSymbolFields n bytes in
     let eof : length bytes < 22 → Q end_of_bytes = λ short. short in
     meets-by End Q P _
     (meets-next (FlagsOf n) End Q (symbol_flags_of n) _ (meets-flags Q n (λ two. two)) (λ flags is.
@@ -252,4 +252,4 @@ symbol_header_causes strict bytes =
     meets-next (Field bytes w32 (counts_place n + 4)) End Q (number_at w32 exported.1) _ (meets-number Q w32 bytes exported.1 (counts_place n + 4) first.behind (λ short. omega (arith, short, room))) (λ fresh second.
     let many : Bool = nat_lt 1048576 exported.0 || nat_lt 1048576 fresh.0 in
     meets-next (λ x. many ≡ false) End Q (refuse_if many (errors.Overflow SymbolCount)) _ (meets-refusal Q many (errors.Overflow SymbolCount) (λ over. too-many exported.0 fresh.0 _ _ first.value second.value over)) (λ few is_few. tt)))))))
-    (λ e broken. subst (λ (m : ℕ). BreaksHeader m bytes e) field.value broken)))
+    (λ e broken. subst (λ (m : ℕ). BreaksSymbolFields m bytes e) field.value broken)))

@@ -6,6 +6,7 @@ use Rattle.jbig2_base.specs.Answer.{◌>>=◌, refuse_if}
 use Rattle.jbig2_base.specs.Bits.{aligned, start_of}
 use Rattle.jbig2_base.specs.Fields.{bytes_at}
 use Rattle.jbig2_base.specs.Grid.{Grid}
+use Rattle.jbig2_base.specs.Causes.{BreaksSides, InSteps, IsOf}
 use Rattle.jbig2_base.specs.declared.error.DecodeError.{DecodeError}
 use Rattle.jbig2_base.specs.declared.error.DecodeError.TheVariants as errors
 use Rattle.jbig2_base.specs.declared.error.HuffmanError.TheVariants.{UnexpectedOob}
@@ -18,8 +19,8 @@ use Rattle.jbig2_coder.specs.PrefixCode.{Member}
 use Rattle.jbig2_mmr.specs.T6.{mmr_rows, rows_of}
 use Rattle.jbig2_text.specs.TextCoding.{in_band}
 use Rattle.jbig2_symbol.specs.Aggregates.{id_codes, state_bits}
-use Rattle.jbig2_symbol.specs.Causes.{BreaksContexts, BreaksExported, BreaksRuns, BreaksTables, InSteps, IsNoSize, IsOf}
-use Rattle.jbig2_symbol.specs.ClassCauses.{BreaksClassBehind, BreaksCuts, BreaksDictionary, BreaksRows, BreaksSides, BreaksSized, CodedSymbolsHaveCauses, CollectiveBitmapsHaveCauses, CutsHaveCauses, HeightClassesHaveCauses, SymbolsHaveCauses, rows_length}
+use Rattle.jbig2_symbol.specs.Causes.{BreaksContexts, BreaksExported, BreaksRuns, BreaksTables, IsNoSize}
+use Rattle.jbig2_symbol.specs.ClassCauses.{BreaksClassBehind, BreaksCuts, BreaksDictionary, BreaksCollective, BreaksSized, CodedSymbolsHaveCauses, CollectiveBitmapsHaveCauses, CutsHaveCauses, HeightClassesHaveCauses, SymbolsHaveCauses, rows_length}
 use Rattle.jbig2_symbol.specs.Exports.{export_runs, exports}
 use Rattle.jbig2_symbol.specs.SymbolBitmaps.{coded_symbol, collective_bitmap, fits_symbol, mmr_bytes, raw_rows, raw_stride, rows_of_size, symbol_cut, symbols_cut}
 use Rattle.jbig2_symbol.specs.SymbolHeader.{SymbolHeader}
@@ -54,19 +55,19 @@ wide-cause P width height why =
     let large : Bool = nat_lt (65535 * 65535) (width * height) in
     cause-next P (refuse_if large (errors.Overflow BitmapDimension)) _ (cause-refused P large (errors.Overflow BitmapDimension) (λ over. why (ltb-true (65535 * 65535) (width * height) over))) (λ fits fits_is. tt)
 
-raw-cause : (strict : Bool) (size width height : ℕ) (bytes : List ℕ) → (size == 0) ≡ true → IfErr (raw_rows width height bytes) (BreaksRows strict size width height bytes)
+raw-cause : (strict : Bool) (size width height : ℕ) (bytes : List ℕ) → (size == 0) ≡ true → IfErr (raw_rows width height bytes) (BreaksCollective strict size width height bytes)
 unfolding raw_rows
 raw-cause strict size width height bytes none =
-    let P : DecodeError → Type 0 = BreaksRows strict size width height bytes in
+    let P : DecodeError → Type 0 = BreaksCollective strict size width height bytes in
     let n : ℕ = height * raw_stride width in
     let same : rows_length size width height ≡ n = cond-true (size == 0) n size none in
     cause-next P (wide_or_overflow width height) _ (wide-cause P width height (λ over. over)) (λ fits fits_is.
     cause-next P (bytes_at n bytes) _ (cause-bytes P n bytes (λ short. subst (λ (m : ℕ). length bytes < m) (sym same) short)) (λ rows rows_is. tt))
 
-mmr-cause : (strict : Bool) (size width height : ℕ) (bytes : List ℕ) → (size == 0) ≡ false → IfErr (mmr_bytes strict size width height bytes) (BreaksRows strict size width height bytes)
+mmr-cause : (strict : Bool) (size width height : ℕ) (bytes : List ℕ) → (size == 0) ≡ false → IfErr (mmr_bytes strict size width height bytes) (BreaksCollective strict size width height bytes)
 unfolding mmr_bytes mmr_rows
 mmr-cause strict size width height bytes some =
-    let P : DecodeError → Type 0 = BreaksRows strict size width height bytes in
+    let P : DecodeError → Type 0 = BreaksCollective strict size width height bytes in
     let same_size : rows_length size width height ≡ size = cond-false (size == 0) (height * raw_stride width) size some in
     cause-next P (bytes_at size bytes) _ (cause-bytes P size bytes (λ short. subst (λ (m : ℕ). length bytes < m) (sym same_size) short)) (λ coded coded_is.
     let same : take size bytes ≡ coded.0 = ap (λ (x : List ℕ × List ℕ). x.0) (bytes-there size bytes coded coded_is).1 in
@@ -78,9 +79,9 @@ mmr-cause strict size width height bytes some =
     (parts.0, eqb-false size 0 some, ap (λ (bs : List ℕ). (rows_of width height bs).whole) same ∙ not-true (rows_of width height coded.0).whole parts.1)) (λ whole. tt))
     (λ rows rows_is. tt)))
 
-rows-cause : (strict : Bool) (size width height : ℕ) (bytes : List ℕ) → IfErr (rows_of_size strict size width height bytes) (BreaksRows strict size width height bytes)
+rows-cause : (strict : Bool) (size width height : ℕ) (bytes : List ℕ) → IfErr (rows_of_size strict size width height bytes) (BreaksCollective strict size width height bytes)
 rows-cause strict size width height bytes =
-    cause-if (BreaksRows strict size width height bytes) (size == 0) (raw_rows width height bytes) (mmr_bytes strict size width height bytes) (raw-cause strict size width height bytes) (mmr-cause strict size width height bytes)
+    cause-if (BreaksCollective strict size width height bytes) (size == 0) (raw_rows width height bytes) (mmr_bytes strict size width height bytes) (raw-cause strict size width height bytes) (mmr-cause strict size width height bytes)
 
 sized-cause : (d : SymbolInput) (width height : ℕ) (value : Option ℤ) (after : SymbolState)
     → IfErr (in_band (errors.Huffman UnexpectedOob) value >>= λ number. not_negative (errors.Overflow BitmapDimension) number >>= λ size. rows_of_size d.header.strict size width height (aligned after.place).bytes >>= λ rows. (let r : Result (Grid × SymbolState) DecodeError = Ok (rows.0, record after { place = start_of rows.1 }) in r)) (BreaksSized d width height (value, after))
@@ -90,7 +91,7 @@ sized-cause d width height (Some (pos size)) after =
     let bytes = (aligned after.place).bytes in
     let P : DecodeError → Type 0 = BreaksSized d width height (Some (pos size), after) in
     let rows = rows_of_size d.header.strict size width height bytes in
-    cause-next P rows _ (cause-by rows (BreaksRows d.header.strict size width height bytes) P (rows-cause d.header.strict size width height bytes) (λ e is broken. inr (size, refl, broken))) (λ grid grid_is. tt)
+    cause-next P rows _ (cause-by rows (BreaksCollective d.header.strict size width height bytes) P (rows-cause d.header.strict size width height bytes) (λ e is broken. inr (size, refl, broken))) (λ grid grid_is. tt)
 
 pub collective_causes : CollectiveBitmapsHaveCauses
 unfolding collective_bitmap

@@ -5,6 +5,7 @@ use Rattle.std.proofs.lemmas.Bool as tests
 use Rattle.std.specs.Prelude.{IfErr}
 use Rattle.jbig2_base.specs.Answer.{◌>>=◌, refuse_if}
 use Rattle.jbig2_base.specs.Grid.{Grid, bit_number}
+use Rattle.jbig2_base.specs.Causes.{InSteps, IsOf}
 use Rattle.jbig2_base.specs.declared.error.DecodeError.{DecodeError}
 use Rattle.jbig2_base.specs.declared.error.DecodeError.TheVariants as errors
 use Rattle.jbig2_base.specs.declared.error.HuffmanError.TheVariants as huffman
@@ -14,7 +15,7 @@ use Rattle.jbig2_base.proofs.Causes.{cause-next, cause-refused}
 use Rattle.jbig2_coder.specs.PrefixCode.{Member}
 use Rattle.jbig2_text.specs.TextCoding.{in_band}
 use Rattle.jbig2_symbol.specs.Aggregates.{at_least_one, instance_count}
-use Rattle.jbig2_symbol.specs.Causes.{BreaksContexts, BreaksCount, BreaksExported, BreaksRun, BreaksRunBehind, BreaksRunValue, BreaksRuns, BreaksTables, BreaksWidth, ContextsHaveCauses, ExportsHaveCauses, InSteps, InstanceCountsHaveCauses, IsNoSize, IsOf, SymbolTablesHaveCauses, WidthsHaveCauses, customs_of, taken_by}
+use Rattle.jbig2_symbol.specs.Causes.{BreaksContexts, BreaksCount, BreaksExported, BreaksRun, BreaksRunBehind, BreaksRunValue, BreaksRuns, BreaksTables, BreaksWidth, ContextsHaveCauses, ExportsHaveCauses, InstanceCountsHaveCauses, IsNoSize, SymbolTablesHaveCauses, WidthsHaveCauses, customs_of, taken_by}
 use Rattle.jbig2_symbol.specs.Exports.{export_runs, exported, exports, most_empty, next_run, not_same, runs_from}
 use Rattle.jbig2_symbol.specs.SymbolReading.{BitmapContexts, SymbolInput, SymbolState, export_run, first_contexts, instance_number, is_refinement_template, is_template, not_negative, symbol_tables, table_for, width_difference}
 use Rattle.jbig2_symbol.specs.Symbols.{next_width, size_in_word, width_by}

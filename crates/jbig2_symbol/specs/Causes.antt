@@ -1,10 +1,9 @@
 -- Which rule is broken where a symbol dictionary is refused (docs/FORMAT.md, 11), a line for each error.
 --
--- A definition goes in steps, and some of the steps are those of lower crates. An error of such a step stands here as
--- that step's own (`IsOf`), and the law of that crate says which rule it breaks.
+-- Some of the steps of a definition are those of lower crates: their errors stand here as the step's own (`IsOf`).
 use Rattle.std.specs.Prelude.{◌≡◌, ◌≢◌, ◌⊎◌, ◌<◌, ◌≤◌, ℕ, ◌+◌, ◌-◌, ◌/◌, ◌%◌, ◌==◌, ◌&&◌, not, Bool, IsTrue, IsFalse, if◌then◌else◌, List, [], ◌∷◌, length, drop, Option, Some, None, Result, Ok, Err, IfErr, ℤ, pos, negsuc, ◌+ℤ◌}
 use Rattle.std.specs.Int.{w16, w32}
-use Rattle.jbig2_base.specs.Causes.{number_in}
+use Rattle.jbig2_base.specs.Causes.{InSteps, IsOf, number_in}
 use Rattle.jbig2_base.specs.Grid.{Grid, bit_number}
 use Rattle.jbig2_base.specs.declared.error.DecodeError.{DecodeError}
 use Rattle.jbig2_base.specs.declared.error.DecodeError.TheVariants as errors
@@ -25,16 +24,6 @@ use Rattle.jbig2_symbol.specs.declared.symbol.header.HuffmanTableSelection.{Huff
 use Rattle.jbig2_symbol.specs.declared.symbol.header.HuffmanTableSelection.TheVariants.{UserSupplied}
 use Rattle.jbig2_symbol.specs.declared.symbol.header.SymbolDictionaryFlags.{SymbolDictionaryFlags}
 
--- ---- steps
--- the error of a step of a lower crate
-abbrev pub IsOf : {A : Type 0} → Result A DecodeError → DecodeError → Type 0
-IsOf step e = step ≡ Err e
-
--- What is broken in the first of two steps, or, where that one has a value, in the next.
-abbrev pub InSteps : {A : Type 0} → Result A DecodeError → Type 0 → (A → Type 0) → Type 0
-InSteps (Err e) first next = first
-InSteps (Ok x) first next = next x
-
 -- ---- the header (7.4.2.1)
 -- how many bytes the adaptive pixels of the symbols' bitmaps have, and those of refinements, by the flags
 abbrev pub pixel_bytes : ℕ → ℕ
@@ -48,15 +37,15 @@ abbrev pub counts_place : ℕ → ℕ
 counts_place flags = 2 + pixel_bytes flags + refinement_bytes flags
 
 -- The header with these flags has 22 bytes at most. A table selection of two bits has no meaning at 2.
-abbrev pub BreaksHeader : ℕ → List ℕ → DecodeError → Type 0
-BreaksHeader flags bytes (errors.Parse UnexpectedEof) = length bytes < 22
-BreaksHeader flags bytes (errors.Huffman huffman.InvalidSelection) = (flags / 4 % 4 ≡ 2) ⊎ (flags / 16 % 4 ≡ 2)
-BreaksHeader flags bytes (errors.Template InvalidAtPixel) = (flags % 2 ≢ 1) × IsOf (regular_pixels_at (template_of (flags / 1024 % 4)) (drop 2 bytes)) (errors.Template InvalidAtPixel)
-BreaksHeader flags bytes (errors.Overflow SymbolCount) = (1048576 < number_in w32 (counts_place flags) bytes) ⊎ (1048576 < number_in w32 (counts_place flags + 4) bytes)
-BreaksHeader flags bytes _ = ⊥
+abbrev pub BreaksSymbolFields : ℕ → List ℕ → DecodeError → Type 0
+BreaksSymbolFields flags bytes (errors.Parse UnexpectedEof) = length bytes < 22
+BreaksSymbolFields flags bytes (errors.Huffman huffman.InvalidSelection) = (flags / 4 % 4 ≡ 2) ⊎ (flags / 16 % 4 ≡ 2)
+BreaksSymbolFields flags bytes (errors.Template InvalidAtPixel) = (flags % 2 ≢ 1) × IsOf (regular_pixels_at (template_of (flags / 1024 % 4)) (drop 2 bytes)) (errors.Template InvalidAtPixel)
+BreaksSymbolFields flags bytes (errors.Overflow SymbolCount) = (1048576 < number_in w32 (counts_place flags) bytes) ⊎ (1048576 < number_in w32 (counts_place flags + 4) bytes)
+BreaksSymbolFields flags bytes _ = ⊥
 
 abbrev pub BreaksSymbolHeader : List ℕ → DecodeError → Type 0
-BreaksSymbolHeader bytes e = BreaksHeader (number_in w16 0 bytes) bytes e
+BreaksSymbolHeader bytes e = BreaksSymbolFields (number_in w16 0 bytes) bytes e
 
 abbrev pub SymbolHeadersHaveCauses : Type 0
 SymbolHeadersHaveCauses = (strict : Bool) (bytes : List ℕ) → IfErr (symbol_header_at strict bytes) (BreaksSymbolHeader bytes)

@@ -3,6 +3,7 @@
 use Rattle.std.specs.Prelude.{◌≡◌, ◌≢◌, ◌⊎◌, ◌<◌, ◌≤◌, ℕ, ◌+◌, ◌*◌, ◌==◌, Bool, IsTrue, IsFalse, if◌then◌else◌, List, [], ◌∷◌, ◌++◌, length, take, slice_get, Option, Some, None, Result, Ok, Err, IfErr, ℤ, pos, negsuc, ◌+ℤ◌}
 use Rattle.jbig2_base.specs.Bits.{aligned}
 use Rattle.jbig2_base.specs.Grid.{Grid}
+use Rattle.jbig2_base.specs.Causes.{BreaksSides, InSteps, IsOf}
 use Rattle.jbig2_base.specs.declared.error.DecodeError.{DecodeError}
 use Rattle.jbig2_base.specs.declared.error.DecodeError.TheVariants as errors
 use Rattle.jbig2_base.specs.declared.error.HuffmanError.TheVariants.{UnexpectedOob}
@@ -13,7 +14,7 @@ use Rattle.jbig2_base.specs.declared.error.SymbolError.TheVariants as symbols
 use Rattle.jbig2_coder.specs.PrefixCode.{Member}
 use Rattle.jbig2_mmr.specs.T6.{rows_of}
 use Rattle.jbig2_symbol.specs.Aggregates.{id_codes, state_bits}
-use Rattle.jbig2_symbol.specs.Causes.{BreaksContexts, BreaksExported, BreaksRuns, BreaksTables, InSteps, IsNoSize, IsOf}
+use Rattle.jbig2_symbol.specs.Causes.{BreaksContexts, BreaksExported, BreaksRuns, BreaksTables, IsNoSize}
 use Rattle.jbig2_symbol.specs.Exports.{export_runs}
 use Rattle.jbig2_symbol.specs.SymbolBitmaps.{coded_symbol, collective_bitmap, raw_stride, symbols_cut}
 use Rattle.jbig2_symbol.specs.SymbolHeader.{SymbolHeader}
@@ -22,10 +23,6 @@ use Rattle.jbig2_symbol.specs.Symbols.{class_of_height, height_class, new_symbol
 
 -- ---- bitmaps (6.5.8.1 and 6.5.9)
 -- neither side of a symbol may pass 65535
-abbrev pub BreaksSides : ℕ → ℕ → DecodeError → Type 0
-BreaksSides width height (errors.Overflow BitmapDimension) = (65535 < width) ⊎ (65535 < height)
-BreaksSides width height _ = ⊥
-
 abbrev pub CodedSymbolsHaveCauses : Type 0
 CodedSymbolsHaveCauses = (h : SymbolHeader) (width height : ℕ) (s : SymbolState) → IfErr (coded_symbol h width height s) (BreaksSides width height)
 
@@ -40,17 +37,17 @@ abbrev pub rows_length : ℕ → ℕ → ℕ → ℕ
 rows_length size width height = if size == 0 then height * raw_stride width else size
 
 -- Its rows: too few bytes, too many pixels, or MMR data that is not whole, in strict mode alone.
-abbrev pub BreaksRows : Bool → ℕ → ℕ → ℕ → List ℕ → DecodeError → Type 0
-BreaksRows strict size width height bytes (errors.Parse UnexpectedEof) = length bytes < rows_length size width height
-BreaksRows strict size width height bytes (errors.Overflow BitmapDimension) = 65535 * 65535 < width * height
-BreaksRows strict size width height bytes (errors.Region InvalidMmrData) = IsTrue strict × (size ≢ 0) × IsFalse (rows_of width height (take size bytes)).whole
-BreaksRows strict size width height bytes _ = ⊥
+abbrev pub BreaksCollective : Bool → ℕ → ℕ → ℕ → List ℕ → DecodeError → Type 0
+BreaksCollective strict size width height bytes (errors.Parse UnexpectedEof) = length bytes < rows_length size width height
+BreaksCollective strict size width height bytes (errors.Overflow BitmapDimension) = 65535 * 65535 < width * height
+BreaksCollective strict size width height bytes (errors.Region InvalidMmrData) = IsTrue strict × (size ≢ 0) × IsFalse (rows_of width height (take size bytes)).whole
+BreaksCollective strict size width height bytes _ = ⊥
 
 -- what is broken behind the value of the size
 abbrev pub BreaksSized : SymbolInput → ℕ → ℕ → Option ℤ × SymbolState → DecodeError → Type 0
 BreaksSized d width height value e =
     BreaksSize value.0 e
-    ⊎ ((size : ℕ) × (value.0 ≡ Some (pos size)) × BreaksRows d.header.strict size width height (aligned value.1.place).bytes e)
+    ⊎ ((size : ℕ) × (value.0 ≡ Some (pos size)) × BreaksCollective d.header.strict size width height (aligned value.1.place).bytes e)
 
 abbrev pub CollectiveBitmapsHaveCauses : Type 0
 CollectiveBitmapsHaveCauses = (d : SymbolInput) (width height : ℕ) (s : SymbolState) → IfErr (collective_bitmap d width height s) (λ e. InSteps (by_table d.tables.sizes s) (IsOf (by_table d.tables.sizes s) e) (λ value. BreaksSized d width height value e))

@@ -9,6 +9,5 @@ pub mod InstanceLemmas
 pub mod RefiningLemmas
 pub mod RegionLemmas
 pub mod SymbolLemmas
-mod Told
 mod WorkedCodedTexts
 mod WorkedTexts
