@@ -2,7 +2,6 @@
 use Rattle.std.proofs.Common.{◌≡◌, ℕ, ◌==◌, Bool, true, false, cond, List, [], ◌∷◌, Option, Some, None, refl, sym, ◌∙◌, ap}
 use Rattle.std.specs.Borrow.{Bor}
 use Rattle.std.specs.Option.{option_map}
-use Rattle.std.proofs.lemmas.Bool.{cond_both}
 use Rattle.hayro_jbig2.specs.Names.{first_named, named, own_else}
 use Rattle.hayro_jbig2.specs.inner.KeptViews.{found, seen}
 use Rattle.hayro_jbig2.specs.declared.kept.Kept.{Kept}

@@ -1,25 +1,19 @@
 -- Packed rows, byte by byte.
-use Rattle.std.proofs.Common.{mul-le-mul_left, ⊎_elim, ◌&&◌, true, false, eqb, get_or, length, take, drop, Result, Ok, Err, ◌≡◌, ℕ, zero, suc, ◌+◌, ◌-◌, ◌*◌, ◌/◌, ◌%◌, ◌^◌, ◌<◌, ◌≤◌, Bool, List, ◌∷◌, map, replicate, refl, sym, ap, ◌∙◌, arith}
+use Rattle.std.proofs.Common.{mul-le-mul_left, ⊎_elim, false, get_or, length, take, drop, replicate, Result, Ok, Err, ◌≡◌, ℕ, zero, suc, ◌+◌, ◌-◌, ◌*◌, ◌/◌, ◌%◌, ◌^◌, ◌<◌, ◌≤◌, Bool, List, ◌∷◌, map, refl, sym, ap, ◌∙◌, arith}
 use Rattle.std.proofs.lemmas.Bool.{cases_lt}
-use Rattle.std.proofs.lemmas.List.{get_or-drop, get_or-replicate, get_or-take, length-drop, length-replicate, length-take}
-use Rattle.std.proofs.lemmas.Bool.{eqb-true, false≢true, ne_eqb, true_from_ne_false}
-use Rattle.std.proofs.lemmas.List.Folds.{list_all_at}
 use Rattle.std.proofs.lemmas.List.FromFn.{length-map-range_with_len, take-map-range_with_len}
-use Rattle.std.proofs.lemmas.Nat.{div-mul-add, le_or_l, mod-mul-add}
-use Rattle.std.proofs.Math.Seq.{get_or-append_right}
-use Rattle.std.proofs.lemmas.Slice.{take-put_mid}
-use borrow.Rule.Slice.PartMut.{put_mid}
-use Rattle.std.specs.Int.Bits.{or_zero_l}
-use Rattle.std.specs.Int.RustNames.{bit_or}
-use Rattle.std.specs.List.{list_all, range_with_len}
+use Rattle.std.proofs.lemmas.Nat.{div-mul-add, mod-mul-add}
+use Rattle.std.specs.List.{range_with_len}
 use Rattle.jbig2_base.specs.Answer.{◌>>=◌}
 use Rattle.jbig2_base.specs.declared.error.DecodeError.{DecodeError}
 use Rattle.jbig2_base.specs.Grid.{Grid, pixel_at, bit_number}
 use Rattle.jbig2_base.specs.inner.WordBits.{bit}
-use Rattle.jbig2_base.proofs.BitLemmas.{bit_number-bit, bit-shr, bit-zero}
+use Rattle.jbig2_base.proofs.BitLemmas.{bit_number-bit, bit-shr}
+use Rattle.jbig2_base.proofs.GridLemmas.{pixel_at-below, pixel_at-grid_of, pixel_at-right}
 use Rattle.jbig2_coder.specs.Integers.{value_of_bits}
 use Rattle.hayro_jbig2.specs.Page.{ReadPage, grid_of_page}
 use Rattle.hayro_jbig2.specs.Image.{packed_byte, packed_of, packed_of_page, packed_part, packed_size, row_bytes, top_byte, word_byte}
+use Rattle.hayro_jbig2.specs.inner.Whole.{IsBegun}
 
 map-same : {X : Type 0} (f g : ℕ → X) (a n : ℕ) → ((i : ℕ) → a ≤ i → i < a + n → f i ≡ g i) → map f (range_with_len a n) ≡ map g (range_with_len a n)
 map-same f g a zero same = refl
@@ -66,55 +60,6 @@ row-word-byte g words first index column y j at inside small loaded =
     byte-pixels g (get_or words (first + index) 0) (8 * (first + index)) j y small (λ k few. loaded (first + index) k inside few ∙ ap (λ (n : ℕ). pixel_at g (n + k) y) pixels)
     ∙ ap (λ (n : ℕ). packed_byte g n y) place
 
--- two words are white where their pixels, taken together, are
-pub or-white : (a b : ℕ) → eqb (bit_or a b) 0 ≡ (eqb a 0 && eqb b 0)
-or-white zero b = ap (λ (n : ℕ). eqb n 0) (or_zero_l b)
-or-white (suc a) b = ne_eqb (bit_or (suc a) b) 0 (λ none. omega (arith, none, le_or_l (suc a) b)) ∙ sym (ap (λ (c : Bool). c && eqb b 0) (ne_eqb (suc a) 0 (λ none. omega (arith, none))))
-
-white-at : (words : List ℕ) (i : ℕ) → i < length words → list_all (λ (w : ℕ). eqb w 0) words ≡ true → get_or words i 0 ≡ 0
-white-at words i inside white =
-    eqb-true (get_or words i 0) 0
-    (true_from_ne_false (eqb (get_or words i 0) 0)
-    (λ black. false≢true (sym (list_all_at (λ (w : ℕ). eqb w 0) words i 0 inside black) ∙ white)))
-
-white-byte : (j : ℕ) → word_byte (bit 0) j ≡ 0
-unfolding value_of_bits
-white-byte j = ap (λ (bits : List Bool). value_of_bits bits) (map-same (λ k. bit 0 (63 - (8 * j + k))) (λ k. false) 0 8 (λ k above below. bit-zero (63 - (8 * j + k))))
-
--- the bytes of white words
-pub white-words : (g : Grid) (words after : List ℕ) (first count column y place : ℕ) → 8 * first ≡ column → first + count ≤ length words
-    → ((i k : ℕ) → i < length words → k < 64 → bit (get_or words i 0) (63 - k) ≡ pixel_at g (64 * i + k) y)
-    → list_all (λ (w : ℕ). eqb w 0) (take count (drop first words)) ≡ true
-    → ((i : ℕ) → i < 8 * count → get_or after (place + i) 0 ≡ 0)
-    → (i : ℕ) → i < 8 * count → get_or after (place + i) 0 ≡ packed_byte g (column + i) y
-white-words g words after first count column y place at inside loaded white filled i below =
-    let index : ℕ = i / 8 in
-    let j : ℕ = i % 8 in
-    let few : index < count = omega (arith, below) in
-    let whole : 8 * index + j ≡ i = omega arith in
-    let part : List ℕ = take count (drop first words) in
-    let word : get_or words (first + index) 0 ≡ 0 =
-    sym (get_or-take count (drop first words) index 0 few ∙ get_or-drop first words index 0)
-    ∙ white-at part index (omega (arith, length-take count (drop first words), length-drop first words, inside, few)) white in
-    filled i below
-    ∙ sym (white-byte j)
-    ∙ ap (λ (n : ℕ). word_byte (bit n) j) (sym word)
-    ∙ row-word-byte g words first index column y j at (omega (arith, inside, few)) (omega arith) loaded
-    ∙ ap (λ (n : ℕ). packed_byte g (column + n) y) whole
-
--- what a fill with 0 puts at a place
-pub zeros-at : (a k i : ℕ) (xs ys : List ℕ) → a + k ≤ length xs → ys ≡ replicate k 0 → i < k → get_or (put_mid a k xs ys) (a + i) 0 ≡ 0
-zeros-at a k i xs ys inside zeros below =
-    let size : length ys ≡ k = ap length zeros ∙ length-replicate k 0 in
-    let front : length (take a xs) ≡ a = omega (arith, length-take a xs, inside) in
-    let behind : a + i - length (take a xs) ≡ i = omega (arith, front) in
-    sym (get_or-take (a + length ys) (put_mid a k xs ys) (a + i) 0 (omega (arith, size, below)))
-    ∙ ap (λ (l : List ℕ). get_or l (a + i) 0) (take-put_mid a k xs ys (a + length ys) refl (omega (arith, inside)))
-    ∙ get_or-append_right (take a xs) ys (a + i) 0 (omega (arith, front))
-    ∙ ap (λ (n : ℕ). get_or ys n 0) behind
-    ∙ ap (λ (l : List ℕ). get_or l i 0) zeros
-    ∙ get_or-replicate k i 0 0 below
-
 -- a word more of them
 pub words-more : (g : Grid) (words before after : List ℕ) (first index column y place : ℕ) → 8 * first ≡ column → first + index < length words
     → ((i k : ℕ) → i < length words → k < 64 → bit (get_or words i 0) (63 - k) ≡ pixel_at g (64 * i + k) y)
@@ -132,6 +77,30 @@ words-more g words before after first index column y place at inside loaded writ
     let byte : 8 * index + j ≡ i = omega (arith, late) in
     ap (λ (n : ℕ). get_or after n 0) (sym there) ∙ put j small ∙ row-word-byte g words first index column y j at inside small loaded ∙ ap (λ (n : ℕ). packed_byte g (column + n) y) byte)
     (cases_lt i (8 * index))
+
+-- a page on which nothing was drawn
+white-pixel : (g : Grid) → IsBegun false g → (x y : ℕ) → pixel_at g x y ≡ false
+white-pixel g begun x y =
+    ⊎_elim
+    (λ (left : x < g.width).
+    ⊎_elim
+    (λ (above : y < g.height). ap (λ (h : Grid). pixel_at h x y) begun.blank ∙ pixel_at-grid_of g.width g.height (λ i j. false) x y left above)
+    (λ (below : g.height ≤ y). pixel_at-below g x y below)
+    (cases_lt y g.height))
+    (λ (right : g.width ≤ x). pixel_at-right g x y right)
+    (cases_lt x g.width)
+
+white-byte : (g : Grid) (k y : ℕ) → IsBegun false g → packed_byte g k y ≡ 0
+unfolding packed_byte value_of_bits
+white-byte g k y begun = ap (λ (bits : List Bool). value_of_bits bits) (map-same (λ i. pixel_at g (8 * k + i) y) (λ i. false) 0 8 (λ i above below. white-pixel g begun (8 * k + i) y))
+
+zeros : (a n : ℕ) → map {B = ℕ} (λ (k : ℕ). 0) (range_with_len a n) ≡ replicate n 0
+zeros a zero = refl
+zeros a (suc n) = ap (λ (xs : List ℕ). 0 ∷ xs) (zeros (a + 1) n)
+
+pub white-part : (w : ℕ) (g : Grid) (start count : ℕ) → IsBegun false g → packed_part w g start count ≡ replicate count 0
+unfolding packed_part
+white-part w g start count begun = map-same (λ n. packed_byte g (n % row_bytes w) (n / row_bytes w)) (λ n. 0) start count (λ n above below. white-byte g (n % row_bytes w) (n / row_bytes w) begun) ∙ zeros start count
 
 -- some bytes more of the rows, from byte `column` of row y on
 pub written-more : (g : Grid) (w start place column y count : ℕ) (before after : List ℕ)

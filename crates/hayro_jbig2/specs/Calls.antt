@@ -1,5 +1,5 @@
 -- The calls that spell a page (our own rule).
-use Rattle.std.specs.Prelude.{◌≡◌, ◌<◌, ◌≤◌, All, Option, Some, None, option_to_list, ℕ, suc, zero, ◌+◌, ◌*◌, ◌/◌, Bool, true, false, not, ◌&&◌, List, [], ◌∷◌, ◌++◌, length, take, drop, replicate, map, count_by, if◌then◌else◌}
+use Rattle.std.specs.Prelude.{◌≡◌, ◌<◌, ◌≤◌, All, Option, Some, None, option_to_list, ℕ, suc, zero, ◌+◌, ◌*◌, ◌/◌, Bool, true, false, ◌&&◌, List, [], ◌∷◌, ◌++◌, length, take, drop, replicate, map, count_by, if◌then◌else◌}
 use Rattle.std.specs.List.{range_with_len, flat_map}
 use Rattle.jbig2_base.specs.Grid.{Grid, pixel_at, same_colour}
 

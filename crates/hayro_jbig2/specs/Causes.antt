@@ -2,7 +2,7 @@
 -- each error.
 --
 -- Some of the steps of a definition are those of lower crates: their errors stand here as the step's own (`IsOf`).
-use Rattle.std.specs.Prelude.{◌≡◌, ◌≢◌, ◌⊎◌, ◌<◌, ◌≤◌, ℕ, ◌+◌, Bool, false, IsTrue, IsFalse, List, [], ◌∷◌, length, slice_get, Option, Some, None, Result, Ok, Err, IfErr}
+use Rattle.std.specs.Prelude.{◌≡◌, ◌≢◌, ◌⊎◌, ◌<◌, ◌≤◌, ℕ, ◌+◌, Bool, false, IsTrue, IsFalse, List, [], ◌∷◌, length, slice_get, Option, Some, None, Result, IfErr}
 use Rattle.std.specs.List.{AllByRecursion}
 use Rattle.std.specs.Int.{w32}
 use Rattle.jbig2_base.specs.Answer.{◌>>=◌}

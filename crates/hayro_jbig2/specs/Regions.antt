@@ -22,8 +22,6 @@ use Rattle.jbig2_text.specs.TextRegion.{text_decoded}
 use Rattle.hayro_jbig2.specs.Names.{Names, first_named, named}
 use Rattle.hayro_jbig2.specs.Referred.{referred_by}
 use Rattle.hayro_jbig2.specs.declared.kept.Kept.{Kept}
-use Rattle.hayro_jbig2.specs.declared.region.RegionKind.{RegionKind}
-use Rattle.hayro_jbig2.specs.declared.region.RegionKind.TheVariants as kinds
 
 -- A text region (7.4.3), after what it refers to.
 unfoldable pub text_at : Bool → Names → Names → SegmentView → Result PlacedRegion DecodeError

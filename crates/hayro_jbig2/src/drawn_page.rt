@@ -1,6 +1,7 @@
 //! A page that is drawn, by its packed rows.
-ghost use Rattle.std.specs.Prelude.{◌≡◌, ◌+◌, ◌≤◌, drop, length, take};
+ghost use Rattle.std.specs.Prelude.{◌≡◌, ◌+◌, ◌≤◌, drop, false, length, take, true};
 ghost use Rattle.hayro_jbig2.specs.Image.{packed_of};
+ghost use Rattle.hayro_jbig2.specs.inner.Whole.{IsBegun};
 
 use crate::packed::write_packed;
 use jbig2_base::bitmap::Bitmap;
@@ -18,29 +19,39 @@ pub struct DrawnPage<'c, A: Allocator> {
     bitmap: &'c Bitmap<A>,
     width: u32,
     height: u32,
+    /// Whether nothing was drawn on a white page: its rows need not be read.
+    white: bool,
 }
 
 impl<'c, A: Allocator> Model for DrawnPage<'c, A> {
-    ghost use Rattle.std.specs.Prelude.{List, ℕ, ◌≤◌};
+    ghost use Rattle.std.specs.Prelude.{List, ℕ, ◌≡◌, ◌≤◌, false, true};
     ghost use Rattle.hayro_jbig2.specs.Image.{packed_of};
+    ghost use Rattle.hayro_jbig2.specs.inner.Whole.{IsBegun};
 
     ghost Value = { List ℕ };
 
     ghost view = { λ page. packed_of page.width page.height page.bitmap.now };
 
-    ghost invariant = { λ page. (page.width ≤ 65535) × (page.height ≤ 65535) };
+    ghost invariant = { λ page. (page.width ≤ 65535) × (page.height ≤ 65535) ×
+        (page.white ≡ true → IsBegun false page.bitmap.now) };
 }
 
 impl<'c, A: Allocator> DrawnPage<'c, A> {
-    pub(crate) fn new(bitmap: &'c Bitmap<A>, initial_page: &InitialPage) -> DrawnPage<'c, A>
+    pub(crate) fn new(
+        bitmap: &'c Bitmap<A>,
+        initial_page: &InitialPage,
+        white: bool,
+    ) -> DrawnPage<'c, A>
         requires width { initial_page.now.width ≤ 65535 }
         requires height { initial_page.now.height ≤ 65535 }
+        requires white { white ≡ true → IsBegun false bitmap.now }
         ensures { result ≡ packed_of initial_page.now.width initial_page.now.height bitmap.now }
     {
         DrawnPage {
             bitmap,
             width: initial_page.width,
             height: initial_page.height,
+            white,
         }
     }
 
@@ -66,6 +77,10 @@ impl<'c, A: Allocator> DrawnPage<'c, A> {
         requires enough { blank.parts ≡ 6 }
         ensures { buf.new ≡ take (length buf.old) (drop place self.now) }
     {
+        if self.white {
+            buf.fill(0);
+            return;
+        }
         let mut steps = Steps::<L>::new(blank);
         write_packed(self.bitmap, self.width, place, buf, &mut steps);
     }

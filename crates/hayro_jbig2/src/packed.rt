@@ -1,6 +1,5 @@
 //! A page as packed rows.
-ghost use Rattle.std.specs.Prelude.{◌≡◌, ◌+◌, ◌-◌, ◌*◌, ◌<◌, ◌≤◌, ℕ, ◌==◌, get_or, length};
-ghost use Rattle.std.specs.List.{list_all};
+ghost use Rattle.std.specs.Prelude.{◌≡◌, ◌+◌, ◌-◌, ◌*◌, ◌<◌, ◌≤◌, ℕ, get_or, length};
 ghost use Rattle.jbig2_base.specs.inner.WordBits.{bit};
 ghost use Rattle.hayro_jbig2.specs.Image.{packed_byte, packed_part, row_bytes, top_byte, word_byte};
 
@@ -64,18 +63,6 @@ fn put_rest<A: Allocator, L: Ledger>(
     count
 }
 
-/// Whether no pixel of these words is black.
-#[inline(always)]
-fn is_white(words: &[u64]) -> bool
-    ensures { result ≡ list_all (λ word. word == 0) words.now }
-{
-    let mut black = 0;
-    for word in words {
-        black |= *word;
-    }
-    black == 0
-}
-
 /// Puts the whole words of row `y`, from byte `column` on, at a place of `buf`: those that are there and lie in
 /// `most` bytes, and none where no word begins. Answers how many bytes.
 #[inline(always)]
@@ -101,10 +88,6 @@ fn put_words<A: Allocator, L: Ledger>(
     let words = bitmap.row_words(y, steps);
     let first = column / 8;
     let count = (most / 8).min(words.len().saturating_sub(first));
-    if count > 0 && is_white(&words[first..first + count]) {
-        buf[place..place + 8 * count].fill(0);
-        return 8 * count;
-    }
     for index in 0..count {
         // With a constant this is one store.
         put_bytes(buf, place + 8 * index, 8, words[first + index]);

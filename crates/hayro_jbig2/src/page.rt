@@ -243,7 +243,8 @@ impl<'a, A: Allocator + Clone> Page<'a, A> {
     {
         let mut steps = Steps::<L>::new(blank);
         self.draw_into(context, &mut steps)?;
-        Ok(DrawnPage::new(&context.bitmap, &self.initial_page))
+        let white = context.is_white();
+        Ok(DrawnPage::new(&context.bitmap, &self.initial_page, white))
     }
 
     /// The context that the page is drawn in, a fresh one.

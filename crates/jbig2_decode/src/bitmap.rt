@@ -11,7 +11,7 @@ use std::alloc::Allocator;
 use std::io::Write;
 
 /// How many bytes of the rows are written at once.
-const BLOCK: usize = 16384;
+const BLOCK: usize = 65536;
 
 /// Room for the head.
 const HEAD: usize = 32;

@@ -1,6 +1,7 @@
-use Rattle.std.proofs.Common.{◌≡◌, ◌+◌, ◌*◌, ◌≤◌, ◌∙◌, ℕ, List, ap, sym, length, take, drop, arith}
-use Rattle.hayro_jbig2.specs.Image.{packed_size, row_bytes}
-use Rattle.hayro_jbig2.proofs.PackedRows.{packed-length, part-of-whole, rows-bounded}
+use Rattle.std.proofs.Common.{◌≡◌, ◌+◌, ◌∙◌, ℕ, List, ap, sym, length, take, drop, replicate, arith}
+use Rattle.jbig2_base.specs.Grid.{Grid}
+use Rattle.hayro_jbig2.specs.Image.{packed_part, packed_size}
+use Rattle.hayro_jbig2.proofs.PackedRows.{packed-length, part-of-whole, rows-bounded, white-part}
 use Rattle.hayro_jbig2.proofs.drawn_page.DrawnPage.read_counted.Goals as goal
 
 pub write_packed-requires-clause-rows : goal.write_packed-requires-clause-rows
@@ -18,3 +19,17 @@ returns g c =
     c.write_packed.ensures
     ∙ part-of-whole w h c.self.inside.bitmap.now c.args.place (length c.args.buf.now) (omega (arith, c.requires.inside, whole))
     ∙ ap (λ (xs : List ℕ). take (length c.args.buf.now) (drop c.args.place xs)) c.self.view_is
+
+pub returns-then-self : goal.returns-then-self
+returns-then-self g c =
+    let w = c.self.inside.width in
+    let h = c.self.inside.height in
+    let page : Grid = c.self.inside.bitmap.now in
+    let bytes : ℕ = length c.args.buf.now in
+    let whole : length c.args.self.now ≡ packed_size w h = sym (ap (λ (xs : List ℕ). length xs) c.self.view_is) ∙ packed-length w h page in
+    let filled : c.fill.new.self ≡ replicate bytes 0 = c.fill.ensures.after (λ v e. e) in
+    let white : packed_part w page c.args.place bytes ≡ replicate bytes 0 = white-part w page c.args.place bytes (c.self.invariant.2 c.if-self.true) in
+    filled
+    ∙ sym white
+    ∙ part-of-whole w h page c.args.place bytes (omega (arith, c.requires.inside, whole))
+    ∙ ap (λ (xs : List ℕ). take bytes (drop c.args.place xs)) c.self.view_is

@@ -1,4 +1,4 @@
-use Rattle.std.proofs.Common.{◌≡◌, ◌+◌, ◌≤◌, ◌∙◌, ℕ, List, Ok, ap, sym, length, take, arith}
+use Rattle.std.proofs.Common.{◌≡◌, ◌∙◌, ℕ, List, Ok, ap, sym, length, take, arith}
 use Rattle.std.proofs.lemmas.List.{take_all}
 use Rattle.hayro_jbig2.proofs.PackedRows.{page-size}
 use Rattle.hayro_jbig2.proofs.page.Page.read_packed.Goals as goal
