@@ -201,11 +201,8 @@ impl WideWindows {
             ShowsRun g (x + 8 * done) y most result }
     {
         let second = self.second;
-        if done >= 4 {
-            let first = second.moved(8 * (done - 4));
-            return WideWindows { first, second };
-        }
-        let first = self.first.moved(8 * done);
+        let nearest = if done >= 4 { second } else { self.first };
+        let first = nearest.moved(8 * (done % 4));
         WideWindows { first, second }
     }
 }

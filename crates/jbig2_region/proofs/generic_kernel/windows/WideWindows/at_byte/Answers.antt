@@ -1,29 +1,31 @@
-use Rattle.std.proofs.Common.{arith, subst, min, ◌≡◌, ◌+◌, ◌-◌, ◌*◌, ◌%◌, ◌<◌, ◌≤◌, ℕ, ⊎_elim}
+use Rattle.std.proofs.Common.{arith, subst, sym, min, ◌≡◌, ◌+◌, ◌-◌, ◌*◌, ◌%◌, ◌<◌, ◌≤◌, ℕ, ⊎_elim}
 use Rattle.std.proofs.lemmas.Bool.{cases_lt}
 use Rattle.jbig2_region.specs.inner.Neighbours.{Shows}
+use Rattle.jbig2_region.specs.declared.generic_kernel.windows.Windows.{Windows}
 use Rattle.jbig2_region.proofs.WindowLemmas.{shows-less}
 use Rattle.jbig2_region.proofs.generic_kernel.windows.WideWindows.at_byte.Goals as goal
-
-pub returns-then-done-ge4 : goal.returns-then-done-ge4
-returns-then-done-ge4 c = λ g x y bytes most within some later shows.
-    let done = c.args.done in
-    let room : done % 4 + most ≤ 4 = later (omega arith) in
-    let place : x + 32 + 8 * (done - 4) ≡ x + 8 * done = omega arith in
-    let moved = c.moved-first.ensures g (x + 32) y 64 (omega arith) (shows.second (omega arith)) in
-    record {
-      first =
-          shows-less g (x + 8 * done) y (64 - 8 * (done - 4)) (8 * min most 4 + 12) c.moved-first.result (omega arith)
-          (subst (λ (n : ℕ). Shows g n y (64 - 8 * (done - 4)) c.moved-first.result) place moved);
-      second = λ more. absurd (omega arith);
-    }
+use Rattle.jbig2_region.proofs.generic_kernel.windows.WideWindows.at_byte.Goals.{then-done-ge4, else-done-ge4}
 
 pub returns : goal.returns
 returns c = λ g x y bytes most within some later shows.
     let done = c.args.done in
-    let moved = c.moved-first-2.ensures g x y 64 (omega arith) shows.first in
-    let room : 8 * min most 4 + 12 ≤ 64 - 8 * done = ⊎_elim (λ (start : done < 1). omega arith) (λ (past : 1 ≤ done). omega (arith, later past)) (cases_lt done 1) in
+    let by : ℕ = 8 * (done % 4) in
+    let room : 8 * min most 4 + 12 ≤ 64 - by = ⊎_elim (λ (start : done < 1). omega arith) (λ (past : 1 ≤ done). omega (arith, later past)) (cases_lt done 1) in
+    let moved : Shows g (x + 8 * done) y (64 - by) c.moved-first.result =
+    elim c.if-done-ge4.branch [
+      | then-done-ge4 w ↦
+          let late : 4 ≤ done = w.if-done-ge4.true in
+          let place : x + 32 + by ≡ x + 8 * done = omega arith in
+          subst (λ (n : ℕ). Shows g n y (64 - by) c.moved-first.result) place
+          (c.moved-first.ensures g (x + 32) y 64 (omega arith) (subst (λ (v : Windows). Shows g (x + 32) y 64 v) (sym w.nearest-is) (shows.second (omega arith))))
+      | else-done-ge4 w ↦
+          let early : done < 4 = omega (arith, w.if-done-ge4.false) in
+          let place : x + by ≡ x + 8 * done = omega arith in
+          subst (λ (n : ℕ). Shows g n y (64 - by) c.moved-first.result) place
+          (c.moved-first.ensures g x y 64 (omega arith) (subst (λ (v : Windows). Shows g x y 64 v) (sym w.nearest-is) shows.first))
+    ] in
     record {
-      first = shows-less g (x + 8 * done) y (64 - 8 * done) (8 * min most 4 + 12) c.moved-first-2.result room moved;
+      first = shows-less g (x + 8 * done) y (64 - by) (8 * min most 4 + 12) c.moved-first.result room moved;
       second = λ more.
           let start : done ≡ 0 = ⊎_elim (λ (start : done < 1). omega arith) (λ (past : 1 ≤ done). absurd (omega (arith, later past))) (cases_lt done 1) in
           let place : x + 32 ≡ x + 8 * done + 32 = omega arith in
