@@ -29,4 +29,5 @@ pub mod StepLemmas
 pub mod StoreLemmas
 pub mod Told
 pub mod UniformLemmas
+pub mod UnlikeLemmas
 pub mod WindowLemmas

@@ -1,5 +1,5 @@
 //! Runs of likely symbols in rows of a template without adaptive pixels.
-ghost use Rattle.std.specs.Prelude.{◌≡◌, ℕ, ◌+◌, ◌-◌, ◌*◌, ◌/◌, ◌%◌, ◌^◌, ◌<◌, ◌≤◌, false, true, max, min, length, slice_index_or, if◌then◌else◌};
+ghost use Rattle.std.specs.Prelude.{◌≡◌, ℕ, ◌+◌, ◌-◌, ◌*◌, ◌/◌, ◌%◌, ◌^◌, ◌<◌, ◌≤◌, false, true, max, min, nat_le, nat_lt, length, slice_index_or, if◌then◌else◌};
 ghost use Rattle.jbig2_base.specs.Grid.{Grid, same_colour};
 ghost use Rattle.jbig2_coder.specs.Coder.{fresh};
 ghost use Rattle.jbig2_coder.specs.Table.{row_of};
@@ -15,53 +15,62 @@ use jbig2_base::bitmap::steps::Steps;
 use jbig2_coder::arithmetic_decoder::{ArithmeticDecoder, ArithmeticDecoderContext};
 use std::sync::ledger::Ledger;
 
-/// Whether a stretch is all of one colour, seen from the window's column and from each of the next
-/// `pixels` columns right of it.
+/// A word all of whose bits are of one colour.
 #[inline(always)]
-fn stretch_stays(stretch: Stretch, pixels: u32, black: bool, window: u64) -> bool
+fn all_bits(black: bool) -> u64
+    ensures { result ≡ (if black then 2 ^ 64 - 1 else 0) }
+{
+    if black {
+        return u64::MAX;
+    }
+    0
+}
+
+/// Which pixels of a stretch are unlike a colour, the first of those that only the next columns see
+/// in bit 55, and those right of it below: no bit stands at `56 - m` or higher exactly where the
+/// stretch is all of the colour, seen from the window's column and each of the next `m`.
+#[inline(always)]
+fn unlike_stretch(stretch: Stretch, black: bool, window: u64) -> u64
     requires reach { stretch.reach ≤ 3 }
     requires count { stretch.count ≤ 7 }
-    requires few { pixels ≤ 32 }
-    ensures { result ≡ stretch_stays stretch pixels black window }
+    ensures { (m : ℕ) → m ≤ 32 →
+        stretch_stays stretch m black window ≡ nat_lt result (2 ^ (56 - m)) }
 {
     if stretch.count == 0 {
-        return true;
+        return 0;
     }
-    let count = stretch.count + pixels;
-    let bits = (window >> (55 - pixels - stretch.reach)) % (1 << count);
-    if black {
-        return bits == (1 << count) - 1;
-    }
-    bits == 0
+    let unlike = window ^ all_bits(black);
+    (unlike << (9 + stretch.reach - stretch.count)) >> (8 - stretch.count)
 }
 
-/// Whether the pixels at the left are all of one colour.
+/// Which of the pixels at the left are unlike a colour, in the highest bits: no bit stands there
+/// exactly where all are of the colour.
 #[inline(always)]
-fn left_stays(count: u32, black: bool, left: u32) -> bool
+fn unlike_left(count: u32, black: bool, left: u32) -> u64
+    requires some { 1 ≤ count }
     requires count { count ≤ 4 }
-    ensures { result ≡ is_field left 0 count black }
+    ensures { (m : ℕ) → m ≤ 32 → is_field left 0 count black ≡ nat_lt result (2 ^ (56 - m)) }
 {
-    let bits = left % (1 << count);
-    if black {
-        return bits == (1 << count) - 1;
-    }
-    bits == 0
+    (u64::from(left) ^ all_bits(black)) << (64 - count)
 }
 
-/// Whether, with the next `pixels` of one colour, their contexts and the one after them are all of
-/// that colour.
+/// How many of the next bytes, up to four, stay in the one context of a colour with the context
+/// after them: counted at once, since a test of each would be a jump that is hard to foretell.
 #[inline(always)]
-fn stays(neighbours: Neighbours, pixels: u32, black: bool, left: u32, windows: Windows) -> bool
+fn alike_bytes(neighbours: Neighbours, black: bool, left: u32, windows: Windows) -> u32
     requires near { IsNear neighbours }
-    requires few { pixels ≤ 32 }
-    ensures { result ≡ neighbours_stay neighbours pixels black left windows }
+    ensures few { result ≤ 4 }
+    ensures exact { (m : ℕ) → 1 ≤ m → m ≤ 4 →
+        neighbours_stay neighbours (8 * m) black left windows ≡ nat_le m result }
 {
-    left_stays(neighbours.left, black, left)
-        && stretch_stays(neighbours.above, pixels, black, windows.above)
-        && stretch_stays(neighbours.top, pixels, black, windows.top)
+    let beside = unlike_left(neighbours.left, black, left);
+    let above = unlike_stretch(neighbours.above, black, windows.above);
+    let top = unlike_stretch(neighbours.top, black, windows.top);
+    let unlike = beside | (above | (top | 8388608));
+    unlike.leading_zeros().max(8) / 8 - 1
 }
 
-/// How many of the next bytes stay in one context: all of eight or of four, or one, or none.
+/// How many of the next bytes stay in one context: up to four, or all of eight.
 #[inline(always)]
 fn staying_bytes(
     neighbours: Neighbours,
@@ -80,16 +89,11 @@ fn staying_bytes(
     ensures eight { 5 ≤ result → (result ≡ 8) ×
         (neighbours_stay neighbours 32 black left windows.second ≡ true) }
 {
-    if most >= 4 && stays(neighbours, 32, black, left, windows.first) {
-        if most == 8 && stays(neighbours, 32, black, left, windows.second) {
-            return 8;
-        }
-        return 4;
+    let bytes = alike_bytes(neighbours, black, left, windows.first);
+    if bytes == 4 && most == 8 && alike_bytes(neighbours, black, left, windows.second) == 4 {
+        return 8;
     }
-    if stays(neighbours, 8, black, left, windows.first) {
-        return 1;
-    }
-    0
+    bytes.min(most)
 }
 
 /// The number of the context whose pixels are all of one colour, out of `count`.
