@@ -34,5 +34,6 @@ pub mod Readings
 pub mod Renorm
 pub mod Rows
 pub mod Runs
+pub mod States
 pub mod WorkedDecisions
 pub mod WorkedLists

@@ -1,9 +1,8 @@
 -- What holds of every row of the table of states.
-use Rattle.std.proofs.Common.{◌≡◌, ℕ, ◌<◌, ◌≤◌, Bool, true, ◌&&◌, ltb, leb, get_or, refl, ap, ⊎_elim, subst, sym}
+use Rattle.std.proofs.Common.{◌≡◌, ℕ, ◌<◌, ◌≤◌, Bool, true, ◌&&◌, ltb, leb, refl, ap, ⊎_elim}
 use Rattle.std.proofs.lemmas.Bool.{agree_below_at, and_parts, ltb-true, leb-true, cases_lt}
-use Rattle.std.proofs.lemmas.List.{get_or_past, get_or_default}
-use Rattle.jbig2_coder.specs.Table.{rows, row_of}
-use Rattle.jbig2_coder.specs.declared.arithmetic_decoder.qe_table.QeData.{QeData}
+use Rattle.std.proofs.lemmas.List.{get_or_past}
+use Rattle.jbig2_coder.specs.Table.{QeData, rows, row_of}
 
 pub record IsRow (row : QeData) : Type 0 where
   pub some : 1 ≤ row.qe
@@ -33,23 +32,3 @@ IsRow-test row h =
 pub row_of-is_row : (k : ℕ) → IsRow (row_of k)
 row_of-is_row k =
     ⊎_elim (λ (h : k < 47). IsRow-test (row_of k) (test_at k h)) (λ (h : 47 ≤ k). IsRow-test (row_of k) (test_past k h)) (cases_lt k 47)
-
--- the table that the code reads, at a default of its own
-pub row_of-read : (k : ℕ) (d : QeData) → k < 47 → get_or rows k d ≡ row_of k
-unfolding rows row_of
-row_of-read k d h = get_or_default rows k d _ h
-
-IsRow-read : (k : ℕ) (d : QeData) → k < 47 → IsRow (get_or rows k d)
-IsRow-read k d h = subst IsRow (sym (row_of-read k d h)) (row_of-is_row k)
-
-pub read-some : (k : ℕ) (d : QeData) → k < 47 → 1 ≤ (get_or rows k d).qe
-read-some k d h = (IsRow-read k d h).some
-
-pub read-half : (k : ℕ) (d : QeData) → k < 47 → (get_or rows k d).qe ≤ 0x5601
-read-half k d h = (IsRow-read k d h).half
-
-pub read-nmps : (k : ℕ) (d : QeData) → k < 47 → (get_or rows k d).nmps < 47
-read-nmps k d h = (IsRow-read k d h).nmps
-
-pub read-nlps : (k : ℕ) (d : QeData) → k < 47 → (get_or rows k d).nlps < 47
-read-nlps k d h = (IsRow-read k d h).nlps

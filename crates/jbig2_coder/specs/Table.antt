@@ -1,10 +1,15 @@
 -- The probability states of the adaptive coder (T.88, Table E.1): for each row the probability Qe of the unlikely
 -- symbol, the rows that follow either symbol, and where the likely symbol changes.
 use Rattle.std.specs.Prelude.{ℕ, Bool, true, false, List, [], ◌∷◌, slice_index_or}
-use Rattle.jbig2_coder.specs.declared.arithmetic_decoder.qe_table.QeData.{QeData}
 
--- the probability of the unlikely symbol, the next row after the likely and after the unlikely
--- symbol, and whether the likely symbol turns round after the unlikely one
+-- A row: the probability of the unlikely symbol, the next row after the likely and after the unlikely
+-- symbol, and whether the likely symbol turns round after the unlikely one.
+pub record QeData : Type 0 where
+  pub qe : ℕ
+  pub nmps : ℕ
+  pub nlps : ℕ
+  pub switch : Bool
+
 abbrev row : ℕ → ℕ → ℕ → Bool → QeData
 row qe nmps nlps switch = record { qe = qe; nmps = nmps; nlps = nlps; switch = switch }
 

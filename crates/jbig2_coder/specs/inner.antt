@@ -4,4 +4,5 @@ pub mod Floor
 pub mod PrefixLevels
 pub mod Prefixes
 pub mod Stands
+pub mod States
 pub mod TableViews

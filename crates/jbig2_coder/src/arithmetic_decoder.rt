@@ -6,7 +6,7 @@ ghost use Rattle.jbig2_coder.specs.Table.{row_of};
 ghost use Rattle.jbig2_coder.specs.Coder.{fresh, byte_at, byte_in, renormed, initial_registers, choice, likely_next, unlikely_next, decision, all_quiet};
 ghost use Rattle.jbig2_coder.specs.inner.Floor.{floor_of};
 
-use crate::arithmetic_decoder::qe_table::{QeData, row_at};
+use crate::arithmetic_decoder::qe_table::state_at;
 use crate::arithmetic_decoder::registers::{
     CodeRegister, Registers, byte_at, byte_in, renormalize,
 };
@@ -18,24 +18,33 @@ pub mod qe_table;
 pub mod registers;
 
 /// What the decoder has learned of one context: a row of the table of probabilities, and the symbol
-/// that is the more likely one there.
+/// that is the more likely one there. Both are kept in one byte, twice the row and the symbol.
 #[derive(Clone, Copy)]
 pub struct ArithmeticDecoderContext {
-    pub(crate) row: u8,
-    pub(crate) likely: bool,
+    pub(crate) state: u8,
 }
 
 impl Model for ArithmeticDecoderContext {
     ghost use Rattle.std.specs.Prelude.{◌<◌};
     ghost use Rattle.jbig2_coder.specs.Coder.{Context};
+    ghost use Rattle.jbig2_coder.specs.inner.States.{context_of, state_of};
+    ghost use Rattle.std.proofs.Common.{◌≡◌, ◌%◌, ⊎_elim, arith};
+    ghost use Rattle.std.proofs.lemmas.Bool.{cases_eq, eq-eqb, ne_eqb};
 
     ghost Value = { Context };
 
-    ghost view = { λ s. record { row = s.row; likely = s.likely } };
+    ghost view = { λ s. context_of s.state };
 
-    ghost invariant = { λ s. s.row < 47 };
+    ghost invariant = { λ s. s.state < 94 };
 
-    ghost inverse = { λ v. record { row = v.row; likely = v.likely } };
+    ghost inverse = { λ v. record { state = state_of v } };
+
+    ghost inverse_ok = { λ s h i.
+        let back : state_of (context_of s.state) ≡ s.state =
+        ⊎_elim (λ (one : s.state % 2 ≡ 1). rw (eq-eqb (s.state % 2) 1 one) (omega arith))
+        (λ (other : s.state % 2 ≡ 1 → ⊥). rw (ne_eqb (s.state % 2) 1 other) (omega arith))
+        (cases_eq (s.state % 2) 1) in
+        record { state = back i } };
 }
 
 impl Default for ArithmeticDecoderContext {
@@ -52,10 +61,7 @@ impl ArithmeticDecoderContext {
     pub fn new() -> Self
         ensures { result ≡ fresh }
     {
-        ArithmeticDecoderContext {
-            row: 0,
-            likely: false,
-        }
+        ArithmeticDecoderContext { state: 0 }
     }
 
     /// The symbol that is the more likely one in this context.
@@ -63,52 +69,29 @@ impl ArithmeticDecoderContext {
     pub fn likely_symbol(&self) -> bool
         ensures { result ≡ self.now.likely }
     {
-        self.likely
+        self.state % 2 == 1
     }
 
+    /// The likely symbol, after which the context is in the next row for it (NMPS of Table E.1).
     #[inline(always)]
-    #[tactic(auto, unfolding(crate::specs::Coder::likely_next))]
-    pub(crate) fn after_likely(&mut self, row: QeData) -> bool
-        requires row { row ≡ row_of self.old.row }
-        requires next { row.nmps < 47 }
+    pub(crate) fn after_likely(&mut self) -> bool
         ensures context { self.new ≡ likely_next self.old }
         ensures symbol { result ≡ self.old.likely }
     {
-        self.row = row.nmps;
-        self.likely
-    }
-
-    #[inline(always)]
-    #[tactic(auto, unfolding(crate::specs::Coder::unlikely_next))]
-    pub(crate) fn after_unlikely(&mut self, row: QeData) -> bool
-        requires row { row ≡ row_of self.old.row }
-        requires next { row.nlps < 47 }
-        ensures context { self.new ≡ unlikely_next self.old }
-        ensures symbol { result ≡ not self.old.likely }
-    {
-        let symbol = !self.likely;
-        self.row = row.nlps;
-        self.likely ^= row.switch;
+        let symbol = self.likely_symbol();
+        self.state = state_at(self.state).likely;
         symbol
     }
 
-    /// The symbol that was decided, of which the context then knows: `likely` and `unlikely` are the rows
-    /// behind its own, and `switch` says whether the unlikely symbol becomes the likely one.
+    /// The unlikely symbol, after which the context is in the next row for it (NLPS and SWITCH of
+    /// Table E.1).
     #[inline(always)]
-    #[tactic(auto, unfolding(crate::specs::Coder::likely_next, crate::specs::Coder::unlikely_next))]
-    fn after(&mut self, likely: u8, unlikely: u8, switch: bool, is_unlikely: bool) -> bool
-        requires likely_row { likely ≡ (row_of self.old.row).nmps }
-        requires unlikely_row { unlikely ≡ (row_of self.old.row).nlps }
-        requires switch { switch ≡ (row_of self.old.row).switch }
-        requires likely { likely < 47 }
-        requires unlikely { unlikely < 47 }
-        ensures context { self.new ≡
-            (if is_unlikely then unlikely_next self.old else likely_next self.old) }
-        ensures symbol { result ≡ (if is_unlikely then not self.old.likely else self.old.likely) }
+    pub(crate) fn after_unlikely(&mut self) -> bool
+        ensures context { self.new ≡ unlikely_next self.old }
+        ensures symbol { result ≡ not self.old.likely }
     {
-        let symbol = self.likely ^ is_unlikely;
-        self.row = if is_unlikely { unlikely } else { likely };
-        self.likely ^= is_unlikely & switch;
+        let symbol = !self.likely_symbol();
+        self.state = state_at(self.state).unlikely;
         symbol
     }
 
@@ -134,14 +117,20 @@ impl ArithmeticDecoderContext {
         ensures half { registers.new.a < 0x8000 }
     {
         // Which of the two it is can hardly be foretold, so no jump hangs on it.
-        let row = row_at(self.row);
-        let rest = registers.a - row.qe;
+        let state = state_at(self.state);
+        let rest = registers.a - state.qe;
         let is_lower = registers.code.c >> 16 >= rest;
-        let is_unlikely = is_lower != (rest < row.qe);
+        let is_unlikely = is_lower != (rest < state.qe);
         let below = if is_lower { rest << 16 } else { 0 };
         registers.code.c = registers.code.c.wrapping_sub(below);
-        registers.a = if is_lower { row.qe } else { rest };
-        self.after(row.nmps, row.nlps, row.switch, is_unlikely)
+        registers.a = if is_lower { state.qe } else { rest };
+        let symbol = self.likely_symbol() ^ is_unlikely;
+        self.state = if is_unlikely {
+            state.unlikely
+        } else {
+            state.likely
+        };
+        symbol
     }
 }
 
@@ -233,10 +222,10 @@ impl<'a> ArithmeticDecoder<'a> {
         ensures steps { steps.new ≡ record steps.old { decisions = steps.old.decisions + 1 } }
     {
         steps.decision();
-        let rest = self.registers.a - row_at(context.row).qe;
+        let rest = self.registers.a - state_at(context.state).qe;
         if rest >= self.floor {
             self.registers.a = rest;
-            return u32::from(context.likely);
+            return u32::from(context.state % 2);
         }
         u32::from(self.decode_renormalized(context))
     }
@@ -284,7 +273,7 @@ impl<'a> ArithmeticDecoder<'a> {
         ensures steps { steps.new ≡ record steps.old { run_tests = steps.old.run_tests + 1 } }
     {
         steps.run_test();
-        let total = row_at(context.row).qe * count;
+        let total = state_at(context.state).qe * count;
         if self.registers.a < self.floor + total {
             return false;
         }
@@ -320,7 +309,7 @@ impl<'a> ArithmeticDecoder<'a> {
         ensures steps { steps.new
             ≡ record steps.old { run_tests = steps.old.run_tests + max result 1 } }
     {
-        let total = row_at(context.row).qe * count;
+        let total = state_at(context.state).qe * count;
         let room = self.registers.a.saturating_sub(self.floor);
         let groups = whole_groups(room, total, most);
         for _ in 0..groups.max(1) {

@@ -1,88 +1,101 @@
 //! The probability states of the adaptive coder (T.88, Table E.1).
 
-ghost use Rattle.std.specs.Prelude.{◌≡◌, ◌<◌, ◌≤◌};
+ghost use Rattle.std.specs.Prelude.{◌≡◌, ◌/◌, ◌<◌, ◌≤◌};
 ghost use Rattle.jbig2_coder.specs.Table.{row_of};
+ghost use Rattle.jbig2_coder.specs.Coder.{likely_next, unlikely_next};
+ghost use Rattle.jbig2_coder.specs.inner.States.{context_of};
 
-/// A row of the table: the probability of the less likely symbol, the next row after the more and
-/// after the less likely one, and whether the more likely symbol turns round after the latter.
+/// What a context does in one of its states: the probability of the less likely symbol, and the
+/// state after the more and after the less likely one. A state is twice the row of Table E.1, and
+/// one more where 1 is the more likely symbol.
 #[derive(Clone, Copy)]
-pub struct QeData {
+pub struct State {
     pub qe: u32,
-    pub nmps: u8,
-    pub nlps: u8,
-    pub switch: bool,
+    pub likely: u8,
+    pub unlikely: u8,
 }
 
-macro_rules! row {
-    ($qe:expr, $nmps:expr, $nlps:expr, $switch:expr) => {
-        QeData {
-            qe: $qe,
-            nmps: $nmps,
-            nlps: $nlps,
-            switch: $switch,
-        }
+/// Both states of each row, from the rows as Table E.1 prints them: Qe, NMPS, NLPS and SWITCH.
+macro_rules! states {
+    ($(($qe:expr, $nmps:expr, $nlps:expr, $switch:expr),)*) => {
+        [
+            $(
+                State {
+                    qe: $qe,
+                    likely: 2 * $nmps,
+                    unlikely: 2 * $nlps + $switch,
+                },
+                State {
+                    qe: $qe,
+                    likely: 2 * $nmps + 1,
+                    unlikely: 2 * $nlps + 1 - $switch,
+                },
+            )*
+        ]
     };
 }
 
-static QE_TABLE: [QeData; 47] = [
-    row!(0x5601, 1, 1, true),
-    row!(0x3401, 2, 6, false),
-    row!(0x1801, 3, 9, false),
-    row!(0x0AC1, 4, 12, false),
-    row!(0x0521, 5, 29, false),
-    row!(0x0221, 38, 33, false),
-    row!(0x5601, 7, 6, true),
-    row!(0x5401, 8, 14, false),
-    row!(0x4801, 9, 14, false),
-    row!(0x3801, 10, 14, false),
-    row!(0x3001, 11, 17, false),
-    row!(0x2401, 12, 18, false),
-    row!(0x1C01, 13, 20, false),
-    row!(0x1601, 29, 21, false),
-    row!(0x5601, 15, 14, true),
-    row!(0x5401, 16, 14, false),
-    row!(0x5101, 17, 15, false),
-    row!(0x4801, 18, 16, false),
-    row!(0x3801, 19, 17, false),
-    row!(0x3401, 20, 18, false),
-    row!(0x3001, 21, 19, false),
-    row!(0x2801, 22, 19, false),
-    row!(0x2401, 23, 20, false),
-    row!(0x2201, 24, 21, false),
-    row!(0x1C01, 25, 22, false),
-    row!(0x1801, 26, 23, false),
-    row!(0x1601, 27, 24, false),
-    row!(0x1401, 28, 25, false),
-    row!(0x1201, 29, 26, false),
-    row!(0x1101, 30, 27, false),
-    row!(0x0AC1, 31, 28, false),
-    row!(0x09C1, 32, 29, false),
-    row!(0x08A1, 33, 30, false),
-    row!(0x0521, 34, 31, false),
-    row!(0x0441, 35, 32, false),
-    row!(0x02A1, 36, 33, false),
-    row!(0x0221, 37, 34, false),
-    row!(0x0141, 38, 35, false),
-    row!(0x0111, 39, 36, false),
-    row!(0x0085, 40, 37, false),
-    row!(0x0049, 41, 38, false),
-    row!(0x0025, 42, 39, false),
-    row!(0x0015, 43, 40, false),
-    row!(0x0009, 44, 41, false),
-    row!(0x0005, 45, 42, false),
-    row!(0x0001, 45, 43, false),
-    row!(0x5601, 46, 46, false),
+static STATES: [State; 94] = states![
+    (0x5601, 1, 1, 1),
+    (0x3401, 2, 6, 0),
+    (0x1801, 3, 9, 0),
+    (0x0AC1, 4, 12, 0),
+    (0x0521, 5, 29, 0),
+    (0x0221, 38, 33, 0),
+    (0x5601, 7, 6, 1),
+    (0x5401, 8, 14, 0),
+    (0x4801, 9, 14, 0),
+    (0x3801, 10, 14, 0),
+    (0x3001, 11, 17, 0),
+    (0x2401, 12, 18, 0),
+    (0x1C01, 13, 20, 0),
+    (0x1601, 29, 21, 0),
+    (0x5601, 15, 14, 1),
+    (0x5401, 16, 14, 0),
+    (0x5101, 17, 15, 0),
+    (0x4801, 18, 16, 0),
+    (0x3801, 19, 17, 0),
+    (0x3401, 20, 18, 0),
+    (0x3001, 21, 19, 0),
+    (0x2801, 22, 19, 0),
+    (0x2401, 23, 20, 0),
+    (0x2201, 24, 21, 0),
+    (0x1C01, 25, 22, 0),
+    (0x1801, 26, 23, 0),
+    (0x1601, 27, 24, 0),
+    (0x1401, 28, 25, 0),
+    (0x1201, 29, 26, 0),
+    (0x1101, 30, 27, 0),
+    (0x0AC1, 31, 28, 0),
+    (0x09C1, 32, 29, 0),
+    (0x08A1, 33, 30, 0),
+    (0x0521, 34, 31, 0),
+    (0x0441, 35, 32, 0),
+    (0x02A1, 36, 33, 0),
+    (0x0221, 37, 34, 0),
+    (0x0141, 38, 35, 0),
+    (0x0111, 39, 36, 0),
+    (0x0085, 40, 37, 0),
+    (0x0049, 41, 38, 0),
+    (0x0025, 42, 39, 0),
+    (0x0015, 43, 40, 0),
+    (0x0009, 44, 41, 0),
+    (0x0005, 45, 42, 0),
+    (0x0001, 45, 43, 0),
+    (0x5601, 46, 46, 0),
 ];
 
-/// Row `index` of the table.
+/// What a context does in state `index`.
 #[inline(always)]
-pub(crate) fn row_at(index: u8) -> QeData
-    requires { index < 47 }
-    ensures value { result ≡ row_of index }
+pub(crate) fn state_at(index: u8) -> State
+    requires { index < 94 }
+    ensures qe { result.qe ≡ (row_of (index / 2)).qe }
+    ensures likely { context_of result.likely ≡ likely_next (context_of index) }
+    ensures unlikely { context_of result.unlikely ≡ unlikely_next (context_of index) }
     ensures some { 1 ≤ result.qe }
     ensures half { result.qe ≤ 0x5601 }
-    ensures nmps { result.nmps < 47 }
-    ensures nlps { result.nlps < 47 }
+    ensures likely_state { result.likely < 94 }
+    ensures unlikely_state { result.unlikely < 94 }
 {
-    QE_TABLE[index as usize]
+    STATES[index as usize]
 }

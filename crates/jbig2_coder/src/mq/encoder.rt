@@ -8,7 +8,7 @@ ghost use Rattle.jbig2_coder.specs.Encoder.{opened, plain, stuffed, byte_out, sh
 ghost use Rattle.jbig2_coder.specs.inner.EncoderViews.{writer_of, coding_of, HasRoom};
 
 use crate::arithmetic_decoder::ArithmeticDecoderContext;
-use crate::arithmetic_decoder::qe_table::row_at;
+use crate::arithmetic_decoder::qe_table::state_at;
 use jbig2_base::error::Result;
 use std::alloc::Allocator;
 use std::marker::Model;
@@ -163,30 +163,30 @@ fn narrow(registers: &mut Registers, context: &mut ArithmeticDecoderContext, dec
         ≤ registers.old.code.c + registers.old.a }
     ensures normal { OnFalse result (0x8000 ≤ registers.new.a) }
 {
-    let row = row_at(context.row);
-    let rest = registers.a - row.qe;
-    if decision == context.likely {
+    let qe = state_at(context.state).qe;
+    let rest = registers.a - qe;
+    if decision == context.likely_symbol() {
         if rest >= 0x8000 {
             registers.a = rest;
-            registers.code.c += row.qe;
+            registers.code.c += qe;
             return false;
         }
-        context.after_likely(row);
-        if rest < row.qe {
-            registers.a = row.qe;
+        context.after_likely();
+        if rest < qe {
+            registers.a = qe;
             return true;
         }
         registers.a = rest;
-        registers.code.c += row.qe;
+        registers.code.c += qe;
         return true;
     }
-    context.after_unlikely(row);
-    if rest < row.qe {
+    context.after_unlikely();
+    if rest < qe {
         registers.a = rest;
-        registers.code.c += row.qe;
+        registers.code.c += qe;
         return true;
     }
-    registers.a = row.qe;
+    registers.a = qe;
     true
 }
 

@@ -1,38 +1,38 @@
-use Rattle.std.proofs.Common.{◌≡◌, ◌-◌, ◌*◌, refl, sym, ap, arith, ℕ}
-use Rattle.jbig2_coder.specs.declared.arithmetic_decoder.qe_table.QeData.{QeData}
+use Rattle.std.proofs.Common.{◌≡◌, ◌-◌, ◌*◌, ◌/◌, refl, sym, ap, arith, ℕ}
 use Rattle.jbig2_coder.proofs.Runs.{groups-yes, groups-no, groups-fit, groups-fall, groups-some}
-use Rattle.jbig2_coder.specs.Coder.{Coder}
+use Rattle.jbig2_coder.specs.Coder.{Coder, Context}
 use Rattle.jbig2_coder.specs.Table.{row_of}
+use Rattle.jbig2_coder.specs.inner.States.{context_of}
 use Rattle.jbig2_coder.proofs.arithmetic_decoder.ArithmeticDecoder.decode_mps_runs.Goals as goal
 
 pub overflow_mul-total : goal.overflow_mul-total
 overflow_mul-total g c =
-    let fit = groups-fit c.row_at.result.qe c.args.count c.args.most c.row_at.ensures.half c.requires.group c.requires.few in
+    let fit = groups-fit c.state_at.result.qe c.args.count c.args.most c.state_at.ensures.half c.requires.group c.requires.few in
     omega (arith, fit.0)
 
 pub whole_groups-groups-requires-clause-some : goal.whole_groups-groups-requires-clause-some
-whole_groups-groups-requires-clause-some g c = groups-some c.row_at.result.qe c.args.count c.row_at.ensures.some c.requires.some
+whole_groups-groups-requires-clause-some g c = groups-some c.state_at.result.qe c.args.count c.state_at.ensures.some c.requires.some
 
 pub whole_groups-groups-requires-clause-fits : goal.whole_groups-groups-requires-clause-fits
 whole_groups-groups-requires-clause-fits g c =
-    let fit = groups-fit c.row_at.result.qe c.args.count c.args.most c.row_at.ensures.half c.requires.group c.requires.few in
+    let fit = groups-fit c.state_at.result.qe c.args.count c.args.most c.state_at.ensures.half c.requires.group c.requires.few in
     omega (arith, fit.1)
 
 pub returns-clause-quiet : goal.returns-clause-quiet
 returns-clause-quiet g c =
-    let qe = sym (ap (λ (r : QeData). r.qe) c.row_at.ensures.value) in
+    let x : Context = context_of c.context.inside.state in
     rw (← c.self.view_is, ← c.context.view_is)
-    (groups-yes c.args.count c.whole_groups-groups.result c.self.inside.bytes.now c.self.inside.registers _ c.row_at.result.qe (c.row_at.result.qe * c.args.count) c.saturating_sub-room.result qe refl (omega arith)
-    (groups-some c.row_at.result.qe c.args.count c.row_at.ensures.some c.requires.some) c.whole_groups-groups.ensures.within)
+    (groups-yes c.args.count c.whole_groups-groups.result c.self.inside.bytes.now c.self.inside.registers x c.state_at.result.qe (c.state_at.result.qe * c.args.count) c.saturating_sub-room.result (sym c.state_at.ensures.qe) refl (omega arith)
+    (groups-some c.state_at.result.qe c.args.count c.state_at.ensures.some c.requires.some) c.whole_groups-groups.ensures.within)
 
 pub returns-clause-last : goal.returns-clause-last
 returns-clause-last g c = λ less.
-    let qe = sym (ap (λ (r : QeData). r.qe) c.row_at.ensures.value) in
+    let x : Context = context_of c.context.inside.state in
     rw (← c.self.view_is, ← c.context.view_is)
-    (groups-no c.args.count c.whole_groups-groups.result c.self.inside.bytes.now c.self.inside.registers _ c.row_at.result.qe (c.row_at.result.qe * c.args.count) c.saturating_sub-room.result qe c.row_at.ensures.some c.requires.some refl (omega arith)
+    (groups-no c.args.count c.whole_groups-groups.result c.self.inside.bytes.now c.self.inside.registers x c.state_at.result.qe (c.state_at.result.qe * c.args.count) c.saturating_sub-room.result (sym c.state_at.ensures.qe) c.state_at.ensures.some c.requires.some refl (omega arith)
     (c.whole_groups-groups.ensures.last less))
 
 pub returns-clause-coder : goal.returns-clause-coder
 returns-clause-coder g c =
-    let product : c.row_at.result.qe * c.args.count * c.whole_groups-groups.result ≡ c.args.count * c.whole_groups-groups.result * (row_of c.context.inside.row).qe = groups-fall c.row_at.result.qe c.args.count c.whole_groups-groups.result _ (ap (λ (r : QeData). r.qe) c.row_at.ensures.value) in
+    let product : c.state_at.result.qe * c.args.count * c.whole_groups-groups.result ≡ c.args.count * c.whole_groups-groups.result * (row_of (c.context.inside.state / 2)).qe = groups-fall c.state_at.result.qe c.args.count c.whole_groups-groups.result _ c.state_at.ensures.qe in
     rw (← c.self.view_is, ← c.context.view_is) (ap (λ (n : ℕ). let q : Coder = record { bytes = c.self.inside.bytes.now; registers = record { a = c.self.inside.registers.a - n; code = c.self.inside.registers.code } } in q) product)
