@@ -235,9 +235,8 @@ fn decode_group<A: Allocator, L: Ledger>(
     left
 }
 
-/// The last pixels of row `y`, from column `x` on: a byte, or less. It stands apart, so that the loop of
-/// the row's other bytes stays small enough to be inlined.
-#[inline(never)]
+/// The last pixels of row `y`, from column `x` on: a byte, or less.
+#[inline(always)]
 fn decode_last<A: Allocator, L: Ledger>(
     neighbours: Neighbours,
     bitmap: &mut Bitmap<A>,
