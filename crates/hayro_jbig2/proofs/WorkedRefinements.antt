@@ -12,7 +12,7 @@ use Rattle.jbig2_base.specs.declared.error.SegmentError.TheVariants.{InvalidRefe
 use Rattle.jbig2_coder.specs.Coder.{byte_at, byte_in, filled, doubled, renormed, initial_registers, likely_next, unlikely_next, choice, decision}
 use Rattle.jbig2_coder.specs.Table.{rows, row_of as state_of}
 use Rattle.jbig2_region.specs.Generic.{context_at, generic_region, generic_grid}
-use Rattle.jbig2_region.specs.GenericHeader.{adaptive_pixel_at, template_pixels_at, rows_at, generic_header_at, regular_pixels_at}
+use Rattle.jbig2_region.specs.GenericHeader.{adaptive_pixel_at, rows_at, generic_header_at}
 use Rattle.jbig2_region.specs.Raster.{so_far, with_next, after_pixel, row_begun, at_next, first_pixels, decoded_region}
 use Rattle.jbig2_region.specs.Refinement.{common_colour, offset, refined_context, refined_grid, refined_region}
 use Rattle.jbig2_region.specs.RefinementHeader.{refinement_header_at, refinement_pixels_at}
@@ -53,15 +53,15 @@ unfolding calls_at embedded segments_in segment_at header_at referred_at count_a
 row_R6_1-predicted = refl
 
 row_R6_2 : calls_at true (page 0 eight one 0 ++ region ++ referring (refined_by eight origin 1)) ≡ Ok (singles (replicate 7 true) ++ Pixel false ∷ Line ∷ [])
-unfolding calls_at embedded segments_in segment_at header_at referred_at count_at type_of initial_page_of information_at grid_of_page table pixel_at calls_of row_of whole_calls region_info_at decoded_region first_pixels at_next after_pixel with_next row_begun so_far choice decision byte_in byte_at filled doubled renormed initial_registers likely_next unlikely_next rows state_of drawn_pixel immediate intermediate refinement_at refinement_header_at refinement_pixels_at offset refined_grid refined_region refined_context common_colour generic_at generic_header_at regular_pixels_at template_pixels_at adaptive_pixel_at rows_at generic_grid generic_region context_at
+unfolding calls_at embedded segments_in segment_at header_at referred_at count_at type_of initial_page_of information_at grid_of_page table pixel_at calls_of row_of whole_calls region_info_at decoded_region first_pixels at_next after_pixel with_next row_begun so_far choice decision byte_in byte_at filled doubled renormed initial_registers likely_next unlikely_next rows state_of drawn_pixel immediate intermediate refinement_at refinement_header_at refinement_pixels_at offset refined_grid refined_region refined_context common_colour generic_at generic_header_at adaptive_pixel_at rows_at generic_grid generic_region context_at
 row_R6_2 = refl
 
 row_R6_2-wider_strict : calls_at true (page 0 eight one 0 ++ region ++ referring (refined_by nine origin 1)) ≡ Err (Region InvalidDimension)
-unfolding calls_at embedded segments_in segment_at header_at referred_at count_at type_of initial_page_of information_at grid_of_page table pixel_at calls_of row_of whole_calls region_info_at decoded_region first_pixels at_next after_pixel with_next row_begun so_far choice decision byte_in byte_at filled doubled renormed initial_registers likely_next unlikely_next rows state_of drawn_pixel immediate intermediate refinement_at refinement_header_at refinement_pixels_at offset refined_grid refined_region refined_context common_colour generic_at generic_header_at regular_pixels_at template_pixels_at adaptive_pixel_at rows_at generic_grid generic_region context_at
+unfolding calls_at embedded segments_in segment_at header_at referred_at count_at type_of initial_page_of information_at grid_of_page table pixel_at calls_of row_of whole_calls region_info_at decoded_region first_pixels at_next after_pixel with_next row_begun so_far choice decision byte_in byte_at filled doubled renormed initial_registers likely_next unlikely_next rows state_of drawn_pixel immediate intermediate refinement_at refinement_header_at refinement_pixels_at offset refined_grid refined_region refined_context common_colour generic_at generic_header_at adaptive_pixel_at rows_at generic_grid generic_region context_at
 row_R6_2-wider_strict = refl
 
 row_R6_2-wider_lenient : calls_at false (page 0 eight one 0 ++ region ++ referring (refined_by nine origin 1)) ≡ Ok white
-unfolding calls_at embedded segments_in segment_at header_at referred_at count_at type_of initial_page_of information_at grid_of_page table pixel_at calls_of row_of whole_calls region_info_at decoded_region first_pixels at_next after_pixel with_next row_begun so_far choice decision byte_in byte_at filled doubled renormed initial_registers likely_next unlikely_next rows state_of drawn_pixel immediate intermediate refinement_at refinement_header_at refinement_pixels_at offset refined_grid refined_region refined_context common_colour generic_at generic_header_at regular_pixels_at template_pixels_at adaptive_pixel_at rows_at generic_grid generic_region context_at
+unfolding calls_at embedded segments_in segment_at header_at referred_at count_at type_of initial_page_of information_at grid_of_page table pixel_at calls_of row_of whole_calls region_info_at decoded_region first_pixels at_next after_pixel with_next row_begun so_far choice decision byte_in byte_at filled doubled renormed initial_registers likely_next unlikely_next rows state_of drawn_pixel immediate intermediate refinement_at refinement_header_at refinement_pixels_at offset refined_grid refined_region refined_context common_colour generic_at generic_header_at adaptive_pixel_at rows_at generic_grid generic_region context_at
 row_R6_2-wider_lenient = refl
 
 row_R6_2-unnamed_strict : calls_at true (page 0 eight one 0 ++ referring (refined_by eight origin 1)) ≡ Err (Segment InvalidReference)

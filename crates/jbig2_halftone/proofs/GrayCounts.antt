@@ -15,7 +15,6 @@ use Rattle.jbig2_region.specs.RunBytes.{CountsRegion, coded_pixels, coded_runs, 
 use Rattle.jbig2_region.specs.Skipping.{CountsSkipping, kept_pixels, skip_of, skipping_loads, skipping_words}
 use Rattle.jbig2_region.specs.Templates.{is_nominal, template_pixels}
 use Rattle.jbig2_region.specs.declared.template.AdaptiveTemplatePixel.{AdaptiveTemplatePixel}
-use Rattle.jbig2_region.specs.declared.template.GenericTemplatePixels.TheVariants.{Regular}
 use Rattle.jbig2_region.specs.declared.template.Template.{Template}
 use Rattle.jbig2_region.specs.declared.template.Template.TheVariants.{Template0, Template1, Template2, Template3}
 use Rattle.jbig2_halftone.specs.GrayScale.{GrayScale, nominal_pixels, after_planes}
@@ -39,10 +38,10 @@ none-read t = rw (nominal t) refl
 
 -- what a generic region says of a plane
 pub plain-counts : (p : GrayScale) (adaptive : List AdaptiveTemplatePixel) (w h : ℕ) (bytes : List ℕ) (start : Region) (before after : Counts) → adaptive ≡ nominal_pixels p.template
-    → CountsRegion (template_pixels p.template (Regular adaptive)) (is_nominal p.template adaptive) (read_pixels p.template adaptive) (coding_of false p.template (template_pixels p.template (Regular adaptive))) w h bytes start before after
+    → CountsRegion (template_pixels false p.template adaptive) (is_nominal p.template adaptive) (read_pixels p.template adaptive) (coding_of false p.template (template_pixels false p.template adaptive)) w h bytes start before after
     → CountsPlane p w h bytes start before after
 plain-counts p adaptive w h bytes start before after at counts =
-    let here = subst (λ (a : List AdaptiveTemplatePixel). CountsRegion (template_pixels p.template (Regular a)) (is_nominal p.template a) (read_pixels p.template a) (coding_of false p.template (template_pixels p.template (Regular a))) w h bytes start before after) at counts in
+    let here = subst (λ (a : List AdaptiveTemplatePixel). CountsRegion (template_pixels false p.template a) (is_nominal p.template a) (read_pixels p.template a) (coding_of false p.template (template_pixels false p.template a)) w h bytes start before after) at counts in
     let none = subst (λ (n : ℕ). CountsRegion (plane_pixels p) (is_nominal p.template (nominal_pixels p.template)) n (plain_coding p) w h bytes start before after) (none-read p.template) here in
     subst (λ (b : Bool). CountsRegion (plane_pixels p) b 0 (plain_coding p) w h bytes start before after) (nominal p.template) none
 

@@ -18,7 +18,6 @@ use Rattle.jbig2_region.specs.Skipping.{skipping_coding, skip_of}
 use Rattle.jbig2_mmr.specs.T6.{Decoded, Rows, mmr_rows, grid_of_rows, rows_of}
 use Rattle.jbig2_region.specs.Templates.{context_bits, template_pixels}
 use Rattle.jbig2_region.specs.declared.template.AdaptiveTemplatePixel.{AdaptiveTemplatePixel}
-use Rattle.jbig2_region.specs.declared.template.GenericTemplatePixels.TheVariants.{Regular}
 use Rattle.jbig2_halftone.specs.GrayScale.{GrayScale, nominal_pixels, plane_coding, after_planes, coded_plane, coded_planes, mmr_planes, mmr_plane, planes_by_coder, planes_by_mmr, planes_of, image_is_too_large}
 
 -- neither side of an image that has a plane is too long
@@ -45,11 +44,11 @@ plane-height w h bits grid e = ap (λ (g : Grid). g.height) e
 
 -- ---- a plane without skipped pixels is a generic region without typical prediction
 pub unskipped : (p : GrayScale) (adaptive : List AdaptiveTemplatePixel) (old : Grid) (coder : Coder) (states : List Context) (grid : Grid) (next : Coder) (after : List Context) → p.skip_mask ≡ None → adaptive ≡ nominal_pixels p.template
-    → DecodesRegion (coding_of false p.template (template_pixels p.template (Regular adaptive))) old coder states grid next after → DecodesRegion (plane_coding p) old coder states grid next after
+    → DecodesRegion (coding_of false p.template (template_pixels false p.template adaptive)) old coder states grid next after → DecodesRegion (plane_coding p) old coder states grid next after
 unskipped p adaptive old coder states grid next after none nominal holds =
-    let pixels : List AdaptiveTemplatePixel = template_pixels p.template (Regular adaptive) in
+    let pixels : List AdaptiveTemplatePixel = template_pixels false p.template adaptive in
     let masked = subst (λ (m : Option Grid). Holds old.width old.height coder.bytes (decoded_region (skipping_coding pixels m) old.width old.height coder.bytes (no_pixels coder.registers states)) grid next after) (sym none) holds in
-    subst (λ (a : List AdaptiveTemplatePixel). Holds old.width old.height coder.bytes (decoded_region (skipping_coding (template_pixels p.template (Regular a)) p.skip_mask) old.width old.height coder.bytes (no_pixels coder.registers states)) grid next after) nominal masked
+    subst (λ (a : List AdaptiveTemplatePixel). Holds old.width old.height coder.bytes (decoded_region (skipping_coding (template_pixels false p.template a) p.skip_mask) old.width old.height coder.bytes (no_pixels coder.registers states)) grid next after) nominal masked
 
 -- what a mask is that isn't there
 pub no-mask : (mask : Option (Bor Grid)) → is_some mask ≡ false → skip_of mask ≡ None

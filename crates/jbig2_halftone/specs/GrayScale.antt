@@ -13,7 +13,6 @@ use Rattle.jbig2_region.specs.Skipping.{skipping_coding, skip_of}
 use Rattle.jbig2_mmr.specs.T6.{differ, mmr_rows}
 use Rattle.jbig2_region.specs.Templates.{context_bits, left, right, template_pixels}
 use Rattle.jbig2_region.specs.declared.template.AdaptiveTemplatePixel.{AdaptiveTemplatePixel}
-use Rattle.jbig2_region.specs.declared.template.GenericTemplatePixels.TheVariants.{Regular}
 use Rattle.jbig2_region.specs.declared.template.Template.{Template}
 use Rattle.jbig2_region.specs.declared.template.Template.TheVariants.{Template0, Template1, Template2, Template3}
 use Rattle.jbig2_halftone.specs.declared.gray_scale.GrayScaleParams.{GrayScaleParams}
@@ -40,19 +39,16 @@ gray_view p = record {
 }
 
 -- ---- the coded planes, the highest first
--- the adaptive pixels at their nominal places (Table C.4); templates 1 to 3 have the first alone
-abbrev pub nominal_first : Template → AdaptiveTemplatePixel
-nominal_first Template0 = right 3 1
-nominal_first Template1 = right 3 1
-nominal_first Template2 = right 2 1
-nominal_first Template3 = right 2 1
-
+-- the adaptive pixels at their nominal places (Table C.4)
 abbrev pub nominal_pixels : Template → List AdaptiveTemplatePixel
-nominal_pixels template = nominal_first template ∷ left 3 1 ∷ right 2 2 ∷ left 2 2 ∷ []
+nominal_pixels Template0 = right 3 1 ∷ left 3 1 ∷ right 2 2 ∷ left 2 2 ∷ []
+nominal_pixels Template1 = right 3 1 ∷ []
+nominal_pixels Template2 = right 2 1 ∷ []
+nominal_pixels Template3 = right 2 1 ∷ []
 
 -- a plane is a generic region without typical prediction (Table C.4)
 abbrev pub plane_coding : GrayScale → Coding
-plane_coding p = skipping_coding (template_pixels p.template (Regular (nominal_pixels p.template))) p.skip_mask
+plane_coding p = skipping_coding (template_pixels false p.template (nominal_pixels p.template)) p.skip_mask
 
 -- The last of the `count` highest planes. Each begins with the registers and the contexts that the one before it left,
 -- the first with fresh contexts.

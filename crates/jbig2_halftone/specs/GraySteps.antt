@@ -8,12 +8,11 @@ use Rattle.jbig2_region.specs.RunBytes.{CountsRegion, coded_runs, row_loads, row
 use Rattle.jbig2_region.specs.Skipping.{CountsSkipping, kept_pixels, skipping_loads, skipping_words}
 use Rattle.jbig2_region.specs.Templates.{template_pixels}
 use Rattle.jbig2_region.specs.declared.template.AdaptiveTemplatePixel.{AdaptiveTemplatePixel}
-use Rattle.jbig2_region.specs.declared.template.GenericTemplatePixels.TheVariants.{Regular}
 use Rattle.jbig2_halftone.specs.GrayScale.{GrayScale, nominal_pixels, after_planes}
 
 -- ---- planes without skipped pixels
 abbrev pub plane_pixels : GrayScale → List AdaptiveTemplatePixel
-plane_pixels p = template_pixels p.template (Regular (nominal_pixels p.template))
+plane_pixels p = template_pixels false p.template (nominal_pixels p.template)
 
 -- a plane as a generic region without typical prediction, whose adaptive pixels are nominal
 abbrev pub plain_coding : GrayScale → Coding

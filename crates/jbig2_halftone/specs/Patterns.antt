@@ -1,6 +1,6 @@
 -- Pattern dictionaries (T.88, 6.7): the patterns stand side by side in one collective bitmap, a generic region. The
 -- header with the coded bytes gives the list of the patterns' grids, one for each gray value.
-use Rattle.std.specs.Prelude.{ℕ, ◌+◌, ◌*◌, nat_lt, Bool, false, if◌then◌else◌, List, [], ◌∷◌, map, Result, Ok}
+use Rattle.std.specs.Prelude.{ℕ, ◌+◌, ◌*◌, nat_lt, Bool, true, false, if◌then◌else◌, List, [], ◌∷◌, map, Result, Ok}
 use Rattle.std.specs.List.{range_with_len}
 use Rattle.jbig2_base.specs.Answer.{◌>>=◌, refuse_if}
 use Rattle.jbig2_base.specs.Combination.{most_words}
@@ -14,8 +14,9 @@ use Rattle.jbig2_coder.specs.Coder.{Context}
 use Rattle.jbig2_region.specs.Generic.{generic_answer, contexts_after}
 use Rattle.jbig2_region.specs.GenericHeader.{GenericHeader}
 use Rattle.jbig2_region.specs.Templates.{left, right}
-use Rattle.jbig2_region.specs.declared.template.GenericTemplatePixels.{GenericTemplatePixels}
-use Rattle.jbig2_region.specs.declared.template.GenericTemplatePixels.TheVariants.{Regular}
+use Rattle.jbig2_region.specs.declared.template.AdaptiveTemplatePixel.{AdaptiveTemplatePixel}
+use Rattle.jbig2_region.specs.declared.template.Template.{Template}
+use Rattle.jbig2_region.specs.declared.template.Template.TheVariants.{Template0}
 use Rattle.jbig2_halftone.specs.PatternHeader.{PatternHeader}
 use Rattle.jbig2_halftone.specs.declared.pattern.dictionary.PatternDictionary.{PatternDictionary}
 
@@ -34,9 +35,12 @@ number_of_patterns h = h.gray_max + 1
 abbrev pub collective_width : PatternHeader → ℕ
 collective_width h = number_of_patterns h * h.pattern_width
 
--- A1 lies one pattern to the left, in the same row (Table 27). Templates 1 to 3 have no other adaptive pixel.
-abbrev pub collective_pixels : ℕ → GenericTemplatePixels
-collective_pixels width = Regular (left width 0 ∷ left 3 1 ∷ right 2 2 ∷ left 2 2 ∷ [])
+-- The adaptive pixels (Table 27), by whether the bitmap is coded with MMR, the template and the width of a pattern: A1 lies
+-- one pattern to the left, in the same row.
+abbrev pub collective_pixels : Bool → Template → ℕ → List AdaptiveTemplatePixel
+collective_pixels true template width = []
+collective_pixels false Template0 width = left width 0 ∷ left 3 1 ∷ right 2 2 ∷ left 2 2 ∷ []
+collective_pixels false template width = left width 0 ∷ []
 
 -- the collective bitmap as a generic region, without typical prediction (Table 27)
 abbrev pub collective_header : PatternHeader → GenericHeader
@@ -44,8 +48,9 @@ collective_header h = record {
   region_info = record { width = collective_width h; height = h.pattern_height; x_location = 0; y_location = 0; combination_operator = Or };
   mmr = h.mmr;
   template = h.template;
+  extended = false;
   tpgdon = false;
-  adaptive_template_pixels = collective_pixels h.pattern_width;
+  adaptive_template_pixels = collective_pixels h.mmr h.template h.pattern_width;
   bytes = h.bytes;
   strict = h.strict;
 }

@@ -1,11 +1,13 @@
 //! Pattern dictionaries (T.88, 6.7 and 7.4.4).
-ghost use Rattle.std.specs.Prelude.{◌≡◌, ◌+◌, ◌*◌, ◌≤◌, length, IfOk, OnErr, Ok};
+ghost use Rattle.std.specs.Prelude.{◌≡◌, ◌+◌, ◌*◌, ◌≤◌, [], ◌∷◌, length, IfOk, OnErr, Ok};
 ghost use Rattle.jbig2_base.specs.Answer.{Answers, Gives, Leaves};
 ghost use Rattle.jbig2_base.specs.Bits.{IsAligned};
 ghost use Rattle.jbig2_region.specs.Generic.{generic_answer, contexts_after};
+ghost use Rattle.jbig2_region.specs.Templates.{left, right};
+ghost use Rattle.jbig2_region.specs.declared.template.GenericTemplatePixels.TheVariants.{Regular};
 ghost use Rattle.jbig2_halftone.specs.Causes.{PatternHeadersHaveCauses, PatternsHaveCauses};
 ghost use Rattle.jbig2_halftone.specs.PatternHeader.{header_view, side_at, pattern_header_at};
-ghost use Rattle.jbig2_halftone.specs.Patterns.{dictionary_view, collective_width, collective_pixels, collective_header, pattern_of, patterns_of, patterns_decoded, dictionary_contexts};
+ghost use Rattle.jbig2_halftone.specs.Patterns.{dictionary_view, collective_width, collective_header, pattern_of, patterns_of, patterns_decoded, dictionary_contexts};
 
 mod dictionary;
 
@@ -94,7 +96,8 @@ pub fn parse<'a>(reader: &mut Reader<'a>, strict: bool) -> Result<PatternDiction
 
 /// The adaptive pixels of a collective bitmap: A1 lies one pattern to the left (T.88, Table 27).
 fn collective_pixels(pattern_width: u8) -> GenericTemplatePixels
-    ensures { result ≡ collective_pixels pattern_width }
+    ensures { let others = left 3 1 ∷ right 2 2 ∷ left 2 2 ∷ [] in
+        result ≡ Regular (left pattern_width 0 ∷ others) }
 {
     GenericTemplatePixels::Regular([
         AdaptiveTemplatePixel {
@@ -153,6 +156,7 @@ fn cut_patterns<A: Allocator + Clone, L: Ledger>(
 }
 
 /// The collective bitmap of a dictionary (T.88, 6.7.5).
+#[tactic(auto, using(crate::proofs::PatternLemmas::collective_view))]
 fn decode_collective<A: Allocator, B: Allocator, L: Ledger>(
     alloc: A,
     header: &PatternDictionaryHeader<'_>,

@@ -8,12 +8,10 @@ use Rattle.jbig2_region.specs.Refinement.{offset, refined_decoded}
 use Rattle.jbig2_region.specs.RefinementHeader.{RefinementHeader, refinement_header_at}
 use Rattle.jbig2_region.specs.RefinementTemplates.{refinement_pixels_at}
 use Rattle.jbig2_region.specs.RegionInfo.{PlacedRegion, region_info_at}
-use Rattle.jbig2_region.specs.Templates.{adaptive_pixel_at, adaptive_pixels_at, free_pixel_at, regular_pixels_at, template_pixels_at}
+use Rattle.jbig2_region.specs.Templates.{adaptive_pixel_at, adaptive_pixels_at, free_pixel_at}
 use Rattle.jbig2_region.specs.declared.region_info.RegionSegmentInfo.{RegionSegmentInfo}
 use Rattle.jbig2_region.specs.declared.template.RefinementTemplate.{RefinementTemplate}
 use Rattle.jbig2_region.specs.declared.template.RefinementTemplate.TheVariants as refinements
-use Rattle.jbig2_region.specs.declared.template.Template.{Template}
-use Rattle.jbig2_region.specs.declared.template.Template.TheVariants.{Template0, Template1, Template2, Template3}
 
 -- ---- headers
 pub answered-region_info : (bytes : List ℕ) → Answered (region_info_at bytes)
@@ -27,27 +25,11 @@ answered-pixel : (bytes : List ℕ) → Answered (adaptive_pixel_at bytes)
 unfolding adaptive_pixel_at
 answered-pixel bytes = search (answered-next, answered-free, answered-refusal)
 
-answered-pixels : (count : ℕ) (bytes : List ℕ) → Answered (adaptive_pixels_at count bytes)
+pub answered-pixels : (count : ℕ) (bytes : List ℕ) → Answered (adaptive_pixels_at count bytes)
 answered-pixels zero bytes = tt
 answered-pixels (suc count) bytes =
     let others : (left : List ℕ) → Answered (adaptive_pixels_at count left) = λ left. answered-pixels count left in
     search (answered-next, answered-pixel, others)
-
-pub answered-regular : (template : Template) (bytes : List ℕ) → Answered (regular_pixels_at template bytes)
-unfolding regular_pixels_at
-answered-regular Template0 bytes = answered-pixels 4 bytes
-answered-regular Template1 bytes = search (answered-next, answered-pixel)
-answered-regular Template2 bytes = search (answered-next, answered-pixel)
-answered-regular Template3 bytes = search (answered-next, answered-pixel)
-
-answered-template : (mmr extended : Bool) (template : Template) (bytes : List ℕ) → Answered (template_pixels_at mmr extended template bytes)
-unfolding template_pixels_at
-answered-template true extended template bytes = tt
-answered-template false true Template0 bytes = answered-next (adaptive_pixels_at 12 bytes) _ (answered-pixels 12 bytes) (λ a. tt)
-answered-template false true Template1 bytes = search (answered-next, answered-regular)
-answered-template false true Template2 bytes = search (answered-next, answered-regular)
-answered-template false true Template3 bytes = search (answered-next, answered-regular)
-answered-template false false template bytes = search (answered-next, answered-regular)
 
 answered-rows : (unknown_length : Bool) (height : ℕ) (bytes : List ℕ) → Answered (rows_at unknown_length height bytes)
 unfolding rows_at
@@ -57,7 +39,7 @@ answered-rows false height bytes = tt
 pub answered-generic_header : (unknown_length strict : Bool) (bytes : List ℕ) → Answered (generic_header_at unknown_length strict bytes)
 unfolding generic_header_at
 answered-generic_header unknown_length strict bytes =
-    search (answered-next, answered-region_info, answered-number, answered-template, answered-rows, answered-refusal) depth 12
+    search (answered-next, answered-region_info, answered-number, answered-pixels, answered-rows, answered-refusal) depth 12
 
 pub answered-refinement_pixels : (template : RefinementTemplate) (bytes : List ℕ) → Answered (refinement_pixels_at template bytes)
 unfolding refinement_pixels_at

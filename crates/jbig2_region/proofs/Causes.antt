@@ -14,10 +14,10 @@ use Rattle.jbig2_base.specs.declared.error.DecodeError.TheVariants as errors
 use Rattle.jbig2_base.specs.declared.error.RegionError.TheVariants.{InvalidCombinationOperator, InvalidDimension}
 use Rattle.jbig2_base.specs.declared.error.TemplateError.TheVariants.{InvalidAtPixel}
 use Rattle.jbig2_base.proofs.Causes.{cause-next, cause-number, cause-refused, number-there}
-use Rattle.jbig2_region.specs.Causes.{BreaksPixels, BreaksRegionInfo, BreaksRows, IsLate, IsLateIn, RegionInfosHaveCauses, RowsHaveCauses, TemplatePixelsHaveCauses, pixel_count}
+use Rattle.jbig2_region.specs.Causes.{BreaksPixels, BreaksRegionInfo, BreaksRows, IsLate, IsLateIn, RegionInfosHaveCauses, RowsHaveCauses, TemplatePixelsHaveCauses}
 use Rattle.jbig2_region.specs.GenericHeader.{rows_at}
 use Rattle.jbig2_region.specs.RegionInfo.{region_info_at}
-use Rattle.jbig2_region.specs.Templates.{adaptive_pixel_at, adaptive_pixels_at, free_pixel_at, is_earlier, regular_pixels_at, template_pixels_at}
+use Rattle.jbig2_region.specs.Templates.{adaptive_pixel_at, adaptive_pixels_at, free_pixel_at, is_earlier}
 use Rattle.jbig2_region.specs.declared.region_info.RegionSegmentInfo.{RegionSegmentInfo}
 use Rattle.jbig2_region.specs.declared.template.AdaptiveTemplatePixel.{AdaptiveTemplatePixel}
 use Rattle.jbig2_region.specs.declared.template.Template.{Template}

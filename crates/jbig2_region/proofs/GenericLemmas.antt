@@ -1,5 +1,5 @@
 -- What decoding a whole generic region gives.
-use Rattle.std.proofs.Common.{take, ◌++◌, ◌≡◌, ℕ, false, List, length, Result, Ok, sym, ap, ◌∙◌, subst}
+use Rattle.std.proofs.Common.{take, ◌++◌, ◌≡◌, ℕ, Bool, false, List, length, Result, Ok, sym, ap, ◌∙◌, subst}
 use Rattle.std.proofs.Math.Seq.{take-append_seam}
 use Rattle.jbig2_base.specs.declared.error.DecodeError.{DecodeError}
 use Rattle.std.proofs.lemmas.Bool.{cond-false}
@@ -7,13 +7,15 @@ use Rattle.jbig2_base.specs.Answer.{◌>>=◌}
 use Rattle.jbig2_base.specs.Grid.{Grid, blank}
 use Rattle.jbig2_coder.specs.Coder.{Coder, Context, initial_registers}
 use Rattle.jbig2_region.specs.Generic.{generic_coding, generic_region, generic_grid, generic_answer, contexts_after}
-use Rattle.jbig2_region.specs.GenericHeader.{GenericHeader}
+use Rattle.jbig2_region.specs.GenericHeader.{GenericHeader, header_view}
 use Rattle.jbig2_base.specs.Counts.{Counts}
 use Rattle.jbig2_region.specs.inner.Holds.{Holds}
 use Rattle.jbig2_region.specs.inner.Layouts.{CountsCoded, CountsGeneric}
 use Rattle.jbig2_region.specs.Raster.{Coding, decoded_region, no_pixels, fresh_contexts}
 use Rattle.jbig2_mmr.specs.T6.{mmr_rows}
-use Rattle.jbig2_region.specs.Templates.{context_bits}
+use Rattle.jbig2_region.specs.Templates.{context_bits, pixels_view}
+use Rattle.jbig2_region.specs.declared.generic.GenericRegionHeader.{GenericRegionHeader}
+use Rattle.jbig2_region.specs.declared.template.AdaptiveTemplatePixel.{AdaptiveTemplatePixel}
 
 -- a region that a coder and contexts that stand at the start decode
 pub fresh-decoded : (coding : Coding) (w h bits : ℕ) (input : List ℕ) (before grid : Grid) (first coder : Coder) (fresh states : List Context) → before ≡ blank w h false → first.bytes ≡ input → first.registers ≡ initial_registers input → fresh ≡ fresh_contexts bits
@@ -24,6 +26,10 @@ fresh-decoded coding w h bits input before grid first coder fresh states white b
     let two = subst (λ r. Holds before.width before.height first.bytes (decoded_region coding before.width before.height first.bytes (no_pixels r (fresh_contexts bits))) grid coder states) registers one in
     let three = subst (λ (b : List ℕ). Holds before.width before.height b (decoded_region coding before.width before.height b (no_pixels (initial_registers input) (fresh_contexts bits))) grid coder states) bytes two in
     subst (λ (g : Grid). Holds g.width g.height input (decoded_region coding g.width g.height input (no_pixels (initial_registers input) (fresh_contexts bits))) grid coder states) white three
+
+-- a header without MMR has the adaptive pixels that the arithmetic coder's template takes
+pub as-coded : (h : GenericRegionHeader) (P : List AdaptiveTemplatePixel → Type 0) → h.mmr ≡ false → P (pixels_view false h.template h.adaptive_template_pixels) → P (header_view h).adaptive_template_pixels
+as-coded h P coded p = subst (λ (mmr : Bool). P (pixels_view mmr h.template h.adaptive_template_pixels)) (sym coded) p
 
 -- the same for a generic region
 pub region-decoded : (h : GenericHeader) (before : Grid) (grid : Grid) (first coder : Coder) (fresh states : List Context) → before ≡ blank h.region_info.width h.region_info.height false → first.bytes ≡ h.bytes → first.registers ≡ initial_registers h.bytes → fresh ≡ fresh_contexts (context_bits h.template)
@@ -51,10 +57,10 @@ ok-inner x y e = cc
 
 -- ---- steps
 pub counts-decoded : (h : GenericHeader) (before : Grid) (first : Coder) (fresh : List Context) (old new : Counts) → before ≡ blank h.region_info.width h.region_info.height false → first.bytes ≡ h.bytes → first.registers ≡ initial_registers h.bytes → fresh ≡ fresh_contexts (context_bits h.template)
-    → CountsCoded h.template h.adaptive_template_pixels (generic_coding h) before.width before.height first.bytes (no_pixels first.registers fresh) old new
+    → CountsCoded h.extended h.template h.adaptive_template_pixels (generic_coding h) before.width before.height first.bytes (no_pixels first.registers fresh) old new
     → CountsGeneric h old new
 counts-decoded h before first fresh old new white bytes registers contexts counts = λ _.
-    let one = subst (λ (s : List Context). CountsCoded h.template h.adaptive_template_pixels (generic_coding h) before.width before.height first.bytes (no_pixels first.registers s) old new) contexts counts in
-    let two = subst (λ r. CountsCoded h.template h.adaptive_template_pixels (generic_coding h) before.width before.height first.bytes (no_pixels r (fresh_contexts (context_bits h.template))) old new) registers one in
-    let three = subst (λ (b : List ℕ). CountsCoded h.template h.adaptive_template_pixels (generic_coding h) before.width before.height b (no_pixels (initial_registers h.bytes) (fresh_contexts (context_bits h.template))) old new) bytes two in
-    subst (λ (g : Grid). CountsCoded h.template h.adaptive_template_pixels (generic_coding h) g.width g.height h.bytes (no_pixels (initial_registers h.bytes) (fresh_contexts (context_bits h.template))) old new) white three
+    let one = subst (λ (s : List Context). CountsCoded h.extended h.template h.adaptive_template_pixels (generic_coding h) before.width before.height first.bytes (no_pixels first.registers s) old new) contexts counts in
+    let two = subst (λ r. CountsCoded h.extended h.template h.adaptive_template_pixels (generic_coding h) before.width before.height first.bytes (no_pixels r (fresh_contexts (context_bits h.template))) old new) registers one in
+    let three = subst (λ (b : List ℕ). CountsCoded h.extended h.template h.adaptive_template_pixels (generic_coding h) before.width before.height b (no_pixels (initial_registers h.bytes) (fresh_contexts (context_bits h.template))) old new) bytes two in
+    subst (λ (g : Grid). CountsCoded h.extended h.template h.adaptive_template_pixels (generic_coding h) g.width g.height h.bytes (no_pixels (initial_registers h.bytes) (fresh_contexts (context_bits h.template))) old new) white three

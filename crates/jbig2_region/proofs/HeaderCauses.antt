@@ -12,7 +12,7 @@ use Rattle.jbig2_base.specs.declared.error.DecodeError.TheVariants as errors
 use Rattle.jbig2_base.specs.declared.error.OverflowError.TheVariants.{BitmapDimension, ReferenceOffset}
 use Rattle.jbig2_base.specs.declared.error.RegionError.TheVariants.{InvalidDimension}
 use Rattle.jbig2_base.proofs.Causes.{cause-next, cause-number, cause-refused, number-there}
-use Rattle.jbig2_region.specs.Causes.{BreaksGeneric, BreaksGenericHeader, BreaksOffset, BreaksRefinementHeader, GenericHeadersHaveCauses, GenericRegionsHaveCauses, OffsetsHaveCauses, RefinedRegionsHaveCauses, RefinementHeadersHaveCauses, header_length, pixel_count, pixels_by, refinement_pixel_count}
+use Rattle.jbig2_region.specs.Causes.{BreaksGeneric, BreaksGenericHeader, BreaksOffset, BreaksRefinementHeader, GenericHeadersHaveCauses, GenericRegionsHaveCauses, OffsetsHaveCauses, RefinedRegionsHaveCauses, RefinementHeadersHaveCauses, header_length, pixels_by}
 use Rattle.jbig2_base.specs.Grid.{Grid}
 use Rattle.jbig2_mmr.specs.T6.{mmr_rows}
 use Rattle.jbig2_mmr.proofs.Causes.{cause-mmr}
@@ -20,14 +20,14 @@ use Rattle.jbig2_region.specs.Generic.{generic_answer, generic_grid}
 use Rattle.jbig2_region.specs.GenericHeader.{GenericHeader, generic_header_at, rows_at}
 use Rattle.jbig2_region.specs.Refinement.{is_far, is_smaller, offset, refined_answer, refined_grid}
 use Rattle.jbig2_region.specs.RefinementHeader.{RefinementHeader, refinement_header_at}
-use Rattle.jbig2_region.specs.RefinementTemplates.{refinement_pixels_at, refinement_template_of}
+use Rattle.jbig2_region.specs.RefinementTemplates.{refinement_pixel_count, refinement_pixels_at, refinement_template_of}
 use Rattle.jbig2_region.specs.RegionInfo.{PlacedRegion, placed, region_info_at}
-use Rattle.jbig2_region.specs.Templates.{template_of, template_pixels_at}
+use Rattle.jbig2_region.specs.Templates.{adaptive_pixel_count, adaptive_pixels_at, template_of}
 use Rattle.jbig2_region.specs.declared.region_info.RegionSegmentInfo.{RegionSegmentInfo}
 use Rattle.jbig2_region.specs.declared.template.RefinementTemplate.{RefinementTemplate}
 use Rattle.jbig2_region.specs.declared.template.RefinementTemplate.TheVariants as refinements
 use Rattle.jbig2_region.proofs.Causes.{At, at-next, info-cause, info-there, rows-cause, same-ok, value-next, went}
-use Rattle.jbig2_region.proofs.PixelCauses.{cause-refinement_pixels, cause-template, template-there}
+use Rattle.jbig2_region.proofs.PixelCauses.{cause-pixels, cause-refinement_pixels, pixels-there}
 
 -- a number that stands behind a place
 number-behind : (w : Width) (k j : ℕ) (bytes rest : List ℕ) → At k bytes rest → number_in w j rest ≡ number_in w (k + j) bytes
@@ -67,10 +67,10 @@ generic_header_causes unknown strict bytes =
     let same : pixels_by (number_in w8 17 bytes) ≡ pixels_by flags.0 = ap (λ (n : ℕ). pixels_by n) (value-next w8 17 bytes info.1 flags sides.0 flags_is) in
     let mmr = eqb (flags.0 % 2) 1 in
     let extended = eqb (flags.0 / 16 % 2) 1 in
-    let template = template_of (flags.0 / 2 % 4) in
-    cause-next P (template_pixels_at mmr extended template flags.1) _
-    (cause-template P mmr extended template 18 bytes flags.1 at (λ short. omega (arith, same)) (λ i below whole late. (i, omega (arith, same, below), whole, late))) (λ pixels pixels_is.
-    let there = template-there mmr extended template 18 bytes flags.1 pixels at pixels_is in
+    let count = adaptive_pixel_count mmr extended (template_of (flags.0 / 2 % 4)) in
+    cause-next P (adaptive_pixels_at count flags.1) _
+    (cause-pixels P count 18 bytes flags.1 at (λ short. omega (arith, same)) (λ i below whole late. (i, omega (arith, same, below), whole, late))) (λ pixels pixels_is.
+    let there = pixels-there count 18 bytes flags.1 pixels at pixels_is in
     cause-next P (rows_at unknown info.0.height pixels.1) _
     (rows-cause P unknown info.0.height pixels.1
     (λ is short. four unknown (length bytes) (header_length bytes) is (omega (arith, same, there.size)))

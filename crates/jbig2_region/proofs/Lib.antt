@@ -30,4 +30,5 @@ pub mod StoreLemmas
 pub mod Told
 pub mod UniformLemmas
 pub mod UnlikeLemmas
+pub mod UsedPixels
 pub mod WindowLemmas

@@ -10,15 +10,12 @@ use Rattle.jbig2_base.specs.declared.error.DecodeError.{DecodeError}
 use Rattle.jbig2_base.specs.declared.error.DecodeError.TheVariants as errors
 use Rattle.jbig2_base.specs.declared.error.TemplateError.TheVariants.{InvalidAtPixel}
 use Rattle.jbig2_base.proofs.Causes.{cause-next, cause-number, cause-refused}
-use Rattle.jbig2_region.specs.Causes.{BreaksPixels, BreaksRefinementPixels, IsLate, IsLateIn, RefinementPixelsHaveCauses, TemplatePixelsHaveCauses, pixel_count, refinement_pixel_count}
-use Rattle.jbig2_region.specs.RefinementTemplates.{refinement_pixels_at}
-use Rattle.jbig2_region.specs.Templates.{adaptive_pixel_at, adaptive_pixels_at, first_alone, free_pixel_at, is_earlier, regular_pixels_at, template_pixels_at}
+use Rattle.jbig2_region.specs.Causes.{BreaksPixels, BreaksRefinementPixels, IsLate, IsLateIn, RefinementPixelsHaveCauses, TemplatePixelsHaveCauses}
+use Rattle.jbig2_region.specs.RefinementTemplates.{refinement_pixel_count, refinement_pixels_at}
+use Rattle.jbig2_region.specs.Templates.{adaptive_pixel_at, adaptive_pixel_count, adaptive_pixels_at, free_pixel_at, is_earlier}
 use Rattle.jbig2_region.specs.declared.template.AdaptiveTemplatePixel.{AdaptiveTemplatePixel}
-use Rattle.jbig2_region.specs.declared.template.GenericTemplatePixels.{GenericTemplatePixels}
 use Rattle.jbig2_region.specs.declared.template.RefinementTemplate.{RefinementTemplate}
 use Rattle.jbig2_region.specs.declared.template.RefinementTemplate.TheVariants as refinements
-use Rattle.jbig2_region.specs.declared.template.Template.{Template}
-use Rattle.jbig2_region.specs.declared.template.Template.TheVariants.{Template0, Template1, Template2, Template3}
 use Rattle.jbig2_region.proofs.Causes.{At, at-next, at-start, same-ok, value-next, went}
 
 -- ---- one pixel
@@ -94,7 +91,7 @@ pixel-there k bytes rest pixel at is =
     subst A (ap (λ (p : AdaptiveTemplatePixel × List ℕ). p.1) (same-ok free.0 pixel earlier.2)) (free-there k bytes rest free.0 at free.1).at
 
 -- ---- so many pixels
-cause-pixels : (P : DecodeError → Type 0) (count k : ℕ) (bytes rest : List ℕ) → At k bytes rest → (length bytes < k + 2 * count → P end_of_bytes) → ((i : ℕ) → i < count → k + 2 * i + 2 ≤ length bytes → IsLateIn (k + 2 * i) bytes → P (errors.Template InvalidAtPixel)) → IfErr (adaptive_pixels_at count rest) P
+pub cause-pixels : (P : DecodeError → Type 0) (count k : ℕ) (bytes rest : List ℕ) → At k bytes rest → (length bytes < k + 2 * count → P end_of_bytes) → ((i : ℕ) → i < count → k + 2 * i + 2 ≤ length bytes → IsLateIn (k + 2 * i) bytes → P (errors.Template InvalidAtPixel)) → IfErr (adaptive_pixels_at count rest) P
 cause-pixels P zero k bytes rest at at_end at_late = tt
 cause-pixels P (suc count) k bytes rest at at_end at_late =
     let L : ℕ → Type 0 = λ i. IsLateIn i bytes in
@@ -104,7 +101,7 @@ cause-pixels P (suc count) k bytes rest at at_end at_late =
     (cause-pixels P count (k + 2) bytes first.1 (pixel-there k bytes rest first at first_is) (λ short. at_end (omega arith))
     (λ i below whole is. at_late (suc i) (omega arith) (omega arith) (let there : k + 2 + 2 * i ≡ k + 2 * suc i = omega arith in subst L there is))) (λ others others_is. tt))
 
-pixels-there : (count k : ℕ) (bytes rest : List ℕ) (x : List AdaptiveTemplatePixel × List ℕ) → At k bytes rest → adaptive_pixels_at count rest ≡ Ok x → At (k + 2 * count) bytes x.1
+pub pixels-there : (count k : ℕ) (bytes rest : List ℕ) (x : List AdaptiveTemplatePixel × List ℕ) → At k bytes rest → adaptive_pixels_at count rest ≡ Ok x → At (k + 2 * count) bytes x.1
 pixels-there zero k bytes rest x at is =
     let whole : ◌≡◌ {A = List AdaptiveTemplatePixel × List ℕ} ([], rest) x = same-ok ([], rest) x is in
     let A : List ℕ → Type 0 = λ l. At k bytes l in
@@ -117,89 +114,10 @@ pixels-there (suc count) k bytes rest x at is =
     subst A (ap (λ (p : List AdaptiveTemplatePixel × List ℕ). p.1) (same-ok made x others.2))
     (at-place (k + 2 + 2 * count) (k + 2 * suc count) bytes others.0.1 (omega arith) (pixels-there count (k + 2) bytes first.0.1 others.0 (pixel-there k bytes rest first.0 at first.1) others.1))
 
--- ---- those of a template
--- what its bytes may break
-record Late (P : DecodeError → Type 0) (count k : ℕ) (bytes : List ℕ) : Type 0 where
-  end : length bytes < k + 2 * count → P end_of_bytes
-  late : (i : ℕ) → i < count → k + 2 * i + 2 ≤ length bytes → IsLateIn (k + 2 * i) bytes → P (errors.Template InvalidAtPixel)
-
-cause-many : {A : Type 0} (P : DecodeError → Type 0) (count k : ℕ) (bytes rest : List ℕ) (next : List AdaptiveTemplatePixel × List ℕ → A) → At k bytes rest → Late P count k bytes → IfErr (adaptive_pixels_at count rest >>= λ a. Ok (next a)) P
-cause-many P count k bytes rest next at why = cause-next P (adaptive_pixels_at count rest) (λ a. Ok (next a)) (cause-pixels P count k bytes rest at why.end why.late) (λ a is. tt)
-
-cause-one : (P : DecodeError → Type 0) (k : ℕ) (bytes rest : List ℕ) → At k bytes rest → Late P 1 k bytes → IfErr {T = List AdaptiveTemplatePixel × List ℕ} (adaptive_pixel_at rest >>= λ a. Ok (first_alone a.0, a.1)) P
-cause-one P k bytes rest at why =
-    let L : ℕ → Type 0 = λ i. IsLateIn i bytes in
-    cause-next P (adaptive_pixel_at rest) (λ a. Ok (first_alone a.0, a.1))
-    (cause-pixel P k bytes rest at (λ short. why.end (omega arith)) (λ whole is. why.late 0 (omega arith) (omega arith) (let here : k ≡ k + 2 * 0 = omega arith in subst L here is))) (λ a is. tt)
-
-regular : {A : Type 0} (P : DecodeError → Type 0) (template : Template) (k : ℕ) (bytes rest : List ℕ) (next : List AdaptiveTemplatePixel × List ℕ → A) → At k bytes rest → Late P (pixel_count false false template) k bytes → IfErr (regular_pixels_at template rest >>= λ a. Ok (next a)) P
-unfolding regular_pixels_at
-regular P Template0 k bytes rest next at why = cause-many P 4 k bytes rest next at why
-regular P Template1 k bytes rest next at why = cause-next P (adaptive_pixel_at rest >>= λ a. Ok (first_alone a.0, a.1)) (λ a. Ok (next a)) (cause-one P k bytes rest at why) (λ a is. tt)
-regular P Template2 k bytes rest next at why = cause-next P (adaptive_pixel_at rest >>= λ a. Ok (first_alone a.0, a.1)) (λ a. Ok (next a)) (cause-one P k bytes rest at why) (λ a is. tt)
-regular P Template3 k bytes rest next at why = cause-next P (adaptive_pixel_at rest >>= λ a. Ok (first_alone a.0, a.1)) (λ a. Ok (next a)) (cause-one P k bytes rest at why) (λ a is. tt)
-
-cause-template_at : (P : DecodeError → Type 0) (mmr extended : Bool) (template : Template) (k : ℕ) (bytes rest : List ℕ) → At k bytes rest → Late P (pixel_count mmr extended template) k bytes → IfErr (template_pixels_at mmr extended template rest) P
-unfolding template_pixels_at
-cause-template_at P true extended template k bytes rest at why = tt
-cause-template_at P false true Template0 k bytes rest at why = cause-many P 12 k bytes rest _ at why
-cause-template_at P false true Template1 k bytes rest at why = regular P Template1 k bytes rest _ at why
-cause-template_at P false true Template2 k bytes rest at why = regular P Template2 k bytes rest _ at why
-cause-template_at P false true Template3 k bytes rest at why = regular P Template3 k bytes rest _ at why
-cause-template_at P false false Template0 k bytes rest at why = regular P Template0 k bytes rest _ at why
-cause-template_at P false false Template1 k bytes rest at why = regular P Template1 k bytes rest _ at why
-cause-template_at P false false Template2 k bytes rest at why = regular P Template2 k bytes rest _ at why
-cause-template_at P false false Template3 k bytes rest at why = regular P Template3 k bytes rest _ at why
-
-pub cause-template : (P : DecodeError → Type 0) (mmr extended : Bool) (template : Template) (k : ℕ) (bytes rest : List ℕ) → At k bytes rest → (length bytes < k + 2 * pixel_count mmr extended template → P end_of_bytes) → ((i : ℕ) → i < pixel_count mmr extended template → k + 2 * i + 2 ≤ length bytes → IsLateIn (k + 2 * i) bytes → P (errors.Template InvalidAtPixel)) → IfErr (template_pixels_at mmr extended template rest) P
-cause-template P mmr extended template k bytes rest at at_end at_late =
-    cause-template_at P mmr extended template k bytes rest at (record { end = at_end; late = at_late })
-
 pub template_pixels_causes : TemplatePixelsHaveCauses
 template_pixels_causes mmr extended template bytes =
-    cause-template (BreaksPixels (pixel_count mmr extended template) 0 bytes) mmr extended template 0 bytes bytes (at-start bytes) (λ short. short) (λ i below whole is. (i, below, whole, is))
-
--- the bytes behind them
-many-there : {A : Type 0} (count k : ℕ) (bytes rest : List ℕ) (f : List AdaptiveTemplatePixel → A) (x : A × List ℕ) → At k bytes rest → (adaptive_pixels_at count rest >>= λ a. Ok (f a.0, a.1)) ≡ Ok x → At (k + 2 * count) bytes x.1
-many-there {A} count k bytes rest f x at is =
-    let a = went (adaptive_pixels_at count rest) (λ a. Ok (f a.0, a.1)) x is in
-    let made : A × List ℕ = (f a.0.0, a.0.1) in
-    let Q : List ℕ → Type 0 = λ l. At (k + 2 * count) bytes l in
-    subst Q (ap (λ (p : A × List ℕ). p.1) (same-ok made x a.2)) (pixels-there count k bytes rest a.0 at a.1)
-
-abbrev one-alone : List ℕ → Result (List AdaptiveTemplatePixel × List ℕ) DecodeError
-one-alone rest = adaptive_pixel_at rest >>= λ a. Ok (first_alone a.0, a.1)
-
-one-there : {A : Type 0} (k : ℕ) (bytes rest : List ℕ) (f : List AdaptiveTemplatePixel → A) (x : A × List ℕ) → At k bytes rest → (one-alone rest >>= λ a. Ok (f a.0, a.1)) ≡ Ok x → At (k + 2 * 1) bytes x.1
-one-there {A} k bytes rest f x at is =
-    let a = went (one-alone rest) (λ a. Ok (f a.0, a.1)) x is in
-    let p = went (adaptive_pixel_at rest) (λ a. Ok (first_alone a.0, a.1)) a.0 a.1 in
-    let one : List AdaptiveTemplatePixel × List ℕ = (first_alone p.0.0, p.0.1) in
-    let made : A × List ℕ = (f a.0.0, a.0.1) in
-    let Q : List ℕ → Type 0 = λ l. At (k + 2) bytes l in
-    at-place (k + 2) (k + 2 * 1) bytes x.1 (omega arith)
-    (subst Q (ap (λ (q : List AdaptiveTemplatePixel × List ℕ). q.1) (same-ok one a.0 p.2) ∙ ap (λ (q : A × List ℕ). q.1) (same-ok made x a.2)) (pixel-there k bytes rest p.0 at p.1))
-
-regular-there : {A : Type 0} (template : Template) (k : ℕ) (bytes rest : List ℕ) (f : List AdaptiveTemplatePixel → A) (x : A × List ℕ) → At k bytes rest → (regular_pixels_at template rest >>= λ a. Ok (f a.0, a.1)) ≡ Ok x → At (k + 2 * pixel_count false false template) bytes x.1
-unfolding regular_pixels_at
-regular-there Template0 k bytes rest f x at is = many-there 4 k bytes rest f x at is
-regular-there Template1 k bytes rest f x at is = one-there k bytes rest f x at is
-regular-there Template2 k bytes rest f x at is = one-there k bytes rest f x at is
-regular-there Template3 k bytes rest f x at is = one-there k bytes rest f x at is
-
-pub template-there : (mmr extended : Bool) (template : Template) (k : ℕ) (bytes rest : List ℕ) (x : GenericTemplatePixels × List ℕ) → At k bytes rest → template_pixels_at mmr extended template rest ≡ Ok x → At (k + 2 * pixel_count mmr extended template) bytes x.1
-unfolding template_pixels_at
-template-there true extended template k bytes rest x at is =
-    let A : List ℕ → Type 0 = λ l. At k bytes l in
-    at-place k (k + 2 * 0) bytes x.1 (omega arith) (subst A (ap (λ (p : GenericTemplatePixels × List ℕ). p.1) (same-ok _ x is)) at)
-template-there false true Template0 k bytes rest x at is = many-there 12 k bytes rest _ x at is
-template-there false true Template1 k bytes rest x at is = regular-there Template1 k bytes rest _ x at is
-template-there false true Template2 k bytes rest x at is = regular-there Template2 k bytes rest _ x at is
-template-there false true Template3 k bytes rest x at is = regular-there Template3 k bytes rest _ x at is
-template-there false false Template0 k bytes rest x at is = regular-there Template0 k bytes rest _ x at is
-template-there false false Template1 k bytes rest x at is = regular-there Template1 k bytes rest _ x at is
-template-there false false Template2 k bytes rest x at is = regular-there Template2 k bytes rest _ x at is
-template-there false false Template3 k bytes rest x at is = regular-there Template3 k bytes rest _ x at is
+    let count = adaptive_pixel_count mmr extended template in
+    cause-pixels (BreaksPixels count 0 bytes) count 0 bytes bytes (at-start bytes) (λ short. short) (λ i below whole is. (i, below, whole, is))
 
 -- ---- those of a refinement
 pub cause-refinement_pixels : (P : DecodeError → Type 0) (template : RefinementTemplate) (k : ℕ) (bytes rest : List ℕ) → At k bytes rest → (length bytes < k + 2 * refinement_pixel_count template → P end_of_bytes) → IfErr (refinement_pixels_at template rest) P

@@ -13,14 +13,12 @@ use Rattle.jbig2_region.specs.Generic.{generic_decoded}
 use Rattle.jbig2_region.specs.GenericHeader.{GenericHeader, generic_header_at, rows_at}
 use Rattle.jbig2_region.specs.Refinement.{offset, refined_decoded}
 use Rattle.jbig2_region.specs.RefinementHeader.{RefinementHeader, refinement_header_at}
-use Rattle.jbig2_region.specs.RefinementTemplates.{refinement_pixels_at}
+use Rattle.jbig2_region.specs.RefinementTemplates.{refinement_pixel_count, refinement_pixels_at}
 use Rattle.jbig2_region.specs.RegionInfo.{PlacedRegion, region_info_at}
-use Rattle.jbig2_region.specs.Templates.{template_of, template_pixels_at}
+use Rattle.jbig2_region.specs.Templates.{adaptive_pixel_count, adaptive_pixels_at, template_of}
 use Rattle.jbig2_region.specs.declared.region_info.RegionSegmentInfo.{RegionSegmentInfo}
 use Rattle.jbig2_region.specs.declared.template.RefinementTemplate.{RefinementTemplate}
-use Rattle.jbig2_region.specs.declared.template.RefinementTemplate.TheVariants as refinements
 use Rattle.jbig2_region.specs.declared.template.Template.{Template}
-use Rattle.jbig2_region.specs.declared.template.Template.TheVariants.{Template0}
 
 -- ---- region information (7.4.1)
 -- It has 17 bytes: the two sides and the place, four bytes each, and the flags.
@@ -51,17 +49,10 @@ BreaksPixels count place bytes (errors.Template InvalidAtPixel) =
     (k : ℕ) × (k < count) × (place + 2 * k + 2 ≤ length bytes) × IsLateIn (place + 2 * k) bytes
 BreaksPixels count place bytes _ = ⊥
 
--- how many a region has, by whether it is coded with MMR, the extended template is asked for, and the template
-abbrev pub pixel_count : Bool → Bool → Template → ℕ
-pixel_count true extended template = 0
-pixel_count false true Template0 = 12
-pixel_count false false Template0 = 4
-pixel_count false extended template = 1
-
 abbrev pub TemplatePixelsHaveCauses : Type 0
 TemplatePixelsHaveCauses =
     (mmr extended : Bool) (template : Template) (bytes : List ℕ)
-    → IfErr (template_pixels_at mmr extended template bytes) (BreaksPixels (pixel_count mmr extended template) 0 bytes)
+    → IfErr (adaptive_pixels_at (adaptive_pixel_count mmr extended template) bytes) (BreaksPixels (adaptive_pixel_count mmr extended template) 0 bytes)
 
 -- ---- generic regions (7.4.6)
 -- Where the length is unknown the last four bytes are the number of rows.
@@ -77,7 +68,7 @@ RowsHaveCauses =
 
 -- how many adaptive pixels these flags ask for
 abbrev pub pixels_by : ℕ → ℕ
-pixels_by flags = pixel_count (flags % 2 == 1) (flags / 16 % 2 == 1) (template_of (flags / 2 % 4))
+pixels_by flags = adaptive_pixel_count (flags % 2 == 1) (flags / 16 % 2 == 1) (template_of (flags / 2 % 4))
 
 -- The header: region information, the flags at byte 17, and the adaptive pixels from byte 18 on.
 abbrev pub header_length : List ℕ → ℕ
@@ -104,11 +95,7 @@ GenericHeadersHaveCauses =
     → IfErr (generic_header_at unknown_length strict bytes) (BreaksGenericHeader unknown_length bytes)
 
 -- ---- refinements (7.4.7)
--- two adaptive pixels at template 0, which may lie anywhere, and none at template 1
-abbrev pub refinement_pixel_count : RefinementTemplate → ℕ
-refinement_pixel_count refinements.Template0 = 2
-refinement_pixel_count refinements.Template1 = 0
-
+-- their adaptive pixels may lie anywhere
 abbrev pub BreaksRefinementPixels : RefinementTemplate → List ℕ → DecodeError → Type 0
 BreaksRefinementPixels template bytes (errors.Parse UnexpectedEof) = length bytes < 2 * refinement_pixel_count template
 BreaksRefinementPixels template bytes _ = ⊥

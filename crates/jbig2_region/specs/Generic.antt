@@ -36,7 +36,7 @@ coding_of typical template pixels = record {
 }
 
 abbrev pub generic_coding : GenericHeader → Coding
-generic_coding h = coding_of h.tpgdon h.template (template_pixels h.template h.adaptive_template_pixels)
+generic_coding h = coding_of h.tpgdon h.template (template_pixels h.extended h.template h.adaptive_template_pixels)
 
 -- the region and what the coder has come to, from fresh contexts
 unfoldable pub generic_region : GenericHeader → Region

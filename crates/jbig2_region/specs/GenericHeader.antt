@@ -9,20 +9,21 @@ use Rattle.jbig2_base.specs.declared.error.DecodeError.TheVariants as errors
 use Rattle.jbig2_base.specs.declared.error.OverflowError.TheVariants.{BitmapDimension}
 use Rattle.jbig2_base.specs.declared.error.RegionError.TheVariants.{InvalidDimension}
 use Rattle.jbig2_region.specs.RegionInfo.{region_info_at}
-unfoldable pub use Rattle.jbig2_region.specs.Templates.{FitsTemplate, adaptive_pixel_at, regular_pixels_at, template_pixels_at}
-use Rattle.jbig2_region.specs.Templates.{template_of}
+unfoldable pub use Rattle.jbig2_region.specs.Templates.{FitsTemplate, adaptive_pixel_at, adaptive_pixels_at}
+use Rattle.jbig2_region.specs.Templates.{adaptive_pixel_count, is_extended, pixels_view, takes_extended, template_of}
 use Rattle.jbig2_region.specs.declared.generic.GenericRegionHeader.{GenericRegionHeader}
 use Rattle.jbig2_region.specs.declared.region_info.RegionSegmentInfo.{RegionSegmentInfo}
 use Rattle.jbig2_region.specs.declared.template.Template.{Template}
-use Rattle.jbig2_region.specs.declared.template.GenericTemplatePixels.{GenericTemplatePixels}
+use Rattle.jbig2_region.specs.declared.template.AdaptiveTemplatePixel.{AdaptiveTemplatePixel}
 
 -- What a generic region's coded bytes are decoded by.
 pub record GenericHeader : Type 0 where
   pub region_info : RegionSegmentInfo
   pub mmr : Bool
   pub template : Template
+  pub extended : Bool
   pub tpgdon : Bool
-  pub adaptive_template_pixels : GenericTemplatePixels
+  pub adaptive_template_pixels : List AdaptiveTemplatePixel
   pub bytes : List ℕ
   pub strict : Bool
 
@@ -31,8 +32,9 @@ header_view h = record {
   region_info = h.region_info;
   mmr = h.mmr;
   template = h.template;
+  extended = is_extended h.adaptive_template_pixels;
   tpgdon = h.tpgdon;
-  adaptive_template_pixels = h.adaptive_template_pixels;
+  adaptive_template_pixels = pixels_view h.mmr h.template h.adaptive_template_pixels;
   bytes = h.bytes.now;
   strict = h.strict;
 }
@@ -51,14 +53,18 @@ unfoldable pub generic_header_at : Bool → Bool → List ℕ → Result (Generi
 generic_header_at unknown_length strict bytes = do
   info ← region_info_at bytes
   flags ← number_at w8 info.1
-  pixels ← template_pixels_at (flags.0 % 2 == 1) (flags.0 / 16 % 2 == 1) (template_of (flags.0 / 2 % 4)) flags.1
+  let mmr = flags.0 % 2 == 1
+  let extended = flags.0 / 16 % 2 == 1
+  let template = template_of (flags.0 / 2 % 4)
+  pixels ← adaptive_pixels_at (adaptive_pixel_count mmr extended template) flags.1
   rows ← rows_at unknown_length info.0.height pixels.1
   fits ← refuse_if (nat_lt 65535 info.0.width || nat_lt 65535 rows.0) (errors.Overflow BitmapDimension)
   Ok (
     record {
       region_info = record info.0 { height = rows.0 };
-      mmr = flags.0 % 2 == 1;
-      template = template_of (flags.0 / 2 % 4);
+      mmr = mmr;
+      template = template;
+      extended = takes_extended mmr extended template;
       tpgdon = flags.0 / 8 % 2 == 1;
       adaptive_template_pixels = pixels.0;
       bytes = rows.1;
@@ -71,4 +77,4 @@ generic_header_at unknown_length strict bytes = do
 pub record IsParsed (h : GenericHeader) : Type 0 where
   pub columns : h.region_info.width ≤ 65535
   pub rows : h.region_info.height ≤ 65535
-  pub pixels : FitsTemplate h.adaptive_template_pixels h.template
+  pub pixels : FitsTemplate h.extended h.template

@@ -63,7 +63,7 @@ refined_coding template typical in_reference in_region r = record {
   row_context = (if typical then Some (refinement_row_context template) else None);
 }
 
--- by the two adaptive pixels
+-- by the adaptive pixels
 abbrev pub refinement_coding : RefinementTemplate → Bool → List AdaptiveTemplatePixel → Reference → Coding
 refinement_coding template typical a r =
     refined_coding template typical (reference_pixels template a) (region_pixels template a) r

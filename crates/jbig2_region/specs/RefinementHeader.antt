@@ -8,6 +8,7 @@ use Rattle.jbig2_base.specs.declared.error.DecodeError.{DecodeError}
 use Rattle.jbig2_base.specs.declared.error.DecodeError.TheVariants as errors
 use Rattle.jbig2_base.specs.declared.error.OverflowError.TheVariants.{BitmapDimension}
 unfoldable pub use Rattle.jbig2_region.specs.RefinementTemplates.{refinement_pixels_at, refinement_template_of}
+use Rattle.jbig2_region.specs.RefinementTemplates.{two_pixels}
 use Rattle.jbig2_region.specs.RegionInfo.{region_info_at}
 use Rattle.jbig2_region.specs.declared.generic_refinement.GenericRefinementRegionHeader.{GenericRefinementRegionHeader}
 use Rattle.jbig2_region.specs.declared.region_info.RegionSegmentInfo.{RegionSegmentInfo}
@@ -27,7 +28,7 @@ header_view h = record {
   region_info = h.region_info;
   template = h.template;
   tpgron = h.tpgron;
-  adaptive_template_pixels = h.adaptive_template_pixels;
+  adaptive_template_pixels = two_pixels h.template h.adaptive_template_pixels;
   bytes = h.bytes.now;
 }
 

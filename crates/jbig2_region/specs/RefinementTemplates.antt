@@ -1,10 +1,10 @@
 -- The templates of refinements (T.88, 6.3.5.3, Figures 12 and 13): for each bit of a context's number, bit 0 first, the
 -- pixel of the reference or of the region that it is taken from. How a segment holds the adaptive pixels (7.4.7.3) and
 -- the context in which a row begins stand here too.
-use Rattle.std.specs.Prelude.{ℕ, ◌==◌, List, [], ◌∷◌, ℤ, pos, negsuc, Result, Ok, if◌then◌else◌}
+use Rattle.std.specs.Prelude.{ℕ, ◌==◌, List, [], ◌∷◌, take, ℤ, pos, negsuc, Result, Ok, if◌then◌else◌}
 use Rattle.jbig2_base.specs.Answer.{◌>>=◌}
 use Rattle.jbig2_base.specs.declared.error.DecodeError.{DecodeError}
-use Rattle.jbig2_region.specs.Templates.{adaptive, free_pixel_at, right}
+use Rattle.jbig2_region.specs.Templates.{adaptive, free_pixel_at}
 use Rattle.jbig2_region.specs.declared.template.AdaptiveTemplatePixel.{AdaptiveTemplatePixel}
 use Rattle.jbig2_region.specs.declared.template.RefinementTemplate.{RefinementTemplate}
 use Rattle.jbig2_region.specs.declared.template.RefinementTemplate.TheVariants.{Template0, Template1}
@@ -45,11 +45,19 @@ abbrev pub refinement_row_context : RefinementTemplate → ℕ
 refinement_row_context Template0 = 0x0010
 refinement_row_context Template1 = 0x0008
 
--- The adaptive pixels (7.4.7.3): two at template 0, whose places are not checked; none at template 1, where the two
--- are without meaning.
+-- how many adaptive pixels a template has (6.3.5.3)
+abbrev pub refinement_pixel_count : RefinementTemplate → ℕ
+refinement_pixel_count Template0 = 2
+refinement_pixel_count Template1 = 0
+
+-- The adaptive pixels (7.4.7.3): two at template 0, whose places are not checked, and none at template 1.
 unfoldable pub refinement_pixels_at : RefinementTemplate → List ℕ → Result (List AdaptiveTemplatePixel × List ℕ) DecodeError
 refinement_pixels_at Template0 bytes = do
   first ← free_pixel_at bytes
   second ← free_pixel_at first.1
   Ok (first.0 ∷ second.0 ∷ [], second.1)
-refinement_pixels_at Template1 bytes = Ok (right 0 0 ∷ right 0 0 ∷ [], bytes)
+refinement_pixels_at Template1 bytes = Ok ([], bytes)
+
+-- those of the code's array of two that a template has
+abbrev pub two_pixels : RefinementTemplate → List AdaptiveTemplatePixel → List AdaptiveTemplatePixel
+two_pixels template a = take (refinement_pixel_count template) a

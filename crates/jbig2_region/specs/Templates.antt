@@ -1,7 +1,8 @@
 -- The templates of generic regions (T.88, 6.2.5.3, Figures 3 to 6 and the extended one of 6.2.5.3): for each bit of a
--- context's number, bit 0 first, the pixel that it is taken from. All that a template is stands here: its pixels, where
--- its adaptive pixels lie by default (6.2.5.4), how a segment holds these (7.4.6.3), and the context in which a row begins.
-use Rattle.std.specs.Prelude.{ℕ, ◌==◌, ◌≡◌, Bool, true, false, not, ◌&&◌, ◌||◌, ℤ, pos, negsuc, ◌-ℤ◌, int_lt, int_le, List, [], ◌∷◌, zero, suc, slice_index_or, if◌then◌else◌, Result, Ok}
+-- context's number, bit 0 first, the pixel that it is taken from. All that a template is stands here: its pixels, how many
+-- of them are adaptive (6.2.5.4) and where they lie by default, how a segment holds these (7.4.6.3), and the context in
+-- which a row begins.
+use Rattle.std.specs.Prelude.{ℕ, ◌==◌, ◌≡◌, Bool, true, false, not, ◌&&◌, ◌||◌, ℤ, pos, negsuc, ◌-ℤ◌, int_lt, int_le, List, [], ◌∷◌, zero, suc, slice_index_or, take, if◌then◌else◌, Result, Ok}
 use Rattle.std.specs.Int.{w8}
 use Rattle.std.specs.Ordering.{int_eq}
 use Rattle.jbig2_base.specs.Answer.{◌>>=◌, refuse_if}
@@ -31,6 +32,15 @@ left columns rows = record { x = pos 0 -ℤ pos columns; y = pos 0 -ℤ pos rows
 
 abbrev pub right : ℕ → ℕ → AdaptiveTemplatePixel
 right columns rows = record { x = pos columns; y = pos 0 -ℤ pos rows }
+
+-- How many adaptive pixels there are (6.2.5.4), by whether a region is coded with MMR, whether the extended template is
+-- asked for (EXTTEMPLATE), and the template: none with MMR, twelve with the extended template 0, four with template 0,
+-- and else one.
+abbrev pub adaptive_pixel_count : Bool → Bool → Template → ℕ
+adaptive_pixel_count true extended template = 0
+adaptive_pixel_count false true Template0 = 12
+adaptive_pixel_count false false Template0 = 4
+adaptive_pixel_count false extended template = 1
 
 -- adaptive pixel k + 1
 abbrev pub adaptive : List AdaptiveTemplatePixel → ℕ → AdaptiveTemplatePixel
@@ -66,12 +76,13 @@ extended_template_0 a =
     ∷ adaptive a 5 ∷ right 1 1 ∷ right 0 1 ∷ left 1 1 ∷ adaptive a 2 ∷ adaptive a 11
     ∷ adaptive a 8 ∷ adaptive a 4 ∷ adaptive a 1 ∷ adaptive a 3 ∷ adaptive a 10 ∷ []
 
-abbrev pub template_pixels : Template → GenericTemplatePixels → List AdaptiveTemplatePixel
-template_pixels _ (Extended a) = extended_template_0 a
-template_pixels Template0 (Regular a) = template_0 a
-template_pixels Template1 (Regular a) = template_1 a
-template_pixels Template2 (Regular a) = template_2 a
-template_pixels Template3 (Regular a) = template_3 a
+-- by whether the template is the extended one, the template, and its adaptive pixels
+abbrev pub template_pixels : Bool → Template → List AdaptiveTemplatePixel → List AdaptiveTemplatePixel
+template_pixels true _ a = extended_template_0 a
+template_pixels false Template0 a = template_0 a
+template_pixels false Template1 a = template_1 a
+template_pixels false Template2 a = template_2 a
+template_pixels false Template3 a = template_3 a
 
 -- the context of the decision that begins a row under typical prediction (6.2.5.7)
 abbrev pub row_context : Template → ℕ
@@ -110,7 +121,7 @@ adaptive_pixel_at bytes = do
   earlier ← refuse_if (not (is_earlier pixel.0)) (errors.Template InvalidAtPixel)
   Ok pixel
 
--- so many of them
+-- So many of them (7.4.6.3): as many as `adaptive_pixel_count` says.
 abbrev pub adaptive_pixels_at : ℕ → List ℕ → Result (List AdaptiveTemplatePixel × List ℕ) DecodeError
 adaptive_pixels_at zero bytes = Ok ([], bytes)
 adaptive_pixels_at (suc count) bytes = do
@@ -118,23 +129,34 @@ adaptive_pixels_at (suc count) bytes = do
   others ← adaptive_pixels_at count first.1
   Ok (first.0 ∷ others.0, others.1)
 
--- with a first pixel alone, the other three are without meaning
-abbrev pub first_alone : AdaptiveTemplatePixel → List AdaptiveTemplatePixel
-first_alone first = first ∷ right 0 0 ∷ right 0 0 ∷ right 0 0 ∷ []
-
--- those of a template that is not extended: four at template 0, else one
-unfoldable pub regular_pixels_at : Template → List ℕ → Result (List AdaptiveTemplatePixel × List ℕ) DecodeError
-regular_pixels_at Template0 bytes = adaptive_pixels_at 4 bytes
-regular_pixels_at _ bytes = adaptive_pixel_at bytes >>= λ a. Ok (first_alone a.0, a.1)
-
--- The adaptive pixels of a region (7.4.6.3), by whether it is coded with MMR, whether the extended template is
--- asked for, and the template: none with MMR, and twelve with the extended template 0.
-unfoldable pub template_pixels_at : Bool → Bool → Template → List ℕ → Result (GenericTemplatePixels × List ℕ) DecodeError
-template_pixels_at true _ _ bytes = Ok (Regular (first_alone (right 0 0)), bytes)
-template_pixels_at false true Template0 bytes = adaptive_pixels_at 12 bytes >>= λ a. Ok (Extended a.0, a.1)
-template_pixels_at false _ template bytes = regular_pixels_at template bytes >>= λ a. Ok (Regular a.0, a.1)
+-- whether the extended template is taken: where it is asked for, at template 0, and without MMR
+abbrev pub takes_extended : Bool → Bool → Template → Bool
+takes_extended false true Template0 = true
+takes_extended _ _ _ = false
 
 -- the extended template is template 0
-abbrev pub FitsTemplate : GenericTemplatePixels → Template → Type 0
-FitsTemplate (Regular _) template = Unit {0}
-FitsTemplate (Extended _) template = template ≡ Template0
+abbrev pub FitsTemplate : Bool → Template → Type 0
+FitsTemplate false template = Unit {0}
+FitsTemplate true template = template ≡ Template0
+
+-- ---- the code's arrays, which hold four pixels or twelve: a region has the first so many of these
+abbrev pub four_pixels : Template → List AdaptiveTemplatePixel → List AdaptiveTemplatePixel
+four_pixels template a = take (adaptive_pixel_count false false template) a
+
+abbrev pub is_extended : GenericTemplatePixels → Bool
+is_extended (Regular a) = false
+is_extended (Extended a) = true
+
+abbrev pub pixels_view : Bool → Template → GenericTemplatePixels → List AdaptiveTemplatePixel
+pixels_view mmr template (Regular a) = take (adaptive_pixel_count mmr false template) a
+pixels_view mmr template (Extended a) = take (adaptive_pixel_count mmr true template) a
+
+-- An array of so many pixels that begins with these. The others lie at (0, 0), and no template takes them.
+abbrev pub filled : ℕ → List AdaptiveTemplatePixel → List AdaptiveTemplatePixel
+filled zero a = []
+filled (suc count) [] = right 0 0 ∷ filled count []
+filled (suc count) (first ∷ others) = first ∷ filled count others
+
+abbrev pub IsFilled : GenericTemplatePixels → List AdaptiveTemplatePixel → Type 0
+IsFilled (Regular a) pixels = a ≡ filled 4 pixels
+IsFilled (Extended a) pixels = a ≡ filled 12 pixels

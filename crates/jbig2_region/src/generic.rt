@@ -8,6 +8,7 @@ ghost use Rattle.jbig2_region.specs.RegionInfo.{IsWhiteFor, region_view};
 ghost use Rattle.jbig2_region.specs.inner.Layouts.{CountsGeneric};
 ghost use Rattle.jbig2_region.specs.Causes.{GenericHeadersHaveCauses, GenericRegionsHaveCauses, RowsHaveCauses};
 ghost use Rattle.jbig2_region.specs.GenericHeader.{header_view, rows_at, generic_header_at, IsParsed};
+ghost use Rattle.jbig2_region.specs.Templates.{IsFilled};
 
 pub use crate::generic_coding::decode_coded;
 use crate::raster::fresh_contexts;
@@ -78,6 +79,8 @@ pub fn parse<'a>(
     ensures parses { Parses reader.old reader.new result header_view
         (generic_header_at unknown_length strict reader.old.bytes) }
     ensures parsed { IfOk result (λ h. IsParsed (header_view h)) }
+    ensures unused { IfOk result (λ h. IsFilled h.adaptive_template_pixels
+        (header_view h).adaptive_template_pixels) }
     ensures causes { GenericHeadersHaveCauses }
 {
     let mut ahead = reader.duplicate();

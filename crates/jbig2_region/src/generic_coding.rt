@@ -8,8 +8,7 @@ ghost use Rattle.jbig2_region.specs.Generic.{context_at, coding_of};
 ghost use Rattle.jbig2_region.specs.Skipping.{skip_of, white_if_skipped};
 ghost use Rattle.jbig2_region.specs.inner.Layouts.{CountsCoded, read_pixels};
 ghost use Rattle.jbig2_region.specs.RunBytes.{CountsRegion};
-ghost use Rattle.jbig2_region.specs.Templates.{FitsTemplate, context_bits, is_nominal, template_pixels};
-ghost use Rattle.jbig2_region.specs.declared.template.GenericTemplatePixels.TheVariants.{Regular};
+ghost use Rattle.jbig2_region.specs.Templates.{FitsTemplate, context_bits, is_extended, is_nominal, pixels_view, template_pixels};
 
 use crate::generic_kernel::decode_layout;
 use crate::raster::{PixelCoding, Row, decode_region, pixel_at};
@@ -168,13 +167,16 @@ pub fn decode_coded<A: Allocator, L: Ledger>(
     contexts: &mut [ArithmeticDecoderContext],
     steps: &mut Steps<L>,
 )
-    requires fits { FitsTemplate adaptive.now template }
+    requires fits { FitsTemplate (is_extended adaptive.now) template }
     requires ready { IsReady (context_bits template) bitmap.old contexts.old }
-    ensures holds { DecodesRegion
-        (coding_of typical template (template_pixels template adaptive.now))
+    ensures holds { let extended = is_extended adaptive.now in
+        let pixels = template_pixels extended template (pixels_view false template adaptive.now) in
+        DecodesRegion (coding_of typical template pixels)
         bitmap.old decoder.old contexts.old bitmap.new decoder.new contexts.new }
-    ensures steps { CountsCoded template adaptive.now
-        (coding_of typical template (template_pixels template adaptive.now))
+    ensures steps { let extended = is_extended adaptive.now in
+        let used = pixels_view false template adaptive.now in
+        let pixels = template_pixels extended template used in
+        CountsCoded extended template used (coding_of typical template pixels)
         bitmap.old.width bitmap.old.height decoder.old.bytes
         (no_pixels decoder.old.registers contexts.old) steps.old steps.new }
 {

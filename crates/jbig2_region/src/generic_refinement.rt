@@ -8,6 +8,7 @@ ghost use Rattle.jbig2_region.specs.RegionInfo.{IsWhiteFor, region_view};
 ghost use Rattle.jbig2_region.specs.Refinement.{is_far, is_smaller, offset, refined_answer, refined_contexts, refined_decoded};
 ghost use Rattle.jbig2_region.specs.RefinementSteps.{CountsRefined};
 ghost use Rattle.jbig2_region.specs.RefinementHeader.{IsRefinement, header_view, refinement_header_at};
+ghost use Rattle.jbig2_region.specs.Templates.{filled};
 
 use crate::raster::fresh_contexts;
 pub use crate::refinement_coding::decode_bitmap;
@@ -57,6 +58,8 @@ pub fn parse<'a>(reader: &mut Reader<'a>) -> Result<GenericRefinementRegionHeade
     ensures parses { Parses reader.old reader.new result header_view
         (refinement_header_at reader.old.bytes) }
     ensures parsed { IfOk result (λ h. IsRefinement (header_view h)) }
+    ensures unused { IfOk result (λ h. h.adaptive_template_pixels
+        ≡ filled 2 (header_view h).adaptive_template_pixels) }
     ensures causes { RefinementHeadersHaveCauses }
 {
     let mut ahead = reader.duplicate();

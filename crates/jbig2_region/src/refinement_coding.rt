@@ -8,7 +8,7 @@ ghost use Rattle.jbig2_region.specs.RefinementSteps.{refinement_loads};
 ghost use Rattle.jbig2_region.specs.inner.Holds.{DecodesRegion, IsReady};
 ghost use Rattle.jbig2_region.specs.inner.RefinementViews.{reference_view};
 ghost use Rattle.jbig2_region.specs.Refinement.{nine, common_colour, reference_pixel, refinement_coding};
-ghost use Rattle.jbig2_region.specs.RefinementTemplates.{refinement_bits};
+ghost use Rattle.jbig2_region.specs.RefinementTemplates.{refinement_bits, two_pixels};
 
 use crate::generic_coding::context_at;
 use crate::generic_refinement::ReferenceBitmap;
@@ -218,12 +218,12 @@ pub fn decode_bitmap<A: Allocator, B: Allocator, L: Ledger>(
     steps: &mut Steps<L>,
 )
     requires { IsReady (refinement_bits template) bitmap.old contexts.old }
-    ensures holds { DecodesRegion
-        (refinement_coding template typical adaptive.now (reference_view reference.now))
+    ensures holds { let from = reference_view reference.now in
+        DecodesRegion (refinement_coding template typical (two_pixels template adaptive.now) from)
         bitmap.old decoder.old contexts.old bitmap.new decoder.new contexts.new }
-    ensures steps { CountsDecided
-        (refinement_coding template typical adaptive.now (reference_view reference.now))
-        (refinement_loads template adaptive.now bitmap.old.width) bitmap.old.width bitmap.old.height
+    ensures steps { let pixels = two_pixels template adaptive.now in
+        CountsDecided (refinement_coding template typical pixels (reference_view reference.now))
+        (refinement_loads template pixels bitmap.old.width) bitmap.old.width bitmap.old.height
         decoder.old.bytes
         (no_pixels decoder.old.registers contexts.old) steps.old steps.new }
 {

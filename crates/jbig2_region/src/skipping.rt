@@ -1,9 +1,8 @@
 //! Generic regions of which pixels are skipped (T.88, 6.2.5.7), as the planes of a gray-scale image.
-ghost use Rattle.std.specs.Prelude.{◌≡◌, true};
+ghost use Rattle.std.specs.Prelude.{◌≡◌, false, true};
 ghost use Rattle.jbig2_region.specs.inner.Holds.{DecodesRegion, IsReady};
 ghost use Rattle.jbig2_region.specs.Skipping.{CountsSkipping, skipping_coding, skip_of};
-ghost use Rattle.jbig2_region.specs.Templates.{context_bits, is_nominal, template_pixels};
-ghost use Rattle.jbig2_region.specs.declared.template.GenericTemplatePixels.TheVariants.{Regular};
+ghost use Rattle.jbig2_region.specs.Templates.{context_bits, four_pixels, is_nominal, template_pixels};
 
 mod rows;
 
@@ -33,10 +32,11 @@ pub fn decode_skipping<M: Allocator, A: Allocator, L: Ledger>(
     steps: &mut Steps<L>,
 )
     requires { IsReady (context_bits template) bitmap.old contexts.old }
-    ensures holds { DecodesRegion
-        (skipping_coding (template_pixels template (Regular adaptive.now)) (skip_of skip.entry))
+    ensures holds { let used = four_pixels template adaptive.now in
+        let pixels = template_pixels false template used in
+        DecodesRegion (skipping_coding pixels (skip_of skip.entry))
         bitmap.old decoder.old contexts.old bitmap.new decoder.new contexts.new }
-    ensures steps { is_nominal template adaptive.now ≡ true
+    ensures steps { is_nominal template (four_pixels template adaptive.now) ≡ true
         → CountsSkipping (skip_of skip.entry) bitmap.old.width bitmap.old.height steps.old
         steps.new }
 {

@@ -7,7 +7,7 @@ use Rattle.jbig2_coder.specs.PrefixCode.{Member}
 use Rattle.jbig2_coder.specs.declared.integer_procedures.IntegerProcedure.{IntegerProcedure}
 use Rattle.jbig2_coder.proofs.Answered.{answered-decoded, answered-next_custom, answered-table_of}
 use Rattle.jbig2_mmr.proofs.Answered.{answered-mmr}
-use Rattle.jbig2_region.proofs.Answered.{answered-refinement_pixels, answered-regular}
+use Rattle.jbig2_region.proofs.Answered.{answered-pixels, answered-refinement_pixels}
 use Rattle.jbig2_text.specs.Refining.{Refining}
 use Rattle.jbig2_text.specs.Text.{Readings, TextParams}
 use Rattle.jbig2_text.specs.TextCoding.{Prefixed, by_coder, by_prefix_codes, next_id}
@@ -35,7 +35,7 @@ unfolding symbol_flags_of
 answered-flags flags = search (answered-next, answered-height_selection, answered-width_selection)
 
 answered-coded_pixels : (flags : SymbolDictionaryFlags) (bytes : List ℕ) → Answered (coded_pixels_at flags bytes)
-answered-coded_pixels flags bytes = search (answered-if, answered-regular)
+answered-coded_pixels flags bytes = search (answered-if, answered-pixels)
 
 answered-refined_pixels : (flags : SymbolDictionaryFlags) (bytes : List ℕ) → Answered (refined_pixels_at flags bytes)
 answered-refined_pixels flags bytes = search (answered-if, answered-refinement_pixels)

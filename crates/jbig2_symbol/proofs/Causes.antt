@@ -12,9 +12,9 @@ use Rattle.jbig2_base.specs.declared.error.DecodeError.TheVariants as errors
 use Rattle.jbig2_base.specs.declared.error.HuffmanError.TheVariants.{InvalidSelection}
 use Rattle.jbig2_base.specs.declared.error.OverflowError.TheVariants.{SymbolCount}
 use Rattle.jbig2_base.specs.declared.error.TemplateError.TheVariants.{InvalidAtPixel}
-use Rattle.jbig2_region.specs.GenericHeader.{adaptive_pixel_at, regular_pixels_at}
+use Rattle.jbig2_region.specs.GenericHeader.{adaptive_pixel_at}
 use Rattle.jbig2_region.specs.RefinementHeader.{refinement_pixels_at, refinement_template_of}
-use Rattle.jbig2_region.specs.Templates.{adaptive_pixels_at, free_pixel_at, is_earlier, right, template_of}
+use Rattle.jbig2_region.specs.Templates.{adaptive_pixel_count, adaptive_pixels_at, free_pixel_at, is_earlier, template_of}
 use Rattle.jbig2_region.specs.declared.template.AdaptiveTemplatePixel.{AdaptiveTemplatePixel}
 use Rattle.jbig2_region.specs.declared.template.RefinementTemplate.{RefinementTemplate}
 use Rattle.jbig2_region.specs.declared.template.RefinementTemplate.TheVariants as refinements
@@ -106,38 +106,36 @@ meets-pixels P (suc count) bytes rest k from why later =
     meets-next (At bytes (k + 2)) (At bytes n) P (adaptive_pixel_at rest) _ (meets-adaptive P bytes rest k from (λ short. why (omega (arith, short))) later) (λ first at.
     meets-next (At bytes (k + 2 + 2 * count)) (At bytes n) P (adaptive_pixels_at count first.1) _ (meets-pixels P count bytes first.1 (k + 2) at (λ short. why (omega (arith, short))) later) (λ others behind. subst (λ (m : ℕ). From bytes m others.1) same behind))
 
-abbrev bytes_of : Template → ℕ
-bytes_of Template0 = 8
-bytes_of _ = 2
+abbrev count_of : Template → ℕ
+count_of template = adaptive_pixel_count false false template
 
-meets-regular : (P : DecodeError → Type 0) (t : Template) (bytes rest : List ℕ) (k : ℕ) → From bytes k rest → (length bytes < k + 8 → P end_of_bytes) → P (errors.Template InvalidAtPixel) → Meets (regular_pixels_at t rest) (At bytes (k + bytes_of t)) P
-unfolding regular_pixels_at
-meets-regular P Template0 bytes rest k from why later = meets-pixels P 4 bytes rest k from why later
-meets-regular P Template1 bytes rest k from why later = meets-next (At bytes (k + 2)) (At bytes (k + 2)) P (adaptive_pixel_at rest) _ (meets-adaptive P bytes rest k from (λ short. why (omega (arith, short))) later) (λ a at. at)
-meets-regular P Template2 bytes rest k from why later = meets-next (At bytes (k + 2)) (At bytes (k + 2)) P (adaptive_pixel_at rest) _ (meets-adaptive P bytes rest k from (λ short. why (omega (arith, short))) later) (λ a at. at)
-meets-regular P Template3 bytes rest k from why later = meets-next (At bytes (k + 2)) (At bytes (k + 2)) P (adaptive_pixel_at rest) _ (meets-adaptive P bytes rest k from (λ short. why (omega (arith, short))) later) (λ a at. at)
-
-template-bytes : (m : ℕ) → bytes_of (template_of m) ≡ (if m == 0 then 8 else 2)
+template-bytes : (m : ℕ) → 2 * count_of (template_of m) ≡ (if m == 0 then 8 else 2)
 template-bytes m = on (m == 0) (m == 1) (m == 2)
   where
-    on : (a b c : Bool) → bytes_of (if a then Template0 else if b then Template1 else if c then Template2 else Template3) ≡ (if a then 8 else 2)
+    on : (a b c : Bool) → 2 * count_of (if a then Template0 else if b then Template1 else if c then Template2 else Template3) ≡ (if a then 8 else 2)
     on true b c = refl
     on false true c = refl
     on false false true = refl
     on false false false = refl
 
+few : (template : Template) → count_of template ≤ 4
+few Template0 = omega arith
+few Template1 = omega arith
+few Template2 = omega arith
+few Template3 = omega arith
+
 -- those of the symbols' bitmaps, by whether there are none
 meets-coded : (P : DecodeError → Type 0) (plain : Bool) (m : ℕ) (none : List AdaptiveTemplatePixel) (bytes rest : List ℕ) → From bytes 2 rest → (length bytes < 22 → P end_of_bytes)
-    → (plain ≡ false → IsOf (regular_pixels_at (template_of m) (drop 2 bytes)) (errors.Template InvalidAtPixel) → P (errors.Template InvalidAtPixel))
-    → Meets (if plain then Ok (none, rest) else regular_pixels_at (template_of m) rest) (At bytes (2 + (if plain then 0 else if m == 0 then 8 else 2))) P
+    → (plain ≡ false → IsOf (adaptive_pixels_at (count_of (template_of m)) (drop 2 bytes)) (errors.Template InvalidAtPixel) → P (errors.Template InvalidAtPixel))
+    → Meets (if plain then Ok (none, rest) else adaptive_pixels_at (count_of (template_of m)) rest) (At bytes (2 + (if plain then 0 else if m == 0 then 8 else 2))) P
 meets-coded P true m none bytes rest from why later = from
 meets-coded P false m none bytes rest from why later =
     let t = template_of m in
-    let r = regular_pixels_at t rest in
-    let size : 2 + bytes_of t ≡ 2 + (if m == 0 then 8 else 2) = ap (λ (n : ℕ). 2 + n) (template-bytes m) in
+    let r = adaptive_pixels_at (count_of t) rest in
+    let size : 2 + 2 * count_of t ≡ 2 + (if m == 0 then 8 else 2) = ap (λ (n : ℕ). 2 + n) (template-bytes m) in
     let own : DecodeError → Type 0 = λ e. r ≡ Err e → P e in
     subst (λ (n : ℕ). Meets r (At bytes n) P) size
-    (meets-own (At bytes (2 + bytes_of t)) P r (meets-regular own t bytes rest 2 from (λ short is. why (omega (arith, short))) (λ is. later refl (ap (λ (bs : List ℕ). regular_pixels_at t bs) (sym from.same) ∙ is))))
+    (meets-own (At bytes (2 + 2 * count_of t)) P r (meets-pixels own (count_of t) bytes rest 2 from (λ short is. why (omega (arith, short, few t))) (λ is. later refl (ap (λ (bs : List ℕ). adaptive_pixels_at (count_of t) bs) (sym from.same) ∙ is))))
 
 -- those of refinements
 meets-refinement : (P : DecodeError → Type 0) (m : ℕ) (bytes rest : List ℕ) (k : ℕ) → From bytes k rest → (length bytes < k + 4 → P end_of_bytes) → Meets (refinement_pixels_at (refinement_template_of m) rest) (At bytes (k + (if m == 0 then 4 else 0))) P
@@ -204,19 +202,19 @@ refinement-room n = on (n / 2 % 2 == 1 && n / 4096 % 2 == 0)
     on false = omega arith
 
 coded-here : (P : DecodeError → Type 0) (n : ℕ) (flags : SymbolDictionaryFlags) (bytes rest : List ℕ) → FlagsOf n flags → From bytes 2 rest → (length bytes < 22 → P end_of_bytes)
-    → ((n % 2 == 1) ≡ false → IsOf (regular_pixels_at (template_of (n / 1024 % 4)) (drop 2 bytes)) (errors.Template InvalidAtPixel) → P (errors.Template InvalidAtPixel))
+    → ((n % 2 == 1) ≡ false → IsOf (adaptive_pixels_at (count_of (template_of (n / 1024 % 4))) (drop 2 bytes)) (errors.Template InvalidAtPixel) → P (errors.Template InvalidAtPixel))
     → Meets (coded_pixels_at flags rest) (At bytes (2 + pixel_bytes n)) P
 coded-here P n flags bytes rest is from why later =
-    let none : List AdaptiveTemplatePixel = right 0 0 ∷ right 0 0 ∷ right 0 0 ∷ right 0 0 ∷ [] in
+    let none : List AdaptiveTemplatePixel = [] in
     let M : Result (List AdaptiveTemplatePixel × List ℕ) DecodeError → Type 0 = λ r. Meets r (At bytes (2 + pixel_bytes n)) P in
     subst M
-    (ap (λ (t : Template). if n % 2 == 1 then Ok (none, rest) else regular_pixels_at t rest) (sym is.template) ∙ ap (λ (b : Bool). if b then Ok (none, rest) else regular_pixels_at flags.template rest) (sym is.huffman))
+    (ap (λ (t : Template). if n % 2 == 1 then Ok (none, rest) else adaptive_pixels_at (count_of t) rest) (sym is.template) ∙ ap (λ (b : Bool). if b then Ok (none, rest) else adaptive_pixels_at (count_of flags.template) rest) (sym is.huffman))
     (meets-coded P (n % 2 == 1) (n / 1024 % 4) none bytes rest from why later)
 
 refined-here : (P : DecodeError → Type 0) (n : ℕ) (flags : SymbolDictionaryFlags) (bytes rest : List ℕ) (k : ℕ) → FlagsOf n flags → k ≤ 10 → From bytes k rest → (length bytes < 22 → P end_of_bytes)
     → Meets (refined_pixels_at flags rest) (At bytes (k + refinement_bytes n)) P
 refined-here P n flags bytes rest k is small from why =
-    let none : List AdaptiveTemplatePixel = right 0 0 ∷ right 0 0 ∷ [] in
+    let none : List AdaptiveTemplatePixel = [] in
     let M : Result (List AdaptiveTemplatePixel × List ℕ) DecodeError → Type 0 = λ r. Meets r (At bytes (k + refinement_bytes n)) P in
     subst M
     (ap (λ (t : RefinementTemplate). if n / 2 % 2 == 1 then refinement_pixels_at t rest else Ok (none, rest)) (sym is.refinement) ∙ ap (λ (b : Bool). if b then refinement_pixels_at flags.refinement_template rest else Ok (none, rest)) (sym is.refagg))

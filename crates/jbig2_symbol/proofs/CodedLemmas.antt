@@ -8,9 +8,13 @@ use Rattle.jbig2_coder.specs.Coder.{Coder, Context}
 use Rattle.jbig2_coder.specs.declared.arithmetic_decoder.registers.Registers.{Registers}
 use Rattle.jbig2_region.specs.inner.Holds.{Holds}
 use Rattle.jbig2_region.specs.Raster.{Region, so_far, decoded_region, no_pixels}
+use Rattle.jbig2_region.specs.Generic.{coding_of}
+use Rattle.jbig2_region.specs.Templates.{filled, four_pixels, template_pixels}
+use Rattle.jbig2_region.specs.declared.template.AdaptiveTemplatePixel.{AdaptiveTemplatePixel}
 use Rattle.jbig2_symbol.specs.SymbolBitmaps.{after_region, coded_region, coded_symbol, symbol_coding}
 use Rattle.jbig2_symbol.specs.SymbolHeader.{SymbolHeader}
 use Rattle.jbig2_symbol.specs.SymbolReading.{SymbolState}
+use Rattle.jbig2_symbol.proofs.UsedPixels.{filled_pixels}
 
 -- the state behind a symbol
 abbrev pub behind_symbol : SymbolState → Coder → List Context → SymbolState
@@ -32,8 +36,14 @@ state-made h s width height white grid next after made holds =
     let sized = subst (λ (g : Grid). Holds g.width g.height s.coded.coder.bytes (decoded_region (symbol_coding h s.template) g.width g.height s.coded.coder.bytes (no_pixels s.coded.coder.registers s.generic)) grid next after) fits.1 holds in
     rw fits.0 (holds-made s width height (decoded_region (symbol_coding h s.template) width height s.coded.coder.bytes (no_pixels s.coded.coder.registers s.generic)) grid next after sized)
 
-pub coded-made : (h : SymbolHeader) (t s : SymbolState) (width height : ℕ) (white grid : Grid) (states : List Context) (next : Coder) (after left : List Context) → left ≡ after → t ≡ s → states ≡ t.generic → blank_or_overflow width height false ≡ Ok white → Holds white.width white.height t.coded.coder.bytes (decoded_region (symbol_coding h t.template) white.width white.height t.coded.coder.bytes (no_pixels t.coded.coder.registers states)) grid next after → coded_symbol h width height s ≡ Ok (grid, behind_symbol t next left)
+coded-made : (h : SymbolHeader) (t s : SymbolState) (width height : ℕ) (white grid : Grid) (states : List Context) (next : Coder) (after left : List Context) → left ≡ after → t ≡ s → states ≡ t.generic → blank_or_overflow width height false ≡ Ok white → Holds white.width white.height t.coded.coder.bytes (decoded_region (symbol_coding h t.template) white.width white.height t.coded.coder.bytes (no_pixels t.coded.coder.registers states)) grid next after → coded_symbol h width height s ≡ Ok (grid, behind_symbol t next left)
 coded-made h t s width height white grid states next after left kept same learned made holds =
     ap (λ (u : SymbolState). coded_symbol h width height u) (sym same)
     ∙ state-made h t width height white grid next after made (subst (λ (known : List Context). Holds white.width white.height t.coded.coder.bytes (decoded_region (symbol_coding h t.template) white.width white.height t.coded.coder.bytes (no_pixels t.coded.coder.registers known)) grid next after) learned holds)
     ∙ ap (λ (c : List Context). Ok (grid, behind_symbol t next c)) (sym kept)
+
+-- the same by an array of four pixels
+pub filled-made : (h : SymbolHeader) (t s : SymbolState) (width height : ℕ) (white grid : Grid) (states : List Context) (next : Coder) (after left : List Context) (four : List AdaptiveTemplatePixel) → left ≡ after → t ≡ s → states ≡ t.generic → blank_or_overflow width height false ≡ Ok white → four ≡ filled 4 h.adaptive_template_pixels → Holds white.width white.height t.coded.coder.bytes (decoded_region (coding_of false t.template (template_pixels false t.template (four_pixels t.template four))) white.width white.height t.coded.coder.bytes (no_pixels t.coded.coder.registers states)) grid next after → coded_symbol h width height s ≡ Ok (grid, behind_symbol t next left)
+filled-made h t s width height white grid states next after left four kept same learned made used holds =
+    let pixels = ap (λ (a : List AdaptiveTemplatePixel). template_pixels false t.template (four_pixels t.template a)) used ∙ filled_pixels t.template h.adaptive_template_pixels in
+    coded-made h t s width height white grid states next after left kept same learned made (subst (λ (p : List AdaptiveTemplatePixel). Holds white.width white.height t.coded.coder.bytes (decoded_region (coding_of false t.template p) white.width white.height t.coded.coder.bytes (no_pixels t.coded.coder.registers states)) grid next after) pixels holds)

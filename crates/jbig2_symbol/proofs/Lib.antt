@@ -9,6 +9,7 @@ pub mod CutLemmas
 pub mod ExportLemmas
 pub mod ExportedLemmas
 pub mod ReadingCauses
+pub mod UsedPixels
 mod WorkedAggregates
 mod WorkedCoded
 mod WorkedSymbols

@@ -1,7 +1,7 @@
 -- Which rule is broken where a symbol dictionary is refused (docs/FORMAT.md, 11), a line for each error.
 --
 -- Some of the steps of a definition are those of lower crates: their errors stand here as the step's own (`IsOf`).
-use Rattle.std.specs.Prelude.{◌≡◌, ◌≢◌, ◌⊎◌, ◌<◌, ◌≤◌, ℕ, ◌+◌, ◌-◌, ◌/◌, ◌%◌, ◌==◌, ◌&&◌, not, Bool, IsTrue, IsFalse, if◌then◌else◌, List, [], ◌∷◌, length, drop, Option, Some, None, Result, Ok, Err, IfErr, ℤ, pos, negsuc, ◌+ℤ◌}
+use Rattle.std.specs.Prelude.{◌≡◌, ◌≢◌, ◌⊎◌, ◌<◌, ◌≤◌, ℕ, ◌+◌, ◌-◌, ◌/◌, ◌%◌, ◌==◌, ◌&&◌, not, Bool, false, IsTrue, IsFalse, if◌then◌else◌, List, [], ◌∷◌, length, drop, Option, Some, None, Result, Ok, Err, IfErr, ℤ, pos, negsuc, ◌+ℤ◌}
 use Rattle.std.specs.Int.{w16, w32}
 use Rattle.jbig2_base.specs.Causes.{InSteps, IsOf, number_in}
 use Rattle.jbig2_base.specs.Grid.{Grid, bit_number}
@@ -13,8 +13,7 @@ use Rattle.jbig2_base.specs.declared.error.ParseError.TheVariants.{UnexpectedEof
 use Rattle.jbig2_base.specs.declared.error.SymbolError.TheVariants as symbols
 use Rattle.jbig2_base.specs.declared.error.TemplateError.TheVariants.{InvalidAtPixel}
 use Rattle.jbig2_coder.specs.PrefixCode.{Member}
-use Rattle.jbig2_region.specs.GenericHeader.{regular_pixels_at}
-use Rattle.jbig2_region.specs.Templates.{template_of}
+use Rattle.jbig2_region.specs.Templates.{adaptive_pixel_count, adaptive_pixels_at, template_of}
 use Rattle.jbig2_symbol.specs.Aggregates.{instance_count}
 use Rattle.jbig2_symbol.specs.Exports.{export_runs, exported, exports, next_run}
 use Rattle.jbig2_symbol.specs.SymbolHeader.{symbol_header_at}
@@ -40,7 +39,7 @@ counts_place flags = 2 + pixel_bytes flags + refinement_bytes flags
 abbrev pub BreaksSymbolFields : ℕ → List ℕ → DecodeError → Type 0
 BreaksSymbolFields flags bytes (errors.Parse UnexpectedEof) = length bytes < 22
 BreaksSymbolFields flags bytes (errors.Huffman huffman.InvalidSelection) = (flags / 4 % 4 ≡ 2) ⊎ (flags / 16 % 4 ≡ 2)
-BreaksSymbolFields flags bytes (errors.Template InvalidAtPixel) = (flags % 2 ≢ 1) × IsOf (regular_pixels_at (template_of (flags / 1024 % 4)) (drop 2 bytes)) (errors.Template InvalidAtPixel)
+BreaksSymbolFields flags bytes (errors.Template InvalidAtPixel) = (flags % 2 ≢ 1) × IsOf (adaptive_pixels_at (adaptive_pixel_count false false (template_of (flags / 1024 % 4))) (drop 2 bytes)) (errors.Template InvalidAtPixel)
 BreaksSymbolFields flags bytes (errors.Overflow SymbolCount) = (1048576 < number_in w32 (counts_place flags) bytes) ⊎ (1048576 < number_in w32 (counts_place flags + 4) bytes)
 BreaksSymbolFields flags bytes _ = ⊥
 

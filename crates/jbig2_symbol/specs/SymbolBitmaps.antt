@@ -16,7 +16,6 @@ use Rattle.jbig2_region.specs.Generic.{coding_of}
 use Rattle.jbig2_region.specs.Raster.{Coding, Region, so_far, decoded_region, no_pixels}
 use Rattle.jbig2_mmr.specs.T6.{mmr_rows}
 use Rattle.jbig2_region.specs.Templates.{template_pixels}
-use Rattle.jbig2_region.specs.declared.template.GenericTemplatePixels.TheVariants.{Regular}
 use Rattle.jbig2_region.specs.declared.template.Template.{Template}
 use Rattle.jbig2_text.specs.TextCoding.{in_band}
 use Rattle.jbig2_symbol.specs.SymbolHeader.{SymbolHeader}
@@ -29,7 +28,7 @@ fits_symbol w h = refuse_if (nat_lt 65535 w || nat_lt 65535 h) (Overflow BitmapD
 -- ---- by the arithmetic coder
 -- a generic region without typical prediction (Table 16)
 abbrev pub symbol_coding : SymbolHeader → Template → Coding
-symbol_coding h template = coding_of false template (template_pixels template (Regular h.adaptive_template_pixels))
+symbol_coding h template = coding_of false template (template_pixels false template h.adaptive_template_pixels)
 
 -- it goes on with the dictionary's coder and contexts
 unfoldable pub coded_region : SymbolHeader → ℕ → ℕ → SymbolState → Region

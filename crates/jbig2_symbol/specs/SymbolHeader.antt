@@ -1,6 +1,6 @@
 -- The data of a symbol dictionary segment up to its coded bytes (T.88, 7.4.2.1): flags, the adaptive pixels, and the
 -- numbers of exported and of new symbols. The bytes give the header, and the coded bytes stand behind it.
-use Rattle.std.specs.Prelude.{ℕ, ◌/◌, ◌%◌, ◌==◌, nat_lt, Bool, ◌||◌, List, [], ◌∷◌, Result, Ok, Err, if◌then◌else◌}
+use Rattle.std.specs.Prelude.{ℕ, ◌/◌, ◌%◌, ◌==◌, nat_lt, Bool, false, ◌||◌, List, [], Result, Ok, Err, if◌then◌else◌}
 use Rattle.std.specs.Int.{w16, w32}
 use Rattle.jbig2_base.specs.Answer.{◌>>=◌, refuse_if}
 use Rattle.jbig2_base.specs.Fields.{number_at}
@@ -8,9 +8,9 @@ use Rattle.jbig2_base.specs.declared.error.DecodeError.{DecodeError}
 use Rattle.jbig2_base.specs.declared.error.DecodeError.TheVariants.{Huffman, Overflow}
 use Rattle.jbig2_base.specs.declared.error.HuffmanError.TheVariants.{InvalidSelection}
 use Rattle.jbig2_base.specs.declared.error.OverflowError.TheVariants.{SymbolCount}
-use Rattle.jbig2_region.specs.GenericHeader.{regular_pixels_at}
 use Rattle.jbig2_region.specs.RefinementHeader.{refinement_pixels_at, refinement_template_of}
-use Rattle.jbig2_region.specs.Templates.{template_of, right}
+use Rattle.jbig2_region.specs.RefinementTemplates.{two_pixels}
+use Rattle.jbig2_region.specs.Templates.{adaptive_pixel_count, adaptive_pixels_at, four_pixels, template_of}
 use Rattle.jbig2_region.specs.declared.template.AdaptiveTemplatePixel.{AdaptiveTemplatePixel}
 use Rattle.jbig2_symbol.specs.declared.symbol.header.HuffmanTableSelection.{HuffmanTableSelection}
 use Rattle.jbig2_symbol.specs.declared.symbol.header.HuffmanTableSelection.TheVariants.{TableB1, TableB2, TableB3, TableB4, TableB5, UserSupplied}
@@ -27,11 +27,18 @@ pub record SymbolHeader : Type 0 where
   pub bytes : List ℕ
   pub strict : Bool
 
+-- those of the code's arrays that these flags have
+abbrev pub coded_pixels : SymbolDictionaryFlags → List AdaptiveTemplatePixel → List AdaptiveTemplatePixel
+coded_pixels flags a = if flags.use_huffman then [] else four_pixels flags.template a
+
+abbrev pub refined_pixels : SymbolDictionaryFlags → List AdaptiveTemplatePixel → List AdaptiveTemplatePixel
+refined_pixels flags a = if flags.use_refagg then two_pixels flags.refinement_template a else []
+
 abbrev pub header_view : SymbolDictionaryHeader → SymbolHeader
 header_view h = record {
   flags = h.flags;
-  adaptive_template_pixels = h.adaptive_template_pixels;
-  refinement_at_pixels = h.refinement_at_pixels;
+  adaptive_template_pixels = coded_pixels h.flags h.adaptive_template_pixels;
+  refinement_at_pixels = refined_pixels h.flags h.refinement_at_pixels;
   num_exported_symbols = h.num_exported_symbols;
   num_new_symbols = h.num_new_symbols;
   bytes = h.bytes.now;
@@ -72,14 +79,14 @@ symbol_flags_of flags = do
 -- the adaptive pixels of the symbols' bitmaps (7.4.2.1.2); none with prefix codes
 abbrev pub coded_pixels_at : SymbolDictionaryFlags → List ℕ → Result (List AdaptiveTemplatePixel × List ℕ) DecodeError
 coded_pixels_at flags bytes =
-    if flags.use_huffman then Ok (right 0 0 ∷ right 0 0 ∷ right 0 0 ∷ right 0 0 ∷ [], bytes)
-    else regular_pixels_at flags.template bytes
+    if flags.use_huffman then Ok ([], bytes)
+    else adaptive_pixels_at (adaptive_pixel_count false false flags.template) bytes
 
--- those of refinements (7.4.2.1.3), where symbols are refined
+-- those of refinements (7.4.2.1.3), where symbols are refined at template 0
 abbrev pub refined_pixels_at : SymbolDictionaryFlags → List ℕ → Result (List AdaptiveTemplatePixel × List ℕ) DecodeError
 refined_pixels_at flags bytes =
     if flags.use_refagg then refinement_pixels_at flags.refinement_template bytes
-    else Ok (right 0 0 ∷ right 0 0 ∷ [], bytes)
+    else Ok ([], bytes)
 
 -- All of it, and the coded bytes. More than 2^20 symbols of either kind are refused (our own rule).
 unfoldable pub symbol_header_at : Bool → List ℕ → Result (SymbolHeader × List ℕ) DecodeError

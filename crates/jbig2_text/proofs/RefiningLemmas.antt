@@ -1,16 +1,39 @@
 -- What the code holds of a refined symbol.
-use Rattle.std.proofs.Common.{◌≡◌, ℕ, List, false, ◌∙◌, ap}
+use Rattle.std.proofs.Common.{◌≡◌, ℕ, List, [], ◌∷◌, take, false, ◌∙◌, ap, refl, subst}
 use Rattle.jbig2_base.specs.Grid.{Grid}
 use Rattle.jbig2_coder.specs.Coder.{Coder, Context}
 use Rattle.jbig2_coder.specs.declared.arithmetic_decoder.registers.Registers.{Registers}
 use Rattle.jbig2_region.specs.inner.Holds.{Holds}
-use Rattle.jbig2_region.specs.Raster.{decoded_region, no_pixels}
+use Rattle.jbig2_region.specs.Raster.{Coding, decoded_region, no_pixels}
 use Rattle.jbig2_region.specs.Refinement.{Reference, refinement_coding}
+use Rattle.jbig2_region.specs.RefinementTemplates.{two_pixels}
+use Rattle.jbig2_region.specs.Templates.{adaptive, filled}
+use Rattle.jbig2_region.specs.declared.template.AdaptiveTemplatePixel.{AdaptiveTemplatePixel}
+use Rattle.jbig2_region.specs.declared.template.RefinementTemplate.{RefinementTemplate}
+use Rattle.jbig2_region.specs.declared.template.RefinementTemplate.TheVariants.{Template0, Template1}
 use Rattle.jbig2_text.specs.Refining.{Refining, refined_by}
 
-pub refined-holds : (f : Refining) (from : Reference) (w h : ℕ) (bytes : List ℕ) (registers : Registers) (grid : Grid) (coder : Coder) (states : List Context) → Holds w h bytes (decoded_region (refinement_coding f.template false f.pixels from) w h bytes (no_pixels registers f.contexts)) grid coder states → Holds w h bytes (refined_by f from w h bytes registers) grid coder states
+-- two of a list
+pub two_filled : (a : List AdaptiveTemplatePixel) → adaptive a 0 ∷ adaptive a 1 ∷ [] ≡ filled 2 (take 2 a)
+two_filled [] = refl
+two_filled (p ∷ []) = refl
+two_filled (p ∷ q ∷ a) = refl
+
+-- pixels that are filled up are as good as those that there are
+same-coding : (template : RefinementTemplate) (a : List AdaptiveTemplatePixel) (from : Reference) → refinement_coding template false (two_pixels template (filled 2 a)) from ≡ refinement_coding template false a from
+same-coding Template0 [] from = refl
+same-coding Template0 (p ∷ []) from = refl
+same-coding Template0 (p ∷ q ∷ a) from = refl
+same-coding Template1 a from = refl
+
+refined-holds : (f : Refining) (from : Reference) (w h : ℕ) (bytes : List ℕ) (registers : Registers) (grid : Grid) (coder : Coder) (states : List Context) → Holds w h bytes (decoded_region (refinement_coding f.template false f.pixels from) w h bytes (no_pixels registers f.contexts)) grid coder states → Holds w h bytes (refined_by f from w h bytes registers) grid coder states
 unfolding refined_by
 refined-holds f from w h bytes registers grid coder states holds = holds
+
+pub filled-holds : (f : Refining) (from : Reference) (w h : ℕ) (bytes : List ℕ) (registers : Registers) (grid : Grid) (coder : Coder) (states : List Context) → Holds w h bytes (decoded_region (refinement_coding f.template false (two_pixels f.template (filled 2 f.pixels)) from) w h bytes (no_pixels registers f.contexts)) grid coder states → Holds w h bytes (refined_by f from w h bytes registers) grid coder states
+filled-holds f from w h bytes registers grid coder states holds =
+    refined-holds f from w h bytes registers grid coder states
+    (subst (λ (coding : Coding). Holds w h bytes (decoded_region coding w h bytes (no_pixels registers f.contexts)) grid coder states) (same-coding f.template f.pixels from) holds)
 
 pub coder-is : (c : Coder) (bytes : List ℕ) (registers : Registers) → c.bytes ≡ bytes → c.registers ≡ registers → c ≡ record { bytes = bytes; registers = registers }
 coder-is c bytes registers same moved = ap (λ (b : List ℕ). record { bytes = b; registers = c.registers }) same ∙ ap (λ (r : Registers). record { bytes = bytes; registers = r }) moved

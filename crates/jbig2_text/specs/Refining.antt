@@ -1,6 +1,6 @@
 -- Symbols that are refined from others (T.88, 6.4.11): by the refinement template and the contexts of a region or a
 -- dictionary, which go on from symbol to symbol. Whoever reads lends them.
-use Rattle.std.specs.Prelude.{ℕ, false, List}
+use Rattle.std.specs.Prelude.{ℕ, false, List, [], take, Option, Some, None}
 use Rattle.jbig2_base.specs.Grid.{Grid}
 use Rattle.jbig2_coder.specs.Coder.{Coder, Context}
 use Rattle.jbig2_coder.specs.declared.arithmetic_decoder.registers.Registers.{Registers}
@@ -20,6 +20,11 @@ refining_by template pixels contexts = record { template = template; pixels = pi
 
 abbrev pub fresh_refining : RefinementTemplate → List AdaptiveTemplatePixel → Refining
 fresh_refining template pixels = refining_by template pixels (fresh_contexts (refinement_bits template))
+
+-- the code's two adaptive pixels, where there are any
+abbrev pub some_pixels : Option (List AdaptiveTemplatePixel) → List AdaptiveTemplatePixel
+some_pixels None = []
+some_pixels (Some a) = take 2 a
 
 -- a symbol of this width and height, refined by a coder over these bytes (Table 12)
 unfoldable pub refined_by : Refining → Reference → ℕ → ℕ → List ℕ → Registers → Region

@@ -1,7 +1,7 @@
 -- The data of a text region segment up to its coded bytes (T.88, 7.4.3.1): region information, flags, the adaptive
 -- pixels of refinements, the number of instances and the codes of the ids. The bytes give the header, and the coded
 -- bytes stand behind it.
-use Rattle.std.specs.Prelude.{ℕ, ◌/◌, ◌%◌, ◌==◌, nat_lt, Bool, true, false, List, [], ◌∷◌, length, Option, Some, None, Result, Ok, if◌then◌else◌, ℤ, pos, ◌-ℤ◌}
+use Rattle.std.specs.Prelude.{ℕ, ◌/◌, ◌%◌, ◌==◌, nat_lt, Bool, true, false, List, [], length, Option, Some, None, Result, Ok, if◌then◌else◌, ℤ, pos, ◌-ℤ◌}
 use Rattle.std.specs.Int.{w16, w32}
 use Rattle.jbig2_base.specs.Answer.{◌>>=◌}
 use Rattle.jbig2_base.specs.Fields.{number_at}
@@ -10,8 +10,8 @@ use Rattle.jbig2_base.specs.declared.bitmap.operator.CombinationOperator.{Combin
 use Rattle.jbig2_base.specs.declared.error.DecodeError.{DecodeError}
 use Rattle.jbig2_coder.specs.PrefixCode.{Member}
 use Rattle.jbig2_region.specs.RefinementHeader.{refinement_pixels_at, refinement_template_of}
+use Rattle.jbig2_region.specs.RefinementTemplates.{two_pixels}
 use Rattle.jbig2_region.specs.RegionInfo.{region_info_at}
-use Rattle.jbig2_region.specs.Templates.{right}
 use Rattle.jbig2_region.specs.declared.region_info.RegionSegmentInfo.{RegionSegmentInfo}
 use Rattle.jbig2_region.specs.declared.template.AdaptiveTemplatePixel.{AdaptiveTemplatePixel}
 use Rattle.jbig2_region.specs.declared.template.RefinementTemplate.{RefinementTemplate}
@@ -42,6 +42,13 @@ pub record TextHeader : Type 0 where
   pub bytes : List ℕ
   pub strict : Bool
 
+-- those of the code's two refinement pixels that these flags have
+abbrev pub text_pixels : TextRegionFlags → List AdaptiveTemplatePixel → List AdaptiveTemplatePixel
+text_pixels flags a = if flags.use_refinement then two_pixels flags.refinement_template a else []
+
+abbrev pub fields_view : TextFields → TextFields
+fields_view f = record f { refinement_at_pixels = text_pixels f.flags f.refinement_at_pixels }
+
 abbrev pub coding_view : {A : Type 0} → TextRegionCoding A → NumberCoding
 coding_view codings.Arithmetic = ArithmeticCoding
 coding_view (codings.Huffman tables ids) = HuffmanCoding tables ids
@@ -51,7 +58,7 @@ header_view h = record {
   region_info = h.region_info;
   flags = h.flags;
   coding = coding_view h.coding;
-  refinement_pixels = h.refinement_at_pixels;
+  refinement_pixels = text_pixels h.flags h.refinement_at_pixels;
   instances = h.num_instances;
   data_length = h.segment_data_len;
   bytes = h.bytes.now;
@@ -103,11 +110,10 @@ abbrev pub table_numbers_at : Bool → List ℕ → Result (Option TextRegionHuf
 table_numbers_at true bytes = number_at w16 bytes >>= λ flags. Ok (Some (table_numbers flags.0), flags.1)
 table_numbers_at false bytes = Ok (None, bytes)
 
--- The refinement's adaptive pixels (7.4.3.1.3): two where symbols may be refined at template 0, else none, and the
--- two are without meaning.
+-- The refinement's adaptive pixels (7.4.3.1.3): two where symbols may be refined at template 0, else none.
 abbrev pub text_pixels_at : Bool → RefinementTemplate → List ℕ → Result (List AdaptiveTemplatePixel × List ℕ) DecodeError
 text_pixels_at true template bytes = refinement_pixels_at template bytes
-text_pixels_at false template bytes = Ok (right 0 0 ∷ right 0 0 ∷ [], bytes)
+text_pixels_at false template bytes = Ok ([], bytes)
 
 -- the fields between the region information and the codes of the ids
 unfoldable pub text_fields_at : List ℕ → Result (TextFields × List ℕ) DecodeError

@@ -4,7 +4,8 @@ ghost use Rattle.jbig2_base.specs.Answer.{Answers, Gives};
 ghost use Rattle.jbig2_base.specs.Grid.{blank};
 ghost use Rattle.jbig2_region.specs.RegionInfo.{region_view};
 ghost use Rattle.jbig2_text.specs.CausesOfRegions.{TextRegionsHaveCauses};
-ghost use Rattle.jbig2_text.specs.TextHeader.{header_view};
+ghost use Rattle.jbig2_text.specs.Refining.{some_pixels};
+ghost use Rattle.jbig2_text.specs.TextHeader.{header_view, text_pixels};
 ghost use Rattle.jbig2_text.specs.TextRegion.{coder_of, prefix_codes_of, refining_of, region_from, text_params, text_answer, text_decoded};
 ghost use Rattle.jbig2_coder.specs.inner.TableViews.{customs_view};
 ghost use Rattle.jbig2_text.specs.inner.TextViews.{coded_view, params_view, prefixed_view, symbols_view};
@@ -26,12 +27,14 @@ pub(crate) mod symbols;
 pub(crate) mod tables;
 
 pub use crate::text::coded::CodedReadings;
-use crate::text::header::{TextRegionCoding, TextRegionHeader, TextRegionHuffmanFlags};
+use crate::text::header::{
+    TextRegionCoding, TextRegionFlags, TextRegionHeader, TextRegionHuffmanFlags,
+};
 pub use crate::text::instances::draw_instances_by;
 pub use crate::text::prefixed::PrefixedReadings;
 pub use crate::text::readings::ReadInstances;
 pub use crate::text::refined::new_symbol;
-pub use crate::text::refining::Refining;
+pub use crate::text::refining::{Refining, pixels_of_template};
 pub use crate::text::symbol_list::SymbolList;
 pub use crate::text::symbols::TextParams;
 pub use crate::text::tables::TextRegionHuffmanTables;
@@ -44,6 +47,7 @@ use jbig2_base::reader::Reader;
 use jbig2_base::search::code_length;
 use jbig2_coder::huffman_table::{HuffmanTable, StandardHuffmanTables};
 use jbig2_region::region_info::DecodedRegion;
+use jbig2_region::template::AdaptiveTemplatePixel;
 use std::alloc::Allocator;
 use std::sync::ledger::Ledger;
 
@@ -66,6 +70,19 @@ fn params_of<'a, H: Allocator, B: Allocator>(
     }
 }
 
+/// The two adaptive pixels of refinements, if these flags ask for any.
+fn pixels_of(
+    flags: &TextRegionFlags,
+    pixels: [AdaptiveTemplatePixel; 2],
+) -> Option<[AdaptiveTemplatePixel; 2]>
+    ensures { some_pixels result ≡ text_pixels flags.now pixels }
+{
+    if flags.use_refinement {
+        return pixels_of_template(flags.refinement_template, pixels);
+    }
+    None
+}
+
 /// Refinements of a region's symbols, by contexts that know nothing yet.
 fn refining_of<H: Allocator, M: Allocator>(
     alloc: M,
@@ -73,11 +90,9 @@ fn refining_of<H: Allocator, M: Allocator>(
 ) -> Result<Refining<M>>
     ensures { Gives (λ r. r) result (Ok (refining_of (header_view header.now))) }
 {
-    Refining::new(
-        alloc,
-        header.flags.refinement_template,
-        header.refinement_at_pixels,
-    )
+    let flags = &header.flags;
+    let pixels = pixels_of(flags, header.refinement_at_pixels);
+    Refining::fresh(alloc, flags.refinement_template, pixels)
 }
 
 /// The coder at the start of a region's bytes, and contexts that know nothing yet.

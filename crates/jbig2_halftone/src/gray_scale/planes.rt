@@ -4,7 +4,7 @@ ghost use Rattle.jbig2_base.specs.Answer.{Gives, Leaves};
 ghost use Rattle.jbig2_base.specs.Counts.{KeepsLanes};
 ghost use Rattle.jbig2_base.specs.Grid.{blank};
 ghost use Rattle.jbig2_region.specs.Raster.{fresh_contexts, no_pixels};
-ghost use Rattle.jbig2_region.specs.Templates.{context_bits};
+ghost use Rattle.jbig2_region.specs.Templates.{context_bits, four_pixels};
 ghost use Rattle.jbig2_region.specs.inner.Holds.{DecodesRegion};
 ghost use Rattle.jbig2_halftone.specs.GrayScale.{gray_view, nominal_pixels, plane_coding, mmr_plane, planes_by_coder, planes_by_mmr, planes_of, planes_contexts, after_planes, image_is_too_large};
 ghost use Rattle.jbig2_halftone.specs.GraySteps.{CountsCoded, CountsOne, CountsRead};
@@ -24,7 +24,7 @@ use std::sync::ledger::Ledger;
 
 /// The adaptive pixels of a plane, at their nominal places (T.88, Table C.4).
 fn nominal_pixels(template: Template) -> [AdaptiveTemplatePixel; 4]
-    ensures { result ≡ nominal_pixels template }
+    ensures { four_pixels template result ≡ nominal_pixels template }
 {
     let first = match template {
         Template::Template0 | Template::Template1 => AdaptiveTemplatePixel { x: 3, y: -1 },

@@ -1,11 +1,11 @@
 //! The adaptive pixels of templates, as segments hold them (T.88, 7.4.6.3 and 7.4.7.3).
-ghost use Rattle.std.specs.Prelude.{◌≡◌, ◌≤◌, length, IfOk, OnOk};
+ghost use Rattle.std.specs.Prelude.{◌≡◌, ◌≤◌, false, [], ◌∷◌, length, IfOk, OnOk};
 ghost use Rattle.jbig2_base.specs.Answer.{Answers};
 ghost use Rattle.jbig2_base.specs.Bits.{IsAligned};
 ghost use Rattle.jbig2_base.specs.Parsing.{Parses};
 ghost use Rattle.jbig2_region.specs.Causes.{RefinementPixelsHaveCauses, TemplatePixelsHaveCauses};
-ghost use Rattle.jbig2_region.specs.RefinementTemplates.{refinement_pixels_at};
-ghost use Rattle.jbig2_region.specs.Templates.{FitsTemplate, adaptive_pixel_at, adaptive_pixels_at, first_alone, free_pixel_at, is_earlier, regular_pixels_at, template_pixels_at};
+ghost use Rattle.jbig2_region.specs.RefinementTemplates.{refinement_pixels_at, two_pixels};
+ghost use Rattle.jbig2_region.specs.Templates.{FitsTemplate, IsFilled, adaptive_pixel_at, adaptive_pixel_count, adaptive_pixels_at, filled, four_pixels, free_pixel_at, is_earlier, is_extended, pixels_view, takes_extended};
 
 use crate::template::{AdaptiveTemplatePixel, GenericTemplatePixels, RefinementTemplate, Template};
 use jbig2_base::error::{DecodeError, Result, TemplateError};
@@ -78,26 +78,26 @@ fn parse_twelve(reader: &mut Reader<'_>) -> Result<[AdaptiveTemplatePixel; 12]>
 
 /// With a first pixel alone, the other three are without meaning.
 fn first_alone(first: AdaptiveTemplatePixel) -> [AdaptiveTemplatePixel; 4]
-    ensures { result ≡ first_alone first }
+    ensures { result ≡ filled 4 (first ∷ []) }
 {
     let unused = AdaptiveTemplatePixel { x: 0, y: 0 };
     [first, unused, unused, unused]
 }
 
 /// The adaptive pixels of a template that is not extended, at the reader's place (T.88, 7.4.6.3).
-/// Templates 1 to 3 have the first alone, and the other three are then without meaning.
+/// Templates 1 to 3 have the first alone; the other three are then at (0, 0), without meaning.
 ///
 /// `ParseError::UnexpectedEof` where the bytes do not hold them; `TemplateError::InvalidAtPixel` where
 /// one does not come before the pixel that is decoded. An error leaves the reader where it was. Takes
 /// no memory.
-#[tactic(auto, unfolding(crate::specs::Templates::regular_pixels_at))]
 pub fn parse_adaptive_template_pixels(
     reader: &mut Reader<'_>,
     template: Template,
 ) -> Result<[AdaptiveTemplatePixel; 4]>
     requires { IsAligned reader.old }
-    ensures { Parses reader.old reader.new result (λ pixels. pixels)
-        (regular_pixels_at template reader.old.bytes) }
+    ensures parses { Parses reader.old reader.new result (four_pixels template)
+        (adaptive_pixels_at (adaptive_pixel_count false false template) reader.old.bytes) }
+    ensures unused { IfOk result (λ pixels. pixels ≡ filled 4 (four_pixels template pixels)) }
 {
     let mut ahead = reader.duplicate();
     let pixels = match template {
@@ -109,7 +109,7 @@ pub fn parse_adaptive_template_pixels(
 }
 
 /// All adaptive pixels of a generic region: none with MMR, twelve with the extended template 0.
-#[tactic(auto, using(crate::proofs::PixelCauses::template_pixels_causes), unfolding(crate::specs::Templates::template_pixels_at))]
+#[tactic(auto, using(crate::proofs::PixelCauses::template_pixels_causes))]
 pub fn parse_generic_template_pixels(
     reader: &mut Reader<'_>,
     mmr: bool,
@@ -117,12 +117,16 @@ pub fn parse_generic_template_pixels(
     template: Template,
 ) -> Result<GenericTemplatePixels>
     requires { IsAligned reader.old }
-    ensures value { Answers (λ pixels. (pixels, reader.new.bytes)) result
-        (template_pixels_at mmr extended template reader.old.bytes) }
+    ensures value { let count = adaptive_pixel_count mmr extended template in
+        Answers (λ pixels. (pixels_view mmr template pixels, reader.new.bytes)) result
+        (adaptive_pixels_at count reader.old.bytes) }
+    ensures extended { let taken = takes_extended mmr extended template in
+        IfOk result (λ pixels. is_extended pixels ≡ taken) }
     ensures causes { TemplatePixelsHaveCauses }
     ensures aligned { IsAligned reader.new }
     ensures shorter { OnOk result (length reader.new.bytes ≤ length reader.old.bytes) }
-    ensures fits { IfOk result (λ pixels. FitsTemplate pixels template) }
+    ensures unused { IfOk result (λ pixels. IsFilled pixels (pixels_view mmr template pixels)) }
+    ensures fits { IfOk result (λ pixels. FitsTemplate (is_extended pixels) template) }
 {
     if mmr {
         let unused = AdaptiveTemplatePixel { x: 0, y: 0 };
@@ -135,7 +139,7 @@ pub fn parse_generic_template_pixels(
 }
 
 /// The two adaptive pixels at the reader's place (T.88, 7.4.7.3), which may lie anywhere; at template 1
-/// nothing is read, and they are without meaning.
+/// nothing is read, and they are at (0, 0), without meaning.
 ///
 /// `ParseError::UnexpectedEof` where the bytes do not hold them. An error leaves the reader where it was.
 /// Takes no memory.
@@ -145,8 +149,9 @@ pub fn parse_template_pixels(
     template: RefinementTemplate,
 ) -> Result<[AdaptiveTemplatePixel; 2]>
     requires { IsAligned reader.old }
-    ensures parses { Parses reader.old reader.new result (λ pixels. pixels)
+    ensures parses { Parses reader.old reader.new result (two_pixels template)
         (refinement_pixels_at template reader.old.bytes) }
+    ensures unused { IfOk result (λ pixels. pixels ≡ filled 2 (two_pixels template pixels)) }
     ensures causes { RefinementPixelsHaveCauses }
 {
     match template {

@@ -1,9 +1,8 @@
 //! The templates of generic regions (T.88, 6.2.5.3) by their neighbours.
 ghost use Rattle.std.specs.Prelude.{◌≡◌, [], ◌∷◌, false};
-ghost use Rattle.jbig2_region.specs.inner.Layouts.{FitsAdaptives, adaptive_pixels, fixed_neighbours, neighbours_of, nominal_neighbours, read_pixels};
+ghost use Rattle.jbig2_region.specs.inner.Layouts.{FitsAdaptives, fixed_neighbours, neighbours_of, nominal_neighbours, read_pixels};
 ghost use Rattle.jbig2_region.specs.inner.Neighbours.{IsLayout, is_nominal_layout, layout_count, layout_loads, layout_pixels};
-ghost use Rattle.jbig2_region.specs.Templates.{adaptive, context_bits, is_nominal, lies_at, template_pixels};
-ghost use Rattle.jbig2_region.specs.declared.template.GenericTemplatePixels.TheVariants.{Regular};
+ghost use Rattle.jbig2_region.specs.Templates.{adaptive, adaptive_pixel_count, context_bits, four_pixels, is_nominal, lies_at, template_pixels};
 
 use crate::template::neighbours::{Adaptives, Layout, Neighbours, Stretch};
 use crate::template::{AdaptiveTemplatePixel, Template};
@@ -114,12 +113,15 @@ pub fn adaptives(template: Template, a: &[AdaptiveTemplatePixel; 4]) -> Adaptive
 }
 
 /// The template with adaptive pixels that are read one by one.
+#[tactic(auto, using(crate::proofs::UsedPixels::same_pixels))]
 pub fn read_layout(template: Template, a: &[AdaptiveTemplatePixel; 4]) -> Layout<'_>
-    ensures pixels { layout_pixels result ≡ template_pixels template (Regular a.now) }
+    ensures pixels { layout_pixels result
+        ≡ template_pixels false template (four_pixels template a.now) }
     ensures fits { IsLayout result.neighbours result.adaptive }
     ensures count { layout_count result.neighbours result.adaptive ≡ context_bits template }
     ensures nominal { is_nominal_layout result.adaptive ≡ false }
-    ensures loads { layout_loads result.adaptive ≡ adaptive_pixels template }
+    ensures loads { layout_loads result.adaptive
+        ≡ adaptive_pixel_count false false template }
 {
     Layout {
         neighbours: fixed_neighbours(template),
@@ -128,12 +130,16 @@ pub fn read_layout(template: Template, a: &[AdaptiveTemplatePixel; 4]) -> Layout
 }
 
 /// The template with these adaptive pixels.
+#[tactic(auto, using(crate::proofs::UsedPixels::same_pixels, crate::proofs::UsedPixels::same_nominal))]
 pub fn layout_of(template: Template, a: &[AdaptiveTemplatePixel; 4]) -> Layout<'_>
-    ensures pixels { layout_pixels result ≡ template_pixels template (Regular a.now) }
+    ensures pixels { layout_pixels result
+        ≡ template_pixels false template (four_pixels template a.now) }
     ensures fits { IsLayout result.neighbours result.adaptive }
     ensures count { layout_count result.neighbours result.adaptive ≡ context_bits template }
-    ensures nominal { is_nominal_layout result.adaptive ≡ is_nominal template a.now }
-    ensures loads { layout_loads result.adaptive ≡ read_pixels template a.now }
+    ensures nominal { is_nominal_layout result.adaptive
+        ≡ is_nominal template (four_pixels template a.now) }
+    ensures loads { layout_loads result.adaptive
+        ≡ read_pixels template (four_pixels template a.now) }
 {
     if is_nominal(template, a) {
         return Layout {

@@ -1,9 +1,8 @@
 //! All pixels of a template (T.88, 6.2.5.3), bit 0 of a context first, put together from those that
 //! lie side by side and the adaptive ones.
-ghost use Rattle.std.specs.Prelude.{◌≡◌, ◌+◌, ◌≤◌, ◌<◌, ◌≤ℤ◌, ◌++◌, [], ◌∷◌, length, negsuc, pos};
-ghost use Rattle.jbig2_region.specs.Templates.{template_pixels};
+ghost use Rattle.std.specs.Prelude.{◌≡◌, ◌+◌, ◌≤◌, ◌<◌, ◌≤ℤ◌, ◌++◌, [], ◌∷◌, false, length, negsuc, pos};
+ghost use Rattle.jbig2_region.specs.Templates.{four_pixels, template_pixels};
 ghost use Rattle.jbig2_region.specs.inner.Neighbours.{IsMixed, mixed_pixels, side_by_side};
-ghost use Rattle.jbig2_region.specs.declared.template.GenericTemplatePixels.TheVariants.{Regular};
 
 use crate::template::layouts::{adaptives, fixed_neighbours};
 use crate::template::neighbours::{Adaptives, Neighbours};
@@ -33,8 +32,9 @@ impl Model for TemplatePixels {
 
 impl TemplatePixels {
     /// Those of a template with these adaptive pixels, which is not extended.
+    #[tactic(auto, using(crate::proofs::UsedPixels::same_pixels))]
     pub fn regular(template: Template, a: &[AdaptiveTemplatePixel; 4]) -> TemplatePixels
-        ensures { result ≡ template_pixels template (Regular a.now) }
+        ensures { result ≡ template_pixels false template (four_pixels template a.now) }
     {
         TemplatePixels::mixed(fixed_neighbours(template), &adaptives(template, a))
     }

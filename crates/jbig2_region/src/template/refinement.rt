@@ -2,7 +2,7 @@
 //! contexts of the decisions that begin their rows (6.3.5.6).
 ghost use Rattle.std.specs.Prelude.{◌≡◌, ◌^◌, ◌<◌, true};
 ghost use Rattle.jbig2_region.specs.RefinementSteps.{is_nominal};
-ghost use Rattle.jbig2_region.specs.RefinementTemplates.{reference_pixels, refinement_bits, refinement_row_context, region_pixels};
+ghost use Rattle.jbig2_region.specs.RefinementTemplates.{reference_pixels, refinement_bits, refinement_row_context, region_pixels, two_pixels};
 ghost use Rattle.jbig2_region.specs.inner.RefinementWindows.{corners};
 ghost use Rattle.jbig2_region.specs.declared.template.RefinementTemplate.TheVariants.{Template0};
 
@@ -11,7 +11,7 @@ use crate::template::{AdaptiveTemplatePixel, RefinementTemplate, pixel};
 
 /// The reference's pixels in template 0, bit 0 of a context first (Figure 12).
 pub fn reference_0(a: &[AdaptiveTemplatePixel; 2]) -> [AdaptiveTemplatePixel; 9]
-    ensures { result ≡ reference_pixels Template0 a.now }
+    ensures { result ≡ reference_pixels Template0 (two_pixels Template0 a.now) }
 {
     [
         pixel(1, 1),
@@ -28,7 +28,7 @@ pub fn reference_0(a: &[AdaptiveTemplatePixel; 2]) -> [AdaptiveTemplatePixel; 9]
 
 /// The region's pixels in template 0, whose bits follow.
 pub fn region_0(a: &[AdaptiveTemplatePixel; 2]) -> [AdaptiveTemplatePixel; 4]
-    ensures { result ≡ region_pixels Template0 a.now }
+    ensures { result ≡ region_pixels Template0 (two_pixels Template0 a.now) }
 {
     [pixel(-1, 0), pixel(1, -1), pixel(0, -1), a[0]]
 }
@@ -36,11 +36,11 @@ pub fn region_0(a: &[AdaptiveTemplatePixel; 2]) -> [AdaptiveTemplatePixel; 4]
 /// Whether the adaptive pixels lie where the standard has them by default (Figure 12); template 1 has
 /// none.
 pub fn is_nominal(template: RefinementTemplate, a: &[AdaptiveTemplatePixel; 2]) -> bool
-    ensures value { result ≡ is_nominal template a.now }
+    ensures value { result ≡ is_nominal template (two_pixels template a.now) }
     ensures reference { result ≡ true
-        → reference_pixels template a.now ≡ reference_pixels template corners }
+        → reference_pixels template (two_pixels template a.now) ≡ reference_pixels template corners }
     ensures region { result ≡ true
-        → region_pixels template a.now ≡ region_pixels template corners }
+        → region_pixels template (two_pixels template a.now) ≡ region_pixels template corners }
 {
     match template {
         RefinementTemplate::Template0 => lies_at(a[0], -1, -1) && lies_at(a[1], -1, -1),

@@ -2,8 +2,9 @@
 ghost use Rattle.std.specs.Prelude.{◌≡◌, ◌/◌, ◌%◌, ◌≤◌, IfOk, OnErr};
 ghost use Rattle.jbig2_base.specs.Answer.{Answers};
 ghost use Rattle.jbig2_base.specs.Bits.{IsAligned};
+ghost use Rattle.jbig2_region.specs.Templates.{filled};
 ghost use Rattle.jbig2_symbol.specs.Causes.{SymbolHeadersHaveCauses};
-ghost use Rattle.jbig2_symbol.specs.SymbolHeader.{header_view, height_selection_of, width_selection_of, other_selection_of, symbol_flags_of, coded_pixels_at, refined_pixels_at, symbol_header_at};
+ghost use Rattle.jbig2_symbol.specs.SymbolHeader.{header_view, height_selection_of, width_selection_of, other_selection_of, symbol_flags_of, coded_pixels, coded_pixels_at, refined_pixels, refined_pixels_at, symbol_header_at};
 
 use jbig2_base::error::{DecodeError, HuffmanError, OverflowError, Result};
 use jbig2_base::field::{u16_field, u32_field};
@@ -125,7 +126,8 @@ fn parse_coded_pixels(
 ) -> Result<[AdaptiveTemplatePixel; 4]>
     requires { IsAligned reader.old }
     ensures value { let meant = coded_pixels_at flags.now reader.old.bytes in
-        Answers (λ pixels. (pixels, reader.new.bytes)) result meant }
+        Answers (λ pixels. (coded_pixels flags.now pixels, reader.new.bytes)) result meant }
+    ensures unused { IfOk result (λ pixels. pixels ≡ filled 4 (coded_pixels flags.now pixels)) }
     ensures aligned { IsAligned reader.new }
 {
     if flags.use_huffman {
@@ -141,7 +143,8 @@ fn parse_refined_pixels(
 ) -> Result<[AdaptiveTemplatePixel; 2]>
     requires { IsAligned reader.old }
     ensures value { let meant = refined_pixels_at flags.now reader.old.bytes in
-        Answers (λ pixels. (pixels, reader.new.bytes)) result meant }
+        Answers (λ pixels. (refined_pixels flags.now pixels, reader.new.bytes)) result meant }
+    ensures unused { IfOk result (λ pixels. pixels ≡ filled 2 (refined_pixels flags.now pixels)) }
     ensures aligned { IsAligned reader.new }
 {
     if !flags.use_refagg {
@@ -166,6 +169,10 @@ pub fn parse<'a>(reader: &mut Reader<'a>, strict: bool) -> Result<SymbolDictiona
     ensures aligned { IsAligned reader.new }
     ensures exported { IfOk result (λ h. h.num_exported_symbols ≤ 1048576) }
     ensures fresh { IfOk result (λ h. h.num_new_symbols ≤ 1048576) }
+    ensures unused { IfOk result (λ h. h.adaptive_template_pixels
+        ≡ filled 4 (header_view h).adaptive_template_pixels) }
+    ensures unrefined { IfOk result (λ h. h.refinement_at_pixels
+        ≡ filled 2 (header_view h).refinement_at_pixels) }
     ensures stays { OnErr result (reader.new ≡ reader.old) }
     ensures causes { SymbolHeadersHaveCauses }
 {

@@ -2,6 +2,8 @@
 //! (T.88, 6.5).
 ghost use Rattle.std.specs.Prelude.{◌≡◌, ◌≤◌, ◌^◌, length, Ok};
 ghost use Rattle.jbig2_base.specs.Answer.{Answers, Gives};
+ghost use Rattle.jbig2_region.specs.Templates.{filled};
+ghost use Rattle.jbig2_text.specs.Refining.{some_pixels};
 ghost use Rattle.jbig2_symbol.specs.SymbolBitmaps.{coded_symbol, collective_bitmap};
 ghost use Rattle.jbig2_symbol.specs.SymbolHeader.{header_view};
 ghost use Rattle.jbig2_symbol.specs.SymbolReading.{contexts_view, export_run, first_state, height_difference, instance_number, learned, number_by, width_difference};
@@ -18,11 +20,39 @@ use jbig2_coder::arithmetic_decoder::ArithmeticDecoderContext;
 use jbig2_coder::huffman_table::{HuffmanTable, StandardHuffmanTables};
 use jbig2_coder::integer_procedures::IntegerProcedure;
 use jbig2_region::generic::decode_coded;
-use jbig2_region::template::{GenericTemplatePixels, Template};
-use jbig2_text::text::{CodedReadings, Refining};
+use jbig2_region::template::{AdaptiveTemplatePixel, GenericTemplatePixels, Template};
+use jbig2_text::text::{CodedReadings, Refining, pixels_of_template};
 use std::alloc::Allocator;
 use std::marker::Model;
 use std::sync::ledger::Ledger;
+
+/// The adaptive pixels of symbols' bitmaps: those that the header's template has, and others at (0, 0),
+/// which no template takes.
+#[tactic(auto, using(crate::proofs::UsedPixels::first_filled, crate::proofs::UsedPixels::four_filled))]
+fn adaptive_pixels(header: &SymbolDictionaryHeader<'_>) -> [AdaptiveTemplatePixel; 4]
+    ensures { result ≡ filled 4 (header_view header.now).adaptive_template_pixels }
+{
+    let unused = AdaptiveTemplatePixel { x: 0, y: 0 };
+    let pixels = &header.adaptive_template_pixels;
+    if header.flags.use_huffman {
+        return [unused; 4];
+    }
+    match header.flags.template {
+        Template::Template0 => [pixels[0], pixels[1], pixels[2], pixels[3]],
+        _ => [pixels[0], unused, unused, unused],
+    }
+}
+
+/// The adaptive pixels of refinements, where there are any.
+fn refinement_pixels(header: &SymbolDictionaryHeader<'_>) -> Option<[AdaptiveTemplatePixel; 2]>
+    ensures { some_pixels result ≡ (header_view header.now).refinement_at_pixels }
+{
+    if header.flags.use_refagg {
+        let template = header.flags.refinement_template;
+        return pixels_of_template(template, header.refinement_at_pixels);
+    }
+    None
+}
 
 /// The tables of prefix codes of a dictionary, by what they read.
 #[derive(Drop)]
@@ -98,13 +128,13 @@ impl<'a, A: Allocator + Clone> SymbolReader<'a, A> {
             generic_region,
             refinement_region,
         } = contexts;
-        let pixels = header.refinement_at_pixels;
+        let pixels = refinement_pixels(header);
         Ok(SymbolReader {
             reader: Reader::new(header.bytes),
             coded,
             template,
             generic: generic_region,
-            refining: Refining::from_contexts(refinement_template, pixels, refinement_region),
+            refining: Refining::with_contexts(refinement_template, pixels, refinement_region),
         })
     }
 }
@@ -206,7 +236,7 @@ impl<A: Allocator> SymbolReader<'_, A> {
         decode_coded(
             self.template,
             false,
-            &GenericTemplatePixels::Regular(header.adaptive_template_pixels),
+            &GenericTemplatePixels::Regular(adaptive_pixels(header)),
             &mut bitmap,
             &mut self.coded.decoder,
             &mut self.generic,

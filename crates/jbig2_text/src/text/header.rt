@@ -2,8 +2,10 @@
 ghost use Rattle.std.specs.Prelude.{◌≡◌, ◌≤◌, ◌%◌, ◌^◌, IfOk, OnErr, OnOk};
 ghost use Rattle.jbig2_base.specs.Answer.{Answers, Gives};
 ghost use Rattle.jbig2_base.specs.Bits.{IsAligned};
+ghost use Rattle.jbig2_region.specs.Templates.{filled};
 ghost use Rattle.jbig2_text.specs.Causes.{TextHeadersHaveCauses};
-ghost use Rattle.jbig2_text.specs.TextHeader.{coding_view, header_view, corner_of, signed_5, other_flags, text_flags_at, table_numbers, table_numbers_at, text_fields_at, coding_at, text_pixels_at, text_header_at};
+ghost use Rattle.jbig2_text.specs.declared.text.header.TextFields.{TextFields};
+ghost use Rattle.jbig2_text.specs.TextHeader.{coding_view, header_view, corner_of, signed_5, other_flags, text_flags_at, table_numbers, table_numbers_at, text_fields_at, coding_at, fields_view, text_pixels, text_pixels_at, text_header_at};
 
 use crate::text::symbol_codes::parse_symbol_codes;
 use jbig2_base::bitmap::CombinationOperator;
@@ -190,7 +192,8 @@ fn parse_refinement_pixels(
     requires { IsAligned reader.old }
     ensures value { let meant = text_pixels_at flags.now.use_refinement
         flags.now.refinement_template reader.old.bytes in
-        Answers (λ pixels. (pixels, reader.new.bytes)) result meant }
+        Answers (λ pixels. (text_pixels flags.now pixels, reader.new.bytes)) result meant }
+    ensures unused { IfOk result (λ pixels. pixels ≡ filled 2 (text_pixels flags.now pixels)) }
     ensures aligned { IsAligned reader.new }
 {
     if flags.use_refinement {
@@ -205,9 +208,11 @@ fn parse_refinement_pixels(
 fn parse_fields(reader: &mut Reader<'_>) -> Result<TextFields>
     requires { IsAligned reader.old }
     ensures value { let meant = text_fields_at reader.old.bytes in
-        Answers (λ fields. (fields, reader.new.bytes)) result meant }
+        Answers (λ fields. (fields_view fields, reader.new.bytes)) result meant }
     ensures aligned { IsAligned reader.new }
     ensures strips { IfOk result (λ fields. fields.flags.log_strip_size ≤ 3) }
+    ensures unused { let used = λ (f : TextFields). text_pixels f.flags f.refinement_at_pixels in
+        IfOk result (λ fields. fields.refinement_at_pixels ≡ filled 2 (used fields)) }
 {
     let (use_huffman, flags) = parse_flags(reader)?;
     let table_numbers = parse_table_numbers(reader, use_huffman)?;
@@ -261,6 +266,8 @@ pub fn parse<'a, A: Allocator + Clone>(
         Gives (λ h. (header_view h, reader.new.bytes)) result meant }
     ensures aligned { IsAligned reader.new }
     ensures strips { IfOk result (λ h. h.flags.log_strip_size ≤ 3) }
+    ensures unused { IfOk result (λ h. h.refinement_at_pixels
+        ≡ filled 2 (header_view h).refinement_pixels) }
     ensures stays { OnErr result (reader.new ≡ reader.old) }
     ensures causes { TextHeadersHaveCauses }
 {

@@ -3,8 +3,10 @@ ghost use Rattle.std.specs.Prelude.{◌≡◌, ◌≤◌, ◌^◌, length, false
 ghost use Rattle.jbig2_base.specs.Answer.{Gives};
 ghost use Rattle.jbig2_base.specs.Grid.{blank};
 ghost use Rattle.jbig2_region.specs.Refinement.{refinement_bits};
+ghost use Rattle.jbig2_region.specs.RefinementTemplates.{two_pixels};
+ghost use Rattle.jbig2_region.specs.Templates.{filled};
 ghost use Rattle.jbig2_region.specs.inner.RefinementViews.{reference_view};
-ghost use Rattle.jbig2_text.specs.Refining.{fresh_refining, refining_by, refined_with};
+ghost use Rattle.jbig2_text.specs.Refining.{fresh_refining, refined_with, refining_by, some_pixels};
 
 use jbig2_base::bitmap::Bitmap;
 use jbig2_base::bitmap::steps::Steps;
@@ -21,34 +23,50 @@ use std::sync::ledger::Ledger;
 #[derive(Drop)]
 pub struct Refining<A: Allocator> {
     template: RefinementTemplate,
-    pixels: [AdaptiveTemplatePixel; 2],
+    /// None where the template has no adaptive pixels, or no symbol is refined.
+    pixels: Option<[AdaptiveTemplatePixel; 2]>,
     contexts: Vec<ArithmeticDecoderContext, A>,
 }
 
 impl<A: Allocator> Model for Refining<A> {
     ghost use Rattle.std.specs.Prelude.{◌≡◌, ◌^◌, length};
     ghost use Rattle.jbig2_region.specs.Refinement.{refinement_bits};
-    ghost use Rattle.jbig2_text.specs.Refining.{Refining};
+    ghost use Rattle.jbig2_text.specs.Refining.{Refining, some_pixels};
 
     ghost Value = { Refining };
 
     ghost view = { λ r.
-        record { template = r.template; pixels = r.pixels; contexts = r.contexts.items } };
+        let pixels = some_pixels r.pixels in
+        record { template = r.template; pixels = pixels; contexts = r.contexts.items } };
 
     ghost invariant = { λ r. length r.contexts.items ≡ 2 ^ refinement_bits r.template };
 }
 
+/// The two adaptive pixels, if the template has any.
+pub fn pixels_of_template(
+    template: RefinementTemplate,
+    pixels: [AdaptiveTemplatePixel; 2],
+) -> Option<[AdaptiveTemplatePixel; 2]>
+    ensures { some_pixels result ≡ two_pixels template pixels }
+{
+    match template {
+        RefinementTemplate::Template0 => Some(pixels),
+        RefinementTemplate::Template1 => None,
+    }
+}
+
 impl<A: Allocator> Refining<A> {
-    /// Refinements by contexts that know nothing yet.
+    /// Refinements by contexts that know nothing yet, and by these adaptive pixels, where there are any.
     ///
     /// # Errors
     /// `OutOfMemory` where the contexts find no room.
-    pub fn new(
+    pub fn fresh(
         alloc: A,
         template: RefinementTemplate,
-        pixels: [AdaptiveTemplatePixel; 2],
+        pixels: Option<[AdaptiveTemplatePixel; 2]>,
     ) -> Result<Refining<A>>
-        ensures { Gives (λ r. r) result (Ok (fresh_refining template pixels)) }
+        ensures { let meant = fresh_refining template (some_pixels pixels) in
+            Gives (λ r. r) result (Ok meant) }
     {
         let mut contexts = Vec::new(alloc);
         fresh_contexts(&mut contexts, template.context_bits())?;
@@ -59,20 +77,49 @@ impl<A: Allocator> Refining<A> {
         })
     }
 
-    /// Refinements by contexts that have learned, as many as the template has.
-    pub fn from_contexts(
+    /// Refinements by contexts that have learned, as many as the template has, and by these adaptive
+    /// pixels, where there are any.
+    pub fn with_contexts(
         template: RefinementTemplate,
-        pixels: [AdaptiveTemplatePixel; 2],
+        pixels: Option<[AdaptiveTemplatePixel; 2]>,
         contexts: Vec<ArithmeticDecoderContext, A>,
     ) -> Refining<A>
         requires { length contexts.items ≡ 2 ^ refinement_bits template }
-        ensures { result ≡ refining_by template pixels contexts.items }
+        ensures { result ≡ refining_by template (some_pixels pixels) contexts.items }
     {
         Refining {
             template,
             pixels,
             contexts,
         }
+    }
+
+    /// Refinements by contexts that know nothing yet. Template 1 has no adaptive pixels.
+    ///
+    /// # Errors
+    /// `OutOfMemory` where the contexts find no room.
+    pub fn new(
+        alloc: A,
+        template: RefinementTemplate,
+        pixels: [AdaptiveTemplatePixel; 2],
+    ) -> Result<Refining<A>>
+        ensures { let meant = fresh_refining template (two_pixels template pixels) in
+            Gives (λ r. r) result (Ok meant) }
+    {
+        Refining::fresh(alloc, template, pixels_of_template(template, pixels))
+    }
+
+    /// Refinements by contexts that have learned, as many as the template has. Template 1 has no
+    /// adaptive pixels.
+    pub fn from_contexts(
+        template: RefinementTemplate,
+        pixels: [AdaptiveTemplatePixel; 2],
+        contexts: Vec<ArithmeticDecoderContext, A>,
+    ) -> Refining<A>
+        requires { length contexts.items ≡ 2 ^ refinement_bits template }
+        ensures { result ≡ refining_by template (two_pixels template pixels) contexts.items }
+    {
+        Refining::with_contexts(template, pixels_of_template(template, pixels), contexts)
     }
 
     /// The template of its contexts.
@@ -108,7 +155,7 @@ impl<A: Allocator> Refining<A> {
     {
         refine_by(
             self.template,
-            &self.pixels,
+            self.pixels,
             &mut self.contexts,
             reference,
             bitmap,
@@ -118,10 +165,21 @@ impl<A: Allocator> Refining<A> {
     }
 }
 
+/// Two adaptive pixels, which no template takes where there are none.
+#[tactic(auto, using(crate::proofs::RefiningLemmas::two_filled))]
+fn two_of(pixels: Option<[AdaptiveTemplatePixel; 2]>) -> [AdaptiveTemplatePixel; 2]
+    ensures { result ≡ filled 2 (some_pixels pixels) }
+{
+    match pixels {
+        Some(pixels) => [pixels[0], pixels[1]],
+        None => [AdaptiveTemplatePixel { x: 0, y: 0 }; 2],
+    }
+}
+
 /// Refines `reference` by these contexts.
 fn refine_by<M: Allocator, B: Allocator, L: Ledger>(
     template: RefinementTemplate,
-    pixels: &[AdaptiveTemplatePixel; 2],
+    pixels: Option<[AdaptiveTemplatePixel; 2]>,
     contexts: &mut [ArithmeticDecoderContext],
     reference: &ReferenceBitmap<'_, B>,
     bitmap: &mut Bitmap<M>,
@@ -132,18 +190,19 @@ fn refine_by<M: Allocator, B: Allocator, L: Ledger>(
     requires columns { bitmap.old.width ≤ 65535 }
     requires rows { bitmap.old.height ≤ 65535 }
     requires white { bitmap.old ≡ blank bitmap.old.width bitmap.old.height false }
-    ensures grid { let f = refining_by template pixels.now contexts.old in
+    ensures grid { let f = refining_by template (some_pixels pixels) contexts.old in
         let from = reference_view reference.now in
         bitmap.new ≡ (refined_with f from bitmap.old.width bitmap.old.height decoder.old).grid }
-    ensures coder { let f = refining_by template pixels.now contexts.old in
+    ensures coder { let f = refining_by template (some_pixels pixels) contexts.old in
         let from = reference_view reference.now in
         decoder.new ≡ (refined_with f from bitmap.old.width bitmap.old.height decoder.old).coder }
-    ensures contexts { let f = refining_by template pixels.now contexts.old in
+    ensures contexts { let f = refining_by template (some_pixels pixels) contexts.old in
         let from = reference_view reference.now in
         let refined = refined_with f from bitmap.old.width bitmap.old.height decoder.old in
         contexts.new ≡ refined.refining.contexts }
 {
+    let adaptive = two_of(pixels);
     decode_bitmap(
-        template, false, pixels, reference, bitmap, decoder, contexts, steps,
+        template, false, &adaptive, reference, bitmap, decoder, contexts, steps,
     );
 }
