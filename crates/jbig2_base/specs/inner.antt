@@ -1,5 +1,6 @@
 pub mod Blocks
 pub mod Colour
+pub mod Combines
 pub mod Filled
 pub mod Layouts
 pub mod Packed
