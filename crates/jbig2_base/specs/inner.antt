@@ -1,3 +1,4 @@
+pub mod BitLists
 pub mod Blocks
 pub mod Colour
 pub mod Combines
