@@ -27,6 +27,7 @@ pub mod RunSteps
 pub mod SkippingLemmas
 pub mod StepLemmas
 pub mod StoreLemmas
+pub mod StretchLemmas
 pub mod Told
 pub mod UniformLemmas
 pub mod UnlikeLemmas

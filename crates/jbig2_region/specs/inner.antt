@@ -10,3 +10,4 @@ pub mod RefinementViews
 pub mod RefinementWindows
 pub mod RowCounts
 pub mod Rows
+pub mod Stretches
