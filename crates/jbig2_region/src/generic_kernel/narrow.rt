@@ -1,5 +1,5 @@
-//! Narrow regions of a template without adaptive pixels and without typical prediction: the windows on the
-//! two rows above are made out of the rows as they are decoded, and each row is stored at once.
+//! Narrow regions without adaptive pixels and without typical prediction: the windows on the two rows
+//! above are made out of the rows as they are decoded, and each row is stored at once.
 ghost use Rattle.std.specs.Prelude.{◌≡◌, ℕ, ◌+◌, ◌-◌, ◌*◌, ◌/◌, ◌%◌, ◌^◌, ◌<◌, ◌≤◌, true, false, length, if◌then◌else◌};
 ghost use Rattle.jbig2_base.specs.Counts.{KeepsLanes};
 ghost use Rattle.jbig2_base.specs.Grid.{Grid, blank, pixel_at};
@@ -21,8 +21,8 @@ use jbig2_coder::arithmetic_decoder::{ArithmeticDecoder, ArithmeticDecoderContex
 use std::alloc::Allocator;
 use std::sync::ledger::Ledger;
 
-/// The next `count` pixels, at most a byte, from the windows' column on: the first is the highest of
-/// the lowest `count` bits.
+/// The next `count` pixels, at most a byte, from the windows' column on: the first is the highest
+/// of the lowest `count` bits.
 #[inline(always)]
 fn push_pixels<L: Ledger>(
     neighbours: Neighbours,
@@ -106,8 +106,8 @@ fn push_byte<L: Ledger>(
     push_pixels(neighbours, 8, left, windows, decoder, contexts, steps)
 }
 
-/// A row of `width` pixels, the first in the highest of the lowest `width` bits, by the windows about
-/// its first column.
+/// A row of `width` pixels, the first in the highest of the lowest `width` bits, by the windows
+/// about its first column.
 #[inline(always)]
 fn push_row<L: Ledger>(
     neighbours: Neighbours,
@@ -148,7 +148,8 @@ fn push_row<L: Ledger>(
     pixels * (1 << count) + last
 }
 
-/// The windows about the first column of the next row, out of those of a row of these `width` pixels.
+/// The windows about the first column of the next row, out of those of a row of these `width`
+/// pixels.
 #[inline(always)]
 fn lowered(windows: Windows, width: u32, pixels: u64) -> Windows
     requires some { 1 ≤ width }
