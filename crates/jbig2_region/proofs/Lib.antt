@@ -10,6 +10,7 @@ pub mod GatherLemmas
 pub mod GenericLemmas
 pub mod GroupLemmas
 pub mod HeaderCauses
+pub mod NarrowLemmas
 pub mod PixelCauses
 pub mod PixelLemmas
 pub mod PlaceCounts
