@@ -1,5 +1,5 @@
 -- Rows of narrow regions, which are decoded into a number and then stored.
-use Rattle.std.proofs.Common.{subst, pos, ℤ, ◌-ℤ◌, ◌≡◌, ℕ, ◌+◌, ◌-◌, ◌*◌, ◌%◌, ◌^◌, ◌<◌, ◌≤◌, false, ◌&&◌, cond, eqb, ltb, leb, min, List, None, refl, sym, ap, ◌∙◌, ⊎_elim, arith}
+use Rattle.std.proofs.Common.{subst, pos, negsuc, ℤ, ◌-ℤ◌, ◌<ℤ◌, ◌≡◌, ℕ, ◌+◌, ◌-◌, ◌*◌, ◌%◌, ◌^◌, ◌<◌, ◌≤◌, false, ◌&&◌, cond, eqb, ltb, leb, min, List, None, refl, sym, ap, ◌∙◌, ⊎_elim, arith}
 use Rattle.std.proofs.lemmas.Bool.{cases_eq, cases_lt, cond-true, cond-false}
 use Rattle.std.proofs.lemmas.Int.{ints}
 use Rattle.std.proofs.Math.Nat.{pow-le-pow_right}
@@ -17,7 +17,7 @@ use Rattle.jbig2_region.specs.inner.NarrowRows.{Stands, StandsRow}
 use Rattle.jbig2_region.specs.inner.Neighbours.{IsLeft, SameAbove, Shows, ShowsRun}
 use Rattle.jbig2_region.specs.declared.generic_kernel.windows.Windows.{Windows}
 use Rattle.jbig2_region.proofs.RegisterLemmas.{bit-low, bit-placed, left-few}
-use Rattle.jbig2_region.proofs.StoreLemmas.{left-none, left-start, stored-above, stored-before, stored-inside, stored-outside}
+use Rattle.jbig2_region.proofs.StoreLemmas.{left-none, stored-above, stored-before, stored-inside, stored-outside}
 use Rattle.jbig2_region.proofs.WindowLemmas.{pixel-inside, same-above, shows-less, shows-same, window-first, window-none}
 
 -- n pixels and m more are n + m pixels
@@ -85,27 +85,39 @@ row-fits a b n m k few small sum low within =
     rw (one-shifted m low) (omega arith)
 
 -- ---- the pixels at the left
-left-stored : (g : Grid) (x y m b : ℕ) → 4 ≤ m → x + m ≤ g.width → y < g.height → IsLeft (with_pixels g x y m b) (x + m) y b
-left-stored g x y m b long wide above = λ k inside.
+-- the columns before a field are as they were, also left of all
+same-before : (g : Grid) (x y m b : ℕ) (X : ℤ) → X <ℤ pos x → pixel (with_pixels g x y m b) X (pos y) ≡ pixel g X (pos y)
+same-before g x y m b (pos i) less = stored-before g x y m b i (omega (arith, ints))
+same-before g x y m b (negsuc i) less = refl
+
+-- m pixels more, behind those that were at the left
+pub left-after : (g : Grid) (x y m left b : ℕ) → b < 2 ^ m → x + m ≤ g.width → y < g.height → IsLeft g x y left → IsLeft (with_pixels g x y m b) (x + m) y (left * 2 ^ m + b)
+left-after g x y m left b small wide above before = λ k inside.
+    let order : left * 2 ^ m + b ≡ b + left * 2 ^ m = omega arith in
+    ap (λ (n : ℕ). bit n k) order
+    ∙ ⊎_elim
+    (λ (new : k < m).
     let column : pos (x + m) -ℤ pos (k + 1) ≡ pos (x + (m - 1 - k)) = omega (arith, ints) in
     let place : x + m - 1 - (x + (m - 1 - k)) ≡ k = omega arith in
-    sym (pixel-inside (with_pixels g x y m b) (pos (x + m) -ℤ pos (k + 1)) (pos y) (x + (m - 1 - k)) y column refl
-    ∙ stored-inside g x y m b (x + (m - 1 - k)) (omega arith) (omega arith) wide above ∙ ap (λ (n : ℕ). bit b n) place)
+    bit-low b left m k new
+    ∙ sym (pixel-inside (with_pixels g x y m b) (pos (x + m) -ℤ pos (k + 1)) (pos y) (x + (m - 1 - k)) y column refl
+    ∙ stored-inside g x y m b (x + (m - 1 - k)) (omega arith) (omega arith) wide above ∙ ap (λ (n : ℕ). bit b n) place))
+    (λ (old : m ≤ k).
+    let place : m + (k - m) ≡ k = omega arith in
+    let column : pos (x + m) -ℤ pos (k + 1) ≡ pos x -ℤ pos (k - m + 1) = omega (arith, ints) in
+    ap (λ (n : ℕ). bit (b + left * 2 ^ m) n) (sym place) ∙ bit-placed b left m (k - m) small ∙ before (k - m) (omega arith)
+    ∙ sym (same-before g x y m b (pos x -ℤ pos (k - m + 1)) (omega (arith, ints)))
+    ∙ ap (λ (X : ℤ). pixel (with_pixels g x y m b) X (pos y)) (sym column))
+    (cases_lt k m)
 
 -- after so many bytes of a row
 left-bytes : (g : Grid) (y done b : ℕ) → b < 2 ^ (8 * done) → 8 * done ≤ g.width → y < g.height → IsLeft (with_pixels g 0 y (8 * done) b) (8 * done) y b
 left-bytes g y done b small wide above =
-    ⊎_elim
-    (λ (first : done < 1).
-    let place : 0 ≡ 8 * done = omega arith in
-    let one : 2 ^ (8 * done) ≡ 1 = ap (λ (n : ℕ). 2 ^ n) (sym place) in
-    let none : 0 ≡ b = omega arith in
-    subst (λ (n : ℕ). IsLeft (with_pixels g 0 y n b) n y b) place
-    (subst (λ (n : ℕ). IsLeft (with_pixels g 0 y 0 b) 0 y n) none (left-start g 0 y b 0 (left-none g y))))
-    (λ (later : 1 ≤ done).
-    let place : 0 + 8 * done ≡ 8 * done = omega arith in
-    subst (λ (n : ℕ). IsLeft (with_pixels g 0 y (8 * done) b) n y b) place (left-stored g 0 y (8 * done) b (omega arith) (omega arith) above))
-    (cases_lt done 1)
+    let column : 0 + 8 * done ≡ 8 * done = omega arith in
+    let number : 0 * 2 ^ (8 * done) + b ≡ b = omega arith in
+    subst (λ (n : ℕ). IsLeft (with_pixels g 0 y (8 * done) b) (8 * done) y n) number
+    (subst (λ (n : ℕ). IsLeft (with_pixels g 0 y (8 * done) b) n y (0 * 2 ^ (8 * done) + b)) column
+    (left-after g 0 y (8 * done) 0 b small (omega arith) above (left-none g y)))
 
 -- where a row stands, its next byte does
 pub stands-next : (g : Grid) (y width done count b : ℕ) (w v : Windows) → StandsRow g y width w → b < 2 ^ (8 * done) → 8 * done + count ≤ width → done ≤ 5

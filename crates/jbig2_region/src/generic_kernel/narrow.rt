@@ -24,7 +24,7 @@ use std::sync::ledger::Ledger;
 /// The next `count` pixels, at most a byte, from the windows' column on: the first is the highest
 /// of the lowest `count` bits.
 #[inline(always)]
-fn push_pixels<L: Ledger>(
+pub fn push_pixels<L: Ledger>(
     neighbours: Neighbours,
     count: u32,
     left: u32,

@@ -1,4 +1,4 @@
-use Rattle.std.proofs.Common.{◌≡◌, ◌≤◌, ◌+◌, ◌*◌}
+use Rattle.std.proofs.Common.{◌≤◌, ◌+◌, ◌*◌}
 use Rattle.jbig2_region.specs.inner.RefinementViews.{reference_view}
 use Rattle.jbig2_region.specs.inner.RefinementWindows.{SeesRows, windowed_coding}
 use Rattle.jbig2_region.proofs.StretchLemmas.{RowsDecoded}

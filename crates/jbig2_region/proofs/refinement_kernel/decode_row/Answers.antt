@@ -1,4 +1,4 @@
-use Rattle.std.proofs.Common.{arith, refl, min, subst, ap, ◌≡◌, ◌+◌, ◌*◌, ◌%◌, ℕ, ◌∙◌}
+use Rattle.std.proofs.Common.{arith, min, subst, ap, ◌≡◌, ◌+◌, ◌*◌, ◌%◌, ℕ}
 use Rattle.jbig2_base.specs.Counts.{Counts}
 use Rattle.jbig2_region.specs.inner.Neighbours.{IsLeft}
 use Rattle.jbig2_region.specs.inner.RefinementWindows.{windowed_coding}

@@ -1,4 +1,4 @@
-use Rattle.std.proofs.Common.{◌≡◌, ◌≤◌, ◌+◌, ◌*◌, false}
+use Rattle.std.proofs.Common.{◌≤◌, ◌+◌, ◌*◌, false}
 use Rattle.jbig2_base.specs.Counts.{KeepsLanes}
 use Rattle.jbig2_region.specs.Skipping.{skip_of, skipping_coding, skipping_loads, skipping_words}
 use Rattle.jbig2_region.specs.inner.Neighbours.{nominal_pixels}
