@@ -1,398 +1,308 @@
-//! Runs of the program over memory.
-//!
-//! `rt try --test --fail-alloc N` in this crate's folder runs these tests with the Nth request for memory
-//! refused; they are written to hold for each N.
+//! Runs of `jbig2-decode` over memory.
 mod t88_example;
 
+use crate::bytes::{FILE, bytes_of};
+use crate::streams::{Full, Slow};
+use hayro_jbig2::{DecodeError, Result};
 use jbig2_commands::{file_word, run};
-use std::alloc::{AllocError, Global};
-use std::io;
-use std::io::{Cursor, Read, Write};
-use std::process::Abort;
-use std::test::Fail;
+use std::alloc::Global;
+use std::io::{Cursor, ErrorKind, Read};
 
-const USAGE: &str = "usage: jbig2-decode [--strict] pages|embedded FILE | calls|pbm FILE INDEX\n";
+const USAGE: &[u8] = b"usage: jbig2-decode [--strict] pages|embedded FILE | calls|pbm FILE INDEX\n";
 
-const OUT_OF_MEMORY: &str = "error: out of memory\n";
+const OUT_OF_MEMORY: &[u8] = b"error: out of memory\n";
 
-const WHITE: &str = "push_pixel_chunk false 1\nnext_line\n";
+const WHITE: &[u8] = b"push_pixel_chunk false 1\nnext_line\n";
 
-/// The information of a white page of 8 by 1.
-const PAGE: [u8; 30] = [
-    0, 0, 0, 0, 0x30, 0, 1, 0, 0, 0, 0x13, 0, 0, 0, 8, 0, 0, 0, 1, 0, 0, 0, 0, 0, 0, 0, 0, 0, 0, 0,
-];
-
-/// Row 16's first file: a white page of 8 by 1, and its end.
-const FILE: [u8; 54] = [
-    0x97, 0x4A, 0x42, 0x32, 0x0D, 0x0A, 0x1A, 0x0A, 1, 0, 0, 0, 1, 0, 0, 0, 0, 0x30, 0, 1, 0, 0, 0,
-    0x13, 0, 0, 0, 8, 0, 0, 0, 1, 0, 0, 0, 0, 0, 0, 0, 0, 0, 0, 0, 0, 0, 0, 1, 0x31, 0, 1, 0, 0, 0,
-    0,
-];
+/// Two rows of nine black pixels.
+const BLACK: &[u8] = b"push_pixel_chunk true 1\npush_pixel true\nnext_line\n\
+    push_pixel_chunk true 1\npush_pixel true\nnext_line\n";
 
 /// Row 14: a page, and a segment that is cut off.
-const CUT_OFF: [u8; 35] = [
-    0, 0, 0, 0, 0x30, 0, 1, 0, 0, 0, 0x13, 0, 0, 0, 8, 0, 0, 0, 1, 0, 0, 0, 0, 0, 0, 0, 0, 0, 0, 0,
-    0, 0, 0, 1, 0x26,
-];
+const CUT_OFF: &str = "P 00000001 26";
 
-/// The status of a run, and what it writes.
-fn ran(
+/// A file whose page has no end.
+const UNENDED: &str = "H 01 00000001 P";
+
+/// A file of a black page of 9 by 2.
+const BLACK_FILE: &str = "H 01 00000001 P@11=00000009@15=00000002@27=04 00000001 31 00 01 00000000";
+
+/// A file with a segment that a strict decoder refuses when it decodes.
+const UNDECODABLE: &str =
+    "H 01 00000001 P 00000001 3E 00 01 00000004 80000000 00000002 31 00 01 00000000";
+
+/// The words of a run.
+type Words = &'static [&'static str];
+
+/// The status of a run, what it writes, and what standard error is told.
+type End<'e> = (u8, &'e [u8], &'e [u8]);
+
+/// Whether a run ends so. Answers `DecodeError::OutOfMemory` where it says that memory was refused.
+fn run_ends<R: Read>(
     alloc: Global,
     words: &[&str],
-    file: Option<&[u8]>,
-) -> Result<(u8, Vec<u8>, Vec<u8>), AllocError> {
+    file: Option<&mut R>,
+    expected: End<'_>,
+) -> Result<bool> {
     let mut out = Vec::with_capacity(alloc, 256)?;
     let mut err = Vec::with_capacity(alloc, 256)?;
-    let mut reader = file.map(|bytes| Cursor::new(bytes));
-    let status = run(alloc, words, reader.as_mut(), &mut out, &mut err).status;
-    Ok((status, out, err))
-}
-
-/// Compares a run's status and what it writes. At most one request for memory is refused in a test's run, so
-/// a run that says so is tried again.
-fn expect_bytes(
-    rt: &(impl Abort + Alloc<A = Global>),
-    words: &[&str],
-    file: Option<&[u8]>,
-    expected: (u8, &[u8], &str),
-) {
-    let (expected_status, expected_out, expected_err) = expected;
-    for attempt in 0..2 {
-        let Ok((status, out, err)) = ran(rt.alloc(), words, file) else {
-            continue;
-        };
-        if attempt == 0 && err.as_slice() == OUT_OF_MEMORY.as_bytes() {
-            assert_eq!(rt; status, 1, "{words:?}");
-            assert!(rt; out.is_empty(), "{words:?}");
-            continue;
-        }
-        assert_eq!(rt; status, expected_status, "{words:?}");
-        assert_eq!(rt; out.as_slice(), expected_out, "{words:?}");
-        assert_eq!(rt; err.as_slice(), expected_err.as_bytes(), "{words:?}");
-        return;
+    let status = run(alloc, words, file, &mut out, &mut err).status;
+    if err.as_slice() == OUT_OF_MEMORY && status == 1 && out.is_empty() {
+        return Err(DecodeError::OutOfMemory);
     }
-    assert!(rt; false, "memory is refused twice");
+    Ok((status, out.as_slice(), err.as_slice()) == expected)
 }
 
-/// The same, where what is written is text.
-fn expect(
-    rt: &(impl Abort + Alloc<A = Global>),
-    words: &[&str],
-    file: Option<&[u8]>,
-    expected: (u8, &str, &str),
-) {
-    let (status, out, err) = expected;
-    expect_bytes(rt, words, file, (status, out.as_bytes(), err));
+/// Whether a run over these bytes ends so.
+fn ends_over(alloc: Global, words: &[&str], bytes: &[u8], expected: End<'_>) -> Result<bool> {
+    run_ends(alloc, words, Some(&mut Cursor::new(bytes)), expected)
 }
+
+/// Whether a run over the file that a text spells ends so.
+fn ends_once(alloc: Global, words: &[&str], text: &str, expected: End<'_>) -> Result<bool> {
+    let bytes = bytes_of(alloc, text)?;
+    ends_over(alloc, words, &bytes, expected)
+}
+
+/// The same; where memory was refused it is run again.
+fn ends_so(alloc: Global, words: &[&str], text: &str, expected: End<'_>) -> bool {
+    let mut ends = ends_once(alloc, words, text, expected);
+    if ends == Err(DecodeError::OutOfMemory) {
+        ends = ends_once(alloc, words, text, expected);
+    }
+    ends == Ok(true)
+}
+
+/// Words that ask for nothing.
+const REFUSED_WORDS: &[Words] = &[
+    &[],
+    &["embedded"],
+    &["--strict", "embedded"],
+    &["embedded", "--strict", "page"],
+    &["draw", "page"],
+    &["embedded", "page", "0"],
+    &["pages", "file", "0"],
+    &["calls", "file"],
+    &["calls", "file", ""],
+    &["pbm", "file", "+1"],
+    &["pbm", "--strict", "file", "1"],
+];
 
 #[test]
 fn other_words_print_the_usage(rt: HostRuntime) {
-    let page = Some(PAGE.as_slice());
-    expect(&rt, &[], None, (2, "", USAGE));
-    expect(&rt, &["embedded"], page, (2, "", USAGE));
-    expect(&rt, &["--strict", "embedded"], page, (2, "", USAGE));
-    expect(&rt, &["embedded", "--strict", "page"], page, (2, "", USAGE));
-    expect(&rt, &["draw", "page"], page, (2, "", USAGE));
-    expect(&rt, &["embedded", "page", "0"], None, (2, "", USAGE));
-    expect(&rt, &["pages", "file", "0"], None, (2, "", USAGE));
-    expect(&rt, &["calls", "file"], None, (2, "", USAGE));
-    expect(&rt, &["calls", "file", ""], None, (2, "", USAGE));
-    expect(&rt, &["pbm", "file", "+1"], None, (2, "", USAGE));
-    expect(&rt, &["pbm", "--strict", "file", "1"], None, (2, "", USAGE));
-    assert_eq!(rt; file_word(&["--strict", "embedded", "page"]), Some("page"));
-    assert_eq!(rt; file_word(&["embedded", "page"]), Some("page"));
-    assert_eq!(rt; file_word(&["page"]), None);
-    assert_eq!(rt; file_word(&["pages", "file"]), Some("file"));
-    assert_eq!(rt;
-        file_word(&["--strict", "calls", "file", "0"]),
-        Some("file")
-    );
-    assert_eq!(rt; file_word(&["pbm", "--strict", "12"]), Some("--strict"));
-    assert_eq!(rt; file_word(&["pbm", "file", "1a"]), None);
-}
-
-#[test]
-fn calls_and_faults_are_printed(rt: HostRuntime) {
-    expect(&rt, &["embedded", "page"], Some(&PAGE), (0, WHITE, ""));
-    expect(
-        &rt,
-        &["embedded", "page"],
-        None,
-        (1, "", "error: cannot read file\n"),
-    );
-    let empty = "error: missing page information segment\n";
-    expect(&rt, &["embedded", "page"], Some(&[]), (1, "", empty));
-    expect(&rt, &["embedded", "page"], Some(&CUT_OFF), (0, WHITE, ""));
-    let cut_off = "error: unexpected end of input\n";
-    expect(
-        &rt,
-        &["--strict", "embedded", "page"],
-        Some(&CUT_OFF),
-        (1, "", cut_off),
-    );
-}
-
-/// Row R9.3.
-#[test]
-fn the_pages_of_a_file_are_printed(rt: HostRuntime) {
-    let file = Some(FILE.as_slice());
-    expect(&rt, &["pages", "file"], file, (0, "1 8 1\n", ""));
-    expect(&rt, &["calls", "file", "0"], file, (0, WHITE, ""));
-    expect(&rt, &["pbm", "file", "0"], file, (0, "P4\n8 1\n\0", ""));
-    expect(
-        &rt,
-        &["--strict", "pbm", "file", "00"],
-        file,
-        (0, "P4\n8 1\n\0", ""),
-    );
-    let none = "error: no such page\n";
-    expect(&rt, &["calls", "file", "1"], file, (1, "", none));
-    expect(&rt, &["pbm", "file", "1"], file, (1, "", none));
-    let too_large = "99999999999999999999999999";
-    expect(&rt, &["calls", "file", too_large], file, (1, "", none));
-}
-
-#[test]
-fn a_file_is_read_before_its_page_is_looked_for(rt: HostRuntime) {
-    let unended = Some(&FILE[..43]);
-    expect(&rt, &["pages", "file"], unended, (0, "1 8 1\n", ""));
-    let no_end = "error: page without exactly one end of page segment\n";
-    expect(
-        &rt,
-        &["--strict", "calls", "file", "1"],
-        unended,
-        (1, "", no_end),
-    );
-    let no_header = "error: invalid JBIG2 file header\n";
-    expect(&rt, &["pbm", "file", "1"], Some(&PAGE), (1, "", no_header));
-    expect(
-        &rt,
-        &["pbm", "file", "1"],
-        None,
-        (1, "", "error: cannot read file\n"),
-    );
-}
-
-#[test]
-fn rows_of_a_bitmap_begin_a_byte(rt: HostRuntime) {
-    let mut black = FILE;
-    black[27] = 9;
-    black[31] = 2;
-    black[40] = 4;
-    let calls = "push_pixel_chunk true 1\npush_pixel true\nnext_line\n\
-        push_pixel_chunk true 1\npush_pixel true\nnext_line\n";
-    expect(&rt, &["calls", "file", "0"], Some(&black), (0, calls, ""));
-    let Ok((status, out, err)) = ran(rt.alloc(), &["pbm", "file", "0"], Some(&black)) else {
-        return;
-    };
-    if err.as_slice() == OUT_OF_MEMORY.as_bytes() {
-        return;
+    for words in REFUSED_WORDS {
+        assert!(rt;
+            ends_so(rt.alloc(), words, "P", (2, b"", USAGE)),
+            "{words:?}"
+        );
     }
-    assert_eq!(rt; status, 0);
-    assert_eq!(rt; out.as_slice(), b"P4\n9 2\n\xFF\x80\xFF\x80".as_slice());
 }
 
-/// A file with a segment that a strict decoder refuses when it decodes.
-fn undecodable() -> [u8; 69] {
-    let mut bytes = [0; 69];
-    bytes[..43].copy_from_slice(&FILE[..43]);
-    bytes[43..58].copy_from_slice(&[0, 0, 0, 1, 0x3E, 0, 1, 0, 0, 0, 4, 0x80, 0, 0, 0]);
-    bytes[58..69].copy_from_slice(&[0, 0, 0, 2, 0x31, 0, 1, 0, 0, 0, 0]);
-    bytes
-}
+/// Words, and the one that names the file.
+const FILE_WORDS: &[(Words, Option<&str>)] = &[
+    (&["--strict", "embedded", "page"], Some("page")),
+    (&["embedded", "page"], Some("page")),
+    (&["page"], None),
+    (&["pages", "file"], Some("file")),
+    (&["--strict", "calls", "file", "0"], Some("file")),
+    (&["pbm", "--strict", "12"], Some("--strict")),
+    (&["pbm", "file", "1a"], None),
+];
 
-/// Nothing is printed, no header either.
 #[test]
-fn a_page_that_is_not_decoded_prints_nothing(rt: HostRuntime) {
-    let bytes = undecodable();
-    let unknown = "error: unsupported feature\n";
-    expect(
-        &rt,
-        &["--strict", "pbm", "file", "0"],
-        Some(&bytes),
-        (1, "", unknown),
-    );
-    expect(
-        &rt,
-        &["--strict", "calls", "file", "0"],
-        Some(&bytes),
-        (1, "", unknown),
-    );
-    expect(
-        &rt,
-        &["--strict", "pages", "file"],
-        Some(&bytes),
-        (0, "1 8 1\n", ""),
-    );
-    expect(
-        &rt,
+fn a_word_names_the_file(rt: HostRuntime) {
+    for (words, file) in FILE_WORDS {
+        assert!(rt; file_word(words) == *file, "{words:?}");
+    }
+}
+
+/// Words, the file, and what is printed. Row R9.3 is among them.
+const PRINTED: &[(Words, &str, &[u8])] = &[
+    (&["embedded", "page"], "P", WHITE),
+    (&["embedded", "page"], CUT_OFF, WHITE),
+    (&["pages", "file"], FILE, b"1 8 1\n"),
+    (&["calls", "file", "0"], FILE, WHITE),
+    (&["pbm", "file", "0"], FILE, b"P4\n8 1\n\0"),
+    (&["--strict", "pbm", "file", "00"], FILE, b"P4\n8 1\n\0"),
+    (&["pages", "file"], UNENDED, b"1 8 1\n"),
+    (&["calls", "file", "0"], BLACK_FILE, BLACK),
+    (
         &["pbm", "file", "0"],
-        Some(&bytes),
-        (0, "P4\n8 1\n\0", ""),
-    );
-}
+        BLACK_FILE,
+        b"P4\n9 2\n\xFF\x80\xFF\x80",
+    ),
+    (&["--strict", "pages", "file"], UNDECODABLE, b"1 8 1\n"),
+    (&["pbm", "file", "0"], UNDECODABLE, b"P4\n8 1\n\0"),
+];
 
-/// Gives the bytes one by one, each behind an interruption, and fails where it is read more often than
-/// its patience lasts.
-#[derive(Drop)]
-struct Slow<'a> {
-    bytes: &'a [u8],
-    ready: bool,
-    patience: usize,
-}
-
-impl<'a> Read for Slow<'a> {
-    fn read(&mut self, buf: &mut [u8]) -> io::Result<usize> {
-        if self.patience == 0 {
-            return Err(io::Error::from(io::ErrorKind::OutOfMemory));
-        }
-        self.patience -= 1;
-        self.ready = !self.ready;
-        if !self.ready {
-            return Err(io::Error::from(io::ErrorKind::Interrupted));
-        }
-        match (self.bytes, buf.first_mut()) {
-            ([first, others @ ..], Some(place)) => {
-                *place = *first;
-                self.bytes = others;
-                Ok(1)
-            }
-            _ => Ok(0),
-        }
+#[test]
+fn pages_calls_and_bitmaps_are_printed(rt: HostRuntime) {
+    for (words, file, out) in PRINTED {
+        assert!(rt;
+            ends_so(rt.alloc(), words, file, (0, out, b"")),
+            "{words:?} {file}"
+        );
     }
 }
 
-/// The page has 30 bytes, so that the end is read at the 62nd read.
+const UNSUPPORTED: &[u8] = b"error: unsupported feature\n";
+
+const NO_SUCH_PAGE: &[u8] = b"error: no such page\n";
+
+/// Words, the file, and the fault that is told. Nothing is printed, no header either: a file is read before its
+/// page is looked for, and a page is decoded before it is printed.
+const FAULTS: &[(Words, &str, &[u8])] = &[
+    (
+        &["embedded", "page"],
+        "",
+        b"error: missing page information segment\n",
+    ),
+    (
+        &["--strict", "embedded", "page"],
+        CUT_OFF,
+        b"error: unexpected end of input\n",
+    ),
+    (&["calls", "file", "1"], FILE, NO_SUCH_PAGE),
+    (&["pbm", "file", "1"], FILE, NO_SUCH_PAGE),
+    (
+        &["calls", "file", "99999999999999999999999999"],
+        FILE,
+        NO_SUCH_PAGE,
+    ),
+    (
+        &["--strict", "calls", "file", "1"],
+        UNENDED,
+        b"error: page without exactly one end of page segment\n",
+    ),
+    (
+        &["pbm", "file", "1"],
+        "P",
+        b"error: invalid JBIG2 file header\n",
+    ),
+    (&["--strict", "pbm", "file", "0"], UNDECODABLE, UNSUPPORTED),
+    (
+        &["--strict", "calls", "file", "0"],
+        UNDECODABLE,
+        UNSUPPORTED,
+    ),
+];
+
+#[test]
+fn faults_are_told_and_nothing_is_printed(rt: HostRuntime) {
+    for (words, file, err) in FAULTS {
+        assert!(rt;
+            ends_so(rt.alloc(), words, file, (1, b"", err)),
+            "{words:?} {file}"
+        );
+    }
+}
+
+const UNREADABLE: &[u8] = b"error: cannot read file\n";
+
+/// Whether a run without a file, and one whose reader has this patience, end as they are to. The page has 30 bytes,
+/// so that the end is read at the 62nd read.
+fn reader_holds(alloc: Global, patience: usize) -> Result<bool> {
+    let bytes = bytes_of(alloc, "P")?;
+    let mut reader = Slow::new(&bytes, patience, ErrorKind::OutOfMemory);
+    let expected: End<'_> = if patience < 62 {
+        (1, b"", UNREADABLE)
+    } else {
+        (0, WHITE, b"")
+    };
+    run_ends(alloc, &["embedded", "page"], Some(&mut reader), expected)
+}
+
 #[test]
 fn a_slow_reader_changes_nothing_and_a_broken_one_is_unreadable(rt: HostRuntime) {
     for patience in 0..64 {
-        let mut reader = Slow {
-            bytes: &PAGE,
-            ready: true,
-            patience,
-        };
-        let (Ok(mut out), Ok(mut err)) = (
-            Vec::with_capacity(rt.alloc(), 256),
-            Vec::with_capacity(rt.alloc(), 256),
-        ) else {
-            return;
-        };
-        let words = ["embedded", "page"];
-        let status = run(rt.alloc(), &words, Some(&mut reader), &mut out, &mut err).status;
-        if err.as_slice() == OUT_OF_MEMORY.as_bytes() {
-            continue;
-        }
-        let expected = if patience < 62 {
-            (1, "", "error: cannot read file\n")
-        } else {
-            (0, WHITE, "")
-        };
-        assert_eq!(rt; status, expected.0);
-        assert_eq!(rt; out.as_slice(), expected.1.as_bytes());
-        assert_eq!(rt; err.as_slice(), expected.2.as_bytes());
-    }
-}
-
-/// Has room for so many bytes.
-#[derive(Drop)]
-struct Full(usize);
-
-impl Write for Full {
-    fn write(&mut self, buf: &[u8]) -> io::Result<usize> {
-        if self.0 == 0 {
-            return Err(io::Error::from(io::ErrorKind::StorageFull));
-        }
-        let count = self.0.min(buf.len());
-        self.0 -= count;
-        Ok(count)
-    }
-
-    fn flush(&mut self) -> io::Result<()> {
-        Ok(())
+        let holds = reader_holds(rt.alloc(), patience);
+        assert!(rt;
+            holds == Ok(true) || holds == Err(DecodeError::OutOfMemory),
+            "{patience}"
+        );
     }
 }
 
 #[test]
+fn what_is_not_there_is_unreadable(rt: HostRuntime) {
+    let runs: [&[&str]; 2] = [&["embedded", "page"], &["pbm", "file", "1"]];
+    for words in runs {
+        let ends = run_ends::<Slow<'_>>(rt.alloc(), words, None, (1, b"", UNREADABLE));
+        assert!(rt;
+            ends == Ok(true) || ends == Err(DecodeError::OutOfMemory),
+            "{words:?}"
+        );
+    }
+}
+
+/// Whether a run with such an output ends with this status and tells this. Answers `DecodeError::OutOfMemory` where
+/// it says that memory was refused.
+fn writes_so(
+    alloc: Global,
+    words: &[&str],
+    text: &str,
+    out: &mut Full,
+    expected: (u8, &[u8]),
+) -> Result<bool> {
+    let bytes = bytes_of(alloc, text)?;
+    let mut err = Vec::with_capacity(alloc, 256)?;
+    let mut reader = Cursor::new(bytes.as_slice());
+    let status = run(alloc, words, Some(&mut reader), out, &mut err).status;
+    if err.as_slice() == OUT_OF_MEMORY {
+        return Err(DecodeError::OutOfMemory);
+    }
+    Ok((status, err.as_slice()) == expected)
+}
+
+/// Words, the file, the rooms of an output from the first to the last, and how many bytes are printed.
+const ROOMS: &[(Words, &str, (usize, usize), usize)] = &[
+    (&["embedded", "page"], "P", (0, 35), 35),
+    (&["embedded", "page"], "P@17=FF", (20000, 20000), 35 * 65281),
+    (&["pages", "file"], FILE, (0, 6), 6),
+    (&["calls", "file", "0"], FILE, (0, 35), 35),
+    (&["pbm", "file", "0"], FILE, (0, 8), 8),
+];
+
+/// Each byte of the output may be the one that cannot be written: what came before it is written, and nothing is told.
+#[test]
 fn output_that_cannot_be_written_ends_the_run(rt: HostRuntime) {
-    let mut tall = PAGE;
-    tall[17] = 0xFF;
-    for (bytes, room) in [(PAGE, 0), (PAGE, 33), (tall, 20000)] {
-        let mut out = Full(room);
-        let Ok(mut err) = Vec::with_capacity(rt.alloc(), 256) else {
-            return;
-        };
-        let words = ["embedded", "page"];
-        let mut reader = Cursor::new(bytes);
-        let status = run(rt.alloc(), &words, Some(&mut reader), &mut out, &mut err).status;
-        if err.as_slice() == OUT_OF_MEMORY.as_bytes() {
-            return;
+    for (words, file, (first, last), length) in ROOMS {
+        for room in *first..=*last {
+            let mut out = Full {
+                room,
+                flushes: true,
+            };
+            let expected: (u8, &[u8]) = (u8::from(room < *length), b"");
+            let ends = writes_so(rt.alloc(), words, file, &mut out, expected);
+            let refused = ends == Err(DecodeError::OutOfMemory);
+            assert!(rt;
+                refused || ends == Ok(true) && out.room == 0,
+                "{words:?} {room}"
+            );
         }
-        assert_eq!(rt; status, 1);
-        assert_eq!(rt; out.0, 0);
-        assert!(rt; err.is_empty());
     }
 }
 
-/// Takes every byte, and cannot be flushed.
-#[derive(Drop)]
-struct Unflushed;
-
-impl Write for Unflushed {
-    fn write(&mut self, buf: &[u8]) -> io::Result<usize> {
-        Ok(buf.len())
-    }
-
-    fn flush(&mut self) -> io::Result<()> {
-        Err(io::Error::from(io::ErrorKind::StorageFull))
-    }
-}
+/// Words, and what is told where the output cannot be flushed.
+const UNFLUSHED: &[(Words, &[u8])] = &[
+    (&["--strict", "calls", "file", "0"], UNSUPPORTED),
+    (&["--strict", "pbm", "file", "0"], UNSUPPORTED),
+    (&["calls", "file", "0"], b""),
+    (&["pbm", "file", "0"], b""),
+];
 
 /// Decoding comes before writing, so its fault is the one that is told.
 #[test]
 fn a_page_that_is_not_decoded_is_not_flushed(rt: HostRuntime) {
-    let unknown = "error: unsupported feature\n";
-    let runs: [(&[&str], &str); 4] = [
-        (&["--strict", "calls", "file", "0"], unknown),
-        (&["--strict", "pbm", "file", "0"], unknown),
-        (&["calls", "file", "0"], ""),
-        (&["pbm", "file", "0"], ""),
-    ];
-    for (words, told) in runs {
-        let mut out = Unflushed;
-        let Ok(mut err) = Vec::with_capacity(rt.alloc(), 256) else {
-            return;
+    for (words, told) in UNFLUSHED {
+        let mut out = Full {
+            room: 256,
+            flushes: false,
         };
-        let mut reader = Cursor::new(undecodable());
-        let status = run(rt.alloc(), words, Some(&mut reader), &mut out, &mut err).status;
-        if err.as_slice() == OUT_OF_MEMORY.as_bytes() {
-            continue;
-        }
-        assert_eq!(rt; status, 1, "{words:?}");
-        assert_eq!(rt; err.as_slice(), told.as_bytes(), "{words:?}");
-    }
-}
-
-#[test]
-fn each_byte_of_the_output_may_be_the_one_that_cannot_be_written(rt: HostRuntime) {
-    let runs: [(&[&str], usize); 3] = [
-        (&["pages", "file"], 6),
-        (&["calls", "file", "0"], 35),
-        (&["pbm", "file", "0"], 8),
-    ];
-    for (words, length) in runs {
-        for room in 0..length + 1 {
-            let mut out = Full(room);
-            let Ok(mut err) = Vec::with_capacity(rt.alloc(), 256) else {
-                return;
-            };
-            let mut reader = Cursor::new(FILE);
-            let status = run(rt.alloc(), words, Some(&mut reader), &mut out, &mut err).status;
-            if err.as_slice() == OUT_OF_MEMORY.as_bytes() {
-                continue;
-            }
-            assert_eq!(rt; status, u8::from(room < length), "{words:?}");
-            assert_eq!(rt; out.0, 0, "{words:?}");
-            assert!(rt; err.is_empty(), "{words:?}");
-        }
+        let ends = writes_so(rt.alloc(), words, UNDECODABLE, &mut out, (1, told));
+        assert!(rt;
+            ends == Ok(true) || ends == Err(DecodeError::OutOfMemory),
+            "{words:?}"
+        );
     }
 }

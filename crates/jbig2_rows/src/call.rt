@@ -11,6 +11,12 @@ pub enum Call {
     Line,
 }
 
+/// `push_pixel` of a black pixel.
+pub const INK: Call = Call::Pixel(true);
+
+/// `push_pixel` of a white pixel.
+pub const PAPER: Call = Call::Pixel(false);
+
 /// One row of eight white pixels.
 pub const WHITE: &[Call] = &[Call::Chunk(false, 1), Call::Line];
 
@@ -27,13 +33,13 @@ pub const BLACK: &[Call] = &[Call::Chunk(true, 1), Call::Line];
 
 /// One row of a black pixel and seven white ones.
 pub const DOT: &[Call] = &[
-    Call::Pixel(true),
-    Call::Pixel(false),
-    Call::Pixel(false),
-    Call::Pixel(false),
-    Call::Pixel(false),
-    Call::Pixel(false),
-    Call::Pixel(false),
-    Call::Pixel(false),
+    INK,
+    PAPER,
+    PAPER,
+    PAPER,
+    PAPER,
+    PAPER,
+    PAPER,
+    PAPER,
     Call::Line,
 ];

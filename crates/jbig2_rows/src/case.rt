@@ -11,7 +11,7 @@ use crate::table::{TableCase, table_holds};
 use hayro_jbig2::parts::reader::Reader;
 use hayro_jbig2::parts::segment::{SegmentType, parse_segment_header};
 use hayro_jbig2::{DecodeError, DecodeSettings, DecoderContext, Globals, Page, Result};
-use std::alloc::Allocator;
+use std::alloc::Global;
 use std::marker::Brand;
 use std::sync::ledger::Blank;
 
@@ -100,14 +100,10 @@ impl Modes {
 
 /// Whether every case of a row holds, and row 5's page is drawn in the same context behind each. Answers
 /// `DecodeError::OutOfMemory` alone.
-pub fn row_holds<A: Allocator + Clone>(
-    alloc: A,
-    row: &Row,
-    context: &mut DecoderContext<A>,
-) -> Result<bool> {
+pub fn row_holds(alloc: Global, row: &Row, context: &mut DecoderContext<Global>) -> Result<bool> {
     for case in row.cases {
-        let holds = case_holds(alloc.clone()?, case, context)?;
-        if !holds || !white_holds(alloc.clone()?, context)? {
+        let holds = case_holds(alloc, case, context)?;
+        if !holds || !white_holds(alloc, context)? {
             return Ok(false);
         }
     }
@@ -116,25 +112,21 @@ pub fn row_holds<A: Allocator + Clone>(
 
 /// Whether a row holds. Behind a request for memory that was refused, row 5's page has to be drawn in the same
 /// context, and then the row has to hold.
-pub fn row_serves_on<A: Allocator + Clone>(
-    alloc: A,
+pub fn row_serves_on(
+    alloc: Global,
     row: &Row,
-    context: &mut DecoderContext<A>,
+    context: &mut DecoderContext<Global>,
 ) -> Result<bool> {
-    match row_holds(alloc.clone()?, row, context) {
+    match row_holds(alloc, row, context) {
         Err(DecodeError::OutOfMemory) => {
-            let white = white_holds(alloc.clone()?, context)?;
+            let white = white_holds(alloc, context)?;
             Ok(white && row_holds(alloc, row, context)?)
         }
         answer => answer,
     }
 }
 
-fn case_holds<A: Allocator + Clone>(
-    alloc: A,
-    case: &Case,
-    context: &mut DecoderContext<A>,
-) -> Result<bool> {
+fn case_holds(alloc: Global, case: &Case, context: &mut DecoderContext<Global>) -> Result<bool> {
     match case {
         Case::Page(modes, bytes, answer) => answer_holds(alloc, *modes, bytes, answer, context),
         Case::Beginnings(modes, bytes, lengths, answer) => {
@@ -157,33 +149,33 @@ fn case_holds<A: Allocator + Clone>(
         Case::Mmr(case) => mmr_holds(alloc, case),
         Case::File(case) => file_holds(alloc, case, context),
         Case::StaysWhite(x, y) => stays_white(alloc, *x, *y),
-        Case::WidePatterns => wide_patterns_hold::<A, Brand>(alloc, Blank::new(6)),
+        Case::WidePatterns => wide_patterns_hold::<Brand>(alloc, Blank::new(6)),
     }
 }
 
 /// Whether the embedded page that a text spells has this answer in these modes.
-fn answer_holds<A: Allocator + Clone>(
-    alloc: A,
+fn answer_holds(
+    alloc: Global,
     modes: Modes,
     bytes: &str,
     answer: &Answer,
-    context: &mut DecoderContext<A>,
+    context: &mut DecoderContext<Global>,
 ) -> Result<bool> {
-    let Some(bytes) = spelled(alloc.clone()?, bytes)? else {
+    let Some(bytes) = spelled(alloc, bytes)? else {
         return Ok(false);
     };
     modes_hold(alloc, modes, &bytes, answer, context)
 }
 
-fn modes_hold<A: Allocator + Clone>(
-    alloc: A,
+fn modes_hold(
+    alloc: Global,
     modes: Modes,
     bytes: &[u8],
     answer: &Answer,
-    context: &mut DecoderContext<A>,
+    context: &mut DecoderContext<Global>,
 ) -> Result<bool> {
     for strict in [true, false] {
-        if modes.has(strict) && !page_holds(alloc.clone()?, bytes, strict, answer, context)? {
+        if modes.has(strict) && !page_holds(alloc, bytes, strict, answer, context)? {
             return Ok(false);
         }
     }
@@ -191,22 +183,22 @@ fn modes_hold<A: Allocator + Clone>(
 }
 
 /// Whether each beginning of these lengths, the last one included, has this answer in these modes.
-fn beginnings_hold<A: Allocator + Clone>(
-    alloc: A,
+fn beginnings_hold(
+    alloc: Global,
     modes: Modes,
     bytes: &str,
     lengths: (usize, usize),
     answer: &Answer,
-    context: &mut DecoderContext<A>,
+    context: &mut DecoderContext<Global>,
 ) -> Result<bool> {
-    let Some(bytes) = spelled(alloc.clone()?, bytes)? else {
+    let Some(bytes) = spelled(alloc, bytes)? else {
         return Ok(false);
     };
     for length in lengths.0..=lengths.1 {
         let Some(beginning) = bytes.get(..length) else {
             return Ok(false);
         };
-        if !modes_hold(alloc.clone()?, modes, beginning, answer, context)? {
+        if !modes_hold(alloc, modes, beginning, answer, context)? {
             return Ok(false);
         }
     }
@@ -214,25 +206,25 @@ fn beginnings_hold<A: Allocator + Clone>(
 }
 
 /// Whether drawing the embedded page that a text spells has this answer with these globals.
-fn shared_holds<A: Allocator + Clone>(
-    alloc: A,
+fn shared_holds(
+    alloc: Global,
     globals: &str,
     bytes: &str,
     answer: &Answer,
-    context: &mut DecoderContext<A>,
+    context: &mut DecoderContext<Global>,
 ) -> Result<bool> {
-    let globals = spelled(alloc.clone()?, globals)?;
-    let bytes = spelled(alloc.clone()?, bytes)?;
+    let globals = spelled(alloc, globals)?;
+    let bytes = spelled(alloc, bytes)?;
     let (Some(globals), Some(bytes)) = (globals, bytes) else {
         return Ok(false);
     };
     for strict in [true, false] {
         let settings = DecodeSettings { strict };
-        let globals = match Globals::new(alloc.clone()?, &globals, &settings) {
+        let globals = match Globals::new(alloc, &globals, &settings) {
             Ok(globals) => globals,
             Err(error) => return refused_as(error, None),
         };
-        let page = match Page::new_embedded(alloc.clone()?, &bytes, Some(&globals), &settings) {
+        let page = match Page::new_embedded(alloc, &bytes, Some(&globals), &settings) {
             Ok(page) => page,
             Err(error) => return refused_as(error, None),
         };
@@ -244,14 +236,8 @@ fn shared_holds<A: Allocator + Clone>(
 }
 
 /// Whether the embedded page that a text spells has this number and size.
-fn size_holds<A: Allocator + Clone>(
-    alloc: A,
-    bytes: &str,
-    number: u32,
-    width: u32,
-    height: u32,
-) -> Result<bool> {
-    let Some(bytes) = spelled(alloc.clone()?, bytes)? else {
+fn size_holds(alloc: Global, bytes: &str, number: u32, width: u32, height: u32) -> Result<bool> {
+    let Some(bytes) = spelled(alloc, bytes)? else {
         return Ok(false);
     };
     let page = match Page::new_embedded(alloc, &bytes, None, &DecodeSettings { strict: true }) {
@@ -274,8 +260,8 @@ pub fn refused_as(error: DecodeError, expected: Option<&DecodeError>) -> Result<
 }
 
 /// Whether the segment header that a text spells has these fields.
-fn header_holds<A: Allocator + Clone>(alloc: A, bytes: &str, expected: &Header) -> Result<bool> {
-    let Some(bytes) = spelled(alloc.clone()?, bytes)? else {
+fn header_holds(alloc: Global, bytes: &str, expected: &Header) -> Result<bool> {
+    let Some(bytes) = spelled(alloc, bytes)? else {
         return Ok(false);
     };
     let mut reader = Reader::new(&bytes);

@@ -6,7 +6,7 @@ use hayro_jbig2::Result;
 use hayro_jbig2::parts::arithmetic_decoder::{ArithmeticDecoder, ArithmeticDecoderContext};
 use hayro_jbig2::parts::bitmap::steps::Steps;
 use hayro_jbig2::parts::mq::{decode_list, encode_list};
-use std::alloc::Allocator;
+use std::alloc::Global;
 use std::marker::Brand;
 use std::sync::ledger::{Blank, Ledger};
 
@@ -38,15 +38,15 @@ pub enum CoderCase {
         bytes: &'static str,
         list: &'static [(u16, bool)],
     },
-    /// These bits in context 0, eight to a byte, are read back by `decode_list` from what `encode_list`
-    /// makes of them.
+    /// `encode_list` of these bits in context 0, eight to a byte, gives these bytes, and `decode_list` reads them back.
     ReadBack {
         decisions: &'static [u8],
+        bytes: &'static str,
     },
 }
 
 /// Whether a case holds. Answers `DecodeError::OutOfMemory` alone.
-pub fn coder_holds<A: Allocator + Clone>(alloc: A, case: &CoderCase) -> Result<bool> {
+pub fn coder_holds(alloc: Global, case: &CoderCase) -> Result<bool> {
     match case {
         CoderCase::Readings { bytes, readings } => {
             let Some(bytes) = spelled(alloc, bytes)? else {
@@ -54,36 +54,45 @@ pub fn coder_holds<A: Allocator + Clone>(alloc: A, case: &CoderCase) -> Result<b
             };
             Ok(readings_hold::<Brand>(Blank::new(6), &bytes, readings))
         }
-        CoderCase::Encoded { list, bytes } => {
-            let Some(bytes) = spelled(alloc.clone()?, bytes)? else {
-                return Ok(false);
-            };
-            let encoded = encode_list(alloc, list)?;
-            Ok(encoded.as_slice() == bytes.as_slice())
-        }
+        CoderCase::Encoded { list, bytes } => is_encoded_as(alloc, list, bytes),
         CoderCase::Decoded { bytes, list } => {
-            let Some(bytes) = spelled(alloc.clone()?, bytes)? else {
+            let Some(bytes) = spelled(alloc, bytes)? else {
                 return Ok(false);
             };
-            list_is_read::<_, Brand>(alloc, Blank::new(6), &bytes, list)
+            list_is_read::<Brand>(alloc, Blank::new(6), &bytes, list)
         }
-        CoderCase::ReadBack { decisions } => {
-            let mut list = Vec::new(alloc.clone()?);
-            for byte in *decisions {
-                for place in 0..8u8 {
-                    list.push((0u16, (byte << place) >= 0x80))?;
-                }
-            }
-            is_read_back(alloc, &list)
+        CoderCase::ReadBack { decisions, bytes } => {
+            let list = list_of(alloc, decisions)?;
+            Ok(is_encoded_as(alloc, &list, bytes)? && is_read_back(alloc, &list)?)
         }
     }
 }
 
+/// These bits, eight to a byte, in context 0.
+fn list_of(alloc: Global, decisions: &[u8]) -> Result<Vec<(u16, bool)>> {
+    let mut list = Vec::new(alloc);
+    for byte in decisions {
+        for place in 0..8u8 {
+            list.push((0, (byte << place) >= 0x80))?;
+        }
+    }
+    Ok(list)
+}
+
+/// Whether `encode_list` of a list gives the bytes that a text spells.
+fn is_encoded_as(alloc: Global, list: &[(u16, bool)], bytes: &str) -> Result<bool> {
+    let Some(bytes) = spelled(alloc, bytes)? else {
+        return Ok(false);
+    };
+    let encoded = encode_list(alloc, list)?;
+    Ok(encoded.as_slice() == bytes.as_slice())
+}
+
 /// Whether `decode_list` reads a list back from what `encode_list` makes of it. Answers
 /// `DecodeError::OutOfMemory` alone.
-pub fn is_read_back<A: Allocator + Clone>(alloc: A, list: &[(u16, bool)]) -> Result<bool> {
-    let bytes = encode_list(alloc.clone()?, list)?;
-    list_is_read::<_, Brand>(alloc, Blank::new(6), &bytes, list)
+pub fn is_read_back(alloc: Global, list: &[(u16, bool)]) -> Result<bool> {
+    let bytes = encode_list(alloc, list)?;
+    list_is_read::<Brand>(alloc, Blank::new(6), &bytes, list)
 }
 
 fn readings_hold<L: Ledger>(blank: Blank, bytes: &[u8], readings: &[Reading]) -> bool
@@ -93,7 +102,7 @@ fn readings_hold<L: Ledger>(blank: Blank, bytes: &[u8], readings: &[Reading]) ->
 {
     let mut steps = Steps::<L>::new(blank);
     let mut decoder = ArithmeticDecoder::new(bytes);
-    let mut context = ArithmeticDecoderContext::new();
+    let mut context = ArithmeticDecoderContext::default();
     for reading in readings {
         if !reading_holds(&mut decoder, &mut context, reading, &mut steps) {
             return false;
@@ -132,8 +141,8 @@ fn reading_holds<L: Ledger>(
 }
 
 /// Whether `decode_list` reads the decisions of a list in its contexts.
-fn list_is_read<A: Allocator + Clone, L: Ledger>(
-    alloc: A,
+fn list_is_read<L: Ledger>(
+    alloc: Global,
     blank: Blank,
     bytes: &[u8],
     list: &[(u16, bool)],
@@ -143,8 +152,8 @@ fn list_is_read<A: Allocator + Clone, L: Ledger>(
     requires enough { blank.parts ≡ 6 }
 {
     let mut steps = Steps::<L>::new(blank);
-    let mut contexts = Vec::new(alloc.clone()?);
-    let mut decisions = Vec::new(alloc.clone()?);
+    let mut contexts = Vec::new(alloc);
+    let mut decisions = Vec::new(alloc);
     for (number, decision) in list {
         contexts.push(*number)?;
         decisions.push(*decision)?;

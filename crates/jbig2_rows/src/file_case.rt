@@ -6,7 +6,7 @@ use hayro_jbig2::{
     DecodeError, DecodeSettings, DecoderContext, File, Globals, Jbig2Decoder, Jbig2Error,
     ParseError, Result,
 };
-use std::alloc::Allocator;
+use std::alloc::Global;
 use std::io::Cursor;
 
 /// What a page of a file is.
@@ -43,32 +43,31 @@ impl FileCase {
 }
 
 /// Whether a case holds. Answers `DecodeError::OutOfMemory` alone.
-pub fn file_holds<A: Allocator + Clone>(
-    alloc: A,
+pub fn file_holds(
+    alloc: Global,
     case: &FileCase,
-    context: &mut DecoderContext<A>,
+    context: &mut DecoderContext<Global>,
 ) -> Result<bool> {
-    let Some(bytes) = spelled(alloc.clone()?, case.bytes())? else {
+    let Some(bytes) = spelled(alloc, case.bytes())? else {
         return Ok(false);
     };
     match case {
         FileCase::Refused(modes, _, error) => {
-            let strict = !modes.has(true) || refusal_holds(alloc.clone()?, &bytes, true, error)?;
+            let strict = !modes.has(true) || refusal_holds(alloc, &bytes, true, error)?;
             let lenient = !modes.has(false) || refusal_holds(alloc, &bytes, false, error)?;
             Ok(strict && lenient)
         }
         FileCase::Pages(modes, _, pages) => {
-            let strict = !modes.has(true)
-                || pages_hold(alloc.clone()?, &bytes, true, pages, context)?;
+            let strict = !modes.has(true) || pages_hold(alloc, &bytes, true, pages, context)?;
             let lenient = !modes.has(false) || pages_hold(alloc, &bytes, false, pages, context)?;
             Ok(strict && lenient)
         }
         FileCase::CutOff { bytes: _, but } => {
-            let strict = cuts_hold(alloc.clone()?, &bytes, true, *but)?;
+            let strict = cuts_hold(alloc, &bytes, true, *but)?;
             Ok(strict && cuts_hold(alloc, &bytes, false, *but)?)
         }
         FileCase::NoGlobals(_, error) => {
-            let strict = no_globals_hold(alloc.clone()?, &bytes, true, error)?;
+            let strict = no_globals_hold(alloc, &bytes, true, error)?;
             Ok(strict && no_globals_hold(alloc, &bytes, false, error)?)
         }
         FileCase::NoFirstPage(_, error) => match Jbig2Decoder::new(alloc, Cursor::new(bytes)) {
@@ -78,51 +77,36 @@ pub fn file_holds<A: Allocator + Clone>(
     }
 }
 
-fn refusal_holds<A: Allocator + Clone>(
-    alloc: A,
-    bytes: &[u8],
-    strict: bool,
-    error: &DecodeError,
-) -> Result<bool> {
+fn refusal_holds(alloc: Global, bytes: &[u8], strict: bool, error: &DecodeError) -> Result<bool> {
     match File::new(alloc, bytes, &DecodeSettings { strict }) {
         Ok(_) => Ok(false),
         Err(refusal) => refused_as(refusal, Some(error)),
     }
 }
 
-fn no_globals_hold<A: Allocator + Clone>(
-    alloc: A,
-    bytes: &[u8],
-    strict: bool,
-    error: &DecodeError,
-) -> Result<bool> {
+fn no_globals_hold(alloc: Global, bytes: &[u8], strict: bool, error: &DecodeError) -> Result<bool> {
     match Globals::new(alloc, bytes, &DecodeSettings { strict }) {
         Ok(_) => Ok(false),
         Err(refusal) => refused_as(refusal, Some(error)),
     }
 }
 
-fn cuts_hold<A: Allocator + Clone>(
-    alloc: A,
-    bytes: &[u8],
-    strict: bool,
-    but: usize,
-) -> Result<bool> {
+fn cuts_hold(alloc: Global, bytes: &[u8], strict: bool, but: usize) -> Result<bool> {
     let early = DecodeError::Parse(ParseError::UnexpectedEof);
     for length in 0..bytes.len() {
-        if length != but && !refusal_holds(alloc.clone()?, &bytes[..length], strict, &early)? {
+        if length != but && !refusal_holds(alloc, &bytes[..length], strict, &early)? {
             return Ok(false);
         }
     }
     Ok(true)
 }
 
-fn pages_hold<A: Allocator + Clone>(
-    alloc: A,
+fn pages_hold(
+    alloc: Global,
     bytes: &[u8],
     strict: bool,
     expected: &[FilePage],
-    context: &mut DecoderContext<A>,
+    context: &mut DecoderContext<Global>,
 ) -> Result<bool> {
     let file = match File::new(alloc, bytes, &DecodeSettings { strict }) {
         Ok(file) => file,

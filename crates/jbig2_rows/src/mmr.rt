@@ -7,7 +7,7 @@ use hayro_jbig2::Result;
 use hayro_jbig2::parts::bitmap::Bitmap;
 use hayro_jbig2::parts::bitmap::steps::Steps;
 use hayro_jbig2::parts::mmr::decode;
-use std::alloc::Allocator;
+use std::alloc::Global;
 use std::marker::Brand;
 use std::sync::ledger::{Blank, Ledger};
 
@@ -31,14 +31,13 @@ pub struct Decoded {
 }
 
 /// Whether a case holds. Answers `DecodeError::OutOfMemory` alone.
-pub fn mmr_holds<A: Allocator + Clone>(alloc: A, case: &MmrCase) -> Result<bool> {
-    let Some(bytes) = spelled(alloc.clone()?, case.bytes)? else {
+pub fn mmr_holds(alloc: Global, case: &MmrCase) -> Result<bool> {
+    let Some(bytes) = spelled(alloc, case.bytes)? else {
         return Ok(false);
     };
     for strict in [true, false] {
         if case.modes.has(strict) {
-            let alloc = alloc.clone()?;
-            if !data_holds::<_, Brand>(alloc, Blank::new(6), case, &bytes, strict)? {
+            if !data_holds::<Brand>(alloc, Blank::new(6), case, &bytes, strict)? {
                 return Ok(false);
             }
         }
@@ -47,8 +46,8 @@ pub fn mmr_holds<A: Allocator + Clone>(alloc: A, case: &MmrCase) -> Result<bool>
 }
 
 /// Whether the bytes of a case have its answer in one mode.
-fn data_holds<A: Allocator, L: Ledger>(
-    alloc: A,
+fn data_holds<L: Ledger>(
+    alloc: Global,
     blank: Blank,
     case: &MmrCase,
     bytes: &[u8],
@@ -74,11 +73,7 @@ fn data_holds<A: Allocator, L: Ledger>(
 }
 
 /// Whether a bitmap of at most eight columns has these rows and no others.
-fn rows_are<A: Allocator, L: Ledger>(
-    bitmap: &Bitmap<A>,
-    rows: &[u8],
-    steps: &mut Steps<L>,
-) -> bool {
+fn rows_are<L: Ledger>(bitmap: &Bitmap<Global>, rows: &[u8], steps: &mut Steps<L>) -> bool {
     if bitmap.width() > 8 || rows.len() != bitmap.height() as usize {
         return false;
     }

@@ -7,7 +7,7 @@ use crate::case::{Row, row_holds, row_serves_on};
 use crate::lists::first_that_differs;
 use crate::rows::{families, row_named};
 use hayro_jbig2::{DecodeError, DecoderContext};
-use std::alloc::{AllocError, Allocator};
+use std::alloc::{AllocError, Global};
 use std::io;
 use std::io::Write;
 
@@ -15,12 +15,7 @@ use std::io::Write;
 ///
 /// Answers the status of the process: 0, 1 where a row or a list differs or after a fault, 2 where the
 /// words ask for nothing.
-pub fn run<A: Allocator + Clone, O: Write, E: Write>(
-    alloc: A,
-    words: &[&str],
-    out: &mut O,
-    err: &mut E,
-) -> u8
+pub fn run<O: Write, E: Write>(alloc: Global, words: &[&str], out: &mut O, err: &mut E) -> u8
     ensures usage { (result ≡ 2) ↔ (is_run (map (λ word. word.now) words.now) ≡ false) }
 {
     let Some(asked) = Asked::of_words(words) else {
@@ -137,15 +132,15 @@ impl From<io::Error> for Fault {
 }
 
 /// Runs the rows of a family. Answers whether all hold.
-fn run_family<A: Allocator + Clone, O: Write>(
-    alloc: A,
+fn run_family<O: Write>(
+    alloc: Global,
     rows: &[Row],
-    context: &mut DecoderContext<A>,
+    context: &mut DecoderContext<Global>,
     out: &mut O,
 ) -> Result<bool, Fault> {
     let mut all_hold = true;
     for row in rows {
-        let holds = row_holds(alloc.clone()?, row, context)?;
+        let holds = row_holds(alloc, row, context)?;
         print_row(row, holds, out)?;
         all_hold = all_hold && holds;
     }
@@ -158,32 +153,28 @@ fn print_row<O: Write>(row: &Row, holds: bool, out: &mut O) -> io::Result<()> {
 }
 
 /// Runs the row of a name. Answers whether it holds; false, and nothing printed, where there is none.
-fn run_row<A: Allocator + Clone, O: Write>(
-    alloc: A,
-    name: &str,
-    out: &mut O,
-) -> Result<bool, Fault> {
+fn run_row<O: Write>(alloc: Global, name: &str, out: &mut O) -> Result<bool, Fault> {
     let Some(row) = row_named(name) else {
         return Ok(false);
     };
-    let mut context = DecoderContext::new(alloc.clone()?)?;
+    let mut context = DecoderContext::new(alloc)?;
     let holds = row_serves_on(alloc, row, &mut context)?;
     print_row(row, holds, out)?;
     Ok(holds)
 }
 
 /// Runs all rows, in one context. Answers whether all hold.
-fn run_rows<A: Allocator + Clone, O: Write>(alloc: A, out: &mut O) -> Result<bool, Fault> {
-    let mut context = DecoderContext::new(alloc.clone()?)?;
+fn run_rows<O: Write>(alloc: Global, out: &mut O) -> Result<bool, Fault> {
+    let mut context = DecoderContext::new(alloc)?;
     let mut all_hold = true;
     for rows in families() {
-        all_hold = run_family(alloc.clone()?, rows, &mut context, out)? && all_hold;
+        all_hold = run_family(alloc, rows, &mut context, out)? && all_hold;
     }
     Ok(all_hold)
 }
 
 /// Encodes the lists and reads them back. Answers whether all are the same again.
-fn run_lists<A: Allocator + Clone, O: Write>(alloc: A, out: &mut O) -> Result<bool, Fault> {
+fn run_lists<O: Write>(alloc: Global, out: &mut O) -> Result<bool, Fault> {
     let differing = first_that_differs(alloc)?;
     print_lists(differing, out)?;
     Ok(differing.is_none())

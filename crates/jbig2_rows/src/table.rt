@@ -4,7 +4,7 @@ use crate::spelling::spelled;
 use hayro_jbig2::parts::huffman_table::{HuffmanTable, StandardHuffmanTables};
 use hayro_jbig2::parts::reader::Reader;
 use hayro_jbig2::{DecodeError, Result};
-use std::alloc::Allocator;
+use std::alloc::Global;
 
 /// How a table is made.
 #[derive(Clone, Copy)]
@@ -45,14 +45,14 @@ pub enum TableCase {
 }
 
 /// Whether a case holds. Answers `DecodeError::OutOfMemory` alone.
-pub fn table_holds<A: Allocator + Clone>(alloc: A, case: &TableCase) -> Result<bool> {
+pub fn table_holds(alloc: Global, case: &TableCase) -> Result<bool> {
     match case {
         TableCase::StandardA {
             bytes,
             from,
             answer,
         } => {
-            let tables = StandardHuffmanTables::new(alloc.clone()?)?;
+            let tables = StandardHuffmanTables::new(alloc)?;
             decode_holds(alloc, tables.table_a(), bytes, *from, answer)
         }
         TableCase::Decoded {
@@ -60,7 +60,7 @@ pub fn table_holds<A: Allocator + Clone>(alloc: A, case: &TableCase) -> Result<b
             bytes,
             from,
             answer,
-        } => match made(alloc.clone()?, source) {
+        } => match made(alloc, source) {
             Ok(table) => decode_holds(alloc, &table, bytes, *from, answer),
             Err(error) => refused_as(error, None),
         },
@@ -69,7 +69,7 @@ pub fn table_holds<A: Allocator + Clone>(alloc: A, case: &TableCase) -> Result<b
             Err(refusal) => refused_as(refusal, Some(error)),
         },
         TableCase::Left { bytes, bits } => {
-            let Some(bytes) = spelled(alloc.clone()?, bytes)? else {
+            let Some(bytes) = spelled(alloc, bytes)? else {
                 return Ok(false);
             };
             let mut reader = Reader::new(&bytes);
@@ -81,7 +81,7 @@ pub fn table_holds<A: Allocator + Clone>(alloc: A, case: &TableCase) -> Result<b
     }
 }
 
-fn made<A: Allocator + Clone>(alloc: A, source: &Source) -> Result<HuffmanTable<A>> {
+fn made(alloc: Global, source: &Source) -> Result<HuffmanTable<Global>> {
     match source {
         Source::Nothing => HuffmanTable::build(alloc, &[]),
         Source::Uniform(count, code_length) => {
@@ -89,7 +89,7 @@ fn made<A: Allocator + Clone>(alloc: A, source: &Source) -> Result<HuffmanTable<
             HuffmanTable::build_uniform(alloc, count, (*code_length).min(255))
         }
         Source::Custom(bytes) => {
-            let Some(bytes) = spelled(alloc.clone()?, bytes)? else {
+            let Some(bytes) = spelled(alloc, bytes)? else {
                 return Err(DecodeError::Unsupported);
             };
             HuffmanTable::read_custom(alloc, &mut Reader::new(&bytes))
@@ -97,9 +97,9 @@ fn made<A: Allocator + Clone>(alloc: A, source: &Source) -> Result<HuffmanTable<
     }
 }
 
-fn decode_holds<A: Allocator>(
-    alloc: A,
-    table: &HuffmanTable<A>,
+fn decode_holds(
+    alloc: Global,
+    table: &HuffmanTable<Global>,
     bytes: &str,
     from: u8,
     answer: &Result<Option<i32>>,

@@ -10,6 +10,9 @@ pub const DECISIONS: &[u8] = &[
     0x82, 0xC0, 0x20, 0x00, 0xFC, 0xD7, 0x9E, 0xF6, 0xBF, 0x7F, 0xED, 0x90, 0x4F, 0x46, 0xA3, 0xBF,
 ];
 
+/// The bytes that they are coded as.
+pub const CODED: &str = "84C73BFC E1A14304 02200000 410DBB86 F4317FFF 88FF3747 1ADB6ADF FFAC";
+
 /// The rows R5.
 const TABLES: &[Row] = &[
     Row {
@@ -116,6 +119,7 @@ const LISTS: &[Row] = &[
         name: "R14.2",
         cases: &[Case::Coder(CoderCase::ReadBack {
             decisions: DECISIONS,
+            bytes: CODED,
         })],
     },
 ];

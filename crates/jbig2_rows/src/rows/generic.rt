@@ -1,5 +1,5 @@
 //! The rows R3: generic regions.
-use crate::call::{BLACK, Call, WHITE};
+use crate::call::{BLACK, Call, INK, PAPER, WHITE};
 use crate::case::Answer::{Calls, Refused, Undrawn};
 use crate::case::Case::Page;
 use crate::case::Modes::{Both, Lenient, Strict};
@@ -7,17 +7,7 @@ use crate::case::Row;
 use hayro_jbig2::{DecodeError, RegionError, SegmentError};
 
 /// One row of two white pixels among black ones.
-const FAR_PIXEL: &[Call] = &[
-    Call::Pixel(true),
-    Call::Pixel(true),
-    Call::Pixel(true),
-    Call::Pixel(true),
-    Call::Pixel(true),
-    Call::Pixel(false),
-    Call::Pixel(true),
-    Call::Pixel(false),
-    Call::Line,
-];
+const FAR_PIXEL: &[Call] = &[INK, INK, INK, INK, INK, PAPER, INK, PAPER, Call::Line];
 
 const UNKNOWN_LENGTH: DecodeError = DecodeError::Segment(SegmentError::InvalidUnknownLength);
 
@@ -41,6 +31,11 @@ const ROWS: &[Row] = &[
                 Calls(BLACK),
             ),
             Page(Both, "P G8@29=FB00", Calls(FAR_PIXEL)),
+            Page(
+                Both,
+                "P 00000001260001 0000002A 00000008 00000001 00*9 10 FE0000FEFEFFFFFE01FE02FFFD00FC0002FE03FFFEFEFDFF",
+                Calls(BLACK),
+            ),
         ],
     },
     Row {

@@ -1,5 +1,5 @@
 //! The rows R6: refinements.
-use crate::call::{BLACK, Call, WHITE};
+use crate::call::{BLACK, Call, INK, PAPER, WHITE};
 use crate::case::Answer::{Calls, Undrawn};
 use crate::case::Case::Page;
 use crate::case::Modes::{Both, Lenient, Strict};
@@ -7,17 +7,7 @@ use crate::case::Row;
 use hayro_jbig2::{DecodeError, OverflowError, RegionError, SegmentError};
 
 /// One row of seven black pixels and a white one.
-const SEVEN_BLACK: &[Call] = &[
-    Call::Pixel(true),
-    Call::Pixel(true),
-    Call::Pixel(true),
-    Call::Pixel(true),
-    Call::Pixel(true),
-    Call::Pixel(true),
-    Call::Pixel(true),
-    Call::Pixel(false),
-    Call::Line,
-];
+const SEVEN_BLACK: &[Call] = &[INK, INK, INK, INK, INK, INK, INK, PAPER, Call::Line];
 
 const NO_REGION: DecodeError = DecodeError::Segment(SegmentError::InvalidReference);
 

@@ -1,5 +1,5 @@
 //! The rows R2 and R11: regions on the page.
-use crate::call::{BLACK, Call, DOT, WHITE};
+use crate::call::{BLACK, Call, DOT, INK, PAPER, WHITE};
 use crate::case::Answer::{Calls, Undrawn};
 use crate::case::Case::Page;
 use crate::case::Modes::{Both, Lenient, Strict};
@@ -7,17 +7,7 @@ use crate::case::Row;
 use hayro_jbig2::{DecodeError, RegionError, TemplateError};
 
 /// One row of a white pixel and seven black ones.
-const WHITE_DOT: &[Call] = &[
-    Call::Pixel(false),
-    Call::Pixel(true),
-    Call::Pixel(true),
-    Call::Pixel(true),
-    Call::Pixel(true),
-    Call::Pixel(true),
-    Call::Pixel(true),
-    Call::Pixel(true),
-    Call::Line,
-];
+const WHITE_DOT: &[Call] = &[PAPER, INK, INK, INK, INK, INK, INK, INK, Call::Line];
 
 const NO_OPERATOR: DecodeError = DecodeError::Region(RegionError::InvalidCombinationOperator);
 

@@ -1,11 +1,11 @@
 //! The rows 1 to 19.
-use crate::call::{BLACK, Call, DOT, WHITE, WHITE_TWICE};
+use crate::call::{BLACK, Call, DOT, PAPER, WHITE, WHITE_TWICE};
 use crate::case::Answer::{Calls, Refused, Undrawn};
 use crate::case::Case::Page;
 use crate::case::Modes::{Both, Lenient, Strict};
 use crate::case::{Case, Header, Row};
 use crate::coder::{CoderCase, Reading};
-use crate::rows::coding::DECISIONS;
+use crate::rows::coding::{CODED, DECISIONS};
 use crate::rows::{files, symbols};
 use crate::table::TableCase;
 use hayro_jbig2::parts::segment::SegmentType;
@@ -65,20 +65,20 @@ const ROWS: &[Row] = &[
             Page(
                 Both,
                 "P@11=00000009",
-                Calls(&[Call::Chunk(false, 1), Call::Pixel(false), Call::Line]),
+                Calls(&[Call::Chunk(false, 1), PAPER, Call::Line]),
             ),
             Page(
                 Both,
                 "P@11=0000FFFF",
                 Calls(&[
                     Call::Chunk(false, 8191),
-                    Call::Pixel(false),
-                    Call::Pixel(false),
-                    Call::Pixel(false),
-                    Call::Pixel(false),
-                    Call::Pixel(false),
-                    Call::Pixel(false),
-                    Call::Pixel(false),
+                    PAPER,
+                    PAPER,
+                    PAPER,
+                    PAPER,
+                    PAPER,
+                    PAPER,
+                    PAPER,
                     Call::Line,
                 ]),
             ),
@@ -132,7 +132,7 @@ const ROWS: &[Row] = &[
                 ],
             }),
             Case::Coder(CoderCase::Readings {
-                bytes: "84C73BFC E1A14304 02200000 410DBB86 F4317FFF 88FF3747 1ADB6ADF FFAC",
+                bytes: CODED,
                 readings: &[Reading::Decisions(DECISIONS)],
             }),
         ],
