@@ -146,8 +146,8 @@ fn decode_row<C: PixelCoding, A: Allocator, L: Ledger>(
     requires columns { bitmap.old.width ≤ 65535 }
     requires rows { bitmap.old.height ≤ 65535 }
     requires contexts { length contexts.old ≡ 2 ^ C.bits coding.now }
-    ensures decoded { DecodesPixels (C.coding coding.now) row.predicted 0 row.y bitmap.old.width
-        bitmap.old decoder.old contexts.old steps.old
+    ensures decoded { DecodesPixels (C.coding coding.now) row.predicted 0 row.y
+        bitmap.old.width bitmap.old decoder.old contexts.old steps.old
         bitmap.new decoder.new contexts.new steps.new }
     ensures words { steps.new.words ≡ steps.old.words + bitmap.old.width }
     ensures loads { steps.new.loads ≤ steps.old.loads

@@ -226,8 +226,8 @@ fn decode_row<A: Allocator, B: Allocator, L: Ledger>(
     requires row { row.y < bitmap.old.height }
     requires widths { bitmap.old.width ≤ 65535 }
     requires heights { bitmap.old.height ≤ 65535 }
-    ensures decoded { DecodesPixels (windowed_coding coding.now) row.predicted 0 row.y bitmap.old.width
-        bitmap.old decoder.old contexts.old steps.old
+    ensures decoded { DecodesPixels (windowed_coding coding.now) row.predicted 0 row.y
+        bitmap.old.width bitmap.old decoder.old contexts.old steps.old
         bitmap.new decoder.new contexts.new steps.new }
     ensures contexts { length contexts.new ≡ length contexts.old }
     ensures loads { steps.new.loads ≤ steps.old.loads + window_loads bitmap.old.width }

@@ -136,8 +136,8 @@ fn decode_row<M: Allocator, A: Allocator, L: Ledger>(
     requires row { y < bitmap.old.height }
     requires widths { bitmap.old.width ≤ 65535 }
     ensures decoded { DecodesPixels
-        (skipping_coding (nominal_pixels neighbours) (skip_of skip.entry)) false 0 y bitmap.old.width
-        bitmap.old decoder.old contexts.old steps.old
+        (skipping_coding (nominal_pixels neighbours) (skip_of skip.entry)) false 0 y
+        bitmap.old.width bitmap.old decoder.old contexts.old steps.old
         bitmap.new decoder.new contexts.new steps.new }
     ensures contexts { length contexts.new ≡ length contexts.old }
     ensures loads { steps.new.loads ≤ steps.old.loads + skipping_loads bitmap.old.width }

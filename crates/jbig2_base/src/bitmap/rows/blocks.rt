@@ -144,7 +144,8 @@ fn combine_line<L: Ledger>(
 )
     requires inside { IsLineOnBoth shape words.old source line }
     requires laid { IsLaid layout line.left line.columns line.from }
-    ensures { CombinesLine operator shape words.old source.entry line words.new steps.old steps.new }
+    ensures { CombinesLine operator shape words.old source.entry line words.new steps.old
+        steps.new }
 {
     match layout {
         Layout::Near => near_row(words, shape, source, operator, line, steps),
@@ -166,7 +167,8 @@ fn near_row<L: Ledger>(
     requires inside { IsLineOnBoth shape words.old source line }
     requires one_word { line.from / 64 ≡ (line.from + line.columns - 1) / 64 }
     requires near { line.left % 64 + line.columns ≤ 64 }
-    ensures { CombinesLine operator shape words.old source.entry line words.new steps.old steps.new }
+    ensures { CombinesLine operator shape words.old source.entry line words.new steps.old
+        steps.new }
 {
     steps.load();
     let from = line.from_y * source.shape.stride + (line.from / 64) as usize;
@@ -193,7 +195,8 @@ fn narrow_row<L: Ledger>(
 )
     requires inside { IsLineOnBoth shape words.old source line }
     requires one_word { line.from / 64 ≡ (line.from + line.columns - 1) / 64 }
-    ensures { CombinesLine operator shape words.old source.entry line words.new steps.old steps.new }
+    ensures { CombinesLine operator shape words.old source.entry line words.new steps.old
+        steps.new }
 {
     steps.load();
     let from = line.from_y * source.shape.stride + (line.from / 64) as usize;
@@ -232,7 +235,8 @@ fn aligned_row<L: Ledger>(
     requires inside { IsLineOnBoth shape words.old source line }
     requires aligned { line.left % 64 ≡ line.from % 64 }
     requires wide { line.left / 64 < (line.left + line.columns - 1) / 64 }
-    ensures { CombinesLine operator shape words.old source.entry line words.new steps.old steps.new }
+    ensures { CombinesLine operator shape words.old source.entry line words.new steps.old
+        steps.new }
 {
     let offset = line.left % 64;
     let first = (line.left / 64) as usize;
