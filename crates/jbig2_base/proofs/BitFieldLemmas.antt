@@ -5,11 +5,7 @@ use Rattle.std.proofs.Math.Nat.{mul-le-mul_right}
 use Rattle.std.proofs.lemmas.Bool.{cases_lt, cond-true, cond-false, lt-ltb, le-ltb}
 use Rattle.std.proofs.lemmas.List.{length-take}
 use Rattle.jbig2_base.specs.Bits.{Place, byte_bits, bits_left, bits_next, number_after}
-
--- bits are 0 or 1
-unfoldable pub AreBits : List ℕ → Type 0
-AreBits [] = Unit {0}
-AreBits (b ∷ bs) = (b < 2) × AreBits bs
+use Rattle.jbig2_base.specs.inner.BitLists.{AreBits}
 
 pub bits-drop : (n : ℕ) (bits : List ℕ) → AreBits bits → AreBits (drop n bits)
 unfolding AreBits

@@ -29,7 +29,7 @@ pub record IsLeading (n count lead : ℕ) : Type 0 where
   pub before : (k : ℕ) → k < lead - (64 - count) → bit n (count - 1 - k) ≡ false
   pub found : lead - (64 - count) < count → bit n (count - 1 - (lead - (64 - count))) ≡ true
 
-bit-top : (n j : ℕ) → 2 ^ j ≤ n → n < 2 ^ suc j → bit n j ≡ true
+pub bit-top : (n j : ℕ) → 2 ^ j ≤ n → n < 2 ^ suc j → bit n j ≡ true
 unfolding bit
 bit-top n j low high =
     let twice : 2 ^ suc j ≡ 2 * 2 ^ j = pow-suc 2 j ∙ omega arith in

@@ -15,7 +15,7 @@ pub mod FillLemmas
 pub mod GridLemmas
 pub mod InitialCauses
 pub mod LaneCounts
-mod NumberLemmas
+pub mod NumberLemmas
 mod PackedLemmas
 pub mod PageCauses
 pub mod RandomAccess

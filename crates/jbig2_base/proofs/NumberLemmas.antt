@@ -8,13 +8,14 @@ use Rattle.std.proofs.lemmas.Grind.{flat_map-append}
 use Rattle.std.proofs.lemmas.Bool.{cases_eq, cond-true, cond-false, lt-ltb, le-ltb}
 use Rattle.std.proofs.lemmas.List.{length-take, take-append-drop, drop-append-le, take-append-le, drop-drop, drop_all}
 use Rattle.jbig2_base.specs.Bits.{start_of, byte_bits, bits_left, bits_next, bits_on, number_after}
-use Rattle.jbig2_base.proofs.BitFieldLemmas.{AreBits, bits-drop, bits-take, byte-bits, number-below}
+use Rattle.jbig2_base.specs.inner.BitLists.{AreBits}
+use Rattle.jbig2_base.proofs.BitFieldLemmas.{bits-drop, bits-take, byte-bits, number-below}
 use Rattle.jbig2_base.proofs.ReaderLemmas.{place_in, bits_on-enough, bits_on-past}
 
 regroup : (f b p n : ℕ) → (2 * f + b) * p + n ≡ f * (2 * p) + (b * p + n)
 regroup f b p n = omega arith
 
-number-front : (f : ℕ) (xs : List ℕ) → number_after f xs ≡ f * 2 ^ length xs + number_after 0 xs
+pub number-front : (f : ℕ) (xs : List ℕ) → number_after f xs ≡ f * 2 ^ length xs + number_after 0 xs
 number-front f [] = omega arith
 number-front f (b ∷ xs) =
     let p : ℕ = 2 ^ length xs in
@@ -28,10 +29,10 @@ number-append : (f : ℕ) (xs ys : List ℕ) → number_after f (xs ++ ys) ≡ n
 number-append f [] ys = refl
 number-append f (x ∷ xs) ys = number-append (2 * f + x) xs ys
 
-number-both : (xs ys : List ℕ) → number_after 0 (xs ++ ys) ≡ number_after 0 xs * 2 ^ length ys + number_after 0 ys
+pub number-both : (xs ys : List ℕ) → number_after 0 (xs ++ ys) ≡ number_after 0 xs * 2 ^ length ys + number_after 0 ys
 number-both xs ys = number-append 0 xs ys ∙ number-front (number_after 0 xs) ys
 
-number-lt : (xs : List ℕ) → AreBits xs → number_after 0 xs < 2 ^ length xs
+pub number-lt : (xs : List ℕ) → AreBits xs → number_after 0 xs < 2 ^ length xs
 number-lt xs are = let below = number-below 0 xs are in omega arith
 
 -- the number of a part: n bits, with t behind them
@@ -64,7 +65,7 @@ number-part zs k n t are whole =
     spread : (a y r p q : ℕ) → a * (p * q) + (y * q + r) ≡ (a * p + y) * q + r
     spread a y r p q = omega arith
 
-length-bits : (bytes : List ℕ) → length (flat_map byte_bits bytes) ≡ 8 * length bytes
+pub length-bits : (bytes : List ℕ) → length (flat_map byte_bits bytes) ≡ 8 * length bytes
 length-bits [] = refl
 length-bits (b ∷ bytes) = let rest = length-bits bytes in omega arith
 
@@ -159,9 +160,8 @@ drop-bytes (suc q) (b ∷ bytes) =
     ∙ drop-bytes q bytes
 
 -- count bits on, at byte i and bit k
-pub rest-on : (xs : List ℕ) (i k count : ℕ) → bits_left (place_in xs (i + (k + count) / 8) ((k + count) % 8)) ≡ drop count (bits_left (place_in xs i k))
-unfolding bits_left
-rest-on xs i k count =
+pub bits-on : (xs : List ℕ) (i k count : ℕ) → drop ((k + count) % 8) (flat_map byte_bits (drop (i + (k + count) / 8) xs)) ≡ drop count (drop k (flat_map byte_bits (drop i xs)))
+bits-on xs i k count =
     let q : ℕ = (k + count) / 8 in
     let r : ℕ = (k + count) % 8 in
     let whole : 8 * q + r ≡ k + count = omega arith in
@@ -171,9 +171,17 @@ rest-on xs i k count =
     ∙ ap (λ (n : ℕ). drop n (flat_map byte_bits (drop i xs))) whole
     ∙ sym (drop-drop count k (flat_map byte_bits (drop i xs)))
 
+pub rest-on : (xs : List ℕ) (i k count : ℕ) → bits_left (place_in xs (i + (k + count) / 8) ((k + count) % 8)) ≡ drop count (bits_left (place_in xs i k))
+unfolding bits_left
+rest-on xs i k count = bits-on xs i k count
+
 -- how many bits are left at byte i and bit k
+pub length-at : (xs : List ℕ) (i k : ℕ) → length (drop k (flat_map byte_bits (drop i xs))) ≡ 8 * (length xs - i) - k
+length-at xs i k = length-drop k (flat_map byte_bits (drop i xs)) ∙ ap (λ (n : ℕ). n - k) (length-bits (drop i xs) ∙ ap (λ (n : ℕ). 8 * n) (length-drop i xs))
+
 left-at : (xs : List ℕ) (i k : ℕ) → length (bits_left (place_in xs i k)) ≡ 8 * (length xs - i) - k
-left-at xs i k = length-left (drop i xs) k ∙ ap (λ (n : ℕ). 8 * n - k) (length-drop i xs)
+unfolding bits_left
+left-at xs i k = length-at xs i k
 
 pub place-on : (xs : List ℕ) (i k count : ℕ) → (k + count + 7) / 8 ≤ length xs - i → place_in xs (i + (k + count) / 8) ((k + count) % 8) ≡ bits_on count (place_in xs i k)
 place-on xs i k count inside =

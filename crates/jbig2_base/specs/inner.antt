@@ -1,5 +1,7 @@
+pub mod BitLists
 pub mod Blocks
 pub mod Colour
+pub mod Combines
 pub mod Filled
 pub mod Layouts
 pub mod Packed

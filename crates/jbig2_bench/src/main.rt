@@ -1,26 +1,7 @@
 //! The program `jbig2-bench`: runs the worked rows against the decoder, one or all, or lists through the arithmetic coder.
 #![tactic(auto)]
 
-mod call;
-mod case;
-mod coder;
-mod combination;
-mod drawing;
-mod file_case;
-mod generator;
-mod lists;
-mod mmr;
-mod patterns;
-mod piece;
-mod program;
-mod rows;
-mod spelling;
-mod table;
-#[cfg(test)]
-mod tests;
-mod watcher;
-
-pub use program::run;
+use jbig2_rows::program::{run, unstarted};
 use std::io::ErrorKind;
 use std::process::ExitCode;
 use std::{env, io};
@@ -41,7 +22,7 @@ fn main(rt: HostRuntime) -> ExitCode {
         Err(error) => {
             // Words that are no text are no words of this program.
             let refused = error.kind() == ErrorKind::OutOfMemory;
-            program::unstarted(refused, &mut rt.stderr())
+            unstarted(refused, &mut rt.stderr())
         }
     };
     ExitCode::from(status)

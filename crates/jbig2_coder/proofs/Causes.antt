@@ -11,7 +11,8 @@ use Rattle.jbig2_base.specs.declared.error.DecodeError.{DecodeError}
 use Rattle.jbig2_base.specs.declared.error.DecodeError.TheVariants.{Parse, Huffman}
 use Rattle.jbig2_base.specs.declared.error.ParseError.TheVariants.{UnexpectedEof}
 use Rattle.jbig2_base.specs.declared.error.HuffmanError.TheVariants.{InvalidCode, UnexpectedOob}
-use Rattle.jbig2_base.proofs.BitFieldLemmas.{AreBits, bits-drop, byte-bits}
+use Rattle.jbig2_base.specs.inner.BitLists.{AreBits}
+use Rattle.jbig2_base.proofs.BitFieldLemmas.{bits-drop, byte-bits}
 use Rattle.jbig2_coder.specs.Causes.{AreCrowded, Begins, BreaksCode, BreaksNumber, BreaksRange, BreaksSelection, BreaksTable, BreaksValue, CodesHaveCauses, EndWithin, LeavesWord, NoneOf, NumbersHaveCauses, SelectionsHaveCauses, TablesHaveCauses, ValuesHaveCauses}
 use Rattle.jbig2_coder.specs.PrefixCode.{CodeReading, Member, begins_longer, decoded_value, ended, found_or, front_number, in_word, is_crowded, is_decided, is_found, line_of, longest, moved, no_oob, prefix_code, read_code, refused, some_value, table_of, value_after, value_by, valued, weight}
 use Rattle.jbig2_coder.specs.TableSelection.{next_custom}

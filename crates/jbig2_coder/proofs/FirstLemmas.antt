@@ -9,7 +9,8 @@ use Rattle.std.proofs.lemmas.List.{get_or-set_other, get_or-replicate, get_or-dr
 use Rattle.jbig2_base.specs.Bits.{Place, byte_bits, bits_left, bits_next, bits_on, number_after}
 use Rattle.jbig2_base.specs.declared.error.DecodeError.{DecodeError}
 use Rattle.jbig2_base.proofs.ReaderLemmas.{bits_at}
-use Rattle.jbig2_base.proofs.BitFieldLemmas.{AreBits, bits-drop, byte-bits, next-enough}
+use Rattle.jbig2_base.specs.inner.BitLists.{AreBits}
+use Rattle.jbig2_base.proofs.BitFieldLemmas.{bits-drop, byte-bits, next-enough}
 use Rattle.jbig2_coder.specs.declared.huffman_table.line.TableLine.{TableLine}
 use Rattle.jbig2_coder.specs.declared.huffman_table.levels.Level.{Level}
 use Rattle.jbig2_coder.specs.declared.huffman_table.first_table.FirstCode.{FirstCode}

@@ -222,10 +222,12 @@ impl<'a> ArithmeticDecoder<'a> {
         ensures steps { steps.new ≡ record steps.old { decisions = steps.old.decisions + 1 } }
     {
         steps.decision();
-        let rest = self.registers.a - state_at(context.state).qe;
+        // Read once: for all that the compiler knows, A is kept where the context is.
+        let state = context.state;
+        let rest = self.registers.a - state_at(state).qe;
         if rest >= self.floor {
             self.registers.a = rest;
-            return u32::from(context.state % 2);
+            return u32::from(state % 2);
         }
         u32::from(self.decode_renormalized(context))
     }

@@ -2,12 +2,11 @@
 
 ghost use Rattle.std.specs.Prelude.{◌≡◌, ◌+◌, ◌*◌, ◌^◌, ◌<◌, ◌≤◌, Bool, length, drop, replicate, Ok};
 ghost use Rattle.jbig2_base.specs.Answer.{Gives};
-ghost use Rattle.jbig2_base.specs.Counts.{Counts};
 ghost use Rattle.jbig2_base.specs.Grid.{bit_number};
 ghost use Rattle.jbig2_coder.specs.Coder.{fresh};
-ghost use Rattle.jbig2_coder.specs.Integers.{Reading, value_of_bits, next, read, read_more, prev_of, value_of, integer};
+ghost use Rattle.jbig2_coder.specs.Integers.{value_of_bits, next, read, read_more, prev_of, value_of, integer};
 ghost use Rattle.jbig2_coder.specs.inner.Prefixes.{prefix, range_of};
-ghost use Rattle.jbig2_coder.specs.inner.Stands.{Stands, prev_next};
+ghost use Rattle.jbig2_coder.specs.inner.Stands.{GoesOn, Tells, prev_next};
 
 use crate::arithmetic_decoder::{ArithmeticDecoder, ArithmeticDecoderContext};
 use jbig2_base::bitmap::steps::Steps;
@@ -126,13 +125,11 @@ fn read_bit<L: Ledger>(
     ensures below { prev.new < 512 }
     ensures bytes { decoder.new.bytes ≡ decoder.old.bytes }
     ensures digit { result < 2 }
-    ensures bit { (start : Counts) (r : Reading)
-        → Stands prev_of start r prev.old decoder.old contexts.old steps.old
-        → result ≡ bit_number (next prev_of decoder.old.bytes r).symbol }
-    ensures reads { (start : Counts) (r : Reading)
-        → Stands prev_of start r prev.old decoder.old contexts.old steps.old
-        → Stands prev_of start (read prev_of decoder.old.bytes r) prev.new decoder.new contexts.new
-        steps.new }
+    ensures bit { Tells (λ r. result ≡ bit_number (next prev_of decoder.old.bytes r).symbol)
+        prev.old decoder.old contexts.old steps.old }
+    ensures reads { GoesOn (λ r. read prev_of decoder.old.bytes r)
+        prev.old decoder.old contexts.old steps.old
+        prev.new decoder.new contexts.new steps.new }
 {
     let bit = decoder.decode(&mut contexts[*prev as usize], steps);
     *prev = following(*prev, bit);
@@ -150,13 +147,11 @@ fn read_prefix<L: Ledger>(
     requires below { prev.old < 512 }
     ensures below { prev.new < 512 }
     ensures bytes { decoder.new.bytes ≡ decoder.old.bytes }
-    ensures ones { (start : Counts) (r : Reading)
-        → Stands prev_of start r prev.old decoder.old contexts.old steps.old
-        → result ≡ (prefix 5 0 decoder.old.bytes r).ones }
-    ensures reads { (start : Counts) (r : Reading)
-        → Stands prev_of start r prev.old decoder.old contexts.old steps.old
-        → Stands prev_of start (prefix 5 0 decoder.old.bytes r).reading prev.new decoder.new
-        contexts.new steps.new }
+    ensures ones { Tells (λ r. result ≡ (prefix 5 0 decoder.old.bytes r).ones)
+        prev.old decoder.old contexts.old steps.old }
+    ensures reads { GoesOn (λ r. (prefix 5 0 decoder.old.bytes r).reading)
+        prev.old decoder.old contexts.old steps.old
+        prev.new decoder.new contexts.new steps.new }
 {
     for ones in 0..5 {
         if read_bit(contexts, prev, decoder, steps) == 0 {
@@ -178,14 +173,12 @@ fn read_bits<L: Ledger>(
     requires size { length contexts.old ≡ 512 }
     requires below { prev.old < 512 }
     ensures bytes { decoder.new.bytes ≡ decoder.old.bytes }
-    ensures value { (start : Counts) (r : Reading)
-        → Stands prev_of start r prev.old decoder.old contexts.old steps.old
-        → result
-        ≡ value_of_bits (drop (length r.bits) (read_more prev_of count decoder.old.bytes r).bits) }
-    ensures reads { (start : Counts) (r : Reading)
-        → Stands prev_of start r prev.old decoder.old contexts.old steps.old
-        → Stands prev_of start (read_more prev_of count decoder.old.bytes r) prev.new decoder.new
-        contexts.new steps.new }
+    ensures value { Tells (λ r. result
+        ≡ value_of_bits (drop (length r.bits) (read_more prev_of count decoder.old.bytes r).bits))
+        prev.old decoder.old contexts.old steps.old }
+    ensures reads { GoesOn (λ r. read_more prev_of count decoder.old.bytes r)
+        prev.old decoder.old contexts.old steps.old
+        prev.new decoder.new contexts.new steps.new }
 {
     let mut value = 0;
     for _ in 0..count {

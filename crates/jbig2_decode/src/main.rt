@@ -1,22 +1,7 @@
 //! The program `jbig2-decode`: prints the pages of a JBIG2 file, the calls that spell a page, or a bitmap.
 #![tactic(auto)]
 
-mod bitmap;
-mod calls;
-mod ended;
-mod fault;
-mod output;
-mod pages;
-mod printer;
-mod program;
-mod refusals;
-mod request;
-#[cfg(test)]
-mod tests;
-
-pub use ended::Ended;
-pub use program::run;
-pub use request::file_word;
+use jbig2_commands::{Ended, file_word, run};
 use std::fs::File;
 use std::io::ErrorKind;
 use std::process::ExitCode;

@@ -1,12 +1,5 @@
-//! Callers of the library, as docs/USING.md shows them. The program writes a page that was cut out of a PDF file as a
-//! picture of the PGM format.
+//! A page that was cut out of a PDF file, written as a picture of the PGM format, as docs/USING.md shows it.
 #![tactic(auto)]
-
-pub mod converter;
-pub mod pdf_reader;
-#[cfg(test)]
-mod tests;
-pub mod viewer;
 
 use hayro_jbig2::reading::read_all;
 use hayro_jbig2::{DecodeSettings, Globals, Jbig2Error, Page};

@@ -274,37 +274,6 @@ fn value_row<A: Allocator>(alloc: A, width: u32) -> Result<Vec<u32, A>>
     Ok(values)
 }
 
-/// Draws a region onto a bitmap of its size that is all in its initial colour.
-fn draw_region<D: Allocator, M: Allocator, A: Allocator + Clone, B: Allocator, L: Ledger>(
-    alloc: A,
-    header: &HalftoneRegionHeader<'_>,
-    dictionary: &PatternDictionary<D>,
-    bitmap: &mut Bitmap<M>,
-    contexts: &mut Vec<ArithmeticDecoderContext, B>,
-    steps: &mut Steps<L>,
-) -> Result<()>
-    requires columns { header.now.grid_position_and_size.width ≤ 65535 }
-    requires rows { header.now.grid_position_and_size.height ≤ 65535 }
-    requires coloured { bitmap.old ≡ blank header.now.region_info.width
-        header.now.region_info.height header.now.flags.initial_pixel_color }
-    ensures value { Gives (λ _. bitmap.new) result
-        (halftone_answer (header_view header.now) (dictionary_view dictionary.now)) }
-    ensures bitmap { IfErr result (λ e. (e ≡ DecodeError.Region RegionError.GrayScaleOutOfRange) ⊎
-        (bitmap.new ≡ bitmap.old)) }
-    ensures contexts { Leaves result contexts.new.items
-        (halftone_contexts (header_view header.now) (dictionary_view dictionary.now)
-        contexts.old.items) }
-    ensures steps { OnOk result (CountsHalftone (header_view header.now)
-        (dictionary_view dictionary.now) steps.old steps.new) }
-{
-    let mut values = value_row(alloc.clone()?, header.grid_position_and_size.width)?;
-    let planes = match read_cells(alloc, header, dictionary, contexts, steps) {
-        Ok(planes) => planes,
-        Err(error) => return Err(error),
-    };
-    draw_rows(header, dictionary, &planes, &mut values, bitmap, steps)
-}
-
 /// Decodes a halftone region (T.88, 6.6) into a bitmap of its size that is all in its initial
 /// colour. The contexts begin fresh, whatever `contexts` held, and are left there as the gray-scale
 /// image leaves them, also where a value is refused; MMR data does not touch them. Any error but
@@ -337,7 +306,12 @@ pub fn decode_into<D: Allocator, M: Allocator, A: Allocator + Clone, B: Allocato
     ensures steps { OnOk result (CountsHalftone (header_view header.now)
         (dictionary_view dictionary.now) steps.old steps.new) }
 {
-    draw_region(alloc, header, dictionary, bitmap, contexts, steps)
+    let mut values = value_row(alloc.clone()?, header.grid_position_and_size.width)?;
+    let planes = match read_cells(alloc, header, dictionary, contexts, steps) {
+        Ok(planes) => planes,
+        Err(error) => return Err(error),
+    };
+    draw_rows(header, dictionary, &planes, &mut values, bitmap, steps)
 }
 
 /// Decodes a halftone region (T.88, 6.6), as `decode_into` does, into a bitmap of its own. A side

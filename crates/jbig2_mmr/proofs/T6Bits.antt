@@ -1,59 +1,17 @@
 -- Bits of bytes, their numbers, and the codes that begin them.
-use Rattle.std.proofs.Common.{◌≡◌, ℕ, zero, suc, ◌+◌, ◌-◌, ◌*◌, ◌/◌, ◌%◌, ◌^◌, ◌<◌, ◌≤◌, Bool, true, false, ◌&&◌, eqb, ltb, leb, List, [], ◌∷◌, ◌++◌, length, take, drop, map, replicate, get_or, min, Some, None, refl, sym, ap, subst, ◌∙◌, ⊎_elim, zero-add, arith}
-use Rattle.std.proofs.Math.Nat.{pow-suc}
+use Rattle.std.proofs.Common.{◌≡◌, ℕ, zero, suc, ◌+◌, ◌-◌, ◌*◌, ◌/◌, ◌%◌, ◌^◌, ◌<◌, ◌≤◌, Bool, true, false, ◌&&◌, eqb, leb, List, [], ◌∷◌, ◌++◌, length, take, drop, replicate, get_or, min, refl, sym, ap, subst, ◌∙◌, ⊎_elim, arith}
 use Rattle.std.specs.List.{flat_map}
 use Rattle.std.proofs.lemmas.Nat.{pow-add, shr-shr, mod_low, shr_high, shl_below}
-use Rattle.std.proofs.lemmas.List.{take-replicate, drop-drop, length-drop, take-append-drop, drop-append-le, take-append-le, drop_more, drop_all}
-use Rattle.std.proofs.lemmas.Bool.{cases_eq, cases_lt, cond-true, cond-false, and_from, and_left, and_right, and_parts, le-leb, lt-leb, eq-eqb, ne_eqb, ltb-true, leb-true}
+use Rattle.std.proofs.lemmas.List.{take-replicate, length-drop, take-append-drop, drop-append-le, take-append-le}
+use Rattle.std.proofs.lemmas.Bool.{cases_eq, cond-true, cond-false, and_left, le-leb, lt-leb}
 use Rattle.jbig2_base.specs.Bits.{byte_bits, number_after}
+use Rattle.jbig2_base.specs.inner.BitLists.{AreBits}
+use Rattle.jbig2_base.proofs.BitFieldLemmas.{bits-drop, byte-bits}
+use Rattle.jbig2_base.proofs.NumberLemmas.{length-bits, number-both, number-lt}
 use Rattle.jbig2_mmr.specs.T6.{ends_block, after_end}
-use Rattle.jbig2_mmr.specs.inner.T6Reading.{spell, AreBits, padded}
+use Rattle.jbig2_mmr.specs.inner.T6Reading.{spell, padded}
 
--- ---- bits
-pub bits-front : (n : ℕ) (xs : List ℕ) → AreBits xs → AreBits (drop n xs)
-bits-front zero xs h = h
-bits-front (suc n) [] h = tt
-bits-front (suc n) (x ∷ xs) h = bits-front n xs h.1
-
-pub bits-bytes : (bytes : List ℕ) → AreBits (flat_map byte_bits bytes)
-bits-bytes [] = tt
-bits-bytes (b ∷ bytes) = (omega arith, (omega arith, (omega arith, (omega arith, (omega arith, (omega arith, (omega arith, (omega arith, bits-bytes bytes))))))))
-
-pub length-bits : (bytes : List ℕ) → length (flat_map byte_bits bytes) ≡ 8 * length bytes
-length-bits [] = refl
-length-bits (b ∷ bytes) = let rest = length-bits bytes in omega arith
-
--- whole bytes dropped
-drop-bytes : (q : ℕ) (bytes : List ℕ) → drop (8 * q) (flat_map byte_bits bytes) ≡ flat_map byte_bits (drop q bytes)
-drop-bytes zero bytes = refl
-drop-bytes (suc q) [] = drop-none (8 * suc q)
-  where
-    drop-none : (n : ℕ) → drop n (flat_map byte_bits []) ≡ []
-    drop-none zero = refl
-    drop-none (suc n) = refl
-drop-bytes (suc q) (b ∷ bytes) =
-    let more : 8 * suc q ≡ 8 + 8 * q = omega arith in
-    ap (λ (n : ℕ). drop n (flat_map byte_bits (b ∷ bytes))) more
-    ∙ sym (drop-drop (8 * q) 8 (flat_map byte_bits (b ∷ bytes)))
-    ∙ drop-bytes q bytes
-
--- count bits on
-pub bits-on : (bytes : List ℕ) (byte bit count : ℕ) → drop ((bit + count) % 8) (flat_map byte_bits (drop (byte + (bit + count) / 8) bytes)) ≡ drop count (drop bit (flat_map byte_bits (drop byte bytes)))
-bits-on bytes byte bit count =
-    let q : ℕ = (bit + count) / 8 in
-    let r : ℕ = (bit + count) % 8 in
-    let whole : 8 * q + r ≡ bit + count = omega arith in
-    ap (λ (ys : List ℕ). drop r (flat_map byte_bits ys)) (sym (drop-drop q byte bytes))
-    ∙ ap (λ (ys : List ℕ). drop r ys) (sym (drop-bytes q (drop byte bytes)))
-    ∙ drop-drop r (8 * q) (flat_map byte_bits (drop byte bytes))
-    ∙ ap (λ (n : ℕ). drop n (flat_map byte_bits (drop byte bytes))) whole
-    ∙ sym (drop-drop count bit (flat_map byte_bits (drop byte bytes)))
-
-pub length-left : (bytes : List ℕ) (byte bit : ℕ) → length (drop bit (flat_map byte_bits (drop byte bytes))) ≡ 8 * (length bytes - byte) - bit
-length-left bytes byte bit =
-    length-drop bit (flat_map byte_bits (drop byte bytes))
-    ∙ ap (λ (n : ℕ). n - bit) (length-bits (drop byte bytes) ∙ ap (λ (n : ℕ). 8 * n) (length-drop byte bytes))
-
+-- ---- places
 -- a place at the end has no bit read
 pub within-bits : (byte bit len n : ℕ) → byte ≤ len → bit < 8 → (byte ≡ len → bit ≡ 0) → n ≤ 8 * (len - byte) - bit → bit + n ≤ 8 * (len - byte)
 within-bits byte bit len n inside few end there =
@@ -67,38 +25,6 @@ used-begun byte bit len left inside few end e some =
     ⊎_elim (λ (h : byte ≡ len). let none = end h in absurd (omega arith)) (λ (o : byte ≡ len → ⊥). let before : byte < len = omega (arith, o) in omega arith) (cases_eq byte len)
 
 -- ---- numbers
-regroup : (f b p n : ℕ) → (2 * f + b) * p + n ≡ f * (2 * p) + (b * p + n)
-regroup f b p n = omega arith
-
-pub number-front : (f : ℕ) (xs : List ℕ) → number_after f xs ≡ f * 2 ^ length xs + number_after 0 xs
-number-front f [] = omega arith
-number-front f (b ∷ xs) =
-    let p : ℕ = 2 ^ length xs in
-    let twice : 2 ^ length (b ∷ xs) ≡ 2 * p = pow-suc 2 (length xs) ∙ omega arith in
-    number-front (2 * f + b) xs
-    ∙ regroup f b p (number_after 0 xs)
-    ∙ ap (λ (q : ℕ). f * q + (b * p + number_after 0 xs)) (sym twice)
-    ∙ ap (λ (n : ℕ). f * 2 ^ length (b ∷ xs) + n) (sym (ap (λ (i : ℕ). number_after i xs) (zero-add b) ∙ number-front b xs))
-
-number-append : (f : ℕ) (xs ys : List ℕ) → number_after f (xs ++ ys) ≡ number_after (number_after f xs) ys
-number-append f [] ys = refl
-number-append f (x ∷ xs) ys = number-append (2 * f + x) xs ys
-
-pub number-both : (xs ys : List ℕ) → number_after 0 (xs ++ ys) ≡ number_after 0 xs * 2 ^ length ys + number_after 0 ys
-number-both xs ys = number-append 0 xs ys ∙ number-front (number_after 0 xs) ys
-
-below-both : (b p n : ℕ) → b < 2 → n < p → b * p + n < 2 * p
-below-both zero p n h k = omega arith
-below-both (suc zero) p n h k = omega arith
-below-both (suc (suc b)) p n h k = absurd (omega arith)
-
-pub number-lt : (xs : List ℕ) → AreBits xs → number_after 0 xs < 2 ^ length xs
-number-lt [] h = omega arith
-number-lt (b ∷ xs) h =
-    let twice : 2 ^ length (b ∷ xs) ≡ 2 * 2 ^ length xs = pow-suc 2 (length xs) ∙ omega arith in
-    let part : number_after 0 (b ∷ xs) ≡ b * 2 ^ length xs + number_after 0 xs = ap (λ (i : ℕ). number_after i xs) (zero-add b) ∙ number-front b xs in
-    omega (arith, below-both b (2 ^ length xs) (number_after 0 xs) h.0 (number-lt xs h.1))
-
 byte-number : (b : ℕ) → b < 256 → number_after 0 (byte_bits b) ≡ b
 byte-number b h = omega arith
 
@@ -145,9 +71,9 @@ window-bits zs k n bits whole few short =
     ∙ ap (λ (i : ℕ). number_after 0 xs * 2 ^ i + number_after 0 rest) (sym width)
     ∙ ap (λ (i : ℕ). number_after 0 xs * 2 ^ (n + m) + i) inner in
     let inside : number_after 0 ys * 2 ^ m + number_after 0 rs < 2 ^ (n + m) =
-    subst (λ (i : ℕ). i < 2 ^ (n + m)) inner (subst (λ (i : ℕ). number_after 0 rest < 2 ^ i) (sym width) (number-lt rest (bits-front k zs bits))) in
+    subst (λ (i : ℕ). i < 2 ^ (n + m)) inner (subst (λ (i : ℕ). number_after 0 rest < 2 ^ i) (sym width) (number-lt rest (bits-drop k zs bits))) in
     ap (λ (v : ℕ). v * 2 ^ k % 2 ^ 32 / 2 ^ 8 / 2 ^ (24 - n)) outer
-    ∙ window-split (number_after 0 xs) (number_after 0 ys) (number_after 0 rs) k n m (omega arith) few short inside (number-lt rs (bits-front n rest (bits-front k zs bits)))
+    ∙ window-split (number_after 0 xs) (number_after 0 ys) (number_after 0 rs) k n m (omega arith) few short inside (number-lt rs (bits-drop n rest (bits-drop k zs bits)))
 
 -- four bytes, zeros behind the end
 abbrev four : List ℕ → List ℕ
@@ -201,7 +127,7 @@ pub window-is : (word a b c d : ℕ) (ps : List ℕ) (k n : ℕ) → word ≡ a 
 window-is word a b c d ps k n e ea eb ec ed p q r s few short inside =
     let same : flat_map byte_bits (a ∷ b ∷ c ∷ d ∷ []) ≡ flat_map byte_bits (four ps) = ap (λ (l : List ℕ). flat_map byte_bits l) (let l : a ∷ b ∷ c ∷ d ∷ [] ≡ four ps = cc in l) in
     ap (λ (v : ℕ). v * 2 ^ k % 2 ^ 32 / 2 ^ 8 / 2 ^ (24 - n)) (e ∙ sym (four-number a b c d p q r s))
-    ∙ window-bits (flat_map byte_bits (a ∷ b ∷ c ∷ d ∷ [])) k n (bits-bytes (a ∷ b ∷ c ∷ d ∷ [])) refl few short
+    ∙ window-bits (flat_map byte_bits (a ∷ b ∷ c ∷ d ∷ [])) k n (byte-bits (a ∷ b ∷ c ∷ d ∷ [])) refl few short
     ∙ ap (λ (l : List ℕ). number_after 0 (take n (drop k l))) same
     ∙ ap (λ (l : List ℕ). number_after 0 l) (four-padded ps k n few short inside)
 

@@ -13,7 +13,7 @@ use Rattle.jbig2_base.proofs.GridLemmas.{grid_of-ext, pixel_at-grid_of, pixel_at
 use Rattle.jbig2_mmr.specs.T6.{row, pixel_of, black_at, ends_block, after_end, Rows, or_fault, rows_from, rows_of, bits_of, grid_of_rows, Decoded, mmr_rows}
 use Rattle.jbig2_mmr.specs.inner.T6Reading.{row_above, IsRow}
 use Rattle.jbig2_mmr.specs.inner.T6Calls.{ReadRow}
-use Rattle.jbig2_mmr.proofs.T6Bits.{length-bits}
+use Rattle.jbig2_base.proofs.NumberLemmas.{length-bits}
 use Rattle.jbig2_mmr.proofs.T6Rows.{change-none}
 
 pub record RowsReading (w h y : ℕ) (bits : List ℕ) (new : Grid) (meant : Rows) : Type 0 where

@@ -1,14 +1,17 @@
 -- The code that begins some bits, found by a table over a fixed number of them.
-use Rattle.std.proofs.Common.{◌≡◌, ℕ, zero, suc, ◌+◌, ◌-◌, ◌*◌, ◌/◌, ◌%◌, ◌^◌, ◌<◌, ◌≤◌, Bool, true, false, not, ◌&&◌, cond, eqb, ltb, leb, List, [], ◌∷◌, ◌++◌, length, take, drop, map, replicate, get_or, Option, Some, None, refl, sym, ap, subst, ◌∙◌, ⊎_elim, zero-add, arith}
+use Rattle.std.proofs.Common.{◌≡◌, ℕ, zero, suc, ◌+◌, ◌*◌, ◌/◌, ◌%◌, ◌^◌, ◌<◌, ◌≤◌, Bool, true, false, not, ◌&&◌, cond, eqb, ltb, leb, List, [], ◌∷◌, ◌++◌, length, take, drop, map, replicate, Option, Some, None, refl, sym, ap, ◌∙◌, ⊎_elim, zero-add, arith}
 use Rattle.std.specs.Option.{is_some}
 use Rattle.std.specs.List.{range_with_len}
 use Rattle.std.proofs.lemmas.Nat.{shr-shr, shr_high}
-use Rattle.std.proofs.lemmas.List.{length-append, append_assoc, take-append-drop, length-take-le, length-drop, length-replicate}
-use Rattle.std.proofs.lemmas.Bool.{true≢false, cases_eq, cases_lt, cases_Bool, cond-true, cond-false, and_parts, eq-eqb, eqb-true, ltb-true, leb-true}
+use Rattle.std.proofs.lemmas.List.{length-append, take-append-drop, length-take-le, length-replicate}
+use Rattle.std.proofs.lemmas.Bool.{true≢false, cases_eq, cases_Bool, cond-true, cond-false, and_parts, eq-eqb, eqb-true, ltb-true, leb-true}
 use Rattle.jbig2_base.specs.Bits.{number_after}
+use Rattle.jbig2_base.specs.inner.BitLists.{AreBits}
+use Rattle.jbig2_base.proofs.BitFieldLemmas.{bits-take}
+use Rattle.jbig2_base.proofs.NumberLemmas.{number-front, number-lt}
 use Rattle.jbig2_mmr.specs.T6.{begins, read_code, apart_from, is_prefix_free}
-use Rattle.jbig2_mmr.specs.inner.T6Reading.{spell, code_at, entry_of, padded, AreBits}
-use Rattle.jbig2_mmr.proofs.T6Bits.{number-front, number-lt, spell-length}
+use Rattle.jbig2_mmr.specs.inner.T6Reading.{spell, code_at, entry_of, padded}
+use Rattle.jbig2_mmr.proofs.T6Bits.{spell-length}
 
 -- ---- a test that holds for a stretch of numbers, by computing
 pub at-all : {A : Type 0} (f : ℕ → A) (e : A) (lo n i : ℕ) → map f (range_with_len lo n) ≡ replicate n e → lo ≤ i → i < lo + n → f i ≡ e
@@ -27,6 +30,7 @@ spell-front (suc n) v behind =
     ∙ ap (λ (k : ℕ). k % 2 ∷ spell n (v / 2) (v % 2 ∷ behind)) (shr-shr v 1 n ∙ ap (λ (k : ℕ). v / 2 ^ k) (let one : 1 + n ≡ suc n = omega arith in one))
 
 pub spell-word : (xs behind : List ℕ) (f : ℕ) → AreBits xs → spell (length xs) (number_after f xs) behind ≡ xs ++ behind
+unfolding AreBits
 spell-word [] behind f are = refl
 spell-word (b ∷ xs) behind f are =
     let v : ℕ = number_after (2 * f + b) xs in
@@ -271,17 +275,14 @@ front-length : (n : ℕ) (bits : List ℕ) → n ≤ 24 → length (take n (padd
 front-length n bits few = length-take-le n (padded bits) (omega (arith, length-append bits (replicate 24 0), length-replicate {A = ℕ} 24 0))
 
 zeros-bits : (n : ℕ) → AreBits (replicate n 0)
+unfolding AreBits
 zeros-bits zero = tt
 zeros-bits (suc n) = (omega arith, zeros-bits n)
 
 both-bits : (xs ys : List ℕ) → AreBits xs → AreBits ys → AreBits (xs ++ ys)
+unfolding AreBits
 both-bits [] ys p q = q
 both-bits (x ∷ xs) ys p q = (p.0, both-bits xs ys p.1 q)
-
-front-bits : (n : ℕ) (xs : List ℕ) → AreBits xs → AreBits (take n xs)
-front-bits zero xs p = tt
-front-bits (suc n) [] p = tt
-front-bits (suc n) (x ∷ xs) p = (p.0, front-bits n xs p.1)
 
 -- the code that begins the bits with zeros behind them, by the number of the first n
 at-number : {A : Type 0} (cs : List (A × List ℕ)) (n number : ℕ) (bits : List ℕ) → n ≤ 24 → are_short n cs ≡ true → AreBits bits → number ≡ number_after 0 (take n (padded bits)) → code_at cs (padded bits) ≡ code_at cs (spell n number [])
@@ -290,7 +291,7 @@ at-number cs n number bits few short are e =
     let size : length front ≡ n = front-length n bits few in
     let word : spell n number [] ≡ front =
     ap (λ (v : ℕ). spell n v []) e ∙ ap (λ (k : ℕ). spell k (number_after 0 front) []) (sym size)
-    ∙ spell-word front [] 0 (front-bits n (padded bits) (both-bits bits (replicate 24 0) are (zeros-bits 24))) ∙ append-none front in
+    ∙ spell-word front [] 0 (bits-take n (padded bits) (both-bits bits (replicate 24 0) are (zeros-bits 24))) ∙ append-none front in
     ap (λ (ys : List ℕ). code_at cs ys) (front-word n bits few)
     ∙ at-front cs front (drop n (padded bits)) (ap (λ (k : ℕ). are_short k cs) size ∙ short)
     ∙ ap (λ (ys : List ℕ). code_at cs ys) (sym word)

@@ -5,7 +5,6 @@ use Rattle.jbig2_base.specs.declared.error.DecodeError.TheVariants.{Region}
 use Rattle.jbig2_base.specs.declared.error.RegionError.TheVariants.{InvalidMmrData}
 use Rattle.jbig2_mmr.specs.T6.{Head, Step, b1_of, begins, bits_of, ends_block, mmr_rows, next_step, pixel_of, read_code, row, row_start, run, runs_of}
 use Rattle.jbig2_mmr.specs.T6Codes.{modes}
-use Rattle.jbig2_mmr.specs.declared.mmr.codes.Mode.{Mode}
 use Rattle.jbig2_mmr.specs.declared.mmr.codes.Mode.TheVariants.{Horizontal, Vertical}
 
 -- no word of the table begins the bits

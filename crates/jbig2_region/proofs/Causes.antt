@@ -1,27 +1,22 @@
 -- Which rule the bytes break where a header of this crate is refused.
-use Rattle.std.proofs.Common.{◌≡◌, ℕ, zero, suc, ◌+◌, ◌-◌, ◌*◌, ◌/◌, ◌%◌, ◌<◌, ◌≤◌, eqb, ltb, Bool, true, false, not, ◌||◌, cond, List, [], ◌∷◌, take, drop, length, Result, Ok, Err, ℤ, pos, negsuc, refl, sym, ◌∙◌, ap, subst, arith, ◌⊎◌, ⊎_elim, inl, inr, length-drop, ltb-true, ltb-false}
+use Rattle.std.proofs.Common.{◌≡◌, ℕ, ◌+◌, ◌-◌, ◌/◌, ◌%◌, ◌<◌, ◌≤◌, eqb, ltb, Bool, true, false, List, take, drop, length, Result, Ok, Err, refl, sym, ◌∙◌, ap, subst, arith, length-drop, ltb-true}
 use Rattle.std.specs.Prelude.{IfErr}
-use Rattle.std.specs.Int.{Width, w8, w32, byte_len, cast_signed, from_be_bytes}
-use Rattle.std.proofs.lemmas.Bool.{cond_both, false≢true, or_cases, not-true, eqb-true, eqb-false, leb-true}
+use Rattle.std.specs.Int.{Width, w8, w32, byte_len, from_be_bytes}
+use Rattle.std.proofs.lemmas.Bool.{cond_both, eqb-true, eqb-false}
 use Rattle.std.proofs.lemmas.List.{drop-drop}
 use Rattle.jbig2_base.specs.Answer.{◌>>=◌, refuse_if}
 use Rattle.jbig2_base.specs.Causes.{number_in}
-use Rattle.jbig2_base.specs.Fields.{end_of_bytes, number_at, signed_at}
+use Rattle.jbig2_base.specs.Fields.{end_of_bytes, number_at}
 use Rattle.jbig2_base.specs.Operator.{operator_of}
 use Rattle.jbig2_base.specs.declared.bitmap.operator.CombinationOperator.{CombinationOperator}
 use Rattle.jbig2_base.specs.declared.error.DecodeError.{DecodeError}
 use Rattle.jbig2_base.specs.declared.error.DecodeError.TheVariants as errors
 use Rattle.jbig2_base.specs.declared.error.RegionError.TheVariants.{InvalidCombinationOperator, InvalidDimension}
-use Rattle.jbig2_base.specs.declared.error.TemplateError.TheVariants.{InvalidAtPixel}
 use Rattle.jbig2_base.proofs.Causes.{cause-next, cause-number, cause-refused, number-there}
-use Rattle.jbig2_region.specs.Causes.{BreaksPixels, BreaksRegionInfo, BreaksRows, IsLate, IsLateIn, RegionInfosHaveCauses, RowsHaveCauses, TemplatePixelsHaveCauses}
+use Rattle.jbig2_region.specs.Causes.{BreaksRegionInfo, BreaksRows, RegionInfosHaveCauses, RowsHaveCauses}
 use Rattle.jbig2_region.specs.GenericHeader.{rows_at}
 use Rattle.jbig2_region.specs.RegionInfo.{region_info_at}
-use Rattle.jbig2_region.specs.Templates.{adaptive_pixel_at, adaptive_pixels_at, free_pixel_at, is_earlier}
 use Rattle.jbig2_region.specs.declared.region_info.RegionSegmentInfo.{RegionSegmentInfo}
-use Rattle.jbig2_region.specs.declared.template.AdaptiveTemplatePixel.{AdaptiveTemplatePixel}
-use Rattle.jbig2_region.specs.declared.template.Template.{Template}
-use Rattle.jbig2_region.specs.declared.template.Template.TheVariants.{Template0, Template1, Template2, Template3}
 
 -- ---- places
 -- what stands from byte k on

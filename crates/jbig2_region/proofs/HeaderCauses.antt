@@ -1,5 +1,5 @@
 -- Which rule the bytes of a region's header break where it is refused, and a reference.
-use Rattle.std.proofs.Common.{◌≡◌, ℕ, ◌+◌, ◌-◌, ◌*◌, ◌/◌, ◌%◌, ◌^◌, ◌<◌, ◌≤◌, eqb, ltb, leb, Bool, true, false, ◌||◌, cond, List, take, drop, length, Result, Ok, Err, refl, sym, ◌∙◌, ap, subst, arith, ◌⊎◌, ⊎_elim, inl, inr, length-drop, ltb-true, leb-true}
+use Rattle.std.proofs.Common.{◌≡◌, ℕ, ◌+◌, ◌-◌, ◌*◌, ◌/◌, ◌%◌, ◌^◌, ◌<◌, ◌≤◌, eqb, ltb, Bool, true, false, ◌||◌, cond, List, take, drop, length, Result, Ok, refl, sym, ◌∙◌, ap, arith, ⊎_elim, inl, inr, length-drop, ltb-true, leb-true}
 use Rattle.std.specs.Prelude.{IfErr}
 use Rattle.std.specs.Int.{Width, w8, w32, byte_len, from_be_bytes}
 use Rattle.std.proofs.lemmas.Bool.{cond-true, cond_both, or_cases}
@@ -17,14 +17,12 @@ use Rattle.jbig2_base.specs.Grid.{Grid}
 use Rattle.jbig2_mmr.specs.T6.{mmr_rows}
 use Rattle.jbig2_mmr.proofs.Causes.{cause-mmr}
 use Rattle.jbig2_region.specs.Generic.{generic_answer, generic_grid}
-use Rattle.jbig2_region.specs.GenericHeader.{GenericHeader, generic_header_at, rows_at}
+use Rattle.jbig2_region.specs.GenericHeader.{generic_header_at, rows_at}
 use Rattle.jbig2_region.specs.Refinement.{is_far, is_smaller, offset, refined_answer, refined_grid}
-use Rattle.jbig2_region.specs.RefinementHeader.{RefinementHeader, refinement_header_at}
+use Rattle.jbig2_region.specs.RefinementHeader.{refinement_header_at}
 use Rattle.jbig2_region.specs.RefinementTemplates.{refinement_pixel_count, refinement_pixels_at, refinement_template_of}
-use Rattle.jbig2_region.specs.RegionInfo.{PlacedRegion, placed, region_info_at}
+use Rattle.jbig2_region.specs.RegionInfo.{placed, region_info_at}
 use Rattle.jbig2_region.specs.Templates.{adaptive_pixel_count, adaptive_pixels_at, template_of}
-use Rattle.jbig2_region.specs.declared.region_info.RegionSegmentInfo.{RegionSegmentInfo}
-use Rattle.jbig2_region.specs.declared.template.RefinementTemplate.{RefinementTemplate}
 use Rattle.jbig2_region.specs.declared.template.RefinementTemplate.TheVariants as refinements
 use Rattle.jbig2_region.proofs.Causes.{At, at-next, info-cause, info-there, rows-cause, same-ok, value-next, went}
 use Rattle.jbig2_region.proofs.PixelCauses.{cause-pixels, cause-refinement_pixels, pixels-there}

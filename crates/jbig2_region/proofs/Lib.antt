@@ -10,6 +10,7 @@ pub mod GatherLemmas
 pub mod GenericLemmas
 pub mod GroupLemmas
 pub mod HeaderCauses
+pub mod NarrowLemmas
 pub mod PixelCauses
 pub mod PixelLemmas
 pub mod PlaceCounts
@@ -27,6 +28,7 @@ pub mod RunSteps
 pub mod SkippingLemmas
 pub mod StepLemmas
 pub mod StoreLemmas
+pub mod StretchLemmas
 pub mod Told
 pub mod UniformLemmas
 pub mod UnlikeLemmas

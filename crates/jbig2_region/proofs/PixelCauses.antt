@@ -1,5 +1,5 @@
 -- Which rule the bytes of adaptive pixels break where they are refused.
-use Rattle.std.proofs.Common.{◌≡◌, ℕ, zero, suc, ◌+◌, ◌-◌, ◌*◌, ◌<◌, ◌≤◌, Bool, true, false, not, ◌&&◌, ◌||◌, cond, List, [], ◌∷◌, length, Result, Ok, Err, ℤ, pos, negsuc, refl, sym, ◌∙◌, ap, subst, arith}
+use Rattle.std.proofs.Common.{◌≡◌, ℕ, zero, suc, ◌+◌, ◌*◌, ◌<◌, ◌≤◌, false, not, ◌&&◌, ◌||◌, List, [], ◌∷◌, length, Ok, ℤ, pos, negsuc, sym, ◌∙◌, ap, subst, arith}
 use Rattle.std.specs.Prelude.{IfErr, int_le, int_lt}
 use Rattle.std.specs.Int.{Width, w8, byte_len, cast_signed}
 use Rattle.std.proofs.lemmas.Bool.{false≢true, not-true}

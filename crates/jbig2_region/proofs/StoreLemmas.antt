@@ -25,7 +25,7 @@ stored-at : (g : Grid) (x y n b i j : ℕ) → i < g.width → j < g.height → 
 stored-at g x y n b i j left above = pixel_at-grid_of g.width g.height (λ i j. cond (eqb j y && leb x i && ltb i (x + n)) (bit b (x + n - 1 - i)) (pixel_at g i j)) i j left above
 
 -- outside the field, also outside the bitmap
-stored-outside : (g : Grid) (x y n b i j : ℕ) → (eqb j y && leb x i && ltb i (x + n)) ≡ false → pixel_at (with_pixels g x y n b) i j ≡ pixel_at g i j
+pub stored-outside : (g : Grid) (x y n b i j : ℕ) → (eqb j y && leb x i && ltb i (x + n)) ≡ false → pixel_at (with_pixels g x y n b) i j ≡ pixel_at g i j
 stored-outside g x y n b i j out =
     ⊎_elim
     (λ (left : i < g.width).

@@ -1,6 +1,6 @@
 -- Pixels that are unlike a colour, as bits of a number, and how many bytes come before the first of them.
 use Rattle.std.proofs.Common.{◌≡◌, ℕ, suc, ◌+◌, ◌-◌, ◌*◌, ◌/◌, ◌%◌, ◌^◌, ◌<◌, ◌≤◌, Bool, true, false, not, cond, eqb, ap, subst, sym, refl, ◌∙◌, ⊎_elim, arith, max}
-use Rattle.std.proofs.Math.Nat.{pow-le-pow_right, pow-suc, div-eq_of_lt-le}
+use Rattle.std.proofs.Math.Nat.{pow-le-pow_right}
 use Rattle.std.proofs.Math.Pow.{pow-lt}
 use Rattle.std.proofs.lemmas.Nat.{pow_pos, leading_top, or_lt, le_or_l, le_or_r, mod_below}
 use Rattle.std.proofs.lemmas.Bool.{cases_lt, ltb_from_iff, lt-ltb, ltb-true, le-leb, lt-leb, ne_eqb, cond-false, and_parts, and_from, both_ways}
@@ -9,6 +9,7 @@ use Rattle.std.specs.Int.RustNames.{bit_or, bit_xor}
 use Rattle.std.specs.Prelude.{nat_le, nat_lt}
 use Rattle.jbig2_base.specs.inner.WordBits.{bit}
 use Rattle.jbig2_base.proofs.BitLemmas.{bit-above, bit-ones, bit-xor, bit-zero, bit-shr, bit-shl_high, bit-shl_low, shr-lt}
+use Rattle.jbig2_base.proofs.ColourLemmas.{bit-top}
 use Rattle.jbig2_region.specs.inner.Neighbours.{is_field, neighbours_stay, stretch_stays}
 use Rattle.jbig2_region.specs.declared.template.neighbours.Neighbours.{Neighbours}
 use Rattle.jbig2_region.specs.declared.template.neighbours.Stretch.{Stretch}
@@ -16,13 +17,6 @@ use Rattle.jbig2_region.specs.declared.generic_kernel.windows.Windows.{Windows}
 use Rattle.jbig2_region.proofs.UniformLemmas.{field-gives, field-all}
 
 -- ---- numbers without high bits
-bit-top : (n j : ℕ) → 2 ^ j ≤ n → n < 2 ^ suc j → bit n j ≡ true
-unfolding bit
-bit-top n j low high =
-    let twice : 2 ^ suc j ≡ 2 * 2 ^ j = pow-suc 2 j ∙ omega arith in
-    let one : n / 2 ^ j ≡ 1 = div-eq_of_lt-le (2 ^ j) (omega arith) (omega (arith, twice)) in
-    ap (λ (q : ℕ). eqb (q % 2) 1) one
-
 small-from : (n k w : ℕ) → n < 2 ^ w → ((i : ℕ) → k ≤ i → i < w → bit n i ≡ false) → n < 2 ^ k
 small-from n k w small none =
     ⊎_elim (λ (less : n < 2 ^ k). less)

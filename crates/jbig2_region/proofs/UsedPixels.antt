@@ -1,5 +1,5 @@
 -- A template takes of an array no pixels but the first so many.
-use Rattle.std.proofs.Common.{◌≡◌, ℕ, Bool, true, false, List, [], ◌∷◌, take, refl}
+use Rattle.std.proofs.Common.{◌≡◌, false, List, [], ◌∷◌, take, refl}
 use Rattle.jbig2_region.specs.RefinementSteps.{is_nominal as refinement_is_nominal}
 use Rattle.jbig2_region.specs.RefinementTemplates.{reference_pixels, region_pixels, two_pixels}
 use Rattle.jbig2_region.specs.Templates.{extended_template_0, four_pixels, is_nominal, template_pixels}

@@ -1,5 +1,5 @@
 -- Which rule the bytes break where a header or a region of this crate is refused (docs/FORMAT.md), a line for each error.
-use Rattle.std.specs.Prelude.{◌≡◌, ◌<◌, ◌≤◌, ◌⊎◌, ℕ, ◌+◌, ◌-◌, ◌*◌, ◌/◌, ◌%◌, ◌^◌, ◌==◌, Bool, true, false, if◌then◌else◌, List, length, IfErr, ℤ, pos, negsuc}
+use Rattle.std.specs.Prelude.{◌≡◌, ◌<◌, ◌≤◌, ◌⊎◌, ℕ, ◌+◌, ◌-◌, ◌*◌, ◌/◌, ◌%◌, ◌^◌, ◌==◌, Bool, true, if◌then◌else◌, List, length, IfErr, ℤ, pos, negsuc}
 use Rattle.std.specs.Int.{w8, w32, cast_signed}
 use Rattle.jbig2_base.specs.Causes.{number_in}
 use Rattle.jbig2_base.specs.declared.error.DecodeError.{DecodeError}

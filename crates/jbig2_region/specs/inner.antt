@@ -3,6 +3,7 @@ pub mod Holds
 pub mod Layouts
 pub mod LongRuns
 pub mod Masks
+pub mod NarrowRows
 pub mod Neighbours
 pub mod RefinementBlocks
 pub mod RefinementLanes
@@ -10,3 +11,4 @@ pub mod RefinementViews
 pub mod RefinementWindows
 pub mod RowCounts
 pub mod Rows
+pub mod Stretches

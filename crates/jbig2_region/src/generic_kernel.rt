@@ -1,6 +1,6 @@
 //! The kernels of generic regions (T.88, 6.2.5): loops that take their contexts from windows on the
 //! rows above, and by whole bytes where the adaptive pixels are nominal.
-ghost use Rattle.std.specs.Prelude.{◌≡◌, ℕ, ◌+◌, ◌-◌, ◌*◌, ◌/◌, ◌^◌, ◌<◌, ◌≤◌, false, true, length, pos, negsuc, ◌+ℤ◌, List, IfSome, if◌then◌else◌};
+ghost use Rattle.std.specs.Prelude.{◌≡◌, ℕ, ◌+◌, ◌-◌, ◌*◌, ◌/◌, ◌^◌, ◌<◌, ◌≤◌, false, true, length, pos, negsuc, ◌+ℤ◌, List, IfSome, None, if◌then◌else◌};
 ghost use Rattle.jbig2_base.specs.Counts.{KeepsLanes};
 ghost use Rattle.jbig2_base.specs.Grid.{blank, pixel};
 ghost use Rattle.jbig2_base.specs.inner.WordBits.{bit};
@@ -13,11 +13,13 @@ ghost use Rattle.jbig2_region.specs.inner.RowCounts.{CountsRow};
 ghost use Rattle.jbig2_region.specs.declared.template.AdaptiveTemplatePixel.{AdaptiveTemplatePixel};
 
 mod bytes;
+mod narrow;
 mod nominal;
 mod pixels;
 mod runs;
 pub(crate) mod windows;
 
+use crate::generic_kernel::narrow::decode_narrow;
 use crate::generic_kernel::nominal::decode_nominal_row;
 use crate::generic_kernel::pixels::decode_row_by_pixels;
 use crate::raster::begin_row;
@@ -121,6 +123,16 @@ fn decode_row<A: Allocator, L: Ledger>(
     decode_row_by_pixels(neighbours, adaptive, bitmap, y, decoder, contexts, steps);
 }
 
+/// Whether a region has few columns, no adaptive pixels that are read one by one, and no typical
+/// prediction.
+fn is_narrow(layout: &Layout<'_>, row_context: Option<u32>, width: u32) -> bool
+    ensures few { result ≡ true → width ≤ 48 }
+    ensures nominal { result ≡ true → layout.now.adaptive ≡ None }
+    ensures plain { result ≡ true → row_context ≡ None }
+{
+    width <= 48 && (layout.adaptive.is_none() && row_context.is_none())
+}
+
 /// A whole region, into a white bitmap of its size. With typical prediction `row_context` is the
 /// context of the decision that begins a row.
 pub fn decode_layout<A: Allocator, L: Ledger>(
@@ -146,6 +158,10 @@ pub fn decode_layout<A: Allocator, L: Ledger>(
         steps.new }
 {
     if bitmap.width() == 0 {
+        return;
+    }
+    if is_narrow(layout, row_context, bitmap.width()) {
+        decode_narrow(layout.neighbours, bitmap, decoder, contexts, steps);
         return;
     }
     let mut predicted = false;

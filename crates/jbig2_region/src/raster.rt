@@ -1,12 +1,12 @@
 //! Regions that are decoded pixel by pixel (T.88, 6.2.5 and 6.3.5): what generic regions and
 //! refinements have in common.
-ghost use Rattle.std.specs.Prelude.{◌≡◌, ℕ, ◌+◌, ◌*◌, ◌^◌, ◌<◌, ◌≤◌, [], length, IfSome, false, Ok, Some};
+ghost use Rattle.std.specs.Prelude.{◌≡◌, ℕ, ◌+◌, ◌*◌, ◌^◌, ◌<◌, ◌≤◌, [], length, IfSome, false, Ok, Some, pos, ◌<ℤ◌};
 ghost use Rattle.jbig2_base.specs.Answer.{Gives};
 ghost use Rattle.jbig2_base.specs.Grid.{Grid, pixel, bit_number};
 ghost use Rattle.jbig2_region.specs.Decisions.{CountsDecided};
 ghost use Rattle.jbig2_region.specs.Raster.{Coding, Region, row_decisions, no_pixels, fresh_contexts};
-ghost use Rattle.jbig2_region.specs.inner.Codes.{Codes, CountsCodes};
 ghost use Rattle.jbig2_region.specs.inner.Holds.{Holds, BeginsRow, DecodesRegion, IsReady};
+ghost use Rattle.jbig2_region.specs.inner.Stretches.{DecodesPixels};
 
 use jbig2_base::bitmap::Bitmap;
 use jbig2_base::bitmap::steps::Steps;
@@ -78,6 +78,22 @@ pub fn pixel_at<A: Allocator, L: Ledger>(
     ensures value { result ≡ bit_number (pixel bitmap.now column row) }
     ensures steps { steps.new ≡ record steps.old { loads = steps.old.loads + 1 } }
 {
+    far_pixel(bitmap, i64::from(column), i64::from(row), steps)
+}
+
+/// The pixel at a place that may lie outside, also far away, 1 for black; 0 outside.
+#[inline(always)]
+pub fn far_pixel<A: Allocator, L: Ledger>(
+    bitmap: &Bitmap<A>,
+    column: i64,
+    row: i64,
+    steps: &mut Steps<L>,
+) -> u8
+    requires column { column <ℤ pos 4294967296 }
+    requires row { row <ℤ pos 4294967296 }
+    ensures value { result ≡ bit_number (pixel bitmap.now column row) }
+    ensures steps { steps.new ≡ record steps.old { loads = steps.old.loads + 1 } }
+{
     if column < 0 || row < 0 {
         steps.load();
         return 0;
@@ -101,14 +117,9 @@ fn decode_pixel<C: PixelCoding, A: Allocator, L: Ledger>(
     requires columns { bitmap.old.width ≤ 65535 }
     requires rows { bitmap.old.height ≤ 65535 }
     requires contexts { length contexts.old ≡ 2 ^ C.bits coding.now }
-    ensures holds { Codes (C.coding coding.now) row.predicted x row.y 1
-        bitmap.old decoder.old contexts.old bitmap.new decoder.new contexts.new }
-    ensures width { bitmap.new.width ≡ bitmap.old.width }
-    ensures height { bitmap.new.height ≡ bitmap.old.height }
-    ensures bytes { decoder.new.bytes ≡ decoder.old.bytes }
-    ensures decisions { CountsCodes (C.coding coding.now) row.predicted x row.y 1
-        bitmap.old decoder.old contexts.old steps.old.decisions steps.new.decisions }
-    ensures run_tests { steps.new.run_tests ≡ steps.old.run_tests }
+    ensures decoded { DecodesPixels (C.coding coding.now) row.predicted x row.y 1
+        bitmap.old decoder.old contexts.old steps.old
+        bitmap.new decoder.new contexts.new steps.new }
     ensures words { steps.new.words ≡ steps.old.words + 1 }
     ensures loads { steps.new.loads
         ≤ steps.old.loads + (C.bits coding.now + C.known_loads coding.now) }
@@ -135,14 +146,9 @@ fn decode_row<C: PixelCoding, A: Allocator, L: Ledger>(
     requires columns { bitmap.old.width ≤ 65535 }
     requires rows { bitmap.old.height ≤ 65535 }
     requires contexts { length contexts.old ≡ 2 ^ C.bits coding.now }
-    ensures holds { Codes (C.coding coding.now) row.predicted 0 row.y bitmap.old.width
-        bitmap.old decoder.old contexts.old bitmap.new decoder.new contexts.new }
-    ensures width { bitmap.new.width ≡ bitmap.old.width }
-    ensures height { bitmap.new.height ≡ bitmap.old.height }
-    ensures bytes { decoder.new.bytes ≡ decoder.old.bytes }
-    ensures decisions { CountsCodes (C.coding coding.now) row.predicted 0 row.y bitmap.old.width
-        bitmap.old decoder.old contexts.old steps.old.decisions steps.new.decisions }
-    ensures run_tests { steps.new.run_tests ≡ steps.old.run_tests }
+    ensures decoded { DecodesPixels (C.coding coding.now) row.predicted 0 row.y
+        bitmap.old.width bitmap.old decoder.old contexts.old steps.old
+        bitmap.new decoder.new contexts.new steps.new }
     ensures words { steps.new.words ≡ steps.old.words + bitmap.old.width }
     ensures loads { steps.new.loads ≤ steps.old.loads
         + bitmap.old.width * (C.bits coding.now + C.known_loads coding.now) }

@@ -12,7 +12,7 @@ ghost use Rattle.jbig2_region.specs.RefinementTemplates.{refinement_bits, two_pi
 
 use crate::generic_coding::context_at;
 use crate::generic_refinement::ReferenceBitmap;
-use crate::raster::{PixelCoding, Row, decode_region};
+use crate::raster::{PixelCoding, Row, decode_region, far_pixel};
 use crate::refinement_kernel::{WindowedCoding, decode_windowed};
 use crate::template::refinement::{is_nominal, reference_0, region_0, row_context};
 use crate::template::{AdaptiveTemplatePixel, RefinementTemplate, pixel};
@@ -38,26 +38,6 @@ fn nine() -> [AdaptiveTemplatePixel; 9]
         pixel(0, 1),
         pixel(1, 1),
     ]
-}
-
-/// The pixel at a place that may lie outside, also far away, 1 for black; 0 outside.
-#[inline(always)]
-fn far_pixel<A: Allocator, L: Ledger>(
-    bitmap: &Bitmap<A>,
-    column: i64,
-    row: i64,
-    steps: &mut Steps<L>,
-) -> u8
-    requires column { column <ℤ pos 4294967296 }
-    requires row { row <ℤ pos 4294967296 }
-    ensures value { result ≡ bit_number (pixel bitmap.now column row) }
-    ensures steps { steps.new ≡ record steps.old { loads = steps.old.loads + 1 } }
-{
-    if column < 0 || row < 0 {
-        steps.load();
-        return 0;
-    }
-    bitmap.get_pixel(column as u32, row as u32, steps)
 }
 
 /// The reference's column (or row) for a template's pixel that lies `apart` from the region's column

@@ -7,12 +7,13 @@ ghost use Rattle.jbig2_region.specs.Decisions.{CountsDecided};
 ghost use Rattle.jbig2_region.specs.Raster.{no_pixels};
 ghost use Rattle.jbig2_region.specs.RefinementSteps.{window_loads};
 ghost use Rattle.jbig2_region.specs.RefinementTemplates.{refinement_bits, refinement_row_context};
-ghost use Rattle.jbig2_region.specs.inner.Codes.{Codes, CountsCodes, Takes};
+ghost use Rattle.jbig2_region.specs.inner.Codes.{Takes};
 ghost use Rattle.jbig2_region.specs.inner.Holds.{DecodesRegion, IsReady};
 ghost use Rattle.jbig2_region.specs.inner.Neighbours.{IsLeft};
 ghost use Rattle.jbig2_region.specs.inner.RefinementBlocks.{MovesBlock};
 ghost use Rattle.jbig2_region.specs.inner.RefinementViews.{reference_view};
 ghost use Rattle.jbig2_region.specs.inner.RefinementWindows.{SeesRows, context_of, known_of, nine_of, three_of, windowed_coding};
+ghost use Rattle.jbig2_region.specs.inner.Stretches.{DecodesPixels};
 
 mod lanes;
 mod windows;
@@ -166,18 +167,13 @@ fn decode_block<A: Allocator, B: Allocator, L: Ledger>(
     requires left { IsLeft bitmap.old x row.y left }
     requires small { left < 16 }
     requires sees { SeesRows bitmap.old (reference_view coding.now.reference.now) x row.y windows }
-    ensures holds { Codes (windowed_coding coding.now) row.predicted x row.y count
-        bitmap.old decoder.old contexts.old bitmap.new decoder.new contexts.new }
+    ensures decoded { DecodesPixels (windowed_coding coding.now) row.predicted x row.y count
+        bitmap.old decoder.old contexts.old steps.old
+        bitmap.new decoder.new contexts.new steps.new }
     ensures left { IsLeft bitmap.new (x + count) row.y (result % 16) }
     ensures value { (k : ℕ) → k < count
         → bit result (count - 1 - k) ≡ pixel_at bitmap.new (x + k) row.y }
-    ensures width { bitmap.new.width ≡ bitmap.old.width }
-    ensures height { bitmap.new.height ≡ bitmap.old.height }
-    ensures bytes { decoder.new.bytes ≡ decoder.old.bytes }
     ensures contexts { length contexts.new ≡ length contexts.old }
-    ensures decisions { CountsCodes (windowed_coding coding.now) row.predicted x row.y count
-        bitmap.old decoder.old contexts.old steps.old.decisions steps.new.decisions }
-    ensures run_tests { steps.new.run_tests ≡ steps.old.run_tests }
     ensures loads { steps.new.loads ≡ steps.old.loads }
     ensures words { steps.new.words ≡ steps.old.words + 1 }
 {
@@ -230,16 +226,10 @@ fn decode_row<A: Allocator, B: Allocator, L: Ledger>(
     requires row { row.y < bitmap.old.height }
     requires widths { bitmap.old.width ≤ 65535 }
     requires heights { bitmap.old.height ≤ 65535 }
-    ensures holds { Codes (windowed_coding coding.now) row.predicted 0 row.y bitmap.old.width
-        bitmap.old decoder.old contexts.old bitmap.new decoder.new contexts.new }
-    ensures width { bitmap.new.width ≡ bitmap.old.width }
-    ensures height { bitmap.new.height ≡ bitmap.old.height }
-    ensures bytes { decoder.new.bytes ≡ decoder.old.bytes }
+    ensures decoded { DecodesPixels (windowed_coding coding.now) row.predicted 0 row.y
+        bitmap.old.width bitmap.old decoder.old contexts.old steps.old
+        bitmap.new decoder.new contexts.new steps.new }
     ensures contexts { length contexts.new ≡ length contexts.old }
-    ensures decisions { CountsCodes (windowed_coding coding.now) row.predicted 0 row.y
-        bitmap.old.width
-        bitmap.old decoder.old contexts.old steps.old.decisions steps.new.decisions }
-    ensures run_tests { steps.new.run_tests ≡ steps.old.run_tests }
     ensures loads { steps.new.loads ≤ steps.old.loads + window_loads bitmap.old.width }
     ensures words { steps.new.words ≤ steps.old.words + bitmap.old.width }
 {

@@ -1,14 +1,11 @@
-//! Bitmaps that are made, read, written and combined.
-//!
-//! `rt try --test --fail-alloc N` in this crate's folder runs these tests with the Nth request for memory
-//! refused. At most one is refused in a test's run, so what it was refused to is tried again.
+//! Bitmaps that are combined: row R10.1.
 ghost use Rattle.std.specs.Prelude.{◌≡◌};
 
 use jbig2_base::bitmap::Bitmap;
 use jbig2_base::bitmap::operator::CombinationOperator;
 use jbig2_base::bitmap::steps::Steps;
-use jbig2_base::error::{DecodeError, OverflowError, Result};
-use std::alloc::Allocator;
+use jbig2_base::error::{DecodeError, Result};
+use std::alloc::Global;
 use std::marker::Brand;
 use std::sync::ledger::{Blank, Ledger};
 
@@ -20,233 +17,53 @@ const OPERATORS: [CombinationOperator; 5] = [
     CombinationOperator::Replace,
 ];
 
-#[test]
-fn sides_that_are_too_long_are_refused(rt: HostRuntime) {
-    let alloc = rt.alloc();
-    let overflow = DecodeError::Overflow(OverflowError::BitmapDimension);
-    assert!(rt; Bitmap::new(alloc, 65536, 1).err() == Some(overflow.duplicate()));
-    assert!(rt; Bitmap::new_with(alloc, 1, 65536, true).err() == Some(overflow.duplicate()));
-    assert!(rt; Bitmap::new_wide(alloc, 65537, 65535).err() == Some(overflow));
+const WIDTHS: [u32; 9] = [7, 8, 9, 31, 32, 33, 63, 64, 65];
+
+/// How many rows a bitmap has.
+const HEIGHT: u32 = 3;
+
+/// What makes the pixels of the page, and those of the source.
+const PAGE: u32 = 0x9E37_79B9;
+
+const SOURCE: u32 = 0x7F4A_7C15;
+
+/// Whether a pixel is black, without a pattern.
+fn is_black(seed: u32, x: u32, y: u32) -> bool {
+    let mixed = (x.wrapping_mul(40503) ^ y.wrapping_mul(25717)).wrapping_mul(seed);
+    (mixed >> 17) % 2 == 1
 }
 
-/// The sizes of a wide bitmap, of an empty one, and of that one with another size.
-fn sizes<A: Allocator + Clone>(alloc: A) -> Result<[(u32, u32); 3]> {
-    let wide = Bitmap::new_wide(alloc.clone()?, 65536, 1)?;
-    let mut bitmap = Bitmap::new_empty(alloc);
-    let empty = (bitmap.width(), bitmap.height());
-    bitmap.reinitialize(65535, 2, true)?;
-    Ok([
-        (wide.width(), wide.height()),
-        empty,
-        (bitmap.width(), bitmap.height()),
-    ])
-}
-
-#[test]
-fn sizes_are_kept(rt: HostRuntime) {
-    let mut kept = sizes(rt.alloc());
-    if kept == Err(DecodeError::OutOfMemory) {
-        kept = sizes(rt.alloc());
-    }
-    assert!(rt; kept == Ok([(65536, 1), (0, 0), (65535, 2)]));
-}
-
-#[test]
-fn a_copy_is_a_bitmap_of_its_own(rt: HostRuntime) {
-    let mut read = copied::<Brand, _>(rt.alloc(), Blank::new(6));
-    if read == Err(DecodeError::OutOfMemory) {
-        read = copied::<Brand, _>(rt.alloc(), Blank::new(6));
-    }
-    assert!(rt; read == Ok((72, 2, 0b1)));
-}
-
-/// The sizes of a copy, and the end of its last row, after a write to the bitmap that it was made of.
-fn copied<L: Ledger, A: Allocator + Clone>(alloc: A, blank: Blank) -> Result<(u32, u32, u64)>
-    requires name { blank.name ≡ L.name }
-    requires parts { blank.parts ≡ L.parts }
-    requires enough { blank.parts ≡ 6 }
-{
-    let mut steps: Steps<L> = Steps::new(blank);
-    let mut bitmap = Bitmap::new(alloc.clone()?, 72, 2)?;
-    bitmap.set_pixel(71, 1, true, &mut steps);
-    let copy = bitmap.duplicate(alloc, &mut steps)?;
-    bitmap.set_pixel(71, 1, false, &mut steps);
-    Ok((
-        copy.width(),
-        copy.height(),
-        copy.load_pixels(64, 1, 8, &mut steps),
-    ))
-}
-
-#[test]
-fn pixels_are_read_and_written(rt: HostRuntime) {
-    let mut read = read_and_written::<Brand, _>(rt.alloc(), Blank::new(6));
-    if read == Err(DecodeError::OutOfMemory) {
-        read = read_and_written::<Brand, _>(rt.alloc(), Blank::new(6));
-    }
-    assert!(rt; read == Ok([1, 0, 0b101, 0b1101000001, 0b1000001000000, 0]));
-}
-
-/// What single pixels and rows of pixels read as, after one of each write.
-fn read_and_written<L: Ledger, A: Allocator>(alloc: A, blank: Blank) -> Result<[u64; 6]>
-    requires name { blank.name ≡ L.name }
-    requires parts { blank.parts ≡ L.parts }
-    requires enough { blank.parts ≡ 6 }
-{
-    let mut steps: Steps<L> = Steps::new(blank);
-    let mut bitmap = Bitmap::new(alloc, 72, 2)?;
-    bitmap.set_pixel(71, 1, true, &mut steps);
-    bitmap.set_pixel(72, 1, true, &mut steps);
-    bitmap.set_pixel(71, 1, false, &mut steps);
-    bitmap.store_pixels(62, 1, 2, 0b11, &mut steps);
-    bitmap.store_pixels(64, 1, 2, 0b01, &mut steps);
-    Ok([
-        u64::from(bitmap.get_pixel(71, 1, &mut steps)),
-        u64::from(bitmap.get_pixel(71, 0, &mut steps)),
-        bitmap.load_pixels(63, 1, 3, &mut steps),
-        bitmap.load_pixels(62, 1, 10, &mut steps),
-        bitmap.load_pixels(65, 1, 13, &mut steps),
-        bitmap.load_pixels(4294967295, 1, 64, &mut steps),
-    ])
-}
-
-/// Row 18: a bitmap that lies far outside.
-#[test]
-fn nothing_lies_far_outside(rt: HostRuntime) {
-    let mut black = drawn_far_outside::<Brand, _>(rt.alloc(), Blank::new(6));
-    if black == Err(DecodeError::OutOfMemory) {
-        black = drawn_far_outside::<Brand, _>(rt.alloc(), Blank::new(6));
-    }
-    assert!(rt; black == Ok(0));
-}
-
-/// The black columns of an 8 by 8 page after a black bitmap of that size is drawn far outside.
-fn drawn_far_outside<L: Ledger, A: Allocator + Clone>(alloc: A, blank: Blank) -> Result<u64>
-    requires name { blank.name ≡ L.name }
-    requires parts { blank.parts ≡ L.parts }
-    requires enough { blank.parts ≡ 6 }
-{
-    let mut steps: Steps<L> = Steps::new(blank);
-    let mut page = Bitmap::new(alloc.clone()?, 8, 8)?;
-    let other = Bitmap::new_with(alloc, 8, 8, true)?;
-    page.combine(&other, 2147483646, 0, CombinationOperator::Or, &mut steps);
-    page.combine(&other, 0, 2147483646, CombinationOperator::Or, &mut steps);
-    let mut black = 0;
-    for y in 0..8 {
-        black |= page.load_pixels(0, y, 64, &mut steps);
-    }
-    Ok(black)
-}
-
-/// Row R10.1: against a copy pixel by pixel.
-#[test]
-fn combinations_agree_with_a_copy_by_pixels(rt: HostRuntime) {
-    let mut agree = every_combination_agrees::<Brand, _>(rt.alloc(), Blank::new(6));
-    if agree == Err(DecodeError::OutOfMemory) {
-        agree = every_combination_agrees::<Brand, _>(rt.alloc(), Blank::new(6));
-    }
-    assert!(rt; agree == Ok(true));
-}
-
-/// Whether each combination of the sweep gives what a copy by pixels gives.
-fn every_combination_agrees<L: Ledger, A: Allocator + Clone>(alloc: A, blank: Blank) -> Result<bool>
-    requires name { blank.name ≡ L.name }
-    requires parts { blank.parts ≡ L.parts }
-    requires enough { blank.parts ≡ 6 }
-{
-    let mut steps: Steps<L> = Steps::new(blank);
-    for width in [7, 8, 9, 31, 32, 33, 63, 64, 65] {
-        let mut page = speckled(alloc.clone()?, width, 0x9E37_79B9, &mut steps)?;
-        let before = speckled(alloc.clone()?, width, 0x9E37_79B9, &mut steps)?;
-        let source = speckled(alloc.clone()?, width, 0x7F4A_7C15, &mut steps)?;
-        for x in -70..71 {
-            for y in -4..5 {
-                if !each_operator_agrees(&mut page, &before, &source, x, y, &mut steps)? {
-                    return Ok(false);
-                }
-            }
-        }
-    }
-    Ok(true)
-}
-
-/// Whether each operator gives what a copy by pixels gives, at one place of the source.
-fn each_operator_agrees<L: Ledger, A: Allocator>(
-    page: &mut Bitmap<A>,
-    before: &Bitmap<A>,
-    source: &Bitmap<A>,
-    x: i32,
-    y: i32,
-    steps: &mut Steps<L>,
-) -> Result<bool> {
-    for operator in OPERATORS {
-        speckle(page, before.width(), 0x9E37_79B9, steps)?;
-        page.combine(source, x, y, operator, steps);
-        for j in 0..page.height() {
-            for i in 0..page.width() {
-                let old = before.get_pixel(i, j, steps) == 1;
-                let wanted = match pixel_below(
-                    source,
-                    i64::from(i) - i64::from(x),
-                    i64::from(j) - i64::from(y),
-                    steps,
-                ) {
-                    Some(drawn) => combined(operator, old, drawn),
-                    None => old,
-                };
-                if (page.get_pixel(i, j, steps) == 1) != wanted {
-                    return Ok(false);
-                }
-            }
-        }
-    }
-    Ok(true)
-}
-
-/// Three rows of pixels without a pattern.
-fn speckled<L: Ledger, A: Allocator>(
-    alloc: A,
-    width: u32,
-    seed: u32,
-    steps: &mut Steps<L>,
-) -> Result<Bitmap<A>> {
-    let mut bitmap = Bitmap::new_empty(alloc);
-    speckle(&mut bitmap, width, seed, steps)?;
-    Ok(bitmap)
-}
-
-fn speckle<L: Ledger, A: Allocator>(
-    bitmap: &mut Bitmap<A>,
+/// Makes a bitmap of these pixels.
+fn speckle<L: Ledger>(
+    bitmap: &mut Bitmap<Global>,
     width: u32,
     seed: u32,
     steps: &mut Steps<L>,
 ) -> Result<()> {
-    bitmap.reinitialize(width, 3, false)?;
-    for y in 0..3u32 {
+    bitmap.reinitialize(width, HEIGHT, false)?;
+    for y in 0..HEIGHT {
         for x in 0..width {
-            let mixed = (x.wrapping_mul(40503) ^ y.wrapping_mul(25717)).wrapping_mul(seed);
-            bitmap.set_pixel(x, y, (mixed >> 17) % 2 == 1, steps);
+            bitmap.set_pixel(x, y, is_black(seed, x, y), steps);
         }
     }
     Ok(())
 }
 
-/// The source's pixel at a place that may lie outside.
-fn pixel_below<L: Ledger, A: Allocator>(
-    source: &Bitmap<A>,
-    x: i64,
-    y: i64,
-    steps: &mut Steps<L>,
-) -> Option<bool> {
+/// The pixel of a source of this width at a place that may lie outside.
+fn source_pixel(width: u32, x: i64, y: i64) -> Option<bool> {
     let column = u32::try_from(x).ok()?;
     let row = u32::try_from(y).ok()?;
-    if column >= source.width() || row >= source.height() {
+    if column >= width || row >= HEIGHT {
         return None;
     }
-    Some(source.get_pixel(column, row, steps) == 1)
+    Some(is_black(SOURCE, column, row))
 }
 
-fn combined(operator: CombinationOperator, page: bool, source: bool) -> bool {
+/// The pixel that a combination at a place leaves on the page.
+fn combined(operator: CombinationOperator, page: bool, source: Option<bool>) -> bool {
+    let Some(source) = source else {
+        return page;
+    };
     match operator {
         CombinationOperator::Or => page | source,
         CombinationOperator::And => page & source,
@@ -254,4 +71,89 @@ fn combined(operator: CombinationOperator, page: bool, source: bool) -> bool {
         CombinationOperator::Xnor => page == source,
         CombinationOperator::Replace => source,
     }
+}
+
+/// Whether the page is as the pixels one by one make it.
+fn is_combined<L: Ledger>(
+    page: &Bitmap<Global>,
+    operator: CombinationOperator,
+    place: (i32, i32),
+    steps: &mut Steps<L>,
+) -> bool {
+    let (left, top) = (i64::from(place.0), i64::from(place.1));
+    for y in 0..page.height() {
+        for x in 0..page.width() {
+            let source = source_pixel(page.width(), i64::from(x) - left, i64::from(y) - top);
+            let wanted = combined(operator, is_black(PAGE, x, y), source);
+            if (page.get_pixel(x, y, steps) == 1) != wanted {
+                return false;
+            }
+        }
+    }
+    true
+}
+
+/// Whether each operator gives what a copy by pixels gives, with the source at one place.
+fn each_operator_agrees<L: Ledger>(
+    page: &mut Bitmap<Global>,
+    source: &Bitmap<Global>,
+    place: (i32, i32),
+    steps: &mut Steps<L>,
+) -> Result<bool> {
+    for operator in OPERATORS {
+        speckle(page, source.width(), PAGE, steps)?;
+        page.combine(source, place.0, place.1, operator, steps);
+        if !is_combined(page, operator, place, steps) {
+            return Ok(false);
+        }
+    }
+    Ok(true)
+}
+
+/// Whether that holds at each place of the source.
+fn each_place_agrees<L: Ledger>(
+    page: &mut Bitmap<Global>,
+    source: &Bitmap<Global>,
+    steps: &mut Steps<L>,
+) -> Result<bool> {
+    for x in -70..71 {
+        for y in -4..5 {
+            if !each_operator_agrees(page, source, (x, y), steps)? {
+                return Ok(false);
+            }
+        }
+    }
+    Ok(true)
+}
+
+/// Whether that holds for each width. Both bitmaps are made anew for it.
+fn each_width_agrees<L: Ledger>(
+    page: &mut Bitmap<Global>,
+    source: &mut Bitmap<Global>,
+    blank: Blank,
+) -> Result<bool>
+    requires name { blank.name ≡ L.name }
+    requires parts { blank.parts ≡ L.parts }
+    requires enough { blank.parts ≡ 6 }
+{
+    let mut steps: Steps<L> = Steps::new(blank);
+    for width in WIDTHS {
+        speckle(source, width, SOURCE, &mut steps)?;
+        if !each_place_agrees(page, source, &mut steps)? {
+            return Ok(false);
+        }
+    }
+    Ok(true)
+}
+
+/// Against a copy pixel by pixel. Behind a request for memory that was refused all is done once more.
+#[test]
+fn combinations_agree_with_a_copy_by_pixels(rt: HostRuntime) {
+    let mut page = Bitmap::new_empty(rt.alloc());
+    let mut source = Bitmap::new_empty(rt.alloc());
+    let mut agree = each_width_agrees::<Brand>(&mut page, &mut source, Blank::new(6));
+    if agree == Err(DecodeError::OutOfMemory) {
+        agree = each_width_agrees::<Brand>(&mut page, &mut source, Blank::new(6));
+    }
+    assert!(rt; agree == Ok(true));
 }

@@ -1,23 +1,43 @@
 //! Values worked out by Annex A's text.
-//!
-//! `rt try --test --fail-alloc N` in this crate's folder runs these tests with the Nth request for memory
-//! refused. At most one is refused in a test's run, so what it was refused to is tried again.
-
 ghost use Rattle.std.specs.Prelude.{◌≡◌};
 
 use jbig2_base::bitmap::steps::Steps;
 use jbig2_base::error::{DecodeError, Result};
 use jbig2_coder::arithmetic_decoder::ArithmeticDecoder;
 use jbig2_coder::integer_decoder::IntegerDecoder;
-use std::alloc::Allocator;
+use jbig2_coder::symbol_id_decoder::SymbolIdDecoder;
+use std::alloc::Global;
 use std::marker::Brand;
 use std::sync::ledger::{Blank, Ledger};
 
-fn first_integers<L: Ledger, A: Allocator>(
-    alloc: A,
+/// The coded bytes of T.88, H.2.
+const CODED: &[u8] = &[0x84, 0xC7, 0x3B, 0xFC, 0xE1, 0xA1, 0x43, 0x04, 0x02, 0x20];
+
+/// The integers that bytes begin with. No bytes at all give values of twelve and of 32 bits.
+const INTEGERS: [(&[u8], [Option<i32>; 5]); 2] = [
+    (CODED, [Some(1), Some(-2), Some(5), Some(8), None]),
+    (
+        &[],
+        [
+            Some(-2400),
+            Some(-2117344399),
+            Some(-2117344757),
+            Some(-4435),
+            Some(-4435),
+        ],
+    ),
+];
+
+/// The ids of five bits.
+const IDS: [u32; 5] = [3, 12, 18, 3, 23];
+
+/// Whether bytes begin with these integers.
+fn integers_hold<L: Ledger>(
+    alloc: Global,
     blank: Blank,
     coded: &[u8],
-) -> Result<[Option<i32>; 5]>
+    expected: &[Option<i32>],
+) -> Result<bool>
     requires name { blank.name ≡ L.name }
     requires parts { blank.parts ≡ L.parts }
     requires enough { blank.parts ≡ 6 }
@@ -25,39 +45,46 @@ fn first_integers<L: Ledger, A: Allocator>(
     let mut steps = Steps::<L>::new(blank);
     let mut decoder = ArithmeticDecoder::new(coded);
     let mut integers = IntegerDecoder::new(alloc)?;
-    let mut first = [None; 5];
-    for value in first.iter_mut() {
-        *value = integers.decode(&mut decoder, &mut steps);
+    for value in expected {
+        if integers.decode(&mut decoder, &mut steps) != *value {
+            return Ok(false);
+        }
     }
-    Ok(first)
+    Ok(true)
 }
 
-// The coded bytes of T.88, H.2, read as integers.
-#[test]
-fn integers(rt: HostRuntime) {
-    let coded = [0x84, 0xC7, 0x3B, 0xFC, 0xE1, 0xA1, 0x43, 0x04, 0x02, 0x20];
-    let mut first = first_integers::<Brand, _>(rt.alloc(), Blank::new(6), &coded);
-    if first == Err(DecodeError::OutOfMemory) {
-        first = first_integers::<Brand, _>(rt.alloc(), Blank::new(6), &coded);
+/// Whether the coded bytes begin with the ids.
+fn ids_hold<L: Ledger>(alloc: Global, blank: Blank) -> Result<bool>
+    requires name { blank.name ≡ L.name }
+    requires parts { blank.parts ≡ L.parts }
+    requires enough { blank.parts ≡ 6 }
+{
+    let mut steps = Steps::<L>::new(blank);
+    let mut decoder = ArithmeticDecoder::new(CODED);
+    let mut ids = SymbolIdDecoder::new(alloc, 5)?;
+    for id in IDS {
+        if ids.decode(&mut decoder, &mut steps) != id {
+            return Ok(false);
+        }
     }
-    assert_eq!(rt; first, Ok([Some(1), Some(-2), Some(5), Some(8), None]));
+    Ok(true)
 }
 
-// No bytes at all: values of twelve and of 32 bits.
-#[test]
-fn long_integers(rt: HostRuntime) {
-    let mut first = first_integers::<Brand, _>(rt.alloc(), Blank::new(6), &[]);
-    if first == Err(DecodeError::OutOfMemory) {
-        first = first_integers::<Brand, _>(rt.alloc(), Blank::new(6), &[]);
+/// Whether all hold.
+fn annex_a_holds(alloc: Global) -> Result<bool> {
+    for (coded, expected) in &INTEGERS {
+        if !integers_hold::<Brand>(alloc, Blank::new(6), coded, expected)? {
+            return Ok(false);
+        }
     }
-    assert_eq!(rt;
-        first,
-        Ok([
-            Some(-2400),
-            Some(-2117344399),
-            Some(-2117344757),
-            Some(-4435),
-            Some(-4435)
-        ])
-    );
+    ids_hold::<Brand>(alloc, Blank::new(6))
+}
+
+#[test]
+fn integers_and_ids(rt: HostRuntime) {
+    let mut holds = annex_a_holds(rt.alloc());
+    if holds == Err(DecodeError::OutOfMemory) {
+        holds = annex_a_holds(rt.alloc());
+    }
+    assert!(rt; holds == Ok(true));
 }

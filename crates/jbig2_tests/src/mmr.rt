@@ -1,22 +1,19 @@
 //! Runs of every length, written from the code tables and read back.
-//!
-//! `rt try --test --fail-alloc N` in this crate's folder runs this test with the Nth request for memory
-//! refused. At most one is refused in a test's run, so what it was refused to is tried again.
 ghost use Rattle.std.specs.Prelude.{◌≡◌};
 
 use jbig2_base::bitmap::Bitmap;
 use jbig2_base::bitmap::steps::Steps;
 use jbig2_base::error::{DecodeError, Result};
 use jbig2_mmr::mmr::decode;
-use std::alloc::{Allocator, Global};
+use std::alloc::Global;
 use std::marker::Brand;
 use std::sync::ledger::{Blank, Ledger};
 
 /// The code of the horizontal mode (T.6, table 1): the number that its bits spell, and how many there are.
 const HORIZONTAL: (u16, u8) = (1, 3);
 
-/// The codes of white runs (T.6, tables 2 and 3): of 0 to 63, and of 64 to 2560 by 64.
-const WHITE_RUNS: [(u16, u8); 104] = [
+/// The codes of white runs (T.6, tables 2 and 3): of 0 to 63, and of 64 to 1728 by 64.
+const WHITE_RUNS: [(u16, u8); 91] = [
     (0x35, 8),
     (0x7, 6),
     (0x7, 4),
@@ -108,23 +105,10 @@ const WHITE_RUNS: [(u16, u8); 104] = [
     (0x9A, 9),
     (0x18, 6),
     (0x9B, 9),
-    (0x8, 11),
-    (0xC, 11),
-    (0xD, 11),
-    (0x12, 12),
-    (0x13, 12),
-    (0x14, 12),
-    (0x15, 12),
-    (0x16, 12),
-    (0x17, 12),
-    (0x1C, 12),
-    (0x1D, 12),
-    (0x1E, 12),
-    (0x1F, 12),
 ];
 
 /// The same of black runs.
-const BLACK_RUNS: [(u16, u8); 104] = [
+const BLACK_RUNS: [(u16, u8); 91] = [
     (0x37, 10),
     (0x2, 3),
     (0x3, 2),
@@ -216,6 +200,10 @@ const BLACK_RUNS: [(u16, u8); 104] = [
     (0x5B, 13),
     (0x64, 13),
     (0x65, 13),
+];
+
+/// The codes of runs of either colour: of 1792 to 2560 by 64.
+const LONG_RUNS: [(u16, u8); 13] = [
     (0x8, 11),
     (0xC, 11),
     (0xD, 11),
@@ -231,36 +219,52 @@ const BLACK_RUNS: [(u16, u8); 104] = [
     (0x1F, 12),
 ];
 
-/// The longest run that one code stands for, and the place of its code in the tables of both colours.
-const LONGEST: (u32, usize) = (2560, 103);
+/// The longest run that one code stands for.
+const LONGEST: u32 = 2560;
+
+/// The code of a run of at most 63, or of one that 64 divides.
+fn code_of(black: bool, length: usize) -> Option<&'static (u16, u8)> {
+    let codes = if black { &BLACK_RUNS } else { &WHITE_RUNS };
+    if length < 64 {
+        return codes.get(length);
+    }
+    let place = 63 + length / 64;
+    codes.get(place).or(LONG_RUNS.get(place.saturating_sub(91)))
+}
 
 /// Appends the bits of a code.
-fn push_code<A: Allocator>(bits: &mut Vec<bool, A>, code: (u16, u8)) -> Result<()> {
-    let (number, size) = code;
-    for place in (0..16u8).rev() {
-        if place < size {
-            bits.push((number >> place) % 2 == 1)?;
+fn push_code(bits: &mut Vec<bool>, code: Option<&(u16, u8)>) -> Result<()> {
+    if let Some((number, size)) = code {
+        for place in (0..16u8).rev() {
+            if place < *size {
+                bits.push((number >> place) % 2 == 1)?;
+            }
         }
     }
     Ok(())
 }
 
 /// Appends the codes of a run: the longest ones, one for the rest of at least 64, and the one that ends it.
-fn push_run<A: Allocator>(bits: &mut Vec<bool, A>, black: bool, length: u32) -> Result<()> {
-    let codes = if black { &BLACK_RUNS } else { &WHITE_RUNS };
-    let (longest, place) = LONGEST;
-    for _ in 0..length / longest {
-        push_code(bits, codes[place])?;
+fn push_run(bits: &mut Vec<bool>, black: bool, length: u32) -> Result<()> {
+    for _ in 0..length / LONGEST {
+        push_code(bits, code_of(black, LONGEST as usize))?;
     }
-    let rest = (length % longest) as usize;
+    let rest = (length % LONGEST) as usize;
     if rest >= 64 {
-        push_code(bits, codes[63 + rest / 64])?;
+        push_code(bits, code_of(black, rest - rest % 64))?;
     }
-    push_code(bits, codes[rest % 64])
+    push_code(bits, code_of(black, rest % 64))
+}
+
+/// Appends the codes of a row of a white run and a black one.
+fn push_row(bits: &mut Vec<bool>, white: u32, black: u32) -> Result<()> {
+    push_code(bits, Some(&HORIZONTAL))?;
+    push_run(bits, false, white)?;
+    push_run(bits, true, black)
 }
 
 /// Eight bits to a byte, the first in the highest, and zeros behind the last.
-fn bytes_of<A: Allocator>(alloc: A, bits: &[bool]) -> Result<Vec<u8, A>> {
+fn bytes_of(alloc: Global, bits: &[bool]) -> Result<Vec<u8>> {
     let mut bytes = Vec::new(alloc);
     for group in bits.chunks(8) {
         let mut byte = 0u8;
@@ -272,67 +276,80 @@ fn bytes_of<A: Allocator>(alloc: A, bits: &[bool]) -> Result<Vec<u8, A>> {
     Ok(bytes)
 }
 
+/// Rows of two runs, a white one of these lengths and a black one up to the width.
+fn coded(alloc: Global, width: u32, whites: &[u32]) -> Result<Vec<u8>> {
+    let mut bits = Vec::new(alloc);
+    for white in whites {
+        push_row(&mut bits, *white, width.saturating_sub(*white))?;
+    }
+    bytes_of(alloc, &bits)
+}
+
 /// Of the 64 pixels from column `x` on, the first in the highest bit, those from column `first` on.
 fn pixels_from(first: u32, x: u32) -> u64 {
     u64::MAX.checked_shr(first.saturating_sub(x)).unwrap_or(0)
 }
 
-/// Whether rows of two runs, a white one of these lengths and a black one up to the width, are read back.
-fn are_read_back<A: Allocator + Clone, L: Ledger>(
-    alloc: A,
+/// Whether a bitmap has these rows.
+fn are_rows<L: Ledger>(bitmap: &Bitmap<Global>, whites: &[u32], steps: &mut Steps<L>) -> bool {
+    let width = bitmap.width();
+    for (y, white) in (0..bitmap.height()).zip(whites) {
+        for x in (0..width).step_by(64) {
+            let black = pixels_from(*white, x) & !pixels_from(width, x);
+            if bitmap.load_pixels(x, y, 64, steps) != black {
+                return false;
+            }
+        }
+    }
+    true
+}
+
+/// Whether all of the bytes are read as these rows.
+fn are_read_as<L: Ledger>(
+    alloc: Global,
     blank: Blank,
     width: u32,
+    bytes: &[u8],
     whites: &[u32],
 ) -> Result<bool>
     requires name { blank.name ≡ L.name }
     requires parts { blank.parts ≡ L.parts }
     requires enough { blank.parts ≡ 6 }
 {
-    let mut bits = Vec::new(alloc.clone()?);
-    for white in whites {
-        push_code(&mut bits, HORIZONTAL)?;
-        push_run(&mut bits, false, *white)?;
-        push_run(&mut bits, true, width.saturating_sub(*white))?;
-    }
-    let bytes = bytes_of(alloc.clone()?, &bits)?;
     let mut steps = Steps::<L>::new(blank);
-    let mut bitmap = Bitmap::new(alloc, width, u32::try_from(whites.len()).unwrap_or(0))?;
-    let used = decode(&mut bitmap, &bytes, true, &mut steps)?;
-    for (y, white) in (0..bitmap.height()).zip(whites) {
-        for x in (0..width).step_by(64) {
-            let black = pixels_from(*white, x) & !pixels_from(width, x);
-            if bitmap.load_pixels(x, y, 64, &mut steps) != black {
-                return Ok(false);
-            }
-        }
-    }
-    Ok(used == bytes.len())
+    let height = u32::try_from(whites.len()).unwrap_or(0);
+    let mut bitmap = Bitmap::new(alloc, width, height)?;
+    let used = decode(&mut bitmap, bytes, true, &mut steps)?;
+    Ok(used == bytes.len() && are_rows(&bitmap, whites, &mut steps))
 }
 
-/// Rows of every white run from 0 to 5183, and of every black one.
-fn every_run(alloc: Global) -> Result<bool> {
-    let mut whites = Vec::new(alloc);
-    for white in 0..=5183 {
-        whites.push(white)?;
-    }
-    are_read_back::<_, Brand>(alloc, Blank::new(6), 5183, &whites)
+/// Whether rows of these white runs are read back.
+fn are_read_back(alloc: Global, width: u32, whites: &[u32]) -> Result<bool> {
+    let bytes = coded(alloc, width, whites)?;
+    are_read_as::<Brand>(alloc, Blank::new(6), width, &bytes, whites)
 }
 
-/// A white run and a black one of the greatest width.
-fn longest_runs(alloc: Global) -> Result<bool> {
-    are_read_back::<_, Brand>(alloc, Blank::new(6), 65535, &[65535, 0])
+/// The lengths from 0 on up to this one.
+fn lengths(alloc: Global, last: u32) -> Result<Vec<u32>> {
+    let mut lengths = Vec::new(alloc);
+    for length in 0..=last {
+        lengths.push(length)?;
+    }
+    Ok(lengths)
+}
+
+/// Whether rows of every white run from 0 to 5183, and of every black one, are read back, and a white run and a black
+/// one of the greatest width.
+fn runs_hold(alloc: Global) -> Result<bool> {
+    let whites = lengths(alloc, 5183)?;
+    Ok(are_read_back(alloc, 5183, &whites)? && are_read_back(alloc, 65535, &[65535, 0])?)
 }
 
 #[test]
 fn runs_are_read_back(rt: HostRuntime) {
-    let mut read = every_run(rt.alloc());
-    if read == Err(DecodeError::OutOfMemory) {
-        read = every_run(rt.alloc());
+    let mut hold = runs_hold(rt.alloc());
+    if hold == Err(DecodeError::OutOfMemory) {
+        hold = runs_hold(rt.alloc());
     }
-    assert!(rt; read == Ok(true));
-    let mut read = longest_runs(rt.alloc());
-    if read == Err(DecodeError::OutOfMemory) {
-        read = longest_runs(rt.alloc());
-    }
-    assert!(rt; read == Ok(true));
+    assert!(rt; hold == Ok(true));
 }

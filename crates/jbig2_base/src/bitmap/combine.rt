@@ -1,6 +1,7 @@
 //! One bitmap combined with another, word by word (T.88, 7.4.1.5).
 ghost use Rattle.std.specs.Prelude.{◌≡◌, ℕ, true, ◌+◌, ◌-◌, ◌*◌, ◌/◌, ◌^◌, ◌<◌, ◌≤◌, min, pos, ◌-ℤ◌};
 ghost use Rattle.jbig2_base.specs.inner.Blocks.{with_block};
+ghost use Rattle.jbig2_base.specs.inner.Combines.{LiesOn, HasEnds, CombinesBlock, block_of};
 ghost use Rattle.jbig2_base.specs.Combination.{combined, overlap, most_words, WritesWithin};
 ghost use Rattle.jbig2_base.specs.Operator.{combined_pixel};
 ghost use Rattle.jbig2_base.specs.inner.Table.{IsTable};
@@ -56,10 +57,8 @@ fn lies_within<A: Allocator, B: Allocator>(
     left: u32,
     top: u32,
 ) -> bool
-    ensures some { result ≡ true → 1 ≤ source.now.width }
+    ensures inside { result ≡ true → LiesOn page.now source.now (block_of source.now left top) }
     ensures narrow { result ≡ true → source.now.width ≤ 64 }
-    ensures right { result ≡ true → left + source.now.width ≤ page.now.width }
-    ensures bottom { result ≡ true → top + source.now.height ≤ page.now.height }
 {
     let columns = source.width();
     if columns == 0 || columns > 64 {
@@ -78,14 +77,10 @@ fn stamp<A: Allocator, B: Allocator, L: Ledger>(
     top: u32,
     steps: &mut Steps<L>,
 )
-    requires some { 1 ≤ source.now.width }
+    requires inside { LiesOn page.old source.now (block_of source.now left top) }
     requires narrow { source.now.width ≤ 64 }
-    requires right { left + source.now.width ≤ page.old.width }
-    requires bottom { top + source.now.height ≤ page.old.height }
-    ensures value { page.new ≡ with_block operator page.old source.now left
-        (left + source.now.width) top (top + source.now.height) 0 0 }
-    ensures steps { WritesWithin (source.now.height * most_words source.now.width) steps.old
-        steps.new }
+    ensures { CombinesBlock operator (block_of source.now left top) page.old source.now page.new
+        steps.old steps.new }
 {
     match operator {
         CombinationOperator::Or => {
@@ -116,14 +111,10 @@ fn stamp_by<A: Allocator, B: Allocator, L: Ledger>(
     top: u32,
     steps: &mut Steps<L>,
 )
-    requires some { 1 ≤ source.now.width }
+    requires inside { LiesOn page.old source.now (block_of source.now left top) }
     requires narrow { source.now.width ≤ 64 }
-    requires right { left + source.now.width ≤ page.old.width }
-    requires bottom { top + source.now.height ≤ page.old.height }
-    ensures value { page.new ≡ with_block operator page.old source.now left
-        (left + source.now.width) top (top + source.now.height) 0 0 }
-    ensures steps { WritesWithin (source.now.height * most_words source.now.width) steps.old
-        steps.new }
+    ensures { CombinesBlock operator (block_of source.now left top) page.old source.now page.new
+        steps.old steps.new }
 {
     let block = Block {
         left,
@@ -177,18 +168,9 @@ fn combine_block<A: Allocator, B: Allocator, L: Ledger>(
     steps: &mut Steps<L>,
 )
     requires table { IsTable page.old }
-    requires some { 1 ≤ block.columns }
-    requires right { block.left + block.columns ≤ page.old.width }
-    requires bottom { block.top + block.rows ≤ page.old.height }
-    requires source_right { block.from + block.columns ≤ source.now.width }
-    requires source_bottom { block.from_row + block.rows ≤ source.now.height }
-    requires columns_fit { block.left + block.columns < 2 ^ 32 }
-    requires rows_fit { block.top + block.rows < 2 ^ 32 }
-    requires source_columns_fit { block.from + block.columns < 2 ^ 32 }
-    requires source_rows_fit { block.from_row + block.rows < 2 ^ 32 }
-    ensures value { page.new ≡ with_block operator page.old source.now block.left
-        (block.left + block.columns) block.top (block.top + block.rows) block.from block.from_row }
-    ensures steps { WritesWithin (block.rows * most_words block.columns) steps.old steps.new }
+    requires inside { LiesOn page.old source.now block }
+    requires ends { HasEnds block }
+    ensures { CombinesBlock operator block page.old source.now page.new steps.old steps.new }
 {
     match operator {
         CombinationOperator::Or => {
@@ -219,18 +201,9 @@ fn combine_by<A: Allocator, B: Allocator, L: Ledger>(
     steps: &mut Steps<L>,
 )
     requires table { IsTable page.old }
-    requires some { 1 ≤ block.columns }
-    requires right { block.left + block.columns ≤ page.old.width }
-    requires bottom { block.top + block.rows ≤ page.old.height }
-    requires source_right { block.from + block.columns ≤ source.now.width }
-    requires source_bottom { block.from_row + block.rows ≤ source.now.height }
-    requires columns_fit { block.left + block.columns < 2 ^ 32 }
-    requires rows_fit { block.top + block.rows < 2 ^ 32 }
-    requires source_columns_fit { block.from + block.columns < 2 ^ 32 }
-    requires source_rows_fit { block.from_row + block.rows < 2 ^ 32 }
-    ensures value { page.new ≡ with_block operator page.old source.now block.left
-        (block.left + block.columns) block.top (block.top + block.rows) block.from block.from_row }
-    ensures steps { WritesWithin (block.rows * most_words block.columns) steps.old steps.new }
+    requires inside { LiesOn page.old source.now block }
+    requires ends { HasEnds block }
+    ensures { CombinesBlock operator block page.old source.now page.new steps.old steps.new }
 {
     let last = block.from + block.columns - 1;
     if block.from / 64 == last / 64 || block.left % 64 == block.from % 64 {

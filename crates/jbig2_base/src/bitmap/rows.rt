@@ -4,8 +4,7 @@ ghost use Rattle.jbig2_base.specs.Answer.{Gives};
 ghost use Rattle.jbig2_base.specs.Counts.{words_copied};
 ghost use Rattle.jbig2_base.specs.Sizes.{words_of};
 ghost use Rattle.jbig2_base.specs.Grid.{blank, pixel_at, bit_number};
-ghost use Rattle.jbig2_base.specs.Combination.{most_words, WritesWithin};
-ghost use Rattle.jbig2_base.specs.inner.Blocks.{with_block};
+ghost use Rattle.jbig2_base.specs.inner.Combines.{LiesOn, CombinesBlock};
 ghost use Rattle.jbig2_base.specs.inner.Packed.{blank_word};
 ghost use Rattle.jbig2_base.specs.inner.Table.{IsTable};
 ghost use Rattle.jbig2_base.specs.inner.WordBits.{bit, field_bit};
@@ -227,17 +226,10 @@ impl<A: Allocator> PackedRows<A> {
         block: Block,
         steps: &mut Steps<L>,
     )
-        requires some { 1 ≤ block.columns }
-        requires right { block.left + block.columns ≤ self.old.width }
-        requires bottom { block.top + block.rows ≤ self.old.height }
-        requires source_right { block.from + block.columns ≤ source.now.width }
-        requires source_bottom { block.from_row + block.rows ≤ source.now.height }
+        requires inside { LiesOn self.old source.now block }
         requires aligned { block.from / 64 < (block.from + block.columns - 1) / 64
             → block.left % 64 ≡ block.from % 64 }
-        ensures value { self.new ≡ with_block operator self.old source.now block.left
-            (block.left + block.columns) block.top (block.top + block.rows) block.from
-            block.from_row }
-        ensures steps { WritesWithin (block.rows * most_words block.columns) steps.old steps.new }
+        ensures { CombinesBlock operator block self.old source.now self.new steps.old steps.new }
     {
         let shape = Shape {
             width: self.width,

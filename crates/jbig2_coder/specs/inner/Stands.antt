@@ -3,7 +3,7 @@ use Rattle.std.specs.Prelude.{◌≡◌, ℕ, ◌+◌, ◌*◌, ◌%◌, nat_lt,
 use Rattle.jbig2_base.specs.Counts.{Counts}
 use Rattle.jbig2_base.specs.Grid.{bit_number}
 use Rattle.jbig2_coder.specs.Coder.{Coder, Context}
-use Rattle.jbig2_coder.specs.Integers.{Reading}
+use Rattle.jbig2_coder.specs.Integers.{Reading, prev_of}
 
 -- `place` is the number of the next context, `steps` the counts since `start`
 pub record Stands (name : List Bool → ℕ) (start : Counts) (r : Reading) (place : ℕ) (coder : Coder) (contexts : List Context) (steps : Counts) : Type 0 where
@@ -11,6 +11,14 @@ pub record Stands (name : List Bool → ℕ) (start : Counts) (r : Reading) (pla
   pub registers : coder.registers ≡ r.registers
   pub learned : contexts ≡ r.contexts
   pub counted : steps ≡ record start { decisions = start.decisions + length r.bits }
+
+-- What a call says of an integer's bits, wherever among them it stands.
+abbrev pub Tells : (Reading → Type 0) → ℕ → Coder → List Context → Counts → Type 0
+Tells told prev coder contexts steps = (start : Counts) (r : Reading) → Stands prev_of start r prev coder contexts steps → told r
+
+-- So many bits on, it stands behind them.
+abbrev pub GoesOn : (Reading → Reading) → ℕ → Coder → List Context → Counts → ℕ → Coder → List Context → Counts → Type 0
+GoesOn on prev coder contexts steps prev' coder' contexts' steps' = (start : Counts) (r : Reading) → Stands prev_of start r prev coder contexts steps → Stands prev_of start (on r) prev' coder' contexts' steps'
 
 -- PREV, one bit on: it grows until it has eight bits behind its 1
 unfoldable pub prev_next : ℕ → Bool → ℕ

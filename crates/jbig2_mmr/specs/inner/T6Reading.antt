@@ -1,5 +1,5 @@
 -- What single calls of a T.6 decoder say (our own rule).
-use Rattle.std.specs.Prelude.{◌≡◌, ℕ, zero, suc, ◌+◌, ◌*◌, ◌/◌, ◌%◌, ◌<◌, ◌≤◌, nat_le, nat_lt, Bool, true, false, not, ◌&&◌, List, [], ◌∷◌, ◌++◌, length, replicate, Option, Some, None, if◌then◌else◌}
+use Rattle.std.specs.Prelude.{◌≡◌, ℕ, zero, suc, ◌+◌, ◌*◌, ◌/◌, ◌%◌, ◌<◌, ◌≤◌, Bool, true, false, List, [], ◌∷◌, ◌++◌, length, replicate, Option, Some, None, if◌then◌else◌}
 use Rattle.jbig2_base.specs.Grid.{Grid, pixel_at}
 use Rattle.jbig2_base.specs.inner.Table.{IsTable}
 use Rattle.jbig2_mmr.specs.T6.{differ, begins, Head, black_at}
@@ -8,10 +8,6 @@ use Rattle.jbig2_mmr.specs.T6.{differ, begins, Head, black_at}
 abbrev pub spell : ℕ → ℕ → List ℕ → List ℕ
 spell zero v behind = behind
 spell (suc n) v behind = spell n (v / 2) (v % 2 ∷ behind)
-
-abbrev pub AreBits : List ℕ → Type 0
-AreBits [] = Unit {0}
-AreBits (b ∷ bs) = (b < 2) × AreBits bs
 
 -- data, and the bits of it that are left to read
 pub record Rest : Type 0 where

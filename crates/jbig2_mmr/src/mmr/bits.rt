@@ -3,7 +3,8 @@ ghost use Rattle.std.specs.Prelude.{◌≡◌, ℕ, ◌+◌, ◌-◌, ◌*◌, �
 ghost use Rattle.jbig2_base.specs.Bits.{number_after};
 ghost use Rattle.jbig2_mmr.specs.T6.{read_code, run, bits_of, ends_block, after_end, is_prefix_free, runs_of};
 ghost use Rattle.jbig2_mmr.specs.T6Codes.{modes};
-ghost use Rattle.jbig2_mmr.specs.inner.T6Reading.{AreBits, with_rest, ReadRun, padded};
+ghost use Rattle.jbig2_base.specs.inner.BitLists.{AreBits};
+ghost use Rattle.jbig2_mmr.specs.inner.T6Reading.{with_rest, ReadRun, padded};
 
 use crate::mmr::codes::modes::MODES;
 use crate::mmr::codes::{Mode, run_entry};

@@ -4,6 +4,7 @@ ghost use Rattle.jbig2_base.specs.Counts.{KeepsLanes};
 ghost use Rattle.jbig2_region.specs.inner.Neighbours.{DecodesPixels, IsLeft, IsNear, SameAbove, Shows, ShowsGroup, ShowsRun, neighbour_count, nominal_pixels};
 ghost use Rattle.jbig2_region.specs.inner.RowCounts.{CountsRuns};
 
+use crate::generic_kernel::narrow::push_pixels;
 use crate::generic_kernel::runs::take_runs;
 use crate::generic_kernel::windows::{
     WideWindows, Windows, last_windows, windows_between, words_after, words_at,
@@ -28,8 +29,8 @@ fn uniform(black: bool, count: u32) -> u64
     0
 }
 
-/// The `count` pixels from column `x` of row `y` on, at most a byte, one by one into a number that
-/// is then stored. Answers the four pixels left of the next column.
+/// The `count` pixels from column `x` of row `y` on, at most a byte, which are decoded one by one and
+/// stored at once. Answers the four pixels left of the next column.
 #[inline(always)]
 fn decode_bits<A: Allocator, L: Ledger>(
     neighbours: Neighbours,
@@ -67,17 +68,9 @@ fn decode_bits<A: Allocator, L: Ledger>(
       words = steps.old.words + 1;
     } }
 {
-    let mut register = neighbours.register(left, windows);
-    let mut context = neighbours.context(register);
-    for _ in 0..count {
-        let symbol = decoder.decode(&mut contexts[context as usize], steps);
-        register *= 2;
-        let higher = neighbours.context(register);
-        context = higher + symbol;
-        register += u64::from(symbol);
-    }
-    bitmap.store_pixels(x, y, count, register % (1 << count), steps);
-    (register % 16) as u32
+    let pixels = push_pixels(neighbours, count, left, windows, decoder, contexts, steps);
+    bitmap.store_pixels(x, y, count, pixels, steps);
+    (((u64::from(left) << count) + pixels) % 16) as u32
 }
 
 /// What is decoded of a row: so many bytes, and the four pixels left of the next column.

@@ -3,10 +3,11 @@
 ghost use Rattle.std.specs.Prelude.{◌≡◌, ℕ, ◌+◌, ◌-◌, ◌*◌, ◌/◌, ◌%◌, ◌^◌, ◌<◌, ◌≤◌, false, length, Some, None, if◌then◌else◌};
 ghost use Rattle.jbig2_base.specs.Counts.{KeepsLanes};
 ghost use Rattle.jbig2_region.specs.Skipping.{CountsSkipping, skip_of, skipping_coding, skipping_loads, skipping_words};
-ghost use Rattle.jbig2_region.specs.inner.Codes.{Codes, CountsCodes, Takes};
+ghost use Rattle.jbig2_region.specs.inner.Codes.{Takes};
 ghost use Rattle.jbig2_region.specs.inner.Holds.{DecodesRegion, IsReady};
 ghost use Rattle.jbig2_region.specs.inner.Neighbours.{IsLeft, IsNear, neighbour_count, nominal_pixels};
 ghost use Rattle.jbig2_region.specs.inner.Masks.{IsMask, plain_context};
+ghost use Rattle.jbig2_region.specs.inner.Stretches.{DecodesPixels};
 
 use crate::generic_kernel::windows::{Windows, stretch_bits, windows_at};
 use crate::template::neighbours::{Neighbours, joined};
@@ -94,22 +95,15 @@ fn decode_block<M: Allocator, A: Allocator, L: Ledger>(
     requires row { y < bitmap.old.height }
     requires left { IsLeft bitmap.old x y left }
     requires small { left < 16 }
-    ensures holds { Codes (skipping_coding (nominal_pixels neighbours) (skip_of skip.entry))
-        false x y count
-        bitmap.old decoder.old contexts.old bitmap.new decoder.new contexts.new }
+    ensures decoded { DecodesPixels
+        (skipping_coding (nominal_pixels neighbours) (skip_of skip.entry)) false x y count
+        bitmap.old decoder.old contexts.old steps.old
+        bitmap.new decoder.new contexts.new steps.new }
     ensures left { IsLeft bitmap.new (x + count) y result }
     ensures small { result < 16 }
-    ensures width { bitmap.new.width ≡ bitmap.old.width }
-    ensures height { bitmap.new.height ≡ bitmap.old.height }
-    ensures bytes { decoder.new.bytes ≡ decoder.old.bytes }
     ensures contexts { length contexts.new ≡ length contexts.old }
-    ensures decisions { CountsCodes (skipping_coding (nominal_pixels neighbours)
-        (skip_of skip.entry))
-        false x y count
-        bitmap.old decoder.old contexts.old steps.old.decisions steps.new.decisions }
     ensures loads { steps.new.loads ≤ steps.old.loads + 3 }
     ensures words { steps.new.words ≡ steps.old.words + 1 }
-    ensures run_tests { steps.new.run_tests ≡ steps.old.run_tests }
     ensures lanes { KeepsLanes steps.old steps.new }
 {
     let windows = windows_at(bitmap, x, y, steps);
@@ -141,20 +135,13 @@ fn decode_row<M: Allocator, A: Allocator, L: Ledger>(
     requires contexts { length contexts.old ≡ 2 ^ neighbour_count neighbours }
     requires row { y < bitmap.old.height }
     requires widths { bitmap.old.width ≤ 65535 }
-    ensures holds { Codes (skipping_coding (nominal_pixels neighbours) (skip_of skip.entry))
-        false 0 y bitmap.old.width
-        bitmap.old decoder.old contexts.old bitmap.new decoder.new contexts.new }
-    ensures width { bitmap.new.width ≡ bitmap.old.width }
-    ensures height { bitmap.new.height ≡ bitmap.old.height }
-    ensures bytes { decoder.new.bytes ≡ decoder.old.bytes }
+    ensures decoded { DecodesPixels
+        (skipping_coding (nominal_pixels neighbours) (skip_of skip.entry)) false 0 y
+        bitmap.old.width bitmap.old decoder.old contexts.old steps.old
+        bitmap.new decoder.new contexts.new steps.new }
     ensures contexts { length contexts.new ≡ length contexts.old }
-    ensures decisions { CountsCodes (skipping_coding (nominal_pixels neighbours)
-        (skip_of skip.entry))
-        false 0 y bitmap.old.width
-        bitmap.old decoder.old contexts.old steps.old.decisions steps.new.decisions }
     ensures loads { steps.new.loads ≤ steps.old.loads + skipping_loads bitmap.old.width }
     ensures words { steps.new.words ≤ steps.old.words + skipping_words bitmap.old.width }
-    ensures run_tests { steps.new.run_tests ≡ steps.old.run_tests }
     ensures lanes { KeepsLanes steps.old steps.new }
 {
     let width = bitmap.width();

@@ -2,7 +2,7 @@
 ghost use Rattle.std.specs.Prelude.{◌≡◌};
 ghost use Rattle.jbig2_base.specs.Answer.{Answers};
 ghost use Rattle.jbig2_coder.specs.inner.TableViews.{customs_view};
-ghost use Rattle.jbig2_text.specs.TextRegion.{aggregate_tables, one_of_two, one_of_three, table_of_first_s, table_of_delta_s, table_of_delta_t, table_of_refinement, table_of_size, text_tables};
+ghost use Rattle.jbig2_text.specs.TextRegion.{aggregate_tables, one_of_two, one_of_three, table_of_refinement, table_of_size, text_tables};
 ghost use Rattle.jbig2_text.specs.inner.TextViews.{tables_view};
 
 use crate::text::header::TextRegionHuffmanFlags;
@@ -80,44 +80,6 @@ fn one_of_three<'a, T: Allocator>(
     }
 }
 
-/// The table that a number names for the first S of a strip; those left to take.
-fn first_s_table<'a, T: Allocator>(
-    standard: &'a StandardHuffmanTables<T>,
-    number: u8,
-    customs: &'a [&'a HuffmanTable<T>],
-) -> Result<(&'a HuffmanTable<T>, &'a [&'a HuffmanTable<T>])>
-    ensures { let meant = table_of_first_s number (customs_view customs.now) in
-        Answers (λ t. (t.0.now, customs_view t.1.now)) result meant }
-{
-    one_of_two(standard.table_f(), standard.table_g(), number, customs)
-}
-
-/// The table that a number names for the differences of S; those left to take.
-fn delta_s_table<'a, T: Allocator>(
-    standard: &'a StandardHuffmanTables<T>,
-    number: u8,
-    customs: &'a [&'a HuffmanTable<T>],
-) -> Result<(&'a HuffmanTable<T>, &'a [&'a HuffmanTable<T>])>
-    ensures { let meant = table_of_delta_s number (customs_view customs.now) in
-        Answers (λ t. (t.0.now, customs_view t.1.now)) result meant }
-{
-    let (first, second, third) = (standard.table_h(), standard.table_i(), standard.table_j());
-    one_of_three(first, second, third, number, customs)
-}
-
-/// The table that a number names for the differences of T; those left to take.
-fn delta_t_table<'a, T: Allocator>(
-    standard: &'a StandardHuffmanTables<T>,
-    number: u8,
-    customs: &'a [&'a HuffmanTable<T>],
-) -> Result<(&'a HuffmanTable<T>, &'a [&'a HuffmanTable<T>])>
-    ensures { let meant = table_of_delta_t number (customs_view customs.now) in
-        Answers (λ t. (t.0.now, customs_view t.1.now)) result meant }
-{
-    let (first, second, third) = (standard.table_k(), standard.table_l(), standard.table_m());
-    one_of_three(first, second, third, number, customs)
-}
-
 /// The table that a number names for the differences of a refined symbol; those left to take.
 fn refinement_table<'a, T: Allocator>(
     standard: &'a StandardHuffmanTables<T>,
@@ -158,9 +120,12 @@ pub fn select_tables<'a, T: Allocator>(
     ensures { let meant = text_tables flags.now (customs_view customs.now) in
         Answers (λ tables. tables_view tables) result meant }
 {
-    let (first_s, customs) = first_s_table(standard, flags.first_s_table, customs)?;
-    let (delta_s, customs) = delta_s_table(standard, flags.delta_s_table, customs)?;
-    let (delta_t, customs) = delta_t_table(standard, flags.delta_t_table, customs)?;
+    let (first, second) = (standard.table_f(), standard.table_g());
+    let (first_s, customs) = one_of_two(first, second, flags.first_s_table, customs)?;
+    let (first, second, third) = (standard.table_h(), standard.table_i(), standard.table_j());
+    let (delta_s, customs) = one_of_three(first, second, third, flags.delta_s_table, customs)?;
+    let (first, second, third) = (standard.table_k(), standard.table_l(), standard.table_m());
+    let (delta_t, customs) = one_of_three(first, second, third, flags.delta_t_table, customs)?;
     let (refinement_width, customs) = refinement_table(
         standard,
         flags.refinement_width_table,

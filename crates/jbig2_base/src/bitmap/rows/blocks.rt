@@ -1,10 +1,9 @@
 //! Blocks of a page combined with a source, where the pixels that lie on a word of the page lie in
 //! one word of the source.
 ghost use Rattle.std.specs.Prelude.{◌≡◌, ℕ, ◌+◌, ◌-◌, ◌*◌, ◌/◌, ◌%◌, ◌<◌, ◌≤◌, if◌then◌else◌};
-ghost use Rattle.jbig2_base.specs.Combination.{most_words, WritesWithin};
-ghost use Rattle.jbig2_base.specs.Grid.{pixel_at};
 ghost use Rattle.jbig2_base.specs.Operator.{combined_pixel};
-ghost use Rattle.jbig2_base.specs.inner.Blocks.{with_block, with_run};
+ghost use Rattle.jbig2_base.specs.inner.Blocks.{with_run};
+ghost use Rattle.jbig2_base.specs.inner.Combines.{IsBlockOnBoth, CombinesBlockOfWords, IsLineOnBoth, CombinesLine};
 ghost use Rattle.jbig2_base.specs.inner.Layouts.{IsLaid};
 ghost use Rattle.jbig2_base.specs.inner.Shapes.{HasShape, grid_in};
 ghost use Rattle.jbig2_base.specs.inner.WordBits.{bit};
@@ -80,20 +79,11 @@ pub fn combine_rows<L: Ledger>(
     block: Block,
     steps: &mut Steps<L>,
 )
-    requires packed { HasShape shape words.old }
-    requires source_packed { HasShape source.shape source.words.now }
-    requires some { 1 ≤ block.columns }
-    requires right { block.left + block.columns ≤ shape.width }
-    requires bottom { block.top + block.rows ≤ shape.height }
-    requires source_right { block.from + block.columns ≤ source.shape.width }
-    requires source_bottom { block.from_row + block.rows ≤ source.shape.height }
+    requires inside { IsBlockOnBoth shape words.old source block }
     requires aligned { block.from / 64 < (block.from + block.columns - 1) / 64
         → block.left % 64 ≡ block.from % 64 }
-    ensures packed { HasShape shape words.new }
-    ensures value { grid_in shape words.new
-        ≡ with_block operator (grid_in shape words.old) (grid_in source.entry.shape source.entry.words.now) block.left
-        (block.left + block.columns) block.top (block.top + block.rows) block.from block.from_row }
-    ensures steps { WritesWithin (block.rows * most_words block.columns) steps.old steps.new }
+    ensures { CombinesBlockOfWords operator shape words.old source.entry block words.new steps.old
+        steps.new }
 {
     // A call of its own for each layout, so that each has a loop of its own.
     if block.from / 64 != (block.from + block.columns - 1) / 64 {
@@ -124,19 +114,10 @@ fn combine_laid<L: Ledger>(
     block: Block,
     steps: &mut Steps<L>,
 )
-    requires packed { HasShape shape words.old }
-    requires source_packed { HasShape source.shape source.words.now }
-    requires some { 1 ≤ block.columns }
-    requires right { block.left + block.columns ≤ shape.width }
-    requires bottom { block.top + block.rows ≤ shape.height }
-    requires source_right { block.from + block.columns ≤ source.shape.width }
-    requires source_bottom { block.from_row + block.rows ≤ source.shape.height }
+    requires inside { IsBlockOnBoth shape words.old source block }
     requires laid { IsLaid layout block.left block.columns block.from }
-    ensures packed { HasShape shape words.new }
-    ensures value { grid_in shape words.new
-        ≡ with_block operator (grid_in shape words.old) (grid_in source.entry.shape source.entry.words.now) block.left
-        (block.left + block.columns) block.top (block.top + block.rows) block.from block.from_row }
-    ensures steps { WritesWithin (block.rows * most_words block.columns) steps.old steps.new }
+    ensures { CombinesBlockOfWords operator shape words.old source.entry block words.new steps.old
+        steps.new }
 {
     for row in 0..block.rows {
         let line = Line {
@@ -161,20 +142,10 @@ fn combine_line<L: Ledger>(
     line: Line,
     steps: &mut Steps<L>,
 )
-    requires packed { HasShape shape words.old }
-    requires source_packed { HasShape source.shape source.words.now }
-    requires some { 1 ≤ line.columns }
-    requires right { line.left + line.columns ≤ shape.width }
-    requires row { line.y < shape.height }
-    requires source_right { line.from + line.columns ≤ source.shape.width }
-    requires source_row { line.from_y < source.shape.height }
+    requires inside { IsLineOnBoth shape words.old source line }
     requires laid { IsLaid layout line.left line.columns line.from }
-    ensures packed { HasShape shape words.new }
-    ensures value { grid_in shape words.new
-        ≡ with_run operator (grid_in shape words.old) line.left line.y line.columns
-        (λ i. pixel_at (grid_in source.entry.shape source.entry.words.now) (line.from + (i - line.left))
-        line.from_y) }
-    ensures steps { WritesWithin (most_words line.columns) steps.old steps.new }
+    ensures { CombinesLine operator shape words.old source.entry line words.new steps.old
+        steps.new }
 {
     match layout {
         Layout::Near => near_row(words, shape, source, operator, line, steps),
@@ -193,21 +164,11 @@ fn near_row<L: Ledger>(
     line: Line,
     steps: &mut Steps<L>,
 )
-    requires packed { HasShape shape words.old }
-    requires source_packed { HasShape source.shape source.words.now }
-    requires some { 1 ≤ line.columns }
-    requires right { line.left + line.columns ≤ shape.width }
-    requires row { line.y < shape.height }
-    requires source_right { line.from + line.columns ≤ source.shape.width }
-    requires source_row { line.from_y < source.shape.height }
+    requires inside { IsLineOnBoth shape words.old source line }
     requires one_word { line.from / 64 ≡ (line.from + line.columns - 1) / 64 }
     requires near { line.left % 64 + line.columns ≤ 64 }
-    ensures packed { HasShape shape words.new }
-    ensures value { grid_in shape words.new
-        ≡ with_run operator (grid_in shape words.old) line.left line.y line.columns
-        (λ i. pixel_at (grid_in source.entry.shape source.entry.words.now) (line.from + (i - line.left))
-        line.from_y) }
-    ensures steps { WritesWithin (most_words line.columns) steps.old steps.new }
+    ensures { CombinesLine operator shape words.old source.entry line words.new steps.old
+        steps.new }
 {
     steps.load();
     let from = line.from_y * source.shape.stride + (line.from / 64) as usize;
@@ -232,20 +193,10 @@ fn narrow_row<L: Ledger>(
     line: Line,
     steps: &mut Steps<L>,
 )
-    requires packed { HasShape shape words.old }
-    requires source_packed { HasShape source.shape source.words.now }
-    requires some { 1 ≤ line.columns }
-    requires right { line.left + line.columns ≤ shape.width }
-    requires row { line.y < shape.height }
-    requires source_right { line.from + line.columns ≤ source.shape.width }
-    requires source_row { line.from_y < source.shape.height }
+    requires inside { IsLineOnBoth shape words.old source line }
     requires one_word { line.from / 64 ≡ (line.from + line.columns - 1) / 64 }
-    ensures packed { HasShape shape words.new }
-    ensures value { grid_in shape words.new
-        ≡ with_run operator (grid_in shape words.old) line.left line.y line.columns
-        (λ i. pixel_at (grid_in source.entry.shape source.entry.words.now) (line.from + (i - line.left))
-        line.from_y) }
-    ensures steps { WritesWithin (most_words line.columns) steps.old steps.new }
+    ensures { CombinesLine operator shape words.old source.entry line words.new steps.old
+        steps.new }
 {
     steps.load();
     let from = line.from_y * source.shape.stride + (line.from / 64) as usize;
@@ -281,21 +232,11 @@ fn aligned_row<L: Ledger>(
     line: Line,
     steps: &mut Steps<L>,
 )
-    requires packed { HasShape shape words.old }
-    requires source_packed { HasShape source.shape source.words.now }
-    requires some { 1 ≤ line.columns }
-    requires right { line.left + line.columns ≤ shape.width }
-    requires row { line.y < shape.height }
-    requires source_right { line.from + line.columns ≤ source.shape.width }
-    requires source_row { line.from_y < source.shape.height }
+    requires inside { IsLineOnBoth shape words.old source line }
     requires aligned { line.left % 64 ≡ line.from % 64 }
     requires wide { line.left / 64 < (line.left + line.columns - 1) / 64 }
-    ensures packed { HasShape shape words.new }
-    ensures value { grid_in shape words.new
-        ≡ with_run operator (grid_in shape words.old) line.left line.y line.columns
-        (λ i. pixel_at (grid_in source.entry.shape source.entry.words.now) (line.from + (i - line.left))
-        line.from_y) }
-    ensures steps { WritesWithin (most_words line.columns) steps.old steps.new }
+    ensures { CombinesLine operator shape words.old source.entry line words.new steps.old
+        steps.new }
 {
     let offset = line.left % 64;
     let first = (line.left / 64) as usize;

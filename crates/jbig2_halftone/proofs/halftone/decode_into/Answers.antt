@@ -1,7 +1,55 @@
-use Rattle.jbig2_halftone.specs.HalftoneHeader.{header_view}
-use Rattle.jbig2_halftone.specs.Patterns.{dictionary_view}
-use Rattle.jbig2_halftone.proofs.HalftoneLemmas.{memory-alone}
+use Rattle.std.proofs.Common.{◌≡◌, List, length, Ok, Err, inl, inr, ⊎_elim, sym, ap, subst, ◌∙◌, arith}
+use Rattle.std.specs.List.{All}
+use Rattle.jbig2_base.specs.Grid.{Grid, blank}
+use Rattle.jbig2_base.specs.declared.error.DecodeError.TheVariants.{OutOfMemory}
+use Rattle.jbig2_halftone.specs.GrayScale.{GrayScale, gray_values, planes_of}
+use Rattle.jbig2_halftone.specs.Halftone.{cells_drawn, gray_params}
+use Rattle.jbig2_halftone.specs.HalftoneHeader.{HalftoneHeader, header_view}
+use Rattle.jbig2_halftone.specs.Patterns.{Patterns, dictionary_view}
+use Rattle.jbig2_halftone.proofs.HalftoneLemmas.{image-fits, answer-of-planes, answer-of-fault, contexts-of-planes, answers-gives, refused-or, leaves-known, memory-alone}
+use Rattle.jbig2_halftone.proofs.DrawSteps.{on-ok, region-size, region-steps}
+use Rattle.jbig2_halftone.proofs.PlaneLemmas.{planes-sized}
 use Rattle.jbig2_halftone.proofs.halftone.decode_into.Goals as goal
 
-pub returns-clause-lenient : goal.returns-clause-lenient
-returns-clause-lenient g c = λ lenient. memory-alone (λ _. c.draw_region.new.bitmap) c.draw_region.result (header_view c.args.header.now) (dictionary_view c.args.dictionary.now) c.requires.columns c.requires.rows lenient c.draw_region.ensures.value
+pub draw_rows-requires-clause-sized : goal.draw_rows-requires-clause-sized
+draw_rows-requires-clause-sized g c =
+    let p : GrayScale = gray_params (header_view c.args.header.now) (dictionary_view c.args.dictionary.now) in
+    subst (λ (ps : List Grid). All (λ (b : Grid). b.width ≡ p.width) ps) (sym c.deref.ensures.value) (planes-sized p c.args.header.now.bytes.now c.in-Ok.planes.items c.in-Ok.ensures.value).wide
+
+pub draw_rows-requires-clause-few : goal.draw_rows-requires-clause-few
+draw_rows-requires-clause-few g c =
+    let d : Patterns = dictionary_view c.args.dictionary.now in
+    let p : GrayScale = gray_params (header_view c.args.header.now) d in
+    omega (arith, ap (λ (ps : List Grid). length ps) c.deref.ensures.value, (planes-sized p c.args.header.now.bytes.now c.in-Ok.planes.items c.in-Ok.ensures.value).many, c.in-Ok.ensures.few)
+
+pub draw_rows-requires-clause-region : goal.draw_rows-requires-clause-region
+draw_rows-requires-clause-region g c = region-size _ _ _ c.args.bitmap.now c.requires.coloured
+
+pub returns-in-Err-clause-value : goal.returns-in-Err-clause-value
+returns-in-Err-clause-value g c =
+    let h : HalftoneHeader = header_view c.args.header.now in
+    let d : Patterns = dictionary_view c.args.dictionary.now in
+    ⊎_elim
+    (λ (memory : c.in-Err.error ≡ OutOfMemory). inl memory)
+    (λ (fault : planes_of (gray_params h d) h.bytes ≡ Err c.in-Err.error). inr (answer-of-fault h d c.in-Err.error (image-fits (gray_params h d) c.requires.columns c.requires.rows) fault))
+    c.in-Err.ensures.value
+
+pub returns-in-Err-clause-lenient : goal.returns-in-Err-clause-lenient
+returns-in-Err-clause-lenient g c = λ lenient. memory-alone (λ (done : Unit {0}). c.args.bitmap.now) (Err c.in-Err.error) (header_view c.args.header.now) (dictionary_view c.args.dictionary.now) c.requires.columns c.requires.rows lenient (returns-in-Err-clause-value g c)
+
+pub returns : goal.returns
+returns g c =
+    let h : HalftoneHeader = header_view c.args.header.now in
+    let d : Patterns = dictionary_view c.args.dictionary.now in
+    let fits = image-fits (gray_params h d) c.requires.columns c.requires.rows in
+    let many : length c.deref.result.now ≡ (gray_params h d).bits_per_pixel = ap (λ (ps : List Grid). length ps) c.deref.ensures.value ∙ (planes-sized (gray_params h d) c.args.header.now.bytes.now c.in-Ok.planes.items c.in-Ok.ensures.value).many in
+    let made = answer-of-planes h d c.in-Ok.planes.items fits c.in-Ok.ensures.value in
+    let same = sym (ap (λ (ps : List Grid). cells_drawn h d 0 (gray_values h.grid_position_and_size.width h.grid_position_and_size.height ps) c.args.bitmap.now) c.deref.ensures.value ∙ ap (λ (b : Grid). cells_drawn h d 0 (gray_values h.grid_position_and_size.width h.grid_position_and_size.height c.in-Ok.planes.items) b) c.requires.coloured) in
+    let given = answers-gives (λ _. c.draw_rows.new.bitmap) c.draw_rows.result _ _ (made ∙ same) c.draw_rows.ensures.value in
+    record {
+      value = given;
+      bitmap = refused-or c.draw_rows.result _ _ c.draw_rows.ensures.refused;
+      contexts = leaves-known c.draw_rows.result _ _ (contexts-of-planes h d _ _ fits c.in-Ok.ensures.contexts);
+      lenient = λ lenient. memory-alone (λ _. c.draw_rows.new.bitmap) c.draw_rows.result h d c.requires.columns c.requires.rows lenient given;
+      steps = on-ok c.draw_rows.result _ _ (λ drawn. region-steps h d (length c.deref.result.now) c.args.steps.now c.read_cells.new.steps c.draw_rows.new.steps many c.in-Ok.ensures.steps drawn) c.draw_rows.ensures.steps;
+    }

@@ -1,20 +1,11 @@
 use Rattle.std.proofs.Common.{◌≡◌, ◌≤◌, ◌+◌, ◌*◌}
-use Rattle.jbig2_region.specs.inner.Holds.{Holds}
-use Rattle.jbig2_region.specs.Raster.{no_pixels}
-use Rattle.jbig2_region.specs.inner.Rows.{after_rows}
-use Rattle.jbig2_region.proofs.DecisionLemmas.{Decided}
+use Rattle.jbig2_region.proofs.StretchLemmas.{RowsDecoded}
 use Rattle.jbig2_region.proofs.raster.decode_region.Given as goal
 
 abbrev pub invariant-loop-y : goal.invariant-loop-y
 invariant-loop-y g l = record {
-  width : l.bitmap.width ≡ l.initial.bitmap.width;
-  height : l.bitmap.height ≡ l.initial.bitmap.height;
-  bytes : l.decoder.bytes ≡ l.initial.decoder.bytes;
+  rows : RowsDecoded (g.C.PixelCoding.coding l.fn.coding) l.initial.bitmap l.initial.decoder l.initial.contexts l.initial.steps l.y l.predicted l.bitmap l.decoder l.contexts l.steps;
   none : l.y ≡ 0 → l.steps ≡ l.initial.steps;
-  holds : Holds l.initial.bitmap.width l.initial.bitmap.height l.initial.decoder.bytes (after_rows (g.C.PixelCoding.coding l.fn.coding) l.initial.bitmap.width l.initial.bitmap.height l.initial.decoder.bytes l.y (no_pixels l.initial.decoder.registers l.initial.contexts)) l.bitmap l.decoder l.contexts;
-  predicted : (after_rows (g.C.PixelCoding.coding l.fn.coding) l.initial.bitmap.width l.initial.bitmap.height l.initial.decoder.bytes l.y (no_pixels l.initial.decoder.registers l.initial.contexts)).predicted ≡ l.predicted;
-  decisions : Decided (g.C.PixelCoding.coding l.fn.coding) l.initial.bitmap.width l.initial.bitmap.height l.initial.decoder.bytes l.y (no_pixels l.initial.decoder.registers l.initial.contexts) l.initial.steps.decisions l.steps.decisions;
-  run_tests : l.steps.run_tests ≡ l.initial.steps.run_tests;
   words : l.steps.words ≤ l.initial.steps.words + l.y * l.initial.bitmap.width;
   loads : l.steps.loads ≤ l.initial.steps.loads + l.y * (l.initial.bitmap.width * (g.C.PixelCoding.bits l.fn.coding + g.C.PixelCoding.known_loads l.fn.coding));
 }

@@ -1,15 +1,10 @@
 use Rattle.std.proofs.Common.{◌≡◌, ◌≤◌, ◌+◌, ◌*◌}
-use Rattle.jbig2_region.specs.inner.Codes.{Codes, CountsCodes}
+use Rattle.jbig2_region.specs.inner.Stretches.{DecodesPixels}
 use Rattle.jbig2_region.proofs.raster.decode_row.Given as goal
 
 abbrev pub invariant-loop-x : goal.invariant-loop-x
 invariant-loop-x g l = record {
-  width : l.bitmap.width ≡ l.initial.bitmap.width;
-  height : l.bitmap.height ≡ l.initial.bitmap.height;
-  bytes : l.decoder.bytes ≡ l.initial.decoder.bytes;
-  holds : Codes (g.C.PixelCoding.coding l.fn.coding) l.fn.row.predicted 0 l.fn.row.y l.x l.initial.bitmap l.initial.decoder l.initial.contexts l.bitmap l.decoder l.contexts;
-  decisions : CountsCodes (g.C.PixelCoding.coding l.fn.coding) l.fn.row.predicted 0 l.fn.row.y l.x l.initial.bitmap l.initial.decoder l.initial.contexts l.initial.steps.decisions l.steps.decisions;
-  run_tests : l.steps.run_tests ≡ l.initial.steps.run_tests;
+  decoded : DecodesPixels (g.C.PixelCoding.coding l.fn.coding) l.fn.row.predicted 0 l.fn.row.y l.x l.initial.bitmap l.initial.decoder l.initial.contexts l.initial.steps l.bitmap l.decoder l.contexts l.steps;
   words : l.steps.words ≡ l.initial.steps.words + l.x;
   loads : l.steps.loads ≤ l.initial.steps.loads + l.x * (g.C.PixelCoding.bits l.fn.coding + g.C.PixelCoding.known_loads l.fn.coding);
 }

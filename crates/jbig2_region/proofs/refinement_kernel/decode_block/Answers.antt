@@ -58,22 +58,25 @@ loop-offset-preserved g c =
     c.loop-offset.pixels c.nine-nine.result c.four-four.result c.decode_pixel-symbol-in-loop-offset.result
     c.loop-offset.invariant c.requires.sees (omega arith) (omega arith) c.requires.row c.nine-nine.ensures.value c.four-four.ensures.value c.decode_pixel-symbol-in-loop-offset.ensures.takes)
 
-pub returns-clause-holds : goal.returns-clause-holds
-returns-clause-holds g c =
-    (block-whole (windowed_coding c.args.coding.now) c.args.row.predicted c.args.x c.args.row.y c.loop-offset.offset c.args.count c.args.bitmap.now c.store_pixels.new.self c.args.decoder.now c.loop-offset.decoder c.args.contexts.now c.loop-offset.contexts c.args.steps.now c.loop-offset.steps c.loop-offset.pixels
-    c.loop-offset.invariant (omega arith) c.store_pixels.ensures.value).holds
+pub returns-clause-decoded : goal.returns-clause-decoded
+returns-clause-decoded g c =
+    let after : c.loop-offset.steps.decisions ≡ c.store_pixels.new.steps.decisions = sym (ap (λ (t : Counts). t.decisions) c.store_pixels.ensures.steps) in
+    let whole =
+    block-whole (windowed_coding c.args.coding.now) c.args.row.predicted c.args.x c.args.row.y c.loop-offset.offset c.args.count c.args.bitmap.now c.store_pixels.new.self c.args.decoder.now c.loop-offset.decoder c.args.contexts.now c.loop-offset.contexts c.args.steps.now c.loop-offset.steps c.loop-offset.pixels
+    c.loop-offset.invariant (omega arith) c.store_pixels.ensures.value in
+    record {
+      holds = whole.holds;
+      width = ap (λ (b : Grid). b.width) c.store_pixels.ensures.value;
+      height = ap (λ (b : Grid). b.height) c.store_pixels.ensures.value;
+      bytes = c.loop-offset.invariant.bytes;
+      decisions = subst (λ (n : ℕ). CountsCodes (windowed_coding c.args.coding.now) c.args.row.predicted c.args.x c.args.row.y c.args.count c.args.bitmap.now c.args.decoder.now c.args.contexts.now c.args.steps.now.decisions n) after whole.decisions;
+      run_tests = ap (λ (t : Counts). t.run_tests) c.store_pixels.ensures.steps ∙ ap (λ (t : Counts). t.run_tests) c.loop-offset.invariant.steps;
+    }
 
 pub returns-clause-left : goal.returns-clause-left
 returns-clause-left g c =
     (block-whole (windowed_coding c.args.coding.now) c.args.row.predicted c.args.x c.args.row.y c.loop-offset.offset c.args.count c.args.bitmap.now c.store_pixels.new.self c.args.decoder.now c.loop-offset.decoder c.args.contexts.now c.loop-offset.contexts c.args.steps.now c.loop-offset.steps c.loop-offset.pixels
     c.loop-offset.invariant (omega arith) c.store_pixels.ensures.value).left
-
-pub returns-clause-decisions : goal.returns-clause-decisions
-returns-clause-decisions g c =
-    let after : c.loop-offset.steps.decisions ≡ c.store_pixels.new.steps.decisions = sym (ap (λ (t : Counts). t.decisions) c.store_pixels.ensures.steps) in
-    subst (λ (n : ℕ). CountsCodes (windowed_coding c.args.coding.now) c.args.row.predicted c.args.x c.args.row.y c.args.count c.args.bitmap.now c.args.decoder.now c.args.contexts.now c.args.steps.now.decisions n) after
-    (block-whole (windowed_coding c.args.coding.now) c.args.row.predicted c.args.x c.args.row.y c.loop-offset.offset c.args.count c.args.bitmap.now c.store_pixels.new.self c.args.decoder.now c.loop-offset.decoder c.args.contexts.now c.loop-offset.contexts c.args.steps.now c.loop-offset.steps c.loop-offset.pixels
-    c.loop-offset.invariant (omega arith) c.store_pixels.ensures.value).decisions
 
 pub returns-clause-value : goal.returns-clause-value
 returns-clause-value g c = λ k few.

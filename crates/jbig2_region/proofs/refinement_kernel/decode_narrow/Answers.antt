@@ -2,82 +2,54 @@ use Rattle.std.proofs.Common.{◌*◌, arith, refl, ◌≡◌, ◌≤◌, ◌+�
 use Rattle.std.proofs.Math.Nat.{mul-le-mul}
 use Rattle.jbig2_base.specs.Counts.{Counts}
 use Rattle.jbig2_base.specs.Grid.{Grid, pixel_at}
-use Rattle.jbig2_region.specs.inner.Codes.{Codes, CountsCodes}
 use Rattle.jbig2_region.specs.inner.Holds.{Holds, BeginsRow}
 use Rattle.jbig2_region.specs.inner.RefinementWindows.{windowed_coding}
 use Rattle.jbig2_region.specs.Raster.{Region, no_pixels, row_decisions}
-use Rattle.jbig2_region.specs.inner.Rows.{after_rows}
+use Rattle.jbig2_region.specs.inner.Stretches.{DecodesPixels}
 use Rattle.jbig2_region.specs.RefinementSteps.{window_loads}
-use Rattle.jbig2_region.proofs.DecisionLemmas.{Decided, codes-row, decided-none, decided-next, decided-region}
+use Rattle.jbig2_region.proofs.DecisionLemmas.{Decided, decided-region}
 use Rattle.jbig2_region.proofs.PlaceLemmas.{region-whole}
-use Rattle.jbig2_region.proofs.RasterLemmas.{after_rows-none, region-start}
 use Rattle.jbig2_region.proofs.RegionLemmas.{tests-next}
 use Rattle.jbig2_region.proofs.StoreLemmas.{left-none}
+use Rattle.jbig2_region.proofs.StretchLemmas.{rows-next, rows-none, rows-until}
 use Rattle.jbig2_region.proofs.refinement_kernel.decode_narrow.Goals as goal
 
 pub loop-y-init : goal.loop-y-init
-loop-y-init g c =
-    let start : Region = no_pixels c.args.decoder.now.registers c.args.contexts.now in
-    let coding = windowed_coding c.args.coding.now in
-    let w : ℕ = c.args.bitmap.now.width in
-    let h : ℕ = c.args.bitmap.now.height in
-    let input = c.args.decoder.now.bytes in
-    let none : after_rows coding w h input 0 start ≡ start = after_rows-none _ _ _ _ start in
-    record {
-      width = refl;
-      height = refl;
-      bytes = refl;
-      holds = subst (λ (n : Region). Holds w h input n c.args.bitmap.now c.args.decoder.now c.args.contexts.now) (sym none) (region-start w h c.args.bitmap.now c.args.decoder.now c.args.contexts.now c.requires.ready.white);
-      predicted = ap (λ (n : Region). n.predicted) none;
-      decisions = decided-none coding w h input start c.windows_at-windows.new.steps.decisions;
-      run_tests = refl;
-      words = omega arith;
-      loads = omega arith;
-      sees = c.windows_at-windows.ensures.value;
-    }
+loop-y-init g c = record {
+  rows = rows-none (windowed_coding c.args.coding.now) c.args.bitmap.now c.args.decoder.now c.args.contexts.now c.windows_at-windows.new.steps c.requires.ready.white;
+  words = omega arith;
+  loads = omega arith;
+  sees = c.windows_at-windows.ensures.value;
+}
 
 pub decode_block-pixels-requires-clause-left : goal.decode_block-pixels-requires-clause-left
 decode_block-pixels-requires-clause-left g c = left-none c.loop-y.bitmap c.loop-y.y
 
 pub loop-y-preserved : goal.loop-y-preserved
 loop-y-preserved g c =
-    let start : Region = no_pixels c.args.decoder.now.registers c.args.contexts.now in
     let coding = windowed_coding c.args.coding.now in
     let w : ℕ = c.args.bitmap.now.width in
-    let h : ℕ = c.args.bitmap.now.height in
-    let input = c.args.decoder.now.bytes in
     let whole : c.width-width.result ≡ w = c.width-width.ensures.value in
     let begin =
     subst (λ (k : Option ℕ). (w h : ℕ) (grid : Grid) (r : Region) → r.predicted ≡ c.loop-y.predicted → Holds w h c.loop-y.decoder.bytes r grid c.loop-y.decoder c.loop-y.contexts → BeginsRow w h k r c.begin_row-predicted.result grid c.loop-y.decoder c.begin_row-predicted.new.decoder c.begin_row-predicted.new.contexts) c.typical_context-row_context.ensures.value c.begin_row-predicted.ensures.row in
-    let codes = subst (λ (n : ℕ). Codes coding c.begin_row-predicted.result 0 c.loop-y.y n c.loop-y.bitmap c.begin_row-predicted.new.decoder c.begin_row-predicted.new.contexts c.decode_block-pixels.new.bitmap c.decode_block-pixels.new.decoder c.decode_block-pixels.new.contexts) whole c.decode_block-pixels.ensures.holds in
-    let counted = subst (λ (n : ℕ). CountsCodes coding c.begin_row-predicted.result 0 c.loop-y.y n c.loop-y.bitmap c.begin_row-predicted.new.decoder c.begin_row-predicted.new.contexts c.begin_row-predicted.new.steps.decisions c.decode_block-pixels.new.steps.decisions) whole c.decode_block-pixels.ensures.decisions in
+    let decoded = subst (λ (n : ℕ). DecodesPixels coding c.begin_row-predicted.result 0 c.loop-y.y n c.loop-y.bitmap c.begin_row-predicted.new.decoder c.begin_row-predicted.new.contexts c.begin_row-predicted.new.steps c.decode_block-pixels.new.bitmap c.decode_block-pixels.new.decoder c.decode_block-pixels.new.contexts c.decode_block-pixels.new.steps) (whole ∙ sym c.loop-y.invariant.rows.width) c.decode_block-pixels.ensures.decoded in
     let lowered = c.lowered-windows.ensures.steps in
     let decided : c.decode_block-pixels.new.steps.decisions ≡ c.lowered-windows.new.steps.decisions = sym (ap (λ (t : Counts). t.decisions) lowered) in
     let tested : c.lowered-windows.new.steps.run_tests ≡ c.decode_block-pixels.new.steps.run_tests = ap (λ (t : Counts). t.run_tests) lowered in
     let words : c.lowered-windows.new.steps.words ≡ c.decode_block-pixels.new.steps.words = ap (λ (t : Counts). t.words) lowered in
     let loads : c.lowered-windows.new.steps.loads ≡ c.decode_block-pixels.new.steps.loads + 1 = ap (λ (t : Counts). t.loads) lowered in
-    let next =
-    codes-row coding c.loop-y.y c.loop-y.predicted c.begin_row-predicted.result c.loop-y.bitmap c.loop-y.decoder c.loop-y.contexts c.begin_row-predicted.new.decoder c.begin_row-predicted.new.contexts c.decode_block-pixels.new.bitmap c.decode_block-pixels.new.decoder c.decode_block-pixels.new.contexts start w h input
-    c.loop-y.invariant.bytes c.begin_row-predicted.ensures.bytes refl begin codes c.loop-y.invariant.holds c.loop-y.invariant.predicted in
     let begun = c.begin_row-predicted.ensures.steps in
     let more : c.begin_row-predicted.new.steps.decisions ≡ c.loop-y.steps.decisions + row_decisions coding.row_context =
     ap (λ (s : Counts). s.decisions) begun ∙ ap (λ (k : Option ℕ). c.loop-y.steps.decisions + row_decisions k) c.typical_context-row_context.ensures.value in
     let same_words : c.begin_row-predicted.new.steps.words ≡ c.loop-y.steps.words = ap (λ (s : Counts). s.words) begun in
     let same_loads : c.begin_row-predicted.new.steps.loads ≡ c.loop-y.steps.loads = ap (λ (s : Counts). s.loads) begun in
     let written : c.lowered-windows.new.steps.words ≤ c.loop-y.steps.words + w = omega (arith, words, same_words, c.decode_block-pixels.ensures.words, c.requires.some) in
-    let wide : c.decode_block-pixels.new.bitmap.width ≡ w = c.decode_block-pixels.ensures.width ∙ c.loop-y.invariant.width in
+    let wide : c.decode_block-pixels.new.bitmap.width ≡ w = decoded.width ∙ c.loop-y.invariant.rows.width in
     record {
-      width = wide;
-      height = c.decode_block-pixels.ensures.height ∙ c.loop-y.invariant.height;
-      bytes = c.decode_block-pixels.ensures.bytes ∙ c.begin_row-predicted.ensures.bytes ∙ c.loop-y.invariant.bytes;
-      holds = next.0;
-      predicted = next.1;
-      decisions =
-          subst (λ (n : ℕ). Decided coding w h input (c.loop-y.y + 1) start c.windows_at-windows.new.steps.decisions n) decided
-          (decided-next coding c.loop-y.y c.loop-y.predicted c.begin_row-predicted.result c.loop-y.bitmap c.loop-y.decoder c.loop-y.contexts c.begin_row-predicted.new.decoder c.begin_row-predicted.new.contexts start w h input
-          c.windows_at-windows.new.steps.decisions c.loop-y.steps.decisions c.begin_row-predicted.new.steps.decisions c.decode_block-pixels.new.steps.decisions
-          c.loop-y.invariant.bytes refl begin c.loop-y.invariant.holds c.loop-y.invariant.predicted c.loop-y.invariant.decisions more counted);
-      run_tests = tested ∙ c.decode_block-pixels.ensures.run_tests ∙ ap (λ (s : Counts). s.run_tests) begun ∙ c.loop-y.invariant.run_tests;
+      rows =
+          rows-until c.decode_block-pixels.new.steps c.lowered-windows.new.steps
+          (rows-next c.begin_row-predicted.result c.begin_row-predicted.new.decoder c.begin_row-predicted.new.contexts c.begin_row-predicted.new.steps c.decode_block-pixels.new.bitmap c.decode_block-pixels.new.decoder c.decode_block-pixels.new.contexts c.decode_block-pixels.new.steps c.loop-y.invariant.rows begin c.begin_row-predicted.ensures.bytes more (ap (λ (s : Counts). s.run_tests) begun) decoded)
+          decided tested;
       words = tests-next c.windows_at-windows.new.steps.words c.loop-y.steps.words c.lowered-windows.new.steps.words w c.loop-y.y c.loop-y.invariant.words written;
       loads = omega (arith, loads, same_loads, c.decode_block-pixels.ensures.loads, c.loop-y.invariant.loads);
       sees =
@@ -89,7 +61,7 @@ loop-y-preserved g c =
 pub returns-clause-holds : goal.returns-clause-holds
 returns-clause-holds g c =
     region-whole (windowed_coding c.args.coding.now) c.args.bitmap.now.width c.args.bitmap.now.height c.loop-y.y c.args.decoder.now.bytes (no_pixels c.args.decoder.now.registers c.args.contexts.now) c.loop-y.bitmap c.loop-y.decoder c.loop-y.contexts
-    refl (λ none. absurd (omega (arith, c.requires.some))) (omega arith) c.loop-y.invariant.holds
+    refl (λ none. absurd (omega (arith, c.requires.some))) (omega arith) c.loop-y.invariant.rows.holds
 
 pub returns-clause-steps : goal.returns-clause-steps
 returns-clause-steps g c =
@@ -108,5 +80,5 @@ returns-clause-steps g c =
     let enough : c.loop-y.y * 10 ≤ c.loop-y.y * window_loads w = mul-le-mul still ten in
     decided-region coding (window_loads w) w h c.loop-y.y c.args.decoder.now.bytes start c.args.steps.now c.loop-y.steps
     refl (λ none. absurd (omega (arith, c.requires.some))) all (λ none. absurd (omega (arith, c.requires.rows)))
-    (subst (λ (n : ℕ). Decided coding w h c.args.decoder.now.bytes c.loop-y.y start n c.loop-y.steps.decisions) decided c.loop-y.invariant.decisions)
-    (c.loop-y.invariant.run_tests ∙ tested) (subst (λ (n : ℕ). c.loop-y.steps.words ≤ n + c.loop-y.y * w) same c.loop-y.invariant.words) (omega (arith, enough, more, c.loop-y.invariant.loads, c.requires.rows))
+    (subst (λ (n : ℕ). Decided coding w h c.args.decoder.now.bytes c.loop-y.y start n c.loop-y.steps.decisions) decided c.loop-y.invariant.rows.decisions)
+    (c.loop-y.invariant.rows.run_tests ∙ tested) (subst (λ (n : ℕ). c.loop-y.steps.words ≤ n + c.loop-y.y * w) same c.loop-y.invariant.words) (omega (arith, enough, more, c.loop-y.invariant.loads, c.requires.rows))

@@ -1,10 +1,9 @@
-use Rattle.std.proofs.Common.{arith, refl, min, subst, ap, ◌≡◌, ◌+◌, ◌*◌, ◌%◌, ℕ, ◌∙◌}
+use Rattle.std.proofs.Common.{arith, min, subst, ap, ◌≡◌, ◌+◌, ◌*◌, ◌%◌, ℕ}
 use Rattle.jbig2_base.specs.Counts.{Counts}
-use Rattle.jbig2_region.specs.inner.Codes.{Codes, CountsCodes}
 use Rattle.jbig2_region.specs.inner.Neighbours.{IsLeft}
 use Rattle.jbig2_region.specs.inner.RefinementWindows.{windowed_coding}
-use Rattle.jbig2_region.proofs.CodesLemmas.{codes-none, codes-then, counts-none, counts-then}
 use Rattle.jbig2_region.proofs.StoreLemmas.{left-none}
+use Rattle.jbig2_region.proofs.StretchLemmas.{pixels-none, pixels-since, pixels-then}
 use Rattle.jbig2_region.proofs.refinement_kernel.decode_row.Goals as goal
 
 pub loop-index-init : goal.loop-index-init
@@ -12,18 +11,9 @@ loop-index-init g c =
     let none : 0 ≡ min 0 c.args.bitmap.now.width = omega arith in
     let coding = windowed_coding c.args.coding.now in
     record {
-      width = refl;
-      height = refl;
-      bytes = refl;
+      decoded = pixels-none coding c.args.row.predicted 0 c.args.row.y (min 0 c.args.bitmap.now.width) c.args.bitmap.now c.args.decoder.now c.args.contexts.now c.args.steps.now none;
       few = omega arith;
       left = subst (λ (n : ℕ). IsLeft c.args.bitmap.now n c.args.row.y 0) none (left-none c.args.bitmap.now c.args.row.y);
-      holds =
-          subst (λ (n : ℕ). Codes coding c.args.row.predicted 0 c.args.row.y n c.args.bitmap.now c.args.decoder.now c.args.contexts.now c.args.bitmap.now c.args.decoder.now c.args.contexts.now) none
-          (codes-none coding c.args.row.predicted 0 c.args.row.y c.args.bitmap.now c.args.decoder.now c.args.contexts.now);
-      decisions =
-          subst (λ (n : ℕ). CountsCodes coding c.args.row.predicted 0 c.args.row.y n c.args.bitmap.now c.args.decoder.now c.args.contexts.now c.args.steps.now.decisions c.args.steps.now.decisions) none
-          (counts-none coding c.args.row.predicted 0 c.args.row.y c.args.bitmap.now c.args.decoder.now c.args.contexts.now c.args.steps.now.decisions);
-      run_tests = refl;
       loads = omega arith;
       words = omega arith;
     }
@@ -40,21 +30,9 @@ loop-index-preserved g c =
     let more : c.windows_at-windows.new.steps.loads ≡ c.loop-index.steps.loads + 4 = ap (λ (t : Counts). t.loads) loaded in
     let same : c.windows_at-windows.new.steps.words ≡ c.loop-index.steps.words = ap (λ (t : Counts). t.words) loaded in
     record {
-      width = c.decode_block-pixels.ensures.width ∙ c.loop-index.invariant.width;
-      height = c.decode_block-pixels.ensures.height ∙ c.loop-index.invariant.height;
-      bytes = c.decode_block-pixels.ensures.bytes ∙ c.loop-index.invariant.bytes;
+      decoded = pixels-then (min ((c.loop-index.index + 1) * 32) c.args.bitmap.now.width) c.loop-index.invariant.decoded (pixels-since c.loop-index.steps c.windows_at-windows.new.steps c.decode_block-pixels.new.steps c.decode_block-pixels.ensures.decoded decided tested) (omega arith) next;
       few = omega arith;
       left = subst (λ (n : ℕ). IsLeft c.decode_block-pixels.new.bitmap n c.args.row.y (c.decode_block-pixels.result % 16)) place c.decode_block-pixels.ensures.left;
-      holds =
-          codes-then coding c.args.row.predicted 0 (c.loop-index.index * 32) c.args.row.y (min (c.loop-index.index * 32) c.args.bitmap.now.width) c.min-count.result (min ((c.loop-index.index + 1) * 32) c.args.bitmap.now.width)
-          c.args.bitmap.now c.loop-index.bitmap c.decode_block-pixels.new.bitmap c.args.decoder.now c.loop-index.decoder c.decode_block-pixels.new.decoder c.args.contexts.now c.loop-index.contexts c.decode_block-pixels.new.contexts
-          c.loop-index.invariant.holds c.decode_block-pixels.ensures.holds (omega arith) next;
-      decisions =
-          counts-then coding c.args.row.predicted 0 (c.loop-index.index * 32) c.args.row.y (min (c.loop-index.index * 32) c.args.bitmap.now.width) c.min-count.result (min ((c.loop-index.index + 1) * 32) c.args.bitmap.now.width)
-          c.args.bitmap.now c.loop-index.bitmap c.args.decoder.now c.loop-index.decoder c.args.contexts.now c.loop-index.contexts c.args.steps.now.decisions c.loop-index.steps.decisions c.decode_block-pixels.new.steps.decisions
-          c.loop-index.invariant.holds c.loop-index.invariant.decisions
-          (subst (λ (n : ℕ). CountsCodes coding c.args.row.predicted (c.loop-index.index * 32) c.args.row.y c.min-count.result c.loop-index.bitmap c.loop-index.decoder c.loop-index.contexts n c.decode_block-pixels.new.steps.decisions) decided c.decode_block-pixels.ensures.decisions) (omega arith) next;
-      run_tests = c.decode_block-pixels.ensures.run_tests ∙ tested ∙ c.loop-index.invariant.run_tests;
       loads = omega (arith, c.decode_block-pixels.ensures.loads, c.loop-index.invariant.loads);
       words = omega (arith, c.decode_block-pixels.ensures.words, c.loop-index.invariant.words);
     }

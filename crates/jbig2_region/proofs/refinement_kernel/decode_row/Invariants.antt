@@ -1,19 +1,14 @@
 use Rattle.std.proofs.Common.{◌≡◌, ◌+◌, ◌*◌, ◌<◌, min}
-use Rattle.jbig2_region.specs.inner.Codes.{Codes, CountsCodes}
 use Rattle.jbig2_region.specs.inner.Neighbours.{IsLeft}
 use Rattle.jbig2_region.specs.inner.RefinementWindows.{windowed_coding}
+use Rattle.jbig2_region.specs.inner.Stretches.{DecodesPixels}
 use Rattle.jbig2_region.proofs.refinement_kernel.decode_row.Given as goal
 
 abbrev pub invariant-loop-index : goal.invariant-loop-index
 invariant-loop-index g l = record {
-  width : l.bitmap.width ≡ l.initial.bitmap.width;
-  height : l.bitmap.height ≡ l.initial.bitmap.height;
-  bytes : l.decoder.bytes ≡ l.initial.decoder.bytes;
+  decoded : DecodesPixels (windowed_coding l.fn.coding) l.fn.row.predicted 0 l.fn.row.y (min (l.index * 32) l.initial.bitmap.width) l.initial.bitmap l.initial.decoder l.initial.contexts l.initial.steps l.bitmap l.decoder l.contexts l.steps;
   few : l.left < 16;
   left : IsLeft l.bitmap (min (l.index * 32) l.initial.bitmap.width) l.fn.row.y l.left;
-  holds : Codes (windowed_coding l.fn.coding) l.fn.row.predicted 0 l.fn.row.y (min (l.index * 32) l.initial.bitmap.width) l.initial.bitmap l.initial.decoder l.initial.contexts l.bitmap l.decoder l.contexts;
-  decisions : CountsCodes (windowed_coding l.fn.coding) l.fn.row.predicted 0 l.fn.row.y (min (l.index * 32) l.initial.bitmap.width) l.initial.bitmap l.initial.decoder l.initial.contexts l.initial.steps.decisions l.steps.decisions;
-  run_tests : l.steps.run_tests ≡ l.initial.steps.run_tests;
   loads : l.steps.loads ≡ l.initial.steps.loads + l.index * 4;
   words : l.steps.words ≡ l.initial.steps.words + l.index;
 }

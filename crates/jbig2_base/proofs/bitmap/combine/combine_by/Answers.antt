@@ -18,21 +18,18 @@ pub loop-row-preserved : goal.loop-row-preserved
 loop-row-preserved g c =
     let b = c.args.block in
     record {
-      page = page-more c.args.operator c.args.page.now c.args.source.now c.loop-row.page c.combine_row.new.page b.left (b.left + b.columns) b.top c.loop-row.row b.from b.from_row (omega (arith, c.requires.bottom)) c.loop-row.invariant.page c.combine_row.ensures.value;
-      steps = within-more c.loop-row.row b.left b.columns _ c.args.steps.now c.loop-row.steps c.combine_row.new.steps c.requires.some c.loop-row.invariant.steps refl c.combine_row.ensures.steps;
+      page = page-more c.args.operator c.args.page.now c.args.source.now c.loop-row.page c.combine_row.new.page b.left (b.left + b.columns) b.top c.loop-row.row b.from b.from_row (omega (arith, c.requires.inside.bottom)) c.loop-row.invariant.page c.combine_row.ensures.value;
+      steps = within-more c.loop-row.row b.left b.columns _ c.args.steps.now c.loop-row.steps c.combine_row.new.steps c.requires.inside.some c.loop-row.invariant.steps refl c.combine_row.ensures.steps;
     }
 
 pub combine_row-requires-clause-table : goal.combine_row-requires-clause-table
 combine_row-requires-clause-table g c = table-at c.loop-row.page c.args.page.now.width c.args.page.now.height _ c.loop-row.invariant.page
 
-pub returns-clause-value : goal.returns-clause-value
-returns-clause-value g c =
+pub returns : goal.returns
+returns g c =
     let b = c.args.block in
     let all : c.loop-row.row ≡ b.rows = omega arith in
-    c.loop-row.invariant.page ∙ ap (λ (n : ℕ). with_block c.args.operator c.args.page.now c.args.source.now b.left (b.left + b.columns) b.top (b.top + n) b.from b.from_row) all
-
-pub returns-clause-steps : goal.returns-clause-steps
-returns-clause-steps g c =
-    let b = c.args.block in
-    let all : c.loop-row.row ≡ b.rows = omega arith in
-    subst (λ (n : ℕ). WritesWithin (n * most_words b.columns) c.args.steps.now c.loop-row.steps) all c.loop-row.invariant.steps
+    record {
+      value = c.loop-row.invariant.page ∙ ap (λ (n : ℕ). with_block c.args.operator c.args.page.now c.args.source.now b.left (b.left + b.columns) b.top (b.top + n) b.from b.from_row) all;
+      steps = subst (λ (n : ℕ). WritesWithin (n * most_words b.columns) c.args.steps.now c.loop-row.steps) all c.loop-row.invariant.steps;
+    }

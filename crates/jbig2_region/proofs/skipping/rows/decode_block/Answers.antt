@@ -1,5 +1,6 @@
 use Rattle.std.proofs.Common.{arith, ◌≡◌, ℕ, ◌+◌, ◌-◌, ◌*◌, false, ap, sym, subst, refl, ◌∙◌}
 use Rattle.jbig2_base.specs.Counts.{Counts}
+use Rattle.jbig2_base.specs.Grid.{Grid}
 use Rattle.jbig2_base.specs.inner.WordBits.{bit}
 use Rattle.jbig2_region.specs.Skipping.{skip_of, skipping_coding}
 use Rattle.jbig2_region.specs.inner.Codes.{CountsCodes}
@@ -23,24 +24,26 @@ loop-offset-preserved g c =
     c.loop-offset.pixels c.plain_context-context.result c.decode_pixel-symbol.result (bit c.mask_at-mask.result (31 - c.loop-offset.offset))
     c.loop-offset.invariant c.requires.near c.windows_at-windows.ensures.value c.mask_at-mask.ensures.value (omega arith) (omega arith) c.requires.row c.plain_context-context.ensures.value refl c.decode_pixel-symbol.ensures.takes)
 
-pub returns-clause-holds : goal.returns-clause-holds
-returns-clause-holds g c =
-    (block-whole (skipping_coding (nominal_pixels c.args.neighbours) (skip_of c.args.skip)) false c.args.x c.args.y c.loop-offset.offset c.args.count c.args.bitmap.now c.store_pixels.new.self c.args.decoder.now c.loop-offset.decoder c.args.contexts.now c.loop-offset.contexts c.mask_at-mask.new.steps c.loop-offset.steps c.loop-offset.pixels
-    c.loop-offset.invariant (omega arith) c.store_pixels.ensures.value).holds
+pub returns-clause-decoded : goal.returns-clause-decoded
+returns-clause-decoded g c =
+    let before : c.mask_at-mask.new.steps.decisions ≡ c.args.steps.now.decisions = ap (λ (t : Counts). t.decisions) c.mask_at-mask.ensures.steps ∙ ap (λ (t : Counts). t.decisions) c.windows_at-windows.ensures.steps in
+    let after : c.loop-offset.steps.decisions ≡ c.store_pixels.new.steps.decisions = sym (ap (λ (t : Counts). t.decisions) c.store_pixels.ensures.steps) in
+    let whole =
+    block-whole (skipping_coding (nominal_pixels c.args.neighbours) (skip_of c.args.skip)) false c.args.x c.args.y c.loop-offset.offset c.args.count c.args.bitmap.now c.store_pixels.new.self c.args.decoder.now c.loop-offset.decoder c.args.contexts.now c.loop-offset.contexts c.mask_at-mask.new.steps c.loop-offset.steps c.loop-offset.pixels
+    c.loop-offset.invariant (omega arith) c.store_pixels.ensures.value in
+    record {
+      holds = whole.holds;
+      width = ap (λ (b : Grid). b.width) c.store_pixels.ensures.value;
+      height = ap (λ (b : Grid). b.height) c.store_pixels.ensures.value;
+      bytes = c.loop-offset.invariant.bytes;
+      decisions = subst (λ (n : ℕ). CountsCodes (skipping_coding (nominal_pixels c.args.neighbours) (skip_of c.args.skip)) false c.args.x c.args.y c.args.count c.args.bitmap.now c.args.decoder.now c.args.contexts.now c.args.steps.now.decisions n) after (subst (λ (n : ℕ). CountsCodes (skipping_coding (nominal_pixels c.args.neighbours) (skip_of c.args.skip)) false c.args.x c.args.y c.args.count c.args.bitmap.now c.args.decoder.now c.args.contexts.now n c.loop-offset.steps.decisions) before whole.decisions);
+      run_tests = ap (λ (t : Counts). t.run_tests) c.store_pixels.ensures.steps ∙ ap (λ (t : Counts). t.run_tests) c.loop-offset.invariant.steps ∙ ap (λ (t : Counts). t.run_tests) c.mask_at-mask.ensures.steps ∙ ap (λ (t : Counts). t.run_tests) c.windows_at-windows.ensures.steps;
+    }
 
 pub returns-clause-left : goal.returns-clause-left
 returns-clause-left g c =
     (block-whole (skipping_coding (nominal_pixels c.args.neighbours) (skip_of c.args.skip)) false c.args.x c.args.y c.loop-offset.offset c.args.count c.args.bitmap.now c.store_pixels.new.self c.args.decoder.now c.loop-offset.decoder c.args.contexts.now c.loop-offset.contexts c.mask_at-mask.new.steps c.loop-offset.steps c.loop-offset.pixels
     c.loop-offset.invariant (omega arith) c.store_pixels.ensures.value).left
-
-pub returns-clause-decisions : goal.returns-clause-decisions
-returns-clause-decisions g c =
-    let before : c.mask_at-mask.new.steps.decisions ≡ c.args.steps.now.decisions = ap (λ (t : Counts). t.decisions) c.mask_at-mask.ensures.steps ∙ ap (λ (t : Counts). t.decisions) c.windows_at-windows.ensures.steps in
-    let after : c.loop-offset.steps.decisions ≡ c.store_pixels.new.steps.decisions = sym (ap (λ (t : Counts). t.decisions) c.store_pixels.ensures.steps) in
-    subst (λ (n : ℕ). CountsCodes (skipping_coding (nominal_pixels c.args.neighbours) (skip_of c.args.skip)) false c.args.x c.args.y c.args.count c.args.bitmap.now c.args.decoder.now c.args.contexts.now c.args.steps.now.decisions n) after
-    (subst (λ (n : ℕ). CountsCodes (skipping_coding (nominal_pixels c.args.neighbours) (skip_of c.args.skip)) false c.args.x c.args.y c.args.count c.args.bitmap.now c.args.decoder.now c.args.contexts.now n c.loop-offset.steps.decisions) before
-    (block-whole (skipping_coding (nominal_pixels c.args.neighbours) (skip_of c.args.skip)) false c.args.x c.args.y c.loop-offset.offset c.args.count c.args.bitmap.now c.store_pixels.new.self c.args.decoder.now c.loop-offset.decoder c.args.contexts.now c.loop-offset.contexts c.mask_at-mask.new.steps c.loop-offset.steps c.loop-offset.pixels
-    c.loop-offset.invariant (omega arith) c.store_pixels.ensures.value).decisions)
 
 pub returns-clause-lanes : goal.returns-clause-lanes
 returns-clause-lanes g c = record {

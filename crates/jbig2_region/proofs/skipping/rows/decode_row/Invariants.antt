@@ -1,20 +1,15 @@
 use Rattle.std.proofs.Common.{◌≡◌, ◌≤◌, ◌+◌, ◌*◌, ◌<◌, min, false}
 use Rattle.jbig2_base.specs.Counts.{KeepsLanes}
 use Rattle.jbig2_region.specs.Skipping.{skip_of, skipping_coding}
-use Rattle.jbig2_region.specs.inner.Codes.{Codes, CountsCodes}
 use Rattle.jbig2_region.specs.inner.Neighbours.{IsLeft, nominal_pixels}
+use Rattle.jbig2_region.specs.inner.Stretches.{DecodesPixels}
 use Rattle.jbig2_region.proofs.skipping.rows.decode_row.Given as goal
 
 abbrev pub invariant-loop-index : goal.invariant-loop-index
 invariant-loop-index g l = record {
-  width : l.bitmap.width ≡ l.initial.bitmap.width;
-  height : l.bitmap.height ≡ l.initial.bitmap.height;
-  bytes : l.decoder.bytes ≡ l.initial.decoder.bytes;
+  decoded : DecodesPixels (skipping_coding (nominal_pixels l.fn.neighbours) (skip_of l.fn.skip)) false 0 l.fn.y (min (l.index * 32) l.initial.bitmap.width) l.initial.bitmap l.initial.decoder l.initial.contexts l.initial.steps l.bitmap l.decoder l.contexts l.steps;
   few : l.left < 16;
   left : IsLeft l.bitmap (min (l.index * 32) l.initial.bitmap.width) l.fn.y l.left;
-  holds : Codes (skipping_coding (nominal_pixels l.fn.neighbours) (skip_of l.fn.skip)) false 0 l.fn.y (min (l.index * 32) l.initial.bitmap.width) l.initial.bitmap l.initial.decoder l.initial.contexts l.bitmap l.decoder l.contexts;
-  decisions : CountsCodes (skipping_coding (nominal_pixels l.fn.neighbours) (skip_of l.fn.skip)) false 0 l.fn.y (min (l.index * 32) l.initial.bitmap.width) l.initial.bitmap l.initial.decoder l.initial.contexts l.initial.steps.decisions l.steps.decisions;
-  run_tests : l.steps.run_tests ≡ l.initial.steps.run_tests;
   loads : l.steps.loads ≤ l.initial.steps.loads + l.index * 3;
   words : l.steps.words ≡ l.initial.steps.words + l.index;
   lanes : KeepsLanes l.initial.steps l.steps;

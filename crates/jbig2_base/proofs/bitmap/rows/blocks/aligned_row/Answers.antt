@@ -1,4 +1,4 @@
-use Rattle.std.proofs.Common.{◌≡◌, ℕ, ◌+◌, ◌-◌, ◌*◌, ◌/◌, ◌%◌, ◌≤◌, get_or, refl, arith}
+use Rattle.std.proofs.Common.{◌≡◌, ℕ, ◌+◌, ◌-◌, ◌*◌, ◌/◌, ◌%◌, ◌≤◌, get_or, refl, arith, rules}
 use Rattle.jbig2_base.specs.Grid.{Grid, pixel_at}
 use Rattle.jbig2_base.specs.inner.Shapes.{grid_in}
 use Rattle.jbig2_base.specs.inner.WordBits.{bit}
@@ -17,7 +17,7 @@ loop-word-init g c =
     record {
       packed = c.combine_run.ensures.packed;
       value = run-same c.args.operator (grid_in s c.args.words.now) (grid_in s c.combine_run.new.words) l.left (64 * first + l.left % 64) l.y (64 - l.left % 64) (64 * (first + 1) - l.left) (λ i. pixel_at source (l.from + (i - l.left)) l.from_y) (λ i. bit (get_or c.args.source.words.now place 0) (63 - i % 64)) c.combine_run.ensures.value (omega arith) (omega arith)
-          (λ i low high. aligned-source from.width from.height from.stride c.args.source.words.now l.from l.from_y l.left first i place c.requires.source_packed c.requires.source_row c.requires.aligned low (omega arith) (omega (arith, c.requires.wide, c.requires.source_right)) (omega arith));
+          (λ i low high. aligned-source from.width from.height from.stride c.args.source.words.now l.from l.from_y l.left first i place c.requires.inside.source_packed c.requires.inside.source_row c.requires.aligned low (omega arith) (omega (arith, c.requires.wide, c.requires.inside.source_right)) (omega arith));
       steps = after_words-run c.args.steps.now c.args.steps.now c.load.new.self c.combine_run.new.steps 0 (first + 1 - first) (after_words-none c.args.steps.now 0 refl) c.load.ensures c.combine_run.ensures.steps (omega arith);
     }
 
@@ -34,12 +34,12 @@ loop-word-preserved g c =
     record {
       packed = c.combine_run-in-loop-word.ensures.packed;
       value = run-more c.args.operator (grid_in s c.args.words.now) (grid_in s c.loop-word.words) (grid_in s c.combine_run-in-loop-word.new.words) l.left (64 * word + 0) l.y (64 * word - l.left) 64 (64 * (word + 1) - l.left) (λ i. pixel_at source (l.from + (i - l.left)) l.from_y) (λ i. bit (get_or c.args.source.words.now place 0) (63 - i % 64)) c.loop-word.invariant.value c.combine_run-in-loop-word.ensures.value (omega arith) (omega arith)
-          (λ i low high. aligned-source from.width from.height from.stride c.args.source.words.now l.from l.from_y l.left word i place c.requires.source_packed c.requires.source_row c.requires.aligned (omega arith) (omega arith) (omega (arith, c.requires.source_right, c.loop-word-test.true)) (omega arith));
+          (λ i low high. aligned-source from.width from.height from.stride c.args.source.words.now l.from l.from_y l.left word i place c.requires.inside.source_packed c.requires.inside.source_row c.requires.aligned (omega arith) (omega arith) (omega (arith, c.requires.inside.source_right, c.loop-word-test.true)) (omega arith));
       steps = after_words-run c.args.steps.now c.loop-word.steps c.load-in-loop-word.new.self c.combine_run-in-loop-word.new.steps (word - first) (word + 1 - first) c.loop-word.invariant.steps c.load-in-loop-word.ensures c.combine_run-in-loop-word.ensures.steps (omega arith);
     }
 
-pub returns-clause-value : goal.returns-clause-value
-returns-clause-value g c =
+pub returns : goal.returns
+returns g c =
     let s = c.args.shape in
     let l = c.args.line in
     let from = c.args.source.shape in
@@ -49,5 +49,9 @@ returns-clause-value g c =
     let word : ℕ = c.loop-word.word in
     let all : word ≡ last = omega (arith, c.requires.wide, c.loop-word-test.false) in
     let place : ℕ = l.from_y * from.stride + l.from / 64 + (last - first) in
-    run-more c.args.operator (grid_in s c.args.words.now) (grid_in s c.loop-word.words) (grid_in s c.combine_run-2.new.words) l.left (64 * last + 0) l.y (64 * word - l.left) ((l.left + l.columns - 1) % 64 + 1) l.columns (λ i. pixel_at source (l.from + (i - l.left)) l.from_y) (λ i. bit (get_or c.args.source.words.now place 0) (63 - i % 64)) c.loop-word.invariant.value c.combine_run-2.ensures.value (omega (arith, c.requires.wide)) (omega (arith, c.requires.wide))
-    (λ i low high. aligned-source from.width from.height from.stride c.args.source.words.now l.from l.from_y l.left last i place c.requires.source_packed c.requires.source_row c.requires.aligned (omega (arith, c.requires.wide)) (omega arith) (omega (arith, c.requires.source_right)) (omega arith))
+    record {
+      packed = c.combine_run-2.ensures.packed;
+      value = run-more c.args.operator (grid_in s c.args.words.now) (grid_in s c.loop-word.words) (grid_in s c.combine_run-2.new.words) l.left (64 * last + 0) l.y (64 * word - l.left) ((l.left + l.columns - 1) % 64 + 1) l.columns (λ i. pixel_at source (l.from + (i - l.left)) l.from_y) (λ i. bit (get_or c.args.source.words.now place 0) (63 - i % 64)) c.loop-word.invariant.value c.combine_run-2.ensures.value (omega (arith, c.requires.wide)) (omega (arith, c.requires.wide))
+          (λ i low high. aligned-source from.width from.height from.stride c.args.source.words.now l.from l.from_y l.left last i place c.requires.inside.source_packed c.requires.inside.source_row c.requires.aligned (omega (arith, c.requires.wide)) (omega arith) (omega (arith, c.requires.inside.source_right)) (omega arith));
+      steps = search rules;
+    }

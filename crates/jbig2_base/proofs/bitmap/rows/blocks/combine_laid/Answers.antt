@@ -17,7 +17,7 @@ loop-row-init g c =
     let page : Grid = grid_in s c.args.words.now in
     let source : Grid = grid_in c.args.source.shape c.args.source.words.now in
     record {
-      packed = c.requires.packed;
+      packed = c.requires.inside.packed;
       value = block-none c.args.operator page source b.left (b.left + b.columns) b.top (b.top + 0) b.from b.from_row (sym (grid_of-pixel_at s.width s.height (packed_pixel s.stride c.args.words.now))) (inr (omega arith));
       steps = within-none _ c.args.steps.now;
     }
@@ -35,17 +35,17 @@ loop-row-preserved g c =
       steps = within-then row (most_words b.columns) c.args.steps.now c.loop-row.steps c.combine_line.new.steps c.loop-row.invariant.steps c.combine_line.ensures.steps;
     }
 
-pub returns-clause-value : goal.returns-clause-value
-returns-clause-value g c =
+pub returns : goal.returns
+returns g c =
     let s = c.args.shape in
     let b = c.args.block in
     let page : Grid = grid_in s c.args.words.now in
     let source : Grid = grid_in c.args.source.shape c.args.source.words.now in
     let all : c.loop-row.row ≡ b.rows = omega arith in
-    c.loop-row.invariant.value ∙ ap (λ (n : ℕ). with_block c.args.operator page source b.left (b.left + b.columns) b.top (b.top + n) b.from b.from_row) all
-
-pub returns-clause-steps : goal.returns-clause-steps
-returns-clause-steps g c =
-    let b = c.args.block in
-    let all : c.loop-row.row ≡ b.rows = omega arith in
-    subst (λ (n : ℕ). WritesWithin (n * most_words b.columns) c.args.steps.now c.loop-row.steps) all c.loop-row.invariant.steps
+    record {
+      packed = c.loop-row.invariant.packed;
+      combined = record {
+        value = c.loop-row.invariant.value ∙ ap (λ (n : ℕ). with_block c.args.operator page source b.left (b.left + b.columns) b.top (b.top + n) b.from b.from_row) all;
+        steps = subst (λ (n : ℕ). WritesWithin (n * most_words b.columns) c.args.steps.now c.loop-row.steps) all c.loop-row.invariant.steps;
+      };
+    }

@@ -1,7 +1,7 @@
-use Rattle.std.proofs.Common.{◌≡◌, ℕ, ◌+◌, ◌-◌, ◌*◌, ◌/◌, ◌%◌, ◌^◌, List, [], length, drop, Some, ap, sym, ◌∙◌, arith}
+use Rattle.std.proofs.Common.{◌≡◌, ℕ, ◌/◌, ◌%◌, List, [], length, drop, Some, ap, sym, ◌∙◌, arith}
 use Rattle.std.proofs.lemmas.List.{length-drop}
 use Rattle.jbig2_mmr.specs.T6.{runs_of}
-use Rattle.jbig2_mmr.specs.inner.T6Reading.{Rest, spell, code_at}
+use Rattle.jbig2_mmr.specs.inner.T6Reading.{Rest, spell}
 use Rattle.jbig2_mmr.proofs.T6Lookup.{lookup-none, lookup-short, lookup-some, entry-none, entry-some}
 use Rattle.jbig2_mmr.proofs.T6Tables.{runs-prefix_free, runs-short, runs-window}
 use Rattle.jbig2_mmr.proofs.mmr.bits.CodeReader.read_run_code.Goals as goal

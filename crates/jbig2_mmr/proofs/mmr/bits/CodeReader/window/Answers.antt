@@ -2,15 +2,18 @@ use Rattle.std.proofs.Common.{◌≡◌, ℕ, ◌+◌, ◌-◌, ◌*◌, ◌<◌
 use Rattle.std.specs.List.{flat_map}
 use Rattle.std.proofs.lemmas.List.{take_rest, length-drop}
 use Rattle.jbig2_base.specs.Bits.{byte_bits, number_after}
-use Rattle.jbig2_mmr.specs.inner.T6Reading.{AreBits, Rest, padded}
-use Rattle.jbig2_mmr.proofs.T6Bits.{within-bits, length-bits, length-left, window-is, bits-front, bits-bytes}
+use Rattle.jbig2_base.specs.inner.BitLists.{AreBits}
+use Rattle.jbig2_mmr.specs.inner.T6Reading.{Rest, padded}
+use Rattle.jbig2_base.proofs.BitFieldLemmas.{bits-drop, byte-bits}
+use Rattle.jbig2_base.proofs.NumberLemmas.{length-bits}
+use Rattle.jbig2_mmr.proofs.T6Bits.{within-bits, window-is}
 use Rattle.jbig2_mmr.proofs.mmr.bits.CodeReader.window.Goals as goal
 
 pub returns-clause-bits : goal.returns-clause-bits
 returns-clause-bits c =
     let bytes : c.self.inside.bytes.now ≡ c.args.self.now.bytes = ap (λ (r : Rest). r.bytes) c.self.view_is in
     let left : drop c.self.inside.bit (flat_map byte_bits (drop c.self.inside.byte c.self.inside.bytes.now)) ≡ c.args.self.now.left = ap (λ (r : Rest). r.left) c.self.view_is in
-    subst AreBits left (bits-front c.self.inside.bit _ (bits-bytes (drop c.self.inside.byte c.self.inside.bytes.now)))
+    subst AreBits left (bits-drop c.self.inside.bit _ (byte-bits (drop c.self.inside.byte c.self.inside.bytes.now)))
 
 pub returns-clause-value : goal.returns-clause-value
 returns-clause-value c =

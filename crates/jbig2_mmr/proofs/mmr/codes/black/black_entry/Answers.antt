@@ -1,4 +1,3 @@
-use Rattle.std.proofs.Common.{arith}
 use Rattle.jbig2_mmr.proofs.T6Tables.{black-long, black-short}
 use Rattle.jbig2_mmr.proofs.mmr.codes.black.black_entry.Goals as goal
 

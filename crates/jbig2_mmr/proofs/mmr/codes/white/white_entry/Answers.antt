@@ -1,4 +1,3 @@
-use Rattle.std.proofs.Common.{arith}
 use Rattle.jbig2_mmr.proofs.T6Tables.{white-long, white-short}
 use Rattle.jbig2_mmr.proofs.mmr.codes.white.white_entry.Goals as goal
 

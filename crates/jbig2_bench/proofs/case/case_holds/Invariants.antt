@@ -1,4 +1,0 @@
-use Rattle.jbig2_bench.proofs.case.case_holds.Given as goal
-
-abbrev pub ghosts-wide_patterns_hold : goal.ghosts-wide_patterns_hold
-ghosts-wide_patterns_hold g a = record { name = a.blank.name; parts = a.blank.parts }

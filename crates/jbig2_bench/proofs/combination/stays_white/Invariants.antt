@@ -1,4 +1,0 @@
-use Rattle.jbig2_bench.proofs.combination.stays_white.Given as goal
-
-abbrev pub ghosts-is_white_after : goal.ghosts-is_white_after
-ghosts-is_white_after g a = record { name = a.blank.name; parts = a.blank.parts }

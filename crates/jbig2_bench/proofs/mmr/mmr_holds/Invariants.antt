@@ -1,4 +1,0 @@
-use Rattle.jbig2_bench.proofs.mmr.mmr_holds.Given as goal
-
-abbrev pub ghosts-data_holds : goal.ghosts-data_holds
-ghosts-data_holds g a = record { name = a.blank.name; parts = a.blank.parts }

@@ -1,0 +1,34 @@
+use Rattle.std.proofs.Common.{◌≡◌, ℕ, false, List, Option, Some, Result, Ok, Err, ◌⊎◌, inl, inr, ⊎_elim, refl}
+use Rattle.std.proofs.lemmas.Result.{err_from_is_err_and}
+use Rattle.std.specs.Borrow.{Bor}
+use Rattle.std.specs.Option.{option_map}
+use Rattle.jbig2_base.specs.Grid.{Grid}
+use Rattle.jbig2_base.specs.declared.error.DecodeError.{DecodeError}
+use Rattle.jbig2_base.specs.declared.error.DecodeError.TheVariants.{OutOfMemory}
+use Rattle.hayro_jbig2.specs.Globals.{globals_at}
+use Rattle.hayro_jbig2.specs.Names.{Names}
+use Rattle.hayro_jbig2.specs.Page.{embedded}
+use Rattle.hayro_jbig2.specs.Sends.{Conduct, Decodes}
+use Rattle.jbig2_callers.specs.Callers.{grid_of_stream}
+use Rattle.jbig2_callers.proofs.pdf_reader.decode_stream.Goals as goal
+
+-- an error before any call
+refused : {S : Type 0} (d : Conduct S) (meant : Result Grid DecodeError) (e : DecodeError) (s : S) → (e ≡ OutOfMemory) ⊎ (meant ≡ Err e) → Decodes d meant (Err e) s s
+refused d (Ok grid) e s why = ⊎_elim (λ (memory : e ≡ OutOfMemory). inr (memory, (refl, refl))) (λ (is : Ok grid ≡ Err e). absurd (cc)) why
+refused d (Err f) e s why = ⊎_elim (λ (memory : e ≡ OutOfMemory). (inr memory, (refl, refl))) (λ (is : Err f ≡ Err e). (inl (cc), (refl, refl))) why
+
+-- a page that is refused, with globals that were read
+page-refused : (given : Option (Bor (List ℕ))) (bytes : Bor (List ℕ)) (stream : List ℕ) (names : Names) (e : DecodeError) → given ≡ Some bytes → globals_at false bytes.now ≡ Ok names → embedded false names stream ≡ Err e → grid_of_stream (option_map (λ b. b.now) given) stream ≡ Err e
+page-refused given bytes stream names e is read refused = rw (is, read, refused)
+
+pub returns-in_err-page-in-Some : goal.returns-in_err-page-in-Some
+returns-in_err-page-in-Some g c =
+    let answered = err_from_is_err_and c.from_residual-in_err-page-in-Some.result c.from_residual-in_err-page-in-Some.ensures.1 in
+    let e : DecodeError = c.in_err-page-in-Some.field-0.0 in
+    let why : (e ≡ OutOfMemory) ⊎ (grid_of_stream (option_map (λ b. b.now) c.args.globals) c.args.stream.now ≡ Err e) =
+    ⊎_elim
+    (λ (memory : e ≡ OutOfMemory). inl memory)
+    (λ unread. inr (page-refused c.args.globals c.in-Some.bytes c.args.stream.now c.in_ok-globals-in-Some.globals e c.in-Some.is c.in_ok-globals-in-Some.ensures unread))
+    c.in_err-page-in-Some.ensures
+    in
+    rw (answered.1, answered.2) (refused g.D.Decoder.conduct (grid_of_stream (option_map (λ b. b.now) c.args.globals) c.args.stream.now) e c.args.decoder.now why)

@@ -1,0 +1,66 @@
+//! The calls of a page, printed.
+ghost use Rattle.std.specs.Prelude.{◌≡◌, is_some, IfSome};
+ghost use Rattle.hayro_jbig2.specs.Page.{grid_of_page};
+ghost use Rattle.jbig2_commands.specs.Held.{told, whose};
+ghost use Rattle.jbig2_commands.specs.Printed.{calls_text, or_fault};
+ghost use Rattle.jbig2_commands.specs.Prints.{Prints, Tells};
+
+use crate::fault::Fault;
+use crate::output::{Output, flushed};
+use crate::printer::{Printer, Telling};
+use hayro_jbig2::{DecodeError, Page};
+use std::alloc::Allocator;
+use std::io::Write;
+use std::marker::Brand;
+
+/// Room for the bytes that are gathered before some are written, and a line behind them.
+const ROOM: usize = 8256;
+
+/// Room for a line.
+const LINE: usize = 64;
+
+/// Prints the calls that spell a page.
+pub fn print_calls<A: Allocator + Clone, O: Write>(
+    alloc: A,
+    page: &Page<'_, A>,
+    out: &mut O,
+) -> Result<(), Fault>
+    ensures { Prints (or_fault (calls_text (grid_of_page page.now))) result (O.contents out.old)
+        (O.contents out.new) }
+{
+    let held = Vec::with_capacity(alloc.clone()?, ROOM)?;
+    let line = Vec::with_capacity(alloc, LINE)?;
+    let (mut output, decoded) = decode_to::<A, O, Brand>(page, Output::new(held, out), line);
+    let Some(decoded) = decoded else {
+        return Err(Fault::Unwritable);
+    };
+    // Where decoding failed no call was made, and nothing is held.
+    if !output.write_held() {
+        return Err(Fault::Unwritable);
+    }
+    let out = output.into_inner();
+    decoded?;
+    flushed(out)
+}
+
+/// Decodes a page, whose calls are printed. None where a line could not be written.
+fn decode_to<'o, A: Allocator + Clone, O: Write, K: Telling>(
+    page: &Page<'_, A>,
+    output: Output<'o, O, A>,
+    line: Vec<u8, A>,
+) -> (Output<'o, O, A>, Option<Result<(), DecodeError>>)
+    requires { K.is_told ≡ is_some (told O.contents output) }
+    ensures same { whose result.0 ≡ whose output.entry }
+    ensures lines { IfSome result.1 (λ decoded. Tells (calls_text (grid_of_page page.now)) decoded
+        (told O.contents output.entry) (told O.contents result.0)) }
+{
+    let mut printer = Printer::<O, A, K>::new(output, line);
+    let decoded = page.decode(&mut printer);
+    let has_refused = printer.has_refused();
+    let output = printer.into_output();
+    if has_refused {
+        (output, None)
+    } else {
+        (output, Some(decoded))
+    }
+}

@@ -1,0 +1,66 @@
+//! How runs end: their status, and what standard error is told.
+ghost use Rattle.std.specs.Prelude.{◌≡◌, Ok, Err, if◌then◌else◌};
+ghost use Rattle.jbig2_base.specs.declared.error.DecodeError.TheVariants.{OutOfMemory};
+ghost use Rattle.jbig2_commands.specs.Told.{Told, fault_line, status_of, told_line, usage_line};
+ghost use Rattle.jbig2_commands.specs.declared.fault.Fault.TheVariants.{Decode};
+
+use crate::fault::Fault;
+use hayro_jbig2::DecodeError;
+use std::io::Write;
+
+const USAGE: &str = "usage: jbig2-decode [--strict] pages|embedded FILE | calls|pbm FILE INDEX";
+
+/// How a run ends.
+#[derive(Drop)]
+pub struct Ended {
+    /// The status of the process: 0, 1 after a fault, 2 where the words ask for nothing.
+    pub status: u8,
+    /// Whether standard error took all that it was to be told.
+    pub told: bool,
+}
+
+impl Ended {
+    /// The end of a run that asks for nothing: the usage is told.
+    pub fn refused<E: Write>(err: &mut E) -> Ended
+        ensures status { result.status ≡ 2 }
+        ensures told { Told result.told usage_line (E.contents err.old) (E.contents err.new) }
+    {
+        let told = writeln!(err, "{USAGE}").is_ok();
+        Ended { status: 2, told }
+    }
+
+    /// The end of a run whose words could not be had: memory was refused, or they are no text.
+    pub fn unstarted<E: Write>(refused: bool, err: &mut E) -> Ended
+        ensures status { result.status ≡ if refused then 1 else 2 }
+        ensures told { Told result.told
+            (if refused then fault_line (Decode OutOfMemory) else usage_line)
+            (E.contents err.old) (E.contents err.new) }
+    {
+        if refused {
+            return Ended::of(Err(Fault::Decode(DecodeError::OutOfMemory)), err);
+        }
+        Ended::refused(err)
+    }
+
+    /// The end of a run that ended so, after its fault is told.
+    pub fn of<E: Write>(ended: Result<(), Fault>, err: &mut E) -> Ended
+        ensures status { result.status ≡ status_of ended }
+        ensures told { Told result.told (told_line ended) (E.contents err.old) (E.contents err.new) }
+    {
+        match ended {
+            Ok(()) => Ended {
+                status: 0,
+                told: true,
+            },
+            // What the output could not take is not told of on another one.
+            Err(Fault::Unwritable) => Ended {
+                status: 1,
+                told: true,
+            },
+            Err(fault) => {
+                let told = writeln!(err, "error: {fault}").is_ok();
+                Ended { status: 1, told }
+            }
+        }
+    }
+}

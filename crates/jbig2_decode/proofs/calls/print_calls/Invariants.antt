@@ -1,6 +1,0 @@
-use Rattle.std.proofs.Common.{is_some}
-use Rattle.jbig2_decode.specs.Held.{told}
-use Rattle.jbig2_decode.proofs.calls.print_calls.Given as goal
-
-abbrev pub ghosts-decode_to : goal.ghosts-decode_to
-ghosts-decode_to g a = record { is_told = is_some (told g.O.Write.contents a.output) }

@@ -1,7 +1,0 @@
-use Rattle.std.proofs.Common.{sym}
-use Rattle.jbig2_decode.proofs.Numerals.{request_named}
-use Rattle.jbig2_decode.specs.Requests.{request_view}
-use Rattle.jbig2_decode.proofs.program.run.Goals as goal
-
-pub answer-ended-requires : goal.answer-ended-requires
-answer-ended-requires g c = request_named _ (request_view c.in-Some.request) (sym c.in-Some.ensures)

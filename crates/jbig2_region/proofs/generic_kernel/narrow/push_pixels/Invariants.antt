@@ -1,0 +1,16 @@
+use Rattle.std.proofs.Common.{◌≡◌, ℕ, ◌+◌, ◌*◌, ◌%◌, ◌^◌}
+use Rattle.jbig2_base.specs.Grid.{Grid}
+use Rattle.jbig2_base.specs.inner.Writes.{with_pixels}
+use Rattle.jbig2_region.specs.inner.NarrowRows.{PushesPixels, Stands}
+use Rattle.jbig2_region.specs.inner.Neighbours.{IsLeft, cut_of, register_of}
+use Rattle.jbig2_region.proofs.generic_kernel.narrow.push_pixels.Given as goal
+
+abbrev pub invariant-loop : goal.invariant-loop
+invariant-loop g l = record {
+  bytes : l.decoder.bytes ≡ l.initial.decoder.bytes;
+  made : l.register ≡ register_of l.fn.neighbours l.fn.left l.fn.windows * 2 ^ l.counter + l.register % 2 ^ l.counter;
+  context : l.context ≡ cut_of l.fn.neighbours l.register;
+  left : (grid : Grid) (x y : ℕ) → Stands grid x y l.fn.count l.fn.left l.fn.windows → IsLeft (with_pixels grid x y l.counter (l.register % 2 ^ l.counter)) (x + l.counter) y l.register;
+  holds : PushesPixels l.fn.neighbours l.fn.count l.fn.left l.fn.windows l.counter (l.register % 2 ^ l.counter) l.initial.decoder l.initial.contexts l.decoder l.contexts;
+  steps : l.steps ≡ record l.initial.steps { decisions = l.initial.steps.decisions + l.counter };
+}

@@ -1,0 +1,266 @@
+//! Narrow regions without adaptive pixels and without typical prediction: the windows on the two rows
+//! above are made out of the rows as they are decoded, and each row is stored at once.
+ghost use Rattle.std.specs.Prelude.{◌≡◌, ℕ, ◌+◌, ◌-◌, ◌*◌, ◌/◌, ◌%◌, ◌^◌, ◌<◌, ◌≤◌, true, false, length, if◌then◌else◌};
+ghost use Rattle.jbig2_base.specs.Counts.{KeepsLanes};
+ghost use Rattle.jbig2_base.specs.Grid.{Grid, blank, pixel_at};
+ghost use Rattle.jbig2_base.specs.inner.WordBits.{bit};
+ghost use Rattle.jbig2_region.specs.Raster.{no_pixels};
+ghost use Rattle.jbig2_region.specs.RunBytes.{CountsRegion};
+ghost use Rattle.jbig2_region.specs.inner.Holds.{DecodesRegion};
+ghost use Rattle.jbig2_region.specs.inner.Layouts.{neighbours_of};
+ghost use Rattle.jbig2_region.specs.inner.NarrowRows.{CountsByte, CountsRowPixels, PushesPixels, PushesRow};
+ghost use Rattle.jbig2_region.specs.inner.Neighbours.{IsNear, SameAbove, Shows, neighbour_count, nominal_pixels, row_coding};
+
+use crate::generic_kernel::runs::take_runs;
+use crate::generic_kernel::windows::{WideWindows, Windows};
+use crate::template::layouts::neighbours_of;
+use crate::template::neighbours::Neighbours;
+use jbig2_base::bitmap::Bitmap;
+use jbig2_base::bitmap::steps::Steps;
+use jbig2_coder::arithmetic_decoder::{ArithmeticDecoder, ArithmeticDecoderContext};
+use std::alloc::Allocator;
+use std::sync::ledger::Ledger;
+
+/// The next `count` pixels, at most a byte, from the windows' column on: the first is the highest
+/// of the lowest `count` bits.
+#[inline(always)]
+pub fn push_pixels<L: Ledger>(
+    neighbours: Neighbours,
+    count: u32,
+    left: u32,
+    windows: Windows,
+    decoder: &mut ArithmeticDecoder<'_>,
+    contexts: &mut [ArithmeticDecoderContext],
+    steps: &mut Steps<L>,
+) -> u64
+    requires near { IsNear neighbours }
+    requires contexts { length contexts.old ≡ 2 ^ neighbour_count neighbours }
+    requires byte { count ≤ 8 }
+    requires small { left < 16 }
+    ensures holds { PushesPixels neighbours count left windows count result
+        decoder.old contexts.old decoder.new contexts.new }
+    ensures bound { result < 2 ^ count }
+    ensures bytes { decoder.new.bytes ≡ decoder.old.bytes }
+    ensures contexts { length contexts.new ≡ length contexts.old }
+    ensures steps { steps.new ≡
+        record steps.old { decisions = steps.old.decisions + count } }
+{
+    let mut register = neighbours.register(left, windows);
+    let mut context = neighbours.context(register);
+    for _ in 0..count {
+        let symbol = decoder.decode(&mut contexts[context as usize], steps);
+        register *= 2;
+        let higher = neighbours.context(register);
+        context = higher + symbol;
+        register += u64::from(symbol);
+    }
+    register % (1 << count)
+}
+
+/// A byte of one colour.
+#[inline(always)]
+fn uniform_byte(black: bool) -> u64
+    ensures { result ≡ (if black then 255 else 0) }
+{
+    if black {
+        return 255;
+    }
+    0
+}
+
+/// The next byte of a row, which is not its last, from the windows' column on: a run, or else pixel
+/// by pixel.
+#[inline(always)]
+fn push_byte<L: Ledger>(
+    neighbours: Neighbours,
+    left: u32,
+    windows: Windows,
+    decoder: &mut ArithmeticDecoder<'_>,
+    contexts: &mut [ArithmeticDecoderContext],
+    steps: &mut Steps<L>,
+) -> u64
+    requires near { IsNear neighbours }
+    requires contexts { length contexts.old ≡ 2 ^ neighbour_count neighbours }
+    requires small { left < 16 }
+    ensures holds { PushesPixels neighbours 9 left windows 8 result
+        decoder.old contexts.old decoder.new contexts.new }
+    ensures decisions { CountsByte neighbours left windows
+        decoder.old contexts.old steps.old.decisions steps.new.decisions }
+    ensures bound { result < 256 }
+    ensures bytes { decoder.new.bytes ≡ decoder.old.bytes }
+    ensures contexts { length contexts.new ≡ length contexts.old }
+    ensures run_tests { steps.new.run_tests ≤ steps.old.run_tests + 1 }
+    ensures loads { steps.new.loads ≡ steps.old.loads }
+    ensures words { steps.new.words ≡ steps.old.words }
+    ensures lanes { KeepsLanes steps.old steps.new }
+{
+    let black = left % 2 == 1;
+    let shown = WideWindows {
+        first: windows,
+        second: windows,
+    };
+    let taken = take_runs(neighbours, black, left, shown, 1, decoder, contexts, steps);
+    if taken > 0 {
+        return uniform_byte(black);
+    }
+    push_pixels(neighbours, 8, left, windows, decoder, contexts, steps)
+}
+
+/// A row of `width` pixels, the first in the highest of the lowest `width` bits, by the windows
+/// about its first column.
+#[inline(always)]
+fn push_row<L: Ledger>(
+    neighbours: Neighbours,
+    width: u32,
+    windows: Windows,
+    decoder: &mut ArithmeticDecoder<'_>,
+    contexts: &mut [ArithmeticDecoderContext],
+    steps: &mut Steps<L>,
+) -> u64
+    requires near { IsNear neighbours }
+    requires contexts { length contexts.old ≡ 2 ^ neighbour_count neighbours }
+    requires some { 1 ≤ width }
+    requires few { width ≤ 48 }
+    ensures holds { PushesRow neighbours width windows width result
+        decoder.old contexts.old decoder.new contexts.new }
+    ensures decisions { CountsRowPixels neighbours width windows width
+        decoder.old contexts.old steps.old.decisions steps.new.decisions }
+    ensures bound { result < 2 ^ width }
+    ensures bytes { decoder.new.bytes ≡ decoder.old.bytes }
+    ensures contexts { length contexts.new ≡ length contexts.old }
+    ensures run_tests { steps.new.run_tests ≤ steps.old.run_tests + (width - 1) / 8 }
+    ensures loads { steps.new.loads ≡ steps.old.loads }
+    ensures words { steps.new.words ≡ steps.old.words }
+    ensures lanes { KeepsLanes steps.old steps.new }
+{
+    let whole = (width - 1) / 8;
+    let mut pixels = 0;
+    let mut shown = windows;
+    for _ in 0..whole {
+        let left = (pixels % 16) as u32;
+        let byte = push_byte(neighbours, left, shown, decoder, contexts, steps);
+        pixels = pixels * 256 + byte;
+        shown = shown.moved(8);
+    }
+    let count = width - 8 * whole;
+    let left = (pixels % 16) as u32;
+    let last = push_pixels(neighbours, count, left, shown, decoder, contexts, steps);
+    pixels * (1 << count) + last
+}
+
+/// The windows about the first column of the next row, out of those of a row of these `width`
+/// pixels.
+#[inline(always)]
+fn lowered(windows: Windows, width: u32, pixels: u64) -> Windows
+    requires some { 1 ≤ width }
+    requires few { width ≤ 48 }
+    requires bound { pixels < 2 ^ width }
+    ensures { (g g' : Grid) (y : ℕ) → g'.width ≡ width → SameAbove g g' y →
+        ((k : ℕ) → k < width → bit pixels (width - 1 - k) ≡ pixel_at g' k y) →
+        Shows g 0 y 64 windows → Shows g' 0 (y + 1) 64 result }
+{
+    Windows {
+        above: pixels << (56 - width),
+        top: windows.above,
+    }
+}
+
+/// All rows of a region, into a white bitmap of its size.
+#[inline(always)]
+fn decode_rows<A: Allocator, L: Ledger>(
+    neighbours: Neighbours,
+    bitmap: &mut Bitmap<A>,
+    decoder: &mut ArithmeticDecoder<'_>,
+    contexts: &mut [ArithmeticDecoderContext],
+    steps: &mut Steps<L>,
+)
+    requires near { IsNear neighbours }
+    requires contexts { length contexts.old ≡ 2 ^ neighbour_count neighbours }
+    requires some { 1 ≤ bitmap.old.width }
+    requires few { bitmap.old.width ≤ 48 }
+    requires white { bitmap.old ≡ blank bitmap.old.width bitmap.old.height false }
+    ensures holds { DecodesRegion (row_coding (nominal_pixels neighbours)) bitmap.old decoder.old
+        contexts.old bitmap.new decoder.new contexts.new }
+    ensures steps { CountsRegion (nominal_pixels neighbours) true 0
+        (row_coding (nominal_pixels neighbours)) bitmap.old.width bitmap.old.height
+        decoder.old.bytes (no_pixels decoder.old.registers contexts.old) steps.old steps.new }
+{
+    let width = bitmap.width();
+    let mut windows = Windows { above: 0, top: 0 };
+    for y in 0..bitmap.height() {
+        let pixels = push_row(neighbours, width, windows, decoder, contexts, steps);
+        bitmap.store_pixels(0, y, width, pixels, steps);
+        windows = lowered(windows, width, pixels);
+    }
+}
+
+/// The same of the template that the constants say.
+#[inline(never)]
+fn decode_constant_rows<
+    A: Allocator,
+    L: Ledger,
+    const LEFT: u32,
+    const ABOVE_REACH: u32,
+    const ABOVE_COUNT: u32,
+    const TOP_REACH: u32,
+    const TOP_COUNT: u32,
+>(
+    neighbours: Neighbours,
+    bitmap: &mut Bitmap<A>,
+    decoder: &mut ArithmeticDecoder<'_>,
+    contexts: &mut [ArithmeticDecoderContext],
+    steps: &mut Steps<L>,
+)
+    requires same { neighbours ≡ neighbours_of LEFT ABOVE_REACH ABOVE_COUNT TOP_REACH TOP_COUNT }
+    requires near { IsNear neighbours }
+    requires contexts { length contexts.old ≡ 2 ^ neighbour_count neighbours }
+    requires some { 1 ≤ bitmap.old.width }
+    requires few { bitmap.old.width ≤ 48 }
+    requires white { bitmap.old ≡ blank bitmap.old.width bitmap.old.height false }
+    ensures holds { DecodesRegion (row_coding (nominal_pixels neighbours)) bitmap.old decoder.old
+        contexts.old bitmap.new decoder.new contexts.new }
+    ensures steps { CountsRegion (nominal_pixels neighbours) true 0
+        (row_coding (nominal_pixels neighbours)) bitmap.old.width bitmap.old.height
+        decoder.old.bytes (no_pixels decoder.old.registers contexts.old) steps.old steps.new }
+{
+    let constant = neighbours_of(LEFT, ABOVE_REACH, ABOVE_COUNT, TOP_REACH, TOP_COUNT);
+    decode_rows(constant, bitmap, decoder, contexts, steps);
+}
+
+/// A whole region of 1 to 48 columns, into a white bitmap of its size.
+pub fn decode_narrow<A: Allocator, L: Ledger>(
+    neighbours: Neighbours,
+    bitmap: &mut Bitmap<A>,
+    decoder: &mut ArithmeticDecoder<'_>,
+    contexts: &mut [ArithmeticDecoderContext],
+    steps: &mut Steps<L>,
+)
+    requires near { IsNear neighbours }
+    requires contexts { length contexts.old ≡ 2 ^ neighbour_count neighbours }
+    requires some { 1 ≤ bitmap.old.width }
+    requires few { bitmap.old.width ≤ 48 }
+    requires white { bitmap.old ≡ blank bitmap.old.width bitmap.old.height false }
+    ensures holds { DecodesRegion (row_coding (nominal_pixels neighbours)) bitmap.old decoder.old
+        contexts.old bitmap.new decoder.new contexts.new }
+    ensures steps { CountsRegion (nominal_pixels neighbours) true 0
+        (row_coding (nominal_pixels neighbours)) bitmap.old.width bitmap.old.height
+        decoder.old.bytes (no_pixels decoder.old.registers contexts.old) steps.old steps.new }
+{
+    if neighbours == neighbours_of(4, 3, 7, 2, 5) {
+        decode_constant_rows::<A, L, 4, 3, 7, 2, 5>(neighbours, bitmap, decoder, contexts, steps);
+        return;
+    }
+    if neighbours == neighbours_of(3, 3, 6, 2, 4) {
+        decode_constant_rows::<A, L, 3, 3, 6, 2, 4>(neighbours, bitmap, decoder, contexts, steps);
+        return;
+    }
+    if neighbours == neighbours_of(2, 2, 5, 1, 3) {
+        decode_constant_rows::<A, L, 2, 2, 5, 1, 3>(neighbours, bitmap, decoder, contexts, steps);
+        return;
+    }
+    if neighbours == neighbours_of(4, 2, 6, 0, 0) {
+        decode_constant_rows::<A, L, 4, 2, 6, 0, 0>(neighbours, bitmap, decoder, contexts, steps);
+        return;
+    }
+    decode_rows(neighbours, bitmap, decoder, contexts, steps);
+}

@@ -1,0 +1,281 @@
+//! The cases of the rows, and how each is run.
+use crate::call::Call;
+use crate::coder::{CoderCase, coder_holds};
+use crate::combination::stays_white;
+use crate::drawing::{drawing_holds, page_holds, white_holds};
+use crate::file_case::{FileCase, file_holds};
+use crate::mmr::{MmrCase, mmr_holds};
+use crate::patterns::wide_patterns_hold;
+use crate::spelling::spelled;
+use crate::table::{TableCase, table_holds};
+use hayro_jbig2::parts::reader::Reader;
+use hayro_jbig2::parts::segment::{SegmentType, parse_segment_header};
+use hayro_jbig2::{DecodeError, DecodeSettings, DecoderContext, Globals, Page, Result};
+use std::alloc::Global;
+use std::marker::Brand;
+use std::sync::ledger::Blank;
+
+/// A row of the table: its name, and all that has to hold.
+pub struct Row {
+    pub name: &'static str,
+    pub cases: &'static [Case],
+}
+
+/// The modes that a case is run in.
+#[derive(Clone, Copy, Debug, PartialEq, Eq)]
+pub enum Modes {
+    Strict,
+    Lenient,
+    Both,
+}
+
+/// What comes of a page.
+pub enum Answer {
+    /// It is drawn by exactly these calls.
+    Calls(&'static [Call]),
+    /// Its constructor answers this error.
+    Refused(DecodeError),
+    /// Decoding answers this error and makes no call.
+    Undrawn(DecodeError),
+}
+
+/// The fields of a segment header.
+pub struct Header {
+    pub segment_number: u32,
+    pub segment_type: SegmentType,
+    pub retain_flag: bool,
+    pub referred_to_segments: &'static [u32],
+    pub page_association: u32,
+    pub data_length: Option<u32>,
+}
+
+/// One thing that has to hold. Bytes are spelled as `spelling::spelled` reads them.
+pub enum Case {
+    /// What comes of an embedded page in these modes.
+    Page(Modes, &'static str, Answer),
+    /// What comes in these modes of each beginning of an embedded page that has from the first to the
+    /// second number of bytes.
+    Beginnings(Modes, &'static str, (usize, usize), Answer),
+    /// What comes of drawing an embedded page with globals, in both modes.
+    Shared {
+        globals: &'static str,
+        bytes: &'static str,
+        answer: Answer,
+    },
+    /// The number, the width and the height of an embedded page.
+    Size {
+        bytes: &'static str,
+        number: u32,
+        width: u32,
+        height: u32,
+    },
+    /// The fields that `parse_segment_header` reads strictly.
+    Header {
+        bytes: &'static str,
+        header: Header,
+    },
+    /// A white bitmap of 8 by 8 that a black one, combined by Or at this place, leaves white.
+    StaysWhite(i32, i32),
+    /// The arithmetic coder.
+    Coder(CoderCase),
+    /// Tables of prefix codes.
+    Table(TableCase),
+    /// MMR data.
+    Mmr(MmrCase),
+    /// Files.
+    File(FileCase),
+    /// Two patterns of 200 by 1, written by the arithmetic encoder, are decoded.
+    WidePatterns,
+}
+
+impl Modes {
+    pub fn has(self, strict: bool) -> bool {
+        match self {
+            Modes::Strict => strict,
+            Modes::Lenient => !strict,
+            Modes::Both => true,
+        }
+    }
+}
+
+/// Whether every case of a row holds, and row 5's page is drawn in the same context behind each. Answers
+/// `DecodeError::OutOfMemory` alone.
+pub fn row_holds(alloc: Global, row: &Row, context: &mut DecoderContext<Global>) -> Result<bool> {
+    for case in row.cases {
+        let holds = case_holds(alloc, case, context)?;
+        if !holds || !white_holds(alloc, context)? {
+            return Ok(false);
+        }
+    }
+    Ok(true)
+}
+
+/// Whether a row holds. Behind a request for memory that was refused, row 5's page has to be drawn in the same
+/// context, and then the row has to hold.
+pub fn row_serves_on(
+    alloc: Global,
+    row: &Row,
+    context: &mut DecoderContext<Global>,
+) -> Result<bool> {
+    match row_holds(alloc, row, context) {
+        Err(DecodeError::OutOfMemory) => {
+            let white = white_holds(alloc, context)?;
+            Ok(white && row_holds(alloc, row, context)?)
+        }
+        answer => answer,
+    }
+}
+
+fn case_holds(alloc: Global, case: &Case, context: &mut DecoderContext<Global>) -> Result<bool> {
+    match case {
+        Case::Page(modes, bytes, answer) => answer_holds(alloc, *modes, bytes, answer, context),
+        Case::Beginnings(modes, bytes, lengths, answer) => {
+            beginnings_hold(alloc, *modes, bytes, *lengths, answer, context)
+        }
+        Case::Shared {
+            globals,
+            bytes,
+            answer,
+        } => shared_holds(alloc, globals, bytes, answer, context),
+        Case::Size {
+            bytes,
+            number,
+            width,
+            height,
+        } => size_holds(alloc, bytes, *number, *width, *height),
+        Case::Header { bytes, header } => header_holds(alloc, bytes, header),
+        Case::Coder(case) => coder_holds(alloc, case),
+        Case::Table(case) => table_holds(alloc, case),
+        Case::Mmr(case) => mmr_holds(alloc, case),
+        Case::File(case) => file_holds(alloc, case, context),
+        Case::StaysWhite(x, y) => stays_white(alloc, *x, *y),
+        Case::WidePatterns => wide_patterns_hold::<Brand>(alloc, Blank::new(6)),
+    }
+}
+
+/// Whether the embedded page that a text spells has this answer in these modes.
+fn answer_holds(
+    alloc: Global,
+    modes: Modes,
+    bytes: &str,
+    answer: &Answer,
+    context: &mut DecoderContext<Global>,
+) -> Result<bool> {
+    let Some(bytes) = spelled(alloc, bytes)? else {
+        return Ok(false);
+    };
+    modes_hold(alloc, modes, &bytes, answer, context)
+}
+
+fn modes_hold(
+    alloc: Global,
+    modes: Modes,
+    bytes: &[u8],
+    answer: &Answer,
+    context: &mut DecoderContext<Global>,
+) -> Result<bool> {
+    for strict in [true, false] {
+        if modes.has(strict) && !page_holds(alloc, bytes, strict, answer, context)? {
+            return Ok(false);
+        }
+    }
+    Ok(true)
+}
+
+/// Whether each beginning of these lengths, the last one included, has this answer in these modes.
+fn beginnings_hold(
+    alloc: Global,
+    modes: Modes,
+    bytes: &str,
+    lengths: (usize, usize),
+    answer: &Answer,
+    context: &mut DecoderContext<Global>,
+) -> Result<bool> {
+    let Some(bytes) = spelled(alloc, bytes)? else {
+        return Ok(false);
+    };
+    for length in lengths.0..=lengths.1 {
+        let Some(beginning) = bytes.get(..length) else {
+            return Ok(false);
+        };
+        if !modes_hold(alloc, modes, beginning, answer, context)? {
+            return Ok(false);
+        }
+    }
+    Ok(true)
+}
+
+/// Whether drawing the embedded page that a text spells has this answer with these globals.
+fn shared_holds(
+    alloc: Global,
+    globals: &str,
+    bytes: &str,
+    answer: &Answer,
+    context: &mut DecoderContext<Global>,
+) -> Result<bool> {
+    let globals = spelled(alloc, globals)?;
+    let bytes = spelled(alloc, bytes)?;
+    let (Some(globals), Some(bytes)) = (globals, bytes) else {
+        return Ok(false);
+    };
+    for strict in [true, false] {
+        let settings = DecodeSettings { strict };
+        let globals = match Globals::new(alloc, &globals, &settings) {
+            Ok(globals) => globals,
+            Err(error) => return refused_as(error, None),
+        };
+        let page = match Page::new_embedded(alloc, &bytes, Some(&globals), &settings) {
+            Ok(page) => page,
+            Err(error) => return refused_as(error, None),
+        };
+        if !drawing_holds(&page, answer, context)? {
+            return Ok(false);
+        }
+    }
+    Ok(true)
+}
+
+/// Whether the embedded page that a text spells has this number and size.
+fn size_holds(alloc: Global, bytes: &str, number: u32, width: u32, height: u32) -> Result<bool> {
+    let Some(bytes) = spelled(alloc, bytes)? else {
+        return Ok(false);
+    };
+    let page = match Page::new_embedded(alloc, &bytes, None, &DecodeSettings { strict: true }) {
+        Ok(page) => page,
+        Err(error) => return refused_as(error, None),
+    };
+    let sized = page.width() == width && page.height() == height;
+    Ok(sized && page.number() == number && page.dimensions() == (width, height))
+}
+
+/// Whether this error was expected. Want of memory is passed on.
+pub fn refused_as(error: DecodeError, expected: Option<&DecodeError>) -> Result<bool> {
+    if expected == Some(&error) {
+        return Ok(true);
+    }
+    if error == DecodeError::OutOfMemory {
+        return Err(error);
+    }
+    Ok(false)
+}
+
+/// Whether the segment header that a text spells has these fields.
+fn header_holds(alloc: Global, bytes: &str, expected: &Header) -> Result<bool> {
+    let Some(bytes) = spelled(alloc, bytes)? else {
+        return Ok(false);
+    };
+    let mut reader = Reader::new(&bytes);
+    let header = match parse_segment_header(alloc, &mut reader, true) {
+        Ok(header) => header,
+        Err(error) => return refused_as(error, None),
+    };
+    Ok(
+        header.segment_number == expected.segment_number
+            && header.segment_type == expected.segment_type
+            && header.retain_flag == expected.retain_flag
+            && header.referred_to_segments.as_slice() == expected.referred_to_segments
+            && header.page_association == expected.page_association
+            && header.data_length == expected.data_length
+            && reader.at_end(),
+    )
+}

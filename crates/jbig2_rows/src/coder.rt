@@ -1,0 +1,163 @@
+//! The cases of the arithmetic coder.
+ghost use Rattle.std.specs.Prelude.{◌≡◌};
+
+use crate::spelling::spelled;
+use hayro_jbig2::Result;
+use hayro_jbig2::parts::arithmetic_decoder::{ArithmeticDecoder, ArithmeticDecoderContext};
+use hayro_jbig2::parts::bitmap::steps::Steps;
+use hayro_jbig2::parts::mq::{decode_list, encode_list};
+use std::alloc::Global;
+use std::marker::Brand;
+use std::sync::ledger::{Blank, Ledger};
+
+/// One reading of the arithmetic decoder, and what has to come of it.
+#[derive(Clone, Copy)]
+pub enum Reading {
+    /// `decode` gives this.
+    Decision(u32),
+    /// `decode` gives these bits, eight to a byte, the first in the highest.
+    Decisions(&'static [u8]),
+    /// `decode_mps_run` of this count gives this.
+    Run(u32, bool),
+}
+
+/// One thing that has to hold of the arithmetic coder.
+pub enum CoderCase {
+    /// The decoder at the start of these bytes gives these readings, all in one context that was fresh.
+    Readings {
+        bytes: &'static str,
+        readings: &'static [Reading],
+    },
+    /// `encode_list` of a list gives these bytes.
+    Encoded {
+        list: &'static [(u16, bool)],
+        bytes: &'static str,
+    },
+    /// `decode_list` of these bytes, asked in the contexts of a list, gives its decisions.
+    Decoded {
+        bytes: &'static str,
+        list: &'static [(u16, bool)],
+    },
+    /// `encode_list` of these bits in context 0, eight to a byte, gives these bytes, and `decode_list` reads them back.
+    ReadBack {
+        decisions: &'static [u8],
+        bytes: &'static str,
+    },
+}
+
+/// Whether a case holds. Answers `DecodeError::OutOfMemory` alone.
+pub fn coder_holds(alloc: Global, case: &CoderCase) -> Result<bool> {
+    match case {
+        CoderCase::Readings { bytes, readings } => {
+            let Some(bytes) = spelled(alloc, bytes)? else {
+                return Ok(false);
+            };
+            Ok(readings_hold::<Brand>(Blank::new(6), &bytes, readings))
+        }
+        CoderCase::Encoded { list, bytes } => is_encoded_as(alloc, list, bytes),
+        CoderCase::Decoded { bytes, list } => {
+            let Some(bytes) = spelled(alloc, bytes)? else {
+                return Ok(false);
+            };
+            list_is_read::<Brand>(alloc, Blank::new(6), &bytes, list)
+        }
+        CoderCase::ReadBack { decisions, bytes } => {
+            let list = list_of(alloc, decisions)?;
+            Ok(is_encoded_as(alloc, &list, bytes)? && is_read_back(alloc, &list)?)
+        }
+    }
+}
+
+/// These bits, eight to a byte, in context 0.
+fn list_of(alloc: Global, decisions: &[u8]) -> Result<Vec<(u16, bool)>> {
+    let mut list = Vec::new(alloc);
+    for byte in decisions {
+        for place in 0..8u8 {
+            list.push((0, (byte << place) >= 0x80))?;
+        }
+    }
+    Ok(list)
+}
+
+/// Whether `encode_list` of a list gives the bytes that a text spells.
+fn is_encoded_as(alloc: Global, list: &[(u16, bool)], bytes: &str) -> Result<bool> {
+    let Some(bytes) = spelled(alloc, bytes)? else {
+        return Ok(false);
+    };
+    let encoded = encode_list(alloc, list)?;
+    Ok(encoded.as_slice() == bytes.as_slice())
+}
+
+/// Whether `decode_list` reads a list back from what `encode_list` makes of it. Answers
+/// `DecodeError::OutOfMemory` alone.
+pub fn is_read_back(alloc: Global, list: &[(u16, bool)]) -> Result<bool> {
+    let bytes = encode_list(alloc, list)?;
+    list_is_read::<Brand>(alloc, Blank::new(6), &bytes, list)
+}
+
+fn readings_hold<L: Ledger>(blank: Blank, bytes: &[u8], readings: &[Reading]) -> bool
+    requires name { blank.name ≡ L.name }
+    requires parts { blank.parts ≡ L.parts }
+    requires enough { blank.parts ≡ 6 }
+{
+    let mut steps = Steps::<L>::new(blank);
+    let mut decoder = ArithmeticDecoder::new(bytes);
+    let mut context = ArithmeticDecoderContext::default();
+    for reading in readings {
+        if !reading_holds(&mut decoder, &mut context, reading, &mut steps) {
+            return false;
+        }
+    }
+    true
+}
+
+fn reading_holds<L: Ledger>(
+    decoder: &mut ArithmeticDecoder<'_>,
+    context: &mut ArithmeticDecoderContext,
+    reading: &Reading,
+    steps: &mut Steps<L>,
+) -> bool {
+    match reading {
+        Reading::Decision(decision) => decoder.decode(context, steps) == *decision,
+        Reading::Decisions(bytes) => {
+            for byte in *bytes {
+                for place in 0..8u8 {
+                    let decision = u32::from((byte << place) >= 0x80);
+                    if decoder.decode(context, steps) != decision {
+                        return false;
+                    }
+                }
+            }
+            true
+        }
+        Reading::Run(count, answer) => {
+            let count = *count;
+            if count == 0 || count > 65535 {
+                return false;
+            }
+            decoder.decode_mps_run(context, count, steps) == *answer
+        }
+    }
+}
+
+/// Whether `decode_list` reads the decisions of a list in its contexts.
+fn list_is_read<L: Ledger>(
+    alloc: Global,
+    blank: Blank,
+    bytes: &[u8],
+    list: &[(u16, bool)],
+) -> Result<bool>
+    requires name { blank.name ≡ L.name }
+    requires parts { blank.parts ≡ L.parts }
+    requires enough { blank.parts ≡ 6 }
+{
+    let mut steps = Steps::<L>::new(blank);
+    let mut contexts = Vec::new(alloc);
+    let mut decisions = Vec::new(alloc);
+    for (number, decision) in list {
+        contexts.push(*number)?;
+        decisions.push(*decision)?;
+    }
+    let read = decode_list(alloc, bytes, &contexts, &mut steps)?;
+    Ok(read.as_slice() == decisions.as_slice())
+}

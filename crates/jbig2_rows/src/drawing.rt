@@ -1,0 +1,102 @@
+//! What comes of drawing a page.
+use crate::call::{Call, WHITE};
+use crate::case::{Answer, refused_as};
+use crate::spelling::spelled;
+use crate::watcher::Watcher;
+use hayro_jbig2::{
+    DecodeError, DecodeSettings, DecoderContext, HuffmanError, Page, ParseError, RegionError,
+    Result,
+};
+use std::alloc::Global;
+
+/// Row 5's page.
+const WHITE_PAGE: Answer = Answer::Calls(WHITE);
+
+/// Whether row 5's page is drawn white in this context. Answers `DecodeError::OutOfMemory` alone.
+pub fn white_holds(alloc: Global, context: &mut DecoderContext<Global>) -> Result<bool> {
+    let Some(bytes) = spelled(alloc, "P")? else {
+        return Ok(false);
+    };
+    page_holds(alloc, &bytes, true, &WHITE_PAGE, context)
+}
+
+/// Whether an embedded page has this answer. Answers `DecodeError::OutOfMemory` alone, and only where no
+/// call was made.
+pub fn page_holds(
+    alloc: Global,
+    bytes: &[u8],
+    strict: bool,
+    answer: &Answer,
+    context: &mut DecoderContext<Global>,
+) -> Result<bool> {
+    let page = match Page::new_embedded(alloc, bytes, None, &DecodeSettings { strict }) {
+        Ok(page) => page,
+        Err(error) => return refused_as(
+            error,
+            match answer {
+                Answer::Refused(expected) => Some(expected),
+                _ => None,
+            },
+        ),
+    };
+    drawing_holds(&page, answer, context)
+}
+
+/// Whether decoding a page has this answer, and each of its calls may be refused. Answers
+/// `DecodeError::OutOfMemory` alone, and only where no call was made.
+pub fn drawing_holds(
+    page: &Page<'_, Global>,
+    answer: &Answer,
+    context: &mut DecoderContext<Global>,
+) -> Result<bool> {
+    let calls = match answer {
+        Answer::Calls(calls) => *calls,
+        _ => &[],
+    };
+    let mut watcher = Watcher::new(calls);
+    match page.decode_with(&mut watcher, context) {
+        Ok(()) => {
+            let drawn = matches!(answer, Answer::Calls(_)) && watcher.is_satisfied();
+            Ok(drawn && refusals_hold(page, calls, context)?)
+        }
+        Err(_) if watcher.has_taken() => Ok(false),
+        Err(error) => refused_as(
+            error,
+            match answer {
+                Answer::Undrawn(expected) => Some(expected),
+                _ => None,
+            },
+        ),
+    }
+}
+
+/// The error that a call is refused with: another for each of four calls.
+fn refusal_of(call: usize) -> DecodeError {
+    match call % 4 {
+        0 => DecodeError::Unsupported,
+        1 => DecodeError::Parse(ParseError::UnexpectedEof),
+        2 => DecodeError::Huffman(HuffmanError::InvalidCode),
+        _ => DecodeError::Region(RegionError::InvalidDimension),
+    }
+}
+
+/// Whether a Decoder that refuses a call, whichever it is, has taken those before it and is asked no more, and its
+/// own error is answered.
+fn refusals_hold(
+    page: &Page<'_, Global>,
+    calls: &[Call],
+    context: &mut DecoderContext<Global>,
+) -> Result<bool> {
+    for taken in 0..calls.len() {
+        let mut watcher = Watcher::with_patience(&calls[..taken], taken, refusal_of(taken));
+        let decoded = page.decode_with(&mut watcher, context);
+        if decoded == Err(DecodeError::OutOfMemory) && !watcher.has_taken() {
+            return Err(DecodeError::OutOfMemory);
+        }
+        let refused_once = decoded == Err(refusal_of(taken)) && watcher.refusals() == 1;
+        if !refused_once || !watcher.is_satisfied() {
+            return Ok(false);
+        }
+    }
+    Ok(true)
+}

@@ -1,0 +1,125 @@
+//! The cases of files, of globals, and of decoders over a reader.
+use crate::case::{Answer, Modes, refused_as};
+use crate::drawing::drawing_holds;
+use crate::spelling::spelled;
+use hayro_jbig2::{
+    DecodeError, DecodeSettings, DecoderContext, File, Globals, Jbig2Decoder, Jbig2Error,
+    ParseError, Result,
+};
+use std::alloc::Global;
+use std::io::Cursor;
+
+/// What a page of a file is.
+pub struct FilePage {
+    pub number: u32,
+    pub dimensions: (u32, u32),
+    pub answer: Answer,
+}
+
+/// One thing that has to hold of a file. Bytes are spelled as `spelling::spelled` reads them.
+pub enum FileCase {
+    /// `File::new` answers this error.
+    Refused(Modes, &'static str, DecodeError),
+    /// The pages of a file.
+    Pages(Modes, &'static str, &'static [FilePage]),
+    /// Each beginning of a file, but for the one of this length, ends too early.
+    CutOff { bytes: &'static str, but: usize },
+    /// `Globals::new` answers this error.
+    NoGlobals(&'static str, DecodeError),
+    /// `Jbig2Decoder::new` answers this error.
+    NoFirstPage(&'static str, DecodeError),
+}
+
+impl FileCase {
+    fn bytes(&self) -> &'static str {
+        match self {
+            FileCase::Refused(_, bytes, _)
+            | FileCase::Pages(_, bytes, _)
+            | FileCase::CutOff { bytes, but: _ }
+            | FileCase::NoGlobals(bytes, _)
+            | FileCase::NoFirstPage(bytes, _) => bytes,
+        }
+    }
+}
+
+/// Whether a case holds. Answers `DecodeError::OutOfMemory` alone.
+pub fn file_holds(
+    alloc: Global,
+    case: &FileCase,
+    context: &mut DecoderContext<Global>,
+) -> Result<bool> {
+    let Some(bytes) = spelled(alloc, case.bytes())? else {
+        return Ok(false);
+    };
+    match case {
+        FileCase::Refused(modes, _, error) => {
+            let strict = !modes.has(true) || refusal_holds(alloc, &bytes, true, error)?;
+            let lenient = !modes.has(false) || refusal_holds(alloc, &bytes, false, error)?;
+            Ok(strict && lenient)
+        }
+        FileCase::Pages(modes, _, pages) => {
+            let strict = !modes.has(true) || pages_hold(alloc, &bytes, true, pages, context)?;
+            let lenient = !modes.has(false) || pages_hold(alloc, &bytes, false, pages, context)?;
+            Ok(strict && lenient)
+        }
+        FileCase::CutOff { bytes: _, but } => {
+            let strict = cuts_hold(alloc, &bytes, true, *but)?;
+            Ok(strict && cuts_hold(alloc, &bytes, false, *but)?)
+        }
+        FileCase::NoGlobals(_, error) => {
+            let strict = no_globals_hold(alloc, &bytes, true, error)?;
+            Ok(strict && no_globals_hold(alloc, &bytes, false, error)?)
+        }
+        FileCase::NoFirstPage(_, error) => match Jbig2Decoder::new(alloc, Cursor::new(bytes)) {
+            Ok(_) | Err(Jbig2Error::Io(_)) => Ok(false),
+            Err(Jbig2Error::Decode(refusal)) => refused_as(refusal, Some(error)),
+        },
+    }
+}
+
+fn refusal_holds(alloc: Global, bytes: &[u8], strict: bool, error: &DecodeError) -> Result<bool> {
+    match File::new(alloc, bytes, &DecodeSettings { strict }) {
+        Ok(_) => Ok(false),
+        Err(refusal) => refused_as(refusal, Some(error)),
+    }
+}
+
+fn no_globals_hold(alloc: Global, bytes: &[u8], strict: bool, error: &DecodeError) -> Result<bool> {
+    match Globals::new(alloc, bytes, &DecodeSettings { strict }) {
+        Ok(_) => Ok(false),
+        Err(refusal) => refused_as(refusal, Some(error)),
+    }
+}
+
+fn cuts_hold(alloc: Global, bytes: &[u8], strict: bool, but: usize) -> Result<bool> {
+    let early = DecodeError::Parse(ParseError::UnexpectedEof);
+    for length in 0..bytes.len() {
+        if length != but && !refusal_holds(alloc, &bytes[..length], strict, &early)? {
+            return Ok(false);
+        }
+    }
+    Ok(true)
+}
+
+fn pages_hold(
+    alloc: Global,
+    bytes: &[u8],
+    strict: bool,
+    expected: &[FilePage],
+    context: &mut DecoderContext<Global>,
+) -> Result<bool> {
+    let file = match File::new(alloc, bytes, &DecodeSettings { strict }) {
+        Ok(file) => file,
+        Err(error) => return refused_as(error, None),
+    };
+    if file.page_count() != expected.len() || file.page(expected.len()).is_some() {
+        return Ok(false);
+    }
+    for (page, expected) in file.pages().zip(expected) {
+        let known = page.number() == expected.number && page.dimensions() == expected.dimensions;
+        if !known || !drawing_holds(&page, &expected.answer, context)? {
+            return Ok(false);
+        }
+    }
+    Ok(true)
+}

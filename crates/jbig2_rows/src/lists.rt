@@ -1,0 +1,21 @@
+//! Lists that are encoded and read back.
+use crate::coder::is_read_back;
+use crate::generator::Generator;
+use hayro_jbig2::Result;
+use std::alloc::Global;
+
+/// The last list; list N has N entries.
+const LISTS: usize = 1000;
+
+/// The first list, of those up to `LISTS`, that is not read back from what the encoder makes of it. Answers
+/// `DecodeError::OutOfMemory` alone.
+pub fn first_that_differs(alloc: Global) -> Result<Option<usize>> {
+    let mut generator = Generator::new();
+    for count in 1..=LISTS {
+        let list = generator.list(alloc, count)?;
+        if !is_read_back(alloc, &list)? {
+            return Ok(Some(count));
+        }
+    }
+    Ok(None)
+}

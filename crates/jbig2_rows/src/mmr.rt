@@ -1,0 +1,82 @@
+//! The cases of MMR data.
+ghost use Rattle.std.specs.Prelude.{◌≡◌};
+
+use crate::case::{Modes, refused_as};
+use crate::spelling::spelled;
+use hayro_jbig2::Result;
+use hayro_jbig2::parts::bitmap::Bitmap;
+use hayro_jbig2::parts::bitmap::steps::Steps;
+use hayro_jbig2::parts::mmr::decode;
+use std::alloc::Global;
+use std::marker::Brand;
+use std::sync::ledger::{Blank, Ledger};
+
+/// What `mmr::decode` has to make of bytes in these modes.
+pub struct MmrCase {
+    pub modes: Modes,
+    /// At most 8.
+    pub width: u32,
+    pub height: u32,
+    pub bytes: &'static str,
+    pub answer: Result<Decoded>,
+}
+
+/// What comes of MMR data.
+#[derive(Clone, Copy)]
+pub struct Decoded {
+    /// How many bytes are used.
+    pub used: usize,
+    /// The rows, each as the eight bits of its pixels, the first in the highest, 1 for black.
+    pub rows: &'static [u8],
+}
+
+/// Whether a case holds. Answers `DecodeError::OutOfMemory` alone.
+pub fn mmr_holds(alloc: Global, case: &MmrCase) -> Result<bool> {
+    let Some(bytes) = spelled(alloc, case.bytes)? else {
+        return Ok(false);
+    };
+    for strict in [true, false] {
+        if case.modes.has(strict) {
+            if !data_holds::<Brand>(alloc, Blank::new(6), case, &bytes, strict)? {
+                return Ok(false);
+            }
+        }
+    }
+    Ok(true)
+}
+
+/// Whether the bytes of a case have its answer in one mode.
+fn data_holds<L: Ledger>(
+    alloc: Global,
+    blank: Blank,
+    case: &MmrCase,
+    bytes: &[u8],
+    strict: bool,
+) -> Result<bool>
+    requires name { blank.name ≡ L.name }
+    requires parts { blank.parts ≡ L.parts }
+    requires enough { blank.parts ≡ 6 }
+{
+    let mut steps = Steps::<L>::new(blank);
+    let mut bitmap = match Bitmap::new(alloc, case.width, case.height) {
+        Ok(bitmap) => bitmap,
+        Err(error) => return refused_as(error, None),
+    };
+    let used = match decode(&mut bitmap, bytes, strict, &mut steps) {
+        Ok(used) => used,
+        Err(error) => return refused_as(error, case.answer.as_ref().err()),
+    };
+    let Ok(expected) = &case.answer else {
+        return Ok(false);
+    };
+    Ok(used == expected.used && rows_are(&bitmap, expected.rows, &mut steps))
+}
+
+/// Whether a bitmap of at most eight columns has these rows and no others.
+fn rows_are<L: Ledger>(bitmap: &Bitmap<Global>, rows: &[u8], steps: &mut Steps<L>) -> bool {
+    if bitmap.width() > 8 || rows.len() != bitmap.height() as usize {
+        return false;
+    }
+    (0..bitmap.height()).zip(rows).all(|(y, row)| bitmap.load_pixels(0, y, 8, steps)
+        == u64::from(*row))
+}

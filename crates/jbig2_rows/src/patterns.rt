@@ -1,0 +1,57 @@
+//! Patterns wider than 128 pixels, whose first adaptive pixel lies one pattern to the left.
+ghost use Rattle.std.specs.Prelude.{◌≡◌};
+
+use hayro_jbig2::Result;
+use hayro_jbig2::parts::bitmap::steps::Steps;
+use hayro_jbig2::parts::mq::encode_list;
+use hayro_jbig2::parts::pattern::{PatternDictionaryHeader, decode};
+use hayro_jbig2::parts::template::Template;
+use std::alloc::Global;
+use std::sync::ledger::{Blank, Ledger};
+
+/// The context of column `x` of two patterns of 200 by 1 side by side, each black in its first
+/// column alone (template 0; T.88, Table 27).
+fn context_of(x: u32) -> u16 {
+    match x {
+        1 | 201 => 0x01,
+        2 | 202 => 0x02,
+        3 | 203 => 0x04,
+        4 | 204 => 0x08,
+        200 => 0x10,
+        _ => 0,
+    }
+}
+
+/// Whether two such patterns, as the encoder writes them, are decoded. Answers
+/// `DecodeError::OutOfMemory` alone.
+pub fn wide_patterns_hold<L: Ledger>(alloc: Global, blank: Blank) -> Result<bool>
+    requires name { blank.name ≡ L.name }
+    requires parts { blank.parts ≡ L.parts }
+    requires enough { blank.parts ≡ 6 }
+{
+    let mut list = Vec::new(alloc);
+    for x in 0..400 {
+        list.push((context_of(x), x % 200 == 0))?;
+    }
+    let bytes = encode_list(alloc, &list)?;
+    let header = PatternDictionaryHeader {
+        mmr: false,
+        template: Template::Template0,
+        pattern_width: 200,
+        pattern_height: 1,
+        num_patterns: 1,
+        bytes: &bytes,
+        strict: true,
+    };
+    let mut steps = Steps::<L>::new(blank);
+    let mut contexts = Vec::new(alloc);
+    let dictionary = decode(alloc, &header, &mut contexts, &mut steps)?;
+    for pattern in &dictionary.patterns {
+        for x in 0..200 {
+            if (pattern.get_pixel(x, 0, &mut steps) == 1) != (x == 0) {
+                return Ok(false);
+            }
+        }
+    }
+    Ok(dictionary.patterns.len() == 2 && dictionary.pattern_width == 200)
+}

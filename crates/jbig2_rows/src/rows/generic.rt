@@ -1,0 +1,79 @@
+//! The rows R3: generic regions.
+use crate::call::{BLACK, Call, INK, PAPER, WHITE};
+use crate::case::Answer::{Calls, Refused, Undrawn};
+use crate::case::Case::Page;
+use crate::case::Modes::{Both, Lenient, Strict};
+use crate::case::Row;
+use hayro_jbig2::{DecodeError, RegionError, SegmentError};
+
+/// One row of two white pixels among black ones.
+const FAR_PIXEL: &[Call] = &[INK, INK, INK, INK, INK, PAPER, INK, PAPER, Call::Line];
+
+const UNKNOWN_LENGTH: DecodeError = DecodeError::Segment(SegmentError::InvalidUnknownLength);
+
+const ROWS: &[Row] = &[
+    Row {
+        name: "R3.1",
+        cases: &[
+            Page(
+                Both,
+                "P 00000001260001 00000014 00000008 00000001 00*9 02 03FF",
+                Calls(BLACK),
+            ),
+            Page(
+                Both,
+                "P 00000001260001 00000014 00000008 00000001 00*9 04 02FF",
+                Calls(BLACK),
+            ),
+            Page(
+                Both,
+                "P 00000001260001 00000014 00000008 00000001 00*9 06 02FF",
+                Calls(BLACK),
+            ),
+            Page(Both, "P G8@29=FB00", Calls(FAR_PIXEL)),
+            Page(
+                Both,
+                "P 00000001260001 0000002A 00000008 00000001 00*9 10 FE0000FEFEFFFFFE01FE02FFFD00FC0002FE03FFFEFEFDFF",
+                Calls(BLACK),
+            ),
+        ],
+    },
+    Row {
+        name: "R3.2",
+        cases: &[Page(Both, "P G8@28=08", Calls(WHITE))],
+    },
+    Row {
+        name: "R3.3",
+        cases: &[
+            Page(Both, "P G8@7=FFFFFFFF FFAC 00000001", Calls(BLACK)),
+            Page(
+                Strict,
+                "P G8@7=FFFFFFFF FFAC 00000002",
+                Undrawn(DecodeError::Region(RegionError::InvalidDimension)),
+            ),
+            Page(Lenient, "P G8@7=FFFFFFFF FFAC 00000002", Calls(WHITE)),
+            Page(Both, "P G8@7=FFFFFFFF FFAC 00000000", Calls(WHITE)),
+            Page(
+                Both,
+                "P G8@7=FFFFFFFF FFAC 000000",
+                Refused(DecodeError::Segment(SegmentError::MissingEndMarker)),
+            ),
+            Page(
+                Strict,
+                "P G8@4=27@7=FFFFFFFF FFAC 00000001",
+                Refused(UNKNOWN_LENGTH),
+            ),
+            Page(Lenient, "P G8@4=27@7=FFFFFFFF FFAC 00000001", Calls(BLACK)),
+            Page(
+                Strict,
+                "P G8@4=24@7=FFFFFFFF FFAC 00000001",
+                Refused(UNKNOWN_LENGTH),
+            ),
+            Page(Lenient, "P G8@4=24@7=FFFFFFFF FFAC 00000001", Calls(WHITE)),
+        ],
+    },
+];
+
+pub fn rows() -> &'static [Row] {
+    ROWS
+}

@@ -1,0 +1,117 @@
+//! The cases of the tables of prefix codes.
+use crate::case::refused_as;
+use crate::spelling::spelled;
+use hayro_jbig2::parts::huffman_table::{HuffmanTable, StandardHuffmanTables};
+use hayro_jbig2::parts::reader::Reader;
+use hayro_jbig2::{DecodeError, Result};
+use std::alloc::Global;
+
+/// How a table is made.
+#[derive(Clone, Copy)]
+pub enum Source {
+    /// `build` of no lines.
+    Nothing,
+    /// `build_uniform` of this many codes of this length.
+    Uniform(u32, u32),
+    /// `read_custom` of these bytes.
+    Custom(&'static str),
+}
+
+/// One thing that has to hold of tables. The bits of a reader are those of bytes behind the first `from`.
+pub enum TableCase {
+    /// `decode` by the standard table A.
+    StandardA {
+        bytes: &'static str,
+        from: u8,
+        answer: Result<Option<i32>>,
+    },
+    /// `decode` by a table.
+    Decoded {
+        source: Source,
+        bytes: &'static str,
+        from: u8,
+        answer: Result<Option<i32>>,
+    },
+    /// No table is made.
+    Refused {
+        source: Source,
+        error: DecodeError,
+    },
+    /// `read_custom` of these bytes leaves the reader at this many bits before their end.
+    Left {
+        bytes: &'static str,
+        bits: u8,
+    },
+}
+
+/// Whether a case holds. Answers `DecodeError::OutOfMemory` alone.
+pub fn table_holds(alloc: Global, case: &TableCase) -> Result<bool> {
+    match case {
+        TableCase::StandardA {
+            bytes,
+            from,
+            answer,
+        } => {
+            let tables = StandardHuffmanTables::new(alloc)?;
+            decode_holds(alloc, tables.table_a(), bytes, *from, answer)
+        }
+        TableCase::Decoded {
+            source,
+            bytes,
+            from,
+            answer,
+        } => match made(alloc, source) {
+            Ok(table) => decode_holds(alloc, &table, bytes, *from, answer),
+            Err(error) => refused_as(error, None),
+        },
+        TableCase::Refused { source, error } => match made(alloc, source) {
+            Ok(_) => Ok(false),
+            Err(refusal) => refused_as(refusal, Some(error)),
+        },
+        TableCase::Left { bytes, bits } => {
+            let Some(bytes) = spelled(alloc, bytes)? else {
+                return Ok(false);
+            };
+            let mut reader = Reader::new(&bytes);
+            if let Err(error) = HuffmanTable::read_custom(alloc, &mut reader) {
+                return refused_as(error, None);
+            }
+            Ok(pass_over(&mut reader, *bits) && reader.at_end())
+        }
+    }
+}
+
+fn made(alloc: Global, source: &Source) -> Result<HuffmanTable<Global>> {
+    match source {
+        Source::Nothing => HuffmanTable::build(alloc, &[]),
+        Source::Uniform(count, code_length) => {
+            let count = (*count).min(0x8000_0000);
+            HuffmanTable::build_uniform(alloc, count, (*code_length).min(255))
+        }
+        Source::Custom(bytes) => {
+            let Some(bytes) = spelled(alloc, bytes)? else {
+                return Err(DecodeError::Unsupported);
+            };
+            HuffmanTable::read_custom(alloc, &mut Reader::new(&bytes))
+        }
+    }
+}
+
+fn decode_holds(
+    alloc: Global,
+    table: &HuffmanTable<Global>,
+    bytes: &str,
+    from: u8,
+    answer: &Result<Option<i32>>,
+) -> Result<bool> {
+    let Some(bytes) = spelled(alloc, bytes)? else {
+        return Ok(false);
+    };
+    let mut reader = Reader::new(&bytes);
+    Ok(pass_over(&mut reader, from) && table.decode(&mut reader) == *answer)
+}
+
+/// Whether there are so many bits, at most 32, to be passed over.
+fn pass_over(reader: &mut Reader<'_>, count: u8) -> bool {
+    count <= 32 && reader.read_bits(count).is_some()
+}
