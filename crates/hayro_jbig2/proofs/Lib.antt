@@ -10,6 +10,7 @@ mod LeftLemmas
 mod PackedRows
 mod PageArea
 pub mod PageCauses
+mod PutLemmas
 mod RegionSizes
 pub mod Runs
 pub mod Sending

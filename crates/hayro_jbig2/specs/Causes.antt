@@ -109,17 +109,21 @@ BreaksReferred strict own shared numbers _ = ⊥
 abbrev pub ReferredHasCauses : Type 0
 ReferredHasCauses = (strict : Bool) (own shared : Names) (numbers : List ℕ) → IfErr (referred_by strict own shared numbers) (BreaksReferred strict own shared numbers)
 
+-- What a segment refers to is refused, or the steps behind it refuse.
+abbrev pub BreaksBehind : {X : Type 0} → (Referred → Result X DecodeError) → Bool → Names → Names → SegmentView → DecodeError → Type 0
+BreaksBehind behind strict own shared p e =
+    InSteps
+    (referred_by strict own shared p.header.referred_to_segments)
+    (BreaksReferred strict own shared p.header.referred_to_segments e)
+    (λ referred. IsOf (behind referred) e)
+
 -- ---- dictionaries, tables and extensions (7.4.2, 7.4.4, 7.4.13 and 7.4.14)
 -- the steps of a symbol dictionary behind what it refers to
 abbrev pub symbols_with : Bool → List ℕ → Referred → Result Symbols DecodeError
 symbols_with strict bytes referred = symbol_header_at strict bytes >>= λ header. symbols_decoded header.0 referred.symbols referred.codes referred.kept
 
 abbrev pub BreaksSymbolDictionary : Bool → Names → Names → SegmentView → DecodeError → Type 0
-BreaksSymbolDictionary strict own shared p e =
-    InSteps
-    (referred_by strict own shared p.header.referred_to_segments)
-    (BreaksReferred strict own shared p.header.referred_to_segments e)
-    (λ referred. IsOf (symbols_with strict p.bytes referred) e)
+BreaksSymbolDictionary strict own shared p e = BreaksBehind (symbols_with strict p.bytes) strict own shared p e
 
 abbrev pub SymbolDictionariesHaveCauses : Type 0
 SymbolDictionariesHaveCauses = (strict : Bool) (own shared : Names) (p : SegmentView) → IfErr (symbol_dictionary_at strict own shared p) (BreaksSymbolDictionary strict own shared p)
@@ -139,11 +143,7 @@ abbrev pub text_with : Bool → List ℕ → Referred → Result PlacedRegion De
 text_with strict bytes referred = text_header_at (length referred.symbols) strict bytes >>= λ header. text_decoded header.0 referred.symbols referred.codes
 
 abbrev pub BreaksText : Bool → Names → Names → SegmentView → DecodeError → Type 0
-BreaksText strict own shared p e =
-    InSteps
-    (referred_by strict own shared p.header.referred_to_segments)
-    (BreaksReferred strict own shared p.header.referred_to_segments e)
-    (λ referred. IsOf (text_with strict p.bytes referred) e)
+BreaksText strict own shared p e = BreaksBehind (text_with strict p.bytes) strict own shared p e
 
 abbrev pub TextsHaveCauses : Type 0
 TextsHaveCauses = (strict : Bool) (own shared : Names) (p : SegmentView) → IfErr (text_at strict own shared p) (BreaksText strict own shared p)

@@ -2,5 +2,6 @@ pub mod ByPages
 pub mod KeptViews
 pub mod PageViews
 pub mod Parsed
+pub mod Puts
 pub mod SegmentLists
 pub mod Whole

@@ -1,7 +1,8 @@
 //! A page as bytes.
-ghost use Rattle.std.specs.Prelude.{◌≡◌, ◌+◌, ◌-◌, ◌*◌, ◌<◌, ◌≤◌, ℕ, get_or, length};
+ghost use Rattle.std.specs.Prelude.{◌≡◌, ◌+◌, ◌-◌, ◌*◌, ◌<◌, ◌≤◌, length};
 ghost use Rattle.jbig2_base.specs.inner.WordBits.{bit};
 ghost use Rattle.hayro_jbig2.specs.Image.{image_of, shade};
+ghost use Rattle.hayro_jbig2.specs.inner.Puts.{Puts};
 
 use crate::calls::pixel_of;
 use jbig2_base::bitmap::Bitmap;
@@ -23,10 +24,7 @@ fn shade(black: bool) -> u8
 fn put_shades(buf: &mut [u8], place: usize, count: usize, word: u64)
     requires few { count ≤ 64 }
     requires inside { place + count ≤ length buf.old }
-    ensures sized { length buf.new ≡ length buf.old }
-    ensures before { (k : ℕ) → k < place → get_or buf.new k 0 ≡ get_or buf.old k 0 }
-    ensures shades { (i : ℕ) → i < count →
-        get_or buf.new (place + i) 0 ≡ shade (bit word (63 - i)) }
+    ensures { Puts (λ i. shade (bit word (63 - i))) place count buf.old buf.new }
 {
     for i in 0..count {
         buf[place + i] = shade(pixel_of(word, 63 - i as u32));

@@ -1,7 +1,8 @@
 //! A page as packed rows.
-ghost use Rattle.std.specs.Prelude.{◌≡◌, ◌+◌, ◌-◌, ◌*◌, ◌<◌, ◌≤◌, ℕ, get_or, length};
+ghost use Rattle.std.specs.Prelude.{◌≡◌, ◌+◌, ◌-◌, ◌*◌, ◌<◌, ◌≤◌, ℕ, length};
 ghost use Rattle.jbig2_base.specs.inner.WordBits.{bit};
 ghost use Rattle.hayro_jbig2.specs.Image.{packed_byte, packed_part, row_bytes, top_byte, word_byte};
+ghost use Rattle.hayro_jbig2.specs.inner.Puts.{Puts};
 
 use crate::image::wrapped;
 use jbig2_base::bitmap::Bitmap;
@@ -25,9 +26,7 @@ fn take_byte(word: &mut u64) -> u8
 fn put_bytes(buf: &mut [u8], place: usize, count: usize, word: u64)
     requires few { count ≤ 8 }
     requires inside { place + count ≤ length buf.old }
-    ensures sized { length buf.new ≡ length buf.old }
-    ensures before { (k : ℕ) → k < place → get_or buf.new k 0 ≡ get_or buf.old k 0 }
-    ensures bytes { (i : ℕ) → i < count → get_or buf.new (place + i) 0 ≡ word_byte (bit word) i }
+    ensures { Puts (word_byte (bit word)) place count buf.old buf.new }
 {
     let mut rest = word;
     for i in 0..count {
@@ -52,10 +51,7 @@ fn put_rest<A: Allocator, L: Ledger>(
     requires inside { place + most ≤ length buf.old }
     ensures some { 1 ≤ result }
     ensures most { result ≤ most }
-    ensures sized { length buf.new ≡ length buf.old }
-    ensures before { (k : ℕ) → k < place → get_or buf.new k 0 ≡ get_or buf.old k 0 }
-    ensures bytes { (i : ℕ) → i < result →
-        get_or buf.new (place + i) 0 ≡ packed_byte bitmap.now (column + i) y }
+    ensures puts { Puts (λ i. packed_byte bitmap.now (column + i) y) place result buf.old buf.new }
 {
     let word = bitmap.load_pixels(8 * column as u32, y, 64, steps);
     let count = most.min(8 - column % 8);
@@ -77,10 +73,7 @@ fn put_words<A: Allocator, L: Ledger>(
 ) -> usize
     requires inside { place + most ≤ length buf.old }
     ensures most { result ≤ most }
-    ensures sized { length buf.new ≡ length buf.old }
-    ensures before { (k : ℕ) → k < place → get_or buf.new k 0 ≡ get_or buf.old k 0 }
-    ensures bytes { (i : ℕ) → i < result →
-        get_or buf.new (place + i) 0 ≡ packed_byte bitmap.now (column + i) y }
+    ensures puts { Puts (λ i. packed_byte bitmap.now (column + i) y) place result buf.old buf.new }
 {
     if column % 8 != 0 || y >= bitmap.height() {
         return 0;

@@ -1,25 +1,16 @@
-use Rattle.std.proofs.Common.{◌≡◌, ◌+◌, ◌-◌, ◌<◌, ◌≤◌, ℕ, ◌∙◌, ap, sym, ⊎_elim, get_or, set, arith}
-use Rattle.std.proofs.lemmas.Bool.{cases_lt}
-use Rattle.std.proofs.lemmas.List.{get_or-set_same, get_or-set_other}
+use Rattle.std.proofs.Common.{◌≡◌, ◌-◌, ℕ, ◌∙◌, ap, refl, arith}
 use Rattle.jbig2_base.specs.inner.WordBits.{bit}
 use Rattle.hayro_jbig2.specs.Image.{shade}
+use Rattle.hayro_jbig2.proofs.PutLemmas.{puts-none, puts-next, puts-all}
 use Rattle.hayro_jbig2.proofs.image.put_shades.Goals as goal
+
+pub loop-i-init : goal.loop-i-init
+loop-i-init c = puts-none (λ (i : ℕ). shade (bit c.args.word (63 - i))) c.args.place 0 c.args.buf.now refl
 
 pub loop-i-preserved : goal.loop-i-preserved
 loop-i-preserved c =
-    let kept = c.loop-i.invariant in
-    let i = c.loop-i.i in
-    let at : ℕ = c.args.place + i in
-    let byte : c.shade.result ≡ shade (bit c.args.word (63 - i)) = c.shade.ensures ∙ ap (λ b. shade b) c.pixel_of.ensures in
-    record {
-      before = λ k early. get_or-set_other c.loop-i.buf at k c.shade.result 0 (λ e. omega (arith, e, early)) ∙ kept.before k early;
-      shades = λ j below.
-          ⊎_elim
-          (λ (early : j < i). get_or-set_other c.loop-i.buf at (c.args.place + j) c.shade.result 0 (λ e. omega (arith, e, early)) ∙ kept.shades j early)
-          (λ (late : i ≤ j).
-          let same : j ≡ i = omega (arith, late, below) in
-          ap (λ (n : ℕ). get_or (set c.loop-i.buf at c.shade.result) (c.args.place + n) 0) same
-          ∙ get_or-set_same c.loop-i.buf at c.shade.result 0 (grind (arith))
-          ∙ byte ∙ ap (λ (n : ℕ). shade (bit c.args.word (63 - n))) (sym same))
-          (cases_lt j i);
-    }
+    let byte : c.shade.result ≡ shade (bit c.args.word (63 - c.loop-i.i)) = c.shade.ensures ∙ ap (λ b. shade b) c.pixel_of.ensures in
+    puts-next (λ (i : ℕ). shade (bit c.args.word (63 - i))) c.args.place c.loop-i.i c.args.buf.now c.loop-i.buf c.shade.result (grind (arith)) byte c.loop-i.invariant
+
+pub returns : goal.returns
+returns c = puts-all (λ (i : ℕ). shade (bit c.args.word (63 - i))) c.args.place c.loop-i.i c.args.count c.args.buf.now c.loop-i.buf (omega arith) c.loop-i.invariant

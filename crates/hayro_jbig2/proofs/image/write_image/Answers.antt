@@ -17,7 +17,7 @@ loop-place-preserved g c =
       within = rw (c.put_shades.ensures.sized) (grind (arith));
       counted = λ more. omega (arith, kept.counted left, c.wrapped.ensures.place);
       column = λ more. c.wrapped.ensures.inside;
-      written = shades-more c.args.bitmap.now w c.loop-place.place c.loop-place.x c.loop-place.y c.min-count.result c.load_pixels-word.result c.loop-place.buf c.put_shades.new.buf (kept.counted left) narrow few c.load_pixels-word.ensures.bits kept.written c.put_shades.ensures.before c.put_shades.ensures.shades;
+      written = shades-more c.args.bitmap.now w c.loop-place.place c.loop-place.x c.loop-place.y c.min-count.result c.load_pixels-word.result c.loop-place.buf c.put_shades.new.buf (kept.counted left) narrow few c.load_pixels-word.ensures.bits kept.written c.put_shades.ensures.before c.put_shades.ensures.bytes;
     }
 
 pub returns : goal.returns

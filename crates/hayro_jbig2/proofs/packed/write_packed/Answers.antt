@@ -21,16 +21,16 @@ loop-place-preserved g c =
     ] in
     let narrow : column + c.if-count-eq0.count ≤ row_bytes w = rw (rows) (grind (arith)) in
     let sized : length c.if-count-eq0.buf ≡ length c.loop-place.buf = elim c.if-count-eq0.branch [
-      | then-count-eq0 b ↦ rw (b.buf-is) (b.put_rest-count.ensures.sized ∙ c.put_words-count.ensures.sized)
-      | else-count-eq0 b ↦ rw (b.buf-is) (c.put_words-count.ensures.sized)
+      | then-count-eq0 b ↦ rw (b.buf-is) (b.put_rest-count.ensures.puts.sized ∙ c.put_words-count.ensures.puts.sized)
+      | else-count-eq0 b ↦ rw (b.buf-is) (c.put_words-count.ensures.puts.sized)
     ] in
     let before : (k : ℕ) → k < place → get_or c.if-count-eq0.buf k 0 ≡ get_or c.loop-place.buf k 0 = elim c.if-count-eq0.branch [
-      | then-count-eq0 b ↦ λ k early. rw (b.buf-is) (b.put_rest-count.ensures.before k early ∙ c.put_words-count.ensures.before k early)
-      | else-count-eq0 b ↦ λ k early. rw (b.buf-is) (c.put_words-count.ensures.before k early)
+      | then-count-eq0 b ↦ λ k early. rw (b.buf-is) (b.put_rest-count.ensures.puts.before k early ∙ c.put_words-count.ensures.puts.before k early)
+      | else-count-eq0 b ↦ λ k early. rw (b.buf-is) (c.put_words-count.ensures.puts.before k early)
     ] in
     let put : (i : ℕ) → i < c.if-count-eq0.count → get_or c.if-count-eq0.buf (place + i) 0 ≡ packed_byte c.args.bitmap.now (column + i) y = elim c.if-count-eq0.branch [
-      | then-count-eq0 b ↦ λ i below. rw (b.buf-is) (b.put_rest-count.ensures.bytes i (rw (b.count-is) at below))
-      | else-count-eq0 b ↦ λ i below. rw (b.buf-is) (c.put_words-count.ensures.bytes i (rw (b.count-is) at below))
+      | then-count-eq0 b ↦ λ i below. rw (b.buf-is) (b.put_rest-count.ensures.puts.bytes i (rw (b.count-is) at below))
+      | else-count-eq0 b ↦ λ i below. rw (b.buf-is) (c.put_words-count.ensures.puts.bytes i (rw (b.count-is) at below))
     ] in
     record {
       sized = sized ∙ kept.sized;
