@@ -117,13 +117,14 @@ pub fn row_serves_on(
     row: &Row,
     context: &mut DecoderContext<Global>,
 ) -> Result<bool> {
-    match row_holds(alloc, row, context) {
-        Err(DecodeError::OutOfMemory) => {
-            let white = white_holds(alloc, context)?;
-            Ok(white && row_holds(alloc, row, context)?)
-        }
-        answer => answer,
+    let holds = row_holds(alloc, row, context);
+    if holds != Err(DecodeError::OutOfMemory) {
+        return holds;
     }
+    if !white_holds(alloc, context)? {
+        return Ok(false);
+    }
+    row_holds(alloc, row, context)
 }
 
 fn case_holds(alloc: Global, case: &Case, context: &mut DecoderContext<Global>) -> Result<bool> {

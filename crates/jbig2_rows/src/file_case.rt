@@ -51,29 +51,42 @@ pub fn file_holds(
     let Some(bytes) = spelled(alloc, case.bytes())? else {
         return Ok(false);
     };
+    if let FileCase::NoFirstPage(_, error) = case {
+        return no_first_page_holds(alloc, &bytes, error);
+    }
+    for strict in [true, false] {
+        if !mode_holds(alloc, case, &bytes, strict, context)? {
+            return Ok(false);
+        }
+    }
+    Ok(true)
+}
+
+/// Whether a case holds in one mode. One that speaks of other modes alone does.
+fn mode_holds(
+    alloc: Global,
+    case: &FileCase,
+    bytes: &[u8],
+    strict: bool,
+    context: &mut DecoderContext<Global>,
+) -> Result<bool> {
     match case {
-        FileCase::Refused(modes, _, error) => {
-            let strict = !modes.has(true) || refusal_holds(alloc, &bytes, true, error)?;
-            let lenient = !modes.has(false) || refusal_holds(alloc, &bytes, false, error)?;
-            Ok(strict && lenient)
+        FileCase::Refused(modes, _, error) if modes.has(strict) => {
+            refusal_holds(alloc, bytes, strict, error)
         }
-        FileCase::Pages(modes, _, pages) => {
-            let strict = !modes.has(true) || pages_hold(alloc, &bytes, true, pages, context)?;
-            let lenient = !modes.has(false) || pages_hold(alloc, &bytes, false, pages, context)?;
-            Ok(strict && lenient)
+        FileCase::Pages(modes, _, pages) if modes.has(strict) => {
+            pages_hold(alloc, bytes, strict, pages, context)
         }
-        FileCase::CutOff { bytes: _, but } => {
-            let strict = cuts_hold(alloc, &bytes, true, *but)?;
-            Ok(strict && cuts_hold(alloc, &bytes, false, *but)?)
-        }
-        FileCase::NoGlobals(_, error) => {
-            let strict = no_globals_hold(alloc, &bytes, true, error)?;
-            Ok(strict && no_globals_hold(alloc, &bytes, false, error)?)
-        }
-        FileCase::NoFirstPage(_, error) => match Jbig2Decoder::new(alloc, Cursor::new(bytes)) {
-            Ok(_) | Err(Jbig2Error::Io(_)) => Ok(false),
-            Err(Jbig2Error::Decode(refusal)) => refused_as(refusal, Some(error)),
-        },
+        FileCase::CutOff { bytes: _, but } => cuts_hold(alloc, bytes, strict, *but),
+        FileCase::NoGlobals(_, error) => no_globals_hold(alloc, bytes, strict, error),
+        _ => Ok(true),
+    }
+}
+
+fn no_first_page_holds(alloc: Global, bytes: &[u8], error: &DecodeError) -> Result<bool> {
+    match Jbig2Decoder::new(alloc, Cursor::new(bytes)) {
+        Ok(_) | Err(Jbig2Error::Io(_)) => Ok(false),
+        Err(Jbig2Error::Decode(refusal)) => refused_as(refusal, Some(error)),
     }
 }
 

@@ -157,10 +157,15 @@ fn run_row<O: Write>(alloc: Global, name: &str, out: &mut O) -> Result<bool, Fau
     let Some(row) = row_named(name) else {
         return Ok(false);
     };
-    let mut context = DecoderContext::new(alloc)?;
-    let holds = row_serves_on(alloc, row, &mut context)?;
+    let holds = row_outcome(alloc, row)?;
     print_row(row, holds, out)?;
     Ok(holds)
+}
+
+/// Whether a row holds in a context of its own.
+fn row_outcome(alloc: Global, row: &Row) -> Result<bool, DecodeError> {
+    let mut context = DecoderContext::new(alloc)?;
+    row_serves_on(alloc, row, &mut context)
 }
 
 /// Runs all rows, in one context. Answers whether all hold.

@@ -51,10 +51,7 @@ pub fn table_holds(alloc: Global, case: &TableCase) -> Result<bool> {
             bytes,
             from,
             answer,
-        } => {
-            let tables = StandardHuffmanTables::new(alloc)?;
-            decode_holds(alloc, tables.table_a(), bytes, *from, answer)
-        }
+        } => standard_a_holds(alloc, bytes, *from, answer),
         TableCase::Decoded {
             source,
             bytes,
@@ -68,17 +65,29 @@ pub fn table_holds(alloc: Global, case: &TableCase) -> Result<bool> {
             Ok(_) => Ok(false),
             Err(refusal) => refused_as(refusal, Some(error)),
         },
-        TableCase::Left { bytes, bits } => {
-            let Some(bytes) = spelled(alloc, bytes)? else {
-                return Ok(false);
-            };
-            let mut reader = Reader::new(&bytes);
-            if let Err(error) = HuffmanTable::read_custom(alloc, &mut reader) {
-                return refused_as(error, None);
-            }
-            Ok(pass_over(&mut reader, *bits) && reader.at_end())
-        }
+        TableCase::Left { bytes, bits } => left_holds(alloc, bytes, *bits),
     }
+}
+
+fn standard_a_holds(
+    alloc: Global,
+    bytes: &str,
+    from: u8,
+    answer: &Result<Option<i32>>,
+) -> Result<bool> {
+    let tables = StandardHuffmanTables::new(alloc)?;
+    decode_holds(alloc, tables.table_a(), bytes, from, answer)
+}
+
+fn left_holds(alloc: Global, bytes: &str, bits: u8) -> Result<bool> {
+    let Some(bytes) = spelled(alloc, bytes)? else {
+        return Ok(false);
+    };
+    let mut reader = Reader::new(&bytes);
+    if let Err(error) = HuffmanTable::read_custom(alloc, &mut reader) {
+        return refused_as(error, None);
+    }
+    Ok(pass_over(&mut reader, bits) && reader.at_end())
 }
 
 fn made(alloc: Global, source: &Source) -> Result<HuffmanTable<Global>> {
