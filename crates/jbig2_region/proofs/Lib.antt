@@ -10,11 +10,11 @@ pub mod GatherLemmas
 pub mod GenericLemmas
 pub mod GroupLemmas
 pub mod HeaderCauses
-pub mod NarrowLemmas
 pub mod PixelCauses
 pub mod PixelLemmas
 pub mod PlaceCounts
 pub mod PlaceLemmas
+pub mod PushLemmas
 pub mod RasterLemmas
 pub mod RefinementKernelLemmas
 pub mod RefinementLaneLemmas

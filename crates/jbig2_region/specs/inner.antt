@@ -3,8 +3,8 @@ pub mod Holds
 pub mod Layouts
 pub mod LongRuns
 pub mod Masks
-pub mod NarrowRows
 pub mod Neighbours
+pub mod PushedPixels
 pub mod RefinementBlocks
 pub mod RefinementLanes
 pub mod RefinementViews

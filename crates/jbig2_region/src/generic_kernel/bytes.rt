@@ -1,10 +1,10 @@
 //! Rows of a template without adaptive pixels, byte by byte, with runs of likely symbols.
 ghost use Rattle.std.specs.Prelude.{◌≡◌, ℕ, ◌+◌, ◌-◌, ◌*◌, ◌/◌, ◌%◌, ◌^◌, ◌<◌, ◌≤◌, false, length, if◌then◌else◌};
 ghost use Rattle.jbig2_base.specs.Counts.{KeepsLanes};
-ghost use Rattle.jbig2_region.specs.inner.Neighbours.{DecodesPixels, IsLeft, IsNear, SameAbove, Shows, ShowsGroup, ShowsRun, neighbour_count, nominal_pixels};
+ghost use Rattle.jbig2_region.specs.inner.Neighbours.{DecodesPixels, IsNear, neighbour_count, nominal_pixels};
+ghost use Rattle.jbig2_region.specs.inner.PushedPixels.{CountsBytes, CountsGroup, PushesBytes, PushesGroup, PushesPixels};
 ghost use Rattle.jbig2_region.specs.inner.RowCounts.{CountsRuns};
 
-use crate::generic_kernel::narrow::push_pixels;
 use crate::generic_kernel::runs::take_runs;
 use crate::generic_kernel::windows::{
     WideWindows, Windows, last_windows, windows_between, words_after, words_at,
@@ -29,98 +29,79 @@ fn uniform(black: bool, count: u32) -> u64
     0
 }
 
-/// The `count` pixels from column `x` of row `y` on, at most a byte, which are decoded one by one and
-/// stored at once. Answers the four pixels left of the next column.
+/// The next `count` pixels, at most a byte, from the windows' column on: the first is the highest
+/// of the lowest `count` bits.
 #[inline(always)]
-fn decode_bits<A: Allocator, L: Ledger>(
+pub fn push_pixels<L: Ledger>(
     neighbours: Neighbours,
-    bitmap: &mut Bitmap<A>,
-    x: u32,
-    y: u32,
     count: u32,
     left: u32,
     windows: Windows,
     decoder: &mut ArithmeticDecoder<'_>,
     contexts: &mut [ArithmeticDecoderContext],
     steps: &mut Steps<L>,
-) -> u32
+) -> u64
     requires near { IsNear neighbours }
     requires contexts { length contexts.old ≡ 2 ^ neighbour_count neighbours }
-    requires some { 1 ≤ count }
     requires byte { count ≤ 8 }
-    requires aligned { x % 8 ≡ 0 }
-    requires columns { x + count ≤ bitmap.old.width }
-    requires row { y < bitmap.old.height }
-    requires shows { Shows bitmap.old x y 20 windows }
-    requires left { IsLeft bitmap.old x y left }
     requires small { left < 16 }
-    ensures holds { DecodesPixels (nominal_pixels neighbours) false x y count bitmap.old decoder.old
-        contexts.old bitmap.new decoder.new contexts.new }
-    ensures left { IsLeft bitmap.new (x + count) y result }
-    ensures small { result < 16 }
-    ensures width { bitmap.new.width ≡ bitmap.old.width }
-    ensures height { bitmap.new.height ≡ bitmap.old.height }
+    ensures holds { PushesPixels neighbours count left windows count result
+        decoder.old contexts.old decoder.new contexts.new }
+    ensures bound { result < 2 ^ count }
     ensures bytes { decoder.new.bytes ≡ decoder.old.bytes }
     ensures contexts { length contexts.new ≡ length contexts.old }
-    ensures rows { SameAbove bitmap.old bitmap.new y }
-    ensures steps { steps.new ≡ record steps.old {
-      decisions = steps.old.decisions + count;
-      words = steps.old.words + 1;
-    } }
+    ensures steps { steps.new ≡
+        record steps.old { decisions = steps.old.decisions + count } }
 {
-    let pixels = push_pixels(neighbours, count, left, windows, decoder, contexts, steps);
-    bitmap.store_pixels(x, y, count, pixels, steps);
-    (((u64::from(left) << count) + pixels) % 16) as u32
+    let mut register = neighbours.register(left, windows);
+    let mut context = neighbours.context(register);
+    for _ in 0..count {
+        let symbol = decoder.decode(&mut contexts[context as usize], steps);
+        register *= 2;
+        let higher = neighbours.context(register);
+        context = higher + symbol;
+        register += u64::from(symbol);
+    }
+    register % (1 << count)
 }
 
-/// What is decoded of a row: so many bytes, and the four pixels left of the next column.
+/// Whole bytes of a row that are decoded: how many, and their pixels, the first in the highest of so
+/// many bits.
 #[derive(Clone, Copy)]
-struct Taken {
-    bytes: u32,
-    left: u32,
+pub struct PushedBytes {
+    pub bytes: u32,
+    pub pixels: u64,
 }
 
-/// The next bytes of row `y`, from column `x` on: a run of `most` or fewer, or else one that is decoded
-/// bit by bit.
+/// The next bytes of a row, none of them its last, from the windows' column on: a run of `most` or
+/// fewer, or else one that is decoded pixel by pixel.
 #[inline(always)]
-fn decode_bytes<A: Allocator, L: Ledger>(
+pub fn push_bytes<L: Ledger>(
     neighbours: Neighbours,
-    bitmap: &mut Bitmap<A>,
-    x: u32,
-    y: u32,
     most: u32,
     left: u32,
     windows: WideWindows,
     decoder: &mut ArithmeticDecoder<'_>,
     contexts: &mut [ArithmeticDecoderContext],
     steps: &mut Steps<L>,
-) -> Taken
+) -> PushedBytes
     requires near { IsNear neighbours }
     requires contexts { length contexts.old ≡ 2 ^ neighbour_count neighbours }
-    requires aligned { x % 8 ≡ 0 }
     requires some { 1 ≤ most }
-    requires group { x % 64 + 8 * most ≤ 64 }
-    requires columns { x + 8 * most < bitmap.old.width }
-    requires row { y < bitmap.old.height }
-    requires shows { ShowsRun bitmap.old x y most windows }
-    requires left { IsLeft bitmap.old x y left }
+    requires few { most ≤ 8 }
     requires small { left < 16 }
     ensures some { 1 ≤ result.bytes }
     ensures most { result.bytes ≤ most }
-    ensures holds { DecodesPixels (nominal_pixels neighbours) false x y (8 * result.bytes)
-        bitmap.old decoder.old contexts.old bitmap.new decoder.new contexts.new }
-    ensures rows { SameAbove bitmap.old bitmap.new y }
-    ensures left { IsLeft bitmap.new (x + 8 * result.bytes) y result.left }
-    ensures small { result.left < 16 }
-    ensures width { bitmap.new.width ≡ bitmap.old.width }
-    ensures height { bitmap.new.height ≡ bitmap.old.height }
+    ensures holds { PushesBytes neighbours most left windows result.bytes result.pixels
+        decoder.old contexts.old decoder.new contexts.new }
+    ensures decisions { CountsBytes neighbours most left windows result.bytes
+        decoder.old contexts.old steps.old.decisions steps.new.decisions }
+    ensures bound { result.pixels < 2 ^ (8 * result.bytes) }
     ensures bytes { decoder.new.bytes ≡ decoder.old.bytes }
     ensures contexts { length contexts.new ≡ length contexts.old }
-    ensures decisions { CountsRuns (nominal_pixels neighbours) x y (8 * result.bytes) bitmap.old
-        decoder.old contexts.old steps.old.decisions steps.new.decisions }
     ensures run_tests { steps.new.run_tests ≤ steps.old.run_tests + result.bytes }
     ensures loads { steps.new.loads ≡ steps.old.loads }
-    ensures words { steps.new.words ≡ steps.old.words + 1 }
+    ensures words { steps.new.words ≡ steps.old.words }
     ensures lanes { KeepsLanes steps.old steps.new }
 {
     let black = left % 2 == 1;
@@ -128,24 +109,11 @@ fn decode_bytes<A: Allocator, L: Ledger>(
         neighbours, black, left, windows, most, decoder, contexts, steps,
     );
     if bytes > 0 {
-        let count = 8 * bytes;
-        bitmap.store_pixels(x, y, count, uniform(black, count), steps);
-        let left = uniform(black, 4) as u32;
-        return Taken { bytes, left };
+        let pixels = uniform(black, 8 * bytes);
+        return PushedBytes { bytes, pixels };
     }
-    let left = decode_bits(
-        neighbours,
-        bitmap,
-        x,
-        y,
-        8,
-        left,
-        windows.first,
-        decoder,
-        contexts,
-        steps,
-    );
-    Taken { bytes: 1, left }
+    let pixels = push_pixels(neighbours, 8, left, windows.first, decoder, contexts, steps);
+    PushedBytes { bytes: 1, pixels }
 }
 
 /// How many bytes a run is tested for at byte `done` of a group of so many bytes: all eight of a
@@ -164,108 +132,58 @@ fn most_bytes(done: u32, bytes: u32) -> u32
     (4 - done % 4).min(bytes - done)
 }
 
-/// The next `bytes` bytes of row `y`, at most eight, from column `x` on, which 64 divides. Answers
-/// the four pixels left of the next column.
+/// Pixels with these bytes behind them.
 #[inline(always)]
-fn decode_group<A: Allocator, L: Ledger>(
+fn join(pixels: u64, behind: PushedBytes) -> u64
+    requires few { behind.bytes ≤ 8 }
+    requires fits { pixels * 2 ^ (8 * behind.bytes) + behind.pixels < 2 ^ 64 }
+    ensures { result ≡ pixels * 2 ^ (8 * behind.bytes) + behind.pixels }
+{
+    if behind.bytes == 8 {
+        return behind.pixels;
+    }
+    (pixels << (8 * behind.bytes)) + behind.pixels
+}
+
+/// The next `bytes` bytes of a row, at most eight and none of them its last, from the windows' column
+/// on: their pixels, the first in the highest of so many bits.
+#[inline(always)]
+fn push_group<L: Ledger>(
     neighbours: Neighbours,
-    bitmap: &mut Bitmap<A>,
-    x: u32,
-    y: u32,
     bytes: u32,
     left: u32,
     windows: WideWindows,
     decoder: &mut ArithmeticDecoder<'_>,
     contexts: &mut [ArithmeticDecoderContext],
     steps: &mut Steps<L>,
-) -> u32
+) -> u64
     requires near { IsNear neighbours }
     requires contexts { length contexts.old ≡ 2 ^ neighbour_count neighbours }
-    requires aligned { x % 64 ≡ 0 }
-    requires some { 1 ≤ bytes }
     requires few { bytes ≤ 8 }
-    requires columns { x + 8 * bytes < bitmap.old.width }
-    requires row { y < bitmap.old.height }
-    requires shows { ShowsGroup bitmap.old x y bytes windows }
-    requires left { IsLeft bitmap.old x y left }
     requires small { left < 16 }
-    ensures holds { DecodesPixels (nominal_pixels neighbours) false x y (8 * bytes) bitmap.old
-        decoder.old contexts.old bitmap.new decoder.new contexts.new }
-    ensures left { IsLeft bitmap.new (x + 8 * bytes) y result }
-    ensures small { result < 16 }
-    ensures width { bitmap.new.width ≡ bitmap.old.width }
-    ensures height { bitmap.new.height ≡ bitmap.old.height }
+    ensures holds { PushesGroup neighbours bytes left windows bytes result
+        decoder.old contexts.old decoder.new contexts.new }
+    ensures decisions { CountsGroup neighbours bytes left windows bytes
+        decoder.old contexts.old steps.old.decisions steps.new.decisions }
     ensures bytes { decoder.new.bytes ≡ decoder.old.bytes }
     ensures contexts { length contexts.new ≡ length contexts.old }
-    ensures decisions { CountsRuns (nominal_pixels neighbours) x y (8 * bytes) bitmap.old
-        decoder.old contexts.old steps.old.decisions steps.new.decisions }
     ensures run_tests { steps.new.run_tests ≤ steps.old.run_tests + bytes }
-    ensures rows { SameAbove bitmap.old bitmap.new y }
     ensures loads { steps.new.loads ≡ steps.old.loads }
-    ensures words { steps.new.words ≤ steps.old.words + bytes }
+    ensures words { steps.new.words ≡ steps.old.words }
     ensures lanes { KeepsLanes steps.old steps.new }
 {
-    let mut left = left;
+    let mut pixels = 0;
+    let mut beside = left;
     let mut done = 0;
     while done < bytes {
         let most = most_bytes(done, bytes);
         let shown = windows.at_byte(done);
-        let taken = decode_bytes(
-            neighbours,
-            bitmap,
-            x + 8 * done,
-            y,
-            most,
-            left,
-            shown,
-            decoder,
-            contexts,
-            steps,
-        );
-        left = taken.left;
+        let taken = push_bytes(neighbours, most, beside, shown, decoder, contexts, steps);
+        pixels = join(pixels, taken);
+        beside = (taken.pixels % 16) as u32;
         done += taken.bytes;
     }
-    left
-}
-
-/// The last pixels of row `y`, from column `x` on: a byte, or less.
-#[inline(always)]
-fn decode_last<A: Allocator, L: Ledger>(
-    neighbours: Neighbours,
-    bitmap: &mut Bitmap<A>,
-    x: u32,
-    y: u32,
-    count: u32,
-    left: u32,
-    windows: Windows,
-    decoder: &mut ArithmeticDecoder<'_>,
-    contexts: &mut [ArithmeticDecoderContext],
-    steps: &mut Steps<L>,
-)
-    requires near { IsNear neighbours }
-    requires contexts { length contexts.old ≡ 2 ^ neighbour_count neighbours }
-    requires shows { Shows bitmap.old x y 64 windows }
-    requires some { 1 ≤ count }
-    requires byte { count ≤ 8 }
-    requires aligned { x % 8 ≡ 0 }
-    requires columns { x + count ≤ bitmap.old.width }
-    requires row { y < bitmap.old.height }
-    requires left { IsLeft bitmap.old x y left }
-    requires small { left < 16 }
-    ensures holds { DecodesPixels (nominal_pixels neighbours) false x y count bitmap.old decoder.old
-        contexts.old bitmap.new decoder.new contexts.new }
-    ensures width { bitmap.new.width ≡ bitmap.old.width }
-    ensures height { bitmap.new.height ≡ bitmap.old.height }
-    ensures bytes { decoder.new.bytes ≡ decoder.old.bytes }
-    ensures contexts { length contexts.new ≡ length contexts.old }
-    ensures steps { steps.new ≡ record steps.old {
-      decisions = steps.old.decisions + count;
-      words = steps.old.words + 1;
-    } }
-{
-    decode_bits(
-        neighbours, bitmap, x, y, count, left, windows, decoder, contexts, steps,
-    );
+    pixels
 }
 
 /// Row `y`, whose rows above are decoded.
@@ -305,19 +223,16 @@ pub fn decode_row_by_bytes<A: Allocator, L: Ledger>(
         let bytes = (whole - 8 * group).min(8);
         let after = words_after(bitmap, x, y, steps);
         let windows = windows_between(before, here, after);
-        left = decode_group(
-            neighbours, bitmap, x, y, bytes, left, windows, decoder, contexts, steps,
-        );
+        let pixels = push_group(neighbours, bytes, left, windows, decoder, contexts, steps);
+        bitmap.store_pixels(x, y, 8 * bytes, pixels, steps);
+        left = (pixels % 16) as u32;
         before = here;
         here = after;
     }
     let x = 8 * whole;
     let windows = last_windows(before, here, whole);
-    decode_last(
+    let last = push_pixels(
         neighbours,
-        bitmap,
-        x,
-        y,
         width - x,
         left,
         windows,
@@ -325,4 +240,5 @@ pub fn decode_row_by_bytes<A: Allocator, L: Ledger>(
         contexts,
         steps,
     );
+    bitmap.store_pixels(x, y, width - x, last, steps);
 }

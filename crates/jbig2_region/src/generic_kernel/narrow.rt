@@ -8,10 +8,10 @@ ghost use Rattle.jbig2_region.specs.Raster.{no_pixels};
 ghost use Rattle.jbig2_region.specs.RunBytes.{CountsRegion};
 ghost use Rattle.jbig2_region.specs.inner.Holds.{DecodesRegion};
 ghost use Rattle.jbig2_region.specs.inner.Layouts.{neighbours_of};
-ghost use Rattle.jbig2_region.specs.inner.NarrowRows.{CountsByte, CountsRowPixels, PushesPixels, PushesRow};
+ghost use Rattle.jbig2_region.specs.inner.PushedPixels.{CountsByte, CountsRowPixels, PushesPixels, PushesRow};
 ghost use Rattle.jbig2_region.specs.inner.Neighbours.{IsNear, SameAbove, Shows, neighbour_count, nominal_pixels, row_coding};
 
-use crate::generic_kernel::runs::take_runs;
+use crate::generic_kernel::bytes::{push_bytes, push_pixels};
 use crate::generic_kernel::windows::{WideWindows, Windows};
 use crate::template::layouts::neighbours_of;
 use crate::template::neighbours::Neighbours;
@@ -20,53 +20,6 @@ use jbig2_base::bitmap::steps::Steps;
 use jbig2_coder::arithmetic_decoder::{ArithmeticDecoder, ArithmeticDecoderContext};
 use std::alloc::Allocator;
 use std::sync::ledger::Ledger;
-
-/// The next `count` pixels, at most a byte, from the windows' column on: the first is the highest
-/// of the lowest `count` bits.
-#[inline(always)]
-pub fn push_pixels<L: Ledger>(
-    neighbours: Neighbours,
-    count: u32,
-    left: u32,
-    windows: Windows,
-    decoder: &mut ArithmeticDecoder<'_>,
-    contexts: &mut [ArithmeticDecoderContext],
-    steps: &mut Steps<L>,
-) -> u64
-    requires near { IsNear neighbours }
-    requires contexts { length contexts.old ≡ 2 ^ neighbour_count neighbours }
-    requires byte { count ≤ 8 }
-    requires small { left < 16 }
-    ensures holds { PushesPixels neighbours count left windows count result
-        decoder.old contexts.old decoder.new contexts.new }
-    ensures bound { result < 2 ^ count }
-    ensures bytes { decoder.new.bytes ≡ decoder.old.bytes }
-    ensures contexts { length contexts.new ≡ length contexts.old }
-    ensures steps { steps.new ≡
-        record steps.old { decisions = steps.old.decisions + count } }
-{
-    let mut register = neighbours.register(left, windows);
-    let mut context = neighbours.context(register);
-    for _ in 0..count {
-        let symbol = decoder.decode(&mut contexts[context as usize], steps);
-        register *= 2;
-        let higher = neighbours.context(register);
-        context = higher + symbol;
-        register += u64::from(symbol);
-    }
-    register % (1 << count)
-}
-
-/// A byte of one colour.
-#[inline(always)]
-fn uniform_byte(black: bool) -> u64
-    ensures { result ≡ (if black then 255 else 0) }
-{
-    if black {
-        return 255;
-    }
-    0
-}
 
 /// The next byte of a row, which is not its last, from the windows' column on: a run, or else pixel
 /// by pixel.
@@ -94,16 +47,11 @@ fn push_byte<L: Ledger>(
     ensures words { steps.new.words ≡ steps.old.words }
     ensures lanes { KeepsLanes steps.old steps.new }
 {
-    let black = left % 2 == 1;
     let shown = WideWindows {
         first: windows,
         second: windows,
     };
-    let taken = take_runs(neighbours, black, left, shown, 1, decoder, contexts, steps);
-    if taken > 0 {
-        return uniform_byte(black);
-    }
-    push_pixels(neighbours, 8, left, windows, decoder, contexts, steps)
+    push_bytes(neighbours, 1, left, shown, decoder, contexts, steps).pixels
 }
 
 /// A row of `width` pixels, the first in the highest of the lowest `width` bits, by the windows

@@ -5,14 +5,14 @@ use Rattle.jbig2_base.specs.Grid.{Grid, pixel_at}
 use Rattle.jbig2_base.specs.inner.WordBits.{bit}
 use Rattle.jbig2_base.specs.inner.Writes.{with_pixels}
 use Rattle.jbig2_region.specs.inner.Holds.{BeginsRow, Holds}
-use Rattle.jbig2_region.specs.inner.NarrowRows.{StandsRow}
+use Rattle.jbig2_region.specs.inner.PushedPixels.{StandsRow}
 use Rattle.jbig2_region.specs.inner.Neighbours.{DecodesPixels, SameAbove, nominal_pixels, row_coding}
 use Rattle.jbig2_region.specs.inner.RowCounts.{CountsRow, CountsRuns}
 use Rattle.jbig2_region.specs.Raster.{Region, no_pixels}
 use Rattle.jbig2_region.specs.inner.Rows.{after_rows}
 use Rattle.jbig2_region.specs.RunBytes.{row_tests, row_words}
 use Rattle.jbig2_region.proofs.CountLemmas.{row-nominal}
-use Rattle.jbig2_region.proofs.NarrowLemmas.{begins-plain, shows-first}
+use Rattle.jbig2_region.proofs.PushLemmas.{begins-plain, shows-first}
 use Rattle.jbig2_region.proofs.PlaceLemmas.{region-whole}
 use Rattle.jbig2_region.proofs.RasterLemmas.{after_rows-none, region-start}
 use Rattle.jbig2_region.proofs.RegionLemmas.{counted-none, counted-next, tests-next, layout-step, region-counts}

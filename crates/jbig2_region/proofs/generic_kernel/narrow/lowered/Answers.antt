@@ -1,5 +1,5 @@
 use Rattle.std.proofs.Common.{refl}
-use Rattle.jbig2_region.proofs.NarrowLemmas.{shows-lowered}
+use Rattle.jbig2_region.proofs.PushLemmas.{shows-lowered}
 use Rattle.jbig2_region.proofs.generic_kernel.narrow.lowered.Goals as goal
 
 pub returns : goal.returns

@@ -3,10 +3,10 @@ use Rattle.jbig2_base.proofs.LaneCounts.{lanes-none, lanes-then}
 use Rattle.jbig2_base.specs.Counts.{Counts}
 use Rattle.jbig2_base.specs.Grid.{Grid}
 use Rattle.jbig2_base.specs.inner.Writes.{with_pixels}
-use Rattle.jbig2_region.specs.inner.NarrowRows.{Stands, StandsRow}
+use Rattle.jbig2_region.specs.inner.PushedPixels.{Stands, StandsRow}
 use Rattle.jbig2_region.specs.inner.Neighbours.{DecodesPixels, Shows, nominal_pixels}
 use Rattle.jbig2_region.proofs.CountLemmas.{counts-last, counts-none, counts-then}
-use Rattle.jbig2_region.proofs.NarrowLemmas.{few-next, one-shifted, row-fits, stands-next, stored-next}
+use Rattle.jbig2_region.proofs.PushLemmas.{few-next, one-shifted, row-fits, stands-next, stored-next}
 use Rattle.jbig2_region.proofs.StoreLemmas.{decodes-start, decodes-then}
 use Rattle.jbig2_region.proofs.generic_kernel.narrow.push_row.Goals as goal
 

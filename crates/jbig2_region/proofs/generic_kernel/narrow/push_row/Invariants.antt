@@ -1,7 +1,7 @@
 use Rattle.std.proofs.Common.{◌≡◌, ℕ, ◌+◌, ◌-◌, ◌*◌, ◌^◌, ◌<◌, ◌≤◌}
 use Rattle.jbig2_base.specs.Counts.{KeepsLanes}
 use Rattle.jbig2_base.specs.Grid.{Grid}
-use Rattle.jbig2_region.specs.inner.NarrowRows.{CountsRowPixels, PushesRow}
+use Rattle.jbig2_region.specs.inner.PushedPixels.{CountsRowPixels, PushesRow}
 use Rattle.jbig2_region.specs.inner.Neighbours.{Shows}
 use Rattle.jbig2_region.proofs.generic_kernel.narrow.push_row.Given as goal
 

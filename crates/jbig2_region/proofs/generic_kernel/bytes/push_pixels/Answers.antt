@@ -1,13 +1,13 @@
 use Rattle.std.proofs.Common.{arith, refl, set, length, ℕ, ◌≡◌, ◌<◌, ◌∙◌, ◌+◌, ◌*◌, ◌%◌, ◌^◌, ap, sym, subst, false}
 use Rattle.std.proofs.lemmas.Nat.{mod_below, pow_pos}
 use Rattle.jbig2_base.specs.inner.Writes.{with_pixels}
-use Rattle.jbig2_region.specs.inner.NarrowRows.{PushesPixels}
+use Rattle.jbig2_region.specs.inner.PushedPixels.{PushesPixels}
 use Rattle.jbig2_region.specs.inner.Neighbours.{DecodesPixels, IsLeft, cut_of, nominal_pixels, register_of}
 use Rattle.jbig2_region.proofs.GatherLemmas.{cut-digit, fields}
 use Rattle.jbig2_region.proofs.RegisterLemmas.{register-context, low-bits, next-made, register-fits, left-whole, left-register}
 use Rattle.jbig2_region.proofs.StepLemmas.{no-decisions, more-decisions}
 use Rattle.jbig2_region.proofs.StoreLemmas.{decodes-start, decodes-bit, left-start, left-bit, stored-above, inside-states}
-use Rattle.jbig2_region.proofs.generic_kernel.narrow.push_pixels.Goals as goal
+use Rattle.jbig2_region.proofs.generic_kernel.bytes.push_pixels.Goals as goal
 
 pub loop-init : goal.loop-init
 loop-init g c = record {

@@ -1,4 +1,4 @@
--- Rows of narrow regions, which are decoded into a number and then stored.
+-- Pixels that are decoded into a number and then stored.
 use Rattle.std.proofs.Common.{subst, pos, negsuc, ℤ, ◌-ℤ◌, ◌<ℤ◌, ◌≡◌, ℕ, ◌+◌, ◌-◌, ◌*◌, ◌%◌, ◌^◌, ◌<◌, ◌≤◌, false, ◌&&◌, cond, eqb, ltb, leb, min, List, None, refl, sym, ap, ◌∙◌, ⊎_elim, arith}
 use Rattle.std.proofs.lemmas.Bool.{cases_eq, cases_lt, cond-true, cond-false}
 use Rattle.std.proofs.lemmas.Int.{ints}
@@ -13,7 +13,7 @@ use Rattle.jbig2_base.proofs.WriteLemmas.{in_field, before_field, behind_field, 
 use Rattle.jbig2_coder.specs.Coder.{Coder, Context}
 use Rattle.jbig2_region.specs.Raster.{Region, row_begun}
 use Rattle.jbig2_region.specs.inner.Holds.{BeginsRow, Holds}
-use Rattle.jbig2_region.specs.inner.NarrowRows.{Stands, StandsRow}
+use Rattle.jbig2_region.specs.inner.PushedPixels.{Stands, StandsRow}
 use Rattle.jbig2_region.specs.inner.Neighbours.{IsLeft, SameAbove, Shows, ShowsRun}
 use Rattle.jbig2_region.specs.declared.generic_kernel.windows.Windows.{Windows}
 use Rattle.jbig2_region.proofs.RegisterLemmas.{bit-low, bit-placed, left-few}
@@ -65,6 +65,12 @@ stored-next g y n m k a b small sum wide above =
     let place : 0 + n ≡ n = omega arith in
     ap (λ (x : ℕ). with_pixels (with_pixels g 0 y n a) x y m b) (sym place) ∙ stored-then g 0 y n m a b small (omega arith) above ∙ ap (λ (i : ℕ). with_pixels g 0 y i (a * 2 ^ m + b)) (sym sum)
 
+-- the same of bytes
+pub stored-bytes : (g : Grid) (x y done n a b : ℕ) → b < 2 ^ (8 * n) → x + 8 * done ≤ g.width → y < g.height → with_pixels (with_pixels g x y (8 * done) a) (x + 8 * done) y (8 * n) b ≡ with_pixels g x y (8 * (done + n)) (a * 2 ^ (8 * n) + b)
+stored-bytes g x y done n a b small wide above =
+    let sum : 8 * done + 8 * n ≡ 8 * (done + n) = omega arith in
+    stored-then g x y (8 * done) (8 * n) a b small wide above ∙ ap (λ (i : ℕ). with_pixels g x y i (a * 2 ^ (8 * n) + b)) sum
+
 pub few-next : (a b n m k : ℕ) → a < 2 ^ n → b < 2 ^ m → k ≡ n + m → a * 2 ^ m + b < 2 ^ k
 few-next a b n m k few small sum =
     let all : 2 ^ m * 2 ^ n ≡ 2 ^ k = omega (arith, pow-add 2 n m, ap (λ (i : ℕ). 2 ^ i) sum) in
@@ -90,18 +96,24 @@ same-before : (g : Grid) (x y m b : ℕ) (X : ℤ) → X <ℤ pos x → pixel (w
 same-before g x y m b (pos i) less = stored-before g x y m b i (omega (arith, ints))
 same-before g x y m b (negsuc i) less = refl
 
+-- the pixels left of the next column are those that were stored last
+stored-bit : (g : Grid) (x y m b k : ℕ) → k < m → x + m ≤ g.width → y < g.height → bit b k ≡ pixel (with_pixels g x y m b) (pos (x + m) -ℤ pos (k + 1)) (pos y)
+stored-bit g x y m b k new wide above =
+    let column : pos (x + m) -ℤ pos (k + 1) ≡ pos (x + (m - 1 - k)) = omega (arith, ints) in
+    let place : x + m - 1 - (x + (m - 1 - k)) ≡ k = omega arith in
+    sym (pixel-inside (with_pixels g x y m b) (pos (x + m) -ℤ pos (k + 1)) (pos y) (x + (m - 1 - k)) y column refl
+    ∙ stored-inside g x y m b (x + (m - 1 - k)) (omega arith) (omega arith) wide above ∙ ap (λ (n : ℕ). bit b n) place)
+
+pub left-stored : (g : Grid) (x y m b : ℕ) → 4 ≤ m → x + m ≤ g.width → y < g.height → IsLeft (with_pixels g x y m b) (x + m) y (b % 16)
+left-stored g x y m b some wide above = left-few (with_pixels g x y m b) (x + m) y b (λ k inside. stored-bit g x y m b k (omega arith) wide above)
+
 -- m pixels more, behind those that were at the left
-pub left-after : (g : Grid) (x y m left b : ℕ) → b < 2 ^ m → x + m ≤ g.width → y < g.height → IsLeft g x y left → IsLeft (with_pixels g x y m b) (x + m) y (left * 2 ^ m + b)
+left-after : (g : Grid) (x y m left b : ℕ) → b < 2 ^ m → x + m ≤ g.width → y < g.height → IsLeft g x y left → IsLeft (with_pixels g x y m b) (x + m) y (left * 2 ^ m + b)
 left-after g x y m left b small wide above before = λ k inside.
     let order : left * 2 ^ m + b ≡ b + left * 2 ^ m = omega arith in
     ap (λ (n : ℕ). bit n k) order
     ∙ ⊎_elim
-    (λ (new : k < m).
-    let column : pos (x + m) -ℤ pos (k + 1) ≡ pos (x + (m - 1 - k)) = omega (arith, ints) in
-    let place : x + m - 1 - (x + (m - 1 - k)) ≡ k = omega arith in
-    bit-low b left m k new
-    ∙ sym (pixel-inside (with_pixels g x y m b) (pos (x + m) -ℤ pos (k + 1)) (pos y) (x + (m - 1 - k)) y column refl
-    ∙ stored-inside g x y m b (x + (m - 1 - k)) (omega arith) (omega arith) wide above ∙ ap (λ (n : ℕ). bit b n) place))
+    (λ (new : k < m). bit-low b left m k new ∙ stored-bit g x y m b k new wide above)
     (λ (old : m ≤ k).
     let place : m + (k - m) ≡ k = omega arith in
     let column : pos (x + m) -ℤ pos (k + 1) ≡ pos x -ℤ pos (k - m + 1) = omega (arith, ints) in
