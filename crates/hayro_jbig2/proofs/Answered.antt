@@ -29,6 +29,7 @@ use Rattle.hayro_jbig2.specs.Regions.{generic_at, halftone_at, referred_region, 
 use Rattle.hayro_jbig2.specs.declared.kept.Kept.{Kept}
 use Rattle.hayro_jbig2.specs.declared.region.RegionKind.{RegionKind}
 use Rattle.hayro_jbig2.specs.declared.region.RegionKind.TheVariants as kinds
+use Rattle.hayro_jbig2.proofs.SegmentTypes.{of_type, of-segment}
 
 -- ---- what a segment refers to
 answered-with_table : (strict : Bool) (code : Option (List Member)) (r : Referred) → Answered (with_table strict code r)
@@ -117,34 +118,12 @@ answered-keeping : (d : Drawing) (kept : Result Names DecodeError) → Answered 
 answered-keeping d kept is = answered-next kept _ is (λ names. tt)
 
 -- ---- segments
--- one with this header but for its type
-abbrev of_type : SegmentType → Header → List ℕ → SegmentView
-of_type kind h bytes = record { header = record h { segment_type = kind }; bytes = bytes }
-
 answered-named_by : (strict : Bool) (kind : SegmentType) (h : Header) (bytes : List ℕ) (names : Names) → Answered (named_by strict (of_type kind h bytes) names)
 answered-named_by strict types.SymbolDictionary h bytes names = answered-with_symbols strict no_names (of_type types.SymbolDictionary h bytes) names
-answered-named_by strict types.IntermediateTextRegion h bytes names = tt
-answered-named_by strict types.ImmediateTextRegion h bytes names = tt
-answered-named_by strict types.ImmediateLosslessTextRegion h bytes names = tt
 answered-named_by strict types.PatternDictionary h bytes names = answered-with_patterns strict (of_type types.PatternDictionary h bytes) names
-answered-named_by strict types.IntermediateHalftoneRegion h bytes names = tt
-answered-named_by strict types.ImmediateHalftoneRegion h bytes names = tt
-answered-named_by strict types.ImmediateLosslessHalftoneRegion h bytes names = tt
-answered-named_by strict types.IntermediateGenericRegion h bytes names = tt
-answered-named_by strict types.ImmediateGenericRegion h bytes names = tt
-answered-named_by strict types.ImmediateLosslessGenericRegion h bytes names = tt
-answered-named_by strict types.IntermediateGenericRefinementRegion h bytes names = tt
-answered-named_by strict types.ImmediateGenericRefinementRegion h bytes names = tt
-answered-named_by strict types.ImmediateLosslessGenericRefinementRegion h bytes names = tt
-answered-named_by strict types.PageInformation h bytes names = tt
-answered-named_by strict types.EndOfPage h bytes names = tt
-answered-named_by strict types.EndOfStripe h bytes names = tt
-answered-named_by strict types.EndOfFile h bytes names = tt
-answered-named_by strict types.Profiles h bytes names = tt
 answered-named_by strict types.Tables h bytes names = answered-with_code (of_type types.Tables h bytes) names
-answered-named_by strict types.ColourPalette h bytes names = tt
 answered-named_by strict types.Extension h bytes names = answered-next (extension strict bytes) _ (answered-extension strict bytes) (λ known. tt)
-answered-named_by strict types.Reserved h bytes names = tt
+answered-named_by strict _ h bytes names = tt
 
 answered-named : (strict : Bool) (ps : List SegmentView) (names : Names) → Answered (named_from strict ps names)
 answered-named strict [] names = tt
@@ -155,36 +134,24 @@ pub answered-globals : (strict : Bool) (bytes : List ℕ) → Answered (globals_
 unfolding globals_at
 answered-globals strict bytes = search (answered-next, answered-sorted, answered-named)
 
-answered-segment_on : (strict : Bool) (globals : Names) (kind : SegmentType) (h : Header) (bytes : List ℕ) (d : Drawing) → Answered (segment_on strict globals (of_type kind h bytes) d)
-answered-segment_on strict globals types.SymbolDictionary h bytes d = answered-keeping d _ (answered-with_symbols strict globals (of_type types.SymbolDictionary h bytes) d.names)
-answered-segment_on strict globals types.IntermediateTextRegion h bytes d = answered-intermediate strict globals kinds.Text (of_type types.IntermediateTextRegion h bytes) d
-answered-segment_on strict globals types.ImmediateTextRegion h bytes d = answered-immediate strict globals kinds.Text (of_type types.ImmediateTextRegion h bytes) d
-answered-segment_on strict globals types.ImmediateLosslessTextRegion h bytes d = answered-immediate strict globals kinds.Text (of_type types.ImmediateLosslessTextRegion h bytes) d
-answered-segment_on strict globals types.PatternDictionary h bytes d = answered-keeping d _ (answered-with_patterns strict (of_type types.PatternDictionary h bytes) d.names)
-answered-segment_on strict globals types.IntermediateHalftoneRegion h bytes d = answered-intermediate strict globals kinds.Halftone (of_type types.IntermediateHalftoneRegion h bytes) d
-answered-segment_on strict globals types.ImmediateHalftoneRegion h bytes d = answered-immediate strict globals kinds.Halftone (of_type types.ImmediateHalftoneRegion h bytes) d
-answered-segment_on strict globals types.ImmediateLosslessHalftoneRegion h bytes d = answered-immediate strict globals kinds.Halftone (of_type types.ImmediateLosslessHalftoneRegion h bytes) d
-answered-segment_on strict globals types.IntermediateGenericRegion h bytes d = answered-intermediate strict globals kinds.Generic (of_type types.IntermediateGenericRegion h bytes) d
-answered-segment_on strict globals types.ImmediateGenericRegion h bytes d = answered-immediate strict globals kinds.Generic (of_type types.ImmediateGenericRegion h bytes) d
-answered-segment_on strict globals types.ImmediateLosslessGenericRegion h bytes d = answered-immediate strict globals kinds.Generic (of_type types.ImmediateLosslessGenericRegion h bytes) d
-answered-segment_on strict globals types.IntermediateGenericRefinementRegion h bytes d = answered-intermediate strict globals kinds.GenericRefinement (of_type types.IntermediateGenericRefinementRegion h bytes) d
-answered-segment_on strict globals types.ImmediateGenericRefinementRegion h bytes d = answered-immediate strict globals kinds.GenericRefinement (of_type types.ImmediateGenericRefinementRegion h bytes) d
-answered-segment_on strict globals types.ImmediateLosslessGenericRefinementRegion h bytes d = answered-immediate strict globals kinds.GenericRefinement (of_type types.ImmediateLosslessGenericRefinementRegion h bytes) d
-answered-segment_on strict globals types.PageInformation h bytes d = tt
-answered-segment_on strict globals types.EndOfPage h bytes d = tt
-answered-segment_on strict globals types.EndOfStripe h bytes d = tt
-answered-segment_on strict globals types.EndOfFile h bytes d = tt
-answered-segment_on strict globals types.Profiles h bytes d = tt
-answered-segment_on strict globals types.Tables h bytes d = answered-keeping d _ (answered-with_code (of_type types.Tables h bytes) d.names)
-answered-segment_on strict globals types.ColourPalette h bytes d = tt
-answered-segment_on strict globals types.Extension h bytes d = answered-next (extension strict bytes) _ (answered-extension strict bytes) (λ known. tt)
-answered-segment_on strict globals types.Reserved h bytes d = tt
+answered-segment_on : (strict : Bool) (globals : Names) (p : SegmentView) (d : Drawing) → Answered (segment_on strict globals p d)
+answered-segment_on strict globals p d =
+    of-segment (λ r breaks. Answered r) strict globals p d
+    (record {
+      symbols = λ q. answered-keeping d _ (answered-with_symbols strict globals q d.names);
+      patterns = λ q. answered-keeping d _ (answered-with_patterns strict q d.names);
+      tables = λ q. answered-keeping d _ (answered-with_code q d.names);
+      extensions = λ bytes. answered-next (extension strict bytes) _ (answered-extension strict bytes) (λ known. tt);
+      kept = λ kind q. answered-intermediate strict globals kind q d;
+      shown = λ kind q. answered-immediate strict globals kind q d;
+      others = tt;
+    })
 
 answered-drawn : (strict : Bool) (globals : Names) (ps : List SegmentView) (d : Drawing) → Answered (segments_drawn strict globals ps d)
 answered-drawn strict globals [] d = tt
 answered-drawn strict globals (p ∷ ps) d =
     answered-if _ (Ok d) _ tt
-    (answered-next (segment_on strict globals p d) _ (answered-segment_on strict globals p.header.segment_type p.header p.bytes d) (λ e. answered-drawn strict globals ps e))
+    (answered-next (segment_on strict globals p d) _ (answered-segment_on strict globals p d) (λ e. answered-drawn strict globals ps e))
 
 -- ---- pages and files
 -- a page whose globals gave names, or such an error

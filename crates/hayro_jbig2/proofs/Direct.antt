@@ -30,13 +30,14 @@ use Rattle.hayro_jbig2.specs.Names.{Names}
 use Rattle.hayro_jbig2.specs.Page.{Drawing, draws_over, region_at, shown, with_region}
 use Rattle.hayro_jbig2.specs.declared.parsed_region.ParsedRegion.{ParsedRegion}
 use Rattle.hayro_jbig2.specs.declared.parsed_region.ParsedRegion.TheVariants.{Text, Halftone, Generic, Refinement, PageRefinement}
+use Rattle.hayro_jbig2.specs.declared.references.References.{References}
 use Rattle.hayro_jbig2.specs.declared.region.RegionKind.{RegionKind}
 use Rattle.hayro_jbig2.specs.declared.region.RegionKind.TheVariants as kinds
 use Rattle.hayro_jbig2.specs.Regions.{page_area}
 use Rattle.hayro_jbig2.specs.declared.kept.Kept.{Kept}
 use Rattle.hayro_jbig2.specs.inner.KeptViews.{seen}
 use Rattle.hayro_jbig2.specs.inner.PageViews.{near_area}
-use Rattle.hayro_jbig2.specs.inner.Parsed.{apart, drawn, info_of, initial_of}
+use Rattle.hayro_jbig2.specs.inner.Parsed.{apart, drawing_of, drawn, info_of, initial_of}
 use Rattle.hayro_jbig2.specs.inner.Whole.{IsBegun, IsWhole, touched}
 use Rattle.hayro_jbig2.proofs.PageArea.{area-near}
 use Rattle.hayro_jbig2.proofs.RegionSizes.{Made, bad, generic-made, good, halftone-made, refined-made, text-made}
@@ -138,6 +139,10 @@ pub shown-refused : (d : Drawing) (meant : Result PlacedRegion DecodeError) (e :
 shown-refused d meant e (inl memory) = inl memory
 shown-refused d meant e (inr failed) = inr (ap (λ (a : Result PlacedRegion DecodeError). shown true d a) failed)
 
+pub kept-refused : (number : ℕ) (d : Drawing) (meant : Result PlacedRegion DecodeError) (e : DecodeError) → (e ≡ OutOfMemory) ⊎ (meant ≡ Err e) → (e ≡ OutOfMemory) ⊎ ((meant >>= λ r. Ok (with_region number d r)) ≡ Err e)
+kept-refused number d meant e (inl memory) = inl memory
+kept-refused number d meant e (inr failed) = inr (ap (λ (a : Result PlacedRegion DecodeError). a >>= λ r. let kept : Result Drawing DecodeError = Ok (with_region number d r) in kept) failed)
+
 pub led-to : {A : Type 0} (r : ParsedRegion A) (meant : Result PlacedRegion DecodeError) (e : DecodeError) → meant ≡ apart r → (e ≡ OutOfMemory) ⊎ (apart r ≡ Err e) → (e ≡ OutOfMemory) ⊎ (meant ≡ Err e)
 led-to r meant e leads (inl memory) = inl memory
 led-to r meant e leads (inr failed) = inr (leads ∙ failed)
@@ -149,14 +154,17 @@ region-touched strict globals kinds.Halftone is_intermediate p d = refl
 region-touched strict globals kinds.Generic is_intermediate p d = refl
 region-touched strict globals kinds.GenericRefinement is_intermediate p d = refl
 
--- the drawing that references see
-pub led : {A : Type 0} (strict : Bool) (globals : Names) (kind : RegionKind) (is_intermediate : Bool) (p : SegmentView) (page : Grid) (regions items : List (Kept (DecodedRegion A))) (names : Names) (untouched : Bool) (d : Drawing) (meant : Result PlacedRegion DecodeError)
-    → regions ≡ items → record { grid = page; regions = seen region_view items; names = names; untouched = untouched } ≡ d → region_at strict globals kind is_intermediate p (record { grid = page; regions = seen region_view regions; names = names; untouched = false }) ≡ meant → region_at strict globals kind is_intermediate p d ≡ meant
-led {A = A} strict globals kind is_intermediate p page regions items names untouched d meant same view leads =
+-- what references over the parts of a page lead to
+pub led : {A : Type 0} (r : References A) (strict : Bool) (globals : Names) (kind : RegionKind) (is_intermediate : Bool) (p : SegmentView) (page : Grid) (regions items : List (Kept (DecodedRegion A))) (names : Names) (untouched : Bool) (d : Drawing) (meant : Result PlacedRegion DecodeError)
+    → r.names.strict ≡ strict → r.names.globals.now ≡ globals → drawing_of r ≡ record { grid = page; regions = seen region_view regions; names = names; untouched = false } → regions ≡ items → record { grid = page; regions = seen region_view items; names = names; untouched = untouched } ≡ d → region_at r.names.strict r.names.globals.now kind is_intermediate p (drawing_of r) ≡ meant → region_at strict globals kind is_intermediate p d ≡ meant
+led {A = A} r strict globals kind is_intermediate p page regions items names untouched d meant strictly shared parts same view leads =
     let inside : Drawing = record { grid = page; regions = seen region_view items; names = names; untouched = untouched } in
     ap (λ (b : Drawing). region_at strict globals kind is_intermediate p b) (sym view)
     ∙ sym (region-touched strict globals kind is_intermediate p inside)
     ∙ ap (λ (xs : List (Kept (DecodedRegion A))). region_at strict globals kind is_intermediate p (record { grid = page; regions = seen region_view xs; names = names; untouched = false })) (sym same)
+    ∙ ap (λ (b : Drawing). region_at strict globals kind is_intermediate p b) (sym parts)
+    ∙ ap (λ (mode : Bool). region_at mode globals kind is_intermediate p (drawing_of r)) (sym strictly)
+    ∙ ap (λ (given : Names). region_at r.names.strict given kind is_intermediate p (drawing_of r)) (sym shared)
     ∙ leads
 
 -- a page that is as it was

@@ -15,6 +15,7 @@ mod RegionSizes
 pub mod Runs
 pub mod Sending
 pub mod SegmentCauses
+mod SegmentTypes
 mod Shades
 pub mod Spelling
 pub mod Untouched

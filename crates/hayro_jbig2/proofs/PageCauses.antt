@@ -13,7 +13,7 @@ use Rattle.jbig2_base.specs.declared.segment.SegmentType.TheVariants as types
 use Rattle.jbig2_base.proofs.Causes.{cause-next}
 use Rattle.jbig2_region.specs.Generic.{PlacedRegion}
 use Rattle.jbig2_symbol.proofs.ReadingCauses.{cause-by, cause-if, in-steps, own-error}
-use Rattle.hayro_jbig2.specs.Causes.{BreaksBeginning, BreaksExtension}
+use Rattle.hayro_jbig2.specs.Causes.{BreaksBeginning, BreaksExtension, BreaksSymbolDictionary}
 use Rattle.hayro_jbig2.specs.PageCauses.{BreaksDrawing, BreaksGlobal, BreaksImmediate, BreaksNames, BreaksRegion, BreaksSegmentOn, EmbeddedPagesHaveCauses, FileGlobalsHaveCauses, GlobalsHaveCauses, PagesHaveCauses}
 use Rattle.hayro_jbig2.specs.Dictionaries.{code_at, extension, pattern_dictionary_at, symbol_dictionary_at, with_code, with_patterns, with_symbols}
 use Rattle.hayro_jbig2.specs.Globals.{globals_at, named_by, named_from}
@@ -24,10 +24,7 @@ use Rattle.hayro_jbig2.specs.declared.region.RegionKind.{RegionKind}
 use Rattle.hayro_jbig2.specs.declared.region.RegionKind.TheVariants as kinds
 use Rattle.hayro_jbig2.proofs.Causes.{beginning_causes}
 use Rattle.hayro_jbig2.proofs.SegmentCauses.{extension_causes, halftone_causes, refinement_causes, symbol_dictionary_causes, text_causes}
-
--- one with this header but for its type
-abbrev of_type : SegmentType → Header → List ℕ → SegmentView
-of_type kind h bytes = record { header = record h { segment_type = kind }; bytes = bytes }
+use Rattle.hayro_jbig2.proofs.SegmentTypes.{of_type, of-segment}
 
 -- ---- what is kept
 symbols-cause : (P : DecodeError → Type 0) (strict : Bool) (shared : Names) (p : SegmentView) (own : Names) → IfErr (symbol_dictionary_at strict own shared p) P → IfErr (with_symbols strict shared p own) P
@@ -70,28 +67,10 @@ intermediate-causes strict globals kind p d =
 -- ---- segments of globals
 global-causes : (strict : Bool) (kind : SegmentType) (h : Header) (bytes : List ℕ) (names : Names) → IfErr (named_by strict (of_type kind h bytes) names) (BreaksGlobal strict names (of_type kind h bytes))
 global-causes strict types.SymbolDictionary h bytes names = let p = of_type types.SymbolDictionary h bytes in symbols-cause (BreaksGlobal strict names p) strict no_names p names (symbol_dictionary_causes strict names no_names p)
-global-causes strict types.IntermediateTextRegion h bytes names = tt
-global-causes strict types.ImmediateTextRegion h bytes names = tt
-global-causes strict types.ImmediateLosslessTextRegion h bytes names = tt
 global-causes strict types.PatternDictionary h bytes names = patterns-cause strict (of_type types.PatternDictionary h bytes) names
-global-causes strict types.IntermediateHalftoneRegion h bytes names = tt
-global-causes strict types.ImmediateHalftoneRegion h bytes names = tt
-global-causes strict types.ImmediateLosslessHalftoneRegion h bytes names = tt
-global-causes strict types.IntermediateGenericRegion h bytes names = tt
-global-causes strict types.ImmediateGenericRegion h bytes names = tt
-global-causes strict types.ImmediateLosslessGenericRegion h bytes names = tt
-global-causes strict types.IntermediateGenericRefinementRegion h bytes names = tt
-global-causes strict types.ImmediateGenericRefinementRegion h bytes names = tt
-global-causes strict types.ImmediateLosslessGenericRefinementRegion h bytes names = tt
-global-causes strict types.PageInformation h bytes names = tt
-global-causes strict types.EndOfPage h bytes names = tt
-global-causes strict types.EndOfStripe h bytes names = tt
-global-causes strict types.EndOfFile h bytes names = tt
-global-causes strict types.Profiles h bytes names = tt
 global-causes strict types.Tables h bytes names = code-cause (of_type types.Tables h bytes) names
-global-causes strict types.ColourPalette h bytes names = tt
 global-causes strict types.Extension h bytes names = cause-next (BreaksExtension strict bytes) (extension strict bytes) _ (extension_causes strict bytes) (λ known known_is. tt)
-global-causes strict types.Reserved h bytes names = tt
+global-causes strict _ h bytes names = tt
 
 -- the place of the segment that is refused, one behind another segment
 names-later : (strict : Bool) (p : SegmentView) (ps : List SegmentView) (names more : Names) (e : DecodeError) → named_by strict p names ≡ Ok more → BreaksNames strict ps more e → BreaksNames strict (p ∷ ps) names e
@@ -112,37 +91,20 @@ globals_causes strict bytes =
     in-steps (sorted_segments strict bytes) _ (IsOf (sorted_segments strict bytes)) (λ ps. BreaksNames strict ps no_names) (own-error (sorted_segments strict bytes)) (λ ps ps_is. file_globals_causes strict ps no_names)
 
 -- ---- segments of a page
-segment-causes : (strict : Bool) (globals : Names) (kind : SegmentType) (h : Header) (bytes : List ℕ) (d : Drawing) → IfErr (segment_on strict globals (of_type kind h bytes) d) (BreaksSegmentOn strict globals (of_type kind h bytes) d)
-segment-causes strict globals types.SymbolDictionary h bytes d =
-    let p = of_type types.SymbolDictionary h bytes in
-    let P : DecodeError → Type 0 = BreaksSegmentOn strict globals p d in
-    keeping-cause P d (with_symbols strict globals p d.names) (symbols-cause P strict globals p d.names (symbol_dictionary_causes strict d.names globals p))
-segment-causes strict globals types.IntermediateTextRegion h bytes d = intermediate-causes strict globals kinds.Text (of_type types.IntermediateTextRegion h bytes) d
-segment-causes strict globals types.ImmediateTextRegion h bytes d = immediate-causes strict globals kinds.Text (of_type types.ImmediateTextRegion h bytes) d
-segment-causes strict globals types.ImmediateLosslessTextRegion h bytes d = immediate-causes strict globals kinds.Text (of_type types.ImmediateLosslessTextRegion h bytes) d
-segment-causes strict globals types.PatternDictionary h bytes d =
-    let p = of_type types.PatternDictionary h bytes in
-    keeping-cause (IsOf (pattern_dictionary_at strict bytes)) d (with_patterns strict p d.names) (patterns-cause strict p d.names)
-segment-causes strict globals types.IntermediateHalftoneRegion h bytes d = intermediate-causes strict globals kinds.Halftone (of_type types.IntermediateHalftoneRegion h bytes) d
-segment-causes strict globals types.ImmediateHalftoneRegion h bytes d = immediate-causes strict globals kinds.Halftone (of_type types.ImmediateHalftoneRegion h bytes) d
-segment-causes strict globals types.ImmediateLosslessHalftoneRegion h bytes d = immediate-causes strict globals kinds.Halftone (of_type types.ImmediateLosslessHalftoneRegion h bytes) d
-segment-causes strict globals types.IntermediateGenericRegion h bytes d = intermediate-causes strict globals kinds.Generic (of_type types.IntermediateGenericRegion h bytes) d
-segment-causes strict globals types.ImmediateGenericRegion h bytes d = immediate-causes strict globals kinds.Generic (of_type types.ImmediateGenericRegion h bytes) d
-segment-causes strict globals types.ImmediateLosslessGenericRegion h bytes d = immediate-causes strict globals kinds.Generic (of_type types.ImmediateLosslessGenericRegion h bytes) d
-segment-causes strict globals types.IntermediateGenericRefinementRegion h bytes d = intermediate-causes strict globals kinds.GenericRefinement (of_type types.IntermediateGenericRefinementRegion h bytes) d
-segment-causes strict globals types.ImmediateGenericRefinementRegion h bytes d = immediate-causes strict globals kinds.GenericRefinement (of_type types.ImmediateGenericRefinementRegion h bytes) d
-segment-causes strict globals types.ImmediateLosslessGenericRefinementRegion h bytes d = immediate-causes strict globals kinds.GenericRefinement (of_type types.ImmediateLosslessGenericRefinementRegion h bytes) d
-segment-causes strict globals types.PageInformation h bytes d = tt
-segment-causes strict globals types.EndOfPage h bytes d = tt
-segment-causes strict globals types.EndOfStripe h bytes d = tt
-segment-causes strict globals types.EndOfFile h bytes d = tt
-segment-causes strict globals types.Profiles h bytes d = tt
-segment-causes strict globals types.Tables h bytes d =
-    let p = of_type types.Tables h bytes in
-    keeping-cause (IsOf (code_at bytes)) d (with_code p d.names) (code-cause p d.names)
-segment-causes strict globals types.ColourPalette h bytes d = tt
-segment-causes strict globals types.Extension h bytes d = cause-next (BreaksExtension strict bytes) (extension strict bytes) _ (extension_causes strict bytes) (λ known known_is. tt)
-segment-causes strict globals types.Reserved h bytes d = tt
+segment-causes : (strict : Bool) (globals : Names) (p : SegmentView) (d : Drawing) → IfErr (segment_on strict globals p d) (BreaksSegmentOn strict globals p d)
+segment-causes strict globals p d =
+    of-segment IfErr strict globals p d
+    (record {
+      symbols = λ q.
+          let P : DecodeError → Type 0 = BreaksSymbolDictionary strict d.names globals q in
+          keeping-cause P d (with_symbols strict globals q d.names) (symbols-cause P strict globals q d.names (symbol_dictionary_causes strict d.names globals q));
+      patterns = λ q. keeping-cause (IsOf (pattern_dictionary_at strict q.bytes)) d (with_patterns strict q d.names) (patterns-cause strict q d.names);
+      tables = λ q. keeping-cause (IsOf (code_at q.bytes)) d (with_code q d.names) (code-cause q d.names);
+      extensions = λ bytes. cause-next (BreaksExtension strict bytes) (extension strict bytes) _ (extension_causes strict bytes) (λ known known_is. tt);
+      kept = λ kind q. intermediate-causes strict globals kind q d;
+      shown = λ kind q. immediate-causes strict globals kind q d;
+      others = tt;
+    })
 
 drawing-later : (strict : Bool) (globals : Names) (p : SegmentView) (ps : List SegmentView) (d more : Drawing) (e : DecodeError)
     → IsFalse (ends_page p.header.segment_type) → segment_on strict globals p d ≡ Ok more → BreaksDrawing strict globals ps more e → BreaksDrawing strict globals (p ∷ ps) d e
@@ -163,7 +125,7 @@ drawing-causes strict globals (p ∷ ps) d =
     let P : DecodeError → Type 0 = BreaksDrawing strict globals (p ∷ ps) d in
     cause-if P (ends_page p.header.segment_type) (Ok d) (segment_on strict globals p d >>= λ e. segments_drawn strict globals ps e) (λ ends. tt) (λ on.
     cause-next P (segment_on strict globals p d) _
-    (cause-by (segment_on strict globals p d) (BreaksSegmentOn strict globals p d) P (segment-causes strict globals p.header.segment_type p.header p.bytes d) (λ e is broken. (0, p, d, refl, (on, tt), refl, broken)))
+    (cause-by (segment_on strict globals p d) (BreaksSegmentOn strict globals p d) P (segment-causes strict globals p d) (λ e is broken. (0, p, d, refl, (on, tt), refl, broken)))
     (λ more more_is. cause-by (segments_drawn strict globals ps more) (BreaksDrawing strict globals ps more) P (drawing-causes strict globals ps more) (λ e is some. drawing-later strict globals p ps d more e on more_is some)))
 
 -- ---- pages

@@ -5,16 +5,22 @@ ghost use Rattle.jbig2_base.specs.inner.SegmentViews.{segment_view, segment_view
 ghost use Rattle.hayro_jbig2.specs.Dictionaries.{with_patterns, with_symbols};
 ghost use Rattle.hayro_jbig2.specs.Page.{segments_drawn, ends_page, immediate, intermediate, keeping, region_at, segment_on, shown};
 ghost use Rattle.jbig2_base.specs.declared.error.DecodeError.TheVariants.{OutOfMemory};
+ghost use Rattle.jbig2_region.specs.Generic.{region_view};
+ghost use Rattle.hayro_jbig2.specs.inner.KeptViews.{seen};
+ghost use Rattle.hayro_jbig2.specs.inner.Parsed.{drawing_of};
 ghost use Rattle.hayro_jbig2.specs.inner.Whole.{touched};
 
 use crate::context::DecoderContext;
 use crate::dictionaries::{extension, keep_patterns, keep_symbols, keep_table};
+use crate::kept::Kept;
 use crate::names::{KeptNames, Lookup};
 use crate::references::References;
 use crate::region::RegionKind;
+use jbig2_base::bitmap::Bitmap;
 use jbig2_base::bitmap::steps::Steps;
 use jbig2_base::error::{DecodeError, Result};
 use jbig2_base::segment::{Segment, SegmentType};
+use jbig2_region::generic::DecodedRegion;
 use std::alloc::Allocator;
 use std::sync::ledger::Ledger;
 
@@ -144,6 +150,33 @@ impl<'a, A: Allocator + Clone> Drawer<'a, A> {
         keep_patterns(&mut context.names, self.strict, segment, workspace, steps)
     }
 
+    /// What a region may refer to, among the parts of a context.
+    fn references<'n, 'r, 'p>(
+        &'n self,
+        own: &'n KeptNames<A>,
+        regions: &'r [Kept<DecodedRegion<A>>],
+        page: &'p Bitmap<A>,
+    ) -> References<'n, 'r, 'p, A>
+        ensures strict { result.names.strict ≡ self.now.strict }
+        ensures globals { result.names.globals.now ≡ self.now.globals.now }
+        ensures drawing { drawing_of result ≡ record {
+          grid = page.now;
+          regions = seen region_view regions.now;
+          names = own.now;
+          untouched = false;
+        } }
+    {
+        References {
+            names: Lookup {
+                strict: self.strict,
+                own,
+                globals: self.globals,
+            },
+            regions,
+            page,
+        }
+    }
+
     /// Draws an immediate region. Lenient reading passes over one that failed, but never over want of
     /// memory.
     #[tactic(auto, unfolding(crate::specs::Page::immediate))]
@@ -180,15 +213,7 @@ impl<'a, A: Allocator + Clone> Drawer<'a, A> {
             (touched context.new ≡ touched context.old)) }
     {
         let is_white = context.is_white();
-        let references = References {
-            names: Lookup {
-                strict: self.strict,
-                own: &context.names,
-                globals: self.globals,
-            },
-            regions: &context.regions,
-            page: &context.bitmap,
-        };
+        let references = self.references(&context.names, &context.regions, &context.bitmap);
         let workspace = &context.workspace;
         let parsed = references.parse_region(kind, false, segment, workspace, steps)?;
         if is_white && parsed.makes_up(&context.bitmap) {
@@ -226,15 +251,7 @@ impl<'a, A: Allocator + Clone> Drawer<'a, A> {
             (intermediate self.now.strict self.now.globals.now kind (segment_view segment.now)
             context.old) }
     {
-        let references = References {
-            names: Lookup {
-                strict: self.strict,
-                own: &context.names,
-                globals: self.globals,
-            },
-            regions: &context.regions,
-            page: &context.bitmap,
-        };
+        let references = self.references(&context.names, &context.regions, &context.bitmap);
         let workspace = &context.workspace;
         let parsed = references.parse_region(kind, true, segment, workspace, steps)?;
         let region = parsed.decode(&mut context.workspace, steps)?;

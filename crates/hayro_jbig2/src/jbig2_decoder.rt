@@ -1,12 +1,14 @@
 //! The first page of a file that a reader gives.
 ghost use Rattle.std.specs.Prelude.{◌≡◌, ◌*◌, Ok, IfErr, IfOk, IfSome, OnErr, length};
-ghost use Rattle.jbig2_base.specs.Answer.{Gives};
+ghost use Rattle.jbig2_base.specs.Answer.{Answers, Gives};
 ghost use Rattle.hayro_jbig2.specs.Causes.{FirstPagesHaveCauses};
-ghost use Rattle.hayro_jbig2.specs.FirstPage.{first_size, first_image, first_packed, IsLasting, Opens, GivesAgain};
+ghost use Rattle.hayro_jbig2.specs.Files.{page_of};
+ghost use Rattle.hayro_jbig2.specs.FirstPage.{first_size, first_image, first_packed, some_page, IsLasting, Opens, GivesAgain};
 ghost use Rattle.hayro_jbig2.specs.Image.{packed_size};
 
 use crate::file::File;
 use crate::jbig2_error::Jbig2Error;
+use crate::page::Page;
 use crate::reading::read_all;
 use crate::settings::DecodeSettings;
 use jbig2_base::error::{DecodeError, FormatError};
@@ -37,16 +39,24 @@ impl<A: Allocator> Model for Jbig2Decoder<A> {
         ≡ Ok (decoder.width, decoder.height) };
 }
 
+/// The first page of a file.
+fn first_page_of<'f, A: Allocator>(file: &'f File<'_, A>) -> jbig2_base::error::Result<Page<'f, A>>
+    ensures { Answers (λ page. page) result (some_page (page_of file.now 0)) }
+{
+    match file.page(0) {
+        Some(page) => Ok(page),
+        None => Err(DecodeError::Format(FormatError::MissingPageInfo)),
+    }
+}
+
 /// The width and the height of the first page.
 #[tactic(auto, unfolding(crate::specs::FirstPage::first_page))]
 fn first_size<A: Allocator + Clone>(alloc: A, bytes: &[u8]) -> jbig2_base::error::Result<(u32, u32)>
     ensures { Gives (λ size. size) result (first_size bytes.now) }
 {
     let file = File::new(alloc, bytes, &LENIENT)?;
-    match file.page(0) {
-        Some(page) => Ok(page.dimensions()),
-        None => Err(DecodeError::Format(FormatError::MissingPageInfo)),
-    }
+    let page = first_page_of(&file)?;
+    Ok(page.dimensions())
 }
 
 /// Writes the first page, as `Page::read_image` does.
@@ -61,10 +71,8 @@ fn first_image<A: Allocator + Clone>(
     ensures unchanged { OnErr result (buf.new ≡ buf.old) }
 {
     let file = File::new(alloc, bytes, &LENIENT)?;
-    match file.page(0) {
-        Some(page) => page.read_image(buf),
-        None => Err(DecodeError::Format(FormatError::MissingPageInfo)),
-    }
+    let page = first_page_of(&file)?;
+    page.read_image(buf)
 }
 
 /// Writes the first page, as `Page::read_packed` does.
@@ -79,10 +87,8 @@ fn first_packed<A: Allocator + Clone>(
     ensures unchanged { OnErr result (buf.new ≡ buf.old) }
 {
     let file = File::new(alloc, bytes, &LENIENT)?;
-    match file.page(0) {
-        Some(page) => page.read_packed(buf),
-        None => Err(DecodeError::Format(FormatError::MissingPageInfo)),
-    }
+    let page = first_page_of(&file)?;
+    page.read_packed(buf)
 }
 
 impl<A: Allocator + Clone> Jbig2Decoder<A> {

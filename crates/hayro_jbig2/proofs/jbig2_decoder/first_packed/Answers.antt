@@ -1,6 +1,6 @@
 use Rattle.hayro_jbig2.specs.FirstPage.{first_page}
 use Rattle.hayro_jbig2.proofs.jbig2_decoder.first_packed.Goals as goal
 
-pub returns-in-Some-clause-value : goal.returns-in-Some-clause-value
+pub returns-clause-value : goal.returns-clause-value
 unfolding first_page
-returns-in-Some-clause-value g c = rw (c.in_ok-file.ensures.value, ← c.in-Some.ensures.value) c.read_packed.ensures.value
+returns-clause-value g c = rw (c.in_ok-file.ensures.value, c.in_ok-page.ensures) c.read_packed.ensures.value

@@ -17,14 +17,14 @@ returns-in_err-region-clause-value g c =
     let d : Drawing = c.args.context.now in
     let e = err_from_is_err_and c.from_residual-in_err-region.result c.from_residual-in_err-region.ensures.1 in
     let meant : Result PlacedRegion DecodeError = region_at c.args.self.now.strict c.args.self.now.globals.now c.args.kind false (segment_view c.args.segment.now) d in
-    let leads : meant ≡ apart c.in_ok-parsed.parsed = led c.args.self.now.strict c.args.self.now.globals.now c.args.kind false (segment_view c.args.segment.now) c.context.inside.bitmap c.deref.result.now c.context.inside.regions.items c.context.inside.names c.context.inside.untouched d (apart c.in_ok-parsed.parsed) c.deref.ensures.value c.context.view_is c.in_ok-parsed.ensures.value in
+    let leads : meant ≡ apart c.in_ok-parsed.parsed = led c.references-references.result c.args.self.now.strict c.args.self.now.globals.now c.args.kind false (segment_view c.args.segment.now) c.context.inside.bitmap c.deref.result.now c.context.inside.regions.items c.context.inside.names c.context.inside.untouched d (apart c.in_ok-parsed.parsed) c.references-references.ensures.strict c.references-references.ensures.globals c.references-references.ensures.drawing c.deref.ensures.value c.context.view_is c.in_ok-parsed.ensures.value in
     rw (e.1, e.2) (shown-refused d meant c.in_err-region.field-0.0 (led-to c.in_ok-parsed.parsed meant c.in_err-region.field-0.0 leads c.in_err-region.ensures))
 
 pub returns-clause-value : goal.returns-clause-value
 returns-clause-value g c =
     let d : Drawing = c.args.context.now in
     let meant : Result PlacedRegion DecodeError = region_at c.args.self.now.strict c.args.self.now.globals.now c.args.kind false (segment_view c.args.segment.now) d in
-    let leads : meant ≡ apart c.in_ok-parsed.parsed = led c.args.self.now.strict c.args.self.now.globals.now c.args.kind false (segment_view c.args.segment.now) c.context.inside.bitmap c.deref.result.now c.context.inside.regions.items c.context.inside.names c.context.inside.untouched d (apart c.in_ok-parsed.parsed) c.deref.ensures.value c.context.view_is c.in_ok-parsed.ensures.value in
+    let leads : meant ≡ apart c.in_ok-parsed.parsed = led c.references-references.result c.args.self.now.strict c.args.self.now.globals.now c.args.kind false (segment_view c.args.segment.now) c.context.inside.bitmap c.deref.result.now c.context.inside.regions.items c.context.inside.names c.context.inside.untouched d (apart c.in_ok-parsed.parsed) c.references-references.ensures.strict c.references-references.ensures.globals c.references-references.ensures.drawing c.deref.ensures.value c.context.view_is c.in_ok-parsed.ensures.value in
     let drawn : Ok c.combine.new.self ≡ shown true d (Ok (region_view c.in_ok-region.region)) = c.combine.ensures ∙ ap (λ (b : Drawing). shown true b (Ok (region_view c.in_ok-region.region))) c.context.view_is in
     combined-shown c.in_ok-parsed.parsed meant d c.combine.new.self (region_view c.in_ok-region.region) leads c.in_ok-region.ensures drawn
 
@@ -33,7 +33,7 @@ returns-then-makes_up-clause-value g c =
     let d : Drawing = c.args.context.now in
     let inside : Drawing = record { grid = c.context.inside.bitmap; regions = seen region_view c.context.inside.regions.items; names = c.context.inside.names; untouched = c.context.inside.untouched } in
     let meant : Result PlacedRegion DecodeError = region_at c.args.self.now.strict c.args.self.now.globals.now c.args.kind false (segment_view c.args.segment.now) d in
-    let leads : meant ≡ apart c.in_ok-parsed.parsed = led c.args.self.now.strict c.args.self.now.globals.now c.args.kind false (segment_view c.args.segment.now) c.context.inside.bitmap c.deref.result.now c.context.inside.regions.items c.context.inside.names c.context.inside.untouched d (apart c.in_ok-parsed.parsed) c.deref.ensures.value c.context.view_is c.in_ok-parsed.ensures.value in
+    let leads : meant ≡ apart c.in_ok-parsed.parsed = led c.references-references.result c.args.self.now.strict c.args.self.now.globals.now c.args.kind false (segment_view c.args.segment.now) c.context.inside.bitmap c.deref.result.now c.context.inside.regions.items c.context.inside.names c.context.inside.untouched d (apart c.in_ok-parsed.parsed) c.references-references.ensures.strict c.references-references.ensures.globals c.references-references.ensures.drawing c.deref.ensures.value c.context.view_is c.in_ok-parsed.ensures.value in
     let begun : IsBegun false c.context.inside.bitmap = subst (λ (p : Grid). IsBegun false p) (sym (ap (λ (b : Drawing). b.grid) c.context.view_is)) (c.is_white-is_white.ensures c.if-is_white.true) in
     let whole : IsWhole (info_of c.in_ok-parsed.parsed) (initial_of c.in_ok-parsed.parsed) c.context.inside.bitmap = c.makes_up.ensures c.if-makes_up.true begun in
     subst (λ (b : Drawing). Gives (λ _. record inside { grid = c.decode_onto.new.page; untouched = false }) c.decode_onto.result (shown true b meant)) c.context.view_is
