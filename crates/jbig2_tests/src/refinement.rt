@@ -41,8 +41,10 @@ fn rows<L: Ledger>(bitmap: &Bitmap<Global>, steps: &mut Steps<L>) -> [u64; 3] {
 struct Case {
     /// Where the reference lies on the page.
     reference: (u32, u32),
-    /// The segment's data up to the coded bytes: the region is one of 8 by 3 pixels.
-    header: &'static [u8],
+    /// Where the region of 8 by 3 pixels lies on the page.
+    place: (u8, u8),
+    /// The flags, and the adaptive pixels of template 0.
+    coding: [u8; 5],
     rows: [u64; 3],
 }
 
@@ -50,63 +52,71 @@ struct Case {
 const CASES: &[Case] = &[
     Case {
         reference: (0, 0),
-        header: &[
-            0, 0, 0, 8, 0, 0, 0, 3, 0, 0, 0, 0, 0, 0, 0, 0, 0, 0, 0xFF, 0xFF, 0xFF, 0xFF,
-        ],
+        place: (0, 0),
+        coding: [0, 0xFF, 0xFF, 0xFF, 0xFF],
         rows: [0b00010010, 0b00101100, 0b11100011],
     },
     Case {
         reference: (2, 1),
-        header: &[
-            0, 0, 0, 8, 0, 0, 0, 3, 0, 0, 0, 0, 0, 0, 0, 0, 0, 0, 0xFF, 0xFF, 0xFF, 0xFF,
-        ],
+        place: (0, 0),
+        coding: [0, 0xFF, 0xFF, 0xFF, 0xFF],
         rows: [0b00010010, 0b00101101, 0b01000100],
     },
     Case {
         reference: (0, 0),
-        header: &[
-            0, 0, 0, 8, 0, 0, 0, 3, 0, 0, 0, 0, 0, 0, 0, 0, 0, 0, 3, 0, 5, 1,
-        ],
+        place: (0, 0),
+        coding: [0, 3, 0, 5, 1],
         rows: [0b00010010, 0b00101001, 0b11000111],
     },
     Case {
         reference: (0, 0),
-        header: &[
-            0, 0, 0, 8, 0, 0, 0, 3, 0, 0, 0, 0, 0, 0, 0, 0, 0, 0, 0xFD, 0xFE, 0xFF, 0xFF,
-        ],
+        place: (0, 0),
+        coding: [0, 0xFD, 0xFE, 0xFF, 0xFF],
         rows: [0b00010010, 0b00101100, 0b00111111],
     },
     Case {
         reference: (0, 0),
-        header: &[
-            0, 0, 0, 8, 0, 0, 0, 3, 0, 0, 0, 0, 0, 0, 0, 0, 0, 2, 0xFF, 0xFF, 0xFF, 0xFF,
-        ],
+        place: (0, 0),
+        coding: [2, 0xFF, 0xFF, 0xFF, 0xFF],
         rows: [0b00100100, 0b00100111, 0b00011110],
     },
     Case {
         reference: (0, 0),
-        header: &[0, 0, 0, 8, 0, 0, 0, 3, 0, 0, 0, 0, 0, 0, 0, 0, 0, 1],
+        place: (0, 0),
+        coding: [1, 0, 0, 0, 0],
         rows: TEMPLATE_1_ROWS,
     },
     Case {
         reference: (0, 0),
-        header: &[0, 0, 0, 8, 0, 0, 0, 3, 0, 0, 0, 3, 0, 0, 0, 1, 0, 1],
+        place: (3, 1),
+        coding: [1, 0, 0, 0, 0],
         rows: [0b00010000, 0b11010100, 0b00011110],
     },
     Case {
         reference: (1, 0),
-        header: &[0, 0, 0, 8, 0, 0, 0, 3, 0, 0, 0, 0, 0, 0, 0, 1, 0, 3],
+        place: (0, 1),
+        coding: [3, 0, 0, 0, 0],
         rows: [0b00100100, 0b01001101, 0b00000000],
     },
     Case {
         reference: (0, 0),
-        header: &[0, 0, 0, 8, 0, 0, 0, 3, 0, 0, 0, 3, 0, 0, 0, 1, 0, 3],
+        place: (3, 1),
+        coding: [3, 0, 0, 0, 0],
         rows: [0b00100101, 0b01000001, 0b00100100],
     },
 ];
 
 /// The rows of the refinement by template 1 that lies where its reference does.
 const TEMPLATE_1_ROWS: [u64; 3] = [0b00010010, 0b00101100, 0b01000111];
+
+/// A segment's data up to the coded bytes.
+fn header_of(case: &Case) -> [u8; 22] {
+    let (x, y) = case.place;
+    let [flags, x1, y1, x2, y2] = case.coding;
+    [
+        0, 0, 0, 8, 0, 0, 0, 3, 0, 0, 0, x, 0, 0, 0, y, 0, flags, x1, y1, x2, y2,
+    ]
+}
 
 /// Whether the rows are the expected ones.
 fn is_refined<L: Ledger>(
@@ -115,7 +125,8 @@ fn is_refined<L: Ledger>(
     from: &DecodedRegion<Global>,
     steps: &mut Steps<L>,
 ) -> Result<bool> {
-    let mut header = parse(&mut Reader::new(case.header))?;
+    let bytes = header_of(case);
+    let mut header = parse(&mut Reader::new(&bytes))?;
     header.bytes = &CODED;
     let mut contexts = Vec::new(alloc);
     let region = decode(alloc, &header, from, &mut contexts, steps)?;
