@@ -63,9 +63,10 @@ fn a_page_with_a_byte_replaced_is_drawn_or_refused_before_any_call(rt: HostRunti
         return;
     };
     for page in PAGES {
-        match first_that_is_drawn(rt.alloc(), page, &mut context) {
-            Ok(place) => assert!(rt; place.is_none(), "{page} at {}", place.unwrap_or(0)),
-            Err(error) => assert!(rt; error == DecodeError::OutOfMemory),
-        }
+        let place = first_that_is_drawn(rt.alloc(), page, &mut context);
+        assert!(rt;
+            place == Ok(None) || place == Err(DecodeError::OutOfMemory),
+            "{page}"
+        );
     }
 }

@@ -17,29 +17,17 @@ pub const INK: Call = Call::Pixel(true);
 /// `push_pixel` of a white pixel.
 pub const PAPER: Call = Call::Pixel(false);
 
+/// `next_line`.
+pub const LINE: Call = Call::Line;
+
 /// One row of eight white pixels.
-pub const WHITE: &[Call] = &[Call::Chunk(false, 1), Call::Line];
+pub const WHITE: &[Call] = &[Call::Chunk(false, 1), LINE];
 
 /// Two rows of eight white pixels.
-pub const WHITE_TWICE: &[Call] = &[
-    Call::Chunk(false, 1),
-    Call::Line,
-    Call::Chunk(false, 1),
-    Call::Line,
-];
+pub const WHITE_TWICE: &[Call] = &[Call::Chunk(false, 1), LINE, Call::Chunk(false, 1), LINE];
 
 /// One row of eight black pixels.
-pub const BLACK: &[Call] = &[Call::Chunk(true, 1), Call::Line];
+pub const BLACK: &[Call] = &[Call::Chunk(true, 1), LINE];
 
 /// One row of a black pixel and seven white ones.
-pub const DOT: &[Call] = &[
-    INK,
-    PAPER,
-    PAPER,
-    PAPER,
-    PAPER,
-    PAPER,
-    PAPER,
-    PAPER,
-    Call::Line,
-];
+pub const DOT: &[Call] = &[INK, PAPER, PAPER, PAPER, PAPER, PAPER, PAPER, PAPER, LINE];

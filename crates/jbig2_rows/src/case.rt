@@ -53,6 +53,8 @@ pub struct Header {
 pub enum Case {
     /// What comes of an embedded page in these modes.
     Page(Modes, &'static str, Answer),
+    /// What comes of an embedded page strictly, and what leniently.
+    ByMode(&'static str, Answer, Answer),
     /// What comes in these modes of each beginning of an embedded page that has from the first to the
     /// second number of bytes.
     Beginnings(Modes, &'static str, (usize, usize), Answer),
@@ -130,6 +132,9 @@ pub fn row_serves_on(
 fn case_holds(alloc: Global, case: &Case, context: &mut DecoderContext<Global>) -> Result<bool> {
     match case {
         Case::Page(modes, bytes, answer) => answer_holds(alloc, *modes, bytes, answer, context),
+        Case::ByMode(bytes, strict, lenient) => {
+            answers_hold(alloc, bytes, strict, lenient, context)
+        }
         Case::Beginnings(modes, bytes, lengths, answer) => {
             beginnings_hold(alloc, *modes, bytes, *lengths, answer, context)
         }
@@ -166,6 +171,21 @@ fn answer_holds(
         return Ok(false);
     };
     modes_hold(alloc, modes, &bytes, answer, context)
+}
+
+/// Whether the embedded page that a text spells has these answers, and row 5's page is drawn in between.
+fn answers_hold(
+    alloc: Global,
+    bytes: &str,
+    strict: &Answer,
+    lenient: &Answer,
+    context: &mut DecoderContext<Global>,
+) -> Result<bool> {
+    Ok(
+        answer_holds(alloc, Modes::Strict, bytes, strict, context)?
+            && white_holds(alloc, context)?
+            && answer_holds(alloc, Modes::Lenient, bytes, lenient, context)?,
+    )
 }
 
 fn modes_hold(

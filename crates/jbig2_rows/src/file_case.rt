@@ -1,10 +1,10 @@
 //! The cases of files, of globals, and of decoders over a reader.
 use crate::case::{Answer, Modes, refused_as};
 use crate::drawing::drawing_holds;
+use crate::errors::TOO_EARLY;
 use crate::spelling::spelled;
 use hayro_jbig2::{
-    DecodeError, DecodeSettings, DecoderContext, File, Globals, Jbig2Decoder, Jbig2Error,
-    ParseError, Result,
+    DecodeError, DecodeSettings, DecoderContext, File, Globals, Jbig2Decoder, Jbig2Error, Result,
 };
 use std::alloc::Global;
 use std::io::Cursor;
@@ -105,9 +105,8 @@ fn no_globals_hold(alloc: Global, bytes: &[u8], strict: bool, error: &DecodeErro
 }
 
 fn cuts_hold(alloc: Global, bytes: &[u8], strict: bool, but: usize) -> Result<bool> {
-    let early = DecodeError::Parse(ParseError::UnexpectedEof);
     for length in 0..bytes.len() {
-        if length != but && !refusal_holds(alloc, &bytes[..length], strict, &early)? {
+        if length != but && !refusal_holds(alloc, &bytes[..length], strict, &TOO_EARLY)? {
             return Ok(false);
         }
     }

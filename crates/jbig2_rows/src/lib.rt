@@ -6,6 +6,7 @@ pub mod case;
 mod coder;
 mod combination;
 pub mod drawing;
+mod errors;
 mod file_case;
 pub mod generator;
 mod lists;

@@ -37,76 +37,49 @@ fn rows<L: Ledger>(bitmap: &Bitmap<Global>, steps: &mut Steps<L>) -> [u64; 3] {
     ]
 }
 
-/// A refinement, and the rows that it is expected to make.
-struct Case {
-    /// Where the reference lies on the page.
-    reference: (u32, u32),
-    /// The segment's data up to the coded bytes: the region is one of 8 by 3 pixels.
-    header: &'static [u8],
-    rows: [u64; 3],
-}
+/// The flags of a refinement, and the adaptive pixels where it is by template 0.
+type Coding = [u8; 5];
+
+const NOMINAL: Coding = [0, 0xFF, 0xFF, 0xFF, 0xFF];
+
+const NEAR: Coding = [0, 0xFD, 0xFE, 0xFF, 0xFF];
+
+const UNUSUAL: Coding = [0, 3, 0, 5, 1];
+
+const PREDICTED: Coding = [2, 0xFF, 0xFF, 0xFF, 0xFF];
+
+const TEMPLATE_1: Coding = [1, 0, 0, 0, 0];
+
+const PREDICTED_1: Coding = [3, 0, 0, 0, 0];
+
+/// A refinement: where the reference and where the region of 8 by 3 pixels lie on the page, how it is coded, and
+/// the rows that it is expected to make, eight bits each.
+struct Case((u32, u32), (u8, u8), Coding, [u64; 3]);
 
 /// Both templates, at three places, with near and unusual adaptive pixels, and with prediction.
 const CASES: &[Case] = &[
-    Case {
-        reference: (0, 0),
-        header: &[
-            0, 0, 0, 8, 0, 0, 0, 3, 0, 0, 0, 0, 0, 0, 0, 0, 0, 0, 0xFF, 0xFF, 0xFF, 0xFF,
-        ],
-        rows: [0b00010010, 0b00101100, 0b11100011],
-    },
-    Case {
-        reference: (2, 1),
-        header: &[
-            0, 0, 0, 8, 0, 0, 0, 3, 0, 0, 0, 0, 0, 0, 0, 0, 0, 0, 0xFF, 0xFF, 0xFF, 0xFF,
-        ],
-        rows: [0b00010010, 0b00101101, 0b01000100],
-    },
-    Case {
-        reference: (0, 0),
-        header: &[
-            0, 0, 0, 8, 0, 0, 0, 3, 0, 0, 0, 0, 0, 0, 0, 0, 0, 0, 3, 0, 5, 1,
-        ],
-        rows: [0b00010010, 0b00101001, 0b11000111],
-    },
-    Case {
-        reference: (0, 0),
-        header: &[
-            0, 0, 0, 8, 0, 0, 0, 3, 0, 0, 0, 0, 0, 0, 0, 0, 0, 0, 0xFD, 0xFE, 0xFF, 0xFF,
-        ],
-        rows: [0b00010010, 0b00101100, 0b00111111],
-    },
-    Case {
-        reference: (0, 0),
-        header: &[
-            0, 0, 0, 8, 0, 0, 0, 3, 0, 0, 0, 0, 0, 0, 0, 0, 0, 2, 0xFF, 0xFF, 0xFF, 0xFF,
-        ],
-        rows: [0b00100100, 0b00100111, 0b00011110],
-    },
-    Case {
-        reference: (0, 0),
-        header: &[0, 0, 0, 8, 0, 0, 0, 3, 0, 0, 0, 0, 0, 0, 0, 0, 0, 1],
-        rows: TEMPLATE_1_ROWS,
-    },
-    Case {
-        reference: (0, 0),
-        header: &[0, 0, 0, 8, 0, 0, 0, 3, 0, 0, 0, 3, 0, 0, 0, 1, 0, 1],
-        rows: [0b00010000, 0b11010100, 0b00011110],
-    },
-    Case {
-        reference: (1, 0),
-        header: &[0, 0, 0, 8, 0, 0, 0, 3, 0, 0, 0, 0, 0, 0, 0, 1, 0, 3],
-        rows: [0b00100100, 0b01001101, 0b00000000],
-    },
-    Case {
-        reference: (0, 0),
-        header: &[0, 0, 0, 8, 0, 0, 0, 3, 0, 0, 0, 3, 0, 0, 0, 1, 0, 3],
-        rows: [0b00100101, 0b01000001, 0b00100100],
-    },
+    Case((0, 0), (0, 0), NOMINAL, [0x12, 0x2C, 0xE3]),
+    Case((2, 1), (0, 0), NOMINAL, [0x12, 0x2D, 0x44]),
+    Case((0, 0), (0, 0), UNUSUAL, [0x12, 0x29, 0xC7]),
+    Case((0, 0), (0, 0), NEAR, [0x12, 0x2C, 0x3F]),
+    Case((0, 0), (0, 0), PREDICTED, [0x24, 0x27, 0x1E]),
+    Case((0, 0), (0, 0), TEMPLATE_1, TEMPLATE_1_ROWS),
+    Case((0, 0), (3, 1), TEMPLATE_1, [0x10, 0xD4, 0x1E]),
+    Case((1, 0), (0, 1), PREDICTED_1, [0x24, 0x4D, 0x00]),
+    Case((0, 0), (3, 1), PREDICTED_1, [0x25, 0x41, 0x24]),
 ];
 
 /// The rows of the refinement by template 1 that lies where its reference does.
-const TEMPLATE_1_ROWS: [u64; 3] = [0b00010010, 0b00101100, 0b01000111];
+const TEMPLATE_1_ROWS: [u64; 3] = [0x12, 0x2C, 0x47];
+
+/// A segment's data up to the coded bytes.
+fn header_of(place: (u8, u8), coding: Coding) -> [u8; 22] {
+    let (x, y) = place;
+    let [flags, x1, y1, x2, y2] = coding;
+    [
+        0, 0, 0, 8, 0, 0, 0, 3, 0, 0, 0, x, 0, 0, 0, y, 0, flags, x1, y1, x2, y2,
+    ]
+}
 
 /// Whether the rows are the expected ones.
 fn is_refined<L: Ledger>(
@@ -115,11 +88,13 @@ fn is_refined<L: Ledger>(
     from: &DecodedRegion<Global>,
     steps: &mut Steps<L>,
 ) -> Result<bool> {
-    let mut header = parse(&mut Reader::new(case.header))?;
+    let Case(_, place, coding, expected) = case;
+    let bytes = header_of(*place, *coding);
+    let mut header = parse(&mut Reader::new(&bytes))?;
     header.bytes = &CODED;
     let mut contexts = Vec::new(alloc);
     let region = decode(alloc, &header, from, &mut contexts, steps)?;
-    Ok(rows(&region.bitmap, steps) == case.rows)
+    Ok(rows(&region.bitmap, steps) == *expected)
 }
 
 /// The index of the first case that comes out otherwise than expected, or how many there are.
@@ -136,7 +111,7 @@ fn first_that_differs<L: Ledger>(alloc: Global, blank: Blank) -> Result<usize>
         combination_operator: CombinationOperator::Or,
     };
     for (index, case) in CASES.iter().enumerate() {
-        (from.x_location, from.y_location) = case.reference;
+        (from.x_location, from.y_location) = case.0;
         if !is_refined(alloc, case, &from, &mut steps)? {
             return Ok(index);
         }

@@ -1,8 +1,8 @@
 //! The rows R5 and R14.
 use crate::case::{Case, Row};
 use crate::coder::CoderCase;
+use crate::errors::{INVALID_CODE, TOO_EARLY};
 use crate::table::{Source, TableCase};
-use hayro_jbig2::{DecodeError, HuffmanError, ParseError};
 
 /// The decisions of T.88, H.2, eight to a byte.
 pub const DECISIONS: &[u8] = &[
@@ -20,7 +20,7 @@ const TABLES: &[Row] = &[
         cases: &[
             Case::Table(TableCase::Refused {
                 source: Source::Uniform(3, 1),
-                error: DecodeError::Huffman(HuffmanError::InvalidCode),
+                error: INVALID_CODE,
             }),
             Case::Table(TableCase::Decoded {
                 source: Source::Uniform(2, 1),
@@ -32,19 +32,19 @@ const TABLES: &[Row] = &[
                 source: Source::Nothing,
                 bytes: "00",
                 from: 7,
-                answer: Err(DecodeError::Huffman(HuffmanError::InvalidCode)),
+                answer: Err(INVALID_CODE),
             }),
             Case::Table(TableCase::Decoded {
                 source: Source::Nothing,
                 bytes: "01",
                 from: 7,
-                answer: Err(DecodeError::Huffman(HuffmanError::InvalidCode)),
+                answer: Err(INVALID_CODE),
             }),
             Case::Table(TableCase::Decoded {
                 source: Source::Nothing,
                 bytes: "",
                 from: 0,
-                answer: Err(DecodeError::Parse(ParseError::UnexpectedEof)),
+                answer: Err(TOO_EARLY),
             }),
         ],
     },
@@ -71,7 +71,7 @@ const TABLES: &[Row] = &[
                 source: Source::Custom("00*9 C0"),
                 bytes: "01 80 00*3",
                 from: 7,
-                answer: Err(DecodeError::Huffman(HuffmanError::InvalidCode)),
+                answer: Err(INVALID_CODE),
             }),
         ],
     },
@@ -80,11 +80,11 @@ const TABLES: &[Row] = &[
         cases: &[
             Case::Table(TableCase::Refused {
                 source: Source::Custom("70 00*7 01 1000"),
-                error: DecodeError::Huffman(HuffmanError::InvalidCode),
+                error: INVALID_CODE,
             }),
             Case::Table(TableCase::Refused {
                 source: Source::Custom("70 00*7 01 0F80"),
-                error: DecodeError::Huffman(HuffmanError::InvalidCode),
+                error: INVALID_CODE,
             }),
             Case::Table(TableCase::Decoded {
                 source: Source::Custom("70 00*7 01 8F20"),

@@ -4,9 +4,10 @@ use crate::case::Answer::{Calls, Undrawn};
 use crate::case::Case::File;
 use crate::case::Modes::{Both, Lenient, Strict};
 use crate::case::{Case, Row};
+use crate::errors::{INVALID_REFERENCE, INVALID_SELECTION, NO_PAGE, PAGE_COUNT, TOO_EARLY};
 use crate::file_case::FileCase::{CutOff, NoFirstPage, NoGlobals, Pages, Refused};
 use crate::file_case::FilePage;
-use hayro_jbig2::{DecodeError, FormatError, HuffmanError, ParseError, SegmentError};
+use hayro_jbig2::{DecodeError, FormatError, SegmentError};
 
 const ONE_PAGE: &[FilePage] = &[FilePage {
     number: 1,
@@ -19,7 +20,7 @@ const HEADERS_FIRST: &str = "H 00 00000001 00000000 30 00 01 00000013 00000001 3
     00000002 33 00 00 00000000 00000008 00000001 00*11";
 
 pub const ROW_1: &[Case] = &[
-    File(Refused(Both, "", DecodeError::Parse(ParseError::UnexpectedEof))),
+    File(Refused(Both, "", TOO_EARLY)),
     File(Refused(
         Both,
         "00*8",
@@ -30,11 +31,7 @@ pub const ROW_1: &[Case] = &[
 ];
 
 pub const ROW_2: &[Case] = &[
-    File(Refused(
-        Strict,
-        "H 01 00000001",
-        DecodeError::Format(FormatError::PageCountMismatch),
-    )),
+    File(Refused(Strict, "H 01 00000001", PAGE_COUNT)),
     File(Pages(Lenient, "H 01 00000001", &[])),
 ];
 
@@ -43,10 +40,7 @@ pub const ROW_3: &[Case] = &[
         "00000001 30 A0",
         DecodeError::Segment(SegmentError::InvalidReferredCount),
     )),
-    File(NoGlobals(
-        "00000002 00 20 02",
-        DecodeError::Segment(SegmentError::InvalidReference),
-    )),
+    File(NoGlobals("00000002 00 20 02", INVALID_REFERENCE)),
 ];
 
 pub const ROW_16: &[Case] = &[
@@ -73,7 +67,7 @@ const ROWS_9: &[Row] = &[
             &[FilePage {
                 number: 1,
                 dimensions: (8, 1),
-                answer: Undrawn(DecodeError::Huffman(HuffmanError::InvalidSelection)),
+                answer: Undrawn(INVALID_SELECTION),
             }],
         ))],
     },
@@ -94,7 +88,7 @@ const ROWS_9: &[Row] = &[
     },
     Row {
         name: "R9.4",
-        cases: &[File(NoFirstPage("H 03", DecodeError::Format(FormatError::MissingPageInfo)))],
+        cases: &[File(NoFirstPage("H 03", NO_PAGE))],
     },
 ];
 
@@ -106,11 +100,7 @@ const ROWS_13: &[Row] = &[Row {
             bytes: HEADERS_FIRST,
             but: 13,
         }),
-        File(Refused(
-            Strict,
-            "H 00 00000001",
-            DecodeError::Format(FormatError::PageCountMismatch),
-        )),
+        File(Refused(Strict, "H 00 00000001", PAGE_COUNT)),
         File(Pages(Lenient, "H 00 00000001", &[])),
     ],
 }];

@@ -1,31 +1,26 @@
 //! The rows R1.
 use crate::call::{WHITE, WHITE_TWICE};
 use crate::case::Answer::{Calls, Undrawn};
-use crate::case::Case::Page;
-use crate::case::Modes::{Both, Lenient, Strict};
+use crate::case::Case::{ByMode, Page};
+use crate::case::Modes::Both;
 use crate::case::Row;
-use hayro_jbig2::{DecodeError, ParseError};
+use crate::errors::TOO_EARLY;
+use hayro_jbig2::DecodeError;
 
 const ROWS: &[Row] = &[
     Row {
         name: "R1.1",
         cases: &[
-            Page(
-                Strict,
+            ByMode(
                 "P 00000001 3E 00 01 00000004 80000000",
                 Undrawn(DecodeError::Unsupported),
-            ),
-            Page(
-                Lenient,
-                "P 00000001 3E 00 01 00000004 80000000",
                 Calls(WHITE),
             ),
-            Page(
-                Strict,
+            ByMode(
                 "P 00000001 3E 00 01 00000003 800000",
-                Undrawn(DecodeError::Parse(ParseError::UnexpectedEof)),
+                Undrawn(TOO_EARLY),
+                Calls(WHITE),
             ),
-            Page(Lenient, "P 00000001 3E 00 01 00000003 800000", Calls(WHITE)),
         ],
     },
     Row {

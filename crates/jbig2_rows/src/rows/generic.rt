@@ -1,13 +1,14 @@
 //! The rows R3: generic regions.
-use crate::call::{BLACK, Call, INK, PAPER, WHITE};
+use crate::call::{BLACK, Call, INK, LINE, PAPER, WHITE};
 use crate::case::Answer::{Calls, Refused, Undrawn};
-use crate::case::Case::Page;
-use crate::case::Modes::{Both, Lenient, Strict};
+use crate::case::Case::{ByMode, Page};
+use crate::case::Modes::Both;
 use crate::case::Row;
-use hayro_jbig2::{DecodeError, RegionError, SegmentError};
+use crate::errors::INVALID_SIZE;
+use hayro_jbig2::{DecodeError, SegmentError};
 
 /// One row of two white pixels among black ones.
-const FAR_PIXEL: &[Call] = &[INK, INK, INK, INK, INK, PAPER, INK, PAPER, Call::Line];
+const FAR_PIXEL: &[Call] = &[INK, INK, INK, INK, INK, PAPER, INK, PAPER, LINE];
 
 const UNKNOWN_LENGTH: DecodeError = DecodeError::Segment(SegmentError::InvalidUnknownLength);
 
@@ -46,30 +47,27 @@ const ROWS: &[Row] = &[
         name: "R3.3",
         cases: &[
             Page(Both, "P G8@7=FFFFFFFF FFAC 00000001", Calls(BLACK)),
-            Page(
-                Strict,
+            ByMode(
                 "P G8@7=FFFFFFFF FFAC 00000002",
-                Undrawn(DecodeError::Region(RegionError::InvalidDimension)),
+                Undrawn(INVALID_SIZE),
+                Calls(WHITE),
             ),
-            Page(Lenient, "P G8@7=FFFFFFFF FFAC 00000002", Calls(WHITE)),
             Page(Both, "P G8@7=FFFFFFFF FFAC 00000000", Calls(WHITE)),
             Page(
                 Both,
                 "P G8@7=FFFFFFFF FFAC 000000",
                 Refused(DecodeError::Segment(SegmentError::MissingEndMarker)),
             ),
-            Page(
-                Strict,
+            ByMode(
                 "P G8@4=27@7=FFFFFFFF FFAC 00000001",
                 Refused(UNKNOWN_LENGTH),
+                Calls(BLACK),
             ),
-            Page(Lenient, "P G8@4=27@7=FFFFFFFF FFAC 00000001", Calls(BLACK)),
-            Page(
-                Strict,
+            ByMode(
                 "P G8@4=24@7=FFFFFFFF FFAC 00000001",
                 Refused(UNKNOWN_LENGTH),
+                Calls(WHITE),
             ),
-            Page(Lenient, "P G8@4=24@7=FFFFFFFF FFAC 00000001", Calls(WHITE)),
         ],
     },
 ];

@@ -1,13 +1,14 @@
 //! The rows R7 and R15: pattern dictionaries and halftone regions.
-use crate::call::{BLACK, Call, DOT, INK, PAPER, WHITE};
+use crate::call::{BLACK, Call, DOT, INK, LINE, PAPER, WHITE};
 use crate::case::Answer::{Calls, Undrawn};
-use crate::case::Case::Page;
-use crate::case::Modes::{Both, Lenient, Strict};
+use crate::case::Case::{ByMode, Page};
+use crate::case::Modes::Both;
 use crate::case::Row;
-use hayro_jbig2::{DecodeError, OverflowError, ParseError, RegionError, SegmentError};
+use crate::errors::{TOO_EARLY, TOO_LARGE};
+use hayro_jbig2::{DecodeError, RegionError, SegmentError};
 
 /// One row of three patterns of two pixels, and two white pixels.
-const FOUR_CELLS: &[Call] = &[INK, PAPER, INK, INK, PAPER, INK, PAPER, PAPER, Call::Line];
+const FOUR_CELLS: &[Call] = &[INK, PAPER, INK, INK, PAPER, INK, PAPER, PAPER, LINE];
 
 /// The rows R7.
 const ROWS_7: &[Row] = &[
@@ -17,25 +18,22 @@ const ROWS_7: &[Row] = &[
             Page(
                 Both,
                 "P 00000001 10 00 01 00000007 01 08 01 FFFFFFFF",
-                Undrawn(DecodeError::Overflow(OverflowError::BitmapDimension)),
+                Undrawn(TOO_LARGE),
             ),
             Page(
                 Both,
                 "P 00000001 10 00 01 00000007 01 00 01 FFFFFFFF",
-                Undrawn(DecodeError::Parse(ParseError::UnexpectedEof)),
+                Undrawn(TOO_EARLY),
             ),
         ],
     },
     Row {
         name: "R7.2",
-        cases: &[
-            Page(
-                Strict,
-                "P T@8=00000028 26A8",
-                Undrawn(DecodeError::Segment(SegmentError::MissingPatternDictionary)),
-            ),
-            Page(Lenient, "P T@8=00000028 26A8", Calls(WHITE)),
-        ],
+        cases: &[ByMode(
+            "P T@8=00000028 26A8",
+            Undrawn(DecodeError::Segment(SegmentError::MissingPatternDictionary)),
+            Calls(WHITE),
+        )],
     },
     Row {
         name: "R7.3",
@@ -56,14 +54,9 @@ const ROWS_7: &[Row] = &[
                 "P 00000001100001 00000007 00010100000002 T@8=0000002A 26A826A8",
                 Calls(DOT),
             ),
-            Page(
-                Strict,
+            ByMode(
                 "P 00000001100001 00000007 00010100000002 T@8=00000029 26A880",
                 Undrawn(DecodeError::Region(RegionError::GrayScaleOutOfRange)),
-            ),
-            Page(
-                Lenient,
-                "P 00000001100001 00000007 00010100000002 T@8=00000029 26A880",
                 Calls(DOT),
             ),
             Page(

@@ -2,10 +2,8 @@
 use crate::case::Case::Mmr;
 use crate::case::Modes::{Both, Lenient, Strict};
 use crate::case::Row;
+use crate::errors::INVALID_MMR;
 use crate::mmr::{Decoded, MmrCase};
-use hayro_jbig2::{DecodeError, RegionError};
-
-const FAULT: DecodeError = DecodeError::Region(RegionError::InvalidMmrData);
 
 const ROWS: &[Row] = &[
     Row {
@@ -55,7 +53,7 @@ const ROWS: &[Row] = &[
                 width: 8,
                 height: 2,
                 bytes: "26A280080080",
-                answer: Err(FAULT),
+                answer: Err(INVALID_MMR),
             }),
             Mmr(MmrCase {
                 modes: Lenient,
@@ -103,7 +101,7 @@ const ROWS: &[Row] = &[
                 width: 8,
                 height: 1,
                 bytes: "4100",
-                answer: Err(FAULT),
+                answer: Err(INVALID_MMR),
             }),
             Mmr(MmrCase {
                 modes: Lenient,
@@ -125,7 +123,7 @@ const ROWS: &[Row] = &[
                 width: 8,
                 height: 1,
                 bytes: "",
-                answer: Err(FAULT),
+                answer: Err(INVALID_MMR),
             }),
             Mmr(MmrCase {
                 modes: Lenient,

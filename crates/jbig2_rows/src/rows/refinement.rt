@@ -1,15 +1,14 @@
 //! The rows R6: refinements.
-use crate::call::{BLACK, Call, INK, PAPER, WHITE};
+use crate::call::{BLACK, Call, INK, LINE, PAPER, WHITE};
 use crate::case::Answer::{Calls, Undrawn};
-use crate::case::Case::Page;
-use crate::case::Modes::{Both, Lenient, Strict};
+use crate::case::Case::{ByMode, Page};
+use crate::case::Modes::Both;
 use crate::case::Row;
-use hayro_jbig2::{DecodeError, OverflowError, RegionError, SegmentError};
+use crate::errors::{INVALID_REFERENCE, INVALID_SIZE};
+use hayro_jbig2::{DecodeError, OverflowError};
 
 /// One row of seven black pixels and a white one.
-const SEVEN_BLACK: &[Call] = &[INK, INK, INK, INK, INK, INK, INK, PAPER, Call::Line];
-
-const NO_REGION: DecodeError = DecodeError::Segment(SegmentError::InvalidReference);
+const SEVEN_BLACK: &[Call] = &[INK, INK, INK, INK, INK, INK, INK, PAPER, LINE];
 
 const ROWS: &[Row] = &[
     Row {
@@ -35,24 +34,14 @@ const ROWS: &[Row] = &[
                 "P G8@4=24 000000022A200101 00000012 00000008 00000001 00*9 01",
                 Calls(SEVEN_BLACK),
             ),
-            Page(
-                Strict,
+            ByMode(
                 "P G8@4=24 000000022A200101 00000012 00000009 00000001 00*9 01",
-                Undrawn(DecodeError::Region(RegionError::InvalidDimension)),
-            ),
-            Page(
-                Lenient,
-                "P G8@4=24 000000022A200101 00000012 00000009 00000001 00*9 01",
+                Undrawn(INVALID_SIZE),
                 Calls(WHITE),
             ),
-            Page(
-                Strict,
+            ByMode(
                 "P 000000022A200101 00000012 00000008 00000001 00*9 01",
-                Undrawn(NO_REGION),
-            ),
-            Page(
-                Lenient,
-                "P 000000022A200101 00000012 00000008 00000001 00*9 01",
+                Undrawn(INVALID_REFERENCE),
                 Calls(BLACK),
             ),
         ],
@@ -60,24 +49,14 @@ const ROWS: &[Row] = &[
     Row {
         name: "R6.3",
         cases: &[
-            Page(
-                Strict,
+            ByMode(
                 "P 000000012A0001 00000012 00000008 00000001 80000000 00*5 01",
                 Undrawn(DecodeError::Overflow(OverflowError::ReferenceOffset)),
-            ),
-            Page(
-                Lenient,
-                "P 000000012A0001 00000012 00000008 00000001 80000000 00*5 01",
                 Calls(WHITE),
             ),
-            Page(
-                Strict,
+            ByMode(
                 "P 00000001280001 00000012 00000008 00000001 00*9 01",
-                Undrawn(NO_REGION),
-            ),
-            Page(
-                Lenient,
-                "P 00000001280001 00000012 00000008 00000001 00*9 01",
+                Undrawn(INVALID_REFERENCE),
                 Calls(WHITE),
             ),
         ],

@@ -1,13 +1,13 @@
 //! The rows R2 and R11: regions on the page.
-use crate::call::{BLACK, Call, DOT, INK, PAPER, WHITE};
+use crate::call::{BLACK, Call, DOT, INK, LINE, PAPER, WHITE};
 use crate::case::Answer::{Calls, Undrawn};
-use crate::case::Case::Page;
-use crate::case::Modes::{Both, Lenient, Strict};
+use crate::case::Case::{ByMode, Page};
+use crate::case::Modes::Both;
 use crate::case::Row;
 use hayro_jbig2::{DecodeError, RegionError, TemplateError};
 
 /// One row of a white pixel and seven black ones.
-const WHITE_DOT: &[Call] = &[PAPER, INK, INK, INK, INK, INK, INK, INK, Call::Line];
+const WHITE_DOT: &[Call] = &[PAPER, INK, INK, INK, INK, INK, INK, INK, LINE];
 
 const NO_OPERATOR: DecodeError = DecodeError::Region(RegionError::InvalidCombinationOperator);
 
@@ -26,14 +26,14 @@ const ROWS_2: &[Row] = &[
             Page(Both, "P@27=04 G@27=03", Calls(BLACK)),
             Page(Both, "P G@27=04", Calls(DOT)),
             Page(Both, "P@27=04 G@27=04", Calls(BLACK)),
-            Page(Strict, "P G@27=05", Undrawn(NO_OPERATOR)),
-            Page(Lenient, "P G@27=05", Calls(WHITE)),
-            Page(Strict, "P@27=04 G@27=05", Undrawn(NO_OPERATOR)),
-            Page(Lenient, "P@27=04 G@27=05", Calls(BLACK)),
-            Page(Strict, "P G@27=08", Undrawn(DecodeError::Unsupported)),
-            Page(Lenient, "P G@27=08", Calls(WHITE)),
-            Page(Strict, "P@27=04 G@27=08", Undrawn(DecodeError::Unsupported)),
-            Page(Lenient, "P@27=04 G@27=08", Calls(BLACK)),
+            ByMode("P G@27=05", Undrawn(NO_OPERATOR), Calls(WHITE)),
+            ByMode("P@27=04 G@27=05", Undrawn(NO_OPERATOR), Calls(BLACK)),
+            ByMode("P G@27=08", Undrawn(DecodeError::Unsupported), Calls(WHITE)),
+            ByMode(
+                "P@27=04 G@27=08",
+                Undrawn(DecodeError::Unsupported),
+                Calls(BLACK),
+            ),
         ],
     },
     Row {
@@ -53,14 +53,11 @@ const ROWS_2: &[Row] = &[
     },
     Row {
         name: "R2.4",
-        cases: &[
-            Page(
-                Strict,
-                "P G@29=0000",
-                Undrawn(DecodeError::Template(TemplateError::InvalidAtPixel)),
-            ),
-            Page(Lenient, "P G@29=0000", Calls(WHITE)),
-        ],
+        cases: &[ByMode(
+            "P G@29=0000",
+            Undrawn(DecodeError::Template(TemplateError::InvalidAtPixel)),
+            Calls(WHITE),
+        )],
     },
 ];
 

@@ -1,25 +1,21 @@
 //! The rows of symbol dictionaries and text regions.
 use crate::call::{DOT, WHITE};
 use crate::case::Answer::{Calls, Refused, Undrawn};
-use crate::case::Case::{Beginnings, Page};
+use crate::case::Case::{Beginnings, ByMode, Page};
 use crate::case::Modes::{Both, Lenient, Strict};
 use crate::case::{Case, Row};
 use crate::coder::CoderCase;
-use hayro_jbig2::{DecodeError, FormatError, HuffmanError, OverflowError, ParseError, SymbolError};
-
-const TOO_EARLY: DecodeError = DecodeError::Parse(ParseError::UnexpectedEof);
+use crate::errors::{INVALID_SELECTION, NO_PAGE, TOO_EARLY};
+use hayro_jbig2::{DecodeError, HuffmanError, OverflowError, SymbolError};
 
 const TOO_MANY: DecodeError = DecodeError::Symbol(SymbolError::TooManyInstances);
 
 const INVALID: DecodeError = DecodeError::Symbol(SymbolError::Invalid);
 
-const NO_PAGE: DecodeError = DecodeError::Format(FormatError::MissingPageInfo);
-
 pub const ROW_11: &[Case] = &[Page(Both, "P S X", Calls(DOT))];
 
 pub const ROW_12: &[Case] = &[
-    Page(Strict, "P S X@33=00000002", Undrawn(TOO_EARLY)),
-    Page(Lenient, "P S X@33=00000002", Calls(WHITE)),
+    ByMode("P S X@33=00000002", Undrawn(TOO_EARLY), Calls(WHITE)),
     Page(Both, "P", Calls(WHITE)),
 ];
 
@@ -86,11 +82,7 @@ const ROWS_8: &[Row] = &[
         name: "R8.1",
         cases: &[
             Page(Both, "P S@11=0101", Undrawn(INVALID)),
-            Page(
-                Both,
-                "P S@11=0009",
-                Undrawn(DecodeError::Huffman(HuffmanError::InvalidSelection)),
-            ),
+            Page(Both, "P S@11=0009", Undrawn(INVALID_SELECTION)),
             Page(
                 Both,
                 "P S@11=000D",
@@ -141,18 +133,13 @@ const ROWS_8: &[Row] = &[
     Row {
         name: "R8.3",
         cases: &[
-            Page(Strict, "P S X@33=000005A1", Undrawn(TOO_MANY)),
-            Page(Lenient, "P S X@33=000005A1", Calls(WHITE)),
-            Page(Strict, "P S X@33=000005A0", Undrawn(TOO_EARLY)),
-            Page(Lenient, "P S X@33=000005A0", Calls(WHITE)),
+            ByMode("P S X@33=000005A1", Undrawn(TOO_MANY), Calls(WHITE)),
+            ByMode("P S X@33=000005A0", Undrawn(TOO_EARLY), Calls(WHITE)),
         ],
     },
     Row {
         name: "R8.4",
-        cases: &[
-            Page(Strict, "P S X@55=0000", Undrawn(TOO_MANY)),
-            Page(Lenient, "P S X@55=0000", Calls(DOT)),
-        ],
+        cases: &[ByMode("P S X@55=0000", Undrawn(TOO_MANY), Calls(DOT))],
     },
     Row {
         name: "R8.5",

@@ -1,15 +1,22 @@
 //! The rows 1 to 19.
-use crate::call::{BLACK, Call, DOT, PAPER, WHITE, WHITE_TWICE};
+use crate::call::{BLACK, Call, DOT, LINE, PAPER, WHITE, WHITE_TWICE};
 use crate::case::Answer::{Calls, Refused, Undrawn};
-use crate::case::Case::Page;
-use crate::case::Modes::{Both, Lenient, Strict};
+use crate::case::Case::{ByMode, Page};
+use crate::case::Modes::Both;
 use crate::case::{Case, Header, Row};
 use crate::coder::{CoderCase, Reading};
+use crate::errors::{INVALID_MMR, TOO_EARLY, TOO_LARGE};
 use crate::rows::coding::{CODED, DECISIONS};
 use crate::rows::{files, symbols};
 use crate::table::TableCase;
 use hayro_jbig2::parts::segment::SegmentType;
-use hayro_jbig2::{DecodeError, FormatError, OverflowError, ParseError, RegionError};
+use hayro_jbig2::{DecodeError, FormatError};
+
+/// 8191 times eight white pixels.
+const MANY: Call = Call::Chunk(false, 8191);
+
+/// One row of 65535 white pixels.
+const WIDEST: &[Call] = &[MANY, PAPER, PAPER, PAPER, PAPER, PAPER, PAPER, PAPER, LINE];
 
 const ROWS: &[Row] = &[
     Row {
@@ -65,28 +72,10 @@ const ROWS: &[Row] = &[
             Page(
                 Both,
                 "P@11=00000009",
-                Calls(&[Call::Chunk(false, 1), PAPER, Call::Line]),
+                Calls(&[Call::Chunk(false, 1), PAPER, LINE]),
             ),
-            Page(
-                Both,
-                "P@11=0000FFFF",
-                Calls(&[
-                    Call::Chunk(false, 8191),
-                    PAPER,
-                    PAPER,
-                    PAPER,
-                    PAPER,
-                    PAPER,
-                    PAPER,
-                    PAPER,
-                    Call::Line,
-                ]),
-            ),
-            Page(
-                Both,
-                "P@11=00010000",
-                Refused(DecodeError::Overflow(OverflowError::BitmapDimension)),
-            ),
+            Page(Both, "P@11=0000FFFF", Calls(WIDEST)),
+            Page(Both, "P@11=00010000", Refused(TOO_LARGE)),
             Page(
                 Both,
                 "P@11=00000000",
@@ -162,14 +151,9 @@ const ROWS: &[Row] = &[
                 "P 00000001260001 00000018 00000008 00000001 00*9 01 26A280080080",
                 Calls(BLACK),
             ),
-            Page(
-                Strict,
+            ByMode(
                 "P 00000001260001 00000013 00000008 00000001 00*9 01 26",
-                Undrawn(DecodeError::Region(RegionError::InvalidMmrData)),
-            ),
-            Page(
-                Lenient,
-                "P 00000001260001 00000013 00000008 00000001 00*9 01 26",
+                Undrawn(INVALID_MMR),
                 Calls(WHITE),
             ),
         ],
@@ -188,14 +172,7 @@ const ROWS: &[Row] = &[
     },
     Row {
         name: "14",
-        cases: &[
-            Page(
-                Strict,
-                "P 00000001 26",
-                Refused(DecodeError::Parse(ParseError::UnexpectedEof)),
-            ),
-            Page(Lenient, "P 00000001 26", Calls(WHITE)),
-        ],
+        cases: &[ByMode("P 00000001 26", Refused(TOO_EARLY), Calls(WHITE))],
     },
     Row {
         name: "15",
