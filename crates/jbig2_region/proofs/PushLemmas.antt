@@ -153,17 +153,18 @@ pub shows-lowered : (g g' : Grid) (y width pixels : ℕ) (w v : Windows) → 1 �
 shows-lowered g g' y width pixels w v some few small is_above is_top wide same bits shows = record {
   above =
       rw is_above
-      (window-first g' (y + 1) 1 (pixels * 2 ^ (56 - width) % 2 ^ 64) (λ e. omega arith) (λ k inside.
-      let row : y ≡ y + 1 - 1 = omega arith in
-      subst (λ (n : ℕ). bit (pixels * 2 ^ (56 - width) % 2 ^ 64) (56 - 1 - k) ≡ pixel_at g' (0 + k) n) row
-      (⊎_elim
+      (window-first g' (pixels * 2 ^ (56 - width) % 2 ^ 64) (pos (y + 1) -ℤ pos 1) (λ k inside.
+      let row : pos (y + 1) -ℤ pos 1 ≡ pos y = omega (arith, ints) in
+      let here : bit (pixels * 2 ^ (56 - width) % 2 ^ 64) (56 - 1 - k) ≡ pixel_at g' (0 + k) y =
+      ⊎_elim
       (λ (left : k < width).
       let place : 56 - 1 - k - (56 - width) ≡ width - 1 - k = omega arith in
       let column : k ≡ 0 + k = omega arith in
       bit-shl_high pixels (56 - width) 64 (56 - 1 - k) (omega arith) (omega arith) ∙ ap (λ (n : ℕ). bit pixels n) place ∙ bits k left ∙ ap (λ (n : ℕ). pixel_at g' n y) column)
       (λ (right : width ≤ k).
       bit-shl_low pixels (56 - width) 64 (56 - 1 - k) (omega arith) (omega arith) ∙ sym (pixel_at-right g' (0 + k) y (omega (arith, wide))))
-      (cases_lt k width)))
+      (cases_lt k width) in
+      here ∙ sym (pixel-inside g' (pos (0 + k)) (pos (y + 1) -ℤ pos 1) (0 + k) y refl row))
       fits);
   top =
       rw is_top (λ k inside.

@@ -33,18 +33,24 @@ pixel-left_of_all g X Y m column = rw column refl
 pub window-none : (g : Grid) (x y back seen : ℕ) → y < back → IsWindow g x (pos y -ℤ pos back) seen 0
 window-none g x y back seen less = λ k inside. bit-zero (63 - k) ∙ sym (pixel-above_all g (pos (x + k) -ℤ pos 8) y back less)
 
-pub window-first : (g : Grid) (y back word : ℕ) → (y < back → ⊥) → ((k : ℕ) → k < 56 → bit word (56 - 1 - k) ≡ pixel_at g (0 + k) (y - back)) → word < 2 ^ 56 → IsWindow g 0 (pos y -ℤ pos back) 64 word
-window-first g y back word enough bits small = λ k inside.
+pub window-first : (g : Grid) (word : ℕ) (row : ℤ) → ((k : ℕ) → k < 56 → bit word (56 - 1 - k) ≡ pixel g (pos (0 + k)) row) → word < 2 ^ 56 → IsWindow g 0 row 64 word
+window-first g word row bits small = λ k inside.
     ⊎_elim
     (λ (outside : k < 8).
     let column : pos (0 + k) -ℤ pos 8 ≡ negsuc (7 - k) = omega (arith, ints) in
-    bit-above word 56 (63 - k) small (omega arith) ∙ sym (pixel-left_of_all g (pos (0 + k) -ℤ pos 8) (pos y -ℤ pos back) (7 - k) column))
+    bit-above word 56 (63 - k) small (omega arith) ∙ sym (pixel-left_of_all g (pos (0 + k) -ℤ pos 8) row (7 - k) column))
     (λ (within : 8 ≤ k).
     let column : pos (0 + k) -ℤ pos 8 ≡ pos (0 + (k - 8)) = omega (arith, ints) in
-    let row : pos y -ℤ pos back ≡ pos (y - back) = omega (arith, ints, enough) in
     let place : 63 - k ≡ 56 - 1 - (k - 8) = omega arith in
-    ap (λ (n : ℕ). bit word n) place ∙ bits (k - 8) (omega arith) ∙ sym (pixel-inside g (pos (0 + k) -ℤ pos 8) (pos y -ℤ pos back) (0 + (k - 8)) (y - back) column row))
+    ap (λ (n : ℕ). bit word n) place ∙ bits (k - 8) (omega arith) ∙ sym (ap (λ (z : ℤ). pixel g z row) column))
     (cases_lt k 8)
+
+-- of the pixels from a column on
+pub window-word : (g : Grid) (x word : ℕ) (row : ℤ) → ((k : ℕ) → k < 64 → bit word (64 - 1 - k) ≡ pixel g (pos (x + k)) row) → IsWindow g (x + 8) row 64 word
+window-word g x word row bits = λ k inside.
+    let place : 63 - k ≡ 64 - 1 - k = omega arith in
+    let column : pos (x + 8 + k) -ℤ pos 8 ≡ pos (x + k) = omega (arith, ints) in
+    ap (λ (n : ℕ). bit word n) place ∙ bits k inside ∙ sym (ap (λ (z : ℤ). pixel g z row) column)
 
 -- the window so many columns further on
 pub window-moved : (g : Grid) (x seen word by : ℕ) (row : ℤ) → seen ≤ 64 → IsWindow g x row seen word → IsWindow g (x + by) row (seen - by) (word * 2 ^ by % 2 ^ 64)
@@ -118,7 +124,3 @@ mixed-context n a g g' x y k left w near few same shows is =
     )
     refl
     ))
-
--- above row 0
-pub row-above : (g : Grid) (x y : ℕ) → y ≡ 0 → pixel g (pos x) (pos y +ℤ negsuc 0) ≡ false
-row-above g x y top = rw top refl

@@ -2,8 +2,7 @@
 //! rows above, and by whole bytes where the adaptive pixels are nominal.
 ghost use Rattle.std.specs.Prelude.{◌≡◌, ℕ, ◌+◌, ◌-◌, ◌*◌, ◌/◌, ◌^◌, ◌<◌, ◌≤◌, false, true, length, pos, negsuc, ◌+ℤ◌, List, IfSome, None, if◌then◌else◌};
 ghost use Rattle.jbig2_base.specs.Counts.{KeepsLanes};
-ghost use Rattle.jbig2_base.specs.Grid.{blank, pixel};
-ghost use Rattle.jbig2_base.specs.inner.WordBits.{bit};
+ghost use Rattle.jbig2_base.specs.Grid.{blank};
 ghost use Rattle.jbig2_coder.specs.Coder.{Coder, Context};
 ghost use Rattle.jbig2_region.specs.inner.Holds.{DecodesRegion};
 ghost use Rattle.jbig2_region.specs.inner.Neighbours.{DecodesPixels, IsLayout, is_nominal_layout, layout_coding, layout_count, layout_loads, layout_pixels};
@@ -11,6 +10,29 @@ ghost use Rattle.jbig2_region.specs.Raster.{decoded_region, no_pixels};
 ghost use Rattle.jbig2_region.specs.RunBytes.{CountsRegion, row_loads, row_tests, row_words};
 ghost use Rattle.jbig2_region.specs.inner.RowCounts.{CountsRow};
 ghost use Rattle.jbig2_region.specs.declared.template.AdaptiveTemplatePixel.{AdaptiveTemplatePixel};
+
+/// A call for each template with nominal adaptive pixels, by its number, in which the places of its
+/// pixels are constants.
+macro_rules! by_template {
+    ($neighbours:expr, $call:ident($($given:expr),*)) => {
+        if $neighbours == nominal_neighbours(Template::Template0) {
+            $call::<_, _, 0>($($given),*);
+            return;
+        }
+        if $neighbours == nominal_neighbours(Template::Template1) {
+            $call::<_, _, 1>($($given),*);
+            return;
+        }
+        if $neighbours == nominal_neighbours(Template::Template2) {
+            $call::<_, _, 2>($($given),*);
+            return;
+        }
+        if $neighbours == nominal_neighbours(Template::Template3) {
+            $call::<_, _, 3>($($given),*);
+            return;
+        }
+    };
+}
 
 mod bytes;
 mod narrow;
@@ -22,6 +44,7 @@ pub(crate) mod windows;
 use crate::generic_kernel::narrow::decode_narrow;
 use crate::generic_kernel::nominal::decode_nominal_row;
 use crate::generic_kernel::pixels::decode_row_by_pixels;
+use crate::generic_kernel::windows::pixels_above;
 use crate::raster::begin_row;
 use crate::template::neighbours::Layout;
 use jbig2_base::bitmap::Bitmap;
@@ -29,29 +52,6 @@ use jbig2_base::bitmap::steps::Steps;
 use jbig2_coder::arithmetic_decoder::{ArithmeticDecoder, ArithmeticDecoderContext};
 use std::alloc::Allocator;
 use std::sync::ledger::Ledger;
-
-/// `count` neighbouring pixels of the row above row `y`, from column `x` on; 0 above row 0.
-#[inline(always)]
-fn pixels_above<A: Allocator, L: Ledger>(
-    bitmap: &Bitmap<A>,
-    x: u32,
-    y: u32,
-    count: u32,
-    steps: &mut Steps<L>,
-) -> u64
-    requires some { 1 ≤ count }
-    requires few { count ≤ 64 }
-    ensures bits { (k : ℕ) → k < count →
-        bit result (count - 1 - k) ≡ pixel bitmap.now (pos (x + k)) (pos y +ℤ negsuc 0) }
-    ensures bound { result < 2 ^ count }
-    ensures steps { steps.new ≡ record steps.old { loads = steps.old.loads + 1 } }
-{
-    if y == 0 {
-        steps.load();
-        return 0;
-    }
-    bitmap.load_pixels(x, y - 1, count, steps)
-}
 
 /// Makes row `y` the same as the row above it.
 fn copy_row<A: Allocator, L: Ledger>(bitmap: &mut Bitmap<A>, y: u32, steps: &mut Steps<L>)
@@ -71,7 +71,7 @@ fn copy_row<A: Allocator, L: Ledger>(bitmap: &mut Bitmap<A>, y: u32, steps: &mut
     for index in 0..width.div_ceil(64) {
         let x = index * 64;
         let count = (width - x).min(64);
-        let bits = pixels_above(bitmap, x, y, count, steps);
+        let bits = pixels_above(bitmap, x, y, 1, count, steps);
         bitmap.store_pixels(x, y, count, bits, steps);
     }
 }

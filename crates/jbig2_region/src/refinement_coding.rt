@@ -14,7 +14,7 @@ use crate::generic_coding::context_at;
 use crate::generic_refinement::ReferenceBitmap;
 use crate::raster::{PixelCoding, Row, decode_region, far_pixel};
 use crate::refinement_kernel::{WindowedCoding, decode_windowed};
-use crate::template::refinement::{is_nominal, reference_0, region_0, row_context};
+use crate::template::refinement::{is_nominal, reference_0, region_0, typical_context};
 use crate::template::{AdaptiveTemplatePixel, RefinementTemplate, pixel};
 use jbig2_base::bitmap::Bitmap;
 use jbig2_base::bitmap::steps::Steps;
@@ -177,11 +177,7 @@ impl<B: Allocator> PixelCoding for RefinementCoding<'_, B> {
     }
 
     fn row_context(&self) -> Option<u32> {
-        if self.typical {
-            Some(row_context(self.template))
-        } else {
-            None
-        }
+        typical_context(self.template, self.typical)
     }
 }
 

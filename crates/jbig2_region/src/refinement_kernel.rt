@@ -6,7 +6,7 @@ ghost use Rattle.jbig2_base.specs.inner.WordBits.{bit};
 ghost use Rattle.jbig2_region.specs.Decisions.{CountsDecided};
 ghost use Rattle.jbig2_region.specs.Raster.{no_pixels};
 ghost use Rattle.jbig2_region.specs.RefinementSteps.{window_loads};
-ghost use Rattle.jbig2_region.specs.RefinementTemplates.{refinement_bits, refinement_row_context};
+ghost use Rattle.jbig2_region.specs.RefinementTemplates.{refinement_bits};
 ghost use Rattle.jbig2_region.specs.inner.Codes.{Takes};
 ghost use Rattle.jbig2_region.specs.inner.Holds.{DecodesRegion, IsReady};
 ghost use Rattle.jbig2_region.specs.inner.Neighbours.{IsLeft};
@@ -23,7 +23,7 @@ use crate::raster::{Row, begin_row};
 use crate::refinement_kernel::lanes::{lanes_at, lanes_context};
 use crate::refinement_kernel::windows::{RefinementWindows, context, known_colour, windows_at};
 use crate::template::RefinementTemplate;
-use crate::template::refinement::row_context;
+use crate::template::refinement::typical_context;
 use jbig2_base::bitmap::Bitmap;
 use jbig2_base::bitmap::steps::Steps;
 use jbig2_coder::arithmetic_decoder::{ArithmeticDecoder, ArithmeticDecoderContext};
@@ -244,17 +244,6 @@ fn decode_row<A: Allocator, B: Allocator, L: Ledger>(
         );
         left = (pixels % 16) as u32;
     }
-}
-
-/// With typical prediction, the number of the context of the decision that begins a row.
-fn typical_context(template: RefinementTemplate, typical: bool) -> Option<u32>
-    ensures value { result ≡ (if typical then Some (refinement_row_context template) else None) }
-    ensures small { IfSome result (λ k. k < 2 ^ refinement_bits template) }
-{
-    if typical {
-        return Some(row_context(template));
-    }
-    None
 }
 
 /// A whole region of at most 32 columns, into a white bitmap of its size: each row's windows are made

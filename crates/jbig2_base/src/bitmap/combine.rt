@@ -14,6 +14,34 @@ use crate::bitmap::steps::Steps;
 use std::alloc::Allocator;
 use std::sync::ledger::Ledger;
 
+/// A body for each operator, in which the compiler knows it, so that each has loops of its own.
+macro_rules! by_operator {
+    ($operator:expr, $known:ident => $body:expr) => {
+        match $operator {
+            CombinationOperator::Or => {
+                let $known = CombinationOperator::Or;
+                $body
+            }
+            CombinationOperator::And => {
+                let $known = CombinationOperator::And;
+                $body
+            }
+            CombinationOperator::Xor => {
+                let $known = CombinationOperator::Xor;
+                $body
+            }
+            CombinationOperator::Xnor => {
+                let $known = CombinationOperator::Xnor;
+                $body
+            }
+            CombinationOperator::Replace => {
+                let $known = CombinationOperator::Replace;
+                $body
+            }
+        }
+    };
+}
+
 /// The pixels of one row of a page from column `left` up to `right`, and the first of the source's
 /// pixels that lie on them.
 #[derive(Clone, Copy)]
@@ -82,40 +110,6 @@ fn stamp<A: Allocator, B: Allocator, L: Ledger>(
     ensures { CombinesBlock operator (block_of source.now left top) page.old source.now page.new
         steps.old steps.new }
 {
-    match operator {
-        CombinationOperator::Or => {
-            stamp_by(page, source, CombinationOperator::Or, left, top, steps);
-        }
-        CombinationOperator::And => {
-            stamp_by(page, source, CombinationOperator::And, left, top, steps);
-        }
-        CombinationOperator::Xor => {
-            stamp_by(page, source, CombinationOperator::Xor, left, top, steps);
-        }
-        CombinationOperator::Xnor => {
-            stamp_by(page, source, CombinationOperator::Xnor, left, top, steps);
-        }
-        CombinationOperator::Replace => {
-            stamp_by(page, source, CombinationOperator::Replace, left, top, steps);
-        }
-    }
-}
-
-/// The same by an operator that the compiler knows.
-#[inline(always)]
-fn stamp_by<A: Allocator, B: Allocator, L: Ledger>(
-    page: &mut Bitmap<A>,
-    source: &Bitmap<B>,
-    operator: CombinationOperator,
-    left: u32,
-    top: u32,
-    steps: &mut Steps<L>,
-)
-    requires inside { LiesOn page.old source.now (block_of source.now left top) }
-    requires narrow { source.now.width ≤ 64 }
-    ensures { CombinesBlock operator (block_of source.now left top) page.old source.now page.new
-        steps.old steps.new }
-{
     let block = Block {
         left,
         top,
@@ -124,8 +118,9 @@ fn stamp_by<A: Allocator, B: Allocator, L: Ledger>(
         from: 0,
         from_row: 0,
     };
-    page.rows
-        .combine_block(&source.rows, operator, block, steps);
+    by_operator!(operator, known => {
+        page.rows.combine_block(&source.rows, known, block, steps);
+    });
 }
 
 /// Combines what lies on the page of a source at any place.
@@ -172,26 +167,10 @@ fn combine_block<A: Allocator, B: Allocator, L: Ledger>(
     requires ends { HasEnds block }
     ensures { CombinesBlock operator block page.old source.now page.new steps.old steps.new }
 {
-    match operator {
-        CombinationOperator::Or => {
-            combine_by(page, source, CombinationOperator::Or, block, steps);
-        }
-        CombinationOperator::And => {
-            combine_by(page, source, CombinationOperator::And, block, steps);
-        }
-        CombinationOperator::Xor => {
-            combine_by(page, source, CombinationOperator::Xor, block, steps);
-        }
-        CombinationOperator::Xnor => {
-            combine_by(page, source, CombinationOperator::Xnor, block, steps);
-        }
-        CombinationOperator::Replace => {
-            combine_by(page, source, CombinationOperator::Replace, block, steps);
-        }
-    }
+    by_operator!(operator, known => combine_by(page, source, known, block, steps));
 }
 
-/// The same by an operator that the compiler knows: each has loops of its own.
+/// The same by an operator that the compiler knows.
 #[inline(always)]
 fn combine_by<A: Allocator, B: Allocator, L: Ledger>(
     page: &mut Bitmap<A>,

@@ -9,55 +9,55 @@ use Rattle.jbig2_region.specs.declared.generic_kernel.windows.WideWindows.{WideW
 use Rattle.jbig2_region.specs.declared.generic_kernel.windows.Windows.{Windows}
 use Rattle.jbig2_region.specs.declared.template.neighbours.Neighbours.{Neighbours}
 
--- a bitmap with so many columns from column x of row y on, and what the code knows of it there
-pub record Stands (g : Grid) (x y count left : ℕ) (w : Windows) : Type 0 where
+-- a bitmap with so many columns from column x of row y on, what the windows show of it there, and the pixels left of it
+pub record StandsAt (shown : Type 0) (g : Grid) (x y count left : ℕ) : Type 0 where
   pub columns : x + count ≤ g.width
   pub row : y < g.height
-  pub shows : Shows g x y 20 w
+  pub shows : shown
   pub beside : IsLeft g x y left
 
 -- the next k pixels are the lowest bits of a number, wherever a bitmap stands so
+abbrev pub Pushes : (Grid → ℕ → ℕ → Type 0) → Neighbours → ℕ → ℕ → Coder → List Context → Coder → List Context → Type 0
+Pushes Stands n k pixels d s d' s' =
+    (g : Grid) (x y : ℕ) → Stands g x y → DecodesPixels (nominal_pixels n) false x y k g d s (with_pixels g x y k pixels) d' s'
+
+-- so many decisions are counted for them, wherever a bitmap stands so and a byte begins
+abbrev pub CountsPushed : (Grid → ℕ → ℕ → Type 0) → Neighbours → ℕ → Coder → List Context → ℕ → ℕ → Type 0
+CountsPushed Stands n k d s before after =
+    (g : Grid) (x y : ℕ) → x % 8 ≡ 0 → Stands g x y → CountsRuns (nominal_pixels n) x y k g d s before after
+
+-- ---- pixels
+abbrev pub Stands : Grid → ℕ → ℕ → ℕ → ℕ → Windows → Type 0
+Stands g x y count left w = StandsAt (Shows g x y 20 w) g x y count left
+
 abbrev pub PushesPixels : Neighbours → ℕ → ℕ → Windows → ℕ → ℕ → Coder → List Context → Coder → List Context → Type 0
-PushesPixels n count left w k pixels d s d' s' =
-    (g : Grid) (x y : ℕ) → Stands g x y count left w → DecodesPixels (nominal_pixels n) false x y k g d s (with_pixels g x y k pixels) d' s'
+PushesPixels n count left w = Pushes (λ g x y. Stands g x y count left w) n
 
--- a bitmap of which so many bytes are tested for a run: none of them is the row's last
-pub record StandsBytes (g : Grid) (x y most left : ℕ) (w : WideWindows) : Type 0 where
-  pub columns : x + 8 * most < g.width
-  pub row : y < g.height
-  pub shows : ShowsRun g x y most w
-  pub beside : IsLeft g x y left
+-- ---- bytes that are tested for a run: none of them is the row's last
+abbrev pub StandsBytes : Grid → ℕ → ℕ → ℕ → ℕ → WideWindows → Type 0
+StandsBytes g x y most left w = StandsAt (ShowsRun g x y most w) g x y (8 * most + 1) left
 
--- the pixels and the decisions of so many of these bytes
 abbrev pub PushesBytes : Neighbours → ℕ → ℕ → WideWindows → ℕ → ℕ → Coder → List Context → Coder → List Context → Type 0
-PushesBytes n most left w bytes pixels d s d' s' =
-    (g : Grid) (x y : ℕ) → StandsBytes g x y most left w → DecodesPixels (nominal_pixels n) false x y (8 * bytes) g d s (with_pixels g x y (8 * bytes) pixels) d' s'
+PushesBytes n most left w bytes = Pushes (λ g x y. StandsBytes g x y most left w) n (8 * bytes)
 
 abbrev pub CountsBytes : Neighbours → ℕ → ℕ → WideWindows → ℕ → Coder → List Context → ℕ → ℕ → Type 0
-CountsBytes n most left w bytes d s before after =
-    (g : Grid) (x y : ℕ) → x % 8 ≡ 0 → StandsBytes g x y most left w → CountsRuns (nominal_pixels n) x y (8 * bytes) g d s before after
+CountsBytes n most left w bytes = CountsPushed (λ g x y. StandsBytes g x y most left w) n (8 * bytes)
 
--- the same of a group's first k bytes
-pub record StandsGroup (g : Grid) (x y bytes left : ℕ) (w : WideWindows) : Type 0 where
-  pub columns : x + 8 * bytes < g.width
-  pub row : y < g.height
-  pub shows : ShowsGroup g x y bytes w
-  pub beside : IsLeft g x y left
+-- ---- a group's first bytes
+abbrev pub StandsGroup : Grid → ℕ → ℕ → ℕ → ℕ → WideWindows → Type 0
+StandsGroup g x y bytes left w = StandsAt (ShowsGroup g x y bytes w) g x y (8 * bytes + 1) left
 
 abbrev pub PushesGroup : Neighbours → ℕ → ℕ → WideWindows → ℕ → ℕ → Coder → List Context → Coder → List Context → Type 0
-PushesGroup n bytes left w k pixels d s d' s' =
-    (g : Grid) (x y : ℕ) → StandsGroup g x y bytes left w → DecodesPixels (nominal_pixels n) false x y (8 * k) g d s (with_pixels g x y (8 * k) pixels) d' s'
+PushesGroup n bytes left w k = Pushes (λ g x y. StandsGroup g x y bytes left w) n (8 * k)
 
 abbrev pub CountsGroup : Neighbours → ℕ → ℕ → WideWindows → ℕ → Coder → List Context → ℕ → ℕ → Type 0
-CountsGroup n bytes left w k d s before after =
-    (g : Grid) (x y : ℕ) → x % 8 ≡ 0 → StandsGroup g x y bytes left w → CountsRuns (nominal_pixels n) x y (8 * k) g d s before after
+CountsGroup n bytes left w k = CountsPushed (λ g x y. StandsGroup g x y bytes left w) n (8 * k)
 
--- the decisions of a narrow row's byte that is not its last
+-- ---- a narrow row's byte that is not its last
 abbrev pub CountsByte : Neighbours → ℕ → Windows → Coder → List Context → ℕ → ℕ → Type 0
-CountsByte n left w d s before after =
-    (g : Grid) (x y : ℕ) → x % 8 ≡ 0 → Stands g x y 9 left w → CountsRuns (nominal_pixels n) x y 8 g d s before after
+CountsByte n left w = CountsPushed (λ g x y. Stands g x y 9 left w) n 8
 
--- the same of a row's first k pixels
+-- ---- a narrow row's first k pixels
 pub record StandsRow (g : Grid) (y width : ℕ) (w : Windows) : Type 0 where
   pub wide : g.width ≡ width
   pub row : y < g.height

@@ -7,13 +7,15 @@ ghost use Rattle.jbig2_base.specs.inner.WordBits.{bit};
 ghost use Rattle.jbig2_region.specs.Raster.{no_pixels};
 ghost use Rattle.jbig2_region.specs.RunBytes.{CountsRegion};
 ghost use Rattle.jbig2_region.specs.inner.Holds.{DecodesRegion};
-ghost use Rattle.jbig2_region.specs.inner.Layouts.{neighbours_of};
+ghost use Rattle.jbig2_region.specs.Templates.{template_of};
+ghost use Rattle.jbig2_region.specs.inner.Layouts.{nominal_neighbours};
 ghost use Rattle.jbig2_region.specs.inner.PushedPixels.{CountsByte, CountsRowPixels, PushesPixels, PushesRow};
 ghost use Rattle.jbig2_region.specs.inner.Neighbours.{IsNear, SameAbove, Shows, neighbour_count, nominal_pixels, row_coding};
 
 use crate::generic_kernel::bytes::{push_bytes, push_pixels};
 use crate::generic_kernel::windows::{WideWindows, Windows};
-use crate::template::layouts::neighbours_of;
+use crate::template::Template;
+use crate::template::layouts::nominal_neighbours;
 use crate::template::neighbours::Neighbours;
 use jbig2_base::bitmap::Bitmap;
 use jbig2_base::bitmap::steps::Steps;
@@ -142,24 +144,16 @@ fn decode_rows<A: Allocator, L: Ledger>(
     }
 }
 
-/// The same of the template that the constants say.
+/// The same of the template of this number.
 #[inline(never)]
-fn decode_constant_rows<
-    A: Allocator,
-    L: Ledger,
-    const LEFT: u32,
-    const ABOVE_REACH: u32,
-    const ABOVE_COUNT: u32,
-    const TOP_REACH: u32,
-    const TOP_COUNT: u32,
->(
+fn decode_constant_rows<A: Allocator, L: Ledger, const TEMPLATE: u8>(
     neighbours: Neighbours,
     bitmap: &mut Bitmap<A>,
     decoder: &mut ArithmeticDecoder<'_>,
     contexts: &mut [ArithmeticDecoderContext],
     steps: &mut Steps<L>,
 )
-    requires same { neighbours ≡ neighbours_of LEFT ABOVE_REACH ABOVE_COUNT TOP_REACH TOP_COUNT }
+    requires same { neighbours ≡ nominal_neighbours (template_of (TEMPLATE % 4)) }
     requires near { IsNear neighbours }
     requires contexts { length contexts.old ≡ 2 ^ neighbour_count neighbours }
     requires some { 1 ≤ bitmap.old.width }
@@ -171,7 +165,7 @@ fn decode_constant_rows<
         (row_coding (nominal_pixels neighbours)) bitmap.old.width bitmap.old.height
         decoder.old.bytes (no_pixels decoder.old.registers contexts.old) steps.old steps.new }
 {
-    let constant = neighbours_of(LEFT, ABOVE_REACH, ABOVE_COUNT, TOP_REACH, TOP_COUNT);
+    let constant = nominal_neighbours(Template::from_byte(TEMPLATE));
     decode_rows(constant, bitmap, decoder, contexts, steps);
 }
 
@@ -194,21 +188,9 @@ pub fn decode_narrow<A: Allocator, L: Ledger>(
         (row_coding (nominal_pixels neighbours)) bitmap.old.width bitmap.old.height
         decoder.old.bytes (no_pixels decoder.old.registers contexts.old) steps.old steps.new }
 {
-    if neighbours == neighbours_of(4, 3, 7, 2, 5) {
-        decode_constant_rows::<A, L, 4, 3, 7, 2, 5>(neighbours, bitmap, decoder, contexts, steps);
-        return;
-    }
-    if neighbours == neighbours_of(3, 3, 6, 2, 4) {
-        decode_constant_rows::<A, L, 3, 3, 6, 2, 4>(neighbours, bitmap, decoder, contexts, steps);
-        return;
-    }
-    if neighbours == neighbours_of(2, 2, 5, 1, 3) {
-        decode_constant_rows::<A, L, 2, 2, 5, 1, 3>(neighbours, bitmap, decoder, contexts, steps);
-        return;
-    }
-    if neighbours == neighbours_of(4, 2, 6, 0, 0) {
-        decode_constant_rows::<A, L, 4, 2, 6, 0, 0>(neighbours, bitmap, decoder, contexts, steps);
-        return;
-    }
+    by_template!(
+        neighbours,
+        decode_constant_rows(neighbours, bitmap, decoder, contexts, steps)
+    );
     decode_rows(neighbours, bitmap, decoder, contexts, steps);
 }

@@ -1,13 +1,15 @@
 //! Rows of the templates with nominal adaptive pixels: each template has a loop of its own, in which
 //! the places of its pixels are constants.
-ghost use Rattle.std.specs.Prelude.{◌≡◌, ◌+◌, ◌-◌, ◌*◌, ◌/◌, ◌^◌, ◌<◌, ◌≤◌, false, length};
+ghost use Rattle.std.specs.Prelude.{◌≡◌, ◌%◌, ◌+◌, ◌-◌, ◌*◌, ◌/◌, ◌^◌, ◌<◌, ◌≤◌, false, length};
 ghost use Rattle.jbig2_base.specs.Counts.{KeepsLanes};
-ghost use Rattle.jbig2_region.specs.inner.Layouts.{neighbours_of};
+ghost use Rattle.jbig2_region.specs.Templates.{template_of};
+ghost use Rattle.jbig2_region.specs.inner.Layouts.{nominal_neighbours};
 ghost use Rattle.jbig2_region.specs.inner.Neighbours.{DecodesPixels, IsNear, neighbour_count, nominal_pixels};
 ghost use Rattle.jbig2_region.specs.inner.RowCounts.{CountsRuns};
 
 use crate::generic_kernel::bytes::decode_row_by_bytes;
-use crate::template::layouts::neighbours_of;
+use crate::template::Template;
+use crate::template::layouts::nominal_neighbours;
 use crate::template::neighbours::Neighbours;
 use jbig2_base::bitmap::Bitmap;
 use jbig2_base::bitmap::steps::Steps;
@@ -15,17 +17,9 @@ use jbig2_coder::arithmetic_decoder::{ArithmeticDecoder, ArithmeticDecoderContex
 use std::alloc::Allocator;
 use std::sync::ledger::Ledger;
 
-/// Row `y`, whose rows above are decoded, of the template that the constants say.
+/// Row `y`, whose rows above are decoded, of the template of this number.
 #[inline(never)]
-fn decode_constant_row<
-    A: Allocator,
-    L: Ledger,
-    const LEFT: u32,
-    const ABOVE_REACH: u32,
-    const ABOVE_COUNT: u32,
-    const TOP_REACH: u32,
-    const TOP_COUNT: u32,
->(
+fn decode_constant_row<A: Allocator, L: Ledger, const TEMPLATE: u8>(
     neighbours: Neighbours,
     bitmap: &mut Bitmap<A>,
     y: u32,
@@ -33,7 +27,7 @@ fn decode_constant_row<
     contexts: &mut [ArithmeticDecoderContext],
     steps: &mut Steps<L>,
 )
-    requires same { neighbours ≡ neighbours_of LEFT ABOVE_REACH ABOVE_COUNT TOP_REACH TOP_COUNT }
+    requires same { neighbours ≡ nominal_neighbours (template_of (TEMPLATE % 4)) }
     requires near { IsNear neighbours }
     requires contexts { length contexts.old ≡ 2 ^ neighbour_count neighbours }
     requires some { 1 ≤ bitmap.old.width }
@@ -51,7 +45,7 @@ fn decode_constant_row<
     ensures words { steps.new.words ≤ steps.old.words + ((bitmap.old.width - 1) / 8 + 1) }
     ensures lanes { KeepsLanes steps.old steps.new }
 {
-    let constant = neighbours_of(LEFT, ABOVE_REACH, ABOVE_COUNT, TOP_REACH, TOP_COUNT);
+    let constant = nominal_neighbours(Template::from_byte(TEMPLATE));
     decode_row_by_bytes(constant, bitmap, y, decoder, contexts, steps);
 }
 
@@ -81,21 +75,9 @@ pub fn decode_nominal_row<A: Allocator, L: Ledger>(
     ensures words { steps.new.words ≤ steps.old.words + ((bitmap.old.width - 1) / 8 + 1) }
     ensures lanes { KeepsLanes steps.old steps.new }
 {
-    if neighbours == neighbours_of(4, 3, 7, 2, 5) {
-        decode_constant_row::<A, L, 4, 3, 7, 2, 5>(neighbours, bitmap, y, decoder, contexts, steps);
-        return;
-    }
-    if neighbours == neighbours_of(3, 3, 6, 2, 4) {
-        decode_constant_row::<A, L, 3, 3, 6, 2, 4>(neighbours, bitmap, y, decoder, contexts, steps);
-        return;
-    }
-    if neighbours == neighbours_of(2, 2, 5, 1, 3) {
-        decode_constant_row::<A, L, 2, 2, 5, 1, 3>(neighbours, bitmap, y, decoder, contexts, steps);
-        return;
-    }
-    if neighbours == neighbours_of(4, 2, 6, 0, 0) {
-        decode_constant_row::<A, L, 4, 2, 6, 0, 0>(neighbours, bitmap, y, decoder, contexts, steps);
-        return;
-    }
+    by_template!(
+        neighbours,
+        decode_constant_row(neighbours, bitmap, y, decoder, contexts, steps)
+    );
     decode_row_by_bytes(neighbours, bitmap, y, decoder, contexts, steps);
 }

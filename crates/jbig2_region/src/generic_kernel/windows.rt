@@ -1,7 +1,8 @@
 //! Windows on the rows above: 64 pixels of each, of which one load serves many contexts.
 ghost use Rattle.std.specs.Prelude.{◌≡◌, ℕ, ◌+◌, ◌-◌, ◌*◌, ◌/◌, ◌%◌, ◌^◌, ◌<◌, ◌≤◌, bit_or, pos, ◌-ℤ◌};
 ghost use Rattle.jbig2_region.specs.inner.Neighbours.{IsNear, IsWindow, Shows, ShowsBefore, ShowsGroup, ShowsRun, cut_of, neighbour_count, register_of, stretch_bits};
-ghost use Rattle.jbig2_base.specs.Grid.{Grid};
+ghost use Rattle.jbig2_base.specs.Grid.{Grid, pixel};
+ghost use Rattle.jbig2_base.specs.inner.WordBits.{bit};
 
 use crate::template::neighbours::{Neighbours, Stretch};
 use jbig2_base::bitmap::Bitmap;
@@ -24,6 +25,30 @@ pub struct WideWindows {
     pub second: Windows,
 }
 
+/// `count` pixels from column `x` on in the row that stands `back` rows above row `y`; 0 above row 0.
+#[inline(always)]
+pub fn pixels_above<A: Allocator, L: Ledger>(
+    bitmap: &Bitmap<A>,
+    x: u32,
+    y: u32,
+    back: u32,
+    count: u32,
+    steps: &mut Steps<L>,
+) -> u64
+    requires some { 1 ≤ count }
+    requires few { count ≤ 64 }
+    ensures bits { (k : ℕ) → k < count →
+        bit result (count - 1 - k) ≡ pixel bitmap.now (pos (x + k)) (pos y -ℤ pos back) }
+    ensures bound { result < 2 ^ count }
+    ensures steps { steps.new ≡ record steps.old { loads = steps.old.loads + 1 } }
+{
+    if y < back {
+        steps.load();
+        return 0;
+    }
+    bitmap.load_pixels(x, y - back, count, steps)
+}
+
 /// The window about column `x` in the row that stands `back` rows above row `y`.
 #[inline(always)]
 fn window<A: Allocator, L: Ledger>(
@@ -37,14 +62,10 @@ fn window<A: Allocator, L: Ledger>(
     ensures value { IsWindow bitmap.now x (pos y -ℤ pos back) 64 result }
     ensures steps { steps.new ≡ record steps.old { loads = steps.old.loads + 1 } }
 {
-    if y < back {
-        steps.load();
-        return 0;
-    }
     if x == 0 {
-        return bitmap.load_pixels(0, y - back, 56, steps);
+        return pixels_above(bitmap, 0, y, back, 56, steps);
     }
-    bitmap.load_pixels(x - 8, y - back, 64, steps)
+    pixels_above(bitmap, x - 8, y, back, 64, steps)
 }
 
 /// The windows about column `x` on the two rows above row `y`.
@@ -64,27 +85,8 @@ pub fn windows_at<A: Allocator, L: Ledger>(
     Windows { above, top }
 }
 
-/// The 64 pixels from column `x` on in the row that stands `back` rows above row `y`: a window
-/// about the column eight further on.
-#[inline(always)]
-fn word<A: Allocator, L: Ledger>(
-    bitmap: &Bitmap<A>,
-    x: u32,
-    y: u32,
-    back: u32,
-    steps: &mut Steps<L>,
-) -> u64
-    ensures value { IsWindow bitmap.now (x + 8) (pos y -ℤ pos back) 64 result }
-    ensures steps { steps.new ≡ record steps.old { loads = steps.old.loads + 1 } }
-{
-    if y < back {
-        steps.load();
-        return 0;
-    }
-    bitmap.load_pixels(x, y - back, 64, steps)
-}
-
-/// The words from column `x` on of the two rows above row `y`.
+/// The words from column `x` on of the two rows above row `y`: windows about the column eight further
+/// on.
 #[inline(always)]
 pub fn words_at<A: Allocator, L: Ledger>(
     bitmap: &Bitmap<A>,
@@ -95,8 +97,8 @@ pub fn words_at<A: Allocator, L: Ledger>(
     ensures value { Shows bitmap.now (x + 8) y 64 result }
     ensures steps { steps.new ≡ record steps.old { loads = steps.old.loads + 2 } }
 {
-    let above = word(bitmap, x, y, 1, steps);
-    let top = word(bitmap, x, y, 2, steps);
+    let above = pixels_above(bitmap, x, y, 1, 64, steps);
+    let top = pixels_above(bitmap, x, y, 2, 64, steps);
     Windows { above, top }
 }
 

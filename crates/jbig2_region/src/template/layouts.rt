@@ -8,7 +8,7 @@ use crate::template::neighbours::{Adaptives, Layout, Neighbours, Stretch};
 use crate::template::{AdaptiveTemplatePixel, Template};
 
 #[inline(always)]
-pub(crate) fn neighbours_of(
+fn neighbours_of(
     left: u32,
     above_reach: u32,
     above_count: u32,
@@ -31,7 +31,8 @@ pub(crate) fn neighbours_of(
 }
 
 /// The pixels side by side of a template whose adaptive pixels are nominal.
-fn nominal_neighbours(template: Template) -> Neighbours
+#[inline(always)]
+pub fn nominal_neighbours(template: Template) -> Neighbours
     ensures { result ≡ nominal_neighbours template }
 {
     match template {

@@ -1,6 +1,6 @@
 //! The pixels of refinements' templates (T.88, 6.3.5.3), in the reference and in the region, and the
 //! contexts of the decisions that begin their rows (6.3.5.6).
-ghost use Rattle.std.specs.Prelude.{◌≡◌, ◌^◌, ◌<◌, true};
+ghost use Rattle.std.specs.Prelude.{◌≡◌, ◌^◌, ◌<◌, true, IfSome, None, Some, if◌then◌else◌};
 ghost use Rattle.jbig2_region.specs.RefinementSteps.{is_nominal};
 ghost use Rattle.jbig2_region.specs.RefinementTemplates.{reference_pixels, refinement_bits, refinement_row_context, region_pixels, two_pixels};
 ghost use Rattle.jbig2_region.specs.inner.RefinementWindows.{corners};
@@ -49,7 +49,7 @@ pub fn is_nominal(template: RefinementTemplate, a: &[AdaptiveTemplatePixel; 2]) 
 }
 
 /// The context of the decision that begins a row under typical prediction (T.88, 6.3.5.6).
-pub fn row_context(template: RefinementTemplate) -> u32
+fn row_context(template: RefinementTemplate) -> u32
     ensures value { result ≡ refinement_row_context template }
     ensures small { result < 2 ^ refinement_bits template }
 {
@@ -57,4 +57,15 @@ pub fn row_context(template: RefinementTemplate) -> u32
         RefinementTemplate::Template0 => 0x0010,
         RefinementTemplate::Template1 => 0x0008,
     }
+}
+
+/// With typical prediction, the number of the context of the decision that begins a row.
+pub fn typical_context(template: RefinementTemplate, typical: bool) -> Option<u32>
+    ensures value { result ≡ (if typical then Some (refinement_row_context template) else None) }
+    ensures small { IfSome result (λ k. k < 2 ^ refinement_bits template) }
+{
+    if typical {
+        return Some(row_context(template));
+    }
+    None
 }

@@ -1,11 +1,10 @@
-use Rattle.std.proofs.Common.{arith, refl, false, subst, sym, ◌≡◌, ◌<◌, ◌≤◌, ◌+◌, ◌*◌, ◌%◌, ◌^◌, ℕ, ◌∙◌}
+use Rattle.std.proofs.Common.{arith, refl, false, subst, ◌≡◌, ◌≤◌, ◌+◌, ◌*◌, ◌%◌, ◌^◌, ℕ, ◌∙◌}
 use Rattle.std.proofs.Math.Nat.{pow-le-pow_right}
 use Rattle.jbig2_base.proofs.LaneCounts.{lanes-none, lanes-then}
 use Rattle.jbig2_base.specs.Grid.{Grid}
 use Rattle.jbig2_base.specs.inner.Writes.{with_pixels}
 use Rattle.jbig2_region.specs.inner.Neighbours.{DecodesPixels, IsLeft, nominal_pixels}
 use Rattle.jbig2_region.specs.inner.PushedPixels.{CountsGroup, PushesGroup, StandsBytes, StandsGroup}
-use Rattle.jbig2_region.specs.inner.RowCounts.{CountsRuns}
 use Rattle.jbig2_region.proofs.CountLemmas.{counts-none, counts-then}
 use Rattle.jbig2_region.proofs.GroupLemmas.{group-same}
 use Rattle.jbig2_region.proofs.PushLemmas.{few-next, left-stored, stored-bytes}

@@ -1,7 +1,6 @@
-use Rattle.std.proofs.Common.{arith, false, ◌*◌, ◌+◌, ◌%◌, ◌^◌, ◌<◌, ◌≡◌, ℕ, ap, subst}
-use Rattle.jbig2_base.specs.Grid.{Grid}
+use Rattle.std.proofs.Common.{arith, false, ◌*◌, ◌^◌, ◌<◌, ◌≡◌, ℕ, subst}
 use Rattle.jbig2_base.specs.inner.Writes.{with_pixels}
-use Rattle.jbig2_region.specs.inner.PushedPixels.{Stands, StandsBytes}
+use Rattle.jbig2_region.specs.inner.PushedPixels.{StandsBytes}
 use Rattle.jbig2_region.specs.inner.Neighbours.{DecodesPixels, nominal_pixels}
 use Rattle.jbig2_region.specs.inner.RowCounts.{CountsRuns}
 use Rattle.jbig2_region.proofs.PushLemmas.{shows-run}
