@@ -70,6 +70,16 @@ fn alike_bytes(neighbours: Neighbours, black: bool, left: u32, windows: Windows)
     unlike.leading_zeros().max(8) / 8 - 1
 }
 
+/// Whether all pixels at the left are of a colour.
+#[inline(always)]
+fn left_stays(count: u32, black: bool, left: u32) -> bool
+    requires { count ≤ 4 }
+    ensures { result ≡ is_field left 0 count black }
+{
+    let all = if black { (1 << count) - 1 } else { 0 };
+    left % (1 << count) == all
+}
+
 /// How many of the next bytes stay in one context: up to four, or all of eight.
 #[inline(always)]
 fn staying_bytes(
@@ -89,6 +99,10 @@ fn staying_bytes(
     ensures eight { 5 ≤ result → (result ≡ 8) ×
         (neighbours_stay neighbours 32 black left windows.second ≡ true) }
 {
+    // Of the bytes that are in no run, this finds most by the pixels at the left alone.
+    if !left_stays(neighbours.left, black, left) {
+        return 0;
+    }
     let bytes = alike_bytes(neighbours, black, left, windows.first);
     if bytes == 4 && most == 8 && alike_bytes(neighbours, black, left, windows.second) == 4 {
         return 8;
