@@ -4,6 +4,7 @@ pub mod Layouts
 pub mod LongRuns
 pub mod Masks
 pub mod Neighbours
+pub mod NominalRows
 pub mod PushedPixels
 pub mod RefinementBlocks
 pub mod RefinementLanes

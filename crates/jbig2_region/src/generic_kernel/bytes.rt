@@ -1,9 +1,9 @@
 //! Rows of a template without adaptive pixels, byte by byte, with runs of likely symbols.
 ghost use Rattle.std.specs.Prelude.{◌≡◌, ℕ, ◌+◌, ◌-◌, ◌*◌, ◌/◌, ◌%◌, ◌^◌, ◌<◌, ◌≤◌, false, length, if◌then◌else◌};
 ghost use Rattle.jbig2_base.specs.Counts.{KeepsLanes};
-ghost use Rattle.jbig2_region.specs.inner.Neighbours.{DecodesPixels, IsNear, neighbour_count, nominal_pixels};
+ghost use Rattle.jbig2_region.specs.inner.Neighbours.{IsNear, neighbour_count};
+ghost use Rattle.jbig2_region.specs.inner.NominalRows.{DecodesRow, FitsRow};
 ghost use Rattle.jbig2_region.specs.inner.PushedPixels.{CountsBytes, CountsGroup, PushesBytes, PushesGroup, PushesPixels};
-ghost use Rattle.jbig2_region.specs.inner.RowCounts.{CountsRuns};
 
 use crate::generic_kernel::runs::take_runs;
 use crate::generic_kernel::windows::{
@@ -196,22 +196,9 @@ pub fn decode_row_by_bytes<A: Allocator, L: Ledger>(
     contexts: &mut [ArithmeticDecoderContext],
     steps: &mut Steps<L>,
 )
-    requires near { IsNear neighbours }
-    requires contexts { length contexts.old ≡ 2 ^ neighbour_count neighbours }
-    requires some { 1 ≤ bitmap.old.width }
-    requires row { y < bitmap.old.height }
-    ensures holds { DecodesPixels (nominal_pixels neighbours) false 0 y bitmap.old.width bitmap.old
-        decoder.old contexts.old bitmap.new decoder.new contexts.new }
-    ensures width { bitmap.new.width ≡ bitmap.old.width }
-    ensures height { bitmap.new.height ≡ bitmap.old.height }
-    ensures bytes { decoder.new.bytes ≡ decoder.old.bytes }
-    ensures contexts { length contexts.new ≡ length contexts.old }
-    ensures decisions { CountsRuns (nominal_pixels neighbours) 0 y bitmap.old.width bitmap.old
-        decoder.old contexts.old steps.old.decisions steps.new.decisions }
-    ensures run_tests { steps.new.run_tests ≤ steps.old.run_tests + (bitmap.old.width - 1) / 8 }
-    ensures loads { steps.new.loads ≤ steps.old.loads + 2 * ((bitmap.old.width - 1) / 8 + 1) }
-    ensures words { steps.new.words ≤ steps.old.words + ((bitmap.old.width - 1) / 8 + 1) }
-    ensures lanes { KeepsLanes steps.old steps.new }
+    requires { FitsRow neighbours y bitmap.old contexts.old }
+    ensures { DecodesRow neighbours y bitmap.old decoder.old contexts.old steps.old
+        bitmap.new decoder.new contexts.new steps.new }
 {
     let width = bitmap.width();
     let whole = (width - 1) / 8;

@@ -1,14 +1,13 @@
 //! Narrow regions without adaptive pixels and without typical prediction: the windows on the two rows
 //! above are made out of the rows as they are decoded, and each row is stored at once.
-ghost use Rattle.std.specs.Prelude.{◌≡◌, ℕ, ◌+◌, ◌-◌, ◌*◌, ◌/◌, ◌%◌, ◌^◌, ◌<◌, ◌≤◌, true, false, length, if◌then◌else◌};
+ghost use Rattle.std.specs.Prelude.{◌≡◌, ℕ, ◌+◌, ◌-◌, ◌*◌, ◌/◌, ◌%◌, ◌^◌, ◌<◌, ◌≤◌, length};
 ghost use Rattle.jbig2_base.specs.Counts.{KeepsLanes};
-ghost use Rattle.jbig2_base.specs.Grid.{Grid, blank, pixel_at};
+ghost use Rattle.jbig2_base.specs.Grid.{Grid, pixel_at};
 ghost use Rattle.jbig2_base.specs.inner.WordBits.{bit};
-ghost use Rattle.jbig2_region.specs.Raster.{no_pixels};
-ghost use Rattle.jbig2_region.specs.RunBytes.{CountsRegion};
 ghost use Rattle.jbig2_region.specs.inner.Holds.{DecodesRegion};
 ghost use Rattle.jbig2_region.specs.Templates.{template_of};
 ghost use Rattle.jbig2_region.specs.inner.Layouts.{nominal_neighbours};
+ghost use Rattle.jbig2_region.specs.inner.NominalRows.{CountsNarrow, FitsNarrow};
 ghost use Rattle.jbig2_region.specs.inner.PushedPixels.{CountsByte, CountsRowPixels, PushesPixels, PushesRow};
 ghost use Rattle.jbig2_region.specs.inner.Neighbours.{IsNear, SameAbove, Shows, neighbour_count, nominal_pixels, row_coding};
 
@@ -124,16 +123,10 @@ fn decode_rows<A: Allocator, L: Ledger>(
     contexts: &mut [ArithmeticDecoderContext],
     steps: &mut Steps<L>,
 )
-    requires near { IsNear neighbours }
-    requires contexts { length contexts.old ≡ 2 ^ neighbour_count neighbours }
-    requires some { 1 ≤ bitmap.old.width }
-    requires few { bitmap.old.width ≤ 48 }
-    requires white { bitmap.old ≡ blank bitmap.old.width bitmap.old.height false }
+    requires { FitsNarrow neighbours bitmap.old contexts.old }
     ensures holds { DecodesRegion (row_coding (nominal_pixels neighbours)) bitmap.old decoder.old
         contexts.old bitmap.new decoder.new contexts.new }
-    ensures steps { CountsRegion (nominal_pixels neighbours) true 0
-        (row_coding (nominal_pixels neighbours)) bitmap.old.width bitmap.old.height
-        decoder.old.bytes (no_pixels decoder.old.registers contexts.old) steps.old steps.new }
+    ensures steps { CountsNarrow neighbours bitmap.old decoder.old contexts.old steps.old steps.new }
 {
     let width = bitmap.width();
     let mut windows = Windows { above: 0, top: 0 };
@@ -154,16 +147,10 @@ fn decode_constant_rows<A: Allocator, L: Ledger, const TEMPLATE: u8>(
     steps: &mut Steps<L>,
 )
     requires same { neighbours ≡ nominal_neighbours (template_of (TEMPLATE % 4)) }
-    requires near { IsNear neighbours }
-    requires contexts { length contexts.old ≡ 2 ^ neighbour_count neighbours }
-    requires some { 1 ≤ bitmap.old.width }
-    requires few { bitmap.old.width ≤ 48 }
-    requires white { bitmap.old ≡ blank bitmap.old.width bitmap.old.height false }
+    requires fits { FitsNarrow neighbours bitmap.old contexts.old }
     ensures holds { DecodesRegion (row_coding (nominal_pixels neighbours)) bitmap.old decoder.old
         contexts.old bitmap.new decoder.new contexts.new }
-    ensures steps { CountsRegion (nominal_pixels neighbours) true 0
-        (row_coding (nominal_pixels neighbours)) bitmap.old.width bitmap.old.height
-        decoder.old.bytes (no_pixels decoder.old.registers contexts.old) steps.old steps.new }
+    ensures steps { CountsNarrow neighbours bitmap.old decoder.old contexts.old steps.old steps.new }
 {
     let constant = nominal_neighbours(Template::from_byte(TEMPLATE));
     decode_rows(constant, bitmap, decoder, contexts, steps);
@@ -177,16 +164,10 @@ pub fn decode_narrow<A: Allocator, L: Ledger>(
     contexts: &mut [ArithmeticDecoderContext],
     steps: &mut Steps<L>,
 )
-    requires near { IsNear neighbours }
-    requires contexts { length contexts.old ≡ 2 ^ neighbour_count neighbours }
-    requires some { 1 ≤ bitmap.old.width }
-    requires few { bitmap.old.width ≤ 48 }
-    requires white { bitmap.old ≡ blank bitmap.old.width bitmap.old.height false }
+    requires { FitsNarrow neighbours bitmap.old contexts.old }
     ensures holds { DecodesRegion (row_coding (nominal_pixels neighbours)) bitmap.old decoder.old
         contexts.old bitmap.new decoder.new contexts.new }
-    ensures steps { CountsRegion (nominal_pixels neighbours) true 0
-        (row_coding (nominal_pixels neighbours)) bitmap.old.width bitmap.old.height
-        decoder.old.bytes (no_pixels decoder.old.registers contexts.old) steps.old steps.new }
+    ensures steps { CountsNarrow neighbours bitmap.old decoder.old contexts.old steps.old steps.new }
 {
     by_template!(
         neighbours,

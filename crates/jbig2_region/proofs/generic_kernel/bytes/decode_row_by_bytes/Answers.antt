@@ -105,53 +105,61 @@ loop-group-preserved g c =
           (lanes-then c.loop-group.steps c.words_after-after.new.steps stored shown (lanes-then c.words_after-after.new.steps c.push_group-pixels.new.steps stored c.push_group-pixels.ensures.lanes kept));
     }
 
-pub returns-clause-holds : goal.returns-clause-holds
-returns-clause-holds g c =
-    let whole : ℕ = (c.width-width.result - 1) / 8 in
-    let x : ℕ = 8 * whole in
-    let n : ℕ = c.width-width.result - x in
-    let all : min (8 * c.loop-group.group) whole ≡ whole = omega (arith, c.div_ceil-group-end.ensures) in
-    let sum : c.args.bitmap.now.width ≡ x + n = omega (arith, c.width-width.ensures.value, c.requires.some) in
-    let stands : Stands c.loop-group.bitmap x c.args.y n c.loop-group.left c.last_windows-windows.result = record {
-      columns = omega (arith, c.width-width.ensures.value, c.loop-group.invariant.width);
-      row = omega (arith, c.requires.row, c.loop-group.invariant.height);
-      shows = shows-less c.loop-group.bitmap x c.args.y 64 20 c.last_windows-windows.result (omega arith)
-          (⊎_elim
-          (λ (none : whole < 1).
-          let first : c.loop-group.group ≡ 0 = omega (arith, c.div_ceil-group-end.ensures) in
-          let start : 64 * c.loop-group.group ≡ 0 = omega (arith, first) in
-          let next : 64 * c.loop-group.group + 8 ≡ 8 = omega (arith, first) in
-          let place : 0 ≡ 8 * whole = omega arith in
-          subst (λ (n : ℕ). Shows c.loop-group.bitmap n c.args.y 64 c.last_windows-windows.result) place
-          (c.last_windows-windows.ensures.alone c.loop-group.bitmap c.args.y (omega arith)
-          (subst (λ (n : ℕ). ShowsBefore c.loop-group.bitmap n c.args.y c.loop-group.before) start c.loop-group.invariant.before)
-          (subst (λ (n : ℕ). Shows c.loop-group.bitmap n c.args.y 64 c.loop-group.here) next c.loop-group.invariant.here)))
-          (λ (some : 1 ≤ whole).
-          let x : ℕ = 64 * (c.loop-group.group - 1) + 8 in
-          let next : 64 * c.loop-group.group + 8 ≡ x + 64 = omega (arith, c.div_ceil-group-end.ensures) in
-          c.last_windows-windows.ensures.more c.loop-group.bitmap c.args.y x (omega (arith, c.div_ceil-group-end.ensures)) (c.loop-group.invariant.last (omega (arith, c.div_ceil-group-end.ensures)))
-          (subst (λ (n : ℕ). Shows c.loop-group.bitmap n c.args.y 64 c.loop-group.here) next c.loop-group.invariant.here))
-          (cases_lt whole 1));
-      beside = subst (λ (k : ℕ). IsLeft c.loop-group.bitmap (8 * k) c.args.y c.loop-group.left) all c.loop-group.invariant.left;
-    } in
-    decodes-then (nominal_pixels c.args.neighbours) false 0 x c.args.y x n c.args.bitmap.now.width
-    c.args.bitmap.now c.loop-group.bitmap c.store_pixels-2.new.self c.args.decoder.now c.loop-group.decoder c.push_pixels-last.new.decoder c.args.contexts.now c.loop-group.contexts c.push_pixels-last.new.contexts
-    (subst (λ (k : ℕ). DecodesPixels (nominal_pixels c.args.neighbours) false 0 c.args.y (8 * k) c.args.bitmap.now c.args.decoder.now c.args.contexts.now c.loop-group.bitmap c.loop-group.decoder c.loop-group.contexts) all c.loop-group.invariant.holds)
-    (subst (λ (q : Grid). DecodesPixels (nominal_pixels c.args.neighbours) false x c.args.y n c.loop-group.bitmap c.loop-group.decoder c.loop-group.contexts q c.push_pixels-last.new.decoder c.push_pixels-last.new.contexts) (sym c.store_pixels-2.ensures.value)
-    (c.push_pixels-last.ensures.holds c.loop-group.bitmap x c.args.y stands)) (omega arith) sum
-
-pub returns-clause-decisions : goal.returns-clause-decisions
-returns-clause-decisions g c =
-    let whole : ℕ = (c.width-width.result - 1) / 8 in
-    let x : ℕ = 8 * whole in
-    let n : ℕ = c.width-width.result - x in
-    let all : min (8 * c.loop-group.group) whole ≡ whole = omega (arith, c.div_ceil-group-end.ensures) in
-    let sum : c.args.bitmap.now.width ≡ x + n = omega (arith, c.width-width.ensures.value, c.requires.some) in
-    let same : c.words_at-here.new.steps.decisions ≡ c.args.steps.now.decisions = ap (λ (s : Counts). s.decisions) c.words_at-here.ensures.steps in
-    counts-then (nominal_pixels c.args.neighbours) 0 x c.args.y x n c.args.bitmap.now.width
-    c.args.bitmap.now c.loop-group.bitmap c.args.decoder.now c.loop-group.decoder c.args.contexts.now c.loop-group.contexts c.args.steps.now.decisions c.loop-group.steps.decisions c.store_pixels-2.new.steps.decisions
-    (subst (λ (b : ℕ). CountsRuns (nominal_pixels c.args.neighbours) 0 c.args.y (8 * whole) c.args.bitmap.now c.args.decoder.now c.args.contexts.now b c.loop-group.steps.decisions) same
-    (subst (λ (k : ℕ). CountsRuns (nominal_pixels c.args.neighbours) 0 c.args.y (8 * k) c.args.bitmap.now c.args.decoder.now c.args.contexts.now c.words_at-here.new.steps.decisions c.loop-group.steps.decisions) all c.loop-group.invariant.decisions))
-    (subst (λ (k : ℕ). DecodesPixels (nominal_pixels c.args.neighbours) false 0 c.args.y (8 * k) c.args.bitmap.now c.args.decoder.now c.args.contexts.now c.loop-group.bitmap c.loop-group.decoder c.loop-group.contexts) all c.loop-group.invariant.holds)
-    (counts-last (nominal_pixels c.args.neighbours) x c.args.y n c.loop-group.bitmap c.loop-group.decoder c.loop-group.contexts c.loop-group.steps.decisions c.store_pixels-2.new.steps.decisions (search rules) (omega (arith, c.width-width.ensures.value, c.loop-group.invariant.width)) (omega (arith, c.width-width.ensures.value, c.loop-group.invariant.width)))
-    (omega arith) sum
+pub returns : goal.returns
+returns g c = record {
+  holds =
+      let whole : ℕ = (c.width-width.result - 1) / 8 in
+      let x : ℕ = 8 * whole in
+      let n : ℕ = c.width-width.result - x in
+      let all : min (8 * c.loop-group.group) whole ≡ whole = omega (arith, c.div_ceil-group-end.ensures) in
+      let sum : c.args.bitmap.now.width ≡ x + n = omega (arith, c.width-width.ensures.value, c.requires.some) in
+      let stands : Stands c.loop-group.bitmap x c.args.y n c.loop-group.left c.last_windows-windows.result = record {
+        columns = omega (arith, c.width-width.ensures.value, c.loop-group.invariant.width);
+        row = omega (arith, c.requires.row, c.loop-group.invariant.height);
+        shows = shows-less c.loop-group.bitmap x c.args.y 64 20 c.last_windows-windows.result (omega arith)
+            (⊎_elim
+            (λ (none : whole < 1).
+            let first : c.loop-group.group ≡ 0 = omega (arith, c.div_ceil-group-end.ensures) in
+            let start : 64 * c.loop-group.group ≡ 0 = omega (arith, first) in
+            let next : 64 * c.loop-group.group + 8 ≡ 8 = omega (arith, first) in
+            let place : 0 ≡ 8 * whole = omega arith in
+            subst (λ (n : ℕ). Shows c.loop-group.bitmap n c.args.y 64 c.last_windows-windows.result) place
+            (c.last_windows-windows.ensures.alone c.loop-group.bitmap c.args.y (omega arith)
+            (subst (λ (n : ℕ). ShowsBefore c.loop-group.bitmap n c.args.y c.loop-group.before) start c.loop-group.invariant.before)
+            (subst (λ (n : ℕ). Shows c.loop-group.bitmap n c.args.y 64 c.loop-group.here) next c.loop-group.invariant.here)))
+            (λ (some : 1 ≤ whole).
+            let x : ℕ = 64 * (c.loop-group.group - 1) + 8 in
+            let next : 64 * c.loop-group.group + 8 ≡ x + 64 = omega (arith, c.div_ceil-group-end.ensures) in
+            c.last_windows-windows.ensures.more c.loop-group.bitmap c.args.y x (omega (arith, c.div_ceil-group-end.ensures)) (c.loop-group.invariant.last (omega (arith, c.div_ceil-group-end.ensures)))
+            (subst (λ (n : ℕ). Shows c.loop-group.bitmap n c.args.y 64 c.loop-group.here) next c.loop-group.invariant.here))
+            (cases_lt whole 1));
+        beside = subst (λ (k : ℕ). IsLeft c.loop-group.bitmap (8 * k) c.args.y c.loop-group.left) all c.loop-group.invariant.left;
+      } in
+      decodes-then (nominal_pixels c.args.neighbours) false 0 x c.args.y x n c.args.bitmap.now.width
+      c.args.bitmap.now c.loop-group.bitmap c.store_pixels-2.new.self c.args.decoder.now c.loop-group.decoder c.push_pixels-last.new.decoder c.args.contexts.now c.loop-group.contexts c.push_pixels-last.new.contexts
+      (subst (λ (k : ℕ). DecodesPixels (nominal_pixels c.args.neighbours) false 0 c.args.y (8 * k) c.args.bitmap.now c.args.decoder.now c.args.contexts.now c.loop-group.bitmap c.loop-group.decoder c.loop-group.contexts) all c.loop-group.invariant.holds)
+      (subst (λ (q : Grid). DecodesPixels (nominal_pixels c.args.neighbours) false x c.args.y n c.loop-group.bitmap c.loop-group.decoder c.loop-group.contexts q c.push_pixels-last.new.decoder c.push_pixels-last.new.contexts) (sym c.store_pixels-2.ensures.value)
+      (c.push_pixels-last.ensures.holds c.loop-group.bitmap x c.args.y stands)) (omega arith) sum;
+  width = search rules;
+  height = search rules;
+  bytes = search rules;
+  contexts = search rules;
+  decisions =
+      let whole : ℕ = (c.width-width.result - 1) / 8 in
+      let x : ℕ = 8 * whole in
+      let n : ℕ = c.width-width.result - x in
+      let all : min (8 * c.loop-group.group) whole ≡ whole = omega (arith, c.div_ceil-group-end.ensures) in
+      let sum : c.args.bitmap.now.width ≡ x + n = omega (arith, c.width-width.ensures.value, c.requires.some) in
+      let same : c.words_at-here.new.steps.decisions ≡ c.args.steps.now.decisions = ap (λ (s : Counts). s.decisions) c.words_at-here.ensures.steps in
+      counts-then (nominal_pixels c.args.neighbours) 0 x c.args.y x n c.args.bitmap.now.width
+      c.args.bitmap.now c.loop-group.bitmap c.args.decoder.now c.loop-group.decoder c.args.contexts.now c.loop-group.contexts c.args.steps.now.decisions c.loop-group.steps.decisions c.store_pixels-2.new.steps.decisions
+      (subst (λ (b : ℕ). CountsRuns (nominal_pixels c.args.neighbours) 0 c.args.y (8 * whole) c.args.bitmap.now c.args.decoder.now c.args.contexts.now b c.loop-group.steps.decisions) same
+      (subst (λ (k : ℕ). CountsRuns (nominal_pixels c.args.neighbours) 0 c.args.y (8 * k) c.args.bitmap.now c.args.decoder.now c.args.contexts.now c.words_at-here.new.steps.decisions c.loop-group.steps.decisions) all c.loop-group.invariant.decisions))
+      (subst (λ (k : ℕ). DecodesPixels (nominal_pixels c.args.neighbours) false 0 c.args.y (8 * k) c.args.bitmap.now c.args.decoder.now c.args.contexts.now c.loop-group.bitmap c.loop-group.decoder c.loop-group.contexts) all c.loop-group.invariant.holds)
+      (counts-last (nominal_pixels c.args.neighbours) x c.args.y n c.loop-group.bitmap c.loop-group.decoder c.loop-group.contexts c.loop-group.steps.decisions c.store_pixels-2.new.steps.decisions (search rules) (omega (arith, c.width-width.ensures.value, c.loop-group.invariant.width)) (omega (arith, c.width-width.ensures.value, c.loop-group.invariant.width)))
+      (omega arith) sum;
+  run_tests = search rules;
+  loads = search rules;
+  words = search rules;
+  lanes = search rules;
+}
