@@ -8,9 +8,9 @@ use Rattle.std.specs.Int.Count.{count_leading_zeros}
 use Rattle.std.specs.Int.RustNames.{bit_or, bit_xor}
 use Rattle.std.specs.Prelude.{nat_le, nat_lt}
 use Rattle.jbig2_base.specs.inner.WordBits.{bit}
-use Rattle.jbig2_base.proofs.BitLemmas.{bit-above, bit-ones, bit-xor, bit-zero, bit-shr, bit-shl_high, bit-shl_low, shr-lt}
+use Rattle.jbig2_base.proofs.BitLemmas.{bit-above, bit-ones, bit-xor, bit-zero, bit-shr, bit-shl_high, shr-lt}
 use Rattle.jbig2_base.proofs.ColourLemmas.{bit-top}
-use Rattle.jbig2_region.specs.inner.Neighbours.{is_field, neighbours_stay, stretch_stays}
+use Rattle.jbig2_region.specs.inner.Neighbours.{is_field, stretch_stays, stretches_stay}
 use Rattle.jbig2_region.specs.declared.template.neighbours.Neighbours.{Neighbours}
 use Rattle.jbig2_region.specs.declared.template.neighbours.Stretch.{Stretch}
 use Rattle.jbig2_region.specs.declared.generic_kernel.windows.Windows.{Windows}
@@ -86,39 +86,23 @@ stretch-unlike s m c word near few some within =
     ∙ ap (λ (k : ℕ). bit unlike k) place
     ∙ unlike-bit word (55 - m - s.reach + i) c (omega arith))
 
-pub left-unlike : (left count m : ℕ) (c : Bool) → 1 ≤ count → count ≤ 4 → m ≤ 32 → is_field left 0 count c ≡ nat_lt (bit_xor left (cond c (2 ^ 64 - 1) 0) * 2 ^ (64 - count) % 2 ^ 64) (2 ^ (56 - m))
-left-unlike left count m c some few within =
-    let unlike : ℕ = bit_xor left (cond c (2 ^ 64 - 1) 0) in
-    let moved : ℕ = unlike * 2 ^ (64 - count) % 2 ^ 64 in
-    let width : 64 ≡ 64 - count + count = omega arith in
-    unlike-field left moved 0 count (64 - count) (56 - m) c
-    (subst (λ (k : ℕ). moved < 2 ^ k) width (mod_below (unlike * 2 ^ (64 - count)) (2 ^ 64) (pow_pos 64))) (omega arith)
-    (λ i above inside. bit-shl_low unlike (64 - count) 64 i inside (omega arith))
-    (λ i inside.
-    let place : 64 - count + i - (64 - count) ≡ 0 + i = omega arith in
-    bit-shl_high unlike (64 - count) 64 (64 - count + i) (omega arith) (omega arith)
-    ∙ ap (λ (k : ℕ). bit unlike k) place
-    ∙ unlike-bit left (0 + i) c (omega arith))
-
 -- ---- the bytes before the first pixel that is unlike
 -- the bit below the pixels of four bytes, so that no more are counted
-abbrev pub with_end : ℕ → ℕ → ℕ → ℕ
-with_end a b t = bit_or a (bit_or b (bit_or t 8388608))
+abbrev pub with_end : ℕ → ℕ → ℕ
+with_end a t = bit_or a (bit_or t 8388608)
 
-with_end-lt : (k a b t : ℕ) → 24 ≤ k → a < 2 ^ k → b < 2 ^ k → t < 2 ^ k → with_end a b t < 2 ^ k
-with_end-lt k a b t wide one two three =
+with_end-lt : (k a t : ℕ) → 24 ≤ k → a < 2 ^ k → t < 2 ^ k → with_end a t < 2 ^ k
+with_end-lt k a t wide one two =
     let end : 2 ^ 23 < 2 ^ k = pow-lt {i = 23} {j = k} (omega arith) in
-    or_lt k a (bit_or b (bit_or t 8388608)) one (or_lt k b (bit_or t 8388608) two (or_lt k t 8388608 three (omega (arith, end))))
+    or_lt k a (bit_or t 8388608) one (or_lt k t 8388608 two (omega (arith, end)))
 
-with_end-le : (a b t : ℕ) → (a ≤ with_end a b t) × ((b ≤ with_end a b t) × ((t ≤ with_end a b t) × (8388608 ≤ with_end a b t)))
-with_end-le a b t =
-    let one = le_or_l a (bit_or b (bit_or t 8388608)) in
-    let others = le_or_r a (bit_or b (bit_or t 8388608)) in
-    let two = le_or_l b (bit_or t 8388608) in
-    let last = le_or_r b (bit_or t 8388608) in
-    let three = le_or_l t 8388608 in
+with_end-le : (a t : ℕ) → (a ≤ with_end a t) × ((t ≤ with_end a t) × (8388608 ≤ with_end a t))
+with_end-le a t =
+    let one = le_or_l a (bit_or t 8388608) in
+    let others = le_or_r a (bit_or t 8388608) in
+    let two = le_or_l t 8388608 in
     let end = le_or_r t 8388608 in
-    (one, (omega arith, (omega arith, omega arith)))
+    (one, (omega arith, omega arith))
 
 leb-from : (b : Bool) (m n : ℕ) → (b ≡ true → m ≤ n) → (m ≤ n → b ≡ true) → b ≡ nat_le m n
 leb-from true m n gives is = sym (le-leb m n (gives refl))
@@ -127,32 +111,30 @@ leb-from false m n gives is = sym (lt-leb m n (⊎_elim (λ (less : n < m). less
 below-top : (n j k : ℕ) → 2 ^ j ≤ n → n < 2 ^ k → j < k
 below-top n j k low less = ⊎_elim (λ (below : j < k). below) (λ (above : k ≤ j). absurd (let wide : 2 ^ k ≤ 2 ^ j = pow-le-pow_right (omega arith) above in omega arith)) (cases_lt j k)
 
-pub alike-few : (a b t : ℕ) → a < 2 ^ 64 → b < 2 ^ 64 → t < 2 ^ 64 → max (count_leading_zeros 64 (with_end a b t)) 8 / 8 - 1 ≤ 4
-alike-few a b t one two three =
-    let end : 8388608 ≤ with_end a b t = (with_end-le a b t).1.1.1 in
-    let top = leading_top 64 (with_end a b t) (omega arith) (with_end-lt 64 a b t (omega arith) one two three) in
+pub alike-few : (a t : ℕ) → a < 2 ^ 64 → t < 2 ^ 64 → max (count_leading_zeros 64 (with_end a t)) 8 / 8 - 1 ≤ 4
+alike-few a t one two =
+    let end : 8388608 ≤ with_end a t = (with_end-le a t).1.1 in
+    let top = leading_top 64 (with_end a t) (omega arith) (with_end-lt 64 a t (omega arith) one two) in
     let j : ℕ = top.0 in
-    let high : 23 < suc j = below-top (with_end a b t) 23 (suc j) (omega arith) top.3 in
+    let high : 23 < suc j = below-top (with_end a t) 23 (suc j) (omega arith) top.3 in
     omega (arith, top.1)
 
-pub alike-exact : (n : Neighbours) (m : ℕ) (c : Bool) (left : ℕ) (w : Windows) (a b t : ℕ) → a < 2 ^ 64 → b < 2 ^ 64 → t < 2 ^ 64 → 1 ≤ m → m ≤ 4
-    → is_field left 0 n.left c ≡ nat_lt a (2 ^ (56 - 8 * m)) → stretch_stays n.above (8 * m) c w.above ≡ nat_lt b (2 ^ (56 - 8 * m)) → stretch_stays n.top (8 * m) c w.top ≡ nat_lt t (2 ^ (56 - 8 * m))
-    → neighbours_stay n (8 * m) c left w ≡ nat_le m (max (count_leading_zeros 64 (with_end a b t)) 8 / 8 - 1)
-alike-exact n m c left w a b t one two three some few beside above high =
-    let parts = with_end-le a b t in
-    let top = leading_top 64 (with_end a b t) (omega (arith, parts.1.1.1)) (with_end-lt 64 a b t (omega arith) one two three) in
+pub alike-exact : (n : Neighbours) (m : ℕ) (c : Bool) (w : Windows) (a t : ℕ) → a < 2 ^ 64 → t < 2 ^ 64 → 1 ≤ m → m ≤ 4
+    → stretch_stays n.above (8 * m) c w.above ≡ nat_lt a (2 ^ (56 - 8 * m)) → stretch_stays n.top (8 * m) c w.top ≡ nat_lt t (2 ^ (56 - 8 * m))
+    → stretches_stay n (8 * m) c w ≡ nat_le m (max (count_leading_zeros 64 (with_end a t)) 8 / 8 - 1)
+alike-exact n m c w a t one two some few above high =
+    let parts = with_end-le a t in
+    let top = leading_top 64 (with_end a t) (omega (arith, parts.1.1)) (with_end-lt 64 a t (omega arith) one two) in
     let j : ℕ = top.0 in
-    leb-from (neighbours_stay n (8 * m) c left w) m (max (count_leading_zeros 64 (with_end a b t)) 8 / 8 - 1)
-    (λ (stay : neighbours_stay n (8 * m) c left w ≡ true).
-    let first = and_parts (is_field left 0 n.left c) _ stay in
-    let others = and_parts (stretch_stays n.above (8 * m) c w.above) (stretch_stays n.top (8 * m) c w.top) first.1 in
+    leb-from (stretches_stay n (8 * m) c w) m (max (count_leading_zeros 64 (with_end a t)) 8 / 8 - 1)
+    (λ (stay : stretches_stay n (8 * m) c w ≡ true).
+    let both = and_parts (stretch_stays n.above (8 * m) c w.above) (stretch_stays n.top (8 * m) c w.top) stay in
     let below : j < 56 - 8 * m =
-    below-top (with_end a b t) j (56 - 8 * m) top.2
-    (with_end-lt (56 - 8 * m) a b t (omega arith) (ltb-true _ _ (sym beside ∙ first.0)) (ltb-true _ _ (sym above ∙ others.0)) (ltb-true _ _ (sym high ∙ others.1))) in
+    below-top (with_end a t) j (56 - 8 * m) top.2
+    (with_end-lt (56 - 8 * m) a t (omega arith) (ltb-true _ _ (sym above ∙ both.0)) (ltb-true _ _ (sym high ∙ both.1))) in
     omega (arith, top.1))
-    (λ (enough : m ≤ max (count_leading_zeros 64 (with_end a b t)) 8 / 8 - 1).
+    (λ (enough : m ≤ max (count_leading_zeros 64 (with_end a t)) 8 / 8 - 1).
     let room : suc j ≤ 56 - 8 * m = omega (arith, top.1) in
     let wide : 2 ^ suc j ≤ 2 ^ (56 - 8 * m) = pow-le-pow_right (omega arith) room in
-    let less : with_end a b t < 2 ^ (56 - 8 * m) = omega (arith, top.3) in
-    and_from _ _ (beside ∙ lt-ltb a _ (omega (arith, parts.0)))
-    (and_from _ _ (above ∙ lt-ltb b _ (omega (arith, parts.1.0))) (high ∙ lt-ltb t _ (omega (arith, parts.1.1.0)))))
+    let less : with_end a t < 2 ^ (56 - 8 * m) = omega (arith, top.3) in
+    and_from _ _ (above ∙ lt-ltb a _ (omega (arith, parts.0))) (high ∙ lt-ltb t _ (omega (arith, parts.1.0))))

@@ -111,8 +111,12 @@ is_field word shift count colour = word / 2 ^ shift % 2 ^ count == (if colour th
 abbrev pub stretch_stays : Stretch → ℕ → Bool → ℕ → Bool
 stretch_stays s m colour word = if s.count == 0 then true else is_field word (55 - m - s.reach) (s.count + m) colour
 
+-- both of them, and with the pixels at the left
+abbrev pub stretches_stay : Neighbours → ℕ → Bool → Windows → Bool
+stretches_stay n m colour w = stretch_stays n.above m colour w.above && stretch_stays n.top m colour w.top
+
 abbrev pub neighbours_stay : Neighbours → ℕ → Bool → ℕ → Windows → Bool
-neighbours_stay n m colour left w = is_field left 0 n.left colour && (stretch_stays n.above m colour w.above && stretch_stays n.top m colour w.top)
+neighbours_stay n m colour left w = is_field left 0 n.left colour && stretches_stay n m colour w
 
 -- The pixels at the left and what the windows show of the stretches, in one number: it moves on by doubling, and each
 -- pixel that is decoded comes in at the low end.

@@ -5,7 +5,7 @@ ghost use Rattle.jbig2_coder.specs.Coder.{fresh};
 ghost use Rattle.jbig2_coder.specs.Table.{row_of};
 ghost use Rattle.jbig2_region.specs.inner.Holds.{Holds};
 ghost use Rattle.jbig2_region.specs.inner.LongRuns.{is_run_for};
-ghost use Rattle.jbig2_region.specs.inner.Neighbours.{IsLeft, IsNear, ShowsRun, is_field, neighbour_count, neighbours_stay, nominal_pixels, stretch_stays};
+ghost use Rattle.jbig2_region.specs.inner.Neighbours.{IsLeft, IsNear, ShowsRun, is_field, neighbour_count, neighbours_stay, nominal_pixels, stretch_stays, stretches_stay};
 ghost use Rattle.jbig2_region.specs.Raster.{Region};
 ghost use Rattle.jbig2_region.specs.RunBytes.{all_of, is_run_of};
 
@@ -43,30 +43,18 @@ fn unlike_stretch(stretch: Stretch, black: bool, window: u64) -> u64
     (unlike << (9 + stretch.reach - stretch.count)) >> (8 - stretch.count)
 }
 
-/// Which of the pixels at the left are unlike a colour, in the highest bits: no bit stands there
-/// exactly where all are of the colour.
-#[inline(always)]
-fn unlike_left(count: u32, black: bool, left: u32) -> u64
-    requires some { 1 ≤ count }
-    requires count { count ≤ 4 }
-    ensures { (m : ℕ) → m ≤ 32 → is_field left 0 count black ≡ nat_lt result (2 ^ (56 - m)) }
-{
-    (u64::from(left) ^ all_bits(black)) << (64 - count)
-}
-
-/// How many of the next bytes, up to four, stay in the one context of a colour with the context
+/// How many of the next bytes, up to four, keep all of both stretches of a colour, with the context
 /// after them: counted at once, since a test of each would be a jump that is hard to foretell.
 #[inline(always)]
-fn alike_bytes(neighbours: Neighbours, black: bool, left: u32, windows: Windows) -> u32
+fn alike_bytes(neighbours: Neighbours, black: bool, windows: Windows) -> u32
     requires near { IsNear neighbours }
     ensures few { result ≤ 4 }
     ensures exact { (m : ℕ) → 1 ≤ m → m ≤ 4 →
-        neighbours_stay neighbours (8 * m) black left windows ≡ nat_le m result }
+        stretches_stay neighbours (8 * m) black windows ≡ nat_le m result }
 {
-    let beside = unlike_left(neighbours.left, black, left);
     let above = unlike_stretch(neighbours.above, black, windows.above);
     let top = unlike_stretch(neighbours.top, black, windows.top);
-    let unlike = beside | (above | (top | 8388608));
+    let unlike = above | (top | 8388608);
     unlike.leading_zeros().max(8) / 8 - 1
 }
 
@@ -99,12 +87,12 @@ fn staying_bytes(
     ensures eight { 5 ≤ result → (result ≡ 8) ×
         (neighbours_stay neighbours 32 black left windows.second ≡ true) }
 {
-    // Of the bytes that are in no run, this finds most by the pixels at the left alone.
+    // Many bytes that are in no run are found by the pixels at the left alone.
     if !left_stays(neighbours.left, black, left) {
         return 0;
     }
-    let bytes = alike_bytes(neighbours, black, left, windows.first);
-    if bytes == 4 && most == 8 && alike_bytes(neighbours, black, left, windows.second) == 4 {
+    let bytes = alike_bytes(neighbours, black, windows.first);
+    if bytes == 4 && most == 8 && alike_bytes(neighbours, black, windows.second) == 4 {
         return 8;
     }
     bytes.min(most)

@@ -6,10 +6,10 @@ use Rattle.jbig2_region.proofs.generic_kernel.runs.alike_bytes.Goals as goal
 pub returns-clause-few : goal.returns-clause-few
 returns-clause-few c =
     subst (λ (v : ℕ). v / 8 - 1 ≤ 4) (sym c.max.ensures)
-    (alike-few c.unlike_left-beside.result c.unlike_stretch-above.result c.unlike_stretch-top.result c.unlike_left-beside.type_inv c.unlike_stretch-above.type_inv c.unlike_stretch-top.type_inv)
+    (alike-few c.unlike_stretch-above.result c.unlike_stretch-top.result c.unlike_stretch-above.type_inv c.unlike_stretch-top.type_inv)
 
 pub returns-clause-exact : goal.returns-clause-exact
 returns-clause-exact c = λ m some few.
-    alike-exact c.args.neighbours m c.args.black c.args.left c.args.windows c.unlike_left-beside.result c.unlike_stretch-above.result c.unlike_stretch-top.result c.unlike_left-beside.type_inv c.unlike_stretch-above.type_inv c.unlike_stretch-top.type_inv some few
-    (c.unlike_left-beside.ensures (8 * m) (omega arith)) (c.unlike_stretch-above.ensures (8 * m) (omega arith)) (c.unlike_stretch-top.ensures (8 * m) (omega arith))
+    alike-exact c.args.neighbours m c.args.black c.args.windows c.unlike_stretch-above.result c.unlike_stretch-top.result c.unlike_stretch-above.type_inv c.unlike_stretch-top.type_inv some few
+    (c.unlike_stretch-above.ensures (8 * m) (omega arith)) (c.unlike_stretch-top.ensures (8 * m) (omega arith))
     ∙ ap (λ (v : ℕ). nat_le m (v / 8 - 1)) (sym c.max.ensures)
