@@ -12,6 +12,7 @@ mod PageArea
 pub mod PageCauses
 mod PutLemmas
 mod RegionSizes
+mod RowValues
 pub mod Runs
 pub mod Sending
 pub mod SegmentCauses

@@ -2,7 +2,6 @@
 use Rattle.std.proofs.Common.{mul-le-mul_left, ⊎_elim, false, get_or, length, take, drop, replicate, Result, Ok, Err, ◌≡◌, ℕ, zero, suc, ◌+◌, ◌-◌, ◌*◌, ◌/◌, ◌%◌, ◌^◌, ◌<◌, ◌≤◌, Bool, List, ◌∷◌, map, refl, sym, ap, ◌∙◌, arith}
 use Rattle.std.proofs.lemmas.Bool.{cases_lt}
 use Rattle.std.proofs.lemmas.List.FromFn.{length-map-range_with_len, take-map-range_with_len}
-use Rattle.std.proofs.lemmas.Nat.{div-mul-add, mod-mul-add}
 use Rattle.std.specs.List.{range_with_len}
 use Rattle.jbig2_base.specs.Answer.{◌>>=◌}
 use Rattle.jbig2_base.specs.declared.error.DecodeError.{DecodeError}
@@ -101,27 +100,6 @@ zeros a (suc n) = ap (λ (xs : List ℕ). 0 ∷ xs) (zeros (a + 1) n)
 pub white-part : (w : ℕ) (g : Grid) (start count : ℕ) → IsBegun false g → packed_part w g start count ≡ replicate count 0
 unfolding packed_part
 white-part w g start count begun = map-same (λ n. packed_byte g (n % row_bytes w) (n / row_bytes w)) (λ n. 0) start count (λ n above below. white-byte g (n % row_bytes w) (n / row_bytes w) begun) ∙ zeros start count
-
--- some bytes more of the rows, from byte `column` of row y on
-pub written-more : (g : Grid) (w start place column y count : ℕ) (before after : List ℕ)
-    → start + place ≡ y * row_bytes w + column → column + count ≤ row_bytes w
-    → ((k : ℕ) → k < place → get_or before k 0 ≡ packed_byte g ((start + k) % row_bytes w) ((start + k) / row_bytes w))
-    → ((k : ℕ) → k < place → get_or after k 0 ≡ get_or before k 0)
-    → ((i : ℕ) → i < count → get_or after (place + i) 0 ≡ packed_byte g (column + i) y)
-    → (k : ℕ) → k < place + count → get_or after k 0 ≡ packed_byte g ((start + k) % row_bytes w) ((start + k) / row_bytes w)
-written-more g w start place column y count before after counted narrow written kept bytes k below =
-    ⊎_elim
-    (λ (early : k < place). kept k early ∙ written k early)
-    (λ (late : place ≤ k).
-    let i : ℕ = k - place in
-    let at : place + i ≡ k = omega (arith, late) in
-    let small : i < count = omega (arith, late, below) in
-    let whole : start + k ≡ y * row_bytes w + (column + i) = omega (arith, counted, at) in
-    let inside : column + i < row_bytes w = omega (arith, small, narrow) in
-    let x : (start + k) % row_bytes w ≡ column + i = ap (λ (n : ℕ). n % row_bytes w) whole ∙ mod-mul-add y (row_bytes w) (column + i) inside in
-    let row : (start + k) / row_bytes w ≡ y = ap (λ (n : ℕ). n / row_bytes w) whole ∙ div-mul-add y (row_bytes w) (column + i) inside in
-    ap (λ (n : ℕ). get_or after n 0) (sym at) ∙ bytes i small ∙ ap (λ (n : ℕ). packed_byte g n y) (sym x) ∙ ap (λ (n : ℕ). packed_byte g ((start + k) % row_bytes w) n) (sym row))
-    (cases_lt k place)
 
 -- a function's values from s on
 pub values-from : (f : ℕ → ℕ) (s a n : ℕ) → map (λ k. f (s + k)) (range_with_len a n) ≡ map f (range_with_len (s + a) n)

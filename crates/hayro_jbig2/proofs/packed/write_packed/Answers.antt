@@ -2,7 +2,8 @@ use Rattle.std.proofs.Common.{◌≡◌, ◌+◌, ◌*◌, ◌/◌, ◌%◌, ◌
 use Rattle.std.specs.List.{range_with_len}
 use Rattle.std.proofs.lemmas.List.FromFn.{fill_by_all}
 use Rattle.hayro_jbig2.specs.Image.{packed_byte, packed_part, row_bytes}
-use Rattle.hayro_jbig2.proofs.PackedRows.{values-from, written-more}
+use Rattle.hayro_jbig2.proofs.PackedRows.{values-from}
+use Rattle.hayro_jbig2.proofs.RowValues.{value-at, values-more}
 use Rattle.hayro_jbig2.proofs.packed.write_packed.Goals as goal
 use Rattle.hayro_jbig2.proofs.packed.write_packed.Goals.{then-count-eq0, else-count-eq0}
 
@@ -13,6 +14,8 @@ loop-place-preserved g c =
     let column = c.loop-place.column in
     let y = c.loop-place.y in
     let kept = c.loop-place.invariant in
+    let byte : ℕ → ℕ → ℕ = λ k j. packed_byte c.args.bitmap.now k j in
+    let value : ℕ → ℕ = λ k. byte ((c.args.start + k) % row_bytes w) ((c.args.start + k) / row_bytes w) in
     let left : place < length c.loop-place.buf = c.loop-place-test.true in
     let rows : row_bytes w ≡ c.div_ceil-row_bytes.result = grind (arith) in
     let most : c.if-count-eq0.count ≤ c.min-most.result = elim c.if-count-eq0.branch [
@@ -37,7 +40,8 @@ loop-place-preserved g c =
       within = rw (sized) (grind (arith));
       counted = λ more. rw (rows) (omega (arith, kept.counted left, c.wrapped.ensures.place, ap (λ (n : ℕ). y * n) rows));
       column = λ more. omega (arith, c.wrapped.ensures.inside, rows);
-      written = written-more c.args.bitmap.now w c.args.start place column y c.if-count-eq0.count c.loop-place.buf c.if-count-eq0.buf (kept.counted left) narrow kept.written before put;
+      written = values-more value place c.if-count-eq0.count c.loop-place.buf c.if-count-eq0.buf kept.written before (λ i below. put i below
+          ∙ value-at byte (row_bytes w) (c.args.start + (place + i)) y (column + i) (omega (arith, kept.counted left)) (omega (arith, below, narrow)));
     }
 
 pub returns : goal.returns
