@@ -1,9 +1,9 @@
 -- Which rule is broken where the new symbols of a dictionary are refused, and where the dictionary is.
-use Rattle.std.proofs.Common.{◌≡◌, ◌≢◌, ◌⊎◌, inl, inr, ℕ, zero, suc, ◌+◌, ◌*◌, ◌<◌, ◌≤◌, ◌==◌, nat_lt, Bool, true, false, not, ◌&&◌, ◌||◌, if◌then◌else◌, List, [], ◌∷◌, ◌++◌, length, take, slice_get, Option, Some, None, Result, Ok, Err, ℤ, pos, negsuc, ◌+ℤ◌, refl, sym, ap, subst, ◌∙◌, arith}
+use Rattle.std.proofs.Common.{◌≡◌, ◌⊎◌, inl, inr, ℕ, suc, ◌+◌, ◌*◌, ◌<◌, ◌==◌, nat_lt, Bool, true, false, not, ◌&&◌, ◌||◌, List, [], ◌∷◌, ◌++◌, length, take, slice_get, Option, Some, None, Result, Ok, Err, ℤ, pos, negsuc, ◌+ℤ◌, refl, sym, ap, subst, ◌∙◌}
 use Rattle.std.proofs.lemmas.Bool.{and_parts, cond-false, cond-true, eqb-false, ltb-true, not-true}
 use Rattle.std.specs.Prelude.{IfErr}
 use Rattle.jbig2_base.specs.Answer.{◌>>=◌, refuse_if}
-use Rattle.jbig2_base.specs.Bits.{aligned, start_of}
+use Rattle.jbig2_base.specs.Bits.{Place, aligned, start_of}
 use Rattle.jbig2_base.specs.Fields.{bytes_at}
 use Rattle.jbig2_base.specs.Grid.{Grid}
 use Rattle.jbig2_base.specs.Causes.{BreaksSides, InSteps, IsOf}
@@ -18,14 +18,16 @@ use Rattle.jbig2_base.proofs.Causes.{bytes-there, cause-bytes, cause-next, cause
 use Rattle.jbig2_coder.specs.PrefixCode.{Member}
 use Rattle.jbig2_mmr.specs.T6.{mmr_rows, rows_of}
 use Rattle.jbig2_text.specs.TextCoding.{in_band}
-use Rattle.jbig2_symbol.specs.Aggregates.{id_codes, state_bits}
-use Rattle.jbig2_symbol.specs.Causes.{BreaksContexts, BreaksExported, BreaksRuns, BreaksTables, IsNoSize}
-use Rattle.jbig2_symbol.specs.ClassCauses.{BreaksClassBehind, BreaksCuts, BreaksDictionary, BreaksCollective, BreaksSized, CodedSymbolsHaveCauses, CollectiveBitmapsHaveCauses, CutsHaveCauses, HeightClassesHaveCauses, SymbolsHaveCauses, rows_length}
-use Rattle.jbig2_symbol.specs.Exports.{export_runs, exports}
+use Rattle.jbig2_symbol.specs.Aggregates.{id_codes}
+use Rattle.jbig2_symbol.specs.Causes.{BreaksContexts, BreaksExported, BreaksRuns, BreaksTables}
+use Rattle.jbig2_symbol.specs.ClassCauses.{BreaksClassBehind, BreaksCuts, BreaksCoding, BreaksCollective, BreaksDictionary, BreaksSized, CodedSymbolsHaveCauses, CollectiveBitmapsHaveCauses, CutsHaveCauses, HeightClassesHaveCauses, SymbolsHaveCauses, rows_length}
+use Rattle.jbig2_symbol.specs.Exports.{export_runs}
+use Rattle.jbig2_symbol.specs.HeightClasses.{HeightClass, height_class, new_symbols, size_in_word}
 use Rattle.jbig2_symbol.specs.SymbolBitmaps.{coded_symbol, collective_bitmap, fits_symbol, mmr_bytes, raw_rows, raw_stride, rows_of_size, symbol_cut, symbols_cut}
+use Rattle.jbig2_symbol.specs.SymbolCoding.{classes_by_coder, classes_by_prefix_codes, coder_begun, prefix_codes_begun}
 use Rattle.jbig2_symbol.specs.SymbolHeader.{SymbolHeader}
-use Rattle.jbig2_symbol.specs.SymbolReading.{BitmapContexts, SymbolInput, SymbolTables, SymbolState, by_table, first_contexts, first_state, height_difference, not_negative, symbol_tables}
-use Rattle.jbig2_symbol.specs.Symbols.{HeightClass, class_of_height, dictionary_from, height_class, new_symbols, size_in_word, symbols_decoded}
+use Rattle.jbig2_symbol.specs.SymbolReading.{BitmapContexts, ClassReadings, SymbolInput, SymbolTables, SymbolState, by_table, first_contexts, not_negative, symbol_tables}
+use Rattle.jbig2_symbol.specs.Symbols.{dictionary_by, dictionary_from, symbols_decoded, symbols_exported}
 use Rattle.jbig2_symbol.proofs.Causes.{Meets, error-of, meets-next}
 use Rattle.jbig2_symbol.proofs.ReadingCauses.{cause-by, cause-if, contexts_causes, exports_causes, in-steps, meets-size, own-error, symbol_tables_causes}
 
@@ -83,12 +85,12 @@ rows-cause : (strict : Bool) (size width height : ℕ) (bytes : List ℕ) → If
 rows-cause strict size width height bytes =
     cause-if (BreaksCollective strict size width height bytes) (size == 0) (raw_rows width height bytes) (mmr_bytes strict size width height bytes) (raw-cause strict size width height bytes) (mmr-cause strict size width height bytes)
 
-sized-cause : (d : SymbolInput) (width height : ℕ) (value : Option ℤ) (after : SymbolState)
-    → IfErr (in_band (errors.Huffman UnexpectedOob) value >>= λ number. not_negative (errors.Overflow BitmapDimension) number >>= λ size. rows_of_size d.header.strict size width height (aligned after.place).bytes >>= λ rows. (let r : Result (Grid × SymbolState) DecodeError = Ok (rows.0, record after { place = start_of rows.1 }) in r)) (BreaksSized d width height (value, after))
+sized-cause : (d : SymbolInput) (width height : ℕ) (value : Option ℤ) (after : SymbolState Place)
+    → IfErr (in_band (errors.Huffman UnexpectedOob) value >>= λ number. not_negative (errors.Overflow BitmapDimension) number >>= λ size. rows_of_size d.header.strict size width height (aligned after.coding).bytes >>= λ rows. (let r : Result (Grid × SymbolState Place) DecodeError = Ok (rows.0, record after { coding = start_of rows.1 }) in r)) (BreaksSized d width height (value, after))
 sized-cause d width height None after = inl refl
 sized-cause d width height (Some (negsuc n)) after = inl (n, refl)
 sized-cause d width height (Some (pos size)) after =
-    let bytes = (aligned after.place).bytes in
+    let bytes = (aligned after.coding).bytes in
     let P : DecodeError → Type 0 = BreaksSized d width height (Some (pos size), after) in
     let rows = rows_of_size d.header.strict size width height bytes in
     cause-next P rows _ (cause-by rows (BreaksCollective d.header.strict size width height bytes) P (rows-cause d.header.strict size width height bytes) (λ e is broken. inr (size, refl, broken))) (λ grid grid_is. tt)
@@ -120,52 +122,60 @@ pub cuts_causes : CutsHaveCauses
 cuts_causes collective height from widths = cuts-cause (BreaksCuts height widths) collective height from widths (λ some. some)
 
 -- ---- height classes
-class-of : (d : SymbolInput) (before empty : ℕ) (new : List Grid) (value : Option ℤ) (after : SymbolState)
-    → IfErr (in_band (errors.Symbol symbols.UnexpectedOob) value >>= λ difference. size_in_word (pos before +ℤ difference) >>= λ height. class_of_height d height empty new after >>= λ class. (let r : Result (HeightClass × SymbolState) DecodeError = Ok (record { height = height; symbols = class.0 }, class.1) in r)) (BreaksClassBehind d before empty new (value, after))
-class-of d before empty new None after = inl refl
-class-of d before empty new (Some difference) after =
-    let P : DecodeError → Type 0 = BreaksClassBehind d before empty new (Some difference, after) in
-    let End : HeightClass × SymbolState → Type 0 = λ x. Unit {0} in
+class-of : {S : Type 0} (r : ClassReadings S) (d : SymbolInput) (before empty : ℕ) (new : List Grid) (value : Option ℤ) (after : S)
+    → IfErr (in_band (errors.Symbol symbols.UnexpectedOob) value >>= λ difference. size_in_word (pos before +ℤ difference) >>= λ height. r.class_of_height d height empty new after >>= λ class. (let x : Result (HeightClass × S) DecodeError = Ok (record { height = height; symbols = class.0 }, class.1) in x)) (BreaksClassBehind r d before empty new (value, after))
+class-of r d before empty new None after = inl refl
+class-of {S} r d before empty new (Some difference) after =
+    let P : DecodeError → Type 0 = BreaksClassBehind r d before empty new (Some difference, after) in
+    let End : HeightClass × S → Type 0 = λ x. Unit {0} in
     let sum = pos before +ℤ difference in
     error-of End P _
     (meets-next (λ (n : ℕ). sum ≡ pos n) End P (size_in_word sum) _ (meets-size P sum (λ no. inl (difference, refl, no))) (λ height height_is.
-    class-meets d height empty new after P (λ e own. inr (difference, height, refl, height_is, own))))
+    class-meets r d height empty new after P (λ e own. inr (difference, height, refl, height_is, own))))
   where
-    class-meets : (d : SymbolInput) (height empty : ℕ) (new : List Grid) (after : SymbolState) (P : DecodeError → Type 0) → ((e : DecodeError) → IsOf (class_of_height d height empty new after) e → P e)
-        → Meets (class_of_height d height empty new after >>= λ class. (let r : Result (HeightClass × SymbolState) DecodeError = Ok (record { height = height; symbols = class.0 }, class.1) in r)) (λ x. Unit {0}) P
-    class-meets d height empty new after P why = on (class_of_height d height empty new after) (λ e is. why e is)
+    class-meets : (r : ClassReadings S) (d : SymbolInput) (height empty : ℕ) (new : List Grid) (after : S) (P : DecodeError → Type 0) → ((e : DecodeError) → IsOf (r.class_of_height d height empty new after) e → P e)
+        → Meets (r.class_of_height d height empty new after >>= λ class. (let x : Result (HeightClass × S) DecodeError = Ok (record { height = height; symbols = class.0 }, class.1) in x)) (λ x. Unit {0}) P
+    class-meets r d height empty new after P why = on (r.class_of_height d height empty new after) (λ e is. why e is)
       where
-        on : (r : Result (List Grid × SymbolState) DecodeError) → ((e : DecodeError) → r ≡ Err e → P e) → Meets (r >>= λ class. (let r : Result (HeightClass × SymbolState) DecodeError = Ok (record { height = height; symbols = class.0 }, class.1) in r)) (λ x. Unit {0}) P
+        on : (answer : Result (List Grid × S) DecodeError) → ((e : DecodeError) → answer ≡ Err e → P e) → Meets (answer >>= λ class. (let x : Result (HeightClass × S) DecodeError = Ok (record { height = height; symbols = class.0 }, class.1) in x)) (λ x. Unit {0}) P
         on (Ok class) refused = tt
         on (Err e) refused = refused e refl
 
-pub height_class_causes : HeightClassesHaveCauses
+pub height_class_causes : {S : Type 0} (r : ClassReadings S) → HeightClassesHaveCauses r
 unfolding height_class
-height_class_causes d before empty new s =
-    in-steps (height_difference d s) _ (IsOf (height_difference d s)) (BreaksClassBehind d before empty new) (own-error (height_difference d s)) (λ value value_is. class-of d before empty new value.0 value.1)
+height_class_causes r d before empty new s =
+    in-steps (r.height_difference d s) _ (IsOf (r.height_difference d s)) (BreaksClassBehind r d before empty new) (own-error (r.height_difference d s)) (λ value value_is. class-of r d before empty new value.0 value.1)
 
 -- ---- the dictionary
-dictionary-cause : (d : SymbolInput) (s : SymbolState) → IfErr (dictionary_from d s) (BreaksDictionary d s)
-dictionary-cause d s =
-    let Behind : List Grid × SymbolState → DecodeError → Type 0 = λ new e.
+dictionary-cause : {C : Type 0} (r : ClassReadings (SymbolState C)) (d : SymbolInput) (s : SymbolState C) → IfErr (dictionary_by r d s) (BreaksDictionary r d s)
+dictionary-cause {C} r d s =
+    let P : DecodeError → Type 0 = BreaksDictionary r d s in
+    let Behind : List Grid × SymbolState C → DecodeError → Type 0 = λ new e.
     let grids = d.symbols ++ new.0 in
-    InSteps (export_runs d (length grids) new.1) (BreaksRuns d (length grids) new.1 e) (λ runs. BreaksExported d grids runs.0 e) in
-    in-steps (new_symbols d s) _ (IsOf (new_symbols d s)) Behind (own-error (new_symbols d s)) (λ new new_is.
-    cause-next (Behind new) (exports d (d.symbols ++ new.0) new.1) _ (exports_causes d (d.symbols ++ new.0) new.1) (λ exported exported_is. tt))
+    InSteps (export_runs r d (length grids) new.1) (BreaksRuns r d (length grids) new.1 e) (λ runs. BreaksExported d grids runs.0 e) in
+    cause-next P (symbols_exported r d s) _
+    (in-steps (new_symbols r d s) _ (IsOf (new_symbols r d s)) Behind (own-error (new_symbols r d s)) (λ new new_is. exports_causes r d (d.symbols ++ new.0) new.1)) (λ exported exported_is. tt)
+
+coding-cause : (d : SymbolInput) (contexts : BitmapContexts) → IfErr (dictionary_from d contexts) (BreaksCoding d contexts)
+coding-cause d contexts =
+    let P : DecodeError → Type 0 = BreaksCoding d contexts in
+    let prefixed = dictionary_by classes_by_prefix_codes d (prefix_codes_begun d contexts) in
+    let coded = dictionary_by classes_by_coder d (coder_begun d contexts) in
+    cause-if P d.header.flags.use_huffman prefixed coded
+    (λ is. cause-by prefixed (BreaksDictionary classes_by_prefix_codes d (prefix_codes_begun d contexts)) P (dictionary-cause classes_by_prefix_codes d (prefix_codes_begun d contexts)) (λ e e_is broken. inl (is, broken)))
+    (λ is. cause-by coded (BreaksDictionary classes_by_coder d (coder_begun d contexts)) P (dictionary-cause classes_by_coder d (coder_begun d contexts)) (λ e e_is broken. inr (is, broken)))
 
 abbrev input_of : SymbolHeader → List Grid → SymbolTables → List Member → SymbolInput
 input_of h symbols tables ids = record { header = h; symbols = symbols; tables = tables; ids = ids }
 
 abbrev BehindIds : SymbolHeader → List Grid → BitmapContexts → SymbolTables → DecodeError → Type 0
 BehindIds h symbols contexts tables e =
-    InSteps (id_codes h (length symbols)) (IsOf (id_codes h (length symbols)) e) (λ ids.
-    BreaksDictionary (input_of h symbols tables ids) (first_state h (state_bits h (length symbols)) contexts) e)
+    InSteps (id_codes h (length symbols)) (IsOf (id_codes h (length symbols)) e) (λ ids. BreaksCoding (input_of h symbols tables ids) contexts e)
 
 pub symbols_causes : SymbolsHaveCauses
 unfolding symbols_decoded
 symbols_causes h symbols referred kept =
     let step = id_codes h (length symbols) in
     in-steps (first_contexts h.flags kept) _ (BreaksContexts h.flags kept) (λ contexts e. InSteps (symbol_tables h.flags referred) (BreaksTables h.flags referred e) (λ tables. BehindIds h symbols contexts tables e)) (contexts_causes h.flags kept) (λ contexts contexts_is.
-    let s : SymbolState = first_state h (state_bits h (length symbols)) contexts in
     in-steps (symbol_tables h.flags referred) _ (BreaksTables h.flags referred) (λ tables e. BehindIds h symbols contexts tables e) (symbol_tables_causes h.flags referred) (λ tables tables_is.
-    in-steps step _ (IsOf step) (λ ids. BreaksDictionary (input_of h symbols tables ids) s) (own-error step) (λ ids ids_is. dictionary-cause (input_of h symbols tables ids) s)))
+    in-steps step _ (IsOf step) (λ ids. BreaksCoding (input_of h symbols tables ids) contexts) (own-error step) (λ ids ids_is. coding-cause (input_of h symbols tables ids) contexts)))

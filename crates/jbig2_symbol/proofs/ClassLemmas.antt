@@ -5,32 +5,34 @@ use Rattle.std.proofs.lemmas.Bool.{le-leb, lt-leb}
 use Rattle.std.proofs.lemmas.List.{append-nil}
 use Rattle.std.proofs.lemmas.List.Sums.{sum_by-append}
 use Rattle.jbig2_base.specs.Answer.{◌>>=◌, Gives}
+use Rattle.jbig2_base.specs.Bits.{Place}
 use Rattle.jbig2_base.specs.Grid.{Grid}
 use Rattle.jbig2_base.specs.declared.error.DecodeError.{DecodeError}
 use Rattle.jbig2_base.specs.declared.error.DecodeError.TheVariants as errors
 use Rattle.jbig2_symbol.specs.SymbolBitmaps.{collective_bitmap, put_behind, symbols_cut}
 use Rattle.jbig2_region.proofs.GenericLemmas.{ok-inner}
-use Rattle.jbig2_symbol.specs.SymbolReading.{SymbolInput, SymbolState, height_difference}
-use Rattle.jbig2_symbol.specs.Symbols.{HeightClass, class_of_height, classes_from, collective_class, drawn_class, empty_class, empty_with, height_class, next_width, size_in_word, symbol_bitmap, symbols_from, symbols_of, widths_from}
+use Rattle.jbig2_symbol.specs.HeightClasses.{HeightClass, classes_from, drawn_class, empty_class, empty_with, height_class, next_width, room_behind, size_in_word, symbols_from, symbols_of, widths_from}
+use Rattle.jbig2_symbol.specs.SymbolCoding.{collective_class, symbols_by_prefix_codes}
+use Rattle.jbig2_symbol.specs.SymbolReading.{ClassReadings, SymbolInput, SymbolReadings, SymbolState}
 use Rattle.jbig2_symbol.specs.inner.SymbolViews.{behind, class_behind}
 use Rattle.jbig2_symbol.proofs.BehindLemmas.{behind-cons}
 
 -- ---- the widths of a class
-pub widths-done : (d : SymbolInput) (room width total : ℕ) (before : List ℕ) (s t : SymbolState) (next : Option (ℕ × ℕ)) → next ≡ None → next_width d room width total s ≡ Ok (next, t) → behind before (widths_from d room width total s) ≡ Ok (before, t)
+pub widths-done : {S : Type 0} (r : SymbolReadings S) (d : SymbolInput) (room width total : ℕ) (before : List ℕ) (s t : S) (next : Option (ℕ × ℕ)) → next ≡ None → next_width r d room width total s ≡ Ok (next, t) → behind before (widths_from r d room width total s) ≡ Ok (before, t)
 unfolding widths_from
-widths-done d zero width total before s t next none e = rw e (ap (λ (all : List ℕ). Ok (all, t)) (append-nil before))
-widths-done d (suc room) width total before s t next none e = rw (e, none) (ap (λ (all : List ℕ). Ok (all, t)) (append-nil before))
+widths-done r d zero width total before s t next none e = rw e (ap (λ (all : List ℕ). Ok (all, t)) (append-nil before))
+widths-done r d (suc room) width total before s t next none e = rw (e, none) (ap (λ (all : List ℕ). Ok (all, t)) (append-nil before))
 
-pub widths-fault : (d : SymbolInput) (room width total : ℕ) (before : List ℕ) (s : SymbolState) (error : DecodeError) → next_width d room width total s ≡ Err error → behind before (widths_from d room width total s) ≡ Err error
+pub widths-fault : {S : Type 0} (r : SymbolReadings S) (d : SymbolInput) (room width total : ℕ) (before : List ℕ) (s : S) (error : DecodeError) → next_width r d room width total s ≡ Err error → behind before (widths_from r d room width total s) ≡ Err error
 unfolding widths_from
-widths-fault d zero width total before s error e = rw e refl
-widths-fault d (suc room) width total before s error e = rw e refl
+widths-fault r d zero width total before s error e = rw e refl
+widths-fault r d (suc room) width total before s error e = rw e refl
 
-pub widths-next : (d : SymbolInput) (room left width total : ℕ) (before after : List ℕ) (s t : SymbolState) (next : Option (ℕ × ℕ)) (pair : ℕ × ℕ) → room ≡ suc left → next ≡ Some pair → after ≡ before ++ pair.0 ∷ [] → next_width d room width total s ≡ Ok (next, t) → behind before (widths_from d room width total s) ≡ behind after (widths_from d left pair.0 pair.1 t)
+pub widths-next : {S : Type 0} (r : SymbolReadings S) (d : SymbolInput) (room left width total : ℕ) (before after : List ℕ) (s t : S) (next : Option (ℕ × ℕ)) (pair : ℕ × ℕ) → room ≡ suc left → next ≡ Some pair → after ≡ before ++ pair.0 ∷ [] → next_width r d room width total s ≡ Ok (next, t) → behind before (widths_from r d room width total s) ≡ behind after (widths_from r d left pair.0 pair.1 t)
 unfolding widths_from
-widths-next d room left width total before after s t next pair more some pushed e =
-    let read : next_width d (suc left) width total s ≡ Ok (Some pair, t) = rw (some, more) at e in
-    rw (more, pushed, read) (behind-cons before pair.0 (widths_from d left pair.0 pair.1 t))
+widths-next r d room left width total before after s t next pair more some pushed e =
+    let read : next_width r d (suc left) width total s ≡ Ok (Some pair, t) = rw (some, more) at e in
+    rw (more, pushed, read) (behind-cons before pair.0 (widths_from r d left pair.0 pair.1 t))
 
 pub sum-pushed : (widths after : List ℕ) (total width new : ℕ) → total ≡ sum widths → after ≡ widths ++ width ∷ [] → new ≡ total + width → new ≡ sum after
 sum-pushed widths after total width new before pushed is =
@@ -39,74 +41,74 @@ sum-pushed widths after total width new before pushed is =
     is ∙ ap (λ (n : ℕ). n + width) before ∙ sym last ∙ ap (λ (ws : List ℕ). sum ws) (sym pushed)
 
 -- ---- the symbols of a class
-pub symbols-done : (d : SymbolInput) (room height width total : ℕ) (before : List Grid) (s t : SymbolState) (next : Option (ℕ × ℕ)) → next ≡ None → next_width d room width total s ≡ Ok (next, t) → behind before (symbols_from d room height width total before s) ≡ Ok (before, t)
+pub symbols-done : {S : Type 0} (r : SymbolReadings S) (d : SymbolInput) (room height width total : ℕ) (before : List Grid) (s t : S) (next : Option (ℕ × ℕ)) → next ≡ None → next_width r d room width total s ≡ Ok (next, t) → behind before (symbols_from r d room height width total before s) ≡ Ok (before, t)
 unfolding symbols_from
-symbols-done d zero height width total before s t next none e = rw e (ap (λ (all : List Grid). Ok (all, t)) (append-nil before))
-symbols-done d (suc room) height width total before s t next none e = rw (e, none) (ap (λ (all : List Grid). Ok (all, t)) (append-nil before))
+symbols-done r d zero height width total before s t next none e = rw e (ap (λ (all : List Grid). Ok (all, t)) (append-nil before))
+symbols-done r d (suc room) height width total before s t next none e = rw (e, none) (ap (λ (all : List Grid). Ok (all, t)) (append-nil before))
 
-pub symbols-fault : (d : SymbolInput) (room height width total : ℕ) (before : List Grid) (s : SymbolState) (error : DecodeError) → next_width d room width total s ≡ Err error → behind before (symbols_from d room height width total before s) ≡ Err error
+pub symbols-fault : {S : Type 0} (r : SymbolReadings S) (d : SymbolInput) (room height width total : ℕ) (before : List Grid) (s : S) (error : DecodeError) → next_width r d room width total s ≡ Err error → behind before (symbols_from r d room height width total before s) ≡ Err error
 unfolding symbols_from
-symbols-fault d zero height width total before s error e = rw e refl
-symbols-fault d (suc room) height width total before s error e = rw e refl
+symbols-fault r d zero height width total before s error e = rw e refl
+symbols-fault r d (suc room) height width total before s error e = rw e refl
 
-pub symbols-next : (d : SymbolInput) (room left height width total : ℕ) (before after : List Grid) (symbol : Grid) (s t u : SymbolState) (next : Option (ℕ × ℕ)) (pair : ℕ × ℕ) → room ≡ suc left → next ≡ Some pair → after ≡ before ++ symbol ∷ [] → next_width d room width total s ≡ Ok (next, t) → symbol_bitmap d before pair.0 height t ≡ Ok (symbol, u) → behind before (symbols_from d room height width total before s) ≡ behind after (symbols_from d left height pair.0 pair.1 after u)
+pub symbols-next : {S : Type 0} (r : SymbolReadings S) (d : SymbolInput) (room left height width total : ℕ) (before after : List Grid) (symbol : Grid) (s t u : S) (next : Option (ℕ × ℕ)) (pair : ℕ × ℕ) → room ≡ suc left → next ≡ Some pair → after ≡ before ++ symbol ∷ [] → next_width r d room width total s ≡ Ok (next, t) → r.symbol_bitmap d before pair.0 height t ≡ Ok (symbol, u) → behind before (symbols_from r d room height width total before s) ≡ behind after (symbols_from r d left height pair.0 pair.1 after u)
 unfolding symbols_from
-symbols-next d room left height width total before after symbol s t u next pair more some pushed e drawn =
-    let read : next_width d (suc left) width total s ≡ Ok (Some pair, t) = rw (some, more) at e in
-    rw (more, pushed, read, drawn) (behind-cons before symbol (symbols_from d left height pair.0 pair.1 (before ++ symbol ∷ []) u))
+symbols-next r d room left height width total before after symbol s t u next pair more some pushed e drawn =
+    let read : next_width r d (suc left) width total s ≡ Ok (Some pair, t) = rw (some, more) at e in
+    rw (more, pushed, read, drawn) (behind-cons before symbol (symbols_from r d left height pair.0 pair.1 (before ++ symbol ∷ []) u))
 
-pub symbols-undrawn : (d : SymbolInput) (room left height width total : ℕ) (before : List Grid) (s t : SymbolState) (next : Option (ℕ × ℕ)) (pair : ℕ × ℕ) (error : DecodeError) (whole : Result (List Grid × SymbolState) DecodeError) → room ≡ suc left → next ≡ Some pair → next_width d room width total s ≡ Ok (next, t) → behind before (symbols_from d room height width total before s) ≡ whole → (error ≡ errors.OutOfMemory) ⊎ (symbol_bitmap d before pair.0 height t ≡ Err error) → (error ≡ errors.OutOfMemory) ⊎ (whole ≡ Err error)
+pub symbols-undrawn : {S : Type 0} (r : SymbolReadings S) (d : SymbolInput) (room left height width total : ℕ) (before : List Grid) (s t : S) (next : Option (ℕ × ℕ)) (pair : ℕ × ℕ) (error : DecodeError) (whole : Result (List Grid × S) DecodeError) → room ≡ suc left → next ≡ Some pair → next_width r d room width total s ≡ Ok (next, t) → behind before (symbols_from r d room height width total before s) ≡ whole → (error ≡ errors.OutOfMemory) ⊎ (r.symbol_bitmap d before pair.0 height t ≡ Err error) → (error ≡ errors.OutOfMemory) ⊎ (whole ≡ Err error)
 unfolding symbols_from
-symbols-undrawn d room left height width total before s t next pair error whole more some e so_far (inl memory) = inl memory
-symbols-undrawn d room left height width total before s t next pair error whole more some e so_far (inr undrawn) = inr (sym so_far ∙ fault)
+symbols-undrawn r d room left height width total before s t next pair error whole more some e so_far (inl memory) = inl memory
+symbols-undrawn r d room left height width total before s t next pair error whole more some e so_far (inr undrawn) = inr (sym so_far ∙ fault)
   where
-    fault : behind before (symbols_from d room height width total before s) ≡ Err error
+    fault : behind before (symbols_from r d room height width total before s) ≡ Err error
     fault = rw (more, read, undrawn) refl
       where
-        read : next_width d (suc left) width total s ≡ Ok (Some pair, t)
+        read : next_width r d (suc left) width total s ≡ Ok (Some pair, t)
         read = rw (some, more) at e
 
 -- ---- a class
 -- with a test of how many symbols it has
-checked : Result (List Grid × SymbolState) DecodeError → ℕ → Result (List Grid × SymbolState) DecodeError
+checked : {S : Type 0} → Result (List Grid × S) DecodeError → ℕ → Result (List Grid × S) DecodeError
 checked answer empty = answer >>= λ symbols. empty_class (length symbols.0) empty >>= λ _. Ok symbols
 
-checked-made : (answer : Result (List Grid × SymbolState) DecodeError) (empty : ℕ) (before after : List Grid) (t : SymbolState) → behind before answer ≡ Ok (after, t) → empty_class (length after - length before) empty ≡ Ok tt → behind before (checked answer empty) ≡ Ok (after, t)
+checked-made : {S : Type 0} (answer : Result (List Grid × S) DecodeError) (empty : ℕ) (before after : List Grid) (t : S) → behind before answer ≡ Ok (after, t) → empty_class (length after - length before) empty ≡ Ok tt → behind before (checked answer empty) ≡ Ok (after, t)
 unfolding checked
-checked-made (Ok more) empty before after t made few =
-    let all : before ++ more.0 ≡ after = ap (λ (p : List Grid × SymbolState). p.0) (ok-inner _ _ made) in
+checked-made {S} (Ok more) empty before after t made few =
+    let all : before ++ more.0 ≡ after = ap (λ (p : List Grid × S). p.0) (ok-inner _ _ made) in
     let count : length after - length before ≡ length more.0 = omega (arith, length-append before more.0, ap (λ (gs : List Grid). length gs) all) in
     rw (ap (λ (n : ℕ). empty_class n empty) (sym count) ∙ few) made
 checked-made (Err e) empty before after t made few = made
 
-checked-fault : (answer : Result (List Grid × SymbolState) DecodeError) (empty : ℕ) (before after : List Grid) (t : SymbolState) (error : DecodeError) → behind before answer ≡ Ok (after, t) → empty_class (length after - length before) empty ≡ Err error → behind before (checked answer empty) ≡ Err error
+checked-fault : {S : Type 0} (answer : Result (List Grid × S) DecodeError) (empty : ℕ) (before after : List Grid) (t : S) (error : DecodeError) → behind before answer ≡ Ok (after, t) → empty_class (length after - length before) empty ≡ Err error → behind before (checked answer empty) ≡ Err error
 unfolding checked
-checked-fault (Ok more) empty before after t error made few =
-    let all : before ++ more.0 ≡ after = ap (λ (p : List Grid × SymbolState). p.0) (ok-inner _ _ made) in
+checked-fault {S} (Ok more) empty before after t error made few =
+    let all : before ++ more.0 ≡ after = ap (λ (p : List Grid × S). p.0) (ok-inner _ _ made) in
     let count : length after - length before ≡ length more.0 = omega (arith, length-append before more.0, ap (λ (gs : List Grid). length gs) all) in
     rw (ap (λ (n : ℕ). empty_class n empty) (sym count) ∙ few) refl
 checked-fault (Err e) empty before after t error made few = cc
 
-checked-unread : (answer : Result (List Grid × SymbolState) DecodeError) (empty : ℕ) (before : List Grid) (error : DecodeError) → behind before answer ≡ Err error → behind before (checked answer empty) ≡ Err error
+checked-unread : {S : Type 0} (answer : Result (List Grid × S) DecodeError) (empty : ℕ) (before : List Grid) (error : DecodeError) → behind before answer ≡ Err error → behind before (checked answer empty) ≡ Err error
 unfolding checked
 checked-unread (Ok more) empty before error e = cc
 checked-unread (Err f) empty before error e = e
 
-pub drawn-made : (d : SymbolInput) (room height empty : ℕ) (before after : List Grid) (s t : SymbolState) → behind before (symbols_from d room height 0 0 before s) ≡ Ok (after, t) → empty_class (length after - length before) empty ≡ Ok tt → behind before (drawn_class d room height empty before s) ≡ Ok (after, t)
+pub drawn-made : {S : Type 0} (r : SymbolReadings S) (d : SymbolInput) (height empty : ℕ) (before after : List Grid) (s t : S) → behind before (symbols_from r d (room_behind d before) height 0 0 before s) ≡ Ok (after, t) → empty_class (length after - length before) empty ≡ Ok tt → behind before (drawn_class r d height empty before s) ≡ Ok (after, t)
 unfolding drawn_class checked
-drawn-made d room height empty before after s t made few = checked-made (symbols_from d room height 0 0 before s) empty before after t made few
+drawn-made r d height empty before after s t made few = checked-made (symbols_from r d (room_behind d before) height 0 0 before s) empty before after t made few
 
-pub drawn-fault : (d : SymbolInput) (room height empty : ℕ) (before after : List Grid) (s t : SymbolState) (error : DecodeError) → behind before (symbols_from d room height 0 0 before s) ≡ Ok (after, t) → empty_class (length after - length before) empty ≡ Err error → behind before (drawn_class d room height empty before s) ≡ Err error
+pub drawn-fault : {S : Type 0} (r : SymbolReadings S) (d : SymbolInput) (height empty : ℕ) (before after : List Grid) (s t : S) (error : DecodeError) → behind before (symbols_from r d (room_behind d before) height 0 0 before s) ≡ Ok (after, t) → empty_class (length after - length before) empty ≡ Err error → behind before (drawn_class r d height empty before s) ≡ Err error
 unfolding drawn_class checked
-drawn-fault d room height empty before after s t error made few = checked-fault (symbols_from d room height 0 0 before s) empty before after t error made few
+drawn-fault r d height empty before after s t error made few = checked-fault (symbols_from r d (room_behind d before) height 0 0 before s) empty before after t error made few
 
-pub drawn-unread : (d : SymbolInput) (room height empty : ℕ) (before : List Grid) (s : SymbolState) (error : DecodeError) → (error ≡ errors.OutOfMemory) ⊎ (behind before (symbols_from d room height 0 0 before s) ≡ Err error) → (error ≡ errors.OutOfMemory) ⊎ (behind before (drawn_class d room height empty before s) ≡ Err error)
+pub drawn-unread : {S : Type 0} (r : SymbolReadings S) (d : SymbolInput) (height empty : ℕ) (before : List Grid) (s : S) (error : DecodeError) → (error ≡ errors.OutOfMemory) ⊎ (behind before (symbols_from r d (room_behind d before) height 0 0 before s) ≡ Err error) → (error ≡ errors.OutOfMemory) ⊎ (behind before (drawn_class r d height empty before s) ≡ Err error)
 unfolding drawn_class checked
-drawn-unread d room height empty before s error (inl memory) = inl memory
-drawn-unread d room height empty before s error (inr e) = inr (checked-unread (symbols_from d room height 0 0 before s) empty before error e)
+drawn-unread r d height empty before s error (inl memory) = inl memory
+drawn-unread r d height empty before s error (inr e) = inr (checked-unread (symbols_from r d (room_behind d before) height 0 0 before s) empty before error e)
 
 -- symbols that are cut, and the state behind their collective bitmap
-cut-with : (symbols : Result (List Grid) DecodeError) (before : List Grid) (t : SymbolState) (result : Result (Unit {0}) DecodeError) (after : List Grid) → Gives (λ _. after) result (put_behind before symbols) → Gives (λ _. (after, t)) result (behind before (symbols >>= λ gs. Ok (gs, t)))
+cut-with : {S : Type 0} (symbols : Result (List Grid) DecodeError) (before : List Grid) (t : S) (result : Result (Unit {0}) DecodeError) (after : List Grid) → Gives (λ _. after) result (put_behind before symbols) → Gives (λ _. (after, t)) result (behind before (symbols >>= λ gs. Ok (gs, t)))
 cut-with (Ok more) before t (Ok r) after e = cc
 cut-with (Ok more) before t (Err error) after (inl memory) = inl memory
 cut-with (Ok more) before t (Err error) after (inr e) = cc
@@ -114,76 +116,76 @@ cut-with (Err f) before t (Ok r) after e = cc
 cut-with (Err f) before t (Err error) after (inl memory) = inl memory
 cut-with (Err f) before t (Err error) after (inr e) = inr cc
 
-pub collective-made : (d : SymbolInput) (room height empty total : ℕ) (before after : List Grid) (widths : List ℕ) (collective : Grid) (s t u : SymbolState) (result : Result (Unit {0}) DecodeError) → widths_from d room 0 0 s ≡ Ok (widths, t) → total ≡ sum widths → empty_class (length widths) empty ≡ Ok tt → collective_bitmap d total height t ≡ Ok (collective, u) → Gives (λ _. after) result (put_behind before (symbols_cut collective height 0 widths)) → Gives (λ _. (after, u)) result (behind before (collective_class d room height empty s))
+pub collective-made : (d : SymbolInput) (height empty total : ℕ) (before after : List Grid) (widths : List ℕ) (collective : Grid) (s t u : SymbolState Place) (result : Result (Unit {0}) DecodeError) → widths_from symbols_by_prefix_codes d (room_behind d before) 0 0 s ≡ Ok (widths, t) → total ≡ sum widths → empty_class (length widths) empty ≡ Ok tt → collective_bitmap d total height t ≡ Ok (collective, u) → Gives (λ _. after) result (put_behind before (symbols_cut collective height 0 widths)) → Gives (λ _. (after, u)) result (behind before (collective_class d height empty before s))
 unfolding collective_class
-collective-made d room height empty total before after widths collective s t u result read summed few drawn cut =
+collective-made d height empty total before after widths collective s t u result read summed few drawn cut =
     let drawn' : collective_bitmap d (sum widths) height t ≡ Ok (collective, u) = subst (λ (n : ℕ). collective_bitmap d n height t ≡ Ok (collective, u)) summed drawn in
     rw (read, few, drawn') (cut-with (symbols_cut collective height 0 widths) before u result after cut)
 
 -- ---- the classes
 -- the symbols of classes, behind others
-abbrev pub classes_behind : List Grid → Result (List HeightClass × SymbolState) DecodeError → Result (List Grid × SymbolState) DecodeError
+abbrev pub classes_behind : {S : Type 0} → List Grid → Result (List HeightClass × S) DecodeError → Result (List Grid × S) DecodeError
 classes_behind before answer = answer >>= λ all. Ok (before ++ symbols_of all.0, all.1)
 
-classes-cons : (before : List Grid) (class : HeightClass) (answer : Result (List HeightClass × SymbolState) DecodeError) → classes_behind before (answer >>= λ others. Ok (class ∷ others.0, others.1)) ≡ classes_behind (before ++ class.symbols) answer
+classes-cons : {S : Type 0} (before : List Grid) (class : HeightClass) (answer : Result (List HeightClass × S) DecodeError) → classes_behind before (answer >>= λ others. Ok (class ∷ others.0, others.1)) ≡ classes_behind (before ++ class.symbols) answer
 classes-cons before class (Ok others) = ap (λ (all : List Grid). Ok (all, others.1)) (sym (append_assoc before class.symbols (symbols_of others.0)))
 classes-cons before class (Err e) = refl
 
-pub classes-none : (d : SymbolInput) (n before empty : ℕ) (new : List Grid) (s : SymbolState) → n ≡ 0 → classes_behind new (classes_from d n before empty new s) ≡ Ok (new, s)
+pub classes-none : {S : Type 0} (r : ClassReadings S) (d : SymbolInput) (n before empty : ℕ) (new : List Grid) (s : S) → n ≡ 0 → classes_behind new (classes_from r d n before empty new s) ≡ Ok (new, s)
 unfolding classes_from
-classes-none d n before empty new s none = rw none (ap (λ (all : List Grid). Ok (all, s)) (append-nil new))
+classes-none r d n before empty new s none = rw none (ap (λ (all : List Grid). Ok (all, s)) (append-nil new))
 
-pub classes-done : (d : SymbolInput) (n before empty : ℕ) (new : List Grid) (s : SymbolState) → d.header.num_new_symbols ≤ length new → classes_behind new (classes_from d n before empty new s) ≡ Ok (new, s)
+pub classes-done : {S : Type 0} (r : ClassReadings S) (d : SymbolInput) (n before empty : ℕ) (new : List Grid) (s : S) → d.header.num_new_symbols ≤ length new → classes_behind new (classes_from r d n before empty new s) ≡ Ok (new, s)
 unfolding classes_from
-classes-done d zero before empty new s all = ap (λ (all : List Grid). Ok (all, s)) (append-nil new)
-classes-done d (suc n) before empty new s all = let test : leb d.header.num_new_symbols (length new) ≡ true = le-leb d.header.num_new_symbols (length new) all in rw test (ap (λ (all : List Grid). Ok (all, s)) (append-nil new))
+classes-done r d zero before empty new s all = ap (λ (all : List Grid). Ok (all, s)) (append-nil new)
+classes-done r d (suc n) before empty new s all = let test : leb d.header.num_new_symbols (length new) ≡ true = le-leb d.header.num_new_symbols (length new) all in rw test (ap (λ (all : List Grid). Ok (all, s)) (append-nil new))
 
 -- the class that is read, by what it leaves
-after_class : SymbolInput → ℕ → ℕ → List Grid → Result (HeightClass × SymbolState) DecodeError → Result (List Grid × SymbolState) DecodeError
-after_class d n empty new answer = classes_behind new (answer >>= λ class. classes_from d n class.0.height (empty_with class.0 empty) (new ++ class.0.symbols) class.1 >>= λ others. Ok (class.0 ∷ others.0, others.1))
+after_class : {S : Type 0} → ClassReadings S → SymbolInput → ℕ → ℕ → List Grid → Result (HeightClass × S) DecodeError → Result (List Grid × S) DecodeError
+after_class r d n empty new answer = classes_behind new (answer >>= λ class. classes_from r d n class.0.height (empty_with class.0 empty) (new ++ class.0.symbols) class.1 >>= λ others. Ok (class.0 ∷ others.0, others.1))
 
-after-made : (d : SymbolInput) (n empty height count : ℕ) (new after : List Grid) (t : SymbolState) (answer : Result (HeightClass × SymbolState) DecodeError) → class_behind new empty answer ≡ Ok (after, (height, (count, t))) → after_class d n empty new answer ≡ classes_behind after (classes_from d n height count after t)
+after-made : {S : Type 0} (r : ClassReadings S) (d : SymbolInput) (n empty height count : ℕ) (new after : List Grid) (t : S) (answer : Result (HeightClass × S) DecodeError) → class_behind new empty answer ≡ Ok (after, (height, (count, t))) → after_class r d n empty new answer ≡ classes_behind after (classes_from r d n height count after t)
 unfolding after_class
-after-made d n empty height count new after t (Ok class) e =
+after-made {S} r d n empty height count new after t (Ok class) e =
     let same : (new ++ class.0.symbols, (class.0.height, (empty_with class.0 empty, class.1))) ≡ (after, (height, (count, t))) = ok-inner _ _ e in
-    let all : new ++ class.0.symbols ≡ after = ap (λ (p : List Grid × (ℕ × (ℕ × SymbolState))). p.0) same in
-    let high : class.0.height ≡ height = ap (λ (p : List Grid × (ℕ × (ℕ × SymbolState))). p.1.0) same in
-    let few : empty_with class.0 empty ≡ count = ap (λ (p : List Grid × (ℕ × (ℕ × SymbolState))). p.1.1.0) same in
-    let left : class.1 ≡ t = ap (λ (p : List Grid × (ℕ × (ℕ × SymbolState))). p.1.1.1) same in
-    classes-cons new class.0 (classes_from d n class.0.height (empty_with class.0 empty) (new ++ class.0.symbols) class.1)
-    ∙ ap (λ (x : List Grid). classes_behind x (classes_from d n class.0.height (empty_with class.0 empty) x class.1)) all
-    ∙ ap (λ (x : ℕ). classes_behind after (classes_from d n x (empty_with class.0 empty) after class.1)) high
-    ∙ ap (λ (x : ℕ). classes_behind after (classes_from d n height x after class.1)) few
-    ∙ ap (λ (x : SymbolState). classes_behind after (classes_from d n height count after x)) left
-after-made d n empty height count new after t (Err f) e = cc
+    let all : new ++ class.0.symbols ≡ after = ap (λ (p : List Grid × (ℕ × (ℕ × S))). p.0) same in
+    let high : class.0.height ≡ height = ap (λ (p : List Grid × (ℕ × (ℕ × S))). p.1.0) same in
+    let few : empty_with class.0 empty ≡ count = ap (λ (p : List Grid × (ℕ × (ℕ × S))). p.1.1.0) same in
+    let left : class.1 ≡ t = ap (λ (p : List Grid × (ℕ × (ℕ × S))). p.1.1.1) same in
+    classes-cons new class.0 (classes_from r d n class.0.height (empty_with class.0 empty) (new ++ class.0.symbols) class.1)
+    ∙ ap (λ (x : List Grid). classes_behind x (classes_from r d n class.0.height (empty_with class.0 empty) x class.1)) all
+    ∙ ap (λ (x : ℕ). classes_behind after (classes_from r d n x (empty_with class.0 empty) after class.1)) high
+    ∙ ap (λ (x : ℕ). classes_behind after (classes_from r d n height x after class.1)) few
+    ∙ ap (λ (x : S). classes_behind after (classes_from r d n height count after x)) left
+after-made r d n empty height count new after t (Err f) e = cc
 
-after-fault : (d : SymbolInput) (n empty : ℕ) (new : List Grid) (error : DecodeError) (answer : Result (HeightClass × SymbolState) DecodeError) → class_behind new empty answer ≡ Err error → after_class d n empty new answer ≡ Err error
+after-fault : {S : Type 0} (r : ClassReadings S) (d : SymbolInput) (n empty : ℕ) (new : List Grid) (error : DecodeError) (answer : Result (HeightClass × S) DecodeError) → class_behind new empty answer ≡ Err error → after_class r d n empty new answer ≡ Err error
 unfolding after_class
-after-fault d n empty new error (Ok class) e = cc
-after-fault d n empty new error (Err f) e = cc
+after-fault r d n empty new error (Ok class) e = cc
+after-fault r d n empty new error (Err f) e = cc
 
-missing-more : (d : SymbolInput) (n m before empty : ℕ) (new : List Grid) (s : SymbolState) → n ≡ suc m → length new < d.header.num_new_symbols → classes_behind new (classes_from d n before empty new s) ≡ after_class d m empty new (height_class d before empty new s)
+missing-more : {S : Type 0} (r : ClassReadings S) (d : SymbolInput) (n m before empty : ℕ) (new : List Grid) (s : S) → n ≡ suc m → length new < d.header.num_new_symbols → classes_behind new (classes_from r d n before empty new s) ≡ after_class r d m empty new (height_class r d before empty new s)
 unfolding classes_from after_class
-missing-more d n m before empty new s more missing = rw (more, lt-leb d.header.num_new_symbols (length new) missing) refl
+missing-more r d n m before empty new s more missing = rw (more, lt-leb d.header.num_new_symbols (length new) missing) refl
 
-pub classes-next : (d : SymbolInput) (n m before empty height count : ℕ) (new after : List Grid) (s t : SymbolState) → n ≡ suc m → length new < d.header.num_new_symbols → class_behind new empty (height_class d before empty new s) ≡ Ok (after, (height, (count, t))) → classes_behind new (classes_from d n before empty new s) ≡ classes_behind after (classes_from d m height count after t)
-classes-next d n m before empty height count new after s t more missing e =
-    missing-more d n m before empty new s more missing ∙ after-made d m empty height count new after t (height_class d before empty new s) e
+pub classes-next : {S : Type 0} (r : ClassReadings S) (d : SymbolInput) (n m before empty height count : ℕ) (new after : List Grid) (s t : S) → n ≡ suc m → length new < d.header.num_new_symbols → class_behind new empty (height_class r d before empty new s) ≡ Ok (after, (height, (count, t))) → classes_behind new (classes_from r d n before empty new s) ≡ classes_behind after (classes_from r d m height count after t)
+classes-next r d n m before empty height count new after s t more missing e =
+    missing-more r d n m before empty new s more missing ∙ after-made r d m empty height count new after t (height_class r d before empty new s) e
 
-pub classes-fault : (d : SymbolInput) (n m before empty : ℕ) (new : List Grid) (s : SymbolState) (error : DecodeError) (whole : Result (List Grid × SymbolState) DecodeError) → n ≡ suc m → classes_behind new (classes_from d n before empty new s) ≡ whole → length new < d.header.num_new_symbols → (error ≡ errors.OutOfMemory) ⊎ (class_behind new empty (height_class d before empty new s) ≡ Err error) → (error ≡ errors.OutOfMemory) ⊎ (whole ≡ Err error)
-classes-fault d n m before empty new s error whole more so_far missing (inl memory) = inl memory
-classes-fault d n m before empty new s error whole more so_far missing (inr e) =
-    inr (sym so_far ∙ missing-more d n m before empty new s more missing ∙ after-fault d m empty new error (height_class d before empty new s) e)
+pub classes-fault : {S : Type 0} (r : ClassReadings S) (d : SymbolInput) (n m before empty : ℕ) (new : List Grid) (s : S) (error : DecodeError) (whole : Result (List Grid × S) DecodeError) → n ≡ suc m → classes_behind new (classes_from r d n before empty new s) ≡ whole → length new < d.header.num_new_symbols → (error ≡ errors.OutOfMemory) ⊎ (class_behind new empty (height_class r d before empty new s) ≡ Err error) → (error ≡ errors.OutOfMemory) ⊎ (whole ≡ Err error)
+classes-fault r d n m before empty new s error whole more so_far missing (inl memory) = inl memory
+classes-fault r d n m before empty new s error whole more so_far missing (inr e) =
+    inr (sym so_far ∙ missing-more r d n m before empty new s more missing ∙ after-fault r d m empty new error (height_class r d before empty new s) e)
 
 -- ---- one class more
-pub class-fault : (d : SymbolInput) (before empty height : ℕ) (new : List Grid) (s t : SymbolState) (value : Option ℤ) (difference z : ℤ) (error : DecodeError) → z ≡ difference → value ≡ Some difference → height_difference d s ≡ Ok (value, t) → size_in_word (pos before +ℤ z) ≡ Ok height → (error ≡ errors.OutOfMemory) ⊎ (behind new (class_of_height d height empty new t) ≡ Err error) → (error ≡ errors.OutOfMemory) ⊎ (class_behind new empty (height_class d before empty new s) ≡ Err error)
+pub class-fault : {S : Type 0} (r : ClassReadings S) (d : SymbolInput) (before empty height : ℕ) (new : List Grid) (s t : S) (value : Option ℤ) (difference z : ℤ) (error : DecodeError) → z ≡ difference → value ≡ Some difference → r.height_difference d s ≡ Ok (value, t) → size_in_word (pos before +ℤ z) ≡ Ok height → (error ≡ errors.OutOfMemory) ⊎ (behind new (r.class_of_height d height empty new t) ≡ Err error) → (error ≡ errors.OutOfMemory) ⊎ (class_behind new empty (height_class r d before empty new s) ≡ Err error)
 unfolding height_class
-class-fault d before empty height new s t value difference z error same some read fits (inl memory) = inl memory
-class-fault d before empty height new s t value difference z error same some read fits (inr e) = inr (rw (read, some, fits') (unread (class_of_height d height empty new t) e))
+class-fault r d before empty height new s t value difference z error same some read fits (inl memory) = inl memory
+class-fault {S} r d before empty height new s t value difference z error same some read fits (inr e) = inr (rw (read, some, fits') (unread (r.class_of_height d height empty new t) e))
   where
     fits' : size_in_word (pos before +ℤ difference) ≡ Ok height
     fits' = subst (λ (k : ℤ). size_in_word (pos before +ℤ k) ≡ Ok height) same fits
 
-    unread : (answer : Result (List Grid × SymbolState) DecodeError) → behind new answer ≡ Err error → class_behind new empty (answer >>= λ class. Ok (record { height = height; symbols = class.0 }, class.1)) ≡ Err error
+    unread : (answer : Result (List Grid × S) DecodeError) → behind new answer ≡ Err error → class_behind new empty (answer >>= λ class. Ok (record { height = height; symbols = class.0 }, class.1)) ≡ Err error
     unread (Ok class) e = cc
     unread (Err f) e = cc

@@ -13,37 +13,38 @@ use Rattle.jbig2_region.specs.Templates.{filled, four_pixels, template_pixels}
 use Rattle.jbig2_region.specs.declared.template.AdaptiveTemplatePixel.{AdaptiveTemplatePixel}
 use Rattle.jbig2_symbol.specs.SymbolBitmaps.{after_region, coded_region, coded_symbol, symbol_coding}
 use Rattle.jbig2_symbol.specs.SymbolHeader.{SymbolHeader}
-use Rattle.jbig2_symbol.specs.SymbolReading.{SymbolState}
+use Rattle.jbig2_symbol.specs.SymbolReading.{SymbolState, state_of}
+use Rattle.jbig2_text.specs.TextCoding.{Coded}
 use Rattle.jbig2_symbol.proofs.UsedPixels.{filled_pixels}
 
 -- the state behind a symbol
-abbrev pub behind_symbol : SymbolState → Coder → List Context → SymbolState
-behind_symbol s coder contexts = record s { coded = record s.coded { coder = coder }; generic = contexts }
+abbrev pub behind_symbol : SymbolState Coded → Coder → List Context → SymbolState Coded
+behind_symbol s coder contexts = state_of (record s.coding { coder = coder }) (record s.contexts { generic = contexts })
 
-holds-made : (s : SymbolState) (width height : ℕ) (r : Region) (grid : Grid) (next : Coder) (after : List Context) → Holds width height s.coded.coder.bytes r grid next after → ◌≡◌ {A = Result (Grid × SymbolState) DecodeError} (Ok (so_far width height r.pixels, after_region r s)) (Ok (grid, behind_symbol s next after))
-holds-made s width height r grid next after holds = rw (holds.pixels, holds.contexts) (ap (λ (c : Coder). Ok (so_far width height r.pixels, record s { coded = record s.coded { coder = c }; generic = r.contexts })) coder)
+holds-made : (s : SymbolState Coded) (width height : ℕ) (r : Region) (grid : Grid) (next : Coder) (after : List Context) → Holds width height s.coding.coder.bytes r grid next after → ◌≡◌ {A = Result (Grid × SymbolState Coded) DecodeError} (Ok (so_far width height r.pixels, after_region r s)) (Ok (grid, behind_symbol s next after))
+holds-made s width height r grid next after holds = rw (holds.pixels, holds.contexts) (ap (λ (c : Coder). Ok (so_far width height r.pixels, behind_symbol s c r.contexts)) coder)
   where
     made : List ℕ → Registers → Coder
     made bytes registers = record { bytes = bytes; registers = registers }
 
-    coder : made s.coded.coder.bytes r.registers ≡ next
+    coder : made s.coding.coder.bytes r.registers ≡ next
     coder = ap (λ (bytes : List ℕ). made bytes r.registers) (sym holds.bytes) ∙ ap (λ (registers : Registers). made next.bytes registers) (sym holds.registers)
 
-state-made : (h : SymbolHeader) (s : SymbolState) (width height : ℕ) (white grid : Grid) (next : Coder) (after : List Context) → blank_or_overflow width height false ≡ Ok white → Holds white.width white.height s.coded.coder.bytes (decoded_region (symbol_coding h s.template) white.width white.height s.coded.coder.bytes (no_pixels s.coded.coder.registers s.generic)) grid next after → coded_symbol h width height s ≡ Ok (grid, behind_symbol s next after)
+state-made : (h : SymbolHeader) (s : SymbolState Coded) (width height : ℕ) (white grid : Grid) (next : Coder) (after : List Context) → blank_or_overflow width height false ≡ Ok white → Holds white.width white.height s.coding.coder.bytes (decoded_region (symbol_coding h s.contexts.template) white.width white.height s.coding.coder.bytes (no_pixels s.coding.coder.registers s.contexts.generic)) grid next after → coded_symbol h width height s ≡ Ok (grid, behind_symbol s next after)
 unfolding coded_symbol coded_region
 state-made h s width height white grid next after made holds =
     let fits = white-made width height false white made in
-    let sized = subst (λ (g : Grid). Holds g.width g.height s.coded.coder.bytes (decoded_region (symbol_coding h s.template) g.width g.height s.coded.coder.bytes (no_pixels s.coded.coder.registers s.generic)) grid next after) fits.1 holds in
-    rw fits.0 (holds-made s width height (decoded_region (symbol_coding h s.template) width height s.coded.coder.bytes (no_pixels s.coded.coder.registers s.generic)) grid next after sized)
+    let sized = subst (λ (g : Grid). Holds g.width g.height s.coding.coder.bytes (decoded_region (symbol_coding h s.contexts.template) g.width g.height s.coding.coder.bytes (no_pixels s.coding.coder.registers s.contexts.generic)) grid next after) fits.1 holds in
+    rw fits.0 (holds-made s width height (decoded_region (symbol_coding h s.contexts.template) width height s.coding.coder.bytes (no_pixels s.coding.coder.registers s.contexts.generic)) grid next after sized)
 
-coded-made : (h : SymbolHeader) (t s : SymbolState) (width height : ℕ) (white grid : Grid) (states : List Context) (next : Coder) (after left : List Context) → left ≡ after → t ≡ s → states ≡ t.generic → blank_or_overflow width height false ≡ Ok white → Holds white.width white.height t.coded.coder.bytes (decoded_region (symbol_coding h t.template) white.width white.height t.coded.coder.bytes (no_pixels t.coded.coder.registers states)) grid next after → coded_symbol h width height s ≡ Ok (grid, behind_symbol t next left)
+coded-made : (h : SymbolHeader) (t s : SymbolState Coded) (width height : ℕ) (white grid : Grid) (states : List Context) (next : Coder) (after left : List Context) → left ≡ after → t ≡ s → states ≡ t.contexts.generic → blank_or_overflow width height false ≡ Ok white → Holds white.width white.height t.coding.coder.bytes (decoded_region (symbol_coding h t.contexts.template) white.width white.height t.coding.coder.bytes (no_pixels t.coding.coder.registers states)) grid next after → coded_symbol h width height s ≡ Ok (grid, behind_symbol t next left)
 coded-made h t s width height white grid states next after left kept same learned made holds =
-    ap (λ (u : SymbolState). coded_symbol h width height u) (sym same)
-    ∙ state-made h t width height white grid next after made (subst (λ (known : List Context). Holds white.width white.height t.coded.coder.bytes (decoded_region (symbol_coding h t.template) white.width white.height t.coded.coder.bytes (no_pixels t.coded.coder.registers known)) grid next after) learned holds)
+    ap (λ (u : SymbolState Coded). coded_symbol h width height u) (sym same)
+    ∙ state-made h t width height white grid next after made (subst (λ (known : List Context). Holds white.width white.height t.coding.coder.bytes (decoded_region (symbol_coding h t.contexts.template) white.width white.height t.coding.coder.bytes (no_pixels t.coding.coder.registers known)) grid next after) learned holds)
     ∙ ap (λ (c : List Context). Ok (grid, behind_symbol t next c)) (sym kept)
 
 -- the same by an array of four pixels
-pub filled-made : (h : SymbolHeader) (t s : SymbolState) (width height : ℕ) (white grid : Grid) (states : List Context) (next : Coder) (after left : List Context) (four : List AdaptiveTemplatePixel) → left ≡ after → t ≡ s → states ≡ t.generic → blank_or_overflow width height false ≡ Ok white → four ≡ filled 4 h.adaptive_template_pixels → Holds white.width white.height t.coded.coder.bytes (decoded_region (coding_of false t.template (template_pixels false t.template (four_pixels t.template four))) white.width white.height t.coded.coder.bytes (no_pixels t.coded.coder.registers states)) grid next after → coded_symbol h width height s ≡ Ok (grid, behind_symbol t next left)
+pub filled-made : (h : SymbolHeader) (t s : SymbolState Coded) (width height : ℕ) (white grid : Grid) (states : List Context) (next : Coder) (after left : List Context) (four : List AdaptiveTemplatePixel) → left ≡ after → t ≡ s → states ≡ t.contexts.generic → blank_or_overflow width height false ≡ Ok white → four ≡ filled 4 h.adaptive_template_pixels → Holds white.width white.height t.coding.coder.bytes (decoded_region (coding_of false t.contexts.template (template_pixels false t.contexts.template (four_pixels t.contexts.template four))) white.width white.height t.coding.coder.bytes (no_pixels t.coding.coder.registers states)) grid next after → coded_symbol h width height s ≡ Ok (grid, behind_symbol t next left)
 filled-made h t s width height white grid states next after left four kept same learned made used holds =
-    let pixels = ap (λ (a : List AdaptiveTemplatePixel). template_pixels false t.template (four_pixels t.template a)) used ∙ filled_pixels t.template h.adaptive_template_pixels in
-    coded-made h t s width height white grid states next after left kept same learned made (subst (λ (p : List AdaptiveTemplatePixel). Holds white.width white.height t.coded.coder.bytes (decoded_region (coding_of false t.template p) white.width white.height t.coded.coder.bytes (no_pixels t.coded.coder.registers states)) grid next after) pixels holds)
+    let pixels = ap (λ (a : List AdaptiveTemplatePixel). template_pixels false t.contexts.template (four_pixels t.contexts.template a)) used ∙ filled_pixels t.contexts.template h.adaptive_template_pixels in
+    coded-made h t s width height white grid states next after left kept same learned made (subst (λ (p : List AdaptiveTemplatePixel). Holds white.width white.height t.coding.coder.bytes (decoded_region (coding_of false t.contexts.template p) white.width white.height t.coding.coder.bytes (no_pixels t.coding.coder.registers states)) grid next after) pixels holds)

@@ -7,28 +7,28 @@ use Rattle.std.proofs.lemmas.List.Sums.{sum_by-append}
 use Rattle.jbig2_base.specs.Grid.{bit_number}
 use Rattle.jbig2_base.specs.declared.error.DecodeError.{DecodeError}
 use Rattle.jbig2_symbol.specs.Exports.{next_run, runs_from}
-use Rattle.jbig2_symbol.specs.SymbolReading.{SymbolInput, SymbolState}
+use Rattle.jbig2_symbol.specs.SymbolReading.{ClassReadings, SymbolInput}
 use Rattle.jbig2_symbol.specs.inner.SymbolViews.{behind}
 use Rattle.jbig2_symbol.proofs.BehindLemmas.{behind-cons}
 
 -- ---- the runs
 
-pub runs-next : (d : SymbolInput) (n m empty left run : ℕ) (before : List ℕ) (s t : SymbolState) → n ≡ suc m → 0 < left → next_run d empty left s ≡ Ok (run, t) → behind before (runs_from d n empty left s) ≡ behind (before ++ run ∷ []) (runs_from d m (empty + bit_number (eqb run 0)) (left - run) t)
+pub runs-next : {S : Type 0} (r : ClassReadings S) (d : SymbolInput) (n m empty left run : ℕ) (before : List ℕ) (s t : S) → n ≡ suc m → 0 < left → next_run r d empty left s ≡ Ok (run, t) → behind before (runs_from r d n empty left s) ≡ behind (before ++ run ∷ []) (runs_from r d m (empty + bit_number (eqb run 0)) (left - run) t)
 unfolding runs_from
-runs-next d n m empty left run before s t more some e =
+runs-next r d n m empty left run before s t more some e =
     let test : eqb left 0 ≡ false = ne_eqb left 0 (λ none. omega arith) in
-    rw (more, test, e) (behind-cons before run (runs_from d m (empty + bit_number (eqb run 0)) (left - run) t))
+    rw (more, test, e) (behind-cons before run (runs_from r d m (empty + bit_number (eqb run 0)) (left - run) t))
 
-pub runs-fault : (d : SymbolInput) (n m empty left : ℕ) (before : List ℕ) (s : SymbolState) (error : DecodeError) → n ≡ suc m → 0 < left → next_run d empty left s ≡ Err error → behind before (runs_from d n empty left s) ≡ Err error
+pub runs-fault : {S : Type 0} (r : ClassReadings S) (d : SymbolInput) (n m empty left : ℕ) (before : List ℕ) (s : S) (error : DecodeError) → n ≡ suc m → 0 < left → next_run r d empty left s ≡ Err error → behind before (runs_from r d n empty left s) ≡ Err error
 unfolding runs_from
-runs-fault d n m empty left before s error more some e =
+runs-fault r d n m empty left before s error more some e =
     let test : eqb left 0 ≡ false = ne_eqb left 0 (λ none. omega arith) in
     rw (more, test, e) refl
 
-pub runs-done : (d : SymbolInput) (n empty left : ℕ) (before : List ℕ) (s : SymbolState) → left ≡ 0 → behind before (runs_from d n empty left s) ≡ Ok (before, s)
+pub runs-done : {S : Type 0} (r : ClassReadings S) (d : SymbolInput) (n empty left : ℕ) (before : List ℕ) (s : S) → left ≡ 0 → behind before (runs_from r d n empty left s) ≡ Ok (before, s)
 unfolding runs_from
-runs-done d zero empty left before s none = ap (λ (all : List ℕ). Ok (all, s)) (append-nil before)
-runs-done d (suc n) empty left before s none = let test : eqb left 0 ≡ true = eq-eqb left 0 none in rw test (ap (λ (all : List ℕ). Ok (all, s)) (append-nil before))
+runs-done r d zero empty left before s none = ap (λ (all : List ℕ). Ok (all, s)) (append-nil before)
+runs-done r d (suc n) empty left before s none = let test : eqb left 0 ≡ true = eq-eqb left 0 none in rw test (ap (λ (all : List ℕ). Ok (all, s)) (append-nil before))
 
 pub covered-more : (runs after : List ℕ) (run left count : ℕ) → run ≤ left → sum runs + left ≡ count → after ≡ runs ++ run ∷ [] → sum after + (left - run) ≡ count
 covered-more runs after run left count within covered pushed =

@@ -1,10 +1,10 @@
 -- Which rule is broken where the tables, the contexts, the exports or a number of a symbol dictionary are refused.
-use Rattle.std.proofs.Common.{◌≡◌, ◌≢◌, ◌⊎◌, inl, inr, ℕ, zero, suc, ◌+◌, ◌-◌, ◌<◌, ◌≤◌, ◌==◌, nat_le, nat_lt, Bool, true, false, not, ◌&&◌, if◌then◌else◌, List, [], ◌∷◌, length, Option, Some, None, Result, Ok, Err, ℤ, pos, negsuc, ◌+ℤ◌, refl, sym, ap, subst, ◌∙◌, arith}
+use Rattle.std.proofs.Common.{◌≡◌, ◌≢◌, inl, inr, ℕ, zero, suc, ◌+◌, ◌-◌, ◌<◌, ◌==◌, nat_le, nat_lt, Bool, true, false, not, ◌&&◌, if◌then◌else◌, List, [], ◌∷◌, length, Option, Some, None, Result, Ok, Err, ℤ, pos, negsuc, ◌+ℤ◌, refl, sym, ap, subst, ◌∙◌, arith}
 use Rattle.std.proofs.lemmas.Bool.{and_cases, and_parts, cond_both, eq-eqb, eqb-true, false≢true, leb-true, ltb-false, not-false, not-true}
 use Rattle.std.proofs.lemmas.Bool as tests
 use Rattle.std.specs.Prelude.{IfErr}
 use Rattle.jbig2_base.specs.Answer.{◌>>=◌, refuse_if}
-use Rattle.jbig2_base.specs.Grid.{Grid, bit_number}
+use Rattle.jbig2_base.specs.Grid.{bit_number}
 use Rattle.jbig2_base.specs.Causes.{InSteps, IsOf}
 use Rattle.jbig2_base.specs.declared.error.DecodeError.{DecodeError}
 use Rattle.jbig2_base.specs.declared.error.DecodeError.TheVariants as errors
@@ -14,14 +14,13 @@ use Rattle.jbig2_base.specs.declared.error.SymbolError.TheVariants as symbols
 use Rattle.jbig2_base.proofs.Causes.{cause-next, cause-refused}
 use Rattle.jbig2_coder.specs.PrefixCode.{Member}
 use Rattle.jbig2_text.specs.TextCoding.{in_band}
-use Rattle.jbig2_symbol.specs.Aggregates.{at_least_one, instance_count}
-use Rattle.jbig2_symbol.specs.Causes.{BreaksContexts, BreaksCount, BreaksExported, BreaksRun, BreaksRunBehind, BreaksRunValue, BreaksRuns, BreaksTables, BreaksWidth, ContextsHaveCauses, ExportsHaveCauses, InstanceCountsHaveCauses, IsNoSize, SymbolTablesHaveCauses, WidthsHaveCauses, customs_of, taken_by}
+use Rattle.jbig2_symbol.specs.Aggregates.{instance_count, some_instances}
+use Rattle.jbig2_symbol.specs.Causes.{BreaksContexts, BreaksCount, BreaksExported, BreaksRun, BreaksRunBehind, BreaksRunValue, BreaksRuns, BreaksTables, BreaksWidth, ContextsHaveCauses, ExportsHaveCauses, InstanceCountsHaveCauses, IsNoSize, SymbolTablesHaveCauses, WidthsHaveCauses, taken_by}
 use Rattle.jbig2_symbol.specs.Exports.{export_runs, exported, exports, most_empty, next_run, not_same, runs_from}
-use Rattle.jbig2_symbol.specs.SymbolReading.{BitmapContexts, SymbolInput, SymbolState, export_run, first_contexts, instance_number, is_refinement_template, is_template, not_negative, symbol_tables, table_for, width_difference}
-use Rattle.jbig2_symbol.specs.Symbols.{next_width, size_in_word, width_by}
+use Rattle.jbig2_symbol.specs.HeightClasses.{next_width, size_in_word, width_by}
+use Rattle.jbig2_symbol.specs.SymbolReading.{ClassReadings, SymbolInput, SymbolReadings, first_contexts, is_refinement_template, is_template, not_negative, symbol_tables, table_for}
 use Rattle.jbig2_symbol.specs.declared.symbol.header.HuffmanTableSelection.{HuffmanTableSelection}
 use Rattle.jbig2_symbol.specs.declared.symbol.header.HuffmanTableSelection.TheVariants.{TableB1, TableB2, TableB3, TableB4, TableB5, UserSupplied}
-use Rattle.jbig2_symbol.specs.declared.symbol.header.SymbolDictionaryFlags.{SymbolDictionaryFlags}
 use Rattle.jbig2_symbol.proofs.Causes.{Meets, error-of, meets-next, meets-refusal}
 
 -- ---- steps
@@ -89,8 +88,8 @@ contexts_causes flags (Some contexts) =
     cause-next P (refuse_if other (errors.Symbol symbols.Invalid)) _ (cause-refused P other (errors.Symbol symbols.Invalid) (λ is. (not-false flags.bitmap_context_used used, and_cases generic refined (not-true (generic && refined) is)))) (λ same same_is. tt))
 
 -- ---- exports
-run-of : (empty left : ℕ) (value : Option ℤ) (after : SymbolState)
-    → IfErr (in_band (errors.Huffman huffman.UnexpectedOob) value >>= λ number. not_negative (errors.Huffman huffman.InvalidCode) number >>= λ run. refuse_if (run == 0 && nat_le most_empty empty) (errors.Symbol symbols.Invalid) >>= λ few. refuse_if (nat_lt left run) (errors.Symbol symbols.OutOfRange) >>= λ within. (let r : Result (ℕ × SymbolState) DecodeError = Ok (run, after) in r)) (BreaksRunValue empty left value)
+run-of : {S : Type 0} (empty left : ℕ) (value : Option ℤ) (after : S)
+    → IfErr (in_band (errors.Huffman huffman.UnexpectedOob) value >>= λ number. not_negative (errors.Huffman huffman.InvalidCode) number >>= λ run. refuse_if (run == 0 && nat_le most_empty empty) (errors.Symbol symbols.Invalid) >>= λ few. refuse_if (nat_lt left run) (errors.Symbol symbols.OutOfRange) >>= λ within. (let r : Result (ℕ × S) DecodeError = Ok (run, after) in r)) (BreaksRunValue empty left value)
 run-of empty left None after = refl
 run-of empty left (Some (negsuc n)) after = (n, refl)
 run-of empty left (Some (pos run)) after =
@@ -102,35 +101,35 @@ run-of empty left (Some (pos run)) after =
     (ap (λ (n : ℕ). Some (pos n)) (eqb-true run 0 both.0), leb-true most_empty empty both.1))) (λ few few_is.
     cause-next P (refuse_if far (errors.Symbol symbols.OutOfRange)) _ (cause-refused P far (errors.Symbol symbols.OutOfRange) (λ is. (run, refl, tests.ltb-true left run is))) (λ within within_is. tt))
 
-run-causes : (d : SymbolInput) (empty left : ℕ) (s : SymbolState) → IfErr (next_run d empty left s) (BreaksRun d empty left s)
+run-causes : {S : Type 0} (r : ClassReadings S) (d : SymbolInput) (empty left : ℕ) (s : S) → IfErr (next_run r d empty left s) (BreaksRun r d empty left s)
 unfolding next_run
-run-causes d empty left s =
-    in-steps (export_run d s) _ (IsOf (export_run d s)) (λ value. BreaksRunValue empty left value.0) (own-error (export_run d s)) (λ value value_is. run-of empty left value.0 value.1)
+run-causes r d empty left s =
+    in-steps (r.export_run d s) _ (IsOf (r.export_run d s)) (λ value. BreaksRunValue empty left value.0) (own-error (r.export_run d s)) (λ value value_is. run-of empty left value.0 value.1)
 
-abbrev Runs : SymbolInput → ℕ → ℕ → SymbolState → DecodeError → Type 0
-Runs d empty left s e = (before : List ℕ) × BreaksRunBehind before d empty left s e
+abbrev Runs : {S : Type 0} → ClassReadings S → SymbolInput → ℕ → ℕ → S → DecodeError → Type 0
+Runs r d empty left s e = (before : List ℕ) × BreaksRunBehind before r d empty left s e
 
-runs-later : (d : SymbolInput) (empty left : ℕ) (s : SymbolState) (run : ℕ × SymbolState) (e : DecodeError) → next_run d empty left s ≡ Ok run → Runs d (empty + bit_number (run.0 == 0)) (left - run.0) run.1 e → Runs d empty left s e
-runs-later d empty left s run e is later =
-    let broken : BreaksRunBehind (run.0 ∷ later.0) d empty left s e = (run.1, is, later.1) in
+runs-later : {S : Type 0} (r : ClassReadings S) (d : SymbolInput) (empty left : ℕ) (s : S) (run : ℕ × S) (e : DecodeError) → next_run r d empty left s ≡ Ok run → Runs r d (empty + bit_number (run.0 == 0)) (left - run.0) run.1 e → Runs r d empty left s e
+runs-later r d empty left s run e is later =
+    let broken : BreaksRunBehind (run.0 ∷ later.0) r d empty left s e = (run.1, is, later.1) in
     (run.0 ∷ later.0, broken)
 
-runs-cause : (d : SymbolInput) (n empty left : ℕ) (s : SymbolState) → IfErr (runs_from d n empty left s) (Runs d empty left s)
+runs-cause : {S : Type 0} (r : ClassReadings S) (d : SymbolInput) (n empty left : ℕ) (s : S) → IfErr (runs_from r d n empty left s) (Runs r d empty left s)
 unfolding runs_from
-runs-cause d zero empty left s = tt
-runs-cause d (suc n) empty left s =
-    let P : DecodeError → Type 0 = Runs d empty left s in
+runs-cause r d zero empty left s = tt
+runs-cause r d (suc n) empty left s =
+    let P : DecodeError → Type 0 = Runs r d empty left s in
     cause-if P (left == 0) _ _ (λ whole. tt) (λ more.
-    cause-next P (next_run d empty left s) _ (cause-by (next_run d empty left s) (BreaksRun d empty left s) P (run-causes d empty left s) (λ e is broken. ([], broken))) (λ run run_is.
-    let others = runs_from d n (empty + bit_number (run.0 == 0)) (left - run.0) run.1 in
-    let Q : DecodeError → Type 0 = Runs d (empty + bit_number (run.0 == 0)) (left - run.0) run.1 in
-    cause-next P others _ (cause-by others Q P (runs-cause d n (empty + bit_number (run.0 == 0)) (left - run.0) run.1) (λ e is later. runs-later d empty left s run e run_is later)) (λ all all_is. tt)))
+    cause-next P (next_run r d empty left s) _ (cause-by (next_run r d empty left s) (BreaksRun r d empty left s) P (run-causes r d empty left s) (λ e is broken. ([], broken))) (λ run run_is.
+    let others = runs_from r d n (empty + bit_number (run.0 == 0)) (left - run.0) run.1 in
+    let Q : DecodeError → Type 0 = Runs r d (empty + bit_number (run.0 == 0)) (left - run.0) run.1 in
+    cause-next P others _ (cause-by others Q P (runs-cause r d n (empty + bit_number (run.0 == 0)) (left - run.0) run.1) (λ e is later. runs-later r d empty left s run e run_is later)) (λ all all_is. tt)))
 
-pub exports_causes : ExportsHaveCauses
+pub exports_causes : {S : Type 0} (r : ClassReadings S) → ExportsHaveCauses r
 unfolding exports
-exports_causes d grids s =
+exports_causes r d grids s =
     let count = length grids in
-    in-steps (export_runs d count s) _ (BreaksRuns d count s) (λ runs. BreaksExported d grids runs.0) (runs-cause d (count + most_empty) 0 count s) (λ runs runs_is.
+    in-steps (export_runs r d count s) _ (BreaksRuns r d count s) (λ runs. BreaksExported d grids runs.0) (runs-cause r d (count + most_empty) 0 count s) (λ runs runs_is.
     let P : DecodeError → Type 0 = BreaksExported d grids runs.0 in
     let other : Bool = not_same (length (exported runs.0 grids)) d.header.num_exported_symbols in
     cause-next P (refuse_if other (errors.Symbol symbols.NoSymbols)) _ (cause-refused P other (errors.Symbol symbols.NoSymbols) (λ is. differ (length (exported runs.0 grids)) d.header.num_exported_symbols is)) (λ right right_is. tt))
@@ -154,19 +153,20 @@ width-cause room width total (Some difference) =
     meets-next (λ (n : ℕ). next_width_is ≡ pos n) End P (size_in_word next_width_is) _ (meets-size P next_width_is (λ no. (difference, refl, inl no))) (λ next is.
     meets-next (λ (n : ℕ). pos total +ℤ pos next ≡ pos n) End P (size_in_word (pos total +ℤ pos next)) _ (meets-size P (pos total +ℤ pos next) (λ no. (difference, refl, inr (subst (λ (z : ℤ). IsNoSize (pos total +ℤ z)) (sym is) no)))) (λ all all_is. tt))))
 
-pub widths_causes : WidthsHaveCauses
+pub widths_causes : {S : Type 0} (r : SymbolReadings S) → WidthsHaveCauses r
 unfolding next_width
-widths_causes d room width total s =
-    in-steps (width_difference d s) _ (IsOf (width_difference d s)) (λ value. BreaksWidth room width total value.0) (own-error (width_difference d s)) (λ value value_is.
+widths_causes r d room width total s =
+    in-steps (r.width_difference d s) _ (IsOf (r.width_difference d s)) (λ value. BreaksWidth room width total value.0) (own-error (r.width_difference d s)) (λ value value_is.
     cause-next (BreaksWidth room width total value.0) (width_by room width total value.0) _ (width-cause room width total value.0) (λ next next_is. tt))
 
-count-of : (value : Option ℤ) (after : SymbolState) → IfErr (in_band (errors.Symbol symbols.UnexpectedOob) value >>= λ number. at_least_one number >>= λ count. (let r : Result (ℕ × SymbolState) DecodeError = Ok (count, after) in r)) (BreaksCount value)
-count-of None after = refl
-count-of (Some (pos zero)) after = inl refl
-count-of (Some (pos (suc n))) after = tt
-count-of (Some (negsuc n)) after = inr (n, refl)
+count-cause : (value : Option ℤ) → IfErr (some_instances value) (BreaksCount value)
+count-cause None = refl
+count-cause (Some (pos zero)) = inl refl
+count-cause (Some (pos (suc n))) = tt
+count-cause (Some (negsuc n)) = inr (n, refl)
 
-pub instance_count_causes : InstanceCountsHaveCauses
+pub instance_count_causes : {S : Type 0} → InstanceCountsHaveCauses S
 unfolding instance_count
-instance_count_causes d s =
-    in-steps (instance_number d s) _ (IsOf (instance_number d s)) (λ value. BreaksCount value.0) (own-error (instance_number d s)) (λ value value_is. count-of value.0 value.1)
+instance_count_causes reading =
+    in-steps reading _ (IsOf reading) (λ value. BreaksCount value.0) (own-error reading) (λ value value_is.
+    cause-next (BreaksCount value.0) (some_instances value.0) _ (count-cause value.0) (λ count count_is. tt))

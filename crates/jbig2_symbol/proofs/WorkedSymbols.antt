@@ -15,10 +15,10 @@ use Rattle.jbig2_coder.specs.Tables.{lines_a, lines_b, lines_d}
 use Rattle.jbig2_symbol.specs.Exports.{ended_runs, exported_from, next_run, runs_from, exports}
 use Rattle.jbig2_symbol.specs.SymbolBitmaps.{raw_rows, collective_bitmap, symbols_cut, symbol_cut}
 use Rattle.jbig2_symbol.specs.SymbolHeader.{symbol_flags_of, symbol_header_at}
-use Rattle.jbig2_text.specs.TextCoding.{coded_start}
-use Rattle.jbig2_coder.specs.Procedures.{asked}
-use Rattle.jbig2_symbol.specs.SymbolReading.{table_for, symbol_tables, first_contexts, number_by}
-use Rattle.jbig2_symbol.specs.Symbols.{Symbols, next_width, widths_from, collective_class, symbols_from, symbol_bitmap, drawn_class, height_class, classes_from, symbols_decoded}
+use Rattle.jbig2_symbol.specs.SymbolReading.{table_for, symbol_tables, first_contexts}
+use Rattle.jbig2_symbol.specs.HeightClasses.{next_width, widths_from, height_class, classes_from}
+use Rattle.jbig2_symbol.specs.SymbolCoding.{collective_class}
+use Rattle.jbig2_symbol.specs.Symbols.{Symbols, symbols_decoded}
 
 -- a dictionary that refers to nothing
 dictionary : List ℕ → Result Symbols DecodeError
@@ -35,11 +35,11 @@ abbrev one_symbol : ℕ → List ℕ
 one_symbol row = 0 ∷ 1 ∷ 0 ∷ 0 ∷ 0 ∷ 1 ∷ 0 ∷ 0 ∷ 0 ∷ 1 ∷ 0x5F ∷ 0x80 ∷ row ∷ 0 ∷ 0x40 ∷ []
 
 row_S : dictionary (one_symbol 0x80) ≡ Ok (record { exported = dot ∷ []; kept = None })
-unfolding dictionary symbol_header_at symbol_flags_of symbols_decoded first_contexts symbol_tables is_crowded weight coded_start asked table_for classes_from height_class number_by collective_class widths_from drawn_class symbols_from symbol_bitmap next_width collective_bitmap raw_rows bit symbols_cut symbol_cut exports runs_from next_run exported_from ended_runs decoded_value read_code least prefix_code shorter lines_a lines_b lines_d bits_left bits_on table pixel_at
+unfolding dictionary symbol_header_at symbol_flags_of symbols_decoded first_contexts symbol_tables is_crowded weight table_for classes_from height_class collective_class widths_from next_width collective_bitmap raw_rows bit symbols_cut symbol_cut exports runs_from next_run exported_from ended_runs decoded_value read_code least prefix_code shorter lines_a lines_b lines_d bits_left bits_on table pixel_at
 row_S = refl
 
 row_R8_2-white : dictionary (one_symbol 0x00) ≡ Ok (record { exported = white ∷ []; kept = None })
-unfolding dictionary symbol_header_at symbol_flags_of symbols_decoded first_contexts symbol_tables is_crowded weight coded_start asked table_for classes_from height_class number_by collective_class widths_from drawn_class symbols_from symbol_bitmap next_width collective_bitmap raw_rows bit symbols_cut symbol_cut exports runs_from next_run exported_from ended_runs decoded_value read_code least prefix_code shorter lines_a lines_b lines_d bits_left bits_on table pixel_at
+unfolding dictionary symbol_header_at symbol_flags_of symbols_decoded first_contexts symbol_tables is_crowded weight table_for classes_from height_class collective_class widths_from next_width collective_bitmap raw_rows bit symbols_cut symbol_cut exports runs_from next_run exported_from ended_runs decoded_value read_code least prefix_code shorter lines_a lines_b lines_d bits_left bits_on table pixel_at
 row_R8_2-white = refl
 
 row_R8_1-contexts : dictionary (1 ∷ 1 ∷ 0 ∷ 0 ∷ 0 ∷ 1 ∷ 0 ∷ 0 ∷ 0 ∷ 1 ∷ 0x5F ∷ 0x80 ∷ 0x80 ∷ 0 ∷ 0x40 ∷ []) ≡ Err (errors.Symbol Invalid)
@@ -55,7 +55,7 @@ unfolding dictionary symbol_header_at symbol_flags_of symbols_decoded first_cont
 row_R8_1-tables = refl
 
 row_R8_1-exported : dictionary (0 ∷ 1 ∷ 0 ∷ 0 ∷ 0 ∷ 2 ∷ 0 ∷ 0 ∷ 0 ∷ 1 ∷ 0x5F ∷ 0x80 ∷ 0x80 ∷ 0 ∷ 0x40 ∷ []) ≡ Err (errors.Symbol NoSymbols)
-unfolding dictionary symbol_header_at symbol_flags_of symbols_decoded first_contexts symbol_tables is_crowded weight coded_start asked table_for classes_from height_class number_by collective_class widths_from drawn_class symbols_from symbol_bitmap next_width collective_bitmap raw_rows bit symbols_cut symbol_cut exports runs_from next_run exported_from ended_runs decoded_value read_code least prefix_code shorter lines_a lines_b lines_d bits_left bits_on table pixel_at
+unfolding dictionary symbol_header_at symbol_flags_of symbols_decoded first_contexts symbol_tables is_crowded weight table_for classes_from height_class collective_class widths_from next_width collective_bitmap raw_rows bit symbols_cut symbol_cut exports runs_from next_run exported_from ended_runs decoded_value read_code least prefix_code shorter lines_a lines_b lines_d bits_left bits_on table pixel_at
 row_R8_1-exported = refl
 
 row_R8_1-new : dictionary (0 ∷ 1 ∷ 0 ∷ 0 ∷ 0 ∷ 1 ∷ 0 ∷ 0x10 ∷ 0 ∷ 1 ∷ 0x5F ∷ 0x80 ∷ 0x80 ∷ 0 ∷ 0x40 ∷ []) ≡ Err (errors.Overflow SymbolCount)

@@ -1,7 +1,7 @@
 -- Which rule is broken where a symbol dictionary is refused (docs/FORMAT.md, 11), a line for each error.
 --
 -- Some of the steps of a definition are those of lower crates: their errors stand here as the step's own (`IsOf`).
-use Rattle.std.specs.Prelude.{◌≡◌, ◌≢◌, ◌⊎◌, ◌<◌, ◌≤◌, ℕ, ◌+◌, ◌-◌, ◌/◌, ◌%◌, ◌==◌, ◌&&◌, not, Bool, false, IsTrue, IsFalse, if◌then◌else◌, List, [], ◌∷◌, length, drop, Option, Some, None, Result, Ok, Err, IfErr, ℤ, pos, negsuc, ◌+ℤ◌}
+use Rattle.std.specs.Prelude.{◌≡◌, ◌≢◌, ◌⊎◌, ◌<◌, ◌≤◌, ℕ, ◌+◌, ◌-◌, ◌/◌, ◌%◌, ◌==◌, ◌&&◌, Bool, false, IsTrue, IsFalse, if◌then◌else◌, List, [], ◌∷◌, length, drop, Option, Some, None, Result, Ok, IfErr, ℤ, pos, negsuc, ◌+ℤ◌}
 use Rattle.std.specs.Int.{w16, w32}
 use Rattle.jbig2_base.specs.Causes.{InSteps, IsOf, number_in}
 use Rattle.jbig2_base.specs.Grid.{Grid, bit_number}
@@ -16,9 +16,9 @@ use Rattle.jbig2_coder.specs.PrefixCode.{Member}
 use Rattle.jbig2_region.specs.Templates.{adaptive_pixel_count, adaptive_pixels_at, template_of}
 use Rattle.jbig2_symbol.specs.Aggregates.{instance_count}
 use Rattle.jbig2_symbol.specs.Exports.{export_runs, exported, exports, next_run}
+use Rattle.jbig2_symbol.specs.HeightClasses.{next_width}
 use Rattle.jbig2_symbol.specs.SymbolHeader.{symbol_header_at}
-use Rattle.jbig2_symbol.specs.SymbolReading.{BitmapContexts, SymbolInput, SymbolState, export_run, first_contexts, instance_number, is_refinement_template, is_template, symbol_tables, width_difference}
-use Rattle.jbig2_symbol.specs.Symbols.{next_width}
+use Rattle.jbig2_symbol.specs.SymbolReading.{BitmapContexts, ClassReadings, SymbolInput, SymbolReadings, first_contexts, is_refinement_template, is_template, symbol_tables}
 use Rattle.jbig2_symbol.specs.declared.symbol.header.HuffmanTableSelection.{HuffmanTableSelection}
 use Rattle.jbig2_symbol.specs.declared.symbol.header.HuffmanTableSelection.TheVariants.{UserSupplied}
 use Rattle.jbig2_symbol.specs.declared.symbol.header.SymbolDictionaryFlags.{SymbolDictionaryFlags}
@@ -89,25 +89,27 @@ BreaksRunValue empty left value (errors.Symbol symbols.Invalid) = (value ≡ Som
 BreaksRunValue empty left value (errors.Symbol symbols.OutOfRange) = (run : ℕ) × (value ≡ Some (pos run)) × (left < run)
 BreaksRunValue empty left value _ = ⊥
 
-abbrev pub BreaksRun : SymbolInput → ℕ → ℕ → SymbolState → DecodeError → Type 0
-BreaksRun d empty left s e = InSteps (export_run d s) (IsOf (export_run d s) e) (λ value. BreaksRunValue empty left value.0 e)
+abbrev pub BreaksRun : {S : Type 0} → ClassReadings S → SymbolInput → ℕ → ℕ → S → DecodeError → Type 0
+BreaksRun r d empty left s e = InSteps (r.export_run d s) (IsOf (r.export_run d s) e) (λ value. BreaksRunValue empty left value.0 e)
 
 -- The run behind these, each of which was read.
-abbrev pub BreaksRunBehind : List ℕ → SymbolInput → ℕ → ℕ → SymbolState → DecodeError → Type 0
-BreaksRunBehind [] d empty left s e = BreaksRun d empty left s e
-BreaksRunBehind (run ∷ runs) d empty left s e =
-    (next : SymbolState) × (next_run d empty left s ≡ Ok (run, next)) × BreaksRunBehind runs d (empty + bit_number (run == 0)) (left - run) next e
+abbrev pub BreaksRunBehind : {S : Type 0} → List ℕ → ClassReadings S → SymbolInput → ℕ → ℕ → S → DecodeError → Type 0
+BreaksRunBehind [] r d empty left s e = BreaksRun r d empty left s e
+BreaksRunBehind {S} (run ∷ runs) r d empty left s e =
+    (next : S) × (next_run r d empty left s ≡ Ok (run, next)) × BreaksRunBehind runs r d (empty + bit_number (run == 0)) (left - run) next e
 
-abbrev pub BreaksRuns : SymbolInput → ℕ → SymbolState → DecodeError → Type 0
-BreaksRuns d count s e = (before : List ℕ) × BreaksRunBehind before d 0 count s e
+abbrev pub BreaksRuns : {S : Type 0} → ClassReadings S → SymbolInput → ℕ → S → DecodeError → Type 0
+BreaksRuns r d count s e = (before : List ℕ) × BreaksRunBehind before r d 0 count s e
 
 -- the number of symbols that these runs export is not the stated one
 abbrev pub BreaksExported : SymbolInput → List Grid → List ℕ → DecodeError → Type 0
 BreaksExported d grids runs (errors.Symbol symbols.NoSymbols) = length (exported runs grids) ≢ d.header.num_exported_symbols
 BreaksExported d grids runs _ = ⊥
 
-abbrev pub ExportsHaveCauses : Type 0
-ExportsHaveCauses = (d : SymbolInput) (grids : List Grid) (s : SymbolState) → IfErr (exports d grids s) (λ e. InSteps (export_runs d (length grids) s) (BreaksRuns d (length grids) s e) (λ runs. BreaksExported d grids runs.0 e))
+abbrev pub ExportsHaveCauses : {S : Type 0} → ClassReadings S → Type 0
+ExportsHaveCauses {S} r =
+    (d : SymbolInput) (grids : List Grid) (s : S)
+    → IfErr (exports r d grids s) (λ e. InSteps (export_runs r d (length grids) s) (BreaksRuns r d (length grids) s e) (λ runs. BreaksExported d grids runs.0 e))
 
 -- ---- widths and instances (6.5.7 and 6.5.8.2.1)
 -- a number outside 32 bits
@@ -123,8 +125,10 @@ BreaksWidth room width total value (errors.Overflow BitmapDimension) =
     (difference : ℤ) × (value ≡ Some difference) × (IsNoSize (pos width +ℤ difference) ⊎ IsNoSize (pos total +ℤ (pos width +ℤ difference)))
 BreaksWidth room width total value _ = ⊥
 
-abbrev pub WidthsHaveCauses : Type 0
-WidthsHaveCauses = (d : SymbolInput) (room width total : ℕ) (s : SymbolState) → IfErr (next_width d room width total s) (λ e. InSteps (width_difference d s) (IsOf (width_difference d s) e) (λ value. BreaksWidth room width total value.0 e))
+abbrev pub WidthsHaveCauses : {S : Type 0} → SymbolReadings S → Type 0
+WidthsHaveCauses {S} r =
+    (d : SymbolInput) (room width total : ℕ) (s : S)
+    → IfErr (next_width r d room width total s) (λ e. InSteps (r.width_difference d s) (IsOf (r.width_difference d s) e) (λ value. BreaksWidth room width total value.0 e))
 
 -- how many instances a symbol is put together from: out of band, or below 1
 abbrev pub BreaksCount : Option ℤ → DecodeError → Type 0
@@ -132,5 +136,7 @@ BreaksCount value (errors.Symbol symbols.UnexpectedOob) = value ≡ None
 BreaksCount value (errors.Symbol symbols.Invalid) = (value ≡ Some (pos 0)) ⊎ ((n : ℕ) × (value ≡ Some (negsuc n)))
 BreaksCount value _ = ⊥
 
-abbrev pub InstanceCountsHaveCauses : Type 0
-InstanceCountsHaveCauses = (d : SymbolInput) (s : SymbolState) → IfErr (instance_count d s) (λ e. InSteps (instance_number d s) (IsOf (instance_number d s) e) (λ value. BreaksCount value.0 e))
+-- by any reading of the number
+abbrev pub InstanceCountsHaveCauses : Type 0 → Type 0
+InstanceCountsHaveCauses S =
+    (reading : Result (Option ℤ × S) DecodeError) → IfErr (instance_count reading) (λ e. InSteps reading (IsOf reading e) (λ value. BreaksCount value.0 e))

@@ -8,7 +8,7 @@ use Rattle.jbig2_base.specs.declared.error.DecodeError.TheVariants.{Huffman, Sym
 use Rattle.jbig2_base.specs.declared.error.HuffmanError.TheVariants.{InvalidCode, UnexpectedOob}
 use Rattle.jbig2_base.specs.declared.error.SymbolError.TheVariants.{Invalid, NoSymbols, OutOfRange}
 use Rattle.jbig2_text.specs.TextCoding.{in_band}
-use Rattle.jbig2_symbol.specs.SymbolReading.{SymbolInput, SymbolState, export_run, not_negative}
+use Rattle.jbig2_symbol.specs.SymbolReading.{ClassReadings, SymbolInput, not_negative}
 
 -- the most runs of length 0, and the most height classes without a symbol (our own rule)
 abbrev pub most_empty : ℕ
@@ -33,9 +33,9 @@ abbrev pub exported : List ℕ → List Grid → List Grid
 exported runs grids = exported_from runs 0 grids
 
 -- A run, where `left` symbols are not covered yet and `empty` runs of length 0 came before.
-unfoldable pub next_run : SymbolInput → ℕ → ℕ → SymbolState → Result (ℕ × SymbolState) DecodeError
-next_run d empty left s = do
-  value ← export_run d s
+unfoldable pub next_run : {S : Type 0} → ClassReadings S → SymbolInput → ℕ → ℕ → S → Result (ℕ × S) DecodeError
+next_run r d empty left s = do
+  value ← r.export_run d s
   number ← in_band (Huffman UnexpectedOob) value.0
   run ← not_negative (Huffman InvalidCode) number
   few ← refuse_if (run == 0 && nat_le most_empty empty) (Symbol Invalid)
@@ -43,27 +43,27 @@ next_run d empty left s = do
   Ok (run, value.1)
 
 -- a run before others
-abbrev pub run_before : ℕ → Result (List ℕ × SymbolState) DecodeError → Result (List ℕ × SymbolState) DecodeError
+abbrev pub run_before : {S : Type 0} → ℕ → Result (List ℕ × S) DecodeError → Result (List ℕ × S) DecodeError
 run_before run answer = answer >>= λ others. Ok (run ∷ others.0, others.1)
 
 -- The runs, until all symbols are covered. Each covers a symbol or is one of the 2^20 that may be empty, so n of them are
 -- enough where n is at least `left` and the empty ones to come.
-unfoldable pub runs_from : SymbolInput → ℕ → ℕ → ℕ → SymbolState → Result (List ℕ × SymbolState) DecodeError
-runs_from d zero empty left s = Ok ([], s)
-runs_from d (suc n) empty left s =
+unfoldable pub runs_from : {S : Type 0} → ClassReadings S → SymbolInput → ℕ → ℕ → ℕ → S → Result (List ℕ × S) DecodeError
+runs_from r d zero empty left s = Ok ([], s)
+runs_from r d (suc n) empty left s =
     if left == 0 then Ok ([], s)
-    else (next_run d empty left s >>= λ run. run_before run.0 (runs_from d n (empty + bit_number (run.0 == 0)) (left - run.0) run.1))
+    else (next_run r d empty left s >>= λ run. run_before run.0 (runs_from r d n (empty + bit_number (run.0 == 0)) (left - run.0) run.1))
 
-abbrev pub export_runs : SymbolInput → ℕ → SymbolState → Result (List ℕ × SymbolState) DecodeError
-export_runs d count s = runs_from d (count + most_empty) 0 count s
+abbrev pub export_runs : {S : Type 0} → ClassReadings S → SymbolInput → ℕ → S → Result (List ℕ × S) DecodeError
+export_runs r d count s = runs_from r d (count + most_empty) 0 count s
 
 abbrev pub not_same : ℕ → ℕ → Bool
 not_same a b = not (a == b)
 
 -- The symbols that are exported of all those that there are; their number is the one that the header states (our own
 -- rule).
-unfoldable pub exports : SymbolInput → List Grid → SymbolState → Result (List Grid × SymbolState) DecodeError
-exports d grids s = do
-  runs ← export_runs d (length grids) s
+unfoldable pub exports : {S : Type 0} → ClassReadings S → SymbolInput → List Grid → S → Result (List Grid × S) DecodeError
+exports r d grids s = do
+  runs ← export_runs r d (length grids) s
   right ← refuse_if (not_same (length (exported runs.0 grids)) d.header.num_exported_symbols) (Symbol NoSymbols)
   Ok (exported runs.0 grids, runs.1)

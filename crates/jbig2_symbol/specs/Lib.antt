@@ -2,7 +2,9 @@ pub mod Aggregates
 pub mod Causes
 pub mod ClassCauses
 pub mod Exports
+pub mod HeightClasses
 pub mod SymbolBitmaps
+pub mod SymbolCoding
 pub mod SymbolHeader
 pub mod SymbolReading
 pub mod Symbols

@@ -2,7 +2,7 @@
 -- parts of the collective bitmap of a height class (6.5.9), which MMR data or plain rows give.
 use Rattle.std.specs.Prelude.{ℕ, ◌+◌, ◌-◌, ◌*◌, ◌/◌, ◌%◌, ◌==◌, nat_lt, Bool, false, ◌||◌, if◌then◌else◌, List, [], ◌∷◌, ◌++◌, slice_index_or, Result, Ok}
 use Rattle.jbig2_base.specs.Answer.{◌>>=◌, refuse_if}
-use Rattle.jbig2_base.specs.Bits.{aligned, start_of}
+use Rattle.jbig2_base.specs.Bits.{Place, aligned, start_of}
 use Rattle.jbig2_base.specs.Fields.{bytes_at}
 use Rattle.jbig2_base.specs.Grid.{Grid, grid_of}
 use Rattle.jbig2_base.specs.inner.WordBits.{bit}
@@ -17,7 +17,7 @@ use Rattle.jbig2_region.specs.Raster.{Coding, Region, so_far, decoded_region, no
 use Rattle.jbig2_mmr.specs.T6.{mmr_rows}
 use Rattle.jbig2_region.specs.Templates.{template_pixels}
 use Rattle.jbig2_region.specs.declared.template.Template.{Template}
-use Rattle.jbig2_text.specs.TextCoding.{in_band}
+use Rattle.jbig2_text.specs.TextCoding.{Coded, in_band}
 use Rattle.jbig2_symbol.specs.SymbolHeader.{SymbolHeader}
 use Rattle.jbig2_symbol.specs.SymbolReading.{SymbolInput, SymbolState, by_table, not_negative}
 
@@ -31,16 +31,16 @@ abbrev pub symbol_coding : SymbolHeader → Template → Coding
 symbol_coding h template = coding_of false template (template_pixels false template h.adaptive_template_pixels)
 
 -- it goes on with the dictionary's coder and contexts
-unfoldable pub coded_region : SymbolHeader → ℕ → ℕ → SymbolState → Region
-coded_region h width height s = decoded_region (symbol_coding h s.template) width height s.coded.coder.bytes (no_pixels s.coded.coder.registers s.generic)
+unfoldable pub coded_region : SymbolHeader → ℕ → ℕ → SymbolState Coded → Region
+coded_region h width height s = decoded_region (symbol_coding h s.contexts.template) width height s.coding.coder.bytes (no_pixels s.coding.coder.registers s.contexts.generic)
 
-abbrev pub after_region : Region → SymbolState → SymbolState
-after_region r s = record s {
-  coded = record s.coded { coder = record s.coded.coder { registers = r.registers } };
-  generic = r.contexts;
+abbrev pub after_region : Region → SymbolState Coded → SymbolState Coded
+after_region r s = record {
+  coding = record s.coding { coder = record s.coding.coder { registers = r.registers } };
+  contexts = record s.contexts { generic = r.contexts };
 }
 
-unfoldable pub coded_symbol : SymbolHeader → ℕ → ℕ → SymbolState → Result (Grid × SymbolState) DecodeError
+unfoldable pub coded_symbol : SymbolHeader → ℕ → ℕ → SymbolState Coded → Result (Grid × SymbolState Coded) DecodeError
 coded_symbol h width height s =
     fits_symbol width height >>= λ fits. Ok (so_far width height (coded_region h width height s).pixels, after_region (coded_region h width height s) s)
 
@@ -73,13 +73,13 @@ rows_of_size strict size width height bytes = if size == 0 then raw_rows width h
 
 -- The collective bitmap (6.5.9): its size, and from the next whole byte on its rows, which are not coded where the size
 -- is 0. More than 65535 * 65535 pixels are refused (our own rule).
-unfoldable pub collective_bitmap : SymbolInput → ℕ → ℕ → SymbolState → Result (Grid × SymbolState) DecodeError
+unfoldable pub collective_bitmap : SymbolInput → ℕ → ℕ → SymbolState Place → Result (Grid × SymbolState Place) DecodeError
 collective_bitmap d width height s = do
   value ← by_table d.tables.sizes s
   number ← in_band (Huffman UnexpectedOob) value.0
   size ← not_negative (Overflow BitmapDimension) number
-  rows ← rows_of_size d.header.strict size width height (aligned value.1.place).bytes
-  Ok (rows.0, record value.1 { place = start_of rows.1 })
+  rows ← rows_of_size d.header.strict size width height (aligned value.1.coding).bytes
+  Ok (rows.0, record value.1 { coding = start_of rows.1 })
 
 -- the columns of a collective bitmap from `from` on
 unfoldable pub symbol_cut : Grid → ℕ → ℕ → ℕ → Result Grid DecodeError

@@ -1,8 +1,9 @@
--- How the numbers of a symbol dictionary are read (T.88, 6.5 and 7.4.2): by prefix codes, or by the arithmetic coder.
--- The state is all that reading goes on from; each number is given with the state behind it.
+-- What a symbol dictionary is read by (T.88, 6.5 and 7.4.2): its tables of prefix codes and the contexts at the beginning;
+-- what its reading has come to; and which readings a coding has. Each reading goes from a state to what is read and the
+-- state behind it; `SymbolCoding` has those of the two codings.
 use Rattle.std.specs.Prelude.{ℕ, Bool, true, false, not, ◌&&◌, if◌then◌else◌, List, Option, Some, None, Result, Ok, Err, ℤ, pos, negsuc}
 use Rattle.jbig2_base.specs.Answer.{◌>>=◌, refuse_if}
-use Rattle.jbig2_base.specs.Bits.{Place, start_of, bits_left, bits_on}
+use Rattle.jbig2_base.specs.Bits.{Place, bits_left, bits_on}
 use Rattle.jbig2_base.specs.Grid.{Grid}
 use Rattle.jbig2_base.specs.declared.error.DecodeError.{DecodeError}
 use Rattle.jbig2_base.specs.declared.error.DecodeError.TheVariants as errors
@@ -12,7 +13,6 @@ use Rattle.jbig2_coder.specs.PrefixCode.{Member, decoded_value, prefix_code}
 use Rattle.jbig2_coder.specs.TableSelection.{next_custom, standard}
 use Rattle.jbig2_coder.specs.Tables.{lines_a, lines_b, lines_c, lines_d, lines_e}
 use Rattle.jbig2_coder.specs.declared.integer_procedures.IntegerProcedure.{IntegerProcedure}
-use Rattle.jbig2_coder.specs.declared.integer_procedures.IntegerProcedure.TheVariants.{Iaai, Iadh, Iadw, Iaex}
 use Rattle.jbig2_region.specs.Raster.{fresh_contexts}
 use Rattle.jbig2_region.specs.Refinement.{refinement_bits}
 use Rattle.jbig2_region.specs.Templates.{context_bits}
@@ -21,7 +21,7 @@ use Rattle.jbig2_region.specs.declared.template.RefinementTemplate.TheVariants a
 use Rattle.jbig2_region.specs.declared.template.Template.{Template}
 use Rattle.jbig2_region.specs.declared.template.Template.TheVariants.{Template0, Template1, Template2, Template3}
 use Rattle.jbig2_text.specs.Refining.{Refining}
-use Rattle.jbig2_text.specs.TextCoding.{Coded, coded_start, next_integer}
+use Rattle.jbig2_text.specs.TextCoding.{Coded, next_integer}
 use Rattle.jbig2_symbol.specs.SymbolHeader.{SymbolHeader}
 use Rattle.jbig2_symbol.specs.declared.symbol.dictionary.RetainedContexts.{RetainedContexts}
 use Rattle.jbig2_symbol.specs.declared.symbol.header.HuffmanTableSelection.{HuffmanTableSelection}
@@ -109,7 +109,7 @@ first_contexts flags kept =
           refuse_if (not (is_template contexts.template flags.template && is_refinement_template contexts.refinement_template flags.refinement_template)) (errors.Symbol Invalid) >>= λ same. Ok contexts
     ])
 
--- ---- the readings
+-- ---- the input and the state
 -- What a dictionary is decoded by, besides what its reading has come to. `ids` are the codes of the ids in symbols that
 -- are put together from others.
 pub record SymbolInput : Type 0 where
@@ -118,63 +118,63 @@ pub record SymbolInput : Type 0 where
   pub tables : SymbolTables
   pub ids : List Member
 
--- What a dictionary's reading has come to: the place in the bits for prefix codes; the coder with its integer
--- procedures and ids; and what the contexts of bitmaps and of refinements have learned.
-pub record SymbolState : Type 0 where
-  pub place : Place
-  pub coded : Coded
+-- The contexts of bitmaps and of refinements, as far as they have learned.
+pub record SymbolContexts : Type 0 where
   pub template : Template
   pub generic : List Context
   pub refining : Refining
 
--- at the start of the bytes, with ids of so many bits
-abbrev pub first_state : SymbolHeader → ℕ → BitmapContexts → SymbolState
-first_state h bits contexts = record {
-  place = start_of h.bytes;
-  coded = coded_start h.bytes bits;
+-- What a dictionary's reading has come to in a coding: the coder with its integer procedures and ids, or the place in the
+-- bits for prefix codes; and the contexts.
+pub record SymbolState (C : Type 0) : Type 0 where
+  pub coding : C
+  pub contexts : SymbolContexts
+
+abbrev pub state_of : {C : Type 0} → C → SymbolContexts → SymbolState C
+state_of coding contexts = record { coding = coding; contexts = contexts }
+
+-- the contexts with which a dictionary begins, and its refinements' adaptive pixels
+abbrev pub begun_contexts : SymbolHeader → BitmapContexts → SymbolContexts
+begun_contexts h contexts = record {
   template = contexts.template;
   generic = contexts.generic;
   refining = record { template = contexts.refinement_template; pixels = h.refinement_at_pixels; contexts = contexts.refinement };
 }
 
--- what the contexts of the bitmaps have learned, for another dictionary
-abbrev pub learned : SymbolState → BitmapContexts
-learned s = record {
-  template = s.template;
-  refinement_template = s.refining.template;
-  generic = s.generic;
-  refinement = s.refining.contexts;
+-- what they have learned, for another dictionary
+abbrev pub learned : SymbolContexts → BitmapContexts
+learned c = record {
+  template = c.template;
+  refinement_template = c.refining.template;
+  generic = c.generic;
+  refinement = c.refining.contexts;
 }
 
+-- ---- the readings of a coding
+-- How the symbols of a height class are read one by one: the difference in width, where out of band ends the class
+-- (6.5.7), and the bitmap, behind these new symbols and of this width and height (6.5.8).
+pub record SymbolReadings (S : Type 0) : Type 0 where
+  pub width_difference : SymbolInput → S → Result (Option ℤ × S) DecodeError
+  pub symbol_bitmap : SymbolInput → List Grid → ℕ → ℕ → S → Result (Grid × S) DecodeError
+
+-- How a dictionary is read: a height class's difference in height (6.5.6); its symbols (6.5.5, step 4), of this height,
+-- behind so many classes that had none and behind these new symbols; and a run of symbols that are exported, or are not
+-- (6.5.10).
+pub record ClassReadings (S : Type 0) : Type 0 where
+  pub height_difference : SymbolInput → S → Result (Option ℤ × S) DecodeError
+  pub class_of_height : SymbolInput → ℕ → ℕ → List Grid → S → Result (List Grid × S) DecodeError
+  pub export_run : SymbolInput → S → Result (Option ℤ × S) DecodeError
+
+-- ---- numbers
 -- a value by a table of prefix codes, or out of band
-abbrev pub by_table : List Member → SymbolState → Result (Option ℤ × SymbolState) DecodeError
+abbrev pub by_table : List Member → SymbolState Place → Result (Option ℤ × SymbolState Place) DecodeError
 by_table table s =
-    let reading = decoded_value table (bits_left s.place) in
-    reading.answer >>= λ value. Ok (value, record s { place = bits_on reading.taken s.place })
+    let reading = decoded_value table (bits_left s.coding) in
+    reading.answer >>= λ value. Ok (value, record s { coding = bits_on reading.taken s.coding })
 
--- a value by an integer procedure
-abbrev pub by_procedure : IntegerProcedure → SymbolState → Option ℤ × SymbolState
-by_procedure procedure s = let i = next_integer procedure s.coded in (i.0, record s { coded = i.1 })
-
--- a number of the dictionary, or out of band: by its table with prefix codes, else by its integer procedure
-unfoldable pub number_by : SymbolInput → List Member → IntegerProcedure → SymbolState → Result (Option ℤ × SymbolState) DecodeError
-number_by d table procedure s = if d.header.flags.use_huffman then by_table table s else Ok (by_procedure procedure s)
-
--- a height class's difference in height (6.5.6)
-abbrev pub height_difference : SymbolInput → SymbolState → Result (Option ℤ × SymbolState) DecodeError
-height_difference d s = number_by d d.tables.heights Iadh s
-
--- a symbol's difference in width (6.5.7); out of band ends a height class
-abbrev pub width_difference : SymbolInput → SymbolState → Result (Option ℤ × SymbolState) DecodeError
-width_difference d s = number_by d d.tables.widths Iadw s
-
--- how many instances a symbol is put together from (REFAGGNINST, 6.5.8.2.1)
-abbrev pub instance_number : SymbolInput → SymbolState → Result (Option ℤ × SymbolState) DecodeError
-instance_number d s = number_by d d.tables.counts Iaai s
-
--- a run of symbols that are exported, or are not (6.5.10)
-abbrev pub export_run : SymbolInput → SymbolState → Result (Option ℤ × SymbolState) DecodeError
-export_run d s = number_by d d.tables.runs Iaex s
+-- a value by an integer procedure, or out of band
+abbrev pub by_procedure : IntegerProcedure → SymbolState Coded → Result (Option ℤ × SymbolState Coded) DecodeError
+by_procedure procedure s = let i = next_integer procedure s.coding in Ok (i.0, record s { coding = i.1 })
 
 -- a value that may not be below 0
 abbrev pub not_negative : DecodeError → ℤ → Result ℕ DecodeError

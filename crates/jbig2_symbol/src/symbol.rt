@@ -2,33 +2,38 @@
 ghost use Rattle.std.specs.Prelude.{◌≡◌, ◌≤◌, length, map};
 ghost use Rattle.jbig2_base.specs.Answer.{Gives};
 ghost use Rattle.jbig2_symbol.specs.ClassCauses.{SymbolsHaveCauses};
-ghost use Rattle.jbig2_symbol.specs.Aggregates.{state_bits};
 ghost use Rattle.jbig2_symbol.specs.SymbolHeader.{header_view};
-ghost use Rattle.jbig2_symbol.specs.SymbolReading.{contexts_view, first_state};
+ghost use Rattle.jbig2_symbol.specs.SymbolReading.{contexts_view};
 ghost use Rattle.jbig2_coder.specs.inner.TableViews.{customs_view};
 ghost use Rattle.jbig2_symbol.specs.inner.SymbolViews.{dictionary_view, input_view, kept_view};
-ghost use Rattle.jbig2_symbol.specs.Symbols.{symbols_decoded, dictionary_from};
+ghost use Rattle.jbig2_symbol.specs.Symbols.{dictionary_from, dictionary_of, symbols_decoded, symbols_exported};
 
 pub mod aggregates;
 pub mod bitmaps;
 pub mod classes;
+pub mod coded;
 pub mod contexts;
 pub mod dictionary;
 pub mod exports;
 pub mod header;
-pub mod reading;
+pub mod input;
+pub mod prefixed;
+pub mod readings;
 pub mod tables;
 pub mod widths;
 
-use crate::symbol::aggregates::{id_codes, state_bits};
+use crate::symbol::aggregates::id_codes;
 use crate::symbol::classes::read_new_symbols;
-use crate::symbol::contexts::first_contexts;
+use crate::symbol::coded::CodedSymbols;
+use crate::symbol::contexts::{WorkingContexts, first_contexts};
 pub use crate::symbol::dictionary::{RetainedContexts, SymbolDictionary};
 use crate::symbol::exports::read_exports;
 pub use crate::symbol::header::{
     HuffmanTableSelection, SymbolDictionaryFlags, SymbolDictionaryHeader, parse,
 };
-use crate::symbol::reading::{SymbolInput, SymbolReader};
+use crate::symbol::input::SymbolInput;
+use crate::symbol::prefixed::PrefixedSymbols;
+use crate::symbol::readings::ReadClasses;
 use crate::symbol::tables::symbol_tables;
 use jbig2_base::bitmap::Bitmap;
 use jbig2_base::bitmap::steps::Steps;
@@ -36,6 +41,44 @@ use jbig2_base::error::Result;
 use jbig2_coder::huffman_table::{HuffmanTable, StandardHuffmanTables};
 use std::alloc::Allocator;
 use std::sync::ledger::Ledger;
+
+/// Reads the new symbols of a dictionary, and copies those that it exports.
+fn decode_by<R: ReadClasses, A: Allocator + Clone, T: Allocator, L: Ledger>(
+    alloc: A,
+    input: &SymbolInput<'_, A, T>,
+    readings: &mut R,
+    steps: &mut Steps<L>,
+) -> Result<Vec<Bitmap<A>, A>>
+    requires few { length input.now.symbols.now ≤ 2097152 }
+    requires fresh { input.now.header.now.num_new_symbols ≤ 1048576 }
+    ensures { let d = input_view input.now in
+        let meant = symbols_exported R.readings d (R.state readings.old) in
+        Gives (λ symbols. (symbols.items, R.state readings.new)) result meant }
+{
+    let new = read_new_symbols(alloc.clone()?, input, readings, steps)?;
+    read_exports(alloc, input, &new, readings, steps)
+}
+
+/// A dictionary of these symbols, which keeps its contexts if its header says so.
+fn dictionary_of<A: Allocator>(
+    header: &SymbolDictionaryHeader<'_>,
+    exported_symbols: Vec<Bitmap<A>, A>,
+    contexts: WorkingContexts<A>,
+) -> SymbolDictionary<A>
+    ensures { let h = header_view header.now in
+        dictionary_view result ≡ dictionary_of h exported_symbols.items contexts }
+{
+    if header.flags.bitmap_context_retained {
+        return SymbolDictionary {
+            exported_symbols,
+            retained_contexts: Some(contexts.into_retained()),
+        };
+    }
+    SymbolDictionary {
+        exported_symbols,
+        retained_contexts: None,
+    }
+}
 
 /// Decodes a dictionary whose tables and contexts are there.
 fn decode_with<A: Allocator + Clone, T: Allocator, L: Ledger>(
@@ -46,26 +89,17 @@ fn decode_with<A: Allocator + Clone, T: Allocator, L: Ledger>(
 ) -> Result<SymbolDictionary<A>>
     requires few { length input.now.symbols.now ≤ 2097152 }
     requires fresh { input.now.header.now.num_new_symbols ≤ 1048576 }
-    ensures { let d = input_view input.now in
-        let h = header_view input.now.header.now in
-        let bits = state_bits h (length input.now.symbols.now) in
-        let meant = dictionary_from d (first_state h bits (contexts_view contexts)) in
+    ensures { let meant = dictionary_from (input_view input.now) (contexts_view contexts) in
         Gives (λ d. dictionary_view d) result meant }
 {
-    let bits = state_bits(input.header, input.symbols.len());
-    let mut reader = SymbolReader::new(alloc.clone()?, input.header, bits, contexts)?;
-    let new = read_new_symbols(alloc.clone()?, input, &mut reader, steps)?;
-    let exported_symbols = read_exports(alloc, input, &new, &mut reader, steps)?;
-    if input.header.flags.bitmap_context_retained {
-        return Ok(SymbolDictionary {
-            exported_symbols,
-            retained_contexts: Some(reader.into_contexts()),
-        });
+    if input.header.flags.use_huffman {
+        let mut readings = PrefixedSymbols::new(input, contexts);
+        let exported = decode_by(alloc, input, &mut readings, steps)?;
+        return Ok(dictionary_of(input.header, exported, readings.contexts));
     }
-    Ok(SymbolDictionary {
-        exported_symbols,
-        retained_contexts: None,
-    })
+    let mut readings = CodedSymbols::new(alloc.clone()?, input, contexts)?;
+    let exported = decode_by(alloc, input, &mut readings, steps)?;
+    Ok(dictionary_of(input.header, exported, readings.contexts))
 }
 
 /// Decodes a symbol dictionary (T.88, 6.5). It refers to these symbols, at most 2^21, to these

@@ -1,5 +1,5 @@
 -- Which rule the input breaks where the codes of the ids are refused.
-use Rattle.std.proofs.Common.{◌≡◌, inl, inr, ℕ, zero, suc, ◌+◌, ◌-◌, ◌^◌, ◌<◌, eqb, ltb, false, List, [], ◌∷◌, ◌++◌, length, get_or, Option, Some, None, Result, Ok, Err, refl, ◌∙◌, ap, arith, ℤ, pos, negsuc}
+use Rattle.std.proofs.Common.{◌≡◌, inl, inr, ℕ, zero, suc, ◌+◌, ◌-◌, ◌<◌, eqb, ltb, false, List, [], ◌∷◌, ◌++◌, length, get_or, Option, Some, None, Result, Ok, Err, refl, ◌∙◌, ap, arith, ℤ, pos, negsuc}
 use Rattle.std.specs.Prelude.{IfErr, slice_get}
 use Rattle.std.proofs.lemmas.Option.{slice_get-get_or}
 use Rattle.std.proofs.lemmas.Bool.{cond_both, eqb-true, eqb-false, ltb-true, ltb-false}
@@ -11,7 +11,6 @@ use Rattle.jbig2_base.proofs.Causes.{cause-next}
 use Rattle.jbig2_coder.specs.Causes.{AreCrowded}
 use Rattle.jbig2_coder.specs.PrefixCode.{Member, decoded_value, no_oob, table_of}
 use Rattle.jbig2_coder.proofs.Causes.{table-cause}
-use Rattle.jbig2_coder.specs.declared.huffman_table.line.TableLine.{TableLine}
 use Rattle.jbig2_text.specs.BitFields.{invalid_code, value_at}
 use Rattle.jbig2_text.specs.Causes.{Behind, BreaksRun, BreaksSymbolCodes, RefusesNumber, SymbolCodesHaveCauses, behind_runs}
 use Rattle.jbig2_text.specs.SymbolCodes.{last_length, lines_from, next_runcode, repeated, run_at, runcodes_at, runs_at, short_lengths, symbol_codes_from, symbol_lengths_at}

@@ -1,5 +1,5 @@
 -- Which rule the input breaks where the header of a text region is refused (docs/FORMAT.md), a line for each error.
-use Rattle.std.specs.Prelude.{◌≡◌, ◌<◌, ◌⊎◌, ℕ, zero, suc, ◌+◌, ◌/◌, ◌%◌, ◌^◌, ◌==◌, Bool, ◌&&◌, if◌then◌else◌, List, [], length, drop, Result, Ok, Err, IfErr, ℤ, pos, negsuc}
+use Rattle.std.specs.Prelude.{◌≡◌, ◌<◌, ◌⊎◌, ℕ, zero, suc, ◌+◌, ◌/◌, ◌%◌, ◌==◌, Bool, ◌&&◌, if◌then◌else◌, List, [], length, drop, Result, Ok, Err, IfErr, ℤ, pos, negsuc}
 use Rattle.std.specs.Int.{w8, w16}
 use Rattle.jbig2_base.specs.Answer.{◌>>=◌}
 use Rattle.jbig2_base.specs.Bits.{Place, bits_left, start_of}

@@ -1,6 +1,6 @@
 -- A text region segment (T.88, 7.4.3): its tables, and its region decoded from fresh states. The header with the coded
 -- bytes, the symbols and the custom tables that it refers to give the region's grid at its place.
-use Rattle.std.specs.Prelude.{ℕ, ◌^◌, nat_le, nat_lt, ◌==◌, ◌||◌, if◌then◌else◌, List, length, Result, Ok, Err}
+use Rattle.std.specs.Prelude.{ℕ, nat_lt, ◌==◌, ◌||◌, if◌then◌else◌, List, length, Result, Ok, Err}
 use Rattle.jbig2_base.specs.Answer.{◌>>=◌, refuse_if}
 use Rattle.jbig2_base.specs.Bits.{start_of}
 use Rattle.jbig2_base.specs.Grid.{Grid, blank}

@@ -1,16 +1,22 @@
--- How a dictionary's input is seen by the definitions (our own rule).
+-- How a dictionary's input, and what its reading has come to, are seen by the definitions (our own rule).
 use Rattle.std.specs.Borrow.{Bor}
 use Rattle.std.specs.Prelude.{ℕ, ◌++◌, List, map, Option, option_map, Result, Ok}
 use Rattle.jbig2_base.specs.Answer.{◌>>=◌}
 use Rattle.jbig2_base.specs.declared.error.DecodeError.{DecodeError}
+use Rattle.jbig2_base.specs.Bits.{Place}
 use Rattle.jbig2_base.specs.Grid.{Grid}
+use Rattle.jbig2_text.specs.TextCoding.{Coded}
+use Rattle.jbig2_text.specs.inner.TextViews as texts
+use Rattle.jbig2_symbol.specs.HeightClasses.{HeightClass, empty_with}
 use Rattle.jbig2_symbol.specs.SymbolHeader.{header_view}
-use Rattle.jbig2_symbol.specs.SymbolReading.{BitmapContexts, SymbolInput, SymbolState, SymbolTables, contexts_view}
-use Rattle.jbig2_symbol.specs.Symbols.{HeightClass, Symbols, empty_with}
+use Rattle.jbig2_symbol.specs.SymbolReading.{BitmapContexts, SymbolInput, SymbolState, SymbolTables, contexts_view, state_of}
+use Rattle.jbig2_symbol.specs.Symbols.{Symbols}
+use Rattle.jbig2_symbol.specs.declared.symbol.coded.CodedSymbols.{CodedSymbols}
 use Rattle.jbig2_symbol.specs.declared.symbol.dictionary.RetainedContexts.{RetainedContexts}
 use Rattle.jbig2_symbol.specs.declared.symbol.dictionary.SymbolDictionary.{SymbolDictionary}
-use Rattle.jbig2_symbol.specs.declared.symbol.reading.SymbolInput.{SymbolInput as Input}
-use Rattle.jbig2_symbol.specs.declared.symbol.reading.SymbolTables.{SymbolTables as Tables}
+use Rattle.jbig2_symbol.specs.declared.symbol.input.SymbolInput.{SymbolInput as Input}
+use Rattle.jbig2_symbol.specs.declared.symbol.input.SymbolTables.{SymbolTables as Tables}
+use Rattle.jbig2_symbol.specs.declared.symbol.prefixed.PrefixedSymbols.{PrefixedSymbols}
 
 abbrev pub tables_view : {T : Type 0} → Tables T → SymbolTables
 tables_view t = record {
@@ -29,12 +35,19 @@ input_view d = record {
   ids = d.ids.now;
 }
 
+-- a reading's state, by the arithmetic coder and by prefix codes
+abbrev pub coded_view : {A : Type 0} → CodedSymbols A → SymbolState Coded
+coded_view r = state_of (texts.coded_view r.coded) r.contexts
+
+abbrev pub prefixed_view : {A : Type 0} → PrefixedSymbols A → SymbolState Place
+prefixed_view r = state_of r.reader r.contexts
+
 -- what is read, behind others
-abbrev pub behind : {X : Type 0} → List X → Result (List X × SymbolState) DecodeError → Result (List X × SymbolState) DecodeError
+abbrev pub behind : {X S : Type 0} → List X → Result (List X × S) DecodeError → Result (List X × S) DecodeError
 behind before answer = answer >>= λ more. Ok (before ++ more.0, more.1)
 
 -- a class behind others, by all symbols, its height, and how many classes had no symbol
-abbrev pub class_behind : List Grid → ℕ → Result (HeightClass × SymbolState) DecodeError → Result (List Grid × (ℕ × (ℕ × SymbolState))) DecodeError
+abbrev pub class_behind : {S : Type 0} → List Grid → ℕ → Result (HeightClass × S) DecodeError → Result (List Grid × (ℕ × (ℕ × S))) DecodeError
 class_behind before empty answer = answer >>= λ class. Ok (before ++ class.0.symbols, (class.0.height, (empty_with class.0 empty, class.1)))
 
 -- the symbols that are referred to, and the new ones behind them

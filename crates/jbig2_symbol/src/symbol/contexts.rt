@@ -1,15 +1,19 @@
-//! The contexts with which a symbol dictionary begins (T.88, 7.4.2.2).
+//! The contexts with which a symbol dictionary begins, and goes on (T.88, 7.4.2.2).
 ghost use Rattle.std.specs.Prelude.{◌≡◌, option_map, Ok};
 ghost use Rattle.jbig2_base.specs.Answer.{Gives};
 ghost use Rattle.jbig2_symbol.specs.Causes.{ContextsHaveCauses};
-ghost use Rattle.jbig2_symbol.specs.SymbolReading.{contexts_view, first_contexts, first_state, fresh_bitmap_contexts, is_refinement_template, is_template};
+ghost use Rattle.jbig2_symbol.specs.SymbolReading.{begun_contexts, contexts_view, first_contexts, fresh_bitmap_contexts, is_refinement_template, is_template, learned};
+ghost use Rattle.jbig2_symbol.specs.SymbolHeader.{header_view};
 
 use crate::symbol::dictionary::RetainedContexts;
-use crate::symbol::header::SymbolDictionaryFlags;
+use crate::symbol::header::{SymbolDictionaryFlags, SymbolDictionaryHeader};
 use jbig2_base::error::{DecodeError, Result, SymbolError};
+use jbig2_coder::arithmetic_decoder::ArithmeticDecoderContext;
 use jbig2_region::raster;
 use jbig2_region::template::{RefinementTemplate, Template};
+use jbig2_text::text::Refining;
 use std::alloc::Allocator;
+use std::marker::Model;
 
 fn is_template(template: Template, other: Template) -> bool
     ensures { result ≡ is_template template other }
@@ -102,4 +106,63 @@ pub fn first_contexts<A: Allocator + Clone, K: Allocator>(
         return Err(DecodeError::Symbol(SymbolError::Invalid));
     }
     duplicate_contexts(alloc, kept)
+}
+
+/// The contexts of a dictionary's bitmaps and of its refinements, as far as they have learned.
+#[derive(Drop)]
+pub struct WorkingContexts<A: Allocator> {
+    pub(crate) template: Template,
+    pub(crate) generic: Vec<ArithmeticDecoderContext, A>,
+    pub(crate) refining: Refining<A>,
+}
+
+impl<A: Allocator> Model for WorkingContexts<A> {
+    ghost use Rattle.std.specs.Prelude.{◌≡◌, ◌^◌, length};
+    ghost use Rattle.jbig2_region.specs.Templates.{context_bits};
+    ghost use Rattle.jbig2_symbol.specs.SymbolReading.{SymbolContexts};
+
+    ghost Value = { SymbolContexts };
+
+    ghost view = { λ c. record {
+      template = c.template;
+      generic = c.generic.items;
+      refining = c.refining;
+    } };
+
+    ghost invariant = { λ c. length c.generic.items ≡ 2 ^ context_bits c.template };
+}
+
+impl<A: Allocator> WorkingContexts<A> {
+    /// The contexts with which a dictionary of this header begins.
+    pub fn new(
+        header: &SymbolDictionaryHeader<'_>,
+        contexts: RetainedContexts<A>,
+    ) -> WorkingContexts<A>
+        ensures { result ≡ begun_contexts (header_view header.now) (contexts_view contexts) }
+    {
+        let RetainedContexts {
+            template,
+            refinement_template,
+            generic_region,
+            refinement_region,
+        } = contexts;
+        let pixels = header.refinement_pixels();
+        WorkingContexts {
+            template,
+            generic: generic_region,
+            refining: Refining::with_contexts(refinement_template, pixels, refinement_region),
+        }
+    }
+
+    /// What they have learned, for another dictionary.
+    pub fn into_retained(self) -> RetainedContexts<A>
+        ensures { contexts_view result ≡ learned self }
+    {
+        RetainedContexts {
+            template: self.template,
+            refinement_template: self.refining.template(),
+            generic_region: self.generic,
+            refinement_region: self.refining.into_contexts(),
+        }
+    }
 }

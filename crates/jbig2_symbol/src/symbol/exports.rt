@@ -6,7 +6,8 @@ ghost use Rattle.jbig2_symbol.specs.Causes.{ExportsHaveCauses};
 ghost use Rattle.jbig2_symbol.specs.Exports.{export_runs, exported, exports, next_run};
 ghost use Rattle.jbig2_symbol.specs.inner.SymbolViews.{all_symbols, input_view};
 
-use crate::symbol::reading::{SymbolInput, SymbolReader};
+use crate::symbol::input::SymbolInput;
+use crate::symbol::readings::ReadClasses;
 use jbig2_base::bitmap::Bitmap;
 use jbig2_base::bitmap::steps::Steps;
 use jbig2_base::error::{DecodeError, HuffmanError, Result, SymbolError};
@@ -18,19 +19,20 @@ const MAX_EMPTY: u32 = 1 << 20;
 
 /// Reads a run, where `left` symbols are not covered yet and `empty` runs of length 0 came before.
 #[tactic(auto, unfolding(crate::specs::Exports::next_run))]
-fn read_run<A: Allocator, S: Allocator, T: Allocator, L: Ledger>(
-    input: &SymbolInput<'_, S, T>,
+fn read_run<R: ReadClasses, A: Allocator, T: Allocator, L: Ledger>(
+    input: &SymbolInput<'_, A, T>,
     empty: u32,
     left: u64,
-    reader: &mut SymbolReader<'_, A>,
+    readings: &mut R,
     steps: &mut Steps<L>,
 ) -> Result<u32>
-    ensures value { let meant = next_run (input_view input.now) empty left reader.old in
-        Answers (λ run. (run, reader.new)) result meant }
+    ensures value { let d = input_view input.now in
+        let meant = next_run R.readings d empty left (R.state readings.old) in
+        Answers (λ run. (run, R.state readings.new)) result meant }
     ensures within { IfOk result (λ run. run ≤ left) }
     ensures few { IfOk result (λ run. run ≡ 0 → empty < 1048576) }
 {
-    let Some(number) = reader.read_run(input, steps)? else {
+    let Some(number) = readings.export_run(input, steps)? else {
         return Err(DecodeError::Huffman(HuffmanError::UnexpectedOob));
     };
     if number < 0 {
@@ -47,16 +49,17 @@ fn read_run<A: Allocator, S: Allocator, T: Allocator, L: Ledger>(
 }
 
 /// Reads the runs, until they cover `count` symbols.
-pub fn read_runs<A: Allocator, B: Allocator, S: Allocator, T: Allocator, L: Ledger>(
-    alloc: B,
-    input: &SymbolInput<'_, S, T>,
+pub fn read_runs<R: ReadClasses, M: Allocator, A: Allocator, T: Allocator, L: Ledger>(
+    alloc: M,
+    input: &SymbolInput<'_, A, T>,
     count: u64,
-    reader: &mut SymbolReader<'_, A>,
+    readings: &mut R,
     steps: &mut Steps<L>,
-) -> Result<Vec<u32, B>>
+) -> Result<Vec<u32, M>>
     requires { count ≤ 9223372036855824384 }
-    ensures value { let meant = export_runs (input_view input.now) count reader.old in
-        Gives (λ runs. (runs.items, reader.new)) result meant }
+    ensures value { let d = input_view input.now in
+        let meant = export_runs R.readings d count (R.state readings.old) in
+        Gives (λ runs. (runs.items, R.state readings.new)) result meant }
     ensures whole { IfOk result (λ runs. sum runs.items ≡ count) }
 {
     let mut runs = Vec::new(alloc);
@@ -67,7 +70,7 @@ pub fn read_runs<A: Allocator, B: Allocator, S: Allocator, T: Allocator, L: Ledg
         if left == 0 {
             break;
         }
-        let run = match read_run(input, empty, left, reader, steps) {
+        let run = match read_run(input, empty, left, readings, steps) {
             Ok(run) => run,
             Err(error) => return Err(error),
         };
@@ -159,21 +162,22 @@ pub fn export_symbols<A: Allocator + Clone, S: Allocator, L: Ledger>(
 /// The errors of `read_runs`; `SymbolError::NoSymbols` where they are not as many as the header
 /// states; `OutOfMemory` where there is no room for them.
 #[tactic(auto, using(crate::proofs::ReadingCauses::exports_causes), unfolding(crate::specs::Exports::exports))]
-pub fn read_exports<A: Allocator + Clone, T: Allocator, L: Ledger>(
+pub fn read_exports<R: ReadClasses, A: Allocator + Clone, T: Allocator, L: Ledger>(
     alloc: A,
     input: &SymbolInput<'_, A, T>,
     new: &[Bitmap<A>],
-    reader: &mut SymbolReader<'_, A>,
+    readings: &mut R,
     steps: &mut Steps<L>,
 ) -> Result<Vec<Bitmap<A>, A>>
     requires { length input.now.symbols.now ≤ 2097152 }
     ensures value { let d = input_view input.now in
-        let meant = exports d (all_symbols input.now.symbols.now new.now) reader.old in
-        Gives (λ symbols. (symbols.items, reader.new)) result meant }
-    ensures causes { ExportsHaveCauses }
+        let all = all_symbols input.now.symbols.now new.now in
+        let meant = exports R.readings d all (R.state readings.old) in
+        Gives (λ symbols. (symbols.items, R.state readings.new)) result meant }
+    ensures causes { ExportsHaveCauses R.readings }
 {
     let count = input.symbols.len() as u64 + new.len() as u64;
-    let runs = read_runs(alloc.clone()?, input, count, reader, steps)?;
+    let runs = read_runs(alloc.clone()?, input, count, readings, steps)?;
     let exported = export_symbols(alloc, &runs, input.symbols, new, steps)?;
     if exported.len() != input.header.num_exported_symbols as usize {
         return Err(DecodeError::Symbol(SymbolError::NoSymbols));

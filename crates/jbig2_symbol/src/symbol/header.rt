@@ -3,6 +3,7 @@ ghost use Rattle.std.specs.Prelude.{◌≡◌, ◌/◌, ◌%◌, ◌≤◌, IfOk
 ghost use Rattle.jbig2_base.specs.Answer.{Answers};
 ghost use Rattle.jbig2_base.specs.Bits.{IsAligned};
 ghost use Rattle.jbig2_region.specs.Templates.{filled};
+ghost use Rattle.jbig2_text.specs.Refining.{some_pixels};
 ghost use Rattle.jbig2_symbol.specs.Causes.{SymbolHeadersHaveCauses};
 ghost use Rattle.jbig2_symbol.specs.SymbolHeader.{header_view, height_selection_of, width_selection_of, other_selection_of, symbol_flags_of, coded_pixels, coded_pixels_at, refined_pixels, refined_pixels_at, symbol_header_at};
 
@@ -12,6 +13,7 @@ use jbig2_base::reader::Reader;
 use jbig2_region::generic::parse_adaptive_template_pixels;
 use jbig2_region::generic_refinement;
 use jbig2_region::template::{AdaptiveTemplatePixel, RefinementTemplate, Template};
+use jbig2_text::text::pixels_of_template;
 
 /// The most symbols that a dictionary may have, new or exported.
 const MAX_SYMBOLS: u32 = 1 << 20;
@@ -61,6 +63,36 @@ pub struct SymbolDictionaryHeader<'a> {
     pub bytes: &'a [u8],
     /// Whether faulty MMR data is refused.
     pub strict: bool,
+}
+
+impl SymbolDictionaryHeader<'_> {
+    /// The adaptive pixels of symbols' bitmaps: those that there are by the flags, and others at
+    /// (0, 0), which no template takes.
+    #[tactic(auto, using(crate::proofs::UsedPixels::first_filled, crate::proofs::UsedPixels::four_filled))]
+    pub(crate) fn symbol_pixels(&self) -> [AdaptiveTemplatePixel; 4]
+        ensures { result ≡ filled 4 (header_view self.now).adaptive_template_pixels }
+    {
+        let unused = AdaptiveTemplatePixel { x: 0, y: 0 };
+        let pixels = &self.adaptive_template_pixels;
+        if self.flags.use_huffman {
+            return [unused; 4];
+        }
+        match self.flags.template {
+            Template::Template0 => [pixels[0], pixels[1], pixels[2], pixels[3]],
+            _ => [pixels[0], unused, unused, unused],
+        }
+    }
+
+    /// The adaptive pixels of refinements, where there are any.
+    pub(crate) fn refinement_pixels(&self) -> Option<[AdaptiveTemplatePixel; 2]>
+        ensures { some_pixels result ≡ (header_view self.now).refinement_at_pixels }
+    {
+        if self.flags.use_refagg {
+            let template = self.flags.refinement_template;
+            return pixels_of_template(template, self.refinement_at_pixels);
+        }
+        None
+    }
 }
 
 /// The table of the height differences, by bits 2 and 3 of the flags.

@@ -6,7 +6,7 @@ ghost use Rattle.jbig2_symbol.specs.SymbolReading.{symbol_tables, table_for};
 ghost use Rattle.jbig2_symbol.specs.inner.SymbolViews.{tables_view};
 
 use crate::symbol::header::{HuffmanTableSelection, SymbolDictionaryFlags};
-use crate::symbol::reading::SymbolTables;
+use crate::symbol::input::SymbolTables;
 use jbig2_base::error::Result;
 use jbig2_coder::huffman_table::{HuffmanTable, StandardHuffmanTables};
 use jbig2_coder::table_selection::next_custom;

@@ -2,10 +2,11 @@
 ghost use Rattle.std.specs.Prelude.{◌≡◌, ◌+◌, ◌<◌, pos, ◌+ℤ◌, IfOk, IfSome, sum};
 ghost use Rattle.jbig2_base.specs.Answer.{Answers, Gives};
 ghost use Rattle.jbig2_symbol.specs.Causes.{WidthsHaveCauses};
-ghost use Rattle.jbig2_symbol.specs.Symbols.{next_width, size_in_word, width_by, widths_from};
+ghost use Rattle.jbig2_symbol.specs.HeightClasses.{next_width, size_in_word, width_by, widths_from};
 ghost use Rattle.jbig2_symbol.specs.inner.SymbolViews.{input_view};
 
-use crate::symbol::reading::{SymbolInput, SymbolReader};
+use crate::symbol::input::SymbolInput;
+use crate::symbol::readings::ReadSymbols;
 use jbig2_base::bitmap::steps::Steps;
 use jbig2_base::error::{DecodeError, OverflowError, Result, SymbolError};
 use std::alloc::Allocator;
@@ -67,42 +68,44 @@ fn width_by(
 
 /// Reads the next width of a class, and the total with it, behind these; `None` ends the class, in
 /// which at most `room` more symbols may come.
-#[tactic(auto, using(crate::proofs::ReadingCauses::widths_causes), unfolding(crate::specs::Symbols::next_width))]
-pub fn read_width<A: Allocator, S: Allocator, T: Allocator, L: Ledger>(
-    input: &SymbolInput<'_, S, T>,
+#[tactic(auto, using(crate::proofs::ReadingCauses::widths_causes), unfolding(crate::specs::HeightClasses::next_width))]
+pub fn read_width<R: ReadSymbols, A: Allocator, T: Allocator, L: Ledger>(
+    input: &SymbolInput<'_, A, T>,
     room: u32,
     width: u32,
     total: u32,
-    reader: &mut SymbolReader<'_, A>,
+    readings: &mut R,
     steps: &mut Steps<L>,
 ) -> Result<Option<(u32, u32)>>
-    ensures value { let meant = next_width (input_view input.now) room width total reader.old in
-        Answers (λ next. (next, reader.new)) result meant }
+    ensures value { let d = input_view input.now in
+        let meant = next_width R.readings d room width total (R.state readings.old) in
+        Answers (λ next. (next, R.state readings.new)) result meant }
     ensures some { IfOk result (λ next. IfSome next (λ _. 0 < room)) }
-    ensures causes { WidthsHaveCauses }
+    ensures causes { WidthsHaveCauses R.readings }
     ensures exact { IfOk result (λ next. IfSome next (λ pair. pair.1 ≡ total + pair.0)) }
 {
-    let difference = reader.read_width(input, steps)?;
+    let difference = readings.width_difference(input, steps)?;
     width_by(room, width, total, difference)
 }
 
 /// Reads the widths of a class up to out of band; at most `room` of them may come.
-pub fn read_widths<A: Allocator, B: Allocator, S: Allocator, T: Allocator, L: Ledger>(
-    alloc: B,
-    input: &SymbolInput<'_, S, T>,
+pub fn read_widths<R: ReadSymbols, M: Allocator, A: Allocator, T: Allocator, L: Ledger>(
+    alloc: M,
+    input: &SymbolInput<'_, A, T>,
     room: u32,
-    reader: &mut SymbolReader<'_, A>,
+    readings: &mut R,
     steps: &mut Steps<L>,
-) -> Result<ClassWidths<B>>
-    ensures { let meant = widths_from (input_view input.now) room 0 0 reader.old in
-        Gives (λ widths. (widths.each.items, reader.new)) result meant }
+) -> Result<ClassWidths<M>>
+    ensures { let d = input_view input.now in
+        let meant = widths_from R.readings d room 0 0 (R.state readings.old) in
+        Gives (λ widths. (widths.each.items, R.state readings.new)) result meant }
 {
     let mut each = Vec::new(alloc);
     let mut width = 0;
     let mut total = 0;
     let mut left = room;
     loop {
-        let (next, all) = match read_width(input, left, width, total, reader, steps) {
+        let (next, all) = match read_width(input, left, width, total, readings, steps) {
             Ok(Some(next)) => next,
             Ok(None) => return Ok(ClassWidths { each, total }),
             Err(error) => return Err(error),

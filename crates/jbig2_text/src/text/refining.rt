@@ -94,34 +94,6 @@ impl<A: Allocator> Refining<A> {
         }
     }
 
-    /// Refinements by contexts that know nothing yet. Template 1 has no adaptive pixels.
-    ///
-    /// # Errors
-    /// `OutOfMemory` where the contexts find no room.
-    pub fn new(
-        alloc: A,
-        template: RefinementTemplate,
-        pixels: [AdaptiveTemplatePixel; 2],
-    ) -> Result<Refining<A>>
-        ensures { let meant = fresh_refining template (two_pixels template pixels) in
-            Gives (λ r. r) result (Ok meant) }
-    {
-        Refining::fresh(alloc, template, pixels_of_template(template, pixels))
-    }
-
-    /// Refinements by contexts that have learned, as many as the template has. Template 1 has no
-    /// adaptive pixels.
-    pub fn from_contexts(
-        template: RefinementTemplate,
-        pixels: [AdaptiveTemplatePixel; 2],
-        contexts: Vec<ArithmeticDecoderContext, A>,
-    ) -> Refining<A>
-        requires { length contexts.items ≡ 2 ^ refinement_bits template }
-        ensures { result ≡ refining_by template (two_pixels template pixels) contexts.items }
-    {
-        Refining::with_contexts(template, pixels_of_template(template, pixels), contexts)
-    }
-
     /// The template of its contexts.
     pub fn template(&self) -> RefinementTemplate
         ensures { result ≡ self.now.template }

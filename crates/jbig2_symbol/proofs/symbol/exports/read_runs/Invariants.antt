@@ -5,9 +5,11 @@ use Rattle.jbig2_symbol.specs.inner.SymbolViews.{behind, input_view}
 use Rattle.jbig2_symbol.proofs.symbol.exports.read_runs.Given as goal
 
 abbrev pub invariant-loop : goal.invariant-loop
-invariant-loop g l = record {
-  few : l.empty ≤ 1048576;
-  enough : l.left + (1048576 - l.empty) ≤ l.count + 1048576 - l.counter;
-  covered : sum l.runs.items + l.left ≡ l.count;
-  reads : behind l.runs.items (runs_from (input_view l.input) (l.count + 1048576 - l.counter) l.empty l.left l.reader) ≡ export_runs (input_view l.input) l.count l.fn.reader;
-}
+invariant-loop g l =
+    let r = g.R.ReadClasses in
+    record {
+      few : l.empty ≤ 1048576;
+      enough : l.left + (1048576 - l.empty) ≤ l.count + 1048576 - l.counter;
+      covered : sum l.runs.items + l.left ≡ l.count;
+      reads : behind l.runs.items (runs_from r.readings (input_view l.input) (l.count + 1048576 - l.counter) l.empty l.left (r.state l.readings)) ≡ export_runs r.readings (input_view l.input) l.count (r.state l.fn.readings);
+    }

@@ -1,14 +1,16 @@
 use Rattle.std.proofs.Common.{◌≡◌}
 use Rattle.std.specs.Prelude.{sum}
-use Rattle.jbig2_symbol.specs.Symbols.{widths_from}
+use Rattle.jbig2_symbol.specs.HeightClasses.{widths_from}
 use Rattle.jbig2_symbol.specs.inner.SymbolViews.{behind, input_view}
 use Rattle.jbig2_symbol.proofs.symbol.widths.read_widths.Given as goal
 
 abbrev pub invariant-loop-next : goal.invariant-loop-next
-invariant-loop-next g l = record {
-  total : l.total ≡ sum l.each.items;
-  reads : behind l.each.items (widths_from (input_view l.input) l.left l.width l.total l.reader) ≡ widths_from (input_view l.input) l.room 0 0 l.fn.reader;
-}
+invariant-loop-next g l =
+    let r = g.R.ReadSymbols in
+    record {
+      total : l.total ≡ sum l.each.items;
+      reads : behind l.each.items (widths_from r.readings (input_view l.input) l.left l.width l.total (r.state l.readings)) ≡ widths_from r.readings (input_view l.input) l.room 0 0 (r.state l.fn.readings);
+    }
 
 abbrev pub decreases-loop-next : goal.decreases-loop-next
 decreases-loop-next g l = l.left

@@ -1,0 +1,217 @@
+//! Symbol dictionaries by the arithmetic coder (T.88, 6.5).
+ghost use Rattle.std.specs.Prelude.{◌≡◌, ◌≤◌, length, Ok};
+ghost use Rattle.jbig2_base.specs.Answer.{Answers, Gives};
+ghost use Rattle.jbig2_text.specs.inner.TextViews.{params_view};
+ghost use Rattle.jbig2_symbol.specs.Aggregates.{coded_aggregate, coded_instances};
+ghost use Rattle.jbig2_symbol.specs.SymbolBitmaps.{coded_symbol};
+ghost use Rattle.jbig2_symbol.specs.SymbolCoding.{coded_bitmap, coder_begun};
+ghost use Rattle.jbig2_symbol.specs.SymbolHeader.{header_view};
+ghost use Rattle.jbig2_symbol.specs.SymbolReading.{by_procedure, contexts_view};
+ghost use Rattle.jbig2_symbol.specs.inner.SymbolViews.{coded_view, input_view};
+
+use crate::symbol::aggregates::{
+    SymbolSize, aggregate_params, instance_count, put_together, refine_alone, state_bits,
+};
+use crate::symbol::classes::read_drawn_class;
+use crate::symbol::contexts::WorkingContexts;
+use crate::symbol::dictionary::RetainedContexts;
+use crate::symbol::header::SymbolDictionaryHeader;
+use crate::symbol::input::SymbolInput;
+use crate::symbol::readings::{ReadClasses, ReadSymbols};
+use jbig2_base::bitmap::Bitmap;
+use jbig2_base::bitmap::steps::Steps;
+use jbig2_base::error::Result;
+use jbig2_coder::integer_procedures::IntegerProcedure;
+use jbig2_region::generic::decode_coded;
+use jbig2_region::template::GenericTemplatePixels;
+use jbig2_text::text::{CodedReadings, TextParams};
+use std::alloc::Allocator;
+use std::sync::ledger::Ledger;
+
+/// The coder with its integer procedures and ids, and the contexts of bitmaps and refinements.
+#[derive(Drop)]
+pub struct CodedSymbols<'a, A: Allocator> {
+    coded: CodedReadings<'a, A>,
+    pub(crate) contexts: WorkingContexts<A>,
+}
+
+impl<'a, A: Allocator + Clone> CodedSymbols<'a, A> {
+    /// The coder at the start of a dictionary's bytes, with these contexts of its bitmaps.
+    pub fn new<T: Allocator>(
+        alloc: A,
+        input: &SymbolInput<'a, A, T>,
+        contexts: RetainedContexts<A>,
+    ) -> Result<CodedSymbols<'a, A>>
+        requires symbols { length input.now.symbols.now ≤ 2097152 }
+        requires fresh { input.now.header.now.num_new_symbols ≤ 1048576 }
+        ensures { let meant = Ok (coder_begun (input_view input.now) (contexts_view contexts)) in
+            Gives (λ readings. coded_view readings) result meant }
+    {
+        let bits = state_bits(input.header, input.symbols.len());
+        let coded = CodedReadings::new(alloc, input.header.bytes, bits)?;
+        Ok(CodedSymbols {
+            coded,
+            contexts: WorkingContexts::new(input.header, contexts),
+        })
+    }
+}
+
+impl<A: Allocator> CodedSymbols<'_, A> {
+    /// A number of an integer procedure, or out of band.
+    fn number<L: Ledger>(
+        &mut self,
+        procedure: IntegerProcedure,
+        steps: &mut Steps<L>,
+    ) -> Result<Option<i32>>
+        ensures { let meant = by_procedure procedure (coded_view self.old) in
+            Answers (λ value. (value, coded_view self.new)) result meant }
+    {
+        Ok(self.coded.next_integer(procedure, steps))
+    }
+
+    /// The bitmap of a symbol that is coded by itself, which goes on with the dictionary's contexts
+    /// (T.88, 6.5.8.1).
+    #[tactic(auto, unfolding(crate::specs::SymbolBitmaps::coded_symbol))]
+    fn decode_symbol<M: Allocator, L: Ledger>(
+        &mut self,
+        alloc: M,
+        header: &SymbolDictionaryHeader<'_>,
+        width: u32,
+        height: u32,
+        steps: &mut Steps<L>,
+    ) -> Result<Bitmap<M>>
+        ensures { let h = header_view header.now in
+            let meant = coded_symbol h width height (coded_view self.old) in
+            Gives (λ symbol. (symbol, coded_view self.new)) result meant }
+    {
+        let mut bitmap = Bitmap::new(alloc, width, height)?;
+        decode_coded(
+            self.contexts.template,
+            false,
+            &GenericTemplatePixels::Regular(header.symbol_pixels()),
+            &mut bitmap,
+            &mut self.coded.decoder,
+            &mut self.contexts.generic,
+            steps,
+        );
+        Ok(bitmap)
+    }
+
+    /// A symbol of so many instances.
+    fn read_instances<S: Allocator, M: Allocator + Clone, L: Ledger>(
+        &mut self,
+        alloc: M,
+        params: &TextParams<'_, S>,
+        size: SymbolSize,
+        steps: &mut Steps<L>,
+    ) -> Result<Bitmap<M>>
+        requires { params.now.flags.log_strip_size ≤ 3 }
+        ensures { let p = params_view params.now in
+            let meant = coded_instances p size.width size.height (coded_view self.old) in
+            Gives (λ symbol. (symbol, coded_view self.new)) result meant }
+    {
+        let readings = &mut self.coded;
+        let refining = &mut self.contexts.refining;
+        if params.num_instances != 1 {
+            return put_together(alloc, readings, refining, params, size, steps);
+        }
+        let id = readings.next_id(steps);
+        refine_alone(alloc, readings, refining, &params.symbols, id, size, steps)
+    }
+
+    /// A symbol that is refined from another one or put together from several (T.88, 6.5.8.2).
+    #[tactic(auto, unfolding(crate::specs::Aggregates::coded_aggregate, crate::specs::Aggregates::instance_count))]
+    fn read_aggregate<T: Allocator, M: Allocator + Clone, L: Ledger>(
+        &mut self,
+        alloc: M,
+        input: &SymbolInput<'_, M, T>,
+        new: &[Bitmap<M>],
+        size: SymbolSize,
+        steps: &mut Steps<L>,
+    ) -> Result<Bitmap<M>>
+        ensures { let d = input_view input.now in
+            let meant = coded_aggregate d new.now size.width size.height (coded_view self.old) in
+            Gives (λ symbol. (symbol, coded_view self.new)) result meant }
+    {
+        let count = instance_count(self.number(IntegerProcedure::Iaai, steps)?)?;
+        let params = aggregate_params(input, new, count);
+        self.read_instances(alloc, &params, size, steps)
+    }
+}
+
+impl<C: Allocator> ReadSymbols for CodedSymbols<'_, C> {
+    ghost use Rattle.jbig2_text.specs.TextCoding.{Coded};
+    ghost use Rattle.jbig2_symbol.specs.SymbolCoding.{symbols_by_coder};
+    ghost use Rattle.jbig2_symbol.specs.SymbolReading.{SymbolState};
+    ghost use Rattle.jbig2_symbol.specs.inner.SymbolViews.{coded_view};
+
+    ghost State = { SymbolState Coded };
+
+    ghost state = { λ r. coded_view r };
+
+    ghost readings = { symbols_by_coder };
+
+    fn width_difference<A: Allocator, T: Allocator, L: Ledger>(
+        &mut self,
+        _input: &SymbolInput<'_, A, T>,
+        steps: &mut Steps<L>,
+    ) -> Result<Option<i32>> {
+        self.number(IntegerProcedure::Iadw, steps)
+    }
+
+    #[tactic(auto, unfolding(crate::specs::SymbolCoding::coded_bitmap))]
+    fn symbol_bitmap<A: Allocator + Clone, T: Allocator, L: Ledger>(
+        &mut self,
+        alloc: A,
+        input: &SymbolInput<'_, A, T>,
+        new: &[Bitmap<A>],
+        size: SymbolSize,
+        steps: &mut Steps<L>,
+    ) -> Result<Bitmap<A>> {
+        if input.header.flags.use_refagg {
+            return self.read_aggregate(alloc, input, new, size, steps);
+        }
+        self.decode_symbol(alloc, input.header, size.width, size.height, steps)
+    }
+}
+
+impl<C: Allocator> ReadClasses for CodedSymbols<'_, C> {
+    ghost use Rattle.jbig2_text.specs.TextCoding.{Coded};
+    ghost use Rattle.jbig2_symbol.specs.SymbolCoding.{classes_by_coder};
+    ghost use Rattle.jbig2_symbol.specs.SymbolReading.{SymbolState};
+    ghost use Rattle.jbig2_symbol.specs.inner.SymbolViews.{coded_view};
+
+    ghost State = { SymbolState Coded };
+
+    ghost state = { λ r. coded_view r };
+
+    ghost readings = { classes_by_coder };
+
+    fn height_difference<A: Allocator, T: Allocator, L: Ledger>(
+        &mut self,
+        _input: &SymbolInput<'_, A, T>,
+        steps: &mut Steps<L>,
+    ) -> Result<Option<i32>> {
+        self.number(IntegerProcedure::Iadh, steps)
+    }
+
+    fn class_of_height<A: Allocator + Clone, T: Allocator, L: Ledger>(
+        &mut self,
+        alloc: A,
+        input: &SymbolInput<'_, A, T>,
+        height: u32,
+        empty: u32,
+        bitmaps: &mut Vec<Bitmap<A>, A>,
+        steps: &mut Steps<L>,
+    ) -> Result<()> {
+        read_drawn_class(alloc, input, height, empty, bitmaps, self, steps)
+    }
+
+    fn export_run<A: Allocator, T: Allocator, L: Ledger>(
+        &mut self,
+        _input: &SymbolInput<'_, A, T>,
+        steps: &mut Steps<L>,
+    ) -> Result<Option<i32>> {
+        self.number(IntegerProcedure::Iaex, steps)
+    }
+}

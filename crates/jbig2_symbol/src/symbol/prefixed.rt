@@ -1,0 +1,257 @@
+//! Symbol dictionaries by prefix codes (T.88, 6.5).
+ghost use Rattle.std.specs.Prelude.{◌≡◌, ◌≤◌, length};
+ghost use Rattle.jbig2_base.specs.Answer.{Answers, Gives};
+ghost use Rattle.jbig2_text.specs.TextCoding.{by_prefix_codes};
+ghost use Rattle.jbig2_text.specs.inner.TextViews as texts;
+ghost use Rattle.jbig2_symbol.specs.Aggregates.{by_instances, plain_id, prefixed_aggregate, prefixed_instances};
+ghost use Rattle.jbig2_symbol.specs.SymbolBitmaps.{collective_bitmap};
+ghost use Rattle.jbig2_symbol.specs.SymbolCoding.{collective_class, prefix_codes_begun};
+ghost use Rattle.jbig2_symbol.specs.SymbolReading.{by_table, contexts_view};
+ghost use Rattle.jbig2_symbol.specs.inner.SymbolViews.{behind, input_view, prefixed_view};
+
+use crate::symbol::aggregates::{
+    SymbolSize, aggregate_params, id_bits, instance_count, put_together, refine_alone,
+};
+use crate::symbol::bitmaps::{cut_symbols, read_rows};
+use crate::symbol::classes::{check_class, read_drawn_class};
+use crate::symbol::contexts::WorkingContexts;
+use crate::symbol::dictionary::RetainedContexts;
+use crate::symbol::input::SymbolInput;
+use crate::symbol::readings::{ReadClasses, ReadSymbols};
+use crate::symbol::widths::read_widths;
+use jbig2_base::bitmap::Bitmap;
+use jbig2_base::bitmap::steps::Steps;
+use jbig2_base::error::{DecodeError, HuffmanError, OverflowError, ParseError, Result};
+use jbig2_base::field::bits_field;
+use jbig2_base::reader::Reader;
+use jbig2_coder::huffman_table::HuffmanTable;
+use jbig2_text::text::{PrefixedReadings, Refining, TextParams, TextRegionHuffmanTables};
+use std::alloc::Allocator;
+use std::sync::ledger::Ledger;
+
+/// A symbol by prefix codes, with an id of so many bits where there is one instance.
+fn read_by_instances<T: Allocator, A: Allocator, M: Allocator + Clone, C: Allocator, L: Ledger>(
+    alloc: M,
+    readings: &mut PrefixedReadings<'_, '_, T, A>,
+    refining: &mut Refining<C>,
+    id_bits: u8,
+    params: &TextParams<'_, A>,
+    size: SymbolSize,
+    steps: &mut Steps<L>,
+) -> Result<Bitmap<M>>
+    requires bits { id_bits ≤ 32 }
+    requires strips { params.now.flags.log_strip_size ≤ 3 }
+    ensures { let state = texts.prefixed_view readings.old in
+        let p = texts.params_view params.now in
+        let read = by_instances by_prefix_codes (plain_id id_bits) p in
+        let meant = read size.width size.height refining.old state in
+        Gives (λ g. (g, refining.new, texts.prefixed_view readings.new)) result meant }
+{
+    if params.num_instances != 1 {
+        return put_together(alloc, readings, refining, params, size, steps);
+    }
+    let end = DecodeError::Parse(ParseError::UnexpectedEof);
+    let id = i64::from(bits_field(&mut readings.reader, id_bits, end)?);
+    refine_alone(alloc, readings, refining, &params.symbols, id, size, steps)
+}
+
+/// The place in the bits, and the contexts of bitmaps and refinements; those of bitmaps stay as
+/// they are.
+#[derive(Drop)]
+pub struct PrefixedSymbols<'a, A: Allocator> {
+    reader: Reader<'a>,
+    pub(crate) contexts: WorkingContexts<A>,
+}
+
+impl<'a, A: Allocator> PrefixedSymbols<'a, A> {
+    /// The start of a dictionary's bytes, with these contexts of its bitmaps.
+    pub fn new<S: Allocator, T: Allocator>(
+        input: &SymbolInput<'a, S, T>,
+        contexts: RetainedContexts<A>,
+    ) -> PrefixedSymbols<'a, A>
+        ensures { let meant = prefix_codes_begun (input_view input.now) (contexts_view contexts) in
+            prefixed_view result ≡ meant }
+    {
+        PrefixedSymbols {
+            reader: Reader::new(input.header.bytes),
+            contexts: WorkingContexts::new(input.header, contexts),
+        }
+    }
+
+    /// A number by a table, or out of band.
+    fn number<T: Allocator>(&mut self, table: &HuffmanTable<T>) -> Result<Option<i32>>
+        ensures { let meant = by_table table.now (prefixed_view self.old) in
+            Answers (λ value. (value, prefixed_view self.new)) result meant }
+    {
+        table.decode(&mut self.reader)
+    }
+
+    /// A symbol of so many instances.
+    fn read_instances<T: Allocator, M: Allocator + Clone, L: Ledger>(
+        &mut self,
+        alloc: M,
+        input: &SymbolInput<'_, M, T>,
+        params: &TextParams<'_, M>,
+        size: SymbolSize,
+        steps: &mut Steps<L>,
+    ) -> Result<Bitmap<M>>
+        requires symbols { length input.now.symbols.now ≤ 2097152 }
+        requires fresh { input.now.header.now.num_new_symbols ≤ 1048576 }
+        requires strips { params.now.flags.log_strip_size ≤ 3 }
+        ensures { let d = input_view input.now in
+            let p = texts.params_view params.now in
+            let meant = prefixed_instances d p size.width size.height (prefixed_view self.old) in
+            Gives (λ symbol. (symbol, prefixed_view self.new)) result meant }
+    {
+        let bits = id_bits(input.header, input.symbols.len()).max(1) as u8;
+        let mut readings = PrefixedReadings {
+            reader: self.reader.duplicate(),
+            tables: TextRegionHuffmanTables::of_aggregates(input.standard),
+            ids: input.ids,
+        };
+        let refining = &mut self.contexts.refining;
+        match read_by_instances(alloc, &mut readings, refining, bits, params, size, steps) {
+            Ok(symbol) => {
+                self.reader = readings.reader;
+                Ok(symbol)
+            }
+            Err(error) => Err(error),
+        }
+    }
+
+    /// The collective bitmap of a height class (T.88, 6.5.9).
+    #[tactic(auto, unfolding(crate::specs::SymbolBitmaps::collective_bitmap))]
+    fn read_collective<M: Allocator, S: Allocator, T: Allocator, L: Ledger>(
+        &mut self,
+        alloc: M,
+        input: &SymbolInput<'_, S, T>,
+        width: u32,
+        height: u32,
+        steps: &mut Steps<L>,
+    ) -> Result<Bitmap<M>>
+        ensures { let d = input_view input.now in
+            let meant = collective_bitmap d width height (prefixed_view self.old) in
+            Gives (λ bitmap. (bitmap, prefixed_view self.new)) result meant }
+    {
+        let Some(size) = self.number(input.tables.sizes)? else {
+            return Err(DecodeError::Huffman(HuffmanError::UnexpectedOob));
+        };
+        if size < 0 {
+            return Err(DecodeError::Overflow(OverflowError::BitmapDimension));
+        }
+        self.reader.align();
+        read_rows(
+            alloc,
+            input.header.strict,
+            size as usize,
+            width,
+            height,
+            &mut self.reader,
+            steps,
+        )
+    }
+
+    /// Puts the symbols of a class, cut out of its collective bitmap, behind the others.
+    #[tactic(auto, unfolding(crate::specs::SymbolCoding::collective_class))]
+    fn read_collective_class<M: Allocator + Clone, T: Allocator, L: Ledger>(
+        &mut self,
+        alloc: M,
+        input: &SymbolInput<'_, M, T>,
+        height: u32,
+        empty: u32,
+        bitmaps: &mut Vec<Bitmap<M>, M>,
+        steps: &mut Steps<L>,
+    ) -> Result<()>
+        requires { length bitmaps.old.items ≤ input.now.header.now.num_new_symbols }
+        ensures { let d = input_view input.now in
+            let before = bitmaps.old.items in
+            let class = collective_class d height empty before (prefixed_view self.old) in
+            Gives (λ _. (bitmaps.new.items, prefixed_view self.new)) result (behind before class) }
+    {
+        let room = input.header.num_new_symbols - bitmaps.len() as u32;
+        let widths = read_widths(alloc.clone()?, input, room, self, steps)?;
+        check_class(widths.each.len(), empty)?;
+        let total = widths.total;
+        let collective = self.read_collective(alloc.clone()?, input, total, height, steps)?;
+        cut_symbols(alloc, &collective, height, &widths.each, bitmaps, steps)
+    }
+}
+
+impl<C: Allocator> ReadSymbols for PrefixedSymbols<'_, C> {
+    ghost use Rattle.jbig2_base.specs.Bits.{Place};
+    ghost use Rattle.jbig2_symbol.specs.SymbolCoding.{symbols_by_prefix_codes};
+    ghost use Rattle.jbig2_symbol.specs.SymbolReading.{SymbolState};
+    ghost use Rattle.jbig2_symbol.specs.inner.SymbolViews.{prefixed_view};
+
+    ghost State = { SymbolState Place };
+
+    ghost state = { λ r. prefixed_view r };
+
+    ghost readings = { symbols_by_prefix_codes };
+
+    fn width_difference<A: Allocator, T: Allocator, L: Ledger>(
+        &mut self,
+        input: &SymbolInput<'_, A, T>,
+        _steps: &mut Steps<L>,
+    ) -> Result<Option<i32>> {
+        self.number(input.tables.widths)
+    }
+
+    #[tactic(auto, unfolding(crate::specs::Aggregates::prefixed_aggregate, crate::specs::Aggregates::instance_count))]
+    fn symbol_bitmap<A: Allocator + Clone, T: Allocator, L: Ledger>(
+        &mut self,
+        alloc: A,
+        input: &SymbolInput<'_, A, T>,
+        new: &[Bitmap<A>],
+        size: SymbolSize,
+        steps: &mut Steps<L>,
+    ) -> Result<Bitmap<A>> {
+        let count = instance_count(self.number(input.tables.counts)?)?;
+        let params = aggregate_params(input, new, count);
+        self.read_instances(alloc, input, &params, size, steps)
+    }
+}
+
+impl<C: Allocator> ReadClasses for PrefixedSymbols<'_, C> {
+    ghost use Rattle.jbig2_base.specs.Bits.{Place};
+    ghost use Rattle.jbig2_symbol.specs.SymbolCoding.{classes_by_prefix_codes};
+    ghost use Rattle.jbig2_symbol.specs.SymbolReading.{SymbolState};
+    ghost use Rattle.jbig2_symbol.specs.inner.SymbolViews.{prefixed_view};
+
+    ghost State = { SymbolState Place };
+
+    ghost state = { λ r. prefixed_view r };
+
+    ghost readings = { classes_by_prefix_codes };
+
+    fn height_difference<A: Allocator, T: Allocator, L: Ledger>(
+        &mut self,
+        input: &SymbolInput<'_, A, T>,
+        _steps: &mut Steps<L>,
+    ) -> Result<Option<i32>> {
+        self.number(input.tables.heights)
+    }
+
+    fn class_of_height<A: Allocator + Clone, T: Allocator, L: Ledger>(
+        &mut self,
+        alloc: A,
+        input: &SymbolInput<'_, A, T>,
+        height: u32,
+        empty: u32,
+        bitmaps: &mut Vec<Bitmap<A>, A>,
+        steps: &mut Steps<L>,
+    ) -> Result<()> {
+        if input.header.flags.use_refagg {
+            return read_drawn_class(alloc, input, height, empty, bitmaps, self, steps);
+        }
+        self.read_collective_class(alloc, input, height, empty, bitmaps, steps)
+    }
+
+    fn export_run<A: Allocator, T: Allocator, L: Ledger>(
+        &mut self,
+        input: &SymbolInput<'_, A, T>,
+        _steps: &mut Steps<L>,
+    ) -> Result<Option<i32>> {
+        self.number(input.tables.runs)
+    }
+}

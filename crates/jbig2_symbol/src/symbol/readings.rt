@@ -1,0 +1,93 @@
+//! How the symbols of a dictionary are read (T.88, 6.5.5 to 6.5.10).
+ghost use Rattle.std.specs.Prelude.{◌≤◌, length};
+ghost use Rattle.jbig2_base.specs.Answer.{Answers, Gives};
+ghost use Rattle.jbig2_symbol.specs.SymbolReading.{ClassReadings, SymbolReadings};
+ghost use Rattle.jbig2_symbol.specs.inner.SymbolViews.{behind, input_view};
+
+use crate::symbol::aggregates::SymbolSize;
+use crate::symbol::input::SymbolInput;
+use jbig2_base::bitmap::Bitmap;
+use jbig2_base::bitmap::steps::Steps;
+use jbig2_base::error::Result;
+use std::alloc::Allocator;
+use std::sync::ledger::Ledger;
+
+/// Reads the symbols of a height class one by one.
+pub trait ReadSymbols {
+    ghost State: { Type 0 };
+
+    ghost state: { Self → State };
+
+    ghost readings: { SymbolReadings State };
+
+    /// A symbol's difference in width; out of band ends a height class (T.88, 6.5.7).
+    fn width_difference<A: Allocator, T: Allocator, L: Ledger>(
+        &mut self,
+        input: &SymbolInput<'_, A, T>,
+        steps: &mut Steps<L>,
+    ) -> Result<Option<i32>>
+        ensures { let meant = readings.width_difference (input_view input.now) (state self.old) in
+            Answers (λ value. (value, state self.new)) result meant };
+
+    /// The bitmap of a symbol behind these new ones (T.88, 6.5.8).
+    fn symbol_bitmap<A: Allocator + Clone, T: Allocator, L: Ledger>(
+        &mut self,
+        alloc: A,
+        input: &SymbolInput<'_, A, T>,
+        new: &[Bitmap<A>],
+        size: SymbolSize,
+        steps: &mut Steps<L>,
+    ) -> Result<Bitmap<A>>
+        requires symbols { length input.now.symbols.now ≤ 2097152 }
+        requires fresh { input.now.header.now.num_new_symbols ≤ 1048576 }
+        ensures { let d = input_view input.now in
+            let before = state self.old in
+            let meant = readings.symbol_bitmap d new.now size.width size.height before in
+            Gives (λ symbol. (symbol, state self.new)) result meant };
+}
+
+/// Reads a dictionary, one height class behind the other, and what it exports.
+pub trait ReadClasses {
+    ghost State: { Type 0 };
+
+    ghost state: { Self → State };
+
+    ghost readings: { ClassReadings State };
+
+    /// A height class's difference in height, or out of band (T.88, 6.5.6).
+    fn height_difference<A: Allocator, T: Allocator, L: Ledger>(
+        &mut self,
+        input: &SymbolInput<'_, A, T>,
+        steps: &mut Steps<L>,
+    ) -> Result<Option<i32>>
+        ensures { let meant = readings.height_difference (input_view input.now) (state self.old) in
+            Answers (λ value. (value, state self.new)) result meant };
+
+    /// Puts the symbols of a class of this height behind the others; so many classes before it had
+    /// none (T.88, 6.5.5, step 4).
+    fn class_of_height<A: Allocator + Clone, T: Allocator, L: Ledger>(
+        &mut self,
+        alloc: A,
+        input: &SymbolInput<'_, A, T>,
+        height: u32,
+        empty: u32,
+        bitmaps: &mut Vec<Bitmap<A>, A>,
+        steps: &mut Steps<L>,
+    ) -> Result<()>
+        requires symbols { length input.now.symbols.now ≤ 2097152 }
+        requires fresh { input.now.header.now.num_new_symbols ≤ 1048576 }
+        requires room { length bitmaps.old.items ≤ input.now.header.now.num_new_symbols }
+        ensures { let d = input_view input.now in
+            let before = bitmaps.old.items in
+            let class = readings.class_of_height d height empty before (state self.old) in
+            Gives (λ _. (bitmaps.new.items, state self.new)) result (behind before class) };
+
+    /// A run of symbols that are exported, or are not, or out of band (T.88, 6.5.10).
+    fn export_run<A: Allocator, T: Allocator, L: Ledger>(
+        &mut self,
+        input: &SymbolInput<'_, A, T>,
+        steps: &mut Steps<L>,
+    ) -> Result<Option<i32>>
+        ensures { let meant = readings.export_run (input_view input.now) (state self.old) in
+            Answers (λ value. (value, state self.new)) result meant };
+}
