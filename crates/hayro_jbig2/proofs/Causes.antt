@@ -18,7 +18,8 @@ use Rattle.jbig2_base.specs.declared.error.SegmentError.TheVariants as segments
 use Rattle.jbig2_base.specs.declared.file_header.FileHeader.{FileHeader}
 use Rattle.jbig2_base.specs.declared.page_info.PageInformation.{PageInformation}
 use Rattle.jbig2_base.proofs.Causes.{cause-next, cause-number, cause-refused}
-use Rattle.jbig2_symbol.proofs.ReadingCauses.{cause-by, cause-if, in-steps, own-error}
+use Rattle.jbig2_region.proofs.Told.{cause-if}
+use Rattle.jbig2_symbol.proofs.ReadingCauses.{cause-by, in-steps, own-error}
 use Rattle.hayro_jbig2.specs.Causes.{AtSome, BreaksBeginning, BreaksBook, BreaksFirst, BreaksPages, BooksHaveCauses, FirstPagesHaveCauses, LacksInformation, StandsOutside}
 use Rattle.hayro_jbig2.specs.Files.{ReadFile, associated, book_at, by_pages, ends_of, filed_each, filed_from, lacks_page, miscounts, needs_page, page_in, page_of}
 use Rattle.hayro_jbig2.specs.FirstPage.{first_page, some_page}

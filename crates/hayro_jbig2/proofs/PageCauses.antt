@@ -12,7 +12,8 @@ use Rattle.jbig2_base.specs.declared.segment.SegmentType.{SegmentType}
 use Rattle.jbig2_base.specs.declared.segment.SegmentType.TheVariants as types
 use Rattle.jbig2_base.proofs.Causes.{cause-next}
 use Rattle.jbig2_region.specs.Generic.{PlacedRegion}
-use Rattle.jbig2_symbol.proofs.ReadingCauses.{cause-by, cause-if, in-steps, own-error}
+use Rattle.jbig2_region.proofs.Told.{cause-if}
+use Rattle.jbig2_symbol.proofs.ReadingCauses.{cause-by, in-steps, own-error}
 use Rattle.hayro_jbig2.specs.Causes.{BreaksBeginning, BreaksExtension, BreaksSymbolDictionary}
 use Rattle.hayro_jbig2.specs.PageCauses.{BreaksDrawing, BreaksGlobal, BreaksImmediate, BreaksNames, BreaksRegion, BreaksSegmentOn, EmbeddedPagesHaveCauses, FileGlobalsHaveCauses, GlobalsHaveCauses, PagesHaveCauses}
 use Rattle.hayro_jbig2.specs.Dictionaries.{code_at, extension, pattern_dictionary_at, symbol_dictionary_at, with_code, with_patterns, with_symbols}

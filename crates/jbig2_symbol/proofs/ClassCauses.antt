@@ -1,12 +1,12 @@
 -- Which rule is broken where the new symbols of a dictionary are refused, and where the dictionary is.
-use Rattle.std.proofs.Common.{◌≡◌, ◌⊎◌, inl, inr, ℕ, suc, ◌+◌, ◌*◌, ◌<◌, ◌==◌, nat_lt, Bool, true, false, not, ◌&&◌, ◌||◌, List, [], ◌∷◌, ◌++◌, length, take, slice_get, Option, Some, None, Result, Ok, Err, ℤ, pos, negsuc, ◌+ℤ◌, refl, sym, ap, subst, ◌∙◌}
-use Rattle.std.proofs.lemmas.Bool.{and_parts, cond-false, cond-true, eqb-false, ltb-true, not-true}
+use Rattle.std.proofs.Common.{◌≡◌, ◌⊎◌, inl, inr, ⊎_elim, ℕ, zero, suc, ◌+◌, ◌*◌, ◌<◌, ◌==◌, nat_le, nat_lt, Bool, true, false, not, ◌&&◌, ◌||◌, List, [], ◌∷◌, ◌++◌, length, take, sum, slice_get, Option, Some, None, Result, Ok, Err, ℤ, pos, negsuc, ◌+ℤ◌, refl, sym, ap, subst, ◌∙◌}
+use Rattle.std.proofs.lemmas.Bool.{and_parts, cond-false, cond-true, eqb-false, eqb-true, leb-false, leb-true, ltb-true, not-true}
 use Rattle.std.specs.Prelude.{IfErr}
 use Rattle.jbig2_base.specs.Answer.{◌>>=◌, refuse_if}
 use Rattle.jbig2_base.specs.Bits.{Place, aligned, start_of}
 use Rattle.jbig2_base.specs.Fields.{bytes_at}
 use Rattle.jbig2_base.specs.Grid.{Grid}
-use Rattle.jbig2_base.specs.Causes.{BreaksSides, InSteps, IsOf}
+use Rattle.jbig2_base.specs.Causes.{InSteps, IsOf}
 use Rattle.jbig2_base.specs.declared.error.DecodeError.{DecodeError}
 use Rattle.jbig2_base.specs.declared.error.DecodeError.TheVariants as errors
 use Rattle.jbig2_base.specs.declared.error.HuffmanError.TheVariants.{UnexpectedOob}
@@ -17,41 +17,25 @@ use Rattle.jbig2_base.specs.Sizes.{wide_or_overflow}
 use Rattle.jbig2_base.proofs.Causes.{bytes-there, cause-bytes, cause-next, cause-refused}
 use Rattle.jbig2_coder.specs.PrefixCode.{Member}
 use Rattle.jbig2_mmr.specs.T6.{mmr_rows, rows_of}
-use Rattle.jbig2_text.specs.TextCoding.{in_band}
+use Rattle.jbig2_text.specs.Causes.{Behind}
+use Rattle.jbig2_text.specs.TextCoding.{Coded, in_band}
 use Rattle.jbig2_symbol.specs.Aggregates.{id_codes}
-use Rattle.jbig2_symbol.specs.Causes.{BreaksContexts, BreaksExported, BreaksRuns, BreaksTables}
-use Rattle.jbig2_symbol.specs.ClassCauses.{BreaksClassBehind, BreaksCuts, BreaksCoding, BreaksCollective, BreaksDictionary, BreaksSized, CodedSymbolsHaveCauses, CollectiveBitmapsHaveCauses, CutsHaveCauses, HeightClassesHaveCauses, SymbolsHaveCauses, rows_length}
-use Rattle.jbig2_symbol.specs.Exports.{export_runs}
-use Rattle.jbig2_symbol.specs.HeightClasses.{HeightClass, height_class, new_symbols, size_in_word}
-use Rattle.jbig2_symbol.specs.SymbolBitmaps.{coded_symbol, collective_bitmap, fits_symbol, mmr_bytes, raw_rows, raw_stride, rows_of_size, symbol_cut, symbols_cut}
-use Rattle.jbig2_symbol.specs.SymbolCoding.{classes_by_coder, classes_by_prefix_codes, coder_begun, prefix_codes_begun}
+use Rattle.jbig2_symbol.specs.Causes.{BreaksContexts, BreaksExported, BreaksNextWidth, BreaksRuns, BreaksTables}
+use Rattle.jbig2_symbol.specs.ClassCauses.{BitmapCauses, BitmapsHaveCauses, BreaksClassAfter, BreaksClassBehind, BreaksCoding, BreaksCollective, BreaksCollectiveBitmap, BreaksCollectiveClass, BreaksCuts, BreaksDictionary, BreaksDrawnClass, BreaksEmptyClass, BreaksHeightClass, BreaksNewSymbols, BreaksPrefixedClass, BreaksSized, BreaksSymbolAfter, BreaksWidthAfter, ClassCauses, ClassesHaveCauses, CollectiveBitmapsHaveCauses, CollectiveClassesHaveCauses, CutsHaveCauses, DrawnClassesHaveCauses, HeightClassesHaveCauses, NewSymbolsHaveCauses, SymbolsHaveCauses, rows_length}
+use Rattle.jbig2_symbol.specs.Exports.{export_runs, exports, most_empty}
+use Rattle.jbig2_symbol.specs.HeightClasses.{HeightClass, classes, classes_from, drawn_class, empty_class, empty_with, height_class, new_symbols, next_width, room_behind, size_in_word, symbols_from, widths_from}
+use Rattle.jbig2_symbol.specs.SymbolBitmaps.{collective_bitmap, mmr_bytes, raw_rows, raw_stride, rows_of_size, symbol_cut, symbols_cut}
+use Rattle.jbig2_symbol.specs.SymbolCauses.{BreaksCodedBitmap, BreaksPrefixedAggregate}
+use Rattle.jbig2_symbol.specs.SymbolCoding.{classes_by_coder, classes_by_prefix_codes, coder_begun, collective_class, prefix_codes_begun, symbols_by_coder, symbols_by_prefix_codes}
 use Rattle.jbig2_symbol.specs.SymbolHeader.{SymbolHeader}
-use Rattle.jbig2_symbol.specs.SymbolReading.{BitmapContexts, ClassReadings, SymbolInput, SymbolTables, SymbolState, by_table, first_contexts, not_negative, symbol_tables}
+use Rattle.jbig2_symbol.specs.SymbolReading.{BitmapContexts, ClassReadings, SymbolInput, SymbolReadings, SymbolTables, SymbolState, by_table, first_contexts, not_negative, symbol_tables}
 use Rattle.jbig2_symbol.specs.Symbols.{dictionary_by, dictionary_from, symbols_decoded, symbols_exported}
-use Rattle.jbig2_symbol.proofs.Causes.{Meets, error-of, meets-next}
-use Rattle.jbig2_symbol.proofs.ReadingCauses.{cause-by, cause-if, contexts_causes, exports_causes, in-steps, meets-size, own-error, symbol_tables_causes}
+use Rattle.jbig2_region.proofs.Told.{cause-if, cause-last, cause-more}
+use Rattle.jbig2_symbol.proofs.IdCodes.{id_codes_are_there}
+use Rattle.jbig2_symbol.proofs.SymbolCauses.{coded_bitmap_causes, prefixed_aggregate_causes, too-long}
+use Rattle.jbig2_symbol.proofs.ReadingCauses.{contexts_causes, exports_causes, in-steps, own-error, symbol_tables_causes, told-size, widths_causes}
 
--- ---- bitmaps
-either-of : (x y : Bool) → (x || y) ≡ true → (x ≡ true) ⊎ (y ≡ true)
-either-of true y is = inl refl
-either-of false y is = inr is
-
-too-long : (width height : ℕ) → (nat_lt 65535 width || nat_lt 65535 height) ≡ true → (65535 < width) ⊎ (65535 < height)
-too-long width height over = on (either-of (nat_lt 65535 width) (nat_lt 65535 height) over)
-  where
-    on : (nat_lt 65535 width ≡ true) ⊎ (nat_lt 65535 height ≡ true) → (65535 < width) ⊎ (65535 < height)
-    on (inl wide) = inl (ltb-true 65535 width wide)
-    on (inr high) = inr (ltb-true 65535 height high)
-
-pub sides-cause : (width height : ℕ) → IfErr (fits_symbol width height) (BreaksSides width height)
-sides-cause width height =
-    let large : Bool = nat_lt 65535 width || nat_lt 65535 height in
-    cause-refused (BreaksSides width height) large (errors.Overflow BitmapDimension) (too-long width height)
-
-pub coded_symbol_causes : CodedSymbolsHaveCauses
-unfolding coded_symbol
-coded_symbol_causes h width height s = cause-next (BreaksSides width height) (fits_symbol width height) _ (sides-cause width height) (λ fits fits_is. tt)
-
+-- ---- collective bitmaps
 wide-cause : (P : DecodeError → Type 0) (width height : ℕ) → (65535 * 65535 < width * height → P (errors.Overflow BitmapDimension)) → IfErr (wide_or_overflow width height) P
 wide-cause P width height why =
     let large : Bool = nat_lt (65535 * 65535) (width * height) in
@@ -93,7 +77,7 @@ sized-cause d width height (Some (pos size)) after =
     let bytes = (aligned after.coding).bytes in
     let P : DecodeError → Type 0 = BreaksSized d width height (Some (pos size), after) in
     let rows = rows_of_size d.header.strict size width height bytes in
-    cause-next P rows _ (cause-by rows (BreaksCollective d.header.strict size width height bytes) P (rows-cause d.header.strict size width height bytes) (λ e is broken. inr (size, refl, broken))) (λ grid grid_is. tt)
+    cause-next P rows _ (cause-more (BreaksCollective d.header.strict size width height bytes) P rows (rows-cause d.header.strict size width height bytes) (λ e broken. inr (size, refl, broken))) (λ grid grid_is. tt)
 
 pub collective_causes : CollectiveBitmapsHaveCauses
 unfolding collective_bitmap
@@ -121,61 +105,144 @@ cuts-cause P collective height from (width ∷ widths) why =
 pub cuts_causes : CutsHaveCauses
 cuts_causes collective height from widths = cuts-cause (BreaksCuts height widths) collective height from widths (λ some. some)
 
--- ---- height classes
-class-of : {S : Type 0} (r : ClassReadings S) (d : SymbolInput) (before empty : ℕ) (new : List Grid) (value : Option ℤ) (after : S)
-    → IfErr (in_band (errors.Symbol symbols.UnexpectedOob) value >>= λ difference. size_in_word (pos before +ℤ difference) >>= λ height. r.class_of_height d height empty new after >>= λ class. (let x : Result (HeightClass × S) DecodeError = Ok (record { height = height; symbols = class.0 }, class.1) in x)) (BreaksClassBehind r d before empty new (value, after))
-class-of r d before empty new None after = inl refl
-class-of {S} r d before empty new (Some difference) after =
-    let P : DecodeError → Type 0 = BreaksClassBehind r d before empty new (Some difference, after) in
-    let End : HeightClass × S → Type 0 = λ x. Unit {0} in
-    let sum = pos before +ℤ difference in
-    error-of End P _
-    (meets-next (λ (n : ℕ). sum ≡ pos n) End P (size_in_word sum) _ (meets-size P sum (λ no. inl (difference, refl, no))) (λ height height_is.
-    class-meets r d height empty new after P (λ e own. inr (difference, height, refl, height_is, own))))
-  where
-    class-meets : (r : ClassReadings S) (d : SymbolInput) (height empty : ℕ) (new : List Grid) (after : S) (P : DecodeError → Type 0) → ((e : DecodeError) → IsOf (r.class_of_height d height empty new after) e → P e)
-        → Meets (r.class_of_height d height empty new after >>= λ class. (let x : Result (HeightClass × S) DecodeError = Ok (record { height = height; symbols = class.0 }, class.1) in x)) (λ x. Unit {0}) P
-    class-meets r d height empty new after P why = on (r.class_of_height d height empty new after) (λ e is. why e is)
-      where
-        on : (answer : Result (List Grid × S) DecodeError) → ((e : DecodeError) → answer ≡ Err e → P e) → Meets (answer >>= λ class. (let x : Result (HeightClass × S) DecodeError = Ok (record { height = height; symbols = class.0 }, class.1) in x)) (λ x. Unit {0}) P
-        on (Ok class) refused = tt
-        on (Err e) refused = refused e refl
+-- ---- the symbols of a class
+no-symbols : (count empty : ℕ) → IfErr (empty_class count empty) (BreaksEmptyClass count empty)
+no-symbols count empty =
+    let many : Bool = count == 0 && nat_le most_empty empty in
+    cause-refused (BreaksEmptyClass count empty) many (errors.Symbol symbols.Invalid) (λ is.
+    let both = and_parts (count == 0) (nat_le most_empty empty) is in
+    (eqb-true count 0 both.0, leb-true most_empty empty both.1))
 
-pub height_class_causes : {S : Type 0} (r : ClassReadings S) → HeightClassesHaveCauses r
+-- of the width that comes next
+some-or-none : {A : Type 0} (o : Option A) → (o ≡ None) ⊎ ((x : A) × (o ≡ Some x))
+some-or-none None = inl refl
+some-or-none (Some x) = inr (x, refl)
+
+widths-cause : {S : Type 0} (r : SymbolReadings S) (d : SymbolInput) (P : DecodeError → Type 0) (room width total : ℕ) (s : S)
+    → ((k : ℕ) (e : DecodeError) → BreaksWidthAfter k r d room width total s e → P e) → IfErr (widths_from r d room width total s) P
+unfolding widths_from
+widths-cause r d P zero width total s why =
+    cause-next P (next_width r d 0 width total s) _ (cause-more (BreaksNextWidth r d 0 width total s) P (next_width r d 0 width total s) (widths_causes r d 0 width total s) (λ e no. why 0 e no)) (λ end end_is. tt)
+widths-cause r d P (suc room) width total s why =
+    let first = next_width r d (suc room) width total s in
+    cause-next P first _ (cause-more (BreaksNextWidth r d (suc room) width total s) P first (widths_causes r d (suc room) width total s) (λ e no. why 0 e no)) (λ next next_is.
+    ⊎_elim (λ none. rw none tt) (λ some. rw (some.1)
+    (cause-next P (widths_from r d room some.0.0 some.0.1 next.1) _ (widths-cause r d P room some.0.0 some.0.1 next.1 (λ k e no. why (suc k) e (next, next_is, (some.0, some.1, no)))) (λ others others_is. tt)))
+    (some-or-none next.0))
+
+symbols-cause : {S : Type 0} (c : BitmapCauses S) (r : SymbolReadings S) (law : BitmapsHaveCauses c r) (d : SymbolInput) (P : DecodeError → Type 0) (room height width total : ℕ) (new : List Grid) (s : S)
+    → ((k : ℕ) (e : DecodeError) → BreaksSymbolAfter k c r d room height width total new s e → P e) → IfErr (symbols_from r d room height width total new s) P
+unfolding symbols_from
+symbols-cause c r law d P zero height width total new s why =
+    cause-next P (next_width r d 0 width total s) _ (cause-more (BreaksNextWidth r d 0 width total s) P (next_width r d 0 width total s) (widths_causes r d 0 width total s) (λ e no. why 0 e (inl no))) (λ end end_is. tt)
+symbols-cause c r law d P (suc room) height width total new s why =
+    let first = next_width r d (suc room) width total s in
+    cause-next P first _ (cause-more (BreaksNextWidth r d (suc room) width total s) P first (widths_causes r d (suc room) width total s) (λ e no. why 0 e (inl no))) (λ next next_is.
+    ⊎_elim (λ none. rw none tt) (λ some. rw (some.1)
+    (cause-next P (r.symbol_bitmap d new some.0.0 height next.1) _
+    (cause-more (c d new some.0.0 height next.1) P (r.symbol_bitmap d new some.0.0 height next.1) (law d new some.0.0 height next.1) (λ e no. why 0 e (inr (next, next_is, (some.0, some.1, no))))) (λ symbol symbol_is.
+    cause-next P (symbols_from r d room height some.0.0 some.0.1 (new ++ symbol.0 ∷ []) symbol.1) _
+    (symbols-cause c r law d P room height some.0.0 some.0.1 (new ++ symbol.0 ∷ []) symbol.1 (λ k e no. why (suc k) e (next, next_is, (some.0, some.1, (symbol, symbol_is, no))))) (λ others others_is. tt))))
+    (some-or-none next.0))
+
+pub drawn_class_causes : {S : Type 0} (c : BitmapCauses S) (r : SymbolReadings S) → DrawnClassesHaveCauses c r
+unfolding drawn_class
+drawn_class_causes c r law d height empty new s =
+    let P : DecodeError → Type 0 = BreaksDrawnClass c r d height empty new s in
+    cause-next P (symbols_from r d (room_behind d new) height 0 0 new s) _ (symbols-cause c r law d P (room_behind d new) height 0 0 new s (λ k e no. inl (k, no))) (λ all all_is.
+    cause-next P (empty_class (length all.0) empty) _ (cause-more (BreaksEmptyClass (length all.0) empty) P (empty_class (length all.0) empty) (no-symbols (length all.0) empty) (λ e no. inr (all, all_is, no))) (λ few few_is. tt))
+
+pub collective_class_causes : CollectiveClassesHaveCauses
+unfolding collective_class
+collective_class_causes d height empty new s =
+    let P : DecodeError → Type 0 = BreaksCollectiveClass d height empty new s in
+    cause-next P (widths_from symbols_by_prefix_codes d (room_behind d new) 0 0 s) _ (widths-cause symbols_by_prefix_codes d P (room_behind d new) 0 0 s (λ k e no. inl (k, no))) (λ widths widths_are.
+    cause-next P (empty_class (length widths.0) empty) _ (cause-more (BreaksEmptyClass (length widths.0) empty) P (empty_class (length widths.0) empty) (no-symbols (length widths.0) empty) (λ e no. inr (widths, widths_are, inl no))) (λ few few_is.
+    cause-next P (collective_bitmap d (sum widths.0) height widths.1) _
+    (cause-more (BreaksCollectiveBitmap d (sum widths.0) height widths.1) P (collective_bitmap d (sum widths.0) height widths.1) (collective_causes d (sum widths.0) height widths.1) (λ e no. inr (widths, widths_are, inr (inl no)))) (λ collective collective_is.
+    cause-next P (symbols_cut collective.0 height 0 widths.0) _
+    (cause-more (BreaksCuts height widths.0) P (symbols_cut collective.0 height 0 widths.0) (cuts_causes collective.0 height 0 widths.0) (λ e no. inr (widths, widths_are, inr (inr no)))) (λ symbols symbols_are. tt))))
+
+-- ---- the classes of the two codings
+coded-classes : ClassesHaveCauses (BreaksDrawnClass BreaksCodedBitmap symbols_by_coder) classes_by_coder
+coded-classes = drawn_class_causes BreaksCodedBitmap symbols_by_coder coded_bitmap_causes
+
+prefixed-classes : ClassesHaveCauses BreaksPrefixedClass classes_by_prefix_codes
+prefixed-classes d height empty new s =
+    let P : DecodeError → Type 0 = BreaksPrefixedClass d height empty new s in
+    let drawn = drawn_class symbols_by_prefix_codes d height empty new s in
+    let cut = collective_class d height empty new s in
+    cause-if P d.header.flags.use_refagg drawn cut
+    (λ is. cause-more (BreaksDrawnClass BreaksPrefixedAggregate symbols_by_prefix_codes d height empty new s) P drawn (drawn_class_causes BreaksPrefixedAggregate symbols_by_prefix_codes prefixed_aggregate_causes d height empty new s) (λ e no. inl (is, no)))
+    (λ is. cause-more (BreaksCollectiveClass d height empty new s) P cut (collective_class_causes d height empty new s) (λ e no. inr (is, no)))
+
+-- ---- height classes
+class-of : {S : Type 0} (c : ClassCauses S) (r : ClassReadings S) (law : ClassesHaveCauses c r) (d : SymbolInput) (before empty : ℕ) (new : List Grid) (value : Option ℤ) (after : S)
+    → IfErr (in_band (errors.Symbol symbols.UnexpectedOob) value >>= λ difference. size_in_word (pos before +ℤ difference) >>= λ height. r.class_of_height d height empty new after >>= λ class. (let x : Result (HeightClass × S) DecodeError = Ok (record { height = height; symbols = class.0 }, class.1) in x)) (BreaksClassBehind c d before empty new (value, after))
+class-of c r law d before empty new None after = inl refl
+class-of {S} c r law d before empty new (Some difference) after =
+    let P : DecodeError → Type 0 = BreaksClassBehind c d before empty new (Some difference, after) in
+    let size : ℤ = pos before +ℤ difference in
+    cause-last P (λ (n : ℕ). size ≡ pos n) (size_in_word size) _ (told-size P size (λ no. inl (difference, refl, no))) (λ height height_is.
+    cause-next P (r.class_of_height d height empty new after) _
+    (cause-more (c d height empty new after) P (r.class_of_height d height empty new after) (law d height empty new after) (λ e no. inr (difference, height, refl, height_is, no))) (λ class class_is. tt))
+
+pub height_class_causes : {S : Type 0} (c : ClassCauses S) (r : ClassReadings S) → HeightClassesHaveCauses c r
 unfolding height_class
-height_class_causes r d before empty new s =
-    in-steps (r.height_difference d s) _ (IsOf (r.height_difference d s)) (BreaksClassBehind r d before empty new) (own-error (r.height_difference d s)) (λ value value_is. class-of r d before empty new value.0 value.1)
+height_class_causes c r law d before empty new s =
+    in-steps (r.height_difference d s) _ (IsOf (r.height_difference d s)) (BreaksClassBehind c d before empty new) (own-error (r.height_difference d s)) (λ value value_is. class-of c r law d before empty new value.0 value.1)
+
+classes-cause : {S : Type 0} (c : ClassCauses S) (r : ClassReadings S) (law : ClassesHaveCauses c r) (d : SymbolInput) (P : DecodeError → Type 0) (n before empty : ℕ) (new : List Grid) (s : S)
+    → ((k : ℕ) (e : DecodeError) → BreaksClassAfter k c r d before empty new s e → P e) → IfErr (classes_from r d n before empty new s) P
+unfolding classes_from
+classes-cause c r law d P zero before empty new s why = tt
+classes-cause c r law d P (suc n) before empty new s why =
+    let class = height_class r d before empty new s in
+    let count = d.header.num_new_symbols in
+    cause-if P (nat_le count (length new)) _ _ (λ whole. tt) (λ few.
+    cause-next P class _ (cause-more (BreaksHeightClass c r d before empty new s) P class (height_class_causes c r law d before empty new s) (λ e no. why 0 e (leb-false count (length new) few, no))) (λ next next_is.
+    cause-next P (classes_from r d n next.0.height (empty_with next.0 empty) (new ++ next.0.symbols) next.1) _
+    (classes-cause c r law d P n next.0.height (empty_with next.0 empty) (new ++ next.0.symbols) next.1 (λ k e no. why (suc k) e (next, next_is, no))) (λ others others_are. tt)))
+
+pub new_symbols_causes : {S : Type 0} (c : ClassCauses S) (r : ClassReadings S) → NewSymbolsHaveCauses c r
+new_symbols_causes c r law d s =
+    let P : DecodeError → Type 0 = BreaksNewSymbols c r d s in
+    cause-next P (classes r d s) _ (classes-cause c r law d P (d.header.num_new_symbols + most_empty) 0 0 [] s (λ k e no. (k, no))) (λ all all_is. tt)
 
 -- ---- the dictionary
-dictionary-cause : {C : Type 0} (r : ClassReadings (SymbolState C)) (d : SymbolInput) (s : SymbolState C) → IfErr (dictionary_by r d s) (BreaksDictionary r d s)
-dictionary-cause {C} r d s =
-    let P : DecodeError → Type 0 = BreaksDictionary r d s in
-    let Behind : List Grid × SymbolState C → DecodeError → Type 0 = λ new e.
-    let grids = d.symbols ++ new.0 in
-    InSteps (export_runs r d (length grids) new.1) (BreaksRuns r d (length grids) new.1 e) (λ runs. BreaksExported d grids runs.0 e) in
+dictionary-cause : {C : Type 0} (c : ClassCauses (SymbolState C)) (r : ClassReadings (SymbolState C)) (law : ClassesHaveCauses c r) (d : SymbolInput) (s : SymbolState C) → IfErr (dictionary_by r d s) (BreaksDictionary c r d s)
+dictionary-cause c r law d s =
+    let P : DecodeError → Type 0 = BreaksDictionary c r d s in
     cause-next P (symbols_exported r d s) _
-    (in-steps (new_symbols r d s) _ (IsOf (new_symbols r d s)) Behind (own-error (new_symbols r d s)) (λ new new_is. exports_causes r d (d.symbols ++ new.0) new.1)) (λ exported exported_is. tt)
+    (cause-next P (new_symbols r d s) _ (cause-more (BreaksNewSymbols c r d s) P (new_symbols r d s) (new_symbols_causes c r law d s) (λ e no. inl no)) (λ new new_is.
+    let grids = d.symbols ++ new.0 in
+    let Q : DecodeError → Type 0 = λ e. InSteps (export_runs r d (length grids) new.1) (BreaksRuns r d (length grids) new.1 e) (λ runs. BreaksExported d grids runs.0 e) in
+    cause-more Q P (exports r d grids new.1) (exports_causes r d grids new.1) (λ e no. inr (new, new_is, no)))) (λ exported exported_is. tt)
 
 coding-cause : (d : SymbolInput) (contexts : BitmapContexts) → IfErr (dictionary_from d contexts) (BreaksCoding d contexts)
 coding-cause d contexts =
     let P : DecodeError → Type 0 = BreaksCoding d contexts in
     let prefixed = dictionary_by classes_by_prefix_codes d (prefix_codes_begun d contexts) in
     let coded = dictionary_by classes_by_coder d (coder_begun d contexts) in
+    let drawn : ClassCauses (SymbolState Coded) = BreaksDrawnClass BreaksCodedBitmap symbols_by_coder in
     cause-if P d.header.flags.use_huffman prefixed coded
-    (λ is. cause-by prefixed (BreaksDictionary classes_by_prefix_codes d (prefix_codes_begun d contexts)) P (dictionary-cause classes_by_prefix_codes d (prefix_codes_begun d contexts)) (λ e e_is broken. inl (is, broken)))
-    (λ is. cause-by coded (BreaksDictionary classes_by_coder d (coder_begun d contexts)) P (dictionary-cause classes_by_coder d (coder_begun d contexts)) (λ e e_is broken. inr (is, broken)))
+    (λ is. cause-more (BreaksDictionary BreaksPrefixedClass classes_by_prefix_codes d (prefix_codes_begun d contexts)) P prefixed (dictionary-cause BreaksPrefixedClass classes_by_prefix_codes prefixed-classes d (prefix_codes_begun d contexts)) (λ e no. inl (is, no)))
+    (λ is. cause-more (BreaksDictionary drawn classes_by_coder d (coder_begun d contexts)) P coded (dictionary-cause drawn classes_by_coder coded-classes d (coder_begun d contexts)) (λ e no. inr (is, no)))
 
+-- ---- all of it
 abbrev input_of : SymbolHeader → List Grid → SymbolTables → List Member → SymbolInput
 input_of h symbols tables ids = record { header = h; symbols = symbols; tables = tables; ids = ids }
 
 abbrev BehindIds : SymbolHeader → List Grid → BitmapContexts → SymbolTables → DecodeError → Type 0
 BehindIds h symbols contexts tables e =
-    InSteps (id_codes h (length symbols)) (IsOf (id_codes h (length symbols)) e) (λ ids. BreaksCoding (input_of h symbols tables ids) contexts e)
+    Behind (id_codes h (length symbols)) (λ ids. BreaksCoding (input_of h symbols tables ids) contexts e)
 
 pub symbols_causes : SymbolsHaveCauses
 unfolding symbols_decoded
 symbols_causes h symbols referred kept =
-    let step = id_codes h (length symbols) in
     in-steps (first_contexts h.flags kept) _ (BreaksContexts h.flags kept) (λ contexts e. InSteps (symbol_tables h.flags referred) (BreaksTables h.flags referred e) (λ tables. BehindIds h symbols contexts tables e)) (contexts_causes h.flags kept) (λ contexts contexts_is.
     in-steps (symbol_tables h.flags referred) _ (BreaksTables h.flags referred) (λ tables e. BehindIds h symbols contexts tables e) (symbol_tables_causes h.flags referred) (λ tables tables_is.
-    in-steps step _ (IsOf step) (λ ids. BreaksCoding (input_of h symbols tables ids) contexts) (own-error step) (λ ids ids_is. coding-cause (input_of h symbols tables ids) contexts)))
+    let P : DecodeError → Type 0 = BehindIds h symbols contexts tables in
+    cause-next P (id_codes h (length symbols)) _ (cause-more (λ e. ⊥) P (id_codes h (length symbols)) (id_codes_are_there h (length symbols)) (λ e no. absurd no)) (λ ids ids_are.
+    let d : SymbolInput = input_of h symbols tables ids in
+    cause-more (BreaksCoding d contexts) P (dictionary_from d contexts) (coding-cause d contexts) (λ e no. (ids, ids_are, no)))))

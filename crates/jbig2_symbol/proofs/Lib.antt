@@ -8,7 +8,9 @@ pub mod CodedLemmas
 pub mod CutLemmas
 pub mod ExportLemmas
 pub mod ExportedLemmas
+mod IdCodes
 pub mod ReadingCauses
+pub mod SymbolCauses
 pub mod UsedPixels
 mod WorkedAggregates
 mod WorkedCoded

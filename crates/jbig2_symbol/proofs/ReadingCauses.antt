@@ -1,5 +1,5 @@
 -- Which rule is broken where the tables, the contexts, the exports or a number of a symbol dictionary are refused.
-use Rattle.std.proofs.Common.{◌≡◌, ◌≢◌, inl, inr, ℕ, zero, suc, ◌+◌, ◌-◌, ◌<◌, ◌==◌, nat_le, nat_lt, Bool, true, false, not, ◌&&◌, if◌then◌else◌, List, [], ◌∷◌, length, Option, Some, None, Result, Ok, Err, ℤ, pos, negsuc, ◌+ℤ◌, refl, sym, ap, subst, ◌∙◌, arith}
+use Rattle.std.proofs.Common.{◌≡◌, ◌≢◌, inl, inr, ℕ, zero, suc, ◌+◌, ◌-◌, ◌<◌, ◌==◌, nat_le, nat_lt, Bool, true, false, not, ◌&&◌, List, [], ◌∷◌, length, Option, Some, None, Result, Ok, Err, ℤ, pos, negsuc, ◌+ℤ◌, refl, sym, ap, subst, ◌∙◌, arith}
 use Rattle.std.proofs.lemmas.Bool.{and_cases, and_parts, cond_both, eq-eqb, eqb-true, false≢true, leb-true, ltb-false, not-false, not-true}
 use Rattle.std.proofs.lemmas.Bool as tests
 use Rattle.std.specs.Prelude.{IfErr}
@@ -21,7 +21,7 @@ use Rattle.jbig2_symbol.specs.HeightClasses.{next_width, size_in_word, width_by}
 use Rattle.jbig2_symbol.specs.SymbolReading.{ClassReadings, SymbolInput, SymbolReadings, first_contexts, is_refinement_template, is_template, not_negative, symbol_tables, table_for}
 use Rattle.jbig2_symbol.specs.declared.symbol.header.HuffmanTableSelection.{HuffmanTableSelection}
 use Rattle.jbig2_symbol.specs.declared.symbol.header.HuffmanTableSelection.TheVariants.{TableB1, TableB2, TableB3, TableB4, TableB5, UserSupplied}
-use Rattle.jbig2_symbol.proofs.Causes.{Meets, error-of, meets-next, meets-refusal}
+use Rattle.jbig2_region.proofs.Told.{Told, cause-if, cause-last, cause-more, told-if, told-refused}
 
 -- ---- steps
 pub in-steps : {A B : Type 0} (r : Result A DecodeError) (next : A → Result B DecodeError) (F : DecodeError → Type 0) (N : A → DecodeError → Type 0)
@@ -37,11 +37,6 @@ pub cause-by : {A : Type 0} (r : Result A DecodeError) (P Q : DecodeError → Ty
 cause-by (Ok x) P Q is why = tt
 cause-by (Err e) P Q is why = why e refl is
 
-pub cause-if : {A : Type 0} (P : DecodeError → Type 0) (b : Bool) (r s : Result A DecodeError) → (b ≡ true → IfErr r P) → (b ≡ false → IfErr s P) → IfErr (if b then r else s) P
-cause-if {A} P b r s at_true at_false =
-    let Q : Result A DecodeError → Type 0 = λ x. IfErr x P in
-    cond_both b r s Q at_true at_false
-
 differ : (m n : ℕ) → not (m == n) ≡ true → m ≢ n
 differ m n apart same = false≢true (sym (not-true (m == n) apart) ∙ eq-eqb m n same)
 
@@ -49,30 +44,28 @@ differ m n apart same = false≢true (sym (not-true (m == n) apart) ∙ eq-eqb m
 abbrev Left : ℕ → List (List Member) → List Member × List (List Member) → Type 0
 Left taken customs x = length customs ≡ taken + length x.1
 
-meets-table : (P : DecodeError → Type 0) (selection : HuffmanTableSelection) (customs : List (List Member)) → (length customs < taken_by selection → P (errors.Huffman huffman.MissingTables)) → Meets (table_for selection customs) (Left (taken_by selection) customs) P
+told-table : (P : DecodeError → Type 0) (selection : HuffmanTableSelection) (customs : List (List Member)) → (length customs < taken_by selection → P (errors.Huffman huffman.MissingTables)) → Told (table_for selection customs) P (Left (taken_by selection) customs)
 unfolding table_for
-meets-table P TableB1 customs why = omega arith
-meets-table P TableB2 customs why = omega arith
-meets-table P TableB3 customs why = omega arith
-meets-table P TableB4 customs why = omega arith
-meets-table P TableB5 customs why = omega arith
-meets-table P UserSupplied [] why = why (omega arith)
-meets-table P UserSupplied (table ∷ others) why = omega arith
+told-table P TableB1 customs why = omega arith
+told-table P TableB2 customs why = omega arith
+told-table P TableB3 customs why = omega arith
+told-table P TableB4 customs why = omega arith
+told-table P TableB5 customs why = omega arith
+told-table P UserSupplied [] why = why (omega arith)
+told-table P UserSupplied (table ∷ others) why = omega arith
 
 pub symbol_tables_causes : SymbolTablesHaveCauses
 unfolding symbol_tables
 symbol_tables_causes flags customs =
     let P : DecodeError → Type 0 = BreaksTables flags customs in
-    let End : _ → Type 0 = λ x. Unit {0} in
     let h = taken_by flags.delta_height_table in
     let w = taken_by flags.delta_width_table in
     let c = taken_by flags.collective_bitmap_size_table in
     let a = taken_by flags.aggregate_instance_table in
-    error-of End P (symbol_tables flags customs)
-    (meets-next (Left h customs) End P (table_for flags.delta_height_table customs) _ (meets-table P flags.delta_height_table customs (λ few. omega (arith, few))) (λ heights one.
-    meets-next (Left w heights.1) End P (table_for flags.delta_width_table heights.1) _ (meets-table P flags.delta_width_table heights.1 (λ few. omega (arith, few, one))) (λ widths two.
-    meets-next (Left c widths.1) End P (table_for flags.collective_bitmap_size_table widths.1) _ (meets-table P flags.collective_bitmap_size_table widths.1 (λ few. omega (arith, few, one, two))) (λ sizes three.
-    meets-next (Left a sizes.1) End P (table_for flags.aggregate_instance_table sizes.1) _ (meets-table P flags.aggregate_instance_table sizes.1 (λ few. omega (arith, few, one, two, three))) (λ counts four. tt)))))
+    cause-last P (Left h customs) (table_for flags.delta_height_table customs) _ (told-table P flags.delta_height_table customs (λ few. omega (arith, few))) (λ heights one.
+    cause-last P (Left w heights.1) (table_for flags.delta_width_table heights.1) _ (told-table P flags.delta_width_table heights.1 (λ few. omega (arith, few, one))) (λ widths two.
+    cause-last P (Left c widths.1) (table_for flags.collective_bitmap_size_table widths.1) _ (told-table P flags.collective_bitmap_size_table widths.1 (λ few. omega (arith, few, one, two))) (λ sizes three.
+    cause-last P (Left a sizes.1) (table_for flags.aggregate_instance_table sizes.1) _ (told-table P flags.aggregate_instance_table sizes.1 (λ few. omega (arith, few, one, two, three))) (λ counts four. tt))))
 
 -- ---- contexts
 pub contexts_causes : ContextsHaveCauses
@@ -120,10 +113,10 @@ runs-cause r d zero empty left s = tt
 runs-cause r d (suc n) empty left s =
     let P : DecodeError → Type 0 = Runs r d empty left s in
     cause-if P (left == 0) _ _ (λ whole. tt) (λ more.
-    cause-next P (next_run r d empty left s) _ (cause-by (next_run r d empty left s) (BreaksRun r d empty left s) P (run-causes r d empty left s) (λ e is broken. ([], broken))) (λ run run_is.
+    cause-next P (next_run r d empty left s) _ (cause-more (BreaksRun r d empty left s) P (next_run r d empty left s) (run-causes r d empty left s) (λ e broken. ([], broken))) (λ run run_is.
     let others = runs_from r d n (empty + bit_number (run.0 == 0)) (left - run.0) run.1 in
     let Q : DecodeError → Type 0 = Runs r d (empty + bit_number (run.0 == 0)) (left - run.0) run.1 in
-    cause-next P others _ (cause-by others Q P (runs-cause r d n (empty + bit_number (run.0 == 0)) (left - run.0) run.1) (λ e is later. runs-later r d empty left s run e run_is later)) (λ all all_is. tt)))
+    cause-next P others _ (cause-more Q P others (runs-cause r d n (empty + bit_number (run.0 == 0)) (left - run.0) run.1) (λ e later. runs-later r d empty left s run e run_is later)) (λ all all_is. tt)))
 
 pub exports_causes : {S : Type 0} (r : ClassReadings S) → ExportsHaveCauses r
 unfolding exports
@@ -135,11 +128,9 @@ exports_causes r d grids s =
     cause-next P (refuse_if other (errors.Symbol symbols.NoSymbols)) _ (cause-refused P other (errors.Symbol symbols.NoSymbols) (λ is. differ (length (exported runs.0 grids)) d.header.num_exported_symbols is)) (λ right right_is. tt))
 
 -- ---- widths and instances
-pub meets-size : (P : DecodeError → Type 0) (z : ℤ) → (IsNoSize z → P (errors.Overflow BitmapDimension)) → Meets (size_in_word z) (λ n. z ≡ pos n) P
-meets-size P (pos n) why =
-    let Q : Result ℕ DecodeError → Type 0 = λ r. Meets r (λ m. pos n ≡ pos m) P in
-    cond_both (nat_lt n 4294967296) (Ok n) (Err (errors.Overflow BitmapDimension)) Q (λ fits. refl) (λ large. why (ltb-false n 4294967296 large))
-meets-size P (negsuc n) why = why tt
+pub told-size : (P : DecodeError → Type 0) (z : ℤ) → (IsNoSize z → P (errors.Overflow BitmapDimension)) → Told (size_in_word z) P (λ n. z ≡ pos n)
+told-size P (pos n) why = told-if P (λ (m : ℕ). pos n ≡ pos m) (nat_lt n 4294967296) (Ok n) (Err (errors.Overflow BitmapDimension)) (λ fits. refl) (λ large. why (ltb-false n 4294967296 large))
+told-size P (negsuc n) why = why tt
 
 width-cause : (room width total : ℕ) (value : Option ℤ) → IfErr (width_by room width total value) (BreaksWidth room width total value)
 width-cause room width total None = tt
@@ -147,11 +138,9 @@ width-cause room width total (Some difference) =
     let P : DecodeError → Type 0 = BreaksWidth room width total (Some difference) in
     let none : Bool = room == 0 in
     let next_width_is = pos width +ℤ difference in
-    let End : Option (ℕ × ℕ) → Type 0 = λ x. Unit {0} in
-    error-of End P (width_by room width total (Some difference))
-    (meets-next (λ x. none ≡ false) End P (refuse_if none (errors.Symbol symbols.TooManySymbols)) _ (meets-refusal P none (errors.Symbol symbols.TooManySymbols) (λ is. (eqb-true room 0 is, λ same. absurd (cc)))) (λ missing there.
-    meets-next (λ (n : ℕ). next_width_is ≡ pos n) End P (size_in_word next_width_is) _ (meets-size P next_width_is (λ no. (difference, refl, inl no))) (λ next is.
-    meets-next (λ (n : ℕ). pos total +ℤ pos next ≡ pos n) End P (size_in_word (pos total +ℤ pos next)) _ (meets-size P (pos total +ℤ pos next) (λ no. (difference, refl, inr (subst (λ (z : ℤ). IsNoSize (pos total +ℤ z)) (sym is) no)))) (λ all all_is. tt))))
+    cause-last P (λ x. none ≡ false) (refuse_if none (errors.Symbol symbols.TooManySymbols)) _ (told-refused P none (errors.Symbol symbols.TooManySymbols) (λ is. (eqb-true room 0 is, λ same. absurd (cc)))) (λ missing there.
+    cause-last P (λ (n : ℕ). next_width_is ≡ pos n) (size_in_word next_width_is) _ (told-size P next_width_is (λ no. (difference, refl, inl no))) (λ next is.
+    cause-last P (λ (n : ℕ). pos total +ℤ pos next ≡ pos n) (size_in_word (pos total +ℤ pos next)) _ (told-size P (pos total +ℤ pos next) (λ no. (difference, refl, inr (subst (λ (z : ℤ). IsNoSize (pos total +ℤ z)) (sym is) no)))) (λ all all_is. tt)))
 
 pub widths_causes : {S : Type 0} (r : SymbolReadings S) → WidthsHaveCauses r
 unfolding next_width

@@ -125,10 +125,12 @@ BreaksWidth room width total value (errors.Overflow BitmapDimension) =
     (difference : ℤ) × (value ≡ Some difference) × (IsNoSize (pos width +ℤ difference) ⊎ IsNoSize (pos total +ℤ (pos width +ℤ difference)))
 BreaksWidth room width total value _ = ⊥
 
+abbrev pub BreaksNextWidth : {S : Type 0} → SymbolReadings S → SymbolInput → ℕ → ℕ → ℕ → S → DecodeError → Type 0
+BreaksNextWidth r d room width total s e =
+    InSteps (r.width_difference d s) (IsOf (r.width_difference d s) e) (λ value. BreaksWidth room width total value.0 e)
+
 abbrev pub WidthsHaveCauses : {S : Type 0} → SymbolReadings S → Type 0
-WidthsHaveCauses {S} r =
-    (d : SymbolInput) (room width total : ℕ) (s : S)
-    → IfErr (next_width r d room width total s) (λ e. InSteps (r.width_difference d s) (IsOf (r.width_difference d s) e) (λ value. BreaksWidth room width total value.0 e))
+WidthsHaveCauses {S} r = (d : SymbolInput) (room width total : ℕ) (s : S) → IfErr (next_width r d room width total s) (BreaksNextWidth r d room width total s)
 
 -- how many instances a symbol is put together from: out of band, or below 1
 abbrev pub BreaksCount : Option ℤ → DecodeError → Type 0

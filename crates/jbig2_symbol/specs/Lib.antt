@@ -4,6 +4,7 @@ pub mod ClassCauses
 pub mod Exports
 pub mod HeightClasses
 pub mod SymbolBitmaps
+pub mod SymbolCauses
 pub mod SymbolCoding
 pub mod SymbolHeader
 pub mod SymbolReading

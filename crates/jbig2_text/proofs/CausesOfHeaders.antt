@@ -55,7 +55,7 @@ told-tables P true bytes rest s short =
     told-next P _ Q (number_at w16 rest) _ (told-number P w16 s (λ missing. short (omega (arith, missing)))) (λ flags n. (refl, there bytes (19 + 2) 21 flags.1 (omega arith) n.behind))
 told-tables P false bytes rest s short = (refl, s)
 
-told-free : (P : DecodeError → Type 0) (bytes : List ℕ) (place : ℕ) (rest : List ℕ) → Stands bytes place rest → (length bytes < place + 2 → P end_of_bytes)
+pub told-free : (P : DecodeError → Type 0) (bytes : List ℕ) (place : ℕ) (rest : List ℕ) → Stands bytes place rest → (length bytes < place + 2 → P end_of_bytes)
     → Told (free_pixel_at rest) P (λ (x : AdaptiveTemplatePixel × List ℕ). Stands bytes (place + 2) x.1)
 told-free P bytes place rest s short =
     let Q : AdaptiveTemplatePixel × List ℕ → Type 0 = λ x. Stands bytes (place + 2) x.1 in

@@ -31,7 +31,7 @@ none-named symbols (pos id) none =
     some-none : (g : Grid) → ◌≡◌ {A = Option Grid} (Some g) None → ⊥
     some-none g same = cc
 
-cause-some : (P : DecodeError → Type 0) (symbols : List Grid) (id : ℤ) (o : Option Grid) → symbol_of symbols id ≡ o → (NamesNone symbols id → P (Symbol OutOfRange))
+pub cause-some : (P : DecodeError → Type 0) (symbols : List Grid) (id : ℤ) (o : Option Grid) → symbol_of symbols id ≡ o → (NamesNone symbols id → P (Symbol OutOfRange))
     → Told (some_symbol o) P (λ g. symbol_of symbols id ≡ Some g)
 cause-some P symbols id (Some g) is why = is
 cause-some P symbols id None is why = why (none-named symbols id is)

@@ -2,6 +2,7 @@
 ghost use Rattle.std.specs.Prelude.{◌≡◌, ◌+◌, ◌≤◌, length, max};
 ghost use Rattle.jbig2_base.specs.Answer.{Answers, Gives};
 ghost use Rattle.jbig2_symbol.specs.Aggregates.{aggregate_flags, aggregate_params, id_bits, id_codes, put_together, refined_alone, some_instances, state_bits};
+ghost use Rattle.jbig2_symbol.specs.ClassCauses.{IdCodesAreThere};
 ghost use Rattle.jbig2_symbol.specs.SymbolHeader.{header_view};
 ghost use Rattle.jbig2_symbol.specs.inner.SymbolViews.{input_view};
 ghost use Rattle.jbig2_text.specs.inner.TextViews.{list_view, params_view};
@@ -51,7 +52,9 @@ pub fn state_bits(header: &SymbolDictionaryHeader<'_>, symbols: usize) -> u32
     id_bits(header, symbols)
 }
 
-/// The codes of the symbols' ids, where symbols are put together by prefix codes.
+/// The codes of the symbols' ids, where symbols are put together by prefix codes. They are never
+/// crowded, so nothing but memory is refused.
+#[tactic(auto, using(crate::proofs::IdCodes::id_codes_are_there))]
 pub fn id_codes<A: Allocator + Clone>(
     alloc: A,
     header: &SymbolDictionaryHeader<'_>,
@@ -59,7 +62,8 @@ pub fn id_codes<A: Allocator + Clone>(
 ) -> Result<HuffmanTable<A>>
     requires symbols { symbols ≤ 2097152 }
     requires fresh { header.now.num_new_symbols ≤ 1048576 }
-    ensures { Gives (λ codes. codes) result (id_codes (header_view header.now) symbols) }
+    ensures value { Gives (λ codes. codes) result (id_codes (header_view header.now) symbols) }
+    ensures causes { IdCodesAreThere }
 {
     let count = if header.flags.use_huffman && header.flags.use_refagg {
         symbols as u32 + header.num_new_symbols

@@ -4,6 +4,7 @@ ghost use Rattle.jbig2_base.specs.Answer.{Answers, Gives};
 ghost use Rattle.jbig2_text.specs.inner.TextViews.{params_view};
 ghost use Rattle.jbig2_symbol.specs.Aggregates.{coded_aggregate, coded_instances};
 ghost use Rattle.jbig2_symbol.specs.SymbolBitmaps.{coded_symbol};
+ghost use Rattle.jbig2_symbol.specs.SymbolCauses.{CodedAggregatesHaveCauses};
 ghost use Rattle.jbig2_symbol.specs.SymbolCoding.{coded_bitmap, coder_begun};
 ghost use Rattle.jbig2_symbol.specs.SymbolHeader.{header_view};
 ghost use Rattle.jbig2_symbol.specs.SymbolReading.{by_procedure, contexts_view};
@@ -120,7 +121,7 @@ impl<A: Allocator> CodedSymbols<'_, A> {
     }
 
     /// A symbol that is refined from another one or put together from several (T.88, 6.5.8.2).
-    #[tactic(auto, unfolding(crate::specs::Aggregates::coded_aggregate, crate::specs::Aggregates::instance_count))]
+    #[tactic(auto, using(crate::proofs::SymbolCauses::coded_aggregate_causes), unfolding(crate::specs::Aggregates::coded_aggregate, crate::specs::Aggregates::instance_count))]
     fn read_aggregate<T: Allocator, M: Allocator + Clone, L: Ledger>(
         &mut self,
         alloc: M,
@@ -129,9 +130,10 @@ impl<A: Allocator> CodedSymbols<'_, A> {
         size: SymbolSize,
         steps: &mut Steps<L>,
     ) -> Result<Bitmap<M>>
-        ensures { let d = input_view input.now in
+        ensures value { let d = input_view input.now in
             let meant = coded_aggregate d new.now size.width size.height (coded_view self.old) in
             Gives (λ symbol. (symbol, coded_view self.new)) result meant }
+        ensures causes { CodedAggregatesHaveCauses }
     {
         let count = instance_count(self.number(IntegerProcedure::Iaai, steps)?)?;
         let params = aggregate_params(input, new, count);

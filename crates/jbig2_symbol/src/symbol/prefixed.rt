@@ -4,6 +4,7 @@ ghost use Rattle.jbig2_base.specs.Answer.{Answers, Gives};
 ghost use Rattle.jbig2_text.specs.TextCoding.{by_prefix_codes};
 ghost use Rattle.jbig2_text.specs.inner.TextViews as texts;
 ghost use Rattle.jbig2_symbol.specs.Aggregates.{by_instances, plain_id, prefixed_aggregate, prefixed_instances};
+ghost use Rattle.jbig2_symbol.specs.ClassCauses.{CollectiveClassesHaveCauses};
 ghost use Rattle.jbig2_symbol.specs.SymbolBitmaps.{collective_bitmap};
 ghost use Rattle.jbig2_symbol.specs.SymbolCoding.{collective_class, prefix_codes_begun};
 ghost use Rattle.jbig2_symbol.specs.SymbolReading.{by_table, contexts_view};
@@ -152,7 +153,7 @@ impl<'a, A: Allocator> PrefixedSymbols<'a, A> {
     }
 
     /// Puts the symbols of a class, cut out of its collective bitmap, behind the others.
-    #[tactic(auto, unfolding(crate::specs::SymbolCoding::collective_class))]
+    #[tactic(auto, using(crate::proofs::ClassCauses::collective_class_causes), unfolding(crate::specs::SymbolCoding::collective_class))]
     fn read_collective_class<M: Allocator + Clone, T: Allocator, L: Ledger>(
         &mut self,
         alloc: M,
@@ -163,10 +164,11 @@ impl<'a, A: Allocator> PrefixedSymbols<'a, A> {
         steps: &mut Steps<L>,
     ) -> Result<()>
         requires { length bitmaps.old.items ≤ input.now.header.now.num_new_symbols }
-        ensures { let d = input_view input.now in
+        ensures value { let d = input_view input.now in
             let before = bitmaps.old.items in
             let class = collective_class d height empty before (prefixed_view self.old) in
             Gives (λ _. (bitmaps.new.items, prefixed_view self.new)) result (behind before class) }
+        ensures causes { CollectiveClassesHaveCauses }
     {
         let room = input.header.num_new_symbols - bitmaps.len() as u32;
         let widths = read_widths(alloc.clone()?, input, room, self, steps)?;

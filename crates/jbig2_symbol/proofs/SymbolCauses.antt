@@ -1,0 +1,142 @@
+-- Which rule is broken where a symbol of a dictionary is refused.
+use Rattle.std.proofs.Common.{◌≡◌, ◌⊎◌, inl, inr, ℕ, ◌==◌, ◌<◌, nat_lt, Bool, true, false, ◌||◌, max, List, length, Option, Result, Ok, Err, ℤ, refl}
+use Rattle.std.proofs.lemmas.Bool.{eqb-false, eqb-true, ltb-true}
+use Rattle.std.specs.Prelude.{IfErr}
+use Rattle.jbig2_base.specs.Answer.{◌>>=◌}
+use Rattle.jbig2_base.specs.Bits.{Place, bits_left, bits_on}
+use Rattle.jbig2_base.specs.Causes.{BreaksSides, InSteps, IsOf}
+use Rattle.jbig2_base.specs.Fields.{end_of_bytes}
+use Rattle.jbig2_base.specs.Grid.{Grid}
+use Rattle.jbig2_base.specs.declared.error.DecodeError.{DecodeError}
+use Rattle.jbig2_base.specs.declared.error.DecodeError.TheVariants as errors
+use Rattle.jbig2_base.specs.declared.error.OverflowError.TheVariants.{BitmapDimension}
+use Rattle.jbig2_base.specs.declared.error.SymbolError.TheVariants.{OutOfRange}
+use Rattle.jbig2_coder.specs.PrefixCode.{Member, decoded_value}
+use Rattle.jbig2_coder.specs.declared.integer_procedures.IntegerProcedure.TheVariants.{Iaai}
+use Rattle.jbig2_text.specs.Causes.{Behind}
+use Rattle.jbig2_text.specs.CausesOfRegions.{RefusesValue, coder_causes, prefix_causes}
+use Rattle.jbig2_text.specs.CausesOfText.{BreaksInstances, HaveCauses, ReadingCauses}
+use Rattle.jbig2_text.specs.Refining.{Refining}
+use Rattle.jbig2_text.specs.Text.{Readings, TextParams, some_symbol, symbol_of, text_instances, text_region}
+use Rattle.jbig2_text.specs.TextCoding.{Prefixed, by_coder, by_prefix_codes}
+use Rattle.jbig2_symbol.specs.Aggregates.{aggregate_params, by_instances, coded_aggregate, id_bits, instance_count, plain_id, prefixed_aggregate, prefixed_at, put_together, refined_alone}
+use Rattle.jbig2_symbol.specs.Causes.{BreaksCount}
+use Rattle.jbig2_symbol.specs.SymbolBitmaps.{coded_symbol, fits_symbol}
+use Rattle.jbig2_symbol.specs.SymbolCauses.{AloneReading, BreaksByInstances, BreaksCodedAggregate, BreaksCodedBitmap, BreaksPrefixedAggregate, BreaksRefined, CodedAggregatesHaveCauses, CodedBitmapsHaveCauses, CodedSymbolsHaveCauses, LacksId, PrefixedAggregatesHaveCauses, alone_by_bits, alone_by_coder}
+use Rattle.jbig2_symbol.specs.SymbolCoding.{coded_bitmap}
+use Rattle.jbig2_symbol.specs.SymbolReading.{SymbolState, by_procedure, by_table}
+use Rattle.jbig2_text.proofs.CausesOfInstances.{cause-some}
+use Rattle.jbig2_text.proofs.CausesOfRegions.{all_instance_causes, by_coder-causes, by_prefix_codes-causes}
+use Rattle.jbig2_text.proofs.Causes.{cause-bits}
+use Rattle.jbig2_region.proofs.Told.{cause-if, cause-more, cause-of}
+use Rattle.jbig2_base.proofs.Causes.{cause-next, cause-refused}
+use Rattle.jbig2_symbol.proofs.ReadingCauses.{instance_count_causes}
+
+-- ---- coded by itself
+either-of : (x y : Bool) → (x || y) ≡ true → (x ≡ true) ⊎ (y ≡ true)
+either-of true y is = inl refl
+either-of false y is = inr is
+
+pub too-long : (width height : ℕ) → (nat_lt 65535 width || nat_lt 65535 height) ≡ true → (65535 < width) ⊎ (65535 < height)
+too-long width height over = on (either-of (nat_lt 65535 width) (nat_lt 65535 height) over)
+  where
+    on : (nat_lt 65535 width ≡ true) ⊎ (nat_lt 65535 height ≡ true) → (65535 < width) ⊎ (65535 < height)
+    on (inl wide) = inl (ltb-true 65535 width wide)
+    on (inr high) = inr (ltb-true 65535 height high)
+
+pub sides-cause : (width height : ℕ) → IfErr (fits_symbol width height) (BreaksSides width height)
+sides-cause width height =
+    let large : Bool = nat_lt 65535 width || nat_lt 65535 height in
+    cause-refused (BreaksSides width height) large (errors.Overflow BitmapDimension) (too-long width height)
+
+pub coded_symbol_causes : CodedSymbolsHaveCauses
+unfolding coded_symbol
+coded_symbol_causes h width height s = cause-next (BreaksSides width height) (fits_symbol width height) _ (sides-cause width height) (λ fits fits_is. tt)
+
+-- ---- refined, or put together
+cause-alone : {S : Type 0} (c : ReadingCauses S) (r : Readings S) (a : HaveCauses r c) (P : DecodeError → Type 0) (symbols : List Grid) (id : ℤ) (width height : ℕ) (f : Refining) (s : S)
+    → ((e : DecodeError) → BreaksRefined c r symbols id width height s e → P e) → IfErr (refined_alone r symbols id width height f s) P
+unfolding refined_alone
+cause-alone c r a P symbols id width height f s why =
+    cause-next P (r.x_delta s) _ (cause-more (c.x_delta s) P (r.x_delta s) (a.x_delta s) (λ e no. why e (inl no))) (λ rdx x_is.
+    cause-next P (r.y_delta rdx.1) _ (cause-more (c.y_delta rdx.1) P (r.y_delta rdx.1) (a.y_delta rdx.1) (λ e no. why e (inr (rdx, x_is, inl no)))) (λ rdy y_is.
+    cause-next P (some_symbol (symbol_of symbols id)) _ (cause-of P _ (some_symbol (symbol_of symbols id)) (cause-some P symbols id (symbol_of symbols id) refl (λ none. why (errors.Symbol OutOfRange) (inr (rdx, x_is, inr (rdy, y_is, inl none)))))) (λ from from_is.
+    cause-next P (fits_symbol width height) _ (cause-more (BreaksSides width height) P (fits_symbol width height) (sides-cause width height) (λ e no. why e (inr (rdx, x_is, inr (rdy, y_is, inr (inl no)))))) (λ fits fits_is.
+    cause-more (c.refined rdy.1) P (r.refined _ width height f rdy.1) (a.refined _ width height f rdy.1) (λ e no. why e (inr (rdx, x_is, inr (rdy, y_is, inr (inr no)))))))))
+
+cause-together : {S : Type 0} (c : ReadingCauses S) (r : Readings S) (a : HaveCauses r c) (P : DecodeError → Type 0) (p : TextParams) (width height : ℕ) (f : Refining) (s : S)
+    → ((e : DecodeError) → BreaksSides width height e ⊎ BreaksInstances c r p f s e → P e) → IfErr (put_together r p width height f s) P
+unfolding put_together text_region
+cause-together c r a P p width height f s why =
+    cause-next P (fits_symbol width height) _ (cause-more (BreaksSides width height) P (fits_symbol width height) (sides-cause width height) (λ e no. why e (inl no))) (λ fits fits_is.
+    cause-next P (text_instances r p f s) _ (cause-more (BreaksInstances c r p f s) P (text_instances r p f s) (all_instance_causes c r a p f s) (λ e no. why e (inr no))) (λ found found_is. tt))
+
+cause-instances : {S : Type 0} (c : ReadingCauses S) (r : Readings S) (a : HaveCauses r c) (alone : AloneReading S) (law : (s : S) → IfErr (alone.id s) (alone.refuses s)) (p : TextParams) (width height : ℕ) (f : Refining) (s : S)
+    → IfErr (by_instances r alone.id p width height f s) (BreaksByInstances c r alone p width height f s)
+cause-instances c r a alone law p width height f s =
+    let P : DecodeError → Type 0 = BreaksByInstances c r alone p width height f s in
+    cause-if P (p.count == 1) _ (put_together r p width height f s)
+    (λ one. cause-next P (alone.id s) _ (cause-more (alone.refuses s) P (alone.id s) (law s) (λ e no. inl (eqb-true p.count 1 one, inl no))) (λ id id_is.
+    cause-alone c r a P p.symbols id.0 width height f id.1 (λ e no. inl (eqb-true p.count 1 one, inr (id, id_is, no)))))
+    (λ other. cause-together c r a P p width height f s (λ e no. inr (eqb-false p.count 1 other, no)))
+
+-- what is broken in a step, or behind it
+cause-count : {S : Type 0} (P : DecodeError → Type 0) (reading : Result (Option ℤ × S) DecodeError)
+    → ((e : DecodeError) → reading ≡ Err e → P e) → ((e : DecodeError) → Behind reading (λ value. BreaksCount value.0 e) → P e) → IfErr (instance_count reading) P
+unfolding instance_count
+cause-count {S} P reading refused broken = cause-more (λ e. InSteps reading (IsOf reading e) (λ value. BreaksCount value.0 e)) P (instance_count reading) (instance_count_causes reading) (λ e no. on reading (λ is. refused e is) (λ x. broken e x) no)
+  where
+    on : {e : DecodeError} (answer : Result (Option ℤ × S) DecodeError) → (answer ≡ Err e → P e) → (Behind answer (λ value. BreaksCount value.0 e) → P e) → InSteps answer (IsOf answer e) (λ value. BreaksCount value.0 e) → P e
+    on (Ok value) refused broken why = broken (value, refl, why)
+    on (Err f) refused broken why = refused why
+
+pub coded_aggregate_causes : CodedAggregatesHaveCauses
+unfolding coded_aggregate
+coded_aggregate_causes d new width height s =
+    let P : DecodeError → Type 0 = BreaksCodedAggregate d new width height s in
+    cause-next P (instance_count (by_procedure Iaai s)) _ (cause-count P (by_procedure Iaai s) (λ e never. absurd cc) (λ e no. inl no)) (λ count count_is.
+    let p = aggregate_params d new count.0 in
+    let refining = count.1.contexts.refining in
+    cause-next P (by_instances by_coder alone_by_coder.id p width height refining count.1.coding) _
+    (cause-more (BreaksByInstances coder_causes by_coder alone_by_coder p width height refining count.1.coding) P (by_instances by_coder alone_by_coder.id p width height refining count.1.coding)
+    (cause-instances coder_causes by_coder by_coder-causes alone_by_coder (λ c. tt) p width height refining count.1.coding) (λ e no. inr (count, count_is, no))) (λ symbol symbol_is. tt))
+
+refused-value : (table : List Member) (s : SymbolState Place) (e : DecodeError) → by_table table s ≡ Err e → RefusesValue table (bits_left s.coding) e
+refused-value table s e = on (decoded_value table (bits_left s.coding)).answer
+  where
+    behind : SymbolState Place
+    behind = record s { coding = bits_on (decoded_value table (bits_left s.coding)).taken s.coding }
+
+    on : (answer : Result (Option ℤ) DecodeError) → (answer >>= λ value. (let x : Result (Option ℤ × SymbolState Place) DecodeError = Ok (value, behind) in x)) ≡ Err e → answer ≡ Err e
+    on (Ok value) is = absurd cc
+    on (Err f) is = cc
+
+cause-plain_id : (bits : ℕ) (s : Prefixed) → IfErr (plain_id bits s) (LacksId bits s)
+cause-plain_id bits s =
+    let P : DecodeError → Type 0 = LacksId bits s in
+    cause-next P _ _ (cause-next P _ _ (cause-bits P end_of_bytes bits s.place (λ short. short)) (λ n is. tt)) (λ n is. tt)
+
+pub prefixed_aggregate_causes : PrefixedAggregatesHaveCauses
+unfolding prefixed_aggregate
+prefixed_aggregate_causes d new width height s =
+    let P : DecodeError → Type 0 = BreaksPrefixedAggregate d new width height s in
+    let reading = by_table d.tables.counts s in
+    let bits : ℕ = max 1 (id_bits d.header (length d.symbols)) in
+    let alone : AloneReading Prefixed = alone_by_bits bits in
+    cause-next P (instance_count reading) _ (cause-count P reading (λ e is. inl (refused-value d.tables.counts s e is)) (λ e no. inr (inl no))) (λ count count_is.
+    let p = aggregate_params d new count.0 in
+    let refining = count.1.contexts.refining in
+    let at = prefixed_at d count.1.coding in
+    cause-next P (by_instances by_prefix_codes alone.id p width height refining at) _
+    (cause-more (BreaksByInstances prefix_causes by_prefix_codes alone p width height refining at) P (by_instances by_prefix_codes alone.id p width height refining at)
+    (cause-instances prefix_causes by_prefix_codes by_prefix_codes-causes alone (cause-plain_id bits) p width height refining at) (λ e no. inr (inr (count, count_is, no)))) (λ symbol symbol_is. tt))
+
+pub coded_bitmap_causes : CodedBitmapsHaveCauses
+unfolding coded_bitmap
+coded_bitmap_causes d new width height s =
+    let P : DecodeError → Type 0 = BreaksCodedBitmap d new width height s in
+    let aggregate = coded_aggregate d new width height s in
+    let alone = coded_symbol d.header width height s in
+    cause-if P d.header.flags.use_refagg aggregate alone
+    (λ is. cause-more (BreaksCodedAggregate d new width height s) P aggregate (coded_aggregate_causes d new width height s) (λ e no. inl (is, no)))
+    (λ is. cause-more (BreaksSides width height) P alone (coded_symbol_causes d.header width height s) (λ e no. inr (is, no)))
