@@ -1,6 +1,6 @@
 -- How a dictionary's input, and what its reading has come to, are seen by the definitions (our own rule).
 use Rattle.std.specs.Borrow.{Bor}
-use Rattle.std.specs.Prelude.{ℕ, ◌++◌, List, map, Option, option_map, Result, Ok}
+use Rattle.std.specs.Prelude.{ℕ, ◌+◌, ◌≡◌, ◌++◌, List, map, Option, Some, None, option_map, Result, Ok}
 use Rattle.jbig2_base.specs.Answer.{◌>>=◌}
 use Rattle.jbig2_base.specs.declared.error.DecodeError.{DecodeError}
 use Rattle.jbig2_base.specs.Bits.{Place}
@@ -17,6 +17,7 @@ use Rattle.jbig2_symbol.specs.declared.symbol.dictionary.SymbolDictionary.{Symbo
 use Rattle.jbig2_symbol.specs.declared.symbol.input.SymbolInput.{SymbolInput as Input}
 use Rattle.jbig2_symbol.specs.declared.symbol.input.SymbolTables.{SymbolTables as Tables}
 use Rattle.jbig2_symbol.specs.declared.symbol.prefixed.PrefixedSymbols.{PrefixedSymbols}
+use Rattle.jbig2_symbol.specs.declared.symbol.widths.RunningWidths.{RunningWidths}
 
 abbrev pub tables_view : {T : Type 0} → Tables T → SymbolTables
 tables_view t = record {
@@ -61,3 +62,13 @@ kept_view kept = option_map (λ contexts. contexts_view contexts.now) kept
 -- what a dictionary exports and keeps
 abbrev pub dictionary_view : {A : Type 0} → SymbolDictionary A → Symbols
 dictionary_view d = record { exported = d.exported_symbols.items; kept = option_map (λ contexts. contexts_view contexts) d.retained_contexts }
+
+-- a width that was read, and the total with it
+abbrev pub with_total : ℕ → Option ℕ → Option (ℕ × ℕ)
+with_total total next = option_map (λ width. (width, total)) next
+
+-- widths gone on by what was read: by a width, which is the last then, or not at all
+abbrev pub Moved : RunningWidths → Option ℕ → RunningWidths → Type 0
+Moved before None after = after ≡ before
+Moved before (Some width) after =
+    (before.left ≡ after.left + 1) × (after.width ≡ width) × (after.total ≡ before.total + width)

@@ -7,7 +7,7 @@ ghost use Rattle.jbig2_symbol.specs.inner.SymbolViews.{behind, class_behind, inp
 use crate::symbol::aggregates::SymbolSize;
 use crate::symbol::input::SymbolInput;
 use crate::symbol::readings::{ReadClasses, ReadSymbols};
-use crate::symbol::widths::{read_width, size_moved};
+use crate::symbol::widths::{RunningWidths, size_moved};
 use jbig2_base::bitmap::Bitmap;
 use jbig2_base::bitmap::steps::Steps;
 use jbig2_base::error::{DecodeError, Result, SymbolError};
@@ -55,27 +55,19 @@ fn read_symbols<R: ReadSymbols, A: Allocator + Clone, T: Allocator, L: Ledger>(
         let meant = behind before (symbols_from R.readings d room height 0 0 before state) in
         Gives (λ _. (bitmaps.new.items, R.state readings.new)) result meant }
 {
-    let mut width = 0;
-    let mut total = 0;
-    let mut left = room;
+    let mut widths = RunningWidths::new(room);
     loop {
-        let (next, all) = match read_width(input, left, width, total, readings, steps) {
-            Ok(Some(next)) => next,
+        let width = match widths.read_next(input, readings, steps) {
+            Ok(Some(width)) => width,
             Ok(None) => return Ok(()),
             Err(error) => return Err(error),
         };
-        let size = SymbolSize {
-            width: next,
-            height,
-        };
+        let size = SymbolSize { width, height };
         let symbol = match readings.symbol_bitmap(alloc.clone()?, input, bitmaps, size, steps) {
             Ok(symbol) => symbol,
             Err(error) => return Err(error),
         };
         bitmaps.push(symbol)?;
-        width = next;
-        total = all;
-        left -= 1;
     }
 }
 

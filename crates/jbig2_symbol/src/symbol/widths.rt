@@ -1,9 +1,9 @@
 //! The widths of the symbols of a height class (T.88, 6.5.5, step 4 c).
-ghost use Rattle.std.specs.Prelude.{◌≡◌, ◌+◌, ◌<◌, pos, ◌+ℤ◌, IfOk, IfSome, sum};
+ghost use Rattle.std.specs.Prelude.{◌≡◌, ◌+◌, pos, ◌+ℤ◌, IfOk, sum};
 ghost use Rattle.jbig2_base.specs.Answer.{Answers, Gives};
 ghost use Rattle.jbig2_symbol.specs.Causes.{WidthsHaveCauses};
 ghost use Rattle.jbig2_symbol.specs.HeightClasses.{next_width, size_in_word, width_by, widths_from};
-ghost use Rattle.jbig2_symbol.specs.inner.SymbolViews.{input_view};
+ghost use Rattle.jbig2_symbol.specs.inner.SymbolViews.{Moved, input_view, with_total};
 
 use crate::symbol::input::SymbolInput;
 use crate::symbol::readings::ReadSymbols;
@@ -43,49 +43,69 @@ fn size_sum(size: u32, other: u32) -> Result<u32>
     }
 }
 
-/// The next width and the total with it, by those before it and by the difference; `None` ends the
-/// class, in which at most `room` more symbols may come.
-fn width_by(
-    room: u32,
+/// How far the widths of a height class are read.
+#[derive(Drop)]
+pub struct RunningWidths {
+    /// How many more symbols may come.
+    left: u32,
+    /// The last width (SYMWIDTH).
     width: u32,
+    /// All widths so far together (TOTWIDTH).
     total: u32,
-    difference: Option<i32>,
-) -> Result<Option<(u32, u32)>>
-    ensures value { Answers (λ next. next) result (width_by room width total difference) }
-    ensures some { IfOk result (λ next. IfSome next (λ _. 0 < room)) }
-    ensures exact { IfOk result (λ next. IfSome next (λ pair. pair.1 ≡ total + pair.0)) }
-{
-    let Some(difference) = difference else {
-        return Ok(None);
-    };
-    if room == 0 {
-        return Err(DecodeError::Symbol(SymbolError::TooManySymbols));
-    }
-    let next = size_moved(width, difference)?;
-    let all = size_sum(total, next)?;
-    Ok(Some((next, all)))
 }
 
-/// Reads the next width of a class, and the total with it, behind these; `None` ends the class, in
-/// which at most `room` more symbols may come.
-#[tactic(auto, using(crate::proofs::ReadingCauses::widths_causes), unfolding(crate::specs::HeightClasses::next_width))]
-pub fn read_width<R: ReadSymbols, A: Allocator, T: Allocator, L: Ledger>(
-    input: &SymbolInput<'_, A, T>,
-    room: u32,
-    width: u32,
-    total: u32,
-    readings: &mut R,
-    steps: &mut Steps<L>,
-) -> Result<Option<(u32, u32)>>
-    ensures value { let d = input_view input.now in
-        let meant = next_width R.readings d room width total (R.state readings.old) in
-        Answers (λ next. (next, R.state readings.new)) result meant }
-    ensures some { IfOk result (λ next. IfSome next (λ _. 0 < room)) }
-    ensures causes { WidthsHaveCauses R.readings }
-    ensures exact { IfOk result (λ next. IfSome next (λ pair. pair.1 ≡ total + pair.0)) }
-{
-    let difference = readings.width_difference(input, steps)?;
-    width_by(room, width, total, difference)
+impl RunningWidths {
+    /// Begins a class of at most `room` symbols.
+    pub fn new(room: u32) -> Self
+        ensures { (result.left ≡ room) × (result.width ≡ 0) × (result.total ≡ 0) }
+    {
+        RunningWidths {
+            left: room,
+            width: 0,
+            total: 0,
+        }
+    }
+
+    /// Goes on by a difference, and answers the width there; `None` ends the class.
+    fn move_by(&mut self, difference: Option<i32>) -> Result<Option<u32>>
+        ensures value { let before = self.old in
+            let meant = width_by before.left before.width before.total difference in
+            Answers (λ next. with_total self.new.total next) result meant }
+        ensures moved { IfOk result (λ next. Moved self.old next self.new) }
+    {
+        let Some(difference) = difference else {
+            return Ok(None);
+        };
+        if self.left == 0 {
+            return Err(DecodeError::Symbol(SymbolError::TooManySymbols));
+        }
+        let width = size_moved(self.width, difference)?;
+        self.total = size_sum(self.total, width)?;
+        self.width = width;
+        self.left -= 1;
+        Ok(Some(width))
+    }
+
+    /// Reads the next width of the class; `None` ends it.
+    #[tactic(auto, using(crate::proofs::ReadingCauses::widths_causes), unfolding(crate::specs::HeightClasses::next_width))]
+    pub fn read_next<R: ReadSymbols, A: Allocator, T: Allocator, L: Ledger>(
+        &mut self,
+        input: &SymbolInput<'_, A, T>,
+        readings: &mut R,
+        steps: &mut Steps<L>,
+    ) -> Result<Option<u32>>
+        ensures value { let d = input_view input.now in
+            let before = self.old in
+            let state = R.state readings.old in
+            let meant = next_width R.readings d before.left before.width before.total state in
+            let total = self.new.total in
+            Answers (λ next. (with_total total next, R.state readings.new)) result meant }
+        ensures causes { WidthsHaveCauses R.readings }
+        ensures moved { IfOk result (λ next. Moved self.old next self.new) }
+    {
+        let difference = readings.width_difference(input, steps)?;
+        self.move_by(difference)
+    }
 }
 
 /// Reads the widths of a class up to out of band; at most `room` of them may come.
@@ -101,18 +121,18 @@ pub fn read_widths<R: ReadSymbols, M: Allocator, A: Allocator, T: Allocator, L: 
         Gives (λ widths. (widths.each.items, R.state readings.new)) result meant }
 {
     let mut each = Vec::new(alloc);
-    let mut width = 0;
-    let mut total = 0;
-    let mut left = room;
+    let mut widths = RunningWidths::new(room);
     loop {
-        let (next, all) = match read_width(input, left, width, total, readings, steps) {
-            Ok(Some(next)) => next,
-            Ok(None) => return Ok(ClassWidths { each, total }),
+        let width = match widths.read_next(input, readings, steps) {
+            Ok(Some(width)) => width,
+            Ok(None) => {
+                return Ok(ClassWidths {
+                    each,
+                    total: widths.total,
+                })
+            }
             Err(error) => return Err(error),
         };
-        each.push(next)?;
-        width = next;
-        total = all;
-        left -= 1;
+        each.push(width)?;
     }
 }

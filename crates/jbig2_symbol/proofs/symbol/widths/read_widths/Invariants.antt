@@ -4,13 +4,13 @@ use Rattle.jbig2_symbol.specs.HeightClasses.{widths_from}
 use Rattle.jbig2_symbol.specs.inner.SymbolViews.{behind, input_view}
 use Rattle.jbig2_symbol.proofs.symbol.widths.read_widths.Given as goal
 
-abbrev pub invariant-loop-next : goal.invariant-loop-next
-invariant-loop-next g l =
+abbrev pub invariant-loop-width : goal.invariant-loop-width
+invariant-loop-width g l =
     let r = g.R.ReadSymbols in
     record {
-      total : l.total ≡ sum l.each.items;
-      reads : behind l.each.items (widths_from r.readings (input_view l.input) l.left l.width l.total (r.state l.readings)) ≡ widths_from r.readings (input_view l.input) l.room 0 0 (r.state l.fn.readings);
+      total : l.widths.total ≡ sum l.each.items;
+      reads : behind l.each.items (widths_from r.readings (input_view l.input) l.widths.left l.widths.width l.widths.total (r.state l.readings)) ≡ widths_from r.readings (input_view l.input) l.room 0 0 (r.state l.fn.readings);
     }
 
-abbrev pub decreases-loop-next : goal.decreases-loop-next
-decreases-loop-next g l = l.left
+abbrev pub decreases-loop-width : goal.decreases-loop-width
+decreases-loop-width g l = l.widths.left
