@@ -4,6 +4,7 @@ use Rattle.std.proofs.lemmas.Bool.{eqb-true}
 use Rattle.std.proofs.lemmas.List.{append_assoc}
 use Rattle.std.specs.Map.Iter.{TakesFirst}
 use Rattle.std.specs.Prelude.{slice_get, option_map}
+use Rattle.jbig2_base.proofs.Causes.{went}
 use Rattle.jbig2_base.specs.Answer.{◌>>=◌, refuse_if}
 use Rattle.jbig2_base.specs.PageInfo.{initial_page_of, initial_page_with, first_information, information_at, is_page_information, height_of, stripes_height}
 use Rattle.jbig2_base.specs.Segment.{SegmentView}
@@ -31,16 +32,6 @@ taken_at {X} {Y} f xs i j h e =
     let on : suc i ≡ j = omega arith in
     subst P on (from_front f xs i h)
 
--- Where two steps answered, the first did, and so did the second at its answer.
-record Answered {A B : Type 0} (r : Result A DecodeError) (next : A → Result B DecodeError) (y : B) : Type 0 where
-  first : A
-  was : r ≡ Ok first
-  then : next first ≡ Ok y
-
-answered : {A B : Type 0} (r : Result A DecodeError) (next : A → Result B DecodeError) (y : B) → (r >>= next) ≡ Ok y → Answered r next y
-answered (Ok x) next y h = record { first = x; was = refl; then = h }
-answered (Err e) next y h = absurd (cc)
-
 -- The first page information among the segments of one association has that association.
 information-of : (b : Bool) (n : ℕ) (q p : SegmentView) (others : Result SegmentView DecodeError) → q.header.page_association ≡ n → (others ≡ Ok p → p.header.page_association ≡ n) → cond b (Ok q) others ≡ Ok p → p.header.page_association ≡ n
 information-of true n q p others e later h =
@@ -62,19 +53,19 @@ initial_page_of_first ps first = information_at first.bytes >>= λ info. height_
 
 number-of_initial_page : (number : ℕ) (info : PageInformation) (height : ℕ) (initial_page : InitialPage) → initial_page_with number info height ≡ Ok initial_page → initial_page.number ≡ number
 number-of_initial_page number info height initial_page h =
-    let some = answered (refuse_if (info.width == 0 || height == 0) (Format EmptyPage)) (λ some. refuse_if (nat_lt 65535 info.width || nat_lt 65535 height) (Overflow BitmapDimension) >>= λ fits. Ok (record { number = number; width = info.width; height = height; default_pixel = info.flags.default_pixel })) initial_page h in
-    let fits = answered (refuse_if (nat_lt 65535 info.width || nat_lt 65535 height) (Overflow BitmapDimension)) (λ fits. Ok (record { number = number; width = info.width; height = height; default_pixel = info.flags.default_pixel })) initial_page some.then in
+    let some = went (refuse_if (info.width == 0 || height == 0) (Format EmptyPage)) (λ some. refuse_if (nat_lt 65535 info.width || nat_lt 65535 height) (Overflow BitmapDimension) >>= λ fits. Ok (record { number = number; width = info.width; height = height; default_pixel = info.flags.default_pixel })) initial_page h in
+    let fits = went (refuse_if (nat_lt 65535 info.width || nat_lt 65535 height) (Overflow BitmapDimension)) (λ fits. Ok (record { number = number; width = info.width; height = height; default_pixel = info.flags.default_pixel })) initial_page some.2 in
     let sized : InitialPage = record { number = number; width = info.width; height = height; default_pixel = info.flags.default_pixel } in
-    let same : sized ≡ initial_page = let told = fits.then in cc in
+    let same : sized ≡ initial_page = let told = fits.2 in cc in
     ap (λ (t : InitialPage). t.number) (sym same)
 
 number-of_page : (n : ℕ) (ps : List SegmentView) (initial_page : InitialPage) → initial_page_of (of_page n ps) ≡ Ok initial_page → initial_page.number ≡ n
 unfolding initial_page_of
 number-of_page n ps initial_page h =
-    let first = answered (first_information (of_page n ps)) (initial_page_of_first (of_page n ps)) initial_page h in
-    let info = answered (information_at first.first.bytes) (λ info. height_of info.0.height (stripes_height (of_page n ps)) >>= λ height. initial_page_with first.first.header.page_association info.0 height) initial_page first.then in
-    let height = answered (height_of info.first.0.height (stripes_height (of_page n ps))) (λ height. initial_page_with first.first.header.page_association info.first.0 height) initial_page info.then in
-    number-of_initial_page first.first.header.page_association info.first.0 height.first initial_page height.then ∙ first-of_page n ps first.first first.was
+    let first = went (first_information (of_page n ps)) (initial_page_of_first (of_page n ps)) initial_page h in
+    let info = went (information_at first.0.bytes) (λ info. height_of info.0.height (stripes_height (of_page n ps)) >>= λ height. initial_page_with first.0.header.page_association info.0 height) initial_page first.2 in
+    let height = went (height_of info.0.0.height (stripes_height (of_page n ps))) (λ height. initial_page_with first.0.header.page_association info.0.0 height) initial_page info.2 in
+    number-of_initial_page first.0.header.page_association info.0.0 height.0 initial_page height.2 ∙ first-of_page n ps first.0 first.1
 
 -- A filed page is made of the segments of its own number.
 record IsOwn (ps : List SegmentView) (page : PageInFile) : Type 0 where
@@ -85,13 +76,13 @@ own-filed : (strict : Bool) (ps : List SegmentView) (n : ℕ) (page : PageInFile
 unfolding filed_from
 own-filed strict ps n page h =
     let own : List SegmentView = of_page n ps in
-    let ended = answered (refuse_if (strict && not (ends_of own == 1)) (Format InvalidEndOfPage)) (λ ended. initial_page_of own >>= λ initial_page. Ok (record { initial_page = initial_page; segments = own })) page h in
-    let initial_page = answered (initial_page_of own) (λ initial_page. Ok (record { initial_page = initial_page; segments = own })) page ended.then in
-    let made : PageInFile = record { initial_page = initial_page.first; segments = own } in
-    let same : made ≡ page = let told = initial_page.then in cc in
-    let number : n ≡ initial_page.first.number = sym (number-of_page n ps initial_page.first initial_page.was) in
-    let Own : ℕ → Type 0 = λ m. (initial_page_of (of_page m ps) ≡ Ok initial_page.first) × (own ≡ of_page m ps) in
-    let told = subst Own number (initial_page.was, refl) in
+    let ended = went (refuse_if (strict && not (ends_of own == 1)) (Format InvalidEndOfPage)) (λ ended. initial_page_of own >>= λ initial_page. Ok (record { initial_page = initial_page; segments = own })) page h in
+    let initial_page = went (initial_page_of own) (λ initial_page. Ok (record { initial_page = initial_page; segments = own })) page ended.2 in
+    let made : PageInFile = record { initial_page = initial_page.0; segments = own } in
+    let same : made ≡ page = let told = initial_page.2 in cc in
+    let number : n ≡ initial_page.0.number = sym (number-of_page n ps initial_page.0 initial_page.1) in
+    let Own : ℕ → Type 0 = λ m. (initial_page_of (of_page m ps) ≡ Ok initial_page.0) × (own ≡ of_page m ps) in
+    let told = subst Own number (initial_page.1, refl) in
     let is : IsOwn ps made = record { initial_page = told.0; segments = told.1 } in
     subst (λ (p : PageInFile). IsOwn ps p) same is
 
@@ -105,10 +96,10 @@ own-each strict ps [] pages h =
     subst (AllOwn ps) same tt
 own-each strict ps (n ∷ ns) pages h =
     let each = filed_each strict (map (λ m. of_page m ps) ns) in
-    let page = answered (filed_from strict (of_page n ps)) (λ page. each >>= λ others. Ok (page ∷ others)) pages h in
-    let others = answered each (λ others. Ok (page.first ∷ others)) pages page.then in
-    let same : page.first ∷ others.first ≡ pages = let told = others.then in cc in
-    subst (AllOwn ps) same (own-filed strict ps n page.first page.was, own-each strict ps ns others.first others.was)
+    let page = went (filed_from strict (of_page n ps)) (λ page. each >>= λ others. Ok (page ∷ others)) pages h in
+    let others = went each (λ others. Ok (page.0 ∷ others)) pages page.2 in
+    let same : page.0 ∷ others.0 ≡ pages = let told = others.2 in cc in
+    subst (AllOwn ps) same (own-filed strict ps n page.0 page.1, own-each strict ps ns others.0 others.1)
 
 own-at : (ps : List SegmentView) (pages : List PageInFile) (index : ℕ) (page : PageInFile) → AllOwn ps pages → slice_get pages index ≡ Some page → IsOwn ps page
 own-at ps [] index page all h = absurd (cc)
@@ -134,12 +125,12 @@ record Filled (strict : Bool) (ps : List SegmentView) (book : ReadFile) : Type 0
 
 filled : (strict : Bool) (file : FileHeader × List SegmentView) (book : ReadFile) → book_with strict file ≡ Ok book → Filled strict file.1 book
 filled strict file book h =
-    let known = answered (associated strict file.1) (λ known. counted_with strict file) book h in
-    let counted = answered (refuse_if (strict && miscounts file.0.number_of_pages (length (by_pages file.1))) (Format PageCountMismatch)) (λ counted. pages_with strict file) book known.then in
-    let pages = answered (filed_each strict (by_pages file.1)) (λ pages. Ok (record { strict = strict; pages = pages; globals = named_from strict (of_page 0 file.1) no_names })) book counted.then in
-    let made : ReadFile = record { strict = strict; pages = pages.first; globals = named_from strict (of_page 0 file.1) no_names } in
-    let same : made ≡ book = let told = pages.then in cc in
-    let own : AllOwn file.1 pages.first = own-each strict file.1 (numbers_after [] file.1) pages.first pages.was in
+    let known = went (associated strict file.1) (λ known. counted_with strict file) book h in
+    let counted = went (refuse_if (strict && miscounts file.0.number_of_pages (length (by_pages file.1))) (Format PageCountMismatch)) (λ counted. pages_with strict file) book known.2 in
+    let pages = went (filed_each strict (by_pages file.1)) (λ pages. Ok (record { strict = strict; pages = pages; globals = named_from strict (of_page 0 file.1) no_names })) book counted.2 in
+    let made : ReadFile = record { strict = strict; pages = pages.0; globals = named_from strict (of_page 0 file.1) no_names } in
+    let same : made ≡ book = let told = pages.2 in cc in
+    let own : AllOwn file.1 pages.0 = own-each strict file.1 (numbers_after [] file.1) pages.0 pages.1 in
     let is : Filled strict file.1 made = record { own = own; strictly = refl; shared = refl } in
     subst (λ (b : ReadFile). Filled strict file.1 b) same is
 

@@ -10,7 +10,7 @@ use Rattle.jbig2_base.specs.Fields.{number_at}
 use Rattle.jbig2_base.specs.Segment.{SegmentView}
 use Rattle.jbig2_base.specs.declared.error.DecodeError.{DecodeError}
 use Rattle.jbig2_base.specs.declared.error.DecodeError.TheVariants.{Unsupported}
-use Rattle.jbig2_coder.specs.CustomTable.{custom_table}
+use Rattle.jbig2_coder.specs.CustomTable.{answer_of, custom_table}
 use Rattle.jbig2_coder.specs.PrefixCode.{Member}
 use Rattle.jbig2_halftone.specs.PatternHeader.{pattern_header_at}
 use Rattle.jbig2_halftone.specs.Patterns.{Patterns, patterns_decoded}
@@ -44,7 +44,7 @@ with_patterns strict p own = do
 
 -- A custom table (7.4.13, B.2).
 abbrev pub code_at : List ℕ → Result (List Member) DecodeError
-code_at bytes = (custom_table (start_of bytes)).answer
+code_at bytes = answer_of (custom_table (start_of bytes))
 
 unfoldable pub with_code : SegmentView → Names → Result Names DecodeError
 with_code p own = do

@@ -11,10 +11,15 @@ use Rattle.jbig2_base.specs.Causes.{BreaksFileHeader, FileHeadersHaveCauses}
 use Rattle.jbig2_base.specs.declared.error.DecodeError.{DecodeError}
 
 -- an error of the first step, or of the next one
-pub cause-next : {A B : Type 0} (P : DecodeError → Type 0) (r : Result A DecodeError) (next : A → Result B DecodeError)
+pub cause-next : {A B E : Type 0} (P : E → Type 0) (r : Result A E) (next : A → Result B E)
     → IfErr r P → ((x : A) → r ≡ Ok x → IfErr (next x) P) → IfErr (r >>= next) P
 cause-next P (Ok x) next first rest = rest x refl
 cause-next P (Err e) next first rest = first
+
+-- a step that went well, and the next one
+pub went : {A B E : Type 0} (r : Result A E) (next : A → Result B E) (y : B) → (r >>= next) ≡ Ok y → (x : A) × (r ≡ Ok x) × (next x ≡ Ok y)
+went (Ok x) next y is = (x, refl, is)
+went {A} {B} {E} (Err e) next y is = absurd (let never : ◌≡◌ {A = Result B E} (Err e) (Ok y) = is in cc)
 
 pub cause-refused : (P : DecodeError → Type 0) (b : Bool) (e : DecodeError) → (b ≡ true → P e) → IfErr (refuse_if b e) P
 cause-refused P true e why = why refl
@@ -30,7 +35,7 @@ cause-number P w bytes why =
     let Q : Result (ℕ × List ℕ) DecodeError → Type 0 = λ r. IfErr r P in
     cond_both (ltb (length bytes) (byte_len w)) (Err end_of_bytes) (Ok (from_be_bytes w (take (byte_len w) bytes), drop (byte_len w) bytes)) Q (λ short. why (ltb-true (length bytes) (byte_len w) short)) (λ there. tt)
 
-same-ok : {A : Type 0} (x y : A) → ◌≡◌ {A = Result A DecodeError} (Ok x) (Ok y) → x ≡ y
+pub same-ok : {A E : Type 0} (x y : A) → ◌≡◌ {A = Result A E} (Ok x) (Ok y) → x ≡ y
 same-ok x y e = cc
 
 never-err : {A : Type 0} (x : A) (e : DecodeError) → ◌≡◌ {A = Result A DecodeError} (Err e) (Ok x) → ⊥

@@ -1,9 +1,12 @@
 -- Law: no definition of prefix codes and tables answers an error that bytes cannot bring about.
 use Rattle.std.proofs.Common.{ℕ, zero, suc, Bool, true, false, cond, List, [], ◌∷◌, Option, Some, None, Result, Ok, Err, ℤ, pos, negsuc}
-use Rattle.jbig2_base.specs.Bits.{Place, bits_left, bits_next}
+use Rattle.std.specs.Prelude.{IfErr}
+use Rattle.jbig2_base.specs.Answer.{◌>>=◌, some_or}
+use Rattle.jbig2_base.specs.Bits.{Place, bits_left, bits_next, bits_on}
 use Rattle.jbig2_base.specs.declared.error.DecodeError.{DecodeError}
 use Rattle.jbig2_base.proofs.Answered.{Answered, IsAnswered, answered-if, answered-some}
-use Rattle.jbig2_coder.specs.CustomTable.{Step, all_lines, behind, custom_header, custom_line, custom_lines, custom_table, end_lines, field, go_on, last_line, next_low, range_lines, range_lines_in, with_next}
+use Rattle.jbig2_base.proofs.Causes.{cause-next}
+use Rattle.jbig2_coder.specs.CustomTable.{Step, answer_of, custom_header, custom_line, custom_lines, custom_table, end_lines, field, last_line, left_at, next_low, range_lines, range_lines_in}
 use Rattle.jbig2_coder.specs.PrefixCode.{CodeReading, Member, decoded_value, found_or, in_word, no_oob, read_code, refused, some_value, table_of, value_after, value_by, valued}
 use Rattle.jbig2_coder.specs.TableSelection.{next_custom}
 use Rattle.jbig2_coder.specs.declared.huffman_table.custom.Header.{Header}
@@ -58,53 +61,55 @@ answered-next_custom [] = tt
 answered-next_custom (table ∷ others) = tt
 
 -- ---- custom tables
-answered-go : {A B : Type 0} (r : Result A DecodeError) (p : Place) (next : A → Place → Step B) → Answered r → ((x : A) (q : Place) → Answered (next x q).answer) → Answered (go_on r p next).answer
-answered-go (Ok x) p next first rest = rest x p
-answered-go (Err e) p next first rest = first
+-- a step that answers well, or refuses with such an error
+abbrev AnsweredAt : {A : Type 0} → Step A → Type 0
+AnsweredAt s = IfErr s (λ refusal. IsAnswered refusal.0)
 
-answered-field : (e : DecodeError) (count : ℕ) (p : Place) → IsAnswered e → Answered (field e count p).answer
-answered-field e count p is = answered-some e (bits_next count (bits_left p)) is
+answered-on : {A B : Type 0} (s : Step A) (next : A × Place → Step B) → AnsweredAt s → ((x : A × Place) → AnsweredAt (next x)) → AnsweredAt (s >>= next)
+answered-on s next first rest = cause-next (λ refusal. IsAnswered refusal.0) s next first (λ x is. rest x)
 
-answered-custom_header : (p : Place) → Answered (custom_header p).answer
-answered-custom_header p = search (answered-go, answered-field) depth 10
+answered-left : {A : Type 0} (p : Place) (r : Result A DecodeError) → Answered r → AnsweredAt (left_at p r)
+answered-left p (Ok x) is = tt
+answered-left p (Err e) is = is
+
+answered-field : (e : DecodeError) (count : ℕ) (p : Place) → IsAnswered e → AnsweredAt (field e count p)
+answered-field e count p is = answered-left (bits_on count p) (some_or e (bits_next count (bits_left p))) (answered-some e (bits_next count (bits_left p)) is)
+
+answered-custom_header : (p : Place) → AnsweredAt (custom_header p)
+answered-custom_header p = search (answered-on, answered-field) depth 10
 
 answered-low : (low : ℤ) (range : ℕ) → Answered (next_low low range)
 answered-low low range = search (answered-if, answered-word)
 
-answered-with : (x : TableLine) (low : Result ℤ DecodeError) → Answered low → Answered (with_next x low)
-answered-with x (Ok low) is = tt
-answered-with x (Err e) is = is
+answered-line : (h : Header) (low : ℤ) (p : Place) → AnsweredAt (custom_line h low p)
+answered-line h low p = search (answered-on, answered-field, answered-left, answered-low) depth 10
 
-answered-line : (h : Header) (low : ℤ) (p : Place) → Answered (custom_line h low p).answer
-answered-line h low p = search (answered-go, answered-field, answered-with, answered-low) depth 10
-
-answered-all : (before : List TableLine) (r : Result (List TableLine) DecodeError) → Answered r → Answered (all_lines before r)
-answered-all before (Ok xs) is = tt
-answered-all before (Err e) is = is
-
-answered-behind : (before : List TableLine) (s : Step (List TableLine)) → Answered s.answer → Answered (behind before s).answer
-answered-behind before s is = answered-all before s.answer is
-
-answered-one : {A : Type 0} (b : Bool) (r s : Step A) → Answered r.answer → Answered s.answer → Answered (cond b r s).answer
+answered-one : {A : Type 0} (b : Bool) (r s : Step A) → AnsweredAt r → AnsweredAt s → AnsweredAt (cond b r s)
 answered-one true r s at_true at_false = at_true
 answered-one false r s at_true at_false = at_false
 
-answered-lines : (n : ℕ) (h : Header) (low : ℤ) (p : Place) → Answered (range_lines_in n h low p).answer
+answered-lines : (n : ℕ) (h : Header) (low : ℤ) (p : Place) → AnsweredAt (range_lines_in n h low p)
 answered-lines zero h low p = tt
 answered-lines (suc n) h low p =
-    let others : (next : ℤ) (q : Place) → Answered (range_lines_in n h next q).answer = λ next q. answered-lines n h next q in
-    search (answered-one, answered-go, answered-line, answered-all, others) depth 8
+    let others : (next : ℤ) (q : Place) → AnsweredAt (range_lines_in n h next q) = λ next q. answered-lines n h next q in
+    search (answered-one, answered-on, answered-line, others) depth 8
 
-answered-last : (h : Header) (p : Place) → Answered (last_line h p).answer
-answered-last h p = search (answered-one, answered-go, answered-field) depth 8
+answered-last : (h : Header) (p : Place) → AnsweredAt (last_line h p)
+answered-last h p = search (answered-one, answered-on, answered-field) depth 8
 
-answered-end : (h : Header) (p : Place) → Answered (end_lines h p).answer
-answered-end h p = search (answered-go, answered-field, answered-all, answered-last) depth 8
+answered-end : (h : Header) (p : Place) → AnsweredAt (end_lines h p)
+answered-end h p = search (answered-on, answered-field, answered-last) depth 8
 
-answered-custom_lines : (p : Place) → Answered (custom_lines p).answer
+answered-custom_lines : (p : Place) → AnsweredAt (custom_lines p)
 unfolding custom_lines range_lines
-answered-custom_lines p = search (answered-go, answered-custom_header, answered-lines, answered-all, answered-end) depth 8
+answered-custom_lines p = search (answered-on, answered-custom_header, answered-lines, answered-end) depth 8
 
-pub answered-custom : (p : Place) → Answered (custom_table p).answer
+answered-answer : {A : Type 0} (s : Step A) → AnsweredAt s → Answered (answer_of s)
+answered-answer (Ok x) is = tt
+answered-answer (Err e) is = is
+
+pub answered-custom : (p : Place) → Answered (answer_of (custom_table p))
 unfolding custom_table
-answered-custom p = search (answered-go, answered-custom_lines, answered-table_of)
+answered-custom p =
+    let all : AnsweredAt (custom_table p) = search (answered-on, answered-left, answered-custom_lines, answered-table_of) in
+    answered-answer (custom_table p) all

@@ -1,21 +1,20 @@
 -- Which rule the bits break where a read by a prefix code refuses them.
-use Rattle.std.proofs.Common.{◌≡◌, ℕ, zero, suc, ◌+◌, ◌-◌, ◌*◌, ◌/◌, ◌^◌, ◌<◌, ◌≤◌, ltb, eqb, Bool, true, false, not, ◌&&◌, ◌||◌, cond, List, [], ◌∷◌, length, take, drop, slice_index_or, All, Any, Option, Some, None, Result, Ok, Err, ℤ, pos, negsuc, refl, sym, ◌∙◌, ap, subst, arith, pow-suc, ⊎_elim, inl, inr, ltb-true, ltb-false}
+use Rattle.std.proofs.Common.{◌≡◌, ℕ, zero, suc, ◌+◌, ◌-◌, ◌*◌, ◌/◌, ◌^◌, ◌<◌, ◌≤◌, ltb, eqb, Bool, true, false, not, ◌&&◌, ◌||◌, List, [], ◌∷◌, length, take, drop, slice_index_or, All, Any, Option, Some, None, Result, Ok, Err, ℤ, pos, negsuc, refl, sym, ◌∙◌, ap, subst, arith, pow-suc, ⊎_elim, inl, inr, ltb-true, ltb-false}
 use Rattle.std.specs.Prelude.{IfErr}
 use Rattle.std.specs.List.{flat_map}
 use Rattle.std.proofs.Math.Nat.{div-div-eq-div-mul}
 use Rattle.std.proofs.lemmas.Nat.{pow-add}
 use Rattle.std.proofs.lemmas.Bool.{cases_eq, cases_lt, cond_both, false≢true, eqb-true, eq-eqb, and_from, and_parts, or_cases, or_parts, not-true, not-false, lt-ltb}
 use Rattle.jbig2_base.specs.Bits.{Place, bits_left, bits_next, byte_bits, number_after}
-use Rattle.jbig2_base.specs.Search.{least, place_from}
+use Rattle.jbig2_base.specs.Search.{least}
 use Rattle.jbig2_base.specs.declared.error.DecodeError.{DecodeError}
 use Rattle.jbig2_base.specs.declared.error.DecodeError.TheVariants.{Parse, Huffman}
 use Rattle.jbig2_base.specs.declared.error.ParseError.TheVariants.{UnexpectedEof}
 use Rattle.jbig2_base.specs.declared.error.HuffmanError.TheVariants.{InvalidCode, UnexpectedOob}
 use Rattle.jbig2_base.specs.inner.BitLists.{AreBits}
 use Rattle.jbig2_base.proofs.BitFieldLemmas.{bits-drop, byte-bits}
-use Rattle.jbig2_coder.specs.Causes.{AreCrowded, Begins, BreaksCode, BreaksNumber, BreaksRange, BreaksSelection, BreaksTable, BreaksValue, CodesHaveCauses, EndWithin, LeavesWord, NoneOf, NumbersHaveCauses, SelectionsHaveCauses, TablesHaveCauses, ValuesHaveCauses}
+use Rattle.jbig2_coder.specs.Causes.{AreCrowded, Begins, BreaksCode, BreaksNumber, BreaksRange, BreaksTable, BreaksValue, CodesHaveCauses, LeavesWord, NoneOf, NumbersHaveCauses, SelectionsHaveCauses, TablesHaveCauses, ValuesHaveCauses}
 use Rattle.jbig2_coder.specs.PrefixCode.{CodeReading, Member, begins_longer, decoded_value, ended, found_or, front_number, in_word, is_crowded, is_decided, is_found, line_of, longest, moved, no_oob, prefix_code, read_code, refused, some_value, table_of, value_after, value_by, valued, weight}
-use Rattle.jbig2_coder.specs.TableSelection.{next_custom}
 use Rattle.jbig2_coder.specs.declared.huffman_table.line.TableLine.{TableLine}
 
 -- ---- lists

@@ -3,6 +3,7 @@ use Rattle.std.proofs.Common.{◌<◌, List, [], length, get_or, Ok, Err, Result
 use Rattle.std.specs.Prelude.{All, IfOk}
 use Rattle.std.proofs.lemmas.Bool.{cond_both}
 use Rattle.std.proofs.lemmas.List.{length-map, get_or-map}
+use Rattle.jbig2_base.specs.Answer.{◌>>=◌}
 use Rattle.jbig2_base.specs.Bits.{Place}
 use Rattle.jbig2_base.specs.declared.error.DecodeError.{DecodeError}
 use Rattle.jbig2_base.specs.declared.error.DecodeError.TheVariants.{Huffman}
@@ -10,7 +11,7 @@ use Rattle.jbig2_base.specs.declared.error.HuffmanError.TheVariants.{InvalidCode
 use Rattle.jbig2_coder.specs.declared.huffman_table.line.TableLine.{TableLine}
 use Rattle.jbig2_coder.specs.PrefixCode.{Member, IsFree, is_crowded, longest, prefix_code, table_of}
 use Rattle.jbig2_coder.specs.Tables.{standard_codes, standard_tables, uniform}
-use Rattle.jbig2_coder.specs.CustomTable.{custom_lines, custom_table, ◌>>-◌}
+use Rattle.jbig2_coder.specs.CustomTable.{Step, custom_lines, custom_table, left_at}
 use Rattle.jbig2_coder.specs.FreeTables.{TablesAreFree}
 use Rattle.jbig2_coder.specs.inner.PrefixLevels.{groups}
 use Rattle.jbig2_coder.proofs.PrefixFree.{free-codes}
@@ -26,13 +27,17 @@ free-listed lines =
     let P : Result (List Member) DecodeError → Type 0 = λ r. IfOk r IsFree in
     cond_both (is_crowded lines) (Err (Huffman InvalidCode)) (Ok (prefix_code lines)) P (λ crowded. tt) (λ fits. free-code lines)
 
-free-behind : (lines : Result (List TableLine) DecodeError) (p : Place) → IfOk ((record { answer = lines; place = p }) >>- λ xs q. record { answer = table_of xs; place = q }).answer IsFree
-free-behind (Ok lines) p = free-listed lines
-free-behind (Err e) p = tt
+free-left : (p : Place) (r : Result (List Member) DecodeError) → IfOk r IsFree → IfOk (left_at p r) (λ table. IsFree table.0)
+free-left p (Ok table) is = is
+free-left p (Err e) is = tt
 
-free-custom : (p : Place) → IfOk (custom_table p).answer IsFree
+free-behind : (lines : Step (List TableLine)) → IfOk (lines >>= λ xs. left_at xs.1 (table_of xs.0)) (λ table. IsFree table.0)
+free-behind (Ok lines) = free-left lines.1 (table_of lines.0) (free-listed lines.0)
+free-behind (Err e) = tt
+
+free-custom : (p : Place) → IfOk (custom_table p) (λ table. IsFree table.0)
 unfolding custom_table
-free-custom p = free-behind (custom_lines p).answer (custom_lines p).place
+free-custom p = free-behind (custom_lines p)
 
 free-standard : All IsFree standard_codes
 unfolding standard_codes

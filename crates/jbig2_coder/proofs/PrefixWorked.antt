@@ -1,6 +1,7 @@
 -- Readings that the definitions compute.
 use Rattle.std.specs.Prelude.{◌≡◌, [], ◌∷◌, Some, Ok, Err, pos, negsuc, refl, replicate}
-use Rattle.jbig2_base.specs.declared.error.DecodeError.TheVariants.{Huffman}
+use Rattle.jbig2_base.specs.declared.error.DecodeError.TheVariants.{Huffman, Parse}
+use Rattle.jbig2_base.specs.declared.error.ParseError.TheVariants.{UnexpectedEof}
 use Rattle.jbig2_base.specs.declared.error.HuffmanError.TheVariants.{InvalidCode}
 use Rattle.jbig2_base.specs.Bits.{start_of, bits_left, bits_on}
 use Rattle.jbig2_coder.specs.CustomTable.{custom_table, custom_lines, range_lines}
@@ -44,19 +45,23 @@ unfolding decoded_value read_code least prefix_code shorter
 upper_past = refl
 
 -- row R5.2
-custom_of_zeros : custom_table (start_of (0 ∷ 0 ∷ 0 ∷ 0 ∷ 0 ∷ 0 ∷ 0 ∷ 0 ∷ 0 ∷ 192 ∷ [])) ≡ record { answer = Ok (prefix_code (lower 1 (negsuc 0) ∷ upper 1 (pos 0) ∷ [])); place = record { bytes = 192 ∷ []; bit = 2 } }
+custom_of_zeros : custom_table (start_of (0 ∷ 0 ∷ 0 ∷ 0 ∷ 0 ∷ 0 ∷ 0 ∷ 0 ∷ 0 ∷ 192 ∷ [])) ≡ Ok (prefix_code (lower 1 (negsuc 0) ∷ upper 1 (pos 0) ∷ []), record { bytes = 192 ∷ []; bit = 2 })
 unfolding custom_table custom_lines range_lines bits_left bits_on is_crowded weight prefix_code shorter
 custom_of_zeros = refl
 
 -- row R5.3
-range_of_32 : (custom_table (start_of (112 ∷ 0 ∷ 0 ∷ 0 ∷ 0 ∷ 0 ∷ 0 ∷ 0 ∷ 1 ∷ 16 ∷ 0 ∷ []))).answer ≡ Err (Huffman InvalidCode)
+range_of_32 : custom_table (start_of (112 ∷ 0 ∷ 0 ∷ 0 ∷ 0 ∷ 0 ∷ 0 ∷ 0 ∷ 1 ∷ 16 ∷ 0 ∷ [])) ≡ Err (Huffman InvalidCode, record { bytes = 0 ∷ []; bit = 1 })
 unfolding custom_table custom_lines range_lines bits_left bits_on is_crowded weight prefix_code shorter
 range_of_32 = refl
 
-range_of_31 : (custom_table (start_of (112 ∷ 0 ∷ 0 ∷ 0 ∷ 0 ∷ 0 ∷ 0 ∷ 0 ∷ 1 ∷ 15 ∷ 128 ∷ []))).answer ≡ Err (Huffman InvalidCode)
+range_of_31 : custom_table (start_of (112 ∷ 0 ∷ 0 ∷ 0 ∷ 0 ∷ 0 ∷ 0 ∷ 0 ∷ 1 ∷ 15 ∷ 128 ∷ [])) ≡ Err (Huffman InvalidCode, record { bytes = 128 ∷ []; bit = 1 })
 unfolding custom_table custom_lines range_lines bits_left bits_on is_crowded weight prefix_code shorter
 range_of_31 = refl
 
-range_of_30 : (custom_lines (start_of (112 ∷ 0 ∷ 0 ∷ 0 ∷ 0 ∷ 0 ∷ 0 ∷ 0 ∷ 1 ∷ 143 ∷ 32 ∷ []))).answer ≡ Ok (line 1 30 (pos 0) ∷ lower 0 (negsuc 0) ∷ upper 1 (pos 1) ∷ [])
+range_of_30 : custom_lines (start_of (112 ∷ 0 ∷ 0 ∷ 0 ∷ 0 ∷ 0 ∷ 0 ∷ 0 ∷ 1 ∷ 143 ∷ 32 ∷ [])) ≡ Ok (line 1 30 (pos 0) ∷ lower 0 (negsuc 0) ∷ upper 1 (pos 1) ∷ [], record { bytes = 32 ∷ []; bit = 3 })
 unfolding custom_lines range_lines bits_left bits_on
 range_of_30 = refl
+
+header_cut_off : custom_table (start_of (112 ∷ 0 ∷ [])) ≡ Err (Parse UnexpectedEof, start_of [])
+unfolding custom_table custom_lines range_lines bits_left bits_on
+header_cut_off = refl

@@ -101,20 +101,22 @@ BreaksSomeLine (suc n) h low p =
 abbrev pub BreaksEndLines : Header → Place → Type 0
 BreaksEndLines h p = length (bits_left p) < (if h.has_out_of_band then 3 else 2) * h.prefix_bits
 
--- The lines that the header asks for.
+-- The lines that the header asks for: one of the ranges, or behind all of them.
 abbrev pub BreaksLines : Header → Place → Type 0
-BreaksLines h p = BreaksSomeLine (length (bits_left p) + 1) h h.minimum p ⊎ BreaksEndLines h (range_lines h p).place
+BreaksLines h p =
+    BreaksSomeLine (length (bits_left p) + 1) h h.minimum p
+    ⊎ ((ranges : List TableLine × Place) × (range_lines h p ≡ Ok ranges) × BreaksEndLines h ranges.1)
 
 -- The header is 72 bits. Behind it a line of the table is at fault; or all are there, and the codes do not fit.
 abbrev pub BreaksCustom : Place → DecodeError → Type 0
 BreaksCustom p (Parse UnexpectedEof) = length (bits_left p) < 72
 BreaksCustom p (Huffman InvalidCode) =
-    ((h : Header) × ((custom_header p).answer ≡ Ok h) × BreaksLines h (custom_header p).place)
-    ⊎ ((lines : List TableLine) × ((custom_lines p).answer ≡ Ok lines) × AreCrowded lines)
+    ((header : Header × Place) × (custom_header p ≡ Ok header) × BreaksLines header.0 header.1)
+    ⊎ ((lines : List TableLine × Place) × (custom_lines p ≡ Ok lines) × AreCrowded lines.0)
 BreaksCustom p _ = ⊥
 
 abbrev pub CustomTablesHaveCauses : Type 0
-CustomTablesHaveCauses = (p : Place) → IfErr (custom_table p).answer (BreaksCustom p)
+CustomTablesHaveCauses = (p : Place) → IfErr (custom_table p) (λ refusal. BreaksCustom p refusal.0)
 
 -- ---- the choice of tables
 -- A custom table is asked for, and none is left.

@@ -1,10 +1,10 @@
 -- The lines that a custom table's bits spell (T.88, B.2). Each step reads on from a place.
-use Rattle.std.specs.Prelude.{ℕ, zero, suc, ◌+◌, ◌/◌, ◌%◌, ◌^◌, ◌<◌, ◌≤◌, nat_lt, ◌==◌, List, [], ◌∷◌, ◌++◌, length, Option, Some, None, Result, Ok, Err, if◌then◌else◌, ℤ, pos, ◌+ℤ◌, ◌-ℤ◌, int_lt}
+use Rattle.std.specs.Prelude.{◌≡◌, ◌⊎◌, ℕ, zero, suc, ◌+◌, ◌/◌, ◌%◌, ◌^◌, ◌<◌, ◌≤◌, nat_lt, ◌==◌, List, [], ◌∷◌, ◌++◌, length, Result, Ok, Err, if◌then◌else◌, ℤ, pos, ◌+ℤ◌, ◌-ℤ◌, int_lt}
 use Rattle.std.specs.Int.{w32, cast_signed}
-use Rattle.jbig2_base.specs.Answer.{some_or}
+use Rattle.jbig2_base.specs.Answer.{◌>>=◌, some_or}
 use Rattle.jbig2_base.specs.Bits.{Place, bits_left, bits_next, bits_on}
 use Rattle.jbig2_base.specs.declared.error.DecodeError.{DecodeError}
-use Rattle.jbig2_base.specs.declared.error.DecodeError.TheVariants.{Parse, Huffman}
+use Rattle.jbig2_base.specs.declared.error.DecodeError.TheVariants.{Parse, Huffman, OutOfMemory}
 use Rattle.jbig2_base.specs.declared.error.ParseError.TheVariants.{UnexpectedEof}
 use Rattle.jbig2_base.specs.declared.error.HuffmanError.TheVariants.{InvalidCode}
 use Rattle.jbig2_coder.specs.declared.huffman_table.line.TableLine.{TableLine}
@@ -12,26 +12,23 @@ use Rattle.jbig2_coder.specs.declared.huffman_table.custom.Header.{Header}
 use Rattle.jbig2_coder.specs.PrefixCode.{Member, table_of, in_word}
 use Rattle.jbig2_coder.specs.Tables.{line, lower, upper, out_of_band}
 
--- what a step answers, and the place behind it
-pub record Step (A : Type 0) : Type 0 where
-  pub answer : Result A DecodeError
-  pub place : Place
+-- What a step answers: a value and the place behind it, or an error and the place where the reader is left.
+abbrev pub Step : Type 0 → Type 0
+Step A = Result (A × Place) (DecodeError × Place)
 
-abbrev pub go_on : {A B : Type 0} → Result A DecodeError → Place → (A → Place → Step B) → Step B
-go_on (Ok x) p next = next x p
-go_on (Err e) p next = record { answer = Err e; place = p }
+-- an answer, and where the reader stands then
+abbrev pub left_at : {A : Type 0} → Place → Result A DecodeError → Step A
+left_at p (Ok x) = Ok (x, p)
+left_at p (Err e) = Err (e, p)
 
-infixl 10 ◌>>-◌
--- the next step, unless the last one refused
-abbrev pub ◌>>-◌ : {A B : Type 0} → Step A → (A → Place → Step B) → Step B
-s >>- next = go_on s.answer s.place next
-
-abbrev pub done : {A : Type 0} → A → Place → Step A
-done x p = record { answer = Ok x; place = p }
+-- the answer alone
+abbrev pub answer_of : {A : Type 0} → Step A → Result A DecodeError
+answer_of (Ok x) = Ok x.0
+answer_of (Err e) = Err e.0
 
 -- the next count bits as a number, or the error
 abbrev pub field : DecodeError → ℕ → Place → Step ℕ
-field e count p = record { answer = some_or e (bits_next count (bits_left p)); place = bits_on count p }
+field e count p = left_at (bits_on count p) (some_or e (bits_next count (bits_left p)))
 
 abbrev pub header : ℕ → ℕ → ℕ → Header
 header flags minimum maximum =
@@ -45,42 +42,34 @@ header flags minimum maximum =
 
 -- the flags and the least and greatest values
 abbrev pub custom_header : Place → Step Header
-custom_header p =
-    field (Parse UnexpectedEof) 8 p >>- λ flags p.
-    field (Parse UnexpectedEof) 32 p >>- λ minimum p.
-    field (Parse UnexpectedEof) 32 p >>- λ maximum p.
-    done (header flags minimum maximum) p
+custom_header p = do
+  flags ← field (Parse UnexpectedEof) 8 p
+  minimum ← field (Parse UnexpectedEof) 32 flags.1
+  maximum ← field (Parse UnexpectedEof) 32 minimum.1
+  Ok (header flags.0 minimum.0 maximum.0, maximum.1)
 
 -- the low value of the next line, refused above signed 32 bits
 abbrev pub next_low : ℤ → ℕ → Result ℤ DecodeError
 next_low low range = if nat_lt range 32 then in_word (low +ℤ pos (2 ^ range)) else Err (Huffman InvalidCode)
 
-abbrev pub with_next : TableLine → Result ℤ DecodeError → Result (TableLine × ℤ) DecodeError
-with_next x (Ok low) = Ok (x, low)
-with_next x (Err e) = Err e
-
 -- a line from its low value on, and the next low value
 abbrev pub custom_line : Header → ℤ → Place → Step (TableLine × ℤ)
-custom_line h low p =
-    field (Huffman InvalidCode) h.prefix_bits p >>- λ len p.
-    field (Huffman InvalidCode) h.range_bits p >>- λ range p.
-    record { answer = with_next (line len range low) (next_low low range); place = p }
+custom_line h low p = do
+  len ← field (Huffman InvalidCode) h.prefix_bits p
+  range ← field (Huffman InvalidCode) h.range_bits len.1
+  next ← left_at range.1 (next_low low range.0)
+  Ok ((line len.0 range.0 low, next.0), next.1)
 
-abbrev pub all_lines : List TableLine → Result (List TableLine) DecodeError → Result (List TableLine) DecodeError
-all_lines before (Ok xs) = Ok (before ++ xs)
-all_lines before (Err e) = Err e
-
--- lines, and then what a step answers
+-- lines, and then those of a step
 abbrev pub behind : List TableLine → Step (List TableLine) → Step (List TableLine)
-behind before s = record { answer = all_lines before s.answer; place = s.place }
+behind before s = s >>= λ lines. Ok (before ++ lines.0, lines.1)
 
 -- The lines while the low value is below the maximum. Each takes two bits at least, so more of them
 -- than bits are left never come.
 abbrev pub range_lines_in : ℕ → Header → ℤ → Place → Step (List TableLine)
-range_lines_in zero h low p = done [] p
+range_lines_in zero h low p = Ok ([], p)
 range_lines_in (suc n) h low p =
-    if int_lt low h.maximum then (custom_line h low p >>- λ x p. behind (x.0 ∷ []) (range_lines_in n h x.1 p))
-    else done [] p
+    if int_lt low h.maximum then (custom_line h low p >>= λ x. behind (x.0.0 ∷ []) (range_lines_in n h x.0.1 x.1)) else Ok ([], p)
 
 unfoldable pub range_lines : Header → Place → Step (List TableLine)
 range_lines h p = range_lines_in (length (bits_left p) + 1) h h.minimum p
@@ -88,25 +77,32 @@ range_lines h p = range_lines_in (length (bits_left p) + 1) h h.minimum p
 -- the out-of-band line, where the flags have one
 abbrev pub last_line : Header → Place → Step (List TableLine)
 last_line h p =
-    if h.has_out_of_band then (field (Huffman InvalidCode) h.prefix_bits p >>- λ len p. done (out_of_band len ∷ []) p)
-    else done [] p
+    if h.has_out_of_band then (field (Huffman InvalidCode) h.prefix_bits p >>= λ len. Ok (out_of_band len.0 ∷ [], len.1))
+    else Ok ([], p)
 
 -- the lower line, the upper line and the out-of-band line
 abbrev pub end_lines : Header → Place → Step (List TableLine)
-end_lines h p =
-    field (Huffman InvalidCode) h.prefix_bits p >>- λ below p.
-    field (Huffman InvalidCode) h.prefix_bits p >>- λ above p.
-    behind (lower below (h.minimum -ℤ pos 1) ∷ upper above h.maximum ∷ []) (last_line h p)
+end_lines h p = do
+  below ← field (Huffman InvalidCode) h.prefix_bits p
+  above ← field (Huffman InvalidCode) h.prefix_bits below.1
+  behind (lower below.0 (h.minimum -ℤ pos 1) ∷ upper above.0 h.maximum ∷ []) (last_line h above.1)
 
 unfoldable pub custom_lines : Place → Step (List TableLine)
-custom_lines p =
-    custom_header p >>- λ h p.
-    range_lines h p >>- λ xs p.
-    behind xs (end_lines h p)
+custom_lines p = do
+  header ← custom_header p
+  ranges ← range_lines header.0 header.1
+  behind ranges.0 (end_lines header.0 ranges.1)
 
 -- A custom table, by its bits.
 unfoldable pub custom_table : Place → Step (List Member)
-custom_table p = custom_lines p >>- λ lines p. record { answer = table_of lines; place = p }
+custom_table p = do
+  lines ← custom_lines p
+  left_at lines.1 (table_of lines.0)
+
+-- What a call answered, and where the reader stands then, is what was meant, unless memory ran out.
+abbrev pub GivesAt : {X Y : Type 0} → (X → Y) → Result X DecodeError → Place → Step Y → Type 0
+GivesAt view (Ok x) p meant = meant ≡ Ok (view x, p)
+GivesAt view (Err e) p meant = (e ≡ OutOfMemory) ⊎ (meant ≡ Err (e, p))
 
 -- a header as its flags can have it
 abbrev pub HasWidths : Header → Type 0

@@ -10,5 +10,5 @@ use Rattle.jbig2_coder.specs.CustomTable.{custom_table}
 pub record TablesAreFree : Type 0 where
   pub listed : (lines : List TableLine) → IfOk (table_of lines) IsFree
   pub uniform : (count code_length : ℕ) → IfOk (table_of (uniform count code_length)) IsFree
-  pub custom : (p : Place) → IfOk (custom_table p).answer IsFree
+  pub custom : (p : Place) → IfOk (custom_table p) (λ table. IsFree table.0)
   pub standard : All IsFree standard_codes

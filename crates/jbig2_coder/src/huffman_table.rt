@@ -1,11 +1,11 @@
 //! Prefix codes and the tables that hold them (T.88, Annex B).
 ghost use Rattle.std.specs.Prelude.{◌≡◌, ◌≤◌, ◌^◌, drop, IfOk, Ok};
-ghost use Rattle.jbig2_base.specs.Answer.{Gives, Leaves};
+ghost use Rattle.jbig2_base.specs.Answer.{Gives};
 ghost use Rattle.jbig2_base.specs.Bits.{bits_left};
 ghost use Rattle.jbig2_coder.specs.PrefixCode.{table_of, read_code, decoded_value, without_oob, AreShort, IsFree, Reads};
 ghost use Rattle.jbig2_coder.specs.FreeTables.{TablesAreFree};
 ghost use Rattle.jbig2_coder.specs.Tables.{uniform};
-ghost use Rattle.jbig2_coder.specs.CustomTable.{custom_table};
+ghost use Rattle.jbig2_coder.specs.CustomTable.{custom_table, GivesAt};
 ghost use Rattle.jbig2_coder.specs.Causes.{CodesHaveCauses, CustomTablesHaveCauses, NumbersHaveCauses, TablesHaveCauses};
 
 mod custom;
@@ -97,8 +97,7 @@ impl<A: Allocator + Clone> HuffmanTable<A> {
     /// leaves signed 32 bits, and codes that do not fit are an invalid code.
     #[tactic(auto, using(crate::proofs::CustomCauses::custom_causes))]
     pub fn read_custom(alloc: A, reader: &mut Reader<'_>) -> Result<HuffmanTable<A>>
-        ensures table { Gives (λ t. t) result (custom_table reader.old).answer }
-        ensures place { Leaves result reader.new (custom_table reader.old).place }
+        ensures table { GivesAt (λ t. t) result reader.new (custom_table reader.old) }
         ensures causes { CustomTablesHaveCauses }
     {
         let lines = read_lines(alloc.clone()?, reader)?;

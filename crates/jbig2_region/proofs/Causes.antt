@@ -12,7 +12,7 @@ use Rattle.jbig2_base.specs.declared.bitmap.operator.CombinationOperator.{Combin
 use Rattle.jbig2_base.specs.declared.error.DecodeError.{DecodeError}
 use Rattle.jbig2_base.specs.declared.error.DecodeError.TheVariants as errors
 use Rattle.jbig2_base.specs.declared.error.RegionError.TheVariants.{InvalidCombinationOperator, InvalidDimension}
-use Rattle.jbig2_base.proofs.Causes.{cause-next, cause-number, cause-refused, number-there}
+use Rattle.jbig2_base.proofs.Causes.{cause-next, cause-number, cause-refused, number-there, same-ok, went}
 use Rattle.jbig2_region.specs.Causes.{BreaksRegionInfo, BreaksRows, RegionInfosHaveCauses, RowsHaveCauses}
 use Rattle.jbig2_region.specs.GenericHeader.{rows_at}
 use Rattle.jbig2_region.specs.RegionInfo.{region_info_at}
@@ -41,14 +41,6 @@ pub value-next : (w : Width) (k : ℕ) (bytes rest : List ℕ) (x : ℕ × List 
 value-next w k bytes rest x at is =
     let there = number-there w rest x is in
     ap (λ (l : List ℕ). from_be_bytes w (take (byte_len w) l)) at.same ∙ ap (λ (y : ℕ × List ℕ). y.0) there.1
-
--- a step that went well, and the next one
-pub went : {A B : Type 0} (r : Result A DecodeError) (next : A → Result B DecodeError) (y : B) → (r >>= next) ≡ Ok y → (x : A) × (r ≡ Ok x) × (next x ≡ Ok y)
-went (Ok x) next y is = (x, refl, is)
-went {A} {B} (Err e) next y is = absurd (let never : ◌≡◌ {A = Result B DecodeError} (Err e) (Ok y) = is in cc)
-
-pub same-ok : {A : Type 0} (x y : A) → ◌≡◌ {A = Result A DecodeError} (Ok x) (Ok y) → x ≡ y
-same-ok x y e = cc
 
 -- ---- region information
 operator-cause : (P : DecodeError → Type 0) (n : ℕ) → (4 < n → P (errors.Region InvalidCombinationOperator)) → IfErr (operator_of n) P

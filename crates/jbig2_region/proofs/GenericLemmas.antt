@@ -52,9 +52,6 @@ contexts-decoded h before after coded e = e ∙ sym (cond-false h.mmr before (ge
 pub whole-slice : {X : Type 0} (n : ℕ) (xs ys : List X) → length xs ≡ n → take n (xs ++ ys) ≡ xs
 whole-slice n xs ys all = subst (λ (k : ℕ). take k (xs ++ ys) ≡ xs) all (take-append_seam xs ys)
 
-pub ok-inner : {X : Type 0} (x y : X) → ◌≡◌ {A = Result X DecodeError} (Ok x) (Ok y) → x ≡ y
-ok-inner x y e = cc
-
 -- ---- steps
 pub counts-decoded : (h : GenericHeader) (before : Grid) (first : Coder) (fresh : List Context) (old new : Counts) → before ≡ blank h.region_info.width h.region_info.height false → first.bytes ≡ h.bytes → first.registers ≡ initial_registers h.bytes → fresh ≡ fresh_contexts (context_bits h.template)
     → CountsCoded h.extended h.template h.adaptive_template_pixels (generic_coding h) before.width before.height first.bytes (no_pixels first.registers fresh) old new

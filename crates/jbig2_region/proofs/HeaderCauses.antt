@@ -11,7 +11,7 @@ use Rattle.jbig2_base.specs.declared.error.DecodeError.{DecodeError}
 use Rattle.jbig2_base.specs.declared.error.DecodeError.TheVariants as errors
 use Rattle.jbig2_base.specs.declared.error.OverflowError.TheVariants.{BitmapDimension, ReferenceOffset}
 use Rattle.jbig2_base.specs.declared.error.RegionError.TheVariants.{InvalidDimension}
-use Rattle.jbig2_base.proofs.Causes.{cause-next, cause-number, cause-refused, number-there}
+use Rattle.jbig2_base.proofs.Causes.{cause-next, cause-number, cause-refused, number-there, same-ok, went}
 use Rattle.jbig2_region.specs.Causes.{BreaksGeneric, BreaksGenericHeader, BreaksOffset, BreaksRefinementHeader, GenericHeadersHaveCauses, GenericRegionsHaveCauses, OffsetsHaveCauses, RefinedRegionsHaveCauses, RefinementHeadersHaveCauses, header_length, pixels_by}
 use Rattle.jbig2_base.specs.Grid.{Grid}
 use Rattle.jbig2_mmr.specs.T6.{mmr_rows}
@@ -24,7 +24,7 @@ use Rattle.jbig2_region.specs.RefinementTemplates.{refinement_pixel_count, refin
 use Rattle.jbig2_region.specs.RegionInfo.{placed, region_info_at}
 use Rattle.jbig2_region.specs.Templates.{adaptive_pixel_count, adaptive_pixels_at, template_of}
 use Rattle.jbig2_region.specs.declared.template.RefinementTemplate.TheVariants as refinements
-use Rattle.jbig2_region.proofs.Causes.{At, at-next, info-cause, info-there, rows-cause, same-ok, value-next, went}
+use Rattle.jbig2_region.proofs.Causes.{At, at-next, info-cause, info-there, rows-cause, value-next}
 use Rattle.jbig2_region.proofs.PixelCauses.{cause-pixels, cause-refinement_pixels, pixels-there}
 
 -- a number that stands behind a place

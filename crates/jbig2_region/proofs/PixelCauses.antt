@@ -9,14 +9,14 @@ use Rattle.jbig2_base.specs.Fields.{end_of_bytes, number_at, signed_at}
 use Rattle.jbig2_base.specs.declared.error.DecodeError.{DecodeError}
 use Rattle.jbig2_base.specs.declared.error.DecodeError.TheVariants as errors
 use Rattle.jbig2_base.specs.declared.error.TemplateError.TheVariants.{InvalidAtPixel}
-use Rattle.jbig2_base.proofs.Causes.{cause-next, cause-number, cause-refused}
+use Rattle.jbig2_base.proofs.Causes.{cause-next, cause-number, cause-refused, same-ok, went}
 use Rattle.jbig2_region.specs.Causes.{BreaksPixels, BreaksRefinementPixels, IsLate, IsLateIn, RefinementPixelsHaveCauses, TemplatePixelsHaveCauses}
 use Rattle.jbig2_region.specs.RefinementTemplates.{refinement_pixel_count, refinement_pixels_at}
 use Rattle.jbig2_region.specs.Templates.{adaptive_pixel_at, adaptive_pixel_count, adaptive_pixels_at, free_pixel_at, is_earlier}
 use Rattle.jbig2_region.specs.declared.template.AdaptiveTemplatePixel.{AdaptiveTemplatePixel}
 use Rattle.jbig2_region.specs.declared.template.RefinementTemplate.{RefinementTemplate}
 use Rattle.jbig2_region.specs.declared.template.RefinementTemplate.TheVariants as refinements
-use Rattle.jbig2_region.proofs.Causes.{At, at-next, at-start, same-ok, value-next, went}
+use Rattle.jbig2_region.proofs.Causes.{At, at-next, at-start, value-next}
 
 -- ---- one pixel
 at-place : (j k : ℕ) (bytes rest : List ℕ) → j ≡ k → At j bytes rest → At k bytes rest

@@ -20,7 +20,8 @@ use Rattle.jbig2_coder.specs.Coder.{Coder, Context, initial_registers}
 use Rattle.jbig2_base.specs.Answer.{◌>>=◌, refuse_if}
 use Rattle.jbig2_base.specs.declared.error.DecodeError.{DecodeError}
 use Rattle.jbig2_region.proofs.ContextLemmas.{number_of-lt}
-use Rattle.jbig2_region.proofs.GenericLemmas.{fresh-decoded, ok-inner}
+use Rattle.jbig2_base.proofs.Causes.{same-ok}
+use Rattle.jbig2_region.proofs.GenericLemmas.{fresh-decoded}
 use Rattle.jbig2_region.specs.declared.template.AdaptiveTemplatePixel.{AdaptiveTemplatePixel}
 
 pub number-step : (r : Reference) (x y : ℕ) (pixels : List AdaptiveTemplatePixel) (bits : List Bool) (k : ℕ) (p : AdaptiveTemplatePixel) (n b : ℕ) → k < length pixels → n ≡ number_of (map (reference_pixel r x y) (drop (k + 1) pixels) ++ bits) → b ≡ bit_number (reference_pixel r x y (get_or pixels k p)) → 2 * n + b ≡ number_of (map (reference_pixel r x y) (drop k pixels) ++ bits)
@@ -173,7 +174,7 @@ offset-value h from d dx dy is_dx is_dy near =
     passed : (p q : Bool) (e f : DecodeError) (v d : ℤ × ℤ) → (refuse_if p e >>= λ _. refuse_if q f >>= λ _. Ok v) ≡ Ok d → v ≡ d
     passed true q e f v d h = absurd (let never : ◌≡◌ {A = Result (ℤ × ℤ) DecodeError} (Err e) (Ok d) = h in cc)
     passed false true e f v d h = absurd (let never : ◌≡◌ {A = Result (ℤ × ℤ) DecodeError} (Err f) (Ok d) = h in cc)
-    passed false false e f v d h = ok-inner v d h
+    passed false false e f v d h = same-ok v d h
 
 -- ---- steps
 pub refined-steps : (h : RefinementHeader) (from : PlacedRegion) (r : Reference) (before : Grid) (first : Coder) (fresh : List Context) (t t' : Counts) → r ≡ reference_of h from → before ≡ blank h.region_info.width h.region_info.height false → first.bytes ≡ h.bytes → first.registers ≡ initial_registers h.bytes → fresh ≡ fresh_contexts (refinement_bits h.template)

@@ -10,7 +10,7 @@ use Rattle.jbig2_base.specs.Grid.{Grid}
 use Rattle.jbig2_base.specs.declared.error.DecodeError.{DecodeError}
 use Rattle.jbig2_base.specs.declared.error.DecodeError.TheVariants as errors
 use Rattle.jbig2_symbol.specs.SymbolBitmaps.{collective_bitmap, put_behind, symbols_cut}
-use Rattle.jbig2_region.proofs.GenericLemmas.{ok-inner}
+use Rattle.jbig2_base.proofs.Causes.{same-ok}
 use Rattle.jbig2_symbol.specs.HeightClasses.{HeightClass, classes_from, drawn_class, empty_class, empty_with, height_class, next_width, room_behind, size_in_word, symbols_from, symbols_of, widths_from}
 use Rattle.jbig2_symbol.specs.SymbolCoding.{collective_class, symbols_by_prefix_codes}
 use Rattle.jbig2_symbol.specs.SymbolReading.{ClassReadings, SymbolInput, SymbolReadings, SymbolState}
@@ -76,7 +76,7 @@ checked answer empty = answer >>= λ symbols. empty_class (length symbols.0) emp
 checked-made : {S : Type 0} (answer : Result (List Grid × S) DecodeError) (empty : ℕ) (before after : List Grid) (t : S) → behind before answer ≡ Ok (after, t) → empty_class (length after - length before) empty ≡ Ok tt → behind before (checked answer empty) ≡ Ok (after, t)
 unfolding checked
 checked-made {S} (Ok more) empty before after t made few =
-    let all : before ++ more.0 ≡ after = ap (λ (p : List Grid × S). p.0) (ok-inner _ _ made) in
+    let all : before ++ more.0 ≡ after = ap (λ (p : List Grid × S). p.0) (same-ok _ _ made) in
     let count : length after - length before ≡ length more.0 = omega (arith, length-append before more.0, ap (λ (gs : List Grid). length gs) all) in
     rw (ap (λ (n : ℕ). empty_class n empty) (sym count) ∙ few) made
 checked-made (Err e) empty before after t made few = made
@@ -84,7 +84,7 @@ checked-made (Err e) empty before after t made few = made
 checked-fault : {S : Type 0} (answer : Result (List Grid × S) DecodeError) (empty : ℕ) (before after : List Grid) (t : S) (error : DecodeError) → behind before answer ≡ Ok (after, t) → empty_class (length after - length before) empty ≡ Err error → behind before (checked answer empty) ≡ Err error
 unfolding checked
 checked-fault {S} (Ok more) empty before after t error made few =
-    let all : before ++ more.0 ≡ after = ap (λ (p : List Grid × S). p.0) (ok-inner _ _ made) in
+    let all : before ++ more.0 ≡ after = ap (λ (p : List Grid × S). p.0) (same-ok _ _ made) in
     let count : length after - length before ≡ length more.0 = omega (arith, length-append before more.0, ap (λ (gs : List Grid). length gs) all) in
     rw (ap (λ (n : ℕ). empty_class n empty) (sym count) ∙ few) refl
 checked-fault (Err e) empty before after t error made few = cc
@@ -147,7 +147,7 @@ after_class r d n empty new answer = classes_behind new (answer >>= λ class. cl
 after-made : {S : Type 0} (r : ClassReadings S) (d : SymbolInput) (n empty height count : ℕ) (new after : List Grid) (t : S) (answer : Result (HeightClass × S) DecodeError) → class_behind new empty answer ≡ Ok (after, (height, (count, t))) → after_class r d n empty new answer ≡ classes_behind after (classes_from r d n height count after t)
 unfolding after_class
 after-made {S} r d n empty height count new after t (Ok class) e =
-    let same : (new ++ class.0.symbols, (class.0.height, (empty_with class.0 empty, class.1))) ≡ (after, (height, (count, t))) = ok-inner _ _ e in
+    let same : (new ++ class.0.symbols, (class.0.height, (empty_with class.0 empty, class.1))) ≡ (after, (height, (count, t))) = same-ok _ _ e in
     let all : new ++ class.0.symbols ≡ after = ap (λ (p : List Grid × (ℕ × (ℕ × S))). p.0) same in
     let high : class.0.height ≡ height = ap (λ (p : List Grid × (ℕ × (ℕ × S))). p.1.0) same in
     let few : empty_with class.0 empty ≡ count = ap (λ (p : List Grid × (ℕ × (ℕ × S))). p.1.1.0) same in

@@ -12,7 +12,7 @@ use Rattle.std.proofs.Math.Seq.{take-add}
 use Rattle.jbig2_base.specs.Grid.{Grid, blank}
 use Rattle.jbig2_base.specs.declared.error.DecodeError.{DecodeError}
 use Rattle.jbig2_base.specs.declared.error.DecodeError.TheVariants.{OutOfMemory}
-use Rattle.jbig2_region.proofs.GenericLemmas.{ok-inner}
+use Rattle.jbig2_base.proofs.Causes.{same-ok}
 use Rattle.jbig2_symbol.specs.Exports.{ended_runs, exported_from, is_exported}
 
 -- no run ends before it has begun
@@ -111,7 +111,7 @@ pushed-next symbols new first k before so_far after g inside is copy pushed =
     let all : List Grid = all_symbols symbols new in
     let many : length all ≡ length symbols + length new = all-length symbols new in
     let left : length (drop first all) ≡ length all - first = length-drop first all in
-    let same : get_or (drop first all) k (blank 0 0 false) ≡ g = get_or-drop first all k (blank 0 0 false) ∙ ok-inner _ _ copy in
+    let same : get_or (drop first all) k (blank 0 0 false) ≡ g = get_or-drop first all k (blank 0 0 false) ∙ same-ok _ _ copy in
     pushed
     ∙ ap (λ (gs : List Grid). gs ++ g ∷ []) is
     ∙ append_assoc before (take k (drop first all)) (g ∷ [])

@@ -1,8 +1,7 @@
 //! The lines that a custom table's bits spell (T.88, B.2).
 ghost use Rattle.std.specs.Prelude.{◌≡◌, ◌+◌, ◌≤◌, ◌<◌, ◌^◌, drop, length, OnOk, IfOk};
-ghost use Rattle.jbig2_base.specs.Answer.{Gives, Leaves};
 ghost use Rattle.jbig2_base.specs.Bits.{bits_left, bits_on};
-ghost use Rattle.jbig2_coder.specs.CustomTable.{next_low, custom_header, custom_line, range_lines, end_lines, behind, custom_lines, HasWidths};
+ghost use Rattle.jbig2_coder.specs.CustomTable.{left_at, next_low, custom_header, custom_line, range_lines, end_lines, behind, custom_lines, GivesAt, HasWidths};
 ghost use Rattle.jbig2_coder.specs.PrefixCode.{AreShort};
 
 use super::line::TableLine;
@@ -28,8 +27,7 @@ pub(super) struct Header {
 
 /// Reads the fields before the lines.
 fn read_header(reader: &mut Reader<'_>) -> Result<Header>
-    ensures value { result ≡ (custom_header reader.old).answer }
-    ensures place { reader.new ≡ (custom_header reader.old).place }
+    ensures header { left_at reader.new result ≡ custom_header reader.old }
     ensures widths { IfOk result HasWidths }
 {
     let flags = bits_field(reader, 8, DecodeError::Parse(ParseError::UnexpectedEof))?;
@@ -47,8 +45,7 @@ fn read_header(reader: &mut Reader<'_>) -> Result<Header>
 /// Reads a line that begins at `low`, and gives the next line's low value.
 fn read_range_line(reader: &mut Reader<'_>, header: &Header, low: i32) -> Result<(TableLine, i32)>
     requires { HasWidths header.now }
-    ensures value { result ≡ (custom_line header.now low reader.old).answer }
-    ensures place { reader.new ≡ (custom_line header.now low reader.old).place }
+    ensures line { left_at reader.new result ≡ custom_line header.now low reader.old }
     ensures shorter { OnOk result (length (bits_left reader.new) < length (bits_left reader.old)) }
     ensures short { IfOk result (λ x. x.0.range_length ≤ 32) }
 {
@@ -89,8 +86,7 @@ fn read_range_lines<A: Allocator>(
     header: &Header,
 ) -> Result<Vec<TableLine, A>>
     requires { HasWidths header.now }
-    ensures lines { Gives (λ v. v.items) result (range_lines header.now reader.old).answer }
-    ensures place { Leaves result reader.new (range_lines header.now reader.old).place }
+    ensures lines { GivesAt (λ v. v.items) result reader.new (range_lines header.now reader.old) }
     ensures short { IfOk result (λ v. AreShort v.items) }
 {
     let mut lines = Vec::new(alloc);
@@ -111,9 +107,8 @@ fn push_end_lines<A: Allocator>(
 ) -> Result<()>
     requires widths { HasWidths header.now }
     requires short { AreShort lines.old.items }
-    ensures lines { Gives (λ _. lines.new.items) result
-        (behind lines.old.items (end_lines header.now reader.old)).answer }
-    ensures place { Leaves result reader.new (end_lines header.now reader.old).place }
+    ensures lines { GivesAt (λ _. lines.new.items) result reader.new
+        (behind lines.old.items (end_lines header.now reader.old)) }
     ensures short { OnOk result (AreShort lines.new.items) }
 {
     let lower = bits_field(
@@ -144,8 +139,7 @@ pub(super) fn read_lines<A: Allocator>(
     alloc: A,
     reader: &mut Reader<'_>,
 ) -> Result<Vec<TableLine, A>>
-    ensures lines { Gives (λ v. v.items) result (custom_lines reader.old).answer }
-    ensures place { Leaves result reader.new (custom_lines reader.old).place }
+    ensures lines { GivesAt (λ v. v.items) result reader.new (custom_lines reader.old) }
     ensures short { IfOk result (λ v. AreShort v.items) }
 {
     let header = read_header(reader)?;

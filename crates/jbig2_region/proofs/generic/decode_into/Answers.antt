@@ -6,14 +6,15 @@ use Rattle.jbig2_region.specs.inner.Layouts.{CountsCoded}
 use Rattle.jbig2_region.specs.Raster.{fresh_contexts, no_pixels}
 use Rattle.jbig2_region.specs.Templates.{context_bits, is_extended, template_pixels}
 use Rattle.jbig2_region.specs.declared.template.AdaptiveTemplatePixel.{AdaptiveTemplatePixel}
-use Rattle.jbig2_region.proofs.GenericLemmas.{as-coded, region-decoded, answer-decoded, contexts-decoded, counts-decoded, whole-slice, ok-inner}
+use Rattle.jbig2_base.proofs.Causes.{same-ok}
+use Rattle.jbig2_region.proofs.GenericLemmas.{as-coded, region-decoded, answer-decoded, contexts-decoded, counts-decoded, whole-slice}
 use Rattle.jbig2_region.proofs.generic.decode_into.Goals as goal
 
 pub returns-clause-value : goal.returns-clause-value
 returns-clause-value g c =
     let h = c.args.header.now in
     let decoded = as-coded h (λ (a : List AdaptiveTemplatePixel). DecodesRegion (coding_of h.tpgdon h.template (template_pixels (is_extended h.adaptive_template_pixels) h.template a)) c.args.bitmap.now c.new-decoder.result c.deref_mut.result.now c.decode_coded.new.bitmap c.decode_coded.new.decoder c.decode_coded.new.contexts) c.if-header.false c.decode_coded.ensures.holds in
-    let fresh : c.deref_mut.result.now ≡ fresh_contexts (context_bits c.args.header.now.template) = c.deref_mut.ensures.value ∙ sym (ok-inner _ _ c.in_ok-fresh_contexts.ensures) ∙ ap (λ (n : ℕ). fresh_contexts n) c.context_bits.ensures in
+    let fresh : c.deref_mut.result.now ≡ fresh_contexts (context_bits c.args.header.now.template) = c.deref_mut.ensures.value ∙ sym (same-ok _ _ c.in_ok-fresh_contexts.ensures) ∙ ap (λ (n : ℕ). fresh_contexts n) c.context_bits.ensures in
     answer-decoded (header_view c.args.header.now) c.decode_coded.new.bitmap c.decode_coded.new.decoder c.decode_coded.new.contexts c.if-header.false
     (region-decoded (header_view c.args.header.now) c.args.bitmap.now c.decode_coded.new.bitmap c.new-decoder.result c.decode_coded.new.decoder c.deref_mut.result.now c.decode_coded.new.contexts c.requires.white c.new-decoder.ensures.bytes c.new-decoder.ensures.registers fresh decoded)
 
@@ -21,7 +22,7 @@ pub returns-clause-contexts : goal.returns-clause-contexts
 returns-clause-contexts g c =
     let h = c.args.header.now in
     let decoded = as-coded h (λ (a : List AdaptiveTemplatePixel). DecodesRegion (coding_of h.tpgdon h.template (template_pixels (is_extended h.adaptive_template_pixels) h.template a)) c.args.bitmap.now c.new-decoder.result c.deref_mut.result.now c.decode_coded.new.bitmap c.decode_coded.new.decoder c.decode_coded.new.contexts) c.if-header.false c.decode_coded.ensures.holds in
-    let fresh : c.deref_mut.result.now ≡ fresh_contexts (context_bits c.args.header.now.template) = c.deref_mut.ensures.value ∙ sym (ok-inner _ _ c.in_ok-fresh_contexts.ensures) ∙ ap (λ (n : ℕ). fresh_contexts n) c.context_bits.ensures in
+    let fresh : c.deref_mut.result.now ≡ fresh_contexts (context_bits c.args.header.now.template) = c.deref_mut.ensures.value ∙ sym (same-ok _ _ c.in_ok-fresh_contexts.ensures) ∙ ap (λ (n : ℕ). fresh_contexts n) c.context_bits.ensures in
     let holds : Holds c.args.header.now.region_info.width c.args.header.now.region_info.height c.args.header.now.bytes.now (generic_region (header_view c.args.header.now)) c.decode_coded.new.bitmap c.decode_coded.new.decoder c.decode_coded.new.contexts =
     region-decoded (header_view c.args.header.now) c.args.bitmap.now c.decode_coded.new.bitmap c.new-decoder.result c.decode_coded.new.decoder c.deref_mut.result.now c.decode_coded.new.contexts c.requires.white c.new-decoder.ensures.bytes c.new-decoder.ensures.registers fresh decoded in
     contexts-decoded (header_view c.args.header.now) c.args.contexts.now.items _ c.if-header.false
@@ -31,5 +32,5 @@ pub returns-clause-steps : goal.returns-clause-steps
 returns-clause-steps g c =
     let h = c.args.header.now in
     let counted = as-coded h (λ (a : List AdaptiveTemplatePixel). CountsCoded (is_extended h.adaptive_template_pixels) h.template a (coding_of h.tpgdon h.template (template_pixels (is_extended h.adaptive_template_pixels) h.template a)) c.args.bitmap.now.width c.args.bitmap.now.height c.new-decoder.result.bytes (no_pixels c.new-decoder.result.registers c.deref_mut.result.now) c.args.steps.now c.decode_coded.new.steps) c.if-header.false c.decode_coded.ensures.steps in
-    let fresh : c.deref_mut.result.now ≡ fresh_contexts (context_bits c.args.header.now.template) = c.deref_mut.ensures.value ∙ sym (ok-inner _ _ c.in_ok-fresh_contexts.ensures) ∙ ap (λ (n : ℕ). fresh_contexts n) c.context_bits.ensures in
+    let fresh : c.deref_mut.result.now ≡ fresh_contexts (context_bits c.args.header.now.template) = c.deref_mut.ensures.value ∙ sym (same-ok _ _ c.in_ok-fresh_contexts.ensures) ∙ ap (λ (n : ℕ). fresh_contexts n) c.context_bits.ensures in
     counts-decoded (header_view c.args.header.now) c.args.bitmap.now c.new-decoder.result c.deref_mut.result.now c.args.steps.now c.decode_coded.new.steps c.requires.white c.new-decoder.ensures.bytes c.new-decoder.ensures.registers fresh counted

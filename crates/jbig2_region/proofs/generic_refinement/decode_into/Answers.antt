@@ -7,13 +7,14 @@ use Rattle.jbig2_region.specs.RefinementTemplates.{refinement_bits}
 use Rattle.jbig2_region.specs.Generic.{region_view}
 use Rattle.jbig2_region.specs.inner.Holds.{Holds}
 use Rattle.jbig2_region.specs.Raster.{fresh_contexts}
-use Rattle.jbig2_region.proofs.GenericLemmas.{whole-slice, ok-inner}
+use Rattle.jbig2_base.proofs.Causes.{same-ok}
+use Rattle.jbig2_region.proofs.GenericLemmas.{whole-slice}
 use Rattle.jbig2_region.proofs.RefinementLemmas.{refined-contexts, refined-decoded, refined-answer, refined-steps, offset-value}
 use Rattle.jbig2_region.proofs.generic_refinement.decode_into.Goals as goal
 
 pub returns-clause-value : goal.returns-clause-value
 returns-clause-value g c =
-    let fresh : c.deref_mut.result.now ≡ fresh_contexts (refinement_bits c.args.header.now.template) = c.deref_mut.ensures.value ∙ sym (ok-inner _ _ c.in_ok-fresh_contexts.ensures) ∙ ap (λ (n : ℕ). fresh_contexts n) c.context_bits.ensures in
+    let fresh : c.deref_mut.result.now ≡ fresh_contexts (refinement_bits c.args.header.now.template) = c.deref_mut.ensures.value ∙ sym (same-ok _ _ c.in_ok-fresh_contexts.ensures) ∙ ap (λ (n : ℕ). fresh_contexts n) c.context_bits.ensures in
     let near = c.in_ok-dx.ensures.value in
     let fits_dx : SFits w32 c.in_ok-dx.dx = search rules in
     let fits_dy : SFits w32 c.in_ok-dx.dy = search rules in
@@ -23,7 +24,7 @@ returns-clause-value g c =
 
 pub returns-clause-contexts : goal.returns-clause-contexts
 returns-clause-contexts g c =
-    let fresh : c.deref_mut.result.now ≡ fresh_contexts (refinement_bits c.args.header.now.template) = c.deref_mut.ensures.value ∙ sym (ok-inner _ _ c.in_ok-fresh_contexts.ensures) ∙ ap (λ (n : ℕ). fresh_contexts n) c.context_bits.ensures in
+    let fresh : c.deref_mut.result.now ≡ fresh_contexts (refinement_bits c.args.header.now.template) = c.deref_mut.ensures.value ∙ sym (same-ok _ _ c.in_ok-fresh_contexts.ensures) ∙ ap (λ (n : ℕ). fresh_contexts n) c.context_bits.ensures in
     let near = c.in_ok-dx.ensures.value in
     let fits_dx : SFits w32 c.in_ok-dx.dx = search rules in
     let fits_dy : SFits w32 c.in_ok-dx.dy = search rules in
@@ -35,7 +36,7 @@ returns-clause-contexts g c =
 
 pub returns-clause-steps : goal.returns-clause-steps
 returns-clause-steps g c =
-    let fresh : c.deref_mut.result.now ≡ fresh_contexts (refinement_bits c.args.header.now.template) = c.deref_mut.ensures.value ∙ sym (ok-inner _ _ c.in_ok-fresh_contexts.ensures) ∙ ap (λ (n : ℕ). fresh_contexts n) c.context_bits.ensures in
+    let fresh : c.deref_mut.result.now ≡ fresh_contexts (refinement_bits c.args.header.now.template) = c.deref_mut.ensures.value ∙ sym (same-ok _ _ c.in_ok-fresh_contexts.ensures) ∙ ap (λ (n : ℕ). fresh_contexts n) c.context_bits.ensures in
     let near = c.in_ok-dx.ensures.value in
     let fits_dx : SFits w32 c.in_ok-dx.dx = search rules in
     let fits_dy : SFits w32 c.in_ok-dx.dy = search rules in

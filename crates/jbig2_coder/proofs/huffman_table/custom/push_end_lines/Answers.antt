@@ -1,10 +1,9 @@
-use Rattle.std.proofs.Common.{rules, ◌≡◌, ℤ, pos, List, [], ◌∷◌, ◌++◌, ap, ◌∙◌, arith}
+use Rattle.std.proofs.Common.{rules, ◌≡◌, ℤ, pos, [], ◌∷◌, ◌++◌, ap, ◌∙◌, arith}
 use Rattle.std.specs.Prelude.{◌-ℤ◌}
 use Rattle.std.specs.Int.{w32}
 use mir.Val.{SFits}
 use Rattle.std.proofs.lemmas.Int.{to_z-of_z}
 use Rattle.jbig2_coder.specs.declared.huffman_table.line.TableLine.{TableLine}
-use Rattle.jbig2_coder.specs.CustomTable.{Step}
 use Rattle.jbig2_coder.specs.Tables.{lower, upper}
 use Rattle.jbig2_coder.proofs.CustomReading.{ends-none, ends-oob, short-push}
 use Rattle.jbig2_coder.proofs.huffman_table.custom.push_end_lines.Goals as goal
@@ -22,9 +21,8 @@ returns-in_ok-push-3-clause-lines g c =
     let one = c.in_ok-push.ensures.items ∙ ap (λ (x : TableLine). c.args.lines.now.items ++ x ∷ []) first in
     let two = c.in_ok-push-2.ensures.items ∙ ap (λ (x : TableLine). c.push.new.self.items ++ x ∷ []) second in
     let three = c.in_ok-push-3.ensures.items ∙ ap (λ (x : TableLine). c.push-2.new.self.items ++ x ∷ []) c.out_of_band.ensures in
-    let whole = ends-oob h p q r c.bits_field-then-header.new.reader c.in_ok-lower.lower c.in_ok-upper.upper c.in_ok-out_of_band.out_of_band c.args.lines.now.items c.push.new.self.items c.push-2.new.self.items c.push-then-header.new.self.items
-    c.in_ok-lower.ensures.answer c.in_ok-lower.ensures.place c.in_ok-upper.ensures.answer c.in_ok-upper.ensures.place c.in_ok-out_of_band.ensures.answer c.in_ok-out_of_band.ensures.place one two three c.if-header.true in
-    ap (λ (s : Step (List TableLine)). s.answer) whole
+    ends-oob h p q r c.bits_field-then-header.new.reader c.in_ok-lower.lower c.in_ok-upper.upper c.in_ok-out_of_band.out_of_band c.args.lines.now.items c.push.new.self.items c.push-2.new.self.items c.push-then-header.new.self.items
+    c.in_ok-lower.ensures.answer c.in_ok-lower.ensures.place c.in_ok-upper.ensures.answer c.in_ok-upper.ensures.place c.in_ok-out_of_band.ensures.answer c.in_ok-out_of_band.ensures.place one two three c.if-header.true
 
 pub returns-in_ok-push-3-clause-short : goal.returns-in_ok-push-3-clause-short
 returns-in_ok-push-3-clause-short g c =
@@ -44,9 +42,8 @@ returns-else-header-clause-lines g c =
     let second : c.new.result ≡ upper c.in_ok-upper.upper h.maximum = c.new.ensures ∙ ap (λ (n : ℤ). upper c.in_ok-upper.upper n) (to_z-of_z w32 h.maximum fits_high) in
     let one = c.in_ok-push.ensures.items ∙ ap (λ (x : TableLine). c.args.lines.now.items ++ x ∷ []) first in
     let two = c.in_ok-push-2.ensures.items ∙ ap (λ (x : TableLine). c.push.new.self.items ++ x ∷ []) second in
-    let whole = ends-none h p q r c.in_ok-lower.lower c.in_ok-upper.upper c.args.lines.now.items c.push.new.self.items c.push-2.new.self.items
-    c.in_ok-lower.ensures.answer c.in_ok-lower.ensures.place c.in_ok-upper.ensures.answer c.in_ok-upper.ensures.place one two c.if-header.false in
-    ap (λ (s : Step (List TableLine)). s.answer) whole
+    ends-none h p q r c.in_ok-lower.lower c.in_ok-upper.upper c.args.lines.now.items c.push.new.self.items c.push-2.new.self.items
+    c.in_ok-lower.ensures.answer c.in_ok-lower.ensures.place c.in_ok-upper.ensures.answer c.in_ok-upper.ensures.place one two c.if-header.false
 
 pub returns-else-header-clause-short : goal.returns-else-header-clause-short
 returns-else-header-clause-short g c =

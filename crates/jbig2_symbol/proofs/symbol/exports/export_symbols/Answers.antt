@@ -1,6 +1,6 @@
 use Rattle.std.proofs.Common.{◌≡◌, ℕ, ◌+◌, ◌≤◌, List, get_or, length, refl, sym, ap, ◌∙◌, arith}
 use Rattle.jbig2_base.specs.Grid.{Grid}
-use Rattle.jbig2_region.proofs.GenericLemmas.{ok-inner}
+use Rattle.jbig2_base.proofs.Causes.{same-ok}
 use Rattle.jbig2_symbol.specs.inner.SymbolViews.{all_symbols}
 use Rattle.jbig2_symbol.proofs.ExportedLemmas.{all-length, exported-even, exported-none, exported-odd, only-memory, sum-more, sum-within}
 use Rattle.jbig2_symbol.proofs.symbol.exports.export_symbols.Goals as goal
@@ -28,7 +28,7 @@ loop-k-preserved g c =
       pushed = elim c.if-k-eq1.branch [
         | then-k-eq1+in_ok-clone-2+in-Ok w ↦
             exported-odd runs all c.loop-k.exported.items c.if-k-eq1.exported.items c.loop-k.k c.loop-k.first run (omega arith) c.loop-k.invariant.first refl within (omega arith) c.loop-k.invariant.pushed
-            (ap (λ v. v.items) w.exported-is ∙ sym (ok-inner _ _ w.in-Ok.ensures))
+            (ap (λ v. v.items) w.exported-is ∙ sym (same-ok _ _ w.in-Ok.ensures))
         | else-k-eq1 w ↦
             ap (λ v. v.items) w.exported-is
             ∙ exported-even runs all c.loop-k.exported.items c.loop-k.k c.loop-k.first run (omega arith) c.loop-k.invariant.first refl within (λ odd. omega arith) c.loop-k.invariant.pushed
