@@ -1,4 +1,6 @@
--- The calls that spell a page (our own rule).
+-- The calls that spell a page (our own rule; T.88 leaves open how a decoder hands a page on). `calls_of` takes a grid
+-- and gives the calls of a Decoder for it, row by row; `rows_drawn` takes calls and gives the rows that they draw.
+-- `DrawsGrid` says that calls draw a grid and nothing besides.
 use Rattle.std.specs.Prelude.{◌≡◌, ◌<◌, ◌≤◌, All, Option, Some, None, option_to_list, ℕ, suc, zero, ◌+◌, ◌*◌, ◌/◌, Bool, true, false, ◌&&◌, List, [], ◌∷◌, ◌++◌, length, take, drop, replicate, map, count_by, if◌then◌else◌}
 use Rattle.std.specs.List.{range_with_len, flat_map}
 use Rattle.jbig2_base.specs.Grid.{Grid, pixel_at, same_colour}

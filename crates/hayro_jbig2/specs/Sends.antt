@@ -1,4 +1,6 @@
--- What a Decoder does with calls (our own rule).
+-- What a Decoder does with calls (our own rule). A `Conduct` tells how Decoders of a type behave; over it stand what
+-- one call does, what a list of them does, and where it may stop. `Decodes`, the last, takes the answer of a definition
+-- and says what `decode_with` makes of it.
 use Rattle.std.specs.Prelude.{◌≡◌, ℕ, ◌+◌, ◌-◌, ◌^◌, ◌<◌, List, [], ◌∷◌, ◌++◌, Result, Ok, Err, ◌⊎◌}
 use Rattle.jbig2_base.specs.Grid.{Grid}
 use Rattle.jbig2_base.specs.declared.error.DecodeError.{DecodeError}

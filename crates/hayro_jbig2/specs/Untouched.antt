@@ -1,4 +1,5 @@
--- A page on which no region was drawn (T.88, 8.2) is as it began.
+-- A page on which no region was drawn (T.88, 8.2) is as it began. The law takes any segments, and is about the drawing
+-- that they give.
 use Rattle.std.specs.Prelude.{◌≡◌, Bool, List, Ok, IsTrue}
 use Rattle.jbig2_base.specs.Grid.{blank}
 use Rattle.jbig2_base.specs.Segment.{SegmentView}

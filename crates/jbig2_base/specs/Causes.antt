@@ -1,4 +1,6 @@
--- Which rule the bytes break where a parser of this crate refuses them (docs/FORMAT.md), a line for each error.
+-- Which rule the bytes break where a parser of this crate refuses them (docs/FORMAT.md), a line for each error. A
+-- predicate `Breaks..` takes the bytes and an error of a definition; its law says that each error which the definition
+-- answers has that cause.
 use Rattle.std.specs.Prelude.{◌≡◌, ◌≢◌, ◌<◌, ◌≤◌, ◌+◌, ◌*◌, ◌-◌, ◌/◌, ◌%◌, ◌^◌, ◌==◌, ◌⊎◌, ℕ, Bool, true, List, [], ◌∷◌, take, drop, length, All, Any, Option, Some, None, Result, Ok, Err, IfErr, if◌then◌else◌}
 use Rattle.std.specs.Int.{Width, w8, w32, byte_len, from_be_bytes}
 use Rattle.jbig2_base.specs.EndMarker.{adaptive_bytes, unknown_length_of}

@@ -1,4 +1,5 @@
--- The text of each error, as its `Display` writes it (our own rule). Takes an error, and gives the bytes of a text.
+-- The text of each error, as its `Display` writes it (our own rule). Each definition takes the errors of one enum and
+-- gives the bytes of their texts; `error_text` takes any of them.
 use Rattle.std.specs.Prelude.{ℕ, List, codes}
 use Rattle.jbig2_base.specs.declared.error.DecodeError.{DecodeError}
 use Rattle.jbig2_base.specs.declared.error.DecodeError.TheVariants as errors

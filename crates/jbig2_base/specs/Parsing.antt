@@ -1,4 +1,5 @@
--- What a parser's call says about its reader (our own rule), beside the definition of what it parses.
+-- What a parser's call says about its reader (our own rule), beside the definition of what it parses. Both records take
+-- the reader's places before and after the call, its result, and the definition's answer with the bytes behind it.
 use Rattle.std.specs.Prelude.{◌≡◌, ◌≤◌, List, ℕ, length, Result, OnOk, OnErr}
 use Rattle.jbig2_base.specs.Answer.{Answers, Gives}
 use Rattle.jbig2_base.specs.Bits.{Place, IsAligned}

@@ -1,4 +1,5 @@
--- Segments in order of their numbers, equal numbers in the order in which they stand (our own rule).
+-- Segments in order of their numbers, equal numbers in the order in which they stand (our own rule). `by_number` takes
+-- a list of segments and gives it sorted.
 use Rattle.std.specs.Prelude.{ℕ, nat_lt, List, [], ◌∷◌, if◌then◌else◌}
 use Rattle.jbig2_base.specs.Segment.{SegmentView}
 

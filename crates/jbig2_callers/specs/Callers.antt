@@ -1,4 +1,5 @@
--- What a PDF reader and a viewer ask for (our own rule), by the definitions of the library. Both read leniently.
+-- What a PDF reader and a viewer ask for (our own rule), by the definitions of the library. A stream's or a file's
+-- bytes give a grid or an image. Both read leniently.
 use Rattle.std.specs.Prelude.{◌≡◌, ◌⊎◌, ℕ, false, List, Option, Some, None, Result, Ok, Err}
 use Rattle.jbig2_base.specs.Answer.{◌>>=◌}
 use Rattle.jbig2_base.specs.Grid.{Grid}

@@ -1,4 +1,6 @@
--- Which rule the bits break where a read by a prefix code refuses them (docs/FORMAT.md), a line for each error.
+-- Which rule the bits break where a read by a prefix code refuses them (docs/FORMAT.md), a line for each error. A
+-- predicate `Breaks..` takes a table and the bits, or the lines that make a table, and an error; its law ties the
+-- definition's errors to it.
 use Rattle.std.specs.Prelude.{◌≡◌, ◌<◌, ◌≤◌, ◌⊎◌, ℕ, zero, suc, ◌+◌, ◌-◌, ◌*◌, ◌/◌, ◌^◌, true, false, if◌then◌else◌, List, [], length, drop, All, Any, Ok, IfErr, ℤ, pos, negsuc, ◌+ℤ◌, int_lt}
 use Rattle.jbig2_base.specs.Bits.{Place, bits_left, bits_on, number_after}
 use Rattle.jbig2_base.specs.declared.error.DecodeError.{DecodeError}

@@ -1,4 +1,5 @@
--- The lines that a custom table's bits spell (T.88, B.2). Each step reads on from a place.
+-- The lines that a custom table's bits spell (T.88, B.2). Each step takes a place in the bits and reads on from it.
+-- `custom_table` gives the code that the lines make, or the first error, each with the place where the reader is left.
 use Rattle.std.specs.Prelude.{◌≡◌, ◌⊎◌, ℕ, zero, suc, ◌+◌, ◌/◌, ◌%◌, ◌^◌, ◌<◌, ◌≤◌, nat_lt, ◌==◌, List, [], ◌∷◌, ◌++◌, length, Result, Ok, Err, if◌then◌else◌, ℤ, pos, ◌+ℤ◌, ◌-ℤ◌, int_lt}
 use Rattle.std.specs.Int.{w32, cast_signed}
 use Rattle.jbig2_base.specs.Answer.{◌>>=◌, some_or}

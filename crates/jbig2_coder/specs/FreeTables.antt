@@ -1,4 +1,5 @@
--- No code of a table begins another (T.88, B.3), whichever way the table is made.
+-- No code of a table begins another (T.88, B.3), whichever way the table is made. The record states it of the four
+-- ways; `IsFree` (PrefixCode.antt) takes a table's codes.
 use Rattle.std.specs.Prelude.{ℕ, List, All, IfOk}
 use Rattle.jbig2_base.specs.Bits.{Place}
 use Rattle.jbig2_coder.specs.declared.huffman_table.line.TableLine.{TableLine}

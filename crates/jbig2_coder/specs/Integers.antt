@@ -1,4 +1,5 @@
--- Integers and symbol ids (T.88, Annex A): decisions whose contexts the bits read so far name.
+-- Integers and symbol ids (T.88, Annex A): decisions whose contexts the bits read so far name. A reading takes the
+-- coder's registers and a procedure's contexts, and gives a value or out of band with both as they are then.
 use Rattle.std.specs.Prelude.{ℕ, suc, zero, ◌+◌, ◌-◌, ◌*◌, ◌%◌, ◌^◌, Bool, true, false, not, ◌&&◌, if◌then◌else◌, ◌==◌, nat_lt, List, [], ◌∷◌, ◌++◌, length, drop, slice_index_or, slice_set, Some, None, Option, ℤ, pos, ◌-ℤ◌}
 use Rattle.jbig2_base.specs.Grid.{bit_number}
 use Rattle.jbig2_coder.specs.Coder.{Context, Decision, fresh, decision}

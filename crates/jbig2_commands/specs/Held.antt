@@ -1,4 +1,5 @@
--- An output behind a buffer, and a printer in front of it.
+-- An output behind a buffer (our own rule). Each takes the program's output and gives the bytes that it was told so
+-- far, where they are known, or which output it is.
 use Rattle.std.specs.Prelude.{ℕ, List, Option}
 use Rattle.std.specs.Borrow.{GName}
 use Rattle.std.specs.Io.KnownBytes.{append_known}

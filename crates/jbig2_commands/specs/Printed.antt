@@ -1,4 +1,5 @@
--- What a run prints (our own rule).
+-- What a run prints (our own rule). `printed` takes the mode, the task and a file's bytes, and gives the bytes to be
+-- printed, or the fault.
 use Rattle.std.specs.Prelude.{ℕ, Bool, List, ◌++◌, Option, Some, None, Result, Ok, Err, codes, if◌then◌else◌}
 use Rattle.std.specs.Fmt.{decimal}
 use Rattle.std.specs.List.{flat_map}

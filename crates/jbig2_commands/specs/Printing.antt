@@ -1,4 +1,5 @@
--- What a printer does with one call.
+-- What a printer, the Decoder that writes a line for each call, does with one call (our own rule). The predicates take
+-- what its output held before and after, where that is known, and the call's result.
 use Rattle.std.specs.Prelude.{◌≡◌, ℕ, ◌+◌, ◌-◌, ◌^◌, Bool, true, false, List, Option, Some, None, Result, Ok, Err, if◌then◌else◌}
 use Rattle.std.specs.Io.KnownBytes.{Appends, Keeps}
 use Rattle.jbig2_base.specs.declared.error.DecodeError.{DecodeError}

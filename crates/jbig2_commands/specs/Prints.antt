@@ -1,4 +1,5 @@
--- What a run adds to its output.
+-- What a run adds to its output (our own rule). The predicates take what was meant, the run's result, and what the
+-- outputs held before and after; `RunEnds` is the statement of `run`.
 use Rattle.std.specs.Prelude.{◌≡◌, ◌⊎◌, ℕ, Bool, List, Option, Some, None, IfSome, Result, Ok, Err}
 use Rattle.std.specs.Io.KnownBytes.{Appends, Keeps}
 use Rattle.jbig2_base.specs.declared.error.DecodeError.{DecodeError}

@@ -1,4 +1,5 @@
--- What standard error is told of a run, and its status (our own rule).
+-- What standard error is told of a run, and its status (our own rule). Both take the run's result: nothing is told of
+-- success and of an output that failed, and a fault's line of all else.
 use Rattle.std.specs.Prelude.{◌≡◌, ℕ, Bool, true, List, [], ◌++◌, Option, Result, Ok, Err, IsTrue, codes}
 use Rattle.std.specs.Io.KnownBytes.{Appends, Keeps}
 use Rattle.jbig2_base.specs.ErrorTexts.{error_text}

@@ -1,4 +1,6 @@
 -- Which rule the input breaks where patterns or a halftone region are refused (docs/FORMAT.md), a line for each error.
+-- A predicate `Breaks..` takes the bytes of a segment, or its header and what it refers to, and an error; its law ties
+-- the definition's errors to it.
 use Rattle.std.specs.Prelude.{◌≡◌, ◌<◌, ◌≤◌, ◌⊎◌, ℕ, zero, suc, ◌+◌, ◌-◌, ◌*◌, ◌/◌, ◌%◌, Bool, true, false, List, length, drop, Ok, IfErr}
 use Rattle.std.specs.Int.{w8, w32}
 use Rattle.jbig2_base.specs.Causes.{number_in}

@@ -1,4 +1,6 @@
 -- Gray-scale images (T.88, Annex C): a value for each pixel, coded as bit planes from the highest on.
+-- `gray_scale_image` takes the parameters of Table C.1 and the coded bytes, and gives the values row by row, or an
+-- error.
 use Rattle.std.specs.Prelude.{ℕ, zero, suc, ◌+◌, ◌-◌, ◌*◌, ◌/◌, ◌%◌, nat_lt, Bool, false, ◌&&◌, ◌||◌, if◌then◌else◌, List, [], ◌∷◌, length, take, drop, map, Option, Result, Ok}
 use Rattle.std.specs.List.{range_with_len}
 use Rattle.jbig2_base.specs.Answer.{◌>>=◌, refuse_if}

@@ -1,4 +1,5 @@
--- Halftone regions (T.88, 6.6): patterns drawn at the places of a grid, which may stand at an angle.
+-- Halftone regions (T.88, 6.6): patterns drawn at the places of a grid, which may stand at an angle. `halftone_decoded`
+-- takes the header and the patterns, and gives the region with its place on the page, or an error.
 use Rattle.std.specs.Prelude.{ℕ, ◌+◌, ◌-◌, ◌*◌, ◌/◌, ◌%◌, ◌^◌, nat_le, nat_lt, Bool, false, not, ◌&&◌, ◌||◌, if◌then◌else◌, ℤ, pos, ◌+ℤ◌, ◌-ℤ◌, int_le, List, [], ◌∷◌, length, slice_index_or, Option, Some, None, Result, Ok, Err}
 use Rattle.std.specs.Int.{int_shr}
 use Rattle.jbig2_base.specs.Answer.{◌>>=◌, refuse_if}

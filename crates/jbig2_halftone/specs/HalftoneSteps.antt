@@ -1,4 +1,5 @@
 -- The steps of halftone regions (our own rule): those of the gray-scale image, and what drawing the patterns takes.
+-- `CountsHalftone` takes the header, the patterns and the counts before and after.
 use Rattle.std.specs.Prelude.{ℕ, zero, suc, ◌+◌, ◌*◌, ◌/◌, ◌%◌, Option, None, Some}
 use Rattle.jbig2_base.specs.Combination.{WritesWithin, overlap, most_words}
 use Rattle.jbig2_base.specs.Counts.{Counts}

@@ -1,4 +1,5 @@
--- The size of a pattern (T.88, 6.7): HDPW columns and HDPH rows, the same for all patterns of a dictionary.
+-- The size of a pattern (T.88, 6.7): HDPW columns and HDPH rows, the same for all patterns of a dictionary. The record
+-- takes both and a grid.
 use Rattle.std.specs.Prelude.{ℕ, ◌≡◌}
 use Rattle.jbig2_base.specs.Grid.{Grid}
 

@@ -1,4 +1,6 @@
--- Which rule of T.6 the bits break where strict mode refuses MMR data (docs/FORMAT.md).
+-- Which rule of T.6 the bits break where strict mode refuses MMR data (docs/FORMAT.md). `BreaksMmr` takes the size, the
+-- bytes and an error, and says which row is missing or at fault: no code begins its bits, or a run or a change lies
+-- outside of it. The law at the end ties the definition's error to it.
 use Rattle.std.specs.Prelude.{◌≡◌, ◌<◌, ◌≤◌, ◌⊎◌, ℕ, zero, suc, ◌+◌, Bool, true, false, not, List, [], length, All, Some, IfErr, ℤ, pos, negsuc, ◌+ℤ◌}
 use Rattle.jbig2_base.specs.declared.error.DecodeError.{DecodeError}
 use Rattle.jbig2_base.specs.declared.error.DecodeError.TheVariants.{Region}

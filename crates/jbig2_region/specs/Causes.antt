@@ -1,4 +1,6 @@
--- Which rule the bytes break where a header or a region of this crate is refused (docs/FORMAT.md), a line for each error.
+-- Which rule the bytes break where a header or a region of this crate is refused (docs/FORMAT.md), a line for each
+-- error. A predicate `Breaks..` takes the bytes, or a header and its data, and an error; its law ties the definition's
+-- errors to it.
 use Rattle.std.specs.Prelude.{◌≡◌, ◌<◌, ◌≤◌, ◌⊎◌, ℕ, ◌+◌, ◌-◌, ◌*◌, ◌/◌, ◌%◌, ◌^◌, ◌==◌, Bool, true, if◌then◌else◌, List, length, IfErr, ℤ, pos, negsuc}
 use Rattle.std.specs.Int.{w8, w32, cast_signed}
 use Rattle.jbig2_base.specs.Causes.{number_in}

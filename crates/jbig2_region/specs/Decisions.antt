@@ -1,5 +1,5 @@
--- Which pixels of a region take a decision, and the steps of a region in which each pixel that is not known takes one (our
--- own rule).
+-- Which pixels of a region take a decision, and the steps of a region in which each pixel that is not known takes one
+-- (our own rule). The counts take the coding, the region's size and its coded bytes.
 use Rattle.std.specs.Prelude.{◌≡◌, ℕ, zero, suc, ◌+◌, ◌*◌, ◌/◌, ◌%◌, ◌≤◌, Bool, List, length, is_none}
 use Rattle.jbig2_base.specs.Counts.{Counts}
 use Rattle.jbig2_base.specs.Grid.{bit_number}

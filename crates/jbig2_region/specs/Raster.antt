@@ -1,4 +1,6 @@
 -- Regions that are decoded pixel by pixel, row by row from the top and each row from the left (T.88, 6.2.5 and 6.3.5).
+-- `decoded_region` takes how the region is coded, its width and height, the coder's bytes, and the registers and
+-- contexts with which it begins; it gives the pixels, and what registers and contexts have come to.
 use Rattle.std.specs.Prelude.{ℕ, suc, zero, ◌+◌, ◌*◌, ◌/◌, ◌%◌, ◌^◌, ◌==◌, Bool, false, if◌then◌else◌, List, [], ◌∷◌, ◌++◌, length, replicate, slice_index_or, slice_set, Option, Some, None}
 use Rattle.jbig2_base.specs.Grid.{Grid, grid_of}
 use Rattle.jbig2_coder.specs.Coder.{Context, fresh, decision}

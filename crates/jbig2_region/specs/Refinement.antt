@@ -1,4 +1,5 @@
--- Refinements (T.88, 6.3): as generic regions, with templates that lie in two grids.
+-- Refinements (T.88, 6.3): as generic regions, with templates that lie in two grids. `refined_decoded` takes the header
+-- and the region that is refined, and gives the refined one with its place on the page, or an error.
 use Rattle.std.specs.Prelude.{ℕ, Bool, true, false, not, ◌||◌, nat_lt, nat_le, if◌then◌else◌, List, [], ◌∷◌, ◌++◌, map, Option, Some, None, ℤ, pos, negsuc, ◌+ℤ◌, ◌-ℤ◌, Result, Ok, is_ok}
 use Rattle.std.specs.List.{list_all}
 use Rattle.jbig2_base.specs.Answer.{◌>>=◌, refuse_if}

@@ -1,4 +1,6 @@
--- Run bytes of generic regions, and the counts that speak of them (our own rule).
+-- Run bytes of generic regions, and the counts that speak of them (our own rule). `is_run_byte` takes a region in the
+-- making and tells whether eight likely pixels follow without the coder's doing more than lowering A; `CountsRegion`
+-- takes the counts before and after a region.
 use Rattle.std.specs.Prelude.{◌≡◌, ℕ, zero, suc, ◌+◌, ◌-◌, ◌*◌, ◌/◌, ◌%◌, ◌≤◌, ◌==◌, Bool, true, false, not, ◌&&◌, ◌||◌, nat_lt, if◌then◌else◌, List, ◌++◌, length, replicate, slice_index_or}
 use Rattle.jbig2_base.specs.Counts.{Counts, KeepsLanes}
 use Rattle.jbig2_base.specs.Grid.{same_colour}

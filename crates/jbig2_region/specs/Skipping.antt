@@ -1,4 +1,6 @@
 -- Generic regions of which pixels are skipped (T.88, 6.2.5.7, USESKIP): a skipped pixel is white and takes no decision.
+-- `skipping_coding` takes the template's pixels and the mask, and gives how such a region is coded; the steps that it
+-- takes stand behind it.
 use Rattle.std.specs.Prelude.{◌≡◌, ℕ, ◌+◌, ◌*◌, ◌/◌, ◌%◌, ◌≤◌, Bool, false, not, if◌then◌else◌, List, Option, Some, None, pos, negsuc, ◌+ℤ◌}
 use Rattle.std.specs.Borrow.{Bor}
 use Rattle.jbig2_base.specs.Counts.{Counts, KeepsLanes}

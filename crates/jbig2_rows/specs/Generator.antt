@@ -1,4 +1,5 @@
--- The lists that are encoded and read back (our own rule).
+-- The lists that are encoded and read back by `jbig2-bench lists` (our own rule). `list_after` takes a length and a
+-- seed, and gives so many decisions, each with the number of its context.
 use Rattle.std.specs.Prelude.{ℕ, zero, suc, ◌+◌, ◌*◌, ◌/◌, ◌%◌, ◌^◌, Bool, nat_lt, List, [], ◌∷◌}
 
 -- the number after x

@@ -1,4 +1,5 @@
--- The words of a run (our own rule): none for the worked rows, row and a name for one of them, or lists.
+-- The words of a run (our own rule): none for the worked rows, row and a name for one of them, or lists. `is_run` takes
+-- the words and tells whether they are one of these.
 use Rattle.std.specs.Prelude.{ℕ, Bool, true, false, List, [], ◌∷◌, codes}
 use Rattle.std.specs.Str.{bytes_eq}
 

@@ -1,4 +1,5 @@
--- Numbers that are read by a table of prefix codes (T.88, B.4): each gives its value and the place behind it.
+-- Numbers that are read by a table of prefix codes (T.88, B.4). `value_at` takes a table and a place in the bits, and
+-- gives the value with the place behind it; out of band and a code that no line has are refused.
 use Rattle.std.specs.Prelude.{List, Result, Ok, ℤ}
 use Rattle.jbig2_base.specs.Answer.{◌>>=◌}
 use Rattle.jbig2_base.specs.Bits.{Place, bits_left, bits_on}

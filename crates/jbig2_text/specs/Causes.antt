@@ -1,4 +1,6 @@
--- Which rule the input breaks where the header of a text region is refused (docs/FORMAT.md), a line for each error.
+-- Which rule the input breaks where the header of a text region is refused (docs/FORMAT.md), a line for each error. A
+-- predicate `Breaks..` takes the bytes, or the place behind what was read, and an error; its law ties the definition's
+-- errors to it.
 use Rattle.std.specs.Prelude.{◌≡◌, ◌<◌, ◌⊎◌, ℕ, zero, suc, ◌+◌, ◌/◌, ◌%◌, ◌==◌, Bool, ◌&&◌, if◌then◌else◌, List, [], length, drop, Result, Ok, Err, IfErr, ℤ, pos, negsuc}
 use Rattle.std.specs.Int.{w8, w16}
 use Rattle.jbig2_base.specs.Answer.{◌>>=◌}
