@@ -1,5 +1,6 @@
 -- Which segment breaks a rule where globals or a page are refused (T.88, 7.3 and 8): an error of theirs is that of one
--- of their segments at its turn, read with what those before it left.
+-- of their segments at its turn, read with what those before it left. A predicate `Breaks..` takes the segments, what
+-- came before them and an error; its law ties the definition's errors to it.
 use Rattle.std.specs.Prelude.{◌≡◌, ℕ, suc, Bool, true, false, IsTrue, IsFalse, List, take, slice_get, Some, Ok, IfErr}
 use Rattle.std.specs.List.{AllByRecursion}
 use Rattle.jbig2_base.specs.Segment.{SegmentView}

@@ -1,5 +1,6 @@
--- Data of unknown length (T.88, 7.2.7): an immediate generic region, which ends with the first end
--- marker behind its fields and the four bytes of the row count behind that.
+-- Data of unknown length (T.88, 7.2.7): an immediate generic region, which ends with the first end marker behind its
+-- fields and the four bytes of the row count behind that. `unknown_length_of` takes the bytes behind the segment's
+-- header and gives the length of its data, or a fault.
 use Rattle.std.specs.Prelude.{ℕ, ◌+◌, ◌/◌, ◌%◌, ◌==◌, nat_le, nat_lt, Bool, ◌&&◌, List, length, drop, slice_index, Result, Ok, Err, if◌then◌else◌}
 use Rattle.std.specs.Int.{w8}
 use Rattle.jbig2_base.specs.Answer.{◌>>=◌}

@@ -1,5 +1,6 @@
 -- Which rule the bytes of a list of segments break, and of a file (T.88, Annex D): at the front or behind segments that
--- are read, a segment breaks one of its own (Causes.antt), or the file's header does.
+-- are read, a segment breaks one of its own (Causes.antt), or the file's header does. Each predicate takes the bytes
+-- and an error, and its law ties the definition's errors to it.
 use Rattle.std.specs.Prelude.{◌≡◌, ◌≢◌, ◌<◌, ◌⊎◌, ℕ, Bool, true, List, [], ◌∷◌, length, Ok, IfErr}
 use Rattle.jbig2_base.specs.Causes.{BreaksFileHeader, BreaksHeader, BreaksData, BreaksSegment}
 use Rattle.jbig2_base.specs.File.{headers_in, gathered, random_access, file_at}

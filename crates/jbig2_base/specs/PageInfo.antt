@@ -1,5 +1,7 @@
 -- Page information (T.88, 7.4.8), and what a page begins as: its number, its size and its colour, from the first page
--- information among its segments, and from its stripes (7.4.10) where that leaves the height open.
+-- information among its segments, and from its stripes (7.4.10) where that leaves the height open. `information_at`
+-- takes the data of one segment and gives its fields; `initial_page_of` takes a page's segments and gives what it
+-- begins as; both may refuse.
 use Rattle.std.specs.Prelude.{ℕ, ◌+◌, ◌/◌, ◌%◌, ◌==◌, max, nat_lt, Bool, true, false, not, ◌&&◌, ◌||◌, List, [], ◌∷◌, length, take, Option, Some, None, Result, Ok, Err, if◌then◌else◌}
 use Rattle.std.specs.Int.{w8, w16, w32, from_be_bytes}
 use Rattle.jbig2_base.specs.Answer.{◌>>=◌, refuse_if}

@@ -1,5 +1,6 @@
 -- The probability states of the adaptive coder (T.88, Table E.1): for each row the probability Qe of the unlikely
--- symbol, the rows that follow either symbol, and where the likely symbol changes.
+-- symbol, the rows that follow either symbol, and where the likely symbol changes. `row_of` takes the number of a row
+-- and gives these.
 use Rattle.std.specs.Prelude.{ℕ, Bool, true, false, List, [], ◌∷◌, slice_index_or}
 
 -- A row: the probability of the unlikely symbol, the next row after the likely and after the unlikely

@@ -1,5 +1,6 @@
 -- The steps of gray-scale images (our own rule): what reading the planes may load, write and decide, and how many loads
--- take the values out of them, by lanes of eight pixels.
+-- take the values out of them, by lanes of eight pixels. `CountsImage` takes the parameters of an image, its coded
+-- bytes and the counts before and after.
 use Rattle.std.specs.Prelude.{ℕ, zero, suc, ◌≡◌, ◌≤◌, ◌+◌, ◌*◌, ◌/◌, ◌%◌, true, false, List, None, is_some}
 use Rattle.jbig2_base.specs.Counts.{Counts, KeepsLanes}
 use Rattle.jbig2_region.specs.Generic.{coding_of}

@@ -1,5 +1,5 @@
--- The code tables of ITU-T T.6 (tables 1 to 3): each line is a mode or the length of a run, and the code word
--- that stands for it.
+-- The code tables of ITU-T T.6 (tables 1 to 3): each line is a mode or the length of a run, and the code word that
+-- stands for it. `modes` lists the first, the lists of runs the others, to be compared with the tables line by line.
 use Rattle.std.specs.Prelude.{ℕ, ◌-◌, pos, ◌-ℤ◌, List, [], ◌∷◌, map, codes}
 use Rattle.jbig2_mmr.specs.declared.mmr.codes.Mode.{Mode}
 use Rattle.jbig2_mmr.specs.declared.mmr.codes.Mode.TheVariants.{Pass, Horizontal, Vertical}

@@ -1,5 +1,6 @@
 -- The region segment information field (T.88, 7.4.1), which every region segment begins with, and the region that it
--- places: a grid with its place on the page and how it is combined with the page.
+-- places: a grid with its place on the page and how it is combined with the page. `region_info_at` takes bytes and
+-- gives the field with the bytes behind it, or the first fault.
 use Rattle.std.specs.Prelude.{ℕ, ◌/◌, ◌%◌, ◌≡◌, ◌==◌, false, List, Result, Ok}
 use Rattle.std.specs.Int.{w8, w32}
 use Rattle.jbig2_base.specs.Answer.{◌>>=◌, refuse_if}

@@ -1,5 +1,6 @@
 -- Which rule is broken where the new symbols of a dictionary are refused (T.88, 6.5; docs/FORMAT.md, 11), a line for
--- each error, and where the dictionary as a whole is.
+-- each error, and where the dictionary as a whole is. A predicate takes a coding's readings and what was read so far,
+-- and its law ties the definition's errors to it.
 use Rattle.std.specs.Prelude.{◌≡◌, ◌≢◌, ◌⊎◌, ◌<◌, ◌≤◌, ℕ, zero, suc, ◌*◌, ◌==◌, Bool, IsTrue, IsFalse, if◌then◌else◌, List, [], ◌∷◌, ◌++◌, length, take, sum, slice_get, Option, Some, None, IfErr, ℤ, pos, negsuc, ◌+ℤ◌}
 use Rattle.jbig2_base.specs.Bits.{Place, aligned}
 use Rattle.jbig2_base.specs.Grid.{Grid}

@@ -1,5 +1,6 @@
 -- The bitmaps of symbols that are neither refined nor put together: generic regions of their own (T.88, 6.5.8.1), or
--- parts of the collective bitmap of a height class (6.5.9), which MMR data or plain rows give.
+-- parts of the collective bitmap of a height class (6.5.9), which MMR data or plain rows give. They take the header,
+-- the sizes and the coder's state or the place in the bits, and give grids with the state behind them.
 use Rattle.std.specs.Prelude.{ℕ, ◌+◌, ◌-◌, ◌*◌, ◌/◌, ◌%◌, ◌==◌, nat_lt, Bool, false, ◌||◌, if◌then◌else◌, List, [], ◌∷◌, ◌++◌, slice_index_or, Result, Ok}
 use Rattle.jbig2_base.specs.Answer.{◌>>=◌, refuse_if}
 use Rattle.jbig2_base.specs.Bits.{Place, aligned, start_of}

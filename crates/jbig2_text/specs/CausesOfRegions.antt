@@ -1,5 +1,6 @@
 -- Which rule the input breaks where a text region is refused (docs/FORMAT.md): its tables, and its numbers as they are
--- coded.
+-- coded. A predicate `Breaks..` takes the header, what it refers to and an error; its law ties the definition's errors
+-- to it.
 use Rattle.std.specs.Prelude.{◌≡◌, ◌≢◌, ◌<◌, ◌≤◌, ◌⊎◌, ℕ, ◌+◌, ◌==◌, nat_lt, if◌then◌else◌, ℤ, pos, negsuc, List, length, None, Err, IfErr}
 use Rattle.jbig2_base.specs.Bits.{Place, aligned, bits_left}
 use Rattle.jbig2_base.specs.Grid.{Grid}
