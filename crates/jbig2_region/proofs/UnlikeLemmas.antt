@@ -1,19 +1,16 @@
--- Pixels that are unlike a colour, as bits of a number, and how many bytes come before the first of them.
-use Rattle.std.proofs.Common.{◌≡◌, ℕ, suc, ◌+◌, ◌-◌, ◌*◌, ◌/◌, ◌%◌, ◌^◌, ◌<◌, ◌≤◌, Bool, true, false, not, cond, eqb, ap, subst, sym, refl, ◌∙◌, ⊎_elim, arith, max}
+-- Pixels that are unlike a colour, as bits of a number.
+use Rattle.std.proofs.Common.{◌≡◌, ℕ, suc, ◌+◌, ◌-◌, ◌*◌, ◌/◌, ◌%◌, ◌^◌, ◌<◌, ◌≤◌, Bool, true, false, not, cond, eqb, ap, subst, sym, refl, ◌∙◌, ⊎_elim, arith}
 use Rattle.std.proofs.Math.Nat.{pow-le-pow_right}
-use Rattle.std.proofs.Math.Pow.{pow-lt}
-use Rattle.std.proofs.lemmas.Nat.{pow_pos, leading_top, or_lt, le_or_l, le_or_r, mod_below}
-use Rattle.std.proofs.lemmas.Bool.{cases_lt, ltb_from_iff, lt-ltb, ltb-true, le-leb, lt-leb, ne_eqb, cond-false, and_parts, and_from, both_ways}
-use Rattle.std.specs.Int.Count.{count_leading_zeros}
+use Rattle.std.proofs.lemmas.Nat.{pow_pos, leading_top, or_lt, le_or_l, le_or_r, and_le_l, and_le_r, mod_below}
+use Rattle.std.proofs.lemmas.Bool.{cases_lt, ltb_from_iff, lt-ltb, ltb-true, eq-eqb, eqb-true, ne_eqb, cond-false, and_parts, and_from, both_ways}
+use Rattle.std.specs.Int.Bits.{xor_add_and, xor_self}
 use Rattle.std.specs.Int.RustNames.{bit_or, bit_xor}
-use Rattle.std.specs.Prelude.{nat_le, nat_lt}
+use Rattle.std.specs.Prelude.{nat_lt, ◌&&◌}
 use Rattle.jbig2_base.specs.inner.WordBits.{bit}
 use Rattle.jbig2_base.proofs.BitLemmas.{bit-above, bit-ones, bit-xor, bit-zero, bit-shr, bit-shl_high, shr-lt}
 use Rattle.jbig2_base.proofs.ColourLemmas.{bit-top}
-use Rattle.jbig2_region.specs.inner.Neighbours.{is_field, stretch_stays, stretches_stay}
-use Rattle.jbig2_region.specs.declared.template.neighbours.Neighbours.{Neighbours}
+use Rattle.jbig2_region.specs.inner.Neighbours.{is_field, stretch_stays}
 use Rattle.jbig2_region.specs.declared.template.neighbours.Stretch.{Stretch}
-use Rattle.jbig2_region.specs.declared.generic_kernel.windows.Windows.{Windows}
 use Rattle.jbig2_region.proofs.UniformLemmas.{field-gives, field-all}
 
 -- ---- numbers without high bits
@@ -86,55 +83,34 @@ stretch-unlike s m c word near few some within =
     ∙ ap (λ (k : ℕ). bit unlike k) place
     ∙ unlike-bit word (55 - m - s.reach + i) c (omega arith))
 
--- ---- the bytes before the first pixel that is unlike
--- the bit below the pixels of four bytes, so that no more are counted
-abbrev pub with_end : ℕ → ℕ → ℕ
-with_end a t = bit_or a (bit_or t 8388608)
+-- ---- both stretches in one number
+pub both-unlike : (one two : Bool) (k m n : ℕ) → one ≡ nat_lt m (2 ^ k) → two ≡ nat_lt n (2 ^ k) → (one && two) ≡ nat_lt (bit_or m n) (2 ^ k)
+both-unlike one two k m n first second =
+    ltb_from_iff (
+      (λ (both : (one && two) ≡ true).
+          let parts = and_parts one two both in
+          or_lt k m n (ltb-true _ _ (sym first ∙ parts.0)) (ltb-true _ _ (sym second ∙ parts.1))),
+      (λ (less : bit_or m n < 2 ^ k).
+          and_from one two (first ∙ lt-ltb m _ (omega (arith, less, le_or_l m n))) (second ∙ lt-ltb n _ (omega (arith, less, le_or_r m n)))),
+    )
 
-with_end-lt : (k a t : ℕ) → 24 ≤ k → a < 2 ^ k → t < 2 ^ k → with_end a t < 2 ^ k
-with_end-lt k a t wide one two =
-    let end : 2 ^ 23 < 2 ^ k = pow-lt {i = 23} {j = k} (omega arith) in
-    or_lt k a (bit_or t 8388608) one (or_lt k t 8388608 two (omega (arith, end)))
+-- ---- the pixels at the left
+same-if : (a b : Bool) → (a ≡ true → b ≡ true) → (b ≡ true → a ≡ true) → a ≡ b
+same-if true b gives is = sym (gives refl)
+same-if false true gives is = is refl
+same-if false false gives is = refl
 
-with_end-le : (a t : ℕ) → (a ≤ with_end a t) × ((t ≤ with_end a t) × (8388608 ≤ with_end a t))
-with_end-le a t =
-    let one = le_or_l a (bit_or t 8388608) in
-    let others = le_or_r a (bit_or t 8388608) in
-    let two = le_or_l t 8388608 in
-    let end = le_or_r t 8388608 in
-    (one, (omega arith, omega arith))
-
-leb-from : (b : Bool) (m n : ℕ) → (b ≡ true → m ≤ n) → (m ≤ n → b ≡ true) → b ≡ nat_le m n
-leb-from true m n gives is = sym (le-leb m n (gives refl))
-leb-from false m n gives is = sym (lt-leb m n (⊎_elim (λ (less : n < m). less) (λ (le : m ≤ n). absurd (both_ways false refl (is le))) (cases_lt n m)))
-
-below-top : (n j k : ℕ) → 2 ^ j ≤ n → n < 2 ^ k → j < k
-below-top n j k low less = ⊎_elim (λ (below : j < k). below) (λ (above : k ≤ j). absurd (let wide : 2 ^ k ≤ 2 ^ j = pow-le-pow_right (omega arith) above in omega arith)) (cases_lt j k)
-
-pub alike-few : (a t : ℕ) → a < 2 ^ 64 → t < 2 ^ 64 → max (count_leading_zeros 64 (with_end a t)) 8 / 8 - 1 ≤ 4
-alike-few a t one two =
-    let end : 8388608 ≤ with_end a t = (with_end-le a t).1.1 in
-    let top = leading_top 64 (with_end a t) (omega arith) (with_end-lt 64 a t (omega arith) one two) in
-    let j : ℕ = top.0 in
-    let high : 23 < suc j = below-top (with_end a t) 23 (suc j) (omega arith) top.3 in
-    omega (arith, top.1)
-
-pub alike-exact : (n : Neighbours) (m : ℕ) (c : Bool) (w : Windows) (a t : ℕ) → a < 2 ^ 64 → t < 2 ^ 64 → 1 ≤ m → m ≤ 4
-    → stretch_stays n.above (8 * m) c w.above ≡ nat_lt a (2 ^ (56 - 8 * m)) → stretch_stays n.top (8 * m) c w.top ≡ nat_lt t (2 ^ (56 - 8 * m))
-    → stretches_stay n (8 * m) c w ≡ nat_le m (max (count_leading_zeros 64 (with_end a t)) 8 / 8 - 1)
-alike-exact n m c w a t one two some few above high =
-    let parts = with_end-le a t in
-    let top = leading_top 64 (with_end a t) (omega (arith, parts.1.1)) (with_end-lt 64 a t (omega arith) one two) in
-    let j : ℕ = top.0 in
-    leb-from (stretches_stay n (8 * m) c w) m (max (count_leading_zeros 64 (with_end a t)) 8 / 8 - 1)
-    (λ (stay : stretches_stay n (8 * m) c w ≡ true).
-    let both = and_parts (stretch_stays n.above (8 * m) c w.above) (stretch_stays n.top (8 * m) c w.top) stay in
-    let below : j < 56 - 8 * m =
-    below-top (with_end a t) j (56 - 8 * m) top.2
-    (with_end-lt (56 - 8 * m) a t (omega arith) (ltb-true _ _ (sym above ∙ both.0)) (ltb-true _ _ (sym high ∙ both.1))) in
-    omega (arith, top.1))
-    (λ (enough : m ≤ max (count_leading_zeros 64 (with_end a t)) 8 / 8 - 1).
-    let room : suc j ≤ 56 - 8 * m = omega (arith, top.1) in
-    let wide : 2 ^ suc j ≤ 2 ^ (56 - 8 * m) = pow-le-pow_right (omega arith) room in
-    let less : with_end a t < 2 ^ (56 - 8 * m) = omega (arith, top.3) in
-    and_from _ _ (above ∙ lt-ltb a _ (omega (arith, parts.0))) (high ∙ lt-ltb t _ (omega (arith, parts.1.0))))
+pub left-unlike : (left count : ℕ) (c : Bool) (all : ℕ) → count ≤ 4 → all ≡ cond c (2 ^ count - 1) 0 → is_field left 0 count c ≡ eqb (bit_xor (left % (1 * 2 ^ count % 4294967296)) all) 0
+left-unlike left count c all few is =
+    let small : 2 ^ count ≤ 2 ^ 4 = pow-le-pow_right (omega arith) few in
+    let beside : ℕ = left % (1 * 2 ^ count % 4294967296) in
+    let whole : left / 2 ^ 0 ≡ left = omega arith in
+    let width : 2 ^ count ≡ 1 * 2 ^ count % 4294967296 = omega (arith, small) in
+    let same : left / 2 ^ 0 % 2 ^ count ≡ beside = ap (λ (n : ℕ). n % 2 ^ count) whole ∙ ap (λ (n : ℕ). left % n) width in
+    let sum = xor_add_and beside all in
+    same-if (is_field left 0 count c) (eqb (bit_xor beside all) 0)
+    (λ (stays : is_field left 0 count c ≡ true).
+    eq-eqb _ _ (ap (λ (n : ℕ). bit_xor n all) (sym same ∙ eqb-true _ _ stays ∙ sym is) ∙ xor_self all))
+    (λ (none : eqb (bit_xor beside all) 0 ≡ true).
+    let no : bit_xor beside all ≡ 0 = eqb-true _ _ none in
+    eq-eqb _ _ (same ∙ omega (arith, no, sum, and_le_l beside all, and_le_r beside all) ∙ is))

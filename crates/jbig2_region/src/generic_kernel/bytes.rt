@@ -117,7 +117,7 @@ pub fn push_bytes<L: Ledger>(
 }
 
 /// How many bytes a run is tested for at byte `done` of a group of so many bytes: all eight of a
-/// whole one at its start, else no more than what is left of four.
+/// whole one at its start, else one, since counting how many of a few stay costs more than it saves.
 #[inline(always)]
 fn most_bytes(done: u32, bytes: u32) -> u32
     requires some { done < bytes }
@@ -129,7 +129,7 @@ fn most_bytes(done: u32, bytes: u32) -> u32
     if done == 0 && bytes == 8 {
         return 8;
     }
-    (4 - done % 4).min(bytes - done)
+    1
 }
 
 /// Pixels with these bytes behind them.

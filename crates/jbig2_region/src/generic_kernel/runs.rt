@@ -1,5 +1,5 @@
 //! Runs of likely symbols in rows of a template without adaptive pixels.
-ghost use Rattle.std.specs.Prelude.{◌≡◌, ℕ, ◌+◌, ◌-◌, ◌*◌, ◌/◌, ◌%◌, ◌^◌, ◌<◌, ◌≤◌, false, true, max, min, nat_le, nat_lt, length, slice_index_or, if◌then◌else◌};
+ghost use Rattle.std.specs.Prelude.{◌≡◌, ◌==◌, ℕ, ◌+◌, ◌-◌, ◌*◌, ◌/◌, ◌%◌, ◌^◌, ◌<◌, ◌≤◌, false, true, max, min, nat_lt, length, slice_index_or, if◌then◌else◌};
 ghost use Rattle.jbig2_base.specs.Grid.{Grid, same_colour};
 ghost use Rattle.jbig2_coder.specs.Coder.{fresh};
 ghost use Rattle.jbig2_coder.specs.Table.{row_of};
@@ -43,32 +43,29 @@ fn unlike_stretch(stretch: Stretch, black: bool, window: u64) -> u64
     (unlike << (9 + stretch.reach - stretch.count)) >> (8 - stretch.count)
 }
 
-/// How many of the next bytes, up to four, keep all of both stretches of a colour, with the context
-/// after them: counted at once, since a test of each would be a jump that is hard to foretell.
+/// Which pixels of both stretches are unlike a colour, each in its stretch's place.
 #[inline(always)]
-fn alike_bytes(neighbours: Neighbours, black: bool, windows: Windows) -> u32
+fn unlike_stretches(neighbours: Neighbours, black: bool, windows: Windows) -> u64
     requires near { IsNear neighbours }
-    ensures few { result ≤ 4 }
-    ensures exact { (m : ℕ) → 1 ≤ m → m ≤ 4 →
-        stretches_stay neighbours (8 * m) black windows ≡ nat_le m result }
+    ensures { (m : ℕ) → m ≤ 32 →
+        stretches_stay neighbours m black windows ≡ nat_lt result (2 ^ (56 - m)) }
 {
     let above = unlike_stretch(neighbours.above, black, windows.above);
     let top = unlike_stretch(neighbours.top, black, windows.top);
-    let unlike = above | (top | 8388608);
-    unlike.leading_zeros().max(8) / 8 - 1
+    above | top
 }
 
-/// Whether all pixels at the left are of a colour.
+/// Which pixels at the left are unlike a colour.
 #[inline(always)]
-fn left_stays(count: u32, black: bool, left: u32) -> bool
+fn unlike_left(count: u32, black: bool, left: u32) -> u32
     requires { count ≤ 4 }
-    ensures { result ≡ is_field left 0 count black }
+    ensures { is_field left 0 count black ≡ (result == 0) }
 {
     let all = if black { (1 << count) - 1 } else { 0 };
-    left % (1 << count) == all
+    (left % (1 << count)) ^ all
 }
 
-/// How many of the next bytes stay in one context: up to four, or all of eight.
+/// How many of the next bytes stay in one context: one, or all of eight where so many are asked for.
 #[inline(always)]
 fn staying_bytes(
     neighbours: Neighbours,
@@ -87,15 +84,19 @@ fn staying_bytes(
     ensures eight { 5 ≤ result → (result ≡ 8) ×
         (neighbours_stay neighbours 32 black left windows.second ≡ true) }
 {
-    // Many bytes that are in no run are found by the pixels at the left alone.
-    if !left_stays(neighbours.left, black, left) {
+    let first = unlike_stretches(neighbours, black, windows.first);
+    let beside = unlike_left(neighbours.left, black, left);
+    // One test of all parts of the context: a jump between two of them would be hard to foretell.
+    if (first >> 48) | u64::from(beside) != 0 {
         return 0;
     }
-    let bytes = alike_bytes(neighbours, black, windows.first);
-    if bytes == 4 && most == 8 && alike_bytes(neighbours, black, windows.second) == 4 {
-        return 8;
+    if most == 8 {
+        let second = unlike_stretches(neighbours, black, windows.second);
+        if (first | second) >> 24 == 0 {
+            return 8;
+        }
     }
-    bytes.min(most)
+    1
 }
 
 /// The number of the context whose pixels are all of one colour, out of `count`.

@@ -1,20 +1,35 @@
-use Rattle.std.proofs.Common.{arith, rules, refl, true, Bool, ap, ◌≡◌, ◌∙◌, ◌&&◌}
-use Rattle.std.proofs.lemmas.Bool.{and_from, le-leb, lt-leb}
-use Rattle.jbig2_region.specs.inner.Neighbours.{is_field, stretches_stay}
+use Rattle.std.proofs.Common.{arith, refl, ◌≡◌, ◌∙◌, ◌/◌, ◌^◌}
+use Rattle.std.specs.Int.RustNames.{bit_or}
+use Rattle.std.proofs.lemmas.Bool.{and_from, eq-eqb, lt-ltb}
+use Rattle.std.proofs.lemmas.Nat.{le_or_l, le_or_r}
 use Rattle.jbig2_region.proofs.generic_kernel.runs.staying_bytes.Goals as goal
 
-pub returns-then-alike_bytes-eq4-clause-stay : goal.returns-then-alike_bytes-eq4-clause-stay
-returns-then-alike_bytes-eq4-clause-stay c = λ some.
-    let beside : is_field c.args.left 0 c.args.neighbours.left c.args.black ≡ true = search rules in
-    and_from _ _ beside (c.alike_bytes-bytes.ensures.exact 4 (omega arith) (omega arith) ∙ le-leb 4 c.alike_bytes-bytes.result (omega (arith, c.if-bytes-eq4.true)))
+pub returns-then-first-second-eq0-clause-stay : goal.returns-then-first-second-eq0-clause-stay
+returns-then-first-second-eq0-clause-stay c = λ some.
+    let none : bit_or (c.unlike_stretches-first.result / 2 ^ 48) c.from.result ≡ 0 = omega (arith, c.if-first-from-ne0.false) in
+    and_from _ _
+    (c.unlike_left-beside.ensures ∙ eq-eqb _ 0 (omega (arith, none, c.from.ensures, le_or_r (c.unlike_stretches-first.result / 2 ^ 48) c.from.result)))
+    (c.unlike_stretches-first.ensures 32 (omega arith) ∙ lt-ltb _ _ (omega (arith, c.if-first-second-eq0.true, le_or_l c.unlike_stretches-first.result c.unlike_stretches-second.result)))
 
-pub returns-then-alike_bytes-eq4-clause-eight : goal.returns-then-alike_bytes-eq4-clause-eight
-returns-then-alike_bytes-eq4-clause-eight c = λ more.
-    let beside : is_field c.args.left 0 c.args.neighbours.left c.args.black ≡ true = search rules in
-    (refl, and_from _ _ beside (c.alike_bytes.ensures.exact 4 (omega arith) (omega arith) ∙ le-leb 4 c.alike_bytes.result (omega (arith, c.if-alike_bytes-eq4.true))))
+pub returns-then-first-second-eq0-clause-eight : goal.returns-then-first-second-eq0-clause-eight
+returns-then-first-second-eq0-clause-eight c = λ more.
+    let none : bit_or (c.unlike_stretches-first.result / 2 ^ 48) c.from.result ≡ 0 = omega (arith, c.if-first-from-ne0.false) in (
+      refl,
+      and_from _ _
+          (c.unlike_left-beside.ensures ∙ eq-eqb _ 0 (omega (arith, none, c.from.ensures, le_or_r (c.unlike_stretches-first.result / 2 ^ 48) c.from.result)))
+          (c.unlike_stretches-second.ensures 32 (omega arith) ∙ lt-ltb _ _ (omega (arith, c.if-first-second-eq0.true, le_or_r c.unlike_stretches-first.result c.unlike_stretches-second.result))),
+    )
 
-pub returns-clause-none : goal.returns-clause-none
-returns-clause-none c = λ zero.
-    let beside : is_field c.args.left 0 c.args.neighbours.left c.args.black ≡ true = search rules in
-    ap (λ (b : Bool). b && stretches_stay c.args.neighbours 8 c.args.black c.args.windows.first) beside
-    ∙ (c.alike_bytes-bytes.ensures.exact 1 (omega arith) (omega arith) ∙ lt-leb 1 c.alike_bytes-bytes.result (omega (arith, c.min.ensures, zero, c.requires.some)))
+pub returns-else-first-second-eq0-clause-stay : goal.returns-else-first-second-eq0-clause-stay
+returns-else-first-second-eq0-clause-stay c = λ some.
+    let none : bit_or (c.unlike_stretches-first.result / 2 ^ 48) c.from.result ≡ 0 = omega (arith, c.if-first-from-ne0.false) in
+    and_from _ _
+    (c.unlike_left-beside.ensures ∙ eq-eqb _ 0 (omega (arith, none, c.from.ensures, le_or_r (c.unlike_stretches-first.result / 2 ^ 48) c.from.result)))
+    (c.unlike_stretches-first.ensures 8 (omega arith) ∙ lt-ltb _ _ (omega (arith, none, le_or_l (c.unlike_stretches-first.result / 2 ^ 48) c.from.result)))
+
+pub returns-else-most-eq8-clause-stay : goal.returns-else-most-eq8-clause-stay
+returns-else-most-eq8-clause-stay c = λ some.
+    let none : bit_or (c.unlike_stretches-first.result / 2 ^ 48) c.from.result ≡ 0 = omega (arith, c.if-first-from-ne0.false) in
+    and_from _ _
+    (c.unlike_left-beside.ensures ∙ eq-eqb _ 0 (omega (arith, none, c.from.ensures, le_or_r (c.unlike_stretches-first.result / 2 ^ 48) c.from.result)))
+    (c.unlike_stretches-first.ensures 8 (omega arith) ∙ lt-ltb _ _ (omega (arith, none, le_or_l (c.unlike_stretches-first.result / 2 ^ 48) c.from.result)))
