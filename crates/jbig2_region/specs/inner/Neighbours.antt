@@ -118,14 +118,17 @@ stretches_stay n m colour w = stretch_stays n.above m colour w.above && stretch_
 abbrev pub neighbours_stay : Neighbours → ℕ → Bool → ℕ → Windows → Bool
 neighbours_stay n m colour left w = is_field left 0 n.left colour && stretches_stay n m colour w
 
--- The pixels at the left and what the windows show of the stretches, in one number: it moves on by doubling, and each
--- pixel that is decoded comes in at the low end.
-abbrev pub register_of : Neighbours → ℕ → Windows → ℕ
-register_of n left w = left + w.above / 2 ^ (48 - n.above.reach) % 2 ^ 16 * 2 ^ 16 + w.top / 2 ^ (48 - n.top.reach) % 2 ^ 16 * 2 ^ 40
+-- what the windows show of the stretches, in one number that moves on by doubling
+abbrev pub register_of : Neighbours → Windows → ℕ
+register_of n w = w.above / 2 ^ (48 - n.above.reach) % 2 ^ 16 * 2 ^ 16 + w.top / 2 ^ (48 - n.top.reach) % 2 ^ 16 * 2 ^ 40
 
--- the context that it holds
-abbrev pub cut_of : Neighbours → ℕ → ℕ
-cut_of n register = register % 2 ^ n.left + (register / 2 ^ 23 % 2 ^ n.above.count + register / 2 ^ 47 % 2 ^ n.top.count * 2 ^ n.above.count) * 2 ^ n.left
+-- the stretches' part of a context, which it holds
+abbrev pub stretches_of : Neighbours → ℕ → ℕ
+stretches_of n register = register / 2 ^ 23 % 2 ^ n.above.count + register / 2 ^ 47 % 2 ^ n.top.count * 2 ^ n.above.count
+
+-- the context, with the pixels at the left in another number
+abbrev pub cut_of : Neighbours → ℕ → ℕ → ℕ
+cut_of n register beside = beside % 2 ^ n.left + stretches_of n register * 2 ^ n.left
 
 abbrev pub adaptive_count : Adaptives → ℕ
 adaptive_count a = length a.first.now + (length a.middle.now + length a.last.now)

@@ -53,16 +53,18 @@ pub fn push_pixels<L: Ledger>(
     ensures steps { steps.new ≡
         record steps.old { decisions = steps.old.decisions + count } }
 {
-    let mut register = neighbours.register(left, windows);
-    let mut context = neighbours.context(register);
+    let mut register = neighbours.register(windows);
+    let mut beside = left;
+    let mut context = neighbours.context(register, beside);
     for _ in 0..count {
         let symbol = decoder.decode(&mut contexts[context as usize], steps);
         register *= 2;
-        let higher = neighbours.context(register);
+        beside *= 2;
+        let higher = neighbours.context(register, beside);
         context = higher + symbol;
-        register += u64::from(symbol);
+        beside += symbol;
     }
-    register % (1 << count)
+    u64::from(beside) % (1 << count)
 }
 
 /// Whole bytes of a row that are decoded: how many, and their pixels, the first in the highest of so

@@ -210,36 +210,33 @@ impl WideWindows {
 }
 
 impl Neighbours {
-    /// The pixels at the left and what the windows show of the two stretches, in one number. It moves
-    /// on by doubling, and each decoded pixel comes in at its low end: after so many pixels, up to
-    /// seven, `context` finds the next one's context in it.
+    /// What the windows show of the two stretches, in one number. It moves on by doubling: after so
+    /// many pixels, up to seven, `context` finds the next one's context in it.
     #[inline(always)]
-    pub fn register(self, left: u32, windows: Windows) -> u64
+    pub fn register(self, windows: Windows) -> u64
         requires near { IsNear self }
-        requires small { left < 16 }
-        ensures value { result ≡ register_of self left windows }
+        ensures value { result ≡ register_of self windows }
         ensures bound { result < 2 ^ 56 }
     {
         let above = (windows.above >> (48 - self.above.reach)) % 65536;
         let top = (windows.top >> (48 - self.top.reach)) % 65536;
-        u64::from(left) + above * 65536 + top * 1099511627776
+        above * 65536 + top * 1099511627776
     }
 
-    /// The number of the context that a register holds: one product brings its three fields side by
-    /// side, from bit 48 on.
+    /// The number of the context of which a register holds the two stretches, and the lowest bits of
+    /// `beside` the pixels at the left. One product brings the stretches side by side, from bit 48 on.
+    /// The pixels at the left are added behind it, so that it waits for none of their decisions.
     #[inline(always)]
-    pub fn context(self, register: u64) -> u32
+    pub fn context(self, register: u64, beside: u32) -> u32
         requires near { IsNear self }
-        ensures value { result ≡ cut_of self register }
+        ensures value { result ≡ cut_of self register beside }
         ensures bound { result < 2 ^ neighbour_count self }
     {
-        let left = register % (1 << self.left);
         let above = (register >> 23) % (1 << self.above.count);
         let top = (register >> 47) % (1 << self.top.count);
-        let fields = left + above * 8388608 + top * 140737488355328;
-        let places = 281474976710656
-            + (33554432 << self.left)
-            + (2 << (self.left + self.above.count));
-        (fields.wrapping_mul(places) >> 48) as u32
+        let fields = above * 8388608 + top * 140737488355328;
+        let places = (33554432 << self.left) + (2 << (self.left + self.above.count));
+        let stretches = (fields.wrapping_mul(places) >> 48) as u32;
+        stretches + beside % (1 << self.left)
     }
 }

@@ -8,9 +8,10 @@ use Rattle.jbig2_region.proofs.generic_kernel.bytes.push_pixels.Given as goal
 abbrev pub invariant-loop : goal.invariant-loop
 invariant-loop g l = record {
   bytes : l.decoder.bytes ≡ l.initial.decoder.bytes;
-  made : l.register ≡ register_of l.fn.neighbours l.fn.left l.fn.windows * 2 ^ l.counter + l.register % 2 ^ l.counter;
-  context : l.context ≡ cut_of l.fn.neighbours l.register;
-  left : (grid : Grid) (x y : ℕ) → Stands grid x y l.fn.count l.fn.left l.fn.windows → IsLeft (with_pixels grid x y l.counter (l.register % 2 ^ l.counter)) (x + l.counter) y l.register;
-  holds : PushesPixels l.fn.neighbours l.fn.count l.fn.left l.fn.windows l.counter (l.register % 2 ^ l.counter) l.initial.decoder l.initial.contexts l.decoder l.contexts;
+  moved : l.register ≡ register_of l.fn.neighbours l.fn.windows * 2 ^ l.counter;
+  made : l.beside ≡ l.fn.left * 2 ^ l.counter + l.beside % 2 ^ l.counter;
+  context : l.context ≡ cut_of l.fn.neighbours l.register l.beside;
+  left : (grid : Grid) (x y : ℕ) → Stands grid x y l.fn.count l.fn.left l.fn.windows → IsLeft (with_pixels grid x y l.counter (l.beside % 2 ^ l.counter)) (x + l.counter) y l.beside;
+  holds : PushesPixels l.fn.neighbours l.fn.count l.fn.left l.fn.windows l.counter (l.beside % 2 ^ l.counter) l.initial.decoder l.initial.contexts l.decoder l.contexts;
   steps : l.steps ≡ record l.initial.steps { decisions = l.initial.steps.decisions + l.counter };
 }
