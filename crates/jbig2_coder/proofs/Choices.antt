@@ -75,6 +75,22 @@ choice-renorm x y a c qe size below symbol e small short half upper_size lower_s
     (cases_lt (a - qe) qe))
     (cases_lt (c / 2 ^ 16) (a - qe))
 
+-- the same, by what the less likely symbol leaves of A and by the upper half of C
+pub choice-part : (x y : Context) (rest qe high size below c : ℕ) (symbol : Bool) → (row_of x.row).qe ≡ qe → c < 2 ^ 32 → c / 2 ^ 16 ≡ high → rest + qe < 0x10000
+    → (high < rest → rest < 0x8000) → (high < rest → size ≡ rest) → (rest ≤ high → size ≡ qe) → (high < rest → below ≡ 0) → (rest ≤ high → below ≡ rest)
+    → y ≡ cond (not (beq (leb rest high) (ltb rest qe))) (unlikely_next x) (likely_next x)
+    → symbol ≡ cond (not (beq (leb rest high) (ltb rest qe))) (not x.likely) x.likely
+    → choice x (rest + qe) c ≡ record { symbol = symbol; a = size; c = c - below * 2 ^ 16; context = y; renorm = true }
+choice-part x y rest qe high size below c symbol e small at room half upper_size lower_size upper_below lower_below context named =
+    let left : rest + qe - qe ≡ rest = omega arith in
+    let inside : below ≤ c / 2 ^ 16 = ⊎_elim (λ (upper : high < rest). omega (arith, upper_below upper)) (λ (lower : rest ≤ high). omega (arith, lower_below lower, at)) (cases_lt high rest) in
+    let moved : (c + (2 ^ 32 - below * 2 ^ 16)) % 2 ^ 32 ≡ c - below * 2 ^ 16 = omega (arith, inside, small) in
+    choice-renorm x y (rest + qe) c qe size (below * 2 ^ 16) symbol e small room
+    (λ u. omega (arith, half (omega (arith, u, at)))) (λ u. upper_size (omega (arith, u, at)) ∙ sym left) (λ u. lower_size (omega (arith, u, at)))
+    (λ u. ap (λ (n : ℕ). n * 2 ^ 16) (upper_below (omega (arith, u, at)))) (λ u. omega (arith, lower_below (omega (arith, u, at)), room))
+    (rw (left, at) context) (rw (left, at) named)
+    ∙ (λ i. record { symbol = symbol; a = size; c = moved i; context = y; renorm = true })
+
 pub lower-c : (c rest : ℕ) → rest < 0x10000 → (c + (2 ^ 32 - rest * 2 ^ 16)) % 2 ^ 32 ≡ (c + (2 ^ 32 - rest * 2 ^ 16 % 2 ^ 32)) % 2 ^ 32
 lower-c c rest h =
     let e : rest * 2 ^ 16 ≡ rest * 2 ^ 16 % 2 ^ 32 = omega arith in

@@ -3,8 +3,7 @@ use Rattle.std.proofs.Common.{◌≡◌, ℕ, ◌-◌, ◌/◌, ◌^◌, ◌<◌
 use mir.Val.{bool_byte}
 use Rattle.jbig2_base.specs.Grid.{bit_number}
 use Rattle.jbig2_coder.specs.Table.{row_of}
-use Rattle.jbig2_coder.specs.Coder.{Context, choice, decision, renormed}
-use Rattle.jbig2_coder.specs.declared.arithmetic_decoder.registers.Registers.{Registers}
+use Rattle.jbig2_coder.specs.Coder.{Context, Registers, choice, decision, renormed}
 use Rattle.jbig2_coder.proofs.Choices.{choice-quiet}
 
 pub bool_byte-bit : (b : Bool) → bool_byte b ≡ bit_number b

@@ -3,10 +3,9 @@
 use Rattle.std.proofs.Common.{◌≡◌, ℕ, zero, suc, ◌+◌, ◌-◌, ◌*◌, ◌%◌, ◌^◌, ◌<◌, ◌≤◌, List, refl, sym, ap, ◌∙◌, arith, subst, ⊎_elim, ◌⊎◌, inl}
 use Rattle.std.proofs.Math.Nat.{pow-suc, lt_of_mul-lt-mul_right}
 use Rattle.std.proofs.lemmas.Bool.{cases_eq, cases_lt}
-use Rattle.jbig2_coder.specs.Coder.{byte_at, byte_in, filled, doubled, renormed}
+use Rattle.jbig2_coder.specs.Coder.{Registers, byte_at, byte_in, filled, doubled, renormed}
 use Rattle.jbig2_coder.specs.Encoder.{Writer, Coding, shifted, renormed as encoder_renormed}
 use Rattle.jbig2_coder.specs.declared.arithmetic_decoder.registers.CodeRegister.{CodeRegister}
-use Rattle.jbig2_coder.specs.declared.arithmetic_decoder.registers.Registers.{Registers}
 use Rattle.jbig2_coder.proofs.Encoders.{renormed-step as encoder-step, renormed-stop as encoder-stop}
 use Rattle.jbig2_coder.proofs.Renorm.{filled-some, filled-none, renormed-step, renormed-stop}
 use Rattle.jbig2_coder.proofs.InverseByteOut.{low, time, Bounded}

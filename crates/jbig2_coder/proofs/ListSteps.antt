@@ -6,10 +6,9 @@ use Rattle.std.proofs.lemmas.List.{get_or_past, get_or_default, drop_all, append
 use Rattle.jbig2_base.specs.declared.error.DecodeError.{DecodeError}
 use Rattle.jbig2_base.specs.Answer.{Gives}
 use Rattle.jbig2_base.specs.Grid.{bit_number}
-use Rattle.jbig2_coder.specs.Coder.{Coder, Context, Decision, fresh, decision, initial_registers}
+use Rattle.jbig2_coder.specs.Coder.{Coder, Context, Decision, Registers, fresh, decision, initial_registers}
 use Rattle.jbig2_coder.specs.Encoder.{Coding, opened, encoding, flushed, closed}
 use Rattle.jbig2_coder.specs.Lists.{Contexts, all_fresh, contexts_of, with_context, encode_from, encoded, decoded_from, read_back}
-use Rattle.jbig2_coder.specs.declared.arithmetic_decoder.registers.Registers.{Registers}
 
 pub contexts_of-fresh : (known : List Context) → ((k : ℕ) → k < length known → get_or known k fresh ≡ fresh) → contexts_of known ≡ all_fresh
 unfolding contexts_of

@@ -52,10 +52,10 @@ shifted_by-more k r =
     let e : r.ct - 1 - k ≡ r.ct - suc k = omega arith in
     λ i. record { c = shifted_c r.c k i; ct = e i; place = r.place }
 
-double-room : (a k : ℕ) → a * 2 ^ suc k < 2 ^ 16 → 2 * a * 2 ^ k < 2 ^ 16
+pub double-room : (a k : ℕ) → a * 2 ^ suc k < 2 ^ 16 → 2 * a * 2 ^ k < 2 ^ 16
 double-room a k h = omega (arith, rw pow-suc at h)
 
-batch-room : (a k : ℕ) → a * 2 ^ suc k < 2 ^ 16 → a < 0x8000
+pub batch-room : (a k : ℕ) → a * 2 ^ suc k < 2 ^ 16 → a < 0x8000
 batch-room a k h = omega (arith, rw pow-suc at h, mul-le-mul_left a (pow_pos k))
 
 doubled-c : (r : CodeRegister) → (doubled r).c < 2 ^ 32
@@ -129,6 +129,16 @@ leading-room a k some half h =
     let p : 2 ^ k * suc a ≤ 2 ^ k * 2 ^ j = mul-le-mul_left (2 ^ k) top.3 in
     let q : 2 ^ (j + k) ≤ 2 ^ 16 = pow-le-pow_right (omega arith) small in
     omega (arith, p, q, pow-add 2 j k, pow_pos k)
+
+pub leading-full : (a : ℕ) → 1 ≤ a → a < 0x8000 → 0x8000 ≤ a * 2 ^ (count_leading_zeros 32 a - 16)
+leading-full a some half =
+    let top = leading_top 32 a some (omega arith) in
+    let j : ℕ = top.0 in
+    let k : ℕ = count_leading_zeros 32 a - 16 in
+    let all : j + k ≡ 15 = omega (arith, top.1, leading-top a top.0 top.2 half) in
+    let p : 2 ^ k * 2 ^ j ≤ 2 ^ k * a = mul-le-mul_left (2 ^ k) top.2 in
+    let q : 2 ^ j * 2 ^ k ≡ 0x8000 = sym (pow-add 2 j k) ∙ ap (λ v. 2 ^ v) all in
+    omega (arith, p, q)
 
 pub shifted-more : (a k : ℕ) → 1 ≤ a → 1 ≤ k → a < a * 2 ^ k
 shifted-more a k some h =

@@ -5,8 +5,7 @@ use Rattle.std.proofs.lemmas.Bool.{cases_lt, and_from, and_left, and_right, true
 use Rattle.std.proofs.lemmas.Bool.Decides.{nat_tests}
 use Rattle.jbig2_coder.specs.inner.Floor.{floor_of}
 use Rattle.jbig2_coder.specs.Table.{row_of}
-use Rattle.jbig2_coder.specs.Coder.{Context, choice, decision, is_quiet, all_quiet}
-use Rattle.jbig2_coder.specs.declared.arithmetic_decoder.registers.Registers.{Registers}
+use Rattle.jbig2_coder.specs.Coder.{Context, Registers, choice, decision, is_quiet, all_quiet}
 use Rattle.jbig2_coder.proofs.Choices.{choice-quiet}
 use Rattle.jbig2_coder.proofs.Decisions.{decision-quiet}
 

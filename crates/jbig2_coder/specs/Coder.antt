@@ -5,7 +5,6 @@
 use Rattle.std.specs.Prelude.{ℕ, suc, zero, ◌+◌, ◌-◌, ◌*◌, ◌/◌, ◌%◌, ◌^◌, ◌<◌, ◌≤◌, length, Bool, true, false, not, ◌&&◌, if◌then◌else◌, ◌==◌, nat_lt, nat_le, List, slice_index_or}
 use Rattle.jbig2_coder.specs.Table.{row_of}
 use Rattle.jbig2_coder.specs.declared.arithmetic_decoder.registers.CodeRegister.{CodeRegister}
-use Rattle.jbig2_coder.specs.declared.arithmetic_decoder.registers.Registers.{Registers}
 
 -- A context: a row of the table, and the symbol that is likely there.
 pub record Context : Type 0 where
@@ -14,6 +13,11 @@ pub record Context : Type 0 where
 
 abbrev pub fresh : Context
 fresh = record { row = 0; likely = false }
+
+-- The interval register A, and the code register: C, CT and the place of the byte that was read last.
+pub record Registers : Type 0 where
+  pub a : ℕ
+  pub code : CodeRegister
 
 -- A decoder: the bytes that it reads, and its registers.
 pub record Coder : Type 0 where

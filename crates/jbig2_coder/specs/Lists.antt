@@ -1,9 +1,8 @@
 -- Whole lists of decisions, each in a context that its number names: what the encoder makes of them,
 -- and what the decoder reads (T.88, Annexes E and G). Before the first decision every context is fresh.
 use Rattle.std.specs.Prelude.{ℕ, Bool, if◌then◌else◌, ◌==◌, List, [], ◌∷◌, map, slice_index_or, ◌≡◌}
-use Rattle.jbig2_coder.specs.Coder.{Context, fresh, decision, initial_registers}
+use Rattle.jbig2_coder.specs.Coder.{Context, Registers, fresh, decision, initial_registers}
 use Rattle.jbig2_coder.specs.Encoder.{Coding, opened, encoding, flushed, closed}
-use Rattle.jbig2_coder.specs.declared.arithmetic_decoder.registers.Registers.{Registers}
 
 -- what is known of each context
 abbrev pub Contexts : Type 0

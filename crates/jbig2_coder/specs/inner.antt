@@ -1,3 +1,4 @@
+pub mod Ahead
 pub mod EncoderViews
 pub mod FirstCodes
 pub mod Floor

@@ -1,15 +1,13 @@
 //! The arithmetic decoder (T.88, Annexes E and G).
 
-ghost use Rattle.std.specs.Prelude.{◌≡◌, ◌+◌, ◌-◌, ◌*◌, ◌/◌, ◌^◌, ◌<◌, ◌≤◌, not, true, false, max, if◌then◌else◌};
+ghost use Rattle.std.specs.Prelude.{◌≡◌, ℕ, ◌+◌, ◌-◌, ◌*◌, ◌/◌, ◌^◌, ◌<◌, ◌≤◌, not, true, false, max, if◌then◌else◌};
 ghost use Rattle.jbig2_base.specs.Grid.{bit_number};
 ghost use Rattle.jbig2_coder.specs.Table.{row_of};
 ghost use Rattle.jbig2_coder.specs.Coder.{fresh, byte_at, byte_in, renormed, initial_registers, choice, likely_next, unlikely_next, decision, all_quiet};
-ghost use Rattle.jbig2_coder.specs.inner.Floor.{floor_of};
+ghost use Rattle.jbig2_coder.specs.inner.States.{Does};
 
-use crate::arithmetic_decoder::qe_table::state_at;
-use crate::arithmetic_decoder::registers::{
-    CodeRegister, Registers, byte_at, byte_in, renormalize,
-};
+use crate::arithmetic_decoder::qe_table::{State, state_at};
+use crate::arithmetic_decoder::registers::{BufferedRegisters, CodeBuffer, byte_at, byte_in};
 use jbig2_base::bitmap::steps::Steps;
 use std::marker::Model;
 use std::sync::ledger::Ledger;
@@ -22,6 +20,15 @@ pub mod registers;
 #[derive(Clone, Copy)]
 pub struct ArithmeticDecoderContext {
     pub(crate) state: u8,
+}
+
+/// What a decision that isn't quiet chooses: the symbol, the size of its part of the interval, and
+/// how much lies below that part.
+#[derive(Clone, Copy)]
+struct Part {
+    symbol: bool,
+    size: u32,
+    below: u32,
 }
 
 impl Model for ArithmeticDecoderContext {
@@ -96,50 +103,53 @@ impl ArithmeticDecoderContext {
     }
 
     /// The symbol of a decision that isn't quiet, which gets its part of the interval (MPS_EXCHANGE
-    /// and LPS_EXCHANGE, E.3.2).
+    /// and LPS_EXCHANGE, E.3.2): `state` is what the context does, `rest` what the less likely symbol
+    /// leaves of A, `high` the upper half of C.
     #[inline(always)]
-    fn exchange(&mut self, registers: &mut Registers) -> bool
-        requires normal { 0x8000 ≤ registers.old.a }
-        requires below { registers.old.a < 0x10000 }
-        requires renorm { registers.old.code.c / 2 ^ 16 < registers.old.a - (row_of self.old.row).qe
-            → registers.old.a - (row_of self.old.row).qe < 0x8000 }
-        ensures choice { choice self.old registers.old.a registers.old.code.c
+    fn exchange(&mut self, state: State, rest: u32, high: u32) -> Part
+        requires normal { 0x8000 ≤ rest + state.qe }
+        requires below { rest + state.qe < 0x10000 }
+        requires renorm { high < rest → rest < 0x8000 }
+        requires does { Does state self.old }
+        ensures choice { (c : ℕ) → c < 2 ^ 32 → c / 2 ^ 16 ≡ high →
+            choice self.old (rest + state.qe) c
             ≡ record {
-              symbol = result;
-              a = registers.new.a;
-              c = registers.new.code.c;
+              symbol = result.symbol;
+              a = result.size;
+              c = c - result.below * 2 ^ 16;
               context = self.new;
               renorm = true;
             } }
-        ensures bits { registers.new.code.ct ≡ registers.old.code.ct }
-        ensures place { registers.new.code.place ≡ registers.old.code.place }
-        ensures some { 1 ≤ registers.new.a }
-        ensures half { registers.new.a < 0x8000 }
+        ensures within { result.below ≤ high }
+        ensures some { 1 ≤ result.size }
+        ensures half { result.size < 0x8000 }
     {
         // Which of the two it is can hardly be foretold, so no jump hangs on it.
-        let state = state_at(self.state);
-        let rest = registers.a - state.qe;
-        let is_lower = registers.code.c >> 16 >= rest;
+        let is_lower = high >= rest;
         let is_unlikely = is_lower != (rest < state.qe);
-        let below = if is_lower { rest << 16 } else { 0 };
-        registers.code.c = registers.code.c.wrapping_sub(below);
-        registers.a = if is_lower { state.qe } else { rest };
-        let symbol = self.likely_symbol() ^ is_unlikely;
+        let below = if is_lower { rest } else { 0 };
+        let size = if is_lower { state.qe } else { rest };
+        let symbol = (state.likely % 2 == 1) ^ is_unlikely;
         self.state = if is_unlikely {
             state.unlikely
         } else {
             state.likely
         };
-        symbol
+        Part {
+            symbol,
+            size,
+            below,
+        }
     }
 }
 
-/// Where A has to stay for a decision to be quiet, by the code register C.
+/// Where A has to stay for a decision to be quiet, by the upper half of the code register C.
 #[inline(always)]
-fn floor_of(c: u32) -> u32
-    ensures { result ≡ floor_of c }
+fn floor_above(high: u32) -> u32
+    requires { high < 2 ^ 16 }
+    ensures { result ≡ max (high + 1) 0x8000 }
 {
-    ((c >> 16) + 1).max(0x8000)
+    (high + 1).max(0x8000)
 }
 
 /// How often `total` goes into `room`, but no more than `most` times.
@@ -162,22 +172,20 @@ fn whole_groups(room: u32, total: u32, most: u32) -> u32
 #[derive(Drop)]
 pub struct ArithmeticDecoder<'a> {
     bytes: &'a [u8],
-    registers: Registers,
+    registers: BufferedRegisters,
     /// Where A has to stay for a decision to be quiet. It changes with C alone, so it is kept.
     floor: u32,
 }
 
 impl<'a> Model for ArithmeticDecoder<'a> {
-    ghost use Rattle.std.specs.Prelude.{◌≡◌};
-    ghost use Rattle.jbig2_coder.specs.Coder.{Coder, IsAtRest};
-    ghost use Rattle.jbig2_coder.specs.inner.Floor.{floor_of};
+    ghost use Rattle.jbig2_coder.specs.Coder.{Coder};
+    ghost use Rattle.jbig2_coder.specs.inner.Ahead.{IsKept, seen_registers};
 
     ghost Value = { Coder };
 
-    ghost view = { λ s. record { bytes = s.bytes.now; registers = s.registers } };
+    ghost view = { λ s. record { bytes = s.bytes.now; registers = seen_registers s.registers } };
 
-    ghost invariant = { λ s. IsAtRest s.bytes.now s.registers
-        × (s.floor ≡ floor_of s.registers.code.c) };
+    ghost invariant = { λ s. IsKept s.bytes.now s.registers s.floor };
 }
 
 impl<'a> ArithmeticDecoder<'a> {
@@ -189,18 +197,18 @@ impl<'a> ArithmeticDecoder<'a> {
     {
         let first = u32::from(!byte_at(bytes, 0)) << 16;
         let code = byte_in(bytes, first, 0);
-        let c = code.c << 7;
+        let c = u64::from(code.c << 7) << 32;
         ArithmeticDecoder {
             bytes,
-            registers: Registers {
+            registers: BufferedRegisters {
                 a: 0x8000,
-                code: CodeRegister {
+                code: CodeBuffer {
                     c,
-                    ct: code.ct - 7,
+                    bits: code.ct - 7,
                     place: code.place,
                 },
             },
-            floor: floor_of(c),
+            floor: floor_above((c >> 48) as u32),
         }
     }
 
@@ -223,21 +231,28 @@ impl<'a> ArithmeticDecoder<'a> {
     {
         steps.decision();
         // Read once: for all that the compiler knows, A is kept where the context is.
-        let state = context.state;
-        let rest = self.registers.a - state_at(state).qe;
+        let index = context.state;
+        let state = state_at(index);
+        let rest = self.registers.a - state.qe;
         if rest >= self.floor {
             self.registers.a = rest;
-            return u32::from(state % 2);
+            return u32::from(index % 2);
         }
-        u32::from(self.decode_renormalized(context))
+        u32::from(self.decode_renormalized(context, state, rest))
     }
 
-    /// A decision that isn't quiet. It stands apart, so that loops of decisions stay small.
+    /// A decision that isn't quiet, of which it is known already what the context does and what is left of A.
+    /// It stands apart, so that loops of decisions stay small.
     #[inline(never)]
-    fn decode_renormalized(&mut self, context: &mut ArithmeticDecoderContext) -> bool
-        requires renorm { self.old.registers.code.c / 2 ^ 16
-            < self.old.registers.a - (row_of context.old.row).qe
-            → self.old.registers.a - (row_of context.old.row).qe < 0x8000 }
+    fn decode_renormalized(
+        &mut self,
+        context: &mut ArithmeticDecoderContext,
+        state: State,
+        rest: u32,
+    ) -> bool
+        requires renorm { self.old.registers.code.c / 2 ^ 16 < rest → rest < 0x8000 }
+        requires does { Does state context.old }
+        requires rest { self.old.registers.a ≡ rest + state.qe }
         ensures value { result
             ≡ (decision self.old.bytes self.old.registers context.old).symbol }
         ensures coder { self.new ≡ record self.old {
@@ -246,11 +261,12 @@ impl<'a> ArithmeticDecoder<'a> {
         ensures context { context.new
             ≡ (decision self.old.bytes self.old.registers context.old).context }
     {
-        let mut registers = self.registers;
-        let symbol = context.exchange(&mut registers);
-        self.registers = renormalize(self.bytes, registers);
-        self.floor = floor_of(self.registers.code.c);
-        symbol
+        let high = self.registers.code.upper_half();
+        let part = context.exchange(state, rest, high);
+        self.registers.narrow(part.size, part.below);
+        self.registers.renormalize(self.bytes);
+        self.floor = floor_above(self.registers.code.upper_half());
+        part.symbol
     }
 
     /// Whether the next `count` decisions in `context` are all the likely symbol, each without a

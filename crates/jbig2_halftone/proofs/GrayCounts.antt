@@ -6,8 +6,7 @@ use Rattle.std.proofs.Math.Nat.{mul-le-mul_left}
 use Rattle.jbig2_base.proofs.LaneCounts.{lanes-none, lanes-then}
 use Rattle.jbig2_base.specs.Counts.{Counts, KeepsLanes}
 use Rattle.jbig2_base.specs.Grid.{Grid, blank}
-use Rattle.jbig2_coder.specs.Coder.{Coder, Context}
-use Rattle.jbig2_coder.specs.declared.arithmetic_decoder.registers.Registers.{Registers}
+use Rattle.jbig2_coder.specs.Coder.{Coder, Context, Registers}
 use Rattle.jbig2_region.specs.Generic.{coding_of}
 use Rattle.jbig2_region.specs.inner.Layouts.{read_pixels}
 use Rattle.jbig2_region.specs.Raster.{Coding, Region, at_pixel, no_pixels}

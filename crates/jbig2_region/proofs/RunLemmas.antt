@@ -10,8 +10,7 @@ use Rattle.jbig2_base.specs.inner.WordBits.{bit}
 use Rattle.jbig2_base.proofs.GridLemmas.{pixel_at-grid_of, pixel_at-right, pixel_at-below}
 use Rattle.jbig2_region.specs.Generic.{context_at}
 use Rattle.jbig2_region.specs.inner.Neighbours.{left_pixels, stretch_pixels, nominal_pixels, neighbours_stay, stretch_stays, is_field, neighbour_count, IsNear, IsLeft, IsWindow, Shows, SameAbove}
-use Rattle.jbig2_coder.specs.Coder.{Coder, Context, fresh, all_quiet}
-use Rattle.jbig2_coder.specs.declared.arithmetic_decoder.registers.Registers.{Registers}
+use Rattle.jbig2_coder.specs.Coder.{Coder, Context, Registers, fresh, all_quiet}
 use Rattle.jbig2_region.specs.inner.Holds.{Holds}
 use Rattle.jbig2_region.specs.Raster.{Region, so_far}
 use Rattle.jbig2_base.specs.Grid.{same_colour}

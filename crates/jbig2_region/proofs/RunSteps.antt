@@ -7,9 +7,8 @@ use Rattle.std.proofs.Math.Nat.{pow-le-pow_right}
 use Rattle.jbig2_base.specs.Grid.{Grid, bit_number}
 use Rattle.jbig2_base.specs.inner.WordBits.{bit}
 use Rattle.jbig2_base.specs.inner.Writes.{with_pixel, with_pixels}
-use Rattle.jbig2_coder.specs.Coder.{Coder, Context, Decision, decision, fresh, is_quiet, all_quiet}
+use Rattle.jbig2_coder.specs.Coder.{Coder, Context, Decision, Registers, decision, fresh, is_quiet, all_quiet}
 use Rattle.jbig2_coder.specs.Table.{row_of}
-use Rattle.jbig2_coder.specs.declared.arithmetic_decoder.registers.Registers.{Registers}
 use Rattle.jbig2_coder.proofs.Runs.{is_quiet-decision}
 use Rattle.jbig2_region.specs.Generic.{context_at}
 use Rattle.jbig2_region.specs.inner.Holds.{Holds}

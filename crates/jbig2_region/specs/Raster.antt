@@ -3,9 +3,8 @@
 -- contexts with which it begins; it gives the pixels, and what registers and contexts have come to.
 use Rattle.std.specs.Prelude.{ℕ, suc, zero, ◌+◌, ◌*◌, ◌/◌, ◌%◌, ◌^◌, ◌==◌, Bool, false, if◌then◌else◌, List, [], ◌∷◌, ◌++◌, length, replicate, slice_index_or, slice_set, Option, Some, None}
 use Rattle.jbig2_base.specs.Grid.{Grid, grid_of}
-use Rattle.jbig2_coder.specs.Coder.{Context, fresh, decision}
+use Rattle.jbig2_coder.specs.Coder.{Context, Registers, fresh, decision}
 use Rattle.jbig2_mmr.specs.T6.{differ}
-use Rattle.jbig2_coder.specs.declared.arithmetic_decoder.registers.Registers.{Registers}
 
 -- The grid of the pixels decoded so far; a pixel that is not decoded yet is white.
 unfoldable pub so_far : ℕ → ℕ → List Bool → Grid

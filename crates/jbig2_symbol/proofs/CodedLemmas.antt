@@ -4,8 +4,7 @@ use Rattle.jbig2_base.specs.Grid.{Grid}
 use Rattle.jbig2_base.specs.Sizes.{blank_or_overflow}
 use Rattle.jbig2_base.specs.declared.error.DecodeError.{DecodeError}
 use Rattle.jbig2_base.proofs.FillLemmas.{white-made}
-use Rattle.jbig2_coder.specs.Coder.{Coder, Context}
-use Rattle.jbig2_coder.specs.declared.arithmetic_decoder.registers.Registers.{Registers}
+use Rattle.jbig2_coder.specs.Coder.{Coder, Context, Registers}
 use Rattle.jbig2_region.specs.inner.Holds.{Holds}
 use Rattle.jbig2_region.specs.Raster.{Region, so_far, decoded_region, no_pixels}
 use Rattle.jbig2_region.specs.Generic.{coding_of}

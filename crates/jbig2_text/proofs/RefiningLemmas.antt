@@ -1,8 +1,7 @@
 -- What the code holds of a refined symbol.
 use Rattle.std.proofs.Common.{◌≡◌, ℕ, List, [], ◌∷◌, take, false, ◌∙◌, ap, refl, subst}
 use Rattle.jbig2_base.specs.Grid.{Grid}
-use Rattle.jbig2_coder.specs.Coder.{Coder, Context}
-use Rattle.jbig2_coder.specs.declared.arithmetic_decoder.registers.Registers.{Registers}
+use Rattle.jbig2_coder.specs.Coder.{Coder, Context, Registers}
 use Rattle.jbig2_region.specs.inner.Holds.{Holds}
 use Rattle.jbig2_region.specs.Raster.{Coding, decoded_region, no_pixels}
 use Rattle.jbig2_region.specs.Refinement.{Reference, refinement_coding}

@@ -2,8 +2,7 @@
 -- dictionary, which go on from symbol to symbol. Whoever reads lends them.
 use Rattle.std.specs.Prelude.{ℕ, false, List, [], take, Option, Some, None}
 use Rattle.jbig2_base.specs.Grid.{Grid}
-use Rattle.jbig2_coder.specs.Coder.{Coder, Context}
-use Rattle.jbig2_coder.specs.declared.arithmetic_decoder.registers.Registers.{Registers}
+use Rattle.jbig2_coder.specs.Coder.{Coder, Context, Registers}
 use Rattle.jbig2_region.specs.Raster.{Region, no_pixels, fresh_contexts, so_far, decoded_region}
 use Rattle.jbig2_region.specs.Refinement.{Reference, refinement_bits, refinement_coding}
 use Rattle.jbig2_region.specs.declared.template.AdaptiveTemplatePixel.{AdaptiveTemplatePixel}

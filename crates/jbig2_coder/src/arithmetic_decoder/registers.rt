@@ -1,7 +1,8 @@
 //! The registers of the arithmetic decoder, and how bytes go into them (T.88, Annex G).
 
-ghost use Rattle.std.specs.Prelude.{◌≡◌, ◌+◌, ◌*◌, ◌^◌, ◌<◌, ◌≤◌, length};
-ghost use Rattle.jbig2_coder.specs.Coder.{byte_at, byte_in, filled, renormed};
+ghost use Rattle.std.specs.Prelude.{◌≡◌, ◌+◌, ◌-◌, ◌*◌, ◌/◌, ◌^◌, ◌<◌, ◌≤◌, length};
+ghost use Rattle.jbig2_coder.specs.Coder.{byte_at, byte_in, renormed};
+ghost use Rattle.jbig2_coder.specs.inner.Ahead.{IsAhead, seen_of, seen_registers, shifted};
 
 /// The code register C, the bits of it that are left before the next byte is read (CT), and the
 /// place of the byte that was read last.
@@ -12,11 +13,49 @@ pub struct CodeRegister {
     pub place: usize,
 }
 
+/// The code register with bytes that are read ahead: its upper half in the highest 16 bits of `c`,
+/// then `bits` bits, and zeros. `place` is the place of the byte that was read last. Bytes behind a
+/// byte FF are not read ahead, since they may change the bits above them.
+#[derive(Clone, Copy)]
+pub struct CodeBuffer {
+    pub c: u64,
+    pub bits: u32,
+    pub place: usize,
+}
+
 /// The interval register A, and the code register.
 #[derive(Clone, Copy)]
-pub struct Registers {
+pub struct BufferedRegisters {
     pub a: u32,
-    pub code: CodeRegister,
+    pub code: CodeBuffer,
+}
+
+impl CodeBuffer {
+    /// The upper half of the code register, which decisions compare with A.
+    #[inline(always)]
+    pub(crate) fn upper_half(self) -> u32
+        ensures { result ≡ self.c / 2 ^ 48 }
+    {
+        (self.c >> 48) as u32
+    }
+
+    /// An empty buffer filled with the next bytes, up to one behind a byte FF.
+    #[inline(always)]
+    fn filled(self, bytes: &[u8]) -> CodeBuffer
+        requires empty { self.bits ≡ 0 }
+        requires ahead { IsAhead bytes.now self }
+        ensures ahead { IsAhead bytes.now result }
+        ensures same { seen_of result ≡ seen_of self }
+    {
+        let mut code = self;
+        while code.bits <= 40 && byte_at(bytes, code.place) != 0xFF {
+            let next = byte_at(bytes, code.place + 1);
+            code.c += u64::from(!next) << (40 - code.bits);
+            code.bits += 8;
+            code.place += 1;
+        }
+        code
+    }
 }
 
 /// The byte at `place`, FF past the end.
@@ -57,23 +96,6 @@ pub(crate) fn byte_in(bytes: &[u8], c: u32, place: usize) -> CodeRegister
     }
 }
 
-/// The code register with at least one bit left.
-#[tactic(auto, unfolding(crate::specs::Coder::filled))]
-#[inline(always)]
-fn filled(bytes: &[u8], code: CodeRegister) -> CodeRegister
-    requires few { code.ct ≤ 8 }
-    requires within { code.place ≤ length bytes.now }
-    ensures value { result ≡ filled bytes.now code }
-    ensures within { result.place ≤ length bytes.now }
-    ensures some { 1 ≤ result.ct }
-    ensures few { result.ct ≤ 8 }
-{
-    if code.ct == 0 {
-        return byte_in(bytes, code.c, code.place);
-    }
-    code
-}
-
 /// How far A can be shifted at once: up to its top bit, by no more than the bits that are left.
 #[inline(always)]
 fn batch(a: u32, bits: u32) -> u32
@@ -88,27 +110,123 @@ fn batch(a: u32, bits: u32) -> u32
     (a.leading_zeros() - 16).min(bits)
 }
 
-/// The registers once A has its top bit again (RENORMD, E.3.3). The bits that the code register
-/// still has are shifted in together.
-#[inline(always)]
-pub(crate) fn renormalize(bytes: &[u8], registers: Registers) -> Registers
-    requires some { 1 ≤ registers.a }
-    requires below { registers.a < 0x10000 }
-    requires few { registers.code.ct ≤ 8 }
-    requires within { registers.code.place ≤ length bytes.now }
-    ensures value { result ≡ renormed bytes.now 15 registers.a registers.code }
-    ensures normal { 0x8000 ≤ result.a }
-    ensures below { result.a < 0x10000 }
-    ensures few { result.code.ct ≤ 8 }
-    ensures within { result.code.place ≤ length bytes.now }
-{
-    let Registers { mut a, mut code } = registers;
-    while a < 0x8000 {
-        code = filled(bytes, code);
-        let shifts = batch(a, code.ct);
-        a <<= shifts;
-        code.c <<= shifts;
-        code.ct -= shifts;
+impl BufferedRegisters {
+    /// Makes A a part of the interval, of this size and above what lies `below` it.
+    #[inline(always)]
+    pub(crate) fn narrow(&mut self, size: u32, below: u32)
+        requires inside { below ≤ self.old.code.c / 2 ^ 48 }
+        requires half { below < 0x10000 }
+        ensures { self.new ≡ record {
+          a = size;
+          code = record self.old.code { c = self.old.code.c - below * 2 ^ 48 };
+        } }
+    {
+        self.a = size;
+        self.code.c -= u64::from(below) << 48;
     }
-    Registers { a, code }
+
+    /// Shifts A and the code register, for which there are bits.
+    #[inline(always)]
+    fn shift(&mut self, shifts: u32)
+        requires few { shifts ≤ 15 }
+        requires bits { shifts ≤ self.old.code.bits }
+        requires room { self.old.a * 2 ^ shifts < 2 ^ 16 }
+        ensures { self.new ≡
+            record { a = self.old.a * 2 ^ shifts; code = shifted shifts self.old.code } }
+    {
+        self.a <<= shifts;
+        self.code.c <<= shifts;
+        self.code.bits -= shifts;
+    }
+
+    /// Fills an empty buffer.
+    #[inline(always)]
+    fn refill(&mut self, bytes: &[u8])
+        requires { IsAhead bytes.now self.old.code }
+        ensures ahead { IsAhead bytes.now self.new.code }
+        ensures same { seen_registers self.new ≡ seen_registers self.old }
+    {
+        if self.code.bits == 0 {
+            self.code = self.code.filled(bytes);
+        }
+    }
+
+    /// Shifts once, with an empty buffer: the bits of the next byte come in, whatever stands before it.
+    #[inline(always)]
+    fn take_byte(&mut self, bytes: &[u8])
+        requires some { 1 ≤ self.old.a }
+        requires half { self.old.a < 0x8000 }
+        requires ahead { IsAhead bytes.now self.old.code }
+        requires empty { self.old.code.bits ≡ 0 }
+        ensures ahead { IsAhead bytes.now self.new.code }
+        ensures same { renormed bytes.now 15 self.old.a (seen_of self.old.code)
+            ≡ renormed bytes.now 15 self.new.a (seen_of self.new.code) }
+        ensures a { self.new.a ≡ 2 * self.old.a }
+    {
+        let read = byte_in(bytes, (self.code.c >> 32) as u32, self.code.place);
+        self.a *= 2;
+        self.code = CodeBuffer {
+            c: u64::from(read.c << 1) << 32,
+            bits: read.ct - 1,
+            place: read.place,
+        };
+    }
+
+    /// Shifts at least once, as far as A and the bits of the buffer go.
+    #[inline(always)]
+    fn turn(&mut self, bytes: &[u8])
+        requires some { 1 ≤ self.old.a }
+        requires half { self.old.a < 0x8000 }
+        requires ahead { IsAhead bytes.now self.old.code }
+        ensures ahead { IsAhead bytes.now self.new.code }
+        ensures same { renormed bytes.now 15 self.old.a (seen_of self.old.code)
+            ≡ renormed bytes.now 15 self.new.a (seen_of self.new.code) }
+        ensures more { self.old.a < self.new.a }
+        ensures below { self.new.a < 0x10000 }
+    {
+        self.refill(bytes);
+        if self.code.bits == 0 {
+            self.take_byte(bytes);
+            return;
+        }
+        self.shift(batch(self.a, self.code.bits));
+    }
+
+    /// Shifts until A has its top bit again, where the buffer has too few bits for it. That is rare,
+    /// so it stands apart.
+    #[inline(never)]
+    fn renormalize_by_turns(&mut self, bytes: &[u8])
+        requires some { 1 ≤ self.old.a }
+        requires below { self.old.a < 0x10000 }
+        requires ahead { IsAhead bytes.now self.old.code }
+        ensures value { seen_registers self.new
+            ≡ renormed bytes.now 15 self.old.a (seen_of self.old.code) }
+        ensures ahead { IsAhead bytes.now self.new.code }
+        ensures normal { 0x8000 ≤ self.new.a }
+        ensures below { self.new.a < 0x10000 }
+    {
+        while self.a < 0x8000 {
+            self.turn(bytes);
+        }
+    }
+
+    /// Shifts until A has its top bit again (RENORMD, E.3.3).
+    #[inline(always)]
+    pub(crate) fn renormalize(&mut self, bytes: &[u8])
+        requires some { 1 ≤ self.old.a }
+        requires half { self.old.a < 0x8000 }
+        requires ahead { IsAhead bytes.now self.old.code }
+        ensures value { seen_registers self.new
+            ≡ renormed bytes.now 15 self.old.a (seen_of self.old.code) }
+        ensures ahead { IsAhead bytes.now self.new.code }
+        ensures normal { 0x8000 ≤ self.new.a }
+        ensures below { self.new.a < 0x10000 }
+    {
+        let shifts = self.a.leading_zeros() - 16;
+        if shifts > self.code.bits {
+            self.renormalize_by_turns(bytes);
+            return;
+        }
+        self.shift(shifts);
+    }
 }

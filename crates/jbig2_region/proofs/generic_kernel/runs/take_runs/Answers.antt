@@ -1,9 +1,8 @@
 use Rattle.std.proofs.Common.{arith, min, get_or, length, ◌≡◌, ◌-◌, ◌*◌, ◌+◌, ◌∙◌, ℕ, true, false, sym, ap, subst}
 use Rattle.std.proofs.lemmas.Bool.{and_right}
 use Rattle.std.proofs.lemmas.List.{get_or_default}
-use Rattle.jbig2_coder.specs.Coder.{Coder, Context, fresh, all_quiet}
+use Rattle.jbig2_coder.specs.Coder.{Coder, Context, Registers, fresh, all_quiet}
 use Rattle.jbig2_coder.specs.Table.{row_of}
-use Rattle.jbig2_coder.specs.declared.arithmetic_decoder.registers.Registers.{Registers}
 use Rattle.jbig2_region.specs.inner.Neighbours.{nominal_pixels}
 use Rattle.jbig2_base.specs.Grid.{same_colour}
 use Rattle.jbig2_region.specs.RunBytes.{all_of}

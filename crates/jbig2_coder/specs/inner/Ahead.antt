@@ -1,0 +1,52 @@
+-- The code register with bytes that are read ahead, seen as the code register of the definitions (T.88, Annex G).
+use Rattle.std.specs.Prelude.{◌≡◌, ◌≢◌, ℕ, zero, suc, ◌+◌, ◌-◌, ◌*◌, ◌/◌, ◌%◌, ◌^◌, ◌<◌, ◌≤◌, List, length}
+use Rattle.jbig2_coder.specs.Coder.{IsAtRest, Registers, byte_at}
+use Rattle.jbig2_coder.specs.inner.Floor.{floor_of}
+use Rattle.jbig2_coder.specs.declared.arithmetic_decoder.registers.BufferedRegisters.{BufferedRegisters}
+use Rattle.jbig2_coder.specs.declared.arithmetic_decoder.registers.CodeBuffer.{CodeBuffer}
+use Rattle.jbig2_coder.specs.declared.arithmetic_decoder.registers.CodeRegister.{CodeRegister}
+
+-- without the whole bytes that are ahead
+abbrev pub seen_of : CodeBuffer → CodeRegister
+seen_of code =
+    record {
+      c = code.c / 2 ^ (48 - code.bits % 8) * 2 ^ (16 - code.bits % 8);
+      ct = code.bits % 8;
+      place = code.place - code.bits / 8;
+    }
+
+abbrev pub seen_registers : BufferedRegisters → Registers
+seen_registers registers = record { a = registers.a; code = seen_of registers.code }
+
+-- the number that so many bytes behind a place spell, each of them turned
+abbrev pub spelled : List ℕ → ℕ → ℕ → ℕ
+spelled bytes place zero = 0
+spelled bytes place (suc n) = (0xFF - byte_at bytes (place + 1)) * 2 ^ (8 * n) + spelled bytes (place + 1) n
+
+-- The lowest bits are so many whole bytes behind a place, none of them behind a byte FF; `ct` bits stand above them.
+pub record Reads (bytes : List ℕ) (ct ahead place : ℕ) (code : CodeBuffer) : Type 0 where
+  pub below : ct < 8
+  pub bits : code.bits ≡ ct + 8 * ahead
+  pub few : code.bits ≤ 48
+  pub small : code.c < 2 ^ 64
+  pub read : code.place ≡ place + ahead
+  pub within : code.place ≤ length bytes
+  pub plain : (i : ℕ) → i < ahead → byte_at bytes (place + i) ≢ 0xFF
+  pub spells : code.c % 2 ^ (48 - ct) ≡ spelled bytes place ahead * 2 ^ (48 - code.bits)
+
+pub record IsAhead (bytes : List ℕ) (code : CodeBuffer) : Type 0 where
+  pub ct : ℕ
+  pub ahead : ℕ
+  pub place : ℕ
+  pub reads : Reads bytes ct ahead place code
+
+-- after so many shifts
+abbrev pub shifted : ℕ → CodeBuffer → CodeBuffer
+shifted k code = record { c = code.c * 2 ^ k % 2 ^ 64; bits = code.bits - k; place = code.place }
+
+-- What holds of a decoder between two decisions.
+pub record IsKept (bytes : List ℕ) (registers : BufferedRegisters) (floor : ℕ) : Type 0 where
+  pub rest : IsAtRest bytes (seen_registers registers)
+  pub low : floor ≡ floor_of (seen_of registers.code).c
+  pub few : floor ≤ 0x10000
+  pub ahead : IsAhead bytes registers.code
