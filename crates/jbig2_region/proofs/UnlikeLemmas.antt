@@ -100,17 +100,49 @@ same-if true b gives is = sym (gives refl)
 same-if false true gives is = is refl
 same-if false false gives is = refl
 
+-- a number is turned into 0 by itself alone
+turned-none : (seen all : ℕ) → eqb seen all ≡ eqb (bit_xor seen all) 0
+turned-none seen all =
+    let sum = xor_add_and seen all in
+    same-if (eqb seen all) (eqb (bit_xor seen all) 0)
+    (λ (same : eqb seen all ≡ true). eq-eqb _ _ (ap (λ (n : ℕ). bit_xor n all) (eqb-true _ _ same) ∙ xor_self all))
+    (λ (none : eqb (bit_xor seen all) 0 ≡ true).
+    let no : bit_xor seen all ≡ 0 = eqb-true _ _ none in
+    eq-eqb _ _ (omega (arith, no, sum, and_le_l seen all, and_le_r seen all)))
+
 pub left-unlike : (left count : ℕ) (c : Bool) (all : ℕ) → count ≤ 4 → all ≡ cond c (2 ^ count - 1) 0 → is_field left 0 count c ≡ eqb (bit_xor (left % (1 * 2 ^ count % 4294967296)) all) 0
 left-unlike left count c all few is =
     let small : 2 ^ count ≤ 2 ^ 4 = pow-le-pow_right (omega arith) few in
-    let beside : ℕ = left % (1 * 2 ^ count % 4294967296) in
     let whole : left / 2 ^ 0 ≡ left = omega arith in
     let width : 2 ^ count ≡ 1 * 2 ^ count % 4294967296 = omega (arith, small) in
-    let same : left / 2 ^ 0 % 2 ^ count ≡ beside = ap (λ (n : ℕ). n % 2 ^ count) whole ∙ ap (λ (n : ℕ). left % n) width in
-    let sum = xor_add_and beside all in
-    same-if (is_field left 0 count c) (eqb (bit_xor beside all) 0)
-    (λ (stays : is_field left 0 count c ≡ true).
-    eq-eqb _ _ (ap (λ (n : ℕ). bit_xor n all) (sym same ∙ eqb-true _ _ stays ∙ sym is) ∙ xor_self all))
-    (λ (none : eqb (bit_xor beside all) 0 ≡ true).
-    let no : bit_xor beside all ≡ 0 = eqb-true _ _ none in
-    eq-eqb _ _ (same ∙ omega (arith, no, sum, and_le_l beside all, and_le_r beside all) ∙ is))
+    let same : left / 2 ^ 0 % 2 ^ count ≡ left % (1 * 2 ^ count % 4294967296) = ap (λ (n : ℕ). n % 2 ^ count) whole ∙ ap (λ (n : ℕ). left % n) width in
+    ap (λ (n : ℕ). eqb n (cond c (2 ^ count - 1) 0)) same ∙ ap (λ (n : ℕ). eqb (left % (1 * 2 ^ count % 4294967296)) n) (sym is) ∙ turned-none (left % (1 * 2 ^ count % 4294967296)) all
+
+-- ---- what the next byte sees
+pub near-unlike : (s : Stretch) (c : Bool) (word all : ℕ) → s.count ≤ 7 → (s.count ≡ 0 → ⊥) → all ≡ cond c (2 ^ (s.count + 8) - 1) 0 → stretch_stays s 8 c word ≡ eqb (bit_xor (word / 2 ^ (47 - s.reach) % (1 * 2 ^ (s.count + 8) % 2 ^ 64)) all) 0
+near-unlike s c word all few some is =
+    let within : s.count + 8 ≤ 15 = omega (arith, few) in
+    let small : 2 ^ (s.count + 8) ≤ 2 ^ 15 = pow-le-pow_right (omega arith) within in
+    let width : 2 ^ (s.count + 8) ≡ 1 * 2 ^ (s.count + 8) % 2 ^ 64 = omega (arith, small) in
+    let field : ℕ = word / 2 ^ (47 - s.reach) in
+    cond-false (eqb s.count 0) true (is_field word (55 - 8 - s.reach) (s.count + 8) c) (ne_eqb s.count 0 some)
+    ∙ ap (λ (n : ℕ). eqb (field % n) (cond c (2 ^ (s.count + 8) - 1) 0)) width
+    ∙ ap (λ (n : ℕ). eqb (field % (1 * 2 ^ (s.count + 8) % 2 ^ 64)) n) (sym is)
+    ∙ turned-none (field % (1 * 2 ^ (s.count + 8) % 2 ^ 64)) all
+
+-- both stretches and the pixels at the left, in one number
+pub parts-unlike : (left above top : Bool) (l a t : ℕ) → left ≡ eqb l 0 → above ≡ eqb a 0 → top ≡ eqb t 0 → (left && (above && top)) ≡ eqb (bit_or (bit_or a t) l) 0
+parts-unlike left above top l a t beside one two =
+    same-if (left && (above && top)) (eqb (bit_or (bit_or a t) l) 0)
+    (λ (all : (left && (above && top)) ≡ true).
+    let parts = and_parts left (above && top) all in
+    let stretches = and_parts above top parts.1 in
+    let no_left : l ≡ 0 = eqb-true _ _ (sym beside ∙ parts.0) in
+    let no_above : a ≡ 0 = eqb-true _ _ (sym one ∙ stretches.0) in
+    let no_top : t ≡ 0 = eqb-true _ _ (sym two ∙ stretches.1) in
+    rw (no_left, no_above, no_top) refl)
+    (λ (none : eqb (bit_or (bit_or a t) l) 0 ≡ true).
+    let no : bit_or (bit_or a t) l ≡ 0 = eqb-true _ _ none in
+    let high = le_or_l (bit_or a t) l in
+    and_from left (above && top) (beside ∙ eq-eqb l 0 (omega (arith, no, le_or_r (bit_or a t) l)))
+    (and_from above top (one ∙ eq-eqb a 0 (omega (arith, no, high, le_or_l a t))) (two ∙ eq-eqb t 0 (omega (arith, no, high, le_or_r a t)))))

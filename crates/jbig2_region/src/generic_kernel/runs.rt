@@ -55,6 +55,22 @@ fn unlike_stretches(neighbours: Neighbours, black: bool, windows: Windows) -> u6
     above | top
 }
 
+/// Which pixels of a stretch that the next byte sees are unlike a colour, the rightmost in bit 0.
+#[inline(always)]
+fn unlike_near(stretch: Stretch, black: bool, window: u64) -> u32
+    requires reach { stretch.reach ≤ 3 }
+    requires count { stretch.count ≤ 7 }
+    ensures { stretch_stays stretch 8 black window ≡ (result == 0) }
+{
+    if stretch.count == 0 {
+        return 0;
+    }
+    let pixels = stretch.count + 8;
+    let seen = ((window >> (47 - stretch.reach)) % (1 << pixels)) as u32;
+    let all = if black { (1 << pixels) - 1 } else { 0 };
+    seen ^ all
+}
+
 /// Which pixels at the left are unlike a colour.
 #[inline(always)]
 fn unlike_left(count: u32, black: bool, left: u32) -> u32
@@ -84,13 +100,15 @@ fn staying_bytes(
     ensures eight { 5 ≤ result → (result ≡ 8) ×
         (neighbours_stay neighbours 32 black left windows.second ≡ true) }
 {
-    let first = unlike_stretches(neighbours, black, windows.first);
+    let above = unlike_near(neighbours.above, black, windows.first.above);
+    let top = unlike_near(neighbours.top, black, windows.first.top);
     let beside = unlike_left(neighbours.left, black, left);
     // One test of all parts of the context: a jump between two of them would be hard to foretell.
-    if (first >> 48) | u64::from(beside) != 0 {
+    if above | top | beside != 0 {
         return 0;
     }
     if most == 8 {
+        let first = unlike_stretches(neighbours, black, windows.first);
         let second = unlike_stretches(neighbours, black, windows.second);
         if (first | second) >> 24 == 0 {
             return 8;
