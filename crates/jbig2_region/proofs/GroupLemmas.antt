@@ -1,5 +1,5 @@
 -- Runs of up to 64 pixels, by windows about two columns.
-use Rattle.std.proofs.Common.{append_assoc, refl, subst, ◌≡◌, ℕ, ◌+◌, ◌-◌, ◌*◌, ◌/◌, ◌^◌, ◌<◌, ◌≤◌, Bool, true, List, ◌++◌, length, replicate, sym, ap, ◌∙◌, ⊎_elim, arith, min}
+use Rattle.std.proofs.Common.{append_assoc, refl, subst, ◌≡◌, ℕ, ◌+◌, ◌-◌, ◌*◌, ◌/◌, ◌%◌, ◌^◌, ◌<◌, ◌≤◌, Bool, true, List, ◌++◌, length, replicate, sym, ap, ◌∙◌, ⊎_elim, arith, min}
 use Rattle.std.proofs.lemmas.Bool.{and_from, and_parts, cases_lt}
 use Rattle.std.proofs.lemmas.List.{replicate-append-replicate}
 use Rattle.std.proofs.lemmas.Nat.Bits as bits
@@ -8,7 +8,7 @@ use Rattle.jbig2_base.specs.inner.WordBits.{bit}
 use Rattle.jbig2_base.specs.inner.Writes.{with_pixels}
 use Rattle.jbig2_coder.specs.Coder.{Coder, Context}
 use Rattle.jbig2_region.specs.inner.Holds.{Holds}
-use Rattle.jbig2_region.specs.inner.Neighbours.{nominal_pixels, neighbours_stay, is_field, IsNear, IsLeft, SameAbove, Shows, ShowsGroup, ShowsRun}
+use Rattle.jbig2_region.specs.inner.Neighbours.{nominal_pixels, neighbours_stay, is_field, IsNear, IsLeft, SameAbove, Shows, ShowsByte, ShowsGroup, ShowsRun}
 use Rattle.jbig2_region.specs.Raster.{Region, so_far}
 use Rattle.jbig2_region.specs.RunBytes.{has_all, stays}
 use Rattle.jbig2_region.specs.declared.template.neighbours.Neighbours.{Neighbours}
@@ -90,3 +90,22 @@ group-stays n c left most staying v w h x y r grid d s near some within len colu
 -- windows that serve a group still do once pixels of its own row are decoded
 pub group-same : (g g' : Grid) (x y bytes : ℕ) (w : WideWindows) → SameAbove g g' y → ShowsGroup g x y bytes w → ShowsGroup g' x y bytes w
 group-same g g' x y bytes w same shows = record { first = shows-same g g' x y 64 w.first same shows.first; second = λ more. shows-same g g' (x + 32) y 64 w.second same (shows.second more) }
+
+-- the windows at a group's first byte are the group's
+pub byte-first : (g : Grid) (x y bytes : ℕ) (w : WideWindows) → ShowsGroup g x y bytes w → ShowsByte g x y 0 w w
+byte-first g x y bytes w shows =
+    let place : x ≡ x + 8 * 0 = omega arith in
+    record { first = subst (λ (n : ℕ). Shows g n y 64 w.first) place shows.first; second = refl }
+
+-- what a run is tested by at a byte of a group
+pub byte-run : (g : Grid) (x y bytes done most : ℕ) (group w : WideWindows) → done + most ≤ bytes → 1 ≤ most → (1 ≤ done → done % 4 + most ≤ 4) → ShowsGroup g x y bytes group → ShowsByte g x y done group w → ShowsRun g (x + 8 * done) y most w
+byte-run g x y bytes done most group w within some later shows at =
+    let room : 8 * min most 4 + 12 ≤ 64 - 8 * (done % 4) = ⊎_elim (λ (start : done < 1). omega arith) (λ (past : 1 ≤ done). omega (arith, later past)) (cases_lt done 1) in
+    record {
+      first = shows-less g (x + 8 * done) y (64 - 8 * (done % 4)) (8 * min most 4 + 12) w.first room at.first;
+      second = λ more.
+          let start : done ≡ 0 = ⊎_elim (λ (start : done < 1). omega arith) (λ (past : 1 ≤ done). absurd (omega (arith, later past))) (cases_lt done 1) in
+          let place : x + 32 ≡ x + 8 * done + 32 = omega arith in
+          subst (λ (v : Windows). Shows g (x + 8 * done + 32) y 44 v) (sym at.second)
+          (shows-less g (x + 8 * done + 32) y 64 44 group.second (omega arith) (subst (λ (n : ℕ). Shows g n y 64 group.second) place (shows.second (omega arith))));
+    }

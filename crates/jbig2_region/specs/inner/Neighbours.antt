@@ -77,7 +77,16 @@ pub record ShowsGroup (g : Grid) (x y bytes : ℕ) (w : WideWindows) : Type 0 wh
   pub first : Shows g x y 64 w.first
   pub second : 5 ≤ bytes → Shows g (x + 32) y 64 w.second
 
--- the same at a byte of the group, with what a run of `most` bytes is tested by
+-- the windows at byte `done` of a group, whose second ones stay
+pub record ShowsByte (g : Grid) (x y done : ℕ) (group w : WideWindows) : Type 0 where
+  pub first : Shows g (x + 8 * done) y (64 - 8 * (done % 4)) w.first
+  pub second : w.second ≡ group.second
+
+-- wherever the group's windows serve so many bytes
+abbrev pub StandAtByte : ℕ → ℕ → WideWindows → WideWindows → Type 0
+StandAtByte bytes done group w = (g : Grid) (x y : ℕ) → ShowsGroup g x y bytes group → ShowsByte g x y done group w
+
+-- windows about column x, with what a run of `most` bytes is tested by
 pub record ShowsRun (g : Grid) (x y most : ℕ) (w : WideWindows) : Type 0 where
   pub first : Shows g x y (8 * min most 4 + 12) w.first
   pub second : 5 ≤ most → Shows g (x + 32) y 44 w.second

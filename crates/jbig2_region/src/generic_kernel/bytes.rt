@@ -177,13 +177,14 @@ fn push_group<L: Ledger>(
     let mut pixels = 0;
     let mut beside = left;
     let mut done = 0;
+    let mut shown = windows;
     while done < bytes {
         let most = most_bytes(done, bytes);
-        let shown = windows.at_byte(done);
         let taken = push_bytes(neighbours, most, beside, shown, decoder, contexts, steps);
         pixels = join(pixels, taken);
         beside = (taken.pixels % 16) as u32;
         done += taken.bytes;
+        shown = shown.moved_on(windows, taken.bytes, done, bytes);
     }
     pixels
 }

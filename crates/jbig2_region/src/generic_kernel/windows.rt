@@ -1,6 +1,6 @@
 //! Windows on the rows above: 64 pixels of each, of which one load serves many contexts.
 ghost use Rattle.std.specs.Prelude.{◌≡◌, ℕ, ◌+◌, ◌-◌, ◌*◌, ◌/◌, ◌%◌, ◌^◌, ◌<◌, ◌≤◌, bit_or, pos, ◌-ℤ◌};
-ghost use Rattle.jbig2_region.specs.inner.Neighbours.{IsNear, IsWindow, Shows, ShowsBefore, ShowsGroup, ShowsRun, cut_of, neighbour_count, register_of, stretch_bits};
+ghost use Rattle.jbig2_region.specs.inner.Neighbours.{IsNear, IsWindow, Shows, ShowsBefore, ShowsGroup, StandAtByte, cut_of, neighbour_count, register_of, stretch_bits};
 ghost use Rattle.jbig2_base.specs.Grid.{Grid, pixel};
 ghost use Rattle.jbig2_base.specs.inner.WordBits.{bit};
 
@@ -194,18 +194,45 @@ impl Windows {
 }
 
 impl WideWindows {
-    /// The windows at byte `done` of those that they serve, for a test of the next `most` bytes.
+    /// The windows at byte `done` of those that they serve.
     #[inline(always)]
-    pub fn at_byte(self, done: u32) -> WideWindows
+    fn at_byte(self, done: u32) -> WideWindows
         requires few { done < 8 }
-        ensures { (g : Grid) (x y bytes most : ℕ) → done + most ≤ bytes → 1 ≤ most →
-            (1 ≤ done → done % 4 + most ≤ 4) → ShowsGroup g x y bytes self →
-            ShowsRun g (x + 8 * done) y most result }
+        ensures { (bytes : ℕ) → done < bytes → StandAtByte bytes done self result }
     {
         let second = self.second;
         let nearest = if done >= 4 { second } else { self.first };
         let first = nearest.moved(8 * (done % 4));
         WideWindows { first, second }
+    }
+
+    /// The windows at byte `done` of those that a group's windows serve, from those at the byte before.
+    #[inline(always)]
+    fn next_byte(self, group: WideWindows, done: u32) -> WideWindows
+        ensures { (bytes before : ℕ) → bytes ≤ 8 → done < bytes → before + 1 ≡ done →
+            StandAtByte bytes before group self → StandAtByte bytes done group result }
+    {
+        let second = group.second;
+        let moved = self.first.moved(8);
+        let first = if done == 4 { second } else { moved };
+        WideWindows { first, second }
+    }
+
+    /// The windows at byte `done` of a group of `bytes`, from those at the first of the `taken` bytes
+    /// before it: only behind several bytes they are cut out of the group's windows anew.
+    #[inline(always)]
+    pub fn moved_on(self, group: WideWindows, taken: u32, done: u32, bytes: u32) -> WideWindows
+        requires few { bytes ≤ 8 }
+        ensures { (before : ℕ) → before + taken ≡ done → done < bytes →
+            StandAtByte bytes before group self → StandAtByte bytes done group result }
+    {
+        if taken == 1 {
+            return self.next_byte(group, done);
+        }
+        if done < bytes {
+            return group.at_byte(done);
+        }
+        self
     }
 }
 

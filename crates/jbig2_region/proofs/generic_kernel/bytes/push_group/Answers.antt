@@ -6,7 +6,7 @@ use Rattle.jbig2_base.specs.inner.Writes.{with_pixels}
 use Rattle.jbig2_region.specs.inner.Neighbours.{DecodesPixels, IsLeft, nominal_pixels}
 use Rattle.jbig2_region.specs.inner.PushedPixels.{CountsGroup, PushesGroup, StandsBytes, StandsGroup}
 use Rattle.jbig2_region.proofs.CountLemmas.{counts-none, counts-then}
-use Rattle.jbig2_region.proofs.GroupLemmas.{group-same}
+use Rattle.jbig2_region.proofs.GroupLemmas.{byte-first, byte-run, group-same}
 use Rattle.jbig2_region.proofs.PushLemmas.{few-next, left-stored, stored-bytes}
 use Rattle.jbig2_region.proofs.StoreLemmas.{decodes-start, decodes-then, left-start, stored-above}
 use Rattle.jbig2_region.proofs.generic_kernel.bytes.push_group.Goals as goal
@@ -16,6 +16,7 @@ loop-done-init g c = record {
   bytes = refl;
   within = omega arith;
   small = c.requires.small;
+  shown = λ some grid x y group. byte-first grid x y c.args.bytes c.args.windows group;
   few = omega arith;
   left = λ grid x y stands. left-start grid x y 0 c.args.left stands.beside;
   holds = λ grid x y stands. decodes-start (nominal_pixels c.args.neighbours) false x y 0 grid c.args.decoder.now c.args.contexts.now;
@@ -44,11 +45,14 @@ loop-done-preserved g c =
     let next : (x : ℕ) → x + 8 * done + 8 * bytes ≡ x + 8 * (done + bytes) = λ x. omega arith in
     let sum : 8 * (done + bytes) ≡ 8 * done + 8 * bytes = omega arith in
     let within : done + bytes ≤ c.args.bytes = omega (arith, c.push_bytes-taken.ensures.most, c.most_bytes-most.ensures.within) in
-    let stands : (grid : Grid) (x y : ℕ) → StandsGroup grid x y c.args.bytes c.args.left c.args.windows → StandsBytes (with_pixels grid x y (8 * done) pixels) (x + 8 * done) y c.most_bytes-most.result c.loop-done.beside c.at_byte-shown.result = λ grid x y group. record {
+    let stands : (grid : Grid) (x y : ℕ) → StandsGroup grid x y c.args.bytes c.args.left c.args.windows → StandsBytes (with_pixels grid x y (8 * done) pixels) (x + 8 * done) y c.most_bytes-most.result c.loop-done.beside c.loop-done.shown = λ grid x y group. record {
       columns = omega (arith, group.columns, c.most_bytes-most.ensures.within);
       row = group.row;
-      shows = c.at_byte-shown.ensures (with_pixels grid x y (8 * done) pixels) x y c.args.bytes c.most_bytes-most.result c.most_bytes-most.ensures.within c.most_bytes-most.ensures.some c.most_bytes-most.ensures.later
-          (group-same grid (with_pixels grid x y (8 * done) pixels) x y c.args.bytes c.args.windows (stored-above grid x y (8 * done) pixels) group.shows);
+      shows =
+          let mid : Grid = with_pixels grid x y (8 * done) pixels in
+          let serves = group-same grid mid x y c.args.bytes c.args.windows (stored-above grid x y (8 * done) pixels) group.shows in
+          byte-run mid x y c.args.bytes done c.most_bytes-most.result c.args.windows c.loop-done.shown c.most_bytes-most.ensures.within c.most_bytes-most.ensures.some c.most_bytes-most.ensures.later serves
+          (c.loop-done.invariant.shown c.loop-done-test.true mid x y serves);
       beside = c.loop-done.invariant.left grid x y group;
     } in
     let stored : (grid : Grid) (x y : ℕ) → StandsGroup grid x y c.args.bytes c.args.left c.args.windows → with_pixels (with_pixels grid x y (8 * done) pixels) (x + 8 * done) y (8 * bytes) taken ≡ with_pixels grid x y (8 * (done + bytes)) c.join-pixels.result = λ grid x y group.
@@ -57,6 +61,7 @@ loop-done-preserved g c =
       bytes = c.push_bytes-taken.ensures.bytes ∙ c.loop-done.invariant.bytes;
       within = within;
       small = omega arith;
+      shown = λ some. c.moved_on-shown.ensures done refl some (c.loop-done.invariant.shown c.loop-done-test.true);
       few = rw c.join-pixels.ensures (few-next pixels taken (8 * done) (8 * bytes) (8 * (done + bytes)) c.loop-done.invariant.few c.push_bytes-taken.ensures.bound sum);
       left = λ grid x y group.
           subst (λ (n : ℕ). IsLeft (with_pixels grid x y (8 * (done + bytes)) c.join-pixels.result) n y (taken % 16)) (next x)

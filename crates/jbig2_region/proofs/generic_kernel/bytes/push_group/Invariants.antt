@@ -2,7 +2,7 @@ use Rattle.std.proofs.Common.{◌≡◌, ◌<◌, ◌≤◌, ◌+◌, ◌-◌, �
 use Rattle.jbig2_base.specs.Counts.{KeepsLanes}
 use Rattle.jbig2_base.specs.Grid.{Grid}
 use Rattle.jbig2_base.specs.inner.Writes.{with_pixels}
-use Rattle.jbig2_region.specs.inner.Neighbours.{IsLeft}
+use Rattle.jbig2_region.specs.inner.Neighbours.{IsLeft, StandAtByte}
 use Rattle.jbig2_region.specs.inner.PushedPixels.{CountsGroup, PushesGroup, StandsGroup}
 use Rattle.jbig2_region.proofs.generic_kernel.bytes.push_group.Given as goal
 
@@ -11,6 +11,7 @@ invariant-loop-done g l = record {
   bytes : l.decoder.bytes ≡ l.initial.decoder.bytes;
   within : l.done ≤ l.bytes;
   small : l.beside < 16;
+  shown : l.done < l.fn.bytes → StandAtByte l.fn.bytes l.done l.fn.windows l.shown;
   few : l.pixels < 2 ^ (8 * l.done);
   left : (grid : Grid) (x y : ℕ) → StandsGroup grid x y l.fn.bytes l.fn.left l.fn.windows → IsLeft (with_pixels grid x y (8 * l.done) l.pixels) (x + 8 * l.done) y l.beside;
   holds : PushesGroup l.fn.neighbours l.fn.bytes l.fn.left l.fn.windows l.done l.pixels l.initial.decoder l.initial.contexts l.decoder l.contexts;
