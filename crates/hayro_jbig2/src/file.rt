@@ -9,6 +9,7 @@ ghost use Rattle.hayro_jbig2.specs.Files.{needs_page, lacks_page, associated, is
 ghost use Rattle.hayro_jbig2.specs.Globals.{named_from};
 ghost use Rattle.hayro_jbig2.specs.Names.{no_names};
 ghost use Rattle.hayro_jbig2.specs.Page.{ReadPage};
+ghost use Rattle.hayro_jbig2.specs.PageCauses.{FileGlobalsHaveCauses};
 ghost use Rattle.hayro_jbig2.specs.inner.PageViews.{kept_names};
 
 use crate::globals::Globals;
@@ -176,10 +177,11 @@ impl<'a, A: Allocator + Clone> File<'a, A> {
     /// Refused by the first fault of the segments, then of their associations, of the count of
     /// pages, and of each page's end and size. The segments of no page are decoded too; a fault
     /// there is what decoding a page answers.
-    #[tactic(auto, using(crate::proofs::Causes::file_causes), unfolding(crate::specs::Files::book_at))]
+    #[tactic(auto, using(crate::proofs::Causes::file_causes, crate::proofs::PageCauses::file_globals_causes), unfolding(crate::specs::Files::book_at))]
     pub fn new(alloc: A, bytes: &'a [u8], settings: &DecodeSettings) -> Result<File<'a, A>>
         ensures value { Gives (λ file. file) result (book_at settings.now.strict bytes.now) }
         ensures causes { BooksHaveCauses }
+        ensures globals { FileGlobalsHaveCauses }
     {
         let strict = settings.strict;
         let file = parse_file(alloc.clone()?, bytes, strict)?;

@@ -4,6 +4,7 @@ ghost use Rattle.jbig2_base.specs.Answer.{Gives};
 ghost use Rattle.jbig2_base.specs.inner.SegmentViews.{segment_view, segment_views};
 ghost use Rattle.hayro_jbig2.specs.Globals.{globals_at, named_by, named_from};
 ghost use Rattle.hayro_jbig2.specs.Names.{no_names};
+ghost use Rattle.hayro_jbig2.specs.PageCauses.{GlobalsHaveCauses};
 
 use crate::dictionaries::{extension, keep_patterns, keep_symbols, keep_table};
 use crate::names::KeptNames;
@@ -46,9 +47,11 @@ impl<A: Allocator + Clone> Globals<A> {
     ///
     /// Dictionaries, tables and extensions are decoded in the order of their numbers, and no other
     /// segment. Refused by the first fault of reading the segments, else of decoding them.
-    #[tactic(auto, unfolding(crate::specs::Globals::globals_at))]
+    #[tactic(auto, using(crate::proofs::PageCauses::globals_causes), unfolding(crate::specs::Globals::globals_at))]
     pub fn new(alloc: A, bytes: &[u8], settings: &DecodeSettings) -> Result<Globals<A>>
-        ensures { Gives (λ globals. globals) result (globals_at settings.now.strict bytes.now) }
+        ensures value { Gives (λ globals. globals) result
+            (globals_at settings.now.strict bytes.now) }
+        ensures causes { GlobalsHaveCauses }
     {
         let strict = settings.strict;
         let mut segments = parse_segments_sequential(alloc.clone()?, bytes, strict)?;

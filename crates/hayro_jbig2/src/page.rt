@@ -8,7 +8,7 @@ ghost use Rattle.jbig2_base.specs.declared.bitmap.operator.CombinationOperator.{
 ghost use Rattle.hayro_jbig2.specs.Calls.{DrawsGrid, calls_of};
 ghost use Rattle.hayro_jbig2.specs.Image.{image_of_page, packed_of_page, packed_size};
 ghost use Rattle.hayro_jbig2.specs.Page.{ReadPage, segments_drawn, embedded, grid_of_page, draws_over, page_begun};
-ghost use Rattle.hayro_jbig2.specs.PageCauses.{PagesHaveCauses};
+ghost use Rattle.hayro_jbig2.specs.PageCauses.{EmbeddedPagesHaveCauses, PagesHaveCauses};
 ghost use Rattle.hayro_jbig2.specs.inner.PageViews.{given_names, kept_names};
 ghost use Rattle.hayro_jbig2.specs.inner.SegmentLists.{segment_list};
 ghost use Rattle.jbig2_base.specs.inner.SegmentViews.{segment_views};
@@ -141,15 +141,16 @@ impl<'a, A: Allocator + Clone> Page<'a, A> {
     /// file header, and `globals` what its segments may refer to besides.
     ///
     /// Refused by the first fault of the segments, or of the page's size.
-    #[tactic(auto, unfolding(crate::specs::Page::embedded))]
+    #[tactic(auto, using(crate::proofs::PageCauses::embedded_causes), unfolding(crate::specs::Page::embedded))]
     pub fn new_embedded(
         alloc: A,
         bytes: &'a [u8],
         globals: Option<&'a Globals<A>>,
         settings: &DecodeSettings,
     ) -> Result<Page<'a, A>>
-        ensures { Gives (λ page. page) result
+        ensures value { Gives (λ page. page) result
             (embedded settings.now.strict (given_names globals.entry) bytes.now) }
+        ensures causes { EmbeddedPagesHaveCauses }
     {
         let strict = settings.strict;
         let mut segments = parse_segments_sequential(alloc, bytes, strict)?;

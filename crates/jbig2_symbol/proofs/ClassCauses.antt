@@ -21,7 +21,7 @@ use Rattle.jbig2_text.specs.Causes.{Behind}
 use Rattle.jbig2_text.specs.TextCoding.{Coded, in_band}
 use Rattle.jbig2_symbol.specs.Aggregates.{id_codes}
 use Rattle.jbig2_symbol.specs.Causes.{BreaksContexts, BreaksExported, BreaksNextWidth, BreaksRuns, BreaksTables}
-use Rattle.jbig2_symbol.specs.ClassCauses.{BitmapCauses, BitmapsHaveCauses, BreaksClassAfter, BreaksClassBehind, BreaksCoding, BreaksCollective, BreaksCollectiveBitmap, BreaksCollectiveClass, BreaksCuts, BreaksDictionary, BreaksDrawnClass, BreaksEmptyClass, BreaksHeightClass, BreaksNewSymbols, BreaksPrefixedClass, BreaksSized, BreaksSymbolAfter, BreaksWidthAfter, ClassCauses, ClassesHaveCauses, CollectiveBitmapsHaveCauses, CollectiveClassesHaveCauses, CutsHaveCauses, DrawnClassesHaveCauses, HeightClassesHaveCauses, NewSymbolsHaveCauses, SymbolsHaveCauses, rows_length}
+use Rattle.jbig2_symbol.specs.ClassCauses.{AllDrawnClassesHaveCauses, BitmapCauses, BitmapsHaveCauses, BreaksClassAfter, BreaksClassBehind, BreaksCoding, BreaksCollective, BreaksCollectiveBitmap, BreaksCollectiveClass, BreaksCuts, BreaksDictionary, BreaksDrawnClass, BreaksEmptyClass, BreaksHeightClass, BreaksNewSymbols, BreaksPrefixedClass, BreaksSized, BreaksSymbolAfter, BreaksWidthAfter, ClassCauses, ClassesHaveCauses, CollectiveBitmapsHaveCauses, CollectiveClassesHaveCauses, CutsHaveCauses, DrawnClassesHaveCauses, HeightClassesHaveCauses, NewSymbolsHaveCauses, SymbolsHaveCauses, bitmap_errors, rows_length}
 use Rattle.jbig2_symbol.specs.Exports.{export_runs, exports, most_empty}
 use Rattle.jbig2_symbol.specs.HeightClasses.{HeightClass, classes, classes_from, drawn_class, empty_class, empty_with, height_class, new_symbols, next_width, room_behind, size_in_word, symbols_from, widths_from}
 use Rattle.jbig2_symbol.specs.SymbolBitmaps.{collective_bitmap, mmr_bytes, raw_rows, raw_stride, rows_of_size, symbol_cut, symbols_cut}
@@ -151,6 +151,9 @@ drawn_class_causes c r law d height empty new s =
     let P : DecodeError → Type 0 = BreaksDrawnClass c r d height empty new s in
     cause-next P (symbols_from r d (room_behind d new) height 0 0 new s) _ (symbols-cause c r law d P (room_behind d new) height 0 0 new s (λ k e no. inl (k, no))) (λ all all_is.
     cause-next P (empty_class (length all.0) empty) _ (cause-more (BreaksEmptyClass (length all.0) empty) P (empty_class (length all.0) empty) (no-symbols (length all.0) empty) (λ e no. inr (all, all_is, no))) (λ few few_is. tt))
+
+pub all_drawn_class_causes : {S : Type 0} (r : SymbolReadings S) → AllDrawnClassesHaveCauses r
+all_drawn_class_causes r = drawn_class_causes (bitmap_errors r) r (λ d new width height s. own-error (r.symbol_bitmap d new width height s))
 
 pub collective_class_causes : CollectiveClassesHaveCauses
 unfolding collective_class

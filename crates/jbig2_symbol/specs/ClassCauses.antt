@@ -110,6 +110,14 @@ abbrev pub DrawnClassesHaveCauses : {S : Type 0} → BitmapCauses S → SymbolRe
 DrawnClassesHaveCauses {S} c r =
     BitmapsHaveCauses c r → (d : SymbolInput) (height empty : ℕ) (new : List Grid) (s : S) → IfErr (drawn_class r d height empty new s) (BreaksDrawnClass c r d height empty new s)
 
+-- By any readings: of a bitmap its own error, the cause of which is the law of the coding's bitmaps.
+abbrev pub bitmap_errors : {S : Type 0} → SymbolReadings S → BitmapCauses S
+bitmap_errors r d new width height s = IsOf (r.symbol_bitmap d new width height s)
+
+abbrev pub AllDrawnClassesHaveCauses : {S : Type 0} → SymbolReadings S → Type 0
+AllDrawnClassesHaveCauses {S} r =
+    (d : SymbolInput) (height empty : ℕ) (new : List Grid) (s : S) → IfErr (drawn_class r d height empty new s) (BreaksDrawnClass (bitmap_errors r) r d height empty new s)
+
 -- one whose symbols are cut out of a collective bitmap: a width, or behind all widths that bitmap or a symbol's size
 abbrev pub BreaksCollectiveClass : SymbolInput → ℕ → ℕ → List Grid → SymbolState Place → DecodeError → Type 0
 BreaksCollectiveClass d height empty new s e =

@@ -4,6 +4,7 @@ ghost use Rattle.std.specs.Prelude.{◌≡◌, ◌+◌, ◌*◌, ◌<◌, ◌≤
 ghost use Rattle.jbig2_base.specs.Answer.{Gives};
 ghost use Rattle.jbig2_base.specs.Bits.{IsAligned};
 ghost use Rattle.jbig2_base.specs.inner.Filled.{filled};
+ghost use Rattle.jbig2_symbol.specs.ClassCauses.{CutsHaveCauses};
 ghost use Rattle.jbig2_symbol.specs.SymbolBitmaps.{symbols_cut, put_behind, raw_pixel, raw_stride, raw_rows, mmr_bytes, rows_of_size};
 
 use jbig2_base::bitmap::Bitmap;
@@ -121,6 +122,7 @@ pub fn read_rows<A: Allocator, L: Ledger>(
 
 /// Puts the symbols of these widths, which stand side by side in a collective bitmap, behind those
 /// that `symbols` holds.
+#[tactic(auto, using(crate::proofs::ClassCauses::cuts_causes))]
 pub fn cut_symbols<A: Allocator + Clone, B: Allocator, L: Ledger>(
     alloc: A,
     collective: &Bitmap<B>,
@@ -130,9 +132,10 @@ pub fn cut_symbols<A: Allocator + Clone, B: Allocator, L: Ledger>(
     steps: &mut Steps<L>,
 ) -> Result<()>
     requires { sum widths.now ≤ 4294967295 }
-    ensures { let cut = symbols_cut collective.now height 0 widths.now in
+    ensures value { let cut = symbols_cut collective.now height 0 widths.now in
         let meant = put_behind symbols.old.items cut in
         Gives (λ _. symbols.new.items) result meant }
+    ensures causes { CutsHaveCauses }
 {
     let mut left = 0;
     for width in widths {

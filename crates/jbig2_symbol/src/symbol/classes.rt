@@ -1,6 +1,7 @@
 //! The height classes of a symbol dictionary (T.88, 6.5.5).
 ghost use Rattle.std.specs.Prelude.{◌≡◌, ◌+◌, ◌<◌, ◌≤◌, length, OnOk};
 ghost use Rattle.jbig2_base.specs.Answer.{Answers, Gives};
+ghost use Rattle.jbig2_symbol.specs.ClassCauses.{AllDrawnClassesHaveCauses};
 ghost use Rattle.jbig2_symbol.specs.HeightClasses.{drawn_class, empty_class, height_class, new_symbols, symbols_from};
 ghost use Rattle.jbig2_symbol.specs.inner.SymbolViews.{behind, class_behind, input_view};
 
@@ -72,7 +73,7 @@ fn read_symbols<R: ReadSymbols, A: Allocator + Clone, T: Allocator, L: Ledger>(
 }
 
 /// Puts the symbols of such a class behind the others; so many classes before it had none.
-#[tactic(auto, unfolding(crate::specs::HeightClasses::drawn_class))]
+#[tactic(auto, using(crate::proofs::ClassCauses::all_drawn_class_causes), unfolding(crate::specs::HeightClasses::drawn_class))]
 pub fn read_drawn_class<R: ReadSymbols, A: Allocator + Clone, T: Allocator, L: Ledger>(
     alloc: A,
     input: &SymbolInput<'_, A, T>,
@@ -85,10 +86,11 @@ pub fn read_drawn_class<R: ReadSymbols, A: Allocator + Clone, T: Allocator, L: L
     requires symbols { length input.now.symbols.now ≤ 2097152 }
     requires fresh { input.now.header.now.num_new_symbols ≤ 1048576 }
     requires room { length bitmaps.old.items ≤ input.now.header.now.num_new_symbols }
-    ensures { let d = input_view input.now in
+    ensures value { let d = input_view input.now in
         let before = bitmaps.old.items in
         let class = drawn_class R.readings d height empty before (R.state readings.old) in
         Gives (λ _. (bitmaps.new.items, R.state readings.new)) result (behind before class) }
+    ensures causes { AllDrawnClassesHaveCauses R.readings }
 {
     let before = bitmaps.len();
     let room = input.header.num_new_symbols - before as u32;

@@ -1,13 +1,15 @@
 //! Symbol dictionaries by the arithmetic coder (T.88, 6.5).
 ghost use Rattle.std.specs.Prelude.{◌≡◌, ◌≤◌, length, Ok};
 ghost use Rattle.jbig2_base.specs.Answer.{Answers, Gives};
+ghost use Rattle.jbig2_text.specs.TextCoding.{Coded};
 ghost use Rattle.jbig2_text.specs.inner.TextViews.{params_view};
 ghost use Rattle.jbig2_symbol.specs.Aggregates.{coded_aggregate, coded_instances};
 ghost use Rattle.jbig2_symbol.specs.SymbolBitmaps.{coded_symbol};
-ghost use Rattle.jbig2_symbol.specs.SymbolCauses.{CodedAggregatesHaveCauses};
+ghost use Rattle.jbig2_symbol.specs.Causes.{InstanceCountsHaveCauses};
+ghost use Rattle.jbig2_symbol.specs.SymbolCauses.{CodedAggregatesHaveCauses, CodedBitmapsHaveCauses, CodedSymbolsHaveCauses};
 ghost use Rattle.jbig2_symbol.specs.SymbolCoding.{coded_bitmap, coder_begun};
 ghost use Rattle.jbig2_symbol.specs.SymbolHeader.{header_view};
-ghost use Rattle.jbig2_symbol.specs.SymbolReading.{by_procedure, contexts_view};
+ghost use Rattle.jbig2_symbol.specs.SymbolReading.{SymbolState, by_procedure, contexts_view};
 ghost use Rattle.jbig2_symbol.specs.inner.SymbolViews.{coded_view, input_view};
 
 use crate::symbol::aggregates::{
@@ -72,7 +74,7 @@ impl<A: Allocator> CodedSymbols<'_, A> {
 
     /// The bitmap of a symbol that is coded by itself, which goes on with the dictionary's contexts
     /// (T.88, 6.5.8.1).
-    #[tactic(auto, unfolding(crate::specs::SymbolBitmaps::coded_symbol))]
+    #[tactic(auto, using(crate::proofs::SymbolCauses::coded_symbol_causes), unfolding(crate::specs::SymbolBitmaps::coded_symbol))]
     fn decode_symbol<M: Allocator, L: Ledger>(
         &mut self,
         alloc: M,
@@ -81,9 +83,10 @@ impl<A: Allocator> CodedSymbols<'_, A> {
         height: u32,
         steps: &mut Steps<L>,
     ) -> Result<Bitmap<M>>
-        ensures { let h = header_view header.now in
+        ensures value { let h = header_view header.now in
             let meant = coded_symbol h width height (coded_view self.old) in
             Gives (λ symbol. (symbol, coded_view self.new)) result meant }
+        ensures causes { CodedSymbolsHaveCauses }
     {
         let mut bitmap = Bitmap::new(alloc, width, height)?;
         decode_coded(
@@ -121,7 +124,7 @@ impl<A: Allocator> CodedSymbols<'_, A> {
     }
 
     /// A symbol that is refined from another one or put together from several (T.88, 6.5.8.2).
-    #[tactic(auto, using(crate::proofs::SymbolCauses::coded_aggregate_causes), unfolding(crate::specs::Aggregates::coded_aggregate, crate::specs::Aggregates::instance_count))]
+    #[tactic(auto, using(crate::proofs::SymbolCauses::coded_aggregate_causes, crate::proofs::ReadingCauses::instance_count_causes), unfolding(crate::specs::Aggregates::coded_aggregate, crate::specs::Aggregates::instance_count))]
     fn read_aggregate<T: Allocator, M: Allocator + Clone, L: Ledger>(
         &mut self,
         alloc: M,
@@ -134,10 +137,32 @@ impl<A: Allocator> CodedSymbols<'_, A> {
             let meant = coded_aggregate d new.now size.width size.height (coded_view self.old) in
             Gives (λ symbol. (symbol, coded_view self.new)) result meant }
         ensures causes { CodedAggregatesHaveCauses }
+        ensures counts { InstanceCountsHaveCauses (SymbolState Coded) }
     {
         let count = instance_count(self.number(IntegerProcedure::Iaai, steps)?)?;
         let params = aggregate_params(input, new, count);
         self.read_instances(alloc, &params, size, steps)
+    }
+
+    /// A symbol's bitmap (T.88, 6.5.8), by the dictionary's flags.
+    #[tactic(auto, using(crate::proofs::SymbolCauses::coded_bitmap_causes), unfolding(crate::specs::SymbolCoding::coded_bitmap))]
+    fn read_bitmap<T: Allocator, M: Allocator + Clone, L: Ledger>(
+        &mut self,
+        alloc: M,
+        input: &SymbolInput<'_, M, T>,
+        new: &[Bitmap<M>],
+        size: SymbolSize,
+        steps: &mut Steps<L>,
+    ) -> Result<Bitmap<M>>
+        ensures value { let d = input_view input.now in
+            let meant = coded_bitmap d new.now size.width size.height (coded_view self.old) in
+            Gives (λ symbol. (symbol, coded_view self.new)) result meant }
+        ensures causes { CodedBitmapsHaveCauses }
+    {
+        if input.header.flags.use_refagg {
+            return self.read_aggregate(alloc, input, new, size, steps);
+        }
+        self.decode_symbol(alloc, input.header, size.width, size.height, steps)
     }
 }
 
@@ -161,7 +186,6 @@ impl<C: Allocator> ReadSymbols for CodedSymbols<'_, C> {
         self.number(IntegerProcedure::Iadw, steps)
     }
 
-    #[tactic(auto, unfolding(crate::specs::SymbolCoding::coded_bitmap))]
     fn symbol_bitmap<A: Allocator + Clone, T: Allocator, L: Ledger>(
         &mut self,
         alloc: A,
@@ -170,10 +194,7 @@ impl<C: Allocator> ReadSymbols for CodedSymbols<'_, C> {
         size: SymbolSize,
         steps: &mut Steps<L>,
     ) -> Result<Bitmap<A>> {
-        if input.header.flags.use_refagg {
-            return self.read_aggregate(alloc, input, new, size, steps);
-        }
-        self.decode_symbol(alloc, input.header, size.width, size.height, steps)
+        self.read_bitmap(alloc, input, new, size, steps)
     }
 }
 

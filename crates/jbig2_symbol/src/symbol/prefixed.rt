@@ -1,13 +1,16 @@
 //! Symbol dictionaries by prefix codes (T.88, 6.5).
 ghost use Rattle.std.specs.Prelude.{◌≡◌, ◌≤◌, length};
 ghost use Rattle.jbig2_base.specs.Answer.{Answers, Gives};
+ghost use Rattle.jbig2_base.specs.Bits.{Place};
 ghost use Rattle.jbig2_text.specs.TextCoding.{by_prefix_codes};
 ghost use Rattle.jbig2_text.specs.inner.TextViews as texts;
 ghost use Rattle.jbig2_symbol.specs.Aggregates.{by_instances, plain_id, prefixed_aggregate, prefixed_instances};
-ghost use Rattle.jbig2_symbol.specs.ClassCauses.{CollectiveClassesHaveCauses};
+ghost use Rattle.jbig2_symbol.specs.Causes.{InstanceCountsHaveCauses};
+ghost use Rattle.jbig2_symbol.specs.ClassCauses.{CollectiveBitmapsHaveCauses, CollectiveClassesHaveCauses};
 ghost use Rattle.jbig2_symbol.specs.SymbolBitmaps.{collective_bitmap};
+ghost use Rattle.jbig2_symbol.specs.SymbolCauses.{PrefixedAggregatesHaveCauses};
 ghost use Rattle.jbig2_symbol.specs.SymbolCoding.{collective_class, prefix_codes_begun};
-ghost use Rattle.jbig2_symbol.specs.SymbolReading.{by_table, contexts_view};
+ghost use Rattle.jbig2_symbol.specs.SymbolReading.{SymbolState, by_table, contexts_view};
 ghost use Rattle.jbig2_symbol.specs.inner.SymbolViews.{behind, input_view, prefixed_view};
 
 use crate::symbol::aggregates::{
@@ -120,8 +123,32 @@ impl<'a, A: Allocator> PrefixedSymbols<'a, A> {
         }
     }
 
+    /// A symbol that is refined from another one or put together from several (T.88, 6.5.8.2).
+    #[tactic(auto, using(crate::proofs::SymbolCauses::prefixed_aggregate_causes, crate::proofs::ReadingCauses::instance_count_causes), unfolding(crate::specs::Aggregates::prefixed_aggregate, crate::specs::Aggregates::instance_count))]
+    fn read_aggregate<T: Allocator, M: Allocator + Clone, L: Ledger>(
+        &mut self,
+        alloc: M,
+        input: &SymbolInput<'_, M, T>,
+        new: &[Bitmap<M>],
+        size: SymbolSize,
+        steps: &mut Steps<L>,
+    ) -> Result<Bitmap<M>>
+        requires symbols { length input.now.symbols.now ≤ 2097152 }
+        requires fresh { input.now.header.now.num_new_symbols ≤ 1048576 }
+        ensures value { let d = input_view input.now in
+            let state = prefixed_view self.old in
+            let meant = prefixed_aggregate d new.now size.width size.height state in
+            Gives (λ symbol. (symbol, prefixed_view self.new)) result meant }
+        ensures causes { PrefixedAggregatesHaveCauses }
+        ensures counts { InstanceCountsHaveCauses (SymbolState Place) }
+    {
+        let count = instance_count(self.number(input.tables.counts)?)?;
+        let params = aggregate_params(input, new, count);
+        self.read_instances(alloc, input, &params, size, steps)
+    }
+
     /// The collective bitmap of a height class (T.88, 6.5.9).
-    #[tactic(auto, unfolding(crate::specs::SymbolBitmaps::collective_bitmap))]
+    #[tactic(auto, using(crate::proofs::ClassCauses::collective_causes), unfolding(crate::specs::SymbolBitmaps::collective_bitmap))]
     fn read_collective<M: Allocator, S: Allocator, T: Allocator, L: Ledger>(
         &mut self,
         alloc: M,
@@ -130,9 +157,10 @@ impl<'a, A: Allocator> PrefixedSymbols<'a, A> {
         height: u32,
         steps: &mut Steps<L>,
     ) -> Result<Bitmap<M>>
-        ensures { let d = input_view input.now in
+        ensures value { let d = input_view input.now in
             let meant = collective_bitmap d width height (prefixed_view self.old) in
             Gives (λ bitmap. (bitmap, prefixed_view self.new)) result meant }
+        ensures causes { CollectiveBitmapsHaveCauses }
     {
         let Some(size) = self.number(input.tables.sizes)? else {
             return Err(DecodeError::Huffman(HuffmanError::UnexpectedOob));
@@ -199,7 +227,6 @@ impl<C: Allocator> ReadSymbols for PrefixedSymbols<'_, C> {
         self.number(input.tables.widths)
     }
 
-    #[tactic(auto, unfolding(crate::specs::Aggregates::prefixed_aggregate, crate::specs::Aggregates::instance_count))]
     fn symbol_bitmap<A: Allocator + Clone, T: Allocator, L: Ledger>(
         &mut self,
         alloc: A,
@@ -208,9 +235,7 @@ impl<C: Allocator> ReadSymbols for PrefixedSymbols<'_, C> {
         size: SymbolSize,
         steps: &mut Steps<L>,
     ) -> Result<Bitmap<A>> {
-        let count = instance_count(self.number(input.tables.counts)?)?;
-        let params = aggregate_params(input, new, count);
-        self.read_instances(alloc, input, &params, size, steps)
+        self.read_aggregate(alloc, input, new, size, steps)
     }
 }
 

@@ -2,6 +2,7 @@
 ghost use Rattle.std.specs.Prelude.{◌≡◌};
 ghost use Rattle.jbig2_base.specs.Answer.{Answers};
 ghost use Rattle.jbig2_coder.specs.inner.TableViews.{customs_view};
+ghost use Rattle.jbig2_text.specs.CausesOfRegions.{TextTablesHaveCauses};
 ghost use Rattle.jbig2_text.specs.TextRegion.{aggregate_tables, one_of_two, one_of_three, table_of_refinement, table_of_size, text_tables};
 ghost use Rattle.jbig2_text.specs.inner.TextViews.{tables_view};
 
@@ -111,14 +112,15 @@ fn size_table<'a, T: Allocator>(
 ///
 /// `HuffmanError::InvalidSelection` for a number without meaning; `HuffmanError::MissingTables`
 /// where the custom tables run out. Takes no memory.
-#[tactic(auto, unfolding(crate::specs::TextRegion::text_tables))]
+#[tactic(auto, using(crate::proofs::CausesOfRegions::text_table_causes), unfolding(crate::specs::TextRegion::text_tables))]
 pub fn select_tables<'a, T: Allocator>(
     flags: &TextRegionHuffmanFlags,
     customs: &'a [&'a HuffmanTable<T>],
     standard: &'a StandardHuffmanTables<T>,
 ) -> Result<TextRegionHuffmanTables<'a, T>>
-    ensures { let meant = text_tables flags.now (customs_view customs.now) in
+    ensures value { let meant = text_tables flags.now (customs_view customs.now) in
         Answers (λ tables. tables_view tables) result meant }
+    ensures causes { TextTablesHaveCauses }
 {
     let (first, second) = (standard.table_f(), standard.table_g());
     let (first_s, customs) = one_of_two(first, second, flags.first_s_table, customs)?;

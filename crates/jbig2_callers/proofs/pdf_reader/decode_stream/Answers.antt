@@ -28,7 +28,7 @@ returns-in_err-page-in-Some g c =
     let why : (e ≡ OutOfMemory) ⊎ (grid_of_stream (option_map (λ b. b.now) c.args.globals) c.args.stream.now ≡ Err e) =
     ⊎_elim
     (λ (memory : e ≡ OutOfMemory). inl memory)
-    (λ unread. inr (page-refused c.args.globals c.in-Some.bytes c.args.stream.now c.in_ok-globals-in-Some.globals e c.in-Some.is c.in_ok-globals-in-Some.ensures unread))
-    c.in_err-page-in-Some.ensures
+    (λ unread. inr (page-refused c.args.globals c.in-Some.bytes c.args.stream.now c.in_ok-globals-in-Some.globals e c.in-Some.is c.in_ok-globals-in-Some.ensures.value unread))
+    c.in_err-page-in-Some.ensures.value
     in
     rw (answered.1, answered.2) (refused g.D.Decoder.conduct (grid_of_stream (option_map (λ b. b.now) c.args.globals) c.args.stream.now) e c.args.decoder.now why)
