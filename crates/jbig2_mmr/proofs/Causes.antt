@@ -6,7 +6,8 @@ use Rattle.jbig2_base.specs.declared.error.DecodeError.{DecodeError}
 use Rattle.jbig2_base.specs.declared.error.DecodeError.TheVariants.{Region}
 use Rattle.jbig2_base.specs.declared.error.RegionError.TheVariants.{InvalidMmrData}
 use Rattle.jbig2_mmr.specs.Causes.{BeginNone, BreaksMmr, BreaksMode, BreaksRow, BreaksRows, BreaksRun, BreaksRuns, IsOutside, MmrDataHasCauses}
-use Rattle.jbig2_mmr.specs.T6.{Decoded, Head, Rows, Step, after_mode, after_pass, after_runs, after_vertical, b1_of, begins, bits_of, ends_block, grid_of_rows, mmr_rows, next_step, or_fault, pixel_of, place_in, read_code, row, row_from, row_start, rows_from, rows_of, run, run_from, runs_of, ◌>>=◌}
+use Rattle.jbig2_mmr.specs.T6.{Decoded, Head, Rows, Step, after_mode, after_pass, after_runs, after_vertical, b1_of, begins, bits_of, ends_block, grid_of_rows, mmr_rows, next_step, pixel_of, place_in, read_code, row, row_from, row_start, rows_from, rows_of, run, run_from, runs_of, ◌>>=◌}
+use Rattle.jbig2_mmr.proofs.T6Decoding.{or_fault}
 use Rattle.jbig2_mmr.specs.T6Codes.{black_runs, longer_runs, modes, white_runs}
 use Rattle.jbig2_mmr.specs.declared.mmr.codes.Mode.{Mode}
 use Rattle.jbig2_mmr.specs.declared.mmr.codes.Mode.TheVariants.{Pass, Horizontal, Vertical}

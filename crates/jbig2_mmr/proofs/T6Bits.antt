@@ -8,8 +8,8 @@ use Rattle.jbig2_base.specs.Bits.{byte_bits, number_after}
 use Rattle.jbig2_base.specs.inner.BitLists.{AreBits}
 use Rattle.jbig2_base.proofs.BitFieldLemmas.{bits-drop, byte-bits}
 use Rattle.jbig2_base.proofs.NumberLemmas.{length-bits, number-both, number-lt}
-use Rattle.jbig2_mmr.specs.T6.{ends_block, after_end}
-use Rattle.jbig2_mmr.specs.inner.T6Reading.{spell, padded}
+use Rattle.jbig2_mmr.specs.T6.{ends_block}
+use Rattle.jbig2_mmr.specs.inner.T6Reading.{after_end, spell, padded}
 
 -- ---- places
 -- a place at the end has no bit read

@@ -10,11 +10,16 @@ use Rattle.jbig2_base.specs.declared.error.DecodeError.{DecodeError}
 use Rattle.jbig2_base.specs.declared.error.DecodeError.TheVariants.{Region}
 use Rattle.jbig2_base.specs.declared.error.RegionError.TheVariants.{InvalidMmrData}
 use Rattle.jbig2_base.proofs.GridLemmas.{grid_of-ext, pixel_at-grid_of, pixel_at-right, pixel_at-below}
-use Rattle.jbig2_mmr.specs.T6.{row, pixel_of, black_at, ends_block, after_end, Rows, or_fault, rows_from, rows_of, bits_of, grid_of_rows, Decoded, mmr_rows}
-use Rattle.jbig2_mmr.specs.inner.T6Reading.{row_above, IsRow}
+use Rattle.jbig2_mmr.specs.T6.{row, pixel_of, black_at, ends_block, Rows, rows_from, rows_of, bits_of, grid_of_rows, Decoded, mmr_rows}
+use Rattle.jbig2_mmr.specs.inner.T6Reading.{after_end, row_above, IsRow}
 use Rattle.jbig2_mmr.specs.inner.T6Calls.{ReadRow}
 use Rattle.jbig2_base.proofs.NumberLemmas.{length-bits}
 use Rattle.jbig2_mmr.proofs.T6Rows.{change-none}
+
+-- the rows behind one that may be a fault
+abbrev pub or_fault : List (List ℕ) → Option (List ℕ × List ℕ) → (List ℕ × List ℕ → Rows) → Rows
+or_fault done None f = record { rows = done; whole = false; left = [] }
+or_fault done (Some r) f = f r
 
 pub record RowsReading (w h y : ℕ) (bits : List ℕ) (new : Grid) (meant : Rows) : Type 0 where
   pub done : List (List ℕ)

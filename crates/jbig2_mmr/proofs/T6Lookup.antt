@@ -1,7 +1,7 @@
 -- The code that begins some bits, found by a table over a fixed number of them.
 use Rattle.std.proofs.Common.{◌≡◌, ℕ, zero, suc, ◌+◌, ◌*◌, ◌/◌, ◌%◌, ◌^◌, ◌<◌, ◌≤◌, Bool, true, false, not, ◌&&◌, cond, eqb, ltb, leb, List, [], ◌∷◌, ◌++◌, length, take, drop, map, replicate, Option, Some, None, refl, sym, ap, ◌∙◌, ⊎_elim, zero-add, arith}
 use Rattle.std.specs.Option.{is_some}
-use Rattle.std.specs.List.{range_with_len}
+use Rattle.std.specs.List.{list_all, range_with_len}
 use Rattle.std.proofs.lemmas.Nat.{shr-shr, shr_high}
 use Rattle.std.proofs.lemmas.List.{length-append, take-append-drop, length-take-le, length-replicate}
 use Rattle.std.proofs.lemmas.Bool.{true≢false, cases_eq, cases_Bool, cond-true, cond-false, and_parts, eq-eqb, eqb-true, ltb-true, leb-true}
@@ -9,7 +9,7 @@ use Rattle.jbig2_base.specs.Bits.{number_after}
 use Rattle.jbig2_base.specs.inner.BitLists.{AreBits}
 use Rattle.jbig2_base.proofs.BitFieldLemmas.{bits-take}
 use Rattle.jbig2_base.proofs.NumberLemmas.{number-front, number-lt}
-use Rattle.jbig2_mmr.specs.T6.{begins, read_code, apart_from, is_prefix_free}
+use Rattle.jbig2_mmr.specs.T6.{begins, read_code, is_prefix_free}
 use Rattle.jbig2_mmr.specs.inner.T6Reading.{spell, code_at, entry_of, padded}
 use Rattle.jbig2_mmr.proofs.T6Bits.{spell-length}
 
@@ -144,6 +144,10 @@ both-begin (b ∷ v) (c ∷ w) (d ∷ bits) e f =
     ap (λ (t : Bool). not (t && begins v w) && not (eqb c b && begins w v)) (eq-eqb b c same)
     ∙ ap (λ (t : Bool). not (begins v w) && not (t && begins w v)) (eq-eqb c b (sym same))
     ∙ rest
+
+-- the word begins none of the list, and none begins it
+abbrev apart_from : {A : Type 0} → List ℕ → List (A × List ℕ) → Bool
+apart_from word cs = list_all (λ c. not (begins word c.1) && not (begins c.1 word)) cs
 
 -- a code that ends behind the bits: no other code begins them
 none-other : {A : Type 0} (cs : List (A × List ℕ)) (word bits more : List ℕ) → apart_from word cs ≡ true → begins word (bits ++ more) ≡ true → code_at cs bits ≡ None

@@ -1,6 +1,5 @@
 -- Which rule of T.6 the bits break where strict mode refuses MMR data (docs/FORMAT.md). `BreaksMmr` takes the size, the
--- bytes and an error, and says which row is missing or at fault: no code begins its bits, or a run or a change lies
--- outside of it. The law at the end ties the definition's error to it.
+-- bytes and an error, and says which row is missing or at fault. The law at the end ties the definition's error to it.
 use Rattle.std.specs.Prelude.{◌≡◌, ◌<◌, ◌≤◌, ◌⊎◌, ℕ, zero, suc, ◌+◌, Bool, true, false, not, List, [], length, All, Some, IfErr, ℤ, pos, negsuc, ◌+ℤ◌}
 use Rattle.jbig2_base.specs.declared.error.DecodeError.{DecodeError}
 use Rattle.jbig2_base.specs.declared.error.DecodeError.TheVariants.{Region}
@@ -13,8 +12,7 @@ use Rattle.jbig2_mmr.specs.declared.mmr.codes.Mode.TheVariants.{Horizontal, Vert
 abbrev pub BeginNone : {A : Type 0} → List (A × List ℕ) → List ℕ → Type 0
 BeginNone words bits = All (λ c. begins c.1 bits ≡ false) words
 
--- A run: no word of its colour's table (tables 2 and 3) begins the bits, or a make-up code does, and the rest of the run
--- behind it is at fault.
+-- A run: no word of its colour's table (tables 2 and 3) begins the bits, or a make-up code, and the run's rest is at fault.
 abbrev pub BreaksRun : ℕ → Bool → List ℕ → Type 0
 BreaksRun zero black bits = BeginNone (runs_of black) bits
 BreaksRun (suc most) black bits =
@@ -42,8 +40,7 @@ BreaksMode w above h bits =
     ⊎ ((distance : ℤ) × (left : List ℕ) × (read_code modes bits ≡ Some (Vertical distance, left))
     × IsOutside h.a0 w (pos (b1_of w above h) +ℤ distance)))
 
--- The row is not at its end, and the next mode is at fault, or one of those behind it; or as many modes were read as
--- there were bits.
+-- The row is not at its end, and the next mode is at fault, or a later one, or as many were read as there were bits.
 abbrev pub BreaksRow : ℕ → ℕ → (ℕ → Bool) → Head → List ℕ → Type 0
 BreaksRow zero w above h bits = h.a0 < w
 BreaksRow (suc most) w above h bits =
@@ -51,7 +48,7 @@ BreaksRow (suc most) w above h bits =
     × (BreaksMode w above h bits
     ⊎ ((s : Step) × (next_step w above h bits ≡ Some s) × BreaksRow most w above s.head s.left))
 
--- Of n rows the next one is missing, since the end of block stands in its place, or is at fault; or one behind it is.
+-- Of n rows the next one is missing, the end of block standing in its place, or at fault; or one behind it is.
 abbrev pub BreaksRows : ℕ → ℕ → List ℕ → List ℕ → Type 0
 BreaksRows zero w above bits = ⊥
 BreaksRows (suc n) w above bits =

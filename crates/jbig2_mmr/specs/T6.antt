@@ -1,10 +1,8 @@
--- Two-dimensional coding of bitmaps by ITU-T T.6 (2.2; T.88 calls it MMR, 6.2.6), in JBIG2's profile.
---
--- A row is coded against the row above it, its reference row: modes and runs say where its changing elements
--- lie, the pixels that differ in colour from their left neighbour. The definition takes a width, a height
--- and bytes, and gives the bitmap and how many bytes it took, or an error: see `mmr_rows` at the end.
+-- Two-dimensional coding of bitmaps by ITU-T T.6 (2.2), which T.88 calls MMR (6.2.6). Modes and runs say where a row's
+-- changing elements lie against the row above it, its reference row. `mmr_rows`, at the end, takes a width, a height and
+-- bytes, and gives the bitmap and how many bytes it took, or an error.
 use Rattle.std.specs.Prelude.{ℕ, zero, suc, ◌+◌, ◌-◌, ◌/◌, ◌%◌, ◌==◌, ℤ, pos, negsuc, ◌+ℤ◌, Bool, true, false, not, ◌&&◌, ◌||◌, nat_le, nat_lt, List, [], ◌∷◌, ◌++◌, length, take, drop, filter, slice_index_or, Option, Some, None, Result, Ok, Err, if◌then◌else◌}
-use Rattle.std.specs.List.{flat_map}
+use Rattle.std.specs.List.{flat_map, list_all}
 use Rattle.jbig2_base.specs.Bits.{byte_bits, number_after}
 use Rattle.jbig2_base.specs.Grid.{Grid, grid_of}
 use Rattle.jbig2_base.specs.Search.{place_from}
@@ -26,7 +24,6 @@ differ true b = not b
 differ false b = b
 
 -- ---- codes (T.6, tables 1 to 3)
--- the word stands at the front of the bits
 abbrev pub begins : List ℕ → List ℕ → Bool
 begins [] bits = true
 begins (b ∷ word) [] = false
@@ -38,20 +35,15 @@ read_code [] bits = None
 read_code (c ∷ cs) bits = if begins c.1 bits then Some (c.0, drop (length c.1) bits) else read_code cs bits
 
 -- no word of the list begins another one
-abbrev pub apart_from : {A : Type 0} → List ℕ → List (A × List ℕ) → Bool
-apart_from word [] = true
-apart_from word (c ∷ cs) = not (begins word c.1) && not (begins c.1 word) && apart_from word cs
-
 unfoldable pub is_prefix_free : {A : Type 0} → List (A × List ℕ) → Bool
 is_prefix_free [] = true
-is_prefix_free (c ∷ cs) = apart_from c.1 cs && is_prefix_free cs
+is_prefix_free (c ∷ cs) = list_all (λ d. not (begins c.1 d.1) && not (begins d.1 c.1)) cs && is_prefix_free cs
 
 abbrev pub runs_of : Bool → List (ℕ × List ℕ)
 runs_of true = black_runs
 runs_of false = white_runs
 
--- A run of a colour (tables 2 and 3) is the sum of its codes: make-up codes (64 and more), then a terminating
--- code (0 to 63). Each code has a bit at least, so there are no more codes than bits.
+-- A run is the sum of make-up codes (64 and more) and a terminating code (0 to 63). Each code takes a bit at least.
 unfoldable pub run_from : ℕ → Bool → List ℕ → Option (ℕ × List ℕ)
 run_from zero black bits = None
 run_from (suc most) black bits = do
@@ -61,8 +53,7 @@ run_from (suc most) black bits = do
 abbrev pub run : Bool → List ℕ → Option (ℕ × List ℕ)
 run black bits = run_from (length bits) black bits
 
--- ---- the changing elements of the reference row (2.2.1)
--- the pixel left of x: white left of pixel 0
+-- ---- the changing elements of a row (2.2.1), left of which lies white
 abbrev pub left_of : (ℕ → Bool) → ℕ → Bool
 left_of row zero = false
 left_of row (suc x) = row x
@@ -76,8 +67,7 @@ unfoldable pub is_change_from : (ℕ → Bool) → Bool → ℕ → Bool
 is_change_from row black x = is_change row x && differ (row x) black
 
 -- ---- one mode (2.2.2)
--- Where a row stands: at a0, the colour from there on, and whether a mode was read. Before the first mode a0
--- is left of pixel 0, and counts as 0.
+-- where a row stands: at a0, which is 0 before the first mode; whether a mode was read; the colour from a0 on
 pub record Head : Type 0 where
   pub a0 : ℕ
   pub begun : Bool
@@ -101,8 +91,7 @@ b2_of w above h = place_from (is_change above) (b1_of w above h + 1) w
 unfoldable pub after_pass : ℕ → (ℕ → Bool) → Head → List ℕ → Option Step
 after_pass w above h bits = Some (record { head = record { a0 = b2_of w above h; begun = true; black = h.black }; added = []; left = bits })
 
--- Horizontal: a run of the colour up to a1, then one of the other up to a2, where a0 moves. It is a fault where
--- that passes the row's end.
+-- Horizontal: a run of the colour up to a1, then one of the other up to a2, where a0 moves, within the row.
 unfoldable pub after_runs : ℕ → Head → List ℕ → Option Step
 after_runs w h bits = do
   first ← run h.black bits
@@ -111,7 +100,7 @@ after_runs w h bits = do
       let a2 = a1 + second.0 in
       if nat_le a2 w then Some (record { head = record { a0 = a2; begun = true; black = h.black }; added = a1 ∷ a2 ∷ []; left = second.1 }) else None
 
--- A place in the row that is not left of a0. It is a fault where there is none.
+-- a place in the row that is not left of a0
 abbrev pub place_in : ℕ → ℕ → ℤ → Option ℕ
 place_in a0 w (pos x) = if nat_le a0 x && nat_le x w then Some x else None
 place_in a0 w (negsuc x) = None
@@ -134,8 +123,7 @@ next_step w above h bits = do
   after_mode w above h mode.0 mode.1
 
 -- ---- rows (2.2.3)
--- The changing elements of a row, and the bits behind it: mode by mode until a0 is the row's end; a fault is
--- None. Each mode takes a bit at least, so there are no more modes than bits.
+-- The changing elements of a row, and the bits behind it, mode by mode; None at a fault. Each mode takes a bit at least.
 unfoldable pub row_from : ℕ → ℕ → (ℕ → Bool) → Head → List ℕ → List ℕ → Option (List ℕ × List ℕ)
 row_from zero w above h changes bits = if nat_le w h.a0 then Some (changes, bits) else None
 row_from (suc most) w above h changes bits =
@@ -160,26 +148,21 @@ pixel_of w changes x = nat_lt x w && black_at changes x
 unfoldable pub ends_block : List ℕ → Bool
 ends_block bits = nat_le 24 (length bits) && (number_after 0 (take 24 bits) == 0x001001)
 
-abbrev pub after_end : List ℕ → List ℕ
-after_end bits = if ends_block bits then drop 24 bits else bits
-
--- ---- all rows
--- the whole rows, whether they are all, and the bits behind them: none at a fault
+-- ---- all rows: the whole ones, whether they are all, and the bits behind them: none at a fault
 pub record Rows : Type 0 where
   pub rows : List (List ℕ)
   pub whole : Bool
   pub left : List ℕ
 
-abbrev pub or_fault : List (List ℕ) → Option (List ℕ × List ℕ) → (List ℕ × List ℕ → Rows) → Rows
-or_fault done None f = record { rows = done; whole = false; left = [] }
-or_fault done (Some r) f = f r
-
 -- So many rows more: the end of block ends them early, and a fault too. Above row 0 all is white.
 unfoldable pub rows_from : ℕ → ℕ → List ℕ → List (List ℕ) → List ℕ → Rows
-rows_from zero w above done bits = record { rows = done; whole = true; left = after_end bits }
+rows_from zero w above done bits = record { rows = done; whole = true; left = (if ends_block bits then drop 24 bits else bits) }
 rows_from (suc n) w above done bits =
     if ends_block bits then record { rows = done; whole = false; left = drop 24 bits }
-    else or_fault done (row w (pixel_of w above) bits) (λ r. rows_from n w r.0 (done ++ r.0 ∷ []) r.1)
+    else (elim (row w (pixel_of w above) bits) [
+      | None ↦ record { rows = done; whole = false; left = [] }
+      | Some r ↦ rows_from n w r.0 (done ++ r.0 ∷ []) r.1
+    ])
 
 abbrev pub bits_of : List ℕ → List ℕ
 bits_of bytes = flat_map byte_bits bytes
@@ -196,8 +179,7 @@ pub record Decoded : Type 0 where
   pub grid : Grid
   pub used : ℕ
 
--- Rows of a width and a height, read from bytes (T.88, 6.2.6). A missing row is refused in strict mode, and
--- else white.
+-- Rows of a width and a height, read from bytes (T.88, 6.2.6). A missing row is refused in strict mode, and else white.
 unfoldable pub mmr_rows : Bool → ℕ → ℕ → List ℕ → Result Decoded DecodeError
 mmr_rows strict w h bytes =
     let r = rows_of w h bytes in

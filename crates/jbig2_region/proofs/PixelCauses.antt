@@ -10,7 +10,7 @@ use Rattle.jbig2_base.specs.declared.error.DecodeError.{DecodeError}
 use Rattle.jbig2_base.specs.declared.error.DecodeError.TheVariants as errors
 use Rattle.jbig2_base.specs.declared.error.TemplateError.TheVariants.{InvalidAtPixel}
 use Rattle.jbig2_base.proofs.Causes.{cause-next, cause-number, cause-refused, same-ok, went}
-use Rattle.jbig2_region.specs.Causes.{BreaksPixels, BreaksRefinementPixels, IsLate, IsLateIn, RefinementPixelsHaveCauses, TemplatePixelsHaveCauses}
+use Rattle.jbig2_region.specs.Causes.{BreaksPixels, BreaksRefinementPixels, IsLate, RefinementPixelsHaveCauses, TemplatePixelsHaveCauses}
 use Rattle.jbig2_region.specs.RefinementTemplates.{refinement_pixel_count, refinement_pixels_at}
 use Rattle.jbig2_region.specs.Templates.{adaptive_pixel_at, adaptive_pixel_count, adaptive_pixels_at, free_pixel_at, is_earlier}
 use Rattle.jbig2_region.specs.declared.template.AdaptiveTemplatePixel.{AdaptiveTemplatePixel}
@@ -67,6 +67,10 @@ late (negsuc x) (pos zero) is = absurd (false≢true (sym is))
 late (negsuc x) (pos (suc y)) is = omega arith
 late (pos x) (negsuc y) is = absurd (false≢true (sym is))
 late (negsuc x) (negsuc y) is = absurd (false≢true (sym is))
+
+-- the pixel that stands at this byte and the next one
+abbrev pub IsLateIn : ℕ → List ℕ → Type 0
+IsLateIn place bytes = IsLate (cast_signed w8 (number_in w8 place bytes)) (cast_signed w8 (number_in w8 (place + 1) bytes))
 
 cause-pixel : (P : DecodeError → Type 0) (k : ℕ) (bytes rest : List ℕ) → At k bytes rest → (length bytes < k + 2 → P end_of_bytes) → (k + 2 ≤ length bytes → IsLateIn k bytes → P (errors.Template InvalidAtPixel)) → IfErr (adaptive_pixel_at rest) P
 unfolding adaptive_pixel_at

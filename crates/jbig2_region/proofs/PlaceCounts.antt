@@ -1,10 +1,10 @@
 -- Counts over raster places are those by rows.
-use Rattle.std.proofs.Common.{◌≡◌, ℕ, zero, suc, ◌+◌, ◌*◌, ◌<◌, Bool, true, false, not, ◌&&◌, cond, List, length, Option, refl, sym, ap, ◌∙◌, arith}
+use Rattle.std.proofs.Common.{◌≡◌, ℕ, zero, suc, ◌+◌, ◌*◌, ◌<◌, Bool, true, false, not, ◌&&◌, cond, List, length, Option, None, refl, sym, ap, ◌∙◌, arith}
 use Rattle.jbig2_base.specs.Grid.{bit_number}
-use Rattle.jbig2_region.specs.Decisions.{how_many, pixel_decisions, takes_decision}
-use Rattle.jbig2_region.specs.Generic.{context_at, colour_above}
+use Rattle.jbig2_region.specs.RunBytes.{how_many, pixel_decisions, takes_decision}
+use Rattle.jbig2_region.specs.Generic.{context_at, known_colour}
 use Rattle.jbig2_region.specs.Raster.{Coding, Region, after_pixel, at_pixel, row_begun}
-use Rattle.jbig2_region.specs.RunBytes.{coded_pixels, coded_runs, is_coded_run, is_run_byte}
+use Rattle.jbig2_region.specs.RunBytes.{coded_pixels, coded_runs, is_run_byte}
 use Rattle.jbig2_region.specs.inner.Neighbours.{row_coding}
 use Rattle.jbig2_region.specs.inner.RowCounts.{coded_rows, decided_pixels, decided_rows, rows_runs, run_bytes}
 use Rattle.jbig2_region.specs.inner.Rows.{after_pixels, after_rows}
@@ -14,7 +14,7 @@ use Rattle.jbig2_region.proofs.RasterLemmas.{after_pixels-predicted}
 
 -- ---- a coding with its rows' context, or without
 abbrev pub coding_with : List AdaptiveTemplatePixel → Option ℕ → Coding
-coding_with template row_context = record { context = context_at template; known = colour_above; row_context = row_context }
+coding_with template row_context = record { context = context_at template; known = known_colour None; row_context = row_context }
 
 -- the decision that begins rows has no part in their pixels
 pub after_pixels-coding : (template : List AdaptiveTemplatePixel) (row_context : Option ℕ) (w h : ℕ) (input : List ℕ) (n : ℕ) (r : Region) → after_pixels (coding_with template row_context) w h input n r ≡ after_pixels (row_coding template) w h input n r
@@ -113,8 +113,11 @@ coded-by-rows coding w h input start none =
     turned (λ n. not (at_pixel coding w h input start n).predicted) w h ∙ coded-places coding w h input start h none
 
 -- ---- run bytes
+-- whether the next pixel begins one in a row that is not predicted
+abbrev is_coded_run : List AdaptiveTemplatePixel → ℕ → ℕ → List ℕ → Region → Bool
+is_coded_run template w h bytes r = not r.predicted && is_run_byte template w h bytes r
+
 run-of-row : (template : List AdaptiveTemplatePixel) (w h : ℕ) (input : List ℕ) (r : Region) (p : Bool) → r.predicted ≡ p → is_coded_run template w h input r ≡ (not p && is_run_byte template w h input r)
-unfolding is_coded_run
 run-of-row template w h input r p is = rw is refl
 
 runs-in-row : (template : List AdaptiveTemplatePixel) (row_context : Option ℕ) (w h : ℕ) (input : List ℕ) (begun : Region) (p : Bool) (n : ℕ) → begun.predicted ≡ p → how_many (λ x. is_coded_run template w h input (after_pixels (coding_with template row_context) w h input x begun)) n ≡ cond p 0 (run_bytes template w h input n begun)

@@ -1,5 +1,5 @@
 -- Contexts of refinements and their predicted colours out of windows.
-use Rattle.std.proofs.Common.{pos, negsuc, ℤ, ◌+ℤ◌, ◌-ℤ◌, ◌<ℤ◌, ◌≤ℤ◌, ◌≡◌, ℕ, ◌+◌, ◌-◌, ◌*◌, ◌/◌, ◌%◌, ◌^◌, ◌<◌, ◌≤◌, Bool, true, false, [], ◌∷◌, ◌++◌, map, refl, sym, ap, ◌∙◌, ⊎_elim, arith}
+use Rattle.std.proofs.Common.{pos, negsuc, ℤ, ◌+ℤ◌, ◌-ℤ◌, ◌<ℤ◌, ◌≤ℤ◌, ◌≡◌, ℕ, ◌+◌, ◌-◌, ◌*◌, ◌/◌, ◌%◌, ◌^◌, ◌<◌, ◌≤◌, Bool, true, false, cond, None, [], ◌∷◌, ◌++◌, map, refl, sym, ap, ◌∙◌, ⊎_elim, arith}
 use Rattle.std.proofs.lemmas.Bool.{cases_eq, cases_lt, eq-eqb, ne_eqb}
 use Rattle.std.proofs.lemmas.Int.{ints}
 use Rattle.std.proofs.lemmas.Nat.{shr-shr}
@@ -7,8 +7,8 @@ use Rattle.jbig2_base.specs.Grid.{Grid, pixel, pixel_at, bit_number}
 use Rattle.jbig2_base.specs.inner.WordBits.{bit}
 use Rattle.jbig2_base.proofs.BitLemmas.{bit-above, bit-shl_high, bit-shl_low, bit-shr, bit-zero, bit_number-bit}
 use Rattle.jbig2_base.proofs.GridLemmas.{pixel_at-right}
-use Rattle.jbig2_region.specs.Generic.{number_of}
-use Rattle.jbig2_region.specs.Refinement.{Reference, reference_pixel, region_pixel, refined_context, nine, common_colour, predicted_colour}
+use Rattle.jbig2_region.specs.Generic.{number_of, region_pixel}
+use Rattle.jbig2_region.specs.Refinement.{Reference, reference_pixel, refined_context, nine, common_colour}
 use Rattle.jbig2_region.specs.RefinementTemplates.{apart, reference_pixels, region_pixels}
 use Rattle.jbig2_region.specs.inner.Neighbours.{IsLeft, SameAbove}
 use Rattle.jbig2_region.specs.inner.RefinementWindows.{Sees, SeesRows, colour_of, context_of, corners, four_of, known_of, nine_of, three_of}
@@ -199,7 +199,7 @@ colour-by r x y n number is order =
     (cases_eq n 0)))
     (cases_eq n 511)
 
-pub windows-colour : (predicted : Bool) (r : Reference) (g : Grid) (x y k : ℕ) (w : RefinementWindows) → k < 32 → SeesRows g r x y w → known_of predicted (nine_of w k) ≡ predicted_colour r predicted (x + k) y
+pub windows-colour : (predicted : Bool) (r : Reference) (g : Grid) (x y k : ℕ) (w : RefinementWindows) → k < 32 → SeesRows g r x y w → known_of predicted (nine_of w k) ≡ cond predicted (common_colour r (x + k) y) None
 windows-colour false r g x y k w few sees = refl
 windows-colour true r g x y k w few sees =
     colour-by r (x + k) y (nine_of w k) (number_of (map (reference_pixel r (x + k) y) nine ++ [])) refl

@@ -7,11 +7,11 @@ use Rattle.jbig2_base.specs.inner.Writes.{with_pixels}
 use Rattle.jbig2_base.proofs.BitLemmas.{bit-zero}
 use Rattle.jbig2_base.proofs.LaneCounts.{lanes-none}
 use Rattle.jbig2_coder.specs.Coder.{Coder, Context}
-use Rattle.jbig2_region.specs.Decisions.{how_many, pixel_decisions, takes_decision}
+use Rattle.jbig2_region.specs.RunBytes.{how_many, pixel_decisions, takes_decision}
 use Rattle.jbig2_region.specs.inner.RowCounts.{decided_rows}
-use Rattle.jbig2_region.specs.Generic.{context_at}
+use Rattle.jbig2_region.specs.Generic.{context_at, is_skipped}
 use Rattle.jbig2_region.specs.Raster.{Coding, Region, at_pixel}
-use Rattle.jbig2_region.specs.Skipping.{CountsSkipping, is_skipped, kept_pixels, skipping_coding, skipping_loads, skipping_words}
+use Rattle.jbig2_region.specs.Skipping.{CountsSkipping, kept_pixels, skipping_coding, skipping_loads, skipping_words}
 use Rattle.jbig2_region.specs.inner.Codes.{Takes}
 use Rattle.jbig2_region.specs.inner.Masks.{IsMask, plain_context}
 use Rattle.jbig2_region.specs.inner.Neighbours.{IsLeft, IsNear, SameAbove, Shows, left_pixels, nominal_pixels, stretch_pixels}

@@ -1,8 +1,8 @@
 -- A template takes of an array no pixels but the first so many.
 use Rattle.std.proofs.Common.{◌≡◌, false, List, [], ◌∷◌, take, refl}
-use Rattle.jbig2_region.specs.RefinementSteps.{is_nominal as refinement_is_nominal}
+use Rattle.jbig2_region.specs.RefinementTemplates.{is_nominal as refinement_is_nominal}
 use Rattle.jbig2_region.specs.RefinementTemplates.{reference_pixels, region_pixels, two_pixels}
-use Rattle.jbig2_region.specs.Templates.{extended_template_0, four_pixels, is_nominal, template_pixels}
+use Rattle.jbig2_region.specs.Templates.{four_pixels, is_nominal, template_pixels}
 use Rattle.jbig2_region.specs.declared.template.AdaptiveTemplatePixel.{AdaptiveTemplatePixel}
 use Rattle.jbig2_region.specs.declared.template.RefinementTemplate.{RefinementTemplate}
 use Rattle.jbig2_region.specs.declared.template.RefinementTemplate.TheVariants as refinements
@@ -36,7 +36,7 @@ same_nominal Template2 (p ∷ a) = refl
 same_nominal Template3 [] = refl
 same_nominal Template3 (p ∷ a) = refl
 
-pub same_twelve : (a : List AdaptiveTemplatePixel) → extended_template_0 (take 12 a) ≡ extended_template_0 a
+pub same_twelve : (a : List AdaptiveTemplatePixel) → template_pixels true Template0 (take 12 a) ≡ template_pixels true Template0 a
 same_twelve [] = refl
 same_twelve (p1 ∷ []) = refl
 same_twelve (p1 ∷ p2 ∷ []) = refl

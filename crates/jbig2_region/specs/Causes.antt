@@ -1,6 +1,5 @@
--- Which rule the bytes break where a header or a region of this crate is refused (docs/FORMAT.md), a line for each
--- error. A predicate `Breaks..` takes the bytes, or a header and its data, and an error; its law ties the definition's
--- errors to it.
+-- Which rule the bytes break where a header or a region is refused (docs/FORMAT.md), a line for each error. A predicate
+-- `Breaks..` takes the bytes, or a header, and an error; its law ties the definition's errors to it.
 use Rattle.std.specs.Prelude.{◌≡◌, ◌<◌, ◌≤◌, ◌⊎◌, ℕ, ◌+◌, ◌-◌, ◌*◌, ◌/◌, ◌%◌, ◌^◌, ◌==◌, Bool, true, if◌then◌else◌, List, length, IfErr, ℤ, pos, negsuc}
 use Rattle.std.specs.Int.{w8, w32, cast_signed}
 use Rattle.jbig2_base.specs.Causes.{number_in}
@@ -22,8 +21,7 @@ use Rattle.jbig2_region.specs.declared.region_info.RegionSegmentInfo.{RegionSegm
 use Rattle.jbig2_region.specs.declared.template.RefinementTemplate.{RefinementTemplate}
 use Rattle.jbig2_region.specs.declared.template.Template.{Template}
 
--- ---- region information (7.4.1)
--- It has 17 bytes: the two sides and the place, four bytes each, and the flags.
+-- ---- region information (7.4.1): the two sides and the place, four bytes each, and the flags
 abbrev pub BreaksRegionInfo : List ℕ → DecodeError → Type 0
 BreaksRegionInfo bytes (errors.Parse UnexpectedEof) = length bytes < 17
 BreaksRegionInfo bytes (errors.Region InvalidCombinationOperator) = (17 ≤ length bytes) × (4 < number_in w8 16 bytes % 8)
@@ -34,30 +32,26 @@ abbrev pub RegionInfosHaveCauses : Type 0
 RegionInfosHaveCauses = (bytes : List ℕ) → IfErr (region_info_at bytes) (BreaksRegionInfo bytes)
 
 -- ---- adaptive pixels (7.4.6.3)
--- So many columns to the right and rows down: at the pixel that is decoded, or behind it.
+-- so many columns to the right and rows down: at the pixel that is decoded, or behind it
 abbrev pub IsLate : ℤ → ℤ → Type 0
 IsLate (pos columns) (pos rows) = Unit {0}
 IsLate (negsuc columns) (pos rows) = 0 < rows
 IsLate columns (negsuc rows) = ⊥
 
--- the pixel that stands at this byte and the next one, in two's complement
-abbrev pub IsLateIn : ℕ → List ℕ → Type 0
-IsLateIn place bytes = IsLate (cast_signed w8 (number_in w8 place bytes)) (cast_signed w8 (number_in w8 (place + 1) bytes))
-
--- So many pixels from this byte on, two bytes each.
+-- so many pixels from this byte on, two bytes each in two's complement
 abbrev pub BreaksPixels : ℕ → ℕ → List ℕ → DecodeError → Type 0
 BreaksPixels count place bytes (errors.Parse UnexpectedEof) = length bytes < place + 2 * count
 BreaksPixels count place bytes (errors.Template InvalidAtPixel) =
-    (k : ℕ) × (k < count) × (place + 2 * k + 2 ≤ length bytes) × IsLateIn (place + 2 * k) bytes
+    (k : ℕ) × (k < count) × (place + 2 * k + 2 ≤ length bytes)
+    × IsLate (cast_signed w8 (number_in w8 (place + 2 * k) bytes)) (cast_signed w8 (number_in w8 (place + 2 * k + 1) bytes))
 BreaksPixels count place bytes _ = ⊥
 
 abbrev pub TemplatePixelsHaveCauses : Type 0
 TemplatePixelsHaveCauses =
-    (mmr extended : Bool) (template : Template) (bytes : List ℕ)
-    → IfErr (adaptive_pixels_at (adaptive_pixel_count mmr extended template) bytes) (BreaksPixels (adaptive_pixel_count mmr extended template) 0 bytes)
+    (mmr extended : Bool) (template : Template) (bytes : List ℕ) → let count = adaptive_pixel_count mmr extended template in
+    IfErr (adaptive_pixels_at count bytes) (BreaksPixels count 0 bytes)
 
--- ---- generic regions (7.4.6)
--- Where the length is unknown the last four bytes are the number of rows.
+-- ---- generic regions (7.4.6): where the length is unknown the last four bytes are the number of rows
 abbrev pub BreaksRows : Bool → ℕ → List ℕ → DecodeError → Type 0
 BreaksRows unknown_length height bytes (errors.Parse UnexpectedEof) = (unknown_length ≡ true) × (length bytes < 4)
 BreaksRows unknown_length height bytes (errors.Region InvalidDimension) =
@@ -72,11 +66,11 @@ RowsHaveCauses =
 abbrev pub pixels_by : ℕ → ℕ
 pixels_by flags = adaptive_pixel_count (flags % 2 == 1) (flags / 16 % 2 == 1) (template_of (flags / 2 % 4))
 
--- The header: region information, the flags at byte 17, and the adaptive pixels from byte 18 on.
+-- region information, the flags at byte 17, and the adaptive pixels from byte 18 on
 abbrev pub header_length : List ℕ → ℕ
 header_length bytes = 18 + 2 * pixels_by (number_in w8 17 bytes)
 
--- Its width stands at byte 0, its height at byte 4; the number of rows, where that is unknown, in the last four bytes.
+-- the width stands at byte 0, the height at byte 4
 abbrev pub BreaksGenericHeader : Bool → List ℕ → DecodeError → Type 0
 BreaksGenericHeader unknown_length bytes (errors.Parse UnexpectedEof) =
     length bytes < header_length bytes + (if unknown_length then 4 else 0)
@@ -96,8 +90,7 @@ GenericHeadersHaveCauses =
     (unknown_length strict : Bool) (bytes : List ℕ)
     → IfErr (generic_header_at unknown_length strict bytes) (BreaksGenericHeader unknown_length bytes)
 
--- ---- refinements (7.4.7)
--- their adaptive pixels may lie anywhere
+-- ---- refinements (7.4.7), whose adaptive pixels may lie anywhere
 abbrev pub BreaksRefinementPixels : RefinementTemplate → List ℕ → DecodeError → Type 0
 BreaksRefinementPixels template bytes (errors.Parse UnexpectedEof) = length bytes < 2 * refinement_pixel_count template
 BreaksRefinementPixels template bytes _ = ⊥
@@ -106,7 +99,7 @@ abbrev pub RefinementPixelsHaveCauses : Type 0
 RefinementPixelsHaveCauses =
     (template : RefinementTemplate) (bytes : List ℕ) → IfErr (refinement_pixels_at template bytes) (BreaksRefinementPixels template bytes)
 
--- Region information, the flags at byte 17, and the adaptive pixels from byte 18 on: template 0 where bit 0 is clear.
+-- region information, the flags at byte 17, and four bytes of adaptive pixels at template 0, where bit 0 is clear
 abbrev pub BreaksRefinementHeader : List ℕ → DecodeError → Type 0
 BreaksRefinementHeader bytes (errors.Parse UnexpectedEof) =
     length bytes < 18 + (if number_in w8 17 bytes % 2 == 0 then 4 else 0)
@@ -117,7 +110,6 @@ BreaksRefinementHeader bytes e = BreaksRegionInfo bytes e
 abbrev pub RefinementHeadersHaveCauses : Type 0
 RefinementHeadersHaveCauses = (bytes : List ℕ) → IfErr (refinement_header_at bytes) (BreaksRefinementHeader bytes)
 
--- The reference is narrower or lower than the region, or a place of either is 2^31 or more.
 abbrev pub BreaksOffset : PlacedRegion → RegionSegmentInfo → DecodeError → Type 0
 BreaksOffset from info (errors.Region InvalidDimension) =
     (from.grid.width < info.width) ⊎ (from.grid.height < info.height)
@@ -128,14 +120,12 @@ BreaksOffset from info _ = ⊥
 abbrev pub OffsetsHaveCauses : Type 0
 OffsetsHaveCauses = (from : PlacedRegion) (info : RegionSegmentInfo) → IfErr (offset from info) (BreaksOffset from info)
 
--- ---- decoded regions
--- A generic region: its MMR data.
+-- ---- decoded regions: of a generic one the MMR data, of a refined one the reference
 abbrev pub BreaksGeneric : GenericHeader → DecodeError → Type 0
 BreaksGeneric h e = (h.mmr ≡ true) × BreaksMmr h.strict h.region_info.width h.region_info.height h.bytes e
 
 abbrev pub GenericRegionsHaveCauses : Type 0
 GenericRegionsHaveCauses = (h : GenericHeader) → IfErr (generic_decoded h) (BreaksGeneric h)
 
--- A refined region: its reference.
 abbrev pub RefinedRegionsHaveCauses : Type 0
 RefinedRegionsHaveCauses = (h : RefinementHeader) (from : PlacedRegion) → IfErr (refined_decoded h from) (BreaksOffset from h.region_info)

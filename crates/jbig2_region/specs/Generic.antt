@@ -1,8 +1,8 @@
--- Generic regions (T.88, 6.2): a bitmap coded by itself, by the arithmetic coder in the contexts of a template, or by
--- MMR. The header with the coded bytes gives the grid, and what the contexts have learned.
-use Rattle.std.specs.Prelude.{ℕ, ◌+◌, ◌*◌, Bool, if◌then◌else◌, List, [], ◌∷◌, map, Option, Some, None, pos, negsuc, ◌+ℤ◌, Result, Ok}
+-- Generic regions (T.88, 6.2): a bitmap coded by the arithmetic coder in the contexts of a template, or by MMR. The header
+-- with the coded bytes gives the grid, and what the contexts have learned.
+use Rattle.std.specs.Prelude.{ℕ, ◌+◌, ◌*◌, Bool, false, if◌then◌else◌, List, [], ◌∷◌, map, Option, Some, None, pos, negsuc, ◌+ℤ◌, Result, Ok}
 use Rattle.jbig2_base.specs.Answer.{◌>>=◌}
-use Rattle.jbig2_base.specs.Grid.{Grid, pixel, bit_number}
+use Rattle.jbig2_base.specs.Grid.{Grid, pixel, pixel_at, bit_number}
 use Rattle.jbig2_base.specs.declared.error.DecodeError.{DecodeError}
 use Rattle.jbig2_coder.specs.Coder.{Context, initial_registers}
 use Rattle.jbig2_region.specs.GenericHeader.{GenericHeader}
@@ -19,21 +19,34 @@ abbrev pub number_of : List Bool → ℕ
 number_of [] = 0
 number_of (b ∷ bits) = bit_number b + 2 * number_of bits
 
--- the bits of the pixels of a template, seen from column x of row y
+-- a template's pixel, seen from column x of row y
+abbrev pub region_pixel : Grid → ℕ → ℕ → AdaptiveTemplatePixel → Bool
+region_pixel g x y p = pixel g (pos x +ℤ p.x) (pos y +ℤ p.y)
+
 unfoldable pub context_at : List AdaptiveTemplatePixel → Grid → ℕ → ℕ → ℕ
-context_at template g x y = number_of (map (λ (p : AdaptiveTemplatePixel). pixel g (pos x +ℤ p.x) (pos y +ℤ p.y)) template)
+context_at template g x y = number_of (map (region_pixel g x y) template)
 
--- a pixel of a predicted row equals the one above it, and row 0 is then white (6.2.5.7)
-abbrev pub colour_above : Bool → Grid → ℕ → ℕ → Option Bool
-colour_above predicted g x y = if predicted then Some (pixel g (pos x) (pos y +ℤ negsuc 0)) else None
+-- the pixel at column x of row y is skipped (USESKIP): it is black in the bitmap that says so, where there is one
+abbrev pub is_skipped : Option Grid → ℕ → ℕ → Bool
+is_skipped None x y = false
+is_skipped (Some skip) x y = pixel_at skip x y
 
--- by whether typical prediction is on, the template, and all of the template's pixels
-abbrev pub coding_of : Bool → Template → List AdaptiveTemplatePixel → Coding
-coding_of typical template pixels = record {
+-- The colour that a pixel takes without a decision (6.2.5.7): in a predicted row that of the pixel above, white above row
+-- 0; else white where it is skipped.
+abbrev pub known_colour : Option Grid → Bool → Grid → ℕ → ℕ → Option Bool
+known_colour skip predicted g x y =
+    if predicted then Some (pixel g (pos x) (pos y +ℤ negsuc 0)) else if is_skipped skip x y then Some false else None
+
+-- by whether typical prediction is on, the template, all of its pixels, and the bitmap that says what is skipped
+abbrev pub masked_coding : Bool → Template → List AdaptiveTemplatePixel → Option Grid → Coding
+masked_coding typical template pixels skip = record {
   context = context_at pixels;
-  known = colour_above;
+  known = known_colour skip;
   row_context = (if typical then Some (row_context template) else None);
 }
+
+abbrev pub coding_of : Bool → Template → List AdaptiveTemplatePixel → Coding
+coding_of typical template pixels = masked_coding typical template pixels None
 
 abbrev pub generic_coding : GenericHeader → Coding
 generic_coding h = coding_of h.tpgdon h.template (template_pixels h.extended h.template h.adaptive_template_pixels)
@@ -46,7 +59,7 @@ generic_region h =
 unfoldable pub generic_grid : GenericHeader → Grid
 generic_grid h = so_far h.region_info.width h.region_info.height (generic_region h).pixels
 
--- the grid, by the arithmetic coder or by MMR (6.2.6)
+-- by the arithmetic coder or by MMR (6.2.6)
 abbrev pub generic_answer : GenericHeader → Result Grid DecodeError
 generic_answer h =
     if h.mmr then (mmr_rows h.strict h.region_info.width h.region_info.height h.bytes >>= λ rows. Ok rows.grid)
@@ -55,14 +68,12 @@ generic_answer h =
 -- what a refused region leaves of its bitmap: with MMR the whole rows before the fault, and white below them
 abbrev pub refused_grid : GenericHeader → Grid → Grid
 refused_grid h g =
-    let width = h.region_info.width in
-    let height = h.region_info.height in
-    if h.mmr then grid_of_rows width height (rows_of width height h.bytes).rows else g
+    let info = h.region_info in
+    if h.mmr then grid_of_rows info.width info.height (rows_of info.width info.height h.bytes).rows else g
 
 -- the contexts afterwards; MMR leaves them alone
 abbrev pub contexts_after : GenericHeader → List Context → List Context
 contexts_after h contexts = if h.mmr then contexts else (generic_region h).contexts
 
--- the region at its place
 abbrev pub generic_decoded : GenericHeader → Result PlacedRegion DecodeError
 generic_decoded h = generic_answer h >>= λ g. Ok (placed h.region_info g)

@@ -1,4 +1,4 @@
--- The data of a generic region segment up to its coded bytes (T.88, 7.4.6): region information, flags and the adaptive
+-- The data of a generic region segment up to its coded bytes (T.88, 7.4.6): region information, flags and adaptive
 -- pixels. The bytes give the header, and the coded bytes stand behind it.
 use Rattle.std.specs.Prelude.{ℕ, ◌-◌, ◌/◌, ◌%◌, ◌≤◌, ◌==◌, nat_lt, Bool, true, false, ◌||◌, List, length, take, drop, Result, Ok}
 use Rattle.std.specs.Int.{w8, w32}
@@ -16,7 +16,6 @@ use Rattle.jbig2_region.specs.declared.region_info.RegionSegmentInfo.{RegionSegm
 use Rattle.jbig2_region.specs.declared.template.Template.{Template}
 use Rattle.jbig2_region.specs.declared.template.AdaptiveTemplatePixel.{AdaptiveTemplatePixel}
 
--- What a generic region's coded bytes are decoded by.
 pub record GenericHeader : Type 0 where
   pub region_info : RegionSegmentInfo
   pub mmr : Bool
@@ -39,8 +38,8 @@ header_view h = record {
   strict = h.strict;
 }
 
--- The height and the coded bytes. Where the segment's length is unknown its last four bytes are the number of
--- rows, which the stated height must not fall short of (7.4.6.4).
+-- The height and the coded bytes (7.4.6.4): where the segment's length is unknown its last four bytes are the number of
+-- rows, at most the stated height.
 unfoldable pub rows_at : Bool → ℕ → List ℕ → Result (ℕ × List ℕ) DecodeError
 rows_at false height bytes = Ok (height, bytes)
 rows_at true height bytes = do
@@ -48,7 +47,7 @@ rows_at true height bytes = do
   within ← refuse_if (nat_lt height rows.0) (errors.Region InvalidDimension)
   Ok (rows.0, take (length bytes - 4) bytes)
 
--- All of it, and the place where the coded bytes begin. Neither side may pass 65535 (our own rule).
+-- the header, and the bytes from the coded ones on; neither side may pass 65535 (our own rule)
 unfoldable pub generic_header_at : Bool → Bool → List ℕ → Result (GenericHeader × List ℕ) DecodeError
 generic_header_at unknown_length strict bytes = do
   info ← region_info_at bytes
@@ -73,7 +72,7 @@ generic_header_at unknown_length strict bytes = do
     pixels.1,
   )
 
--- What holds of every header that is read.
+-- what holds of every header that is read
 pub record IsParsed (h : GenericHeader) : Type 0 where
   pub columns : h.region_info.width ≤ 65535
   pub rows : h.region_info.height ≤ 65535

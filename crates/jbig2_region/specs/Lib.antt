@@ -1,11 +1,9 @@
 pub mod Causes
-pub mod Decisions
 pub mod Generic
 pub mod GenericHeader
 pub mod Raster
 pub mod Refinement
 pub mod RefinementHeader
-pub mod RefinementSteps
 pub mod RefinementTemplates
 pub mod RegionInfo
 pub mod RunBytes

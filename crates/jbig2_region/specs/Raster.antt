@@ -1,26 +1,24 @@
 -- Regions that are decoded pixel by pixel, row by row from the top and each row from the left (T.88, 6.2.5 and 6.3.5).
--- `decoded_region` takes how the region is coded, its width and height, the coder's bytes, and the registers and
--- contexts with which it begins; it gives the pixels, and what registers and contexts have come to.
+-- `decoded_region` takes how the region is coded, its size, the coder's bytes, and the registers and contexts with which
+-- it begins; it gives the pixels, and what registers and contexts have come to.
 use Rattle.std.specs.Prelude.{ℕ, suc, zero, ◌+◌, ◌*◌, ◌/◌, ◌%◌, ◌^◌, ◌==◌, Bool, false, if◌then◌else◌, List, [], ◌∷◌, ◌++◌, length, replicate, slice_index_or, slice_set, Option, Some, None}
 use Rattle.jbig2_base.specs.Grid.{Grid, grid_of}
 use Rattle.jbig2_coder.specs.Coder.{Context, Registers, fresh, decision}
 use Rattle.jbig2_mmr.specs.T6.{differ}
 
--- The grid of the pixels decoded so far; a pixel that is not decoded yet is white.
+-- the grid of the pixels decoded so far; one that is not decoded yet is white
 unfoldable pub so_far : ℕ → ℕ → List Bool → Grid
 so_far w h bits = grid_of w h (λ x y. slice_index_or bits (y * w + x) false)
 
--- A region in the making: the pixels decoded so far, whether their last row is predicted (LTP), and the coder's
--- registers and contexts.
+-- a region in the making: its pixels so far, whether their last row is predicted (LTP), and the coder
 pub record Region : Type 0 where
   pub pixels : List Bool
   pub predicted : Bool
   pub registers : Registers
   pub contexts : List Context
 
--- How a region is coded, by the grid so far and a place in it: the number of the context of the pixel there, and the
--- colour that the pixel takes without a decision, if any, by whether its row is predicted. With typical
--- prediction, the number of the context of the decision that begins a row.
+-- How a region is coded: the context of a pixel, by the grid so far and its place; the colour that it takes without a
+-- decision, if any, by whether its row is predicted; and with typical prediction the context in which a row begins.
 pub record Coding : Type 0 where
   pub context : Grid → ℕ → ℕ → ℕ
   pub known : Bool → Grid → ℕ → ℕ → Option Bool
@@ -57,22 +55,20 @@ abbrev pub row_decisions : Option ℕ → ℕ
 row_decisions None = 0
 row_decisions (Some _) = 1
 
--- The region as its next pixel finds it (6.2.5.7, 6.3.5.6): where the pixels so far fill their rows, the next row
--- begins.
+-- as the next pixel finds it (6.2.5.7, 6.3.5.6): where the pixels so far fill their rows, the next row begins
 unfoldable pub at_next : Coding → ℕ → List ℕ → Region → Region
 at_next coding w bytes r = if length r.pixels % w == 0 then row_begun coding.row_context bytes r else r
 
--- the region once its first n pixels are there, row by row from the top and each row from the left
+-- the region once its first n pixels are there
 unfoldable pub first_pixels : Coding → ℕ → ℕ → List ℕ → Region → ℕ → Region
 first_pixels coding w h bytes start zero = start
 first_pixels coding w h bytes start (suc n) =
     after_pixel coding w h bytes (at_next coding w bytes (first_pixels coding w h bytes start n))
 
--- the region as pixel n of the raster finds it
+-- as pixel n of the raster finds it
 abbrev pub at_pixel : Coding → ℕ → ℕ → List ℕ → Region → ℕ → Region
 at_pixel coding w h bytes start n = at_next coding w bytes (first_pixels coding w h bytes start n)
 
--- no pixel yet, and a coder and contexts
 abbrev pub no_pixels : Registers → List Context → Region
 no_pixels registers contexts = record { pixels = []; predicted = false; registers = registers; contexts = contexts }
 
@@ -80,6 +76,5 @@ no_pixels registers contexts = record { pixels = []; predicted = false; register
 unfoldable pub decoded_region : Coding → ℕ → ℕ → List ℕ → Region → Region
 decoded_region coding w h bytes start = first_pixels coding w h bytes start (w * h)
 
--- so many contexts of which nothing is known
 abbrev pub fresh_contexts : ℕ → List Context
 fresh_contexts bits = replicate (2 ^ bits) fresh

@@ -1,5 +1,5 @@
 -- Refinements (T.88, 6.3): as generic regions, with templates that lie in two grids. `refined_decoded` takes the header
--- and the region that is refined, and gives the refined one with its place on the page, or an error.
+-- and the region that is refined, and gives the refined one at its place on the page, or an error.
 use Rattle.std.specs.Prelude.{ℕ, Bool, true, false, not, ◌||◌, nat_lt, nat_le, if◌then◌else◌, List, [], ◌∷◌, ◌++◌, map, Option, Some, None, ℤ, pos, negsuc, ◌+ℤ◌, ◌-ℤ◌, Result, Ok, is_ok}
 use Rattle.std.specs.List.{list_all}
 use Rattle.jbig2_base.specs.Answer.{◌>>=◌, refuse_if}
@@ -9,7 +9,7 @@ use Rattle.jbig2_base.specs.declared.error.DecodeError.TheVariants as errors
 use Rattle.jbig2_base.specs.declared.error.OverflowError.TheVariants.{ReferenceOffset}
 use Rattle.jbig2_base.specs.declared.error.RegionError.TheVariants.{InvalidDimension}
 use Rattle.jbig2_coder.specs.Coder.{Context, initial_registers}
-use Rattle.jbig2_region.specs.Generic.{number_of}
+use Rattle.jbig2_region.specs.Generic.{number_of, region_pixel}
 use Rattle.jbig2_region.specs.Raster.{Coding, Region, so_far, decoded_region, no_pixels, fresh_contexts}
 use Rattle.jbig2_region.specs.RefinementHeader.{RefinementHeader}
 pub use Rattle.jbig2_region.specs.RefinementTemplates.{refinement_bits}
@@ -29,11 +29,7 @@ pub record Reference : Type 0 where
 abbrev pub reference_pixel : Reference → ℕ → ℕ → AdaptiveTemplatePixel → Bool
 reference_pixel r x y p = pixel r.grid (pos x -ℤ r.dx +ℤ p.x) (pos y -ℤ r.dy +ℤ p.y)
 
--- the same in the region
-abbrev pub region_pixel : Grid → ℕ → ℕ → AdaptiveTemplatePixel → Bool
-region_pixel g x y p = pixel g (pos x +ℤ p.x) (pos y +ℤ p.y)
-
--- the number of a context, from a template's pixels in the reference and those in the region
+-- the number of a context, from the template's pixels in the reference and those in the region
 unfoldable pub refined_context : Reference → List AdaptiveTemplatePixel → List AdaptiveTemplatePixel → Grid → ℕ → ℕ → ℕ
 refined_context r in_reference in_region g x y = number_of (map (reference_pixel r x y) in_reference ++ map (region_pixel g x y) in_region)
 
@@ -51,25 +47,20 @@ common_colour r x y =
     else if list_all (λ p. not (reference_pixel r x y p)) nine then Some false
     else None
 
--- in a predicted row a pixel takes that colour
-abbrev pub predicted_colour : Reference → Bool → ℕ → ℕ → Option Bool
-predicted_colour r predicted x y = if predicted then common_colour r x y else None
-
--- by the template, whether typical prediction is on, the template's pixels in the reference and in the region, and the
--- reference
+-- By the template, whether typical prediction is on, its pixels in the reference and in the region, and the reference. In
+-- a predicted row a pixel takes the nine's common colour.
 abbrev pub refined_coding : RefinementTemplate → Bool → List AdaptiveTemplatePixel → List AdaptiveTemplatePixel → Reference → Coding
 refined_coding template typical in_reference in_region r = record {
   context = refined_context r in_reference in_region;
-  known = λ predicted g x y. predicted_colour r predicted x y;
+  known = λ predicted g x y. (if predicted then common_colour r x y else None);
   row_context = (if typical then Some (refinement_row_context template) else None);
 }
 
--- by the adaptive pixels
 abbrev pub refinement_coding : RefinementTemplate → Bool → List AdaptiveTemplatePixel → Reference → Coding
 refinement_coding template typical a r =
     refined_coding template typical (reference_pixels template a) (region_pixels template a) r
 
--- a reference at a place on the page, seen from a region at its place
+-- at a place on the page, seen from the region at its place
 abbrev pub reference_of : RefinementHeader → PlacedRegion → Reference
 reference_of h from = record {
   grid = from.grid;
@@ -85,16 +76,14 @@ refined_region h from =
 unfoldable pub refined_grid : RefinementHeader → PlacedRegion → Grid
 refined_grid h from = so_far h.region_info.width h.region_info.height (refined_region h from).pixels
 
--- a place that a signed number of 32 bits cannot hold
 abbrev pub is_far : ℕ → Bool
 is_far location = nat_le 0x80000000 location
 
--- a reference that is narrower or lower than the region
 abbrev pub is_smaller : PlacedRegion → RegionSegmentInfo → Bool
 is_smaller from info = nat_lt from.grid.width info.width || nat_lt from.grid.height info.height
 
--- dx and dy: the reference's place less the region's. A reference smaller than the region is refused, and so is a
--- place of 2^31 or more (our own rules).
+-- dx and dy: the reference's place less the region's. A reference smaller than the region is refused, and so is a place
+-- of 2^31 or more (our own rules).
 unfoldable pub offset : PlacedRegion → RegionSegmentInfo → Result (ℤ × ℤ) DecodeError
 offset from info = do
   covered ← refuse_if (is_smaller from info) (errors.Region InvalidDimension)

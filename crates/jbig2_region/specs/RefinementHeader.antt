@@ -1,5 +1,5 @@
--- The data of a refinement region segment up to its coded bytes (T.88, 7.4.7): region information, flags and the
--- adaptive pixels. The bytes give the header, and the coded bytes stand behind it.
+-- The data of a refinement region segment up to its coded bytes (T.88, 7.4.7): region information, flags and adaptive
+-- pixels. The bytes give the header, and the coded bytes stand behind it.
 use Rattle.std.specs.Prelude.{ℕ, ◌/◌, ◌%◌, ◌≤◌, ◌==◌, nat_lt, Bool, ◌||◌, List, Result, Ok}
 use Rattle.std.specs.Int.{w8}
 use Rattle.jbig2_base.specs.Answer.{◌>>=◌, refuse_if}
@@ -15,7 +15,6 @@ use Rattle.jbig2_region.specs.declared.region_info.RegionSegmentInfo.{RegionSegm
 use Rattle.jbig2_region.specs.declared.template.AdaptiveTemplatePixel.{AdaptiveTemplatePixel}
 use Rattle.jbig2_region.specs.declared.template.RefinementTemplate.{RefinementTemplate}
 
--- What a refinement's coded bytes are decoded by.
 pub record RefinementHeader : Type 0 where
   pub region_info : RegionSegmentInfo
   pub template : RefinementTemplate
@@ -32,7 +31,7 @@ header_view h = record {
   bytes = h.bytes.now;
 }
 
--- All of it, and the coded bytes. Neither side may pass 65535 (our own rule).
+-- the header, and the coded bytes; neither side may pass 65535 (our own rule)
 unfoldable pub refinement_header_at : List ℕ → Result (RefinementHeader × List ℕ) DecodeError
 refinement_header_at bytes = do
   info ← region_info_at bytes
@@ -50,7 +49,7 @@ refinement_header_at bytes = do
     pixels.1,
   )
 
--- What holds of every header that is read.
+-- what holds of every header that is read
 pub record IsRefinement (h : RefinementHeader) : Type 0 where
   pub columns : h.region_info.width ≤ 65535
   pub rows : h.region_info.height ≤ 65535

@@ -1,10 +1,9 @@
 -- The templates of refinements (T.88, 6.3.5.3, Figures 12 and 13): for each bit of a context's number, bit 0 first, the
--- pixel of the reference or of the region that it is taken from. How a segment holds the adaptive pixels (7.4.7.3) and
--- the context in which a row begins stand here too.
-use Rattle.std.specs.Prelude.{ℕ, ◌==◌, List, [], ◌∷◌, take, ℤ, pos, negsuc, Result, Ok, if◌then◌else◌}
+-- pixel of the reference or of the region that it is taken from; the adaptive pixels; the context in which a row begins.
+use Rattle.std.specs.Prelude.{ℕ, ◌==◌, Bool, true, ◌&&◌, List, [], ◌∷◌, take, ℤ, pos, negsuc, Result, Ok, if◌then◌else◌}
 use Rattle.jbig2_base.specs.Answer.{◌>>=◌}
 use Rattle.jbig2_base.specs.declared.error.DecodeError.{DecodeError}
-use Rattle.jbig2_region.specs.Templates.{adaptive, free_pixel_at}
+use Rattle.jbig2_region.specs.Templates.{adaptive, free_pixel_at, lies_at}
 use Rattle.jbig2_region.specs.declared.template.AdaptiveTemplatePixel.{AdaptiveTemplatePixel}
 use Rattle.jbig2_region.specs.declared.template.RefinementTemplate.{RefinementTemplate}
 use Rattle.jbig2_region.specs.declared.template.RefinementTemplate.TheVariants.{Template0, Template1}
@@ -21,7 +20,7 @@ abbrev pub refinement_bits : RefinementTemplate → ℕ
 refinement_bits Template0 = 13
 refinement_bits Template1 = 10
 
--- The pixels of the reference that a template takes (6.3.5.3, Figures 12 and 13), bit 0 of a context's number first.
+-- the pixels of the reference (Figures 12 and 13)
 abbrev pub reference_pixels : RefinementTemplate → List AdaptiveTemplatePixel → List AdaptiveTemplatePixel
 reference_pixels Template0 a =
     apart (pos 1) (pos 1) ∷ apart (pos 0) (pos 1) ∷ apart (negsuc 0) (pos 1)
@@ -32,13 +31,12 @@ reference_pixels Template1 a =
     ∷ apart (pos 1) (pos 0) ∷ apart (pos 0) (pos 0) ∷ apart (negsuc 0) (pos 0)
     ∷ apart (pos 0) (negsuc 0) ∷ []
 
--- Those of the region itself, whose bits follow.
+-- those of the region itself, whose bits follow
 abbrev pub region_pixels : RefinementTemplate → List AdaptiveTemplatePixel → List AdaptiveTemplatePixel
 region_pixels Template0 a =
     apart (negsuc 0) (pos 0) ∷ apart (pos 1) (negsuc 0) ∷ apart (pos 0) (negsuc 0) ∷ adaptive a 0 ∷ []
 region_pixels Template1 a =
-    apart (negsuc 0) (pos 0) ∷ apart (pos 1) (negsuc 0) ∷ apart (pos 0) (negsuc 0)
-    ∷ apart (negsuc 0) (negsuc 0) ∷ []
+    apart (negsuc 0) (pos 0) ∷ apart (pos 1) (negsuc 0) ∷ apart (pos 0) (negsuc 0) ∷ apart (negsuc 0) (negsuc 0) ∷ []
 
 -- the context of the decision that begins a row under typical prediction (6.3.5.6, Figures 14 and 15)
 abbrev pub refinement_row_context : RefinementTemplate → ℕ
@@ -50,7 +48,12 @@ abbrev pub refinement_pixel_count : RefinementTemplate → ℕ
 refinement_pixel_count Template0 = 2
 refinement_pixel_count Template1 = 0
 
--- The adaptive pixels (7.4.7.3): two at template 0, whose places are not checked, and none at template 1.
+-- whether they lie where the standard has them by default (6.3.5.3, Figure 12)
+abbrev pub is_nominal : RefinementTemplate → List AdaptiveTemplatePixel → Bool
+is_nominal Template0 a = lies_at (adaptive a 0) (negsuc 0) (negsuc 0) && lies_at (adaptive a 1) (negsuc 0) (negsuc 0)
+is_nominal Template1 a = true
+
+-- as a segment holds them (7.4.7.3); their places are not checked
 unfoldable pub refinement_pixels_at : RefinementTemplate → List ℕ → Result (List AdaptiveTemplatePixel × List ℕ) DecodeError
 refinement_pixels_at Template0 bytes = do
   first ← free_pixel_at bytes

@@ -1,6 +1,5 @@
 -- The region segment information field (T.88, 7.4.1), which every region segment begins with, and the region that it
--- places: a grid with its place on the page and how it is combined with the page. `region_info_at` takes bytes and
--- gives the field with the bytes behind it, or the first fault.
+-- places. `region_info_at` takes bytes and gives the field with the bytes behind it, or the first fault.
 use Rattle.std.specs.Prelude.{ℕ, ◌/◌, ◌%◌, ◌≡◌, ◌==◌, false, List, Result, Ok}
 use Rattle.std.specs.Int.{w8, w32}
 use Rattle.jbig2_base.specs.Answer.{◌>>=◌, refuse_if}
@@ -25,18 +24,16 @@ region_info_at bytes = do
   plain ← refuse_if (flags.0 / 8 % 2 == 1) Unsupported
   Ok (record { width = width.0; height = height.0; x_location = x.0; y_location = y.0; combination_operator = operator }, flags.1)
 
--- a white grid of the region's size
 abbrev pub IsWhiteFor : RegionSegmentInfo → Grid → Type 0
 IsWhiteFor info g = g ≡ blank info.width info.height false
 
--- A decoded region and its place.
+-- a decoded region, its place on the page, and how it is combined with the page
 pub record PlacedRegion : Type 0 where
   pub grid : Grid
   pub x_location : ℕ
   pub y_location : ℕ
   pub combination_operator : CombinationOperator
 
--- a grid at the place that the information gives
 abbrev pub placed : RegionSegmentInfo → Grid → PlacedRegion
 placed info g = record {
   grid = g;

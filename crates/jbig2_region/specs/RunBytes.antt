@@ -1,15 +1,62 @@
--- Run bytes of generic regions, and the counts that speak of them (our own rule). `is_run_byte` takes a region in the
--- making and tells whether eight likely pixels follow without the coder's doing more than lowering A; `CountsRegion`
--- takes the counts before and after a region.
-use Rattle.std.specs.Prelude.{◌≡◌, ℕ, zero, suc, ◌+◌, ◌-◌, ◌*◌, ◌/◌, ◌%◌, ◌≤◌, ◌==◌, Bool, true, false, not, ◌&&◌, ◌||◌, nat_lt, if◌then◌else◌, List, ◌++◌, length, replicate, slice_index_or}
+-- What the step bounds of regions count, as numbers of places of the raster (our own rule): decisions, run bytes of
+-- generic regions, and loads. Each `Counts..` takes how a region is coded, its size and its coded bytes, and the counts
+-- before and after it.
+use Rattle.std.specs.Prelude.{◌≡◌, ℕ, zero, suc, ◌+◌, ◌-◌, ◌*◌, ◌/◌, ◌%◌, ◌≤◌, ◌==◌, Bool, false, true, not, ◌&&◌, ◌||◌, nat_lt, if◌then◌else◌, List, ◌++◌, length, replicate, slice_index_or, is_none}
 use Rattle.jbig2_base.specs.Counts.{Counts, KeepsLanes}
-use Rattle.jbig2_base.specs.Grid.{same_colour}
-use Rattle.jbig2_coder.specs.Coder.{fresh, all_quiet}
-use Rattle.jbig2_region.specs.Decisions.{how_many}
+use Rattle.jbig2_base.specs.Grid.{bit_number, same_colour}
+use Rattle.jbig2_coder.specs.Coder.{fresh, all_quiet, initial_registers}
 use Rattle.jbig2_region.specs.Generic.{context_at, number_of}
-use Rattle.jbig2_region.specs.Raster.{Coding, Region, so_far, at_pixel, row_decisions}
+use Rattle.jbig2_region.specs.Raster.{Coding, Region, so_far, at_pixel, fresh_contexts, no_pixels, row_decisions}
+use Rattle.jbig2_region.specs.Refinement.{reference_of, refinement_coding}
+use Rattle.jbig2_region.specs.RefinementHeader.{RefinementHeader}
+use Rattle.jbig2_region.specs.RefinementTemplates.{is_nominal, refinement_bits}
+use Rattle.jbig2_region.specs.RegionInfo.{PlacedRegion}
 use Rattle.jbig2_region.specs.declared.template.AdaptiveTemplatePixel.{AdaptiveTemplatePixel}
+use Rattle.jbig2_region.specs.declared.template.RefinementTemplate.{RefinementTemplate}
 
+-- how many of the first n places of a raster have a property
+unfoldable pub how_many : (ℕ → Bool) → ℕ → ℕ
+how_many has zero = 0
+how_many has (suc n) = how_many has n + bit_number (has n)
+
+-- ---- regions in which each pixel that is not known takes a decision
+-- whether the next pixel takes one: its colour is not known
+unfoldable pub takes_decision : Coding → ℕ → ℕ → Region → Bool
+takes_decision coding w h r =
+    let n = length r.pixels in
+    is_none (coding.known r.predicted (so_far w h r.pixels) (n % w) (n / w))
+
+-- how many pixels of a region do
+unfoldable pub pixel_decisions : Coding → ℕ → ℕ → List ℕ → Region → ℕ
+pixel_decisions coding w h bytes start =
+    how_many (λ n. takes_decision coding w h (at_pixel coding w h bytes start n)) (w * h)
+
+-- One decision for each pixel that takes one, and one for each row that begins with one; no run test; at most one word a
+-- pixel, and so many loads a row. An empty region takes no step.
+pub record CountsDecided (coding : Coding) (row_loads : ℕ) (w h : ℕ) (bytes : List ℕ) (start : Region) (before after : Counts) : Type 0 where
+  pub empty : w * h ≡ 0 → after ≡ before
+  pub decisions : 1 ≤ w →
+      after.decisions ≡ before.decisions + (h * row_decisions coding.row_context + pixel_decisions coding w h bytes start)
+  pub run_tests : after.run_tests ≡ before.run_tests
+  pub words : after.words ≤ before.words + h * w
+  pub loads : after.loads ≤ before.loads + h * row_loads
+
+-- Loads of a row of a refinement, from windows of 64 pixels on five rows.
+abbrev pub window_loads : ℕ → ℕ
+window_loads w = 5 * (w / 32 + 2)
+
+-- Where an adaptive pixel is not nominal, all pixels of the template are read one by one, and the nine that predict too.
+abbrev pub refinement_loads : RefinementTemplate → List AdaptiveTemplatePixel → ℕ → ℕ
+refinement_loads template a w = if is_nominal template a then window_loads w else w * (refinement_bits template + 9)
+
+abbrev pub CountsRefined : RefinementHeader → PlacedRegion → Counts → Counts → Type 0
+CountsRefined h from before after =
+    CountsDecided (refinement_coding h.template h.tpgron h.adaptive_template_pixels (reference_of h from))
+    (refinement_loads h.template h.adaptive_template_pixels h.region_info.width)
+    h.region_info.width h.region_info.height h.bytes
+    (no_pixels (initial_registers h.bytes) (fresh_contexts (refinement_bits h.template))) before after
+
+-- ---- run bytes of generic regions: eight likely pixels, for which the coder does no more than lower A
 -- the context of a template whose pixels are all of one colour
 abbrev pub all_of : List AdaptiveTemplatePixel → Bool → ℕ
 all_of template colour = number_of (replicate (length template) colour)
@@ -35,32 +82,28 @@ is_run_byte template w h bytes r =
     let x = length r.pixels % w in
     (x % 8 == 0 && nat_lt (x + 8) w) && (is_run_of template w h bytes r false || is_run_of template w h bytes r true)
 
--- how many pixels of a region lie in rows that are coded, and not predicted
+-- how many pixels of a region lie in rows that are not predicted
 unfoldable pub coded_pixels : Coding → ℕ → ℕ → List ℕ → Region → ℕ
 coded_pixels coding w h bytes start = how_many (λ n. not (at_pixel coding w h bytes start n).predicted) (w * h)
 
--- whether the next pixel begins a run byte of such a row
-unfoldable pub is_coded_run : List AdaptiveTemplatePixel → ℕ → ℕ → List ℕ → Region → Bool
-is_coded_run template w h bytes r = not r.predicted && is_run_byte template w h bytes r
-
--- how many of its pixels do, in a template with run bytes or without
+-- how many of these begin a run byte, in a template with run bytes or without
 unfoldable pub coded_runs : List AdaptiveTemplatePixel → Bool → Coding → ℕ → ℕ → List ℕ → Region → ℕ
 coded_runs template nominal coding w h bytes start =
-    if nominal then how_many (λ n. is_coded_run template w h bytes (at_pixel coding w h bytes start n)) (w * h) else 0
+    let at = at_pixel coding w h bytes start in
+    if nominal then how_many (λ n. not (at n).predicted && is_run_byte template w h bytes (at n)) (w * h) else 0
 
--- loads of a row, but for those of adaptive pixels, and its run tests
+-- loads of a row, but for those of adaptive pixels; its run tests; and the words written, for each byte or each pixel
 abbrev pub row_loads : Bool → ℕ → ℕ
 row_loads nominal w = if nominal then 2 * ((w - 1) / 8 + 2) else 3 * (w / 32 + 2)
 
 abbrev pub row_tests : Bool → ℕ → ℕ
 row_tests nominal w = if nominal then (w - 1) / 8 else 0
 
--- words written: one for each byte begun, or one for each pixel
 abbrev pub row_words : Bool → ℕ → ℕ
 row_words nominal w = if nominal then (w - 1) / 8 + 1 else w
 
--- What a region of w columns and h rows takes: one decision for each coded pixel, less eight for each run byte, and one
--- for each row that begins with one, and no lanes. An empty region takes no step.
+-- One decision for each coded pixel, less eight for each run byte, and one for each row that begins with one, and no
+-- lanes. An empty region takes no step.
 pub record CountsRegion (template : List AdaptiveTemplatePixel) (nominal : Bool) (adaptive : ℕ) (coding : Coding) (w h : ℕ) (bytes : List ℕ) (start : Region) (before after : Counts) : Type 0 where
   pub empty : w * h ≡ 0 → after ≡ before
   pub decisions : 1 ≤ w →

@@ -1,7 +1,6 @@
--- The templates of generic regions (T.88, 6.2.5.3, Figures 3 to 6 and the extended one of 6.2.5.3): for each bit of a
--- context's number, bit 0 first, the pixel that it is taken from. All that a template is stands here: its pixels, how many
--- of them are adaptive (6.2.5.4) and where they lie by default, how a segment holds these (7.4.6.3), and the context in
--- which a row begins.
+-- The templates of generic regions (T.88, 6.2.5.3, Figures 3 to 6, and the extended one): for each bit of a context's
+-- number the pixel that it is taken from; how many pixels are adaptive (6.2.5.4), where these lie by default and how a
+-- segment holds them (7.4.6.3); and the context in which a row begins.
 use Rattle.std.specs.Prelude.{ℕ, ◌==◌, ◌≡◌, Bool, true, false, not, ◌&&◌, ◌||◌, ℤ, pos, negsuc, ◌-ℤ◌, int_lt, int_le, List, [], ◌∷◌, zero, suc, slice_index_or, take, if◌then◌else◌, Result, Ok}
 use Rattle.std.specs.Int.{w8}
 use Rattle.std.specs.Ordering.{int_eq}
@@ -26,7 +25,7 @@ context_bits Template1 = 13
 context_bits Template2 = 10
 context_bits Template3 = 10
 
--- the pixel so many columns to the left, or to the right, in the row that stands so many rows higher
+-- the pixel so many columns to the left, or to the right, and so many rows higher
 abbrev pub left : ℕ → ℕ → AdaptiveTemplatePixel
 left columns rows = record { x = pos 0 -ℤ pos columns; y = pos 0 -ℤ pos rows }
 
@@ -34,8 +33,7 @@ abbrev pub right : ℕ → ℕ → AdaptiveTemplatePixel
 right columns rows = record { x = pos columns; y = pos 0 -ℤ pos rows }
 
 -- How many adaptive pixels there are (6.2.5.4), by whether a region is coded with MMR, whether the extended template is
--- asked for (EXTTEMPLATE), and the template: none with MMR, twelve with the extended template 0, four with template 0,
--- and else one.
+-- asked for (EXTTEMPLATE), and the template.
 abbrev pub adaptive_pixel_count : Bool → Bool → Template → ℕ
 adaptive_pixel_count true extended template = 0
 adaptive_pixel_count false true Template0 = 12
@@ -46,43 +44,28 @@ adaptive_pixel_count false extended template = 1
 abbrev pub adaptive : List AdaptiveTemplatePixel → ℕ → AdaptiveTemplatePixel
 adaptive pixels k = slice_index_or pixels k (right 0 0)
 
-abbrev pub template_0 : List AdaptiveTemplatePixel → List AdaptiveTemplatePixel
-template_0 a =
-    left 1 0 ∷ left 2 0 ∷ left 3 0 ∷ left 4 0 ∷ adaptive a 0
-    ∷ right 2 1 ∷ right 1 1 ∷ right 0 1 ∷ left 1 1 ∷ left 2 1 ∷ adaptive a 1
-    ∷ adaptive a 2 ∷ right 1 2 ∷ right 0 2 ∷ left 1 2 ∷ adaptive a 3 ∷ []
-
-abbrev pub template_1 : List AdaptiveTemplatePixel → List AdaptiveTemplatePixel
-template_1 a =
-    left 1 0 ∷ left 2 0 ∷ left 3 0 ∷ adaptive a 0
-    ∷ right 2 1 ∷ right 1 1 ∷ right 0 1 ∷ left 1 1 ∷ left 2 1
-    ∷ right 2 2 ∷ right 1 2 ∷ right 0 2 ∷ left 1 2 ∷ []
-
-abbrev pub template_2 : List AdaptiveTemplatePixel → List AdaptiveTemplatePixel
-template_2 a =
-    left 1 0 ∷ left 2 0 ∷ adaptive a 0
-    ∷ right 1 1 ∷ right 0 1 ∷ left 1 1 ∷ left 2 1
-    ∷ right 1 2 ∷ right 0 2 ∷ left 1 2 ∷ []
-
-abbrev pub template_3 : List AdaptiveTemplatePixel → List AdaptiveTemplatePixel
-template_3 a =
-    left 1 0 ∷ left 2 0 ∷ left 3 0 ∷ left 4 0 ∷ adaptive a 0
-    ∷ right 1 1 ∷ right 0 1 ∷ left 1 1 ∷ left 2 1 ∷ left 3 1 ∷ []
-
--- template 0 with twelve adaptive pixels, A1 to A12 in bits 1 13 9 14 12 5 2 3 11 4 15 10
-abbrev pub extended_template_0 : List AdaptiveTemplatePixel → List AdaptiveTemplatePixel
-extended_template_0 a =
+-- The pixels of a template with these adaptive pixels, bit 0 of a context first, by whether it is the extended one, which
+-- has A1 to A12 in bits 1 13 9 14 12 5 2 3 11 4 15 10.
+abbrev pub template_pixels : Bool → Template → List AdaptiveTemplatePixel → List AdaptiveTemplatePixel
+template_pixels true _ a =
     left 1 0 ∷ adaptive a 0 ∷ adaptive a 6 ∷ adaptive a 7 ∷ adaptive a 9
     ∷ adaptive a 5 ∷ right 1 1 ∷ right 0 1 ∷ left 1 1 ∷ adaptive a 2 ∷ adaptive a 11
     ∷ adaptive a 8 ∷ adaptive a 4 ∷ adaptive a 1 ∷ adaptive a 3 ∷ adaptive a 10 ∷ []
-
--- by whether the template is the extended one, the template, and its adaptive pixels
-abbrev pub template_pixels : Bool → Template → List AdaptiveTemplatePixel → List AdaptiveTemplatePixel
-template_pixels true _ a = extended_template_0 a
-template_pixels false Template0 a = template_0 a
-template_pixels false Template1 a = template_1 a
-template_pixels false Template2 a = template_2 a
-template_pixels false Template3 a = template_3 a
+template_pixels false Template0 a =
+    left 1 0 ∷ left 2 0 ∷ left 3 0 ∷ left 4 0 ∷ adaptive a 0
+    ∷ right 2 1 ∷ right 1 1 ∷ right 0 1 ∷ left 1 1 ∷ left 2 1 ∷ adaptive a 1
+    ∷ adaptive a 2 ∷ right 1 2 ∷ right 0 2 ∷ left 1 2 ∷ adaptive a 3 ∷ []
+template_pixels false Template1 a =
+    left 1 0 ∷ left 2 0 ∷ left 3 0 ∷ adaptive a 0
+    ∷ right 2 1 ∷ right 1 1 ∷ right 0 1 ∷ left 1 1 ∷ left 2 1
+    ∷ right 2 2 ∷ right 1 2 ∷ right 0 2 ∷ left 1 2 ∷ []
+template_pixels false Template2 a =
+    left 1 0 ∷ left 2 0 ∷ adaptive a 0
+    ∷ right 1 1 ∷ right 0 1 ∷ left 1 1 ∷ left 2 1
+    ∷ right 1 2 ∷ right 0 2 ∷ left 1 2 ∷ []
+template_pixels false Template3 a =
+    left 1 0 ∷ left 2 0 ∷ left 3 0 ∷ left 4 0 ∷ adaptive a 0
+    ∷ right 1 1 ∷ right 0 1 ∷ left 1 1 ∷ left 2 1 ∷ left 3 1 ∷ []
 
 -- the context of the decision that begins a row under typical prediction (6.2.5.7)
 abbrev pub row_context : Template → ℕ
@@ -103,7 +86,7 @@ is_nominal Template1 a = lies_at (adaptive a 0) (pos 3) (negsuc 0)
 is_nominal Template2 a = lies_at (adaptive a 0) (pos 2) (negsuc 0)
 is_nominal Template3 a = lies_at (adaptive a 0) (pos 2) (negsuc 0)
 
--- a pixel that is decoded before the one from which it lies so far away: in a row above, or left of it in its row
+-- a pixel that is decoded earlier (6.2.5.4): in a row above, or left in the same row
 abbrev pub is_earlier : AdaptiveTemplatePixel → Bool
 is_earlier p = int_lt p.y (pos 0) || (int_le p.y (pos 0) && int_lt p.x (pos 0))
 
@@ -121,7 +104,7 @@ adaptive_pixel_at bytes = do
   earlier ← refuse_if (not (is_earlier pixel.0)) (errors.Template InvalidAtPixel)
   Ok pixel
 
--- So many of them (7.4.6.3): as many as `adaptive_pixel_count` says.
+-- so many of them (7.4.6.3)
 abbrev pub adaptive_pixels_at : ℕ → List ℕ → Result (List AdaptiveTemplatePixel × List ℕ) DecodeError
 adaptive_pixels_at zero bytes = Ok ([], bytes)
 adaptive_pixels_at (suc count) bytes = do

@@ -1,11 +1,11 @@
 //! How generic regions are coded (T.88, 6.2.5.3 to 6.2.5.7): their contexts, and the pixels that take no
 //! decision.
-ghost use Rattle.std.specs.Prelude.{◌≡◌, ◌+◌, ◌*◌, ◌^◌, ◌<◌, ◌≤◌, length, pos, negsuc, ◌+ℤ◌, false};
+ghost use Rattle.std.specs.Prelude.{◌≡◌, ◌+◌, ◌*◌, ◌^◌, ◌<◌, ◌≤◌, length, pos, negsuc, ◌+ℤ◌, false, Some, None, if◌then◌else◌};
 ghost use Rattle.jbig2_base.specs.Grid.{pixel, bit_number};
 ghost use Rattle.jbig2_region.specs.inner.Holds.{DecodesRegion, IsReady};
 ghost use Rattle.jbig2_region.specs.Raster.{no_pixels};
-ghost use Rattle.jbig2_region.specs.Generic.{context_at, coding_of};
-ghost use Rattle.jbig2_region.specs.Skipping.{skip_of, white_if_skipped};
+ghost use Rattle.jbig2_region.specs.Generic.{context_at, coding_of, is_skipped};
+ghost use Rattle.jbig2_region.specs.Skipping.{skip_of};
 ghost use Rattle.jbig2_region.specs.inner.Layouts.{CountsCoded, read_pixels};
 ghost use Rattle.jbig2_region.specs.RunBytes.{CountsRegion};
 ghost use Rattle.jbig2_region.specs.Templates.{FitsTemplate, context_bits, is_extended, is_nominal, pixels_view, template_pixels};
@@ -92,7 +92,8 @@ fn white_if_skipped<M: Allocator, L: Ledger>(
     y: u32,
     steps: &mut Steps<L>,
 ) -> Option<bool>
-    ensures value { result ≡ white_if_skipped (skip_of skip.entry) x y }
+    ensures value { result ≡
+        (if is_skipped (skip_of skip.entry) x y then Some false else None) }
     ensures loads { steps.new.loads ≤ steps.old.loads + 1 }
     ensures steps { steps.new ≡ record steps.old { loads = steps.new.loads } }
 {
@@ -117,7 +118,8 @@ pub struct GenericCoding<'a, M: Allocator> {
 }
 
 impl<M: Allocator> PixelCoding for GenericCoding<'_, M> {
-    ghost use Rattle.jbig2_region.specs.Skipping.{masked_coding, skip_of};
+    ghost use Rattle.jbig2_region.specs.Generic.{masked_coding};
+    ghost use Rattle.jbig2_region.specs.Skipping.{skip_of};
     ghost use Rattle.jbig2_region.specs.Templates.{context_bits};
 
     ghost coding = { λ c. masked_coding c.typical c.template c.pixels.now (skip_of c.skip) };

@@ -6,7 +6,7 @@ ghost use Rattle.jbig2_base.specs.Parsing.{Parses};
 ghost use Rattle.jbig2_region.specs.Causes.{OffsetsHaveCauses, RefinedRegionsHaveCauses, RefinementHeadersHaveCauses};
 ghost use Rattle.jbig2_region.specs.RegionInfo.{IsWhiteFor, region_view};
 ghost use Rattle.jbig2_region.specs.Refinement.{is_far, is_smaller, offset, refined_answer, refined_contexts, refined_decoded};
-ghost use Rattle.jbig2_region.specs.RefinementSteps.{CountsRefined};
+ghost use Rattle.jbig2_region.specs.RunBytes.{CountsRefined};
 ghost use Rattle.jbig2_region.specs.RefinementHeader.{IsRefinement, header_view, refinement_header_at};
 ghost use Rattle.jbig2_region.specs.Templates.{filled};
 

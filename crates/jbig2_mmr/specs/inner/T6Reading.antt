@@ -1,8 +1,8 @@
 -- What single calls of a T.6 decoder say (our own rule).
-use Rattle.std.specs.Prelude.{◌≡◌, ℕ, zero, suc, ◌+◌, ◌*◌, ◌/◌, ◌%◌, ◌<◌, ◌≤◌, Bool, true, false, List, [], ◌∷◌, ◌++◌, length, replicate, Option, Some, None, if◌then◌else◌}
+use Rattle.std.specs.Prelude.{◌≡◌, ℕ, zero, suc, ◌+◌, ◌*◌, ◌/◌, ◌%◌, ◌<◌, ◌≤◌, Bool, true, false, List, [], ◌∷◌, ◌++◌, length, drop, replicate, Option, Some, None, if◌then◌else◌}
 use Rattle.jbig2_base.specs.Grid.{Grid, pixel_at}
 use Rattle.jbig2_base.specs.inner.Table.{IsTable}
-use Rattle.jbig2_mmr.specs.T6.{differ, begins, Head, black_at}
+use Rattle.jbig2_mmr.specs.T6.{differ, begins, ends_block, Head, black_at}
 
 -- the lowest n bits of a number, high bit first, before others
 abbrev pub spell : ℕ → ℕ → List ℕ → List ℕ
@@ -23,6 +23,10 @@ code_at (c ∷ cs) bits = if begins c.1 bits then Some (c.0, length c.1) else co
 abbrev pub entry_of : Option (ℕ × ℕ) → ℕ
 entry_of None = 0
 entry_of (Some r) = 16 * r.0 + r.1
+
+-- the bits behind an end of block, where they begin with one
+abbrev pub after_end : List ℕ → List ℕ
+after_end bits = if ends_block bits then drop 24 bits else bits
 
 -- zeros behind the bits
 abbrev pub padded : List ℕ → List ℕ

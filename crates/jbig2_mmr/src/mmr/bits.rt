@@ -1,10 +1,10 @@
 //! The bits of MMR data, and the codes in them (T.6).
 ghost use Rattle.std.specs.Prelude.{◌≡◌, ℕ, ◌+◌, ◌-◌, ◌*◌, ◌/◌, ◌^◌, ◌<◌, ◌≤◌, ◌++◌, List, length, drop, take, min, slice_index, IfSome, IsTrue, if◌then◌else◌};
 ghost use Rattle.jbig2_base.specs.Bits.{number_after};
-ghost use Rattle.jbig2_mmr.specs.T6.{read_code, run, bits_of, ends_block, after_end, is_prefix_free, runs_of};
+ghost use Rattle.jbig2_mmr.specs.T6.{read_code, run, bits_of, ends_block, is_prefix_free, runs_of};
 ghost use Rattle.jbig2_mmr.specs.T6Codes.{modes};
 ghost use Rattle.jbig2_base.specs.inner.BitLists.{AreBits};
-ghost use Rattle.jbig2_mmr.specs.inner.T6Reading.{with_rest, ReadRun, padded};
+ghost use Rattle.jbig2_mmr.specs.inner.T6Reading.{with_rest, ReadRun, after_end, padded};
 
 use crate::mmr::codes::modes::MODES;
 use crate::mmr::codes::{Mode, run_entry};

@@ -2,7 +2,7 @@
 use Rattle.std.specs.Prelude.{◌≡◌, ℕ, ◌+◌, ◌-◌, ◌*◌, ◌%◌, ◌^◌, ◌<◌, Option}
 use Rattle.jbig2_base.specs.Grid.{Grid}
 use Rattle.jbig2_base.specs.inner.WordBits.{bit}
-use Rattle.jbig2_region.specs.Skipping.{is_skipped}
+use Rattle.jbig2_region.specs.Generic.{is_skipped}
 use Rattle.jbig2_region.specs.inner.Neighbours.{stretch_bits}
 use Rattle.jbig2_region.specs.declared.template.neighbours.Neighbours.{Neighbours}
 use Rattle.jbig2_region.specs.declared.generic_kernel.windows.Windows.{Windows}

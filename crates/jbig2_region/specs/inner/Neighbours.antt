@@ -3,7 +3,7 @@ use Rattle.std.specs.Prelude.{◌≡◌, ◌==◌, ℕ, zero, suc, ◌+◌, ◌-
 use Rattle.jbig2_base.specs.Grid.{Grid, pixel, pixel_at}
 use Rattle.jbig2_base.specs.inner.WordBits.{bit}
 use Rattle.jbig2_coder.specs.Coder.{Coder, Context}
-use Rattle.jbig2_region.specs.Generic.{context_at, colour_above}
+use Rattle.jbig2_region.specs.Generic.{context_at, known_colour}
 use Rattle.jbig2_region.specs.inner.Holds.{Holds}
 use Rattle.jbig2_region.specs.Raster.{Coding, Region}
 use Rattle.jbig2_region.specs.inner.Rows.{after_pixels}
@@ -101,7 +101,7 @@ IsLeft g x y left = (k : ℕ) → k < 4 → bit left k ≡ pixel g (pos x -ℤ p
 
 -- how the pixels of a row are coded
 abbrev pub row_coding : List AdaptiveTemplatePixel → Coding
-row_coding template = record { context = context_at template; known = colour_above; row_context = None }
+row_coding template = record { context = context_at template; known = known_colour None; row_context = None }
 
 -- A bitmap, a coder and contexts before and after n pixels of row y, from column x on.
 abbrev pub DecodesPixels : List AdaptiveTemplatePixel → Bool → ℕ → ℕ → ℕ → Grid → Coder → List Context → Grid → Coder → List Context → Type 0
@@ -168,4 +168,4 @@ is_nominal_layout None = true
 is_nominal_layout (Some a) = false
 
 abbrev pub layout_coding : Layout → Option ℕ → Coding
-layout_coding l row_context = record { context = context_at (layout_pixels l); known = colour_above; row_context = row_context }
+layout_coding l row_context = record { context = context_at (layout_pixels l); known = known_colour None; row_context = row_context }

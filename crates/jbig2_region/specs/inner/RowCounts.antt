@@ -2,7 +2,7 @@
 use Rattle.std.specs.Prelude.{◌≡◌, ℕ, zero, suc, ◌+◌, ◌*◌, Bool, false, if◌then◌else◌, List, length}
 use Rattle.jbig2_base.specs.Grid.{Grid, bit_number}
 use Rattle.jbig2_coder.specs.Coder.{Coder, Context}
-use Rattle.jbig2_region.specs.Decisions.{takes_decision}
+use Rattle.jbig2_region.specs.RunBytes.{takes_decision}
 use Rattle.jbig2_region.specs.Raster.{Coding, Region, row_begun}
 use Rattle.jbig2_region.specs.RunBytes.{is_run_byte}
 use Rattle.jbig2_region.specs.inner.Holds.{Holds}

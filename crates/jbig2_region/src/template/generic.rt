@@ -1,14 +1,15 @@
 //! What the templates of generic regions have besides pixels side by side (T.88, 6.2.5.3): the
 //! extended one's pixels, and the contexts of the decisions that begin rows (6.2.5.7).
 ghost use Rattle.std.specs.Prelude.{◌≡◌, ◌^◌, ◌<◌, if◌then◌else◌, take, Some, None, IfSome};
-ghost use Rattle.jbig2_region.specs.Templates.{context_bits, extended_template_0, row_context};
+ghost use Rattle.jbig2_region.specs.Templates.{context_bits, row_context, template_pixels};
+ghost use Rattle.jbig2_region.specs.declared.template.Template.TheVariants.{Template0};
 
 use crate::template::{AdaptiveTemplatePixel, Template, pixel};
 
 /// The pixels of the extended template 0.
 #[tactic(auto, using(crate::proofs::UsedPixels::same_twelve))]
 pub fn extended_template_0(a: &[AdaptiveTemplatePixel; 12]) -> [AdaptiveTemplatePixel; 16]
-    ensures { result ≡ extended_template_0 (take 12 a.now) }
+    ensures { result ≡ template_pixels true Template0 (take 12 a.now) }
 {
     [
         pixel(-1, 0),

@@ -1,7 +1,7 @@
 //! The pixels of refinements' templates (T.88, 6.3.5.3), in the reference and in the region, and the
 //! contexts of the decisions that begin their rows (6.3.5.6).
 ghost use Rattle.std.specs.Prelude.{◌≡◌, ◌^◌, ◌<◌, true, IfSome, None, Some, if◌then◌else◌};
-ghost use Rattle.jbig2_region.specs.RefinementSteps.{is_nominal};
+ghost use Rattle.jbig2_region.specs.RefinementTemplates.{is_nominal};
 ghost use Rattle.jbig2_region.specs.RefinementTemplates.{reference_pixels, refinement_bits, refinement_row_context, region_pixels, two_pixels};
 ghost use Rattle.jbig2_region.specs.inner.RefinementWindows.{corners};
 ghost use Rattle.jbig2_region.specs.declared.template.RefinementTemplate.TheVariants.{Template0};
