@@ -18,8 +18,11 @@ use Rattle.jbig2_mmr.proofs.T6Rows.{change-none}
 
 -- the rows behind one that may be a fault
 abbrev pub or_fault : List (List ℕ) → Option (List ℕ × List ℕ) → (List ℕ × List ℕ → Rows) → Rows
-or_fault done None f = record { rows = done; whole = false; left = [] }
-or_fault done (Some r) f = f r
+or_fault done o f =
+    elim o [
+      | None ↦ record { rows = done; whole = false; left = [] }
+      | Some r ↦ f r
+    ]
 
 pub record RowsReading (w h y : ℕ) (bits : List ℕ) (new : Grid) (meant : Rows) : Type 0 where
   pub done : List (List ℕ)

@@ -2,8 +2,8 @@ use Rattle.std.proofs.Common.{◌≡◌, ℕ, ◌-◌, ◌/◌, true, false, eqb
 use Rattle.std.specs.Prelude.{◌||◌}
 use Rattle.std.proofs.lemmas.Bool.{eq-eqb, or_left, or_right}
 use Rattle.jbig2_base.proofs.LaneCounts.{lanes-none, lanes-then}
-use Rattle.jbig2_mmr.specs.T6.{row, ends_block, after_end, rows_of}
-use Rattle.jbig2_mmr.specs.inner.T6Reading.{Rest, row_above}
+use Rattle.jbig2_mmr.specs.T6.{row, ends_block, rows_of}
+use Rattle.jbig2_mmr.specs.inner.T6Reading.{Rest, after_end, row_above}
 use Rattle.jbig2_mmr.specs.inner.T6Calls.{ReadRow}
 use Rattle.jbig2_mmr.proofs.T6Bits.{end-after, end-none}
 use Rattle.jbig2_mmr.proofs.T6Decoding.{RowsReading, rows-start, rows-grid, rows-early, rows-last, rows-fault, rows-next, answer-whole, answer-missing, answer-none, drawn-none, drawn-rows}
