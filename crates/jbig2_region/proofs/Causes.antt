@@ -1,10 +1,10 @@
 -- Which rule the bytes break where a header of this crate is refused.
-use Rattle.std.proofs.Common.{◌≡◌, ℕ, ◌+◌, ◌-◌, ◌/◌, ◌%◌, ◌<◌, ◌≤◌, eqb, ltb, Bool, true, false, List, take, drop, length, Result, Ok, Err, refl, sym, ◌∙◌, ap, subst, arith, length-drop, ltb-true}
+use Rattle.std.proofs.Common.{◌≡◌, ℕ, ◌+◌, ◌-◌, ◌/◌, ◌%◌, ◌<◌, ◌≤◌, eqb, ltb, Bool, true, false, List, take, drop, length, Result, Ok, refl, sym, ◌∙◌, ap, subst, arith, length-drop, ltb-true}
 use Rattle.std.specs.Prelude.{IfErr}
 use Rattle.std.specs.Int.{Width, w8, w32, byte_len, from_be_bytes}
 use Rattle.std.proofs.lemmas.Bool.{cond_both, eqb-true, eqb-false}
 use Rattle.std.proofs.lemmas.List.{drop-drop}
-use Rattle.jbig2_base.specs.Answer.{◌>>=◌, refuse_if}
+use Rattle.jbig2_base.specs.Answer.{refuse_if}
 use Rattle.jbig2_base.specs.Causes.{number_in}
 use Rattle.jbig2_base.specs.Fields.{end_of_bytes, number_at}
 use Rattle.jbig2_base.specs.Operator.{operator_of}

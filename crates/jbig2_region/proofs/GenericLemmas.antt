@@ -1,7 +1,6 @@
 -- What decoding a whole generic region gives.
-use Rattle.std.proofs.Common.{take, ◌++◌, ◌≡◌, ℕ, Bool, false, List, length, Result, Ok, sym, ap, ◌∙◌, subst}
+use Rattle.std.proofs.Common.{take, ◌++◌, ◌≡◌, ℕ, Bool, false, List, length, Ok, sym, ap, ◌∙◌, subst}
 use Rattle.std.proofs.Math.Seq.{take-append_seam}
-use Rattle.jbig2_base.specs.declared.error.DecodeError.{DecodeError}
 use Rattle.std.proofs.lemmas.Bool.{cond-false}
 use Rattle.jbig2_base.specs.Answer.{◌>>=◌}
 use Rattle.jbig2_base.specs.Grid.{Grid, blank}

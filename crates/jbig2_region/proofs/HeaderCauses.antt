@@ -18,7 +18,7 @@ use Rattle.jbig2_mmr.specs.T6.{mmr_rows}
 use Rattle.jbig2_mmr.proofs.Causes.{cause-mmr}
 use Rattle.jbig2_region.specs.Generic.{generic_answer, generic_grid}
 use Rattle.jbig2_region.specs.GenericHeader.{generic_header_at, rows_at}
-use Rattle.jbig2_region.specs.Refinement.{is_far, is_smaller, offset, refined_answer, refined_grid}
+use Rattle.jbig2_region.specs.Refinement.{is_far, offset, refined_answer, refined_grid}
 use Rattle.jbig2_region.specs.RefinementHeader.{refinement_header_at}
 use Rattle.jbig2_region.specs.RefinementTemplates.{refinement_pixel_count, refinement_pixels_at, refinement_template_of}
 use Rattle.jbig2_region.specs.RegionInfo.{placed, region_info_at}
@@ -128,8 +128,8 @@ offset_causes from info =
     let b = is_far info.x_location in
     let c = is_far from.y_location in
     let d = is_far info.y_location in
-    cause-next P (refuse_if (is_smaller from info) (errors.Region InvalidDimension)) _
-    (cause-refused P (is_smaller from info) (errors.Region InvalidDimension)
+    cause-next P (refuse_if (narrow || low) (errors.Region InvalidDimension)) _
+    (cause-refused P (narrow || low) (errors.Region InvalidDimension)
     (λ smaller. ⊎_elim
     (λ (columns : narrow ≡ true). inl (ltb-true from.grid.width info.width columns))
     (λ (lines : low ≡ true). inr (ltb-true from.grid.height info.height lines))

@@ -1,5 +1,5 @@
 -- Refinements: the number of a context bit by bit, nine pixels of one colour, and what decoding a whole region gives.
-use Rattle.std.proofs.Common.{pow-suc, ℤ, pos, ◌-ℤ◌, Result, Ok, Err, is_ok, ◌||◌, suc, refl, subst, not, Some, None, ⊎_elim, ◌&&◌, length-append, ◌≡◌, ℕ, ◌+◌, ◌-◌, ◌*◌, ◌^◌, ◌<◌, ◌≤◌, Bool, true, false, List, [], ◌∷◌, ◌++◌, length, drop, map, get_or, add-one, sym, ap, ◌∙◌, arith}
+use Rattle.std.proofs.Common.{ltb, pow-suc, ℤ, pos, ◌-ℤ◌, Result, Ok, Err, is_ok, ◌||◌, suc, refl, subst, not, Some, None, ⊎_elim, ◌&&◌, length-append, ◌≡◌, ℕ, ◌+◌, ◌-◌, ◌*◌, ◌^◌, ◌<◌, ◌≤◌, Bool, true, false, List, [], ◌∷◌, ◌++◌, length, drop, map, get_or, add-one, sym, ap, ◌∙◌, arith}
 use Rattle.std.proofs.Math.Seq.{drop-cons, drop-length}
 use Rattle.std.proofs.Math.Nat.{pow-le-pow_right}
 use Rattle.std.proofs.lemmas.Bool.{cases_Bool, cond-true}
@@ -8,7 +8,7 @@ use Rattle.std.specs.List.{list_all}
 use Rattle.jbig2_base.specs.Counts.{Counts}
 use Rattle.jbig2_base.specs.Grid.{Grid, blank, bit_number}
 use Rattle.jbig2_region.specs.Generic.{number_of, region_pixel, context_at, PlacedRegion}
-use Rattle.jbig2_region.specs.Refinement.{Reference, reference_pixel, refined_context, nine, common_colour, refinement_coding, refined_region, refined_grid, refined_answer, refined_contexts, reference_of, offset, is_smaller, is_far}
+use Rattle.jbig2_region.specs.Refinement.{Reference, reference_pixel, refined_context, nine, common_colour, refinement_coding, refined_region, refined_grid, refined_answer, refined_contexts, reference_of, offset, is_far}
 use Rattle.jbig2_region.specs.RefinementHeader.{RefinementHeader}
 use Rattle.jbig2_region.specs.RunBytes.{CountsDecided}
 use Rattle.jbig2_region.specs.RunBytes.{CountsRefined, refinement_loads}
@@ -167,7 +167,7 @@ pub offset-value : (h : RefinementHeader) (from : PlacedRegion) (d : ℤ × ℤ)
 unfolding offset
 offset-value h from d dx dy is_dx is_dy near =
     let difference : ◌≡◌ {A = ℤ × ℤ} (pos from.x_location -ℤ pos h.region_info.x_location, pos from.y_location -ℤ pos h.region_info.y_location) d =
-    passed (is_smaller from h.region_info) (is_far from.x_location || is_far h.region_info.x_location || is_far from.y_location || is_far h.region_info.y_location) _ _ _ d near in
+    passed (ltb from.grid.width h.region_info.width || ltb from.grid.height h.region_info.height) (is_far from.x_location || is_far h.region_info.x_location || is_far from.y_location || is_far h.region_info.y_location) _ _ _ d near in
     (λ i. record { grid = from.grid; dx = is_dx i; dy = is_dy i }) ∙ ap (λ (e : ℤ × ℤ). let r : Reference = record { grid = from.grid; dx = e.0; dy = e.1 } in r) (sym difference)
   where
     passed : (p q : Bool) (e f : DecodeError) (v d : ℤ × ℤ) → (refuse_if p e >>= λ _. refuse_if q f >>= λ _. Ok v) ≡ Ok d → v ≡ d

@@ -1,5 +1,5 @@
 -- A template takes of an array no pixels but the first so many.
-use Rattle.std.proofs.Common.{◌≡◌, false, List, [], ◌∷◌, take, refl}
+use Rattle.std.proofs.Common.{◌≡◌, false, true, List, [], ◌∷◌, take, refl}
 use Rattle.jbig2_region.specs.RefinementTemplates.{is_nominal as refinement_is_nominal}
 use Rattle.jbig2_region.specs.RefinementTemplates.{reference_pixels, region_pixels, two_pixels}
 use Rattle.jbig2_region.specs.Templates.{four_pixels, is_nominal, template_pixels}

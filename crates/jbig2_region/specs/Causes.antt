@@ -79,8 +79,7 @@ BreaksGenericHeader unknown_length bytes (errors.Region InvalidDimension) =
     × (number_in w32 4 bytes < number_in w32 (length bytes - 4) bytes)
 BreaksGenericHeader unknown_length bytes (errors.Overflow BitmapDimension) =
     (header_length bytes ≤ length bytes)
-    × ((65535 < number_in w32 0 bytes)
-    ⊎ (65535 < number_in w32 (if unknown_length then length bytes - 4 else 4) bytes))
+    × ((65535 < number_in w32 0 bytes) ⊎ (65535 < number_in w32 (if unknown_length then length bytes - 4 else 4) bytes))
 BreaksGenericHeader unknown_length bytes (errors.Template InvalidAtPixel) =
     BreaksPixels (pixels_by (number_in w8 17 bytes)) 18 bytes (errors.Template InvalidAtPixel)
 BreaksGenericHeader unknown_length bytes e = BreaksRegionInfo bytes e

@@ -71,7 +71,6 @@ refused_grid h g =
     let info = h.region_info in
     if h.mmr then grid_of_rows info.width info.height (rows_of info.width info.height h.bytes).rows else g
 
--- the contexts afterwards; MMR leaves them alone
 abbrev pub contexts_after : GenericHeader → List Context → List Context
 contexts_after h contexts = if h.mmr then contexts else (generic_region h).contexts
 

@@ -50,7 +50,6 @@ row_begun (Some k) bytes r =
       contexts = slice_set r.contexts k d.context;
     }
 
--- how many decisions begin a row
 abbrev pub row_decisions : Option ℕ → ℕ
 row_decisions None = 0
 row_decisions (Some _) = 1

@@ -44,8 +44,7 @@ nine =
 unfoldable pub common_colour : Reference → ℕ → ℕ → Option Bool
 common_colour r x y =
     if list_all (reference_pixel r x y) nine then Some true
-    else if list_all (λ p. not (reference_pixel r x y p)) nine then Some false
-    else None
+    else if list_all (λ p. not (reference_pixel r x y p)) nine then Some false else None
 
 -- By the template, whether typical prediction is on, its pixels in the reference and in the region, and the reference. In
 -- a predicted row a pixel takes the nine's common colour.
@@ -68,7 +67,6 @@ reference_of h from = record {
   dy = pos from.y_location -ℤ pos h.region_info.y_location;
 }
 
--- the region and what the coder has come to, from fresh contexts
 unfoldable pub refined_region : RefinementHeader → PlacedRegion → Region
 refined_region h from =
     decoded_region (refinement_coding h.template h.tpgron h.adaptive_template_pixels (reference_of h from)) h.region_info.width h.region_info.height h.bytes (no_pixels (initial_registers h.bytes) (fresh_contexts (refinement_bits h.template)))
@@ -79,21 +77,17 @@ refined_grid h from = so_far h.region_info.width h.region_info.height (refined_r
 abbrev pub is_far : ℕ → Bool
 is_far location = nat_le 0x80000000 location
 
-abbrev pub is_smaller : PlacedRegion → RegionSegmentInfo → Bool
-is_smaller from info = nat_lt from.grid.width info.width || nat_lt from.grid.height info.height
-
 -- dx and dy: the reference's place less the region's. A reference smaller than the region is refused, and so is a place
 -- of 2^31 or more (our own rules).
 unfoldable pub offset : PlacedRegion → RegionSegmentInfo → Result (ℤ × ℤ) DecodeError
 offset from info = do
-  covered ← refuse_if (is_smaller from info) (errors.Region InvalidDimension)
+  covered ← refuse_if (nat_lt from.grid.width info.width || nat_lt from.grid.height info.height) (errors.Region InvalidDimension)
   near ← refuse_if (is_far from.x_location || is_far info.x_location || is_far from.y_location || is_far info.y_location) (errors.Overflow ReferenceOffset)
   Ok (pos from.x_location -ℤ pos info.x_location, pos from.y_location -ℤ pos info.y_location)
 
 abbrev pub refined_answer : RefinementHeader → PlacedRegion → Result Grid DecodeError
 refined_answer h from = offset from h.region_info >>= λ d. Ok (refined_grid h from)
 
--- the contexts afterwards; a refused reference leaves them alone
 abbrev pub refined_contexts : RefinementHeader → PlacedRegion → List Context → List Context
 refined_contexts h from contexts = if is_ok (offset from h.region_info) then (refined_region h from).contexts else contexts
 

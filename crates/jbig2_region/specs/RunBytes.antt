@@ -26,7 +26,6 @@ takes_decision coding w h r =
     let n = length r.pixels in
     is_none (coding.known r.predicted (so_far w h r.pixels) (n % w) (n / w))
 
--- how many pixels of a region do
 unfoldable pub pixel_decisions : Coding → ℕ → ℕ → List ℕ → Region → ℕ
 pixel_decisions coding w h bytes start =
     how_many (λ n. takes_decision coding w h (at_pixel coding w h bytes start n)) (w * h)
@@ -41,11 +40,11 @@ pub record CountsDecided (coding : Coding) (row_loads : ℕ) (w h : ℕ) (bytes 
   pub words : after.words ≤ before.words + h * w
   pub loads : after.loads ≤ before.loads + h * row_loads
 
--- Loads of a row of a refinement, from windows of 64 pixels on five rows.
+-- loads of a row of a refinement, where its pixels are taken from windows of 64 pixels
 abbrev pub window_loads : ℕ → ℕ
 window_loads w = 5 * (w / 32 + 2)
 
--- Where an adaptive pixel is not nominal, all pixels of the template are read one by one, and the nine that predict too.
+-- where an adaptive pixel is not nominal, all pixels of the template are read one by one, and the nine that predict too
 abbrev pub refinement_loads : RefinementTemplate → List AdaptiveTemplatePixel → ℕ → ℕ
 refinement_loads template a w = if is_nominal template a then window_loads w else w * (refinement_bits template + 9)
 

@@ -1,11 +1,12 @@
 //! Refinement regions (T.88, 6.3 and 7.4.7).
-ghost use Rattle.std.specs.Prelude.{◌≡◌, IfOk, OnErr, OnOk};
+ghost use Rattle.std.specs.Prelude.{◌≡◌, ◌||◌, nat_lt, false, IfOk, OnErr, OnOk};
 ghost use Rattle.jbig2_base.specs.Answer.{Answers, Gives, Leaves};
 ghost use Rattle.jbig2_base.specs.Bits.{IsAligned};
 ghost use Rattle.jbig2_base.specs.Parsing.{Parses};
 ghost use Rattle.jbig2_region.specs.Causes.{OffsetsHaveCauses, RefinedRegionsHaveCauses, RefinementHeadersHaveCauses};
-ghost use Rattle.jbig2_region.specs.RegionInfo.{IsWhiteFor, region_view};
-ghost use Rattle.jbig2_region.specs.Refinement.{is_far, is_smaller, offset, refined_answer, refined_contexts, refined_decoded};
+ghost use Rattle.jbig2_region.specs.RegionInfo.{region_view};
+ghost use Rattle.jbig2_base.specs.Grid.{blank};
+ghost use Rattle.jbig2_region.specs.Refinement.{is_far, offset, refined_answer, refined_contexts, refined_decoded};
 ghost use Rattle.jbig2_region.specs.RunBytes.{CountsRefined};
 ghost use Rattle.jbig2_region.specs.RefinementHeader.{IsRefinement, header_view, refinement_header_at};
 ghost use Rattle.jbig2_region.specs.Templates.{filled};
@@ -82,7 +83,8 @@ pub fn parse<'a>(reader: &mut Reader<'a>) -> Result<GenericRefinementRegionHeade
 
 /// Whether the reference is narrower or lower than the region.
 fn is_smaller<B: Allocator>(reference: &DecodedRegion<B>, region_info: &RegionSegmentInfo) -> bool
-    ensures { result ≡ is_smaller (region_view reference.now) region_info.now }
+    ensures { result ≡ (nat_lt reference.now.bitmap.width region_info.now.width ||
+        nat_lt reference.now.bitmap.height region_info.now.height) }
 {
     reference.bitmap.width() < region_info.width || reference.bitmap.height() < region_info.height
 }
@@ -133,7 +135,8 @@ pub fn decode_into<A: Allocator, B: Allocator, C: Allocator, L: Ledger>(
     steps: &mut Steps<L>,
 ) -> Result<()>
     requires parsed { IsRefinement (header_view header.now) }
-    requires white { IsWhiteFor header.now.region_info bitmap.old }
+    requires white { bitmap.old ≡ blank header.now.region_info.width header.now.region_info.height
+        false }
     ensures value { Gives (λ _. bitmap.new) result
         (refined_answer (header_view header.now) (region_view reference.now)) }
     ensures contexts { Leaves result contexts.new.items

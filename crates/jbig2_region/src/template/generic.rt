@@ -1,6 +1,6 @@
 //! What the templates of generic regions have besides pixels side by side (T.88, 6.2.5.3): the
 //! extended one's pixels, and the contexts of the decisions that begin rows (6.2.5.7).
-ghost use Rattle.std.specs.Prelude.{◌≡◌, ◌^◌, ◌<◌, if◌then◌else◌, take, Some, None, IfSome};
+ghost use Rattle.std.specs.Prelude.{◌≡◌, ◌^◌, ◌<◌, if◌then◌else◌, take, true, Some, None, IfSome};
 ghost use Rattle.jbig2_region.specs.Templates.{context_bits, row_context, template_pixels};
 ghost use Rattle.jbig2_region.specs.declared.template.Template.TheVariants.{Template0};
 
