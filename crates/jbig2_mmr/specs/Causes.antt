@@ -1,5 +1,5 @@
--- Which rule of T.6 the bits break where strict mode refuses MMR data (docs/FORMAT.md). `BreaksMmr` takes the size, the
--- bytes and an error, and says which row is missing or at fault. The law at the end ties the definition's error to it.
+-- Which rule of T.6 the bits break where strict mode refuses MMR data (docs/FORMAT.md). `BreaksMmr` takes the size,
+-- the bytes and an error, and says which row is missing or at fault; the law at the end ties the error to it.
 use Rattle.std.specs.Prelude.{◌≡◌, ◌<◌, ◌≤◌, ◌⊎◌, ℕ, zero, suc, ◌+◌, Bool, true, false, not, List, [], length, All, Some, IfErr, ℤ, pos, negsuc, ◌+ℤ◌}
 use Rattle.jbig2_base.specs.declared.error.DecodeError.{DecodeError}
 use Rattle.jbig2_base.specs.declared.error.DecodeError.TheVariants.{Region}
@@ -12,7 +12,7 @@ use Rattle.jbig2_mmr.specs.declared.mmr.codes.Mode.TheVariants.{Horizontal, Vert
 abbrev pub BeginNone : {A : Type 0} → List (A × List ℕ) → List ℕ → Type 0
 BeginNone words bits = All (λ c. begins c.1 bits ≡ false) words
 
--- A run: no word of its colour's table (tables 2 and 3) begins the bits, or a make-up code, and the run's rest is at fault.
+-- A run: no word of its table (tables 2 and 3) begins the bits, or a make-up code does, and the rest is at fault.
 abbrev pub BreaksRun : ℕ → Bool → List ℕ → Type 0
 BreaksRun zero black bits = BeginNone (runs_of black) bits
 BreaksRun (suc most) black bits =

@@ -1,6 +1,6 @@
--- Two-dimensional coding of bitmaps by ITU-T T.6 (2.2), which T.88 calls MMR (6.2.6). Modes and runs say where a row's
--- changing elements lie against the row above it, its reference row. `mmr_rows`, at the end, takes a width, a height and
--- bytes, and gives the bitmap and how many bytes it took, or an error.
+-- Two-dimensional coding of bitmaps by ITU-T T.6 (2.2), which T.88 calls MMR (6.2.6). Modes and runs say where a
+-- row's changing elements lie against the row above it, its reference row. `mmr_rows`, at the end, takes a width, a
+-- height and bytes, and gives the bitmap and how many bytes it took, or an error.
 use Rattle.std.specs.Prelude.{ℕ, zero, suc, ◌+◌, ◌-◌, ◌/◌, ◌%◌, ◌==◌, ℤ, pos, negsuc, ◌+ℤ◌, Bool, true, false, not, ◌&&◌, ◌||◌, nat_le, nat_lt, List, [], ◌∷◌, ◌++◌, length, take, drop, filter, slice_index_or, Option, Some, None, Result, Ok, Err, if◌then◌else◌}
 use Rattle.std.specs.List.{flat_map, list_all}
 use Rattle.jbig2_base.specs.Bits.{byte_bits, number_after}
@@ -123,7 +123,7 @@ next_step w above h bits = do
   after_mode w above h mode.0 mode.1
 
 -- ---- rows (2.2.3)
--- The changing elements of a row, and the bits behind it, mode by mode; None at a fault. Each mode takes a bit at least.
+-- the changing elements of a row, and the bits behind it, mode by mode; each mode takes a bit at least
 unfoldable pub row_from : ℕ → ℕ → (ℕ → Bool) → Head → List ℕ → List ℕ → Option (List ℕ × List ℕ)
 row_from zero w above h changes bits = if nat_le w h.a0 then Some (changes, bits) else None
 row_from (suc most) w above h changes bits =
@@ -179,7 +179,7 @@ pub record Decoded : Type 0 where
   pub grid : Grid
   pub used : ℕ
 
--- Rows of a width and a height, read from bytes (T.88, 6.2.6). A missing row is refused in strict mode, and else white.
+-- rows of a width and a height (T.88, 6.2.6); one that is missing is refused in strict mode, and else white
 unfoldable pub mmr_rows : Bool → ℕ → ℕ → List ℕ → Result Decoded DecodeError
 mmr_rows strict w h bytes =
     let r = rows_of w h bytes in

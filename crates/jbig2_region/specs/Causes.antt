@@ -1,5 +1,5 @@
--- Which rule the bytes break where a header or a region is refused (docs/FORMAT.md), a line for each error. A predicate
--- `Breaks..` takes the bytes, or a header, and an error; its law ties the definition's errors to it.
+-- Which rule the bytes break where a header or a region is refused (docs/FORMAT.md), a line for each error. A
+-- predicate `Breaks..` takes the bytes, or a header, and an error; its law ties the definition's errors to it.
 use Rattle.std.specs.Prelude.{◌≡◌, ◌<◌, ◌≤◌, ◌⊎◌, ℕ, ◌+◌, ◌-◌, ◌*◌, ◌/◌, ◌%◌, ◌^◌, ◌==◌, Bool, true, if◌then◌else◌, List, length, IfErr, ℤ, pos, negsuc}
 use Rattle.std.specs.Int.{w8, w32, cast_signed}
 use Rattle.jbig2_base.specs.Causes.{number_in}
@@ -51,16 +51,16 @@ TemplatePixelsHaveCauses =
     (mmr extended : Bool) (template : Template) (bytes : List ℕ) → let count = adaptive_pixel_count mmr extended template in
     IfErr (adaptive_pixels_at count bytes) (BreaksPixels count 0 bytes)
 
--- ---- generic regions (7.4.6): where the length is unknown the last four bytes are the number of rows
+-- ---- generic regions (7.4.6): where the segment's length is unknown the last four bytes are the number of rows
 abbrev pub BreaksRows : Bool → ℕ → List ℕ → DecodeError → Type 0
-BreaksRows unknown_length height bytes (errors.Parse UnexpectedEof) = (unknown_length ≡ true) × (length bytes < 4)
-BreaksRows unknown_length height bytes (errors.Region InvalidDimension) =
-    (unknown_length ≡ true) × (4 ≤ length bytes) × (height < number_in w32 (length bytes - 4) bytes)
-BreaksRows unknown_length height bytes _ = ⊥
+BreaksRows unknown height bytes (errors.Parse UnexpectedEof) = (unknown ≡ true) × (length bytes < 4)
+BreaksRows unknown height bytes (errors.Region InvalidDimension) =
+    (unknown ≡ true) × (4 ≤ length bytes) × (height < number_in w32 (length bytes - 4) bytes)
+BreaksRows unknown height bytes _ = ⊥
 
 abbrev pub RowsHaveCauses : Type 0
 RowsHaveCauses =
-    (unknown_length : Bool) (height : ℕ) (bytes : List ℕ) → IfErr (rows_at unknown_length height bytes) (BreaksRows unknown_length height bytes)
+    (unknown : Bool) (height : ℕ) (bytes : List ℕ) → IfErr (rows_at unknown height bytes) (BreaksRows unknown height bytes)
 
 -- how many adaptive pixels these flags ask for
 abbrev pub pixels_by : ℕ → ℕ
@@ -72,22 +72,22 @@ header_length bytes = 18 + 2 * pixels_by (number_in w8 17 bytes)
 
 -- the width stands at byte 0, the height at byte 4
 abbrev pub BreaksGenericHeader : Bool → List ℕ → DecodeError → Type 0
-BreaksGenericHeader unknown_length bytes (errors.Parse UnexpectedEof) =
-    length bytes < header_length bytes + (if unknown_length then 4 else 0)
-BreaksGenericHeader unknown_length bytes (errors.Region InvalidDimension) =
-    (unknown_length ≡ true) × (header_length bytes + 4 ≤ length bytes)
+BreaksGenericHeader unknown bytes (errors.Parse UnexpectedEof) =
+    length bytes < header_length bytes + (if unknown then 4 else 0)
+BreaksGenericHeader unknown bytes (errors.Region InvalidDimension) =
+    (unknown ≡ true) × (header_length bytes + 4 ≤ length bytes)
     × (number_in w32 4 bytes < number_in w32 (length bytes - 4) bytes)
-BreaksGenericHeader unknown_length bytes (errors.Overflow BitmapDimension) =
+BreaksGenericHeader unknown bytes (errors.Overflow BitmapDimension) =
     (header_length bytes ≤ length bytes)
-    × ((65535 < number_in w32 0 bytes) ⊎ (65535 < number_in w32 (if unknown_length then length bytes - 4 else 4) bytes))
-BreaksGenericHeader unknown_length bytes (errors.Template InvalidAtPixel) =
+    × ((65535 < number_in w32 0 bytes) ⊎ (65535 < number_in w32 (if unknown then length bytes - 4 else 4) bytes))
+BreaksGenericHeader unknown bytes (errors.Template InvalidAtPixel) =
     BreaksPixels (pixels_by (number_in w8 17 bytes)) 18 bytes (errors.Template InvalidAtPixel)
-BreaksGenericHeader unknown_length bytes e = BreaksRegionInfo bytes e
+BreaksGenericHeader unknown bytes e = BreaksRegionInfo bytes e
 
 abbrev pub GenericHeadersHaveCauses : Type 0
 GenericHeadersHaveCauses =
-    (unknown_length strict : Bool) (bytes : List ℕ)
-    → IfErr (generic_header_at unknown_length strict bytes) (BreaksGenericHeader unknown_length bytes)
+    (unknown strict : Bool) (bytes : List ℕ)
+    → IfErr (generic_header_at unknown strict bytes) (BreaksGenericHeader unknown bytes)
 
 -- ---- refinements (7.4.7), whose adaptive pixels may lie anywhere
 abbrev pub BreaksRefinementPixels : RefinementTemplate → List ℕ → DecodeError → Type 0

@@ -1,4 +1,4 @@
--- Generic regions (T.88, 6.2): a bitmap coded by the arithmetic coder in the contexts of a template, or by MMR. The header
+-- Generic regions (T.88, 6.2): coded by the arithmetic coder in the contexts of a template, or by MMR. The header
 -- with the coded bytes gives the grid, and what the contexts have learned.
 use Rattle.std.specs.Prelude.{ℕ, ◌+◌, ◌*◌, Bool, false, if◌then◌else◌, List, [], ◌∷◌, map, Option, Some, None, pos, negsuc, ◌+ℤ◌, Result, Ok}
 use Rattle.jbig2_base.specs.Answer.{◌>>=◌}
@@ -31,13 +31,12 @@ abbrev pub is_skipped : Option Grid → ℕ → ℕ → Bool
 is_skipped None x y = false
 is_skipped (Some skip) x y = pixel_at skip x y
 
--- The colour that a pixel takes without a decision (6.2.5.7): in a predicted row that of the pixel above, white above row
--- 0; else white where it is skipped.
+-- the colour that a pixel takes without a decision (6.2.5.7): that above in a predicted row, else white if skipped
 abbrev pub known_colour : Option Grid → Bool → Grid → ℕ → ℕ → Option Bool
 known_colour skip predicted g x y =
     if predicted then Some (pixel g (pos x) (pos y +ℤ negsuc 0)) else if is_skipped skip x y then Some false else None
 
--- by whether typical prediction is on, the template, all of its pixels, and the bitmap that says what is skipped
+-- how pixels are coded, by the bitmap that says what is skipped
 abbrev pub masked_coding : Bool → Template → List AdaptiveTemplatePixel → Option Grid → Coding
 masked_coding typical template pixels skip = record {
   context = context_at pixels;

@@ -38,8 +38,7 @@ header_view h = record {
   strict = h.strict;
 }
 
--- The height and the coded bytes (7.4.6.4): where the segment's length is unknown its last four bytes are the number of
--- rows, at most the stated height.
+-- the height and the coded bytes: with an unknown length the last four state the rows, at most the height (7.4.6.4)
 unfoldable pub rows_at : Bool → ℕ → List ℕ → Result (ℕ × List ℕ) DecodeError
 rows_at false height bytes = Ok (height, bytes)
 rows_at true height bytes = do

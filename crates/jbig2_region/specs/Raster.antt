@@ -1,6 +1,5 @@
--- Regions that are decoded pixel by pixel, row by row from the top and each row from the left (T.88, 6.2.5 and 6.3.5).
--- `decoded_region` takes how the region is coded, its size, the coder's bytes, and the registers and contexts with which
--- it begins; it gives the pixels, and what registers and contexts have come to.
+-- Regions that are decoded pixel by pixel, row by row from the top and each from the left (T.88, 6.2.5 and 6.3.5).
+-- `decoded_region` takes how a region is coded, its size, the coded bytes and a beginning, and gives what it becomes.
 use Rattle.std.specs.Prelude.{ℕ, suc, zero, ◌+◌, ◌*◌, ◌/◌, ◌%◌, ◌^◌, ◌==◌, Bool, false, if◌then◌else◌, List, [], ◌∷◌, ◌++◌, length, replicate, slice_index_or, slice_set, Option, Some, None}
 use Rattle.jbig2_base.specs.Grid.{Grid, grid_of}
 use Rattle.jbig2_coder.specs.Coder.{Context, Registers, fresh, decision}
@@ -38,8 +37,7 @@ after_pixel coding w h bytes r =
     let g = so_far w h r.pixels in
     with_next bytes r (coding.context g (n % w) (n / w)) (coding.known r.predicted g (n % w) (n / w))
 
--- With typical prediction a row begins with a decision. LTP, whether rows are predicted, is the exclusive or of all these
--- bits so far (6.2.5.7).
+-- With typical prediction a row begins with a decision; LTP is the exclusive or of all these bits so far (6.2.5.7).
 unfoldable pub row_begun : Option ℕ → List ℕ → Region → Region
 row_begun None bytes r = r
 row_begun (Some k) bytes r =

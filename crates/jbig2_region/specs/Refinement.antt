@@ -1,5 +1,5 @@
--- Refinements (T.88, 6.3): as generic regions, with templates that lie in two grids. `refined_decoded` takes the header
--- and the region that is refined, and gives the refined one at its place on the page, or an error.
+-- Refinements (T.88, 6.3): as generic regions, with templates that lie in two grids. `refined_decoded` takes the
+-- header and the region that is refined, and gives the refined one at its place on the page, or an error.
 use Rattle.std.specs.Prelude.{ℕ, Bool, true, false, not, ◌||◌, nat_lt, nat_le, if◌then◌else◌, List, [], ◌∷◌, ◌++◌, map, Option, Some, None, ℤ, pos, negsuc, ◌+ℤ◌, ◌-ℤ◌, Result, Ok, is_ok}
 use Rattle.std.specs.List.{list_all}
 use Rattle.jbig2_base.specs.Answer.{◌>>=◌, refuse_if}
@@ -40,14 +40,13 @@ nine =
     ∷ apart (negsuc 0) (pos 0) ∷ apart (pos 0) (pos 0) ∷ apart (pos 1) (pos 0)
     ∷ apart (negsuc 0) (pos 1) ∷ apart (pos 0) (pos 1) ∷ apart (pos 1) (pos 1) ∷ []
 
--- the colour that nine pixels of the reference have in common, if they have one (6.3.5.6)
+-- the colour that the nine pixels of the reference have in common, if they have one
 unfoldable pub common_colour : Reference → ℕ → ℕ → Option Bool
 common_colour r x y =
     if list_all (reference_pixel r x y) nine then Some true
     else if list_all (λ p. not (reference_pixel r x y p)) nine then Some false else None
 
--- By the template, whether typical prediction is on, its pixels in the reference and in the region, and the reference. In
--- a predicted row a pixel takes the nine's common colour.
+-- how pixels are coded: in a predicted row one takes the nine's common colour (6.3.5.6)
 abbrev pub refined_coding : RefinementTemplate → Bool → List AdaptiveTemplatePixel → List AdaptiveTemplatePixel → Reference → Coding
 refined_coding template typical in_reference in_region r = record {
   context = refined_context r in_reference in_region;
@@ -77,8 +76,7 @@ refined_grid h from = so_far h.region_info.width h.region_info.height (refined_r
 abbrev pub is_far : ℕ → Bool
 is_far location = nat_le 0x80000000 location
 
--- dx and dy: the reference's place less the region's. A reference smaller than the region is refused, and so is a place
--- of 2^31 or more (our own rules).
+-- dx and dy; a reference smaller than the region is refused, and so is a place of 2^31 or more (our own rules)
 unfoldable pub offset : PlacedRegion → RegionSegmentInfo → Result (ℤ × ℤ) DecodeError
 offset from info = do
   covered ← refuse_if (nat_lt from.grid.width info.width || nat_lt from.grid.height info.height) (errors.Region InvalidDimension)

@@ -1,5 +1,5 @@
--- The templates of refinements (T.88, 6.3.5.3, Figures 12 and 13): for each bit of a context's number, bit 0 first, the
--- pixel of the reference or of the region that it is taken from; the adaptive pixels; the context in which a row begins.
+-- The templates of refinements (T.88, 6.3.5.3, Figures 12 and 13): the pixels of a context, bit 0 first, out of the
+-- reference and the region; the adaptive pixels; and the context of the decision that begins a row.
 use Rattle.std.specs.Prelude.{ℕ, ◌==◌, Bool, true, ◌&&◌, List, [], ◌∷◌, take, ℤ, pos, negsuc, Result, Ok, if◌then◌else◌}
 use Rattle.jbig2_base.specs.Answer.{◌>>=◌}
 use Rattle.jbig2_base.specs.declared.error.DecodeError.{DecodeError}

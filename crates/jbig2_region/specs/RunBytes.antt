@@ -1,6 +1,5 @@
--- What the step bounds of regions count, as numbers of places of the raster (our own rule): decisions, run bytes of
--- generic regions, and loads. Each `Counts..` takes how a region is coded, its size and its coded bytes, and the counts
--- before and after it.
+-- What the step bounds of regions count (our own rule): decisions, run bytes, words and loads. Each
+-- `Counts..` takes how a region is coded, its size and its coded bytes, and the counts before and after it.
 use Rattle.std.specs.Prelude.{◌≡◌, ℕ, zero, suc, ◌+◌, ◌-◌, ◌*◌, ◌/◌, ◌%◌, ◌≤◌, ◌==◌, Bool, false, true, not, ◌&&◌, ◌||◌, nat_lt, if◌then◌else◌, List, ◌++◌, length, replicate, slice_index_or, is_none}
 use Rattle.jbig2_base.specs.Counts.{Counts, KeepsLanes}
 use Rattle.jbig2_base.specs.Grid.{bit_number, same_colour}
@@ -30,7 +29,7 @@ unfoldable pub pixel_decisions : Coding → ℕ → ℕ → List ℕ → Region 
 pixel_decisions coding w h bytes start =
     how_many (λ n. takes_decision coding w h (at_pixel coding w h bytes start n)) (w * h)
 
--- One decision for each pixel that takes one, and one for each row that begins with one; no run test; at most one word a
+-- One decision for each pixel that takes one, and for each row that begins with one; no run test; at most one word a
 -- pixel, and so many loads a row. An empty region takes no step.
 pub record CountsDecided (coding : Coding) (row_loads : ℕ) (w h : ℕ) (bytes : List ℕ) (start : Region) (before after : Counts) : Type 0 where
   pub empty : w * h ≡ 0 → after ≡ before
@@ -44,7 +43,7 @@ pub record CountsDecided (coding : Coding) (row_loads : ℕ) (w h : ℕ) (bytes 
 abbrev pub window_loads : ℕ → ℕ
 window_loads w = 5 * (w / 32 + 2)
 
--- where an adaptive pixel is not nominal, all pixels of the template are read one by one, and the nine that predict too
+-- where an adaptive pixel is not nominal, all pixels of the template are read one by one, and the predicting nine
 abbrev pub refinement_loads : RefinementTemplate → List AdaptiveTemplatePixel → ℕ → ℕ
 refinement_loads template a w = if is_nominal template a then window_loads w else w * (refinement_bits template + 9)
 

@@ -1,5 +1,5 @@
--- Generic regions of which pixels are skipped (T.88, 6.2.5.7, USESKIP). `skipping_coding` takes the template's pixels and
--- the mask, and gives how such a region is coded without typical prediction; behind it stand the steps that it takes.
+-- Generic regions of which pixels are skipped (T.88, 6.2.5.7, USESKIP). `skipping_coding` takes the template's pixels
+-- and the mask, and gives how such a region is coded without typical prediction. Behind it stand its steps.
 use Rattle.std.specs.Prelude.{◌≡◌, ℕ, ◌+◌, ◌*◌, ◌/◌, ◌%◌, ◌≤◌, not, List, Option, Some, None}
 use Rattle.std.specs.Borrow.{Bor}
 use Rattle.jbig2_base.specs.Counts.{Counts, KeepsLanes}
@@ -27,7 +27,7 @@ skipping_loads w = 3 * (w / 32 + 2)
 abbrev pub skipping_words : ℕ → ℕ
 skipping_words w = w / 32 + 1
 
--- What a region of w columns and h rows takes: a decision for each pixel that is not skipped, no run test and no lanes.
+-- a decision for each pixel that is not skipped, no run test and no lanes
 pub record CountsSkipping (skip : Option Grid) (w h : ℕ) (before after : Counts) : Type 0 where
   pub decisions : after.decisions ≡ before.decisions + kept_pixels skip w h
   pub run_tests : after.run_tests ≡ before.run_tests

@@ -1,6 +1,5 @@
--- The templates of generic regions (T.88, 6.2.5.3, Figures 3 to 6, and the extended one): for each bit of a context's
--- number the pixel that it is taken from; how many pixels are adaptive (6.2.5.4), where these lie by default and how a
--- segment holds them (7.4.6.3); and the context in which a row begins.
+-- The templates of generic regions (T.88, 6.2.5.3, Figures 3 to 6, and the extended one): the pixels of a context,
+-- the adaptive ones among them and how a segment holds these, and the context of the decision that begins a row.
 use Rattle.std.specs.Prelude.{ℕ, ◌==◌, ◌≡◌, Bool, true, false, not, ◌&&◌, ◌||◌, ℤ, pos, negsuc, ◌-ℤ◌, int_lt, int_le, List, [], ◌∷◌, zero, suc, slice_index_or, take, if◌then◌else◌, Result, Ok}
 use Rattle.std.specs.Int.{w8}
 use Rattle.std.specs.Ordering.{int_eq}
@@ -32,8 +31,7 @@ left columns rows = record { x = pos 0 -ℤ pos columns; y = pos 0 -ℤ pos rows
 abbrev pub right : ℕ → ℕ → AdaptiveTemplatePixel
 right columns rows = record { x = pos columns; y = pos 0 -ℤ pos rows }
 
--- How many adaptive pixels there are (6.2.5.4), by whether a region is coded with MMR, whether the extended template is
--- asked for (EXTTEMPLATE), and the template.
+-- how many adaptive pixels there are (6.2.5.4), by MMR, EXTTEMPLATE, and the template
 abbrev pub adaptive_pixel_count : Bool → Bool → Template → ℕ
 adaptive_pixel_count true extended template = 0
 adaptive_pixel_count false true Template0 = 12
@@ -44,8 +42,8 @@ adaptive_pixel_count false extended template = 1
 abbrev pub adaptive : List AdaptiveTemplatePixel → ℕ → AdaptiveTemplatePixel
 adaptive pixels k = slice_index_or pixels k (right 0 0)
 
--- The pixels of a template with these adaptive pixels, bit 0 of a context first, by whether it is the extended one, which
--- has A1 to A12 in bits 1 13 9 14 12 5 2 3 11 4 15 10.
+-- The pixels of a template with these adaptive pixels, bit 0 of a context first, by whether it is the extended one,
+-- with A1 to A12 in bits 1 13 9 14 12 5 2 3 11 4 15 10.
 abbrev pub template_pixels : Bool → Template → List AdaptiveTemplatePixel → List AdaptiveTemplatePixel
 template_pixels true _ a =
     left 1 0 ∷ adaptive a 0 ∷ adaptive a 6 ∷ adaptive a 7 ∷ adaptive a 9
