@@ -20,7 +20,7 @@ skip_of (Some skip) = Some skip.now
 unfoldable pub kept_pixels : Option Grid → ℕ → ℕ → ℕ
 kept_pixels skip w h = how_many (λ n. not (is_skipped skip (n % w) (n / w))) (w * h)
 
--- loads and words of a row of w pixels: for 32 columns a window on the mask, and one on each of the two rows above
+-- loads of a row of w pixels, for 32 columns a window on the mask and one on each of the two rows above; its words
 abbrev pub skipping_loads : ℕ → ℕ
 skipping_loads w = 3 * (w / 32 + 2)
 
