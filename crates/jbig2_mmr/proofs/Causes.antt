@@ -1,11 +1,12 @@
 -- Which rule of T.6 the bits break where strict mode refuses MMR data.
-use Rattle.std.proofs.Common.{◌≡◌, ℕ, zero, suc, ◌+◌, ◌-◌, ◌/◌, ◌<◌, ◌≤◌, eqb, ltb, leb, Bool, true, false, not, ◌&&◌, ◌||◌, cond, List, [], ◌∷◌, ◌++◌, drop, length, All, Option, Some, None, Result, Ok, Err, ℤ, pos, negsuc, ◌+ℤ◌, refl, sym, ap, subst, arith, ◌⊎◌, ⊎_elim, inl, inr, leb-false, length-drop, ltb-false, ltb-true}
+use Rattle.std.proofs.Common.{◌≡◌, ℕ, zero, suc, ◌+◌, ◌-◌, ◌/◌, ◌<◌, ◌≤◌, eqb, ltb, leb, Bool, true, false, not, ◌&&◌, ◌||◌, cond, List, [], ◌∷◌, ◌++◌, drop, length, All, Option, Some, None, Result, Ok, Err, ℤ, pos, negsuc, ◌+ℤ◌, ◌<ℤ◌, refl, sym, ap, subst, arith, ◌⊎◌, ⊎_elim, inl, inr, leb-false, length-drop, ltb-false, ltb-true}
 use Rattle.std.specs.Prelude.{IfErr}
+use Rattle.std.proofs.lemmas.Int.{ints}
 use Rattle.std.proofs.lemmas.Bool.{and_cases, and_parts, cond_both, eqb-false, false≢true, not-true, or_parts}
 use Rattle.jbig2_base.specs.declared.error.DecodeError.{DecodeError}
 use Rattle.jbig2_base.specs.declared.error.DecodeError.TheVariants.{Region}
 use Rattle.jbig2_base.specs.declared.error.RegionError.TheVariants.{InvalidMmrData}
-use Rattle.jbig2_mmr.specs.Causes.{BeginNone, BreaksMmr, BreaksMode, BreaksRow, BreaksRows, BreaksRun, BreaksRuns, IsOutside, MmrDataHasCauses}
+use Rattle.jbig2_mmr.specs.Causes.{BeginNone, BreaksMmr, BreaksMode, BreaksRow, BreaksRows, BreaksRun, BreaksRuns, MmrDataHasCauses}
 use Rattle.jbig2_mmr.specs.T6.{Decoded, Head, Rows, Step, after_mode, after_pass, after_runs, after_vertical, b1_of, begins, bits_of, ends_block, grid_of_rows, mmr_rows, next_step, pixel_of, place_in, read_code, row, row_from, row_start, rows_from, rows_of, run, run_from, runs_of, ◌>>=◌}
 use Rattle.jbig2_mmr.proofs.T6Decoding.{or_fault}
 use Rattle.jbig2_mmr.specs.T6Codes.{black_runs, longer_runs, modes, white_runs}
@@ -113,13 +114,17 @@ run-fault (suc most) black bits few is =
         is
 
 -- ---- a mode
+-- left of a0, or past the row's end
+abbrev IsOutside : ℕ → ℕ → ℤ → Type 0
+IsOutside a0 w z = (z <ℤ pos a0) ⊎ (pos w <ℤ z)
+
 outside : (a0 w : ℕ) (z : ℤ) → place_in a0 w z ≡ None → IsOutside a0 w z
-outside a0 w (negsuc x) is = tt
+outside a0 w (negsuc x) is = inl (omega (arith, ints))
 outside a0 w (pos x) is =
     let Q : Option ℕ → Type 0 = λ o. o ≡ None → IsOutside a0 w (pos x) in
     cond_both (leb a0 x && leb x w) (Some x) None Q
     (λ yes same. absurd (never-none x same))
-    (λ no same. ⊎_elim (λ (below : leb a0 x ≡ false). inl (leb-false a0 x below)) (λ (past : leb x w ≡ false). inr (leb-false x w past)) (and_cases (leb a0 x) (leb x w) no))
+    (λ no same. ⊎_elim (λ (below : leb a0 x ≡ false). inl (let low = leb-false a0 x below in omega (arith, ints, low))) (λ (past : leb x w ≡ false). inr (let high = leb-false x w past in omega (arith, ints, high))) (and_cases (leb a0 x) (leb x w) no))
     is
 
 vertical-fault : (w : ℕ) (above : ℕ → Bool) (h : Head) (distance : ℤ) (bits : List ℕ) → after_vertical w above h distance bits ≡ None → IsOutside h.a0 w (pos (b1_of w above h) +ℤ distance)

@@ -1,6 +1,6 @@
 -- Which rule of T.6 the bits break where strict mode refuses MMR data (docs/FORMAT.md). `BreaksMmr` takes the size,
 -- the bytes and an error, and says which row is missing or at fault; the law at the end ties the error to it.
-use Rattle.std.specs.Prelude.{◌≡◌, ◌<◌, ◌≤◌, ◌⊎◌, ℕ, zero, suc, ◌+◌, Bool, true, false, not, List, [], length, All, Some, IfErr, ℤ, pos, negsuc, ◌+ℤ◌}
+use Rattle.std.specs.Prelude.{◌≡◌, ◌<◌, ◌≤◌, ◌⊎◌, ℕ, zero, suc, ◌+◌, Bool, true, false, not, List, [], length, All, Some, IfErr, ℤ, pos, ◌+ℤ◌, ◌<ℤ◌}
 use Rattle.jbig2_base.specs.declared.error.DecodeError.{DecodeError}
 use Rattle.jbig2_base.specs.declared.error.DecodeError.TheVariants.{Region}
 use Rattle.jbig2_base.specs.declared.error.RegionError.TheVariants.{InvalidMmrData}
@@ -27,18 +27,13 @@ BreaksRuns w h bits =
     × (BreaksRun (length first.1) (not h.black) first.1
     ⊎ ((second : ℕ × List ℕ) × (run (not h.black) first.1 ≡ Some second) × (w < h.a0 + first.0 + second.0))))
 
--- left of a0, or past the row's end
-abbrev pub IsOutside : ℕ → ℕ → ℤ → Type 0
-IsOutside a0 w (pos x) = (x < a0) ⊎ (w < x)
-IsOutside a0 w (negsuc x) = Unit {0}
-
--- No mode's word begins the bits (2.2.2, table 1); or the mode's runs are at fault, or its a1 lies outside.
+-- No mode's word begins the bits (2.2.2, table 1); or the mode's runs are at fault, or its a1 lies left of a0 or past w.
 abbrev pub BreaksMode : ℕ → (ℕ → Bool) → Head → List ℕ → Type 0
 BreaksMode w above h bits =
     BeginNone modes bits
     ⊎ (((left : List ℕ) × (read_code modes bits ≡ Some (Horizontal, left)) × BreaksRuns w h left)
     ⊎ ((distance : ℤ) × (left : List ℕ) × (read_code modes bits ≡ Some (Vertical distance, left))
-    × IsOutside h.a0 w (pos (b1_of w above h) +ℤ distance)))
+    × (let a1 = pos (b1_of w above h) +ℤ distance in (a1 <ℤ pos h.a0) ⊎ (pos w <ℤ a1))))
 
 -- The row is not at its end, and the next mode is at fault, or a later one, or as many were read as there were bits.
 abbrev pub BreaksRow : ℕ → ℕ → (ℕ → Bool) → Head → List ℕ → Type 0

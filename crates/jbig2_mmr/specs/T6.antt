@@ -40,8 +40,7 @@ is_prefix_free [] = true
 is_prefix_free (c ∷ cs) = list_all (λ d. not (begins c.1 d.1) && not (begins d.1 c.1)) cs && is_prefix_free cs
 
 abbrev pub runs_of : Bool → List (ℕ × List ℕ)
-runs_of true = black_runs
-runs_of false = white_runs
+runs_of black = if black then black_runs else white_runs
 
 -- A run is the sum of make-up codes (64 and more) and a terminating code (0 to 63). Each code takes a bit at least.
 unfoldable pub run_from : ℕ → Bool → List ℕ → Option (ℕ × List ℕ)

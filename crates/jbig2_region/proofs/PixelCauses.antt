@@ -1,8 +1,9 @@
 -- Which rule the bytes of adaptive pixels break where they are refused.
-use Rattle.std.proofs.Common.{◌≡◌, ℕ, zero, suc, ◌+◌, ◌*◌, ◌<◌, ◌≤◌, false, not, ◌&&◌, ◌||◌, List, [], ◌∷◌, length, Ok, ℤ, pos, negsuc, sym, ◌∙◌, ap, subst, arith}
+use Rattle.std.proofs.Common.{◌≡◌, ℕ, zero, suc, ◌+◌, ◌*◌, ◌<◌, ◌≤◌, false, not, ◌&&◌, ◌||◌, List, [], ◌∷◌, length, Ok, ℤ, pos, negsuc, refl, sym, ◌∙◌, ap, subst, arith, inl, inr}
 use Rattle.std.specs.Prelude.{IfErr, int_le, int_lt}
 use Rattle.std.specs.Int.{Width, w8, byte_len, cast_signed}
 use Rattle.std.proofs.lemmas.Bool.{false≢true, not-true}
+use Rattle.std.proofs.lemmas.Int.{ints}
 use Rattle.jbig2_base.specs.Answer.{◌>>=◌, refuse_if}
 use Rattle.jbig2_base.specs.Causes.{number_in}
 use Rattle.jbig2_base.specs.Fields.{end_of_bytes, number_at, signed_at}
@@ -62,11 +63,10 @@ free-there k bytes rest pixel at is =
     }
 
 late : (x y : ℤ) → (int_lt y (pos 0) || (int_le y (pos 0) && int_lt x (pos 0))) ≡ false → IsLate x y
-late (pos x) (pos y) is = tt
+late (pos x) (pos zero) is = inr (refl, omega (arith, ints))
 late (negsuc x) (pos zero) is = absurd (false≢true (sym is))
-late (negsuc x) (pos (suc y)) is = omega arith
-late (pos x) (negsuc y) is = absurd (false≢true (sym is))
-late (negsuc x) (negsuc y) is = absurd (false≢true (sym is))
+late x (pos (suc y)) is = inl (omega (arith, ints))
+late x (negsuc y) is = absurd (false≢true (sym is))
 
 -- the pixel that stands at this byte and the next one
 abbrev pub IsLateIn : ℕ → List ℕ → Type 0

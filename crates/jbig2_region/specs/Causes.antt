@@ -1,6 +1,6 @@
 -- Which rule the bytes break where a header or a region is refused (docs/FORMAT.md), a line for each error. A
 -- predicate `Breaks..` takes the bytes, or a header, and an error; its law ties the definition's errors to it.
-use Rattle.std.specs.Prelude.{◌≡◌, ◌<◌, ◌≤◌, ◌⊎◌, ℕ, ◌+◌, ◌-◌, ◌*◌, ◌/◌, ◌%◌, ◌^◌, ◌==◌, Bool, true, if◌then◌else◌, List, length, IfErr, ℤ, pos, negsuc}
+use Rattle.std.specs.Prelude.{◌≡◌, ◌<◌, ◌≤◌, ◌⊎◌, ℕ, ◌+◌, ◌-◌, ◌*◌, ◌/◌, ◌%◌, ◌^◌, ◌==◌, Bool, true, if◌then◌else◌, List, length, IfErr, ℤ, pos, ◌<ℤ◌, ◌≤ℤ◌}
 use Rattle.std.specs.Int.{w8, w32, cast_signed}
 use Rattle.jbig2_base.specs.Causes.{number_in}
 use Rattle.jbig2_base.specs.declared.error.DecodeError.{DecodeError}
@@ -34,9 +34,7 @@ RegionInfosHaveCauses = (bytes : List ℕ) → IfErr (region_info_at bytes) (Bre
 -- ---- adaptive pixels (7.4.6.3)
 -- so many columns to the right and rows down: at the pixel that is decoded, or behind it
 abbrev pub IsLate : ℤ → ℤ → Type 0
-IsLate (pos columns) (pos rows) = Unit {0}
-IsLate (negsuc columns) (pos rows) = 0 < rows
-IsLate columns (negsuc rows) = ⊥
+IsLate columns rows = (pos 0 <ℤ rows) ⊎ ((rows ≡ pos 0) × (pos 0 ≤ℤ columns))
 
 -- so many pixels from this byte on, two bytes each in two's complement
 abbrev pub BreaksPixels : ℕ → ℕ → List ℕ → DecodeError → Type 0
