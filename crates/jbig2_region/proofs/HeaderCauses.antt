@@ -12,7 +12,7 @@ use Rattle.jbig2_base.specs.declared.error.DecodeError.TheVariants as errors
 use Rattle.jbig2_base.specs.declared.error.OverflowError.TheVariants.{BitmapDimension, ReferenceOffset}
 use Rattle.jbig2_base.specs.declared.error.RegionError.TheVariants.{InvalidDimension}
 use Rattle.jbig2_base.proofs.Causes.{cause-next, cause-number, cause-refused, number-there, same-ok, went}
-use Rattle.jbig2_region.specs.Causes.{BreaksGeneric, BreaksGenericHeader, BreaksOffset, BreaksRefinementHeader, GenericHeadersHaveCauses, GenericRegionsHaveCauses, OffsetsHaveCauses, RefinedRegionsHaveCauses, RefinementHeadersHaveCauses, header_length, pixels_by}
+use Rattle.jbig2_region.specs.Causes.{BreaksGeneric, BreaksGenericHeader, BreaksOffset, BreaksRefinementHeader, GenericHeadersHaveCauses, GenericRegionsHaveCauses, OffsetsHaveCauses, RefinedRegionsHaveCauses, RefinementHeadersHaveCauses, pixels_in}
 use Rattle.jbig2_base.specs.Grid.{Grid}
 use Rattle.jbig2_mmr.specs.T6.{mmr_rows}
 use Rattle.jbig2_mmr.proofs.Causes.{cause-mmr}
@@ -54,6 +54,9 @@ rows-value true height k bytes rest rows at stated is =
 four : (b : Bool) (n m : ℕ) → b ≡ true → n < m + 4 → n < m + cond b 4 0
 four b n m is below = let all : ◌≡◌ {A = ℕ} (cond b 4 0) 4 = cond-true b 4 0 is in omega (arith, all)
 
+abbrev pixels_by : ℕ → ℕ
+pixels_by flags = adaptive_pixel_count (eqb (flags % 2) 1) (eqb (flags / 16 % 2) 1) (template_of (flags / 2 % 4))
+
 pub generic_header_causes : GenericHeadersHaveCauses
 unfolding generic_header_at
 generic_header_causes unknown strict bytes =
@@ -62,7 +65,7 @@ generic_header_causes unknown strict bytes =
     let sides = info-there bytes info info_is in
     cause-next P (number_at w8 info.1) _ (cause-number P w8 info.1 (λ short. omega (arith, sides.0.size))) (λ flags flags_is.
     let at = at-next w8 17 bytes info.1 flags sides.0 flags_is in
-    let same : pixels_by (number_in w8 17 bytes) ≡ pixels_by flags.0 = ap (λ (n : ℕ). pixels_by n) (value-next w8 17 bytes info.1 flags sides.0 flags_is) in
+    let same : pixels_in bytes ≡ pixels_by flags.0 = ap (λ (n : ℕ). pixels_by n) (value-next w8 17 bytes info.1 flags sides.0 flags_is) in
     let mmr = eqb (flags.0 % 2) 1 in
     let extended = eqb (flags.0 / 16 % 2) 1 in
     let count = adaptive_pixel_count mmr extended (template_of (flags.0 / 2 % 4)) in
@@ -71,7 +74,7 @@ generic_header_causes unknown strict bytes =
     let there = pixels-there count 18 bytes flags.1 pixels at pixels_is in
     cause-next P (rows_at unknown info.0.height pixels.1) _
     (rows-cause P unknown info.0.height pixels.1
-    (λ is short. four unknown (length bytes) (header_length bytes) is (omega (arith, same, there.size)))
+    (λ is short. four unknown (length bytes) (18 + 2 * pixels_in bytes) is (omega (arith, same, there.size)))
     (λ is whole more. (
       is,
       omega (arith, same, there.size, whole),

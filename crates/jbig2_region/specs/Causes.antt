@@ -60,26 +60,24 @@ abbrev pub RowsHaveCauses : Type 0
 RowsHaveCauses =
     (unknown : Bool) (height : ℕ) (bytes : List ℕ) → IfErr (rows_at unknown height bytes) (BreaksRows unknown height bytes)
 
--- how many adaptive pixels these flags ask for
-abbrev pub pixels_by : ℕ → ℕ
-pixels_by flags = adaptive_pixel_count (flags % 2 == 1) (flags / 16 % 2 == 1) (template_of (flags / 2 % 4))
-
--- region information, the flags at byte 17, and the adaptive pixels from byte 18 on
-abbrev pub header_length : List ℕ → ℕ
-header_length bytes = 18 + 2 * pixels_by (number_in w8 17 bytes)
+-- how many adaptive pixels the flags at byte 17 ask for; they stand from byte 18 on
+abbrev pub pixels_in : List ℕ → ℕ
+pixels_in bytes =
+    let flags = number_in w8 17 bytes in
+    adaptive_pixel_count (flags % 2 == 1) (flags / 16 % 2 == 1) (template_of (flags / 2 % 4))
 
 -- the width stands at byte 0, the height at byte 4
 abbrev pub BreaksGenericHeader : Bool → List ℕ → DecodeError → Type 0
 BreaksGenericHeader unknown bytes (errors.Parse UnexpectedEof) =
-    length bytes < header_length bytes + (if unknown then 4 else 0)
+    length bytes < 18 + 2 * pixels_in bytes + (if unknown then 4 else 0)
 BreaksGenericHeader unknown bytes (errors.Region InvalidDimension) =
-    (unknown ≡ true) × (header_length bytes + 4 ≤ length bytes)
+    (unknown ≡ true) × (18 + 2 * pixels_in bytes + 4 ≤ length bytes)
     × (number_in w32 4 bytes < number_in w32 (length bytes - 4) bytes)
 BreaksGenericHeader unknown bytes (errors.Overflow BitmapDimension) =
-    (header_length bytes ≤ length bytes)
+    (18 + 2 * pixels_in bytes ≤ length bytes)
     × ((65535 < number_in w32 0 bytes) ⊎ (65535 < number_in w32 (if unknown then length bytes - 4 else 4) bytes))
 BreaksGenericHeader unknown bytes (errors.Template InvalidAtPixel) =
-    BreaksPixels (pixels_by (number_in w8 17 bytes)) 18 bytes (errors.Template InvalidAtPixel)
+    BreaksPixels (pixels_in bytes) 18 bytes (errors.Template InvalidAtPixel)
 BreaksGenericHeader unknown bytes e = BreaksRegionInfo bytes e
 
 abbrev pub GenericHeadersHaveCauses : Type 0
