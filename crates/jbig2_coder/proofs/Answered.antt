@@ -6,8 +6,9 @@ use Rattle.jbig2_base.specs.Bits.{Place, bits_left, bits_next, bits_on}
 use Rattle.jbig2_base.specs.declared.error.DecodeError.{DecodeError}
 use Rattle.jbig2_base.proofs.Answered.{Answered, IsAnswered, answered-if, answered-some}
 use Rattle.jbig2_base.proofs.Causes.{cause-next}
-use Rattle.jbig2_coder.specs.CustomTable.{Step, answer_of, custom_header, custom_line, custom_lines, custom_table, end_lines, field, last_line, left_at, next_low, range_lines, range_lines_in}
-use Rattle.jbig2_coder.specs.PrefixCode.{CodeReading, Member, decoded_value, found_or, in_word, no_oob, read_code, refused, some_value, table_of, value_after, value_by, valued}
+use Rattle.jbig2_coder.specs.CustomTable.{Step, answer_of, custom_header, custom_line, custom_lines, custom_table, end_lines, field, left_at, next_low, range_lines, range_lines_in}
+use Rattle.jbig2_coder.specs.inner.CodeParts.{last_line, found_or, refused, some_value, value_after, valued}
+use Rattle.jbig2_coder.specs.PrefixCode.{CodeReading, Member, decoded_value, in_word, no_oob, read_code, table_of, value_by}
 use Rattle.jbig2_coder.specs.TableSelection.{next_custom}
 use Rattle.jbig2_coder.specs.declared.huffman_table.custom.Header.{Header}
 use Rattle.jbig2_coder.specs.declared.huffman_table.line.TableLine.{TableLine}

@@ -2,7 +2,8 @@
 use Rattle.std.proofs.Common.{◌≡◌, ℕ, zero, suc, ◌+◌, Bool, true, false, cond, eqb, List, [], ◌∷◌, ◌++◌, length, refl, ◌∙◌, ap, arith, length-append}
 use Rattle.std.proofs.lemmas.List.Elements.{filter-append}
 use Rattle.jbig2_coder.specs.declared.huffman_table.line.TableLine.{TableLine}
-use Rattle.jbig2_coder.specs.PrefixCode.{Member, shorter, level, code_of, members_of, members_from}
+use Rattle.jbig2_coder.specs.PrefixCode.{Member, shorter, level, members_of, members_from}
+use Rattle.jbig2_coder.specs.inner.CodeParts.{code_of}
 use Rattle.jbig2_coder.specs.inner.PrefixLevels.{numbered, codes_from}
 
 -- one line more is as long, or not

@@ -35,10 +35,8 @@ abbrev pub prev_of : List Bool → ℕ
 prev_of bits = value_of_bits (true ∷ drop (length bits - 8) bits)
 
 -- A row of Table A.1: the decisions that name it, how many bits the value has, and the least number of its range.
-pub record Range : Type 0 where
-  pub prefix : List Bool
-  pub bits : ℕ
-  pub offset : ℕ
+abbrev pub Range : Type 0
+Range = record { prefix : List Bool; bits : ℕ; offset : ℕ }
 
 abbrev pub range : List Bool → ℕ → ℕ → Range
 range prefix bits offset = record { prefix = prefix; bits = bits; offset = offset }
@@ -50,8 +48,7 @@ ranges =
     ∷ range (true ∷ true ∷ false ∷ []) 6 20
     ∷ range (true ∷ true ∷ true ∷ false ∷ []) 8 84
     ∷ range (true ∷ true ∷ true ∷ true ∷ false ∷ []) 12 340
-    ∷ range (true ∷ true ∷ true ∷ true ∷ true ∷ []) 32 4436
-    ∷ []
+    ∷ range (true ∷ true ∷ true ∷ true ∷ true ∷ []) 32 4436 ∷ []
 
 -- whether the next decisions are these
 unfoldable pub are_next : List Bool → List ℕ → Reading → Bool
@@ -74,9 +71,8 @@ value_of negative sum =
     if negative then (if sum == 0 then None else Some (signed (2 ^ 32 - sum))) else Some (signed sum)
 
 -- An integer (A.2): a sign, a prefix and a value.
-pub record Integer : Type 0 where
-  pub value : Option ℤ
-  pub reading : Reading
+abbrev pub Integer : Type 0
+Integer = record { value : Option ℤ; reading : Reading }
 
 unfoldable pub integer : List ℕ → Registers → List Context → Integer
 integer bytes registers contexts =
@@ -88,11 +84,7 @@ integer bytes registers contexts =
     let sum = (value_of_bits (drop (length before.bits) after.bits) + row.offset) % 2 ^ 32 in
     record { value = value_of (next prev_of bytes start).symbol sum; reading = after }
 
--- A symbol id (A.3): as many bits as the code length says, each in the context that the bits so far
--- spell behind a 1.
-abbrev pub place_of : List Bool → ℕ
-place_of bits = value_of_bits (true ∷ bits)
-
+-- A symbol id (A.3): as many bits as the code length says, each in the context that the bits so far spell behind a 1.
 pub record Ids : Type 0 where
   pub code_len : ℕ
   pub contexts : List Context
@@ -100,4 +92,4 @@ pub record Ids : Type 0 where
 unfoldable pub id : List ℕ → Registers → Ids → Reading
 id bytes registers ids =
     let start : Reading = record { bits = []; registers = registers; contexts = ids.contexts } in
-    read_more place_of ids.code_len bytes start
+    read_more (λ bits. value_of_bits (true ∷ bits)) ids.code_len bytes start

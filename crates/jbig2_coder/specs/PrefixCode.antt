@@ -1,17 +1,17 @@
 -- Prefix codes (T.88, B.3 and B.4): the codes that prefix lengths make, and how bits are read by them. `prefix_code`
 -- takes lines and gives their codes; `decoded_value` takes these and bits, and gives a value or an error and how many
 -- bits are taken.
-use Rattle.std.specs.Prelude.{◌≡◌, AllPairs, ℕ, zero, suc, ◌+◌, ◌-◌, ◌/◌, ◌^◌, ◌≤◌, nat_lt, nat_le, ◌==◌, Bool, true, false, not, ◌&&◌, ◌||◌, List, [], ◌∷◌, ◌++◌, length, take, drop, max, filter, All, Option, Some, None, Result, Ok, Err, if◌then◌else◌, ℤ, pos, negsuc, ◌+ℤ◌, ◌-ℤ◌}
+use Rattle.std.specs.Prelude.{◌≡◌, AllPairs, ℕ, zero, suc, ◌+◌, ◌-◌, ◌/◌, ◌^◌, ◌≤◌, nat_lt, nat_le, ◌==◌, Bool, true, false, not, ◌&&◌, ◌||◌, List, [], ◌∷◌, ◌++◌, length, take, drop, max, filter, All, Option, Some, None, is_some, Result, Ok, Err, if◌then◌else◌, ℤ, pos, negsuc, ◌+ℤ◌, ◌-ℤ◌}
 use Rattle.jbig2_base.specs.Bits.{Place, bits_left, bits_next, bits_on, number_after}
 use Rattle.jbig2_base.specs.Search.{place_from}
+use Rattle.jbig2_base.specs.Answer.{◌>>=◌}
 use Rattle.jbig2_base.specs.declared.error.DecodeError.{DecodeError}
 use Rattle.jbig2_base.specs.declared.error.DecodeError.TheVariants.{Parse, Huffman}
 use Rattle.jbig2_base.specs.declared.error.ParseError.TheVariants.{UnexpectedEof}
 use Rattle.jbig2_base.specs.declared.error.HuffmanError.TheVariants.{InvalidCode, UnexpectedOob}
 use Rattle.jbig2_coder.specs.declared.huffman_table.line.TableLine.{TableLine}
 
--- A code and the line that it stands for. A code is the number that its bits spell, high bit first,
--- and how many bits it has.
+-- A code, which is the number that its bits spell, high bit first, and how many it has, and the line that it stands for.
 pub record Member : Type 0 where
   pub bits : ℕ
   pub number : ℕ
@@ -51,17 +51,14 @@ unfoldable pub shorter : ℕ → List TableLine → ℕ
 shorter l [] = 0
 shorter l (x ∷ xs) = (if nat_lt x.prefix_length l then share l x.prefix_length else 0) + shorter l xs
 
--- The code of a line of l bits (B.3): the sum of 2^(l - len) over the lines that are shorter, or as long
--- and earlier. Each of those that are as long adds 1.
-abbrev pub code_of : ℕ → List TableLine → List TableLine → ℕ
-code_of l lines earlier = shorter l lines + length (level l earlier)
-
--- the members of l bits, of all lines, where `earlier` stand before the others
+-- The members of l bits, of all lines, where `earlier` stand before the others. A code (B.3) is the sum of 2^(l - len)
+-- over the lines that are shorter, or as long and earlier. Each of those that are as long adds 1.
 abbrev pub members_of : ℕ → List TableLine → List TableLine → List TableLine → List Member
 members_of l lines earlier [] = []
 members_of l lines earlier (x ∷ xs) =
     let others = members_of l lines (earlier ++ x ∷ []) xs in
-    if x.prefix_length == l then record { bits = l; number = code_of l lines earlier; line = x } ∷ others else others
+    let code = shorter l lines + length (level l earlier) in
+    if x.prefix_length == l then record { bits = l; number = code; line = x } ∷ others else others
 
 -- the members of n lengths from l on
 abbrev pub members_from : ℕ → ℕ → List TableLine → List Member
@@ -90,36 +87,20 @@ abbrev pub begins_longer : List Member → ℕ → ℕ → Bool
 begins_longer [] k v = false
 begins_longer (m ∷ ms) k v = (nat_lt k m.bits && (m.number / 2 ^ (m.bits - k) == v)) || begins_longer ms k v
 
-abbrev pub ended : {A : Type 0} → ℕ → CodeReading A
-ended k = record { answer = Err (Parse UnexpectedEof); taken = k }
-
-abbrev pub refused : {A : Type 0} → ℕ → CodeReading A
-refused k = record { answer = Err (Huffman InvalidCode); taken = k }
-
--- the line that was found, or what stands in its place
-abbrev pub found_or : Option TableLine → ℕ → CodeReading TableLine → CodeReading TableLine
-found_or (Some line) k other = record { answer = Ok line; taken = k }
-found_or None k other = other
-
 -- the number that the first k bits spell
 abbrev pub front_number : ℕ → List ℕ → ℕ
 front_number k bits = number_after 0 (take k bits)
 
-abbrev pub is_found : Option TableLine → Bool
-is_found (Some line) = true
-is_found None = false
-
--- whether the first k bits are a code, or begin none
-abbrev pub is_decided : List Member → List ℕ → ℕ → Bool
-is_decided ms bits k = is_found (line_of ms k (front_number k bits)) || not (begins_longer ms k (front_number k bits))
-
--- what the first k bits give, where no fewer are enough
-abbrev pub read_of : List Member → List ℕ → ℕ → CodeReading TableLine
-read_of ms bits k = if nat_lt (length bits) k then ended k else found_or (line_of ms k (front_number k bits)) k (refused k)
-
--- The line of the code that begins the bits; else the shortest beginning that begins no code is refused.
+-- The line of the code that begins the bits; else the shortest beginning that begins no code is refused (B.4).
 unfoldable pub read_code : List Member → List ℕ → CodeReading TableLine
-read_code ms bits = read_of ms bits (place_from (is_decided ms bits) 1 (length bits + 1))
+read_code ms bits =
+    let found : ℕ → Option TableLine = λ k. line_of ms k (front_number k bits) in
+    let is_decided : ℕ → Bool = λ k. is_some (found k) || not (begins_longer ms k (front_number k bits)) in
+    let k = place_from is_decided 1 (length bits + 1) in
+    if nat_lt (length bits) k then record { answer = Err (Parse UnexpectedEof); taken = k } else elim (found k) [
+      | Some line ↦ record { answer = Ok line; taken = k }
+      | None ↦ record { answer = Err (Huffman InvalidCode); taken = k }
+    ]
 
 -- a number in signed 32 bits
 abbrev pub in_word : ℤ → Result ℤ DecodeError
@@ -130,34 +111,21 @@ in_word (negsuc n) = if nat_lt n 2147483648 then Ok (negsuc n) else Err (Huffman
 abbrev pub moved : TableLine → ℕ → ℤ
 moved line offset = if line.is_lower then line.range_low -ℤ pos offset else line.range_low +ℤ pos offset
 
-abbrev pub some_value : Result ℤ DecodeError → Result (Option ℤ) DecodeError
-some_value (Ok n) = Ok (Some n)
-some_value (Err e) = Err e
-
+-- the value of a line, by the number of the range bits behind its code
 abbrev pub value_by : TableLine → Option ℕ → Result (Option ℤ) DecodeError
 value_by line None = Err (Huffman InvalidCode)
-value_by line (Some offset) = some_value (in_word (moved line offset))
+value_by line (Some offset) = in_word (moved line offset) >>= λ n. Ok (Some n)
 
--- the value of a line, by the range bits behind its code; None is out of band
-abbrev pub value_after : TableLine → List ℕ → Result (Option ℤ) DecodeError
-value_after line bits =
-    if line.is_out_of_band then Ok None else value_by line (bits_next line.range_length bits)
-
--- how many bits that takes
-abbrev pub range_bits : TableLine → ℕ
-range_bits line = if line.is_out_of_band then 0 else line.range_length
-
--- what a code's line gives, k bits being taken
-abbrev pub valued : CodeReading TableLine → List ℕ → CodeReading (Option ℤ)
-valued reading bits =
-    elim reading.answer [
-      | Ok line ↦ record { answer = value_after line (drop reading.taken bits); taken = reading.taken + range_bits line }
-      | Err e ↦ record { answer = Err e; taken = reading.taken }
-    ]
-
--- A value read by a table (B.4).
+-- A value read by a table (B.4): a code, and behind it the range bits of its line. None is out of band, which has none.
 unfoldable pub decoded_value : List Member → List ℕ → CodeReading (Option ℤ)
-decoded_value ms bits = valued (read_code ms bits) bits
+decoded_value ms bits =
+    let code = read_code ms bits in
+    elim code.answer [
+      | Ok line ↦ let value = value_by line (bits_next line.range_length (drop code.taken bits)) in
+          let behind = if line.is_out_of_band then 0 else line.range_length in
+          record { answer = (if line.is_out_of_band then Ok None else value); taken = code.taken + behind }
+      | Err e ↦ record { answer = Err e; taken = code.taken }
+    ]
 
 -- a value where none may be out of band
 abbrev pub no_oob : Result (Option ℤ) DecodeError → Result ℤ DecodeError

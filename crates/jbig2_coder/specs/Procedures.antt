@@ -29,10 +29,8 @@ abbrev pub fresh_procedures : Procedures
 fresh_procedures = replicate 13 (replicate 512 fresh)
 
 -- What a procedure answers, and the coder and the contexts behind it.
-pub record Asked : Type 0 where
-  pub value : Option ℤ
-  pub coder : Coder
-  pub procedures : Procedures
+abbrev pub Asked : Type 0
+Asked = record { value : Option ℤ; coder : Coder; procedures : Procedures }
 
 abbrev pub asked_integer : IntegerProcedure → Coder → Procedures → Integer
 asked_integer procedure c procedures = integer c.bytes c.registers (slice_index_or procedures (index_of procedure) [])

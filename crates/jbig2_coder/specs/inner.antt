@@ -1,4 +1,5 @@
 pub mod Ahead
+pub mod CodeParts
 pub mod EncoderViews
 pub mod FirstCodes
 pub mod Floor
