@@ -24,8 +24,10 @@ refused k = record { answer = Err (Huffman InvalidCode); taken = k }
 
 -- the line that was found, or what stands in its place
 abbrev pub found_or : Option TableLine → ℕ → CodeReading TableLine → CodeReading TableLine
-found_or (Some line) k other = record { answer = Ok line; taken = k }
-found_or None k other = other
+found_or line k other = elim line [
+  | Some found ↦ record { answer = Ok found; taken = k }
+  | None ↦ other
+]
 
 -- whether the first k bits are a code, or begin none
 abbrev pub is_decided : List Member → List ℕ → ℕ → Bool
