@@ -48,16 +48,12 @@ abbrev pub LeavesWord : ℤ → Type 0
 LeavesWord (pos n) = 2 ^ 31 ≤ n
 LeavesWord (negsuc n) = 2 ^ 31 ≤ n
 
--- a line with range bits, which the bits behind its code do not hold, or which lead out of signed 32 bits
-abbrev pub BreaksRange : TableLine → List ℕ → Type 0
-BreaksRange line bits =
-    (line.is_out_of_band ≡ false)
-    × ((length bits < line.range_length) ⊎ LeavesWord (moved line (front_number line.range_length bits)))
-
--- A value: its code, or behind it the range bits of the code's line.
+-- A value: its code, or behind it the range bits of the code's line are not there, or lead out of signed 32 bits.
 abbrev pub BreaksValue : List Member → List ℕ → DecodeError → Type 0
 BreaksValue ms bits (Parse UnexpectedEof) = BreaksCode ms bits (Parse UnexpectedEof)
 BreaksValue ms bits (Huffman InvalidCode) =
+    let BreaksRange : TableLine → List ℕ → Type 0 = λ line behind. (line.is_out_of_band ≡ false)
+    × ((length behind < line.range_length) ⊎ LeavesWord (moved line (front_number line.range_length behind))) in
     BreaksCode ms bits (Huffman InvalidCode) ⊎ Any (λ m. Begins bits m × BreaksRange m.line (drop m.bits bits)) ms
 BreaksValue ms bits _ = ⊥
 

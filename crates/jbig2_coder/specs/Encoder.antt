@@ -5,15 +5,12 @@ use Rattle.jbig2_coder.specs.Table.{row_of}
 use Rattle.jbig2_coder.specs.Coder.{Context, likely_next, unlikely_next}
 
 -- What is written: the code register C, the shifts before the next byte goes out (CT), and the bytes out, last first.
-pub record Writer : Type 0 where
-  pub register : ℕ
-  pub wait : ℕ
-  pub out : List ℕ
+abbrev pub Writer : Type 0
+Writer = record { register : ℕ; wait : ℕ; out : List ℕ }
 
 -- The interval register A beside it.
-pub record Coding : Type 0 where
-  pub range : ℕ
-  pub writer : Writer
+abbrev pub Coding : Type 0
+Coding = record { range : ℕ; writer : Writer }
 
 -- INITENC (E.2.8)
 unfoldable pub opened : Coding

@@ -10,10 +10,8 @@ value_of_bits [] = 0
 value_of_bits (b ∷ bits) = bit_number b * 2 ^ length bits + value_of_bits bits
 
 -- What has been read so far, and the registers and the contexts after it.
-pub record Reading : Type 0 where
-  pub bits : List Bool
-  pub registers : Registers
-  pub contexts : List Context
+abbrev pub Reading : Type 0
+Reading = record { bits : List Bool; registers : Registers; contexts : List Context }
 
 -- the decision that comes next; `name` gives the number of its context from the bits so far
 unfoldable pub next : (List Bool → ℕ) → List ℕ → Reading → Decision
@@ -67,8 +65,7 @@ signed n = if nat_lt n (2 ^ 31) then pos n else pos n -ℤ pos (2 ^ 32)
 
 -- the value, or out of band
 unfoldable pub value_of : Bool → ℕ → Option ℤ
-value_of negative sum =
-    if negative then (if sum == 0 then None else Some (signed (2 ^ 32 - sum))) else Some (signed sum)
+value_of negative sum = if negative then (if sum == 0 then None else Some (signed (2 ^ 32 - sum))) else Some (signed sum)
 
 -- An integer (A.2): a sign, a prefix and a value.
 abbrev pub Integer : Type 0
@@ -85,9 +82,8 @@ integer bytes registers contexts =
     record { value = value_of (next prev_of bytes start).symbol sum; reading = after }
 
 -- A symbol id (A.3): as many bits as the code length says, each in the context that the bits so far spell behind a 1.
-pub record Ids : Type 0 where
-  pub code_len : ℕ
-  pub contexts : List Context
+abbrev pub Ids : Type 0
+Ids = record { code_len : ℕ; contexts : List Context }
 
 unfoldable pub id : List ℕ → Registers → Ids → Reading
 id bytes registers ids =

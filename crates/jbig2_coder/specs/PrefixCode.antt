@@ -51,23 +51,19 @@ unfoldable pub shorter : ℕ → List TableLine → ℕ
 shorter l [] = 0
 shorter l (x ∷ xs) = (if nat_lt x.prefix_length l then share l x.prefix_length else 0) + shorter l xs
 
--- The members of l bits, of all lines, where `earlier` stand before the others. A code (B.3) is the sum of 2^(l - len)
--- over the lines that are shorter, or as long and earlier. Each of those that are as long adds 1.
-abbrev pub members_of : ℕ → List TableLine → List TableLine → List TableLine → List Member
-members_of l lines earlier [] = []
-members_of l lines earlier (x ∷ xs) =
-    let others = members_of l lines (earlier ++ x ∷ []) xs in
-    let code = shorter l lines + length (level l earlier) in
-    if x.prefix_length == l then record { bits = l; number = code; line = x } ∷ others else others
+-- these lines with the numbers n, n + 1 and so on as codes of l bits
+abbrev pub numbered : ℕ → ℕ → List TableLine → List Member
+numbered l n [] = []
+numbered l n (x ∷ xs) = record { bits = l; number = n; line = x } ∷ numbered l (n + 1) xs
 
--- the members of n lengths from l on
-abbrev pub members_from : ℕ → ℕ → List TableLine → List Member
-members_from zero l lines = []
-members_from (suc n) l lines = members_of l lines [] lines ++ members_from n (l + 1) lines
+-- The codes of n lengths from l on (B.3). In each length the first is the sum of 2^(l - len) over the shorter lines.
+abbrev pub codes_from : ℕ → ℕ → List TableLine → List Member
+codes_from zero l lines = []
+codes_from (suc n) l lines = numbered l (shorter l lines) (level l lines) ++ codes_from n (l + 1) lines
 
 -- the code that the prefix lengths of these lines make, by length, then by place
 unfoldable pub prefix_code : List TableLine → List Member
-prefix_code lines = members_from (longest lines) 1 lines
+prefix_code lines = codes_from (longest lines) 1 lines
 
 -- whether the sum of 2^-len over the lines that have a code exceeds 1
 unfoldable pub is_crowded : List TableLine → Bool

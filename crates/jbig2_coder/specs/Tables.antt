@@ -103,10 +103,8 @@ abbrev pub uniform : ℕ → ℕ → List TableLine
 uniform zero length = []
 uniform (suc n) length = uniform n length ++ line length 0 (pos n) ∷ []
 
--- B.1 to B.15
-unfoldable pub standard_tables : List (List TableLine)
-standard_tables =
-    lines_a ∷ lines_b ∷ lines_c ∷ lines_d ∷ lines_e ∷ lines_f ∷ lines_g ∷ lines_h ∷ lines_i ∷ lines_j ∷
+unfoldable pub standard_tables : List (List TableLine)  -- B.1 to B.15
+standard_tables = lines_a ∷ lines_b ∷ lines_c ∷ lines_d ∷ lines_e ∷ lines_f ∷ lines_g ∷ lines_h ∷ lines_i ∷ lines_j ∷
     lines_k ∷ lines_l ∷ lines_m ∷ lines_n ∷ lines_o ∷ []
 
 unfoldable pub standard_codes : List (List Member)
