@@ -1,6 +1,5 @@
--- Which rule the bits break where a read by a prefix code refuses them (docs/FORMAT.md), a line for each error. A
--- predicate `Breaks..` takes a table and the bits, or the lines that make a table, and an error; its law ties the
--- definition's errors to it.
+-- Which rule the bits break where a read by a prefix code refuses them (docs/FORMAT.md), a line for each error. `Breaks..`
+-- takes a table and the bits, or the lines that make a table, and an error; its law ties the definition's errors to it.
 use Rattle.std.specs.Prelude.{◌≡◌, ◌<◌, ◌≤◌, ◌⊎◌, ℕ, zero, suc, ◌+◌, ◌-◌, ◌*◌, ◌/◌, ◌^◌, true, false, if◌then◌else◌, List, [], length, drop, All, Any, Ok, IfErr, ℤ, pos, negsuc, ◌+ℤ◌, int_lt}
 use Rattle.jbig2_base.specs.Bits.{Place, bits_left, bits_on, number_after}
 use Rattle.jbig2_base.specs.declared.error.DecodeError.{DecodeError}
@@ -13,8 +12,7 @@ use Rattle.jbig2_coder.specs.TableSelection.{next_custom}
 use Rattle.jbig2_coder.specs.declared.huffman_table.custom.Header.{Header}
 use Rattle.jbig2_coder.specs.declared.huffman_table.line.TableLine.{TableLine}
 
--- The sum of 2^-len over the lines that have a code exceeds 1 (B.3): more numbers of the greatest length lie under the
--- codes than there are.
+-- The sum of 2^-len over the codes exceeds 1 (B.3): of the greatest length more numbers lie under them than there are.
 abbrev pub AreCrowded : List TableLine → Type 0
 AreCrowded lines = 2 ^ longest lines < weight (longest lines) lines
 
@@ -35,8 +33,7 @@ EndWithin bits m = (length bits < m.bits) × (m.number / 2 ^ (m.bits - length bi
 
 -- Where no code begins the bits, they end within one, or there are none; else they agree with no code.
 abbrev pub BreaksCode : List Member → List ℕ → DecodeError → Type 0
-BreaksCode ms bits (Parse UnexpectedEof) =
-    All (λ m. Begins bits m → ⊥) ms × ((length bits ≡ 0) ⊎ Any (EndWithin bits) ms)
+BreaksCode ms bits (Parse UnexpectedEof) = All (λ m. Begins bits m → ⊥) ms × ((length bits ≡ 0) ⊎ Any (EndWithin bits) ms)
 BreaksCode ms bits (Huffman InvalidCode) = All (λ m. Begins bits m → ⊥) ms × All (λ m. EndWithin bits m → ⊥) ms
 BreaksCode ms bits _ = ⊥
 

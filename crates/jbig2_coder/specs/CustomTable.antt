@@ -62,8 +62,7 @@ custom_line h low p = do
 abbrev pub behind : List TableLine → Step (List TableLine) → Step (List TableLine)
 behind before s = s >>= λ lines. Ok (before ++ lines.0, lines.1)
 
--- The lines while the low value is below the maximum. Each takes two bits at least, so no more of them come than bits
--- are left.
+-- The lines while the low value is below the maximum. Each takes two bits at least: no more come than bits are left.
 abbrev pub range_lines_in : ℕ → Header → ℤ → Place → Step (List TableLine)
 range_lines_in zero h low p = Ok ([], p)
 range_lines_in (suc n) h low p =

@@ -23,8 +23,7 @@ plain c out = record { register = c % 2 ^ 19; wait = 8; out = (c / 2 ^ 19 % 256)
 unfoldable pub stuffed : ℕ → List ℕ → Writer
 stuffed c out = record { register = c % 2 ^ 20; wait = 7; out = (c / 2 ^ 20) ∷ out }
 
--- BYTEOUT (E.2.7): a carry goes into the last byte, but not into a byte FF, behind which a stuffed bit takes it up;
--- before the first byte there is none
+-- BYTEOUT (E.2.7): a carry goes into the last byte, but not into FF, behind which a stuffed bit takes it up
 unfoldable pub byte_out : ℕ → List ℕ → Writer
 byte_out c [] = plain c []
 byte_out c (last ∷ out) =
@@ -73,11 +72,8 @@ narrowed context decision a c =
     if (if context.likely then decision else not decision) then narrowed_likely context a c
     else narrowed_unlikely context a c
 
--- An encoder once a decision is coded, and the decision's context.
-abbrev pub Encoding : Type 0
-Encoding = record { coding : Coding; context : Context }
-
-unfoldable pub encoding : Context → Bool → Coding → Encoding
+-- an encoder once a decision is coded, and the decision's context
+unfoldable pub encoding : Context → Bool → Coding → record { coding : Coding; context : Context }
 encoding context decision s =
     let next = narrowed context decision s.range s.writer.register in
     let writer : Writer = record s.writer { register = next.register } in

@@ -68,10 +68,7 @@ unfoldable pub value_of : Bool → ℕ → Option ℤ
 value_of negative sum = if negative then (if sum == 0 then None else Some (signed (2 ^ 32 - sum))) else Some (signed sum)
 
 -- An integer (A.2): a sign, a prefix and a value.
-abbrev pub Integer : Type 0
-Integer = record { value : Option ℤ; reading : Reading }
-
-unfoldable pub integer : List ℕ → Registers → List Context → Integer
+unfoldable pub integer : List ℕ → Registers → List Context → record { value : Option ℤ; reading : Reading }
 integer bytes registers contexts =
     let start : Reading = record { bits = []; registers = registers; contexts = contexts } in
     let signed = read prev_of bytes start in

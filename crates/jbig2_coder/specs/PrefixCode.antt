@@ -1,6 +1,5 @@
--- Prefix codes (T.88, B.3 and B.4): the codes that prefix lengths make, and how bits are read by them. `prefix_code`
--- takes lines and gives their codes; `decoded_value` takes these and bits, and gives a value or an error and how many
--- bits are taken.
+-- Prefix codes (T.88, B.3 and B.4). `prefix_code` takes lines and gives the codes that their prefix lengths make;
+-- `decoded_value` takes these and bits, and gives a value or an error and how many bits are taken.
 use Rattle.std.specs.Prelude.{◌≡◌, AllPairs, ℕ, zero, suc, ◌+◌, ◌-◌, ◌/◌, ◌^◌, ◌≤◌, nat_lt, nat_le, ◌==◌, Bool, false, not, ◌&&◌, ◌||◌, List, [], ◌∷◌, ◌++◌, length, take, drop, max, filter, All, Option, Some, None, is_some, Result, Ok, Err, if◌then◌else◌, ℤ, pos, negsuc, ◌+ℤ◌, ◌-ℤ◌}
 use Rattle.jbig2_base.specs.Bits.{Place, bits_left, bits_next, bits_on, number_after}
 use Rattle.jbig2_base.specs.Search.{place_from}

@@ -2,7 +2,7 @@
 -- coder for their integers, and each procedure has contexts of its own, which go on from integer to integer (A.2).
 use Rattle.std.specs.Prelude.{ℕ, List, [], replicate, slice_index_or, slice_set, Option, ℤ}
 use Rattle.jbig2_coder.specs.Coder.{Coder, Context, fresh}
-use Rattle.jbig2_coder.specs.Integers.{Integer, integer}
+use Rattle.jbig2_coder.specs.Integers.{Reading, integer}
 use Rattle.jbig2_coder.specs.declared.integer_procedures.IntegerProcedure.{IntegerProcedure}
 use Rattle.jbig2_coder.specs.declared.integer_procedures.IntegerProcedure.TheVariants.{Iaai, Iadh, Iads, Iadt, Iadw, Iaex, Iafs, Iait, Iardh, Iardw, Iardx, Iardy, Iari}
 
@@ -28,15 +28,12 @@ Procedures = List (List Context)
 abbrev pub fresh_procedures : Procedures
 fresh_procedures = replicate 13 (replicate 512 fresh)
 
--- What a procedure answers, and the coder and the contexts behind it.
-abbrev pub Asked : Type 0
-Asked = record { value : Option ℤ; coder : Coder; procedures : Procedures }
-
-abbrev pub asked_integer : IntegerProcedure → Coder → Procedures → Integer
+abbrev pub asked_integer : IntegerProcedure → Coder → Procedures → record { value : Option ℤ; reading : Reading }
 asked_integer procedure c procedures = integer c.bytes c.registers (slice_index_or procedures (index_of procedure) [])
 
--- The next integer of a procedure.
-unfoldable pub asked : IntegerProcedure → Coder → Procedures → Asked
+-- The next integer of a procedure, and the coder and the contexts behind it.
+unfoldable pub asked : IntegerProcedure → Coder → Procedures
+    → record { value : Option ℤ; coder : Coder; procedures : Procedures }
 asked procedure c procedures =
     let i = asked_integer procedure c procedures in
     record {

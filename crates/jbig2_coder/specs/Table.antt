@@ -1,8 +1,7 @@
 -- The probability states of the adaptive coder (T.88, Table E.1). `row_of` takes the number of a row and gives it.
 use Rattle.std.specs.Prelude.{ℕ, Bool, true, false, List, [], ◌∷◌, slice_index_or}
 
--- A row: the probability of the unlikely symbol, the next row after the likely and after the unlikely symbol, and
--- whether the likely symbol turns round after the unlikely one.
+-- A row: the unlikely symbol's probability, the next row behind either symbol, and whether the likely one turns round.
 abbrev pub QeData : Type 0
 QeData = record { qe : ℕ; nmps : ℕ; nlps : ℕ; switch : Bool }
 

@@ -1,6 +1,5 @@
--- The standard tables (T.88, B.5): for each of B.1 to B.15 the list of its lines, each with the length of its prefix,
--- the number of its range bits and its lowest value. They are to be compared with the standard line by line;
--- `prefix_code` (PrefixCode.antt) takes such a list and gives its codes.
+-- The standard tables (T.88, B.5), to be compared with the standard line by line: for each of B.1 to B.15 the list of its
+-- lines, with the length of the prefix, the number of range bits and the lowest value. `prefix_code` gives its codes.
 use Rattle.std.specs.Prelude.{ℕ, zero, suc, true, false, List, [], ◌∷◌, ◌++◌, map, ℤ, pos, negsuc}
 use Rattle.jbig2_coder.specs.declared.huffman_table.line.TableLine.{TableLine}
 use Rattle.jbig2_coder.specs.PrefixCode.{Member, prefix_code}

@@ -2,7 +2,6 @@ pub mod Ahead
 pub mod CodeParts
 pub mod EncoderViews
 pub mod FirstCodes
-pub mod Floor
 pub mod PrefixLevels
 pub mod Prefixes
 pub mod Stands

@@ -23,6 +23,10 @@ pub record IsAtRest (registers : Registers) : Type 0 where
   pub below : registers.a < 0x10000
   pub room : HasRoom registers.a registers.code
 
+-- an encoder once a decision is coded, and the decision's context
+abbrev pub Encoding : Type 0
+Encoding = record { coding : Coding; context : Context }
+
 -- what is known of each context
 abbrev pub Contexts : Type 0
 Contexts = ℕ → Context
