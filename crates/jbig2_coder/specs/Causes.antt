@@ -1,5 +1,5 @@
--- Which rule the bits break where a read by a prefix code refuses them (docs/FORMAT.md), a line for each error. `Breaks..`
--- takes a table and the bits, or the lines that make a table, and an error; its law ties the definition's errors to it.
+-- Which rule the bits break where a read by a prefix code refuses them (docs/FORMAT.md), a line for each error.
+-- `Breaks..` takes a table and the bits, or a table's lines, and an error; its law ties the definition's errors to it.
 use Rattle.std.specs.Prelude.{◌≡◌, ◌<◌, ◌≤◌, ◌⊎◌, ℕ, zero, suc, ◌+◌, ◌-◌, ◌*◌, ◌/◌, ◌^◌, true, false, if◌then◌else◌, List, [], length, drop, All, Any, Ok, IfErr, ℤ, pos, negsuc, ◌+ℤ◌, int_lt}
 use Rattle.jbig2_base.specs.Bits.{Place, bits_left, bits_on, number_after}
 use Rattle.jbig2_base.specs.declared.error.DecodeError.{DecodeError}
@@ -12,7 +12,7 @@ use Rattle.jbig2_coder.specs.TableSelection.{next_custom}
 use Rattle.jbig2_coder.specs.declared.huffman_table.custom.Header.{Header}
 use Rattle.jbig2_coder.specs.declared.huffman_table.line.TableLine.{TableLine}
 
--- The sum of 2^-len over the codes exceeds 1 (B.3): of the greatest length more numbers lie under them than there are.
+-- The sum of 2^-len over the codes exceeds 1 (B.3): more numbers of the greatest length lie under them than there are.
 abbrev pub AreCrowded : List TableLine → Type 0
 AreCrowded lines = 2 ^ longest lines < weight (longest lines) lines
 
@@ -23,8 +23,7 @@ BreaksTable lines _ = ⊥
 abbrev pub TablesHaveCauses : Type 0
 TablesHaveCauses = (lines : List TableLine) → IfErr (table_of lines) (BreaksTable lines)
 
--- a code of one bit at least begins the bits (B.4)
-abbrev pub Begins : List ℕ → Member → Type 0
+abbrev pub Begins : List ℕ → Member → Type 0  -- a code of one bit at least begins the bits (B.4)
 Begins bits m = (1 ≤ m.bits) × (m.bits ≤ length bits) × (m.number ≡ front_number m.bits bits)
 
 -- the bits end within a code: it has more of them, and begins with these
@@ -33,15 +32,15 @@ EndWithin bits m = (length bits < m.bits) × (m.number / 2 ^ (m.bits - length bi
 
 -- Where no code begins the bits, they end within one, or there are none; else they agree with no code.
 abbrev pub BreaksCode : List Member → List ℕ → DecodeError → Type 0
-BreaksCode ms bits (Parse UnexpectedEof) = All (λ m. Begins bits m → ⊥) ms × ((length bits ≡ 0) ⊎ Any (EndWithin bits) ms)
+BreaksCode ms bits (Parse UnexpectedEof) =
+    All (λ m. Begins bits m → ⊥) ms × ((length bits ≡ 0) ⊎ Any (EndWithin bits) ms)
 BreaksCode ms bits (Huffman InvalidCode) = All (λ m. Begins bits m → ⊥) ms × All (λ m. EndWithin bits m → ⊥) ms
 BreaksCode ms bits _ = ⊥
 
 abbrev pub CodesHaveCauses : Type 0
 CodesHaveCauses = (ms : List Member) (p : Place) → IfErr (read_code ms (bits_left p)).answer (BreaksCode ms (bits_left p))
 
--- a number that signed 32 bits do not hold
-abbrev pub LeavesWord : ℤ → Type 0
+abbrev pub LeavesWord : ℤ → Type 0  -- a number that signed 32 bits do not hold
 LeavesWord (pos n) = 2 ^ 31 ≤ n
 LeavesWord (negsuc n) = 2 ^ 31 ≤ n
 
@@ -57,8 +56,7 @@ BreaksValue ms bits _ = ⊥
 abbrev pub ValuesHaveCauses : Type 0
 ValuesHaveCauses = (ms : List Member) (p : Place) → IfErr (decoded_value ms (bits_left p)).answer (BreaksValue ms (bits_left p))
 
--- The same where none may be out of band.
-abbrev pub BreaksNumber : List Member → List ℕ → DecodeError → Type 0
+abbrev pub BreaksNumber : List Member → List ℕ → DecodeError → Type 0  -- the same where none may be out of band
 BreaksNumber ms bits (Huffman UnexpectedOob) = Any (λ m. Begins bits m × (m.line.is_out_of_band ≡ true)) ms
 BreaksNumber ms bits e = BreaksValue ms bits e
 
@@ -66,8 +64,8 @@ abbrev pub NumbersHaveCauses : Type 0
 NumbersHaveCauses =
     (ms : List Member) (p : Place) → IfErr (without_oob (decoded_value ms (bits_left p))).answer (BreaksNumber ms (bits_left p))
 
--- A line of a custom table (B.2), this or one of n - 1 behind it, begins below the maximum, and its two lengths are not
--- there, or its range is above 31 bits, or leads out of signed 32 bits.
+-- A line of a custom table (B.2), this or one of n - 1 behind it, begins below the maximum, and its two lengths are
+-- not there, or its range is above 31 bits, or leads out of signed 32 bits.
 abbrev pub BreaksSomeLine : ℕ → Header → ℤ → Place → Type 0
 BreaksSomeLine zero h low p = ⊥
 BreaksSomeLine (suc n) h low p =

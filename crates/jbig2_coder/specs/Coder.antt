@@ -1,6 +1,6 @@
--- The arithmetic decoder (T.88, Annex E in the software conventions of Annex G), one shift at a time. The annexes differ
--- where a byte from 80 to 8F follows a byte FF, which no encoder writes, and Annex G decides: in a fresh context the
--- bytes FF 8F begin with the decision 0, where Annex E has 1.
+-- The arithmetic decoder (T.88, Annex E in the software conventions of Annex G), one shift at a time. The annexes
+-- differ where a byte from 80 to 8F follows a byte FF, which no encoder writes, and Annex G decides: in a fresh context
+-- the bytes FF 8F begin with the decision 0, where Annex E has 1.
 use Rattle.std.specs.Prelude.{ℕ, suc, zero, ◌+◌, ◌-◌, ◌*◌, ◌/◌, ◌%◌, ◌^◌, Bool, true, false, not, ◌&&◌, if◌then◌else◌, ◌==◌, nat_lt, nat_le, List, slice_index_or}
 use Rattle.jbig2_coder.specs.Table.{row_of}
 use Rattle.jbig2_coder.specs.declared.arithmetic_decoder.registers.CodeRegister.{CodeRegister}
@@ -23,8 +23,7 @@ pub record Coder : Type 0 where
   pub bytes : List ℕ
   pub registers : Registers
 
--- the byte at a place; past the end of the data every byte is FF
-unfoldable pub byte_at : List ℕ → ℕ → ℕ
+unfoldable pub byte_at : List ℕ → ℕ → ℕ  -- the byte at a place; past the end every byte is FF
 byte_at bytes place = slice_index_or bytes place 0xFF
 
 -- BYTEIN (Figure G.3), from C and the place: behind FF is a stuffed byte of seven bits, or a marker, where it stays
@@ -37,12 +36,10 @@ byte_in bytes c place =
     if byte_at bytes place == 0xFF then behind_ff
     else record { c = (c + (0xFF00 - next * 2 ^ 8)) % 2 ^ 32; ct = 8; place = place + 1 }
 
--- the same, only where no bit is left
-unfoldable pub filled : List ℕ → CodeRegister → CodeRegister
+unfoldable pub filled : List ℕ → CodeRegister → CodeRegister  -- the same, only where no bit is left
 filled bytes r = if r.ct == 0 then byte_in bytes r.c r.place else r
 
--- C moves on by one bit
-unfoldable pub doubled : CodeRegister → CodeRegister
+unfoldable pub doubled : CodeRegister → CodeRegister  -- C moves on by one bit
 doubled r = record { c = 2 * r.c % 2 ^ 32; ct = r.ct - 1; place = r.place }
 
 -- RENORMD (E.3.3): A and C move on bit by bit until A is at least 8000. Fifteen times are enough for any A but 0.
@@ -52,17 +49,15 @@ renormed bytes (suc n) a r =
     let more = renormed bytes n (2 * a) (doubled (filled bytes r)) in
     if nat_lt a 0x8000 then more else record { a = a; code = r }
 
--- INITDEC (Figure G.1)
-unfoldable pub initial_registers : List ℕ → Registers
+unfoldable pub initial_registers : List ℕ → Registers  -- INITDEC (Figure G.1)
 initial_registers bytes =
     let r = byte_in bytes ((0xFF - byte_at bytes 0) * 2 ^ 16) 0 in
     record { a = 0x8000; code = record { c = r.c * 2 ^ 7 % 2 ^ 32; ct = r.ct - 7; place = r.place } }
 
--- the context after the likely symbol, and after the other
-unfoldable pub likely_next : Context → Context
+unfoldable pub likely_next : Context → Context  -- the context after the likely symbol
 likely_next context = record { row = (row_of context.row).nmps; likely = context.likely }
 
-unfoldable pub unlikely_next : Context → Context
+unfoldable pub unlikely_next : Context → Context  -- and after the other
 unlikely_next context =
     let row = row_of context.row in
     record { row = row.nlps; likely = (if row.switch then not context.likely else context.likely) }

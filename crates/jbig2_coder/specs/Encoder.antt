@@ -1,5 +1,5 @@
--- The arithmetic encoder (T.88, E.2), one shift at a time. A decision and its context take the encoder's registers and
--- the bytes so far on to the next; FLUSH ends the bytes. The decoder of `Coder` reads them back.
+-- The arithmetic encoder (T.88, E.2), one shift at a time. A decision in its context takes the registers and the bytes
+-- so far on to the next; FLUSH ends the bytes. The decoder of `Coder` reads them back.
 use Rattle.std.specs.Prelude.{ℕ, suc, zero, ◌+◌, ◌-◌, ◌*◌, ◌/◌, ◌%◌, ◌^◌, Bool, true, false, not, if◌then◌else◌, ◌==◌, nat_lt, nat_le, List, [], ◌∷◌, reverse}
 use Rattle.jbig2_coder.specs.Table.{row_of}
 use Rattle.jbig2_coder.specs.Coder.{Context, likely_next, unlikely_next}
@@ -8,12 +8,10 @@ use Rattle.jbig2_coder.specs.Coder.{Context, likely_next, unlikely_next}
 abbrev pub Writer : Type 0
 Writer = record { register : ℕ; wait : ℕ; out : List ℕ }
 
--- The interval register A beside it.
-abbrev pub Coding : Type 0
+abbrev pub Coding : Type 0  -- the interval register A beside it
 Coding = record { range : ℕ; writer : Writer }
 
--- INITENC (E.2.8)
-unfoldable pub opened : Coding
+unfoldable pub opened : Coding  -- INITENC (E.2.8)
 opened = record { range = 0x8000; writer = record { register = 0; wait = 12; out = [] } }
 
 -- a byte of eight bits goes out, and after a byte FF one of seven bits (BYTEOUT, E.2.7)
@@ -32,8 +30,7 @@ byte_out c (last ∷ out) =
     else if last + 1 == 0xFF then stuffed (c % 2 ^ 27) (0xFF ∷ out)
     else plain c ((last + 1) ∷ out)
 
--- C moves on by one bit, and a byte goes out where enough have gathered
-unfoldable pub shifted : Writer → Writer
+unfoldable pub shifted : Writer → Writer  -- C moves on by one bit, and a byte goes out where enough have gathered
 shifted w =
     if w.wait - 1 == 0 then byte_out (2 * w.register) w.out
     else record { register = 2 * w.register; wait = w.wait - 1; out = w.out }
@@ -45,8 +42,7 @@ renormed (suc n) a w =
     let more = renormed n (2 * a) (shifted w) in
     if nat_lt a 0x8000 then more else record { range = a; writer = w }
 
--- What a decision makes of A, C and its context, and whether RENORME follows.
-abbrev pub Narrowed : Type 0
+abbrev pub Narrowed : Type 0  -- what a decision makes of A, C and its context, and whether RENORME follows
 Narrowed = record { range : ℕ; register : ℕ; context : Context; renorm : Bool }
 
 -- CODEMPS (E.2.4): the likely symbol gets the upper part of the interval, unless that has become the smaller one
@@ -66,8 +62,7 @@ narrowed_unlikely context a c =
     if nat_lt rest qe then record { range = rest; register = c + qe; context = unlikely_next context; renorm = true }
     else record { range = qe; register = c; context = unlikely_next context; renorm = true }
 
--- ENCODE (E.2.2 and E.2.3)
-unfoldable pub narrowed : Context → Bool → ℕ → ℕ → Narrowed
+unfoldable pub narrowed : Context → Bool → ℕ → ℕ → Narrowed  -- ENCODE (E.2.2 and E.2.3)
 narrowed context decision a c =
     if (if context.likely then decision else not decision) then narrowed_likely context a c
     else narrowed_unlikely context a c
@@ -82,8 +77,7 @@ encoding context decision s =
       context = next.context;
     }
 
--- SETBITS (E.2.9): C with as many low ones as the interval allows
-unfoldable pub set_bits : ℕ → ℕ → ℕ
+unfoldable pub set_bits : ℕ → ℕ → ℕ  -- SETBITS (E.2.9): C with as many low ones as the interval allows
 set_bits a c =
     let ones = c - c % 2 ^ 16 + 0xFFFF in
     if nat_le (c + a) ones then ones - 0x8000 else ones

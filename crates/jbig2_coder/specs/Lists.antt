@@ -15,8 +15,7 @@ encode_from s contexts (entry ∷ entries) =
     let next = encoding (contexts entry.0) entry.1 s in
     encode_from next.coding (with_context contexts entry.0 next.context) entries
 
--- the bytes of a list of (context, decision)
-unfoldable pub encoded : List (ℕ × Bool) → List ℕ
+unfoldable pub encoded : List (ℕ × Bool) → List ℕ  -- the bytes of a list of (context, decision)
 encoded entries = closed (flushed (encode_from opened (λ _. fresh) entries)).out
 
 -- the decisions that the decoder reads when it is asked in these contexts
@@ -29,6 +28,5 @@ decoded_from bytes registers contexts (k ∷ asked) =
 unfoldable pub read_back : List ℕ → List ℕ → List Bool
 read_back bytes asked = decoded_from bytes (initial_registers bytes) (λ _. fresh) asked
 
--- whatever is encoded, the decoder that is asked in the same contexts reads back
-abbrev pub DecodesBack : Type 0
+abbrev pub DecodesBack : Type 0  -- whatever is encoded, the decoder that is asked in the same contexts reads back
 DecodesBack = (entries : List (ℕ × Bool)) → read_back (encoded entries) (map (λ entry. entry.0) entries) ≡ map (λ entry. entry.1) entries

@@ -10,7 +10,7 @@ use Rattle.jbig2_base.specs.declared.error.ParseError.TheVariants.{UnexpectedEof
 use Rattle.jbig2_base.specs.declared.error.HuffmanError.TheVariants.{InvalidCode, UnexpectedOob}
 use Rattle.jbig2_coder.specs.declared.huffman_table.line.TableLine.{TableLine}
 
--- A code, which is the number that its bits spell, high bit first, and how many it has, and the line that it stands for.
+-- A code: how many bits it has, the number that they spell, high bit first, and the line that it stands for.
 pub record Member : Type 0 where
   pub bits : ℕ
   pub number : ℕ
@@ -27,21 +27,18 @@ pub record Reads {A : Type 0} (old new : Place) (result : Result A DecodeError) 
   pub place : new ≡ bits_on reading.taken old
   pub rest : bits_left new ≡ drop reading.taken (bits_left old)
 
--- the greatest prefix length
-abbrev pub longest : List TableLine → ℕ
+abbrev pub longest : List TableLine → ℕ  -- the greatest prefix length
 longest [] = 0
 longest (x ∷ xs) = max x.prefix_length (longest xs)
 
--- the lines whose codes have l bits, in their order
-abbrev pub level : ℕ → List TableLine → List TableLine
+abbrev pub level : ℕ → List TableLine → List TableLine  -- the lines whose codes have l bits, in their order
 level l lines = filter (λ x. x.prefix_length == l) lines
 
 -- the codes of l bits that lie under a code of len bits, none for a line without a code
 abbrev pub share : ℕ → ℕ → ℕ
 share l len = if nat_lt 0 len && nat_le len l then 2 ^ (l - len) else 0
 
--- the codes of l bits that lie under the codes of at most l bits
-unfoldable pub weight : ℕ → List TableLine → ℕ
+unfoldable pub weight : ℕ → List TableLine → ℕ  -- the codes of l bits that lie under the codes of at most l bits
 weight l [] = 0
 weight l (x ∷ xs) = share l x.prefix_length + weight l xs
 
@@ -72,18 +69,15 @@ is_crowded lines = nat_lt (2 ^ longest lines) (weight (longest lines) lines)
 abbrev pub table_of : List TableLine → Result (List Member) DecodeError
 table_of lines = if is_crowded lines then Err (Huffman InvalidCode) else Ok (prefix_code lines)
 
--- the line whose code is the number v of k bits
-abbrev pub line_of : List Member → ℕ → ℕ → Option TableLine
+abbrev pub line_of : List Member → ℕ → ℕ → Option TableLine  -- the line whose code is the number v of k bits
 line_of [] k v = None
 line_of (m ∷ ms) k v = if m.bits == k && (m.number == v) then Some m.line else line_of ms k v
 
--- whether the number v of k bits begins a longer code
-abbrev pub begins_longer : List Member → ℕ → ℕ → Bool
+abbrev pub begins_longer : List Member → ℕ → ℕ → Bool  -- whether the number v of k bits begins a longer code
 begins_longer [] k v = false
 begins_longer (m ∷ ms) k v = (nat_lt k m.bits && (m.number / 2 ^ (m.bits - k) == v)) || begins_longer ms k v
 
--- the number that the first k bits spell
-abbrev pub front_number : ℕ → List ℕ → ℕ
+abbrev pub front_number : ℕ → List ℕ → ℕ  -- the number that the first k bits spell
 front_number k bits = number_after 0 (take k bits)
 
 -- The line of the code that begins the bits; else the shortest beginning that begins no code is refused (B.4).
@@ -97,13 +91,11 @@ read_code ms bits =
       | None ↦ record { answer = Err (Huffman InvalidCode); taken = k }
     ]
 
--- a number in signed 32 bits
-abbrev pub in_word : ℤ → Result ℤ DecodeError
+abbrev pub in_word : ℤ → Result ℤ DecodeError  -- a number in signed 32 bits
 in_word (pos n) = if nat_lt n 2147483648 then Ok (pos n) else Err (Huffman InvalidCode)
 in_word (negsuc n) = if nat_lt n 2147483648 then Ok (negsuc n) else Err (Huffman InvalidCode)
 
--- the low value and the range bits together: a lower line goes down
-abbrev pub moved : TableLine → ℕ → ℤ
+abbrev pub moved : TableLine → ℕ → ℤ  -- the low value and the range bits together: a lower line goes down
 moved line offset = if line.is_lower then line.range_low -ℤ pos offset else line.range_low +ℤ pos offset
 
 -- the value of a line, by the number of the range bits behind its code
@@ -111,7 +103,7 @@ abbrev pub value_by : TableLine → Option ℕ → Result (Option ℤ) DecodeErr
 value_by line None = Err (Huffman InvalidCode)
 value_by line (Some offset) = in_word (moved line offset) >>= λ n. Ok (Some n)
 
--- A value read by a table (B.4): a code, and behind it the range bits of its line. None is out of band, which has none.
+-- A value read by a table (B.4): a code, and behind it its line's range bits; out of band is None, and has none.
 unfoldable pub decoded_value : List Member → List ℕ → CodeReading (Option ℤ)
 decoded_value ms bits =
     let code = read_code ms bits in
@@ -122,8 +114,7 @@ decoded_value ms bits =
       | Err e ↦ record { answer = Err e; taken = code.taken }
     ]
 
--- a value where none may be out of band
-abbrev pub no_oob : Result (Option ℤ) DecodeError → Result ℤ DecodeError
+abbrev pub no_oob : Result (Option ℤ) DecodeError → Result ℤ DecodeError  -- a value where none may be out of band
 no_oob (Ok (Some n)) = Ok n
 no_oob (Ok None) = Err (Huffman UnexpectedOob)
 no_oob (Err e) = Err e
@@ -131,14 +122,11 @@ no_oob (Err e) = Err e
 abbrev pub without_oob : CodeReading (Option ℤ) → CodeReading ℤ
 without_oob reading = record { answer = no_oob reading.answer; taken = reading.taken }
 
--- range lengths that one read of bits can take
-abbrev pub AreShort : List TableLine → Type 0
+abbrev pub AreShort : List TableLine → Type 0  -- range lengths that one read of bits can take
 AreShort lines = All (λ x. x.range_length ≤ 32) lines
 
--- whether a's bits are the first ones of b's
-abbrev pub begins : Member → Member → Bool
+abbrev pub begins : Member → Member → Bool  -- whether a's bits are the first ones of b's
 begins a b = nat_le a.bits b.bits && (b.number / 2 ^ (b.bits - a.bits) == a.number)
 
--- No code begins another.
-abbrev pub IsFree : List Member → Type 0
+abbrev pub IsFree : List Member → Type 0  -- no code begins another
 IsFree ms = AllPairs (λ a b. (begins a b ≡ false) × (begins b a ≡ false)) ms

@@ -21,8 +21,7 @@ index_of Iardx = 10
 index_of Iardy = 11
 index_of Iari = 12
 
--- what the contexts of each procedure have learned, in that order
-abbrev pub Procedures : Type 0
+abbrev pub Procedures : Type 0  -- what the contexts of each procedure have learned, in that order
 Procedures = List (List Context)
 
 abbrev pub fresh_procedures : Procedures

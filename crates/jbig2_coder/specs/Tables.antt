@@ -1,5 +1,5 @@
--- The standard tables (T.88, B.5), to be compared with the standard line by line: for each of B.1 to B.15 the list of its
--- lines, with the length of the prefix, the number of range bits and the lowest value. `prefix_code` gives its codes.
+-- The standard tables (T.88, B.5), to be compared with the standard line by line: for each of B.1 to B.15 its lines,
+-- with the length of the prefix, the number of range bits and the lowest value. `prefix_code` gives their codes.
 use Rattle.std.specs.Prelude.{ℕ, zero, suc, true, false, List, [], ◌∷◌, ◌++◌, map, ℤ, pos, negsuc}
 use Rattle.jbig2_coder.specs.declared.huffman_table.line.TableLine.{TableLine}
 use Rattle.jbig2_coder.specs.PrefixCode.{Member, prefix_code}
@@ -8,16 +8,13 @@ abbrev pub minus : ℕ → ℤ
 minus zero = pos 0
 minus (suc n) = negsuc n
 
--- a line by its prefix length, its range length and its low value
-abbrev pub line : ℕ → ℕ → ℤ → TableLine
+abbrev pub line : ℕ → ℕ → ℤ → TableLine  -- a line by its prefix length, its range length and its low value
 line len range low = record { range_low = low; prefix_length = len; range_length = range; is_lower = false; is_out_of_band = false }
 
--- the lower range table line, whose values go down from its low value
-abbrev pub lower : ℕ → ℤ → TableLine
+abbrev pub lower : ℕ → ℤ → TableLine  -- the lower range table line, whose values go down from its low value
 lower len low = record { range_low = low; prefix_length = len; range_length = 32; is_lower = true; is_out_of_band = false }
 
--- the upper range table line
-abbrev pub upper : ℕ → ℤ → TableLine
+abbrev pub upper : ℕ → ℤ → TableLine  -- the upper range table line
 upper len low = line len 32 low
 
 abbrev pub out_of_band : ℕ → TableLine
