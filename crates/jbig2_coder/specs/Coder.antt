@@ -6,22 +6,19 @@ use Rattle.jbig2_coder.specs.Table.{row_of}
 use Rattle.jbig2_coder.specs.declared.arithmetic_decoder.registers.CodeRegister.{CodeRegister}
 
 -- A context: a row of the table, and the symbol that is likely there.
-pub record Context : Type 0 where
-  pub row : ℕ
-  pub likely : Bool
+abbrev pub Context : Type 0
+Context = record { row : ℕ; likely : Bool }
 
 abbrev pub fresh : Context
 fresh = record { row = 0; likely = false }
 
 -- The interval register A, and the code register: C, CT and the place of the byte that was read last.
-pub record Registers : Type 0 where
-  pub a : ℕ
-  pub code : CodeRegister
+abbrev pub Registers : Type 0
+Registers = record { a : ℕ; code : CodeRegister }
 
 -- A decoder: the bytes that it reads, and its registers.
-pub record Coder : Type 0 where
-  pub bytes : List ℕ
-  pub registers : Registers
+abbrev pub Coder : Type 0
+Coder = record { bytes : List ℕ; registers : Registers }
 
 unfoldable pub byte_at : List ℕ → ℕ → ℕ  -- the byte at a place; past the end every byte is FF
 byte_at bytes place = slice_index_or bytes place 0xFF
@@ -83,10 +80,8 @@ choice context a c =
     if nat_lt (c / 2 ^ 16) rest then in_upper else in_lower
 
 -- A decision: the symbol, and the registers and the context afterwards.
-pub record Decision : Type 0 where
-  pub symbol : Bool
-  pub registers : Registers
-  pub context : Context
+abbrev pub Decision : Type 0
+Decision = record { symbol : Bool; registers : Registers; context : Context }
 
 unfoldable pub decision : List ℕ → Registers → Context → Decision
 decision bytes registers context =

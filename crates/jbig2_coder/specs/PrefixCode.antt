@@ -11,15 +11,12 @@ use Rattle.jbig2_base.specs.declared.error.HuffmanError.TheVariants.{InvalidCode
 use Rattle.jbig2_coder.specs.declared.huffman_table.line.TableLine.{TableLine}
 
 -- A code: how many bits it has, the number that they spell, high bit first, and the line that it stands for.
-pub record Member : Type 0 where
-  pub bits : ℕ
-  pub number : ℕ
-  pub line : TableLine
+abbrev pub Member : Type 0
+Member = record { bits : ℕ; number : ℕ; line : TableLine }
 
 -- What a read answers, and how many bits it takes; where the bits end first, one more than there are.
-pub record CodeReading (A : Type 0) : Type 0 where
-  pub answer : Result A DecodeError
-  pub taken : ℕ
+abbrev pub CodeReading : Type 0 → Type 0
+CodeReading A = record { answer : Result A DecodeError; taken : ℕ }
 
 -- A call that answers what a reading answers, and leaves the bits that it takes behind it.
 pub record Reads {A : Type 0} (old new : Place) (result : Result A DecodeError) (reading : CodeReading A) : Type 0 where
