@@ -324,28 +324,22 @@ empty-seen bytes code h none = empty-read bytes h.ct h.ahead h.place code h.read
 abbrev pub read-in : CodeRegister → CodeBuffer
 read-in r = record { c = r.c * 2 % 2 ^ 32 * 2 ^ 32; bits = r.ct - 1; place = r.place }
 
-seven-read : (bytes : List ℕ) (c place : ℕ) → c % 2 ^ 8 ≡ 0 → place ≤ length bytes → Reads bytes 7 0 place (read-in (record { c = c; ct = 8; place = place }))
-seven-read bytes c place whole within = record {
-  below = omega arith;
-  bits = refl;
-  few = omega arith;
-  small = omega arith;
-  read = omega arith;
-  within = within;
-  plain = λ i less. absurd (omega arith);
-  spells = omega arith;
-}
-
-six-read : (bytes : List ℕ) (c place : ℕ) → c % 2 ^ 9 ≡ 0 → place ≤ length bytes → Reads bytes 6 0 place (read-in (record { c = c; ct = 7; place = place }))
-six-read bytes c place whole within = record {
-  below = omega arith;
-  bits = refl;
-  few = omega arith;
-  small = omega arith;
-  read = omega arith;
-  within = within;
-  plain = λ i less. absurd (omega arith);
-  spells = omega arith;
+-- no byte is ahead, and nothing stands below the bits
+none-ahead : (bytes : List ℕ) (ct : ℕ) (code : CodeBuffer) → ct < 8 → code.bits ≡ ct → code.c < 2 ^ 64 → code.place ≤ length bytes → code.c % 2 ^ (48 - ct) ≡ 0 → IsAhead bytes code
+none-ahead bytes ct code few all small within whole = record {
+  ct = ct;
+  ahead = 0;
+  place = code.place;
+  reads = record {
+    below = few;
+    bits = omega (arith, all);
+    few = omega (arith, all);
+    small = small;
+    read = omega arith;
+    within = within;
+    plain = λ i less. absurd (omega arith);
+    spells = whole ∙ (let z : 0 ≡ 0 * 2 ^ (48 - code.bits) = omega arith in z);
+  };
 }
 
 seven-seen : (bytes : List ℕ) (c place : ℕ) → c % 2 ^ 8 ≡ 0 → doubled (record { c = c; ct = 8; place = place }) ≡ seen_of (read-in (record { c = c; ct = 8; place = place }))
@@ -367,10 +361,12 @@ abbrev Enters : List ℕ → CodeRegister → Type 0
 Enters bytes r = IsAhead bytes (read-in r) × (doubled r ≡ seen_of (read-in r))
 
 eight-enters : (bytes : List ℕ) (c place : ℕ) → c % 2 ^ 8 ≡ 0 → place ≤ length bytes → Enters bytes (record { c = c; ct = 8; place = place })
-eight-enters bytes c place whole within = (record { ct = 7; ahead = 0; place = place; reads = seven-read bytes c place whole within }, seven-seen bytes c place whole)
+eight-enters bytes c place whole within =
+    (none-ahead bytes 7 (read-in (record { c = c; ct = 8; place = place })) (omega arith) refl (omega arith) within (omega arith), seven-seen bytes c place whole)
 
 seven-enters : (bytes : List ℕ) (c place : ℕ) → c % 2 ^ 9 ≡ 0 → place ≤ length bytes → Enters bytes (record { c = c; ct = 7; place = place })
-seven-enters bytes c place whole within = (record { ct = 6; ahead = 0; place = place; reads = six-read bytes c place whole within }, six-seen bytes c place whole)
+seven-enters bytes c place whole within =
+    (none-ahead bytes 6 (read-in (record { c = c; ct = 7; place = place })) (omega arith) refl (omega arith) within (omega arith), six-seen bytes c place whole)
 
 -- what holds of the paths of BYTEIN, from C without bits
 byte-cases : (bytes : List ℕ) (P : CodeRegister → Type 0) (c place : ℕ) → c % 2 ^ 16 ≡ 0 → (byte_in bytes c place).place ≤ length bytes
@@ -418,21 +414,7 @@ eight-starts : (bytes : List ℕ) (c place : ℕ) → c % 2 ^ 8 ≡ 0 → place 
 eight-starts bytes c place whole within =
     let high : c * 2 ^ 7 % 2 ^ 32 * 2 ^ 32 / 2 ^ 47 * 2 ^ 15 ≡ c * 2 ^ 7 % 2 ^ 32 = omega arith in
     let at : place - 0 ≡ place = omega arith in (
-      record {
-        ct = 1;
-        ahead = 0;
-        place = place;
-        reads = record {
-          below = omega arith;
-          bits = refl;
-          few = omega arith;
-          small = omega arith;
-          read = omega arith;
-          within = within;
-          plain = λ i less. absurd (omega arith);
-          spells = omega arith;
-        };
-      },
+      none-ahead bytes 1 (started (record { c = c; ct = 8; place = place })) (omega arith) refl (omega arith) within (omega arith),
       λ i. record { c = high i; ct = 1; place = at i },
     )
 
@@ -440,21 +422,7 @@ seven-starts : (bytes : List ℕ) (c place : ℕ) → c % 2 ^ 9 ≡ 0 → place 
 seven-starts bytes c place whole within =
     let high : c * 2 ^ 7 % 2 ^ 32 * 2 ^ 32 / 2 ^ 48 * 2 ^ 16 ≡ c * 2 ^ 7 % 2 ^ 32 = omega arith in
     let at : place - 0 ≡ place = omega arith in (
-      record {
-        ct = 0;
-        ahead = 0;
-        place = place;
-        reads = record {
-          below = omega arith;
-          bits = refl;
-          few = omega arith;
-          small = omega arith;
-          read = omega arith;
-          within = within;
-          plain = λ i less. absurd (omega arith);
-          spells = omega arith;
-        };
-      },
+      none-ahead bytes 0 (started (record { c = c; ct = 7; place = place })) (omega arith) refl (omega arith) within (omega arith),
       λ i. record { c = high i; ct = 0; place = at i },
     )
 

@@ -1,13 +1,17 @@
 -- Law: no definition of prefix codes and tables answers an error that bytes cannot bring about.
-use Rattle.std.proofs.Common.{ℕ, zero, suc, Bool, true, false, cond, List, [], ◌∷◌, Option, Some, None, Result, Ok, Err, ℤ, pos, negsuc}
+use Rattle.std.proofs.Common.{ℕ, zero, suc, ◌+◌, ltb, length, Bool, true, false, cond, List, [], ◌∷◌, Option, Some, None, Result, Ok, Err, ℤ, pos, negsuc}
 use Rattle.std.specs.Prelude.{IfErr}
 use Rattle.jbig2_base.specs.Answer.{◌>>=◌, some_or}
 use Rattle.jbig2_base.specs.Bits.{Place, bits_left, bits_next, bits_on}
+use Rattle.jbig2_base.specs.Search.{place_from}
 use Rattle.jbig2_base.specs.declared.error.DecodeError.{DecodeError}
+use Rattle.jbig2_base.specs.declared.error.DecodeError.TheVariants.{Huffman}
+use Rattle.jbig2_base.specs.declared.error.HuffmanError.TheVariants.{InvalidCode}
 use Rattle.jbig2_base.proofs.Answered.{Answered, IsAnswered, answered-if, answered-some}
 use Rattle.jbig2_base.proofs.Causes.{cause-next}
-use Rattle.jbig2_coder.specs.CustomTable.{Step, answer_of, custom_header, custom_line, custom_lines, custom_table, end_lines, field, last_line, left_at, next_low, range_lines, range_lines_in}
-use Rattle.jbig2_coder.specs.PrefixCode.{CodeReading, Member, decoded_value, found_or, in_word, no_oob, read_code, refused, some_value, table_of, value_after, value_by, valued}
+use Rattle.jbig2_coder.specs.CustomTable.{Step, answer_of, custom_header, custom_line, custom_lines, custom_table, end_lines, field, left_at, next_low, range_lines, range_lines_in}
+use Rattle.jbig2_coder.specs.inner.CodeParts.{ended, is_decided, last_line, found_or, refused, some_value, value_after, valued}
+use Rattle.jbig2_coder.specs.PrefixCode.{CodeReading, Member, decoded_value, front_number, in_word, line_of, no_oob, read_code, table_of, value_by}
 use Rattle.jbig2_coder.specs.TableSelection.{next_custom}
 use Rattle.jbig2_coder.specs.declared.huffman_table.custom.Header.{Header}
 use Rattle.jbig2_coder.specs.declared.huffman_table.line.TableLine.{TableLine}
@@ -30,7 +34,10 @@ answered-either false r s at_true at_false = at_false
 
 answered-read_code : (ms : List Member) (bits : List ℕ) → Answered (read_code ms bits).answer
 unfolding read_code
-answered-read_code ms bits = search (answered-either, answered-found)
+answered-read_code ms bits =
+    let k = place_from (is_decided ms bits) 1 (length bits + 1) in
+    let found = line_of ms k (front_number k bits) in
+    answered-either (ltb (length bits) k) (ended k) (found_or found k (refused k)) tt (answered-found found k)
 
 answered-some_value : (r : Result ℤ DecodeError) → Answered r → Answered (some_value r)
 answered-some_value (Ok n) is = tt
@@ -98,7 +105,11 @@ answered-last : (h : Header) (p : Place) → AnsweredAt (last_line h p)
 answered-last h p = search (answered-one, answered-on, answered-field) depth 8
 
 answered-end : (h : Header) (p : Place) → AnsweredAt (end_lines h p)
-answered-end h p = search (answered-on, answered-field, answered-last) depth 8
+answered-end h p =
+    let e = Huffman InvalidCode in
+    answered-on (field e h.prefix_bits p) _ (answered-field e h.prefix_bits p tt) (λ below.
+    answered-on (field e h.prefix_bits below.1) _ (answered-field e h.prefix_bits below.1 tt) (λ above.
+    answered-on (last_line h above.1) _ (answered-last h above.1) (λ lines. tt)))
 
 answered-custom_lines : (p : Place) → AnsweredAt (custom_lines p)
 unfolding custom_lines range_lines

@@ -1,6 +1,6 @@
 -- Which rule the bits break where a read by a prefix code refuses them.
 use Rattle.std.proofs.Common.{◌≡◌, ℕ, zero, suc, ◌+◌, ◌-◌, ◌*◌, ◌/◌, ◌^◌, ◌<◌, ◌≤◌, ltb, eqb, Bool, true, false, not, ◌&&◌, ◌||◌, List, [], ◌∷◌, length, take, drop, slice_index_or, All, Any, Option, Some, None, Result, Ok, Err, ℤ, pos, negsuc, refl, sym, ◌∙◌, ap, subst, arith, pow-suc, ⊎_elim, inl, inr, ltb-true, ltb-false}
-use Rattle.std.specs.Prelude.{IfErr}
+use Rattle.std.specs.Prelude.{IfErr, is_some, ◌⊎◌}
 use Rattle.std.specs.List.{flat_map}
 use Rattle.std.proofs.Math.Nat.{div-div-eq-div-mul}
 use Rattle.std.proofs.lemmas.Nat.{pow-add}
@@ -13,8 +13,9 @@ use Rattle.jbig2_base.specs.declared.error.ParseError.TheVariants.{UnexpectedEof
 use Rattle.jbig2_base.specs.declared.error.HuffmanError.TheVariants.{InvalidCode, UnexpectedOob}
 use Rattle.jbig2_base.specs.inner.BitLists.{AreBits}
 use Rattle.jbig2_base.proofs.BitFieldLemmas.{bits-drop, byte-bits}
-use Rattle.jbig2_coder.specs.Causes.{AreCrowded, Begins, BreaksCode, BreaksNumber, BreaksRange, BreaksTable, BreaksValue, CodesHaveCauses, LeavesWord, NoneOf, NumbersHaveCauses, SelectionsHaveCauses, TablesHaveCauses, ValuesHaveCauses}
-use Rattle.jbig2_coder.specs.PrefixCode.{CodeReading, Member, begins_longer, decoded_value, ended, found_or, front_number, in_word, is_crowded, is_decided, is_found, line_of, longest, moved, no_oob, prefix_code, read_code, refused, some_value, table_of, value_after, value_by, valued, weight}
+use Rattle.jbig2_coder.specs.Causes.{AreCrowded, Begins, BreaksCode, BreaksNumber, BreaksTable, BreaksValue, CodesHaveCauses, LeavesWord, NumbersHaveCauses, SelectionsHaveCauses, TablesHaveCauses, ValuesHaveCauses}
+use Rattle.jbig2_coder.specs.PrefixCode.{CodeReading, Member, begins_longer, decoded_value, front_number, in_word, is_crowded, line_of, longest, moved, no_oob, prefix_code, read_code, table_of, value_by, weight}
+use Rattle.jbig2_coder.specs.inner.CodeParts.{ended, found_or, is_decided, refused, some_value, value_after, valued}
 use Rattle.jbig2_coder.specs.declared.huffman_table.line.TableLine.{TableLine}
 
 -- ---- lists
@@ -70,6 +71,16 @@ fewer f (suc j) (suc k) (b ∷ bits) are order fits =
     let e : suc j - suc k ≡ j - k = omega arith in
     ap (λ (i : ℕ). number_after (2 * f + b) (take j bits) / 2 ^ i) e ∙ fewer (2 * f + b) j k bits are.1 (omega arith) (omega arith)
 
+-- a line with range bits, which the bits behind its code do not hold, or which lead out of signed 32 bits
+abbrev BreaksRange : TableLine → List ℕ → Type 0
+BreaksRange line bits =
+    (line.is_out_of_band ≡ false)
+    × ((length bits < line.range_length) ⊎ LeavesWord (moved line (front_number line.range_length bits)))
+
+-- of none of the codes
+abbrev NoneOf : (Member → Type 0) → List Member → Type 0
+NoneOf P ms = All (λ m. P m → ⊥) ms
+
 -- ---- the codes of a table
 missing : (ms : List Member) (k v : ℕ) → line_of ms k v ≡ None → NoneOf (λ m. (m.bits ≡ k) × (m.number ≡ v)) ms
 missing [] k v is = λ i d inside. absurd (omega arith)
@@ -116,21 +127,21 @@ record Undecided (ms : List Member) (bits : List ℕ) (k : ℕ) : Type 0 where
   none : line_of ms k (front_number k bits) ≡ None
   longer : begins_longer ms k (front_number k bits) ≡ true
 
-not-found : (o : Option TableLine) → is_found o ≡ false → o ≡ None
+not-found : (o : Option TableLine) → is_some o ≡ false → o ≡ None
 not-found None is = refl
 not-found (Some line) is = absurd (false≢true (sym is))
 
 undecided : (ms : List Member) (bits : List ℕ) (k : ℕ) → is_decided ms bits k ≡ false → Undecided ms bits k
 undecided ms bits k is =
     let v = front_number k bits in
-    let parts = or_parts (is_found (line_of ms k v)) (not (begins_longer ms k v)) is in
+    let parts = or_parts (is_some (line_of ms k v)) (not (begins_longer ms k v)) is in
     record { none = not-found (line_of ms k v) parts.0; longer = not-false (begins_longer ms k v) parts.1 }
 
 -- where it is not found, no longer code begins with it
 decided-none : (ms : List Member) (bits : List ℕ) (k : ℕ) → is_decided ms bits k ≡ true → line_of ms k (front_number k bits) ≡ None → begins_longer ms k (front_number k bits) ≡ false
 decided-none ms bits k is none =
     let v = front_number k bits in
-    not-true (begins_longer ms k v) (ap (λ (o : Option TableLine). is_found o || not (begins_longer ms k v)) (sym none) ∙ is)
+    not-true (begins_longer ms k v) (ap (λ (o : Option TableLine). is_some o || not (begins_longer ms k v)) (sym none) ∙ is)
 
 taken-all : (bits : List ℕ) → take (length bits) bits ≡ bits
 taken-all [] = refl

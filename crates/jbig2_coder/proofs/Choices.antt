@@ -91,11 +91,6 @@ choice-part x y rest qe high size below c symbol e small at room half upper_size
     (rw (left, at) context) (rw (left, at) named)
     ∙ (λ i. record { symbol = symbol; a = size; c = moved i; context = y; renorm = true })
 
-pub lower-c : (c rest : ℕ) → rest < 0x10000 → (c + (2 ^ 32 - rest * 2 ^ 16)) % 2 ^ 32 ≡ (c + (2 ^ 32 - rest * 2 ^ 16 % 2 ^ 32)) % 2 ^ 32
-lower-c c rest h =
-    let e : rest * 2 ^ 16 ≡ rest * 2 ^ 16 % 2 ^ 32 = omega arith in
-    ap (λ v. (c + (2 ^ 32 - v)) % 2 ^ 32) e
-
 -- the paths of BYTEIN
 pub byte_in-marker : (bytes : List ℕ) (c place : ℕ) → byte_at bytes place ≡ 0xFF → 0x8F < byte_at bytes (place + 1)
     → byte_in bytes c place ≡ record { c = c; ct = 8; place = place }

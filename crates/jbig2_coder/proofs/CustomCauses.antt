@@ -1,6 +1,6 @@
 -- Which rule the bits of a custom table break where it is refused.
 use Rattle.std.proofs.Common.{◌≡◌, ℕ, zero, suc, ◌+◌, ◌-◌, ◌*◌, ◌/◌, ◌%◌, ◌^◌, ◌<◌, ◌≤◌, ltb, Bool, true, false, cond, List, [], ◌∷◌, length, drop, Option, Some, None, Result, Ok, Err, ℤ, pos, negsuc, ◌+ℤ◌, ◌-ℤ◌, refl, sym, ◌∙◌, ap, subst, arith, inl, inr, ltb-true, ltb-false, length-drop}
-use Rattle.std.specs.Prelude.{IfErr, int_lt}
+use Rattle.std.specs.Prelude.{IfErr, int_lt, ◌⊎◌}
 use Rattle.std.specs.List.{flat_map}
 use Rattle.std.proofs.lemmas.Bool.{cond_both, false≢true}
 use Rattle.jbig2_base.specs.Answer.{◌>>=◌, some_or}
@@ -11,13 +11,32 @@ use Rattle.jbig2_base.specs.declared.error.ParseError.TheVariants.{UnexpectedEof
 use Rattle.jbig2_base.specs.declared.error.HuffmanError.TheVariants.{InvalidCode}
 use Rattle.jbig2_base.proofs.Causes.{cause-next, same-ok, went}
 use Rattle.jbig2_base.proofs.ReaderLemmas.{bits_on-enough}
-use Rattle.jbig2_coder.specs.Causes.{BreaksCustom, BreaksEndLines, BreaksLine, BreaksLines, BreaksSomeLine, CustomTablesHaveCauses, LeavesWord, low_behind, range_at}
-use Rattle.jbig2_coder.specs.CustomTable.{Step, behind, custom_header, custom_line, custom_lines, custom_table, end_lines, field, last_line, left_at, next_low, range_lines, range_lines_in}
+use Rattle.jbig2_coder.specs.Causes.{BreaksCustom, BreaksLines, BreaksSomeLine, CustomTablesHaveCauses, LeavesWord}
+use Rattle.jbig2_coder.specs.CustomTable.{Step, behind, custom_header, custom_line, custom_lines, custom_table, end_lines, field, left_at, next_low, range_lines, range_lines_in}
+use Rattle.jbig2_coder.specs.inner.CodeParts.{last_line}
 use Rattle.jbig2_coder.specs.PrefixCode.{front_number, in_word, table_of}
 use Rattle.jbig2_coder.specs.Tables.{lower, out_of_band, upper}
 use Rattle.jbig2_coder.specs.declared.huffman_table.custom.Header.{Header}
 use Rattle.jbig2_coder.specs.declared.huffman_table.line.TableLine.{TableLine}
 use Rattle.jbig2_coder.proofs.Causes.{table-cause, word-cause}
+
+-- ---- parts of the causes, under names of their own
+-- the range length of the line that stands here
+abbrev range_at : Header → Place → ℕ
+range_at h p = front_number h.range_bits (bits_left (bits_on h.prefix_bits p))
+
+-- the low value of the line behind it
+abbrev low_behind : Header → ℤ → Place → ℤ
+low_behind h low p = low +ℤ pos (2 ^ range_at h p)
+
+-- A line: its two lengths are not there, or its range is above 31 bits, or leads out of signed 32 bits.
+abbrev BreaksLine : Header → ℤ → Place → Type 0
+BreaksLine h low p =
+    (length (bits_left p) < h.prefix_bits + h.range_bits) ⊎ ((32 ≤ range_at h p) ⊎ LeavesWord (low_behind h low p))
+
+-- The lengths of the lower, the upper and the out-of-band line are not all there.
+abbrev BreaksEndLines : Header → Place → Type 0
+BreaksEndLines h p = length (bits_left p) < cond h.has_out_of_band 3 2 * h.prefix_bits
 
 -- ---- steps
 -- a step that answers well, or refuses with such an error

@@ -14,7 +14,8 @@ use Rattle.jbig2_base.proofs.BitFieldLemmas.{bits-drop, byte-bits, next-enough}
 use Rattle.jbig2_coder.specs.declared.huffman_table.line.TableLine.{TableLine}
 use Rattle.jbig2_coder.specs.declared.huffman_table.levels.Level.{Level}
 use Rattle.jbig2_coder.specs.declared.huffman_table.first_table.FirstCode.{FirstCode}
-use Rattle.jbig2_coder.specs.PrefixCode.{CodeReading, Reads, found_or, refused, ended}
+use Rattle.jbig2_coder.specs.PrefixCode.{CodeReading, Reads}
+use Rattle.jbig2_coder.specs.inner.CodeParts.{found_or, refused, ended}
 use Rattle.jbig2_coder.specs.inner.PrefixLevels.{nodes, walk, walk_of, groups_of, AreLevels}
 use Rattle.jbig2_coder.specs.inner.FirstCodes.{Begins, AreRight, GoesOn, AreFirst, IsEntry, Enters}
 use Rattle.jbig2_coder.proofs.PrefixReading.{get-take, group-size, level-next, child-of, turned, not_found, bits_on-add}

@@ -11,8 +11,7 @@ use Rattle.jbig2_base.specs.declared.error.HuffmanError.TheVariants.{InvalidCode
 use Rattle.jbig2_coder.specs.declared.huffman_table.line.TableLine.{TableLine}
 use Rattle.jbig2_coder.specs.PrefixCode.{Member, IsFree, is_crowded, longest, prefix_code, table_of}
 use Rattle.jbig2_coder.specs.Tables.{standard_codes, standard_tables, uniform}
-use Rattle.jbig2_coder.specs.CustomTable.{Step, custom_lines, custom_table, left_at}
-use Rattle.jbig2_coder.specs.FreeTables.{TablesAreFree}
+use Rattle.jbig2_coder.specs.CustomTable.{Step, custom_lines, custom_table, left_at, TablesAreFree}
 use Rattle.jbig2_coder.specs.inner.PrefixLevels.{groups}
 use Rattle.jbig2_coder.proofs.PrefixFree.{free-codes}
 use Rattle.jbig2_coder.proofs.PrefixKraft.{prefix_code-is}

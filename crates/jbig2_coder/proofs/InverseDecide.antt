@@ -4,7 +4,8 @@ use Rattle.std.proofs.Math.Nat.{le_of_mul-le-mul_right}
 use Rattle.std.proofs.lemmas.Nat.{pow_pos}
 use Rattle.std.proofs.lemmas.Bool.{cases_Bool}
 use Rattle.jbig2_coder.specs.Coder.{Context, Decision, Registers, byte_at, choice, decision, renormed}
-use Rattle.jbig2_coder.specs.Encoder.{Writer, Coding, Encoding, encoding, renormed as encoder_renormed}
+use Rattle.jbig2_coder.specs.Encoder.{Writer, Coding, encoding, renormed as encoder_renormed}
+use Rattle.jbig2_coder.specs.inner.EncoderViews.{Encoding}
 use Rattle.jbig2_coder.specs.declared.arithmetic_decoder.registers.CodeRegister.{CodeRegister}
 use Rattle.jbig2_coder.proofs.InverseByteOut.{low, time}
 use Rattle.jbig2_coder.proofs.InverseKnows.{Fits, Seen-fits}

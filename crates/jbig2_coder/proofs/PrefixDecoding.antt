@@ -6,7 +6,8 @@ use Rattle.jbig2_base.specs.Bits.{Place, bits_left, bits_next, bits_on}
 use Rattle.jbig2_base.specs.declared.error.DecodeError.{DecodeError}
 use Rattle.jbig2_coder.specs.declared.huffman_table.line.TableLine.{TableLine}
 use Rattle.jbig2_coder.specs.declared.huffman_table.levels.Level.{Level}
-use Rattle.jbig2_coder.specs.PrefixCode.{Member, CodeReading, Reads, read_code, decoded_value, valued, value_by, value_after, range_bits}
+use Rattle.jbig2_coder.specs.PrefixCode.{Member, CodeReading, Reads, read_code, decoded_value, value_by}
+use Rattle.jbig2_coder.specs.inner.CodeParts.{valued, value_after, range_bits}
 use Rattle.jbig2_coder.specs.inner.PrefixLevels.{walk, groups_of, codes_at}
 use Rattle.jbig2_coder.proofs.PrefixWalk.{walk-reads}
 use Rattle.jbig2_coder.proofs.PrefixReading.{bits_on-add}

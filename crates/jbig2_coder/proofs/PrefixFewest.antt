@@ -1,10 +1,12 @@
 -- A read bit by bit takes the fewest bits that decide it.
 use Rattle.std.proofs.Common.{◌≡◌, ℕ, suc, ◌+◌, ◌-◌, ◌*◌, ltb, Bool, true, false, not, ◌||◌, cond, List, [], ◌∷◌, ◌++◌, append_assoc, append-nil, length, take, Option, Some, None, refl, sym, ◌∙◌, ap, arith, length-append}
+use Rattle.std.specs.Prelude.{is_some}
 use Rattle.std.proofs.lemmas.Bool.{cond-true, cond-false, lt-ltb, le-ltb}
 use Rattle.jbig2_base.specs.Bits.{number_after}
 use Rattle.jbig2_base.specs.Search.{least}
 use Rattle.jbig2_coder.specs.declared.huffman_table.line.TableLine.{TableLine}
-use Rattle.jbig2_coder.specs.PrefixCode.{Member, CodeReading, line_of, begins_longer, found_or, refused, ended, front_number, is_found, is_decided, read_of, read_code}
+use Rattle.jbig2_coder.specs.PrefixCode.{Member, CodeReading, line_of, begins_longer, front_number, read_code}
+use Rattle.jbig2_coder.specs.inner.CodeParts.{found_or, refused, ended, is_decided, read_of}
 use Rattle.jbig2_coder.specs.inner.PrefixLevels.{read_on}
 
 number-push : (front : ℕ) (bits : List ℕ) (b : ℕ) → number_after front (bits ++ b ∷ []) ≡ 2 * number_after front bits + b
@@ -16,7 +18,7 @@ take-front [] rest = refl
 take-front (x ∷ front) rest = ap (λ (ys : List ℕ). x ∷ ys) (take-front front rest)
 
 -- k bits decide the read, or more are needed
-settle : (o : Option TableLine) (longer : Bool) (k far : ℕ) (more : CodeReading TableLine) (given : ℕ → CodeReading TableLine) → given k ≡ found_or o k (refused k) → given far ≡ more → found_or o k (cond longer more (refused k)) ≡ given (cond (is_found o || not longer) k far)
+settle : (o : Option TableLine) (longer : Bool) (k far : ℕ) (more : CodeReading TableLine) (given : ℕ → CodeReading TableLine) → given k ≡ found_or o k (refused k) → given far ≡ more → found_or o k (cond longer more (refused k)) ≡ given (cond (is_some o || not longer) k far)
 settle (Some line) longer k far more given here there = sym here
 settle None true k far more given here there = sym there
 settle None false k far more given here there = sym here
@@ -49,8 +51,8 @@ read-fewest ms front (b ∷ rest) =
     ∙ ap (λ (u : ℕ). read_on ms (length longer) u rest) (sym (number-push 0 front b))
     ∙ read-fewest ms longer rest
     ∙ ap (λ (ys : List ℕ). read_of ms ys (least (is_decided ms ys) n (length ys + 1))) whole) in
-    let decided : test (length bits + 1 - suc n) ≡ (is_found (line_of ms k v) || not (begins_longer ms k v)) =
-    ap test at ∙ ap (λ (u : ℕ). is_found (line_of ms k u) || not (begins_longer ms k u)) spelled in
+    let decided : test (length bits + 1 - suc n) ≡ (is_some (line_of ms k v) || not (begins_longer ms k v)) =
+    ap test at ∙ ap (λ (u : ℕ). is_some (line_of ms k u) || not (begins_longer ms k u)) spelled in
     settle (line_of ms k v) (begins_longer ms k v) k far (read_on ms k v rest) (read_of ms bits) given further
     ∙ ap (λ (t : Bool). read_of ms bits (cond t k far)) (sym decided)
     ∙ ap (λ (j : ℕ). read_of ms bits (cond (test (length bits + 1 - suc n)) j far)) (sym at)

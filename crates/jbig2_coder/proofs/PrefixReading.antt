@@ -9,7 +9,8 @@ use Rattle.jbig2_base.specs.declared.error.DecodeError.{DecodeError}
 use Rattle.jbig2_base.proofs.ReaderLemmas.{bits_on-enough, bits_on-past, end-on}
 use Rattle.jbig2_coder.specs.declared.huffman_table.line.TableLine.{TableLine}
 use Rattle.jbig2_coder.specs.declared.huffman_table.levels.Level.{Level}
-use Rattle.jbig2_coder.specs.PrefixCode.{CodeReading, Reads, found_or, refused, ended}
+use Rattle.jbig2_coder.specs.PrefixCode.{CodeReading, Reads}
+use Rattle.jbig2_coder.specs.inner.CodeParts.{found_or, refused, ended}
 use Rattle.jbig2_coder.specs.inner.PrefixLevels.{nodes, walk, walk_of, groups_of, AreLevels}
 
 -- m bits on from n bits on

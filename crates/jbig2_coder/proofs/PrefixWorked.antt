@@ -6,7 +6,8 @@ use Rattle.jbig2_base.specs.declared.error.HuffmanError.TheVariants.{InvalidCode
 use Rattle.jbig2_base.specs.Bits.{start_of, bits_left, bits_on}
 use Rattle.jbig2_coder.specs.CustomTable.{custom_table, custom_lines, range_lines}
 use Rattle.jbig2_base.specs.Search.{least}
-use Rattle.jbig2_coder.specs.PrefixCode.{prefix_code, table_of, is_crowded, weight, shorter, decoded_value, read_code, refused, ended}
+use Rattle.jbig2_coder.specs.PrefixCode.{prefix_code, table_of, is_crowded, weight, shorter, decoded_value, read_code}
+use Rattle.jbig2_coder.specs.inner.CodeParts.{refused, ended}
 use Rattle.jbig2_coder.specs.Tables.{lines_a, line, lower, upper}
 
 -- row 15

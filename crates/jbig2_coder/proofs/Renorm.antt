@@ -1,8 +1,8 @@
 -- Several shifts of RENORMD at once.
-use Rattle.std.proofs.Common.{◌≡◌, ℕ, zero, suc, ◌+◌, ◌-◌, ◌*◌, ◌%◌, ◌^◌, ◌<◌, ◌≤◌, List, refl, sym, ap, ◌∙◌, arith, subst, ⊎_elim}
+use Rattle.std.proofs.Common.{◌≡◌, ℕ, zero, suc, ◌+◌, ◌-◌, ◌*◌, ◌^◌, ◌<◌, ◌≤◌, List, refl, sym, ap, ◌∙◌, arith, ⊎_elim}
 use Rattle.std.proofs.Math.Nat.{pow-suc, pow-le-pow_right, mul-le-mul_left}
 use Rattle.std.specs.Int.Count.{count_leading_zeros}
-use Rattle.std.proofs.lemmas.Nat.{mul-mod_first, pow_pos, pow-add, leading_top}
+use Rattle.std.proofs.lemmas.Nat.{pow_pos, pow-add, leading_top}
 use Rattle.std.proofs.lemmas.Bool.{cases_lt}
 use Rattle.std.proofs.lemmas.Bool.Decides.{nat_tests}
 use Rattle.jbig2_coder.specs.Coder.{byte_in, filled, doubled, renormed}
@@ -26,63 +26,11 @@ unfolding renormed
 renormed-stop bytes zero a r h = refl
 renormed-stop bytes (suc n) a r h = grind (arith, nat_tests)
 
-pub renormed-filled : (bytes : List ℕ) (n a : ℕ) (r : CodeRegister) → 1 ≤ (filled bytes r).ct → a < 0x8000
-    → renormed bytes (suc n) a r ≡ renormed bytes (suc n) a (filled bytes r)
-renormed-filled bytes n a r e h =
-    renormed-step bytes n a r h
-    ∙ ap (λ s. renormed bytes n (2 * a) (doubled s)) (sym (filled-some bytes (filled bytes r) e))
-    ∙ sym (renormed-step bytes n a (filled bytes r) h)
-
--- k shifts, for which there are bits
-unfoldable pub shifted_by : ℕ → CodeRegister → CodeRegister
-shifted_by k r = record { c = r.c * 2 ^ k % 2 ^ 32; ct = r.ct - k; place = r.place }
-
-shifted_c : (c k : ℕ) → (2 * c % 2 ^ 32) * 2 ^ k % 2 ^ 32 ≡ c * 2 ^ suc k % 2 ^ 32
-shifted_c c k = mul-mod_first (2 * c) (2 ^ k) (2 ^ 32) ∙ ap (λ v. v % 2 ^ 32) (rw pow-suc (omega arith))
-
-shifted_by-none : (r : CodeRegister) → r.c < 2 ^ 32 → shifted_by 0 r ≡ r
-unfolding shifted_by
-shifted_by-none r h = let e : r.c * 2 ^ 0 % 2 ^ 32 ≡ r.c = omega arith in
-    let f : r.ct - 0 ≡ r.ct = omega arith in
-    λ i. record { c = e i; ct = f i; place = r.place }
-
-shifted_by-more : (k : ℕ) (r : CodeRegister) → shifted_by k (doubled r) ≡ shifted_by (suc k) r
-unfolding shifted_by doubled
-shifted_by-more k r =
-    let e : r.ct - 1 - k ≡ r.ct - suc k = omega arith in
-    λ i. record { c = shifted_c r.c k i; ct = e i; place = r.place }
-
 pub double-room : (a k : ℕ) → a * 2 ^ suc k < 2 ^ 16 → 2 * a * 2 ^ k < 2 ^ 16
 double-room a k h = omega (arith, rw pow-suc at h)
 
 pub batch-room : (a k : ℕ) → a * 2 ^ suc k < 2 ^ 16 → a < 0x8000
 batch-room a k h = omega (arith, rw pow-suc at h, mul-le-mul_left a (pow_pos k))
-
-doubled-c : (r : CodeRegister) → (doubled r).c < 2 ^ 32
-unfolding doubled
-doubled-c r = omega arith
-
-doubled-ct : (k : ℕ) (r : CodeRegister) → suc k ≤ r.ct → k ≤ (doubled r).ct
-unfolding doubled
-doubled-ct k r h = omega arith
-
-renormed-batch : (bytes : List ℕ) (k n a : ℕ) (r : CodeRegister) → r.c < 2 ^ 32 → k ≤ r.ct → a * 2 ^ k < 2 ^ 16
-    → renormed bytes (k + n) a r ≡ renormed bytes n (a * 2 ^ k) (shifted_by k r)
-renormed-batch bytes zero n a r hc hk h =
-    let e : a * 2 ^ 0 ≡ a = omega arith in
-    let f : 0 + n ≡ n = omega arith in
-    rw (shifted_by-none r hc, e, f) refl
-renormed-batch bytes (suc k) n a r hc hk h =
-    let s : renormed bytes (suc k + n) a r ≡ renormed bytes (suc (k + n)) a r =
-    ap (λ m. renormed bytes m a r) (let e : suc k + n ≡ suc (k + n) = omega arith in e) in
-    let d : doubled (filled bytes r) ≡ doubled r = ap doubled (filled-some bytes r (omega arith)) in
-    let e : 2 * a * 2 ^ k ≡ a * 2 ^ suc k = rw pow-suc (omega arith) in
-    s
-    ∙ renormed-step bytes (k + n) a r (batch-room a k h)
-    ∙ ap (renormed bytes (k + n) (2 * a)) d
-    ∙ renormed-batch bytes k n (2 * a) (doubled r) (doubled-c r) (doubled-ct k r hk) (double-room a k h)
-    ∙ ap (renormed bytes n (2 * a * 2 ^ k)) (shifted_by-more k r)
-    ∙ ap (λ v. renormed bytes n v (shifted_by (suc k) r)) e
 
 pub renormed-enough : (bytes : List ℕ) (n k a : ℕ) (r : CodeRegister) → 0x8000 ≤ a * 2 ^ n
     → renormed bytes (n + k) a r ≡ renormed bytes n a r
@@ -95,20 +43,6 @@ renormed-enough bytes (suc n) k a r h =
     renormed-step bytes (n + k) a r l ∙ renormed-enough bytes n k (2 * a) (doubled (filled bytes r)) room ∙ sym (renormed-step bytes n a r l))
     (λ (l : 0x8000 ≤ a). renormed-stop bytes (suc (n + k)) a r l ∙ sym (renormed-stop bytes (suc n) a r l))
     (cases_lt a 0x8000))
-
--- what a turn of the code does
-pub renormed-shifts : (bytes : List ℕ) (k a : ℕ) (r : CodeRegister) → r.c < 2 ^ 32 → k ≤ r.ct → 1 ≤ a → k ≤ 15 → a * 2 ^ k < 2 ^ 16
-    → renormed bytes 15 a r ≡ renormed bytes 15 (a * 2 ^ k) (shifted_by k r)
-renormed-shifts bytes k a r hc hk some few h =
-    let n : ℕ = 15 - k in
-    let e : 15 ≡ k + n = omega arith in
-    let f : n + k ≡ 15 = omega arith in
-    let p : 2 ^ k * 2 ^ n ≡ 0x8000 = sym (pow-add 2 k n) ∙ ap (λ v. 2 ^ v) (sym e) in
-    let room : 0x8000 ≤ a * 2 ^ k * 2 ^ n = omega (arith, ap (λ v. a * v) p) in
-    ap (λ m. renormed bytes m a r) e
-    ∙ renormed-batch bytes k n a r hc hk h
-    ∙ sym (renormed-enough bytes n k (a * 2 ^ k) (shifted_by k r) room)
-    ∙ ap (λ m. renormed bytes m (a * 2 ^ k) (shifted_by k r)) f
 
 -- the top bit of A below 8000
 leading-top : (a j : ℕ) → 2 ^ j ≤ a → a < 0x8000 → j < 15
@@ -144,16 +78,3 @@ pub shifted-more : (a k : ℕ) → 1 ≤ a → 1 ≤ k → a < a * 2 ^ k
 shifted-more a k some h =
     let p : 2 ^ 1 ≤ 2 ^ k = pow-le-pow_right (omega arith) h in
     omega (arith, mul-le-mul_left a p)
-
--- A turn of the code: as many shifts as there are bits, but not past the top bit of A.
-pub renormed-turn : (bytes : List ℕ) (a : ℕ) (old r : CodeRegister) (k : ℕ) → r ≡ filled bytes old → r.c < 2 ^ 32
-    → 1 ≤ r.ct → k ≤ r.ct → 1 ≤ a → a < 0x8000 → k ≤ 15 → a * 2 ^ k < 2 ^ 16
-    → renormed bytes 15 a old ≡ renormed bytes 15 (a * 2 ^ k % 2 ^ 32) (record { c = r.c * 2 ^ k % 2 ^ 32; ct = r.ct - k; place = r.place })
-unfolding shifted_by
-renormed-turn bytes a old r k e hc bits left some half few room =
-    let full : 1 ≤ (filled bytes old).ct = subst (λ (s : CodeRegister). 1 ≤ s.ct) e bits in
-    let whole : a * 2 ^ k ≡ a * 2 ^ k % 2 ^ 32 = omega arith in
-    renormed-filled bytes 14 a old full half
-    ∙ ap (renormed bytes 15 a) (sym e)
-    ∙ renormed-shifts bytes k a r hc left some few room
-    ∙ ap (λ v. renormed bytes 15 v (shifted_by k r)) whole

@@ -1,6 +1,5 @@
--- Which rule the bits break where a read by a prefix code refuses them (docs/FORMAT.md), a line for each error. A
--- predicate `Breaks..` takes a table and the bits, or the lines that make a table, and an error; its law ties the
--- definition's errors to it.
+-- Which rule the bits break where a read by a prefix code refuses them (docs/FORMAT.md), a line for each error.
+-- `Breaks..` takes a table and the bits, or a table's lines, and an error; its law ties the definition's errors to it.
 use Rattle.std.specs.Prelude.{◌≡◌, ◌<◌, ◌≤◌, ◌⊎◌, ℕ, zero, suc, ◌+◌, ◌-◌, ◌*◌, ◌/◌, ◌^◌, true, false, if◌then◌else◌, List, [], length, drop, All, Any, Ok, IfErr, ℤ, pos, negsuc, ◌+ℤ◌, int_lt}
 use Rattle.jbig2_base.specs.Bits.{Place, bits_left, bits_on, number_after}
 use Rattle.jbig2_base.specs.declared.error.DecodeError.{DecodeError}
@@ -13,9 +12,7 @@ use Rattle.jbig2_coder.specs.TableSelection.{next_custom}
 use Rattle.jbig2_coder.specs.declared.huffman_table.custom.Header.{Header}
 use Rattle.jbig2_coder.specs.declared.huffman_table.line.TableLine.{TableLine}
 
--- ---- the code that lengths make (B.3)
--- The sum of 2^-len over the lines that have a code exceeds 1: more numbers of the greatest length lie under the codes
--- than there are.
+-- The sum of 2^-len over the codes exceeds 1 (B.3): more numbers of the greatest length lie under them than there are.
 abbrev pub AreCrowded : List TableLine → Type 0
 AreCrowded lines = 2 ^ longest lines < weight (longest lines) lines
 
@@ -26,51 +23,40 @@ BreaksTable lines _ = ⊥
 abbrev pub TablesHaveCauses : Type 0
 TablesHaveCauses = (lines : List TableLine) → IfErr (table_of lines) (BreaksTable lines)
 
--- ---- a read (B.4)
--- a code of one bit at least begins the bits
-abbrev pub Begins : List ℕ → Member → Type 0
+abbrev pub Begins : List ℕ → Member → Type 0  -- a code of one bit at least begins the bits (B.4)
 Begins bits m = (1 ≤ m.bits) × (m.bits ≤ length bits) × (m.number ≡ front_number m.bits bits)
 
 -- the bits end within a code: it has more of them, and begins with these
 abbrev pub EndWithin : List ℕ → Member → Type 0
 EndWithin bits m = (length bits < m.bits) × (m.number / 2 ^ (m.bits - length bits) ≡ number_after 0 bits)
 
--- of none of the codes
-abbrev pub NoneOf : (Member → Type 0) → List Member → Type 0
-NoneOf P ms = All (λ m. P m → ⊥) ms
-
 -- Where no code begins the bits, they end within one, or there are none; else they agree with no code.
 abbrev pub BreaksCode : List Member → List ℕ → DecodeError → Type 0
-BreaksCode ms bits (Parse UnexpectedEof) = NoneOf (Begins bits) ms × ((length bits ≡ 0) ⊎ Any (EndWithin bits) ms)
-BreaksCode ms bits (Huffman InvalidCode) = NoneOf (Begins bits) ms × NoneOf (EndWithin bits) ms
+BreaksCode ms bits (Parse UnexpectedEof) =
+    All (λ m. Begins bits m → ⊥) ms × ((length bits ≡ 0) ⊎ Any (EndWithin bits) ms)
+BreaksCode ms bits (Huffman InvalidCode) = All (λ m. Begins bits m → ⊥) ms × All (λ m. EndWithin bits m → ⊥) ms
 BreaksCode ms bits _ = ⊥
 
 abbrev pub CodesHaveCauses : Type 0
 CodesHaveCauses = (ms : List Member) (p : Place) → IfErr (read_code ms (bits_left p)).answer (BreaksCode ms (bits_left p))
 
--- a number that signed 32 bits do not hold
-abbrev pub LeavesWord : ℤ → Type 0
+abbrev pub LeavesWord : ℤ → Type 0  -- a number that signed 32 bits do not hold
 LeavesWord (pos n) = 2 ^ 31 ≤ n
 LeavesWord (negsuc n) = 2 ^ 31 ≤ n
 
--- a line with range bits, which the bits behind its code do not hold, or which lead out of signed 32 bits
-abbrev pub BreaksRange : TableLine → List ℕ → Type 0
-BreaksRange line bits =
-    (line.is_out_of_band ≡ false)
-    × ((length bits < line.range_length) ⊎ LeavesWord (moved line (front_number line.range_length bits)))
-
--- A value: its code, or behind it the range bits of the code's line.
+-- A value: its code, or behind it the range bits of the code's line are not there, or lead out of signed 32 bits.
 abbrev pub BreaksValue : List Member → List ℕ → DecodeError → Type 0
 BreaksValue ms bits (Parse UnexpectedEof) = BreaksCode ms bits (Parse UnexpectedEof)
 BreaksValue ms bits (Huffman InvalidCode) =
+    let BreaksRange : TableLine → List ℕ → Type 0 = λ line behind. (line.is_out_of_band ≡ false)
+    × ((length behind < line.range_length) ⊎ LeavesWord (moved line (front_number line.range_length behind))) in
     BreaksCode ms bits (Huffman InvalidCode) ⊎ Any (λ m. Begins bits m × BreaksRange m.line (drop m.bits bits)) ms
 BreaksValue ms bits _ = ⊥
 
 abbrev pub ValuesHaveCauses : Type 0
 ValuesHaveCauses = (ms : List Member) (p : Place) → IfErr (decoded_value ms (bits_left p)).answer (BreaksValue ms (bits_left p))
 
--- The same where none may be out of band.
-abbrev pub BreaksNumber : List Member → List ℕ → DecodeError → Type 0
+abbrev pub BreaksNumber : List Member → List ℕ → DecodeError → Type 0  -- the same where none may be out of band
 BreaksNumber ms bits (Huffman UnexpectedOob) = Any (λ m. Begins bits m × (m.line.is_out_of_band ≡ true)) ms
 BreaksNumber ms bits e = BreaksValue ms bits e
 
@@ -78,36 +64,25 @@ abbrev pub NumbersHaveCauses : Type 0
 NumbersHaveCauses =
     (ms : List Member) (p : Place) → IfErr (without_oob (decoded_value ms (bits_left p))).answer (BreaksNumber ms (bits_left p))
 
--- ---- a custom table (B.2)
--- the range length of the line that stands here
-abbrev pub range_at : Header → Place → ℕ
-range_at h p = front_number h.range_bits (bits_left (bits_on h.prefix_bits p))
-
--- the low value of the line behind it
-abbrev pub low_behind : Header → ℤ → Place → ℤ
-low_behind h low p = low +ℤ pos (2 ^ range_at h p)
-
--- A line: its two lengths are not there, or its range is above 31 bits, or leads out of signed 32 bits.
-abbrev pub BreaksLine : Header → ℤ → Place → Type 0
-BreaksLine h low p =
-    (length (bits_left p) < h.prefix_bits + h.range_bits) ⊎ ((32 ≤ range_at h p) ⊎ LeavesWord (low_behind h low p))
-
--- This line or one of n - 1 behind it does so, and begins below the maximum.
+-- A line of a custom table (B.2), this or one of n - 1 behind it, begins below the maximum, and its two lengths are
+-- not there, or its range is above 31 bits, or leads out of signed 32 bits.
 abbrev pub BreaksSomeLine : ℕ → Header → ℤ → Place → Type 0
 BreaksSomeLine zero h low p = ⊥
 BreaksSomeLine (suc n) h low p =
+    let behind = bits_on h.prefix_bits p in
+    let range = front_number h.range_bits (bits_left behind) in
+    let next = low +ℤ pos (2 ^ range) in
     (int_lt low h.maximum ≡ true)
-    × (BreaksLine h low p ⊎ BreaksSomeLine n h (low_behind h low p) (bits_on h.range_bits (bits_on h.prefix_bits p)))
+    × (((length (bits_left p) < h.prefix_bits + h.range_bits) ⊎ ((32 ≤ range) ⊎ LeavesWord next))
+    ⊎ BreaksSomeLine n h next (bits_on h.range_bits behind))
 
--- The lengths of the lower, the upper and the out-of-band line are not all there.
-abbrev pub BreaksEndLines : Header → Place → Type 0
-BreaksEndLines h p = length (bits_left p) < (if h.has_out_of_band then 3 else 2) * h.prefix_bits
-
--- The lines that the header asks for: one of the ranges, or behind all of them.
+-- The lines that the header asks for: one of the ranges; or behind them the lengths of the lower, the upper and the
+-- out-of-band line are not all there.
 abbrev pub BreaksLines : Header → Place → Type 0
 BreaksLines h p =
     BreaksSomeLine (length (bits_left p) + 1) h h.minimum p
-    ⊎ ((ranges : List TableLine × Place) × (range_lines h p ≡ Ok ranges) × BreaksEndLines h ranges.1)
+    ⊎ ((ranges : List TableLine × Place) × (range_lines h p ≡ Ok ranges)
+    × (length (bits_left ranges.1) < (if h.has_out_of_band then 3 else 2) * h.prefix_bits))
 
 -- The header is 72 bits. Behind it a line of the table is at fault; or all are there, and the codes do not fit.
 abbrev pub BreaksCustom : Place → DecodeError → Type 0
@@ -120,7 +95,6 @@ BreaksCustom p _ = ⊥
 abbrev pub CustomTablesHaveCauses : Type 0
 CustomTablesHaveCauses = (p : Place) → IfErr (custom_table p) (λ refusal. BreaksCustom p refusal.0)
 
--- ---- the choice of tables
 -- A custom table is asked for, and none is left.
 abbrev pub BreaksSelection : List (List Member) → DecodeError → Type 0
 BreaksSelection customs (Huffman MissingTables) = customs ≡ []

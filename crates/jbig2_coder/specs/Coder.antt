@@ -1,113 +1,87 @@
--- The arithmetic decoder (T.88, Annex E in the software conventions of Annex G), one shift at a time.
---
--- The annexes differ where a byte from 80 to 8F follows a byte FF, which no encoder writes, and Annex G
--- decides: in a fresh context the bytes FF 8F begin with the decision 0, where Annex E has 1.
-use Rattle.std.specs.Prelude.{ℕ, suc, zero, ◌+◌, ◌-◌, ◌*◌, ◌/◌, ◌%◌, ◌^◌, ◌<◌, ◌≤◌, length, Bool, true, false, not, ◌&&◌, if◌then◌else◌, ◌==◌, nat_lt, nat_le, List, slice_index_or}
+-- The arithmetic decoder (T.88, Annex E in the software conventions of Annex G), one shift at a time. The annexes
+-- differ where a byte from 80 to 8F follows a byte FF, which no encoder writes, and Annex G decides: in a fresh context
+-- the bytes FF 8F begin with the decision 0, where Annex E has 1.
+use Rattle.std.specs.Prelude.{ℕ, suc, zero, ◌+◌, ◌-◌, ◌*◌, ◌/◌, ◌%◌, ◌^◌, Bool, true, false, not, ◌&&◌, if◌then◌else◌, ◌==◌, nat_lt, nat_le, List, slice_index_or}
 use Rattle.jbig2_coder.specs.Table.{row_of}
 use Rattle.jbig2_coder.specs.declared.arithmetic_decoder.registers.CodeRegister.{CodeRegister}
 
 -- A context: a row of the table, and the symbol that is likely there.
-pub record Context : Type 0 where
-  pub row : ℕ
-  pub likely : Bool
+abbrev pub Context : Type 0
+Context = record { row : ℕ; likely : Bool }
 
 abbrev pub fresh : Context
 fresh = record { row = 0; likely = false }
 
 -- The interval register A, and the code register: C, CT and the place of the byte that was read last.
-pub record Registers : Type 0 where
-  pub a : ℕ
-  pub code : CodeRegister
+abbrev pub Registers : Type 0
+Registers = record { a : ℕ; code : CodeRegister }
 
 -- A decoder: the bytes that it reads, and its registers.
-pub record Coder : Type 0 where
-  pub bytes : List ℕ
-  pub registers : Registers
+abbrev pub Coder : Type 0
+Coder = record { bytes : List ℕ; registers : Registers }
 
--- What holds of the registers between two decisions.
-pub record IsAtRest (bytes : List ℕ) (registers : Registers) : Type 0 where
-  pub normal : 0x8000 ≤ registers.a
-  pub below : registers.a < 0x10000
-  pub few : registers.code.ct ≤ 8
-  pub within : registers.code.place ≤ length bytes
-
--- the byte at a place; past the end of the data every byte is FF
-unfoldable pub byte_at : List ℕ → ℕ → ℕ
+unfoldable pub byte_at : List ℕ → ℕ → ℕ  -- the byte at a place; past the end every byte is FF
 byte_at bytes place = slice_index_or bytes place 0xFF
 
--- BYTEIN (Figure G.3), from C and the place: after a byte FF comes a stuffed byte of seven bits, or a
--- marker, at which the decoder stays
+-- BYTEIN (Figure G.3), from C and the place: behind FF is a stuffed byte of seven bits, or a marker, where it stays
 unfoldable pub byte_in : List ℕ → ℕ → ℕ → CodeRegister
 byte_in bytes c place =
     let next = byte_at bytes (place + 1) in
-    if byte_at bytes place == 0xFF
-    then (if nat_lt 0x8F next
-    then record { c = c; ct = 8; place = place }
-    else record { c = (c + (2 ^ 32 + 0xFE00 - next * 2 ^ 9)) % 2 ^ 32; ct = 7; place = place + 1 })
+    let behind_ff : CodeRegister =
+    if nat_lt 0x8F next then record { c = c; ct = 8; place = place }
+    else record { c = (c + (2 ^ 32 + 0xFE00 - next * 2 ^ 9)) % 2 ^ 32; ct = 7; place = place + 1 } in
+    if byte_at bytes place == 0xFF then behind_ff
     else record { c = (c + (0xFF00 - next * 2 ^ 8)) % 2 ^ 32; ct = 8; place = place + 1 }
 
--- the same, only where no bit is left
-unfoldable pub filled : List ℕ → CodeRegister → CodeRegister
+unfoldable pub filled : List ℕ → CodeRegister → CodeRegister  -- the same, only where no bit is left
 filled bytes r = if r.ct == 0 then byte_in bytes r.c r.place else r
 
--- C moves on by one bit
-unfoldable pub doubled : CodeRegister → CodeRegister
+unfoldable pub doubled : CodeRegister → CodeRegister  -- C moves on by one bit
 doubled r = record { c = 2 * r.c % 2 ^ 32; ct = r.ct - 1; place = r.place }
 
--- RENORMD (E.3.3): A and C move on bit by bit until A is at least 8000. Fifteen times are enough for any A
--- but 0.
+-- RENORMD (E.3.3): A and C move on bit by bit until A is at least 8000. Fifteen times are enough for any A but 0.
 unfoldable pub renormed : List ℕ → ℕ → ℕ → CodeRegister → Registers
 renormed bytes zero a r = record { a = a; code = r }
 renormed bytes (suc n) a r =
     let more = renormed bytes n (2 * a) (doubled (filled bytes r)) in
     if nat_lt a 0x8000 then more else record { a = a; code = r }
 
--- INITDEC (Figure G.1)
-unfoldable pub initial_registers : List ℕ → Registers
+unfoldable pub initial_registers : List ℕ → Registers  -- INITDEC (Figure G.1)
 initial_registers bytes =
     let r = byte_in bytes ((0xFF - byte_at bytes 0) * 2 ^ 16) 0 in
     record { a = 0x8000; code = record { c = r.c * 2 ^ 7 % 2 ^ 32; ct = r.ct - 7; place = r.place } }
 
--- the context after the likely symbol, and after the other
-unfoldable pub likely_next : Context → Context
+unfoldable pub likely_next : Context → Context  -- the context after the likely symbol
 likely_next context = record { row = (row_of context.row).nmps; likely = context.likely }
 
-unfoldable pub unlikely_next : Context → Context
+unfoldable pub unlikely_next : Context → Context  -- and after the other
 unlikely_next context =
     let row = row_of context.row in
     record { row = row.nlps; likely = (if row.switch then not context.likely else context.likely) }
 
--- What a decision chooses: the symbol, what A and C become before RENORMD, the context afterwards,
--- and whether RENORMD follows.
-pub record Choice : Type 0 where
-  pub symbol : Bool
-  pub a : ℕ
-  pub c : ℕ
-  pub context : Context
-  pub renorm : Bool
+-- What a decision chooses: the symbol, A and C before RENORMD, the context afterwards, and whether RENORMD follows.
+abbrev pub Choice : Type 0
+Choice = record { symbol : Bool; a : ℕ; c : ℕ; context : Context; renorm : Bool }
 
--- the upper part of the interval belongs to the likely symbol, unless it has become the smaller one
--- (DECODE, Figure G.2)
+-- DECODE (Figure G.2): the upper part of the interval is the likely symbol's, unless it has become the smaller one
 unfoldable pub choice : Context → ℕ → ℕ → Choice
 choice context a c =
     let qe = (row_of context.row).qe in
     let rest = a - qe in
     let lower = (c + (2 ^ 32 - rest * 2 ^ 16)) % 2 ^ 32 in
-    if nat_lt (c / 2 ^ 16) rest
-    then (if nat_le 0x8000 rest
-    then record { symbol = context.likely; a = rest; c = c; context = context; renorm = false }
-    else if nat_lt rest qe
-    then record { symbol = not context.likely; a = rest; c = c; context = unlikely_next context; renorm = true }
-    else record { symbol = context.likely; a = rest; c = c; context = likely_next context; renorm = true })
-    else if nat_lt rest qe
-    then record { symbol = context.likely; a = qe; c = lower; context = likely_next context; renorm = true }
-    else record { symbol = not context.likely; a = qe; c = lower; context = unlikely_next context; renorm = true }
+    let likely : ℕ → ℕ → Choice = λ size low.
+    record { symbol = context.likely; a = size; c = low; context = likely_next context; renorm = true } in
+    let unlikely : ℕ → ℕ → Choice = λ size low.
+    record { symbol = not context.likely; a = size; c = low; context = unlikely_next context; renorm = true } in
+    let in_upper : Choice =
+    if nat_le 0x8000 rest then record { symbol = context.likely; a = rest; c = c; context = context; renorm = false }
+    else if nat_lt rest qe then unlikely rest c else likely rest c in
+    let in_lower : Choice = if nat_lt rest qe then likely qe lower else unlikely qe lower in
+    if nat_lt (c / 2 ^ 16) rest then in_upper else in_lower
 
 -- A decision: the symbol, and the registers and the context afterwards.
-pub record Decision : Type 0 where
-  pub symbol : Bool
-  pub registers : Registers
-  pub context : Context
+abbrev pub Decision : Type 0
+Decision = record { symbol : Bool; registers : Registers; context : Context }
 
 unfoldable pub decision : List ℕ → Registers → Context → Decision
 decision bytes registers context =

@@ -1,6 +1,6 @@
 -- The lines that a custom table's bits spell (T.88, B.2). Each step takes a place in the bits and reads on from it.
--- `custom_table` gives the code that the lines make, or the first error, each with the place where the reader is left.
-use Rattle.std.specs.Prelude.{◌≡◌, ◌⊎◌, ℕ, zero, suc, ◌+◌, ◌/◌, ◌%◌, ◌^◌, ◌<◌, ◌≤◌, nat_lt, ◌==◌, List, [], ◌∷◌, ◌++◌, length, Result, Ok, Err, if◌then◌else◌, ℤ, pos, ◌+ℤ◌, ◌-ℤ◌, int_lt}
+-- `custom_table` gives the code that the lines make, or the first error, and the place where the reader is left.
+use Rattle.std.specs.Prelude.{◌≡◌, ◌⊎◌, ℕ, zero, suc, ◌+◌, ◌/◌, ◌%◌, ◌^◌, nat_lt, ◌==◌, List, [], ◌∷◌, ◌++◌, length, All, IfOk, Result, Ok, Err, if◌then◌else◌, ℤ, pos, ◌+ℤ◌, ◌-ℤ◌, int_lt}
 use Rattle.std.specs.Int.{w32, cast_signed}
 use Rattle.jbig2_base.specs.Answer.{◌>>=◌, some_or}
 use Rattle.jbig2_base.specs.Bits.{Place, bits_left, bits_next, bits_on}
@@ -10,8 +10,8 @@ use Rattle.jbig2_base.specs.declared.error.ParseError.TheVariants.{UnexpectedEof
 use Rattle.jbig2_base.specs.declared.error.HuffmanError.TheVariants.{InvalidCode}
 use Rattle.jbig2_coder.specs.declared.huffman_table.line.TableLine.{TableLine}
 use Rattle.jbig2_coder.specs.declared.huffman_table.custom.Header.{Header}
-use Rattle.jbig2_coder.specs.PrefixCode.{Member, table_of, in_word}
-use Rattle.jbig2_coder.specs.Tables.{line, lower, upper, out_of_band}
+use Rattle.jbig2_coder.specs.PrefixCode.{IsFree, Member, table_of, in_word}
+use Rattle.jbig2_coder.specs.Tables.{line, lower, upper, out_of_band, standard_codes, uniform}
 
 -- What a step answers: a value and the place behind it, or an error and the place where the reader is left.
 abbrev pub Step : Type 0 → Type 0
@@ -22,35 +22,28 @@ abbrev pub left_at : {A : Type 0} → Place → Result A DecodeError → Step A
 left_at p (Ok x) = Ok (x, p)
 left_at p (Err e) = Err (e, p)
 
--- the answer alone
-abbrev pub answer_of : {A : Type 0} → Step A → Result A DecodeError
+abbrev pub answer_of : {A : Type 0} → Step A → Result A DecodeError  -- the answer alone
 answer_of (Ok x) = Ok x.0
 answer_of (Err e) = Err e.0
 
--- the next count bits as a number, or the error
-abbrev pub field : DecodeError → ℕ → Place → Step ℕ
+abbrev pub field : DecodeError → ℕ → Place → Step ℕ  -- the next count bits as a number, or the error
 field e count p = left_at (bits_on count p) (some_or e (bits_next count (bits_left p)))
 
-abbrev pub header : ℕ → ℕ → ℕ → Header
-header flags minimum maximum =
-    record {
-      has_out_of_band = flags % 2 == 1;
-      prefix_bits = flags / 2 % 8 + 1;
-      range_bits = flags / 16 % 8 + 1;
-      minimum = cast_signed w32 minimum;
-      maximum = cast_signed w32 maximum;
-    }
-
--- the flags and the least and greatest values
-abbrev pub custom_header : Place → Step Header
+abbrev pub custom_header : Place → Step Header  -- the flags, and the least and the greatest value
 custom_header p = do
   flags ← field (Parse UnexpectedEof) 8 p
   minimum ← field (Parse UnexpectedEof) 32 flags.1
   maximum ← field (Parse UnexpectedEof) 32 minimum.1
-  Ok (header flags.0 minimum.0 maximum.0, maximum.1)
+  let header : Header = record {
+    has_out_of_band = flags.0 % 2 == 1;
+    prefix_bits = flags.0 / 2 % 8 + 1;
+    range_bits = flags.0 / 16 % 8 + 1;
+    minimum = cast_signed w32 minimum.0;
+    maximum = cast_signed w32 maximum.0;
+  }
+  Ok (header, maximum.1)
 
--- the low value of the next line, refused above signed 32 bits
-abbrev pub next_low : ℤ → ℕ → Result ℤ DecodeError
+abbrev pub next_low : ℤ → ℕ → Result ℤ DecodeError  -- the low value of the next line, refused above signed 32 bits
 next_low low range = if nat_lt range 32 then in_word (low +ℤ pos (2 ^ range)) else Err (Huffman InvalidCode)
 
 -- a line from its low value on, and the next low value
@@ -65,28 +58,24 @@ custom_line h low p = do
 abbrev pub behind : List TableLine → Step (List TableLine) → Step (List TableLine)
 behind before s = s >>= λ lines. Ok (before ++ lines.0, lines.1)
 
--- The lines while the low value is below the maximum. Each takes two bits at least, so more of them
--- than bits are left never come.
+-- The lines while the low value is below the maximum. Each takes two bits at least: no more come than bits are left.
 abbrev pub range_lines_in : ℕ → Header → ℤ → Place → Step (List TableLine)
 range_lines_in zero h low p = Ok ([], p)
 range_lines_in (suc n) h low p =
-    if int_lt low h.maximum then (custom_line h low p >>= λ x. behind (x.0.0 ∷ []) (range_lines_in n h x.0.1 x.1)) else Ok ([], p)
+    if int_lt low h.maximum then (custom_line h low p >>= λ x. behind (x.0.0 ∷ []) (range_lines_in n h x.0.1 x.1))
+    else Ok ([], p)
 
 unfoldable pub range_lines : Header → Place → Step (List TableLine)
 range_lines h p = range_lines_in (length (bits_left p) + 1) h h.minimum p
 
--- the out-of-band line, where the flags have one
-abbrev pub last_line : Header → Place → Step (List TableLine)
-last_line h p =
-    if h.has_out_of_band then (field (Huffman InvalidCode) h.prefix_bits p >>= λ len. Ok (out_of_band len.0 ∷ [], len.1))
-    else Ok ([], p)
-
--- the lower line, the upper line and the out-of-band line
+-- the lower line, the upper line, and the out-of-band line where the flags have one
 abbrev pub end_lines : Header → Place → Step (List TableLine)
 end_lines h p = do
   below ← field (Huffman InvalidCode) h.prefix_bits p
   above ← field (Huffman InvalidCode) h.prefix_bits below.1
-  behind (lower below.0 (h.minimum -ℤ pos 1) ∷ upper above.0 h.maximum ∷ []) (last_line h above.1)
+  behind (lower below.0 (h.minimum -ℤ pos 1) ∷ upper above.0 h.maximum ∷ []) (if h.has_out_of_band
+      then (field (Huffman InvalidCode) h.prefix_bits above.1 >>= λ len. Ok (out_of_band len.0 ∷ [], len.1))
+      else Ok ([], above.1))
 
 unfoldable pub custom_lines : Place → Step (List TableLine)
 custom_lines p = do
@@ -94,8 +83,7 @@ custom_lines p = do
   ranges ← range_lines header.0 header.1
   behind ranges.0 (end_lines header.0 ranges.1)
 
--- A custom table, by its bits.
-unfoldable pub custom_table : Place → Step (List Member)
+unfoldable pub custom_table : Place → Step (List Member)  -- a custom table, by its bits
 custom_table p = do
   lines ← custom_lines p
   left_at lines.1 (table_of lines.0)
@@ -105,6 +93,10 @@ abbrev pub GivesAt : {X Y : Type 0} → (X → Y) → Result X DecodeError → P
 GivesAt view (Ok x) p meant = meant ≡ Ok (view x, p)
 GivesAt view (Err e) p meant = (e ≡ OutOfMemory) ⊎ (meant ≡ Err (e, p))
 
--- a header as its flags can have it
-abbrev pub HasWidths : Header → Type 0
-HasWidths h = (0 < h.prefix_bits) × (h.prefix_bits ≤ 8) × (h.range_bits ≤ 8)
+-- No code of a table begins another (B.3), whichever way it is made: the tables of listed lines, of codes of one
+-- length, of a tables segment's bits (B.2), and the standard ones (B.5).
+pub record TablesAreFree : Type 0 where
+  pub listed : (lines : List TableLine) → IfOk (table_of lines) IsFree
+  pub uniform : (count code_length : ℕ) → IfOk (table_of (uniform count code_length)) IsFree
+  pub custom : (p : Place) → IfOk (custom_table p) (λ table. IsFree table.0)
+  pub standard : All IsFree standard_codes

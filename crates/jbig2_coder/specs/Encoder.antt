@@ -1,23 +1,17 @@
--- The arithmetic encoder (T.88, E.2), one shift at a time. A decision and its context take the encoder's registers and
--- the bytes so far on to the next; FLUSH ends the bytes. The decoder of `Coder` reads them back.
+-- The arithmetic encoder (T.88, E.2), one shift at a time. A decision in its context takes the registers and the bytes
+-- so far on to the next; FLUSH ends the bytes. The decoder of `Coder` reads them back.
 use Rattle.std.specs.Prelude.{ℕ, suc, zero, ◌+◌, ◌-◌, ◌*◌, ◌/◌, ◌%◌, ◌^◌, Bool, true, false, not, if◌then◌else◌, ◌==◌, nat_lt, nat_le, List, [], ◌∷◌, reverse}
 use Rattle.jbig2_coder.specs.Table.{row_of}
 use Rattle.jbig2_coder.specs.Coder.{Context, likely_next, unlikely_next}
 
--- What is written: the code register C, the shifts before the next byte goes out (CT), and the bytes
--- that are out, the last byte first.
-pub record Writer : Type 0 where
-  pub register : ℕ
-  pub wait : ℕ
-  pub out : List ℕ
+-- What is written: the code register C, the shifts before the next byte goes out (CT), and the bytes out, last first.
+abbrev pub Writer : Type 0
+Writer = record { register : ℕ; wait : ℕ; out : List ℕ }
 
--- The interval register A beside it.
-pub record Coding : Type 0 where
-  pub range : ℕ
-  pub writer : Writer
+abbrev pub Coding : Type 0  -- the interval register A beside it
+Coding = record { range : ℕ; writer : Writer }
 
--- INITENC (E.2.8)
-unfoldable pub opened : Coding
+unfoldable pub opened : Coding  -- INITENC (E.2.8)
 opened = record { range = 0x8000; writer = record { register = 0; wait = 12; out = [] } }
 
 -- a byte of eight bits goes out, and after a byte FF one of seven bits (BYTEOUT, E.2.7)
@@ -27,75 +21,54 @@ plain c out = record { register = c % 2 ^ 19; wait = 8; out = (c / 2 ^ 19 % 256)
 unfoldable pub stuffed : ℕ → List ℕ → Writer
 stuffed c out = record { register = c % 2 ^ 20; wait = 7; out = (c / 2 ^ 20) ∷ out }
 
--- BYTEOUT (E.2.7): a carry goes into the last byte, but not into a byte FF, behind which a stuffed bit
--- takes it up; before the first byte there is none
+-- BYTEOUT (E.2.7): a carry goes into the last byte, but not into FF, behind which a stuffed bit takes it up
 unfoldable pub byte_out : ℕ → List ℕ → Writer
 byte_out c [] = plain c []
 byte_out c (last ∷ out) =
-    if last == 0xFF
-    then stuffed c (last ∷ out)
-    else if nat_lt c (2 ^ 27)
-    then plain c (last ∷ out)
-    else if last + 1 == 0xFF
-    then stuffed (c % 2 ^ 27) (0xFF ∷ out)
+    if last == 0xFF then stuffed c (last ∷ out)
+    else if nat_lt c (2 ^ 27) then plain c (last ∷ out)
+    else if last + 1 == 0xFF then stuffed (c % 2 ^ 27) (0xFF ∷ out)
     else plain c ((last + 1) ∷ out)
 
--- C moves on by one bit, and a byte goes out where enough have gathered
-unfoldable pub shifted : Writer → Writer
+unfoldable pub shifted : Writer → Writer  -- C moves on by one bit, and a byte goes out where enough have gathered
 shifted w =
-    if w.wait - 1 == 0
-    then byte_out (2 * w.register) w.out
+    if w.wait - 1 == 0 then byte_out (2 * w.register) w.out
     else record { register = 2 * w.register; wait = w.wait - 1; out = w.out }
 
--- RENORME (E.2.6): A and C move on bit by bit until A is at least 8000. Fifteen times are enough for
--- any A but 0.
+-- RENORME (E.2.6): A and C move on bit by bit until A is at least 8000. Fifteen times are enough for any A but 0.
 unfoldable pub renormed : ℕ → ℕ → Writer → Coding
 renormed zero a w = record { range = a; writer = w }
 renormed (suc n) a w =
     let more = renormed n (2 * a) (shifted w) in
     if nat_lt a 0x8000 then more else record { range = a; writer = w }
 
--- What a decision makes of A, C and its context, and whether RENORME follows.
-pub record Narrowed : Type 0 where
-  pub range : ℕ
-  pub register : ℕ
-  pub context : Context
-  pub renorm : Bool
+abbrev pub Narrowed : Type 0  -- what a decision makes of A, C and its context, and whether RENORME follows
+Narrowed = record { range : ℕ; register : ℕ; context : Context; renorm : Bool }
 
--- the likely symbol gets the upper part of the interval, unless that has become the smaller one
--- (CODEMPS, E.2.4)
+-- CODEMPS (E.2.4): the likely symbol gets the upper part of the interval, unless that has become the smaller one
 unfoldable pub narrowed_likely : Context → ℕ → ℕ → Narrowed
 narrowed_likely context a c =
     let qe = (row_of context.row).qe in
     let rest = a - qe in
-    if nat_le 0x8000 rest
-    then record { range = rest; register = c + qe; context = context; renorm = false }
-    else if nat_lt rest qe
-    then record { range = qe; register = c; context = likely_next context; renorm = true }
+    if nat_le 0x8000 rest then record { range = rest; register = c + qe; context = context; renorm = false }
+    else if nat_lt rest qe then record { range = qe; register = c; context = likely_next context; renorm = true }
     else record { range = rest; register = c + qe; context = likely_next context; renorm = true }
 
--- and the unlikely symbol the other part (CODELPS, E.2.4)
+-- CODELPS (E.2.4): and the unlikely symbol the other part
 unfoldable pub narrowed_unlikely : Context → ℕ → ℕ → Narrowed
 narrowed_unlikely context a c =
     let qe = (row_of context.row).qe in
     let rest = a - qe in
-    if nat_lt rest qe
-    then record { range = rest; register = c + qe; context = unlikely_next context; renorm = true }
+    if nat_lt rest qe then record { range = rest; register = c + qe; context = unlikely_next context; renorm = true }
     else record { range = qe; register = c; context = unlikely_next context; renorm = true }
 
--- ENCODE (E.2.2 and E.2.3)
-unfoldable pub narrowed : Context → Bool → ℕ → ℕ → Narrowed
+unfoldable pub narrowed : Context → Bool → ℕ → ℕ → Narrowed  -- ENCODE (E.2.2 and E.2.3)
 narrowed context decision a c =
-    if (if context.likely then decision else not decision)
-    then narrowed_likely context a c
+    if (if context.likely then decision else not decision) then narrowed_likely context a c
     else narrowed_unlikely context a c
 
--- An encoder once a decision is coded, and the decision's context.
-pub record Encoding : Type 0 where
-  pub coding : Coding
-  pub context : Context
-
-unfoldable pub encoding : Context → Bool → Coding → Encoding
+-- an encoder once a decision is coded, and the decision's context
+unfoldable pub encoding : Context → Bool → Coding → record { coding : Coding; context : Context }
 encoding context decision s =
     let next = narrowed context decision s.range s.writer.register in
     let writer : Writer = record s.writer { register = next.register } in
@@ -104,14 +77,12 @@ encoding context decision s =
       context = next.context;
     }
 
--- SETBITS (E.2.9): C with as many low ones as the interval allows
-unfoldable pub set_bits : ℕ → ℕ → ℕ
+unfoldable pub set_bits : ℕ → ℕ → ℕ  -- SETBITS (E.2.9): C with as many low ones as the interval allows
 set_bits a c =
     let ones = c - c % 2 ^ 16 + 0xFFFF in
     if nat_le (c + a) ones then ones - 0x8000 else ones
 
--- FLUSH (E.2.9): C goes out by two bytes, and then the marker FF AC closes the data; a last byte FF
--- begins the marker
+-- FLUSH (E.2.9): C goes out by two bytes, and then the marker FF AC closes the data; a last byte FF begins the marker
 unfoldable pub flushed : Coding → Writer
 flushed s =
     let first = byte_out (set_bits s.range s.writer.register * 2 ^ s.writer.wait) s.writer.out in

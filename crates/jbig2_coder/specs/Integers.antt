@@ -4,29 +4,23 @@ use Rattle.std.specs.Prelude.{ℕ, suc, zero, ◌+◌, ◌-◌, ◌*◌, ◌%◌
 use Rattle.jbig2_base.specs.Grid.{bit_number}
 use Rattle.jbig2_coder.specs.Coder.{Context, Decision, Registers, fresh, decision}
 
--- The number that bits spell, the high bit first.
-unfoldable pub value_of_bits : List Bool → ℕ
+unfoldable pub value_of_bits : List Bool → ℕ  -- the number that bits spell, the high bit first
 value_of_bits [] = 0
 value_of_bits (b ∷ bits) = bit_number b * 2 ^ length bits + value_of_bits bits
 
--- What has been read so far, and the registers and the contexts after it.
-pub record Reading : Type 0 where
-  pub bits : List Bool
-  pub registers : Registers
-  pub contexts : List Context
+abbrev pub Reading : Type 0  -- what has been read so far, and the registers and the contexts after it
+Reading = record { bits : List Bool; registers : Registers; contexts : List Context }
 
 -- the decision that comes next; `name` gives the number of its context from the bits so far
 unfoldable pub next : (List Bool → ℕ) → List ℕ → Reading → Decision
 next name bytes r = decision bytes r.registers (slice_index_or r.contexts (name r.bits) fresh)
 
--- one bit more
-unfoldable pub read : (List Bool → ℕ) → List ℕ → Reading → Reading
+unfoldable pub read : (List Bool → ℕ) → List ℕ → Reading → Reading  -- one bit more
 read name bytes r =
     let d = next name bytes r in
     record { bits = r.bits ++ d.symbol ∷ []; registers = d.registers; contexts = slice_set r.contexts (name r.bits) d.context }
 
--- n bits more
-unfoldable pub read_more : (List Bool → ℕ) → ℕ → List ℕ → Reading → Reading
+unfoldable pub read_more : (List Bool → ℕ) → ℕ → List ℕ → Reading → Reading  -- n bits more
 read_more name zero bytes r = r
 read_more name (suc n) bytes r = read name bytes (read_more name n bytes r)
 
@@ -35,10 +29,8 @@ abbrev pub prev_of : List Bool → ℕ
 prev_of bits = value_of_bits (true ∷ drop (length bits - 8) bits)
 
 -- A row of Table A.1: the decisions that name it, how many bits the value has, and the least number of its range.
-pub record Range : Type 0 where
-  pub prefix : List Bool
-  pub bits : ℕ
-  pub offset : ℕ
+abbrev pub Range : Type 0
+Range = record { prefix : List Bool; bits : ℕ; offset : ℕ }
 
 abbrev pub range : List Bool → ℕ → ℕ → Range
 range prefix bits offset = record { prefix = prefix; bits = bits; offset = offset }
@@ -50,11 +42,9 @@ ranges =
     ∷ range (true ∷ true ∷ false ∷ []) 6 20
     ∷ range (true ∷ true ∷ true ∷ false ∷ []) 8 84
     ∷ range (true ∷ true ∷ true ∷ true ∷ false ∷ []) 12 340
-    ∷ range (true ∷ true ∷ true ∷ true ∷ true ∷ []) 32 4436
-    ∷ []
+    ∷ range (true ∷ true ∷ true ∷ true ∷ true ∷ []) 32 4436 ∷ []
 
--- whether the next decisions are these
-unfoldable pub are_next : List Bool → List ℕ → Reading → Bool
+unfoldable pub are_next : List Bool → List ℕ → Reading → Bool  -- whether the next decisions are these
 are_next [] bytes r = true
 are_next (true ∷ others) bytes r = (next prev_of bytes r).symbol && are_next others bytes (read prev_of bytes r)
 are_next (false ∷ others) bytes r = not (next prev_of bytes r).symbol && are_next others bytes (read prev_of bytes r)
@@ -64,21 +54,15 @@ unfoldable pub next_range : List Range → List ℕ → Reading → Range
 next_range [] bytes r = range [] 0 0
 next_range (row ∷ rows) bytes r = if are_next row.prefix bytes r then row else next_range rows bytes r
 
--- a number below 2 ^ 32 as a signed one
-unfoldable pub signed : ℕ → ℤ
+unfoldable pub signed : ℕ → ℤ  -- a number below 2 ^ 32 as a signed one
 signed n = if nat_lt n (2 ^ 31) then pos n else pos n -ℤ pos (2 ^ 32)
 
--- the value, or out of band
-unfoldable pub value_of : Bool → ℕ → Option ℤ
+unfoldable pub value_of : Bool → ℕ → Option ℤ  -- the value, or out of band
 value_of negative sum =
     if negative then (if sum == 0 then None else Some (signed (2 ^ 32 - sum))) else Some (signed sum)
 
 -- An integer (A.2): a sign, a prefix and a value.
-pub record Integer : Type 0 where
-  pub value : Option ℤ
-  pub reading : Reading
-
-unfoldable pub integer : List ℕ → Registers → List Context → Integer
+unfoldable pub integer : List ℕ → Registers → List Context → record { value : Option ℤ; reading : Reading }
 integer bytes registers contexts =
     let start : Reading = record { bits = []; registers = registers; contexts = contexts } in
     let signed = read prev_of bytes start in
@@ -88,16 +72,11 @@ integer bytes registers contexts =
     let sum = (value_of_bits (drop (length before.bits) after.bits) + row.offset) % 2 ^ 32 in
     record { value = value_of (next prev_of bytes start).symbol sum; reading = after }
 
--- A symbol id (A.3): as many bits as the code length says, each in the context that the bits so far
--- spell behind a 1.
-abbrev pub place_of : List Bool → ℕ
-place_of bits = value_of_bits (true ∷ bits)
-
-pub record Ids : Type 0 where
-  pub code_len : ℕ
-  pub contexts : List Context
+-- A symbol id (A.3): as many bits as the code length says, each in the context that the bits so far spell behind a 1.
+abbrev pub Ids : Type 0
+Ids = record { code_len : ℕ; contexts : List Context }
 
 unfoldable pub id : List ℕ → Registers → Ids → Reading
 id bytes registers ids =
     let start : Reading = record { bits = []; registers = registers; contexts = ids.contexts } in
-    read_more place_of ids.code_len bytes start
+    read_more (λ bits. value_of_bits (true ∷ bits)) ids.code_len bytes start

@@ -2,7 +2,6 @@ pub mod Causes
 pub mod Coder
 pub mod CustomTable
 pub mod Encoder
-pub mod FreeTables
 pub mod Integers
 pub mod Lists
 pub mod PrefixCode

@@ -1,44 +1,32 @@
--- Whole lists of decisions, each in a context that its number names: what the encoder makes of them,
--- and what the decoder reads (T.88, Annexes E and G). Before the first decision every context is fresh.
-use Rattle.std.specs.Prelude.{ℕ, Bool, if◌then◌else◌, ◌==◌, List, [], ◌∷◌, map, slice_index_or, ◌≡◌}
+-- Whole lists of decisions, each in a context that its number names: what the encoder makes of them, and what the
+-- decoder reads (T.88, Annexes E and G). Before the first decision every context is fresh.
+use Rattle.std.specs.Prelude.{ℕ, Bool, if◌then◌else◌, ◌==◌, List, [], ◌∷◌, map, ◌≡◌}
 use Rattle.jbig2_coder.specs.Coder.{Context, Registers, fresh, decision, initial_registers}
 use Rattle.jbig2_coder.specs.Encoder.{Coding, opened, encoding, flushed, closed}
 
--- what is known of each context
-abbrev pub Contexts : Type 0
-Contexts = ℕ → Context
-
-abbrev pub all_fresh : Contexts
-all_fresh = λ _. fresh
-
--- those that a list holds, the others fresh
-unfoldable pub contexts_of : List Context → Contexts
-contexts_of known = λ k. slice_index_or known k fresh
-
-unfoldable pub with_context : Contexts → ℕ → Context → Contexts
+-- what is known of each context, once it is another in context k
+unfoldable pub with_context : (ℕ → Context) → ℕ → Context → ℕ → Context
 with_context contexts k context = λ j. if j == k then context else contexts j
 
 -- the encoder after a list of (context, decision)
-unfoldable pub encode_from : Coding → Contexts → List (ℕ × Bool) → Coding
+unfoldable pub encode_from : Coding → (ℕ → Context) → List (ℕ × Bool) → Coding
 encode_from s contexts [] = s
 encode_from s contexts (entry ∷ entries) =
     let next = encoding (contexts entry.0) entry.1 s in
     encode_from next.coding (with_context contexts entry.0 next.context) entries
 
--- the bytes of a list of (context, decision)
-unfoldable pub encoded : List (ℕ × Bool) → List ℕ
-encoded entries = closed (flushed (encode_from opened all_fresh entries)).out
+unfoldable pub encoded : List (ℕ × Bool) → List ℕ  -- the bytes of a list of (context, decision)
+encoded entries = closed (flushed (encode_from opened (λ _. fresh) entries)).out
 
 -- the decisions that the decoder reads when it is asked in these contexts
-unfoldable pub decoded_from : List ℕ → Registers → Contexts → List ℕ → List Bool
+unfoldable pub decoded_from : List ℕ → Registers → (ℕ → Context) → List ℕ → List Bool
 decoded_from bytes registers contexts [] = []
 decoded_from bytes registers contexts (k ∷ asked) =
     let next = decision bytes registers (contexts k) in
     next.symbol ∷ decoded_from bytes next.registers (with_context contexts k next.context) asked
 
 unfoldable pub read_back : List ℕ → List ℕ → List Bool
-read_back bytes asked = decoded_from bytes (initial_registers bytes) all_fresh asked
+read_back bytes asked = decoded_from bytes (initial_registers bytes) (λ _. fresh) asked
 
--- whatever is encoded, the decoder that is asked in the same contexts reads back
-abbrev pub DecodesBack : Type 0
+abbrev pub DecodesBack : Type 0  -- whatever is encoded, the decoder that is asked in the same contexts reads back
 DecodesBack = (entries : List (ℕ × Bool)) → read_back (encoded entries) (map (λ entry. entry.0) entries) ≡ map (λ entry. entry.1) entries

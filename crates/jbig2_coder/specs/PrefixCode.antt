@@ -1,26 +1,22 @@
--- Prefix codes (T.88, B.3 and B.4): the codes that prefix lengths make, and how bits are read by them. `prefix_code`
--- takes lines and gives their codes; `decoded_value` takes these and bits, and gives a value or an error and how many
--- bits are taken.
-use Rattle.std.specs.Prelude.{◌≡◌, AllPairs, ℕ, zero, suc, ◌+◌, ◌-◌, ◌/◌, ◌^◌, ◌≤◌, nat_lt, nat_le, ◌==◌, Bool, true, false, not, ◌&&◌, ◌||◌, List, [], ◌∷◌, ◌++◌, length, take, drop, max, filter, All, Option, Some, None, Result, Ok, Err, if◌then◌else◌, ℤ, pos, negsuc, ◌+ℤ◌, ◌-ℤ◌}
+-- Prefix codes (T.88, B.3 and B.4). `prefix_code` takes lines and gives the codes that their prefix lengths make;
+-- `decoded_value` takes these and bits, and gives a value or an error and how many bits are taken.
+use Rattle.std.specs.Prelude.{◌≡◌, AllPairs, ℕ, zero, suc, ◌+◌, ◌-◌, ◌/◌, ◌^◌, ◌≤◌, nat_lt, nat_le, ◌==◌, Bool, false, not, ◌&&◌, ◌||◌, List, [], ◌∷◌, ◌++◌, length, take, drop, max, filter, All, Option, Some, None, is_some, Result, Ok, Err, if◌then◌else◌, ℤ, pos, negsuc, ◌+ℤ◌, ◌-ℤ◌}
 use Rattle.jbig2_base.specs.Bits.{Place, bits_left, bits_next, bits_on, number_after}
 use Rattle.jbig2_base.specs.Search.{place_from}
+use Rattle.jbig2_base.specs.Answer.{◌>>=◌}
 use Rattle.jbig2_base.specs.declared.error.DecodeError.{DecodeError}
 use Rattle.jbig2_base.specs.declared.error.DecodeError.TheVariants.{Parse, Huffman}
 use Rattle.jbig2_base.specs.declared.error.ParseError.TheVariants.{UnexpectedEof}
 use Rattle.jbig2_base.specs.declared.error.HuffmanError.TheVariants.{InvalidCode, UnexpectedOob}
 use Rattle.jbig2_coder.specs.declared.huffman_table.line.TableLine.{TableLine}
 
--- A code and the line that it stands for. A code is the number that its bits spell, high bit first,
--- and how many bits it has.
-pub record Member : Type 0 where
-  pub bits : ℕ
-  pub number : ℕ
-  pub line : TableLine
+-- A code: how many bits it has, the number that they spell, high bit first, and the line that it stands for.
+abbrev pub Member : Type 0
+Member = record { bits : ℕ; number : ℕ; line : TableLine }
 
 -- What a read answers, and how many bits it takes; where the bits end first, one more than there are.
-pub record CodeReading (A : Type 0) : Type 0 where
-  pub answer : Result A DecodeError
-  pub taken : ℕ
+abbrev pub CodeReading : Type 0 → Type 0
+CodeReading A = record { answer : Result A DecodeError; taken : ℕ }
 
 -- A call that answers what a reading answers, and leaves the bits that it takes behind it.
 pub record Reads {A : Type 0} (old new : Place) (result : Result A DecodeError) (reading : CodeReading A) : Type 0 where
@@ -28,21 +24,18 @@ pub record Reads {A : Type 0} (old new : Place) (result : Result A DecodeError) 
   pub place : new ≡ bits_on reading.taken old
   pub rest : bits_left new ≡ drop reading.taken (bits_left old)
 
--- the greatest prefix length
-abbrev pub longest : List TableLine → ℕ
+abbrev pub longest : List TableLine → ℕ  -- the greatest prefix length
 longest [] = 0
 longest (x ∷ xs) = max x.prefix_length (longest xs)
 
--- the lines whose codes have l bits, in their order
-abbrev pub level : ℕ → List TableLine → List TableLine
+abbrev pub level : ℕ → List TableLine → List TableLine  -- the lines whose codes have l bits, in their order
 level l lines = filter (λ x. x.prefix_length == l) lines
 
 -- the codes of l bits that lie under a code of len bits, none for a line without a code
 abbrev pub share : ℕ → ℕ → ℕ
 share l len = if nat_lt 0 len && nat_le len l then 2 ^ (l - len) else 0
 
--- the codes of l bits that lie under the codes of at most l bits
-unfoldable pub weight : ℕ → List TableLine → ℕ
+unfoldable pub weight : ℕ → List TableLine → ℕ  -- the codes of l bits that lie under the codes of at most l bits
 weight l [] = 0
 weight l (x ∷ xs) = share l x.prefix_length + weight l xs
 
@@ -51,26 +44,19 @@ unfoldable pub shorter : ℕ → List TableLine → ℕ
 shorter l [] = 0
 shorter l (x ∷ xs) = (if nat_lt x.prefix_length l then share l x.prefix_length else 0) + shorter l xs
 
--- The code of a line of l bits (B.3): the sum of 2^(l - len) over the lines that are shorter, or as long
--- and earlier. Each of those that are as long adds 1.
-abbrev pub code_of : ℕ → List TableLine → List TableLine → ℕ
-code_of l lines earlier = shorter l lines + length (level l earlier)
+-- these lines with the numbers n, n + 1 and so on as codes of l bits
+abbrev pub numbered : ℕ → ℕ → List TableLine → List Member
+numbered l n [] = []
+numbered l n (x ∷ xs) = record { bits = l; number = n; line = x } ∷ numbered l (n + 1) xs
 
--- the members of l bits, of all lines, where `earlier` stand before the others
-abbrev pub members_of : ℕ → List TableLine → List TableLine → List TableLine → List Member
-members_of l lines earlier [] = []
-members_of l lines earlier (x ∷ xs) =
-    let others = members_of l lines (earlier ++ x ∷ []) xs in
-    if x.prefix_length == l then record { bits = l; number = code_of l lines earlier; line = x } ∷ others else others
-
--- the members of n lengths from l on
-abbrev pub members_from : ℕ → ℕ → List TableLine → List Member
-members_from zero l lines = []
-members_from (suc n) l lines = members_of l lines [] lines ++ members_from n (l + 1) lines
+-- The codes of n lengths from l on (B.3). In each length the first is the sum of 2^(l - len) over the shorter lines.
+abbrev pub codes_from : ℕ → ℕ → List TableLine → List Member
+codes_from zero l lines = []
+codes_from (suc n) l lines = numbered l (shorter l lines) (level l lines) ++ codes_from n (l + 1) lines
 
 -- the code that the prefix lengths of these lines make, by length, then by place
 unfoldable pub prefix_code : List TableLine → List Member
-prefix_code lines = members_from (longest lines) 1 lines
+prefix_code lines = codes_from (longest lines) 1 lines
 
 -- whether the sum of 2^-len over the lines that have a code exceeds 1
 unfoldable pub is_crowded : List TableLine → Bool
@@ -80,87 +66,52 @@ is_crowded lines = nat_lt (2 ^ longest lines) (weight (longest lines) lines)
 abbrev pub table_of : List TableLine → Result (List Member) DecodeError
 table_of lines = if is_crowded lines then Err (Huffman InvalidCode) else Ok (prefix_code lines)
 
--- the line whose code is the number v of k bits
-abbrev pub line_of : List Member → ℕ → ℕ → Option TableLine
+abbrev pub line_of : List Member → ℕ → ℕ → Option TableLine  -- the line whose code is the number v of k bits
 line_of [] k v = None
 line_of (m ∷ ms) k v = if m.bits == k && (m.number == v) then Some m.line else line_of ms k v
 
--- whether the number v of k bits begins a longer code
-abbrev pub begins_longer : List Member → ℕ → ℕ → Bool
+abbrev pub begins_longer : List Member → ℕ → ℕ → Bool  -- whether the number v of k bits begins a longer code
 begins_longer [] k v = false
 begins_longer (m ∷ ms) k v = (nat_lt k m.bits && (m.number / 2 ^ (m.bits - k) == v)) || begins_longer ms k v
 
-abbrev pub ended : {A : Type 0} → ℕ → CodeReading A
-ended k = record { answer = Err (Parse UnexpectedEof); taken = k }
-
-abbrev pub refused : {A : Type 0} → ℕ → CodeReading A
-refused k = record { answer = Err (Huffman InvalidCode); taken = k }
-
--- the line that was found, or what stands in its place
-abbrev pub found_or : Option TableLine → ℕ → CodeReading TableLine → CodeReading TableLine
-found_or (Some line) k other = record { answer = Ok line; taken = k }
-found_or None k other = other
-
--- the number that the first k bits spell
-abbrev pub front_number : ℕ → List ℕ → ℕ
+abbrev pub front_number : ℕ → List ℕ → ℕ  -- the number that the first k bits spell
 front_number k bits = number_after 0 (take k bits)
 
-abbrev pub is_found : Option TableLine → Bool
-is_found (Some line) = true
-is_found None = false
-
--- whether the first k bits are a code, or begin none
-abbrev pub is_decided : List Member → List ℕ → ℕ → Bool
-is_decided ms bits k = is_found (line_of ms k (front_number k bits)) || not (begins_longer ms k (front_number k bits))
-
--- what the first k bits give, where no fewer are enough
-abbrev pub read_of : List Member → List ℕ → ℕ → CodeReading TableLine
-read_of ms bits k = if nat_lt (length bits) k then ended k else found_or (line_of ms k (front_number k bits)) k (refused k)
-
--- The line of the code that begins the bits; else the shortest beginning that begins no code is refused.
+-- The line of the code that begins the bits; else the shortest beginning that begins no code is refused (B.4).
 unfoldable pub read_code : List Member → List ℕ → CodeReading TableLine
-read_code ms bits = read_of ms bits (place_from (is_decided ms bits) 1 (length bits + 1))
+read_code ms bits =
+    let found : ℕ → Option TableLine = λ k. line_of ms k (front_number k bits) in
+    let is_decided : ℕ → Bool = λ k. is_some (found k) || not (begins_longer ms k (front_number k bits)) in
+    let k = place_from is_decided 1 (length bits + 1) in
+    if nat_lt (length bits) k then record { answer = Err (Parse UnexpectedEof); taken = k } else elim (found k) [
+      | Some line ↦ record { answer = Ok line; taken = k }
+      | None ↦ record { answer = Err (Huffman InvalidCode); taken = k }
+    ]
 
--- a number in signed 32 bits
-abbrev pub in_word : ℤ → Result ℤ DecodeError
+abbrev pub in_word : ℤ → Result ℤ DecodeError  -- a number in signed 32 bits
 in_word (pos n) = if nat_lt n 2147483648 then Ok (pos n) else Err (Huffman InvalidCode)
 in_word (negsuc n) = if nat_lt n 2147483648 then Ok (negsuc n) else Err (Huffman InvalidCode)
 
--- the low value and the range bits together: a lower line goes down
-abbrev pub moved : TableLine → ℕ → ℤ
+abbrev pub moved : TableLine → ℕ → ℤ  -- the low value and the range bits together: a lower line goes down
 moved line offset = if line.is_lower then line.range_low -ℤ pos offset else line.range_low +ℤ pos offset
 
-abbrev pub some_value : Result ℤ DecodeError → Result (Option ℤ) DecodeError
-some_value (Ok n) = Ok (Some n)
-some_value (Err e) = Err e
-
+-- the value of a line, by the number of the range bits behind its code
 abbrev pub value_by : TableLine → Option ℕ → Result (Option ℤ) DecodeError
 value_by line None = Err (Huffman InvalidCode)
-value_by line (Some offset) = some_value (in_word (moved line offset))
+value_by line (Some offset) = in_word (moved line offset) >>= λ n. Ok (Some n)
 
--- the value of a line, by the range bits behind its code; None is out of band
-abbrev pub value_after : TableLine → List ℕ → Result (Option ℤ) DecodeError
-value_after line bits =
-    if line.is_out_of_band then Ok None else value_by line (bits_next line.range_length bits)
-
--- how many bits that takes
-abbrev pub range_bits : TableLine → ℕ
-range_bits line = if line.is_out_of_band then 0 else line.range_length
-
--- what a code's line gives, k bits being taken
-abbrev pub valued : CodeReading TableLine → List ℕ → CodeReading (Option ℤ)
-valued reading bits =
-    elim reading.answer [
-      | Ok line ↦ record { answer = value_after line (drop reading.taken bits); taken = reading.taken + range_bits line }
-      | Err e ↦ record { answer = Err e; taken = reading.taken }
+-- A value read by a table (B.4): a code, and behind it its line's range bits; out of band is None, and has none.
+unfoldable pub decoded_value : List Member → List ℕ → CodeReading (Option ℤ)
+decoded_value ms bits =
+    let code = read_code ms bits in
+    elim code.answer [
+      | Ok line ↦ let value = value_by line (bits_next line.range_length (drop code.taken bits)) in
+          let behind = if line.is_out_of_band then 0 else line.range_length in
+          record { answer = (if line.is_out_of_band then Ok None else value); taken = code.taken + behind }
+      | Err e ↦ record { answer = Err e; taken = code.taken }
     ]
 
--- A value read by a table (B.4).
-unfoldable pub decoded_value : List Member → List ℕ → CodeReading (Option ℤ)
-decoded_value ms bits = valued (read_code ms bits) bits
-
--- a value where none may be out of band
-abbrev pub no_oob : Result (Option ℤ) DecodeError → Result ℤ DecodeError
+abbrev pub no_oob : Result (Option ℤ) DecodeError → Result ℤ DecodeError  -- a value where none may be out of band
 no_oob (Ok (Some n)) = Ok n
 no_oob (Ok None) = Err (Huffman UnexpectedOob)
 no_oob (Err e) = Err e
@@ -168,14 +119,11 @@ no_oob (Err e) = Err e
 abbrev pub without_oob : CodeReading (Option ℤ) → CodeReading ℤ
 without_oob reading = record { answer = no_oob reading.answer; taken = reading.taken }
 
--- range lengths that one read of bits can take
-abbrev pub AreShort : List TableLine → Type 0
+abbrev pub AreShort : List TableLine → Type 0  -- range lengths that one read of bits can take
 AreShort lines = All (λ x. x.range_length ≤ 32) lines
 
--- whether a's bits are the first ones of b's
-abbrev pub begins : Member → Member → Bool
+abbrev pub begins : Member → Member → Bool  -- whether a's bits are the first ones of b's
 begins a b = nat_le a.bits b.bits && (b.number / 2 ^ (b.bits - a.bits) == a.number)
 
--- No code begins another.
-abbrev pub IsFree : List Member → Type 0
+abbrev pub IsFree : List Member → Type 0  -- no code begins another
 IsFree ms = AllPairs (λ a b. (begins a b ≡ false) × (begins b a ≡ false)) ms

@@ -2,7 +2,7 @@
 -- coder for their integers, and each procedure has contexts of its own, which go on from integer to integer (A.2).
 use Rattle.std.specs.Prelude.{ℕ, List, [], replicate, slice_index_or, slice_set, Option, ℤ}
 use Rattle.jbig2_coder.specs.Coder.{Coder, Context, fresh}
-use Rattle.jbig2_coder.specs.Integers.{Integer, integer}
+use Rattle.jbig2_coder.specs.Integers.{Reading, integer}
 use Rattle.jbig2_coder.specs.declared.integer_procedures.IntegerProcedure.{IntegerProcedure}
 use Rattle.jbig2_coder.specs.declared.integer_procedures.IntegerProcedure.TheVariants.{Iaai, Iadh, Iads, Iadt, Iadw, Iaex, Iafs, Iait, Iardh, Iardw, Iardx, Iardy, Iari}
 
@@ -21,24 +21,18 @@ index_of Iardx = 10
 index_of Iardy = 11
 index_of Iari = 12
 
--- what the contexts of each procedure have learned, in that order
-abbrev pub Procedures : Type 0
+abbrev pub Procedures : Type 0  -- what the contexts of each procedure have learned, in that order
 Procedures = List (List Context)
 
 abbrev pub fresh_procedures : Procedures
 fresh_procedures = replicate 13 (replicate 512 fresh)
 
--- What a procedure answers, and the coder and the contexts behind it.
-pub record Asked : Type 0 where
-  pub value : Option ℤ
-  pub coder : Coder
-  pub procedures : Procedures
-
-abbrev pub asked_integer : IntegerProcedure → Coder → Procedures → Integer
+abbrev pub asked_integer : IntegerProcedure → Coder → Procedures → record { value : Option ℤ; reading : Reading }
 asked_integer procedure c procedures = integer c.bytes c.registers (slice_index_or procedures (index_of procedure) [])
 
--- The next integer of a procedure.
-unfoldable pub asked : IntegerProcedure → Coder → Procedures → Asked
+-- The next integer of a procedure, and the coder and the contexts behind it.
+unfoldable pub asked : IntegerProcedure → Coder → Procedures
+    → record { value : Option ℤ; coder : Coder; procedures : Procedures }
 asked procedure c procedures =
     let i = asked_integer procedure c procedures in
     record {

@@ -1,21 +1,14 @@
--- The probability states of the adaptive coder (T.88, Table E.1): for each row the probability Qe of the unlikely
--- symbol, the rows that follow either symbol, and where the likely symbol changes. `row_of` takes the number of a row
--- and gives these.
+-- The probability states of the adaptive coder (T.88, Table E.1). `row_of` takes the number of a row and gives it.
 use Rattle.std.specs.Prelude.{ℕ, Bool, true, false, List, [], ◌∷◌, slice_index_or}
 
--- A row: the probability of the unlikely symbol, the next row after the likely and after the unlikely
--- symbol, and whether the likely symbol turns round after the unlikely one.
-pub record QeData : Type 0 where
-  pub qe : ℕ
-  pub nmps : ℕ
-  pub nlps : ℕ
-  pub switch : Bool
+-- A row: the unlikely symbol's probability, the next row after either symbol, and whether the likely one turns round.
+abbrev pub QeData : Type 0
+QeData = record { qe : ℕ; nmps : ℕ; nlps : ℕ; switch : Bool }
 
 abbrev row : ℕ → ℕ → ℕ → Bool → QeData
 row qe nmps nlps switch = record { qe = qe; nmps = nmps; nlps = nlps; switch = switch }
 
--- Table E.1, row 0 first
-unfoldable pub rows : List QeData
+unfoldable pub rows : List QeData  -- Table E.1, row 0 first
 rows =
     (row 0x5601 1 1 true) ∷
     (row 0x3401 2 6 false) ∷
@@ -63,9 +56,7 @@ rows =
     (row 0x0009 44 41 false) ∷
     (row 0x0005 45 42 false) ∷
     (row 0x0001 45 43 false) ∷
-    (row 0x5601 46 46 false) ∷
-    []
+    (row 0x5601 46 46 false) ∷ []
 
--- Row k of the table. No context names a row past it.
-unfoldable pub row_of : ℕ → QeData
+unfoldable pub row_of : ℕ → QeData  -- Row k of the table. No context names a row past it.
 row_of k = slice_index_or rows k (row 0x5601 46 46 false)

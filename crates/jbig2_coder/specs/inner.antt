@@ -1,7 +1,7 @@
 pub mod Ahead
+pub mod CodeParts
 pub mod EncoderViews
 pub mod FirstCodes
-pub mod Floor
 pub mod PrefixLevels
 pub mod Prefixes
 pub mod Stands

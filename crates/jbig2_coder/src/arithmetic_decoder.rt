@@ -241,8 +241,8 @@ impl<'a> ArithmeticDecoder<'a> {
         u32::from(self.decode_renormalized(context, state, rest))
     }
 
-    /// A decision that isn't quiet, of which it is known already what the context does and what is left of A.
-    /// It stands apart, so that loops of decisions stay small.
+    /// A decision that isn't quiet, of which it is known already what the context does and what is
+    /// left of A. It stands apart, so that loops of decisions stay small.
     #[inline(never)]
     fn decode_renormalized(
         &mut self,

@@ -3,9 +3,8 @@ ghost use Rattle.std.specs.Prelude.{◌≡◌, ◌≤◌, ◌^◌, drop, IfOk, O
 ghost use Rattle.jbig2_base.specs.Answer.{Gives};
 ghost use Rattle.jbig2_base.specs.Bits.{bits_left};
 ghost use Rattle.jbig2_coder.specs.PrefixCode.{table_of, read_code, decoded_value, without_oob, AreShort, IsFree, Reads};
-ghost use Rattle.jbig2_coder.specs.FreeTables.{TablesAreFree};
 ghost use Rattle.jbig2_coder.specs.Tables.{uniform};
-ghost use Rattle.jbig2_coder.specs.CustomTable.{custom_table, GivesAt};
+ghost use Rattle.jbig2_coder.specs.CustomTable.{custom_table, GivesAt, TablesAreFree};
 ghost use Rattle.jbig2_coder.specs.Causes.{CodesHaveCauses, CustomTablesHaveCauses, NumbersHaveCauses, TablesHaveCauses};
 
 mod custom;

@@ -1,7 +1,6 @@
 -- The code register with bytes that are read ahead, seen as the code register of the definitions (T.88, Annex G).
-use Rattle.std.specs.Prelude.{◌≡◌, ◌≢◌, ℕ, zero, suc, ◌+◌, ◌-◌, ◌*◌, ◌/◌, ◌%◌, ◌^◌, ◌<◌, ◌≤◌, List, length}
-use Rattle.jbig2_coder.specs.Coder.{IsAtRest, Registers, byte_at}
-use Rattle.jbig2_coder.specs.inner.Floor.{floor_of}
+use Rattle.std.specs.Prelude.{◌≡◌, ◌≢◌, ℕ, zero, suc, ◌+◌, ◌-◌, ◌*◌, ◌/◌, ◌%◌, ◌^◌, ◌<◌, ◌≤◌, max, List, length}
+use Rattle.jbig2_coder.specs.Coder.{Registers, byte_at}
 use Rattle.jbig2_coder.specs.declared.arithmetic_decoder.registers.BufferedRegisters.{BufferedRegisters}
 use Rattle.jbig2_coder.specs.declared.arithmetic_decoder.registers.CodeBuffer.{CodeBuffer}
 use Rattle.jbig2_coder.specs.declared.arithmetic_decoder.registers.CodeRegister.{CodeRegister}
@@ -43,6 +42,18 @@ pub record IsAhead (bytes : List ℕ) (code : CodeBuffer) : Type 0 where
 -- after so many shifts
 abbrev pub shifted : ℕ → CodeBuffer → CodeBuffer
 shifted k code = record { c = code.c * 2 ^ k % 2 ^ 64; bits = code.bits - k; place = code.place }
+
+-- How far A may fall in quiet decisions (T.88, E.3): down to 8000, where a renormalization follows, and no further than
+-- one above the upper half of C, below which the lower part of the interval is chosen.
+abbrev pub floor_of : ℕ → ℕ
+floor_of c = max (c / 2 ^ 16 + 1) 0x8000
+
+-- What holds of the registers between two decisions.
+pub record IsAtRest (bytes : List ℕ) (registers : Registers) : Type 0 where
+  pub normal : 0x8000 ≤ registers.a
+  pub below : registers.a < 0x10000
+  pub few : registers.code.ct ≤ 8
+  pub within : registers.code.place ≤ length bytes
 
 -- What holds of a decoder between two decisions.
 pub record IsKept (bytes : List ℕ) (registers : BufferedRegisters) (floor : ℕ) : Type 0 where

@@ -1,5 +1,6 @@
--- The encoder of the code, seen as the encoder of the definitions.
-use Rattle.std.specs.Prelude.{ℕ, ◌+◌, ◌*◌, ◌^◌, ◌<◌, ◌≤◌, List, reverse}
+-- The encoder of the code, seen as the encoder of the definitions, and a list of contexts as what is known of each.
+use Rattle.std.specs.Prelude.{ℕ, ◌+◌, ◌*◌, ◌^◌, ◌<◌, ◌≤◌, List, reverse, slice_index_or}
+use Rattle.jbig2_coder.specs.Coder.{Context, fresh}
 use Rattle.jbig2_coder.specs.Encoder.{Writer, Coding}
 use Rattle.jbig2_coder.specs.declared.mq.encoder.CodeRegister.{CodeRegister}
 use Rattle.jbig2_coder.specs.declared.mq.encoder.Registers.{Registers}
@@ -21,3 +22,18 @@ pub record IsAtRest (registers : Registers) : Type 0 where
   pub normal : 0x8000 ≤ registers.a
   pub below : registers.a < 0x10000
   pub room : HasRoom registers.a registers.code
+
+-- an encoder once a decision is coded, and the decision's context
+abbrev pub Encoding : Type 0
+Encoding = record { coding : Coding; context : Context }
+
+-- what is known of each context
+abbrev pub Contexts : Type 0
+Contexts = ℕ → Context
+
+abbrev pub all_fresh : Contexts
+all_fresh = λ _. fresh
+
+-- those that a list holds, the others fresh
+unfoldable pub contexts_of : List Context → Contexts
+contexts_of known = λ k. slice_index_or known k fresh

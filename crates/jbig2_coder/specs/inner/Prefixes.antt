@@ -1,6 +1,7 @@
--- The prefix of an integer as it is counted: it ends after its first 0, or with its fifth bit (T.88, Table A.1).
-use Rattle.std.specs.Prelude.{ℕ, suc, zero, true, if◌then◌else◌, List, [], ◌∷◌, slice_index_or}
-use Rattle.jbig2_coder.specs.Integers.{Reading, Range, next, read, prev_of, range, ranges}
+-- The prefix of an integer as it is counted: it ends after its first 0, or with its fifth bit (T.88, Table A.1). Then
+-- the contexts of symbol ids.
+use Rattle.std.specs.Prelude.{ℕ, suc, zero, Bool, true, if◌then◌else◌, List, [], ◌∷◌, slice_index_or}
+use Rattle.jbig2_coder.specs.Integers.{Reading, Range, next, read, prev_of, range, ranges, value_of_bits}
 
 pub record Prefix : Type 0 where
   pub ones : ℕ
@@ -15,3 +16,7 @@ prefix (suc most) ones bytes r =
 -- the row with so many ones in its prefix
 unfoldable pub range_of : ℕ → Range
 range_of ones = slice_index_or ranges ones (range (true ∷ true ∷ true ∷ true ∷ true ∷ []) 32 4436)
+
+-- the context of the next bit of a symbol id (T.88, A.3)
+abbrev pub place_of : List Bool → ℕ
+place_of bits = value_of_bits (true ∷ bits)

@@ -1,7 +1,8 @@
 //! The lines that a custom table's bits spell (T.88, B.2).
 ghost use Rattle.std.specs.Prelude.{◌≡◌, ◌+◌, ◌≤◌, ◌<◌, ◌^◌, drop, length, OnOk, IfOk};
 ghost use Rattle.jbig2_base.specs.Bits.{bits_left, bits_on};
-ghost use Rattle.jbig2_coder.specs.CustomTable.{left_at, next_low, custom_header, custom_line, range_lines, end_lines, behind, custom_lines, GivesAt, HasWidths};
+ghost use Rattle.jbig2_coder.specs.CustomTable.{left_at, next_low, custom_header, custom_line, range_lines, end_lines, behind, custom_lines, GivesAt};
+ghost use Rattle.jbig2_coder.specs.inner.CodeParts.{HasWidths};
 ghost use Rattle.jbig2_coder.specs.PrefixCode.{AreShort};
 
 use super::line::TableLine;

@@ -1,5 +1,6 @@
 use Rattle.std.proofs.Common.{◌≡◌, ◌+◌, ◌^◌, ◌++◌, drop, length}
-use Rattle.jbig2_coder.specs.Lists.{contexts_of, read_back, decoded_from}
+use Rattle.jbig2_coder.specs.Lists.{read_back, decoded_from}
+use Rattle.jbig2_coder.specs.inner.EncoderViews.{contexts_of}
 use Rattle.jbig2_coder.proofs.mq.decode_list.Given as goal
 
 abbrev pub invariant-loop-number : goal.invariant-loop-number

@@ -1,0 +1,63 @@
+-- Parts of the definitions of prefix codes and of custom tables (T.88, B.2 to B.4), under names of their own.
+use Rattle.std.specs.Prelude.{ℕ, ◌+◌, ◌≤◌, ◌<◌, nat_lt, Bool, not, ◌||◌, List, [], ◌∷◌, length, drop, Option, Some, None, is_some, Result, Ok, Err, if◌then◌else◌, ℤ}
+use Rattle.jbig2_base.specs.Answer.{◌>>=◌}
+use Rattle.jbig2_base.specs.Bits.{Place, bits_next}
+use Rattle.jbig2_base.specs.declared.error.DecodeError.{DecodeError}
+use Rattle.jbig2_base.specs.declared.error.DecodeError.TheVariants.{Parse, Huffman}
+use Rattle.jbig2_base.specs.declared.error.ParseError.TheVariants.{UnexpectedEof}
+use Rattle.jbig2_base.specs.declared.error.HuffmanError.TheVariants.{InvalidCode}
+use Rattle.jbig2_coder.specs.declared.huffman_table.line.TableLine.{TableLine}
+use Rattle.jbig2_coder.specs.declared.huffman_table.custom.Header.{Header}
+use Rattle.jbig2_coder.specs.CustomTable.{Step, field}
+use Rattle.jbig2_coder.specs.Tables.{out_of_band}
+use Rattle.jbig2_coder.specs.PrefixCode.{Member, CodeReading, line_of, begins_longer, front_number, value_by}
+
+abbrev pub ended : {A : Type 0} → ℕ → CodeReading A
+ended k = record { answer = Err (Parse UnexpectedEof); taken = k }
+
+abbrev pub refused : {A : Type 0} → ℕ → CodeReading A
+refused k = record { answer = Err (Huffman InvalidCode); taken = k }
+
+-- the line that was found, or what stands in its place
+abbrev pub found_or : Option TableLine → ℕ → CodeReading TableLine → CodeReading TableLine
+found_or line k other = elim line [
+  | Some found ↦ record { answer = Ok found; taken = k }
+  | None ↦ other
+]
+
+-- whether the first k bits are a code, or begin none
+abbrev pub is_decided : List Member → List ℕ → ℕ → Bool
+is_decided ms bits k = is_some (line_of ms k (front_number k bits)) || not (begins_longer ms k (front_number k bits))
+
+-- what the first k bits give, where no fewer are enough
+abbrev pub read_of : List Member → List ℕ → ℕ → CodeReading TableLine
+read_of ms bits k = if nat_lt (length bits) k then ended k else found_or (line_of ms k (front_number k bits)) k (refused k)
+
+abbrev pub some_value : Result ℤ DecodeError → Result (Option ℤ) DecodeError
+some_value r = r >>= λ n. Ok (Some n)
+
+-- the value of a line, by the range bits behind its code; None is out of band
+abbrev pub value_after : TableLine → List ℕ → Result (Option ℤ) DecodeError
+value_after line bits = if line.is_out_of_band then Ok None else value_by line (bits_next line.range_length bits)
+
+-- how many bits that takes
+abbrev pub range_bits : TableLine → ℕ
+range_bits line = if line.is_out_of_band then 0 else line.range_length
+
+-- what a code's line gives, behind the bits that are taken
+abbrev pub valued : CodeReading TableLine → List ℕ → CodeReading (Option ℤ)
+valued reading bits =
+    elim reading.answer [
+      | Ok line ↦ record { answer = value_after line (drop reading.taken bits); taken = reading.taken + range_bits line }
+      | Err e ↦ record { answer = Err e; taken = reading.taken }
+    ]
+
+-- a header as its flags can have it
+abbrev pub HasWidths : Header → Type 0
+HasWidths h = (0 < h.prefix_bits) × (h.prefix_bits ≤ 8) × (h.range_bits ≤ 8)
+
+-- the out-of-band line, where the flags have one
+abbrev pub last_line : Header → Place → Step (List TableLine)
+last_line h p =
+    if h.has_out_of_band then (field (Huffman InvalidCode) h.prefix_bits p >>= λ len. Ok (out_of_band len.0 ∷ [], len.1))
+    else Ok ([], p)
