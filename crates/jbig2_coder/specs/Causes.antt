@@ -26,8 +26,7 @@ TablesHaveCauses = (lines : List TableLine) → IfErr (table_of lines) (BreaksTa
 abbrev pub Begins : List ℕ → Member → Type 0  -- a code of one bit at least begins the bits (B.4)
 Begins bits m = (1 ≤ m.bits) × (m.bits ≤ length bits) × (m.number ≡ front_number m.bits bits)
 
--- the bits end within a code: it has more of them, and begins with these
-abbrev pub EndWithin : List ℕ → Member → Type 0
+abbrev pub EndWithin : List ℕ → Member → Type 0  -- the bits end within a code, which begins with them
 EndWithin bits m = (length bits < m.bits) × (m.number / 2 ^ (m.bits - length bits) ≡ number_after 0 bits)
 
 -- Where no code begins the bits, they end within one, or there are none; else they agree with no code.
@@ -95,8 +94,7 @@ BreaksCustom p _ = ⊥
 abbrev pub CustomTablesHaveCauses : Type 0
 CustomTablesHaveCauses = (p : Place) → IfErr (custom_table p) (λ refusal. BreaksCustom p refusal.0)
 
--- A custom table is asked for, and none is left.
-abbrev pub BreaksSelection : List (List Member) → DecodeError → Type 0
+abbrev pub BreaksSelection : List (List Member) → DecodeError → Type 0  -- a custom table, where none is left
 BreaksSelection customs (Huffman MissingTables) = customs ≡ []
 BreaksSelection customs _ = ⊥
 

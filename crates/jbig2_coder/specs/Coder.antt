@@ -5,19 +5,16 @@ use Rattle.std.specs.Prelude.{ℕ, suc, zero, ◌+◌, ◌-◌, ◌*◌, ◌/◌
 use Rattle.jbig2_coder.specs.Table.{row_of}
 use Rattle.jbig2_coder.specs.declared.arithmetic_decoder.registers.CodeRegister.{CodeRegister}
 
--- A context: a row of the table, and the symbol that is likely there.
-abbrev pub Context : Type 0
+abbrev pub Context : Type 0  -- a row of Table E.1, and the symbol that is likely there
 Context = record { row : ℕ; likely : Bool }
 
 abbrev pub fresh : Context
 fresh = record { row = 0; likely = false }
 
--- The interval register A, and the code register: C, CT and the place of the byte that was read last.
-abbrev pub Registers : Type 0
+abbrev pub Registers : Type 0  -- A, and the code register: C, CT and the place of the byte that was read last
 Registers = record { a : ℕ; code : CodeRegister }
 
--- A decoder: the bytes that it reads, and its registers.
-abbrev pub Coder : Type 0
+abbrev pub Coder : Type 0  -- the bytes that a decoder reads, and its registers
 Coder = record { bytes : List ℕ; registers : Registers }
 
 unfoldable pub byte_at : List ℕ → ℕ → ℕ  -- the byte at a place; past the end every byte is FF
@@ -59,8 +56,7 @@ unlikely_next context =
     let row = row_of context.row in
     record { row = row.nlps; likely = (if row.switch then not context.likely else context.likely) }
 
--- What a decision chooses: the symbol, A and C before RENORMD, the context afterwards, and whether RENORMD follows.
-abbrev pub Choice : Type 0
+abbrev pub Choice : Type 0  -- the symbol, A and C before RENORMD, the context afterwards, whether RENORMD follows
 Choice = record { symbol : Bool; a : ℕ; c : ℕ; context : Context; renorm : Bool }
 
 -- DECODE (Figure G.2): the upper part of the interval is the likely symbol's, unless it has become the smaller one
@@ -79,8 +75,7 @@ choice context a c =
     let in_lower : Choice = if nat_lt rest qe then likely qe lower else unlikely qe lower in
     if nat_lt (c / 2 ^ 16) rest then in_upper else in_lower
 
--- A decision: the symbol, and the registers and the context afterwards.
-abbrev pub Decision : Type 0
+abbrev pub Decision : Type 0  -- the symbol, and the registers and the context afterwards
 Decision = record { symbol : Bool; registers : Registers; context : Context }
 
 unfoldable pub decision : List ℕ → Registers → Context → Decision
@@ -93,14 +88,12 @@ decision bytes registers context =
       context = chosen.context;
     }
 
--- A decision is quiet where it gives the likely symbol and makes no RENORMD.
-unfoldable pub is_quiet : Registers → Context → Bool
+unfoldable pub is_quiet : Registers → Context → Bool  -- the next decision gives the likely symbol, and no RENORMD
 is_quiet registers context =
     let chosen = choice context registers.a registers.code.c in
     (if context.likely then chosen.symbol else not chosen.symbol) && not chosen.renorm
 
--- whether the next `count` decisions in a context are all quiet
-unfoldable pub all_quiet : ℕ → List ℕ → Registers → Context → Bool
+unfoldable pub all_quiet : ℕ → List ℕ → Registers → Context → Bool  -- whether so many decisions in a row are quiet
 all_quiet zero bytes registers context = true
 all_quiet (suc count) bytes registers context =
     let next = decision bytes registers context in

@@ -13,12 +13,10 @@ use Rattle.jbig2_coder.specs.declared.huffman_table.custom.Header.{Header}
 use Rattle.jbig2_coder.specs.PrefixCode.{IsFree, Member, table_of, in_word}
 use Rattle.jbig2_coder.specs.Tables.{line, lower, upper, out_of_band, standard_codes, uniform}
 
--- What a step answers: a value and the place behind it, or an error and the place where the reader is left.
-abbrev pub Step : Type 0 → Type 0
+abbrev pub Step : Type 0 → Type 0  -- a value or an error, each with the place where the reader is left
 Step A = Result (A × Place) (DecodeError × Place)
 
--- an answer, and where the reader stands then
-abbrev pub left_at : {A : Type 0} → Place → Result A DecodeError → Step A
+abbrev pub left_at : {A : Type 0} → Place → Result A DecodeError → Step A  -- an answer, and the place then
 left_at p (Ok x) = Ok (x, p)
 left_at p (Err e) = Err (e, p)
 
@@ -46,16 +44,14 @@ custom_header p = do
 abbrev pub next_low : ℤ → ℕ → Result ℤ DecodeError  -- the low value of the next line, refused above signed 32 bits
 next_low low range = if nat_lt range 32 then in_word (low +ℤ pos (2 ^ range)) else Err (Huffman InvalidCode)
 
--- a line from its low value on, and the next low value
-abbrev pub custom_line : Header → ℤ → Place → Step (TableLine × ℤ)
+abbrev pub custom_line : Header → ℤ → Place → Step (TableLine × ℤ)  -- a line, and the low value of the next
 custom_line h low p = do
   len ← field (Huffman InvalidCode) h.prefix_bits p
   range ← field (Huffman InvalidCode) h.range_bits len.1
   next ← left_at range.1 (next_low low range.0)
   Ok ((line len.0 range.0 low, next.0), next.1)
 
--- lines, and then those of a step
-abbrev pub behind : List TableLine → Step (List TableLine) → Step (List TableLine)
+abbrev pub behind : List TableLine → Step (List TableLine) → Step (List TableLine)  -- lines before a step's
 behind before s = s >>= λ lines. Ok (before ++ lines.0, lines.1)
 
 -- The lines while the low value is below the maximum. Each takes two bits at least: no more come than bits are left.
@@ -68,8 +64,7 @@ range_lines_in (suc n) h low p =
 unfoldable pub range_lines : Header → Place → Step (List TableLine)
 range_lines h p = range_lines_in (length (bits_left p) + 1) h h.minimum p
 
--- the lower line, the upper line, and the out-of-band line where the flags have one
-abbrev pub end_lines : Header → Place → Step (List TableLine)
+abbrev pub end_lines : Header → Place → Step (List TableLine)  -- the lower, the upper, and any out-of-band line
 end_lines h p = do
   below ← field (Huffman InvalidCode) h.prefix_bits p
   above ← field (Huffman InvalidCode) h.prefix_bits below.1

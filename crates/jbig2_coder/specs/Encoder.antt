@@ -4,8 +4,7 @@ use Rattle.std.specs.Prelude.{ℕ, suc, zero, ◌+◌, ◌-◌, ◌*◌, ◌/◌
 use Rattle.jbig2_coder.specs.Table.{row_of}
 use Rattle.jbig2_coder.specs.Coder.{Context, likely_next, unlikely_next}
 
--- What is written: the code register C, the shifts before the next byte goes out (CT), and the bytes out, last first.
-abbrev pub Writer : Type 0
+abbrev pub Writer : Type 0  -- C, the shifts before the next byte goes out (CT), and the bytes out, last first
 Writer = record { register : ℕ; wait : ℕ; out : List ℕ }
 
 abbrev pub Coding : Type 0  -- the interval register A beside it
@@ -14,11 +13,10 @@ Coding = record { range : ℕ; writer : Writer }
 unfoldable pub opened : Coding  -- INITENC (E.2.8)
 opened = record { range = 0x8000; writer = record { register = 0; wait = 12; out = [] } }
 
--- a byte of eight bits goes out, and after a byte FF one of seven bits (BYTEOUT, E.2.7)
-unfoldable pub plain : ℕ → List ℕ → Writer
+unfoldable pub plain : ℕ → List ℕ → Writer  -- BYTEOUT (E.2.7) of a byte of eight bits
 plain c out = record { register = c % 2 ^ 19; wait = 8; out = (c / 2 ^ 19 % 256) ∷ out }
 
-unfoldable pub stuffed : ℕ → List ℕ → Writer
+unfoldable pub stuffed : ℕ → List ℕ → Writer  -- and of one of seven bits, behind a byte FF
 stuffed c out = record { register = c % 2 ^ 20; wait = 7; out = (c / 2 ^ 20) ∷ out }
 
 -- BYTEOUT (E.2.7): a carry goes into the last byte, but not into FF, behind which a stuffed bit takes it up

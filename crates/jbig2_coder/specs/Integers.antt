@@ -11,8 +11,7 @@ value_of_bits (b ∷ bits) = bit_number b * 2 ^ length bits + value_of_bits bits
 abbrev pub Reading : Type 0  -- what has been read so far, and the registers and the contexts after it
 Reading = record { bits : List Bool; registers : Registers; contexts : List Context }
 
--- the decision that comes next; `name` gives the number of its context from the bits so far
-unfoldable pub next : (List Bool → ℕ) → List ℕ → Reading → Decision
+unfoldable pub next : (List Bool → ℕ) → List ℕ → Reading → Decision  -- in the context that the bits so far name
 next name bytes r = decision bytes r.registers (slice_index_or r.contexts (name r.bits) fresh)
 
 unfoldable pub read : (List Bool → ℕ) → List ℕ → Reading → Reading  -- one bit more
@@ -24,12 +23,10 @@ unfoldable pub read_more : (List Bool → ℕ) → ℕ → List ℕ → Reading 
 read_more name zero bytes r = r
 read_more name (suc n) bytes r = read name bytes (read_more name n bytes r)
 
--- PREV (A.2): the number that a 1 and the last bits spell, at most eight of them.
-abbrev pub prev_of : List Bool → ℕ
+abbrev pub prev_of : List Bool → ℕ  -- PREV (A.2): what a 1 and the last bits spell, at most eight of them
 prev_of bits = value_of_bits (true ∷ drop (length bits - 8) bits)
 
--- A row of Table A.1: the decisions that name it, how many bits the value has, and the least number of its range.
-abbrev pub Range : Type 0
+abbrev pub Range : Type 0  -- a row of Table A.1: the decisions that name it, the bits of the value, the least value
 Range = record { prefix : List Bool; bits : ℕ; offset : ℕ }
 
 abbrev pub range : List Bool → ℕ → ℕ → Range
@@ -49,8 +46,7 @@ are_next [] bytes r = true
 are_next (true ∷ others) bytes r = (next prev_of bytes r).symbol && are_next others bytes (read prev_of bytes r)
 are_next (false ∷ others) bytes r = not (next prev_of bytes r).symbol && are_next others bytes (read prev_of bytes r)
 
--- the first row whose prefix comes next; in Table A.1 there is always one
-unfoldable pub next_range : List Range → List ℕ → Reading → Range
+unfoldable pub next_range : List Range → List ℕ → Reading → Range  -- the first whose prefix comes; one always does
 next_range [] bytes r = range [] 0 0
 next_range (row ∷ rows) bytes r = if are_next row.prefix bytes r then row else next_range rows bytes r
 

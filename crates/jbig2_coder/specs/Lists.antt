@@ -1,15 +1,13 @@
--- Whole lists of decisions, each in a context that its number names: what the encoder makes of them, and what the
--- decoder reads (T.88, Annexes E and G). Before the first decision every context is fresh.
+-- Whole lists of pairs (number of a context, decision): what the encoder makes of them, and what the decoder reads
+-- that is asked in these contexts (T.88, Annexes E and G). Before the first decision every context is fresh.
 use Rattle.std.specs.Prelude.{ℕ, Bool, if◌then◌else◌, ◌==◌, List, [], ◌∷◌, map, ◌≡◌}
 use Rattle.jbig2_coder.specs.Coder.{Context, Registers, fresh, decision, initial_registers}
 use Rattle.jbig2_coder.specs.Encoder.{Coding, opened, encoding, flushed, closed}
 
--- what is known of each context, once it is another in context k
-unfoldable pub with_context : (ℕ → Context) → ℕ → Context → ℕ → Context
+unfoldable pub with_context : (ℕ → Context) → ℕ → Context → ℕ → Context  -- one of them replaced
 with_context contexts k context = λ j. if j == k then context else contexts j
 
--- the encoder after a list of (context, decision)
-unfoldable pub encode_from : Coding → (ℕ → Context) → List (ℕ × Bool) → Coding
+unfoldable pub encode_from : Coding → (ℕ → Context) → List (ℕ × Bool) → Coding  -- the encoder behind a list
 encode_from s contexts [] = s
 encode_from s contexts (entry ∷ entries) =
     let next = encoding (contexts entry.0) entry.1 s in
@@ -18,8 +16,7 @@ encode_from s contexts (entry ∷ entries) =
 unfoldable pub encoded : List (ℕ × Bool) → List ℕ  -- the bytes of a list of (context, decision)
 encoded entries = closed (flushed (encode_from opened (λ _. fresh) entries)).out
 
--- the decisions that the decoder reads when it is asked in these contexts
-unfoldable pub decoded_from : List ℕ → Registers → (ℕ → Context) → List ℕ → List Bool
+unfoldable pub decoded_from : List ℕ → Registers → (ℕ → Context) → List ℕ → List Bool  -- the decisions read
 decoded_from bytes registers contexts [] = []
 decoded_from bytes registers contexts (k ∷ asked) =
     let next = decision bytes registers (contexts k) in

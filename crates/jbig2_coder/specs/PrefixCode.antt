@@ -31,21 +31,18 @@ longest (x ∷ xs) = max x.prefix_length (longest xs)
 abbrev pub level : ℕ → List TableLine → List TableLine  -- the lines whose codes have l bits, in their order
 level l lines = filter (λ x. x.prefix_length == l) lines
 
--- the codes of l bits that lie under a code of len bits, none for a line without a code
-abbrev pub share : ℕ → ℕ → ℕ
+abbrev pub share : ℕ → ℕ → ℕ  -- the codes of l bits that lie under a code of len bits; none under no code
 share l len = if nat_lt 0 len && nat_le len l then 2 ^ (l - len) else 0
 
 unfoldable pub weight : ℕ → List TableLine → ℕ  -- the codes of l bits that lie under the codes of at most l bits
 weight l [] = 0
 weight l (x ∷ xs) = share l x.prefix_length + weight l xs
 
--- the codes of l bits that lie under the codes of fewer than l bits
-unfoldable pub shorter : ℕ → List TableLine → ℕ
+unfoldable pub shorter : ℕ → List TableLine → ℕ  -- those that lie under the codes of fewer than l bits
 shorter l [] = 0
 shorter l (x ∷ xs) = (if nat_lt x.prefix_length l then share l x.prefix_length else 0) + shorter l xs
 
--- these lines with the numbers n, n + 1 and so on as codes of l bits
-abbrev pub numbered : ℕ → ℕ → List TableLine → List Member
+abbrev pub numbered : ℕ → ℕ → List TableLine → List Member  -- these lines as codes of l bits, numbered from n on
 numbered l n [] = []
 numbered l n (x ∷ xs) = record { bits = l; number = n; line = x } ∷ numbered l (n + 1) xs
 
@@ -54,16 +51,13 @@ abbrev pub codes_from : ℕ → ℕ → List TableLine → List Member
 codes_from zero l lines = []
 codes_from (suc n) l lines = numbered l (shorter l lines) (level l lines) ++ codes_from n (l + 1) lines
 
--- the code that the prefix lengths of these lines make, by length, then by place
-unfoldable pub prefix_code : List TableLine → List Member
+unfoldable pub prefix_code : List TableLine → List Member  -- the code of these lines, by length, then by place
 prefix_code lines = codes_from (longest lines) 1 lines
 
--- whether the sum of 2^-len over the lines that have a code exceeds 1
-unfoldable pub is_crowded : List TableLine → Bool
+unfoldable pub is_crowded : List TableLine → Bool  -- whether the sum of 2^-len over the codes exceeds 1
 is_crowded lines = nat_lt (2 ^ longest lines) (weight (longest lines) lines)
 
--- the code of a list of lines, refused where it is crowded
-abbrev pub table_of : List TableLine → Result (List Member) DecodeError
+abbrev pub table_of : List TableLine → Result (List Member) DecodeError  -- refused where it is crowded
 table_of lines = if is_crowded lines then Err (Huffman InvalidCode) else Ok (prefix_code lines)
 
 abbrev pub line_of : List Member → ℕ → ℕ → Option TableLine  -- the line whose code is the number v of k bits
@@ -95,8 +89,7 @@ in_word (negsuc n) = if nat_lt n 2147483648 then Ok (negsuc n) else Err (Huffman
 abbrev pub moved : TableLine → ℕ → ℤ  -- the low value and the range bits together: a lower line goes down
 moved line offset = if line.is_lower then line.range_low -ℤ pos offset else line.range_low +ℤ pos offset
 
--- the value of a line, by the number of the range bits behind its code
-abbrev pub value_by : TableLine → Option ℕ → Result (Option ℤ) DecodeError
+abbrev pub value_by : TableLine → Option ℕ → Result (Option ℤ) DecodeError  -- a line's value, by its range bits
 value_by line None = Err (Huffman InvalidCode)
 value_by line (Some offset) = in_word (moved line offset) >>= λ n. Ok (Some n)
 
