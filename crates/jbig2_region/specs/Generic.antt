@@ -31,10 +31,13 @@ abbrev pub is_skipped : Option Grid → ℕ → ℕ → Bool
 is_skipped None x y = false
 is_skipped (Some skip) x y = pixel_at skip x y
 
+abbrev pub white_if_skipped : Option Grid → ℕ → ℕ → Option Bool
+white_if_skipped skip x y = if is_skipped skip x y then Some false else None
+
 -- the colour that a pixel takes without a decision (6.2.5.7): that above in a predicted row, else white if skipped
 abbrev pub known_colour : Option Grid → Bool → Grid → ℕ → ℕ → Option Bool
 known_colour skip predicted g x y =
-    if predicted then Some (pixel g (pos x) (pos y +ℤ negsuc 0)) else if is_skipped skip x y then Some false else None
+    if predicted then Some (pixel g (pos x) (pos y +ℤ negsuc 0)) else white_if_skipped skip x y
 
 -- how pixels are coded, by the bitmap that says what is skipped
 abbrev pub masked_coding : Bool → Template → List AdaptiveTemplatePixel → Option Grid → Coding

@@ -76,10 +76,13 @@ refined_grid h from = so_far h.region_info.width h.region_info.height (refined_r
 abbrev pub is_far : ℕ → Bool
 is_far location = nat_le 0x80000000 location
 
+abbrev pub is_smaller : PlacedRegion → RegionSegmentInfo → Bool
+is_smaller from info = nat_lt from.grid.width info.width || nat_lt from.grid.height info.height
+
 -- dx and dy; a reference smaller than the region is refused, and so is a place of 2^31 or more (our own rules)
 unfoldable pub offset : PlacedRegion → RegionSegmentInfo → Result (ℤ × ℤ) DecodeError
 offset from info = do
-  covered ← refuse_if (nat_lt from.grid.width info.width || nat_lt from.grid.height info.height) (errors.Region InvalidDimension)
+  covered ← refuse_if (is_smaller from info) (errors.Region InvalidDimension)
   near ← refuse_if (is_far from.x_location || is_far info.x_location || is_far from.y_location || is_far info.y_location) (errors.Overflow ReferenceOffset)
   Ok (pos from.x_location -ℤ pos info.x_location, pos from.y_location -ℤ pos info.y_location)
 

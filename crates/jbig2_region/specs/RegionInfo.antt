@@ -1,10 +1,10 @@
 -- The region segment information field (T.88, 7.4.1), which every region segment begins with, and the region that it
 -- places. `region_info_at` takes bytes and gives the field with the bytes behind it, or the first fault.
-use Rattle.std.specs.Prelude.{ℕ, ◌/◌, ◌%◌, ◌==◌, List, Result, Ok}
+use Rattle.std.specs.Prelude.{ℕ, ◌/◌, ◌%◌, ◌≡◌, ◌==◌, false, List, Result, Ok}
 use Rattle.std.specs.Int.{w8, w32}
 use Rattle.jbig2_base.specs.Answer.{◌>>=◌, refuse_if}
 use Rattle.jbig2_base.specs.Fields.{number_at}
-use Rattle.jbig2_base.specs.Grid.{Grid}
+use Rattle.jbig2_base.specs.Grid.{Grid, blank}
 use Rattle.jbig2_base.specs.Operator.{operator_of}
 use Rattle.jbig2_base.specs.declared.bitmap.operator.CombinationOperator.{CombinationOperator}
 use Rattle.jbig2_base.specs.declared.error.DecodeError.{DecodeError}
@@ -23,6 +23,9 @@ region_info_at bytes = do
   operator ← operator_of (flags.0 % 8)
   plain ← refuse_if (flags.0 / 8 % 2 == 1) Unsupported
   Ok (record { width = width.0; height = height.0; x_location = x.0; y_location = y.0; combination_operator = operator }, flags.1)
+
+abbrev pub IsWhiteFor : RegionSegmentInfo → Grid → Type 0
+IsWhiteFor info g = g ≡ blank info.width info.height false
 
 -- a decoded region, its place on the page, and how it is combined with the page
 pub record PlacedRegion : Type 0 where

@@ -1,11 +1,10 @@
 //! Generic regions (T.88, 6.2 and 7.4.6).
-ghost use Rattle.std.specs.Prelude.{◌≡◌, ◌≤◌, false, length, IfOk, OnErr, OnOk};
+ghost use Rattle.std.specs.Prelude.{◌≡◌, ◌≤◌, length, IfOk, OnErr, OnOk};
 ghost use Rattle.jbig2_base.specs.Answer.{Answers, Gives, Leaves};
 ghost use Rattle.jbig2_base.specs.Bits.{IsAligned};
 ghost use Rattle.jbig2_base.specs.Parsing.{Parses};
 ghost use Rattle.jbig2_region.specs.Generic.{contexts_after, generic_answer, generic_decoded, refused_grid};
-ghost use Rattle.jbig2_region.specs.RegionInfo.{region_view};
-ghost use Rattle.jbig2_base.specs.Grid.{blank};
+ghost use Rattle.jbig2_region.specs.RegionInfo.{IsWhiteFor, region_view};
 ghost use Rattle.jbig2_region.specs.inner.Layouts.{CountsGeneric};
 ghost use Rattle.jbig2_region.specs.Causes.{GenericHeadersHaveCauses, GenericRegionsHaveCauses, RowsHaveCauses};
 ghost use Rattle.jbig2_region.specs.GenericHeader.{header_view, rows_at, generic_header_at, IsParsed};
@@ -127,8 +126,7 @@ pub fn decode_into<A: Allocator, B: Allocator, L: Ledger>(
     steps: &mut Steps<L>,
 ) -> Result<()>
     requires parsed { IsParsed (header_view header.now) }
-    requires white { bitmap.old ≡ blank header.now.region_info.width header.now.region_info.height
-        false }
+    requires white { IsWhiteFor header.now.region_info bitmap.old }
     ensures value { Gives (λ _. bitmap.new) result (generic_answer (header_view header.now)) }
     ensures refused { OnErr result (bitmap.new ≡ refused_grid (header_view header.now) bitmap.old) }
     ensures contexts { Leaves result contexts.new.items

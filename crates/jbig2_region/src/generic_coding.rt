@@ -1,10 +1,10 @@
 //! How generic regions are coded (T.88, 6.2.5.3 to 6.2.5.7): their contexts, and the pixels that take no
 //! decision.
-ghost use Rattle.std.specs.Prelude.{◌≡◌, ◌+◌, ◌*◌, ◌^◌, ◌<◌, ◌≤◌, length, pos, negsuc, ◌+ℤ◌, false, Some, None, if◌then◌else◌};
+ghost use Rattle.std.specs.Prelude.{◌≡◌, ◌+◌, ◌*◌, ◌^◌, ◌<◌, ◌≤◌, length, pos, negsuc, ◌+ℤ◌, false};
 ghost use Rattle.jbig2_base.specs.Grid.{pixel, bit_number};
 ghost use Rattle.jbig2_region.specs.inner.Holds.{DecodesRegion, IsReady};
 ghost use Rattle.jbig2_region.specs.Raster.{no_pixels};
-ghost use Rattle.jbig2_region.specs.Generic.{context_at, coding_of, is_skipped};
+ghost use Rattle.jbig2_region.specs.Generic.{context_at, coding_of, white_if_skipped};
 ghost use Rattle.jbig2_region.specs.Skipping.{skip_of};
 ghost use Rattle.jbig2_region.specs.inner.Layouts.{CountsCoded, read_pixels};
 ghost use Rattle.jbig2_region.specs.RunBytes.{CountsRegion};
@@ -92,8 +92,7 @@ fn white_if_skipped<M: Allocator, L: Ledger>(
     y: u32,
     steps: &mut Steps<L>,
 ) -> Option<bool>
-    ensures value { result ≡
-        (if is_skipped (skip_of skip.entry) x y then Some false else None) }
+    ensures value { result ≡ white_if_skipped (skip_of skip.entry) x y }
     ensures loads { steps.new.loads ≤ steps.old.loads + 1 }
     ensures steps { steps.new ≡ record steps.old { loads = steps.new.loads } }
 {

@@ -1,12 +1,11 @@
 //! Refinement regions (T.88, 6.3 and 7.4.7).
-ghost use Rattle.std.specs.Prelude.{◌≡◌, ◌||◌, nat_lt, false, IfOk, OnErr, OnOk};
+ghost use Rattle.std.specs.Prelude.{◌≡◌, IfOk, OnErr, OnOk};
 ghost use Rattle.jbig2_base.specs.Answer.{Answers, Gives, Leaves};
 ghost use Rattle.jbig2_base.specs.Bits.{IsAligned};
 ghost use Rattle.jbig2_base.specs.Parsing.{Parses};
 ghost use Rattle.jbig2_region.specs.Causes.{OffsetsHaveCauses, RefinedRegionsHaveCauses, RefinementHeadersHaveCauses};
-ghost use Rattle.jbig2_region.specs.RegionInfo.{region_view};
-ghost use Rattle.jbig2_base.specs.Grid.{blank};
-ghost use Rattle.jbig2_region.specs.Refinement.{is_far, offset, refined_answer, refined_contexts, refined_decoded};
+ghost use Rattle.jbig2_region.specs.RegionInfo.{IsWhiteFor, region_view};
+ghost use Rattle.jbig2_region.specs.Refinement.{is_far, is_smaller, offset, refined_answer, refined_contexts, refined_decoded};
 ghost use Rattle.jbig2_region.specs.RunBytes.{CountsRefined};
 ghost use Rattle.jbig2_region.specs.RefinementHeader.{IsRefinement, header_view, refinement_header_at};
 ghost use Rattle.jbig2_region.specs.Templates.{filled};
@@ -83,8 +82,7 @@ pub fn parse<'a>(reader: &mut Reader<'a>) -> Result<GenericRefinementRegionHeade
 
 /// Whether the reference is narrower or lower than the region.
 fn is_smaller<B: Allocator>(reference: &DecodedRegion<B>, region_info: &RegionSegmentInfo) -> bool
-    ensures { result ≡ (nat_lt reference.now.bitmap.width region_info.now.width ||
-        nat_lt reference.now.bitmap.height region_info.now.height) }
+    ensures { result ≡ is_smaller (region_view reference.now) region_info.now }
 {
     reference.bitmap.width() < region_info.width || reference.bitmap.height() < region_info.height
 }
@@ -135,8 +133,7 @@ pub fn decode_into<A: Allocator, B: Allocator, C: Allocator, L: Ledger>(
     steps: &mut Steps<L>,
 ) -> Result<()>
     requires parsed { IsRefinement (header_view header.now) }
-    requires white { bitmap.old ≡ blank header.now.region_info.width header.now.region_info.height
-        false }
+    requires white { IsWhiteFor header.now.region_info bitmap.old }
     ensures value { Gives (λ _. bitmap.new) result
         (refined_answer (header_view header.now) (region_view reference.now)) }
     ensures contexts { Leaves result contexts.new.items
