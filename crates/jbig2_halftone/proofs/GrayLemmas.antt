@@ -9,7 +9,11 @@ use Rattle.jbig2_halftone.specs.inner.NextValues.{next_value}
 use Rattle.jbig2_base.specs.Grid.{Grid, bit_number, pixel_at}
 use Rattle.jbig2_region.specs.Generic.{number_of}
 use Rattle.jbig2_mmr.specs.T6.{differ}
-use Rattle.jbig2_halftone.specs.GrayScale.{parity, gray_bit, gray_value, gray_values}
+use Rattle.jbig2_halftone.specs.GrayScale.{parity, gray_value, gray_values}
+
+-- bit j of a value
+abbrev gray_bit : List Grid → ℕ → ℕ → ℕ → Bool
+gray_bit planes x y j = parity (take (length planes - j) planes) x y
 
 differ-swap : (a b c : Bool) → differ a (differ b c) ≡ differ b (differ a c)
 differ-swap true true c = refl

@@ -2,7 +2,7 @@
 ghost use Rattle.std.specs.Prelude.{◌≡◌, ◌*◌, ◌≤◌, [], length, slice_index};
 ghost use Rattle.std.specs.List.{All};
 ghost use Rattle.jbig2_halftone.specs.GrayScale.{gray_values};
-ghost use Rattle.jbig2_halftone.specs.GraySteps.{after_lane_rows};
+ghost use Rattle.jbig2_halftone.specs.Steps.{after_lane_rows};
 ghost use Rattle.jbig2_halftone.specs.inner.NextValues.{row_values};
 
 use crate::gray_scale::lanes::add_row;

@@ -1,7 +1,8 @@
 use Rattle.std.proofs.Common.{◌≡◌, ℕ, false, subst, arith}
 use Rattle.jbig2_base.proofs.LaneCounts.{lanes-none, lanes-then}
-use Rattle.jbig2_halftone.specs.GrayScale.{GrayScale, gray_view}
-use Rattle.jbig2_halftone.specs.GraySteps.{CountsCoded}
+use Rattle.jbig2_halftone.specs.GrayScale.{GrayScale}
+use Rattle.jbig2_halftone.specs.inner.HalftoneViews.{gray_view}
+use Rattle.jbig2_halftone.specs.inner.Stages.{CountsCoded}
 use Rattle.jbig2_halftone.proofs.GrayCounts.{counts-begin, counts-more, none-left, none-more, none-start}
 use Rattle.jbig2_halftone.proofs.PatternLemmas.{blank-made}
 use Rattle.jbig2_halftone.proofs.PlaneLemmas.{image-sides, behind-none, coded-holds, coded-next, coded-all, coded-contexts}
