@@ -123,7 +123,7 @@ unfolding mmr_planes mmr_plane
 mmr-split p bytes count = by (mmr_rows p.strict p.width p.height bytes)
   where
     by : (r : Result Decoded DecodeError)
-        → (r >>= λ plane. mmr_planes p (drop plane.used bytes) count >>= λ others. Ok (plane.grid ∷ others)) ≡ ((r >>= λ rows. Ok (rows.grid, drop rows.used bytes)) >>= λ plane. mmr_planes p plane.1 count >>= λ others. Ok (plane.0 ∷ others))
+        → (r >>= λ plane. mmr_planes p (drop plane.used bytes) count >>= λ others. Ok (plane.grid ∷ others)) ≡ (◌>>=◌ {A = Grid × List ℕ} (r >>= λ rows. Ok (rows.grid, drop rows.used bytes)) λ plane. mmr_planes p plane.1 count >>= λ others. Ok (plane.0 ∷ others))
     by (Ok rows) = refl
     by (Err e) = refl
 
