@@ -17,8 +17,8 @@ use Rattle.jbig2_region.specs.declared.template.AdaptiveTemplatePixel.{AdaptiveT
 use Rattle.jbig2_region.specs.declared.template.Template.{Template}
 use Rattle.jbig2_region.specs.declared.template.Template.TheVariants.{Template0, Template1, Template2, Template3}
 use Rattle.jbig2_halftone.specs.GrayScale.{GrayScale, nominal_pixels, after_planes}
-use Rattle.jbig2_halftone.specs.Steps.{CountsImage, CountsLanes, CountsMasked, CountsPlanes, after_lane_rows, plane_runs}
-use Rattle.jbig2_halftone.specs.inner.Stages.{CountsCoded, CountsOne, CountsPlane, plain_coding, plane_pixels, plane_start}
+use Rattle.jbig2_halftone.specs.Steps.{CountsImage, CountsLanes, CountsMasked, CountsPlanes, plane_runs}
+use Rattle.jbig2_halftone.specs.inner.Stages.{CountsCoded, CountsOne, CountsPlane, plain_coding, plane_pixels, plane_start, after_lane_rows}
 use Rattle.jbig2_halftone.proofs.PlaneLemmas.{BehindPlanes, no-mask}
 use Rattle.jbig2_region.proofs.PlaceCounts.{how_many-all}
 use Rattle.jbig2_region.proofs.PlaceLemmas.{at_pixel-plain}

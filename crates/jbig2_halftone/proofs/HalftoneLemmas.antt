@@ -1,8 +1,8 @@
 -- What decoding a whole halftone region gives: a value for each cell, and in lenient mode never a refusal.
-use Rattle.std.proofs.Common.{◌≡◌, ℕ, zero, suc, ◌+◌, ◌*◌, ◌≤◌, Bool, true, false, ltb, List, [], ◌∷◌, length, drop, get_or, ◌-◌, Result, Ok, Err, refl, sym, ap, subst, ◌∙◌, ◌⊎◌, inl, inr, ⊎_elim, arith}
+use Rattle.std.proofs.Common.{◌≡◌, ℕ, zero, suc, ◌+◌, ◌≤◌, Bool, true, false, ltb, List, [], ◌∷◌, length, drop, get_or, ◌-◌, Result, Ok, Err, refl, sym, ap, subst, ◌∙◌, ◌⊎◌, inl, inr, ⊎_elim, arith}
 use Rattle.std.specs.Prelude.{if◌then◌else◌, IfErr}
 use Rattle.std.proofs.lemmas.Bool.{le-ltb, and_right}
-use Rattle.jbig2_base.specs.Answer.{◌>>=◌, refuse_if, Answers, Gives, Leaves}
+use Rattle.jbig2_base.specs.Answer.{◌>>=◌, Answers, Gives, Leaves}
 use Rattle.jbig2_base.specs.Grid.{Grid, blank}
 use Rattle.jbig2_base.specs.declared.error.DecodeError.{DecodeError}
 use Rattle.jbig2_base.specs.declared.error.DecodeError.TheVariants.{OutOfMemory, Region}

@@ -1,6 +1,6 @@
 -- Halftone regions (T.88, 6.6): patterns drawn at the places of a grid, which may stand at an angle. The header and the
 -- patterns give `halftone_decoded`, the region with its place on the page, or an error.
-use Rattle.std.specs.Prelude.{ℕ, ◌+◌, ◌-◌, ◌*◌, ◌/◌, ◌%◌, ◌^◌, nat_le, nat_lt, Bool, false, not, ◌&&◌, ◌||◌, if◌then◌else◌, ℤ, pos, ◌+ℤ◌, ◌-ℤ◌, int_le, List, [], ◌∷◌, length, slice_index_or, Option, Some, None, Result, Ok, Err}
+use Rattle.std.specs.Prelude.{ℕ, ◌+◌, ◌-◌, ◌*◌, ◌/◌, ◌%◌, nat_lt, Bool, false, not, ◌&&◌, ◌||◌, if◌then◌else◌, ℤ, pos, ◌+ℤ◌, ◌-ℤ◌, int_le, List, [], ◌∷◌, length, slice_index_or, Option, Some, None, Result, Ok, Err}
 use Rattle.std.specs.Int.{int_shr}
 use Rattle.jbig2_base.specs.Answer.{◌>>=◌, refuse_if}
 use Rattle.jbig2_base.specs.Combination.{combined}
@@ -30,12 +30,11 @@ is_apart place size room = int_le (place +ℤ pos size) (pos 0) || int_le (pos r
 -- black where a cell is skipped, whose pattern would lie wholly outside the region (HSKIP, 6.6.5.1); MMR skips none
 abbrev pub skip_mask : HalftoneHeader → Patterns → Option Grid
 skip_mask h d =
+    let grid = h.grid_position_and_size in
     let room = h.region_info in
-    let lies_outside : ℕ → ℕ → Bool = λ n m.
-        is_apart (column_of h m n) d.width room.width || is_apart (row_of h m n) d.height room.height in
-    if h.flags.enable_skip && not h.flags.mmr
-    then Some (grid_of h.grid_position_and_size.width h.grid_position_and_size.height lies_outside)
-    else None
+    let lies_outside : ℕ → ℕ → Bool =
+    λ n m. is_apart (column_of h m n) d.width room.width || is_apart (row_of h m n) d.height room.height in
+    if h.flags.enable_skip && not h.flags.mmr then Some (grid_of grid.width grid.height lies_outside) else None
 
 -- a value for each cell, row by row, with as many bits as the number of the last pattern has (Table 23)
 abbrev pub gray_params : HalftoneHeader → Patterns → GrayScale

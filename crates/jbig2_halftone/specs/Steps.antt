@@ -43,18 +43,16 @@ pub record CountsRead (p : GrayScale) (bytes : List ℕ) (before after : Counts)
   pub masked : p.use_mmr ≡ false → is_some p.skip_mask ≡ true → CountsMasked p p.bits_per_pixel before after
   pub lanes : KeepsLanes before after
 
--- so many rows of w pixels, taken out of planes: one load for each group of eight lanes and for each single pixel
-abbrev pub after_lane_rows : ℕ → ℕ → Counts → Counts
-after_lane_rows rows w before = record before {
-  loads = before.loads + rows * (w / 8 + w % 8);
-  groups = before.groups + rows * (w / 8);
-  pixels = before.pixels + rows * (w % 8);
-}
-
--- an image: its planes are read, and then each row of each plane is taken
+-- an image: its planes are read, and then each row of each plane is taken, by one load for each group of eight lanes and
+-- for each single pixel
 abbrev pub CountsImage : GrayScale → List ℕ → Counts → Counts → Type 0
 CountsImage p bytes before after =
-    (read : Counts) × (CountsRead p bytes before read × (after ≡ after_lane_rows (p.height * p.bits_per_pixel) p.width read))
+    let rows = p.height * p.bits_per_pixel in
+    (read : Counts) × (CountsRead p bytes before read × (after ≡ record read {
+      loads = read.loads + rows * (p.width / 8 + p.width % 8);
+      groups = read.groups + rows * (p.width / 8);
+      pixels = read.pixels + rows * (p.width % 8);
+    }))
 
 -- an image takes, of each row of each plane, a group for each whole eight pixels, and the others one by one
 pub record CountsLanes (p : GrayScale) (before after : Counts) : Type 0 where

@@ -13,9 +13,9 @@ ghost use Rattle.jbig2_halftone.specs.Halftone.{gray_params, skip_mask, pattern_
 ghost use Rattle.jbig2_halftone.specs.HalftoneHeader.{header_view};
 ghost use Rattle.jbig2_halftone.specs.PatternHeader.{HasSize};
 ghost use Rattle.jbig2_halftone.specs.Patterns.{dictionary_view};
-ghost use Rattle.jbig2_halftone.specs.Steps.{CountsRead, after_lane_rows, CountsHalftone, words_of_cells};
+ghost use Rattle.jbig2_halftone.specs.Steps.{CountsRead, CountsHalftone, words_of_cells};
 ghost use Rattle.jbig2_halftone.specs.inner.CellPlaces.{x_of, y_of};
-ghost use Rattle.jbig2_halftone.specs.inner.Stages.{planes_contexts, skip_grid, after_mask};
+ghost use Rattle.jbig2_halftone.specs.inner.Stages.{planes_contexts, skip_grid, after_mask, after_lane_rows};
 
 mod cells;
 pub mod header;

@@ -87,7 +87,15 @@ pub record CountsCoded (p : GrayScale) (bytes : List ℕ) (count : ℕ) (before 
   pub plain : p.skip_mask ≡ None → CountsPlanes p bytes count before after
   pub masked : is_some p.skip_mask ≡ true → CountsMasked p count before after
 
--- a row of w pixels, taken out of planes
+-- so many rows of w pixels, taken out of planes: one load for each group of eight lanes and for each single pixel
+abbrev pub after_lane_rows : ℕ → ℕ → Counts → Counts
+after_lane_rows rows w before = record before {
+  loads = before.loads + rows * (w / 8 + w % 8);
+  groups = before.groups + rows * (w / 8);
+  pixels = before.pixels + rows * (w % 8);
+}
+
+-- one such row
 abbrev pub after_lanes : ℕ → Counts → Counts
 after_lanes w before = record before {
   loads = before.loads + (w / 8 + w % 8);

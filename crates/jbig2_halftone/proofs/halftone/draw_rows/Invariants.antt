@@ -5,8 +5,9 @@ use Rattle.jbig2_halftone.specs.Halftone.{cells_drawn}
 use Rattle.jbig2_halftone.specs.HalftoneHeader.{header_view}
 use Rattle.jbig2_halftone.specs.PatternHeader.{HasSize}
 use Rattle.jbig2_halftone.specs.Patterns.{dictionary_view}
-use Rattle.jbig2_halftone.specs.Steps.{after_lane_rows, words_of_cells}
+use Rattle.jbig2_halftone.specs.Steps.{words_of_cells}
 use Rattle.jbig2_halftone.specs.inner.CellPlaces.{x_of, y_of}
+use Rattle.jbig2_halftone.specs.inner.Stages.{after_lane_rows}
 use Rattle.jbig2_halftone.proofs.halftone.draw_rows.Given as goal
 
 abbrev pub invariant-loop-m : goal.invariant-loop-m
