@@ -36,7 +36,7 @@ BreaksHalftoneHeader bytes _ = ⊥
 abbrev pub HalftoneHeadersHaveCauses : Type 0
 HalftoneHeadersHaveCauses = (strict : Bool) (bytes : List ℕ) → IfErr (halftone_header_at strict bytes) (BreaksHalftoneHeader bytes)
 
--- The patterns side by side may have 65535 columns at most; MMR data that lacks rows is refused in strict mode alone.
+-- The patterns side by side have too many columns; or, in strict mode, their MMR data lacks rows.
 abbrev pub BreaksPatterns : PatternHeader → DecodeError → Type 0
 BreaksPatterns h (Overflow BitmapDimension) = 65535 < (h.gray_max + 1) * h.pattern_width
 BreaksPatterns h (Region InvalidMmrData) =
@@ -53,7 +53,7 @@ plane_start p bytes (suc k) =
     let here = plane_start p bytes k in
     drop (length here - length (rows_of p.width p.height here).left / 8) here
 
--- The image has planes, and a side above 65535 pixels; in strict mode, a plane of MMR data lacks rows.
+-- The image has planes, and a side above 65535; or, in strict mode, the MMR data of a plane lacks rows.
 abbrev pub BreaksGrayScale : GrayScale → List ℕ → DecodeError → Type 0
 BreaksGrayScale p bytes (Overflow BitmapDimension) = (0 < p.bits_per_pixel) × ((65535 < p.width) ⊎ (65535 < p.height))
 BreaksGrayScale p bytes (Region InvalidMmrData) =
@@ -64,8 +64,8 @@ BreaksGrayScale p bytes _ = ⊥
 abbrev pub GrayScaleHasCauses : Type 0
 GrayScaleHasCauses = (p : GrayScale) (bytes : List ℕ) → IfErr (gray_scale_image p bytes) (BreaksGrayScale p bytes)
 
--- A side of the region or of the grid is above 65535; the gray values' bytes are faulty; or, in strict mode, the value
--- of a cell of the grid, which the planes of the bytes give, is not below the number of the patterns.
+-- A side of the region or of the image of gray values is above 65535; the image's MMR data lacks rows; or, in strict
+-- mode, the value that the planes of the bytes give a cell is not below the number of the patterns.
 abbrev pub BreaksHalftone : HalftoneHeader → Patterns → DecodeError → Type 0
 BreaksHalftone h d (Overflow BitmapDimension) =
     (65535 < h.region_info.width) ⊎ (65535 < h.region_info.height) ⊎ BreaksGrayScale (gray_params h d) h.bytes (Overflow BitmapDimension)

@@ -1,5 +1,5 @@
--- Halftone regions (T.88, 6.6): patterns drawn at the places of a grid, which may stand at an angle. The header and the
--- patterns give `halftone_decoded`, the region with its place on the page, or an error.
+-- Halftone regions (T.88, 6.6): patterns drawn at the places of a grid, which may stand at an angle. The header and
+-- the patterns give the region with its place on the page, or an error.
 use Rattle.std.specs.Prelude.{ℕ, ◌+◌, ◌-◌, ◌*◌, ◌/◌, ◌%◌, nat_lt, Bool, false, not, ◌&&◌, ◌||◌, if◌then◌else◌, ℤ, pos, ◌+ℤ◌, ◌-ℤ◌, int_le, List, [], ◌∷◌, length, slice_index_or, Option, Some, None, Result, Ok, Err}
 use Rattle.std.specs.Int.{int_shr}
 use Rattle.jbig2_base.specs.Answer.{◌>>=◌, refuse_if}

@@ -43,8 +43,7 @@ pub record CountsRead (p : GrayScale) (bytes : List ℕ) (before after : Counts)
   pub masked : p.use_mmr ≡ false → is_some p.skip_mask ≡ true → CountsMasked p p.bits_per_pixel before after
   pub lanes : KeepsLanes before after
 
--- an image: its planes are read, and then each row of each plane is taken, by one load for each group of eight lanes and
--- for each single pixel
+-- an image: its planes are read, and then each row of each plane is taken by groups of eight lanes and single pixels
 abbrev pub CountsImage : GrayScale → List ℕ → Counts → Counts → Type 0
 CountsImage p bytes before after =
     let rows = p.height * p.bits_per_pixel in
@@ -60,8 +59,8 @@ pub record CountsLanes (p : GrayScale) (before after : Counts) : Type 0 where
   pub pixels : after.pixels ≡ before.pixels + p.height * p.bits_per_pixel * (p.width % 8)
   pub both : after.groups + after.pixels ≤ before.groups + before.pixels + p.height * p.bits_per_pixel * (p.width / 8 + 7)
 
--- The words that drawing cell k may write: for each row of its pattern that lies inside, one more than the words that the
--- row's columns inside begin in. So a row of up to 64 columns writes at most two, and a cell that lies wholly outside none.
+-- The words that drawing cell k may write: for each row inside the region, two for up to 64 columns inside, and one more
+-- for each further 64 begun; so none for a cell that lies wholly outside.
 unfoldable pub cell_words : HalftoneHeader → Patterns → ℕ → ℕ
 cell_words h d k =
     let columns = h.grid_position_and_size.width in
