@@ -1,5 +1,5 @@
 -- Which rule the input breaks where the data of patterns, gray-scale images or halftone regions is refused.
-use Rattle.std.proofs.Common.{◌≡◌, ◌⊎◌, inl, inr, ⊎_elim, ℕ, zero, suc, ◌+◌, ◌-◌, ◌*◌, ◌<◌, ◌≤◌, ◌/◌, ◌%◌, ltb, Bool, true, not, ◌&&◌, ◌||◌, List, map, drop, length, Ok, refl, ◌∙◌, ap, subst, arith}
+use Rattle.std.proofs.Common.{◌≡◌, ◌⊎◌, inl, inr, ⊎_elim, ℕ, zero, suc, ◌+◌, ◌-◌, ◌*◌, ◌<◌, ◌≤◌, ◌/◌, ◌%◌, ltb, Bool, true, false, not, ◌&&◌, ◌||◌, List, map, drop, length, Ok, refl, ◌∙◌, ap, subst, arith}
 use Rattle.std.specs.Prelude.{IfErr}
 use Rattle.std.specs.List.{range_with_len}
 use Rattle.std.proofs.lemmas.Bool.{and_parts, ltb-true, ltb-false, not-true, or_cases}
@@ -13,14 +13,22 @@ use Rattle.jbig2_base.specs.declared.error.RegionError.TheVariants.{GrayScaleOut
 use Rattle.jbig2_base.proofs.Causes.{cause-next}
 use Rattle.jbig2_mmr.specs.T6.{Decoded, mmr_rows, rows_of}
 use Rattle.jbig2_region.specs.Generic.{generic_answer}
-use Rattle.jbig2_halftone.specs.Causes.{APlaneLacksRows, BreaksGrayScale, BreaksHalftone, BreaksPatterns, GrayScaleHasCauses, HalftonesHaveCauses, LacksRows, PatternsHaveCauses, plane_start}
-use Rattle.jbig2_halftone.specs.GrayScale.{GrayScale, gray_scale_image, gray_value, gray_values, image_is_too_large, mmr_plane, mmr_planes, planes_by_coder, planes_by_mmr, planes_of}
+use Rattle.jbig2_halftone.specs.Causes.{BreaksGrayScale, BreaksHalftone, BreaksPatterns, GrayScaleHasCauses, HalftonesHaveCauses, PatternsHaveCauses, plane_start}
+use Rattle.jbig2_halftone.specs.GrayScale.{GrayScale, gray_scale_image, gray_value, gray_values, image_is_too_large, mmr_planes, planes_of}
 use Rattle.jbig2_halftone.specs.Halftone.{cells_drawn, gray_params, halftone_answer, halftone_decoded, pattern_for, with_cell}
 use Rattle.jbig2_halftone.specs.HalftoneHeader.{HalftoneHeader}
-use Rattle.jbig2_halftone.specs.Patterns.{Patterns, collective_header, collective_is_too_wide, patterns_decoded}
+use Rattle.jbig2_halftone.specs.Patterns.{Patterns, collective_header, collective_width, patterns_decoded}
+use Rattle.jbig2_halftone.specs.inner.Stages.{planes_by_coder, planes_by_mmr}
 use Rattle.jbig2_region.proofs.Told.{Told, cause-if, cause-last, cause-of, told, told-if, told-next, told-refused}
 
 -- ---- MMR data
+-- the bytes begin with fewer than h whole rows of T.6 data
+abbrev LacksRows : ℕ → ℕ → List ℕ → Type 0
+LacksRows w h bytes = (rows_of w h bytes).whole ≡ false
+
+abbrev APlaneLacksRows : GrayScale → List ℕ → Type 0
+APlaneLacksRows p bytes = (k : ℕ) × (k < p.bits_per_pixel) × LacksRows p.width p.height (plane_start p bytes k)
+
 -- how many bytes the rows used, a begun one whole
 used : ℕ → ℕ → List ℕ → ℕ
 used w h bytes = length bytes - length (rows_of w h bytes).left / 8
@@ -37,7 +45,7 @@ pub pattern_causes : PatternsHaveCauses
 unfolding patterns_decoded
 pattern_causes h =
     let P : DecodeError → Type 0 = BreaksPatterns h in
-    cause-last P _ (refuse_if (collective_is_too_wide h) (Overflow BitmapDimension)) _ (told-refused P (collective_is_too_wide h) (Overflow BitmapDimension) (λ wide. ltb-true 65535 _ wide)) (λ fits is.
+    cause-last P _ (refuse_if (ltb 65535 (collective_width h)) (Overflow BitmapDimension)) _ (told-refused P (ltb 65535 (collective_width h)) (Overflow BitmapDimension) (λ wide. ltb-true 65535 _ wide)) (λ fits is.
     cause-last P (λ g. Unit {0}) (generic_answer (collective_header h)) _
     (told-if P (λ g. Unit {0}) h.mmr _ _ (λ mmr. told-next P _ (λ g. Unit {0}) (mmr_rows h.strict _ _ h.bytes) _ (told-mmr P h.strict _ _ h.bytes (λ strict lacks. (strict, mmr, lacks))) (λ rows r. tt)) (λ coded. tt)) (λ g r. tt))
 
@@ -45,15 +53,13 @@ pattern_causes h =
 -- planes from plane k on
 cause-planes : (P : DecodeError → Type 0) (p : GrayScale) (bytes : List ℕ) (k : ℕ) (rest : List ℕ) (count : ℕ) → plane_start p bytes k ≡ rest
     → ((j : ℕ) → j < k + count → LacksRows p.width p.height (plane_start p bytes j) → p.strict ≡ true → P (Region InvalidMmrData)) → IfErr (mmr_planes p rest count) P
-unfolding mmr_planes mmr_plane plane_start used
+unfolding mmr_planes plane_start used
 cause-planes P p bytes k rest zero at why = tt
 cause-planes P p bytes k rest (suc count) at why =
-    let Q : Grid × List ℕ → Type 0 = λ x. plane_start p bytes (suc k) ≡ x.1 in
     let lacks : LacksRows p.width p.height rest → LacksRows p.width p.height (plane_start p bytes k) = λ is. rw at is in
-    cause-last P Q (mmr_plane p rest) _
-    (told-next P _ Q (mmr_rows p.strict p.width p.height rest) _ (told-mmr P p.strict p.width p.height rest (λ strict is. why k (omega arith) (lacks is) strict))
-    (λ rows taken. ap (λ (l : List ℕ). drop (used p.width p.height l) l) at ∙ ap (λ (n : ℕ). drop n rest) taken)) (λ plane next.
-    cause-next P (mmr_planes p plane.1 count) _ (cause-planes P p bytes (suc k) plane.1 count next (λ j below. why j (omega (arith, below)))) (λ others is. tt))
+    cause-last P _ (mmr_rows p.strict p.width p.height rest) _ (told-mmr P p.strict p.width p.height rest (λ strict is. why k (omega arith) (lacks is) strict)) (λ plane taken.
+    let next : plane_start p bytes (suc k) ≡ drop plane.used rest = ap (λ (l : List ℕ). drop (used p.width p.height l) l) at ∙ ap (λ (n : ℕ). drop n rest) taken in
+    cause-next P (mmr_planes p (drop plane.used rest) count) _ (cause-planes P p bytes (suc k) (drop plane.used rest) count next (λ j below. why j (omega (arith, below)))) (λ others is. tt))
 
 too-large : (p : GrayScale) → image_is_too_large p ≡ true → (0 < p.bits_per_pixel) × ((65535 < p.width) ⊎ (65535 < p.height))
 too-large p is =

@@ -17,18 +17,19 @@ use Rattle.jbig2_base.specs.inner.Writes.{with_pixel}
 use Rattle.jbig2_base.proofs.GridLemmas.{grid_of-ext}
 use Rattle.jbig2_region.specs.Raster.{so_far}
 use Rattle.jbig2_region.proofs.RasterLemmas.{so_far-push, blank-so_far}
-use Rattle.jbig2_halftone.specs.Halftone.{column_of, row_of, is_apart, lies_outside, skip_grid, pattern_for, with_cell, cells_drawn}
 use Rattle.jbig2_halftone.specs.GrayScale.{gray_values}
+use Rattle.jbig2_halftone.specs.Halftone.{column_of, row_of, is_apart, pattern_for, with_cell, cells_drawn}
+use Rattle.jbig2_halftone.specs.HalftoneHeader.{HalftoneHeader}
+use Rattle.jbig2_halftone.specs.Patterns.{Patterns}
+use Rattle.jbig2_halftone.specs.inner.CellPlaces.{x_of, y_of}
 use Rattle.jbig2_halftone.specs.inner.NextValues.{row_values}
+use Rattle.jbig2_halftone.specs.inner.Stages.{lies_outside, skip_grid}
 use Rattle.jbig2_halftone.proofs.RowLemmas.{values-length, rows-next, first-rows}
 use Rattle.jbig2_base.specs.Answer.{◌>>=◌}
 use Rattle.std.specs.Prelude.{Result, int_le}
 use Rattle.jbig2_base.specs.Operator.{combined_pixel}
 use Rattle.jbig2_base.specs.declared.bitmap.operator.CombinationOperator.{CombinationOperator}
 use Rattle.jbig2_base.specs.inner.Table.{IsTable}
-use Rattle.jbig2_halftone.specs.inner.CellPlaces.{x_of, y_of}
-use Rattle.jbig2_halftone.specs.HalftoneHeader.{HalftoneHeader}
-use Rattle.jbig2_halftone.specs.Patterns.{Patterns}
 
 -- a place of a cell fits 32 bits once it is in whole pixels
 place-fits : (z o : ℤ) (a b : ℕ) → SFits w32 o → a < 2 ^ 32 → b < 2 ^ 32 → z ≡ o +ℤ pos a -ℤ pos b → SFits w32 (int_shr z 8)
@@ -216,7 +217,6 @@ cell-made h m n region pattern new x y inside column row drawn =
 
 -- a cell that is skipped
 pub outside-known : (h : HalftoneHeader) (d : Patterns) (m n : ℕ) (x y : ℤ) (outside : Bool) → x ≡ x_of h m n → y ≡ y_of h m n → outside ≡ (is_apart (int_shr x 8) d.width h.region_info.width || is_apart (int_shr y 8) d.height h.region_info.height) → outside ≡ lies_outside h d m n
-unfolding lies_outside
 outside-known h d m n x y outside column row e =
     e
     ∙ ap (λ (z : ℤ). is_apart (int_shr z 8) d.width h.region_info.width || is_apart (int_shr y 8) d.height h.region_info.height) column

@@ -5,12 +5,12 @@ use Rattle.jbig2_base.specs.Combination.{overlap, most_words, WritesWithin}
 use Rattle.jbig2_base.specs.Counts.{Counts}
 use Rattle.std.specs.Prelude.{OnOk}
 use Rattle.jbig2_base.specs.Grid.{Grid, blank}
-use Rattle.jbig2_halftone.specs.GraySteps.{CountsRead, after_lane_rows}
 use Rattle.jbig2_halftone.specs.Halftone.{column_of, gray_params, row_of}
 use Rattle.jbig2_halftone.specs.HalftoneHeader.{HalftoneHeader}
-use Rattle.jbig2_halftone.specs.HalftoneSteps.{CountsHalftone, after_mask, cell_words, words_of_cells}
+use Rattle.jbig2_halftone.specs.PatternHeader.{HasSize}
 use Rattle.jbig2_halftone.specs.Patterns.{Patterns}
-use Rattle.jbig2_halftone.specs.Sizes.{HasSize}
+use Rattle.jbig2_halftone.specs.Steps.{CountsRead, CountsHalftone, cell_words, words_of_cells}
+use Rattle.jbig2_halftone.specs.inner.Stages.{after_mask, after_lane_rows}
 
 pub draws-none : (old : Counts) → WritesWithin 0 old old
 draws-none old = record { words = omega arith; loads = omega arith; decisions = refl; run_tests = refl; groups = refl; pixels = refl }

@@ -17,7 +17,8 @@ use Rattle.jbig2_region.specs.declared.template.AdaptiveTemplatePixel.{AdaptiveT
 use Rattle.jbig2_region.specs.declared.template.Template.{Template}
 use Rattle.jbig2_region.specs.declared.template.Template.TheVariants.{Template0, Template1, Template2, Template3}
 use Rattle.jbig2_halftone.specs.GrayScale.{GrayScale, nominal_pixels, after_planes}
-use Rattle.jbig2_halftone.specs.GraySteps.{CountsCoded, CountsImage, CountsLanes, CountsMasked, CountsOne, CountsPlane, CountsPlanes, TakesLanes, after_lane_rows, plain_coding, plane_pixels, plane_runs, plane_start}
+use Rattle.jbig2_halftone.specs.Steps.{CountsImage, CountsLanes, CountsMasked, CountsPlanes, plane_runs}
+use Rattle.jbig2_halftone.specs.inner.Stages.{CountsCoded, CountsOne, CountsPlane, plain_coding, plane_pixels, plane_start, after_lane_rows}
 use Rattle.jbig2_halftone.proofs.PlaneLemmas.{BehindPlanes, no-mask}
 use Rattle.jbig2_region.proofs.PlaceCounts.{how_many-all}
 use Rattle.jbig2_region.proofs.PlaceLemmas.{at_pixel-plain}
@@ -132,18 +133,16 @@ one-masked p mask adaptive w h bytes start before after is some at counts =
 -- what the values take beside the planes
 pub image-lanes : (p : GrayScale) (bytes : List ℕ) (old new : Counts) → CountsImage p bytes old new → CountsLanes p old new
 image-lanes p bytes old new (read, (reads, taken)) =
-    lanes-of (p.height * p.bits_per_pixel) p.width old read new reads.lanes taken
+    let lanes = lanes-of (p.height * p.bits_per_pixel) p.width old read new reads.lanes taken in
+    record { groups = lanes.0; pixels = lanes.1; both = lanes.2 }
   where
-    lanes-of : (rows w : ℕ) (old read new : Counts) → KeepsLanes old read → new ≡ after_lane_rows rows w read → TakesLanes rows w old new
+    lanes-of : (rows w : ℕ) (old read new : Counts) → KeepsLanes old read → new ≡ after_lane_rows rows w read
+        → (new.groups ≡ old.groups + rows * (w / 8)) × (new.pixels ≡ old.pixels + rows * (w % 8)) × (new.groups + new.pixels ≤ old.groups + old.pixels + rows * (w / 8 + 7))
     lanes-of rows w old read new stay taken =
         let groups = ap (λ (c : Counts). c.groups) taken in
         let pixels = ap (λ (c : Counts). c.pixels) taken in
         let rest : rows * (w % 8) ≤ rows * 7 = mul-le-mul_left {m = w % 8} {n = 7} rows (omega arith) in
-        record {
-          groups = omega (arith, groups, stay.groups);
-          pixels = omega (arith, pixels, stay.pixels);
-          both = omega (arith, groups, pixels, rest, stay.groups, stay.pixels);
-        }
+        (omega (arith, groups, stay.groups), omega (arith, pixels, stay.pixels), omega (arith, groups, pixels, rest, stay.groups, stay.pixels))
 
 -- no step before the first plane
 unfoldable pub NoneYet : ℕ → Counts → Counts → Type 0

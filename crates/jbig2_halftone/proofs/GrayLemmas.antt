@@ -1,5 +1,5 @@
 -- The values of a gray-scale image, plane by plane.
-use Rattle.std.proofs.Common.{◌≡◌, ℕ, zero, suc, ◌+◌, ◌-◌, ◌*◌, ◌/◌, ◌%◌, ◌^◌, ◌<◌, ◌≤◌, Bool, true, false, eqb, List, [], ◌∷◌, ◌++◌, length, take, map, replicate, get_or, add-one, length-append, refl, sym, ap, subst, ◌∙◌, arith}
+use Rattle.std.proofs.Common.{◌≡◌, ℕ, zero, suc, ◌+◌, ◌-◌, ◌*◌, ◌/◌, ◌%◌, ◌^◌, ◌<◌, ◌≤◌, Bool, true, false, eqb, List, [], ◌∷◌, ◌++◌, length, take, map, replicate, add-one, length-append, refl, sym, ap, subst, ◌∙◌, arith}
 use Rattle.std.specs.List.{range_with_len}
 use Rattle.std.proofs.lemmas.List.{take-append-le}
 use Rattle.std.proofs.Math.Seq.{take-length}
@@ -9,7 +9,11 @@ use Rattle.jbig2_halftone.specs.inner.NextValues.{next_value}
 use Rattle.jbig2_base.specs.Grid.{Grid, bit_number, pixel_at}
 use Rattle.jbig2_region.specs.Generic.{number_of}
 use Rattle.jbig2_mmr.specs.T6.{differ}
-use Rattle.jbig2_halftone.specs.GrayScale.{parity, gray_bit, gray_value, gray_values}
+use Rattle.jbig2_halftone.specs.GrayScale.{parity, gray_value, gray_values}
+
+-- bit j of a value
+abbrev gray_bit : List Grid → ℕ → ℕ → ℕ → Bool
+gray_bit planes x y j = parity (take (length planes - j) planes) x y
 
 differ-swap : (a b c : Bool) → differ a (differ b c) ≡ differ b (differ a c)
 differ-swap true true c = refl

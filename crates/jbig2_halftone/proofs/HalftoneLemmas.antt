@@ -1,8 +1,8 @@
 -- What decoding a whole halftone region gives: a value for each cell, and in lenient mode never a refusal.
-use Rattle.std.proofs.Common.{◌≡◌, ℕ, zero, suc, ◌+◌, ◌*◌, ◌≤◌, Bool, true, false, ltb, List, [], ◌∷◌, length, drop, get_or, ◌-◌, Result, Ok, Err, refl, sym, ap, subst, ◌∙◌, ◌⊎◌, inl, inr, ⊎_elim, arith}
+use Rattle.std.proofs.Common.{◌≡◌, ℕ, zero, suc, ◌+◌, ◌≤◌, Bool, true, false, ltb, List, [], ◌∷◌, length, drop, get_or, ◌-◌, Result, Ok, Err, refl, sym, ap, subst, ◌∙◌, ◌⊎◌, inl, inr, ⊎_elim, arith}
 use Rattle.std.specs.Prelude.{if◌then◌else◌, IfErr}
 use Rattle.std.proofs.lemmas.Bool.{le-ltb, and_right}
-use Rattle.jbig2_base.specs.Answer.{◌>>=◌, refuse_if, Answers, Gives, Leaves}
+use Rattle.jbig2_base.specs.Answer.{◌>>=◌, Answers, Gives, Leaves}
 use Rattle.jbig2_base.specs.Grid.{Grid, blank}
 use Rattle.jbig2_base.specs.declared.error.DecodeError.{DecodeError}
 use Rattle.jbig2_base.specs.declared.error.DecodeError.TheVariants.{OutOfMemory, Region}
@@ -10,10 +10,11 @@ use Rattle.jbig2_base.specs.declared.error.RegionError.TheVariants.{GrayScaleOut
 use Rattle.jbig2_coder.specs.Coder.{Context}
 use Rattle.jbig2_base.specs.Search.{code_length}
 use Rattle.jbig2_mmr.specs.T6.{mmr_rows}
-use Rattle.jbig2_halftone.specs.GrayScale.{GrayScale, mmr_plane, mmr_planes, planes_by_coder, planes_by_mmr, planes_of, values_by, gray_values, image_is_too_large, planes_contexts, gray_scale_image}
+use Rattle.jbig2_halftone.specs.GrayScale.{GrayScale, mmr_planes, planes_of, gray_values, image_is_too_large, gray_scale_image}
 use Rattle.jbig2_halftone.specs.Halftone.{gray_params, pattern_for, with_cell, cells_drawn, halftone_answer, halftone_contexts}
 use Rattle.jbig2_halftone.specs.HalftoneHeader.{HalftoneHeader}
 use Rattle.jbig2_halftone.specs.Patterns.{Patterns}
+use Rattle.jbig2_halftone.specs.inner.Stages.{planes_by_coder, planes_by_mmr, planes_contexts}
 
 -- an image whose sides fit
 pub image-fits : (p : GrayScale) → p.width ≤ 65535 → p.height ≤ 65535 → image_is_too_large p ≡ false
@@ -63,20 +64,13 @@ rows-lenient : (w h : ℕ) (input : List ℕ) → Answered (mmr_rows false w h i
 unfolding mmr_rows
 rows-lenient w h input = (_, refl)
 
-plane-lenient : (p : GrayScale) (input : List ℕ) → p.strict ≡ false → Answered (mmr_plane p input)
-unfolding mmr_plane
-plane-lenient p input lenient =
-    then-answered (mmr_rows p.strict p.width p.height input) (λ rows. Ok (rows.grid, drop rows.used input))
-    (subst (λ (b : Bool). Answered (mmr_rows b p.width p.height input)) (sym lenient) (rows-lenient p.width p.height input))
-    (λ rows. ((rows.grid, drop rows.used input), refl))
-
 planes-lenient : (p : GrayScale) (input : List ℕ) (count : ℕ) → p.strict ≡ false → Answered (mmr_planes p input count)
 unfolding mmr_planes
 planes-lenient p input zero lenient = ([], refl)
 planes-lenient p input (suc count) lenient =
-    then-answered (mmr_plane p input) (λ plane. mmr_planes p plane.1 count >>= λ others. Ok (plane.0 ∷ others))
-    (plane-lenient p input lenient)
-    (λ plane. then-answered (mmr_planes p plane.1 count) (λ others. Ok (plane.0 ∷ others)) (planes-lenient p plane.1 count lenient) (λ others. (plane.0 ∷ others, refl)))
+    then-answered (mmr_rows p.strict p.width p.height input) (λ plane. mmr_planes p (drop plane.used input) count >>= λ others. Ok (plane.grid ∷ others))
+    (subst (λ (b : Bool). Answered (mmr_rows b p.width p.height input)) (sym lenient) (rows-lenient p.width p.height input))
+    (λ plane. then-answered (mmr_planes p (drop plane.used input) count) (λ others. Ok (plane.grid ∷ others)) (planes-lenient p (drop plane.used input) count lenient) (λ others. (plane.grid ∷ others, refl)))
 
 values-lenient : (use_mmr : Bool) (p : GrayScale) (input : List ℕ) → p.strict ≡ false → Answered (if use_mmr then planes_by_mmr p input else planes_by_coder p input)
 values-lenient true p input lenient = planes-lenient p input p.bits_per_pixel lenient

@@ -17,7 +17,8 @@ use Rattle.jbig2_region.specs.Skipping.{skipping_coding, skip_of}
 use Rattle.jbig2_mmr.specs.T6.{Decoded, Rows, mmr_rows, grid_of_rows, rows_of}
 use Rattle.jbig2_region.specs.Templates.{context_bits, template_pixels}
 use Rattle.jbig2_region.specs.declared.template.AdaptiveTemplatePixel.{AdaptiveTemplatePixel}
-use Rattle.jbig2_halftone.specs.GrayScale.{GrayScale, nominal_pixels, plane_coding, after_planes, coded_plane, coded_planes, mmr_planes, mmr_plane, planes_by_coder, planes_by_mmr, planes_of, image_is_too_large}
+use Rattle.jbig2_halftone.specs.GrayScale.{GrayScale, nominal_pixels, after_planes, mmr_planes, planes_of, image_is_too_large}
+use Rattle.jbig2_halftone.specs.inner.Stages.{coded_plane, plane_coding, coded_planes, mmr_plane, planes_by_coder, planes_by_mmr}
 
 -- neither side of an image that has a plane is too long
 pub image-sides : (p : GrayScale) (i : ℕ) → image_is_too_large p ≡ false → i < p.bits_per_pixel → (p.width ≤ 65535) × (p.height ≤ 65535)
@@ -63,7 +64,7 @@ pub record BehindPlanes (p : GrayScale) (input : List ℕ) (i : ℕ) (planes : L
   pub contexts : states ≡ (after_planes p input i).contexts
 
 pub behind-none : (p : GrayScale) (input : List ℕ) (planes : List Grid) (coder : Coder) (states : List Context) → planes ≡ [] → coder.bytes ≡ input → coder.registers ≡ initial_registers input → states ≡ fresh_contexts (context_bits p.template) → BehindPlanes p input 0 planes coder states
-unfolding after_planes coded_planes
+unfolding after_planes
 behind-none p input planes coder states none bytes registers contexts = record { done = none; bytes = bytes; registers = registers; contexts = contexts }
 
 pub coded-holds : (p : GrayScale) (input : List ℕ) (i : ℕ) (planes : List Grid) (before grid : Grid) (coder next : Coder) (states after : List Context) → before ≡ blank p.width p.height false
@@ -80,7 +81,6 @@ coded-holds p input i planes before grid coder next states after white holds beh
 
 pub coded-next : (p : GrayScale) (input : List ℕ) (i : ℕ) (old new : List Grid) (grid : Grid) (coder next : Coder) (states after : List Context) → Holds p.width p.height input (after_planes p input (i + 1)) grid next after
     → new ≡ old ++ grid ∷ [] → BehindPlanes p input i old coder states → BehindPlanes p input (i + 1) new next after
-unfolding coded_planes
 coded-next p input i old new grid coder next states after holds pushed behind = record {
   done =
       pushed ∙ ap (λ (ps : List Grid). ps ++ grid ∷ []) behind.done
@@ -117,12 +117,21 @@ one-more : (done : List Grid) (grid : Grid) (planes : Result (List Grid) DecodeE
 one-more done grid (Ok others) = ap (λ (ps : List Grid). Ok ps) (sym (append_assoc done (grid ∷ []) others))
 one-more done grid (Err e) = refl
 
+-- a plane and then the others
+mmr-split : (p : GrayScale) (bytes : List ℕ) (count : ℕ) → mmr_planes p bytes (suc count) ≡ (mmr_plane p bytes >>= λ plane. mmr_planes p plane.1 count >>= λ others. Ok (plane.0 ∷ others))
+unfolding mmr_planes mmr_plane
+mmr-split p bytes count = by (mmr_rows p.strict p.width p.height bytes)
+  where
+    by : (r : Result Decoded DecodeError)
+        → (r >>= λ plane. mmr_planes p (drop plane.used bytes) count >>= λ others. Ok (plane.grid ∷ others)) ≡ (◌>>=◌ {A = Grid × List ℕ} (r >>= λ rows. Ok (rows.grid, drop rows.used bytes)) λ plane. mmr_planes p plane.1 count >>= λ others. Ok (plane.0 ∷ others))
+    by (Ok rows) = refl
+    by (Err e) = refl
+
 mmr-step : (p : GrayScale) (i : ℕ) (left : List ℕ) (grid : Grid) (rest : List ℕ) → i < p.bits_per_pixel → mmr_plane p left ≡ Ok (grid, rest)
     → mmr_planes p left (p.bits_per_pixel - i) ≡ (mmr_planes p rest (p.bits_per_pixel - (i + 1)) >>= λ others. Ok (grid ∷ others))
-unfolding mmr_planes
 mmr-step p i left grid rest more read =
     let one : p.bits_per_pixel - i ≡ suc (p.bits_per_pixel - (i + 1)) = omega arith in
-    rw (one, read)
+    rw (one, mmr-split p left (p.bits_per_pixel - (i + 1)), read)
 
 pub mmr-next : (p : GrayScale) (input : List ℕ) (i : ℕ) (grid : Grid) (old new : List Grid) (left rest : List ℕ) → i < p.bits_per_pixel → mmr_plane p left ≡ Ok (grid, rest)
     → new ≡ old ++ grid ∷ [] → ReadsMmr p input i old left → ReadsMmr p input (i + 1) new rest
@@ -144,10 +153,9 @@ mmr-all p input i planes rest all reads =
 
 -- a fault ends the reading
 pub mmr-fault : (p : GrayScale) (input : List ℕ) (i : ℕ) (planes : List Grid) (left : List ℕ) (error : DecodeError) → i < p.bits_per_pixel → mmr_plane p left ≡ Err error → ReadsMmr p input i planes left → planes_by_mmr p input ≡ Err error
-unfolding mmr_planes
 mmr-fault p input i planes left error more e reads =
     let one : p.bits_per_pixel - i ≡ suc (p.bits_per_pixel - (i + 1)) = omega arith in
-    let made : Err error ≡ mmr_planes p input p.bits_per_pixel = rw (one, e) at reads.all in
+    let made : Err error ≡ mmr_planes p input p.bits_per_pixel = rw (one, mmr-split p left (p.bits_per_pixel - (i + 1)), e) at reads.all in
     sym made
 
 -- one plane
@@ -198,7 +206,7 @@ pub record AreSized (p : GrayScale) (count : ℕ) (planes : List Grid) : Type 0 
   pub wide : All (λ (g : Grid). g.width ≡ p.width) planes
 
 coded-sized : (p : GrayScale) (input : List ℕ) (count : ℕ) → AreSized p count (coded_planes p input count)
-unfolding coded_planes so_far
+unfolding so_far
 coded-sized p input count = record {
   many = length-map-range_with_len (coded_plane p input) 0 count;
   wide = λ k d inside. ap (λ (g : Grid). g.width) (get_or-map-range_with_len (coded_plane p input) 0 count k k d (omega (arith, length-map-range_with_len (coded_plane p input) 0 count)) (omega arith));
@@ -236,7 +244,7 @@ mmr-planes-sized p zero input planes made =
     subst (λ (ps : List Grid). AreSized p 0 ps) none (record { many = refl; wide = λ k d inside. absurd (omega arith) })
 mmr-planes-sized p (suc count) input planes made =
     let next : count + 1 ≡ suc count = omega arith in
-    subst (λ (n : ℕ). AreSized p n planes) next (planes-sized-step p count input planes (mmr_plane p input) refl (λ rest others e. mmr-planes-sized p count rest others e) made)
+    subst (λ (n : ℕ). AreSized p n planes) next (planes-sized-step p count input planes (mmr_plane p input) refl (λ rest others e. mmr-planes-sized p count rest others e) (sym (mmr-split p input count) ∙ made))
 
 pub planes-sized : (p : GrayScale) (input : List ℕ) (planes : List Grid) → planes_of p input ≡ Ok planes → AreSized p p.bits_per_pixel planes
 planes-sized p input planes made = by p.use_mmr made

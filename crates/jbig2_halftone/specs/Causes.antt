@@ -1,6 +1,5 @@
--- Which rule the input breaks where patterns or a halftone region are refused (docs/FORMAT.md), a line for each error.
--- A predicate `Breaks..` takes the bytes of a segment, or its header and what it refers to, and an error; its law ties
--- the definition's errors to it.
+-- Which rule the input breaks where patterns or a halftone region are refused (docs/FORMAT.md): `Breaks..` takes the
+-- bytes of a segment, or its header and what it refers to, and an error; a law ties the definition's errors to it.
 use Rattle.std.specs.Prelude.{◌≡◌, ◌<◌, ◌≤◌, ◌⊎◌, ℕ, zero, suc, ◌+◌, ◌-◌, ◌*◌, ◌/◌, ◌%◌, Bool, true, false, List, length, drop, Ok, IfErr}
 use Rattle.std.specs.Int.{w8, w32}
 use Rattle.jbig2_base.specs.Causes.{number_in}
@@ -17,7 +16,6 @@ use Rattle.jbig2_halftone.specs.HalftoneHeader.{HalftoneHeader, halftone_header_
 use Rattle.jbig2_halftone.specs.PatternHeader.{PatternHeader, pattern_header_at}
 use Rattle.jbig2_halftone.specs.Patterns.{Patterns, patterns_decoded}
 
--- ---- headers
 -- A pattern dictionary's header has seven bytes: flags, the width and the height of a pattern, GRAYMAX.
 abbrev pub BreaksPatternHeader : List ℕ → DecodeError → Type 0
 BreaksPatternHeader bytes (Parse UnexpectedEof) = (length bytes < 7) ⊎ (number_in w8 1 bytes ≡ 0) ⊎ (number_in w8 2 bytes ≡ 0)
@@ -38,15 +36,11 @@ BreaksHalftoneHeader bytes _ = ⊥
 abbrev pub HalftoneHeadersHaveCauses : Type 0
 HalftoneHeadersHaveCauses = (strict : Bool) (bytes : List ℕ) → IfErr (halftone_header_at strict bytes) (BreaksHalftoneHeader bytes)
 
--- ---- patterns and planes
--- the bytes begin with fewer than `height` whole rows of T.6 data
-abbrev pub LacksRows : ℕ → ℕ → List ℕ → Type 0
-LacksRows width height bytes = (rows_of width height bytes).whole ≡ false
-
--- The patterns side by side may have 65535 columns at most; MMR data is refused in strict mode alone.
+-- The patterns side by side have too many columns; or, in strict mode, their MMR data lacks rows.
 abbrev pub BreaksPatterns : PatternHeader → DecodeError → Type 0
 BreaksPatterns h (Overflow BitmapDimension) = 65535 < (h.gray_max + 1) * h.pattern_width
-BreaksPatterns h (Region InvalidMmrData) = (h.strict ≡ true) × (h.mmr ≡ true) × LacksRows ((h.gray_max + 1) * h.pattern_width) h.pattern_height h.bytes
+BreaksPatterns h (Region InvalidMmrData) =
+    (h.strict ≡ true) × (h.mmr ≡ true) × ((rows_of ((h.gray_max + 1) * h.pattern_width) h.pattern_height h.bytes).whole ≡ false)
 BreaksPatterns h _ = ⊥
 
 abbrev pub PatternsHaveCauses : Type 0
@@ -59,30 +53,27 @@ plane_start p bytes (suc k) =
     let here = plane_start p bytes k in
     drop (length here - length (rows_of p.width p.height here).left / 8) here
 
-abbrev pub APlaneLacksRows : GrayScale → List ℕ → Type 0
-APlaneLacksRows p bytes = (k : ℕ) × (k < p.bits_per_pixel) × LacksRows p.width p.height (plane_start p bytes k)
-
--- The image has planes, and a side above 65535 pixels; a plane of MMR data lacks rows.
+-- The image has planes, and a side above 65535; or, in strict mode, the MMR data of a plane lacks rows.
 abbrev pub BreaksGrayScale : GrayScale → List ℕ → DecodeError → Type 0
 BreaksGrayScale p bytes (Overflow BitmapDimension) = (0 < p.bits_per_pixel) × ((65535 < p.width) ⊎ (65535 < p.height))
-BreaksGrayScale p bytes (Region InvalidMmrData) = (p.strict ≡ true) × (p.use_mmr ≡ true) × APlaneLacksRows p bytes
+BreaksGrayScale p bytes (Region InvalidMmrData) =
+    (p.strict ≡ true) × (p.use_mmr ≡ true)
+    × ((k : ℕ) × (k < p.bits_per_pixel) × ((rows_of p.width p.height (plane_start p bytes k)).whole ≡ false))
 BreaksGrayScale p bytes _ = ⊥
 
 abbrev pub GrayScaleHasCauses : Type 0
 GrayScaleHasCauses = (p : GrayScale) (bytes : List ℕ) → IfErr (gray_scale_image p bytes) (BreaksGrayScale p bytes)
 
--- ---- halftone regions
--- The value of a cell of the grid, which the planes of the bytes give, is not below the number of the patterns.
-abbrev pub AValueNamesNoPattern : HalftoneHeader → Patterns → Type 0
-AValueNamesNoPattern h d =
-    let p = gray_params h d in
-    (planes : List Grid) × (x : ℕ) × (y : ℕ) × (planes_of p h.bytes ≡ Ok planes) × (x < p.width) × (y < p.height) × (length d.grids ≤ gray_value planes x y)
-
--- A side of the region or of the grid is above 65535; the bytes of the gray values or one of these values is faulty.
+-- A side of the region or of the image of gray values is above 65535; the image's MMR data lacks rows; or, in strict
+-- mode, the value that the planes of the bytes give a cell is not below the number of the patterns.
 abbrev pub BreaksHalftone : HalftoneHeader → Patterns → DecodeError → Type 0
-BreaksHalftone h d (Overflow BitmapDimension) = (65535 < h.region_info.width) ⊎ (65535 < h.region_info.height) ⊎ BreaksGrayScale (gray_params h d) h.bytes (Overflow BitmapDimension)
+BreaksHalftone h d (Overflow BitmapDimension) =
+    (65535 < h.region_info.width) ⊎ (65535 < h.region_info.height) ⊎ BreaksGrayScale (gray_params h d) h.bytes (Overflow BitmapDimension)
 BreaksHalftone h d (Region InvalidMmrData) = BreaksGrayScale (gray_params h d) h.bytes (Region InvalidMmrData)
-BreaksHalftone h d (Region GrayScaleOutOfRange) = (h.strict ≡ true) × AValueNamesNoPattern h d
+BreaksHalftone h d (Region GrayScaleOutOfRange) =
+    let grid = h.grid_position_and_size in
+    (h.strict ≡ true) × ((planes : List Grid) × (x : ℕ) × (y : ℕ) × (planes_of (gray_params h d) h.bytes ≡ Ok planes)
+    × (x < grid.width) × (y < grid.height) × (length d.grids ≤ gray_value planes x y))
 BreaksHalftone h d _ = ⊥
 
 abbrev pub HalftonesHaveCauses : Type 0

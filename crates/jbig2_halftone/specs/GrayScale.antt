@@ -1,6 +1,5 @@
--- Gray-scale images (T.88, Annex C): a value for each pixel, coded as bit planes from the highest on.
--- `gray_scale_image` takes the parameters of Table C.1 and the coded bytes, and gives the values row by row, or an
--- error.
+-- Gray-scale images (T.88, Annex C): a value for each pixel, coded as bit planes from the highest on. The definition
+-- `gray_scale_image` takes the parameters of Table C.1 and the coded bytes, and gives the values, or an error.
 use Rattle.std.specs.Prelude.{ℕ, zero, suc, ◌+◌, ◌-◌, ◌*◌, ◌/◌, ◌%◌, nat_lt, Bool, false, ◌&&◌, ◌||◌, if◌then◌else◌, List, [], ◌∷◌, length, take, drop, map, Option, Result, Ok}
 use Rattle.std.specs.List.{range_with_len}
 use Rattle.jbig2_base.specs.Answer.{◌>>=◌, refuse_if}
@@ -10,14 +9,13 @@ use Rattle.jbig2_base.specs.declared.error.DecodeError.TheVariants.{Overflow}
 use Rattle.jbig2_base.specs.declared.error.OverflowError.TheVariants.{BitmapDimension}
 use Rattle.jbig2_coder.specs.Coder.{Context, initial_registers}
 use Rattle.jbig2_region.specs.Generic.{number_of}
-use Rattle.jbig2_region.specs.Raster.{Coding, Region, so_far, decoded_region, no_pixels, fresh_contexts}
-use Rattle.jbig2_region.specs.Skipping.{skipping_coding, skip_of}
+use Rattle.jbig2_region.specs.Raster.{Region, so_far, decoded_region, no_pixels, fresh_contexts}
+use Rattle.jbig2_region.specs.Skipping.{skipping_coding}
 use Rattle.jbig2_mmr.specs.T6.{differ, mmr_rows}
 use Rattle.jbig2_region.specs.Templates.{context_bits, left, right, template_pixels}
 use Rattle.jbig2_region.specs.declared.template.AdaptiveTemplatePixel.{AdaptiveTemplatePixel}
 use Rattle.jbig2_region.specs.declared.template.Template.{Template}
-use Rattle.jbig2_region.specs.declared.template.Template.TheVariants.{Template0, Template1, Template2, Template3}
-use Rattle.jbig2_halftone.specs.declared.gray_scale.GrayScaleParams.{GrayScaleParams}
+use Rattle.jbig2_region.specs.declared.template.Template.TheVariants.{Template0, Template1}
 
 -- What an image's coded bytes are decoded by (Table C.1).
 pub record GrayScale : Type 0 where
@@ -29,100 +27,60 @@ pub record GrayScale : Type 0 where
   pub skip_mask : Option Grid
   pub strict : Bool
 
-abbrev pub gray_view : {A : Type 0} → GrayScaleParams A → GrayScale
-gray_view p = record {
-  use_mmr = p.use_mmr;
-  bits_per_pixel = p.bits_per_pixel;
-  width = p.width;
-  height = p.height;
-  template = p.template;
-  skip_mask = skip_of p.skip_mask;
-  strict = p.strict;
-}
-
--- ---- the coded planes, the highest first
 -- the adaptive pixels at their nominal places (Table C.4)
 abbrev pub nominal_pixels : Template → List AdaptiveTemplatePixel
 nominal_pixels Template0 = right 3 1 ∷ left 3 1 ∷ right 2 2 ∷ left 2 2 ∷ []
 nominal_pixels Template1 = right 3 1 ∷ []
-nominal_pixels Template2 = right 2 1 ∷ []
-nominal_pixels Template3 = right 2 1 ∷ []
+nominal_pixels _ = right 2 1 ∷ []
 
--- a plane is a generic region without typical prediction (Table C.4)
-abbrev pub plane_coding : GrayScale → Coding
-plane_coding p = skipping_coding (template_pixels false p.template (nominal_pixels p.template)) p.skip_mask
-
--- The last of the `count` highest planes. Each begins with the registers and the contexts that the one before it left,
--- the first with fresh contexts.
+-- The last of the `count` highest planes, each a generic region without typical prediction (Table C.4), which begins
+-- with the registers and the contexts that the one before it left, and the first with fresh contexts.
 unfoldable pub after_planes : GrayScale → List ℕ → ℕ → Region
 after_planes p bytes zero = no_pixels (initial_registers bytes) (fresh_contexts (context_bits p.template))
 after_planes p bytes (suc count) =
     let before = after_planes p bytes count in
-    decoded_region (plane_coding p) p.width p.height bytes (no_pixels before.registers before.contexts)
+    let coding = skipping_coding (template_pixels false p.template (nominal_pixels p.template)) p.skip_mask in
+    decoded_region coding p.width p.height bytes (no_pixels before.registers before.contexts)
 
--- the plane behind the k highest ones
-abbrev pub coded_plane : GrayScale → List ℕ → ℕ → Grid
-coded_plane p bytes k = so_far p.width p.height (after_planes p bytes (k + 1)).pixels
-
-unfoldable pub coded_planes : GrayScale → List ℕ → ℕ → List Grid
-coded_planes p bytes count = map (coded_plane p bytes) (range_with_len 0 count)
-
--- with MMR, a plane and the bytes behind those that it used
-unfoldable pub mmr_plane : GrayScale → List ℕ → Result (Grid × List ℕ) DecodeError
-mmr_plane p bytes = mmr_rows p.strict p.width p.height bytes >>= λ rows. Ok (rows.grid, drop rows.used bytes)
-
--- a plane and then the others
+-- with MMR, a plane, and then the others from the bytes behind those that it used
 unfoldable pub mmr_planes : GrayScale → List ℕ → ℕ → Result (List Grid) DecodeError
 mmr_planes p bytes zero = Ok []
 mmr_planes p bytes (suc count) = do
-  plane ← mmr_plane p bytes
-  others ← mmr_planes p plane.1 count
-  Ok (plane.0 ∷ others)
+  plane ← mmr_rows p.strict p.width p.height bytes
+  others ← mmr_planes p (drop plane.used bytes) count
+  Ok (plane.grid ∷ others)
 
--- all planes of an image
-abbrev pub planes_by_coder : GrayScale → List ℕ → Result (List Grid) DecodeError
-planes_by_coder p bytes = Ok (coded_planes p bytes p.bits_per_pixel)
-
-abbrev pub planes_by_mmr : GrayScale → List ℕ → Result (List Grid) DecodeError
-planes_by_mmr p bytes = mmr_planes p bytes p.bits_per_pixel
-
+-- all planes, the highest first: by the coder, plane k is the last of the k + 1 highest ones
 abbrev pub planes_of : GrayScale → List ℕ → Result (List Grid) DecodeError
-planes_of p bytes = if p.use_mmr then planes_by_mmr p bytes else planes_by_coder p bytes
+planes_of p bytes =
+    if p.use_mmr then mmr_planes p bytes p.bits_per_pixel
+    else Ok (map (λ k. so_far p.width p.height (after_planes p bytes (k + 1)).pixels) (range_with_len 0 p.bits_per_pixel))
 
--- the contexts behind all planes; MMR leaves them alone
-abbrev pub planes_contexts : GrayScale → List ℕ → List Context → List Context
-planes_contexts p bytes contexts = if p.use_mmr then contexts else (after_planes p bytes p.bits_per_pixel).contexts
-
--- ---- the values
 -- the exclusive or of the pixels of these planes at column x of row y
 abbrev pub parity : List Grid → ℕ → ℕ → Bool
 parity [] x y = false
 parity (plane ∷ planes) x y = differ (pixel_at plane x y) (parity planes x y)
 
--- bit j of a value: the exclusive or of the coded planes from plane j up (C.5, step 3)
-abbrev pub gray_bit : List Grid → ℕ → ℕ → ℕ → Bool
-gray_bit planes x y j = parity (take (length planes - j) planes) x y
-
+-- a value, whose bit j is the exclusive or of the coded planes from plane j up (C.5, step 3)
 unfoldable pub gray_value : List Grid → ℕ → ℕ → ℕ
-gray_value planes x y = number_of (map (gray_bit planes x y) (range_with_len 0 (length planes)))
+gray_value planes x y =
+    number_of (map (λ j. parity (take (length planes - j) planes) x y) (range_with_len 0 (length planes)))
 
 -- a value for each pixel, row by row from the top, each row from the left
 unfoldable pub gray_values : ℕ → ℕ → List Grid → List ℕ
 gray_values w h planes = map (λ n. gray_value planes (n % w) (n / w)) (range_with_len 0 (w * h))
 
-abbrev pub values_by : GrayScale → Result (List Grid) DecodeError → Result (List ℕ) DecodeError
-values_by p planes = planes >>= λ all. Ok (gray_values p.width p.height all)
-
 -- a side above 65535, which is refused where there is a plane to read (our own rule)
 abbrev pub image_is_too_large : GrayScale → Bool
 image_is_too_large p = nat_lt 0 p.bits_per_pixel && (nat_lt 65535 p.width || nat_lt 65535 p.height)
 
--- The image.
 unfoldable pub gray_scale_image : GrayScale → List ℕ → Result (List ℕ) DecodeError
 gray_scale_image p bytes = do
   fits ← refuse_if (image_is_too_large p) (Overflow BitmapDimension)
-  values_by p (planes_of p bytes)
+  planes ← planes_of p bytes
+  Ok (gray_values p.width p.height planes)
 
--- The contexts afterwards, also where MMR data is refused; a side that is too large leaves them alone.
+-- The contexts afterwards. MMR leaves them alone, refused or not, and so does a side that is too large.
 abbrev pub gray_contexts : GrayScale → List ℕ → List Context → List Context
-gray_contexts p bytes contexts = if image_is_too_large p then contexts else planes_contexts p bytes contexts
+gray_contexts p bytes contexts =
+    if image_is_too_large p || p.use_mmr then contexts else (after_planes p bytes p.bits_per_pixel).contexts

@@ -1,6 +1,6 @@
--- Halftone regions (T.88, 6.6): patterns drawn at the places of a grid, which may stand at an angle. `halftone_decoded`
--- takes the header and the patterns, and gives the region with its place on the page, or an error.
-use Rattle.std.specs.Prelude.{ℕ, ◌+◌, ◌-◌, ◌*◌, ◌/◌, ◌%◌, ◌^◌, nat_le, nat_lt, Bool, false, not, ◌&&◌, ◌||◌, if◌then◌else◌, ℤ, pos, ◌+ℤ◌, ◌-ℤ◌, int_le, List, [], ◌∷◌, length, slice_index_or, Option, Some, None, Result, Ok, Err}
+-- Halftone regions (T.88, 6.6): patterns drawn at the places of a grid, which may stand at an angle. The header and
+-- the patterns give the region with its place on the page, or an error.
+use Rattle.std.specs.Prelude.{ℕ, ◌+◌, ◌-◌, ◌*◌, ◌/◌, ◌%◌, nat_lt, Bool, false, not, ◌&&◌, ◌||◌, if◌then◌else◌, ℤ, pos, ◌+ℤ◌, ◌-ℤ◌, int_le, List, [], ◌∷◌, length, slice_index_or, Option, Some, None, Result, Ok, Err}
 use Rattle.std.specs.Int.{int_shr}
 use Rattle.jbig2_base.specs.Answer.{◌>>=◌, refuse_if}
 use Rattle.jbig2_base.specs.Combination.{combined}
@@ -16,9 +16,7 @@ use Rattle.jbig2_halftone.specs.GrayScale.{GrayScale, gray_scale_image, gray_con
 use Rattle.jbig2_halftone.specs.HalftoneHeader.{HalftoneHeader}
 use Rattle.jbig2_halftone.specs.Patterns.{Patterns}
 
--- ---- the grid's cells
--- The region's column and row where the pattern of cell (m, n) stands, row m and column n of the grid (6.6.5.2). The
--- numbers are in parts of 256, and are rounded down.
+-- where the pattern of cell (m, n) stands, row m and column n of the grid (6.6.5.2): parts of 256, rounded down
 abbrev pub column_of : HalftoneHeader → ℕ → ℕ → ℤ
 column_of h m n = int_shr (h.grid_position_and_size.horizontal_offset +ℤ pos (m * h.grid_vector.y_vector) +ℤ pos (n * h.grid_vector.x_vector)) 8
 
@@ -29,19 +27,15 @@ row_of h m n = int_shr (h.grid_position_and_size.vertical_offset +ℤ pos (m * h
 abbrev pub is_apart : ℤ → ℕ → ℕ → Bool
 is_apart place size room = int_le (place +ℤ pos size) (pos 0) || int_le (pos room) place
 
--- the pattern of cell (m, n) would lie wholly outside the region (6.6.5.1)
-unfoldable pub lies_outside : HalftoneHeader → Patterns → ℕ → ℕ → Bool
-lies_outside h d m n = is_apart (column_of h m n) d.width h.region_info.width || is_apart (row_of h m n) d.height h.region_info.height
-
--- black where a cell is skipped (HSKIP)
-abbrev pub skip_grid : HalftoneHeader → Patterns → Grid
-skip_grid h d = grid_of h.grid_position_and_size.width h.grid_position_and_size.height (λ n m. lies_outside h d m n)
-
--- MMR planes skip no cell
+-- black where a cell is skipped, whose pattern would lie wholly outside the region (HSKIP, 6.6.5.1); MMR skips none
 abbrev pub skip_mask : HalftoneHeader → Patterns → Option Grid
-skip_mask h d = if h.flags.enable_skip && not h.flags.mmr then Some (skip_grid h d) else None
+skip_mask h d =
+    let grid = h.grid_position_and_size in
+    let room = h.region_info in
+    let lies_outside : ℕ → ℕ → Bool =
+    λ n m. is_apart (column_of h m n) d.width room.width || is_apart (row_of h m n) d.height room.height in
+    if h.flags.enable_skip && not h.flags.mmr then Some (grid_of grid.width grid.height lies_outside) else None
 
--- ---- the gray values
 -- a value for each cell, row by row, with as many bits as the number of the last pattern has (Table 23)
 abbrev pub gray_params : HalftoneHeader → Patterns → GrayScale
 gray_params h d = record {
@@ -54,9 +48,7 @@ gray_params h d = record {
   strict = h.strict;
 }
 
--- ---- the drawing
--- The pattern of a value. A value without a pattern is refused in strict mode, and otherwise has the last one (our
--- own rule).
+-- the pattern of a value; where there is none, strict mode refuses it, and else it is the last one (our own rule)
 abbrev pub pattern_for : Bool → List Grid → ℕ → Result Grid DecodeError
 pattern_for strict grids value =
     if nat_lt value (length grids) then Ok (slice_index_or grids value (blank 0 0 false))
@@ -84,17 +76,14 @@ halftone_answer h d = do
 abbrev pub halftone_contexts : HalftoneHeader → Patterns → List Context → List Context
 halftone_contexts h d contexts = gray_contexts (gray_params h d) h.bytes contexts
 
--- a side above 65535, which is refused (our own rule)
-abbrev pub region_is_too_large : HalftoneHeader → Bool
-region_is_too_large h = nat_lt 65535 h.region_info.width || nat_lt 65535 h.region_info.height
-
--- A region and its place.
+-- A region and its place; a side above 65535 is refused (our own rule).
 unfoldable pub halftone_decoded : HalftoneHeader → Patterns → Result PlacedRegion DecodeError
 halftone_decoded h d = do
-  fits ← refuse_if (region_is_too_large h) (Overflow BitmapDimension)
+  fits ← refuse_if (nat_lt 65535 h.region_info.width || nat_lt 65535 h.region_info.height) (Overflow BitmapDimension)
   grid ← halftone_answer h d
   Ok (placed h.region_info grid)
 
--- The contexts afterwards; a side that is too large leaves them alone.
+-- The contexts afterwards; a side that is refused leaves them alone.
 abbrev pub decoded_contexts : HalftoneHeader → Patterns → List Context → List Context
-decoded_contexts h d contexts = if region_is_too_large h then contexts else halftone_contexts h d contexts
+decoded_contexts h d contexts =
+    if nat_lt 65535 h.region_info.width || nat_lt 65535 h.region_info.height then contexts else halftone_contexts h d contexts

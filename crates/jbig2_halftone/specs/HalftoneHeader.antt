@@ -61,7 +61,6 @@ halftone_grid_at bytes = do
   y ← signed_at w32 x.1
   Ok (record { width = width.0; height = height.0; horizontal_offset = x.0; vertical_offset = y.0 }, y.1)
 
--- All of it, and the place where the coded bytes begin.
 unfoldable pub halftone_header_at : Bool → List ℕ → Result (HalftoneHeader × List ℕ) DecodeError
 halftone_header_at strict bytes = do
   info ← region_info_at bytes

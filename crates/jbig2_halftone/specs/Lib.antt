@@ -1,10 +1,8 @@
 pub mod Causes
 pub mod GrayScale
-pub mod GraySteps
 pub mod Halftone
 pub mod HalftoneHeader
-pub mod HalftoneSteps
 pub mod PatternHeader
 pub mod Patterns
-pub mod Sizes
+pub mod Steps
 pub mod inner

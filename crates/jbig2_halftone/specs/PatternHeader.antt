@@ -1,16 +1,15 @@
 -- The data of a pattern dictionary segment up to its coded bytes (T.88, 7.4.4): flags, a pattern's sides and GRAYMAX.
 -- The bytes give the header, and the coded bytes stand behind it.
-use Rattle.std.specs.Prelude.{ℕ, ◌/◌, ◌%◌, ◌==◌, Bool, List, Result, Ok}
+use Rattle.std.specs.Prelude.{ℕ, ◌≡◌, ◌/◌, ◌%◌, ◌==◌, Bool, List, Result, Ok}
 use Rattle.std.specs.Int.{w8, w32}
 use Rattle.jbig2_base.specs.Answer.{◌>>=◌, refuse_if}
+use Rattle.jbig2_base.specs.Grid.{Grid}
 use Rattle.jbig2_base.specs.Fields.{number_at, end_of_bytes}
 use Rattle.jbig2_base.specs.declared.error.DecodeError.{DecodeError}
 use Rattle.jbig2_region.specs.Templates.{template_of}
 use Rattle.jbig2_region.specs.declared.template.Template.{Template}
-use Rattle.jbig2_halftone.specs.declared.pattern.PatternDictionaryHeader.{PatternDictionaryHeader}
 
--- What a dictionary's coded bytes are decoded by. GRAYMAX is the largest gray value (7.4.4.1.4): there is one pattern
--- more.
+-- What a dictionary's coded bytes are decoded by. There is one pattern more than GRAYMAX says (7.4.4.1.4).
 pub record PatternHeader : Type 0 where
   pub mmr : Bool
   pub template : Template
@@ -20,22 +19,15 @@ pub record PatternHeader : Type 0 where
   pub bytes : List ℕ
   pub strict : Bool
 
-abbrev pub header_view : PatternDictionaryHeader → PatternHeader
-header_view h = record {
-  mmr = h.mmr;
-  template = h.template;
-  pattern_width = h.pattern_width;
-  pattern_height = h.pattern_height;
-  gray_max = h.num_patterns;
-  bytes = h.bytes.now;
-  strict = h.strict;
-}
+-- the size of a pattern, HDPW columns and HDPH rows, as a grid that has it
+pub record HasSize (width height : ℕ) (grid : Grid) : Type 0 where
+  pub columns : grid.width ≡ width
+  pub rows : grid.height ≡ height
 
 -- a side of a pattern; a side of no pixels counts as missing (our own rule)
 abbrev pub side_at : List ℕ → Result (ℕ × List ℕ) DecodeError
 side_at bytes = number_at w8 bytes >>= λ n. refuse_if (n.0 == 0) end_of_bytes >>= λ some. Ok n
 
--- All of it, and the place where the coded bytes begin.
 unfoldable pub pattern_header_at : Bool → List ℕ → Result (PatternHeader × List ℕ) DecodeError
 pattern_header_at strict bytes = do
   flags ← number_at w8 bytes

@@ -1,9 +1,8 @@
 -- Pattern dictionaries (T.88, 6.7): the patterns stand side by side in one collective bitmap, a generic region. The
 -- header with the coded bytes gives the list of the patterns' grids, one for each gray value.
-use Rattle.std.specs.Prelude.{ℕ, ◌+◌, ◌*◌, nat_lt, Bool, true, false, if◌then◌else◌, List, [], ◌∷◌, map, Result, Ok}
+use Rattle.std.specs.Prelude.{ℕ, ◌+◌, ◌*◌, nat_lt, false, if◌then◌else◌, List, [], ◌∷◌, take, map, Result, Ok}
 use Rattle.std.specs.List.{range_with_len}
 use Rattle.jbig2_base.specs.Answer.{◌>>=◌, refuse_if}
-use Rattle.jbig2_base.specs.Combination.{most_words}
 use Rattle.jbig2_base.specs.Grid.{Grid}
 use Rattle.jbig2_base.specs.Parts.{part_of}
 use Rattle.jbig2_base.specs.declared.bitmap.operator.CombinationOperator.TheVariants.{Or}
@@ -13,10 +12,7 @@ use Rattle.jbig2_base.specs.declared.error.OverflowError.TheVariants.{BitmapDime
 use Rattle.jbig2_coder.specs.Coder.{Context}
 use Rattle.jbig2_region.specs.Generic.{generic_answer, contexts_after}
 use Rattle.jbig2_region.specs.GenericHeader.{GenericHeader}
-use Rattle.jbig2_region.specs.Templates.{left, right}
-use Rattle.jbig2_region.specs.declared.template.AdaptiveTemplatePixel.{AdaptiveTemplatePixel}
-use Rattle.jbig2_region.specs.declared.template.Template.{Template}
-use Rattle.jbig2_region.specs.declared.template.Template.TheVariants.{Template0}
+use Rattle.jbig2_region.specs.Templates.{adaptive_pixel_count, left, right}
 use Rattle.jbig2_halftone.specs.PatternHeader.{PatternHeader}
 use Rattle.jbig2_halftone.specs.declared.pattern.dictionary.PatternDictionary.{PatternDictionary}
 
@@ -29,20 +25,11 @@ pub record Patterns : Type 0 where
 abbrev pub dictionary_view : {A : Type 0} → PatternDictionary A → Patterns
 dictionary_view d = record { grids = d.patterns.items; width = d.pattern_width; height = d.pattern_height }
 
-abbrev pub number_of_patterns : PatternHeader → ℕ
-number_of_patterns h = h.gray_max + 1
-
 abbrev pub collective_width : PatternHeader → ℕ
-collective_width h = number_of_patterns h * h.pattern_width
+collective_width h = (h.gray_max + 1) * h.pattern_width
 
--- The adaptive pixels (Table 27), by whether the bitmap is coded with MMR, the template and the width of a pattern: A1 lies
--- one pattern to the left, in the same row.
-abbrev pub collective_pixels : Bool → Template → ℕ → List AdaptiveTemplatePixel
-collective_pixels true template width = []
-collective_pixels false Template0 width = left width 0 ∷ left 3 1 ∷ right 2 2 ∷ left 2 2 ∷ []
-collective_pixels false template width = left width 0 ∷ []
-
--- the collective bitmap as a generic region, without typical prediction (Table 27)
+-- The collective bitmap as a generic region, without typical prediction (Table 27). Of its adaptive pixels, as many as
+-- it has by 6.2.5.4, A1 lies one pattern to the left, in the same row.
 abbrev pub collective_header : PatternHeader → GenericHeader
 collective_header h = record {
   region_info = record { width = collective_width h; height = h.pattern_height; x_location = 0; y_location = 0; combination_operator = Or };
@@ -50,29 +37,24 @@ collective_header h = record {
   template = h.template;
   extended = false;
   tpgdon = false;
-  adaptive_template_pixels = collective_pixels h.mmr h.template h.pattern_width;
+  adaptive_template_pixels = take (adaptive_pixel_count h.mmr false h.template) (left h.pattern_width 0 ∷ left 3 1 ∷ right 2 2 ∷ left 2 2 ∷ []);
   bytes = h.bytes;
   strict = h.strict;
 }
 
--- pattern k: the columns from k * width on
-abbrev pub pattern_of : Grid → ℕ → ℕ → ℕ → Grid
-pattern_of collective width height k = part_of collective (record { left = k * width; top = 0; width = width; height = height })
-
+-- so many patterns of these sides; pattern k is the columns from k * width on
 unfoldable pub patterns_of : Grid → ℕ → ℕ → ℕ → List Grid
-patterns_of collective width height count = map (λ k. pattern_of collective width height k) (range_with_len 0 count)
+patterns_of collective width height count =
+    map (λ k. part_of collective (record { left = k * width; top = 0; width = width; height = height })) (range_with_len 0 count)
 
--- a collective bitmap of more than 65535 columns, which is refused (our own rule)
-abbrev pub collective_is_too_wide : PatternHeader → Bool
-collective_is_too_wide h = nat_lt 65535 (collective_width h)
-
--- The dictionary.
+-- The dictionary. A collective bitmap of more than 65535 columns is refused (our own rule).
 unfoldable pub patterns_decoded : PatternHeader → Result Patterns DecodeError
 patterns_decoded h = do
-  fits ← refuse_if (collective_is_too_wide h) (Overflow BitmapDimension)
+  fits ← refuse_if (nat_lt 65535 (collective_width h)) (Overflow BitmapDimension)
   collective ← generic_answer (collective_header h)
-  Ok (record { grids = patterns_of collective h.pattern_width h.pattern_height (number_of_patterns h); width = h.pattern_width; height = h.pattern_height })
+  Ok (record { grids = patterns_of collective h.pattern_width h.pattern_height (h.gray_max + 1); width = h.pattern_width; height = h.pattern_height })
 
 -- The contexts afterwards: those that the collective bitmap leaves. One that is too wide leaves them alone.
 abbrev pub dictionary_contexts : PatternHeader → List Context → List Context
-dictionary_contexts h contexts = if collective_is_too_wide h then contexts else contexts_after (collective_header h) contexts
+dictionary_contexts h contexts =
+    if nat_lt 65535 (collective_width h) then contexts else contexts_after (collective_header h) contexts

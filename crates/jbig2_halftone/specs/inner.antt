@@ -1,2 +1,5 @@
 pub mod CellPlaces
+pub mod HalftoneViews
 pub mod NextValues
+pub mod PatternViews
+pub mod Stages

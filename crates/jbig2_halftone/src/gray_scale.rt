@@ -2,8 +2,9 @@
 ghost use Rattle.std.specs.Prelude.{◌≡◌, ◌≤◌, [], Ok, OnOk};
 ghost use Rattle.jbig2_base.specs.Answer.{Gives, Leaves};
 ghost use Rattle.jbig2_halftone.specs.Causes.{GrayScaleHasCauses};
-ghost use Rattle.jbig2_halftone.specs.GrayScale.{gray_view, gray_values, gray_scale_image, gray_contexts};
-ghost use Rattle.jbig2_halftone.specs.GraySteps.{CountsImage, CountsLanes};
+ghost use Rattle.jbig2_halftone.specs.GrayScale.{gray_values, gray_scale_image, gray_contexts};
+ghost use Rattle.jbig2_halftone.specs.Steps.{CountsImage, CountsLanes};
+ghost use Rattle.jbig2_halftone.specs.inner.HalftoneViews.{gray_view};
 
 mod lanes;
 pub(crate) mod planes;

@@ -6,8 +6,10 @@ ghost use Rattle.jbig2_region.specs.Generic.{generic_answer, contexts_after};
 ghost use Rattle.jbig2_region.specs.Templates.{left, right};
 ghost use Rattle.jbig2_region.specs.declared.template.GenericTemplatePixels.TheVariants.{Regular};
 ghost use Rattle.jbig2_halftone.specs.Causes.{PatternHeadersHaveCauses, PatternsHaveCauses};
-ghost use Rattle.jbig2_halftone.specs.PatternHeader.{header_view, side_at, pattern_header_at};
-ghost use Rattle.jbig2_halftone.specs.Patterns.{dictionary_view, collective_width, collective_header, pattern_of, patterns_of, patterns_decoded, dictionary_contexts};
+ghost use Rattle.jbig2_halftone.specs.PatternHeader.{side_at, pattern_header_at};
+ghost use Rattle.jbig2_halftone.specs.Patterns.{dictionary_view, collective_width, collective_header, patterns_of, patterns_decoded, dictionary_contexts};
+ghost use Rattle.jbig2_halftone.specs.inner.PatternViews.{header_view};
+ghost use Rattle.jbig2_halftone.specs.inner.Stages.{pattern_of};
 
 mod dictionary;
 

@@ -3,8 +3,8 @@ ghost use Rattle.std.specs.Prelude.{◌≡◌, ℕ, ◌+◌, ◌-◌, ◌*◌, �
 ghost use Rattle.std.specs.List.{All};
 ghost use Rattle.jbig2_base.specs.Grid.{bit_number};
 ghost use Rattle.jbig2_base.specs.inner.WordBits.{bit};
-ghost use Rattle.jbig2_halftone.specs.GraySteps.{after_lanes};
 ghost use Rattle.jbig2_halftone.specs.inner.NextValues.{next_value, TakesPlane};
+ghost use Rattle.jbig2_halftone.specs.inner.Stages.{after_lanes};
 
 use jbig2_base::bitmap::Bitmap;
 use jbig2_base::bitmap::steps::Steps;

@@ -1,7 +1,7 @@
 //! The patterns of a dictionary.
 ghost use Rattle.std.specs.List.{All};
 ghost use Rattle.std.specs.Prelude.{◌≤◌, length};
-ghost use Rattle.jbig2_halftone.specs.Sizes.{HasSize};
+ghost use Rattle.jbig2_halftone.specs.PatternHeader.{HasSize};
 
 use jbig2_base::bitmap::Bitmap;
 use std::alloc::Allocator;

@@ -1,8 +1,9 @@
 use Rattle.std.proofs.Common.{◌≡◌, ℕ, ◌*◌, List, length, sym, ap, subst, ◌∙◌, arith}
 use Rattle.std.specs.List.{All}
 use Rattle.jbig2_base.specs.Grid.{Grid}
-use Rattle.jbig2_halftone.specs.GrayScale.{GrayScale, gray_view}
-use Rattle.jbig2_halftone.specs.GraySteps.{after_lane_rows}
+use Rattle.jbig2_halftone.specs.GrayScale.{GrayScale}
+use Rattle.jbig2_halftone.specs.inner.HalftoneViews.{gray_view}
+use Rattle.jbig2_halftone.specs.inner.Stages.{after_lane_rows}
 use Rattle.jbig2_halftone.proofs.GrayCounts.{image-lanes, no-lane-rows}
 use Rattle.jbig2_halftone.proofs.PlaneLemmas.{planes-sized}
 use Rattle.jbig2_halftone.proofs.gray_scale.decode_gray_scale_image.Goals as goal

@@ -1,12 +1,12 @@
 use Rattle.std.proofs.Common.{◌≡◌, ◌+◌, ◌*◌, ◌<◌, ℕ, rules, ap, subst, ◌∙◌, arith, length}
 use Rattle.jbig2_base.specs.Combination.{WritesWithin}
 use Rattle.jbig2_halftone.specs.GrayScale.{gray_values}
-use Rattle.jbig2_halftone.specs.GraySteps.{after_lane_rows}
 use Rattle.jbig2_halftone.specs.Halftone.{cells_drawn}
-use Rattle.jbig2_halftone.specs.HalftoneSteps.{words_of_cells}
 use Rattle.jbig2_halftone.specs.HalftoneHeader.{HalftoneHeader, header_view}
 use Rattle.jbig2_halftone.specs.Patterns.{Patterns, dictionary_view}
+use Rattle.jbig2_halftone.specs.Steps.{words_of_cells}
 use Rattle.jbig2_halftone.specs.inner.NextValues.{row_values}
+use Rattle.jbig2_halftone.specs.inner.Stages.{after_lane_rows}
 use Rattle.jbig2_halftone.proofs.CellLemmas.{x-further, y-further, below-x, below-y, rows-drawn, rows-fault, rows-none}
 use Rattle.jbig2_halftone.proofs.DrawSteps.{rows-start, rows-more}
 use Rattle.jbig2_halftone.proofs.RowLemmas.{no-counts}

@@ -1,7 +1,13 @@
-use Rattle.std.proofs.Common.{◌≡◌, ℕ, false, subst, arith}
+use Rattle.std.proofs.Common.{◌≡◌, ◌⊎◌, ⊎_elim, ℕ, ◌<◌, false, Result, Ok, Err, subst, arith, rules}
+use Rattle.std.proofs.lemmas.Bool.{le-ltb}
+use Rattle.jbig2_base.specs.Grid.{Grid, blank}
+use Rattle.jbig2_base.specs.Sizes.{blank_or_overflow}
+use Rattle.jbig2_base.specs.declared.error.DecodeError.{DecodeError}
+use Rattle.jbig2_base.specs.declared.error.DecodeError.TheVariants.{OutOfMemory}
 use Rattle.jbig2_base.proofs.LaneCounts.{lanes-none, lanes-then}
-use Rattle.jbig2_halftone.specs.GrayScale.{GrayScale, gray_view}
-use Rattle.jbig2_halftone.specs.GraySteps.{CountsCoded}
+use Rattle.jbig2_halftone.specs.GrayScale.{GrayScale, image_is_too_large}
+use Rattle.jbig2_halftone.specs.inner.HalftoneViews.{gray_view}
+use Rattle.jbig2_halftone.specs.inner.Stages.{CountsCoded}
 use Rattle.jbig2_halftone.proofs.GrayCounts.{counts-begin, counts-more, none-left, none-more, none-start}
 use Rattle.jbig2_halftone.proofs.PatternLemmas.{blank-made}
 use Rattle.jbig2_halftone.proofs.PlaneLemmas.{image-sides, behind-none, coded-holds, coded-next, coded-all, coded-contexts}
@@ -41,3 +47,22 @@ returns-clause-steps g c =
 
 pub returns-clause-no_planes : goal.returns-clause-no_planes
 returns-clause-no_planes g c = λ none. none-left c.loop.counter c.args.steps.now c.loop.steps c.loop.invariant.none (omega arith)
+
+-- a plane fits, so memory alone can be wanting
+memory-wanting : (p : GrayScale) (i : ℕ) (e : DecodeError) → image_is_too_large p ≡ false → i < p.bits_per_pixel → (e ≡ OutOfMemory) ⊎ (blank_or_overflow p.width p.height false ≡ Err e) → e ≡ OutOfMemory
+memory-wanting p i e fits more told =
+    let sides = image-sides p i fits more in
+    ⊎_elim (λ (memory : e ≡ OutOfMemory). memory) (λ (refused : blank_or_overflow p.width p.height false ≡ Err e). absurd (apart (rw (le-ltb 65535 p.width sides.0, le-ltb 65535 p.height sides.1) at refused))) told
+  where
+    apart : ◌≡◌ {A = Result Grid DecodeError} (Ok (blank p.width p.height false)) (Err e) → ⊥
+    apart made = cc
+
+pub returns-in_err-plane-clause-value : goal.returns-in_err-plane-clause-value
+returns-in_err-plane-clause-value g c =
+    let memory = memory-wanting (gray_view c.args.params.now) c.loop.counter c.in_err-plane.field-0.0 c.requires.sides (omega arith) c.in_err-plane.ensures in
+    grind (arith, memory)
+
+pub returns-in_err-plane-clause-contexts : goal.returns-in_err-plane-clause-contexts
+returns-in_err-plane-clause-contexts g c =
+    let memory = memory-wanting (gray_view c.args.params.now) c.loop.counter c.in_err-plane.field-0.0 c.requires.sides (omega arith) c.in_err-plane.ensures in
+    search (rules, memory)

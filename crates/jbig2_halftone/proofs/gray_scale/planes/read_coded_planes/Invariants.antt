@@ -1,6 +1,6 @@
 use Rattle.jbig2_base.specs.Counts.{KeepsLanes}
-use Rattle.jbig2_halftone.specs.GrayScale.{gray_view}
-use Rattle.jbig2_halftone.specs.GraySteps.{CountsCoded}
+use Rattle.jbig2_halftone.specs.inner.HalftoneViews.{gray_view}
+use Rattle.jbig2_halftone.specs.inner.Stages.{CountsCoded}
 use Rattle.jbig2_halftone.proofs.GrayCounts.{NoneYet}
 use Rattle.jbig2_halftone.proofs.PlaneLemmas.{BehindPlanes}
 use Rattle.jbig2_halftone.proofs.gray_scale.planes.read_coded_planes.Given as goal

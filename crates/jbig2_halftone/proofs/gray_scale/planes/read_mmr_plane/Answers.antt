@@ -1,5 +1,6 @@
 use Rattle.std.proofs.Common.{◌≤◌, false, inr, length, rules}
-use Rattle.jbig2_halftone.specs.GrayScale.{GrayScale, gray_view}
+use Rattle.jbig2_halftone.specs.GrayScale.{GrayScale}
+use Rattle.jbig2_halftone.specs.inner.HalftoneViews.{gray_view}
 use Rattle.jbig2_halftone.proofs.PatternLemmas.{blank-made}
 use Rattle.jbig2_halftone.proofs.PlaneLemmas.{mmr-made, drop-whole, plane-made, plane-fault}
 use Rattle.jbig2_halftone.proofs.gray_scale.planes.read_mmr_plane.Goals as goal

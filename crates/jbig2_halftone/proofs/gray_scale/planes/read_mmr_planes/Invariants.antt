@@ -1,5 +1,5 @@
 use Rattle.jbig2_base.specs.Counts.{KeepsLanes}
-use Rattle.jbig2_halftone.specs.GrayScale.{gray_view}
+use Rattle.jbig2_halftone.specs.inner.HalftoneViews.{gray_view}
 use Rattle.jbig2_halftone.proofs.GrayCounts.{NoneYet}
 use Rattle.jbig2_halftone.proofs.PlaneLemmas.{ReadsMmr}
 use Rattle.jbig2_halftone.proofs.gray_scale.planes.read_mmr_planes.Given as goal

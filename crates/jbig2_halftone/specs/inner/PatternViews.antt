@@ -1,0 +1,14 @@
+-- As what records of the definitions the code's values of pattern dictionaries are seen (our own rule).
+use Rattle.jbig2_halftone.specs.PatternHeader.{PatternHeader}
+use Rattle.jbig2_halftone.specs.declared.pattern.PatternDictionaryHeader.{PatternDictionaryHeader}
+
+abbrev pub header_view : PatternDictionaryHeader → PatternHeader
+header_view h = record {
+  mmr = h.mmr;
+  template = h.template;
+  pattern_width = h.pattern_width;
+  pattern_height = h.pattern_height;
+  gray_max = h.num_patterns;
+  bytes = h.bytes.now;
+  strict = h.strict;
+}

@@ -1,0 +1,110 @@
+-- What single functions of the code give and take, which the definitions have as a part of something larger.
+use Rattle.std.specs.Prelude.{ℕ, ◌≡◌, ◌+◌, ◌*◌, ◌/◌, ◌%◌, Bool, true, false, ◌||◌, if◌then◌else◌, List, drop, map, None, is_some, Result, Ok}
+use Rattle.std.specs.List.{range_with_len}
+use Rattle.jbig2_base.specs.Answer.{◌>>=◌}
+use Rattle.jbig2_base.specs.Counts.{Counts, KeepsLanes}
+use Rattle.jbig2_base.specs.Grid.{Grid, grid_of}
+use Rattle.jbig2_base.specs.Parts.{part_of}
+use Rattle.jbig2_base.specs.declared.error.DecodeError.{DecodeError}
+use Rattle.jbig2_coder.specs.Coder.{Context}
+use Rattle.jbig2_mmr.specs.T6.{mmr_rows}
+use Rattle.jbig2_region.specs.Generic.{coding_of}
+use Rattle.jbig2_region.specs.Raster.{Coding, Region, so_far, no_pixels}
+use Rattle.jbig2_region.specs.RunBytes.{CountsRegion}
+use Rattle.jbig2_region.specs.Skipping.{CountsSkipping, skipping_coding}
+use Rattle.jbig2_region.specs.Templates.{template_pixels}
+use Rattle.jbig2_region.specs.declared.template.AdaptiveTemplatePixel.{AdaptiveTemplatePixel}
+use Rattle.jbig2_halftone.specs.GrayScale.{GrayScale, nominal_pixels, after_planes, mmr_planes}
+use Rattle.jbig2_halftone.specs.Halftone.{column_of, row_of, is_apart, skip_mask}
+use Rattle.jbig2_halftone.specs.HalftoneHeader.{HalftoneHeader}
+use Rattle.jbig2_halftone.specs.Patterns.{Patterns}
+use Rattle.jbig2_halftone.specs.Steps.{CountsPlanes, CountsMasked}
+
+-- ---- patterns
+-- pattern k: the columns from k * width on
+abbrev pub pattern_of : Grid → ℕ → ℕ → ℕ → Grid
+pattern_of collective width height k = part_of collective (record { left = k * width; top = 0; width = width; height = height })
+
+-- ---- planes
+-- a plane is a generic region without typical prediction
+abbrev pub plane_coding : GrayScale → Coding
+plane_coding p = skipping_coding (template_pixels false p.template (nominal_pixels p.template)) p.skip_mask
+
+-- the plane behind the k highest ones, the highest ones, and all of them
+abbrev pub coded_plane : GrayScale → List ℕ → ℕ → Grid
+coded_plane p bytes k = so_far p.width p.height (after_planes p bytes (k + 1)).pixels
+
+abbrev pub coded_planes : GrayScale → List ℕ → ℕ → List Grid
+coded_planes p bytes count = map (coded_plane p bytes) (range_with_len 0 count)
+
+abbrev pub planes_by_coder : GrayScale → List ℕ → Result (List Grid) DecodeError
+planes_by_coder p bytes = Ok (coded_planes p bytes p.bits_per_pixel)
+
+-- with MMR, a plane and the bytes behind those that it used, and then all planes
+unfoldable pub mmr_plane : GrayScale → List ℕ → Result (Grid × List ℕ) DecodeError
+mmr_plane p bytes = mmr_rows p.strict p.width p.height bytes >>= λ rows. Ok (rows.grid, drop rows.used bytes)
+
+abbrev pub planes_by_mmr : GrayScale → List ℕ → Result (List Grid) DecodeError
+planes_by_mmr p bytes = mmr_planes p bytes p.bits_per_pixel
+
+-- the contexts behind all planes; MMR leaves them alone
+abbrev pub planes_contexts : GrayScale → List ℕ → List Context → List Context
+planes_contexts p bytes contexts = if p.use_mmr then contexts else (after_planes p bytes p.bits_per_pixel).contexts
+
+-- ---- the skip mask
+-- the pattern of cell (m, n) would lie wholly outside the region
+abbrev pub lies_outside : HalftoneHeader → Patterns → ℕ → ℕ → Bool
+lies_outside h d m n = is_apart (column_of h m n) d.width h.region_info.width || is_apart (row_of h m n) d.height h.region_info.height
+
+-- black where a cell is skipped
+abbrev pub skip_grid : HalftoneHeader → Patterns → Grid
+skip_grid h d = grid_of h.grid_position_and_size.width h.grid_position_and_size.height (λ n m. lies_outside h d m n)
+
+-- ---- steps
+-- a plane without skipped pixels, as a generic region
+abbrev pub plane_pixels : GrayScale → List AdaptiveTemplatePixel
+plane_pixels p = template_pixels false p.template (nominal_pixels p.template)
+
+abbrev pub plain_coding : GrayScale → Coding
+plain_coding p = coding_of false p.template (plane_pixels p)
+
+-- where the plane behind the k highest ones begins
+abbrev pub plane_start : GrayScale → List ℕ → ℕ → Region
+plane_start p bytes k = no_pixels (after_planes p bytes k).registers (after_planes p bytes k).contexts
+
+-- one such plane
+abbrev pub CountsPlane : GrayScale → ℕ → ℕ → List ℕ → Region → Counts → Counts → Type 0
+CountsPlane p w h bytes start before after = CountsRegion (plane_pixels p) true 0 (plain_coding p) w h bytes start before after
+
+-- one plane that the arithmetic coder wrote
+pub record CountsOne (p : GrayScale) (w h : ℕ) (bytes : List ℕ) (start : Region) (before after : Counts) : Type 0 where
+  pub plain : p.skip_mask ≡ None → CountsPlane p w h bytes start before after
+  pub masked : is_some p.skip_mask ≡ true → CountsSkipping p.skip_mask w h before after
+  pub lanes : KeepsLanes before after
+
+-- the highest ones
+pub record CountsCoded (p : GrayScale) (bytes : List ℕ) (count : ℕ) (before after : Counts) : Type 0 where
+  pub plain : p.skip_mask ≡ None → CountsPlanes p bytes count before after
+  pub masked : is_some p.skip_mask ≡ true → CountsMasked p count before after
+
+-- so many rows of w pixels, taken out of planes: one load for each group of eight lanes and for each single pixel
+abbrev pub after_lane_rows : ℕ → ℕ → Counts → Counts
+after_lane_rows rows w before = record before {
+  loads = before.loads + rows * (w / 8 + w % 8);
+  groups = before.groups + rows * (w / 8);
+  pixels = before.pixels + rows * (w % 8);
+}
+
+-- one such row
+abbrev pub after_lanes : ℕ → Counts → Counts
+after_lanes w before = record before {
+  loads = before.loads + (w / 8 + w % 8);
+  groups = before.groups + w / 8;
+  pixels = before.pixels + w % 8;
+}
+
+-- a word is written for each cell of the skip mask, where there is one
+abbrev pub after_mask : HalftoneHeader → Patterns → Counts → Counts
+after_mask h d before =
+    let cells = h.grid_position_and_size.height * h.grid_position_and_size.width in
+    record before { words = before.words + (if is_some (skip_mask h d) then cells else 0) }
