@@ -1,11 +1,11 @@
 -- Which rule the segments of a page break, where its size is refused.
-use Rattle.std.proofs.Common.{◌≡◌, ℕ, zero, suc, ◌+◌, ◌<◌, ◌≤◌, eqb, ltb, Bool, true, false, not, List, [], ◌∷◌, length, Result, Ok, refl, sym, ◌∙◌, ap, subst, arith, inl, inr, ⊎_elim}
+use Rattle.std.proofs.Common.{◌≡◌, ℕ, zero, suc, ◌+◌, ◌<◌, ◌≤◌, eqb, ltb, Bool, true, false, not, List, [], ◌∷◌, length, take, Result, Ok, refl, sym, ◌∙◌, ap, subst, arith, inl, inr, ⊎_elim}
 use Rattle.std.specs.Prelude.{◌≢◌, ◌⊎◌, ◌&&◌, ◌||◌, All, Any}
-use Rattle.std.specs.Int.{w32}
+use Rattle.std.specs.Int.{w32, from_be_bytes}
 use Rattle.std.proofs.lemmas.Bool.{cond_both, cond-true, eqb-true, eqb-false, eq-eqb, ne_eqb, ltb-true, ltb-false, and_from, and_parts, or_cases, not-true, not_from_false, true≢false, false≢true}
 use Rattle.jbig2_base.specs.Answer.{◌>>=◌, refuse_if}
-use Rattle.jbig2_base.specs.Causes.{FirstInformation, TellsHeight, TellsTooMuch, StatesTooMuch, BreaksInitialPage, InitialPagesHaveCauses, number_in}
-use Rattle.jbig2_base.specs.PageInfo.{first_information, height_of, information_at, initial_page_of, initial_page_with, is_end_of_stripe, is_page_information, last_row, stripe_height, stripes_height}
+use Rattle.jbig2_base.specs.Causes.{HaveCauses, FirstInformation, TellsHeight, BreaksInitialPage, number_in}
+use Rattle.jbig2_base.specs.PageInfo.{first_information, height_of, information_at, initial_page_of, initial_page_with, is_end_of_stripe, is_page_information, stripe_height, stripes_height}
 use Rattle.jbig2_base.specs.Segment.{SegmentView}
 use Rattle.jbig2_base.specs.declared.error.DecodeError.{DecodeError}
 use Rattle.jbig2_base.specs.declared.error.DecodeError.TheVariants.{Format, Overflow}
@@ -54,6 +54,14 @@ first-told P (p ∷ ps) why =
 is-stripe : (kind : SegmentType) → is_end_of_stripe kind ≡ true → kind ≡ types.EndOfStripe
 is-stripe types.EndOfStripe is = refl
 is-stripe _ is = absurd (false≢true is)
+
+-- the number of a stripe's last row
+abbrev last_row : List ℕ → ℕ
+last_row bytes = from_be_bytes w32 (take 4 bytes)
+
+-- a stripe behind which a page is too high
+abbrev TellsTooMuch : SegmentView → Type 0
+TellsTooMuch p = TellsHeight p × (65535 ≤ number_in w32 0 p.bytes)
 
 -- the test that a stripe tells a height
 tells : SegmentView → Bool
@@ -139,16 +147,16 @@ large-side : (ps : List SegmentView) (bytes : List ℕ) (info : PageInformation 
     → (65535 < info.0.width) ⊎ (65535 < height) → BreaksInitialPage ps (Overflow BitmapDimension)
 large-side ps bytes info height is size known much =
     ⊎_elim {C = BreaksInitialPage ps (Overflow BitmapDimension)}
-    (λ wide. inl (first-holds StatesTooMuch bytes ps is (inl (omega (arith, wide, size.1)))))
+    (λ wide. inl (first-holds (λ bs. 65535 < number_in w32 0 bs) bytes ps is (omega (arith, wide, size.1))))
     (λ high.
     ⊎_elim {C = BreaksInitialPage ps (Overflow BitmapDimension)}
-    (λ stated. inl (first-holds StatesTooMuch bytes ps is (inr (omega (arith, high, stated.1, size.2), λ ones. stated.0 (size.2 ∙ ones)))))
-    (λ open_height. inr (first-holds (λ bs. number_in w32 4 bs ≡ 4294967295) bytes ps is (sym size.2 ∙ open_height.0), any-too-much ps (omega (arith, high, open_height.2))))
+    (λ stated. inr (inl (first-holds (λ bs. (65535 < number_in w32 4 bs) × (number_in w32 4 bs ≢ 4294967295)) bytes ps is (omega (arith, high, stated.1, size.2), λ ones. stated.0 (size.2 ∙ ones)))))
+    (λ open_height. inr (inr (first-holds (λ bs. number_in w32 4 bs ≡ 4294967295) bytes ps is (sym size.2 ∙ open_height.0), any-too-much ps (omega (arith, high, open_height.2)))))
     known)
     much
 
-pub initial_page_causes : InitialPagesHaveCauses
-unfolding InitialPagesHaveCauses initial_page_of
+pub initial_page_causes : HaveCauses initial_page_of BreaksInitialPage
+unfolding HaveCauses initial_page_of
 initial_page_causes = λ ps.
     let P : DecodeError → Type 0 = BreaksInitialPage ps in
     let R : InitialPage → Type 0 = λ page. Unit {0} in

@@ -6,9 +6,9 @@ use Rattle.std.specs.List.{list_any, list_all}
 use Rattle.std.proofs.lemmas.Bool.{eqb-true, leb-true, and_parts, or_cases, not-true, true≢false, false≢true}
 use Rattle.std.proofs.lemmas.List.{drop-drop, drop-take, take-take}
 use Rattle.jbig2_base.specs.Answer.{◌>>=◌, refuse_if}
-use Rattle.jbig2_base.specs.Causes.{listed_types, referred_count, referred_place, page_place, length_place, header_size, stated_length, BreaksHeader, HeadersHaveCauses, number_in}
+use Rattle.jbig2_base.specs.Causes.{HaveCauses, listed_types, referred_count, referred_place, page_place, length_place, BreaksHeader, number_in}
 use Rattle.jbig2_base.specs.Fields.{bytes_at, number_at, end_of_bytes}
-use Rattle.jbig2_base.specs.Segment.{Header, type_of, is_reserved, is_immediate_generic, long_count_at, count_at, number_size, coded_number, numbers_in, referred_at, page_at, length_of, header_at}
+use Rattle.jbig2_base.specs.Segment.{Header, type_of, is_reserved, is_immediate_generic, long_count_at, count_at, number_size, coded_number, numbers_in, referred_at, length_of, header_at}
 use Rattle.jbig2_base.specs.declared.error.DecodeError.{DecodeError}
 use Rattle.jbig2_base.specs.declared.error.DecodeError.TheVariants.{Segment}
 use Rattle.jbig2_base.specs.declared.error.SegmentError.TheVariants.{UnknownType, InvalidReferredCount, InvalidReference, InvalidUnknownLength}
@@ -144,7 +144,7 @@ number-told P w bytes rest k is within short =
     subst (λ (ys : List ℕ). Told R P (number_at w ys)) (sym is) (last-number R P w bytes k within short (λ there. (refl, there)))
 
 page-told : (P : DecodeError → Type 0) (wide : Bool) (bytes rest : List ℕ) (k : ℕ) → rest ≡ drop k bytes → k ≤ length bytes → (length bytes < k + cond wide 4 1 → P end_of_bytes)
-    → Told (λ (x : ℕ × List ℕ). (x.1 ≡ drop (k + cond wide 4 1) bytes) × (k + cond wide 4 1 ≤ length bytes)) P (page_at wide rest)
+    → Told (λ (x : ℕ × List ℕ). (x.1 ≡ drop (k + cond wide 4 1) bytes) × (k + cond wide 4 1 ≤ length bytes)) P (number_at (cond wide w32 w8) rest)
 page-told P true bytes rest k is within short =
     told-map _ (λ (x : ℕ × List ℕ). (x.1 ≡ drop (k + 4) bytes) × (k + 4 ≤ length bytes)) P (number_at w32 rest) (λ x known. (ap (λ (y : ℕ × List ℕ). y.1) known.0, known.1)) (number-told P w32 bytes rest k is within short)
 page-told P false bytes rest k is within short =
@@ -168,6 +168,13 @@ wide-least : (b : Bool) → 1 ≤ cond b 4 1
 wide-least true = omega arith
 wide-least false = omega arith
 
+abbrev pub header_size : List ℕ → ℕ
+header_size bytes = length_place bytes + 4
+
+-- the length of the data as it is stated
+abbrev pub stated_length : List ℕ → Option ℕ
+stated_length bytes = cond (eqb (number_in w32 (length_place bytes) bytes) 4294967295) None (Some (number_in w32 (length_place bytes) bytes))
+
 -- a header's size and the length that it states
 abbrev pub HasHeader : List ℕ → Header × List ℕ → Type 0
 HasHeader bytes x = (header_size bytes ≤ length bytes) × (x.1 ≡ drop (header_size bytes) bytes) × (x.0.data_length ≡ stated_length bytes)
@@ -187,7 +194,7 @@ header-told P strict bytes why =
     (λ unknown. why (Segment UnknownType) ((and_parts strict (is_reserved (type_of kind)) unknown).0, five, unlisted kind (and_parts strict (is_reserved (type_of kind)) unknown).1)) (λ known.
     told-next (λ (x : List ℕ × List ℕ). (x.1 ≡ drop (page_place bytes) bytes) × (page_place bytes ≤ length bytes)) R P (referred_at (number_in w32 0 bytes) (drop 5 bytes)) _
     (referred-told P bytes five (λ cut. short (omega (arith, cut))) (λ bad. why (Segment InvalidReferredCount) bad) (λ wrong. why (Segment InvalidReference) wrong)) (λ referred at_page.
-    told-next (λ (x : ℕ × List ℕ). (x.1 ≡ drop (length_place bytes) bytes) × (length_place bytes ≤ length bytes)) R P (page_at wide referred.1) _
+    told-next (λ (x : ℕ × List ℕ). (x.1 ≡ drop (length_place bytes) bytes) × (length_place bytes ≤ length bytes)) R P (number_at (cond wide w32 w8) referred.1) _
     (page-told P wide bytes referred.1 (page_place bytes) at_page.0 at_page.1 (λ cut. short (omega (arith, cut)))) (λ page at_length.
     told-next (λ (x : ℕ × List ℕ). (x ≡ (number_in w32 (length_place bytes) bytes, drop (header_size bytes) bytes)) × (header_size bytes ≤ length bytes)) R P (number_at w32 page.1) _
     (number-told P w32 bytes page.1 (length_place bytes) at_length.0 at_length.1 short) (λ n at_end.
@@ -196,8 +203,8 @@ header-told P strict bytes why =
     (length-told P strict (type_of kind) n.0 (λ is ones other. why (Segment InvalidUnknownLength) (is, at_end.1, sym value ∙ ones, other-type kind other))) (λ len states.
     (at_end.1, ap (λ (x : ℕ × List ℕ). x.1) at_end.0, states ∙ ap (λ (m : ℕ). cond (eqb m 4294967295) None (Some m)) value))))))))
 
-pub header_causes : HeadersHaveCauses
-unfolding HeadersHaveCauses
+pub header_causes : (strict : Bool) → HaveCauses (header_at strict) (BreaksHeader strict)
+unfolding HaveCauses
 header_causes = λ strict bytes.
     let P : DecodeError → Type 0 = BreaksHeader strict bytes in
     told-cause (HasHeader bytes) P (header_at strict bytes) (header-told P strict bytes (λ e why. why))

@@ -39,7 +39,7 @@ bits_on n p =
     if nat_lt (length (bits_left p)) n then start_of []
     else record { bytes = drop ((p.bit + n) / 8) p.bytes; bit = (p.bit + n) % 8 }
 
--- the beginning of the next byte, where a byte was begun
+-- the beginning of the next byte, if one was begun
 abbrev pub aligned : Place → Place
 aligned p = if p.bit == 0 then p else start_of (drop 1 p.bytes)
 
@@ -47,7 +47,7 @@ aligned p = if p.bit == 0 then p else start_of (drop 1 p.bytes)
 abbrev pub bytes_next : ℕ → Place → Option (List ℕ)
 bytes_next count p = if nat_lt (length p.bytes) count then None else Some (take count p.bytes)
 
--- The next bytes as a number, high byte first.
+-- the same as a number, high byte first
 abbrev pub number_next : Width → Place → Option ℕ
 number_next w p = if nat_lt (length p.bytes) (byte_len w) then None else Some (from_be_bytes w (take (byte_len w) p.bytes))
 
