@@ -5,9 +5,12 @@ use Rattle.std.specs.Int.{w8}
 use Rattle.std.proofs.lemmas.Bool.{cond_both, and_from, and_parts, or_cases, eq-eqb, le-leb, leb-true, ltb-true, ltb-false, true≢false}
 use Rattle.std.proofs.lemmas.List.{drop-drop}
 use Rattle.jbig2_base.specs.Answer.{◌>>=◌, refuse_if}
-use Rattle.jbig2_base.specs.Causes.{HaveCauses, number_in, BreaksData, BreaksSegment, BreaksSides, BreaksArea, SizesHaveCauses}
+use Rattle.jbig2_base.specs.Causes.{HaveCauses, number_in, BreaksData, BreaksSegment, BreaksSides, BreaksArea}
 use Rattle.jbig2_base.specs.Fields.{bytes_at, end_of_bytes}
+use Rattle.jbig2_base.specs.Grid.{Grid}
+use Rattle.jbig2_base.specs.Parts.{part_or_overflow}
 use Rattle.jbig2_base.specs.Search.{place_from}
+use Rattle.jbig2_base.specs.Sizes.{blank_or_overflow, wide_or_overflow}
 use Rattle.jbig2_base.specs.Segment.{Header, SegmentView, adaptive_bytes, coded_front_at, data_at, first_end_marker, header_at, is_end_marker, segment_at, segment_data_at, unknown_length_of}
 use Rattle.jbig2_base.specs.declared.error.DecodeError.{DecodeError}
 use Rattle.jbig2_base.specs.declared.error.DecodeError.TheVariants.{Overflow, Segment}
@@ -122,12 +125,16 @@ sides-cause w h x rest =
     (λ long. ⊎_elim {C = (65535 < w) ⊎ (65535 < h)} (λ l. inl (ltb-true 65535 w l)) (λ r. inr (ltb-true 65535 h r)) (or_cases (ltb 65535 w) (ltb 65535 h) long)))
     (λ y is. rest)
 
-pub size_causes : SizesHaveCauses
-unfolding SizesHaveCauses
-size_causes = (
-  λ w h black. sides-cause w h _ tt,
-  λ w h.
-      cause-next (BreaksArea w h) (refuse_if (ltb (65535 * 65535) (w * h)) (Overflow BitmapDimension)) _
-      (cause-refused (BreaksArea w h) (ltb (65535 * 65535) (w * h)) (Overflow BitmapDimension) (λ large. ltb-true (65535 * 65535) (w * h) large)) (λ y is. tt),
-  λ g area. sides-cause area.width area.height _ tt,
-)
+pub blank_causes : (w h : ℕ) → HaveCauses (blank_or_overflow w h) (λ black. BreaksSides w h)
+unfolding HaveCauses
+blank_causes w h = λ black. sides-cause w h _ tt
+
+pub wide_causes : (w : ℕ) → HaveCauses (wide_or_overflow w) (BreaksArea w)
+unfolding HaveCauses
+wide_causes w = λ h.
+    cause-next (BreaksArea w h) (refuse_if (ltb (65535 * 65535) (w * h)) (Overflow BitmapDimension)) _
+    (cause-refused (BreaksArea w h) (ltb (65535 * 65535) (w * h)) (Overflow BitmapDimension) (λ large. ltb-true (65535 * 65535) (w * h) large)) (λ y is. tt)
+
+pub part_causes : (g : Grid) → HaveCauses (part_or_overflow g) (λ area. BreaksSides area.width area.height)
+unfolding HaveCauses
+part_causes g = λ area. sides-cause area.width area.height _ tt

@@ -8,7 +8,7 @@ use Rattle.std.specs.Prelude.{nat_le, ◌==◌}
 use Rattle.std.specs.Result.{is_ok}
 use Rattle.jbig2_base.specs.Answer.{◌>>=◌, refuse_if}
 use Rattle.jbig2_base.specs.Fields.{bytes_at, number_at, end_of_bytes}
-use Rattle.jbig2_base.specs.Segment.{Header, header_at, referred_at, count_at, long_count_at, length_of, type_of, is_reserved, numbers_in, number_size}
+use Rattle.jbig2_base.specs.Segment.{Header, header_at, referred_at, count_at, long_count_at, length_of, type_of, is_reserved, numbers_in, number_width}
 use Rattle.jbig2_base.specs.declared.error.DecodeError.{DecodeError}
 use Rattle.jbig2_base.specs.declared.error.DecodeError.TheVariants.{Segment}
 use Rattle.jbig2_base.specs.declared.error.SegmentError.TheVariants.{UnknownType, InvalidReferredCount, InvalidReference}
@@ -78,14 +78,14 @@ count_extends =
     either (first / 32 == 7) (long_count_at (first % 32)) (λ bs. Ok (first / 32, bs)) (long_count_extends (first % 32)) (gives (first / 32))))
 
 abbrev with_coded : ℕ → ℕ → List ℕ → Reading (List ℕ)
-with_coded own count coded bs = refuse_if (list_any (λ n. nat_le own n) (numbers_in own count coded)) (Segment InvalidReference) >>= λ earlier. Ok (numbers_in own count coded, bs)
+with_coded own count coded bs = refuse_if (list_any (λ n. nat_le own n) (numbers_in (number_width own) count coded)) (Segment InvalidReference) >>= λ earlier. Ok (numbers_in (number_width own) count coded, bs)
 
 referred_extends : (own : ℕ) → Extends (referred_at own)
 unfolding referred_at
 referred_extends own =
-    and_then count_at (λ count bs. bytes_at (count * number_size own) bs >>= λ coded. with_coded own count coded.0 coded.1) count_extends (λ count.
-    and_then (bytes_at (count * number_size own)) (with_coded own count) (bytes_extend (count * number_size own)) (λ coded.
-    known_then (refuse_if (list_any (λ n. nat_le own n) (numbers_in own count coded)) (Segment InvalidReference)) (λ earlier bs. Ok (numbers_in own count coded, bs)) (λ earlier. gives (numbers_in own count coded))))
+    and_then count_at (λ count bs. bytes_at (count * byte_len (number_width own)) bs >>= λ coded. with_coded own count coded.0 coded.1) count_extends (λ count.
+    and_then (bytes_at (count * byte_len (number_width own))) (with_coded own count) (bytes_extend (count * byte_len (number_width own))) (λ coded.
+    known_then (refuse_if (list_any (λ n. nat_le own n) (numbers_in (number_width own) count coded)) (Segment InvalidReference)) (λ earlier bs. Ok (numbers_in (number_width own) count coded, bs)) (λ earlier. gives (numbers_in (number_width own) count coded))))
 
 -- the header, from its last field to its first
 abbrev header_with : ℕ → ℕ → List ℕ → ℕ → Option ℕ → Header

@@ -4,11 +4,7 @@ use Rattle.std.specs.Prelude.{◌≡◌, ◌≢◌, ◌<◌, ◌≤◌, ◌+◌,
 use Rattle.std.specs.Int.{Width, w8, w32, byte_len, from_be_bytes}
 use Rattle.jbig2_base.specs.File.{headers_in}
 use Rattle.jbig2_base.specs.FileHeader.{file_header_at, identification}
-use Rattle.jbig2_base.specs.Grid.{Grid}
-use Rattle.jbig2_base.specs.Parts.{part_or_overflow}
-use Rattle.jbig2_base.specs.Segment.{Header, SegmentView, adaptive_bytes, coded_number, number_size, header_at, segment_data_at, segment_at}
-use Rattle.jbig2_base.specs.Sizes.{blank_or_overflow, wide_or_overflow}
-use Rattle.jbig2_base.specs.declared.bitmap.part.Area.{Area}
+use Rattle.jbig2_base.specs.Segment.{Header, SegmentView, adaptive_bytes, number_width, type_of, header_at, segment_data_at, segment_at}
 use Rattle.jbig2_base.specs.declared.error.DecodeError.{DecodeError}
 use Rattle.jbig2_base.specs.declared.error.DecodeError.TheVariants.{Parse, Format, Segment, Region, Overflow}
 use Rattle.jbig2_base.specs.declared.error.FormatError.TheVariants.{InvalidHeader, ReservedBits, MissingPageInfo, UnknownPageHeight, EmptyPage}
@@ -83,12 +79,7 @@ abbrev pub BreaksOperator : ℕ → DecodeError → Type 0
 BreaksOperator n (Region InvalidCombinationOperator) = 5 ≤ n
 BreaksOperator n _ = ⊥
 
--- ---- segment headers (7.2)
--- the numbers of 7.3's types
-abbrev pub listed_types : List ℕ
-listed_types =
-    0 ∷ 4 ∷ 6 ∷ 7 ∷ 16 ∷ 20 ∷ 22 ∷ 23 ∷ 36 ∷ 38 ∷ 39 ∷ 40 ∷ 42 ∷ 43 ∷ 48 ∷ 49 ∷ 50 ∷ 51 ∷ 52 ∷ 53 ∷ 54 ∷ 62 ∷ []
-
+-- ---- segments (7.2)
 -- how many segments are referred to: byte 5's top three bits, or where they are 7 the other 29 bits of bytes 5 to 8
 abbrev pub referred_count : List ℕ → ℕ
 referred_count bytes =
@@ -100,7 +91,7 @@ referred_place bytes = if number_in w8 5 bytes / 32 == 7 then 9 + (referred_coun
 
 -- where the page association stands, and the data length behind it, which ends the header
 abbrev pub page_place : List ℕ → ℕ
-page_place bytes = referred_place bytes + referred_count bytes * number_size (number_in w32 0 bytes)
+page_place bytes = referred_place bytes + referred_count bytes * byte_len (number_width (number_in w32 0 bytes))
 
 abbrev pub length_place : List ℕ → ℕ
 length_place bytes = page_place bytes + (if number_in w8 4 bytes / 64 % 2 == 1 then 4 else 1)
@@ -109,13 +100,13 @@ length_place bytes = page_place bytes + (if number_in w8 4 bytes / 64 % 2 == 1 t
 abbrev pub BreaksHeader : Bool → List ℕ → DecodeError → Type 0
 BreaksHeader strict bytes (Parse UnexpectedEof) = length bytes < length_place bytes + 4
 BreaksHeader strict bytes (Segment UnknownType) =
-    (strict ≡ true) × (5 ≤ length bytes) × All (λ n. number_in w8 4 bytes % 64 ≢ n) listed_types
+    (strict ≡ true) × (5 ≤ length bytes) × (type_of (number_in w8 4 bytes % 64) ≡ types.Reserved)
 BreaksHeader strict bytes (Segment InvalidReferredCount) =
     (6 ≤ length bytes) × ((number_in w8 5 bytes / 32 ≡ 5) ⊎ (number_in w8 5 bytes / 32 ≡ 6))
 BreaksHeader strict bytes (Segment InvalidReference) =
     let own = number_in w32 0 bytes in
     (page_place bytes ≤ length bytes) × ((k : ℕ) × (k < referred_count bytes)
-    × (own ≤ coded_number own (drop (referred_place bytes + k * number_size own) bytes)))
+    × (own ≤ number_in (number_width own) (referred_place bytes + k * byte_len (number_width own)) bytes))
 BreaksHeader strict bytes (Segment InvalidUnknownLength) =
     (strict ≡ true) × (length_place bytes + 4 ≤ length bytes) × (number_in w32 (length_place bytes) bytes ≡ 4294967295)
     × (number_in w8 4 bytes % 64 ≢ 38)
@@ -192,9 +183,3 @@ BreaksSides width height _ = ⊥
 abbrev pub BreaksArea : ℕ → ℕ → DecodeError → Type 0
 BreaksArea width height (Overflow BitmapDimension) = 65535 * 65535 < width * height
 BreaksArea width height _ = ⊥
-
-unfoldable pub SizesHaveCauses : Type 0
-SizesHaveCauses =
-    ((w h : ℕ) (black : Bool) → IfErr (blank_or_overflow w h black) (BreaksSides w h))
-    × ((w h : ℕ) → IfErr (wide_or_overflow w h) (BreaksArea w h))
-    × ((g : Grid) (area : Area) → IfErr (part_or_overflow g area) (BreaksSides area.width area.height))

@@ -2,7 +2,7 @@
 -- the segment and the bytes behind it, or the first fault.
 use Rattle.std.specs.Prelude.{ℕ, suc, zero, ◌+◌, ◌*◌, ◌/◌, ◌%◌, ◌==◌, nat_le, nat_lt, Bool, true, false, not, ◌&&◌, ◌||◌, List, [], ◌∷◌, take, drop, length, slice_index, Option, Some, None, Result, Ok, Err, if◌then◌else◌}
 use Rattle.std.specs.List.{list_any}
-use Rattle.std.specs.Int.{w8, w16, w32, from_be_bytes}
+use Rattle.std.specs.Int.{Width, w8, w16, w32, byte_len, from_be_bytes}
 use Rattle.jbig2_base.specs.Answer.{◌>>=◌, refuse_if}
 use Rattle.jbig2_base.specs.Fields.{bytes_at, number_at}
 use Rattle.jbig2_base.specs.Search.{place_from}
@@ -75,27 +75,21 @@ count_at bytes = do
   if first.0 / 32 == 7 then long_count_at (first.0 % 32) first.1 else Ok (first.0 / 32, first.1)
 
 -- A referred number has one, two or four bytes, by the segment's own number (7.2.5).
-abbrev pub number_size : ℕ → ℕ
-number_size own = if nat_le own 256 then 1 else if nat_le own 65536 then 2 else 4
+abbrev pub number_width : ℕ → Width
+number_width own = if nat_le own 256 then w8 else if nat_le own 65536 then w16 else w32
 
-abbrev pub coded_number : ℕ → List ℕ → ℕ
-coded_number own bytes =
-    if nat_le own 256 then from_be_bytes w8 (take 1 bytes)
-    else if nat_le own 65536 then from_be_bytes w16 (take 2 bytes)
-    else from_be_bytes w32 (take 4 bytes)
-
--- count referred numbers, one behind the other
-abbrev pub numbers_in : ℕ → ℕ → List ℕ → List ℕ
-numbers_in own zero bytes = []
-numbers_in own (suc count) bytes = coded_number own bytes ∷ numbers_in own count (drop (number_size own) bytes)
+-- so many numbers, one behind the other
+abbrev pub numbers_in : Width → ℕ → List ℕ → List ℕ
+numbers_in w zero bytes = []
+numbers_in w (suc count) bytes = from_be_bytes w (take (byte_len w) bytes) ∷ numbers_in w count (drop (byte_len w) bytes)
 
 -- The referred numbers (7.2.5): all are there, and each is smaller than the segment's own.
 unfoldable pub referred_at : ℕ → List ℕ → Result (List ℕ × List ℕ) DecodeError
 referred_at own bytes = do
   count ← count_at bytes
-  coded ← bytes_at (count.0 * number_size own) count.1
-  earlier ← refuse_if (list_any (λ n. nat_le own n) (numbers_in own count.0 coded.0)) (Segment InvalidReference)
-  Ok (numbers_in own count.0 coded.0, coded.1)
+  coded ← bytes_at (count.0 * byte_len (number_width own)) count.1
+  earlier ← refuse_if (list_any (λ n. nat_le own n) (numbers_in (number_width own) count.0 coded.0)) (Segment InvalidReference)
+  Ok (numbers_in (number_width own) count.0 coded.0, coded.1)
 
 -- The data length (7.2.7): all ones is an unknown length, in strict mode for immediate generic regions alone.
 abbrev pub length_of : Bool → SegmentType → ℕ → Result (Option ℕ) DecodeError
@@ -129,9 +123,7 @@ header_at strict bytes = do
 -- the adaptive pixels' bytes of a generic region, by its flags (7.4.6.3)
 abbrev pub adaptive_bytes : ℕ → ℕ
 adaptive_bytes flags =
-    if flags % 2 == 1 then 0
-    else if flags / 2 % 4 == 0 then (if flags / 16 % 2 == 1 then 24 else 8)
-    else 2
+    if flags % 2 == 1 then 0 else if flags / 2 % 4 == 0 then (if flags / 16 % 2 == 1 then 24 else 8) else 2
 
 -- the end marker stands at the front, by the region's flags, and a row count of four bytes behind it
 abbrev pub is_end_marker : ℕ → List ℕ → Bool

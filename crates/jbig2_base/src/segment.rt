@@ -1,6 +1,6 @@
 //! Segments: headers and data (T.88, 7.2 and 7.3).
-ghost use Rattle.std.specs.Prelude.{◌≡◌, ◌+◌, ◌*◌, ◌/◌, ◌%◌, ◌^◌, ◌<◌, ◌≤◌, ◌==◌, ◌&&◌, if◌then◌else◌, Bool, nat_le, drop, length, OnOk, IfOk, IfSome, Ok, OnErr};
-ghost use Rattle.std.specs.Int.{w8, w32};
+ghost use Rattle.std.specs.Prelude.{◌≡◌, ◌+◌, ◌*◌, ◌/◌, ◌%◌, ◌^◌, ◌<◌, ◌≤◌, ◌==◌, ◌&&◌, if◌then◌else◌, Bool, nat_le, take, drop, length, OnOk, IfOk, IfSome, Ok, OnErr};
+ghost use Rattle.std.specs.Int.{w8, w32, byte_len, from_be_bytes};
 ghost use Rattle.std.specs.List.{list_any};
 ghost use Rattle.std.specs.Option.{ForSome};
 ghost use Rattle.std.specs.Bool.{OnTrue};
@@ -9,7 +9,7 @@ ghost use Rattle.jbig2_base.specs.Bits.{IsAligned};
 ghost use Rattle.jbig2_base.specs.Causes.{HaveCauses, BreaksHeader, BreaksData, BreaksSegment};
 ghost use Rattle.jbig2_base.specs.Fields.{number_at};
 ghost use Rattle.jbig2_base.specs.Parsing.{Parses, Takes};
-ghost use Rattle.jbig2_base.specs.Segment.{Header, type_of, is_reserved, is_immediate_generic, long_count_at, count_at, number_size, coded_number, numbers_in, referred_at, length_of, header_at, data_at, segment_data_at, segment_at};
+ghost use Rattle.jbig2_base.specs.Segment.{Header, type_of, is_reserved, is_immediate_generic, long_count_at, count_at, number_width, numbers_in, referred_at, length_of, header_at, data_at, segment_data_at, segment_at};
 ghost use Rattle.jbig2_base.specs.inner.SegmentViews.{header_view, segment_view};
 
 mod end_marker;
@@ -165,7 +165,7 @@ fn referred_count(reader: &mut Reader<'_>) -> Result<u32>
 
 /// How many bytes a referred number has, by the segment's own number (T.88, 7.2.5).
 fn number_size(own: u32) -> usize
-    ensures { result ≡ number_size own }
+    ensures { result ≡ byte_len (number_width own) }
 {
     if own <= 256 {
         1
@@ -177,8 +177,9 @@ fn number_size(own: u32) -> usize
 }
 
 fn coded_number(own: u32, bytes: &[u8]) -> u32
-    requires { number_size own ≤ length bytes.now }
-    ensures { result ≡ coded_number own bytes.now }
+    requires { byte_len (number_width own) ≤ length bytes.now }
+    ensures { let w = number_width own in
+        result ≡ from_be_bytes w (take (byte_len w) bytes.now) }
 {
     if own <= 256 {
         return u32::from(bytes[0]);
@@ -190,8 +191,8 @@ fn coded_number(own: u32, bytes: &[u8]) -> u32
 }
 
 fn numbers_in<A: Allocator>(alloc: A, own: u32, count: u32, bytes: &[u8]) -> Result<Vec<u32, A>>
-    requires { length bytes.now ≡ count * number_size own }
-    ensures { Gives (λ v. v.items) result (Ok (numbers_in own count bytes.now)) }
+    requires { length bytes.now ≡ count * byte_len (number_width own) }
+    ensures { Gives (λ v. v.items) result (Ok (numbers_in (number_width own) count bytes.now)) }
 {
     let size = number_size(own);
     let mut numbers = Vec::new(alloc);
