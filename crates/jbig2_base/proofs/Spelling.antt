@@ -7,7 +7,7 @@ use Rattle.std.specs.List.{flat_map}
 use Rattle.std.specs.Result.{is_ok}
 use Rattle.jbig2_base.specs.Answer.{◌>>=◌}
 use Rattle.jbig2_base.specs.Fields.{bytes_at, end_of_bytes}
-use Rattle.jbig2_base.specs.File.{headers_in, gathered, segments_by, file_at, Spelled, IsSpelled, AreSpelled, SpellsFile, spelling, spelled_segments}
+use Rattle.jbig2_base.specs.File.{headers_in, gathered, segments_by, file_at, Spelled, IsSpelled, AreSpelled, SpellsFile, spelling}
 use Rattle.jbig2_base.specs.Segment.{Header, SegmentView, header_at, data_at, segment_data_at, segment_at}
 use Rattle.jbig2_base.specs.Sequential.{by_number, is_end_of_file, goes_on, segments_in}
 use Rattle.jbig2_base.specs.declared.error.DecodeError.{DecodeError}
@@ -59,6 +59,9 @@ segment_read most strict s rest is enough =
 
 shorter : (strict : Bool) (s : Spelled) (xs rest : List ℕ) (most : ℕ) → IsSpelled strict s → length (s.header_bytes ++ (xs ++ rest)) ≤ most → length rest ≤ most - 1
 shorter strict s xs rest most is enough = omega (arith, enough, length-append s.header_bytes (xs ++ rest), length-append xs rest, some_bytes strict s.header_bytes s.segment.header is.accepted)
+
+abbrev pub spelled_segments : List Spelled → List SegmentView
+spelled_segments ss = map (λ s. s.segment) ss
 
 -- header and data by turns, all headers, and all data
 abbrev by_turns : List Spelled → List ℕ

@@ -1,6 +1,6 @@
 -- Files (T.88, Annex D), in sequential organisation or in random access, all headers and then all data (D.2). `file_at`
 -- takes a file's bytes and gives its header and its segments; `SpellsFile` is the way back.
-use Rattle.std.specs.Prelude.{◌≡◌, ℕ, suc, zero, Bool, true, false, ◌==◌, List, [], ◌∷◌, ◌++◌, length, map, Some, Result, Ok, if◌then◌else◌}
+use Rattle.std.specs.Prelude.{◌≡◌, ℕ, suc, zero, Bool, true, false, ◌==◌, List, [], ◌∷◌, ◌++◌, length, Some, Result, Ok, if◌then◌else◌}
 use Rattle.std.specs.List.{flat_map}
 use Rattle.jbig2_base.specs.Answer.{◌>>=◌}
 use Rattle.jbig2_base.specs.FileHeader.{file_header_at}
@@ -56,9 +56,6 @@ AreSpelled strict (s ∷ t ∷ ts) =
 abbrev pub spelling : FileOrganization → List Spelled → List ℕ
 spelling Sequential ss = flat_map (λ s. s.header_bytes ++ s.segment.bytes) ss
 spelling RandomAccess ss = flat_map (λ s. s.header_bytes) ss ++ flat_map (λ s. s.segment.bytes) ss
-
-abbrev pub spelled_segments : List Spelled → List SegmentView
-spelled_segments ss = map (λ s. s.segment) ss
 
 -- The bytes are a file header and, in its organisation, these segments, which the mode accepts.
 abbrev pub SpellsFile : Bool → List ℕ → FileHeader → List Spelled → Type 0

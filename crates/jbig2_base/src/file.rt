@@ -1,9 +1,9 @@
 //! Files and lists of segments (T.88, Annex D).
-ghost use Rattle.std.specs.Prelude.{◌≡◌, Bool, List, length, Ok};
+ghost use Rattle.std.specs.Prelude.{◌≡◌, Bool, List, length, map, Ok};
 ghost use Rattle.jbig2_base.specs.Answer.{Gives};
 ghost use Rattle.jbig2_base.specs.Bits.{IsAligned};
 ghost use Rattle.jbig2_base.specs.Causes.{HaveCauses, BreaksSequence, BreaksHeaders, BreaksGathered, BreaksSegmentsBy, BreaksFile};
-ghost use Rattle.jbig2_base.specs.File.{headers_in, gathered, segments_by, file_at, Spelled, SpellsFile, spelled_segments};
+ghost use Rattle.jbig2_base.specs.File.{headers_in, gathered, segments_by, file_at, Spelled, SpellsFile};
 ghost use Rattle.jbig2_base.specs.declared.file_header.FileHeader.{FileHeader};
 ghost use Rattle.jbig2_base.specs.inner.SegmentViews.{header_views, segment_views, file_view};
 ghost use Rattle.jbig2_base.specs.Sequential.{by_number, is_cut_off, is_end_of_file, sequential, sorted_segments};
@@ -198,7 +198,7 @@ pub fn parse_file<'a, A: Allocator + Clone>(
     ensures value { Gives file_view result (file_at strict bytes.now) }
     ensures either_organization { (header : FileHeader) (ss : List Spelled)
         → SpellsFile strict bytes.now header ss
-        → Gives file_view result (Ok (header, by_number (spelled_segments ss))) }
+        → Gives file_view result (Ok (header, by_number (map (λ s. s.segment) ss))) }
 {
     read_file(alloc, bytes, strict)
 }
