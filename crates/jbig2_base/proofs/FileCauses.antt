@@ -130,7 +130,7 @@ random-cause strict bytes =
     let P : DecodeError → Type 0 = BreaksSegmentsBy RandomAccess strict bytes in
     let headers : Result (List Header × List ℕ) DecodeError = headers_in (length bytes) strict bytes in
     cause-next P headers (λ hs. gathered hs.0 hs.1) (cause-map (BreaksHeaders strict bytes) P headers (λ e why. inl why) (headers-cause (length bytes) strict bytes))
-    (λ hs is. cause-map (BreaksGathered hs.0 hs.1) P (gathered hs.0 hs.1) (λ e why. inr (hs.0, hs.1, is, why)) (gathered-cause hs.0 hs.1))
+    (λ hs is. cause-map (BreaksGathered hs.0 hs.1) P (gathered hs.0 hs.1) (λ e why. inr (hs, is, why)) (gathered-cause hs.0 hs.1))
 
 pub headers_causes : (strict : Bool) → HaveCauses (λ bytes. headers_in (length bytes) strict bytes) (BreaksHeaders strict)
 unfolding HaveCauses
@@ -156,7 +156,7 @@ file-cause strict bytes =
     cause-next P (file_header_at bytes) _ (cause-map (BreaksFileHeader bytes) P (file_header_at bytes) (λ e why. inl why) (file-header-cause bytes)) (λ header is.
     let segments : Result (List SegmentView) DecodeError = segments_by header.0.organization strict header.1 in
     cause-next P segments _
-    (cause-map (BreaksSegmentsBy header.0.organization strict header.1) P segments (λ e why. inr (header.0, header.1, is, why)) (by-cause header.0.organization strict header.1)) (λ ps are. tt))
+    (cause-map (BreaksSegmentsBy header.0.organization strict header.1) P segments (λ e why. inr (header, is, why)) (by-cause header.0.organization strict header.1)) (λ ps are. tt))
 
 pub file_causes : (strict : Bool) → HaveCauses (file_at strict) (BreaksFile strict)
 unfolding HaveCauses

@@ -10,12 +10,10 @@ abbrev pub ◌>>=◌ : {A B E : Type 0} → Result A E → (A → Result B E) �
 (Ok x) >>= next = next x
 (Err e) >>= next = Err e
 
--- a test that refuses
 abbrev pub refuse_if : Bool → DecodeError → Result (Unit {0}) DecodeError
 refuse_if true e = Err e
 refuse_if false e = Ok tt
 
--- the value, or the error where there is none
 abbrev pub some_or : {A : Type 0} → DecodeError → Option A → Result A DecodeError
 some_or e None = Err e
 some_or e (Some x) = Ok x

@@ -115,7 +115,6 @@ BreaksData None bytes (Segment MissingEndMarker) =
     → take 2 (drop k bytes) ≢ (if flags % 2 == 1 then 0 ∷ 0 ∷ [] else 255 ∷ 172 ∷ [])
 BreaksData _ bytes _ = ⊥
 
--- A segment breaks a rule in its header, or in the data behind it.
 abbrev pub BreaksSegment : Bool → List ℕ → DecodeError → Type 0
 BreaksSegment strict bytes e =
     let stated = number_in w32 (length_place bytes) bytes in
@@ -157,15 +156,12 @@ abbrev pub BreaksSegmentsBy : FileOrganization → Bool → List ℕ → DecodeE
 BreaksSegmentsBy Sequential strict bytes e = BreaksSequence strict bytes e
 BreaksSegmentsBy RandomAccess strict bytes e =
     BreaksHeaders strict bytes e
-    ⊎ ((hs : List Header) × (rest : List ℕ) × (headers_in (length bytes) strict bytes ≡ Ok (hs, rest))
-    × BreaksGathered hs rest e)
+    ⊎ ((hs : List Header × List ℕ) × (headers_in (length bytes) strict bytes ≡ Ok hs) × BreaksGathered hs.0 hs.1 e)
 
--- A file: its header breaks a rule, or a segment behind it.
 abbrev pub BreaksFile : Bool → List ℕ → DecodeError → Type 0
 BreaksFile strict bytes e =
     BreaksFileHeader bytes e
-    ⊎ ((header : FileHeader) × (rest : List ℕ) × (file_header_at bytes ≡ Ok (header, rest))
-    × BreaksSegmentsBy header.organization strict rest e)
+    ⊎ ((h : FileHeader × List ℕ) × (file_header_at bytes ≡ Ok h) × BreaksSegmentsBy h.0.organization strict h.1 e)
 
 -- ---- bitmaps (our own rule)
 abbrev pub BreaksSides : ℕ → ℕ → DecodeError → Type 0

@@ -28,7 +28,6 @@ abbrev pub segments_by : FileOrganization → Bool → List ℕ → Result (List
 segments_by Sequential strict bytes = sequential strict bytes
 segments_by RandomAccess strict bytes = headers_in (length bytes) strict bytes >>= λ hs. gathered hs.0 hs.1
 
--- a file: its header, and its segments in order of their numbers
 unfoldable pub file_at : Bool → List ℕ → Result (FileHeader × List SegmentView) DecodeError
 file_at strict bytes = do
   header ← file_header_at bytes

@@ -29,11 +29,9 @@ pixel g _ _ = false
 abbrev pub blank : ℕ → ℕ → Bool → Grid
 blank w h black = grid_of w h (λ _ _. black)
 
--- a pixel as the number 0 or 1
 abbrev pub bit_number : Bool → ℕ
 bit_number true = 1
 bit_number false = 0
 
--- whether two pixels have one colour
 abbrev pub same_colour : Bool → Bool → Bool
 same_colour one other = if one then other else not other

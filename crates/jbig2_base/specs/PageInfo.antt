@@ -67,7 +67,6 @@ abbrev pub is_end_of_stripe : SegmentType → Bool
 is_end_of_stripe types.EndOfStripe = true
 is_end_of_stripe _ = false
 
--- the first page information segment
 abbrev pub first_information : List SegmentView → Result SegmentView DecodeError
 first_information [] = Err (Format MissingPageInfo)
 first_information (p ∷ ps) = if is_page_information p.header.segment_type then Ok p else first_information ps
@@ -95,7 +94,6 @@ initial_page_with number info height = do
   fits ← refuse_if (nat_lt 65535 info.width || nat_lt 65535 height) (Overflow BitmapDimension)
   Ok (record { number = number; width = info.width; height = height; default_pixel = info.flags.default_pixel })
 
--- What a page begins as, by its first page information and its stripes.
 unfoldable pub initial_page_of : List SegmentView → Result InitialPage DecodeError
 initial_page_of ps = do
   first ← first_information ps

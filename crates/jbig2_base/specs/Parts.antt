@@ -8,7 +8,6 @@ use Rattle.jbig2_base.specs.declared.error.DecodeError.{DecodeError}
 use Rattle.jbig2_base.specs.declared.error.DecodeError.TheVariants.{Overflow}
 use Rattle.jbig2_base.specs.declared.error.OverflowError.TheVariants.{BitmapDimension}
 
--- the pixel at column x of row y of the part
 abbrev pub pixel_of_part : Grid → Area → ℕ → ℕ → Bool
 pixel_of_part g area x y = pixel_at g (area.left + x) (area.top + y)
 

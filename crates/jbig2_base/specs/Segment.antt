@@ -128,8 +128,7 @@ adaptive_bytes flags =
 -- the end marker stands at the front, by the region's flags, and a row count of four bytes behind it
 abbrev pub is_end_marker : ℕ → List ℕ → Bool
 is_end_marker flags bytes =
-    nat_le 6 (length bytes)
-    && (if flags % 2 == 1 then slice_index bytes 0 == 0 && slice_index bytes 1 == 0
+    nat_le 6 (length bytes) && (if flags % 2 == 1 then slice_index bytes 0 == 0 && slice_index bytes 1 == 0
     else slice_index bytes 0 == 255 && slice_index bytes 1 == 172)
 
 abbrev pub first_end_marker : ℕ → List ℕ → Result ℕ DecodeError
@@ -145,15 +144,14 @@ coded_front_at bytes = do
   pixels ← bytes_at (adaptive_bytes flags.0) flags.1
   Ok (flags.0, pixels.1)
 
--- The length of data of unknown length (7.2.7), a generic region: its fields, what is coded, the first end marker behind
--- them, and the row count.
+-- How long data of unknown length is (7.2.7): the fields, what is coded up to the first end marker, and the row count.
 unfoldable pub unknown_length_of : List ℕ → Result ℕ DecodeError
 unknown_length_of bytes = do
   front ← coded_front_at bytes
   place ← first_end_marker front.0 front.1
   Ok (18 + adaptive_bytes front.0 + place + 6)
 
--- the data behind a header, with the bytes behind it
+-- the data behind a header (7.2.7)
 abbrev pub data_at : Option ℕ → List ℕ → Result (List ℕ × List ℕ) DecodeError
 data_at (Some n) bytes = bytes_at n bytes
 data_at None bytes = unknown_length_of bytes >>= λ n. bytes_at n bytes
@@ -162,6 +160,5 @@ abbrev pub segment_data_at : Header → List ℕ → Result (SegmentView × List
 segment_data_at header bytes =
     data_at header.data_length bytes >>= λ coded. Ok (record { header = header; bytes = coded.0 }, coded.1)
 
--- a segment: its header and the data behind it
 unfoldable pub segment_at : Bool → List ℕ → Result (SegmentView × List ℕ) DecodeError
 segment_at strict bytes = header_at strict bytes >>= λ header. segment_data_at header.0 header.1
