@@ -9,7 +9,7 @@ use Rattle.jbig2_base.specs.File.{file_at, gathered, headers_in, segments_by}
 use Rattle.jbig2_base.specs.FileHeader.{file_header_at, page_count_at}
 use Rattle.jbig2_base.specs.Operator.{operator_of}
 use Rattle.jbig2_base.specs.PageInfo.{first_information, height_of, information_at, initial_page_of, initial_page_with}
-use Rattle.jbig2_base.specs.Segment.{Header, SegmentView, coded_front_at, count_at, data_at, first_end_marker, header_at, length_of, long_count_at, referred_at, segment_at, segment_data_at, unknown_length_of}
+use Rattle.jbig2_base.specs.Segment.{Header, SegmentView, count_at, data_at, first_end_marker, header_at, length_of, long_count_at, referred_at, segment_at, segment_data_at, unknown_length_of}
 use Rattle.jbig2_base.specs.Sequential.{goes_on, is_cut_off, is_end_of_file, segments_in, sequential, sorted_segments}
 use Rattle.jbig2_base.specs.declared.error.DecodeError.{DecodeError}
 use Rattle.jbig2_base.specs.declared.error.DecodeError.TheVariants as errors
@@ -119,13 +119,9 @@ answered-header strict bytes = search (answered-next, answered-number, answered-
 answered-marker : (flags : ℕ) (bytes : List ℕ) → Answered (first_end_marker flags bytes)
 answered-marker flags bytes = search answered-if
 
-answered-front : (bytes : List ℕ) → Answered (coded_front_at bytes)
-unfolding coded_front_at
-answered-front bytes = search (answered-next, answered-bytes, answered-number)
-
 answered-unknown : (bytes : List ℕ) → Answered (unknown_length_of bytes)
 unfolding unknown_length_of
-answered-unknown bytes = search (answered-next, answered-front, answered-marker)
+answered-unknown bytes = search (answered-next, answered-bytes, answered-number, answered-marker) depth 12
 
 answered-data : (n : Option ℕ) (bytes : List ℕ) → Answered (data_at n bytes)
 answered-data (Some n) bytes = answered-bytes n bytes

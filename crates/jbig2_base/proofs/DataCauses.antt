@@ -11,13 +11,13 @@ use Rattle.jbig2_base.specs.Grid.{Grid}
 use Rattle.jbig2_base.specs.Parts.{part_or_overflow}
 use Rattle.jbig2_base.specs.Search.{place_from}
 use Rattle.jbig2_base.specs.Sizes.{blank_or_overflow, wide_or_overflow}
-use Rattle.jbig2_base.specs.Segment.{Header, SegmentView, adaptive_bytes, coded_front_at, data_at, first_end_marker, header_at, is_end_marker, segment_at, segment_data_at, unknown_length_of}
+use Rattle.jbig2_base.specs.Segment.{Header, SegmentView, adaptive_bytes, data_at, first_end_marker, header_at, is_end_marker, segment_at, segment_data_at, unknown_length_of}
 use Rattle.jbig2_base.specs.declared.error.DecodeError.{DecodeError}
 use Rattle.jbig2_base.specs.declared.error.DecodeError.TheVariants.{Overflow, Segment}
 use Rattle.jbig2_base.specs.declared.error.OverflowError.TheVariants.{BitmapDimension}
 use Rattle.jbig2_base.specs.declared.error.SegmentError.TheVariants.{MissingEndMarker}
 use Rattle.jbig2_base.proofs.Causes.{cause-bytes, cause-next, cause-refused}
-use Rattle.jbig2_base.proofs.CauseSteps.{Told, Steps, told-all, told-cause, told-next, next-steps, next-bytes, next-number}
+use Rattle.jbig2_base.proofs.CauseSteps.{Told, told-all, told-cause, told-next, next-bytes, next-number}
 use Rattle.jbig2_base.proofs.SearchLemmas.{place-found, place-none}
 use Rattle.jbig2_base.proofs.SegmentCauses.{HasHeader, header-told, stated_length}
 
@@ -54,15 +54,6 @@ marker-told P flags rest why =
     omega (arith, room, length-drop place rest))
     (λ past. why (λ k below. place-none test (length rest) k (ltb-false place (length rest) past) below))
 
-front-told : (P : DecodeError → Type 0) (bytes : List ℕ) → (length bytes < coded_place bytes → P end_of_bytes)
-    → Steps (number_in w8 17 bytes, drop (coded_place bytes) bytes) (coded_place bytes ≤ length bytes) P (coded_front_at bytes)
-unfolding coded_front_at
-front-told P bytes short =
-    let R : ℕ × List ℕ → Type 0 = λ x. (x ≡ (number_in w8 17 bytes, drop (coded_place bytes) bytes)) × (coded_place bytes ≤ length bytes) in
-    next-bytes R P 17 bytes 0 _ (omega arith) (λ cut. short (omega (arith, cut))) (λ at_flags.
-    next-number R P w8 bytes 17 _ at_flags (λ cut. short (omega (arith, cut))) (λ at_pixels.
-    next-bytes R P (adaptive_bytes (number_in w8 17 bytes)) bytes 18 _ at_pixels short (λ there. (refl, there))))
-
 no-marker : (bytes : List ℕ) (flags place : ℕ) → ((k : ℕ) → k < length (drop place bytes) → is_end_marker flags (drop k (drop place bytes)) ≡ false)
     → (k : ℕ) → place ≤ k → k + 6 ≤ length bytes → take 2 (drop k bytes) ≢ end_marker flags
 no-marker bytes flags place none k after room = λ same.
@@ -76,10 +67,13 @@ unknown-told P bytes why =
     let flags : ℕ = number_in w8 17 bytes in
     let place : ℕ = coded_place bytes in
     let R : ℕ → Type 0 = λ n. n ≤ length bytes in
-    next-steps (flags, drop place bytes) (place ≤ length bytes) R P (coded_front_at bytes) _ (front-told P bytes (λ cut. why end_of_bytes cut)) (λ at_coded.
+    let short : length bytes < place → P end_of_bytes = λ cut. why end_of_bytes cut in
+    next-bytes R P 17 bytes 0 _ (omega arith) (λ cut. short (omega (arith, cut))) (λ at_flags.
+    next-number R P w8 bytes 17 _ at_flags (λ cut. short (omega (arith, cut))) (λ at_pixels.
+    next-bytes R P (adaptive_bytes flags) bytes 18 _ at_pixels short (λ at_coded.
     told-next (λ (p : ℕ). p + 6 ≤ length (drop place bytes)) R P (first_end_marker flags (drop place bytes)) _
     (marker-told P flags (drop place bytes) (λ none. why (Segment MissingEndMarker) (no-marker bytes flags place none))) (λ p fits.
-    omega (arith, fits, at_coded, length-drop place bytes)))
+    omega (arith, fits, at_coded, length-drop place bytes)))))
 
 pub unknown_causes : HaveCauses unknown_length_of (BreaksData None)
 unfolding HaveCauses

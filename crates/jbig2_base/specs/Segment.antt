@@ -88,8 +88,9 @@ unfoldable pub referred_at : ℕ → List ℕ → Result (List ℕ × List ℕ) 
 referred_at own bytes = do
   count ← count_at bytes
   coded ← bytes_at (count.0 * byte_len (number_width own)) count.1
-  earlier ← refuse_if (list_any (λ n. nat_le own n) (numbers_in (number_width own) count.0 coded.0)) (Segment InvalidReference)
-  Ok (numbers_in (number_width own) count.0 coded.0, coded.1)
+  let numbers = numbers_in (number_width own) count.0 coded.0
+  earlier ← refuse_if (list_any (λ n. nat_le own n) numbers) (Segment InvalidReference)
+  Ok (numbers, coded.1)
 
 -- The data length (7.2.7): all ones is an unknown length, in strict mode for immediate generic regions alone.
 abbrev pub length_of : Bool → SegmentType → ℕ → Result (Option ℕ) DecodeError
@@ -136,20 +137,15 @@ first_end_marker flags bytes =
     let place = place_from (λ k. is_end_marker flags (drop k bytes)) 0 (length bytes) in
     if nat_lt place (length bytes) then Ok place else Err (Segment MissingEndMarker)
 
--- a generic region's flags, behind its region information, and the bytes behind its adaptive pixels (7.4.6)
-unfoldable pub coded_front_at : List ℕ → Result (ℕ × List ℕ) DecodeError
-coded_front_at bytes = do
+-- How long data of unknown length is (7.2.7): the fields (7.4.6), what is coded up to the first end marker, and the row
+-- count.
+unfoldable pub unknown_length_of : List ℕ → Result ℕ DecodeError
+unknown_length_of bytes = do
   information ← bytes_at 17 bytes
   flags ← number_at w8 information.1
   pixels ← bytes_at (adaptive_bytes flags.0) flags.1
-  Ok (flags.0, pixels.1)
-
--- How long data of unknown length is (7.2.7): the fields, what is coded up to the first end marker, and the row count.
-unfoldable pub unknown_length_of : List ℕ → Result ℕ DecodeError
-unknown_length_of bytes = do
-  front ← coded_front_at bytes
-  place ← first_end_marker front.0 front.1
-  Ok (18 + adaptive_bytes front.0 + place + 6)
+  place ← first_end_marker flags.0 pixels.1
+  Ok (18 + adaptive_bytes flags.0 + place + 6)
 
 -- the data behind a header (7.2.7)
 abbrev pub data_at : Option ℕ → List ℕ → Result (List ℕ × List ℕ) DecodeError
