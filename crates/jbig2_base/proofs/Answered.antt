@@ -4,13 +4,12 @@ use Rattle.std.specs.Prelude.{IfErr}
 use Rattle.std.specs.Int.{Width, w8, w32}
 use Rattle.jbig2_base.specs.Answer.{◌>>=◌, refuse_if, some_or}
 use Rattle.jbig2_base.specs.Bits.{Place, bits_left, bits_next}
-use Rattle.jbig2_base.specs.EndMarker.{coded_front_at, first_end_marker, unknown_length_of}
 use Rattle.jbig2_base.specs.Fields.{bits_at, bytes_at, number_at, signed_at}
-use Rattle.jbig2_base.specs.File.{file_at, gathered, headers_in, segments_by, with_header}
+use Rattle.jbig2_base.specs.File.{file_at, gathered, headers_in, segments_by}
 use Rattle.jbig2_base.specs.FileHeader.{file_header_at, page_count_at}
 use Rattle.jbig2_base.specs.Operator.{operator_of}
 use Rattle.jbig2_base.specs.PageInfo.{first_information, height_of, information_at, initial_page_of, initial_page_with}
-use Rattle.jbig2_base.specs.Segment.{Header, SegmentView, count_at, data_at, header_at, length_of, long_count_at, page_at, referred_at, segment_at, segment_data_at}
+use Rattle.jbig2_base.specs.Segment.{Header, SegmentView, count_at, data_at, first_end_marker, header_at, length_of, long_count_at, referred_at, segment_at, segment_data_at, unknown_length_of}
 use Rattle.jbig2_base.specs.Sequential.{goes_on, is_cut_off, is_end_of_file, segments_in, sequential, sorted_segments}
 use Rattle.jbig2_base.specs.declared.error.DecodeError.{DecodeError}
 use Rattle.jbig2_base.specs.declared.error.DecodeError.TheVariants as errors
@@ -22,6 +21,7 @@ use Rattle.jbig2_base.specs.declared.file_header.FileOrganization.TheVariants.{S
 use Rattle.jbig2_base.specs.declared.page_info.PageInformation.{PageInformation}
 use Rattle.jbig2_base.specs.declared.segment.SegmentType.{SegmentType}
 use Rattle.jbig2_base.proofs.Causes.{cause-bytes, cause-number, cause-refused}
+use Rattle.jbig2_base.proofs.RandomAccess.{with_header}
 
 -- An error that bytes can bring about. The others are want of memory, and three that stand in the enums for their
 -- matchers alone.
@@ -109,27 +109,19 @@ answered-referred : (own : ℕ) (bytes : List ℕ) → Answered (referred_at own
 unfolding referred_at
 answered-referred own bytes = search (answered-next, answered-bytes, answered-refusal, answered-referred_count)
 
-answered-page : (wide : Bool) (bytes : List ℕ) → Answered (page_at wide bytes)
-answered-page true bytes = answered-number w32 bytes
-answered-page false bytes = answered-number w8 bytes
-
 answered-length : (strict : Bool) (kind : SegmentType) (n : ℕ) → Answered (length_of strict kind n)
 answered-length strict kind n = search (answered-next, answered-if, answered-refusal)
 
 pub answered-header : (strict : Bool) (bytes : List ℕ) → Answered (header_at strict bytes)
 unfolding header_at
-answered-header strict bytes = search (answered-next, answered-number, answered-refusal, answered-referred, answered-page, answered-length) depth 16
+answered-header strict bytes = search (answered-next, answered-number, answered-refusal, answered-referred, answered-length) depth 16
 
 answered-marker : (flags : ℕ) (bytes : List ℕ) → Answered (first_end_marker flags bytes)
 answered-marker flags bytes = search answered-if
 
-answered-front : (bytes : List ℕ) → Answered (coded_front_at bytes)
-unfolding coded_front_at
-answered-front bytes = search (answered-next, answered-bytes, answered-number)
-
 answered-unknown : (bytes : List ℕ) → Answered (unknown_length_of bytes)
 unfolding unknown_length_of
-answered-unknown bytes = search (answered-next, answered-front, answered-marker)
+answered-unknown bytes = search (answered-next, answered-bytes, answered-number, answered-marker) depth 12
 
 answered-data : (n : Option ℕ) (bytes : List ℕ) → Answered (data_at n bytes)
 answered-data (Some n) bytes = answered-bytes n bytes

@@ -1,13 +1,14 @@
 -- Which rule the bytes break where a parser refuses them.
 use Rattle.std.proofs.Common.{◌≡◌, ℕ, Some, ◌+◌, ◌<◌, ◌≤◌, ◌/◌, ◌%◌, eqb, ltb, Bool, true, false, not, List, take, drop, length, Result, Ok, Err, refl, sym, ◌∙◌, ap, arith, length-drop}
 use Rattle.std.specs.Prelude.{IfErr}
+use Rattle.std.specs.Str.{bytes_eq}
 use Rattle.std.specs.Int.{Width, w8, w32, byte_len, from_be_bytes}
 use Rattle.std.proofs.lemmas.Bool.Decides.{nat_tests}
 use Rattle.std.proofs.lemmas.Bool.{cond_both, ltb-true, ltb-false, not-true, false≢true}
 use Rattle.jbig2_base.specs.Answer.{◌>>=◌, refuse_if}
 use Rattle.jbig2_base.specs.Fields.{bytes_at, number_at, end_of_bytes}
-use Rattle.jbig2_base.specs.FileHeader.{file_header_at, identification, is_identification, page_count_at}
-use Rattle.jbig2_base.specs.Causes.{BreaksFileHeader, FileHeadersHaveCauses}
+use Rattle.jbig2_base.specs.FileHeader.{file_header_at, identification, page_count_at}
+use Rattle.jbig2_base.specs.Causes.{BreaksFileHeader, HaveCauses}
 use Rattle.jbig2_base.specs.declared.error.DecodeError.{DecodeError}
 
 -- an error of the first step, or of the next one
@@ -57,6 +58,9 @@ number-there w bytes x =
     (λ short is. absurd (never-err x end_of_bytes is))
     (λ there is. (ltb-false (length bytes) (byte_len w) there, same-ok n x is))
 
+abbrev is_identification : List ℕ → Bool
+is_identification bytes = bytes_eq bytes identification
+
 other-front : (front : List ℕ) → not (is_identification front) ≡ true → front ≡ identification → ⊥
 other-front front other same = false≢true (sym (not-true (is_identification front) other) ∙ ap is_identification same)
 
@@ -68,9 +72,9 @@ count-cause P true bytes why = tt
 count-cause P false bytes why =
     cause-next P (number_at w32 bytes) (λ n. Ok (Some n.0, n.1)) (cause-number P w32 bytes why) (λ n is. tt)
 
-pub file_header_causes : FileHeadersHaveCauses
-unfolding file_header_at
-file_header_causes bytes =
+pub file_header_causes : HaveCauses file_header_at BreaksFileHeader
+unfolding HaveCauses file_header_at
+file_header_causes = λ bytes.
     let P : DecodeError → Type 0 = BreaksFileHeader bytes in
     cause-next P (bytes_at 8 bytes) _ (cause-bytes P 8 bytes (λ short. omega arith)) (λ front front_is.
     let at_front = bytes-there 8 bytes front front_is in

@@ -5,21 +5,31 @@ use Rattle.std.specs.Int.{w8}
 use Rattle.std.proofs.lemmas.Bool.{cond_both, and_from, and_parts, or_cases, eq-eqb, le-leb, leb-true, ltb-true, ltb-false, true≢false}
 use Rattle.std.proofs.lemmas.List.{drop-drop}
 use Rattle.jbig2_base.specs.Answer.{◌>>=◌, refuse_if}
-use Rattle.jbig2_base.specs.Causes.{end_marker, coded_place, stated_length, number_in, BreaksUnknownLength, UnknownLengthsHaveCauses, BreaksData, DataHasCauses, BreaksSegment, SegmentsHaveCauses, BreaksSides, BreaksArea, SizesHaveCauses}
-use Rattle.jbig2_base.specs.EndMarker.{adaptive_bytes, coded_front_at, first_end_marker, is_end_marker, unknown_length_of}
+use Rattle.jbig2_base.specs.Causes.{HaveCauses, number_in, BreaksData, BreaksSegment, BreaksSides, BreaksArea}
 use Rattle.jbig2_base.specs.Fields.{bytes_at, end_of_bytes}
+use Rattle.jbig2_base.specs.Grid.{Grid}
+use Rattle.jbig2_base.specs.Parts.{part_or_overflow}
 use Rattle.jbig2_base.specs.Search.{place_from}
-use Rattle.jbig2_base.specs.Segment.{Header, SegmentView, data_at, header_at, segment_at, segment_data_at}
+use Rattle.jbig2_base.specs.Sizes.{blank_or_overflow, wide_or_overflow}
+use Rattle.jbig2_base.specs.Segment.{Header, SegmentView, adaptive_bytes, data_at, first_end_marker, header_at, is_end_marker, segment_at, segment_data_at, unknown_length_of}
 use Rattle.jbig2_base.specs.declared.error.DecodeError.{DecodeError}
 use Rattle.jbig2_base.specs.declared.error.DecodeError.TheVariants.{Overflow, Segment}
 use Rattle.jbig2_base.specs.declared.error.OverflowError.TheVariants.{BitmapDimension}
 use Rattle.jbig2_base.specs.declared.error.SegmentError.TheVariants.{MissingEndMarker}
 use Rattle.jbig2_base.proofs.Causes.{cause-bytes, cause-next, cause-refused}
-use Rattle.jbig2_base.proofs.CauseSteps.{Told, Steps, told-all, told-cause, told-next, next-steps, next-bytes, next-number}
+use Rattle.jbig2_base.proofs.CauseSteps.{Told, told-all, told-cause, told-next, next-bytes, next-number}
 use Rattle.jbig2_base.proofs.SearchLemmas.{place-found, place-none}
-use Rattle.jbig2_base.proofs.SegmentCauses.{HasHeader, header-told}
+use Rattle.jbig2_base.proofs.SegmentCauses.{HasHeader, header-told, stated_length}
 
 -- ---- the end marker
+-- the two bytes of the end marker, by a generic region's flags
+abbrev end_marker : ℕ → List ℕ
+end_marker flags = cond (eqb (flags % 2) 1) (0 ∷ 0 ∷ []) (255 ∷ 172 ∷ [])
+
+-- the place behind a generic region's fields
+abbrev coded_place : List ℕ → ℕ
+coded_place bytes = 18 + adaptive_bytes (number_in w8 17 bytes)
+
 marker-by : (mmr : Bool) (a b : ℕ) → a ∷ b ∷ [] ≡ cond mmr (0 ∷ 0 ∷ []) (255 ∷ 172 ∷ []) → cond mmr (eqb a 0 && eqb b 0) (eqb a 255 && eqb b 172) ≡ true
 marker-by true a b same = and_from (eqb a 0) (eqb b 0) (eq-eqb a 0 (ap (λ (l : List ℕ). slice_index l 0) same)) (eq-eqb b 0 (ap (λ (l : List ℕ). slice_index l 1) same))
 marker-by false a b same = and_from (eqb a 255) (eqb b 172) (eq-eqb a 255 (ap (λ (l : List ℕ). slice_index l 0) same)) (eq-eqb b 172 (ap (λ (l : List ℕ). slice_index l 1) same))
@@ -44,15 +54,6 @@ marker-told P flags rest why =
     omega (arith, room, length-drop place rest))
     (λ past. why (λ k below. place-none test (length rest) k (ltb-false place (length rest) past) below))
 
-front-told : (P : DecodeError → Type 0) (bytes : List ℕ) → (length bytes < coded_place bytes → P end_of_bytes)
-    → Steps (number_in w8 17 bytes, drop (coded_place bytes) bytes) (coded_place bytes ≤ length bytes) P (coded_front_at bytes)
-unfolding coded_front_at
-front-told P bytes short =
-    let R : ℕ × List ℕ → Type 0 = λ x. (x ≡ (number_in w8 17 bytes, drop (coded_place bytes) bytes)) × (coded_place bytes ≤ length bytes) in
-    next-bytes R P 17 bytes 0 _ (omega arith) (λ cut. short (omega (arith, cut))) (λ at_flags.
-    next-number R P w8 bytes 17 _ at_flags (λ cut. short (omega (arith, cut))) (λ at_pixels.
-    next-bytes R P (adaptive_bytes (number_in w8 17 bytes)) bytes 18 _ at_pixels short (λ there. (refl, there))))
-
 no-marker : (bytes : List ℕ) (flags place : ℕ) → ((k : ℕ) → k < length (drop place bytes) → is_end_marker flags (drop k (drop place bytes)) ≡ false)
     → (k : ℕ) → place ≤ k → k + 6 ≤ length bytes → take 2 (drop k bytes) ≢ end_marker flags
 no-marker bytes flags place none k after room = λ same.
@@ -60,21 +61,24 @@ no-marker bytes flags place none k after room = λ same.
     let behind : drop (k - place) (drop place bytes) ≡ drop k bytes = drop-drop (k - place) place bytes ∙ ap (λ (m : ℕ). drop m bytes) (omega (arith, after)) in
     true≢false (sym there ∙ ap (λ (ys : List ℕ). is_end_marker flags ys) (sym behind) ∙ none (k - place) (omega (arith, length-drop place bytes, after, room)))
 
-pub unknown-told : (P : DecodeError → Type 0) (bytes : List ℕ) → ((e : DecodeError) → BreaksUnknownLength bytes e → P e) → Told (λ (n : ℕ). n ≤ length bytes) P (unknown_length_of bytes)
+pub unknown-told : (P : DecodeError → Type 0) (bytes : List ℕ) → ((e : DecodeError) → BreaksData None bytes e → P e) → Told (λ (n : ℕ). n ≤ length bytes) P (unknown_length_of bytes)
 unfolding unknown_length_of
 unknown-told P bytes why =
     let flags : ℕ = number_in w8 17 bytes in
     let place : ℕ = coded_place bytes in
     let R : ℕ → Type 0 = λ n. n ≤ length bytes in
-    next-steps (flags, drop place bytes) (place ≤ length bytes) R P (coded_front_at bytes) _ (front-told P bytes (λ cut. why end_of_bytes cut)) (λ at_coded.
+    let short : length bytes < place → P end_of_bytes = λ cut. why end_of_bytes cut in
+    next-bytes R P 17 bytes 0 _ (omega arith) (λ cut. short (omega (arith, cut))) (λ at_flags.
+    next-number R P w8 bytes 17 _ at_flags (λ cut. short (omega (arith, cut))) (λ at_pixels.
+    next-bytes R P (adaptive_bytes flags) bytes 18 _ at_pixels short (λ at_coded.
     told-next (λ (p : ℕ). p + 6 ≤ length (drop place bytes)) R P (first_end_marker flags (drop place bytes)) _
     (marker-told P flags (drop place bytes) (λ none. why (Segment MissingEndMarker) (no-marker bytes flags place none))) (λ p fits.
-    omega (arith, fits, at_coded, length-drop place bytes)))
+    omega (arith, fits, at_coded, length-drop place bytes)))))
 
-pub unknown_causes : UnknownLengthsHaveCauses
-unfolding UnknownLengthsHaveCauses
+pub unknown_causes : HaveCauses unknown_length_of (BreaksData None)
+unfolding HaveCauses
 unknown_causes = λ bytes.
-    let P : DecodeError → Type 0 = BreaksUnknownLength bytes in
+    let P : DecodeError → Type 0 = BreaksData None bytes in
     told-cause (λ (n : ℕ). n ≤ length bytes) P (unknown_length_of bytes) (unknown-told P bytes (λ e why. why))
 
 -- ---- data and segments
@@ -93,12 +97,12 @@ pub segment-data-cause : (P : DecodeError → Type 0) (header : Header) (bytes :
 segment-data-cause P header bytes why =
     cause-next P (data_at header.data_length bytes) _ (data-cause P header.data_length bytes why) (λ coded is. tt)
 
-pub data_causes : DataHasCauses
-unfolding DataHasCauses
+pub data_causes : (header : Header) → HaveCauses (segment_data_at header) (BreaksData header.data_length)
+unfolding HaveCauses
 data_causes = λ header bytes. segment-data-cause (BreaksData header.data_length bytes) header bytes (λ e why. why)
 
-pub segment_causes : SegmentsHaveCauses
-unfolding SegmentsHaveCauses segment_at
+pub segment_causes : (strict : Bool) → HaveCauses (segment_at strict) (BreaksSegment strict)
+unfolding HaveCauses segment_at
 segment_causes = λ strict bytes.
     let P : DecodeError → Type 0 = BreaksSegment strict bytes in
     let R : SegmentView × List ℕ → Type 0 = λ x. Unit {0} in
@@ -115,12 +119,16 @@ sides-cause w h x rest =
     (λ long. ⊎_elim {C = (65535 < w) ⊎ (65535 < h)} (λ l. inl (ltb-true 65535 w l)) (λ r. inr (ltb-true 65535 h r)) (or_cases (ltb 65535 w) (ltb 65535 h) long)))
     (λ y is. rest)
 
-pub size_causes : SizesHaveCauses
-unfolding SizesHaveCauses
-size_causes = (
-  λ w h black. sides-cause w h _ tt,
-  λ w h.
-      cause-next (BreaksArea w h) (refuse_if (ltb (65535 * 65535) (w * h)) (Overflow BitmapDimension)) _
-      (cause-refused (BreaksArea w h) (ltb (65535 * 65535) (w * h)) (Overflow BitmapDimension) (λ large. ltb-true (65535 * 65535) (w * h) large)) (λ y is. tt),
-  λ g area. sides-cause area.width area.height _ tt,
-)
+pub blank_causes : (w h : ℕ) → HaveCauses (blank_or_overflow w h) (λ black. BreaksSides w h)
+unfolding HaveCauses
+blank_causes w h = λ black. sides-cause w h _ tt
+
+pub wide_causes : (w : ℕ) → HaveCauses (wide_or_overflow w) (BreaksArea w)
+unfolding HaveCauses
+wide_causes w = λ h.
+    cause-next (BreaksArea w h) (refuse_if (ltb (65535 * 65535) (w * h)) (Overflow BitmapDimension)) _
+    (cause-refused (BreaksArea w h) (ltb (65535 * 65535) (w * h)) (Overflow BitmapDimension) (λ large. ltb-true (65535 * 65535) (w * h) large)) (λ y is. tt)
+
+pub part_causes : (g : Grid) → HaveCauses (part_or_overflow g) (λ area. BreaksSides area.width area.height)
+unfolding HaveCauses
+part_causes g = λ area. sides-cause area.width area.height _ tt

@@ -8,7 +8,7 @@ use Rattle.std.specs.Prelude.{nat_le, ◌==◌}
 use Rattle.std.specs.Result.{is_ok}
 use Rattle.jbig2_base.specs.Answer.{◌>>=◌, refuse_if}
 use Rattle.jbig2_base.specs.Fields.{bytes_at, number_at, end_of_bytes}
-use Rattle.jbig2_base.specs.Segment.{Header, header_at, referred_at, count_at, short_or_long_at, long_count_at, page_at, length_of, type_of, is_reserved, numbers_in, number_size}
+use Rattle.jbig2_base.specs.Segment.{Header, header_at, referred_at, count_at, long_count_at, length_of, type_of, is_reserved, numbers_in, number_width}
 use Rattle.jbig2_base.specs.declared.error.DecodeError.{DecodeError}
 use Rattle.jbig2_base.specs.declared.error.DecodeError.TheVariants.{Segment}
 use Rattle.jbig2_base.specs.declared.error.SegmentError.TheVariants.{UnknownType, InvalidReferredCount, InvalidReference}
@@ -73,23 +73,19 @@ long_count_extends high =
 count_extends : Extends count_at
 unfolding count_at
 count_extends =
-    and_then (number_at w8) (λ first bs. refuse_if (first / 32 == 5 || first / 32 == 6) (Segment InvalidReferredCount) >>= λ coded. short_or_long_at first bs) (number_extends w8) (λ first.
-    known_then (refuse_if (first / 32 == 5 || first / 32 == 6) (Segment InvalidReferredCount)) (λ coded bs. short_or_long_at first bs) (λ coded.
+    and_then (number_at w8) (λ first bs. refuse_if (first / 32 == 5 || first / 32 == 6) (Segment InvalidReferredCount) >>= λ coded. cond (first / 32 == 7) (long_count_at (first % 32) bs) (Ok (first / 32, bs))) (number_extends w8) (λ first.
+    known_then (refuse_if (first / 32 == 5 || first / 32 == 6) (Segment InvalidReferredCount)) (λ coded bs. cond (first / 32 == 7) (long_count_at (first % 32) bs) (Ok (first / 32, bs))) (λ coded.
     either (first / 32 == 7) (long_count_at (first % 32)) (λ bs. Ok (first / 32, bs)) (long_count_extends (first % 32)) (gives (first / 32))))
 
 abbrev with_coded : ℕ → ℕ → List ℕ → Reading (List ℕ)
-with_coded own count coded bs = refuse_if (list_any (λ n. nat_le own n) (numbers_in own count coded)) (Segment InvalidReference) >>= λ earlier. Ok (numbers_in own count coded, bs)
+with_coded own count coded bs = refuse_if (list_any (λ n. nat_le own n) (numbers_in (number_width own) count coded)) (Segment InvalidReference) >>= λ earlier. Ok (numbers_in (number_width own) count coded, bs)
 
 referred_extends : (own : ℕ) → Extends (referred_at own)
 unfolding referred_at
 referred_extends own =
-    and_then count_at (λ count bs. bytes_at (count * number_size own) bs >>= λ coded. with_coded own count coded.0 coded.1) count_extends (λ count.
-    and_then (bytes_at (count * number_size own)) (with_coded own count) (bytes_extend (count * number_size own)) (λ coded.
-    known_then (refuse_if (list_any (λ n. nat_le own n) (numbers_in own count coded)) (Segment InvalidReference)) (λ earlier bs. Ok (numbers_in own count coded, bs)) (λ earlier. gives (numbers_in own count coded))))
-
-page_extends : (long : Bool) → Extends (page_at long)
-page_extends true = number_extends w32
-page_extends false = number_extends w8
+    and_then count_at (λ count bs. bytes_at (count * byte_len (number_width own)) bs >>= λ coded. with_coded own count coded.0 coded.1) count_extends (λ count.
+    and_then (bytes_at (count * byte_len (number_width own))) (with_coded own count) (bytes_extend (count * byte_len (number_width own))) (λ coded.
+    known_then (refuse_if (list_any (λ n. nat_le own n) (numbers_in (number_width own) count coded)) (Segment InvalidReference)) (λ earlier bs. Ok (numbers_in (number_width own) count coded, bs)) (λ earlier. gives (numbers_in (number_width own) count coded))))
 
 -- the header, from its last field to its first
 abbrev header_with : ℕ → ℕ → List ℕ → ℕ → Option ℕ → Header
@@ -109,7 +105,7 @@ abbrev from_page : Bool → ℕ → ℕ → List ℕ → ℕ → Reading Header
 from_page strict number flags referred page bs = number_at w32 bs >>= λ n. from_length strict number flags referred page n.0 n.1
 
 abbrev from_referred : Bool → ℕ → ℕ → List ℕ → Reading Header
-from_referred strict number flags referred bs = page_at (flags / 64 % 2 == 1) bs >>= λ page. from_page strict number flags referred page.0 page.1
+from_referred strict number flags referred bs = number_at (cond (flags / 64 % 2 == 1) w32 w8) bs >>= λ page. from_page strict number flags referred page.0 page.1
 
 abbrev from_type : Bool → ℕ → ℕ → Reading Header
 from_type strict number flags bs = referred_at number bs >>= λ referred. from_referred strict number flags referred.0 referred.1
@@ -123,7 +119,7 @@ from_number strict number bs = number_at w8 bs >>= λ flags. from_flags strict n
 type_extends : (strict : Bool) (number flags : ℕ) → Extends (from_type strict number flags)
 type_extends strict number flags =
     and_then (referred_at number) (from_referred strict number flags) (referred_extends number) (λ referred.
-    and_then (page_at (flags / 64 % 2 == 1)) (from_page strict number flags referred) (page_extends (flags / 64 % 2 == 1)) (λ page.
+    and_then (number_at (cond (flags / 64 % 2 == 1) w32 w8)) (from_page strict number flags referred) (number_extends (cond (flags / 64 % 2 == 1) w32 w8)) (λ page.
     and_then (number_at w32) (from_length strict number flags referred page) (number_extends w32) (λ n.
     known_then (length_of strict (type_of (flags % 64)) n) (λ len bs. Ok (header_with number flags referred page len, bs)) (λ len. gives (header_with number flags referred page len)))))
 

@@ -3,12 +3,11 @@ use Rattle.std.proofs.Common.{◌≡◌, ℕ, zero, suc, ◌<◌, eqb, Bool, tru
 use Rattle.std.specs.Prelude.{◌≢◌, IfErr}
 use Rattle.std.proofs.lemmas.Bool.{cond_both, eqb-false, true≢false}
 use Rattle.jbig2_base.specs.Answer.{◌>>=◌}
-use Rattle.jbig2_base.specs.Causes.{BreaksFileHeader, BreaksHeader, BreaksSegment, HeadersHaveCauses, SegmentsHaveCauses}
-use Rattle.jbig2_base.specs.File.{file_at, gathered, headers_in, random_access, segments_by, with_header}
-use Rattle.jbig2_base.specs.FileCauses.{AtSomeSegment, BreaksSequence, SequencesHaveCauses, BreaksHeaders, BreaksGathered, BreaksRandomAccess, RandomAccessHasCauses, BreaksSegmentsBy, BreaksFile, FilesHaveCauses}
+use Rattle.jbig2_base.specs.Causes.{HaveCauses, BreaksFileHeader, BreaksHeader, BreaksSegment, BehindSome, BreaksSequence, BreaksHeaders, BreaksGathered, BreaksSegmentsBy, BreaksFile}
+use Rattle.jbig2_base.specs.File.{file_at, gathered, headers_in, segments_by}
 use Rattle.jbig2_base.specs.FileHeader.{file_header_at}
 use Rattle.jbig2_base.specs.Segment.{Header, SegmentView, header_at, segment_at, segment_data_at}
-use Rattle.jbig2_base.specs.Sequential.{goes_on, is_cut_off, is_end_of_file, segments_in, sequential}
+use Rattle.jbig2_base.specs.Sequential.{goes_on, is_cut_off, is_end_of_file, segments_in, sequential, sorted_segments}
 use Rattle.jbig2_base.specs.declared.error.DecodeError.{DecodeError}
 use Rattle.jbig2_base.specs.declared.error.DecodeError.TheVariants.{Parse}
 use Rattle.jbig2_base.specs.declared.error.ParseError.TheVariants.{UnexpectedEof}
@@ -17,6 +16,7 @@ use Rattle.jbig2_base.specs.declared.file_header.FileOrganization.TheVariants.{S
 use Rattle.jbig2_base.specs.declared.segment.SegmentType.{SegmentType}
 use Rattle.jbig2_base.specs.declared.segment.SegmentType.TheVariants as types
 use Rattle.jbig2_base.proofs.Causes.{cause-next, file_header_causes}
+use Rattle.jbig2_base.proofs.RandomAccess.{with_header}
 use Rattle.jbig2_base.proofs.DataCauses.{segment_causes, segment-data-cause}
 use Rattle.jbig2_base.proofs.SegmentCauses.{header_causes}
 
@@ -28,30 +28,40 @@ no-end : (kind : SegmentType) → is_end_of_file kind ≡ false → kind ≢ typ
 no-end kind goes = λ same. true≢false (sym (ap is_end_of_file same) ∙ goes)
 
 segment-cause : (strict : Bool) (bytes : List ℕ) → IfErr (segment_at strict bytes) (BreaksSegment strict bytes)
-unfolding SegmentsHaveCauses
+unfolding HaveCauses
 segment-cause strict bytes = segment_causes strict bytes
 
 header-cause : (strict : Bool) (bytes : List ℕ) → IfErr (header_at strict bytes) (BreaksHeader strict bytes)
-unfolding HeadersHaveCauses
+unfolding HaveCauses
 header-cause strict bytes = header_causes strict bytes
 
--- ---- one behind the other
-begun : (strict : Bool) (bytes : List ℕ) (P : List ℕ → Type 0) → 0 < length bytes → P bytes → AtSomeSegment strict bytes P
-begun strict bytes P some holds = ([], bytes, refl, some, holds)
+file-header-cause : (bytes : List ℕ) → IfErr (file_header_at bytes) (BreaksFileHeader bytes)
+unfolding HaveCauses
+file-header-cause bytes = file_header_causes bytes
 
-further : (strict : Bool) (bytes rest : List ℕ) (p : SegmentView) (P : List ℕ → Type 0) → segment_at strict bytes ≡ Ok (p, rest) → p.header.segment_type ≢ types.EndOfFile
-    → AtSomeSegment strict rest P → AtSomeSegment strict bytes P
-further strict bytes rest p P is goes later = (p ∷ later.0, later.1, (rest, is, goes, later.2), later.3, later.4)
+-- ---- behind some
+begun : {A : Type 0} (read : List ℕ → Result (A × List ℕ) DecodeError) (kind : A → SegmentType) (bytes : List ℕ) (P : List ℕ → Type 0) → 0 < length bytes → P bytes → BehindSome read kind bytes P
+begun read kind bytes P some holds = ([], bytes, refl, some, holds)
+
+further : {A : Type 0} (read : List ℕ → Result (A × List ℕ) DecodeError) (kind : A → SegmentType) (bytes rest : List ℕ) (x : A) (P : List ℕ → Type 0) → read bytes ≡ Ok (x, rest) → kind x ≢ types.EndOfFile
+    → BehindSome read kind rest P → BehindSome read kind bytes P
+further read kind bytes rest x P is goes later = (x ∷ later.0, later.1, (rest, is, goes, later.2), later.3, later.4)
+
+-- ---- one behind the other
+kept-strict : (strict : Bool) → is_cut_off strict (Parse UnexpectedEof) ≡ false → strict ≡ true
+kept-strict true kept = refl
+kept-strict false kept = absurd (true≢false kept)
 
 here-breaks : (strict : Bool) (bytes : List ℕ) (e : DecodeError) → 0 < length bytes → is_cut_off strict e ≡ false → BreaksSegment strict bytes e → BreaksSequence strict bytes e
-here-breaks true bytes (Parse UnexpectedEof) some kept why = (refl, begun true bytes (λ others. BreaksSegment true others (Parse UnexpectedEof)) some why)
-here-breaks false bytes (Parse UnexpectedEof) some kept why = absurd (true≢false kept)
-here-breaks strict bytes e some kept why = begun strict bytes (λ others. BreaksSegment strict others e) some why
+here-breaks strict bytes e some kept why = (
+  λ same. kept-strict strict (sym (ap (λ (d : DecodeError). is_cut_off strict d) same) ∙ kept),
+  begun (segment_at strict) (λ p. p.header.segment_type) bytes (λ others. BreaksSegment strict others e) some why,
+)
 
 later-breaks : (strict : Bool) (bytes rest : List ℕ) (p : SegmentView) → segment_at strict bytes ≡ Ok (p, rest) → p.header.segment_type ≢ types.EndOfFile
     → (e : DecodeError) → BreaksSequence strict rest e → BreaksSequence strict bytes e
-later-breaks strict bytes rest p is goes (Parse UnexpectedEof) why = (why.0, further strict bytes rest p (λ others. BreaksSegment strict others (Parse UnexpectedEof)) is goes why.1)
-later-breaks strict bytes rest p is goes e why = further strict bytes rest p (λ others. BreaksSegment strict others e) is goes why
+later-breaks strict bytes rest p is goes e why =
+    (why.0, further (segment_at strict) (λ q. q.header.segment_type) bytes rest p (λ others. BreaksSegment strict others e) is goes why.1)
 
 on-cause : (strict : Bool) (bytes : List ℕ) (r : Result (SegmentView × List ℕ) DecodeError) (others : List ℕ → Result (List SegmentView) DecodeError)
     → 0 < length bytes → segment_at strict bytes ≡ r → ((rest : List ℕ) → IfErr (others rest) (BreaksSequence strict rest)) → IfErr (goes_on strict r others) (BreaksSequence strict bytes)
@@ -75,20 +85,21 @@ segments-cause (suc most) strict bytes =
     cond_both (eqb (length bytes) 0) (Ok []) (goes_on strict (segment_at strict bytes) (segments_in most strict)) (λ (r : Result (List SegmentView) DecodeError). IfErr r (BreaksSequence strict bytes)) (λ none. tt)
     (λ some. on-cause strict bytes (segment_at strict bytes) (segments_in most strict) (some-bytes bytes some) refl (segments-cause most strict))
 
-pub sequence_causes : SequencesHaveCauses
-unfolding SequencesHaveCauses
-sequence_causes = (
-  λ strict bytes. segments-cause (length bytes) strict bytes,
-  λ strict bytes. cause-next (BreaksSequence strict bytes) (sequential strict bytes) _ (segments-cause (length bytes) strict bytes) (λ ps are. tt),
-)
+pub sequence_causes : (strict : Bool) → HaveCauses (sequential strict) (BreaksSequence strict)
+unfolding HaveCauses
+sequence_causes strict = λ bytes. segments-cause (length bytes) strict bytes
+
+pub sorted_causes : (strict : Bool) → HaveCauses (sorted_segments strict) (BreaksSequence strict)
+unfolding HaveCauses
+sorted_causes strict = λ bytes. cause-next (BreaksSequence strict bytes) (sequential strict bytes) _ (segments-cause (length bytes) strict bytes) (λ ps are. tt)
 
 -- ---- all headers, then all data
 headers-here : (strict : Bool) (bytes : List ℕ) (e : DecodeError) → 0 < length bytes → BreaksHeader strict bytes e → BreaksHeaders strict bytes e
-headers-here strict bytes e some why = ([], bytes, refl, some, why)
+headers-here strict bytes e some why = begun (header_at strict) (λ h. h.segment_type) bytes (λ others. BreaksHeader strict others e) some why
 
 headers-later : (strict : Bool) (bytes rest : List ℕ) (h : Header) → header_at strict bytes ≡ Ok (h, rest) → h.segment_type ≢ types.EndOfFile
     → (e : DecodeError) → BreaksHeaders strict rest e → BreaksHeaders strict bytes e
-headers-later strict bytes rest h is goes e later = (h ∷ later.0, later.1, (rest, is, goes, later.2), later.3, later.4)
+headers-later strict bytes rest h is goes e later = further (header_at strict) (λ k. k.segment_type) bytes rest h (λ others. BreaksHeader strict others e) is goes later
 
 headers-cause : (most : ℕ) (strict : Bool) (bytes : List ℕ) → IfErr (headers_in most strict bytes) (BreaksHeaders strict bytes)
 unfolding headers_in
@@ -114,16 +125,24 @@ gathered-cause (h ∷ hs) bytes =
     (λ p is.
     cause-next P (gathered hs p.1) (λ ps. Ok (p.0 ∷ ps)) (cause-map (BreaksGathered hs p.1) P (gathered hs p.1) (λ e why. inr (p.0, p.1, is, why)) (gathered-cause hs p.1)) (λ ps are. tt))
 
-random-cause : (strict : Bool) (bytes : List ℕ) → IfErr (random_access strict bytes) (BreaksRandomAccess strict bytes)
+random-cause : (strict : Bool) (bytes : List ℕ) → IfErr (segments_by RandomAccess strict bytes) (BreaksSegmentsBy RandomAccess strict bytes)
 random-cause strict bytes =
-    let P : DecodeError → Type 0 = BreaksRandomAccess strict bytes in
+    let P : DecodeError → Type 0 = BreaksSegmentsBy RandomAccess strict bytes in
     let headers : Result (List Header × List ℕ) DecodeError = headers_in (length bytes) strict bytes in
     cause-next P headers (λ hs. gathered hs.0 hs.1) (cause-map (BreaksHeaders strict bytes) P headers (λ e why. inl why) (headers-cause (length bytes) strict bytes))
-    (λ hs is. cause-map (BreaksGathered hs.0 hs.1) P (gathered hs.0 hs.1) (λ e why. inr (hs.0, hs.1, is, why)) (gathered-cause hs.0 hs.1))
+    (λ hs is. cause-map (BreaksGathered hs.0 hs.1) P (gathered hs.0 hs.1) (λ e why. inr (hs, is, why)) (gathered-cause hs.0 hs.1))
 
-pub random_access_causes : RandomAccessHasCauses
-unfolding RandomAccessHasCauses
-random_access_causes = (λ strict bytes. headers-cause (length bytes) strict bytes, gathered-cause, random-cause)
+pub headers_causes : (strict : Bool) → HaveCauses (λ bytes. headers_in (length bytes) strict bytes) (BreaksHeaders strict)
+unfolding HaveCauses
+headers_causes strict = λ bytes. headers-cause (length bytes) strict bytes
+
+pub gathered_causes : (headers : List Header) → HaveCauses (gathered headers) (BreaksGathered headers)
+unfolding HaveCauses
+gathered_causes headers = gathered-cause headers
+
+pub random_access_causes : (strict : Bool) → HaveCauses (segments_by RandomAccess strict) (BreaksSegmentsBy RandomAccess strict)
+unfolding HaveCauses
+random_access_causes strict = random-cause strict
 
 -- ---- files
 by-cause : (organization : FileOrganization) (strict : Bool) (bytes : List ℕ) → IfErr (segments_by organization strict bytes) (BreaksSegmentsBy organization strict bytes)
@@ -134,11 +153,11 @@ file-cause : (strict : Bool) (bytes : List ℕ) → IfErr (file_at strict bytes)
 unfolding file_at
 file-cause strict bytes =
     let P : DecodeError → Type 0 = BreaksFile strict bytes in
-    cause-next P (file_header_at bytes) _ (cause-map (BreaksFileHeader bytes) P (file_header_at bytes) (λ e why. inl why) (file_header_causes bytes)) (λ header is.
+    cause-next P (file_header_at bytes) _ (cause-map (BreaksFileHeader bytes) P (file_header_at bytes) (λ e why. inl why) (file-header-cause bytes)) (λ header is.
     let segments : Result (List SegmentView) DecodeError = segments_by header.0.organization strict header.1 in
     cause-next P segments _
-    (cause-map (BreaksSegmentsBy header.0.organization strict header.1) P segments (λ e why. inr (header.0, header.1, is, why)) (by-cause header.0.organization strict header.1)) (λ ps are. tt))
+    (cause-map (BreaksSegmentsBy header.0.organization strict header.1) P segments (λ e why. inr (header, is, why)) (by-cause header.0.organization strict header.1)) (λ ps are. tt))
 
-pub file_causes : FilesHaveCauses
-unfolding FilesHaveCauses
-file_causes = file-cause
+pub file_causes : (strict : Bool) → HaveCauses (file_at strict) (BreaksFile strict)
+unfolding HaveCauses
+file_causes strict = file-cause strict

@@ -2,11 +2,10 @@
 use Rattle.std.proofs.Common.{◌≡◌, ℕ, List, [], ◌∷◌, ◌++◌, length, take, Some, Result, Ok, Err, Bool, true, false, refl}
 use Rattle.std.specs.List.{list_all, range_with_len}
 use Rattle.jbig2_base.specs.Fields.{end_of_bytes}
-use Rattle.jbig2_base.specs.File.{file_at, headers_in}
+use Rattle.jbig2_base.specs.File.{file_at, headers_in, Spelled, AreSpelled, SpellsFile}
 use Rattle.jbig2_base.specs.FileHeader.{file_header_at, identification}
 use Rattle.jbig2_base.specs.Segment.{SegmentView, type_of, count_at, referred_at, header_at, segment_at}
-use Rattle.jbig2_base.specs.Sequential.{segments_in, is_end_of_bytes}
-use Rattle.jbig2_base.specs.Spelled.{Spelled, AreSpelled, SpellsFile}
+use Rattle.jbig2_base.specs.Sequential.{segments_in, is_cut_off}
 use Rattle.jbig2_base.specs.declared.error.DecodeError.{DecodeError}
 use Rattle.jbig2_base.specs.declared.error.DecodeError.TheVariants.{Format}
 use Rattle.jbig2_base.specs.declared.error.FormatError.TheVariants.{InvalidHeader, ReservedBits}
@@ -72,11 +71,11 @@ no_segments : file_at false (take 13 random_file) ≡ Ok (one_page RandomAccess,
 unfolding file_at file_header_at headers_in header_at referred_at count_at type_of
 no_segments = refl
 
-abbrev is_cut_off : Result (FileHeader × List SegmentView) DecodeError → Bool
-is_cut_off (Ok file) = false
-is_cut_off (Err e) = is_end_of_bytes e
+abbrev lacks_bytes : Result (FileHeader × List SegmentView) DecodeError → Bool
+lacks_bytes (Ok file) = false
+lacks_bytes (Err e) = is_cut_off false e
 
-cut_off : list_all (λ n. is_cut_off (file_at false (take n random_file))) (range_with_len 0 13 ++ range_with_len 14 51) ≡ true
+cut_off : list_all (λ n. lacks_bytes (file_at false (take n random_file))) (range_with_len 0 13 ++ range_with_len 14 51) ≡ true
 unfolding file_at file_header_at headers_in header_at referred_at count_at type_of
 cut_off = refl
 

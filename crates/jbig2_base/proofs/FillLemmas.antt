@@ -5,7 +5,8 @@ use Rattle.std.proofs.lemmas.Bool.{cases_lt, cond-true, cond-false, and_from, an
 use Rattle.jbig2_base.specs.Grid.{Grid, grid_of, blank, pixel_at}
 use Rattle.jbig2_base.specs.inner.WordBits.{bit}
 use Rattle.jbig2_base.specs.inner.Writes.{with_pixels}
-use Rattle.jbig2_base.specs.Parts.{part_of, part_or_overflow, pixel_of_part}
+use Rattle.jbig2_base.specs.Parts.{part_of, part_or_overflow}
+use Rattle.jbig2_base.specs.inner.Filled.{pixel_of_part}
 use Rattle.jbig2_base.specs.declared.bitmap.part.Area.{Area}
 use Rattle.jbig2_base.specs.inner.Filled.{is_before, filled}
 use Rattle.std.specs.Prelude.{nat_lt}

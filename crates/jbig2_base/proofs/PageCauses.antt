@@ -3,8 +3,9 @@ use Rattle.std.proofs.Common.{◌≡◌, ℕ, ◌<◌, ◌≤◌, eqb, List, len
 use Rattle.std.specs.Prelude.{IfErr}
 use Rattle.std.specs.Int.{w8, w16, w32}
 use Rattle.std.proofs.lemmas.Bool.{cond_both, eqb-false}
-use Rattle.jbig2_base.specs.Causes.{BreaksInformation, InformationHasCauses, BreaksOperator, OperatorsHaveCauses, number_in}
+use Rattle.jbig2_base.specs.Causes.{HaveCauses, BreaksInformation, BreaksOperator, number_in}
 use Rattle.jbig2_base.specs.Fields.{end_of_bytes}
+use Rattle.jbig2_base.specs.Operator.{operator_of}
 use Rattle.jbig2_base.specs.PageInfo.{information_at}
 use Rattle.jbig2_base.specs.declared.bitmap.operator.CombinationOperator.{CombinationOperator}
 use Rattle.jbig2_base.specs.declared.error.DecodeError.{DecodeError}
@@ -26,14 +27,14 @@ information-told P bytes why =
     next-number Q P w8 bytes 16 _ at_16 (λ cut. why (omega (arith, cut))) (λ at_17.
     next-number Q P w16 bytes 17 _ at_17 (λ cut. why (omega (arith, cut))) (λ at_19. (at_19, refl, refl)))))))
 
-pub information_causes : InformationHasCauses
-unfolding InformationHasCauses
+pub information_causes : HaveCauses information_at BreaksInformation
+unfolding HaveCauses
 information_causes = λ bytes.
     let P : DecodeError → Type 0 = BreaksInformation bytes in
     told-cause (HasSize bytes) P (information_at bytes) (information-told P bytes (λ short. short))
 
-pub operator_causes : OperatorsHaveCauses
-unfolding OperatorsHaveCauses
+pub operator_causes : HaveCauses operator_of BreaksOperator
+unfolding HaveCauses
 operator_causes = λ n.
     let P : Result CombinationOperator DecodeError → Type 0 = λ r. IfErr r (BreaksOperator n) in
     cond_both (eqb n 0) _ _ P (λ is. tt) (λ n0.

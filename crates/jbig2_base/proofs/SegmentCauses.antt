@@ -6,30 +6,20 @@ use Rattle.std.specs.List.{list_any, list_all}
 use Rattle.std.proofs.lemmas.Bool.{eqb-true, leb-true, and_parts, or_cases, not-true, true≢false, false≢true}
 use Rattle.std.proofs.lemmas.List.{drop-drop, drop-take, take-take}
 use Rattle.jbig2_base.specs.Answer.{◌>>=◌, refuse_if}
-use Rattle.jbig2_base.specs.Causes.{listed_types, referred_count, referred_place, page_place, length_place, header_size, stated_length, BreaksHeader, HeadersHaveCauses, number_in}
+use Rattle.jbig2_base.specs.Causes.{HaveCauses, referred_count, referred_place, page_place, length_place, BreaksHeader, number_in}
 use Rattle.jbig2_base.specs.Fields.{bytes_at, number_at, end_of_bytes}
-use Rattle.jbig2_base.specs.Segment.{Header, type_of, is_reserved, is_immediate_generic, long_count_at, count_at, number_size, coded_number, numbers_in, referred_at, page_at, length_of, header_at}
+use Rattle.jbig2_base.specs.Segment.{Header, type_of, is_reserved, is_immediate_generic, long_count_at, count_at, number_width, numbers_in, referred_at, length_of, header_at}
 use Rattle.jbig2_base.specs.declared.error.DecodeError.{DecodeError}
 use Rattle.jbig2_base.specs.declared.error.DecodeError.TheVariants.{Segment}
 use Rattle.jbig2_base.specs.declared.error.SegmentError.TheVariants.{UnknownType, InvalidReferredCount, InvalidReference, InvalidUnknownLength}
 use Rattle.jbig2_base.specs.declared.segment.SegmentType.{SegmentType}
+use Rattle.jbig2_base.specs.declared.segment.SegmentType.TheVariants as types
 use Rattle.jbig2_base.proofs.CauseSteps.{Told, Steps, told-cause, told-next, next-steps, told-map, next-refusal, next-bytes, next-number, last-number}
 
 -- ---- the type
-first-or-later : (n t : ℕ) (ts : List ℕ) → n ≢ t → All (λ u. n ≢ u) ts → All (λ u. n ≢ u) (t ∷ ts)
-first-or-later n t ts first rest zero d below = first
-first-or-later n t ts first rest (suc k) d below = rest k d (omega (arith, below))
-
-others : (n : ℕ) (ts : List ℕ) → is_reserved (type_of n) ≡ true → list_all (λ t. not (is_reserved (type_of t))) ts ≡ true → All (λ t. n ≢ t) ts
-others n [] reserved known = λ k d below. absurd (omega (arith, below))
-others n (t ∷ ts) reserved known =
-    let parts = and_parts (not (is_reserved (type_of t))) (list_all (λ u. not (is_reserved (type_of u))) ts) known in
-    let differs : n ≢ t = λ same. true≢false (sym reserved ∙ ap (λ (m : ℕ). is_reserved (type_of m)) same ∙ not-true (is_reserved (type_of t)) parts.0) in
-    first-or-later n t ts differs (others n ts reserved parts.1)
-
-unlisted : (n : ℕ) → is_reserved (type_of n) ≡ true → All (λ t. n ≢ t) listed_types
-unfolding type_of
-unlisted n reserved = others n listed_types reserved refl
+reserved-type : (kind : SegmentType) → is_reserved kind ≡ true → kind ≡ types.Reserved
+reserved-type types.Reserved is = refl
+reserved-type _ is = absurd (false≢true is)
 
 other-type : (n : ℕ) → is_immediate_generic (type_of n) ≡ false → n ≢ 38
 unfolding type_of
@@ -82,58 +72,47 @@ count-told P bytes five short bad =
     (λ fine. long-told P bytes (eqb top 7) (λ is. eqb-true top 7 is) six short))
 
 -- ---- the referred numbers
-by-size : (b c : Bool) (m x y z u v w : ℕ) → (1 ≤ m → x ≡ u) → (2 ≤ m → y ≡ v) → (4 ≤ m → z ≡ w) → cond b 1 (cond c 2 4) ≤ m → cond b x (cond c y z) ≡ cond b u (cond c v w)
-by-size true c m x y z u v w one two four fits = one fits
-by-size false true m x y z u v w one two four fits = two fits
-by-size false false m x y z u v w one two four fits = four fits
-
-number-within : (own m : ℕ) (bytes : List ℕ) → number_size own ≤ m → coded_number own (take m bytes) ≡ coded_number own bytes
-number-within own m bytes =
-    let one : 1 ≤ m → from_be_bytes w8 (take 1 (take m bytes)) ≡ from_be_bytes w8 (take 1 bytes) = λ fits. ap (λ (ys : List ℕ). from_be_bytes w8 ys) (take-take 1 m bytes fits) in
-    let two : 2 ≤ m → from_be_bytes w16 (take 2 (take m bytes)) ≡ from_be_bytes w16 (take 2 bytes) = λ fits. ap (λ (ys : List ℕ). from_be_bytes w16 ys) (take-take 2 m bytes fits) in
-    let four : 4 ≤ m → from_be_bytes w32 (take 4 (take m bytes)) ≡ from_be_bytes w32 (take 4 bytes) = λ fits. ap (λ (ys : List ℕ). from_be_bytes w32 ys) (take-take 4 m bytes fits) in
-    by-size (leb own 256) (leb own 65536) m _ _ _ _ _ _ one two four
-
-numbers-within : (own count : ℕ) (bytes : List ℕ) → numbers_in own count (take (count * number_size own) bytes) ≡ numbers_in own count bytes
-numbers-within own zero bytes = refl
-numbers-within own (suc count) bytes =
-    let size : ℕ = number_size own in
+numbers-within : (w : Width) (count : ℕ) (bytes : List ℕ) → numbers_in w count (take (count * byte_len w) bytes) ≡ numbers_in w count bytes
+numbers-within w zero bytes = refl
+numbers-within w (suc count) bytes =
+    let size : ℕ = byte_len w in
     let all : suc count * size ≡ size + count * size = omega arith in
-    let first : coded_number own (take (suc count * size) bytes) ≡ coded_number own bytes = number-within own (suc count * size) bytes (omega (arith, all)) in
+    let first : from_be_bytes w (take size (take (suc count * size) bytes)) ≡ from_be_bytes w (take size bytes) = ap (λ (ys : List ℕ). from_be_bytes w ys) (take-take size (suc count * size) bytes (omega (arith, all))) in
     let behind : drop size (take (suc count * size) bytes) ≡ take (count * size) (drop size bytes) = ap (λ (m : ℕ). drop size (take m bytes)) all ∙ drop-take size (count * size) bytes in
-    ap (λ (n : ℕ). n ∷ numbers_in own count (drop size (take (suc count * size) bytes))) first
-    ∙ ap (λ (ys : List ℕ). coded_number own bytes ∷ numbers_in own count ys) behind
-    ∙ ap (λ (ns : List ℕ). coded_number own bytes ∷ ns) (numbers-within own count (drop size bytes))
+    ap (λ (n : ℕ). n ∷ numbers_in w count (drop size (take (suc count * size) bytes))) first
+    ∙ ap (λ (ys : List ℕ). from_be_bytes w (take size bytes) ∷ numbers_in w count ys) behind
+    ∙ ap (λ (ns : List ℕ). from_be_bytes w (take size bytes) ∷ ns) (numbers-within w count (drop size bytes))
 
 -- some number is not below the segment's own
-abbrev IsLater : ℕ → ℕ → List ℕ → ℕ → Type 0
-IsLater own count bytes place = (k : ℕ) × (k < count) × (own ≤ coded_number own (drop (place + k * number_size own) bytes))
+abbrev IsLater : Width → ℕ → ℕ → List ℕ → ℕ → Type 0
+IsLater w own count bytes place = (k : ℕ) × (k < count) × (own ≤ number_in w (place + k * byte_len w) bytes)
 
-later-number : (own count place : ℕ) (bytes : List ℕ) → list_any (λ n. leb own n) (numbers_in own count (drop place bytes)) ≡ true → IsLater own count bytes place
-later-number own zero place bytes some = absurd (false≢true some)
-later-number own (suc count) place bytes some =
-    let size : ℕ = number_size own in
-    ⊎_elim {C = IsLater own (suc count) bytes place}
-    (λ here. (0, omega arith, subst (λ (k : ℕ). own ≤ coded_number own (drop k bytes)) (omega arith) (leb-true own (coded_number own (drop place bytes)) here)))
+later-number : (w : Width) (own count place : ℕ) (bytes : List ℕ) → list_any (λ n. leb own n) (numbers_in w count (drop place bytes)) ≡ true → IsLater w own count bytes place
+later-number w own zero place bytes some = absurd (false≢true some)
+later-number w own (suc count) place bytes some =
+    let size : ℕ = byte_len w in
+    ⊎_elim {C = IsLater w own (suc count) bytes place}
+    (λ here. (0, omega arith, subst (λ (k : ℕ). own ≤ number_in w k bytes) (omega arith) (leb-true own (number_in w place bytes) here)))
     (λ rest.
-    let later : IsLater own count bytes (place + size) = later-number own count (place + size) bytes (ap (λ (ys : List ℕ). list_any (λ n. leb own n) (numbers_in own count ys)) (sym (drop-drop size place bytes)) ∙ rest) in
-    (suc later.0, omega (arith, later.1), subst (λ (k : ℕ). own ≤ coded_number own (drop k bytes)) (omega arith) later.2))
-    (or_cases (leb own (coded_number own (drop place bytes))) (list_any (λ n. leb own n) (numbers_in own count (drop size (drop place bytes)))) some)
+    let later : IsLater w own count bytes (place + size) = later-number w own count (place + size) bytes (ap (λ (ys : List ℕ). list_any (λ n. leb own n) (numbers_in w count ys)) (sym (drop-drop size place bytes)) ∙ rest) in
+    (suc later.0, omega (arith, later.1), subst (λ (k : ℕ). own ≤ number_in w k bytes) (omega arith) later.2))
+    (or_cases (leb own (number_in w place bytes)) (list_any (λ n. leb own n) (numbers_in w count (drop size (drop place bytes)))) some)
 
 referred-told : (P : DecodeError → Type 0) (bytes : List ℕ) → 5 ≤ length bytes → (length bytes < page_place bytes → P end_of_bytes)
     → ((6 ≤ length bytes) × ((number_in w8 5 bytes / 32 ≡ 5) ⊎ (number_in w8 5 bytes / 32 ≡ 6)) → P (Segment InvalidReferredCount))
-    → ((page_place bytes ≤ length bytes) × IsLater (number_in w32 0 bytes) (referred_count bytes) bytes (referred_place bytes) → P (Segment InvalidReference))
+    → ((page_place bytes ≤ length bytes) × IsLater (number_width (number_in w32 0 bytes)) (number_in w32 0 bytes) (referred_count bytes) bytes (referred_place bytes) → P (Segment InvalidReference))
     → Told (λ (x : List ℕ × List ℕ). (x.1 ≡ drop (page_place bytes) bytes) × (page_place bytes ≤ length bytes)) P (referred_at (number_in w32 0 bytes) (drop 5 bytes))
 unfolding referred_at
 referred-told P bytes five short bad wrong =
     let own : ℕ = number_in w32 0 bytes in
+    let w : Width = number_width own in
     let count : ℕ = referred_count bytes in
     let place : ℕ = referred_place bytes in
     let R : List ℕ × List ℕ → Type 0 = λ x. (x.1 ≡ drop (page_place bytes) bytes) × (page_place bytes ≤ length bytes) in
     next-steps (count, drop place bytes) (place ≤ length bytes) R P (count_at (drop 5 bytes)) _ (count-told P bytes five (λ cut. short (omega (arith, cut))) bad) (λ at_numbers.
-    next-bytes R P (count * number_size own) bytes place _ at_numbers short (λ there.
-    next-refusal R P (list_any (λ n. leb own n) (numbers_in own count (take (count * number_size own) (drop place bytes)))) _ _
-    (λ some. wrong (there, later-number own count place bytes (ap (λ (ns : List ℕ). list_any (λ n. leb own n) ns) (sym (numbers-within own count (drop place bytes))) ∙ some)))
+    next-bytes R P (count * byte_len w) bytes place _ at_numbers short (λ there.
+    next-refusal R P (list_any (λ n. leb own n) (numbers_in w count (take (count * byte_len w) (drop place bytes)))) _ _
+    (λ some. wrong (there, later-number w own count place bytes (ap (λ (ns : List ℕ). list_any (λ n. leb own n) ns) (sym (numbers-within w count (drop place bytes))) ∙ some)))
     (λ none. (refl, there))))
 
 -- ---- the page association and the data length
@@ -144,7 +123,7 @@ number-told P w bytes rest k is within short =
     subst (λ (ys : List ℕ). Told R P (number_at w ys)) (sym is) (last-number R P w bytes k within short (λ there. (refl, there)))
 
 page-told : (P : DecodeError → Type 0) (wide : Bool) (bytes rest : List ℕ) (k : ℕ) → rest ≡ drop k bytes → k ≤ length bytes → (length bytes < k + cond wide 4 1 → P end_of_bytes)
-    → Told (λ (x : ℕ × List ℕ). (x.1 ≡ drop (k + cond wide 4 1) bytes) × (k + cond wide 4 1 ≤ length bytes)) P (page_at wide rest)
+    → Told (λ (x : ℕ × List ℕ). (x.1 ≡ drop (k + cond wide 4 1) bytes) × (k + cond wide 4 1 ≤ length bytes)) P (number_at (cond wide w32 w8) rest)
 page-told P true bytes rest k is within short =
     told-map _ (λ (x : ℕ × List ℕ). (x.1 ≡ drop (k + 4) bytes) × (k + 4 ≤ length bytes)) P (number_at w32 rest) (λ x known. (ap (λ (y : ℕ × List ℕ). y.1) known.0, known.1)) (number-told P w32 bytes rest k is within short)
 page-told P false bytes rest k is within short =
@@ -168,6 +147,13 @@ wide-least : (b : Bool) → 1 ≤ cond b 4 1
 wide-least true = omega arith
 wide-least false = omega arith
 
+abbrev pub header_size : List ℕ → ℕ
+header_size bytes = length_place bytes + 4
+
+-- the length of the data as it is stated
+abbrev pub stated_length : List ℕ → Option ℕ
+stated_length bytes = cond (eqb (number_in w32 (length_place bytes) bytes) 4294967295) None (Some (number_in w32 (length_place bytes) bytes))
+
 -- a header's size and the length that it states
 abbrev pub HasHeader : List ℕ → Header × List ℕ → Type 0
 HasHeader bytes x = (header_size bytes ≤ length bytes) × (x.1 ≡ drop (header_size bytes) bytes) × (x.0.data_length ≡ stated_length bytes)
@@ -184,10 +170,10 @@ header-told P strict bytes why =
     next-number R P w32 bytes 0 _ (omega arith) (λ cut. short (omega (arith, cut, least))) (λ four.
     next-number R P w8 bytes 4 _ four (λ cut. short (omega (arith, cut, least))) (λ five.
     next-refusal R P (strict && is_reserved (type_of kind)) _ _
-    (λ unknown. why (Segment UnknownType) ((and_parts strict (is_reserved (type_of kind)) unknown).0, five, unlisted kind (and_parts strict (is_reserved (type_of kind)) unknown).1)) (λ known.
+    (λ unknown. why (Segment UnknownType) ((and_parts strict (is_reserved (type_of kind)) unknown).0, five, reserved-type (type_of kind) (and_parts strict (is_reserved (type_of kind)) unknown).1)) (λ known.
     told-next (λ (x : List ℕ × List ℕ). (x.1 ≡ drop (page_place bytes) bytes) × (page_place bytes ≤ length bytes)) R P (referred_at (number_in w32 0 bytes) (drop 5 bytes)) _
     (referred-told P bytes five (λ cut. short (omega (arith, cut))) (λ bad. why (Segment InvalidReferredCount) bad) (λ wrong. why (Segment InvalidReference) wrong)) (λ referred at_page.
-    told-next (λ (x : ℕ × List ℕ). (x.1 ≡ drop (length_place bytes) bytes) × (length_place bytes ≤ length bytes)) R P (page_at wide referred.1) _
+    told-next (λ (x : ℕ × List ℕ). (x.1 ≡ drop (length_place bytes) bytes) × (length_place bytes ≤ length bytes)) R P (number_at (cond wide w32 w8) referred.1) _
     (page-told P wide bytes referred.1 (page_place bytes) at_page.0 at_page.1 (λ cut. short (omega (arith, cut)))) (λ page at_length.
     told-next (λ (x : ℕ × List ℕ). (x ≡ (number_in w32 (length_place bytes) bytes, drop (header_size bytes) bytes)) × (header_size bytes ≤ length bytes)) R P (number_at w32 page.1) _
     (number-told P w32 bytes page.1 (length_place bytes) at_length.0 at_length.1 short) (λ n at_end.
@@ -196,8 +182,8 @@ header-told P strict bytes why =
     (length-told P strict (type_of kind) n.0 (λ is ones other. why (Segment InvalidUnknownLength) (is, at_end.1, sym value ∙ ones, other-type kind other))) (λ len states.
     (at_end.1, ap (λ (x : ℕ × List ℕ). x.1) at_end.0, states ∙ ap (λ (m : ℕ). cond (eqb m 4294967295) None (Some m)) value))))))))
 
-pub header_causes : HeadersHaveCauses
-unfolding HeadersHaveCauses
+pub header_causes : (strict : Bool) → HaveCauses (header_at strict) (BreaksHeader strict)
+unfolding HaveCauses
 header_causes = λ strict bytes.
     let P : DecodeError → Type 0 = BreaksHeader strict bytes in
     told-cause (HasHeader bytes) P (header_at strict bytes) (header-told P strict bytes (λ e why. why))

@@ -4,7 +4,7 @@ use Rattle.std.specs.List.{filter}
 use Rattle.std.specs.List.Sorted.{IsNonDecreasingBy, IsStableByKey}
 use Rattle.std.proofs.lemmas.Bool.Decides.{nat_tests, leb_tells}
 use Rattle.std.proofs.lemmas.List.Elements.{filter_agree}
-use Rattle.jbig2_base.specs.Sorted.{insert_by, sorted_by}
+use Rattle.jbig2_base.specs.Sequential.{insert_by, sorted_by}
 
 -- a choice under a function
 cond-ap : {X Y : Type 0} (f : X → Y) (b : Bool) (x y : X) → f (cond b x y) ≡ cond b (f x) (f y)

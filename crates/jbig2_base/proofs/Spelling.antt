@@ -3,20 +3,19 @@ use Rattle.std.proofs.Common.{◌≡◌, ℕ, ◌-◌, ◌<◌, ◌≤◌, suc, 
 use Rattle.std.proofs.Math.Seq.{take-append_seam, drop-append_seam}
 use Rattle.std.proofs.lemmas.List.{append_assoc}
 use Rattle.std.proofs.lemmas.Bool.{cond-true, cond-false, le-ltb, false≢true}
+use Rattle.std.specs.List.{flat_map}
 use Rattle.std.specs.Result.{is_ok}
 use Rattle.jbig2_base.specs.Answer.{◌>>=◌}
 use Rattle.jbig2_base.specs.Fields.{bytes_at, end_of_bytes}
-use Rattle.jbig2_base.specs.File.{headers_in, with_header, gathered, segments_by, file_at}
+use Rattle.jbig2_base.specs.File.{headers_in, gathered, segments_by, file_at, Spelled, IsSpelled, AreSpelled, SpellsFile, spelling}
 use Rattle.jbig2_base.specs.Segment.{Header, SegmentView, header_at, data_at, segment_data_at, segment_at}
-use Rattle.jbig2_base.specs.Sequential.{is_end_of_file, goes_on, segments_in}
-use Rattle.jbig2_base.specs.Sorted.{by_number}
-use Rattle.jbig2_base.specs.Spelled.{Spelled, IsSpelled, AreSpelled, SpellsFile, by_turns, all_headers, all_data, spelling, spelled_segments}
+use Rattle.jbig2_base.specs.Sequential.{by_number, is_end_of_file, goes_on, segments_in}
 use Rattle.jbig2_base.specs.declared.error.DecodeError.{DecodeError}
 use Rattle.jbig2_base.specs.declared.file_header.FileHeader.{FileHeader}
 use Rattle.jbig2_base.specs.declared.file_header.FileOrganization.{FileOrganization}
 use Rattle.jbig2_base.specs.declared.file_header.FileOrganization.TheVariants.{Sequential, RandomAccess}
 use Rattle.jbig2_base.proofs.Extends.{header_extends}
-use Rattle.jbig2_base.proofs.RandomAccess.{header_in}
+use Rattle.jbig2_base.proofs.RandomAccess.{header_in, with_header}
 use Rattle.jbig2_base.proofs.Sequential.{next_in}
 
 bytes_there : (xs rest : List ℕ) → bytes_at (length xs) (xs ++ rest) ≡ Ok (xs, rest)
@@ -61,16 +60,34 @@ segment_read most strict s rest is enough =
 shorter : (strict : Bool) (s : Spelled) (xs rest : List ℕ) (most : ℕ) → IsSpelled strict s → length (s.header_bytes ++ (xs ++ rest)) ≤ most → length rest ≤ most - 1
 shorter strict s xs rest most is enough = omega (arith, enough, length-append s.header_bytes (xs ++ rest), length-append xs rest, some_bytes strict s.header_bytes s.segment.header is.accepted)
 
+abbrev pub spelled_segments : List Spelled → List SegmentView
+spelled_segments ss = map (λ s. s.segment) ss
+
+-- header and data by turns, all headers, and all data
+abbrev by_turns : List Spelled → List ℕ
+by_turns ss = flat_map (λ s. s.header_bytes ++ s.segment.bytes) ss
+
+abbrev all_headers : List Spelled → List ℕ
+all_headers ss = flat_map (λ s. s.header_bytes) ss
+
+abbrev all_data : List Spelled → List ℕ
+all_data ss = flat_map (λ s. s.segment.bytes) ss
+
 turns_read : (most : ℕ) (strict : Bool) (ss : List Spelled) → length (by_turns ss) ≤ most → AreSpelled strict ss → segments_in most strict (by_turns ss) ≡ Ok (spelled_segments ss)
 turns_read most strict [] enough are = absurd are
 turns_read most strict (s ∷ []) enough are =
-    segment_read most strict s [] are.0 enough
+    let seam : (s.header_bytes ++ s.segment.bytes) ++ [] ≡ s.header_bytes ++ (s.segment.bytes ++ []) = append_assoc s.header_bytes s.segment.bytes [] in
+    ap (λ (bytes : List ℕ). segments_in most strict bytes) seam
+    ∙ segment_read most strict s [] are.0 (subst (λ (bytes : List ℕ). length bytes ≤ most) seam enough)
     ∙ cond-true (is_end_of_file s.segment.header.segment_type) (Ok (s.segment ∷ [])) (segments_in (most - 1) strict [] >>= λ ps. Ok (s.segment ∷ ps)) are.1
 turns_read most strict (s ∷ t ∷ ts) enough are =
     let rest = by_turns (t ∷ ts) in
-    segment_read most strict s rest are.0 enough
+    let seam : (s.header_bytes ++ s.segment.bytes) ++ rest ≡ s.header_bytes ++ (s.segment.bytes ++ rest) = append_assoc s.header_bytes s.segment.bytes rest in
+    let room : length (s.header_bytes ++ (s.segment.bytes ++ rest)) ≤ most = subst (λ (bytes : List ℕ). length bytes ≤ most) seam enough in
+    ap (λ (bytes : List ℕ). segments_in most strict bytes) seam
+    ∙ segment_read most strict s rest are.0 room
     ∙ cond-false (is_end_of_file s.segment.header.segment_type) (Ok (s.segment ∷ [])) (segments_in (most - 1) strict rest >>= λ ps. Ok (s.segment ∷ ps)) are.1
-    ∙ ap (λ (r : Result (List SegmentView) DecodeError). r >>= λ ps. Ok (s.segment ∷ ps)) (turns_read (most - 1) strict (t ∷ ts) (shorter strict s s.segment.bytes rest most are.0 enough) are.2)
+    ∙ ap (λ (r : Result (List SegmentView) DecodeError). r >>= λ ps. Ok (s.segment ∷ ps)) (turns_read (most - 1) strict (t ∷ ts) (shorter strict s s.segment.bytes rest most are.0 room) are.2)
 
 abbrev headers_of : List Spelled → List Header
 headers_of ss = map (λ s. s.segment.header) ss

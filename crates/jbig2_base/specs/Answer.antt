@@ -1,7 +1,5 @@
--- How a definition answers, and how a call's answer compares with it (our own rule).
---
--- A definition answers a value or the first error, and never `OutOfMemory`. The steps of a definition
--- follow each other by `>>=`, so the order of the errors is the order of the steps.
+-- How a definition answers: a value or the first error, and never `OutOfMemory`; its steps follow each other by `>>=`, so
+-- the errors come in the order of the steps. And how a call's answer compares with that (our own rule).
 use Rattle.std.specs.Prelude.{◌≡◌, Bool, true, false, Option, Some, None, Result, Ok, Err, ◌⊎◌}
 use Rattle.jbig2_base.specs.declared.error.DecodeError.{DecodeError}
 use Rattle.jbig2_base.specs.declared.error.DecodeError.TheVariants.{OutOfMemory}
@@ -12,12 +10,10 @@ abbrev pub ◌>>=◌ : {A B E : Type 0} → Result A E → (A → Result B E) �
 (Ok x) >>= next = next x
 (Err e) >>= next = Err e
 
--- a test that refuses
 abbrev pub refuse_if : Bool → DecodeError → Result (Unit {0}) DecodeError
 refuse_if true e = Err e
 refuse_if false e = Ok tt
 
--- the value, or the error where there is none
 abbrev pub some_or : {A : Type 0} → DecodeError → Option A → Result A DecodeError
 some_or e None = Err e
 some_or e (Some x) = Ok x
@@ -27,7 +23,7 @@ abbrev pub Gives : {X Y : Type 0} → (X → Y) → Result X DecodeError → Res
 Gives view (Ok x) meant = meant ≡ Ok (view x)
 Gives view (Err e) meant = (e ≡ OutOfMemory) ⊎ (meant ≡ Err e)
 
--- The same for a call that takes no memory: the answer is exactly what was meant.
+-- the same for a call that takes no memory
 abbrev pub Answers : {X Y : Type 0} → (X → Y) → Result X DecodeError → Result Y DecodeError → Type 0
 Answers view (Ok x) meant = meant ≡ Ok (view x)
 Answers view (Err e) meant = meant ≡ Err e

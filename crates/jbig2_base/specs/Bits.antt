@@ -1,6 +1,5 @@
--- Bytes as a list of bits, high bit first, and a place in it (T.88, 7.1: numbers are big-endian). The words in `_next`
--- give what stands at a place, those in `_on` the place behind it. A refused read of bits moves to the end, a refused
--- read of bytes moves nothing.
+-- Bytes as a list of bits, high bit first, and a place in it (T.88, 7.1: numbers are big-endian). `_next` is what stands at
+-- a place, `_on` the place behind it. A refused read of bits moves to the end, a refused read of bytes moves nothing.
 use Rattle.std.specs.Prelude.{◌≡◌, ℕ, ◌+◌, ◌*◌, ◌/◌, ◌%◌, nat_lt, ◌==◌, List, [], ◌∷◌, length, take, drop, Option, Some, None, if◌then◌else◌}
 use Rattle.std.specs.List.{flat_map}
 use Rattle.std.specs.Int.{Width, byte_len, from_be_bytes}
@@ -20,7 +19,6 @@ IsAligned p = p.bit ≡ 0
 abbrev pub byte_bits : ℕ → List ℕ
 byte_bits b = b / 128 % 2 ∷ b / 64 % 2 ∷ b / 32 % 2 ∷ b / 16 % 2 ∷ b / 8 % 2 ∷ b / 4 % 2 ∷ b / 2 % 2 ∷ b / 1 % 2 ∷ []
 
--- the bits that are left to read
 unfoldable pub bits_left : Place → List ℕ
 bits_left p = drop p.bit (flat_map byte_bits p.bytes)
 
@@ -33,13 +31,13 @@ number_after front (b ∷ bs) = number_after (2 * front + b) bs
 abbrev pub bits_next : ℕ → List ℕ → Option ℕ
 bits_next n bits = if nat_lt (length bits) n then None else Some (number_after 0 (take n bits))
 
--- The place n bits on, or the end where the bits end first.
+-- the place behind them, or the end where the bits end first
 unfoldable pub bits_on : ℕ → Place → Place
 bits_on n p =
     if nat_lt (length (bits_left p)) n then start_of []
     else record { bytes = drop ((p.bit + n) / 8) p.bytes; bit = (p.bit + n) % 8 }
 
--- the beginning of the next byte, where a byte was begun
+-- the beginning of the next byte, if one was begun
 abbrev pub aligned : Place → Place
 aligned p = if p.bit == 0 then p else start_of (drop 1 p.bytes)
 
@@ -47,14 +45,13 @@ aligned p = if p.bit == 0 then p else start_of (drop 1 p.bytes)
 abbrev pub bytes_next : ℕ → Place → Option (List ℕ)
 bytes_next count p = if nat_lt (length p.bytes) count then None else Some (take count p.bytes)
 
--- The next bytes as a number, high byte first.
+-- the same as a number, high byte first
 abbrev pub number_next : Width → Place → Option ℕ
 number_next w p = if nat_lt (length p.bytes) (byte_len w) then None else Some (from_be_bytes w (take (byte_len w) p.bytes))
 
--- The place count bytes on; where the bytes end first a byte read leaves the place alone.
+-- the place behind them; where the bytes end first it stays
 abbrev pub bytes_on : ℕ → Place → Place
 bytes_on count p = if nat_lt (length p.bytes) count then p else record p { bytes = drop count p.bytes }
 
--- a byte that is not 0
 abbrev pub nonzero : ℕ → Option ℕ
 nonzero b = if b == 0 then None else Some b

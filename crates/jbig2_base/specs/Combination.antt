@@ -11,8 +11,7 @@ abbrev pub is_below : ℕ → ℤ → Bool
 is_below size (pos n) = nat_lt n size
 is_below size (negsuc n) = false
 
--- The page's pixel at column i of row j, when the source's top left pixel lies at column x of row y:
--- the operator joins the two pixels where the source has one.
+-- The pixel at column i of row j, when the source begins at column x of row y: joined where the source has one.
 unfoldable pub drawn_pixel : CombinationOperator → Grid → Grid → ℤ → ℤ → ℕ → ℕ → Bool
 drawn_pixel operator page source x y i j =
     if is_below source.width (pos i -ℤ x) && is_below source.height (pos j -ℤ y)

@@ -1,5 +1,4 @@
--- What the step bounds count (our own rule): each field is a number of calls that load or write pixels, or that decide.
--- A bound compares the counts before a call with those after it.
+-- What the step bounds count before and after a call (our own rule): what loads or writes pixels, and what decides.
 use Rattle.std.specs.Prelude.{◌≡◌, ℕ, ◌+◌}
 
 pub record Counts : Type 0 where

@@ -1,42 +1,62 @@
--- Files (T.88, Annex D): the random-access organisation, all headers and then all data (D.2), and the segments of a
--- file in either organisation. `file_at` takes a file's bytes and gives its header and its segments in order of their
--- numbers.
-use Rattle.std.specs.Prelude.{ℕ, suc, zero, Bool, ◌==◌, List, [], ◌∷◌, length, Result, Ok, if◌then◌else◌}
+-- Files (T.88, Annex D), in sequential organisation or in random access, all headers and then all data (D.2). `file_at`
+-- takes a file's bytes and gives its header and its segments; `SpellsFile` is the way back.
+use Rattle.std.specs.Prelude.{◌≡◌, ℕ, suc, zero, Bool, true, false, ◌==◌, List, [], ◌∷◌, ◌++◌, length, Some, Result, Ok, if◌then◌else◌}
+use Rattle.std.specs.List.{flat_map}
 use Rattle.jbig2_base.specs.Answer.{◌>>=◌}
 use Rattle.jbig2_base.specs.FileHeader.{file_header_at}
 use Rattle.jbig2_base.specs.Segment.{Header, SegmentView, header_at, segment_data_at}
-use Rattle.jbig2_base.specs.Sequential.{is_end_of_file, sequential}
-use Rattle.jbig2_base.specs.Sorted.{by_number}
+use Rattle.jbig2_base.specs.Sequential.{by_number, is_end_of_file, sequential}
 use Rattle.jbig2_base.specs.declared.error.DecodeError.{DecodeError}
 use Rattle.jbig2_base.specs.declared.file_header.FileHeader.{FileHeader}
 use Rattle.jbig2_base.specs.declared.file_header.FileOrganization.{FileOrganization}
 use Rattle.jbig2_base.specs.declared.file_header.FileOrganization.TheVariants.{Sequential, RandomAccess}
 
--- What follows a header: no other behind an end of file, else the headers in the bytes that are left.
-abbrev pub with_header : Header × List ℕ → (List ℕ → Result (List Header × List ℕ) DecodeError) → Result (List Header × List ℕ) DecodeError
-with_header h others = if is_end_of_file h.0.segment_type then Ok (h.0 ∷ [], h.1) else (others h.1 >>= λ hs. Ok (h.0 ∷ hs.0, hs.1))
-
--- The headers in the bytes, at most so many, and the bytes behind them; each has at least one byte.
+-- The headers in the bytes, at most so many, up to that of an end of file, and the bytes behind them; each has a byte.
 unfoldable pub headers_in : ℕ → Bool → List ℕ → Result (List Header × List ℕ) DecodeError
 headers_in zero strict bytes = Ok ([], bytes)
 headers_in (suc most) strict bytes =
-    if length bytes == 0 then Ok ([], bytes) else (header_at strict bytes >>= λ h. with_header h (headers_in most strict))
+    if length bytes == 0 then Ok ([], bytes)
+    else (header_at strict bytes >>= λ h. if is_end_of_file h.0.segment_type then Ok (h.0 ∷ [], h.1)
+    else (headers_in most strict h.1 >>= λ hs. Ok (h.0 ∷ hs.0, hs.1)))
 
 -- the segments with these headers, whose data stands one behind the other
 abbrev pub gathered : List Header → List ℕ → Result (List SegmentView) DecodeError
 gathered [] bytes = Ok []
 gathered (h ∷ hs) bytes = segment_data_at h bytes >>= λ p. gathered hs p.1 >>= λ ps. Ok (p.0 ∷ ps)
 
-abbrev pub random_access : Bool → List ℕ → Result (List SegmentView) DecodeError
-random_access strict bytes = headers_in (length bytes) strict bytes >>= λ hs. gathered hs.0 hs.1
-
 abbrev pub segments_by : FileOrganization → Bool → List ℕ → Result (List SegmentView) DecodeError
 segments_by Sequential strict bytes = sequential strict bytes
-segments_by RandomAccess strict bytes = random_access strict bytes
+segments_by RandomAccess strict bytes = headers_in (length bytes) strict bytes >>= λ hs. gathered hs.0 hs.1
 
--- A file: its header, and its segments in order of their numbers.
 unfoldable pub file_at : Bool → List ℕ → Result (FileHeader × List SegmentView) DecodeError
 file_at strict bytes = do
   header ← file_header_at bytes
   ps ← segments_by header.0.organization strict header.1
   Ok (header.0, by_number ps)
+
+-- The way back, from segments to the bytes of a file: a segment, and the bytes that spell its header.
+pub record Spelled : Type 0 where
+  pub header_bytes : List ℕ
+  pub segment : SegmentView
+
+-- The mode reads these bytes as this header, all of them, and the header states the data's length.
+pub record IsSpelled (strict : Bool) (s : Spelled) : Type 0 where
+  pub accepted : header_at strict s.header_bytes ≡ Ok (s.segment.header, [])
+  pub known : s.segment.header.data_length ≡ Some (length s.segment.bytes)
+
+-- Each segment is spelled, and the last one is the only end of file.
+abbrev pub AreSpelled : Bool → List Spelled → Type 0
+AreSpelled strict [] = ⊥
+AreSpelled strict (s ∷ []) = IsSpelled strict s × (is_end_of_file s.segment.header.segment_type ≡ true)
+AreSpelled strict (s ∷ t ∷ ts) =
+    IsSpelled strict s × (is_end_of_file s.segment.header.segment_type ≡ false) × AreSpelled strict (t ∷ ts)
+
+-- the bytes of these segments, in either organisation (D.1, D.2)
+abbrev pub spelling : FileOrganization → List Spelled → List ℕ
+spelling Sequential ss = flat_map (λ s. s.header_bytes ++ s.segment.bytes) ss
+spelling RandomAccess ss = flat_map (λ s. s.header_bytes) ss ++ flat_map (λ s. s.segment.bytes) ss
+
+-- The bytes are a file header and, in its organisation, these segments, which the mode accepts.
+abbrev pub SpellsFile : Bool → List ℕ → FileHeader → List Spelled → Type 0
+SpellsFile strict bytes header ss =
+    (file_header_at bytes ≡ Ok (header, spelling header.organization ss)) × AreSpelled strict ss

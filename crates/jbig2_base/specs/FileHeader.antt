@@ -1,6 +1,5 @@
 -- The header of a file (T.88, D.4): eight bytes that each file begins with, flags that say how it is organised, and the
--- number of its pages where it is known. `file_header_at` takes the bytes of a file and gives these fields with the
--- bytes behind them, or the first fault.
+-- number of its pages where it is known. `file_header_at` gives these fields and the bytes behind them.
 use Rattle.std.specs.Prelude.{ℕ, ◌/◌, ◌%◌, ◌==◌, Bool, true, false, not, List, [], ◌∷◌, Option, Some, None, Result, Ok, if◌then◌else◌}
 use Rattle.std.specs.Int.{w8, w32}
 use Rattle.std.specs.Str.{bytes_eq}
@@ -17,28 +16,22 @@ use Rattle.jbig2_base.specs.declared.file_header.FileOrganization.TheVariants.{S
 abbrev pub identification : List ℕ
 identification = 151 ∷ 74 ∷ 66 ∷ 50 ∷ 13 ∷ 10 ∷ 26 ∷ 10 ∷ []
 
-abbrev pub is_identification : List ℕ → Bool
-is_identification bytes = bytes_eq bytes identification
-
-abbrev pub organization_of : ℕ → FileOrganization
-organization_of flags = if flags % 2 == 1 then Sequential else RandomAccess
-
 -- the number of pages (D.4.3), unless it is unknown
 abbrev pub page_count_at : Bool → List ℕ → Result (Option ℕ × List ℕ) DecodeError
 page_count_at true bytes = Ok (None, bytes)
 page_count_at false bytes = number_at w32 bytes >>= λ n. Ok (Some n.0, n.1)
 
--- A file header, and the bytes behind it. The flags (D.4.2) have four reserved bits.
+-- the fields; the flags (D.4.2) have four reserved bits
 unfoldable pub file_header_at : List ℕ → Result (FileHeader × List ℕ) DecodeError
 file_header_at bytes = do
   front ← bytes_at 8 bytes
-  known ← refuse_if (not (is_identification front.0)) (Format InvalidHeader)
+  known ← refuse_if (not (bytes_eq front.0 identification)) (Format InvalidHeader)
   flags ← number_at w8 front.1
   clear ← refuse_if (not (flags.0 / 16 == 0)) (Format ReservedBits)
   pages ← page_count_at (flags.0 / 2 % 2 == 1) flags.1
   Ok (
     record {
-      organization = organization_of flags.0;
+      organization = if flags.0 % 2 == 1 then Sequential else RandomAccess;
       number_of_pages = pages.0;
       uses_extended_templates = flags.0 / 4 % 2 == 1;
       contains_coloured_regions = flags.0 / 8 % 2 == 1;

@@ -1,5 +1,5 @@
--- Bitmaps (T.88, 6): a width, a height and a pixel at each pair of whole numbers, white outside. `grid_of` makes one of
--- a function of column and row, and `pixel` takes it apart again.
+-- Bitmaps (T.88, 6): a width, a height and a pixel at each pair of whole numbers, white outside. `grid_of` makes one of a
+-- function of column and row, and `pixel` takes it apart again.
 use Rattle.std.specs.Prelude.{ℕ, ◌+◌, ◌*◌, ◌/◌, ◌%◌, Bool, true, false, not, ◌&&◌, if◌then◌else◌, nat_lt, List, map, slice_index_or, ℤ, pos}
 use Rattle.std.specs.List.{range_with_len}
 
@@ -29,11 +29,9 @@ pixel g _ _ = false
 abbrev pub blank : ℕ → ℕ → Bool → Grid
 blank w h black = grid_of w h (λ _ _. black)
 
--- a pixel as the number 0 or 1
 abbrev pub bit_number : Bool → ℕ
 bit_number true = 1
 bit_number false = 0
 
--- whether two pixels have one colour
 abbrev pub same_colour : Bool → Bool → Bool
 same_colour one other = if one then other else not other

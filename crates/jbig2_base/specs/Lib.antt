@@ -3,11 +3,9 @@ pub mod Bits
 pub mod Causes
 pub mod Combination
 pub mod Counts
-pub mod EndMarker
 pub mod ErrorTexts
 pub mod Fields
 pub mod File
-pub mod FileCauses
 pub mod FileHeader
 pub mod Grid
 pub mod Operator
@@ -18,6 +16,4 @@ pub mod Parts
 pub mod Segment
 pub mod Sequential
 pub mod Sizes
-pub mod Sorted
-pub mod Spelled
 pub mod inner

@@ -1,6 +1,5 @@
--- The combination operators (T.88, 7.4.1.5): which one a number of a region's flags names, and what each makes of a
--- pixel of the page and one of the source. `operator_of` takes the number and gives the operator or its refusal;
--- `combined_pixel` takes an operator and two pixels and gives one.
+-- The combination operators (T.88, 7.4.1.5): which one a number of a region's flags names, or its refusal, and what each
+-- makes of a pixel of the page and one of the source.
 use Rattle.std.specs.Prelude.{ℕ, Bool, ◌&&◌, ◌||◌, ◌==◌, not, if◌then◌else◌, Result, Ok, Err}
 use Rattle.jbig2_base.specs.declared.error.DecodeError.{DecodeError}
 use Rattle.jbig2_base.specs.declared.error.DecodeError.TheVariants.{Region}
@@ -17,7 +16,7 @@ operator_of n =
     else if n == 4 then Ok Replace
     else Err (Region InvalidCombinationOperator)
 
--- the pixel that comes out of the page's pixel p and the source's pixel s
+-- what becomes of the page's pixel p under the source's pixel s
 abbrev pub combined_pixel : CombinationOperator → Bool → Bool → Bool
 combined_pixel Or p s = p || s
 combined_pixel And p s = p && s

@@ -1,10 +1,9 @@
--- Page information (T.88, 7.4.8), and what a page begins as: its number, its size and its colour, from the first page
--- information among its segments, and from its stripes (7.4.10) where that leaves the height open. `information_at`
--- takes the data of one segment and gives its fields; `initial_page_of` takes a page's segments and gives what it
--- begins as; both may refuse.
-use Rattle.std.specs.Prelude.{ℕ, ◌+◌, ◌/◌, ◌%◌, ◌==◌, max, nat_lt, Bool, true, false, not, ◌&&◌, ◌||◌, List, [], ◌∷◌, length, take, Option, Some, None, Result, Ok, Err, if◌then◌else◌}
+-- Page information (T.88, 7.4.8), and what a page begins as: `initial_page_of` takes a page's segments and gives its number,
+-- its size and its colour, by the first page information, and by the stripes (7.4.10) where that leaves the height open.
+use Rattle.std.specs.Prelude.{ℕ, ◌+◌, ◌/◌, ◌%◌, ◌==◌, max, nat_lt, Bool, true, false, not, ◌&&◌, ◌||◌, List, [], ◌∷◌, length, take, Option, Result, Ok, Err, if◌then◌else◌}
 use Rattle.std.specs.Int.{w8, w16, w32, from_be_bytes}
 use Rattle.jbig2_base.specs.Answer.{◌>>=◌, refuse_if}
+use Rattle.jbig2_base.specs.Bits.{nonzero}
 use Rattle.jbig2_base.specs.Fields.{number_at}
 use Rattle.jbig2_base.specs.Segment.{SegmentView}
 use Rattle.jbig2_base.specs.declared.bitmap.operator.CombinationOperator.{CombinationOperator}
@@ -39,14 +38,7 @@ flags_of n = record {
   might_contain_coloured = is_set n 128;
 }
 
--- the striping (7.4.8.6)
-abbrev pub striping_of : ℕ → PageStriping
-striping_of n = record { is_striped = n / 32768 == 1; max_stripe_size = n % 32768 }
-
--- a resolution, where 0 says that it is unknown (7.4.8.3)
-abbrev pub resolution_of : ℕ → Option ℕ
-resolution_of n = if n == 0 then None else Some n
-
+-- the fields; a resolution of 0 is unknown (7.4.8.3), the last one is the striping (7.4.8.6)
 unfoldable pub information_at : List ℕ → Result (PageInformation × List ℕ) DecodeError
 information_at bytes = do
   width ← number_at w32 bytes
@@ -59,10 +51,10 @@ information_at bytes = do
     record {
       width = width.0;
       height = height.0;
-      x_resolution = resolution_of x.0;
-      y_resolution = resolution_of y.0;
+      x_resolution = nonzero x.0;
+      y_resolution = nonzero y.0;
       flags = flags_of flags.0;
-      striping = striping_of striping.0;
+      striping = record { is_striped = striping.0 / 32768 == 1; max_stripe_size = striping.0 % 32768 };
     },
     striping.1,
   )
@@ -75,19 +67,15 @@ abbrev pub is_end_of_stripe : SegmentType → Bool
 is_end_of_stripe types.EndOfStripe = true
 is_end_of_stripe _ = false
 
--- the first page information segment
 abbrev pub first_information : List SegmentView → Result SegmentView DecodeError
 first_information [] = Err (Format MissingPageInfo)
 first_information (p ∷ ps) = if is_page_information p.header.segment_type then Ok p else first_information ps
 
 -- How high a page is that ends with this stripe (7.4.10): its last row's number and one, 0 for what is no such stripe.
-abbrev pub last_row : List ℕ → ℕ
-last_row bytes = from_be_bytes w32 (take 4 bytes)
-
 abbrev pub stripe_height : SegmentView → ℕ
 stripe_height p =
-    if is_end_of_stripe p.header.segment_type && length p.bytes == 4 && not (last_row p.bytes == 4294967295) then last_row p.bytes + 1
-    else 0
+    let row = from_be_bytes w32 (take 4 p.bytes) in
+    if is_end_of_stripe p.header.segment_type && length p.bytes == 4 && not (row == 4294967295) then row + 1 else 0
 
 abbrev pub stripes_height : List SegmentView → ℕ
 stripes_height [] = 0
@@ -95,7 +83,9 @@ stripes_height (p ∷ ps) = max (stripe_height p) (stripes_height ps)
 
 -- A height of all ones is unknown; then the stripes tell it (7.4.8.2).
 abbrev pub height_of : ℕ → ℕ → Result ℕ DecodeError
-height_of stated stripes = if stated == 4294967295 then (refuse_if (stripes == 0) (Format UnknownPageHeight) >>= λ told. Ok stripes) else Ok stated
+height_of stated stripes =
+    if stated == 4294967295 then (refuse_if (stripes == 0) (Format UnknownPageHeight) >>= λ told. Ok stripes)
+    else Ok stated
 
 -- a page of this size has pixels, and no more than a bitmap may have
 abbrev pub initial_page_with : ℕ → PageInformation → ℕ → Result InitialPage DecodeError
@@ -104,7 +94,6 @@ initial_page_with number info height = do
   fits ← refuse_if (nat_lt 65535 info.width || nat_lt 65535 height) (Overflow BitmapDimension)
   Ok (record { number = number; width = info.width; height = height; default_pixel = info.flags.default_pixel })
 
--- What a page begins as, by its first page information and its stripes.
 unfoldable pub initial_page_of : List SegmentView → Result InitialPage DecodeError
 initial_page_of ps = do
   first ← first_information ps

@@ -1,6 +1,6 @@
 -- Parts that are cut out of bitmaps: the symbols of a collective bitmap (T.88, 6.5.9), the patterns of one (6.7.5), and
 -- the area of the page that a refinement takes (7.4.7.4). A part may reach past the bitmap's sides, and is white there.
-use Rattle.std.specs.Prelude.{ℕ, ◌+◌, Bool, ◌||◌, nat_lt, Result, Ok}
+use Rattle.std.specs.Prelude.{ℕ, ◌+◌, ◌||◌, nat_lt, Result, Ok}
 use Rattle.jbig2_base.specs.Answer.{◌>>=◌, refuse_if}
 use Rattle.jbig2_base.specs.Grid.{Grid, grid_of, pixel_at}
 use Rattle.jbig2_base.specs.declared.bitmap.part.Area.{Area}
@@ -8,12 +8,8 @@ use Rattle.jbig2_base.specs.declared.error.DecodeError.{DecodeError}
 use Rattle.jbig2_base.specs.declared.error.DecodeError.TheVariants.{Overflow}
 use Rattle.jbig2_base.specs.declared.error.OverflowError.TheVariants.{BitmapDimension}
 
--- the pixel at column x of row y of the part
-abbrev pub pixel_of_part : Grid → Area → ℕ → ℕ → Bool
-pixel_of_part g area x y = pixel_at g (area.left + x) (area.top + y)
-
 abbrev pub part_of : Grid → Area → Grid
-part_of g area = grid_of area.width area.height (pixel_of_part g area)
+part_of g area = grid_of area.width area.height (λ x y. pixel_at g (area.left + x) (area.top + y))
 
 -- neither side may pass 65535 (our own rule)
 abbrev pub part_or_overflow : Grid → Area → Result Grid DecodeError

@@ -1,18 +1,18 @@
--- Segments: their headers and their data (T.88, 7.2). `segment_at` takes the bytes at the beginning of a segment and
--- gives the segment and the bytes behind it, or the first fault.
-use Rattle.std.specs.Prelude.{ℕ, suc, zero, ◌+◌, ◌*◌, ◌/◌, ◌%◌, ◌==◌, nat_le, Bool, true, false, not, ◌&&◌, ◌||◌, List, [], ◌∷◌, take, drop, Option, Some, None, Result, Ok, if◌then◌else◌}
+-- Segments: their headers and their data (T.88, 7.2). `segment_at` takes the bytes at the beginning of a segment and gives
+-- the segment and the bytes behind it, or the first fault.
+use Rattle.std.specs.Prelude.{ℕ, suc, zero, ◌+◌, ◌*◌, ◌/◌, ◌%◌, ◌==◌, nat_le, nat_lt, Bool, true, false, not, ◌&&◌, ◌||◌, List, [], ◌∷◌, take, drop, length, slice_index, Option, Some, None, Result, Ok, Err, if◌then◌else◌}
 use Rattle.std.specs.List.{list_any}
-use Rattle.std.specs.Int.{w8, w16, w32, from_be_bytes}
+use Rattle.std.specs.Int.{Width, w8, w16, w32, byte_len, from_be_bytes}
 use Rattle.jbig2_base.specs.Answer.{◌>>=◌, refuse_if}
-use Rattle.jbig2_base.specs.EndMarker.{unknown_length_of}
 use Rattle.jbig2_base.specs.Fields.{bytes_at, number_at}
+use Rattle.jbig2_base.specs.Search.{place_from}
 use Rattle.jbig2_base.specs.declared.error.DecodeError.{DecodeError}
 use Rattle.jbig2_base.specs.declared.error.DecodeError.TheVariants.{Segment}
-use Rattle.jbig2_base.specs.declared.error.SegmentError.TheVariants.{UnknownType, InvalidReferredCount, InvalidReference, InvalidUnknownLength}
+use Rattle.jbig2_base.specs.declared.error.SegmentError.TheVariants.{UnknownType, InvalidReferredCount, InvalidReference, InvalidUnknownLength, MissingEndMarker}
 use Rattle.jbig2_base.specs.declared.segment.SegmentType.{SegmentType}
 use Rattle.jbig2_base.specs.declared.segment.SegmentType.TheVariants as types
 
--- A segment header (7.2.2 to 7.2.7).
+-- a segment's header (7.2.2 to 7.2.7)
 pub record Header : Type 0 where
   pub segment_number : ℕ
   pub segment_type : SegmentType
@@ -21,7 +21,6 @@ pub record Header : Type 0 where
   pub referred_to_segments : List ℕ
   pub data_length : Option ℕ
 
--- A segment: its header and its data.
 pub record SegmentView : Type 0 where
   pub header : Header
   pub bytes : List ℕ
@@ -61,8 +60,7 @@ abbrev pub is_immediate_generic : SegmentType → Bool
 is_immediate_generic types.ImmediateGenericRegion = true
 is_immediate_generic _ = false
 
--- A long count (7.2.4): 29 bits, the first five of them given, then a retention bit for each
--- referred segment and for this one, in whole bytes.
+-- A long count (7.2.4): 29 bits, the first five given, then retention bits for the referred segments and this one.
 unfoldable pub long_count_at : ℕ → List ℕ → Result (ℕ × List ℕ) DecodeError
 long_count_at high bytes = do
   low ← bytes_at 3 bytes
@@ -70,57 +68,45 @@ long_count_at high bytes = do
   Ok (from_be_bytes w32 (high ∷ low.0), retention.1)
 
 -- The count of referred segments (7.2.4): three bits, where 7 says that a long count follows.
-abbrev pub short_or_long_at : ℕ → List ℕ → Result (ℕ × List ℕ) DecodeError
-short_or_long_at first bytes = if first / 32 == 7 then long_count_at (first % 32) bytes else Ok (first / 32, bytes)
-
 unfoldable pub count_at : List ℕ → Result (ℕ × List ℕ) DecodeError
 count_at bytes = do
   first ← number_at w8 bytes
   coded ← refuse_if (first.0 / 32 == 5 || first.0 / 32 == 6) (Segment InvalidReferredCount)
-  short_or_long_at first.0 first.1
+  if first.0 / 32 == 7 then long_count_at (first.0 % 32) first.1 else Ok (first.0 / 32, first.1)
 
 -- A referred number has one, two or four bytes, by the segment's own number (7.2.5).
-abbrev pub number_size : ℕ → ℕ
-number_size own = if nat_le own 256 then 1 else if nat_le own 65536 then 2 else 4
+abbrev pub number_width : ℕ → Width
+number_width own = if nat_le own 256 then w8 else if nat_le own 65536 then w16 else w32
 
-abbrev pub coded_number : ℕ → List ℕ → ℕ
-coded_number own bytes =
-    if nat_le own 256 then from_be_bytes w8 (take 1 bytes)
-    else if nat_le own 65536 then from_be_bytes w16 (take 2 bytes)
-    else from_be_bytes w32 (take 4 bytes)
-
--- count referred numbers, one behind the other
-abbrev pub numbers_in : ℕ → ℕ → List ℕ → List ℕ
-numbers_in own zero bytes = []
-numbers_in own (suc count) bytes = coded_number own bytes ∷ numbers_in own count (drop (number_size own) bytes)
+-- so many numbers, one behind the other
+abbrev pub numbers_in : Width → ℕ → List ℕ → List ℕ
+numbers_in w zero bytes = []
+numbers_in w (suc count) bytes = from_be_bytes w (take (byte_len w) bytes) ∷ numbers_in w count (drop (byte_len w) bytes)
 
 -- The referred numbers (7.2.5): all are there, and each is smaller than the segment's own.
 unfoldable pub referred_at : ℕ → List ℕ → Result (List ℕ × List ℕ) DecodeError
 referred_at own bytes = do
   count ← count_at bytes
-  coded ← bytes_at (count.0 * number_size own) count.1
-  earlier ← refuse_if (list_any (λ n. nat_le own n) (numbers_in own count.0 coded.0)) (Segment InvalidReference)
-  Ok (numbers_in own count.0 coded.0, coded.1)
-
--- The page association (7.2.6), in four bytes or one.
-abbrev pub page_at : Bool → List ℕ → Result (ℕ × List ℕ) DecodeError
-page_at true bytes = number_at w32 bytes
-page_at false bytes = number_at w8 bytes
+  coded ← bytes_at (count.0 * byte_len (number_width own)) count.1
+  let numbers = numbers_in (number_width own) count.0 coded.0
+  earlier ← refuse_if (list_any (λ n. nat_le own n) numbers) (Segment InvalidReference)
+  Ok (numbers, coded.1)
 
 -- The data length (7.2.7): all ones is an unknown length, in strict mode for immediate generic regions alone.
 abbrev pub length_of : Bool → SegmentType → ℕ → Result (Option ℕ) DecodeError
 length_of strict kind n =
-    if n == 4294967295 then (refuse_if (strict && not (is_immediate_generic kind)) (Segment InvalidUnknownLength) >>= λ known. Ok None)
+    if n == 4294967295
+    then (refuse_if (strict && not (is_immediate_generic kind)) (Segment InvalidUnknownLength) >>= λ known. Ok None)
     else Ok (Some n)
 
--- A segment header, and the bytes behind it.
+-- A segment header. The page association (7.2.6) has four bytes or one.
 unfoldable pub header_at : Bool → List ℕ → Result (Header × List ℕ) DecodeError
 header_at strict bytes = do
   number ← number_at w32 bytes
   flags ← number_at w8 number.1
   known ← refuse_if (strict && is_reserved (type_of (flags.0 % 64))) (Segment UnknownType)
   referred ← referred_at number.0 flags.1
-  page ← page_at (flags.0 / 64 % 2 == 1) referred.1
+  page ← number_at (if flags.0 / 64 % 2 == 1 then w32 else w8) referred.1
   n ← number_at w32 page.1
   len ← length_of strict (type_of (flags.0 % 64)) n.0
   Ok (
@@ -135,19 +121,40 @@ header_at strict bytes = do
     n.1,
   )
 
--- The data of a segment, and the bytes behind it.
+-- the adaptive pixels' bytes of a generic region, by its flags (7.4.6.3)
+abbrev pub adaptive_bytes : ℕ → ℕ
+adaptive_bytes flags =
+    if flags % 2 == 1 then 0 else if flags / 2 % 4 == 0 then (if flags / 16 % 2 == 1 then 24 else 8) else 2
+
+-- the end marker stands at the front, by the region's flags, and a row count of four bytes behind it
+abbrev pub is_end_marker : ℕ → List ℕ → Bool
+is_end_marker flags bytes =
+    nat_le 6 (length bytes) && (if flags % 2 == 1 then slice_index bytes 0 == 0 && slice_index bytes 1 == 0
+    else slice_index bytes 0 == 255 && slice_index bytes 1 == 172)
+
+abbrev pub first_end_marker : ℕ → List ℕ → Result ℕ DecodeError
+first_end_marker flags bytes =
+    let place = place_from (λ k. is_end_marker flags (drop k bytes)) 0 (length bytes) in
+    if nat_lt place (length bytes) then Ok place else Err (Segment MissingEndMarker)
+
+-- How long data of unknown length is (7.2.7): the fields (7.4.6), what is coded up to the first end marker, and the row
+-- count.
+unfoldable pub unknown_length_of : List ℕ → Result ℕ DecodeError
+unknown_length_of bytes = do
+  information ← bytes_at 17 bytes
+  flags ← number_at w8 information.1
+  pixels ← bytes_at (adaptive_bytes flags.0) flags.1
+  place ← first_end_marker flags.0 pixels.1
+  Ok (18 + adaptive_bytes flags.0 + place + 6)
+
+-- the data behind a header (7.2.7)
 abbrev pub data_at : Option ℕ → List ℕ → Result (List ℕ × List ℕ) DecodeError
 data_at (Some n) bytes = bytes_at n bytes
 data_at None bytes = unknown_length_of bytes >>= λ n. bytes_at n bytes
 
--- A segment by its header and the data at the front, and the bytes behind it.
 abbrev pub segment_data_at : Header → List ℕ → Result (SegmentView × List ℕ) DecodeError
-segment_data_at header bytes = do
-  coded ← data_at header.data_length bytes
-  Ok (record { header = header; bytes = coded.0 }, coded.1)
+segment_data_at header bytes =
+    data_at header.data_length bytes >>= λ coded. Ok (record { header = header; bytes = coded.0 }, coded.1)
 
--- A segment: its header and the data behind it, and the bytes behind that.
 unfoldable pub segment_at : Bool → List ℕ → Result (SegmentView × List ℕ) DecodeError
-segment_at strict bytes = do
-  header ← header_at strict bytes
-  segment_data_at header.0 header.1
+segment_at strict bytes = header_at strict bytes >>= λ header. segment_data_at header.0 header.1

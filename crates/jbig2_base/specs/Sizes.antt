@@ -1,6 +1,5 @@
--- Bitmaps of one colour, and the sizes that this decoder keeps (our own rule; a bitmap's sides are 32-bit numbers in
--- T.88, 7.4.1). The first two take a width and a height, and give the blank grid, or the refusal of a size that is too
--- large; `words_of` takes a grid.
+-- Bitmaps of one colour, and the sizes that this decoder refuses (our own rule; a bitmap's sides are 32-bit numbers in
+-- T.88, 7.4.1).
 use Rattle.std.specs.Prelude.{ℕ, ◌+◌, ◌*◌, ◌/◌, Bool, false, ◌||◌, nat_lt, Result, Ok}
 use Rattle.jbig2_base.specs.declared.error.DecodeError.{DecodeError}
 use Rattle.jbig2_base.specs.declared.error.DecodeError.TheVariants.{Overflow}

@@ -3,6 +3,7 @@ pub mod Blocks
 pub mod Colour
 pub mod Combines
 pub mod Filled
+pub mod Fronts
 pub mod Layouts
 pub mod Packed
 pub mod SegmentViews

@@ -2,8 +2,9 @@
 ghost use Rattle.std.specs.Prelude.{◌≡◌, ℕ, ◌+◌, ◌-◌, ◌*◌, ◌/◌, ◌^◌, ◌<◌, ◌≤◌, OnErr, Ok, false, get_or, length};
 ghost use Rattle.jbig2_base.specs.Answer.{Gives};
 ghost use Rattle.jbig2_base.specs.Counts.{words_copied};
-ghost use Rattle.jbig2_base.specs.Grid.{blank, pixel_at, bit_number};
-ghost use Rattle.jbig2_base.specs.Causes.{SizesHaveCauses};
+ghost use Rattle.jbig2_base.specs.Grid.{Grid, blank, pixel_at, bit_number};
+ghost use Rattle.jbig2_base.specs.Causes.{HaveCauses, BreaksSides, BreaksArea};
+ghost use Rattle.jbig2_base.specs.Parts.{part_or_overflow};
 ghost use Rattle.jbig2_base.specs.Sizes.{blank_or_overflow, wide_or_overflow, words_of};
 ghost use Rattle.jbig2_base.specs.inner.Table.{IsTable};
 ghost use Rattle.jbig2_base.specs.inner.WordBits.{bit};
@@ -97,9 +98,12 @@ impl<A: Allocator> Bitmap<A> {
 
     /// Gives this bitmap another size and makes all pixels `default_pixel` (`true` is black). A
     /// side above 65535 is refused (`OverflowError::BitmapDimension`); a refusal changes nothing.
-    #[tactic(auto, using(crate::proofs::DataCauses::size_causes))]
+    #[tactic(auto, using(crate::proofs::DataCauses::blank_causes, crate::proofs::DataCauses::wide_causes, crate::proofs::DataCauses::part_causes))]
     pub fn reinitialize(&mut self, width: u32, height: u32, default_pixel: bool) -> Result<()>
-        ensures causes { SizesHaveCauses }
+        ensures causes { (w h : ℕ) → HaveCauses (blank_or_overflow w h) (λ black. BreaksSides w h) }
+        ensures wide_causes { (w : ℕ) → HaveCauses (wide_or_overflow w) (BreaksArea w) }
+        ensures part_causes { (g : Grid)
+            → HaveCauses (part_or_overflow g) (λ area. BreaksSides area.width area.height) }
         ensures value { Gives (λ _. self.new) result
             (blank_or_overflow width height default_pixel) }
         ensures err { OnErr result (self.new ≡ self.old) }

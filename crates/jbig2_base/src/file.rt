@@ -1,14 +1,14 @@
 //! Files and lists of segments (T.88, Annex D).
-ghost use Rattle.std.specs.Prelude.{◌≡◌, List, length, Ok};
+ghost use Rattle.std.specs.Prelude.{◌≡◌, Bool, List, length, map, Ok};
 ghost use Rattle.jbig2_base.specs.Answer.{Gives};
 ghost use Rattle.jbig2_base.specs.Bits.{IsAligned};
-ghost use Rattle.jbig2_base.specs.FileCauses.{SequencesHaveCauses, RandomAccessHasCauses, FilesHaveCauses};
-ghost use Rattle.jbig2_base.specs.File.{headers_in, gathered, random_access, segments_by, file_at};
-ghost use Rattle.jbig2_base.specs.Sorted.{by_number};
-ghost use Rattle.jbig2_base.specs.Spelled.{Spelled, SpellsFile, spelled_segments};
+ghost use Rattle.jbig2_base.specs.Causes.{HaveCauses, BreaksSequence, BreaksHeaders, BreaksGathered, BreaksSegmentsBy, BreaksFile};
+ghost use Rattle.jbig2_base.specs.File.{headers_in, gathered, segments_by, file_at, Spelled, SpellsFile};
 ghost use Rattle.jbig2_base.specs.declared.file_header.FileHeader.{FileHeader};
 ghost use Rattle.jbig2_base.specs.inner.SegmentViews.{header_views, segment_views, file_view};
-ghost use Rattle.jbig2_base.specs.Sequential.{is_cut_off, is_end_of_file, sequential};
+ghost use Rattle.jbig2_base.specs.Sequential.{by_number, is_cut_off, is_end_of_file, sequential, sorted_segments};
+ghost use Rattle.jbig2_base.specs.Segment.{Header};
+ghost use Rattle.jbig2_base.specs.declared.file_header.FileOrganization.TheVariants.{RandomAccess};
 
 use crate::error::{DecodeError, Result};
 use crate::file_header::parse_file_header;
@@ -121,28 +121,35 @@ fn gather_segments<'a, A: Allocator>(
 /// The segments in the bytes, all headers before all data (T.88, D.2).
 ///
 /// Bytes that end too early are an error in both modes.
-#[tactic(auto, using(crate::proofs::FileCauses::random_access_causes))]
+#[tactic(auto, using(crate::proofs::FileCauses::headers_causes, crate::proofs::FileCauses::gathered_causes, crate::proofs::FileCauses::random_access_causes))]
 fn parse_segments_random_access<'a, A: Allocator + Clone>(
     alloc: A,
     bytes: &'a [u8],
     strict: bool,
 ) -> Result<Vec<Segment<'a, A>, A>>
-    ensures causes { RandomAccessHasCauses }
-    ensures value { Gives (λ v. segment_views v.items) result (random_access strict bytes.now) }
+    ensures headers_causes { (strict : Bool)
+        → HaveCauses (λ bytes. headers_in (length bytes) strict bytes) (BreaksHeaders strict) }
+    ensures data_causes { (headers : List Header)
+        → HaveCauses (gathered headers) (BreaksGathered headers) }
+    ensures causes { (strict : Bool)
+        → HaveCauses (segments_by RandomAccess strict) (BreaksSegmentsBy RandomAccess strict) }
+    ensures value { Gives (λ v. segment_views v.items) result (segments_by RandomAccess strict bytes.now) }
 {
     let mut reader = Reader::new(bytes);
     let headers = parse_segment_headers(alloc.clone()?, &mut reader, strict)?;
     gather_segments(alloc, &mut reader, headers)
 }
 
-#[tactic(auto, using(crate::proofs::FileCauses::sequence_causes))]
+#[tactic(auto, using(crate::proofs::FileCauses::sequence_causes, crate::proofs::FileCauses::sorted_causes))]
 fn parse_segments<'a, A: Allocator + Clone>(
     alloc: A,
     bytes: &'a [u8],
     organization: FileOrganization,
     strict: bool,
 ) -> Result<Vec<Segment<'a, A>, A>>
-    ensures causes { SequencesHaveCauses }
+    ensures causes { (strict : Bool) → HaveCauses (sequential strict) (BreaksSequence strict) }
+    ensures sorted_causes { (strict : Bool)
+        → HaveCauses (sorted_segments strict) (BreaksSequence strict) }
     ensures value { Gives (λ v. segment_views v.items) result
         (segments_by organization strict bytes.now) }
 {
@@ -187,11 +194,11 @@ pub fn parse_file<'a, A: Allocator + Clone>(
     bytes: &'a [u8],
     strict: bool,
 ) -> Result<File<'a, A>>
-    ensures causes { FilesHaveCauses }
+    ensures causes { (strict : Bool) → HaveCauses (file_at strict) (BreaksFile strict) }
     ensures value { Gives file_view result (file_at strict bytes.now) }
     ensures either_organization { (header : FileHeader) (ss : List Spelled)
         → SpellsFile strict bytes.now header ss
-        → Gives file_view result (Ok (header, by_number (spelled_segments ss))) }
+        → Gives file_view result (Ok (header, by_number (map (λ s. s.segment) ss))) }
 {
     read_file(alloc, bytes, strict)
 }

@@ -1,9 +1,11 @@
 //! The header of a file (T.88, D.4).
-ghost use Rattle.std.specs.Prelude.{◌≡◌, ◌+◌, length, OnOk, ◌≤◌};
+ghost use Rattle.std.specs.Prelude.{◌≡◌, ◌+◌, ◌%◌, ◌==◌, if◌then◌else◌, length, OnOk, ◌≤◌};
+ghost use Rattle.std.specs.Str.{bytes_eq};
 ghost use Rattle.jbig2_base.specs.Answer.{Answers};
 ghost use Rattle.jbig2_base.specs.Bits.{IsAligned};
-ghost use Rattle.jbig2_base.specs.Causes.{FileHeadersHaveCauses};
-ghost use Rattle.jbig2_base.specs.FileHeader.{is_identification, organization_of, page_count_at, file_header_at};
+ghost use Rattle.jbig2_base.specs.Causes.{HaveCauses, BreaksFileHeader};
+ghost use Rattle.jbig2_base.specs.FileHeader.{identification, page_count_at, file_header_at};
+ghost use Rattle.jbig2_base.specs.declared.file_header.FileOrganization.TheVariants.{Sequential, RandomAccess};
 
 use crate::error::{DecodeError, FormatError, Result};
 use crate::field::{byte_field, bytes_field, u32_field};
@@ -30,13 +32,13 @@ pub struct FileHeader {
 }
 
 fn is_identification(bytes: &[u8]) -> bool
-    ensures { result ≡ is_identification bytes.now }
+    ensures { result ≡ bytes_eq bytes.now identification }
 {
     bytes == [0x97, 0x4A, 0x42, 0x32, 0x0D, 0x0A, 0x1A, 0x0A].as_slice()
 }
 
 fn organization(flags: u8) -> FileOrganization
-    ensures { result ≡ organization_of flags }
+    ensures { result ≡ (if flags % 2 == 1 then Sequential else RandomAccess) }
 {
     if flags % 2 == 1 {
         FileOrganization::Sequential
@@ -67,7 +69,7 @@ pub(crate) fn parse_file_header(reader: &mut Reader<'_>) -> Result<FileHeader>
     requires { IsAligned reader.old }
     ensures value { Answers (λ h. (h, reader.new.bytes)) result (file_header_at reader.old.bytes) }
     ensures aligned { IsAligned reader.new }
-    ensures causes { FileHeadersHaveCauses }
+    ensures causes { HaveCauses file_header_at BreaksFileHeader }
 {
     let front = bytes_field(reader, 8)?;
     if !is_identification(front) {

@@ -1,9 +1,9 @@
 //! Page information segments and the size of a page (T.88, 7.4.8 and 7.4.10).
-ghost use Rattle.std.specs.Prelude.{◌≡◌, ◌+◌, ◌<◌, ◌≤◌, Ok, IfOk, OnErr, OnOk, Option, length};
+ghost use Rattle.std.specs.Prelude.{◌≡◌, ◌+◌, ◌/◌, ◌%◌, ◌==◌, ◌<◌, ◌≤◌, Ok, IfOk, OnErr, OnOk, Option, length};
 ghost use Rattle.jbig2_base.specs.Answer.{Answers};
-ghost use Rattle.jbig2_base.specs.Bits.{IsAligned};
-ghost use Rattle.jbig2_base.specs.Causes.{InformationHasCauses, InitialPagesHaveCauses};
-ghost use Rattle.jbig2_base.specs.PageInfo.{default_operator_of, flags_of, striping_of, resolution_of, information_at, is_page_information, is_end_of_stripe, first_information, stripe_height, stripes_height, height_of, initial_page_with, initial_page_of};
+ghost use Rattle.jbig2_base.specs.Bits.{IsAligned, nonzero};
+ghost use Rattle.jbig2_base.specs.Causes.{HaveCauses, BreaksInformation, BreaksInitialPage};
+ghost use Rattle.jbig2_base.specs.PageInfo.{default_operator_of, flags_of, information_at, is_page_information, is_end_of_stripe, first_information, stripe_height, stripes_height, height_of, initial_page_with, initial_page_of};
 ghost use Rattle.jbig2_base.specs.Parsing.{Parses};
 ghost use Rattle.jbig2_base.specs.inner.SegmentViews.{segment_view, segment_views};
 
@@ -86,7 +86,10 @@ fn page_flags(flags: u8) -> PageFlags
 }
 
 fn page_striping(striping: u16) -> PageStriping
-    ensures { result ≡ striping_of striping }
+    ensures { result ≡ record {
+      is_striped = striping / 32768 == 1;
+      max_stripe_size = striping % 32768;
+    } }
 {
     PageStriping {
         is_striped: striping / 0x8000 == 1,
@@ -95,7 +98,7 @@ fn page_striping(striping: u16) -> PageStriping
 }
 
 fn resolution(number: u32) -> Option<u32>
-    ensures { result ≡ resolution_of number }
+    ensures { result ≡ nonzero number }
 {
     if number == 0 { None } else { Some(number) }
 }
@@ -107,7 +110,7 @@ fn resolution(number: u32) -> Option<u32>
 #[tactic(auto, using(crate::proofs::PageCauses::information_causes), unfolding(crate::specs::PageInfo::information_at))]
 pub fn parse_page_information(reader: &mut Reader<'_>) -> Result<PageInformation>
     requires { IsAligned reader.old }
-    ensures causes { InformationHasCauses }
+    ensures causes { HaveCauses information_at BreaksInformation }
     ensures parses { Parses reader.old reader.new result (λ p. p) (information_at reader.old.bytes) }
 {
     let mut ahead = reader.duplicate();
@@ -220,7 +223,7 @@ impl InitialPage {
     /// above 65535 pixels either way. Takes no memory.
     #[tactic(auto, using(crate::proofs::InitialCauses::initial_page_causes), unfolding(crate::specs::PageInfo::initial_page_of))]
     pub fn of_segments<A: Allocator>(segments: &[Segment<'_, A>]) -> Result<InitialPage>
-        ensures causes { InitialPagesHaveCauses }
+        ensures causes { HaveCauses initial_page_of BreaksInitialPage }
         ensures value { Answers (λ initial_page. initial_page) result
             (initial_page_of (segment_views segments.now)) }
         ensures fits { IfOk result

@@ -1,14 +1,15 @@
 //! Segments: headers and data (T.88, 7.2 and 7.3).
-ghost use Rattle.std.specs.Prelude.{◌≡◌, ◌+◌, ◌*◌, ◌/◌, ◌%◌, ◌^◌, ◌<◌, ◌≤◌, ◌==◌, ◌&&◌, nat_le, drop, length, OnOk, IfOk, IfSome, Ok, OnErr};
-ghost use Rattle.std.specs.Int.{w8, w32};
+ghost use Rattle.std.specs.Prelude.{◌≡◌, ◌+◌, ◌*◌, ◌/◌, ◌%◌, ◌^◌, ◌<◌, ◌≤◌, ◌==◌, ◌&&◌, if◌then◌else◌, Bool, nat_le, take, drop, length, OnOk, IfOk, IfSome, Ok, OnErr};
+ghost use Rattle.std.specs.Int.{w8, w32, byte_len, from_be_bytes};
 ghost use Rattle.std.specs.List.{list_any};
 ghost use Rattle.std.specs.Option.{ForSome};
 ghost use Rattle.std.specs.Bool.{OnTrue};
 ghost use Rattle.jbig2_base.specs.Answer.{Answers, Gives};
 ghost use Rattle.jbig2_base.specs.Bits.{IsAligned};
-ghost use Rattle.jbig2_base.specs.Causes.{HeadersHaveCauses, DataHasCauses, SegmentsHaveCauses};
+ghost use Rattle.jbig2_base.specs.Causes.{HaveCauses, BreaksHeader, BreaksData, BreaksSegment};
+ghost use Rattle.jbig2_base.specs.Fields.{number_at};
 ghost use Rattle.jbig2_base.specs.Parsing.{Parses, Takes};
-ghost use Rattle.jbig2_base.specs.Segment.{type_of, is_reserved, is_immediate_generic, short_or_long_at, long_count_at, count_at, number_size, coded_number, numbers_in, referred_at, page_at, length_of, header_at, data_at, segment_data_at, segment_at};
+ghost use Rattle.jbig2_base.specs.Segment.{Header, type_of, is_reserved, is_immediate_generic, long_count_at, count_at, number_width, numbers_in, referred_at, length_of, header_at, data_at, segment_data_at, segment_at};
 ghost use Rattle.jbig2_base.specs.inner.SegmentViews.{header_view, segment_view};
 
 mod end_marker;
@@ -134,7 +135,8 @@ fn long_count(reader: &mut Reader<'_>, high: u8) -> Result<u32>
 fn short_or_long_count(reader: &mut Reader<'_>, first: u8) -> Result<u32>
     requires { IsAligned reader.old }
     ensures value { Answers (λ x. (x, reader.new.bytes)) result
-        (short_or_long_at first reader.old.bytes) }
+        (if first / 32 == 7 then long_count_at (first % 32) reader.old.bytes
+        else Ok (first / 32, reader.old.bytes)) }
     ensures aligned { IsAligned reader.new }
     ensures bound { IfOk result (λ n. n < 2 ^ 29) }
     ensures shorter { OnOk result (length reader.new.bytes ≤ length reader.old.bytes) }
@@ -163,7 +165,7 @@ fn referred_count(reader: &mut Reader<'_>) -> Result<u32>
 
 /// How many bytes a referred number has, by the segment's own number (T.88, 7.2.5).
 fn number_size(own: u32) -> usize
-    ensures { result ≡ number_size own }
+    ensures { result ≡ byte_len (number_width own) }
 {
     if own <= 256 {
         1
@@ -175,8 +177,9 @@ fn number_size(own: u32) -> usize
 }
 
 fn coded_number(own: u32, bytes: &[u8]) -> u32
-    requires { number_size own ≤ length bytes.now }
-    ensures { result ≡ coded_number own bytes.now }
+    requires { byte_len (number_width own) ≤ length bytes.now }
+    ensures { let w = number_width own in
+        result ≡ from_be_bytes w (take (byte_len w) bytes.now) }
 {
     if own <= 256 {
         return u32::from(bytes[0]);
@@ -188,8 +191,8 @@ fn coded_number(own: u32, bytes: &[u8]) -> u32
 }
 
 fn numbers_in<A: Allocator>(alloc: A, own: u32, count: u32, bytes: &[u8]) -> Result<Vec<u32, A>>
-    requires { length bytes.now ≡ count * number_size own }
-    ensures { Gives (λ v. v.items) result (Ok (numbers_in own count bytes.now)) }
+    requires { length bytes.now ≡ count * byte_len (number_width own) }
+    ensures { Gives (λ v. v.items) result (Ok (numbers_in (number_width own) count bytes.now)) }
 {
     let size = number_size(own);
     let mut numbers = Vec::new(alloc);
@@ -230,7 +233,8 @@ fn referred_numbers<A: Allocator>(
 /// The page association, in four bytes or one (T.88, 7.2.6).
 fn page_association(reader: &mut Reader<'_>, long: bool) -> Result<u32>
     requires { IsAligned reader.old }
-    ensures value { Answers (λ x. (x, reader.new.bytes)) result (page_at long reader.old.bytes) }
+    ensures value { Answers (λ x. (x, reader.new.bytes)) result
+        (number_at (if long then w32 else w8) reader.old.bytes) }
     ensures aligned { IsAligned reader.new }
     ensures shorter { OnOk result (length reader.new.bytes ≤ length reader.old.bytes) }
 {
@@ -265,7 +269,7 @@ pub fn parse_segment_header<A: Allocator>(
     strict: bool,
 ) -> Result<SegmentHeader<A>>
     requires { IsAligned reader.old }
-    ensures causes { HeadersHaveCauses }
+    ensures causes { (strict : Bool) → HaveCauses (header_at strict) (BreaksHeader strict) }
     ensures parses { Takes reader.old reader.new result header_view
         (header_at strict reader.old.bytes) }
     ensures taken { OnOk result (length reader.new.bytes < length reader.old.bytes) }
@@ -317,7 +321,8 @@ pub fn parse_segment_data<'a, A: Allocator>(
     header: SegmentHeader<A>,
 ) -> Result<Segment<'a, A>>
     requires { IsAligned reader.old }
-    ensures causes { DataHasCauses }
+    ensures causes { (header : Header)
+        → HaveCauses (segment_data_at header) (BreaksData header.data_length) }
     ensures parses { Parses reader.old reader.new result segment_view
         (segment_data_at (header_view header) reader.old.bytes) }
 {
@@ -334,7 +339,7 @@ pub fn parse_segment<'a, A: Allocator>(
     strict: bool,
 ) -> Result<Segment<'a, A>>
     requires { IsAligned reader.old }
-    ensures causes { SegmentsHaveCauses }
+    ensures causes { (strict : Bool) → HaveCauses (segment_at strict) (BreaksSegment strict) }
     ensures parses { Takes reader.old reader.new result segment_view
         (segment_at strict reader.old.bytes) }
     ensures taken { OnOk result (length reader.new.bytes < length reader.old.bytes) }

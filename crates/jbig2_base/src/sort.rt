@@ -2,7 +2,7 @@
 ghost use Rattle.std.specs.Prelude.{◌≡◌, OnErr, Ok};
 ghost use Rattle.jbig2_base.specs.Answer.{Gives};
 ghost use Rattle.jbig2_base.specs.inner.SegmentViews.{segment_views};
-ghost use Rattle.jbig2_base.specs.Sorted.{by_number};
+ghost use Rattle.jbig2_base.specs.Sequential.{by_number};
 
 use crate::error::Result;
 use crate::segment::Segment;

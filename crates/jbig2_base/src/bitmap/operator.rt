@@ -1,7 +1,7 @@
 //! How a region is combined with what lies under it (T.88, 7.4.1.5).
 ghost use Rattle.std.specs.Prelude.{◌%◌};
 ghost use Rattle.jbig2_base.specs.Answer.{Answers};
-ghost use Rattle.jbig2_base.specs.Causes.{OperatorsHaveCauses};
+ghost use Rattle.jbig2_base.specs.Causes.{HaveCauses, BreaksOperator};
 ghost use Rattle.jbig2_base.specs.Operator.{operator_of};
 
 use crate::error::{DecodeError, RegionError, Result};
@@ -26,7 +26,7 @@ impl CombinationOperator {
     /// (`RegionError::InvalidCombinationOperator`).
     #[tactic(auto, using(crate::proofs::PageCauses::operator_causes))]
     pub fn from_value(value: u8) -> Result<CombinationOperator>
-        ensures causes { OperatorsHaveCauses }
+        ensures causes { HaveCauses operator_of BreaksOperator }
         ensures value { Answers (λ operator. operator) result (operator_of (value % 8)) }
     {
         match value % 8 {

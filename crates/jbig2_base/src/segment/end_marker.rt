@@ -1,10 +1,11 @@
 //! Where data of unknown length ends (T.88, 7.2.7).
-ghost use Rattle.std.specs.Prelude.{◌≡◌, ◌+◌, ◌≤◌, length, IfOk};
+ghost use Rattle.std.specs.Prelude.{◌≡◌, ◌+◌, ◌≤◌, length, IfOk, None};
 ghost use Rattle.std.specs.Bool.{OnTrue};
 ghost use Rattle.jbig2_base.specs.Answer.{Answers};
 ghost use Rattle.jbig2_base.specs.Bits.{IsAligned};
-ghost use Rattle.jbig2_base.specs.Causes.{UnknownLengthsHaveCauses};
-ghost use Rattle.jbig2_base.specs.EndMarker.{adaptive_bytes, is_end_marker, first_end_marker, coded_front_at, unknown_length_of};
+ghost use Rattle.jbig2_base.specs.Causes.{HaveCauses, BreaksData};
+ghost use Rattle.jbig2_base.specs.Segment.{adaptive_bytes, is_end_marker, first_end_marker, unknown_length_of};
+ghost use Rattle.jbig2_base.specs.inner.Fronts.{coded_front_at};
 
 use crate::error::{DecodeError, Result, SegmentError};
 use crate::field::{byte_field, bytes_field};
@@ -50,7 +51,7 @@ fn first_end_marker(flags: u8, bytes: &[u8]) -> Result<usize>
 }
 
 /// A generic region's flags; the reader then stands behind its adaptive pixels.
-#[tactic(auto, unfolding(crate::specs::EndMarker::coded_front_at))]
+#[tactic(auto, unfolding(crate::specs::inner::Fronts::coded_front_at))]
 fn coded_front(reader: &mut Reader<'_>) -> Result<u8>
     requires { IsAligned reader.old }
     ensures value { Answers (λ flags. (flags, reader.new.bytes)) result
@@ -67,9 +68,9 @@ fn coded_front(reader: &mut Reader<'_>) -> Result<u8>
 /// The length of the data at the front of `bytes` whose header leaves it open.
 ///
 /// `SegmentError::MissingEndMarker` where no end marker comes.
-#[tactic(auto, using(crate::proofs::DataCauses::unknown_causes), unfolding(crate::specs::EndMarker::unknown_length_of))]
+#[tactic(auto, using(crate::proofs::DataCauses::unknown_causes))]
 pub(super) fn unknown_length(bytes: &[u8]) -> Result<usize>
-    ensures causes { UnknownLengthsHaveCauses }
+    ensures causes { HaveCauses unknown_length_of (BreaksData None) }
     ensures value { Answers (λ n. n) result (unknown_length_of bytes.now) }
 {
     let mut reader = Reader::new(bytes);

@@ -1,5 +1,5 @@
 use Rattle.std.proofs.Common.{◌≡◌}
-use Rattle.jbig2_base.specs.Parts.{pixel_of_part}
+use Rattle.jbig2_base.specs.inner.Filled.{pixel_of_part}
 use Rattle.jbig2_base.specs.inner.Filled.{filled}
 use Rattle.jbig2_base.proofs.bitmap.Bitmap.part.Given as goal
 

@@ -1,7 +1,7 @@
 use Rattle.std.proofs.Common.{◌≡◌, ℕ, ◌-◌, ◌<◌, sym, ◌∙◌, ap, arith, drop, length, take, List, Bool, true, cond, ltb, Result, Ok, Err}
 use Rattle.std.proofs.lemmas.Bool.{cond-true, cond-false, lt-ltb, le-ltb}
 use Rattle.std.proofs.lemmas.List.{take_rest, length-drop}
-use Rattle.jbig2_base.specs.EndMarker.{is_end_marker}
+use Rattle.jbig2_base.specs.Segment.{is_end_marker}
 use Rattle.jbig2_base.specs.Search.{place_from}
 use Rattle.jbig2_base.specs.declared.error.DecodeError.{DecodeError}
 use Rattle.jbig2_base.specs.declared.error.DecodeError.TheVariants.{Segment}

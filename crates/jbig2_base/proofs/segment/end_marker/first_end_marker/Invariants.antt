@@ -1,5 +1,5 @@
 use Rattle.std.proofs.Common.{◌≡◌, ℕ, ◌<◌, drop, false}
-use Rattle.jbig2_base.specs.EndMarker.{is_end_marker}
+use Rattle.jbig2_base.specs.Segment.{is_end_marker}
 use Rattle.jbig2_base.proofs.segment.end_marker.first_end_marker.Given as goal
 
 abbrev pub invariant-loop-place : goal.invariant-loop-place

@@ -1,0 +1,18 @@
+use Rattle.std.proofs.Common.{rules, ap, List}
+use Rattle.jbig2_base.specs.Bits.{Place}
+use Rattle.jbig2_base.proofs.SegmentLemmas.{unknown_refused, unknown_unmarked, unknown_marked}
+use Rattle.jbig2_base.proofs.segment.end_marker.unknown_length.Goals as goal
+
+pub returns-in_err-flags-clause-value : goal.returns-in_err-flags-clause-value
+returns-in_err-flags-clause-value c =
+    let start = ap (λ (p : Place). p.bytes) c.new-reader.ensures in
+    search (rules, start, unknown_refused)
+
+pub returns-in_err-place-clause-value : goal.returns-in_err-place-clause-value
+returns-in_err-place-clause-value c =
+    let start = ap (λ (p : Place). p.bytes) c.new-reader.ensures in
+    search (rules, start, unknown_unmarked)
+
+pub returns-clause-value : goal.returns-clause-value
+returns-clause-value c =
+    unknown_marked c.args.bytes.now _ _ _ _ _ _ (ap (λ (p : Place). p.bytes) c.new-reader.ensures) c.in_ok-flags.ensures.value c.tail.ensures c.in_ok-place.ensures.value c.adaptive_bytes.ensures

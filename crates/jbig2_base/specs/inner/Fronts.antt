@@ -1,0 +1,15 @@
+-- What stands before coded data of unknown length (T.88, 7.2.7).
+use Rattle.std.specs.Prelude.{ℕ, List, Result, Ok}
+use Rattle.std.specs.Int.{w8}
+use Rattle.jbig2_base.specs.Answer.{◌>>=◌}
+use Rattle.jbig2_base.specs.Fields.{bytes_at, number_at}
+use Rattle.jbig2_base.specs.Segment.{adaptive_bytes}
+use Rattle.jbig2_base.specs.declared.error.DecodeError.{DecodeError}
+
+-- a generic region's flags, and the bytes behind its adaptive pixels
+unfoldable pub coded_front_at : List ℕ → Result (ℕ × List ℕ) DecodeError
+coded_front_at bytes = do
+  information ← bytes_at 17 bytes
+  flags ← number_at w8 information.1
+  pixels ← bytes_at (adaptive_bytes flags.0) flags.1
+  Ok (flags.0, pixels.1)
