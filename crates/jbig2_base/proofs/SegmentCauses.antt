@@ -6,7 +6,7 @@ use Rattle.std.specs.List.{list_any, list_all}
 use Rattle.std.proofs.lemmas.Bool.{eqb-true, leb-true, and_parts, or_cases, not-true, true≢false, false≢true}
 use Rattle.std.proofs.lemmas.List.{drop-drop, drop-take, take-take}
 use Rattle.jbig2_base.specs.Answer.{◌>>=◌, refuse_if}
-use Rattle.jbig2_base.specs.Causes.{HaveCauses, referred_count, referred_place, page_place, length_place, BreaksHeader, number_in}
+use Rattle.jbig2_base.specs.Causes.{HaveCauses, listed_types, referred_count, referred_place, page_place, length_place, BreaksHeader, number_in}
 use Rattle.jbig2_base.specs.Fields.{bytes_at, number_at, end_of_bytes}
 use Rattle.jbig2_base.specs.Segment.{Header, type_of, is_reserved, is_immediate_generic, long_count_at, count_at, number_width, numbers_in, referred_at, length_of, header_at}
 use Rattle.jbig2_base.specs.declared.error.DecodeError.{DecodeError}
@@ -17,9 +17,20 @@ use Rattle.jbig2_base.specs.declared.segment.SegmentType.TheVariants as types
 use Rattle.jbig2_base.proofs.CauseSteps.{Told, Steps, told-cause, told-next, next-steps, told-map, next-refusal, next-bytes, next-number, last-number}
 
 -- ---- the type
-reserved-type : (kind : SegmentType) → is_reserved kind ≡ true → kind ≡ types.Reserved
-reserved-type types.Reserved is = refl
-reserved-type _ is = absurd (false≢true is)
+first-or-later : (n t : ℕ) (ts : List ℕ) → n ≢ t → All (λ u. n ≢ u) ts → All (λ u. n ≢ u) (t ∷ ts)
+first-or-later n t ts first rest zero d below = first
+first-or-later n t ts first rest (suc k) d below = rest k d (omega (arith, below))
+
+others : (n : ℕ) (ts : List ℕ) → is_reserved (type_of n) ≡ true → list_all (λ t. not (is_reserved (type_of t))) ts ≡ true → All (λ t. n ≢ t) ts
+others n [] reserved known = λ k d below. absurd (omega (arith, below))
+others n (t ∷ ts) reserved known =
+    let parts = and_parts (not (is_reserved (type_of t))) (list_all (λ u. not (is_reserved (type_of u))) ts) known in
+    let differs : n ≢ t = λ same. true≢false (sym reserved ∙ ap (λ (m : ℕ). is_reserved (type_of m)) same ∙ not-true (is_reserved (type_of t)) parts.0) in
+    first-or-later n t ts differs (others n ts reserved parts.1)
+
+unlisted : (n : ℕ) → is_reserved (type_of n) ≡ true → All (λ t. n ≢ t) listed_types
+unfolding type_of
+unlisted n reserved = others n listed_types reserved refl
 
 other-type : (n : ℕ) → is_immediate_generic (type_of n) ≡ false → n ≢ 38
 unfolding type_of
@@ -170,7 +181,7 @@ header-told P strict bytes why =
     next-number R P w32 bytes 0 _ (omega arith) (λ cut. short (omega (arith, cut, least))) (λ four.
     next-number R P w8 bytes 4 _ four (λ cut. short (omega (arith, cut, least))) (λ five.
     next-refusal R P (strict && is_reserved (type_of kind)) _ _
-    (λ unknown. why (Segment UnknownType) ((and_parts strict (is_reserved (type_of kind)) unknown).0, five, reserved-type (type_of kind) (and_parts strict (is_reserved (type_of kind)) unknown).1)) (λ known.
+    (λ unknown. why (Segment UnknownType) ((and_parts strict (is_reserved (type_of kind)) unknown).0, five, unlisted kind (and_parts strict (is_reserved (type_of kind)) unknown).1)) (λ known.
     told-next (λ (x : List ℕ × List ℕ). (x.1 ≡ drop (page_place bytes) bytes) × (page_place bytes ≤ length bytes)) R P (referred_at (number_in w32 0 bytes) (drop 5 bytes)) _
     (referred-told P bytes five (λ cut. short (omega (arith, cut))) (λ bad. why (Segment InvalidReferredCount) bad) (λ wrong. why (Segment InvalidReference) wrong)) (λ referred at_page.
     told-next (λ (x : ℕ × List ℕ). (x.1 ≡ drop (length_place bytes) bytes) × (length_place bytes ≤ length bytes)) R P (number_at (cond wide w32 w8) referred.1) _

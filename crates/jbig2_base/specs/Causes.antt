@@ -5,7 +5,7 @@ use Rattle.std.specs.Int.{Width, w8, w32, byte_len, from_be_bytes}
 use Rattle.jbig2_base.specs.File.{headers_in}
 use Rattle.jbig2_base.specs.FileHeader.{file_header_at, identification}
 use Rattle.jbig2_base.specs.PageInfo.{first_information, stripes_height}
-use Rattle.jbig2_base.specs.Segment.{Header, SegmentView, adaptive_bytes, number_width, type_of, header_at, segment_data_at, segment_at}
+use Rattle.jbig2_base.specs.Segment.{Header, SegmentView, adaptive_bytes, number_width, header_at, segment_data_at, segment_at}
 use Rattle.jbig2_base.specs.declared.error.DecodeError.{DecodeError}
 use Rattle.jbig2_base.specs.declared.error.DecodeError.TheVariants.{Parse, Format, Segment, Region, Overflow}
 use Rattle.jbig2_base.specs.declared.error.FormatError.TheVariants.{InvalidHeader, ReservedBits, MissingPageInfo, UnknownPageHeight, EmptyPage}
@@ -88,11 +88,15 @@ page_place bytes = referred_place bytes + referred_count bytes * byte_len (numbe
 abbrev pub length_place : List ℕ → ℕ
 length_place bytes = page_place bytes + (if number_in w8 4 bytes / 64 % 2 == 1 then 4 else 1)
 
+-- the numbers of 7.3's types
+abbrev pub listed_types : List ℕ
+listed_types = 0 ∷ 4 ∷ 6 ∷ 7 ∷ 16 ∷ 20 ∷ 22 ∷ 23 ∷ 36 ∷ 38 ∷ 39 ∷ 40 ∷ 42 ∷ 43 ∷ 48 ∷ 49 ∷ 50 ∷ 51 ∷ 52 ∷ 53 ∷ 54 ∷ 62 ∷ []
+
 -- A header's first four bytes are its segment's number; byte 4 has the type in its low six bits.
 abbrev pub BreaksHeader : Bool → List ℕ → DecodeError → Type 0
 BreaksHeader strict bytes (Parse UnexpectedEof) = length bytes < length_place bytes + 4
 BreaksHeader strict bytes (Segment UnknownType) =
-    (strict ≡ true) × (5 ≤ length bytes) × (type_of (number_in w8 4 bytes % 64) ≡ types.Reserved)
+    (strict ≡ true) × (5 ≤ length bytes) × All (λ n. number_in w8 4 bytes % 64 ≢ n) listed_types
 BreaksHeader strict bytes (Segment InvalidReferredCount) =
     (6 ≤ length bytes) × ((number_in w8 5 bytes / 32 ≡ 5) ⊎ (number_in w8 5 bytes / 32 ≡ 6))
 BreaksHeader strict bytes (Segment InvalidReference) =

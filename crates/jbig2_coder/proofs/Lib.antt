@@ -27,6 +27,7 @@ mod PrefixFewest
 pub mod PrefixFree
 pub mod PrefixKraft
 pub mod PrefixReading
+mod PrefixSums
 pub mod PrefixStandard
 pub mod PrefixWalk
 pub mod PrefixWorked

@@ -7,8 +7,8 @@ use Rattle.std.proofs.lemmas.Bool.{ne_eqb, lt-leb, and_left, and_right}
 use Rattle.std.proofs.lemmas.List.Elements.{All-nil, All-cons, All-append}
 use Rattle.std.proofs.lemmas.List.Kept.{AllPairs-cons}
 use Rattle.jbig2_coder.specs.declared.huffman_table.line.TableLine.{TableLine}
-use Rattle.jbig2_coder.specs.PrefixCode.{Member, begins, IsFree, numbered}
-use Rattle.jbig2_coder.specs.inner.PrefixLevels.{codes_at}
+use Rattle.jbig2_coder.specs.PrefixCode.{Member, begins, IsFree}
+use Rattle.jbig2_coder.specs.inner.PrefixLevels.{numbered, codes_at}
 
 abbrev Apart : Member → Member → Type 0
 Apart a b = (begins a b ≡ false) × (begins b a ≡ false)

@@ -4,8 +4,9 @@ use Rattle.std.proofs.lemmas.Nat.{pow_pos}
 use Rattle.std.proofs.Math.Nat.{mul-lt-mul_of_pos_right}
 use Rattle.std.proofs.lemmas.Bool.{cases_lt, cases_eq, cond-true, cond-false, lt-ltb, le-ltb, le-leb, lt-leb, eq-eqb, ne_eqb, and_right, and_from}
 use Rattle.jbig2_coder.specs.declared.huffman_table.line.TableLine.{TableLine}
-use Rattle.jbig2_coder.specs.PrefixCode.{Member, share, weight, shorter, level, longest, prefix_code, is_crowded, numbered, codes_from}
-use Rattle.jbig2_coder.specs.inner.PrefixLevels.{nodes, codes_at, groups}
+use Rattle.jbig2_coder.specs.PrefixCode.{Member, share, weight, shorter, level, longest, prefix_code, is_crowded}
+use Rattle.jbig2_coder.proofs.PrefixSums.{members-from}
+use Rattle.jbig2_coder.specs.inner.PrefixLevels.{numbered, codes_from, nodes, codes_at, groups}
 
 share-none : (l len : ℕ) → l < len → share l len ≡ 0
 share-none l len h = cond-false (ltb 0 len && leb len l) (2 ^ (l - len)) 0 (and_right (ltb 0 len) (leb len l) (lt-leb len l h))
@@ -96,7 +97,7 @@ codes-are (suc n) k lines =
 -- the definition's members are those of the groups
 pub prefix_code-is : (lines : List TableLine) → prefix_code lines ≡ codes_at 0 0 (groups (longest lines) 1 lines)
 unfolding prefix_code
-prefix_code-is lines = codes-are (longest lines) 0 lines ∙ ap (λ (b : ℕ). codes_at 0 b (groups (longest lines) 1 lines)) (weight-none lines)
+prefix_code-is lines = members-from (longest lines) 1 lines ∙ codes-are (longest lines) 0 lines ∙ ap (λ (b : ℕ). codes_at 0 b (groups (longest lines) 1 lines)) (weight-none lines)
 
 -- how many codes are used up behind the groups
 abbrev end_at : ℕ → List (List TableLine) → ℕ

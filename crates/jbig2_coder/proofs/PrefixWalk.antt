@@ -4,10 +4,10 @@ use Rattle.std.proofs.Math.Nat.{div-div-eq-div-mul}
 use Rattle.std.proofs.lemmas.Bool.{cases_lt, cases_eq, cond-true, cond-false, lt-ltb, le-ltb, eq-eqb, ne_eqb, eqb-true, and_left, and_right, and_from, or_left, or_right, or_from}
 use Rattle.std.specs.List.{slice_get}
 use Rattle.jbig2_coder.specs.declared.huffman_table.line.TableLine.{TableLine}
-use Rattle.jbig2_coder.specs.PrefixCode.{Member, CodeReading, line_of, begins_longer, read_code, numbered}
+use Rattle.jbig2_coder.specs.PrefixCode.{Member, CodeReading, line_of, begins_longer, read_code}
 use Rattle.jbig2_coder.specs.inner.CodeParts.{found_or, refused}
 use Rattle.jbig2_coder.proofs.PrefixFewest.{read_code-is}
-use Rattle.jbig2_coder.specs.inner.PrefixLevels.{read_on, nodes, codes_at, walk}
+use Rattle.jbig2_coder.specs.inner.PrefixLevels.{read_on, numbered, nodes, codes_at, walk}
 
 -- the first line, or else the other
 abbrev pick : Option TableLine → Option TableLine → Option TableLine

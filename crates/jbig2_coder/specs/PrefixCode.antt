@@ -42,17 +42,21 @@ unfoldable pub shorter : ℕ → List TableLine → ℕ  -- those that lie under
 shorter l [] = 0
 shorter l (x ∷ xs) = (if nat_lt x.prefix_length l then share l x.prefix_length else 0) + shorter l xs
 
-abbrev pub numbered : ℕ → ℕ → List TableLine → List Member  -- these lines as codes of l bits, numbered from n on
-numbered l n [] = []
-numbered l n (x ∷ xs) = record { bits = l; number = n; line = x } ∷ numbered l (n + 1) xs
+-- The members of l bits, of all lines, where `earlier` stand before the others. A code (B.3) is the sum of 2^(l - len)
+-- over the lines that are shorter, or as long and earlier; each of those that are as long adds 1.
+abbrev pub members_of : ℕ → List TableLine → List TableLine → List TableLine → List Member
+members_of l lines earlier [] = []
+members_of l lines earlier (x ∷ xs) =
+    let others = members_of l lines (earlier ++ x ∷ []) xs in
+    let code = shorter l lines + length (level l earlier) in
+    if x.prefix_length == l then record { bits = l; number = code; line = x } ∷ others else others
 
--- The codes of n lengths from l on (B.3). In each length the first is the sum of 2^(l - len) over the shorter lines.
-abbrev pub codes_from : ℕ → ℕ → List TableLine → List Member
-codes_from zero l lines = []
-codes_from (suc n) l lines = numbered l (shorter l lines) (level l lines) ++ codes_from n (l + 1) lines
+abbrev pub members_from : ℕ → ℕ → List TableLine → List Member  -- the members of n lengths from l on
+members_from zero l lines = []
+members_from (suc n) l lines = members_of l lines [] lines ++ members_from n (l + 1) lines
 
 unfoldable pub prefix_code : List TableLine → List Member  -- the code of these lines, by length, then by place
-prefix_code lines = codes_from (longest lines) 1 lines
+prefix_code lines = members_from (longest lines) 1 lines
 
 unfoldable pub is_crowded : List TableLine → Bool  -- whether the sum of 2^-len over the codes exceeds 1
 is_crowded lines = nat_lt (2 ^ longest lines) (weight (longest lines) lines)

@@ -10,7 +10,11 @@ use Rattle.jbig2_coder.specs.declared.huffman_table.line.TableLine.{TableLine}
 use Rattle.jbig2_coder.specs.declared.huffman_table.custom.Header.{Header}
 use Rattle.jbig2_coder.specs.CustomTable.{Step, field}
 use Rattle.jbig2_coder.specs.Tables.{out_of_band}
-use Rattle.jbig2_coder.specs.PrefixCode.{Member, CodeReading, line_of, begins_longer, front_number, value_by}
+use Rattle.jbig2_coder.specs.PrefixCode.{Member, CodeReading, shorter, level, line_of, begins_longer, front_number, value_by}
+
+-- the code of a line of l bits
+abbrev pub code_of : ℕ → List TableLine → List TableLine → ℕ
+code_of l lines earlier = shorter l lines + length (level l earlier)
 
 abbrev pub ended : {A : Type 0} → ℕ → CodeReading A
 ended k = record { answer = Err (Parse UnexpectedEof); taken = k }

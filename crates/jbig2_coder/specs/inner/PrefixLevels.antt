@@ -2,7 +2,7 @@
 use Rattle.std.specs.Prelude.{◌≡◌, ℕ, zero, suc, ◌+◌, ◌-◌, ◌*◌, ◌/◌, ◌≤◌, nat_lt, List, [], ◌∷◌, ◌++◌, length, take, drop, slice_get, if◌then◌else◌}
 use Rattle.jbig2_coder.specs.declared.huffman_table.line.TableLine.{TableLine}
 use Rattle.jbig2_coder.specs.declared.huffman_table.levels.Level.{Level}
-use Rattle.jbig2_coder.specs.PrefixCode.{Member, CodeReading, numbered, level, line_of, begins_longer}
+use Rattle.jbig2_coder.specs.PrefixCode.{Member, CodeReading, shorter, level, line_of, begins_longer}
 use Rattle.jbig2_coder.specs.inner.CodeParts.{found_or, refused, ended}
 
 -- the lines of each level
@@ -14,6 +14,16 @@ groups_of lines (v ∷ vs) = take v.count (drop v.first lines) ∷ groups_of lin
 abbrev pub groups : ℕ → ℕ → List TableLine → List (List TableLine)
 groups zero l lines = []
 groups (suc n) l lines = level l lines ∷ groups n (l + 1) lines
+
+-- the codes n, n + 1 and so on, of l bits
+abbrev pub numbered : ℕ → ℕ → List TableLine → List Member
+numbered l n [] = []
+numbered l n (x ∷ xs) = record { bits = l; number = n; line = x } ∷ numbered l (n + 1) xs
+
+-- the codes of n lengths from l on
+abbrev pub codes_from : ℕ → ℕ → List TableLine → List Member
+codes_from zero l lines = []
+codes_from (suc n) l lines = numbered l (shorter l lines) (level l lines) ++ codes_from n (l + 1) lines
 
 -- A read bit by bit: of a code's bits k are taken, and spell v.
 abbrev pub read_on : List Member → ℕ → ℕ → List ℕ → CodeReading TableLine
