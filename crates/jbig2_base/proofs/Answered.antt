@@ -1,7 +1,7 @@
 -- Law: no definition of this crate answers an error that bytes cannot bring about.
 use Rattle.std.proofs.Common.{ℕ, zero, suc, eqb, Bool, true, false, cond, List, [], ◌∷◌, length, Option, Some, None, Result, Ok, Err}
 use Rattle.std.specs.Prelude.{IfErr}
-use Rattle.std.specs.Int.{Width, w8, w32}
+use Rattle.std.specs.Int.{Width, w32}
 use Rattle.jbig2_base.specs.Answer.{◌>>=◌, refuse_if, some_or}
 use Rattle.jbig2_base.specs.Bits.{Place, bits_left, bits_next}
 use Rattle.jbig2_base.specs.Fields.{bits_at, bytes_at, number_at, signed_at}

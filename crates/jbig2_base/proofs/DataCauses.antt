@@ -1,5 +1,5 @@
 -- Which rule the data of a segment breaks, and a segment as a whole; and the sizes of bitmaps.
-use Rattle.std.proofs.Common.{◌≡◌, ℕ, ◌+◌, ◌-◌, ◌*◌, ◌%◌, ◌<◌, ◌≤◌, eqb, leb, ltb, Bool, true, false, cond, List, [], ◌∷◌, take, drop, length, Option, Some, None, Result, Ok, Err, refl, sym, ◌∙◌, ap, subst, arith, inl, inr, ⊎_elim, length-drop}
+use Rattle.std.proofs.Common.{◌≡◌, ℕ, ◌+◌, ◌-◌, ◌*◌, ◌%◌, ◌<◌, ◌≤◌, eqb, leb, ltb, Bool, true, false, cond, List, [], ◌∷◌, take, drop, length, Option, Some, None, Result, Ok, Err, sym, ◌∙◌, ap, subst, arith, inl, inr, ⊎_elim, length-drop}
 use Rattle.std.specs.Prelude.{◌≢◌, ◌⊎◌, ◌&&◌, ◌||◌, slice_index, IfErr}
 use Rattle.std.specs.Int.{w8}
 use Rattle.std.proofs.lemmas.Bool.{cond_both, and_from, and_parts, or_cases, eq-eqb, le-leb, leb-true, ltb-true, ltb-false, true≢false}

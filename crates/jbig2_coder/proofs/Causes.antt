@@ -13,7 +13,7 @@ use Rattle.jbig2_base.specs.declared.error.ParseError.TheVariants.{UnexpectedEof
 use Rattle.jbig2_base.specs.declared.error.HuffmanError.TheVariants.{InvalidCode, UnexpectedOob}
 use Rattle.jbig2_base.specs.inner.BitLists.{AreBits}
 use Rattle.jbig2_base.proofs.BitFieldLemmas.{bits-drop, byte-bits}
-use Rattle.jbig2_coder.specs.Causes.{AreCrowded, Begins, BreaksCode, BreaksNumber, BreaksTable, BreaksValue, CodesHaveCauses, LeavesWord, NumbersHaveCauses, SelectionsHaveCauses, TablesHaveCauses, ValuesHaveCauses}
+use Rattle.jbig2_coder.specs.Causes.{AreCrowded, Begins, BreaksCode, BreaksNumber, BreaksTable, BreaksValue, CodesHaveCauses, LeavesWord, NumbersHaveCauses, ValuesHaveCauses}
 use Rattle.jbig2_coder.specs.PrefixCode.{CodeReading, Member, begins_longer, decoded_value, front_number, in_word, is_crowded, line_of, longest, moved, no_oob, prefix_code, read_code, table_of, value_by, weight}
 use Rattle.jbig2_coder.specs.inner.CodeParts.{ended, found_or, is_decided, refused, some_value, value_after, valued}
 use Rattle.jbig2_coder.specs.declared.huffman_table.line.TableLine.{TableLine}
@@ -317,10 +317,12 @@ table-cause P lines why =
     let Q : Result (List Member) DecodeError → Type 0 = λ r. IfErr r P in
     cond_both (is_crowded lines) (Err (Huffman InvalidCode)) (Ok (prefix_code lines)) Q (λ crowded. why (ltb-true (2 ^ longest lines) (weight (longest lines) lines) crowded)) (λ fits. tt)
 
-pub table_causes : TablesHaveCauses
+pub table_causes : HaveCauses table_of BreaksTable
+unfolding HaveCauses
 table_causes lines = table-cause (BreaksTable lines) lines (λ crowded. crowded)
 
 -- ---- the choice of tables
-pub selection_causes : SelectionsHaveCauses
+pub selection_causes : HaveCauses next_custom BreaksSelection
+unfolding HaveCauses
 selection_causes [] = refl
 selection_causes (table ∷ others) = tt

@@ -20,9 +20,6 @@ abbrev pub BreaksTable : List TableLine → DecodeError → Type 0
 BreaksTable lines (Huffman InvalidCode) = AreCrowded lines
 BreaksTable lines _ = ⊥
 
-abbrev pub TablesHaveCauses : Type 0
-TablesHaveCauses = (lines : List TableLine) → IfErr (table_of lines) (BreaksTable lines)
-
 abbrev pub Begins : List ℕ → Member → Type 0  -- a code of one bit at least begins the bits (B.4)
 Begins bits m = (1 ≤ m.bits) × (m.bits ≤ length bits) × (m.number ≡ front_number m.bits bits)
 
@@ -97,6 +94,3 @@ CustomTablesHaveCauses = (p : Place) → IfErr (custom_table p) (λ refusal. Bre
 abbrev pub BreaksSelection : List (List Member) → DecodeError → Type 0  -- a custom table, where none is left
 BreaksSelection customs (Huffman MissingTables) = customs ≡ []
 BreaksSelection customs _ = ⊥
-
-abbrev pub SelectionsHaveCauses : Type 0
-SelectionsHaveCauses = (customs : List (List Member)) → IfErr (next_custom customs) (BreaksSelection customs)

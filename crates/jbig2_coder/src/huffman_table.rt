@@ -5,7 +5,7 @@ ghost use Rattle.jbig2_base.specs.Bits.{bits_left};
 ghost use Rattle.jbig2_coder.specs.PrefixCode.{table_of, read_code, decoded_value, without_oob, AreShort, IsFree, Reads};
 ghost use Rattle.jbig2_coder.specs.Tables.{uniform};
 ghost use Rattle.jbig2_coder.specs.CustomTable.{custom_table, GivesAt, TablesAreFree};
-ghost use Rattle.jbig2_coder.specs.Causes.{CodesHaveCauses, CustomTablesHaveCauses, NumbersHaveCauses, TablesHaveCauses};
+ghost use Rattle.jbig2_coder.specs.Causes.{CodesHaveCauses, CustomTablesHaveCauses, NumbersHaveCauses};
 
 mod custom;
 mod first_table;
@@ -60,7 +60,7 @@ impl<A: Allocator + Clone> HuffmanTable<A> {
         ensures table { Gives (λ t. t) result (table_of lines.now) }
         ensures free { IfOk result IsFree }
         ensures law { TablesAreFree }
-        ensures causes { TablesHaveCauses }
+        ensures causes { HaveCauses table_of BreaksTable }
     {
         let depths = longest(lines);
         let mut sorted = Vec::with_capacity(alloc.clone()?, lines.len())?;

@@ -1,6 +1,5 @@
 //! The custom tables that a segment refers to (T.88, 7.4.2.1.6 and 7.4.3.1.6).
 ghost use Rattle.jbig2_base.specs.Answer.{Answers};
-ghost use Rattle.jbig2_coder.specs.Causes.{SelectionsHaveCauses};
 ghost use Rattle.jbig2_coder.specs.TableSelection.{next_custom};
 ghost use Rattle.jbig2_coder.specs.inner.TableViews.{customs_view};
 
@@ -15,7 +14,7 @@ pub fn next_custom<'a, T: Allocator>(
 ) -> Result<(&'a HuffmanTable<T>, &'a [&'a HuffmanTable<T>])>
     ensures value { let meant = next_custom (customs_view customs.now) in
         Answers (λ t. (t.0.now, customs_view t.1.now)) result meant }
-    ensures causes { SelectionsHaveCauses }
+    ensures causes { HaveCauses next_custom BreaksSelection }
 {
     if customs.is_empty() {
         return Err(DecodeError::Huffman(HuffmanError::MissingTables));

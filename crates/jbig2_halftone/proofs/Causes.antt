@@ -11,7 +11,7 @@ use Rattle.jbig2_base.specs.declared.error.DecodeError.TheVariants.{Overflow, Re
 use Rattle.jbig2_base.specs.declared.error.OverflowError.TheVariants.{GridDimension}
 use Rattle.jbig2_base.specs.declared.error.RegionError.TheVariants.{InvalidCombinationOperator}
 use Rattle.jbig2_region.specs.RegionInfo.{region_info_at}
-use Rattle.jbig2_halftone.specs.Causes.{BreaksHalftoneHeader, BreaksPatternHeader, HalftoneHeadersHaveCauses, PatternHeadersHaveCauses}
+use Rattle.jbig2_halftone.specs.Causes.{BreaksHalftoneHeader, BreaksPatternHeader}
 use Rattle.jbig2_halftone.specs.HalftoneHeader.{halftone_flags_at, halftone_grid_at, halftone_header_at}
 use Rattle.jbig2_halftone.specs.PatternHeader.{pattern_header_at, side_at}
 use Rattle.jbig2_halftone.specs.declared.halftone.header.HalftoneGridPositionAndSize.{HalftoneGridPositionAndSize}
@@ -26,8 +26,8 @@ told-side P bytes place rest s short none =
     told-next P _ Q (number_at w8 rest) _ (told-number P w8 s short) (λ n read.
     told-next P _ Q (refuse_if (eqb n.0 0) end_of_bytes) _ (told-refused P (eqb n.0 0) end_of_bytes (λ is. none (read.value ∙ eqb-true n.0 0 is))) (λ some is. read.behind))
 
-pub pattern_header_causes : PatternHeadersHaveCauses
-unfolding pattern_header_at
+pub pattern_header_causes : (strict : Bool) → HaveCauses (pattern_header_at strict) BreaksPatternHeader
+unfolding HaveCauses pattern_header_at
 pattern_header_causes strict bytes =
     let P : DecodeError → Type 0 = BreaksPatternHeader bytes in
     cause-last P _ (number_at w8 bytes) _ (told-number P w8 (at-start bytes) (λ short. inl (omega (arith, short)))) (λ flags a.
@@ -58,8 +58,8 @@ told-grid P bytes rest s short sides =
     told-next P _ Q (signed_at w32 height.1) _ (told-signed P w32 b.behind (λ missing. short (omega (arith, missing)))) (λ x c.
     told-next P _ Q (signed_at w32 x.1) _ (told-signed P w32 c (λ missing. short (omega (arith, missing)))) (λ y d. d)))))
 
-pub halftone_header_causes : HalftoneHeadersHaveCauses
-unfolding halftone_header_at
+pub halftone_header_causes : (strict : Bool) → HaveCauses (halftone_header_at strict) BreaksHalftoneHeader
+unfolding HaveCauses halftone_header_at
 halftone_header_causes strict bytes =
     let P : DecodeError → Type 0 = BreaksHalftoneHeader bytes in
     cause-last P _ (region_info_at bytes) _ (told-region_info P bytes (λ short. omega (arith, short)) (λ other. inl other) (λ colour. colour)) (λ info a.

@@ -13,7 +13,7 @@ use Rattle.jbig2_base.specs.declared.error.RegionError.TheVariants.{GrayScaleOut
 use Rattle.jbig2_base.proofs.Causes.{cause-next}
 use Rattle.jbig2_mmr.specs.T6.{Decoded, mmr_rows, rows_of}
 use Rattle.jbig2_region.specs.Generic.{generic_answer}
-use Rattle.jbig2_halftone.specs.Causes.{BreaksGrayScale, BreaksHalftone, BreaksPatterns, GrayScaleHasCauses, HalftonesHaveCauses, PatternsHaveCauses, plane_start}
+use Rattle.jbig2_halftone.specs.Causes.{BreaksGrayScale, BreaksHalftone, BreaksPatterns, plane_start}
 use Rattle.jbig2_halftone.specs.GrayScale.{GrayScale, gray_scale_image, gray_value, gray_values, image_is_too_large, mmr_planes, planes_of}
 use Rattle.jbig2_halftone.specs.Halftone.{cells_drawn, gray_params, halftone_answer, halftone_decoded, pattern_for, with_cell}
 use Rattle.jbig2_halftone.specs.HalftoneHeader.{HalftoneHeader}
@@ -41,8 +41,8 @@ told-mmr P strict w h bytes why =
     (λ is. let parts = and_parts strict (not (rows_of w h bytes).whole) is in why parts.0 (not-true (rows_of w h bytes).whole parts.1)) (λ is. refl)
 
 -- ---- patterns
-pub pattern_causes : PatternsHaveCauses
-unfolding patterns_decoded
+pub pattern_causes : HaveCauses patterns_decoded BreaksPatterns
+unfolding HaveCauses patterns_decoded
 pattern_causes h =
     let P : DecodeError → Type 0 = BreaksPatterns h in
     cause-last P _ (refuse_if (ltb 65535 (collective_width h)) (Overflow BitmapDimension)) _ (told-refused P (ltb 65535 (collective_width h)) (Overflow BitmapDimension) (λ wide. ltb-true 65535 _ wide)) (λ fits is.
@@ -84,7 +84,8 @@ told-image P p bytes large lacks =
     told-next P _ Q (refuse_if (image_is_too_large p) (Overflow BitmapDimension)) _ (told-refused P (image_is_too_large p) (Overflow BitmapDimension) (λ is. large (too-large p is))) (λ fits is.
     told-next P R Q (planes_of p bytes) _ (told P R (planes_of p bytes) (cause-coded P p bytes lacks) (λ planes r. r)) (λ planes r. (planes, r, refl)))
 
-pub gray_scale_causes : GrayScaleHasCauses
+pub gray_scale_causes : (p : GrayScale) → HaveCauses (gray_scale_image p) (BreaksGrayScale p)
+unfolding HaveCauses
 gray_scale_causes p bytes =
     let P : DecodeError → Type 0 = BreaksGrayScale p bytes in
     cause-of P _ (gray_scale_image p bytes) (told-image P p bytes (λ large. large) (λ strict mmr lacks. (strict, mmr, lacks)))
@@ -131,8 +132,8 @@ cause-answer h d =
     cause-last P _ (gray_scale_image (gray_params h d) h.bytes) _ (told-image P (gray_params h d) h.bytes (λ large. inr (inr large)) (λ strict mmr lacks. (strict, mmr, lacks))) (λ values read.
     cause-values h d _ values read.0 read.1 read.2)
 
-pub halftone_causes : HalftonesHaveCauses
-unfolding halftone_decoded
+pub halftone_causes : (h : HalftoneHeader) → HaveCauses (halftone_decoded h) (BreaksHalftone h)
+unfolding HaveCauses halftone_decoded
 halftone_causes h d =
     let P : DecodeError → Type 0 = BreaksHalftone h d in
     let width : ℕ = h.region_info.width in

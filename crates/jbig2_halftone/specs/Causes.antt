@@ -21,9 +21,6 @@ abbrev pub BreaksPatternHeader : List ℕ → DecodeError → Type 0
 BreaksPatternHeader bytes (Parse UnexpectedEof) = (length bytes < 7) ⊎ (number_in w8 1 bytes ≡ 0) ⊎ (number_in w8 2 bytes ≡ 0)
 BreaksPatternHeader bytes _ = ⊥
 
-abbrev pub PatternHeadersHaveCauses : Type 0
-PatternHeadersHaveCauses = (strict : Bool) (bytes : List ℕ) → IfErr (pattern_header_at strict bytes) (BreaksPatternHeader bytes)
-
 -- A halftone region's header has 38 bytes. The region information's flags stand at byte 16, those of the halftone at
 -- byte 17, and the width and the height of the grid at bytes 18 and 22.
 abbrev pub BreaksHalftoneHeader : List ℕ → DecodeError → Type 0
@@ -33,18 +30,12 @@ BreaksHalftoneHeader bytes Unsupported = number_in w8 16 bytes / 8 % 2 ≡ 1
 BreaksHalftoneHeader bytes (Overflow GridDimension) = (65535 < number_in w32 18 bytes) ⊎ (65535 < number_in w32 22 bytes)
 BreaksHalftoneHeader bytes _ = ⊥
 
-abbrev pub HalftoneHeadersHaveCauses : Type 0
-HalftoneHeadersHaveCauses = (strict : Bool) (bytes : List ℕ) → IfErr (halftone_header_at strict bytes) (BreaksHalftoneHeader bytes)
-
 -- The patterns side by side have too many columns; or, in strict mode, their MMR data lacks rows.
 abbrev pub BreaksPatterns : PatternHeader → DecodeError → Type 0
 BreaksPatterns h (Overflow BitmapDimension) = 65535 < (h.gray_max + 1) * h.pattern_width
 BreaksPatterns h (Region InvalidMmrData) =
     (h.strict ≡ true) × (h.mmr ≡ true) × ((rows_of ((h.gray_max + 1) * h.pattern_width) h.pattern_height h.bytes).whole ≡ false)
 BreaksPatterns h _ = ⊥
-
-abbrev pub PatternsHaveCauses : Type 0
-PatternsHaveCauses = (h : PatternHeader) → IfErr (patterns_decoded h) (BreaksPatterns h)
 
 -- where plane k of MMR data begins, behind the whole bytes that each plane before it used
 unfoldable pub plane_start : GrayScale → List ℕ → ℕ → List ℕ
@@ -61,9 +52,6 @@ BreaksGrayScale p bytes (Region InvalidMmrData) =
     × ((k : ℕ) × (k < p.bits_per_pixel) × ((rows_of p.width p.height (plane_start p bytes k)).whole ≡ false))
 BreaksGrayScale p bytes _ = ⊥
 
-abbrev pub GrayScaleHasCauses : Type 0
-GrayScaleHasCauses = (p : GrayScale) (bytes : List ℕ) → IfErr (gray_scale_image p bytes) (BreaksGrayScale p bytes)
-
 -- A side of the region or of the image of gray values is above 65535; the image's MMR data lacks rows; or, in strict
 -- mode, the value that the planes of the bytes give a cell is not below the number of the patterns.
 abbrev pub BreaksHalftone : HalftoneHeader → Patterns → DecodeError → Type 0
@@ -75,6 +63,3 @@ BreaksHalftone h d (Region GrayScaleOutOfRange) =
     (h.strict ≡ true) × ((planes : List Grid) × (x : ℕ) × (y : ℕ) × (planes_of (gray_params h d) h.bytes ≡ Ok planes)
     × (x < grid.width) × (y < grid.height) × (length d.grids ≤ gray_value planes x y))
 BreaksHalftone h d _ = ⊥
-
-abbrev pub HalftonesHaveCauses : Type 0
-HalftonesHaveCauses = (h : HalftoneHeader) (d : Patterns) → IfErr (halftone_decoded h d) (BreaksHalftone h d)

@@ -1,7 +1,6 @@
 //! Gray-scale images (T.88, Annex C).
 ghost use Rattle.std.specs.Prelude.{◌≡◌, ◌≤◌, [], Ok, OnOk};
 ghost use Rattle.jbig2_base.specs.Answer.{Gives, Leaves};
-ghost use Rattle.jbig2_halftone.specs.Causes.{GrayScaleHasCauses};
 ghost use Rattle.jbig2_halftone.specs.GrayScale.{gray_values, gray_scale_image, gray_contexts};
 ghost use Rattle.jbig2_halftone.specs.Steps.{CountsImage, CountsLanes};
 ghost use Rattle.jbig2_halftone.specs.inner.HalftoneViews.{gray_view};
@@ -74,7 +73,7 @@ pub fn decode_gray_scale_image<M: Allocator, A: Allocator + Clone, B: Allocator,
     ensures steps { OnOk result (CountsImage (gray_view params.now) bytes.now steps.old steps.new) }
     ensures lanes { OnOk result (CountsLanes (gray_view params.now) steps.old steps.new) }
     ensures no_planes { params.now.bits_per_pixel ≡ 0 → OnOk result (steps.new ≡ steps.old) }
-    ensures causes { GrayScaleHasCauses }
+    ensures causes { (p : GrayScale) → HaveCauses (gray_scale_image p) (BreaksGrayScale p) }
 {
     let too_long = params.width > MAX_DIMENSION || params.height > MAX_DIMENSION;
     if params.bits_per_pixel > 0 && too_long {

@@ -7,7 +7,6 @@ ghost use Rattle.jbig2_base.specs.Combination.{WritesWithin, combined, most_word
 ghost use Rattle.jbig2_base.specs.Grid.{blank};
 ghost use Rattle.jbig2_base.specs.Search.{code_length};
 ghost use Rattle.jbig2_region.specs.RegionInfo.{region_view};
-ghost use Rattle.jbig2_halftone.specs.Causes.{HalftonesHaveCauses};
 ghost use Rattle.jbig2_halftone.specs.GrayScale.{planes_of, gray_values};
 ghost use Rattle.jbig2_halftone.specs.Halftone.{gray_params, skip_mask, pattern_for, cells_drawn, halftone_answer, halftone_contexts, halftone_decoded, decoded_contexts};
 ghost use Rattle.jbig2_halftone.specs.HalftoneHeader.{header_view};
@@ -336,7 +335,7 @@ pub fn decode<D: Allocator, A: Allocator + Clone, B: Allocator, L: Ledger>(
         contexts.old.items) }
     ensures steps { OnOk result (CountsHalftone (header_view header.now)
         (dictionary_view dictionary.now) steps.old steps.new) }
-    ensures causes { HalftonesHaveCauses }
+    ensures causes { (h : HalftoneHeader) → HaveCauses (halftone_decoded h) (BreaksHalftone h) }
 {
     let region_info = &header.region_info;
     let mut bitmap = Bitmap::new_with(

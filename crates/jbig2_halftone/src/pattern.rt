@@ -5,7 +5,6 @@ ghost use Rattle.jbig2_base.specs.Bits.{IsAligned};
 ghost use Rattle.jbig2_region.specs.Generic.{generic_answer, contexts_after};
 ghost use Rattle.jbig2_region.specs.Templates.{left, right};
 ghost use Rattle.jbig2_region.specs.declared.template.GenericTemplatePixels.TheVariants.{Regular};
-ghost use Rattle.jbig2_halftone.specs.Causes.{PatternHeadersHaveCauses, PatternsHaveCauses};
 ghost use Rattle.jbig2_halftone.specs.PatternHeader.{side_at, pattern_header_at};
 ghost use Rattle.jbig2_halftone.specs.Patterns.{dictionary_view, collective_width, collective_header, patterns_of, patterns_decoded, dictionary_contexts};
 ghost use Rattle.jbig2_halftone.specs.inner.PatternViews.{header_view};
@@ -77,7 +76,7 @@ pub fn parse<'a>(reader: &mut Reader<'a>, strict: bool) -> Result<PatternDiction
     ensures width { IfOk result (λ h. 1 ≤ h.pattern_width) }
     ensures height { IfOk result (λ h. 1 ≤ h.pattern_height) }
     ensures stays { OnErr result (reader.new ≡ reader.old) }
-    ensures causes { PatternHeadersHaveCauses }
+    ensures causes { (strict : Bool) → HaveCauses (pattern_header_at strict) BreaksPatternHeader }
 {
     let mut ahead = reader.duplicate();
     let flags = byte_field(&mut ahead)?;
@@ -213,7 +212,7 @@ pub fn decode<A: Allocator + Clone, B: Allocator, L: Ledger>(
         (patterns_decoded (header_view header.now)) }
     ensures contexts { Leaves result contexts.new.items
         (dictionary_contexts (header_view header.now) contexts.old.items) }
-    ensures causes { PatternsHaveCauses }
+    ensures causes { HaveCauses patterns_decoded BreaksPatterns }
 {
     let width = u32::from(header.pattern_width);
     let height = u32::from(header.pattern_height);

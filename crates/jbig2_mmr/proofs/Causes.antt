@@ -6,7 +6,7 @@ use Rattle.std.proofs.lemmas.Bool.{and_cases, and_parts, cond_both, eqb-false, f
 use Rattle.jbig2_base.specs.declared.error.DecodeError.{DecodeError}
 use Rattle.jbig2_base.specs.declared.error.DecodeError.TheVariants.{Region}
 use Rattle.jbig2_base.specs.declared.error.RegionError.TheVariants.{InvalidMmrData}
-use Rattle.jbig2_mmr.specs.Causes.{BeginNone, BreaksMmr, BreaksMode, BreaksRow, BreaksRows, BreaksRun, BreaksRuns, MmrDataHasCauses}
+use Rattle.jbig2_mmr.specs.Causes.{BeginNone, BreaksMmr, BreaksMode, BreaksRow, BreaksRows, BreaksRun, BreaksRuns}
 use Rattle.jbig2_mmr.specs.T6.{Decoded, Head, Rows, Step, after_mode, after_pass, after_runs, after_vertical, b1_of, begins, bits_of, ends_block, grid_of_rows, mmr_rows, next_step, pixel_of, place_in, read_code, row, row_from, row_start, rows_from, rows_of, run, run_from, runs_of, ◌>>=◌}
 use Rattle.jbig2_mmr.proofs.T6Decoding.{or_fault}
 use Rattle.jbig2_mmr.specs.T6Codes.{black_runs, longer_runs, modes, white_runs}
@@ -221,5 +221,6 @@ cause-mmr P strict w h bytes why =
     (λ refused. let parts = and_parts strict (not r.whole) refused in let fault = all-fault w h bytes (not-true r.whole parts.1) in why (parts.0, fault.0, fault.1))
     (λ taken. tt)
 
-pub mmr_causes : MmrDataHasCauses
+pub mmr_causes : (strict : Bool) (w h : ℕ) → HaveCauses (mmr_rows strict w h) (BreaksMmr strict w h)
+unfolding HaveCauses
 mmr_causes strict w h bytes = cause-mmr (BreaksMmr strict w h bytes) strict w h bytes (λ why. why)

@@ -55,6 +55,3 @@ BreaksRows (suc n) w above bits =
 abbrev pub BreaksMmr : Bool → ℕ → ℕ → List ℕ → DecodeError → Type 0
 BreaksMmr strict w h bytes (Region InvalidMmrData) = (strict ≡ true) × (0 < w) × BreaksRows h w [] (bits_of bytes)
 BreaksMmr strict w h bytes _ = ⊥
-
-abbrev pub MmrDataHasCauses : Type 0
-MmrDataHasCauses = (strict : Bool) (w h : ℕ) (bytes : List ℕ) → IfErr (mmr_rows strict w h bytes) (BreaksMmr strict w h bytes)

@@ -3,7 +3,6 @@ ghost use Rattle.std.specs.Prelude.{◌≡◌, if◌then◌else◌, false, Ok, E
 ghost use Rattle.jbig2_base.specs.Answer.{Answers};
 ghost use Rattle.jbig2_base.specs.Counts.{KeepsLanes};
 ghost use Rattle.jbig2_base.specs.Grid.{blank};
-ghost use Rattle.jbig2_mmr.specs.Causes.{MmrDataHasCauses};
 ghost use Rattle.jbig2_mmr.specs.T6.{mmr_rows, grid_of_rows, rows_of};
 
 mod bits;
@@ -61,7 +60,7 @@ pub fn decode<A: Allocator, L: Ledger>(
 fn missing_rows(strict: bool, used: usize) -> Result<usize>
     ensures value { result ≡
         (if strict then Err (DecodeError.Region RegionError.InvalidMmrData) else Ok used) }
-    ensures causes { MmrDataHasCauses }
+    ensures causes { (strict : Bool) (w h : ℕ) → HaveCauses (mmr_rows strict w h) (BreaksMmr strict w h) }
 {
     if strict {
         return Err(DecodeError::Region(RegionError::InvalidMmrData));

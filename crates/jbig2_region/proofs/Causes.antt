@@ -13,7 +13,7 @@ use Rattle.jbig2_base.specs.declared.error.DecodeError.{DecodeError}
 use Rattle.jbig2_base.specs.declared.error.DecodeError.TheVariants as errors
 use Rattle.jbig2_base.specs.declared.error.RegionError.TheVariants.{InvalidCombinationOperator, InvalidDimension}
 use Rattle.jbig2_base.proofs.Causes.{cause-next, cause-number, cause-refused, number-there, same-ok, went}
-use Rattle.jbig2_region.specs.Causes.{BreaksRegionInfo, BreaksRows, RegionInfosHaveCauses, RowsHaveCauses}
+use Rattle.jbig2_region.specs.Causes.{BreaksRegionInfo, BreaksRows}
 use Rattle.jbig2_region.specs.GenericHeader.{rows_at}
 use Rattle.jbig2_region.specs.RegionInfo.{region_info_at}
 use Rattle.jbig2_region.specs.declared.region_info.RegionSegmentInfo.{RegionSegmentInfo}
@@ -75,7 +75,8 @@ info-cause P bytes at_end at_operator at_colour =
     (cause-refused P (eqb (flags.0 / 8 % 2) 1) errors.Unsupported (λ set. at_colour (whole, ap (λ (n : ℕ). n / 8 % 2) value ∙ eqb-true (flags.0 / 8 % 2) 1 set)))
     (λ plain plain_is. tt)))))))
 
-pub info_causes : RegionInfosHaveCauses
+pub info_causes : HaveCauses region_info_at BreaksRegionInfo
+unfolding HaveCauses
 info_causes bytes = info-cause (BreaksRegionInfo bytes) bytes (λ why. why) (λ why. why) (λ why. why)
 
 -- the sides that it gives, and the bytes behind it
@@ -115,6 +116,7 @@ rows-cause P true height bytes at_end at_rows =
     (λ more. at_rows refl (omega (arith, size, there.0)) (let above = ltb-true height rows.0 more in let value : number_in w32 (length bytes - 4) bytes ≡ rows.0 = ap (λ (x : ℕ × List ℕ). x.0) there.1 in omega (arith, above, value))))
     (λ fits fits_is. tt))
 
-pub rows_causes : RowsHaveCauses
+pub rows_causes : (unknown : Bool) (height : ℕ) → HaveCauses (rows_at unknown height) (BreaksRows unknown height)
+unfolding HaveCauses
 rows_causes unknown_length height bytes =
     rows-cause (BreaksRows unknown_length height bytes) unknown_length height bytes (λ unknown short. (unknown, short)) (λ unknown whole more. (unknown, whole, more))

@@ -12,7 +12,7 @@ use Rattle.jbig2_base.specs.declared.error.DecodeError.TheVariants as errors
 use Rattle.jbig2_base.specs.declared.error.OverflowError.TheVariants.{BitmapDimension, ReferenceOffset}
 use Rattle.jbig2_base.specs.declared.error.RegionError.TheVariants.{InvalidDimension}
 use Rattle.jbig2_base.proofs.Causes.{cause-next, cause-number, cause-refused, number-there, same-ok, went}
-use Rattle.jbig2_region.specs.Causes.{BreaksGeneric, BreaksGenericHeader, BreaksOffset, BreaksRefinementHeader, GenericHeadersHaveCauses, GenericRegionsHaveCauses, OffsetsHaveCauses, RefinedRegionsHaveCauses, RefinementHeadersHaveCauses, pixels_in}
+use Rattle.jbig2_region.specs.Causes.{BreaksGeneric, BreaksGenericHeader, BreaksOffset, BreaksRefinementHeader, pixels_in}
 use Rattle.jbig2_base.specs.Grid.{Grid}
 use Rattle.jbig2_mmr.specs.T6.{mmr_rows}
 use Rattle.jbig2_mmr.proofs.Causes.{cause-mmr}
@@ -57,8 +57,8 @@ four b n m is below = let all : ◌≡◌ {A = ℕ} (cond b 4 0) 4 = cond-true b
 abbrev pixels_by : ℕ → ℕ
 pixels_by flags = adaptive_pixel_count (eqb (flags % 2) 1) (eqb (flags / 16 % 2) 1) (template_of (flags / 2 % 4))
 
-pub generic_header_causes : GenericHeadersHaveCauses
-unfolding generic_header_at
+pub generic_header_causes : (unknown strict : Bool) → HaveCauses (generic_header_at unknown strict) (BreaksGenericHeader unknown)
+unfolding HaveCauses generic_header_at
 generic_header_causes unknown strict bytes =
     let P : DecodeError → Type 0 = BreaksGenericHeader unknown bytes in
     cause-next P (region_info_at bytes) _ (info-cause P bytes (λ short. omega arith) (λ why. why) (λ why. why)) (λ info info_is.
@@ -97,8 +97,8 @@ pixels-of : (b : Bool) → 2 * refinement_pixel_count (cond b refinements.Templa
 pixels-of true = refl
 pixels-of false = refl
 
-pub refinement_header_causes : RefinementHeadersHaveCauses
-unfolding refinement_header_at
+pub refinement_header_causes : HaveCauses refinement_header_at BreaksRefinementHeader
+unfolding HaveCauses refinement_header_at
 refinement_header_causes bytes =
     let P : DecodeError → Type 0 = BreaksRefinementHeader bytes in
     cause-next P (region_info_at bytes) _ (info-cause P bytes (λ short. omega arith) (λ why. why) (λ why. why)) (λ info info_is.
@@ -120,8 +120,8 @@ refinement_header_causes bytes =
     )))
     (λ fits fits_is. tt))))
 
-pub offset_causes : OffsetsHaveCauses
-unfolding offset
+pub offset_causes : (from : PlacedRegion) → HaveCauses (offset from) (BreaksOffset from)
+unfolding HaveCauses offset
 offset_causes from info =
     let P : DecodeError → Type 0 = BreaksOffset from info in
     let far : (n : ℕ) → is_far n ≡ true → 2 ^ 31 ≤ n = λ n is. leb-true 2147483648 n is in
@@ -151,7 +151,8 @@ offset_causes from info =
     (or_cases (a || b || c) d is))) (λ near near_is. tt))
 
 -- ---- decoded regions
-pub generic_causes : GenericRegionsHaveCauses
+pub generic_causes : HaveCauses generic_decoded BreaksGeneric
+unfolding HaveCauses
 generic_causes h =
     let P : DecodeError → Type 0 = BreaksGeneric h in
     let w = h.region_info.width in
@@ -163,7 +164,8 @@ generic_causes h =
     (λ arithmetic. tt))
     (λ g is. tt)
 
-pub refined_causes : RefinedRegionsHaveCauses
+pub refined_causes : (h : RefinementHeader) → HaveCauses (refined_decoded h) (λ from. BreaksOffset from h.region_info)
+unfolding HaveCauses
 refined_causes h from =
     let P : DecodeError → Type 0 = BreaksOffset from h.region_info in
     cause-next P (refined_answer h from) (λ g. Ok (placed h.region_info g))

@@ -11,7 +11,7 @@ use Rattle.jbig2_base.specs.declared.error.DecodeError.{DecodeError}
 use Rattle.jbig2_base.specs.declared.error.DecodeError.TheVariants as errors
 use Rattle.jbig2_base.specs.declared.error.TemplateError.TheVariants.{InvalidAtPixel}
 use Rattle.jbig2_base.proofs.Causes.{cause-next, cause-number, cause-refused, same-ok, went}
-use Rattle.jbig2_region.specs.Causes.{BreaksPixels, BreaksRefinementPixels, IsLate, RefinementPixelsHaveCauses, TemplatePixelsHaveCauses}
+use Rattle.jbig2_region.specs.Causes.{BreaksPixels, BreaksRefinementPixels, IsLate}
 use Rattle.jbig2_region.specs.RefinementTemplates.{refinement_pixel_count, refinement_pixels_at}
 use Rattle.jbig2_region.specs.Templates.{adaptive_pixel_at, adaptive_pixel_count, adaptive_pixels_at, free_pixel_at, is_earlier}
 use Rattle.jbig2_region.specs.declared.template.AdaptiveTemplatePixel.{AdaptiveTemplatePixel}
@@ -118,9 +118,9 @@ pixels-there (suc count) k bytes rest x at is =
     subst A (ap (λ (p : List AdaptiveTemplatePixel × List ℕ). p.1) (same-ok made x others.2))
     (at-place (k + 2 + 2 * count) (k + 2 * suc count) bytes others.0.1 (omega arith) (pixels-there count (k + 2) bytes first.0.1 others.0 (pixel-there k bytes rest first.0 at first.1) others.1))
 
-pub template_pixels_causes : TemplatePixelsHaveCauses
-template_pixels_causes mmr extended template bytes =
-    let count = adaptive_pixel_count mmr extended template in
+pub template_pixels_causes : (count : ℕ) → HaveCauses (adaptive_pixels_at count) (BreaksPixels count 0)
+unfolding HaveCauses
+template_pixels_causes count bytes =
     cause-pixels (BreaksPixels count 0 bytes) count 0 bytes bytes (at-start bytes) (λ short. short) (λ i below whole is. (i, below, whole, is))
 
 -- ---- those of a refinement
@@ -131,6 +131,7 @@ cause-refinement_pixels P refinements.Template0 k bytes rest at at_end =
     cause-next P (free_pixel_at first.1) _ (cause-free P (k + 2) bytes first.1 (free-there k bytes rest first at first_is).at (λ short. at_end (omega arith))) (λ second second_is. tt))
 cause-refinement_pixels P refinements.Template1 k bytes rest at at_end = tt
 
-pub refinement_pixels_causes : RefinementPixelsHaveCauses
+pub refinement_pixels_causes : (template : RefinementTemplate) → HaveCauses (refinement_pixels_at template) (BreaksRefinementPixels template)
+unfolding HaveCauses
 refinement_pixels_causes template bytes =
     cause-refinement_pixels (BreaksRefinementPixels template bytes) template 0 bytes bytes (at-start bytes) (λ short. omega arith)

@@ -28,9 +28,6 @@ BreaksRegionInfo bytes (errors.Region InvalidCombinationOperator) = (17 ≤ leng
 BreaksRegionInfo bytes errors.Unsupported = (17 ≤ length bytes) × (number_in w8 16 bytes / 8 % 2 ≡ 1)
 BreaksRegionInfo bytes _ = ⊥
 
-abbrev pub RegionInfosHaveCauses : Type 0
-RegionInfosHaveCauses = (bytes : List ℕ) → IfErr (region_info_at bytes) (BreaksRegionInfo bytes)
-
 -- ---- adaptive pixels (7.4.6.3)
 -- so many columns to the right and rows down: at the pixel that is decoded, or behind it
 abbrev pub IsLate : ℤ → ℤ → Type 0
@@ -44,21 +41,12 @@ BreaksPixels count place bytes (errors.Template InvalidAtPixel) =
     × IsLate (cast_signed w8 (number_in w8 (place + 2 * k) bytes)) (cast_signed w8 (number_in w8 (place + 2 * k + 1) bytes))
 BreaksPixels count place bytes _ = ⊥
 
-abbrev pub TemplatePixelsHaveCauses : Type 0
-TemplatePixelsHaveCauses =
-    (mmr extended : Bool) (template : Template) (bytes : List ℕ) → let count = adaptive_pixel_count mmr extended template in
-    IfErr (adaptive_pixels_at count bytes) (BreaksPixels count 0 bytes)
-
 -- ---- generic regions (7.4.6): where the segment's length is unknown the last four bytes are the number of rows
 abbrev pub BreaksRows : Bool → ℕ → List ℕ → DecodeError → Type 0
 BreaksRows unknown height bytes (errors.Parse UnexpectedEof) = (unknown ≡ true) × (length bytes < 4)
 BreaksRows unknown height bytes (errors.Region InvalidDimension) =
     (unknown ≡ true) × (4 ≤ length bytes) × (height < number_in w32 (length bytes - 4) bytes)
 BreaksRows unknown height bytes _ = ⊥
-
-abbrev pub RowsHaveCauses : Type 0
-RowsHaveCauses =
-    (unknown : Bool) (height : ℕ) (bytes : List ℕ) → IfErr (rows_at unknown height bytes) (BreaksRows unknown height bytes)
 
 -- how many adaptive pixels the flags at byte 17 ask for; they stand from byte 18 on
 abbrev pub pixels_in : List ℕ → ℕ
@@ -80,19 +68,10 @@ BreaksGenericHeader unknown bytes (errors.Template InvalidAtPixel) =
     BreaksPixels (pixels_in bytes) 18 bytes (errors.Template InvalidAtPixel)
 BreaksGenericHeader unknown bytes e = BreaksRegionInfo bytes e
 
-abbrev pub GenericHeadersHaveCauses : Type 0
-GenericHeadersHaveCauses =
-    (unknown strict : Bool) (bytes : List ℕ)
-    → IfErr (generic_header_at unknown strict bytes) (BreaksGenericHeader unknown bytes)
-
 -- ---- refinements (7.4.7), whose adaptive pixels may lie anywhere
 abbrev pub BreaksRefinementPixels : RefinementTemplate → List ℕ → DecodeError → Type 0
 BreaksRefinementPixels template bytes (errors.Parse UnexpectedEof) = length bytes < 2 * refinement_pixel_count template
 BreaksRefinementPixels template bytes _ = ⊥
-
-abbrev pub RefinementPixelsHaveCauses : Type 0
-RefinementPixelsHaveCauses =
-    (template : RefinementTemplate) (bytes : List ℕ) → IfErr (refinement_pixels_at template bytes) (BreaksRefinementPixels template bytes)
 
 -- region information, the flags at byte 17, and four bytes of adaptive pixels at template 0, where bit 0 is clear
 abbrev pub BreaksRefinementHeader : List ℕ → DecodeError → Type 0
@@ -102,9 +81,6 @@ BreaksRefinementHeader bytes (errors.Overflow BitmapDimension) =
     (18 ≤ length bytes) × ((65535 < number_in w32 0 bytes) ⊎ (65535 < number_in w32 4 bytes))
 BreaksRefinementHeader bytes e = BreaksRegionInfo bytes e
 
-abbrev pub RefinementHeadersHaveCauses : Type 0
-RefinementHeadersHaveCauses = (bytes : List ℕ) → IfErr (refinement_header_at bytes) (BreaksRefinementHeader bytes)
-
 abbrev pub BreaksOffset : PlacedRegion → RegionSegmentInfo → DecodeError → Type 0
 BreaksOffset from info (errors.Region InvalidDimension) =
     (from.grid.width < info.width) ⊎ (from.grid.height < info.height)
@@ -112,15 +88,6 @@ BreaksOffset from info (errors.Overflow ReferenceOffset) =
     ((2 ^ 31 ≤ from.x_location) ⊎ (2 ^ 31 ≤ info.x_location)) ⊎ ((2 ^ 31 ≤ from.y_location) ⊎ (2 ^ 31 ≤ info.y_location))
 BreaksOffset from info _ = ⊥
 
-abbrev pub OffsetsHaveCauses : Type 0
-OffsetsHaveCauses = (from : PlacedRegion) (info : RegionSegmentInfo) → IfErr (offset from info) (BreaksOffset from info)
-
 -- ---- decoded regions: of a generic one the MMR data, of a refined one the reference
 abbrev pub BreaksGeneric : GenericHeader → DecodeError → Type 0
 BreaksGeneric h e = (h.mmr ≡ true) × BreaksMmr h.strict h.region_info.width h.region_info.height h.bytes e
-
-abbrev pub GenericRegionsHaveCauses : Type 0
-GenericRegionsHaveCauses = (h : GenericHeader) → IfErr (generic_decoded h) (BreaksGeneric h)
-
-abbrev pub RefinedRegionsHaveCauses : Type 0
-RefinedRegionsHaveCauses = (h : RefinementHeader) (from : PlacedRegion) → IfErr (refined_decoded h from) (BreaksOffset from h.region_info)

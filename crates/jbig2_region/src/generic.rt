@@ -6,7 +6,6 @@ ghost use Rattle.jbig2_base.specs.Parsing.{Parses};
 ghost use Rattle.jbig2_region.specs.Generic.{contexts_after, generic_answer, generic_decoded, refused_grid};
 ghost use Rattle.jbig2_region.specs.RegionInfo.{IsWhiteFor, region_view};
 ghost use Rattle.jbig2_region.specs.inner.Layouts.{CountsGeneric};
-ghost use Rattle.jbig2_region.specs.Causes.{GenericHeadersHaveCauses, GenericRegionsHaveCauses, RowsHaveCauses};
 ghost use Rattle.jbig2_region.specs.GenericHeader.{header_view, rows_at, generic_header_at, IsParsed};
 ghost use Rattle.jbig2_region.specs.Templates.{IsFilled};
 
@@ -48,7 +47,7 @@ pub struct GenericRegionHeader<'a> {
 fn rows<'a>(unknown_length: bool, height: u32, bytes: &'a [u8]) -> Result<(u32, &'a [u8])>
     ensures value { Answers (λ rows. (rows.0, rows.1.now)) result
         (rows_at unknown_length height bytes.now) }
-    ensures causes { RowsHaveCauses }
+    ensures causes { (unknown : Bool) (height : ℕ) → HaveCauses (rows_at unknown height) (BreaksRows unknown height) }
 {
     if !unknown_length {
         return Ok((height, bytes));
@@ -81,7 +80,7 @@ pub fn parse<'a>(
     ensures parsed { IfOk result (λ h. IsParsed (header_view h)) }
     ensures unused { IfOk result (λ h. IsFilled h.adaptive_template_pixels
         (header_view h).adaptive_template_pixels) }
-    ensures causes { GenericHeadersHaveCauses }
+    ensures causes { (unknown strict : Bool) → HaveCauses (generic_header_at unknown strict) (BreaksGenericHeader unknown) }
 {
     let mut ahead = reader.duplicate();
     let mut region_info = parse_region_segment_info(&mut ahead)?;
@@ -166,7 +165,7 @@ pub fn decode<A: Allocator, B: Allocator, L: Ledger>(
     ensures contexts { Leaves result contexts.new.items
         (contexts_after (header_view header.now) contexts.old.items) }
     ensures steps { OnOk result (CountsGeneric (header_view header.now) steps.old steps.new) }
-    ensures causes { GenericRegionsHaveCauses }
+    ensures causes { HaveCauses generic_decoded BreaksGeneric }
 {
     let region_info = &header.region_info;
     let mut bitmap = Bitmap::new(alloc, region_info.width, region_info.height)?;

@@ -3,7 +3,6 @@ ghost use Rattle.std.specs.Prelude.{◌≡◌, IfOk, OnErr, OnOk};
 ghost use Rattle.jbig2_base.specs.Answer.{Answers, Gives, Leaves};
 ghost use Rattle.jbig2_base.specs.Bits.{IsAligned};
 ghost use Rattle.jbig2_base.specs.Parsing.{Parses};
-ghost use Rattle.jbig2_region.specs.Causes.{OffsetsHaveCauses, RefinedRegionsHaveCauses, RefinementHeadersHaveCauses};
 ghost use Rattle.jbig2_region.specs.RegionInfo.{IsWhiteFor, region_view};
 ghost use Rattle.jbig2_region.specs.Refinement.{is_far, is_smaller, offset, refined_answer, refined_contexts, refined_decoded};
 ghost use Rattle.jbig2_region.specs.RunBytes.{CountsRefined};
@@ -60,7 +59,7 @@ pub fn parse<'a>(reader: &mut Reader<'a>) -> Result<GenericRefinementRegionHeade
     ensures parsed { IfOk result (λ h. IsRefinement (header_view h)) }
     ensures unused { IfOk result (λ h. h.adaptive_template_pixels
         ≡ filled 2 (header_view h).adaptive_template_pixels) }
-    ensures causes { RefinementHeadersHaveCauses }
+    ensures causes { HaveCauses refinement_header_at BreaksRefinementHeader }
 {
     let mut ahead = reader.duplicate();
     let region_info = parse_region_segment_info(&mut ahead)?;
@@ -100,7 +99,7 @@ fn offset<B: Allocator>(
     region_info: &RegionSegmentInfo,
 ) -> Result<(i32, i32)>
     ensures value { Answers (λ d. d) result (offset (region_view reference.now) region_info.now) }
-    ensures causes { OffsetsHaveCauses }
+    ensures causes { (from : PlacedRegion) → HaveCauses (offset from) (BreaksOffset from) }
 {
     if is_smaller(reference, region_info) {
         return Err(DecodeError::Region(RegionError::InvalidDimension));
@@ -182,7 +181,7 @@ pub fn decode<A: Allocator, B: Allocator, C: Allocator, L: Ledger>(
         (refined_contexts (header_view header.now) (region_view reference.now) contexts.old.items) }
     ensures steps { OnOk result
         (CountsRefined (header_view header.now) (region_view reference.now) steps.old steps.new) }
-    ensures causes { RefinedRegionsHaveCauses }
+    ensures causes { (h : RefinementHeader) → HaveCauses (refined_decoded h) (λ from. BreaksOffset from h.region_info) }
 {
     let region_info = &header.region_info;
     let mut bitmap = Bitmap::new(alloc, region_info.width, region_info.height)?;

@@ -2,7 +2,6 @@
 ghost use Rattle.std.specs.Prelude.{◌≡◌};
 ghost use Rattle.jbig2_base.specs.Bits.{IsAligned};
 ghost use Rattle.jbig2_base.specs.Parsing.{Parses};
-ghost use Rattle.jbig2_region.specs.Causes.{RegionInfosHaveCauses};
 ghost use Rattle.jbig2_region.specs.RegionInfo.{placed, region_info_at, region_view};
 
 use jbig2_base::bitmap::Bitmap;
@@ -35,7 +34,7 @@ pub struct RegionSegmentInfo {
 pub fn parse_region_segment_info(reader: &mut Reader<'_>) -> Result<RegionSegmentInfo>
     requires { IsAligned reader.old }
     ensures parses { Parses reader.old reader.new result (λ info. info) (region_info_at reader.old.bytes) }
-    ensures causes { RegionInfosHaveCauses }
+    ensures causes { HaveCauses region_info_at BreaksRegionInfo }
 {
     let mut ahead = reader.duplicate();
     let width = u32_field(&mut ahead)?;

@@ -3,7 +3,6 @@ ghost use Rattle.std.specs.Prelude.{◌≡◌, ◌≤◌, IfOk, OnErr};
 ghost use Rattle.jbig2_base.specs.Answer.{Answers};
 ghost use Rattle.jbig2_base.specs.Bits.{IsAligned};
 ghost use Rattle.jbig2_base.specs.Fields.{signed_at};
-ghost use Rattle.jbig2_halftone.specs.Causes.{HalftoneHeadersHaveCauses};
 ghost use Rattle.jbig2_halftone.specs.HalftoneHeader.{header_view, halftone_flags_at, halftone_grid_at, halftone_header_at};
 
 use jbig2_base::bitmap::operator::CombinationOperator;
@@ -123,7 +122,7 @@ pub fn parse<'a>(reader: &mut Reader<'a>, strict: bool) -> Result<HalftoneRegion
     ensures columns { IfOk result (λ h. h.grid_position_and_size.width ≤ 65535) }
     ensures rows { IfOk result (λ h. h.grid_position_and_size.height ≤ 65535) }
     ensures stays { OnErr result (reader.new ≡ reader.old) }
-    ensures causes { HalftoneHeadersHaveCauses }
+    ensures causes { (strict : Bool) → HaveCauses (halftone_header_at strict) BreaksHalftoneHeader }
 {
     let mut ahead = reader.duplicate();
     let region_info = parse_region_segment_info(&mut ahead)?;

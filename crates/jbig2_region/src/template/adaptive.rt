@@ -3,7 +3,6 @@ ghost use Rattle.std.specs.Prelude.{◌≡◌, ◌≤◌, false, [], ◌∷◌, 
 ghost use Rattle.jbig2_base.specs.Answer.{Answers};
 ghost use Rattle.jbig2_base.specs.Bits.{IsAligned};
 ghost use Rattle.jbig2_base.specs.Parsing.{Parses};
-ghost use Rattle.jbig2_region.specs.Causes.{RefinementPixelsHaveCauses, TemplatePixelsHaveCauses};
 ghost use Rattle.jbig2_region.specs.RefinementTemplates.{refinement_pixels_at, two_pixels};
 ghost use Rattle.jbig2_region.specs.Templates.{FitsTemplate, IsFilled, adaptive_pixel_at, adaptive_pixel_count, adaptive_pixels_at, filled, four_pixels, free_pixel_at, is_earlier, is_extended, pixels_view, takes_extended};
 
@@ -122,7 +121,7 @@ pub fn parse_generic_template_pixels(
         (adaptive_pixels_at count reader.old.bytes) }
     ensures extended { let taken = takes_extended mmr extended template in
         IfOk result (λ pixels. is_extended pixels ≡ taken) }
-    ensures causes { TemplatePixelsHaveCauses }
+    ensures causes { (count : ℕ) → HaveCauses (adaptive_pixels_at count) (BreaksPixels count 0) }
     ensures aligned { IsAligned reader.new }
     ensures shorter { OnOk result (length reader.new.bytes ≤ length reader.old.bytes) }
     ensures unused { IfOk result (λ pixels. IsFilled pixels (pixels_view mmr template pixels)) }
@@ -152,7 +151,7 @@ pub fn parse_template_pixels(
     ensures parses { Parses reader.old reader.new result (two_pixels template)
         (refinement_pixels_at template reader.old.bytes) }
     ensures unused { IfOk result (λ pixels. pixels ≡ filled 2 (two_pixels template pixels)) }
-    ensures causes { RefinementPixelsHaveCauses }
+    ensures causes { (template : RefinementTemplate) → HaveCauses (refinement_pixels_at template) (BreaksRefinementPixels template) }
 {
     match template {
         RefinementTemplate::Template0 => {

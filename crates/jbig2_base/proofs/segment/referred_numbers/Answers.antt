@@ -1,4 +1,4 @@
-use Rattle.std.proofs.Common.{Bool, true, false, List, ℕ, inr, ◌∙◌, sym, ap, ◌≡◌}
+use Rattle.std.proofs.Common.{true, false, List, ℕ, inr, ◌∙◌, ap}
 use Rattle.std.specs.List.{list_any}
 use Rattle.std.specs.Prelude.{nat_le}
 use Rattle.jbig2_base.proofs.SegmentLemmas.{referred_by}

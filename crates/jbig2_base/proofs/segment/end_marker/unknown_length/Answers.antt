@@ -1,4 +1,4 @@
-use Rattle.std.proofs.Common.{rules, ap, List}
+use Rattle.std.proofs.Common.{rules, ap}
 use Rattle.jbig2_base.specs.Bits.{Place}
 use Rattle.jbig2_base.proofs.SegmentLemmas.{unknown_refused, unknown_unmarked, unknown_marked}
 use Rattle.jbig2_base.proofs.segment.end_marker.unknown_length.Goals as goal
