@@ -51,8 +51,8 @@ BreaksInformation bytes _ = ⊥
 abbrev pub FirstInformation : (List ℕ → Type 0) → List SegmentView → Type 0
 FirstInformation P ps = (first : SegmentView) × (first_information ps ≡ Ok first) × P first.bytes
 
--- Page information has the width in its first four bytes and the height in the next four, or all ones where the stripes
--- tell it. No side is longer than 65535.
+-- Page information has the width in its first four bytes and the height in the next four, or all ones where the
+-- stripes tell it. No side is longer than 65535.
 abbrev pub BreaksInitialPage : List SegmentView → DecodeError → Type 0
 BreaksInitialPage ps (Format MissingPageInfo) = All (λ p. p.header.segment_type ≢ types.PageInformation) ps
 BreaksInitialPage ps (Parse UnexpectedEof) = FirstInformation (λ bytes. length bytes < 19) ps
@@ -104,8 +104,8 @@ BreaksHeader strict bytes (Segment InvalidUnknownLength) =
     × (number_in w8 4 bytes % 64 ≢ 38)
 BreaksHeader strict bytes _ = ⊥
 
--- Data of this length, behind the header (7.2.7). Where the length is unknown, byte 17 has the region's flags; its fields
--- are there, and behind them the end marker with four bytes more.
+-- Data of this length, behind the header (7.2.7). Where it is unknown, byte 17 has the region's flags; its fields are
+-- there, and behind them the end marker with four bytes more.
 abbrev pub BreaksData : Option ℕ → List ℕ → DecodeError → Type 0
 BreaksData (Some n) bytes (Parse UnexpectedEof) = length bytes < n
 BreaksData None bytes (Parse UnexpectedEof) = length bytes < 18 + adaptive_bytes (number_in w8 17 bytes)

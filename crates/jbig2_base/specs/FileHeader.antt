@@ -1,5 +1,5 @@
--- The header of a file (T.88, D.4): eight bytes that each file begins with, flags that say how it is organised, and the
--- number of its pages where it is known. `file_header_at` gives these fields and the bytes behind them.
+-- The header of a file (T.88, D.4): eight bytes that each file begins with, flags that say how it is organised, and
+-- the number of its pages where it is known. `file_header_at` gives these fields and the bytes behind them.
 use Rattle.std.specs.Prelude.{ℕ, ◌/◌, ◌%◌, ◌==◌, Bool, true, false, not, List, [], ◌∷◌, Option, Some, None, Result, Ok, if◌then◌else◌}
 use Rattle.std.specs.Int.{w8, w32}
 use Rattle.std.specs.Str.{bytes_eq}
