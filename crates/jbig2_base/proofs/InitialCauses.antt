@@ -1,11 +1,11 @@
 -- Which rule the segments of a page break, where its size is refused.
-use Rattle.std.proofs.Common.{◌≡◌, ℕ, zero, suc, ◌<◌, eqb, ltb, false, List, [], ◌∷◌, Result, Ok, refl, sym, ◌∙◌, ap, arith, inl, inr, ⊎_elim}
-use Rattle.std.specs.Prelude.{◌≢◌, ◌⊎◌, ◌||◌, All}
-use Rattle.std.specs.Int.{w32}
-use Rattle.std.proofs.lemmas.Bool.{cond_both, eqb-true, eqb-false, ltb-true, or_cases, true≢false}
+use Rattle.std.proofs.Common.{◌≡◌, ℕ, zero, suc, ◌+◌, ◌<◌, ◌≤◌, eqb, ltb, Bool, true, false, not, List, [], ◌∷◌, length, take, Result, Ok, refl, sym, ◌∙◌, ap, subst, arith, inl, inr, ⊎_elim}
+use Rattle.std.specs.Prelude.{◌≢◌, ◌⊎◌, ◌&&◌, ◌||◌, All, Any}
+use Rattle.std.specs.Int.{w32, from_be_bytes}
+use Rattle.std.proofs.lemmas.Bool.{cond_both, cond-true, eqb-true, eqb-false, eq-eqb, ne_eqb, ltb-true, ltb-false, and_from, and_parts, or_cases, not-true, not_from_false, true≢false, false≢true}
 use Rattle.jbig2_base.specs.Answer.{◌>>=◌, refuse_if}
-use Rattle.jbig2_base.specs.Causes.{HaveCauses, BreaksInitialPage, number_in}
-use Rattle.jbig2_base.specs.PageInfo.{first_information, height_of, information_at, initial_page_of, initial_page_with, is_page_information, stripes_height}
+use Rattle.jbig2_base.specs.Causes.{HaveCauses, FirstInformation, TellsHeight, BreaksInitialPage, number_in}
+use Rattle.jbig2_base.specs.PageInfo.{first_information, height_of, information_at, initial_page_of, initial_page_with, is_end_of_stripe, is_page_information, stripe_height, stripes_height}
 use Rattle.jbig2_base.specs.Segment.{SegmentView}
 use Rattle.jbig2_base.specs.declared.error.DecodeError.{DecodeError}
 use Rattle.jbig2_base.specs.declared.error.DecodeError.TheVariants.{Format, Overflow}
@@ -15,10 +15,14 @@ use Rattle.jbig2_base.specs.declared.page_info.InitialPage.{InitialPage}
 use Rattle.jbig2_base.specs.declared.page_info.PageInformation.{PageInformation}
 use Rattle.jbig2_base.specs.declared.segment.SegmentType.{SegmentType}
 use Rattle.jbig2_base.specs.declared.segment.SegmentType.TheVariants as types
-use Rattle.jbig2_base.proofs.CauseSteps.{Told, told-cause, told-next, next-refusal}
+use Rattle.jbig2_base.proofs.CauseSteps.{Told, told-cause, told-next, told-map, next-refusal}
 use Rattle.jbig2_base.proofs.PageCauses.{HasSize, information-told}
 
 -- ---- the first page information
+is-information : (kind : SegmentType) → is_page_information kind ≡ true → kind ≡ types.PageInformation
+is-information types.PageInformation is = refl
+is-information _ is = absurd (false≢true is)
+
 other-information : (kind : SegmentType) → is_page_information kind ≡ false → kind ≡ types.PageInformation → ⊥
 other-information kind other same = true≢false (sym (ap is_page_information same) ∙ other)
 
@@ -26,14 +30,78 @@ pub all-behind : {X : Type 0} (P : X → Type 0) (x : X) (xs : List X) → P x �
 all-behind P x xs first rest zero d below = first
 all-behind P x xs first rest (suc k) d below = rest k d (omega (arith, below))
 
+first-holds : (P : List ℕ → Type 0) (bytes : List ℕ) (ps : List SegmentView) → FirstInformation (λ bs. bs ≡ bytes) ps → P bytes → FirstInformation P ps
+first-holds P bytes [] is holds = is
+first-holds P bytes (p ∷ ps) is holds =
+    ⊎_elim {C = FirstInformation P (p ∷ ps)}
+    (λ here. inl (here.0, subst P (sym here.1) holds))
+    (λ later. inr (later.0, first-holds P bytes ps later.1 holds))
+    is
+
 first-told : (P : DecodeError → Type 0) (ps : List SegmentView) → (All (λ p. p.header.segment_type ≢ types.PageInformation) ps → P (Format MissingPageInfo))
-    → Told (λ (p : SegmentView). first_information ps ≡ Ok p) P (first_information ps)
+    → Told (λ (p : SegmentView). FirstInformation (λ bs. bs ≡ p.bytes) ps) P (first_information ps)
 first-told P [] why = why (λ k d below. absurd (omega (arith, below)))
 first-told P (p ∷ ps) why =
-    let Q : Result SegmentView DecodeError → Type 0 = λ r. Told (λ (q : SegmentView). r ≡ Ok q) P r in
+    let Q : Result SegmentView DecodeError → Type 0 = λ r. Told (λ (q : SegmentView). FirstInformation (λ bs. bs ≡ q.bytes) (p ∷ ps)) P r in
     cond_both (is_page_information p.header.segment_type) (Ok p) (first_information ps) Q
-    (λ is. refl)
-    (λ other. first-told P ps (λ none. why (all-behind (λ q. q.header.segment_type ≢ types.PageInformation) p ps (other-information p.header.segment_type other) none)))
+    (λ is. inl (is-information p.header.segment_type is, refl))
+    (λ other.
+    let differs : p.header.segment_type ≢ types.PageInformation = other-information p.header.segment_type other in
+    told-map (λ (q : SegmentView). FirstInformation (λ bs. bs ≡ q.bytes) ps) (λ (q : SegmentView). FirstInformation (λ bs. bs ≡ q.bytes) (p ∷ ps)) P (first_information ps) (λ q later. inr (differs, later))
+    (first-told P ps (λ none. why (all-behind (λ q. q.header.segment_type ≢ types.PageInformation) p ps differs none))))
+
+-- ---- the stripes
+is-stripe : (kind : SegmentType) → is_end_of_stripe kind ≡ true → kind ≡ types.EndOfStripe
+is-stripe types.EndOfStripe is = refl
+is-stripe _ is = absurd (false≢true is)
+
+-- the number of a stripe's last row
+abbrev last_row : List ℕ → ℕ
+last_row bytes = from_be_bytes w32 (take 4 bytes)
+
+-- a stripe behind which a page is too high
+abbrev TellsTooMuch : SegmentView → Type 0
+TellsTooMuch p = TellsHeight p × (65535 ≤ number_in w32 0 p.bytes)
+
+-- the test that a stripe tells a height
+tells : SegmentView → Bool
+tells p = is_end_of_stripe p.header.segment_type && eqb (length p.bytes) 4 && not (eqb (last_row p.bytes) 4294967295)
+
+told-height : (p : SegmentView) → TellsHeight p → stripe_height p ≡ last_row p.bytes + 1
+told-height p told =
+    let row : ℕ = last_row p.bytes in
+    let kind : is_end_of_stripe p.header.segment_type ≡ true = ap is_end_of_stripe told.0 in
+    let known : not (eqb row 4294967295) ≡ true = not_from_false (eqb row 4294967295) (ne_eqb row 4294967295 told.2) in
+    cond-true (is_end_of_stripe p.header.segment_type && eqb (length p.bytes) 4 && not (eqb row 4294967295)) (row + 1) 0
+    (and_from (is_end_of_stripe p.header.segment_type && eqb (length p.bytes) 4) (not (eqb row 4294967295))
+    (and_from (is_end_of_stripe p.header.segment_type) (eqb (length p.bytes) 4) kind (eq-eqb (length p.bytes) 4 told.1)) known)
+
+none-tells : (ps : List SegmentView) → stripes_height ps ≡ 0 → All (λ p. TellsHeight p → ⊥) ps
+none-tells [] none = λ k d below. absurd (omega (arith, below))
+none-tells (p ∷ ps) none =
+    all-behind (λ q. TellsHeight q → ⊥) p ps (λ told. omega (arith, told-height p told, none)) (none-tells ps (omega (arith, none)))
+
+too-much : (p : SegmentView) → 65535 < stripe_height p → TellsTooMuch p
+too-much p =
+    let row : ℕ = last_row p.bytes in
+    let stripe : Bool = is_end_of_stripe p.header.segment_type in
+    let four : Bool = eqb (length p.bytes) 4 in
+    let known : Bool = not (eqb row 4294967295) in
+    cond_both (stripe && four && known) (row + 1) 0 (λ height. 65535 < height → TellsTooMuch p)
+    (λ all much.
+    let parts = and_parts (stripe && four) known all in
+    let front = and_parts stripe four parts.0 in
+    ((is-stripe p.header.segment_type front.0, eqb-true (length p.bytes) 4 front.1, eqb-false row 4294967295 (not-true (eqb row 4294967295) parts.1)), omega (arith, much)))
+    (λ none much. absurd (omega (arith, much)))
+
+any-too-much : (ps : List SegmentView) → 65535 < stripes_height ps → Any TellsTooMuch ps
+any-too-much [] much = absurd (omega (arith, much))
+any-too-much (p ∷ ps) much =
+    cond_both (ltb 65535 (stripe_height p)) true false (λ b. Any TellsTooMuch (p ∷ ps))
+    (λ here. (0, p, omega arith, refl, too-much p (ltb-true 65535 (stripe_height p) here)))
+    (λ other.
+    let later : Any TellsTooMuch ps = any-too-much ps (omega (arith, much, ltb-false 65535 (stripe_height p) other)) in
+    (suc later.0, later.1, omega (arith, later.2), later.3, later.4))
 
 -- ---- the page
 -- the height is the stated one, or where that is unknown the stripes'
@@ -59,30 +127,31 @@ sides-told P number info height empty large =
     next-refusal Q P (eqb info.width 0 || eqb height 0) _ _ (λ none. empty (either (or_cases (eqb info.width 0) (eqb height 0) none))) (λ some.
     next-refusal Q P (ltb 65535 info.width || ltb 65535 height) _ _ (λ much. large (longer (or_cases (ltb 65535 info.width) (ltb 65535 height) much))) (λ fits. tt))
 
-no-side : (ps : List SegmentView) (first : SegmentView) (info : PageInformation × List ℕ) (height : ℕ) → first_information ps ≡ Ok first → HasSize first.bytes info → IsHeight info.0.height (stripes_height ps) height
+no-side : (ps : List SegmentView) (bytes : List ℕ) (info : PageInformation × List ℕ) (height : ℕ) → FirstInformation (λ bs. bs ≡ bytes) ps → HasSize bytes info → IsHeight info.0.height (stripes_height ps) height
     → (info.0.width ≡ 0) ⊎ (height ≡ 0) → BreaksInitialPage ps (Format EmptyPage)
-no-side ps first info height is size known none =
-    let bytes : List ℕ = first.bytes in
-    let side : (number_in w32 0 bytes ≡ 0) ⊎ (number_in w32 4 bytes ≡ 0) =
-    ⊎_elim {C = (number_in w32 0 bytes ≡ 0) ⊎ (number_in w32 4 bytes ≡ 0)}
-    (λ width. inl (sym size.1 ∙ width))
-    (λ zero_height.
-    ⊎_elim {C = (number_in w32 0 bytes ≡ 0) ⊎ (number_in w32 4 bytes ≡ 0)}
-    (λ stated. inr (sym size.2 ∙ sym stated.1 ∙ zero_height))
-    (λ open_height. absurd (open_height.1 (sym open_height.2 ∙ zero_height)))
-    known)
-    none in
-    (first, is, (size.0, side))
+no-side ps bytes info height is size known none =
+    let Q : List ℕ → Type 0 = λ bs. (19 ≤ length bs) × ((number_in w32 0 bs ≡ 0) ⊎ (number_in w32 4 bs ≡ 0)) in
+    first-holds Q bytes ps is (
+      size.0,
+      ⊎_elim {C = (number_in w32 0 bytes ≡ 0) ⊎ (number_in w32 4 bytes ≡ 0)}
+          (λ width. inl (sym size.1 ∙ width))
+          (λ zero_height.
+          ⊎_elim {C = (number_in w32 0 bytes ≡ 0) ⊎ (number_in w32 4 bytes ≡ 0)}
+          (λ stated. inr (sym size.2 ∙ sym stated.1 ∙ zero_height))
+          (λ open_height. absurd (open_height.1 (sym open_height.2 ∙ zero_height)))
+          known)
+          none,
+    )
 
-large-side : (ps : List SegmentView) (first : SegmentView) (info : PageInformation × List ℕ) (height : ℕ) → first_information ps ≡ Ok first → HasSize first.bytes info → IsHeight info.0.height (stripes_height ps) height
+large-side : (ps : List SegmentView) (bytes : List ℕ) (info : PageInformation × List ℕ) (height : ℕ) → FirstInformation (λ bs. bs ≡ bytes) ps → HasSize bytes info → IsHeight info.0.height (stripes_height ps) height
     → (65535 < info.0.width) ⊎ (65535 < height) → BreaksInitialPage ps (Overflow BitmapDimension)
-large-side ps first info height is size known much =
+large-side ps bytes info height is size known much =
     ⊎_elim {C = BreaksInitialPage ps (Overflow BitmapDimension)}
-    (λ wide. (first, is, inl (omega (arith, wide, size.1))))
+    (λ wide. inl (first-holds (λ bs. 65535 < number_in w32 0 bs) bytes ps is (omega (arith, wide, size.1))))
     (λ high.
     ⊎_elim {C = BreaksInitialPage ps (Overflow BitmapDimension)}
-    (λ stated. (first, is, inr (inl (omega (arith, high, stated.1, size.2), λ ones. stated.0 (size.2 ∙ ones)))))
-    (λ open_height. (first, is, inr (inr (sym size.2 ∙ open_height.0, omega (arith, high, open_height.2)))))
+    (λ stated. inr (inl (first-holds (λ bs. (65535 < number_in w32 4 bs) × (number_in w32 4 bs ≢ 4294967295)) bytes ps is (omega (arith, high, stated.1, size.2), λ ones. stated.0 (size.2 ∙ ones)))))
+    (λ open_height. inr (inr (first-holds (λ bs. number_in w32 4 bs ≡ 4294967295) bytes ps is (sym size.2 ∙ open_height.0), any-too-much ps (omega (arith, high, open_height.2)))))
     known)
     much
 
@@ -92,8 +161,8 @@ initial_page_causes = λ ps.
     let P : DecodeError → Type 0 = BreaksInitialPage ps in
     let R : InitialPage → Type 0 = λ page. Unit {0} in
     told-cause R P (initial_page_of ps)
-    (told-next (λ (p : SegmentView). first_information ps ≡ Ok p) R P (first_information ps) _ (first-told P ps (λ none. none)) (λ first is.
-    told-next (HasSize first.bytes) R P (information_at first.bytes) _ (information-told P first.bytes (λ short. (first, is, short))) (λ info size.
+    (told-next (λ (p : SegmentView). FirstInformation (λ bs. bs ≡ p.bytes) ps) R P (first_information ps) _ (first-told P ps (λ none. none)) (λ first is.
+    told-next (HasSize first.bytes) R P (information_at first.bytes) _ (information-told P first.bytes (λ short. first-holds (λ bs. length bs < 19) first.bytes ps is short)) (λ info size.
     told-next (IsHeight info.0.height (stripes_height ps)) R P (height_of info.0.height (stripes_height ps)) _
-    (height-told P info.0.height (stripes_height ps) (λ ones none. (first, is, (sym size.2 ∙ ones, none))))
-    (λ height known. sides-told P first.header.page_association info.0 height (no-side ps first info height is size known) (large-side ps first info height is size known)))))
+    (height-told P info.0.height (stripes_height ps) (λ ones none. (first-holds (λ bs. number_in w32 4 bs ≡ 4294967295) first.bytes ps is (sym size.2 ∙ ones), none-tells ps none)))
+    (λ height known. sides-told P first.header.page_association info.0 height (no-side ps first.bytes info height is size known) (large-side ps first.bytes info height is size known)))))

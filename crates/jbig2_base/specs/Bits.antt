@@ -1,5 +1,5 @@
--- Bytes as a list of bits, high bit first, and a place in it (T.88, 7.1: numbers are big-endian). `_next` is what stands at
--- a place, `_on` the place behind it. A refused read of bits moves to the end, a refused read of bytes moves nothing.
+-- Bytes as a list of bits, high bit first, and a place in it (T.88, 7.1: big-endian). `_next` is what stands there,
+-- `_on` the place behind it. A refused read of bits moves to the end, a refused read of bytes moves nothing.
 use Rattle.std.specs.Prelude.{◌≡◌, ℕ, ◌+◌, ◌*◌, ◌/◌, ◌%◌, nat_lt, ◌==◌, List, [], ◌∷◌, length, take, drop, Option, Some, None, if◌then◌else◌}
 use Rattle.std.specs.List.{flat_map}
 use Rattle.std.specs.Int.{Width, byte_len, from_be_bytes}

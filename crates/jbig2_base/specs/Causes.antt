@@ -1,10 +1,9 @@
 -- Which rule the bytes break where a definition refuses them (docs/FORMAT.md), a line for each error. A predicate
 -- `Breaks..` takes the bytes and an error, and `HaveCauses` is the law: each error of the definition has that cause.
-use Rattle.std.specs.Prelude.{◌≡◌, ◌≢◌, ◌<◌, ◌≤◌, ◌+◌, ◌*◌, ◌-◌, ◌/◌, ◌%◌, ◌^◌, ◌==◌, ◌⊎◌, ℕ, Bool, true, List, [], ◌∷◌, take, drop, length, All, Option, Some, None, Result, Ok, Err, IfErr, if◌then◌else◌}
+use Rattle.std.specs.Prelude.{◌≡◌, ◌≢◌, ◌<◌, ◌≤◌, ◌+◌, ◌*◌, ◌-◌, ◌/◌, ◌%◌, ◌^◌, ◌==◌, ◌⊎◌, ℕ, Bool, true, List, [], ◌∷◌, take, drop, length, All, Any, Option, Some, None, Result, Ok, Err, IfErr, if◌then◌else◌}
 use Rattle.std.specs.Int.{Width, w8, w32, byte_len, from_be_bytes}
 use Rattle.jbig2_base.specs.File.{headers_in}
 use Rattle.jbig2_base.specs.FileHeader.{file_header_at, identification}
-use Rattle.jbig2_base.specs.PageInfo.{first_information, stripes_height}
 use Rattle.jbig2_base.specs.Segment.{Header, SegmentView, adaptive_bytes, number_width, header_at, segment_data_at, segment_at}
 use Rattle.jbig2_base.specs.declared.error.DecodeError.{DecodeError}
 use Rattle.jbig2_base.specs.declared.error.DecodeError.TheVariants.{Parse, Format, Segment, Region, Overflow}
@@ -49,21 +48,30 @@ BreaksInformation bytes _ = ⊥
 
 -- The first page information among the segments has these bytes.
 abbrev pub FirstInformation : (List ℕ → Type 0) → List SegmentView → Type 0
-FirstInformation P ps = (first : SegmentView) × (first_information ps ≡ Ok first) × P first.bytes
+FirstInformation P [] = ⊥
+FirstInformation P (p ∷ ps) =
+    ((p.header.segment_type ≡ types.PageInformation) × P p.bytes)
+    ⊎ ((p.header.segment_type ≢ types.PageInformation) × FirstInformation P ps)
 
--- Page information has the width in its first four bytes and the height in the next four, or all ones where the stripes
--- tell it. No side is longer than 65535.
+-- an end of stripe that tells a height: four bytes, not all ones (7.4.10)
+abbrev pub TellsHeight : SegmentView → Type 0
+TellsHeight p =
+    (p.header.segment_type ≡ types.EndOfStripe) × (length p.bytes ≡ 4) × (number_in w32 0 p.bytes ≢ 4294967295)
+
+-- Page information has the width in its first four bytes and the height in the next four. A side is too long above 65535,
+-- and the height is where a stripe's last row has the number 65535 or more.
 abbrev pub BreaksInitialPage : List SegmentView → DecodeError → Type 0
 BreaksInitialPage ps (Format MissingPageInfo) = All (λ p. p.header.segment_type ≢ types.PageInformation) ps
 BreaksInitialPage ps (Parse UnexpectedEof) = FirstInformation (λ bytes. length bytes < 19) ps
 BreaksInitialPage ps (Format UnknownPageHeight) =
-    FirstInformation (λ bytes. (number_in w32 4 bytes ≡ 4294967295) × (stripes_height ps ≡ 0)) ps
+    FirstInformation (λ bytes. number_in w32 4 bytes ≡ 4294967295) ps × All (λ p. TellsHeight p → ⊥) ps
 BreaksInitialPage ps (Format EmptyPage) =
     FirstInformation (λ bytes. (19 ≤ length bytes) × ((number_in w32 0 bytes ≡ 0) ⊎ (number_in w32 4 bytes ≡ 0))) ps
 BreaksInitialPage ps (Overflow BitmapDimension) =
-    FirstInformation (λ bytes. (65535 < number_in w32 0 bytes)
-    ⊎ ((65535 < number_in w32 4 bytes) × (number_in w32 4 bytes ≢ 4294967295))
-    ⊎ ((number_in w32 4 bytes ≡ 4294967295) × (65535 < stripes_height ps))) ps
+    FirstInformation (λ bytes. 65535 < number_in w32 0 bytes) ps
+    ⊎ FirstInformation (λ bytes. (65535 < number_in w32 4 bytes) × (number_in w32 4 bytes ≢ 4294967295)) ps
+    ⊎ (FirstInformation (λ bytes. number_in w32 4 bytes ≡ 4294967295) ps
+    × Any (λ p. TellsHeight p × (65535 ≤ number_in w32 0 p.bytes)) ps)
 BreaksInitialPage ps _ = ⊥
 
 -- a combination operator (7.4.1.5)
@@ -108,8 +116,8 @@ BreaksHeader strict bytes (Segment InvalidUnknownLength) =
     × (number_in w8 4 bytes % 64 ≢ 38)
 BreaksHeader strict bytes _ = ⊥
 
--- Data of this length, behind the header (7.2.7). Where the length is unknown, byte 17 has the region's flags; its fields
--- are there, and behind them the end marker with four bytes more.
+-- Data of this length, behind the header (7.2.7). Where it is unknown, byte 17 has the region's flags; its fields are
+-- there, and behind them the end marker with four bytes more.
 abbrev pub BreaksData : Option ℕ → List ℕ → DecodeError → Type 0
 BreaksData (Some n) bytes (Parse UnexpectedEof) = length bytes < n
 BreaksData None bytes (Parse UnexpectedEof) = length bytes < 18 + adaptive_bytes (number_in w8 17 bytes)

@@ -1,5 +1,5 @@
--- Fields, read from the front (T.88, 7.1). Each gives its value and the bytes behind it; one that the bytes do not hold
--- answers `Parse(UnexpectedEof)`. Fields of bits have errors of their own.
+-- Fields, read from the front (T.88, 7.1). Each gives its value and the bytes behind it; one that the bytes do not
+-- hold answers `Parse(UnexpectedEof)`. Fields of bits have errors of their own.
 use Rattle.std.specs.Prelude.{ℕ, nat_lt, List, length, take, drop, Result, Ok, Err, ℤ, if◌then◌else◌}
 use Rattle.std.specs.Int.{Width, byte_len, from_be_bytes, cast_signed}
 use Rattle.jbig2_base.specs.Answer.{◌>>=◌, some_or}

@@ -1,5 +1,5 @@
--- Files (T.88, Annex D), in sequential organisation or in random access, all headers and then all data (D.2). `file_at`
--- takes a file's bytes and gives its header and its segments; `SpellsFile` is the way back.
+-- Files (T.88, Annex D), in sequential organisation or in random access, all headers and then all data (D.2).
+-- `file_at` takes a file's bytes and gives its header and its segments; `SpellsFile` is the way back.
 use Rattle.std.specs.Prelude.{◌≡◌, ℕ, suc, zero, Bool, true, false, ◌==◌, List, [], ◌∷◌, ◌++◌, length, Some, Result, Ok, if◌then◌else◌}
 use Rattle.std.specs.List.{flat_map}
 use Rattle.jbig2_base.specs.Answer.{◌>>=◌}
@@ -11,7 +11,7 @@ use Rattle.jbig2_base.specs.declared.file_header.FileHeader.{FileHeader}
 use Rattle.jbig2_base.specs.declared.file_header.FileOrganization.{FileOrganization}
 use Rattle.jbig2_base.specs.declared.file_header.FileOrganization.TheVariants.{Sequential, RandomAccess}
 
--- The headers in the bytes, at most so many, up to that of an end of file, and the bytes behind them; each has a byte.
+-- the headers in the bytes, at most so many, up to that of an end of file, and the bytes behind them; each has a byte
 unfoldable pub headers_in : ℕ → Bool → List ℕ → Result (List Header × List ℕ) DecodeError
 headers_in zero strict bytes = Ok ([], bytes)
 headers_in (suc most) strict bytes =

@@ -1,6 +1,6 @@
--- The header of a file (T.88, D.4): eight bytes that each file begins with, flags that say how it is organised, and the
--- number of its pages where it is known. `file_header_at` gives these fields and the bytes behind them.
-use Rattle.std.specs.Prelude.{ℕ, ◌/◌, ◌%◌, ◌==◌, Bool, true, false, not, List, [], ◌∷◌, Option, Some, None, Result, Ok, if◌then◌else◌}
+-- The header of a file (T.88, D.4): eight bytes that each file begins with, flags that say how it is organised, and
+-- the number of its pages where it is known. `file_header_at` gives these fields and the bytes behind them.
+use Rattle.std.specs.Prelude.{ℕ, ◌/◌, ◌%◌, ◌==◌, Bool, not, List, [], ◌∷◌, Option, Some, None, Result, Ok, if◌then◌else◌}
 use Rattle.std.specs.Int.{w8, w32}
 use Rattle.std.specs.Str.{bytes_eq}
 use Rattle.jbig2_base.specs.Answer.{◌>>=◌, refuse_if}
@@ -17,8 +17,7 @@ identification = 151 ∷ 74 ∷ 66 ∷ 50 ∷ 13 ∷ 10 ∷ 26 ∷ 10 ∷ []
 
 -- the number of pages (D.4.3), unless it is unknown
 abbrev pub page_count_at : Bool → List ℕ → Result (Option ℕ × List ℕ) DecodeError
-page_count_at true bytes = Ok (None, bytes)
-page_count_at false bytes = number_at w32 bytes >>= λ n. Ok (Some n.0, n.1)
+page_count_at unknown bytes = if unknown then Ok (None, bytes) else (number_at w32 bytes >>= λ n. Ok (Some n.0, n.1))
 
 -- the fields; the flags (D.4.2) have four reserved bits
 unfoldable pub file_header_at : List ℕ → Result (FileHeader × List ℕ) DecodeError

@@ -1,5 +1,5 @@
--- Bitmaps (T.88, 6): a width, a height and a pixel at each pair of whole numbers, white outside. `grid_of` makes one of a
--- function of column and row, and `pixel` takes it apart again.
+-- Bitmaps (T.88, 6): a width, a height and a pixel at each pair of whole numbers, white outside. `grid_of` makes one
+-- of a function of column and row, and `pixel` takes it apart again.
 use Rattle.std.specs.Prelude.{ℕ, ◌+◌, ◌*◌, ◌/◌, ◌%◌, Bool, true, false, not, ◌&&◌, if◌then◌else◌, nat_lt, List, map, slice_index_or, ℤ, pos}
 use Rattle.std.specs.List.{range_with_len}
 

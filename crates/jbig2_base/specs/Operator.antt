@@ -1,5 +1,5 @@
--- The combination operators (T.88, 7.4.1.5): which one a number of a region's flags names, or its refusal, and what each
--- makes of a pixel of the page and one of the source.
+-- The combination operators (T.88, 7.4.1.5): which one a number of a region's flags names, or its refusal, and what
+-- each makes of a pixel of the page and one of the source.
 use Rattle.std.specs.Prelude.{ℕ, Bool, ◌&&◌, ◌||◌, ◌==◌, not, if◌then◌else◌, Result, Ok, Err}
 use Rattle.jbig2_base.specs.declared.error.DecodeError.{DecodeError}
 use Rattle.jbig2_base.specs.declared.error.DecodeError.TheVariants.{Region}

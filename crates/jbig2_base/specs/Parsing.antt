@@ -1,5 +1,5 @@
--- What a parser's call says about its reader (our own rule), by the reader's places before and after the call, its result,
--- and the answer of the definition with the bytes behind it.
+-- What a parser's call says about its reader (our own rule), by the reader's places before and after the call, its
+-- result, and the answer of the definition with the bytes behind it.
 use Rattle.std.specs.Prelude.{◌≡◌, ◌≤◌, List, ℕ, length, Result, OnOk, OnErr}
 use Rattle.jbig2_base.specs.Answer.{Answers, Gives}
 use Rattle.jbig2_base.specs.Bits.{Place, IsAligned}

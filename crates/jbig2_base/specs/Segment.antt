@@ -1,5 +1,5 @@
--- Segments: their headers and their data (T.88, 7.2). `segment_at` takes the bytes at the beginning of a segment and gives
--- the segment and the bytes behind it, or the first fault.
+-- Segments: their headers and their data (T.88, 7.2). `segment_at` takes the bytes at the beginning of a segment and
+-- gives the segment and the bytes behind it, or the first fault.
 use Rattle.std.specs.Prelude.{ℕ, suc, zero, ◌+◌, ◌*◌, ◌/◌, ◌%◌, ◌==◌, nat_le, nat_lt, Bool, true, false, not, ◌&&◌, ◌||◌, List, [], ◌∷◌, take, drop, length, slice_index, Option, Some, None, Result, Ok, Err, if◌then◌else◌}
 use Rattle.std.specs.List.{list_any}
 use Rattle.std.specs.Int.{Width, w8, w16, w32, byte_len, from_be_bytes}
@@ -137,8 +137,7 @@ first_end_marker flags bytes =
     let place = place_from (λ k. is_end_marker flags (drop k bytes)) 0 (length bytes) in
     if nat_lt place (length bytes) then Ok place else Err (Segment MissingEndMarker)
 
--- How long data of unknown length is (7.2.7): the fields (7.4.6), what is coded up to the first end marker, and the row
--- count.
+-- How long data of unknown length is (7.2.7): fields (7.4.6), coded bytes up to the first end marker, and row count.
 unfoldable pub unknown_length_of : List ℕ → Result ℕ DecodeError
 unknown_length_of bytes = do
   information ← bytes_at 17 bytes

@@ -1,5 +1,5 @@
--- Bitmaps of one colour, and the sizes that this decoder refuses (our own rule; a bitmap's sides are 32-bit numbers in
--- T.88, 7.4.1).
+-- Bitmaps of one colour, and the sizes that this decoder refuses (our own rule; a bitmap's sides are 32-bit numbers
+-- in T.88, 7.4.1).
 use Rattle.std.specs.Prelude.{ℕ, ◌+◌, ◌*◌, ◌/◌, Bool, false, ◌||◌, nat_lt, Result, Ok}
 use Rattle.jbig2_base.specs.declared.error.DecodeError.{DecodeError}
 use Rattle.jbig2_base.specs.declared.error.DecodeError.TheVariants.{Overflow}
