@@ -1,6 +1,6 @@
 -- Parts that are cut out of bitmaps: the symbols of a collective bitmap (T.88, 6.5.9), the patterns of one (6.7.5),
 -- and the area of the page that a refinement takes (7.4.7.4). A part may reach past the sides, and is white there.
-use Rattle.std.specs.Prelude.{ℕ, ◌+◌, ◌||◌, nat_lt, Result, Ok}
+use Rattle.std.specs.Prelude.{◌+◌, ◌||◌, nat_lt, Result, Ok}
 use Rattle.jbig2_base.specs.Answer.{◌>>=◌, refuse_if}
 use Rattle.jbig2_base.specs.Grid.{Grid, grid_of, pixel_at}
 use Rattle.jbig2_base.specs.declared.bitmap.part.Area.{Area}

@@ -7,8 +7,7 @@ use Rattle.jbig2_base.specs.declared.error.DecodeError.TheVariants.{Parse, Huffm
 use Rattle.jbig2_base.specs.declared.error.ParseError.TheVariants.{UnexpectedEof}
 use Rattle.jbig2_base.specs.declared.error.HuffmanError.TheVariants.{InvalidCode, MissingTables, UnexpectedOob}
 use Rattle.jbig2_coder.specs.CustomTable.{custom_header, custom_lines, custom_table, range_lines}
-use Rattle.jbig2_coder.specs.PrefixCode.{Member, decoded_value, front_number, longest, moved, read_code, table_of, weight, without_oob}
-use Rattle.jbig2_coder.specs.TableSelection.{next_custom}
+use Rattle.jbig2_coder.specs.PrefixCode.{Member, decoded_value, front_number, longest, moved, read_code, weight, without_oob}
 use Rattle.jbig2_coder.specs.declared.huffman_table.custom.Header.{Header}
 use Rattle.jbig2_coder.specs.declared.huffman_table.line.TableLine.{TableLine}
 

@@ -5,7 +5,8 @@ ghost use Rattle.jbig2_base.specs.Bits.{bits_left};
 ghost use Rattle.jbig2_coder.specs.PrefixCode.{table_of, read_code, decoded_value, without_oob, AreShort, IsFree, Reads};
 ghost use Rattle.jbig2_coder.specs.Tables.{uniform};
 ghost use Rattle.jbig2_coder.specs.CustomTable.{custom_table, GivesAt, TablesAreFree};
-ghost use Rattle.jbig2_coder.specs.Causes.{CodesHaveCauses, CustomTablesHaveCauses, NumbersHaveCauses};
+ghost use Rattle.jbig2_coder.specs.Causes.{CodesHaveCauses, CustomTablesHaveCauses, NumbersHaveCauses, BreaksTable};
+ghost use Rattle.jbig2_base.specs.Causes.{HaveCauses};
 
 mod custom;
 mod first_table;

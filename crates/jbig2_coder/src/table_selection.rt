@@ -2,6 +2,8 @@
 ghost use Rattle.jbig2_base.specs.Answer.{Answers};
 ghost use Rattle.jbig2_coder.specs.TableSelection.{next_custom};
 ghost use Rattle.jbig2_coder.specs.inner.TableViews.{customs_view};
+ghost use Rattle.jbig2_base.specs.Causes.{HaveCauses};
+ghost use Rattle.jbig2_coder.specs.Causes.{BreaksSelection};
 
 use crate::huffman_table::HuffmanTable;
 use jbig2_base::error::{DecodeError, HuffmanError, Result};

@@ -3,7 +3,7 @@ use Rattle.std.proofs.Common.{◌≡◌, ◌⊎◌, inl, inr, ⊎_elim, ℕ, ◌
 use Rattle.std.specs.Int.{w8, w16, w32}
 use Rattle.std.proofs.lemmas.Bool.{eqb-true, ltb-true, or_cases}
 use Rattle.jbig2_base.specs.Answer.{refuse_if}
-use Rattle.jbig2_base.specs.Causes.{number_in}
+use Rattle.jbig2_base.specs.Causes.{number_in, HaveCauses}
 use Rattle.jbig2_base.specs.Fields.{number_at, signed_at, end_of_bytes}
 use Rattle.jbig2_base.specs.Operator.{operator_of}
 use Rattle.jbig2_base.specs.declared.error.DecodeError.{DecodeError}

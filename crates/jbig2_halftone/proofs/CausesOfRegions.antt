@@ -20,6 +20,7 @@ use Rattle.jbig2_halftone.specs.HalftoneHeader.{HalftoneHeader}
 use Rattle.jbig2_halftone.specs.Patterns.{Patterns, collective_header, collective_width, patterns_decoded}
 use Rattle.jbig2_halftone.specs.inner.Stages.{planes_by_coder, planes_by_mmr}
 use Rattle.jbig2_region.proofs.Told.{Told, cause-if, cause-last, cause-of, told, told-if, told-next, told-refused}
+use Rattle.jbig2_base.specs.Causes.{HaveCauses}
 
 -- ---- MMR data
 -- the bytes begin with fewer than h whole rows of T.6 data

@@ -1,9 +1,11 @@
 //! Gray-scale images (T.88, Annex C).
 ghost use Rattle.std.specs.Prelude.{◌≡◌, ◌≤◌, [], Ok, OnOk};
 ghost use Rattle.jbig2_base.specs.Answer.{Gives, Leaves};
-ghost use Rattle.jbig2_halftone.specs.GrayScale.{gray_values, gray_scale_image, gray_contexts};
+ghost use Rattle.jbig2_halftone.specs.GrayScale.{gray_values, gray_scale_image, gray_contexts, GrayScale};
 ghost use Rattle.jbig2_halftone.specs.Steps.{CountsImage, CountsLanes};
 ghost use Rattle.jbig2_halftone.specs.inner.HalftoneViews.{gray_view};
+ghost use Rattle.jbig2_base.specs.Causes.{HaveCauses};
+ghost use Rattle.jbig2_halftone.specs.Causes.{BreaksGrayScale};
 
 mod lanes;
 pub(crate) mod planes;

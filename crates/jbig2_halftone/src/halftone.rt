@@ -9,12 +9,14 @@ ghost use Rattle.jbig2_base.specs.Search.{code_length};
 ghost use Rattle.jbig2_region.specs.RegionInfo.{region_view};
 ghost use Rattle.jbig2_halftone.specs.GrayScale.{planes_of, gray_values};
 ghost use Rattle.jbig2_halftone.specs.Halftone.{gray_params, skip_mask, pattern_for, cells_drawn, halftone_answer, halftone_contexts, halftone_decoded, decoded_contexts};
-ghost use Rattle.jbig2_halftone.specs.HalftoneHeader.{header_view};
+ghost use Rattle.jbig2_halftone.specs.HalftoneHeader.{header_view, HalftoneHeader};
 ghost use Rattle.jbig2_halftone.specs.PatternHeader.{HasSize};
 ghost use Rattle.jbig2_halftone.specs.Patterns.{dictionary_view};
 ghost use Rattle.jbig2_halftone.specs.Steps.{CountsRead, CountsHalftone, words_of_cells};
 ghost use Rattle.jbig2_halftone.specs.inner.CellPlaces.{x_of, y_of};
 ghost use Rattle.jbig2_halftone.specs.inner.Stages.{planes_contexts, skip_grid, after_mask, after_lane_rows};
+ghost use Rattle.jbig2_base.specs.Causes.{HaveCauses};
+ghost use Rattle.jbig2_halftone.specs.Causes.{BreaksHalftone};
 
 mod cells;
 pub mod header;

@@ -9,6 +9,8 @@ ghost use Rattle.jbig2_halftone.specs.PatternHeader.{side_at, pattern_header_at}
 ghost use Rattle.jbig2_halftone.specs.Patterns.{dictionary_view, collective_width, collective_header, patterns_of, patterns_decoded, dictionary_contexts};
 ghost use Rattle.jbig2_halftone.specs.inner.PatternViews.{header_view};
 ghost use Rattle.jbig2_halftone.specs.inner.Stages.{pattern_of};
+ghost use Rattle.jbig2_base.specs.Causes.{HaveCauses};
+ghost use Rattle.jbig2_halftone.specs.Causes.{BreaksPatternHeader, BreaksPatterns};
 
 mod dictionary;
 

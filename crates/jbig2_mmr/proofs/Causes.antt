@@ -12,6 +12,7 @@ use Rattle.jbig2_mmr.proofs.T6Decoding.{or_fault}
 use Rattle.jbig2_mmr.specs.T6Codes.{black_runs, longer_runs, modes, white_runs}
 use Rattle.jbig2_mmr.specs.declared.mmr.codes.Mode.{Mode}
 use Rattle.jbig2_mmr.specs.declared.mmr.codes.Mode.TheVariants.{Pass, Horizontal, Vertical}
+use Rattle.jbig2_base.specs.Causes.{HaveCauses}
 
 never-none : {A : Type 0} (x : A) → ◌≡◌ {A = Option A} (Some x) None → ⊥
 never-none x same = cc

@@ -5,7 +5,7 @@ use Rattle.std.specs.Int.{Width, w8, w32, byte_len, from_be_bytes}
 use Rattle.std.proofs.lemmas.Bool.{cond-true, cond_both, or_cases}
 use Rattle.std.proofs.lemmas.List.{drop-drop}
 use Rattle.jbig2_base.specs.Answer.{◌>>=◌, refuse_if}
-use Rattle.jbig2_base.specs.Causes.{number_in}
+use Rattle.jbig2_base.specs.Causes.{number_in, HaveCauses}
 use Rattle.jbig2_base.specs.Fields.{number_at}
 use Rattle.jbig2_base.specs.declared.error.DecodeError.{DecodeError}
 use Rattle.jbig2_base.specs.declared.error.DecodeError.TheVariants as errors
@@ -16,12 +16,12 @@ use Rattle.jbig2_region.specs.Causes.{BreaksGeneric, BreaksGenericHeader, Breaks
 use Rattle.jbig2_base.specs.Grid.{Grid}
 use Rattle.jbig2_mmr.specs.T6.{mmr_rows}
 use Rattle.jbig2_mmr.proofs.Causes.{cause-mmr}
-use Rattle.jbig2_region.specs.Generic.{generic_answer, generic_grid}
+use Rattle.jbig2_region.specs.Generic.{generic_answer, generic_grid, generic_decoded}
 use Rattle.jbig2_region.specs.GenericHeader.{generic_header_at, rows_at}
-use Rattle.jbig2_region.specs.Refinement.{is_far, offset, refined_answer, refined_grid}
-use Rattle.jbig2_region.specs.RefinementHeader.{refinement_header_at}
+use Rattle.jbig2_region.specs.Refinement.{is_far, offset, refined_answer, refined_grid, refined_decoded}
+use Rattle.jbig2_region.specs.RefinementHeader.{refinement_header_at, RefinementHeader}
 use Rattle.jbig2_region.specs.RefinementTemplates.{refinement_pixel_count, refinement_pixels_at, refinement_template_of}
-use Rattle.jbig2_region.specs.RegionInfo.{placed, region_info_at}
+use Rattle.jbig2_region.specs.RegionInfo.{placed, region_info_at, PlacedRegion}
 use Rattle.jbig2_region.specs.Templates.{adaptive_pixel_count, adaptive_pixels_at, template_of}
 use Rattle.jbig2_region.specs.declared.template.RefinementTemplate.TheVariants as refinements
 use Rattle.jbig2_region.proofs.Causes.{At, at-next, info-cause, info-there, rows-cause, value-next}

@@ -8,6 +8,8 @@ ghost use Rattle.jbig2_region.specs.RegionInfo.{IsWhiteFor, region_view};
 ghost use Rattle.jbig2_region.specs.inner.Layouts.{CountsGeneric};
 ghost use Rattle.jbig2_region.specs.GenericHeader.{header_view, rows_at, generic_header_at, IsParsed};
 ghost use Rattle.jbig2_region.specs.Templates.{IsFilled};
+ghost use Rattle.jbig2_base.specs.Causes.{HaveCauses};
+ghost use Rattle.jbig2_region.specs.Causes.{BreaksGeneric, BreaksGenericHeader, BreaksRows};
 
 pub use crate::generic_coding::decode_coded;
 use crate::raster::fresh_contexts;

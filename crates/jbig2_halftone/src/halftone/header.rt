@@ -4,6 +4,8 @@ ghost use Rattle.jbig2_base.specs.Answer.{Answers};
 ghost use Rattle.jbig2_base.specs.Bits.{IsAligned};
 ghost use Rattle.jbig2_base.specs.Fields.{signed_at};
 ghost use Rattle.jbig2_halftone.specs.HalftoneHeader.{header_view, halftone_flags_at, halftone_grid_at, halftone_header_at};
+ghost use Rattle.jbig2_base.specs.Causes.{HaveCauses};
+ghost use Rattle.jbig2_halftone.specs.Causes.{BreaksHalftoneHeader};
 
 use jbig2_base::bitmap::operator::CombinationOperator;
 use jbig2_base::error::{DecodeError, OverflowError, Result};

@@ -5,6 +5,8 @@ ghost use Rattle.jbig2_base.specs.Bits.{IsAligned};
 ghost use Rattle.jbig2_base.specs.Parsing.{Parses};
 ghost use Rattle.jbig2_region.specs.RefinementTemplates.{refinement_pixels_at, two_pixels};
 ghost use Rattle.jbig2_region.specs.Templates.{FitsTemplate, IsFilled, adaptive_pixel_at, adaptive_pixel_count, adaptive_pixels_at, filled, four_pixels, free_pixel_at, is_earlier, is_extended, pixels_view, takes_extended};
+ghost use Rattle.jbig2_base.specs.Causes.{HaveCauses};
+ghost use Rattle.jbig2_region.specs.Causes.{BreaksPixels, BreaksRefinementPixels};
 
 use crate::template::{AdaptiveTemplatePixel, GenericTemplatePixels, RefinementTemplate, Template};
 use jbig2_base::error::{DecodeError, Result, TemplateError};
