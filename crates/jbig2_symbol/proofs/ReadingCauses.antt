@@ -1,5 +1,5 @@
 -- Which rule is broken where the tables, the contexts, the exports or a number of a symbol dictionary are refused.
-use Rattle.std.proofs.Common.{◌≡◌, ◌≢◌, inl, inr, ℕ, zero, suc, ◌+◌, ◌-◌, ◌<◌, ◌==◌, nat_le, nat_lt, Bool, true, false, not, ◌&&◌, List, [], ◌∷◌, length, Option, Some, None, Result, Ok, Err, ℤ, pos, negsuc, ◌+ℤ◌, refl, sym, ap, subst, ◌∙◌, arith}
+use Rattle.std.proofs.Common.{◌≡◌, ◌≢◌, ◌⊎◌, inl, inr, ℕ, zero, suc, ◌+◌, ◌-◌, ◌<◌, ◌==◌, nat_le, nat_lt, Bool, true, false, not, ◌&&◌, List, [], ◌∷◌, length, Option, Some, None, Result, Ok, Err, ℤ, pos, negsuc, ◌+ℤ◌, refl, sym, ap, subst, ◌∙◌, arith}
 use Rattle.std.proofs.lemmas.Bool.{and_cases, and_parts, cond_both, eq-eqb, eqb-true, false≢true, leb-true, ltb-false, not-false, not-true}
 use Rattle.std.proofs.lemmas.Bool as tests
 use Rattle.std.specs.Prelude.{IfErr}
@@ -15,7 +15,7 @@ use Rattle.jbig2_base.proofs.Causes.{cause-next, cause-refused}
 use Rattle.jbig2_coder.specs.PrefixCode.{Member}
 use Rattle.jbig2_text.specs.TextCoding.{in_band}
 use Rattle.jbig2_symbol.specs.SymbolBitmaps.{instance_count, some_instances}
-use Rattle.jbig2_symbol.specs.Causes.{BreaksContexts, BreaksCount, BreaksExports, BreaksRunBehind, BreaksRunValue, BreaksTables, BreaksWidth, ContextsHaveCauses, ExportsHaveCauses, InstanceCountsHaveCauses, IsNoSize, SymbolTablesHaveCauses, WidthsHaveCauses, taken_by}
+use Rattle.jbig2_symbol.specs.Causes.{BreaksContexts, BreaksCount, BreaksExports, BreaksRunBehind, BreaksRunValue, BreaksTables, ContextsHaveCauses, ExportsHaveCauses, InstanceCountsHaveCauses, IsNoSize, SymbolTablesHaveCauses, WidthsHaveCauses, taken_by}
 use Rattle.jbig2_symbol.specs.Exports.{export_runs, exported, exports, next_run, runs_from}
 use Rattle.jbig2_symbol.specs.HeightClasses.{next_width, size_in_word, width_by}
 use Rattle.jbig2_symbol.specs.SymbolReading.{ClassReadings, SymbolInput, SymbolReadings, first_contexts, is_refinement_template, is_template, not_negative, symbol_tables, table_for}
@@ -135,15 +135,20 @@ pub told-size : (P : DecodeError → Type 0) (z : ℤ) → (IsNoSize z → P (er
 told-size P (pos n) why = told-if P (λ (m : ℕ). pos n ≡ pos m) (nat_lt n 4294967296) (Ok n) (Err (errors.Overflow BitmapDimension)) (λ fits. refl) (λ large. why (ltb-false n 4294967296 large))
 told-size P (negsuc n) why = why tt
 
+abbrev BreaksWidth : ℕ → ℕ → ℕ → Option ℤ → DecodeError → Type 0
+BreaksWidth room width total value e =
+    ((e ≡ errors.Symbol symbols.TooManySymbols) × (room ≡ 0) × (value ≢ None))
+    ⊎ ((e ≡ errors.Overflow BitmapDimension) × ((difference : ℤ) × (value ≡ Some difference) × (IsNoSize (pos width +ℤ difference) ⊎ IsNoSize (pos total +ℤ (pos width +ℤ difference)))))
+
 width-cause : (room width total : ℕ) (value : Option ℤ) → IfErr (width_by room width total value) (BreaksWidth room width total value)
 width-cause room width total None = tt
 width-cause room width total (Some difference) =
     let P : DecodeError → Type 0 = BreaksWidth room width total (Some difference) in
     let none : Bool = room == 0 in
     let next_width_is = pos width +ℤ difference in
-    cause-last P (λ x. none ≡ false) (refuse_if none (errors.Symbol symbols.TooManySymbols)) _ (told-refused P none (errors.Symbol symbols.TooManySymbols) (λ is. (eqb-true room 0 is, λ same. absurd (cc)))) (λ missing there.
-    cause-last P (λ (n : ℕ). next_width_is ≡ pos n) (size_in_word next_width_is) _ (told-size P next_width_is (λ no. (difference, refl, inl no))) (λ next is.
-    cause-last P (λ (n : ℕ). pos total +ℤ pos next ≡ pos n) (size_in_word (pos total +ℤ pos next)) _ (told-size P (pos total +ℤ pos next) (λ no. (difference, refl, inr (subst (λ (z : ℤ). IsNoSize (pos total +ℤ z)) (sym is) no)))) (λ all all_is. tt)))
+    cause-last P (λ x. none ≡ false) (refuse_if none (errors.Symbol symbols.TooManySymbols)) _ (told-refused P none (errors.Symbol symbols.TooManySymbols) (λ is. inl (refl, eqb-true room 0 is, λ same. absurd (cc)))) (λ missing there.
+    cause-last P (λ (n : ℕ). next_width_is ≡ pos n) (size_in_word next_width_is) _ (told-size P next_width_is (λ no. inr (refl, (difference, refl, inl no)))) (λ next is.
+    cause-last P (λ (n : ℕ). pos total +ℤ pos next ≡ pos n) (size_in_word (pos total +ℤ pos next)) _ (told-size P (pos total +ℤ pos next) (λ no. inr (refl, (difference, refl, inr (subst (λ (z : ℤ). IsNoSize (pos total +ℤ z)) (sym is) no))))) (λ all all_is. tt)))
 
 pub widths_causes : {S : Type 0} (r : SymbolReadings S) → WidthsHaveCauses r
 unfolding next_width

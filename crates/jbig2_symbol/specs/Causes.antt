@@ -106,15 +106,12 @@ IsNoSize (pos n) = 4294967296 ≤ n
 IsNoSize (negsuc n) = Unit {0}
 
 -- The difference of a width (6.5.7), where `room` more symbols may come, behind one of this width and this total.
-abbrev pub BreaksWidth : ℕ → ℕ → ℕ → Option ℤ → DecodeError → Type 0
-BreaksWidth room width total value (errors.Symbol TooManySymbols) = (room ≡ 0) × (value ≢ None)
-BreaksWidth room width total value (errors.Overflow BitmapDimension) =
-    (difference : ℤ) × (value ≡ Some difference) × (IsNoSize (pos width +ℤ difference) ⊎ IsNoSize (pos total +ℤ (pos width +ℤ difference)))
-BreaksWidth room width total value _ = ⊥
-
 abbrev pub BreaksNextWidth : {S : Type 0} → SymbolReadings S → SymbolInput → ℕ → ℕ → ℕ → S → DecodeError → Type 0
 BreaksNextWidth r d room width total s e =
-    InSteps (r.width_difference d s) (IsOf (r.width_difference d s) e) (λ value. BreaksWidth room width total value.0 e)
+    InSteps (r.width_difference d s) (IsOf (r.width_difference d s) e) (λ value.
+    ((e ≡ errors.Symbol TooManySymbols) × (room ≡ 0) × (value.0 ≢ None))
+    ⊎ ((e ≡ errors.Overflow BitmapDimension) × ((difference : ℤ) × (value.0 ≡ Some difference)
+    × (IsNoSize (pos width +ℤ difference) ⊎ IsNoSize (pos total +ℤ (pos width +ℤ difference))))))
 
 abbrev pub WidthsHaveCauses : {S : Type 0} → SymbolReadings S → Type 0
 WidthsHaveCauses {S} r = (d : SymbolInput) (room width total : ℕ) (s : S) → IfErr (next_width r d room width total s) (BreaksNextWidth r d room width total s)
