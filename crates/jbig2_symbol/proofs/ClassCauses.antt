@@ -1,5 +1,5 @@
 -- Which rule is broken where the new symbols of a dictionary are refused, and where the dictionary is.
-use Rattle.std.proofs.Common.{◌≡◌, ◌⊎◌, inl, inr, ⊎_elim, ℕ, zero, suc, ◌+◌, ◌*◌, ◌<◌, ◌≤◌, ◌==◌, nat_le, nat_lt, Bool, true, false, not, ◌&&◌, ◌||◌, List, [], ◌∷◌, ◌++◌, length, take, sum, slice_get, Option, Some, None, Result, Ok, Err, ℤ, pos, negsuc, ◌+ℤ◌, refl, sym, ap, subst, ◌∙◌}
+use Rattle.std.proofs.Common.{◌≡◌, ◌⊎◌, inl, inr, ⊎_elim, ℕ, zero, suc, ◌+◌, ◌-◌, ◌*◌, ◌<◌, ◌≤◌, ◌==◌, nat_le, nat_lt, Bool, true, false, not, ◌&&◌, ◌||◌, List, [], ◌∷◌, ◌++◌, length, take, sum, slice_get, Option, Some, None, Result, Ok, Err, ℤ, pos, negsuc, ◌+ℤ◌, refl, sym, ap, subst, ◌∙◌, arith}
 use Rattle.std.proofs.lemmas.Bool.{and_parts, cond-false, cond-true, eqb-false, eqb-true, leb-false, leb-true, ltb-true, not-true}
 use Rattle.std.specs.Prelude.{IfErr, IsFalse, IsTrue}
 use Rattle.jbig2_base.specs.Answer.{◌>>=◌, refuse_if}
@@ -124,6 +124,9 @@ some-or-none : {A : Type 0} (o : Option A) → (o ≡ None) ⊎ ((x : A) × (o �
 some-or-none None = inl refl
 some-or-none (Some x) = inr (x, refl)
 
+one-less : (room : ℕ) → room ≡ suc room - 1
+one-less room = omega arith
+
 widths-cause : {S : Type 0} (r : SymbolReadings S) (d : SymbolInput) (P : DecodeError → Type 0) (room width total : ℕ) (s : S)
     → ((k : ℕ) (e : DecodeError) → BreaksWidthAfter k r d room width total s e → P e) → IfErr (widths_from r d room width total s) P
 unfolding widths_from
@@ -133,7 +136,7 @@ widths-cause r d P (suc room) width total s why =
     let first = next_width r d (suc room) width total s in
     cause-next P first _ (cause-more (BreaksNextWidth r d (suc room) width total s) P first (widths_causes r d (suc room) width total s) (λ e no. why 0 e no)) (λ next next_is.
     ⊎_elim (λ none. rw none tt) (λ some. rw (some.1)
-    (cause-next P (widths_from r d room some.0.0 some.0.1 next.1) _ (widths-cause r d P room some.0.0 some.0.1 next.1 (λ k e no. why (suc k) e (next, next_is, (some.0, some.1, no)))) (λ others others_is. tt)))
+    (cause-next P (widths_from r d room some.0.0 some.0.1 next.1) _ (widths-cause r d P room some.0.0 some.0.1 next.1 (λ k e no. why (suc k) e (next, next_is, (some.0, some.1, subst (λ (m : ℕ). BreaksWidthAfter k r d m some.0.0 some.0.1 next.1 e) (one-less room) no)))) (λ others others_is. tt)))
     (some-or-none next.0))
 
 -- the bitmaps that these readings refuse have these causes
@@ -152,7 +155,7 @@ symbols-cause c r law d P (suc room) height width total new s why =
     (cause-next P (r.symbol_bitmap d new some.0.0 height next.1) _
     (cause-more (c d new some.0.0 height next.1) P (r.symbol_bitmap d new some.0.0 height next.1) (law d new some.0.0 height next.1) (λ e no. why 0 e (inr (next, next_is, (some.0, some.1, no))))) (λ symbol symbol_is.
     cause-next P (symbols_from r d room height some.0.0 some.0.1 (new ++ symbol.0 ∷ []) symbol.1) _
-    (symbols-cause c r law d P room height some.0.0 some.0.1 (new ++ symbol.0 ∷ []) symbol.1 (λ k e no. why (suc k) e (next, next_is, (some.0, some.1, (symbol, symbol_is, no))))) (λ others others_is. tt))))
+    (symbols-cause c r law d P room height some.0.0 some.0.1 (new ++ symbol.0 ∷ []) symbol.1 (λ k e no. why (suc k) e (next, next_is, (some.0, some.1, (symbol, symbol_is, subst (λ (m : ℕ). BreaksSymbolAfter k c r d m height some.0.0 some.0.1 (new ++ symbol.0 ∷ []) symbol.1 e) (one-less room) no))))) (λ others others_is. tt))))
     (some-or-none next.0))
 
 drawn_class_causes : {S : Type 0} (c : BitmapCauses S) (r : SymbolReadings S) → BitmapsHaveCauses c r

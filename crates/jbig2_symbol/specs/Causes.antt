@@ -203,9 +203,8 @@ BehindWidth r d room width total s Q =
 -- Behind so many widths that were read, the next one is refused.
 abbrev pub BreaksWidthAfter : {S : Type 0} → ℕ → SymbolReadings S → SymbolInput → ℕ → ℕ → ℕ → S → DecodeError → Type 0
 BreaksWidthAfter zero r d room width total s e = BreaksNextWidth r d room width total s e
-BreaksWidthAfter (suc k) r d zero width total s e = ⊥
-BreaksWidthAfter (suc k) r d (suc room) width total s e =
-    BehindWidth r d (suc room) width total s (λ next all u. BreaksWidthAfter k r d room next all u e)
+BreaksWidthAfter (suc k) r d room width total s e =
+    BehindWidth r d room width total s (λ next all u. BreaksWidthAfter k r d (room - 1) next all u e)
 
 -- Why a symbol's bitmap is refused, behind these new symbols and of this width and height.
 abbrev pub BitmapCauses : Type 0 → Type 1
@@ -215,10 +214,9 @@ BitmapCauses S = SymbolInput → List Grid → ℕ → ℕ → S → DecodeError
 abbrev pub BreaksSymbolAfter : {S : Type 0} → ℕ → BitmapCauses S → SymbolReadings S → SymbolInput → ℕ → ℕ → ℕ → ℕ → List Grid → S → DecodeError → Type 0
 BreaksSymbolAfter zero c r d room height width total new s e =
     BreaksNextWidth r d room width total s e ⊎ BehindWidth r d room width total s (λ next all u. c d new next height u e)
-BreaksSymbolAfter (suc k) c r d zero height width total new s e = ⊥
-BreaksSymbolAfter (suc k) c r d (suc room) height width total new s e =
-    BehindWidth r d (suc room) width total s (λ next all u. Behind (r.symbol_bitmap d new next height u) (λ symbol.
-    BreaksSymbolAfter k c r d room height next all (new ++ symbol.0 ∷ []) symbol.1 e))
+BreaksSymbolAfter (suc k) c r d room height width total new s e =
+    BehindWidth r d room width total s (λ next all u. Behind (r.symbol_bitmap d new next height u) (λ symbol.
+    BreaksSymbolAfter k c r d (room - 1) height next all (new ++ symbol.0 ∷ []) symbol.1 e))
 
 -- A class (6.5.5, step 4) of symbols that are drawn one by one: one of them, or none, as in 2^20 classes before.
 abbrev pub BreaksDrawnClass : {S : Type 0} → BitmapCauses S → SymbolReadings S → SymbolInput → ℕ → ℕ → List Grid → S → DecodeError → Type 0
