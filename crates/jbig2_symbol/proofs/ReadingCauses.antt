@@ -15,7 +15,7 @@ use Rattle.jbig2_base.proofs.Causes.{cause-next, cause-refused}
 use Rattle.jbig2_coder.specs.PrefixCode.{Member}
 use Rattle.jbig2_text.specs.TextCoding.{in_band}
 use Rattle.jbig2_symbol.specs.SymbolBitmaps.{instance_count, some_instances}
-use Rattle.jbig2_symbol.specs.Causes.{BreaksContexts, BreaksCount, BreaksExports, BreaksRunBehind, BreaksRunValue, BreaksTables, ContextsHaveCauses, ExportsHaveCauses, InstanceCountsHaveCauses, IsNoSize, SymbolTablesHaveCauses, WidthsHaveCauses, taken_by}
+use Rattle.jbig2_symbol.specs.Causes.{BreaksContexts, BreaksCount, BreaksRunBehind, BreaksRunValue, BreaksTables, ContextsHaveCauses, ExportsHaveCauses, InstanceCountsHaveCauses, IsNoSize, SymbolTablesHaveCauses, WidthsHaveCauses, taken_by}
 use Rattle.jbig2_symbol.specs.Exports.{export_runs, exported, exports, next_run, runs_from}
 use Rattle.jbig2_symbol.specs.HeightClasses.{next_width, size_in_word, width_by}
 use Rattle.jbig2_symbol.specs.SymbolReading.{ClassReadings, SymbolInput, SymbolReadings, first_contexts, is_refinement_template, is_template, not_negative, symbol_tables, table_for}
