@@ -1,5 +1,5 @@
 -- Which rule is broken where the new symbols of a dictionary are refused, and where the dictionary is.
-use Rattle.std.proofs.Common.{◌≡◌, ◌⊎◌, inl, inr, ⊎_elim, ℕ, zero, suc, ◌+◌, ◌-◌, ◌*◌, ◌<◌, ◌≤◌, ◌==◌, nat_le, nat_lt, Bool, true, false, not, ◌&&◌, ◌||◌, List, [], ◌∷◌, ◌++◌, length, take, sum, slice_get, Option, Some, None, Result, Ok, Err, ℤ, pos, negsuc, ◌+ℤ◌, refl, sym, ap, subst, ◌∙◌, arith}
+use Rattle.std.proofs.Common.{if◌then◌else◌, ◌≡◌, ◌⊎◌, inl, inr, ⊎_elim, ℕ, zero, suc, ◌+◌, ◌-◌, ◌*◌, ◌<◌, ◌≤◌, ◌==◌, nat_le, nat_lt, Bool, true, false, not, ◌&&◌, ◌||◌, List, [], ◌∷◌, ◌++◌, length, take, sum, slice_get, Option, Some, None, Result, Ok, Err, ℤ, pos, negsuc, ◌+ℤ◌, refl, sym, ap, subst, ◌∙◌, arith}
 use Rattle.std.proofs.lemmas.Bool.{and_parts, cond-false, cond-true, eqb-false, eqb-true, leb-false, leb-true, ltb-true, not-true}
 use Rattle.std.specs.Prelude.{IfErr, IsFalse, IsTrue}
 use Rattle.jbig2_base.specs.Answer.{◌>>=◌, refuse_if}
