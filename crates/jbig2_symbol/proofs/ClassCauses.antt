@@ -19,7 +19,7 @@ use Rattle.jbig2_coder.specs.PrefixCode.{Member}
 use Rattle.jbig2_mmr.specs.T6.{mmr_rows, rows_of}
 use Rattle.jbig2_text.specs.Causes.{Behind}
 use Rattle.jbig2_text.specs.TextCoding.{Coded, in_band}
-use Rattle.jbig2_symbol.specs.Causes.{AllDrawnClassesHaveCauses, BitmapCauses, BreaksClassAfter, BreaksClassBehind, BreaksCodedBitmap, BreaksCollectiveBitmap, BreaksCollectiveClass, BreaksContexts, BreaksCuts, BreaksDictionary, BreaksDrawnClass, BreaksExports, BreaksNextWidth, BreaksPrefixedAggregate, BreaksPrefixedClass, BreaksSized, BreaksSymbolAfter, BreaksTables, BreaksWidthAfter, ClassCauses, CollectiveBitmapsHaveCauses, CollectiveClassesHaveCauses, CutsHaveCauses, SymbolsHaveCauses}
+use Rattle.jbig2_symbol.specs.Causes.{AllDrawnClassesHaveCauses, BitmapCauses, BreaksClassAfter, BreaksCodedBitmap, BreaksCollectiveBitmap, BreaksCollectiveClass, BreaksContexts, BreaksCuts, BreaksDictionary, BreaksDrawnClass, BreaksExports, BreaksNextWidth, BreaksPrefixedAggregate, BreaksPrefixedClass, BreaksSized, BreaksSymbolAfter, BreaksTables, BreaksWidthAfter, ClassCauses, CollectiveBitmapsHaveCauses, CollectiveClassesHaveCauses, CutsHaveCauses, IsNoSize, SymbolsHaveCauses}
 use Rattle.jbig2_symbol.specs.Exports.{exports}
 use Rattle.jbig2_symbol.specs.HeightClasses.{classes_from, drawn_class, empty_class, height_class, new_symbols, next_width, size_in_word, symbols_from, widths_from}
 use Rattle.jbig2_symbol.specs.SymbolBitmaps.{collective_bitmap, id_codes, mmr_bytes, raw_rows, raw_stride, rows_of_size, symbol_cut, symbols_cut}
@@ -198,15 +198,22 @@ prefixed-classes d height empty new s =
     (λ is. cause-more (BreaksCollectiveClass d height empty new s) P cut (collective_class_causes d height empty new s) (λ e no. inr (is, no)))
 
 -- ---- height classes
+abbrev BreaksClassBehind : {S : Type 0} → ClassCauses S → SymbolInput → ℕ → ℕ → List Grid → Option ℤ → S → DecodeError → Type 0
+BreaksClassBehind c d before empty new value s e =
+    ((e ≡ errors.Symbol symbols.UnexpectedOob) × (value ≡ None))
+    ⊎ ((difference : ℤ) × (value ≡ Some difference)
+    × (((e ≡ errors.Overflow BitmapDimension) × IsNoSize (pos before +ℤ difference))
+    ⊎ ((height : ℕ) × (pos before +ℤ difference ≡ pos height) × c d height empty new s e)))
+
 class-of : {S : Type 0} (c : ClassCauses S) (r : ClassReadings S) (law : ClassesHaveCauses c r) (d : SymbolInput) (before empty : ℕ) (new : List Grid) (value : Option ℤ) (after : S)
     → IfErr (in_band (errors.Symbol symbols.UnexpectedOob) value >>= λ difference. size_in_word (pos before +ℤ difference) >>= λ height. r.class_of_height d height empty new after >>= λ class. (let x : Result (ℕ × List Grid × S) DecodeError = Ok (height, class.0, class.1) in x)) (BreaksClassBehind c d before empty new value after)
-class-of c r law d before empty new None after = refl
+class-of c r law d before empty new None after = inl (refl, refl)
 class-of {S} c r law d before empty new (Some difference) after =
     let P : DecodeError → Type 0 = BreaksClassBehind c d before empty new (Some difference) after in
     let size : ℤ = pos before +ℤ difference in
-    cause-last P (λ (n : ℕ). size ≡ pos n) (size_in_word size) _ (told-size P size (λ no. inl (refl, no))) (λ height height_is.
+    cause-last P (λ (n : ℕ). size ≡ pos n) (size_in_word size) _ (told-size P size (λ no. inr (difference, refl, inl (refl, no)))) (λ height height_is.
     cause-next P (r.class_of_height d height empty new after) _
-    (cause-more (c d height empty new after) P (r.class_of_height d height empty new after) (law d height empty new after) (λ e no. inr (height, height_is, no))) (λ class class_is. tt))
+    (cause-more (c d height empty new after) P (r.class_of_height d height empty new after) (law d height empty new after) (λ e no. inr (difference, refl, inr (height, height_is, no)))) (λ class class_is. tt))
 
 abbrev BreaksHeightClass : {S : Type 0} → ClassCauses S → ClassReadings S → SymbolInput → ℕ → ℕ → List Grid → S → DecodeError → Type 0
 BreaksHeightClass c r d before empty new s e =

@@ -253,18 +253,15 @@ BreaksPrefixedClass d height empty new s e =
 abbrev pub ClassCauses : Type 0 → Type 1
 ClassCauses S = SymbolInput → ℕ → ℕ → List Grid → S → DecodeError → Type 0
 
--- Behind the value of the difference in height (6.5.6): out of band, a height outside 32 bits, or the class.
-abbrev pub BreaksClassBehind : {S : Type 0} → ClassCauses S → SymbolInput → ℕ → ℕ → List Grid → Option ℤ → S → DecodeError → Type 0
-BreaksClassBehind c d before empty new None s e = e ≡ errors.Symbol UnexpectedOob
-BreaksClassBehind c d before empty new (Some difference) s e =
-    ((e ≡ errors.Overflow BitmapDimension) × IsNoSize (pos before +ℤ difference))
-    ⊎ ((height : ℕ) × (pos before +ℤ difference ≡ pos height) × c d height empty new s e)
-
--- Behind so many classes that were read there are too few new symbols, and the next class is refused.
+-- Behind so many classes that were read symbols are missing, and the next height (6.5.6) or the class is refused.
 abbrev pub BreaksClassAfter : {S : Type 0} → ℕ → ClassCauses S → ClassReadings S → SymbolInput → ℕ → ℕ → List Grid → S → DecodeError → Type 0
 BreaksClassAfter zero c r d before empty new s e =
     (length new < d.header.num_new_symbols)
-    × InSteps (r.height_difference d s) (IsOf (r.height_difference d s) e) (λ value. BreaksClassBehind c d before empty new value.0 value.1 e)
+    × InSteps (r.height_difference d s) (IsOf (r.height_difference d s) e) (λ value.
+    ((e ≡ errors.Symbol UnexpectedOob) × (value.0 ≡ None))
+    ⊎ ((difference : ℤ) × (value.0 ≡ Some difference)
+    × (((e ≡ errors.Overflow BitmapDimension) × IsNoSize (pos before +ℤ difference))
+    ⊎ ((height : ℕ) × (pos before +ℤ difference ≡ pos height) × c d height empty new value.1 e))))
 BreaksClassAfter (suc k) c r d before empty new s e =
     Behind (height_class r d before empty new s) (λ (height, symbols, t).
     BreaksClassAfter k c r d height (empty + bit_number (length symbols == 0)) (new ++ symbols) t e)
