@@ -14,12 +14,11 @@ use Rattle.jbig2_text.specs.Text.{Readings, TextParams}
 use Rattle.jbig2_text.specs.TextCoding.{Coded, Prefixed, by_coder, by_prefix_codes, next_id}
 use Rattle.jbig2_text.proofs.Answered.{AreAnswered, answered-some_symbol, answered-text_region}
 use Rattle.jbig2_text.proofs.AnsweredRegions.{answered-in_band, by_coder-answered, by_prefix_codes-answered}
-use Rattle.jbig2_symbol.specs.Aggregates.{aggregate_params, at_least_one, by_instances, coded_aggregate, coded_instances, instance_count, plain_id, prefixed_aggregate, prefixed_instances, put_together, refined_alone}
 use Rattle.jbig2_symbol.specs.Exports.{exports, next_run, runs_from}
 use Rattle.jbig2_symbol.specs.HeightClasses.{classes_from, drawn_class, height_class, next_width, size_in_word, symbols_from, width_by, widths_from}
-use Rattle.jbig2_symbol.specs.SymbolBitmaps.{coded_symbol, collective_bitmap, mmr_bytes, raw_rows, symbol_cut, symbols_cut}
-use Rattle.jbig2_symbol.specs.SymbolCoding.{classes_by_coder, classes_by_prefix_codes, coded_bitmap, coder_begun, collective_class, prefix_codes_begun, prefixed_class, symbols_by_coder, symbols_by_prefix_codes}
-use Rattle.jbig2_symbol.specs.SymbolHeader.{SymbolHeader, coded_pixels_at, height_selection_of, refined_pixels_at, symbol_flags_of, symbol_header_at, width_selection_of}
+use Rattle.jbig2_symbol.specs.SymbolBitmaps.{aggregate_params, by_instances, coded_aggregate, coded_instances, coded_symbol, collective_bitmap, instance_count, mmr_bytes, plain_id, prefixed_aggregate, prefixed_instances, put_together, raw_rows, refined_alone, some_instances, symbol_cut, symbols_cut}
+use Rattle.jbig2_symbol.specs.SymbolCoding.{classes_by_coder, classes_by_prefix_codes, coded_bitmap, coder_begun, collective_class, prefix_codes_begun, symbols_by_coder, symbols_by_prefix_codes}
+use Rattle.jbig2_symbol.specs.SymbolHeader.{SymbolHeader, coded_pixels_at, refined_pixels_at, selection_of, symbol_flags_of, symbol_header_at}
 use Rattle.jbig2_symbol.specs.SymbolReading.{BitmapContexts, ClassReadings, SymbolInput, SymbolReadings, SymbolState, by_procedure, by_table, first_contexts, not_negative, symbol_tables, table_for}
 use Rattle.jbig2_symbol.specs.Symbols.{dictionary_by, dictionary_from, symbols_decoded}
 use Rattle.jbig2_symbol.specs.declared.symbol.header.HuffmanTableSelection.{HuffmanTableSelection}
@@ -27,15 +26,12 @@ use Rattle.jbig2_symbol.specs.declared.symbol.header.HuffmanTableSelection.TheVa
 use Rattle.jbig2_symbol.specs.declared.symbol.header.SymbolDictionaryFlags.{SymbolDictionaryFlags}
 
 -- ---- the header
-answered-height_selection : (n : ℕ) → Answered (height_selection_of n)
-answered-height_selection n = search answered-if
-
-answered-width_selection : (n : ℕ) → Answered (width_selection_of n)
-answered-width_selection n = search answered-if
+answered-selection : (first second : HuffmanTableSelection) (n : ℕ) → Answered (selection_of first second n)
+answered-selection first second n = search answered-if
 
 answered-flags : (flags : ℕ) → Answered (symbol_flags_of flags)
 unfolding symbol_flags_of
-answered-flags flags = search (answered-next, answered-height_selection, answered-width_selection)
+answered-flags flags = search (answered-next, answered-selection)
 
 answered-coded_pixels : (flags : SymbolDictionaryFlags) (bytes : List ℕ) → Answered (coded_pixels_at flags bytes)
 answered-coded_pixels flags bytes = search (answered-if, answered-pixels)
@@ -75,14 +71,15 @@ answered-not_negative e (pos n) is = tt
 answered-not_negative e (negsuc n) is = is
 
 -- ---- aggregates
-answered-at_least_one : (n : ℤ) → Answered (at_least_one n)
-answered-at_least_one (pos zero) = tt
-answered-at_least_one (pos (suc n)) = tt
-answered-at_least_one (negsuc n) = tt
+answered-some : (value : Option ℤ) → Answered (some_instances value)
+answered-some None = tt
+answered-some (Some (pos zero)) = tt
+answered-some (Some (pos (suc n))) = tt
+answered-some (Some (negsuc n)) = tt
 
 answered-count : {S : Type 0} (reading : Result (Option ℤ × S) DecodeError) → Answered reading → Answered (instance_count reading)
 unfolding instance_count
-answered-count reading number = search (answered-next, number, answered-in_band, answered-at_least_one)
+answered-count reading number = search (answered-next, number, answered-some)
 
 answered-alone : {S : Type 0} (r : Readings S) (a : AreAnswered r) (symbols : List Grid) (id : ℤ) (width height : ℕ) (f : Refining) (s : S) → Answered (refined_alone r symbols id width height f s)
 unfolding refined_alone
@@ -243,7 +240,7 @@ unfolding collective_class
 answered-collective_class d height empty new s =
     search (answered-next, answered-widths symbols_by_prefix_codes prefixed-symbols, answered-refusal, answered-collective, answered-cuts) depth 10
 
-answered-prefixed_class : (d : SymbolInput) (height empty : ℕ) (new : List Grid) (s : SymbolState Place) → Answered (prefixed_class d height empty new s)
+answered-prefixed_class : (d : SymbolInput) (height empty : ℕ) (new : List Grid) (s : SymbolState Place) → Answered (classes_by_prefix_codes.class_of_height d height empty new s)
 answered-prefixed_class d height empty new s =
     answered-if d.header.flags.use_refagg _ _ (answered-drawn symbols_by_prefix_codes prefixed-symbols d height empty new s) (answered-collective_class d height empty new s)
 

@@ -4,7 +4,7 @@ use Rattle.std.proofs.lemmas.Bool.{eq-eqb, false≢true, ltb-true}
 use Rattle.std.proofs.lemmas.Bool.Decides.{nat_tests}
 use Rattle.std.specs.Int.{w16, w32}
 use Rattle.jbig2_base.specs.Answer.{refuse_if}
-use Rattle.jbig2_base.specs.Causes.{IsOf}
+use Rattle.jbig2_base.specs.Causes.{IsOf, number_in}
 use Rattle.jbig2_base.specs.Fields.{end_of_bytes, number_at}
 use Rattle.jbig2_base.specs.declared.error.DecodeError.{DecodeError}
 use Rattle.jbig2_base.specs.declared.error.DecodeError.TheVariants as errors
@@ -21,9 +21,10 @@ use Rattle.jbig2_region.specs.declared.template.Template.{Template}
 use Rattle.jbig2_region.specs.declared.template.Template.TheVariants.{Template0, Template1, Template2, Template3}
 use Rattle.jbig2_region.proofs.Told.{Number, Stands, Told, at-start, cause-last, cause-more, told-next, told-number, told-refused}
 use Rattle.jbig2_text.proofs.CausesOfHeaders.{told-free}
-use Rattle.jbig2_symbol.specs.Causes.{BreaksSymbolFields, BreaksSymbolHeader, SymbolHeadersHaveCauses, counts_place, pixel_bytes, refinement_bytes}
-use Rattle.jbig2_symbol.specs.SymbolHeader.{coded_pixels_at, height_selection_of, refined_pixels_at, symbol_flags_of, symbol_header_at, width_selection_of}
+use Rattle.jbig2_symbol.specs.Causes.{BreaksSymbolFields, SymbolHeadersHaveCauses, counts_place}
+use Rattle.jbig2_symbol.specs.SymbolHeader.{coded_pixels_at, refined_pixels_at, selection_of, symbol_flags_of, symbol_header_at}
 use Rattle.jbig2_symbol.specs.declared.symbol.header.HuffmanTableSelection.{HuffmanTableSelection}
+use Rattle.jbig2_symbol.specs.declared.symbol.header.HuffmanTableSelection.TheVariants.{TableB2, TableB3, TableB4, TableB5}
 use Rattle.jbig2_symbol.specs.declared.symbol.header.SymbolDictionaryFlags.{SymbolDictionaryFlags}
 
 -- behind a value of which so many bytes are read
@@ -122,14 +123,21 @@ record FlagsOf (n : ℕ) (flags : SymbolDictionaryFlags) : Type 0 where
 told-flags : (P : DecodeError → Type 0) (n : ℕ) → ((n / 4 % 4 ≡ 2) ⊎ (n / 16 % 4 ≡ 2) → P (errors.Huffman InvalidSelection)) → Told (symbol_flags_of n) P (FlagsOf n)
 unfolding symbol_flags_of
 told-flags P n why =
-    told-next P (λ x. Unit {0}) (FlagsOf n) (height_selection_of (n / 4 % 4)) _ (told-selection P (n / 4 % 4) _ _ _ (omega arith) (λ two. why (inl two))) (λ heights high.
-    told-next P (λ x. Unit {0}) (FlagsOf n) (width_selection_of (n / 16 % 4)) _ (told-selection P (n / 16 % 4) _ _ _ (omega arith) (λ two. why (inr two))) (λ widths wide.
+    told-next P (λ x. Unit {0}) (FlagsOf n) (selection_of TableB4 TableB5 (n / 4 % 4)) _ (told-selection P (n / 4 % 4) _ _ _ (omega arith) (λ two. why (inl two))) (λ heights high.
+    told-next P (λ x. Unit {0}) (FlagsOf n) (selection_of TableB2 TableB3 (n / 16 % 4)) _ (told-selection P (n / 16 % 4) _ _ _ (omega arith) (λ two. why (inr two))) (λ widths wide.
     record { huffman = refl; refagg = refl; template = refl; refinement = refl }))
 
 -- ---- the header
 either-of : (x y : Bool) → (x || y) ≡ true → (x ≡ true) ⊎ (y ≡ true)
 either-of true y is = inl refl
 either-of false y is = inr is
+
+-- how many bytes the adaptive pixels of the symbols' bitmaps have, and those of refinements, by the flags
+abbrev pixel_bytes : ℕ → ℕ
+pixel_bytes flags = if flags % 2 == 1 then 0 else if flags / 1024 % 4 == 0 then 8 else 2
+
+abbrev refinement_bytes : ℕ → ℕ
+refinement_bytes flags = if flags / 2 % 2 == 1 && flags / 4096 % 2 == 0 then 4 else 0
 
 pixel-room : (n : ℕ) → pixel_bytes n ≤ 8
 pixel-room n = on (n % 2 == 1) (n / 1024 % 4 == 0)
@@ -175,7 +183,7 @@ too-many a b x y first second over = on (either-of (nat_lt 1048576 a) (nat_lt 10
 pub symbol_header_causes : SymbolHeadersHaveCauses
 unfolding symbol_header_at
 symbol_header_causes strict bytes =
-    let P : DecodeError → Type 0 = BreaksSymbolHeader bytes in
+    let P : DecodeError → Type 0 = BreaksSymbolFields (number_in w16 0 bytes) bytes in
     cause-last P (Number w16 bytes 0) (number_at w16 bytes) _ (told-number P w16 (at-start bytes) (λ short. omega (arith, short))) (λ number field.
     let n : ℕ = number.0 in
     let Q : DecodeError → Type 0 = BreaksSymbolFields n bytes in

@@ -1,7 +1,7 @@
 -- Which rule is broken where the new symbols of a dictionary are refused, and where the dictionary is.
-use Rattle.std.proofs.Common.{◌≡◌, ◌⊎◌, inl, inr, ⊎_elim, ℕ, zero, suc, ◌+◌, ◌*◌, ◌<◌, ◌==◌, nat_le, nat_lt, Bool, true, false, not, ◌&&◌, ◌||◌, List, [], ◌∷◌, ◌++◌, length, take, sum, slice_get, Option, Some, None, Result, Ok, Err, ℤ, pos, negsuc, ◌+ℤ◌, refl, sym, ap, subst, ◌∙◌}
+use Rattle.std.proofs.Common.{if◌then◌else◌, ◌≡◌, ◌⊎◌, inl, inr, ⊎_elim, ℕ, zero, suc, ◌+◌, ◌-◌, ◌*◌, ◌<◌, ◌≤◌, ◌==◌, nat_le, nat_lt, Bool, true, false, not, ◌&&◌, ◌||◌, List, [], ◌∷◌, ◌++◌, length, take, sum, slice_get, Option, Some, None, Result, Ok, Err, ℤ, pos, negsuc, ◌+ℤ◌, refl, sym, ap, subst, ◌∙◌, arith}
 use Rattle.std.proofs.lemmas.Bool.{and_parts, cond-false, cond-true, eqb-false, eqb-true, leb-false, leb-true, ltb-true, not-true}
-use Rattle.std.specs.Prelude.{IfErr}
+use Rattle.std.specs.Prelude.{IfErr, IsFalse, IsTrue}
 use Rattle.jbig2_base.specs.Answer.{◌>>=◌, refuse_if}
 use Rattle.jbig2_base.specs.Bits.{Place, aligned, start_of}
 use Rattle.jbig2_base.specs.Fields.{bytes_at}
@@ -19,41 +19,43 @@ use Rattle.jbig2_coder.specs.PrefixCode.{Member}
 use Rattle.jbig2_mmr.specs.T6.{mmr_rows, rows_of}
 use Rattle.jbig2_text.specs.Causes.{Behind}
 use Rattle.jbig2_text.specs.TextCoding.{Coded, in_band}
-use Rattle.jbig2_symbol.specs.Aggregates.{id_codes}
-use Rattle.jbig2_symbol.specs.Causes.{BreaksContexts, BreaksExported, BreaksNextWidth, BreaksRuns, BreaksTables}
-use Rattle.jbig2_symbol.specs.ClassCauses.{AllDrawnClassesHaveCauses, BitmapCauses, BitmapsHaveCauses, BreaksClassAfter, BreaksClassBehind, BreaksCoding, BreaksCollective, BreaksCollectiveBitmap, BreaksCollectiveClass, BreaksCuts, BreaksDictionary, BreaksDrawnClass, BreaksEmptyClass, BreaksHeightClass, BreaksNewSymbols, BreaksPrefixedClass, BreaksSized, BreaksSymbolAfter, BreaksWidthAfter, ClassCauses, ClassesHaveCauses, CollectiveBitmapsHaveCauses, CollectiveClassesHaveCauses, CutsHaveCauses, DrawnClassesHaveCauses, HeightClassesHaveCauses, NewSymbolsHaveCauses, SymbolsHaveCauses, bitmap_errors, rows_length}
-use Rattle.jbig2_symbol.specs.Exports.{export_runs, exports, most_empty}
-use Rattle.jbig2_symbol.specs.HeightClasses.{HeightClass, classes, classes_from, drawn_class, empty_class, empty_with, height_class, new_symbols, next_width, room_behind, size_in_word, symbols_from, widths_from}
-use Rattle.jbig2_symbol.specs.SymbolBitmaps.{collective_bitmap, mmr_bytes, raw_rows, raw_stride, rows_of_size, symbol_cut, symbols_cut}
-use Rattle.jbig2_symbol.specs.SymbolCauses.{BreaksCodedBitmap, BreaksPrefixedAggregate}
+use Rattle.jbig2_symbol.specs.Causes.{AllDrawnClassesHaveCauses, BitmapCauses, BreaksClassAfter, BreaksCodedBitmap, BreaksCollectiveBitmap, BreaksCollectiveClass, BreaksContexts, BreaksCuts, BreaksDictionary, BreaksDrawnClass, BreaksExports, BreaksNextWidth, BreaksPrefixedAggregate, BreaksPrefixedClass, BreaksSized, BreaksSymbolAfter, BreaksTables, BreaksWidthAfter, ClassCauses, CollectiveBitmapsHaveCauses, CollectiveClassesHaveCauses, CutsHaveCauses, IsNoSize, SymbolsHaveCauses}
+use Rattle.jbig2_symbol.specs.Exports.{exports}
+use Rattle.jbig2_symbol.specs.HeightClasses.{classes_from, drawn_class, empty_class, height_class, new_symbols, next_width, size_in_word, symbols_from, widths_from}
+use Rattle.jbig2_symbol.specs.SymbolBitmaps.{collective_bitmap, id_codes, mmr_bytes, raw_rows, raw_stride, rows_of_size, symbol_cut, symbols_cut}
 use Rattle.jbig2_symbol.specs.SymbolCoding.{classes_by_coder, classes_by_prefix_codes, coder_begun, collective_class, prefix_codes_begun, symbols_by_coder, symbols_by_prefix_codes}
 use Rattle.jbig2_symbol.specs.SymbolHeader.{SymbolHeader}
 use Rattle.jbig2_symbol.specs.SymbolReading.{BitmapContexts, ClassReadings, SymbolInput, SymbolReadings, SymbolTables, SymbolState, by_table, first_contexts, not_negative, symbol_tables}
 use Rattle.jbig2_symbol.specs.Symbols.{dictionary_by, dictionary_from, symbols_decoded, symbols_exported}
+use Rattle.jbig2_symbol.specs.inner.SymbolViews.{empty_with, room_behind}
 use Rattle.jbig2_region.proofs.Told.{cause-if, cause-last, cause-more}
 use Rattle.jbig2_symbol.proofs.IdCodes.{id_codes_are_there}
 use Rattle.jbig2_symbol.proofs.SymbolCauses.{coded_bitmap_causes, prefixed_aggregate_causes, too-long}
 use Rattle.jbig2_symbol.proofs.ReadingCauses.{contexts_causes, exports_causes, in-steps, own-error, symbol_tables_causes, told-size, widths_causes}
 
 -- ---- collective bitmaps
+-- how many bytes its rows have
+abbrev rows_length : ℕ → ℕ → ℕ → ℕ
+rows_length size width height = if size == 0 then height * raw_stride width else size
+
 wide-cause : (P : DecodeError → Type 0) (width height : ℕ) → (65535 * 65535 < width * height → P (errors.Overflow BitmapDimension)) → IfErr (wide_or_overflow width height) P
 wide-cause P width height why =
     let large : Bool = nat_lt (65535 * 65535) (width * height) in
     cause-next P (refuse_if large (errors.Overflow BitmapDimension)) _ (cause-refused P large (errors.Overflow BitmapDimension) (λ over. why (ltb-true (65535 * 65535) (width * height) over))) (λ fits fits_is. tt)
 
-raw-cause : (strict : Bool) (size width height : ℕ) (bytes : List ℕ) → (size == 0) ≡ true → IfErr (raw_rows width height bytes) (BreaksCollective strict size width height bytes)
+raw-cause : (strict : Bool) (size width height : ℕ) (bytes : List ℕ) → (size == 0) ≡ true → IfErr (raw_rows width height bytes) (BreaksSized strict width height (Some (pos size)) bytes)
 unfolding raw_rows
 raw-cause strict size width height bytes none =
-    let P : DecodeError → Type 0 = BreaksCollective strict size width height bytes in
+    let P : DecodeError → Type 0 = BreaksSized strict width height (Some (pos size)) bytes in
     let n : ℕ = height * raw_stride width in
     let same : rows_length size width height ≡ n = cond-true (size == 0) n size none in
     cause-next P (wide_or_overflow width height) _ (wide-cause P width height (λ over. over)) (λ fits fits_is.
     cause-next P (bytes_at n bytes) _ (cause-bytes P n bytes (λ short. subst (λ (m : ℕ). length bytes < m) (sym same) short)) (λ rows rows_is. tt))
 
-mmr-cause : (strict : Bool) (size width height : ℕ) (bytes : List ℕ) → (size == 0) ≡ false → IfErr (mmr_bytes strict size width height bytes) (BreaksCollective strict size width height bytes)
+mmr-cause : (strict : Bool) (size width height : ℕ) (bytes : List ℕ) → (size == 0) ≡ false → IfErr (mmr_bytes strict size width height bytes) (BreaksSized strict width height (Some (pos size)) bytes)
 unfolding mmr_bytes mmr_rows
 mmr-cause strict size width height bytes some =
-    let P : DecodeError → Type 0 = BreaksCollective strict size width height bytes in
+    let P : DecodeError → Type 0 = BreaksSized strict width height (Some (pos size)) bytes in
     let same_size : rows_length size width height ≡ size = cond-false (size == 0) (height * raw_stride width) size some in
     cause-next P (bytes_at size bytes) _ (cause-bytes P size bytes (λ short. subst (λ (m : ℕ). length bytes < m) (sym same_size) short)) (λ coded coded_is.
     let same : take size bytes ≡ coded.0 = ap (λ (x : List ℕ × List ℕ). x.0) (bytes-there size bytes coded coded_is).1 in
@@ -65,24 +67,24 @@ mmr-cause strict size width height bytes some =
     (parts.0, eqb-false size 0 some, ap (λ (bs : List ℕ). (rows_of width height bs).whole) same ∙ not-true (rows_of width height coded.0).whole parts.1)) (λ whole. tt))
     (λ rows rows_is. tt)))
 
-rows-cause : (strict : Bool) (size width height : ℕ) (bytes : List ℕ) → IfErr (rows_of_size strict size width height bytes) (BreaksCollective strict size width height bytes)
+rows-cause : (strict : Bool) (size width height : ℕ) (bytes : List ℕ) → IfErr (rows_of_size strict size width height bytes) (BreaksSized strict width height (Some (pos size)) bytes)
 rows-cause strict size width height bytes =
-    cause-if (BreaksCollective strict size width height bytes) (size == 0) (raw_rows width height bytes) (mmr_bytes strict size width height bytes) (raw-cause strict size width height bytes) (mmr-cause strict size width height bytes)
+    cause-if (BreaksSized strict width height (Some (pos size)) bytes) (size == 0) (raw_rows width height bytes) (mmr_bytes strict size width height bytes) (raw-cause strict size width height bytes) (mmr-cause strict size width height bytes)
 
 sized-cause : (d : SymbolInput) (width height : ℕ) (value : Option ℤ) (after : SymbolState Place)
-    → IfErr (in_band (errors.Huffman UnexpectedOob) value >>= λ number. not_negative (errors.Overflow BitmapDimension) number >>= λ size. rows_of_size d.header.strict size width height (aligned after.coding).bytes >>= λ rows. (let r : Result (Grid × SymbolState Place) DecodeError = Ok (rows.0, record after { coding = start_of rows.1 }) in r)) (BreaksSized d width height (value, after))
-sized-cause d width height None after = inl refl
-sized-cause d width height (Some (negsuc n)) after = inl (n, refl)
+    → IfErr (in_band (errors.Huffman UnexpectedOob) value >>= λ number. not_negative (errors.Overflow BitmapDimension) number >>= λ size. rows_of_size d.header.strict size width height (aligned after.coding).bytes >>= λ rows. (let r : Result (Grid × SymbolState Place) DecodeError = Ok (rows.0, record after { coding = start_of rows.1 }) in r)) (BreaksSized d.header.strict width height value (aligned after.coding).bytes)
+sized-cause d width height None after = refl
+sized-cause d width height (Some (negsuc n)) after = refl
 sized-cause d width height (Some (pos size)) after =
     let bytes = (aligned after.coding).bytes in
-    let P : DecodeError → Type 0 = BreaksSized d width height (Some (pos size), after) in
+    let P : DecodeError → Type 0 = BreaksSized d.header.strict width height (Some (pos size)) bytes in
     let rows = rows_of_size d.header.strict size width height bytes in
-    cause-next P rows _ (cause-more (BreaksCollective d.header.strict size width height bytes) P rows (rows-cause d.header.strict size width height bytes) (λ e broken. inr (size, refl, broken))) (λ grid grid_is. tt)
+    cause-next P rows _ (rows-cause d.header.strict size width height bytes) (λ grid grid_is. tt)
 
 pub collective_causes : CollectiveBitmapsHaveCauses
 unfolding collective_bitmap
 collective_causes d width height s =
-    in-steps (by_table d.tables.sizes s) _ (IsOf (by_table d.tables.sizes s)) (BreaksSized d width height) (own-error (by_table d.tables.sizes s)) (λ value value_is. sized-cause d width height value.0 value.1)
+    in-steps (by_table d.tables.sizes s) _ (IsOf (by_table d.tables.sizes s)) (λ value. BreaksSized d.header.strict width height value.0 (aligned value.1.coding).bytes) (own-error (by_table d.tables.sizes s)) (λ value value_is. sized-cause d width height value.0 value.1)
 
 cut-later : (height width : ℕ) (widths : List ℕ) → (65535 < height) ⊎ ((k : ℕ) × (w : ℕ) × (slice_get widths k ≡ Some w) × (65535 < w)) → (65535 < height) ⊎ ((k : ℕ) × (w : ℕ) × (slice_get (width ∷ widths) k ≡ Some w) × (65535 < w))
 cut-later height width widths (inl high) = inl high
@@ -106,17 +108,24 @@ pub cuts_causes : CutsHaveCauses
 cuts_causes collective height from widths = cuts-cause (BreaksCuts height widths) collective height from widths (λ some. some)
 
 -- ---- the symbols of a class
+-- no symbol, where 2^20 classes before had none
+abbrev BreaksEmptyClass : ℕ → ℕ → DecodeError → Type 0
+BreaksEmptyClass count empty e = (e ≡ errors.Symbol symbols.Invalid) × (count ≡ 0) × (1048576 ≤ empty)
+
 no-symbols : (count empty : ℕ) → IfErr (empty_class count empty) (BreaksEmptyClass count empty)
 no-symbols count empty =
-    let many : Bool = count == 0 && nat_le most_empty empty in
+    let many : Bool = count == 0 && nat_le 1048576 empty in
     cause-refused (BreaksEmptyClass count empty) many (errors.Symbol symbols.Invalid) (λ is.
-    let both = and_parts (count == 0) (nat_le most_empty empty) is in
-    (eqb-true count 0 both.0, leb-true most_empty empty both.1))
+    let both = and_parts (count == 0) (nat_le 1048576 empty) is in
+    (refl, eqb-true count 0 both.0, leb-true 1048576 empty both.1))
 
 -- of the width that comes next
 some-or-none : {A : Type 0} (o : Option A) → (o ≡ None) ⊎ ((x : A) × (o ≡ Some x))
 some-or-none None = inl refl
 some-or-none (Some x) = inr (x, refl)
+
+one-less : (room : ℕ) → room ≡ suc room - 1
+one-less room = omega arith
 
 widths-cause : {S : Type 0} (r : SymbolReadings S) (d : SymbolInput) (P : DecodeError → Type 0) (room width total : ℕ) (s : S)
     → ((k : ℕ) (e : DecodeError) → BreaksWidthAfter k r d room width total s e → P e) → IfErr (widths_from r d room width total s) P
@@ -127,8 +136,12 @@ widths-cause r d P (suc room) width total s why =
     let first = next_width r d (suc room) width total s in
     cause-next P first _ (cause-more (BreaksNextWidth r d (suc room) width total s) P first (widths_causes r d (suc room) width total s) (λ e no. why 0 e no)) (λ next next_is.
     ⊎_elim (λ none. rw none tt) (λ some. rw (some.1)
-    (cause-next P (widths_from r d room some.0.0 some.0.1 next.1) _ (widths-cause r d P room some.0.0 some.0.1 next.1 (λ k e no. why (suc k) e (next, next_is, (some.0, some.1, no)))) (λ others others_is. tt)))
+    (cause-next P (widths_from r d room some.0.0 some.0.1 next.1) _ (widths-cause r d P room some.0.0 some.0.1 next.1 (λ k e no. why (suc k) e (next, next_is, (some.0, some.1, subst (λ (m : ℕ). BreaksWidthAfter k r d m some.0.0 some.0.1 next.1 e) (one-less room) no)))) (λ others others_is. tt)))
     (some-or-none next.0))
+
+-- the bitmaps that these readings refuse have these causes
+abbrev BitmapsHaveCauses : {S : Type 0} → BitmapCauses S → SymbolReadings S → Type 0
+BitmapsHaveCauses {S} c r = (d : SymbolInput) (new : List Grid) (width height : ℕ) (s : S) → IfErr (r.symbol_bitmap d new width height s) (c d new width height s)
 
 symbols-cause : {S : Type 0} (c : BitmapCauses S) (r : SymbolReadings S) (law : BitmapsHaveCauses c r) (d : SymbolInput) (P : DecodeError → Type 0) (room height width total : ℕ) (new : List Grid) (s : S)
     → ((k : ℕ) (e : DecodeError) → BreaksSymbolAfter k c r d room height width total new s e → P e) → IfErr (symbols_from r d room height width total new s) P
@@ -142,10 +155,11 @@ symbols-cause c r law d P (suc room) height width total new s why =
     (cause-next P (r.symbol_bitmap d new some.0.0 height next.1) _
     (cause-more (c d new some.0.0 height next.1) P (r.symbol_bitmap d new some.0.0 height next.1) (law d new some.0.0 height next.1) (λ e no. why 0 e (inr (next, next_is, (some.0, some.1, no))))) (λ symbol symbol_is.
     cause-next P (symbols_from r d room height some.0.0 some.0.1 (new ++ symbol.0 ∷ []) symbol.1) _
-    (symbols-cause c r law d P room height some.0.0 some.0.1 (new ++ symbol.0 ∷ []) symbol.1 (λ k e no. why (suc k) e (next, next_is, (some.0, some.1, (symbol, symbol_is, no))))) (λ others others_is. tt))))
+    (symbols-cause c r law d P room height some.0.0 some.0.1 (new ++ symbol.0 ∷ []) symbol.1 (λ k e no. why (suc k) e (next, next_is, (some.0, some.1, (symbol, symbol_is, subst (λ (m : ℕ). BreaksSymbolAfter k c r d m height some.0.0 some.0.1 (new ++ symbol.0 ∷ []) symbol.1 e) (one-less room) no))))) (λ others others_is. tt))))
     (some-or-none next.0))
 
-pub drawn_class_causes : {S : Type 0} (c : BitmapCauses S) (r : SymbolReadings S) → DrawnClassesHaveCauses c r
+drawn_class_causes : {S : Type 0} (c : BitmapCauses S) (r : SymbolReadings S) → BitmapsHaveCauses c r
+    → (d : SymbolInput) (height empty : ℕ) (new : List Grid) (s : S) → IfErr (drawn_class r d height empty new s) (BreaksDrawnClass c r d height empty new s)
 unfolding drawn_class
 drawn_class_causes c r law d height empty new s =
     let P : DecodeError → Type 0 = BreaksDrawnClass c r d height empty new s in
@@ -153,7 +167,7 @@ drawn_class_causes c r law d height empty new s =
     cause-next P (empty_class (length all.0) empty) _ (cause-more (BreaksEmptyClass (length all.0) empty) P (empty_class (length all.0) empty) (no-symbols (length all.0) empty) (λ e no. inr (all, all_is, no))) (λ few few_is. tt))
 
 pub all_drawn_class_causes : {S : Type 0} (r : SymbolReadings S) → AllDrawnClassesHaveCauses r
-all_drawn_class_causes r = drawn_class_causes (bitmap_errors r) r (λ d new width height s. own-error (r.symbol_bitmap d new width height s))
+all_drawn_class_causes r = drawn_class_causes (λ d new width height s. IsOf (r.symbol_bitmap d new width height s)) r (λ d new width height s. own-error (r.symbol_bitmap d new width height s))
 
 pub collective_class_causes : CollectiveClassesHaveCauses
 unfolding collective_class
@@ -167,6 +181,10 @@ collective_class_causes d height empty new s =
     (cause-more (BreaksCuts height widths.0) P (symbols_cut collective.0 height 0 widths.0) (cuts_causes collective.0 height 0 widths.0) (λ e no. inr (widths, widths_are, inr (inr no)))) (λ symbols symbols_are. tt))))
 
 -- ---- the classes of the two codings
+-- the classes that these readings refuse have these causes
+abbrev ClassesHaveCauses : {S : Type 0} → ClassCauses S → ClassReadings S → Type 0
+ClassesHaveCauses {S} c r = (d : SymbolInput) (height empty : ℕ) (new : List Grid) (s : S) → IfErr (r.class_of_height d height empty new s) (c d height empty new s)
+
 coded-classes : ClassesHaveCauses (BreaksDrawnClass BreaksCodedBitmap symbols_by_coder) classes_by_coder
 coded-classes = drawn_class_causes BreaksCodedBitmap symbols_by_coder coded_bitmap_causes
 
@@ -180,20 +198,32 @@ prefixed-classes d height empty new s =
     (λ is. cause-more (BreaksCollectiveClass d height empty new s) P cut (collective_class_causes d height empty new s) (λ e no. inr (is, no)))
 
 -- ---- height classes
-class-of : {S : Type 0} (c : ClassCauses S) (r : ClassReadings S) (law : ClassesHaveCauses c r) (d : SymbolInput) (before empty : ℕ) (new : List Grid) (value : Option ℤ) (after : S)
-    → IfErr (in_band (errors.Symbol symbols.UnexpectedOob) value >>= λ difference. size_in_word (pos before +ℤ difference) >>= λ height. r.class_of_height d height empty new after >>= λ class. (let x : Result (HeightClass × S) DecodeError = Ok (record { height = height; symbols = class.0 }, class.1) in x)) (BreaksClassBehind c d before empty new (value, after))
-class-of c r law d before empty new None after = inl refl
-class-of {S} c r law d before empty new (Some difference) after =
-    let P : DecodeError → Type 0 = BreaksClassBehind c d before empty new (Some difference, after) in
-    let size : ℤ = pos before +ℤ difference in
-    cause-last P (λ (n : ℕ). size ≡ pos n) (size_in_word size) _ (told-size P size (λ no. inl (difference, refl, no))) (λ height height_is.
-    cause-next P (r.class_of_height d height empty new after) _
-    (cause-more (c d height empty new after) P (r.class_of_height d height empty new after) (law d height empty new after) (λ e no. inr (difference, height, refl, height_is, no))) (λ class class_is. tt))
+abbrev BreaksClassBehind : {S : Type 0} → ClassCauses S → SymbolInput → ℕ → ℕ → List Grid → Option ℤ → S → DecodeError → Type 0
+BreaksClassBehind c d before empty new value s e =
+    ((e ≡ errors.Symbol symbols.UnexpectedOob) × (value ≡ None))
+    ⊎ ((difference : ℤ) × (value ≡ Some difference)
+    × (((e ≡ errors.Overflow BitmapDimension) × IsNoSize (pos before +ℤ difference))
+    ⊎ ((height : ℕ) × (pos before +ℤ difference ≡ pos height) × c d height empty new s e)))
 
-pub height_class_causes : {S : Type 0} (c : ClassCauses S) (r : ClassReadings S) → HeightClassesHaveCauses c r
+class-of : {S : Type 0} (c : ClassCauses S) (r : ClassReadings S) (law : ClassesHaveCauses c r) (d : SymbolInput) (before empty : ℕ) (new : List Grid) (value : Option ℤ) (after : S)
+    → IfErr (in_band (errors.Symbol symbols.UnexpectedOob) value >>= λ difference. size_in_word (pos before +ℤ difference) >>= λ height. r.class_of_height d height empty new after >>= λ class. (let x : Result (ℕ × List Grid × S) DecodeError = Ok (height, class.0, class.1) in x)) (BreaksClassBehind c d before empty new value after)
+class-of c r law d before empty new None after = inl (refl, refl)
+class-of {S} c r law d before empty new (Some difference) after =
+    let P : DecodeError → Type 0 = BreaksClassBehind c d before empty new (Some difference) after in
+    let size : ℤ = pos before +ℤ difference in
+    cause-last P (λ (n : ℕ). size ≡ pos n) (size_in_word size) _ (told-size P size (λ no. inr (difference, refl, inl (refl, no)))) (λ height height_is.
+    cause-next P (r.class_of_height d height empty new after) _
+    (cause-more (c d height empty new after) P (r.class_of_height d height empty new after) (law d height empty new after) (λ e no. inr (difference, refl, inr (height, height_is, no)))) (λ class class_is. tt))
+
+abbrev BreaksHeightClass : {S : Type 0} → ClassCauses S → ClassReadings S → SymbolInput → ℕ → ℕ → List Grid → S → DecodeError → Type 0
+BreaksHeightClass c r d before empty new s e =
+    InSteps (r.height_difference d s) (IsOf (r.height_difference d s) e) (λ value. BreaksClassBehind c d before empty new value.0 value.1 e)
+
+height_class_causes : {S : Type 0} (c : ClassCauses S) (r : ClassReadings S) → ClassesHaveCauses c r
+    → (d : SymbolInput) (before empty : ℕ) (new : List Grid) (s : S) → IfErr (height_class r d before empty new s) (BreaksHeightClass c r d before empty new s)
 unfolding height_class
 height_class_causes c r law d before empty new s =
-    in-steps (r.height_difference d s) _ (IsOf (r.height_difference d s)) (BreaksClassBehind c d before empty new) (own-error (r.height_difference d s)) (λ value value_is. class-of c r law d before empty new value.0 value.1)
+    in-steps (r.height_difference d s) _ (IsOf (r.height_difference d s)) (λ value. BreaksClassBehind c d before empty new value.0 value.1) (own-error (r.height_difference d s)) (λ value value_is. class-of c r law d before empty new value.0 value.1)
 
 classes-cause : {S : Type 0} (c : ClassCauses S) (r : ClassReadings S) (law : ClassesHaveCauses c r) (d : SymbolInput) (P : DecodeError → Type 0) (n before empty : ℕ) (new : List Grid) (s : S)
     → ((k : ℕ) (e : DecodeError) → BreaksClassAfter k c r d before empty new s e → P e) → IfErr (classes_from r d n before empty new s) P
@@ -204,13 +234,15 @@ classes-cause c r law d P (suc n) before empty new s why =
     let count = d.header.num_new_symbols in
     cause-if P (nat_le count (length new)) _ _ (λ whole. tt) (λ few.
     cause-next P class _ (cause-more (BreaksHeightClass c r d before empty new s) P class (height_class_causes c r law d before empty new s) (λ e no. why 0 e (leb-false count (length new) few, no))) (λ next next_is.
-    cause-next P (classes_from r d n next.0.height (empty_with next.0 empty) (new ++ next.0.symbols) next.1) _
-    (classes-cause c r law d P n next.0.height (empty_with next.0 empty) (new ++ next.0.symbols) next.1 (λ k e no. why (suc k) e (next, next_is, no))) (λ others others_are. tt)))
+    cause-next P (classes_from r d n next.0 (empty_with next.1 empty) (new ++ next.1) next.2) _
+    (classes-cause c r law d P n next.0 (empty_with next.1 empty) (new ++ next.1) next.2 (λ k e no. why (suc k) e (next, next_is, no))) (λ others others_are. tt)))
 
-pub new_symbols_causes : {S : Type 0} (c : ClassCauses S) (r : ClassReadings S) → NewSymbolsHaveCauses c r
+abbrev BreaksNewSymbols : {S : Type 0} → ClassCauses S → ClassReadings S → SymbolInput → S → DecodeError → Type 0
+BreaksNewSymbols c r d s e = (k : ℕ) × BreaksClassAfter k c r d 0 0 [] s e
+
+new_symbols_causes : {S : Type 0} (c : ClassCauses S) (r : ClassReadings S) → ClassesHaveCauses c r → (d : SymbolInput) (s : S) → IfErr (new_symbols r d s) (BreaksNewSymbols c r d s)
 new_symbols_causes c r law d s =
-    let P : DecodeError → Type 0 = BreaksNewSymbols c r d s in
-    cause-next P (classes r d s) _ (classes-cause c r law d P (d.header.num_new_symbols + most_empty) 0 0 [] s (λ k e no. (k, no))) (λ all all_is. tt)
+    classes-cause c r law d (BreaksNewSymbols c r d s) (d.header.num_new_symbols + 1048576) 0 0 [] s (λ k e no. (k, no))
 
 -- ---- the dictionary
 dictionary-cause : {C : Type 0} (c : ClassCauses (SymbolState C)) (r : ClassReadings (SymbolState C)) (law : ClassesHaveCauses c r) (d : SymbolInput) (s : SymbolState C) → IfErr (dictionary_by r d s) (BreaksDictionary c r d s)
@@ -219,8 +251,13 @@ dictionary-cause c r law d s =
     cause-next P (symbols_exported r d s) _
     (cause-next P (new_symbols r d s) _ (cause-more (BreaksNewSymbols c r d s) P (new_symbols r d s) (new_symbols_causes c r law d s) (λ e no. inl no)) (λ new new_is.
     let grids = d.symbols ++ new.0 in
-    let Q : DecodeError → Type 0 = λ e. InSteps (export_runs r d (length grids) new.1) (BreaksRuns r d (length grids) new.1 e) (λ runs. BreaksExported d grids runs.0 e) in
-    cause-more Q P (exports r d grids new.1) (exports_causes r d grids new.1) (λ e no. inr (new, new_is, no)))) (λ exported exported_is. tt)
+    cause-more (BreaksExports r d grids new.1) P (exports r d grids new.1) (exports_causes r d grids new.1) (λ e no. inr (new, new_is, no)))) (λ exported exported_is. tt)
+
+-- in the coding that the header names
+abbrev BreaksCoding : SymbolInput → BitmapContexts → DecodeError → Type 0
+BreaksCoding d contexts e =
+    (IsTrue d.header.flags.use_huffman × BreaksDictionary BreaksPrefixedClass classes_by_prefix_codes d (prefix_codes_begun d contexts) e)
+    ⊎ (IsFalse d.header.flags.use_huffman × BreaksDictionary (BreaksDrawnClass BreaksCodedBitmap symbols_by_coder) classes_by_coder d (coder_begun d contexts) e)
 
 coding-cause : (d : SymbolInput) (contexts : BitmapContexts) → IfErr (dictionary_from d contexts) (BreaksCoding d contexts)
 coding-cause d contexts =

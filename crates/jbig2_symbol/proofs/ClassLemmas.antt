@@ -9,12 +9,12 @@ use Rattle.jbig2_base.specs.Bits.{Place}
 use Rattle.jbig2_base.specs.Grid.{Grid}
 use Rattle.jbig2_base.specs.declared.error.DecodeError.{DecodeError}
 use Rattle.jbig2_base.specs.declared.error.DecodeError.TheVariants as errors
-use Rattle.jbig2_symbol.specs.SymbolBitmaps.{collective_bitmap, put_behind, symbols_cut}
+use Rattle.jbig2_symbol.specs.SymbolBitmaps.{collective_bitmap, symbols_cut}
 use Rattle.jbig2_base.proofs.Causes.{same-ok}
-use Rattle.jbig2_symbol.specs.HeightClasses.{HeightClass, classes_from, drawn_class, empty_class, empty_with, height_class, next_width, room_behind, size_in_word, symbols_from, symbols_of, widths_from}
+use Rattle.jbig2_symbol.specs.HeightClasses.{classes_from, drawn_class, empty_class, height_class, next_width, size_in_word, symbols_from, widths_from}
 use Rattle.jbig2_symbol.specs.SymbolCoding.{collective_class, symbols_by_prefix_codes}
 use Rattle.jbig2_symbol.specs.SymbolReading.{ClassReadings, SymbolInput, SymbolReadings, SymbolState}
-use Rattle.jbig2_symbol.specs.inner.SymbolViews.{behind, class_behind}
+use Rattle.jbig2_symbol.specs.inner.SymbolViews.{behind, class_behind, empty_with, put_behind, room_behind}
 use Rattle.jbig2_symbol.proofs.BehindLemmas.{behind-cons}
 
 -- ---- the widths of a class
@@ -123,56 +123,52 @@ collective-made d height empty total before after widths collective s t u result
     rw (read, few, drawn') (cut-with (symbols_cut collective height 0 widths) before u result after cut)
 
 -- ---- the classes
--- the symbols of classes, behind others
-abbrev pub classes_behind : {S : Type 0} → List Grid → Result (List HeightClass × S) DecodeError → Result (List Grid × S) DecodeError
-classes_behind before answer = answer >>= λ all. Ok (before ++ symbols_of all.0, all.1)
+behind-more : {S : Type 0} (before symbols : List Grid) (answer : Result (List Grid × S) DecodeError) → behind before (answer >>= λ others. Ok (symbols ++ others.0, others.1)) ≡ behind (before ++ symbols) answer
+behind-more before symbols (Ok others) = ap (λ (all : List Grid). Ok (all, others.1)) (sym (append_assoc before symbols others.0))
+behind-more before symbols (Err e) = refl
 
-classes-cons : {S : Type 0} (before : List Grid) (class : HeightClass) (answer : Result (List HeightClass × S) DecodeError) → classes_behind before (answer >>= λ others. Ok (class ∷ others.0, others.1)) ≡ classes_behind (before ++ class.symbols) answer
-classes-cons before class (Ok others) = ap (λ (all : List Grid). Ok (all, others.1)) (sym (append_assoc before class.symbols (symbols_of others.0)))
-classes-cons before class (Err e) = refl
-
-pub classes-none : {S : Type 0} (r : ClassReadings S) (d : SymbolInput) (n before empty : ℕ) (new : List Grid) (s : S) → n ≡ 0 → classes_behind new (classes_from r d n before empty new s) ≡ Ok (new, s)
+pub classes-none : {S : Type 0} (r : ClassReadings S) (d : SymbolInput) (n before empty : ℕ) (new : List Grid) (s : S) → n ≡ 0 → behind new (classes_from r d n before empty new s) ≡ Ok (new, s)
 unfolding classes_from
 classes-none r d n before empty new s none = rw none (ap (λ (all : List Grid). Ok (all, s)) (append-nil new))
 
-pub classes-done : {S : Type 0} (r : ClassReadings S) (d : SymbolInput) (n before empty : ℕ) (new : List Grid) (s : S) → d.header.num_new_symbols ≤ length new → classes_behind new (classes_from r d n before empty new s) ≡ Ok (new, s)
+pub classes-done : {S : Type 0} (r : ClassReadings S) (d : SymbolInput) (n before empty : ℕ) (new : List Grid) (s : S) → d.header.num_new_symbols ≤ length new → behind new (classes_from r d n before empty new s) ≡ Ok (new, s)
 unfolding classes_from
 classes-done r d zero before empty new s all = ap (λ (all : List Grid). Ok (all, s)) (append-nil new)
 classes-done r d (suc n) before empty new s all = let test : leb d.header.num_new_symbols (length new) ≡ true = le-leb d.header.num_new_symbols (length new) all in rw test (ap (λ (all : List Grid). Ok (all, s)) (append-nil new))
 
 -- the class that is read, by what it leaves
-after_class : {S : Type 0} → ClassReadings S → SymbolInput → ℕ → ℕ → List Grid → Result (HeightClass × S) DecodeError → Result (List Grid × S) DecodeError
-after_class r d n empty new answer = classes_behind new (answer >>= λ class. classes_from r d n class.0.height (empty_with class.0 empty) (new ++ class.0.symbols) class.1 >>= λ others. Ok (class.0 ∷ others.0, others.1))
+after_class : {S : Type 0} → ClassReadings S → SymbolInput → ℕ → ℕ → List Grid → Result (ℕ × List Grid × S) DecodeError → Result (List Grid × S) DecodeError
+after_class r d n empty new answer = behind new (answer >>= λ class. classes_from r d n class.0 (empty_with class.1 empty) (new ++ class.1) class.2 >>= λ others. Ok (class.1 ++ others.0, others.1))
 
-after-made : {S : Type 0} (r : ClassReadings S) (d : SymbolInput) (n empty height count : ℕ) (new after : List Grid) (t : S) (answer : Result (HeightClass × S) DecodeError) → class_behind new empty answer ≡ Ok (after, (height, (count, t))) → after_class r d n empty new answer ≡ classes_behind after (classes_from r d n height count after t)
+after-made : {S : Type 0} (r : ClassReadings S) (d : SymbolInput) (n empty height count : ℕ) (new after : List Grid) (t : S) (answer : Result (ℕ × List Grid × S) DecodeError) → class_behind new empty answer ≡ Ok (after, (height, (count, t))) → after_class r d n empty new answer ≡ behind after (classes_from r d n height count after t)
 unfolding after_class
 after-made {S} r d n empty height count new after t (Ok class) e =
-    let same : (new ++ class.0.symbols, (class.0.height, (empty_with class.0 empty, class.1))) ≡ (after, (height, (count, t))) = same-ok _ _ e in
-    let all : new ++ class.0.symbols ≡ after = ap (λ (p : List Grid × (ℕ × (ℕ × S))). p.0) same in
-    let high : class.0.height ≡ height = ap (λ (p : List Grid × (ℕ × (ℕ × S))). p.1.0) same in
-    let few : empty_with class.0 empty ≡ count = ap (λ (p : List Grid × (ℕ × (ℕ × S))). p.1.1.0) same in
-    let left : class.1 ≡ t = ap (λ (p : List Grid × (ℕ × (ℕ × S))). p.1.1.1) same in
-    classes-cons new class.0 (classes_from r d n class.0.height (empty_with class.0 empty) (new ++ class.0.symbols) class.1)
-    ∙ ap (λ (x : List Grid). classes_behind x (classes_from r d n class.0.height (empty_with class.0 empty) x class.1)) all
-    ∙ ap (λ (x : ℕ). classes_behind after (classes_from r d n x (empty_with class.0 empty) after class.1)) high
-    ∙ ap (λ (x : ℕ). classes_behind after (classes_from r d n height x after class.1)) few
-    ∙ ap (λ (x : S). classes_behind after (classes_from r d n height count after x)) left
+    let same : (new ++ class.1, (class.0, (empty_with class.1 empty, class.2))) ≡ (after, (height, (count, t))) = same-ok _ _ e in
+    let all : new ++ class.1 ≡ after = ap (λ (p : List Grid × (ℕ × (ℕ × S))). p.0) same in
+    let high : class.0 ≡ height = ap (λ (p : List Grid × (ℕ × (ℕ × S))). p.1.0) same in
+    let few : empty_with class.1 empty ≡ count = ap (λ (p : List Grid × (ℕ × (ℕ × S))). p.1.1.0) same in
+    let left : class.2 ≡ t = ap (λ (p : List Grid × (ℕ × (ℕ × S))). p.1.1.1) same in
+    behind-more new class.1 (classes_from r d n class.0 (empty_with class.1 empty) (new ++ class.1) class.2)
+    ∙ ap (λ (x : List Grid). behind x (classes_from r d n class.0 (empty_with class.1 empty) x class.2)) all
+    ∙ ap (λ (x : ℕ). behind after (classes_from r d n x (empty_with class.1 empty) after class.2)) high
+    ∙ ap (λ (x : ℕ). behind after (classes_from r d n height x after class.2)) few
+    ∙ ap (λ (x : S). behind after (classes_from r d n height count after x)) left
 after-made r d n empty height count new after t (Err f) e = cc
 
-after-fault : {S : Type 0} (r : ClassReadings S) (d : SymbolInput) (n empty : ℕ) (new : List Grid) (error : DecodeError) (answer : Result (HeightClass × S) DecodeError) → class_behind new empty answer ≡ Err error → after_class r d n empty new answer ≡ Err error
+after-fault : {S : Type 0} (r : ClassReadings S) (d : SymbolInput) (n empty : ℕ) (new : List Grid) (error : DecodeError) (answer : Result (ℕ × List Grid × S) DecodeError) → class_behind new empty answer ≡ Err error → after_class r d n empty new answer ≡ Err error
 unfolding after_class
 after-fault r d n empty new error (Ok class) e = cc
 after-fault r d n empty new error (Err f) e = cc
 
-missing-more : {S : Type 0} (r : ClassReadings S) (d : SymbolInput) (n m before empty : ℕ) (new : List Grid) (s : S) → n ≡ suc m → length new < d.header.num_new_symbols → classes_behind new (classes_from r d n before empty new s) ≡ after_class r d m empty new (height_class r d before empty new s)
+missing-more : {S : Type 0} (r : ClassReadings S) (d : SymbolInput) (n m before empty : ℕ) (new : List Grid) (s : S) → n ≡ suc m → length new < d.header.num_new_symbols → behind new (classes_from r d n before empty new s) ≡ after_class r d m empty new (height_class r d before empty new s)
 unfolding classes_from after_class
 missing-more r d n m before empty new s more missing = rw (more, lt-leb d.header.num_new_symbols (length new) missing) refl
 
-pub classes-next : {S : Type 0} (r : ClassReadings S) (d : SymbolInput) (n m before empty height count : ℕ) (new after : List Grid) (s t : S) → n ≡ suc m → length new < d.header.num_new_symbols → class_behind new empty (height_class r d before empty new s) ≡ Ok (after, (height, (count, t))) → classes_behind new (classes_from r d n before empty new s) ≡ classes_behind after (classes_from r d m height count after t)
+pub classes-next : {S : Type 0} (r : ClassReadings S) (d : SymbolInput) (n m before empty height count : ℕ) (new after : List Grid) (s t : S) → n ≡ suc m → length new < d.header.num_new_symbols → class_behind new empty (height_class r d before empty new s) ≡ Ok (after, (height, (count, t))) → behind new (classes_from r d n before empty new s) ≡ behind after (classes_from r d m height count after t)
 classes-next r d n m before empty height count new after s t more missing e =
     missing-more r d n m before empty new s more missing ∙ after-made r d m empty height count new after t (height_class r d before empty new s) e
 
-pub classes-fault : {S : Type 0} (r : ClassReadings S) (d : SymbolInput) (n m before empty : ℕ) (new : List Grid) (s : S) (error : DecodeError) (whole : Result (List Grid × S) DecodeError) → n ≡ suc m → classes_behind new (classes_from r d n before empty new s) ≡ whole → length new < d.header.num_new_symbols → (error ≡ errors.OutOfMemory) ⊎ (class_behind new empty (height_class r d before empty new s) ≡ Err error) → (error ≡ errors.OutOfMemory) ⊎ (whole ≡ Err error)
+pub classes-fault : {S : Type 0} (r : ClassReadings S) (d : SymbolInput) (n m before empty : ℕ) (new : List Grid) (s : S) (error : DecodeError) (whole : Result (List Grid × S) DecodeError) → n ≡ suc m → behind new (classes_from r d n before empty new s) ≡ whole → length new < d.header.num_new_symbols → (error ≡ errors.OutOfMemory) ⊎ (class_behind new empty (height_class r d before empty new s) ≡ Err error) → (error ≡ errors.OutOfMemory) ⊎ (whole ≡ Err error)
 classes-fault r d n m before empty new s error whole more so_far missing (inl memory) = inl memory
 classes-fault r d n m before empty new s error whole more so_far missing (inr e) =
     inr (sym so_far ∙ missing-more r d n m before empty new s more missing ∙ after-fault r d m empty new error (height_class r d before empty new s) e)
@@ -186,6 +182,6 @@ class-fault {S} r d before empty height new s t value difference z error same so
     fits' : size_in_word (pos before +ℤ difference) ≡ Ok height
     fits' = subst (λ (k : ℤ). size_in_word (pos before +ℤ k) ≡ Ok height) same fits
 
-    unread : (answer : Result (List Grid × S) DecodeError) → behind new answer ≡ Err error → class_behind new empty (answer >>= λ class. Ok (record { height = height; symbols = class.0 }, class.1)) ≡ Err error
+    unread : (answer : Result (List Grid × S) DecodeError) → behind new answer ≡ Err error → class_behind new empty (answer >>= λ class. Ok (height, class.0, class.1)) ≡ Err error
     unread (Ok class) e = cc
     unread (Err f) e = cc

@@ -6,19 +6,29 @@ use Rattle.jbig2_base.specs.declared.error.DecodeError.{DecodeError}
 use Rattle.jbig2_base.proofs.FillLemmas.{white-made}
 use Rattle.jbig2_coder.specs.Coder.{Coder, Context, Registers}
 use Rattle.jbig2_region.specs.inner.Holds.{Holds}
-use Rattle.jbig2_region.specs.Raster.{Region, so_far, decoded_region, no_pixels}
+use Rattle.jbig2_region.specs.Raster.{Coding, Region, so_far, decoded_region, no_pixels}
 use Rattle.jbig2_region.specs.Generic.{coding_of}
 use Rattle.jbig2_region.specs.Templates.{filled, four_pixels, template_pixels}
 use Rattle.jbig2_region.specs.declared.template.AdaptiveTemplatePixel.{AdaptiveTemplatePixel}
-use Rattle.jbig2_symbol.specs.SymbolBitmaps.{after_region, coded_region, coded_symbol, symbol_coding}
+use Rattle.jbig2_region.specs.declared.template.Template.{Template}
+use Rattle.jbig2_symbol.specs.SymbolBitmaps.{coded_symbol}
 use Rattle.jbig2_symbol.specs.SymbolHeader.{SymbolHeader}
-use Rattle.jbig2_symbol.specs.SymbolReading.{SymbolState, state_of}
+use Rattle.jbig2_symbol.specs.SymbolReading.{SymbolState}
 use Rattle.jbig2_text.specs.TextCoding.{Coded}
 use Rattle.jbig2_symbol.proofs.UsedPixels.{filled_pixels}
 
--- the state behind a symbol
+-- how a symbol's region is coded, and the state behind it
+abbrev pub symbol_coding : SymbolHeader → Template → Coding
+symbol_coding h template = coding_of false template (template_pixels false template h.adaptive_template_pixels)
+
+abbrev pub after_region : Region → SymbolState Coded → SymbolState Coded
+after_region r s = record {
+  coding = record s.coding { coder = record s.coding.coder { registers = r.registers } };
+  contexts = record s.contexts { generic = r.contexts };
+}
+
 abbrev pub behind_symbol : SymbolState Coded → Coder → List Context → SymbolState Coded
-behind_symbol s coder contexts = state_of (record s.coding { coder = coder }) (record s.contexts { generic = contexts })
+behind_symbol s coder contexts = record { coding = record s.coding { coder = coder }; contexts = record s.contexts { generic = contexts } }
 
 holds-made : (s : SymbolState Coded) (width height : ℕ) (r : Region) (grid : Grid) (next : Coder) (after : List Context) → Holds width height s.coding.coder.bytes r grid next after → ◌≡◌ {A = Result (Grid × SymbolState Coded) DecodeError} (Ok (so_far width height r.pixels, after_region r s)) (Ok (grid, behind_symbol s next after))
 holds-made s width height r grid next after holds = rw (holds.pixels, holds.contexts) (ap (λ (c : Coder). Ok (so_far width height r.pixels, behind_symbol s c r.contexts)) coder)
@@ -30,7 +40,7 @@ holds-made s width height r grid next after holds = rw (holds.pixels, holds.cont
     coder = ap (λ (bytes : List ℕ). made bytes r.registers) (sym holds.bytes) ∙ ap (λ (registers : Registers). made next.bytes registers) (sym holds.registers)
 
 state-made : (h : SymbolHeader) (s : SymbolState Coded) (width height : ℕ) (white grid : Grid) (next : Coder) (after : List Context) → blank_or_overflow width height false ≡ Ok white → Holds white.width white.height s.coding.coder.bytes (decoded_region (symbol_coding h s.contexts.template) white.width white.height s.coding.coder.bytes (no_pixels s.coding.coder.registers s.contexts.generic)) grid next after → coded_symbol h width height s ≡ Ok (grid, behind_symbol s next after)
-unfolding coded_symbol coded_region
+unfolding coded_symbol
 state-made h s width height white grid next after made holds =
     let fits = white-made width height false white made in
     let sized = subst (λ (g : Grid). Holds g.width g.height s.coding.coder.bytes (decoded_region (symbol_coding h s.contexts.template) g.width g.height s.coding.coder.bytes (no_pixels s.coding.coder.registers s.contexts.generic)) grid next after) fits.1 holds in

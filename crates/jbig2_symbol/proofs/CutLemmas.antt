@@ -17,7 +17,8 @@ use Rattle.jbig2_base.specs.inner.Writes.{with_pixels}
 use Rattle.jbig2_base.proofs.BitLemmas.{bit-shr}
 use Rattle.jbig2_base.proofs.FillLemmas.{all-filled, filled-store}
 use Rattle.jbig2_base.proofs.GridLemmas.{grid_of-ext}
-use Rattle.jbig2_symbol.specs.SymbolBitmaps.{put_behind, raw_pixel, raw_rows, raw_stride, symbol_cut, symbols_cut}
+use Rattle.jbig2_symbol.specs.SymbolBitmaps.{raw_pixel, raw_rows, raw_stride, symbol_cut, symbols_cut}
+use Rattle.jbig2_symbol.specs.inner.SymbolViews.{put_behind}
 
 -- ---- symbols behind others
 behind-cons : (before : List Grid) (symbol : Grid) (others : Result (List Grid) DecodeError) → put_behind before (others >>= λ more. Ok (symbol ∷ more)) ≡ put_behind (before ++ symbol ∷ []) others

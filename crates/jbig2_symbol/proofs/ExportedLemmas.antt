@@ -13,7 +13,10 @@ use Rattle.jbig2_base.specs.Grid.{Grid, blank}
 use Rattle.jbig2_base.specs.declared.error.DecodeError.{DecodeError}
 use Rattle.jbig2_base.specs.declared.error.DecodeError.TheVariants.{OutOfMemory}
 use Rattle.jbig2_base.proofs.Causes.{same-ok}
-use Rattle.jbig2_symbol.specs.Exports.{ended_runs, exported_from, is_exported}
+use Rattle.jbig2_symbol.specs.Exports.{ended_runs, exported_from}
+
+abbrev is_exported : List ℕ → ℕ → Bool
+is_exported runs i = eqb (ended_runs 0 runs i % 2) 1
 
 -- no run ends before it has begun
 ended-none : (runs : List ℕ) (from i : ℕ) → i < from → ended_runs from runs i ≡ 0

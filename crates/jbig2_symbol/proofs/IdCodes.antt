@@ -1,5 +1,5 @@
 -- The codes of the ids of a dictionary's symbols: all of one length, they are never more than so many bits tell apart.
-use Rattle.std.proofs.Common.{◌≡◌, ℕ, zero, suc, ◌+◌, ◌-◌, ◌^◌, ◌<◌, ◌≤◌, ltb, leb, max, ⊎_elim, pow-suc, pow_mono, true, ◌&&◌, List, [], ◌∷◌, ◌++◌, pos, refl, ◌∙◌, arith}
+use Rattle.std.proofs.Common.{if◌then◌else◌, ◌≡◌, ℕ, zero, suc, ◌+◌, ◌-◌, ◌^◌, ◌<◌, ◌≤◌, ltb, leb, max, ⊎_elim, pow-suc, pow_mono, true, ◌&&◌, List, [], ◌∷◌, ◌++◌, pos, refl, ◌∙◌, arith}
 use Rattle.std.proofs.lemmas.Bool.{cases_lt, cond-true, cond_both, le-leb, leb-true, lt-ltb, ltb-true}
 use Rattle.jbig2_base.specs.Search.{code_length}
 use Rattle.jbig2_base.proofs.SearchLemmas.{place-found}
@@ -7,8 +7,8 @@ use Rattle.jbig2_region.proofs.Told.{cause-if}
 use Rattle.jbig2_coder.specs.PrefixCode.{is_crowded, longest, share, weight}
 use Rattle.jbig2_coder.specs.Tables.{line, uniform}
 use Rattle.jbig2_coder.specs.declared.huffman_table.line.TableLine.{TableLine}
-use Rattle.jbig2_symbol.specs.Aggregates.{coded_ids, id_bits}
-use Rattle.jbig2_symbol.specs.ClassCauses.{IdCodesAreThere}
+use Rattle.jbig2_symbol.specs.SymbolBitmaps.{id_bits}
+use Rattle.jbig2_symbol.specs.Causes.{IdCodesAreThere}
 use Rattle.jbig2_symbol.specs.SymbolHeader.{SymbolHeader}
 
 -- ---- codes of one length
@@ -56,6 +56,9 @@ enough-bits n =
 
 some-bits : (n bits len : ℕ) → n ≤ 2 ^ bits → bits ≤ len → n ≤ 2 ^ len
 some-bits n bits len few more = let up : 2 ^ bits ≤ 2 ^ len = pow_mono more in omega (arith, few, up)
+
+abbrev coded_ids : SymbolHeader → ℕ → ℕ
+coded_ids h symbols = if h.flags.use_huffman && h.flags.use_refagg then symbols + h.num_new_symbols else 0
 
 coded-few : (h : SymbolHeader) (symbols : ℕ) → coded_ids h symbols ≤ 2 ^ max 1 (id_bits h symbols)
 coded-few h symbols =

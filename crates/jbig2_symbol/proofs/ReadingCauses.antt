@@ -1,5 +1,5 @@
 -- Which rule is broken where the tables, the contexts, the exports or a number of a symbol dictionary are refused.
-use Rattle.std.proofs.Common.{◌≡◌, ◌≢◌, inl, inr, ℕ, zero, suc, ◌+◌, ◌-◌, ◌<◌, ◌==◌, nat_le, nat_lt, Bool, true, false, not, ◌&&◌, List, [], ◌∷◌, length, Option, Some, None, Result, Ok, Err, ℤ, pos, negsuc, ◌+ℤ◌, refl, sym, ap, subst, ◌∙◌, arith}
+use Rattle.std.proofs.Common.{◌≡◌, ◌≢◌, ◌⊎◌, inl, inr, ℕ, zero, suc, ◌+◌, ◌-◌, ◌<◌, ◌==◌, nat_le, nat_lt, Bool, true, false, not, ◌&&◌, List, [], ◌∷◌, length, Option, Some, None, Result, Ok, Err, ℤ, pos, negsuc, ◌+ℤ◌, refl, sym, ap, subst, ◌∙◌, arith}
 use Rattle.std.proofs.lemmas.Bool.{and_cases, and_parts, cond_both, eq-eqb, eqb-true, false≢true, leb-true, ltb-false, not-false, not-true}
 use Rattle.std.proofs.lemmas.Bool as tests
 use Rattle.std.specs.Prelude.{IfErr}
@@ -14,9 +14,9 @@ use Rattle.jbig2_base.specs.declared.error.SymbolError.TheVariants as symbols
 use Rattle.jbig2_base.proofs.Causes.{cause-next, cause-refused}
 use Rattle.jbig2_coder.specs.PrefixCode.{Member}
 use Rattle.jbig2_text.specs.TextCoding.{in_band}
-use Rattle.jbig2_symbol.specs.Aggregates.{instance_count, some_instances}
-use Rattle.jbig2_symbol.specs.Causes.{BreaksContexts, BreaksCount, BreaksExported, BreaksRun, BreaksRunBehind, BreaksRunValue, BreaksRuns, BreaksTables, BreaksWidth, ContextsHaveCauses, ExportsHaveCauses, InstanceCountsHaveCauses, IsNoSize, SymbolTablesHaveCauses, WidthsHaveCauses, taken_by}
-use Rattle.jbig2_symbol.specs.Exports.{export_runs, exported, exports, most_empty, next_run, not_same, runs_from}
+use Rattle.jbig2_symbol.specs.SymbolBitmaps.{instance_count, some_instances}
+use Rattle.jbig2_symbol.specs.Causes.{BreaksContexts, BreaksCount, BreaksRunBehind, BreaksRunValue, BreaksTables, ContextsHaveCauses, ExportsHaveCauses, InstanceCountsHaveCauses, IsNoSize, SymbolTablesHaveCauses, WidthsHaveCauses, taken_by}
+use Rattle.jbig2_symbol.specs.Exports.{export_runs, exported, exports, next_run, runs_from}
 use Rattle.jbig2_symbol.specs.HeightClasses.{next_width, size_in_word, width_by}
 use Rattle.jbig2_symbol.specs.SymbolReading.{ClassReadings, SymbolInput, SymbolReadings, first_contexts, is_refinement_template, is_template, not_negative, symbol_tables, table_for}
 use Rattle.jbig2_symbol.specs.declared.symbol.header.HuffmanTableSelection.{HuffmanTableSelection}
@@ -71,7 +71,7 @@ symbol_tables_causes flags customs =
 pub contexts_causes : ContextsHaveCauses
 unfolding first_contexts
 contexts_causes flags None =
-    cause-if (BreaksContexts flags None) (not flags.bitmap_context_used) _ _ (λ fresh. tt) (λ used. (not-false flags.bitmap_context_used used, tt))
+    cause-if (BreaksContexts flags None) (not flags.bitmap_context_used) _ _ (λ fresh. tt) (λ used. not-false flags.bitmap_context_used used)
 contexts_causes flags (Some contexts) =
     let P : DecodeError → Type 0 = BreaksContexts flags (Some contexts) in
     let generic : Bool = is_template contexts.template flags.template in
@@ -82,17 +82,20 @@ contexts_causes flags (Some contexts) =
 
 -- ---- exports
 run-of : {S : Type 0} (empty left : ℕ) (value : Option ℤ) (after : S)
-    → IfErr (in_band (errors.Huffman huffman.UnexpectedOob) value >>= λ number. not_negative (errors.Huffman huffman.InvalidCode) number >>= λ run. refuse_if (run == 0 && nat_le most_empty empty) (errors.Symbol symbols.Invalid) >>= λ few. refuse_if (nat_lt left run) (errors.Symbol symbols.OutOfRange) >>= λ within. (let r : Result (ℕ × S) DecodeError = Ok (run, after) in r)) (BreaksRunValue empty left value)
+    → IfErr (in_band (errors.Huffman huffman.UnexpectedOob) value >>= λ number. not_negative (errors.Huffman huffman.InvalidCode) number >>= λ run. refuse_if (run == 0 && nat_le 1048576 empty) (errors.Symbol symbols.Invalid) >>= λ few. refuse_if (nat_lt left run) (errors.Symbol symbols.OutOfRange) >>= λ within. (let r : Result (ℕ × S) DecodeError = Ok (run, after) in r)) (BreaksRunValue empty left value)
 run-of empty left None after = refl
 run-of empty left (Some (negsuc n)) after = (n, refl)
 run-of empty left (Some (pos run)) after =
     let P : DecodeError → Type 0 = BreaksRunValue empty left (Some (pos run)) in
-    let idle : Bool = run == 0 && nat_le most_empty empty in
+    let idle : Bool = run == 0 && nat_le 1048576 empty in
     let far : Bool = nat_lt left run in
     cause-next P (refuse_if idle (errors.Symbol symbols.Invalid)) _ (cause-refused P idle (errors.Symbol symbols.Invalid) (λ is.
-    let both = and_parts (run == 0) (nat_le most_empty empty) is in
-    (ap (λ (n : ℕ). Some (pos n)) (eqb-true run 0 both.0), leb-true most_empty empty both.1))) (λ few few_is.
+    let both = and_parts (run == 0) (nat_le 1048576 empty) is in
+    (ap (λ (n : ℕ). Some (pos n)) (eqb-true run 0 both.0), leb-true 1048576 empty both.1))) (λ few few_is.
     cause-next P (refuse_if far (errors.Symbol symbols.OutOfRange)) _ (cause-refused P far (errors.Symbol symbols.OutOfRange) (λ is. (run, refl, tests.ltb-true left run is))) (λ within within_is. tt))
+
+abbrev BreaksRun : {S : Type 0} → ClassReadings S → SymbolInput → ℕ → ℕ → S → DecodeError → Type 0
+BreaksRun r d empty left s e = InSteps (r.export_run d s) (IsOf (r.export_run d s) e) (λ value. BreaksRunValue empty left value.0 e)
 
 run-causes : {S : Type 0} (r : ClassReadings S) (d : SymbolInput) (empty left : ℕ) (s : S) → IfErr (next_run r d empty left s) (BreaksRun r d empty left s)
 unfolding next_run
@@ -122,15 +125,20 @@ pub exports_causes : {S : Type 0} (r : ClassReadings S) → ExportsHaveCauses r
 unfolding exports
 exports_causes r d grids s =
     let count = length grids in
-    in-steps (export_runs r d count s) _ (BreaksRuns r d count s) (λ runs. BreaksExported d grids runs.0) (runs-cause r d (count + most_empty) 0 count s) (λ runs runs_is.
-    let P : DecodeError → Type 0 = BreaksExported d grids runs.0 in
-    let other : Bool = not_same (length (exported runs.0 grids)) d.header.num_exported_symbols in
-    cause-next P (refuse_if other (errors.Symbol symbols.NoSymbols)) _ (cause-refused P other (errors.Symbol symbols.NoSymbols) (λ is. differ (length (exported runs.0 grids)) d.header.num_exported_symbols is)) (λ right right_is. tt))
+    in-steps (export_runs r d count s) _ (Runs r d 0 count s) (λ runs e. (e ≡ errors.Symbol symbols.NoSymbols) × (length (exported runs.0 grids) ≢ d.header.num_exported_symbols)) (runs-cause r d (count + 1048576) 0 count s) (λ runs runs_is.
+    let P : DecodeError → Type 0 = λ e. (e ≡ errors.Symbol symbols.NoSymbols) × (length (exported runs.0 grids) ≢ d.header.num_exported_symbols) in
+    let other : Bool = not (length (exported runs.0 grids) == d.header.num_exported_symbols) in
+    cause-next P (refuse_if other (errors.Symbol symbols.NoSymbols)) _ (cause-refused P other (errors.Symbol symbols.NoSymbols) (λ is. (refl, differ (length (exported runs.0 grids)) d.header.num_exported_symbols is))) (λ right right_is. tt))
 
 -- ---- widths and instances
 pub told-size : (P : DecodeError → Type 0) (z : ℤ) → (IsNoSize z → P (errors.Overflow BitmapDimension)) → Told (size_in_word z) P (λ n. z ≡ pos n)
 told-size P (pos n) why = told-if P (λ (m : ℕ). pos n ≡ pos m) (nat_lt n 4294967296) (Ok n) (Err (errors.Overflow BitmapDimension)) (λ fits. refl) (λ large. why (ltb-false n 4294967296 large))
 told-size P (negsuc n) why = why tt
+
+abbrev BreaksWidth : ℕ → ℕ → ℕ → Option ℤ → DecodeError → Type 0
+BreaksWidth room width total value e =
+    ((e ≡ errors.Symbol symbols.TooManySymbols) × (room ≡ 0) × (value ≢ None))
+    ⊎ ((e ≡ errors.Overflow BitmapDimension) × ((difference : ℤ) × (value ≡ Some difference) × (IsNoSize (pos width +ℤ difference) ⊎ IsNoSize (pos total +ℤ (pos width +ℤ difference)))))
 
 width-cause : (room width total : ℕ) (value : Option ℤ) → IfErr (width_by room width total value) (BreaksWidth room width total value)
 width-cause room width total None = tt
@@ -138,9 +146,9 @@ width-cause room width total (Some difference) =
     let P : DecodeError → Type 0 = BreaksWidth room width total (Some difference) in
     let none : Bool = room == 0 in
     let next_width_is = pos width +ℤ difference in
-    cause-last P (λ x. none ≡ false) (refuse_if none (errors.Symbol symbols.TooManySymbols)) _ (told-refused P none (errors.Symbol symbols.TooManySymbols) (λ is. (eqb-true room 0 is, λ same. absurd (cc)))) (λ missing there.
-    cause-last P (λ (n : ℕ). next_width_is ≡ pos n) (size_in_word next_width_is) _ (told-size P next_width_is (λ no. (difference, refl, inl no))) (λ next is.
-    cause-last P (λ (n : ℕ). pos total +ℤ pos next ≡ pos n) (size_in_word (pos total +ℤ pos next)) _ (told-size P (pos total +ℤ pos next) (λ no. (difference, refl, inr (subst (λ (z : ℤ). IsNoSize (pos total +ℤ z)) (sym is) no)))) (λ all all_is. tt)))
+    cause-last P (λ x. none ≡ false) (refuse_if none (errors.Symbol symbols.TooManySymbols)) _ (told-refused P none (errors.Symbol symbols.TooManySymbols) (λ is. inl (refl, eqb-true room 0 is, λ same. absurd (cc)))) (λ missing there.
+    cause-last P (λ (n : ℕ). next_width_is ≡ pos n) (size_in_word next_width_is) _ (told-size P next_width_is (λ no. inr (refl, (difference, refl, inl no)))) (λ next is.
+    cause-last P (λ (n : ℕ). pos total +ℤ pos next ≡ pos n) (size_in_word (pos total +ℤ pos next)) _ (told-size P (pos total +ℤ pos next) (λ no. inr (refl, (difference, refl, inr (subst (λ (z : ℤ). IsNoSize (pos total +ℤ z)) (sym is) no))))) (λ all all_is. tt)))
 
 pub widths_causes : {S : Type 0} (r : SymbolReadings S) → WidthsHaveCauses r
 unfolding next_width

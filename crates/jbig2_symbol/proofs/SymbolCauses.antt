@@ -10,19 +10,18 @@ use Rattle.jbig2_base.specs.Grid.{Grid}
 use Rattle.jbig2_base.specs.declared.error.DecodeError.{DecodeError}
 use Rattle.jbig2_base.specs.declared.error.DecodeError.TheVariants as errors
 use Rattle.jbig2_base.specs.declared.error.OverflowError.TheVariants.{BitmapDimension}
+use Rattle.jbig2_base.specs.declared.error.ParseError.TheVariants.{UnexpectedEof}
 use Rattle.jbig2_base.specs.declared.error.SymbolError.TheVariants.{OutOfRange}
 use Rattle.jbig2_coder.specs.PrefixCode.{Member, decoded_value}
 use Rattle.jbig2_coder.specs.declared.integer_procedures.IntegerProcedure.TheVariants.{Iaai}
 use Rattle.jbig2_text.specs.Causes.{Behind}
 use Rattle.jbig2_text.specs.CausesOfRegions.{RefusesValue, coder_causes, prefix_causes}
-use Rattle.jbig2_text.specs.CausesOfText.{BreaksInstances, HaveCauses, ReadingCauses}
+use Rattle.jbig2_text.specs.CausesOfText.{BreaksInstances, HaveCauses, NamesNone, ReadingCauses}
 use Rattle.jbig2_text.specs.Refining.{Refining}
 use Rattle.jbig2_text.specs.Text.{Readings, TextParams, some_symbol, symbol_of, text_instances, text_region}
-use Rattle.jbig2_text.specs.TextCoding.{Prefixed, by_coder, by_prefix_codes}
-use Rattle.jbig2_symbol.specs.Aggregates.{aggregate_params, by_instances, coded_aggregate, id_bits, instance_count, plain_id, prefixed_aggregate, prefixed_at, put_together, refined_alone}
-use Rattle.jbig2_symbol.specs.Causes.{BreaksCount}
-use Rattle.jbig2_symbol.specs.SymbolBitmaps.{coded_symbol, fits_symbol}
-use Rattle.jbig2_symbol.specs.SymbolCauses.{AloneReading, BreaksByInstances, BreaksCodedAggregate, BreaksCodedBitmap, BreaksPrefixedAggregate, BreaksRefined, CodedAggregatesHaveCauses, CodedBitmapsHaveCauses, CodedSymbolsHaveCauses, LacksId, PrefixedAggregatesHaveCauses, alone_by_bits, alone_by_coder}
+use Rattle.jbig2_text.specs.TextCoding.{Coded, Prefixed, by_coder, by_prefix_codes, next_id}
+use Rattle.jbig2_symbol.specs.Causes.{BreaksByInstances, BreaksCodedAggregate, BreaksCodedBitmap, BreaksCount, BreaksPrefixedAggregate, CodedAggregatesHaveCauses, CodedBitmapsHaveCauses, CodedSymbolsHaveCauses, PrefixedAggregatesHaveCauses}
+use Rattle.jbig2_symbol.specs.SymbolBitmaps.{aggregate_params, by_instances, coded_aggregate, coded_symbol, fits_symbol, id_bits, instance_count, plain_id, prefixed_aggregate, prefixed_at, put_together, refined_alone}
 use Rattle.jbig2_symbol.specs.SymbolCoding.{coded_bitmap}
 use Rattle.jbig2_symbol.specs.SymbolReading.{SymbolState, by_procedure, by_table}
 use Rattle.jbig2_text.proofs.CausesOfInstances.{cause-some}
@@ -54,13 +53,19 @@ unfolding coded_symbol
 coded_symbol_causes h width height s = cause-next (BreaksSides width height) (fits_symbol width height) _ (sides-cause width height) (λ fits fits_is. tt)
 
 -- ---- refined, or put together
+abbrev BreaksRefined : {S : Type 0} → ReadingCauses S → Readings S → List Grid → ℤ → ℕ → ℕ → S → DecodeError → Type 0
+BreaksRefined c r symbols id width height s e =
+    c.x_delta s e
+    ⊎ Behind (r.x_delta s) (λ rdx. c.y_delta rdx.1 e
+    ⊎ Behind (r.y_delta rdx.1) (λ rdy. ((e ≡ errors.Symbol OutOfRange) × NamesNone symbols id) ⊎ BreaksSides width height e ⊎ c.refined rdy.1 e))
+
 cause-alone : {S : Type 0} (c : ReadingCauses S) (r : Readings S) (a : HaveCauses r c) (P : DecodeError → Type 0) (symbols : List Grid) (id : ℤ) (width height : ℕ) (f : Refining) (s : S)
     → ((e : DecodeError) → BreaksRefined c r symbols id width height s e → P e) → IfErr (refined_alone r symbols id width height f s) P
 unfolding refined_alone
 cause-alone c r a P symbols id width height f s why =
     cause-next P (r.x_delta s) _ (cause-more (c.x_delta s) P (r.x_delta s) (a.x_delta s) (λ e no. why e (inl no))) (λ rdx x_is.
     cause-next P (r.y_delta rdx.1) _ (cause-more (c.y_delta rdx.1) P (r.y_delta rdx.1) (a.y_delta rdx.1) (λ e no. why e (inr (rdx, x_is, inl no)))) (λ rdy y_is.
-    cause-next P (some_symbol (symbol_of symbols id)) _ (cause-of P _ (some_symbol (symbol_of symbols id)) (cause-some P symbols id (symbol_of symbols id) refl (λ none. why (errors.Symbol OutOfRange) (inr (rdx, x_is, inr (rdy, y_is, inl none)))))) (λ from from_is.
+    cause-next P (some_symbol (symbol_of symbols id)) _ (cause-of P _ (some_symbol (symbol_of symbols id)) (cause-some P symbols id (symbol_of symbols id) refl (λ none. why (errors.Symbol OutOfRange) (inr (rdx, x_is, inr (rdy, y_is, inl (refl, none))))))) (λ from from_is.
     cause-next P (fits_symbol width height) _ (cause-more (BreaksSides width height) P (fits_symbol width height) (sides-cause width height) (λ e no. why e (inr (rdx, x_is, inr (rdy, y_is, inr (inl no)))))) (λ fits fits_is.
     cause-more (c.refined rdy.1) P (r.refined _ width height f rdy.1) (a.refined _ width height f rdy.1) (λ e no. why e (inr (rdx, x_is, inr (rdy, y_is, inr (inr no)))))))))
 
@@ -71,12 +76,12 @@ cause-together c r a P p width height f s why =
     cause-next P (fits_symbol width height) _ (cause-more (BreaksSides width height) P (fits_symbol width height) (sides-cause width height) (λ e no. why e (inl no))) (λ fits fits_is.
     cause-next P (text_instances r p f s) _ (cause-more (BreaksInstances c r p f s) P (text_instances r p f s) (all_instance_causes c r a p f s) (λ e no. why e (inr no))) (λ found found_is. tt))
 
-cause-instances : {S : Type 0} (c : ReadingCauses S) (r : Readings S) (a : HaveCauses r c) (alone : AloneReading S) (law : (s : S) → IfErr (alone.id s) (alone.refuses s)) (p : TextParams) (width height : ℕ) (f : Refining) (s : S)
-    → IfErr (by_instances r alone.id p width height f s) (BreaksByInstances c r alone p width height f s)
-cause-instances c r a alone law p width height f s =
-    let P : DecodeError → Type 0 = BreaksByInstances c r alone p width height f s in
+cause-instances : {S : Type 0} (c : ReadingCauses S) (r : Readings S) (a : HaveCauses r c) (alone : S → Result (ℤ × S) DecodeError) (lacks : S → DecodeError → Type 0) (law : (s : S) → IfErr (alone s) (lacks s)) (p : TextParams) (width height : ℕ) (f : Refining) (s : S)
+    → IfErr (by_instances r alone p width height f s) (BreaksByInstances c r alone lacks p width height f s)
+cause-instances c r a alone lacks law p width height f s =
+    let P : DecodeError → Type 0 = BreaksByInstances c r alone lacks p width height f s in
     cause-if P (p.count == 1) _ (put_together r p width height f s)
-    (λ one. cause-next P (alone.id s) _ (cause-more (alone.refuses s) P (alone.id s) (law s) (λ e no. inl (eqb-true p.count 1 one, inl no))) (λ id id_is.
+    (λ one. cause-next P (alone s) _ (cause-more (lacks s) P (alone s) (law s) (λ e no. inl (eqb-true p.count 1 one, inl no))) (λ id id_is.
     cause-alone c r a P p.symbols id.0 width height f id.1 (λ e no. inl (eqb-true p.count 1 one, inr (id, id_is, no)))))
     (λ other. cause-together c r a P p width height f s (λ e no. inr (eqb-false p.count 1 other, no)))
 
@@ -97,9 +102,11 @@ coded_aggregate_causes d new width height s =
     cause-next P (instance_count (by_procedure Iaai s)) _ (cause-count P (by_procedure Iaai s) (λ e never. absurd cc) (λ e no. inl no)) (λ count count_is.
     let p = aggregate_params d new count.0 in
     let refining = count.1.contexts.refining in
-    cause-next P (by_instances by_coder alone_by_coder.id p width height refining count.1.coding) _
-    (cause-more (BreaksByInstances coder_causes by_coder alone_by_coder p width height refining count.1.coding) P (by_instances by_coder alone_by_coder.id p width height refining count.1.coding)
-    (cause-instances coder_causes by_coder by_coder-causes alone_by_coder (λ c. tt) p width height refining count.1.coding) (λ e no. inr (count, count_is, no))) (λ symbol symbol_is. tt))
+    let alone : Coded → Result (ℤ × Coded) DecodeError = λ c. Ok (next_id c) in
+    let lacks : Coded → DecodeError → Type 0 = λ c e. ⊥ in
+    cause-next P (by_instances by_coder alone p width height refining count.1.coding) _
+    (cause-more (BreaksByInstances coder_causes by_coder alone lacks p width height refining count.1.coding) P (by_instances by_coder alone p width height refining count.1.coding)
+    (cause-instances coder_causes by_coder by_coder-causes alone lacks (λ c. tt) p width height refining count.1.coding) (λ e no. inr (count, count_is, no))) (λ symbol symbol_is. tt))
 
 refused-value : (table : List Member) (s : SymbolState Place) (e : DecodeError) → by_table table s ≡ Err e → RefusesValue table (bits_left s.coding) e
 refused-value table s e = on (decoded_value table (bits_left s.coding)).answer
@@ -111,10 +118,14 @@ refused-value table s e = on (decoded_value table (bits_left s.coding)).answer
     on (Ok value) is = absurd cc
     on (Err f) is = cc
 
+-- by prefix codes, the bits of the id are fewer than it has
+abbrev LacksId : ℕ → Prefixed → DecodeError → Type 0
+LacksId bits s e = (e ≡ errors.Parse UnexpectedEof) × (length (bits_left s.place) < bits)
+
 cause-plain_id : (bits : ℕ) (s : Prefixed) → IfErr (plain_id bits s) (LacksId bits s)
 cause-plain_id bits s =
     let P : DecodeError → Type 0 = LacksId bits s in
-    cause-next P _ _ (cause-next P _ _ (cause-bits P end_of_bytes bits s.place (λ short. short)) (λ n is. tt)) (λ n is. tt)
+    cause-next P _ _ (cause-next P _ _ (cause-bits P end_of_bytes bits s.place (λ short. (refl, short))) (λ n is. tt)) (λ n is. tt)
 
 pub prefixed_aggregate_causes : PrefixedAggregatesHaveCauses
 unfolding prefixed_aggregate
@@ -122,14 +133,13 @@ prefixed_aggregate_causes d new width height s =
     let P : DecodeError → Type 0 = BreaksPrefixedAggregate d new width height s in
     let reading = by_table d.tables.counts s in
     let bits : ℕ = max 1 (id_bits d.header (length d.symbols)) in
-    let alone : AloneReading Prefixed = alone_by_bits bits in
     cause-next P (instance_count reading) _ (cause-count P reading (λ e is. inl (refused-value d.tables.counts s e is)) (λ e no. inr (inl no))) (λ count count_is.
     let p = aggregate_params d new count.0 in
     let refining = count.1.contexts.refining in
     let at = prefixed_at d count.1.coding in
-    cause-next P (by_instances by_prefix_codes alone.id p width height refining at) _
-    (cause-more (BreaksByInstances prefix_causes by_prefix_codes alone p width height refining at) P (by_instances by_prefix_codes alone.id p width height refining at)
-    (cause-instances prefix_causes by_prefix_codes by_prefix_codes-causes alone (cause-plain_id bits) p width height refining at) (λ e no. inr (inr (count, count_is, no)))) (λ symbol symbol_is. tt))
+    cause-next P (by_instances by_prefix_codes (plain_id bits) p width height refining at) _
+    (cause-more (BreaksByInstances prefix_causes by_prefix_codes (plain_id bits) (LacksId bits) p width height refining at) P (by_instances by_prefix_codes (plain_id bits) p width height refining at)
+    (cause-instances prefix_causes by_prefix_codes by_prefix_codes-causes (plain_id bits) (LacksId bits) (cause-plain_id bits) p width height refining at) (λ e no. inr (inr (count, count_is, no)))) (λ symbol symbol_is. tt))
 
 pub coded_bitmap_causes : CodedBitmapsHaveCauses
 unfolding coded_bitmap

@@ -17,7 +17,7 @@ use Rattle.jbig2_region.specs.Refinement.{refined_context}
 use Rattle.jbig2_region.specs.RefinementTemplates.{refinement_pixels_at}
 use Rattle.jbig2_text.specs.Refining.{refined_by}
 use Rattle.jbig2_text.specs.Text.{strip_delta, strip_begun, cursor_moved, instance_symbol, symbol_placed, with_instance, after_instances, text_instances, text_region}
-use Rattle.jbig2_symbol.specs.Aggregates.{instance_count, refined_alone, put_together, prefixed_aggregate}
+use Rattle.jbig2_symbol.specs.SymbolBitmaps.{instance_count, refined_alone, put_together, prefixed_aggregate}
 use Rattle.jbig2_symbol.specs.Exports.{ended_runs, exported_from, next_run, runs_from, exports}
 use Rattle.jbig2_symbol.specs.SymbolHeader.{symbol_flags_of, symbol_header_at}
 use Rattle.jbig2_symbol.specs.SymbolReading.{table_for, symbol_tables, first_contexts}

@@ -14,7 +14,7 @@ use Rattle.jbig2_region.specs.Generic.{context_at}
 use Rattle.jbig2_region.specs.GenericHeader.{adaptive_pixel_at}
 use Rattle.jbig2_region.specs.Raster.{so_far, with_next, after_pixel, row_begun, at_next, first_pixels, decoded_region}
 use Rattle.jbig2_symbol.specs.Exports.{ended_runs, exported_from, next_run, runs_from, exports}
-use Rattle.jbig2_symbol.specs.SymbolBitmaps.{coded_region, coded_symbol}
+use Rattle.jbig2_symbol.specs.SymbolBitmaps.{coded_symbol}
 use Rattle.jbig2_symbol.specs.SymbolHeader.{symbol_flags_of, symbol_header_at}
 use Rattle.jbig2_text.specs.TextCoding.{coded_start}
 use Rattle.jbig2_coder.specs.Procedures.{asked}
@@ -50,5 +50,5 @@ dictionary : List ℕ → Result Symbols DecodeError
 dictionary bytes = symbol_header_at true bytes >>= λ h. symbols_decoded h.0 [] [] None
 
 row_R8_6 : dictionary (8 ∷ 0 ∷ 2 ∷ 0xFF ∷ 0 ∷ 0 ∷ 0 ∷ 1 ∷ 0 ∷ 0 ∷ 0 ∷ 1 ∷ coded) ≡ Ok (record { exported = record { width = 1; height = 1; pixels = true ∷ [] } ∷ []; kept = None })
-unfolding dictionary symbol_header_at symbol_flags_of adaptive_pixel_at symbols_decoded first_contexts symbol_tables least is_crowded weight coded_start asked table_for classes_from height_class drawn_class symbols_from coded_bitmap next_width coded_symbol coded_region exports runs_from next_run exported_from ended_runs integer value_of_bits next read read_more ranges are_next next_range signed value_of byte_at byte_in filled doubled renormed initial_registers likely_next unlikely_next choice decision rows row_of context_at so_far with_next after_pixel row_begun at_next first_pixels decoded_region table pixel_at
+unfolding dictionary symbol_header_at symbol_flags_of adaptive_pixel_at symbols_decoded first_contexts symbol_tables least is_crowded weight coded_start asked table_for classes_from height_class drawn_class symbols_from coded_bitmap next_width coded_symbol exports runs_from next_run exported_from ended_runs integer value_of_bits next read read_more ranges are_next next_range signed value_of byte_at byte_in filled doubled renormed initial_registers likely_next unlikely_next choice decision rows row_of context_at so_far with_next after_pixel row_begun at_next first_pixels decoded_region table pixel_at
 row_R8_6 = refl

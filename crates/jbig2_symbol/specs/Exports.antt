@@ -1,6 +1,6 @@
 -- Which symbols a dictionary exports (T.88, 6.5.10): runs of symbols that are left out and that are exported, by turns,
 -- over those that it refers to and the new ones. `exports` gives the exported symbols and the state behind the runs.
-use Rattle.std.specs.Prelude.{ℕ, zero, suc, ◌+◌, ◌-◌, ◌%◌, ◌==◌, nat_le, nat_lt, Bool, not, ◌&&◌, if◌then◌else◌, List, [], ◌∷◌, length, Result, Ok}
+use Rattle.std.specs.Prelude.{ℕ, zero, suc, ◌+◌, ◌-◌, ◌%◌, ◌==◌, nat_le, nat_lt, not, ◌&&◌, if◌then◌else◌, List, [], ◌∷◌, length, Result, Ok}
 use Rattle.jbig2_base.specs.Answer.{◌>>=◌, refuse_if}
 use Rattle.jbig2_base.specs.Grid.{Grid, bit_number}
 use Rattle.jbig2_base.specs.declared.error.DecodeError.{DecodeError}
@@ -10,41 +10,29 @@ use Rattle.jbig2_base.specs.declared.error.SymbolError.TheVariants.{Invalid, NoS
 use Rattle.jbig2_text.specs.TextCoding.{in_band}
 use Rattle.jbig2_symbol.specs.SymbolReading.{ClassReadings, SymbolInput, not_negative}
 
--- the most runs of length 0, and the most height classes without a symbol (our own rule)
-abbrev pub most_empty : ℕ
-most_empty = 1048576
-
 -- how many runs end at symbol i or before it, the first beginning at symbol `from`
 unfoldable pub ended_runs : ℕ → List ℕ → ℕ → ℕ
 ended_runs from [] i = 0
 ended_runs from (r ∷ runs) i = bit_number (nat_le (from + r) i) + ended_runs (from + r) runs i
 
--- the runs are by turns of symbols that are not exported and of symbols that are
-abbrev pub is_exported : List ℕ → ℕ → Bool
-is_exported runs i = ended_runs 0 runs i % 2 == 1
-
--- those of a list whose number, from `from` on, is exported
+-- Those of a list, numbered from `from` on, that are exported: runs are by turns of symbols that are not and that are.
 unfoldable pub exported_from : List ℕ → ℕ → List Grid → List Grid
 exported_from runs from [] = []
 exported_from runs from (g ∷ grids) =
-    if is_exported runs from then g ∷ exported_from runs (from + 1) grids else exported_from runs (from + 1) grids
+    if ended_runs 0 runs from % 2 == 1 then g ∷ exported_from runs (from + 1) grids else exported_from runs (from + 1) grids
 
 abbrev pub exported : List ℕ → List Grid → List Grid
 exported runs grids = exported_from runs 0 grids
 
--- A run, where `left` symbols are not covered yet and `empty` runs of length 0 came before.
+-- A run, where `left` symbols are not covered yet and `empty` runs of length 0 came before, of 2^20 (our own rule).
 unfoldable pub next_run : {S : Type 0} → ClassReadings S → SymbolInput → ℕ → ℕ → S → Result (ℕ × S) DecodeError
 next_run r d empty left s = do
   value ← r.export_run d s
   number ← in_band (Huffman UnexpectedOob) value.0
   run ← not_negative (Huffman InvalidCode) number
-  few ← refuse_if (run == 0 && nat_le most_empty empty) (Symbol Invalid)
+  few ← refuse_if (run == 0 && nat_le 1048576 empty) (Symbol Invalid)
   within ← refuse_if (nat_lt left run) (Symbol OutOfRange)
   Ok (run, value.1)
-
--- a run before others
-abbrev pub run_before : {S : Type 0} → ℕ → Result (List ℕ × S) DecodeError → Result (List ℕ × S) DecodeError
-run_before run answer = answer >>= λ others. Ok (run ∷ others.0, others.1)
 
 -- The runs, until all symbols are covered. Each covers a symbol or is one of the 2^20 that may be empty, so n of them are
 -- enough where n is at least `left` and the empty ones to come.
@@ -52,18 +40,15 @@ unfoldable pub runs_from : {S : Type 0} → ClassReadings S → SymbolInput → 
 runs_from r d zero empty left s = Ok ([], s)
 runs_from r d (suc n) empty left s =
     if left == 0 then Ok ([], s)
-    else (next_run r d empty left s >>= λ run. run_before run.0 (runs_from r d n (empty + bit_number (run.0 == 0)) (left - run.0) run.1))
+    else (next_run r d empty left s >>= λ run.
+    runs_from r d n (empty + bit_number (run.0 == 0)) (left - run.0) run.1 >>= λ others. Ok (run.0 ∷ others.0, others.1))
 
 abbrev pub export_runs : {S : Type 0} → ClassReadings S → SymbolInput → ℕ → S → Result (List ℕ × S) DecodeError
-export_runs r d count s = runs_from r d (count + most_empty) 0 count s
+export_runs r d count s = runs_from r d (count + 1048576) 0 count s
 
-abbrev pub not_same : ℕ → ℕ → Bool
-not_same a b = not (a == b)
-
--- The symbols that are exported of all those that there are; their number is the one that the header states (our own
--- rule).
+-- The exported ones of all symbols that there are; their number is the one that the header states (our own rule).
 unfoldable pub exports : {S : Type 0} → ClassReadings S → SymbolInput → List Grid → S → Result (List Grid × S) DecodeError
 exports r d grids s = do
   runs ← export_runs r d (length grids) s
-  right ← refuse_if (not_same (length (exported runs.0 grids)) d.header.num_exported_symbols) (Symbol NoSymbols)
+  right ← refuse_if (not (length (exported runs.0 grids) == d.header.num_exported_symbols)) (Symbol NoSymbols)
   Ok (exported runs.0 grids, runs.1)

@@ -1,8 +1,6 @@
--- Height classes of a symbol dictionary (T.88, 6.5.5): the widths of their symbols, symbols that are drawn one by one, and
--- the classes, one behind the other. They go by the readings of a coding, and give the new symbols and the state behind
--- them.
+-- Height classes of a symbol dictionary (T.88, 6.5.5, step 4): the widths of symbols, symbols that are drawn one by one,
+-- and the classes. They go by the readings of a coding, and give the new symbols and the state behind them.
 use Rattle.std.specs.Prelude.{ℕ, zero, suc, ◌+◌, ◌-◌, ◌==◌, nat_lt, nat_le, ◌&&◌, if◌then◌else◌, List, [], ◌∷◌, ◌++◌, length, Option, Some, None, Result, Ok, Err, ℤ, pos, negsuc, ◌+ℤ◌}
-use Rattle.std.specs.List.{flat_map}
 use Rattle.jbig2_base.specs.Answer.{◌>>=◌, refuse_if}
 use Rattle.jbig2_base.specs.Grid.{Grid, bit_number}
 use Rattle.jbig2_base.specs.declared.error.DecodeError.{DecodeError}
@@ -10,7 +8,6 @@ use Rattle.jbig2_base.specs.declared.error.DecodeError.TheVariants as errors
 use Rattle.jbig2_base.specs.declared.error.OverflowError.TheVariants.{BitmapDimension}
 use Rattle.jbig2_base.specs.declared.error.SymbolError.TheVariants.{Invalid, TooManySymbols, UnexpectedOob}
 use Rattle.jbig2_text.specs.TextCoding.{in_band}
-use Rattle.jbig2_symbol.specs.Exports.{most_empty}
 use Rattle.jbig2_symbol.specs.SymbolReading.{ClassReadings, SymbolInput, SymbolReadings}
 
 -- a size, refused outside 32 bits (our own rule)
@@ -18,9 +15,8 @@ abbrev pub size_in_word : ℤ → Result ℕ DecodeError
 size_in_word (pos n) = if nat_lt n 4294967296 then Ok n else Err (errors.Overflow BitmapDimension)
 size_in_word (negsuc n) = Err (errors.Overflow BitmapDimension)
 
--- ---- widths (6.5.5, step 4 c)
 -- The next symbol's width (SYMWIDTH) and all widths of its class up to it together (TOTWIDTH), by those of the symbol
--- before it and by its difference; at most `room` more symbols may come. Out of band ends the class.
+-- before it and by its difference (step 4 c); at most `room` more symbols may come. Out of band ends the class.
 abbrev pub width_by : ℕ → ℕ → ℕ → Option ℤ → Result (Option (ℕ × ℕ)) DecodeError
 width_by room width total None = Ok None
 width_by room width total (Some difference) = do
@@ -41,16 +37,11 @@ widths_from r d (suc room) width total s =
       | Some at ↦ widths_from r d room at.0 at.1 next.1 >>= λ others. Ok (at.0 ∷ others.0, others.1)
     ])
 
--- how many more new symbols may come
-abbrev pub room_behind : SymbolInput → List Grid → ℕ
-room_behind d new = d.header.num_new_symbols - length new
-
 -- a class without a symbol, refused where 2^20 came before (our own rule)
 abbrev pub empty_class : ℕ → ℕ → Result (Unit {0}) DecodeError
-empty_class symbols empty = refuse_if (symbols == 0 && nat_le most_empty empty) (errors.Symbol Invalid)
+empty_class symbols empty = refuse_if (symbols == 0 && nat_le 1048576 empty) (errors.Symbol Invalid)
 
--- ---- symbols that are drawn one by one
--- the symbols of a class behind these new ones and one of this width and total, each with its bitmap
+-- the symbols of a class behind these new ones and one of this width and total, each with its own bitmap
 unfoldable pub symbols_from : {S : Type 0} → SymbolReadings S → SymbolInput → ℕ → ℕ → ℕ → ℕ → List Grid → S → Result (List Grid × S) DecodeError
 symbols_from r d zero height width total new s = next_width r d 0 width total s >>= λ end. Ok ([], end.1)
 symbols_from r d (suc room) height width total new s =
@@ -64,47 +55,28 @@ symbols_from r d (suc room) height width total new s =
 -- a class of such symbols, behind these new ones and so many classes that had none
 unfoldable pub drawn_class : {S : Type 0} → SymbolReadings S → SymbolInput → ℕ → ℕ → List Grid → S → Result (List Grid × S) DecodeError
 drawn_class r d height empty new s = do
-  symbols ← symbols_from r d (room_behind d new) height 0 0 new s
+  symbols ← symbols_from r d (d.header.num_new_symbols - length new) height 0 0 new s
   few ← empty_class (length symbols.0) empty
   Ok symbols
 
--- ---- the classes (6.5.5, step 4)
--- A height class (HCHEIGHT): its symbols, all of its height.
-pub record HeightClass : Type 0 where
-  pub height : ℕ
-  pub symbols : List Grid
-
--- the class behind one of this height
-unfoldable pub height_class : {S : Type 0} → ClassReadings S → SymbolInput → ℕ → ℕ → List Grid → S → Result (HeightClass × S) DecodeError
+-- the height class behind one of this height: its own height (HCHEIGHT) and its symbols, all of that height
+unfoldable pub height_class : {S : Type 0} → ClassReadings S → SymbolInput → ℕ → ℕ → List Grid → S → Result (ℕ × List Grid × S) DecodeError
 height_class r d before empty new s = do
   value ← r.height_difference d s
   difference ← in_band (errors.Symbol UnexpectedOob) value.0
   height ← size_in_word (pos before +ℤ difference)
   class ← r.class_of_height d height empty new value.1
-  Ok (record { height = height; symbols = class.0 }, class.1)
+  Ok (height, class.0, class.1)
 
--- a class before others
-abbrev pub class_before : {S : Type 0} → HeightClass → Result (List HeightClass × S) DecodeError → Result (List HeightClass × S) DecodeError
-class_before class answer = answer >>= λ others. Ok (class ∷ others.0, others.1)
-
--- one more class that had no symbol, if this one has none
-abbrev pub empty_with : HeightClass → ℕ → ℕ
-empty_with class empty = empty + bit_number (length class.symbols == 0)
-
--- The classes behind one of this height, until all new symbols are there. Each has a symbol or is one of the 2^20 that
+-- The symbols of the classes behind one of this height, until all are there. Each has a symbol or is one of the 2^20 that
 -- may be empty, so n of them are enough where n is at least the number of the symbols and the empty classes to come.
-unfoldable pub classes_from : {S : Type 0} → ClassReadings S → SymbolInput → ℕ → ℕ → ℕ → List Grid → S → Result (List HeightClass × S) DecodeError
+unfoldable pub classes_from : {S : Type 0} → ClassReadings S → SymbolInput → ℕ → ℕ → ℕ → List Grid → S → Result (List Grid × S) DecodeError
 classes_from r d zero before empty new s = Ok ([], s)
 classes_from r d (suc n) before empty new s =
     if nat_le d.header.num_new_symbols (length new) then Ok ([], s)
-    else (height_class r d before empty new s >>= λ class. class_before class.0 (classes_from r d n class.0.height (empty_with class.0 empty) (new ++ class.0.symbols) class.1))
-
-abbrev pub classes : {S : Type 0} → ClassReadings S → SymbolInput → S → Result (List HeightClass × S) DecodeError
-classes r d s = classes_from r d (d.header.num_new_symbols + most_empty) 0 0 [] s
-
--- the symbols of these classes, one class behind the other
-abbrev pub symbols_of : List HeightClass → List Grid
-symbols_of all = flat_map (λ class. class.symbols) all
+    else (height_class r d before empty new s >>= λ (height, symbols, t).
+    classes_from r d n height (empty + bit_number (length symbols == 0)) (new ++ symbols) t >>= λ others.
+    Ok (symbols ++ others.0, others.1))
 
 abbrev pub new_symbols : {S : Type 0} → ClassReadings S → SymbolInput → S → Result (List Grid × S) DecodeError
-new_symbols r d s = classes r d s >>= λ all. Ok (symbols_of all.0, all.1)
+new_symbols r d s = classes_from r d (d.header.num_new_symbols + 1048576) 0 0 [] s

@@ -1,10 +1,7 @@
-pub mod Aggregates
 pub mod Causes
-pub mod ClassCauses
 pub mod Exports
 pub mod HeightClasses
 pub mod SymbolBitmaps
-pub mod SymbolCauses
 pub mod SymbolCoding
 pub mod SymbolHeader
 pub mod SymbolReading

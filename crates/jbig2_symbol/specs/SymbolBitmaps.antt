@@ -1,67 +1,157 @@
--- The bitmaps of symbols that are neither refined nor put together: generic regions of their own (T.88, 6.5.8.1), or
--- parts of the collective bitmap of a height class (6.5.9), which MMR data or plain rows give. They take the header,
--- the sizes and the coder's state or the place in the bits, and give grids with the state behind them.
-use Rattle.std.specs.Prelude.{ℕ, ◌+◌, ◌-◌, ◌*◌, ◌/◌, ◌%◌, ◌==◌, nat_lt, Bool, false, ◌||◌, if◌then◌else◌, List, [], ◌∷◌, ◌++◌, slice_index_or, Result, Ok}
+-- The bitmaps of a dictionary's symbols (T.88, 6.5.8 and 6.5.9): generic regions of their own, symbols refined or put
+-- together by the readings of text regions, or parts of a collective bitmap. Each goes on with the dictionary's state.
+use Rattle.std.specs.Prelude.{ℕ, suc, ◌+◌, ◌==◌, max, true, false, ◌&&◌, if◌then◌else◌, List, ◌++◌, length, Option, Some, None, Result, Ok, Err, ℤ, pos, ◌-◌, ◌*◌, ◌/◌, ◌%◌, nat_lt, Bool, ◌||◌, [], ◌∷◌, slice_index_or}
 use Rattle.jbig2_base.specs.Answer.{◌>>=◌, refuse_if}
 use Rattle.jbig2_base.specs.Bits.{Place, aligned, start_of}
-use Rattle.jbig2_base.specs.Fields.{bytes_at}
-use Rattle.jbig2_base.specs.Grid.{Grid, grid_of}
+use Rattle.jbig2_base.specs.Fields.{end_of_bytes, bytes_at}
+use Rattle.jbig2_base.specs.Grid.{Grid, blank, grid_of}
+use Rattle.jbig2_base.specs.Search.{code_length}
+use Rattle.jbig2_base.specs.declared.bitmap.operator.CombinationOperator.TheVariants.{Or}
+use Rattle.jbig2_base.specs.declared.error.DecodeError.{DecodeError}
+use Rattle.jbig2_base.specs.declared.error.DecodeError.TheVariants.{Symbol, Huffman, Overflow}
+use Rattle.jbig2_base.specs.declared.error.SymbolError.TheVariants.{Invalid, UnexpectedOob}
+use Rattle.jbig2_coder.specs.PrefixCode.{Member, table_of}
+use Rattle.jbig2_coder.specs.Tables.{uniform}
+use Rattle.jbig2_coder.specs.declared.integer_procedures.IntegerProcedure.TheVariants.{Iaai}
+use Rattle.jbig2_text.specs.Refining.{Refining}
+use Rattle.jbig2_text.specs.Text.{Readings, TextParams, some_symbol, symbol_of, text_region}
+use Rattle.jbig2_text.specs.TextCoding.{Coded, Prefixed, by_coder, by_prefix_codes, next_id, prefixed_bits, in_band}
+use Rattle.jbig2_text.specs.TextRegion.{aggregate_tables}
+use Rattle.jbig2_text.specs.declared.text.header.ReferenceCorner.TheVariants.{TopLeft}
+use Rattle.jbig2_text.specs.declared.text.header.TextRegionFlags.{TextRegionFlags}
+use Rattle.jbig2_symbol.specs.SymbolHeader.{SymbolHeader}
+use Rattle.jbig2_symbol.specs.SymbolReading.{SymbolContexts, SymbolInput, SymbolState, by_procedure, by_table, not_negative}
+use Rattle.jbig2_symbol.specs.declared.symbol.header.SymbolDictionaryFlags.{SymbolDictionaryFlags}
 use Rattle.jbig2_base.specs.inner.WordBits.{bit}
 use Rattle.jbig2_base.specs.Parts.{part_or_overflow}
 use Rattle.jbig2_base.specs.Sizes.{wide_or_overflow}
-use Rattle.jbig2_base.specs.declared.error.DecodeError.{DecodeError}
-use Rattle.jbig2_base.specs.declared.error.DecodeError.TheVariants.{Huffman, Overflow}
-use Rattle.jbig2_base.specs.declared.error.HuffmanError.TheVariants.{UnexpectedOob}
+use Rattle.jbig2_base.specs.declared.error.HuffmanError.TheVariants as huffman
 use Rattle.jbig2_base.specs.declared.error.OverflowError.TheVariants.{BitmapDimension}
 use Rattle.jbig2_region.specs.Generic.{coding_of}
-use Rattle.jbig2_region.specs.Raster.{Coding, Region, so_far, decoded_region, no_pixels}
+use Rattle.jbig2_region.specs.Raster.{so_far, decoded_region, no_pixels}
 use Rattle.jbig2_mmr.specs.T6.{mmr_rows}
 use Rattle.jbig2_region.specs.Templates.{template_pixels}
-use Rattle.jbig2_region.specs.declared.template.Template.{Template}
-use Rattle.jbig2_text.specs.TextCoding.{Coded, in_band}
-use Rattle.jbig2_symbol.specs.SymbolHeader.{SymbolHeader}
-use Rattle.jbig2_symbol.specs.SymbolReading.{SymbolInput, SymbolState, by_table, not_negative}
 
 -- neither side of a symbol may pass 65535 (our own rule)
 abbrev pub fits_symbol : ℕ → ℕ → Result (Unit {0}) DecodeError
 fits_symbol w h = refuse_if (nat_lt 65535 w || nat_lt 65535 h) (Overflow BitmapDimension)
 
--- ---- by the arithmetic coder
--- a generic region without typical prediction (Table 16)
-abbrev pub symbol_coding : SymbolHeader → Template → Coding
-symbol_coding h template = coding_of false template (template_pixels false template h.adaptive_template_pixels)
-
--- it goes on with the dictionary's coder and contexts
-unfoldable pub coded_region : SymbolHeader → ℕ → ℕ → SymbolState Coded → Region
-coded_region h width height s = decoded_region (symbol_coding h s.contexts.template) width height s.coding.coder.bytes (no_pixels s.coding.coder.registers s.contexts.generic)
-
-abbrev pub after_region : Region → SymbolState Coded → SymbolState Coded
-after_region r s = record {
-  coding = record s.coding { coder = record s.coding.coder { registers = r.registers } };
-  contexts = record s.contexts { generic = r.contexts };
-}
-
+-- A generic region of its own (6.5.8.1), without typical prediction (Table 16).
 unfoldable pub coded_symbol : SymbolHeader → ℕ → ℕ → SymbolState Coded → Result (Grid × SymbolState Coded) DecodeError
 coded_symbol h width height s =
-    fits_symbol width height >>= λ fits. Ok (so_far width height (coded_region h width height s).pixels, after_region (coded_region h width height s) s)
+    let template = s.contexts.template in
+    let coding = coding_of false template (template_pixels false template h.adaptive_template_pixels) in
+    let coder = s.coding.coder in
+    let region = decoded_region coding width height coder.bytes (no_pixels coder.registers s.contexts.generic) in
+    let coded : Coded = record s.coding { coder = record coder { registers = region.registers } } in
+    let contexts : SymbolContexts = record s.contexts { generic = region.contexts } in
+    fits_symbol width height >>= λ fits. Ok (so_far width height region.pixels, record { coding = coded; contexts = contexts })
 
--- ---- by prefix codes: the symbols of a height class stand side by side in one collective bitmap
+-- The bits of an id (SBSYMCODELEN) tell all symbols apart: those referred to and all new ones, also those to come.
+abbrev pub id_bits : SymbolHeader → ℕ → ℕ
+id_bits h symbols = code_length (symbols + h.num_new_symbols)
+
+-- those that a dictionary's coder reads; without bit 1 there are none
+abbrev pub state_bits : SymbolHeader → ℕ → ℕ
+state_bits h symbols = if h.flags.use_refagg then id_bits h symbols else 0
+
+-- their codes (SBSYMCODES) are all as long, with one bit at least; there are some with prefix codes alone
+abbrev pub id_codes : SymbolHeader → ℕ → Result (List Member) DecodeError
+id_codes h symbols =
+    let count = if h.flags.use_huffman && h.flags.use_refagg then symbols + h.num_new_symbols else 0 in
+    table_of (uniform count (max 1 (id_bits h symbols)))
+
+-- the number of instances (6.5.8.2.1), one at least
+abbrev pub some_instances : Option ℤ → Result ℕ DecodeError
+some_instances None = Err (Symbol UnexpectedOob)
+some_instances (Some (pos (suc n))) = Ok (suc n)
+some_instances (Some _) = Err (Symbol Invalid)
+
+unfoldable pub instance_count : {S : Type 0} → Result (Option ℤ × S) DecodeError → Result (ℕ × S) DecodeError
+instance_count reading = reading >>= λ value. some_instances value.0 >>= λ count. Ok (count, value.1)
+
+-- One instance (6.5.8.2.2): the symbol of the id, refined; RDX and RDY say where it lies.
+unfoldable pub refined_alone : {S : Type 0} → Readings S → List Grid → ℤ → ℕ → ℕ → Refining → S → Result (Grid × Refining × S) DecodeError
+refined_alone r symbols id width height f s = do
+  rdx ← r.x_delta s
+  rdy ← r.y_delta rdx.1
+  from ← some_symbol (symbol_of symbols id)
+  fits ← fits_symbol width height
+  r.refined (record { grid = from; dx = rdx.0; dy = rdy.0 }) width height f rdy.1
+
+-- Several instances (6.5.8.2): a text region of the symbol's size, in strips of one row from the top left (Table 17).
+abbrev pub aggregate_flags : SymbolDictionaryFlags → TextRegionFlags
+aggregate_flags flags = record {
+  use_refinement = true;
+  log_strip_size = 0;
+  reference_corner = TopLeft;
+  transposed = false;
+  combination_operator = Or;
+  default_pixel = false;
+  delta_s_offset = pos 0;
+  refinement_template = flags.refinement_template;
+}
+
+-- so many of the symbols that are there; there may be 32 for each byte of the dictionary's coded data (our own rule)
+abbrev pub aggregate_params : SymbolInput → List Grid → ℕ → TextParams
+aggregate_params d new count = record {
+  flags = aggregate_flags d.header.flags;
+  symbols = d.symbols ++ new;
+  count = count;
+  data_length = length d.header.bytes;
+  strict = d.header.strict;
+}
+
+unfoldable pub put_together : {S : Type 0} → Readings S → TextParams → ℕ → ℕ → Refining → S → Result (Grid × Refining × S) DecodeError
+put_together r p width height f s = fits_symbol width height >>= λ fits. text_region r p (blank width height false) f s
+
+-- `alone` reads the id of an instance that is the only one.
+abbrev pub by_instances : {S : Type 0} → Readings S → (S → Result (ℤ × S) DecodeError) → TextParams → ℕ → ℕ → Refining → S → Result (Grid × Refining × S) DecodeError
+by_instances r alone p width height f s =
+    if p.count == 1 then (alone s >>= λ id. refined_alone r p.symbols id.0 width height f id.1)
+    else put_together r p width height f s
+
+abbrev pub coded_instances : TextParams → ℕ → ℕ → SymbolState Coded → Result (Grid × SymbolState Coded) DecodeError
+coded_instances p width height s = do
+  symbol ← by_instances by_coder (λ c. Ok (next_id c)) p width height s.contexts.refining s.coding
+  Ok (symbol.0, record { coding = symbol.2; contexts = record s.contexts { refining = symbol.1 } })
+
+-- A symbol of this width and height, behind these new ones; IAAI gives the number of its instances.
+unfoldable pub coded_aggregate : SymbolInput → List Grid → ℕ → ℕ → SymbolState Coded → Result (Grid × SymbolState Coded) DecodeError
+coded_aggregate d new width height s =
+    instance_count (by_procedure Iaai s) >>= λ count. coded_instances (aggregate_params d new count.0) width height count.1
+
+-- by prefix codes: the id of the only instance is plain bits, and no code
+abbrev pub plain_id : ℕ → Prefixed → Result (ℤ × Prefixed) DecodeError
+plain_id bits s = prefixed_bits end_of_bytes bits s >>= λ id. Ok (pos id.0, id.1)
+
+abbrev pub prefixed_at : SymbolInput → Place → Prefixed
+prefixed_at d place = record { place = place; tables = aggregate_tables; ids = d.ids }
+
+abbrev pub prefixed_instances : SymbolInput → TextParams → ℕ → ℕ → SymbolState Place → Result (Grid × SymbolState Place) DecodeError
+prefixed_instances d p width height s = do
+  symbol ← by_instances by_prefix_codes (plain_id (max 1 (id_bits d.header (length d.symbols)))) p width height s.contexts.refining (prefixed_at d s.coding)
+  Ok (symbol.0, record { coding = symbol.2.place; contexts = record s.contexts { refining = symbol.1 } })
+
+-- Such a symbol; the table that SDHUFFAGGINST names gives the number of its instances.
+unfoldable pub prefixed_aggregate : SymbolInput → List Grid → ℕ → ℕ → SymbolState Place → Result (Grid × SymbolState Place) DecodeError
+prefixed_aggregate d new width height s =
+    instance_count (by_table d.tables.counts s) >>= λ count. prefixed_instances d (aggregate_params d new count.0) width height count.1
+
 -- a pixel of rows that are not coded: each begins with a byte, and the high bit of a byte comes first
 abbrev pub raw_pixel : List ℕ → ℕ → ℕ → ℕ → Bool
 raw_pixel bytes stride x y = bit (slice_index_or bytes (y * stride + x / 8) 0) (7 - x % 8)
 
--- how many bytes such a row has
 abbrev pub raw_stride : ℕ → ℕ
 raw_stride width = (width + 7) / 8
 
--- such rows, and the bytes behind them
 unfoldable pub raw_rows : ℕ → ℕ → List ℕ → Result (Grid × List ℕ) DecodeError
 raw_rows width height bytes = do
   fits ← wide_or_overflow width height
   rows ← bytes_at (height * raw_stride width) bytes
   Ok (grid_of width height (raw_pixel rows.0 (raw_stride width)), rows.1)
 
--- MMR data of so many bytes, and the bytes behind it
+-- or MMR data of so many bytes; each with the bytes behind it
 unfoldable pub mmr_bytes : Bool → ℕ → ℕ → ℕ → List ℕ → Result (Grid × List ℕ) DecodeError
 mmr_bytes strict size width height bytes = do
   coded ← bytes_at size bytes
@@ -72,12 +162,11 @@ mmr_bytes strict size width height bytes = do
 abbrev pub rows_of_size : Bool → ℕ → ℕ → ℕ → List ℕ → Result (Grid × List ℕ) DecodeError
 rows_of_size strict size width height bytes = if size == 0 then raw_rows width height bytes else mmr_bytes strict size width height bytes
 
--- The collective bitmap (6.5.9): its size, and from the next whole byte on its rows, which are not coded where the size
--- is 0. More than 65535 * 65535 pixels are refused (our own rule).
+-- The collective bitmap (6.5.9): its size, and from the next whole byte on its rows, which are not coded at size 0.
 unfoldable pub collective_bitmap : SymbolInput → ℕ → ℕ → SymbolState Place → Result (Grid × SymbolState Place) DecodeError
 collective_bitmap d width height s = do
   value ← by_table d.tables.sizes s
-  number ← in_band (Huffman UnexpectedOob) value.0
+  number ← in_band (Huffman huffman.UnexpectedOob) value.0
   size ← not_negative (Overflow BitmapDimension) number
   rows ← rows_of_size d.header.strict size width height (aligned value.1.coding).bytes
   Ok (rows.0, record value.1 { coding = start_of rows.1 })
@@ -93,7 +182,3 @@ symbols_cut collective height from (width ∷ widths) = do
   symbol ← symbol_cut collective from width height
   others ← symbols_cut collective height (from + width) widths
   Ok (symbol ∷ others)
-
--- symbols behind others
-abbrev pub put_behind : List Grid → Result (List Grid) DecodeError → Result (List Grid) DecodeError
-put_behind before answer = answer >>= λ more. Ok (before ++ more)

@@ -1,22 +1,22 @@
 -- The two ways in which symbol dictionaries are coded (T.88, 6.5; SDHUFF): by the arithmetic coder with its integer
--- procedures, and by prefix codes. Each begins with the header and the contexts, and has its readings of symbols and of
--- height classes.
-use Rattle.std.specs.Prelude.{ℕ, if◌then◌else◌, List, length, sum, Result, Ok}
+-- procedures, and by prefix codes. Each begins with the header and the contexts, and has its readings.
+use Rattle.std.specs.Prelude.{ℕ, ◌-◌, if◌then◌else◌, List, length, sum, Result, Ok}
 use Rattle.jbig2_base.specs.Answer.{◌>>=◌}
 use Rattle.jbig2_base.specs.Bits.{Place, start_of}
 use Rattle.jbig2_base.specs.Grid.{Grid}
 use Rattle.jbig2_base.specs.declared.error.DecodeError.{DecodeError}
 use Rattle.jbig2_coder.specs.declared.integer_procedures.IntegerProcedure.TheVariants.{Iadh, Iadw, Iaex}
 use Rattle.jbig2_text.specs.TextCoding.{Coded, coded_start}
-use Rattle.jbig2_symbol.specs.Aggregates.{coded_aggregate, prefixed_aggregate, state_bits}
-use Rattle.jbig2_symbol.specs.HeightClasses.{drawn_class, empty_class, room_behind, widths_from}
-use Rattle.jbig2_symbol.specs.SymbolBitmaps.{coded_symbol, collective_bitmap, symbols_cut}
-use Rattle.jbig2_symbol.specs.SymbolReading.{BitmapContexts, ClassReadings, SymbolInput, SymbolReadings, SymbolState, begun_contexts, by_procedure, by_table, state_of}
+use Rattle.jbig2_symbol.specs.HeightClasses.{drawn_class, empty_class, widths_from}
+use Rattle.jbig2_symbol.specs.SymbolBitmaps.{coded_aggregate, coded_symbol, collective_bitmap, prefixed_aggregate, state_bits, symbols_cut}
+use Rattle.jbig2_symbol.specs.SymbolReading.{BitmapContexts, ClassReadings, SymbolInput, SymbolReadings, SymbolState, begun_contexts, by_procedure, by_table}
 
--- ---- by the arithmetic coder
--- at the start of the bytes
+-- by the arithmetic coder, at the start of the bytes
 abbrev pub coder_begun : SymbolInput → BitmapContexts → SymbolState Coded
-coder_begun d contexts = state_of (coded_start d.header.bytes (state_bits d.header (length d.symbols))) (begun_contexts d.header contexts)
+coder_begun d contexts = record {
+  coding = coded_start d.header.bytes (state_bits d.header (length d.symbols));
+  contexts = begun_contexts d.header contexts;
+}
 
 -- a symbol's bitmap: refined or put together from the symbols that are there (SDREFAGG), or else coded by itself
 unfoldable pub coded_bitmap : SymbolInput → List Grid → ℕ → ℕ → SymbolState Coded → Result (Grid × SymbolState Coded) DecodeError
@@ -34,10 +34,9 @@ classes_by_coder = record {
   export_run = λ d. by_procedure Iaex;
 }
 
--- ---- by prefix codes
--- at the start of the bytes
+-- by prefix codes, at the start of the bytes
 abbrev pub prefix_codes_begun : SymbolInput → BitmapContexts → SymbolState Place
-prefix_codes_begun d contexts = state_of (start_of d.header.bytes) (begun_contexts d.header contexts)
+prefix_codes_begun d contexts = record { coding = start_of d.header.bytes; contexts = begun_contexts d.header contexts }
 
 -- a symbol that is drawn by itself is refined or put together from the symbols that are there
 abbrev pub symbols_by_prefix_codes : SymbolReadings (SymbolState Place)
@@ -46,21 +45,18 @@ symbols_by_prefix_codes = record { width_difference = λ d. by_table d.tables.wi
 -- the symbols of a class, cut out of its collective bitmap, which is as wide as they are together (6.5.5, step 4 d)
 unfoldable pub collective_class : SymbolInput → ℕ → ℕ → List Grid → SymbolState Place → Result (List Grid × SymbolState Place) DecodeError
 collective_class d height empty new s = do
-  widths ← widths_from symbols_by_prefix_codes d (room_behind d new) 0 0 s
+  widths ← widths_from symbols_by_prefix_codes d (d.header.num_new_symbols - length new) 0 0 s
   few ← empty_class (length widths.0) empty
   collective ← collective_bitmap d (sum widths.0) height widths.1
   symbols ← symbols_cut collective.0 height 0 widths.0
   Ok (symbols, collective.1)
 
 -- symbols are drawn one by one where they are refined or put together (SDREFAGG), and else cut
-abbrev pub prefixed_class : SymbolInput → ℕ → ℕ → List Grid → SymbolState Place → Result (List Grid × SymbolState Place) DecodeError
-prefixed_class d height empty new s =
-    if d.header.flags.use_refagg then drawn_class symbols_by_prefix_codes d height empty new s
-    else collective_class d height empty new s
-
 abbrev pub classes_by_prefix_codes : ClassReadings (SymbolState Place)
 classes_by_prefix_codes = record {
   height_difference = λ d. by_table d.tables.heights;
-  class_of_height = prefixed_class;
+  class_of_height =
+      λ d height empty new s. if d.header.flags.use_refagg then drawn_class symbols_by_prefix_codes d height empty new s
+      else collective_class d height empty new s;
   export_run = λ d. by_table d.tables.runs;
 }

@@ -9,13 +9,11 @@ use Rattle.jbig2_base.specs.declared.error.DecodeError.TheVariants.{Huffman, Ove
 use Rattle.jbig2_base.specs.declared.error.HuffmanError.TheVariants.{InvalidSelection}
 use Rattle.jbig2_base.specs.declared.error.OverflowError.TheVariants.{SymbolCount}
 use Rattle.jbig2_region.specs.RefinementHeader.{refinement_pixels_at, refinement_template_of}
-use Rattle.jbig2_region.specs.RefinementTemplates.{two_pixels}
-use Rattle.jbig2_region.specs.Templates.{adaptive_pixel_count, adaptive_pixels_at, four_pixels, template_of}
+use Rattle.jbig2_region.specs.Templates.{adaptive_pixel_count, adaptive_pixels_at, template_of}
 use Rattle.jbig2_region.specs.declared.template.AdaptiveTemplatePixel.{AdaptiveTemplatePixel}
 use Rattle.jbig2_symbol.specs.declared.symbol.header.HuffmanTableSelection.{HuffmanTableSelection}
 use Rattle.jbig2_symbol.specs.declared.symbol.header.HuffmanTableSelection.TheVariants.{TableB1, TableB2, TableB3, TableB4, TableB5, UserSupplied}
 use Rattle.jbig2_symbol.specs.declared.symbol.header.SymbolDictionaryFlags.{SymbolDictionaryFlags}
-use Rattle.jbig2_symbol.specs.declared.symbol.header.SymbolDictionaryHeader.{SymbolDictionaryHeader}
 
 -- What a dictionary's coded bytes are decoded by.
 pub record SymbolHeader : Type 0 where
@@ -27,32 +25,10 @@ pub record SymbolHeader : Type 0 where
   pub bytes : List ℕ
   pub strict : Bool
 
--- those of the code's arrays that these flags have
-abbrev pub coded_pixels : SymbolDictionaryFlags → List AdaptiveTemplatePixel → List AdaptiveTemplatePixel
-coded_pixels flags a = if flags.use_huffman then [] else four_pixels flags.template a
-
-abbrev pub refined_pixels : SymbolDictionaryFlags → List AdaptiveTemplatePixel → List AdaptiveTemplatePixel
-refined_pixels flags a = if flags.use_refagg then two_pixels flags.refinement_template a else []
-
-abbrev pub header_view : SymbolDictionaryHeader → SymbolHeader
-header_view h = record {
-  flags = h.flags;
-  adaptive_template_pixels = coded_pixels h.flags h.adaptive_template_pixels;
-  refinement_at_pixels = refined_pixels h.flags h.refinement_at_pixels;
-  num_exported_symbols = h.num_exported_symbols;
-  num_new_symbols = h.num_new_symbols;
-  bytes = h.bytes.now;
-  strict = h.strict;
-}
-
--- the tables that two bits of the flags name (SDHUFFDH and SDHUFFDW; 7.4.2.1.6)
-abbrev pub height_selection_of : ℕ → Result HuffmanTableSelection DecodeError
-height_selection_of n =
-    if n == 0 then Ok TableB4 else if n == 1 then Ok TableB5 else if n == 3 then Ok UserSupplied else Err (Huffman InvalidSelection)
-
-abbrev pub width_selection_of : ℕ → Result HuffmanTableSelection DecodeError
-width_selection_of n =
-    if n == 0 then Ok TableB2 else if n == 1 then Ok TableB3 else if n == 3 then Ok UserSupplied else Err (Huffman InvalidSelection)
+-- one of these two tables or a custom one, by two bits of the flags (SDHUFFDH and SDHUFFDW; 7.4.2.1.6)
+abbrev pub selection_of : HuffmanTableSelection → HuffmanTableSelection → ℕ → Result HuffmanTableSelection DecodeError
+selection_of first second n =
+    if n == 0 then Ok first else if n == 1 then Ok second else if n == 3 then Ok UserSupplied else Err (Huffman InvalidSelection)
 
 -- and one bit (SDHUFFBMSIZE and SDHUFFAGGINST)
 abbrev pub other_selection_of : Bool → HuffmanTableSelection
@@ -61,8 +37,8 @@ other_selection_of user_supplied = if user_supplied then UserSupplied else Table
 -- the flags (7.4.2.1.1); the tables are judged without prefix codes too (our own rule)
 unfoldable pub symbol_flags_of : ℕ → Result SymbolDictionaryFlags DecodeError
 symbol_flags_of flags = do
-  heights ← height_selection_of (flags / 4 % 4)
-  widths ← width_selection_of (flags / 16 % 4)
+  heights ← selection_of TableB4 TableB5 (flags / 4 % 4)
+  widths ← selection_of TableB2 TableB3 (flags / 16 % 4)
   Ok (record {
     use_huffman = flags % 2 == 1;
     use_refagg = flags / 2 % 2 == 1;
@@ -84,9 +60,7 @@ coded_pixels_at flags bytes =
 
 -- those of refinements (7.4.2.1.3), where symbols are refined at template 0
 abbrev pub refined_pixels_at : SymbolDictionaryFlags → List ℕ → Result (List AdaptiveTemplatePixel × List ℕ) DecodeError
-refined_pixels_at flags bytes =
-    if flags.use_refagg then refinement_pixels_at flags.refinement_template bytes
-    else Ok ([], bytes)
+refined_pixels_at flags bytes = if flags.use_refagg then refinement_pixels_at flags.refinement_template bytes else Ok ([], bytes)
 
 -- All of it, and the coded bytes. More than 2^20 symbols of either kind are refused (our own rule).
 unfoldable pub symbol_header_at : Bool → List ℕ → Result (SymbolHeader × List ℕ) DecodeError

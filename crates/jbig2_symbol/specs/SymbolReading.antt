@@ -1,8 +1,7 @@
--- What a symbol dictionary is read by (T.88, 6.5 and 7.4.2): its tables of prefix codes and the contexts at the beginning;
--- what its reading has come to; and which readings a coding has. Each reading goes from a state to what is read and the
--- state behind it; `SymbolCoding` has those of the two codings.
-use Rattle.std.specs.Prelude.{ℕ, Bool, true, false, not, ◌&&◌, if◌then◌else◌, List, Option, Some, None, Result, Ok, Err, ℤ, pos, negsuc}
-use Rattle.jbig2_base.specs.Answer.{◌>>=◌, refuse_if}
+-- What a symbol dictionary is read by (T.88, 6.5 and 7.4.2): its tables of prefix codes, its contexts, and the readings
+-- of a coding, each from a state to what is read and the state behind it; `SymbolCoding` has those of the two codings.
+use Rattle.std.specs.Prelude.{ℕ, Bool, true, false, not, ◌&&◌, if◌then◌else◌, List, Option, Result, Ok, Err, ℤ, pos, negsuc}
+use Rattle.jbig2_base.specs.Answer.{◌>>=◌, refuse_if, some_or}
 use Rattle.jbig2_base.specs.Bits.{Place, bits_left, bits_on}
 use Rattle.jbig2_base.specs.Grid.{Grid}
 use Rattle.jbig2_base.specs.declared.error.DecodeError.{DecodeError}
@@ -23,13 +22,11 @@ use Rattle.jbig2_region.specs.declared.template.Template.TheVariants.{Template0,
 use Rattle.jbig2_text.specs.Refining.{Refining}
 use Rattle.jbig2_text.specs.TextCoding.{Coded, next_integer}
 use Rattle.jbig2_symbol.specs.SymbolHeader.{SymbolHeader}
-use Rattle.jbig2_symbol.specs.declared.symbol.dictionary.RetainedContexts.{RetainedContexts}
 use Rattle.jbig2_symbol.specs.declared.symbol.header.HuffmanTableSelection.{HuffmanTableSelection}
 use Rattle.jbig2_symbol.specs.declared.symbol.header.HuffmanTableSelection.TheVariants.{TableB1, TableB2, TableB3, TableB4, TableB5, UserSupplied}
 use Rattle.jbig2_symbol.specs.declared.symbol.header.SymbolDictionaryFlags.{SymbolDictionaryFlags}
 
--- ---- the tables of prefix codes
--- The tables of a dictionary, by what they read.
+-- The tables of prefix codes of a dictionary, by what they read.
 pub record SymbolTables : Type 0 where
   pub heights : List Member
   pub widths : List Member
@@ -46,8 +43,7 @@ table_for TableB4 customs = standard (prefix_code lines_d) customs
 table_for TableB5 customs = standard (prefix_code lines_e) customs
 table_for UserSupplied customs = next_custom customs
 
--- The tables of a dictionary take the custom ones that it refers to in this order, and the runs have B.1 (7.4.2.1.6); too
--- few are refused, also without prefix codes (our own rule).
+-- Custom tables in this order, and B.1 for the runs (7.4.2.1.6); too few are refused in either coding (our own rule).
 unfoldable pub symbol_tables : SymbolDictionaryFlags → List (List Member) → Result SymbolTables DecodeError
 symbol_tables flags customs = do
   heights ← table_for flags.delta_height_table customs
@@ -62,21 +58,12 @@ symbol_tables flags customs = do
     runs = prefix_code lines_a;
   })
 
--- ---- the contexts of the bitmaps
 -- What the contexts of a dictionary's bitmaps have learned.
 pub record BitmapContexts : Type 0 where
   pub template : Template
   pub refinement_template : RefinementTemplate
   pub generic : List Context
   pub refinement : List Context
-
-abbrev pub contexts_view : {A : Type 0} → RetainedContexts A → BitmapContexts
-contexts_view c = record {
-  template = c.template;
-  refinement_template = c.refinement_template;
-  generic = c.generic_region.items;
-  refinement = c.refinement_region.items;
-}
 
 abbrev pub fresh_bitmap_contexts : SymbolDictionaryFlags → BitmapContexts
 fresh_bitmap_contexts flags = record {
@@ -98,20 +85,15 @@ is_refinement_template refinements.Template0 refinements.Template0 = true
 is_refinement_template refinements.Template1 refinements.Template1 = true
 is_refinement_template _ _ = false
 
--- The contexts at the beginning (7.4.2.2, step 3): fresh, or as another dictionary of the same templates left them.
--- Where there are none, or of other templates, they are refused (our own rule).
+-- The contexts at the beginning (7.4.2.2, step 3): fresh, or kept ones, of the same templates (our own rule).
 unfoldable pub first_contexts : SymbolDictionaryFlags → Option BitmapContexts → Result BitmapContexts DecodeError
 first_contexts flags kept =
     if not flags.bitmap_context_used then Ok (fresh_bitmap_contexts flags)
-    else (elim kept [
-      | None ↦ Err (errors.Symbol Invalid)
-      | Some contexts ↦
-          refuse_if (not (is_template contexts.template flags.template && is_refinement_template contexts.refinement_template flags.refinement_template)) (errors.Symbol Invalid) >>= λ same. Ok contexts
-    ])
+    else (some_or (errors.Symbol Invalid) kept >>= λ c.
+    let same = is_template c.template flags.template && is_refinement_template c.refinement_template flags.refinement_template in
+    refuse_if (not same) (errors.Symbol Invalid) >>= λ _. Ok c)
 
--- ---- the input and the state
--- What a dictionary is decoded by, besides what its reading has come to. `ids` are the codes of the ids in symbols that
--- are put together from others.
+-- What a dictionary is decoded by, besides the state; `ids` are the codes of the ids where symbols are put together.
 pub record SymbolInput : Type 0 where
   pub header : SymbolHeader
   pub symbols : List Grid
@@ -124,14 +106,10 @@ pub record SymbolContexts : Type 0 where
   pub generic : List Context
   pub refining : Refining
 
--- What a dictionary's reading has come to in a coding: the coder with its integer procedures and ids, or the place in the
--- bits for prefix codes; and the contexts.
+-- What its reading has come to: the coder with its integers and ids, or the place in the bits; and the contexts.
 pub record SymbolState (C : Type 0) : Type 0 where
   pub coding : C
   pub contexts : SymbolContexts
-
-abbrev pub state_of : {C : Type 0} → C → SymbolContexts → SymbolState C
-state_of coding contexts = record { coding = coding; contexts = contexts }
 
 -- the contexts with which a dictionary begins, and its refinements' adaptive pixels
 abbrev pub begun_contexts : SymbolHeader → BitmapContexts → SymbolContexts
@@ -141,7 +119,6 @@ begun_contexts h contexts = record {
   refining = record { template = contexts.refinement_template; pixels = h.refinement_at_pixels; contexts = contexts.refinement };
 }
 
--- what they have learned, for another dictionary
 abbrev pub learned : SymbolContexts → BitmapContexts
 learned c = record {
   template = c.template;
@@ -150,7 +127,6 @@ learned c = record {
   refinement = c.refining.contexts;
 }
 
--- ---- the readings of a coding
 -- How the symbols of a height class are read one by one: the difference in width, where out of band ends the class
 -- (6.5.7), and the bitmap, behind these new symbols and of this width and height (6.5.8).
 pub record SymbolReadings (S : Type 0) : Type 0 where
@@ -158,14 +134,12 @@ pub record SymbolReadings (S : Type 0) : Type 0 where
   pub symbol_bitmap : SymbolInput → List Grid → ℕ → ℕ → S → Result (Grid × S) DecodeError
 
 -- How a dictionary is read: a height class's difference in height (6.5.6); its symbols (6.5.5, step 4), of this height,
--- behind so many classes that had none and behind these new symbols; and a run of symbols that are exported, or are not
--- (6.5.10).
+-- behind so many classes that had none and these new symbols; and a run of symbols that are exported or not (6.5.10).
 pub record ClassReadings (S : Type 0) : Type 0 where
   pub height_difference : SymbolInput → S → Result (Option ℤ × S) DecodeError
   pub class_of_height : SymbolInput → ℕ → ℕ → List Grid → S → Result (List Grid × S) DecodeError
   pub export_run : SymbolInput → S → Result (Option ℤ × S) DecodeError
 
--- ---- numbers
 -- a value by a table of prefix codes, or out of band
 abbrev pub by_table : List Member → SymbolState Place → Result (Option ℤ × SymbolState Place) DecodeError
 by_table table s =
@@ -176,7 +150,6 @@ by_table table s =
 abbrev pub by_procedure : IntegerProcedure → SymbolState Coded → Result (Option ℤ × SymbolState Coded) DecodeError
 by_procedure procedure s = let i = next_integer procedure s.coding in Ok (i.0, record s { coding = i.1 })
 
--- a value that may not be below 0
 abbrev pub not_negative : DecodeError → ℤ → Result ℕ DecodeError
 not_negative e (pos n) = Ok n
 not_negative e (negsuc n) = Err e

@@ -1,1 +1,2 @@
+pub mod HeaderViews
 pub mod SymbolViews

@@ -1,9 +1,8 @@
 //! Symbol dictionaries (T.88, 6.5 and 7.4.2).
 ghost use Rattle.std.specs.Prelude.{◌≡◌, ◌≤◌, length, map};
 ghost use Rattle.jbig2_base.specs.Answer.{Gives};
-ghost use Rattle.jbig2_symbol.specs.ClassCauses.{SymbolsHaveCauses};
-ghost use Rattle.jbig2_symbol.specs.SymbolHeader.{header_view};
-ghost use Rattle.jbig2_symbol.specs.SymbolReading.{contexts_view};
+ghost use Rattle.jbig2_symbol.specs.Causes.{SymbolsHaveCauses};
+ghost use Rattle.jbig2_symbol.specs.inner.HeaderViews.{contexts_view, header_view};
 ghost use Rattle.jbig2_coder.specs.inner.TableViews.{customs_view};
 ghost use Rattle.jbig2_symbol.specs.inner.SymbolViews.{dictionary_view, input_view, kept_view};
 ghost use Rattle.jbig2_symbol.specs.Symbols.{dictionary_from, dictionary_of, symbols_decoded, symbols_exported};

@@ -1,16 +1,15 @@
 -- How a dictionary's input, and what its reading has come to, are seen by the definitions (our own rule).
 use Rattle.std.specs.Borrow.{Bor}
-use Rattle.std.specs.Prelude.{ℕ, ◌+◌, ◌≡◌, ◌++◌, List, map, Option, Some, None, option_map, Result, Ok}
+use Rattle.std.specs.Prelude.{ℕ, ◌+◌, ◌-◌, ◌==◌, ◌≡◌, ◌++◌, List, length, map, Option, Some, None, option_map, Result, Ok}
 use Rattle.jbig2_base.specs.Answer.{◌>>=◌}
 use Rattle.jbig2_base.specs.declared.error.DecodeError.{DecodeError}
 use Rattle.jbig2_base.specs.Bits.{Place}
-use Rattle.jbig2_base.specs.Grid.{Grid}
+use Rattle.jbig2_base.specs.Grid.{Grid, bit_number}
 use Rattle.jbig2_text.specs.TextCoding.{Coded}
 use Rattle.jbig2_text.specs.inner.TextViews as texts
-use Rattle.jbig2_symbol.specs.HeightClasses.{HeightClass, empty_with}
-use Rattle.jbig2_symbol.specs.SymbolHeader.{header_view}
-use Rattle.jbig2_symbol.specs.SymbolReading.{BitmapContexts, SymbolInput, SymbolState, SymbolTables, contexts_view, state_of}
+use Rattle.jbig2_symbol.specs.SymbolReading.{BitmapContexts, SymbolInput, SymbolState, SymbolTables}
 use Rattle.jbig2_symbol.specs.Symbols.{Symbols}
+use Rattle.jbig2_symbol.specs.inner.HeaderViews.{contexts_view, header_view}
 use Rattle.jbig2_symbol.specs.declared.symbol.coded.CodedSymbols.{CodedSymbols}
 use Rattle.jbig2_symbol.specs.declared.symbol.dictionary.RetainedContexts.{RetainedContexts}
 use Rattle.jbig2_symbol.specs.declared.symbol.dictionary.SymbolDictionary.{SymbolDictionary}
@@ -38,18 +37,30 @@ input_view d = record {
 
 -- a reading's state, by the arithmetic coder and by prefix codes
 abbrev pub coded_view : {A : Type 0} → CodedSymbols A → SymbolState Coded
-coded_view r = state_of (texts.coded_view r.coded) r.contexts
+coded_view r = record { coding = texts.coded_view r.coded; contexts = r.contexts }
 
 abbrev pub prefixed_view : {A : Type 0} → PrefixedSymbols A → SymbolState Place
-prefixed_view r = state_of r.reader r.contexts
+prefixed_view r = record { coding = r.reader; contexts = r.contexts }
 
 -- what is read, behind others
 abbrev pub behind : {X S : Type 0} → List X → Result (List X × S) DecodeError → Result (List X × S) DecodeError
 behind before answer = answer >>= λ more. Ok (before ++ more.0, more.1)
 
+-- symbols behind others
+abbrev pub put_behind : List Grid → Result (List Grid) DecodeError → Result (List Grid) DecodeError
+put_behind before answer = answer >>= λ more. Ok (before ++ more)
+
+-- how many more new symbols may come
+abbrev pub room_behind : SymbolInput → List Grid → ℕ
+room_behind d new = d.header.num_new_symbols - length new
+
+-- one more class that had no symbol, if this one has none
+abbrev pub empty_with : List Grid → ℕ → ℕ
+empty_with symbols empty = empty + bit_number (length symbols == 0)
+
 -- a class behind others, by all symbols, its height, and how many classes had no symbol
-abbrev pub class_behind : {S : Type 0} → List Grid → ℕ → Result (HeightClass × S) DecodeError → Result (List Grid × (ℕ × (ℕ × S))) DecodeError
-class_behind before empty answer = answer >>= λ class. Ok (before ++ class.0.symbols, (class.0.height, (empty_with class.0 empty, class.1)))
+abbrev pub class_behind : {S : Type 0} → List Grid → ℕ → Result (ℕ × List Grid × S) DecodeError → Result (List Grid × (ℕ × (ℕ × S))) DecodeError
+class_behind before empty answer = answer >>= λ class. Ok (before ++ class.1, (class.0, (empty_with class.1 empty, class.2)))
 
 -- the symbols that are referred to, and the new ones behind them
 abbrev pub all_symbols : List (Bor Grid) → List Grid → List Grid

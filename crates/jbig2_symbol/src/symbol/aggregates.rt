@@ -1,9 +1,9 @@
 //! Symbols that are refined from another one or put together from several (T.88, 6.5.8.2).
 ghost use Rattle.std.specs.Prelude.{◌≡◌, ◌+◌, ◌≤◌, length, max};
 ghost use Rattle.jbig2_base.specs.Answer.{Answers, Gives};
-ghost use Rattle.jbig2_symbol.specs.Aggregates.{aggregate_flags, aggregate_params, id_bits, id_codes, put_together, refined_alone, some_instances, state_bits};
-ghost use Rattle.jbig2_symbol.specs.ClassCauses.{IdCodesAreThere};
-ghost use Rattle.jbig2_symbol.specs.SymbolHeader.{header_view};
+ghost use Rattle.jbig2_symbol.specs.SymbolBitmaps.{aggregate_flags, aggregate_params, id_bits, id_codes, put_together, refined_alone, some_instances, state_bits};
+ghost use Rattle.jbig2_symbol.specs.Causes.{IdCodesAreThere};
+ghost use Rattle.jbig2_symbol.specs.inner.HeaderViews.{header_view};
 ghost use Rattle.jbig2_symbol.specs.inner.SymbolViews.{input_view};
 ghost use Rattle.jbig2_text.specs.inner.TextViews.{list_view, params_view};
 
@@ -125,7 +125,7 @@ pub fn aggregate_params<'a, A: Allocator, T: Allocator>(
 }
 
 /// The symbol of an id, refined into one of this size (T.88, 6.5.8.2.2).
-#[tactic(auto, unfolding(crate::specs::Aggregates::refined_alone))]
+#[tactic(auto, unfolding(crate::specs::SymbolBitmaps::refined_alone))]
 pub fn refine_alone<R: ReadInstances, A: Allocator, M: Allocator, C: Allocator, L: Ledger>(
     alloc: M,
     readings: &mut R,
@@ -152,7 +152,7 @@ pub fn refine_alone<R: ReadInstances, A: Allocator, M: Allocator, C: Allocator, 
 }
 
 /// Several instances, put together into a symbol of this size.
-#[tactic(auto, unfolding(crate::specs::Aggregates::put_together))]
+#[tactic(auto, unfolding(crate::specs::SymbolBitmaps::put_together))]
 pub fn put_together<R: ReadInstances, A: Allocator, M: Allocator + Clone, C: Allocator, L: Ledger>(
     alloc: M,
     readings: &mut R,

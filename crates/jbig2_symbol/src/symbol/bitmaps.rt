@@ -4,8 +4,9 @@ ghost use Rattle.std.specs.Prelude.{◌≡◌, ◌+◌, ◌*◌, ◌<◌, ◌≤
 ghost use Rattle.jbig2_base.specs.Answer.{Gives};
 ghost use Rattle.jbig2_base.specs.Bits.{IsAligned};
 ghost use Rattle.jbig2_base.specs.inner.Filled.{filled};
-ghost use Rattle.jbig2_symbol.specs.ClassCauses.{CutsHaveCauses};
-ghost use Rattle.jbig2_symbol.specs.SymbolBitmaps.{symbols_cut, put_behind, raw_pixel, raw_stride, raw_rows, mmr_bytes, rows_of_size};
+ghost use Rattle.jbig2_symbol.specs.Causes.{CutsHaveCauses};
+ghost use Rattle.jbig2_symbol.specs.SymbolBitmaps.{symbols_cut, raw_pixel, raw_stride, raw_rows, mmr_bytes, rows_of_size};
+ghost use Rattle.jbig2_symbol.specs.inner.SymbolViews.{put_behind};
 
 use jbig2_base::bitmap::Bitmap;
 use jbig2_base::bitmap::part::Area;

@@ -1,7 +1,7 @@
 //! The height classes of a symbol dictionary (T.88, 6.5.5).
 ghost use Rattle.std.specs.Prelude.{◌≡◌, ◌+◌, ◌<◌, ◌≤◌, length, OnOk};
 ghost use Rattle.jbig2_base.specs.Answer.{Answers, Gives};
-ghost use Rattle.jbig2_symbol.specs.ClassCauses.{AllDrawnClassesHaveCauses};
+ghost use Rattle.jbig2_symbol.specs.Causes.{AllDrawnClassesHaveCauses};
 ghost use Rattle.jbig2_symbol.specs.HeightClasses.{drawn_class, empty_class, height_class, new_symbols, symbols_from};
 ghost use Rattle.jbig2_symbol.specs.inner.SymbolViews.{behind, class_behind, input_view};
 

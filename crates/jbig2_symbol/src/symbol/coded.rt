@@ -3,13 +3,11 @@ ghost use Rattle.std.specs.Prelude.{◌≡◌, ◌≤◌, length, Ok};
 ghost use Rattle.jbig2_base.specs.Answer.{Answers, Gives};
 ghost use Rattle.jbig2_text.specs.TextCoding.{Coded};
 ghost use Rattle.jbig2_text.specs.inner.TextViews.{params_view};
-ghost use Rattle.jbig2_symbol.specs.Aggregates.{coded_aggregate, coded_instances};
-ghost use Rattle.jbig2_symbol.specs.SymbolBitmaps.{coded_symbol};
-ghost use Rattle.jbig2_symbol.specs.Causes.{InstanceCountsHaveCauses};
-ghost use Rattle.jbig2_symbol.specs.SymbolCauses.{CodedAggregatesHaveCauses, CodedBitmapsHaveCauses, CodedSymbolsHaveCauses};
+ghost use Rattle.jbig2_symbol.specs.SymbolBitmaps.{coded_aggregate, coded_instances, coded_symbol};
+ghost use Rattle.jbig2_symbol.specs.Causes.{CodedAggregatesHaveCauses, CodedBitmapsHaveCauses, CodedSymbolsHaveCauses, InstanceCountsHaveCauses};
 ghost use Rattle.jbig2_symbol.specs.SymbolCoding.{coded_bitmap, coder_begun};
-ghost use Rattle.jbig2_symbol.specs.SymbolHeader.{header_view};
-ghost use Rattle.jbig2_symbol.specs.SymbolReading.{SymbolState, by_procedure, contexts_view};
+ghost use Rattle.jbig2_symbol.specs.inner.HeaderViews.{contexts_view, header_view};
+ghost use Rattle.jbig2_symbol.specs.SymbolReading.{SymbolState, by_procedure};
 ghost use Rattle.jbig2_symbol.specs.inner.SymbolViews.{coded_view, input_view};
 
 use crate::symbol::aggregates::{
@@ -124,7 +122,7 @@ impl<A: Allocator> CodedSymbols<'_, A> {
     }
 
     /// A symbol that is refined from another one or put together from several (T.88, 6.5.8.2).
-    #[tactic(auto, using(crate::proofs::SymbolCauses::coded_aggregate_causes, crate::proofs::ReadingCauses::instance_count_causes), unfolding(crate::specs::Aggregates::coded_aggregate, crate::specs::Aggregates::instance_count))]
+    #[tactic(auto, using(crate::proofs::SymbolCauses::coded_aggregate_causes, crate::proofs::ReadingCauses::instance_count_causes), unfolding(crate::specs::SymbolBitmaps::coded_aggregate, crate::specs::SymbolBitmaps::instance_count))]
     fn read_aggregate<T: Allocator, M: Allocator + Clone, L: Ledger>(
         &mut self,
         alloc: M,

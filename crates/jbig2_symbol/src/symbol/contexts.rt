@@ -2,8 +2,8 @@
 ghost use Rattle.std.specs.Prelude.{◌≡◌, option_map, Ok};
 ghost use Rattle.jbig2_base.specs.Answer.{Gives};
 ghost use Rattle.jbig2_symbol.specs.Causes.{ContextsHaveCauses};
-ghost use Rattle.jbig2_symbol.specs.SymbolReading.{begun_contexts, contexts_view, first_contexts, fresh_bitmap_contexts, is_refinement_template, is_template, learned};
-ghost use Rattle.jbig2_symbol.specs.SymbolHeader.{header_view};
+ghost use Rattle.jbig2_symbol.specs.SymbolReading.{begun_contexts, first_contexts, fresh_bitmap_contexts, is_refinement_template, is_template, learned};
+ghost use Rattle.jbig2_symbol.specs.inner.HeaderViews.{contexts_view, header_view};
 
 use crate::symbol::dictionary::RetainedContexts;
 use crate::symbol::header::{SymbolDictionaryFlags, SymbolDictionaryHeader};

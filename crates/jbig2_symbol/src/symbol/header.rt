@@ -5,7 +5,9 @@ ghost use Rattle.jbig2_base.specs.Bits.{IsAligned};
 ghost use Rattle.jbig2_region.specs.Templates.{filled};
 ghost use Rattle.jbig2_text.specs.Refining.{some_pixels};
 ghost use Rattle.jbig2_symbol.specs.Causes.{SymbolHeadersHaveCauses};
-ghost use Rattle.jbig2_symbol.specs.SymbolHeader.{header_view, height_selection_of, width_selection_of, other_selection_of, symbol_flags_of, coded_pixels, coded_pixels_at, refined_pixels, refined_pixels_at, symbol_header_at};
+ghost use Rattle.jbig2_symbol.specs.SymbolHeader.{selection_of, other_selection_of, symbol_flags_of, coded_pixels_at, refined_pixels_at, symbol_header_at};
+ghost use Rattle.jbig2_symbol.specs.declared.symbol.header.HuffmanTableSelection.TheVariants.{TableB2, TableB3, TableB4, TableB5};
+ghost use Rattle.jbig2_symbol.specs.inner.HeaderViews.{coded_pixels, header_view, refined_pixels};
 
 use jbig2_base::error::{DecodeError, HuffmanError, OverflowError, Result};
 use jbig2_base::field::{u16_field, u32_field};
@@ -98,7 +100,7 @@ impl SymbolDictionaryHeader<'_> {
 /// The table of the height differences, by bits 2 and 3 of the flags.
 fn height_selection(number: u16) -> Result<HuffmanTableSelection>
     requires { number ≤ 3 }
-    ensures { Answers (λ selection. selection) result (height_selection_of number) }
+    ensures { Answers (λ selection. selection) result (selection_of TableB4 TableB5 number) }
 {
     match number {
         0 => Ok(HuffmanTableSelection::TableB4),
@@ -111,7 +113,7 @@ fn height_selection(number: u16) -> Result<HuffmanTableSelection>
 /// The table of the width differences, by bits 4 and 5 of the flags.
 fn width_selection(number: u16) -> Result<HuffmanTableSelection>
     requires { number ≤ 3 }
-    ensures { Answers (λ selection. selection) result (width_selection_of number) }
+    ensures { Answers (λ selection. selection) result (selection_of TableB2 TableB3 number) }
 {
     match number {
         0 => Ok(HuffmanTableSelection::TableB2),

@@ -4,13 +4,11 @@ ghost use Rattle.jbig2_base.specs.Answer.{Answers, Gives};
 ghost use Rattle.jbig2_base.specs.Bits.{Place};
 ghost use Rattle.jbig2_text.specs.TextCoding.{by_prefix_codes};
 ghost use Rattle.jbig2_text.specs.inner.TextViews as texts;
-ghost use Rattle.jbig2_symbol.specs.Aggregates.{by_instances, plain_id, prefixed_aggregate, prefixed_instances};
-ghost use Rattle.jbig2_symbol.specs.Causes.{InstanceCountsHaveCauses};
-ghost use Rattle.jbig2_symbol.specs.ClassCauses.{CollectiveBitmapsHaveCauses, CollectiveClassesHaveCauses};
-ghost use Rattle.jbig2_symbol.specs.SymbolBitmaps.{collective_bitmap};
-ghost use Rattle.jbig2_symbol.specs.SymbolCauses.{PrefixedAggregatesHaveCauses};
+ghost use Rattle.jbig2_symbol.specs.Causes.{CollectiveBitmapsHaveCauses, CollectiveClassesHaveCauses, InstanceCountsHaveCauses, PrefixedAggregatesHaveCauses};
+ghost use Rattle.jbig2_symbol.specs.SymbolBitmaps.{by_instances, collective_bitmap, plain_id, prefixed_aggregate, prefixed_instances};
 ghost use Rattle.jbig2_symbol.specs.SymbolCoding.{collective_class, prefix_codes_begun};
-ghost use Rattle.jbig2_symbol.specs.SymbolReading.{SymbolState, by_table, contexts_view};
+ghost use Rattle.jbig2_symbol.specs.SymbolReading.{SymbolState, by_table};
+ghost use Rattle.jbig2_symbol.specs.inner.HeaderViews.{contexts_view};
 ghost use Rattle.jbig2_symbol.specs.inner.SymbolViews.{behind, input_view, prefixed_view};
 
 use crate::symbol::aggregates::{
@@ -124,7 +122,7 @@ impl<'a, A: Allocator> PrefixedSymbols<'a, A> {
     }
 
     /// A symbol that is refined from another one or put together from several (T.88, 6.5.8.2).
-    #[tactic(auto, using(crate::proofs::SymbolCauses::prefixed_aggregate_causes, crate::proofs::ReadingCauses::instance_count_causes), unfolding(crate::specs::Aggregates::prefixed_aggregate, crate::specs::Aggregates::instance_count))]
+    #[tactic(auto, using(crate::proofs::SymbolCauses::prefixed_aggregate_causes, crate::proofs::ReadingCauses::instance_count_causes), unfolding(crate::specs::SymbolBitmaps::prefixed_aggregate, crate::specs::SymbolBitmaps::instance_count))]
     fn read_aggregate<T: Allocator, M: Allocator + Clone, L: Ledger>(
         &mut self,
         alloc: M,

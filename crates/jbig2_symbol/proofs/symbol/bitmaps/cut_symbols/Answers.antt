@@ -1,6 +1,7 @@
 use Rattle.std.proofs.Common.{◌+◌, List, drop, get_or, sym, ap, ◌∙◌, arith}
 use Rattle.jbig2_base.specs.Grid.{Grid}
-use Rattle.jbig2_symbol.specs.SymbolBitmaps.{put_behind, symbol_cut, symbols_cut}
+use Rattle.jbig2_symbol.specs.SymbolBitmaps.{symbol_cut, symbols_cut}
+use Rattle.jbig2_symbol.specs.inner.SymbolViews.{put_behind}
 use Rattle.jbig2_symbol.proofs.CutLemmas.{cut-all, cut-fault, cut-next, sum-next}
 use Rattle.jbig2_symbol.proofs.symbol.bitmaps.cut_symbols.Goals as goal
 

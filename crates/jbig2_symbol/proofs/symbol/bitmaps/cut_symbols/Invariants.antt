@@ -1,6 +1,7 @@
 use Rattle.std.proofs.Common.{◌≡◌, ◌+◌, ◌≤◌, drop}
 use Rattle.std.specs.Prelude.{sum}
-use Rattle.jbig2_symbol.specs.SymbolBitmaps.{put_behind, symbols_cut}
+use Rattle.jbig2_symbol.specs.SymbolBitmaps.{symbols_cut}
+use Rattle.jbig2_symbol.specs.inner.SymbolViews.{put_behind}
 use Rattle.jbig2_symbol.proofs.symbol.bitmaps.cut_symbols.Given as goal
 
 abbrev pub invariant-loop-width : goal.invariant-loop-width

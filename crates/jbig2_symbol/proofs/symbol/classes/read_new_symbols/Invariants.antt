@@ -1,7 +1,6 @@
 use Rattle.std.proofs.Common.{◌≡◌, ◌+◌, ◌-◌, ◌≤◌}
 use Rattle.jbig2_symbol.specs.HeightClasses.{classes_from, new_symbols}
-use Rattle.jbig2_symbol.specs.inner.SymbolViews.{input_view}
-use Rattle.jbig2_symbol.proofs.ClassLemmas.{classes_behind}
+use Rattle.jbig2_symbol.specs.inner.SymbolViews.{behind, input_view}
 use Rattle.jbig2_symbol.proofs.symbol.classes.read_new_symbols.Given as goal
 
 abbrev pub invariant-loop : goal.invariant-loop
@@ -9,5 +8,5 @@ invariant-loop g l =
     let r = g.R.ReadClasses in
     record {
       few : l.symbols.empty ≤ l.counter;
-      reads : classes_behind l.symbols.bitmaps.items (classes_from r.readings (input_view l.input) (l.input.header.now.num_new_symbols + 1048576 - l.counter) l.symbols.height l.symbols.empty l.symbols.bitmaps.items (r.state l.readings)) ≡ new_symbols r.readings (input_view l.input) (r.state l.fn.readings);
+      reads : behind l.symbols.bitmaps.items (classes_from r.readings (input_view l.input) (l.input.header.now.num_new_symbols + 1048576 - l.counter) l.symbols.height l.symbols.empty l.symbols.bitmaps.items (r.state l.readings)) ≡ new_symbols r.readings (input_view l.input) (r.state l.fn.readings);
     }

@@ -1,6 +1,6 @@
 use Rattle.std.proofs.Common.{ap, rules, ◌∙◌}
 use Rattle.jbig2_region.proofs.GenericLemmas.{whole-slice}
-use Rattle.jbig2_symbol.specs.SymbolHeader.{header_view}
+use Rattle.jbig2_symbol.specs.inner.HeaderViews.{header_view}
 use Rattle.jbig2_symbol.specs.inner.SymbolViews.{coded_view}
 use Rattle.jbig2_symbol.proofs.CodedLemmas.{filled-made}
 use Rattle.jbig2_symbol.proofs.symbol.coded.CodedSymbols.decode_symbol.Goals as goal

@@ -1,8 +1,8 @@
 use Rattle.std.proofs.Common.{◌≡◌, max, length, refl, sym, ap, ◌∙◌}
 use Rattle.std.proofs.Math.Nat.{max_comm}
 use Rattle.std.proofs.lemmas.List.{length-map}
-use Rattle.jbig2_symbol.specs.Aggregates.{id_bits}
-use Rattle.jbig2_symbol.specs.SymbolHeader.{header_view}
+use Rattle.jbig2_symbol.specs.SymbolBitmaps.{id_bits}
+use Rattle.jbig2_symbol.specs.inner.HeaderViews.{header_view}
 use Rattle.jbig2_symbol.specs.inner.SymbolViews.{input_view, prefixed_view}
 use Rattle.jbig2_text.specs.inner.TextViews.{params_view, tables_view}
 use Rattle.jbig2_symbol.proofs.AggregateLemmas.{prefixed-fault}
