@@ -4,7 +4,7 @@ use Rattle.jbig2_base.specs.Grid.{Grid}
 use Rattle.jbig2_base.proofs.Answered.{Answered, answered-if, answered-next, answered-number, answered-operator, answered-refusal, answered-signed}
 use Rattle.jbig2_mmr.proofs.Answered.{answered-mmr}
 use Rattle.jbig2_region.proofs.Answered.{answered-region_info}
-use Rattle.jbig2_halftone.specs.GrayScale.{GrayScale, gray_scale_image, mmr_planes}
+use Rattle.jbig2_halftone.specs.GrayScale.{GrayScale, gray_scale_image, mmr_plane, mmr_planes}
 use Rattle.jbig2_halftone.specs.Halftone.{cells_drawn, halftone_answer, halftone_decoded, pattern_for}
 use Rattle.jbig2_halftone.specs.HalftoneHeader.{HalftoneHeader, halftone_flags_at, halftone_grid_at, halftone_header_at}
 use Rattle.jbig2_halftone.specs.PatternHeader.{PatternHeader, pattern_header_at, side_at}
@@ -36,12 +36,16 @@ unfolding patterns_decoded
 answered-patterns h = search (answered-next, answered-refusal, answered-if, answered-mmr) depth 8
 
 -- ---- regions
+answered-plane : (p : GrayScale) (bytes : List ℕ) → Answered (mmr_plane p bytes)
+unfolding mmr_plane
+answered-plane p bytes = search (answered-next, answered-mmr)
+
 answered-planes : (p : GrayScale) (bytes : List ℕ) (count : ℕ) → Answered (mmr_planes p bytes count)
 unfolding mmr_planes
 answered-planes p bytes zero = tt
 answered-planes p bytes (suc count) =
     let others : (left : List ℕ) → Answered (mmr_planes p left count) = λ left. answered-planes p left count in
-    search (answered-next, answered-mmr, others)
+    search (answered-next, answered-plane, others)
 
 answered-image : (p : GrayScale) (bytes : List ℕ) → Answered (gray_scale_image p bytes)
 unfolding gray_scale_image

@@ -14,7 +14,7 @@ use Rattle.jbig2_base.proofs.Causes.{cause-next}
 use Rattle.jbig2_mmr.specs.T6.{Decoded, mmr_rows, rows_of}
 use Rattle.jbig2_region.specs.Generic.{generic_answer}
 use Rattle.jbig2_halftone.specs.Causes.{BreaksGrayScale, BreaksHalftone, BreaksPatterns, plane_start}
-use Rattle.jbig2_halftone.specs.GrayScale.{GrayScale, gray_scale_image, gray_value, gray_values, image_is_too_large, mmr_planes, planes_of}
+use Rattle.jbig2_halftone.specs.GrayScale.{GrayScale, gray_scale_image, gray_value, gray_values, image_is_too_large, mmr_plane, mmr_planes, planes_of}
 use Rattle.jbig2_halftone.specs.Halftone.{cells_drawn, gray_params, halftone_answer, halftone_decoded, pattern_for, with_cell}
 use Rattle.jbig2_halftone.specs.HalftoneHeader.{HalftoneHeader}
 use Rattle.jbig2_halftone.specs.Patterns.{Patterns, collective_header, collective_width, patterns_decoded}
@@ -54,13 +54,15 @@ pattern_causes h =
 -- planes from plane k on
 cause-planes : (P : DecodeError → Type 0) (p : GrayScale) (bytes : List ℕ) (k : ℕ) (rest : List ℕ) (count : ℕ) → plane_start p bytes k ≡ rest
     → ((j : ℕ) → j < k + count → LacksRows p.width p.height (plane_start p bytes j) → p.strict ≡ true → P (Region InvalidMmrData)) → IfErr (mmr_planes p rest count) P
-unfolding mmr_planes plane_start used
+unfolding mmr_planes mmr_plane plane_start used
 cause-planes P p bytes k rest zero at why = tt
 cause-planes P p bytes k rest (suc count) at why =
+    let Q : Grid × List ℕ → Type 0 = λ x. plane_start p bytes (suc k) ≡ x.1 in
     let lacks : LacksRows p.width p.height rest → LacksRows p.width p.height (plane_start p bytes k) = λ is. rw at is in
-    cause-last P _ (mmr_rows p.strict p.width p.height rest) _ (told-mmr P p.strict p.width p.height rest (λ strict is. why k (omega arith) (lacks is) strict)) (λ plane taken.
-    let next : plane_start p bytes (suc k) ≡ drop plane.used rest = ap (λ (l : List ℕ). drop (used p.width p.height l) l) at ∙ ap (λ (n : ℕ). drop n rest) taken in
-    cause-next P (mmr_planes p (drop plane.used rest) count) _ (cause-planes P p bytes (suc k) (drop plane.used rest) count next (λ j below. why j (omega (arith, below)))) (λ others is. tt))
+    cause-last P Q (mmr_plane p rest) _
+    (told-next P _ Q (mmr_rows p.strict p.width p.height rest) _ (told-mmr P p.strict p.width p.height rest (λ strict is. why k (omega arith) (lacks is) strict))
+    (λ rows taken. ap (λ (l : List ℕ). drop (used p.width p.height l) l) at ∙ ap (λ (n : ℕ). drop n rest) taken)) (λ plane next.
+    cause-next P (mmr_planes p plane.1 count) _ (cause-planes P p bytes (suc k) plane.1 count next (λ j below. why j (omega (arith, below)))) (λ others is. tt))
 
 too-large : (p : GrayScale) → image_is_too_large p ≡ true → (0 < p.bits_per_pixel) × ((65535 < p.width) ⊎ (65535 < p.height))
 too-large p is =

@@ -10,7 +10,7 @@ use Rattle.jbig2_base.specs.declared.error.RegionError.TheVariants.{GrayScaleOut
 use Rattle.jbig2_coder.specs.Coder.{Context}
 use Rattle.jbig2_base.specs.Search.{code_length}
 use Rattle.jbig2_mmr.specs.T6.{mmr_rows}
-use Rattle.jbig2_halftone.specs.GrayScale.{GrayScale, mmr_planes, planes_of, gray_values, image_is_too_large, gray_scale_image}
+use Rattle.jbig2_halftone.specs.GrayScale.{GrayScale, mmr_plane, mmr_planes, planes_of, gray_values, image_is_too_large, gray_scale_image}
 use Rattle.jbig2_halftone.specs.Halftone.{gray_params, pattern_for, with_cell, cells_drawn, halftone_answer, halftone_contexts}
 use Rattle.jbig2_halftone.specs.HalftoneHeader.{HalftoneHeader}
 use Rattle.jbig2_halftone.specs.Patterns.{Patterns}
@@ -64,13 +64,20 @@ rows-lenient : (w h : ℕ) (input : List ℕ) → Answered (mmr_rows false w h i
 unfolding mmr_rows
 rows-lenient w h input = (_, refl)
 
+plane-lenient : (p : GrayScale) (input : List ℕ) → p.strict ≡ false → Answered (mmr_plane p input)
+unfolding mmr_plane
+plane-lenient p input lenient =
+    then-answered (mmr_rows p.strict p.width p.height input) (λ rows. Ok (rows.grid, drop rows.used input))
+    (subst (λ (b : Bool). Answered (mmr_rows b p.width p.height input)) (sym lenient) (rows-lenient p.width p.height input))
+    (λ rows. ((rows.grid, drop rows.used input), refl))
+
 planes-lenient : (p : GrayScale) (input : List ℕ) (count : ℕ) → p.strict ≡ false → Answered (mmr_planes p input count)
 unfolding mmr_planes
 planes-lenient p input zero lenient = ([], refl)
 planes-lenient p input (suc count) lenient =
-    then-answered (mmr_rows p.strict p.width p.height input) (λ plane. mmr_planes p (drop plane.used input) count >>= λ others. Ok (plane.grid ∷ others))
-    (subst (λ (b : Bool). Answered (mmr_rows b p.width p.height input)) (sym lenient) (rows-lenient p.width p.height input))
-    (λ plane. then-answered (mmr_planes p (drop plane.used input) count) (λ others. Ok (plane.grid ∷ others)) (planes-lenient p (drop plane.used input) count lenient) (λ others. (plane.grid ∷ others, refl)))
+    then-answered (mmr_plane p input) (λ plane. mmr_planes p plane.1 count >>= λ others. Ok (plane.0 ∷ others))
+    (plane-lenient p input lenient)
+    (λ plane. then-answered (mmr_planes p plane.1 count) (λ others. Ok (plane.0 ∷ others)) (planes-lenient p plane.1 count lenient) (λ others. (plane.0 ∷ others, refl)))
 
 values-lenient : (use_mmr : Bool) (p : GrayScale) (input : List ℕ) → p.strict ≡ false → Answered (if use_mmr then planes_by_mmr p input else planes_by_coder p input)
 values-lenient true p input lenient = planes-lenient p input p.bits_per_pixel lenient

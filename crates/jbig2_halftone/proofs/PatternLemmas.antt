@@ -1,5 +1,5 @@
 -- Patterns cut out of a collective bitmap.
-use Rattle.std.proofs.Common.{◌≡◌, ℕ, ◌+◌, ◌*◌, ◌<◌, ◌≤◌, Bool, false, List, [], ◌∷◌, ◌++◌, take, length, Result, Ok, refl, sym, ap, subst, ◌∙◌, arith}
+use Rattle.std.proofs.Common.{◌≡◌, ℕ, ◌+◌, ◌*◌, ◌<◌, ◌≤◌, Bool, true, false, List, [], ◌∷◌, ◌++◌, length, Result, Ok, refl, sym, ap, subst, ◌∙◌, arith}
 use Rattle.std.specs.List.{All}
 use Rattle.std.proofs.Math.Nat.{mul-le-mul_left}
 use Rattle.std.proofs.lemmas.List.FromFn.{get_or-map-range_with_len, map-range_with_len_more, length-map-range_with_len}
@@ -7,16 +7,21 @@ use Rattle.jbig2_base.specs.Grid.{Grid, blank}
 use Rattle.jbig2_base.specs.declared.error.DecodeError.{DecodeError}
 use Rattle.jbig2_base.specs.Sizes.{blank_or_overflow}
 use Rattle.jbig2_base.proofs.FillLemmas.{white-made}
-use Rattle.jbig2_region.specs.Templates.{adaptive_pixel_count, left, pixels_view, right}
+use Rattle.jbig2_region.specs.Templates.{left, pixels_view, right}
 use Rattle.jbig2_region.specs.declared.template.GenericTemplatePixels.TheVariants.{Regular}
 use Rattle.jbig2_region.specs.declared.template.Template.{Template}
+use Rattle.jbig2_region.specs.declared.template.Template.TheVariants.{Template0, Template1, Template2, Template3}
 use Rattle.jbig2_halftone.specs.PatternHeader.{HasSize}
-use Rattle.jbig2_halftone.specs.Patterns.{patterns_of}
+use Rattle.jbig2_halftone.specs.Patterns.{collective_pixels, patterns_of}
 use Rattle.jbig2_halftone.specs.inner.Stages.{pattern_of}
 
 -- the adaptive pixels of the collective bitmap, taken of an array of four
-pub collective_view : (mmr : Bool) (template : Template) (width : ℕ) → pixels_view mmr template (Regular (left width 0 ∷ left 3 1 ∷ right 2 2 ∷ left 2 2 ∷ [])) ≡ take (adaptive_pixel_count mmr false template) (left width 0 ∷ left 3 1 ∷ right 2 2 ∷ left 2 2 ∷ [])
-collective_view mmr template width = refl
+pub collective_view : (mmr : Bool) (template : Template) (width : ℕ) → pixels_view mmr template (Regular (left width 0 ∷ left 3 1 ∷ right 2 2 ∷ left 2 2 ∷ [])) ≡ collective_pixels mmr template width
+collective_view true template width = refl
+collective_view false Template0 width = refl
+collective_view false Template1 width = refl
+collective_view false Template2 width = refl
+collective_view false Template3 width = refl
 
 pub patterns_of-pushed : (collective : Grid) (w h n : ℕ) (before after : List Grid) (p : Grid) → before ≡ patterns_of collective w h n → ◌≡◌ {A = Result Grid DecodeError} (Ok (pattern_of collective w h n)) (Ok p) → after ≡ before ++ p ∷ [] → after ≡ patterns_of collective w h (n + 1)
 unfolding patterns_of

@@ -17,8 +17,8 @@ use Rattle.jbig2_region.specs.Skipping.{skipping_coding, skip_of}
 use Rattle.jbig2_mmr.specs.T6.{Decoded, Rows, mmr_rows, grid_of_rows, rows_of}
 use Rattle.jbig2_region.specs.Templates.{context_bits, template_pixels}
 use Rattle.jbig2_region.specs.declared.template.AdaptiveTemplatePixel.{AdaptiveTemplatePixel}
-use Rattle.jbig2_halftone.specs.GrayScale.{GrayScale, nominal_pixels, after_planes, mmr_planes, planes_of, image_is_too_large}
-use Rattle.jbig2_halftone.specs.inner.Stages.{coded_plane, plane_coding, coded_planes, mmr_plane, planes_by_coder, planes_by_mmr}
+use Rattle.jbig2_halftone.specs.GrayScale.{GrayScale, nominal_pixels, after_planes, mmr_plane, mmr_planes, planes_of, image_is_too_large}
+use Rattle.jbig2_halftone.specs.inner.Stages.{coded_plane, plane_coding, coded_planes, planes_by_coder, planes_by_mmr}
 
 -- neither side of an image that has a plane is too long
 pub image-sides : (p : GrayScale) (i : ℕ) → image_is_too_large p ≡ false → i < p.bits_per_pixel → (p.width ≤ 65535) × (p.height ≤ 65535)
@@ -117,21 +117,12 @@ one-more : (done : List Grid) (grid : Grid) (planes : Result (List Grid) DecodeE
 one-more done grid (Ok others) = ap (λ (ps : List Grid). Ok ps) (sym (append_assoc done (grid ∷ []) others))
 one-more done grid (Err e) = refl
 
--- a plane and then the others
-mmr-split : (p : GrayScale) (bytes : List ℕ) (count : ℕ) → mmr_planes p bytes (suc count) ≡ (mmr_plane p bytes >>= λ plane. mmr_planes p plane.1 count >>= λ others. Ok (plane.0 ∷ others))
-unfolding mmr_planes mmr_plane
-mmr-split p bytes count = by (mmr_rows p.strict p.width p.height bytes)
-  where
-    by : (r : Result Decoded DecodeError)
-        → (r >>= λ plane. mmr_planes p (drop plane.used bytes) count >>= λ others. Ok (plane.grid ∷ others)) ≡ (◌>>=◌ {A = Grid × List ℕ} (r >>= λ rows. Ok (rows.grid, drop rows.used bytes)) λ plane. mmr_planes p plane.1 count >>= λ others. Ok (plane.0 ∷ others))
-    by (Ok rows) = refl
-    by (Err e) = refl
-
 mmr-step : (p : GrayScale) (i : ℕ) (left : List ℕ) (grid : Grid) (rest : List ℕ) → i < p.bits_per_pixel → mmr_plane p left ≡ Ok (grid, rest)
     → mmr_planes p left (p.bits_per_pixel - i) ≡ (mmr_planes p rest (p.bits_per_pixel - (i + 1)) >>= λ others. Ok (grid ∷ others))
+unfolding mmr_planes
 mmr-step p i left grid rest more read =
     let one : p.bits_per_pixel - i ≡ suc (p.bits_per_pixel - (i + 1)) = omega arith in
-    rw (one, mmr-split p left (p.bits_per_pixel - (i + 1)), read)
+    rw (one, read)
 
 pub mmr-next : (p : GrayScale) (input : List ℕ) (i : ℕ) (grid : Grid) (old new : List Grid) (left rest : List ℕ) → i < p.bits_per_pixel → mmr_plane p left ≡ Ok (grid, rest)
     → new ≡ old ++ grid ∷ [] → ReadsMmr p input i old left → ReadsMmr p input (i + 1) new rest
@@ -153,9 +144,10 @@ mmr-all p input i planes rest all reads =
 
 -- a fault ends the reading
 pub mmr-fault : (p : GrayScale) (input : List ℕ) (i : ℕ) (planes : List Grid) (left : List ℕ) (error : DecodeError) → i < p.bits_per_pixel → mmr_plane p left ≡ Err error → ReadsMmr p input i planes left → planes_by_mmr p input ≡ Err error
+unfolding mmr_planes
 mmr-fault p input i planes left error more e reads =
     let one : p.bits_per_pixel - i ≡ suc (p.bits_per_pixel - (i + 1)) = omega arith in
-    let made : Err error ≡ mmr_planes p input p.bits_per_pixel = rw (one, mmr-split p left (p.bits_per_pixel - (i + 1)), e) at reads.all in
+    let made : Err error ≡ mmr_planes p input p.bits_per_pixel = rw (one, e) at reads.all in
     sym made
 
 -- one plane
@@ -244,7 +236,7 @@ mmr-planes-sized p zero input planes made =
     subst (λ (ps : List Grid). AreSized p 0 ps) none (record { many = refl; wide = λ k d inside. absurd (omega arith) })
 mmr-planes-sized p (suc count) input planes made =
     let next : count + 1 ≡ suc count = omega arith in
-    subst (λ (n : ℕ). AreSized p n planes) next (planes-sized-step p count input planes (mmr_plane p input) refl (λ rest others e. mmr-planes-sized p count rest others e) (sym (mmr-split p input count) ∙ made))
+    subst (λ (n : ℕ). AreSized p n planes) next (planes-sized-step p count input planes (mmr_plane p input) refl (λ rest others e. mmr-planes-sized p count rest others e) made)
 
 pub planes-sized : (p : GrayScale) (input : List ℕ) (planes : List Grid) → planes_of p input ≡ Ok planes → AreSized p p.bits_per_pixel planes
 planes-sized p input planes made = by p.use_mmr made

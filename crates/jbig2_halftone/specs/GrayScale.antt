@@ -42,13 +42,16 @@ after_planes p bytes (suc count) =
     let coding = skipping_coding (template_pixels false p.template (nominal_pixels p.template)) p.skip_mask in
     decoded_region coding p.width p.height bytes (no_pixels before.registers before.contexts)
 
--- with MMR, a plane, and then the others from the bytes behind those that it used
+-- with MMR, a plane and the bytes behind those that it used, and so many planes
+unfoldable pub mmr_plane : GrayScale → List ℕ → Result (Grid × List ℕ) DecodeError
+mmr_plane p bytes = mmr_rows p.strict p.width p.height bytes >>= λ rows. Ok (rows.grid, drop rows.used bytes)
+
 unfoldable pub mmr_planes : GrayScale → List ℕ → ℕ → Result (List Grid) DecodeError
 mmr_planes p bytes zero = Ok []
 mmr_planes p bytes (suc count) = do
-  plane ← mmr_rows p.strict p.width p.height bytes
-  others ← mmr_planes p (drop plane.used bytes) count
-  Ok (plane.grid ∷ others)
+  plane ← mmr_plane p bytes
+  others ← mmr_planes p plane.1 count
+  Ok (plane.0 ∷ others)
 
 -- all planes, the highest first: by the coder, plane k is the last of the k + 1 highest ones
 abbrev pub planes_of : GrayScale → List ℕ → Result (List Grid) DecodeError

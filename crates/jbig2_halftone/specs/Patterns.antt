@@ -1,6 +1,6 @@
 -- Pattern dictionaries (T.88, 6.7): the patterns stand side by side in one collective bitmap, a generic region. The
 -- header with the coded bytes gives the list of the patterns' grids, one for each gray value.
-use Rattle.std.specs.Prelude.{ℕ, ◌+◌, ◌*◌, nat_lt, false, if◌then◌else◌, List, [], ◌∷◌, take, map, Result, Ok}
+use Rattle.std.specs.Prelude.{ℕ, ◌+◌, ◌*◌, nat_lt, Bool, true, false, if◌then◌else◌, List, [], ◌∷◌, map, Result, Ok}
 use Rattle.std.specs.List.{range_with_len}
 use Rattle.jbig2_base.specs.Answer.{◌>>=◌, refuse_if}
 use Rattle.jbig2_base.specs.Grid.{Grid}
@@ -12,7 +12,10 @@ use Rattle.jbig2_base.specs.declared.error.OverflowError.TheVariants.{BitmapDime
 use Rattle.jbig2_coder.specs.Coder.{Context}
 use Rattle.jbig2_region.specs.Generic.{generic_answer, contexts_after}
 use Rattle.jbig2_region.specs.GenericHeader.{GenericHeader}
-use Rattle.jbig2_region.specs.Templates.{adaptive_pixel_count, left, right}
+use Rattle.jbig2_region.specs.Templates.{left, right}
+use Rattle.jbig2_region.specs.declared.template.AdaptiveTemplatePixel.{AdaptiveTemplatePixel}
+use Rattle.jbig2_region.specs.declared.template.Template.{Template}
+use Rattle.jbig2_region.specs.declared.template.Template.TheVariants.{Template0}
 use Rattle.jbig2_halftone.specs.PatternHeader.{PatternHeader}
 use Rattle.jbig2_halftone.specs.declared.pattern.dictionary.PatternDictionary.{PatternDictionary}
 
@@ -28,8 +31,13 @@ dictionary_view d = record { grids = d.patterns.items; width = d.pattern_width; 
 abbrev pub collective_width : PatternHeader → ℕ
 collective_width h = (h.gray_max + 1) * h.pattern_width
 
--- The collective bitmap as a generic region, without typical prediction (Table 27). Of its adaptive pixels, as many as
--- it has by 6.2.5.4, A1 lies one pattern to the left, in the same row.
+-- the adaptive pixels (Table 27), by whether MMR is on, the template and a pattern's width: A1 lies one pattern to the left
+abbrev pub collective_pixels : Bool → Template → ℕ → List AdaptiveTemplatePixel
+collective_pixels true template width = []
+collective_pixels false Template0 width = left width 0 ∷ left 3 1 ∷ right 2 2 ∷ left 2 2 ∷ []
+collective_pixels false template width = left width 0 ∷ []
+
+-- the collective bitmap as a generic region, without typical prediction (Table 27)
 abbrev pub collective_header : PatternHeader → GenericHeader
 collective_header h = record {
   region_info = record { width = collective_width h; height = h.pattern_height; x_location = 0; y_location = 0; combination_operator = Or };
@@ -37,7 +45,7 @@ collective_header h = record {
   template = h.template;
   extended = false;
   tpgdon = false;
-  adaptive_template_pixels = take (adaptive_pixel_count h.mmr false h.template) (left h.pattern_width 0 ∷ left 3 1 ∷ right 2 2 ∷ left 2 2 ∷ []);
+  adaptive_template_pixels = collective_pixels h.mmr h.template h.pattern_width;
   bytes = h.bytes;
   strict = h.strict;
 }

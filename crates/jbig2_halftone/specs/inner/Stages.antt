@@ -1,13 +1,11 @@
 -- What single functions of the code give and take, which the definitions have as a part of something larger.
-use Rattle.std.specs.Prelude.{ℕ, ◌≡◌, ◌+◌, ◌*◌, ◌/◌, ◌%◌, Bool, true, false, ◌||◌, if◌then◌else◌, List, drop, map, None, is_some, Result, Ok}
+use Rattle.std.specs.Prelude.{ℕ, ◌≡◌, ◌+◌, ◌*◌, ◌/◌, ◌%◌, Bool, true, false, ◌||◌, if◌then◌else◌, List, map, None, is_some, Result, Ok}
 use Rattle.std.specs.List.{range_with_len}
-use Rattle.jbig2_base.specs.Answer.{◌>>=◌}
 use Rattle.jbig2_base.specs.Counts.{Counts, KeepsLanes}
 use Rattle.jbig2_base.specs.Grid.{Grid, grid_of}
 use Rattle.jbig2_base.specs.Parts.{part_of}
 use Rattle.jbig2_base.specs.declared.error.DecodeError.{DecodeError}
 use Rattle.jbig2_coder.specs.Coder.{Context}
-use Rattle.jbig2_mmr.specs.T6.{mmr_rows}
 use Rattle.jbig2_region.specs.Generic.{coding_of}
 use Rattle.jbig2_region.specs.Raster.{Coding, Region, so_far, no_pixels}
 use Rattle.jbig2_region.specs.RunBytes.{CountsRegion}
@@ -40,10 +38,7 @@ coded_planes p bytes count = map (coded_plane p bytes) (range_with_len 0 count)
 abbrev pub planes_by_coder : GrayScale → List ℕ → Result (List Grid) DecodeError
 planes_by_coder p bytes = Ok (coded_planes p bytes p.bits_per_pixel)
 
--- with MMR, a plane and the bytes behind those that it used, and then all planes
-unfoldable pub mmr_plane : GrayScale → List ℕ → Result (Grid × List ℕ) DecodeError
-mmr_plane p bytes = mmr_rows p.strict p.width p.height bytes >>= λ rows. Ok (rows.grid, drop rows.used bytes)
-
+-- all planes, with MMR
 abbrev pub planes_by_mmr : GrayScale → List ℕ → Result (List Grid) DecodeError
 planes_by_mmr p bytes = mmr_planes p bytes p.bits_per_pixel
 

@@ -6,10 +6,10 @@ ghost use Rattle.jbig2_base.specs.Grid.{blank};
 ghost use Rattle.jbig2_region.specs.Raster.{fresh_contexts, no_pixels};
 ghost use Rattle.jbig2_region.specs.Templates.{context_bits, four_pixels};
 ghost use Rattle.jbig2_region.specs.inner.Holds.{DecodesRegion};
-ghost use Rattle.jbig2_halftone.specs.GrayScale.{nominal_pixels, planes_of, after_planes, image_is_too_large};
+ghost use Rattle.jbig2_halftone.specs.GrayScale.{nominal_pixels, planes_of, after_planes, image_is_too_large, mmr_plane};
 ghost use Rattle.jbig2_halftone.specs.Steps.{CountsRead};
 ghost use Rattle.jbig2_halftone.specs.inner.HalftoneViews.{gray_view};
-ghost use Rattle.jbig2_halftone.specs.inner.Stages.{plane_coding, mmr_plane, planes_by_coder, planes_by_mmr, planes_contexts, CountsCoded, CountsOne};
+ghost use Rattle.jbig2_halftone.specs.inner.Stages.{plane_coding, planes_by_coder, planes_by_mmr, planes_contexts, CountsCoded, CountsOne};
 
 use crate::gray_scale::GrayScaleParams;
 use jbig2_base::bitmap::Bitmap;

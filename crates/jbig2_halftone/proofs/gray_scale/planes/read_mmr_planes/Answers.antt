@@ -2,9 +2,8 @@ use Rattle.std.proofs.Common.{◌≡◌, ⊎_elim, inl, inr, arith}
 use Rattle.jbig2_base.proofs.LaneCounts.{lanes-none, lanes-then}
 use Rattle.jbig2_base.specs.declared.error.DecodeError.TheVariants.{OutOfMemory}
 use Rattle.std.specs.Prelude.{Err}
-use Rattle.jbig2_halftone.specs.GrayScale.{GrayScale}
+use Rattle.jbig2_halftone.specs.GrayScale.{GrayScale, mmr_plane}
 use Rattle.jbig2_halftone.specs.inner.HalftoneViews.{gray_view}
-use Rattle.jbig2_halftone.specs.inner.Stages.{mmr_plane}
 use Rattle.jbig2_halftone.proofs.GrayCounts.{none-left, none-more, none-start}
 use Rattle.jbig2_halftone.proofs.PlaneLemmas.{mmr-none, mmr-next, mmr-all, mmr-fault}
 use Rattle.jbig2_halftone.proofs.gray_scale.planes.read_mmr_planes.Goals as goal
