@@ -5,7 +5,8 @@ use Rattle.jbig2_base.specs.declared.error.DecodeError.{DecodeError}
 use Rattle.jbig2_base.proofs.Answered.{Answered, IsAnswered, answered-if, answered-next, answered-refusal}
 use Rattle.jbig2_region.specs.Refinement.{Reference}
 use Rattle.jbig2_text.specs.Refining.{Refining}
-use Rattle.jbig2_text.specs.Text.{Instance, Reached, Readings, TextParams, after_instances, cursor_moved, edge, end_of_strip, instance_symbol, moved_by, plain_symbol, refined_outline, refined_symbol, refinement_deltas, refinement_flag, s_before, s_behind, side_of, some_strips, some_symbol, strip_begun, strip_delta, strips, symbol_by, symbol_placed, t_in_strip, text_instances, text_region, with_instance, with_last, with_next_instance, with_symbol, word_or}
+use Rattle.jbig2_text.specs.Text.{Instance, Reached, Readings, TextParams, after_instances, cursor_moved, edge, instance_symbol, moved_by, plain_symbol, refined_outline, refined_symbol, refinement_deltas, side_of, some_symbol, strip_begun, strip_delta, symbol_placed, t_in_strip, text_instances, text_region, with_instance, with_symbol, word_or}
+use Rattle.jbig2_text.specs.inner.Parts.{s_before, s_behind}
 use Rattle.jbig2_text.specs.declared.text.cursor.Cursor.{Cursor}
 use Rattle.jbig2_text.specs.declared.text.refined.RefinementDeltas.{RefinementDeltas}
 use Rattle.jbig2_text.specs.declared.text.header.TextRegionFlags.{TextRegionFlags}
@@ -75,16 +76,9 @@ answered-plain strict (Some g) = tt
 answered-plain true None = tt
 answered-plain false None = tt
 
-answered-flag : {S : Type 0} (r : Readings S) (a : AreAnswered r) (flags : TextRegionFlags) (s : S) → Answered (refinement_flag r flags s)
-answered-flag r a flags s = search (answered-if, a.is_refined)
-
-answered-symbol_by : {S : Type 0} (r : Readings S) (a : AreAnswered r) (p : TextParams) (id : ℤ) (refined : Bool) (f : Refining) (s : S) → Answered (symbol_by r p id refined f s)
-answered-symbol_by r a p id true f s = search (answered-next, answered-refined_symbol r a)
-answered-symbol_by r a p id false f s = search (answered-next, answered-plain)
-
 answered-symbol : {S : Type 0} (r : Readings S) (a : AreAnswered r) (p : TextParams) (id : ℤ) (f : Refining) (s : S) → Answered (instance_symbol r p id f s)
 unfolding instance_symbol
-answered-symbol r a p id f s = search (answered-next, answered-flag r a, answered-symbol_by r a)
+answered-symbol r a p id f s = search (answered-next, answered-if, a.is_refined, answered-refined_symbol r a, answered-plain) depth 8
 
 -- ---- places
 answered-before : (flags : TextRegionFlags) (g : Grid) (curs : ℤ) → Answered (s_before flags g curs)
@@ -109,34 +103,17 @@ answered-instance : {S : Type 0} (r : Readings S) (a : AreAnswered r) (p : TextP
 unfolding with_instance
 answered-instance r a p x = search (answered-next, answered-t r a, answered-word, a.id, answered-symbol r a, answered-with_symbol) depth 10
 
-answered-next_instance : {S : Type 0} (r : Readings S) (a : AreAnswered r) (p : TextParams) (x : Reached S) → Answered (with_next_instance r p x)
-answered-next_instance r a p x = search (answered-next, answered-instance r a, answered-cursor r a)
-
 answered-instances : {S : Type 0} (r : Readings S) (a : AreAnswered r) (p : TextParams) (n : ℕ) (x : Reached S) → Answered (after_instances r p n x)
 unfolding after_instances
 answered-instances r a p zero x = tt
 answered-instances r a p (suc n) x =
     let others = answered-instances r a p n in
-    search (answered-next, answered-next_instance r a, others)
-
-answered-end : (strict : Bool) (ids : Result (Option ℤ) DecodeError) → Answered ids → Answered (end_of_strip strict ids)
-answered-end false ids is = tt
-answered-end true (Ok None) is = tt
-answered-end true (Ok (Some ids)) is = tt
-answered-end true (Err e) is = is
-
-answered-last : {S : Type 0} (r : Readings S) (a : AreAnswered r) (p : TextParams) (x : Reached S) → Answered (with_last r p x)
-answered-last r a p x = search (answered-next, answered-instance r a, answered-end, a.delta_s)
-
-answered-some_strips : {S : Type 0} (r : Readings S) (a : AreAnswered r) (p : TextParams) (stript : ℤ) (f : Refining) (s : S) → Answered (some_strips r p stript f s)
-answered-some_strips r a p stript f s = search (answered-next, answered-strip_begun r a, answered-instances r a, answered-last r a)
-
-answered-strips : {S : Type 0} (r : Readings S) (a : AreAnswered r) (p : TextParams) (stript : ℤ) (f : Refining) (s : S) → Answered (strips r p stript f s)
-answered-strips r a p stript f s = search (answered-if, answered-some_strips r a)
+    search (answered-next, answered-instance r a, answered-cursor r a, others)
 
 answered-text_instances : {S : Type 0} (r : Readings S) (a : AreAnswered r) (p : TextParams) (f : Refining) (s : S) → Answered (text_instances r p f s)
 unfolding text_instances
-answered-text_instances r a p f s = search (answered-next, answered-refusal, answered-strip_delta r a, answered-word, answered-strips r a) depth 8
+answered-text_instances r a p f s =
+    search (answered-next, answered-refusal, answered-if, answered-strip_delta r a, answered-word, answered-strip_begun r a, answered-instances r a, answered-instance r a, a.delta_s) depth 18
 
 pub answered-text_region : {S : Type 0} (r : Readings S) (a : AreAnswered r) (p : TextParams) (region : Grid) (f : Refining) (s : S) → Answered (text_region r p region f s)
 unfolding text_region

@@ -9,14 +9,13 @@ use Rattle.jbig2_coder.specs.declared.integer_procedures.IntegerProcedure.{Integ
 use Rattle.jbig2_coder.proofs.Answered.{answered-decoded, answered-next_custom, answered-no_oob, answered-table_of}
 use Rattle.jbig2_region.proofs.Answered.{answered-region_info, answered-refinement_pixels}
 use Rattle.jbig2_region.specs.Refinement.{Reference}
-use Rattle.jbig2_region.specs.declared.template.RefinementTemplate.{RefinementTemplate}
-use Rattle.jbig2_text.specs.BitFields.{value_at}
+use Rattle.jbig2_text.specs.SymbolCodes.{value_at}
 use Rattle.jbig2_text.specs.Refining.{Refining}
 use Rattle.jbig2_text.specs.SymbolCodes.{next_runcode, repeated, run_at, runcodes_at, runs_at, short_lengths, symbol_codes_from, symbol_lengths_at}
 use Rattle.jbig2_text.specs.Text.{Readings}
 use Rattle.jbig2_text.specs.TextCoding.{Coded, Prefixed, by_coder, by_prefix_codes, in_band, number_by_coder, prefixed_bits, prefixed_refined, prefixed_value, sized_bytes}
-use Rattle.jbig2_text.specs.TextHeader.{ArithmeticCoding, HuffmanCoding, NumberCoding, TextHeader, coding_at, table_numbers_at, text_fields_at, text_flags_at, text_header_at, text_pixels_at}
-use Rattle.jbig2_text.specs.TextRegion.{one_of_three, one_of_two, region_by, region_from, table_of_size, text_answer, text_decoded, text_tables}
+use Rattle.jbig2_text.specs.TextHeader.{ArithmeticCoding, HuffmanCoding, NumberCoding, TextHeader, coding_at, table_numbers_at, text_fields_at, text_flags_at, text_header_at}
+use Rattle.jbig2_text.specs.TextRegion.{one_of_three, one_of_two, region_by, region_from, text_answer, text_decoded, text_tables}
 use Rattle.jbig2_text.specs.declared.text.header.TextRegionHuffmanFlags.{TextRegionHuffmanFlags}
 use Rattle.jbig2_text.proofs.Answered.{AreAnswered, answered-text_region}
 
@@ -74,13 +73,9 @@ answered-numbers : (coded : Bool) (bytes : List ℕ) → Answered (table_numbers
 answered-numbers true bytes = search (answered-next, answered-number)
 answered-numbers false bytes = tt
 
-answered-pixels : (refined : Bool) (template : RefinementTemplate) (bytes : List ℕ) → Answered (text_pixels_at refined template bytes)
-answered-pixels true template bytes = answered-refinement_pixels template bytes
-answered-pixels false template bytes = tt
-
 answered-fields : (bytes : List ℕ) → Answered (text_fields_at bytes)
 unfolding text_fields_at
-answered-fields bytes = search (answered-next, answered-flags, answered-numbers, answered-pixels, answered-number) depth 10
+answered-fields bytes = search (answered-next, answered-if, answered-flags, answered-numbers, answered-refinement_pixels, answered-number) depth 12
 
 answered-coding : (tables : Option TextRegionHuffmanFlags) (count : ℕ) (bytes : List ℕ) → Answered (coding_at tables count bytes)
 answered-coding (Some tables) count bytes = search (answered-next, answered-codes_from)
@@ -145,12 +140,9 @@ answered-two first second n customs = search (answered-if, answered-next_custom)
 answered-three : (first second third : List Member) (n : ℕ) (customs : List (List Member)) → Answered (one_of_three first second third n customs)
 answered-three first second third n customs = search (answered-if, answered-next_custom)
 
-answered-size : (n : ℕ) (customs : List (List Member)) → Answered (table_of_size n customs)
-answered-size n customs = search (answered-if, answered-next_custom)
-
 answered-tables : (flags : TextRegionHuffmanFlags) (customs : List (List Member)) → Answered (text_tables flags customs)
 unfolding text_tables
-answered-tables flags customs = search (answered-next, answered-two, answered-three, answered-size) depth 16
+answered-tables flags customs = search (answered-next, answered-two, answered-three, answered-if, answered-next_custom) depth 18
 
 answered-from : {S : Type 0} (r : Readings S) (a : AreAnswered r) (h : TextHeader) (symbols : List Grid) (region : Grid) (s : S) → Answered (region_from r h symbols region s)
 unfolding region_from

@@ -2,7 +2,7 @@
 use Rattle.std.proofs.Common.{◌≡◌, inl, inr, ℕ, zero, suc, ◌+◌, ◌-◌, ◌<◌, eqb, ltb, false, List, [], ◌∷◌, ◌++◌, length, get_or, Option, Some, None, Result, Ok, Err, refl, ◌∙◌, ap, arith, ℤ, pos, negsuc}
 use Rattle.std.specs.Prelude.{IfErr, slice_get}
 use Rattle.std.proofs.lemmas.Option.{slice_get-get_or}
-use Rattle.std.proofs.lemmas.Bool.{cond_both, eqb-true, eqb-false, ltb-true, ltb-false}
+use Rattle.std.proofs.lemmas.Bool.{cond_both, cond-true, eqb-true, eqb-false, ltb-true, ltb-false}
 use Rattle.jbig2_base.specs.Answer.{◌>>=◌, refuse_if, some_or}
 use Rattle.jbig2_base.specs.Bits.{Place, bits_left, bits_next}
 use Rattle.jbig2_base.specs.Fields.{bits_at}
@@ -11,9 +11,8 @@ use Rattle.jbig2_base.proofs.Causes.{cause-next}
 use Rattle.jbig2_coder.specs.Causes.{AreCrowded}
 use Rattle.jbig2_coder.specs.PrefixCode.{Member, decoded_value, no_oob, table_of}
 use Rattle.jbig2_coder.proofs.Causes.{table-cause}
-use Rattle.jbig2_text.specs.BitFields.{invalid_code, value_at}
-use Rattle.jbig2_text.specs.Causes.{Behind, BreaksRun, BreaksSymbolCodes, RefusesNumber, SymbolCodesHaveCauses, behind_runs}
-use Rattle.jbig2_text.specs.SymbolCodes.{last_length, lines_from, next_runcode, repeated, run_at, runcodes_at, runs_at, short_lengths, symbol_codes_from, symbol_lengths_at}
+use Rattle.jbig2_text.specs.Causes.{Behind, BreaksRun, BreaksSymbolCodes, RefusesNumber, SymbolCodesHaveCauses}
+use Rattle.jbig2_text.specs.SymbolCodes.{invalid_code, lines_from, next_runcode, repeated, run_at, runcodes_at, runs_at, short_lengths, symbol_codes_from, symbol_lengths_at, value_at}
 use Rattle.jbig2_region.proofs.Told.{cause-if, cause-last, told, told-next, told-refused}
 
 -- ---- bits and codes
@@ -28,7 +27,7 @@ cause-bits P e count p why =
     let Q : Option ℕ → Type 0 = λ n. IfErr (some_or e n) P in
     cause-next P (some_or e (bits_next count bits)) _ (cond_both (ltb (length bits) count) None _ Q (λ short. why (ltb-true (length bits) count short)) (λ there. tt)) (λ n is. tt)
 
-pub cause-value : (P : DecodeError → Type 0) (table : List Member) (p : Place) → ((e : DecodeError) → RefusesNumber table (bits_left p) e → P e) → IfErr (value_at table p) P
+pub cause-value : (P : DecodeError → Type 0) (table : List Member) (p : Place) → ((e : DecodeError) → RefusesNumber table p e → P e) → IfErr (value_at table p) P
 cause-value P table p why = cause-next P (no_oob (decoded_value table (bits_left p)).answer) _ (own-error P (no_oob (decoded_value table (bits_left p)).answer) why) (λ n is. tt)
 
 -- ---- the runcodes' lengths
@@ -49,7 +48,7 @@ cause-runcodes P p missing crowded =
     cause-next P (table_of (lines_from 0 lens.0)) _ (table-cause P (lines_from 0 lens.0) (λ are. crowded (lens, is, are))) (λ table r. tt))
 
 -- ---- runs
-cause-last_length : (P : DecodeError → Type 0) (so_far : List ℕ) → (so_far ≡ [] → P invalid_code) → IfErr (last_length so_far) P
+cause-last_length : (P : DecodeError → Type 0) (so_far : List ℕ) → (so_far ≡ [] → P invalid_code) → IfErr (some_or invalid_code (slice_get so_far (length so_far - 1))) P
 cause-last_length P [] why = why refl
 cause-last_length P (x ∷ xs) why =
     let there : slice_get (x ∷ xs) (length (x ∷ xs) - 1) ≡ Some (get_or (x ∷ xs) (length (x ∷ xs) - 1) 0) = slice_get-get_or (x ∷ xs) (length (x ∷ xs) - 1) 0 (omega arith) in
@@ -61,7 +60,7 @@ cause-run P (pos code) so_far p why =
     cause-if P (ltb code 32) _ _ (λ short. tt) (λ long.
     cause-if P (eqb code 32) _ _ (λ at_last.
     cause-next P (bits_at invalid_code 2 p) _ (cause-bits P invalid_code 2 p (λ short. why (inl (eqb-true code 32 at_last, inl short)))) (λ n n_is.
-    cause-next P (repeated so_far (n.0 + 3)) _ (cause-next P (last_length so_far) _ (cause-last_length P so_far (λ none. why (inl (eqb-true code 32 at_last, inr none)))) (λ len is. tt)) (λ lens is. tt))) (λ other.
+    cause-next P (repeated so_far (n.0 + 3)) _ (cause-next P (some_or invalid_code (slice_get so_far (length so_far - 1))) _ (cause-last_length P so_far (λ none. why (inl (eqb-true code 32 at_last, inr none)))) (λ len is. tt)) (λ lens is. tt))) (λ other.
     cause-if P (eqb code 33) _ _ (λ at_zeros.
     cause-next P (bits_at invalid_code 3 p) _ (cause-bits P invalid_code 3 p (λ short. why (inr (inl (eqb-true code 33 at_zeros, short))))) (λ n n_is. tt)) (λ more.
     cause-next P (bits_at invalid_code 7 p) _ (cause-bits P invalid_code 7 p (λ short. why (inr (inr (above code long other more, short))))) (λ n n_is. tt))))
@@ -70,10 +69,10 @@ cause-run P (pos code) so_far p why =
     above code a b c = omega (arith, ltb-false code 32 a, eqb-false code 32 b, eqb-false code 33 c)
 
 cause-runs : (P : DecodeError → Type 0) (most count : ℕ) (runcodes : List Member) (so_far : List ℕ) (p : Place)
-    → ((k : ℕ) (e : DecodeError) → Behind (behind_runs runcodes k so_far p) (λ lens. (length lens.0 < count) × RefusesNumber runcodes (bits_left lens.1) e) → P e)
-    → ((k : ℕ) → Behind (behind_runs runcodes k so_far p) (λ lens. (length lens.0 < count) × Behind (value_at runcodes lens.1) (λ code. BreaksRun code.0 lens.0 code.1)) → P invalid_code)
+    → ((k : ℕ) (e : DecodeError) → Behind (runs_at k count runcodes so_far p) (λ lens. (length lens.0 < count) × RefusesNumber runcodes lens.1 e) → P e)
+    → ((k : ℕ) → Behind (runs_at k count runcodes so_far p) (λ lens. (length lens.0 < count) × Behind (value_at runcodes lens.1) (λ code. BreaksRun code.0 lens.0 code.1)) → P invalid_code)
     → IfErr (runs_at most count runcodes so_far p) P
-unfolding runs_at behind_runs
+unfolding runs_at
 cause-runs P zero count runcodes so_far p refused faulty = tt
 cause-runs P (suc most) count runcodes so_far p refused faulty =
     cause-if P (ltb (length so_far) count) _ _ (λ few.
@@ -82,23 +81,23 @@ cause-runs P (suc most) count runcodes so_far p refused faulty =
     (cause-next P (value_at runcodes p) _ (cause-value P runcodes p (λ e no. refused 0 e ((so_far, p), refl, (less, no)))) (λ code code_is.
     cause-run P code.0 so_far code.1 (λ bad. faulty 0 ((so_far, p), refl, (less, (code, code_is, bad))))))
     (λ more more_is.
-    let on : ℕ → Result (List ℕ × Place) DecodeError → Result (List ℕ × Place) DecodeError = λ k r. r >>= λ m. behind_runs runcodes k m.0 m.1 in
+    let on : ℕ → Result (List ℕ × Place) DecodeError → Result (List ℕ × Place) DecodeError = λ k r. r >>= λ m. runs_at k count runcodes m.0 m.1 in
     cause-runs P most count runcodes more.0 more.1
-    (λ k e there. refused (suc k) e (there.0, ap (on k) more_is ∙ there.1, there.2))
-    (λ k there. faulty (suc k) (there.0, ap (on k) more_is ∙ there.1, there.2)))) (λ full. tt)
+    (λ k e there. refused (suc k) e (there.0, cond-true _ _ _ few ∙ ap (on k) more_is ∙ there.1, there.2))
+    (λ k there. faulty (suc k) (there.0, cond-true _ _ _ few ∙ ap (on k) more_is ∙ there.1, there.2)))) (λ full. tt)
 
 -- ---- all of it
 pub symbol_code_causes : SymbolCodesHaveCauses
 unfolding symbol_codes_from symbol_lengths_at
 symbol_code_causes count p =
     let P : DecodeError → Type 0 = BreaksSymbolCodes count p in
-    cause-next P (runcodes_at p) _ (cause-runcodes P p (λ k below there. inl (inl (k, below, there))) (λ crowded. inl (inr (inl crowded)))) (λ runcodes is.
+    cause-next P (runcodes_at p) _ (cause-runcodes P p (λ k below there. inl (refl, inl (k, below, there))) (λ crowded. inl (refl, inr (inl crowded)))) (λ runcodes is.
     let runs : Result (List ℕ × Place) DecodeError = runs_at count count runcodes.0 [] runcodes.1 in
     let Q : List ℕ × Place → Type 0 = λ lens. runs ≡ Ok lens in
     cause-last P Q (symbol_lengths_at count runcodes.0 runcodes.1) _
     (told-next P Q Q runs _
-    (told P Q runs (cause-runs P count count runcodes.0 [] runcodes.1 (λ k e there. inr (runcodes, is, (k, there))) (λ k there. inl (inr (inr (inl (runcodes, is, (k, there))))))) (λ lens lens_are. lens_are))
+    (told P Q runs (cause-runs P count count runcodes.0 [] runcodes.1 (λ k e there. inr (runcodes, is, (k, there))) (λ k there. inl (refl, inr (inr (inl (runcodes, is, (k, there))))))) (λ lens lens_are. lens_are))
     (λ lens lens_are. told-next P _ Q (refuse_if (ltb count (length lens.0)) invalid_code) _
-    (told-refused P (ltb count (length lens.0)) invalid_code (λ past. inl (inr (inr (inr (runcodes, is, (lens, lens_are, inl (ltb-true count (length lens.0) past)))))))) (λ fit r. lens_are)))
+    (told-refused P (ltb count (length lens.0)) invalid_code (λ past. inl (refl, inr (inr (inr (runcodes, is, (lens, lens_are, inl (ltb-true count (length lens.0) past)))))))) (λ fit r. lens_are)))
     (λ lens lens_are. cause-next P (table_of (lines_from 0 lens.0)) _
-    (table-cause P (lines_from 0 lens.0) (λ crowded. inl (inr (inr (inr (runcodes, is, (lens, lens_are, inr crowded))))))) (λ codes r. tt)))
+    (table-cause P (lines_from 0 lens.0) (λ crowded. inl (refl, inr (inr (inr (runcodes, is, (lens, lens_are, inr crowded))))))) (λ codes r. tt)))

@@ -1,10 +1,11 @@
 -- Which rule the input breaks where the header of a text region is refused.
-use Rattle.std.proofs.Common.{◌≡◌, inl, inr, ℕ, ◌+◌, ◌<◌, ◌≤◌, ◌/◌, ◌%◌, eqb, Bool, true, false, cond, ◌&&◌, List, length, Option, Some, None, refl, sym, ◌∙◌, ap, subst, arith}
+use Rattle.std.proofs.Common.{◌≡◌, inl, inr, ℕ, ◌+◌, ◌<◌, ◌≤◌, ◌/◌, ◌%◌, eqb, Bool, true, false, cond, ◌&&◌, List, drop, length, Option, Some, None, refl, sym, ◌∙◌, ap, subst, arith}
 use Rattle.std.specs.Prelude.{IfErr}
 use Rattle.std.specs.Int.{w8, w16, w32}
 use Rattle.std.specs.Option.{is_some}
 use Rattle.std.proofs.lemmas.Bool.{cond_both, eqb-true}
 use Rattle.jbig2_base.specs.Bits.{start_of}
+use Rattle.jbig2_base.specs.Causes.{number_in}
 use Rattle.jbig2_base.specs.Fields.{end_of_bytes, number_at, signed_at}
 use Rattle.jbig2_base.specs.Operator.{operator_of}
 use Rattle.jbig2_base.specs.declared.error.DecodeError.{DecodeError}
@@ -14,14 +15,28 @@ use Rattle.jbig2_region.specs.RegionInfo.{region_info_at}
 use Rattle.jbig2_region.specs.Templates.{free_pixel_at}
 use Rattle.jbig2_region.specs.declared.template.AdaptiveTemplatePixel.{AdaptiveTemplatePixel}
 use Rattle.jbig2_region.specs.declared.template.RefinementTemplate.TheVariants.{Template0, Template1}
-use Rattle.jbig2_text.specs.Causes.{BreaksIds, BreaksSymbolCodes, BreaksTextHeader, TextHeadersHaveCauses, count_place, fields_length, pixels_place, text_flags_in}
+use Rattle.jbig2_text.specs.Causes.{BreaksSymbolCodes, BreaksTextHeader, TextHeadersHaveCauses, fields_length}
 use Rattle.jbig2_text.specs.SymbolCodes.{symbol_codes_at, symbol_codes_from}
-use Rattle.jbig2_text.specs.TextHeader.{coding_at, table_numbers_at, text_fields_at, text_flags_at, text_header_at, text_pixels_at}
+use Rattle.jbig2_text.specs.TextHeader.{coding_at, table_numbers_at, text_fields_at, text_flags_at, text_header_at}
+use Rattle.jbig2_text.specs.inner.Parts.{text_pixels_at}
 use Rattle.jbig2_text.specs.declared.text.header.TextFields.{TextFields}
 use Rattle.jbig2_text.specs.declared.text.header.TextRegionFlags.{TextRegionFlags}
 use Rattle.jbig2_text.specs.declared.text.header.TextRegionHuffmanFlags.{TextRegionHuffmanFlags}
 use Rattle.jbig2_text.proofs.Causes.{symbol_code_causes}
 use Rattle.jbig2_region.proofs.Told.{Stands, Told, cause-last, cause-more, told-next, told-number, told-operator, told-region_info, told-signed}
+
+-- the flags, and where the adaptive pixels and the number of the instances stand
+abbrev text_flags_in : List ℕ → ℕ
+text_flags_in bytes = number_in w16 17 bytes
+
+abbrev pixels_place : ℕ → ℕ
+pixels_place flags = cond (eqb (flags % 2) 1) 21 19
+
+abbrev count_place : ℕ → ℕ
+count_place flags = pixels_place flags + cond (eqb (flags / 2 % 2) 1 && eqb (flags / 32768) 0) 4 0
+
+abbrev BreaksIds : ℕ → List ℕ → DecodeError → Type 0
+BreaksIds symbols bytes e = (text_flags_in bytes % 2 ≡ 1) × BreaksSymbolCodes symbols (start_of (drop (fields_length bytes) bytes)) e
 
 -- the same place, said otherwise
 there : (bytes : List ℕ) (m n : ℕ) (rest : List ℕ) → m ≡ n → Stands bytes m rest → Stands bytes n rest
@@ -109,6 +124,6 @@ pub text_header_causes : TextHeadersHaveCauses
 unfolding text_header_at
 text_header_causes symbols strict bytes =
     let P : DecodeError → Type 0 = BreaksTextHeader symbols bytes in
-    cause-last P _ (region_info_at bytes) _ (told-region_info P bytes (λ short. inl (omega (arith, short, late (text_flags_in bytes)))) (λ other. inl other) (λ colour. inl colour)) (λ info a.
-    cause-last P _ (text_fields_at info.1) _ (told-fields P bytes info.1 a (λ short. inl short)) (λ fields b.
-    cause-next P (coding_at fields.0.table_numbers symbols fields.1) _ (cause-coding P fields.0.table_numbers symbols bytes fields.1 b.0 b.1 (λ e ids. inr ids)) (λ coding is. tt)))
+    cause-last P _ (region_info_at bytes) _ (told-region_info P bytes (λ short. inl (refl, omega (arith, short, late (text_flags_in bytes)))) (λ other. inr (inl (refl, other))) (λ colour. inr (inr (inl (refl, colour))))) (λ info a.
+    cause-last P _ (text_fields_at info.1) _ (told-fields P bytes info.1 a (λ short. inl (refl, short))) (λ fields b.
+    cause-next P (coding_at fields.0.table_numbers symbols fields.1) _ (cause-coding P fields.0.table_numbers symbols bytes fields.1 b.0 b.1 (λ e ids. inr (inr (inr ids)))) (λ coding is. tt)))

@@ -11,13 +11,16 @@ use Rattle.jbig2_base.specs.declared.error.DecodeError.TheVariants.{Overflow, Sy
 use Rattle.jbig2_base.specs.declared.error.OverflowError.TheVariants.{BitmapDimension, PlacementCoordinate, ReferenceOffset}
 use Rattle.jbig2_base.specs.declared.error.SymbolError.TheVariants.{OutOfRange}
 use Rattle.jbig2_base.proofs.Causes.{cause-next, cause-refused}
+use Rattle.jbig2_coder.specs.Causes.{LeavesWord}
 use Rattle.jbig2_text.specs.Causes.{Behind}
-use Rattle.jbig2_text.specs.CausesOfText.{ADeltaIsRefused, APlaceLeaves, ARefinementIsRefused, AtRefined, BreaksInstance, HaveCauses, IsNoSide, LeavesWord, NamesNone, ReadingCauses, other_end, si_of}
+use Rattle.jbig2_text.specs.CausesOfText.{APlaceLeaves, ARefinementIsRefused, BreaksInstance, HaveCauses, IsNoSide, NamesNone, ReadingCauses}
 use Rattle.jbig2_text.specs.Refining.{Refining}
-use Rattle.jbig2_text.specs.Text.{Instance, Outline, Reached, Readings, TextParams, behind_first, coordinate, edge, grown, instance_symbol, is_bottom, is_last_along_s, is_right, plain_symbol, reference_offset, refined_outline, refined_symbol, refinement_deltas, refinement_flag, s_before, s_behind, side_of, some_symbol, symbol_by, symbol_of, symbol_placed, t_in_strip, with_instance, with_symbol}
+use Rattle.jbig2_text.specs.Text.{Instance, Reached, Readings, TextParams, coordinate, edge, grown, instance_symbol, is_bottom, is_last_along_s, is_right, plain_symbol, reference_offset, refined_outline, refined_symbol, refinement_deltas, side_of, some_symbol, symbol_of, symbol_placed, t_in_strip, with_instance, with_symbol}
 use Rattle.jbig2_text.specs.declared.text.cursor.Cursor.{Cursor}
 use Rattle.jbig2_text.specs.declared.text.header.TextRegionFlags.{TextRegionFlags}
+use Rattle.jbig2_text.specs.declared.text.refined.Outline.{Outline}
 use Rattle.jbig2_text.specs.declared.text.refined.RefinementDeltas.{RefinementDeltas}
+use Rattle.jbig2_text.specs.inner.Parts.{behind_first, refinement_flag, s_before, s_behind}
 use Rattle.jbig2_text.proofs.CausesOfText.{told-word}
 use Rattle.jbig2_region.proofs.Told.{Told, cause-if, cause-last, cause-more, cause-of, told-any, told-more, told-if, told-next}
 
@@ -54,14 +57,14 @@ told-outline P from rd side offset =
     told-next P _ Q (reference_offset rd.width rd.x) _ (told-word P _ (int_shr rd.width 1 +ℤ rd.x) (λ large. offset (inl large))) (λ dx x.
     told-next P _ Q (reference_offset rd.height rd.y) _ (told-word P _ (int_shr rd.height 1 +ℤ rd.y) (λ large. offset (inr large))) (λ dy y. (w, h)))))
 
-cause-deltas : {S : Type 0} (c : ReadingCauses S) (r : Readings S) (a : HaveCauses r c) (s : S) → IfErr (refinement_deltas r s) (λ e. ADeltaIsRefused c r s e)
+cause-deltas : {S : Type 0} (c : ReadingCauses S) (r : Readings S) (a : HaveCauses r c) (s : S) → IfErr (refinement_deltas r s) (λ e. ARefinementIsRefused c r s e)
 unfolding refinement_deltas
 cause-deltas c r a s =
-    let P : DecodeError → Type 0 = λ e. ADeltaIsRefused c r s e in
+    let P : DecodeError → Type 0 = λ e. ARefinementIsRefused c r s e in
     cause-next P (r.width_delta s) _ (cause-more (c.width_delta s) P (r.width_delta s) (a.width_delta s) (λ e no. inl no)) (λ w w_is.
-    cause-next P (r.height_delta w.1) _ (cause-more (c.height_delta w.1) P (r.height_delta w.1) (a.height_delta w.1) (λ e no. inr (w, w_is, inl no))) (λ h h_is.
-    cause-next P (r.x_delta h.1) _ (cause-more (c.x_delta h.1) P (r.x_delta h.1) (a.x_delta h.1) (λ e no. inr (w, w_is, inr (h, h_is, inl no)))) (λ x x_is.
-    cause-next P (r.y_delta x.1) _ (cause-more (c.y_delta x.1) P (r.y_delta x.1) (a.y_delta x.1) (λ e no. inr (w, w_is, inr (h, h_is, inr (x, x_is, no))))) (λ y y_is. tt))))
+    cause-next P (r.height_delta w.1) _ (cause-more (c.height_delta w.1) P (r.height_delta w.1) (a.height_delta w.1) (λ e no. inr (inl (w, w_is, inl no)))) (λ h h_is.
+    cause-next P (r.x_delta h.1) _ (cause-more (c.x_delta h.1) P (r.x_delta h.1) (a.x_delta h.1) (λ e no. inr (inl (w, w_is, inr (h, h_is, inl no))))) (λ x x_is.
+    cause-next P (r.y_delta x.1) _ (cause-more (c.y_delta x.1) P (r.y_delta x.1) (a.y_delta x.1) (λ e no. inr (inl (w, w_is, inr (h, h_is, inr (x, x_is, no)))))) (λ y y_is. tt))))
 
 too-long : (b c : ℕ) → (ltb 65535 b || ltb 65535 c) ≡ true → (65535 < b) ⊎ (65535 < c)
 too-long b c is = ⊎_elim (λ wide. inl (ltb-true 65535 b wide)) (λ high. inr (ltb-true 65535 c high)) (or_cases (ltb 65535 b) (ltb 65535 c) is)
@@ -76,7 +79,7 @@ cause-refined : {S : Type 0} (c : ReadingCauses S) (r : Readings S) (a : HaveCau
 unfolding refined_symbol
 cause-refined c r a P symbols id f s none side offset refused =
     cause-last P _ (some_symbol (symbol_of symbols id)) _ (cause-some P symbols id (symbol_of symbols id) refl none) (λ from from_is.
-    cause-next P (refinement_deltas r s) _ (cause-more (ADeltaIsRefused c r s) P (refinement_deltas r s) (cause-deltas c r a s) (λ e no. refused from from_is e (inl no))) (λ rd rd_is.
+    cause-next P (refinement_deltas r s) _ (cause-more (ARefinementIsRefused c r s) P (refinement_deltas r s) (cause-deltas c r a s) (λ e no. refused from from_is e no)) (λ rd rd_is.
     cause-last P _ (refined_outline from rd.0) _ (told-outline P from rd.0 (λ no. side from from_is (rd, rd_is, no)) (λ no. offset from from_is (rd, rd_is, no))) (λ o o_is.
     cause-next P (refuse_if (ltb 65535 o.width || ltb 65535 o.height) (Overflow BitmapDimension)) _
     (cause-refused P (ltb 65535 o.width || ltb 65535 o.height) (Overflow BitmapDimension) (λ large. side from from_is (
@@ -85,7 +88,7 @@ cause-refined c r a P symbols id f s none side offset refused =
       ⊎_elim
           (λ wide. inl (subst IsNoSide (sym o_is.0) wide)) (λ high. inr (subst IsNoSide (sym o_is.1) high)) (too-long o.width o.height large),
     ))) (λ u fits.
-    cause-more (c.refined rd.1) P (r.refined _ o.width o.height f rd.1) (a.refined _ o.width o.height f rd.1) (λ e no. refused from from_is e (inr (rd, rd_is, no)))))))
+    cause-more (c.refined rd.1) P (r.refined _ o.width o.height f rd.1) (a.refined _ o.width o.height f rd.1) (λ e no. refused from from_is e (inr (inr (rd, rd_is, no))))))))
 
 cause-plain : (P : DecodeError → Type 0) (symbols : List Grid) (id : ℤ) (strict : Bool) (o : Option Grid) → symbol_of symbols id ≡ o → (NamesNone symbols id → P (Symbol OutOfRange)) → IfErr (plain_symbol strict o) P
 cause-plain P symbols id strict (Some g) is why = tt
@@ -93,23 +96,18 @@ cause-plain P symbols id true None is why = why (none-named symbols id is)
 cause-plain P symbols id false None is why = tt
 
 -- ---- the symbol of an instance
+-- it is refined, and of its symbol and the state in front of the numbers of its refinement this holds
+abbrev RefinedFrom : {S : Type 0} → Readings S → TextParams → ℤ → S → (Grid → S → Type 0) → Type 0
+RefinedFrom r p id s Q =
+    Behind (refinement_flag r p.flags s) (λ ri. (ri.0 ≡ true) × ((from : Grid) × (symbol_of p.symbols id ≡ Some from) × Q from ri.1))
+
 -- what an instance's symbol may break, by the state behind its id
 record SymbolWhys {S : Type 0} (c : ReadingCauses S) (r : Readings S) (p : TextParams) (id : ℤ) (s : S) (P : DecodeError → Type 0) : Type 0 where
   none : NamesNone p.symbols id → P (Symbol OutOfRange)
-  side : AtRefined r p id s (λ from u. Behind (refinement_deltas r u) (λ rd. IsNoSide (pos from.width +ℤ rd.0.width) ⊎ IsNoSide (pos from.height +ℤ rd.0.height))) → P (Overflow BitmapDimension)
-  offset : AtRefined r p id s (λ from u. Behind (refinement_deltas r u) (λ rd. LeavesWord (int_shr rd.0.width 1 +ℤ rd.0.x) ⊎ LeavesWord (int_shr rd.0.height 1 +ℤ rd.0.y))) → P (Overflow ReferenceOffset)
+  side : RefinedFrom r p id s (λ from u. Behind (refinement_deltas r u) (λ rd. IsNoSide (pos from.width +ℤ rd.0.width) ⊎ IsNoSide (pos from.height +ℤ rd.0.height))) → P (Overflow BitmapDimension)
+  offset : RefinedFrom r p id s (λ from u. Behind (refinement_deltas r u) (λ rd. LeavesWord (int_shr rd.0.width 1 +ℤ rd.0.x) ⊎ LeavesWord (int_shr rd.0.height 1 +ℤ rd.0.y))) → P (Overflow ReferenceOffset)
   flag : (e : DecodeError) → c.is_refined s e → P e
-  refused : (e : DecodeError) → AtRefined r p id s (λ from u. ARefinementIsRefused c r u e) → P e
-
-cause-by : {S : Type 0} (c : ReadingCauses S) (r : Readings S) (a : HaveCauses r c) (P : DecodeError → Type 0) (p : TextParams) (id : ℤ) (s : S) (w : SymbolWhys c r p id s P)
-    (ri : Bool × S) (refined : Bool) (f : Refining) → refinement_flag r p.flags s ≡ Ok ri → ri.0 ≡ refined → IfErr (symbol_by r p id refined f ri.1) P
-cause-by c r a P p id s w ri true f flag is =
-    cause-next P (refined_symbol r p.symbols id f ri.1) _ (cause-refined c r a P p.symbols id f ri.1 w.none
-    (λ from from_is there. w.side (ri, flag, (is, (from, from_is, there))))
-    (λ from from_is there. w.offset (ri, flag, (is, (from, from_is, there))))
-    (λ from from_is e there. w.refused e (ri, flag, (is, (from, from_is, there))))) (λ g g_is. tt)
-cause-by c r a P p id s w ri false f flag is =
-    cause-next P (plain_symbol p.strict (symbol_of p.symbols id)) _ (cause-plain P p.symbols id p.strict (symbol_of p.symbols id) refl w.none) (λ g g_is. tt)
+  refused : (e : DecodeError) → RefinedFrom r p id s (λ from u. ARefinementIsRefused c r u e) → P e
 
 cause-symbol : {S : Type 0} (c : ReadingCauses S) (r : Readings S) (a : HaveCauses r c) (P : DecodeError → Type 0) (p : TextParams) (id : ℤ) (f : Refining) (s : S) → SymbolWhys c r p id s P
     → IfErr (instance_symbol r p id f s) P
@@ -117,9 +115,21 @@ unfolding instance_symbol
 cause-symbol c r a P p id f s w =
     cause-next P (refinement_flag r p.flags s) _
     (cause-if P p.flags.use_refinement (r.is_refined s) (Ok (false, s)) (λ on. cause-more (c.is_refined s) P (r.is_refined s) (a.is_refined s) w.flag) (λ off. tt))
-    (λ ri flag. cause-by c r a P p id s w ri ri.0 f flag refl)
+    (λ ri flag. cause-if P ri.0 _ _ (λ is.
+    cause-next P (refined_symbol r p.symbols id f ri.1) _ (cause-refined c r a P p.symbols id f ri.1 w.none
+    (λ from from_is there. w.side (ri, flag, (is, (from, from_is, there))))
+    (λ from from_is there. w.offset (ri, flag, (is, (from, from_is, there))))
+    (λ from from_is e there. w.refused e (ri, flag, (is, (from, from_is, there))))) (λ g g_is. tt)) (λ is.
+    cause-next P (plain_symbol p.strict (symbol_of p.symbols id)) _ (cause-plain P p.symbols id p.strict (symbol_of p.symbols id) refl w.none) (λ g g_is. tt)))
 
 -- ---- its place
+-- CURS at the other end of a symbol, and SI
+abbrev other_end : TextRegionFlags → Grid → ℤ → ℤ
+other_end flags g curs = curs +ℤ behind_first (cond flags.transposed g.height g.width)
+
+abbrev si_of : TextRegionFlags → Grid → ℤ → ℤ
+si_of flags g curs = cond (is_last_along_s flags) (other_end flags g curs) curs
+
 told-before : (P : DecodeError → Type 0) (flags : TextRegionFlags) (g : Grid) (curs : ℤ) → (LeavesWord (other_end flags g curs) → P (Overflow PlacementCoordinate))
     → Told (s_before flags g curs) P (λ si. si_of flags g curs ≡ si)
 told-before P flags g curs leaves =
@@ -163,16 +173,16 @@ instance_causes c r a p x =
     let P : DecodeError → Type 0 = BreaksInstance c r p x in
     cause-next P (t_in_strip r p.flags x.state) _
     (cause-if P (eqb p.flags.log_strip_size 0) _ (r.t_bits p.flags.log_strip_size x.state) (λ one. tt)
-    (λ more. cause-more (c.t_bits p.flags.log_strip_size x.state) P (r.t_bits p.flags.log_strip_size x.state) (a.t_bits p.flags.log_strip_size x.state) (λ e no. inr (inl no)))) (λ t t_is.
-    cause-last P _ (coordinate (x.cursor.strip_t +ℤ t.0)) _ (told-word P _ (x.cursor.strip_t +ℤ t.0) (λ large. inl (inl (t, t_is, large)))) (λ ti ti_is.
-    cause-next P (r.id t.1) _ (cause-more (c.id t.1) P (r.id t.1) (a.id t.1) (λ e no. inr (inr (inl (t, t_is, no))))) (λ id id_is.
+    (λ more. cause-more (c.t_bits p.flags.log_strip_size x.state) P (r.t_bits p.flags.log_strip_size x.state) (a.t_bits p.flags.log_strip_size x.state) (λ e no. inr (inr (inr (inr (inl no))))))) (λ t t_is.
+    cause-last P _ (coordinate (x.cursor.strip_t +ℤ t.0)) _ (told-word P _ (x.cursor.strip_t +ℤ t.0) (λ large. inr (inr (inr (inl (refl, (t, t_is, inl large))))))) (λ ti ti_is.
+    cause-next P (r.id t.1) _ (cause-more (c.id t.1) P (r.id t.1) (a.id t.1) (λ e no. inr (inr (inr (inr (inr (inl (t, t_is, no)))))))) (λ id id_is.
     cause-next P (instance_symbol r p id.0 x.refining id.1) _
     (cause-symbol c r a P p id.0 x.refining id.1 (record {
-      none = λ none. inl (t, t_is, (id, id_is, none));
-      side = λ no. inl (t, t_is, (id, id_is, no));
-      offset = λ no. inl (t, t_is, (id, id_is, no));
-      flag = λ e no. inr (inr (inr (inl (t, t_is, (id, id_is, no)))));
-      refused = λ e no. inr (inr (inr (inr (t, t_is, (id, id_is, no)))));
+      none = λ none. inl (refl, (t, t_is, (id, id_is, none)));
+      side = λ no. inr (inl (refl, (t, t_is, (id, id_is, no))));
+      offset = λ no. inr (inr (inl (refl, (t, t_is, (id, id_is, no)))));
+      flag = λ e no. inr (inr (inr (inr (inr (inr (inl (t, t_is, (id, id_is, no))))))));
+      refused = λ e no. inr (inr (inr (inr (inr (inr (inr (t, t_is, (id, id_is, no))))))));
     })) (λ ib ib_is.
     cause-next P (with_symbol p.flags x.instances x.cursor ti ib.0) _
-    (cause-with P p.flags x.instances x.cursor ti ib.0 (λ g g_is leaves. inl (inr (t, t_is, (id, id_is, (ib, ib_is, (g, g_is, subst (λ (n : ℤ). APlaceLeaves p.flags g x.cursor.cur_s n) (sym ti_is) leaves))))))) (λ more more_is. tt)))))
+    (cause-with P p.flags x.instances x.cursor ti ib.0 (λ g g_is leaves. inr (inr (inr (inl (refl, (t, t_is, inr (id, id_is, (ib, ib_is, (g, g_is, subst (λ (n : ℤ). APlaceLeaves p.flags g x.cursor.cur_s n) (sym ti_is) leaves)))))))))) (λ more more_is. tt)))))

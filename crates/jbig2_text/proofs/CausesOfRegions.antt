@@ -17,18 +17,20 @@ use Rattle.jbig2_coder.specs.TableSelection.{next_custom}
 use Rattle.jbig2_coder.specs.declared.integer_procedures.IntegerProcedure.{IntegerProcedure}
 use Rattle.jbig2_coder.specs.declared.integer_procedures.IntegerProcedure.TheVariants.{Iari}
 use Rattle.jbig2_region.specs.Refinement.{Reference}
-use Rattle.jbig2_text.specs.BitFields.{invalid_code, value_at}
+use Rattle.jbig2_text.specs.SymbolCodes.{invalid_code, value_at}
 use Rattle.jbig2_text.specs.Causes.{Behind, RefusesNumber}
-use Rattle.jbig2_text.specs.CausesOfRegions.{BreaksRegionBy, BreaksTextRegion, BreaksTextTables, HasNoMeaning, IsOutOfBand, LacksBytes, LacksSymbol, RefusesValue, TextRegionsHaveCauses, TextTablesHaveCauses, coder_causes, customs_of_size, customs_of_three, customs_of_two, prefix_causes}
-use Rattle.jbig2_text.specs.CausesOfText.{BreaksInstance, BreaksInstances, BreaksMove, BreaksStrip, HaveCauses, InstancesHaveCauses, ReadingCauses}
+use Rattle.jbig2_text.specs.CausesOfRegions.{BreaksRegionBy, BreaksTextRegion, BreaksTextTables, HasNoMeaning, IsOutOfBand, LacksBytes, RefusesValue, TextRegionsHaveCauses, TextTablesHaveCauses, coder_causes, customs_if, prefix_causes}
+use Rattle.jbig2_text.specs.CausesOfText.{BreaksInstance, BreaksInstances, BreaksStrip, HaveCauses, ReadingCauses}
 use Rattle.jbig2_text.specs.Refining.{Refining}
-use Rattle.jbig2_text.specs.Text.{Reached, Readings, TextParams, after_instances, coordinate, cursor_moved, end_of_strip, reached, some_strips, strip_begun, strip_delta, strips, text_instances, text_region, with_instance, with_next_instance}
+use Rattle.jbig2_text.specs.Text.{Reached, Readings, TextParams, after_instances, coordinate, cursor_moved, strip_begun, strip_delta, text_instances, text_region, with_instance}
+use Rattle.jbig2_text.specs.declared.text.cursor.Cursor.{Cursor}
+use Rattle.jbig2_text.specs.inner.Parts.{end_of_strip, reached, some_strips, strips, table_of_size}
 use Rattle.jbig2_text.specs.TextCoding.{Coded, Prefixed, by_coder, by_prefix_codes, in_band, next_integer, number_by_coder, prefixed_refined, prefixed_value, sized_bytes}
 use Rattle.jbig2_text.specs.TextHeader.{ArithmeticCoding, HuffmanCoding, NumberCoding, TextHeader}
-use Rattle.jbig2_text.specs.TextRegion.{coder_of, one_of_three, one_of_two, prefix_codes_of, refining_of, region_by, region_from, table_of_size, text_answer, text_decoded, text_params, text_tables}
+use Rattle.jbig2_text.specs.TextRegion.{coder_of, one_of_three, one_of_two, prefix_codes_of, refining_of, region_by, region_from, text_answer, text_decoded, text_params, text_tables}
 use Rattle.jbig2_text.proofs.Causes.{cause-bits, cause-value, own-error}
 use Rattle.jbig2_text.proofs.CausesOfInstances.{instance_causes}
-use Rattle.jbig2_text.proofs.CausesOfText.{cause-delta, cause-move, cause-strip, told-word}
+use Rattle.jbig2_text.proofs.CausesOfText.{BreaksMove, cause-delta, cause-move, cause-strip, told-word}
 use Rattle.jbig2_region.proofs.Told.{Told, cause-if, cause-last, cause-more, told-if}
 
 -- ---- all instances
@@ -38,13 +40,12 @@ cause-after : {S : Type 0} (c : ReadingCauses S) (r : Readings S) (a : HaveCause
 unfolding after_instances
 cause-after c r a p P zero x why = tt
 cause-after {S} c r a p P (suc n) x why =
-    cause-next P (with_next_instance r p x) _
-    (cause-next P (with_instance r p x) _ (cause-more (BreaksInstance c r p x) P (with_instance r p x) (instance_causes c r a p x) (λ e broken. why 0 (omega arith) e (x, refl, inl broken))) (λ y y_is.
+    cause-next P (with_instance r p x) _ (cause-more (BreaksInstance c r p x) P (with_instance r p x) (instance_causes c r a p x) (λ e broken. why 0 (omega arith) e (x, refl, inl broken))) (λ y y_is.
     cause-next P (cursor_moved r p.flags y.cursor y.state) _
-    (cause-more (BreaksMove c r p.flags y.cursor y.state) P (cursor_moved r p.flags y.cursor y.state) (cause-move c r a p.flags y.cursor y.state) (λ e broken. why 0 (omega arith) e (x, refl, inr (y, y_is, broken)))) (λ at at_is. tt)))
-    (λ y y_is.
-    let on : ℕ → Result (Reached S) DecodeError → Result (Reached S) DecodeError = λ k q. q >>= λ z. after_instances r p k z in
-    cause-after c r a p P n y (λ k below e there. why (suc k) (omega (arith, below)) e (there.0, ap (on k) y_is ∙ there.1, there.2)))
+    (cause-more (BreaksMove c r p.flags y.cursor y.state) P (cursor_moved r p.flags y.cursor y.state) (cause-move c r a p.flags y.cursor y.state) (λ e broken. why 0 (omega arith) e (x, refl, inr (y, y_is, broken)))) (λ at at_is.
+    let on : ℕ → Result (Reached S) DecodeError → Result (Reached S) DecodeError = λ k q. q >>= λ z. cursor_moved r p.flags z.cursor z.state >>= λ d. after_instances r p k (record z { cursor = d.0; state = d.1 }) in
+    let moved : ℕ → Result (Cursor × S) DecodeError → Result (Reached S) DecodeError = λ k q. q >>= λ d. after_instances r p k (record y { cursor = d.0; state = d.1 }) in
+    cause-after c r a p P n (record y { cursor = at.0; state = at.1 }) (λ k below e there. why (suc k) (omega (arith, below)) e (there.0, ap (on k) y_is ∙ ap (moved k) at_is ∙ there.1, there.2))))
 
 cause-end : (P : DecodeError → Type 0) (strict : Bool) (ids : Result (Option ℤ) DecodeError) → (strict ≡ true → Behind ids (λ o. (n : ℤ) × (o ≡ Some n)) → P (Symbol TooManyInstances))
     → (strict ≡ true → IfErr ids P) → IfErr (end_of_strip strict ids) P
@@ -53,29 +54,29 @@ cause-end P true (Ok None) more refused = tt
 cause-end P true (Ok (Some ids)) more refused = more refl (Some ids, refl, (ids, refl))
 cause-end P true (Err e) more refused = refused refl
 
-pub all_instance_causes : {S : Type 0} (c : ReadingCauses S) (r : Readings S) → InstancesHaveCauses c r
+pub all_instance_causes : {S : Type 0} (c : ReadingCauses S) (r : Readings S) → HaveCauses r c → (p : TextParams) (f : Refining) (s : S) → IfErr (text_instances r p f s) (BreaksInstances c r p f s)
 unfolding text_instances
 all_instance_causes c r a p f s =
     let P : DecodeError → Type 0 = BreaksInstances c r p f s in
     cause-next P (refuse_if (ltb (32 * p.data_length) p.count) (Symbol TooManyInstances)) _
-    (cause-refused P (ltb (32 * p.data_length) p.count) (Symbol TooManyInstances) (λ many. inl (inl (ltb-true (32 * p.data_length) p.count many)))) (λ few few_is.
-    cause-next P (strip_delta r p.flags s) _ (cause-delta c r a p.flags s P (λ leaves. inl leaves) (λ e no. inr (inl no))) (λ dt dt_is.
-    cause-last P _ (coordinate (pos 0 -ℤ dt.0)) _ (told-word P _ (pos 0 -ℤ dt.0) (λ large. inl (dt, dt_is, large))) (λ stript stript_is.
+    (cause-refused P (ltb (32 * p.data_length) p.count) (Symbol TooManyInstances) (λ many. inl (refl, inl (ltb-true (32 * p.data_length) p.count many)))) (λ few few_is.
+    cause-next P (strip_delta r p.flags s) _ (cause-delta c r a p.flags s P (λ leaves. inr (inl (refl, leaves))) (λ e no. inr (inr (inr (inl no))))) (λ dt dt_is.
+    cause-last P _ (coordinate (pos 0 -ℤ dt.0)) _ (told-word P _ (pos 0 -ℤ dt.0) (λ large. inr (inr (inl (refl, (dt, dt_is, large)))))) (λ stript stript_is.
     subst (λ (n : ℤ). IfErr (strips r p n f dt.1) P) stript_is
     (cause-if P (eqb p.count 0) _ (some_strips r p (pos 0 -ℤ dt.0) f dt.1) (λ none. tt) (λ some.
     cause-next P (strip_begun r p.flags (pos 0 -ℤ dt.0) (pos 0) dt.1) _
-    (cause-more (BreaksStrip c r p.flags (pos 0 -ℤ dt.0) (pos 0) dt.1) P (strip_begun r p.flags (pos 0 -ℤ dt.0) (pos 0) dt.1) (cause-strip c r a p.flags (pos 0 -ℤ dt.0) (pos 0) dt.1) (λ e broken. inr (inr (inl (dt, dt_is, broken))))) (λ at at_is.
+    (cause-more (BreaksStrip c r p.flags (pos 0 -ℤ dt.0) (pos 0) dt.1) P (strip_begun r p.flags (pos 0 -ℤ dt.0) (pos 0) dt.1) (cause-strip c r a p.flags (pos 0 -ℤ dt.0) (pos 0) dt.1) (λ e broken. inr (inr (inr (inr (inl (dt, dt_is, broken))))))) (λ at at_is.
     let first = reached [] at.0 f at.1 in
     cause-next P (after_instances r p (p.count - 1) first) _
-    (cause-after c r a p P (p.count - 1) first (λ k below e there. inr (inr (inr (inl (k, omega (arith, below), (dt, dt_is, (at, at_is, there)))))))) (λ x x_is.
+    (cause-after c r a p P (p.count - 1) first (λ k below e there. inr (inr (inr (inr (inr (inl (k, omega (arith, below), (dt, dt_is, (at, at_is, there)))))))))) (λ x x_is.
     cause-next P (with_instance r p x) _
     (cause-more (BreaksInstance c r p x) P (with_instance r p x) (instance_causes c r a p x)
-    (λ e broken. inr (inr (inr (inl (p.count - 1, omega (arith, eqb-false p.count 0 some), (dt, dt_is, (at, at_is, (x, x_is, inl broken))))))))) (λ last last_is.
+    (λ e broken. inr (inr (inr (inr (inr (inl (p.count - 1, omega (arith, eqb-false p.count 0 some), (dt, dt_is, (at, at_is, (x, x_is, inl broken))))))))))) (λ last last_is.
     cause-next P (end_of_strip p.strict (r.delta_s last.state)) _
     (cause-end P p.strict (r.delta_s last.state)
-    (λ strict there. inl (inr (strict, (dt, dt_is, (at, at_is, (x, x_is, (last, last_is, there)))))))
+    (λ strict there. inl (refl, inr (strict, (dt, dt_is, (at, at_is, (x, x_is, (last, last_is, there)))))))
     (λ strict. cause-more (c.delta_s last.state) P (r.delta_s last.state) (a.delta_s last.state)
-    (λ e no. inr (inr (inr (inr (strict, (dt, dt_is, (at, at_is, (x, x_is, (last, last_is, no)))))))))))
+    (λ e no. inr (inr (inr (inr (inr (inr (strict, (dt, dt_is, (at, at_is, (x, x_is, (last, last_is, no)))))))))))))
     (λ ends ends_is. tt)))))))))
 
 -- ---- tables
@@ -86,6 +87,16 @@ Left taken customs x = length x.1 + taken ≡ length customs
 told-custom : (P : DecodeError → Type 0) (customs : List (List Member)) → (length customs < 1 → P (Huffman MissingTables)) → Told (next_custom customs) P (Left 1 customs)
 told-custom P [] why = why (omega arith)
 told-custom P (table ∷ others) why = omega arith
+
+-- how many a choice takes among two tables of the standard, among three, and for the sizes
+abbrev customs_of_two : ℕ → ℕ
+customs_of_two n = customs_if (eqb n 3)
+
+abbrev customs_of_three : ℕ → ℕ
+customs_of_three n = customs_if (ltb 2 n)
+
+abbrev customs_of_size : ℕ → ℕ
+customs_of_size n = customs_if (ltb 0 n)
 
 -- so many are taken where a number is a certain one
 taken-at : (f : ℕ → ℕ) (n m : ℕ) → n ≡ m → f n ≡ f m
@@ -116,28 +127,28 @@ told-size : (P : DecodeError → Type 0) (n : ℕ) (customs : List (List Member)
 told-size P n customs missing =
     let Q : List Member × List (List Member) → Type 0 = Left (customs_of_size n) customs in
     told-if P Q (eqb n 0) _ _ (λ is. omega (arith, taken-at customs_of_size n 0 (eqb-true n 0 is)))
-    (λ a. let one : customs_of_size n ≡ 1 = cond-false (eqb n 0) 0 1 a in
+    (λ a. let one : customs_of_size n ≡ 1 = cond-true (ltb 0 n) 1 0 (lt-ltb 0 n (omega (arith, eqb-false n 0 a))) in
     subst (λ (k : ℕ). Told (next_custom customs) P (Left k customs)) (sym one) (told-custom P customs (λ none. missing (omega (arith, none, one)))))
 
 pub text_table_causes : TextTablesHaveCauses
 unfolding text_tables
 text_table_causes flags customs =
     let P : DecodeError → Type 0 = BreaksTextTables flags customs in
-    cause-last P _ (one_of_two _ _ flags.first_s_table customs) _ (told-two P _ _ flags.first_s_table customs (λ no. inl no) (λ few. omega (arith, few))) (λ a a_is.
-    cause-last P _ (one_of_three _ _ _ flags.delta_s_table a.1) _ (told-three P _ _ _ flags.delta_s_table a.1 (λ few. omega (arith, few, a_is))) (λ b b_is.
-    cause-last P _ (one_of_three _ _ _ flags.delta_t_table b.1) _ (told-three P _ _ _ flags.delta_t_table b.1 (λ few. omega (arith, few, a_is, b_is))) (λ d d_is.
-    cause-last P _ (one_of_two _ _ flags.refinement_width_table d.1) _ (told-two P _ _ flags.refinement_width_table d.1 (λ no. inr (inl no)) (λ few. omega (arith, few, a_is, b_is, d_is))) (λ w w_is.
-    cause-last P _ (one_of_two _ _ flags.refinement_height_table w.1) _ (told-two P _ _ flags.refinement_height_table w.1 (λ no. inr (inr (inl no))) (λ few. omega (arith, few, a_is, b_is, d_is, w_is))) (λ h h_is.
-    cause-last P _ (one_of_two _ _ flags.refinement_x_table h.1) _ (told-two P _ _ flags.refinement_x_table h.1 (λ no. inr (inr (inr (inl no)))) (λ few. omega (arith, few, a_is, b_is, d_is, w_is, h_is))) (λ x x_is.
-    cause-last P _ (one_of_two _ _ flags.refinement_y_table x.1) _ (told-two P _ _ flags.refinement_y_table x.1 (λ no. inr (inr (inr (inr no)))) (λ few. omega (arith, few, a_is, b_is, d_is, w_is, h_is, x_is))) (λ y y_is.
-    cause-last P _ (table_of_size flags.refinement_size_table y.1) _ (told-size P flags.refinement_size_table y.1 (λ few. omega (arith, few, a_is, b_is, d_is, w_is, h_is, x_is, y_is))) (λ size size_is. tt))))))))
+    cause-last P _ (one_of_two _ _ flags.first_s_table customs) _ (told-two P _ _ flags.first_s_table customs (λ no. inl (refl, inl no)) (λ few. inr (refl, omega (arith, few)))) (λ a a_is.
+    cause-last P _ (one_of_three _ _ _ flags.delta_s_table a.1) _ (told-three P _ _ _ flags.delta_s_table a.1 (λ few. inr (refl, omega (arith, few, a_is)))) (λ b b_is.
+    cause-last P _ (one_of_three _ _ _ flags.delta_t_table b.1) _ (told-three P _ _ _ flags.delta_t_table b.1 (λ few. inr (refl, omega (arith, few, a_is, b_is)))) (λ d d_is.
+    cause-last P _ (one_of_two _ _ flags.refinement_width_table d.1) _ (told-two P _ _ flags.refinement_width_table d.1 (λ no. inl (refl, inr (inl no))) (λ few. inr (refl, omega (arith, few, a_is, b_is, d_is)))) (λ w w_is.
+    cause-last P _ (one_of_two _ _ flags.refinement_height_table w.1) _ (told-two P _ _ flags.refinement_height_table w.1 (λ no. inl (refl, inr (inr (inl no)))) (λ few. inr (refl, omega (arith, few, a_is, b_is, d_is, w_is)))) (λ h h_is.
+    cause-last P _ (one_of_two _ _ flags.refinement_x_table h.1) _ (told-two P _ _ flags.refinement_x_table h.1 (λ no. inl (refl, inr (inr (inr (inl no))))) (λ few. inr (refl, omega (arith, few, a_is, b_is, d_is, w_is, h_is)))) (λ x x_is.
+    cause-last P _ (one_of_two _ _ flags.refinement_y_table x.1) _ (told-two P _ _ flags.refinement_y_table x.1 (λ no. inl (refl, inr (inr (inr (inr no))))) (λ few. inr (refl, omega (arith, few, a_is, b_is, d_is, w_is, h_is, x_is)))) (λ y y_is.
+    cause-last P _ (table_of_size flags.refinement_size_table y.1) _ (told-size P flags.refinement_size_table y.1 (λ few. inr (refl, omega (arith, few, a_is, b_is, d_is, w_is, h_is, x_is, y_is)))) (λ size size_is. tt))))))))
 
 -- ---- the two codings
 cause-integer : (procedure : IntegerProcedure) (s : Coded) → IfErr (number_by_coder procedure s) (IsOutOfBand procedure s)
 cause-integer procedure s = cause-next (IsOutOfBand procedure s) (in_band (Symbol UnexpectedOob) (next_integer procedure s).0) _ (band (next_integer procedure s).0 refl) (λ n is. tt)
   where
     band : (n : Option ℤ) → (next_integer procedure s).0 ≡ n → IfErr (in_band (Symbol UnexpectedOob) n) (IsOutOfBand procedure s)
-    band None is = is
+    band None is = (refl, is)
     band (Some n) is = tt
 
 pub by_coder-causes : HaveCauses by_coder coder_causes
@@ -155,18 +166,18 @@ by_coder-causes = record {
   refined = λ from width height f s. tt;
 }
 
-cause-prefixed : (table : List Member) (s : Prefixed) → IfErr (prefixed_value table s) (RefusesNumber table (bits_left s.place))
+cause-prefixed : (table : List Member) (s : Prefixed) → IfErr (prefixed_value table s) (RefusesNumber table s.place)
 cause-prefixed table s =
-    let P : DecodeError → Type 0 = RefusesNumber table (bits_left s.place) in
+    let P : DecodeError → Type 0 = RefusesNumber table s.place in
     cause-next P (value_at table s.place) _ (cause-value P table s.place (λ e no. no)) (λ n is. tt)
 
 cause-bytes_of : (size : ℤ) (p : Place) → IfErr (sized_bytes size p) (LacksBytes size p)
-cause-bytes_of (pos size) p = cause-next (LacksBytes (pos size) p) (bytes_at size (aligned p).bytes) _ (cause-bytes (LacksBytes (pos size) p) size (aligned p).bytes (λ short. short)) (λ coded is. tt)
-cause-bytes_of (negsuc size) p = tt
+cause-bytes_of (pos size) p = cause-next (LacksBytes (pos size) p) (bytes_at size (aligned p).bytes) _ (cause-bytes (LacksBytes (pos size) p) size (aligned p).bytes (λ short. (refl, short))) (λ coded is. tt)
+cause-bytes_of (negsuc size) p = refl
 
-cause-refined_there : (from : Reference) (width height : ℕ) (f : Refining) (s : Prefixed) → IfErr (prefixed_refined from width height f s) (LacksSymbol s)
+cause-refined_there : (from : Reference) (width height : ℕ) (f : Refining) (s : Prefixed) → IfErr (prefixed_refined from width height f s) (prefix_causes.refined s)
 cause-refined_there from width height f s =
-    let P : DecodeError → Type 0 = LacksSymbol s in
+    let P : DecodeError → Type 0 = prefix_causes.refined s in
     cause-next P (value_at s.tables.refinement_size s.place) _ (cause-value P s.tables.refinement_size s.place (λ e no. inl no)) (λ size is.
     cause-next P (sized_bytes size.0 size.1) _ (cause-more (LacksBytes size.0 size.1) P (sized_bytes size.0 size.1) (cause-bytes_of size.0 size.1) (λ e no. inr (size, is, no))) (λ coded r. tt))
 
@@ -175,9 +186,9 @@ by_prefix_codes-causes = record {
   delta_t = λ s. cause-prefixed _ s;
   first_s = λ s. cause-prefixed _ s;
   delta_s = λ s. own-error (RefusesValue s.tables.delta_s (bits_left s.place)) (decoded_value s.tables.delta_s (bits_left s.place)).answer (λ e no. no);
-  t_bits = λ log s. cause-next (prefix_causes.t_bits log s) _ _ (cause-next (prefix_causes.t_bits log s) _ _ (cause-bits (prefix_causes.t_bits log s) invalid_code log s.place (λ short. short)) (λ n is. tt)) (λ n is. tt);
+  t_bits = λ log s. cause-next (prefix_causes.t_bits log s) _ _ (cause-next (prefix_causes.t_bits log s) _ _ (cause-bits (prefix_causes.t_bits log s) invalid_code log s.place (λ short. (refl, short))) (λ n is. tt)) (λ n is. tt);
   id = λ s. cause-prefixed _ s;
-  is_refined = λ s. cause-next (prefix_causes.is_refined s) _ _ (cause-next (prefix_causes.is_refined s) _ _ (cause-bits (prefix_causes.is_refined s) end_of_bytes 1 s.place (λ short. short)) (λ n is. tt)) (λ n is. tt);
+  is_refined = λ s. cause-next (prefix_causes.is_refined s) _ _ (cause-next (prefix_causes.is_refined s) _ _ (cause-bits (prefix_causes.is_refined s) end_of_bytes 1 s.place (λ short. (refl, short))) (λ n is. tt)) (λ n is. tt);
   width_delta = λ s. cause-prefixed _ s;
   height_delta = λ s. cause-prefixed _ s;
   x_delta = λ s. cause-prefixed _ s;

@@ -1,12 +1,14 @@
 -- Which rule the input breaks where the instances of a text region are refused.
-use Rattle.std.proofs.Common.{◌≡◌, inl, inr, ◌^◌, ltb, Option, Some, None, refl, ℤ, pos, negsuc}
+use Rattle.std.proofs.Common.{◌≡◌, ◌⊎◌, inl, inr, ◌^◌, ltb, Option, Some, None, refl, ℤ, pos, negsuc}
 use Rattle.std.specs.Prelude.{IfErr, ◌+ℤ◌, ◌*ℤ◌}
 use Rattle.std.proofs.lemmas.Bool.{ltb-false}
 use Rattle.jbig2_base.specs.declared.error.DecodeError.{DecodeError}
 use Rattle.jbig2_base.specs.declared.error.DecodeError.TheVariants.{Symbol}
 use Rattle.jbig2_base.specs.declared.error.SymbolError.TheVariants.{InvalidStripDelta}
 use Rattle.jbig2_base.proofs.Causes.{cause-next}
-use Rattle.jbig2_text.specs.CausesOfText.{ADeltaLeaves, BreaksMove, BreaksMoveBy, BreaksStrip, HaveCauses, LeavesWord, ReadingCauses}
+use Rattle.jbig2_coder.specs.Causes.{LeavesWord}
+use Rattle.jbig2_text.specs.Causes.{Behind}
+use Rattle.jbig2_text.specs.CausesOfText.{BreaksMoveBy, BreaksStrip, HaveCauses, ReadingCauses}
 use Rattle.jbig2_text.specs.Text.{Readings, coordinate, cursor_moved, moved_by, strip_begun, strip_delta, word_or}
 use Rattle.jbig2_text.specs.declared.text.cursor.Cursor.{Cursor}
 use Rattle.jbig2_text.specs.declared.text.header.TextRegionFlags.{TextRegionFlags}
@@ -19,7 +21,7 @@ told-word P e (negsuc n) why = told-if P (λ x. negsuc n ≡ x) (ltb n 214748364
 
 -- ---- strips
 pub cause-delta : {S : Type 0} (c : ReadingCauses S) (r : Readings S) (a : HaveCauses r c) (flags : TextRegionFlags) (s : S) (P : DecodeError → Type 0)
-    → (ADeltaLeaves r flags s → P (Symbol InvalidStripDelta)) → ((e : DecodeError) → c.delta_t s e → P e) → IfErr (strip_delta r flags s) P
+    → (Behind (r.delta_t s) (λ strips. LeavesWord (strips.0 *ℤ pos (2 ^ flags.log_strip_size))) → P (Symbol InvalidStripDelta)) → ((e : DecodeError) → c.delta_t s e → P e) → IfErr (strip_delta r flags s) P
 unfolding strip_delta
 cause-delta c r a flags s P leaves refused =
     cause-next P (r.delta_t s) _ (cause-more (c.delta_t s) P (r.delta_t s) (a.delta_t s) refused) (λ strips is.
@@ -30,18 +32,22 @@ pub cause-strip : {S : Type 0} (c : ReadingCauses S) (r : Readings S) (a : HaveC
 unfolding strip_begun
 cause-strip c r a flags stript firsts s =
     let P : DecodeError → Type 0 = BreaksStrip c r flags stript firsts s in
-    cause-next P (strip_delta r flags s) _ (cause-delta c r a flags s P (λ leaves. inl leaves) (λ e refused. inr (inl refused))) (λ dt dt_is.
-    cause-last P _ (coordinate (stript +ℤ dt.0)) _ (told-word P _ (stript +ℤ dt.0) (λ large. inl (dt, dt_is, inl large))) (λ next next_is.
-    cause-next P (r.first_s dt.1) _ (cause-more (c.first_s dt.1) P (r.first_s dt.1) (a.first_s dt.1) (λ e refused. inr (inr (dt, dt_is, refused)))) (λ dfs dfs_is.
-    cause-last P _ (coordinate (firsts +ℤ dfs.0)) _ (told-word P _ (firsts +ℤ dfs.0) (λ large. inl (dt, dt_is, inr (dfs, dfs_is, large)))) (λ first r. tt))))
+    cause-next P (strip_delta r flags s) _ (cause-delta c r a flags s P (λ leaves. inl (refl, leaves)) (λ e refused. inr (inr (inl refused)))) (λ dt dt_is.
+    cause-last P _ (coordinate (stript +ℤ dt.0)) _ (told-word P _ (stript +ℤ dt.0) (λ large. inr (inl (refl, (dt, dt_is, inl large))))) (λ next next_is.
+    cause-next P (r.first_s dt.1) _ (cause-more (c.first_s dt.1) P (r.first_s dt.1) (a.first_s dt.1) (λ e refused. inr (inr (inr (dt, dt_is, refused))))) (λ dfs dfs_is.
+    cause-last P _ (coordinate (firsts +ℤ dfs.0)) _ (told-word P _ (firsts +ℤ dfs.0) (λ large. inr (inl (refl, (dt, dt_is, inr (dfs, dfs_is, large)))))) (λ first r. tt))))
 
 cause-moved : {S : Type 0} (c : ReadingCauses S) (r : Readings S) (a : HaveCauses r c) (flags : TextRegionFlags) (at : Cursor) (ids : Option ℤ) (s : S)
     → IfErr (moved_by r flags at ids s) (BreaksMoveBy c r flags at ids s)
 cause-moved c r a flags at None s = cause-strip c r a flags at.strip_t at.first_s s
 cause-moved c r a flags at (Some ids) s =
     let P : DecodeError → Type 0 = BreaksMoveBy c r flags at (Some ids) s in
-    cause-last P _ (coordinate (at.cur_s +ℤ ids)) _ (told-word P _ (at.cur_s +ℤ ids) (λ large. inl large)) (λ apart is.
-    cause-last P _ (coordinate (apart +ℤ flags.delta_s_offset)) _ (told-word P _ (apart +ℤ flags.delta_s_offset) (λ large. inr (rw is large))) (λ curs r. tt))
+    cause-last P _ (coordinate (at.cur_s +ℤ ids)) _ (told-word P _ (at.cur_s +ℤ ids) (λ large. (refl, inl large))) (λ apart is.
+    cause-last P _ (coordinate (apart +ℤ flags.delta_s_offset)) _ (told-word P _ (apart +ℤ flags.delta_s_offset) (λ large. (refl, inr (rw is large)))) (λ curs r. tt))
+
+-- the way to the next instance: IDS, and behind it
+abbrev pub BreaksMove : {S : Type 0} → ReadingCauses S → Readings S → TextRegionFlags → Cursor → S → DecodeError → Type 0
+BreaksMove c r flags at s e = c.delta_s s e ⊎ Behind (r.delta_s s) (λ ids. BreaksMoveBy c r flags at ids (r.behind_delta_s s) e)
 
 pub cause-move : {S : Type 0} (c : ReadingCauses S) (r : Readings S) (a : HaveCauses r c) (flags : TextRegionFlags) (at : Cursor) (s : S)
     → IfErr (cursor_moved r flags at s) (BreaksMove c r flags at s)

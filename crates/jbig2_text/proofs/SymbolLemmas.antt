@@ -7,8 +7,7 @@ use Rattle.jbig2_base.specs.Fields.{bits_at}
 use Rattle.jbig2_base.specs.declared.error.DecodeError.{DecodeError}
 use Rattle.jbig2_base.specs.declared.error.DecodeError.TheVariants.{OutOfMemory}
 use Rattle.jbig2_coder.specs.PrefixCode.{Member}
-use Rattle.jbig2_text.specs.BitFields.{invalid_code}
-use Rattle.jbig2_text.specs.SymbolCodes.{short_lengths, next_runcode, runs_at, symbol_codes_from}
+use Rattle.jbig2_text.specs.SymbolCodes.{invalid_code, short_lengths, next_runcode, runs_at, symbol_codes_from}
 
 -- what is read: lengths, and the place behind them
 abbrev pub Lengths : Type 0

@@ -1,4 +1,3 @@
-pub mod BitFields
 pub mod Causes
 pub mod CausesOfRegions
 pub mod CausesOfText

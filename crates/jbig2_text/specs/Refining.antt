@@ -14,12 +14,6 @@ pub record Refining : Type 0 where
   pub pixels : List AdaptiveTemplatePixel
   pub contexts : List Context
 
-abbrev pub refining_by : RefinementTemplate → List AdaptiveTemplatePixel → List Context → Refining
-refining_by template pixels contexts = record { template = template; pixels = pixels; contexts = contexts }
-
-abbrev pub fresh_refining : RefinementTemplate → List AdaptiveTemplatePixel → Refining
-fresh_refining template pixels = refining_by template pixels (fresh_contexts (refinement_bits template))
-
 -- the code's two adaptive pixels, where there are any
 abbrev pub some_pixels : Option (List AdaptiveTemplatePixel) → List AdaptiveTemplatePixel
 some_pixels None = []
@@ -28,8 +22,7 @@ some_pixels (Some a) = take 2 a
 -- a symbol of this width and height, refined by a coder over these bytes (Table 12)
 unfoldable pub refined_by : Refining → Reference → ℕ → ℕ → List ℕ → Registers → Region
 refined_by f from width height bytes registers =
-    let coding = refinement_coding f.template false f.pixels from in
-    decoded_region coding width height bytes (no_pixels registers f.contexts)
+    decoded_region (refinement_coding f.template false f.pixels from) width height bytes (no_pixels registers f.contexts)
 
 -- The symbol, and the coder and the contexts behind it.
 pub record Refined : Type 0 where

@@ -2,13 +2,23 @@
 -- place in the bits and the number of the symbols give the codes, and the place behind them.
 use Rattle.std.specs.Prelude.{ℕ, zero, suc, ◌+◌, ◌-◌, nat_lt, ◌==◌, List, [], ◌∷◌, ◌++◌, length, replicate, slice_get, Result, Ok, Err, ℤ, pos, negsuc, if◌then◌else◌}
 use Rattle.jbig2_base.specs.Answer.{◌>>=◌, refuse_if, some_or}
-use Rattle.jbig2_base.specs.Bits.{Place, start_of, aligned}
+use Rattle.jbig2_base.specs.Bits.{Place, aligned, bits_left, bits_on, start_of}
 use Rattle.jbig2_base.specs.Fields.{bits_at}
 use Rattle.jbig2_base.specs.declared.error.DecodeError.{DecodeError}
-use Rattle.jbig2_coder.specs.PrefixCode.{Member, table_of}
+use Rattle.jbig2_base.specs.declared.error.DecodeError.TheVariants.{Huffman}
+use Rattle.jbig2_base.specs.declared.error.HuffmanError.TheVariants.{InvalidCode}
+use Rattle.jbig2_coder.specs.PrefixCode.{Member, decoded_value, no_oob, table_of}
 use Rattle.jbig2_coder.specs.Tables.{line}
 use Rattle.jbig2_coder.specs.declared.huffman_table.line.TableLine.{TableLine}
-use Rattle.jbig2_text.specs.BitFields.{invalid_code, value_at}
+
+abbrev pub invalid_code : DecodeError
+invalid_code = Huffman InvalidCode
+
+-- a number by a table of prefix codes (B.4), which may not be out of band, and the place behind it
+abbrev pub value_at : List Member → Place → Result (ℤ × Place) DecodeError
+value_at table p =
+    let read = decoded_value table (bits_left p) in
+    no_oob read.answer >>= λ n. Ok (n, bits_on read.taken p)
 
 -- the numbers from n on, by the lengths of their codes
 abbrev pub lines_from : ℕ → List ℕ → List TableLine
@@ -20,15 +30,11 @@ unfoldable pub short_lengths : ℕ → List ℕ → Place → Result (List ℕ �
 short_lengths zero so_far p = Ok (so_far, p)
 short_lengths (suc count) so_far p = bits_at invalid_code 4 p >>= λ len. short_lengths count (so_far ++ len.0 ∷ []) len.1
 
-abbrev pub last_length : List ℕ → Result ℕ DecodeError
-last_length lens = some_or invalid_code (slice_get lens (length lens - 1))
-
 -- with the last length so many times more
 abbrev pub repeated : List ℕ → ℕ → Result (List ℕ) DecodeError
-repeated so_far count = last_length so_far >>= λ len. Ok (so_far ++ replicate count len)
+repeated so_far count = some_or invalid_code (slice_get so_far (length so_far - 1)) >>= λ len. Ok (so_far ++ replicate count len)
 
--- The lengths that a runcode stands for, behind those so far: itself, or the last length 3 to 6 times, or 3 to 10
--- or 11 to 138 lengths of zero.
+-- The lengths that a runcode stands for: itself, or the last length 3 to 6 times, or 3 to 10 or 11 to 138 zeros.
 abbrev pub run_at : ℤ → List ℕ → Place → Result (List ℕ × Place) DecodeError
 run_at (negsuc n) so_far p = Err invalid_code
 run_at (pos code) so_far p =
@@ -49,10 +55,7 @@ runs_at (suc most) count runcodes so_far p =
 
 -- the codes of the 35 runcodes (steps 1 and 2)
 unfoldable pub runcodes_at : Place → Result (List Member × Place) DecodeError
-runcodes_at p = do
-  lens ← short_lengths 35 [] p
-  runcodes ← table_of (lines_from 0 lens.0)
-  Ok (runcodes, lens.1)
+runcodes_at p = short_lengths 35 [] p >>= λ lens. table_of (lines_from 0 lens.0) >>= λ runcodes. Ok (runcodes, lens.1)
 
 -- the lengths of the codes of `count` symbols (steps 3 and 4); a run that goes past them is refused
 unfoldable pub symbol_lengths_at : ℕ → List Member → Place → Result (List ℕ × Place) DecodeError

@@ -2,7 +2,8 @@
 -- drawn. Every coordinate is a signed number of 32 bits, else it is refused (our own rule).
 use Rattle.std.specs.Prelude.{ℕ, zero, suc, ◌-◌, ◌*◌, ◌^◌, nat_le, nat_lt, ◌==◌, Bool, true, false, ◌||◌, if◌then◌else◌, ℤ, pos, negsuc, ◌+ℤ◌, ◌-ℤ◌, ◌*ℤ◌, List, [], ◌∷◌, ◌++◌, slice_get, Option, Some, None, Result, Ok, Err}
 use Rattle.std.specs.Int.{int_shr}
-use Rattle.jbig2_base.specs.Answer.{◌>>=◌, refuse_if}
+use Rattle.std.specs.Option.{is_some}
+use Rattle.jbig2_base.specs.Answer.{◌>>=◌, refuse_if, some_or}
 use Rattle.jbig2_base.specs.Combination.{combined}
 use Rattle.jbig2_base.specs.Grid.{Grid}
 use Rattle.jbig2_base.specs.declared.bitmap.operator.CombinationOperator.{CombinationOperator}
@@ -16,10 +17,10 @@ use Rattle.jbig2_text.specs.declared.text.cursor.Cursor.{Cursor}
 use Rattle.jbig2_text.specs.declared.text.header.ReferenceCorner.{ReferenceCorner}
 use Rattle.jbig2_text.specs.declared.text.header.ReferenceCorner.TheVariants.{BottomLeft, BottomRight, TopRight}
 use Rattle.jbig2_text.specs.declared.text.header.TextRegionFlags.{TextRegionFlags}
+use Rattle.jbig2_text.specs.declared.text.refined.Outline.{Outline}
 use Rattle.jbig2_text.specs.declared.text.refined.RefinementDeltas.{RefinementDeltas}
 
--- What the instances are read and placed by (Table 9): the flags, SBSYMS and SBNUMINSTANCES. `data_length` is that of
--- the segment.
+-- What the instances are read by (Table 9): the flags, SBSYMS, SBNUMINSTANCES; and the length of the segment's data.
 pub record TextParams : Type 0 where
   pub flags : TextRegionFlags
   pub symbols : List Grid
@@ -34,9 +35,8 @@ pub record Instance : Type 0 where
   pub y : ℤ
 
 -- How the numbers are coded (6.4.6 to 6.4.11): each reading goes from a state of the coder to a value and the state
--- behind it. What a reading of delta S has used up is used up also where it is refused; None ends a strip. `t_bits`
--- is by the log of the strip size; `refined` is by the reference, the width, the height and the refining contexts,
--- and answers these as they are behind the symbol.
+-- behind it. What a delta S has used up is used up also where it is refused; None ends a strip. `t_bits` is by the log
+-- of the strip size, `refined` by the reference, the width, the height and the contexts, which it answers as learned.
 pub record Readings (S : Type 0) : Type 0 where
   pub delta_t : S → Result (ℤ × S) DecodeError
   pub first_s : S → Result (ℤ × S) DecodeError
@@ -51,17 +51,13 @@ pub record Readings (S : Type 0) : Type 0 where
   pub y_delta : S → Result (ℤ × S) DecodeError
   pub refined : Reference → ℕ → ℕ → Refining → S → Result (Grid × Refining × S) DecodeError
 
--- The instances so far, where the next one stands, the refining contexts and the state of the coder.
+-- the instances so far, where the next one stands, the contexts and the coder
 pub record Reached (S : Type 0) : Type 0 where
   pub instances : List Instance
   pub cursor : Cursor
   pub refining : Refining
   pub state : S
 
-abbrev pub reached : {S : Type 0} → List Instance → Cursor → Refining → S → Reached S
-reached found c f s = record { instances = found; cursor = c; refining = f; state = s }
-
--- ---- numbers of 32 bits
 -- a number in signed 32 bits, or the error
 abbrev pub word_or : DecodeError → ℤ → Result ℤ DecodeError
 word_or e (pos n) = if nat_lt n 2147483648 then Ok (pos n) else Err e
@@ -78,7 +74,7 @@ strip_delta r flags s = do
   dt ← word_or (Symbol InvalidStripDelta) (strips.0 *ℤ pos (2 ^ flags.log_strip_size))
   Ok (dt, strips.1)
 
--- a strip begins: STRIPT and FIRSTS go on by DT and DFS (6.4.6 and 6.4.7), and CURS is FIRSTS (steps 3 b and 3 c i)
+-- a strip begins: STRIPT and FIRSTS go on by DT and DFS (6.4.7), and CURS is FIRSTS (steps 3 b and 3 c i)
 unfoldable pub strip_begun : {S : Type 0} → Readings S → TextRegionFlags → ℤ → ℤ → S → Result (Cursor × S) DecodeError
 strip_begun r flags stript firsts s = do
   dt ← strip_delta r flags s
@@ -109,8 +105,7 @@ symbol_of symbols (pos id) = slice_get symbols id
 symbol_of symbols (negsuc id) = None
 
 abbrev pub some_symbol : Option Grid → Result Grid DecodeError
-some_symbol (Some g) = Ok g
-some_symbol None = Err (Symbol OutOfRange)
+some_symbol g = some_or (Symbol OutOfRange) g
 
 -- a side of a refined symbol, within signed 32 bits
 abbrev pub side_of : ℤ → Result ℕ DecodeError
@@ -130,13 +125,7 @@ refinement_deltas r s = do
   rdy ← r.y_delta rdx.1
   Ok (record { width = rdw.0; height = rdh.0; x = rdx.0; y = rdy.0 }, rdy.1)
 
--- The width and the height of a refined symbol, and where its reference lies (Table 12).
-pub record Outline : Type 0 where
-  pub width : ℕ
-  pub height : ℕ
-  pub dx : ℤ
-  pub dy : ℤ
-
+-- the width and the height of a refined symbol, and where its reference lies (Table 12)
 unfoldable pub refined_outline : Grid → RefinementDeltas → Result Outline DecodeError
 refined_outline from rd = do
   width ← side_of (pos from.width +ℤ rd.width)
@@ -157,20 +146,14 @@ refined_symbol r symbols id f s = do
 -- an id without a symbol is refused in strict mode, and otherwise stands for nothing (our own rule)
 abbrev pub plain_symbol : Bool → Option Grid → Result (Option Grid) DecodeError
 plain_symbol strict (Some g) = Ok (Some g)
-plain_symbol true None = Err (Symbol OutOfRange)
-plain_symbol false None = Ok None
+plain_symbol strict None = if strict then Err (Symbol OutOfRange) else Ok None
 
--- R_I, which is 0 where nothing is refined (6.4.11)
-abbrev pub refinement_flag : {S : Type 0} → Readings S → TextRegionFlags → S → Result (Bool × S) DecodeError
-refinement_flag r flags s = if flags.use_refinement then r.is_refined s else Ok (false, s)
-
-abbrev pub symbol_by : {S : Type 0} → Readings S → TextParams → ℤ → Bool → Refining → S → Result (Option Grid × Refining × S) DecodeError
-symbol_by r p id true f s = refined_symbol r p.symbols id f s >>= λ g. Ok (Some g.0, g.1, g.2)
-symbol_by r p id false f s = plain_symbol p.strict (symbol_of p.symbols id) >>= λ g. Ok (g, f, s)
-
--- the symbol of an instance, IB (6.4.11)
+-- the symbol of an instance, IB, by R_I, which is 0 where nothing is refined (6.4.11)
 unfoldable pub instance_symbol : {S : Type 0} → Readings S → TextParams → ℤ → Refining → S → Result (Option Grid × Refining × S) DecodeError
-instance_symbol r p id f s = refinement_flag r p.flags s >>= λ ri. symbol_by r p id ri.0 f ri.1
+instance_symbol r p id f s = do
+  ri ← if p.flags.use_refinement then r.is_refined s else Ok (false, s)
+  if ri.0 then (refined_symbol r p.symbols id f ri.1 >>= λ g. Ok (Some g.0, g.1, g.2))
+      else (plain_symbol p.strict (symbol_of p.symbols id) >>= λ g. Ok (g, f, ri.1))
 
 -- ---- places (6.4.5, step 3 c)
 abbrev pub is_right : ReferenceCorner → Bool
@@ -183,36 +166,25 @@ is_bottom BottomLeft = true
 is_bottom BottomRight = true
 is_bottom _ = false
 
--- the last pixel of a side lies so far behind its first
-abbrev pub behind_first : ℕ → ℤ
-behind_first side = pos side -ℤ pos 1
-
 abbrev pub is_last_along_s : TextRegionFlags → Bool
 is_last_along_s flags = if flags.transposed then is_bottom flags.reference_corner else is_right flags.reference_corner
 
 -- CURS at the other end of a symbol
 abbrev pub grown : TextRegionFlags → Grid → ℤ → Result ℤ DecodeError
-grown flags g curs = coordinate (curs +ℤ behind_first (if flags.transposed then g.height else g.width))
-
--- CURS goes on by the symbol's extent: before it is placed where its corner is the last one along S (step 3 c vi),
--- else afterwards (step 3 c x)
-abbrev pub s_before : TextRegionFlags → Grid → ℤ → Result ℤ DecodeError
-s_before flags g curs = if is_last_along_s flags then grown flags g curs else Ok curs
-
-abbrev pub s_behind : TextRegionFlags → Grid → ℤ → Result ℤ DecodeError
-s_behind flags g curs = if is_last_along_s flags then Ok curs else grown flags g curs
+grown flags g curs = coordinate (curs +ℤ (pos (if flags.transposed then g.height else g.width) -ℤ pos 1))
 
 -- the first column (or row), where the corner at this one may be at the last
 abbrev pub edge : Bool → ℕ → ℤ → Result ℤ DecodeError
-edge at_last side place = if at_last then coordinate (place -ℤ behind_first side) else Ok place
+edge at_last side place = if at_last then coordinate (place -ℤ (pos side -ℤ pos 1)) else Ok place
 
--- a symbol at SI and TI, and CURS behind it (steps 3 c vi to x)
+-- A symbol at SI and TI, and CURS behind it (steps 3 c vi to x). CURS goes on by the symbol's extent: before it is
+-- placed where its corner is the last one along S (vi), else afterwards (x).
 unfoldable pub symbol_placed : TextRegionFlags → Grid → ℤ → ℤ → Result (Instance × ℤ) DecodeError
 symbol_placed flags g curs ti = do
-  si ← s_before flags g curs
+  si ← if is_last_along_s flags then grown flags g curs else Ok curs
   x ← edge (is_right flags.reference_corner) g.width (if flags.transposed then ti else si)
   y ← edge (is_bottom flags.reference_corner) g.height (if flags.transposed then si else ti)
-  next ← s_behind flags g si
+  next ← if is_last_along_s flags then Ok si else grown flags g si
   Ok (record { grid = g; x = x; y = y }, next)
 
 -- ---- instances
@@ -230,64 +202,41 @@ with_instance r p x = do
   id ← r.id curt.1
   ib ← instance_symbol r p id.0 x.refining id.1
   more ← with_symbol p.flags x.instances x.cursor ti ib.0
-  Ok (reached more.0 more.1 ib.1 ib.2)
-
--- one more, and where the one behind it stands
-abbrev pub with_next_instance : {S : Type 0} → Readings S → TextParams → Reached S → Result (Reached S) DecodeError
-with_next_instance r p x = do
-  y ← with_instance r p x
-  c ← cursor_moved r p.flags y.cursor y.state
-  Ok (reached y.instances c.0 y.refining c.1)
+  Ok (record { instances = more.0; cursor = more.1; refining = ib.1; state = ib.2 })
 
 -- so many more, with others behind them
 unfoldable pub after_instances : {S : Type 0} → Readings S → TextParams → ℕ → Reached S → Result (Reached S) DecodeError
 after_instances r p zero x = Ok x
-after_instances r p (suc n) x = with_next_instance r p x >>= λ y. after_instances r p n y
+after_instances r p (suc n) x = do
+  y ← with_instance r p x
+  c ← cursor_moved r p.flags y.cursor y.state
+  after_instances r p n (record y { cursor = c.0; state = c.1 })
 
--- A strip ends out of band. In strict mode it is refused otherwise; lenient reading takes any end (our own rule).
-abbrev pub end_of_strip : Bool → Result (Option ℤ) DecodeError → Result (Unit {0}) DecodeError
-end_of_strip false ids = Ok tt
-end_of_strip true (Ok None) = Ok tt
-end_of_strip true (Ok (Some ids)) = Err (Symbol TooManyInstances)
-end_of_strip true (Err e) = Err e
-
--- Instances, and the refining contexts and the state of the coder behind them.
+-- instances, and the contexts and the coder behind them
 abbrev pub Found : Type 0 → Type 0
 Found S = List Instance × Refining × S
 
--- the last instance, and the IDS behind it
-abbrev pub with_last : {S : Type 0} → Readings S → TextParams → Reached S → Result (Found S) DecodeError
-with_last r p x = do
-  last ← with_instance r p x
-  ends ← end_of_strip p.strict (r.delta_s last.state)
-  Ok (last.instances, last.refining, r.behind_delta_s last.state)
-
--- the instances of all strips (step 3 and 4) behind this STRIPT; none take no strip
-abbrev pub some_strips : {S : Type 0} → Readings S → TextParams → ℤ → Refining → S → Result (Found S) DecodeError
-some_strips r p stript f s = do
-  c ← strip_begun r p.flags stript (pos 0) s
-  x ← after_instances r p (p.count - 1) (reached [] c.0 f c.1)
-  with_last r p x
-
-abbrev pub strips : {S : Type 0} → Readings S → TextParams → ℤ → Refining → S → Result (Found S) DecodeError
-strips r p stript f s = if p.count == 0 then Ok ([], f, s) else some_strips r p stript f s
-
--- All instances; STRIPT begins at the negative of the first DT (step 1). More than 32 for each byte of the segment are
--- refused (our own rule).
+-- All instances (steps 1, 3 and 4); STRIPT begins at the negative of the first DT, and none take no strip. More than 32
+-- for each byte of the segment are refused. The last strip ends out of band, too; in strict mode it is refused
+-- otherwise, and lenient reading takes any end (our own rules).
 unfoldable pub text_instances : {S : Type 0} → Readings S → TextParams → Refining → S → Result (Found S) DecodeError
 text_instances r p f s = do
   few ← refuse_if (nat_lt (32 * p.data_length) p.count) (Symbol TooManyInstances)
   dt ← strip_delta r p.flags s
   stript ← coordinate (pos 0 -ℤ dt.0)
-  strips r p stript f dt.1
+  if p.count == 0 then Ok ([], f, dt.1) else do
+    c ← strip_begun r p.flags stript (pos 0) dt.1
+    x ← after_instances r p (p.count - 1) (record { instances = []; cursor = c.0; refining = f; state = c.1 })
+    last ← with_instance r p x
+    ends ← if p.strict then (r.delta_s last.state >>= λ ids. refuse_if (is_some ids) (Symbol TooManyInstances)) else Ok tt
+    Ok (last.instances, last.refining, r.behind_delta_s last.state)
 
 -- The instances drawn onto a region, the first one first.
 abbrev pub instances_drawn : CombinationOperator → List Instance → Grid → Grid
 instances_drawn operator [] region = region
 instances_drawn operator (i ∷ others) region = instances_drawn operator others (combined operator region i.grid i.x i.y)
 
--- A region (6.4.5) from its default colour on, and the refining contexts and the state of the coder behind it.
+-- a region (6.4.5) from its default colour on, and the contexts and the coder behind it
 unfoldable pub text_region : {S : Type 0} → Readings S → TextParams → Grid → Refining → S → Result (Grid × Refining × S) DecodeError
-text_region r p region f s = do
-  found ← text_instances r p f s
-  Ok (instances_drawn p.flags.combination_operator found.0 region, found.1, found.2)
+text_region r p region f s =
+    text_instances r p f s >>= λ found. Ok (instances_drawn p.flags.combination_operator found.0 region, found.1, found.2)

@@ -1,8 +1,8 @@
 -- The two ways in which the numbers of a text region are coded (T.88, 6.4.6 to 6.4.11): by the arithmetic coder with
 -- its integer procedures, and by prefix codes. Symbol dictionaries read by the same states.
 use Rattle.std.specs.Prelude.{ℕ, ◌%◌, ◌^◌, ◌==◌, Bool, not, ℤ, pos, negsuc, nat_abs, List, Option, Some, None, Result, Ok, Err, replicate}
-use Rattle.jbig2_base.specs.Answer.{◌>>=◌}
-use Rattle.jbig2_base.specs.Bits.{Place, bits_left, start_of, aligned}
+use Rattle.jbig2_base.specs.Answer.{◌>>=◌, some_or}
+use Rattle.jbig2_base.specs.Bits.{Place, aligned, bits_left, bits_on, start_of}
 use Rattle.jbig2_base.specs.Fields.{bits_at, bytes_at, end_of_bytes}
 use Rattle.jbig2_base.specs.Grid.{Grid}
 use Rattle.jbig2_base.specs.declared.error.DecodeError.{DecodeError}
@@ -15,8 +15,8 @@ use Rattle.jbig2_coder.specs.Procedures.{Procedures, asked, fresh_procedures}
 use Rattle.jbig2_coder.specs.declared.integer_procedures.IntegerProcedure.{IntegerProcedure}
 use Rattle.jbig2_coder.specs.declared.integer_procedures.IntegerProcedure.TheVariants.{Iads, Iadt, Iafs, Iait, Iardh, Iardw, Iardx, Iardy, Iari}
 use Rattle.jbig2_region.specs.Refinement.{Reference}
-use Rattle.jbig2_text.specs.BitFields.{invalid_code, behind_value, value_at}
 use Rattle.jbig2_text.specs.Refining.{Refining, refined_with}
+use Rattle.jbig2_text.specs.SymbolCodes.{invalid_code, value_at}
 use Rattle.jbig2_text.specs.Text.{Readings}
 
 -- ---- by the arithmetic coder
@@ -26,13 +26,10 @@ pub record Coded : Type 0 where
   pub procedures : Procedures
   pub ids : Ids
 
-abbrev pub coder_at_start : List ℕ → Coder
-coder_at_start bytes = record { bytes = bytes; registers = initial_registers bytes }
-
 -- at the start of the bytes, with ids of so many bits
 unfoldable pub coded_start : List ℕ → ℕ → Coded
 coded_start bytes bits = record {
-  coder = coder_at_start bytes;
+  coder = record { bytes = bytes; registers = initial_registers bytes };
   procedures = fresh_procedures;
   ids = record { code_len = bits; contexts = replicate (2 ^ bits) fresh };
 }
@@ -52,20 +49,12 @@ next_id s =
 
 -- a number that may not be out of band, else this error
 abbrev pub in_band : DecodeError → Option ℤ → Result ℤ DecodeError
-in_band e None = Err e
-in_band e (Some n) = Ok n
+in_band e n = some_or e n
 
 abbrev pub number_by_coder : IntegerProcedure → Coded → Result (ℤ × Coded) DecodeError
 number_by_coder procedure s = let i = next_integer procedure s in in_band (Symbol UnexpectedOob) i.0 >>= λ n. Ok (n, i.1)
 
--- the low eight bits of a flag count (our own rule)
-abbrev pub is_flag : ℤ → Bool
-is_flag n = not (nat_abs n % 256 == 0)
-
-abbrev pub coded_refined : Reference → ℕ → ℕ → Refining → Coded → Grid × Refining × Coded
-coded_refined from width height f s =
-    let r = refined_with f from width height s.coder in (r.grid, r.refining, record s { coder = r.coder })
-
+-- of R_I the low eight bits count (our own rule)
 abbrev pub by_coder : Readings Coded
 by_coder = record {
   delta_t = number_by_coder Iadt;
@@ -74,12 +63,13 @@ by_coder = record {
   behind_delta_s = λ s. (next_integer Iads s).1;
   t_bits = λ _. number_by_coder Iait;
   id = λ s. Ok (next_id s);
-  is_refined = λ s. number_by_coder Iari s >>= λ flag. Ok (is_flag flag.0, flag.1);
+  is_refined = λ s. number_by_coder Iari s >>= λ flag. Ok (not (nat_abs flag.0 % 256 == 0), flag.1);
   width_delta = number_by_coder Iardw;
   height_delta = number_by_coder Iardh;
   x_delta = number_by_coder Iardx;
   y_delta = number_by_coder Iardy;
-  refined = λ from width height f s. Ok (coded_refined from width height f s);
+  refined = λ from width height f s.
+      let r = refined_with f from width height s.coder in Ok (r.grid, r.refining, record s { coder = r.coder });
 }
 
 -- ---- by prefix codes
@@ -111,23 +101,21 @@ abbrev pub sized_bytes : ℤ → Place → Result (List ℕ × Place) DecodeErro
 sized_bytes (pos size) p = bytes_at size (aligned p).bytes >>= λ coded. Ok (coded.0, start_of coded.1)
 sized_bytes (negsuc size) p = Err end_of_bytes
 
-abbrev pub refined_there : Reference → ℕ → ℕ → Refining → List ℕ → Prefixed → Grid × Refining × Prefixed
-refined_there from width height f bytes behind =
-    let r = refined_with f from width height (coder_at_start bytes) in (r.grid, r.refining, behind)
-
 -- A refined symbol has bytes of its own, and a coder that begins there (6.4.11, steps 5 to 7).
 abbrev pub prefixed_refined : Reference → ℕ → ℕ → Refining → Prefixed → Result (Grid × Refining × Prefixed) DecodeError
 prefixed_refined from width height f s = do
   size ← value_at s.tables.refinement_size s.place
   coded ← sized_bytes size.0 size.1
-  Ok (refined_there from width height f coded.0 (record s { place = coded.1 }))
+  let r = refined_with f from width height (record { bytes = coded.0; registers = initial_registers coded.0 })
+  Ok (r.grid, r.refining, record s { place = coded.1 })
 
 abbrev pub by_prefix_codes : Readings Prefixed
 by_prefix_codes = record {
   delta_t = λ s. prefixed_value s.tables.delta_t s;
   first_s = λ s. prefixed_value s.tables.first_s s;
   delta_s = λ s. (decoded_value s.tables.delta_s (bits_left s.place)).answer;
-  behind_delta_s = λ s. record s { place = behind_value s.tables.delta_s s.place };
+  behind_delta_s = λ s.
+      record s { place = bits_on (decoded_value s.tables.delta_s (bits_left s.place)).taken s.place };
   t_bits = λ log s. prefixed_bits invalid_code log s >>= λ n. Ok (pos n.0, n.1);
   id = λ s. prefixed_value s.ids s;
   is_refined = λ s. prefixed_bits end_of_bytes 1 s >>= λ n. Ok (n.0 == 1, n.1);

@@ -1,12 +1,10 @@
--- The data of a text region segment up to its coded bytes (T.88, 7.4.3.1): region information, flags, the adaptive
--- pixels of refinements, the number of instances and the codes of the ids. The bytes give the header, and the coded
--- bytes stand behind it.
+-- The data of a text region segment up to its coded bytes (T.88, 7.4.3.1): region information, flags, adaptive pixels,
+-- the number of instances and the codes of the ids. The bytes give the header, and the coded bytes behind it.
 use Rattle.std.specs.Prelude.{ℕ, ◌/◌, ◌%◌, ◌==◌, nat_lt, Bool, true, false, List, [], length, Option, Some, None, Result, Ok, if◌then◌else◌, ℤ, pos, ◌-ℤ◌}
 use Rattle.std.specs.Int.{w16, w32}
 use Rattle.jbig2_base.specs.Answer.{◌>>=◌}
 use Rattle.jbig2_base.specs.Fields.{number_at}
 use Rattle.jbig2_base.specs.Operator.{operator_of}
-use Rattle.jbig2_base.specs.declared.bitmap.operator.CombinationOperator.{CombinationOperator}
 use Rattle.jbig2_base.specs.declared.error.DecodeError.{DecodeError}
 use Rattle.jbig2_coder.specs.PrefixCode.{Member}
 use Rattle.jbig2_region.specs.RefinementHeader.{refinement_pixels_at, refinement_template_of}
@@ -25,8 +23,8 @@ use Rattle.jbig2_text.specs.declared.text.header.TextRegionFlags.{TextRegionFlag
 use Rattle.jbig2_text.specs.declared.text.header.TextRegionHeader.{TextRegionHeader}
 use Rattle.jbig2_text.specs.declared.text.header.TextRegionHuffmanFlags.{TextRegionHuffmanFlags}
 
--- How the numbers are coded (SBHUFF): by the arithmetic coder, or by prefix codes, whose tables have numbers in the
--- header and which have the codes of the symbols' ids (SBSYMCODES).
+-- How the numbers are coded (SBHUFF): by the arithmetic coder, or by prefix codes, with the numbers of their tables and
+-- the codes of the symbols' ids (SBSYMCODES).
 pub data NumberCoding : Type 0 where
   ArithmeticCoding : NumberCoding
   HuffmanCoding : (tables : TextRegionHuffmanFlags) (ids : List Member) → NumberCoding
@@ -45,9 +43,6 @@ pub record TextHeader : Type 0 where
 -- those of the code's two refinement pixels that these flags have
 abbrev pub text_pixels : TextRegionFlags → List AdaptiveTemplatePixel → List AdaptiveTemplatePixel
 text_pixels flags a = if flags.use_refinement then two_pixels flags.refinement_template a else []
-
-abbrev pub fields_view : TextFields → TextFields
-fields_view f = record f { refinement_at_pixels = text_pixels f.flags f.refinement_at_pixels }
 
 abbrev pub coding_view : {A : Type 0} → TextRegionCoding A → NumberCoding
 coding_view codings.Arithmetic = ArithmeticCoding
@@ -72,25 +67,22 @@ corner_of n = if n == 0 then BottomLeft else if n == 1 then TopLeft else if n ==
 abbrev pub signed_5 : ℕ → ℤ
 signed_5 n = if nat_lt n 16 then pos n else pos n -ℤ pos 32
 
--- the bits of the flags behind SBHUFF
-abbrev pub other_flags : ℕ → CombinationOperator → TextRegionFlags
-other_flags flags operator = record {
-  use_refinement = flags / 2 % 2 == 1;
-  log_strip_size = flags / 4 % 4;
-  reference_corner = corner_of (flags / 16 % 4);
-  transposed = flags / 64 % 2 == 1;
-  combination_operator = operator;
-  default_pixel = flags / 512 % 2 == 1;
-  delta_s_offset = signed_5 (flags / 1024 % 32);
-  refinement_template = refinement_template_of (flags / 32768);
-}
-
 -- whether there are prefix codes (SBHUFF), and the other flags (7.4.3.1.1)
 unfoldable pub text_flags_at : List ℕ → Result ((Bool × TextRegionFlags) × List ℕ) DecodeError
 text_flags_at bytes = do
   flags ← number_at w16 bytes
   operator ← operator_of (flags.0 / 128 % 4)
-  Ok ((flags.0 % 2 == 1, other_flags flags.0 operator), flags.1)
+  let others : TextRegionFlags = record {
+    use_refinement = flags.0 / 2 % 2 == 1;
+    log_strip_size = flags.0 / 4 % 4;
+    reference_corner = corner_of (flags.0 / 16 % 4);
+    transposed = flags.0 / 64 % 2 == 1;
+    combination_operator = operator;
+    default_pixel = flags.0 / 512 % 2 == 1;
+    delta_s_offset = signed_5 (flags.0 / 1024 % 32);
+    refinement_template = refinement_template_of (flags.0 / 32768);
+  }
+  Ok ((flags.0 % 2 == 1, others), flags.1)
 
 -- the numbers of the tables (7.4.3.1.2)
 abbrev pub table_numbers : ℕ → TextRegionHuffmanFlags
@@ -110,17 +102,13 @@ abbrev pub table_numbers_at : Bool → List ℕ → Result (Option TextRegionHuf
 table_numbers_at true bytes = number_at w16 bytes >>= λ flags. Ok (Some (table_numbers flags.0), flags.1)
 table_numbers_at false bytes = Ok (None, bytes)
 
--- The refinement's adaptive pixels (7.4.3.1.3): two where symbols may be refined at template 0, else none.
-abbrev pub text_pixels_at : Bool → RefinementTemplate → List ℕ → Result (List AdaptiveTemplatePixel × List ℕ) DecodeError
-text_pixels_at true template bytes = refinement_pixels_at template bytes
-text_pixels_at false template bytes = Ok ([], bytes)
-
--- the fields between the region information and the codes of the ids
+-- the fields between the region information and the codes of the ids: adaptive pixels for refinements alone (7.4.3.1.3)
 unfoldable pub text_fields_at : List ℕ → Result (TextFields × List ℕ) DecodeError
 text_fields_at bytes = do
   flags ← text_flags_at bytes
   tables ← table_numbers_at flags.0.0 flags.1
-  pixels ← text_pixels_at flags.0.1.use_refinement flags.0.1.refinement_template tables.1
+  pixels ← if flags.0.1.use_refinement then refinement_pixels_at flags.0.1.refinement_template tables.1
+      else Ok ([], tables.1)
   instances ← number_at w32 pixels.1
   Ok (
     record {
@@ -137,7 +125,7 @@ abbrev pub coding_at : Option TextRegionHuffmanFlags → ℕ → List ℕ → Re
 coding_at (Some tables) count bytes = symbol_codes_at count bytes >>= λ ids. Ok (HuffmanCoding tables ids.0, ids.1)
 coding_at None count bytes = Ok (ArithmeticCoding, bytes)
 
--- All of it, for so many symbols, and the place where the coded bytes begin.
+-- all of it, for so many symbols, and the coded bytes
 unfoldable pub text_header_at : ℕ → Bool → List ℕ → Result (TextHeader × List ℕ) DecodeError
 text_header_at symbols strict bytes = do
   info ← region_info_at bytes

@@ -1,5 +1,5 @@
--- A text region segment (T.88, 7.4.3): its tables, and its region decoded from fresh states. The header with the coded
--- bytes, the symbols and the custom tables that it refers to give the region's grid at its place.
+-- A text region segment (T.88, 7.4.3): the header with the coded bytes, the symbols and the custom tables that it refers
+-- to give the region's grid at its place, decoded from fresh states.
 use Rattle.std.specs.Prelude.{ℕ, nat_lt, ◌==◌, ◌||◌, if◌then◌else◌, List, length, Result, Ok, Err}
 use Rattle.jbig2_base.specs.Answer.{◌>>=◌, refuse_if}
 use Rattle.jbig2_base.specs.Bits.{start_of}
@@ -11,44 +11,27 @@ use Rattle.jbig2_base.specs.declared.error.OverflowError.TheVariants.{BitmapDime
 use Rattle.jbig2_coder.specs.PrefixCode.{Member, prefix_code}
 use Rattle.jbig2_coder.specs.TableSelection.{next_custom, standard}
 use Rattle.jbig2_coder.specs.Tables.{lines_a, lines_f, lines_g, lines_h, lines_i, lines_j, lines_k, lines_l, lines_m, lines_n, lines_o}
+use Rattle.jbig2_region.specs.Raster.{fresh_contexts}
+use Rattle.jbig2_region.specs.Refinement.{refinement_bits}
 use Rattle.jbig2_region.specs.RegionInfo.{PlacedRegion, placed}
 use Rattle.jbig2_base.specs.Search.{code_length}
-use Rattle.jbig2_text.specs.Refining.{Refining, fresh_refining}
+use Rattle.jbig2_text.specs.Refining.{Refining}
 use Rattle.jbig2_text.specs.Text.{Readings, TextParams, text_region}
 use Rattle.jbig2_text.specs.TextCoding.{Coded, Prefixed, TextTables, by_coder, by_prefix_codes, coded_start}
 use Rattle.jbig2_text.specs.TextHeader.{NumberCoding, TextHeader, ArithmeticCoding, HuffmanCoding}
 use Rattle.jbig2_text.specs.declared.text.header.TextRegionHuffmanFlags.{TextRegionHuffmanFlags}
 
 -- ---- tables (7.4.3.1.6)
--- the table that a number names among two, and 3 for a custom one
+-- the table that a number names among two of the standard, or 3 for the next custom one; and those left to take
 abbrev pub one_of_two : List Member → List Member → ℕ → List (List Member) → Result (List Member × List (List Member)) DecodeError
 one_of_two first second n customs =
-    if n == 0 then standard first customs
-    else if n == 1 then standard second customs
-    else if n == 3 then next_custom customs
-    else Err (Huffman InvalidSelection)
+    if n == 0 then standard first customs else if n == 1 then standard second customs
+    else if n == 3 then next_custom customs else Err (Huffman InvalidSelection)
 
 abbrev pub one_of_three : List Member → List Member → List Member → ℕ → List (List Member) → Result (List Member × List (List Member)) DecodeError
 one_of_three first second third n customs =
-    if n == 0 then standard first customs
-    else if n == 1 then standard second customs
-    else if n == 2 then standard third customs
-    else next_custom customs
-
-abbrev pub table_of_first_s : ℕ → List (List Member) → Result (List Member × List (List Member)) DecodeError
-table_of_first_s n customs = one_of_two (prefix_code lines_f) (prefix_code lines_g) n customs
-
-abbrev pub table_of_delta_s : ℕ → List (List Member) → Result (List Member × List (List Member)) DecodeError
-table_of_delta_s n customs = one_of_three (prefix_code lines_h) (prefix_code lines_i) (prefix_code lines_j) n customs
-
-abbrev pub table_of_delta_t : ℕ → List (List Member) → Result (List Member × List (List Member)) DecodeError
-table_of_delta_t n customs = one_of_three (prefix_code lines_k) (prefix_code lines_l) (prefix_code lines_m) n customs
-
-abbrev pub table_of_refinement : ℕ → List (List Member) → Result (List Member × List (List Member)) DecodeError
-table_of_refinement n customs = one_of_two (prefix_code lines_n) (prefix_code lines_o) n customs
-
-abbrev pub table_of_size : ℕ → List (List Member) → Result (List Member × List (List Member)) DecodeError
-table_of_size n customs = if n == 0 then standard (prefix_code lines_a) customs else next_custom customs
+    if n == 0 then standard first customs else if n == 1 then standard second customs
+    else if n == 2 then standard third customs else next_custom customs
 
 -- the tables of an aggregate symbol's instances (6.5.8.2, Table 17)
 abbrev pub aggregate_tables : TextTables
@@ -66,14 +49,14 @@ aggregate_tables = record {
 -- all tables, in the order of the flags' bits
 unfoldable pub text_tables : TextRegionHuffmanFlags → List (List Member) → Result TextTables DecodeError
 text_tables flags customs = do
-  first_s ← table_of_first_s flags.first_s_table customs
-  delta_s ← table_of_delta_s flags.delta_s_table first_s.1
-  delta_t ← table_of_delta_t flags.delta_t_table delta_s.1
-  width ← table_of_refinement flags.refinement_width_table delta_t.1
-  height ← table_of_refinement flags.refinement_height_table width.1
-  x ← table_of_refinement flags.refinement_x_table height.1
-  y ← table_of_refinement flags.refinement_y_table x.1
-  size ← table_of_size flags.refinement_size_table y.1
+  first_s ← one_of_two (prefix_code lines_f) (prefix_code lines_g) flags.first_s_table customs
+  delta_s ← one_of_three (prefix_code lines_h) (prefix_code lines_i) (prefix_code lines_j) flags.delta_s_table first_s.1
+  delta_t ← one_of_three (prefix_code lines_k) (prefix_code lines_l) (prefix_code lines_m) flags.delta_t_table delta_s.1
+  width ← one_of_two (prefix_code lines_n) (prefix_code lines_o) flags.refinement_width_table delta_t.1
+  height ← one_of_two (prefix_code lines_n) (prefix_code lines_o) flags.refinement_height_table width.1
+  x ← one_of_two (prefix_code lines_n) (prefix_code lines_o) flags.refinement_x_table height.1
+  y ← one_of_two (prefix_code lines_n) (prefix_code lines_o) flags.refinement_y_table x.1
+  size ← if flags.refinement_size_table == 0 then standard (prefix_code lines_a) y.1 else next_custom y.1
   Ok (
       record {
         first_s = first_s.0;
@@ -97,10 +80,14 @@ text_params h symbols = record {
   strict = h.strict;
 }
 
+-- by contexts that know nothing yet
 abbrev pub refining_of : TextHeader → Refining
-refining_of h = fresh_refining h.flags.refinement_template h.refinement_pixels
+refining_of h = record {
+  template = h.flags.refinement_template;
+  pixels = h.refinement_pixels;
+  contexts = fresh_contexts (refinement_bits h.flags.refinement_template);
+}
 
--- a region from these states on
 unfoldable pub region_from : {S : Type 0} → Readings S → TextHeader → List Grid → Grid → S → Result Grid DecodeError
 region_from r h symbols region s = text_region r (text_params h symbols) region (refining_of h) s >>= λ found. Ok found.0
 
@@ -108,23 +95,19 @@ region_from r h symbols region s = text_region r (text_params h symbols) region 
 abbrev pub coder_of : TextHeader → List Grid → Coded
 coder_of h symbols = coded_start h.bytes (code_length (length symbols))
 
--- the tables, the codes of the ids and the coded bytes
-abbrev pub prefixed_start : List ℕ → TextTables → List Member → Prefixed
-prefixed_start bytes tables ids = record { place = start_of bytes; tables = tables; ids = ids }
-
+-- the coded bytes, the tables and the codes of the ids
 abbrev pub prefix_codes_of : TextHeader → TextRegionHuffmanFlags → List Member → List (List Member) → Result Prefixed DecodeError
-prefix_codes_of h numbers ids customs = text_tables numbers customs >>= λ tables. Ok (prefixed_start h.bytes tables ids)
+prefix_codes_of h numbers ids customs =
+    text_tables numbers customs >>= λ tables. Ok (record { place = start_of h.bytes; tables = tables; ids = ids })
 
 abbrev pub region_by : TextHeader → NumberCoding → List Grid → List (List Member) → Grid → Result Grid DecodeError
 region_by h ArithmeticCoding symbols customs region = region_from by_coder h symbols region (coder_of h symbols)
 region_by h (HuffmanCoding numbers ids) symbols customs region =
     prefix_codes_of h numbers ids customs >>= λ s. region_from by_prefix_codes h symbols region s
 
--- The region of these symbols, with these custom tables.
 unfoldable pub text_answer : TextHeader → List Grid → List (List Member) → Result Grid DecodeError
 text_answer h symbols customs =
-    let region = blank h.region_info.width h.region_info.height h.flags.default_pixel in
-    region_by h h.coding symbols customs region
+    region_by h h.coding symbols customs (blank h.region_info.width h.region_info.height h.flags.default_pixel)
 
 -- A region and its place; a side above 65535 is refused (our own rule).
 unfoldable pub text_decoded : TextHeader → List Grid → List (List Member) → Result PlacedRegion DecodeError

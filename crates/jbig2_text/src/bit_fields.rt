@@ -1,7 +1,7 @@
 //! Numbers that are read by prefix codes.
 ghost use Rattle.std.specs.Prelude.{◌≡◌};
 ghost use Rattle.jbig2_base.specs.Answer.{Answers};
-ghost use Rattle.jbig2_text.specs.BitFields.{value_at};
+ghost use Rattle.jbig2_text.specs.SymbolCodes.{value_at};
 
 use jbig2_base::error::Result;
 use jbig2_base::reader::Reader;

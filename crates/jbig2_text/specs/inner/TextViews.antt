@@ -1,20 +1,25 @@
--- States of the code's readings, seen as states of the definitions.
+-- Values of the code, seen as values of the definitions.
 use Rattle.std.specs.Prelude.{List, ◌++◌, map}
 use Rattle.std.specs.Borrow.{Bor}
 use Rattle.jbig2_base.specs.Grid.{Grid}
 use Rattle.jbig2_text.specs.Refining.{Refining}
-use Rattle.jbig2_text.specs.Text.{Instance, Outline, Reached, TextParams as Params, reached}
+use Rattle.jbig2_text.specs.Text.{Instance, Reached, TextParams as Params}
 use Rattle.jbig2_text.specs.TextCoding.{Coded, Prefixed, TextTables}
+use Rattle.jbig2_text.specs.TextHeader.{text_pixels}
 use Rattle.jbig2_text.specs.declared.text.coded.CodedReadings.{CodedReadings}
+use Rattle.jbig2_text.specs.declared.text.header.TextFields.{TextFields}
 use Rattle.jbig2_text.specs.declared.text.instances.PlacedInstances.{PlacedInstances}
 use Rattle.jbig2_text.specs.declared.text.placement.Instance.{Instance as PlacedSymbol}
 use Rattle.jbig2_text.specs.declared.text.prefixed.PrefixedReadings.{PrefixedReadings}
-use Rattle.jbig2_text.specs.declared.text.refined.Outline.{Outline as RefinedOutline}
 use Rattle.jbig2_text.specs.declared.text.symbol_list.SymbolList.{SymbolList}
 use Rattle.jbig2_text.specs.declared.text.symbols.InstanceSymbol.{InstanceSymbol}
 use Rattle.jbig2_text.specs.declared.text.symbols.InstanceSymbol.TheVariants.{Shared, Refined}
 use Rattle.jbig2_text.specs.declared.text.symbols.TextParams.{TextParams}
 use Rattle.jbig2_text.specs.declared.text.tables.TextRegionHuffmanTables.{TextRegionHuffmanTables}
+
+-- the fields, with those of the code's two refinement pixels that the flags have
+abbrev pub fields_view : TextFields → TextFields
+fields_view f = record f { refinement_at_pixels = text_pixels f.flags f.refinement_at_pixels }
 
 abbrev pub coded_view : {A : Type 0} → CodedReadings A → Coded
 coded_view r = record { coder = r.decoder; procedures = r.procedures; ids = r.ids }
@@ -51,9 +56,6 @@ params_view p = record {
   strict = p.strict;
 }
 
-abbrev pub outline_view : RefinedOutline → Outline
-outline_view o = record { width = o.width; height = o.height; dx = o.dx; dy = o.dy }
-
 abbrev pub symbol_view : {B M : Type 0} → InstanceSymbol B M → Grid
 symbol_view (Shared bitmap) = bitmap.now
 symbol_view (Refined bitmap) = bitmap
@@ -66,4 +68,4 @@ instances_view instances = map (λ i. instance_view i) instances
 
 -- the instances so far, and the lent states
 abbrev pub reached_view : {B M S : Type 0} → PlacedInstances B M → Refining → S → Reached S
-reached_view placed f s = reached (instances_view placed.instances.items) placed.cursor f s
+reached_view placed f s = record { instances = instances_view placed.instances.items; cursor = placed.cursor; refining = f; state = s }

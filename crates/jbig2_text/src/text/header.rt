@@ -5,7 +5,9 @@ ghost use Rattle.jbig2_base.specs.Bits.{IsAligned};
 ghost use Rattle.jbig2_region.specs.Templates.{filled};
 ghost use Rattle.jbig2_text.specs.Causes.{TextHeadersHaveCauses};
 ghost use Rattle.jbig2_text.specs.declared.text.header.TextFields.{TextFields};
-ghost use Rattle.jbig2_text.specs.TextHeader.{coding_view, header_view, corner_of, signed_5, other_flags, text_flags_at, table_numbers, table_numbers_at, text_fields_at, coding_at, fields_view, text_pixels, text_pixels_at, text_header_at};
+ghost use Rattle.jbig2_text.specs.TextHeader.{coding_view, header_view, corner_of, signed_5, text_flags_at, table_numbers, table_numbers_at, text_fields_at, coding_at, text_pixels, text_header_at};
+ghost use Rattle.jbig2_text.specs.inner.Parts.{other_flags, text_pixels_at};
+ghost use Rattle.jbig2_text.specs.inner.TextViews.{fields_view};
 
 use crate::text::symbol_codes::parse_symbol_codes;
 use jbig2_base::bitmap::CombinationOperator;

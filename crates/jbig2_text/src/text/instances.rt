@@ -1,7 +1,8 @@
 //! The instances of a text region (T.88, 6.4.5).
 ghost use Rattle.std.specs.Prelude.{◌≡◌, ◌*◌, ◌≤◌, [], nat_lt, option_map, OnErr};
 ghost use Rattle.jbig2_base.specs.Answer.{Gives};
-ghost use Rattle.jbig2_text.specs.Text.{with_symbol, with_instance, with_next_instance, with_last, after_instances, some_strips, strips, text_instances, instances_drawn, text_region};
+ghost use Rattle.jbig2_text.specs.Text.{with_symbol, with_instance, after_instances, text_instances, instances_drawn, text_region};
+ghost use Rattle.jbig2_text.specs.inner.Parts.{some_strips, strips, with_last, with_next_instance};
 ghost use Rattle.jbig2_text.specs.inner.TextViews.{instances_view, params_view, reached_view, symbol_view};
 
 use crate::text::cursor::Cursor;

@@ -1,7 +1,8 @@
 //! Where the symbols of a text region lie (T.88, 6.4.5, step 3 c).
 ghost use Rattle.std.specs.Prelude.{◌≡◌, if◌then◌else◌};
 ghost use Rattle.jbig2_base.specs.Answer.{Answers};
-ghost use Rattle.jbig2_text.specs.Text.{is_right, is_bottom, is_last_along_s, grown, s_before, s_behind, edge, symbol_placed};
+ghost use Rattle.jbig2_text.specs.Text.{is_right, is_bottom, is_last_along_s, grown, edge, symbol_placed};
+ghost use Rattle.jbig2_text.specs.inner.Parts.{s_before, s_behind};
 ghost use Rattle.jbig2_text.specs.inner.TextViews.{instance_view, symbol_view};
 
 use crate::text::header::{ReferenceCorner, TextRegionFlags};

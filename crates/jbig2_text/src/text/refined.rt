@@ -3,8 +3,8 @@ ghost use Rattle.std.specs.Prelude.{◌≡◌, ◌≤◌, false, IfOk};
 ghost use Rattle.jbig2_base.specs.Answer.{Answers, Gives};
 ghost use Rattle.jbig2_base.specs.Grid.{blank};
 ghost use Rattle.jbig2_base.specs.Sizes.{blank_or_overflow};
-ghost use Rattle.jbig2_text.specs.Text.{Outline, refinement_deltas, refined_outline, refined_symbol};
-ghost use Rattle.jbig2_text.specs.inner.TextViews.{list_view, outline_view};
+ghost use Rattle.jbig2_text.specs.Text.{refinement_deltas, refined_outline, refined_symbol};
+ghost use Rattle.jbig2_text.specs.inner.TextViews.{list_view};
 
 use crate::text::numbers;
 use crate::text::readings::ReadInstances;
@@ -59,7 +59,7 @@ fn read_deltas<R: ReadInstances, L: Ledger>(
 /// The outline of a symbol that is refined from `from`.
 #[tactic(auto, unfolding(crate::specs::Text::refined_outline))]
 fn outline_of<B: Allocator>(from: &Bitmap<B>, deltas: &RefinementDeltas) -> Result<Outline>
-    ensures { Answers (λ o. outline_view o) result (refined_outline from.now deltas.now) }
+    ensures { Answers (λ o. o) result (refined_outline from.now deltas.now) }
 {
     let width = numbers::refined_side(from.width(), deltas.width)?;
     let height = numbers::refined_side(from.height(), deltas.height)?;

@@ -6,7 +6,8 @@ ghost use Rattle.jbig2_region.specs.Refinement.{refinement_bits};
 ghost use Rattle.jbig2_region.specs.RefinementTemplates.{two_pixels};
 ghost use Rattle.jbig2_region.specs.Templates.{filled};
 ghost use Rattle.jbig2_region.specs.inner.RefinementViews.{reference_view};
-ghost use Rattle.jbig2_text.specs.Refining.{fresh_refining, refined_with, refining_by, some_pixels};
+ghost use Rattle.jbig2_text.specs.Refining.{refined_with, some_pixels};
+ghost use Rattle.jbig2_text.specs.inner.Parts.{fresh_refining, refining_by};
 
 use jbig2_base::bitmap::Bitmap;
 use jbig2_base::bitmap::steps::Steps;

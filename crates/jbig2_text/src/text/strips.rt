@@ -1,7 +1,8 @@
 //! The strips of a text region (T.88, 6.4.5, steps 1 to 4).
 ghost use Rattle.std.specs.Prelude.{◌≡◌, ◌≤◌};
 ghost use Rattle.jbig2_base.specs.Answer.{Answers};
-ghost use Rattle.jbig2_text.specs.Text.{strip_delta, strip_begun, moved_by, cursor_moved, t_in_strip, end_of_strip};
+ghost use Rattle.jbig2_text.specs.Text.{strip_delta, strip_begun, moved_by, cursor_moved, t_in_strip};
+ghost use Rattle.jbig2_text.specs.inner.Parts.{end_of_strip};
 
 use crate::text::cursor::Cursor;
 use crate::text::header::TextRegionFlags;

@@ -3,9 +3,8 @@ ghost use Rattle.std.specs.Prelude.{◌≡◌, ◌≤◌, ◌^◌, ◌++◌, [],
 ghost use Rattle.jbig2_base.specs.Answer.{Gives};
 ghost use Rattle.jbig2_base.specs.Bits.{IsAligned};
 ghost use Rattle.jbig2_coder.specs.PrefixCode.{AreShort, table_of};
-ghost use Rattle.jbig2_text.specs.BitFields.{invalid_code};
 ghost use Rattle.jbig2_text.specs.Causes.{SymbolCodesHaveCauses};
-ghost use Rattle.jbig2_text.specs.SymbolCodes.{lines_from, short_lengths, repeated, run_at, next_runcode, runs_at, runcodes_at, symbol_lengths_at, symbol_codes_at, symbol_codes_from};
+ghost use Rattle.jbig2_text.specs.SymbolCodes.{invalid_code, lines_from, short_lengths, repeated, run_at, next_runcode, runs_at, runcodes_at, symbol_lengths_at, symbol_codes_at, symbol_codes_from};
 
 use crate::bit_fields::value_field;
 use jbig2_base::error::{DecodeError, HuffmanError, Result};

@@ -1,7 +1,8 @@
 //! The symbols of a text region's instances (T.88, 6.4.10 and 6.4.11).
 ghost use Rattle.std.specs.Prelude.{◌≡◌, option_map};
 ghost use Rattle.jbig2_base.specs.Answer.{Answers, Gives};
-ghost use Rattle.jbig2_text.specs.Text.{instance_symbol, plain_symbol, refinement_flag, symbol_of};
+ghost use Rattle.jbig2_text.specs.Text.{instance_symbol, plain_symbol, symbol_of};
+ghost use Rattle.jbig2_text.specs.inner.Parts.{refinement_flag};
 ghost use Rattle.jbig2_text.specs.inner.TextViews.{list_view, params_view, symbol_view};
 
 use crate::text::header::TextRegionFlags;

@@ -3,7 +3,8 @@ ghost use Rattle.std.specs.Prelude.{◌≡◌};
 ghost use Rattle.jbig2_base.specs.Answer.{Answers};
 ghost use Rattle.jbig2_coder.specs.inner.TableViews.{customs_view};
 ghost use Rattle.jbig2_text.specs.CausesOfRegions.{TextTablesHaveCauses};
-ghost use Rattle.jbig2_text.specs.TextRegion.{aggregate_tables, one_of_two, one_of_three, table_of_refinement, table_of_size, text_tables};
+ghost use Rattle.jbig2_text.specs.TextRegion.{aggregate_tables, one_of_two, one_of_three, text_tables};
+ghost use Rattle.jbig2_text.specs.inner.Parts.{table_of_refinement, table_of_size};
 ghost use Rattle.jbig2_text.specs.inner.TextViews.{tables_view};
 
 use crate::text::header::TextRegionHuffmanFlags;

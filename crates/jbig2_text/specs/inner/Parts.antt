@@ -1,0 +1,105 @@
+-- Parts of the definitions, under names of their own: what some private functions give.
+use Rattle.std.specs.Prelude.{ℕ, ◌-◌, ◌/◌, ◌%◌, ◌==◌, Bool, false, if◌then◌else◌, ℤ, pos, ◌-ℤ◌, List, [], Option, Some, None, Result, Ok}
+use Rattle.std.specs.Int.{w16}
+use Rattle.std.specs.Option.{is_some}
+use Rattle.jbig2_base.specs.Answer.{◌>>=◌, refuse_if}
+use Rattle.jbig2_base.specs.Fields.{number_at}
+use Rattle.jbig2_base.specs.Grid.{Grid}
+use Rattle.jbig2_base.specs.declared.bitmap.operator.CombinationOperator.{CombinationOperator}
+use Rattle.jbig2_base.specs.declared.error.DecodeError.{DecodeError}
+use Rattle.jbig2_base.specs.declared.error.DecodeError.TheVariants.{Symbol}
+use Rattle.jbig2_base.specs.declared.error.SymbolError.TheVariants.{TooManyInstances}
+use Rattle.jbig2_coder.specs.Coder.{Context}
+use Rattle.jbig2_coder.specs.PrefixCode.{Member, prefix_code}
+use Rattle.jbig2_coder.specs.TableSelection.{next_custom, standard}
+use Rattle.jbig2_coder.specs.Tables.{lines_a, lines_n, lines_o}
+use Rattle.jbig2_region.specs.Raster.{fresh_contexts}
+use Rattle.jbig2_region.specs.Refinement.{refinement_bits}
+use Rattle.jbig2_region.specs.RefinementHeader.{refinement_pixels_at, refinement_template_of}
+use Rattle.jbig2_region.specs.declared.template.AdaptiveTemplatePixel.{AdaptiveTemplatePixel}
+use Rattle.jbig2_region.specs.declared.template.RefinementTemplate.{RefinementTemplate}
+use Rattle.jbig2_text.specs.Refining.{Refining}
+use Rattle.jbig2_text.specs.Text.{Found, Instance, Reached, Readings, TextParams, after_instances, cursor_moved, grown, is_last_along_s, strip_begun, with_instance}
+use Rattle.jbig2_text.specs.TextHeader.{corner_of, signed_5}
+use Rattle.jbig2_text.specs.TextRegion.{one_of_two}
+use Rattle.jbig2_text.specs.declared.text.cursor.Cursor.{Cursor}
+use Rattle.jbig2_text.specs.declared.text.header.TextRegionFlags.{TextRegionFlags}
+use Rattle.jbig2_text.specs.declared.text.header.TextRegionHuffmanFlags.{TextRegionHuffmanFlags}
+
+-- ---- the header
+-- the bits of the flags behind SBHUFF
+abbrev pub other_flags : ℕ → CombinationOperator → TextRegionFlags
+other_flags flags operator = record {
+  use_refinement = flags / 2 % 2 == 1;
+  log_strip_size = flags / 4 % 4;
+  reference_corner = corner_of (flags / 16 % 4);
+  transposed = flags / 64 % 2 == 1;
+  combination_operator = operator;
+  default_pixel = flags / 512 % 2 == 1;
+  delta_s_offset = signed_5 (flags / 1024 % 32);
+  refinement_template = refinement_template_of (flags / 32768);
+}
+
+abbrev pub text_pixels_at : Bool → RefinementTemplate → List ℕ → Result (List AdaptiveTemplatePixel × List ℕ) DecodeError
+text_pixels_at refined template bytes = if refined then refinement_pixels_at template bytes else Ok ([], bytes)
+
+abbrev pub table_of_refinement : ℕ → List (List Member) → Result (List Member × List (List Member)) DecodeError
+table_of_refinement n customs = one_of_two (prefix_code lines_n) (prefix_code lines_o) n customs
+
+abbrev pub table_of_size : ℕ → List (List Member) → Result (List Member × List (List Member)) DecodeError
+table_of_size n customs = if n == 0 then standard (prefix_code lines_a) customs else next_custom customs
+
+-- ---- refinement
+-- R_I
+abbrev pub refinement_flag : {S : Type 0} → Readings S → TextRegionFlags → S → Result (Bool × S) DecodeError
+refinement_flag r flags s = if flags.use_refinement then r.is_refined s else Ok (false, s)
+
+abbrev pub refining_by : RefinementTemplate → List AdaptiveTemplatePixel → List Context → Refining
+refining_by template pixels contexts = record { template = template; pixels = pixels; contexts = contexts }
+
+abbrev pub fresh_refining : RefinementTemplate → List AdaptiveTemplatePixel → Refining
+fresh_refining template pixels = refining_by template pixels (fresh_contexts (refinement_bits template))
+
+-- ---- places
+-- the last pixel of a side lies so far behind its first
+abbrev pub behind_first : ℕ → ℤ
+behind_first side = pos side -ℤ pos 1
+
+-- CURS where a symbol is placed, and behind it
+abbrev pub s_before : TextRegionFlags → Grid → ℤ → Result ℤ DecodeError
+s_before flags g curs = if is_last_along_s flags then grown flags g curs else Ok curs
+
+abbrev pub s_behind : TextRegionFlags → Grid → ℤ → Result ℤ DecodeError
+s_behind flags g curs = if is_last_along_s flags then Ok curs else grown flags g curs
+
+-- ---- instances
+abbrev pub reached : {S : Type 0} → List Instance → Cursor → Refining → S → Reached S
+reached found c f s = record { instances = found; cursor = c; refining = f; state = s }
+
+-- one more, and where the one behind it stands
+abbrev pub with_next_instance : {S : Type 0} → Readings S → TextParams → Reached S → Result (Reached S) DecodeError
+with_next_instance r p x = do
+  y ← with_instance r p x
+  c ← cursor_moved r p.flags y.cursor y.state
+  Ok (reached y.instances c.0 y.refining c.1)
+
+-- a strip may end with this IDS
+abbrev pub end_of_strip : Bool → Result (Option ℤ) DecodeError → Result (Unit {0}) DecodeError
+end_of_strip strict ids = if strict then (ids >>= λ o. refuse_if (is_some o) (Symbol TooManyInstances)) else Ok tt
+
+-- the last instance, and the IDS behind it
+abbrev pub with_last : {S : Type 0} → Readings S → TextParams → Reached S → Result (Found S) DecodeError
+with_last r p x = do
+  last ← with_instance r p x
+  ends ← end_of_strip p.strict (r.delta_s last.state)
+  Ok (last.instances, last.refining, r.behind_delta_s last.state)
+
+-- all strips behind this STRIPT, where there are some; and where there may be none
+abbrev pub some_strips : {S : Type 0} → Readings S → TextParams → ℤ → Refining → S → Result (Found S) DecodeError
+some_strips r p stript f s = do
+  c ← strip_begun r p.flags stript (pos 0) s
+  x ← after_instances r p (p.count - 1) (reached [] c.0 f c.1)
+  with_last r p x
+
+abbrev pub strips : {S : Type 0} → Readings S → TextParams → ℤ → Refining → S → Result (Found S) DecodeError
+strips r p stript f s = if p.count == 0 then Ok ([], f, s) else some_strips r p stript f s
