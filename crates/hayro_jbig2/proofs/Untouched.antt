@@ -8,10 +8,8 @@ use Rattle.jbig2_base.specs.declared.error.DecodeError.{DecodeError}
 use Rattle.jbig2_base.specs.declared.segment.SegmentType.{SegmentType}
 use Rattle.jbig2_base.specs.declared.segment.SegmentType.TheVariants as types
 use Rattle.jbig2_region.specs.Generic.{PlacedRegion}
-use Rattle.hayro_jbig2.specs.Dictionaries.{extension, with_code, with_patterns, with_symbols}
-use Rattle.hayro_jbig2.specs.Names.{Names}
-use Rattle.hayro_jbig2.specs.Untouched.{UntouchedIsBlank}
-use Rattle.hayro_jbig2.specs.Page.{Drawing, segments_drawn, ends_page, immediate, intermediate, keeping, page_begun, region_at, segment_on, shown, with_region}
+use Rattle.hayro_jbig2.specs.Names.{extension, with_code, with_patterns, with_symbols, Names}
+use Rattle.hayro_jbig2.specs.Page.{UntouchedIsBlank, Drawing, segments_drawn, ends_page, immediate, intermediate, keeping, page_begun, region_at, segment_on, shown, with_region}
 use Rattle.hayro_jbig2.specs.declared.region.RegionKind.{RegionKind}
 use Rattle.hayro_jbig2.specs.declared.region.RegionKind.TheVariants as kinds
 
