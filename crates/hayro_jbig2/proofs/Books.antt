@@ -143,6 +143,9 @@ mapped : {X Y : Type 0} (f : X → Y) (o : Option X) (y : Y) → option_map f o 
 mapped f None y h = absurd (cc)
 mapped f (Some x) y h = record { from = x; was = refl; is = cc }
 
+abbrev page_from : Bool → List SegmentView → List SegmentView → Result ReadPage DecodeError
+page_from strict own shared = initial_page_of own >>= λ begun. Ok (record { strict = strict; initial_page = begun; segments = own; globals = named_from strict shared no_names })
+
 own-leaf : (strict : Bool) (ps : List SegmentView) (book : ReadFile) (page : PageInFile) → Filled strict ps book → IsOwn ps page → page_from strict (of_page page.initial_page.number ps) (of_page 0 ps) ≡ Ok (page_in book page)
 own-leaf strict ps book page filled own =
     let ending : InitialPage → Result ReadPage DecodeError = λ initial_page. Ok (record { strict = strict; initial_page = initial_page; segments = of_page page.initial_page.number ps; globals = named_from strict (of_page 0 ps) no_names }) in

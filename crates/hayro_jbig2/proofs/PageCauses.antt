@@ -14,7 +14,7 @@ use Rattle.jbig2_base.proofs.Causes.{cause-next}
 use Rattle.jbig2_region.specs.Generic.{PlacedRegion}
 use Rattle.jbig2_region.proofs.Told.{cause-if}
 use Rattle.jbig2_symbol.proofs.ReadingCauses.{cause-by, in-steps, own-error}
-use Rattle.hayro_jbig2.specs.Causes.{BreaksBeginning, BreaksDrawing, BreaksExtension, BreaksImmediate, BreaksKept, BreaksNames, BreaksRegion, BreaksSegmentOn, EmbeddedPagesHaveCauses, FileGlobalsHaveCauses, GlobalsHaveCauses, PagesHaveCauses}
+use Rattle.hayro_jbig2.specs.Causes.{BreaksBeginning, BreaksDrawing, BreaksExtension, BreaksKept, BreaksNames, BreaksRegion, BreaksSegmentOn, EmbeddedPagesHaveCauses, FileGlobalsHaveCauses, GlobalsHaveCauses, PagesHaveCauses}
 use Rattle.hayro_jbig2.specs.Names.{Names, code_at, extension, kept_by, no_names, pattern_dictionary_at, symbol_dictionary_at, with_code, with_patterns, with_symbols}
 use Rattle.hayro_jbig2.specs.Globals.{globals_at, named_from}
 use Rattle.hayro_jbig2.specs.Page.{Drawing, embedded, ends_page, grid_of_page, immediate, intermediate, keeping, page_begun, region_at, segment_on, segments_drawn, shown}
@@ -23,7 +23,7 @@ use Rattle.hayro_jbig2.specs.declared.region.RegionKind.{RegionKind}
 use Rattle.hayro_jbig2.specs.declared.region.RegionKind.TheVariants as kinds
 use Rattle.hayro_jbig2.proofs.Causes.{beginning_causes}
 use Rattle.hayro_jbig2.proofs.SegmentCauses.{extension_causes, halftone_causes, refinement_causes, symbol_dictionary_causes, text_causes}
-use Rattle.hayro_jbig2.proofs.SegmentTypes.{of_type, of-segment}
+use Rattle.hayro_jbig2.proofs.SegmentTypes.{BreaksImmediate, of_type, of-segment}
 
 -- ---- what is kept
 symbols-cause : (P : DecodeError → Type 0) (strict : Bool) (shared : Names) (p : SegmentView) (own : Names) → IfErr (symbol_dictionary_at strict own shared p) P → IfErr (with_symbols strict shared p own) P

@@ -1,10 +1,11 @@
 -- What a segment of a page gives, and what it is refused for, by its type.
 use Rattle.std.proofs.Common.{ℕ, Bool, true, List, Result, Ok}
+use Rattle.std.specs.Prelude.{IsTrue}
 use Rattle.jbig2_base.specs.Segment.{Header, SegmentView}
 use Rattle.jbig2_base.specs.declared.error.DecodeError.{DecodeError}
 use Rattle.jbig2_base.specs.declared.segment.SegmentType.{SegmentType}
 use Rattle.jbig2_base.specs.declared.segment.SegmentType.TheVariants as types
-use Rattle.hayro_jbig2.specs.Causes.{BreaksImmediate, BreaksKept, BreaksRegion, BreaksSegmentOn}
+use Rattle.hayro_jbig2.specs.Causes.{BreaksKept, BreaksRegion, BreaksSegmentOn}
 use Rattle.hayro_jbig2.specs.Names.{Names, kept_by}
 use Rattle.hayro_jbig2.specs.Page.{Drawing, immediate, intermediate, keeping, segment_on}
 use Rattle.hayro_jbig2.specs.declared.region.RegionKind.{RegionKind}
@@ -13,6 +14,10 @@ use Rattle.hayro_jbig2.specs.declared.region.RegionKind.TheVariants as kinds
 -- one with this header but for its type
 abbrev pub of_type : SegmentType → Header → List ℕ → SegmentView
 of_type kind h bytes = record { header = record h { segment_type = kind }; bytes = bytes }
+
+-- an immediate region is refused in strict mode alone
+abbrev pub BreaksImmediate : Bool → Names → RegionKind → SegmentView → Drawing → DecodeError → Type 0
+BreaksImmediate strict globals kind p d e = IsTrue strict × BreaksRegion strict globals kind false p d e
 
 -- P of what is drawn or kept, and of what it is refused for, whatever the segment is
 pub record OfEach (P : Result Drawing DecodeError → (DecodeError → Type 0) → Type 0) (strict : Bool) (globals : Names) (d : Drawing) : Type 0 where

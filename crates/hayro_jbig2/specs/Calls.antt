@@ -38,7 +38,6 @@ unfoldable pub whole_calls : ℕ → List Bool → List Call
 whole_calls zero bits = singles bits
 whole_calls (suc n) bits = with_byte (take 8 bits) (whole_calls n (drop 8 bits))
 
--- the pixels of row y
 unfoldable pub row_of : Grid → ℕ → List Bool
 row_of g y = map (λ x. pixel_at g x y) (range_with_len 0 g.width)
 
@@ -46,7 +45,6 @@ row_of g y = map (λ x. pixel_at g x y) (range_with_len 0 g.width)
 abbrev pub line_calls : Grid → ℕ → List Call
 line_calls g y = whole_calls (length (row_of g y) / 8) (row_of g y) ++ Line ∷ []
 
--- All rows from the top.
 unfoldable pub calls_of : Grid → List Call
 calls_of g = flat_map (line_calls g) (range_with_len 0 g.height)
 
@@ -77,7 +75,6 @@ pub record Conduct (S : Type 0) : Type 1 where
   pub refuses : Picture → Call → DecodeError → Type 0
   pub refusals : S → ℕ
 
--- one more refusal can be counted
 abbrev pub IsCountable : {S : Type 0} → Conduct S → S → Type 0
 IsCountable d s = d.refusals s < 2 ^ 64 - 1
 

@@ -1,10 +1,10 @@
 -- Which rule is broken where a file, a page or one of its segments is refused (docs/FORMAT.md, 1, 4 and 8), a line for
 -- each error. Errors of steps that lower crates define stand here as the step's own (`IsOf`): the laws there say more.
-use Rattle.std.specs.Prelude.{◌≡◌, ◌≢◌, ◌⊎◌, ◌<◌, ◌≤◌, ℕ, suc, ◌+◌, Bool, true, false, IsTrue, IsFalse, List, [], ◌∷◌, ◌++◌, length, take, slice_get, Any, Some, option_and_then, unwrap_or, Result, Ok, IfErr}
-use Rattle.std.specs.List.{AllByRecursion}
+use Rattle.std.specs.Prelude.{◌≡◌, ◌≢◌, ◌⊎◌, ◌<◌, ◌≤◌, ℕ, suc, ◌+◌, Bool, true, false, IsTrue, IsFalse, List, [], ◌∷◌, length, take, slice_get, Any, Option, Some, None, MatchOption, option_and_then, unwrap_or, Result, Ok, IfErr}
+use Rattle.std.specs.List.{AllByRecursion, flat_map}
 use Rattle.std.specs.Int.{w32}
 use Rattle.std.specs.Option.{option_map_or}
-use Rattle.jbig2_base.specs.Answer.{◌>>=◌, some_or}
+use Rattle.jbig2_base.specs.Answer.{◌>>=◌}
 use Rattle.jbig2_base.specs.Causes.{InSteps, IsOf, number_in}
 use Rattle.jbig2_base.specs.File.{file_at}
 use Rattle.jbig2_base.specs.Grid.{Grid}
@@ -33,7 +33,7 @@ use Rattle.hayro_jbig2.specs.Files.{book_at, by_pages, ends_of, needs_page}
 use Rattle.hayro_jbig2.specs.Globals.{globals_at, named_from}
 use Rattle.hayro_jbig2.specs.Image.{first_page}
 use Rattle.hayro_jbig2.specs.Names.{Names, Referred, code_at, extension, first_named, named, no_names, pattern_dictionary_at, referred_by, symbol_dictionary_at}
-use Rattle.hayro_jbig2.specs.Page.{Drawing, ReadPage, embedded, ends_page, grid_of_page, page_begun, segments_drawn}
+use Rattle.hayro_jbig2.specs.Page.{Drawing, ReadPage, embedded, ends_page, grid_of_page, page_begun, region_type, segments_drawn}
 use Rattle.hayro_jbig2.specs.Regions.{generic_at, halftone_at, page_area, patterns_for, refinement_at, text_at}
 use Rattle.hayro_jbig2.specs.declared.kept.Kept.{Kept}
 use Rattle.hayro_jbig2.specs.declared.region.RegionKind.{RegionKind}
@@ -65,22 +65,12 @@ FirstPagesHaveCauses = (bytes : List ℕ) → IfErr (first_page bytes) (λ e.
     InSteps (book_at false bytes) (BreaksBook false bytes e) (λ book. (e ≡ Format MissingPageInfo) × (book.pages ≡ [])))
 
 -- ---- what a segment refers to (7.3.1)
--- nothing is kept under this number
-abbrev pub NamesNone : {V : Type 0} → ℕ → List (Kept V) → Type 0
-NamesNone number kept = AllByRecursion (λ k. k.segment_number ≢ number) kept
-
--- how many symbols the dictionaries of these numbers have together
-abbrev pub symbols_under : Names → Names → List ℕ → ℕ
-symbols_under own shared [] = 0
-symbols_under own shared (number ∷ numbers) =
-    option_map_or (λ s. length s.exported) (named number own.symbols shared.symbols) 0 + symbols_under own shared numbers
-
--- Too many symbols, or a number of neither a symbol dictionary nor a custom table.
+-- Too many symbols together, or a number of neither a symbol dictionary nor a custom table.
 abbrev pub BreaksReferred : Bool → Names → Names → List ℕ → DecodeError → Type 0
-BreaksReferred strict own shared numbers (Overflow SymbolCount) = 1048576 < symbols_under own shared numbers
+BreaksReferred strict own shared numbers (Overflow SymbolCount) =
+    1048576 < length (flat_map (λ n. option_map_or (λ s. s.exported) (named n own.symbols shared.symbols) []) numbers)
 BreaksReferred strict own shared numbers (Segment InvalidReference) =
-    IsTrue strict
-    × Any (λ n. NamesNone n (own.symbols ++ shared.symbols) × NamesNone n (own.codes ++ shared.codes)) numbers
+    IsTrue strict × Any (λ n. (named n own.symbols shared.symbols ≡ None) × (named n own.codes shared.codes ≡ None)) numbers
 BreaksReferred strict own shared numbers _ = ⊥
 
 abbrev pub ReferredHasCauses : Type 0
@@ -117,29 +107,22 @@ BreaksText strict own shared p = BreaksBehind strict own shared p (λ referred.
 abbrev pub TextsHaveCauses : Type 0
 TextsHaveCauses = (strict : Bool) (own shared : Names) (p : SegmentView) → IfErr (text_at strict own shared p) (BreaksText strict own shared p)
 
--- the first of these numbers names nothing that is kept; of no number it holds as `without` does
-abbrev pub LacksFirst : {V : Type 0} → Type 0 → List ℕ → List (Kept V) → Type 0
-LacksFirst without [] kept = without
-LacksFirst without (number ∷ others) kept = NamesNone number kept
-
 -- A halftone region's first number names no pattern dictionary, or there is none; or the steps behind that refuse.
 abbrev pub BreaksHalftoneSegment : Bool → Names → Names → SegmentView → DecodeError → Type 0
 BreaksHalftoneSegment strict own shared p e =
-    let numbers = p.header.referred_to_segments in
-    InSteps (some_or (Segment MissingPatternDictionary) (patterns_for own shared numbers))
-    ((e ≡ Segment MissingPatternDictionary) × LacksFirst (Unit {0}) numbers (own.patterns ++ shared.patterns))
+    MatchOption (patterns_for own shared p.header.referred_to_segments) (e ≡ Segment MissingPatternDictionary)
     (λ patterns. IsOf (halftone_header_at strict p.bytes >>= λ header. halftone_decoded header.0 patterns) e)
 
 abbrev pub HalftoneSegmentsHaveCauses : Type 0
 HalftoneSegmentsHaveCauses = (strict : Bool) (own shared : Names) (p : SegmentView) → IfErr (halftone_at strict own shared p) (BreaksHalftoneSegment strict own shared p)
 
--- A refinement's first number names no region that is kept, or an intermediate one refers to nothing; or, of the region
--- that is named or else of the page's area, the steps behind that refuse.
+-- A refinement's first number names no region that is kept, or an intermediate one refers to nothing; or the steps behind
+-- that refuse the region that is named, or else the page's area.
 abbrev pub BreaksRefinement : Bool → Bool → Grid → List (Kept PlacedRegion) → SegmentView → DecodeError → Type 0
 BreaksRefinement strict is_intermediate page regions p e =
     let numbers = p.header.referred_to_segments in
     let reference = option_and_then (λ number. first_named number regions) (slice_get numbers 0) in
-    ((e ≡ Segment InvalidReference) × IsTrue strict × LacksFirst (IsTrue is_intermediate) numbers regions)
+    ((e ≡ Segment InvalidReference) × IsTrue strict × (reference ≡ None) × (IsTrue is_intermediate ⊎ (numbers ≢ [])))
     ⊎ IsOf (refinement_header_at p.bytes >>= λ header. refined_decoded header.0 (unwrap_or reference (page_area page header.0.region_info))) e
 
 abbrev pub RefinementsHaveCauses : Type 0
@@ -176,28 +159,14 @@ BreaksRegion strict globals kinds.Halftone is_intermediate p d e = BreaksHalfton
 BreaksRegion strict globals kinds.Generic is_intermediate p d e = IsOf (generic_at strict is_intermediate p) e
 BreaksRegion strict globals kinds.GenericRefinement is_intermediate p d e = BreaksRefinement strict is_intermediate d.grid d.regions p e
 
--- An immediate region is refused in strict mode alone.
-abbrev pub BreaksImmediate : Bool → Names → RegionKind → SegmentView → Drawing → DecodeError → Type 0
-BreaksImmediate strict globals kind p d e = IsTrue strict × BreaksRegion strict globals kind false p d e
-
--- One segment of a page on what those before it drew and kept.
+-- One segment of a page on what those before it drew and kept. An immediate region is refused in strict mode alone.
 abbrev pub BreaksSegmentOn : Bool → Names → SegmentView → Drawing → DecodeError → Type 0
-BreaksSegmentOn strict globals p d e = on p.header.segment_type
+BreaksSegmentOn strict globals p d e = on (region_type p.header.segment_type)
   where
-    on : SegmentType → Type 0
-    on types.IntermediateTextRegion = BreaksRegion strict globals kinds.Text true p d e
-    on types.ImmediateTextRegion = BreaksImmediate strict globals kinds.Text p d e
-    on types.ImmediateLosslessTextRegion = BreaksImmediate strict globals kinds.Text p d e
-    on types.IntermediateHalftoneRegion = BreaksRegion strict globals kinds.Halftone true p d e
-    on types.ImmediateHalftoneRegion = BreaksImmediate strict globals kinds.Halftone p d e
-    on types.ImmediateLosslessHalftoneRegion = BreaksImmediate strict globals kinds.Halftone p d e
-    on types.IntermediateGenericRegion = BreaksRegion strict globals kinds.Generic true p d e
-    on types.ImmediateGenericRegion = BreaksImmediate strict globals kinds.Generic p d e
-    on types.ImmediateLosslessGenericRegion = BreaksImmediate strict globals kinds.Generic p d e
-    on types.IntermediateGenericRefinementRegion = BreaksRegion strict globals kinds.GenericRefinement true p d e
-    on types.ImmediateGenericRefinementRegion = BreaksImmediate strict globals kinds.GenericRefinement p d e
-    on types.ImmediateLosslessGenericRefinementRegion = BreaksImmediate strict globals kinds.GenericRefinement p d e
-    on _ = BreaksKept strict d.names globals p e
+    on : Option (RegionKind × Bool) → Type 0
+    on (Some (kind, true)) = BreaksRegion strict globals kind true p d e
+    on (Some (kind, false)) = IsTrue strict × BreaksRegion strict globals kind false p d e
+    on None = BreaksKept strict d.names globals p e
 
 -- The segment at place k breaks a rule, those before it drew this, and neither it nor one of those ends the page.
 abbrev pub BreaksDrawing : Bool → Names → List SegmentView → Drawing → DecodeError → Type 0

@@ -15,7 +15,6 @@ use Rattle.hayro_jbig2.specs.Page.{ReadPage, grid_of_page}
 use Rattle.hayro_jbig2.specs.declared.jbig2_error.Jbig2Error.{Jbig2Error}
 use Rattle.hayro_jbig2.specs.declared.jbig2_error.Jbig2Error.TheVariants.{Io, Decode}
 
--- black is 0, and white is 255
 abbrev pub shade : Bool → ℕ
 shade black = if black then 0 else 255
 
@@ -51,7 +50,6 @@ packed_of_page page = grid_of_page page >>= λ g. Ok (packed_of page.initial_pag
 unfoldable pub first_page : List ℕ → Result ReadPage DecodeError
 first_page bytes = book_at false bytes >>= λ book. some_or (Format MissingPageInfo) (page_of book 0)
 
--- its width and its height
 abbrev pub first_size : List ℕ → Result (ℕ × ℕ) DecodeError
 first_size bytes = first_page bytes >>= λ page. Ok (page.initial_page.width, page.initial_page.height)
 

@@ -68,7 +68,6 @@ with_number strict own shared number r =
     option_map_or (λ s. with_dictionary s r) (named number own.symbols shared.symbols)
     (with_table strict (named number own.codes shared.codes) r)
 
--- the numbers in turn
 abbrev pub with_numbers : Bool → Names → Names → List ℕ → Referred → Result Referred DecodeError
 with_numbers strict own shared [] r = Ok r
 with_numbers strict own shared (number ∷ numbers) r = with_number strict own shared number r >>= λ more. with_numbers strict own shared numbers more

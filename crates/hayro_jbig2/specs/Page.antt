@@ -1,6 +1,6 @@
 -- What a page shows (T.88, 8): the fold of its segments over what was drawn so far. Each segment is drawn onto the page,
 -- kept for later ones, or changes nothing, by its type (7.3).
-use Rattle.std.specs.Prelude.{◌≡◌, ℕ, Bool, true, false, not, List, [], ◌∷◌, Result, Ok, Err, IsTrue, if◌then◌else◌}
+use Rattle.std.specs.Prelude.{◌≡◌, ℕ, Bool, true, false, not, List, [], ◌∷◌, Option, Some, None, Result, Ok, Err, IsTrue, if◌then◌else◌}
 use Rattle.std.specs.Int.{w32, cast_signed}
 use Rattle.jbig2_base.specs.Answer.{◌>>=◌}
 use Rattle.jbig2_base.specs.Combination.{combined}
@@ -35,6 +35,22 @@ pub record Drawing : Type 0 where
   pub names : Names
   pub untouched : Bool
 
+-- The types that are regions (7.3): of which kind, and whether it is an intermediate one.
+abbrev pub region_type : SegmentType → Option (RegionKind × Bool)
+region_type types.IntermediateTextRegion = Some (kinds.Text, true)
+region_type types.ImmediateTextRegion = Some (kinds.Text, false)
+region_type types.ImmediateLosslessTextRegion = Some (kinds.Text, false)
+region_type types.IntermediateHalftoneRegion = Some (kinds.Halftone, true)
+region_type types.ImmediateHalftoneRegion = Some (kinds.Halftone, false)
+region_type types.ImmediateLosslessHalftoneRegion = Some (kinds.Halftone, false)
+region_type types.IntermediateGenericRegion = Some (kinds.Generic, true)
+region_type types.ImmediateGenericRegion = Some (kinds.Generic, false)
+region_type types.ImmediateLosslessGenericRegion = Some (kinds.Generic, false)
+region_type types.IntermediateGenericRefinementRegion = Some (kinds.GenericRefinement, true)
+region_type types.ImmediateGenericRefinementRegion = Some (kinds.GenericRefinement, false)
+region_type types.ImmediateLosslessGenericRefinementRegion = Some (kinds.GenericRefinement, false)
+region_type _ = None
+
 abbrev pub ends_page : SegmentType → Bool
 ends_page types.EndOfPage = true
 ends_page types.EndOfFile = true
@@ -67,25 +83,15 @@ intermediate strict globals kind p d =
 abbrev pub keeping : Drawing → Result Names DecodeError → Result Drawing DecodeError
 keeping d kept = kept >>= λ names. Ok (record d { names = names })
 
--- One segment, a region or one that draws nothing. Page information after the beginning, stripes, profiles, palettes,
--- types without a meaning, and an end by itself change nothing.
+-- One segment. Page information after the beginning, stripes, profiles, palettes, types without a meaning, and an end by
+-- itself change nothing.
 abbrev pub segment_on : Bool → Names → SegmentView → Drawing → Result Drawing DecodeError
-segment_on strict globals p d = on p.header.segment_type
+segment_on strict globals p d = on (region_type p.header.segment_type)
   where
-    on : SegmentType → Result Drawing DecodeError
-    on types.IntermediateTextRegion = intermediate strict globals kinds.Text p d
-    on types.ImmediateTextRegion = immediate strict globals kinds.Text p d
-    on types.ImmediateLosslessTextRegion = immediate strict globals kinds.Text p d
-    on types.IntermediateHalftoneRegion = intermediate strict globals kinds.Halftone p d
-    on types.ImmediateHalftoneRegion = immediate strict globals kinds.Halftone p d
-    on types.ImmediateLosslessHalftoneRegion = immediate strict globals kinds.Halftone p d
-    on types.IntermediateGenericRegion = intermediate strict globals kinds.Generic p d
-    on types.ImmediateGenericRegion = immediate strict globals kinds.Generic p d
-    on types.ImmediateLosslessGenericRegion = immediate strict globals kinds.Generic p d
-    on types.IntermediateGenericRefinementRegion = intermediate strict globals kinds.GenericRefinement p d
-    on types.ImmediateGenericRefinementRegion = immediate strict globals kinds.GenericRefinement p d
-    on types.ImmediateLosslessGenericRefinementRegion = immediate strict globals kinds.GenericRefinement p d
-    on _ = keeping d (kept_by strict globals p d.names)
+    on : Option (RegionKind × Bool) → Result Drawing DecodeError
+    on (Some (kind, true)) = intermediate strict globals kind p d
+    on (Some (kind, false)) = immediate strict globals kind p d
+    on None = keeping d (kept_by strict globals p d.names)
 
 -- The segments in order, up to an end of page or an end of file.
 abbrev pub segments_drawn : Bool → Names → List SegmentView → Drawing → Result Drawing DecodeError

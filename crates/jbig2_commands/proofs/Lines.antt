@@ -8,8 +8,8 @@ use Rattle.jbig2_base.specs.Grid.{Grid}
 use Rattle.jbig2_base.specs.declared.error.DecodeError.{DecodeError}
 use Rattle.jbig2_base.specs.declared.error.DecodeError.TheVariants.{Unsupported}
 use Rattle.hayro_jbig2.specs.Calls.{Call, calls_of, Conduct, Decodes, after_calls}
-use Rattle.jbig2_commands.specs.Printing.{known_if, refusals_if}
-use Rattle.jbig2_commands.specs.Printed.{call_line, calls_text, page_line, Tells}
+use Rattle.jbig2_commands.specs.inner.Printing.{known_if, refusals_if, Tells}
+use Rattle.jbig2_commands.specs.Printed.{call_line, calls_text, page_line}
 use Rattle.hayro_jbig2.specs.Page.{ReadPage}
 
 abbrev line_step : GName × Option (List ℕ) → Call → GName × Option (List ℕ)

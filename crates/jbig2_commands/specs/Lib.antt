@@ -1,3 +1,3 @@
 pub mod Printed
-pub mod Printing
 pub mod Words
+pub mod inner

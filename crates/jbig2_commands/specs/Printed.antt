@@ -69,12 +69,6 @@ Prints (Ok bytes) (Ok u) old new = Appends old new bytes
 Prints (Err fault) (Ok u) old new = ⊥
 Prints meant (Err fault) old new = (fault ≡ Unwritable) ⊎ (((fault ≡ Decode OutOfMemory) ⊎ (meant ≡ Err fault)) × Keeps old new)
 
--- The same of decoding alone, where no output fails.
-abbrev pub Tells : Result (List ℕ) DecodeError → Result (Unit {0}) DecodeError → Option (List ℕ) → Option (List ℕ) → Type 0
-Tells (Ok bytes) (Ok u) old new = Appends old new bytes
-Tells (Err e) (Ok u) old new = ⊥
-Tells meant (Err e) old new = ((e ≡ OutOfMemory) ⊎ (meant ≡ Err e)) × Keeps old new
-
 -- Some bytes were read, those that the reader tells where it tells any, and what they mean is printed; or the reader
 -- failed. None: there is no reader.
 abbrev pub Ends : Bool → Task → Option (Option (List ℕ)) → Result (Unit {0}) Fault → Option (List ℕ) → Option (List ℕ) → Type 0

@@ -1,12 +1,8 @@
 -- The words of a run (our own rule): [--strict] pages|embedded FILE, or [--strict] calls|pbm FILE INDEX. `request_of`
--- takes the words and gives the mode, the task and the file, or None for all others; `request_view` takes a request.
+-- takes the words and gives the mode, the task and the file, or None for all others.
 use Rattle.std.specs.Prelude.{ℕ, ◌==◌, nat_le, Bool, true, false, not, ◌&&◌, List, [], ◌∷◌, length, Option, Some, None, option_map, if◌then◌else◌, codes}
 use Rattle.std.specs.List.{list_all}
 use Rattle.std.specs.Str.{bytes_eq}
-use Rattle.std.specs.Str.Parse.{IsNumeral}
-use Rattle.jbig2_commands.specs.declared.request.Command.{Command}
-use Rattle.jbig2_commands.specs.declared.request.Command.TheVariants as commands
-use Rattle.jbig2_commands.specs.declared.request.Request.{Request}
 
 unfoldable pub is_strict : List ℕ → Bool
 is_strict word = bytes_eq word (codes "--strict")
@@ -56,19 +52,3 @@ abbrev pub request_of : List (List ℕ) → Option (Bool × Task × List ℕ)
 request_of [] = None
 request_of (first ∷ others) =
     if is_strict first then option_map (λ t. (true, t.0, t.1)) (task_of others) else option_map (λ t. (false, t.0, t.1)) (task_of (first ∷ others))
-
--- a request of the code in these terms
-abbrev pub task_view : Command → Task
-task_view commands.Pages = Pages
-task_view commands.Embedded = Embedded
-task_view (commands.Calls index) = Calls index.now
-task_view (commands.Pbm index) = Pbm index.now
-
-abbrev pub request_view : Request → Bool × Task × List ℕ
-request_view request = (request.strict, task_view request.command, request.file.now)
-
--- what names a page is a numeral
-abbrev pub HasIndex : Task → Type 0
-HasIndex (Calls index) = IsNumeral 10 index
-HasIndex (Pbm index) = IsNumeral 10 index
-HasIndex _ = Unit {0}

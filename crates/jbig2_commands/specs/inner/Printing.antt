@@ -1,10 +1,10 @@
 -- What a printer, the Decoder that writes a line for each call, does with one call (our own rule), and the output behind
 -- its buffer. The predicates take what the output held before and after, where that is known, and the call's result.
-use Rattle.std.specs.Prelude.{◌≡◌, ℕ, ◌+◌, ◌-◌, ◌^◌, Bool, true, false, List, Option, Some, None, Result, Ok, Err, if◌then◌else◌}
+use Rattle.std.specs.Prelude.{◌≡◌, ◌⊎◌, ℕ, ◌+◌, ◌-◌, ◌^◌, Bool, true, false, List, Option, Some, None, Result, Ok, Err, if◌then◌else◌}
 use Rattle.std.specs.Borrow.{GName}
 use Rattle.std.specs.Io.KnownBytes.{Appends, Keeps, append_known}
 use Rattle.jbig2_base.specs.declared.error.DecodeError.{DecodeError}
-use Rattle.jbig2_base.specs.declared.error.DecodeError.TheVariants.{Unsupported}
+use Rattle.jbig2_base.specs.declared.error.DecodeError.TheVariants.{OutOfMemory, Unsupported}
 use Rattle.jbig2_commands.specs.declared.output.Output.{Output}
 
 -- the bytes that the output holds and those behind them that are not yet written, where the first are known
@@ -34,3 +34,9 @@ known_if is_told known = if is_told then known else None
 abbrev pub refusals_if : Bool → Option (List ℕ) → ℕ → ℕ
 refusals_if true None count = 2 ^ 64 - 1
 refusals_if _ known count = count
+
+-- What was meant is added by decoding alone, as `Prints` has it, where no output fails.
+abbrev pub Tells : Result (List ℕ) DecodeError → Result (Unit {0}) DecodeError → Option (List ℕ) → Option (List ℕ) → Type 0
+Tells (Ok bytes) (Ok u) old new = Appends old new bytes
+Tells (Err e) (Ok u) old new = ⊥
+Tells meant (Err e) old new = ((e ≡ OutOfMemory) ⊎ (meant ≡ Err e)) × Keeps old new
