@@ -1,5 +1,5 @@
 -- Which rule is broken where a file is refused.
-use Rattle.std.proofs.Common.{◌≡◌, ◌≢◌, ℕ, suc, Bool, true, false, not, ◌&&◌, ◌||◌, ◌==◌, nat_lt, List, [], ◌∷◌, length, slice_get, Option, Some, None, Result, Ok, Err, refl, sym, subst, ◌∙◌}
+use Rattle.std.proofs.Common.{◌≡◌, ◌≢◌, ℕ, suc, Bool, true, false, not, ◌&&◌, ◌||◌, ◌==◌, nat_lt, List, [], ◌∷◌, length, slice_get, Option, Some, None, Result, Ok, Err, refl, sym, subst, ◌∙◌, arith}
 use Rattle.std.proofs.lemmas.Bool.{and_parts, eq-eqb, eqb-true, false≢true, not-true}
 use Rattle.std.specs.Prelude.{Any, IfErr, IsFalse, IsTrue, option_map}
 use Rattle.std.specs.List.{AllByRecursion}
@@ -168,15 +168,15 @@ page-begins strict h ps (errors.Format formats.ReservedBits) some = some
 page-begins strict h ps (errors.Format formats.MissingPageInfo) some = some
 page-begins strict h ps (errors.Format formats.UnknownPageHeight) some = some
 page-begins strict h ps (errors.Format formats.EmptyPage) some = some
-page-begins strict h ps (errors.Format formats.PageCountMismatch) some = absurd (never-begins some.1 _ some.4)
-page-begins strict h ps (errors.Format formats.InvalidEndOfPage) some = absurd (never-begins some.1 _ some.4)
+page-begins strict h ps (errors.Format formats.PageCountMismatch) some = absurd (never-begins some.1 (errors.Format formats.PageCountMismatch) some.4)
+page-begins strict h ps (errors.Format formats.InvalidEndOfPage) some = absurd (never-begins some.1 (errors.Format formats.InvalidEndOfPage) some.4)
 page-begins strict h ps (errors.Segment segments.UnknownType) some = some
 page-begins strict h ps (errors.Segment segments.InvalidReferredCount) some = some
 page-begins strict h ps (errors.Segment segments.InvalidReference) some = some
 page-begins strict h ps (errors.Segment segments.InvalidUnknownLength) some = some
 page-begins strict h ps (errors.Segment segments.MissingEndMarker) some = some
 page-begins strict h ps (errors.Segment segments.MissingPatternDictionary) some = some
-page-begins strict h ps (errors.Segment segments.MissingPageAssociation) some = absurd (never-begins some.1 _ some.4)
+page-begins strict h ps (errors.Segment segments.MissingPageAssociation) some = absurd (never-begins some.1 (errors.Segment segments.MissingPageAssociation) some.4)
 page-begins strict h ps (errors.Huffman e) some = some
 page-begins strict h ps (errors.Region e) some = some
 page-begins strict h ps (errors.Template e) some = some
