@@ -1,5 +1,5 @@
 -- What a segment of a page gives, and what it is refused for, by its type.
-use Rattle.std.proofs.Common.{ℕ, Bool, true, List, Result, Ok}
+use Rattle.std.proofs.Common.{ℕ, Bool, true, false, List, Result}
 use Rattle.std.specs.Prelude.{IsTrue}
 use Rattle.jbig2_base.specs.Segment.{Header, SegmentView}
 use Rattle.jbig2_base.specs.declared.error.DecodeError.{DecodeError}

@@ -1,6 +1,6 @@
 -- Which rule is broken where a file, a page or one of its segments is refused (docs/FORMAT.md, 1, 4 and 8), a line for
 -- each error. Errors of steps that lower crates define stand here as the step's own (`IsOf`): the laws there say more.
-use Rattle.std.specs.Prelude.{◌≡◌, ◌≢◌, ◌⊎◌, ◌<◌, ◌≤◌, ℕ, suc, ◌+◌, Bool, true, false, IsTrue, IsFalse, List, [], ◌∷◌, length, take, slice_get, Any, Option, Some, None, MatchOption, option_and_then, unwrap_or, Result, Ok, IfErr}
+use Rattle.std.specs.Prelude.{◌≡◌, ◌≢◌, ◌⊎◌, ◌<◌, ◌≤◌, ℕ, suc, Bool, true, false, IsTrue, IsFalse, List, [], length, take, slice_get, Any, Option, Some, None, MatchOption, option_and_then, unwrap_or, Result, Ok, IfErr}
 use Rattle.std.specs.List.{AllByRecursion, flat_map}
 use Rattle.std.specs.Int.{w32}
 use Rattle.std.specs.Option.{option_map_or}
