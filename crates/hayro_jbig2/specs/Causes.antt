@@ -107,7 +107,7 @@ BreaksText strict own shared p = BreaksBehind strict own shared p (λ referred.
 abbrev pub TextsHaveCauses : Type 0
 TextsHaveCauses = (strict : Bool) (own shared : Names) (p : SegmentView) → IfErr (text_at strict own shared p) (BreaksText strict own shared p)
 
--- A halftone region's first number names no pattern dictionary, or there is none; or the steps behind that refuse.
+-- A halftone region refers to nothing, or its first number names no pattern dictionary; or its own steps refuse it.
 abbrev pub BreaksHalftoneSegment : Bool → Names → Names → SegmentView → DecodeError → Type 0
 BreaksHalftoneSegment strict own shared p e =
     MatchOption (patterns_for own shared p.header.referred_to_segments) (e ≡ Segment MissingPatternDictionary)
@@ -116,8 +116,8 @@ BreaksHalftoneSegment strict own shared p e =
 abbrev pub HalftoneSegmentsHaveCauses : Type 0
 HalftoneSegmentsHaveCauses = (strict : Bool) (own shared : Names) (p : SegmentView) → IfErr (halftone_at strict own shared p) (BreaksHalftoneSegment strict own shared p)
 
--- A refinement's first number names no region that is kept, or an intermediate one refers to nothing; or the steps behind
--- that refuse the region that is named, or else the page's area.
+-- A refinement's first number names no region that is kept, or an intermediate one refers to nothing; or its own steps
+-- refuse it, which take the region that is named or else the page's area.
 abbrev pub BreaksRefinement : Bool → Bool → Grid → List (Kept PlacedRegion) → SegmentView → DecodeError → Type 0
 BreaksRefinement strict is_intermediate page regions p e =
     let numbers = p.header.referred_to_segments in
