@@ -1,11 +1,15 @@
 -- Law: no definition answers an error that bytes cannot bring about: that of files, of pages and of what they draw.
 use Rattle.std.proofs.Common.{ℕ, Bool, true, false, List, [], ◌∷◌, length, Option, Some, None, Result, Ok, Err}
 use Rattle.std.specs.Prelude.{IfOk, ◌&&◌}
-use Rattle.jbig2_base.specs.Answer.{◌>>=◌, refuse_if}
+use Rattle.std.specs.Option.{option_map_or}
+use Rattle.jbig2_base.specs.Answer.{◌>>=◌, refuse_if, some_or}
 use Rattle.jbig2_base.specs.File.{file_at}
 use Rattle.jbig2_base.specs.Grid.{Grid}
 use Rattle.jbig2_base.specs.Segment.{Header, SegmentView}
 use Rattle.jbig2_base.specs.declared.error.DecodeError.{DecodeError}
+use Rattle.jbig2_base.specs.declared.error.DecodeError.TheVariants as errors
+use Rattle.jbig2_base.specs.declared.error.FormatError.TheVariants.{MissingPageInfo}
+use Rattle.jbig2_base.specs.declared.error.SegmentError.TheVariants.{MissingPatternDictionary}
 use Rattle.jbig2_base.specs.declared.segment.SegmentType.{SegmentType}
 use Rattle.jbig2_base.specs.declared.segment.SegmentType.TheVariants as types
 use Rattle.jbig2_base.proofs.Answered.{Answered, answered-file, answered-if, answered-initial_page, answered-next, answered-number, answered-refusal, answered-sorted}
@@ -18,14 +22,12 @@ use Rattle.jbig2_region.proofs.Answered.{answered-generic, answered-generic_head
 use Rattle.jbig2_symbol.specs.Symbols.{Symbols}
 use Rattle.jbig2_symbol.proofs.Answered.{answered-symbol_header, answered-symbols_decoded}
 use Rattle.jbig2_text.proofs.AnsweredRegions.{answered-text, answered-text_header}
-use Rattle.hayro_jbig2.specs.Dictionaries.{extension, pattern_dictionary_at, symbol_dictionary_at, with_code, with_patterns, with_symbols}
+use Rattle.hayro_jbig2.specs.Names.{Names, Referred, extension, kept_by, no_names, pattern_dictionary_at, symbol_dictionary_at, with_code, with_dictionary, with_number, with_numbers, with_patterns, with_symbols, with_table}
 use Rattle.hayro_jbig2.specs.Files.{ReadFile, associated, book_at, by_pages, filed_each, filed_from, miscounts, of_page}
-use Rattle.hayro_jbig2.specs.FirstPage.{first_page, some_page}
-use Rattle.hayro_jbig2.specs.Globals.{globals_at, named_by, named_from}
-use Rattle.hayro_jbig2.specs.Names.{Names, no_names}
+use Rattle.hayro_jbig2.specs.Image.{first_page}
+use Rattle.hayro_jbig2.specs.Globals.{globals_at, named_from}
 use Rattle.hayro_jbig2.specs.Page.{Drawing, ReadPage, embedded, grid_of_page, immediate, intermediate, keeping, page_begun, region_at, segment_on, segments_drawn, shown}
-use Rattle.hayro_jbig2.specs.Referred.{Referred, with_either, with_number, with_numbers, with_table}
-use Rattle.hayro_jbig2.specs.Regions.{generic_at, halftone_at, referred_region, refinement_at, some_patterns, text_at}
+use Rattle.hayro_jbig2.specs.Regions.{generic_at, halftone_at, referred_region, refinement_at, text_at}
 use Rattle.hayro_jbig2.specs.declared.kept.Kept.{Kept}
 use Rattle.hayro_jbig2.specs.declared.region.RegionKind.{RegionKind}
 use Rattle.hayro_jbig2.specs.declared.region.RegionKind.TheVariants as kinds
@@ -36,7 +38,7 @@ answered-with_table : (strict : Bool) (code : Option (List Member)) (r : Referre
 answered-with_table strict (Some code) r = tt
 answered-with_table strict None r = search (answered-next, answered-refusal)
 
-answered-with_either : (strict : Bool) (s : Option Symbols) (code : Option (List Member)) (r : Referred) → Answered (with_either strict s code r)
+answered-with_either : (strict : Bool) (s : Option Symbols) (code : Option (List Member)) (r : Referred) → Answered (option_map_or (λ d. with_dictionary d r) s (with_table strict code r))
 answered-with_either strict (Some s) code r = search (answered-next, answered-refusal)
 answered-with_either strict None code r = answered-with_table strict code r
 
@@ -75,7 +77,7 @@ answered-text_at : (strict : Bool) (own shared : Names) (p : SegmentView) → An
 unfolding text_at
 answered-text_at strict own shared p = search (answered-next, answered-with_numbers, answered-text_header, answered-text)
 
-answered-some_patterns : (patterns : Option Patterns) → Answered (some_patterns patterns)
+answered-some_patterns : (patterns : Option Patterns) → Answered (some_or (errors.Segment MissingPatternDictionary) patterns)
 answered-some_patterns (Some patterns) = tt
 answered-some_patterns None = tt
 
@@ -118,17 +120,17 @@ answered-keeping : (d : Drawing) (kept : Result Names DecodeError) → Answered 
 answered-keeping d kept is = answered-next kept _ is (λ names. tt)
 
 -- ---- segments
-answered-named_by : (strict : Bool) (kind : SegmentType) (h : Header) (bytes : List ℕ) (names : Names) → Answered (named_by strict (of_type kind h bytes) names)
-answered-named_by strict types.SymbolDictionary h bytes names = answered-with_symbols strict no_names (of_type types.SymbolDictionary h bytes) names
-answered-named_by strict types.PatternDictionary h bytes names = answered-with_patterns strict (of_type types.PatternDictionary h bytes) names
-answered-named_by strict types.Tables h bytes names = answered-with_code (of_type types.Tables h bytes) names
-answered-named_by strict types.Extension h bytes names = answered-next (extension strict bytes) _ (answered-extension strict bytes) (λ known. tt)
-answered-named_by strict _ h bytes names = tt
+answered-kept_by : (strict : Bool) (shared : Names) (kind : SegmentType) (h : Header) (bytes : List ℕ) (own : Names) → Answered (kept_by strict shared (of_type kind h bytes) own)
+answered-kept_by strict shared types.SymbolDictionary h bytes own = answered-with_symbols strict shared (of_type types.SymbolDictionary h bytes) own
+answered-kept_by strict shared types.PatternDictionary h bytes own = answered-with_patterns strict (of_type types.PatternDictionary h bytes) own
+answered-kept_by strict shared types.Tables h bytes own = answered-with_code (of_type types.Tables h bytes) own
+answered-kept_by strict shared types.Extension h bytes own = answered-next (extension strict bytes) _ (answered-extension strict bytes) (λ known. tt)
+answered-kept_by strict shared _ h bytes own = tt
 
 answered-named : (strict : Bool) (ps : List SegmentView) (names : Names) → Answered (named_from strict ps names)
 answered-named strict [] names = tt
 answered-named strict (p ∷ ps) names =
-    answered-next (named_by strict p names) _ (answered-named_by strict p.header.segment_type p.header p.bytes names) (λ more. answered-named strict ps more)
+    answered-next (kept_by strict no_names p names) _ (answered-kept_by strict no_names p.header.segment_type p.header p.bytes names) (λ more. answered-named strict ps more)
 
 pub answered-globals : (strict : Bool) (bytes : List ℕ) → Answered (globals_at strict bytes)
 unfolding globals_at
@@ -138,13 +140,9 @@ answered-segment_on : (strict : Bool) (globals : Names) (p : SegmentView) (d : D
 answered-segment_on strict globals p d =
     of-segment (λ r breaks. Answered r) strict globals p d
     (record {
-      symbols = λ q. answered-keeping d _ (answered-with_symbols strict globals q d.names);
-      patterns = λ q. answered-keeping d _ (answered-with_patterns strict q d.names);
-      tables = λ q. answered-keeping d _ (answered-with_code q d.names);
-      extensions = λ bytes. answered-next (extension strict bytes) _ (answered-extension strict bytes) (λ known. tt);
+      nothing = λ q. answered-keeping d _ (answered-kept_by strict globals q.header.segment_type q.header q.bytes d.names);
       kept = λ kind q. answered-intermediate strict globals kind q d;
       shown = λ kind q. answered-immediate strict globals kind q d;
-      others = tt;
     })
 
 answered-drawn : (strict : Bool) (globals : Names) (ps : List SegmentView) (d : Drawing) → Answered (segments_drawn strict globals ps d)
@@ -195,7 +193,7 @@ answered-book_globals strict bytes =
     answered-last P (refuse_if (strict && miscounts file.0.number_of_pages (length (by_pages file.1))) _) _ (λ counted.
     answered-last P (filed_each strict (by_pages file.1)) _ (λ pages. answered-named strict (of_page 0 file.1) no_names))))
 
-answered-some_page : (page : Option ReadPage) → Answered (some_page page)
+answered-some_page : (page : Option ReadPage) → Answered (some_or (errors.Format MissingPageInfo) page)
 answered-some_page (Some page) = tt
 answered-some_page None = tt
 

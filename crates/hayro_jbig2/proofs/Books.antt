@@ -15,7 +15,7 @@ use Rattle.jbig2_base.specs.declared.error.OverflowError.TheVariants.{BitmapDime
 use Rattle.jbig2_base.specs.declared.file_header.FileHeader.{FileHeader}
 use Rattle.jbig2_base.specs.declared.page_info.PageInformation.{PageInformation}
 use Rattle.jbig2_base.specs.declared.page_info.InitialPage.{InitialPage}
-use Rattle.hayro_jbig2.specs.Files.{PageInFile, ReadFile, of_page, by_pages, ends_of, filed_from, filed_each, numbers_after, miscounts, associated, book_at, page_in, page_from, PagesStandAlone}
+use Rattle.hayro_jbig2.specs.Files.{PageInFile, ReadFile, of_page, by_pages, ends_of, filed_from, filed_each, numbers_after, miscounts, associated, book_at, page_in, PagesStandAlone}
 use Rattle.hayro_jbig2.specs.Globals.{named_from}
 use Rattle.hayro_jbig2.specs.Names.{Names, no_names}
 use Rattle.hayro_jbig2.specs.Page.{ReadPage}
@@ -142,6 +142,9 @@ record Mapped {X Y : Type 0} (f : X → Y) (o : Option X) (y : Y) : Type 0 where
 mapped : {X Y : Type 0} (f : X → Y) (o : Option X) (y : Y) → option_map f o ≡ Some y → Mapped f o y
 mapped f None y h = absurd (cc)
 mapped f (Some x) y h = record { from = x; was = refl; is = cc }
+
+abbrev page_from : Bool → List SegmentView → List SegmentView → Result ReadPage DecodeError
+page_from strict own shared = initial_page_of own >>= λ begun. Ok (record { strict = strict; initial_page = begun; segments = own; globals = named_from strict shared no_names })
 
 own-leaf : (strict : Bool) (ps : List SegmentView) (book : ReadFile) (page : PageInFile) → Filled strict ps book → IsOwn ps page → page_from strict (of_page page.initial_page.number ps) (of_page 0 ps) ≡ Ok (page_in book page)
 own-leaf strict ps book page filled own =

@@ -16,13 +16,20 @@ use Rattle.jbig2_base.specs.inner.SegmentViews.{segment_view, segment_views}
 use Rattle.jbig2_base.specs.declared.segment.Segment.{Segment}
 use Rattle.hayro_jbig2.specs.inner.ByPages.{pages_view, first_place_of, HoldsByPage}
 use Rattle.hayro_jbig2.specs.declared.segments_by_page.SegmentsByPage.{SegmentsByPage}
-use Rattle.hayro_jbig2.specs.Files.{is_known, with_page_number, numbers_after, of_page, by_pages}
+use Rattle.hayro_jbig2.specs.Files.{numbers_after, of_page, by_pages}
 
 flipped : (m n : ℕ) → (m == n) ≡ false → (n == m) ≡ false
 flipped m n apart = ne_eqb n m (λ e. eqb-false m n apart (sym e))
 
 abbrev is_among : ℕ → List ℕ → Bool
 is_among n ns = list_any (λ m. m == n) ns
+
+-- no page's number, or one that came before
+abbrev is_known : ℕ → List ℕ → Bool
+is_known n ns = n == 0 || is_among n ns
+
+abbrev with_page_number : ℕ → List ℕ → List ℕ
+with_page_number n ns = cond (is_known n ns) ns (ns ++ n ∷ [])
 
 -- ---- where a number stands
 

@@ -1,9 +1,10 @@
 -- Which rule is broken where a file is refused.
-use Rattle.std.proofs.Common.{◌≡◌, ◌≢◌, ℕ, suc, Bool, true, false, not, ◌&&◌, ◌||◌, ◌==◌, nat_lt, List, [], ◌∷◌, length, slice_get, Option, Some, None, Result, Ok, Err, refl, sym, ◌∙◌}
+use Rattle.std.proofs.Common.{◌≡◌, ◌≢◌, ℕ, suc, Bool, true, false, not, ◌&&◌, ◌||◌, ◌==◌, nat_lt, List, [], ◌∷◌, length, slice_get, Option, Some, None, Result, Ok, Err, refl, sym, subst, ◌∙◌, arith}
 use Rattle.std.proofs.lemmas.Bool.{and_parts, eq-eqb, eqb-true, false≢true, not-true}
-use Rattle.std.specs.Prelude.{IfErr, IsTrue, option_map}
+use Rattle.std.specs.Prelude.{Any, IfErr, IsFalse, IsTrue, option_map}
+use Rattle.std.specs.List.{AllByRecursion}
 use Rattle.std.specs.Int.{Width, w8, w16, w32}
-use Rattle.jbig2_base.specs.Answer.{◌>>=◌, refuse_if}
+use Rattle.jbig2_base.specs.Answer.{◌>>=◌, refuse_if, some_or}
 use Rattle.jbig2_base.specs.Fields.{number_at}
 use Rattle.jbig2_base.specs.File.{file_at}
 use Rattle.jbig2_base.specs.PageInfo.{first_information, height_of, information_at, initial_page_of, initial_page_with, is_page_information, stripes_height}
@@ -16,28 +17,32 @@ use Rattle.jbig2_base.specs.declared.error.OverflowError.TheVariants as overflow
 use Rattle.jbig2_base.specs.declared.error.ParseError.TheVariants.{UnexpectedEof}
 use Rattle.jbig2_base.specs.declared.error.SegmentError.TheVariants as segments
 use Rattle.jbig2_base.specs.declared.file_header.FileHeader.{FileHeader}
+use Rattle.jbig2_base.specs.declared.page_info.InitialPage.{InitialPage}
 use Rattle.jbig2_base.specs.declared.page_info.PageInformation.{PageInformation}
 use Rattle.jbig2_base.proofs.Causes.{cause-next, cause-number, cause-refused}
 use Rattle.jbig2_region.proofs.Told.{cause-if}
 use Rattle.jbig2_symbol.proofs.ReadingCauses.{cause-by, in-steps, own-error}
-use Rattle.hayro_jbig2.specs.Causes.{AtSome, BreaksBeginning, BreaksBook, BreaksFirst, BreaksPages, BooksHaveCauses, FirstPagesHaveCauses, LacksInformation, StandsOutside}
+use Rattle.hayro_jbig2.specs.Causes.{BooksHaveCauses, BreaksBeginning, BreaksBook, BreaksPages, FirstPagesHaveCauses}
 use Rattle.hayro_jbig2.specs.Files.{ReadFile, associated, book_at, by_pages, ends_of, filed_each, filed_from, lacks_page, miscounts, needs_page, page_in, page_of}
-use Rattle.hayro_jbig2.specs.FirstPage.{first_page, some_page}
+use Rattle.hayro_jbig2.specs.Image.{first_page}
 use Rattle.hayro_jbig2.specs.Page.{ReadPage}
 
 -- ---- places
-pub at-first : {X : Type 0} (P : X → Type 0) (x : X) (xs : List X) → P x → AtSome P (x ∷ xs)
-at-first P x xs is = (0, x, refl, is)
+pub at-first : {X : Type 0} (P : X → Type 0) (x : X) (xs : List X) → P x → Any P (x ∷ xs)
+at-first P x xs is = (0, x, omega arith, refl, is)
 
-pub at-later : {X : Type 0} (P : X → Type 0) (x : X) (xs : List X) → AtSome P xs → AtSome P (x ∷ xs)
-at-later P x xs some = (suc some.0, some.1, some.2, some.3)
+pub at-later : {X : Type 0} (P : X → Type 0) (x : X) (xs : List X) → Any P xs → Any P (x ∷ xs)
+at-later P x xs some = (suc some.0, some.1, omega (arith, some.2), some.3, some.4)
 
 pub differ : (m n : ℕ) → not (m == n) ≡ true → m ≢ n
 differ m n apart same = false≢true (sym (not-true (m == n) apart) ∙ eq-eqb m n same)
 
 -- ---- associations and counts
+abbrev StandsOutside : SegmentView → Type 0
+StandsOutside p = (p.header.page_association ≡ 0) × IsTrue (needs_page p.header.segment_type)
+
 associated-cause : (P : DecodeError → Type 0) (strict : Bool) (ps : List SegmentView)
-    → (IsTrue strict → AtSome StandsOutside ps → P (errors.Segment segments.MissingPageAssociation)) → IfErr (associated strict ps) P
+    → (IsTrue strict → Any StandsOutside ps → P (errors.Segment segments.MissingPageAssociation)) → IfErr (associated strict ps) P
 associated-cause P strict [] why = tt
 associated-cause P strict (p ∷ ps) why =
     cause-if P (lacks_page strict p.header) (Err (errors.Segment segments.MissingPageAssociation)) (associated strict ps)
@@ -52,16 +57,19 @@ miscounted None n wrong = absurd (false≢true wrong)
 miscounted (Some t) n wrong = (t, refl, differ t n wrong)
 
 -- ---- what a page begins as
+abbrev Lacks : List SegmentView → Type 0
+Lacks own = AllByRecursion (λ p. IsFalse (is_page_information p.header.segment_type)) own
+
 -- the errors that come at all
 abbrev Begins : List SegmentView → DecodeError → Type 0
-Begins own (errors.Format formats.MissingPageInfo) = LacksInformation own
+Begins own (errors.Format formats.MissingPageInfo) = Lacks own
 Begins own (errors.Format formats.UnknownPageHeight) = Unit {0}
 Begins own (errors.Format formats.EmptyPage) = Unit {0}
 Begins own (errors.Overflow overflows.BitmapDimension) = Unit {0}
 Begins own (errors.Parse UnexpectedEof) = Unit {0}
 Begins own _ = ⊥
 
-first-cause : (P : DecodeError → Type 0) (ps : List SegmentView) → (LacksInformation ps → P (errors.Format formats.MissingPageInfo)) → IfErr (first_information ps) P
+first-cause : (P : DecodeError → Type 0) (ps : List SegmentView) → (Lacks ps → P (errors.Format formats.MissingPageInfo)) → IfErr (first_information ps) P
 first-cause P [] why = why tt
 first-cause P (p ∷ ps) why =
     cause-if P (is_page_information p.header.segment_type) (Ok p) (first_information ps) (λ is. tt) (λ other. first-cause P ps (λ lacks. why (other, lacks)))
@@ -105,29 +113,32 @@ begins-page own =
 
 begins-so : (own : List SegmentView) (e : DecodeError) → initial_page_of own ≡ Err e → Begins own e → BreaksBeginning own e
 begins-so own (errors.Parse UnexpectedEof) is begins = is
-begins-so own (errors.Format formats.InvalidHeader) is begins = absurd begins
-begins-so own (errors.Format formats.ReservedBits) is begins = absurd begins
+begins-so own (errors.Format formats.InvalidHeader) is begins = is
+begins-so own (errors.Format formats.ReservedBits) is begins = is
 begins-so own (errors.Format formats.MissingPageInfo) is begins = begins
 begins-so own (errors.Format formats.UnknownPageHeight) is begins = is
 begins-so own (errors.Format formats.EmptyPage) is begins = is
-begins-so own (errors.Format formats.PageCountMismatch) is begins = absurd begins
-begins-so own (errors.Format formats.InvalidEndOfPage) is begins = absurd begins
-begins-so own (errors.Segment e) is begins = absurd begins
-begins-so own (errors.Huffman e) is begins = absurd begins
-begins-so own (errors.Region e) is begins = absurd begins
-begins-so own (errors.Template e) is begins = absurd begins
-begins-so own (errors.Symbol e) is begins = absurd begins
+begins-so own (errors.Format formats.PageCountMismatch) is begins = is
+begins-so own (errors.Format formats.InvalidEndOfPage) is begins = is
+begins-so own (errors.Segment e) is begins = is
+begins-so own (errors.Huffman e) is begins = is
+begins-so own (errors.Region e) is begins = is
+begins-so own (errors.Template e) is begins = is
+begins-so own (errors.Symbol e) is begins = is
 begins-so own (errors.Overflow overflows.BitmapDimension) is begins = is
-begins-so own (errors.Overflow overflows.GridDimension) is begins = absurd begins
-begins-so own (errors.Overflow overflows.PlacementCoordinate) is begins = absurd begins
-begins-so own (errors.Overflow overflows.ReferenceOffset) is begins = absurd begins
-begins-so own (errors.Overflow overflows.Index) is begins = absurd begins
-begins-so own (errors.Overflow overflows.SymbolCount) is begins = absurd begins
-begins-so own errors.Unsupported is begins = absurd begins
-begins-so own errors.OutOfMemory is begins = absurd begins
+begins-so own (errors.Overflow overflows.GridDimension) is begins = is
+begins-so own (errors.Overflow overflows.PlacementCoordinate) is begins = is
+begins-so own (errors.Overflow overflows.ReferenceOffset) is begins = is
+begins-so own (errors.Overflow overflows.Index) is begins = is
+begins-so own (errors.Overflow overflows.SymbolCount) is begins = is
+begins-so own errors.Unsupported is begins = is
+begins-so own errors.OutOfMemory is begins = is
 
 pub beginning_causes : (own : List SegmentView) → IfErr (initial_page_of own) (BreaksBeginning own)
 beginning_causes own = cause-by (initial_page_of own) (Begins own) (BreaksBeginning own) (begins-page own) (begins-so own)
+
+never-begins : (own : List SegmentView) (e : DecodeError) → initial_page_of own ≡ Err e → Begins own e
+never-begins own e is = subst (λ (r : Result InitialPage DecodeError). IfErr r (Begins own)) is (begins-page own)
 
 -- ---- each page
 filed-cause : (P : DecodeError → Type 0) (strict : Bool) (own : List SegmentView)
@@ -140,8 +151,8 @@ filed-cause P strict own ends begins =
     cause-next P (initial_page_of own) _ (cause-by (initial_page_of own) (BreaksBeginning own) P (beginning_causes own) (λ e is broken. begins e broken)) (λ page page_is. tt))
 
 each-cause : (P : DecodeError → Type 0) (strict : Bool) (all : List (List SegmentView))
-    → (IsTrue strict → AtSome (λ own. ends_of own ≢ 1) all → P (errors.Format formats.InvalidEndOfPage))
-    → ((e : DecodeError) → AtSome (λ own. BreaksBeginning own e) all → P e) → IfErr (filed_each strict all) P
+    → (IsTrue strict → Any (λ own. ends_of own ≢ 1) all → P (errors.Format formats.InvalidEndOfPage))
+    → ((e : DecodeError) → Any (λ own. BreaksBeginning own e) all → P e) → IfErr (filed_each strict all) P
 each-cause P strict [] ends begins = tt
 each-cause P strict (own ∷ others) ends begins =
     let Ends : List SegmentView → Type 0 = λ page. ends_of page ≢ 1 in
@@ -150,22 +161,22 @@ each-cause P strict (own ∷ others) ends begins =
 
 -- ---- files
 -- a page's beginning breaks none of the rules on all the pages
-page-begins : (strict : Bool) (h : FileHeader) (ps : List SegmentView) (e : DecodeError) → AtSome (λ own. BreaksBeginning own e) (by_pages ps) → BreaksPages strict h ps e
+page-begins : (strict : Bool) (h : FileHeader) (ps : List SegmentView) (e : DecodeError) → Any (λ own. BreaksBeginning own e) (by_pages ps) → BreaksPages strict h ps e
 page-begins strict h ps (errors.Parse UnexpectedEof) some = some
 page-begins strict h ps (errors.Format formats.InvalidHeader) some = some
 page-begins strict h ps (errors.Format formats.ReservedBits) some = some
 page-begins strict h ps (errors.Format formats.MissingPageInfo) some = some
 page-begins strict h ps (errors.Format formats.UnknownPageHeight) some = some
 page-begins strict h ps (errors.Format formats.EmptyPage) some = some
-page-begins strict h ps (errors.Format formats.PageCountMismatch) some = absurd some.3
-page-begins strict h ps (errors.Format formats.InvalidEndOfPage) some = absurd some.3
+page-begins strict h ps (errors.Format formats.PageCountMismatch) some = absurd (never-begins some.1 (errors.Format formats.PageCountMismatch) some.4)
+page-begins strict h ps (errors.Format formats.InvalidEndOfPage) some = absurd (never-begins some.1 (errors.Format formats.InvalidEndOfPage) some.4)
 page-begins strict h ps (errors.Segment segments.UnknownType) some = some
 page-begins strict h ps (errors.Segment segments.InvalidReferredCount) some = some
 page-begins strict h ps (errors.Segment segments.InvalidReference) some = some
 page-begins strict h ps (errors.Segment segments.InvalidUnknownLength) some = some
 page-begins strict h ps (errors.Segment segments.MissingEndMarker) some = some
 page-begins strict h ps (errors.Segment segments.MissingPatternDictionary) some = some
-page-begins strict h ps (errors.Segment segments.MissingPageAssociation) some = absurd some.3
+page-begins strict h ps (errors.Segment segments.MissingPageAssociation) some = absurd (never-begins some.1 (errors.Segment segments.MissingPageAssociation) some.4)
 page-begins strict h ps (errors.Huffman e) some = some
 page-begins strict h ps (errors.Region e) some = some
 page-begins strict h ps (errors.Template e) some = some
@@ -192,11 +203,14 @@ no-page : {X Y : Type 0} (f : X → Y) (xs : List X) → option_map f (slice_get
 no-page f [] is = refl
 no-page f (x ∷ xs) is = absurd (cc)
 
-some-page : (book : ReadFile) (o : Option ReadPage) → (o ≡ None → book.pages ≡ []) → IfErr (some_page o) (BreaksFirst book)
+abbrev LacksPages : ReadFile → DecodeError → Type 0
+LacksPages book e = (e ≡ errors.Format formats.MissingPageInfo) × (book.pages ≡ [])
+
+some-page : (book : ReadFile) (o : Option ReadPage) → (o ≡ None → book.pages ≡ []) → IfErr (some_or (errors.Format formats.MissingPageInfo) o) (LacksPages book)
 some-page book (Some page) none = tt
-some-page book None none = none refl
+some-page book None none = (refl, none refl)
 
 pub first_page_causes : FirstPagesHaveCauses
 unfolding first_page
 first_page_causes bytes =
-    in-steps (book_at false bytes) _ (BreaksBook false bytes) (λ book. BreaksFirst book) (file_causes false bytes) (λ book book_is. some-page book (page_of book 0) (no-page (page_in book) book.pages))
+    in-steps (book_at false bytes) _ (BreaksBook false bytes) (λ book. LacksPages book) (file_causes false bytes) (λ book book_is. some-page book (page_of book 0) (no-page (page_in book) book.pages))

@@ -14,9 +14,8 @@ use Rattle.jbig2_base.specs.declared.error.ParseError.TheVariants.{UnexpectedEof
 use Rattle.jbig2_base.specs.declared.error.SegmentError.TheVariants.{InvalidReferredCount, InvalidReference}
 use Rattle.hayro_jbig2.specs.Calls.{Call, Chunk, Line, whole_calls, row_of, calls_of}
 use Rattle.hayro_jbig2.specs.Files.{filed_from, book_at, pages_of}
-use Rattle.hayro_jbig2.specs.FirstPage.{first_page, first_size, first_image}
+use Rattle.hayro_jbig2.specs.Image.{first_page, first_size, first_image, image_of}
 use Rattle.hayro_jbig2.specs.Globals.{globals_at}
-use Rattle.hayro_jbig2.specs.Image.{image_of}
 use Rattle.hayro_jbig2.specs.Page.{grid_of_page}
 
 -- for each page of a file its number, and its calls or its error

@@ -1,8 +1,8 @@
 -- What is looked up among kept values is what is looked up among their views.
 use Rattle.std.proofs.Common.{◌≡◌, ℕ, ◌==◌, Bool, true, false, cond, List, [], ◌∷◌, Option, Some, None, refl, sym, ◌∙◌, ap}
 use Rattle.std.specs.Borrow.{Bor}
-use Rattle.std.specs.Option.{option_map}
-use Rattle.hayro_jbig2.specs.Names.{first_named, named, own_else}
+use Rattle.std.specs.Option.{option_map, option_or}
+use Rattle.hayro_jbig2.specs.Names.{first_named, named}
 use Rattle.hayro_jbig2.specs.inner.KeptViews.{found, seen}
 use Rattle.hayro_jbig2.specs.declared.kept.Kept.{Kept}
 
@@ -16,7 +16,7 @@ first_named-seen view number (k ∷ kept) =
     ap (λ (o : Option _). cond (k.segment_number == number) (Some (view k.value)) o) (first_named-seen view number kept)
     ∙ sym (mapped-cond view (k.segment_number == number) k.value (first_named number kept))
 
-mapped-else : {X V : Type 0} (view : X → V) (own shared : Option X) → option_map view (own_else own shared) ≡ own_else (option_map view own) (option_map view shared)
+mapped-else : {X V : Type 0} (view : X → V) (own shared : Option X) → option_map view (option_or own shared) ≡ option_or (option_map view own) (option_map view shared)
 mapped-else view None shared = refl
 mapped-else view (Some x) shared = refl
 
@@ -31,10 +31,10 @@ found-named view value number own shared owns shares is_own is_shared h =
     found-mapped view value
     ∙ ap (λ (o : Option _). option_map view o) h
     ∙ mapped-else view (first_named number own) (first_named number shared)
-    ∙ ap (λ (o : Option _). own_else o (option_map view (first_named number shared))) (sym (first_named-seen view number own))
-    ∙ ap (λ (o : Option _). own_else (first_named number (seen view own)) o) (sym (first_named-seen view number shared))
-    ∙ ap (λ (ks : List (Kept _)). own_else (first_named number ks) (first_named number (seen view shared))) is_own
-    ∙ ap (λ (ks : List (Kept _)). own_else (first_named number owns) (first_named number ks)) is_shared
+    ∙ ap (λ (o : Option _). option_or o (option_map view (first_named number shared))) (sym (first_named-seen view number own))
+    ∙ ap (λ (o : Option _). option_or (first_named number (seen view own)) o) (sym (first_named-seen view number shared))
+    ∙ ap (λ (ks : List (Kept _)). option_or (first_named number ks) (first_named number (seen view shared))) is_own
+    ∙ ap (λ (ks : List (Kept _)). option_or (first_named number owns) (first_named number ks)) is_shared
 
 -- the same of what is kept in one place
 pub found-first : {X V : Type 0} (view : X → V) (value : Option (Bor X)) (number : ℕ) (kept : List (Kept X)) → found (λ v. v) value ≡ first_named number kept → found view value ≡ first_named number (seen view kept)

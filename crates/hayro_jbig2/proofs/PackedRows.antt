@@ -11,7 +11,8 @@ use Rattle.jbig2_base.proofs.BitLemmas.{bit_number-bit, bit-shr}
 use Rattle.jbig2_base.proofs.GridLemmas.{pixel_at-below, pixel_at-grid_of, pixel_at-right}
 use Rattle.jbig2_coder.specs.Integers.{value_of_bits}
 use Rattle.hayro_jbig2.specs.Page.{ReadPage, grid_of_page}
-use Rattle.hayro_jbig2.specs.Image.{packed_byte, packed_of, packed_of_page, packed_part, packed_size, row_bytes, top_byte, word_byte}
+use Rattle.hayro_jbig2.specs.Image.{packed_byte, packed_of, packed_of_page, packed_part, packed_size, row_bytes}
+use Rattle.hayro_jbig2.specs.inner.Puts.{top_byte, word_byte}
 use Rattle.hayro_jbig2.specs.inner.Whole.{IsBegun}
 
 map-same : {X : Type 0} (f g : ℕ → X) (a n : ℕ) → ((i : ℕ) → a ≤ i → i < a + n → f i ≡ g i) → map f (range_with_len a n) ≡ map g (range_with_len a n)

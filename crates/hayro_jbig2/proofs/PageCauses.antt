@@ -14,18 +14,16 @@ use Rattle.jbig2_base.proofs.Causes.{cause-next}
 use Rattle.jbig2_region.specs.Generic.{PlacedRegion}
 use Rattle.jbig2_region.proofs.Told.{cause-if}
 use Rattle.jbig2_symbol.proofs.ReadingCauses.{cause-by, in-steps, own-error}
-use Rattle.hayro_jbig2.specs.Causes.{BreaksBeginning, BreaksExtension, BreaksSymbolDictionary}
-use Rattle.hayro_jbig2.specs.PageCauses.{BreaksDrawing, BreaksGlobal, BreaksImmediate, BreaksNames, BreaksRegion, BreaksSegmentOn, EmbeddedPagesHaveCauses, FileGlobalsHaveCauses, GlobalsHaveCauses, PagesHaveCauses}
-use Rattle.hayro_jbig2.specs.Dictionaries.{code_at, extension, pattern_dictionary_at, symbol_dictionary_at, with_code, with_patterns, with_symbols}
-use Rattle.hayro_jbig2.specs.Globals.{globals_at, named_by, named_from}
-use Rattle.hayro_jbig2.specs.Names.{Names, no_names}
+use Rattle.hayro_jbig2.specs.Causes.{BreaksBeginning, BreaksDrawing, BreaksExtension, BreaksKept, BreaksNames, BreaksRegion, BreaksSegmentOn, EmbeddedPagesHaveCauses, FileGlobalsHaveCauses, GlobalsHaveCauses, PagesHaveCauses}
+use Rattle.hayro_jbig2.specs.Names.{Names, code_at, extension, kept_by, no_names, pattern_dictionary_at, symbol_dictionary_at, with_code, with_patterns, with_symbols}
+use Rattle.hayro_jbig2.specs.Globals.{globals_at, named_from}
 use Rattle.hayro_jbig2.specs.Page.{Drawing, embedded, ends_page, grid_of_page, immediate, intermediate, keeping, page_begun, region_at, segment_on, segments_drawn, shown}
 use Rattle.hayro_jbig2.specs.Regions.{generic_at}
 use Rattle.hayro_jbig2.specs.declared.region.RegionKind.{RegionKind}
 use Rattle.hayro_jbig2.specs.declared.region.RegionKind.TheVariants as kinds
 use Rattle.hayro_jbig2.proofs.Causes.{beginning_causes}
 use Rattle.hayro_jbig2.proofs.SegmentCauses.{extension_causes, halftone_causes, refinement_causes, symbol_dictionary_causes, text_causes}
-use Rattle.hayro_jbig2.proofs.SegmentTypes.{of_type, of-segment}
+use Rattle.hayro_jbig2.proofs.SegmentTypes.{BreaksImmediate, of_type, of-segment}
 
 -- ---- what is kept
 symbols-cause : (P : DecodeError → Type 0) (strict : Bool) (shared : Names) (p : SegmentView) (own : Names) → IfErr (symbol_dictionary_at strict own shared p) P → IfErr (with_symbols strict shared p own) P
@@ -65,16 +63,16 @@ unfolding intermediate
 intermediate-causes strict globals kind p d =
     cause-next (BreaksRegion strict globals kind true p d) (region_at strict globals kind true p d) _ (region-causes strict globals kind true p d) (λ region region_is. tt)
 
--- ---- segments of globals
-global-causes : (strict : Bool) (kind : SegmentType) (h : Header) (bytes : List ℕ) (names : Names) → IfErr (named_by strict (of_type kind h bytes) names) (BreaksGlobal strict names (of_type kind h bytes))
-global-causes strict types.SymbolDictionary h bytes names = let p = of_type types.SymbolDictionary h bytes in symbols-cause (BreaksGlobal strict names p) strict no_names p names (symbol_dictionary_causes strict names no_names p)
-global-causes strict types.PatternDictionary h bytes names = patterns-cause strict (of_type types.PatternDictionary h bytes) names
-global-causes strict types.Tables h bytes names = code-cause (of_type types.Tables h bytes) names
-global-causes strict types.Extension h bytes names = cause-next (BreaksExtension strict bytes) (extension strict bytes) _ (extension_causes strict bytes) (λ known known_is. tt)
-global-causes strict _ h bytes names = tt
+-- ---- segments that draw nothing
+kept-causes : (strict : Bool) (shared : Names) (kind : SegmentType) (h : Header) (bytes : List ℕ) (own : Names) → IfErr (kept_by strict shared (of_type kind h bytes) own) (BreaksKept strict own shared (of_type kind h bytes))
+kept-causes strict shared types.SymbolDictionary h bytes own = let p = of_type types.SymbolDictionary h bytes in symbols-cause (BreaksKept strict own shared p) strict shared p own (symbol_dictionary_causes strict own shared p)
+kept-causes strict shared types.PatternDictionary h bytes own = patterns-cause strict (of_type types.PatternDictionary h bytes) own
+kept-causes strict shared types.Tables h bytes own = code-cause (of_type types.Tables h bytes) own
+kept-causes strict shared types.Extension h bytes own = cause-next (BreaksExtension strict bytes) (extension strict bytes) _ (extension_causes strict bytes) (λ known known_is. tt)
+kept-causes strict shared _ h bytes own = tt
 
 -- the place of the segment that is refused, one behind another segment
-names-later : (strict : Bool) (p : SegmentView) (ps : List SegmentView) (names more : Names) (e : DecodeError) → named_by strict p names ≡ Ok more → BreaksNames strict ps more e → BreaksNames strict (p ∷ ps) names e
+names-later : (strict : Bool) (p : SegmentView) (ps : List SegmentView) (names more : Names) (e : DecodeError) → kept_by strict no_names p names ≡ Ok more → BreaksNames strict ps more e → BreaksNames strict (p ∷ ps) names e
 names-later strict p ps names more e is some =
     (suc some.0, some.1, some.2, some.3, ap (λ (r : Result Names DecodeError). r >>= λ next. named_from strict (take some.0 ps) next) is ∙ some.4, some.5)
 
@@ -82,8 +80,8 @@ pub file_globals_causes : FileGlobalsHaveCauses
 file_globals_causes strict [] names = tt
 file_globals_causes strict (p ∷ ps) names =
     let P : DecodeError → Type 0 = BreaksNames strict (p ∷ ps) names in
-    cause-next P (named_by strict p names) _
-    (cause-by (named_by strict p names) (BreaksGlobal strict names p) P (global-causes strict p.header.segment_type p.header p.bytes names) (λ e is broken. (0, p, names, refl, refl, broken)))
+    cause-next P (kept_by strict no_names p names) _
+    (cause-by (kept_by strict no_names p names) (BreaksKept strict names no_names p) P (kept-causes strict no_names p.header.segment_type p.header p.bytes names) (λ e is broken. (0, p, names, refl, refl, broken)))
     (λ more more_is. cause-by (named_from strict ps more) (BreaksNames strict ps more) P (file_globals_causes strict ps more) (λ e is some. names-later strict p ps names more e more_is some))
 
 pub globals_causes : GlobalsHaveCauses
@@ -96,15 +94,9 @@ segment-causes : (strict : Bool) (globals : Names) (p : SegmentView) (d : Drawin
 segment-causes strict globals p d =
     of-segment IfErr strict globals p d
     (record {
-      symbols = λ q.
-          let P : DecodeError → Type 0 = BreaksSymbolDictionary strict d.names globals q in
-          keeping-cause P d (with_symbols strict globals q d.names) (symbols-cause P strict globals q d.names (symbol_dictionary_causes strict d.names globals q));
-      patterns = λ q. keeping-cause (IsOf (pattern_dictionary_at strict q.bytes)) d (with_patterns strict q d.names) (patterns-cause strict q d.names);
-      tables = λ q. keeping-cause (IsOf (code_at q.bytes)) d (with_code q d.names) (code-cause q d.names);
-      extensions = λ bytes. cause-next (BreaksExtension strict bytes) (extension strict bytes) _ (extension_causes strict bytes) (λ known known_is. tt);
+      nothing = λ q. keeping-cause (BreaksKept strict d.names globals q) d (kept_by strict globals q d.names) (kept-causes strict globals q.header.segment_type q.header q.bytes d.names);
       kept = λ kind q. intermediate-causes strict globals kind q d;
       shown = λ kind q. immediate-causes strict globals kind q d;
-      others = tt;
     })
 
 drawing-later : (strict : Bool) (globals : Names) (p : SegmentView) (ps : List SegmentView) (d more : Drawing) (e : DecodeError)

@@ -10,7 +10,8 @@ use Rattle.jbig2_base.specs.Grid.{Grid, pixel_at, bit_number, same_colour}
 use Rattle.jbig2_base.specs.inner.WordBits.{bit}
 use Rattle.jbig2_base.specs.inner.Colour.{IsFirst}
 use Rattle.jbig2_base.proofs.BitLemmas.{bit-ones, bit-zero, bit_number-bit}
-use Rattle.hayro_jbig2.specs.Calls.{Call, Pixel, Chunk, Line, is_all, singles, with_whole, with_byte, whole_calls, run_of, row_of, row_calls, line_calls, calls_of}
+use Rattle.hayro_jbig2.specs.Calls.{Call, Pixel, Chunk, Line, is_all, singles, with_whole, with_byte, whole_calls, row_of, line_calls, calls_of}
+use Rattle.hayro_jbig2.specs.inner.RunViews.{run_of}
 
 -- a byte that is not all of one colour begins with a pixel
 with_whole-singles : (black : Bool) (bits : List Bool) (calls : List Call) → is_all black bits ≡ false → with_whole black (singles bits ++ calls) ≡ Chunk black 1 ∷ (singles bits ++ calls)
@@ -274,7 +275,7 @@ singles-first g x end y black inside within is =
     ∙ ap (λ (bs : List Bool). Pixel black ∷ singles bs) (sym (row-part g (x + 1) y (end - (x + 1)) (omega arith)))
 
 -- a row from its beginning
-pub line-start : (g : Grid) (y : ℕ) → row_calls (row_of g y) ≡ whole_calls ((g.width - 0) / 8) (row_of g y)
+pub line-start : (g : Grid) (y : ℕ) → whole_calls (length (row_of g y) / 8) (row_of g y) ≡ whole_calls ((g.width - 0) / 8) (row_of g y)
 line-start g y = ap (λ (n : ℕ). whole_calls (n / 8) (row_of g y)) (length-row g y ∙ (let e : g.width ≡ g.width - 0 = omega arith in e))
 
 -- what is left behind a run

@@ -1,48 +1,56 @@
 -- Which rule is broken where a segment of a page or of globals is refused.
-use Rattle.std.proofs.Common.{◌≡◌, inl, inr, ℕ, ◌+◌, ◌<◌, Bool, true, false, ◌&&◌, ◌==◌, nat_le, nat_lt, is_none, List, [], ◌∷◌, ◌++◌, length, length-append, take, Option, Some, None, Result, Ok, Err, refl, sym, ap, subst, ◌∙◌, arith}
-use Rattle.std.proofs.lemmas.Bool.{and_parts, cond_both, eqb-false, leb-true, ltb-true}
-use Rattle.std.specs.Prelude.{IfErr, IfOk, IsTrue}
+use Rattle.std.proofs.Common.{◌≡◌, inl, inr, ℕ, ◌+◌, ◌<◌, Bool, true, false, ◌&&◌, nat_le, nat_lt, is_none, List, [], ◌∷◌, ◌++◌, length, length-append, take, Option, Some, None, Result, Ok, Err, refl, sym, ap, subst, ◌∙◌, arith}
+use Rattle.std.proofs.lemmas.Bool.{and_parts, leb-true, ltb-true}
+use Rattle.std.specs.Prelude.{◌⊎◌, ◌≢◌, Any, IfErr, IfOk, IsTrue, MatchOption, option_and_then, slice_get, unwrap_or}
+use Rattle.std.specs.List.{flat_map}
+use Rattle.std.specs.Option.{option_map_or}
 use Rattle.std.specs.Int.{w32, from_be_bytes}
-use Rattle.jbig2_base.specs.Answer.{◌>>=◌, refuse_if}
+use Rattle.jbig2_base.specs.Answer.{◌>>=◌, refuse_if, some_or}
 use Rattle.jbig2_base.specs.Fields.{number_at}
 use Rattle.jbig2_base.specs.Causes.{IsOf}
+use Rattle.jbig2_base.specs.Grid.{Grid}
 use Rattle.jbig2_base.specs.declared.error.DecodeError.{DecodeError}
 use Rattle.jbig2_base.specs.declared.error.DecodeError.TheVariants.{Overflow, Segment, Unsupported}
 use Rattle.jbig2_base.specs.declared.error.OverflowError.TheVariants.{SymbolCount}
-use Rattle.jbig2_base.specs.declared.error.SegmentError.TheVariants.{InvalidReference}
+use Rattle.jbig2_base.specs.declared.error.SegmentError.TheVariants.{InvalidReference, MissingPatternDictionary}
 use Rattle.jbig2_base.proofs.Causes.{cause-next, cause-number, cause-refused, number-there}
 use Rattle.jbig2_coder.specs.PrefixCode.{Member}
+use Rattle.jbig2_halftone.specs.Halftone.{halftone_decoded}
+use Rattle.jbig2_halftone.specs.HalftoneHeader.{halftone_header_at}
 use Rattle.jbig2_halftone.specs.Patterns.{Patterns}
 use Rattle.jbig2_region.specs.Generic.{PlacedRegion}
-use Rattle.jbig2_symbol.specs.Symbols.{Symbols}
+use Rattle.jbig2_region.specs.Refinement.{refined_decoded}
+use Rattle.jbig2_region.specs.RefinementHeader.{refinement_header_at}
+use Rattle.jbig2_symbol.specs.SymbolHeader.{symbol_header_at}
+use Rattle.jbig2_symbol.specs.Symbols.{Symbols, symbols_decoded}
+use Rattle.jbig2_text.specs.TextHeader.{text_header_at}
+use Rattle.jbig2_text.specs.TextRegion.{text_decoded}
 use Rattle.jbig2_symbol.proofs.ReadingCauses.{cause-by, in-steps, own-error}
-use Rattle.hayro_jbig2.specs.Causes.{AtSome, BreaksExtension, BreaksPatternReference, BreaksReferred, BreaksRefinement, ExtensionsHaveCauses, HalftoneSegmentsHaveCauses, LacksPatterns, LacksRegion, NamesNone, NamesNothing, ReferredHasCauses, RefinementsHaveCauses, SymbolDictionariesHaveCauses, TextsHaveCauses, first_region, halftone_with, refinement_with, symbols_in, symbols_under, symbols_with, text_with}
-use Rattle.hayro_jbig2.specs.Dictionaries.{symbol_dictionary_at}
-use Rattle.hayro_jbig2.specs.Names.{Names, first_named, named, own_else}
-use Rattle.hayro_jbig2.specs.Referred.{Referred, nothing_referred, referred_by, with_either, with_number, with_numbers}
-use Rattle.hayro_jbig2.specs.Regions.{halftone_at, patterns_for, referred_region, refinement_at, some_patterns, text_at}
+use Rattle.hayro_jbig2.specs.Causes.{BreaksExtension, BreaksReferred, BreaksRefinement, ExtensionsHaveCauses, HalftoneSegmentsHaveCauses, ReferredHasCauses, RefinementsHaveCauses, SymbolDictionariesHaveCauses, TextsHaveCauses}
+use Rattle.hayro_jbig2.specs.Names.{Names, Referred, first_named, named, referred_by, symbol_dictionary_at, with_dictionary, with_number, with_numbers, with_table}
+use Rattle.hayro_jbig2.specs.Regions.{halftone_at, page_area, patterns_for, referred_region, refinement_at, text_at}
 use Rattle.hayro_jbig2.specs.declared.kept.Kept.{Kept}
 use Rattle.hayro_jbig2.proofs.Causes.{at-first, at-later}
 
--- ---- names
-unnamed : {V : Type 0} (number : ℕ) (kept : List (Kept V)) → first_named number kept ≡ None → NamesNone kept number
-unnamed number [] none = tt
-unnamed {V} number (k ∷ kept) none =
-    let Q : Option V → Type 0 = λ o. o ≡ None → NamesNone (k ∷ kept) number in
-    cond_both (k.segment_number == number) (Some k.value) (first_named number kept) Q
-    (λ here is. absurd (cc))
-    (λ apart is. (eqb-false k.segment_number number apart, unnamed number kept is)) none
-
-neither : {V : Type 0} (a b : Option V) → own_else a b ≡ None → (a ≡ None) × (b ≡ None)
-neither (Some v) b none = absurd (cc)
-neither None b none = (refl, none)
-
-unnamed-both : {V : Type 0} (number : ℕ) (own shared : List (Kept V)) → named number own shared ≡ None → NamesNone own number × NamesNone shared number
-unnamed-both number own shared none =
-    let both = neither (first_named number own) (first_named number shared) none in
-    (unnamed number own both.0, unnamed number shared both.1)
-
 -- ---- what a segment refers to
+abbrev NamesNothing : Names → Names → ℕ → Type 0
+NamesNothing own shared number = (named number own.symbols shared.symbols ≡ None) × (named number own.codes shared.codes ≡ None)
+
+abbrev exported_of : Option Symbols → List Grid
+exported_of s = option_map_or (λ d. d.exported) s []
+
+abbrev exported_under : Names → Names → List ℕ → List Grid
+exported_under own shared numbers = flat_map (λ n. exported_of (named n own.symbols shared.symbols)) numbers
+
+abbrev symbols_in : Option Symbols → ℕ
+symbols_in s = length (exported_of s)
+
+abbrev symbols_under : Names → Names → List ℕ → ℕ
+symbols_under own shared numbers = length (exported_under own shared numbers)
+
+abbrev with_either : Bool → Option Symbols → Option (List Member) → Referred → Result Referred DecodeError
+with_either strict s code r = option_map_or (λ d. with_dictionary d r) s (with_table strict code r)
+
 -- what holds of the last step's value holds of the whole
 ok-last : {A B : Type 0} (P : B → Type 0) (r : Result A DecodeError) (next : A → Result B DecodeError) → ((x : A) → IfOk (next x) P) → IfOk (r >>= next) P
 ok-last P (Ok x) next rest = rest x
@@ -75,30 +83,30 @@ grown strict None None r =
 
 numbers-cause : (P : DecodeError → Type 0) (strict : Bool) (own shared : Names) (numbers : List ℕ) (r : Referred)
     → (1048576 < length r.symbols + symbols_under own shared numbers → P (Overflow SymbolCount))
-    → (IsTrue strict → AtSome (NamesNothing own shared) numbers → P (Segment InvalidReference)) → IfErr (with_numbers strict own shared numbers r) P
+    → (IsTrue strict → Any (NamesNothing own shared) numbers → P (Segment InvalidReference)) → IfErr (with_numbers strict own shared numbers r) P
 numbers-cause P strict own shared [] r many none = tt
 numbers-cause P strict own shared (number ∷ numbers) r many none =
     let s = named number own.symbols shared.symbols in
     let code = named number own.codes shared.codes in
+    let together = length-append (exported_of s) (exported_under own shared numbers) in
     cause-next P (with_number strict own shared number r) _
-    (either-cause P strict s code r (λ over. many (omega (arith, over))) (λ is no_symbols no_code.
-    let first = unnamed-both number own.symbols shared.symbols no_symbols in
-    let second = unnamed-both number own.codes shared.codes no_code in
-    none is (at-first (NamesNothing own shared) number numbers (first.0, first.1, second.0, second.1))))
+    (either-cause P strict s code r (λ over. many (omega (arith, over, together))) (λ is no_symbols no_code.
+    none is (at-first (NamesNothing own shared) number numbers (no_symbols, no_code))))
     (λ more more_is.
     let size = ok-holds (λ (x : Referred). length x.symbols ≡ length r.symbols + symbols_in s) (with_either strict s code r) more (grown strict s code r) more_is in
-    numbers-cause P strict own shared numbers more (λ over. many (omega (arith, over, size))) (λ is some. none is (at-later (NamesNothing own shared) number numbers some)))
+    numbers-cause P strict own shared numbers more (λ over. many (omega (arith, over, size, together))) (λ is some. none is (at-later (NamesNothing own shared) number numbers some)))
 
 pub referred_causes : ReferredHasCauses
 referred_causes strict own shared numbers =
-    numbers-cause (BreaksReferred strict own shared numbers) strict own shared numbers nothing_referred (λ over. omega (arith, over)) (λ is some. (is, some))
+    numbers-cause (BreaksReferred strict own shared numbers) strict own shared numbers (record { symbols = []; codes = []; kept = None }) (λ over. omega (arith, over)) (λ is some. (is, some))
 
 -- ---- dictionaries and extensions
 pub symbol_dictionary_causes : SymbolDictionariesHaveCauses
 unfolding symbol_dictionary_at
 symbol_dictionary_causes strict own shared p =
     let numbers = p.header.referred_to_segments in
-    in-steps (referred_by strict own shared numbers) (symbols_with strict p.bytes) (BreaksReferred strict own shared numbers) (λ referred. IsOf (symbols_with strict p.bytes referred)) (referred_causes strict own shared numbers) (λ referred referred_is. own-error (symbols_with strict p.bytes referred))
+    let behind : Referred → Result Symbols DecodeError = λ referred. symbol_header_at strict p.bytes >>= λ header. symbols_decoded header.0 referred.symbols referred.codes referred.kept in
+    in-steps (referred_by strict own shared numbers) behind (BreaksReferred strict own shared numbers) (λ referred. IsOf (behind referred)) (referred_causes strict own shared numbers) (λ referred referred_is. own-error (behind referred))
 
 pub extension_causes : ExtensionsHaveCauses
 extension_causes true bytes =
@@ -114,30 +122,29 @@ pub text_causes : TextsHaveCauses
 unfolding text_at
 text_causes strict own shared p =
     let numbers = p.header.referred_to_segments in
-    in-steps (referred_by strict own shared numbers) (text_with strict p.bytes) (BreaksReferred strict own shared numbers) (λ referred. IsOf (text_with strict p.bytes referred)) (referred_causes strict own shared numbers) (λ referred referred_is. own-error (text_with strict p.bytes referred))
+    let behind : Referred → Result PlacedRegion DecodeError = λ referred. text_header_at (length referred.symbols) strict p.bytes >>= λ header. text_decoded header.0 referred.symbols referred.codes in
+    in-steps (referred_by strict own shared numbers) behind (BreaksReferred strict own shared numbers) (λ referred. IsOf (behind referred)) (referred_causes strict own shared numbers) (λ referred referred_is. own-error (behind referred))
 
-lacks-patterns : (own shared : Names) (numbers : List ℕ) → patterns_for own shared numbers ≡ None → LacksPatterns own shared numbers
-lacks-patterns own shared [] none = tt
-lacks-patterns own shared (number ∷ numbers) none = unnamed-both number own.patterns shared.patterns none
-
-some-patterns : (own shared : Names) (numbers : List ℕ) (o : Option Patterns) → (o ≡ None → LacksPatterns own shared numbers) → IfErr (some_patterns o) (BreaksPatternReference own shared numbers)
-some-patterns own shared numbers (Some patterns) none = tt
-some-patterns own shared numbers None none = none refl
+halftone-cause : (o : Option Patterns) (behind : Patterns → Result PlacedRegion DecodeError)
+    → IfErr (some_or (Segment MissingPatternDictionary) o >>= behind) (λ e. MatchOption o (e ≡ Segment MissingPatternDictionary) (λ patterns. IsOf (behind patterns) e))
+halftone-cause (Some patterns) behind = own-error (behind patterns)
+halftone-cause None behind = refl
 
 pub halftone_causes : HalftoneSegmentsHaveCauses
 unfolding halftone_at
 halftone_causes strict own shared p =
-    let numbers = p.header.referred_to_segments in
-    let found = patterns_for own shared numbers in
-    in-steps (some_patterns found) (halftone_with strict p.bytes) (BreaksPatternReference own shared numbers) (λ patterns. IsOf (halftone_with strict p.bytes patterns)) (some-patterns own shared numbers found (lacks-patterns own shared numbers)) (λ patterns patterns_is. own-error (halftone_with strict p.bytes patterns))
+    halftone-cause (patterns_for own shared p.header.referred_to_segments) (λ patterns. halftone_header_at strict p.bytes >>= λ header. halftone_decoded header.0 patterns)
 
 is-none : {X : Type 0} (o : Option X) → is_none o ≡ true → o ≡ None
 is-none (Some x) is = absurd (cc)
 is-none None is = refl
 
-lacks-region : (is_intermediate : Bool) (numbers : List ℕ) (regions : List (Kept PlacedRegion)) → IsTrue is_intermediate → first_region numbers regions ≡ None → LacksRegion is_intermediate numbers regions
-lacks-region is_intermediate [] regions is none = is
-lacks-region is_intermediate (number ∷ others) regions is none = unnamed number regions none
+abbrev first_region : List ℕ → List (Kept PlacedRegion) → Option PlacedRegion
+first_region numbers regions = option_and_then (λ number. first_named number regions) (slice_get numbers 0)
+
+-- the number of a region that is not kept, or an intermediate refinement of none
+abbrev LacksRegion : Bool → List ℕ → List (Kept PlacedRegion) → Type 0
+LacksRegion is_intermediate numbers regions = (first_region numbers regions ≡ None) × (IsTrue is_intermediate ⊎ (numbers ≢ []))
 
 reference-cause : (P : DecodeError → Type 0) (strict is_intermediate : Bool) (numbers : List ℕ) (regions : List (Kept PlacedRegion))
     → (IsTrue strict → LacksRegion is_intermediate numbers regions → P (Segment InvalidReference)) → IfErr (referred_region strict numbers regions) P
@@ -146,7 +153,7 @@ reference-cause P strict is_intermediate (number ∷ others) regions why =
     let missing : Bool = is_none (first_named number regions) in
     cause-next P (refuse_if (strict && missing) (Segment InvalidReference)) _ (cause-refused P (strict && missing) (Segment InvalidReference) (λ both.
     let parts = and_parts strict missing both in
-    why parts.0 (unnamed number regions (is-none (first_named number regions) parts.1)))) (λ known known_is. tt)
+    why parts.0 (is-none (first_named number regions) parts.1, inr (λ (empty : number ∷ others ≡ []). absurd (cc))))) (λ known known_is. tt)
 
 reference-is : (strict : Bool) (numbers : List ℕ) (regions : List (Kept PlacedRegion)) → IfOk (referred_region strict numbers regions) (λ r. r ≡ first_region numbers regions)
 reference-is strict [] regions = refl
@@ -158,12 +165,13 @@ unfolding refinement_at
 refinement_causes strict is_intermediate page regions p =
     let P : DecodeError → Type 0 = BreaksRefinement strict is_intermediate page regions p in
     let numbers = p.header.referred_to_segments in
-    cause-next P (referred_region strict numbers regions) _ (reference-cause P strict is_intermediate numbers regions (λ is lacks. inl (is, lacks))) (λ referred referred_is.
+    let behind : Option PlacedRegion → Result PlacedRegion DecodeError = λ r. refinement_header_at p.bytes >>= λ header. refined_decoded header.0 (unwrap_or r (page_area page header.0.region_info)) in
+    cause-next P (referred_region strict numbers regions) _ (reference-cause P strict is_intermediate numbers regions (λ is lacks. inl (refl, is, lacks.0, lacks.1))) (λ referred referred_is.
     let same : referred ≡ first_region numbers regions = ok-holds (λ (r : Option PlacedRegion). r ≡ first_region numbers regions) (referred_region strict numbers regions) referred (reference-is strict numbers regions) referred_is in
     let lone : Bool = strict && is_intermediate && is_none referred in
     cause-next P (refuse_if lone (Segment InvalidReference)) _ (cause-refused P lone (Segment InvalidReference) (λ both.
     let parts = and_parts (strict && is_intermediate) (is_none referred) both in
     let rest = and_parts strict is_intermediate parts.0 in
-    inl (rest.0, lacks-region is_intermediate numbers regions rest.1 (sym same ∙ is-none referred parts.1)))) (λ known known_is.
-    cause-by (refinement_with page p.bytes referred) (IsOf (refinement_with page p.bytes referred)) P (own-error (refinement_with page p.bytes referred)) (λ e is own.
-    inr (ap (λ (r : Option PlacedRegion). refinement_with page p.bytes r) (sym same) ∙ own))))
+    inl (refl, rest.0, sym same ∙ is-none referred parts.1, inl rest.1))) (λ known known_is.
+    cause-by (behind referred) (IsOf (behind referred)) P (own-error (behind referred)) (λ e is own.
+    inr (ap (λ (r : Option PlacedRegion). behind r) (sym same) ∙ own))))

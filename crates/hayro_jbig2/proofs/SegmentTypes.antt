@@ -1,15 +1,12 @@
 -- What a segment of a page gives, and what it is refused for, by its type.
-use Rattle.std.proofs.Common.{ℕ, Bool, true, List, Result, Ok}
-use Rattle.jbig2_base.specs.Answer.{◌>>=◌}
-use Rattle.jbig2_base.specs.Causes.{IsOf}
+use Rattle.std.proofs.Common.{ℕ, Bool, true, false, List, Result}
+use Rattle.std.specs.Prelude.{IsTrue}
 use Rattle.jbig2_base.specs.Segment.{Header, SegmentView}
 use Rattle.jbig2_base.specs.declared.error.DecodeError.{DecodeError}
 use Rattle.jbig2_base.specs.declared.segment.SegmentType.{SegmentType}
 use Rattle.jbig2_base.specs.declared.segment.SegmentType.TheVariants as types
-use Rattle.hayro_jbig2.specs.Causes.{BreaksExtension, BreaksSymbolDictionary}
-use Rattle.hayro_jbig2.specs.PageCauses.{BreaksImmediate, BreaksRegion, BreaksSegmentOn}
-use Rattle.hayro_jbig2.specs.Dictionaries.{code_at, extension, pattern_dictionary_at, with_code, with_patterns, with_symbols}
-use Rattle.hayro_jbig2.specs.Names.{Names}
+use Rattle.hayro_jbig2.specs.Causes.{BreaksKept, BreaksRegion, BreaksSegmentOn}
+use Rattle.hayro_jbig2.specs.Names.{Names, kept_by}
 use Rattle.hayro_jbig2.specs.Page.{Drawing, immediate, intermediate, keeping, segment_on}
 use Rattle.hayro_jbig2.specs.declared.region.RegionKind.{RegionKind}
 use Rattle.hayro_jbig2.specs.declared.region.RegionKind.TheVariants as kinds
@@ -18,22 +15,20 @@ use Rattle.hayro_jbig2.specs.declared.region.RegionKind.TheVariants as kinds
 abbrev pub of_type : SegmentType → Header → List ℕ → SegmentView
 of_type kind h bytes = record { header = record h { segment_type = kind }; bytes = bytes }
 
+-- an immediate region is refused in strict mode alone
+abbrev pub BreaksImmediate : Bool → Names → RegionKind → SegmentView → Drawing → DecodeError → Type 0
+BreaksImmediate strict globals kind p d e = IsTrue strict × BreaksRegion strict globals kind false p d e
+
 -- P of what is drawn or kept, and of what it is refused for, whatever the segment is
 pub record OfEach (P : Result Drawing DecodeError → (DecodeError → Type 0) → Type 0) (strict : Bool) (globals : Names) (d : Drawing) : Type 0 where
-  pub symbols : (p : SegmentView) → P (keeping d (with_symbols strict globals p d.names)) (BreaksSymbolDictionary strict d.names globals p)
-  pub patterns : (p : SegmentView) → P (keeping d (with_patterns strict p d.names)) (IsOf (pattern_dictionary_at strict p.bytes))
-  pub tables : (p : SegmentView) → P (keeping d (with_code p d.names)) (IsOf (code_at p.bytes))
-  pub extensions : (bytes : List ℕ) → P (extension strict bytes >>= λ known. Ok d) (BreaksExtension strict bytes)
   pub kept : (kind : RegionKind) (p : SegmentView) → P (intermediate strict globals kind p d) (BreaksRegion strict globals kind true p d)
   pub shown : (kind : RegionKind) (p : SegmentView) → P (immediate strict globals kind p d) (BreaksImmediate strict globals kind p d)
-  pub others : P (Ok d) (λ e. ⊥)
+  pub nothing : (p : SegmentView) → P (keeping d (kept_by strict globals p d.names)) (BreaksKept strict d.names globals p)
 
 by-type : (P : Result Drawing DecodeError → (DecodeError → Type 0) → Type 0) (strict : Bool) (globals : Names) (kind : SegmentType) (h : Header) (bytes : List ℕ) (d : Drawing) → OfEach P strict globals d → P (segment_on strict globals (of_type kind h bytes) d) (BreaksSegmentOn strict globals (of_type kind h bytes) d)
-by-type P strict globals types.SymbolDictionary h bytes d of = of.symbols (of_type types.SymbolDictionary h bytes)
 by-type P strict globals types.IntermediateTextRegion h bytes d of = of.kept kinds.Text (of_type types.IntermediateTextRegion h bytes)
 by-type P strict globals types.ImmediateTextRegion h bytes d of = of.shown kinds.Text (of_type types.ImmediateTextRegion h bytes)
 by-type P strict globals types.ImmediateLosslessTextRegion h bytes d of = of.shown kinds.Text (of_type types.ImmediateLosslessTextRegion h bytes)
-by-type P strict globals types.PatternDictionary h bytes d of = of.patterns (of_type types.PatternDictionary h bytes)
 by-type P strict globals types.IntermediateHalftoneRegion h bytes d of = of.kept kinds.Halftone (of_type types.IntermediateHalftoneRegion h bytes)
 by-type P strict globals types.ImmediateHalftoneRegion h bytes d of = of.shown kinds.Halftone (of_type types.ImmediateHalftoneRegion h bytes)
 by-type P strict globals types.ImmediateLosslessHalftoneRegion h bytes d of = of.shown kinds.Halftone (of_type types.ImmediateLosslessHalftoneRegion h bytes)
@@ -43,9 +38,7 @@ by-type P strict globals types.ImmediateLosslessGenericRegion h bytes d of = of.
 by-type P strict globals types.IntermediateGenericRefinementRegion h bytes d of = of.kept kinds.GenericRefinement (of_type types.IntermediateGenericRefinementRegion h bytes)
 by-type P strict globals types.ImmediateGenericRefinementRegion h bytes d of = of.shown kinds.GenericRefinement (of_type types.ImmediateGenericRefinementRegion h bytes)
 by-type P strict globals types.ImmediateLosslessGenericRefinementRegion h bytes d of = of.shown kinds.GenericRefinement (of_type types.ImmediateLosslessGenericRefinementRegion h bytes)
-by-type P strict globals types.Tables h bytes d of = of.tables (of_type types.Tables h bytes)
-by-type P strict globals types.Extension h bytes d of = of.extensions bytes
-by-type P strict globals _ h bytes d of = of.others
+by-type P strict globals kind h bytes d of = of.nothing (of_type kind h bytes)
 
 -- so of every segment
 pub of-segment : (P : Result Drawing DecodeError → (DecodeError → Type 0) → Type 0) (strict : Bool) (globals : Names) (p : SegmentView) (d : Drawing) → OfEach P strict globals d → P (segment_on strict globals p d) (BreaksSegmentOn strict globals p d)

@@ -2,8 +2,7 @@
 use Rattle.std.proofs.Common.{◌≡◌, ℕ, ◌+◌, List, [], ◌∷◌, ◌++◌, refl, sym, subst, ◌∙◌, ap}
 use Rattle.std.proofs.lemmas.List.{append_assoc, append-nil}
 use Rattle.jbig2_base.specs.declared.error.DecodeError.{DecodeError}
-use Rattle.hayro_jbig2.specs.Calls.{Call}
-use Rattle.hayro_jbig2.specs.Sends.{Conduct, Makes, Stopped, after_calls}
+use Rattle.hayro_jbig2.specs.Calls.{Call, Conduct, Makes, Stopped, after_calls}
 
 after_calls-append : {P : Type 0} (step : P → Call → P) (p : P) (cs ds : List Call) → after_calls step p (cs ++ ds) ≡ after_calls step (after_calls step p cs) ds
 after_calls-append step p [] ds = refl

@@ -1,12 +1,12 @@
 -- The calls of a grid spell its rows.
-use Rattle.std.proofs.Common.{◌≡◌, ℕ, suc, zero, ◌+◌, ◌*◌, ◌/◌, ◌≤◌, Bool, true, false, cond, Some, List, [], ◌∷◌, ◌++◌, length, take, drop, replicate, map, count_by, refl, sym, subst, ◌∙◌, ap, arith}
+use Rattle.std.proofs.Common.{◌≡◌, ℕ, suc, zero, ◌+◌, ◌*◌, ◌/◌, ◌≤◌, Bool, true, false, cond, None, Some, List, [], ◌∷◌, ◌++◌, length, take, drop, replicate, map, count_by, refl, sym, subst, ◌∙◌, ap, arith}
 use Rattle.std.specs.List.{All, range_with_len, flat_map}
 use Rattle.std.proofs.lemmas.List.Elements.{All-nil, All-cons}
 use Rattle.std.proofs.lemmas.Bool.{cond_both, and_parts}
 use Rattle.std.proofs.lemmas.List.{append_assoc, append-nil, replicate-append-replicate, take-append-drop, length-take-le, length-drop}
 use Rattle.std.proofs.lemmas.List.Sums.{sum_by-append}
 use Rattle.jbig2_base.specs.Grid.{Grid, same_colour}
-use Rattle.hayro_jbig2.specs.Calls.{Call, Pixel, Chunk, Line, is_all, is_line, singles, with_whole, with_byte, whole_calls, row_calls, row_of, line_calls, calls_of, rows_after, rows_drawn, DrawsGrid}
+use Rattle.hayro_jbig2.specs.Calls.{Call, Pixel, Chunk, Line, is_all, is_line, singles, with_whole, with_byte, whole_calls, row_of, line_calls, calls_of, rows_after, DrawsGrid}
 use Rattle.hayro_jbig2.proofs.Runs.{length-row, colour_is}
 
 rows-singles : (front bits : List Bool) (cs : List Call) → rows_after (Some front) (singles bits ++ cs) ≡ rows_after (Some (front ++ bits)) cs
@@ -57,19 +57,19 @@ rows-calls (suc n) front bits cs room =
     ∙ ap (λ (r : List Bool). rows_after (Some r) cs) (append_assoc front (take 8 bits) (drop 8 bits) ∙ ap (λ (r : List Bool). front ++ r) (take-append-drop 8 bits))
 
 -- a row begins without pixels
-rows-begun : (ds cs : List Call) → rows_drawn (ds ++ Line ∷ cs) ≡ rows_after (Some []) (ds ++ Line ∷ cs)
+rows-begun : (ds cs : List Call) → rows_after None (ds ++ Line ∷ cs) ≡ rows_after (Some []) (ds ++ Line ∷ cs)
 rows-begun [] cs = refl
 rows-begun (Pixel b ∷ ds) cs = refl
 rows-begun (Chunk b n ∷ ds) cs = refl
 rows-begun (Line ∷ ds) cs = refl
 
-rows-line : (g : Grid) (y : ℕ) (cs : List Call) → rows_drawn (line_calls g y ++ cs) ≡ row_of g y ∷ rows_drawn cs
+rows-line : (g : Grid) (y : ℕ) (cs : List Call) → rows_after None (line_calls g y ++ cs) ≡ row_of g y ∷ rows_after None cs
 rows-line g y cs =
-    ap rows_drawn (append_assoc (row_calls (row_of g y)) (Line ∷ []) cs)
-    ∙ rows-begun (row_calls (row_of g y)) cs
+    ap (λ (calls : List Call). rows_after None calls) (append_assoc (whole_calls (length (row_of g y) / 8) (row_of g y)) (Line ∷ []) cs)
+    ∙ rows-begun (whole_calls (length (row_of g y) / 8) (row_of g y)) cs
     ∙ rows-calls (length (row_of g y) / 8) [] (row_of g y) (Line ∷ cs) (omega arith)
 
-rows-lines : (g : Grid) (a n : ℕ) → rows_drawn (flat_map (line_calls g) (range_with_len a n)) ≡ map (row_of g) (range_with_len a n)
+rows-lines : (g : Grid) (a n : ℕ) → rows_after None (flat_map (line_calls g) (range_with_len a n)) ≡ map (row_of g) (range_with_len a n)
 rows-lines g a zero = refl
 rows-lines g a (suc n) = rows-line g a (flat_map (line_calls g) (range_with_len (a + 1) n)) ∙ ap (λ (rs : List (List Bool)). row_of g a ∷ rs) (rows-lines g (a + 1) n)
 
@@ -113,7 +113,7 @@ count-calls (suc n) bits =
 count-lines : (g : Grid) (a n : ℕ) → count_by is_line (flat_map (line_calls g) (range_with_len a n)) ≡ n
 count-lines g a zero = refl
 count-lines g a (suc n) =
-    let cs = row_calls (row_of g a) in
+    let cs = whole_calls (length (row_of g a) / 8) (row_of g a) in
     let rest = flat_map (line_calls g) (range_with_len (a + 1) n) in
     let line : List Call = Line ∷ [] in
     let one : count_by is_line line ≡ 1 = refl in

@@ -8,10 +8,8 @@ use Rattle.jbig2_base.specs.declared.error.DecodeError.{DecodeError}
 use Rattle.jbig2_base.specs.declared.segment.SegmentType.{SegmentType}
 use Rattle.jbig2_base.specs.declared.segment.SegmentType.TheVariants as types
 use Rattle.jbig2_region.specs.Generic.{PlacedRegion}
-use Rattle.hayro_jbig2.specs.Dictionaries.{extension, with_code, with_patterns, with_symbols}
-use Rattle.hayro_jbig2.specs.Names.{Names}
-use Rattle.hayro_jbig2.specs.Untouched.{UntouchedIsBlank}
-use Rattle.hayro_jbig2.specs.Page.{Drawing, segments_drawn, ends_page, immediate, intermediate, keeping, page_begun, region_at, segment_on, shown, with_region}
+use Rattle.hayro_jbig2.specs.Names.{Names, kept_by}
+use Rattle.hayro_jbig2.specs.Page.{UntouchedIsBlank, Drawing, segments_drawn, ends_page, immediate, intermediate, keeping, page_begun, region_at, segment_on, shown, with_region}
 use Rattle.hayro_jbig2.specs.declared.region.RegionKind.{RegionKind}
 use Rattle.hayro_jbig2.specs.declared.region.RegionKind.TheVariants as kinds
 
@@ -45,19 +43,11 @@ after-keeping : (g : Grid) (d : Drawing) (kept : Result Names DecodeError) → I
 after-keeping g d (Ok names) still = still
 after-keeping g d (Err e) still = tt
 
-after-extension : (g : Grid) (d : Drawing) (r : Result (Unit {0}) DecodeError) → IsStill g d → StillAfter g (r >>= λ known. Ok d)
-after-extension g d (Ok u) still = still
-after-extension g d (Err e) still = tt
-
 -- a segment of this type
 abbrev typed : SegmentType → SegmentView → SegmentView
 typed t p = record p { header = record p.header { segment_type = t } }
 
 after-segment : (g : Grid) (strict : Bool) (names : Names) (t : SegmentType) (p : SegmentView) (d : Drawing) → IsStill g d → StillAfter g (segment_on strict names (typed t p) d)
-after-segment g strict names types.SymbolDictionary p d still = after-keeping g d (with_symbols strict names (typed types.SymbolDictionary p) d.names) still
-after-segment g strict names types.PatternDictionary p d still = after-keeping g d (with_patterns strict (typed types.PatternDictionary p) d.names) still
-after-segment g strict names types.Tables p d still = after-keeping g d (with_code (typed types.Tables p) d.names) still
-after-segment g strict names types.Extension p d still = after-extension g d (extension strict p.bytes) still
 after-segment g strict names types.IntermediateTextRegion p d still = after-intermediate g strict names kinds.Text (typed types.IntermediateTextRegion p) d still
 after-segment g strict names types.ImmediateTextRegion p d still = after-immediate g strict names kinds.Text (typed types.ImmediateTextRegion p) d
 after-segment g strict names types.ImmediateLosslessTextRegion p d still = after-immediate g strict names kinds.Text (typed types.ImmediateLosslessTextRegion p) d
@@ -70,7 +60,7 @@ after-segment g strict names types.ImmediateLosslessGenericRegion p d still = af
 after-segment g strict names types.IntermediateGenericRefinementRegion p d still = after-intermediate g strict names kinds.GenericRefinement (typed types.IntermediateGenericRefinementRegion p) d still
 after-segment g strict names types.ImmediateGenericRefinementRegion p d still = after-immediate g strict names kinds.GenericRefinement (typed types.ImmediateGenericRefinementRegion p) d
 after-segment g strict names types.ImmediateLosslessGenericRefinementRegion p d still = after-immediate g strict names kinds.GenericRefinement (typed types.ImmediateLosslessGenericRefinementRegion p) d
-after-segment g strict names _ p d still = still
+after-segment g strict names t p d still = after-keeping g d (kept_by strict names (typed t p) d.names) still
 
 after-next : (g : Grid) (r : Result Drawing DecodeError) (next : Drawing → Result Drawing DecodeError) → StillAfter g r → ((d : Drawing) → IsStill g d → StillAfter g (next d)) → StillAfter g (r >>= next)
 after-next g (Ok d) next still each = each d still

@@ -29,7 +29,7 @@ use Rattle.jbig2_text.specs.Text.{strip_delta, strip_begun, cursor_moved, instan
 use Rattle.jbig2_text.specs.TextHeader.{text_fields_at, text_flags_at, text_header_at}
 use Rattle.jbig2_text.specs.TextRegion.{region_from, text_tables, text_answer, text_decoded}
 use Rattle.hayro_jbig2.specs.Calls.{Call, Pixel, Line, singles, whole_calls, row_of, calls_of}
-use Rattle.hayro_jbig2.specs.Dictionaries.{symbol_dictionary_at, with_symbols}
+use Rattle.hayro_jbig2.specs.Names.{symbol_dictionary_at, with_symbols}
 use Rattle.hayro_jbig2.specs.Globals.{globals_at}
 use Rattle.hayro_jbig2.specs.Page.{embedded, grid_of_page, immediate}
 use Rattle.hayro_jbig2.specs.Regions.{text_at}

@@ -1,9 +1,11 @@
--- The calls that spell a page (our own rule; T.88 leaves open how a decoder hands a page on). `calls_of` takes a grid
--- and gives the calls of a Decoder for it, row by row; `rows_drawn` takes calls and gives the rows that they draw.
--- `DrawsGrid` says that calls draw a grid and nothing besides.
-use Rattle.std.specs.Prelude.{◌≡◌, ◌<◌, ◌≤◌, All, Option, Some, None, option_to_list, ℕ, suc, zero, ◌+◌, ◌*◌, ◌/◌, Bool, true, false, ◌&&◌, List, [], ◌∷◌, ◌++◌, length, take, drop, replicate, map, count_by, if◌then◌else◌}
+-- The calls that spell a page (our own rule; T.88 leaves open how a decoder hands a page on), and what a Decoder does with
+-- them. `calls_of` takes a grid and gives its calls, row by row; `rows_after` takes calls and gives the rows that they
+-- draw. `Decodes`, the last, takes the answer of a definition and says what `decode_with` makes of it.
+use Rattle.std.specs.Prelude.{◌≡◌, ◌<◌, ◌⊎◌, All, Option, Some, None, unwrap_or, option_to_list, ℕ, suc, zero, ◌+◌, ◌-◌, ◌*◌, ◌/◌, ◌^◌, Bool, true, false, ◌&&◌, List, [], ◌∷◌, ◌++◌, length, take, drop, replicate, map, count_by, Result, Ok, Err, if◌then◌else◌}
 use Rattle.std.specs.List.{range_with_len, flat_map}
 use Rattle.jbig2_base.specs.Grid.{Grid, pixel_at, same_colour}
+use Rattle.jbig2_base.specs.declared.error.DecodeError.{DecodeError}
+use Rattle.jbig2_base.specs.declared.error.DecodeError.TheVariants.{OutOfMemory}
 
 -- A call of a Decoder: one pixel, that many times eight pixels of one colour, the end of a row.
 pub data Call : Type 0 where
@@ -23,9 +25,7 @@ singles (b ∷ bs) = Pixel b ∷ singles bs
 -- A whole byte of one colour joins a chunk of that colour behind it.
 abbrev pub with_whole : Bool → List Call → List Call
 with_whole black (Chunk other n ∷ calls) = if same_colour black other then Chunk black (n + 1) ∷ calls else Chunk black 1 ∷ (Chunk other n ∷ calls)
-with_whole black (Pixel b ∷ calls) = Chunk black 1 ∷ (Pixel b ∷ calls)
-with_whole black (Line ∷ calls) = Chunk black 1 ∷ (Line ∷ calls)
-with_whole black [] = Chunk black 1 ∷ []
+with_whole black calls = Chunk black 1 ∷ calls
 
 abbrev pub with_byte : List Bool → List Call → List Call
 with_byte byte calls =
@@ -38,50 +38,22 @@ unfoldable pub whole_calls : ℕ → List Bool → List Call
 whole_calls zero bits = singles bits
 whole_calls (suc n) bits = with_byte (take 8 bits) (whole_calls n (drop 8 bits))
 
--- A row: its whole bytes of one colour as maximal runs, each a chunk, all other pixels one by one.
-abbrev pub row_calls : List Bool → List Call
-row_calls bits = whole_calls (length bits / 8) bits
-
--- the pixels of row y
 unfoldable pub row_of : Grid → ℕ → List Bool
 row_of g y = map (λ x. pixel_at g x y) (range_with_len 0 g.width)
 
+-- A row: its whole bytes of one colour as maximal runs, each a chunk, all other pixels one by one, and a line call.
 abbrev pub line_calls : Grid → ℕ → List Call
-line_calls g y = row_calls (row_of g y) ++ Line ∷ []
+line_calls g y = whole_calls (length (row_of g y) / 8) (row_of g y) ++ Line ∷ []
 
--- All rows from the top, each ended by a line call.
 unfoldable pub calls_of : Grid → List Call
 calls_of g = flat_map (line_calls g) (range_with_len 0 g.height)
-
--- the pixels of a row that may be begun
-abbrev pub begun_pixels : Option (List Bool) → List Bool
-begun_pixels None = []
-begun_pixels (Some row) = row
 
 -- The rows that calls draw, behind a row that may be begun. What no line call ends is a row too.
 abbrev pub rows_after : Option (List Bool) → List Call → List (List Bool)
 rows_after begun [] = option_to_list begun
-rows_after begun (Pixel black ∷ calls) = rows_after (Some (begun_pixels begun ++ black ∷ [])) calls
-rows_after begun (Chunk black bytes ∷ calls) = rows_after (Some (begun_pixels begun ++ replicate (8 * bytes) black)) calls
-rows_after begun (Line ∷ calls) = begun_pixels begun ∷ rows_after None calls
-
-abbrev pub rows_drawn : List Call → List (List Bool)
-rows_drawn calls = rows_after None calls
-
--- how many of the whole bytes, from the left, have this colour
-abbrev pub run_of : ℕ → Bool → List Bool → ℕ
-run_of zero black bits = 0
-run_of (suc n) black bits = if is_all black (take 8 bits) then suc (run_of n black (drop 8 bits)) else 0
-
--- The colour of all these pixels, if they have one.
-abbrev pub IsColourOf : List Bool → Option Bool → Type 0
-IsColourOf bits None = (is_all true bits ≡ false) × (is_all false bits ≡ false)
-IsColourOf bits (Some black) = is_all black bits ≡ true
-
--- Either no byte of one colour begins the pixels, or a run of whole bytes of a colour does.
-abbrev pub IsRunAt : ℕ → List Bool → Option (Bool × ℕ) → Type 0
-IsRunAt n bits None = (run_of n true bits ≡ 0) × (run_of n false bits ≡ 0)
-IsRunAt n bits (Some run) = (run_of n run.0 bits ≡ run.1) × (0 < run.1) × (run.1 ≤ n)
+rows_after begun (Pixel black ∷ calls) = rows_after (Some (unwrap_or begun [] ++ black ∷ [])) calls
+rows_after begun (Chunk black bytes ∷ calls) = rows_after (Some (unwrap_or begun [] ++ replicate (8 * bytes) black)) calls
+rows_after begun (Line ∷ calls) = unwrap_or begun [] ∷ rows_after None calls
 
 abbrev pub is_line : Call → Bool
 is_line Line = true
@@ -91,5 +63,53 @@ is_line _ = false
 -- the calls gets the grid's rows, and nothing behind the last one.
 pub record DrawsGrid (calls : List Call) (g : Grid) : Type 0 where
   pub lines : count_by is_line calls ≡ g.height
-  pub widths : All (λ row. length row ≡ g.width) (rows_drawn calls)
-  pub rows : rows_drawn calls ≡ map (row_of g) (range_with_len 0 g.height)
+  pub widths : All (λ row. length row ≡ g.width) (rows_after None calls)
+  pub rows : rows_after None calls ≡ map (row_of g) (range_with_len 0 g.height)
+
+-- How Decoders of a type behave: what was drawn by one, what a call that is taken does to that, with which errors a
+-- call may be refused, and how many calls were refused.
+pub record Conduct (S : Type 0) : Type 1 where
+  pub Picture : Type 0
+  pub picture : S → Picture
+  pub step : Picture → Call → Picture
+  pub refuses : Picture → Call → DecodeError → Type 0
+  pub refusals : S → ℕ
+
+abbrev pub IsCountable : {S : Type 0} → Conduct S → S → Type 0
+IsCountable d s = d.refusals s < 2 ^ 64 - 1
+
+-- One call: a refused one leaves the picture, and answers an error that it may be refused with.
+abbrev pub Takes : {S : Type 0} → Conduct S → Call → Result (Unit {0}) DecodeError → S → S → Type 0
+Takes d call (Ok u) old new = (d.picture new ≡ d.step (d.picture old) call) × (d.refusals new ≡ d.refusals old)
+Takes d call (Err e) old new = (d.picture new ≡ d.picture old) × (d.refusals new ≡ d.refusals old + 1) × d.refuses (d.picture old) call e
+
+abbrev pub after_calls : {P : Type 0} → (P → Call → P) → P → List Call → P
+after_calls step p [] = p
+after_calls step p (call ∷ calls) = after_calls step (step p call) calls
+
+-- All of the calls were made and no other.
+abbrev pub Makes : {S : Type 0} → Conduct S → List Call → S → S → Type 0
+Makes d calls old new = (d.picture new ≡ after_calls d.step (d.picture old) calls) × (d.refusals new ≡ d.refusals old)
+
+-- A beginning of the calls was made, and the call behind it was refused with this error, the Decoder's own.
+pub record Stopped {S : Type 0} (d : Conduct S) (calls : List Call) (e : DecodeError) (old new : S) : Type 0 where
+  pub made : List Call
+  pub refused : Call
+  pub others : List Call
+  pub split : calls ≡ made ++ refused ∷ others
+  pub picture : d.picture new ≡ after_calls d.step (d.picture old) made
+  pub counted : d.refusals new ≡ d.refusals old + 1
+  pub own : d.refuses (d.picture new) refused e
+
+-- All of the calls, unless one was refused: that error is answered.
+abbrev pub Sends : {S : Type 0} → Conduct S → List Call → Result (Unit {0}) DecodeError → S → S → Type 0
+Sends d calls (Ok u) old new = Makes d calls old new
+Sends d calls (Err e) old new = Stopped d calls e old new
+
+-- The answer of decoding, where the page's definition gives a grid or an error: exactly the calls that spell the
+-- grid, or that error and no call. Besides, the Decoder may refuse a call, and memory may run out before any.
+abbrev pub Decodes : {S : Type 0} → Conduct S → Result Grid DecodeError → Result (Unit {0}) DecodeError → S → S → Type 0
+Decodes d (Ok g) (Ok u) old new = Makes d (calls_of g) old new
+Decodes d (Ok g) (Err e) old new = Stopped d (calls_of g) e old new ⊎ ((e ≡ OutOfMemory) × Makes d [] old new)
+Decodes d (Err f) (Ok u) old new = ⊥
+Decodes d (Err f) (Err e) old new = ((e ≡ f) ⊎ (e ≡ OutOfMemory)) × Makes d [] old new

@@ -1,7 +1,6 @@
 -- The pages of a file (T.88, 7.2.6 and 7.4.8), and what they share. `book_at` takes a file's bytes and gives its pages,
--- each with the segments whose page association is its number, and the names of the segments of association 0.
--- `page_of` gives one of its pages, by its index from 0.
-use Rattle.std.specs.Prelude.{◌≡◌, ℕ, ◌+◌, ◌==◌, Bool, true, false, not, ◌&&◌, ◌||◌, List, [], ◌∷◌, ◌++◌, length, filter, map, slice_get, option_map, Option, Some, None, Result, Ok, Err, if◌then◌else◌}
+-- each with the segments whose page association is its number, and the names of those of association 0.
+use Rattle.std.specs.Prelude.{◌≡◌, ℕ, ◌+◌, ◌==◌, Bool, true, false, not, ◌&&◌, ◌||◌, List, [], ◌∷◌, ◌++◌, length, filter, map, slice_get, option_map, is_some, Option, Some, None, Result, Ok, Err, if◌then◌else◌}
 use Rattle.std.specs.List.{list_any}
 use Rattle.jbig2_base.specs.Answer.{◌>>=◌, refuse_if}
 use Rattle.jbig2_base.specs.File.{file_at}
@@ -17,14 +16,13 @@ use Rattle.jbig2_base.specs.declared.segment.SegmentType.{SegmentType}
 use Rattle.jbig2_base.specs.declared.segment.SegmentType.TheVariants as types
 use Rattle.hayro_jbig2.specs.Globals.{named_from}
 use Rattle.hayro_jbig2.specs.Names.{Names, no_names}
-use Rattle.hayro_jbig2.specs.Page.{ReadPage}
+use Rattle.hayro_jbig2.specs.Page.{ReadPage, region_type}
 
--- A page in a file: what it begins as, and its segments in order.
 pub record PageInFile : Type 0 where
   pub initial_page : InitialPage
   pub segments : List SegmentView
 
--- A file: whether it is read strictly, its pages, and the names of its globals or the error that decoding them gave.
+-- A file: whether it is read strictly, its pages, and the names of its globals or their error.
 pub record ReadFile : Type 0 where
   pub strict : Bool
   pub pages : List PageInFile
@@ -32,15 +30,10 @@ pub record ReadFile : Type 0 where
 
 -- What can't stand outside of a page: regions, page information, and the ends of pages and stripes (7.3.2).
 abbrev pub needs_page : SegmentType → Bool
-needs_page types.SymbolDictionary = false
-needs_page types.PatternDictionary = false
-needs_page types.EndOfFile = false
-needs_page types.Profiles = false
-needs_page types.Tables = false
-needs_page types.ColourPalette = false
-needs_page types.Extension = false
-needs_page types.Reserved = false
-needs_page _ = true
+needs_page types.PageInformation = true
+needs_page types.EndOfPage = true
+needs_page types.EndOfStripe = true
+needs_page kind = is_some (region_type kind)
 
 -- Association 0 is that of no page (7.2.6); strict reading refuses it where a page is needed.
 abbrev pub lacks_page : Bool → Header → Bool
@@ -50,22 +43,16 @@ abbrev pub associated : Bool → List SegmentView → Result (Unit {0}) DecodeEr
 associated strict [] = Ok tt
 associated strict (p ∷ ps) = if lacks_page strict p.header then Err (Segment MissingPageAssociation) else associated strict ps
 
-abbrev pub is_known : ℕ → List ℕ → Bool
-is_known n ns = n == 0 || list_any (λ m. m == n) ns
-
-abbrev pub with_page_number : ℕ → List ℕ → List ℕ
-with_page_number n ns = if is_known n ns then ns else ns ++ n ∷ []
-
--- The pages' numbers behind these, in the order in which they first occur.
+-- The pages' numbers behind these, in the order in which they first occur; 0 is none.
 abbrev pub numbers_after : List ℕ → List SegmentView → List ℕ
 numbers_after ns [] = ns
-numbers_after ns (p ∷ ps) = numbers_after (with_page_number p.header.page_association ns) ps
+numbers_after ns (p ∷ ps) =
+    let n = p.header.page_association in
+    numbers_after (if n == 0 || list_any (λ m. m == n) ns then ns else ns ++ n ∷ []) ps
 
--- the segments with this association
 abbrev pub of_page : ℕ → List SegmentView → List SegmentView
 of_page n ps = filter (λ p. p.header.page_association == n) ps
 
--- each page's own segments, in the order in which the pages' numbers first occur
 abbrev pub by_pages : List SegmentView → List (List SegmentView)
 by_pages ps = map (λ n. of_page n ps) (numbers_after [] ps)
 
@@ -84,13 +71,9 @@ filed_from strict own = do
   initial_page ← initial_page_of own
   Ok (record { initial_page = initial_page; segments = own })
 
--- the pages that these lists of segments make
 abbrev pub filed_each : Bool → List (List SegmentView) → Result (List PageInFile) DecodeError
 filed_each strict [] = Ok []
-filed_each strict (own ∷ others) = do
-  page ← filed_from strict own
-  pages ← filed_each strict others
-  Ok (page ∷ pages)
+filed_each strict (own ∷ others) = filed_from strict own >>= λ page. filed_each strict others >>= λ pages. Ok (page ∷ pages)
 
 -- a count of pages that the file's header tells (D.4.3)
 abbrev pub miscounts : Option ℕ → ℕ → Bool
@@ -109,21 +92,16 @@ book_at strict bytes = do
 abbrev pub page_in : ReadFile → PageInFile → ReadPage
 page_in book page = record { strict = book.strict; initial_page = page.initial_page; segments = page.segments; globals = book.globals }
 
--- the page at this index, from 0
 abbrev pub page_of : ReadFile → ℕ → Option ReadPage
 page_of book index = option_map (page_in book) (slice_get book.pages index)
 
--- the pages in order
 abbrev pub pages_of : ReadFile → List ReadPage
 pages_of book = map (page_in book) book.pages
-
--- A page that is made of its own segments and of those of no page.
-abbrev pub page_from : Bool → List SegmentView → List SegmentView → Result ReadPage DecodeError
-page_from strict own shared = initial_page_of own >>= λ initial_page. Ok (record { strict = strict; initial_page = initial_page; segments = own; globals = named_from strict shared no_names })
 
 -- Each page of a file is made of the segments whose association is its number, those of association 0 and the
 -- strictness alone.
 abbrev pub PagesStandAlone : Type 0
 PagesStandAlone = (strict : Bool) (bytes : List ℕ) (file : FileHeader × List SegmentView) (book : ReadFile) (index : ℕ) (page : ReadPage)
     → file_at strict bytes ≡ Ok file → book_at strict bytes ≡ Ok book → page_of book index ≡ Some page
-    → page_from strict (of_page page.initial_page.number file.1) (of_page 0 file.1) ≡ Ok page
+    → let own = of_page page.initial_page.number file.1 in
+    (initial_page_of own >>= λ begun. Ok (record { strict = strict; initial_page = begun; segments = own; globals = named_from strict (of_page 0 file.1) no_names })) ≡ Ok page

@@ -1,22 +1,27 @@
--- A page as bytes (our own rule): one for each pixel, row by row from the top and each row from the left, as the traits
--- of images want it. They are those of the grid that the page decodes to, or the page's error.
-use Rattle.std.specs.Prelude.{ℕ, ◌+◌, ◌-◌, ◌*◌, ◌/◌, ◌%◌, Bool, List, map, Result, Ok, if◌then◌else◌}
+-- A page as bytes (our own rule): those of the grid that the page decodes to, or the page's error. And what a viewer shows
+-- of a file that a reader gives: the first page, read leniently; `ReadsAll` and `Opens` say what a reader's faults add.
+use Rattle.std.specs.Prelude.{◌≡◌, ◌≢◌, ◌⊎◌, ℕ, ◌+◌, ◌*◌, ◌/◌, ◌%◌, Bool, false, List, map, Option, Result, Ok, Err, IfSome, if◌then◌else◌}
+use Rattle.std.specs.IoError.{error_kind}
 use Rattle.std.specs.List.{range_with_len}
-use Rattle.jbig2_base.specs.Answer.{◌>>=◌}
+use Rattle.std.specs.declared.io.ErrorKind.TheVariants.{Interrupted}
+use Rattle.jbig2_base.specs.Answer.{◌>>=◌, some_or}
 use Rattle.jbig2_base.specs.Grid.{Grid, pixel_at}
 use Rattle.jbig2_base.specs.declared.error.DecodeError.{DecodeError}
+use Rattle.jbig2_base.specs.declared.error.DecodeError.TheVariants.{Format, OutOfMemory}
+use Rattle.jbig2_base.specs.declared.error.FormatError.TheVariants.{MissingPageInfo}
 use Rattle.jbig2_coder.specs.Integers.{value_of_bits}
+use Rattle.hayro_jbig2.specs.Files.{book_at, page_of}
 use Rattle.hayro_jbig2.specs.Page.{ReadPage, grid_of_page}
+use Rattle.hayro_jbig2.specs.declared.jbig2_error.Jbig2Error.{Jbig2Error}
+use Rattle.hayro_jbig2.specs.declared.jbig2_error.Jbig2Error.TheVariants.{Io, Decode}
 
--- black is 0, and white is 255
 abbrev pub shade : Bool → ℕ
 shade black = if black then 0 else 255
 
--- A byte for each pixel, row by row from the top, each row from the left.
+-- A byte for each pixel, row by row from the top, each row from the left, as the traits of images want it.
 unfoldable pub image_of : ℕ → ℕ → Grid → List ℕ
 image_of width height g = map (λ n. shade (pixel_at g (n % width) (n / width))) (range_with_len 0 (width * height))
 
--- the bytes of the page's grid, or the page's error
 abbrev pub image_of_page : ReadPage → Result (List ℕ) DecodeError
 image_of_page page = grid_of_page page >>= λ g. Ok (image_of page.initial_page.width page.initial_page.height g)
 
@@ -33,20 +38,52 @@ packed_byte g k y = value_of_bits (map (λ i. pixel_at g (8 * k + i) y) (range_w
 
 -- `count` bytes of the packed rows from the top, from byte `start` of them all on.
 unfoldable pub packed_part : ℕ → Grid → ℕ → ℕ → List ℕ
-packed_part width g start count =
-    map (λ n. packed_byte g (n % row_bytes width) (n / row_bytes width)) (range_with_len start count)
+packed_part width g start count = map (λ n. packed_byte g (n % row_bytes width) (n / row_bytes width)) (range_with_len start count)
 
--- The packed rows.
 unfoldable pub packed_of : ℕ → ℕ → Grid → List ℕ
 packed_of width height g = packed_part width g 0 (packed_size width height)
 
--- the packed rows of the page's grid, or the page's error
 abbrev pub packed_of_page : ReadPage → Result (List ℕ) DecodeError
 packed_of_page page = grid_of_page page >>= λ g. Ok (packed_of page.initial_page.width page.initial_page.height g)
 
--- byte i of a word by its bits, byte 0 the highest
-abbrev pub word_byte : (ℕ → Bool) → ℕ → ℕ
-word_byte bits i = value_of_bits (map (λ j. bits (63 - (8 * i + j))) (range_with_len 0 8))
+-- a file without pages lacks the information of one
+unfoldable pub first_page : List ℕ → Result ReadPage DecodeError
+first_page bytes = book_at false bytes >>= λ book. some_or (Format MissingPageInfo) (page_of book 0)
 
-abbrev pub top_byte : (ℕ → Bool) → ℕ
-top_byte bits = word_byte bits 0
+abbrev pub first_size : List ℕ → Result (ℕ × ℕ) DecodeError
+first_size bytes = first_page bytes >>= λ page. Ok (page.initial_page.width, page.initial_page.height)
+
+abbrev pub first_image : List ℕ → Result (List ℕ) DecodeError
+first_image bytes = first_page bytes >>= λ page. image_of_page page
+
+abbrev pub first_packed : List ℕ → Result (List ℕ) DecodeError
+first_packed bytes = first_page bytes >>= λ page. packed_of_page page
+
+-- All bytes of a file, and the size of its first page.
+pub record Scan : Type 0 where
+  pub bytes : List ℕ
+  pub width : ℕ
+  pub height : ℕ
+
+-- All that a reader tells was read, or the reader failed, or memory ran out.
+abbrev pub ReadsAll : {V : Type 0} → (V → List ℕ) → Option (List ℕ) → Result V Jbig2Error → Type 0
+ReadsAll view told (Ok v) = IfSome told (λ bytes. view v ≡ bytes)
+ReadsAll view told (Err (Io e)) = Unit {0}
+ReadsAll view told (Err (Decode e)) = e ≡ OutOfMemory
+
+-- An interruption of the reader is passed over, and so never answered.
+abbrev pub IsLasting : Jbig2Error → Type 0
+IsLasting (Io e) = error_kind e ≢ Interrupted
+IsLasting (Decode e) = Unit {0}
+
+-- To a reader that tells these bytes: their first page, or its error, unless the reader failed or memory ran out.
+abbrev pub Opens : List ℕ → Result Scan Jbig2Error → Type 0
+Opens bytes (Ok scan) = (scan.bytes ≡ bytes) × (first_size bytes ≡ Ok (scan.width, scan.height))
+Opens bytes (Err (Io e)) = Unit {0}
+Opens bytes (Err (Decode e)) = (e ≡ OutOfMemory) ⊎ (first_size bytes ≡ Err e)
+
+-- The answer where nothing is read any more, as `Gives` has it.
+abbrev pub GivesAgain : {X Y : Type 0} → (X → Y) → Result X Jbig2Error → Result Y DecodeError → Type 0
+GivesAgain view (Ok x) meant = meant ≡ Ok (view x)
+GivesAgain view (Err (Io e)) meant = ⊥
+GivesAgain view (Err (Decode e)) meant = (e ≡ OutOfMemory) ⊎ (meant ≡ Err e)

@@ -1,15 +1,9 @@
 pub mod Calls
 pub mod Causes
-pub mod Dictionaries
 pub mod Files
-pub mod FirstPage
 pub mod Globals
 pub mod Image
 pub mod Names
 pub mod Page
-pub mod PageCauses
-pub mod Referred
 pub mod Regions
-pub mod Sends
-pub mod Untouched
 pub mod inner

@@ -1,29 +1,40 @@
--- Names (T.88, 7.3): what segments leave for later ones, each under its segment's number.
---
--- A number means the first that is kept under it: among the page's own, else among those of the
--- globals. That the first of equal numbers counts is our own rule.
-use Rattle.std.specs.Prelude.{ℕ, ◌==◌, List, [], ◌∷◌, ◌++◌, Option, Some, None, if◌then◌else◌}
+-- Names (T.88, 7.3): what segments leave for later ones, each under its segment's number, and what later ones refer to.
+-- A number means the first that is kept under it: among the page's own, else among those of the globals. That the
+-- first of equal numbers counts is our own rule.
+use Rattle.std.specs.Prelude.{ℕ, nat_le, nat_lt, ◌==◌, Bool, true, false, List, [], ◌∷◌, ◌++◌, length, Option, Some, None, Result, Ok, if◌then◌else◌}
+use Rattle.std.specs.Int.{w32}
+use Rattle.std.specs.Option.{option_map_or, option_or}
+use Rattle.jbig2_base.specs.Answer.{◌>>=◌, refuse_if}
+use Rattle.jbig2_base.specs.Bits.{start_of}
+use Rattle.jbig2_base.specs.Fields.{number_at}
+use Rattle.jbig2_base.specs.Grid.{Grid}
+use Rattle.jbig2_base.specs.Segment.{SegmentView}
+use Rattle.jbig2_base.specs.declared.error.DecodeError.{DecodeError}
+use Rattle.jbig2_base.specs.declared.error.DecodeError.TheVariants.{Overflow, Segment, Unsupported}
+use Rattle.jbig2_base.specs.declared.error.OverflowError.TheVariants.{SymbolCount}
+use Rattle.jbig2_base.specs.declared.error.SegmentError.TheVariants.{InvalidReference}
+use Rattle.jbig2_base.specs.declared.segment.SegmentType.{SegmentType}
+use Rattle.jbig2_base.specs.declared.segment.SegmentType.TheVariants as types
+use Rattle.jbig2_coder.specs.CustomTable.{answer_of, custom_table}
 use Rattle.jbig2_coder.specs.PrefixCode.{Member}
-use Rattle.jbig2_halftone.specs.Patterns.{Patterns}
-use Rattle.jbig2_symbol.specs.Symbols.{Symbols}
+use Rattle.jbig2_halftone.specs.PatternHeader.{pattern_header_at}
+use Rattle.jbig2_halftone.specs.Patterns.{Patterns, patterns_decoded}
+use Rattle.jbig2_symbol.specs.SymbolHeader.{symbol_header_at}
+use Rattle.jbig2_symbol.specs.SymbolReading.{BitmapContexts}
+use Rattle.jbig2_symbol.specs.Symbols.{Symbols, symbols_decoded}
 use Rattle.hayro_jbig2.specs.declared.kept.Kept.{Kept}
 
 -- behind what is kept already
 abbrev pub kept_under : {V : Type 0} → ℕ → V → List (Kept V) → List (Kept V)
 kept_under number value kept = kept ++ record { segment_number = number; value = value } ∷ []
 
--- the first that is kept under a number
 abbrev pub first_named : {V : Type 0} → ℕ → List (Kept V) → Option V
 first_named number [] = None
 first_named number (k ∷ kept) = if k.segment_number == number then Some k.value else first_named number kept
 
 -- the page's own one, else the one of the globals
-abbrev pub own_else : {V : Type 0} → Option V → Option V → Option V
-own_else (Some value) shared = Some value
-own_else None shared = shared
-
 abbrev pub named : {V : Type 0} → ℕ → List (Kept V) → List (Kept V) → Option V
-named number own shared = own_else (first_named number own) (first_named number shared)
+named number own shared = option_or (first_named number own) (first_named number shared)
 
 -- The symbol dictionaries, the codes of custom tables and the pattern dictionaries that are kept, in order.
 pub record Names : Type 0 where
@@ -33,3 +44,78 @@ pub record Names : Type 0 where
 
 abbrev pub no_names : Names
 no_names = record { symbols = []; codes = []; patterns = [] }
+
+-- What numbers name together: symbols, codes of custom tables, and the contexts that the last dictionary has kept.
+pub record Referred : Type 0 where
+  pub symbols : List Grid
+  pub codes : List (List Member)
+  pub kept : Option BitmapContexts
+
+-- More than 2^20 symbols together are refused (our own rule).
+abbrev pub with_dictionary : Symbols → Referred → Result Referred DecodeError
+with_dictionary s r =
+    refuse_if (nat_lt 1048576 (length (r.symbols ++ s.exported))) (Overflow SymbolCount)
+    >>= λ few. Ok (record r { symbols = r.symbols ++ s.exported; kept = s.kept })
+
+-- a custom table, or else nothing, which strict reading refuses
+abbrev pub with_table : Bool → Option (List Member) → Referred → Result Referred DecodeError
+with_table strict (Some code) r = Ok (record r { codes = r.codes ++ code ∷ [] })
+with_table strict None r = refuse_if strict (Segment InvalidReference) >>= λ known. Ok r
+
+-- a number names a dictionary before it names a table
+abbrev pub with_number : Bool → Names → Names → ℕ → Referred → Result Referred DecodeError
+with_number strict own shared number r =
+    option_map_or (λ s. with_dictionary s r) (named number own.symbols shared.symbols)
+    (with_table strict (named number own.codes shared.codes) r)
+
+abbrev pub with_numbers : Bool → Names → Names → List ℕ → Referred → Result Referred DecodeError
+with_numbers strict own shared [] r = Ok r
+with_numbers strict own shared (number ∷ numbers) r = with_number strict own shared number r >>= λ more. with_numbers strict own shared numbers more
+
+-- What a symbol dictionary or a text region refers to (7.3.1, 7.4.2.1.6, 7.4.3.1.6).
+abbrev pub referred_by : Bool → Names → Names → List ℕ → Result Referred DecodeError
+referred_by strict own shared numbers = with_numbers strict own shared numbers (record { symbols = []; codes = []; kept = None })
+
+-- A symbol dictionary (7.4.2), after what it refers to. Like the next two it is never passed over where it fails.
+unfoldable pub symbol_dictionary_at : Bool → Names → Names → SegmentView → Result Symbols DecodeError
+symbol_dictionary_at strict own shared p = do
+  referred ← referred_by strict own shared p.header.referred_to_segments
+  header ← symbol_header_at strict p.bytes
+  symbols_decoded header.0 referred.symbols referred.codes referred.kept
+
+unfoldable pub with_symbols : Bool → Names → SegmentView → Names → Result Names DecodeError
+with_symbols strict shared p own =
+    symbol_dictionary_at strict own shared p
+    >>= λ symbols. Ok (record own { symbols = kept_under p.header.segment_number symbols own.symbols })
+
+-- A pattern dictionary (7.4.4).
+unfoldable pub pattern_dictionary_at : Bool → List ℕ → Result Patterns DecodeError
+pattern_dictionary_at strict bytes = pattern_header_at strict bytes >>= λ header. patterns_decoded header.0
+
+unfoldable pub with_patterns : Bool → SegmentView → Names → Result Names DecodeError
+with_patterns strict p own =
+    pattern_dictionary_at strict p.bytes
+    >>= λ patterns. Ok (record own { patterns = kept_under p.header.segment_number patterns own.patterns })
+
+-- A custom table (7.4.13, B.2).
+abbrev pub code_at : List ℕ → Result (List Member) DecodeError
+code_at bytes = answer_of (custom_table (start_of bytes))
+
+unfoldable pub with_code : SegmentView → Names → Result Names DecodeError
+with_code p own = code_at p.bytes >>= λ code. Ok (record own { codes = kept_under p.header.segment_number code own.codes })
+
+-- An extension (7.4.14): strict reading refuses one that a decoder has to know.
+abbrev pub extension : Bool → List ℕ → Result (Unit {0}) DecodeError
+extension true bytes = number_at w32 bytes >>= λ kind. refuse_if (nat_le 2147483648 kind.0) Unsupported
+extension false bytes = Ok tt
+
+-- A segment that draws nothing, after those before it: a page's own, or of globals, which share nothing with others.
+abbrev pub kept_by : Bool → Names → SegmentView → Names → Result Names DecodeError
+kept_by strict shared p own = on p.header.segment_type
+  where
+    on : SegmentType → Result Names DecodeError
+    on types.SymbolDictionary = with_symbols strict shared p own
+    on types.PatternDictionary = with_patterns strict p own
+    on types.Tables = with_code p own
+    on types.Extension = extension strict p.bytes >>= λ known. Ok own
+    on _ = Ok own

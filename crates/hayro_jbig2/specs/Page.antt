@@ -1,7 +1,6 @@
--- What a page shows (T.88, 8): the fold of its segments over what was drawn so far.
---
--- Each segment is drawn onto the page, kept for later ones, or changes nothing, by its type (7.3).
-use Rattle.std.specs.Prelude.{ℕ, Bool, true, false, not, List, [], ◌∷◌, Result, Ok, Err, if◌then◌else◌}
+-- What a page shows (T.88, 8): the fold of its segments over what was drawn so far. Each segment is drawn onto the page,
+-- kept for later ones, or changes nothing, by its type (7.3).
+use Rattle.std.specs.Prelude.{◌≡◌, ℕ, Bool, true, false, not, List, [], ◌∷◌, Option, Some, None, Result, Ok, Err, IsTrue, if◌then◌else◌}
 use Rattle.std.specs.Int.{w32, cast_signed}
 use Rattle.jbig2_base.specs.Answer.{◌>>=◌}
 use Rattle.jbig2_base.specs.Combination.{combined}
@@ -16,35 +15,47 @@ use Rattle.jbig2_base.specs.declared.page_info.InitialPage.{InitialPage}
 use Rattle.jbig2_base.specs.declared.segment.SegmentType.{SegmentType}
 use Rattle.jbig2_base.specs.declared.segment.SegmentType.TheVariants as types
 use Rattle.jbig2_region.specs.Generic.{PlacedRegion}
-use Rattle.hayro_jbig2.specs.Dictionaries.{extension, with_code, with_patterns, with_symbols}
-use Rattle.hayro_jbig2.specs.Names.{Names, no_names, kept_under}
+use Rattle.hayro_jbig2.specs.Names.{Names, no_names, kept_by, kept_under}
 use Rattle.hayro_jbig2.specs.Regions.{generic_at, halftone_at, refinement_at, text_at}
 use Rattle.hayro_jbig2.specs.declared.kept.Kept.{Kept}
 use Rattle.hayro_jbig2.specs.declared.region.RegionKind.{RegionKind}
 use Rattle.hayro_jbig2.specs.declared.region.RegionKind.TheVariants as kinds
 
--- A page that was read: whether strictly, what it begins as, its segments in order, and the names of its globals
--- or the error that decoding those gave.
+-- A page that was read: whether strictly, what it begins as, its segments in order, and its globals or their error.
 pub record ReadPage : Type 0 where
   pub strict : Bool
   pub initial_page : InitialPage
   pub segments : List SegmentView
   pub globals : Result Names DecodeError
 
--- What was drawn so far, the intermediate regions and the names that are kept, and whether no immediate region came
--- before.
+-- What was drawn so far, what is kept, and whether no immediate region came before.
 pub record Drawing : Type 0 where
   pub grid : Grid
   pub regions : List (Kept PlacedRegion)
   pub names : Names
   pub untouched : Bool
 
+-- The types that are regions (7.3): of which kind, and whether it is an intermediate one.
+abbrev pub region_type : SegmentType → Option (RegionKind × Bool)
+region_type types.IntermediateTextRegion = Some (kinds.Text, true)
+region_type types.ImmediateTextRegion = Some (kinds.Text, false)
+region_type types.ImmediateLosslessTextRegion = Some (kinds.Text, false)
+region_type types.IntermediateHalftoneRegion = Some (kinds.Halftone, true)
+region_type types.ImmediateHalftoneRegion = Some (kinds.Halftone, false)
+region_type types.ImmediateLosslessHalftoneRegion = Some (kinds.Halftone, false)
+region_type types.IntermediateGenericRegion = Some (kinds.Generic, true)
+region_type types.ImmediateGenericRegion = Some (kinds.Generic, false)
+region_type types.ImmediateLosslessGenericRegion = Some (kinds.Generic, false)
+region_type types.IntermediateGenericRefinementRegion = Some (kinds.GenericRefinement, true)
+region_type types.ImmediateGenericRefinementRegion = Some (kinds.GenericRefinement, false)
+region_type types.ImmediateLosslessGenericRefinementRegion = Some (kinds.GenericRefinement, false)
+region_type _ = None
+
 abbrev pub ends_page : SegmentType → Bool
 ends_page types.EndOfPage = true
 ends_page types.EndOfFile = true
 ends_page _ = false
 
--- A region of this kind.
 abbrev pub region_at : Bool → Names → RegionKind → Bool → SegmentView → Drawing → Result PlacedRegion DecodeError
 region_at strict globals kinds.Text is_intermediate p d = text_at strict d.names globals p
 region_at strict globals kinds.Halftone is_intermediate p d = halftone_at strict d.names globals p
@@ -65,43 +76,22 @@ abbrev pub with_region : ℕ → Drawing → PlacedRegion → Drawing
 with_region number d region = record d { regions = kept_under number region d.regions }
 
 unfoldable pub intermediate : Bool → Names → RegionKind → SegmentView → Drawing → Result Drawing DecodeError
-intermediate strict globals kind p d = do
-  region ← region_at strict globals kind true p d
-  Ok (with_region p.header.segment_number d region)
+intermediate strict globals kind p d =
+    region_at strict globals kind true p d >>= λ region. Ok (with_region p.header.segment_number d region)
 
--- A dictionary or a table leaves the page as it was.
+-- what draws nothing leaves the page as it was
 abbrev pub keeping : Drawing → Result Names DecodeError → Result Drawing DecodeError
 keeping d kept = kept >>= λ names. Ok (record d { names = names })
 
--- One segment. Page information after the beginning, stripes, profiles, palettes, types without a meaning, and an end
--- by itself change nothing.
+-- One segment. Page information after the beginning, stripes, profiles, palettes, types without a meaning, and an end by
+-- itself change nothing.
 abbrev pub segment_on : Bool → Names → SegmentView → Drawing → Result Drawing DecodeError
-segment_on strict globals p d = on p.header.segment_type
+segment_on strict globals p d = on (region_type p.header.segment_type)
   where
-    on : SegmentType → Result Drawing DecodeError
-    on types.SymbolDictionary = keeping d (with_symbols strict globals p d.names)
-    on types.IntermediateTextRegion = intermediate strict globals kinds.Text p d
-    on types.ImmediateTextRegion = immediate strict globals kinds.Text p d
-    on types.ImmediateLosslessTextRegion = immediate strict globals kinds.Text p d
-    on types.PatternDictionary = keeping d (with_patterns strict p d.names)
-    on types.IntermediateHalftoneRegion = intermediate strict globals kinds.Halftone p d
-    on types.ImmediateHalftoneRegion = immediate strict globals kinds.Halftone p d
-    on types.ImmediateLosslessHalftoneRegion = immediate strict globals kinds.Halftone p d
-    on types.IntermediateGenericRegion = intermediate strict globals kinds.Generic p d
-    on types.ImmediateGenericRegion = immediate strict globals kinds.Generic p d
-    on types.ImmediateLosslessGenericRegion = immediate strict globals kinds.Generic p d
-    on types.IntermediateGenericRefinementRegion = intermediate strict globals kinds.GenericRefinement p d
-    on types.ImmediateGenericRefinementRegion = immediate strict globals kinds.GenericRefinement p d
-    on types.ImmediateLosslessGenericRefinementRegion = immediate strict globals kinds.GenericRefinement p d
-    on types.Tables = keeping d (with_code p d.names)
-    on types.Extension = extension strict p.bytes >>= λ known. Ok d
-    on types.PageInformation = Ok d
-    on types.EndOfPage = Ok d
-    on types.EndOfStripe = Ok d
-    on types.EndOfFile = Ok d
-    on types.Profiles = Ok d
-    on types.ColourPalette = Ok d
-    on types.Reserved = Ok d
+    on : Option (RegionKind × Bool) → Result Drawing DecodeError
+    on (Some (kind, true)) = intermediate strict globals kind p d
+    on (Some (kind, false)) = immediate strict globals kind p d
+    on None = keeping d (kept_by strict globals p d.names)
 
 -- The segments in order, up to an end of page or an end of file.
 abbrev pub segments_drawn : Bool → Names → List SegmentView → Drawing → Result Drawing DecodeError
@@ -132,3 +122,9 @@ draws_over Or black = not black
 draws_over Xor black = not black
 draws_over And black = black
 draws_over Xnor black = black
+
+-- A page on which no immediate region was drawn is all of the colour that it began in.
+abbrev pub UntouchedIsBlank : Type 0
+UntouchedIsBlank = (strict : Bool) (globals : Names) (segments : List SegmentView) (initial_page : InitialPage) (d : Drawing)
+    → segments_drawn strict globals segments (page_begun initial_page) ≡ Ok d → IsTrue d.untouched
+    → d.grid ≡ blank initial_page.width initial_page.height initial_page.default_pixel

@@ -1,8 +1,7 @@
--- The regions of a page (T.88, 7.4.3 and 7.4.5 to 7.4.7): what each kind of region decodes to.
---
--- A region is a grid of its own at a place. What becomes of it, drawn or kept, is said in `Page`.
-use Rattle.std.specs.Prelude.{ℕ, Bool, ◌&&◌, not, is_none, List, [], ◌∷◌, length, Option, Some, None, Result, Ok, Err}
-use Rattle.jbig2_base.specs.Answer.{◌>>=◌, refuse_if}
+-- The regions of a page (T.88, 7.4.3 and 7.4.5 to 7.4.7): what each kind of region decodes to, a grid of its own at a
+-- place. What becomes of it, drawn or kept, is said in `Page`.
+use Rattle.std.specs.Prelude.{ℕ, Bool, ◌&&◌, not, is_none, List, [], ◌∷◌, length, Option, None, unwrap_or, Result, Ok}
+use Rattle.jbig2_base.specs.Answer.{◌>>=◌, refuse_if, some_or}
 use Rattle.jbig2_base.specs.Grid.{Grid}
 use Rattle.jbig2_base.specs.Parts.{part_of}
 use Rattle.jbig2_base.specs.Segment.{SegmentView}
@@ -16,11 +15,11 @@ use Rattle.jbig2_region.specs.Generic.{PlacedRegion, generic_decoded}
 use Rattle.jbig2_region.specs.GenericHeader.{generic_header_at}
 use Rattle.jbig2_region.specs.Refinement.{refined_decoded}
 use Rattle.jbig2_region.specs.RefinementHeader.{refinement_header_at}
+use Rattle.jbig2_region.specs.RegionInfo.{placed}
 use Rattle.jbig2_region.specs.declared.region_info.RegionSegmentInfo.{RegionSegmentInfo}
 use Rattle.jbig2_text.specs.TextHeader.{text_header_at}
 use Rattle.jbig2_text.specs.TextRegion.{text_decoded}
-use Rattle.hayro_jbig2.specs.Names.{Names, first_named, named}
-use Rattle.hayro_jbig2.specs.Referred.{referred_by}
+use Rattle.hayro_jbig2.specs.Names.{Names, first_named, named, referred_by}
 use Rattle.hayro_jbig2.specs.declared.kept.Kept.{Kept}
 
 -- A text region (7.4.3), after what it refers to.
@@ -35,14 +34,10 @@ abbrev pub patterns_for : Names → Names → List ℕ → Option Patterns
 patterns_for own shared [] = None
 patterns_for own shared (number ∷ numbers) = named number own.patterns shared.patterns
 
-abbrev pub some_patterns : Option Patterns → Result Patterns DecodeError
-some_patterns (Some patterns) = Ok patterns
-some_patterns None = Err (Segment MissingPatternDictionary)
-
 -- A halftone region (7.4.5), drawn with these patterns.
 unfoldable pub halftone_at : Bool → Names → Names → SegmentView → Result PlacedRegion DecodeError
 halftone_at strict own shared p = do
-  patterns ← some_patterns (patterns_for own shared p.header.referred_to_segments)
+  patterns ← some_or (Segment MissingPatternDictionary) (patterns_for own shared p.header.referred_to_segments)
   header ← halftone_header_at strict p.bytes
   halftone_decoded header.0 patterns
 
@@ -62,22 +57,14 @@ referred_region strict (number ∷ others) regions = do
 
 -- The area of the page that a region covers, white outside the page.
 abbrev pub page_area : Grid → RegionSegmentInfo → PlacedRegion
-page_area page info = record {
-  grid = part_of page (record { left = info.x_location; top = info.y_location; width = info.width; height = info.height });
-  x_location = info.x_location;
-  y_location = info.y_location;
-  combination_operator = info.combination_operator;
-}
+page_area page info =
+    placed info (part_of page (record { left = info.x_location; top = info.y_location; width = info.width; height = info.height }))
 
--- What is refined (7.4.7.4): the region that is referred to, or else the page's area.
-abbrev pub reference_region : Grid → RegionSegmentInfo → Option PlacedRegion → PlacedRegion
-reference_region page info (Some region) = region
-reference_region page info None = page_area page info
-
--- A refinement (7.4.7). Strict reading refuses an intermediate one that refers to no region.
+-- A refinement (7.4.7) of the region that is referred to, or else of the page's area (7.4.7.4). Strict reading refuses
+-- an intermediate one that refers to no region.
 unfoldable pub refinement_at : Bool → Bool → Grid → List (Kept PlacedRegion) → SegmentView → Result PlacedRegion DecodeError
 refinement_at strict is_intermediate page regions p = do
   referred ← referred_region strict p.header.referred_to_segments regions
   known ← refuse_if (strict && is_intermediate && is_none referred) (Segment InvalidReference)
   header ← refinement_header_at p.bytes
-  refined_decoded header.0 (reference_region page header.0.region_info referred)
+  refined_decoded header.0 (unwrap_or referred (page_area page header.0.region_info))

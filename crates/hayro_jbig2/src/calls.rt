@@ -2,8 +2,8 @@
 ghost use Rattle.std.specs.Prelude.{◌≡◌, ◌+◌, ◌-◌, ◌/◌, ◌<◌, ◌≤◌, drop, take};
 ghost use Rattle.jbig2_base.specs.Grid.{Grid};
 ghost use Rattle.jbig2_base.specs.inner.WordBits.{bit};
-ghost use Rattle.hayro_jbig2.specs.Calls.{row_of, run_of, IsColourOf, IsRunAt, singles, line_calls, calls_of};
-ghost use Rattle.hayro_jbig2.specs.Sends.{IsCountable, Sends};
+ghost use Rattle.hayro_jbig2.specs.Calls.{row_of, singles, line_calls, calls_of, IsCountable, Sends};
+ghost use Rattle.hayro_jbig2.specs.inner.RunViews.{run_of, IsColourOf, IsRunAt};
 
 use crate::decoder::Decoder;
 use jbig2_base::bitmap::Bitmap;

@@ -1,6 +1,5 @@
 //! Whom a page is drawn for.
-ghost use Rattle.hayro_jbig2.specs.Calls.{Pixel, Chunk, Line};
-ghost use Rattle.hayro_jbig2.specs.Sends.{Conduct, IsCountable, Takes};
+ghost use Rattle.hayro_jbig2.specs.Calls.{Pixel, Chunk, Line, Conduct, IsCountable, Takes};
 
 use jbig2_base::error::Result;
 

@@ -4,7 +4,7 @@ ghost use Rattle.std.specs.Prelude.{◌≡◌};
 ghost use Rattle.jbig2_base.specs.Answer.{Answers, Gives};
 ghost use Rattle.jbig2_base.specs.inner.SegmentViews.{segment_view};
 ghost use Rattle.hayro_jbig2.specs.Causes.{ExtensionsHaveCauses, ReferredHasCauses, SymbolDictionariesHaveCauses};
-ghost use Rattle.hayro_jbig2.specs.Dictionaries.{symbol_dictionary_at, with_symbols, pattern_dictionary_at, with_patterns, with_code, extension};
+ghost use Rattle.hayro_jbig2.specs.Names.{symbol_dictionary_at, with_symbols, pattern_dictionary_at, with_patterns, with_code, extension};
 ghost use Rattle.hayro_jbig2.specs.inner.KeptViews.{patterns_view, symbols_view};
 
 use crate::names::{KeptNames, Lookup};
@@ -22,7 +22,7 @@ use std::alloc::Allocator;
 use std::sync::ledger::Ledger;
 
 /// A symbol dictionary (T.88, 7.4.2), after what it refers to.
-#[tactic(auto, using(crate::proofs::SegmentCauses::symbol_dictionary_causes, crate::proofs::SegmentCauses::referred_causes), unfolding(crate::specs::Dictionaries::symbol_dictionary_at))]
+#[tactic(auto, using(crate::proofs::SegmentCauses::symbol_dictionary_causes, crate::proofs::SegmentCauses::referred_causes), unfolding(crate::specs::Names::symbol_dictionary_at))]
 fn decode_symbols<A: Allocator + Clone, L: Ledger>(
     lookup: &Lookup<'_, A>,
     segment: &Segment<'_, A>,
@@ -51,7 +51,7 @@ fn decode_symbols<A: Allocator + Clone, L: Ledger>(
 }
 
 /// A pattern dictionary (T.88, 7.4.4).
-#[tactic(auto, unfolding(crate::specs::Dictionaries::pattern_dictionary_at))]
+#[tactic(auto, unfolding(crate::specs::Names::pattern_dictionary_at))]
 fn decode_patterns<A: Allocator + Clone, L: Ledger>(
     strict: bool,
     bytes: &[u8],
@@ -71,7 +71,7 @@ fn decode_patterns<A: Allocator + Clone, L: Ledger>(
 }
 
 /// Keeps a symbol dictionary, which may refer to what is kept and to `globals`.
-#[tactic(auto, unfolding(crate::specs::Dictionaries::with_symbols))]
+#[tactic(auto, unfolding(crate::specs::Names::with_symbols))]
 pub(crate) fn keep_symbols<A: Allocator + Clone, L: Ledger>(
     names: &mut KeptNames<A>,
     strict: bool,
@@ -93,7 +93,7 @@ pub(crate) fn keep_symbols<A: Allocator + Clone, L: Ledger>(
 }
 
 /// Keeps a pattern dictionary.
-#[tactic(auto, unfolding(crate::specs::Dictionaries::with_patterns))]
+#[tactic(auto, unfolding(crate::specs::Names::with_patterns))]
 pub(crate) fn keep_patterns<A: Allocator + Clone, L: Ledger>(
     names: &mut KeptNames<A>,
     strict: bool,
@@ -109,7 +109,7 @@ pub(crate) fn keep_patterns<A: Allocator + Clone, L: Ledger>(
 }
 
 /// Keeps a custom table (T.88, 7.4.13 and B.2).
-#[tactic(auto, unfolding(crate::specs::Dictionaries::with_code))]
+#[tactic(auto, unfolding(crate::specs::Names::with_code))]
 pub(crate) fn keep_table<A: Allocator + Clone>(
     names: &mut KeptNames<A>,
     segment: &Segment<'_, A>,

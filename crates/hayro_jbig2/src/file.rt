@@ -4,12 +4,11 @@ ghost use Rattle.std.specs.Map.Iter.{GivesInOrder};
 ghost use Rattle.jbig2_base.specs.Answer.{Answers, Gives};
 ghost use Rattle.jbig2_base.specs.inner.SegmentViews.{header_view, segment_views};
 ghost use Rattle.hayro_jbig2.specs.inner.ByPages.{pages_view};
-ghost use Rattle.hayro_jbig2.specs.Causes.{BooksHaveCauses};
+ghost use Rattle.hayro_jbig2.specs.Causes.{BooksHaveCauses, FileGlobalsHaveCauses};
 ghost use Rattle.hayro_jbig2.specs.Files.{needs_page, lacks_page, associated, is_end_of_page, ends_of, filed_from, filed_each, miscounts, book_at, page_of, pages_of, PagesStandAlone};
 ghost use Rattle.hayro_jbig2.specs.Globals.{named_from};
 ghost use Rattle.hayro_jbig2.specs.Names.{no_names};
 ghost use Rattle.hayro_jbig2.specs.Page.{ReadPage};
-ghost use Rattle.hayro_jbig2.specs.PageCauses.{FileGlobalsHaveCauses};
 ghost use Rattle.hayro_jbig2.specs.inner.PageViews.{kept_names};
 
 use crate::globals::Globals;

@@ -2,9 +2,9 @@
 ghost use Rattle.std.specs.Prelude.{◌≡◌};
 ghost use Rattle.jbig2_base.specs.Answer.{Gives};
 ghost use Rattle.jbig2_base.specs.inner.SegmentViews.{segment_view, segment_views};
-ghost use Rattle.hayro_jbig2.specs.Globals.{globals_at, named_by, named_from};
-ghost use Rattle.hayro_jbig2.specs.Names.{no_names};
-ghost use Rattle.hayro_jbig2.specs.PageCauses.{GlobalsHaveCauses};
+ghost use Rattle.hayro_jbig2.specs.Globals.{globals_at, named_from};
+ghost use Rattle.hayro_jbig2.specs.Names.{kept_by, no_names};
+ghost use Rattle.hayro_jbig2.specs.Causes.{GlobalsHaveCauses};
 
 use crate::dictionaries::{extension, keep_patterns, keep_symbols, keep_table};
 use crate::names::KeptNames;
@@ -104,7 +104,7 @@ fn keep_segment<A: Allocator + Clone, L: Ledger>(
     workspace: &mut Workspace<A>,
     steps: &mut Steps<L>,
 ) -> Result<()>
-    ensures { Gives (λ _. names.new) result (named_by strict (segment_view segment.now) names.old) }
+    ensures { Gives (λ _. names.new) result (kept_by strict no_names (segment_view segment.now) names.old) }
 {
     match segment.header.segment_type {
         SegmentType::SymbolDictionary => {

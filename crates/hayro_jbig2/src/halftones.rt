@@ -1,9 +1,9 @@
 //! Halftone regions of a page (T.88, 7.4.5).
 ghost use Rattle.std.specs.Prelude.{◌≡◌, IfOk};
-ghost use Rattle.jbig2_base.specs.Answer.{Answers};
+ghost use Rattle.jbig2_base.specs.Answer.{Answers, some_or};
 ghost use Rattle.jbig2_base.specs.inner.SegmentViews.{segment_view};
 ghost use Rattle.hayro_jbig2.specs.Causes.{HalftoneSegmentsHaveCauses};
-ghost use Rattle.hayro_jbig2.specs.Regions.{halftone_at, patterns_for, some_patterns};
+ghost use Rattle.hayro_jbig2.specs.Regions.{halftone_at, patterns_for};
 ghost use Rattle.hayro_jbig2.specs.inner.KeptViews.{patterns_view};
 ghost use Rattle.hayro_jbig2.specs.inner.Parsed.{IsDecodable, Leads};
 
@@ -23,7 +23,8 @@ fn referred_patterns<'a, A: Allocator>(
     numbers: &[u32],
 ) -> Result<&'a PatternDictionary<A>>
     ensures { Answers (λ patterns. patterns_view patterns.now) result
-        (some_patterns (patterns_for lookup.now.own.now lookup.now.globals.now numbers.now)) }
+        (some_or (DecodeError.Segment SegmentError.MissingPatternDictionary)
+        (patterns_for lookup.now.own.now lookup.now.globals.now numbers.now)) }
 {
     if let Some(number) = numbers.first() {
         if let Some(patterns) = lookup.patterns(*number) {

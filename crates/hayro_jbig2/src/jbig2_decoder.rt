@@ -1,10 +1,9 @@
 //! The first page of a file that a reader gives.
 ghost use Rattle.std.specs.Prelude.{◌≡◌, ◌*◌, Ok, IfErr, IfOk, IfSome, OnErr, length};
-ghost use Rattle.jbig2_base.specs.Answer.{Answers, Gives};
+ghost use Rattle.jbig2_base.specs.Answer.{Answers, Gives, some_or};
 ghost use Rattle.hayro_jbig2.specs.Causes.{FirstPagesHaveCauses};
 ghost use Rattle.hayro_jbig2.specs.Files.{page_of};
-ghost use Rattle.hayro_jbig2.specs.FirstPage.{first_size, first_image, first_packed, some_page, IsLasting, Opens, GivesAgain};
-ghost use Rattle.hayro_jbig2.specs.Image.{packed_size};
+ghost use Rattle.hayro_jbig2.specs.Image.{first_size, first_image, first_packed, IsLasting, Opens, GivesAgain, packed_size};
 
 use crate::file::File;
 use crate::jbig2_error::Jbig2Error;
@@ -28,7 +27,7 @@ pub struct Jbig2Decoder<A: Allocator> {
 
 impl<A: Allocator> Model for Jbig2Decoder<A> {
     ghost use Rattle.std.specs.Prelude.{◌≡◌, Ok};
-    ghost use Rattle.hayro_jbig2.specs.FirstPage.{Scan, first_size};
+    ghost use Rattle.hayro_jbig2.specs.Image.{Scan, first_size};
 
     ghost Value = { Scan };
 
@@ -41,7 +40,8 @@ impl<A: Allocator> Model for Jbig2Decoder<A> {
 
 /// The first page of a file.
 fn first_page_of<'f, A: Allocator>(file: &'f File<'_, A>) -> jbig2_base::error::Result<Page<'f, A>>
-    ensures { Answers (λ page. page) result (some_page (page_of file.now 0)) }
+    ensures { Answers (λ page. page) result (some_or (DecodeError.Format FormatError.MissingPageInfo)
+        (page_of file.now 0)) }
 {
     match file.page(0) {
         Some(page) => Ok(page),
@@ -50,7 +50,7 @@ fn first_page_of<'f, A: Allocator>(file: &'f File<'_, A>) -> jbig2_base::error::
 }
 
 /// The width and the height of the first page.
-#[tactic(auto, unfolding(crate::specs::FirstPage::first_page))]
+#[tactic(auto, unfolding(crate::specs::Image::first_page))]
 fn first_size<A: Allocator + Clone>(alloc: A, bytes: &[u8]) -> jbig2_base::error::Result<(u32, u32)>
     ensures { Gives (λ size. size) result (first_size bytes.now) }
 {
@@ -60,7 +60,7 @@ fn first_size<A: Allocator + Clone>(alloc: A, bytes: &[u8]) -> jbig2_base::error
 }
 
 /// Writes the first page, as `Page::read_image` does.
-#[tactic(auto, unfolding(crate::specs::FirstPage::first_page))]
+#[tactic(auto, unfolding(crate::specs::Image::first_page))]
 fn first_image<A: Allocator + Clone>(
     alloc: A,
     bytes: &[u8],
@@ -76,7 +76,7 @@ fn first_image<A: Allocator + Clone>(
 }
 
 /// Writes the first page, as `Page::read_packed` does.
-#[tactic(auto, unfolding(crate::specs::FirstPage::first_page))]
+#[tactic(auto, unfolding(crate::specs::Image::first_page))]
 fn first_packed<A: Allocator + Clone>(
     alloc: A,
     bytes: &[u8],

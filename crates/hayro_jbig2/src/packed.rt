@@ -1,8 +1,8 @@
 //! A page as packed rows.
 ghost use Rattle.std.specs.Prelude.{◌≡◌, ◌+◌, ◌-◌, ◌*◌, ◌<◌, ◌≤◌, ℕ, length};
 ghost use Rattle.jbig2_base.specs.inner.WordBits.{bit};
-ghost use Rattle.hayro_jbig2.specs.Image.{packed_byte, packed_part, row_bytes, top_byte, word_byte};
-ghost use Rattle.hayro_jbig2.specs.inner.Puts.{Puts};
+ghost use Rattle.hayro_jbig2.specs.Image.{packed_byte, packed_part, row_bytes};
+ghost use Rattle.hayro_jbig2.specs.inner.Puts.{top_byte, word_byte, Puts};
 
 use crate::image::wrapped;
 use jbig2_base::bitmap::Bitmap;

@@ -5,15 +5,13 @@ ghost use Rattle.jbig2_base.specs.Combination.{combined};
 ghost use Rattle.jbig2_base.specs.Grid.{Grid, blank};
 ghost use Rattle.jbig2_base.specs.inner.Table.{IsTable};
 ghost use Rattle.jbig2_base.specs.declared.bitmap.operator.CombinationOperator.{CombinationOperator};
-ghost use Rattle.hayro_jbig2.specs.Calls.{DrawsGrid, calls_of};
+ghost use Rattle.hayro_jbig2.specs.Calls.{DrawsGrid, calls_of, Decodes, IsCountable};
 ghost use Rattle.hayro_jbig2.specs.Image.{image_of_page, packed_of_page, packed_size};
-ghost use Rattle.hayro_jbig2.specs.Page.{ReadPage, segments_drawn, embedded, grid_of_page, draws_over, page_begun};
-ghost use Rattle.hayro_jbig2.specs.PageCauses.{EmbeddedPagesHaveCauses, PagesHaveCauses};
+ghost use Rattle.hayro_jbig2.specs.Page.{ReadPage, segments_drawn, embedded, grid_of_page, draws_over, page_begun, UntouchedIsBlank};
+ghost use Rattle.hayro_jbig2.specs.Causes.{EmbeddedPagesHaveCauses, PagesHaveCauses};
 ghost use Rattle.hayro_jbig2.specs.inner.PageViews.{given_names, kept_names};
 ghost use Rattle.hayro_jbig2.specs.inner.SegmentLists.{segment_list};
 ghost use Rattle.jbig2_base.specs.inner.SegmentViews.{segment_views};
-ghost use Rattle.hayro_jbig2.specs.Sends.{Decodes, IsCountable};
-ghost use Rattle.hayro_jbig2.specs.Untouched.{UntouchedIsBlank};
 
 use crate::calls::push_bitmap;
 use crate::context::DecoderContext;

@@ -1,6 +1,6 @@
 //! All bytes of a reader.
 ghost use Rattle.std.specs.Prelude.{IfErr};
-ghost use Rattle.hayro_jbig2.specs.FirstPage.{ReadsAll, IsLasting};
+ghost use Rattle.hayro_jbig2.specs.Image.{ReadsAll, IsLasting};
 
 use crate::jbig2_error::Jbig2Error;
 use std::alloc::Allocator;

@@ -1,7 +1,7 @@
 //! What symbol dictionaries and text regions refer to by numbers (T.88, 7.3.1).
 ghost use Rattle.std.specs.Prelude.{◌≡◌, ◌≤◌, ◌+◌, ◌++◌, length, map, Ok, OnOk, IfErr};
 ghost use Rattle.jbig2_base.specs.Answer.{Gives};
-ghost use Rattle.hayro_jbig2.specs.Referred.{nothing_referred, with_dictionary, with_table, with_number, with_numbers, referred_by};
+ghost use Rattle.hayro_jbig2.specs.Names.{with_dictionary, with_table, with_number, with_numbers, referred_by};
 ghost use Rattle.hayro_jbig2.specs.inner.KeptViews.{found, symbols_view};
 
 use crate::names::Lookup;
@@ -26,7 +26,7 @@ pub(crate) struct ReferredSegments<'a, A: Allocator> {
 
 impl<'a, A: Allocator> Model for ReferredSegments<'a, A> {
     ghost use Rattle.std.specs.Prelude.{◌≤◌, length, map};
-    ghost use Rattle.hayro_jbig2.specs.Referred.{Referred};
+    ghost use Rattle.hayro_jbig2.specs.Names.{Referred};
     ghost use Rattle.jbig2_symbol.specs.inner.SymbolViews.{kept_view};
 
     ghost Value = { Referred };

@@ -1,31 +1,29 @@
 -- What a PDF reader and a viewer ask for (our own rule), by the definitions of the library. A stream's or a file's
 -- bytes give a grid or an image. Both read leniently.
-use Rattle.std.specs.Prelude.{◌≡◌, ◌⊎◌, ℕ, false, List, Option, Some, None, Result, Ok, Err}
-use Rattle.jbig2_base.specs.Answer.{◌>>=◌}
+use Rattle.std.specs.Prelude.{◌≡◌, ◌⊎◌, ℕ, false, List, Option, Result, Ok, Err}
+use Rattle.std.specs.Option.{option_map_or}
+use Rattle.jbig2_base.specs.Answer.{◌>>=◌, some_or}
 use Rattle.jbig2_base.specs.Grid.{Grid}
 use Rattle.jbig2_base.specs.declared.error.DecodeError.{DecodeError}
-use Rattle.jbig2_base.specs.declared.error.DecodeError.TheVariants.{OutOfMemory}
+use Rattle.jbig2_base.specs.declared.error.DecodeError.TheVariants.{Format, OutOfMemory}
+use Rattle.jbig2_base.specs.declared.error.FormatError.TheVariants.{MissingPageInfo}
 use Rattle.hayro_jbig2.specs.Files.{book_at, page_of}
-use Rattle.hayro_jbig2.specs.FirstPage.{some_page, first_size, first_image}
+use Rattle.hayro_jbig2.specs.Image.{first_size, first_image, image_of_page}
 use Rattle.hayro_jbig2.specs.Globals.{globals_at}
-use Rattle.hayro_jbig2.specs.Image.{image_of_page}
-use Rattle.hayro_jbig2.specs.Names.{Names, no_names}
+use Rattle.hayro_jbig2.specs.Names.{no_names}
 use Rattle.hayro_jbig2.specs.Page.{embedded, grid_of_page}
 use Rattle.hayro_jbig2.specs.declared.jbig2_error.Jbig2Error.{Jbig2Error}
 use Rattle.hayro_jbig2.specs.declared.jbig2_error.Jbig2Error.TheVariants.{Io, Decode}
 
--- the globals of a stream, where it has some
-abbrev pub names_of : Option (List ℕ) → Result Names DecodeError
-names_of None = Ok no_names
-names_of (Some globals) = globals_at false globals
-
--- the grid of a stream of a PDF file
+-- the grid of a stream of a PDF file, with its globals where it has some
 abbrev pub grid_of_stream : Option (List ℕ) → List ℕ → Result Grid DecodeError
-grid_of_stream globals stream = names_of globals >>= λ names. embedded false names stream >>= λ page. grid_of_page page
+grid_of_stream globals stream =
+    option_map_or (λ bytes. globals_at false bytes) globals (Ok no_names)
+    >>= λ names. embedded false names stream >>= λ page. grid_of_page page
 
 -- a byte for each pixel of the page at an index of a file
 abbrev pub image_at : List ℕ → ℕ → Result (List ℕ) DecodeError
-image_at bytes index = book_at false bytes >>= λ book. some_page (page_of book index) >>= λ page. image_of_page page
+image_at bytes index = book_at false bytes >>= λ book. some_or (Format MissingPageInfo) (page_of book index) >>= λ page. image_of_page page
 
 -- A picture of a file's first page, unless the reader failed or memory ran out.
 abbrev pub Shows : {P : Type 0} → (P → (ℕ × ℕ) × List ℕ) → List ℕ → Result P Jbig2Error → Type 0

@@ -7,12 +7,10 @@ use Rattle.std.specs.Io.KnownBytes.{Appends, Keeps, append_known}
 use Rattle.jbig2_base.specs.Grid.{Grid}
 use Rattle.jbig2_base.specs.declared.error.DecodeError.{DecodeError}
 use Rattle.jbig2_base.specs.declared.error.DecodeError.TheVariants.{Unsupported}
-use Rattle.hayro_jbig2.specs.Calls.{Call, calls_of}
-use Rattle.jbig2_commands.specs.Printing.{known_if, refusals_if}
-use Rattle.jbig2_commands.specs.Printed.{call_line, calls_text, grid_lines, page_line}
-use Rattle.jbig2_commands.specs.Prints.{Tells}
+use Rattle.hayro_jbig2.specs.Calls.{Call, calls_of, Conduct, Decodes, after_calls}
+use Rattle.jbig2_commands.specs.inner.Printing.{known_if, refusals_if, Tells}
+use Rattle.jbig2_commands.specs.Printed.{call_line, calls_text, page_line}
 use Rattle.hayro_jbig2.specs.Page.{ReadPage}
-use Rattle.hayro_jbig2.specs.Sends.{Conduct, Decodes, after_calls}
 
 abbrev line_step : GName × Option (List ℕ) → Call → GName × Option (List ℕ)
 line_step p call = (p.0, append_known p.1 (call_line call))
@@ -78,7 +76,7 @@ module _ {S : Type 0} (name : S → GName) (known : S → Option (List ℕ)) (co
 
   pub lines_told : (meant : Result Grid DecodeError) (decoded : Result (Unit {0}) DecodeError) (old new : S) → told ≡ is_some (known old) → count old ≡ 0 → count new ≡ 0
       → Decodes printing meant decoded old new → Tells (calls_text meant) decoded (known old) (known new)
-  lines_told (Ok g) (Ok u) old new t z y d = added told (known old) (known new) (grid_lines g) t (ap (λ (p : GName × Option (List ℕ)). p.1) (d.0 ∙ after_lines (name old) (known_if told (known old)) (calls_of g)))
+  lines_told (Ok g) (Ok u) old new t z y d = added told (known old) (known new) (flat_map call_line (calls_of g)) t (ap (λ (p : GName × Option (List ℕ)). p.1) (d.0 ∙ after_lines (name old) (known_if told (known old)) (calls_of g)))
   lines_told (Ok g) (Err e) old new t z y (inl s) = absurd (not_one told (known new) (count new) y (s.counted ∙ ap (λ (n : ℕ). n + 1) (none_refused told (known old) (count old) t z)))
   lines_told (Ok g) (Err e) old new t z y (inr u) = (inl u.0, known_as old new u.1.0 t)
   lines_told (Err f) (Ok u) old new t z y d = absurd d

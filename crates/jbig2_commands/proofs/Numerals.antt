@@ -3,7 +3,7 @@ use Rattle.std.proofs.Common.{◌≡◌, ℕ, ◌<◌, ◌≤◌, ◌==◌, nat_
 use Rattle.std.specs.Prelude.{if◌then◌else◌}
 use Rattle.std.specs.List.{list_all}
 use Rattle.std.specs.Str.Parse.{AllDigits, IsNumeral}
-use Rattle.jbig2_commands.specs.Requests.{HasIndex}
+use Rattle.jbig2_commands.specs.inner.RequestViews.{HasIndex}
 use Rattle.jbig2_commands.specs.Words.{Task, Pages, Embedded, Calls, Pbm, is_strict, is_pages, is_embedded, is_calls, is_pbm, is_digit, is_index, whole_task, page_task, task_of, request_of}
 
 both : (a b : Bool) → (a && b) ≡ true → (a ≡ true) × (b ≡ true)

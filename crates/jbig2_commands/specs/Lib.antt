@@ -1,7 +1,3 @@
-pub mod Held
 pub mod Printed
-pub mod Printing
-pub mod Prints
-pub mod Requests
-pub mod Told
 pub mod Words
+pub mod inner

@@ -1,12 +1,15 @@
--- What a run prints (our own rule). `printed` takes the mode, the task and a file's bytes, and gives the bytes to be
--- printed, or the fault.
-use Rattle.std.specs.Prelude.{ℕ, Bool, List, ◌++◌, Option, Some, None, Result, Ok, Err, codes, if◌then◌else◌}
+-- What a run prints (our own rule), what standard error is told of it, and its status. `printed` takes the mode, the task
+-- and a file's bytes, and gives the bytes to be printed, or the fault; `RunEnds`, the last, is the statement of `run`.
+use Rattle.std.specs.Prelude.{◌≡◌, ◌⊎◌, ℕ, Bool, true, List, [], ◌++◌, Option, Some, None, IfSome, IsTrue, ok_or, Result, Ok, Err, codes, if◌then◌else◌}
 use Rattle.std.specs.Fmt.{decimal}
+use Rattle.std.specs.Io.KnownBytes.{Appends, Keeps}
 use Rattle.std.specs.List.{flat_map}
 use Rattle.std.specs.Str.Parse.{digits_value}
 use Rattle.jbig2_base.specs.Answer.{◌>>=◌}
+use Rattle.jbig2_base.specs.ErrorTexts.{error_text}
 use Rattle.jbig2_base.specs.Grid.{Grid}
 use Rattle.jbig2_base.specs.declared.error.DecodeError.{DecodeError}
+use Rattle.jbig2_base.specs.declared.error.DecodeError.TheVariants.{OutOfMemory}
 use Rattle.hayro_jbig2.specs.Calls.{Call, Pixel, Chunk, Line, calls_of}
 use Rattle.hayro_jbig2.specs.Files.{ReadFile, book_at, page_of, pages_of}
 use Rattle.hayro_jbig2.specs.Image.{packed_of_page}
@@ -14,7 +17,7 @@ use Rattle.hayro_jbig2.specs.Names.{no_names}
 use Rattle.hayro_jbig2.specs.Page.{ReadPage, embedded, grid_of_page}
 use Rattle.jbig2_commands.specs.Words.{Task, Pages, Embedded, Calls, Pbm}
 use Rattle.jbig2_commands.specs.declared.fault.Fault.{Fault}
-use Rattle.jbig2_commands.specs.declared.fault.Fault.TheVariants.{Decode, NoSuchPage}
+use Rattle.jbig2_commands.specs.declared.fault.Fault.TheVariants.{Decode, NoSuchPage, Unreadable, Unwritable}
 
 -- a page's number, width and height
 abbrev pub page_line : ReadPage → List ℕ
@@ -29,11 +32,8 @@ call_line (Chunk black bytes) = codes "push_pixel_chunk " ++ colour_word black +
 call_line Line = codes "next_line\n"
 
 -- a line for each call that spells the grid
-abbrev pub grid_lines : Grid → List ℕ
-grid_lines g = flat_map call_line (calls_of g)
-
 abbrev pub calls_text : Result Grid DecodeError → Result (List ℕ) DecodeError
-calls_text grid = grid >>= λ g. Ok (grid_lines g)
+calls_text grid = grid >>= λ g. Ok (flat_map call_line (calls_of g))
 
 -- a binary bitmap of the PBM format: its head, and then the packed rows
 abbrev pub bitmap_head : ReadPage → List ℕ
@@ -47,22 +47,13 @@ abbrev pub or_fault : {A : Type 0} → Result A DecodeError → Result A Fault
 or_fault (Ok x) = Ok x
 or_fault (Err e) = Err (Decode e)
 
-abbrev pub or_no_page : Option ReadPage → Result ReadPage Fault
-or_no_page None = Err NoSuchPage
-or_no_page (Some page) = Ok page
-
 -- the page that decimal digits name
 abbrev pub page_named : List ℕ → ReadFile → Result ReadPage Fault
-page_named index book = or_no_page (page_of book (digits_value 10 index))
+page_named index book = ok_or (page_of book (digits_value 10 index)) NoSuchPage
 
 -- what is printed of it
-abbrev pub of_page : (ReadPage → Result (List ℕ) DecodeError) → Result ReadPage Fault → Result (List ℕ) Fault
-of_page text (Err fault) = Err fault
-of_page text (Ok page) = or_fault (text page)
-
 abbrev pub of_file : (ReadPage → Result (List ℕ) DecodeError) → List ℕ → Result ReadFile DecodeError → Result (List ℕ) Fault
-of_file text index (Err e) = Err (Decode e)
-of_file text index (Ok book) = of_page text (page_named index book)
+of_file text index file = or_fault file >>= λ book. page_named index book >>= λ page. or_fault (text page)
 
 -- What is printed of a file's bytes, or why it is not.
 abbrev pub printed : Bool → Task → List ℕ → Result (List ℕ) Fault
@@ -70,3 +61,51 @@ printed strict Pages bytes = or_fault (book_at strict bytes >>= λ book. Ok (fla
 printed strict Embedded bytes = or_fault (embedded strict no_names bytes >>= λ page. calls_text (grid_of_page page))
 printed strict (Calls index) bytes = of_file (λ page. calls_text (grid_of_page page)) index (book_at strict bytes)
 printed strict (Pbm index) bytes = of_file bitmap_text index (book_at strict bytes)
+
+-- What was meant is added to the output, or its fault is answered and nothing is added, unless memory ran out. Where
+-- the output failed, nothing is said of what it holds.
+abbrev pub Prints : Result (List ℕ) Fault → Result (Unit {0}) Fault → Option (List ℕ) → Option (List ℕ) → Type 0
+Prints (Ok bytes) (Ok u) old new = Appends old new bytes
+Prints (Err fault) (Ok u) old new = ⊥
+Prints meant (Err fault) old new = (fault ≡ Unwritable) ⊎ (((fault ≡ Decode OutOfMemory) ⊎ (meant ≡ Err fault)) × Keeps old new)
+
+-- Some bytes were read, those that the reader tells where it tells any, and what they mean is printed; or the reader
+-- failed. None: there is no reader.
+abbrev pub Ends : Bool → Task → Option (Option (List ℕ)) → Result (Unit {0}) Fault → Option (List ℕ) → Option (List ℕ) → Type 0
+Ends strict task None result old new = (result ≡ Err Unreadable) × Keeps old new
+Ends strict task (Some told) result old new =
+    ((result ≡ Err Unreadable) × Keeps old new)
+    ⊎ ((bytes : List ℕ) × IfSome told (λ all. bytes ≡ all) × Prints (printed strict task bytes) result old new)
+
+abbrev pub fault_text : Fault → List ℕ
+fault_text Unreadable = codes "cannot read file"
+fault_text NoSuchPage = codes "no such page"
+fault_text (Decode e) = error_text e
+fault_text Unwritable = codes "cannot write output"
+
+abbrev pub usage_line : List ℕ
+usage_line = codes "usage: jbig2-decode [--strict] pages|embedded FILE | calls|pbm FILE INDEX\n"
+
+abbrev pub fault_line : Fault → List ℕ
+fault_line fault = codes "error: " ++ fault_text fault ++ codes "\n"
+
+-- nothing is told of success and of a failing output
+abbrev pub told_line : Result (Unit {0}) Fault → List ℕ
+told_line (Ok u) = []
+told_line (Err Unwritable) = []
+told_line (Err fault) = fault_line fault
+
+abbrev pub status_of : Result (Unit {0}) Fault → ℕ
+status_of (Ok u) = 0
+status_of (Err fault) = 1
+
+-- The line was added to standard error, unless that failed; where there is nothing to tell, nothing was added.
+abbrev pub Told : Bool → List ℕ → Option (List ℕ) → Option (List ℕ) → Type 0
+Told told [] old new = (told ≡ true) × Keeps old new
+Told told line old new = IsTrue told → Appends old new line
+
+-- A whole run: its status, what is added to the output, and what standard error is told.
+abbrev pub RunEnds : Option (Bool × Task × List ℕ) → Option (Option (List ℕ)) → ℕ → Bool → Option (List ℕ) → Option (List ℕ) → Option (List ℕ) → Option (List ℕ) → Type 0
+RunEnds None file status told out out' err err' = (status ≡ 2) × Told told usage_line err err' × Keeps out out'
+RunEnds (Some request) file status told out out' err err' =
+    (result : Result (Unit {0}) Fault) × Ends request.0 request.1 file result out out' × (status ≡ status_of result) × Told told (told_line result) err err'

@@ -1,8 +1,7 @@
 //! A page's bitmap, written.
 ghost use Rattle.std.specs.Prelude.{◌≡◌, ◌++◌, IsTrue, OnOk, IfErr};
 ghost use Rattle.std.specs.Io.KnownBytes.{Appends};
-ghost use Rattle.jbig2_commands.specs.Printed.{bitmap_head, bitmap_text, or_fault};
-ghost use Rattle.jbig2_commands.specs.Prints.{Prints};
+ghost use Rattle.jbig2_commands.specs.Printed.{bitmap_head, bitmap_text, or_fault, Prints};
 
 use crate::fault::Fault;
 use crate::output::flushed;

@@ -1,9 +1,8 @@
 //! The calls of a page, printed.
 ghost use Rattle.std.specs.Prelude.{◌≡◌, is_some, IfSome};
 ghost use Rattle.hayro_jbig2.specs.Page.{grid_of_page};
-ghost use Rattle.jbig2_commands.specs.Held.{told, whose};
-ghost use Rattle.jbig2_commands.specs.Printed.{calls_text, or_fault};
-ghost use Rattle.jbig2_commands.specs.Prints.{Prints, Tells};
+ghost use Rattle.jbig2_commands.specs.inner.Printing.{told, whose, Tells};
+ghost use Rattle.jbig2_commands.specs.Printed.{calls_text, or_fault, Prints};
 
 use crate::fault::Fault;
 use crate::output::{Output, flushed};

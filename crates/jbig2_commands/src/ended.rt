@@ -1,7 +1,7 @@
 //! How runs end: their status, and what standard error is told.
 ghost use Rattle.std.specs.Prelude.{◌≡◌, Ok, Err, if◌then◌else◌};
 ghost use Rattle.jbig2_base.specs.declared.error.DecodeError.TheVariants.{OutOfMemory};
-ghost use Rattle.jbig2_commands.specs.Told.{Told, fault_line, status_of, told_line, usage_line};
+ghost use Rattle.jbig2_commands.specs.Printed.{Told, fault_line, status_of, told_line, usage_line};
 ghost use Rattle.jbig2_commands.specs.declared.fault.Fault.TheVariants.{Decode};
 
 use crate::fault::Fault;

@@ -1,7 +1,7 @@
 //! Why a run stops.
 ghost use Rattle.std.specs.Prelude.{◌≡◌, Some};
 ghost use Rattle.jbig2_base.specs.declared.error.DecodeError.TheVariants.{OutOfMemory};
-ghost use Rattle.jbig2_commands.specs.Told.{fault_text};
+ghost use Rattle.jbig2_commands.specs.Printed.{fault_text};
 ghost use Rattle.jbig2_commands.specs.declared.fault.Fault.TheVariants.{Decode};
 
 use hayro_jbig2::DecodeError;

@@ -1,8 +1,7 @@
 //! A buffer in front of an output.
 ghost use Rattle.std.specs.Prelude.{◌≡◌, ◌≤◌, [], IsTrue, IfErr, length, take};
 ghost use Rattle.std.specs.Io.KnownBytes.{Appends, Keeps};
-ghost use Rattle.jbig2_commands.specs.Held.{told, whose};
-ghost use Rattle.jbig2_commands.specs.Printing.{Pushes};
+ghost use Rattle.jbig2_commands.specs.inner.Printing.{told, whose, Pushes};
 
 use crate::fault::Fault;
 use std::alloc::Allocator;

@@ -4,9 +4,8 @@ ghost use Rattle.std.specs.Borrow.{GName};
 ghost use Rattle.std.specs.Io.KnownBytes.{append_known};
 ghost use Rattle.jbig2_base.specs.declared.error.DecodeError.TheVariants.{Unsupported};
 ghost use Rattle.hayro_jbig2.specs.Calls.{Pixel, Chunk, Line};
-ghost use Rattle.jbig2_commands.specs.Held.{told, whose};
+ghost use Rattle.jbig2_commands.specs.inner.Printing.{told, whose, Pushes, known_if, refusals_if};
 ghost use Rattle.jbig2_commands.specs.Printed.{call_line};
-ghost use Rattle.jbig2_commands.specs.Printing.{Pushes, known_if, refusals_if};
 
 use crate::output::Output;
 use crate::refusals::Refusals;

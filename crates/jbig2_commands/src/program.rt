@@ -1,9 +1,8 @@
 //! The runs of the program.
 ghost use Rattle.std.specs.Prelude.{◌≡◌, ◌↔◌, ◌⊎◌, map, option_map, IsNone, IfSome, Ok, Err, IfOk, IfErr, OnOk};
 ghost use Rattle.std.specs.Str.Parse.{IsNumeral};
-ghost use Rattle.jbig2_commands.specs.Printed.{page_named, printed};
-ghost use Rattle.jbig2_commands.specs.Prints.{Ends, Prints, RunEnds};
-ghost use Rattle.jbig2_commands.specs.Requests.{HasIndex, task_view};
+ghost use Rattle.jbig2_commands.specs.Printed.{page_named, printed, Ends, Prints, RunEnds};
+ghost use Rattle.jbig2_commands.specs.inner.RequestViews.{HasIndex, task_view};
 ghost use Rattle.jbig2_commands.specs.Words.{request_of};
 
 use crate::bitmap::write_bitmap;

@@ -1,6 +1,6 @@
 //! How many calls a Decoder of this program has refused.
 ghost use Rattle.std.specs.Prelude.{◌≡◌, ◌-◌, ◌^◌, ◌<◌, nat_lt};
-ghost use Rattle.jbig2_commands.specs.Printing.{Counts};
+ghost use Rattle.jbig2_commands.specs.inner.Printing.{Counts};
 
 use hayro_jbig2::{DecodeError, Result};
 

@@ -1,7 +1,7 @@
 //! What the words of the command line ask for.
 ghost use Rattle.std.specs.Prelude.{◌≡◌, map, option_map};
 ghost use Rattle.std.specs.List.{list_all};
-ghost use Rattle.jbig2_commands.specs.Requests.{task_view, request_view};
+ghost use Rattle.jbig2_commands.specs.inner.RequestViews.{task_view, request_view};
 ghost use Rattle.jbig2_commands.specs.Words.{is_strict, is_pages, is_embedded, is_calls, is_pbm, is_digit, is_index, whole_task, page_task, task_of, request_of};
 
 /// One run of the program.

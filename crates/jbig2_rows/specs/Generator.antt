@@ -2,18 +2,15 @@
 -- seed, and gives so many decisions, each with the number of its context.
 use Rattle.std.specs.Prelude.{ℕ, zero, suc, ◌+◌, ◌*◌, ◌/◌, ◌%◌, ◌^◌, Bool, nat_lt, List, [], ◌∷◌}
 
--- the number after x
 abbrev pub after : ℕ → ℕ
 after x = (1103515245 * x + 12345) % 2 ^ 31
 
--- The entry that the two numbers after x make: its context, and whether its decision is true, which is the
--- likelier the higher the context's number.
+-- The next two numbers make an entry: its context, and whether its decision is true, likelier the higher the context.
 unfoldable pub entry_after : ℕ → ℕ × Bool
 entry_after x =
     let context = after x / 2 ^ 16 % 16 in
     (context, nat_lt (after (after x) / 2 ^ 16 % 256) (17 * context))
 
--- so many entries from there
 unfoldable pub list_after : ℕ → ℕ → List (ℕ × Bool)
 list_after zero x = []
 list_after (suc n) x = entry_after x ∷ list_after n (after (after x))

@@ -9,7 +9,6 @@ is_lists word = bytes_eq word (codes "lists")
 unfoldable pub is_row : List ℕ → Bool
 is_row word = bytes_eq word (codes "row")
 
--- whether these are the words of a run
 abbrev pub is_run : List (List ℕ) → Bool
 is_run [] = true
 is_run (word ∷ []) = is_lists word

@@ -1,7 +1,6 @@
 use Rattle.std.proofs.Common.{◌+◌, ◌-◌, ◌*◌, take, drop, List, [], ◌∷◌, Result, Ok, Err, refl, arith}
 use Rattle.jbig2_base.specs.declared.error.DecodeError.{DecodeError}
-use Rattle.hayro_jbig2.specs.Calls.{Call, Chunk, Line, row_of, singles}
-use Rattle.hayro_jbig2.specs.Sends.{Conduct, Sends, Takes}
+use Rattle.hayro_jbig2.specs.Calls.{Call, Chunk, Line, row_of, singles, Conduct, Sends, Takes}
 use Rattle.hayro_jbig2.proofs.Runs.{left_calls, left-byte, left-last, left-run, left-start}
 use Rattle.hayro_jbig2.proofs.Sending.{Half, goes_on, half_as, half_done, half_none, one_stops, stops_at}
 use Rattle.hayro_jbig2.proofs.calls.push_row.Goals as goal

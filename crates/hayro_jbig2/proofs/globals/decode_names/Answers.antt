@@ -5,18 +5,18 @@ use Rattle.jbig2_base.specs.inner.SegmentViews.{segment_view, segment_views}
 use Rattle.jbig2_base.specs.declared.error.DecodeError.{DecodeError}
 use Rattle.jbig2_base.specs.declared.error.DecodeError.TheVariants.{OutOfMemory}
 use Rattle.jbig2_base.specs.declared.segment.Segment.{Segment}
-use Rattle.hayro_jbig2.specs.Globals.{named_by, named_from}
-use Rattle.hayro_jbig2.specs.Names.{Names}
+use Rattle.hayro_jbig2.specs.Globals.{named_from}
+use Rattle.hayro_jbig2.specs.Names.{Names, kept_by, no_names}
 use Rattle.hayro_jbig2.proofs.globals.decode_names.Goals as goal
 
 -- a segment that is refused ends the names
-refused-segment : {A : Type 0} (strict : Bool) (segments : List (Segment A)) (i : ℕ) (item : Segment A) (names : Names) (e : DecodeError) → i < length segments → item ≡ get_or segments i item → named_by strict (segment_view item) names ≡ Err e → named_from strict (segment_views (drop i segments)) names ≡ Err e
+refused-segment : {A : Type 0} (strict : Bool) (segments : List (Segment A)) (i : ℕ) (item : Segment A) (names : Names) (e : DecodeError) → i < length segments → item ≡ get_or segments i item → kept_by strict no_names (segment_view item) names ≡ Err e → named_from strict (segment_views (drop i segments)) names ≡ Err e
 refused-segment strict segments i item names e inside is refused =
     let here : drop i segments ≡ item ∷ drop (suc i) segments = drop-cons segments i item inside ∙ ap (λ s. s ∷ drop (suc i) segments) (sym is) in
     rw (here, refused)
 
 -- a segment that is taken is followed by the others
-taken-segment : {A : Type 0} (strict : Bool) (segments : List (Segment A)) (i : ℕ) (item : Segment A) (names : Names) (more : Names) → i < length segments → item ≡ get_or segments i item → named_by strict (segment_view item) names ≡ Ok more → named_from strict (segment_views (drop (i + 1) segments)) more ≡ named_from strict (segment_views (drop i segments)) names
+taken-segment : {A : Type 0} (strict : Bool) (segments : List (Segment A)) (i : ℕ) (item : Segment A) (names : Names) (more : Names) → i < length segments → item ≡ get_or segments i item → kept_by strict no_names (segment_view item) names ≡ Ok more → named_from strict (segment_views (drop (i + 1) segments)) more ≡ named_from strict (segment_views (drop i segments)) names
 taken-segment strict segments i item names more inside is taken =
     let here : drop i segments ≡ item ∷ drop (suc i) segments = drop-cons segments i item inside ∙ ap (λ s. s ∷ drop (suc i) segments) (sym is) in
     let next : i + 1 ≡ suc i = omega arith in

@@ -1,7 +1,6 @@
 use Rattle.std.proofs.Common.{◌≡◌, ◌-◌, ◌*◌, ◌<◌, ◌≤◌, ℕ}
 use Rattle.jbig2_base.specs.inner.WordBits.{bit}
-use Rattle.hayro_jbig2.specs.Image.{word_byte}
-use Rattle.hayro_jbig2.specs.inner.Puts.{Puts}
+use Rattle.hayro_jbig2.specs.inner.Puts.{word_byte, Puts}
 use Rattle.hayro_jbig2.proofs.packed.put_bytes.Given as goal
 
 abbrev pub invariant-loop-i : goal.invariant-loop-i

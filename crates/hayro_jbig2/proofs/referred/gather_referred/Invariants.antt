@@ -1,5 +1,5 @@
 use Rattle.std.proofs.Common.{◌≡◌, drop}
-use Rattle.hayro_jbig2.specs.Referred.{with_numbers, referred_by}
+use Rattle.hayro_jbig2.specs.Names.{with_numbers, referred_by}
 use Rattle.hayro_jbig2.proofs.referred.gather_referred.Given as goal
 
 abbrev pub invariant-loop-number : goal.invariant-loop-number

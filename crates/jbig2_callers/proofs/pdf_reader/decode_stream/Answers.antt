@@ -8,7 +8,7 @@ use Rattle.jbig2_base.specs.declared.error.DecodeError.TheVariants.{OutOfMemory}
 use Rattle.hayro_jbig2.specs.Globals.{globals_at}
 use Rattle.hayro_jbig2.specs.Names.{Names}
 use Rattle.hayro_jbig2.specs.Page.{embedded}
-use Rattle.hayro_jbig2.specs.Sends.{Conduct, Decodes}
+use Rattle.hayro_jbig2.specs.Calls.{Conduct, Decodes}
 use Rattle.jbig2_callers.specs.Callers.{grid_of_stream}
 use Rattle.jbig2_callers.proofs.pdf_reader.decode_stream.Goals as goal
 

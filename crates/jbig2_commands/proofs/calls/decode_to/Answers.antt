@@ -1,6 +1,6 @@
 use Rattle.std.proofs.Common.{◌≡◌, ℕ, false, nat_lt, is_some, sym, ◌∙◌, arith}
 use Rattle.hayro_jbig2.specs.Page.{grid_of_page}
-use Rattle.jbig2_commands.specs.Held.{told, whose}
+use Rattle.jbig2_commands.specs.inner.Printing.{told, whose}
 use Rattle.jbig2_commands.proofs.Lines.{lines_told, same_output}
 use Rattle.jbig2_commands.proofs.calls.decode_to.Goals as goal
 

@@ -1,5 +1,5 @@
 use Rattle.std.proofs.Common.{is_some}
-use Rattle.jbig2_commands.specs.Held.{told}
+use Rattle.jbig2_commands.specs.inner.Printing.{told}
 use Rattle.jbig2_commands.proofs.calls.print_calls.Given as goal
 
 abbrev pub ghosts-decode_to : goal.ghosts-decode_to

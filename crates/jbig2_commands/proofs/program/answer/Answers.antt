@@ -1,4 +1,4 @@
-use Rattle.jbig2_commands.specs.Requests.{task_view}
+use Rattle.jbig2_commands.specs.inner.RequestViews.{task_view}
 use Rattle.jbig2_commands.proofs.Ending.{starved, unread}
 use Rattle.jbig2_commands.proofs.program.answer.Goals as goal
 

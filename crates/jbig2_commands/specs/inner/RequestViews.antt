@@ -1,5 +1,4 @@
--- A request as the words have it (our own rule). `request_view` takes a request of the code and gives the mode, the
--- task and the file of Words.antt.
+-- A request of the code as the words have it: the mode, the task and the file of Words.antt.
 use Rattle.std.specs.Prelude.{ℕ, Bool, List}
 use Rattle.std.specs.Str.Parse.{IsNumeral}
 use Rattle.jbig2_commands.specs.Words.{Task, Pages as PagesTask, Embedded as EmbeddedTask, Calls as CallsTask, Pbm as PbmTask}

@@ -1,0 +1,18 @@
+-- The runs of whole bytes of one colour at the front of a row's pixels, as the code looks for them.
+use Rattle.std.specs.Prelude.{◌≡◌, ◌<◌, ◌≤◌, Option, Some, None, ℕ, suc, zero, Bool, true, false, List, take, drop, if◌then◌else◌}
+use Rattle.hayro_jbig2.specs.Calls.{is_all}
+
+-- how many of the whole bytes, from the left, have this colour
+abbrev pub run_of : ℕ → Bool → List Bool → ℕ
+run_of zero black bits = 0
+run_of (suc n) black bits = if is_all black (take 8 bits) then suc (run_of n black (drop 8 bits)) else 0
+
+-- The colour of all these pixels, if they have one.
+abbrev pub IsColourOf : List Bool → Option Bool → Type 0
+IsColourOf bits None = (is_all true bits ≡ false) × (is_all false bits ≡ false)
+IsColourOf bits (Some black) = is_all black bits ≡ true
+
+-- Either no byte of one colour begins the pixels, or a run of whole bytes of a colour does.
+abbrev pub IsRunAt : ℕ → List Bool → Option (Bool × ℕ) → Type 0
+IsRunAt n bits None = (run_of n true bits ≡ 0) × (run_of n false bits ≡ 0)
+IsRunAt n bits (Some run) = (run_of n run.0 bits ≡ run.1) × (0 < run.1) × (run.1 ≤ n)

@@ -1,0 +1,42 @@
+-- What a printer, the Decoder that writes a line for each call, does with one call (our own rule), and the output behind
+-- its buffer. The predicates take what the output held before and after, where that is known, and the call's result.
+use Rattle.std.specs.Prelude.{◌≡◌, ◌⊎◌, ℕ, ◌+◌, ◌-◌, ◌^◌, Bool, true, false, List, Option, None, Result, Ok, Err, if◌then◌else◌}
+use Rattle.std.specs.Borrow.{GName}
+use Rattle.std.specs.Io.KnownBytes.{Appends, Keeps, append_known}
+use Rattle.jbig2_base.specs.declared.error.DecodeError.{DecodeError}
+use Rattle.jbig2_base.specs.declared.error.DecodeError.TheVariants.{OutOfMemory, Unsupported}
+use Rattle.jbig2_commands.specs.declared.output.Output.{Output}
+
+-- the bytes that the output holds and those behind them that are not yet written, where the first are known
+abbrev pub told : {O A : Type 0} → (O → Option (List ℕ)) → Output O A → Option (List ℕ)
+told contents output = append_known (contents output.out.now) output.held.items
+
+-- which output it is
+abbrev pub whose : {O A : Type 0} → Output O A → GName
+whose output = output.out.ghost_name
+
+-- bytes are taken whole, or leave no trace
+abbrev pub Pushes : Bool → Option (List ℕ) → Option (List ℕ) → List ℕ → Type 0
+Pushes true old new bytes = Appends old new bytes
+Pushes false old new bytes = Keeps old new
+
+-- one more refusal is counted where a call was not taken
+abbrev pub Counts : Bool → Result (Unit {0}) DecodeError → ℕ → ℕ → Type 0
+Counts true (Ok u) old new = new ≡ old
+Counts false (Err e) old new = (new ≡ old + 1) × (e ≡ Unsupported)
+Counts _ _ old new = ⊥
+
+-- what is known of an output, where a proof says that its bytes are told
+abbrev pub known_if : Bool → Option (List ℕ) → Option (List ℕ)
+known_if is_told known = if is_told then known else None
+
+-- A printer whose output no longer tells its bytes, though a proof says so, counts as one that may refuse no more.
+abbrev pub refusals_if : Bool → Option (List ℕ) → ℕ → ℕ
+refusals_if true None count = 2 ^ 64 - 1
+refusals_if _ known count = count
+
+-- What was meant is added by decoding alone, as `Prints` has it, where no output fails.
+abbrev pub Tells : Result (List ℕ) DecodeError → Result (Unit {0}) DecodeError → Option (List ℕ) → Option (List ℕ) → Type 0
+Tells (Ok bytes) (Ok u) old new = Appends old new bytes
+Tells (Err e) (Ok u) old new = ⊥
+Tells meant (Err e) old new = ((e ≡ OutOfMemory) ⊎ (meant ≡ Err e)) × Keeps old new
