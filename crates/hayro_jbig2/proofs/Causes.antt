@@ -9,7 +9,7 @@ use Rattle.jbig2_base.specs.Fields.{number_at}
 use Rattle.jbig2_base.specs.File.{file_at}
 use Rattle.jbig2_base.specs.PageInfo.{first_information, height_of, information_at, initial_page_of, initial_page_with, is_page_information, stripes_height}
 use Rattle.jbig2_base.specs.Segment.{SegmentView}
-use Rattle.jbig2_base.specs.Causes.{IsOf}
+use Rattle.jbig2_base.specs.Causes.{IsOf, HaveCauses}
 use Rattle.jbig2_base.specs.declared.error.DecodeError.{DecodeError}
 use Rattle.jbig2_base.specs.declared.error.DecodeError.TheVariants as errors
 use Rattle.jbig2_base.specs.declared.error.FormatError.TheVariants as formats
@@ -22,7 +22,7 @@ use Rattle.jbig2_base.specs.declared.page_info.PageInformation.{PageInformation}
 use Rattle.jbig2_base.proofs.Causes.{cause-next, cause-number, cause-refused}
 use Rattle.jbig2_region.proofs.Told.{cause-if}
 use Rattle.jbig2_symbol.proofs.ReadingCauses.{cause-by, in-steps, own-error}
-use Rattle.hayro_jbig2.specs.Causes.{BooksHaveCauses, BreaksBeginning, BreaksBook, BreaksPages, FirstPagesHaveCauses}
+use Rattle.hayro_jbig2.specs.Causes.{BreaksBeginning, BreaksBook, BreaksPages, FirstPagesHaveCauses}
 use Rattle.hayro_jbig2.specs.Files.{ReadFile, associated, book_at, by_pages, ends_of, filed_each, filed_from, lacks_page, miscounts, needs_page, page_in, page_of}
 use Rattle.hayro_jbig2.specs.Image.{first_page}
 use Rattle.hayro_jbig2.specs.Page.{ReadPage}
@@ -185,8 +185,8 @@ page-begins strict h ps (errors.Overflow e) some = some
 page-begins strict h ps errors.Unsupported some = some
 page-begins strict h ps errors.OutOfMemory some = some
 
-pub file_causes : BooksHaveCauses
-unfolding book_at
+pub file_causes : (strict : Bool) → HaveCauses (book_at strict) (BreaksBook strict)
+unfolding HaveCauses book_at
 file_causes strict bytes =
     in-steps (file_at strict bytes) _ (IsOf (file_at strict bytes)) (λ file. BreaksPages strict file.0 file.1) (own-error (file_at strict bytes)) (λ file file_is.
     let P : DecodeError → Type 0 = BreaksPages strict file.0 file.1 in

@@ -6,7 +6,7 @@ use Rattle.jbig2_base.specs.Answer.{◌>>=◌}
 use Rattle.jbig2_base.specs.PageInfo.{initial_page_of}
 use Rattle.jbig2_base.specs.Segment.{Header, SegmentView}
 use Rattle.jbig2_base.specs.Sequential.{sorted_segments}
-use Rattle.jbig2_base.specs.Causes.{IsOf}
+use Rattle.jbig2_base.specs.Causes.{IsOf, HaveCauses}
 use Rattle.jbig2_base.specs.declared.error.DecodeError.{DecodeError}
 use Rattle.jbig2_base.specs.declared.segment.SegmentType.{SegmentType}
 use Rattle.jbig2_base.specs.declared.segment.SegmentType.TheVariants as types
@@ -14,7 +14,7 @@ use Rattle.jbig2_base.proofs.Causes.{cause-next}
 use Rattle.jbig2_region.specs.Generic.{PlacedRegion}
 use Rattle.jbig2_region.proofs.Told.{cause-if}
 use Rattle.jbig2_symbol.proofs.ReadingCauses.{cause-by, in-steps, own-error}
-use Rattle.hayro_jbig2.specs.Causes.{BreaksBeginning, BreaksDrawing, BreaksExtension, BreaksKept, BreaksNames, BreaksRegion, BreaksSegmentOn, EmbeddedPagesHaveCauses, FileGlobalsHaveCauses, GlobalsHaveCauses, PagesHaveCauses}
+use Rattle.hayro_jbig2.specs.Causes.{BreaksBeginning, BreaksDrawing, BreaksExtension, BreaksKept, BreaksNames, BreaksRegion, BreaksSegmentOn, EmbeddedPagesHaveCauses, GlobalsHaveCauses, PagesHaveCauses}
 use Rattle.hayro_jbig2.specs.Names.{Names, code_at, extension, kept_by, no_names, pattern_dictionary_at, symbol_dictionary_at, with_code, with_patterns, with_symbols}
 use Rattle.hayro_jbig2.specs.Globals.{globals_at, named_from}
 use Rattle.hayro_jbig2.specs.Page.{Drawing, embedded, ends_page, grid_of_page, immediate, intermediate, keeping, page_begun, region_at, segment_on, segments_drawn, shown}
@@ -76,7 +76,8 @@ names-later : (strict : Bool) (p : SegmentView) (ps : List SegmentView) (names m
 names-later strict p ps names more e is some =
     (suc some.0, some.1, some.2, some.3, ap (λ (r : Result Names DecodeError). r >>= λ next. named_from strict (take some.0 ps) next) is ∙ some.4, some.5)
 
-pub file_globals_causes : FileGlobalsHaveCauses
+pub file_globals_causes : (strict : Bool) (ps : List SegmentView) → HaveCauses (named_from strict ps) (BreaksNames strict ps)
+unfolding HaveCauses
 file_globals_causes strict [] names = tt
 file_globals_causes strict (p ∷ ps) names =
     let P : DecodeError → Type 0 = BreaksNames strict (p ∷ ps) names in

@@ -7,7 +7,7 @@ use Rattle.std.specs.Option.{option_map_or}
 use Rattle.std.specs.Int.{w32, from_be_bytes}
 use Rattle.jbig2_base.specs.Answer.{◌>>=◌, refuse_if, some_or}
 use Rattle.jbig2_base.specs.Fields.{number_at}
-use Rattle.jbig2_base.specs.Causes.{IsOf}
+use Rattle.jbig2_base.specs.Causes.{IsOf, HaveCauses}
 use Rattle.jbig2_base.specs.Grid.{Grid}
 use Rattle.jbig2_base.specs.declared.error.DecodeError.{DecodeError}
 use Rattle.jbig2_base.specs.declared.error.DecodeError.TheVariants.{Overflow, Segment, Unsupported}
@@ -26,8 +26,8 @@ use Rattle.jbig2_symbol.specs.Symbols.{Symbols, symbols_decoded}
 use Rattle.jbig2_text.specs.TextHeader.{text_header_at}
 use Rattle.jbig2_text.specs.TextRegion.{text_decoded}
 use Rattle.jbig2_symbol.proofs.ReadingCauses.{cause-by, in-steps, own-error}
-use Rattle.hayro_jbig2.specs.Causes.{BreaksExtension, BreaksReferred, BreaksRefinement, ExtensionsHaveCauses, HalftoneSegmentsHaveCauses, ReferredHasCauses, RefinementsHaveCauses, SymbolDictionariesHaveCauses, TextsHaveCauses}
-use Rattle.hayro_jbig2.specs.Names.{Names, Referred, first_named, named, referred_by, symbol_dictionary_at, with_dictionary, with_number, with_numbers, with_table}
+use Rattle.hayro_jbig2.specs.Causes.{BreaksExtension, BreaksReferred, BreaksRefinement, BreaksHalftoneSegment, BreaksSymbolDictionary, BreaksText}
+use Rattle.hayro_jbig2.specs.Names.{Names, Referred, first_named, named, referred_by, symbol_dictionary_at, with_dictionary, with_number, with_numbers, with_table, extension}
 use Rattle.hayro_jbig2.specs.Regions.{halftone_at, page_area, patterns_for, referred_region, refinement_at, text_at}
 use Rattle.hayro_jbig2.specs.declared.kept.Kept.{Kept}
 use Rattle.hayro_jbig2.proofs.Causes.{at-first, at-later}
@@ -96,19 +96,21 @@ numbers-cause P strict own shared (number ∷ numbers) r many none =
     let size = ok-holds (λ (x : Referred). length x.symbols ≡ length r.symbols + symbols_in s) (with_either strict s code r) more (grown strict s code r) more_is in
     numbers-cause P strict own shared numbers more (λ over. many (omega (arith, over, size, together))) (λ is some. none is (at-later (NamesNothing own shared) number numbers some)))
 
-pub referred_causes : ReferredHasCauses
+pub referred_causes : (strict : Bool) (own shared : Names) → HaveCauses (referred_by strict own shared) (BreaksReferred strict own shared)
+unfolding HaveCauses
 referred_causes strict own shared numbers =
     numbers-cause (BreaksReferred strict own shared numbers) strict own shared numbers (record { symbols = []; codes = []; kept = None }) (λ over. omega (arith, over)) (λ is some. (is, some))
 
 -- ---- dictionaries and extensions
-pub symbol_dictionary_causes : SymbolDictionariesHaveCauses
-unfolding symbol_dictionary_at
+pub symbol_dictionary_causes : (strict : Bool) (own shared : Names) → HaveCauses (symbol_dictionary_at strict own shared) (BreaksSymbolDictionary strict own shared)
+unfolding HaveCauses symbol_dictionary_at
 symbol_dictionary_causes strict own shared p =
     let numbers = p.header.referred_to_segments in
     let behind : Referred → Result Symbols DecodeError = λ referred. symbol_header_at strict p.bytes >>= λ header. symbols_decoded header.0 referred.symbols referred.codes referred.kept in
     in-steps (referred_by strict own shared numbers) behind (BreaksReferred strict own shared numbers) (λ referred. IsOf (behind referred)) (referred_causes strict own shared numbers) (λ referred referred_is. own-error (behind referred))
 
-pub extension_causes : ExtensionsHaveCauses
+pub extension_causes : (strict : Bool) → HaveCauses (extension strict) (BreaksExtension strict)
+unfolding HaveCauses
 extension_causes true bytes =
     let P : DecodeError → Type 0 = BreaksExtension true bytes in
     cause-next P (number_at w32 bytes) _ (cause-number P w32 bytes (λ short. (refl, short))) (λ kind kind_is.
@@ -118,8 +120,8 @@ extension_causes true bytes =
 extension_causes false bytes = tt
 
 -- ---- regions
-pub text_causes : TextsHaveCauses
-unfolding text_at
+pub text_causes : (strict : Bool) (own shared : Names) → HaveCauses (text_at strict own shared) (BreaksText strict own shared)
+unfolding HaveCauses text_at
 text_causes strict own shared p =
     let numbers = p.header.referred_to_segments in
     let behind : Referred → Result PlacedRegion DecodeError = λ referred. text_header_at (length referred.symbols) strict p.bytes >>= λ header. text_decoded header.0 referred.symbols referred.codes in
@@ -130,8 +132,8 @@ halftone-cause : (o : Option Patterns) (behind : Patterns → Result PlacedRegio
 halftone-cause (Some patterns) behind = own-error (behind patterns)
 halftone-cause None behind = refl
 
-pub halftone_causes : HalftoneSegmentsHaveCauses
-unfolding halftone_at
+pub halftone_causes : (strict : Bool) (own shared : Names) → HaveCauses (halftone_at strict own shared) (BreaksHalftoneSegment strict own shared)
+unfolding HaveCauses halftone_at
 halftone_causes strict own shared p =
     halftone-cause (patterns_for own shared p.header.referred_to_segments) (λ patterns. halftone_header_at strict p.bytes >>= λ header. halftone_decoded header.0 patterns)
 
@@ -160,8 +162,8 @@ reference-is strict [] regions = refl
 reference-is strict (number ∷ others) regions =
     ok-last (λ (r : Option PlacedRegion). r ≡ first_named number regions) (refuse_if (strict && is_none (first_named number regions)) _) _ (λ known. refl)
 
-pub refinement_causes : RefinementsHaveCauses
-unfolding refinement_at
+pub refinement_causes : (strict is_intermediate : Bool) (page : Grid) (regions : List (Kept PlacedRegion)) → HaveCauses (refinement_at strict is_intermediate page regions) (BreaksRefinement strict is_intermediate page regions)
+unfolding HaveCauses refinement_at
 refinement_causes strict is_intermediate page regions p =
     let P : DecodeError → Type 0 = BreaksRefinement strict is_intermediate page regions p in
     let numbers = p.header.referred_to_segments in

@@ -56,9 +56,6 @@ BreaksPages strict h ps e = Any (λ own. BreaksBeginning own e) (by_pages ps)
 abbrev pub BreaksBook : Bool → List ℕ → DecodeError → Type 0
 BreaksBook strict bytes e = InSteps (file_at strict bytes) (IsOf (file_at strict bytes) e) (λ file. BreaksPages strict file.0 file.1 e)
 
-abbrev pub BooksHaveCauses : Type 0
-BooksHaveCauses = (strict : Bool) (bytes : List ℕ) → IfErr (book_at strict bytes) (BreaksBook strict bytes)
-
 -- The first page of a file: the file breaks a rule, or has no page.
 abbrev pub FirstPagesHaveCauses : Type 0
 FirstPagesHaveCauses = (bytes : List ℕ) → IfErr (first_page bytes) (λ e.
@@ -73,9 +70,6 @@ BreaksReferred strict own shared numbers (Segment InvalidReference) =
     IsTrue strict × Any (λ n. (named n own.symbols shared.symbols ≡ None) × (named n own.codes shared.codes ≡ None)) numbers
 BreaksReferred strict own shared numbers _ = ⊥
 
-abbrev pub ReferredHasCauses : Type 0
-ReferredHasCauses = (strict : Bool) (own shared : Names) (numbers : List ℕ) → IfErr (referred_by strict own shared numbers) (BreaksReferred strict own shared numbers)
-
 -- What a segment refers to is refused, or the steps behind it refuse.
 abbrev pub BreaksBehind : {X : Type 0} → Bool → Names → Names → SegmentView → (Referred → Result X DecodeError) → DecodeError → Type 0
 BreaksBehind strict own shared p behind e =
@@ -87,34 +81,22 @@ abbrev pub BreaksSymbolDictionary : Bool → Names → Names → SegmentView →
 BreaksSymbolDictionary strict own shared p = BreaksBehind strict own shared p (λ referred.
     symbol_header_at strict p.bytes >>= λ header. symbols_decoded header.0 referred.symbols referred.codes referred.kept)
 
-abbrev pub SymbolDictionariesHaveCauses : Type 0
-SymbolDictionariesHaveCauses = (strict : Bool) (own shared : Names) (p : SegmentView) → IfErr (symbol_dictionary_at strict own shared p) (BreaksSymbolDictionary strict own shared p)
-
 -- An extension is refused in strict mode alone: one without a type, or with the highest bit of it set.
 abbrev pub BreaksExtension : Bool → List ℕ → DecodeError → Type 0
 BreaksExtension strict bytes (Parse UnexpectedEof) = IsTrue strict × (length bytes < 4)
 BreaksExtension strict bytes Unsupported = IsTrue strict × (4 ≤ length bytes) × (2147483648 ≤ number_in w32 0 bytes)
 BreaksExtension strict bytes _ = ⊥
 
-abbrev pub ExtensionsHaveCauses : Type 0
-ExtensionsHaveCauses = (strict : Bool) (bytes : List ℕ) → IfErr (extension strict bytes) (BreaksExtension strict bytes)
-
 -- ---- regions (7.4.3 and 7.4.5 to 7.4.7)
 abbrev pub BreaksText : Bool → Names → Names → SegmentView → DecodeError → Type 0
 BreaksText strict own shared p = BreaksBehind strict own shared p (λ referred.
     text_header_at (length referred.symbols) strict p.bytes >>= λ header. text_decoded header.0 referred.symbols referred.codes)
-
-abbrev pub TextsHaveCauses : Type 0
-TextsHaveCauses = (strict : Bool) (own shared : Names) (p : SegmentView) → IfErr (text_at strict own shared p) (BreaksText strict own shared p)
 
 -- A halftone region refers to nothing, or its first number names no pattern dictionary; or its own steps refuse it.
 abbrev pub BreaksHalftoneSegment : Bool → Names → Names → SegmentView → DecodeError → Type 0
 BreaksHalftoneSegment strict own shared p e =
     MatchOption (patterns_for own shared p.header.referred_to_segments) (e ≡ Segment MissingPatternDictionary)
     (λ patterns. IsOf (halftone_header_at strict p.bytes >>= λ header. halftone_decoded header.0 patterns) e)
-
-abbrev pub HalftoneSegmentsHaveCauses : Type 0
-HalftoneSegmentsHaveCauses = (strict : Bool) (own shared : Names) (p : SegmentView) → IfErr (halftone_at strict own shared p) (BreaksHalftoneSegment strict own shared p)
 
 -- A refinement's first number names no region that is kept, or an intermediate one refers to nothing; or its own steps
 -- refuse it, which take the region that is named or else the page's area.
@@ -124,9 +106,6 @@ BreaksRefinement strict is_intermediate page regions p e =
     let reference = option_and_then (λ number. first_named number regions) (slice_get numbers 0) in
     ((e ≡ Segment InvalidReference) × IsTrue strict × (reference ≡ None) × (IsTrue is_intermediate ⊎ (numbers ≢ [])))
     ⊎ IsOf (refinement_header_at p.bytes >>= λ header. refined_decoded header.0 (unwrap_or reference (page_area page header.0.region_info))) e
-
-abbrev pub RefinementsHaveCauses : Type 0
-RefinementsHaveCauses = (strict is_intermediate : Bool) (page : Grid) (regions : List (Kept PlacedRegion)) (p : SegmentView) → IfErr (refinement_at strict is_intermediate page regions p) (BreaksRefinement strict is_intermediate page regions p)
 
 -- ---- segments of globals and of pages
 -- A segment that draws nothing, with the names of those before it; the types that are left out are never refused.
@@ -148,10 +127,6 @@ BreaksNames strict ps names e =
 
 abbrev pub GlobalsHaveCauses : Type 0
 GlobalsHaveCauses = (strict : Bool) (bytes : List ℕ) → IfErr (globals_at strict bytes) (λ e. InSteps (sorted_segments strict bytes) (IsOf (sorted_segments strict bytes) e) (λ ps. BreaksNames strict ps no_names e))
-
--- the globals of a file's pages
-abbrev pub FileGlobalsHaveCauses : Type 0
-FileGlobalsHaveCauses = (strict : Bool) (ps : List SegmentView) (names : Names) → IfErr (named_from strict ps names) (BreaksNames strict ps names)
 
 abbrev pub BreaksRegion : Bool → Names → RegionKind → Bool → SegmentView → Drawing → DecodeError → Type 0
 BreaksRegion strict globals kinds.Text is_intermediate p d e = BreaksText strict d.names globals p e

@@ -1,11 +1,12 @@
 //! Segments that draw nothing and leave something for later ones (T.88, 7.4.2, 7.4.4 and 7.4.13),
 //! of a page as of its globals. One that fails is never passed over.
-ghost use Rattle.std.specs.Prelude.{◌≡◌};
+ghost use Rattle.std.specs.Prelude.{◌≡◌, Bool};
 ghost use Rattle.jbig2_base.specs.Answer.{Answers, Gives};
 ghost use Rattle.jbig2_base.specs.inner.SegmentViews.{segment_view};
-ghost use Rattle.hayro_jbig2.specs.Causes.{ExtensionsHaveCauses, ReferredHasCauses, SymbolDictionariesHaveCauses};
-ghost use Rattle.hayro_jbig2.specs.Names.{symbol_dictionary_at, with_symbols, pattern_dictionary_at, with_patterns, with_code, extension};
+ghost use Rattle.hayro_jbig2.specs.Names.{symbol_dictionary_at, with_symbols, pattern_dictionary_at, with_patterns, with_code, extension, Names, referred_by};
 ghost use Rattle.hayro_jbig2.specs.inner.KeptViews.{patterns_view, symbols_view};
+ghost use Rattle.hayro_jbig2.specs.Causes.{BreaksExtension, BreaksReferred, BreaksSymbolDictionary};
+ghost use Rattle.jbig2_base.specs.Causes.{HaveCauses};
 
 use crate::names::{KeptNames, Lookup};
 use crate::referred::gather_referred;
@@ -32,8 +33,8 @@ fn decode_symbols<A: Allocator + Clone, L: Ledger>(
     ensures value { Gives (λ d. symbols_view d) result
         (symbol_dictionary_at lookup.now.strict lookup.now.own.now lookup.now.globals.now
         (segment_view segment.now)) }
-    ensures causes { SymbolDictionariesHaveCauses }
-    ensures references { ReferredHasCauses }
+    ensures causes { (strict : Bool) (own shared : Names) → HaveCauses (symbol_dictionary_at strict own shared) (BreaksSymbolDictionary strict own shared) }
+    ensures references { (strict : Bool) (own shared : Names) → HaveCauses (referred_by strict own shared) (BreaksReferred strict own shared) }
 {
     let numbers = &segment.header.referred_to_segments;
     let referred = gather_referred(workspace.alloc.clone()?, lookup, numbers)?;
@@ -126,7 +127,7 @@ pub(crate) fn keep_table<A: Allocator + Clone>(
 #[tactic(auto, using(crate::proofs::SegmentCauses::extension_causes))]
 pub(crate) fn extension(strict: bool, bytes: &[u8]) -> Result<()>
     ensures value { Answers (λ known. known) result (extension strict bytes.now) }
-    ensures causes { ExtensionsHaveCauses }
+    ensures causes { (strict : Bool) → HaveCauses (extension strict) (BreaksExtension strict) }
 {
     if !strict {
         return Ok(());

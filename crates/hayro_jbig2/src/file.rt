@@ -1,15 +1,17 @@
 //! Files of pages.
-ghost use Rattle.std.specs.Prelude.{◌≡◌, ℕ, Ok, length, slice_get};
+ghost use Rattle.std.specs.Prelude.{◌≡◌, ℕ, Ok, length, slice_get, Bool, List};
 ghost use Rattle.std.specs.Map.Iter.{GivesInOrder};
 ghost use Rattle.jbig2_base.specs.Answer.{Answers, Gives};
 ghost use Rattle.jbig2_base.specs.inner.SegmentViews.{header_view, segment_views};
 ghost use Rattle.hayro_jbig2.specs.inner.ByPages.{pages_view};
-ghost use Rattle.hayro_jbig2.specs.Causes.{BooksHaveCauses, FileGlobalsHaveCauses};
 ghost use Rattle.hayro_jbig2.specs.Files.{needs_page, lacks_page, associated, is_end_of_page, ends_of, filed_from, filed_each, miscounts, book_at, page_of, pages_of, PagesStandAlone};
 ghost use Rattle.hayro_jbig2.specs.Globals.{named_from};
 ghost use Rattle.hayro_jbig2.specs.Names.{no_names};
 ghost use Rattle.hayro_jbig2.specs.Page.{ReadPage};
 ghost use Rattle.hayro_jbig2.specs.inner.PageViews.{kept_names};
+ghost use Rattle.hayro_jbig2.specs.Causes.{BreaksBook, BreaksNames};
+ghost use Rattle.jbig2_base.specs.Causes.{HaveCauses};
+ghost use Rattle.jbig2_base.specs.Segment.{SegmentView};
 
 use crate::globals::Globals;
 use crate::page::Page;
@@ -179,8 +181,8 @@ impl<'a, A: Allocator + Clone> File<'a, A> {
     #[tactic(auto, using(crate::proofs::Causes::file_causes, crate::proofs::PageCauses::file_globals_causes), unfolding(crate::specs::Files::book_at))]
     pub fn new(alloc: A, bytes: &'a [u8], settings: &DecodeSettings) -> Result<File<'a, A>>
         ensures value { Gives (λ file. file) result (book_at settings.now.strict bytes.now) }
-        ensures causes { BooksHaveCauses }
-        ensures globals { FileGlobalsHaveCauses }
+        ensures causes { (strict : Bool) → HaveCauses (book_at strict) (BreaksBook strict) }
+        ensures globals { (strict : Bool) (ps : List SegmentView) → HaveCauses (named_from strict ps) (BreaksNames strict ps) }
     {
         let strict = settings.strict;
         let file = parse_file(alloc.clone()?, bytes, strict)?;

@@ -1,11 +1,13 @@
 //! Halftone regions of a page (T.88, 7.4.5).
-ghost use Rattle.std.specs.Prelude.{◌≡◌, IfOk};
+ghost use Rattle.std.specs.Prelude.{◌≡◌, IfOk, Bool};
 ghost use Rattle.jbig2_base.specs.Answer.{Answers, some_or};
 ghost use Rattle.jbig2_base.specs.inner.SegmentViews.{segment_view};
-ghost use Rattle.hayro_jbig2.specs.Causes.{HalftoneSegmentsHaveCauses};
 ghost use Rattle.hayro_jbig2.specs.Regions.{halftone_at, patterns_for};
 ghost use Rattle.hayro_jbig2.specs.inner.KeptViews.{patterns_view};
 ghost use Rattle.hayro_jbig2.specs.inner.Parsed.{IsDecodable, Leads};
+ghost use Rattle.hayro_jbig2.specs.Causes.{BreaksHalftoneSegment};
+ghost use Rattle.hayro_jbig2.specs.Names.{Names};
+ghost use Rattle.jbig2_base.specs.Causes.{HaveCauses};
 
 use crate::names::Lookup;
 use crate::parsed_region::ParsedRegion;
@@ -45,7 +47,7 @@ pub(crate) fn parse_halftone<'a, 'n, 'r, A: Allocator>(
         references.now.names.globals.now
         (segment_view segment.now)) }
     ensures parsed { IfOk result (λ region. IsDecodable region) }
-    ensures causes { HalftoneSegmentsHaveCauses }
+    ensures causes { (strict : Bool) (own shared : Names) → HaveCauses (halftone_at strict own shared) (BreaksHalftoneSegment strict own shared) }
 {
     let lookup = &references.names;
     let patterns = referred_patterns(lookup, &segment.header.referred_to_segments)?;

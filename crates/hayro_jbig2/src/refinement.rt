@@ -1,16 +1,19 @@
 //! Refinements on a page (T.88, 7.4.7).
-ghost use Rattle.std.specs.Prelude.{◌≡◌, ◌≤◌, IfOk};
+ghost use Rattle.std.specs.Prelude.{◌≡◌, ◌≤◌, IfOk, Bool, List};
 ghost use Rattle.jbig2_base.specs.Answer.{Answers, Gives};
 ghost use Rattle.jbig2_base.specs.inner.SegmentViews.{segment_view};
 ghost use Rattle.jbig2_region.specs.Generic.{PlacedRegion, region_view};
 ghost use Rattle.jbig2_region.specs.Refinement.{refined_decoded};
 ghost use Rattle.jbig2_region.specs.RefinementHeader.{IsRefinement, header_view};
-ghost use Rattle.hayro_jbig2.specs.Causes.{RefinementsHaveCauses};
 ghost use Rattle.hayro_jbig2.specs.Names.{first_named};
 ghost use Rattle.hayro_jbig2.specs.Regions.{page_area, referred_region, refinement_at};
 ghost use Rattle.hayro_jbig2.specs.inner.KeptViews.{found, seen};
 ghost use Rattle.hayro_jbig2.specs.inner.PageViews.{near_area};
 ghost use Rattle.hayro_jbig2.specs.inner.Parsed.{IsDecodable, Leads};
+ghost use Rattle.hayro_jbig2.specs.Causes.{BreaksRefinement};
+ghost use Rattle.jbig2_base.specs.Causes.{HaveCauses};
+ghost use Rattle.jbig2_base.specs.Grid.{Grid};
+ghost use Rattle.hayro_jbig2.specs.declared.kept.Kept.{Kept};
 
 use crate::kept::{Kept, first_under};
 use crate::parsed_region::ParsedRegion;
@@ -124,7 +127,7 @@ pub(crate) fn parse_refinement<'a, 'n, 'r, A: Allocator + Clone, L: Ledger>(
         (refinement_at references.now.names.strict is_intermediate references.now.page.now
         (seen region_view references.now.regions.now) (segment_view segment.now)) }
     ensures parsed { IfOk result (λ region. IsDecodable region) }
-    ensures causes { RefinementsHaveCauses }
+    ensures causes { (strict is_intermediate : Bool) (page : Grid) (regions : List (Kept PlacedRegion)) → HaveCauses (refinement_at strict is_intermediate page regions) (BreaksRefinement strict is_intermediate page regions) }
 {
     let strict = references.names.strict;
     let numbers = &segment.header.referred_to_segments;

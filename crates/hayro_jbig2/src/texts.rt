@@ -1,9 +1,11 @@
 //! Text regions of a page (T.88, 7.4.3).
-ghost use Rattle.std.specs.Prelude.{IfOk};
+ghost use Rattle.std.specs.Prelude.{IfOk, Bool};
 ghost use Rattle.jbig2_base.specs.inner.SegmentViews.{segment_view};
-ghost use Rattle.hayro_jbig2.specs.Causes.{TextsHaveCauses};
 ghost use Rattle.hayro_jbig2.specs.Regions.{text_at};
 ghost use Rattle.hayro_jbig2.specs.inner.Parsed.{IsDecodable, Leads};
+ghost use Rattle.hayro_jbig2.specs.Causes.{BreaksText};
+ghost use Rattle.hayro_jbig2.specs.Names.{Names};
+ghost use Rattle.jbig2_base.specs.Causes.{HaveCauses};
 
 use crate::parsed_region::ParsedRegion;
 use crate::references::References;
@@ -27,7 +29,7 @@ pub(crate) fn parse_text<'a, 'n, 'r, A: Allocator + Clone>(
         references.now.names.globals.now
         (segment_view segment.now)) }
     ensures parsed { IfOk result (λ region. IsDecodable region) }
-    ensures causes { TextsHaveCauses }
+    ensures causes { (strict : Bool) (own shared : Names) → HaveCauses (text_at strict own shared) (BreaksText strict own shared) }
 {
     let lookup = &references.names;
     let numbers = &segment.header.referred_to_segments;

@@ -17,6 +17,7 @@ use Rattle.jbig2_halftone.specs.PatternHeader.{pattern_header_at, side_at}
 use Rattle.jbig2_halftone.specs.declared.halftone.header.HalftoneGridPositionAndSize.{HalftoneGridPositionAndSize}
 use Rattle.jbig2_halftone.specs.declared.halftone.header.HalftoneRegionFlags.{HalftoneRegionFlags}
 use Rattle.jbig2_region.proofs.Told.{Stands, Told, at-start, cause-last, told-next, told-number, told-operator, told-refused, told-region_info, told-signed}
+use Rattle.std.specs.Prelude.{Bool}
 
 -- ---- headers
 told-side : (P : DecodeError → Type 0) (bytes : List ℕ) (place : ℕ) (rest : List ℕ) → Stands bytes place rest

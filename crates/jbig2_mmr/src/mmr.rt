@@ -1,5 +1,5 @@
 //! Bitmaps that are coded in two dimensions by T.6 (MMR; T.88, 6.2.6).
-ghost use Rattle.std.specs.Prelude.{◌≡◌, if◌then◌else◌, false, Ok, Err};
+ghost use Rattle.std.specs.Prelude.{◌≡◌, if◌then◌else◌, false, Ok, Err, Bool, ℕ};
 ghost use Rattle.jbig2_base.specs.Answer.{Answers};
 ghost use Rattle.jbig2_base.specs.Counts.{KeepsLanes};
 ghost use Rattle.jbig2_base.specs.Grid.{blank};

@@ -4,7 +4,7 @@ use Rattle.std.proofs.lemmas.Bool.{eq-eqb, false≢true, ltb-true}
 use Rattle.std.proofs.lemmas.Bool.Decides.{nat_tests}
 use Rattle.std.specs.Int.{w16, w32}
 use Rattle.jbig2_base.specs.Answer.{refuse_if}
-use Rattle.jbig2_base.specs.Causes.{IsOf, number_in}
+use Rattle.jbig2_base.specs.Causes.{IsOf, number_in, HaveCauses}
 use Rattle.jbig2_base.specs.Fields.{end_of_bytes, number_at}
 use Rattle.jbig2_base.specs.declared.error.DecodeError.{DecodeError}
 use Rattle.jbig2_base.specs.declared.error.DecodeError.TheVariants as errors
@@ -21,7 +21,7 @@ use Rattle.jbig2_region.specs.declared.template.Template.{Template}
 use Rattle.jbig2_region.specs.declared.template.Template.TheVariants.{Template0, Template1, Template2, Template3}
 use Rattle.jbig2_region.proofs.Told.{Number, Stands, Told, at-start, cause-last, cause-more, told-next, told-number, told-refused}
 use Rattle.jbig2_text.proofs.CausesOfHeaders.{told-free}
-use Rattle.jbig2_symbol.specs.Causes.{BreaksSymbolFields, SymbolHeadersHaveCauses, counts_place}
+use Rattle.jbig2_symbol.specs.Causes.{BreaksSymbolFields, counts_place}
 use Rattle.jbig2_symbol.specs.SymbolHeader.{coded_pixels_at, refined_pixels_at, selection_of, symbol_flags_of, symbol_header_at}
 use Rattle.jbig2_symbol.specs.declared.symbol.header.HuffmanTableSelection.{HuffmanTableSelection}
 use Rattle.jbig2_symbol.specs.declared.symbol.header.HuffmanTableSelection.TheVariants.{TableB2, TableB3, TableB4, TableB5}
@@ -180,8 +180,8 @@ too-many a b x y first second over = on (either-of (nat_lt 1048576 a) (nat_lt 10
     on (inl more) = inl (omega (arith, ltb-true 1048576 a more, first))
     on (inr more) = inr (omega (arith, ltb-true 1048576 b more, second))
 
-pub symbol_header_causes : SymbolHeadersHaveCauses
-unfolding symbol_header_at
+pub symbol_header_causes : (strict : Bool) → HaveCauses (symbol_header_at strict) (λ bytes. BreaksSymbolFields (number_in w16 0 bytes) bytes)
+unfolding HaveCauses symbol_header_at
 symbol_header_causes strict bytes =
     let P : DecodeError → Type 0 = BreaksSymbolFields (number_in w16 0 bytes) bytes in
     cause-last P (Number w16 bytes 0) (number_at w16 bytes) _ (told-number P w16 (at-start bytes) (λ short. omega (arith, short))) (λ number field.

@@ -6,7 +6,7 @@ use Rattle.jbig2_base.specs.Answer.{◌>>=◌, refuse_if}
 use Rattle.jbig2_base.specs.Bits.{Place, aligned, start_of}
 use Rattle.jbig2_base.specs.Fields.{bytes_at}
 use Rattle.jbig2_base.specs.Grid.{Grid}
-use Rattle.jbig2_base.specs.Causes.{InSteps, IsOf}
+use Rattle.jbig2_base.specs.Causes.{InSteps, IsOf, HaveCauses}
 use Rattle.jbig2_base.specs.declared.error.DecodeError.{DecodeError}
 use Rattle.jbig2_base.specs.declared.error.DecodeError.TheVariants as errors
 use Rattle.jbig2_base.specs.declared.error.HuffmanError.TheVariants.{UnexpectedOob}
@@ -19,7 +19,7 @@ use Rattle.jbig2_coder.specs.PrefixCode.{Member}
 use Rattle.jbig2_mmr.specs.T6.{mmr_rows, rows_of}
 use Rattle.jbig2_text.specs.Causes.{Behind}
 use Rattle.jbig2_text.specs.TextCoding.{Coded, in_band}
-use Rattle.jbig2_symbol.specs.Causes.{AllDrawnClassesHaveCauses, BitmapCauses, BreaksClassAfter, BreaksCodedBitmap, BreaksCollectiveBitmap, BreaksCollectiveClass, BreaksContexts, BreaksCuts, BreaksDictionary, BreaksDrawnClass, BreaksExports, BreaksNextWidth, BreaksPrefixedAggregate, BreaksPrefixedClass, BreaksSized, BreaksSymbolAfter, BreaksTables, BreaksWidthAfter, ClassCauses, CollectiveBitmapsHaveCauses, CollectiveClassesHaveCauses, CutsHaveCauses, IsNoSize, SymbolsHaveCauses}
+use Rattle.jbig2_symbol.specs.Causes.{AllDrawnClassesHaveCauses, BitmapCauses, BreaksClassAfter, BreaksCodedBitmap, BreaksCollectiveBitmap, BreaksCollectiveClass, BreaksContexts, BreaksCuts, BreaksDictionary, BreaksDrawnClass, BreaksExports, BreaksNextWidth, BreaksPrefixedAggregate, BreaksPrefixedClass, BreaksSized, BreaksSymbolAfter, BreaksTables, BreaksWidthAfter, ClassCauses, IsNoSize, SymbolsHaveCauses}
 use Rattle.jbig2_symbol.specs.Exports.{exports}
 use Rattle.jbig2_symbol.specs.HeightClasses.{classes_from, drawn_class, empty_class, height_class, new_symbols, next_width, size_in_word, symbols_from, widths_from}
 use Rattle.jbig2_symbol.specs.SymbolBitmaps.{collective_bitmap, id_codes, mmr_bytes, raw_rows, raw_stride, rows_of_size, symbol_cut, symbols_cut}
@@ -81,8 +81,8 @@ sized-cause d width height (Some (pos size)) after =
     let rows = rows_of_size d.header.strict size width height bytes in
     cause-next P rows _ (rows-cause d.header.strict size width height bytes) (λ grid grid_is. tt)
 
-pub collective_causes : CollectiveBitmapsHaveCauses
-unfolding collective_bitmap
+pub collective_causes : (d : SymbolInput) (width height : ℕ) → HaveCauses (collective_bitmap d width height) (BreaksCollectiveBitmap d width height)
+unfolding HaveCauses collective_bitmap
 collective_causes d width height s =
     in-steps (by_table d.tables.sizes s) _ (IsOf (by_table d.tables.sizes s)) (λ value. BreaksSized d.header.strict width height value.0 (aligned value.1.coding).bytes) (own-error (by_table d.tables.sizes s)) (λ value value_is. sized-cause d width height value.0 value.1)
 
@@ -104,7 +104,8 @@ cuts-cause P collective height from (width ∷ widths) why =
     (λ symbol symbol_is.
     cause-next P (symbols_cut collective height (from + width) widths) _ (cuts-cause P collective height (from + width) widths (λ some. why (cut-later height width widths some))) (λ others others_is. tt))
 
-pub cuts_causes : CutsHaveCauses
+pub cuts_causes : (collective : Grid) (height from : ℕ) → HaveCauses (symbols_cut collective height from) (BreaksCuts height)
+unfolding HaveCauses
 cuts_causes collective height from widths = cuts-cause (BreaksCuts height widths) collective height from widths (λ some. some)
 
 -- ---- the symbols of a class
@@ -169,8 +170,8 @@ drawn_class_causes c r law d height empty new s =
 pub all_drawn_class_causes : {S : Type 0} (r : SymbolReadings S) → AllDrawnClassesHaveCauses r
 all_drawn_class_causes r = drawn_class_causes (λ d new width height s. IsOf (r.symbol_bitmap d new width height s)) r (λ d new width height s. own-error (r.symbol_bitmap d new width height s))
 
-pub collective_class_causes : CollectiveClassesHaveCauses
-unfolding collective_class
+pub collective_class_causes : (d : SymbolInput) (height empty : ℕ) (new : List Grid) → HaveCauses (collective_class d height empty new) (BreaksCollectiveClass d height empty new)
+unfolding HaveCauses collective_class
 collective_class_causes d height empty new s =
     let P : DecodeError → Type 0 = BreaksCollectiveClass d height empty new s in
     cause-next P (widths_from symbols_by_prefix_codes d (room_behind d new) 0 0 s) _ (widths-cause symbols_by_prefix_codes d P (room_behind d new) 0 0 s (λ k e no. inl (k, no))) (λ widths widths_are.

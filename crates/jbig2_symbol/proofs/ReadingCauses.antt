@@ -5,7 +5,7 @@ use Rattle.std.proofs.lemmas.Bool as tests
 use Rattle.std.specs.Prelude.{IfErr}
 use Rattle.jbig2_base.specs.Answer.{◌>>=◌, refuse_if}
 use Rattle.jbig2_base.specs.Grid.{bit_number}
-use Rattle.jbig2_base.specs.Causes.{InSteps, IsOf}
+use Rattle.jbig2_base.specs.Causes.{InSteps, IsOf, HaveCauses}
 use Rattle.jbig2_base.specs.declared.error.DecodeError.{DecodeError}
 use Rattle.jbig2_base.specs.declared.error.DecodeError.TheVariants as errors
 use Rattle.jbig2_base.specs.declared.error.HuffmanError.TheVariants as huffman
@@ -15,13 +15,14 @@ use Rattle.jbig2_base.proofs.Causes.{cause-next, cause-refused}
 use Rattle.jbig2_coder.specs.PrefixCode.{Member}
 use Rattle.jbig2_text.specs.TextCoding.{in_band}
 use Rattle.jbig2_symbol.specs.SymbolBitmaps.{instance_count, some_instances}
-use Rattle.jbig2_symbol.specs.Causes.{BreaksContexts, BreaksCount, BreaksRunBehind, BreaksRunValue, BreaksTables, ContextsHaveCauses, ExportsHaveCauses, InstanceCountsHaveCauses, IsNoSize, SymbolTablesHaveCauses, WidthsHaveCauses, taken_by}
+use Rattle.jbig2_symbol.specs.Causes.{BreaksContexts, BreaksCount, BreaksRunBehind, BreaksRunValue, BreaksTables, ExportsHaveCauses, InstanceCountsHaveCauses, IsNoSize, WidthsHaveCauses, taken_by}
 use Rattle.jbig2_symbol.specs.Exports.{export_runs, exported, exports, next_run, runs_from}
 use Rattle.jbig2_symbol.specs.HeightClasses.{next_width, size_in_word, width_by}
 use Rattle.jbig2_symbol.specs.SymbolReading.{ClassReadings, SymbolInput, SymbolReadings, first_contexts, is_refinement_template, is_template, not_negative, symbol_tables, table_for}
 use Rattle.jbig2_symbol.specs.declared.symbol.header.HuffmanTableSelection.{HuffmanTableSelection}
 use Rattle.jbig2_symbol.specs.declared.symbol.header.HuffmanTableSelection.TheVariants.{TableB1, TableB2, TableB3, TableB4, TableB5, UserSupplied}
 use Rattle.jbig2_region.proofs.Told.{Told, cause-if, cause-last, cause-more, told-if, told-refused}
+use Rattle.jbig2_symbol.specs.declared.symbol.header.SymbolDictionaryFlags.{SymbolDictionaryFlags}
 
 -- ---- steps
 pub in-steps : {A B : Type 0} (r : Result A DecodeError) (next : A → Result B DecodeError) (F : DecodeError → Type 0) (N : A → DecodeError → Type 0)
@@ -54,8 +55,8 @@ told-table P TableB5 customs why = omega arith
 told-table P UserSupplied [] why = why (omega arith)
 told-table P UserSupplied (table ∷ others) why = omega arith
 
-pub symbol_tables_causes : SymbolTablesHaveCauses
-unfolding symbol_tables
+pub symbol_tables_causes : (flags : SymbolDictionaryFlags) → HaveCauses (symbol_tables flags) (BreaksTables flags)
+unfolding HaveCauses symbol_tables
 symbol_tables_causes flags customs =
     let P : DecodeError → Type 0 = BreaksTables flags customs in
     let h = taken_by flags.delta_height_table in
@@ -68,8 +69,8 @@ symbol_tables_causes flags customs =
     cause-last P (Left a sizes.1) (table_for flags.aggregate_instance_table sizes.1) _ (told-table P flags.aggregate_instance_table sizes.1 (λ few. omega (arith, few, one, two, three))) (λ counts four. tt))))
 
 -- ---- contexts
-pub contexts_causes : ContextsHaveCauses
-unfolding first_contexts
+pub contexts_causes : (flags : SymbolDictionaryFlags) → HaveCauses (first_contexts flags) (BreaksContexts flags)
+unfolding HaveCauses first_contexts
 contexts_causes flags None =
     cause-if (BreaksContexts flags None) (not flags.bitmap_context_used) _ _ (λ fresh. tt) (λ used. not-false flags.bitmap_context_used used)
 contexts_causes flags (Some contexts) =

@@ -4,7 +4,7 @@ use Rattle.std.proofs.lemmas.Bool.{eqb-false, eqb-true, ltb-true}
 use Rattle.std.specs.Prelude.{IfErr}
 use Rattle.jbig2_base.specs.Answer.{◌>>=◌}
 use Rattle.jbig2_base.specs.Bits.{Place, bits_left, bits_on}
-use Rattle.jbig2_base.specs.Causes.{BreaksSides, InSteps, IsOf}
+use Rattle.jbig2_base.specs.Causes.{BreaksSides, InSteps, IsOf, HaveCauses}
 use Rattle.jbig2_base.specs.Fields.{end_of_bytes}
 use Rattle.jbig2_base.specs.Grid.{Grid}
 use Rattle.jbig2_base.specs.declared.error.DecodeError.{DecodeError}
@@ -16,20 +16,21 @@ use Rattle.jbig2_coder.specs.PrefixCode.{Member, decoded_value}
 use Rattle.jbig2_coder.specs.declared.integer_procedures.IntegerProcedure.TheVariants.{Iaai}
 use Rattle.jbig2_text.specs.Causes.{Behind}
 use Rattle.jbig2_text.specs.CausesOfRegions.{RefusesValue, coder_causes, prefix_causes}
-use Rattle.jbig2_text.specs.CausesOfText.{BreaksInstances, HaveCauses, NamesNone, ReadingCauses}
+use Rattle.jbig2_text.specs.CausesOfText.{BreaksInstances, ReadingsHaveCauses, NamesNone, ReadingCauses}
 use Rattle.jbig2_text.specs.Refining.{Refining}
 use Rattle.jbig2_text.specs.Text.{Readings, TextParams, some_symbol, symbol_of, text_instances, text_region}
 use Rattle.jbig2_text.specs.TextCoding.{Coded, Prefixed, by_coder, by_prefix_codes, next_id}
-use Rattle.jbig2_symbol.specs.Causes.{BreaksByInstances, BreaksCodedAggregate, BreaksCodedBitmap, BreaksCount, BreaksPrefixedAggregate, CodedAggregatesHaveCauses, CodedBitmapsHaveCauses, CodedSymbolsHaveCauses, PrefixedAggregatesHaveCauses}
+use Rattle.jbig2_symbol.specs.Causes.{BreaksByInstances, BreaksCodedAggregate, BreaksCodedBitmap, BreaksCount, BreaksPrefixedAggregate}
 use Rattle.jbig2_symbol.specs.SymbolBitmaps.{aggregate_params, by_instances, coded_aggregate, coded_symbol, fits_symbol, id_bits, instance_count, plain_id, prefixed_aggregate, prefixed_at, put_together, refined_alone}
 use Rattle.jbig2_symbol.specs.SymbolCoding.{coded_bitmap}
-use Rattle.jbig2_symbol.specs.SymbolReading.{SymbolState, by_procedure, by_table}
+use Rattle.jbig2_symbol.specs.SymbolReading.{SymbolState, by_procedure, by_table, SymbolInput}
 use Rattle.jbig2_text.proofs.CausesOfInstances.{cause-some}
 use Rattle.jbig2_text.proofs.CausesOfRegions.{all_instance_causes, by_coder-causes, by_prefix_codes-causes}
 use Rattle.jbig2_text.proofs.Causes.{cause-bits}
 use Rattle.jbig2_region.proofs.Told.{cause-if, cause-more, cause-of}
 use Rattle.jbig2_base.proofs.Causes.{cause-next, cause-refused}
 use Rattle.jbig2_symbol.proofs.ReadingCauses.{instance_count_causes}
+use Rattle.jbig2_symbol.specs.SymbolHeader.{SymbolHeader}
 
 -- ---- coded by itself
 either-of : (x y : Bool) → (x || y) ≡ true → (x ≡ true) ⊎ (y ≡ true)
@@ -48,8 +49,8 @@ sides-cause width height =
     let large : Bool = nat_lt 65535 width || nat_lt 65535 height in
     cause-refused (BreaksSides width height) large (errors.Overflow BitmapDimension) (too-long width height)
 
-pub coded_symbol_causes : CodedSymbolsHaveCauses
-unfolding coded_symbol
+pub coded_symbol_causes : (h : SymbolHeader) (width height : ℕ) → HaveCauses (coded_symbol h width height) (λ s. BreaksSides width height)
+unfolding HaveCauses coded_symbol
 coded_symbol_causes h width height s = cause-next (BreaksSides width height) (fits_symbol width height) _ (sides-cause width height) (λ fits fits_is. tt)
 
 -- ---- refined, or put together
@@ -59,7 +60,7 @@ BreaksRefined c r symbols id width height s e =
     ⊎ Behind (r.x_delta s) (λ rdx. c.y_delta rdx.1 e
     ⊎ Behind (r.y_delta rdx.1) (λ rdy. ((e ≡ errors.Symbol OutOfRange) × NamesNone symbols id) ⊎ BreaksSides width height e ⊎ c.refined rdy.1 e))
 
-cause-alone : {S : Type 0} (c : ReadingCauses S) (r : Readings S) (a : HaveCauses r c) (P : DecodeError → Type 0) (symbols : List Grid) (id : ℤ) (width height : ℕ) (f : Refining) (s : S)
+cause-alone : {S : Type 0} (c : ReadingCauses S) (r : Readings S) (a : ReadingsHaveCauses r c) (P : DecodeError → Type 0) (symbols : List Grid) (id : ℤ) (width height : ℕ) (f : Refining) (s : S)
     → ((e : DecodeError) → BreaksRefined c r symbols id width height s e → P e) → IfErr (refined_alone r symbols id width height f s) P
 unfolding refined_alone
 cause-alone c r a P symbols id width height f s why =
@@ -69,14 +70,14 @@ cause-alone c r a P symbols id width height f s why =
     cause-next P (fits_symbol width height) _ (cause-more (BreaksSides width height) P (fits_symbol width height) (sides-cause width height) (λ e no. why e (inr (rdx, x_is, inr (rdy, y_is, inr (inl no)))))) (λ fits fits_is.
     cause-more (c.refined rdy.1) P (r.refined _ width height f rdy.1) (a.refined _ width height f rdy.1) (λ e no. why e (inr (rdx, x_is, inr (rdy, y_is, inr (inr no)))))))))
 
-cause-together : {S : Type 0} (c : ReadingCauses S) (r : Readings S) (a : HaveCauses r c) (P : DecodeError → Type 0) (p : TextParams) (width height : ℕ) (f : Refining) (s : S)
+cause-together : {S : Type 0} (c : ReadingCauses S) (r : Readings S) (a : ReadingsHaveCauses r c) (P : DecodeError → Type 0) (p : TextParams) (width height : ℕ) (f : Refining) (s : S)
     → ((e : DecodeError) → BreaksSides width height e ⊎ BreaksInstances c r p f s e → P e) → IfErr (put_together r p width height f s) P
 unfolding put_together text_region
 cause-together c r a P p width height f s why =
     cause-next P (fits_symbol width height) _ (cause-more (BreaksSides width height) P (fits_symbol width height) (sides-cause width height) (λ e no. why e (inl no))) (λ fits fits_is.
     cause-next P (text_instances r p f s) _ (cause-more (BreaksInstances c r p f s) P (text_instances r p f s) (all_instance_causes c r a p f s) (λ e no. why e (inr no))) (λ found found_is. tt))
 
-cause-instances : {S : Type 0} (c : ReadingCauses S) (r : Readings S) (a : HaveCauses r c) (alone : S → Result (ℤ × S) DecodeError) (lacks : S → DecodeError → Type 0) (law : (s : S) → IfErr (alone s) (lacks s)) (p : TextParams) (width height : ℕ) (f : Refining) (s : S)
+cause-instances : {S : Type 0} (c : ReadingCauses S) (r : Readings S) (a : ReadingsHaveCauses r c) (alone : S → Result (ℤ × S) DecodeError) (lacks : S → DecodeError → Type 0) (law : (s : S) → IfErr (alone s) (lacks s)) (p : TextParams) (width height : ℕ) (f : Refining) (s : S)
     → IfErr (by_instances r alone p width height f s) (BreaksByInstances c r alone lacks p width height f s)
 cause-instances c r a alone lacks law p width height f s =
     let P : DecodeError → Type 0 = BreaksByInstances c r alone lacks p width height f s in
@@ -95,8 +96,8 @@ cause-count {S} P reading refused broken = cause-more (λ e. InSteps reading (Is
     on (Ok value) refused broken why = broken (value, refl, why)
     on (Err f) refused broken why = refused why
 
-pub coded_aggregate_causes : CodedAggregatesHaveCauses
-unfolding coded_aggregate
+pub coded_aggregate_causes : (d : SymbolInput) (new : List Grid) (width height : ℕ) → HaveCauses (coded_aggregate d new width height) (BreaksCodedAggregate d new width height)
+unfolding HaveCauses coded_aggregate
 coded_aggregate_causes d new width height s =
     let P : DecodeError → Type 0 = BreaksCodedAggregate d new width height s in
     cause-next P (instance_count (by_procedure Iaai s)) _ (cause-count P (by_procedure Iaai s) (λ e never. absurd cc) (λ e no. inl no)) (λ count count_is.
@@ -127,8 +128,8 @@ cause-plain_id bits s =
     let P : DecodeError → Type 0 = LacksId bits s in
     cause-next P _ _ (cause-next P _ _ (cause-bits P end_of_bytes bits s.place (λ short. (refl, short))) (λ n is. tt)) (λ n is. tt)
 
-pub prefixed_aggregate_causes : PrefixedAggregatesHaveCauses
-unfolding prefixed_aggregate
+pub prefixed_aggregate_causes : (d : SymbolInput) (new : List Grid) (width height : ℕ) → HaveCauses (prefixed_aggregate d new width height) (BreaksPrefixedAggregate d new width height)
+unfolding HaveCauses prefixed_aggregate
 prefixed_aggregate_causes d new width height s =
     let P : DecodeError → Type 0 = BreaksPrefixedAggregate d new width height s in
     let reading = by_table d.tables.counts s in
@@ -141,8 +142,8 @@ prefixed_aggregate_causes d new width height s =
     (cause-more (BreaksByInstances prefix_causes by_prefix_codes (plain_id bits) (LacksId bits) p width height refining at) P (by_instances by_prefix_codes (plain_id bits) p width height refining at)
     (cause-instances prefix_causes by_prefix_codes by_prefix_codes-causes (plain_id bits) (LacksId bits) (cause-plain_id bits) p width height refining at) (λ e no. inr (inr (count, count_is, no)))) (λ symbol symbol_is. tt))
 
-pub coded_bitmap_causes : CodedBitmapsHaveCauses
-unfolding coded_bitmap
+pub coded_bitmap_causes : (d : SymbolInput) (new : List Grid) (width height : ℕ) → HaveCauses (coded_bitmap d new width height) (BreaksCodedBitmap d new width height)
+unfolding HaveCauses coded_bitmap
 coded_bitmap_causes d new width height s =
     let P : DecodeError → Type 0 = BreaksCodedBitmap d new width height s in
     let aggregate = coded_aggregate d new width height s in

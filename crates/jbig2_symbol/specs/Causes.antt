@@ -1,5 +1,5 @@
 -- Which rule is broken where a symbol dictionary is refused (T.88, 6.5 and 7.4.2; docs/FORMAT.md, 11), a line an error.
--- Errors of steps with laws of their own stand as the step's own (`IsOf`). A law `..HaveCauses` ties the definition to it.
+-- Errors of steps with laws of their own stand as the step's own (`IsOf`). A law `..ReadingsHaveCauses` ties the definition to it.
 use Rattle.std.specs.Prelude.{◌≡◌, ◌≢◌, ◌⊎◌, ◌<◌, ◌≤◌, ℕ, zero, suc, ◌+◌, ◌-◌, ◌*◌, ◌/◌, ◌%◌, ◌==◌, max, ◌&&◌, Bool, false, IsTrue, IsFalse, if◌then◌else◌, List, [], ◌∷◌, ◌++◌, length, take, drop, sum, slice_get, Option, Some, None, Result, Ok, IfErr, ℤ, pos, negsuc, ◌+ℤ◌}
 use Rattle.std.specs.Int.{w16, w32}
 use Rattle.jbig2_base.specs.Bits.{Place, aligned, bits_left}
@@ -48,9 +48,6 @@ BreaksSymbolFields flags bytes (errors.Template InvalidAtPixel) = (flags % 2 ≢
 BreaksSymbolFields flags bytes (errors.Overflow SymbolCount) = (1048576 < number_in w32 (counts_place flags) bytes) ⊎ (1048576 < number_in w32 (counts_place flags + 4) bytes)
 BreaksSymbolFields flags bytes _ = ⊥
 
-abbrev pub SymbolHeadersHaveCauses : Type 0
-SymbolHeadersHaveCauses = (strict : Bool) (bytes : List ℕ) → IfErr (symbol_header_at strict bytes) (BreaksSymbolFields (number_in w16 0 bytes) bytes)
-
 -- how many custom tables a selection takes
 abbrev pub taken_by : HuffmanTableSelection → ℕ
 taken_by UserSupplied = 1
@@ -62,9 +59,6 @@ BreaksTables flags customs (errors.Huffman huffman.MissingTables) =
     + taken_by flags.collective_bitmap_size_table + taken_by flags.aggregate_instance_table
 BreaksTables flags customs _ = ⊥
 
-abbrev pub SymbolTablesHaveCauses : Type 0
-SymbolTablesHaveCauses = (flags : SymbolDictionaryFlags) (customs : List (List Member)) → IfErr (symbol_tables flags customs) (BreaksTables flags customs)
-
 -- another dictionary kept no contexts, or those of other templates (7.4.2.2)
 abbrev pub BreaksContexts : SymbolDictionaryFlags → Option BitmapContexts → DecodeError → Type 0
 BreaksContexts flags None (errors.Symbol Invalid) = IsTrue flags.bitmap_context_used
@@ -72,9 +66,6 @@ BreaksContexts flags (Some contexts) (errors.Symbol Invalid) =
     IsTrue flags.bitmap_context_used
     × (IsFalse (is_template contexts.template flags.template) ⊎ IsFalse (is_refinement_template contexts.refinement_template flags.refinement_template))
 BreaksContexts flags kept _ = ⊥
-
-abbrev pub ContextsHaveCauses : Type 0
-ContextsHaveCauses = (flags : SymbolDictionaryFlags) (kept : Option BitmapContexts) → IfErr (first_contexts flags kept) (BreaksContexts flags kept)
 
 -- The value of a run (6.5.10), where `left` symbols are not covered yet and `empty` runs of length 0 came before.
 abbrev pub BreaksRunValue : ℕ → ℕ → Option ℤ → DecodeError → Type 0
@@ -116,10 +107,6 @@ BreaksNextWidth r d room width total s e =
 abbrev pub WidthsHaveCauses : {S : Type 0} → SymbolReadings S → Type 0
 WidthsHaveCauses {S} r = (d : SymbolInput) (room width total : ℕ) (s : S) → IfErr (next_width r d room width total s) (BreaksNextWidth r d room width total s)
 
--- a symbol that is coded by itself (6.5.8.1)
-abbrev pub CodedSymbolsHaveCauses : Type 0
-CodedSymbolsHaveCauses = (h : SymbolHeader) (width height : ℕ) (s : SymbolState Coded) → IfErr (coded_symbol h width height s) (BreaksSides width height)
-
 -- how many instances a symbol is put together from (6.5.8.2.1): out of band, or below 1
 abbrev pub BreaksCount : Option ℤ → DecodeError → Type 0
 BreaksCount value (errors.Symbol UnexpectedOob) = value ≡ None
@@ -147,9 +134,6 @@ BreaksCodedAggregate d new width height s e =
     ⊎ Behind (instance_count (by_procedure Iaai s)) (λ count.
     BreaksByInstances coder_causes by_coder (λ c. Ok (next_id c)) (λ c _. ⊥) (aggregate_params d new count.0) width height count.1.contexts.refining count.1.coding e)
 
-abbrev pub CodedAggregatesHaveCauses : Type 0
-CodedAggregatesHaveCauses = (d : SymbolInput) (new : List Grid) (width height : ℕ) (s : SymbolState Coded) → IfErr (coded_aggregate d new width height s) (BreaksCodedAggregate d new width height s)
-
 -- by prefix codes the only id lacks bits
 abbrev pub BreaksPrefixedAggregate : SymbolInput → List Grid → ℕ → ℕ → SymbolState Place → DecodeError → Type 0
 BreaksPrefixedAggregate d new width height s e =
@@ -160,15 +144,9 @@ BreaksPrefixedAggregate d new width height s e =
     let lacks : Prefixed → DecodeError → Type 0 = λ c err. (err ≡ errors.Parse UnexpectedEof) × (length (bits_left c.place) < bits) in
     BreaksByInstances prefix_causes by_prefix_codes (plain_id bits) lacks (aggregate_params d new count.0) width height count.1.contexts.refining (prefixed_at d count.1.coding) e)
 
-abbrev pub PrefixedAggregatesHaveCauses : Type 0
-PrefixedAggregatesHaveCauses = (d : SymbolInput) (new : List Grid) (width height : ℕ) (s : SymbolState Place) → IfErr (prefixed_aggregate d new width height s) (BreaksPrefixedAggregate d new width height s)
-
 abbrev pub BreaksCodedBitmap : SymbolInput → List Grid → ℕ → ℕ → SymbolState Coded → DecodeError → Type 0
 BreaksCodedBitmap d new width height s e =
     (IsTrue d.header.flags.use_refagg × BreaksCodedAggregate d new width height s e) ⊎ (IsFalse d.header.flags.use_refagg × BreaksSides width height e)
-
-abbrev pub CodedBitmapsHaveCauses : Type 0
-CodedBitmapsHaveCauses = (d : SymbolInput) (new : List Grid) (width height : ℕ) (s : SymbolState Coded) → IfErr (coded_bitmap d new width height s) (BreaksCodedBitmap d new width height s)
 
 -- A collective bitmap (6.5.9), behind the value of its size; MMR data has to be whole in strict mode alone.
 abbrev pub BreaksSized : Bool → ℕ → ℕ → Option ℤ → List ℕ → DecodeError → Type 0
@@ -184,16 +162,10 @@ BreaksCollectiveBitmap d width height s e =
     InSteps (by_table d.tables.sizes s) (IsOf (by_table d.tables.sizes s) e) (λ value.
     BreaksSized d.header.strict width height value.0 (aligned value.1.coding).bytes e)
 
-abbrev pub CollectiveBitmapsHaveCauses : Type 0
-CollectiveBitmapsHaveCauses = (d : SymbolInput) (width height : ℕ) (s : SymbolState Place) → IfErr (collective_bitmap d width height s) (BreaksCollectiveBitmap d width height s)
-
 -- one of the symbols that are cut out of it is too wide, or all are too high
 abbrev pub BreaksCuts : ℕ → List ℕ → DecodeError → Type 0
 BreaksCuts height widths (errors.Overflow BitmapDimension) = (65535 < height) ⊎ ((k : ℕ) × (width : ℕ) × (slice_get widths k ≡ Some width) × (65535 < width))
 BreaksCuts height widths _ = ⊥
-
-abbrev pub CutsHaveCauses : Type 0
-CutsHaveCauses = (collective : Grid) (height from : ℕ) (widths : List ℕ) → IfErr (symbols_cut collective height from widths) (BreaksCuts height widths)
 
 -- A width, and what holds of it, of the total with it and of the state behind it.
 abbrev pub BehindWidth : {S : Type 0} → SymbolReadings S → SymbolInput → ℕ → ℕ → ℕ → S → (ℕ → ℕ → S → Type 0) → Type 0
@@ -239,10 +211,6 @@ BreaksCollectiveClass d height empty new s e =
     ((e ≡ errors.Symbol Invalid) × (length widths.0 ≡ 0) × (1048576 ≤ empty))
     ⊎ BreaksCollectiveBitmap d (sum widths.0) height widths.1 e
     ⊎ BreaksCuts height widths.0 e)
-
-abbrev pub CollectiveClassesHaveCauses : Type 0
-CollectiveClassesHaveCauses =
-    (d : SymbolInput) (height empty : ℕ) (new : List Grid) (s : SymbolState Place) → IfErr (collective_class d height empty new s) (BreaksCollectiveClass d height empty new s)
 
 abbrev pub BreaksPrefixedClass : SymbolInput → ℕ → ℕ → List Grid → SymbolState Place → DecodeError → Type 0
 BreaksPrefixedClass d height empty new s e =

@@ -11,9 +11,10 @@ use Rattle.jbig2_base.proofs.Causes.{cause-next}
 use Rattle.jbig2_coder.specs.Causes.{AreCrowded}
 use Rattle.jbig2_coder.specs.PrefixCode.{Member, decoded_value, no_oob, table_of}
 use Rattle.jbig2_coder.proofs.Causes.{table-cause}
-use Rattle.jbig2_text.specs.Causes.{Behind, BreaksRun, BreaksSymbolCodes, RefusesNumber, SymbolCodesHaveCauses}
+use Rattle.jbig2_text.specs.Causes.{Behind, BreaksRun, BreaksSymbolCodes, RefusesNumber}
 use Rattle.jbig2_text.specs.SymbolCodes.{invalid_code, lines_from, next_runcode, repeated, run_at, runcodes_at, runs_at, short_lengths, symbol_codes_from, symbol_lengths_at, value_at}
 use Rattle.jbig2_region.proofs.Told.{cause-if, cause-last, told, told-next, told-refused}
+use Rattle.jbig2_base.specs.Causes.{HaveCauses}
 
 -- ---- bits and codes
 -- an answer has its own error
@@ -87,8 +88,8 @@ cause-runs P (suc most) count runcodes so_far p refused faulty =
     (λ k there. faulty (suc k) (there.0, cond-true _ _ _ few ∙ ap (on k) more_is ∙ there.1, there.2)))) (λ full. tt)
 
 -- ---- all of it
-pub symbol_code_causes : SymbolCodesHaveCauses
-unfolding symbol_codes_from symbol_lengths_at
+pub symbol_code_causes : (count : ℕ) → HaveCauses (symbol_codes_from count) (BreaksSymbolCodes count)
+unfolding HaveCauses symbol_codes_from symbol_lengths_at
 symbol_code_causes count p =
     let P : DecodeError → Type 0 = BreaksSymbolCodes count p in
     cause-next P (runcodes_at p) _ (cause-runcodes P p (λ k below there. inl (refl, inl (k, below, there))) (λ crowded. inl (refl, inr (inl crowded)))) (λ runcodes is.

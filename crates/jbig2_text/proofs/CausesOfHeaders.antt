@@ -5,7 +5,7 @@ use Rattle.std.specs.Int.{w8, w16, w32}
 use Rattle.std.specs.Option.{is_some}
 use Rattle.std.proofs.lemmas.Bool.{cond_both, eqb-true}
 use Rattle.jbig2_base.specs.Bits.{start_of}
-use Rattle.jbig2_base.specs.Causes.{number_in}
+use Rattle.jbig2_base.specs.Causes.{number_in, HaveCauses}
 use Rattle.jbig2_base.specs.Fields.{end_of_bytes, number_at, signed_at}
 use Rattle.jbig2_base.specs.Operator.{operator_of}
 use Rattle.jbig2_base.specs.declared.error.DecodeError.{DecodeError}
@@ -15,7 +15,7 @@ use Rattle.jbig2_region.specs.RegionInfo.{region_info_at}
 use Rattle.jbig2_region.specs.Templates.{free_pixel_at}
 use Rattle.jbig2_region.specs.declared.template.AdaptiveTemplatePixel.{AdaptiveTemplatePixel}
 use Rattle.jbig2_region.specs.declared.template.RefinementTemplate.TheVariants.{Template0, Template1}
-use Rattle.jbig2_text.specs.Causes.{BreaksSymbolCodes, BreaksTextHeader, TextHeadersHaveCauses, fields_length}
+use Rattle.jbig2_text.specs.Causes.{BreaksSymbolCodes, BreaksTextHeader, fields_length}
 use Rattle.jbig2_text.specs.SymbolCodes.{symbol_codes_at, symbol_codes_from}
 use Rattle.jbig2_text.specs.TextHeader.{coding_at, table_numbers_at, text_fields_at, text_flags_at, text_header_at}
 use Rattle.jbig2_text.specs.inner.Parts.{text_pixels_at}
@@ -120,8 +120,8 @@ cause-coding P (Some tables) symbols bytes rest coded s why =
     (λ codes is. tt))
     (λ ids is. tt)
 
-pub text_header_causes : TextHeadersHaveCauses
-unfolding text_header_at
+pub text_header_causes : (symbols : ℕ) (strict : Bool) → HaveCauses (text_header_at symbols strict) (BreaksTextHeader symbols)
+unfolding HaveCauses text_header_at
 text_header_causes symbols strict bytes =
     let P : DecodeError → Type 0 = BreaksTextHeader symbols bytes in
     cause-last P _ (region_info_at bytes) _ (told-region_info P bytes (λ short. inl (refl, omega (arith, short, late (text_flags_in bytes)))) (λ other. inr (inl (refl, other))) (λ colour. inr (inr (inl (refl, colour))))) (λ info a.

@@ -13,7 +13,7 @@ use Rattle.jbig2_base.specs.declared.error.SymbolError.TheVariants.{OutOfRange}
 use Rattle.jbig2_base.proofs.Causes.{cause-next, cause-refused}
 use Rattle.jbig2_coder.specs.Causes.{LeavesWord}
 use Rattle.jbig2_text.specs.Causes.{Behind}
-use Rattle.jbig2_text.specs.CausesOfText.{APlaceLeaves, ARefinementIsRefused, BreaksInstance, HaveCauses, IsNoSide, NamesNone, ReadingCauses}
+use Rattle.jbig2_text.specs.CausesOfText.{APlaceLeaves, ARefinementIsRefused, BreaksInstance, ReadingsHaveCauses, IsNoSide, NamesNone, ReadingCauses}
 use Rattle.jbig2_text.specs.Refining.{Refining}
 use Rattle.jbig2_text.specs.Text.{Instance, Reached, Readings, TextParams, coordinate, edge, grown, instance_symbol, is_bottom, is_last_along_s, is_right, plain_symbol, reference_offset, refined_outline, refined_symbol, refinement_deltas, side_of, some_symbol, symbol_of, symbol_placed, t_in_strip, with_instance, with_symbol}
 use Rattle.jbig2_text.specs.declared.text.cursor.Cursor.{Cursor}
@@ -57,7 +57,7 @@ told-outline P from rd side offset =
     told-next P _ Q (reference_offset rd.width rd.x) _ (told-word P _ (int_shr rd.width 1 +ℤ rd.x) (λ large. offset (inl large))) (λ dx x.
     told-next P _ Q (reference_offset rd.height rd.y) _ (told-word P _ (int_shr rd.height 1 +ℤ rd.y) (λ large. offset (inr large))) (λ dy y. (w, h)))))
 
-cause-deltas : {S : Type 0} (c : ReadingCauses S) (r : Readings S) (a : HaveCauses r c) (s : S) → IfErr (refinement_deltas r s) (λ e. ARefinementIsRefused c r s e)
+cause-deltas : {S : Type 0} (c : ReadingCauses S) (r : Readings S) (a : ReadingsHaveCauses r c) (s : S) → IfErr (refinement_deltas r s) (λ e. ARefinementIsRefused c r s e)
 unfolding refinement_deltas
 cause-deltas c r a s =
     let P : DecodeError → Type 0 = λ e. ARefinementIsRefused c r s e in
@@ -70,7 +70,7 @@ too-long : (b c : ℕ) → (ltb 65535 b || ltb 65535 c) ≡ true → (65535 < b)
 too-long b c is = ⊎_elim (λ wide. inl (ltb-true 65535 b wide)) (λ high. inr (ltb-true 65535 c high)) (or_cases (ltb 65535 b) (ltb 65535 c) is)
 
 -- what a refined symbol of this id may break, by the symbol that it is refined from
-cause-refined : {S : Type 0} (c : ReadingCauses S) (r : Readings S) (a : HaveCauses r c) (P : DecodeError → Type 0) (symbols : List Grid) (id : ℤ) (f : Refining) (s : S)
+cause-refined : {S : Type 0} (c : ReadingCauses S) (r : Readings S) (a : ReadingsHaveCauses r c) (P : DecodeError → Type 0) (symbols : List Grid) (id : ℤ) (f : Refining) (s : S)
     → (NamesNone symbols id → P (Symbol OutOfRange))
     → ((from : Grid) → symbol_of symbols id ≡ Some from → Behind (refinement_deltas r s) (λ rd. IsNoSide (pos from.width +ℤ rd.0.width) ⊎ IsNoSide (pos from.height +ℤ rd.0.height)) → P (Overflow BitmapDimension))
     → ((from : Grid) → symbol_of symbols id ≡ Some from → Behind (refinement_deltas r s) (λ rd. LeavesWord (int_shr rd.0.width 1 +ℤ rd.0.x) ⊎ LeavesWord (int_shr rd.0.height 1 +ℤ rd.0.y)) → P (Overflow ReferenceOffset))
@@ -109,7 +109,7 @@ record SymbolWhys {S : Type 0} (c : ReadingCauses S) (r : Readings S) (p : TextP
   flag : (e : DecodeError) → c.is_refined s e → P e
   refused : (e : DecodeError) → RefinedFrom r p id s (λ from u. ARefinementIsRefused c r u e) → P e
 
-cause-symbol : {S : Type 0} (c : ReadingCauses S) (r : Readings S) (a : HaveCauses r c) (P : DecodeError → Type 0) (p : TextParams) (id : ℤ) (f : Refining) (s : S) → SymbolWhys c r p id s P
+cause-symbol : {S : Type 0} (c : ReadingCauses S) (r : Readings S) (a : ReadingsHaveCauses r c) (P : DecodeError → Type 0) (p : TextParams) (id : ℤ) (f : Refining) (s : S) → SymbolWhys c r p id s P
     → IfErr (instance_symbol r p id f s) P
 unfolding instance_symbol
 cause-symbol c r a P p id f s w =
@@ -167,7 +167,7 @@ cause-with P flags before at ti None leaves = tt
 cause-with P flags before at ti (Some g) leaves = cause-next P (symbol_placed flags g at.cur_s ti) _ (cause-placed P flags g at.cur_s ti (leaves g refl)) (λ i i_is. tt)
 
 -- ---- an instance
-pub instance_causes : {S : Type 0} (c : ReadingCauses S) (r : Readings S) (a : HaveCauses r c) (p : TextParams) (x : Reached S) → IfErr (with_instance r p x) (BreaksInstance c r p x)
+pub instance_causes : {S : Type 0} (c : ReadingCauses S) (r : Readings S) (a : ReadingsHaveCauses r c) (p : TextParams) (x : Reached S) → IfErr (with_instance r p x) (BreaksInstance c r p x)
 unfolding with_instance
 instance_causes c r a p x =
     let P : DecodeError → Type 0 = BreaksInstance c r p x in

@@ -19,8 +19,8 @@ use Rattle.jbig2_coder.specs.declared.integer_procedures.IntegerProcedure.TheVar
 use Rattle.jbig2_region.specs.Refinement.{Reference}
 use Rattle.jbig2_text.specs.SymbolCodes.{invalid_code, value_at}
 use Rattle.jbig2_text.specs.Causes.{Behind, RefusesNumber}
-use Rattle.jbig2_text.specs.CausesOfRegions.{BreaksRegionBy, BreaksTextRegion, BreaksTextTables, HasNoMeaning, IsOutOfBand, LacksBytes, RefusesValue, TextRegionsHaveCauses, TextTablesHaveCauses, coder_causes, customs_if, prefix_causes}
-use Rattle.jbig2_text.specs.CausesOfText.{BreaksInstance, BreaksInstances, BreaksStrip, HaveCauses, ReadingCauses}
+use Rattle.jbig2_text.specs.CausesOfRegions.{BreaksRegionBy, BreaksTextRegion, BreaksTextTables, HasNoMeaning, IsOutOfBand, LacksBytes, RefusesValue, coder_causes, customs_if, prefix_causes}
+use Rattle.jbig2_text.specs.CausesOfText.{BreaksInstance, BreaksInstances, BreaksStrip, ReadingsHaveCauses, ReadingCauses}
 use Rattle.jbig2_text.specs.Refining.{Refining}
 use Rattle.jbig2_text.specs.Text.{Reached, Readings, TextParams, after_instances, coordinate, cursor_moved, strip_begun, strip_delta, text_instances, text_region, with_instance}
 use Rattle.jbig2_text.specs.declared.text.cursor.Cursor.{Cursor}
@@ -32,9 +32,11 @@ use Rattle.jbig2_text.proofs.Causes.{cause-bits, cause-value, own-error}
 use Rattle.jbig2_text.proofs.CausesOfInstances.{instance_causes}
 use Rattle.jbig2_text.proofs.CausesOfText.{BreaksMove, cause-delta, cause-move, cause-strip, told-word}
 use Rattle.jbig2_region.proofs.Told.{Told, cause-if, cause-last, cause-more, told-if}
+use Rattle.jbig2_base.specs.Causes.{HaveCauses}
+use Rattle.jbig2_text.specs.declared.text.header.TextRegionHuffmanFlags.{TextRegionHuffmanFlags}
 
 -- ---- all instances
-cause-after : {S : Type 0} (c : ReadingCauses S) (r : Readings S) (a : HaveCauses r c) (p : TextParams) (P : DecodeError → Type 0) (n : ℕ) (x : Reached S)
+cause-after : {S : Type 0} (c : ReadingCauses S) (r : Readings S) (a : ReadingsHaveCauses r c) (p : TextParams) (P : DecodeError → Type 0) (n : ℕ) (x : Reached S)
     → ((k : ℕ) → k < n → (e : DecodeError) → Behind (after_instances r p k x) (λ y. BreaksInstance c r p y e ⊎ Behind (with_instance r p y) (λ z. BreaksMove c r p.flags z.cursor z.state e)) → P e)
     → IfErr (after_instances r p n x) P
 unfolding after_instances
@@ -54,7 +56,7 @@ cause-end P true (Ok None) more refused = tt
 cause-end P true (Ok (Some ids)) more refused = more refl (Some ids, refl, (ids, refl))
 cause-end P true (Err e) more refused = refused refl
 
-pub all_instance_causes : {S : Type 0} (c : ReadingCauses S) (r : Readings S) → HaveCauses r c → (p : TextParams) (f : Refining) (s : S) → IfErr (text_instances r p f s) (BreaksInstances c r p f s)
+pub all_instance_causes : {S : Type 0} (c : ReadingCauses S) (r : Readings S) → ReadingsHaveCauses r c → (p : TextParams) (f : Refining) (s : S) → IfErr (text_instances r p f s) (BreaksInstances c r p f s)
 unfolding text_instances
 all_instance_causes c r a p f s =
     let P : DecodeError → Type 0 = BreaksInstances c r p f s in
@@ -130,8 +132,8 @@ told-size P n customs missing =
     (λ a. let one : customs_of_size n ≡ 1 = cond-true (ltb 0 n) 1 0 (lt-ltb 0 n (omega (arith, eqb-false n 0 a))) in
     subst (λ (k : ℕ). Told (next_custom customs) P (Left k customs)) (sym one) (told-custom P customs (λ none. missing (omega (arith, none, one)))))
 
-pub text_table_causes : TextTablesHaveCauses
-unfolding text_tables
+pub text_table_causes : (flags : TextRegionHuffmanFlags) → HaveCauses (text_tables flags) (BreaksTextTables flags)
+unfolding HaveCauses text_tables
 text_table_causes flags customs =
     let P : DecodeError → Type 0 = BreaksTextTables flags customs in
     cause-last P _ (one_of_two _ _ flags.first_s_table customs) _ (told-two P _ _ flags.first_s_table customs (λ no. inl (refl, inl no)) (λ few. inr (refl, omega (arith, few)))) (λ a a_is.
@@ -151,7 +153,7 @@ cause-integer procedure s = cause-next (IsOutOfBand procedure s) (in_band (Symbo
     band None is = (refl, is)
     band (Some n) is = tt
 
-pub by_coder-causes : HaveCauses by_coder coder_causes
+pub by_coder-causes : ReadingsHaveCauses by_coder coder_causes
 by_coder-causes = record {
   delta_t = cause-integer _;
   first_s = cause-integer _;
@@ -181,7 +183,7 @@ cause-refined_there from width height f s =
     cause-next P (value_at s.tables.refinement_size s.place) _ (cause-value P s.tables.refinement_size s.place (λ e no. inl no)) (λ size is.
     cause-next P (sized_bytes size.0 size.1) _ (cause-more (LacksBytes size.0 size.1) P (sized_bytes size.0 size.1) (cause-bytes_of size.0 size.1) (λ e no. inr (size, is, no))) (λ coded r. tt))
 
-pub by_prefix_codes-causes : HaveCauses by_prefix_codes prefix_causes
+pub by_prefix_codes-causes : ReadingsHaveCauses by_prefix_codes prefix_causes
 by_prefix_codes-causes = record {
   delta_t = λ s. cause-prefixed _ s;
   first_s = λ s. cause-prefixed _ s;
@@ -197,7 +199,7 @@ by_prefix_codes-causes = record {
 }
 
 -- ---- regions
-cause-from : {S : Type 0} (c : ReadingCauses S) (r : Readings S) (a : HaveCauses r c) (h : TextHeader) (symbols : List Grid) (region : Grid) (s : S)
+cause-from : {S : Type 0} (c : ReadingCauses S) (r : Readings S) (a : ReadingsHaveCauses r c) (h : TextHeader) (symbols : List Grid) (region : Grid) (s : S)
     → IfErr (region_from r h symbols region s) (BreaksInstances c r (text_params h symbols) (refining_of h) s)
 unfolding region_from text_region
 cause-from c r a h symbols region s =
@@ -214,8 +216,8 @@ cause-by h (HuffmanCoding numbers ids) symbols customs region =
     cause-more (BreaksInstances prefix_causes by_prefix_codes (text_params h symbols) (refining_of h) s) P (region_from by_prefix_codes h symbols region s)
     (cause-from prefix_causes by_prefix_codes by_prefix_codes-causes h symbols region s) (λ e broken. inr (s, is, broken)))
 
-pub text_region_causes : TextRegionsHaveCauses
-unfolding text_decoded text_answer
+pub text_region_causes : (h : TextHeader) (symbols : List Grid) → HaveCauses (text_decoded h symbols) (BreaksTextRegion h symbols)
+unfolding HaveCauses text_decoded text_answer
 text_region_causes h symbols customs =
     let P : DecodeError → Type 0 = BreaksTextRegion h symbols customs in
     let wide : Bool = ltb 65535 h.region_info.width in

@@ -8,7 +8,7 @@ use Rattle.jbig2_base.specs.declared.error.SymbolError.TheVariants.{InvalidStrip
 use Rattle.jbig2_base.proofs.Causes.{cause-next}
 use Rattle.jbig2_coder.specs.Causes.{LeavesWord}
 use Rattle.jbig2_text.specs.Causes.{Behind}
-use Rattle.jbig2_text.specs.CausesOfText.{BreaksMoveBy, BreaksStrip, HaveCauses, ReadingCauses}
+use Rattle.jbig2_text.specs.CausesOfText.{BreaksMoveBy, BreaksStrip, ReadingsHaveCauses, ReadingCauses}
 use Rattle.jbig2_text.specs.Text.{Readings, coordinate, cursor_moved, moved_by, strip_begun, strip_delta, word_or}
 use Rattle.jbig2_text.specs.declared.text.cursor.Cursor.{Cursor}
 use Rattle.jbig2_text.specs.declared.text.header.TextRegionFlags.{TextRegionFlags}
@@ -20,14 +20,14 @@ told-word P e (pos n) why = told-if P (λ x. pos n ≡ x) (ltb n 2147483648) _ _
 told-word P e (negsuc n) why = told-if P (λ x. negsuc n ≡ x) (ltb n 2147483648) _ _ (λ is. refl) (λ large. why (ltb-false n 2147483648 large))
 
 -- ---- strips
-pub cause-delta : {S : Type 0} (c : ReadingCauses S) (r : Readings S) (a : HaveCauses r c) (flags : TextRegionFlags) (s : S) (P : DecodeError → Type 0)
+pub cause-delta : {S : Type 0} (c : ReadingCauses S) (r : Readings S) (a : ReadingsHaveCauses r c) (flags : TextRegionFlags) (s : S) (P : DecodeError → Type 0)
     → (Behind (r.delta_t s) (λ strips. LeavesWord (strips.0 *ℤ pos (2 ^ flags.log_strip_size))) → P (Symbol InvalidStripDelta)) → ((e : DecodeError) → c.delta_t s e → P e) → IfErr (strip_delta r flags s) P
 unfolding strip_delta
 cause-delta c r a flags s P leaves refused =
     cause-next P (r.delta_t s) _ (cause-more (c.delta_t s) P (r.delta_t s) (a.delta_t s) refused) (λ strips is.
     cause-last P _ (word_or (Symbol InvalidStripDelta) (strips.0 *ℤ pos (2 ^ flags.log_strip_size))) _ (told-word P _ (strips.0 *ℤ pos (2 ^ flags.log_strip_size)) (λ large. leaves (strips, is, large))) (λ dt r. tt))
 
-pub cause-strip : {S : Type 0} (c : ReadingCauses S) (r : Readings S) (a : HaveCauses r c) (flags : TextRegionFlags) (stript firsts : ℤ) (s : S)
+pub cause-strip : {S : Type 0} (c : ReadingCauses S) (r : Readings S) (a : ReadingsHaveCauses r c) (flags : TextRegionFlags) (stript firsts : ℤ) (s : S)
     → IfErr (strip_begun r flags stript firsts s) (BreaksStrip c r flags stript firsts s)
 unfolding strip_begun
 cause-strip c r a flags stript firsts s =
@@ -37,7 +37,7 @@ cause-strip c r a flags stript firsts s =
     cause-next P (r.first_s dt.1) _ (cause-more (c.first_s dt.1) P (r.first_s dt.1) (a.first_s dt.1) (λ e refused. inr (inr (inr (dt, dt_is, refused))))) (λ dfs dfs_is.
     cause-last P _ (coordinate (firsts +ℤ dfs.0)) _ (told-word P _ (firsts +ℤ dfs.0) (λ large. inr (inl (refl, (dt, dt_is, inr (dfs, dfs_is, large)))))) (λ first r. tt))))
 
-cause-moved : {S : Type 0} (c : ReadingCauses S) (r : Readings S) (a : HaveCauses r c) (flags : TextRegionFlags) (at : Cursor) (ids : Option ℤ) (s : S)
+cause-moved : {S : Type 0} (c : ReadingCauses S) (r : Readings S) (a : ReadingsHaveCauses r c) (flags : TextRegionFlags) (at : Cursor) (ids : Option ℤ) (s : S)
     → IfErr (moved_by r flags at ids s) (BreaksMoveBy c r flags at ids s)
 cause-moved c r a flags at None s = cause-strip c r a flags at.strip_t at.first_s s
 cause-moved c r a flags at (Some ids) s =
@@ -49,7 +49,7 @@ cause-moved c r a flags at (Some ids) s =
 abbrev pub BreaksMove : {S : Type 0} → ReadingCauses S → Readings S → TextRegionFlags → Cursor → S → DecodeError → Type 0
 BreaksMove c r flags at s e = c.delta_s s e ⊎ Behind (r.delta_s s) (λ ids. BreaksMoveBy c r flags at ids (r.behind_delta_s s) e)
 
-pub cause-move : {S : Type 0} (c : ReadingCauses S) (r : Readings S) (a : HaveCauses r c) (flags : TextRegionFlags) (at : Cursor) (s : S)
+pub cause-move : {S : Type 0} (c : ReadingCauses S) (r : Readings S) (a : ReadingsHaveCauses r c) (flags : TextRegionFlags) (at : Cursor) (s : S)
     → IfErr (cursor_moved r flags at s) (BreaksMove c r flags at s)
 unfolding cursor_moved
 cause-move c r a flags at s =

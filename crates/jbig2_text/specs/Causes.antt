@@ -49,9 +49,6 @@ BreaksSymbolCodes count p e =
     (count < length lens.0) ⊎ AreCrowded (lines_from 0 lens.0)))))
     ⊎ ARun count p (λ runcodes so_far q. RefusesNumber runcodes q e)
 
-abbrev pub SymbolCodesHaveCauses : Type 0
-SymbolCodesHaveCauses = (count : ℕ) (p : Place) → IfErr (symbol_codes_from count p) (BreaksSymbolCodes count p)
-
 -- ---- the header
 -- The flags stand at byte 17. With prefix codes two bytes of table numbers follow, and four of adaptive pixels where
 -- symbols are refined at template 0; then four of the number of the instances.
@@ -67,6 +64,3 @@ BreaksTextHeader symbols bytes e =
     ⊎ ((e ≡ Region InvalidCombinationOperator) × (4 < number_in w8 16 bytes % 8))
     ⊎ ((e ≡ Unsupported) × (number_in w8 16 bytes / 8 % 2 ≡ 1))
     ⊎ ((number_in w16 17 bytes % 2 ≡ 1) × BreaksSymbolCodes symbols (start_of (drop (fields_length bytes) bytes)) e)
-
-abbrev pub TextHeadersHaveCauses : Type 0
-TextHeadersHaveCauses = (symbols : ℕ) (strict : Bool) (bytes : List ℕ) → IfErr (text_header_at symbols strict bytes) (BreaksTextHeader symbols bytes)

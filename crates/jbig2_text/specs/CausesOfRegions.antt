@@ -39,9 +39,6 @@ BreaksTextTables flags customs e =
     + customs_if (flags.refinement_x_table == 3) + customs_if (flags.refinement_y_table == 3)
     + customs_if (nat_lt 0 flags.refinement_size_table)))
 
-abbrev pub TextTablesHaveCauses : Type 0
-TextTablesHaveCauses = (flags : TextRegionHuffmanFlags) (customs : List (List Member)) → IfErr (text_tables flags customs) (BreaksTextTables flags customs)
-
 -- ---- the arithmetic coder
 -- the next integer is out of band
 abbrev pub IsOutOfBand : IntegerProcedure → Coded → DecodeError → Type 0
@@ -106,6 +103,3 @@ BreaksRegionBy h (HuffmanCoding numbers ids) symbols customs e =
 abbrev pub BreaksTextRegion : TextHeader → List Grid → List (List Member) → DecodeError → Type 0
 BreaksTextRegion h symbols customs e =
     BreaksSides h.region_info.width h.region_info.height e ⊎ BreaksRegionBy h h.coding symbols customs e
-
-abbrev pub TextRegionsHaveCauses : Type 0
-TextRegionsHaveCauses = (h : TextHeader) (symbols : List Grid) (customs : List (List Member)) → IfErr (text_decoded h symbols customs) (BreaksTextRegion h symbols customs)

@@ -29,7 +29,7 @@ pub record ReadingCauses (S : Type 0) : Type 1 where
   pub y_delta : S → DecodeError → Type 0
   pub refined : S → DecodeError → Type 0
 
-pub record HaveCauses {S : Type 0} (r : Readings S) (c : ReadingCauses S) : Type 0 where
+pub record ReadingsHaveCauses {S : Type 0} (r : Readings S) (c : ReadingCauses S) : Type 0 where
   pub delta_t : (s : S) → IfErr (r.delta_t s) (c.delta_t s)
   pub first_s : (s : S) → IfErr (r.first_s s) (c.first_s s)
   pub delta_s : (s : S) → IfErr (r.delta_s s) (c.delta_s s)

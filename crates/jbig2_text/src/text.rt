@@ -1,14 +1,15 @@
 //! Text regions (T.88, 6.4 and 7.4.3).
-ghost use Rattle.std.specs.Prelude.{◌≡◌, ◌≤◌, ◌^◌, length, Ok, OnErr};
+ghost use Rattle.std.specs.Prelude.{◌≡◌, ◌≤◌, ◌^◌, length, Ok, OnErr, List};
 ghost use Rattle.jbig2_base.specs.Answer.{Answers, Gives};
-ghost use Rattle.jbig2_base.specs.Grid.{blank};
+ghost use Rattle.jbig2_base.specs.Grid.{blank, Grid};
 ghost use Rattle.jbig2_region.specs.RegionInfo.{region_view};
-ghost use Rattle.jbig2_text.specs.CausesOfRegions.{TextRegionsHaveCauses};
 ghost use Rattle.jbig2_text.specs.Refining.{some_pixels};
-ghost use Rattle.jbig2_text.specs.TextHeader.{header_view, text_pixels};
+ghost use Rattle.jbig2_text.specs.TextHeader.{header_view, text_pixels, TextHeader};
 ghost use Rattle.jbig2_text.specs.TextRegion.{coder_of, prefix_codes_of, refining_of, region_from, text_params, text_answer, text_decoded};
 ghost use Rattle.jbig2_coder.specs.inner.TableViews.{customs_view};
 ghost use Rattle.jbig2_text.specs.inner.TextViews.{coded_view, params_view, prefixed_view, symbols_view};
+ghost use Rattle.jbig2_base.specs.Causes.{HaveCauses};
+ghost use Rattle.jbig2_text.specs.CausesOfRegions.{BreaksTextRegion};
 
 pub(crate) mod coded;
 pub(crate) mod cursor;
@@ -195,7 +196,7 @@ pub fn decode_into<
         let meant = text_answer (header_view header.now) (symbols_view symbols.now) customs in
         Gives (λ _. bitmap.new) result meant }
     ensures same { OnErr result (bitmap.new ≡ bitmap.old) }
-    ensures causes { TextRegionsHaveCauses }
+    ensures causes { (h : TextHeader) (symbols : List Grid) → HaveCauses (text_decoded h symbols) (BreaksTextRegion h symbols) }
 {
     match &header.coding {
         TextRegionCoding::Arithmetic => {

@@ -1,5 +1,5 @@
 //! The adaptive pixels of templates, as segments hold them (T.88, 7.4.6.3 and 7.4.7.3).
-ghost use Rattle.std.specs.Prelude.{◌≡◌, ◌≤◌, false, [], ◌∷◌, length, IfOk, OnOk};
+ghost use Rattle.std.specs.Prelude.{◌≡◌, ◌≤◌, false, [], ◌∷◌, length, IfOk, OnOk, ℕ};
 ghost use Rattle.jbig2_base.specs.Answer.{Answers};
 ghost use Rattle.jbig2_base.specs.Bits.{IsAligned};
 ghost use Rattle.jbig2_base.specs.Parsing.{Parses};
@@ -7,6 +7,7 @@ ghost use Rattle.jbig2_region.specs.RefinementTemplates.{refinement_pixels_at, t
 ghost use Rattle.jbig2_region.specs.Templates.{FitsTemplate, IsFilled, adaptive_pixel_at, adaptive_pixel_count, adaptive_pixels_at, filled, four_pixels, free_pixel_at, is_earlier, is_extended, pixels_view, takes_extended};
 ghost use Rattle.jbig2_base.specs.Causes.{HaveCauses};
 ghost use Rattle.jbig2_region.specs.Causes.{BreaksPixels, BreaksRefinementPixels};
+ghost use Rattle.jbig2_region.specs.declared.template.RefinementTemplate.{RefinementTemplate};
 
 use crate::template::{AdaptiveTemplatePixel, GenericTemplatePixels, RefinementTemplate, Template};
 use jbig2_base::error::{DecodeError, Result, TemplateError};

@@ -1,12 +1,14 @@
 //! The bitmaps of symbols that prefix codes describe: those of a height class stand side by side in
 //! one collective bitmap (T.88, 6.5.9).
-ghost use Rattle.std.specs.Prelude.{◌≡◌, ◌+◌, ◌*◌, ◌<◌, ◌≤◌, length, sum};
+ghost use Rattle.std.specs.Prelude.{◌≡◌, ◌+◌, ◌*◌, ◌<◌, ◌≤◌, length, sum, ℕ};
 ghost use Rattle.jbig2_base.specs.Answer.{Gives};
 ghost use Rattle.jbig2_base.specs.Bits.{IsAligned};
 ghost use Rattle.jbig2_base.specs.inner.Filled.{filled};
-ghost use Rattle.jbig2_symbol.specs.Causes.{CutsHaveCauses};
 ghost use Rattle.jbig2_symbol.specs.SymbolBitmaps.{symbols_cut, raw_pixel, raw_stride, raw_rows, mmr_bytes, rows_of_size};
 ghost use Rattle.jbig2_symbol.specs.inner.SymbolViews.{put_behind};
+ghost use Rattle.jbig2_base.specs.Causes.{HaveCauses};
+ghost use Rattle.jbig2_base.specs.Grid.{Grid};
+ghost use Rattle.jbig2_symbol.specs.Causes.{BreaksCuts};
 
 use jbig2_base::bitmap::Bitmap;
 use jbig2_base::bitmap::part::Area;
@@ -136,7 +138,7 @@ pub fn cut_symbols<A: Allocator + Clone, B: Allocator, L: Ledger>(
     ensures value { let cut = symbols_cut collective.now height 0 widths.now in
         let meant = put_behind symbols.old.items cut in
         Gives (λ _. symbols.new.items) result meant }
-    ensures causes { CutsHaveCauses }
+    ensures causes { (collective : Grid) (height from : ℕ) → HaveCauses (symbols_cut collective height from) (BreaksCuts height) }
 {
     let mut left = 0;
     for width in widths {

@@ -1,14 +1,17 @@
 //! Symbol dictionaries by the arithmetic coder (T.88, 6.5).
-ghost use Rattle.std.specs.Prelude.{◌≡◌, ◌≤◌, length, Ok};
+ghost use Rattle.std.specs.Prelude.{◌≡◌, ◌≤◌, length, Ok, List, ℕ};
 ghost use Rattle.jbig2_base.specs.Answer.{Answers, Gives};
 ghost use Rattle.jbig2_text.specs.TextCoding.{Coded};
 ghost use Rattle.jbig2_text.specs.inner.TextViews.{params_view};
 ghost use Rattle.jbig2_symbol.specs.SymbolBitmaps.{coded_aggregate, coded_instances, coded_symbol};
-ghost use Rattle.jbig2_symbol.specs.Causes.{CodedAggregatesHaveCauses, CodedBitmapsHaveCauses, CodedSymbolsHaveCauses, InstanceCountsHaveCauses};
+ghost use Rattle.jbig2_symbol.specs.Causes.{InstanceCountsHaveCauses, BreaksCodedAggregate, BreaksCodedBitmap};
 ghost use Rattle.jbig2_symbol.specs.SymbolCoding.{coded_bitmap, coder_begun};
 ghost use Rattle.jbig2_symbol.specs.inner.HeaderViews.{contexts_view, header_view};
-ghost use Rattle.jbig2_symbol.specs.SymbolReading.{SymbolState, by_procedure};
+ghost use Rattle.jbig2_symbol.specs.SymbolReading.{SymbolState, by_procedure, SymbolInput};
 ghost use Rattle.jbig2_symbol.specs.inner.SymbolViews.{coded_view, input_view};
+ghost use Rattle.jbig2_base.specs.Causes.{BreaksSides, HaveCauses};
+ghost use Rattle.jbig2_base.specs.Grid.{Grid};
+ghost use Rattle.jbig2_symbol.specs.SymbolHeader.{SymbolHeader};
 
 use crate::symbol::aggregates::{
     SymbolSize, aggregate_params, instance_count, put_together, refine_alone, state_bits,
@@ -84,7 +87,7 @@ impl<A: Allocator> CodedSymbols<'_, A> {
         ensures value { let h = header_view header.now in
             let meant = coded_symbol h width height (coded_view self.old) in
             Gives (λ symbol. (symbol, coded_view self.new)) result meant }
-        ensures causes { CodedSymbolsHaveCauses }
+        ensures causes { (h : SymbolHeader) (width height : ℕ) → HaveCauses (coded_symbol h width height) (λ s. BreaksSides width height) }
     {
         let mut bitmap = Bitmap::new(alloc, width, height)?;
         decode_coded(
@@ -134,7 +137,7 @@ impl<A: Allocator> CodedSymbols<'_, A> {
         ensures value { let d = input_view input.now in
             let meant = coded_aggregate d new.now size.width size.height (coded_view self.old) in
             Gives (λ symbol. (symbol, coded_view self.new)) result meant }
-        ensures causes { CodedAggregatesHaveCauses }
+        ensures causes { (d : SymbolInput) (new : List Grid) (width height : ℕ) → HaveCauses (coded_aggregate d new width height) (BreaksCodedAggregate d new width height) }
         ensures counts { InstanceCountsHaveCauses (SymbolState Coded) }
     {
         let count = instance_count(self.number(IntegerProcedure::Iaai, steps)?)?;
@@ -155,7 +158,7 @@ impl<A: Allocator> CodedSymbols<'_, A> {
         ensures value { let d = input_view input.now in
             let meant = coded_bitmap d new.now size.width size.height (coded_view self.old) in
             Gives (λ symbol. (symbol, coded_view self.new)) result meant }
-        ensures causes { CodedBitmapsHaveCauses }
+        ensures causes { (d : SymbolInput) (new : List Grid) (width height : ℕ) → HaveCauses (coded_bitmap d new width height) (BreaksCodedBitmap d new width height) }
     {
         if input.header.flags.use_refagg {
             return self.read_aggregate(alloc, input, new, size, steps);

@@ -1,9 +1,11 @@
 //! The contexts with which a symbol dictionary begins, and goes on (T.88, 7.4.2.2).
 ghost use Rattle.std.specs.Prelude.{◌≡◌, option_map, Ok};
 ghost use Rattle.jbig2_base.specs.Answer.{Gives};
-ghost use Rattle.jbig2_symbol.specs.Causes.{ContextsHaveCauses};
 ghost use Rattle.jbig2_symbol.specs.SymbolReading.{begun_contexts, first_contexts, fresh_bitmap_contexts, is_refinement_template, is_template, learned};
 ghost use Rattle.jbig2_symbol.specs.inner.HeaderViews.{contexts_view, header_view};
+ghost use Rattle.jbig2_base.specs.Causes.{HaveCauses};
+ghost use Rattle.jbig2_symbol.specs.Causes.{BreaksContexts};
+ghost use Rattle.jbig2_symbol.specs.declared.symbol.header.SymbolDictionaryFlags.{SymbolDictionaryFlags};
 
 use crate::symbol::dictionary::RetainedContexts;
 use crate::symbol::header::{SymbolDictionaryFlags, SymbolDictionaryHeader};
@@ -92,7 +94,7 @@ pub fn first_contexts<A: Allocator + Clone, K: Allocator>(
     ensures value { let others = option_map (λ c. contexts_view c.now) kept.entry in
         let meant = first_contexts flags.now others in
         Gives (λ contexts. contexts_view contexts) result meant }
-    ensures causes { ContextsHaveCauses }
+    ensures causes { (flags : SymbolDictionaryFlags) → HaveCauses (first_contexts flags) (BreaksContexts flags) }
 {
     if !flags.bitmap_context_used {
         return fresh_contexts(alloc, flags);

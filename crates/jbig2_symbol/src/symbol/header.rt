@@ -1,13 +1,15 @@
 //! The header of a symbol dictionary (T.88, 7.4.2.1).
-ghost use Rattle.std.specs.Prelude.{◌≡◌, ◌/◌, ◌%◌, ◌≤◌, IfOk, OnErr};
+ghost use Rattle.std.specs.Prelude.{◌≡◌, ◌/◌, ◌%◌, ◌≤◌, IfOk, OnErr, Bool};
 ghost use Rattle.jbig2_base.specs.Answer.{Answers};
 ghost use Rattle.jbig2_base.specs.Bits.{IsAligned};
 ghost use Rattle.jbig2_region.specs.Templates.{filled};
 ghost use Rattle.jbig2_text.specs.Refining.{some_pixels};
-ghost use Rattle.jbig2_symbol.specs.Causes.{SymbolHeadersHaveCauses};
 ghost use Rattle.jbig2_symbol.specs.SymbolHeader.{selection_of, other_selection_of, symbol_flags_of, coded_pixels_at, refined_pixels_at, symbol_header_at};
 ghost use Rattle.jbig2_symbol.specs.declared.symbol.header.HuffmanTableSelection.TheVariants.{TableB2, TableB3, TableB4, TableB5};
 ghost use Rattle.jbig2_symbol.specs.inner.HeaderViews.{coded_pixels, header_view, refined_pixels};
+ghost use Rattle.jbig2_base.specs.Causes.{HaveCauses, number_in};
+ghost use Rattle.jbig2_symbol.specs.Causes.{BreaksSymbolFields};
+ghost use Rattle.std.specs.Int.{w16};
 
 use jbig2_base::error::{DecodeError, HuffmanError, OverflowError, Result};
 use jbig2_base::field::{u16_field, u32_field};
@@ -208,7 +210,7 @@ pub fn parse<'a>(reader: &mut Reader<'a>, strict: bool) -> Result<SymbolDictiona
     ensures unrefined { IfOk result (λ h. h.refinement_at_pixels
         ≡ filled 2 (header_view h).refinement_at_pixels) }
     ensures stays { OnErr result (reader.new ≡ reader.old) }
-    ensures causes { SymbolHeadersHaveCauses }
+    ensures causes { (strict : Bool) → HaveCauses (symbol_header_at strict) (λ bytes. BreaksSymbolFields (number_in w16 0 bytes) bytes) }
 {
     let mut ahead = reader.duplicate();
     let flags = symbol_flags(u16_field(&mut ahead)?)?;

@@ -1,15 +1,17 @@
 //! Symbol dictionaries by prefix codes (T.88, 6.5).
-ghost use Rattle.std.specs.Prelude.{◌≡◌, ◌≤◌, length};
+ghost use Rattle.std.specs.Prelude.{◌≡◌, ◌≤◌, length, List, ℕ};
 ghost use Rattle.jbig2_base.specs.Answer.{Answers, Gives};
 ghost use Rattle.jbig2_base.specs.Bits.{Place};
 ghost use Rattle.jbig2_text.specs.TextCoding.{by_prefix_codes};
 ghost use Rattle.jbig2_text.specs.inner.TextViews as texts;
-ghost use Rattle.jbig2_symbol.specs.Causes.{CollectiveBitmapsHaveCauses, CollectiveClassesHaveCauses, InstanceCountsHaveCauses, PrefixedAggregatesHaveCauses};
+ghost use Rattle.jbig2_symbol.specs.Causes.{InstanceCountsHaveCauses, BreaksCollectiveBitmap, BreaksCollectiveClass, BreaksPrefixedAggregate};
 ghost use Rattle.jbig2_symbol.specs.SymbolBitmaps.{by_instances, collective_bitmap, plain_id, prefixed_aggregate, prefixed_instances};
 ghost use Rattle.jbig2_symbol.specs.SymbolCoding.{collective_class, prefix_codes_begun};
-ghost use Rattle.jbig2_symbol.specs.SymbolReading.{SymbolState, by_table};
+ghost use Rattle.jbig2_symbol.specs.SymbolReading.{SymbolState, by_table, SymbolInput};
 ghost use Rattle.jbig2_symbol.specs.inner.HeaderViews.{contexts_view};
 ghost use Rattle.jbig2_symbol.specs.inner.SymbolViews.{behind, input_view, prefixed_view};
+ghost use Rattle.jbig2_base.specs.Causes.{HaveCauses};
+ghost use Rattle.jbig2_base.specs.Grid.{Grid};
 
 use crate::symbol::aggregates::{
     SymbolSize, aggregate_params, id_bits, instance_count, put_together, refine_alone,
@@ -137,7 +139,7 @@ impl<'a, A: Allocator> PrefixedSymbols<'a, A> {
             let state = prefixed_view self.old in
             let meant = prefixed_aggregate d new.now size.width size.height state in
             Gives (λ symbol. (symbol, prefixed_view self.new)) result meant }
-        ensures causes { PrefixedAggregatesHaveCauses }
+        ensures causes { (d : SymbolInput) (new : List Grid) (width height : ℕ) → HaveCauses (prefixed_aggregate d new width height) (BreaksPrefixedAggregate d new width height) }
         ensures counts { InstanceCountsHaveCauses (SymbolState Place) }
     {
         let count = instance_count(self.number(input.tables.counts)?)?;
@@ -158,7 +160,7 @@ impl<'a, A: Allocator> PrefixedSymbols<'a, A> {
         ensures value { let d = input_view input.now in
             let meant = collective_bitmap d width height (prefixed_view self.old) in
             Gives (λ bitmap. (bitmap, prefixed_view self.new)) result meant }
-        ensures causes { CollectiveBitmapsHaveCauses }
+        ensures causes { (d : SymbolInput) (width height : ℕ) → HaveCauses (collective_bitmap d width height) (BreaksCollectiveBitmap d width height) }
     {
         let Some(size) = self.number(input.tables.sizes)? else {
             return Err(DecodeError::Huffman(HuffmanError::UnexpectedOob));
@@ -194,7 +196,7 @@ impl<'a, A: Allocator> PrefixedSymbols<'a, A> {
             let before = bitmaps.old.items in
             let class = collective_class d height empty before (prefixed_view self.old) in
             Gives (λ _. (bitmaps.new.items, prefixed_view self.new)) result (behind before class) }
-        ensures causes { CollectiveClassesHaveCauses }
+        ensures causes { (d : SymbolInput) (height empty : ℕ) (new : List Grid) → HaveCauses (collective_class d height empty new) (BreaksCollectiveClass d height empty new) }
     {
         let room = input.header.num_new_symbols - bitmaps.len() as u32;
         let widths = read_widths(alloc.clone()?, input, room, self, steps)?;

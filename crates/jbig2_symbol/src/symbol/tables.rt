@@ -1,9 +1,11 @@
 //! The tables of prefix codes of a symbol dictionary (T.88, 7.4.2.1.6).
 ghost use Rattle.jbig2_base.specs.Answer.{Answers};
 ghost use Rattle.jbig2_coder.specs.inner.TableViews.{customs_view};
-ghost use Rattle.jbig2_symbol.specs.Causes.{SymbolTablesHaveCauses};
 ghost use Rattle.jbig2_symbol.specs.SymbolReading.{symbol_tables, table_for};
 ghost use Rattle.jbig2_symbol.specs.inner.SymbolViews.{tables_view};
+ghost use Rattle.jbig2_base.specs.Causes.{HaveCauses};
+ghost use Rattle.jbig2_symbol.specs.Causes.{BreaksTables};
+ghost use Rattle.jbig2_symbol.specs.declared.symbol.header.SymbolDictionaryFlags.{SymbolDictionaryFlags};
 
 use crate::symbol::header::{HuffmanTableSelection, SymbolDictionaryFlags};
 use crate::symbol::input::SymbolTables;
@@ -43,7 +45,7 @@ pub fn symbol_tables<'a, T: Allocator>(
 ) -> Result<SymbolTables<'a, T>>
     ensures value { let meant = symbol_tables flags.now (customs_view referred.now) in
         Answers (λ tables. tables_view tables) result meant }
-    ensures causes { SymbolTablesHaveCauses }
+    ensures causes { (flags : SymbolDictionaryFlags) → HaveCauses (symbol_tables flags) (BreaksTables flags) }
 {
     let (heights, customs) = table_for(standard, flags.delta_height_table, referred)?;
     let (widths, customs) = table_for(standard, flags.delta_width_table, customs)?;

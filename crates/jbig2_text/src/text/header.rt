@@ -1,13 +1,14 @@
 //! Headers of text regions (T.88, 7.4.3.1).
-ghost use Rattle.std.specs.Prelude.{◌≡◌, ◌≤◌, ◌%◌, ◌^◌, IfOk, OnErr, OnOk};
+ghost use Rattle.std.specs.Prelude.{◌≡◌, ◌≤◌, ◌%◌, ◌^◌, IfOk, OnErr, OnOk, Bool, ℕ};
 ghost use Rattle.jbig2_base.specs.Answer.{Answers, Gives};
 ghost use Rattle.jbig2_base.specs.Bits.{IsAligned};
 ghost use Rattle.jbig2_region.specs.Templates.{filled};
-ghost use Rattle.jbig2_text.specs.Causes.{TextHeadersHaveCauses};
 ghost use Rattle.jbig2_text.specs.declared.text.header.TextFields.{TextFields};
 ghost use Rattle.jbig2_text.specs.TextHeader.{coding_view, header_view, corner_of, signed_5, text_flags_at, table_numbers, table_numbers_at, text_fields_at, coding_at, text_pixels, text_header_at};
 ghost use Rattle.jbig2_text.specs.inner.Parts.{other_flags, text_pixels_at};
 ghost use Rattle.jbig2_text.specs.inner.TextViews.{fields_view};
+ghost use Rattle.jbig2_base.specs.Causes.{HaveCauses};
+ghost use Rattle.jbig2_text.specs.Causes.{BreaksTextHeader};
 
 use crate::text::symbol_codes::parse_symbol_codes;
 use jbig2_base::bitmap::CombinationOperator;
@@ -271,7 +272,7 @@ pub fn parse<'a, A: Allocator + Clone>(
     ensures unused { IfOk result (λ h. h.refinement_at_pixels
         ≡ filled 2 (header_view h).refinement_pixels) }
     ensures stays { OnErr result (reader.new ≡ reader.old) }
-    ensures causes { TextHeadersHaveCauses }
+    ensures causes { (symbols : ℕ) (strict : Bool) → HaveCauses (text_header_at symbols strict) (BreaksTextHeader symbols) }
 {
     let mut ahead = reader.duplicate();
     let segment_data_len = ahead.tail().len();

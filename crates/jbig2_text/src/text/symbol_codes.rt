@@ -1,10 +1,11 @@
 //! The prefix codes of the symbols' ids (T.88, 7.4.3.1.7).
-ghost use Rattle.std.specs.Prelude.{◌≡◌, ◌≤◌, ◌^◌, ◌++◌, [], length, replicate, IfOk, Ok, OnOk};
+ghost use Rattle.std.specs.Prelude.{◌≡◌, ◌≤◌, ◌^◌, ◌++◌, [], length, replicate, IfOk, Ok, OnOk, ℕ};
 ghost use Rattle.jbig2_base.specs.Answer.{Gives};
 ghost use Rattle.jbig2_base.specs.Bits.{IsAligned};
 ghost use Rattle.jbig2_coder.specs.PrefixCode.{AreShort, table_of};
-ghost use Rattle.jbig2_text.specs.Causes.{SymbolCodesHaveCauses};
 ghost use Rattle.jbig2_text.specs.SymbolCodes.{invalid_code, lines_from, short_lengths, repeated, run_at, next_runcode, runs_at, runcodes_at, symbol_lengths_at, symbol_codes_at, symbol_codes_from};
+ghost use Rattle.jbig2_base.specs.Causes.{HaveCauses};
+ghost use Rattle.jbig2_text.specs.Causes.{BreaksSymbolCodes};
 
 use crate::bit_fields::value_field;
 use jbig2_base::error::{DecodeError, HuffmanError, Result};
@@ -217,7 +218,7 @@ pub fn parse_symbol_codes<A: Allocator + Clone>(
     ensures value { let meant = symbol_codes_at count reader.old.bytes in
         Gives (λ table. (table, reader.new.bytes)) result meant }
     ensures aligned { OnOk result (IsAligned reader.new) }
-    ensures causes { SymbolCodesHaveCauses }
+    ensures causes { (count : ℕ) → HaveCauses (symbol_codes_from count) (BreaksSymbolCodes count) }
 {
     read_symbol_codes(alloc, reader, count)
 }

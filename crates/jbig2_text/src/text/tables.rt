@@ -2,10 +2,12 @@
 ghost use Rattle.std.specs.Prelude.{◌≡◌};
 ghost use Rattle.jbig2_base.specs.Answer.{Answers};
 ghost use Rattle.jbig2_coder.specs.inner.TableViews.{customs_view};
-ghost use Rattle.jbig2_text.specs.CausesOfRegions.{TextTablesHaveCauses};
 ghost use Rattle.jbig2_text.specs.TextRegion.{aggregate_tables, one_of_two, one_of_three, text_tables};
 ghost use Rattle.jbig2_text.specs.inner.Parts.{table_of_refinement, table_of_size};
 ghost use Rattle.jbig2_text.specs.inner.TextViews.{tables_view};
+ghost use Rattle.jbig2_base.specs.Causes.{HaveCauses};
+ghost use Rattle.jbig2_text.specs.CausesOfRegions.{BreaksTextTables};
+ghost use Rattle.jbig2_text.specs.declared.text.header.TextRegionHuffmanFlags.{TextRegionHuffmanFlags};
 
 use crate::text::header::TextRegionHuffmanFlags;
 use jbig2_base::error::{DecodeError, HuffmanError, Result};
@@ -121,7 +123,7 @@ pub fn select_tables<'a, T: Allocator>(
 ) -> Result<TextRegionHuffmanTables<'a, T>>
     ensures value { let meant = text_tables flags.now (customs_view customs.now) in
         Answers (λ tables. tables_view tables) result meant }
-    ensures causes { TextTablesHaveCauses }
+    ensures causes { (flags : TextRegionHuffmanFlags) → HaveCauses (text_tables flags) (BreaksTextTables flags) }
 {
     let (first, second) = (standard.table_f(), standard.table_g());
     let (first_s, customs) = one_of_two(first, second, flags.first_s_table, customs)?;
