@@ -16,8 +16,9 @@ use Rattle.jbig2_base.specs.declared.error.DecodeError.{DecodeError}
 use Rattle.jbig2_base.specs.declared.error.DecodeError.TheVariants.{OutOfMemory}
 use Rattle.jbig2_base.proofs.GridLemmas.{grid_of-ext, pixel_at-grid_of, table-at}
 use Rattle.jbig2_halftone.specs.HalftoneHeader as halftones
-use Rattle.jbig2_halftone.specs.Patterns.{dictionary_view}
-use Rattle.jbig2_region.specs.Generic.{PlacedRegion, region_view}
+use Rattle.jbig2_halftone.specs.inner.DictionaryViews.{dictionary_view}
+use Rattle.jbig2_region.specs.Generic.{PlacedRegion}
+use Rattle.jbig2_region.specs.inner.RegionViews.{region_view}
 use Rattle.jbig2_region.specs.GenericHeader as generics
 use Rattle.jbig2_region.specs.RefinementHeader as refinements
 use Rattle.jbig2_region.specs.RegionInfo.{placed}

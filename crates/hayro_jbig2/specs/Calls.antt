@@ -1,11 +1,8 @@
 -- The calls that spell a page (our own rule; T.88 leaves open how a decoder hands a page on), and what a Decoder does with
 -- them. `calls_of` takes a grid and gives its calls, row by row; `rows_after` takes calls and gives the rows that they
 -- draw. `Decodes`, the last, takes the answer of a definition and says what `decode_with` makes of it.
-use Rattle.std.specs.Prelude.{◌≡◌, ◌<◌, ◌⊎◌, All, Option, Some, None, unwrap_or, option_to_list, ℕ, suc, zero, ◌+◌, ◌-◌, ◌*◌, ◌/◌, ◌^◌, Bool, true, false, ◌&&◌, List, [], ◌∷◌, ◌++◌, length, take, drop, replicate, map, count_by, Result, Ok, Err, if◌then◌else◌}
-use Rattle.std.specs.List.{range_with_len, flat_map}
-use Rattle.jbig2_base.specs.Grid.{Grid, pixel_at, same_colour}
-use Rattle.jbig2_base.specs.declared.error.DecodeError.{DecodeError}
-use Rattle.jbig2_base.specs.declared.error.DecodeError.TheVariants.{OutOfMemory}
+use Rattle.std.specs.{Prelude.{◌≡◌, ◌<◌, ◌⊎◌, All, Option, Some, None, unwrap_or, option_to_list, ℕ, suc, zero, ◌+◌, ◌-◌, ◌*◌, ◌/◌, ◌^◌, Bool, true, false, ◌&&◌, List, [], ◌∷◌, ◌++◌, length, take, drop, replicate, map, count_by, Result, Ok, Err, if◌then◌else◌}, List.{range_with_len, flat_map}}
+use Rattle.jbig2_base.specs.{Grid.{Grid, pixel_at, same_colour}, declared.error.DecodeError.{DecodeError, TheVariants.{OutOfMemory}}}
 
 -- A call of a Decoder: one pixel, that many times eight pixels of one colour, the end of a row.
 pub data Call : Type 0 where
@@ -13,8 +10,7 @@ pub data Call : Type 0 where
   Chunk : (black : Bool) (bytes : ℕ) → Call
   Line : Call
 
--- all of these pixels have one colour
-abbrev pub is_all : Bool → List Bool → Bool
+abbrev pub is_all : Bool → List Bool → Bool  -- all of these pixels have one colour
 is_all black [] = true
 is_all black (b ∷ bs) = same_colour black b && is_all black bs
 
@@ -33,8 +29,7 @@ with_byte byte calls =
     else if is_all false byte then with_whole false calls
     else singles byte ++ calls
 
--- the calls of pixels that begin with so many whole bytes
-unfoldable pub whole_calls : ℕ → List Bool → List Call
+unfoldable pub whole_calls : ℕ → List Bool → List Call  -- the calls of pixels that begin with so many whole bytes
 whole_calls zero bits = singles bits
 whole_calls (suc n) bits = with_byte (take 8 bits) (whole_calls n (drop 8 bits))
 
@@ -87,8 +82,7 @@ abbrev pub after_calls : {P : Type 0} → (P → Call → P) → P → List Call
 after_calls step p [] = p
 after_calls step p (call ∷ calls) = after_calls step (step p call) calls
 
--- All of the calls were made and no other.
-abbrev pub Makes : {S : Type 0} → Conduct S → List Call → S → S → Type 0
+abbrev pub Makes : {S : Type 0} → Conduct S → List Call → S → S → Type 0  -- all of the calls were made and no other
 Makes d calls old new = (d.picture new ≡ after_calls d.step (d.picture old) calls) × (d.refusals new ≡ d.refusals old)
 
 -- A beginning of the calls was made, and the call behind it was refused with this error, the Decoder's own.

@@ -1,43 +1,12 @@
 -- Which rule is broken where a file, a page or one of its segments is refused (docs/FORMAT.md, 1, 4 and 8), a line for
 -- each error. Errors of steps that lower crates define stand here as the step's own (`IsOf`): the laws there say more.
-use Rattle.std.specs.Prelude.{◌≡◌, ◌≢◌, ◌⊎◌, ◌<◌, ◌≤◌, ℕ, suc, Bool, true, false, IsTrue, IsFalse, List, [], length, take, slice_get, Any, Option, Some, None, MatchOption, option_and_then, unwrap_or, Result, Ok, IfErr}
-use Rattle.std.specs.List.{AllByRecursion, flat_map}
-use Rattle.std.specs.Int.{w32}
-use Rattle.std.specs.Option.{option_map_or}
-use Rattle.jbig2_base.specs.Answer.{◌>>=◌}
-use Rattle.jbig2_base.specs.Causes.{InSteps, IsOf, number_in}
-use Rattle.jbig2_base.specs.File.{file_at}
-use Rattle.jbig2_base.specs.Grid.{Grid}
-use Rattle.jbig2_base.specs.PageInfo.{initial_page_of, is_page_information}
-use Rattle.jbig2_base.specs.Segment.{SegmentView}
-use Rattle.jbig2_base.specs.Sequential.{sorted_segments}
-use Rattle.jbig2_base.specs.declared.error.DecodeError.{DecodeError}
-use Rattle.jbig2_base.specs.declared.error.DecodeError.TheVariants.{Parse, Format, Segment, Overflow, Unsupported}
-use Rattle.jbig2_base.specs.declared.error.FormatError.TheVariants.{MissingPageInfo, PageCountMismatch, InvalidEndOfPage}
-use Rattle.jbig2_base.specs.declared.error.OverflowError.TheVariants.{SymbolCount}
-use Rattle.jbig2_base.specs.declared.error.ParseError.TheVariants.{UnexpectedEof}
-use Rattle.jbig2_base.specs.declared.error.SegmentError.TheVariants.{InvalidReference, MissingPatternDictionary, MissingPageAssociation}
-use Rattle.jbig2_base.specs.declared.file_header.FileHeader.{FileHeader}
-use Rattle.jbig2_base.specs.declared.segment.SegmentType.{SegmentType}
-use Rattle.jbig2_base.specs.declared.segment.SegmentType.TheVariants as types
-use Rattle.jbig2_halftone.specs.Halftone.{halftone_decoded}
-use Rattle.jbig2_halftone.specs.HalftoneHeader.{halftone_header_at}
-use Rattle.jbig2_region.specs.Generic.{PlacedRegion}
-use Rattle.jbig2_region.specs.Refinement.{refined_decoded}
-use Rattle.jbig2_region.specs.RefinementHeader.{refinement_header_at}
-use Rattle.jbig2_symbol.specs.SymbolHeader.{symbol_header_at}
-use Rattle.jbig2_symbol.specs.Symbols.{symbols_decoded}
-use Rattle.jbig2_text.specs.TextHeader.{text_header_at}
-use Rattle.jbig2_text.specs.TextRegion.{text_decoded}
-use Rattle.hayro_jbig2.specs.Files.{book_at, by_pages, ends_of, needs_page}
-use Rattle.hayro_jbig2.specs.Globals.{globals_at, named_from}
-use Rattle.hayro_jbig2.specs.Image.{first_page}
-use Rattle.hayro_jbig2.specs.Names.{Names, Referred, code_at, extension, first_named, named, no_names, pattern_dictionary_at, referred_by, symbol_dictionary_at}
-use Rattle.hayro_jbig2.specs.Page.{Drawing, ReadPage, embedded, ends_page, grid_of_page, page_begun, region_type, segments_drawn}
-use Rattle.hayro_jbig2.specs.Regions.{generic_at, halftone_at, page_area, patterns_for, refinement_at, text_at}
-use Rattle.hayro_jbig2.specs.declared.kept.Kept.{Kept}
-use Rattle.hayro_jbig2.specs.declared.region.RegionKind.{RegionKind}
-use Rattle.hayro_jbig2.specs.declared.region.RegionKind.TheVariants as kinds
+use Rattle.std.specs.{Prelude.{◌≡◌, ◌≢◌, ◌⊎◌, ◌<◌, ◌≤◌, ℕ, suc, Bool, true, false, IsTrue, IsFalse, List, [], length, take, slice_get, Any, Option, Some, None, MatchOption, option_and_then, unwrap_or, Result, Ok, IfErr}, List.{AllByRecursion, flat_map}, Int.{w32}, Option.{option_map_or}}
+use Rattle.jbig2_base.specs.{Answer.{◌>>=◌}, Causes.{InSteps, IsOf, number_in}, File.{file_at}, Grid.{Grid}, PageInfo.{initial_page_of, is_page_information}, Segment.{SegmentView}, Sequential.{sorted_segments}, declared.{error.{DecodeError.{DecodeError, TheVariants.{Parse, Format, Segment, Overflow, Unsupported}}, FormatError.TheVariants.{MissingPageInfo, PageCountMismatch, InvalidEndOfPage}, OverflowError.TheVariants.{SymbolCount}, ParseError.TheVariants.{UnexpectedEof}, SegmentError.TheVariants.{InvalidReference, MissingPatternDictionary, MissingPageAssociation}}, file_header.FileHeader.{FileHeader}, segment.SegmentType.{SegmentType, TheVariants as types}}}
+use Rattle.jbig2_region.specs.{Generic.{PlacedRegion}, Refinement.{refined_decoded}, RefinementHeader.{refinement_header_at}}
+use Rattle.jbig2_halftone.specs.{Halftone.{halftone_decoded}, HalftoneHeader.{halftone_header_at}}
+use Rattle.jbig2_text.specs.{TextHeader.{text_header_at}, TextRegion.{text_decoded}}
+use Rattle.jbig2_symbol.specs.{SymbolHeader.{symbol_header_at}, Symbols.{symbols_decoded}}
+use Rattle.hayro_jbig2.specs.{Files.{book_at, by_pages, ends_of, needs_page}, Globals.{globals_at, named_from}, Image.{first_page}, Names.{Names, Referred, code_at, extension, first_named, named, no_names, pattern_dictionary_at, referred_by, symbol_dictionary_at}, Page.{Drawing, ReadPage, embedded, ends_page, grid_of_page, page_begun, region_type, segments_drawn}, Regions.{generic_at, halftone_at, page_area, patterns_for, refinement_at, text_at}, declared.{kept.Kept.{Kept}, region.RegionKind.{RegionKind, TheVariants as kinds}}}
 
 -- ---- files (7.2.6, 7.4.8, 7.4.9 and D.4.3)
 -- What a page begins as: none of its segments is page information, or the first of these breaks a rule.
@@ -56,8 +25,7 @@ BreaksPages strict h ps e = Any (λ own. BreaksBeginning own e) (by_pages ps)
 abbrev pub BreaksBook : Bool → List ℕ → DecodeError → Type 0
 BreaksBook strict bytes e = InSteps (file_at strict bytes) (IsOf (file_at strict bytes) e) (λ file. BreaksPages strict file.0 file.1 e)
 
--- The first page of a file: the file breaks a rule, or has no page.
-abbrev pub FirstPagesHaveCauses : Type 0
+abbrev pub FirstPagesHaveCauses : Type 0  -- the first page of a file: the file breaks a rule, or has no page
 FirstPagesHaveCauses = (bytes : List ℕ) → IfErr (first_page bytes) (λ e.
     InSteps (book_at false bytes) (BreaksBook false bytes e) (λ book. (e ≡ Format MissingPageInfo) × (book.pages ≡ [])))
 
@@ -152,10 +120,8 @@ BreaksDrawing strict globals ps d e =
     × (segments_drawn strict globals (take k ps) d ≡ Ok before)
     × BreaksSegmentOn strict globals p before e
 
--- A page: its globals were refused, or else one of its own segments is.
-abbrev pub PagesHaveCauses : Type 0
+abbrev pub PagesHaveCauses : Type 0  -- a page: its globals were refused, or else one of its own segments is
 PagesHaveCauses = (page : ReadPage) → IfErr (grid_of_page page) (λ e. InSteps page.globals (IsOf page.globals e) (λ globals. BreaksDrawing page.strict globals page.segments (page_begun page.initial_page) e))
 
--- An embedded page: its segments, or what they begin.
-abbrev pub EmbeddedPagesHaveCauses : Type 0
+abbrev pub EmbeddedPagesHaveCauses : Type 0  -- an embedded page: its segments, or what they begin
 EmbeddedPagesHaveCauses = (strict : Bool) (globals : Names) (bytes : List ℕ) → IfErr (embedded strict globals bytes) (λ e. InSteps (sorted_segments strict bytes) (IsOf (sorted_segments strict bytes) e) (λ ps. BreaksBeginning ps e))

@@ -1,22 +1,8 @@
 -- The pages of a file (T.88, 7.2.6 and 7.4.8), and what they share. `book_at` takes a file's bytes and gives its pages,
 -- each with the segments whose page association is its number, and the names of those of association 0.
-use Rattle.std.specs.Prelude.{◌≡◌, ℕ, ◌+◌, ◌==◌, Bool, true, false, not, ◌&&◌, ◌||◌, List, [], ◌∷◌, ◌++◌, length, filter, map, slice_get, option_map, is_some, Option, Some, None, Result, Ok, Err, if◌then◌else◌}
-use Rattle.std.specs.List.{list_any}
-use Rattle.jbig2_base.specs.Answer.{◌>>=◌, refuse_if}
-use Rattle.jbig2_base.specs.File.{file_at}
-use Rattle.jbig2_base.specs.PageInfo.{initial_page_of}
-use Rattle.jbig2_base.specs.Segment.{Header, SegmentView}
-use Rattle.jbig2_base.specs.declared.error.DecodeError.{DecodeError}
-use Rattle.jbig2_base.specs.declared.error.DecodeError.TheVariants.{Format, Segment}
-use Rattle.jbig2_base.specs.declared.error.FormatError.TheVariants.{PageCountMismatch, InvalidEndOfPage}
-use Rattle.jbig2_base.specs.declared.error.SegmentError.TheVariants.{MissingPageAssociation}
-use Rattle.jbig2_base.specs.declared.file_header.FileHeader.{FileHeader}
-use Rattle.jbig2_base.specs.declared.page_info.InitialPage.{InitialPage}
-use Rattle.jbig2_base.specs.declared.segment.SegmentType.{SegmentType}
-use Rattle.jbig2_base.specs.declared.segment.SegmentType.TheVariants as types
-use Rattle.hayro_jbig2.specs.Globals.{named_from}
-use Rattle.hayro_jbig2.specs.Names.{Names, no_names}
-use Rattle.hayro_jbig2.specs.Page.{ReadPage, region_type}
+use Rattle.std.specs.{Prelude.{◌≡◌, ℕ, ◌+◌, ◌==◌, Bool, true, false, not, ◌&&◌, ◌||◌, List, [], ◌∷◌, ◌++◌, length, filter, map, slice_get, option_map, is_some, Option, Some, None, Result, Ok, Err, if◌then◌else◌}, List.{list_any}}
+use Rattle.jbig2_base.specs.{Answer.{◌>>=◌, refuse_if}, File.{file_at}, PageInfo.{initial_page_of}, Segment.{Header, SegmentView}, declared.{error.{DecodeError.{DecodeError, TheVariants.{Format, Segment}}, FormatError.TheVariants.{PageCountMismatch, InvalidEndOfPage}, SegmentError.TheVariants.{MissingPageAssociation}}, file_header.FileHeader.{FileHeader}, page_info.InitialPage.{InitialPage}, segment.SegmentType.{SegmentType, TheVariants as types}}}
+use Rattle.hayro_jbig2.specs.{Globals.{named_from}, Names.{Names, no_names}, Page.{ReadPage, region_type}}
 
 pub record PageInFile : Type 0 where
   pub initial_page : InitialPage
@@ -75,8 +61,7 @@ abbrev pub filed_each : Bool → List (List SegmentView) → Result (List PageIn
 filed_each strict [] = Ok []
 filed_each strict (own ∷ others) = filed_from strict own >>= λ page. filed_each strict others >>= λ pages. Ok (page ∷ pages)
 
--- a count of pages that the file's header tells (D.4.3)
-abbrev pub miscounts : Option ℕ → ℕ → Bool
+abbrev pub miscounts : Option ℕ → ℕ → Bool  -- a count of pages that the file's header tells (D.4.3)
 miscounts None n = false
 miscounts (Some told) n = not (told == n)
 

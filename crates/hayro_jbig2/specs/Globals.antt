@@ -1,9 +1,6 @@
 -- Globals: segments that several pages share (T.88, 7.3), kept apart from the pages as PDF keeps them.
 use Rattle.std.specs.Prelude.{ℕ, Bool, List, [], ◌∷◌, Result, Ok}
-use Rattle.jbig2_base.specs.Answer.{◌>>=◌}
-use Rattle.jbig2_base.specs.Segment.{SegmentView}
-use Rattle.jbig2_base.specs.Sequential.{sorted_segments}
-use Rattle.jbig2_base.specs.declared.error.DecodeError.{DecodeError}
+use Rattle.jbig2_base.specs.{Answer.{◌>>=◌}, Segment.{SegmentView}, Sequential.{sorted_segments}, declared.error.DecodeError.{DecodeError}}
 use Rattle.hayro_jbig2.specs.Names.{Names, kept_by, no_names}
 
 -- The segments in order, each of which may refer to those before it. Regions and pages among them are passed over.

@@ -1,19 +1,9 @@
 -- A page as bytes (our own rule): those of the grid that the page decodes to, or the page's error. And what a viewer shows
 -- of a file that a reader gives: the first page, read leniently; `ReadsAll` and `Opens` say what a reader's faults add.
-use Rattle.std.specs.Prelude.{◌≡◌, ◌≢◌, ◌⊎◌, ℕ, ◌+◌, ◌*◌, ◌/◌, ◌%◌, Bool, false, List, map, Option, Result, Ok, Err, IfSome, if◌then◌else◌}
-use Rattle.std.specs.IoError.{error_kind}
-use Rattle.std.specs.List.{range_with_len}
-use Rattle.std.specs.declared.io.ErrorKind.TheVariants.{Interrupted}
-use Rattle.jbig2_base.specs.Answer.{◌>>=◌, some_or}
-use Rattle.jbig2_base.specs.Grid.{Grid, pixel_at}
-use Rattle.jbig2_base.specs.declared.error.DecodeError.{DecodeError}
-use Rattle.jbig2_base.specs.declared.error.DecodeError.TheVariants.{Format, OutOfMemory}
-use Rattle.jbig2_base.specs.declared.error.FormatError.TheVariants.{MissingPageInfo}
+use Rattle.std.specs.{Prelude.{◌≡◌, ◌≢◌, ◌⊎◌, ℕ, ◌+◌, ◌*◌, ◌/◌, ◌%◌, Bool, false, List, map, Option, Result, Ok, Err, IfSome, if◌then◌else◌}, IoError.{error_kind}, List.{range_with_len}, declared.io.ErrorKind.TheVariants.{Interrupted}}
+use Rattle.jbig2_base.specs.{Answer.{◌>>=◌, some_or}, Grid.{Grid, pixel_at}, declared.error.{DecodeError.{DecodeError, TheVariants.{Format, OutOfMemory}}, FormatError.TheVariants.{MissingPageInfo}}}
 use Rattle.jbig2_coder.specs.Integers.{value_of_bits}
-use Rattle.hayro_jbig2.specs.Files.{book_at, page_of}
-use Rattle.hayro_jbig2.specs.Page.{ReadPage, grid_of_page}
-use Rattle.hayro_jbig2.specs.declared.jbig2_error.Jbig2Error.{Jbig2Error}
-use Rattle.hayro_jbig2.specs.declared.jbig2_error.Jbig2Error.TheVariants.{Io, Decode}
+use Rattle.hayro_jbig2.specs.{Files.{book_at, page_of}, Page.{ReadPage, grid_of_page}, declared.jbig2_error.Jbig2Error.{Jbig2Error, TheVariants.{Io, Decode}}}
 
 abbrev pub shade : Bool → ℕ
 shade black = if black then 0 else 255
@@ -25,8 +15,7 @@ image_of width height g = map (λ n. shade (pixel_at g (n % width) (n / width)))
 abbrev pub image_of_page : ReadPage → Result (List ℕ) DecodeError
 image_of_page page = grid_of_page page >>= λ g. Ok (image_of page.initial_page.width page.initial_page.height g)
 
--- the bytes of a packed row: eight pixels each, the last one filled up with white
-abbrev pub row_bytes : ℕ → ℕ
+abbrev pub row_bytes : ℕ → ℕ  -- the bytes of a packed row: eight pixels each, the last one filled up with white
 row_bytes width = (width + 7) / 8
 
 abbrev pub packed_size : ℕ → ℕ → ℕ
@@ -46,8 +35,7 @@ packed_of width height g = packed_part width g 0 (packed_size width height)
 abbrev pub packed_of_page : ReadPage → Result (List ℕ) DecodeError
 packed_of_page page = grid_of_page page >>= λ g. Ok (packed_of page.initial_page.width page.initial_page.height g)
 
--- a file without pages lacks the information of one
-unfoldable pub first_page : List ℕ → Result ReadPage DecodeError
+unfoldable pub first_page : List ℕ → Result ReadPage DecodeError  -- a file without pages lacks the information of one
 first_page bytes = book_at false bytes >>= λ book. some_or (Format MissingPageInfo) (page_of book 0)
 
 abbrev pub first_size : List ℕ → Result (ℕ × ℕ) DecodeError
@@ -59,8 +47,7 @@ first_image bytes = first_page bytes >>= λ page. image_of_page page
 abbrev pub first_packed : List ℕ → Result (List ℕ) DecodeError
 first_packed bytes = first_page bytes >>= λ page. packed_of_page page
 
--- All bytes of a file, and the size of its first page.
-pub record Scan : Type 0 where
+pub record Scan : Type 0 where  -- all bytes of a file, and the size of its first page
   pub bytes : List ℕ
   pub width : ℕ
   pub height : ℕ
@@ -71,8 +58,7 @@ ReadsAll view told (Ok v) = IfSome told (λ bytes. view v ≡ bytes)
 ReadsAll view told (Err (Io e)) = Unit {0}
 ReadsAll view told (Err (Decode e)) = e ≡ OutOfMemory
 
--- An interruption of the reader is passed over, and so never answered.
-abbrev pub IsLasting : Jbig2Error → Type 0
+abbrev pub IsLasting : Jbig2Error → Type 0  -- an interruption of the reader is passed over, and so never answered
 IsLasting (Io e) = error_kind e ≢ Interrupted
 IsLasting (Decode e) = Unit {0}
 

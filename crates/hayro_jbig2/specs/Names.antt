@@ -1,31 +1,14 @@
 -- Names (T.88, 7.3): what segments leave for later ones, each under its segment's number, and what later ones refer to.
 -- A number means the first that is kept under it: among the page's own, else among those of the globals. That the
 -- first of equal numbers counts is our own rule.
-use Rattle.std.specs.Prelude.{ℕ, nat_le, nat_lt, ◌==◌, Bool, true, false, List, [], ◌∷◌, ◌++◌, length, Option, Some, None, Result, Ok, if◌then◌else◌}
-use Rattle.std.specs.Int.{w32}
-use Rattle.std.specs.Option.{option_map_or, option_or}
-use Rattle.jbig2_base.specs.Answer.{◌>>=◌, refuse_if}
-use Rattle.jbig2_base.specs.Bits.{start_of}
-use Rattle.jbig2_base.specs.Fields.{number_at}
-use Rattle.jbig2_base.specs.Grid.{Grid}
-use Rattle.jbig2_base.specs.Segment.{SegmentView}
-use Rattle.jbig2_base.specs.declared.error.DecodeError.{DecodeError}
-use Rattle.jbig2_base.specs.declared.error.DecodeError.TheVariants.{Overflow, Segment, Unsupported}
-use Rattle.jbig2_base.specs.declared.error.OverflowError.TheVariants.{SymbolCount}
-use Rattle.jbig2_base.specs.declared.error.SegmentError.TheVariants.{InvalidReference}
-use Rattle.jbig2_base.specs.declared.segment.SegmentType.{SegmentType}
-use Rattle.jbig2_base.specs.declared.segment.SegmentType.TheVariants as types
-use Rattle.jbig2_coder.specs.CustomTable.{answer_of, custom_table}
-use Rattle.jbig2_coder.specs.PrefixCode.{Member}
-use Rattle.jbig2_halftone.specs.PatternHeader.{pattern_header_at}
-use Rattle.jbig2_halftone.specs.Patterns.{Patterns, patterns_decoded}
-use Rattle.jbig2_symbol.specs.SymbolHeader.{symbol_header_at}
-use Rattle.jbig2_symbol.specs.SymbolReading.{BitmapContexts}
-use Rattle.jbig2_symbol.specs.Symbols.{Symbols, symbols_decoded}
+use Rattle.std.specs.{Prelude.{ℕ, nat_le, nat_lt, ◌==◌, Bool, true, false, List, [], ◌∷◌, ◌++◌, length, Option, Some, None, Result, Ok, if◌then◌else◌}, Int.{w32}, Option.{option_map_or, option_or}}
+use Rattle.jbig2_base.specs.{Answer.{◌>>=◌, refuse_if}, Bits.{start_of}, Fields.{number_at}, Grid.{Grid}, Segment.{SegmentView}, declared.{error.{DecodeError.{DecodeError, TheVariants.{Overflow, Segment, Unsupported}}, OverflowError.TheVariants.{SymbolCount}, SegmentError.TheVariants.{InvalidReference}}, segment.SegmentType.{SegmentType, TheVariants as types}}}
+use Rattle.jbig2_coder.specs.{CustomTable.{answer_of, custom_table}, PrefixCode.{Member}}
+use Rattle.jbig2_halftone.specs.{PatternHeader.{pattern_header_at}, Patterns.{Patterns, patterns_decoded}}
+use Rattle.jbig2_symbol.specs.{SymbolHeader.{symbol_header_at}, SymbolReading.{BitmapContexts}, Symbols.{Symbols, symbols_decoded}}
 use Rattle.hayro_jbig2.specs.declared.kept.Kept.{Kept}
 
--- behind what is kept already
-abbrev pub kept_under : {V : Type 0} → ℕ → V → List (Kept V) → List (Kept V)
+abbrev pub kept_under : {V : Type 0} → ℕ → V → List (Kept V) → List (Kept V)  -- behind what is kept already
 kept_under number value kept = kept ++ record { segment_number = number; value = value } ∷ []
 
 abbrev pub first_named : {V : Type 0} → ℕ → List (Kept V) → Option V
@@ -88,8 +71,7 @@ with_symbols strict shared p own =
     symbol_dictionary_at strict own shared p
     >>= λ symbols. Ok (record own { symbols = kept_under p.header.segment_number symbols own.symbols })
 
--- A pattern dictionary (7.4.4).
-unfoldable pub pattern_dictionary_at : Bool → List ℕ → Result Patterns DecodeError
+unfoldable pub pattern_dictionary_at : Bool → List ℕ → Result Patterns DecodeError  -- a pattern dictionary (7.4.4)
 pattern_dictionary_at strict bytes = pattern_header_at strict bytes >>= λ header. patterns_decoded header.0
 
 unfoldable pub with_patterns : Bool → SegmentView → Names → Result Names DecodeError
@@ -97,8 +79,7 @@ with_patterns strict p own =
     pattern_dictionary_at strict p.bytes
     >>= λ patterns. Ok (record own { patterns = kept_under p.header.segment_number patterns own.patterns })
 
--- A custom table (7.4.13, B.2).
-abbrev pub code_at : List ℕ → Result (List Member) DecodeError
+abbrev pub code_at : List ℕ → Result (List Member) DecodeError  -- a custom table (7.4.13, B.2)
 code_at bytes = answer_of (custom_table (start_of bytes))
 
 unfoldable pub with_code : SegmentView → Names → Result Names DecodeError

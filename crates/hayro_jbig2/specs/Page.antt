@@ -1,25 +1,9 @@
 -- What a page shows (T.88, 8): the fold of its segments over what was drawn so far. Each segment is drawn onto the page,
 -- kept for later ones, or changes nothing, by its type (7.3).
-use Rattle.std.specs.Prelude.{◌≡◌, ℕ, Bool, true, false, not, List, [], ◌∷◌, Option, Some, None, Result, Ok, Err, IsTrue, if◌then◌else◌}
-use Rattle.std.specs.Int.{w32, cast_signed}
-use Rattle.jbig2_base.specs.Answer.{◌>>=◌}
-use Rattle.jbig2_base.specs.Combination.{combined}
-use Rattle.jbig2_base.specs.Grid.{Grid, blank}
-use Rattle.jbig2_base.specs.PageInfo.{initial_page_of}
-use Rattle.jbig2_base.specs.Segment.{SegmentView}
-use Rattle.jbig2_base.specs.Sequential.{sorted_segments}
-use Rattle.jbig2_base.specs.declared.bitmap.operator.CombinationOperator.{CombinationOperator}
-use Rattle.jbig2_base.specs.declared.bitmap.operator.CombinationOperator.TheVariants.{Or, And, Xor, Xnor, Replace}
-use Rattle.jbig2_base.specs.declared.error.DecodeError.{DecodeError}
-use Rattle.jbig2_base.specs.declared.page_info.InitialPage.{InitialPage}
-use Rattle.jbig2_base.specs.declared.segment.SegmentType.{SegmentType}
-use Rattle.jbig2_base.specs.declared.segment.SegmentType.TheVariants as types
+use Rattle.std.specs.{Prelude.{◌≡◌, ℕ, Bool, true, false, not, List, [], ◌∷◌, Option, Some, None, Result, Ok, Err, IsTrue, if◌then◌else◌}, Int.{w32, cast_signed}}
+use Rattle.jbig2_base.specs.{Answer.{◌>>=◌}, Combination.{combined}, Grid.{Grid, blank}, PageInfo.{initial_page_of}, Segment.{SegmentView}, Sequential.{sorted_segments}, declared.{bitmap.operator.CombinationOperator.{CombinationOperator, TheVariants.{Or, And, Xor, Xnor, Replace}}, error.DecodeError.{DecodeError}, page_info.InitialPage.{InitialPage}, segment.SegmentType.{SegmentType, TheVariants as types}}}
 use Rattle.jbig2_region.specs.Generic.{PlacedRegion}
-use Rattle.hayro_jbig2.specs.Names.{Names, no_names, kept_by, kept_under}
-use Rattle.hayro_jbig2.specs.Regions.{generic_at, halftone_at, refinement_at, text_at}
-use Rattle.hayro_jbig2.specs.declared.kept.Kept.{Kept}
-use Rattle.hayro_jbig2.specs.declared.region.RegionKind.{RegionKind}
-use Rattle.hayro_jbig2.specs.declared.region.RegionKind.TheVariants as kinds
+use Rattle.hayro_jbig2.specs.{Names.{Names, no_names, kept_by, kept_under}, Regions.{generic_at, halftone_at, refinement_at, text_at}, declared.{kept.Kept.{Kept}, region.RegionKind.{RegionKind, TheVariants as kinds}}}
 
 -- A page that was read: whether strictly, what it begins as, its segments in order, and its globals or their error.
 pub record ReadPage : Type 0 where
@@ -28,8 +12,7 @@ pub record ReadPage : Type 0 where
   pub segments : List SegmentView
   pub globals : Result Names DecodeError
 
--- What was drawn so far, what is kept, and whether no immediate region came before.
-pub record Drawing : Type 0 where
+pub record Drawing : Type 0 where  -- what was drawn so far, what is kept, and whether no immediate region came before
   pub grid : Grid
   pub regions : List (Kept PlacedRegion)
   pub names : Names
@@ -98,8 +81,7 @@ abbrev pub segments_drawn : Bool → Names → List SegmentView → Drawing → 
 segments_drawn strict globals [] d = Ok d
 segments_drawn strict globals (p ∷ ps) d = if ends_page p.header.segment_type then Ok d else (segment_on strict globals p d >>= λ e. segments_drawn strict globals ps e)
 
--- The page begins in its default pixel.
-abbrev pub page_begun : InitialPage → Drawing
+abbrev pub page_begun : InitialPage → Drawing  -- the page begins in its default pixel
 page_begun initial_page = record { grid = blank initial_page.width initial_page.height initial_page.default_pixel; regions = []; names = no_names; untouched = true }
 
 unfoldable pub grid_of_page : ReadPage → Result Grid DecodeError

@@ -2,7 +2,7 @@
 ghost use Rattle.std.specs.Prelude.{◌≡◌, ◌≤◌, [], true, false, Ok};
 ghost use Rattle.jbig2_base.specs.Answer.{Gives};
 ghost use Rattle.jbig2_base.specs.Grid.{blank};
-ghost use Rattle.jbig2_region.specs.Generic.{region_view};
+ghost use Rattle.jbig2_region.specs.inner.RegionViews.{region_view};
 ghost use Rattle.hayro_jbig2.specs.Names.{no_names};
 ghost use Rattle.hayro_jbig2.specs.Page.{Drawing, page_begun, shown, with_region};
 
@@ -33,7 +33,7 @@ pub struct DecoderContext<A: Allocator> {
 
 impl<A: Allocator> Model for DecoderContext<A> {
     ghost use Rattle.std.specs.Prelude.{◌≡◌, true};
-    ghost use Rattle.jbig2_region.specs.Generic.{region_view};
+    ghost use Rattle.jbig2_region.specs.inner.RegionViews.{region_view};
     ghost use Rattle.hayro_jbig2.specs.Page.{Drawing};
     ghost use Rattle.hayro_jbig2.specs.inner.KeptViews.{seen};
     ghost use Rattle.hayro_jbig2.specs.inner.Whole.{IsBegun};

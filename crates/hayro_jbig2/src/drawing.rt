@@ -5,7 +5,7 @@ ghost use Rattle.jbig2_base.specs.inner.SegmentViews.{segment_view, segment_view
 ghost use Rattle.hayro_jbig2.specs.Names.{with_patterns, with_symbols};
 ghost use Rattle.hayro_jbig2.specs.Page.{segments_drawn, ends_page, immediate, intermediate, keeping, region_at, segment_on, shown};
 ghost use Rattle.jbig2_base.specs.declared.error.DecodeError.TheVariants.{OutOfMemory};
-ghost use Rattle.jbig2_region.specs.Generic.{region_view};
+ghost use Rattle.jbig2_region.specs.inner.RegionViews.{region_view};
 ghost use Rattle.hayro_jbig2.specs.inner.KeptViews.{seen};
 ghost use Rattle.hayro_jbig2.specs.inner.Parsed.{drawing_of};
 ghost use Rattle.hayro_jbig2.specs.inner.Whole.{touched};

@@ -2,9 +2,11 @@
 ghost use Rattle.std.specs.Prelude.{◌≡◌, ◌≤◌, IfOk, Bool, List};
 ghost use Rattle.jbig2_base.specs.Answer.{Answers, Gives};
 ghost use Rattle.jbig2_base.specs.inner.SegmentViews.{segment_view};
-ghost use Rattle.jbig2_region.specs.Generic.{PlacedRegion, region_view};
+ghost use Rattle.jbig2_region.specs.Generic.{PlacedRegion};
+ghost use Rattle.jbig2_region.specs.inner.RegionViews.{region_view};
 ghost use Rattle.jbig2_region.specs.Refinement.{refined_decoded};
-ghost use Rattle.jbig2_region.specs.RefinementHeader.{IsRefinement, header_view};
+ghost use Rattle.jbig2_region.specs.RefinementHeader.{IsRefinement};
+ghost use Rattle.jbig2_region.specs.inner.RefinedViews.{header_view};
 ghost use Rattle.hayro_jbig2.specs.Names.{first_named};
 ghost use Rattle.hayro_jbig2.specs.Regions.{page_area, referred_region, refinement_at};
 ghost use Rattle.hayro_jbig2.specs.inner.KeptViews.{found, seen};

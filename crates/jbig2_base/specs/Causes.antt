@@ -1,28 +1,12 @@
 -- Which rule the bytes break where a definition refuses them (docs/FORMAT.md), a line for each error. A predicate
 -- `Breaks..` takes the bytes and an error, and `HaveCauses` is the law: each error of the definition has that cause.
-use Rattle.std.specs.Prelude.{◌≡◌, ◌≢◌, ◌<◌, ◌≤◌, ◌+◌, ◌*◌, ◌-◌, ◌/◌, ◌%◌, ◌^◌, ◌==◌, ◌⊎◌, ℕ, Bool, true, List, [], ◌∷◌, take, drop, length, All, Any, Option, Some, None, Result, Ok, Err, IfErr, if◌then◌else◌}
-use Rattle.std.specs.Int.{Width, w8, w32, byte_len, from_be_bytes}
-use Rattle.jbig2_base.specs.File.{headers_in}
-use Rattle.jbig2_base.specs.FileHeader.{file_header_at, identification}
-use Rattle.jbig2_base.specs.Segment.{Header, SegmentView, adaptive_bytes, number_width, header_at, segment_data_at, segment_at}
-use Rattle.jbig2_base.specs.declared.error.DecodeError.{DecodeError}
-use Rattle.jbig2_base.specs.declared.error.DecodeError.TheVariants.{Parse, Format, Segment, Region, Overflow}
-use Rattle.jbig2_base.specs.declared.error.FormatError.TheVariants.{InvalidHeader, ReservedBits, MissingPageInfo, UnknownPageHeight, EmptyPage}
-use Rattle.jbig2_base.specs.declared.error.OverflowError.TheVariants.{BitmapDimension}
-use Rattle.jbig2_base.specs.declared.error.ParseError.TheVariants.{UnexpectedEof}
-use Rattle.jbig2_base.specs.declared.error.RegionError.TheVariants.{InvalidCombinationOperator}
-use Rattle.jbig2_base.specs.declared.error.SegmentError.TheVariants.{UnknownType, InvalidReferredCount, InvalidReference, InvalidUnknownLength, MissingEndMarker}
-use Rattle.jbig2_base.specs.declared.file_header.FileHeader.{FileHeader}
-use Rattle.jbig2_base.specs.declared.file_header.FileOrganization.{FileOrganization}
-use Rattle.jbig2_base.specs.declared.file_header.FileOrganization.TheVariants.{Sequential, RandomAccess}
-use Rattle.jbig2_base.specs.declared.segment.SegmentType.{SegmentType}
-use Rattle.jbig2_base.specs.declared.segment.SegmentType.TheVariants as types
+use Rattle.std.specs.{Prelude.{◌≡◌, ◌≢◌, ◌<◌, ◌≤◌, ◌+◌, ◌*◌, ◌-◌, ◌/◌, ◌%◌, ◌^◌, ◌==◌, ◌⊎◌, ℕ, Bool, true, List, [], ◌∷◌, take, drop, length, All, Any, Option, Some, None, Result, Ok, Err, IfErr, if◌then◌else◌}, Int.{Width, w8, w32, byte_len, from_be_bytes}}
+use Rattle.jbig2_base.specs.{File.{headers_in}, FileHeader.{file_header_at, identification}, Segment.{Header, SegmentView, adaptive_bytes, number_width, header_at, segment_data_at, segment_at}, declared.{error.{DecodeError.{DecodeError, TheVariants.{Parse, Format, Segment, Region, Overflow}}, FormatError.TheVariants.{InvalidHeader, ReservedBits, MissingPageInfo, UnknownPageHeight, EmptyPage}, OverflowError.TheVariants.{BitmapDimension}, ParseError.TheVariants.{UnexpectedEof}, RegionError.TheVariants.{InvalidCombinationOperator}, SegmentError.TheVariants.{UnknownType, InvalidReferredCount, InvalidReference, InvalidUnknownLength, MissingEndMarker}}, file_header.{FileHeader.{FileHeader}, FileOrganization.{FileOrganization, TheVariants.{Sequential, RandomAccess}}}, segment.SegmentType.{SegmentType, TheVariants as types}}}
 
 unfoldable pub HaveCauses : {X Y : Type 0} → (X → Result Y DecodeError) → (X → DecodeError → Type 0) → Type 0
 HaveCauses {X} answer Breaks = (x : X) → IfErr (answer x) (Breaks x)
 
--- the number that stands at this byte, high byte first
-abbrev pub number_in : Width → ℕ → List ℕ → ℕ
+abbrev pub number_in : Width → ℕ → List ℕ → ℕ  -- the number that stands at this byte, high byte first
 number_in w place bytes = from_be_bytes w (take (byte_len w) (drop place bytes))
 
 -- the error of a step, whose own law says which rule it breaks
@@ -34,15 +18,13 @@ abbrev pub InSteps : {A : Type 0} → Result A DecodeError → Type 0 → (A →
 InSteps (Err e) first next = first
 InSteps (Ok x) first next = next x
 
--- The header of a file (D.4) has thirteen bytes at most.
-abbrev pub BreaksFileHeader : List ℕ → DecodeError → Type 0
+abbrev pub BreaksFileHeader : List ℕ → DecodeError → Type 0  -- the header of a file (D.4) has thirteen bytes at most
 BreaksFileHeader bytes (Parse UnexpectedEof) = length bytes < 13
 BreaksFileHeader bytes (Format InvalidHeader) = (8 ≤ length bytes) × (take 8 bytes ≢ identification)
 BreaksFileHeader bytes (Format ReservedBits) = (9 ≤ length bytes) × (16 ≤ number_in w8 8 bytes)
 BreaksFileHeader bytes _ = ⊥
 
--- Page information (7.4.8) has 19 bytes.
-abbrev pub BreaksInformation : List ℕ → DecodeError → Type 0
+abbrev pub BreaksInformation : List ℕ → DecodeError → Type 0  -- page information (7.4.8) has 19 bytes
 BreaksInformation bytes (Parse UnexpectedEof) = length bytes < 19
 BreaksInformation bytes _ = ⊥
 
@@ -74,8 +56,7 @@ BreaksInitialPage ps (Overflow BitmapDimension) =
     × Any (λ p. TellsHeight p × (65535 ≤ number_in w32 0 p.bytes)) ps)
 BreaksInitialPage ps _ = ⊥
 
--- a combination operator (7.4.1.5)
-abbrev pub BreaksOperator : ℕ → DecodeError → Type 0
+abbrev pub BreaksOperator : ℕ → DecodeError → Type 0  -- a combination operator (7.4.1.5)
 BreaksOperator n (Region InvalidCombinationOperator) = 5 ≤ n
 BreaksOperator n _ = ⊥
 
@@ -96,8 +77,7 @@ page_place bytes = referred_place bytes + referred_count bytes * byte_len (numbe
 abbrev pub length_place : List ℕ → ℕ
 length_place bytes = page_place bytes + (if number_in w8 4 bytes / 64 % 2 == 1 then 4 else 1)
 
--- the numbers of 7.3's types
-abbrev pub listed_types : List ℕ
+abbrev pub listed_types : List ℕ  -- the numbers of 7.3's types
 listed_types = 0 ∷ 4 ∷ 6 ∷ 7 ∷ 16 ∷ 20 ∷ 22 ∷ 23 ∷ 36 ∷ 38 ∷ 39 ∷ 40 ∷ 42 ∷ 43 ∷ 48 ∷ 49 ∷ 50 ∷ 51 ∷ 52 ∷ 53 ∷ 54 ∷ 62 ∷ []
 
 -- A header's first four bytes are its segment's number; byte 4 has the type in its low six bits.
@@ -152,8 +132,7 @@ BreaksSequence strict bytes e =
     (e ≡ Parse UnexpectedEof → strict ≡ true)
     × BehindSome (segment_at strict) (λ p. p.header.segment_type) bytes (λ others. BreaksSegment strict others e)
 
--- All headers (D.2): one of them breaks a rule.
-abbrev pub BreaksHeaders : Bool → List ℕ → DecodeError → Type 0
+abbrev pub BreaksHeaders : Bool → List ℕ → DecodeError → Type 0  -- all headers (D.2): one of them breaks a rule
 BreaksHeaders strict bytes e =
     BehindSome (header_at strict) (λ h. h.segment_type) bytes (λ others. BreaksHeader strict others e)
 

@@ -1,13 +1,9 @@
 -- One bitmap combined with another (T.88, 7.4.1.5): an operator, the page, a source and the place of its top left
 -- pixel, at any whole numbers, give the page afterwards. Where the source does not lie, the page stays as it was.
 use Rattle.std.specs.Prelude.{ℕ, ◌+◌, ◌-◌, ◌*◌, ◌/◌, ◌≡◌, ◌≤◌, Bool, false, ◌&&◌, nat_lt, min, if◌then◌else◌, ℤ, pos, negsuc, ◌-ℤ◌, zero, suc}
-use Rattle.jbig2_base.specs.declared.bitmap.operator.CombinationOperator.{CombinationOperator}
-use Rattle.jbig2_base.specs.Counts.{Counts}
-use Rattle.jbig2_base.specs.Grid.{Grid, grid_of, pixel_at, pixel}
-use Rattle.jbig2_base.specs.Operator.{combined_pixel}
+use Rattle.jbig2_base.specs.{declared.bitmap.operator.CombinationOperator.{CombinationOperator}, Counts.{Counts}, Grid.{Grid, grid_of, pixel_at, pixel}, Operator.{combined_pixel}}
 
--- a whole number from 0 up to a size
-abbrev pub is_below : ℕ → ℤ → Bool
+abbrev pub is_below : ℕ → ℤ → Bool  -- a whole number from 0 up to a size
 is_below size (pos n) = nat_lt n size
 is_below size (negsuc n) = false
 
@@ -21,13 +17,11 @@ drawn_pixel operator page source x y i j =
 abbrev pub combined : CombinationOperator → Grid → Grid → ℤ → ℤ → Grid
 combined operator page source x y = grid_of page.width page.height (drawn_pixel operator page source x y)
 
--- how many of a page's columns (or rows) a source has that begins at x
-abbrev pub overlap : ℕ → ℕ → ℤ → ℕ
+abbrev pub overlap : ℕ → ℕ → ℤ → ℕ  -- how many of a page's columns (or rows) a source has that begins at x
 overlap page source (pos x) = min source (page - x)
 overlap page source (negsuc x) = min page (source - (x + 1))
 
--- the most words that a row of so many columns lies in
-abbrev pub most_words : ℕ → ℕ
+abbrev pub most_words : ℕ → ℕ  -- the most words that a row of so many columns lies in
 most_words zero = 0
 most_words (suc columns) = columns / 64 + 2
 

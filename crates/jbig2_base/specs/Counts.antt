@@ -12,11 +12,9 @@ pub record Counts : Type 0 where
 abbrev pub no_steps : Counts
 no_steps = record { loads = 0; words = 0; decisions = 0; run_tests = 0; groups = 0; pixels = 0 }
 
--- so many words more are loaded and written
-abbrev pub words_copied : ℕ → Counts → Counts
+abbrev pub words_copied : ℕ → Counts → Counts  -- so many words more are loaded and written
 words_copied n c = record c { loads = c.loads + n; words = c.words + n }
 
--- no group of lanes and no single pixel was counted
-pub record KeepsLanes (old new : Counts) : Type 0 where
+pub record KeepsLanes (old new : Counts) : Type 0 where  -- no group of lanes and no single pixel was counted
   pub groups : new.groups ≡ old.groups
   pub pixels : new.pixels ≡ old.pixels

@@ -1,22 +1,15 @@
 -- Fields, read from the front (T.88, 7.1). Each gives its value and the bytes behind it; one that the bytes do not
 -- hold answers `Parse(UnexpectedEof)`. Fields of bits have errors of their own.
-use Rattle.std.specs.Prelude.{ℕ, nat_lt, List, length, take, drop, Result, Ok, Err, ℤ, if◌then◌else◌}
-use Rattle.std.specs.Int.{Width, byte_len, from_be_bytes, cast_signed}
-use Rattle.jbig2_base.specs.Answer.{◌>>=◌, some_or}
-use Rattle.jbig2_base.specs.Bits.{Place, bits_left, bits_next, bits_on}
-use Rattle.jbig2_base.specs.declared.error.DecodeError.{DecodeError}
-use Rattle.jbig2_base.specs.declared.error.DecodeError.TheVariants.{Parse}
-use Rattle.jbig2_base.specs.declared.error.ParseError.TheVariants.{UnexpectedEof}
+use Rattle.std.specs.{Prelude.{ℕ, nat_lt, List, length, take, drop, Result, Ok, Err, ℤ, if◌then◌else◌}, Int.{Width, byte_len, from_be_bytes, cast_signed}}
+use Rattle.jbig2_base.specs.{Answer.{◌>>=◌, some_or}, Bits.{Place, bits_left, bits_next, bits_on}, declared.error.{DecodeError.{DecodeError, TheVariants.{Parse}}, ParseError.TheVariants.{UnexpectedEof}}}
 
 abbrev pub end_of_bytes : DecodeError
 end_of_bytes = Parse UnexpectedEof
 
--- the next count bytes
-abbrev pub bytes_at : ℕ → List ℕ → Result (List ℕ × List ℕ) DecodeError
+abbrev pub bytes_at : ℕ → List ℕ → Result (List ℕ × List ℕ) DecodeError  -- the next count bytes
 bytes_at count bytes = if nat_lt (length bytes) count then Err end_of_bytes else Ok (take count bytes, drop count bytes)
 
--- the next number, high byte first
-abbrev pub number_at : Width → List ℕ → Result (ℕ × List ℕ) DecodeError
+abbrev pub number_at : Width → List ℕ → Result (ℕ × List ℕ) DecodeError  -- the next number, high byte first
 number_at w bytes =
     if nat_lt (length bytes) (byte_len w) then Err end_of_bytes
     else Ok (from_be_bytes w (take (byte_len w) bytes), drop (byte_len w) bytes)

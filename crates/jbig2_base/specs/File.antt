@@ -1,15 +1,7 @@
 -- Files (T.88, Annex D), in sequential organisation or in random access, all headers and then all data (D.2).
 -- `file_at` takes a file's bytes and gives its header and its segments; `SpellsFile` is the way back.
-use Rattle.std.specs.Prelude.{◌≡◌, ℕ, suc, zero, Bool, true, false, ◌==◌, List, [], ◌∷◌, ◌++◌, length, Some, Result, Ok, if◌then◌else◌}
-use Rattle.std.specs.List.{flat_map}
-use Rattle.jbig2_base.specs.Answer.{◌>>=◌}
-use Rattle.jbig2_base.specs.FileHeader.{file_header_at}
-use Rattle.jbig2_base.specs.Segment.{Header, SegmentView, header_at, segment_data_at}
-use Rattle.jbig2_base.specs.Sequential.{by_number, is_end_of_file, sequential}
-use Rattle.jbig2_base.specs.declared.error.DecodeError.{DecodeError}
-use Rattle.jbig2_base.specs.declared.file_header.FileHeader.{FileHeader}
-use Rattle.jbig2_base.specs.declared.file_header.FileOrganization.{FileOrganization}
-use Rattle.jbig2_base.specs.declared.file_header.FileOrganization.TheVariants.{Sequential, RandomAccess}
+use Rattle.std.specs.{Prelude.{◌≡◌, ℕ, suc, zero, Bool, true, false, ◌==◌, List, [], ◌∷◌, ◌++◌, length, Some, Result, Ok, if◌then◌else◌}, List.{flat_map}}
+use Rattle.jbig2_base.specs.{Answer.{◌>>=◌}, FileHeader.{file_header_at}, Segment.{Header, SegmentView, header_at, segment_data_at}, Sequential.{by_number, is_end_of_file, sequential}, declared.{error.DecodeError.{DecodeError}, file_header.{FileHeader.{FileHeader}, FileOrganization.{FileOrganization, TheVariants.{Sequential, RandomAccess}}}}}
 
 -- the headers in the bytes, at most so many, up to that of an end of file, and the bytes behind them; each has a byte
 unfoldable pub headers_in : ℕ → Bool → List ℕ → Result (List Header × List ℕ) DecodeError

@@ -1,18 +1,9 @@
 -- The header of a file (T.88, D.4): eight bytes that each file begins with, flags that say how it is organised, and
 -- the number of its pages where it is known. `file_header_at` gives these fields and the bytes behind them.
-use Rattle.std.specs.Prelude.{ℕ, ◌/◌, ◌%◌, ◌==◌, Bool, not, List, [], ◌∷◌, Option, Some, None, Result, Ok, if◌then◌else◌}
-use Rattle.std.specs.Int.{w8, w32}
-use Rattle.std.specs.Str.{bytes_eq}
-use Rattle.jbig2_base.specs.Answer.{◌>>=◌, refuse_if}
-use Rattle.jbig2_base.specs.Fields.{bytes_at, number_at}
-use Rattle.jbig2_base.specs.declared.error.DecodeError.{DecodeError}
-use Rattle.jbig2_base.specs.declared.error.DecodeError.TheVariants.{Format}
-use Rattle.jbig2_base.specs.declared.error.FormatError.TheVariants.{InvalidHeader, ReservedBits}
-use Rattle.jbig2_base.specs.declared.file_header.FileHeader.{FileHeader}
-use Rattle.jbig2_base.specs.declared.file_header.FileOrganization.TheVariants.{Sequential, RandomAccess}
+use Rattle.std.specs.{Prelude.{ℕ, ◌/◌, ◌%◌, ◌==◌, Bool, not, List, [], ◌∷◌, Option, Some, None, Result, Ok, if◌then◌else◌}, Int.{w8, w32}, Str.{bytes_eq}}
+use Rattle.jbig2_base.specs.{Answer.{◌>>=◌, refuse_if}, Fields.{bytes_at, number_at}, declared.{error.{DecodeError.{DecodeError, TheVariants.{Format}}, FormatError.TheVariants.{InvalidHeader, ReservedBits}}, file_header.{FileHeader.{FileHeader}, FileOrganization.TheVariants.{Sequential, RandomAccess}}}}
 
--- the bytes that each file begins with (D.4.1)
-abbrev pub identification : List ℕ
+abbrev pub identification : List ℕ  -- the bytes that each file begins with (D.4.1)
 identification = 151 ∷ 74 ∷ 66 ∷ 50 ∷ 13 ∷ 10 ∷ 26 ∷ 10 ∷ []
 
 -- the number of pages (D.4.3), unless it is unknown

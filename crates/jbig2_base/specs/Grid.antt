@@ -1,32 +1,26 @@
 -- Bitmaps (T.88, 6): a width, a height and a pixel at each pair of whole numbers, white outside. `grid_of` makes one
 -- of a function of column and row, and `pixel` takes it apart again.
-use Rattle.std.specs.Prelude.{ℕ, ◌+◌, ◌*◌, ◌/◌, ◌%◌, Bool, true, false, not, ◌&&◌, if◌then◌else◌, nat_lt, List, map, slice_index_or, ℤ, pos}
-use Rattle.std.specs.List.{range_with_len}
+use Rattle.std.specs.{Prelude.{ℕ, ◌+◌, ◌*◌, ◌/◌, ◌%◌, Bool, true, false, not, ◌&&◌, if◌then◌else◌, nat_lt, List, map, slice_index_or, ℤ, pos}, List.{range_with_len}}
 
--- The pixels stand row by row from the top, each row from the left; `true` is black.
-pub record Grid : Type 0 where
+pub record Grid : Type 0 where  -- the pixels stand row by row from the top, each row from the left; `true` is black
   pub width : ℕ
   pub height : ℕ
   pub pixels : List Bool
 
--- the pixel at column x of row y is f x y
-unfoldable pub table : ℕ → ℕ → (ℕ → ℕ → Bool) → List Bool
+unfoldable pub table : ℕ → ℕ → (ℕ → ℕ → Bool) → List Bool  -- the pixel at column x of row y is f x y
 table w h f = map (λ n. f (n % w) (n / w)) (range_with_len 0 (w * h))
 
 abbrev pub grid_of : ℕ → ℕ → (ℕ → ℕ → Bool) → Grid
 grid_of w h f = record { width = w; height = h; pixels = table w h f }
 
--- the pixel at column x of row y, white outside
-unfoldable pub pixel_at : Grid → ℕ → ℕ → Bool
+unfoldable pub pixel_at : Grid → ℕ → ℕ → Bool  -- the pixel at column x of row y, white outside
 pixel_at g x y = nat_lt x g.width && nat_lt y g.height && slice_index_or g.pixels (y * g.width + x) false
 
--- the same at any pair of whole numbers
-abbrev pub pixel : Grid → ℤ → ℤ → Bool
+abbrev pub pixel : Grid → ℤ → ℤ → Bool  -- the same at any pair of whole numbers
 pixel g (pos x) (pos y) = pixel_at g x y
 pixel g _ _ = false
 
--- a grid of one colour
-abbrev pub blank : ℕ → ℕ → Bool → Grid
+abbrev pub blank : ℕ → ℕ → Bool → Grid  -- a grid of one colour
 blank w h black = grid_of w h (λ _ _. black)
 
 abbrev pub bit_number : Bool → ℕ

@@ -1,11 +1,7 @@
 -- The combination operators (T.88, 7.4.1.5): which one a number of a region's flags names, or its refusal, and what
 -- each makes of a pixel of the page and one of the source.
 use Rattle.std.specs.Prelude.{ℕ, Bool, ◌&&◌, ◌||◌, ◌==◌, not, if◌then◌else◌, Result, Ok, Err}
-use Rattle.jbig2_base.specs.declared.error.DecodeError.{DecodeError}
-use Rattle.jbig2_base.specs.declared.error.DecodeError.TheVariants.{Region}
-use Rattle.jbig2_base.specs.declared.error.RegionError.TheVariants.{InvalidCombinationOperator}
-use Rattle.jbig2_base.specs.declared.bitmap.operator.CombinationOperator.{CombinationOperator}
-use Rattle.jbig2_base.specs.declared.bitmap.operator.CombinationOperator.TheVariants.{Or, And, Xor, Xnor, Replace}
+use Rattle.jbig2_base.specs.declared.{error.{DecodeError.{DecodeError, TheVariants.{Region}}, RegionError.TheVariants.{InvalidCombinationOperator}}, bitmap.operator.CombinationOperator.{CombinationOperator, TheVariants.{Or, And, Xor, Xnor, Replace}}}
 
 abbrev pub operator_of : ℕ → Result CombinationOperator DecodeError
 operator_of n =

@@ -1,32 +1,15 @@
 -- Page information (T.88, 7.4.8), and what a page begins as: `initial_page_of` gives a page's number, size and colour
 -- by the first page information among its segments, and by its stripes (7.4.10) where that leaves the height open.
-use Rattle.std.specs.Prelude.{ℕ, ◌+◌, ◌/◌, ◌%◌, ◌==◌, max, nat_lt, Bool, true, false, not, ◌&&◌, ◌||◌, List, [], ◌∷◌, length, take, Result, Ok, Err, if◌then◌else◌}
-use Rattle.std.specs.Int.{w8, w16, w32, from_be_bytes}
-use Rattle.jbig2_base.specs.Answer.{◌>>=◌, refuse_if}
-use Rattle.jbig2_base.specs.Bits.{nonzero}
-use Rattle.jbig2_base.specs.Fields.{number_at}
-use Rattle.jbig2_base.specs.Segment.{SegmentView}
-use Rattle.jbig2_base.specs.declared.bitmap.operator.CombinationOperator.{CombinationOperator}
-use Rattle.jbig2_base.specs.declared.bitmap.operator.CombinationOperator.TheVariants.{Or, And, Xor, Xnor}
-use Rattle.jbig2_base.specs.declared.error.DecodeError.{DecodeError}
-use Rattle.jbig2_base.specs.declared.error.DecodeError.TheVariants.{Format, Overflow}
-use Rattle.jbig2_base.specs.declared.error.FormatError.TheVariants.{MissingPageInfo, UnknownPageHeight, EmptyPage}
-use Rattle.jbig2_base.specs.declared.error.OverflowError.TheVariants.{BitmapDimension}
-use Rattle.jbig2_base.specs.declared.page_info.PageFlags.{PageFlags}
-use Rattle.jbig2_base.specs.declared.page_info.PageInformation.{PageInformation}
-use Rattle.jbig2_base.specs.declared.page_info.InitialPage.{InitialPage}
-use Rattle.jbig2_base.specs.declared.segment.SegmentType.{SegmentType}
-use Rattle.jbig2_base.specs.declared.segment.SegmentType.TheVariants as types
+use Rattle.std.specs.{Prelude.{ℕ, ◌+◌, ◌/◌, ◌%◌, ◌==◌, max, nat_lt, Bool, true, false, not, ◌&&◌, ◌||◌, List, [], ◌∷◌, length, take, Result, Ok, Err, if◌then◌else◌}, Int.{w8, w16, w32, from_be_bytes}}
+use Rattle.jbig2_base.specs.{Answer.{◌>>=◌, refuse_if}, Bits.{nonzero}, Fields.{number_at}, Segment.{SegmentView}, declared.{bitmap.operator.CombinationOperator.{CombinationOperator, TheVariants.{Or, And, Xor, Xnor}}, error.{DecodeError.{DecodeError, TheVariants.{Format, Overflow}}, FormatError.TheVariants.{MissingPageInfo, UnknownPageHeight, EmptyPage}, OverflowError.TheVariants.{BitmapDimension}}, page_info.{PageFlags.{PageFlags}, PageInformation.{PageInformation}, InitialPage.{InitialPage}}, segment.SegmentType.{SegmentType, TheVariants as types}}}
 
--- the default operator by its two bits (7.4.8.5)
-abbrev pub default_operator_of : ℕ → CombinationOperator
+abbrev pub default_operator_of : ℕ → CombinationOperator  -- the default operator by its two bits (7.4.8.5)
 default_operator_of n = if n == 0 then Or else if n == 1 then And else if n == 2 then Xor else Xnor
 
 abbrev pub is_set : ℕ → ℕ → Bool
 is_set flags bit = flags / bit % 2 == 1
 
--- the page's flags (7.4.8.5)
-abbrev pub flags_of : ℕ → PageFlags
+abbrev pub flags_of : ℕ → PageFlags  -- the page's flags (7.4.8.5)
 flags_of n = record {
   is_lossless = is_set n 1;
   might_contain_refinements = is_set n 2;

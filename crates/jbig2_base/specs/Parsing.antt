@@ -1,9 +1,7 @@
 -- What a parser's call says about its reader (our own rule), by the reader's places before and after the call, its
 -- result, and the answer of the definition with the bytes behind it.
 use Rattle.std.specs.Prelude.{◌≡◌, ◌≤◌, List, ℕ, length, Result, OnOk, OnErr}
-use Rattle.jbig2_base.specs.Answer.{Answers, Gives}
-use Rattle.jbig2_base.specs.Bits.{Place, IsAligned}
-use Rattle.jbig2_base.specs.declared.error.DecodeError.{DecodeError}
+use Rattle.jbig2_base.specs.{Answer.{Answers, Gives}, Bits.{Place, IsAligned}, declared.error.DecodeError.{DecodeError}}
 
 -- The reader stands behind what it took, at the beginning of a byte; a refusal leaves it where it was.
 pub record Parses {X Y : Type 0} (old new : Place) (result : Result X DecodeError) (view : X → Y) (meant : Result (Y × List ℕ) DecodeError) : Type 0 where

@@ -2,8 +2,7 @@
 -- row (T.6), the first end marker (T.88, 7.2.7), the fewest bits of a code (6.5.8.2.3).
 use Rattle.std.specs.Prelude.{ℕ, zero, suc, ◌-◌, ◌^◌, nat_le, Bool, if◌then◌else◌}
 
--- of the last n numbers below `to` the least that passes, else `to`
-unfoldable pub least : (ℕ → Bool) → ℕ → ℕ → ℕ
+unfoldable pub least : (ℕ → Bool) → ℕ → ℕ → ℕ  -- of the last n numbers below `to` the least that passes, else `to`
 least test zero to = to
 least test (suc n) to = if test (to - suc n) then to - suc n else least test n to
 
@@ -11,6 +10,5 @@ least test (suc n) to = if test (to - suc n) then to - suc n else least test n t
 abbrev pub place_from : (ℕ → Bool) → ℕ → ℕ → ℕ
 place_from test from to = least test (to - from) to
 
--- the fewest bits that tell so many things apart
-abbrev pub code_length : ℕ → ℕ
+abbrev pub code_length : ℕ → ℕ  -- the fewest bits that tell so many things apart
 code_length count = place_from (λ bits. nat_le count (2 ^ bits)) 0 count

@@ -1,19 +1,9 @@
 -- Segments: their headers and their data (T.88, 7.2). `segment_at` takes the bytes at the beginning of a segment and
 -- gives the segment and the bytes behind it, or the first fault.
-use Rattle.std.specs.Prelude.{ℕ, suc, zero, ◌+◌, ◌*◌, ◌/◌, ◌%◌, ◌==◌, nat_le, nat_lt, Bool, true, false, not, ◌&&◌, ◌||◌, List, [], ◌∷◌, take, drop, length, slice_index, Option, Some, None, Result, Ok, Err, if◌then◌else◌}
-use Rattle.std.specs.List.{list_any}
-use Rattle.std.specs.Int.{Width, w8, w16, w32, byte_len, from_be_bytes}
-use Rattle.jbig2_base.specs.Answer.{◌>>=◌, refuse_if}
-use Rattle.jbig2_base.specs.Fields.{bytes_at, number_at}
-use Rattle.jbig2_base.specs.Search.{place_from}
-use Rattle.jbig2_base.specs.declared.error.DecodeError.{DecodeError}
-use Rattle.jbig2_base.specs.declared.error.DecodeError.TheVariants.{Segment}
-use Rattle.jbig2_base.specs.declared.error.SegmentError.TheVariants.{UnknownType, InvalidReferredCount, InvalidReference, InvalidUnknownLength, MissingEndMarker}
-use Rattle.jbig2_base.specs.declared.segment.SegmentType.{SegmentType}
-use Rattle.jbig2_base.specs.declared.segment.SegmentType.TheVariants as types
+use Rattle.std.specs.{Prelude.{ℕ, suc, zero, ◌+◌, ◌*◌, ◌/◌, ◌%◌, ◌==◌, nat_le, nat_lt, Bool, true, false, not, ◌&&◌, ◌||◌, List, [], ◌∷◌, take, drop, length, slice_index, Option, Some, None, Result, Ok, Err, if◌then◌else◌}, List.{list_any}, Int.{Width, w8, w16, w32, byte_len, from_be_bytes}}
+use Rattle.jbig2_base.specs.{Answer.{◌>>=◌, refuse_if}, Fields.{bytes_at, number_at}, Search.{place_from}, declared.{error.{DecodeError.{DecodeError, TheVariants.{Segment}}, SegmentError.TheVariants.{UnknownType, InvalidReferredCount, InvalidReference, InvalidUnknownLength, MissingEndMarker}}, segment.SegmentType.{SegmentType, TheVariants as types}}}
 
--- a segment's header (7.2.2 to 7.2.7)
-pub record Header : Type 0 where
+pub record Header : Type 0 where  -- a segment's header (7.2.2 to 7.2.7)
   pub segment_number : ℕ
   pub segment_type : SegmentType
   pub retain_flag : Bool
@@ -25,8 +15,7 @@ pub record SegmentView : Type 0 where
   pub header : Header
   pub bytes : List ℕ
 
--- the types of 7.3 by their numbers
-unfoldable pub type_of : ℕ → SegmentType
+unfoldable pub type_of : ℕ → SegmentType  -- the types of 7.3 by their numbers
 type_of n =
     if n == 0 then types.SymbolDictionary
     else if n == 4 then types.IntermediateTextRegion
@@ -78,8 +67,7 @@ count_at bytes = do
 abbrev pub number_width : ℕ → Width
 number_width own = if nat_le own 256 then w8 else if nat_le own 65536 then w16 else w32
 
--- so many numbers, one behind the other
-abbrev pub numbers_in : Width → ℕ → List ℕ → List ℕ
+abbrev pub numbers_in : Width → ℕ → List ℕ → List ℕ  -- so many numbers, one behind the other
 numbers_in w zero bytes = []
 numbers_in w (suc count) bytes = from_be_bytes w (take (byte_len w) bytes) ∷ numbers_in w count (drop (byte_len w) bytes)
 
@@ -121,8 +109,7 @@ header_at strict bytes = do
     n.1,
   )
 
--- the adaptive pixels' bytes of a generic region, by its flags (7.4.6.3)
-abbrev pub adaptive_bytes : ℕ → ℕ
+abbrev pub adaptive_bytes : ℕ → ℕ  -- the adaptive pixels' bytes of a generic region, by its flags (7.4.6.3)
 adaptive_bytes flags =
     if flags % 2 == 1 then 0 else if flags / 2 % 4 == 0 then (if flags / 16 % 2 == 1 then 24 else 8) else 2
 
@@ -146,8 +133,7 @@ unknown_length_of bytes = do
   place ← first_end_marker flags.0 pixels.1
   Ok (18 + adaptive_bytes flags.0 + place + 6)
 
--- the data behind a header (7.2.7)
-abbrev pub data_at : Option ℕ → List ℕ → Result (List ℕ × List ℕ) DecodeError
+abbrev pub data_at : Option ℕ → List ℕ → Result (List ℕ × List ℕ) DecodeError  -- the data behind a header (7.2.7)
 data_at (Some n) bytes = bytes_at n bytes
 data_at None bytes = unknown_length_of bytes >>= λ n. bytes_at n bytes
 

@@ -1,8 +1,7 @@
 -- The arithmetic encoder (T.88, E.2), one shift at a time. A decision in its context takes the registers and the bytes
 -- so far on to the next; FLUSH ends the bytes. The decoder of `Coder` reads them back.
 use Rattle.std.specs.Prelude.{ℕ, suc, zero, ◌+◌, ◌-◌, ◌*◌, ◌/◌, ◌%◌, ◌^◌, Bool, true, false, not, if◌then◌else◌, ◌==◌, nat_lt, nat_le, List, [], ◌∷◌, reverse}
-use Rattle.jbig2_coder.specs.Table.{row_of}
-use Rattle.jbig2_coder.specs.Coder.{Context, likely_next, unlikely_next}
+use Rattle.jbig2_coder.specs.{Table.{row_of}, Coder.{Context, likely_next, unlikely_next}}
 
 abbrev pub Writer : Type 0  -- C, the shifts before the next byte goes out (CT), and the bytes out, last first
 Writer = record { register : ℕ; wait : ℕ; out : List ℕ }

@@ -1,8 +1,7 @@
 -- Whole lists of pairs (number of a context, decision): what the encoder makes of them, and what the decoder reads
 -- that is asked in these contexts (T.88, Annexes E and G). Before the first decision every context is fresh.
 use Rattle.std.specs.Prelude.{ℕ, Bool, if◌then◌else◌, ◌==◌, List, [], ◌∷◌, map, ◌≡◌}
-use Rattle.jbig2_coder.specs.Coder.{Context, Registers, fresh, decision, initial_registers}
-use Rattle.jbig2_coder.specs.Encoder.{Coding, opened, encoding, flushed, closed}
+use Rattle.jbig2_coder.specs.{Coder.{Context, Registers, fresh, decision, initial_registers}, Encoder.{Coding, opened, encoding, flushed, closed}}
 
 unfoldable pub with_context : (ℕ → Context) → ℕ → Context → ℕ → Context  -- one of them replaced
 with_context contexts k context = λ j. if j == k then context else contexts j

@@ -1,10 +1,7 @@
 -- The integer procedures of T.88 under their names there (6.4 and 6.5). Text regions and symbol dictionaries ask one
 -- coder for their integers, and each procedure has contexts of its own, which go on from integer to integer (A.2).
 use Rattle.std.specs.Prelude.{ℕ, List, [], replicate, slice_index_or, slice_set, Option, ℤ}
-use Rattle.jbig2_coder.specs.Coder.{Coder, Context, fresh}
-use Rattle.jbig2_coder.specs.Integers.{Reading, integer}
-use Rattle.jbig2_coder.specs.declared.integer_procedures.IntegerProcedure.{IntegerProcedure}
-use Rattle.jbig2_coder.specs.declared.integer_procedures.IntegerProcedure.TheVariants.{Iaai, Iadh, Iads, Iadt, Iadw, Iaex, Iafs, Iait, Iardh, Iardw, Iardx, Iardy, Iari}
+use Rattle.jbig2_coder.specs.{Coder.{Coder, Context, fresh}, Integers.{Reading, integer}, declared.integer_procedures.IntegerProcedure.{IntegerProcedure, TheVariants.{Iaai, Iadh, Iads, Iadt, Iadw, Iaex, Iafs, Iait, Iardh, Iardw, Iardx, Iardy, Iari}}}
 
 abbrev pub index_of : IntegerProcedure → ℕ
 index_of Iaai = 0

@@ -1,9 +1,7 @@
 -- The tables of prefix codes that a segment selects (T.88, 7.4.2.1.6 and 7.4.3.1.6): the standard's, and custom ones
 -- (B.2). Each selection of a custom table takes the next that it refers to, and gives it with those that are left.
 use Rattle.std.specs.Prelude.{List, [], ◌∷◌, Result, Ok, Err}
-use Rattle.jbig2_base.specs.declared.error.DecodeError.{DecodeError}
-use Rattle.jbig2_base.specs.declared.error.DecodeError.TheVariants.{Huffman}
-use Rattle.jbig2_base.specs.declared.error.HuffmanError.TheVariants.{MissingTables}
+use Rattle.jbig2_base.specs.declared.error.{DecodeError.{DecodeError, TheVariants.{Huffman}}, HuffmanError.TheVariants.{MissingTables}}
 use Rattle.jbig2_coder.specs.PrefixCode.{Member}
 
 -- a table of the standard, which takes no custom one

@@ -1,8 +1,7 @@
 -- The standard tables (T.88, B.5), to be compared with the standard line by line: for each of B.1 to B.15 its lines,
 -- with the length of the prefix, the number of range bits and the lowest value. `prefix_code` gives their codes.
 use Rattle.std.specs.Prelude.{ℕ, zero, suc, true, false, List, [], ◌∷◌, ◌++◌, map, ℤ, pos, negsuc}
-use Rattle.jbig2_coder.specs.declared.huffman_table.line.TableLine.{TableLine}
-use Rattle.jbig2_coder.specs.PrefixCode.{Member, prefix_code}
+use Rattle.jbig2_coder.specs.{declared.huffman_table.line.TableLine.{TableLine}, PrefixCode.{Member, prefix_code}}
 
 abbrev pub minus : ℕ → ℤ
 minus zero = pos 0

@@ -1,26 +1,11 @@
 -- What a run prints (our own rule), what standard error is told of it, and its status. `printed` takes the mode, the task
 -- and a file's bytes, and gives the bytes to be printed, or the fault; `RunEnds`, the last, is the statement of `run`.
-use Rattle.std.specs.Prelude.{◌≡◌, ◌⊎◌, ℕ, Bool, true, List, [], ◌++◌, Option, Some, None, IfSome, IsTrue, ok_or, Result, Ok, Err, codes, if◌then◌else◌}
-use Rattle.std.specs.Fmt.{decimal}
-use Rattle.std.specs.Io.KnownBytes.{Appends, Keeps}
-use Rattle.std.specs.List.{flat_map}
-use Rattle.std.specs.Str.Parse.{digits_value}
-use Rattle.jbig2_base.specs.Answer.{◌>>=◌}
-use Rattle.jbig2_base.specs.ErrorTexts.{error_text}
-use Rattle.jbig2_base.specs.Grid.{Grid}
-use Rattle.jbig2_base.specs.declared.error.DecodeError.{DecodeError}
-use Rattle.jbig2_base.specs.declared.error.DecodeError.TheVariants.{OutOfMemory}
-use Rattle.hayro_jbig2.specs.Calls.{Call, Pixel, Chunk, Line, calls_of}
-use Rattle.hayro_jbig2.specs.Files.{ReadFile, book_at, page_of, pages_of}
-use Rattle.hayro_jbig2.specs.Image.{packed_of_page}
-use Rattle.hayro_jbig2.specs.Names.{no_names}
-use Rattle.hayro_jbig2.specs.Page.{ReadPage, embedded, grid_of_page}
-use Rattle.jbig2_commands.specs.Words.{Task, Pages, Embedded, Calls, Pbm}
-use Rattle.jbig2_commands.specs.declared.fault.Fault.{Fault}
-use Rattle.jbig2_commands.specs.declared.fault.Fault.TheVariants.{Decode, NoSuchPage, Unreadable, Unwritable}
+use Rattle.std.specs.{Prelude.{◌≡◌, ◌⊎◌, ℕ, Bool, true, List, [], ◌++◌, Option, Some, None, IfSome, IsTrue, ok_or, Result, Ok, Err, codes, if◌then◌else◌}, Fmt.{decimal}, Io.KnownBytes.{Appends, Keeps}, List.{flat_map}, Str.Parse.{digits_value}}
+use Rattle.jbig2_base.specs.{Answer.{◌>>=◌}, ErrorTexts.{error_text}, Grid.{Grid}, declared.error.DecodeError.{DecodeError, TheVariants.{OutOfMemory}}}
+use Rattle.hayro_jbig2.specs.{Calls.{Call, Pixel, Chunk, Line, calls_of}, Files.{ReadFile, book_at, page_of, pages_of}, Image.{packed_of_page}, Names.{no_names}, Page.{ReadPage, embedded, grid_of_page}}
+use Rattle.jbig2_commands.specs.{Words.{Task, Pages, Embedded, Calls, Pbm}, declared.fault.Fault.{Fault, TheVariants.{Decode, NoSuchPage, Unreadable, Unwritable}}}
 
--- a page's number, width and height
-abbrev pub page_line : ReadPage → List ℕ
+abbrev pub page_line : ReadPage → List ℕ  -- a page's number, width and height
 page_line page = decimal page.initial_page.number ++ codes " " ++ decimal page.initial_page.width ++ codes " " ++ decimal page.initial_page.height ++ codes "\n"
 
 abbrev pub colour_word : Bool → List ℕ
@@ -35,8 +20,7 @@ call_line Line = codes "next_line\n"
 abbrev pub calls_text : Result Grid DecodeError → Result (List ℕ) DecodeError
 calls_text grid = grid >>= λ g. Ok (flat_map call_line (calls_of g))
 
--- a binary bitmap of the PBM format: its head, and then the packed rows
-abbrev pub bitmap_head : ReadPage → List ℕ
+abbrev pub bitmap_head : ReadPage → List ℕ  -- a binary bitmap of the PBM format: its head, and then the packed rows
 bitmap_head page = codes "P4\n" ++ decimal page.initial_page.width ++ codes " " ++ decimal page.initial_page.height ++ codes "\n"
 
 abbrev pub bitmap_text : ReadPage → Result (List ℕ) DecodeError
@@ -47,8 +31,7 @@ abbrev pub or_fault : {A : Type 0} → Result A DecodeError → Result A Fault
 or_fault (Ok x) = Ok x
 or_fault (Err e) = Err (Decode e)
 
--- the page that decimal digits name
-abbrev pub page_named : List ℕ → ReadFile → Result ReadPage Fault
+abbrev pub page_named : List ℕ → ReadFile → Result ReadPage Fault  -- the page that decimal digits name
 page_named index book = ok_or (page_of book (digits_value 10 index)) NoSuchPage
 
 -- what is printed of it
@@ -89,8 +72,7 @@ usage_line = codes "usage: jbig2-decode [--strict] pages|embedded FILE | calls|p
 abbrev pub fault_line : Fault → List ℕ
 fault_line fault = codes "error: " ++ fault_text fault ++ codes "\n"
 
--- nothing is told of success and of a failing output
-abbrev pub told_line : Result (Unit {0}) Fault → List ℕ
+abbrev pub told_line : Result (Unit {0}) Fault → List ℕ  -- nothing is told of success and of a failing output
 told_line (Ok u) = []
 told_line (Err Unwritable) = []
 told_line (Err fault) = fault_line fault

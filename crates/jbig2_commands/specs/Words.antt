@@ -1,8 +1,6 @@
 -- The words of a run (our own rule): [--strict] pages|embedded FILE, or [--strict] calls|pbm FILE INDEX. `request_of`
 -- takes the words and gives the mode, the task and the file, or None for all others.
-use Rattle.std.specs.Prelude.{ℕ, ◌==◌, nat_le, Bool, true, false, not, ◌&&◌, List, [], ◌∷◌, length, Option, Some, None, option_map, if◌then◌else◌, codes}
-use Rattle.std.specs.List.{list_all}
-use Rattle.std.specs.Str.{bytes_eq}
+use Rattle.std.specs.{Prelude.{ℕ, ◌==◌, nat_le, Bool, true, false, not, ◌&&◌, List, [], ◌∷◌, length, Option, Some, None, option_map, if◌then◌else◌, codes}, List.{list_all}, Str.{bytes_eq}}
 
 unfoldable pub is_strict : List ℕ → Bool
 is_strict word = bytes_eq word (codes "--strict")
@@ -30,8 +28,7 @@ pub data Task : Type 0 where
 abbrev pub is_digit : ℕ → Bool
 is_digit c = nat_le 48 c && nat_le c 57
 
--- one decimal digit or more
-abbrev pub is_index : List ℕ → Bool
+abbrev pub is_index : List ℕ → Bool  -- one decimal digit or more
 is_index word = not (length word == 0) && list_all is_digit word
 
 abbrev pub whole_task : List ℕ → Option Task
@@ -41,8 +38,7 @@ abbrev pub page_task : List ℕ → List ℕ → Option Task
 page_task command index =
     if is_index index then (if is_calls command then Some (Calls index) else if is_pbm command then Some (Pbm index) else None) else None
 
--- what is made of which file
-abbrev pub task_of : List (List ℕ) → Option (Task × List ℕ)
+abbrev pub task_of : List (List ℕ) → Option (Task × List ℕ)  -- what is made of which file
 task_of (command ∷ file ∷ []) = option_map (λ task. (task, file)) (whole_task command)
 task_of (command ∷ file ∷ index ∷ []) = option_map (λ task. (task, file)) (page_task command index)
 task_of _ = None

@@ -1,24 +1,12 @@
 -- Gray-scale images (T.88, Annex C): a value for each pixel, coded as bit planes from the highest on. The definition
 -- `gray_scale_image` takes the parameters of Table C.1 and the coded bytes, and gives the values, or an error.
-use Rattle.std.specs.Prelude.{ℕ, zero, suc, ◌+◌, ◌-◌, ◌*◌, ◌/◌, ◌%◌, nat_lt, Bool, false, ◌&&◌, ◌||◌, if◌then◌else◌, List, [], ◌∷◌, length, take, drop, map, Option, Result, Ok}
-use Rattle.std.specs.List.{range_with_len}
-use Rattle.jbig2_base.specs.Answer.{◌>>=◌, refuse_if}
-use Rattle.jbig2_base.specs.Grid.{Grid, pixel_at}
-use Rattle.jbig2_base.specs.declared.error.DecodeError.{DecodeError}
-use Rattle.jbig2_base.specs.declared.error.DecodeError.TheVariants.{Overflow}
-use Rattle.jbig2_base.specs.declared.error.OverflowError.TheVariants.{BitmapDimension}
+use Rattle.std.specs.{Prelude.{ℕ, zero, suc, ◌+◌, ◌-◌, ◌*◌, ◌/◌, ◌%◌, nat_lt, Bool, false, ◌&&◌, ◌||◌, if◌then◌else◌, List, [], ◌∷◌, length, take, drop, map, Option, Result, Ok}, List.{range_with_len}}
+use Rattle.jbig2_base.specs.{Answer.{◌>>=◌, refuse_if}, Grid.{Grid, pixel_at}, declared.error.{DecodeError.{DecodeError, TheVariants.{Overflow}}, OverflowError.TheVariants.{BitmapDimension}}}
 use Rattle.jbig2_coder.specs.Coder.{Context, initial_registers}
-use Rattle.jbig2_region.specs.Generic.{number_of}
-use Rattle.jbig2_region.specs.Raster.{Region, so_far, decoded_region, no_pixels, fresh_contexts}
-use Rattle.jbig2_region.specs.Skipping.{skipping_coding}
 use Rattle.jbig2_mmr.specs.T6.{differ, mmr_rows}
-use Rattle.jbig2_region.specs.Templates.{context_bits, left, right, template_pixels}
-use Rattle.jbig2_region.specs.declared.template.AdaptiveTemplatePixel.{AdaptiveTemplatePixel}
-use Rattle.jbig2_region.specs.declared.template.Template.{Template}
-use Rattle.jbig2_region.specs.declared.template.Template.TheVariants.{Template0, Template1}
+use Rattle.jbig2_region.specs.{Generic.{number_of}, Raster.{Region, so_far, decoded_region, no_pixels, fresh_contexts}, Skipping.{skipping_coding}, Templates.{context_bits, left, right, template_pixels}, declared.template.{AdaptiveTemplatePixel.{AdaptiveTemplatePixel}, Template.{Template, TheVariants.{Template0, Template1}}}}
 
--- What an image's coded bytes are decoded by (Table C.1).
-pub record GrayScale : Type 0 where
+pub record GrayScale : Type 0 where  -- what an image's coded bytes are decoded by (Table C.1)
   pub use_mmr : Bool
   pub bits_per_pixel : ℕ
   pub width : ℕ
@@ -59,8 +47,7 @@ planes_of p bytes =
     if p.use_mmr then mmr_planes p bytes p.bits_per_pixel
     else Ok (map (λ k. so_far p.width p.height (after_planes p bytes (k + 1)).pixels) (range_with_len 0 p.bits_per_pixel))
 
--- the exclusive or of the pixels of these planes at column x of row y
-abbrev pub parity : List Grid → ℕ → ℕ → Bool
+abbrev pub parity : List Grid → ℕ → ℕ → Bool  -- the exclusive or of the pixels of these planes at column x of row y
 parity [] x y = false
 parity (plane ∷ planes) x y = differ (pixel_at plane x y) (parity planes x y)
 

@@ -1,39 +1,17 @@
 -- The data of a halftone region segment up to its coded bytes (T.88, 7.4.5): region information, flags, and the grid's
 -- size, place and vector. The bytes give the header, and the coded bytes stand behind it.
-use Rattle.std.specs.Prelude.{ℕ, ◌/◌, ◌%◌, ◌==◌, nat_lt, Bool, ◌||◌, List, Result, Ok}
-use Rattle.std.specs.Int.{w8, w16, w32}
-use Rattle.jbig2_base.specs.Answer.{◌>>=◌, refuse_if}
-use Rattle.jbig2_base.specs.Fields.{number_at, signed_at}
-use Rattle.jbig2_base.specs.Operator.{operator_of}
-use Rattle.jbig2_base.specs.declared.error.DecodeError.{DecodeError}
-use Rattle.jbig2_base.specs.declared.error.DecodeError.TheVariants.{Overflow}
-use Rattle.jbig2_base.specs.declared.error.OverflowError.TheVariants.{GridDimension}
-use Rattle.jbig2_region.specs.RegionInfo.{region_info_at}
-use Rattle.jbig2_region.specs.Templates.{template_of}
-use Rattle.jbig2_region.specs.declared.region_info.RegionSegmentInfo.{RegionSegmentInfo}
-use Rattle.jbig2_halftone.specs.declared.halftone.header.HalftoneGridPositionAndSize.{HalftoneGridPositionAndSize}
-use Rattle.jbig2_halftone.specs.declared.halftone.header.HalftoneGridVector.{HalftoneGridVector}
-use Rattle.jbig2_halftone.specs.declared.halftone.header.HalftoneRegionFlags.{HalftoneRegionFlags}
-use Rattle.jbig2_halftone.specs.declared.halftone.header.HalftoneRegionHeader.{HalftoneRegionHeader}
+use Rattle.std.specs.{Prelude.{ℕ, ◌/◌, ◌%◌, ◌==◌, nat_lt, Bool, ◌||◌, List, Result, Ok}, Int.{w8, w16, w32}}
+use Rattle.jbig2_base.specs.{Answer.{◌>>=◌, refuse_if}, Fields.{number_at, signed_at}, Operator.{operator_of}, declared.error.{DecodeError.{DecodeError, TheVariants.{Overflow}}, OverflowError.TheVariants.{GridDimension}}}
+use Rattle.jbig2_region.specs.{RegionInfo.{region_info_at}, Templates.{template_of}, declared.region_info.RegionSegmentInfo.{RegionSegmentInfo}}
+use Rattle.jbig2_halftone.specs.declared.halftone.header.{HalftoneGridPositionAndSize.{HalftoneGridPositionAndSize}, HalftoneGridVector.{HalftoneGridVector}, HalftoneRegionFlags.{HalftoneRegionFlags}, HalftoneRegionHeader.{HalftoneRegionHeader}}
 
--- What a halftone region's coded bytes are decoded by.
-pub record HalftoneHeader : Type 0 where
+pub record HalftoneHeader : Type 0 where  -- what a halftone region's coded bytes are decoded by
   pub region_info : RegionSegmentInfo
   pub flags : HalftoneRegionFlags
   pub grid_position_and_size : HalftoneGridPositionAndSize
   pub grid_vector : HalftoneGridVector
   pub bytes : List ℕ
   pub strict : Bool
-
-abbrev pub header_view : HalftoneRegionHeader → HalftoneHeader
-header_view h = record {
-  region_info = h.region_info;
-  flags = h.flags;
-  grid_position_and_size = h.grid_position_and_size;
-  grid_vector = h.grid_vector;
-  bytes = h.bytes.now;
-  strict = h.strict;
-}
 
 -- the flags (7.4.5.1.1)
 unfoldable pub halftone_flags_at : List ℕ → Result (HalftoneRegionFlags × List ℕ) DecodeError

@@ -1,17 +1,9 @@
 -- What the step bounds of gray-scale images and halftone regions count (our own rule): reading the planes, taking the
 -- values out of them by lanes of eight pixels, and drawing the patterns.
 use Rattle.std.specs.Prelude.{ℕ, zero, suc, ◌≡◌, ◌≤◌, ◌+◌, ◌*◌, ◌/◌, ◌%◌, true, false, if◌then◌else◌, List, None, is_some}
-use Rattle.jbig2_base.specs.Combination.{WritesWithin, overlap, most_words}
-use Rattle.jbig2_base.specs.Counts.{Counts, KeepsLanes}
-use Rattle.jbig2_region.specs.Generic.{coding_of}
-use Rattle.jbig2_region.specs.Raster.{no_pixels}
-use Rattle.jbig2_region.specs.RunBytes.{coded_runs, row_loads, row_tests, row_words}
-use Rattle.jbig2_region.specs.Skipping.{kept_pixels, skipping_loads, skipping_words}
-use Rattle.jbig2_region.specs.Templates.{template_pixels}
-use Rattle.jbig2_halftone.specs.GrayScale.{GrayScale, nominal_pixels, after_planes}
-use Rattle.jbig2_halftone.specs.Halftone.{column_of, gray_params, row_of, skip_mask}
-use Rattle.jbig2_halftone.specs.HalftoneHeader.{HalftoneHeader}
-use Rattle.jbig2_halftone.specs.Patterns.{Patterns}
+use Rattle.jbig2_base.specs.{Combination.{WritesWithin, overlap, most_words}, Counts.{Counts, KeepsLanes}}
+use Rattle.jbig2_region.specs.{Generic.{coding_of}, Raster.{no_pixels}, RunBytes.{coded_runs, row_loads, row_tests, row_words}, Skipping.{kept_pixels, skipping_loads, skipping_words}, Templates.{template_pixels}}
+use Rattle.jbig2_halftone.specs.{GrayScale.{GrayScale, nominal_pixels, after_planes}, Halftone.{column_of, gray_params, row_of, skip_mask}, HalftoneHeader.{HalftoneHeader}, Patterns.{Patterns}}
 
 -- how many run bytes the highest planes have, where no pixel is skipped
 unfoldable pub plane_runs : GrayScale → List ℕ → ℕ → ℕ
@@ -67,8 +59,7 @@ cell_words h d k =
     overlap h.region_info.height d.height (row_of h (k / columns) (k % columns))
     * most_words (overlap h.region_info.width d.width (column_of h (k / columns) (k % columns)))
 
--- the same of n cells from cell k on
-unfoldable pub words_of_cells : HalftoneHeader → Patterns → ℕ → ℕ → ℕ
+unfoldable pub words_of_cells : HalftoneHeader → Patterns → ℕ → ℕ → ℕ  -- the same of n cells from cell k on
 words_of_cells h d k zero = 0
 words_of_cells h d k (suc n) = words_of_cells h d k n + cell_words h d (k + n)
 

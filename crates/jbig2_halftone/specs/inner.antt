@@ -1,4 +1,6 @@
 pub mod CellPlaces
+pub mod DictionaryViews
+pub mod HalftoneHeaderViews
 pub mod HalftoneViews
 pub mod NextValues
 pub mod PatternViews

@@ -1,17 +1,9 @@
 -- Two-dimensional coding of bitmaps by ITU-T T.6 (2.2), which T.88 calls MMR (6.2.6). Modes and runs say where a
 -- row's changing elements lie against the row above it, its reference row. `mmr_rows`, at the end, takes a width, a
 -- height and bytes, and gives the bitmap and how many bytes it took, or an error.
-use Rattle.std.specs.Prelude.{ℕ, zero, suc, ◌+◌, ◌-◌, ◌/◌, ◌%◌, ◌==◌, ℤ, pos, negsuc, ◌+ℤ◌, Bool, true, false, not, ◌&&◌, ◌||◌, nat_le, nat_lt, List, [], ◌∷◌, ◌++◌, length, take, drop, filter, slice_index_or, Option, Some, None, Result, Ok, Err, if◌then◌else◌}
-use Rattle.std.specs.List.{flat_map, list_all}
-use Rattle.jbig2_base.specs.Bits.{byte_bits, number_after}
-use Rattle.jbig2_base.specs.Grid.{Grid, grid_of}
-use Rattle.jbig2_base.specs.Search.{place_from}
-use Rattle.jbig2_base.specs.declared.error.DecodeError.{DecodeError}
-use Rattle.jbig2_base.specs.declared.error.DecodeError.TheVariants.{Region}
-use Rattle.jbig2_base.specs.declared.error.RegionError.TheVariants.{InvalidMmrData}
-use Rattle.jbig2_mmr.specs.declared.mmr.codes.Mode.{Mode}
-use Rattle.jbig2_mmr.specs.declared.mmr.codes.Mode.TheVariants.{Pass, Horizontal, Vertical}
-use Rattle.jbig2_mmr.specs.T6Codes.{modes, white_runs, black_runs}
+use Rattle.std.specs.{Prelude.{ℕ, zero, suc, ◌+◌, ◌-◌, ◌/◌, ◌%◌, ◌==◌, ℤ, pos, negsuc, ◌+ℤ◌, Bool, true, false, not, ◌&&◌, ◌||◌, nat_le, nat_lt, List, [], ◌∷◌, ◌++◌, length, take, drop, filter, slice_index_or, Option, Some, None, Result, Ok, Err, if◌then◌else◌}, List.{flat_map, list_all}}
+use Rattle.jbig2_base.specs.{Bits.{byte_bits, number_after}, Grid.{Grid, grid_of}, Search.{place_from}, declared.error.{DecodeError.{DecodeError, TheVariants.{Region}}, RegionError.TheVariants.{InvalidMmrData}}}
+use Rattle.jbig2_mmr.specs.{declared.mmr.codes.Mode.{Mode, TheVariants.{Pass, Horizontal, Vertical}}, T6Codes.{modes, white_runs, black_runs}}
 
 infixl 10 ◌>>=◌
 -- the next step, unless the last one was a fault
@@ -34,8 +26,7 @@ unfoldable pub read_code : {A : Type 0} → List (A × List ℕ) → List ℕ �
 read_code [] bits = None
 read_code (c ∷ cs) bits = if begins c.1 bits then Some (c.0, drop (length c.1) bits) else read_code cs bits
 
--- no word of the list begins another one
-unfoldable pub is_prefix_free : {A : Type 0} → List (A × List ℕ) → Bool
+unfoldable pub is_prefix_free : {A : Type 0} → List (A × List ℕ) → Bool  -- no word of the list begins another one
 is_prefix_free [] = true
 is_prefix_free (c ∷ cs) = list_all (λ d. not (begins c.1 d.1) && not (begins d.1 c.1)) cs && is_prefix_free cs
 
@@ -57,12 +48,10 @@ abbrev pub left_of : (ℕ → Bool) → ℕ → Bool
 left_of row zero = false
 left_of row (suc x) = row x
 
--- pixel x differs from its left neighbour
-unfoldable pub is_change : (ℕ → Bool) → ℕ → Bool
+unfoldable pub is_change : (ℕ → Bool) → ℕ → Bool  -- pixel x differs from its left neighbour
 is_change row x = differ (row x) (left_of row x)
 
--- and from the colour
-unfoldable pub is_change_from : (ℕ → Bool) → Bool → ℕ → Bool
+unfoldable pub is_change_from : (ℕ → Bool) → Bool → ℕ → Bool  -- and from the colour
 is_change_from row black x = is_change row x && differ (row x) black
 
 -- ---- one mode (2.2.2)
@@ -82,8 +71,7 @@ pub record Step : Type 0 where
 unfoldable pub b1_of : ℕ → (ℕ → Bool) → Head → ℕ
 b1_of w above h = place_from (is_change_from above h.black) (if h.begun then h.a0 + 1 else 0) w
 
--- b2: the next changing element right of b1 (2.2.1)
-unfoldable pub b2_of : ℕ → (ℕ → Bool) → Head → ℕ
+unfoldable pub b2_of : ℕ → (ℕ → Bool) → Head → ℕ  -- b2: the next changing element right of b1 (2.2.1)
 b2_of w above h = place_from (is_change above) (b1_of w above h + 1) w
 
 -- Pass: a0 moves under b2, and the colour stays.
@@ -99,8 +87,7 @@ after_runs w h bits = do
       let a2 = a1 + second.0 in
       if nat_le a2 w then Some (record { head = record { a0 = a2; begun = true; black = h.black }; added = a1 ∷ a2 ∷ []; left = second.1 }) else None
 
--- a place in the row that is not left of a0
-abbrev pub place_in : ℕ → ℕ → ℤ → Option ℕ
+abbrev pub place_in : ℕ → ℕ → ℤ → Option ℕ  -- a place in the row that is not left of a0
 place_in a0 w (pos x) = if nat_le a0 x && nat_le x w then Some x else None
 place_in a0 w (negsuc x) = None
 
@@ -115,8 +102,7 @@ after_mode w above h Pass bits = after_pass w above h bits
 after_mode w above h Horizontal bits = after_runs w h bits
 after_mode w above h (Vertical distance) bits = after_vertical w above h distance bits
 
--- the next mode (table 1), and what it does
-unfoldable pub next_step : ℕ → (ℕ → Bool) → Head → List ℕ → Option Step
+unfoldable pub next_step : ℕ → (ℕ → Bool) → Head → List ℕ → Option Step  -- the next mode (table 1), and what it does
 next_step w above h bits = do
   mode ← read_code modes bits
   after_mode w above h mode.0 mode.1
@@ -129,8 +115,7 @@ row_from (suc most) w above h changes bits =
     if nat_le w h.a0 then Some (changes, bits)
     else (next_step w above h bits >>= λ s. row_from most w above s.head (changes ++ s.added) s.left)
 
--- a row begins white, left of its first pixel (2.2.1)
-abbrev pub row_start : Head
+abbrev pub row_start : Head  -- a row begins white, left of its first pixel (2.2.1)
 row_start = record { a0 = 0; begun = false; black = false }
 
 abbrev pub row : ℕ → (ℕ → Bool) → List ℕ → Option (List ℕ × List ℕ)
@@ -143,8 +128,7 @@ black_at changes x = length (filter (λ c. nat_le c x) changes) % 2 == 1
 abbrev pub pixel_of : ℕ → List ℕ → ℕ → Bool
 pixel_of w changes x = nat_lt x w && black_at changes x
 
--- the end of block (EOFB; T.88, 6.2.6): 000000000001 twice
-unfoldable pub ends_block : List ℕ → Bool
+unfoldable pub ends_block : List ℕ → Bool  -- the end of block (EOFB; T.88, 6.2.6): 000000000001 twice
 ends_block bits = nat_le 24 (length bits) && (number_after 0 (take 24 bits) == 0x001001)
 
 -- ---- all rows: the whole ones, whether they are all, and the bits behind them: none at a fault
@@ -166,15 +150,13 @@ rows_from (suc n) w above done bits =
 abbrev pub bits_of : List ℕ → List ℕ
 bits_of bytes = flat_map byte_bits bytes
 
--- no width or no height: nothing is read
-unfoldable pub rows_of : ℕ → ℕ → List ℕ → Rows
+unfoldable pub rows_of : ℕ → ℕ → List ℕ → Rows  -- no width or no height: nothing is read
 rows_of w h bytes = if w == 0 || h == 0 then record { rows = []; whole = true; left = bits_of bytes } else rows_from h w [] [] (bits_of bytes)
 
 abbrev pub grid_of_rows : ℕ → ℕ → List (List ℕ) → Grid
 grid_of_rows w h rows = grid_of w h (λ x y. black_at (slice_index_or rows y []) x)
 
--- the bitmap, and the bytes that were used, a begun one whole
-pub record Decoded : Type 0 where
+pub record Decoded : Type 0 where  -- the bitmap, and the bytes that were used, a begun one whole
   pub grid : Grid
   pub used : ℕ
 

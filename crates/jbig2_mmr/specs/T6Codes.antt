@@ -1,22 +1,18 @@
 -- The code tables of ITU-T T.6 (tables 1 to 3): each line is a mode or the length of a run, and the code word that
 -- stands for it. `modes` lists the first, the lists of runs the others, to be compared with the tables line by line.
 use Rattle.std.specs.Prelude.{ℕ, ◌-◌, pos, ◌-ℤ◌, List, [], ◌∷◌, map, codes}
-use Rattle.jbig2_mmr.specs.declared.mmr.codes.Mode.{Mode}
-use Rattle.jbig2_mmr.specs.declared.mmr.codes.Mode.TheVariants.{Pass, Horizontal, Vertical}
+use Rattle.jbig2_mmr.specs.declared.mmr.codes.Mode.{Mode, TheVariants.{Pass, Horizontal, Vertical}}
 
--- the bits that a text of 0s and 1s spells
-abbrev pub word : List ℕ → List ℕ
+abbrev pub word : List ℕ → List ℕ  -- the bits that a text of 0s and 1s spells
 word text = map (λ c. c - 48) text
 
--- the vertical modes VR(n) and VL(n): a1 is n right of b1, or n left of it
-abbrev pub vertical_right : ℕ → Mode
+abbrev pub vertical_right : ℕ → Mode  -- the vertical modes VR(n) and VL(n): a1 is n right of b1, or n left of it
 vertical_right n = Vertical (pos n)
 
 abbrev pub vertical_left : ℕ → Mode
 vertical_left n = Vertical (pos 0 -ℤ pos n)
 
--- T.6, table 1 (two-dimensional codes)
-unfoldable pub modes : List (Mode × List ℕ)
+unfoldable pub modes : List (Mode × List ℕ)  -- T.6, table 1 (two-dimensional codes)
 modes =
     (Pass, word (codes "0001")) ∷ (Horizontal, word (codes "001")) ∷ (vertical_right 0, word (codes "1")) ∷
     (vertical_right 1, word (codes "011")) ∷ (vertical_right 2, word (codes "000011")) ∷ (vertical_right 3, word (codes "0000011")) ∷
@@ -32,8 +28,7 @@ longer_runs =
     (2560, word (codes "000000011111")) ∷
     []
 
--- T.6, tables 2 and 3 (terminating codes, then make-up codes), white
-unfoldable pub white_runs : List (ℕ × List ℕ)
+unfoldable pub white_runs : List (ℕ × List ℕ)  -- T.6, tables 2 and 3 (terminating codes, then make-up codes), white
 unfolding longer_runs
 white_runs =
     (0, word (codes "00110101")) ∷ (1, word (codes "000111")) ∷ (2, word (codes "0111")) ∷ (3, word (codes "1000")) ∷
@@ -61,8 +56,7 @@ white_runs =
     (1600, word (codes "010011010")) ∷ (1664, word (codes "011000")) ∷ (1728, word (codes "010011011")) ∷
     longer_runs
 
--- the same, black
-unfoldable pub black_runs : List (ℕ × List ℕ)
+unfoldable pub black_runs : List (ℕ × List ℕ)  -- the same, black
 unfolding longer_runs
 black_runs =
     (0, word (codes "0000110111")) ∷ (1, word (codes "010")) ∷ (2, word (codes "11")) ∷ (3, word (codes "10")) ∷

@@ -1,8 +1,10 @@
 -- A template takes of an array no pixels but the first so many.
 use Rattle.std.proofs.Common.{◌≡◌, false, true, List, [], ◌∷◌, take, refl}
 use Rattle.jbig2_region.specs.RefinementTemplates.{is_nominal as refinement_is_nominal}
-use Rattle.jbig2_region.specs.RefinementTemplates.{reference_pixels, region_pixels, two_pixels}
-use Rattle.jbig2_region.specs.Templates.{four_pixels, is_nominal, template_pixels}
+use Rattle.jbig2_region.specs.RefinementTemplates.{reference_pixels, region_pixels}
+use Rattle.jbig2_region.specs.inner.PixelArrays.{two_pixels}
+use Rattle.jbig2_region.specs.Templates.{is_nominal, template_pixels}
+use Rattle.jbig2_region.specs.inner.PixelArrays.{four_pixels}
 use Rattle.jbig2_region.specs.declared.template.AdaptiveTemplatePixel.{AdaptiveTemplatePixel}
 use Rattle.jbig2_region.specs.declared.template.RefinementTemplate.{RefinementTemplate}
 use Rattle.jbig2_region.specs.declared.template.RefinementTemplate.TheVariants as refinements

@@ -1,25 +1,9 @@
 -- Which rule the bytes break where a header or a region is refused (docs/FORMAT.md), a line for each error. A
 -- predicate `Breaks..` takes the bytes, or a header, and an error; its law ties the definition's errors to it.
-use Rattle.std.specs.Prelude.{◌≡◌, ◌<◌, ◌≤◌, ◌⊎◌, ℕ, ◌+◌, ◌-◌, ◌*◌, ◌/◌, ◌%◌, ◌^◌, ◌==◌, Bool, true, if◌then◌else◌, List, length, IfErr, ℤ, pos, ◌<ℤ◌, ◌≤ℤ◌}
-use Rattle.std.specs.Int.{w8, w32, cast_signed}
-use Rattle.jbig2_base.specs.Causes.{number_in}
-use Rattle.jbig2_base.specs.declared.error.DecodeError.{DecodeError}
-use Rattle.jbig2_base.specs.declared.error.DecodeError.TheVariants as errors
-use Rattle.jbig2_base.specs.declared.error.OverflowError.TheVariants.{BitmapDimension, ReferenceOffset}
-use Rattle.jbig2_base.specs.declared.error.ParseError.TheVariants.{UnexpectedEof}
-use Rattle.jbig2_base.specs.declared.error.RegionError.TheVariants.{InvalidCombinationOperator, InvalidDimension}
-use Rattle.jbig2_base.specs.declared.error.TemplateError.TheVariants.{InvalidAtPixel}
+use Rattle.std.specs.{Prelude.{◌≡◌, ◌<◌, ◌≤◌, ◌⊎◌, ℕ, ◌+◌, ◌-◌, ◌*◌, ◌/◌, ◌%◌, ◌^◌, ◌==◌, Bool, true, if◌then◌else◌, List, length, IfErr, ℤ, pos, ◌<ℤ◌, ◌≤ℤ◌}, Int.{w8, w32, cast_signed}}
+use Rattle.jbig2_base.specs.{Causes.{number_in}, declared.error.{DecodeError.{DecodeError, TheVariants as errors}, OverflowError.TheVariants.{BitmapDimension, ReferenceOffset}, ParseError.TheVariants.{UnexpectedEof}, RegionError.TheVariants.{InvalidCombinationOperator, InvalidDimension}, TemplateError.TheVariants.{InvalidAtPixel}}}
 use Rattle.jbig2_mmr.specs.Causes.{BreaksMmr}
-use Rattle.jbig2_region.specs.Generic.{generic_decoded}
-use Rattle.jbig2_region.specs.GenericHeader.{GenericHeader, generic_header_at, rows_at}
-use Rattle.jbig2_region.specs.Refinement.{offset, refined_decoded}
-use Rattle.jbig2_region.specs.RefinementHeader.{RefinementHeader, refinement_header_at}
-use Rattle.jbig2_region.specs.RefinementTemplates.{refinement_pixel_count, refinement_pixels_at}
-use Rattle.jbig2_region.specs.RegionInfo.{PlacedRegion, region_info_at}
-use Rattle.jbig2_region.specs.Templates.{adaptive_pixel_count, adaptive_pixels_at, template_of}
-use Rattle.jbig2_region.specs.declared.region_info.RegionSegmentInfo.{RegionSegmentInfo}
-use Rattle.jbig2_region.specs.declared.template.RefinementTemplate.{RefinementTemplate}
-use Rattle.jbig2_region.specs.declared.template.Template.{Template}
+use Rattle.jbig2_region.specs.{Generic.{generic_decoded}, GenericHeader.{GenericHeader, generic_header_at, rows_at}, Refinement.{offset, refined_decoded}, RefinementHeader.{RefinementHeader, refinement_header_at}, RefinementTemplates.{refinement_pixel_count, refinement_pixels_at}, RegionInfo.{PlacedRegion, region_info_at}, Templates.{adaptive_pixel_count, adaptive_pixels_at, template_of}, declared.{region_info.RegionSegmentInfo.{RegionSegmentInfo}, template.{RefinementTemplate.{RefinementTemplate}, Template.{Template}}}}
 
 -- ---- region information (7.4.1): the two sides and the place, four bytes each, and the flags
 abbrev pub BreaksRegionInfo : List ℕ → DecodeError → Type 0

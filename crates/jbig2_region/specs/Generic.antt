@@ -1,21 +1,13 @@
 -- Generic regions (T.88, 6.2): coded by the arithmetic coder in the contexts of a template, or by MMR. The header
 -- with the coded bytes gives the grid, and what the contexts have learned.
 use Rattle.std.specs.Prelude.{ℕ, ◌+◌, ◌*◌, Bool, false, if◌then◌else◌, List, [], ◌∷◌, map, Option, Some, None, pos, negsuc, ◌+ℤ◌, Result, Ok}
-use Rattle.jbig2_base.specs.Answer.{◌>>=◌}
-use Rattle.jbig2_base.specs.Grid.{Grid, pixel, pixel_at, bit_number}
-use Rattle.jbig2_base.specs.declared.error.DecodeError.{DecodeError}
+use Rattle.jbig2_base.specs.{Answer.{◌>>=◌}, Grid.{Grid, pixel, pixel_at, bit_number}, declared.error.DecodeError.{DecodeError}}
 use Rattle.jbig2_coder.specs.Coder.{Context, initial_registers}
-use Rattle.jbig2_region.specs.GenericHeader.{GenericHeader}
-use Rattle.jbig2_region.specs.Raster.{Coding, Region, so_far, decoded_region, no_pixels, fresh_contexts}
 use Rattle.jbig2_mmr.specs.T6.{mmr_rows, grid_of_rows, rows_of}
-pub use Rattle.jbig2_region.specs.RegionInfo.{PlacedRegion, region_view}
-use Rattle.jbig2_region.specs.RegionInfo.{placed}
-use Rattle.jbig2_region.specs.Templates.{context_bits, row_context, template_pixels}
-use Rattle.jbig2_region.specs.declared.template.AdaptiveTemplatePixel.{AdaptiveTemplatePixel}
-use Rattle.jbig2_region.specs.declared.template.Template.{Template}
+use Rattle.jbig2_region.specs.{GenericHeader.{GenericHeader}, Raster.{Coding, Region, so_far, decoded_region, no_pixels, fresh_contexts}, RegionInfo.{placed}, Templates.{context_bits, row_context, template_pixels}, declared.template.{AdaptiveTemplatePixel.{AdaptiveTemplatePixel}, Template.{Template}}}
+pub use Rattle.jbig2_region.specs.RegionInfo.{PlacedRegion}
 
--- the number that bits spell, bit 0 first
-abbrev pub number_of : List Bool → ℕ
+abbrev pub number_of : List Bool → ℕ  -- the number that bits spell, bit 0 first
 number_of [] = 0
 number_of (b ∷ bits) = bit_number b + 2 * number_of bits
 
@@ -61,8 +53,7 @@ generic_region h =
 unfoldable pub generic_grid : GenericHeader → Grid
 generic_grid h = so_far h.region_info.width h.region_info.height (generic_region h).pixels
 
--- by the arithmetic coder or by MMR (6.2.6)
-abbrev pub generic_answer : GenericHeader → Result Grid DecodeError
+abbrev pub generic_answer : GenericHeader → Result Grid DecodeError  -- by the arithmetic coder or by MMR (6.2.6)
 generic_answer h =
     if h.mmr then (mmr_rows h.strict h.region_info.width h.region_info.height h.bytes >>= λ rows. Ok rows.grid)
     else Ok (generic_grid h)

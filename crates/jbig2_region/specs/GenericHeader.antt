@@ -1,20 +1,9 @@
 -- The data of a generic region segment up to its coded bytes (T.88, 7.4.6): region information, flags and adaptive
 -- pixels. The bytes give the header, and the coded bytes stand behind it.
-use Rattle.std.specs.Prelude.{ℕ, ◌-◌, ◌/◌, ◌%◌, ◌≤◌, ◌==◌, nat_lt, Bool, true, false, ◌||◌, List, length, take, drop, Result, Ok}
-use Rattle.std.specs.Int.{w8, w32}
-use Rattle.jbig2_base.specs.Answer.{◌>>=◌, refuse_if}
-use Rattle.jbig2_base.specs.Fields.{number_at}
-use Rattle.jbig2_base.specs.declared.error.DecodeError.{DecodeError}
-use Rattle.jbig2_base.specs.declared.error.DecodeError.TheVariants as errors
-use Rattle.jbig2_base.specs.declared.error.OverflowError.TheVariants.{BitmapDimension}
-use Rattle.jbig2_base.specs.declared.error.RegionError.TheVariants.{InvalidDimension}
-use Rattle.jbig2_region.specs.RegionInfo.{region_info_at}
+use Rattle.std.specs.{Prelude.{ℕ, ◌-◌, ◌/◌, ◌%◌, ◌≤◌, ◌==◌, nat_lt, Bool, true, false, ◌||◌, List, length, take, drop, Result, Ok}, Int.{w8, w32}}
+use Rattle.jbig2_base.specs.{Answer.{◌>>=◌, refuse_if}, Fields.{number_at}, declared.error.{DecodeError.{DecodeError, TheVariants as errors}, OverflowError.TheVariants.{BitmapDimension}, RegionError.TheVariants.{InvalidDimension}}}
+use Rattle.jbig2_region.specs.{RegionInfo.{region_info_at}, Templates.{adaptive_pixel_count, takes_extended, template_of}, inner.PixelArrays.{is_extended, pixels_view}, declared.{generic.GenericRegionHeader.{GenericRegionHeader}, region_info.RegionSegmentInfo.{RegionSegmentInfo}, template.{Template.{Template}, AdaptiveTemplatePixel.{AdaptiveTemplatePixel}}}}
 unfoldable pub use Rattle.jbig2_region.specs.Templates.{FitsTemplate, adaptive_pixel_at, adaptive_pixels_at}
-use Rattle.jbig2_region.specs.Templates.{adaptive_pixel_count, is_extended, pixels_view, takes_extended, template_of}
-use Rattle.jbig2_region.specs.declared.generic.GenericRegionHeader.{GenericRegionHeader}
-use Rattle.jbig2_region.specs.declared.region_info.RegionSegmentInfo.{RegionSegmentInfo}
-use Rattle.jbig2_region.specs.declared.template.Template.{Template}
-use Rattle.jbig2_region.specs.declared.template.AdaptiveTemplatePixel.{AdaptiveTemplatePixel}
 
 pub record GenericHeader : Type 0 where
   pub region_info : RegionSegmentInfo
@@ -25,18 +14,6 @@ pub record GenericHeader : Type 0 where
   pub adaptive_template_pixels : List AdaptiveTemplatePixel
   pub bytes : List ℕ
   pub strict : Bool
-
-abbrev pub header_view : GenericRegionHeader → GenericHeader
-header_view h = record {
-  region_info = h.region_info;
-  mmr = h.mmr;
-  template = h.template;
-  extended = is_extended h.adaptive_template_pixels;
-  tpgdon = h.tpgdon;
-  adaptive_template_pixels = pixels_view h.mmr h.template h.adaptive_template_pixels;
-  bytes = h.bytes.now;
-  strict = h.strict;
-}
 
 -- the height and the coded bytes: with an unknown length the last four state the rows, at most the height (7.4.6.4)
 unfoldable pub rows_at : Bool → ℕ → List ℕ → Result (ℕ × List ℕ) DecodeError
@@ -71,8 +48,7 @@ generic_header_at unknown_length strict bytes = do
     pixels.1,
   )
 
--- what holds of every header that is read
-pub record IsParsed (h : GenericHeader) : Type 0 where
+pub record IsParsed (h : GenericHeader) : Type 0 where  -- what holds of every header that is read
   pub columns : h.region_info.width ≤ 65535
   pub rows : h.region_info.height ≤ 65535
   pub pixels : FitsTemplate h.extended h.template

@@ -62,8 +62,7 @@ first_pixels coding w h bytes start zero = start
 first_pixels coding w h bytes start (suc n) =
     after_pixel coding w h bytes (at_next coding w bytes (first_pixels coding w h bytes start n))
 
--- as pixel n of the raster finds it
-abbrev pub at_pixel : Coding → ℕ → ℕ → List ℕ → Region → ℕ → Region
+abbrev pub at_pixel : Coding → ℕ → ℕ → List ℕ → Region → ℕ → Region  -- as pixel n of the raster finds it
 at_pixel coding w h bytes start n = at_next coding w bytes (first_pixels coding w h bytes start n)
 
 abbrev pub no_pixels : Registers → List Context → Region

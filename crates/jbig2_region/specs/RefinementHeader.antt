@@ -1,19 +1,9 @@
 -- The data of a refinement region segment up to its coded bytes (T.88, 7.4.7): region information, flags and adaptive
 -- pixels. The bytes give the header, and the coded bytes stand behind it.
-use Rattle.std.specs.Prelude.{ℕ, ◌/◌, ◌%◌, ◌≤◌, ◌==◌, nat_lt, Bool, ◌||◌, List, Result, Ok}
-use Rattle.std.specs.Int.{w8}
-use Rattle.jbig2_base.specs.Answer.{◌>>=◌, refuse_if}
-use Rattle.jbig2_base.specs.Fields.{number_at}
-use Rattle.jbig2_base.specs.declared.error.DecodeError.{DecodeError}
-use Rattle.jbig2_base.specs.declared.error.DecodeError.TheVariants as errors
-use Rattle.jbig2_base.specs.declared.error.OverflowError.TheVariants.{BitmapDimension}
+use Rattle.std.specs.{Prelude.{ℕ, ◌/◌, ◌%◌, ◌≤◌, ◌==◌, nat_lt, Bool, ◌||◌, List, Result, Ok}, Int.{w8}}
+use Rattle.jbig2_base.specs.{Answer.{◌>>=◌, refuse_if}, Fields.{number_at}, declared.error.{DecodeError.{DecodeError, TheVariants as errors}, OverflowError.TheVariants.{BitmapDimension}}}
+use Rattle.jbig2_region.specs.{inner.PixelArrays.{two_pixels}, RegionInfo.{region_info_at}, declared.{generic_refinement.GenericRefinementRegionHeader.{GenericRefinementRegionHeader}, region_info.RegionSegmentInfo.{RegionSegmentInfo}, template.{AdaptiveTemplatePixel.{AdaptiveTemplatePixel}, RefinementTemplate.{RefinementTemplate}}}}
 unfoldable pub use Rattle.jbig2_region.specs.RefinementTemplates.{refinement_pixels_at, refinement_template_of}
-use Rattle.jbig2_region.specs.RefinementTemplates.{two_pixels}
-use Rattle.jbig2_region.specs.RegionInfo.{region_info_at}
-use Rattle.jbig2_region.specs.declared.generic_refinement.GenericRefinementRegionHeader.{GenericRefinementRegionHeader}
-use Rattle.jbig2_region.specs.declared.region_info.RegionSegmentInfo.{RegionSegmentInfo}
-use Rattle.jbig2_region.specs.declared.template.AdaptiveTemplatePixel.{AdaptiveTemplatePixel}
-use Rattle.jbig2_region.specs.declared.template.RefinementTemplate.{RefinementTemplate}
 
 pub record RefinementHeader : Type 0 where
   pub region_info : RegionSegmentInfo
@@ -21,15 +11,6 @@ pub record RefinementHeader : Type 0 where
   pub tpgron : Bool
   pub adaptive_template_pixels : List AdaptiveTemplatePixel
   pub bytes : List ℕ
-
-abbrev pub header_view : GenericRefinementRegionHeader → RefinementHeader
-header_view h = record {
-  region_info = h.region_info;
-  template = h.template;
-  tpgron = h.tpgron;
-  adaptive_template_pixels = two_pixels h.template h.adaptive_template_pixels;
-  bytes = h.bytes.now;
-}
 
 -- the header, and the coded bytes; neither side may pass 65535 (our own rule)
 unfoldable pub refinement_header_at : List ℕ → Result (RefinementHeader × List ℕ) DecodeError
@@ -49,7 +30,6 @@ refinement_header_at bytes = do
     pixels.1,
   )
 
--- what holds of every header that is read
-pub record IsRefinement (h : RefinementHeader) : Type 0 where
+pub record IsRefinement (h : RefinementHeader) : Type 0 where  -- what holds of every header that is read
   pub columns : h.region_info.width ≤ 65535
   pub rows : h.region_info.height ≤ 65535

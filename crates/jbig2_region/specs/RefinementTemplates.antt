@@ -1,12 +1,8 @@
 -- The templates of refinements (T.88, 6.3.5.3, Figures 12 and 13): the pixels of a context, bit 0 first, out of the
 -- reference and the region; the adaptive pixels; and the context of the decision that begins a row.
 use Rattle.std.specs.Prelude.{ℕ, ◌==◌, Bool, true, ◌&&◌, List, [], ◌∷◌, take, ℤ, pos, negsuc, Result, Ok, if◌then◌else◌}
-use Rattle.jbig2_base.specs.Answer.{◌>>=◌}
-use Rattle.jbig2_base.specs.declared.error.DecodeError.{DecodeError}
-use Rattle.jbig2_region.specs.Templates.{adaptive, free_pixel_at, lies_at}
-use Rattle.jbig2_region.specs.declared.template.AdaptiveTemplatePixel.{AdaptiveTemplatePixel}
-use Rattle.jbig2_region.specs.declared.template.RefinementTemplate.{RefinementTemplate}
-use Rattle.jbig2_region.specs.declared.template.RefinementTemplate.TheVariants.{Template0, Template1}
+use Rattle.jbig2_base.specs.{Answer.{◌>>=◌}, declared.error.DecodeError.{DecodeError}}
+use Rattle.jbig2_region.specs.{Templates.{adaptive, free_pixel_at, lies_at}, declared.template.{AdaptiveTemplatePixel.{AdaptiveTemplatePixel}, RefinementTemplate.{RefinementTemplate, TheVariants.{Template0, Template1}}}}
 
 abbrev pub refinement_template_of : ℕ → RefinementTemplate
 refinement_template_of n = if n == 0 then Template0 else Template1
@@ -15,8 +11,7 @@ refinement_template_of n = if n == 0 then Template0 else Template1
 abbrev pub apart : ℤ → ℤ → AdaptiveTemplatePixel
 apart x y = record { x = x; y = y }
 
--- how many bits a context's number has
-abbrev pub refinement_bits : RefinementTemplate → ℕ
+abbrev pub refinement_bits : RefinementTemplate → ℕ  -- how many bits a context's number has
 refinement_bits Template0 = 13
 refinement_bits Template1 = 10
 
@@ -43,8 +38,7 @@ abbrev pub refinement_row_context : RefinementTemplate → ℕ
 refinement_row_context Template0 = 0x0010
 refinement_row_context Template1 = 0x0008
 
--- how many adaptive pixels a template has (6.3.5.3)
-abbrev pub refinement_pixel_count : RefinementTemplate → ℕ
+abbrev pub refinement_pixel_count : RefinementTemplate → ℕ  -- how many adaptive pixels a template has (6.3.5.3)
 refinement_pixel_count Template0 = 2
 refinement_pixel_count Template1 = 0
 
@@ -60,7 +54,3 @@ refinement_pixels_at Template0 bytes = do
   second ← free_pixel_at first.1
   Ok (first.0 ∷ second.0 ∷ [], second.1)
 refinement_pixels_at Template1 bytes = Ok ([], bytes)
-
--- those of the code's array of two that a template has
-abbrev pub two_pixels : RefinementTemplate → List AdaptiveTemplatePixel → List AdaptiveTemplatePixel
-two_pixels template a = take (refinement_pixel_count template) a

@@ -1,13 +1,8 @@
 -- Generic regions of which pixels are skipped (T.88, 6.2.5.7, USESKIP). `skipping_coding` takes the template's pixels
 -- and the mask, and gives how such a region is coded without typical prediction. Behind it stand its steps.
-use Rattle.std.specs.Prelude.{◌≡◌, ℕ, ◌+◌, ◌*◌, ◌/◌, ◌%◌, ◌≤◌, not, List, Option, Some, None}
-use Rattle.std.specs.Borrow.{Bor}
-use Rattle.jbig2_base.specs.Counts.{Counts, KeepsLanes}
-use Rattle.jbig2_base.specs.Grid.{Grid}
-use Rattle.jbig2_region.specs.RunBytes.{how_many}
-use Rattle.jbig2_region.specs.Generic.{context_at, is_skipped, known_colour}
-use Rattle.jbig2_region.specs.Raster.{Coding}
-use Rattle.jbig2_region.specs.declared.template.AdaptiveTemplatePixel.{AdaptiveTemplatePixel}
+use Rattle.std.specs.{Prelude.{◌≡◌, ℕ, ◌+◌, ◌*◌, ◌/◌, ◌%◌, ◌≤◌, not, List, Option, Some, None}, Borrow.{Bor}}
+use Rattle.jbig2_base.specs.{Counts.{Counts, KeepsLanes}, Grid.{Grid}}
+use Rattle.jbig2_region.specs.{RunBytes.{how_many}, Generic.{context_at, is_skipped, known_colour}, Raster.{Coding}, declared.template.AdaptiveTemplatePixel.{AdaptiveTemplatePixel}}
 
 abbrev pub skipping_coding : List AdaptiveTemplatePixel → Option Grid → Coding
 skipping_coding pixels skip = record { context = context_at pixels; known = known_colour skip; row_context = None }

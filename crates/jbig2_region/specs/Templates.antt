@@ -1,24 +1,13 @@
 -- The templates of generic regions (T.88, 6.2.5.3, Figures 3 to 6, and the extended one): the pixels of a context,
 -- the adaptive ones among them and how a segment holds these, and the context of the decision that begins a row.
-use Rattle.std.specs.Prelude.{ℕ, ◌==◌, ◌≡◌, Bool, true, false, not, ◌&&◌, ◌||◌, ℤ, pos, negsuc, ◌-ℤ◌, int_lt, int_le, List, [], ◌∷◌, zero, suc, slice_index_or, take, if◌then◌else◌, Result, Ok}
-use Rattle.std.specs.Int.{w8}
-use Rattle.std.specs.Ordering.{int_eq}
-use Rattle.jbig2_base.specs.Answer.{◌>>=◌, refuse_if}
-use Rattle.jbig2_base.specs.Fields.{signed_at}
-use Rattle.jbig2_base.specs.declared.error.DecodeError.{DecodeError}
-use Rattle.jbig2_base.specs.declared.error.DecodeError.TheVariants as errors
-use Rattle.jbig2_base.specs.declared.error.TemplateError.TheVariants.{InvalidAtPixel}
-use Rattle.jbig2_region.specs.declared.template.AdaptiveTemplatePixel.{AdaptiveTemplatePixel}
-use Rattle.jbig2_region.specs.declared.template.Template.{Template}
-use Rattle.jbig2_region.specs.declared.template.Template.TheVariants.{Template0, Template1, Template2, Template3}
-use Rattle.jbig2_region.specs.declared.template.GenericTemplatePixels.{GenericTemplatePixels}
-use Rattle.jbig2_region.specs.declared.template.GenericTemplatePixels.TheVariants.{Regular, Extended}
+use Rattle.std.specs.{Prelude.{ℕ, ◌==◌, ◌≡◌, Bool, true, false, not, ◌&&◌, ◌||◌, ℤ, pos, negsuc, ◌-ℤ◌, int_lt, int_le, List, [], ◌∷◌, zero, suc, slice_index_or, take, if◌then◌else◌, Result, Ok}, Int.{w8}, Ordering.{int_eq}}
+use Rattle.jbig2_base.specs.{Answer.{◌>>=◌, refuse_if}, Fields.{signed_at}, declared.error.{DecodeError.{DecodeError, TheVariants as errors}, TemplateError.TheVariants.{InvalidAtPixel}}}
+use Rattle.jbig2_region.specs.declared.template.{AdaptiveTemplatePixel.{AdaptiveTemplatePixel}, Template.{Template, TheVariants.{Template0, Template1, Template2, Template3}}, GenericTemplatePixels.{GenericTemplatePixels, TheVariants.{Regular, Extended}}}
 
 abbrev pub template_of : ℕ → Template
 template_of n = if n == 0 then Template0 else if n == 1 then Template1 else if n == 2 then Template2 else Template3
 
--- how many bits a context's number has
-abbrev pub context_bits : Template → ℕ
+abbrev pub context_bits : Template → ℕ  -- how many bits a context's number has
 context_bits Template0 = 16
 context_bits Template1 = 13
 context_bits Template2 = 10
@@ -38,8 +27,7 @@ adaptive_pixel_count false true Template0 = 12
 adaptive_pixel_count false false Template0 = 4
 adaptive_pixel_count false extended template = 1
 
--- adaptive pixel k + 1
-abbrev pub adaptive : List AdaptiveTemplatePixel → ℕ → AdaptiveTemplatePixel
+abbrev pub adaptive : List AdaptiveTemplatePixel → ℕ → AdaptiveTemplatePixel  -- adaptive pixel k + 1
 adaptive pixels k = slice_index_or pixels k (right 0 0)
 
 -- The pixels of a template with these adaptive pixels, bit 0 of a context first, by whether it is the extended one,
@@ -115,29 +103,6 @@ abbrev pub takes_extended : Bool → Bool → Template → Bool
 takes_extended false true Template0 = true
 takes_extended _ _ _ = false
 
--- the extended template is template 0
-abbrev pub FitsTemplate : Bool → Template → Type 0
+abbrev pub FitsTemplate : Bool → Template → Type 0  -- the extended template is template 0
 FitsTemplate false template = Unit {0}
 FitsTemplate true template = template ≡ Template0
-
--- ---- the code's arrays, which hold four pixels or twelve: a region has the first so many of these
-abbrev pub four_pixels : Template → List AdaptiveTemplatePixel → List AdaptiveTemplatePixel
-four_pixels template a = take (adaptive_pixel_count false false template) a
-
-abbrev pub is_extended : GenericTemplatePixels → Bool
-is_extended (Regular a) = false
-is_extended (Extended a) = true
-
-abbrev pub pixels_view : Bool → Template → GenericTemplatePixels → List AdaptiveTemplatePixel
-pixels_view mmr template (Regular a) = take (adaptive_pixel_count mmr false template) a
-pixels_view mmr template (Extended a) = take (adaptive_pixel_count mmr true template) a
-
--- An array of so many pixels that begins with these. The others lie at (0, 0), and no template takes them.
-abbrev pub filled : ℕ → List AdaptiveTemplatePixel → List AdaptiveTemplatePixel
-filled zero a = []
-filled (suc count) [] = right 0 0 ∷ filled count []
-filled (suc count) (first ∷ others) = first ∷ filled count others
-
-abbrev pub IsFilled : GenericTemplatePixels → List AdaptiveTemplatePixel → Type 0
-IsFilled (Regular a) pixels = a ≡ filled 4 pixels
-IsFilled (Extended a) pixels = a ≡ filled 12 pixels

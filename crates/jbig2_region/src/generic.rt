@@ -4,10 +4,12 @@ ghost use Rattle.jbig2_base.specs.Answer.{Answers, Gives, Leaves};
 ghost use Rattle.jbig2_base.specs.Bits.{IsAligned};
 ghost use Rattle.jbig2_base.specs.Parsing.{Parses};
 ghost use Rattle.jbig2_region.specs.Generic.{contexts_after, generic_answer, generic_decoded, refused_grid};
-ghost use Rattle.jbig2_region.specs.RegionInfo.{IsWhiteFor, region_view};
+ghost use Rattle.jbig2_region.specs.RegionInfo.{IsWhiteFor};
+ghost use Rattle.jbig2_region.specs.inner.RegionViews.{region_view};
 ghost use Rattle.jbig2_region.specs.inner.Layouts.{CountsGeneric};
-ghost use Rattle.jbig2_region.specs.GenericHeader.{header_view, rows_at, generic_header_at, IsParsed};
-ghost use Rattle.jbig2_region.specs.Templates.{IsFilled};
+ghost use Rattle.jbig2_region.specs.GenericHeader.{rows_at, generic_header_at, IsParsed};
+ghost use Rattle.jbig2_region.specs.inner.GenericViews.{header_view};
+ghost use Rattle.jbig2_region.specs.inner.PixelArrays.{IsFilled};
 ghost use Rattle.jbig2_base.specs.Causes.{HaveCauses};
 ghost use Rattle.jbig2_region.specs.Causes.{BreaksGeneric, BreaksGenericHeader, BreaksRows};
 

@@ -8,7 +8,8 @@ ghost use Rattle.jbig2_region.specs.Generic.{context_at, coding_of, white_if_ski
 ghost use Rattle.jbig2_region.specs.Skipping.{skip_of};
 ghost use Rattle.jbig2_region.specs.inner.Layouts.{CountsCoded, read_pixels};
 ghost use Rattle.jbig2_region.specs.RunBytes.{CountsRegion};
-ghost use Rattle.jbig2_region.specs.Templates.{FitsTemplate, context_bits, is_extended, is_nominal, pixels_view, template_pixels};
+ghost use Rattle.jbig2_region.specs.Templates.{FitsTemplate, context_bits, is_nominal, template_pixels};
+ghost use Rattle.jbig2_region.specs.inner.PixelArrays.{is_extended, pixels_view};
 
 use crate::generic_kernel::decode_layout;
 use crate::raster::{PixelCoding, Row, decode_region, pixel_at};

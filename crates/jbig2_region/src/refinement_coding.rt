@@ -8,7 +8,8 @@ ghost use Rattle.jbig2_region.specs.RunBytes.{refinement_loads};
 ghost use Rattle.jbig2_region.specs.inner.Holds.{DecodesRegion, IsReady};
 ghost use Rattle.jbig2_region.specs.inner.RefinementViews.{reference_view};
 ghost use Rattle.jbig2_region.specs.Refinement.{nine, common_colour, reference_pixel, refinement_coding};
-ghost use Rattle.jbig2_region.specs.RefinementTemplates.{refinement_bits, two_pixels};
+ghost use Rattle.jbig2_region.specs.RefinementTemplates.{refinement_bits};
+ghost use Rattle.jbig2_region.specs.inner.PixelArrays.{two_pixels};
 
 use crate::generic_coding::context_at;
 use crate::generic_refinement::ReferenceBitmap;

@@ -2,7 +2,8 @@
 ghost use Rattle.std.specs.Prelude.{◌≡◌};
 ghost use Rattle.jbig2_base.specs.Bits.{IsAligned};
 ghost use Rattle.jbig2_base.specs.Parsing.{Parses};
-ghost use Rattle.jbig2_region.specs.RegionInfo.{placed, region_info_at, region_view};
+ghost use Rattle.jbig2_region.specs.RegionInfo.{placed, region_info_at};
+ghost use Rattle.jbig2_region.specs.inner.RegionViews.{region_view};
 ghost use Rattle.jbig2_base.specs.Causes.{HaveCauses};
 ghost use Rattle.jbig2_region.specs.Causes.{BreaksRegionInfo};
 

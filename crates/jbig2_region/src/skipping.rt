@@ -2,7 +2,8 @@
 ghost use Rattle.std.specs.Prelude.{◌≡◌, false, true};
 ghost use Rattle.jbig2_region.specs.inner.Holds.{DecodesRegion, IsReady};
 ghost use Rattle.jbig2_region.specs.Skipping.{CountsSkipping, skipping_coding, skip_of};
-ghost use Rattle.jbig2_region.specs.Templates.{context_bits, four_pixels, is_nominal, template_pixels};
+ghost use Rattle.jbig2_region.specs.Templates.{context_bits, is_nominal, template_pixels};
+ghost use Rattle.jbig2_region.specs.inner.PixelArrays.{four_pixels};
 
 mod rows;
 

@@ -1,7 +1,6 @@
 -- The words of a run (our own rule): none for the worked rows, row and a name for one of them, or lists. `is_run` takes
 -- the words and tells whether they are one of these.
-use Rattle.std.specs.Prelude.{ℕ, Bool, true, false, List, [], ◌∷◌, codes}
-use Rattle.std.specs.Str.{bytes_eq}
+use Rattle.std.specs.{Prelude.{ℕ, Bool, true, false, List, [], ◌∷◌, codes}, Str.{bytes_eq}}
 
 unfoldable pub is_lists : List ℕ → Bool
 is_lists word = bytes_eq word (codes "lists")

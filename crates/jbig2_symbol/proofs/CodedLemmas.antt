@@ -8,7 +8,8 @@ use Rattle.jbig2_coder.specs.Coder.{Coder, Context, Registers}
 use Rattle.jbig2_region.specs.inner.Holds.{Holds}
 use Rattle.jbig2_region.specs.Raster.{Coding, Region, so_far, decoded_region, no_pixels}
 use Rattle.jbig2_region.specs.Generic.{coding_of}
-use Rattle.jbig2_region.specs.Templates.{filled, four_pixels, template_pixels}
+use Rattle.jbig2_region.specs.Templates.{template_pixels}
+use Rattle.jbig2_region.specs.inner.PixelArrays.{filled, four_pixels}
 use Rattle.jbig2_region.specs.declared.template.AdaptiveTemplatePixel.{AdaptiveTemplatePixel}
 use Rattle.jbig2_region.specs.declared.template.Template.{Template}
 use Rattle.jbig2_symbol.specs.SymbolBitmaps.{coded_symbol}

@@ -1,6 +1,7 @@
 -- Adaptive pixels that are filled up to four.
 use Rattle.std.proofs.Common.{◌≡◌, false, List, [], ◌∷◌, take, refl}
-use Rattle.jbig2_region.specs.Templates.{adaptive, filled, four_pixels, right, template_pixels}
+use Rattle.jbig2_region.specs.Templates.{adaptive, right, template_pixels}
+use Rattle.jbig2_region.specs.inner.PixelArrays.{filled, four_pixels}
 use Rattle.jbig2_region.specs.declared.template.AdaptiveTemplatePixel.{AdaptiveTemplatePixel}
 use Rattle.jbig2_region.specs.declared.template.Template.{Template}
 use Rattle.jbig2_region.specs.declared.template.Template.TheVariants.{Template0, Template1, Template2, Template3}

@@ -1,38 +1,12 @@
 -- Which rule is broken where a symbol dictionary is refused (T.88, 6.5 and 7.4.2; docs/FORMAT.md, 11), a line an error.
 -- Errors of steps with laws of their own stand as the step's own (`IsOf`). A law `..ReadingsHaveCauses` ties the definition to it.
-use Rattle.std.specs.Prelude.{◌≡◌, ◌≢◌, ◌⊎◌, ◌<◌, ◌≤◌, ℕ, zero, suc, ◌+◌, ◌-◌, ◌*◌, ◌/◌, ◌%◌, ◌==◌, max, ◌&&◌, Bool, false, IsTrue, IsFalse, if◌then◌else◌, List, [], ◌∷◌, ◌++◌, length, take, drop, sum, slice_get, Option, Some, None, Result, Ok, IfErr, ℤ, pos, negsuc, ◌+ℤ◌}
-use Rattle.std.specs.Int.{w16, w32}
-use Rattle.jbig2_base.specs.Bits.{Place, aligned, bits_left}
-use Rattle.jbig2_base.specs.Causes.{BreaksSides, InSteps, IsOf, number_in}
-use Rattle.jbig2_base.specs.Grid.{Grid, bit_number}
-use Rattle.jbig2_base.specs.declared.error.DecodeError.{DecodeError}
-use Rattle.jbig2_base.specs.declared.error.DecodeError.TheVariants as errors
-use Rattle.jbig2_base.specs.declared.error.HuffmanError.TheVariants as huffman
-use Rattle.jbig2_base.specs.declared.error.OverflowError.TheVariants.{SymbolCount, BitmapDimension}
-use Rattle.jbig2_base.specs.declared.error.ParseError.TheVariants.{UnexpectedEof}
-use Rattle.jbig2_base.specs.declared.error.RegionError.TheVariants.{InvalidMmrData}
-use Rattle.jbig2_base.specs.declared.error.SymbolError.TheVariants.{Invalid, NoSymbols, OutOfRange, TooManySymbols, UnexpectedOob}
-use Rattle.jbig2_base.specs.declared.error.TemplateError.TheVariants.{InvalidAtPixel}
-use Rattle.jbig2_coder.specs.PrefixCode.{Member}
-use Rattle.jbig2_coder.specs.declared.integer_procedures.IntegerProcedure.TheVariants.{Iaai}
+use Rattle.std.specs.{Prelude.{◌≡◌, ◌≢◌, ◌⊎◌, ◌<◌, ◌≤◌, ℕ, zero, suc, ◌+◌, ◌-◌, ◌*◌, ◌/◌, ◌%◌, ◌==◌, max, ◌&&◌, Bool, false, IsTrue, IsFalse, if◌then◌else◌, List, [], ◌∷◌, ◌++◌, length, take, drop, sum, slice_get, Option, Some, None, Result, Ok, IfErr, ℤ, pos, negsuc, ◌+ℤ◌}, Int.{w16, w32}}
+use Rattle.jbig2_base.specs.{Bits.{Place, aligned, bits_left}, Causes.{BreaksSides, InSteps, IsOf, number_in}, Grid.{Grid, bit_number}, declared.error.{DecodeError.{DecodeError, TheVariants as errors}, HuffmanError.{TheVariants as huffman}, OverflowError.TheVariants.{SymbolCount, BitmapDimension}, ParseError.TheVariants.{UnexpectedEof}, RegionError.TheVariants.{InvalidMmrData}, SymbolError.TheVariants.{Invalid, NoSymbols, OutOfRange, TooManySymbols, UnexpectedOob}, TemplateError.TheVariants.{InvalidAtPixel}}}
+use Rattle.jbig2_coder.specs.{PrefixCode.{Member}, declared.integer_procedures.IntegerProcedure.TheVariants.{Iaai}}
 use Rattle.jbig2_mmr.specs.T6.{rows_of}
 use Rattle.jbig2_region.specs.Templates.{adaptive_pixel_count, adaptive_pixels_at, template_of}
-use Rattle.jbig2_text.specs.Causes.{Behind}
-use Rattle.jbig2_text.specs.CausesOfRegions.{RefusesValue, coder_causes, prefix_causes}
-use Rattle.jbig2_text.specs.CausesOfText.{BreaksInstances, NamesNone, ReadingCauses}
-use Rattle.jbig2_text.specs.Refining.{Refining}
-use Rattle.jbig2_text.specs.Text.{Readings, TextParams}
-use Rattle.jbig2_text.specs.TextCoding.{Coded, Prefixed, by_coder, by_prefix_codes, next_id}
-use Rattle.jbig2_symbol.specs.Exports.{export_runs, exported, exports, next_run}
-use Rattle.jbig2_symbol.specs.HeightClasses.{drawn_class, height_class, new_symbols, next_width, symbols_from, widths_from}
-use Rattle.jbig2_symbol.specs.SymbolBitmaps.{aggregate_params, coded_aggregate, coded_symbol, collective_bitmap, id_bits, id_codes, instance_count, plain_id, prefixed_aggregate, prefixed_at, raw_stride, symbols_cut}
-use Rattle.jbig2_symbol.specs.SymbolCoding.{classes_by_coder, classes_by_prefix_codes, coded_bitmap, coder_begun, collective_class, prefix_codes_begun, symbols_by_coder, symbols_by_prefix_codes}
-use Rattle.jbig2_symbol.specs.SymbolHeader.{SymbolHeader, symbol_header_at}
-use Rattle.jbig2_symbol.specs.SymbolReading.{BitmapContexts, ClassReadings, SymbolInput, SymbolReadings, SymbolState, by_procedure, by_table, first_contexts, is_refinement_template, is_template, symbol_tables}
-use Rattle.jbig2_symbol.specs.Symbols.{symbols_decoded}
-use Rattle.jbig2_symbol.specs.declared.symbol.header.HuffmanTableSelection.{HuffmanTableSelection}
-use Rattle.jbig2_symbol.specs.declared.symbol.header.HuffmanTableSelection.TheVariants.{UserSupplied}
-use Rattle.jbig2_symbol.specs.declared.symbol.header.SymbolDictionaryFlags.{SymbolDictionaryFlags}
+use Rattle.jbig2_text.specs.{Causes.{Behind}, CausesOfRegions.{RefusesValue, coder_causes, prefix_causes}, CausesOfText.{BreaksInstances, NamesNone, ReadingCauses}, Refining.{Refining}, Text.{Readings, TextParams}, TextCoding.{Coded, Prefixed, by_coder, by_prefix_codes, next_id}}
+use Rattle.jbig2_symbol.specs.{Exports.{export_runs, exported, exports, next_run}, HeightClasses.{drawn_class, height_class, new_symbols, next_width, symbols_from, widths_from}, SymbolBitmaps.{aggregate_params, coded_aggregate, coded_symbol, collective_bitmap, id_bits, id_codes, instance_count, plain_id, prefixed_aggregate, prefixed_at, raw_stride, symbols_cut}, SymbolCoding.{classes_by_coder, classes_by_prefix_codes, coded_bitmap, coder_begun, collective_class, prefix_codes_begun, symbols_by_coder, symbols_by_prefix_codes}, SymbolHeader.{SymbolHeader, symbol_header_at}, SymbolReading.{BitmapContexts, ClassReadings, SymbolInput, SymbolReadings, SymbolState, by_procedure, by_table, first_contexts, is_refinement_template, is_template, symbol_tables}, Symbols.{symbols_decoded}, declared.symbol.header.{HuffmanTableSelection.{HuffmanTableSelection, TheVariants.{UserSupplied}}, SymbolDictionaryFlags.{SymbolDictionaryFlags}}}
 
 -- where the numbers of exported and of new symbols stand, behind the adaptive pixels of symbols and of refinements
 abbrev pub counts_place : ℕ → ℕ
@@ -48,8 +22,7 @@ BreaksSymbolFields flags bytes (errors.Template InvalidAtPixel) = (flags % 2 ≢
 BreaksSymbolFields flags bytes (errors.Overflow SymbolCount) = (1048576 < number_in w32 (counts_place flags) bytes) ⊎ (1048576 < number_in w32 (counts_place flags + 4) bytes)
 BreaksSymbolFields flags bytes _ = ⊥
 
--- how many custom tables a selection takes
-abbrev pub taken_by : HuffmanTableSelection → ℕ
+abbrev pub taken_by : HuffmanTableSelection → ℕ  -- how many custom tables a selection takes
 taken_by UserSupplied = 1
 taken_by _ = 0
 
@@ -91,8 +64,7 @@ BreaksExports r d grids s e =
 abbrev pub ExportsHaveCauses : {S : Type 0} → ClassReadings S → Type 0
 ExportsHaveCauses {S} r = (d : SymbolInput) (grids : List Grid) (s : S) → IfErr (exports r d grids s) (BreaksExports r d grids s)
 
--- a number outside 32 bits
-abbrev pub IsNoSize : ℤ → Type 0
+abbrev pub IsNoSize : ℤ → Type 0  -- a number outside 32 bits
 IsNoSize (pos n) = 4294967296 ≤ n
 IsNoSize (negsuc n) = Unit {0}
 
@@ -240,8 +212,7 @@ BreaksDictionary c r d s e =
     ((k : ℕ) × BreaksClassAfter k c r d 0 0 [] s e)
     ⊎ Behind (new_symbols r d s) (λ new. BreaksExports r d (d.symbols ++ new.0) new.1 e)
 
--- The codes of the ids are never crowded, so they are never refused.
-abbrev pub IdCodesAreThere : Type 0
+abbrev pub IdCodesAreThere : Type 0  -- the codes of the ids are never crowded, so they are never refused
 IdCodesAreThere = (h : SymbolHeader) (symbols : ℕ) → IfErr (id_codes h symbols) (λ e. ⊥)
 
 -- Its contexts, its tables, and what is decoded by them in the coding that the header names.

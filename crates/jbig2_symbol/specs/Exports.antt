@@ -1,12 +1,7 @@
 -- Which symbols a dictionary exports (T.88, 6.5.10): runs of symbols that are left out and that are exported, by turns,
 -- over those that it refers to and the new ones. `exports` gives the exported symbols and the state behind the runs.
 use Rattle.std.specs.Prelude.{ℕ, zero, suc, ◌+◌, ◌-◌, ◌%◌, ◌==◌, nat_le, nat_lt, not, ◌&&◌, if◌then◌else◌, List, [], ◌∷◌, length, Result, Ok}
-use Rattle.jbig2_base.specs.Answer.{◌>>=◌, refuse_if}
-use Rattle.jbig2_base.specs.Grid.{Grid, bit_number}
-use Rattle.jbig2_base.specs.declared.error.DecodeError.{DecodeError}
-use Rattle.jbig2_base.specs.declared.error.DecodeError.TheVariants.{Huffman, Symbol}
-use Rattle.jbig2_base.specs.declared.error.HuffmanError.TheVariants.{InvalidCode, UnexpectedOob}
-use Rattle.jbig2_base.specs.declared.error.SymbolError.TheVariants.{Invalid, NoSymbols, OutOfRange}
+use Rattle.jbig2_base.specs.{Answer.{◌>>=◌, refuse_if}, Grid.{Grid, bit_number}, declared.error.{DecodeError.{DecodeError, TheVariants.{Huffman, Symbol}}, HuffmanError.TheVariants.{InvalidCode, UnexpectedOob}, SymbolError.TheVariants.{Invalid, NoSymbols, OutOfRange}}}
 use Rattle.jbig2_text.specs.TextCoding.{in_band}
 use Rattle.jbig2_symbol.specs.SymbolReading.{ClassReadings, SymbolInput, not_negative}
 

@@ -1,19 +1,11 @@
 -- Symbol dictionaries (T.88, 6.5): the header with the coded bytes, the symbols and tables that the dictionary refers to
 -- and the contexts that another has kept give the symbols that it exports, and the contexts that it keeps itself.
 use Rattle.std.specs.Prelude.{◌++◌, if◌then◌else◌, List, length, Option, Some, None, Result, Ok}
-use Rattle.jbig2_base.specs.Answer.{◌>>=◌}
-use Rattle.jbig2_base.specs.Grid.{Grid}
-use Rattle.jbig2_base.specs.declared.error.DecodeError.{DecodeError}
+use Rattle.jbig2_base.specs.{Answer.{◌>>=◌}, Grid.{Grid}, declared.error.DecodeError.{DecodeError}}
 use Rattle.jbig2_coder.specs.PrefixCode.{Member}
-use Rattle.jbig2_symbol.specs.SymbolBitmaps.{id_codes}
-use Rattle.jbig2_symbol.specs.Exports.{exports}
-use Rattle.jbig2_symbol.specs.HeightClasses.{new_symbols}
-use Rattle.jbig2_symbol.specs.SymbolCoding.{classes_by_coder, classes_by_prefix_codes, coder_begun, prefix_codes_begun}
-use Rattle.jbig2_symbol.specs.SymbolHeader.{SymbolHeader}
-use Rattle.jbig2_symbol.specs.SymbolReading.{BitmapContexts, ClassReadings, SymbolContexts, SymbolInput, SymbolState, first_contexts, learned, symbol_tables}
+use Rattle.jbig2_symbol.specs.{SymbolBitmaps.{id_codes}, Exports.{exports}, HeightClasses.{new_symbols}, SymbolCoding.{classes_by_coder, classes_by_prefix_codes, coder_begun, prefix_codes_begun}, SymbolHeader.{SymbolHeader}, SymbolReading.{BitmapContexts, ClassReadings, SymbolContexts, SymbolInput, SymbolState, first_contexts, learned, symbol_tables}}
 
--- A dictionary: the symbols that it exports, and the contexts that it keeps.
-pub record Symbols : Type 0 where
+pub record Symbols : Type 0 where  -- a dictionary: the symbols that it exports, and the contexts that it keeps
   pub exported : List Grid
   pub kept : Option BitmapContexts
 

@@ -5,8 +5,9 @@ use Rattle.jbig2_coder.specs.Coder.{Coder, Context, Registers}
 use Rattle.jbig2_region.specs.inner.Holds.{Holds}
 use Rattle.jbig2_region.specs.Raster.{Coding, decoded_region, no_pixels}
 use Rattle.jbig2_region.specs.Refinement.{Reference, refinement_coding}
-use Rattle.jbig2_region.specs.RefinementTemplates.{two_pixels}
-use Rattle.jbig2_region.specs.Templates.{adaptive, filled}
+use Rattle.jbig2_region.specs.inner.PixelArrays.{two_pixels}
+use Rattle.jbig2_region.specs.Templates.{adaptive}
+use Rattle.jbig2_region.specs.inner.PixelArrays.{filled}
 use Rattle.jbig2_region.specs.declared.template.AdaptiveTemplatePixel.{AdaptiveTemplatePixel}
 use Rattle.jbig2_region.specs.declared.template.RefinementTemplate.{RefinementTemplate}
 use Rattle.jbig2_region.specs.declared.template.RefinementTemplate.TheVariants.{Template0, Template1}

@@ -1,19 +1,9 @@
 -- Which rule the input breaks where the header of a text region is refused (docs/FORMAT.md), a line for each error. A
 -- predicate `Breaks..` takes the bytes, or a place in them, and an error; its law ties the definition's errors to it.
-use Rattle.std.specs.Prelude.{◌≡◌, ◌<◌, ◌⊎◌, ℕ, ◌+◌, ◌/◌, ◌%◌, ◌==◌, Bool, ◌&&◌, if◌then◌else◌, List, [], length, drop, Result, Ok, Err, IfErr, ℤ, pos, negsuc}
-use Rattle.std.specs.Int.{w8, w16}
-use Rattle.jbig2_base.specs.Answer.{◌>>=◌}
-use Rattle.jbig2_base.specs.Bits.{Place, bits_left, start_of}
-use Rattle.jbig2_base.specs.Causes.{number_in}
-use Rattle.jbig2_base.specs.declared.error.DecodeError.{DecodeError}
-use Rattle.jbig2_base.specs.declared.error.DecodeError.TheVariants.{Huffman, Parse, Region, Unsupported}
-use Rattle.jbig2_base.specs.declared.error.HuffmanError.TheVariants.{InvalidCode}
-use Rattle.jbig2_base.specs.declared.error.ParseError.TheVariants.{UnexpectedEof}
-use Rattle.jbig2_base.specs.declared.error.RegionError.TheVariants.{InvalidCombinationOperator}
-use Rattle.jbig2_coder.specs.Causes.{AreCrowded}
-use Rattle.jbig2_coder.specs.PrefixCode.{Member, decoded_value, no_oob}
-use Rattle.jbig2_text.specs.SymbolCodes.{lines_from, runcodes_at, runs_at, short_lengths, symbol_codes_from, value_at}
-use Rattle.jbig2_text.specs.TextHeader.{text_header_at}
+use Rattle.std.specs.{Prelude.{◌≡◌, ◌<◌, ◌⊎◌, ℕ, ◌+◌, ◌/◌, ◌%◌, ◌==◌, Bool, ◌&&◌, if◌then◌else◌, List, [], length, drop, Result, Ok, Err, IfErr, ℤ, pos, negsuc}, Int.{w8, w16}}
+use Rattle.jbig2_base.specs.{Answer.{◌>>=◌}, Bits.{Place, bits_left, start_of}, Causes.{number_in}, declared.error.{DecodeError.{DecodeError, TheVariants.{Huffman, Parse, Region, Unsupported}}, HuffmanError.TheVariants.{InvalidCode}, ParseError.TheVariants.{UnexpectedEof}, RegionError.TheVariants.{InvalidCombinationOperator}}}
+use Rattle.jbig2_coder.specs.{Causes.{AreCrowded}, PrefixCode.{Member, decoded_value, no_oob}}
+use Rattle.jbig2_text.specs.{SymbolCodes.{lines_from, runcodes_at, runs_at, short_lengths, symbol_codes_from, value_at}, TextHeader.{text_header_at}}
 
 -- this is answered, and of the answer it holds
 abbrev pub Behind : {A : Type 0} → Result A DecodeError → (A → Type 0) → Type 0

@@ -1,32 +1,16 @@
 -- Which rule the input breaks where a text region is refused (docs/FORMAT.md): its tables, and its numbers as they are
 -- coded. A predicate `Breaks..` takes the header, what it refers to and an error, and its law ties the errors to it.
 use Rattle.std.specs.Prelude.{◌≡◌, ◌≢◌, ◌<◌, ◌≤◌, ◌⊎◌, ℕ, ◌+◌, ◌==◌, nat_lt, Bool, if◌then◌else◌, ℤ, pos, negsuc, List, length, None, Err, IfErr}
-use Rattle.jbig2_base.specs.Bits.{Place, aligned, bits_left}
-use Rattle.jbig2_base.specs.Causes.{BreaksSides}
-use Rattle.jbig2_base.specs.Grid.{Grid}
-use Rattle.jbig2_base.specs.declared.error.DecodeError.{DecodeError}
-use Rattle.jbig2_base.specs.declared.error.DecodeError.TheVariants.{Huffman, Parse, Symbol}
-use Rattle.jbig2_base.specs.declared.error.HuffmanError.TheVariants.{InvalidCode, InvalidSelection, MissingTables}
-use Rattle.jbig2_base.specs.declared.error.ParseError.TheVariants.{UnexpectedEof}
-use Rattle.jbig2_base.specs.declared.error.SymbolError.TheVariants.{UnexpectedOob}
-use Rattle.jbig2_coder.specs.PrefixCode.{Member, decoded_value}
-use Rattle.jbig2_coder.specs.declared.integer_procedures.IntegerProcedure.{IntegerProcedure}
-use Rattle.jbig2_coder.specs.declared.integer_procedures.IntegerProcedure.TheVariants.{Iadt, Iafs, Iait, Iardh, Iardw, Iardx, Iardy, Iari}
-use Rattle.jbig2_text.specs.SymbolCodes.{value_at}
-use Rattle.jbig2_text.specs.Causes.{Behind, RefusesNumber}
-use Rattle.jbig2_text.specs.CausesOfText.{BreaksInstances, ReadingCauses}
-use Rattle.jbig2_text.specs.TextCoding.{Coded, Prefixed, by_coder, by_prefix_codes, next_integer}
-use Rattle.jbig2_text.specs.TextHeader.{ArithmeticCoding, HuffmanCoding, NumberCoding, TextHeader}
-use Rattle.jbig2_text.specs.TextRegion.{coder_of, prefix_codes_of, refining_of, text_decoded, text_params, text_tables}
-use Rattle.jbig2_text.specs.declared.text.header.TextRegionHuffmanFlags.{TextRegionHuffmanFlags}
+use Rattle.jbig2_base.specs.{Bits.{Place, aligned, bits_left}, Causes.{BreaksSides}, Grid.{Grid}, declared.error.{DecodeError.{DecodeError, TheVariants.{Huffman, Parse, Symbol}}, HuffmanError.TheVariants.{InvalidCode, InvalidSelection, MissingTables}, ParseError.TheVariants.{UnexpectedEof}, SymbolError.TheVariants.{UnexpectedOob}}}
+use Rattle.jbig2_coder.specs.{PrefixCode.{Member, decoded_value}, declared.integer_procedures.IntegerProcedure.{IntegerProcedure, TheVariants.{Iadt, Iafs, Iait, Iardh, Iardw, Iardx, Iardy, Iari}}}
+use Rattle.jbig2_text.specs.{SymbolCodes.{value_at}, Causes.{Behind, RefusesNumber}, CausesOfText.{BreaksInstances, ReadingCauses}, TextCoding.{Coded, Prefixed, by_coder, by_prefix_codes, next_integer}, TextHeader.{ArithmeticCoding, HuffmanCoding, NumberCoding, TextHeader}, TextRegion.{coder_of, prefix_codes_of, refining_of, text_decoded, text_params, text_tables}, declared.text.header.TextRegionHuffmanFlags.{TextRegionHuffmanFlags}}
 
 -- ---- tables (7.4.3.1.6)
 -- a choice among two tables of the standard, which are 0 and 1, and a custom one, which is 3
 abbrev pub HasNoMeaning : ℕ → Type 0
 HasNoMeaning n = (2 ≤ n) × (n ≢ 3)
 
--- how many custom tables a choice takes
-abbrev pub customs_if : Bool → ℕ
+abbrev pub customs_if : Bool → ℕ  -- how many custom tables a choice takes
 customs_if is_custom = if is_custom then 1 else 0
 
 abbrev pub BreaksTextTables : TextRegionHuffmanFlags → List (List Member) → DecodeError → Type 0
@@ -64,8 +48,7 @@ coder_causes = record {
 abbrev pub RefusesValue : List Member → List ℕ → DecodeError → Type 0
 RefusesValue table bits e = (decoded_value table bits).answer ≡ Err e
 
--- with this error, fewer bits are left
-abbrev pub LacksBits : DecodeError → ℕ → Prefixed → DecodeError → Type 0
+abbrev pub LacksBits : DecodeError → ℕ → Prefixed → DecodeError → Type 0  -- with this error, fewer bits are left
 LacksBits error count s e = (e ≡ error) × (length (bits_left s.place) < count)
 
 -- fewer bytes are left, from the next whole one on, than the size says; or it is negative

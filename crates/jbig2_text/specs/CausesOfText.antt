@@ -1,19 +1,10 @@
 -- Which rule the input breaks where the instances of a text region are refused (docs/FORMAT.md), whatever the numbers
 -- are coded by. What is refused at an instance is refused behind those before it, which are read.
-use Rattle.std.specs.Prelude.{◌≡◌, ◌<◌, ◌≤◌, ◌⊎◌, ℕ, ◌-◌, ◌*◌, ◌^◌, true, false, if◌then◌else◌, ℤ, pos, negsuc, ◌+ℤ◌, ◌-ℤ◌, ◌*ℤ◌, List, [], length, Option, Some, None, Ok, IfErr}
-use Rattle.std.specs.Int.{int_shr}
-use Rattle.jbig2_base.specs.Grid.{Grid}
-use Rattle.jbig2_base.specs.declared.error.DecodeError.{DecodeError}
-use Rattle.jbig2_base.specs.declared.error.DecodeError.TheVariants.{Overflow, Symbol}
-use Rattle.jbig2_base.specs.declared.error.OverflowError.TheVariants.{BitmapDimension, PlacementCoordinate, ReferenceOffset}
-use Rattle.jbig2_base.specs.declared.error.SymbolError.TheVariants.{InvalidStripDelta, OutOfRange, TooManyInstances}
+use Rattle.std.specs.{Prelude.{◌≡◌, ◌<◌, ◌≤◌, ◌⊎◌, ℕ, ◌-◌, ◌*◌, ◌^◌, true, false, if◌then◌else◌, ℤ, pos, negsuc, ◌+ℤ◌, ◌-ℤ◌, ◌*ℤ◌, List, [], length, Option, Some, None, Ok, IfErr}, Int.{int_shr}}
+use Rattle.jbig2_base.specs.{Grid.{Grid}, declared.error.{DecodeError.{DecodeError, TheVariants.{Overflow, Symbol}}, OverflowError.TheVariants.{BitmapDimension, PlacementCoordinate, ReferenceOffset}, SymbolError.TheVariants.{InvalidStripDelta, OutOfRange, TooManyInstances}}}
 use Rattle.jbig2_coder.specs.Causes.{LeavesWord}
 use Rattle.jbig2_region.specs.Refinement.{Reference}
-use Rattle.jbig2_text.specs.Causes.{Behind}
-use Rattle.jbig2_text.specs.Refining.{Refining}
-use Rattle.jbig2_text.specs.Text.{Reached, Readings, TextParams, after_instances, instance_symbol, is_bottom, is_last_along_s, is_right, refinement_deltas, strip_begun, strip_delta, symbol_of, t_in_strip, with_instance}
-use Rattle.jbig2_text.specs.declared.text.cursor.Cursor.{Cursor}
-use Rattle.jbig2_text.specs.declared.text.header.TextRegionFlags.{TextRegionFlags}
+use Rattle.jbig2_text.specs.{Causes.{Behind}, Refining.{Refining}, Text.{Reached, Readings, TextParams, after_instances, instance_symbol, is_bottom, is_last_along_s, is_right, refinement_deltas, strip_begun, strip_delta, symbol_of, t_in_strip, with_instance}, declared.text.{cursor.Cursor.{Cursor}, header.TextRegionFlags.{TextRegionFlags}}}
 
 -- why each reading of a coding is refused, at a state of the coder
 pub record ReadingCauses (S : Type 0) : Type 1 where
@@ -42,13 +33,11 @@ pub record ReadingsHaveCauses {S : Type 0} (r : Readings S) (c : ReadingCauses S
   pub y_delta : (s : S) → IfErr (r.y_delta s) (c.y_delta s)
   pub refined : (from : Reference) (width height : ℕ) (f : Refining) (s : S) → IfErr (r.refined from width height f s) (c.refined s)
 
--- no side of a symbol: it is negative, or above 65535
-abbrev pub IsNoSide : ℤ → Type 0
+abbrev pub IsNoSide : ℤ → Type 0  -- no side of a symbol: it is negative, or above 65535
 IsNoSide (pos n) = 65535 < n
 IsNoSide (negsuc n) = Unit {0}
 
--- an id that is not below the number of the symbols
-abbrev pub NamesNone : List Grid → ℤ → Type 0
+abbrev pub NamesNone : List Grid → ℤ → Type 0  -- an id that is not below the number of the symbols
 NamesNone symbols (pos id) = length symbols ≤ id
 NamesNone symbols (negsuc id) = Unit {0}
 

@@ -3,10 +3,7 @@
 use Rattle.std.specs.Prelude.{ℕ, false, List, [], take, Option, Some, None}
 use Rattle.jbig2_base.specs.Grid.{Grid}
 use Rattle.jbig2_coder.specs.Coder.{Coder, Context, Registers}
-use Rattle.jbig2_region.specs.Raster.{Region, no_pixels, fresh_contexts, so_far, decoded_region}
-use Rattle.jbig2_region.specs.Refinement.{Reference, refinement_bits, refinement_coding}
-use Rattle.jbig2_region.specs.declared.template.AdaptiveTemplatePixel.{AdaptiveTemplatePixel}
-use Rattle.jbig2_region.specs.declared.template.RefinementTemplate.{RefinementTemplate}
+use Rattle.jbig2_region.specs.{Raster.{Region, no_pixels, fresh_contexts, so_far, decoded_region}, Refinement.{Reference, refinement_bits, refinement_coding}, declared.template.{AdaptiveTemplatePixel.{AdaptiveTemplatePixel}, RefinementTemplate.{RefinementTemplate}}}
 
 -- How symbols are refined (SBRTEMPLATE, SBRAT), and what the contexts have learned.
 pub record Refining : Type 0 where
@@ -24,8 +21,7 @@ unfoldable pub refined_by : Refining → Reference → ℕ → ℕ → List ℕ 
 refined_by f from width height bytes registers =
     decoded_region (refinement_coding f.template false f.pixels from) width height bytes (no_pixels registers f.contexts)
 
--- The symbol, and the coder and the contexts behind it.
-pub record Refined : Type 0 where
+pub record Refined : Type 0 where  -- the symbol, and the coder and the contexts behind it
   pub grid : Grid
   pub coder : Coder
   pub refining : Refining

@@ -1,15 +1,8 @@
 -- The prefix codes of the symbols' ids (T.88, 7.4.3.1.7): their lengths, as runs that are prefix-coded themselves. A
 -- place in the bits and the number of the symbols give the codes, and the place behind them.
 use Rattle.std.specs.Prelude.{ℕ, zero, suc, ◌+◌, ◌-◌, nat_lt, ◌==◌, List, [], ◌∷◌, ◌++◌, length, replicate, slice_get, Result, Ok, Err, ℤ, pos, negsuc, if◌then◌else◌}
-use Rattle.jbig2_base.specs.Answer.{◌>>=◌, refuse_if, some_or}
-use Rattle.jbig2_base.specs.Bits.{Place, aligned, bits_left, bits_on, start_of}
-use Rattle.jbig2_base.specs.Fields.{bits_at}
-use Rattle.jbig2_base.specs.declared.error.DecodeError.{DecodeError}
-use Rattle.jbig2_base.specs.declared.error.DecodeError.TheVariants.{Huffman}
-use Rattle.jbig2_base.specs.declared.error.HuffmanError.TheVariants.{InvalidCode}
-use Rattle.jbig2_coder.specs.PrefixCode.{Member, decoded_value, no_oob, table_of}
-use Rattle.jbig2_coder.specs.Tables.{line}
-use Rattle.jbig2_coder.specs.declared.huffman_table.line.TableLine.{TableLine}
+use Rattle.jbig2_base.specs.{Answer.{◌>>=◌, refuse_if, some_or}, Bits.{Place, aligned, bits_left, bits_on, start_of}, Fields.{bits_at}, declared.error.{DecodeError.{DecodeError, TheVariants.{Huffman}}, HuffmanError.TheVariants.{InvalidCode}}}
+use Rattle.jbig2_coder.specs.{PrefixCode.{Member, decoded_value, no_oob, table_of}, Tables.{line}, declared.huffman_table.line.TableLine.{TableLine}}
 
 abbrev pub invalid_code : DecodeError
 invalid_code = Huffman InvalidCode
@@ -20,8 +13,7 @@ value_at table p =
     let read = decoded_value table (bits_left p) in
     no_oob read.answer >>= λ n. Ok (n, bits_on read.taken p)
 
--- the numbers from n on, by the lengths of their codes
-abbrev pub lines_from : ℕ → List ℕ → List TableLine
+abbrev pub lines_from : ℕ → List ℕ → List TableLine  -- the numbers from n on, by the lengths of their codes
 lines_from n [] = []
 lines_from n (len ∷ lens) = line len 0 (pos n) ∷ lines_from (n + 1) lens
 
@@ -30,8 +22,7 @@ unfoldable pub short_lengths : ℕ → List ℕ → Place → Result (List ℕ �
 short_lengths zero so_far p = Ok (so_far, p)
 short_lengths (suc count) so_far p = bits_at invalid_code 4 p >>= λ len. short_lengths count (so_far ++ len.0 ∷ []) len.1
 
--- with the last length so many times more
-abbrev pub repeated : List ℕ → ℕ → Result (List ℕ) DecodeError
+abbrev pub repeated : List ℕ → ℕ → Result (List ℕ) DecodeError  -- with the last length so many times more
 repeated so_far count = some_or invalid_code (slice_get so_far (length so_far - 1)) >>= λ len. Ok (so_far ++ replicate count len)
 
 -- The lengths that a runcode stands for: itself, or the last length 3 to 6 times, or 3 to 10 or 11 to 138 zeros.

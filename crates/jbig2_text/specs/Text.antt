@@ -1,24 +1,9 @@
 -- Text regions (T.88, 6.4): instances of symbols, whose numbers are read one behind the other; then the instances are
 -- drawn. Every coordinate is a signed number of 32 bits, else it is refused (our own rule).
-use Rattle.std.specs.Prelude.{ℕ, zero, suc, ◌-◌, ◌*◌, ◌^◌, nat_le, nat_lt, ◌==◌, Bool, true, false, ◌||◌, if◌then◌else◌, ℤ, pos, negsuc, ◌+ℤ◌, ◌-ℤ◌, ◌*ℤ◌, List, [], ◌∷◌, ◌++◌, slice_get, Option, Some, None, Result, Ok, Err}
-use Rattle.std.specs.Int.{int_shr}
-use Rattle.std.specs.Option.{is_some}
-use Rattle.jbig2_base.specs.Answer.{◌>>=◌, refuse_if, some_or}
-use Rattle.jbig2_base.specs.Combination.{combined}
-use Rattle.jbig2_base.specs.Grid.{Grid}
-use Rattle.jbig2_base.specs.declared.bitmap.operator.CombinationOperator.{CombinationOperator}
-use Rattle.jbig2_base.specs.declared.error.DecodeError.{DecodeError}
-use Rattle.jbig2_base.specs.declared.error.DecodeError.TheVariants.{Overflow, Symbol}
-use Rattle.jbig2_base.specs.declared.error.OverflowError.TheVariants.{BitmapDimension, PlacementCoordinate, ReferenceOffset}
-use Rattle.jbig2_base.specs.declared.error.SymbolError.TheVariants.{InvalidStripDelta, OutOfRange, TooManyInstances}
+use Rattle.std.specs.{Prelude.{ℕ, zero, suc, ◌-◌, ◌*◌, ◌^◌, nat_le, nat_lt, ◌==◌, Bool, true, false, ◌||◌, if◌then◌else◌, ℤ, pos, negsuc, ◌+ℤ◌, ◌-ℤ◌, ◌*ℤ◌, List, [], ◌∷◌, ◌++◌, slice_get, Option, Some, None, Result, Ok, Err}, Int.{int_shr}, Option.{is_some}}
+use Rattle.jbig2_base.specs.{Answer.{◌>>=◌, refuse_if, some_or}, Combination.{combined}, Grid.{Grid}, declared.{bitmap.operator.CombinationOperator.{CombinationOperator}, error.{DecodeError.{DecodeError, TheVariants.{Overflow, Symbol}}, OverflowError.TheVariants.{BitmapDimension, PlacementCoordinate, ReferenceOffset}, SymbolError.TheVariants.{InvalidStripDelta, OutOfRange, TooManyInstances}}}}
 use Rattle.jbig2_region.specs.Refinement.{Reference}
-use Rattle.jbig2_text.specs.Refining.{Refining}
-use Rattle.jbig2_text.specs.declared.text.cursor.Cursor.{Cursor}
-use Rattle.jbig2_text.specs.declared.text.header.ReferenceCorner.{ReferenceCorner}
-use Rattle.jbig2_text.specs.declared.text.header.ReferenceCorner.TheVariants.{BottomLeft, BottomRight, TopRight}
-use Rattle.jbig2_text.specs.declared.text.header.TextRegionFlags.{TextRegionFlags}
-use Rattle.jbig2_text.specs.declared.text.refined.Outline.{Outline}
-use Rattle.jbig2_text.specs.declared.text.refined.RefinementDeltas.{RefinementDeltas}
+use Rattle.jbig2_text.specs.{Refining.{Refining}, declared.text.{cursor.Cursor.{Cursor}, header.{ReferenceCorner.{ReferenceCorner, TheVariants.{BottomLeft, BottomRight, TopRight}}, TextRegionFlags.{TextRegionFlags}}, refined.{Outline.{Outline}, RefinementDeltas.{RefinementDeltas}}}}
 
 -- What the instances are read by (Table 9): the flags, SBSYMS, SBNUMINSTANCES; and the length of the segment's data.
 pub record TextParams : Type 0 where
@@ -28,8 +13,7 @@ pub record TextParams : Type 0 where
   pub data_length : ℕ
   pub strict : Bool
 
--- A symbol, and the column and the row of its top left pixel.
-pub record Instance : Type 0 where
+pub record Instance : Type 0 where  -- a symbol, and the column and the row of its top left pixel
   pub grid : Grid
   pub x : ℤ
   pub y : ℤ
@@ -58,8 +42,7 @@ pub record Reached (S : Type 0) : Type 0 where
   pub refining : Refining
   pub state : S
 
--- a number in signed 32 bits, or the error
-abbrev pub word_or : DecodeError → ℤ → Result ℤ DecodeError
+abbrev pub word_or : DecodeError → ℤ → Result ℤ DecodeError  -- a number in signed 32 bits, or the error
 word_or e (pos n) = if nat_lt n 2147483648 then Ok (pos n) else Err e
 word_or e (negsuc n) = if nat_lt n 2147483648 then Ok (negsuc n) else Err e
 
@@ -107,8 +90,7 @@ symbol_of symbols (negsuc id) = None
 abbrev pub some_symbol : Option Grid → Result Grid DecodeError
 some_symbol g = some_or (Symbol OutOfRange) g
 
--- a side of a refined symbol, within signed 32 bits
-abbrev pub side_of : ℤ → Result ℕ DecodeError
+abbrev pub side_of : ℤ → Result ℕ DecodeError  -- a side of a refined symbol, within signed 32 bits
 side_of (pos n) = refuse_if (nat_le 2147483648 n) (Overflow BitmapDimension) >>= λ fits. Ok n
 side_of (negsuc n) = Err (Overflow BitmapDimension)
 
@@ -169,8 +151,7 @@ is_bottom _ = false
 abbrev pub is_last_along_s : TextRegionFlags → Bool
 is_last_along_s flags = if flags.transposed then is_bottom flags.reference_corner else is_right flags.reference_corner
 
--- CURS at the other end of a symbol
-abbrev pub grown : TextRegionFlags → Grid → ℤ → Result ℤ DecodeError
+abbrev pub grown : TextRegionFlags → Grid → ℤ → Result ℤ DecodeError  -- CURS at the other end of a symbol
 grown flags g curs = coordinate (curs +ℤ (pos (if flags.transposed then g.height else g.width) -ℤ pos 1))
 
 -- the first column (or row), where the corner at this one may be at the last
@@ -212,8 +193,7 @@ after_instances r p (suc n) x = do
   c ← cursor_moved r p.flags y.cursor y.state
   after_instances r p n (record y { cursor = c.0; state = c.1 })
 
--- instances, and the contexts and the coder behind them
-abbrev pub Found : Type 0 → Type 0
+abbrev pub Found : Type 0 → Type 0  -- instances, and the contexts and the coder behind them
 Found S = List Instance × Refining × S
 
 -- All instances (steps 1, 3 and 4); STRIPT begins at the negative of the first DT, and none take no strip. More than 32

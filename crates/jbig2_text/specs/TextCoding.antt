@@ -1,23 +1,10 @@
 -- The two ways in which the numbers of a text region are coded (T.88, 6.4.6 to 6.4.11): by the arithmetic coder with
 -- its integer procedures, and by prefix codes. Symbol dictionaries read by the same states.
 use Rattle.std.specs.Prelude.{ℕ, ◌%◌, ◌^◌, ◌==◌, Bool, not, ℤ, pos, negsuc, nat_abs, List, Option, Some, None, Result, Ok, Err, replicate}
-use Rattle.jbig2_base.specs.Answer.{◌>>=◌, some_or}
-use Rattle.jbig2_base.specs.Bits.{Place, aligned, bits_left, bits_on, start_of}
-use Rattle.jbig2_base.specs.Fields.{bits_at, bytes_at, end_of_bytes}
-use Rattle.jbig2_base.specs.Grid.{Grid}
-use Rattle.jbig2_base.specs.declared.error.DecodeError.{DecodeError}
-use Rattle.jbig2_base.specs.declared.error.DecodeError.TheVariants.{Symbol}
-use Rattle.jbig2_base.specs.declared.error.SymbolError.TheVariants.{UnexpectedOob}
-use Rattle.jbig2_coder.specs.Coder.{Coder, fresh, initial_registers}
-use Rattle.jbig2_coder.specs.Integers.{Ids, id, value_of_bits}
-use Rattle.jbig2_coder.specs.PrefixCode.{Member, decoded_value}
-use Rattle.jbig2_coder.specs.Procedures.{Procedures, asked, fresh_procedures}
-use Rattle.jbig2_coder.specs.declared.integer_procedures.IntegerProcedure.{IntegerProcedure}
-use Rattle.jbig2_coder.specs.declared.integer_procedures.IntegerProcedure.TheVariants.{Iads, Iadt, Iafs, Iait, Iardh, Iardw, Iardx, Iardy, Iari}
+use Rattle.jbig2_base.specs.{Answer.{◌>>=◌, some_or}, Bits.{Place, aligned, bits_left, bits_on, start_of}, Fields.{bits_at, bytes_at, end_of_bytes}, Grid.{Grid}, declared.error.{DecodeError.{DecodeError, TheVariants.{Symbol}}, SymbolError.TheVariants.{UnexpectedOob}}}
+use Rattle.jbig2_coder.specs.{Coder.{Coder, fresh, initial_registers}, Integers.{Ids, id, value_of_bits}, PrefixCode.{Member, decoded_value}, Procedures.{Procedures, asked, fresh_procedures}, declared.integer_procedures.IntegerProcedure.{IntegerProcedure, TheVariants.{Iads, Iadt, Iafs, Iait, Iardh, Iardw, Iardx, Iardy, Iari}}}
 use Rattle.jbig2_region.specs.Refinement.{Reference}
-use Rattle.jbig2_text.specs.Refining.{Refining, refined_with}
-use Rattle.jbig2_text.specs.SymbolCodes.{invalid_code, value_at}
-use Rattle.jbig2_text.specs.Text.{Readings}
+use Rattle.jbig2_text.specs.{Refining.{Refining, refined_with}, SymbolCodes.{invalid_code, value_at}, Text.{Readings}}
 
 -- ---- by the arithmetic coder
 -- The coder, and what the contexts of the integer procedures and of the ids (IAID) have learned.
@@ -26,8 +13,7 @@ pub record Coded : Type 0 where
   pub procedures : Procedures
   pub ids : Ids
 
--- at the start of the bytes, with ids of so many bits
-unfoldable pub coded_start : List ℕ → ℕ → Coded
+unfoldable pub coded_start : List ℕ → ℕ → Coded  -- at the start of the bytes, with ids of so many bits
 coded_start bytes bits = record {
   coder = record { bytes = bytes; registers = initial_registers bytes };
   procedures = fresh_procedures;
@@ -40,8 +26,7 @@ next_integer procedure s =
     let a = asked procedure s.coder s.procedures in
     (a.value, record s { coder = a.coder; procedures = a.procedures })
 
--- an id (A.3), and the state behind it
-abbrev pub next_id : Coded → ℤ × Coded
+abbrev pub next_id : Coded → ℤ × Coded  -- an id (A.3), and the state behind it
 next_id s =
     let r = id s.coder.bytes s.coder.registers s.ids in
     let behind : Coder = record s.coder { registers = r.registers } in
@@ -54,8 +39,7 @@ in_band e n = some_or e n
 abbrev pub number_by_coder : IntegerProcedure → Coded → Result (ℤ × Coded) DecodeError
 number_by_coder procedure s = let i = next_integer procedure s in in_band (Symbol UnexpectedOob) i.0 >>= λ n. Ok (n, i.1)
 
--- of R_I the low eight bits count (our own rule)
-abbrev pub by_coder : Readings Coded
+abbrev pub by_coder : Readings Coded  -- of R_I the low eight bits count (our own rule)
 by_coder = record {
   delta_t = number_by_coder Iadt;
   first_s = number_by_coder Iafs;
@@ -84,8 +68,7 @@ pub record TextTables : Type 0 where
   pub refinement_y : List Member
   pub refinement_size : List Member
 
--- The place in the bits, the tables, and the codes of the ids (SBSYMCODES).
-pub record Prefixed : Type 0 where
+pub record Prefixed : Type 0 where  -- the place in the bits, the tables, and the codes of the ids (SBSYMCODES)
   pub place : Place
   pub tables : TextTables
   pub ids : List Member

@@ -1,27 +1,10 @@
 -- The data of a text region segment up to its coded bytes (T.88, 7.4.3.1): region information, flags, adaptive pixels,
 -- the number of instances and the codes of the ids. The bytes give the header, and the coded bytes behind it.
-use Rattle.std.specs.Prelude.{ℕ, ◌/◌, ◌%◌, ◌==◌, nat_lt, Bool, true, false, List, [], length, Option, Some, None, Result, Ok, if◌then◌else◌, ℤ, pos, ◌-ℤ◌}
-use Rattle.std.specs.Int.{w16, w32}
-use Rattle.jbig2_base.specs.Answer.{◌>>=◌}
-use Rattle.jbig2_base.specs.Fields.{number_at}
-use Rattle.jbig2_base.specs.Operator.{operator_of}
-use Rattle.jbig2_base.specs.declared.error.DecodeError.{DecodeError}
+use Rattle.std.specs.{Prelude.{ℕ, ◌/◌, ◌%◌, ◌==◌, nat_lt, Bool, true, false, List, [], length, Option, Some, None, Result, Ok, if◌then◌else◌, ℤ, pos, ◌-ℤ◌}, Int.{w16, w32}}
+use Rattle.jbig2_base.specs.{Answer.{◌>>=◌}, Fields.{number_at}, Operator.{operator_of}, declared.error.DecodeError.{DecodeError}}
 use Rattle.jbig2_coder.specs.PrefixCode.{Member}
-use Rattle.jbig2_region.specs.RefinementHeader.{refinement_pixels_at, refinement_template_of}
-use Rattle.jbig2_region.specs.RefinementTemplates.{two_pixels}
-use Rattle.jbig2_region.specs.RegionInfo.{region_info_at}
-use Rattle.jbig2_region.specs.declared.region_info.RegionSegmentInfo.{RegionSegmentInfo}
-use Rattle.jbig2_region.specs.declared.template.AdaptiveTemplatePixel.{AdaptiveTemplatePixel}
-use Rattle.jbig2_region.specs.declared.template.RefinementTemplate.{RefinementTemplate}
-use Rattle.jbig2_text.specs.SymbolCodes.{symbol_codes_at}
-use Rattle.jbig2_text.specs.declared.text.header.ReferenceCorner.{ReferenceCorner}
-use Rattle.jbig2_text.specs.declared.text.header.ReferenceCorner.TheVariants.{BottomLeft, TopLeft, BottomRight, TopRight}
-use Rattle.jbig2_text.specs.declared.text.header.TextFields.{TextFields}
-use Rattle.jbig2_text.specs.declared.text.header.TextRegionCoding.{TextRegionCoding}
-use Rattle.jbig2_text.specs.declared.text.header.TextRegionCoding.TheVariants as codings
-use Rattle.jbig2_text.specs.declared.text.header.TextRegionFlags.{TextRegionFlags}
-use Rattle.jbig2_text.specs.declared.text.header.TextRegionHeader.{TextRegionHeader}
-use Rattle.jbig2_text.specs.declared.text.header.TextRegionHuffmanFlags.{TextRegionHuffmanFlags}
+use Rattle.jbig2_region.specs.{RefinementHeader.{refinement_pixels_at, refinement_template_of}, inner.PixelArrays.{two_pixels}, RegionInfo.{region_info_at}, declared.{region_info.RegionSegmentInfo.{RegionSegmentInfo}, template.{AdaptiveTemplatePixel.{AdaptiveTemplatePixel}, RefinementTemplate.{RefinementTemplate}}}}
+use Rattle.jbig2_text.specs.{SymbolCodes.{symbol_codes_at}, declared.text.header.{ReferenceCorner.{ReferenceCorner, TheVariants.{BottomLeft, TopLeft, BottomRight, TopRight}}, TextFields.{TextFields}, TextRegionCoding.{TextRegionCoding, TheVariants as codings}, TextRegionFlags.{TextRegionFlags}, TextRegionHeader.{TextRegionHeader}, TextRegionHuffmanFlags.{TextRegionHuffmanFlags}}}
 
 -- How the numbers are coded (SBHUFF): by the arithmetic coder, or by prefix codes, with the numbers of their tables and
 -- the codes of the symbols' ids (SBSYMCODES).
@@ -29,8 +12,7 @@ pub data NumberCoding : Type 0 where
   ArithmeticCoding : NumberCoding
   HuffmanCoding : (tables : TextRegionHuffmanFlags) (ids : List Member) → NumberCoding
 
--- What a text region's coded bytes are decoded by.
-pub record TextHeader : Type 0 where
+pub record TextHeader : Type 0 where  -- what a text region's coded bytes are decoded by
   pub region_info : RegionSegmentInfo
   pub flags : TextRegionFlags
   pub coding : NumberCoding
@@ -40,31 +22,10 @@ pub record TextHeader : Type 0 where
   pub bytes : List ℕ
   pub strict : Bool
 
--- those of the code's two refinement pixels that these flags have
-abbrev pub text_pixels : TextRegionFlags → List AdaptiveTemplatePixel → List AdaptiveTemplatePixel
-text_pixels flags a = if flags.use_refinement then two_pixels flags.refinement_template a else []
-
-abbrev pub coding_view : {A : Type 0} → TextRegionCoding A → NumberCoding
-coding_view codings.Arithmetic = ArithmeticCoding
-coding_view (codings.Huffman tables ids) = HuffmanCoding tables ids
-
-abbrev pub header_view : {A : Type 0} → TextRegionHeader A → TextHeader
-header_view h = record {
-  region_info = h.region_info;
-  flags = h.flags;
-  coding = coding_view h.coding;
-  refinement_pixels = text_pixels h.flags h.refinement_at_pixels;
-  instances = h.num_instances;
-  data_length = h.segment_data_len;
-  bytes = h.bytes.now;
-  strict = h.strict;
-}
-
 abbrev pub corner_of : ℕ → ReferenceCorner
 corner_of n = if n == 0 then BottomLeft else if n == 1 then TopLeft else if n == 2 then BottomRight else TopRight
 
--- five bits in two's complement
-abbrev pub signed_5 : ℕ → ℤ
+abbrev pub signed_5 : ℕ → ℤ  -- five bits in two's complement
 signed_5 n = if nat_lt n 16 then pos n else pos n -ℤ pos 32
 
 -- whether there are prefix codes (SBHUFF), and the other flags (7.4.3.1.1)
@@ -84,8 +45,7 @@ text_flags_at bytes = do
   }
   Ok ((flags.0 % 2 == 1, others), flags.1)
 
--- the numbers of the tables (7.4.3.1.2)
-abbrev pub table_numbers : ℕ → TextRegionHuffmanFlags
+abbrev pub table_numbers : ℕ → TextRegionHuffmanFlags  -- the numbers of the tables (7.4.3.1.2)
 table_numbers flags = record {
   first_s_table = flags % 4;
   delta_s_table = flags / 4 % 4;

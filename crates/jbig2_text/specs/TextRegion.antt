@@ -1,25 +1,10 @@
 -- A text region segment (T.88, 7.4.3): the header with the coded bytes, the symbols and the custom tables that it refers
 -- to give the region's grid at its place, decoded from fresh states.
 use Rattle.std.specs.Prelude.{ℕ, nat_lt, ◌==◌, ◌||◌, if◌then◌else◌, List, length, Result, Ok, Err}
-use Rattle.jbig2_base.specs.Answer.{◌>>=◌, refuse_if}
-use Rattle.jbig2_base.specs.Bits.{start_of}
-use Rattle.jbig2_base.specs.Grid.{Grid, blank}
-use Rattle.jbig2_base.specs.declared.error.DecodeError.{DecodeError}
-use Rattle.jbig2_base.specs.declared.error.DecodeError.TheVariants.{Huffman, Overflow}
-use Rattle.jbig2_base.specs.declared.error.HuffmanError.TheVariants.{InvalidSelection}
-use Rattle.jbig2_base.specs.declared.error.OverflowError.TheVariants.{BitmapDimension}
-use Rattle.jbig2_coder.specs.PrefixCode.{Member, prefix_code}
-use Rattle.jbig2_coder.specs.TableSelection.{next_custom, standard}
-use Rattle.jbig2_coder.specs.Tables.{lines_a, lines_f, lines_g, lines_h, lines_i, lines_j, lines_k, lines_l, lines_m, lines_n, lines_o}
-use Rattle.jbig2_region.specs.Raster.{fresh_contexts}
-use Rattle.jbig2_region.specs.Refinement.{refinement_bits}
-use Rattle.jbig2_region.specs.RegionInfo.{PlacedRegion, placed}
-use Rattle.jbig2_base.specs.Search.{code_length}
-use Rattle.jbig2_text.specs.Refining.{Refining}
-use Rattle.jbig2_text.specs.Text.{Readings, TextParams, text_region}
-use Rattle.jbig2_text.specs.TextCoding.{Coded, Prefixed, TextTables, by_coder, by_prefix_codes, coded_start}
-use Rattle.jbig2_text.specs.TextHeader.{NumberCoding, TextHeader, ArithmeticCoding, HuffmanCoding}
-use Rattle.jbig2_text.specs.declared.text.header.TextRegionHuffmanFlags.{TextRegionHuffmanFlags}
+use Rattle.jbig2_base.specs.{Answer.{◌>>=◌, refuse_if}, Bits.{start_of}, Grid.{Grid, blank}, declared.error.{DecodeError.{DecodeError, TheVariants.{Huffman, Overflow}}, HuffmanError.TheVariants.{InvalidSelection}, OverflowError.TheVariants.{BitmapDimension}}, Search.{code_length}}
+use Rattle.jbig2_coder.specs.{PrefixCode.{Member, prefix_code}, TableSelection.{next_custom, standard}, Tables.{lines_a, lines_f, lines_g, lines_h, lines_i, lines_j, lines_k, lines_l, lines_m, lines_n, lines_o}}
+use Rattle.jbig2_region.specs.{Raster.{fresh_contexts}, Refinement.{refinement_bits}, RegionInfo.{PlacedRegion, placed}}
+use Rattle.jbig2_text.specs.{Refining.{Refining}, Text.{Readings, TextParams, text_region}, TextCoding.{Coded, Prefixed, TextTables, by_coder, by_prefix_codes, coded_start}, TextHeader.{NumberCoding, TextHeader, ArithmeticCoding, HuffmanCoding}, declared.text.header.TextRegionHuffmanFlags.{TextRegionHuffmanFlags}}
 
 -- ---- tables (7.4.3.1.6)
 -- the table that a number names among two of the standard, or 3 for the next custom one; and those left to take
@@ -33,8 +18,7 @@ one_of_three first second third n customs =
     if n == 0 then standard first customs else if n == 1 then standard second customs
     else if n == 2 then standard third customs else next_custom customs
 
--- the tables of an aggregate symbol's instances (6.5.8.2, Table 17)
-abbrev pub aggregate_tables : TextTables
+abbrev pub aggregate_tables : TextTables  -- the tables of an aggregate symbol's instances (6.5.8.2, Table 17)
 aggregate_tables = record {
   first_s = prefix_code lines_f;
   delta_s = prefix_code lines_h;
@@ -80,8 +64,7 @@ text_params h symbols = record {
   strict = h.strict;
 }
 
--- by contexts that know nothing yet
-abbrev pub refining_of : TextHeader → Refining
+abbrev pub refining_of : TextHeader → Refining  -- by contexts that know nothing yet
 refining_of h = record {
   template = h.flags.refinement_template;
   pixels = h.refinement_pixels;

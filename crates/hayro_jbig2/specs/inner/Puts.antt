@@ -1,6 +1,5 @@
 -- Bytes that are put into a caller's buffer (our own rule).
-use Rattle.std.specs.Prelude.{◌≡◌, ℕ, ◌+◌, ◌-◌, ◌*◌, ◌<◌, Bool, List, map, get_or, length}
-use Rattle.std.specs.List.{range_with_len}
+use Rattle.std.specs.{Prelude.{◌≡◌, ℕ, ◌+◌, ◌-◌, ◌*◌, ◌<◌, Bool, List, map, get_or, length}, List.{range_with_len}}
 use Rattle.jbig2_coder.specs.Integers.{value_of_bits}
 
 -- So many bytes stand at a place then, and those before it are as they were.

@@ -2,7 +2,7 @@
 ghost use Rattle.std.specs.Prelude.{◌≡◌, pos, ◌+ℤ◌, ◌-ℤ◌, ◌||◌, FitsSigned};
 ghost use Rattle.std.specs.Int.{w32, w64, int_shr};
 ghost use Rattle.jbig2_halftone.specs.Halftone.{is_apart};
-ghost use Rattle.jbig2_halftone.specs.HalftoneHeader.{header_view};
+ghost use Rattle.jbig2_halftone.specs.inner.HalftoneHeaderViews.{header_view};
 ghost use Rattle.jbig2_halftone.specs.inner.CellPlaces.{x_of, y_of};
 
 use super::header::HalftoneRegionHeader;

@@ -1,10 +1,7 @@
 -- What the calls of a T.6 decoder that may meet a fault say (our own rule).
 use Rattle.std.specs.Prelude.{◌≡◌, ℕ, Bool, true, false, List, Option, Some, None}
 use Rattle.jbig2_base.specs.Grid.{Grid}
-use Rattle.jbig2_mmr.specs.declared.mmr.row.Place.{Place}
-use Rattle.jbig2_mmr.specs.declared.mmr.row.Turn.{Turn}
-use Rattle.jbig2_mmr.specs.T6.{Head, Step, black_at}
-use Rattle.jbig2_mmr.specs.inner.T6Reading.{IsTurn, IsRow}
+use Rattle.jbig2_mmr.specs.{declared.mmr.row.{Place.{Place}, Turn.{Turn}}, T6.{Head, Step, black_at}, inner.T6Reading.{IsTurn, IsRow}}
 
 -- a place in a row, as the definition says it
 abbrev pub head_of : Place → Head

@@ -1,10 +1,8 @@
 -- Runs of any length, of which a run byte is one of eight pixels (our own rule).
 use Rattle.std.specs.Prelude.{ℕ, Bool, ◌&&◌, List, slice_index_or}
-use Rattle.jbig2_coder.specs.Coder.{fresh, all_quiet}
-use Rattle.jbig2_region.specs.Raster.{Region}
 use Rattle.jbig2_base.specs.Grid.{same_colour}
-use Rattle.jbig2_region.specs.RunBytes.{all_of, stays}
-use Rattle.jbig2_region.specs.declared.template.AdaptiveTemplatePixel.{AdaptiveTemplatePixel}
+use Rattle.jbig2_coder.specs.Coder.{fresh, all_quiet}
+use Rattle.jbig2_region.specs.{Raster.{Region}, RunBytes.{all_of, stays}, declared.template.AdaptiveTemplatePixel.{AdaptiveTemplatePixel}}
 
 -- whether the next n pixels are a run of a colour: of likely symbols, quiet, and in one context
 unfoldable pub is_run_for : List AdaptiveTemplatePixel → ℕ → ℕ → List ℕ → Region → Bool → ℕ → Bool

@@ -1,10 +1,8 @@
 -- What the decoding of some pixels of a row leaves, all in all (our own rule).
 use Rattle.std.specs.Prelude.{◌≡◌, ℕ, Bool, List}
-use Rattle.jbig2_base.specs.Counts.{Counts}
-use Rattle.jbig2_base.specs.Grid.{Grid}
+use Rattle.jbig2_base.specs.{Counts.{Counts}, Grid.{Grid}}
 use Rattle.jbig2_coder.specs.Coder.{Coder, Context}
-use Rattle.jbig2_region.specs.Raster.{Coding}
-use Rattle.jbig2_region.specs.inner.Codes.{Codes, CountsCodes}
+use Rattle.jbig2_region.specs.{Raster.{Coding}, inner.Codes.{Codes, CountsCodes}}
 
 -- The n pixels of row y from column x on are decoded, and their decisions counted; the bitmap keeps its size, and the
 -- coder its bytes.

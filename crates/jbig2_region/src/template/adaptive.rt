@@ -3,8 +3,10 @@ ghost use Rattle.std.specs.Prelude.{◌≡◌, ◌≤◌, false, [], ◌∷◌, 
 ghost use Rattle.jbig2_base.specs.Answer.{Answers};
 ghost use Rattle.jbig2_base.specs.Bits.{IsAligned};
 ghost use Rattle.jbig2_base.specs.Parsing.{Parses};
-ghost use Rattle.jbig2_region.specs.RefinementTemplates.{refinement_pixels_at, two_pixels};
-ghost use Rattle.jbig2_region.specs.Templates.{FitsTemplate, IsFilled, adaptive_pixel_at, adaptive_pixel_count, adaptive_pixels_at, filled, four_pixels, free_pixel_at, is_earlier, is_extended, pixels_view, takes_extended};
+ghost use Rattle.jbig2_region.specs.RefinementTemplates.{refinement_pixels_at};
+ghost use Rattle.jbig2_region.specs.inner.PixelArrays.{two_pixels};
+ghost use Rattle.jbig2_region.specs.Templates.{FitsTemplate, adaptive_pixel_at, adaptive_pixel_count, adaptive_pixels_at, free_pixel_at, is_earlier, takes_extended};
+ghost use Rattle.jbig2_region.specs.inner.PixelArrays.{IsFilled, filled, four_pixels, is_extended, pixels_view};
 ghost use Rattle.jbig2_base.specs.Causes.{HaveCauses};
 ghost use Rattle.jbig2_region.specs.Causes.{BreaksPixels, BreaksRefinementPixels};
 ghost use Rattle.jbig2_region.specs.declared.template.RefinementTemplate.{RefinementTemplate};

@@ -2,7 +2,8 @@
 ghost use Rattle.std.specs.Prelude.{◌≡◌, [], ◌∷◌, false};
 ghost use Rattle.jbig2_region.specs.inner.Layouts.{FitsAdaptives, fixed_neighbours, neighbours_of, nominal_neighbours, read_pixels};
 ghost use Rattle.jbig2_region.specs.inner.Neighbours.{IsLayout, is_nominal_layout, layout_count, layout_loads, layout_pixels};
-ghost use Rattle.jbig2_region.specs.Templates.{adaptive, adaptive_pixel_count, context_bits, four_pixels, is_nominal, lies_at, template_pixels};
+ghost use Rattle.jbig2_region.specs.Templates.{adaptive, adaptive_pixel_count, context_bits, is_nominal, lies_at, template_pixels};
+ghost use Rattle.jbig2_region.specs.inner.PixelArrays.{four_pixels};
 
 use crate::template::neighbours::{Adaptives, Layout, Neighbours, Stretch};
 use crate::template::{AdaptiveTemplatePixel, Template};

@@ -1,7 +1,8 @@
 //! All pixels of a template (T.88, 6.2.5.3), bit 0 of a context first, put together from those that
 //! lie side by side and the adaptive ones.
 ghost use Rattle.std.specs.Prelude.{◌≡◌, ◌+◌, ◌≤◌, ◌<◌, ◌≤ℤ◌, ◌++◌, [], ◌∷◌, false, length, negsuc, pos};
-ghost use Rattle.jbig2_region.specs.Templates.{four_pixels, template_pixels};
+ghost use Rattle.jbig2_region.specs.Templates.{template_pixels};
+ghost use Rattle.jbig2_region.specs.inner.PixelArrays.{four_pixels};
 ghost use Rattle.jbig2_region.specs.inner.Neighbours.{IsMixed, mixed_pixels, side_by_side};
 
 use crate::template::layouts::{adaptives, fixed_neighbours};

@@ -2,7 +2,8 @@
 //! contexts of the decisions that begin their rows (6.3.5.6).
 ghost use Rattle.std.specs.Prelude.{◌≡◌, ◌^◌, ◌<◌, true, IfSome, None, Some, if◌then◌else◌};
 ghost use Rattle.jbig2_region.specs.RefinementTemplates.{is_nominal};
-ghost use Rattle.jbig2_region.specs.RefinementTemplates.{reference_pixels, refinement_bits, refinement_row_context, region_pixels, two_pixels};
+ghost use Rattle.jbig2_region.specs.RefinementTemplates.{reference_pixels, refinement_bits, refinement_row_context, region_pixels};
+ghost use Rattle.jbig2_region.specs.inner.PixelArrays.{two_pixels};
 ghost use Rattle.jbig2_region.specs.inner.RefinementWindows.{corners};
 ghost use Rattle.jbig2_region.specs.declared.template.RefinementTemplate.TheVariants.{Template0};
 

@@ -1,22 +1,8 @@
 -- How a dictionary's input, and what its reading has come to, are seen by the definitions (our own rule).
-use Rattle.std.specs.Borrow.{Bor}
-use Rattle.std.specs.Prelude.{ℕ, ◌+◌, ◌-◌, ◌==◌, ◌≡◌, ◌++◌, List, length, map, Option, Some, None, option_map, Result, Ok}
-use Rattle.jbig2_base.specs.Answer.{◌>>=◌}
-use Rattle.jbig2_base.specs.declared.error.DecodeError.{DecodeError}
-use Rattle.jbig2_base.specs.Bits.{Place}
-use Rattle.jbig2_base.specs.Grid.{Grid, bit_number}
-use Rattle.jbig2_text.specs.TextCoding.{Coded}
-use Rattle.jbig2_text.specs.inner.TextViews as texts
-use Rattle.jbig2_symbol.specs.SymbolReading.{BitmapContexts, SymbolInput, SymbolState, SymbolTables}
-use Rattle.jbig2_symbol.specs.Symbols.{Symbols}
-use Rattle.jbig2_symbol.specs.inner.HeaderViews.{contexts_view, header_view}
-use Rattle.jbig2_symbol.specs.declared.symbol.coded.CodedSymbols.{CodedSymbols}
-use Rattle.jbig2_symbol.specs.declared.symbol.dictionary.RetainedContexts.{RetainedContexts}
-use Rattle.jbig2_symbol.specs.declared.symbol.dictionary.SymbolDictionary.{SymbolDictionary}
-use Rattle.jbig2_symbol.specs.declared.symbol.input.SymbolInput.{SymbolInput as Input}
-use Rattle.jbig2_symbol.specs.declared.symbol.input.SymbolTables.{SymbolTables as Tables}
-use Rattle.jbig2_symbol.specs.declared.symbol.prefixed.PrefixedSymbols.{PrefixedSymbols}
-use Rattle.jbig2_symbol.specs.declared.symbol.widths.RunningWidths.{RunningWidths}
+use Rattle.std.specs.{Borrow.{Bor}, Prelude.{ℕ, ◌+◌, ◌-◌, ◌==◌, ◌≡◌, ◌++◌, List, length, map, Option, Some, None, option_map, Result, Ok}}
+use Rattle.jbig2_base.specs.{Answer.{◌>>=◌}, declared.error.DecodeError.{DecodeError}, Bits.{Place}, Grid.{Grid, bit_number}}
+use Rattle.jbig2_text.specs.{TextCoding.{Coded}, inner.{TextViews as texts}}
+use Rattle.jbig2_symbol.specs.{SymbolReading.{BitmapContexts, SymbolInput, SymbolState, SymbolTables}, Symbols.{Symbols}, inner.HeaderViews.{contexts_view, header_view}, declared.symbol.{coded.CodedSymbols.{CodedSymbols}, dictionary.{RetainedContexts.{RetainedContexts}, SymbolDictionary.{SymbolDictionary}}, input.{SymbolInput.{SymbolInput as Input}, SymbolTables.{SymbolTables as Tables}}, prefixed.PrefixedSymbols.{PrefixedSymbols}, widths.RunningWidths.{RunningWidths}}}
 
 abbrev pub tables_view : {T : Type 0} → Tables T → SymbolTables
 tables_view t = record {

@@ -1,21 +1,12 @@
 -- Values of the code, seen as values of the definitions.
-use Rattle.std.specs.Prelude.{List, ◌++◌, map}
-use Rattle.std.specs.Borrow.{Bor}
+use Rattle.std.specs.{Prelude.{List, ◌++◌, map, if◌then◌else◌}, Borrow.{Bor}}
 use Rattle.jbig2_base.specs.Grid.{Grid}
-use Rattle.jbig2_text.specs.Refining.{Refining}
-use Rattle.jbig2_text.specs.Text.{Instance, Reached, TextParams as Params}
-use Rattle.jbig2_text.specs.TextCoding.{Coded, Prefixed, TextTables}
-use Rattle.jbig2_text.specs.TextHeader.{text_pixels}
-use Rattle.jbig2_text.specs.declared.text.coded.CodedReadings.{CodedReadings}
-use Rattle.jbig2_text.specs.declared.text.header.TextFields.{TextFields}
-use Rattle.jbig2_text.specs.declared.text.instances.PlacedInstances.{PlacedInstances}
-use Rattle.jbig2_text.specs.declared.text.placement.Instance.{Instance as PlacedSymbol}
-use Rattle.jbig2_text.specs.declared.text.prefixed.PrefixedReadings.{PrefixedReadings}
-use Rattle.jbig2_text.specs.declared.text.symbol_list.SymbolList.{SymbolList}
-use Rattle.jbig2_text.specs.declared.text.symbols.InstanceSymbol.{InstanceSymbol}
-use Rattle.jbig2_text.specs.declared.text.symbols.InstanceSymbol.TheVariants.{Shared, Refined}
-use Rattle.jbig2_text.specs.declared.text.symbols.TextParams.{TextParams}
-use Rattle.jbig2_text.specs.declared.text.tables.TextRegionHuffmanTables.{TextRegionHuffmanTables}
+use Rattle.jbig2_region.specs.{inner.PixelArrays.{two_pixels}, declared.template.AdaptiveTemplatePixel.{AdaptiveTemplatePixel}}
+use Rattle.jbig2_text.specs.{Refining.{Refining}, Text.{Instance, Reached, TextParams as Params}, TextCoding.{Coded, Prefixed, TextTables}, declared.text.{coded.CodedReadings.{CodedReadings}, header.{TextFields.{TextFields}, TextRegionCoding.{TextRegionCoding, TheVariants as codings}, TextRegionFlags.{TextRegionFlags}, TextRegionHeader.{TextRegionHeader}}, instances.PlacedInstances.{PlacedInstances}, placement.Instance.{Instance as PlacedSymbol}, prefixed.PrefixedReadings.{PrefixedReadings}, symbol_list.SymbolList.{SymbolList}, symbols.{InstanceSymbol.{InstanceSymbol, TheVariants.{Shared, Refined}}, TextParams.{TextParams}}, tables.TextRegionHuffmanTables.{TextRegionHuffmanTables}}, TextHeader.{NumberCoding, TextHeader}}
+
+-- those of the code's two refinement pixels that these flags have
+abbrev pub text_pixels : TextRegionFlags → List AdaptiveTemplatePixel → List AdaptiveTemplatePixel
+text_pixels flags a = if flags.use_refinement then two_pixels flags.refinement_template a else []
 
 -- the fields, with those of the code's two refinement pixels that the flags have
 abbrev pub fields_view : TextFields → TextFields
@@ -69,3 +60,19 @@ instances_view instances = map (λ i. instance_view i) instances
 -- the instances so far, and the lent states
 abbrev pub reached_view : {B M S : Type 0} → PlacedInstances B M → Refining → S → Reached S
 reached_view placed f s = record { instances = instances_view placed.instances.items; cursor = placed.cursor; refining = f; state = s }
+
+abbrev pub coding_view : {A : Type 0} → TextRegionCoding A → NumberCoding
+coding_view codings.Arithmetic = ArithmeticCoding
+coding_view (codings.Huffman tables ids) = HuffmanCoding tables ids
+
+abbrev pub header_view : {A : Type 0} → TextRegionHeader A → TextHeader
+header_view h = record {
+  region_info = h.region_info;
+  flags = h.flags;
+  coding = coding_view h.coding;
+  refinement_pixels = text_pixels h.flags h.refinement_at_pixels;
+  instances = h.num_instances;
+  data_length = h.segment_data_len;
+  bytes = h.bytes.now;
+  strict = h.strict;
+}

@@ -2,9 +2,10 @@
 ghost use Rattle.std.specs.Prelude.{◌≡◌, ◌≤◌, ◌%◌, ◌^◌, IfOk, OnErr, OnOk, Bool, ℕ};
 ghost use Rattle.jbig2_base.specs.Answer.{Answers, Gives};
 ghost use Rattle.jbig2_base.specs.Bits.{IsAligned};
-ghost use Rattle.jbig2_region.specs.Templates.{filled};
+ghost use Rattle.jbig2_region.specs.inner.PixelArrays.{filled};
 ghost use Rattle.jbig2_text.specs.declared.text.header.TextFields.{TextFields};
-ghost use Rattle.jbig2_text.specs.TextHeader.{coding_view, header_view, corner_of, signed_5, text_flags_at, table_numbers, table_numbers_at, text_fields_at, coding_at, text_pixels, text_header_at};
+ghost use Rattle.jbig2_text.specs.TextHeader.{corner_of, signed_5, text_flags_at, table_numbers, table_numbers_at, text_fields_at, coding_at, text_header_at};
+ghost use Rattle.jbig2_text.specs.inner.TextViews.{coding_view, header_view, text_pixels};
 ghost use Rattle.jbig2_text.specs.inner.Parts.{other_flags, text_pixels_at};
 ghost use Rattle.jbig2_text.specs.inner.TextViews.{fields_view};
 ghost use Rattle.jbig2_base.specs.Causes.{HaveCauses};

@@ -3,8 +3,8 @@ ghost use Rattle.std.specs.Prelude.{◌≡◌, ◌≤◌, ◌^◌, length, false
 ghost use Rattle.jbig2_base.specs.Answer.{Gives};
 ghost use Rattle.jbig2_base.specs.Grid.{blank};
 ghost use Rattle.jbig2_region.specs.Refinement.{refinement_bits};
-ghost use Rattle.jbig2_region.specs.RefinementTemplates.{two_pixels};
-ghost use Rattle.jbig2_region.specs.Templates.{filled};
+ghost use Rattle.jbig2_region.specs.inner.PixelArrays.{two_pixels};
+ghost use Rattle.jbig2_region.specs.inner.PixelArrays.{filled};
 ghost use Rattle.jbig2_region.specs.inner.RefinementViews.{reference_view};
 ghost use Rattle.jbig2_text.specs.Refining.{refined_with, some_pixels};
 ghost use Rattle.jbig2_text.specs.inner.Parts.{fresh_refining, refining_by};

@@ -1,7 +1,7 @@
 use Rattle.std.proofs.Common.{◌≡◌, Err, inl, inr, ⊎_elim}
 use Rattle.std.proofs.lemmas.Result.{err_from_is_err_and}
 use Rattle.jbig2_base.specs.declared.error.DecodeError.TheVariants.{OutOfMemory}
-use Rattle.jbig2_region.specs.RefinementHeader.{header_view}
+use Rattle.jbig2_region.specs.inner.RefinedViews.{header_view}
 use Rattle.hayro_jbig2.specs.inner.PageViews.{near_area}
 use Rattle.hayro_jbig2.proofs.Direct.{page-refined}
 use Rattle.hayro_jbig2.proofs.PageArea.{area-far}

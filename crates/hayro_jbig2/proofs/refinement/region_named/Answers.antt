@@ -1,4 +1,4 @@
-use Rattle.jbig2_region.specs.Generic.{region_view}
+use Rattle.jbig2_region.specs.inner.RegionViews.{region_view}
 use Rattle.hayro_jbig2.proofs.KeptLemmas.{found-first}
 use Rattle.hayro_jbig2.proofs.refinement.region_named.Goals as goal
 

@@ -4,8 +4,10 @@ use Rattle.jbig2_base.specs.Grid.{Grid, blank}
 use Rattle.jbig2_base.specs.declared.error.DecodeError.TheVariants.{OutOfMemory}
 use Rattle.jbig2_halftone.specs.GrayScale.{GrayScale, gray_values, planes_of}
 use Rattle.jbig2_halftone.specs.Halftone.{cells_drawn, gray_params}
-use Rattle.jbig2_halftone.specs.HalftoneHeader.{HalftoneHeader, header_view}
-use Rattle.jbig2_halftone.specs.Patterns.{Patterns, dictionary_view}
+use Rattle.jbig2_halftone.specs.HalftoneHeader.{HalftoneHeader}
+use Rattle.jbig2_halftone.specs.inner.HalftoneHeaderViews.{header_view}
+use Rattle.jbig2_halftone.specs.Patterns.{Patterns}
+use Rattle.jbig2_halftone.specs.inner.DictionaryViews.{dictionary_view}
 use Rattle.jbig2_halftone.proofs.HalftoneLemmas.{image-fits, answer-of-planes, answer-of-fault, contexts-of-planes, answers-gives, refused-or, leaves-known, memory-alone}
 use Rattle.jbig2_halftone.proofs.DrawSteps.{on-ok, region-size, region-steps}
 use Rattle.jbig2_halftone.proofs.PlaneLemmas.{planes-sized}

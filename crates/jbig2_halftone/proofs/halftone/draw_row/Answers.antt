@@ -3,8 +3,10 @@ use Rattle.std.specs.Int.{int_shr}
 use mir.Val.{SFits}
 use Rattle.jbig2_base.specs.Grid.{Grid}
 use Rattle.jbig2_halftone.specs.Halftone.{cells_drawn, with_cell}
-use Rattle.jbig2_halftone.specs.HalftoneHeader.{HalftoneHeader, header_view}
-use Rattle.jbig2_halftone.specs.Patterns.{Patterns, dictionary_view}
+use Rattle.jbig2_halftone.specs.HalftoneHeader.{HalftoneHeader}
+use Rattle.jbig2_halftone.specs.inner.HalftoneHeaderViews.{header_view}
+use Rattle.jbig2_halftone.specs.Patterns.{Patterns}
+use Rattle.jbig2_halftone.specs.inner.DictionaryViews.{dictionary_view}
 use Rattle.jbig2_halftone.proofs.CellLemmas.{cells-first, cells-next, cells-fault, cells-all, cell-made, x-fits, y-fits, x-further, y-further, right-x, right-y}
 use Rattle.jbig2_halftone.proofs.DrawSteps.{cells-start, cells-more, cells-within}
 use Rattle.jbig2_halftone.proofs.halftone.draw_row.Goals as goal

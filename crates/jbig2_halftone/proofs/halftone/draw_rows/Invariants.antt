@@ -2,9 +2,9 @@ use Rattle.std.proofs.Common.{◌≡◌, ◌*◌, Ok, length}
 use Rattle.jbig2_base.specs.Combination.{WritesWithin}
 use Rattle.jbig2_halftone.specs.GrayScale.{gray_values}
 use Rattle.jbig2_halftone.specs.Halftone.{cells_drawn}
-use Rattle.jbig2_halftone.specs.HalftoneHeader.{header_view}
+use Rattle.jbig2_halftone.specs.inner.HalftoneHeaderViews.{header_view}
 use Rattle.jbig2_halftone.specs.PatternHeader.{HasSize}
-use Rattle.jbig2_halftone.specs.Patterns.{dictionary_view}
+use Rattle.jbig2_halftone.specs.inner.DictionaryViews.{dictionary_view}
 use Rattle.jbig2_halftone.specs.Steps.{words_of_cells}
 use Rattle.jbig2_halftone.specs.inner.CellPlaces.{x_of, y_of}
 use Rattle.jbig2_halftone.specs.inner.Stages.{after_lane_rows}

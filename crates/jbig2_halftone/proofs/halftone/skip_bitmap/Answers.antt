@@ -1,8 +1,10 @@
 use Rattle.std.proofs.Common.{◌≡◌, ◌+◌, ◌*◌, ◌<◌, ℕ, rules, Ok, false, ap, ◌∙◌, arith}
 use Rattle.jbig2_base.specs.Counts.{Counts}
 use Rattle.jbig2_base.specs.Grid.{Grid}
-use Rattle.jbig2_halftone.specs.HalftoneHeader.{HalftoneHeader, header_view}
-use Rattle.jbig2_halftone.specs.Patterns.{Patterns, dictionary_view}
+use Rattle.jbig2_halftone.specs.HalftoneHeader.{HalftoneHeader}
+use Rattle.jbig2_halftone.specs.inner.HalftoneHeaderViews.{header_view}
+use Rattle.jbig2_halftone.specs.Patterns.{Patterns}
+use Rattle.jbig2_halftone.specs.inner.DictionaryViews.{dictionary_view}
 use Rattle.jbig2_halftone.proofs.CellLemmas.{x-further, y-further, right-x, right-y, below-x, below-y, outside-known, skips, skips-start, skips-next, skips-all}
 use Rattle.jbig2_halftone.proofs.DrawSteps.{mask-start, mask-more}
 use Rattle.jbig2_region.specs.Raster.{so_far}

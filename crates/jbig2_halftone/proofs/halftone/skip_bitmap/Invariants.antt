@@ -1,7 +1,7 @@
 use Rattle.std.proofs.Common.{◌≡◌, ◌+◌, ◌*◌}
 use Rattle.jbig2_region.specs.Raster.{so_far}
-use Rattle.jbig2_halftone.specs.HalftoneHeader.{header_view}
-use Rattle.jbig2_halftone.specs.Patterns.{dictionary_view}
+use Rattle.jbig2_halftone.specs.inner.HalftoneHeaderViews.{header_view}
+use Rattle.jbig2_halftone.specs.inner.DictionaryViews.{dictionary_view}
 use Rattle.jbig2_halftone.proofs.CellLemmas.{skips}
 use Rattle.jbig2_halftone.specs.inner.CellPlaces.{x_of, y_of}
 use Rattle.jbig2_halftone.proofs.halftone.skip_bitmap.Given as goal

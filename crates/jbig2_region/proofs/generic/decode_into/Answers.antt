@@ -1,10 +1,11 @@
 use Rattle.std.proofs.Common.{◌≡◌, ℕ, List, sym, ap, ◌∙◌, length, drop}
-use Rattle.jbig2_region.specs.GenericHeader.{header_view}
+use Rattle.jbig2_region.specs.inner.GenericViews.{header_view}
 use Rattle.jbig2_region.specs.Generic.{coding_of, generic_region}
 use Rattle.jbig2_region.specs.inner.Holds.{DecodesRegion, Holds}
 use Rattle.jbig2_region.specs.inner.Layouts.{CountsCoded}
 use Rattle.jbig2_region.specs.Raster.{fresh_contexts, no_pixels}
-use Rattle.jbig2_region.specs.Templates.{context_bits, is_extended, template_pixels}
+use Rattle.jbig2_region.specs.Templates.{context_bits, template_pixels}
+use Rattle.jbig2_region.specs.inner.PixelArrays.{is_extended}
 use Rattle.jbig2_region.specs.declared.template.AdaptiveTemplatePixel.{AdaptiveTemplatePixel}
 use Rattle.jbig2_base.proofs.Causes.{same-ok}
 use Rattle.jbig2_region.proofs.GenericLemmas.{as-coded, region-decoded, answer-decoded, contexts-decoded, counts-decoded, whole-slice}

@@ -1,5 +1,5 @@
 use Rattle.std.proofs.Common.{◌≡◌, rules}
-use Rattle.jbig2_text.specs.TextHeader.{header_view}
+use Rattle.jbig2_text.specs.inner.TextViews.{header_view}
 use Rattle.jbig2_text.specs.TextRegion.{refining_of}
 use Rattle.jbig2_text.specs.inner.TextViews.{params_view, symbols_view}
 use Rattle.jbig2_text.proofs.RegionLemmas.{gives-part, region-is}

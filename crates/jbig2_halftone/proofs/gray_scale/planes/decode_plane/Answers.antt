@@ -1,5 +1,5 @@
 use Rattle.std.proofs.Common.{not, ap, refl, ◌∙◌}
-use Rattle.jbig2_region.specs.Templates.{four_pixels}
+use Rattle.jbig2_region.specs.inner.PixelArrays.{four_pixels}
 use Rattle.jbig2_halftone.specs.inner.HalftoneViews.{gray_view}
 use Rattle.jbig2_halftone.proofs.GrayCounts.{one-masked, one-plain, plain-counts}
 use Rattle.jbig2_halftone.proofs.PlaneLemmas.{unskipped, no-mask}

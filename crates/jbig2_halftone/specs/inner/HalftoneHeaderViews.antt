@@ -1,0 +1,12 @@
+-- A halftone region's header of the code, seen as the definition's.
+use Rattle.jbig2_halftone.specs.{declared.halftone.header.HalftoneRegionHeader.{HalftoneRegionHeader}, HalftoneHeader.{HalftoneHeader}}
+
+abbrev pub header_view : HalftoneRegionHeader → HalftoneHeader
+header_view h = record {
+  region_info = h.region_info;
+  flags = h.flags;
+  grid_position_and_size = h.grid_position_and_size;
+  grid_vector = h.grid_vector;
+  bytes = h.bytes.now;
+  strict = h.strict;
+}

@@ -1,0 +1,14 @@
+-- A generic region's header of the code, seen as the definition's.
+use Rattle.jbig2_region.specs.{inner.PixelArrays.{is_extended, pixels_view}, declared.generic.GenericRegionHeader.{GenericRegionHeader}, GenericHeader.{GenericHeader}}
+
+abbrev pub header_view : GenericRegionHeader → GenericHeader
+header_view h = record {
+  region_info = h.region_info;
+  mmr = h.mmr;
+  template = h.template;
+  extended = is_extended h.adaptive_template_pixels;
+  tpgdon = h.tpgdon;
+  adaptive_template_pixels = pixels_view h.mmr h.template h.adaptive_template_pixels;
+  bytes = h.bytes.now;
+  strict = h.strict;
+}

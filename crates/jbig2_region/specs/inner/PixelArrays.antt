@@ -1,0 +1,28 @@
+-- The code's arrays of adaptive pixels, which hold four, twelve or two of them: a region has the first so many.
+use Rattle.std.specs.Prelude.{ℕ, ◌≡◌, Bool, true, false, List, ◌∷◌, zero, suc, take}
+use Rattle.jbig2_region.specs.{declared.template.{AdaptiveTemplatePixel.{AdaptiveTemplatePixel}, Template.{Template}, GenericTemplatePixels.{GenericTemplatePixels, TheVariants.{Regular, Extended}}, RefinementTemplate.{RefinementTemplate}}, Templates.{right, adaptive_pixel_count}, RefinementTemplates.{refinement_pixel_count}}
+
+abbrev pub four_pixels : Template → List AdaptiveTemplatePixel → List AdaptiveTemplatePixel
+four_pixels template a = take (adaptive_pixel_count false false template) a
+
+abbrev pub is_extended : GenericTemplatePixels → Bool
+is_extended (Regular a) = false
+is_extended (Extended a) = true
+
+abbrev pub pixels_view : Bool → Template → GenericTemplatePixels → List AdaptiveTemplatePixel
+pixels_view mmr template (Regular a) = take (adaptive_pixel_count mmr false template) a
+pixels_view mmr template (Extended a) = take (adaptive_pixel_count mmr true template) a
+
+-- An array of so many pixels that begins with these. The others lie at (0, 0), and no template takes them.
+abbrev pub filled : ℕ → List AdaptiveTemplatePixel → List AdaptiveTemplatePixel
+filled zero a = []
+filled (suc count) [] = right 0 0 ∷ filled count []
+filled (suc count) (first ∷ others) = first ∷ filled count others
+
+abbrev pub IsFilled : GenericTemplatePixels → List AdaptiveTemplatePixel → Type 0
+IsFilled (Regular a) pixels = a ≡ filled 4 pixels
+IsFilled (Extended a) pixels = a ≡ filled 12 pixels
+
+-- those of the code's array of two that a template has
+abbrev pub two_pixels : RefinementTemplate → List AdaptiveTemplatePixel → List AdaptiveTemplatePixel
+two_pixels template a = take (refinement_pixel_count template) a

@@ -1,0 +1,11 @@
+-- A refinement's header of the code, seen as the definition's.
+use Rattle.jbig2_region.specs.{inner.PixelArrays.{two_pixels}, declared.generic_refinement.GenericRefinementRegionHeader.{GenericRefinementRegionHeader}, RefinementHeader.{RefinementHeader}}
+
+abbrev pub header_view : GenericRefinementRegionHeader → RefinementHeader
+header_view h = record {
+  region_info = h.region_info;
+  template = h.template;
+  tpgron = h.tpgron;
+  adaptive_template_pixels = two_pixels h.template h.adaptive_template_pixels;
+  bytes = h.bytes.now;
+}
