@@ -2,11 +2,12 @@
 -- A number means the first that is kept under it: among the page's own, else among those of the globals. That the
 -- first of equal numbers counts is our own rule.
 use Rattle.std.specs.{Prelude.{ℕ, nat_le, nat_lt, ◌==◌, Bool, true, false, List, [], ◌∷◌, ◌++◌, length, Option, Some, None, Result, Ok, if◌then◌else◌}, Int.{w32}, Option.{option_map_or, option_or}}
-use Rattle.jbig2_base.specs.{Answer.{◌>>=◌, refuse_if}, Bits.{start_of}, Fields.{number_at}, Grid.{Grid}, Segment.{SegmentView}, declared.{error.{DecodeError.{DecodeError, TheVariants.{Overflow, Segment, Unsupported}}, OverflowError.TheVariants.{SymbolCount}, SegmentError.TheVariants.{InvalidReference}}, segment.SegmentType.{SegmentType, TheVariants as types}}}
+use Rattle.jbig2_base.specs.{Answer.{◌>>=◌, refuse_if}, Bits.{start_of}, Fields.{number_at}, Grid.{Grid}, Segment.{SegmentView}, declared.{error.{DecodeError.{DecodeError, TheVariants.{Overflow, Segment, Unsupported}}, OverflowError.TheVariants.{SymbolCount}, SegmentError.TheVariants.{InvalidReference}}, segment.SegmentType.{SegmentType}}}
 use Rattle.jbig2_coder.specs.{CustomTable.{answer_of, custom_table}, PrefixCode.{Member}}
 use Rattle.jbig2_halftone.specs.{PatternHeader.{pattern_header_at}, Patterns.{Patterns, patterns_decoded}}
 use Rattle.jbig2_symbol.specs.{SymbolHeader.{symbol_header_at}, SymbolReading.{BitmapContexts}, Symbols.{Symbols, symbols_decoded}}
 use Rattle.hayro_jbig2.specs.declared.kept.Kept.{Kept}
+use Rattle.jbig2_base.specs.declared.segment.SegmentType.TheVariants as types
 
 abbrev pub kept_under : {V : Type 0} → ℕ → V → List (Kept V) → List (Kept V)  -- behind what is kept already
 kept_under number value kept = kept ++ record { segment_number = number; value = value } ∷ []

@@ -1,9 +1,11 @@
 -- What a page shows (T.88, 8): the fold of its segments over what was drawn so far. Each segment is drawn onto the page,
 -- kept for later ones, or changes nothing, by its type (7.3).
 use Rattle.std.specs.{Prelude.{◌≡◌, ℕ, Bool, true, false, not, List, [], ◌∷◌, Option, Some, None, Result, Ok, Err, IsTrue, if◌then◌else◌}, Int.{w32, cast_signed}}
-use Rattle.jbig2_base.specs.{Answer.{◌>>=◌}, Combination.{combined}, Grid.{Grid, blank}, PageInfo.{initial_page_of}, Segment.{SegmentView}, Sequential.{sorted_segments}, declared.{bitmap.operator.CombinationOperator.{CombinationOperator, TheVariants.{Or, And, Xor, Xnor, Replace}}, error.DecodeError.{DecodeError}, page_info.InitialPage.{InitialPage}, segment.SegmentType.{SegmentType, TheVariants as types}}}
+use Rattle.jbig2_base.specs.{Answer.{◌>>=◌}, Combination.{combined}, Grid.{Grid, blank}, PageInfo.{initial_page_of}, Segment.{SegmentView}, Sequential.{sorted_segments}, declared.{bitmap.operator.CombinationOperator.{CombinationOperator, TheVariants.{Or, And, Xor, Xnor, Replace}}, error.DecodeError.{DecodeError}, page_info.InitialPage.{InitialPage}, segment.SegmentType.{SegmentType}}}
 use Rattle.jbig2_region.specs.Generic.{PlacedRegion}
-use Rattle.hayro_jbig2.specs.{Names.{Names, no_names, kept_by, kept_under}, Regions.{generic_at, halftone_at, refinement_at, text_at}, declared.{kept.Kept.{Kept}, region.RegionKind.{RegionKind, TheVariants as kinds}}}
+use Rattle.hayro_jbig2.specs.{Names.{Names, no_names, kept_by, kept_under}, Regions.{generic_at, halftone_at, refinement_at, text_at}, declared.{kept.Kept.{Kept}, region.RegionKind.{RegionKind}}}
+use Rattle.jbig2_base.specs.declared.segment.SegmentType.TheVariants as types
+use Rattle.hayro_jbig2.specs.declared.region.RegionKind.TheVariants as kinds
 
 -- A page that was read: whether strictly, what it begins as, its segments in order, and its globals or their error.
 pub record ReadPage : Type 0 where

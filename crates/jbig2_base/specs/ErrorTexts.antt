@@ -1,7 +1,16 @@
 -- The text of each error, as its `Display` writes it (our own rule). Each definition takes the errors of one enum and
 -- gives the bytes of their texts; `error_text` takes any of them.
 use Rattle.std.specs.Prelude.{ℕ, List, codes}
-use Rattle.jbig2_base.specs.declared.error.{DecodeError.{DecodeError, TheVariants as errors}, ParseError.{ParseError, TheVariants as parse}, FormatError.{FormatError, TheVariants as format}, SegmentError.{SegmentError, TheVariants as segment}, HuffmanError.{HuffmanError, TheVariants as huffman}, RegionError.{RegionError, TheVariants as region}, TemplateError.{TemplateError, TheVariants as template}, SymbolError.{SymbolError, TheVariants as symbol}, OverflowError.{OverflowError, TheVariants as overflow}}
+use Rattle.jbig2_base.specs.declared.error.{DecodeError.{DecodeError}, ParseError.{ParseError}, FormatError.{FormatError}, SegmentError.{SegmentError}, HuffmanError.{HuffmanError}, RegionError.{RegionError}, TemplateError.{TemplateError}, SymbolError.{SymbolError}, OverflowError.{OverflowError}}
+use Rattle.jbig2_base.specs.declared.error.DecodeError.TheVariants as errors
+use Rattle.jbig2_base.specs.declared.error.ParseError.TheVariants as parse
+use Rattle.jbig2_base.specs.declared.error.FormatError.TheVariants as format
+use Rattle.jbig2_base.specs.declared.error.SegmentError.TheVariants as segment
+use Rattle.jbig2_base.specs.declared.error.HuffmanError.TheVariants as huffman
+use Rattle.jbig2_base.specs.declared.error.RegionError.TheVariants as region
+use Rattle.jbig2_base.specs.declared.error.TemplateError.TheVariants as template
+use Rattle.jbig2_base.specs.declared.error.SymbolError.TheVariants as symbol
+use Rattle.jbig2_base.specs.declared.error.OverflowError.TheVariants as overflow
 
 abbrev pub parse_text : ParseError → List ℕ
 parse_text parse.UnexpectedEof = codes "unexpected end of input"

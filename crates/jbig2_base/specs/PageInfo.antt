@@ -1,7 +1,8 @@
 -- Page information (T.88, 7.4.8), and what a page begins as: `initial_page_of` gives a page's number, size and colour
 -- by the first page information among its segments, and by its stripes (7.4.10) where that leaves the height open.
 use Rattle.std.specs.{Prelude.{ℕ, ◌+◌, ◌/◌, ◌%◌, ◌==◌, max, nat_lt, Bool, true, false, not, ◌&&◌, ◌||◌, List, [], ◌∷◌, length, take, Result, Ok, Err, if◌then◌else◌}, Int.{w8, w16, w32, from_be_bytes}}
-use Rattle.jbig2_base.specs.{Answer.{◌>>=◌, refuse_if}, Bits.{nonzero}, Fields.{number_at}, Segment.{SegmentView}, declared.{bitmap.operator.CombinationOperator.{CombinationOperator, TheVariants.{Or, And, Xor, Xnor}}, error.{DecodeError.{DecodeError, TheVariants.{Format, Overflow}}, FormatError.TheVariants.{MissingPageInfo, UnknownPageHeight, EmptyPage}, OverflowError.TheVariants.{BitmapDimension}}, page_info.{PageFlags.{PageFlags}, PageInformation.{PageInformation}, InitialPage.{InitialPage}}, segment.SegmentType.{SegmentType, TheVariants as types}}}
+use Rattle.jbig2_base.specs.{Answer.{◌>>=◌, refuse_if}, Bits.{nonzero}, Fields.{number_at}, Segment.{SegmentView}, declared.{bitmap.operator.CombinationOperator.{CombinationOperator, TheVariants.{Or, And, Xor, Xnor}}, error.{DecodeError.{DecodeError, TheVariants.{Format, Overflow}}, FormatError.TheVariants.{MissingPageInfo, UnknownPageHeight, EmptyPage}, OverflowError.TheVariants.{BitmapDimension}}, page_info.{PageFlags.{PageFlags}, PageInformation.{PageInformation}, InitialPage.{InitialPage}}, segment.SegmentType.{SegmentType}}}
+use Rattle.jbig2_base.specs.declared.segment.SegmentType.TheVariants as types
 
 abbrev pub default_operator_of : ℕ → CombinationOperator  -- the default operator by its two bits (7.4.8.5)
 default_operator_of n = if n == 0 then Or else if n == 1 then And else if n == 2 then Xor else Xnor

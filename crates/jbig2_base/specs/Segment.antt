@@ -1,7 +1,8 @@
 -- Segments: their headers and their data (T.88, 7.2). `segment_at` takes the bytes at the beginning of a segment and
 -- gives the segment and the bytes behind it, or the first fault.
 use Rattle.std.specs.{Prelude.{ℕ, suc, zero, ◌+◌, ◌*◌, ◌/◌, ◌%◌, ◌==◌, nat_le, nat_lt, Bool, true, false, not, ◌&&◌, ◌||◌, List, [], ◌∷◌, take, drop, length, slice_index, Option, Some, None, Result, Ok, Err, if◌then◌else◌}, List.{list_any}, Int.{Width, w8, w16, w32, byte_len, from_be_bytes}}
-use Rattle.jbig2_base.specs.{Answer.{◌>>=◌, refuse_if}, Fields.{bytes_at, number_at}, Search.{place_from}, declared.{error.{DecodeError.{DecodeError, TheVariants.{Segment}}, SegmentError.TheVariants.{UnknownType, InvalidReferredCount, InvalidReference, InvalidUnknownLength, MissingEndMarker}}, segment.SegmentType.{SegmentType, TheVariants as types}}}
+use Rattle.jbig2_base.specs.{Answer.{◌>>=◌, refuse_if}, Fields.{bytes_at, number_at}, Search.{place_from}, declared.{error.{DecodeError.{DecodeError, TheVariants.{Segment}}, SegmentError.TheVariants.{UnknownType, InvalidReferredCount, InvalidReference, InvalidUnknownLength, MissingEndMarker}}, segment.SegmentType.{SegmentType}}}
+use Rattle.jbig2_base.specs.declared.segment.SegmentType.TheVariants as types
 
 pub record Header : Type 0 where  -- a segment's header (7.2.2 to 7.2.7)
   pub segment_number : ℕ

@@ -1,7 +1,8 @@
 -- Segments one behind the other, header and data by turns: the sequential organisation of a file (T.88, D.1), and the
 -- embedded one (D.3), as PDF keeps pages and globals. Pages take them sorted.
 use Rattle.std.specs.Prelude.{ℕ, suc, zero, nat_lt, Bool, true, false, not, ◌==◌, List, [], ◌∷◌, length, Result, Ok, Err, if◌then◌else◌}
-use Rattle.jbig2_base.specs.{Answer.{◌>>=◌}, Segment.{SegmentView, segment_at}, declared.{error.DecodeError.{DecodeError, TheVariants.{Parse}}, segment.SegmentType.{SegmentType, TheVariants as types}}}
+use Rattle.jbig2_base.specs.{Answer.{◌>>=◌}, Segment.{SegmentView, segment_at}, declared.{error.DecodeError.{DecodeError, TheVariants.{Parse}}, segment.SegmentType.{SegmentType}}}
+use Rattle.jbig2_base.specs.declared.segment.SegmentType.TheVariants as types
 
 abbrev pub is_end_of_file : SegmentType → Bool
 is_end_of_file types.EndOfFile = true

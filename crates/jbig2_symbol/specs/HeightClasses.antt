@@ -1,9 +1,10 @@
 -- Height classes of a symbol dictionary (T.88, 6.5.5, step 4): the widths of symbols, symbols that are drawn one by one,
 -- and the classes. They go by the readings of a coding, and give the new symbols and the state behind them.
 use Rattle.std.specs.Prelude.{ℕ, zero, suc, ◌+◌, ◌-◌, ◌==◌, nat_lt, nat_le, ◌&&◌, if◌then◌else◌, List, [], ◌∷◌, ◌++◌, length, Option, Some, None, Result, Ok, Err, ℤ, pos, negsuc, ◌+ℤ◌}
-use Rattle.jbig2_base.specs.{Answer.{◌>>=◌, refuse_if}, Grid.{Grid, bit_number}, declared.error.{DecodeError.{DecodeError, TheVariants as errors}, OverflowError.TheVariants.{BitmapDimension}, SymbolError.TheVariants.{Invalid, TooManySymbols, UnexpectedOob}}}
+use Rattle.jbig2_base.specs.{Answer.{◌>>=◌, refuse_if}, Grid.{Grid, bit_number}, declared.error.{DecodeError.{DecodeError}, OverflowError.TheVariants.{BitmapDimension}, SymbolError.TheVariants.{Invalid, TooManySymbols, UnexpectedOob}}}
 use Rattle.jbig2_text.specs.TextCoding.{in_band}
 use Rattle.jbig2_symbol.specs.SymbolReading.{ClassReadings, SymbolInput, SymbolReadings}
+use Rattle.jbig2_base.specs.declared.error.DecodeError.TheVariants as errors
 
 abbrev pub size_in_word : ℤ → Result ℕ DecodeError  -- a size, refused outside 32 bits (our own rule)
 size_in_word (pos n) = if nat_lt n 4294967296 then Ok n else Err (errors.Overflow BitmapDimension)

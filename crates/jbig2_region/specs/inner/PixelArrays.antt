@@ -1,5 +1,5 @@
 -- The code's arrays of adaptive pixels, which hold four, twelve or two of them: a region has the first so many.
-use Rattle.std.specs.Prelude.{ℕ, ◌≡◌, Bool, true, false, List, ◌∷◌, zero, suc, take}
+use Rattle.std.specs.Prelude.{ℕ, ◌≡◌, Bool, true, false, List, [], ◌∷◌, zero, suc, take}
 use Rattle.jbig2_region.specs.{declared.template.{AdaptiveTemplatePixel.{AdaptiveTemplatePixel}, Template.{Template}, GenericTemplatePixels.{GenericTemplatePixels, TheVariants.{Regular, Extended}}, RefinementTemplate.{RefinementTemplate}}, Templates.{right, adaptive_pixel_count}, RefinementTemplates.{refinement_pixel_count}}
 
 abbrev pub four_pixels : Template → List AdaptiveTemplatePixel → List AdaptiveTemplatePixel
