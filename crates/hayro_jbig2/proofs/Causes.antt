@@ -211,6 +211,6 @@ some-page book (Some page) none = tt
 some-page book None none = (refl, none refl)
 
 pub first_page_causes : FirstPagesHaveCauses
-unfolding first_page
+unfolding first_page HaveCauses
 first_page_causes bytes =
     in-steps (book_at false bytes) _ (BreaksBook false bytes) (λ book. LacksPages book) (file_causes false bytes) (λ book book_is. some-page book (page_of book 0) (no-page (page_in book) book.pages))

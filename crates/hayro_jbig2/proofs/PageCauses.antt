@@ -43,6 +43,7 @@ keeping-cause P d kept is = cause-next P kept _ is (λ names names_is. tt)
 
 -- ---- regions
 region-causes : (strict : Bool) (globals : Names) (kind : RegionKind) (is_intermediate : Bool) (p : SegmentView) (d : Drawing) → IfErr (region_at strict globals kind is_intermediate p d) (BreaksRegion strict globals kind is_intermediate p d)
+unfolding HaveCauses
 region-causes strict globals kinds.Text is_intermediate p d = text_causes strict d.names globals p
 region-causes strict globals kinds.Halftone is_intermediate p d = halftone_causes strict d.names globals p
 region-causes strict globals kinds.Generic is_intermediate p d = own-error (generic_at strict is_intermediate p)
@@ -65,6 +66,7 @@ intermediate-causes strict globals kind p d =
 
 -- ---- segments that draw nothing
 kept-causes : (strict : Bool) (shared : Names) (kind : SegmentType) (h : Header) (bytes : List ℕ) (own : Names) → IfErr (kept_by strict shared (of_type kind h bytes) own) (BreaksKept strict own shared (of_type kind h bytes))
+unfolding HaveCauses
 kept-causes strict shared types.SymbolDictionary h bytes own = let p = of_type types.SymbolDictionary h bytes in symbols-cause (BreaksKept strict own shared p) strict shared p own (symbol_dictionary_causes strict own shared p)
 kept-causes strict shared types.PatternDictionary h bytes own = patterns-cause strict (of_type types.PatternDictionary h bytes) own
 kept-causes strict shared types.Tables h bytes own = code-cause (of_type types.Tables h bytes) own
@@ -86,7 +88,7 @@ file_globals_causes strict (p ∷ ps) names =
     (λ more more_is. cause-by (named_from strict ps more) (BreaksNames strict ps more) P (file_globals_causes strict ps more) (λ e is some. names-later strict p ps names more e more_is some))
 
 pub globals_causes : GlobalsHaveCauses
-unfolding globals_at
+unfolding globals_at HaveCauses
 globals_causes strict bytes =
     in-steps (sorted_segments strict bytes) _ (IsOf (sorted_segments strict bytes)) (λ ps. BreaksNames strict ps no_names) (own-error (sorted_segments strict bytes)) (λ ps ps_is. file_globals_causes strict ps no_names)
 

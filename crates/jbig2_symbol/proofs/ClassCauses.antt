@@ -187,9 +187,11 @@ abbrev ClassesHaveCauses : {S : Type 0} → ClassCauses S → ClassReadings S �
 ClassesHaveCauses {S} c r = (d : SymbolInput) (height empty : ℕ) (new : List Grid) (s : S) → IfErr (r.class_of_height d height empty new s) (c d height empty new s)
 
 coded-classes : ClassesHaveCauses (BreaksDrawnClass BreaksCodedBitmap symbols_by_coder) classes_by_coder
+unfolding HaveCauses
 coded-classes = drawn_class_causes BreaksCodedBitmap symbols_by_coder coded_bitmap_causes
 
 prefixed-classes : ClassesHaveCauses BreaksPrefixedClass classes_by_prefix_codes
+unfolding HaveCauses
 prefixed-classes d height empty new s =
     let P : DecodeError → Type 0 = BreaksPrefixedClass d height empty new s in
     let drawn = drawn_class symbols_by_prefix_codes d height empty new s in
@@ -279,7 +281,7 @@ BehindIds h symbols contexts tables e =
     Behind (id_codes h (length symbols)) (λ ids. BreaksCoding (input_of h symbols tables ids) contexts e)
 
 pub symbols_causes : SymbolsHaveCauses
-unfolding symbols_decoded
+unfolding symbols_decoded HaveCauses
 symbols_causes h symbols referred kept =
     in-steps (first_contexts h.flags kept) _ (BreaksContexts h.flags kept) (λ contexts e. InSteps (symbol_tables h.flags referred) (BreaksTables h.flags referred e) (λ tables. BehindIds h symbols contexts tables e)) (contexts_causes h.flags kept) (λ contexts contexts_is.
     in-steps (symbol_tables h.flags referred) _ (BreaksTables h.flags referred) (λ tables e. BehindIds h symbols contexts tables e) (symbol_tables_causes h.flags referred) (λ tables tables_is.

@@ -110,6 +110,7 @@ told-fields P bytes rest s short =
 -- ---- the codes of the ids
 cause-coding : (P : DecodeError → Type 0) (tables : Option TextRegionHuffmanFlags) (symbols : ℕ) (bytes rest : List ℕ) → is_some tables ≡ eqb (text_flags_in bytes % 2) 1
     → Stands bytes (fields_length bytes) rest → ((e : DecodeError) → BreaksIds symbols bytes e → P e) → IfErr (coding_at tables symbols rest) P
+unfolding HaveCauses
 cause-coding P None symbols bytes rest coded s why = tt
 cause-coding P (Some tables) symbols bytes rest coded s why =
     let on : eqb (text_flags_in bytes % 2) 1 ≡ true = sym coded in

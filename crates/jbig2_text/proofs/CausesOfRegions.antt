@@ -208,6 +208,7 @@ cause-from c r a h symbols region s =
     (cause-next P (text_instances r (text_params h symbols) (refining_of h) s) _ (all_instance_causes c r a (text_params h symbols) (refining_of h) s) (λ found is. tt)) (λ found is. tt)
 
 cause-by : (h : TextHeader) (coding : NumberCoding) (symbols : List Grid) (customs : List (List Member)) (region : Grid) → IfErr (region_by h coding symbols customs region) (BreaksRegionBy h coding symbols customs)
+unfolding HaveCauses
 cause-by h ArithmeticCoding symbols customs region = cause-from coder_causes by_coder by_coder-causes h symbols region (coder_of h symbols)
 cause-by h (HuffmanCoding numbers ids) symbols customs region =
     let P : DecodeError → Type 0 = BreaksRegionBy h (HuffmanCoding numbers ids) symbols customs in
