@@ -1,10 +1,14 @@
 -- What a region is decoded by, once its header is read and what it refers to is found (T.88, 7.4.3 and 7.4.5 to 7.4.7).
 use Rattle.std.specs.Prelude.{◌≡◌, ◌≤◌, Bool, false, ◌||◌, nat_lt, Result, Ok, Err, ◌⊎◌}
 use Rattle.jbig2_base.specs.{Answer.{◌>>=◌, refuse_if}, Grid.{Grid}, declared.error.{DecodeError.{DecodeError, TheVariants.{OutOfMemory, Overflow}}, OverflowError.TheVariants.{BitmapDimension}}}
-use Rattle.jbig2_region.specs.{Generic.{PlacedRegion, generic_answer}, inner.RegionViews.{region_view}, GenericHeader as generics, Refinement.{refined_answer}, RefinementHeader as refinements, RegionInfo.{placed}, declared.region_info.RegionSegmentInfo.{RegionSegmentInfo}}
-use Rattle.jbig2_halftone.specs.{Halftone.{halftone_answer}, HalftoneHeader as halftones, inner.DictionaryViews.{dictionary_view}}
-use Rattle.jbig2_text.specs.{TextHeader as texts, TextRegion.{text_answer}}
+use Rattle.jbig2_region.specs.{Generic.{PlacedRegion, generic_answer}, inner.RegionViews.{region_view}, Refinement.{refined_answer}, RegionInfo.{placed}, declared.region_info.RegionSegmentInfo.{RegionSegmentInfo}}
+use Rattle.jbig2_halftone.specs.{Halftone.{halftone_answer}, inner.DictionaryViews.{dictionary_view}}
+use Rattle.jbig2_text.specs.TextRegion.{text_answer}
 use Rattle.hayro_jbig2.specs.{Page.{Drawing}, declared.{parsed_region.ParsedRegion.{ParsedRegion, TheVariants.{Text, Halftone, Generic, Refinement, PageRefinement}}, references.References.{References}}, inner.KeptViews.{seen}}
+use Rattle.jbig2_region.specs.GenericHeader as generics
+use Rattle.jbig2_region.specs.RefinementHeader as refinements
+use Rattle.jbig2_halftone.specs.HalftoneHeader as halftones
+use Rattle.jbig2_text.specs.TextHeader as texts
 
 abbrev pub info_of : {A : Type 0} → ParsedRegion A → RegionSegmentInfo
 info_of (Text header referred) = header.region_info

@@ -1,8 +1,9 @@
 -- How a dictionary's input, and what its reading has come to, are seen by the definitions (our own rule).
 use Rattle.std.specs.{Borrow.{Bor}, Prelude.{ℕ, ◌+◌, ◌-◌, ◌==◌, ◌≡◌, ◌++◌, List, length, map, Option, Some, None, option_map, Result, Ok}}
 use Rattle.jbig2_base.specs.{Answer.{◌>>=◌}, declared.error.DecodeError.{DecodeError}, Bits.{Place}, Grid.{Grid, bit_number}}
-use Rattle.jbig2_text.specs.{TextCoding.{Coded}, inner.{TextViews as texts}}
+use Rattle.jbig2_text.specs.TextCoding.{Coded}
 use Rattle.jbig2_symbol.specs.{SymbolReading.{BitmapContexts, SymbolInput, SymbolState, SymbolTables}, Symbols.{Symbols}, inner.HeaderViews.{contexts_view, header_view}, declared.symbol.{coded.CodedSymbols.{CodedSymbols}, dictionary.{RetainedContexts.{RetainedContexts}, SymbolDictionary.{SymbolDictionary}}, input.{SymbolInput.{SymbolInput as Input}, SymbolTables.{SymbolTables as Tables}}, prefixed.PrefixedSymbols.{PrefixedSymbols}, widths.RunningWidths.{RunningWidths}}}
+use Rattle.jbig2_text.specs.inner.TextViews as texts
 
 abbrev pub tables_view : {T : Type 0} → Tables T → SymbolTables
 tables_view t = record {

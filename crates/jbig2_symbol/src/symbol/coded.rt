@@ -12,6 +12,7 @@ ghost use Rattle.jbig2_symbol.specs.inner.SymbolViews.{coded_view, input_view};
 ghost use Rattle.jbig2_base.specs.Causes.{BreaksSides, HaveCauses};
 ghost use Rattle.jbig2_base.specs.Grid.{Grid};
 ghost use Rattle.jbig2_symbol.specs.SymbolHeader.{SymbolHeader};
+ghost use Rattle.jbig2_symbol.specs.SymbolReading.{SymbolInput as Input};
 
 use crate::symbol::aggregates::{
     SymbolSize, aggregate_params, instance_count, put_together, refine_alone, state_bits,
@@ -137,7 +138,7 @@ impl<A: Allocator> CodedSymbols<'_, A> {
         ensures value { let d = input_view input.now in
             let meant = coded_aggregate d new.now size.width size.height (coded_view self.old) in
             Gives (λ symbol. (symbol, coded_view self.new)) result meant }
-        ensures causes { (d : SymbolInput) (new : List Grid) (width height : ℕ) → HaveCauses (coded_aggregate d new width height) (BreaksCodedAggregate d new width height) }
+        ensures causes { (d : Input) (new : List Grid) (width height : ℕ) → HaveCauses (coded_aggregate d new width height) (BreaksCodedAggregate d new width height) }
         ensures counts { InstanceCountsHaveCauses (SymbolState Coded) }
     {
         let count = instance_count(self.number(IntegerProcedure::Iaai, steps)?)?;
@@ -158,7 +159,7 @@ impl<A: Allocator> CodedSymbols<'_, A> {
         ensures value { let d = input_view input.now in
             let meant = coded_bitmap d new.now size.width size.height (coded_view self.old) in
             Gives (λ symbol. (symbol, coded_view self.new)) result meant }
-        ensures causes { (d : SymbolInput) (new : List Grid) (width height : ℕ) → HaveCauses (coded_bitmap d new width height) (BreaksCodedBitmap d new width height) }
+        ensures causes { (d : Input) (new : List Grid) (width height : ℕ) → HaveCauses (coded_bitmap d new width height) (BreaksCodedBitmap d new width height) }
     {
         if input.header.flags.use_refagg {
             return self.read_aggregate(alloc, input, new, size, steps);
