@@ -33,8 +33,11 @@ fn decode_symbols<A: Allocator + Clone, L: Ledger>(
     ensures value { Gives (λ d. symbols_view d) result
         (symbol_dictionary_at lookup.now.strict lookup.now.own.now lookup.now.globals.now
         (segment_view segment.now)) }
-    ensures causes { (strict : Bool) (own shared : Names) → HaveCauses (symbol_dictionary_at strict own shared) (BreaksSymbolDictionary strict own shared) }
-    ensures references { (strict : Bool) (own shared : Names) → HaveCauses (referred_by strict own shared) (BreaksReferred strict own shared) }
+    ensures causes { (strict : Bool) (own shared : Names)
+        → HaveCauses (symbol_dictionary_at strict own shared)
+        (BreaksSymbolDictionary strict own shared) }
+    ensures references { (strict : Bool) (own shared : Names)
+        → HaveCauses (referred_by strict own shared) (BreaksReferred strict own shared) }
 {
     let numbers = &segment.header.referred_to_segments;
     let referred = gather_referred(workspace.alloc.clone()?, lookup, numbers)?;

@@ -182,7 +182,8 @@ impl<'a, A: Allocator + Clone> File<'a, A> {
     pub fn new(alloc: A, bytes: &'a [u8], settings: &DecodeSettings) -> Result<File<'a, A>>
         ensures value { Gives (λ file. file) result (book_at settings.now.strict bytes.now) }
         ensures causes { (strict : Bool) → HaveCauses (book_at strict) (BreaksBook strict) }
-        ensures globals { (strict : Bool) (ps : List SegmentView) → HaveCauses (named_from strict ps) (BreaksNames strict ps) }
+        ensures globals { (strict : Bool) (ps : List SegmentView)
+            → HaveCauses (named_from strict ps) (BreaksNames strict ps) }
     {
         let strict = settings.strict;
         let file = parse_file(alloc.clone()?, bytes, strict)?;

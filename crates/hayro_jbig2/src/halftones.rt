@@ -47,7 +47,8 @@ pub(crate) fn parse_halftone<'a, 'n, 'r, A: Allocator>(
         references.now.names.globals.now
         (segment_view segment.now)) }
     ensures parsed { IfOk result (λ region. IsDecodable region) }
-    ensures causes { (strict : Bool) (own shared : Names) → HaveCauses (halftone_at strict own shared) (BreaksHalftoneSegment strict own shared) }
+    ensures causes { (strict : Bool) (own shared : Names)
+        → HaveCauses (halftone_at strict own shared) (BreaksHalftoneSegment strict own shared) }
 {
     let lookup = &references.names;
     let patterns = referred_patterns(lookup, &segment.header.referred_to_segments)?;

@@ -129,7 +129,9 @@ pub(crate) fn parse_refinement<'a, 'n, 'r, A: Allocator + Clone, L: Ledger>(
         (refinement_at references.now.names.strict is_intermediate references.now.page.now
         (seen region_view references.now.regions.now) (segment_view segment.now)) }
     ensures parsed { IfOk result (λ region. IsDecodable region) }
-    ensures causes { (strict is_intermediate : Bool) (page : Grid) (regions : List (Kept PlacedRegion)) → HaveCauses (refinement_at strict is_intermediate page regions) (BreaksRefinement strict is_intermediate page regions) }
+    ensures causes { (strict is_intermediate : Bool) (page : Grid) (regions : List (Kept PlacedRegion))
+        → HaveCauses (refinement_at strict is_intermediate page regions)
+        (BreaksRefinement strict is_intermediate page regions) }
 {
     let strict = references.names.strict;
     let numbers = &segment.header.referred_to_segments;

@@ -29,7 +29,8 @@ pub(crate) fn parse_text<'a, 'n, 'r, A: Allocator + Clone>(
         references.now.names.globals.now
         (segment_view segment.now)) }
     ensures parsed { IfOk result (λ region. IsDecodable region) }
-    ensures causes { (strict : Bool) (own shared : Names) → HaveCauses (text_at strict own shared) (BreaksText strict own shared) }
+    ensures causes { (strict : Bool) (own shared : Names)
+        → HaveCauses (text_at strict own shared) (BreaksText strict own shared) }
 {
     let lookup = &references.names;
     let numbers = &segment.header.referred_to_segments;

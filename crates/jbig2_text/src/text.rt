@@ -197,7 +197,8 @@ pub fn decode_into<
         let meant = text_answer (header_view header.now) (symbols_view symbols.now) customs in
         Gives (λ _. bitmap.new) result meant }
     ensures same { OnErr result (bitmap.new ≡ bitmap.old) }
-    ensures causes { (h : TextHeader) (symbols : List Grid) → HaveCauses (text_decoded h symbols) (BreaksTextRegion h symbols) }
+    ensures causes { (h : TextHeader) (symbols : List Grid)
+        → HaveCauses (text_decoded h symbols) (BreaksTextRegion h symbols) }
 {
     match &header.coding {
         TextRegionCoding::Arithmetic => {

@@ -138,7 +138,8 @@ pub fn cut_symbols<A: Allocator + Clone, B: Allocator, L: Ledger>(
     ensures value { let cut = symbols_cut collective.now height 0 widths.now in
         let meant = put_behind symbols.old.items cut in
         Gives (λ _. symbols.new.items) result meant }
-    ensures causes { (collective : Grid) (height from : ℕ) → HaveCauses (symbols_cut collective height from) (BreaksCuts height) }
+    ensures causes { (collective : Grid) (height from : ℕ)
+        → HaveCauses (symbols_cut collective height from) (BreaksCuts height) }
 {
     let mut left = 0;
     for width in widths {

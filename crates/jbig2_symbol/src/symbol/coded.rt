@@ -7,12 +7,11 @@ ghost use Rattle.jbig2_symbol.specs.SymbolBitmaps.{coded_aggregate, coded_instan
 ghost use Rattle.jbig2_symbol.specs.Causes.{InstanceCountsHaveCauses, BreaksCodedAggregate, BreaksCodedBitmap};
 ghost use Rattle.jbig2_symbol.specs.SymbolCoding.{coded_bitmap, coder_begun};
 ghost use Rattle.jbig2_symbol.specs.inner.HeaderViews.{contexts_view, header_view};
-ghost use Rattle.jbig2_symbol.specs.SymbolReading.{SymbolState, by_procedure, SymbolInput};
+ghost use Rattle.jbig2_symbol.specs.SymbolReading.{SymbolInput as Input, SymbolState, by_procedure};
 ghost use Rattle.jbig2_symbol.specs.inner.SymbolViews.{coded_view, input_view};
 ghost use Rattle.jbig2_base.specs.Causes.{BreaksSides, HaveCauses};
 ghost use Rattle.jbig2_base.specs.Grid.{Grid};
 ghost use Rattle.jbig2_symbol.specs.SymbolHeader.{SymbolHeader};
-ghost use Rattle.jbig2_symbol.specs.SymbolReading.{SymbolInput as Input};
 
 use crate::symbol::aggregates::{
     SymbolSize, aggregate_params, instance_count, put_together, refine_alone, state_bits,
@@ -88,7 +87,8 @@ impl<A: Allocator> CodedSymbols<'_, A> {
         ensures value { let h = header_view header.now in
             let meant = coded_symbol h width height (coded_view self.old) in
             Gives (λ symbol. (symbol, coded_view self.new)) result meant }
-        ensures causes { (h : SymbolHeader) (width height : ℕ) → HaveCauses (coded_symbol h width height) (λ s. BreaksSides width height) }
+        ensures causes { (h : SymbolHeader) (width height : ℕ)
+            → HaveCauses (coded_symbol h width height) (λ s. BreaksSides width height) }
     {
         let mut bitmap = Bitmap::new(alloc, width, height)?;
         decode_coded(
@@ -138,7 +138,9 @@ impl<A: Allocator> CodedSymbols<'_, A> {
         ensures value { let d = input_view input.now in
             let meant = coded_aggregate d new.now size.width size.height (coded_view self.old) in
             Gives (λ symbol. (symbol, coded_view self.new)) result meant }
-        ensures causes { (d : Input) (new : List Grid) (width height : ℕ) → HaveCauses (coded_aggregate d new width height) (BreaksCodedAggregate d new width height) }
+        ensures causes { (d : Input) (new : List Grid) (width height : ℕ)
+            → HaveCauses (coded_aggregate d new width height)
+            (BreaksCodedAggregate d new width height) }
         ensures counts { InstanceCountsHaveCauses (SymbolState Coded) }
     {
         let count = instance_count(self.number(IntegerProcedure::Iaai, steps)?)?;
@@ -159,7 +161,8 @@ impl<A: Allocator> CodedSymbols<'_, A> {
         ensures value { let d = input_view input.now in
             let meant = coded_bitmap d new.now size.width size.height (coded_view self.old) in
             Gives (λ symbol. (symbol, coded_view self.new)) result meant }
-        ensures causes { (d : Input) (new : List Grid) (width height : ℕ) → HaveCauses (coded_bitmap d new width height) (BreaksCodedBitmap d new width height) }
+        ensures causes { (d : Input) (new : List Grid) (width height : ℕ)
+            → HaveCauses (coded_bitmap d new width height) (BreaksCodedBitmap d new width height) }
     {
         if input.header.flags.use_refagg {
             return self.read_aggregate(alloc, input, new, size, steps);

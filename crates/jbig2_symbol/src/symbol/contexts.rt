@@ -94,7 +94,8 @@ pub fn first_contexts<A: Allocator + Clone, K: Allocator>(
     ensures value { let others = option_map (λ c. contexts_view c.now) kept.entry in
         let meant = first_contexts flags.now others in
         Gives (λ contexts. contexts_view contexts) result meant }
-    ensures causes { (flags : SymbolDictionaryFlags) → HaveCauses (first_contexts flags) (BreaksContexts flags) }
+    ensures causes { (flags : SymbolDictionaryFlags)
+        → HaveCauses (first_contexts flags) (BreaksContexts flags) }
 {
     if !flags.bitmap_context_used {
         return fresh_contexts(alloc, flags);

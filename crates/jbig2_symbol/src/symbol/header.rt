@@ -210,7 +210,9 @@ pub fn parse<'a>(reader: &mut Reader<'a>, strict: bool) -> Result<SymbolDictiona
     ensures unrefined { IfOk result (λ h. h.refinement_at_pixels
         ≡ filled 2 (header_view h).refinement_at_pixels) }
     ensures stays { OnErr result (reader.new ≡ reader.old) }
-    ensures causes { (strict : Bool) → HaveCauses (symbol_header_at strict) (λ bytes. BreaksSymbolFields (number_in w16 0 bytes) bytes) }
+    ensures causes { (strict : Bool)
+        → HaveCauses (symbol_header_at strict)
+        (λ bytes. BreaksSymbolFields (number_in w16 0 bytes) bytes) }
 {
     let mut ahead = reader.duplicate();
     let flags = symbol_flags(u16_field(&mut ahead)?)?;

@@ -7,10 +7,9 @@ ghost use Rattle.jbig2_text.specs.inner.TextViews as texts;
 ghost use Rattle.jbig2_symbol.specs.Causes.{InstanceCountsHaveCauses, BreaksCollectiveBitmap, BreaksCollectiveClass, BreaksPrefixedAggregate};
 ghost use Rattle.jbig2_symbol.specs.SymbolBitmaps.{by_instances, collective_bitmap, plain_id, prefixed_aggregate, prefixed_instances};
 ghost use Rattle.jbig2_symbol.specs.SymbolCoding.{collective_class, prefix_codes_begun};
-ghost use Rattle.jbig2_symbol.specs.SymbolReading.{SymbolState, by_table, SymbolInput};
+ghost use Rattle.jbig2_symbol.specs.SymbolReading.{SymbolInput as Input, SymbolState, by_table};
 ghost use Rattle.jbig2_symbol.specs.inner.HeaderViews.{contexts_view};
 ghost use Rattle.jbig2_symbol.specs.inner.SymbolViews.{behind, input_view, prefixed_view};
-ghost use Rattle.jbig2_symbol.specs.SymbolReading.{SymbolInput as Input};
 ghost use Rattle.jbig2_base.specs.Causes.{HaveCauses};
 ghost use Rattle.jbig2_base.specs.Grid.{Grid};
 
@@ -140,7 +139,9 @@ impl<'a, A: Allocator> PrefixedSymbols<'a, A> {
             let state = prefixed_view self.old in
             let meant = prefixed_aggregate d new.now size.width size.height state in
             Gives (λ symbol. (symbol, prefixed_view self.new)) result meant }
-        ensures causes { (d : Input) (new : List Grid) (width height : ℕ) → HaveCauses (prefixed_aggregate d new width height) (BreaksPrefixedAggregate d new width height) }
+        ensures causes { (d : Input) (new : List Grid) (width height : ℕ)
+            → HaveCauses (prefixed_aggregate d new width height)
+            (BreaksPrefixedAggregate d new width height) }
         ensures counts { InstanceCountsHaveCauses (SymbolState Place) }
     {
         let count = instance_count(self.number(input.tables.counts)?)?;
@@ -161,7 +162,9 @@ impl<'a, A: Allocator> PrefixedSymbols<'a, A> {
         ensures value { let d = input_view input.now in
             let meant = collective_bitmap d width height (prefixed_view self.old) in
             Gives (λ bitmap. (bitmap, prefixed_view self.new)) result meant }
-        ensures causes { (d : Input) (width height : ℕ) → HaveCauses (collective_bitmap d width height) (BreaksCollectiveBitmap d width height) }
+        ensures causes { (d : Input) (width height : ℕ)
+            → HaveCauses (collective_bitmap d width height)
+            (BreaksCollectiveBitmap d width height) }
     {
         let Some(size) = self.number(input.tables.sizes)? else {
             return Err(DecodeError::Huffman(HuffmanError::UnexpectedOob));
@@ -197,7 +200,9 @@ impl<'a, A: Allocator> PrefixedSymbols<'a, A> {
             let before = bitmaps.old.items in
             let class = collective_class d height empty before (prefixed_view self.old) in
             Gives (λ _. (bitmaps.new.items, prefixed_view self.new)) result (behind before class) }
-        ensures causes { (d : Input) (height empty : ℕ) (new : List Grid) → HaveCauses (collective_class d height empty new) (BreaksCollectiveClass d height empty new) }
+        ensures causes { (d : Input) (height empty : ℕ) (new : List Grid)
+            → HaveCauses (collective_class d height empty new)
+            (BreaksCollectiveClass d height empty new) }
     {
         let room = input.header.num_new_symbols - bitmaps.len() as u32;
         let widths = read_widths(alloc.clone()?, input, room, self, steps)?;

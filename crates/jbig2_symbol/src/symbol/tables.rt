@@ -45,7 +45,8 @@ pub fn symbol_tables<'a, T: Allocator>(
 ) -> Result<SymbolTables<'a, T>>
     ensures value { let meant = symbol_tables flags.now (customs_view referred.now) in
         Answers (λ tables. tables_view tables) result meant }
-    ensures causes { (flags : SymbolDictionaryFlags) → HaveCauses (symbol_tables flags) (BreaksTables flags) }
+    ensures causes { (flags : SymbolDictionaryFlags)
+        → HaveCauses (symbol_tables flags) (BreaksTables flags) }
 {
     let (heights, customs) = table_for(standard, flags.delta_height_table, referred)?;
     let (widths, customs) = table_for(standard, flags.delta_width_table, customs)?;

@@ -273,7 +273,8 @@ pub fn parse<'a, A: Allocator + Clone>(
     ensures unused { IfOk result (λ h. h.refinement_at_pixels
         ≡ filled 2 (header_view h).refinement_pixels) }
     ensures stays { OnErr result (reader.new ≡ reader.old) }
-    ensures causes { (symbols : ℕ) (strict : Bool) → HaveCauses (text_header_at symbols strict) (BreaksTextHeader symbols) }
+    ensures causes { (symbols : ℕ) (strict : Bool)
+        → HaveCauses (text_header_at symbols strict) (BreaksTextHeader symbols) }
 {
     let mut ahead = reader.duplicate();
     let segment_data_len = ahead.tail().len();

@@ -123,7 +123,8 @@ pub fn select_tables<'a, T: Allocator>(
 ) -> Result<TextRegionHuffmanTables<'a, T>>
     ensures value { let meant = text_tables flags.now (customs_view customs.now) in
         Answers (λ tables. tables_view tables) result meant }
-    ensures causes { (flags : TextRegionHuffmanFlags) → HaveCauses (text_tables flags) (BreaksTextTables flags) }
+    ensures causes { (flags : TextRegionHuffmanFlags)
+        → HaveCauses (text_tables flags) (BreaksTextTables flags) }
 {
     let (first, second) = (standard.table_f(), standard.table_g());
     let (first_s, customs) = one_of_two(first, second, flags.first_s_table, customs)?;
