@@ -15,18 +15,18 @@ use Rattle.jbig2_base.specs.declared.bitmap.operator.CombinationOperator.TheVari
 use Rattle.jbig2_base.specs.declared.error.DecodeError.{DecodeError}
 use Rattle.jbig2_base.specs.declared.error.DecodeError.TheVariants.{OutOfMemory}
 use Rattle.jbig2_base.proofs.GridLemmas.{grid_of-ext, pixel_at-grid_of, table-at}
-use Rattle.jbig2_halftone.specs.HalftoneHeader as halftones
+use Rattle.jbig2_halftone.specs.inner.HalftoneHeaderViews as halftones
 use Rattle.jbig2_halftone.specs.inner.DictionaryViews.{dictionary_view}
 use Rattle.jbig2_region.specs.Generic.{PlacedRegion}
 use Rattle.jbig2_region.specs.inner.RegionViews.{region_view}
-use Rattle.jbig2_region.specs.GenericHeader as generics
-use Rattle.jbig2_region.specs.RefinementHeader as refinements
+use Rattle.jbig2_region.specs.inner.GenericViews as generics
+use Rattle.jbig2_region.specs.inner.RefinedViews as refinements
 use Rattle.jbig2_region.specs.RegionInfo.{placed}
 use Rattle.jbig2_region.specs.Refinement.{refined_decoded}
 use Rattle.jbig2_region.specs.declared.generic_refinement.GenericRefinementRegionHeader.{GenericRefinementRegionHeader}
 use Rattle.jbig2_region.specs.declared.region_info.DecodedRegion.{DecodedRegion}
 use Rattle.jbig2_region.specs.declared.region_info.RegionSegmentInfo.{RegionSegmentInfo}
-use Rattle.jbig2_text.specs.TextHeader as texts
+use Rattle.jbig2_text.specs.inner.TextViews as texts
 use Rattle.hayro_jbig2.specs.Names.{Names}
 use Rattle.hayro_jbig2.specs.Page.{Drawing, draws_over, region_at, shown, with_region}
 use Rattle.hayro_jbig2.specs.declared.parsed_region.ParsedRegion.{ParsedRegion}
@@ -42,6 +42,7 @@ use Rattle.hayro_jbig2.specs.inner.Parsed.{apart, drawing_of, drawn, info_of, in
 use Rattle.hayro_jbig2.specs.inner.Whole.{IsBegun, IsWhole, touched}
 use Rattle.hayro_jbig2.proofs.PageArea.{area-near}
 use Rattle.hayro_jbig2.proofs.RegionSizes.{Made, bad, generic-made, good, halftone-made, refined-made, text-made}
+use Rattle.jbig2_region.specs.RefinementHeader.{IsRefinement}
 
 over_pixel : (op : CombinationOperator) (black s : Bool) → draws_over op black ≡ true → combined_pixel op black s ≡ s
 over_pixel Replace black s h = refl
@@ -120,7 +121,7 @@ whole-failed r meant d e columns rows leads is =
     ∙ ap (λ (a : Result Grid DecodeError). shown true d (a >>= λ q. Ok (placed (info_of r) q))) is
 
 -- the page's area is refined
-pub page-refined : {A : Type 0} (header : GenericRefinementRegionHeader) (page : Grid) (area : DecodedRegion A) → refinements.IsRefinement (refinements.header_view header) → near_area page header.region_info ≡ Ok (region_view area) → refined_decoded (refinements.header_view header) (page_area page header.region_info) ≡ apart (PageRefinement header area)
+pub page-refined : {A : Type 0} (header : GenericRefinementRegionHeader) (page : Grid) (area : DecodedRegion A) → IsRefinement (refinements.header_view header) → near_area page header.region_info ≡ Ok (region_view area) → refined_decoded (refinements.header_view header) (page_area page header.region_info) ≡ apart (PageRefinement header area)
 page-refined header page area parsed near =
     ap (λ (from : PlacedRegion). refined_decoded (refinements.header_view header) from) (area-near page header.region_info (region_view area) near)
     ∙ sym (apart-within (PageRefinement header area) parsed.columns parsed.rows)

@@ -1,14 +1,14 @@
 -- What a region is decoded by, once its header is read and what it refers to is found (T.88, 7.4.3 and 7.4.5 to 7.4.7).
 use Rattle.std.specs.Prelude.{◌≡◌, ◌≤◌, Bool, false, ◌||◌, nat_lt, Result, Ok, Err, ◌⊎◌}
 use Rattle.jbig2_base.specs.{Answer.{◌>>=◌, refuse_if}, Grid.{Grid}, declared.error.{DecodeError.{DecodeError, TheVariants.{OutOfMemory, Overflow}}, OverflowError.TheVariants.{BitmapDimension}}}
-use Rattle.jbig2_region.specs.{Generic.{PlacedRegion, generic_answer}, inner.RegionViews.{region_view}, Refinement.{refined_answer}, RegionInfo.{placed}, declared.region_info.RegionSegmentInfo.{RegionSegmentInfo}}
-use Rattle.jbig2_halftone.specs.{Halftone.{halftone_answer}, inner.DictionaryViews.{dictionary_view}}
+use Rattle.jbig2_region.specs.{Generic.{PlacedRegion, generic_answer}, inner.RegionViews.{region_view}, Refinement.{refined_answer}, RegionInfo.{placed}, declared.region_info.RegionSegmentInfo.{RegionSegmentInfo}, GenericHeader.{IsParsed}, RefinementHeader.{IsRefinement}}
+use Rattle.jbig2_halftone.specs.{Halftone.{halftone_answer}, inner.DictionaryViews.{dictionary_view}, HalftoneHeader.{HalftoneHeader}}
 use Rattle.jbig2_text.specs.TextRegion.{text_answer}
 use Rattle.hayro_jbig2.specs.{Page.{Drawing}, declared.{parsed_region.ParsedRegion.{ParsedRegion, TheVariants.{Text, Halftone, Generic, Refinement, PageRefinement}}, references.References.{References}}, inner.KeptViews.{seen}}
-use Rattle.jbig2_region.specs.GenericHeader as generics
-use Rattle.jbig2_region.specs.RefinementHeader as refinements
-use Rattle.jbig2_halftone.specs.HalftoneHeader as halftones
-use Rattle.jbig2_text.specs.TextHeader as texts
+use Rattle.jbig2_region.specs.inner.GenericViews as generics
+use Rattle.jbig2_region.specs.inner.RefinedViews as refinements
+use Rattle.jbig2_halftone.specs.inner.HalftoneHeaderViews as halftones
+use Rattle.jbig2_text.specs.inner.TextViews as texts
 
 abbrev pub info_of : {A : Type 0} → ParsedRegion A → RegionSegmentInfo
 info_of (Text header referred) = header.region_info
@@ -38,7 +38,7 @@ abbrev pub apart : {A : Type 0} → ParsedRegion A → Result PlacedRegion Decod
 apart r = refuse_if (nat_lt 65535 (info_of r).width || nat_lt 65535 (info_of r).height) (Overflow BitmapDimension) >>= λ fits. drawn r >>= λ g. Ok (placed (info_of r) g)
 
 -- a halftone's grid is no larger than is read
-pub record HasCells (header : halftones.HalftoneHeader) : Type 0 where
+pub record HasCells (header : HalftoneHeader) : Type 0 where
   pub columns : header.grid_position_and_size.width ≤ 65535
   pub rows : header.grid_position_and_size.height ≤ 65535
 
@@ -46,9 +46,9 @@ pub record HasCells (header : halftones.HalftoneHeader) : Type 0 where
 abbrev pub IsDecodable : {A : Type 0} → ParsedRegion A → Type 0
 IsDecodable (Text header referred) = header.flags.log_strip_size ≤ 3
 IsDecodable (Halftone header patterns) = HasCells (halftones.header_view header)
-IsDecodable (Generic header) = generics.IsParsed (generics.header_view header)
-IsDecodable (Refinement header reference) = refinements.IsRefinement (refinements.header_view header)
-IsDecodable (PageRefinement header area) = refinements.IsRefinement (refinements.header_view header)
+IsDecodable (Generic header) = IsParsed (generics.header_view header)
+IsDecodable (Refinement header reference) = IsRefinement (refinements.header_view header)
+IsDecodable (PageRefinement header area) = IsRefinement (refinements.header_view header)
 
 -- What was parsed decodes to what was meant, unless memory ran out.
 abbrev pub Leads : {A : Type 0} → Result (ParsedRegion A) DecodeError → Result PlacedRegion DecodeError → Type 0
