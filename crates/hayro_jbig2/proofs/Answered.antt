@@ -22,10 +22,9 @@ use Rattle.jbig2_region.proofs.Answered.{answered-generic, answered-generic_head
 use Rattle.jbig2_symbol.specs.Symbols.{Symbols}
 use Rattle.jbig2_symbol.proofs.Answered.{answered-symbol_header, answered-symbols_decoded}
 use Rattle.jbig2_text.proofs.AnsweredRegions.{answered-text, answered-text_header}
-use Rattle.hayro_jbig2.specs.Names.{Names, Referred, extension, kept_by, no_names, pattern_dictionary_at, symbol_dictionary_at, with_code, with_dictionary, with_number, with_numbers, with_patterns, with_symbols, with_table}
+use Rattle.hayro_jbig2.specs.Names.{Names, Referred, extension, kept_by, no_names, pattern_dictionary_at, symbol_dictionary_at, with_code, with_dictionary, with_number, with_numbers, with_patterns, with_symbols, with_table, globals_at, named_from}
 use Rattle.hayro_jbig2.specs.Files.{ReadFile, associated, book_at, by_pages, filed_each, filed_from, miscounts, of_page}
 use Rattle.hayro_jbig2.specs.Image.{first_page}
-use Rattle.hayro_jbig2.specs.Globals.{globals_at, named_from}
 use Rattle.hayro_jbig2.specs.Page.{Drawing, ReadPage, embedded, grid_of_page, immediate, intermediate, keeping, page_begun, region_at, segment_on, segments_drawn, shown}
 use Rattle.hayro_jbig2.specs.Regions.{generic_at, halftone_at, referred_region, refinement_at, text_at}
 use Rattle.hayro_jbig2.specs.declared.kept.Kept.{Kept}

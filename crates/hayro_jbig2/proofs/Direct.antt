@@ -5,9 +5,8 @@ use Rattle.std.specs.Prelude.{IfErr, pos, ◌-ℤ◌}
 use Rattle.std.proofs.lemmas.Bool.{cond-true, and_from, le-ltb, lt-ltb}
 use Rattle.std.proofs.lemmas.Int.{ints}
 use Rattle.jbig2_base.specs.Answer.{Gives, ◌>>=◌}
-use Rattle.jbig2_base.specs.Combination.{combined, drawn_pixel, is_below}
+use Rattle.jbig2_base.specs.Combination.{combined, drawn_pixel, is_below, combined_pixel}
 use Rattle.jbig2_base.specs.Grid.{Grid, pixel_at, pixel, blank}
-use Rattle.jbig2_base.specs.Operator.{combined_pixel}
 use Rattle.jbig2_base.specs.Segment.{SegmentView}
 use Rattle.jbig2_base.specs.inner.Table.{IsTable}
 use Rattle.jbig2_base.specs.declared.bitmap.operator.CombinationOperator.{CombinationOperator}
@@ -17,11 +16,10 @@ use Rattle.jbig2_base.specs.declared.error.DecodeError.TheVariants.{OutOfMemory}
 use Rattle.jbig2_base.proofs.GridLemmas.{grid_of-ext, pixel_at-grid_of, table-at}
 use Rattle.jbig2_halftone.specs.inner.HalftoneHeaderViews as halftones
 use Rattle.jbig2_halftone.specs.inner.DictionaryViews.{dictionary_view}
-use Rattle.jbig2_region.specs.Generic.{PlacedRegion}
+use Rattle.jbig2_region.specs.RegionInfo.{PlacedRegion, placed}
 use Rattle.jbig2_region.specs.inner.RegionViews.{region_view}
 use Rattle.jbig2_region.specs.inner.GenericViews as generics
 use Rattle.jbig2_region.specs.inner.RefinedViews as refinements
-use Rattle.jbig2_region.specs.RegionInfo.{placed}
 use Rattle.jbig2_region.specs.Refinement.{refined_decoded}
 use Rattle.jbig2_region.specs.declared.generic_refinement.GenericRefinementRegionHeader.{GenericRefinementRegionHeader}
 use Rattle.jbig2_region.specs.declared.region_info.DecodedRegion.{DecodedRegion}

@@ -1,8 +1,7 @@
 -- Worked rows of files, computed from the definitions alone: from bytes to pages, calls and images, or an error.
 use Rattle.std.proofs.Common.{◌≡◌, ℕ, Bool, true, false, List, [], ◌∷◌, ◌++◌, map, replicate, Result, Ok, Err, refl}
 use Rattle.jbig2_base.specs.Answer.{◌>>=◌}
-use Rattle.jbig2_base.specs.File.{file_at, headers_in}
-use Rattle.jbig2_base.specs.FileHeader.{identification, file_header_at}
+use Rattle.jbig2_base.specs.File.{file_at, headers_in, identification, file_header_at}
 use Rattle.jbig2_base.specs.Grid.{table, pixel_at}
 use Rattle.jbig2_base.specs.PageInfo.{information_at, initial_page_of}
 use Rattle.jbig2_base.specs.Segment.{type_of, count_at, referred_at, header_at, segment_at}
@@ -15,7 +14,7 @@ use Rattle.jbig2_base.specs.declared.error.SegmentError.TheVariants.{InvalidRefe
 use Rattle.hayro_jbig2.specs.Calls.{Call, Chunk, Line, whole_calls, row_of, calls_of}
 use Rattle.hayro_jbig2.specs.Files.{filed_from, book_at, pages_of}
 use Rattle.hayro_jbig2.specs.Image.{first_page, first_size, first_image, image_of}
-use Rattle.hayro_jbig2.specs.Globals.{globals_at}
+use Rattle.hayro_jbig2.specs.Names.{globals_at}
 use Rattle.hayro_jbig2.specs.Page.{grid_of_page}
 
 -- for each page of a file its number, and its calls or its error

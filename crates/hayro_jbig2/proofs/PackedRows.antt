@@ -6,7 +6,7 @@ use Rattle.std.specs.List.{range_with_len}
 use Rattle.jbig2_base.specs.Answer.{◌>>=◌}
 use Rattle.jbig2_base.specs.declared.error.DecodeError.{DecodeError}
 use Rattle.jbig2_base.specs.Grid.{Grid, pixel_at, bit_number}
-use Rattle.jbig2_base.specs.inner.WordBits.{bit}
+use Rattle.jbig2_base.specs.Bits.{bit}
 use Rattle.jbig2_base.proofs.BitLemmas.{bit_number-bit, bit-shr}
 use Rattle.jbig2_base.proofs.GridLemmas.{pixel_at-below, pixel_at-grid_of, pixel_at-right}
 use Rattle.jbig2_coder.specs.Integers.{value_of_bits}

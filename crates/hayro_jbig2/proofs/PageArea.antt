@@ -1,8 +1,7 @@
 -- The page's area under a region.
 use Rattle.std.proofs.Common.{◌≡◌, ◌⊎◌, inl, inr, ℕ, ◌<◌, ◌≤◌, Bool, true, false, ◌||◌, nat_lt, ℤ, pos, ◌-ℤ◌, Result, Ok, Err, refl, sym, ◌∙◌, ap, arith}
 use Rattle.std.proofs.lemmas.Bool.{le-ltb, lt-leb}
-use Rattle.jbig2_base.specs.Grid.{Grid}
-use Rattle.jbig2_base.specs.Parts.{part_of, part_or_overflow}
+use Rattle.jbig2_base.specs.Grid.{Grid, part_of, part_or_overflow}
 use Rattle.jbig2_base.specs.declared.bitmap.part.Area.{Area}
 use Rattle.jbig2_base.specs.Answer.{◌>>=◌, refuse_if}
 use Rattle.jbig2_base.specs.declared.error.DecodeError.{DecodeError}
@@ -10,7 +9,7 @@ use Rattle.jbig2_base.specs.declared.error.DecodeError.TheVariants as errors
 use Rattle.jbig2_base.specs.declared.error.DecodeError.TheVariants.{OutOfMemory, Overflow}
 use Rattle.jbig2_base.specs.declared.error.OverflowError.TheVariants.{ReferenceOffset}
 use Rattle.jbig2_base.specs.declared.error.RegionError.TheVariants.{InvalidDimension}
-use Rattle.jbig2_region.specs.Generic.{PlacedRegion}
+use Rattle.jbig2_region.specs.RegionInfo.{PlacedRegion}
 use Rattle.jbig2_region.specs.Refinement.{is_far, offset, refined_grid, refined_decoded}
 use Rattle.jbig2_region.specs.RefinementHeader.{RefinementHeader}
 use Rattle.jbig2_region.specs.declared.region_info.RegionSegmentInfo.{RegionSegmentInfo}

@@ -11,12 +11,11 @@ use Rattle.jbig2_base.specs.declared.error.DecodeError.{DecodeError}
 use Rattle.jbig2_base.specs.declared.segment.SegmentType.{SegmentType}
 use Rattle.jbig2_base.specs.declared.segment.SegmentType.TheVariants as types
 use Rattle.jbig2_base.proofs.Causes.{cause-next}
-use Rattle.jbig2_region.specs.Generic.{PlacedRegion}
+use Rattle.jbig2_region.specs.RegionInfo.{PlacedRegion}
 use Rattle.jbig2_region.proofs.Told.{cause-if}
 use Rattle.jbig2_symbol.proofs.ReadingCauses.{cause-by, in-steps, own-error}
 use Rattle.hayro_jbig2.specs.Causes.{BreaksBeginning, BreaksDrawing, BreaksExtension, BreaksKept, BreaksNames, BreaksRegion, BreaksSegmentOn, EmbeddedPagesHaveCauses, GlobalsHaveCauses, PagesHaveCauses}
-use Rattle.hayro_jbig2.specs.Names.{Names, code_at, extension, kept_by, no_names, pattern_dictionary_at, symbol_dictionary_at, with_code, with_patterns, with_symbols}
-use Rattle.hayro_jbig2.specs.Globals.{globals_at, named_from}
+use Rattle.hayro_jbig2.specs.Names.{Names, code_at, extension, kept_by, no_names, pattern_dictionary_at, symbol_dictionary_at, with_code, with_patterns, with_symbols, globals_at, named_from}
 use Rattle.hayro_jbig2.specs.Page.{Drawing, embedded, ends_page, grid_of_page, immediate, intermediate, keeping, page_begun, region_at, segment_on, segments_drawn, shown}
 use Rattle.hayro_jbig2.specs.Regions.{generic_at}
 use Rattle.hayro_jbig2.specs.declared.region.RegionKind.{RegionKind}

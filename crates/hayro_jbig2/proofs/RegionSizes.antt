@@ -10,7 +10,7 @@ use Rattle.jbig2_halftone.specs.Halftone.{cells_drawn, gray_params, halftone_ans
 use Rattle.jbig2_halftone.specs.HalftoneHeader.{HalftoneHeader}
 use Rattle.jbig2_halftone.specs.Patterns.{Patterns}
 use Rattle.jbig2_mmr.specs.T6.{Decoded, rows_of, mmr_rows}
-use Rattle.jbig2_region.specs.Generic.{PlacedRegion, generic_answer, generic_grid, generic_region}
+use Rattle.jbig2_region.specs.{RegionInfo.{PlacedRegion}, Generic.{generic_answer, generic_grid, generic_region}}
 use Rattle.jbig2_region.specs.GenericHeader.{GenericHeader}
 use Rattle.jbig2_region.specs.Raster.{so_far}
 use Rattle.jbig2_region.specs.Refinement.{offset, refined_answer, refined_grid, refined_region}

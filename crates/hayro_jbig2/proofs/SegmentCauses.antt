@@ -18,7 +18,7 @@ use Rattle.jbig2_coder.specs.PrefixCode.{Member}
 use Rattle.jbig2_halftone.specs.Halftone.{halftone_decoded}
 use Rattle.jbig2_halftone.specs.HalftoneHeader.{halftone_header_at}
 use Rattle.jbig2_halftone.specs.Patterns.{Patterns}
-use Rattle.jbig2_region.specs.Generic.{PlacedRegion}
+use Rattle.jbig2_region.specs.RegionInfo.{PlacedRegion}
 use Rattle.jbig2_region.specs.Refinement.{refined_decoded}
 use Rattle.jbig2_region.specs.RefinementHeader.{refinement_header_at}
 use Rattle.jbig2_symbol.specs.SymbolHeader.{symbol_header_at}

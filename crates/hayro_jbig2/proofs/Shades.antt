@@ -1,7 +1,7 @@
 -- A page as bytes, word by word.
 use Rattle.std.proofs.Common.{get_or, ◌≡◌, ℕ, ◌+◌, ◌-◌, ◌*◌, ◌/◌, ◌%◌, ◌<◌, ◌≤◌, List, ap, ◌∙◌, arith}
 use Rattle.jbig2_base.specs.Grid.{Grid, pixel_at}
-use Rattle.jbig2_base.specs.inner.WordBits.{bit}
+use Rattle.jbig2_base.specs.Bits.{bit}
 use Rattle.hayro_jbig2.specs.Image.{shade}
 use Rattle.hayro_jbig2.proofs.RowValues.{value-at, values-more}
 

@@ -7,7 +7,7 @@ use Rattle.jbig2_base.specs.Segment.{SegmentView}
 use Rattle.jbig2_base.specs.declared.error.DecodeError.{DecodeError}
 use Rattle.jbig2_base.specs.declared.segment.SegmentType.{SegmentType}
 use Rattle.jbig2_base.specs.declared.segment.SegmentType.TheVariants as types
-use Rattle.jbig2_region.specs.Generic.{PlacedRegion}
+use Rattle.jbig2_region.specs.RegionInfo.{PlacedRegion}
 use Rattle.hayro_jbig2.specs.Names.{Names, kept_by}
 use Rattle.hayro_jbig2.specs.Page.{UntouchedIsBlank, Drawing, segments_drawn, ends_page, immediate, intermediate, keeping, page_begun, region_at, segment_on, shown, with_region}
 use Rattle.hayro_jbig2.specs.declared.region.RegionKind.{RegionKind}

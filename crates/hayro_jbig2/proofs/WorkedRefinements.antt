@@ -12,10 +12,10 @@ use Rattle.jbig2_base.specs.declared.error.SegmentError.TheVariants.{InvalidRefe
 use Rattle.jbig2_coder.specs.Coder.{byte_at, byte_in, filled, doubled, renormed, initial_registers, likely_next, unlikely_next, choice, decision}
 use Rattle.jbig2_coder.specs.Table.{rows, row_of as state_of}
 use Rattle.jbig2_region.specs.Generic.{context_at, generic_region, generic_grid}
-use Rattle.jbig2_region.specs.GenericHeader.{adaptive_pixel_at, rows_at, generic_header_at}
+use Rattle.jbig2_region.specs.{Templates.{adaptive_pixel_at}, GenericHeader.{rows_at, generic_header_at}}
 use Rattle.jbig2_region.specs.Raster.{so_far, with_next, after_pixel, row_begun, at_next, first_pixels, decoded_region}
 use Rattle.jbig2_region.specs.Refinement.{common_colour, offset, refined_context, refined_grid, refined_region}
-use Rattle.jbig2_region.specs.RefinementHeader.{refinement_header_at, refinement_pixels_at}
+use Rattle.jbig2_region.specs.{RefinementHeader.{refinement_header_at}, RefinementTemplates.{refinement_pixels_at}}
 use Rattle.jbig2_region.specs.RegionInfo.{region_info_at}
 use Rattle.hayro_jbig2.specs.Calls.{Chunk, Pixel, Line, singles, whole_calls, row_of, calls_of}
 use Rattle.hayro_jbig2.specs.Page.{embedded, grid_of_page, immediate, intermediate}

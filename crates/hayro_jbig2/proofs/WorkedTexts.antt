@@ -1,7 +1,7 @@
 -- Worked rows of symbol dictionaries and text regions on a page, computed from the definitions alone.
 use Rattle.std.proofs.Common.{◌≡◌, ℕ, Bool, true, false, List, [], ◌∷◌, ◌++◌, replicate, Result, Ok, Err, refl}
 use Rattle.jbig2_base.specs.Answer.{◌>>=◌}
-use Rattle.jbig2_base.specs.Bits.{bits_left, bits_on}
+use Rattle.jbig2_base.specs.Bits.{bits_left, bits_on, bit}
 use Rattle.jbig2_base.specs.Combination.{drawn_pixel}
 use Rattle.jbig2_base.specs.Grid.{table, pixel_at}
 use Rattle.jbig2_base.specs.PageInfo.{information_at, initial_page_of}
@@ -12,25 +12,22 @@ use Rattle.jbig2_base.specs.declared.error.DecodeError.TheVariants.{Huffman, Par
 use Rattle.jbig2_base.specs.declared.error.HuffmanError.TheVariants.{InvalidSelection}
 use Rattle.jbig2_base.specs.declared.error.ParseError.TheVariants.{UnexpectedEof}
 use Rattle.jbig2_base.specs.declared.error.SegmentError.TheVariants.{InvalidReference}
-use Rattle.jbig2_base.specs.inner.WordBits.{bit}
 use Rattle.jbig2_base.specs.Search.{least}
 use Rattle.jbig2_coder.specs.PrefixCode.{prefix_code, is_crowded, weight, shorter, read_code, decoded_value}
 use Rattle.jbig2_coder.specs.Tables.{lines_a, lines_b, lines_d, lines_f, lines_h, lines_k}
 use Rattle.jbig2_region.specs.RegionInfo.{region_info_at}
-use Rattle.jbig2_symbol.specs.Exports.{ended_runs, exported_from, next_run, runs_from, exports}
+use Rattle.jbig2_symbol.specs.Symbols.{ended_runs, exported_from, next_run, runs_from, exports, symbols_decoded}
 use Rattle.jbig2_symbol.specs.SymbolBitmaps.{raw_rows, collective_bitmap, symbols_cut, symbol_cut}
 use Rattle.jbig2_text.specs.SymbolCodes.{runcodes_at, symbol_lengths_at, short_lengths, runs_at, symbol_codes_from}
 use Rattle.jbig2_symbol.specs.SymbolHeader.{symbol_flags_of, symbol_header_at}
 use Rattle.jbig2_symbol.specs.SymbolReading.{table_for, symbol_tables, first_contexts}
 use Rattle.jbig2_symbol.specs.HeightClasses.{next_width, widths_from, height_class, classes_from}
 use Rattle.jbig2_symbol.specs.SymbolCoding.{collective_class}
-use Rattle.jbig2_symbol.specs.Symbols.{symbols_decoded}
 use Rattle.jbig2_text.specs.Text.{strip_delta, strip_begun, cursor_moved, instance_symbol, symbol_placed, with_instance, after_instances, text_instances, text_region}
 use Rattle.jbig2_text.specs.TextHeader.{text_fields_at, text_flags_at, text_header_at}
 use Rattle.jbig2_text.specs.TextRegion.{region_from, text_tables, text_answer, text_decoded}
 use Rattle.hayro_jbig2.specs.Calls.{Call, Pixel, Line, singles, whole_calls, row_of, calls_of}
-use Rattle.hayro_jbig2.specs.Names.{symbol_dictionary_at, with_symbols}
-use Rattle.hayro_jbig2.specs.Globals.{globals_at}
+use Rattle.hayro_jbig2.specs.Names.{symbol_dictionary_at, with_symbols, globals_at}
 use Rattle.hayro_jbig2.specs.Page.{embedded, grid_of_page, immediate}
 use Rattle.hayro_jbig2.specs.Regions.{text_at}
 use Rattle.hayro_jbig2.proofs.WorkedRows.{calls_at, page, one, eight, white}

@@ -2,11 +2,11 @@
 -- each error. Errors of steps that lower crates define stand here as the step's own (`IsOf`): the laws there say more.
 use Rattle.std.specs.{Prelude.{◌≡◌, ◌≢◌, ◌⊎◌, ◌<◌, ◌≤◌, ℕ, suc, Bool, true, false, IsTrue, IsFalse, List, [], length, take, slice_get, Any, Option, Some, None, MatchOption, option_and_then, unwrap_or, Result, Ok, IfErr}, List.{AllByRecursion, flat_map}, Int.{w32}, Option.{option_map_or}}
 use Rattle.jbig2_base.specs.{Answer.{◌>>=◌}, Causes.{InSteps, IsOf, number_in}, File.{file_at}, Grid.{Grid}, PageInfo.{initial_page_of, is_page_information}, Segment.{SegmentView}, Sequential.{sorted_segments}, declared.{error.{DecodeError.{DecodeError, TheVariants.{Parse, Format, Segment, Overflow, Unsupported}}, FormatError.TheVariants.{MissingPageInfo, PageCountMismatch, InvalidEndOfPage}, OverflowError.TheVariants.{SymbolCount}, ParseError.TheVariants.{UnexpectedEof}, SegmentError.TheVariants.{InvalidReference, MissingPatternDictionary, MissingPageAssociation}}, file_header.FileHeader.{FileHeader}, segment.SegmentType.{SegmentType}}}
-use Rattle.jbig2_region.specs.{Generic.{PlacedRegion}, Refinement.{refined_decoded}, RefinementHeader.{refinement_header_at}}
+use Rattle.jbig2_region.specs.{RegionInfo.{PlacedRegion}, Refinement.{refined_decoded}, RefinementHeader.{refinement_header_at}}
 use Rattle.jbig2_halftone.specs.{Halftone.{halftone_decoded}, HalftoneHeader.{halftone_header_at}}
 use Rattle.jbig2_text.specs.{TextHeader.{text_header_at}, TextRegion.{text_decoded}}
 use Rattle.jbig2_symbol.specs.{SymbolHeader.{symbol_header_at}, Symbols.{symbols_decoded}}
-use Rattle.hayro_jbig2.specs.{Files.{book_at, by_pages, ends_of, needs_page}, Globals.{globals_at, named_from}, Image.{first_page}, Names.{Names, Referred, code_at, extension, first_named, named, no_names, pattern_dictionary_at, referred_by, symbol_dictionary_at}, Page.{Drawing, ReadPage, embedded, ends_page, grid_of_page, page_begun, region_type, segments_drawn}, Regions.{generic_at, halftone_at, page_area, patterns_for, refinement_at, text_at}, declared.{kept.Kept.{Kept}, region.RegionKind.{RegionKind}}}
+use Rattle.hayro_jbig2.specs.{Files.{book_at, by_pages, ends_of, needs_page}, Names.{globals_at, named_from, Names, Referred, code_at, first_named, named, no_names, pattern_dictionary_at, referred_by}, Image.{first_page}, Page.{Drawing, ReadPage, embedded, ends_page, grid_of_page, page_begun, region_type, segments_drawn}, Regions.{generic_at, page_area, patterns_for}, declared.{kept.Kept.{Kept}, region.RegionKind.{RegionKind}}}
 use Rattle.jbig2_base.specs.declared.segment.SegmentType.TheVariants as types
 use Rattle.hayro_jbig2.specs.declared.region.RegionKind.TheVariants as kinds
 

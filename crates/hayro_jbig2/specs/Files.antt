@@ -2,7 +2,7 @@
 -- each with the segments whose page association is its number, and the names of those of association 0.
 use Rattle.std.specs.{Prelude.{◌≡◌, ℕ, ◌+◌, ◌==◌, Bool, true, false, not, ◌&&◌, ◌||◌, List, [], ◌∷◌, ◌++◌, length, filter, map, slice_get, option_map, is_some, Option, Some, None, Result, Ok, Err, if◌then◌else◌}, List.{list_any}}
 use Rattle.jbig2_base.specs.{Answer.{◌>>=◌, refuse_if}, File.{file_at}, PageInfo.{initial_page_of}, Segment.{Header, SegmentView}, declared.{error.{DecodeError.{DecodeError, TheVariants.{Format, Segment}}, FormatError.TheVariants.{PageCountMismatch, InvalidEndOfPage}, SegmentError.TheVariants.{MissingPageAssociation}}, file_header.FileHeader.{FileHeader}, page_info.InitialPage.{InitialPage}, segment.SegmentType.{SegmentType}}}
-use Rattle.hayro_jbig2.specs.{Globals.{named_from}, Names.{Names, no_names}, Page.{ReadPage, region_type}}
+use Rattle.hayro_jbig2.specs.{Names.{named_from, Names, no_names}, Page.{ReadPage, region_type}}
 use Rattle.jbig2_base.specs.declared.segment.SegmentType.TheVariants as types
 
 pub record PageInFile : Type 0 where

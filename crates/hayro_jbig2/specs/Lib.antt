@@ -1,7 +1,6 @@
 pub mod Calls
 pub mod Causes
 pub mod Files
-pub mod Globals
 pub mod Image
 pub mod Names
 pub mod Page

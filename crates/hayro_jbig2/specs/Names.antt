@@ -2,7 +2,7 @@
 -- A number means the first that is kept under it: among the page's own, else among those of the globals. That the
 -- first of equal numbers counts is our own rule.
 use Rattle.std.specs.{Prelude.{ℕ, nat_le, nat_lt, ◌==◌, Bool, true, false, List, [], ◌∷◌, ◌++◌, length, Option, Some, None, Result, Ok, if◌then◌else◌}, Int.{w32}, Option.{option_map_or, option_or}}
-use Rattle.jbig2_base.specs.{Answer.{◌>>=◌, refuse_if}, Bits.{start_of}, Fields.{number_at}, Grid.{Grid}, Segment.{SegmentView}, declared.{error.{DecodeError.{DecodeError, TheVariants.{Overflow, Segment, Unsupported}}, OverflowError.TheVariants.{SymbolCount}, SegmentError.TheVariants.{InvalidReference}}, segment.SegmentType.{SegmentType}}}
+use Rattle.jbig2_base.specs.{Answer.{◌>>=◌, refuse_if}, Bits.{start_of}, Fields.{number_at}, Grid.{Grid}, Segment.{SegmentView}, declared.{error.{DecodeError.{DecodeError, TheVariants.{Overflow, Segment, Unsupported}}, OverflowError.TheVariants.{SymbolCount}, SegmentError.TheVariants.{InvalidReference}}, segment.SegmentType.{SegmentType}}, Sequential.{sorted_segments}}
 use Rattle.jbig2_coder.specs.{CustomTable.{answer_of, custom_table}, PrefixCode.{Member}}
 use Rattle.jbig2_halftone.specs.{PatternHeader.{pattern_header_at}, Patterns.{Patterns, patterns_decoded}}
 use Rattle.jbig2_symbol.specs.{SymbolHeader.{symbol_header_at}, SymbolReading.{BitmapContexts}, Symbols.{Symbols, symbols_decoded}}
@@ -101,3 +101,13 @@ kept_by strict shared p own = on p.header.segment_type
     on types.Tables = with_code p own
     on types.Extension = extension strict p.bytes >>= λ known. Ok own
     on _ = Ok own
+
+-- Globals: segments that several pages share, kept apart from the pages as PDF keeps them. Each may refer to those before
+-- it; regions and pages among them are passed over.
+abbrev pub named_from : Bool → List SegmentView → Names → Result Names DecodeError
+named_from strict [] names = Ok names
+named_from strict (p ∷ ps) names = kept_by strict no_names p names >>= λ more. named_from strict ps more
+
+-- The names of globals whose segments stand one behind the other, sorted before they are decoded.
+unfoldable pub globals_at : Bool → List ℕ → Result Names DecodeError
+globals_at strict bytes = sorted_segments strict bytes >>= λ segments. named_from strict segments no_names

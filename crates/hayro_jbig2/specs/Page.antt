@@ -2,7 +2,7 @@
 -- kept for later ones, or changes nothing, by its type (7.3).
 use Rattle.std.specs.{Prelude.{◌≡◌, ℕ, Bool, true, false, not, List, [], ◌∷◌, Option, Some, None, Result, Ok, Err, IsTrue, if◌then◌else◌}, Int.{w32, cast_signed}}
 use Rattle.jbig2_base.specs.{Answer.{◌>>=◌}, Combination.{combined}, Grid.{Grid, blank}, PageInfo.{initial_page_of}, Segment.{SegmentView}, Sequential.{sorted_segments}, declared.{bitmap.operator.CombinationOperator.{CombinationOperator, TheVariants.{Or, And, Xor, Xnor, Replace}}, error.DecodeError.{DecodeError}, page_info.InitialPage.{InitialPage}, segment.SegmentType.{SegmentType}}}
-use Rattle.jbig2_region.specs.Generic.{PlacedRegion}
+use Rattle.jbig2_region.specs.RegionInfo.{PlacedRegion}
 use Rattle.hayro_jbig2.specs.{Names.{Names, no_names, kept_by, kept_under}, Regions.{generic_at, halftone_at, refinement_at, text_at}, declared.{kept.Kept.{Kept}, region.RegionKind.{RegionKind}}}
 use Rattle.jbig2_base.specs.declared.segment.SegmentType.TheVariants as types
 use Rattle.hayro_jbig2.specs.declared.region.RegionKind.TheVariants as kinds

@@ -1,8 +1,8 @@
 -- The regions of a page (T.88, 7.4.3 and 7.4.5 to 7.4.7): what each kind of region decodes to, a grid of its own at a
 -- place. What becomes of it, drawn or kept, is said in `Page`.
 use Rattle.std.specs.Prelude.{ℕ, Bool, ◌&&◌, not, is_none, List, [], ◌∷◌, length, Option, None, unwrap_or, Result, Ok}
-use Rattle.jbig2_base.specs.{Answer.{◌>>=◌, refuse_if, some_or}, Grid.{Grid}, Parts.{part_of}, Segment.{SegmentView}, declared.error.{DecodeError.{DecodeError, TheVariants.{Segment}}, SegmentError.TheVariants.{InvalidReference, MissingPatternDictionary}}}
-use Rattle.jbig2_region.specs.{Generic.{PlacedRegion, generic_decoded}, GenericHeader.{generic_header_at}, Refinement.{refined_decoded}, RefinementHeader.{refinement_header_at}, RegionInfo.{placed}, declared.region_info.RegionSegmentInfo.{RegionSegmentInfo}}
+use Rattle.jbig2_base.specs.{Answer.{refuse_if, some_or, ◌>>=◌}, Grid.{Grid, part_of}, Segment.{SegmentView}, declared.error.{DecodeError.{DecodeError, TheVariants.{Segment}}, SegmentError.TheVariants.{InvalidReference, MissingPatternDictionary}}}
+use Rattle.jbig2_region.specs.{RegionInfo.{PlacedRegion, placed}, Generic.{generic_decoded}, GenericHeader.{generic_header_at}, Refinement.{refined_decoded}, RefinementHeader.{refinement_header_at}, declared.region_info.RegionSegmentInfo.{RegionSegmentInfo}}
 use Rattle.jbig2_halftone.specs.{Halftone.{halftone_decoded}, HalftoneHeader.{halftone_header_at}, Patterns.{Patterns}}
 use Rattle.jbig2_text.specs.{TextHeader.{text_header_at}, TextRegion.{text_decoded}}
 use Rattle.hayro_jbig2.specs.{Names.{Names, first_named, named, referred_by}, declared.kept.Kept.{Kept}}

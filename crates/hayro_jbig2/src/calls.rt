@@ -1,7 +1,7 @@
 //! The calls that spell a bitmap.
 ghost use Rattle.std.specs.Prelude.{◌≡◌, ◌+◌, ◌-◌, ◌/◌, ◌<◌, ◌≤◌, drop, take};
 ghost use Rattle.jbig2_base.specs.Grid.{Grid};
-ghost use Rattle.jbig2_base.specs.inner.WordBits.{bit};
+ghost use Rattle.jbig2_base.specs.Bits.{bit};
 ghost use Rattle.hayro_jbig2.specs.Calls.{row_of, singles, line_calls, calls_of, IsCountable, Sends};
 ghost use Rattle.hayro_jbig2.specs.inner.RunViews.{run_of, IsColourOf, IsRunAt};
 

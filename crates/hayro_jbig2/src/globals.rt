@@ -2,8 +2,7 @@
 ghost use Rattle.std.specs.Prelude.{◌≡◌};
 ghost use Rattle.jbig2_base.specs.Answer.{Gives};
 ghost use Rattle.jbig2_base.specs.inner.SegmentViews.{segment_view, segment_views};
-ghost use Rattle.hayro_jbig2.specs.Globals.{globals_at, named_from};
-ghost use Rattle.hayro_jbig2.specs.Names.{kept_by, no_names};
+ghost use Rattle.hayro_jbig2.specs.Names.{globals_at, named_from, kept_by, no_names};
 ghost use Rattle.hayro_jbig2.specs.Causes.{GlobalsHaveCauses};
 
 use crate::dictionaries::{extension, keep_patterns, keep_symbols, keep_table};
@@ -47,7 +46,7 @@ impl<A: Allocator + Clone> Globals<A> {
     ///
     /// Dictionaries, tables and extensions are decoded in the order of their numbers, and no other
     /// segment. Refused by the first fault of reading the segments, else of decoding them.
-    #[tactic(auto, using(crate::proofs::PageCauses::globals_causes), unfolding(crate::specs::Globals::globals_at))]
+    #[tactic(auto, using(crate::proofs::PageCauses::globals_causes), unfolding(crate::specs::Names::globals_at))]
     pub fn new(alloc: A, bytes: &[u8], settings: &DecodeSettings) -> Result<Globals<A>>
         ensures value { Gives (λ globals. globals) result
             (globals_at settings.now.strict bytes.now) }

@@ -1,6 +1,6 @@
 //! A page as packed rows.
 ghost use Rattle.std.specs.Prelude.{◌≡◌, ◌+◌, ◌-◌, ◌*◌, ◌<◌, ◌≤◌, ℕ, length};
-ghost use Rattle.jbig2_base.specs.inner.WordBits.{bit};
+ghost use Rattle.jbig2_base.specs.Bits.{bit};
 ghost use Rattle.hayro_jbig2.specs.Image.{packed_byte, packed_part, row_bytes};
 ghost use Rattle.hayro_jbig2.specs.inner.Puts.{top_byte, word_byte, Puts};
 

@@ -2,7 +2,7 @@
 ghost use Rattle.std.specs.Prelude.{◌≡◌, ◌≤◌, IfOk, Bool, List};
 ghost use Rattle.jbig2_base.specs.Answer.{Answers, Gives};
 ghost use Rattle.jbig2_base.specs.inner.SegmentViews.{segment_view};
-ghost use Rattle.jbig2_region.specs.Generic.{PlacedRegion};
+ghost use Rattle.jbig2_region.specs.RegionInfo.{PlacedRegion};
 ghost use Rattle.jbig2_region.specs.inner.RegionViews.{region_view};
 ghost use Rattle.jbig2_region.specs.Refinement.{refined_decoded};
 ghost use Rattle.jbig2_region.specs.RefinementHeader.{IsRefinement};

@@ -5,9 +5,8 @@ use Rattle.std.specs.Int.{Width, w32}
 use Rattle.jbig2_base.specs.Answer.{◌>>=◌, refuse_if, some_or}
 use Rattle.jbig2_base.specs.Bits.{Place, bits_left, bits_next}
 use Rattle.jbig2_base.specs.Fields.{bits_at, bytes_at, number_at, signed_at}
-use Rattle.jbig2_base.specs.File.{file_at, gathered, headers_in, segments_by}
-use Rattle.jbig2_base.specs.FileHeader.{file_header_at, page_count_at}
-use Rattle.jbig2_base.specs.Operator.{operator_of}
+use Rattle.jbig2_base.specs.File.{file_at, gathered, headers_in, segments_by, file_header_at, page_count_at}
+use Rattle.jbig2_base.specs.Combination.{operator_of}
 use Rattle.jbig2_base.specs.PageInfo.{first_information, height_of, information_at, initial_page_of, initial_page_with}
 use Rattle.jbig2_base.specs.Segment.{Header, SegmentView, count_at, data_at, first_end_marker, header_at, length_of, long_count_at, referred_at, segment_at, segment_data_at, unknown_length_of}
 use Rattle.jbig2_base.specs.Sequential.{goes_on, is_cut_off, is_end_of_file, segments_in, sequential, sorted_segments}

@@ -8,7 +8,7 @@ use Rattle.std.proofs.lemmas.Bool.{cases_eq, cases_lt, eq-eqb, ne_eqb, cond-true
 use Rattle.std.proofs.lemmas.Bool.Decides.{nat_tests}
 use Rattle.std.proofs.lemmas.Nat.Bits as bits
 use Rattle.jbig2_base.specs.Grid.{bit_number}
-use Rattle.jbig2_base.specs.inner.WordBits.{bit, field_bit}
+use Rattle.jbig2_base.specs.{Bits.{bit}, inner.WordBits.{field_bit}}
 
 bit_number-test : (x : ℕ) → x < 2 → bit_number (eqb x 1) ≡ x
 bit_number-test x h = ⊎_elim (λ (one : x ≡ 1). rw (eq-eqb x 1 one) (sym one)) (λ (other : x ≡ 1 → ⊥). rw (ne_eqb x 1 other) (omega arith)) (cases_eq x 1)

@@ -3,8 +3,8 @@ use Rattle.std.proofs.Common.{◌≡◌, ℕ, ◌+◌, ◌-◌, ◌*◌, ◌/◌
 use Rattle.std.proofs.lemmas.Bool.{cases_eq, cases_lt, cond-true, cond-false, and_from, and_left, and_right, le-leb, lt-leb, lt-ltb, le-ltb}
 use Rattle.jbig2_base.specs.declared.bitmap.operator.CombinationOperator.{CombinationOperator}
 use Rattle.jbig2_base.specs.Grid.{Grid, grid_of, pixel_at}
-use Rattle.jbig2_base.specs.Operator.{combined_pixel}
-use Rattle.jbig2_base.specs.inner.WordBits.{bit}
+use Rattle.jbig2_base.specs.Combination.{combined_pixel}
+use Rattle.jbig2_base.specs.Bits.{bit}
 use Rattle.jbig2_base.specs.inner.Writes.{with_pixels}
 use Rattle.jbig2_base.specs.inner.Blocks.{block_pixel, with_block}
 use Rattle.jbig2_base.specs.inner.Table.{IsTable}

@@ -7,7 +7,7 @@ use Rattle.std.proofs.lemmas.Bool.Decides.{nat_tests}
 use Rattle.std.proofs.lemmas.Bool.{cond_both, ltb-true, ltb-false, not-true, false≢true}
 use Rattle.jbig2_base.specs.Answer.{◌>>=◌, refuse_if}
 use Rattle.jbig2_base.specs.Fields.{bytes_at, number_at, end_of_bytes}
-use Rattle.jbig2_base.specs.FileHeader.{file_header_at, identification, page_count_at}
+use Rattle.jbig2_base.specs.File.{file_header_at, identification, page_count_at}
 use Rattle.jbig2_base.specs.Causes.{BreaksFileHeader, HaveCauses}
 use Rattle.jbig2_base.specs.declared.error.DecodeError.{DecodeError}
 

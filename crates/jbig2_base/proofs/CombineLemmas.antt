@@ -8,9 +8,8 @@ use mir.Val.{SFits, to_z, of_z}
 use Rattle.jbig2_base.specs.declared.bitmap.operator.CombinationOperator.{CombinationOperator}
 use Rattle.jbig2_base.specs.Counts.{Counts}
 use Rattle.jbig2_base.specs.Grid.{Grid, pixel_at, pixel}
-use Rattle.jbig2_base.specs.Operator.{combined_pixel}
+use Rattle.jbig2_base.specs.{Combination.{combined_pixel, is_below, drawn_pixel, combined}, Counts.{overlap, most_words, WritesWithin}}
 use Rattle.jbig2_base.specs.inner.Blocks.{block_pixel, with_block}
-use Rattle.jbig2_base.specs.Combination.{is_below, drawn_pixel, combined, overlap, most_words, WritesWithin}
 use Rattle.jbig2_base.specs.inner.Table.{IsTable}
 use Rattle.jbig2_base.proofs.GridLemmas.{grid_of-ext}
 use Rattle.jbig2_base.proofs.BlockLemmas.{block-in, block-out, block-none}

@@ -1,7 +1,6 @@
 -- Counts of words and loads.
 use Rattle.std.proofs.Common.{◌≡◌, ℕ, ◌+◌, ◌-◌, ◌*◌, ◌/◌, ◌<◌, ◌≤◌, zero, suc, ap, refl, ◌∙◌, arith}
-use Rattle.jbig2_base.specs.Counts.{Counts}
-use Rattle.jbig2_base.specs.Combination.{WritesWithin, most_words}
+use Rattle.jbig2_base.specs.Counts.{Counts, WritesWithin, most_words}
 
 -- n words written under two loads each
 abbrev pub after_words : Counts → ℕ → Counts

@@ -7,10 +7,8 @@ use Rattle.std.proofs.lemmas.List.{drop-drop}
 use Rattle.jbig2_base.specs.Answer.{◌>>=◌, refuse_if}
 use Rattle.jbig2_base.specs.Causes.{HaveCauses, number_in, BreaksData, BreaksSegment, BreaksSides, BreaksArea}
 use Rattle.jbig2_base.specs.Fields.{bytes_at, end_of_bytes}
-use Rattle.jbig2_base.specs.Grid.{Grid}
-use Rattle.jbig2_base.specs.Parts.{part_or_overflow}
+use Rattle.jbig2_base.specs.Grid.{Grid, part_or_overflow, blank_or_overflow, wide_or_overflow}
 use Rattle.jbig2_base.specs.Search.{place_from}
-use Rattle.jbig2_base.specs.Sizes.{blank_or_overflow, wide_or_overflow}
 use Rattle.jbig2_base.specs.Segment.{Header, SegmentView, adaptive_bytes, data_at, first_end_marker, header_at, is_end_marker, segment_at, segment_data_at, unknown_length_of}
 use Rattle.jbig2_base.specs.declared.error.DecodeError.{DecodeError}
 use Rattle.jbig2_base.specs.declared.error.DecodeError.TheVariants.{Overflow, Segment}

@@ -4,8 +4,7 @@ use Rattle.std.specs.Prelude.{◌≢◌, IfErr}
 use Rattle.std.proofs.lemmas.Bool.{cond_both, eqb-false, true≢false}
 use Rattle.jbig2_base.specs.Answer.{◌>>=◌}
 use Rattle.jbig2_base.specs.Causes.{HaveCauses, BreaksFileHeader, BreaksHeader, BreaksSegment, BehindSome, BreaksSequence, BreaksHeaders, BreaksGathered, BreaksSegmentsBy, BreaksFile}
-use Rattle.jbig2_base.specs.File.{file_at, gathered, headers_in, segments_by}
-use Rattle.jbig2_base.specs.FileHeader.{file_header_at}
+use Rattle.jbig2_base.specs.File.{file_at, gathered, headers_in, segments_by, file_header_at}
 use Rattle.jbig2_base.specs.Segment.{Header, SegmentView, header_at, segment_at, segment_data_at}
 use Rattle.jbig2_base.specs.Sequential.{goes_on, is_cut_off, is_end_of_file, segments_in, sequential, sorted_segments}
 use Rattle.jbig2_base.specs.declared.error.DecodeError.{DecodeError}

@@ -2,8 +2,7 @@
 use Rattle.std.proofs.Common.{◌≡◌, ℕ, List, [], ◌∷◌, ◌++◌, length, take, Some, Result, Ok, Err, Bool, true, false, refl}
 use Rattle.std.specs.List.{list_all, range_with_len}
 use Rattle.jbig2_base.specs.Fields.{end_of_bytes}
-use Rattle.jbig2_base.specs.File.{file_at, headers_in, Spelled, AreSpelled, SpellsFile}
-use Rattle.jbig2_base.specs.FileHeader.{file_header_at, identification}
+use Rattle.jbig2_base.specs.File.{file_at, headers_in, Spelled, AreSpelled, SpellsFile, file_header_at, identification}
 use Rattle.jbig2_base.specs.Segment.{SegmentView, type_of, count_at, referred_at, header_at, segment_at}
 use Rattle.jbig2_base.specs.Sequential.{segments_in, is_cut_off}
 use Rattle.jbig2_base.specs.declared.error.DecodeError.{DecodeError}

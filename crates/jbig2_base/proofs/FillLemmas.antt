@@ -2,16 +2,13 @@
 -- out of another.
 use Rattle.std.proofs.Common.{◌≡◌, ℕ, ◌+◌, ◌-◌, ◌*◌, min, ◌<◌, ◌≤◌, Bool, Ok, true, false, ◌&&◌, ◌||◌, cond, eqb, ltb, leb, refl, sym, ap, ◌∙◌, ⊎_elim, arith}
 use Rattle.std.proofs.lemmas.Bool.{cases_lt, cond-true, cond-false, and_from, and_left, and_right, or_from, or_left, or_right, lt-ltb, le-ltb, eq-eqb, ne_eqb}
-use Rattle.jbig2_base.specs.Grid.{Grid, grid_of, blank, pixel_at}
-use Rattle.jbig2_base.specs.inner.WordBits.{bit}
+use Rattle.jbig2_base.specs.Grid.{Grid, grid_of, blank, pixel_at, part_of, part_or_overflow, blank_or_overflow}
+use Rattle.jbig2_base.specs.Bits.{bit}
 use Rattle.jbig2_base.specs.inner.Writes.{with_pixels}
-use Rattle.jbig2_base.specs.Parts.{part_of, part_or_overflow}
-use Rattle.jbig2_base.specs.inner.Filled.{pixel_of_part}
+use Rattle.jbig2_base.specs.inner.Filled.{pixel_of_part, is_before, filled}
 use Rattle.jbig2_base.specs.declared.bitmap.part.Area.{Area}
-use Rattle.jbig2_base.specs.inner.Filled.{is_before, filled}
 use Rattle.std.specs.Prelude.{nat_lt}
 use Rattle.jbig2_base.specs.Answer.{◌>>=◌, refuse_if}
-use Rattle.jbig2_base.specs.Sizes.{blank_or_overflow}
 use Rattle.jbig2_base.specs.declared.error.DecodeError.TheVariants.{Overflow}
 use Rattle.jbig2_base.specs.declared.error.OverflowError.TheVariants.{BitmapDimension}
 use Rattle.jbig2_base.proofs.GridLemmas.{grid_of-ext, pixel_at-grid_of}

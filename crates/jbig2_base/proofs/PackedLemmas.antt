@@ -5,7 +5,7 @@ use Rattle.std.proofs.lemmas.Bool.{cases_eq, cases_lt, eqb-true, eqb-false, eq-e
 use Rattle.std.proofs.lemmas.Nat.{mul-add-lt, mod-mul-add, same_from_place}
 use Rattle.std.proofs.lemmas.Nat.Bits.{ones_shl}
 use Rattle.jbig2_base.specs.Grid.{grid_of, pixel_at, blank}
-use Rattle.jbig2_base.specs.inner.WordBits.{bit}
+use Rattle.jbig2_base.specs.Bits.{bit}
 use Rattle.jbig2_base.specs.inner.Packed.{IsPacked, packed_pixel, stride_of, blank_word}
 use Rattle.jbig2_base.proofs.BitLemmas.{bit-zero, bit-ones, bit-high_ones, bit-high_ones_below}
 use Rattle.jbig2_base.proofs.GridLemmas.{grid_of-ext, pixel_at-grid_of, pixel_at-right}

@@ -5,7 +5,7 @@ use Rattle.std.specs.Int.{w8, w16, w32}
 use Rattle.std.proofs.lemmas.Bool.{cond_both, eqb-false}
 use Rattle.jbig2_base.specs.Causes.{HaveCauses, BreaksInformation, BreaksOperator, number_in}
 use Rattle.jbig2_base.specs.Fields.{end_of_bytes}
-use Rattle.jbig2_base.specs.Operator.{operator_of}
+use Rattle.jbig2_base.specs.Combination.{operator_of}
 use Rattle.jbig2_base.specs.PageInfo.{information_at}
 use Rattle.jbig2_base.specs.declared.bitmap.operator.CombinationOperator.{CombinationOperator}
 use Rattle.jbig2_base.specs.declared.error.DecodeError.{DecodeError}

@@ -4,7 +4,7 @@ use Rattle.std.specs.Int.RustNames.{bit_or}
 use Rattle.std.proofs.lemmas.Bool.{cases_eq, cases_lt, eq-eqb, ne_eqb, cond-true, cond-false, and_from, and_left, and_right, le-leb, lt-leb, lt-ltb, le-ltb}
 use Rattle.std.proofs.lemmas.Nat.{one_shl}
 use Rattle.jbig2_base.specs.Grid.{grid_of, pixel_at}
-use Rattle.jbig2_base.specs.inner.WordBits.{bit, field_bit}
+use Rattle.jbig2_base.specs.{Bits.{bit}, inner.WordBits.{field_bit}}
 use Rattle.jbig2_base.specs.inner.Writes.{with_pixel, with_pixels}
 use Rattle.jbig2_base.specs.inner.Packed.{IsPacked, packed_pixel}
 use Rattle.jbig2_base.proofs.BitLemmas.{bit-or, bit-pow_same, bit-pow_other, or-false, field-inside, field-below, field-above}

@@ -1,7 +1,7 @@
 -- Which rule the bytes break where a definition refuses them (docs/FORMAT.md), a line for each error. A predicate
 -- `Breaks..` takes the bytes and an error, and `HaveCauses` is the law: each error of the definition has that cause.
 use Rattle.std.specs.{Prelude.{◌≡◌, ◌≢◌, ◌<◌, ◌≤◌, ◌+◌, ◌*◌, ◌-◌, ◌/◌, ◌%◌, ◌^◌, ◌==◌, ◌⊎◌, ℕ, Bool, true, List, [], ◌∷◌, take, drop, length, All, Any, Option, Some, None, Result, Ok, Err, IfErr, if◌then◌else◌}, Int.{Width, w8, w32, byte_len, from_be_bytes}}
-use Rattle.jbig2_base.specs.{File.{headers_in}, FileHeader.{file_header_at, identification}, Segment.{Header, SegmentView, adaptive_bytes, number_width, header_at, segment_data_at, segment_at}, declared.{error.{DecodeError.{DecodeError, TheVariants.{Parse, Format, Segment, Region, Overflow}}, FormatError.TheVariants.{InvalidHeader, ReservedBits, MissingPageInfo, UnknownPageHeight, EmptyPage}, OverflowError.TheVariants.{BitmapDimension}, ParseError.TheVariants.{UnexpectedEof}, RegionError.TheVariants.{InvalidCombinationOperator}, SegmentError.TheVariants.{UnknownType, InvalidReferredCount, InvalidReference, InvalidUnknownLength, MissingEndMarker}}, file_header.{FileHeader.{FileHeader}, FileOrganization.{FileOrganization, TheVariants.{Sequential, RandomAccess}}}, segment.SegmentType.{SegmentType}}}
+use Rattle.jbig2_base.specs.{File.{headers_in, file_header_at, identification}, Segment.{Header, SegmentView, adaptive_bytes, number_width, header_at, segment_data_at, segment_at}, declared.{error.{DecodeError.{DecodeError, TheVariants.{Parse, Format, Segment, Region, Overflow}}, FormatError.TheVariants.{InvalidHeader, ReservedBits, MissingPageInfo, UnknownPageHeight, EmptyPage}, OverflowError.TheVariants.{BitmapDimension}, ParseError.TheVariants.{UnexpectedEof}, RegionError.TheVariants.{InvalidCombinationOperator}, SegmentError.TheVariants.{UnknownType, InvalidReferredCount, InvalidReference, InvalidUnknownLength, MissingEndMarker}}, file_header.{FileHeader.{FileHeader}, FileOrganization.{FileOrganization, TheVariants.{Sequential, RandomAccess}}}, segment.SegmentType.{SegmentType}}}
 use Rattle.jbig2_base.specs.declared.segment.SegmentType.TheVariants as types
 
 unfoldable pub HaveCauses : {X Y : Type 0} → (X → Result Y DecodeError) → (X → DecodeError → Type 0) → Type 0

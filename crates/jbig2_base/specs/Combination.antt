@@ -1,7 +1,25 @@
--- One bitmap combined with another (T.88, 7.4.1.5): an operator, the page, a source and the place of its top left
--- pixel, at any whole numbers, give the page afterwards. Where the source does not lie, the page stays as it was.
-use Rattle.std.specs.Prelude.{ℕ, ◌+◌, ◌-◌, ◌*◌, ◌/◌, ◌≡◌, ◌≤◌, Bool, false, ◌&&◌, nat_lt, min, if◌then◌else◌, ℤ, pos, negsuc, ◌-ℤ◌, zero, suc}
-use Rattle.jbig2_base.specs.{declared.bitmap.operator.CombinationOperator.{CombinationOperator}, Counts.{Counts}, Grid.{Grid, grid_of, pixel_at, pixel}, Operator.{combined_pixel}}
+-- The combination operators, and a bitmap combined with another by them (T.88, 7.4.1.5). `operator_of` takes a number
+-- of a region's flags. `combined` takes an operator, the page, a source and the place of its top left pixel, at any
+-- whole numbers, and gives the page afterwards, which stays as it was where the source does not lie.
+use Rattle.std.specs.Prelude.{ℕ, ◌-◌, Bool, false, ◌&&◌, nat_lt, if◌then◌else◌, ℤ, pos, negsuc, ◌-ℤ◌, ◌||◌, ◌==◌, not, Result, Ok, Err}
+use Rattle.jbig2_base.specs.{declared.{bitmap.operator.CombinationOperator.{CombinationOperator, TheVariants.{Or, And, Xor, Xnor, Replace}}, error.{DecodeError.{DecodeError, TheVariants.{Region}}, RegionError.TheVariants.{InvalidCombinationOperator}}}, Grid.{Grid, grid_of, pixel_at, pixel}}
+
+abbrev pub operator_of : ℕ → Result CombinationOperator DecodeError
+operator_of n =
+    if n == 0 then Ok Or
+    else if n == 1 then Ok And
+    else if n == 2 then Ok Xor
+    else if n == 3 then Ok Xnor
+    else if n == 4 then Ok Replace
+    else Err (Region InvalidCombinationOperator)
+
+-- what becomes of the page's pixel p under the source's pixel s
+abbrev pub combined_pixel : CombinationOperator → Bool → Bool → Bool
+combined_pixel Or p s = p || s
+combined_pixel And p s = p && s
+combined_pixel Xor p s = if p then not s else s
+combined_pixel Xnor p s = if p then s else not s
+combined_pixel Replace p s = s
 
 abbrev pub is_below : ℕ → ℤ → Bool  -- a whole number from 0 up to a size
 is_below size (pos n) = nat_lt n size
@@ -16,20 +34,3 @@ drawn_pixel operator page source x y i j =
 
 abbrev pub combined : CombinationOperator → Grid → Grid → ℤ → ℤ → Grid
 combined operator page source x y = grid_of page.width page.height (drawn_pixel operator page source x y)
-
-abbrev pub overlap : ℕ → ℕ → ℤ → ℕ  -- how many of a page's columns (or rows) a source has that begins at x
-overlap page source (pos x) = min source (page - x)
-overlap page source (negsuc x) = min page (source - (x + 1))
-
-abbrev pub most_words : ℕ → ℕ  -- the most words that a row of so many columns lies in
-most_words zero = 0
-most_words (suc columns) = columns / 64 + 2
-
--- at most so many words were written, at most twice as many loads made, and nothing else was counted
-pub record WritesWithin (most : ℕ) (old new : Counts) : Type 0 where
-  pub words : new.words ≤ old.words + most
-  pub loads : new.loads ≤ old.loads + 2 * most
-  pub decisions : new.decisions ≡ old.decisions
-  pub run_tests : new.run_tests ≡ old.run_tests
-  pub groups : new.groups ≡ old.groups
-  pub pixels : new.pixels ≡ old.pixels

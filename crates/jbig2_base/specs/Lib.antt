@@ -6,14 +6,9 @@ pub mod Counts
 pub mod ErrorTexts
 pub mod Fields
 pub mod File
-pub mod FileHeader
 pub mod Grid
-pub mod Operator
 pub mod PageInfo
-pub mod Parsing
 pub mod Search
-pub mod Parts
 pub mod Segment
 pub mod Sequential
-pub mod Sizes
 pub mod inner

@@ -1,5 +1,6 @@
--- Page information (T.88, 7.4.8), and what a page begins as: `initial_page_of` gives a page's number, size and colour
--- by the first page information among its segments, and by its stripes (7.4.10) where that leaves the height open.
+-- Page information (T.88, 7.4.8), and what a page begins as. `information_at` takes bytes and gives the fields;
+-- `initial_page_of` takes a page's segments and gives its number, size and colour, by the first page information
+-- among them, and by its stripes (7.4.10) where that leaves the height open.
 use Rattle.std.specs.{Prelude.{ℕ, ◌+◌, ◌/◌, ◌%◌, ◌==◌, max, nat_lt, Bool, true, false, not, ◌&&◌, ◌||◌, List, [], ◌∷◌, length, take, Result, Ok, Err, if◌then◌else◌}, Int.{w8, w16, w32, from_be_bytes}}
 use Rattle.jbig2_base.specs.{Answer.{◌>>=◌, refuse_if}, Bits.{nonzero}, Fields.{number_at}, Segment.{SegmentView}, declared.{bitmap.operator.CombinationOperator.{CombinationOperator, TheVariants.{Or, And, Xor, Xnor}}, error.{DecodeError.{DecodeError, TheVariants.{Format, Overflow}}, FormatError.TheVariants.{MissingPageInfo, UnknownPageHeight, EmptyPage}, OverflowError.TheVariants.{BitmapDimension}}, page_info.{PageFlags.{PageFlags}, PageInformation.{PageInformation}, InitialPage.{InitialPage}}, segment.SegmentType.{SegmentType}}}
 use Rattle.jbig2_base.specs.declared.segment.SegmentType.TheVariants as types

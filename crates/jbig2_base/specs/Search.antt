@@ -1,5 +1,6 @@
--- The least number that passes a test (our own rule), as the first place where something holds: the next change of a
--- row (T.6), the first end marker (T.88, 7.2.7), the fewest bits of a code (6.5.8.2.3).
+-- The least number that passes a test (our own rule). So the next change of a row (T.6), the first end marker (T.88,
+-- 7.2.7) and the fewest bits of a code (6.5.8.2.3) are found. `place_from` takes the test and the bounds of the
+-- search, and gives the number, or else the upper bound.
 use Rattle.std.specs.Prelude.{ℕ, zero, suc, ◌-◌, ◌^◌, nat_le, Bool, if◌then◌else◌}
 
 unfoldable pub least : (ℕ → Bool) → ℕ → ℕ → ℕ  -- of the last n numbers below `to` the least that passes, else `to`

@@ -2,12 +2,10 @@
 ghost use Rattle.std.specs.Prelude.{◌≡◌, ℕ, ◌+◌, ◌-◌, ◌*◌, ◌/◌, ◌^◌, ◌<◌, ◌≤◌, OnErr, Ok, false, get_or, length};
 ghost use Rattle.jbig2_base.specs.Answer.{Gives};
 ghost use Rattle.jbig2_base.specs.Counts.{words_copied};
-ghost use Rattle.jbig2_base.specs.Grid.{Grid, blank, pixel_at, bit_number};
+ghost use Rattle.jbig2_base.specs.{Grid.{Grid, blank, pixel_at, bit_number, part_or_overflow, blank_or_overflow, wide_or_overflow}, Counts.{words_of}};
 ghost use Rattle.jbig2_base.specs.Causes.{HaveCauses, BreaksSides, BreaksArea};
-ghost use Rattle.jbig2_base.specs.Parts.{part_or_overflow};
-ghost use Rattle.jbig2_base.specs.Sizes.{blank_or_overflow, wide_or_overflow, words_of};
 ghost use Rattle.jbig2_base.specs.inner.Table.{IsTable};
-ghost use Rattle.jbig2_base.specs.inner.WordBits.{bit};
+ghost use Rattle.jbig2_base.specs.Bits.{bit};
 ghost use Rattle.jbig2_base.specs.inner.Writes.{with_pixel, with_pixels};
 
 pub mod colour;

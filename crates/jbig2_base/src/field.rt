@@ -3,8 +3,7 @@ ghost use Rattle.std.specs.Prelude.{◌≡◌, ◌+◌, ◌^◌, ◌<◌, ◌≤
 ghost use Rattle.std.specs.Int.{w8, w16, w32};
 ghost use Rattle.jbig2_base.specs.Answer.{Answers, some_or};
 ghost use Rattle.jbig2_base.specs.Bits.{IsAligned, bits_left, bits_next, bits_on};
-ghost use Rattle.jbig2_base.specs.Parsing.{Parses};
-ghost use Rattle.jbig2_base.specs.Fields.{bits_at, bytes_at, number_at, signed_at};
+ghost use Rattle.jbig2_base.specs.Fields.{Parses, bits_at, bytes_at, number_at, signed_at};
 
 use crate::error::{DecodeError, ParseError, Result};
 use crate::reader::Reader;

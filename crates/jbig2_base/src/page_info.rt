@@ -4,7 +4,7 @@ ghost use Rattle.jbig2_base.specs.Answer.{Answers};
 ghost use Rattle.jbig2_base.specs.Bits.{IsAligned, nonzero};
 ghost use Rattle.jbig2_base.specs.Causes.{HaveCauses, BreaksInformation, BreaksInitialPage};
 ghost use Rattle.jbig2_base.specs.PageInfo.{default_operator_of, flags_of, information_at, is_page_information, is_end_of_stripe, first_information, stripe_height, stripes_height, height_of, initial_page_with, initial_page_of};
-ghost use Rattle.jbig2_base.specs.Parsing.{Parses};
+ghost use Rattle.jbig2_base.specs.Fields.{Parses};
 ghost use Rattle.jbig2_base.specs.inner.SegmentViews.{segment_view, segment_views};
 
 use crate::bitmap::operator::CombinationOperator;

@@ -7,8 +7,7 @@ ghost use Rattle.std.specs.Bool.{OnTrue};
 ghost use Rattle.jbig2_base.specs.Answer.{Answers, Gives};
 ghost use Rattle.jbig2_base.specs.Bits.{IsAligned};
 ghost use Rattle.jbig2_base.specs.Causes.{HaveCauses, BreaksHeader, BreaksData, BreaksSegment};
-ghost use Rattle.jbig2_base.specs.Fields.{number_at};
-ghost use Rattle.jbig2_base.specs.Parsing.{Parses, Takes};
+ghost use Rattle.jbig2_base.specs.Fields.{number_at, Parses, Takes};
 ghost use Rattle.jbig2_base.specs.Segment.{Header, type_of, is_reserved, is_immediate_generic, long_count_at, count_at, number_width, numbers_in, referred_at, length_of, header_at, data_at, segment_data_at, segment_at};
 ghost use Rattle.jbig2_base.specs.inner.SegmentViews.{header_view, segment_view};
 

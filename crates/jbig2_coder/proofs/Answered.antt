@@ -12,7 +12,7 @@ use Rattle.jbig2_base.proofs.Causes.{cause-next}
 use Rattle.jbig2_coder.specs.CustomTable.{Step, answer_of, custom_header, custom_line, custom_lines, custom_table, end_lines, field, left_at, next_low, range_lines, range_lines_in}
 use Rattle.jbig2_coder.specs.inner.CodeParts.{ended, is_decided, last_line, found_or, refused, some_value, value_after, valued}
 use Rattle.jbig2_coder.specs.PrefixCode.{CodeReading, Member, decoded_value, front_number, in_word, line_of, no_oob, read_code, table_of, value_by}
-use Rattle.jbig2_coder.specs.TableSelection.{next_custom}
+use Rattle.jbig2_coder.specs.Tables.{next_custom}
 use Rattle.jbig2_coder.specs.declared.huffman_table.custom.Header.{Header}
 use Rattle.jbig2_coder.specs.declared.huffman_table.line.TableLine.{TableLine}
 

@@ -18,7 +18,7 @@ use Rattle.jbig2_coder.specs.PrefixCode.{CodeReading, Member, begins_longer, dec
 use Rattle.jbig2_coder.specs.inner.CodeParts.{ended, found_or, is_decided, refused, some_value, value_after, valued}
 use Rattle.jbig2_coder.specs.declared.huffman_table.line.TableLine.{TableLine}
 use Rattle.jbig2_base.specs.Causes.{HaveCauses}
-use Rattle.jbig2_coder.specs.TableSelection.{next_custom}
+use Rattle.jbig2_coder.specs.Tables.{next_custom}
 
 -- ---- lists
 all-cons : {X : Type 0} (P : X → Type 0) (x : X) (xs : List X) → P x → All P xs → All P (x ∷ xs)

@@ -1,8 +1,7 @@
 -- The decoder reads from a list's bytes that list's decisions.
 use Rattle.std.proofs.Common.{◌≡◌, ℕ, Bool, List, [], ◌∷◌, length, map, refl, sym, ap, ◌∙◌, subst}
 use Rattle.jbig2_coder.specs.Coder.{Context, Decision, Registers, byte_at, decision, initial_registers}
-use Rattle.jbig2_coder.specs.Encoder.{Coding, opened, encoding, flushed, closed}
-use Rattle.jbig2_coder.specs.Lists.{with_context, encode_from, encoded, decoded_from, read_back, DecodesBack}
+use Rattle.jbig2_coder.specs.Encoder.{Coding, opened, encoding, flushed, closed, with_context, encode_from, encoded, decoded_from, read_back, DecodesBack}
 use Rattle.jbig2_coder.specs.inner.EncoderViews.{Contexts, all_fresh, Encoding}
 use Rattle.jbig2_coder.proofs.InverseBytes.{Valid, first}
 use Rattle.jbig2_coder.proofs.InverseShift.{KnowsAt}

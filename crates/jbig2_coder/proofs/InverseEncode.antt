@@ -2,8 +2,7 @@
 use Rattle.std.proofs.Common.{◌≡◌, ℕ, ◌+◌, ◌*◌, ◌^◌, ◌<◌, ◌≤◌, Bool, true, false, List, [], ◌∷◌, refl, sym, ◌∙◌, arith, subst, ⊎_elim, ◌⊎◌, inl, inr, mul-le-mul_right}
 use Rattle.std.proofs.lemmas.Bool.{cases_Bool}
 use Rattle.jbig2_coder.specs.Coder.{Context}
-use Rattle.jbig2_coder.specs.Encoder.{Writer, Coding, opened, renormed, encoding, flushed}
-use Rattle.jbig2_coder.specs.Lists.{with_context, encode_from}
+use Rattle.jbig2_coder.specs.Encoder.{Writer, Coding, opened, renormed, encoding, flushed, with_context, encode_from}
 use Rattle.jbig2_coder.specs.inner.EncoderViews.{Contexts, Encoding}
 use Rattle.jbig2_coder.proofs.Encoders.{encoding-quiet, encoding-renorm}
 use Rattle.jbig2_coder.proofs.InverseByteOut.{low, time, Room-le, Bounded}

@@ -7,8 +7,7 @@ use Rattle.jbig2_base.specs.declared.error.DecodeError.{DecodeError}
 use Rattle.jbig2_base.specs.Answer.{Gives}
 use Rattle.jbig2_base.specs.Grid.{bit_number}
 use Rattle.jbig2_coder.specs.Coder.{Coder, Context, Decision, Registers, fresh, decision, initial_registers}
-use Rattle.jbig2_coder.specs.Encoder.{Coding, opened, encoding, flushed, closed}
-use Rattle.jbig2_coder.specs.Lists.{with_context, encode_from, encoded, decoded_from, read_back}
+use Rattle.jbig2_coder.specs.Encoder.{Coding, opened, encoding, flushed, closed, with_context, encode_from, encoded, decoded_from, read_back}
 use Rattle.jbig2_coder.specs.inner.EncoderViews.{Contexts, all_fresh, contexts_of}
 
 pub contexts_of-fresh : (known : List Context) → ((k : ℕ) → k < length known → get_or known k fresh ≡ fresh) → contexts_of known ≡ all_fresh

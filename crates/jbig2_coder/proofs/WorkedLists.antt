@@ -3,8 +3,7 @@ use Rattle.std.proofs.Common.{◌≡◌, ℕ, ◌/◌, ◌%◌, ◌^◌, Bool, t
 use Rattle.std.specs.Prelude.{◌==◌}
 use Rattle.jbig2_coder.specs.Table.{rows, row_of}
 use Rattle.jbig2_coder.specs.Coder.{byte_at, byte_in, filled, doubled, renormed, initial_registers, likely_next, unlikely_next, choice, decision}
-use Rattle.jbig2_coder.specs.Encoder.{opened, plain, stuffed, byte_out, shifted, renormed as encoder_renormed, narrowed_likely, narrowed_unlikely, narrowed, encoding, set_bits, flushed, is_full, closed}
-use Rattle.jbig2_coder.specs.Lists.{with_context, encode_from, encoded, decoded_from, read_back}
+use Rattle.jbig2_coder.specs.Encoder.{opened, plain, stuffed, byte_out, shifted, renormed as encoder_renormed, narrowed_likely, narrowed_unlikely, narrowed, encoding, set_bits, flushed, is_full, closed, with_context, encode_from, encoded, decoded_from, read_back}
 
 encoded-none : encoded [] ≡ 0xFF ∷ 0x7F ∷ 0xFF ∷ 0xAC ∷ []
 unfolding opened plain stuffed byte_out set_bits flushed is_full closed encode_from encoded

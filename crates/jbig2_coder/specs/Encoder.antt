@@ -1,7 +1,8 @@
--- The arithmetic encoder (T.88, E.2), one shift at a time. A decision in its context takes the registers and the bytes
--- so far on to the next; FLUSH ends the bytes. The decoder of `Coder` reads them back.
-use Rattle.std.specs.Prelude.{ℕ, suc, zero, ◌+◌, ◌-◌, ◌*◌, ◌/◌, ◌%◌, ◌^◌, Bool, true, false, not, if◌then◌else◌, ◌==◌, nat_lt, nat_le, List, [], ◌∷◌, reverse}
-use Rattle.jbig2_coder.specs.{Table.{row_of}, Coder.{Context, likely_next, unlikely_next}}
+-- The arithmetic encoder (T.88, E.2), one shift at a time. A decision in its context takes the registers and the
+-- bytes so far on to the next; FLUSH ends the bytes. Whole lists of decisions stand behind it, and the law that the
+-- decoder of `Coder` reads them back.
+use Rattle.std.specs.Prelude.{ℕ, suc, zero, ◌+◌, ◌-◌, ◌*◌, ◌/◌, ◌%◌, ◌^◌, Bool, true, false, not, if◌then◌else◌, ◌==◌, nat_lt, nat_le, List, [], ◌∷◌, reverse, map, ◌≡◌}
+use Rattle.jbig2_coder.specs.{Table.{row_of}, Coder.{Context, likely_next, unlikely_next, Registers, fresh, decision, initial_registers}}
 
 abbrev pub Writer : Type 0  -- C, the shifts before the next byte goes out (CT), and the bytes out, last first
 Writer = record { register : ℕ; wait : ℕ; out : List ℕ }
@@ -91,3 +92,27 @@ is_full (last ∷ out) = last == 0xFF
 
 unfoldable pub closed : List ℕ → List ℕ
 closed out = reverse (if is_full out then 0xAC ∷ out else 0xAC ∷ 0xFF ∷ out)
+
+unfoldable pub with_context : (ℕ → Context) → ℕ → Context → ℕ → Context  -- one of them replaced
+with_context contexts k context = λ j. if j == k then context else contexts j
+
+unfoldable pub encode_from : Coding → (ℕ → Context) → List (ℕ × Bool) → Coding  -- the encoder behind a list
+encode_from s contexts [] = s
+encode_from s contexts (entry ∷ entries) =
+    let next = encoding (contexts entry.0) entry.1 s in
+    encode_from next.coding (with_context contexts entry.0 next.context) entries
+
+unfoldable pub encoded : List (ℕ × Bool) → List ℕ  -- the bytes of a list of (context, decision)
+encoded entries = closed (flushed (encode_from opened (λ _. fresh) entries)).out
+
+unfoldable pub decoded_from : List ℕ → Registers → (ℕ → Context) → List ℕ → List Bool  -- the decisions read
+decoded_from bytes registers contexts [] = []
+decoded_from bytes registers contexts (k ∷ asked) =
+    let next = decision bytes registers (contexts k) in
+    next.symbol ∷ decoded_from bytes next.registers (with_context contexts k next.context) asked
+
+unfoldable pub read_back : List ℕ → List ℕ → List Bool
+read_back bytes asked = decoded_from bytes (initial_registers bytes) (λ _. fresh) asked
+
+abbrev pub DecodesBack : Type 0  -- whatever is encoded, the decoder that is asked in the same contexts reads back
+DecodesBack = (entries : List (ℕ × Bool)) → read_back (encoded entries) (map (λ entry. entry.0) entries) ≡ map (λ entry. entry.1) entries

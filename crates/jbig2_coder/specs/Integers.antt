@@ -1,8 +1,9 @@
 -- Integers and symbol ids (T.88, Annex A): decisions whose contexts the bits read so far name. A reading takes the
--- coder's registers and a procedure's contexts, and gives a value or out of band with both as they are then.
-use Rattle.std.specs.Prelude.{ℕ, suc, zero, ◌+◌, ◌-◌, ◌*◌, ◌%◌, ◌^◌, Bool, true, false, not, ◌&&◌, if◌then◌else◌, ◌==◌, nat_lt, List, [], ◌∷◌, ◌++◌, length, drop, slice_index_or, slice_set, Some, None, Option, ℤ, pos, ◌-ℤ◌}
+-- coder's registers and a procedure's contexts, and gives a value or out of band with both as they are then. `asked`
+-- takes the name of a procedure (6.4, 6.5), whose contexts go on from integer to integer.
+use Rattle.std.specs.Prelude.{ℕ, suc, zero, ◌+◌, ◌-◌, ◌*◌, ◌%◌, ◌^◌, Bool, true, false, not, ◌&&◌, if◌then◌else◌, ◌==◌, nat_lt, List, [], ◌∷◌, ◌++◌, length, drop, slice_index_or, slice_set, Some, None, Option, ℤ, pos, ◌-ℤ◌, replicate}
 use Rattle.jbig2_base.specs.Grid.{bit_number}
-use Rattle.jbig2_coder.specs.Coder.{Context, Decision, Registers, fresh, decision}
+use Rattle.jbig2_coder.specs.{Coder.{Context, Decision, Registers, fresh, decision, Coder}, declared.integer_procedures.IntegerProcedure.{IntegerProcedure, TheVariants.{Iaai, Iadh, Iads, Iadt, Iadw, Iaex, Iafs, Iait, Iardh, Iardw, Iardx, Iardy, Iari}}}
 
 unfoldable pub value_of_bits : List Bool → ℕ  -- the number that bits spell, the high bit first
 value_of_bits [] = 0
@@ -76,3 +77,38 @@ unfoldable pub id : List ℕ → Registers → Ids → Reading
 id bytes registers ids =
     let start : Reading = record { bits = []; registers = registers; contexts = ids.contexts } in
     read_more (λ bits. value_of_bits (true ∷ bits)) ids.code_len bytes start
+
+abbrev pub index_of : IntegerProcedure → ℕ
+index_of Iaai = 0
+index_of Iadh = 1
+index_of Iads = 2
+index_of Iadt = 3
+index_of Iadw = 4
+index_of Iaex = 5
+index_of Iafs = 6
+index_of Iait = 7
+index_of Iardh = 8
+index_of Iardw = 9
+index_of Iardx = 10
+index_of Iardy = 11
+index_of Iari = 12
+
+abbrev pub Procedures : Type 0  -- what the contexts of each procedure have learned, in that order
+Procedures = List (List Context)
+
+abbrev pub fresh_procedures : Procedures
+fresh_procedures = replicate 13 (replicate 512 fresh)
+
+abbrev pub asked_integer : IntegerProcedure → Coder → Procedures → record { value : Option ℤ; reading : Reading }
+asked_integer procedure c procedures = integer c.bytes c.registers (slice_index_or procedures (index_of procedure) [])
+
+-- The next integer of a procedure, and the coder and the contexts behind it.
+unfoldable pub asked : IntegerProcedure → Coder → Procedures
+    → record { value : Option ℤ; coder : Coder; procedures : Procedures }
+asked procedure c procedures =
+    let i = asked_integer procedure c procedures in
+    record {
+      value = i.value;
+      coder = record c { registers = i.reading.registers };
+      procedures = slice_set procedures (index_of procedure) i.reading.contexts;
+    }

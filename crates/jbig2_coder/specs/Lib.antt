@@ -3,10 +3,7 @@ pub mod Coder
 pub mod CustomTable
 pub mod Encoder
 pub mod Integers
-pub mod Lists
 pub mod PrefixCode
-pub mod Procedures
 pub mod Table
-pub mod TableSelection
 pub mod Tables
 pub mod inner

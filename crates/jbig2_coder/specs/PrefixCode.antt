@@ -1,7 +1,7 @@
 -- Prefix codes (T.88, B.3 and B.4). `prefix_code` takes lines and gives the codes that their prefix lengths make;
 -- `decoded_value` takes these and bits, and gives a value or an error and how many bits are taken.
 use Rattle.std.specs.Prelude.{◌≡◌, AllPairs, ℕ, zero, suc, ◌+◌, ◌-◌, ◌/◌, ◌^◌, ◌≤◌, nat_lt, nat_le, ◌==◌, Bool, false, not, ◌&&◌, ◌||◌, List, [], ◌∷◌, ◌++◌, length, take, drop, max, filter, All, Option, Some, None, is_some, Result, Ok, Err, if◌then◌else◌, ℤ, pos, negsuc, ◌+ℤ◌, ◌-ℤ◌}
-use Rattle.jbig2_base.specs.{Bits.{Place, bits_left, bits_next, bits_on, number_after}, Search.{place_from}, Answer.{◌>>=◌}, declared.error.{DecodeError.{DecodeError, TheVariants.{Parse, Huffman}}, ParseError.TheVariants.{UnexpectedEof}, HuffmanError.TheVariants.{InvalidCode, UnexpectedOob}}}
+use Rattle.jbig2_base.specs.{Bits.{Place, bits_left, bits_next, bits_on, number_after}, Search.{place_from}, Answer.{◌>>=◌}, declared.error.{DecodeError.{DecodeError, TheVariants.{Parse, Huffman}}, ParseError.TheVariants.{UnexpectedEof}, HuffmanError.TheVariants.{InvalidCode, UnexpectedOob}}, Fields.{word_or}}
 use Rattle.jbig2_coder.specs.declared.huffman_table.line.TableLine.{TableLine}
 
 -- A code: how many bits it has, the number that they spell, high bit first, and the line that it stands for.
@@ -81,8 +81,7 @@ read_code ms bits =
     ]
 
 abbrev pub in_word : ℤ → Result ℤ DecodeError  -- a number in signed 32 bits
-in_word (pos n) = if nat_lt n 2147483648 then Ok (pos n) else Err (Huffman InvalidCode)
-in_word (negsuc n) = if nat_lt n 2147483648 then Ok (negsuc n) else Err (Huffman InvalidCode)
+in_word n = word_or (Huffman InvalidCode) n
 
 abbrev pub moved : TableLine → ℕ → ℤ  -- the low value and the range bits together: a lower line goes down
 moved line offset = if line.is_lower then line.range_low -ℤ pos offset else line.range_low +ℤ pos offset

@@ -1,7 +1,10 @@
 -- The standard tables (T.88, B.5), to be compared with the standard line by line: for each of B.1 to B.15 its lines,
 -- with the length of the prefix, the number of range bits and the lowest value. `prefix_code` gives their codes.
-use Rattle.std.specs.Prelude.{ℕ, zero, suc, true, false, List, [], ◌∷◌, ◌++◌, map, ℤ, pos, negsuc}
+-- `standard` and `next_custom` are what a segment selects (7.4.2.1.6, 7.4.3.1.6): a table, and the custom ones that
+-- are left.
+use Rattle.std.specs.Prelude.{ℕ, zero, suc, true, false, List, [], ◌∷◌, ◌++◌, map, ℤ, pos, negsuc, Result, Ok, Err}
 use Rattle.jbig2_coder.specs.{declared.huffman_table.line.TableLine.{TableLine}, PrefixCode.{Member, prefix_code}}
+use Rattle.jbig2_base.specs.declared.error.{DecodeError.{DecodeError, TheVariants.{Huffman}}, HuffmanError.TheVariants.{MissingTables}}
 
 abbrev pub minus : ℕ → ℤ
 minus zero = pos 0
@@ -103,3 +106,12 @@ standard_tables = lines_a ∷ lines_b ∷ lines_c ∷ lines_d ∷ lines_e ∷ li
 
 unfoldable pub standard_codes : List (List Member)
 standard_codes = map prefix_code standard_tables
+
+-- a table of the standard, which takes no custom one
+abbrev pub standard : List Member → List (List Member) → Result (List Member × List (List Member)) DecodeError
+standard table customs = Ok (table, customs)
+
+-- the next custom table; too few are refused (our own rule)
+abbrev pub next_custom : List (List Member) → Result (List Member × List (List Member)) DecodeError
+next_custom [] = Err (Huffman MissingTables)
+next_custom (table ∷ others) = Ok (table, others)

@@ -2,7 +2,7 @@
 
 ghost use Rattle.std.specs.Prelude.{◌≡◌, ◌+◌, ◌<◌, length, Ok};
 ghost use Rattle.jbig2_base.specs.Answer.{Gives};
-ghost use Rattle.jbig2_coder.specs.Procedures.{asked, asked_integer, fresh_procedures, index_of};
+ghost use Rattle.jbig2_coder.specs.Integers.{asked, asked_integer, fresh_procedures, index_of};
 
 use crate::arithmetic_decoder::ArithmeticDecoder;
 use crate::integer_decoder::IntegerDecoder;
@@ -64,7 +64,7 @@ pub struct IntegerProcedures<A: Allocator> {
 
 impl<A: Allocator> Model for IntegerProcedures<A> {
     ghost use Rattle.std.specs.Prelude.{◌≡◌, length};
-    ghost use Rattle.jbig2_coder.specs.Procedures.{Procedures};
+    ghost use Rattle.jbig2_coder.specs.Integers.{Procedures};
 
     ghost Value = { Procedures };
 
@@ -91,7 +91,7 @@ impl<A: Allocator + Clone> IntegerProcedures<A> {
 
 impl<A: Allocator> IntegerProcedures<A> {
     /// The next integer of a procedure, or `None` where it is out of band.
-    #[tactic(auto, unfolding(crate::specs::Procedures::asked))]
+    #[tactic(auto, unfolding(crate::specs::Integers::asked))]
     pub fn ask<L: Ledger>(
         &mut self,
         procedure: IntegerProcedure,

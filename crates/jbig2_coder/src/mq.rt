@@ -3,7 +3,7 @@
 ghost use Rattle.std.specs.Prelude.{◌≡◌, ◌+◌, length, vec_len, IfOk, IfErr, OnOk, Ok};
 ghost use Rattle.jbig2_base.specs.Answer.{Gives};
 ghost use Rattle.jbig2_base.specs.declared.error.DecodeError.TheVariants.{OutOfMemory};
-ghost use Rattle.jbig2_coder.specs.Lists.{encoded, read_back, DecodesBack};
+ghost use Rattle.jbig2_coder.specs.Encoder.{encoded, read_back, DecodesBack};
 ghost use Rattle.jbig2_coder.specs.inner.EncoderViews.{contexts_of, all_fresh};
 
 use crate::arithmetic_decoder::{ArithmeticDecoder, ArithmeticDecoderContext};

@@ -1,6 +1,6 @@
 //! The custom tables that a segment refers to (T.88, 7.4.2.1.6 and 7.4.3.1.6).
 ghost use Rattle.jbig2_base.specs.Answer.{Answers};
-ghost use Rattle.jbig2_coder.specs.TableSelection.{next_custom};
+ghost use Rattle.jbig2_coder.specs.Tables.{next_custom};
 ghost use Rattle.jbig2_coder.specs.inner.TableViews.{customs_view};
 ghost use Rattle.jbig2_base.specs.Causes.{HaveCauses};
 ghost use Rattle.jbig2_coder.specs.Causes.{BreaksSelection};

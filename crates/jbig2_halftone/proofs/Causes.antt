@@ -5,7 +5,7 @@ use Rattle.std.proofs.lemmas.Bool.{eqb-true, ltb-true, or_cases}
 use Rattle.jbig2_base.specs.Answer.{refuse_if}
 use Rattle.jbig2_base.specs.Causes.{number_in, HaveCauses}
 use Rattle.jbig2_base.specs.Fields.{number_at, signed_at, end_of_bytes}
-use Rattle.jbig2_base.specs.Operator.{operator_of}
+use Rattle.jbig2_base.specs.Combination.{operator_of}
 use Rattle.jbig2_base.specs.declared.error.DecodeError.{DecodeError}
 use Rattle.jbig2_base.specs.declared.error.DecodeError.TheVariants.{Overflow, Region}
 use Rattle.jbig2_base.specs.declared.error.OverflowError.TheVariants.{GridDimension}

@@ -12,7 +12,7 @@ use Rattle.std.proofs.lemmas.Nat.{mul-add-lt, div-mul-add, mod-mul-add}
 use Rattle.std.proofs.Math.Seq.{drop-cons}
 use Rattle.jbig2_base.specs.Grid.{Grid, grid_of, blank, pixel, pixel_at}
 use Rattle.jbig2_base.specs.declared.error.DecodeError.{DecodeError}
-use Rattle.jbig2_base.specs.Combination.{combined, drawn_pixel, is_below}
+use Rattle.jbig2_base.specs.Combination.{combined, drawn_pixel, is_below, combined_pixel}
 use Rattle.jbig2_base.specs.inner.Writes.{with_pixel}
 use Rattle.jbig2_base.proofs.GridLemmas.{grid_of-ext}
 use Rattle.jbig2_region.specs.Raster.{so_far}
@@ -27,7 +27,6 @@ use Rattle.jbig2_halftone.specs.inner.Stages.{lies_outside, skip_grid}
 use Rattle.jbig2_halftone.proofs.RowLemmas.{values-length, rows-next, first-rows}
 use Rattle.jbig2_base.specs.Answer.{◌>>=◌}
 use Rattle.std.specs.Prelude.{Result, int_le}
-use Rattle.jbig2_base.specs.Operator.{combined_pixel}
 use Rattle.jbig2_base.specs.declared.bitmap.operator.CombinationOperator.{CombinationOperator}
 use Rattle.jbig2_base.specs.inner.Table.{IsTable}
 

@@ -1,8 +1,7 @@
 -- What drawing patterns takes.
 use Rattle.std.proofs.Common.{◌≡◌, ℕ, zero, suc, ◌+◌, ◌-◌, ◌*◌, ◌/◌, ◌%◌, ◌<◌, ◌≤◌, ℤ, add-one, refl, sym, ap, subst, ◌∙◌, add-mul, arith, Bool, Result, Ok, Err}
 use Rattle.std.proofs.lemmas.Nat.{div-mul-add, mod-mul-add}
-use Rattle.jbig2_base.specs.Combination.{overlap, most_words, WritesWithin}
-use Rattle.jbig2_base.specs.Counts.{Counts}
+use Rattle.jbig2_base.specs.Counts.{overlap, most_words, WritesWithin, Counts}
 use Rattle.std.specs.Prelude.{OnOk}
 use Rattle.jbig2_base.specs.Grid.{Grid, blank}
 use Rattle.jbig2_halftone.specs.Halftone.{column_of, gray_params, row_of}

@@ -10,8 +10,8 @@ use Rattle.jbig2_coder.specs.Coder.{Coder, Context, Registers}
 use Rattle.jbig2_region.specs.Generic.{coding_of}
 use Rattle.jbig2_region.specs.inner.Layouts.{read_pixels}
 use Rattle.jbig2_region.specs.Raster.{Coding, Region, at_pixel, no_pixels}
-use Rattle.jbig2_region.specs.RunBytes.{CountsRegion, coded_pixels, coded_runs, row_loads, row_tests, row_words}
-use Rattle.jbig2_region.specs.Skipping.{CountsSkipping, kept_pixels, skip_of, skipping_loads, skipping_words}
+use Rattle.jbig2_region.specs.Steps.{CountsRegion, coded_pixels, coded_runs, row_loads, row_tests, row_words}
+use Rattle.jbig2_region.specs.{Steps.{CountsSkipping, kept_pixels, skipping_loads, skipping_words}, inner.RegionViews.{skip_of}}
 use Rattle.jbig2_region.specs.Templates.{is_nominal, template_pixels}
 use Rattle.jbig2_region.specs.declared.template.AdaptiveTemplatePixel.{AdaptiveTemplatePixel}
 use Rattle.jbig2_region.specs.declared.template.Template.{Template}

@@ -1,20 +1,18 @@
 -- Rows of planes taken by groups of eight lanes and single pixels.
-use Rattle.std.proofs.Common.{◌≡◌, ℕ, zero, suc, ◌+◌, ◌-◌, ◌*◌, ◌/◌, ◌%◌, ◌^◌, ◌<◌, ◌≤◌, ◌⊎◌, inl, inr, Bool, true, false, not, eqb, List, [], ◌∷◌, get_or, set, get_or-set_same, get_or-set_other, length, pow-suc, refl, sym, ap, ◌∙◌, ⊎_elim, arith, bit_and}
+use Rattle.std.proofs.Common.{◌≡◌, ℕ, zero, suc, ◌+◌, ◌-◌, ◌*◌, ◌/◌, ◌%◌, ◌^◌, ◌<◌, ◌≤◌, ◌⊎◌, Bool, true, false, not, eqb, List, [], ◌∷◌, get_or, set, get_or-set_same, get_or-set_other, length, refl, sym, ap, ◌∙◌, ⊎_elim, arith, bit_and}
 use Rattle.std.proofs.lemmas.Bool.{cases_eq, cases_lt, ne_eqb}
-use Rattle.std.proofs.lemmas.Simd.{length-chunk, get_or-chunk, get_or-put_chunk_at, get_or-put_chunk_above, get_or-put_chunk_below}
+use Rattle.std.proofs.lemmas.Simd.{length-chunk, get_or-chunk, get_or-put_chunk_at, get_or-put_chunk_above, get_or-put_chunk_below, get_or-zip2, length-zip2}
 use Rattle.jbig2_base.proofs.BitLemmas.{bit_number-bit}
-use Rattle.jbig2_mmr.specs.T6.{differ}
+use Rattle.jbig2_base.specs.Grid.{differ, Grid, bit_number, pixel_at}
 use Rattle.std.specs.Prelude.{if◌then◌else◌}
 use Rattle.std.specs.List.{All}
 use Rattle.std.specs.Int.Bits.{bit_xor}
 use Rattle.std.specs.Simd.Lanes.{chunk, put_chunk, zip2, top}
-use Rattle.std.proofs.lemmas.Simd.{get_or-zip2, length-zip2}
 use Rattle.std.proofs.lemmas.Grind.{get_or_default_zero}
 use Rattle.std.proofs.lemmas.Nat.Bits.{and_pow}
 use Rattle.std.proofs.lemmas.Nat.{pow_pos}
 use Rattle.jbig2_base.specs.Counts.{Counts}
-use Rattle.jbig2_base.specs.Grid.{Grid, bit_number, pixel_at}
-use Rattle.jbig2_base.specs.inner.WordBits.{bit}
+use Rattle.jbig2_base.specs.Bits.{bit}
 use Rattle.jbig2_halftone.specs.inner.NextValues.{next_value}
 
 -- ---- eight lanes

@@ -1,9 +1,10 @@
--- Which rule the input breaks where patterns or a halftone region are refused (docs/FORMAT.md): `Breaks..` takes the
--- bytes of a segment, or its header and what it refers to, and an error; a law ties the definition's errors to it.
-use Rattle.std.specs.{Prelude.{◌≡◌, ◌<◌, ◌≤◌, ◌⊎◌, ℕ, zero, suc, ◌+◌, ◌-◌, ◌*◌, ◌/◌, ◌%◌, Bool, true, false, List, length, drop, Ok, IfErr}, Int.{w8, w32}}
+-- Which rule the input breaks where patterns or a halftone region are refused (docs/FORMAT.md), a line for each
+-- error. `Breaks..` takes the bytes of a segment, or its header and what it refers to, and an error; a law ties the
+-- definition's errors to it.
+use Rattle.std.specs.{Prelude.{◌≡◌, ◌<◌, ◌≤◌, ◌⊎◌, ℕ, zero, suc, ◌+◌, ◌-◌, ◌*◌, ◌/◌, ◌%◌, true, false, List, length, drop, Ok}, Int.{w8, w32}}
 use Rattle.jbig2_base.specs.{Causes.{number_in}, Grid.{Grid}, declared.error.{DecodeError.{DecodeError, TheVariants.{Overflow, Parse, Region, Unsupported}}, OverflowError.TheVariants.{BitmapDimension, GridDimension}, ParseError.TheVariants.{UnexpectedEof}, RegionError.TheVariants.{GrayScaleOutOfRange, InvalidCombinationOperator, InvalidMmrData}}}
 use Rattle.jbig2_mmr.specs.T6.{rows_of}
-use Rattle.jbig2_halftone.specs.{GrayScale.{GrayScale, gray_scale_image, gray_value, planes_of}, Halftone.{gray_params, halftone_decoded}, HalftoneHeader.{HalftoneHeader, halftone_header_at}, PatternHeader.{PatternHeader, pattern_header_at}, Patterns.{Patterns, patterns_decoded}}
+use Rattle.jbig2_halftone.specs.{GrayScale.{GrayScale, gray_value, planes_of}, Halftone.{gray_params}, HalftoneHeader.{HalftoneHeader}, PatternHeader.{PatternHeader}, Patterns.{Patterns}}
 
 -- A pattern dictionary's header has seven bytes: flags, the width and the height of a pattern, GRAYMAX.
 abbrev pub BreaksPatternHeader : List ℕ → DecodeError → Type 0

@@ -1,8 +1,9 @@
--- What the step bounds of gray-scale images and halftone regions count (our own rule): reading the planes, taking the
--- values out of them by lanes of eight pixels, and drawing the patterns.
+-- What the step bounds of gray-scale images and halftone regions count (our own rule): planes that are read, values
+-- that are taken out of them by lanes of eight pixels, and patterns that are drawn. Each `Counts..` takes an image or
+-- a region, and the counts before and after it.
 use Rattle.std.specs.Prelude.{ℕ, zero, suc, ◌≡◌, ◌≤◌, ◌+◌, ◌*◌, ◌/◌, ◌%◌, true, false, if◌then◌else◌, List, None, is_some}
-use Rattle.jbig2_base.specs.{Combination.{WritesWithin, overlap, most_words}, Counts.{Counts, KeepsLanes}}
-use Rattle.jbig2_region.specs.{Generic.{coding_of}, Raster.{no_pixels}, RunBytes.{coded_runs, row_loads, row_tests, row_words}, Skipping.{kept_pixels, skipping_loads, skipping_words}, Templates.{template_pixels}}
+use Rattle.jbig2_base.specs.Counts.{WritesWithin, overlap, most_words, Counts, KeepsLanes}
+use Rattle.jbig2_region.specs.{Generic.{coding_of}, Raster.{no_pixels}, Steps.{coded_runs, row_loads, row_tests, row_words, kept_pixels, skipping_loads, skipping_words}, Templates.{template_pixels}}
 use Rattle.jbig2_halftone.specs.{GrayScale.{GrayScale, nominal_pixels, after_planes}, Halftone.{column_of, gray_params, row_of, skip_mask}, HalftoneHeader.{HalftoneHeader}, Patterns.{Patterns}}
 
 -- how many run bytes the highest planes have, where no pixel is skipped

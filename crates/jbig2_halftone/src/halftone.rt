@@ -3,7 +3,7 @@ ghost use Rattle.std.specs.Prelude.{◌≡◌, ◌+◌, ◌*◌, ◌<◌, ◌≤
 ghost use Rattle.std.specs.Int.{w32, int_shr};
 ghost use Rattle.jbig2_base.specs.Answer.{Answers, Gives, Leaves};
 ghost use Rattle.std.specs.List.{All};
-ghost use Rattle.jbig2_base.specs.Combination.{WritesWithin, combined, most_words, overlap};
+ghost use Rattle.jbig2_base.specs.{Counts.{WritesWithin, most_words, overlap}, Combination.{combined}};
 ghost use Rattle.jbig2_base.specs.Grid.{blank};
 ghost use Rattle.jbig2_base.specs.Search.{code_length};
 ghost use Rattle.jbig2_region.specs.inner.RegionViews.{region_view};

@@ -2,7 +2,7 @@
 -- row's changing elements lie against the row above it, its reference row. `mmr_rows`, at the end, takes a width, a
 -- height and bytes, and gives the bitmap and how many bytes it took, or an error.
 use Rattle.std.specs.{Prelude.{ℕ, zero, suc, ◌+◌, ◌-◌, ◌/◌, ◌%◌, ◌==◌, ℤ, pos, negsuc, ◌+ℤ◌, Bool, true, false, not, ◌&&◌, ◌||◌, nat_le, nat_lt, List, [], ◌∷◌, ◌++◌, length, take, drop, filter, slice_index_or, Option, Some, None, Result, Ok, Err, if◌then◌else◌}, List.{flat_map, list_all}}
-use Rattle.jbig2_base.specs.{Bits.{byte_bits, number_after}, Grid.{Grid, grid_of}, Search.{place_from}, declared.error.{DecodeError.{DecodeError, TheVariants.{Region}}, RegionError.TheVariants.{InvalidMmrData}}}
+use Rattle.jbig2_base.specs.{Bits.{byte_bits, number_after}, Grid.{Grid, grid_of, differ}, Search.{place_from}, declared.error.{DecodeError.{DecodeError, TheVariants.{Region}}, RegionError.TheVariants.{InvalidMmrData}}}
 use Rattle.jbig2_mmr.specs.{declared.mmr.codes.Mode.{Mode, TheVariants.{Pass, Horizontal, Vertical}}, T6Codes.{modes, white_runs, black_runs}}
 
 infixl 10 ◌>>=◌
@@ -10,10 +10,6 @@ infixl 10 ◌>>=◌
 abbrev pub ◌>>=◌ : {A B : Type 0} → Option A → (A → Option B) → Option B
 (Some x) >>= next = next x
 None >>= next = None
-
-abbrev pub differ : Bool → Bool → Bool
-differ true b = not b
-differ false b = b
 
 -- ---- codes (T.6, tables 1 to 3)
 abbrev pub begins : List ℕ → List ℕ → Bool

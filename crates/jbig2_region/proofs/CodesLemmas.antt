@@ -5,7 +5,7 @@ use Rattle.jbig2_base.specs.Counts.{Counts}
 use Rattle.jbig2_base.specs.Grid.{Grid, bit_number}
 use Rattle.jbig2_base.specs.inner.Writes.{with_pixel, with_pixels}
 use Rattle.jbig2_coder.specs.Coder.{Coder, Context, decision, fresh}
-use Rattle.jbig2_region.specs.RunBytes.{takes_decision}
+use Rattle.jbig2_region.specs.Steps.{takes_decision}
 use Rattle.jbig2_region.specs.inner.RowCounts.{decided_pixels}
 use Rattle.jbig2_region.specs.inner.Codes.{Codes, CountsCodes, Takes}
 use Rattle.jbig2_region.specs.inner.Holds.{Holds}

@@ -8,7 +8,7 @@ use Rattle.jbig2_coder.specs.Coder.{Coder, Context}
 use Rattle.jbig2_region.specs.inner.Neighbours.{DecodesPixels, is_nominal_layout, nominal_pixels, optional_pixels, row_coding}
 use Rattle.jbig2_region.specs.Raster.{Region}
 use Rattle.jbig2_region.specs.inner.Rows.{after_pixels}
-use Rattle.jbig2_region.specs.RunBytes.{is_run_of, is_run_byte}
+use Rattle.jbig2_region.specs.Steps.{is_run_of, is_run_byte}
 use Rattle.jbig2_region.specs.inner.RowCounts.{run_bytes, CountsRow, CountsRuns}
 use Rattle.jbig2_region.specs.declared.template.neighbours.Adaptives.{Adaptives}
 use Rattle.jbig2_region.specs.declared.template.neighbours.Neighbours.{Neighbours}

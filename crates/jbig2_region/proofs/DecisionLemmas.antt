@@ -3,7 +3,7 @@ use Rattle.std.proofs.Common.{subst, ◌≡◌, ℕ, ◌+◌, ◌*◌, ◌≤◌
 use Rattle.jbig2_base.specs.Counts.{Counts}
 use Rattle.jbig2_base.specs.Grid.{Grid}
 use Rattle.jbig2_coder.specs.Coder.{Coder, Context}
-use Rattle.jbig2_region.specs.RunBytes.{CountsDecided}
+use Rattle.jbig2_region.specs.Steps.{CountsDecided}
 use Rattle.jbig2_region.specs.inner.RowCounts.{decided_pixels, decided_rows}
 use Rattle.jbig2_region.specs.inner.Codes.{Codes, CountsCodes}
 use Rattle.jbig2_region.specs.inner.Holds.{Holds, BeginsRow}

@@ -4,13 +4,13 @@ use Rattle.std.proofs.lemmas.Bool.{and_from, and_parts, cases_lt}
 use Rattle.std.proofs.lemmas.List.{replicate-append-replicate}
 use Rattle.std.proofs.lemmas.Nat.Bits as bits
 use Rattle.jbig2_base.specs.Grid.{Grid}
-use Rattle.jbig2_base.specs.inner.WordBits.{bit}
+use Rattle.jbig2_base.specs.Bits.{bit}
 use Rattle.jbig2_base.specs.inner.Writes.{with_pixels}
 use Rattle.jbig2_coder.specs.Coder.{Coder, Context}
 use Rattle.jbig2_region.specs.inner.Holds.{Holds}
 use Rattle.jbig2_region.specs.inner.Neighbours.{nominal_pixels, neighbours_stay, is_field, IsNear, IsLeft, SameAbove, Shows, ShowsByte, ShowsGroup, ShowsRun}
 use Rattle.jbig2_region.specs.Raster.{Region, so_far}
-use Rattle.jbig2_region.specs.RunBytes.{has_all, stays}
+use Rattle.jbig2_region.specs.Steps.{has_all, stays}
 use Rattle.jbig2_region.specs.declared.template.neighbours.Neighbours.{Neighbours}
 use Rattle.jbig2_region.specs.declared.generic_kernel.windows.WideWindows.{WideWindows}
 use Rattle.jbig2_region.specs.declared.generic_kernel.windows.Windows.{Windows}

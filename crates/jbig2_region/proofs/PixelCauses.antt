@@ -13,7 +13,7 @@ use Rattle.jbig2_base.specs.declared.error.TemplateError.TheVariants.{InvalidAtP
 use Rattle.jbig2_base.proofs.Causes.{cause-next, cause-number, cause-refused, same-ok, went}
 use Rattle.jbig2_region.specs.Causes.{BreaksPixels, BreaksRefinementPixels, IsLate}
 use Rattle.jbig2_region.specs.RefinementTemplates.{refinement_pixel_count, refinement_pixels_at}
-use Rattle.jbig2_region.specs.Templates.{adaptive_pixel_at, adaptive_pixel_count, adaptive_pixels_at, free_pixel_at, is_earlier}
+use Rattle.jbig2_region.specs.Templates.{adaptive_pixel_at, adaptive_pixels_at, free_pixel_at, is_earlier}
 use Rattle.jbig2_region.specs.declared.template.AdaptiveTemplatePixel.{AdaptiveTemplatePixel}
 use Rattle.jbig2_region.specs.declared.template.RefinementTemplate.{RefinementTemplate}
 use Rattle.jbig2_region.specs.declared.template.RefinementTemplate.TheVariants as refinements

@@ -1,10 +1,10 @@
 -- Counts over raster places are those by rows.
 use Rattle.std.proofs.Common.{◌≡◌, ℕ, zero, suc, ◌+◌, ◌*◌, ◌<◌, Bool, true, false, not, ◌&&◌, cond, List, length, Option, None, refl, sym, ap, ◌∙◌, arith}
 use Rattle.jbig2_base.specs.Grid.{bit_number}
-use Rattle.jbig2_region.specs.RunBytes.{how_many, pixel_decisions, takes_decision}
+use Rattle.jbig2_region.specs.Steps.{how_many, pixel_decisions, takes_decision}
 use Rattle.jbig2_region.specs.Generic.{context_at, known_colour}
 use Rattle.jbig2_region.specs.Raster.{Coding, Region, after_pixel, at_pixel, row_begun}
-use Rattle.jbig2_region.specs.RunBytes.{coded_pixels, coded_runs, is_run_byte}
+use Rattle.jbig2_region.specs.Steps.{coded_pixels, coded_runs, is_run_byte}
 use Rattle.jbig2_region.specs.inner.Neighbours.{row_coding}
 use Rattle.jbig2_region.specs.inner.RowCounts.{coded_rows, decided_pixels, decided_rows, rows_runs, run_bytes}
 use Rattle.jbig2_region.specs.inner.Rows.{after_pixels, after_rows}

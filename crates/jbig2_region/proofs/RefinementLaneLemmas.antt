@@ -1,6 +1,6 @@
 -- Lanes: the windows of a refinement side by side in one number, and the contexts that they make.
 use Rattle.std.proofs.Common.{◌≡◌, ℕ, ◌+◌, ◌-◌, ◌*◌, ◌/◌, ◌%◌, ◌^◌, ◌<◌, ◌≤◌, refl, sym, ap, ◌∙◌, arith}
-use Rattle.jbig2_base.specs.inner.WordBits.{bit}
+use Rattle.jbig2_base.specs.Bits.{bit}
 use Rattle.jbig2_base.proofs.BitLemmas.{bit-shl_high, bit-shr}
 use Rattle.jbig2_region.specs.inner.RefinementLanes.{Lane, Lanes, nine_in, region_in}
 use Rattle.jbig2_region.specs.inner.RefinementWindows.{nine_of, three_of}

@@ -7,11 +7,10 @@ use Rattle.std.proofs.lemmas.List.{append-nil, length-map}
 use Rattle.std.specs.List.{list_all}
 use Rattle.jbig2_base.specs.Counts.{Counts}
 use Rattle.jbig2_base.specs.Grid.{Grid, blank, bit_number}
-use Rattle.jbig2_region.specs.Generic.{number_of, region_pixel, context_at, PlacedRegion}
+use Rattle.jbig2_region.specs.{Generic.{number_of, region_pixel, context_at}, RegionInfo.{PlacedRegion}}
 use Rattle.jbig2_region.specs.Refinement.{Reference, reference_pixel, refined_context, nine, common_colour, refinement_coding, refined_region, refined_grid, refined_answer, refined_contexts, reference_of, offset, is_far}
 use Rattle.jbig2_region.specs.RefinementHeader.{RefinementHeader}
-use Rattle.jbig2_region.specs.RunBytes.{CountsDecided}
-use Rattle.jbig2_region.specs.RunBytes.{CountsRefined, refinement_loads}
+use Rattle.jbig2_region.specs.Steps.{CountsDecided, CountsRefined, refinement_loads}
 use Rattle.jbig2_region.specs.RefinementTemplates.{refinement_bits}
 use Rattle.jbig2_region.specs.inner.Holds.{Holds}
 use Rattle.jbig2_region.specs.Raster.{Coding, decoded_region, no_pixels, fresh_contexts}

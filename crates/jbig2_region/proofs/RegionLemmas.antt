@@ -8,7 +8,7 @@ use Rattle.jbig2_region.specs.inner.Holds.{Holds, BeginsRow}
 use Rattle.jbig2_region.specs.inner.Neighbours.{DecodesPixels}
 use Rattle.jbig2_region.specs.Raster.{Coding, Region, row_begun, row_decisions}
 use Rattle.jbig2_region.specs.inner.Rows.{after_rows}
-use Rattle.jbig2_region.specs.RunBytes.{CountsRegion, row_loads, row_tests, row_words}
+use Rattle.jbig2_region.specs.Steps.{CountsRegion, row_loads, row_tests, row_words}
 use Rattle.jbig2_region.specs.inner.RowCounts.{CountsRow, coded_rows, rows_runs, run_bytes}
 use Rattle.jbig2_region.specs.declared.template.AdaptiveTemplatePixel.{AdaptiveTemplatePixel}
 use Rattle.jbig2_region.proofs.PlaceCounts.{after_pixels-coding, coded-by-rows, coding_with, runs-by-rows}

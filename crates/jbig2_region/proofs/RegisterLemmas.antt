@@ -4,7 +4,7 @@ use Rattle.std.proofs.Math.Nat.{add-mul-mod_self_right, pow-le-pow_right}
 use Rattle.std.proofs.lemmas.Int.{ints}
 use Rattle.std.proofs.lemmas.Nat.{div-mul-add, mod-mul-add, mod_below, mul-add-lt, pow_pos}
 use Rattle.jbig2_base.specs.Grid.{Grid, pixel}
-use Rattle.jbig2_base.specs.inner.WordBits.{bit}
+use Rattle.jbig2_base.specs.Bits.{bit}
 use Rattle.jbig2_base.proofs.BitLemmas.{bit-mod, bit-shr}
 use Rattle.jbig2_region.specs.Generic.{context_at}
 use Rattle.jbig2_region.specs.inner.Neighbours.{left_pixels, stretch_pixels, nominal_pixels, cut_of, register_of, IsNear, IsWindow, SameAbove, Shows, IsLeft}

@@ -5,16 +5,15 @@ use Rattle.std.proofs.lemmas.Int.{ints}
 use Rattle.std.proofs.lemmas.List.{append-nil, length-replicate, get_or-replicate, get_or_append_left, get_or-append-add}
 use Rattle.std.proofs.Math.Nat.{mul-le-mul_left}
 use Rattle.std.proofs.lemmas.Nat.{mod-mul-add, div-mul-add}
-use Rattle.jbig2_base.specs.Grid.{Grid, pixel, pixel_at}
-use Rattle.jbig2_base.specs.inner.WordBits.{bit}
+use Rattle.jbig2_base.specs.Grid.{Grid, pixel, pixel_at, same_colour}
+use Rattle.jbig2_base.specs.Bits.{bit}
 use Rattle.jbig2_base.proofs.GridLemmas.{pixel_at-grid_of, pixel_at-right, pixel_at-below}
 use Rattle.jbig2_region.specs.Generic.{context_at}
 use Rattle.jbig2_region.specs.inner.Neighbours.{left_pixels, stretch_pixels, nominal_pixels, neighbours_stay, stretch_stays, is_field, neighbour_count, IsNear, IsLeft, IsWindow, Shows, SameAbove}
 use Rattle.jbig2_coder.specs.Coder.{Coder, Context, Registers, fresh, all_quiet}
 use Rattle.jbig2_region.specs.inner.Holds.{Holds}
 use Rattle.jbig2_region.specs.Raster.{Region, so_far}
-use Rattle.jbig2_base.specs.Grid.{same_colour}
-use Rattle.jbig2_region.specs.RunBytes.{all_of, has_all, stays, is_run_of}
+use Rattle.jbig2_region.specs.Steps.{all_of, has_all, stays, is_run_of}
 use Rattle.jbig2_region.specs.inner.LongRuns.{is_run_for}
 use Rattle.jbig2_region.specs.declared.template.neighbours.Neighbours.{Neighbours}
 use Rattle.jbig2_region.specs.declared.template.neighbours.Stretch.{Stretch}

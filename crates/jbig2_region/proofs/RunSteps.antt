@@ -4,8 +4,8 @@ use Rattle.std.proofs.lemmas.Bool.{and_from, and_left, and_parts, eqb-true, true
 use Rattle.std.proofs.lemmas.Int.{ints}
 use Rattle.std.proofs.lemmas.List.{append-nil, length-replicate, replicate-append-replicate, set-get_or}
 use Rattle.std.proofs.Math.Nat.{pow-le-pow_right}
-use Rattle.jbig2_base.specs.Grid.{Grid, bit_number}
-use Rattle.jbig2_base.specs.inner.WordBits.{bit}
+use Rattle.jbig2_base.specs.Grid.{Grid, bit_number, same_colour}
+use Rattle.jbig2_base.specs.Bits.{bit}
 use Rattle.jbig2_base.specs.inner.Writes.{with_pixel, with_pixels}
 use Rattle.jbig2_coder.specs.Coder.{Coder, Context, Decision, Registers, decision, fresh, is_quiet, all_quiet}
 use Rattle.jbig2_coder.specs.Table.{row_of}
@@ -14,10 +14,9 @@ use Rattle.jbig2_region.specs.Generic.{context_at}
 use Rattle.jbig2_region.specs.inner.Holds.{Holds}
 use Rattle.jbig2_region.specs.inner.LongRuns.{is_run_for}
 use Rattle.jbig2_region.specs.inner.Neighbours.{IsLeft, row_coding}
-use Rattle.jbig2_base.specs.Grid.{same_colour}
 use Rattle.jbig2_region.specs.Raster.{Region, so_far, with_next, after_pixel}
 use Rattle.jbig2_region.specs.inner.Rows.{after_pixels}
-use Rattle.jbig2_region.specs.RunBytes.{all_of, has_all, stays, is_run_of}
+use Rattle.jbig2_region.specs.Steps.{all_of, has_all, stays, is_run_of}
 use Rattle.jbig2_region.specs.inner.RowCounts.{run_bytes}
 use Rattle.jbig2_region.specs.declared.template.AdaptiveTemplatePixel.{AdaptiveTemplatePixel}
 use Rattle.jbig2_region.proofs.CountLemmas.{byte-runs, runs-add}

@@ -2,16 +2,16 @@
 use Rattle.std.proofs.Common.{◌≡◌, ℕ, ◌+◌, ◌-◌, ◌*◌, ◌/◌, ◌%◌, ◌<◌, ◌≤◌, pos, negsuc, Bool, true, false, cond, not, Option, Some, None, is_none, List, length, ◌++◌, refl, subst, sym, ap, ◌∙◌, arith}
 use Rattle.jbig2_base.specs.Counts.{Counts, KeepsLanes}
 use Rattle.jbig2_base.specs.Grid.{Grid}
-use Rattle.jbig2_base.specs.inner.WordBits.{bit}
+use Rattle.jbig2_base.specs.Bits.{bit}
 use Rattle.jbig2_base.specs.inner.Writes.{with_pixels}
 use Rattle.jbig2_base.proofs.BitLemmas.{bit-zero}
 use Rattle.jbig2_base.proofs.LaneCounts.{lanes-none}
 use Rattle.jbig2_coder.specs.Coder.{Coder, Context}
-use Rattle.jbig2_region.specs.RunBytes.{how_many, pixel_decisions, takes_decision}
+use Rattle.jbig2_region.specs.Steps.{how_many, pixel_decisions, takes_decision}
 use Rattle.jbig2_region.specs.inner.RowCounts.{decided_rows}
 use Rattle.jbig2_region.specs.Generic.{context_at, is_skipped}
 use Rattle.jbig2_region.specs.Raster.{Coding, Region, at_pixel}
-use Rattle.jbig2_region.specs.Skipping.{CountsSkipping, kept_pixels, skipping_coding, skipping_loads, skipping_words}
+use Rattle.jbig2_region.specs.{Steps.{CountsSkipping, kept_pixels, skipping_loads, skipping_words}, Generic.{skipping_coding}}
 use Rattle.jbig2_region.specs.inner.Codes.{Takes}
 use Rattle.jbig2_region.specs.inner.Masks.{IsMask, plain_context}
 use Rattle.jbig2_region.specs.inner.Neighbours.{IsLeft, IsNear, SameAbove, Shows, left_pixels, nominal_pixels, stretch_pixels}

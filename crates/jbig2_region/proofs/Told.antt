@@ -9,7 +9,7 @@ use Rattle.std.proofs.lemmas.List.{drop-drop}
 use Rattle.jbig2_base.specs.Answer.{◌>>=◌, refuse_if}
 use Rattle.jbig2_base.specs.Causes.{number_in}
 use Rattle.jbig2_base.specs.Fields.{number_at, signed_at, end_of_bytes}
-use Rattle.jbig2_base.specs.Operator.{operator_of}
+use Rattle.jbig2_base.specs.Combination.{operator_of}
 use Rattle.jbig2_base.specs.declared.bitmap.operator.CombinationOperator.{CombinationOperator}
 use Rattle.jbig2_base.specs.declared.error.DecodeError.{DecodeError}
 use Rattle.jbig2_base.specs.declared.error.DecodeError.TheVariants.{Region, Unsupported}

@@ -6,7 +6,7 @@ use Rattle.std.proofs.lemmas.Bool.{cases_lt, ltb_from_iff, lt-ltb, ltb-true, eq-
 use Rattle.std.specs.Int.Bits.{xor_add_and, xor_self}
 use Rattle.std.specs.Int.RustNames.{bit_or, bit_xor}
 use Rattle.std.specs.Prelude.{nat_lt, ◌&&◌}
-use Rattle.jbig2_base.specs.inner.WordBits.{bit}
+use Rattle.jbig2_base.specs.Bits.{bit}
 use Rattle.jbig2_base.proofs.BitLemmas.{bit-above, bit-ones, bit-xor, bit-zero, bit-shr, bit-shl_high, shr-lt}
 use Rattle.jbig2_base.proofs.ColourLemmas.{bit-top}
 use Rattle.jbig2_region.specs.inner.Neighbours.{is_field, stretch_stays}

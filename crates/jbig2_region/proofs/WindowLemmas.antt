@@ -3,7 +3,7 @@ use Rattle.std.proofs.Common.{pos, negsuc, ℤ, ◌+ℤ◌, ◌-ℤ◌, ◌≡�
 use Rattle.std.proofs.lemmas.Bool.{cases_lt}
 use Rattle.std.proofs.lemmas.Int.{ints}
 use Rattle.jbig2_base.specs.Grid.{Grid, pixel, pixel_at}
-use Rattle.jbig2_base.specs.inner.WordBits.{bit}
+use Rattle.jbig2_base.specs.Bits.{bit}
 use Rattle.jbig2_base.proofs.BitLemmas.{bit-above, bit-shl_high, bit-zero}
 use Rattle.jbig2_region.specs.Generic.{context_at}
 use Rattle.jbig2_region.specs.inner.Neighbours.{left_pixels, stretch_pixels, mixed_pixels, IsNear, IsWindow, SameAbove, Shows, IsLeft, stretch_bits}

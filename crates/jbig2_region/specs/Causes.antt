@@ -1,9 +1,9 @@
 -- Which rule the bytes break where a header or a region is refused (docs/FORMAT.md), a line for each error. A
 -- predicate `Breaks..` takes the bytes, or a header, and an error; its law ties the definition's errors to it.
-use Rattle.std.specs.{Prelude.{◌≡◌, ◌<◌, ◌≤◌, ◌⊎◌, ℕ, ◌+◌, ◌-◌, ◌*◌, ◌/◌, ◌%◌, ◌^◌, ◌==◌, Bool, true, if◌then◌else◌, List, length, IfErr, ℤ, pos, ◌<ℤ◌, ◌≤ℤ◌}, Int.{w8, w32, cast_signed}}
+use Rattle.std.specs.{Prelude.{◌≡◌, ◌<◌, ◌≤◌, ◌⊎◌, ℕ, ◌+◌, ◌-◌, ◌*◌, ◌/◌, ◌%◌, ◌^◌, ◌==◌, Bool, true, if◌then◌else◌, List, length, ℤ, pos, ◌<ℤ◌, ◌≤ℤ◌}, Int.{w8, w32, cast_signed}}
 use Rattle.jbig2_base.specs.{Causes.{number_in}, declared.error.{DecodeError.{DecodeError}, OverflowError.TheVariants.{BitmapDimension, ReferenceOffset}, ParseError.TheVariants.{UnexpectedEof}, RegionError.TheVariants.{InvalidCombinationOperator, InvalidDimension}, TemplateError.TheVariants.{InvalidAtPixel}}}
 use Rattle.jbig2_mmr.specs.Causes.{BreaksMmr}
-use Rattle.jbig2_region.specs.{Generic.{generic_decoded}, GenericHeader.{GenericHeader, generic_header_at, rows_at}, Refinement.{offset, refined_decoded}, RefinementHeader.{RefinementHeader, refinement_header_at}, RefinementTemplates.{refinement_pixel_count, refinement_pixels_at}, RegionInfo.{PlacedRegion, region_info_at}, Templates.{adaptive_pixel_count, adaptive_pixels_at, template_of}, declared.{region_info.RegionSegmentInfo.{RegionSegmentInfo}, template.{RefinementTemplate.{RefinementTemplate}, Template.{Template}}}}
+use Rattle.jbig2_region.specs.{GenericHeader.{GenericHeader}, RefinementTemplates.{refinement_pixel_count}, RegionInfo.{PlacedRegion}, Templates.{adaptive_pixel_count, template_of}, declared.{region_info.RegionSegmentInfo.{RegionSegmentInfo}, template.{RefinementTemplate.{RefinementTemplate}, Template.{Template}}}}
 use Rattle.jbig2_base.specs.declared.error.DecodeError.TheVariants as errors
 
 -- ---- region information (7.4.1): the two sides and the place, four bytes each, and the flags

@@ -6,7 +6,6 @@ pub mod Refinement
 pub mod RefinementHeader
 pub mod RefinementTemplates
 pub mod RegionInfo
-pub mod RunBytes
-pub mod Skipping
+pub mod Steps
 pub mod Templates
 pub mod inner

@@ -3,8 +3,7 @@
 use Rattle.std.specs.{Prelude.{ℕ, Bool, true, false, not, ◌||◌, nat_lt, nat_le, if◌then◌else◌, List, [], ◌∷◌, ◌++◌, map, Option, Some, None, ℤ, pos, negsuc, ◌+ℤ◌, ◌-ℤ◌, Result, Ok, is_ok}, List.{list_all}}
 use Rattle.jbig2_base.specs.{Answer.{◌>>=◌, refuse_if}, Grid.{Grid, pixel}, declared.error.{DecodeError.{DecodeError}, OverflowError.TheVariants.{ReferenceOffset}, RegionError.TheVariants.{InvalidDimension}}}
 use Rattle.jbig2_coder.specs.Coder.{Context, initial_registers}
-use Rattle.jbig2_region.specs.{Generic.{number_of, region_pixel}, Raster.{Coding, Region, so_far, decoded_region, no_pixels, fresh_contexts}, RefinementHeader.{RefinementHeader}, RefinementTemplates.{apart, reference_pixels, refinement_row_context, region_pixels}, RegionInfo.{PlacedRegion, placed}, declared.{region_info.RegionSegmentInfo.{RegionSegmentInfo}, template.{AdaptiveTemplatePixel.{AdaptiveTemplatePixel}, RefinementTemplate.{RefinementTemplate}}}}
-pub use Rattle.jbig2_region.specs.RefinementTemplates.{refinement_bits}
+use Rattle.jbig2_region.specs.{Generic.{number_of, region_pixel}, Raster.{Coding, Region, so_far, decoded_region, no_pixels, fresh_contexts}, RefinementHeader.{RefinementHeader}, RefinementTemplates.{apart, reference_pixels, refinement_row_context, region_pixels, refinement_bits}, RegionInfo.{PlacedRegion, placed}, declared.{region_info.RegionSegmentInfo.{RegionSegmentInfo}, template.{AdaptiveTemplatePixel.{AdaptiveTemplatePixel}, RefinementTemplate.{RefinementTemplate}}}}
 use Rattle.jbig2_base.specs.declared.error.DecodeError.TheVariants as errors
 
 -- What a region is refined from: a grid that lies dx columns to the right of the region and dy rows below it.

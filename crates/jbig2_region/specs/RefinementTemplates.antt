@@ -1,7 +1,8 @@
--- The templates of refinements (T.88, 6.3.5.3, Figures 12 and 13): the pixels of a context, bit 0 first, out of the
--- reference and the region; the adaptive pixels; and the context of the decision that begins a row.
-use Rattle.std.specs.Prelude.{ℕ, ◌==◌, Bool, true, ◌&&◌, List, [], ◌∷◌, take, ℤ, pos, negsuc, Result, Ok, if◌then◌else◌}
-use Rattle.jbig2_base.specs.{Answer.{◌>>=◌}, declared.error.DecodeError.{DecodeError}}
+-- The templates of refinements (T.88, 6.3.5.3, Figures 12 and 13), bit 0 of a context first. `reference_pixels` and
+-- `region_pixels` take a template and its adaptive pixels, and give the pixels of a context in either grid. Behind
+-- them stand the context of the decision that begins a row, and how a segment holds the adaptive pixels (7.4.7.3).
+use Rattle.std.specs.Prelude.{ℕ, ◌==◌, Bool, true, ◌&&◌, List, [], ◌∷◌, ℤ, pos, negsuc, Result, Ok, if◌then◌else◌}
+use Rattle.jbig2_base.specs.{declared.error.DecodeError.{DecodeError}, Answer.{◌>>=◌}}
 use Rattle.jbig2_region.specs.{Templates.{adaptive, free_pixel_at, lies_at}, declared.template.{AdaptiveTemplatePixel.{AdaptiveTemplatePixel}, RefinementTemplate.{RefinementTemplate, TheVariants.{Template0, Template1}}}}
 
 abbrev pub refinement_template_of : ℕ → RefinementTemplate

@@ -1,8 +1,8 @@
 -- The region segment information field (T.88, 7.4.1), which every region segment begins with, and the region that it
 -- places. `region_info_at` takes bytes and gives the field with the bytes behind it, or the first fault.
 use Rattle.std.specs.{Prelude.{ℕ, ◌/◌, ◌%◌, ◌≡◌, ◌==◌, false, List, Result, Ok}, Int.{w8, w32}}
-use Rattle.jbig2_base.specs.{Answer.{◌>>=◌, refuse_if}, Fields.{number_at}, Grid.{Grid, blank}, Operator.{operator_of}, declared.{bitmap.operator.CombinationOperator.{CombinationOperator}, error.DecodeError.{DecodeError, TheVariants.{Unsupported}}}}
-use Rattle.jbig2_region.specs.declared.region_info.{DecodedRegion.{DecodedRegion}, RegionSegmentInfo.{RegionSegmentInfo}}
+use Rattle.jbig2_base.specs.{Answer.{refuse_if, ◌>>=◌}, Fields.{number_at}, Grid.{Grid, blank}, Combination.{operator_of}, declared.{bitmap.operator.CombinationOperator.{CombinationOperator}, error.DecodeError.{DecodeError, TheVariants.{Unsupported}}}}
+use Rattle.jbig2_region.specs.declared.region_info.RegionSegmentInfo.{RegionSegmentInfo}
 
 -- bit 3 of the flags speaks of a colour extension, which this decoder has not (our own rule)
 unfoldable pub region_info_at : List ℕ → Result (RegionSegmentInfo × List ℕ) DecodeError

@@ -1,8 +1,9 @@
--- The templates of generic regions (T.88, 6.2.5.3, Figures 3 to 6, and the extended one): the pixels of a context,
--- the adaptive ones among them and how a segment holds these, and the context of the decision that begins a row.
-use Rattle.std.specs.{Prelude.{ℕ, ◌==◌, ◌≡◌, Bool, true, false, not, ◌&&◌, ◌||◌, ℤ, pos, negsuc, ◌-ℤ◌, int_lt, int_le, List, [], ◌∷◌, zero, suc, slice_index_or, take, if◌then◌else◌, Result, Ok}, Int.{w8}, Ordering.{int_eq}}
-use Rattle.jbig2_base.specs.{Answer.{◌>>=◌, refuse_if}, Fields.{signed_at}, declared.error.{DecodeError.{DecodeError}, TemplateError.TheVariants.{InvalidAtPixel}}}
-use Rattle.jbig2_region.specs.declared.template.{AdaptiveTemplatePixel.{AdaptiveTemplatePixel}, Template.{Template, TheVariants.{Template0, Template1, Template2, Template3}}, GenericTemplatePixels.{GenericTemplatePixels, TheVariants.{Regular, Extended}}}
+-- The templates of generic regions (T.88, 6.2.5.3, Figures 3 to 6, and the extended one). `template_pixels` takes a
+-- template and its adaptive pixels, and gives the pixels of a context. Behind it stand the context of the decision
+-- that begins a row, and how a segment holds the adaptive pixels (7.4.6.3).
+use Rattle.std.specs.{Prelude.{ℕ, ◌==◌, ◌≡◌, Bool, true, false, not, ◌&&◌, ◌||◌, ℤ, pos, negsuc, ◌-ℤ◌, int_lt, int_le, List, [], ◌∷◌, zero, suc, slice_index_or, if◌then◌else◌, Result, Ok}, Int.{w8}, Ordering.{int_eq}}
+use Rattle.jbig2_base.specs.{Answer.{refuse_if, ◌>>=◌}, Fields.{signed_at}, declared.error.{DecodeError.{DecodeError}, TemplateError.TheVariants.{InvalidAtPixel}}}
+use Rattle.jbig2_region.specs.declared.template.{AdaptiveTemplatePixel.{AdaptiveTemplatePixel}, Template.{Template, TheVariants.{Template0, Template1, Template2, Template3}}}
 use Rattle.jbig2_base.specs.declared.error.DecodeError.TheVariants as errors
 
 abbrev pub template_of : ℕ → Template

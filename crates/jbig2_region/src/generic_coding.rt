@@ -5,9 +5,9 @@ ghost use Rattle.jbig2_base.specs.Grid.{pixel, bit_number};
 ghost use Rattle.jbig2_region.specs.inner.Holds.{DecodesRegion, IsReady};
 ghost use Rattle.jbig2_region.specs.Raster.{no_pixels};
 ghost use Rattle.jbig2_region.specs.Generic.{context_at, coding_of, white_if_skipped};
-ghost use Rattle.jbig2_region.specs.Skipping.{skip_of};
+ghost use Rattle.jbig2_region.specs.inner.RegionViews.{skip_of};
 ghost use Rattle.jbig2_region.specs.inner.Layouts.{CountsCoded, read_pixels};
-ghost use Rattle.jbig2_region.specs.RunBytes.{CountsRegion};
+ghost use Rattle.jbig2_region.specs.Steps.{CountsRegion};
 ghost use Rattle.jbig2_region.specs.Templates.{FitsTemplate, context_bits, is_nominal, template_pixels};
 ghost use Rattle.jbig2_region.specs.inner.PixelArrays.{is_extended, pixels_view};
 
@@ -119,7 +119,7 @@ pub struct GenericCoding<'a, M: Allocator> {
 
 impl<M: Allocator> PixelCoding for GenericCoding<'_, M> {
     ghost use Rattle.jbig2_region.specs.Generic.{masked_coding};
-    ghost use Rattle.jbig2_region.specs.Skipping.{skip_of};
+    ghost use Rattle.jbig2_region.specs.inner.RegionViews.{skip_of};
     ghost use Rattle.jbig2_region.specs.Templates.{context_bits};
 
     ghost coding = { λ c. masked_coding c.typical c.template c.pixels.now (skip_of c.skip) };

@@ -7,7 +7,7 @@ ghost use Rattle.jbig2_coder.specs.Coder.{Coder, Context};
 ghost use Rattle.jbig2_region.specs.inner.Holds.{DecodesRegion};
 ghost use Rattle.jbig2_region.specs.inner.Neighbours.{DecodesPixels, IsLayout, is_nominal_layout, layout_coding, layout_count, layout_loads, layout_pixels};
 ghost use Rattle.jbig2_region.specs.Raster.{decoded_region, no_pixels};
-ghost use Rattle.jbig2_region.specs.RunBytes.{CountsRegion, row_loads, row_tests, row_words};
+ghost use Rattle.jbig2_region.specs.Steps.{CountsRegion, row_loads, row_tests, row_words};
 ghost use Rattle.jbig2_region.specs.inner.RowCounts.{CountsRow};
 ghost use Rattle.jbig2_region.specs.declared.template.AdaptiveTemplatePixel.{AdaptiveTemplatePixel};
 

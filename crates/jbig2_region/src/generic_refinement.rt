@@ -2,11 +2,11 @@
 ghost use Rattle.std.specs.Prelude.{◌≡◌, IfOk, OnErr, OnOk};
 ghost use Rattle.jbig2_base.specs.Answer.{Answers, Gives, Leaves};
 ghost use Rattle.jbig2_base.specs.Bits.{IsAligned};
-ghost use Rattle.jbig2_base.specs.Parsing.{Parses};
+ghost use Rattle.jbig2_base.specs.Fields.{Parses};
 ghost use Rattle.jbig2_region.specs.RegionInfo.{IsWhiteFor, PlacedRegion};
 ghost use Rattle.jbig2_region.specs.inner.RegionViews.{region_view};
 ghost use Rattle.jbig2_region.specs.Refinement.{is_far, is_smaller, offset, refined_answer, refined_contexts, refined_decoded};
-ghost use Rattle.jbig2_region.specs.RunBytes.{CountsRefined};
+ghost use Rattle.jbig2_region.specs.Steps.{CountsRefined};
 ghost use Rattle.jbig2_region.specs.RefinementHeader.{IsRefinement, refinement_header_at, RefinementHeader};
 ghost use Rattle.jbig2_region.specs.inner.RefinedViews.{header_view};
 ghost use Rattle.jbig2_region.specs.inner.PixelArrays.{filled};

@@ -2,10 +2,9 @@
 //! and predicted colours come from windows on the rows.
 ghost use Rattle.std.specs.Prelude.{◌≡◌, ℕ, ◌+◌, ◌-◌, ◌*◌, ◌/◌, ◌%◌, ◌^◌, ◌<◌, ◌≤◌, length, false, if◌then◌else◌, Some, None, IfSome};
 ghost use Rattle.jbig2_base.specs.Grid.{pixel_at};
-ghost use Rattle.jbig2_base.specs.inner.WordBits.{bit};
-ghost use Rattle.jbig2_region.specs.RunBytes.{CountsDecided};
+ghost use Rattle.jbig2_base.specs.Bits.{bit};
+ghost use Rattle.jbig2_region.specs.Steps.{CountsDecided, window_loads};
 ghost use Rattle.jbig2_region.specs.Raster.{no_pixels};
-ghost use Rattle.jbig2_region.specs.RunBytes.{window_loads};
 ghost use Rattle.jbig2_region.specs.RefinementTemplates.{refinement_bits};
 ghost use Rattle.jbig2_region.specs.inner.Codes.{Takes};
 ghost use Rattle.jbig2_region.specs.inner.Holds.{DecodesRegion, IsReady};

@@ -1,7 +1,7 @@
 //! Generic regions of which pixels are skipped (T.88, 6.2.5.7), as the planes of a gray-scale image.
 ghost use Rattle.std.specs.Prelude.{◌≡◌, false, true};
 ghost use Rattle.jbig2_region.specs.inner.Holds.{DecodesRegion, IsReady};
-ghost use Rattle.jbig2_region.specs.Skipping.{CountsSkipping, skipping_coding, skip_of};
+ghost use Rattle.jbig2_region.specs.{Steps.{CountsSkipping}, inner.RegionViews.{skip_of}, Generic.{skipping_coding}};
 ghost use Rattle.jbig2_region.specs.Templates.{context_bits, is_nominal, template_pixels};
 ghost use Rattle.jbig2_region.specs.inner.PixelArrays.{four_pixels};
 

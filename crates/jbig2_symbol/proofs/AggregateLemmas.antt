@@ -9,10 +9,9 @@ use Rattle.jbig2_text.specs.Text.{TextParams}
 use Rattle.jbig2_text.specs.TextCoding.{TextTables, by_prefix_codes}
 use Rattle.jbig2_text.specs.TextRegion.{aggregate_tables}
 use Rattle.jbig2_symbol.specs.SymbolBitmaps.{by_instances, id_bits, plain_id, prefixed_at, prefixed_instances}
-use Rattle.jbig2_symbol.specs.Exports.{exports}
+use Rattle.jbig2_symbol.specs.Symbols.{exports, symbols_exported}
 use Rattle.jbig2_symbol.specs.HeightClasses.{new_symbols}
 use Rattle.jbig2_symbol.specs.SymbolReading.{ClassReadings, SymbolInput, SymbolState}
-use Rattle.jbig2_symbol.specs.Symbols.{symbols_exported}
 
 -- a refusal by prefix codes, where the reader, the tables and the contexts are those of the dictionary
 pub prefixed-fault : (d : SymbolInput) (p : TextParams) (width height bits : ℕ) (s t : SymbolState Place) (place : Place) (tables : TextTables) (f : Refining) (error : DecodeError) → s ≡ t → place ≡ s.coding → tables ≡ aggregate_tables → f ≡ s.contexts.refining → bits ≡ max 1 (id_bits d.header (length d.symbols)) → (error ≡ OutOfMemory) ⊎ (by_instances by_prefix_codes (plain_id bits) p width height f (record { place = place; tables = tables; ids = d.ids }) ≡ Err error) → (error ≡ OutOfMemory) ⊎ (prefixed_instances d p width height t ≡ Err error)

@@ -14,13 +14,12 @@ use Rattle.jbig2_text.specs.Text.{Readings, TextParams}
 use Rattle.jbig2_text.specs.TextCoding.{Coded, Prefixed, by_coder, by_prefix_codes, next_id}
 use Rattle.jbig2_text.proofs.Answered.{AreAnswered, answered-some_symbol, answered-text_region}
 use Rattle.jbig2_text.proofs.AnsweredRegions.{answered-in_band, by_coder-answered, by_prefix_codes-answered}
-use Rattle.jbig2_symbol.specs.Exports.{exports, next_run, runs_from}
+use Rattle.jbig2_symbol.specs.Symbols.{exports, next_run, runs_from, dictionary_by, dictionary_from, symbols_decoded}
 use Rattle.jbig2_symbol.specs.HeightClasses.{classes_from, drawn_class, height_class, next_width, size_in_word, symbols_from, width_by, widths_from}
 use Rattle.jbig2_symbol.specs.SymbolBitmaps.{aggregate_params, by_instances, coded_aggregate, coded_instances, coded_symbol, collective_bitmap, instance_count, mmr_bytes, plain_id, prefixed_aggregate, prefixed_instances, put_together, raw_rows, refined_alone, some_instances, symbol_cut, symbols_cut}
 use Rattle.jbig2_symbol.specs.SymbolCoding.{classes_by_coder, classes_by_prefix_codes, coded_bitmap, coder_begun, collective_class, prefix_codes_begun, symbols_by_coder, symbols_by_prefix_codes}
 use Rattle.jbig2_symbol.specs.SymbolHeader.{SymbolHeader, coded_pixels_at, refined_pixels_at, selection_of, symbol_flags_of, symbol_header_at}
 use Rattle.jbig2_symbol.specs.SymbolReading.{BitmapContexts, ClassReadings, SymbolInput, SymbolReadings, SymbolState, by_procedure, by_table, first_contexts, not_negative, symbol_tables, table_for}
-use Rattle.jbig2_symbol.specs.Symbols.{dictionary_by, dictionary_from, symbols_decoded}
 use Rattle.jbig2_symbol.specs.declared.symbol.header.HuffmanTableSelection.{HuffmanTableSelection}
 use Rattle.jbig2_symbol.specs.declared.symbol.header.HuffmanTableSelection.TheVariants.{TableB1, TableB2, TableB3, TableB4, TableB5, UserSupplied}
 use Rattle.jbig2_symbol.specs.declared.symbol.header.SymbolDictionaryFlags.{SymbolDictionaryFlags}

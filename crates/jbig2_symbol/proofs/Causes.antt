@@ -11,9 +11,8 @@ use Rattle.jbig2_base.specs.declared.error.DecodeError.TheVariants as errors
 use Rattle.jbig2_base.specs.declared.error.HuffmanError.TheVariants.{InvalidSelection}
 use Rattle.jbig2_base.specs.declared.error.OverflowError.TheVariants.{SymbolCount}
 use Rattle.jbig2_base.specs.declared.error.TemplateError.TheVariants.{InvalidAtPixel}
-use Rattle.jbig2_region.specs.GenericHeader.{adaptive_pixel_at}
-use Rattle.jbig2_region.specs.RefinementHeader.{refinement_pixels_at, refinement_template_of}
-use Rattle.jbig2_region.specs.Templates.{adaptive_pixel_count, adaptive_pixels_at, free_pixel_at, is_earlier, template_of}
+use Rattle.jbig2_region.specs.Templates.{adaptive_pixel_at, adaptive_pixel_count, adaptive_pixels_at, free_pixel_at, is_earlier, template_of}
+use Rattle.jbig2_region.specs.RefinementTemplates.{refinement_pixels_at, refinement_template_of}
 use Rattle.jbig2_region.specs.declared.template.AdaptiveTemplatePixel.{AdaptiveTemplatePixel}
 use Rattle.jbig2_region.specs.declared.template.RefinementTemplate.{RefinementTemplate}
 use Rattle.jbig2_region.specs.declared.template.RefinementTemplate.TheVariants as refinements

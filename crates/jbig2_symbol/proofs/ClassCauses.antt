@@ -5,7 +5,7 @@ use Rattle.std.specs.Prelude.{IfErr, IsFalse, IsTrue}
 use Rattle.jbig2_base.specs.Answer.{◌>>=◌, refuse_if}
 use Rattle.jbig2_base.specs.Bits.{Place, aligned, start_of}
 use Rattle.jbig2_base.specs.Fields.{bytes_at}
-use Rattle.jbig2_base.specs.Grid.{Grid}
+use Rattle.jbig2_base.specs.Grid.{Grid, wide_or_overflow}
 use Rattle.jbig2_base.specs.Causes.{InSteps, IsOf, HaveCauses}
 use Rattle.jbig2_base.specs.declared.error.DecodeError.{DecodeError}
 use Rattle.jbig2_base.specs.declared.error.DecodeError.TheVariants as errors
@@ -13,20 +13,18 @@ use Rattle.jbig2_base.specs.declared.error.HuffmanError.TheVariants.{UnexpectedO
 use Rattle.jbig2_base.specs.declared.error.OverflowError.TheVariants.{BitmapDimension}
 use Rattle.jbig2_base.specs.declared.error.RegionError.TheVariants.{InvalidMmrData}
 use Rattle.jbig2_base.specs.declared.error.SymbolError.TheVariants as symbols
-use Rattle.jbig2_base.specs.Sizes.{wide_or_overflow}
 use Rattle.jbig2_base.proofs.Causes.{bytes-there, cause-bytes, cause-next, cause-refused}
 use Rattle.jbig2_coder.specs.PrefixCode.{Member}
 use Rattle.jbig2_mmr.specs.T6.{mmr_rows, rows_of}
 use Rattle.jbig2_text.specs.Causes.{Behind}
 use Rattle.jbig2_text.specs.TextCoding.{Coded, in_band}
 use Rattle.jbig2_symbol.specs.Causes.{AllDrawnClassesHaveCauses, BitmapCauses, BreaksClassAfter, BreaksCodedBitmap, BreaksCollectiveBitmap, BreaksCollectiveClass, BreaksContexts, BreaksCuts, BreaksDictionary, BreaksDrawnClass, BreaksExports, BreaksNextWidth, BreaksPrefixedAggregate, BreaksPrefixedClass, BreaksSized, BreaksSymbolAfter, BreaksTables, BreaksWidthAfter, ClassCauses, IsNoSize, SymbolsHaveCauses}
-use Rattle.jbig2_symbol.specs.Exports.{exports}
+use Rattle.jbig2_symbol.specs.Symbols.{exports, dictionary_by, dictionary_from, symbols_decoded, symbols_exported}
 use Rattle.jbig2_symbol.specs.HeightClasses.{classes_from, drawn_class, empty_class, height_class, new_symbols, next_width, size_in_word, symbols_from, widths_from}
 use Rattle.jbig2_symbol.specs.SymbolBitmaps.{collective_bitmap, id_codes, mmr_bytes, raw_rows, raw_stride, rows_of_size, symbol_cut, symbols_cut}
 use Rattle.jbig2_symbol.specs.SymbolCoding.{classes_by_coder, classes_by_prefix_codes, coder_begun, collective_class, prefix_codes_begun, symbols_by_coder, symbols_by_prefix_codes}
 use Rattle.jbig2_symbol.specs.SymbolHeader.{SymbolHeader}
 use Rattle.jbig2_symbol.specs.SymbolReading.{BitmapContexts, ClassReadings, SymbolInput, SymbolReadings, SymbolTables, SymbolState, by_table, first_contexts, not_negative, symbol_tables}
-use Rattle.jbig2_symbol.specs.Symbols.{dictionary_by, dictionary_from, symbols_decoded, symbols_exported}
 use Rattle.jbig2_symbol.specs.inner.SymbolViews.{empty_with, room_behind}
 use Rattle.jbig2_region.proofs.Told.{cause-if, cause-last, cause-more}
 use Rattle.jbig2_symbol.proofs.IdCodes.{id_codes_are_there}

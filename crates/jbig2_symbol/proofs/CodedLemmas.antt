@@ -1,7 +1,6 @@
 -- Symbols by the arithmetic coder.
 use Rattle.std.proofs.Common.{◌≡◌, ℕ, false, List, Result, Ok, sym, ap, subst, ◌∙◌}
-use Rattle.jbig2_base.specs.Grid.{Grid}
-use Rattle.jbig2_base.specs.Sizes.{blank_or_overflow}
+use Rattle.jbig2_base.specs.Grid.{Grid, blank_or_overflow}
 use Rattle.jbig2_base.specs.declared.error.DecodeError.{DecodeError}
 use Rattle.jbig2_base.proofs.FillLemmas.{white-made}
 use Rattle.jbig2_coder.specs.Coder.{Coder, Context, Registers}

@@ -6,13 +6,12 @@ use Rattle.std.proofs.lemmas.List.{append-nil, drop_all}
 use Rattle.std.proofs.lemmas.Bool.{le-ltb}
 use Rattle.jbig2_base.specs.Answer.{◌>>=◌, refuse_if}
 use Rattle.jbig2_base.specs.Fields.{bytes_at}
-use Rattle.jbig2_base.specs.Grid.{Grid, grid_of, blank}
-use Rattle.jbig2_base.specs.Sizes.{wide_or_overflow}
+use Rattle.jbig2_base.specs.Grid.{Grid, grid_of, blank, wide_or_overflow}
 use Rattle.jbig2_base.specs.declared.error.DecodeError.{DecodeError}
 use Rattle.jbig2_base.specs.declared.error.DecodeError.TheVariants.{OutOfMemory, Overflow}
 use Rattle.jbig2_base.specs.declared.error.OverflowError.TheVariants.{BitmapDimension}
 use Rattle.jbig2_base.specs.inner.Filled.{filled}
-use Rattle.jbig2_base.specs.inner.WordBits.{bit}
+use Rattle.jbig2_base.specs.Bits.{bit}
 use Rattle.jbig2_base.specs.inner.Writes.{with_pixels}
 use Rattle.jbig2_base.proofs.BitLemmas.{bit-shr}
 use Rattle.jbig2_base.proofs.FillLemmas.{all-filled, filled-store}

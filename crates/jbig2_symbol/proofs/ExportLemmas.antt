@@ -6,7 +6,7 @@ use Rattle.std.proofs.lemmas.Bool.{cases_eq, eq-eqb, ne_eqb}
 use Rattle.std.proofs.lemmas.List.Sums.{sum_by-append}
 use Rattle.jbig2_base.specs.Grid.{bit_number}
 use Rattle.jbig2_base.specs.declared.error.DecodeError.{DecodeError}
-use Rattle.jbig2_symbol.specs.Exports.{next_run, runs_from}
+use Rattle.jbig2_symbol.specs.Symbols.{next_run, runs_from}
 use Rattle.jbig2_symbol.specs.SymbolReading.{ClassReadings, SymbolInput}
 use Rattle.jbig2_symbol.specs.inner.SymbolViews.{behind}
 use Rattle.jbig2_symbol.proofs.BehindLemmas.{behind-cons}

@@ -1,6 +1,6 @@
 -- Which rule is broken where the tables, the contexts, the exports or a number of a symbol dictionary are refused.
 use Rattle.std.proofs.Common.{◌≡◌, ◌≢◌, ◌⊎◌, inl, inr, ℕ, zero, suc, ◌+◌, ◌-◌, ◌<◌, ◌==◌, nat_le, nat_lt, Bool, true, false, not, ◌&&◌, List, [], ◌∷◌, length, Option, Some, None, Result, Ok, Err, ℤ, pos, negsuc, ◌+ℤ◌, refl, sym, ap, subst, ◌∙◌, arith}
-use Rattle.std.proofs.lemmas.Bool.{and_cases, and_parts, cond_both, eq-eqb, eqb-true, false≢true, leb-true, ltb-false, not-false, not-true}
+use Rattle.std.proofs.lemmas.Bool.{and_cases, and_parts, eq-eqb, eqb-true, false≢true, leb-true, ltb-false, not-false, not-true}
 use Rattle.std.proofs.lemmas.Bool as tests
 use Rattle.std.specs.Prelude.{IfErr}
 use Rattle.jbig2_base.specs.Answer.{◌>>=◌, refuse_if}
@@ -16,7 +16,7 @@ use Rattle.jbig2_coder.specs.PrefixCode.{Member}
 use Rattle.jbig2_text.specs.TextCoding.{in_band}
 use Rattle.jbig2_symbol.specs.SymbolBitmaps.{instance_count, some_instances}
 use Rattle.jbig2_symbol.specs.Causes.{BreaksContexts, BreaksCount, BreaksRunBehind, BreaksRunValue, BreaksTables, ExportsHaveCauses, InstanceCountsHaveCauses, IsNoSize, WidthsHaveCauses, taken_by}
-use Rattle.jbig2_symbol.specs.Exports.{export_runs, exported, exports, next_run, runs_from}
+use Rattle.jbig2_symbol.specs.Symbols.{export_runs, exported, exports, next_run, runs_from}
 use Rattle.jbig2_symbol.specs.HeightClasses.{next_width, size_in_word, width_by}
 use Rattle.jbig2_symbol.specs.SymbolReading.{ClassReadings, SymbolInput, SymbolReadings, first_contexts, is_refinement_template, is_template, not_negative, symbol_tables, table_for}
 use Rattle.jbig2_symbol.specs.declared.symbol.header.HuffmanTableSelection.{HuffmanTableSelection}

@@ -14,9 +14,7 @@ use Rattle.jbig2_base.specs.declared.error.ParseError.TheVariants.{UnexpectedEof
 use Rattle.jbig2_base.specs.declared.error.SymbolError.TheVariants.{OutOfRange}
 use Rattle.jbig2_coder.specs.PrefixCode.{Member, decoded_value}
 use Rattle.jbig2_coder.specs.declared.integer_procedures.IntegerProcedure.TheVariants.{Iaai}
-use Rattle.jbig2_text.specs.Causes.{Behind}
-use Rattle.jbig2_text.specs.CausesOfRegions.{RefusesValue, coder_causes, prefix_causes}
-use Rattle.jbig2_text.specs.CausesOfText.{BreaksInstances, ReadingsHaveCauses, NamesNone, ReadingCauses}
+use Rattle.jbig2_text.specs.Causes.{Behind, BreaksInstances, ReadingsHaveCauses, NamesNone, ReadingCauses, RefusesValue, coder_causes, prefix_causes}
 use Rattle.jbig2_text.specs.Refining.{Refining}
 use Rattle.jbig2_text.specs.Text.{Readings, TextParams, some_symbol, symbol_of, text_instances, text_region}
 use Rattle.jbig2_text.specs.TextCoding.{Coded, Prefixed, by_coder, by_prefix_codes, next_id}

@@ -18,11 +18,10 @@ use Rattle.jbig2_region.specs.RefinementTemplates.{refinement_pixels_at}
 use Rattle.jbig2_text.specs.Refining.{refined_by}
 use Rattle.jbig2_text.specs.Text.{strip_delta, strip_begun, cursor_moved, instance_symbol, symbol_placed, with_instance, after_instances, text_instances, text_region}
 use Rattle.jbig2_symbol.specs.SymbolBitmaps.{instance_count, refined_alone, put_together, prefixed_aggregate}
-use Rattle.jbig2_symbol.specs.Exports.{ended_runs, exported_from, next_run, runs_from, exports}
+use Rattle.jbig2_symbol.specs.Symbols.{ended_runs, exported_from, next_run, runs_from, exports, Symbols, symbols_decoded}
 use Rattle.jbig2_symbol.specs.SymbolHeader.{symbol_flags_of, symbol_header_at}
 use Rattle.jbig2_symbol.specs.SymbolReading.{table_for, symbol_tables, first_contexts}
 use Rattle.jbig2_symbol.specs.HeightClasses.{next_width, symbols_from, drawn_class, height_class, classes_from}
-use Rattle.jbig2_symbol.specs.Symbols.{Symbols, symbols_decoded}
 
 -- a dictionary that refers to this symbol
 dictionary : Grid → List ℕ → Result Symbols DecodeError

@@ -5,23 +5,20 @@ use Rattle.jbig2_base.specs.Search.{least}
 use Rattle.jbig2_base.specs.Grid.{table, pixel_at}
 use Rattle.jbig2_base.specs.declared.error.DecodeError.{DecodeError}
 use Rattle.jbig2_coder.specs.Coder.{byte_at, byte_in, filled, doubled, renormed, initial_registers, likely_next, unlikely_next, choice, decision}
-use Rattle.jbig2_coder.specs.Encoder.{opened, plain, stuffed, byte_out, shifted, renormed as encoder_renormed, narrowed_likely, narrowed_unlikely, narrowed, encoding, set_bits, flushed, is_full, closed}
-use Rattle.jbig2_coder.specs.Integers.{integer, value_of_bits, next, read, read_more, ranges, are_next, next_range, signed, value_of}
-use Rattle.jbig2_coder.specs.Lists.{with_context, encode_from, encoded}
+use Rattle.jbig2_coder.specs.Encoder.{opened, plain, stuffed, byte_out, shifted, renormed as encoder_renormed, narrowed_likely, narrowed_unlikely, narrowed, encoding, set_bits, flushed, is_full, closed, with_context, encode_from, encoded}
+use Rattle.jbig2_coder.specs.Integers.{integer, value_of_bits, next, read, read_more, ranges, are_next, next_range, signed, value_of, asked}
 use Rattle.jbig2_coder.specs.PrefixCode.{is_crowded, weight}
 use Rattle.jbig2_coder.specs.Table.{rows, row_of}
 use Rattle.jbig2_region.specs.Generic.{context_at}
-use Rattle.jbig2_region.specs.GenericHeader.{adaptive_pixel_at}
+use Rattle.jbig2_region.specs.Templates.{adaptive_pixel_at}
 use Rattle.jbig2_region.specs.Raster.{so_far, with_next, after_pixel, row_begun, at_next, first_pixels, decoded_region}
-use Rattle.jbig2_symbol.specs.Exports.{ended_runs, exported_from, next_run, runs_from, exports}
+use Rattle.jbig2_symbol.specs.Symbols.{ended_runs, exported_from, next_run, runs_from, exports, Symbols, symbols_decoded}
 use Rattle.jbig2_symbol.specs.SymbolBitmaps.{coded_symbol}
 use Rattle.jbig2_symbol.specs.SymbolHeader.{symbol_flags_of, symbol_header_at}
 use Rattle.jbig2_text.specs.TextCoding.{coded_start}
-use Rattle.jbig2_coder.specs.Procedures.{asked}
 use Rattle.jbig2_symbol.specs.SymbolReading.{table_for, symbol_tables, first_contexts}
 use Rattle.jbig2_symbol.specs.HeightClasses.{next_width, symbols_from, drawn_class, height_class, classes_from}
 use Rattle.jbig2_symbol.specs.SymbolCoding.{coded_bitmap}
-use Rattle.jbig2_symbol.specs.Symbols.{Symbols, symbols_decoded}
 
 -- four decisions of an integer in its first four contexts, which for each integer begin elsewhere
 abbrev four : ℕ → List (ℕ × Bool)

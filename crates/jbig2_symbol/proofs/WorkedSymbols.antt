@@ -1,9 +1,8 @@
 -- Symbol dictionaries of the worked rows, computed from the definitions alone.
 use Rattle.std.proofs.Common.{◌≡◌, ℕ, true, false, List, [], ◌∷◌, None, Result, Ok, Err, refl}
 use Rattle.jbig2_base.specs.Answer.{◌>>=◌}
-use Rattle.jbig2_base.specs.Bits.{bits_left, bits_on}
+use Rattle.jbig2_base.specs.Bits.{bits_left, bits_on, bit}
 use Rattle.jbig2_base.specs.Grid.{Grid, table, pixel_at}
-use Rattle.jbig2_base.specs.inner.WordBits.{bit}
 use Rattle.jbig2_base.specs.declared.error.DecodeError.{DecodeError}
 use Rattle.jbig2_base.specs.declared.error.DecodeError.TheVariants as errors
 use Rattle.jbig2_base.specs.declared.error.HuffmanError.TheVariants.{InvalidSelection, MissingTables}
@@ -12,13 +11,12 @@ use Rattle.jbig2_base.specs.declared.error.SymbolError.TheVariants.{Invalid, NoS
 use Rattle.jbig2_base.specs.Search.{least}
 use Rattle.jbig2_coder.specs.PrefixCode.{is_crowded, weight, prefix_code, shorter, decoded_value, read_code}
 use Rattle.jbig2_coder.specs.Tables.{lines_a, lines_b, lines_d}
-use Rattle.jbig2_symbol.specs.Exports.{ended_runs, exported_from, next_run, runs_from, exports}
+use Rattle.jbig2_symbol.specs.Symbols.{ended_runs, exported_from, next_run, runs_from, exports, Symbols, symbols_decoded}
 use Rattle.jbig2_symbol.specs.SymbolBitmaps.{raw_rows, collective_bitmap, symbols_cut, symbol_cut}
 use Rattle.jbig2_symbol.specs.SymbolHeader.{symbol_flags_of, symbol_header_at}
 use Rattle.jbig2_symbol.specs.SymbolReading.{table_for, symbol_tables, first_contexts}
 use Rattle.jbig2_symbol.specs.HeightClasses.{next_width, widths_from, height_class, classes_from}
 use Rattle.jbig2_symbol.specs.SymbolCoding.{collective_class}
-use Rattle.jbig2_symbol.specs.Symbols.{Symbols, symbols_decoded}
 
 -- a dictionary that refers to nothing
 dictionary : List ℕ → Result Symbols DecodeError

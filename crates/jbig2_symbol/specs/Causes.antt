@@ -1,12 +1,12 @@
 -- Which rule is broken where a symbol dictionary is refused (T.88, 6.5 and 7.4.2; docs/FORMAT.md, 11), a line an error.
 -- Errors of steps with laws of their own stand as the step's own (`IsOf`). A law `..ReadingsHaveCauses` ties the definition to it.
-use Rattle.std.specs.{Prelude.{◌≡◌, ◌≢◌, ◌⊎◌, ◌<◌, ◌≤◌, ℕ, zero, suc, ◌+◌, ◌-◌, ◌*◌, ◌/◌, ◌%◌, ◌==◌, max, ◌&&◌, Bool, false, IsTrue, IsFalse, if◌then◌else◌, List, [], ◌∷◌, ◌++◌, length, take, drop, sum, slice_get, Option, Some, None, Result, Ok, IfErr, ℤ, pos, negsuc, ◌+ℤ◌}, Int.{w16, w32}}
+use Rattle.std.specs.{Prelude.{◌≡◌, ◌≢◌, ◌⊎◌, ◌<◌, ◌≤◌, ℕ, zero, suc, ◌+◌, ◌-◌, ◌*◌, ◌/◌, ◌%◌, ◌==◌, max, ◌&&◌, Bool, false, IsTrue, IsFalse, if◌then◌else◌, List, [], ◌∷◌, ◌++◌, length, take, drop, sum, slice_get, Option, Some, None, Result, Ok, IfErr, ℤ, pos, negsuc, ◌+ℤ◌}, Int.{w32}}
 use Rattle.jbig2_base.specs.{Bits.{Place, aligned, bits_left}, Causes.{BreaksSides, InSteps, IsOf, number_in}, Grid.{Grid, bit_number}, declared.error.{DecodeError.{DecodeError}, OverflowError.TheVariants.{SymbolCount, BitmapDimension}, ParseError.TheVariants.{UnexpectedEof}, RegionError.TheVariants.{InvalidMmrData}, SymbolError.TheVariants.{Invalid, NoSymbols, OutOfRange, TooManySymbols, UnexpectedOob}, TemplateError.TheVariants.{InvalidAtPixel}}}
 use Rattle.jbig2_coder.specs.{PrefixCode.{Member}, declared.integer_procedures.IntegerProcedure.TheVariants.{Iaai}}
 use Rattle.jbig2_mmr.specs.T6.{rows_of}
 use Rattle.jbig2_region.specs.Templates.{adaptive_pixel_count, adaptive_pixels_at, template_of}
-use Rattle.jbig2_text.specs.{Causes.{Behind}, CausesOfRegions.{RefusesValue, coder_causes, prefix_causes}, CausesOfText.{BreaksInstances, NamesNone, ReadingCauses}, Refining.{Refining}, Text.{Readings, TextParams}, TextCoding.{Coded, Prefixed, by_coder, by_prefix_codes, next_id}}
-use Rattle.jbig2_symbol.specs.{Exports.{export_runs, exported, exports, next_run}, HeightClasses.{drawn_class, height_class, new_symbols, next_width, symbols_from, widths_from}, SymbolBitmaps.{aggregate_params, coded_aggregate, coded_symbol, collective_bitmap, id_bits, id_codes, instance_count, plain_id, prefixed_aggregate, prefixed_at, raw_stride, symbols_cut}, SymbolCoding.{classes_by_coder, classes_by_prefix_codes, coded_bitmap, coder_begun, collective_class, prefix_codes_begun, symbols_by_coder, symbols_by_prefix_codes}, SymbolHeader.{SymbolHeader, symbol_header_at}, SymbolReading.{BitmapContexts, ClassReadings, SymbolInput, SymbolReadings, SymbolState, by_procedure, by_table, first_contexts, is_refinement_template, is_template, symbol_tables}, Symbols.{symbols_decoded}, declared.symbol.header.{HuffmanTableSelection.{HuffmanTableSelection, TheVariants.{UserSupplied}}, SymbolDictionaryFlags.{SymbolDictionaryFlags}}}
+use Rattle.jbig2_text.specs.{Causes.{Behind, BreaksInstances, NamesNone, ReadingCauses, RefusesValue, coder_causes, prefix_causes}, Refining.{Refining}, Text.{Readings, TextParams}, TextCoding.{Coded, Prefixed, by_coder, by_prefix_codes, next_id}}
+use Rattle.jbig2_symbol.specs.{Symbols.{export_runs, exported, exports, next_run, symbols_decoded}, HeightClasses.{drawn_class, height_class, new_symbols, next_width, symbols_from, widths_from}, SymbolBitmaps.{aggregate_params, id_bits, id_codes, instance_count, plain_id, prefixed_at, raw_stride}, SymbolCoding.{classes_by_coder, classes_by_prefix_codes, coder_begun, prefix_codes_begun, symbols_by_coder, symbols_by_prefix_codes}, SymbolHeader.{SymbolHeader}, SymbolReading.{BitmapContexts, ClassReadings, SymbolInput, SymbolReadings, SymbolState, by_procedure, by_table, first_contexts, is_refinement_template, is_template, symbol_tables}, declared.symbol.header.{HuffmanTableSelection.{HuffmanTableSelection, TheVariants.{UserSupplied}}, SymbolDictionaryFlags.{SymbolDictionaryFlags}}}
 use Rattle.jbig2_base.specs.declared.error.DecodeError.TheVariants as errors
 use Rattle.jbig2_base.specs.declared.error.HuffmanError.TheVariants as huffman
 

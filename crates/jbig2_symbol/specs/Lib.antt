@@ -1,5 +1,4 @@
 pub mod Causes
-pub mod Exports
 pub mod HeightClasses
 pub mod SymbolBitmaps
 pub mod SymbolCoding

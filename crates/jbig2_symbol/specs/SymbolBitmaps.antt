@@ -1,7 +1,7 @@
 -- The bitmaps of a dictionary's symbols (T.88, 6.5.8 and 6.5.9): generic regions of their own, symbols refined or put
 -- together by the readings of text regions, or parts of a collective bitmap. Each goes on with the dictionary's state.
 use Rattle.std.specs.Prelude.{ℕ, suc, ◌+◌, ◌==◌, max, true, false, ◌&&◌, if◌then◌else◌, List, ◌++◌, length, Option, Some, None, Result, Ok, Err, ℤ, pos, ◌-◌, ◌*◌, ◌/◌, ◌%◌, nat_lt, Bool, ◌||◌, [], ◌∷◌, slice_index_or}
-use Rattle.jbig2_base.specs.{Answer.{◌>>=◌, refuse_if}, Bits.{Place, aligned, start_of}, Fields.{end_of_bytes, bytes_at}, Grid.{Grid, blank, grid_of}, Search.{code_length}, declared.{bitmap.operator.CombinationOperator.TheVariants.{Or}, error.{DecodeError.{DecodeError, TheVariants.{Symbol, Huffman, Overflow}}, SymbolError.TheVariants.{Invalid, UnexpectedOob}, OverflowError.TheVariants.{BitmapDimension}}}, inner.WordBits.{bit}, Parts.{part_or_overflow}, Sizes.{wide_or_overflow}}
+use Rattle.jbig2_base.specs.{Answer.{◌>>=◌, refuse_if}, Bits.{Place, aligned, start_of, bit}, Fields.{end_of_bytes, bytes_at}, Grid.{Grid, blank, grid_of, part_or_overflow, wide_or_overflow}, Search.{code_length}, declared.{bitmap.operator.CombinationOperator.TheVariants.{Or}, error.{DecodeError.{DecodeError, TheVariants.{Symbol, Huffman, Overflow}}, SymbolError.TheVariants.{Invalid, UnexpectedOob}, OverflowError.TheVariants.{BitmapDimension}}}}
 use Rattle.jbig2_coder.specs.{PrefixCode.{Member, table_of}, Tables.{uniform}, declared.integer_procedures.IntegerProcedure.TheVariants.{Iaai}}
 use Rattle.jbig2_mmr.specs.T6.{mmr_rows}
 use Rattle.jbig2_region.specs.{Generic.{coding_of}, Raster.{so_far, decoded_region, no_pixels}, Templates.{template_pixels}}

@@ -1,10 +1,58 @@
--- Symbol dictionaries (T.88, 6.5): the header with the coded bytes, the symbols and tables that the dictionary refers to
--- and the contexts that another has kept give the symbols that it exports, and the contexts that it keeps itself.
-use Rattle.std.specs.Prelude.{◌++◌, if◌then◌else◌, List, length, Option, Some, None, Result, Ok}
-use Rattle.jbig2_base.specs.{Answer.{◌>>=◌}, Grid.{Grid}, declared.error.DecodeError.{DecodeError}}
+-- Symbol dictionaries (T.88, 6.5), and the symbols that they export (6.5.10). `symbols_decoded` takes the header with
+-- the coded bytes, the symbols and tables that the dictionary refers to and the contexts that another has kept, and
+-- gives the exported symbols and the contexts that it keeps itself.
+use Rattle.std.specs.Prelude.{◌++◌, if◌then◌else◌, List, length, Option, Some, None, Result, Ok, ℕ, zero, suc, ◌+◌, ◌-◌, ◌%◌, ◌==◌, nat_le, nat_lt, not, ◌&&◌, [], ◌∷◌}
+use Rattle.jbig2_base.specs.{Answer.{◌>>=◌, refuse_if}, Grid.{Grid, bit_number}, declared.error.{DecodeError.{DecodeError, TheVariants.{Huffman, Symbol}}, HuffmanError.TheVariants.{InvalidCode, UnexpectedOob}, SymbolError.TheVariants.{Invalid, NoSymbols, OutOfRange}}}
 use Rattle.jbig2_coder.specs.PrefixCode.{Member}
-use Rattle.jbig2_symbol.specs.{SymbolBitmaps.{id_codes}, Exports.{exports}, HeightClasses.{new_symbols}, SymbolCoding.{classes_by_coder, classes_by_prefix_codes, coder_begun, prefix_codes_begun}, SymbolHeader.{SymbolHeader}, SymbolReading.{BitmapContexts, ClassReadings, SymbolContexts, SymbolInput, SymbolState, first_contexts, learned, symbol_tables}}
+use Rattle.jbig2_symbol.specs.{SymbolBitmaps.{id_codes}, HeightClasses.{new_symbols}, SymbolCoding.{classes_by_coder, classes_by_prefix_codes, coder_begun, prefix_codes_begun}, SymbolHeader.{SymbolHeader}, SymbolReading.{BitmapContexts, ClassReadings, SymbolContexts, SymbolInput, SymbolState, first_contexts, learned, symbol_tables, not_negative}}
+use Rattle.jbig2_text.specs.TextCoding.{in_band}
 
+-- ---- exports (6.5.10): runs of symbols that are left out and that are exported, by turns, over those that the
+-- dictionary refers to and the new ones
+-- how many runs end at symbol i or before it, the first beginning at symbol `from`
+unfoldable pub ended_runs : ℕ → List ℕ → ℕ → ℕ
+ended_runs from [] i = 0
+ended_runs from (r ∷ runs) i = bit_number (nat_le (from + r) i) + ended_runs (from + r) runs i
+
+-- Those of a list, numbered from `from` on, that are exported: runs are by turns of symbols that are not and that are.
+unfoldable pub exported_from : List ℕ → ℕ → List Grid → List Grid
+exported_from runs from [] = []
+exported_from runs from (g ∷ grids) =
+    if ended_runs 0 runs from % 2 == 1 then g ∷ exported_from runs (from + 1) grids else exported_from runs (from + 1) grids
+
+abbrev pub exported : List ℕ → List Grid → List Grid
+exported runs grids = exported_from runs 0 grids
+
+-- A run, where `left` symbols are not covered yet and `empty` runs of length 0 came before, of 2^20 (our own rule).
+unfoldable pub next_run : {S : Type 0} → ClassReadings S → SymbolInput → ℕ → ℕ → S → Result (ℕ × S) DecodeError
+next_run r d empty left s = do
+  value ← r.export_run d s
+  number ← in_band (Huffman UnexpectedOob) value.0
+  run ← not_negative (Huffman InvalidCode) number
+  few ← refuse_if (run == 0 && nat_le 1048576 empty) (Symbol Invalid)
+  within ← refuse_if (nat_lt left run) (Symbol OutOfRange)
+  Ok (run, value.1)
+
+-- The runs, until all symbols are covered. Each covers a symbol or is one of the 2^20 that may be empty, so n of them are
+-- enough where n is at least `left` and the empty ones to come.
+unfoldable pub runs_from : {S : Type 0} → ClassReadings S → SymbolInput → ℕ → ℕ → ℕ → S → Result (List ℕ × S) DecodeError
+runs_from r d zero empty left s = Ok ([], s)
+runs_from r d (suc n) empty left s =
+    if left == 0 then Ok ([], s)
+    else (next_run r d empty left s >>= λ run.
+    runs_from r d n (empty + bit_number (run.0 == 0)) (left - run.0) run.1 >>= λ others. Ok (run.0 ∷ others.0, others.1))
+
+abbrev pub export_runs : {S : Type 0} → ClassReadings S → SymbolInput → ℕ → S → Result (List ℕ × S) DecodeError
+export_runs r d count s = runs_from r d (count + 1048576) 0 count s
+
+-- The exported ones of all symbols that there are; their number is the one that the header states (our own rule).
+unfoldable pub exports : {S : Type 0} → ClassReadings S → SymbolInput → List Grid → S → Result (List Grid × S) DecodeError
+exports r d grids s = do
+  runs ← export_runs r d (length grids) s
+  right ← refuse_if (not (length (exported runs.0 grids) == d.header.num_exported_symbols)) (Symbol NoSymbols)
+  Ok (exported runs.0 grids, runs.1)
+
+-- ---- the dictionary
 pub record Symbols : Type 0 where  -- a dictionary: the symbols that it exports, and the contexts that it keeps
   pub exported : List Grid
   pub kept : Option BitmapContexts

@@ -1,6 +1,6 @@
 //! Refinements of a small bitmap: templates, adaptive pixels, places and typical prediction.
 ghost use Rattle.std.specs.Prelude.{◌≡◌, ◌^◌, length};
-ghost use Rattle.jbig2_region.specs.Refinement.{refinement_bits};
+ghost use Rattle.jbig2_region.specs.RefinementTemplates.{refinement_bits};
 ghost use Rattle.jbig2_region.specs.declared.template.RefinementTemplate.TheVariants.{Template1};
 
 use jbig2_base::bitmap::Bitmap;

@@ -1,11 +1,11 @@
 -- Law: no definition of text regions answers an error that bytes cannot bring about, whatever the numbers are coded by.
-use Rattle.std.proofs.Common.{ℕ, zero, suc, Bool, true, false, List, Option, Some, None, Result, Ok, Err, ℤ, pos, negsuc}
+use Rattle.std.proofs.Common.{ℕ, zero, suc, Bool, true, false, List, Option, Some, None, ℤ, pos, negsuc}
 use Rattle.jbig2_base.specs.Grid.{Grid}
 use Rattle.jbig2_base.specs.declared.error.DecodeError.{DecodeError}
 use Rattle.jbig2_base.proofs.Answered.{Answered, IsAnswered, answered-if, answered-next, answered-refusal}
 use Rattle.jbig2_region.specs.Refinement.{Reference}
 use Rattle.jbig2_text.specs.Refining.{Refining}
-use Rattle.jbig2_text.specs.Text.{Instance, Reached, Readings, TextParams, after_instances, cursor_moved, edge, instance_symbol, moved_by, plain_symbol, refined_outline, refined_symbol, refinement_deltas, side_of, some_symbol, strip_begun, strip_delta, symbol_placed, t_in_strip, text_instances, text_region, with_instance, with_symbol, word_or}
+use Rattle.{jbig2_text.specs.Text.{Instance, Reached, Readings, TextParams, after_instances, cursor_moved, edge, instance_symbol, moved_by, plain_symbol, refined_outline, refined_symbol, refinement_deltas, side_of, some_symbol, strip_begun, strip_delta, symbol_placed, t_in_strip, text_instances, text_region, with_instance, with_symbol}, jbig2_base.specs.Fields.{word_or}}
 use Rattle.jbig2_text.specs.inner.Parts.{s_before, s_behind}
 use Rattle.jbig2_text.specs.declared.text.cursor.Cursor.{Cursor}
 use Rattle.jbig2_text.specs.declared.text.refined.RefinementDeltas.{RefinementDeltas}

@@ -12,8 +12,7 @@ use Rattle.jbig2_base.specs.declared.error.OverflowError.TheVariants.{BitmapDime
 use Rattle.jbig2_base.specs.declared.error.SymbolError.TheVariants.{OutOfRange}
 use Rattle.jbig2_base.proofs.Causes.{cause-next, cause-refused}
 use Rattle.jbig2_coder.specs.Causes.{LeavesWord}
-use Rattle.jbig2_text.specs.Causes.{Behind}
-use Rattle.jbig2_text.specs.CausesOfText.{APlaceLeaves, ARefinementIsRefused, BreaksInstance, ReadingsHaveCauses, IsNoSide, NamesNone, ReadingCauses}
+use Rattle.jbig2_text.specs.Causes.{Behind, APlaceLeaves, ARefinementIsRefused, BreaksInstance, ReadingsHaveCauses, IsNoSide, NamesNone, ReadingCauses}
 use Rattle.jbig2_text.specs.Refining.{Refining}
 use Rattle.jbig2_text.specs.Text.{Instance, Reached, Readings, TextParams, coordinate, edge, grown, instance_symbol, is_bottom, is_last_along_s, is_right, plain_symbol, reference_offset, refined_outline, refined_symbol, refinement_deltas, side_of, some_symbol, symbol_of, symbol_placed, t_in_strip, with_instance, with_symbol}
 use Rattle.jbig2_text.specs.declared.text.cursor.Cursor.{Cursor}

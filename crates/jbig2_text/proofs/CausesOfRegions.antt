@@ -1,7 +1,7 @@
 -- Which rule the input breaks where a text region is refused.
 use Rattle.std.proofs.Common.{◌≡◌, ◌⊎◌, inl, inr, ⊎_elim, ℕ, zero, suc, ◌+◌, ◌-◌, ◌*◌, ◌<◌, eqb, ltb, Bool, true, false, ◌||◌, List, [], ◌∷◌, length, Option, Some, None, Result, Ok, Err, refl, sym, ◌∙◌, ap, subst, arith, ℤ, pos, negsuc}
 use Rattle.std.specs.Prelude.{IfErr, ◌-ℤ◌}
-use Rattle.std.proofs.lemmas.Bool.{cond-false, cond-true, eqb-false, eqb-true, lt-ltb, ltb-true, or_cases}
+use Rattle.std.proofs.lemmas.Bool.{cond-true, eqb-false, eqb-true, lt-ltb, ltb-true, or_cases}
 use Rattle.jbig2_base.specs.Answer.{◌>>=◌, refuse_if}
 use Rattle.jbig2_base.specs.Bits.{Place, aligned, bits_left}
 use Rattle.jbig2_base.specs.Fields.{bytes_at, end_of_bytes}
@@ -13,14 +13,12 @@ use Rattle.jbig2_base.specs.declared.error.OverflowError.TheVariants.{BitmapDime
 use Rattle.jbig2_base.specs.declared.error.SymbolError.TheVariants.{TooManyInstances, UnexpectedOob}
 use Rattle.jbig2_base.proofs.Causes.{cause-bytes, cause-next, cause-refused}
 use Rattle.jbig2_coder.specs.PrefixCode.{Member, decoded_value}
-use Rattle.jbig2_coder.specs.TableSelection.{next_custom}
+use Rattle.jbig2_coder.specs.Tables.{next_custom}
 use Rattle.jbig2_coder.specs.declared.integer_procedures.IntegerProcedure.{IntegerProcedure}
 use Rattle.jbig2_coder.specs.declared.integer_procedures.IntegerProcedure.TheVariants.{Iari}
 use Rattle.jbig2_region.specs.Refinement.{Reference}
 use Rattle.jbig2_text.specs.SymbolCodes.{invalid_code, value_at}
-use Rattle.jbig2_text.specs.Causes.{Behind, RefusesNumber}
-use Rattle.jbig2_text.specs.CausesOfRegions.{BreaksRegionBy, BreaksTextRegion, BreaksTextTables, HasNoMeaning, IsOutOfBand, LacksBytes, RefusesValue, coder_causes, customs_if, prefix_causes}
-use Rattle.jbig2_text.specs.CausesOfText.{BreaksInstance, BreaksInstances, BreaksStrip, ReadingsHaveCauses, ReadingCauses}
+use Rattle.jbig2_text.specs.Causes.{Behind, RefusesNumber, BreaksInstance, BreaksInstances, BreaksStrip, ReadingsHaveCauses, ReadingCauses, BreaksRegionBy, BreaksTextRegion, BreaksTextTables, HasNoMeaning, IsOutOfBand, LacksBytes, RefusesValue, coder_causes, customs_if, prefix_causes}
 use Rattle.jbig2_text.specs.Refining.{Refining}
 use Rattle.jbig2_text.specs.Text.{Reached, Readings, TextParams, after_instances, coordinate, cursor_moved, strip_begun, strip_delta, text_instances, text_region, with_instance}
 use Rattle.jbig2_text.specs.declared.text.cursor.Cursor.{Cursor}

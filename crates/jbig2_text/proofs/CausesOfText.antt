@@ -7,9 +7,8 @@ use Rattle.jbig2_base.specs.declared.error.DecodeError.TheVariants.{Symbol}
 use Rattle.jbig2_base.specs.declared.error.SymbolError.TheVariants.{InvalidStripDelta}
 use Rattle.jbig2_base.proofs.Causes.{cause-next}
 use Rattle.jbig2_coder.specs.Causes.{LeavesWord}
-use Rattle.jbig2_text.specs.Causes.{Behind}
-use Rattle.jbig2_text.specs.CausesOfText.{BreaksMoveBy, BreaksStrip, ReadingsHaveCauses, ReadingCauses}
-use Rattle.jbig2_text.specs.Text.{Readings, coordinate, cursor_moved, moved_by, strip_begun, strip_delta, word_or}
+use Rattle.jbig2_text.specs.Causes.{Behind, BreaksMoveBy, BreaksStrip, ReadingsHaveCauses, ReadingCauses}
+use Rattle.{jbig2_text.specs.Text.{Readings, coordinate, cursor_moved, moved_by, strip_begun, strip_delta}, jbig2_base.specs.Fields.{word_or}}
 use Rattle.jbig2_text.specs.declared.text.cursor.Cursor.{Cursor}
 use Rattle.jbig2_text.specs.declared.text.header.TextRegionFlags.{TextRegionFlags}
 use Rattle.jbig2_region.proofs.Told.{Told, cause-last, cause-more, told-if}

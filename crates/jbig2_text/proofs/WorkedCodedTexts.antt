@@ -6,16 +6,13 @@ use Rattle.jbig2_base.specs.Grid.{table, pixel_at}
 use Rattle.jbig2_base.specs.declared.bitmap.operator.CombinationOperator.TheVariants.{Or}
 use Rattle.jbig2_base.specs.declared.error.DecodeError.{DecodeError}
 use Rattle.jbig2_coder.specs.Coder.{byte_at, byte_in, filled, doubled, renormed, initial_registers, likely_next, unlikely_next, choice, decision}
-use Rattle.jbig2_coder.specs.Encoder.{opened, plain, stuffed, byte_out, shifted, renormed as encoder_renormed, narrowed_likely, narrowed_unlikely, narrowed, encoding, set_bits, flushed, is_full, closed}
-use Rattle.jbig2_coder.specs.Integers.{integer, value_of_bits, next, read, read_more, ranges, are_next, next_range, signed, value_of, id}
-use Rattle.jbig2_coder.specs.Lists.{with_context, encode_from, encoded}
-use Rattle.jbig2_coder.specs.Procedures.{asked}
+use Rattle.jbig2_coder.specs.Encoder.{opened, plain, stuffed, byte_out, shifted, renormed as encoder_renormed, narrowed_likely, narrowed_unlikely, narrowed, encoding, set_bits, flushed, is_full, closed, with_context, encode_from, encoded}
+use Rattle.jbig2_coder.specs.Integers.{integer, value_of_bits, next, read, read_more, ranges, are_next, next_range, signed, value_of, id, asked}
 use Rattle.jbig2_coder.specs.Table.{rows, row_of}
-use Rattle.jbig2_region.specs.Generic.{PlacedRegion}
+use Rattle.jbig2_region.specs.RegionInfo.{PlacedRegion, region_info_at}
 use Rattle.jbig2_region.specs.Raster.{so_far, with_next, after_pixel, row_begun, at_next, first_pixels, decoded_region}
 use Rattle.jbig2_region.specs.Refinement.{refined_context}
-use Rattle.jbig2_region.specs.RefinementHeader.{refinement_pixels_at}
-use Rattle.jbig2_region.specs.RegionInfo.{region_info_at}
+use Rattle.jbig2_region.specs.RefinementTemplates.{refinement_pixels_at}
 use Rattle.jbig2_base.specs.Search.{least}
 use Rattle.jbig2_text.specs.Text.{strip_delta, strip_begun, cursor_moved, instance_symbol, refined_symbol, refinement_deltas, refined_outline, symbol_placed, with_instance, after_instances, text_instances, text_region}
 use Rattle.jbig2_text.specs.Refining.{refined_by}

@@ -14,11 +14,10 @@ use Rattle.jbig2_coder.specs.Table.{rows, row_of}
 use Rattle.jbig2_base.specs.Search.{least}
 use Rattle.jbig2_coder.specs.PrefixCode.{prefix_code, is_crowded, weight, shorter, read_code, decoded_value}
 use Rattle.jbig2_coder.specs.Tables.{lines_a, lines_n, lines_f, lines_h, lines_k}
-use Rattle.jbig2_region.specs.Generic.{PlacedRegion}
+use Rattle.jbig2_region.specs.RegionInfo.{PlacedRegion, region_info_at}
 use Rattle.jbig2_region.specs.Raster.{so_far, with_next, after_pixel, row_begun, at_next, first_pixels, decoded_region}
 use Rattle.jbig2_region.specs.Refinement.{refined_context}
-use Rattle.jbig2_region.specs.RefinementHeader.{refinement_pixels_at}
-use Rattle.jbig2_region.specs.RegionInfo.{region_info_at}
+use Rattle.jbig2_region.specs.RefinementTemplates.{refinement_pixels_at}
 use Rattle.jbig2_text.specs.SymbolCodes.{runcodes_at, symbol_lengths_at, short_lengths, runs_at, symbol_codes_from}
 use Rattle.jbig2_text.specs.Text.{strip_delta, strip_begun, cursor_moved, instance_symbol, refined_symbol, refinement_deltas, refined_outline, symbol_placed, with_instance, after_instances, text_instances, text_region}
 use Rattle.jbig2_text.specs.Refining.{refined_by}

@@ -1,9 +1,12 @@
--- Which rule the input breaks where the header of a text region is refused (docs/FORMAT.md), a line for each error. A
--- predicate `Breaks..` takes the bytes, or a place in them, and an error; its law ties the definition's errors to it.
-use Rattle.std.specs.{Prelude.{◌≡◌, ◌<◌, ◌⊎◌, ℕ, ◌+◌, ◌/◌, ◌%◌, ◌==◌, Bool, ◌&&◌, if◌then◌else◌, List, [], length, drop, Result, Ok, Err, IfErr, ℤ, pos, negsuc}, Int.{w8, w16}}
-use Rattle.jbig2_base.specs.{Answer.{◌>>=◌}, Bits.{Place, bits_left, start_of}, Causes.{number_in}, declared.error.{DecodeError.{DecodeError, TheVariants.{Huffman, Parse, Region, Unsupported}}, HuffmanError.TheVariants.{InvalidCode}, ParseError.TheVariants.{UnexpectedEof}, RegionError.TheVariants.{InvalidCombinationOperator}}}
-use Rattle.jbig2_coder.specs.{Causes.{AreCrowded}, PrefixCode.{Member, decoded_value, no_oob}}
-use Rattle.jbig2_text.specs.{SymbolCodes.{lines_from, runcodes_at, runs_at, short_lengths, symbol_codes_from, value_at}, TextHeader.{text_header_at}}
+-- Which rule the input breaks where a text region is refused (docs/FORMAT.md): in its header, at its instances,
+-- whatever the numbers are coded by, in its tables, and in its numbers as they are coded. `Breaks..` takes what is
+-- read and an error, and its law ties the definition's errors to it. What is refused at an instance is refused behind
+-- those before it, which are read.
+use Rattle.std.specs.{Prelude.{◌≡◌, ◌<◌, ◌⊎◌, ℕ, ◌+◌, ◌/◌, ◌%◌, ◌==◌, Bool, ◌&&◌, if◌then◌else◌, List, [], length, drop, Result, Ok, Err, IfErr, ℤ, pos, negsuc, ◌≤◌, ◌-◌, ◌*◌, ◌^◌, true, false, ◌+ℤ◌, ◌-ℤ◌, ◌*ℤ◌, Option, Some, None, ◌≢◌, nat_lt}, Int.{w8, w16, int_shr}}
+use Rattle.jbig2_base.specs.{Bits.{Place, bits_left, start_of, aligned}, Causes.{number_in, BreaksSides}, declared.error.{DecodeError.{DecodeError, TheVariants.{Huffman, Parse, Region, Unsupported, Overflow, Symbol}}, HuffmanError.TheVariants.{InvalidCode, InvalidSelection, MissingTables}, ParseError.TheVariants.{UnexpectedEof}, RegionError.TheVariants.{InvalidCombinationOperator}, OverflowError.TheVariants.{BitmapDimension, PlacementCoordinate, ReferenceOffset}, SymbolError.TheVariants.{InvalidStripDelta, OutOfRange, TooManyInstances, UnexpectedOob}}, Grid.{Grid}}
+use Rattle.jbig2_coder.specs.{Causes.{AreCrowded, LeavesWord}, PrefixCode.{Member, decoded_value, no_oob}, declared.integer_procedures.IntegerProcedure.{IntegerProcedure, TheVariants.{Iadt, Iafs, Iait, Iardh, Iardw, Iardx, Iardy, Iari}}}
+use Rattle.jbig2_text.specs.{SymbolCodes.{lines_from, runcodes_at, runs_at, short_lengths, value_at}, TextHeader.{ArithmeticCoding, HuffmanCoding, NumberCoding, TextHeader}, Refining.{Refining}, Text.{Reached, Readings, TextParams, after_instances, instance_symbol, is_bottom, is_last_along_s, is_right, refinement_deltas, strip_begun, strip_delta, symbol_of, t_in_strip, with_instance}, declared.text.{cursor.Cursor.{Cursor}, header.{TextRegionFlags.{TextRegionFlags}, TextRegionHuffmanFlags.{TextRegionHuffmanFlags}}}, TextCoding.{Coded, Prefixed, by_coder, by_prefix_codes, next_integer}, TextRegion.{coder_of, prefix_codes_of, refining_of, text_params}}
+use Rattle.jbig2_region.specs.Refinement.{Reference}
 
 -- this is answered, and of the answer it holds
 abbrev pub Behind : {A : Type 0} → Result A DecodeError → (A → Type 0) → Type 0
@@ -54,3 +57,208 @@ BreaksTextHeader symbols bytes e =
     ⊎ ((e ≡ Region InvalidCombinationOperator) × (4 < number_in w8 16 bytes % 8))
     ⊎ ((e ≡ Unsupported) × (number_in w8 16 bytes / 8 % 2 ≡ 1))
     ⊎ ((number_in w16 17 bytes % 2 ≡ 1) × BreaksSymbolCodes symbols (start_of (drop (fields_length bytes) bytes)) e)
+
+-- why each reading of a coding is refused, at a state of the coder
+pub record ReadingCauses (S : Type 0) : Type 1 where
+  pub delta_t : S → DecodeError → Type 0
+  pub first_s : S → DecodeError → Type 0
+  pub delta_s : S → DecodeError → Type 0
+  pub t_bits : ℕ → S → DecodeError → Type 0
+  pub id : S → DecodeError → Type 0
+  pub is_refined : S → DecodeError → Type 0
+  pub width_delta : S → DecodeError → Type 0
+  pub height_delta : S → DecodeError → Type 0
+  pub x_delta : S → DecodeError → Type 0
+  pub y_delta : S → DecodeError → Type 0
+  pub refined : S → DecodeError → Type 0
+
+pub record ReadingsHaveCauses {S : Type 0} (r : Readings S) (c : ReadingCauses S) : Type 0 where
+  pub delta_t : (s : S) → IfErr (r.delta_t s) (c.delta_t s)
+  pub first_s : (s : S) → IfErr (r.first_s s) (c.first_s s)
+  pub delta_s : (s : S) → IfErr (r.delta_s s) (c.delta_s s)
+  pub t_bits : (log : ℕ) (s : S) → IfErr (r.t_bits log s) (c.t_bits log s)
+  pub id : (s : S) → IfErr (r.id s) (c.id s)
+  pub is_refined : (s : S) → IfErr (r.is_refined s) (c.is_refined s)
+  pub width_delta : (s : S) → IfErr (r.width_delta s) (c.width_delta s)
+  pub height_delta : (s : S) → IfErr (r.height_delta s) (c.height_delta s)
+  pub x_delta : (s : S) → IfErr (r.x_delta s) (c.x_delta s)
+  pub y_delta : (s : S) → IfErr (r.y_delta s) (c.y_delta s)
+  pub refined : (from : Reference) (width height : ℕ) (f : Refining) (s : S) → IfErr (r.refined from width height f s) (c.refined s)
+
+abbrev pub IsNoSide : ℤ → Type 0  -- no side of a symbol: it is negative, or above 65535
+IsNoSide (pos n) = 65535 < n
+IsNoSide (negsuc n) = Unit {0}
+
+abbrev pub NamesNone : List Grid → ℤ → Type 0  -- an id that is not below the number of the symbols
+NamesNone symbols (pos id) = length symbols ≤ id
+NamesNone symbols (negsuc id) = Unit {0}
+
+-- ---- strips (6.4.5, step 3)
+-- delta T times the strip size leaves 32 bits, or STRIPT and DT, or FIRSTS and DFS together; or a number is refused
+abbrev pub BreaksStrip : {S : Type 0} → ReadingCauses S → Readings S → TextRegionFlags → ℤ → ℤ → S → DecodeError → Type 0
+BreaksStrip c r flags stript firsts s e =
+    ((e ≡ Symbol InvalidStripDelta) × Behind (r.delta_t s) (λ strips. LeavesWord (strips.0 *ℤ pos (2 ^ flags.log_strip_size))))
+    ⊎ ((e ≡ Overflow PlacementCoordinate) × Behind (strip_delta r flags s) (λ dt.
+    LeavesWord (stript +ℤ dt.0) ⊎ Behind (r.first_s dt.1) (λ dfs. LeavesWord (firsts +ℤ dfs.0))))
+    ⊎ c.delta_t s e
+    ⊎ Behind (strip_delta r flags s) (λ dt. c.first_s dt.1 e)
+
+-- the way behind IDS: to the next strip, or in this one, where CURS leaves 32 bits by IDS or by SBDSOFFSET
+abbrev pub BreaksMoveBy : {S : Type 0} → ReadingCauses S → Readings S → TextRegionFlags → Cursor → Option ℤ → S → DecodeError → Type 0
+BreaksMoveBy c r flags at None s e = BreaksStrip c r flags at.strip_t at.first_s s e
+BreaksMoveBy c r flags at (Some ids) s e =
+    (e ≡ Overflow PlacementCoordinate) × (LeavesWord (at.cur_s +ℤ ids) ⊎ LeavesWord (at.cur_s +ℤ ids +ℤ flags.delta_s_offset))
+
+-- ---- an instance (6.4.5, step 3 c)
+-- its id, and the state behind it
+abbrev pub AtId : {S : Type 0} → Readings S → TextParams → Reached S → (ℤ → S → Type 0) → Type 0
+AtId r p x Q = Behind (t_in_strip r p.flags x.state) (λ t. Behind (r.id t.1) (λ id. Q id.0 id.1))
+
+-- it is refined: the symbol of its id, and the state in front of the numbers of its refinement
+abbrev pub AtRefined : {S : Type 0} → Readings S → TextParams → Reached S → (Grid → S → Type 0) → Type 0
+AtRefined r p x Q =
+    AtId r p x (λ id s. Behind (if p.flags.use_refinement then r.is_refined s else Ok (false, s)) (λ ri.
+    (ri.0 ≡ true) × ((from : Grid) × (symbol_of p.symbols id ≡ Some from) × Q from ri.1)))
+
+-- a symbol's other end, its first column or its first row leaves 32 bits
+abbrev pub APlaceLeaves : TextRegionFlags → Grid → ℤ → ℤ → Type 0
+APlaceLeaves flags g curs ti =
+    let other_end : ℤ = curs +ℤ (pos (if flags.transposed then g.height else g.width) -ℤ pos 1) in
+    let si : ℤ = if is_last_along_s flags then other_end else curs in
+    LeavesWord other_end
+    ⊎ ((is_right flags.reference_corner ≡ true) × LeavesWord ((if flags.transposed then ti else si) -ℤ (pos g.width -ℤ pos 1)))
+    ⊎ ((is_bottom flags.reference_corner ≡ true) × LeavesWord ((if flags.transposed then si else ti) -ℤ (pos g.height -ℤ pos 1)))
+
+-- one of the four numbers of a refinement is refused, or the symbol's bits behind them
+abbrev pub ARefinementIsRefused : {S : Type 0} → ReadingCauses S → Readings S → S → DecodeError → Type 0
+ARefinementIsRefused c r s e =
+    c.width_delta s e
+    ⊎ Behind (r.width_delta s) (λ w. c.height_delta w.1 e
+    ⊎ Behind (r.height_delta w.1) (λ h. c.x_delta h.1 e
+    ⊎ Behind (r.x_delta h.1) (λ x. c.y_delta x.1 e)))
+    ⊎ Behind (refinement_deltas r s) (λ rd. c.refined rd.1 e)
+
+-- Its id has no symbol; a side of a refined symbol, its place or TI leaves its range; or a number is refused.
+abbrev pub BreaksInstance : {S : Type 0} → ReadingCauses S → Readings S → TextParams → Reached S → DecodeError → Type 0
+BreaksInstance c r p x e =
+    ((e ≡ Symbol OutOfRange) × AtId r p x (λ id s. NamesNone p.symbols id))
+    ⊎ ((e ≡ Overflow BitmapDimension) × AtRefined r p x (λ from s. Behind (refinement_deltas r s) (λ rd.
+    IsNoSide (pos from.width +ℤ rd.0.width) ⊎ IsNoSide (pos from.height +ℤ rd.0.height))))
+    ⊎ ((e ≡ Overflow ReferenceOffset) × AtRefined r p x (λ from s. Behind (refinement_deltas r s) (λ rd.
+    LeavesWord (int_shr rd.0.width 1 +ℤ rd.0.x) ⊎ LeavesWord (int_shr rd.0.height 1 +ℤ rd.0.y))))
+    ⊎ ((e ≡ Overflow PlacementCoordinate) × Behind (t_in_strip r p.flags x.state) (λ t.
+    LeavesWord (x.cursor.strip_t +ℤ t.0)
+    ⊎ Behind (r.id t.1) (λ id. Behind (instance_symbol r p id.0 x.refining id.1) (λ ib.
+    (g : Grid) × (ib.0 ≡ Some g) × APlaceLeaves p.flags g x.cursor.cur_s (x.cursor.strip_t +ℤ t.0)))))
+    ⊎ c.t_bits p.flags.log_strip_size x.state e
+    ⊎ Behind (t_in_strip r p.flags x.state) (λ t. c.id t.1 e)
+    ⊎ AtId r p x (λ id s. c.is_refined s e)
+    ⊎ AtRefined r p x (λ from s. ARefinementIsRefused c r s e)
+
+-- ---- all instances
+-- instance k, behind those before it; STRIPT begins at the negative of the first delta T
+abbrev pub AtInstance : {S : Type 0} → Readings S → TextParams → Refining → S → ℕ → (Reached S → Type 0) → Type 0
+AtInstance r p f s k Q =
+    Behind (strip_delta r p.flags s) (λ dt. Behind (strip_begun r p.flags (pos 0 -ℤ dt.0) (pos 0) dt.1) (λ c.
+    Behind (after_instances r p k (record { instances = []; cursor = c.0; refining = f; state = c.1 })) Q))
+
+-- the state behind the last instance, in strict mode
+abbrev pub AtEnd : {S : Type 0} → Readings S → TextParams → Refining → S → (S → Type 0) → Type 0
+AtEnd r p f s Q = (p.strict ≡ true) × AtInstance r p f s (p.count - 1) (λ x. Behind (with_instance r p x) (λ last. Q last.state))
+
+-- More instances than 32 for each byte, or in strict mode a further one behind the last; the first delta T or its negative
+-- leaves 32 bits; or the first delta T, the first strip, an instance, the way to the next one or the last delta S breaks.
+abbrev pub BreaksInstances : {S : Type 0} → ReadingCauses S → Readings S → TextParams → Refining → S → DecodeError → Type 0
+BreaksInstances c r p f s e =
+    ((e ≡ Symbol TooManyInstances) × ((32 * p.data_length < p.count)
+    ⊎ AtEnd r p f s (λ u. Behind (r.delta_s u) (λ ids. (n : ℤ) × (ids ≡ Some n)))))
+    ⊎ ((e ≡ Symbol InvalidStripDelta) × Behind (r.delta_t s) (λ strips. LeavesWord (strips.0 *ℤ pos (2 ^ p.flags.log_strip_size))))
+    ⊎ ((e ≡ Overflow PlacementCoordinate) × Behind (strip_delta r p.flags s) (λ dt. LeavesWord (pos 0 -ℤ dt.0)))
+    ⊎ c.delta_t s e
+    ⊎ Behind (strip_delta r p.flags s) (λ dt. BreaksStrip c r p.flags (pos 0 -ℤ dt.0) (pos 0) dt.1 e)
+    ⊎ ((k : ℕ) × (k < p.count) × AtInstance r p f s k (λ x. BreaksInstance c r p x e
+    ⊎ Behind (with_instance r p x) (λ y. c.delta_s y.state e
+    ⊎ Behind (r.delta_s y.state) (λ ids. BreaksMoveBy c r p.flags y.cursor ids (r.behind_delta_s y.state) e))))
+    ⊎ AtEnd r p f s (λ u. c.delta_s u e)
+
+-- ---- tables (7.4.3.1.6)
+-- a choice among two tables of the standard, which are 0 and 1, and a custom one, which is 3
+abbrev pub HasNoMeaning : ℕ → Type 0
+HasNoMeaning n = (2 ≤ n) × (n ≢ 3)
+
+abbrev pub customs_if : Bool → ℕ  -- how many custom tables a choice takes
+customs_if is_custom = if is_custom then 1 else 0
+
+abbrev pub BreaksTextTables : TextRegionHuffmanFlags → List (List Member) → DecodeError → Type 0
+BreaksTextTables flags customs e =
+    ((e ≡ Huffman InvalidSelection) × (HasNoMeaning flags.first_s_table ⊎ HasNoMeaning flags.refinement_width_table
+    ⊎ HasNoMeaning flags.refinement_height_table ⊎ HasNoMeaning flags.refinement_x_table ⊎ HasNoMeaning flags.refinement_y_table))
+    ⊎ ((e ≡ Huffman MissingTables) × (length customs
+    < customs_if (flags.first_s_table == 3) + customs_if (nat_lt 2 flags.delta_s_table) + customs_if (nat_lt 2 flags.delta_t_table)
+    + customs_if (flags.refinement_width_table == 3) + customs_if (flags.refinement_height_table == 3)
+    + customs_if (flags.refinement_x_table == 3) + customs_if (flags.refinement_y_table == 3)
+    + customs_if (nat_lt 0 flags.refinement_size_table)))
+
+-- ---- the arithmetic coder
+-- the next integer is out of band
+abbrev pub IsOutOfBand : IntegerProcedure → Coded → DecodeError → Type 0
+IsOutOfBand procedure s e = (e ≡ Symbol UnexpectedOob) × ((next_integer procedure s).0 ≡ None)
+
+abbrev pub coder_causes : ReadingCauses Coded
+coder_causes = record {
+  delta_t = IsOutOfBand Iadt;
+  first_s = IsOutOfBand Iafs;
+  delta_s = λ s e. ⊥;
+  t_bits = λ log. IsOutOfBand Iait;
+  id = λ s e. ⊥;
+  is_refined = IsOutOfBand Iari;
+  width_delta = IsOutOfBand Iardw;
+  height_delta = IsOutOfBand Iardh;
+  x_delta = IsOutOfBand Iardx;
+  y_delta = IsOutOfBand Iardy;
+  refined = λ s e. ⊥;
+}
+
+-- ---- prefix codes
+-- what a table refuses at the front of these bits, where a number or out of band has to stand
+abbrev pub RefusesValue : List Member → List ℕ → DecodeError → Type 0
+RefusesValue table bits e = (decoded_value table bits).answer ≡ Err e
+
+abbrev pub LacksBits : DecodeError → ℕ → Prefixed → DecodeError → Type 0  -- with this error, fewer bits are left
+LacksBits error count s e = (e ≡ error) × (length (bits_left s.place) < count)
+
+-- fewer bytes are left, from the next whole one on, than the size says; or it is negative
+abbrev pub LacksBytes : ℤ → Place → DecodeError → Type 0
+LacksBytes (pos size) p e = (e ≡ Parse UnexpectedEof) × (length (aligned p).bytes < size)
+LacksBytes (negsuc size) p e = e ≡ Parse UnexpectedEof
+
+-- of a refined symbol, the size of its bytes is refused, or they are missing
+abbrev pub prefix_causes : ReadingCauses Prefixed
+prefix_causes = record {
+  delta_t = λ s. RefusesNumber s.tables.delta_t s.place;
+  first_s = λ s. RefusesNumber s.tables.first_s s.place;
+  delta_s = λ s. RefusesValue s.tables.delta_s (bits_left s.place);
+  t_bits = LacksBits (Huffman InvalidCode);
+  id = λ s. RefusesNumber s.ids s.place;
+  is_refined = LacksBits (Parse UnexpectedEof) 1;
+  width_delta = λ s. RefusesNumber s.tables.refinement_width s.place;
+  height_delta = λ s. RefusesNumber s.tables.refinement_height s.place;
+  x_delta = λ s. RefusesNumber s.tables.refinement_x s.place;
+  y_delta = λ s. RefusesNumber s.tables.refinement_y s.place;
+  refined = λ s e.
+      RefusesNumber s.tables.refinement_size s.place e
+      ⊎ Behind (value_at s.tables.refinement_size s.place) (λ size. LacksBytes size.0 size.1 e);
+}
+
+-- ---- a region
+abbrev pub BreaksRegionBy : TextHeader → NumberCoding → List Grid → List (List Member) → DecodeError → Type 0
+BreaksRegionBy h ArithmeticCoding symbols customs e =
+    BreaksInstances coder_causes by_coder (text_params h symbols) (refining_of h) (coder_of h symbols) e
+BreaksRegionBy h (HuffmanCoding numbers ids) symbols customs e =
+    BreaksTextTables numbers customs e
+    ⊎ Behind (prefix_codes_of h numbers ids customs) (λ s.
+    BreaksInstances prefix_causes by_prefix_codes (text_params h symbols) (refining_of h) s e)
+
+abbrev pub BreaksTextRegion : TextHeader → List Grid → List (List Member) → DecodeError → Type 0
+BreaksTextRegion h symbols customs e =
+    BreaksSides h.region_info.width h.region_info.height e ⊎ BreaksRegionBy h h.coding symbols customs e

@@ -1,6 +1,4 @@
 pub mod Causes
-pub mod CausesOfRegions
-pub mod CausesOfText
 pub mod Refining
 pub mod SymbolCodes
 pub mod Text

@@ -1,20 +1,15 @@
 -- Symbols that are refined from others (T.88, 6.4.11): by the refinement template and the contexts of a region or a
 -- dictionary, which go on from symbol to symbol. Whoever reads lends them.
-use Rattle.std.specs.Prelude.{ℕ, false, List, [], take, Option, Some, None}
+use Rattle.std.specs.Prelude.{ℕ, false, List}
 use Rattle.jbig2_base.specs.Grid.{Grid}
 use Rattle.jbig2_coder.specs.Coder.{Coder, Context, Registers}
-use Rattle.jbig2_region.specs.{Raster.{Region, no_pixels, fresh_contexts, so_far, decoded_region}, Refinement.{Reference, refinement_bits, refinement_coding}, declared.template.{AdaptiveTemplatePixel.{AdaptiveTemplatePixel}, RefinementTemplate.{RefinementTemplate}}}
+use Rattle.jbig2_region.specs.{Raster.{Region, no_pixels, so_far, decoded_region}, Refinement.{Reference, refinement_coding}, declared.template.{AdaptiveTemplatePixel.{AdaptiveTemplatePixel}, RefinementTemplate.{RefinementTemplate}}}
 
 -- How symbols are refined (SBRTEMPLATE, SBRAT), and what the contexts have learned.
 pub record Refining : Type 0 where
   pub template : RefinementTemplate
   pub pixels : List AdaptiveTemplatePixel
   pub contexts : List Context
-
--- the code's two adaptive pixels, where there are any
-abbrev pub some_pixels : Option (List AdaptiveTemplatePixel) → List AdaptiveTemplatePixel
-some_pixels None = []
-some_pixels (Some a) = take 2 a
 
 -- a symbol of this width and height, refined by a coder over these bytes (Table 12)
 unfoldable pub refined_by : Refining → Reference → ℕ → ℕ → List ℕ → Registers → Region

@@ -1,7 +1,7 @@
 -- Text regions (T.88, 6.4): instances of symbols, whose numbers are read one behind the other; then the instances are
 -- drawn. Every coordinate is a signed number of 32 bits, else it is refused (our own rule).
 use Rattle.std.specs.{Prelude.{ℕ, zero, suc, ◌-◌, ◌*◌, ◌^◌, nat_le, nat_lt, ◌==◌, Bool, true, false, ◌||◌, if◌then◌else◌, ℤ, pos, negsuc, ◌+ℤ◌, ◌-ℤ◌, ◌*ℤ◌, List, [], ◌∷◌, ◌++◌, slice_get, Option, Some, None, Result, Ok, Err}, Int.{int_shr}, Option.{is_some}}
-use Rattle.jbig2_base.specs.{Answer.{◌>>=◌, refuse_if, some_or}, Combination.{combined}, Grid.{Grid}, declared.{bitmap.operator.CombinationOperator.{CombinationOperator}, error.{DecodeError.{DecodeError, TheVariants.{Overflow, Symbol}}, OverflowError.TheVariants.{BitmapDimension, PlacementCoordinate, ReferenceOffset}, SymbolError.TheVariants.{InvalidStripDelta, OutOfRange, TooManyInstances}}}}
+use Rattle.jbig2_base.specs.{Answer.{◌>>=◌, refuse_if, some_or}, Combination.{combined}, Grid.{Grid}, declared.{bitmap.operator.CombinationOperator.{CombinationOperator}, error.{DecodeError.{DecodeError, TheVariants.{Overflow, Symbol}}, OverflowError.TheVariants.{BitmapDimension, PlacementCoordinate, ReferenceOffset}, SymbolError.TheVariants.{InvalidStripDelta, OutOfRange, TooManyInstances}}}, Fields.{word_or}}
 use Rattle.jbig2_region.specs.Refinement.{Reference}
 use Rattle.jbig2_text.specs.{Refining.{Refining}, declared.text.{cursor.Cursor.{Cursor}, header.{ReferenceCorner.{ReferenceCorner, TheVariants.{BottomLeft, BottomRight, TopRight}}, TextRegionFlags.{TextRegionFlags}}, refined.{Outline.{Outline}, RefinementDeltas.{RefinementDeltas}}}}
 
@@ -41,10 +41,6 @@ pub record Reached (S : Type 0) : Type 0 where
   pub cursor : Cursor
   pub refining : Refining
   pub state : S
-
-abbrev pub word_or : DecodeError → ℤ → Result ℤ DecodeError  -- a number in signed 32 bits, or the error
-word_or e (pos n) = if nat_lt n 2147483648 then Ok (pos n) else Err e
-word_or e (negsuc n) = if nat_lt n 2147483648 then Ok (negsuc n) else Err e
 
 abbrev pub coordinate : ℤ → Result ℤ DecodeError
 coordinate n = word_or (Overflow PlacementCoordinate) n

@@ -1,8 +1,8 @@
 -- The two ways in which the numbers of a text region are coded (T.88, 6.4.6 to 6.4.11): by the arithmetic coder with
 -- its integer procedures, and by prefix codes. Symbol dictionaries read by the same states.
-use Rattle.std.specs.Prelude.{ℕ, ◌%◌, ◌^◌, ◌==◌, Bool, not, ℤ, pos, negsuc, nat_abs, List, Option, Some, None, Result, Ok, Err, replicate}
+use Rattle.std.specs.Prelude.{ℕ, ◌%◌, ◌^◌, ◌==◌, not, ℤ, pos, negsuc, nat_abs, List, Option, Result, Ok, Err, replicate}
 use Rattle.jbig2_base.specs.{Answer.{◌>>=◌, some_or}, Bits.{Place, aligned, bits_left, bits_on, start_of}, Fields.{bits_at, bytes_at, end_of_bytes}, Grid.{Grid}, declared.error.{DecodeError.{DecodeError, TheVariants.{Symbol}}, SymbolError.TheVariants.{UnexpectedOob}}}
-use Rattle.jbig2_coder.specs.{Coder.{Coder, fresh, initial_registers}, Integers.{Ids, id, value_of_bits}, PrefixCode.{Member, decoded_value}, Procedures.{Procedures, asked, fresh_procedures}, declared.integer_procedures.IntegerProcedure.{IntegerProcedure, TheVariants.{Iads, Iadt, Iafs, Iait, Iardh, Iardw, Iardx, Iardy, Iari}}}
+use Rattle.jbig2_coder.specs.{Coder.{Coder, fresh, initial_registers}, Integers.{Ids, id, value_of_bits, Procedures, asked, fresh_procedures}, PrefixCode.{Member, decoded_value}, declared.integer_procedures.IntegerProcedure.{IntegerProcedure, TheVariants.{Iads, Iadt, Iafs, Iait, Iardh, Iardw, Iardx, Iardy, Iari}}}
 use Rattle.jbig2_region.specs.Refinement.{Reference}
 use Rattle.jbig2_text.specs.{Refining.{Refining, refined_with}, SymbolCodes.{invalid_code, value_at}, Text.{Readings}}
 

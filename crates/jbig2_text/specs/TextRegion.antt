@@ -1,9 +1,9 @@
--- A text region segment (T.88, 7.4.3): the header with the coded bytes, the symbols and the custom tables that it refers
--- to give the region's grid at its place, decoded from fresh states.
+-- A text region segment (T.88, 7.4.3). `text_decoded` takes the header with the coded bytes, the symbols and the
+-- custom tables that it refers to, and gives the region's grid at its place, decoded from fresh states.
 use Rattle.std.specs.Prelude.{ℕ, nat_lt, ◌==◌, ◌||◌, if◌then◌else◌, List, length, Result, Ok, Err}
 use Rattle.jbig2_base.specs.{Answer.{◌>>=◌, refuse_if}, Bits.{start_of}, Grid.{Grid, blank}, declared.error.{DecodeError.{DecodeError, TheVariants.{Huffman, Overflow}}, HuffmanError.TheVariants.{InvalidSelection}, OverflowError.TheVariants.{BitmapDimension}}, Search.{code_length}}
-use Rattle.jbig2_coder.specs.{PrefixCode.{Member, prefix_code}, TableSelection.{next_custom, standard}, Tables.{lines_a, lines_f, lines_g, lines_h, lines_i, lines_j, lines_k, lines_l, lines_m, lines_n, lines_o}}
-use Rattle.jbig2_region.specs.{Raster.{fresh_contexts}, Refinement.{refinement_bits}, RegionInfo.{PlacedRegion, placed}}
+use Rattle.jbig2_coder.specs.{PrefixCode.{Member, prefix_code}, Tables.{next_custom, standard, lines_a, lines_f, lines_g, lines_h, lines_i, lines_j, lines_k, lines_l, lines_m, lines_n, lines_o}}
+use Rattle.jbig2_region.specs.{Raster.{fresh_contexts}, RefinementTemplates.{refinement_bits}, RegionInfo.{PlacedRegion, placed}}
 use Rattle.jbig2_text.specs.{Refining.{Refining}, Text.{Readings, TextParams, text_region}, TextCoding.{Coded, Prefixed, TextTables, by_coder, by_prefix_codes, coded_start}, TextHeader.{NumberCoding, TextHeader, ArithmeticCoding, HuffmanCoding}, declared.text.header.TextRegionHuffmanFlags.{TextRegionHuffmanFlags}}
 
 -- ---- tables (7.4.3.1.6)

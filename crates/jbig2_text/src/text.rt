@@ -3,14 +3,12 @@ ghost use Rattle.std.specs.Prelude.{◌≡◌, ◌≤◌, ◌^◌, length, Ok, O
 ghost use Rattle.jbig2_base.specs.Answer.{Answers, Gives};
 ghost use Rattle.jbig2_base.specs.Grid.{blank, Grid};
 ghost use Rattle.jbig2_region.specs.inner.RegionViews.{region_view};
-ghost use Rattle.jbig2_text.specs.Refining.{some_pixels};
+ghost use Rattle.jbig2_text.specs.inner.TextViews.{some_pixels, header_view, text_pixels, coded_view, params_view, prefixed_view, symbols_view};
 ghost use Rattle.jbig2_text.specs.TextHeader.{TextHeader};
-ghost use Rattle.jbig2_text.specs.inner.TextViews.{header_view, text_pixels};
 ghost use Rattle.jbig2_text.specs.TextRegion.{coder_of, prefix_codes_of, refining_of, region_from, text_params, text_answer, text_decoded};
 ghost use Rattle.jbig2_coder.specs.inner.TableViews.{customs_view};
-ghost use Rattle.jbig2_text.specs.inner.TextViews.{coded_view, params_view, prefixed_view, symbols_view};
 ghost use Rattle.jbig2_base.specs.Causes.{HaveCauses};
-ghost use Rattle.jbig2_text.specs.CausesOfRegions.{BreaksTextRegion};
+ghost use Rattle.jbig2_text.specs.Causes.{BreaksTextRegion};
 
 pub(crate) mod coded;
 pub(crate) mod cursor;

@@ -1,7 +1,7 @@
 -- The names of a page's globals, and the page's area as the code answers it.
 use Rattle.std.specs.{Prelude.{◌||◌, Option, Some, None, Result, Ok, Err}, Borrow.{Bor}}
 use Rattle.jbig2_base.specs.{Answer.{◌>>=◌, refuse_if}, Grid.{Grid}, declared.error.{DecodeError.{DecodeError, TheVariants.{Overflow}}, OverflowError.TheVariants.{ReferenceOffset}}}
-use Rattle.jbig2_region.specs.{Generic.{PlacedRegion}, Refinement.{is_far}, declared.region_info.RegionSegmentInfo.{RegionSegmentInfo}}
+use Rattle.jbig2_region.specs.{RegionInfo.{PlacedRegion}, Refinement.{is_far}, declared.region_info.RegionSegmentInfo.{RegionSegmentInfo}}
 use Rattle.hayro_jbig2.specs.{Names.{Names, no_names}, Regions.{page_area}}
 
 -- the page's area, unless it lies too far to be refined

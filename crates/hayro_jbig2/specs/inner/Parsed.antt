@@ -1,7 +1,7 @@
 -- What a region is decoded by, once its header is read and what it refers to is found (T.88, 7.4.3 and 7.4.5 to 7.4.7).
 use Rattle.std.specs.Prelude.{◌≡◌, ◌≤◌, Bool, false, ◌||◌, nat_lt, Result, Ok, Err, ◌⊎◌}
 use Rattle.jbig2_base.specs.{Answer.{◌>>=◌, refuse_if}, Grid.{Grid}, declared.error.{DecodeError.{DecodeError, TheVariants.{OutOfMemory, Overflow}}, OverflowError.TheVariants.{BitmapDimension}}}
-use Rattle.jbig2_region.specs.{Generic.{PlacedRegion, generic_answer}, inner.RegionViews.{region_view}, Refinement.{refined_answer}, RegionInfo.{placed}, declared.region_info.RegionSegmentInfo.{RegionSegmentInfo}, GenericHeader.{IsParsed}, RefinementHeader.{IsRefinement}}
+use Rattle.jbig2_region.specs.{RegionInfo.{PlacedRegion, placed}, Generic.{generic_answer}, inner.RegionViews.{region_view}, Refinement.{refined_answer}, declared.region_info.RegionSegmentInfo.{RegionSegmentInfo}, GenericHeader.{IsParsed}, RefinementHeader.{IsRefinement}}
 use Rattle.jbig2_halftone.specs.{Halftone.{halftone_answer}, inner.DictionaryViews.{dictionary_view}, HalftoneHeader.{HalftoneHeader}}
 use Rattle.jbig2_text.specs.TextRegion.{text_answer}
 use Rattle.hayro_jbig2.specs.{Page.{Drawing}, declared.{parsed_region.ParsedRegion.{ParsedRegion, TheVariants.{Text, Halftone, Generic, Refinement, PageRefinement}}, references.References.{References}}, inner.KeptViews.{seen}}

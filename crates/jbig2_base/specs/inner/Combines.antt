@@ -1,7 +1,7 @@
 -- Blocks of a page, and single lines of them, that are combined with the pixels of a source (our own rule): what has to lie
 -- where before, and what has become of the page then.
 use Rattle.std.specs.Prelude.{◌≡◌, ℕ, ◌+◌, ◌-◌, ◌*◌, ◌<◌, ◌≤◌, ◌^◌, List}
-use Rattle.jbig2_base.specs.{declared.bitmap.{operator.CombinationOperator.{CombinationOperator}, rows.blocks.{Block.{Block}, Line.{Line}, Shape.{Shape}, Source.{Source}}}, Combination.{most_words, WritesWithin}, Counts.{Counts}, Grid.{Grid, pixel_at}, inner.{Blocks.{with_block, with_run}, Shapes.{HasShape, grid_in}}}
+use Rattle.jbig2_base.specs.{declared.bitmap.{operator.CombinationOperator.{CombinationOperator}, rows.blocks.{Block.{Block}, Line.{Line}, Shape.{Shape}, Source.{Source}}}, Counts.{most_words, WritesWithin, Counts}, Grid.{Grid, pixel_at}, inner.{Blocks.{with_block, with_run}, Shapes.{HasShape, grid_in}}}
 
 -- A block of one column or more lies on the page, and its pixels in the source.
 pub record LiesOn (page source : Grid) (block : Block) : Type 0 where

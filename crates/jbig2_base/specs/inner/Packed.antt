@@ -1,7 +1,7 @@
 -- How rows of pixels lie in words of 64 bits (our own rule): each row begins with a word, the
 -- leftmost pixel of a word is its highest bit, and what lies past the width is zero.
 use Rattle.std.specs.Prelude.{◌≡◌, ℕ, ◌+◌, ◌-◌, ◌*◌, ◌/◌, ◌%◌, ◌^◌, ◌<◌, ◌≤◌, ◌==◌, Bool, true, false, if◌then◌else◌, List, length, slice_index}
-use Rattle.jbig2_base.specs.{Grid.{Grid, grid_of}, inner.WordBits.{bit}}
+use Rattle.jbig2_base.specs.{Grid.{Grid, grid_of}, Bits.{bit}}
 
 -- the number of words of a row
 abbrev pub stride_of : ℕ → ℕ

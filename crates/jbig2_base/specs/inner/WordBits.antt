@@ -1,8 +1,6 @@
 -- The bits of a number (our own rule): bit k is the one worth 2 ^ k.
 use Rattle.std.specs.Prelude.{ℕ, ◌+◌, ◌-◌, ◌/◌, ◌%◌, ◌^◌, ◌==◌, Bool, ◌&&◌, nat_le, nat_lt, if◌then◌else◌}
-
-unfoldable pub bit : ℕ → ℕ → Bool
-bit n k = n / 2 ^ k % 2 == 1
+use Rattle.jbig2_base.specs.Bits.{bit}
 
 -- bit b of a word whose `count` bits from `shift` on are replaced by those of another number
 unfoldable pub field_bit : ℕ → ℕ → ℕ → ℕ → ℕ → Bool

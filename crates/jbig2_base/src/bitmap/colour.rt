@@ -2,7 +2,7 @@
 ghost use Rattle.std.specs.Prelude.{◌≡◌, ℕ, ◌-◌, ◌^◌, ◌<◌, ◌≤◌, not};
 ghost use Rattle.jbig2_base.specs.Grid.{pixel_at};
 ghost use Rattle.jbig2_base.specs.inner.Colour.{IsFirst};
-ghost use Rattle.jbig2_base.specs.inner.WordBits.{bit};
+ghost use Rattle.jbig2_base.specs.Bits.{bit};
 
 use crate::bitmap::Bitmap;
 use crate::bitmap::steps::Steps;

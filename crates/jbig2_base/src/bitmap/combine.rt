@@ -2,10 +2,9 @@
 ghost use Rattle.std.specs.Prelude.{◌≡◌, ℕ, true, ◌+◌, ◌-◌, ◌*◌, ◌/◌, ◌^◌, ◌<◌, ◌≤◌, min, pos, ◌-ℤ◌};
 ghost use Rattle.jbig2_base.specs.inner.Blocks.{with_block};
 ghost use Rattle.jbig2_base.specs.inner.Combines.{LiesOn, HasEnds, CombinesBlock, block_of};
-ghost use Rattle.jbig2_base.specs.Combination.{combined, overlap, most_words, WritesWithin};
-ghost use Rattle.jbig2_base.specs.Operator.{combined_pixel};
+ghost use Rattle.jbig2_base.specs.{Combination.{combined, combined_pixel}, Counts.{overlap, most_words, WritesWithin}};
 ghost use Rattle.jbig2_base.specs.inner.Table.{IsTable};
-ghost use Rattle.jbig2_base.specs.inner.WordBits.{bit};
+ghost use Rattle.jbig2_base.specs.Bits.{bit};
 
 use crate::bitmap::Bitmap;
 use crate::bitmap::operator::CombinationOperator;

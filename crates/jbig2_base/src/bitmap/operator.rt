@@ -2,7 +2,7 @@
 ghost use Rattle.std.specs.Prelude.{◌%◌};
 ghost use Rattle.jbig2_base.specs.Answer.{Answers};
 ghost use Rattle.jbig2_base.specs.Causes.{HaveCauses, BreaksOperator};
-ghost use Rattle.jbig2_base.specs.Operator.{operator_of};
+ghost use Rattle.jbig2_base.specs.Combination.{operator_of};
 
 use crate::error::{DecodeError, RegionError, Result};
 

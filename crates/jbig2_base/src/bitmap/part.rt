@@ -2,7 +2,7 @@
 //! patterns of one (6.7.5), and the area of the page that a refinement takes (7.4.7.4).
 ghost use Rattle.std.specs.Prelude.{◌≡◌, ◌+◌, ◌<◌, ◌≤◌};
 ghost use Rattle.jbig2_base.specs.Answer.{Gives};
-ghost use Rattle.jbig2_base.specs.Parts.{part_or_overflow};
+ghost use Rattle.jbig2_base.specs.Grid.{part_or_overflow};
 ghost use Rattle.jbig2_base.specs.inner.Filled.{filled, pixel_of_part};
 
 use crate::bitmap::Bitmap;

@@ -2,12 +2,11 @@
 ghost use Rattle.std.specs.Prelude.{◌≡◌, ℕ, ◌+◌, ◌-◌, ◌*◌, ◌/◌, ◌%◌, ◌^◌, ◌<◌, ◌≤◌, OnErr, Ok, true, false, get_or, length, slice_index};
 ghost use Rattle.jbig2_base.specs.Answer.{Gives};
 ghost use Rattle.jbig2_base.specs.Counts.{words_copied};
-ghost use Rattle.jbig2_base.specs.Sizes.{words_of};
-ghost use Rattle.jbig2_base.specs.Grid.{blank, pixel_at, bit_number};
+ghost use Rattle.jbig2_base.specs.{Counts.{words_of}, Grid.{blank, pixel_at, bit_number}};
 ghost use Rattle.jbig2_base.specs.inner.Combines.{LiesOn, CombinesBlock};
 ghost use Rattle.jbig2_base.specs.inner.Packed.{blank_word};
 ghost use Rattle.jbig2_base.specs.inner.Table.{IsTable};
-ghost use Rattle.jbig2_base.specs.inner.WordBits.{bit, field_bit};
+ghost use Rattle.jbig2_base.specs.{Bits.{bit}, inner.WordBits.{field_bit}};
 ghost use Rattle.jbig2_base.specs.inner.Writes.{with_pixel, with_pixels};
 
 pub mod blocks;

@@ -1,5 +1,5 @@
 -- As what records of the definitions the code's values of gray-scale images are seen (our own rule).
-use Rattle.jbig2_region.specs.Skipping.{skip_of}
+use Rattle.jbig2_region.specs.inner.RegionViews.{skip_of}
 use Rattle.jbig2_halftone.specs.{GrayScale.{GrayScale}, declared.gray_scale.GrayScaleParams.{GrayScaleParams}}
 
 abbrev pub gray_view : {A : Type 0} → GrayScaleParams A → GrayScale

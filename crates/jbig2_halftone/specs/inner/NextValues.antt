@@ -1,7 +1,6 @@
 -- A value of a gray-scale image with one plane more than before, and rows of values (our own rule).
 use Rattle.std.specs.{Prelude.{◌≡◌, ℕ, ◌+◌, ◌*◌, ◌%◌, ◌<◌, ◌==◌, Bool, List, map, slice_index_or}, List.{range_with_len}}
-use Rattle.jbig2_base.specs.Grid.{Grid, bit_number, pixel_at}
-use Rattle.jbig2_mmr.specs.T6.{differ}
+use Rattle.jbig2_base.specs.Grid.{Grid, bit_number, pixel_at, differ}
 use Rattle.jbig2_halftone.specs.GrayScale.{gray_value}
 
 -- Planes come from the highest on, so a value's bits move up by one. The new lowest bit is the plane's pixel, turned

@@ -1,8 +1,8 @@
 -- What single functions of the code give and take, which the definitions have as a part of something larger.
 use Rattle.std.specs.{Prelude.{ℕ, ◌≡◌, ◌+◌, ◌*◌, ◌/◌, ◌%◌, Bool, true, false, ◌||◌, if◌then◌else◌, List, map, None, is_some, Result, Ok}, List.{range_with_len}}
-use Rattle.jbig2_base.specs.{Counts.{Counts, KeepsLanes}, Grid.{Grid, grid_of}, Parts.{part_of}, declared.error.DecodeError.{DecodeError}}
+use Rattle.jbig2_base.specs.{Counts.{Counts, KeepsLanes}, Grid.{Grid, grid_of, part_of}, declared.error.DecodeError.{DecodeError}}
 use Rattle.jbig2_coder.specs.Coder.{Context}
-use Rattle.jbig2_region.specs.{Generic.{coding_of}, Raster.{Coding, Region, so_far, no_pixels}, RunBytes.{CountsRegion}, Skipping.{CountsSkipping, skipping_coding}, Templates.{template_pixels}, declared.template.AdaptiveTemplatePixel.{AdaptiveTemplatePixel}}
+use Rattle.jbig2_region.specs.{Generic.{coding_of, skipping_coding}, Raster.{Coding, Region, so_far, no_pixels}, Steps.{CountsRegion, CountsSkipping}, Templates.{template_pixels}, declared.template.AdaptiveTemplatePixel.{AdaptiveTemplatePixel}}
 use Rattle.jbig2_halftone.specs.{GrayScale.{GrayScale, nominal_pixels, after_planes, mmr_planes}, Halftone.{column_of, row_of, is_apart, skip_mask}, HalftoneHeader.{HalftoneHeader}, Patterns.{Patterns}, Steps.{CountsPlanes, CountsMasked}}
 
 -- ---- patterns

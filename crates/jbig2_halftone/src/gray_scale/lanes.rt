@@ -2,7 +2,7 @@
 ghost use Rattle.std.specs.Prelude.{◌≡◌, ℕ, ◌+◌, ◌-◌, ◌*◌, ◌/◌, ◌%◌, ◌^◌, ◌<◌, length, slice_index};
 ghost use Rattle.std.specs.List.{All};
 ghost use Rattle.jbig2_base.specs.Grid.{bit_number};
-ghost use Rattle.jbig2_base.specs.inner.WordBits.{bit};
+ghost use Rattle.jbig2_base.specs.Bits.{bit};
 ghost use Rattle.jbig2_halftone.specs.inner.NextValues.{next_value, TakesPlane};
 ghost use Rattle.jbig2_halftone.specs.inner.Stages.{after_lanes};
 

@@ -2,8 +2,8 @@
 ghost use Rattle.std.specs.Prelude.{◌≡◌, ℕ, ◌+◌, ◌*◌, ◌^◌, ◌<◌, ◌≤◌, ◌&&◌};
 ghost use Rattle.jbig2_base.specs.Counts.{KeepsLanes};
 ghost use Rattle.jbig2_base.specs.Search.{place_from};
-ghost use Rattle.jbig2_base.specs.inner.WordBits.{bit};
-ghost use Rattle.jbig2_mmr.specs.T6.{differ, left_of, is_change_from};
+ghost use Rattle.jbig2_base.specs.Bits.{bit};
+ghost use Rattle.{jbig2_base.specs.Grid.{differ}, jbig2_mmr.specs.T6.{left_of, is_change_from}};
 ghost use Rattle.jbig2_mmr.specs.inner.T6Reading.{row_of};
 
 use jbig2_base::bitmap::Bitmap;

@@ -2,7 +2,7 @@
 ghost use Rattle.std.specs.Prelude.{◌≡◌, ℕ, ◌<◌, ◌≤◌};
 ghost use Rattle.jbig2_base.specs.Counts.{KeepsLanes};
 ghost use Rattle.jbig2_base.specs.inner.Table.{IsTable};
-ghost use Rattle.jbig2_base.specs.inner.WordBits.{bit};
+ghost use Rattle.jbig2_base.specs.Bits.{bit};
 ghost use Rattle.jbig2_mmr.specs.inner.T6Reading.{IsSpan};
 
 use jbig2_base::bitmap::Bitmap;

@@ -2,7 +2,7 @@
 use Rattle.std.specs.Prelude.{ℕ, ◌*◌, ◌≡◌, Bool, true, false, if◌then◌else◌, List}
 use Rattle.jbig2_base.specs.Counts.{Counts}
 use Rattle.jbig2_coder.specs.Coder.{initial_registers}
-use Rattle.jbig2_region.specs.{Generic.{generic_coding}, GenericHeader.{GenericHeader}, inner.Neighbours.{IsMixed, adaptive_count, mixed_count, mixed_pixels}, Raster.{Coding, Region, no_pixels, fresh_contexts}, RunBytes.{CountsRegion}, Templates.{adaptive_pixel_count, context_bits, is_nominal, template_pixels}, declared.template.{neighbours.{Adaptives.{Adaptives}, Neighbours.{Neighbours}}, AdaptiveTemplatePixel.{AdaptiveTemplatePixel}, Template.{Template, TheVariants.{Template0, Template1, Template2, Template3}}}}
+use Rattle.jbig2_region.specs.{Generic.{generic_coding}, GenericHeader.{GenericHeader}, inner.Neighbours.{IsMixed, adaptive_count, mixed_count, mixed_pixels}, Raster.{Coding, Region, no_pixels, fresh_contexts}, Steps.{CountsRegion}, Templates.{adaptive_pixel_count, context_bits, is_nominal, template_pixels}, declared.template.{neighbours.{Adaptives.{Adaptives}, Neighbours.{Neighbours}}, AdaptiveTemplatePixel.{AdaptiveTemplatePixel}, Template.{Template, TheVariants.{Template0, Template1, Template2, Template3}}}}
 
 abbrev pub neighbours_of : ℕ → ℕ → ℕ → ℕ → ℕ → Neighbours
 neighbours_of left above_reach above_count top_reach top_count = record { left = left; above = record { reach = above_reach; count = above_count }; top = record { reach = top_reach; count = top_count } }

@@ -1,6 +1,6 @@
 -- Windows on a mask of skipped pixels, and contexts without adaptive pixels (our own rule).
 use Rattle.std.specs.Prelude.{◌≡◌, ℕ, ◌+◌, ◌-◌, ◌*◌, ◌%◌, ◌^◌, ◌<◌, Option}
-use Rattle.jbig2_base.specs.{Grid.{Grid}, inner.WordBits.{bit}}
+use Rattle.jbig2_base.specs.{Grid.{Grid}, Bits.{bit}}
 use Rattle.jbig2_region.specs.{Generic.{is_skipped}, inner.Neighbours.{stretch_bits}, declared.{template.neighbours.Neighbours.{Neighbours}, generic_kernel.windows.Windows.{Windows}}}
 
 -- the 32 pixels of row y from column x on that are skipped, the first in bit 31

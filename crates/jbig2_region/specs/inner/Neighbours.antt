@@ -1,6 +1,6 @@
 -- Templates of generic regions as neighbours that lie side by side, with adaptive pixels between them (our own rule).
 use Rattle.std.specs.Prelude.{◌≡◌, ◌==◌, ℕ, zero, suc, ◌+◌, ◌-◌, ◌*◌, ◌/◌, ◌%◌, ◌^◌, ◌<◌, ◌≤◌, ℤ, pos, negsuc, ◌-ℤ◌, List, [], ◌∷◌, ◌++◌, length, Bool, true, false, ◌&&◌, if◌then◌else◌, Option, Some, None, min}
-use Rattle.jbig2_base.specs.{Grid.{Grid, pixel, pixel_at}, inner.WordBits.{bit}}
+use Rattle.jbig2_base.specs.{Grid.{Grid, pixel, pixel_at}, Bits.{bit}}
 use Rattle.jbig2_coder.specs.Coder.{Coder, Context}
 use Rattle.jbig2_region.specs.{Generic.{context_at, known_colour}, inner.{Holds.{Holds}, Rows.{after_pixels}}, Raster.{Coding, Region}, declared.{template.{neighbours.{Adaptives.{Adaptives}, Layout.{Layout}, Neighbours.{Neighbours}, Stretch.{Stretch}}, AdaptiveTemplatePixel.{AdaptiveTemplatePixel}}, generic_kernel.windows.{WideWindows.{WideWindows}, Windows.{Windows}}}}
 

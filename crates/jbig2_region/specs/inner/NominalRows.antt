@@ -3,7 +3,7 @@
 use Rattle.std.specs.Prelude.{◌≡◌, ℕ, ◌+◌, ◌-◌, ◌*◌, ◌/◌, ◌^◌, ◌<◌, ◌≤◌, true, false, List, length}
 use Rattle.jbig2_base.specs.{Counts.{Counts, KeepsLanes}, Grid.{Grid, blank}}
 use Rattle.jbig2_coder.specs.Coder.{Coder, Context}
-use Rattle.jbig2_region.specs.{Raster.{no_pixels}, RunBytes.{CountsRegion}, inner.{Neighbours.{DecodesPixels, IsNear, neighbour_count, nominal_pixels, row_coding}, RowCounts.{CountsRuns}}, declared.template.neighbours.Neighbours.{Neighbours}}
+use Rattle.jbig2_region.specs.{Raster.{no_pixels}, Steps.{CountsRegion}, inner.{Neighbours.{DecodesPixels, IsNear, neighbour_count, nominal_pixels, row_coding}, RowCounts.{CountsRuns}}, declared.template.neighbours.Neighbours.{Neighbours}}
 
 -- ---- one row
 pub record FitsRow (n : Neighbours) (y : ℕ) (g : Grid) (s : List Context) : Type 0 where

@@ -1,6 +1,6 @@
 -- Windows of a refinement side by side in one number (our own rule).
 use Rattle.std.specs.Prelude.{◌≡◌, ℕ, ◌+◌, ◌-◌, ◌*◌, ◌/◌, ◌%◌, ◌^◌, ◌<◌}
-use Rattle.jbig2_base.specs.inner.WordBits.{bit}
+use Rattle.jbig2_base.specs.Bits.{bit}
 use Rattle.jbig2_region.specs.declared.refinement_kernel.windows.RefinementWindows.{RefinementWindows}
 
 -- a lane whose first pixel is the bit of this number: it serves a window's column k and n more behind it

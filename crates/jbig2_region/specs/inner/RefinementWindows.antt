@@ -1,6 +1,6 @@
 -- Windows of 64 pixels on the rows that a refinement's pixels are taken from (our own rule).
 use Rattle.std.specs.Prelude.{◌≡◌, ℕ, ◌+◌, ◌-◌, ◌*◌, ◌/◌, ◌%◌, ◌^◌, ◌<◌, ◌==◌, ℤ, pos, negsuc, ◌+ℤ◌, ◌-ℤ◌, Bool, true, false, if◌then◌else◌, List, [], ◌∷◌, Option, Some, None}
-use Rattle.jbig2_base.specs.{Grid.{Grid, pixel}, inner.WordBits.{bit}}
+use Rattle.jbig2_base.specs.{Grid.{Grid, pixel}, Bits.{bit}}
 use Rattle.jbig2_region.specs.{Raster.{Coding}, Refinement.{Reference, refinement_coding}, RefinementTemplates.{apart}, inner.RefinementViews.{reference_view}, declared.{refinement_kernel.{WindowedCoding.{WindowedCoding}, windows.RefinementWindows.{RefinementWindows}}, template.{AdaptiveTemplatePixel.{AdaptiveTemplatePixel}, RefinementTemplate.{RefinementTemplate, TheVariants.{Template0, Template1}}}}}
 
 -- the pixels of a row from a column on, the first in bit 63

@@ -1,5 +1,7 @@
 -- A decoded region of the code, seen as the definitions' region.
 use Rattle.jbig2_region.specs.{declared.region_info.DecodedRegion.{DecodedRegion}, RegionInfo.{PlacedRegion}}
+use Rattle.std.specs.{Prelude.{Option, Some, None}, Borrow.{Bor}}
+use Rattle.jbig2_base.specs.Grid.{Grid}
 
 abbrev pub region_view : {A : Type 0} → DecodedRegion A → PlacedRegion
 region_view r = record {
@@ -8,3 +10,7 @@ region_view r = record {
   y_location = r.y_location;
   combination_operator = r.combination_operator;
 }
+
+abbrev pub skip_of : Option (Bor Grid) → Option Grid
+skip_of None = None
+skip_of (Some skip) = Some skip.now

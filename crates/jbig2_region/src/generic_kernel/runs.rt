@@ -7,7 +7,7 @@ ghost use Rattle.jbig2_region.specs.inner.Holds.{Holds};
 ghost use Rattle.jbig2_region.specs.inner.LongRuns.{is_run_for};
 ghost use Rattle.jbig2_region.specs.inner.Neighbours.{IsLeft, IsNear, ShowsRun, is_field, neighbour_count, neighbours_stay, nominal_pixels, stretch_stays, stretches_stay};
 ghost use Rattle.jbig2_region.specs.Raster.{Region};
-ghost use Rattle.jbig2_region.specs.RunBytes.{all_of, is_run_of};
+ghost use Rattle.jbig2_region.specs.Steps.{all_of, is_run_of};
 
 use crate::generic_kernel::windows::{WideWindows, Windows};
 use crate::template::neighbours::{Neighbours, Stretch};

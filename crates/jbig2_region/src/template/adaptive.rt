@@ -2,11 +2,10 @@
 ghost use Rattle.std.specs.Prelude.{◌≡◌, ◌≤◌, false, [], ◌∷◌, length, IfOk, OnOk, ℕ};
 ghost use Rattle.jbig2_base.specs.Answer.{Answers};
 ghost use Rattle.jbig2_base.specs.Bits.{IsAligned};
-ghost use Rattle.jbig2_base.specs.Parsing.{Parses};
+ghost use Rattle.jbig2_base.specs.Fields.{Parses};
 ghost use Rattle.jbig2_region.specs.RefinementTemplates.{refinement_pixels_at};
-ghost use Rattle.jbig2_region.specs.inner.PixelArrays.{two_pixels};
+ghost use Rattle.jbig2_region.specs.inner.PixelArrays.{two_pixels, IsFilled, filled, four_pixels, is_extended, pixels_view};
 ghost use Rattle.jbig2_region.specs.Templates.{FitsTemplate, adaptive_pixel_at, adaptive_pixel_count, adaptive_pixels_at, free_pixel_at, is_earlier, takes_extended};
-ghost use Rattle.jbig2_region.specs.inner.PixelArrays.{IsFilled, filled, four_pixels, is_extended, pixels_view};
 ghost use Rattle.jbig2_base.specs.Causes.{HaveCauses};
 ghost use Rattle.jbig2_region.specs.Causes.{BreaksPixels, BreaksRefinementPixels};
 ghost use Rattle.jbig2_region.specs.declared.template.RefinementTemplate.{RefinementTemplate};

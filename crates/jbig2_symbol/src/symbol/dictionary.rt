@@ -1,6 +1,6 @@
 //! Symbols that are decoded, and what a dictionary keeps for another one.
 ghost use Rattle.std.specs.Prelude.{◌≡◌, ◌^◌, length};
-ghost use Rattle.jbig2_region.specs.Refinement.{refinement_bits};
+ghost use Rattle.jbig2_region.specs.RefinementTemplates.{refinement_bits};
 ghost use Rattle.jbig2_region.specs.Templates.{context_bits};
 
 use jbig2_base::bitmap::Bitmap;

@@ -3,7 +3,7 @@ ghost use Rattle.std.specs.Prelude.{◌≡◌, ◌+◌, ◌<◌, ◌≤◌, ◌+
 ghost use Rattle.jbig2_base.specs.Answer.{Answers, Gives};
 ghost use Rattle.jbig2_base.specs.Grid.{blank};
 ghost use Rattle.jbig2_symbol.specs.Causes.{ExportsHaveCauses};
-ghost use Rattle.jbig2_symbol.specs.Exports.{export_runs, exported, exports, next_run};
+ghost use Rattle.jbig2_symbol.specs.Symbols.{export_runs, exported, exports, next_run};
 ghost use Rattle.jbig2_symbol.specs.inner.SymbolViews.{all_symbols, input_view};
 
 use crate::symbol::input::SymbolInput;
@@ -18,7 +18,7 @@ use std::sync::ledger::Ledger;
 const MAX_EMPTY: u32 = 1 << 20;
 
 /// Reads a run, where `left` symbols are not covered yet and `empty` runs of length 0 came before.
-#[tactic(auto, unfolding(crate::specs::Exports::next_run))]
+#[tactic(auto, unfolding(crate::specs::Symbols::next_run))]
 fn read_run<R: ReadClasses, A: Allocator, T: Allocator, L: Ledger>(
     input: &SymbolInput<'_, A, T>,
     empty: u32,
@@ -161,7 +161,7 @@ pub fn export_symbols<A: Allocator + Clone, S: Allocator, L: Ledger>(
 ///
 /// The errors of `read_runs`; `SymbolError::NoSymbols` where they are not as many as the header
 /// states; `OutOfMemory` where there is no room for them.
-#[tactic(auto, using(crate::proofs::ReadingCauses::exports_causes), unfolding(crate::specs::Exports::exports))]
+#[tactic(auto, using(crate::proofs::ReadingCauses::exports_causes), unfolding(crate::specs::Symbols::exports))]
 pub fn read_exports<R: ReadClasses, A: Allocator + Clone, T: Allocator, L: Ledger>(
     alloc: A,
     input: &SymbolInput<'_, A, T>,

@@ -1,9 +1,9 @@
 -- Parts of the definitions, under names of their own: what some private functions give.
-use Rattle.std.specs.{Prelude.{ℕ, ◌-◌, ◌/◌, ◌%◌, ◌==◌, Bool, false, if◌then◌else◌, ℤ, pos, ◌-ℤ◌, List, [], Option, Some, None, Result, Ok}, Int.{w16}, Option.{is_some}}
-use Rattle.jbig2_base.specs.{Answer.{◌>>=◌, refuse_if}, Fields.{number_at}, Grid.{Grid}, declared.{bitmap.operator.CombinationOperator.{CombinationOperator}, error.{DecodeError.{DecodeError, TheVariants.{Symbol}}, SymbolError.TheVariants.{TooManyInstances}}}}
-use Rattle.jbig2_coder.specs.{Coder.{Context}, PrefixCode.{Member, prefix_code}, TableSelection.{next_custom, standard}, Tables.{lines_a, lines_n, lines_o}}
-use Rattle.jbig2_region.specs.{Raster.{fresh_contexts}, Refinement.{refinement_bits}, RefinementHeader.{refinement_pixels_at, refinement_template_of}, declared.template.{AdaptiveTemplatePixel.{AdaptiveTemplatePixel}, RefinementTemplate.{RefinementTemplate}}}
-use Rattle.jbig2_text.specs.{Refining.{Refining}, Text.{Found, Instance, Reached, Readings, TextParams, after_instances, cursor_moved, grown, is_last_along_s, strip_begun, with_instance}, TextHeader.{corner_of, signed_5}, TextRegion.{one_of_two}, declared.text.{cursor.Cursor.{Cursor}, header.{TextRegionFlags.{TextRegionFlags}, TextRegionHuffmanFlags.{TextRegionHuffmanFlags}}}}
+use Rattle.std.specs.{Prelude.{ℕ, ◌-◌, ◌/◌, ◌%◌, ◌==◌, Bool, false, if◌then◌else◌, ℤ, pos, ◌-ℤ◌, List, [], Option, Result, Ok}, Option.{is_some}}
+use Rattle.jbig2_base.specs.{Answer.{◌>>=◌, refuse_if}, Grid.{Grid}, declared.{bitmap.operator.CombinationOperator.{CombinationOperator}, error.{DecodeError.{DecodeError, TheVariants.{Symbol}}, SymbolError.TheVariants.{TooManyInstances}}}}
+use Rattle.jbig2_coder.specs.{Coder.{Context}, PrefixCode.{Member, prefix_code}, Tables.{next_custom, standard, lines_a, lines_n, lines_o}}
+use Rattle.jbig2_region.specs.{Raster.{fresh_contexts}, RefinementTemplates.{refinement_bits, refinement_pixels_at, refinement_template_of}, declared.template.{AdaptiveTemplatePixel.{AdaptiveTemplatePixel}, RefinementTemplate.{RefinementTemplate}}}
+use Rattle.jbig2_text.specs.{Refining.{Refining}, Text.{Found, Instance, Reached, Readings, TextParams, after_instances, cursor_moved, grown, is_last_along_s, strip_begun, with_instance}, TextHeader.{corner_of, signed_5}, TextRegion.{one_of_two}, declared.text.{cursor.Cursor.{Cursor}, header.TextRegionFlags.{TextRegionFlags}}}
 
 -- ---- the header
 -- the bits of the flags behind SBHUFF

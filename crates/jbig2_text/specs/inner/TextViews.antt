@@ -1,5 +1,5 @@
 -- Values of the code, seen as values of the definitions.
-use Rattle.std.specs.{Prelude.{List, [], ◌++◌, map, if◌then◌else◌}, Borrow.{Bor}}
+use Rattle.std.specs.{Prelude.{List, [], ◌++◌, map, if◌then◌else◌, take, Option, Some, None}, Borrow.{Bor}}
 use Rattle.jbig2_base.specs.Grid.{Grid}
 use Rattle.jbig2_region.specs.{inner.PixelArrays.{two_pixels}, declared.template.AdaptiveTemplatePixel.{AdaptiveTemplatePixel}}
 use Rattle.jbig2_text.specs.{Refining.{Refining}, Text.{Instance, Reached, TextParams as Params}, TextCoding.{Coded, Prefixed, TextTables}, declared.text.{coded.CodedReadings.{CodedReadings}, header.{TextFields.{TextFields}, TextRegionCoding.{TextRegionCoding}, TextRegionFlags.{TextRegionFlags}, TextRegionHeader.{TextRegionHeader}}, instances.PlacedInstances.{PlacedInstances}, placement.Instance.{Instance as PlacedSymbol}, prefixed.PrefixedReadings.{PrefixedReadings}, symbol_list.SymbolList.{SymbolList}, symbols.{InstanceSymbol.{InstanceSymbol, TheVariants.{Shared, Refined}}, TextParams.{TextParams}}, tables.TextRegionHuffmanTables.{TextRegionHuffmanTables}}, TextHeader.{NumberCoding, ArithmeticCoding, HuffmanCoding, TextHeader}}
@@ -77,3 +77,8 @@ header_view h = record {
   bytes = h.bytes.now;
   strict = h.strict;
 }
+
+-- the code's two adaptive pixels, where there are any
+abbrev pub some_pixels : Option (List AdaptiveTemplatePixel) → List AdaptiveTemplatePixel
+some_pixels None = []
+some_pixels (Some a) = take 2 a

@@ -1,8 +1,7 @@
 //! Symbols that are refined from others as their numbers are read (T.88, 6.4.11).
 ghost use Rattle.std.specs.Prelude.{◌≡◌, ◌≤◌, false, IfOk};
 ghost use Rattle.jbig2_base.specs.Answer.{Answers, Gives};
-ghost use Rattle.jbig2_base.specs.Grid.{blank};
-ghost use Rattle.jbig2_base.specs.Sizes.{blank_or_overflow};
+ghost use Rattle.jbig2_base.specs.Grid.{blank, blank_or_overflow};
 ghost use Rattle.jbig2_text.specs.Text.{refinement_deltas, refined_outline, refined_symbol};
 ghost use Rattle.jbig2_text.specs.inner.TextViews.{list_view};
 

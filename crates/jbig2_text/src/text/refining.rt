@@ -2,11 +2,10 @@
 ghost use Rattle.std.specs.Prelude.{◌≡◌, ◌≤◌, ◌^◌, length, false, Ok};
 ghost use Rattle.jbig2_base.specs.Answer.{Gives};
 ghost use Rattle.jbig2_base.specs.Grid.{blank};
-ghost use Rattle.jbig2_region.specs.Refinement.{refinement_bits};
-ghost use Rattle.jbig2_region.specs.inner.PixelArrays.{two_pixels};
-ghost use Rattle.jbig2_region.specs.inner.PixelArrays.{filled};
+ghost use Rattle.jbig2_region.specs.RefinementTemplates.{refinement_bits};
+ghost use Rattle.jbig2_region.specs.inner.PixelArrays.{two_pixels, filled};
 ghost use Rattle.jbig2_region.specs.inner.RefinementViews.{reference_view};
-ghost use Rattle.jbig2_text.specs.Refining.{refined_with, some_pixels};
+ghost use Rattle.jbig2_text.specs.{Refining.{refined_with}, inner.TextViews.{some_pixels}};
 ghost use Rattle.jbig2_text.specs.inner.Parts.{fresh_refining, refining_by};
 
 use jbig2_base::bitmap::Bitmap;
@@ -31,8 +30,8 @@ pub struct Refining<A: Allocator> {
 
 impl<A: Allocator> Model for Refining<A> {
     ghost use Rattle.std.specs.Prelude.{◌≡◌, ◌^◌, length};
-    ghost use Rattle.jbig2_region.specs.Refinement.{refinement_bits};
-    ghost use Rattle.jbig2_text.specs.Refining.{Refining, some_pixels};
+    ghost use Rattle.jbig2_region.specs.RefinementTemplates.{refinement_bits};
+    ghost use Rattle.jbig2_text.specs.{Refining.{Refining}, inner.TextViews.{some_pixels}};
 
     ghost Value = { Refining };
 

@@ -6,7 +6,7 @@ ghost use Rattle.jbig2_text.specs.TextRegion.{aggregate_tables, one_of_two, one_
 ghost use Rattle.jbig2_text.specs.inner.Parts.{table_of_refinement, table_of_size};
 ghost use Rattle.jbig2_text.specs.inner.TextViews.{tables_view};
 ghost use Rattle.jbig2_base.specs.Causes.{HaveCauses};
-ghost use Rattle.jbig2_text.specs.CausesOfRegions.{BreaksTextTables};
+ghost use Rattle.jbig2_text.specs.Causes.{BreaksTextTables};
 ghost use Rattle.jbig2_text.specs.declared.text.header.TextRegionHuffmanFlags.{TextRegionHuffmanFlags};
 
 use crate::text::header::TextRegionHuffmanFlags;

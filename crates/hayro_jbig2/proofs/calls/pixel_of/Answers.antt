@@ -1,4 +1,4 @@
-use Rattle.jbig2_base.specs.inner.WordBits.{bit}
+use Rattle.jbig2_base.specs.Bits.{bit}
 use Rattle.jbig2_base.proofs.BitLemmas.{shr-and_one}
 use Rattle.hayro_jbig2.proofs.Runs.{bit-test}
 use Rattle.hayro_jbig2.proofs.calls.pixel_of.Goals as goal

@@ -5,8 +5,7 @@ use Rattle.jbig2_base.specs.inner.SegmentViews.{segment_view, segment_views}
 use Rattle.jbig2_base.specs.declared.error.DecodeError.{DecodeError}
 use Rattle.jbig2_base.specs.declared.error.DecodeError.TheVariants.{OutOfMemory}
 use Rattle.jbig2_base.specs.declared.segment.Segment.{Segment}
-use Rattle.hayro_jbig2.specs.Globals.{named_from}
-use Rattle.hayro_jbig2.specs.Names.{Names, kept_by, no_names}
+use Rattle.hayro_jbig2.specs.Names.{named_from, Names, kept_by, no_names}
 use Rattle.hayro_jbig2.proofs.globals.decode_names.Goals as goal
 
 -- a segment that is refused ends the names

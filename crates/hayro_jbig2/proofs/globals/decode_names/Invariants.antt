@@ -1,7 +1,6 @@
 use Rattle.std.proofs.Common.{◌≡◌, drop}
 use Rattle.jbig2_base.specs.inner.SegmentViews.{segment_views}
-use Rattle.hayro_jbig2.specs.Globals.{named_from}
-use Rattle.hayro_jbig2.specs.Names.{no_names}
+use Rattle.hayro_jbig2.specs.Names.{named_from, no_names}
 use Rattle.hayro_jbig2.proofs.globals.decode_names.Given as goal
 
 abbrev pub invariant-loop-segment : goal.invariant-loop-segment

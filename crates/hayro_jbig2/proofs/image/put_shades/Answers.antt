@@ -1,5 +1,5 @@
 use Rattle.std.proofs.Common.{◌≡◌, ◌-◌, ℕ, ◌∙◌, ap, refl, arith}
-use Rattle.jbig2_base.specs.inner.WordBits.{bit}
+use Rattle.jbig2_base.specs.Bits.{bit}
 use Rattle.hayro_jbig2.specs.Image.{shade}
 use Rattle.hayro_jbig2.proofs.PutLemmas.{puts-none, puts-next, puts-all}
 use Rattle.hayro_jbig2.proofs.image.put_shades.Goals as goal

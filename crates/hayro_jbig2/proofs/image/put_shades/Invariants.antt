@@ -1,5 +1,5 @@
 use Rattle.std.proofs.Common.{◌-◌}
-use Rattle.jbig2_base.specs.inner.WordBits.{bit}
+use Rattle.jbig2_base.specs.Bits.{bit}
 use Rattle.hayro_jbig2.specs.Image.{shade}
 use Rattle.hayro_jbig2.specs.inner.Puts.{Puts}
 use Rattle.hayro_jbig2.proofs.image.put_shades.Given as goal

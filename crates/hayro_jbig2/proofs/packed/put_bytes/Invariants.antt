@@ -1,5 +1,5 @@
 use Rattle.std.proofs.Common.{◌≡◌, ◌-◌, ◌*◌, ◌<◌, ◌≤◌, ℕ}
-use Rattle.jbig2_base.specs.inner.WordBits.{bit}
+use Rattle.jbig2_base.specs.Bits.{bit}
 use Rattle.hayro_jbig2.specs.inner.Puts.{word_byte, Puts}
 use Rattle.hayro_jbig2.proofs.packed.put_bytes.Given as goal
 

@@ -1,12 +1,12 @@
 //! Blocks of a page combined with a source, where the pixels that lie on a word of the page lie in
 //! one word of the source.
 ghost use Rattle.std.specs.Prelude.{◌≡◌, ℕ, ◌+◌, ◌-◌, ◌*◌, ◌/◌, ◌%◌, ◌<◌, ◌≤◌, if◌then◌else◌};
-ghost use Rattle.jbig2_base.specs.Operator.{combined_pixel};
+ghost use Rattle.jbig2_base.specs.Combination.{combined_pixel};
 ghost use Rattle.jbig2_base.specs.inner.Blocks.{with_run};
 ghost use Rattle.jbig2_base.specs.inner.Combines.{IsBlockOnBoth, CombinesBlockOfWords, IsLineOnBoth, CombinesLine};
 ghost use Rattle.jbig2_base.specs.inner.Layouts.{IsLaid};
 ghost use Rattle.jbig2_base.specs.inner.Shapes.{HasShape, grid_in};
-ghost use Rattle.jbig2_base.specs.inner.WordBits.{bit};
+ghost use Rattle.jbig2_base.specs.Bits.{bit};
 
 use crate::bitmap::operator::CombinationOperator;
 use crate::bitmap::steps::Steps;

@@ -5,8 +5,7 @@ use Rattle.std.specs.Option.{option_map}
 use Rattle.jbig2_base.specs.Grid.{Grid}
 use Rattle.jbig2_base.specs.declared.error.DecodeError.{DecodeError}
 use Rattle.jbig2_base.specs.declared.error.DecodeError.TheVariants.{OutOfMemory}
-use Rattle.hayro_jbig2.specs.Globals.{globals_at}
-use Rattle.hayro_jbig2.specs.Names.{Names}
+use Rattle.hayro_jbig2.specs.Names.{globals_at, Names}
 use Rattle.hayro_jbig2.specs.Page.{embedded}
 use Rattle.hayro_jbig2.specs.Calls.{Conduct, Decodes}
 use Rattle.jbig2_callers.specs.Callers.{grid_of_stream}

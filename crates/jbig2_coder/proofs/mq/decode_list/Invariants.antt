@@ -1,5 +1,5 @@
 use Rattle.std.proofs.Common.{◌≡◌, ◌+◌, ◌^◌, ◌++◌, drop, length}
-use Rattle.jbig2_coder.specs.Lists.{read_back, decoded_from}
+use Rattle.jbig2_coder.specs.Encoder.{read_back, decoded_from}
 use Rattle.jbig2_coder.specs.inner.EncoderViews.{contexts_of}
 use Rattle.jbig2_coder.proofs.mq.decode_list.Given as goal
 

@@ -1,6 +1,5 @@
 use Rattle.std.proofs.Common.{◌≡◌, ◌^◌, drop, length}
-use Rattle.jbig2_coder.specs.Encoder.{opened}
-use Rattle.jbig2_coder.specs.Lists.{encode_from}
+use Rattle.jbig2_coder.specs.Encoder.{opened, encode_from}
 use Rattle.jbig2_coder.specs.inner.EncoderViews.{all_fresh, contexts_of}
 use Rattle.jbig2_coder.proofs.mq.encode_list.Given as goal
 

@@ -1,5 +1,5 @@
 use Rattle.std.proofs.Common.{◌≡◌, ◌*◌, Ok, length}
-use Rattle.jbig2_base.specs.Combination.{WritesWithin}
+use Rattle.jbig2_base.specs.Counts.{WritesWithin}
 use Rattle.jbig2_halftone.specs.GrayScale.{gray_values}
 use Rattle.jbig2_halftone.specs.Halftone.{cells_drawn}
 use Rattle.jbig2_halftone.specs.inner.HalftoneHeaderViews.{header_view}

@@ -1,7 +1,7 @@
 use Rattle.std.proofs.Common.{arith, ◌≡◌, ℕ, ◌+◌, ◌-◌, ◌*◌, ◌%◌, ◌≤◌, ◌∙◌, Bool, false, ap, sym, subst}
 use Rattle.jbig2_base.specs.Counts.{Counts}
 use Rattle.jbig2_base.specs.Grid.{Grid, pixel_at}
-use Rattle.jbig2_base.specs.inner.WordBits.{bit}
+use Rattle.jbig2_base.specs.Bits.{bit}
 use Rattle.jbig2_region.specs.inner.Codes.{CountsCodes, Takes}
 use Rattle.jbig2_region.specs.inner.RefinementBlocks.{Block}
 use Rattle.jbig2_region.specs.inner.RefinementViews.{reference_view}

@@ -6,7 +6,7 @@ use Rattle.jbig2_region.specs.inner.Holds.{Holds, BeginsRow}
 use Rattle.jbig2_region.specs.inner.RefinementWindows.{windowed_coding}
 use Rattle.jbig2_region.specs.Raster.{Region, no_pixels, row_decisions}
 use Rattle.jbig2_region.specs.inner.Stretches.{DecodesPixels}
-use Rattle.jbig2_region.specs.RunBytes.{window_loads}
+use Rattle.jbig2_region.specs.Steps.{window_loads}
 use Rattle.jbig2_region.proofs.DecisionLemmas.{Decided, decided-region}
 use Rattle.jbig2_region.proofs.PlaceLemmas.{region-whole}
 use Rattle.jbig2_region.proofs.RegionLemmas.{tests-next}

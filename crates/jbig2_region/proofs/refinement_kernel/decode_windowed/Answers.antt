@@ -4,7 +4,7 @@ use Rattle.jbig2_base.specs.Grid.{Grid}
 use Rattle.jbig2_region.specs.inner.Holds.{Holds, BeginsRow}
 use Rattle.jbig2_region.specs.inner.RefinementWindows.{windowed_coding}
 use Rattle.jbig2_region.specs.Raster.{Region, no_pixels, row_decisions}
-use Rattle.jbig2_region.specs.RunBytes.{window_loads}
+use Rattle.jbig2_region.specs.Steps.{window_loads}
 use Rattle.jbig2_region.proofs.DecisionLemmas.{decided-empty, decided-region}
 use Rattle.jbig2_region.proofs.PlaceLemmas.{region-empty, region-whole}
 use Rattle.jbig2_region.proofs.RegionLemmas.{tests-next}

@@ -1,6 +1,6 @@
 use Rattle.std.proofs.Common.{◌≡◌, ◌≤◌, ◌+◌, ◌*◌}
 use Rattle.jbig2_region.specs.inner.RefinementWindows.{windowed_coding}
-use Rattle.jbig2_region.specs.RunBytes.{window_loads}
+use Rattle.jbig2_region.specs.Steps.{window_loads}
 use Rattle.jbig2_region.proofs.StretchLemmas.{RowsDecoded}
 use Rattle.jbig2_region.proofs.refinement_kernel.decode_windowed.Given as goal
 

@@ -6,8 +6,7 @@ use Rattle.jbig2_base.specs.inner.SegmentViews.{file_view, segment_views}
 use Rattle.jbig2_base.specs.declared.error.DecodeError.{DecodeError}
 use Rattle.jbig2_base.specs.declared.file_header.FileHeader.{FileHeader}
 use Rattle.hayro_jbig2.specs.Files.{PageInFile, associated, book_at, by_pages, filed_each, miscounts, of_page}
-use Rattle.hayro_jbig2.specs.Globals.{named_from}
-use Rattle.hayro_jbig2.specs.Names.{Names, no_names}
+use Rattle.hayro_jbig2.specs.Names.{named_from, Names, no_names}
 use Rattle.hayro_jbig2.specs.inner.ByPages.{by_page_view}
 use Rattle.hayro_jbig2.proofs.file.File.new.Goals as goal
 use Rattle.hayro_jbig2.proofs.file.File.new.Goals.{else-strict-via-then-strict+else-miscounts, else-strict-via-else-strict}

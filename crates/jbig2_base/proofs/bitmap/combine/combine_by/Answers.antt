@@ -1,5 +1,5 @@
 use Rattle.std.proofs.Common.{◌≡◌, ℕ, ◌+◌, ◌*◌, ◌∙◌, ap, subst, refl, inr, arith}
-use Rattle.jbig2_base.specs.Combination.{WritesWithin, most_words}
+use Rattle.jbig2_base.specs.Counts.{WritesWithin, most_words}
 use Rattle.jbig2_base.specs.inner.Blocks.{with_block}
 use Rattle.jbig2_base.proofs.BlockLemmas.{block-none, page-more}
 use Rattle.jbig2_base.proofs.CountLemmas.{within-none, within-more}

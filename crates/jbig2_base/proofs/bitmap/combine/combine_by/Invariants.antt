@@ -1,6 +1,6 @@
 use Rattle.std.proofs.Common.{◌≡◌, ◌+◌, ◌*◌}
 use Rattle.jbig2_base.specs.inner.Blocks.{with_block}
-use Rattle.jbig2_base.specs.Combination.{WritesWithin, most_words}
+use Rattle.jbig2_base.specs.Counts.{WritesWithin, most_words}
 use Rattle.jbig2_base.proofs.bitmap.combine.combine_by.Given as goal
 
 abbrev pub invariant-loop-row : goal.invariant-loop-row

@@ -1,8 +1,7 @@
-use Rattle.std.proofs.Common.{◌≡◌, Bool, ℕ, ◌+◌, ◌-◌, ◌*◌, ◌/◌, ◌%◌, ◌^◌, ◌<◌, ◌≤◌, get_or, sym, ap, subst, ◌∙◌, arith}
+use Rattle.std.proofs.Common.{◌≡◌, Bool, ℕ, ◌+◌, ◌-◌, ◌*◌, ◌/◌, get_or, ap, subst, ◌∙◌, arith}
 use Rattle.std.specs.Simd.Lanes.{put_chunk}
 use Rattle.jbig2_base.specs.Counts.{Counts}
 use Rattle.jbig2_base.specs.Grid.{pixel_at}
-use Rattle.jbig2_base.specs.inner.WordBits.{bit}
 use Rattle.jbig2_halftone.specs.inner.NextValues.{next_value}
 use Rattle.jbig2_halftone.proofs.LaneLemmas.{TakenTo, row-start, row-group, row-pixel, chunk-small, lanes_to, lanes-start, lanes-group, lanes-pixel, black-of}
 use Rattle.jbig2_halftone.proofs.gray_scale.lanes.add_row.Goals as goal

@@ -1,6 +1,6 @@
 use Rattle.std.proofs.Common.{◌-◌, ◌+◌, ◌%◌, get_or, refl, arith, ◌∙◌, ap, ℕ, bit_and}
 use Rattle.std.specs.Int.Bits.{bit_xor}
-use Rattle.jbig2_base.specs.inner.WordBits.{bit}
+use Rattle.jbig2_base.specs.Bits.{bit}
 use Rattle.jbig2_halftone.proofs.LaneLemmas.{group-at, group-length, lane-value, ones, one-lane}
 use Rattle.jbig2_halftone.proofs.gray_scale.lanes.next_group.Goals as goal
 

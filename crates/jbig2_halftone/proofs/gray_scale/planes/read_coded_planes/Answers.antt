@@ -1,7 +1,6 @@
 use Rattle.std.proofs.Common.{◌≡◌, ◌⊎◌, ⊎_elim, ℕ, ◌<◌, false, Result, Ok, Err, subst, arith, rules}
 use Rattle.std.proofs.lemmas.Bool.{le-ltb}
-use Rattle.jbig2_base.specs.Grid.{Grid, blank}
-use Rattle.jbig2_base.specs.Sizes.{blank_or_overflow}
+use Rattle.jbig2_base.specs.Grid.{Grid, blank, blank_or_overflow}
 use Rattle.jbig2_base.specs.declared.error.DecodeError.{DecodeError}
 use Rattle.jbig2_base.specs.declared.error.DecodeError.TheVariants.{OutOfMemory}
 use Rattle.jbig2_base.proofs.LaneCounts.{lanes-none, lanes-then}

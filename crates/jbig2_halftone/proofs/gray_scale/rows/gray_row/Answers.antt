@@ -1,6 +1,5 @@
-use Rattle.std.proofs.Common.{◌≡◌, ◌≤◌, ℕ, List, length, take, get_or, replicate, sym, ap, subst, ◌∙◌, ◌+◌, ◌++◌, [], ◌∷◌, arith}
+use Rattle.std.proofs.Common.{◌≡◌, ◌≤◌, ℕ, List, length, take, sym, ap, ◌∙◌, ◌+◌, ◌++◌, [], ◌∷◌, arith}
 use Rattle.std.proofs.lemmas.List.{take_more, take_all}
-use Rattle.jbig2_base.specs.Counts.{Counts}
 use Rattle.jbig2_base.specs.Grid.{Grid}
 use Rattle.jbig2_halftone.specs.inner.NextValues.{row_values}
 use Rattle.jbig2_halftone.specs.inner.Stages.{after_lane_rows}

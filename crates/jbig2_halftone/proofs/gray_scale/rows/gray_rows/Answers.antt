@@ -1,7 +1,5 @@
-use Rattle.std.proofs.Common.{◌≡◌, ◌≤◌, ◌+◌, ◌*◌, ℕ, List, length, take, rules, sym, ap, ◌∙◌, arith}
+use Rattle.std.proofs.Common.{◌≡◌, ◌≤◌, ◌+◌, ◌*◌, ℕ, List, length, rules, sym, ap, ◌∙◌, arith}
 use Rattle.std.proofs.lemmas.List.{take_all}
-use Rattle.jbig2_base.specs.Counts.{Counts}
-use Rattle.jbig2_base.specs.Grid.{Grid}
 use Rattle.jbig2_halftone.specs.GrayScale.{gray_values}
 use Rattle.jbig2_halftone.specs.inner.NextValues.{row_values}
 use Rattle.jbig2_halftone.specs.inner.Stages.{after_lane_rows}

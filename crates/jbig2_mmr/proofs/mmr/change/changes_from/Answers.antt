@@ -1,6 +1,6 @@
 use Rattle.std.proofs.Common.{Bool, ◌&&◌, sym, ap, ◌∙◌}
-use Rattle.jbig2_base.specs.inner.WordBits.{bit}
-use Rattle.jbig2_mmr.specs.T6.{differ}
+use Rattle.jbig2_base.specs.Bits.{bit}
+use Rattle.jbig2_base.specs.Grid.{differ}
 use Rattle.jbig2_mmr.proofs.T6Changes.{white-bits, black-bits}
 use Rattle.jbig2_mmr.proofs.mmr.change.changes_from.Goals as goal
 

@@ -7,7 +7,7 @@ use Rattle.jbig2_region.specs.inner.Holds.{Holds}
 use Rattle.jbig2_region.specs.inner.LongRuns.{is_run_for}
 use Rattle.jbig2_region.specs.inner.Neighbours.{DecodesPixels, nominal_pixels, row_coding}
 use Rattle.jbig2_region.specs.inner.Rows.{after_pixels}
-use Rattle.jbig2_region.specs.RunBytes.{is_run_of}
+use Rattle.jbig2_region.specs.Steps.{is_run_of}
 use Rattle.jbig2_region.proofs.CountLemmas.{byte-runs, counts-byte}
 use Rattle.jbig2_region.proofs.PushLemmas.{no-run}
 use Rattle.jbig2_region.proofs.RunLemmas.{nominal-length, not-staying, run-colour, lowest-bit}

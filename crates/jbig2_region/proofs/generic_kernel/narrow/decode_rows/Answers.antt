@@ -2,7 +2,7 @@ use Rattle.std.proofs.Common.{arith, refl, true, false, ◌≡◌, ◌+◌, ◌-
 use Rattle.jbig2_base.proofs.LaneCounts.{lanes-none, lanes-then}
 use Rattle.jbig2_base.specs.Counts.{Counts}
 use Rattle.jbig2_base.specs.Grid.{Grid, pixel_at}
-use Rattle.jbig2_base.specs.inner.WordBits.{bit}
+use Rattle.jbig2_base.specs.Bits.{bit}
 use Rattle.jbig2_base.specs.inner.Writes.{with_pixels}
 use Rattle.jbig2_region.specs.inner.Holds.{BeginsRow, Holds}
 use Rattle.jbig2_region.specs.inner.PushedPixels.{StandsRow}
@@ -10,7 +10,7 @@ use Rattle.jbig2_region.specs.inner.Neighbours.{DecodesPixels, SameAbove, nomina
 use Rattle.jbig2_region.specs.inner.RowCounts.{CountsRow, CountsRuns}
 use Rattle.jbig2_region.specs.Raster.{Region, no_pixels}
 use Rattle.jbig2_region.specs.inner.Rows.{after_rows}
-use Rattle.jbig2_region.specs.RunBytes.{row_tests, row_words}
+use Rattle.jbig2_region.specs.Steps.{row_tests, row_words}
 use Rattle.jbig2_region.proofs.CountLemmas.{row-nominal}
 use Rattle.jbig2_region.proofs.PushLemmas.{begins-plain, shows-first}
 use Rattle.jbig2_region.proofs.PlaceLemmas.{region-whole}

@@ -4,7 +4,7 @@ use Rattle.jbig2_region.specs.inner.Holds.{Holds}
 use Rattle.jbig2_region.specs.inner.Neighbours.{Shows, nominal_pixels, row_coding}
 use Rattle.jbig2_region.specs.Raster.{no_pixels}
 use Rattle.jbig2_region.specs.inner.Rows.{after_rows}
-use Rattle.jbig2_region.specs.RunBytes.{row_tests, row_words}
+use Rattle.jbig2_region.specs.Steps.{row_tests, row_words}
 use Rattle.jbig2_region.proofs.RegionLemmas.{Counted}
 use Rattle.jbig2_region.proofs.generic_kernel.narrow.decode_rows.Given as goal
 

@@ -5,7 +5,7 @@ use Rattle.jbig2_coder.specs.Coder.{Coder, Context, Registers, fresh, all_quiet}
 use Rattle.jbig2_coder.specs.Table.{row_of}
 use Rattle.jbig2_region.specs.inner.Neighbours.{nominal_pixels}
 use Rattle.jbig2_base.specs.Grid.{same_colour}
-use Rattle.jbig2_region.specs.RunBytes.{all_of}
+use Rattle.jbig2_region.specs.Steps.{all_of}
 use Rattle.jbig2_region.proofs.GroupLemmas.{group-stays}
 use Rattle.jbig2_region.proofs.RunLemmas.{run-made, run-of, run-parts, uniform-number, not-staying, and-middle}
 use Rattle.jbig2_region.proofs.RunSteps.{no-fall}

@@ -1,8 +1,8 @@
 use Rattle.std.proofs.Common.{arith, ◌≡◌, ℕ, ◌+◌, ◌-◌, ◌*◌, false, ap, sym, subst, refl, ◌∙◌}
 use Rattle.jbig2_base.specs.Counts.{Counts}
 use Rattle.jbig2_base.specs.Grid.{Grid}
-use Rattle.jbig2_base.specs.inner.WordBits.{bit}
-use Rattle.jbig2_region.specs.Skipping.{skip_of, skipping_coding}
+use Rattle.jbig2_base.specs.Bits.{bit}
+use Rattle.jbig2_region.specs.{inner.RegionViews.{skip_of}, Generic.{skipping_coding}}
 use Rattle.jbig2_region.specs.inner.Codes.{CountsCodes}
 use Rattle.jbig2_region.specs.inner.Neighbours.{nominal_pixels}
 use Rattle.jbig2_region.specs.inner.RefinementBlocks.{Block}

@@ -1,5 +1,5 @@
 use Rattle.std.proofs.Common.{false}
-use Rattle.jbig2_region.specs.Skipping.{skip_of, skipping_coding}
+use Rattle.jbig2_region.specs.{inner.RegionViews.{skip_of}, Generic.{skipping_coding}}
 use Rattle.jbig2_region.specs.inner.Neighbours.{nominal_pixels}
 use Rattle.jbig2_region.specs.inner.RefinementBlocks.{Block}
 use Rattle.jbig2_region.proofs.skipping.rows.decode_block.Given as goal

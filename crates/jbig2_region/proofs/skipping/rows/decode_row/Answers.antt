@@ -1,7 +1,7 @@
 use Rattle.std.proofs.Common.{arith, false, min, subst, ◌≡◌, ◌+◌, ◌*◌, ℕ}
 use Rattle.jbig2_base.proofs.LaneCounts.{lanes-none, lanes-then}
 use Rattle.jbig2_region.specs.Raster.{Coding}
-use Rattle.jbig2_region.specs.Skipping.{skip_of, skipping_coding}
+use Rattle.jbig2_region.specs.{inner.RegionViews.{skip_of}, Generic.{skipping_coding}}
 use Rattle.jbig2_region.specs.inner.Neighbours.{IsLeft, nominal_pixels}
 use Rattle.jbig2_region.proofs.StoreLemmas.{left-none}
 use Rattle.jbig2_region.proofs.StretchLemmas.{pixels-none, pixels-then}

@@ -2,7 +2,7 @@ use Rattle.std.proofs.Common.{◌≡◌, ◌≤◌, ℕ, ◌+◌, false, None, r
 use Rattle.jbig2_base.proofs.LaneCounts.{lanes-none, lanes-then}
 use Rattle.jbig2_base.specs.Grid.{Grid}
 use Rattle.jbig2_region.specs.Raster.{Coding, Region, no_pixels}
-use Rattle.jbig2_region.specs.Skipping.{skip_of, skipping_coding, skipping_loads, skipping_words}
+use Rattle.jbig2_region.specs.{inner.RegionViews.{skip_of}, Steps.{skipping_loads, skipping_words}, Generic.{skipping_coding}}
 use Rattle.jbig2_region.specs.inner.Holds.{BeginsRow, Holds}
 use Rattle.jbig2_region.specs.inner.Neighbours.{nominal_pixels}
 use Rattle.jbig2_region.proofs.PlaceLemmas.{region-empty, region-whole}

@@ -1,6 +1,6 @@
 use Rattle.std.proofs.Common.{◌≤◌, ◌+◌, ◌*◌, false}
 use Rattle.jbig2_base.specs.Counts.{KeepsLanes}
-use Rattle.jbig2_region.specs.Skipping.{skip_of, skipping_coding, skipping_loads, skipping_words}
+use Rattle.jbig2_region.specs.{inner.RegionViews.{skip_of}, Steps.{skipping_loads, skipping_words}, Generic.{skipping_coding}}
 use Rattle.jbig2_region.specs.inner.Neighbours.{nominal_pixels}
 use Rattle.jbig2_region.proofs.StretchLemmas.{RowsDecoded}
 use Rattle.jbig2_region.proofs.skipping.rows.decode_rows.Given as goal

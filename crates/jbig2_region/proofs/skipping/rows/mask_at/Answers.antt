@@ -1,6 +1,6 @@
 use Rattle.std.proofs.Common.{Option, Bor, ap}
 use Rattle.jbig2_base.specs.Grid.{Grid}
-use Rattle.jbig2_region.specs.Skipping.{skip_of}
+use Rattle.jbig2_region.specs.inner.RegionViews.{skip_of}
 use Rattle.jbig2_region.proofs.SkippingLemmas.{no-mask}
 use Rattle.jbig2_region.proofs.skipping.rows.mask_at.Goals as goal
 

@@ -1,6 +1,6 @@
 use Rattle.std.proofs.Common.{◌≡◌, take}
 use Rattle.std.specs.Prelude.{sum}
-use Rattle.jbig2_symbol.specs.Exports.{exported_from}
+use Rattle.jbig2_symbol.specs.Symbols.{exported_from}
 use Rattle.jbig2_symbol.specs.inner.SymbolViews.{all_symbols}
 use Rattle.jbig2_symbol.proofs.symbol.exports.export_symbols.Given as goal
 

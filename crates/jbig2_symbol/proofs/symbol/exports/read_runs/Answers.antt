@@ -1,6 +1,6 @@
 use Rattle.std.proofs.Common.{◌≡◌, ◌+◌, ◌-◌, ◌++◌, [], ◌∷◌, eqb, List, sym, ap, ◌∙◌, inr, arith, rules}
 use Rattle.jbig2_base.specs.Grid.{bit_number}
-use Rattle.jbig2_symbol.specs.Exports.{runs_from}
+use Rattle.jbig2_symbol.specs.Symbols.{runs_from}
 use Rattle.jbig2_symbol.specs.inner.SymbolViews.{behind, input_view}
 use Rattle.jbig2_symbol.proofs.ExportLemmas.{covered-more, room-left, runs-done, runs-fault, runs-next}
 use Rattle.jbig2_symbol.proofs.symbol.exports.read_runs.Goals as goal

@@ -1,6 +1,6 @@
 use Rattle.std.proofs.Common.{◌≡◌, ◌+◌, ◌-◌, ◌≤◌}
 use Rattle.std.specs.Prelude.{sum}
-use Rattle.jbig2_symbol.specs.Exports.{export_runs, runs_from}
+use Rattle.jbig2_symbol.specs.Symbols.{export_runs, runs_from}
 use Rattle.jbig2_symbol.specs.inner.SymbolViews.{behind, input_view}
 use Rattle.jbig2_symbol.proofs.symbol.exports.read_runs.Given as goal
 

@@ -4,7 +4,7 @@ use Rattle.jbig2_region.specs.inner.PixelArrays.{two_pixels}
 use Rattle.jbig2_region.specs.declared.template.AdaptiveTemplatePixel.{AdaptiveTemplatePixel}
 use Rattle.jbig2_region.specs.inner.Holds.{DecodesRegion}
 use Rattle.jbig2_region.specs.inner.RefinementViews.{reference_view}
-use Rattle.jbig2_text.specs.Refining.{Refining, some_pixels}
+use Rattle.jbig2_text.specs.{Refining.{Refining}, inner.TextViews.{some_pixels}}
 use Rattle.jbig2_text.proofs.RefiningLemmas.{coder-is, filled-holds}
 use Rattle.jbig2_text.proofs.text.refining.refine_by.Goals as goal
 

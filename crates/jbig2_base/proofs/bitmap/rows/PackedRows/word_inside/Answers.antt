@@ -1,6 +1,6 @@
 use Rattle.std.proofs.Common.{◌+◌, ◌-◌, ◌*◌, ◌<◌, ◌∙◌, ap, ℕ, arith}
 use Rattle.std.proofs.lemmas.List.{get_or_read}
-use Rattle.jbig2_base.specs.inner.WordBits.{bit}
+use Rattle.jbig2_base.specs.Bits.{bit}
 use Rattle.jbig2_base.proofs.PackedLemmas.{word-pixel, word_place-lt}
 use Rattle.jbig2_base.proofs.bitmap.rows.PackedRows.word_inside.Goals as goal
 

@@ -1,7 +1,7 @@
 use Rattle.std.proofs.Common.{◌≡◌, ℕ, ◌+◌, ◌-◌, ◌*◌, ◌/◌, ◌%◌, ◌≤◌, get_or, refl, arith, rules}
 use Rattle.jbig2_base.specs.Grid.{Grid, pixel_at}
 use Rattle.jbig2_base.specs.inner.Shapes.{grid_in}
-use Rattle.jbig2_base.specs.inner.WordBits.{bit}
+use Rattle.jbig2_base.specs.Bits.{bit}
 use Rattle.jbig2_base.proofs.CountLemmas.{after_words-none, after_words-run}
 use Rattle.jbig2_base.proofs.RunLemmas.{run-same, run-more, aligned-source}
 use Rattle.jbig2_base.proofs.bitmap.rows.blocks.aligned_row.Goals as goal

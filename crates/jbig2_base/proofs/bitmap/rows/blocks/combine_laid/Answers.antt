@@ -1,6 +1,6 @@
 use Rattle.std.proofs.Common.{◌≡◌, ◌+◌, ◌*◌, ◌∙◌, sym, subst, ap, ℕ, inr, arith}
 use Rattle.jbig2_base.specs.Grid.{Grid}
-use Rattle.jbig2_base.specs.Combination.{WritesWithin, most_words}
+use Rattle.jbig2_base.specs.Counts.{WritesWithin, most_words}
 use Rattle.jbig2_base.specs.inner.Blocks.{with_block}
 use Rattle.jbig2_base.specs.inner.Packed.{packed_pixel}
 use Rattle.jbig2_base.specs.inner.Shapes.{grid_in}

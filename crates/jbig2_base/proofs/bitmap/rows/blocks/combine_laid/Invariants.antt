@@ -1,5 +1,5 @@
 use Rattle.std.proofs.Common.{◌≡◌, ◌+◌, ◌*◌}
-use Rattle.jbig2_base.specs.Combination.{WritesWithin, most_words}
+use Rattle.jbig2_base.specs.Counts.{WritesWithin, most_words}
 use Rattle.jbig2_base.specs.inner.Blocks.{with_block}
 use Rattle.jbig2_base.specs.inner.Shapes.{HasShape, grid_in}
 use Rattle.jbig2_base.proofs.bitmap.rows.blocks.combine_laid.Given as goal

@@ -1,9 +1,9 @@
 -- What the step bounds of regions count (our own rule): decisions, run bytes, words and loads. Each
 -- `Counts..` takes how a region is coded, its size and its coded bytes, and the counts before and after it.
-use Rattle.std.specs.Prelude.{◌≡◌, ℕ, zero, suc, ◌+◌, ◌-◌, ◌*◌, ◌/◌, ◌%◌, ◌≤◌, ◌==◌, Bool, false, true, not, ◌&&◌, ◌||◌, nat_lt, if◌then◌else◌, List, ◌++◌, length, replicate, slice_index_or, is_none}
-use Rattle.jbig2_base.specs.{Counts.{Counts, KeepsLanes}, Grid.{bit_number, same_colour}}
+use Rattle.std.specs.Prelude.{◌≡◌, ℕ, zero, suc, ◌+◌, ◌-◌, ◌*◌, ◌/◌, ◌%◌, ◌≤◌, ◌==◌, Bool, false, true, not, ◌&&◌, ◌||◌, nat_lt, if◌then◌else◌, List, ◌++◌, length, replicate, slice_index_or, is_none, Option}
+use Rattle.jbig2_base.specs.{Counts.{Counts, KeepsLanes}, Grid.{bit_number, same_colour, Grid}}
 use Rattle.jbig2_coder.specs.Coder.{fresh, all_quiet, initial_registers}
-use Rattle.jbig2_region.specs.{Generic.{context_at, number_of}, Raster.{Coding, Region, so_far, at_pixel, fresh_contexts, no_pixels, row_decisions}, Refinement.{reference_of, refinement_coding}, RefinementHeader.{RefinementHeader}, RefinementTemplates.{is_nominal, refinement_bits}, RegionInfo.{PlacedRegion}, declared.template.{AdaptiveTemplatePixel.{AdaptiveTemplatePixel}, RefinementTemplate.{RefinementTemplate}}}
+use Rattle.jbig2_region.specs.{Generic.{context_at, number_of, is_skipped}, Raster.{Coding, Region, so_far, at_pixel, fresh_contexts, no_pixels, row_decisions}, Refinement.{reference_of, refinement_coding}, RefinementHeader.{RefinementHeader}, RefinementTemplates.{is_nominal, refinement_bits}, RegionInfo.{PlacedRegion}, declared.template.{AdaptiveTemplatePixel.{AdaptiveTemplatePixel}, RefinementTemplate.{RefinementTemplate}}}
 
 unfoldable pub how_many : (ℕ → Bool) → ℕ → ℕ  -- how many of the first n places of a raster have a property
 how_many has zero = 0
@@ -101,4 +101,23 @@ pub record CountsRegion (template : List AdaptiveTemplatePixel) (nominal : Bool)
   pub run_tests : after.run_tests ≤ before.run_tests + h * row_tests nominal w
   pub words : after.words ≤ before.words + h * row_words nominal w
   pub loads : after.loads ≤ before.loads + (h * row_loads nominal w + coded_pixels coding w h bytes start * adaptive)
+  pub lanes : KeepsLanes before after
+
+-- ---- steps (our own rule), where the adaptive pixels are nominal: the pixels that are not skipped
+unfoldable pub kept_pixels : Option Grid → ℕ → ℕ → ℕ
+kept_pixels skip w h = how_many (λ n. not (is_skipped skip (n % w) (n / w))) (w * h)
+
+-- loads of a row of w pixels, for 32 columns a window on the mask and one on each of the two rows above; its words
+abbrev pub skipping_loads : ℕ → ℕ
+skipping_loads w = 3 * (w / 32 + 2)
+
+abbrev pub skipping_words : ℕ → ℕ
+skipping_words w = w / 32 + 1
+
+-- a decision for each pixel that is not skipped, no run test and no lanes
+pub record CountsSkipping (skip : Option Grid) (w h : ℕ) (before after : Counts) : Type 0 where
+  pub decisions : after.decisions ≡ before.decisions + kept_pixels skip w h
+  pub run_tests : after.run_tests ≡ before.run_tests
+  pub words : after.words ≤ before.words + h * skipping_words w
+  pub loads : after.loads ≤ before.loads + h * skipping_loads w
   pub lanes : KeepsLanes before after
