@@ -1,22 +1,6 @@
-/* Calls libjbig2_c.a as a C program does. usage: calls PAGE FILE, which are page.jb2 and t88-h1.jb2 of
+/* Calls libhayro_jbig2.a as a C program does. usage: calls PAGE FILE, which are page.jb2 and t88-h1.jb2 of
  * crates/jbig2_decode/data. It is linked with malloc, realloc and free wrapped, so that it can refuse memory. */
-#include "jbig2.h"
-
-#include <stdio.h>
-#include <stdlib.h>
-#include <string.h>
-
-static unsigned checks, failures;
-
-static void check(bool holds, int line, const char *condition) {
-    checks++;
-    if (!holds) {
-        failures++;
-        printf("calls.c:%d: not so: %s\n", line, condition);
-    }
-}
-
-#define CHECK(condition) check((condition), __LINE__, #condition)
+#include "checks.h"
 
 /* The requests for memory of a call: the one of this number is refused. */
 static unsigned long requests, refused_request;
@@ -43,27 +27,7 @@ void __wrap_free(void *block) {
     __real_free(block);
 }
 
-struct bytes {
-    uint8_t at[4096];
-    size_t length;
-};
-
 static struct bytes page, book, globals, none, taken;
-
-static void read_file(const char *name, struct bytes *bytes) {
-    FILE *file = fopen(name, "rb");
-    if (file == NULL) {
-        perror(name);
-        exit(2);
-    }
-    bytes->length = fread(bytes->at, 1, sizeof bytes->at, file);
-    fclose(file);
-}
-
-static void append(struct bytes *bytes, const void *more, size_t length) {
-    memcpy(bytes->at + bytes->length, more, length);
-    bytes->length += length;
-}
 
 /* A page with the byte at this place put in place of its own. */
 static struct bytes with_byte(const struct bytes *bytes, size_t place, uint8_t byte) {
@@ -87,25 +51,6 @@ static bool is_kept_behind(size_t length) {
     return true;
 }
 
-/* T.88 H.1: pages 1 and 2, 64 by 56, and page 3, 37 by 8, a number for each row. */
-static const uint64_t both_pages[56] = {
-    0x0000000000000000, 0x07878f0f0f000000, 0x0840488090800000, 0x0807c88f90000000, 0x0808489090000000,
-    0x08484f1090800000, 0x0787c80f8f000000, 0x0000080000000000, 0x0000080000000000, 0x0000000000000000,
-    0x0000000000000000, 0x0fffffffffffffc0, 0x0fffffffffffffc0, 0x0c000000000000c0, 0x0c000000000000c0,
-    0x0c000000022200c0, 0x0c00026666ee00c0, 0x0c000002666600c0, 0x0c000000000400c0, 0x0c000000222200c0,
-    0x0c0026666eee00c0, 0x0c000026666700c0, 0x0c000000004400c0, 0x0c000002222600c0, 0x0c006666eeee00c0,
-    0x0c000266667f00c0, 0x0c000000044400c0, 0x0c000022226600c0, 0x0c00666eeeee00c0, 0x0c00266667ff00c0,
-    0x0c000000444600c0, 0x0c000222266600c0, 0x0c0066eeeeef00c0, 0x0c0066667fff00c0, 0x0c000004446600c0,
-    0x0c002222666e00c0, 0x0c006eeeeeff00c0, 0x0c006667ffff00c0, 0x0c000044466600c0, 0x0c00222666ef00c0,
-    0x0c00eeeeefff00c0, 0x0c00667fffff00c0, 0x0c000444666600c0, 0x0c0022666eff00c0, 0x0c00eeeeffff00c0,
-    0x0c0067ffffff00c0, 0x0c004446666700c0, 0x0c002666efff00c0, 0x0c00eeefffff00c0, 0x0c007fffffff00c0,
-    0x0c004466667f00c0, 0x0c000000000000c0, 0x0c000000000000c0, 0x0fffffffffffffc0, 0x0fffffffffffffc0,
-    0x0000000000000000,
-};
-static const uint64_t third_page[8] = {
-    0x7878f0f0f0, 0x8404880908, 0x807c88f900, 0x8084890900, 0x8484f10908, 0x787c80f8f0, 0x0000800000, 0x0000800000,
-};
-
 static bool is_black(const uint64_t *rows, unsigned row_bytes, unsigned x, unsigned y) {
     return rows[y] >> (8 * row_bytes - 1 - x) & 1;
 }
@@ -126,17 +71,18 @@ static bool is_image(const uint64_t *rows, unsigned width, unsigned height) {
 
 static void draws_the_pages_of_a_file(bool strict) {
     size_t count = 0;
-    CHECK(jbig2_page_count(strict, book.at, book.length, &count) == JBIG2_OK && count == 3);
+    CHECK(hayro_jbig2_page_count(strict, book.at, book.length, &count) == HAYRO_JBIG2_OK && count == 3);
     for (size_t index = 0; index < 3; index++) {
         const uint64_t *rows = index < 2 ? both_pages : third_page;
         uint32_t width = 0, height = 0;
-        CHECK(jbig2_page_size(strict, book.at, book.length, index, &width, &height) == JBIG2_OK);
+        CHECK(hayro_jbig2_page_size(strict, book.at, book.length, index, &width, &height) == HAYRO_JBIG2_OK);
         CHECK(width == (index < 2 ? 64 : 37) && height == (index < 2 ? 56 : 8));
         clear();
-        CHECK(jbig2_page_image(strict, book.at, book.length, index, buffer, width * height) == JBIG2_OK);
+        CHECK(hayro_jbig2_page_image(strict, book.at, book.length, index, buffer, width * height) == HAYRO_JBIG2_OK);
         CHECK(is_image(rows, width, height));
         clear();
-        CHECK(jbig2_page_packed(strict, book.at, book.length, index, buffer, (width + 7) / 8 * height) == JBIG2_OK);
+        CHECK(hayro_jbig2_page_packed(strict, book.at, book.length, index, buffer, (width + 7) / 8 * height) ==
+              HAYRO_JBIG2_OK);
         CHECK(is_packed(rows, (width + 7) / 8, height));
     }
 }
@@ -146,15 +92,15 @@ static void draws(const struct bytes *with, const struct bytes *stream, uint32_t
     for (int strict = 0; strict < 2; strict++) {
         unsigned row_bytes = (columns + 7) / 8;
         uint32_t width = 0, height = 0;
-        CHECK(jbig2_embedded_size(strict, stream->at, stream->length, &width, &height) == JBIG2_OK);
+        CHECK(hayro_jbig2_embedded_size(strict, stream->at, stream->length, &width, &height) == HAYRO_JBIG2_OK);
         CHECK(width == columns && height == 1);
         clear();
-        CHECK(jbig2_embedded_image(strict, with->at, with->length, stream->at, stream->length, buffer, columns) ==
-              JBIG2_OK);
+        CHECK(hayro_jbig2_embedded_image(strict, with->at, with->length, stream->at, stream->length, buffer, columns) ==
+              HAYRO_JBIG2_OK);
         CHECK(is_image(&row, columns, 1));
         clear();
-        CHECK(jbig2_embedded_packed(strict, with->at, with->length, stream->at, stream->length, buffer, row_bytes) ==
-              JBIG2_OK);
+        CHECK(hayro_jbig2_embedded_packed(strict, with->at, with->length, stream->at, stream->length, buffer,
+                                          row_bytes) == HAYRO_JBIG2_OK);
         CHECK(is_packed(&row, row_bytes, 1));
     }
 }
@@ -180,21 +126,21 @@ static uint32_t made(enum call call, const struct input *in) {
     told_height = 43210;
     switch (call) {
     case COUNT:
-        return jbig2_page_count(in->strict, file->at, file->length, &told_count);
+        return hayro_jbig2_page_count(in->strict, file->at, file->length, &told_count);
     case SIZE:
-        return jbig2_page_size(in->strict, file->at, file->length, in->index, &told_width, &told_height);
+        return hayro_jbig2_page_size(in->strict, file->at, file->length, in->index, &told_width, &told_height);
     case IMAGE:
-        return jbig2_page_image(in->strict, file->at, file->length, in->index, buffer, in->length);
+        return hayro_jbig2_page_image(in->strict, file->at, file->length, in->index, buffer, in->length);
     case PACKED:
-        return jbig2_page_packed(in->strict, file->at, file->length, in->index, buffer, in->length);
+        return hayro_jbig2_page_packed(in->strict, file->at, file->length, in->index, buffer, in->length);
     case EMBEDDED_SIZE:
-        return jbig2_embedded_size(in->strict, stream->at, stream->length, &told_width, &told_height);
+        return hayro_jbig2_embedded_size(in->strict, stream->at, stream->length, &told_width, &told_height);
     case EMBEDDED_IMAGE:
-        return jbig2_embedded_image(in->strict, with->at, with->length, stream->at, stream->length, buffer,
-                                    in->length);
+        return hayro_jbig2_embedded_image(in->strict, with->at, with->length, stream->at, stream->length, buffer,
+                                          in->length);
     case EMBEDDED_PACKED:
-        return jbig2_embedded_packed(in->strict, with->at, with->length, stream->at, stream->length, buffer,
-                                     in->length);
+        return hayro_jbig2_embedded_packed(in->strict, with->at, with->length, stream->at, stream->length, buffer,
+                                           in->length);
     default:
         abort();
     }
@@ -215,15 +161,15 @@ static void refuses_other_sizes(void) {
     const size_t images[] = {0, 1, 64 * 56 - 1, 64 * 56 + 1, 8 * 56};
     const size_t rows[] = {0, 1, 8 * 56 - 1, 8 * 56 + 1, 64 * 56};
     for (int i = 0; i < 5; i++) {
-        refuses(IMAGE, (struct input){.file = &book, .length = images[i]}, JBIG2_OTHER_SIZE);
-        refuses(PACKED, (struct input){.file = &book, .length = rows[i]}, JBIG2_OTHER_SIZE);
+        refuses(IMAGE, (struct input){.file = &book, .length = images[i]}, HAYRO_JBIG2_OTHER_SIZE);
+        refuses(PACKED, (struct input){.file = &book, .length = rows[i]}, HAYRO_JBIG2_OTHER_SIZE);
     }
     for (size_t length = 0; length < 10; length++) {
         struct input in = {.globals = &none, .stream = &page, .length = length};
         if (length != 8)
-            refuses(EMBEDDED_IMAGE, in, JBIG2_OTHER_SIZE);
+            refuses(EMBEDDED_IMAGE, in, HAYRO_JBIG2_OTHER_SIZE);
         if (length != 1)
-            refuses(EMBEDDED_PACKED, in, JBIG2_OTHER_SIZE);
+            refuses(EMBEDDED_PACKED, in, HAYRO_JBIG2_OTHER_SIZE);
     }
 }
 
@@ -231,7 +177,8 @@ static void refuses_other_pages(void) {
     const size_t indices[] = {3, 4, (size_t)-1};
     for (int i = 0; i < 3; i++)
         for (enum call call = SIZE; call <= PACKED; call++)
-            refuses(call, (struct input){.file = &book, .index = indices[i], .length = 8 * 56}, JBIG2_NO_SUCH_PAGE);
+            refuses(call, (struct input){.file = &book, .index = indices[i], .length = 8 * 56},
+                    HAYRO_JBIG2_NO_SUCH_PAGE);
 }
 
 /* Each call on a file, with no file, another one's, and one whose page has no end. */
@@ -242,14 +189,14 @@ static void refuses_faulty_files(void) {
     struct bytes pageless = {.length = 13};
     memcpy(pageless.at, unended.at, 13);
     for (enum call call = COUNT; call <= PACKED; call++) {
-        refuses(call, (struct input){.file = &none}, JBIG2_PARSE_UNEXPECTED_EOF);
-        refuses(call, (struct input){.file = &page}, JBIG2_FORMAT_INVALID_HEADER);
-        refuses(call, (struct input){.file = &unended, .strict = true}, JBIG2_FORMAT_INVALID_END_OF_PAGE);
-        refuses(call, (struct input){.file = &pageless, .strict = true}, JBIG2_FORMAT_PAGE_COUNT_MISMATCH);
+        refuses(call, (struct input){.file = &none}, HAYRO_JBIG2_PARSE_UNEXPECTED_EOF);
+        refuses(call, (struct input){.file = &page}, HAYRO_JBIG2_FORMAT_INVALID_HEADER);
+        refuses(call, (struct input){.file = &unended, .strict = true}, HAYRO_JBIG2_FORMAT_INVALID_END_OF_PAGE);
+        refuses(call, (struct input){.file = &pageless, .strict = true}, HAYRO_JBIG2_FORMAT_PAGE_COUNT_MISMATCH);
     }
-    CHECK(made(COUNT, &(struct input){.file = &unended}) == JBIG2_OK && told_count == 1);
-    CHECK(made(COUNT, &(struct input){.file = &pageless}) == JBIG2_OK && told_count == 0);
-    refuses(SIZE, (struct input){.file = &pageless}, JBIG2_NO_SUCH_PAGE);
+    CHECK(made(COUNT, &(struct input){.file = &unended}) == HAYRO_JBIG2_OK && told_count == 1);
+    CHECK(made(COUNT, &(struct input){.file = &pageless}) == HAYRO_JBIG2_OK && told_count == 0);
+    refuses(SIZE, (struct input){.file = &pageless}, HAYRO_JBIG2_NO_SUCH_PAGE);
 }
 
 static void refuses_faulty_streams(void) {
@@ -262,18 +209,18 @@ static void refuses_faulty_streams(void) {
         in.length = call == EMBEDDED_IMAGE ? 8 : 1;
         in.strict = false;
         in.stream = &none;
-        refuses(call, in, JBIG2_FORMAT_MISSING_PAGE_INFO);
+        refuses(call, in, HAYRO_JBIG2_FORMAT_MISSING_PAGE_INFO);
         in.stream = &wide;
-        refuses(call, in, JBIG2_OVERFLOW_BITMAP_DIMENSION);
+        refuses(call, in, HAYRO_JBIG2_OVERFLOW_BITMAP_DIMENSION);
         in.stream = &empty;
-        refuses(call, in, JBIG2_FORMAT_EMPTY_PAGE);
+        refuses(call, in, HAYRO_JBIG2_FORMAT_EMPTY_PAGE);
         in.stream = &cut;
-        CHECK(made(call, &in) == JBIG2_OK && !is_kept());
+        CHECK(made(call, &in) == HAYRO_JBIG2_OK && !is_kept());
         in.strict = true;
-        refuses(call, in, JBIG2_PARSE_UNEXPECTED_EOF);
+        refuses(call, in, HAYRO_JBIG2_PARSE_UNEXPECTED_EOF);
         in.stream = &foreign;
         if (call != EMBEDDED_SIZE)
-            refuses(call, in, JBIG2_UNSUPPORTED);
+            refuses(call, in, HAYRO_JBIG2_UNSUPPORTED);
     }
 }
 
@@ -281,9 +228,9 @@ static void refuses_faulty_globals(void) {
     struct bytes faulty = {.length = 0};
     append(&faulty, "\0\0\0\2\0\x20\2", 7);
     refuses(EMBEDDED_IMAGE, (struct input){.globals = &faulty, .stream = &page, .length = 8},
-            JBIG2_SEGMENT_INVALID_REFERENCE);
+            HAYRO_JBIG2_SEGMENT_INVALID_REFERENCE);
     refuses(EMBEDDED_PACKED, (struct input){.globals = &faulty, .stream = &page, .length = 1},
-            JBIG2_SEGMENT_INVALID_REFERENCE);
+            HAYRO_JBIG2_SEGMENT_INVALID_REFERENCE);
 }
 
 /* Each request of each call, refused in turn. */
@@ -298,9 +245,9 @@ static void tells_want_of_memory(void) {
             uint32_t answer = made(call, &in);
             refused_request = 0;
             CHECK(held == 0);
-            if (answer == JBIG2_OK)
+            if (answer == HAYRO_JBIG2_OK)
                 break;
-            CHECK(answer == JBIG2_OUT_OF_MEMORY && is_kept());
+            CHECK(answer == HAYRO_JBIG2_OUT_OF_MEMORY && is_kept());
             refusals++;
         }
         CHECK(refusals > 0 && requests == refusals);
@@ -308,13 +255,14 @@ static void tells_want_of_memory(void) {
 }
 
 static void has_texts(void) {
-    CHECK(strcmp(jbig2_error_text(JBIG2_OK), "no error") == 0);
-    CHECK(strcmp(jbig2_error_text(JBIG2_OUT_OF_MEMORY), "out of memory") == 0);
-    CHECK(strcmp(jbig2_error_text(JBIG2_NO_SUCH_PAGE), "no such page") == 0);
-    for (uint32_t answer = 0; answer <= JBIG2_OUT_OF_MEMORY; answer++)
-        CHECK(jbig2_error_text(answer) != NULL && jbig2_error_text(answer) != jbig2_error_text(99));
-    CHECK(jbig2_error_text(42) == jbig2_error_text(99));
-    CHECK(jbig2_error_text(UINT32_MAX) == jbig2_error_text(99));
+    CHECK(strcmp(hayro_jbig2_error_text(HAYRO_JBIG2_OK), "no error") == 0);
+    CHECK(strcmp(hayro_jbig2_error_text(HAYRO_JBIG2_OUT_OF_MEMORY), "out of memory") == 0);
+    CHECK(strcmp(hayro_jbig2_error_text(HAYRO_JBIG2_NO_SUCH_PAGE), "no such page") == 0);
+    for (uint32_t answer = 0; answer <= HAYRO_JBIG2_OUT_OF_MEMORY; answer++)
+        CHECK(hayro_jbig2_error_text(answer) != NULL && hayro_jbig2_error_text(answer) != hayro_jbig2_error_text(99));
+    CHECK(hayro_jbig2_error_text(42) == hayro_jbig2_error_text(99));
+    CHECK(hayro_jbig2_error_text(UINT32_MAX) == hayro_jbig2_error_text(99));
+    CHECK(strcmp(hayro_jbig2_version(), HAYRO_JBIG2_VERSION) == 0);
 }
 
 int main(int count, char **words) {
@@ -322,11 +270,7 @@ int main(int count, char **words) {
         return 2;
     read_file(words[1], &page);
     read_file(words[2], &book);
-    /* Row R9.2 of docs/ROWS.md: a text region whose symbols lie in the globals. */
-    append(&globals, "\0\0\0\1\0\0\1\0\0\0\x0F" "\0\1\0\0\0\1\0\0\0\1\x5F\x80\x80\0\x40", 26);
-    append(&taken, page.at, page.length);
-    append(&taken, "\0\0\0\2\6\x20\1\1\0\0\0\x2D" "\0\0\0\x08\0\0\0\1\0\0\0\0\0\0\0\0\0", 29);
-    append(&taken, "\0\x11\0\0\0\0\0\1\1" "\0\0\0\0\0\0\0\0\0\0\0\0\0\0\0\0\0" "\0\4", 28);
+    page_with_globals(&page, &globals, &taken);
     held = 0;
 
     draws_the_pages_of_a_file(false);

@@ -41,64 +41,129 @@ def library_errors():
 
 def compare_numbers(library):
     """The header's, the definitions' and the library's own."""
-    header = text_of(HERE, "jbig2.h")
-    numbers = {name: int(number) for name, number in re.findall(r"^    JBIG2_(\w+) = (\d+)", header, re.M)}
-    defined = re.findall(r"^\w+_number (\w+)\.(\w+) = (\d+)$", text_of(HERE, "source", "specs", "Numbers.antt.txt"), re.M)
+    header = text_of(HERE, "hayro_jbig2.h")
+    numbers = {name: int(number) for name, number in re.findall(r"^    HAYRO_JBIG2_(\w+) = (\d+)", header, re.M)}
+    defined = re.findall(r"^\w+_number (\w+)\.(\w+) = (\d+)$", text_of(HERE, "source/specs/Numbers.antt.txt"), re.M)
     defined = {(enum, variant): int(number) for enum, variant, number in defined}
     errors = library_errors()
-    check(len(errors) == 41 and len(defined) == 41 and len(numbers) == 44, "there are 41 errors")
+    check(len(errors) == 41 and len(defined) == 41 and len(numbers) == 45, "there are 41 errors")
     for number, (enum, variant, text) in enumerate(errors, 1):
         name = in_capitals(variant) if enum == "errors" else enum.upper() + "_" + in_capitals(variant)
-        check(numbers.get(name) == number, f"JBIG2_{name} is {number} in the header")
+        check(numbers.get(name) == number, f"HAYRO_JBIG2_{name} is {number} in the header")
         check(defined.get((enum, variant)) == number, f"{enum}.{variant} is {number} in the definitions")
-        check(library.jbig2_error_text(number) == text.encode(), f"the text of {number} is {text}")
-    for name, number in ("OK", 0), ("OTHER_SIZE", 100), ("NO_SUCH_PAGE", 101):
-        check(numbers.get(name) == number, f"JBIG2_{name} is {number} in the header")
+        check(library.hayro_jbig2_error_text(number) == text.encode(), f"the text of {number} is {text}")
+    for name, number in ("OK", 0), ("OTHER_SIZE", 100), ("NO_SUCH_PAGE", 101), ("OTHER_HANDLE", 102):
+        check(numbers.get(name) == number, f"HAYRO_JBIG2_{name} is {number} in the header")
+    parts = re.findall(r"^#define HAYRO_JBIG2_VERSION_\w+ (\d+)$", header, re.M)
+    check(library.hayro_jbig2_version().decode() == ".".join(parts), "the version is that of its parts")
+
+
+class PageInfo(ctypes.Structure):
+    _fields_ = [("number", ctypes.c_uint32), ("width", ctypes.c_uint32), ("height", ctypes.c_uint32)]
+
+
+class PassedOver(ctypes.Structure):
+    _fields_ = [("count", ctypes.c_size_t), ("segment", ctypes.c_uint32), ("error", ctypes.c_uint32)]
+
+
+def declare_handles(library):
+    """The calls on files and contexts; None as memory is malloc and free."""
+    handle, made = ctypes.c_void_p, ctypes.POINTER(ctypes.c_void_p)
+    library.hayro_jbig2_file_new.argtypes = [ctypes.c_void_p, ctypes.c_bool, *BYTES, made]
+    library.hayro_jbig2_file_page_count.argtypes = [handle]
+    library.hayro_jbig2_file_page_count.restype = ctypes.c_size_t
+    library.hayro_jbig2_file_get_info.argtypes = [handle, ctypes.c_size_t, ctypes.POINTER(PageInfo)]
+    library.hayro_jbig2_file_draw.argtypes = [handle, ctypes.c_size_t, handle]
+    library.hayro_jbig2_context_new.argtypes = [ctypes.c_void_p, made]
+    library.hayro_jbig2_context_rows.argtypes = [handle, ctypes.c_size_t, *BYTES]
+    library.hayro_jbig2_context_get_passed_over.argtypes = [handle, ctypes.POINTER(PassedOver)]
+    for call in library.hayro_jbig2_file_free, library.hayro_jbig2_context_free:
+        call.argtypes = [handle]
+        call.restype = None
 
 
 def loaded(path):
     library = ctypes.CDLL(path)
-    library.jbig2_page_count.argtypes = [ctypes.c_bool, *BYTES, ctypes.POINTER(ctypes.c_size_t)]
+    library.hayro_jbig2_page_count.argtypes = [ctypes.c_bool, *BYTES, ctypes.POINTER(ctypes.c_size_t)]
     sizes = [ctypes.POINTER(ctypes.c_uint32)] * 2
-    library.jbig2_page_size.argtypes = [ctypes.c_bool, *BYTES, ctypes.c_size_t, *sizes]
-    for call in library.jbig2_page_image, library.jbig2_page_packed:
+    library.hayro_jbig2_page_size.argtypes = [ctypes.c_bool, *BYTES, ctypes.c_size_t, *sizes]
+    for call in library.hayro_jbig2_page_image, library.hayro_jbig2_page_packed:
         call.argtypes = [ctypes.c_bool, *BYTES, ctypes.c_size_t, *BYTES]
-    library.jbig2_error_text.argtypes = [ctypes.c_uint32]
-    library.jbig2_error_text.restype = ctypes.c_char_p
+    declare_handles(library)
+    library.hayro_jbig2_error_text.argtypes = [ctypes.c_uint32]
+    library.hayro_jbig2_error_text.restype = ctypes.c_char_p
+    library.hayro_jbig2_version.restype = ctypes.c_char_p
     return library
 
 
 def unpacked(rows, width):
     """A byte for each pixel of packed rows."""
     row_bytes = (width + 7) // 8
-    bits = ("".join(f"{byte:08b}" for byte in rows[at : at + row_bytes])[:width] for at in range(0, len(rows), row_bytes))
+    starts = range(0, len(rows), row_bytes)
+    bits = ("".join(f"{byte:08b}" for byte in rows[at : at + row_bytes])[:width] for at in starts)
     return bytes(0 if bit == "1" else 255 for row in bits for bit in row)
 
 
+def pages_by_bytes(library, book):
+    """The pages of a file by the calls that keep nothing, as (width, height, rows); compared in both forms."""
+    count = ctypes.c_size_t()
+    check(library.hayro_jbig2_page_count(True, book, len(book), ctypes.byref(count)) == 0, "the file is read")
+    pages = []
+    for index in range(count.value):
+        width, height = ctypes.c_uint32(), ctypes.c_uint32()
+        sizes = ctypes.byref(width), ctypes.byref(height)
+        answer = library.hayro_jbig2_page_size(True, book, len(book), index, *sizes)
+        check(answer == 0, f"page {index} has a size")
+        image = ctypes.create_string_buffer(width.value * height.value)
+        answer = library.hayro_jbig2_page_image(True, book, len(book), index, image, len(image))
+        check(answer == 0, f"page {index} is drawn")
+        rows = ctypes.create_string_buffer((width.value + 7) // 8 * height.value)
+        answer = library.hayro_jbig2_page_packed(True, book, len(book), index, rows, len(rows))
+        check(answer == 0, f"page {index} is packed")
+        check(unpacked(rows.raw, width.value) == image.raw, f"page {index} is the same in both forms")
+        check(b"\0" in image.raw, f"page {index} is not white")
+        answer = library.hayro_jbig2_page_packed(True, book, len(book), index, rows, len(rows) - 1)
+        check(answer == 100, "a size is refused")
+        pages.append((width.value, height.value, rows.raw))
+    return pages
+
+
+def pages_by_handles(library, book):
+    """The same by a file that is read once and a context that draws all of its pages."""
+    file, context = ctypes.c_void_p(), ctypes.c_void_p()
+    answer = library.hayro_jbig2_file_new(None, True, book, len(book), ctypes.byref(file))
+    check(answer == 0 and file.value is not None, "a file is held")
+    check(library.hayro_jbig2_context_new(None, ctypes.byref(context)) == 0, "a context is made")
+    pages = []
+    for index in range(library.hayro_jbig2_file_page_count(file)):
+        info, passed = PageInfo(), PassedOver()
+        check(library.hayro_jbig2_file_get_info(file, index, ctypes.byref(info)) == 0, f"page {index} tells its size")
+        check(info.number == index + 1, f"page {index} tells its number")
+        check(library.hayro_jbig2_file_draw(file, index, context) == 0, f"held page {index} is drawn")
+        rows = ctypes.create_string_buffer((info.width + 7) // 8 * info.height)
+        check(library.hayro_jbig2_context_rows(context, 0, rows, len(rows)) == 0, f"page {index} has rows")
+        answer = library.hayro_jbig2_context_get_passed_over(context, ctypes.byref(passed))
+        check(answer == 0 and passed.count == 0, f"nothing of page {index} is passed over")
+        pages.append((info.width, info.height, rows.raw))
+    library.hayro_jbig2_context_free(context)
+    library.hayro_jbig2_file_free(file)
+    return pages
+
+
 def compare_pages(library, example):
-    """Both forms of each page, and what the example prints."""
+    """The pages by both ways of calling, and what the example prints."""
     name = os.path.join(DATA, "t88-h1.jb2")
     with open(name, "rb") as file:
         book = file.read()
-    count = ctypes.c_size_t()
-    check(library.jbig2_page_count(True, book, len(book), ctypes.byref(count)) == 0, "the file is read")
-    check(count.value == 3, "the file has three pages")
-    for index in range(count.value):
-        width, height = ctypes.c_uint32(), ctypes.c_uint32()
-        answer = library.jbig2_page_size(True, book, len(book), index, ctypes.byref(width), ctypes.byref(height))
-        check(answer == 0, f"page {index} has a size")
-        image = ctypes.create_string_buffer(width.value * height.value)
-        check(library.jbig2_page_image(True, book, len(book), index, image, len(image)) == 0, f"page {index} is drawn")
-        rows = ctypes.create_string_buffer((width.value + 7) // 8 * height.value)
-        check(library.jbig2_page_packed(True, book, len(book), index, rows, len(rows)) == 0, f"page {index} is packed")
-        check(unpacked(rows.raw, width.value) == image.raw, f"page {index} is the same in both forms")
-        check(b"\0" in image.raw, f"page {index} is not white")
-        printed = subprocess.run([example, name, str(index)], stdout=subprocess.PIPE)
-        wanted = b"P4\n%d %d\n" % (width.value, height.value) + rows.raw
-        check(printed.returncode == 0 and printed.stdout == wanted, f"the example prints page {index}")
-        check(library.jbig2_page_packed(True, book, len(book), index, rows, len(rows) - 1) == 100, "a size is refused")
-    told = subprocess.run([example, name, "3"], stdout=subprocess.PIPE, stderr=subprocess.PIPE)
-    check((told.returncode, told.stdout, told.stderr) == (1, b"", b"error: no such page\n"), "the example tells an error")
+    pages = pages_by_bytes(library, book)
+    check(len(pages) == 3, "the file has three pages")
+    check(pages_by_handles(library, book) == pages, "the pages are the same by handles")
+    printed = subprocess.run([example, name], stdout=subprocess.PIPE)
+    wanted = b"".join(b"P4\n%d %d\n" % (width, height) + rows for width, height, rows in pages)
+    check(printed.returncode == 0 and printed.stdout == wanted, "the example prints the pages")
+    told = subprocess.run([example, example], stdout=subprocess.PIPE, stderr=subprocess.PIPE)
+    wanted = (1, b"", b"error: invalid JBIG2 file header\n")
+    check((told.returncode, told.stdout, told.stderr) == wanted, "an error is told")
 
 
 def main(path, example):

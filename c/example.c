@@ -1,5 +1,5 @@
-/* Writes a page of a JBIG2 file as a PBM file. usage: example FILE INDEX */
-#include "jbig2.h"
+/* Writes all pages of a JBIG2 file as PBM, one after the other. usage: example FILE > pages.pbm */
+#include "hayro_jbig2.h"
 
 #include <stdio.h>
 #include <stdlib.h>
@@ -22,35 +22,46 @@ static uint8_t *read_file(const char *name, size_t *length) {
     return NULL;
 }
 
-/* Answers as the library does, and prints the page where it can be drawn. */
-static uint32_t print_page(const uint8_t *file, size_t length, size_t index) {
-    uint32_t width, height;
-    uint32_t answer = jbig2_page_size(false, file, length, index, &width, &height);
-    if (answer != JBIG2_OK)
+/* Answers as the library does. The rows are read in pieces, so that no second copy of a page is needed. */
+static uint32_t print_page(hayro_jbig2_file *file, size_t index, hayro_jbig2_context *context) {
+    hayro_jbig2_page_info info;
+    uint32_t answer = hayro_jbig2_file_get_info(file, index, &info);
+    if (answer == HAYRO_JBIG2_OK)
+        answer = hayro_jbig2_file_draw(file, index, context);
+    if (answer != HAYRO_JBIG2_OK)
         return answer;
-    size_t size = ((size_t)width + 7) / 8 * height;
-    uint8_t *rows = malloc(size);
-    if (rows == NULL)
-        return JBIG2_OUT_OF_MEMORY;
-    answer = jbig2_page_packed(false, file, length, index, rows, size);
-    if (answer == JBIG2_OK) {
-        printf("P4\n%u %u\n", (unsigned)width, (unsigned)height);
-        fwrite(rows, 1, size, stdout);
+    printf("P4\n%u %u\n", (unsigned)info.width, (unsigned)info.height);
+    size_t size = ((size_t)info.width + 7) / 8 * info.height;
+    uint8_t rows[4096];
+    for (size_t place = 0; place < size && answer == HAYRO_JBIG2_OK;) {
+        size_t count = size - place < sizeof rows ? size - place : sizeof rows;
+        answer = hayro_jbig2_context_rows(context, place, rows, count);
+        if (answer == HAYRO_JBIG2_OK && fwrite(rows, 1, count, stdout) < count)
+            break;
+        place += count;
     }
-    free(rows);
     return answer;
 }
 
 int main(int count, char **words) {
     size_t length;
-    uint8_t *file = count == 3 ? read_file(words[1], &length) : NULL;
-    if (file == NULL) {
-        fputs("usage: example FILE INDEX\n", stderr);
+    uint8_t *bytes = count == 2 ? read_file(words[1], &length) : NULL;
+    if (bytes == NULL) {
+        fputs("usage: example FILE\n", stderr);
         return 2;
     }
-    uint32_t answer = print_page(file, length, strtoul(words[2], NULL, 10));
-    free(file);
-    if (answer != JBIG2_OK)
-        fprintf(stderr, "error: %s\n", jbig2_error_text(answer));
-    return answer != JBIG2_OK;
+    hayro_jbig2_file *file = NULL;
+    hayro_jbig2_context *context = NULL;
+    uint32_t answer = hayro_jbig2_file_new(NULL, false, bytes, length, &file);
+    if (answer == HAYRO_JBIG2_OK)
+        answer = hayro_jbig2_context_new(NULL, &context);
+    if (answer == HAYRO_JBIG2_OK)
+        for (size_t index = 0; index < hayro_jbig2_file_page_count(file) && answer == HAYRO_JBIG2_OK; index++)
+            answer = print_page(file, index, context);
+    hayro_jbig2_context_free(context);
+    hayro_jbig2_file_free(file);
+    free(bytes);
+    if (answer != HAYRO_JBIG2_OK)
+        fprintf(stderr, "error: %s\n", hayro_jbig2_error_text(answer));
+    return answer != HAYRO_JBIG2_OK;
 }

@@ -12,26 +12,11 @@ import subprocess
 import sys
 import tempfile
 
-ROOT = os.path.dirname(os.path.dirname(os.path.abspath(__file__)))
-HEADER = bytes.fromhex("974A42320D0A1A0A0100000001")
-
-
-def number(value, size=4):
-    return (value % 256**size).to_bytes(size, "big")
-
-
-def segment(at, kind, data, referred=(), page=1):
-    if len(referred) <= 4:
-        count = bytes([len(referred) * 32])
-    else:
-        # The long form has a bit for each segment that is referred to, and for this one.
-        count = number(7 << 29 | len(referred)) + bytes(len(referred) // 8 + 1)
-    return number(at) + bytes([kind]) + count + bytes(referred) + bytes([page]) + number(len(data)) + data
-
-
-def page_information(width, height, black, operator):
-    flags = 4 * black + 8 * operator + 64
-    return number(width) + number(height) + bytes(8) + bytes([flags]) + bytes(2)
+from root import ROOT
+from jbig2_encoder.generic import NOMINAL
+from jbig2_encoder.fields import number, pairs
+from jbig2_encoder.framing import HEADER, page_information, region_information, segment
+from jbig2_encoder.pictures import pixels
 
 
 def coded(chance, pixels):
@@ -52,11 +37,7 @@ def coded(chance, pixels):
 def region(chance, width, height, page_width, page_height, operators):
     x = chance.choice((0, chance.randrange(page_width)))
     y = chance.choice((0, chance.randrange(page_height)))
-    place = number(width) + number(height) + number(x) + number(y)
-    return place + bytes([chance.randrange(operators)])
-
-
-NOMINAL = {0: (3, -1, -3, -1, 2, -2, -2, -2), 1: (3, -1), 2: (2, -1), 3: (2, -1)}
+    return region_information(width, height, x, y, chance.randrange(operators))
 
 
 def adaptive_pixels(chance, template):
@@ -67,8 +48,8 @@ def adaptive_pixels(chance, template):
         for _ in range(4 if template == 0 else 1):
             y = -chance.randrange(0, 9)
             x = chance.randrange(-9, 0) if y == 0 else chance.randrange(-9, 10)
-            places += [x, y]
-    return b"".join(number(place, 1) for place in places)
+            places.append((x, y))
+    return pairs("adaptive pixel", places)
 
 
 def generic(chance, size, page, operators=5):
@@ -83,13 +64,12 @@ def refinement(chance, size, page):
     # With template 1 jbig2dec takes another context for the rows' decisions than T.88, Figure 15.
     typical = chance.randrange(2) if template == 0 else 0
     head = region(chance, *size, *page, 5)
-    pixels = b""
+    adaptive = b""
     if template == 0:
-        places = chance.choice(((-1, -1, -1, -1), tuple(chance.randrange(-4, 1) for _ in range(4))))
-        if places[0] == 0 and places[1] == 0:
-            places = (-1, -1, -1, -1)
-        pixels = b"".join(number(place, 1) for place in places)
-    return head + bytes([template + 2 * typical]) + pixels + coded(chance, size[0] * size[1])
+        x1, y1, x2, y2 = chance.choice(((-1, -1, -1, -1), tuple(chance.randrange(-4, 1) for _ in range(4))))
+        nominal = x1 == 0 and y1 == 0
+        adaptive = pairs("adaptive pixel", ((-1, -1), (-1, -1)) if nominal else ((x1, y1), (x2, y2)))
+    return head + bytes([template + 2 * typical]) + adaptive + coded(chance, size[0] * size[1])
 
 
 def patterns(chance):
@@ -123,7 +103,7 @@ def random_file(chance, kinds):
             data += segment(at, chance.choice((38, 39)), generic(chance, size, page))
         elif kind == "refinement":
             # jbig2dec keeps no regions, and refines the whole page in place of the region's area.
-            whole = number(page[0]) + number(page[1]) + bytes(8)
+            whole = region_information(*page)[:16]
             data += segment(at, chance.choice((42, 43)), whole + refinement(chance, page, page)[16:])
         elif kind == "halftone":
             data += segment(at, 16, patterns(chance))
@@ -131,17 +111,6 @@ def random_file(chance, kinds):
             data += segment(at, chance.choice((22, 23)), halftone(chance, size, page), (at - 1,))
         at += 1
     return data + segment(at, 49, b"") + segment(at + 1, 51, b"", page=0)
-
-
-def pixels(picture):
-    """The pixels of a picture of the PBM format; what pads its rows is left out."""
-    if not picture:
-        return None
-    kind, size, rows = picture.split(b"\n", 2)
-    width, height = (int(side) for side in size.split())
-    stride = (width + 7) // 8
-    lines = (rows[stride * y : stride * (y + 1)] for y in range(height))
-    return [int.from_bytes(line, "big") >> (8 * stride - width) for line in lines]
 
 
 def our_picture(program, name):

@@ -1,12 +1,15 @@
-"""Files for `damage.py`: what the encoders of this folder make up, the example of T.88 H.1, and given ones, cut into segments."""
+"""Files for `damage.py`: what the encoders make up, the example of T.88 H.1, and given ones, cut into segments."""
 import dataclasses
 import os
 import random
 
-from compare import HEADER, ROOT, number, page_information, random_file, segment
-from encoder.bitmap import Bitmap
-from encoder.t6 import encoded
+from compare import random_file
+from root import ROOT
 from symbols import random_document
+from jbig2_encoder.bitmap import Bitmap
+from jbig2_encoder.document import Document
+from jbig2_encoder.framing import GENERIC, cut, in_random_access
+from jbig2_encoder.generic import GenericForm, generic_data, row_count
 
 EXAMPLE = os.path.join(ROOT, "crates", "jbig2_decode", "data", "t88-h1.jb2")
 REGIONS = (["generic"], ["refinement"], ["halftone"])
@@ -31,75 +34,20 @@ class Sample:
         return max(1, sum(part[4:5] == b"\x30" for part in self.segments))
 
 
-def length_of(header):
-    """The length of the segment header that bytes begin with, and that of the data behind it (7.2)."""
-    at, flags, count = int.from_bytes(header[:4], "big"), header[4], header[5] >> 5
-    place = 6
-    if count == 7:
-        count = int.from_bytes(header[5:9], "big") & 0x1FFFFFFF
-        place = 9 + (count + 8) // 8
-    place += count * (1 if at <= 256 else 2 if at <= 65536 else 4) + (4 if flags & 64 else 1)
-    return place + 4, int.from_bytes(header[place : place + 4], "big")
-
-
-def cut(data):
-    """The header of a file and its segments; one piece behind the header where they do not stand one behind the other."""
-    place = 9 if data[8:9] and data[8] & 2 else 13
-    header, rest, segments = data[:place], data[place:], []
-    if not header[8:9] or not header[8] & 1:
-        return header, [rest]
-    while rest:
-        try:
-            head, body = length_of(rest)
-        except IndexError:
-            return header, segments + [rest]
-        segments.append(rest[: head + body])
-        rest = rest[head + body :]
-    return header, segments
-
-
-def parts_of(data):
-    """The type and the data of each segment of a file, as far as its headers can be read."""
-    place, waiting = (9 if data[8:9] and data[8] & 2 else 13), []
-    try:
-        while place < len(data):
-            head, body = length_of(data[place:])
-            kind = data[place + 4] & 63
-            place += head
-            if data[8] & 1:
-                yield kind, data[place : place + body]
-                place += body
-            else:
-                waiting.append((kind, body))
-                if kind == 51:
-                    break
-    except IndexError:
-        pass
-    for kind, body in waiting:
-        yield kind, data[place : place + body]
-        place += body
-
-
-def in_random_access(sample):
-    """The same file with all headers first (D.2)."""
-    heads = [length_of(part)[0] for part in sample.segments]
-    parts = [part[:head] for part, head in zip(sample.segments, heads)]
-    parts += [part[head:] for part, head in zip(sample.segments, heads)]
-    header = sample.header[:8] + bytes([sample.header[8] & 0xFE]) + sample.header[9:]
-    return Sample(sample.name + ", random access", header, parts)
-
-
 def coded_rows(chance):
     """A page with a picture by T.6; half of the regions have a length that is not written (7.2.7)."""
     bitmap = Bitmap(chance.randrange(1, 90), chance.randrange(1, 40))
     bitmap.rows = [[int(chance.random() < 0.3) for _ in row] for row in bitmap.rows]
-    place = number(bitmap.width) + number(bitmap.height) + bytes(9)
-    data = place + b"\x01" + encoded(bitmap, chance.random() < 0.5)
-    region = segment(1, 38, data)
-    if chance.random() < 0.5:
-        region = region[:7] + b"\xff" * 4 + data + b"\0\0" + number(bitmap.height)
-    page = segment(0, 48, page_information(bitmap.width, bitmap.height, 0, 0))
-    return HEADER + page + region + segment(2, 49, b"") + segment(3, 51, b"", page=0)
+    data = generic_data(bitmap, GenericForm(mmr=True, ends_block=chance.random() < 0.5))
+    hides_length = chance.random() < 0.5
+    if hides_length:
+        data += row_count(bitmap.height, True)
+    document = Document()
+    page = document.start_page(bitmap.width, bitmap.height)
+    page.draw(GENERIC, bitmap, data, hides_length=hides_length)
+    page.end()
+    document.end_file()
+    return document.sequential()
 
 
 def made_up(chance, turn):
@@ -113,7 +61,10 @@ def made_up(chance, turn):
     else:
         name, data = "T.6", coded_rows(chance)
     sample = Sample(name, *cut(data), is_common=name not in ("more", "T.6"))
-    return in_random_access(sample) if turn % 4 == 3 else sample
+    if turn % 4 == 3:
+        sample.name += ", random access"
+        sample.header, sample.segments = in_random_access(sample.header, sample.segments)
+    return sample
 
 
 def own_corpus(count, seed):

@@ -17,9 +17,12 @@ import sys
 import tempfile
 import time
 
-from compare import ROOT, our_picture, pixels, their_picture
-from corpus import given_corpus, own_corpus, parts_of
+from compare import our_picture, their_picture
+from corpus import given_corpus, own_corpus
 from limited import MOST_OUTPUT, Runner
+from root import ROOT
+from jbig2_encoder.framing import parts_of
+from jbig2_encoder.pictures import pixels
 
 SIZE_OF_CORPUS = 400
 EDGES = (b"\0", b"\x7f", b"\x80", b"\xff")
@@ -211,11 +214,11 @@ def run_all(runner, samples, options):
 
 
 def built_program():
-    """The program itself: the script beside it looks at all sources in each run."""
+    """The program itself: the script ./jbig2-decode looks at all sources in each run."""
     if "PROGRAM" in os.environ:
         return os.environ["PROGRAM"]
-    subprocess.run([os.path.join(ROOT, "jbig2-decode")], stderr=subprocess.DEVNULL)
-    return os.path.join(ROOT, "crates", "jbig2_decode", "out", "jbig2_decode")
+    words = [os.path.join(ROOT, "dist", "program"), "jbig2-decode"]
+    return subprocess.run(words, check=True, stdout=subprocess.PIPE, text=True).stdout.rstrip("\n")
 
 
 def options_of():

@@ -11,24 +11,21 @@ import os
 import sys
 import tempfile
 
-from compare import HEADER, number, page_information, segment
 from damage import built_program
-from encoder.arithmetic import ArithmeticEncoder, Procedures
-from encoder.prefix import STANDARD, Bits
 from limited import Runner
+from jbig2_encoder.arithmetic import ArithmeticEncoder, Procedures
+from jbig2_encoder.fields import number
+from jbig2_encoder.framing import HEADER, page_information, region_information, segment
+from jbig2_encoder.prefix import STANDARD, Bits
 
 MOST = 65535
 # A page of 8 by 1: what is drawn on it is decoded whole, and mostly lies outside.
-SMALL_PAGE = HEADER + segment(0, 48, page_information(8, 1, 0, 0)) + segment(9, 49, b"")
+SMALL_PAGE = HEADER + segment(0, 48, page_information(8, 1)) + segment(9, 49, b"")
 NOMINAL = bytes.fromhex("03FFFDFF02FEFEFE")
 
 
-def place(width, height, operator=0):
-    return number(width) + number(height) + bytes(8) + bytes([operator])
-
-
 def generic(side, flags=0, pixels=NOMINAL, data=b""):
-    return SMALL_PAGE + segment(1, 38, place(side, side) + bytes([flags]) + pixels + data)
+    return SMALL_PAGE + segment(1, 38, region_information(side, side) + bytes([flags]) + pixels + data)
 
 
 def moved_pixels(side):
@@ -41,11 +38,11 @@ def extended(side):
 
 def rows_by_t6(side):
     """Each bit 1 is a row like the one above: at most eight rows a byte."""
-    return SMALL_PAGE + segment(1, 38, place(side, side) + b"\x01" + b"\xff" * ((side + 7) // 8))
+    return SMALL_PAGE + segment(1, 38, region_information(side, side) + b"\x01" + b"\xff" * ((side + 7) // 8))
 
 
 def refinement(side):
-    return SMALL_PAGE + segment(1, 42, place(side, side) + bytes.fromhex("00FFFFFFFF"))
+    return SMALL_PAGE + segment(1, 42, region_information(side, side) + bytes.fromhex("00FFFFFFFF"))
 
 
 def patterns(count, width, height):
@@ -55,7 +52,7 @@ def patterns(count, width, height):
 
 def halftone(side, flags, *dictionary):
     cells = number(side) + number(side) + bytes(12)
-    return SMALL_PAGE + patterns(*dictionary) + segment(2, 22, place(side, side) + bytes([flags]) + cells, (1,))
+    return SMALL_PAGE + patterns(*dictionary) + segment(2, 22, region_information(side, side) + bytes([flags]) + cells, (1,))
 
 
 def one_large_pattern(side):
@@ -113,7 +110,7 @@ def instances(side):
     for _ in range(4095):
         numbers.integer("IADS", 1 - side)
     numbers.integer("IADS", None)
-    data = place(side, side) + bytes.fromhex("0010") + number(4096) + encoder.finished()
+    data = region_information(side, side) + bytes.fromhex("0010") + number(4096) + encoder.finished()
     return SMALL_PAGE + white_symbol(side) + segment(2, 6, data.ljust(128, b"\0"), (1,))
 
 
@@ -131,7 +128,7 @@ def many_references(side):
     for run in (0, 4096):
         STANDARD[1].put(bits, run)
     dictionary = segment(1, 0, bytes.fromhex("0001") + number(4096) + number(4096) + bits.bytes())
-    region = place(8, 1) + bytes.fromhex("0010") + number(0)
+    region = region_information(8, 1) + bytes.fromhex("0010") + number(0)
     regions = b"".join(segment(2 + at, 6, region, (1,) * 255) for at in range(side // 256))
     return SMALL_PAGE + dictionary + regions
 

@@ -12,7 +12,10 @@ import subprocess
 import sys
 import tempfile
 
-from compare import HEADER, ROOT, number, our_picture, page_information, pixels, segment
+from compare import our_picture
+from root import ROOT
+from jbig2_encoder.framing import HEADER, page_information, region_information, segment
+from jbig2_encoder.pictures import pixels
 
 
 def random_rows(chance, width, height):
@@ -81,9 +84,8 @@ def main():
             width, height = chance.choice((9, 64, 300, 6000)), chance.randrange(1, 60)
             width = chance.randrange(1, width)
             rows = random_rows(chance, width, height)
-            place = number(width) + number(height) + bytes(9)
-            data = HEADER + segment(0, 48, page_information(width, height, 0, 0))
-            data += segment(1, 38, place + b"\x01" + coded(folder, rows, width, height))
+            data = HEADER + segment(0, 48, page_information(width, height))
+            data += segment(1, 38, region_information(width, height) + b"\x01" + coded(folder, rows, width, height))
             data += segment(2, 49, b"") + segment(3, 51, b"", page=0)
             with open(name, "wb") as file:
                 file.write(data)

@@ -9,101 +9,36 @@ tables in /JBIG2Globals, and one by pdftocairo of Poppler from that, which takes
 Needs jbig2dec, and pdfimages and pdftocairo (Debian's poppler-utils).
 """
 import pathlib
-import struct
 import subprocess
 import sys
 import tempfile
 
-# Symbol dictionaries, pattern dictionaries and custom tables, which go into /JBIG2Globals.
-DICTIONARIES = (0, 16, 53)
-ROOT = pathlib.Path(__file__).resolve().parent.parent
-
-
-def segments_of(data):
-    """The segments of a sequential file (T.88, 7.2): type and bytes of each, dictionaries as no page's own."""
-    place = 9 if data[8] & 2 else 13
-    while place < len(data):
-        start = place
-        number, flags, count = struct.unpack_from(">IBB", data, place)
-        place += 5
-        if count >> 5 == 7:
-            count = struct.unpack_from(">I", data, place)[0] & 0x1FFFFFFF
-            place += 4 + (count + 8) // 8
-        else:
-            count >>= 5
-            place += 1
-        place += count * (1 if number <= 256 else 2 if number <= 65536 else 4)
-        association, place = place, place + (4 if flags & 0x40 else 1)
-        length = struct.unpack_from(">I", data, place)[0]
-        if length == 0xFFFFFFFF:
-            sys.exit("a segment of unknown length stands in no PDF file")
-        end = place + 4 + length
-        kind = flags & 63
-        if kind in DICTIONARIES:
-            yield kind, data[start:association] + bytes(place - association) + data[place:end]
-        else:
-            yield kind, data[start:end]
-        place = end
+from root import ROOT
+from conformance.runner.embedding import Embedded, size_in_pdf
+from conformance.runner.pdf import pdf_of_image
+from conformance.runner.pictures import pictures_of
+from conformance.runner.segments import END_OF_FILE, END_OF_PAGE, TABLES_AND_DICTIONARIES, segments_of_file
 
 
 def pdf_of(data):
     """A PDF file of one page that is the image of the file's only page."""
-    shared, own, size = b"", b"", None
-    for kind, whole in segments_of(data):
-        if kind == 48:
-            size = struct.unpack_from(">II", whole, len(whole) - 19)
-        if kind in DICTIONARIES:
-            shared += whole
-        elif kind not in (49, 51):
-            own += whole
-    width, height = size
-    image = f"/Type /XObject /Subtype /Image /Width {width} /Height {height} /ColorSpace /DeviceGray /BitsPerComponent 1"
-    image += " /Filter /JBIG2Decode" + (" /DecodeParms << /JBIG2Globals 6 0 R >>" if shared else "")
-    drawing = f"q {width / 4} 0 0 {height / 4} 0 0 cm /Image Do Q".encode()
-
-    def stream(words, content):
-        return f"<< {words} /Length {len(content)} >>\nstream\n".encode() + content + b"\nendstream"
-
-    objects = [
-        b"<< /Type /Catalog /Pages 2 0 R >>",
-        b"<< /Type /Pages /Kids [3 0 R] /Count 1 >>",
-        f"<< /Type /Page /Parent 2 0 R /MediaBox [0 0 {width / 4} {height / 4}] /Contents 4 0 R".encode()
-        + b" /Resources << /XObject << /Image 5 0 R >> >> >>",
-        stream("", drawing),
-        stream(image, own),
-        stream("", shared),
-    ]
-    out, places = b"%PDF-1.4\n", []
-    for number, content in enumerate(objects, 1):
-        places.append(len(out))
-        out += b"%d 0 obj\n" % number + content + b"\nendobj\n"
-    table = f"xref\n0 {len(objects) + 1}\n0000000000 65535 f \n" + "".join(f"{place:010} 00000 n \n" for place in places)
-    end = f"trailer\n<< /Size {len(objects) + 1} /Root 1 0 R >>\nstartxref\n{len(out)}\n%%EOF\n"
-    return out + (table + end).encode()
+    segments = segments_of_file(data)
+    left_out = (*TABLES_AND_DICTIONARIES, END_OF_PAGE, END_OF_FILE)
+    shared = b"".join(segment.on_page(0) for segment in segments if segment.kind in TABLES_AND_DICTIONARIES)
+    own = b"".join(segment.on_page(segment.page) for segment in segments if segment.kind not in left_out)
+    return pdf_of_image(*size_in_pdf(Embedded(own)), own, shared, scale=1 / 4)
 
 
 def bitmap(path):
-    """Width, height and rows of a PBM file, without its comments."""
-    data, fields, place = path.read_bytes(), [], 2
-    while len(fields) < 2:
-        while data[place : place + 1].isspace():
-            place += 1
-        if data[place : place + 1] == b"#":
-            place = data.index(b"\n", place)
-            continue
-        end = place
-        while data[end : end + 1].isdigit():
-            end += 1
-        fields.append(int(data[place:end]))
-        place = end
-    return fields, data[place + 1 :]
+    """The picture of a PBM file."""
+    return pictures_of(path.read_bytes())[0]
 
 
 def drawn_of(pdf, room):
     """The bitmap that we draw of the image of a PDF file, and the one that Poppler draws."""
     ours, theirs = room / "ours", room / "theirs"
     theirs.mkdir(parents=True)
-    subprocess.run([ROOT / "examples/pdf-to-pbm", pdf, ours], check=True, stdout=subprocess.DEVNULL)
+    subprocess.run([pathlib.Path(ROOT, "examples/pdf-to-pbm"), pdf, ours], check=True, stdout=subprocess.DEVNULL)
     subprocess.run(["pdfimages", pdf, theirs / "image"], check=True, stderr=subprocess.DEVNULL)
     return bitmap(ours / "image-000.pbm"), bitmap(theirs / "image-000.pbm")
 

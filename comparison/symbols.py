@@ -3,7 +3,7 @@
 
 usage: comparison/symbols.py [COUNT [SEED]]
 
-Each document is made by the encoder in comparison/encoder, which knows the picture. KINDS may name some of `coder prefix
+Each document is made by the encoder in jbig2_encoder, which knows the picture. KINDS may name some of `coder prefix
 refined aggregates tables`, the forms that jbig2dec draws too, and `more`, which it does not: that is compared with what was
 meant alone. PROGRAM=none compares jbig2dec alone with what was meant, which checks the encoder.
 """
@@ -13,9 +13,12 @@ import random
 import sys
 import tempfile
 
-from compare import HEADER, ROOT, number, our_picture, page_information, pixels, segment, their_picture
-from encoder.bitmap import Bitmap
-from encoder.segments import Form, random_dictionary, random_text
+from compare import our_picture, their_picture
+from made_up import Form, random_dictionary, random_text
+from root import ROOT
+from jbig2_encoder.document import Document
+from jbig2_encoder.framing import SYMBOL_DICTIONARY, TABLE
+from jbig2_encoder.pictures import pixels
 
 KINDS = "coder prefix refined aggregates tables"
 # What jbig2dec has not: contexts that a dictionary hands on, and tables whose data ends with their last bit.
@@ -50,25 +53,20 @@ def with_references(form, count):
     return form if form.hands_on else dataclasses.replace(form, most_tables=4 - count)
 
 
-class Document:
-    """A file under way: its bytes, and its page as it is meant to be."""
+class RandomDocument:
+    """A document of one page under way; `page` is what it is meant to show."""
 
     def __init__(self, chance):
         self.chance = chance
+        self.document = Document()
         colour, operator = chance.randrange(2), chance.randrange(4)
-        self.page = Bitmap(chance.randrange(1, 120), chance.randrange(1, 80), colour)
-        information = page_information(self.page.width, self.page.height, colour, operator)
-        self.bytes = HEADER + segment(0, 48, information)
-        self.at = 1
+        width, height = chance.randrange(1, 120), chance.randrange(1, 80)
+        self.segments = self.document.start_page(width, height, colour, operator)
+        self.page = self.segments.picture
         self.dictionaries = {}
 
-    def put(self, kind, data, referred=()):
-        self.bytes += segment(self.at, kind, data, referred)
-        self.at += 1
-        return self.at - 1
-
     def put_tables(self, tables):
-        return [self.put(53, data) for data in tables]
+        return [self.segments.put(TABLE, data) for data in tables]
 
     def some_dictionaries(self, least):
         numbers = list(self.dictionaries)
@@ -83,7 +81,8 @@ class Document:
         last = self.dictionaries[referred[-1]] if referred else None
         form = with_references(form, len(referred))
         data, tables, dictionary = random_dictionary(self.chance, form, self.symbols_of(referred), last)
-        self.dictionaries[self.put(0, data, referred + self.put_tables(tables))] = dictionary
+        at = self.segments.put(SYMBOL_DICTIONARY, data, referred + self.put_tables(tables))
+        self.dictionaries[at] = dictionary
 
     def put_text(self, form):
         referred = self.some_dictionaries(1)
@@ -94,21 +93,26 @@ class Document:
         form = with_references(form, len(referred))
         data, tables, bitmap = random_text(self.chance, form, symbols, width, height)
         x, y = self.chance.randrange(self.page.width), self.chance.randrange(self.page.height)
-        operator = self.chance.randrange(5)
-        place = b"".join(map(number, (width, height, x, y))) + bytes([operator])
-        self.put(self.chance.choice((6, 7)), place + data, referred + self.put_tables(tables))
-        self.page.combine(bitmap, x, y, operator)
+        operator, kind = self.chance.randrange(5), self.chance.choice((6, 7))
+        self.segments.draw(kind, bitmap, data, x, y, operator, referred + self.put_tables(tables))
+
+    def end(self):
+        self.segments.end()
+        self.document.end_file()
 
     def finished(self):
-        return self.bytes + segment(self.at, 49, b"") + segment(self.at + 1, 51, b"", page=0)
+        """The bytes of the file."""
+        return self.document.sequential()
 
 
 def random_document(chance, kind):
-    document = Document(chance)
+    """A random document of that kind, with one page."""
+    document = RandomDocument(chance)
     for _ in range(chance.randrange(1, 4)):
         document.put_dictionary(forms_of(chance, kind)[0])
     for _ in range(chance.randrange(1, 4)):
         document.put_text(forms_of(chance, kind)[1])
+    document.end()
     return document
 
 

@@ -1,5 +1,5 @@
-/* Loaded before the C library, it counts a program's requests for memory, its reads and its writes, has one of each fail, or
-   has each read and write move one byte. Built and used by ./try-refusals. */
+/* Loaded before the C library, it counts a program's requests for memory with their bytes, its reads and its writes, has one of
+   each fail, or has each read and write move one byte. Built and used by ./try-refusals. */
 #define _GNU_SOURCE
 #include <dlfcn.h>
 #include <errno.h>
@@ -11,10 +11,11 @@
 #include <sys/uio.h>
 #include <unistd.h>
 
-/* What is shared with the script: first what it asks for, then what came. A number 0 asks for nothing. */
+/* What is shared with the script: first what it asks for, then what came. `bytes` adds up what requests for memory ask for,
+   each anew where it grows. A number 0 asks for nothing. */
 struct plan {
     uint64_t refused_request, failed_read, failed_write, error, moves_one_byte;
-    uint64_t requests, reads, writes;
+    uint64_t requests, reads, writes, bytes;
 };
 
 static struct plan unread;
@@ -38,9 +39,10 @@ __attribute__((constructor)) static void take_plan(void)
     if (!own) \
         own = (__typeof__(name) *)dlsym(RTLD_NEXT, #name)
 
-static int is_refused(void)
+static int is_refused(size_t size)
 {
     plan->requests++;
+    plan->bytes += size;
     if (plan->requests != plan->refused_request)
         return 0;
     errno = ENOMEM;
@@ -59,25 +61,25 @@ static int is_failed(uint64_t *count, uint64_t failed)
 void *malloc(size_t size)
 {
     OWN(malloc);
-    return is_refused() ? NULL : own(size);
+    return is_refused(size) ? NULL : own(size);
 }
 
 void *realloc(void *place, size_t size)
 {
     OWN(realloc);
-    return is_refused() ? NULL : own(place, size);
+    return is_refused(size) ? NULL : own(place, size);
 }
 
 void *aligned_alloc(size_t align, size_t size)
 {
     OWN(aligned_alloc);
-    return is_refused() ? NULL : own(align, size);
+    return is_refused(size) ? NULL : own(align, size);
 }
 
 int posix_memalign(void **place, size_t align, size_t size)
 {
     OWN(posix_memalign);
-    return is_refused() ? ENOMEM : own(place, align, size);
+    return is_refused(size) ? ENOMEM : own(place, align, size);
 }
 
 ssize_t read(int file, void *bytes, size_t count)

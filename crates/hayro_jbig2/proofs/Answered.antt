@@ -25,7 +25,7 @@ use Rattle.jbig2_text.proofs.AnsweredRegions.{answered-text, answered-text_heade
 use Rattle.hayro_jbig2.specs.Names.{Names, Referred, extension, kept_by, no_names, pattern_dictionary_at, symbol_dictionary_at, with_code, with_dictionary, with_number, with_numbers, with_patterns, with_symbols, with_table, globals_at, named_from}
 use Rattle.hayro_jbig2.specs.Files.{ReadFile, associated, book_at, by_pages, filed_each, filed_from, miscounts, of_page}
 use Rattle.hayro_jbig2.specs.Image.{first_page}
-use Rattle.hayro_jbig2.specs.Page.{Drawing, ReadPage, embedded, grid_of_page, immediate, intermediate, keeping, page_begun, region_at, segment_on, segments_drawn, shown}
+use Rattle.hayro_jbig2.specs.Page.{Drawing, ReadPage, embedded, grid_of_page, immediate, intermediate, keeping, or_passed_over, page_begun, drawing_of_page, region_at, segment_on, segments_drawn, shown}
 use Rattle.hayro_jbig2.specs.Regions.{generic_at, halftone_at, referred_region, refinement_at, text_at}
 use Rattle.hayro_jbig2.specs.declared.kept.Kept.{Kept}
 use Rattle.hayro_jbig2.specs.declared.region.RegionKind.{RegionKind}
@@ -103,13 +103,13 @@ answered-region_at strict globals kinds.Halftone is_intermediate p d = answered-
 answered-region_at strict globals kinds.Generic is_intermediate p d = answered-generic_at strict is_intermediate p
 answered-region_at strict globals kinds.GenericRefinement is_intermediate p d = answered-refinement_at strict is_intermediate d.grid d.regions p
 
-answered-shown : (strict : Bool) (d : Drawing) (r : Result PlacedRegion DecodeError) → Answered r → Answered (shown strict d r)
-answered-shown strict d (Ok r) is = tt
-answered-shown strict d (Err e) is = answered-if strict (Err e) _ is tt
+answered-shown : (strict : Bool) (number : ℕ) (d : Drawing) (r : Result PlacedRegion DecodeError) → Answered r → Answered (or_passed_over strict number d (shown d r))
+answered-shown strict number d (Ok r) is = tt
+answered-shown strict number d (Err e) is = answered-if strict (Err e) _ is tt
 
 answered-immediate : (strict : Bool) (globals : Names) (kind : RegionKind) (p : SegmentView) (d : Drawing) → Answered (immediate strict globals kind p d)
 unfolding immediate
-answered-immediate strict globals kind p d = answered-shown strict d (region_at strict globals kind false p d) (answered-region_at strict globals kind false p d)
+answered-immediate strict globals kind p d = answered-shown strict p.header.segment_number d (region_at strict globals kind false p d) (answered-region_at strict globals kind false p d)
 
 answered-intermediate : (strict : Bool) (globals : Names) (kind : RegionKind) (p : SegmentView) (d : Drawing) → Answered (intermediate strict globals kind p d)
 unfolding intermediate
@@ -126,7 +126,7 @@ answered-kept_by strict shared types.Tables h bytes own = answered-with_code (of
 answered-kept_by strict shared types.Extension h bytes own = answered-next (extension strict bytes) _ (answered-extension strict bytes) (λ known. tt)
 answered-kept_by strict shared _ h bytes own = tt
 
-answered-named : (strict : Bool) (ps : List SegmentView) (names : Names) → Answered (named_from strict ps names)
+pub answered-named : (strict : Bool) (ps : List SegmentView) (names : Names) → Answered (named_from strict ps names)
 answered-named strict [] names = tt
 answered-named strict (p ∷ ps) names =
     answered-next (kept_by strict no_names p names) _ (answered-kept_by strict no_names p.header.segment_type p.header p.bytes names) (λ more. answered-named strict ps more)
@@ -144,7 +144,7 @@ answered-segment_on strict globals p d =
       shown = λ kind q. answered-immediate strict globals kind q d;
     })
 
-answered-drawn : (strict : Bool) (globals : Names) (ps : List SegmentView) (d : Drawing) → Answered (segments_drawn strict globals ps d)
+pub answered-drawn : (strict : Bool) (globals : Names) (ps : List SegmentView) (d : Drawing) → Answered (segments_drawn strict globals ps d)
 answered-drawn strict globals [] d = tt
 answered-drawn strict globals (p ∷ ps) d =
     answered-if _ (Ok d) _ tt
@@ -154,21 +154,21 @@ answered-drawn strict globals (p ∷ ps) d =
 -- a page whose globals gave names, or such an error
 pub answered-grid : (page : ReadPage) → Answered page.globals → Answered (grid_of_page page)
 unfolding grid_of_page
-answered-grid page is = answered-next page.globals _ is (λ globals. answered-next (segments_drawn page.strict globals page.segments (page_begun page.initial_page)) _ (answered-drawn page.strict globals page.segments _) (λ d. tt))
+answered-grid page is = answered-next (drawing_of_page page) _ (answered-next page.globals _ is (λ globals. answered-drawn page.strict globals page.segments (page_begun page.initial_page))) (λ d. tt)
 
 pub answered-embedded : (strict : Bool) (globals : Names) (bytes : List ℕ) → Answered (embedded strict globals bytes)
 unfolding embedded
 answered-embedded strict globals bytes = search (answered-next, answered-sorted, answered-initial_page)
 
-answered-associated : (strict : Bool) (ps : List SegmentView) → Answered (associated strict ps)
+pub answered-associated : (strict : Bool) (ps : List SegmentView) → Answered (associated strict ps)
 answered-associated strict [] = tt
 answered-associated strict (p ∷ ps) = answered-if _ (Err _) (associated strict ps) tt (answered-associated strict ps)
 
-answered-filed : (strict : Bool) (own : List SegmentView) → Answered (filed_from strict own)
+pub answered-filed : (strict : Bool) (own : List SegmentView) → Answered (filed_from strict own)
 unfolding filed_from
 answered-filed strict own = search (answered-next, answered-refusal, answered-initial_page)
 
-answered-each : (strict : Bool) (all : List (List SegmentView)) → Answered (filed_each strict all)
+pub answered-each : (strict : Bool) (all : List (List SegmentView)) → Answered (filed_each strict all)
 answered-each strict [] = tt
 answered-each strict (own ∷ others) =
     answered-next (filed_from strict own) _ (answered-filed strict own) (λ page. answered-next (filed_each strict others) _ (answered-each strict others) (λ pages. tt))

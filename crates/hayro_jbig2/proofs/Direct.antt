@@ -8,7 +8,7 @@ use Rattle.jbig2_base.specs.Answer.{Gives, ◌>>=◌}
 use Rattle.jbig2_base.specs.Combination.{combined, drawn_pixel, is_below, combined_pixel}
 use Rattle.jbig2_base.specs.Grid.{Grid, pixel_at, pixel, blank}
 use Rattle.jbig2_base.specs.Segment.{SegmentView}
-use Rattle.jbig2_base.specs.inner.Table.{IsTable}
+use Rattle.jbig2_base.specs.Table.{IsTable}
 use Rattle.jbig2_base.specs.declared.bitmap.operator.CombinationOperator.{CombinationOperator}
 use Rattle.jbig2_base.specs.declared.bitmap.operator.CombinationOperator.TheVariants.{Or, And, Xor, Xnor, Replace}
 use Rattle.jbig2_base.specs.declared.error.DecodeError.{DecodeError}
@@ -26,7 +26,8 @@ use Rattle.jbig2_region.specs.declared.region_info.DecodedRegion.{DecodedRegion}
 use Rattle.jbig2_region.specs.declared.region_info.RegionSegmentInfo.{RegionSegmentInfo}
 use Rattle.jbig2_text.specs.inner.TextViews as texts
 use Rattle.hayro_jbig2.specs.Names.{Names}
-use Rattle.hayro_jbig2.specs.Page.{Drawing, draws_over, region_at, shown, with_region}
+use Rattle.hayro_jbig2.specs.Page.{Drawing, draws_over, nothing_passed, or_passed_over, region_at, shown, with_passed, with_region}
+use Rattle.hayro_jbig2.specs.declared.passed_over.PassedOver.{PassedOver}
 use Rattle.hayro_jbig2.specs.declared.parsed_region.ParsedRegion.{ParsedRegion}
 use Rattle.hayro_jbig2.specs.declared.parsed_region.ParsedRegion.TheVariants.{Text, Halftone, Generic, Refinement, PageRefinement}
 use Rattle.hayro_jbig2.specs.declared.references.References.{References}
@@ -103,20 +104,20 @@ drawn-made (PageRefinement header area) g is = refined-made (refinements.header_
 pub apart-within : {A : Type 0} (r : ParsedRegion A) → (info_of r).width ≤ 65535 → (info_of r).height ≤ 65535 → apart r ≡ (drawn r >>= λ g. Ok (placed (info_of r) g))
 apart-within r columns rows = rw (le-ltb 65535 (info_of r).width columns, le-ltb 65535 (info_of r).height rows) refl
 
-whole-shown : {A : Type 0} (r : ParsedRegion A) (meant : Result PlacedRegion DecodeError) (d : Drawing) (g : Grid) → IsWhole (info_of r) (initial_of r) d.grid → meant ≡ apart r → drawn r ≡ Ok g → shown true d meant ≡ Ok (record d { grid = g; untouched = false })
+whole-shown : {A : Type 0} (r : ParsedRegion A) (meant : Result PlacedRegion DecodeError) (d : Drawing) (g : Grid) → IsWhole (info_of r) (initial_of r) d.grid → meant ≡ apart r → drawn r ≡ Ok g → shown d meant ≡ Ok (record d { grid = g; untouched = false })
 whole-shown r meant d g whole leads is =
     let info : RegionSegmentInfo = info_of r in
     let made = drawn-made r g is in
     let wide : g.width ≡ info.width = ap (λ (q : Grid). q.width) made.1 in
     let high : g.height ≡ info.height = ap (λ (q : Grid). q.height) made.1 in
-    ap (λ (a : Result PlacedRegion DecodeError). shown true d a) (leads ∙ apart-within r whole.columns whole.rows)
-    ∙ ap (λ (a : Result Grid DecodeError). shown true d (a >>= λ q. Ok (placed info q))) is
+    ap (λ (a : Result PlacedRegion DecodeError). shown d a) (leads ∙ apart-within r whole.columns whole.rows)
+    ∙ ap (λ (a : Result Grid DecodeError). shown d (a >>= λ q. Ok (placed info q))) is
     ∙ ap (λ (q : Grid). let e : Result Drawing DecodeError = Ok (record d { grid = q; untouched = false }) in e) (whole.over g (table-at g info.width info.height made.0 made.1) wide high)
 
-whole-failed : {A : Type 0} (r : ParsedRegion A) (meant : Result PlacedRegion DecodeError) (d : Drawing) (e : DecodeError) → (info_of r).width ≤ 65535 → (info_of r).height ≤ 65535 → meant ≡ apart r → drawn r ≡ Err e → shown true d meant ≡ Err e
+whole-failed : {A : Type 0} (r : ParsedRegion A) (meant : Result PlacedRegion DecodeError) (d : Drawing) (e : DecodeError) → (info_of r).width ≤ 65535 → (info_of r).height ≤ 65535 → meant ≡ apart r → drawn r ≡ Err e → shown d meant ≡ Err e
 whole-failed r meant d e columns rows leads is =
-    ap (λ (a : Result PlacedRegion DecodeError). shown true d a) (leads ∙ apart-within r columns rows)
-    ∙ ap (λ (a : Result Grid DecodeError). shown true d (a >>= λ q. Ok (placed (info_of r) q))) is
+    ap (λ (a : Result PlacedRegion DecodeError). shown d a) (leads ∙ apart-within r columns rows)
+    ∙ ap (λ (a : Result Grid DecodeError). shown d (a >>= λ q. Ok (placed (info_of r) q))) is
 
 -- the page's area is refined
 pub page-refined : {A : Type 0} (header : GenericRefinementRegionHeader) (page : Grid) (area : DecodedRegion A) → IsRefinement (refinements.header_view header) → near_area page header.region_info ≡ Ok (region_view area) → refined_decoded (refinements.header_view header) (page_area page header.region_info) ≡ apart (PageRefinement header area)
@@ -125,19 +126,19 @@ page-refined header page area parsed near =
     ∙ sym (apart-within (PageRefinement header area) parsed.columns parsed.rows)
 
 -- drawn directly
-pub whole-gives : {A : Type 0} (r : ParsedRegion A) (meant : Result PlacedRegion DecodeError) (d : Drawing) (g : Grid) (answer : Result (Unit {0}) DecodeError) → IsWhole (info_of r) (initial_of r) d.grid → meant ≡ apart r → Gives (λ _. g) answer (drawn r) → Gives (λ _. record d { grid = g; untouched = false }) answer (shown true d meant)
+pub whole-gives : {A : Type 0} (r : ParsedRegion A) (meant : Result PlacedRegion DecodeError) (d : Drawing) (g : Grid) (answer : Result (Unit {0}) DecodeError) → IsWhole (info_of r) (initial_of r) d.grid → meant ≡ apart r → Gives (λ _. g) answer (drawn r) → Gives (λ _. record d { grid = g; untouched = false }) answer (shown d meant)
 whole-gives r meant d g (Ok u) whole leads is = whole-shown r meant d g whole leads is
 whole-gives r meant d g (Err e) whole leads (inl memory) = inl memory
 whole-gives r meant d g (Err e) whole leads (inr failed) = inr (whole-failed r meant d e whole.columns whole.rows leads failed)
 
 -- drawn apart and then combined
-pub combined-shown : {A : Type 0} (r : ParsedRegion A) (meant : Result PlacedRegion DecodeError) (d d' : Drawing) (region : PlacedRegion) → meant ≡ apart r → apart r ≡ Ok region → Ok d' ≡ shown true d (Ok region) → shown true d meant ≡ Ok d'
-combined-shown r meant d d' region leads is drawn = ap (λ (a : Result PlacedRegion DecodeError). shown true d a) (leads ∙ is) ∙ sym drawn
+pub combined-shown : {A : Type 0} (r : ParsedRegion A) (meant : Result PlacedRegion DecodeError) (d d' : Drawing) (region : PlacedRegion) → meant ≡ apart r → apart r ≡ Ok region → Ok d' ≡ shown d (Ok region) → shown d meant ≡ Ok d'
+combined-shown r meant d d' region leads is drawn = ap (λ (a : Result PlacedRegion DecodeError). shown d a) (leads ∙ is) ∙ sym drawn
 
 -- refused
-pub shown-refused : (d : Drawing) (meant : Result PlacedRegion DecodeError) (e : DecodeError) → (e ≡ OutOfMemory) ⊎ (meant ≡ Err e) → (e ≡ OutOfMemory) ⊎ (shown true d meant ≡ Err e)
+pub shown-refused : (d : Drawing) (meant : Result PlacedRegion DecodeError) (e : DecodeError) → (e ≡ OutOfMemory) ⊎ (meant ≡ Err e) → (e ≡ OutOfMemory) ⊎ (shown d meant ≡ Err e)
 shown-refused d meant e (inl memory) = inl memory
-shown-refused d meant e (inr failed) = inr (ap (λ (a : Result PlacedRegion DecodeError). shown true d a) failed)
+shown-refused d meant e (inr failed) = inr (ap (λ (a : Result PlacedRegion DecodeError). shown d a) failed)
 
 pub kept-refused : (number : ℕ) (d : Drawing) (meant : Result PlacedRegion DecodeError) (e : DecodeError) → (e ≡ OutOfMemory) ⊎ (meant ≡ Err e) → (e ≡ OutOfMemory) ⊎ ((meant >>= λ r. Ok (with_region number d r)) ≡ Err e)
 kept-refused number d meant e (inl memory) = inl memory
@@ -147,21 +148,25 @@ pub led-to : {A : Type 0} (r : ParsedRegion A) (meant : Result PlacedRegion Deco
 led-to r meant e leads (inl memory) = inl memory
 led-to r meant e leads (inr failed) = inr (leads ∙ failed)
 
--- whether a page was touched changes no region
-pub region-touched : (strict : Bool) (globals : Names) (kind : RegionKind) (is_intermediate : Bool) (p : SegmentView) (d : Drawing) → region_at strict globals kind is_intermediate p (touched d) ≡ region_at strict globals kind is_intermediate p d
+pub refused-too : (meant other : Result PlacedRegion DecodeError) (e : DecodeError) → meant ≡ other → (e ≡ OutOfMemory) ⊎ (other ≡ Err e) → (e ≡ OutOfMemory) ⊎ (meant ≡ Err e)
+refused-too meant other e same (inl memory) = inl memory
+refused-too meant other e same (inr failed) = inr (same ∙ failed)
+
+-- whether a page was touched changes no region, nor does what was passed over
+pub region-touched : (strict : Bool) (globals : Names) (kind : RegionKind) (is_intermediate : Bool) (p : SegmentView) (d : Drawing) → region_at strict globals kind is_intermediate p (record d { untouched = false; passed_over = nothing_passed }) ≡ region_at strict globals kind is_intermediate p d
 region-touched strict globals kinds.Text is_intermediate p d = refl
 region-touched strict globals kinds.Halftone is_intermediate p d = refl
 region-touched strict globals kinds.Generic is_intermediate p d = refl
 region-touched strict globals kinds.GenericRefinement is_intermediate p d = refl
 
 -- what references over the parts of a page lead to
-pub led : {A : Type 0} (r : References A) (strict : Bool) (globals : Names) (kind : RegionKind) (is_intermediate : Bool) (p : SegmentView) (page : Grid) (regions items : List (Kept (DecodedRegion A))) (names : Names) (untouched : Bool) (d : Drawing) (meant : Result PlacedRegion DecodeError)
-    → r.names.strict ≡ strict → r.names.globals.now ≡ globals → drawing_of r ≡ record { grid = page; regions = seen region_view regions; names = names; untouched = false } → regions ≡ items → record { grid = page; regions = seen region_view items; names = names; untouched = untouched } ≡ d → region_at r.names.strict r.names.globals.now kind is_intermediate p (drawing_of r) ≡ meant → region_at strict globals kind is_intermediate p d ≡ meant
-led {A = A} r strict globals kind is_intermediate p page regions items names untouched d meant strictly shared parts same view leads =
-    let inside : Drawing = record { grid = page; regions = seen region_view items; names = names; untouched = untouched } in
+pub led : {A : Type 0} (r : References A) (strict : Bool) (globals : Names) (kind : RegionKind) (is_intermediate : Bool) (p : SegmentView) (page : Grid) (regions items : List (Kept (DecodedRegion A))) (names : Names) (untouched : Bool) (passed : PassedOver) (d : Drawing) (meant : Result PlacedRegion DecodeError)
+    → r.names.strict ≡ strict → r.names.globals.now ≡ globals → drawing_of r ≡ record { grid = page; regions = seen region_view regions; names = names; untouched = false; passed_over = nothing_passed } → regions ≡ items → record { grid = page; regions = seen region_view items; names = names; untouched = untouched; passed_over = passed } ≡ d → region_at r.names.strict r.names.globals.now kind is_intermediate p (drawing_of r) ≡ meant → region_at strict globals kind is_intermediate p d ≡ meant
+led {A = A} r strict globals kind is_intermediate p page regions items names untouched passed d meant strictly shared parts same view leads =
+    let inside : Drawing = record { grid = page; regions = seen region_view items; names = names; untouched = untouched; passed_over = passed } in
     ap (λ (b : Drawing). region_at strict globals kind is_intermediate p b) (sym view)
     ∙ sym (region-touched strict globals kind is_intermediate p inside)
-    ∙ ap (λ (xs : List (Kept (DecodedRegion A))). region_at strict globals kind is_intermediate p (record { grid = page; regions = seen region_view xs; names = names; untouched = false })) (sym same)
+    ∙ ap (λ (xs : List (Kept (DecodedRegion A))). region_at strict globals kind is_intermediate p (record { grid = page; regions = seen region_view xs; names = names; untouched = false; passed_over = nothing_passed })) (sym same)
     ∙ ap (λ (b : Drawing). region_at strict globals kind is_intermediate p b) (sym parts)
     ∙ ap (λ (mode : Bool). region_at mode globals kind is_intermediate p (drawing_of r)) (sym strictly)
     ∙ ap (λ (given : Names). region_at r.names.strict given kind is_intermediate p (drawing_of r)) (sym shared)
@@ -180,21 +185,14 @@ stored number inside d meant region view is =
     ∙ sym (ap (λ (a : Result PlacedRegion DecodeError). a >>= λ r. let e : Result Drawing DecodeError = Ok (with_region number d r) in e) is)
 
 -- ---- in either mode
-pub drawn-either : (strict : Bool) (d d' : Drawing) (r : Result PlacedRegion DecodeError) → shown true d r ≡ Ok d' → shown strict d r ≡ Ok d'
-drawn-either strict d d' (Ok r) is = is
-drawn-either strict d d' (Err e) is = absurd (let never : bad {X = Drawing} e ≡ good d' = is in cc)
-
-failed-either : (d : Drawing) (r : Result PlacedRegion DecodeError) (e : DecodeError) → shown true d r ≡ Err e → r ≡ Err e
-failed-either d (Ok r) e is = absurd (let never : good (record d { grid = combined r.combination_operator d.grid r.grid (cast_signed w32 r.x_location) (cast_signed w32 r.y_location); untouched = false }) ≡ bad e = is in cc)
-failed-either d (Err f) e is =
-    let same : f ≡ e = let both : bad {X = Drawing} f ≡ bad e = is in cc in
-    ap (λ (x : DecodeError). let made : Result PlacedRegion DecodeError = Err x in made) same
+pub drawn-either : (strict : Bool) (number : ℕ) (d d' : Drawing) (meant : Result Drawing DecodeError) → meant ≡ Ok d' → or_passed_over strict number d meant ≡ Ok d'
+drawn-either strict number d d' meant is = ap (λ (r : Result Drawing DecodeError). or_passed_over strict number d r) is
 
 -- a region that failed is passed over
-pub passed : (strict : Bool) (d d1 d' : Drawing) (meant : Result PlacedRegion DecodeError) (e : DecodeError) (answer : Result (Unit {0}) DecodeError)
-    → (e ≡ OutOfMemory) ⊎ (shown true d meant ≡ Err e) → (e ≡ OutOfMemory) ⊎ (touched d1 ≡ touched d) → (e ≡ OutOfMemory → answer ≡ Err OutOfMemory) → Gives (λ _. d') answer (shown strict d1 (Err e)) → Gives (λ _. d') answer (shown strict d meant)
-passed strict d d1 d' meant e answer (inl memory) left refused gives = subst (λ (a : Result (Unit {0}) DecodeError). Gives (λ _. d') a (shown strict d meant)) (sym (refused memory)) (inl refl)
-passed strict d d1 d' meant e answer (inr failed) (inl memory) refused gives = subst (λ (a : Result (Unit {0}) DecodeError). Gives (λ _. d') a (shown strict d meant)) (sym (refused memory)) (inl refl)
-passed strict d d1 d' meant e answer (inr failed) (inr same) refused gives =
-    subst (λ (r : Result PlacedRegion DecodeError). Gives (λ _. d') answer (shown strict d r)) (sym (failed-either d meant e failed))
-    (subst (λ (b : Drawing). Gives (λ _. d') answer (if strict then Err e else Ok b)) same gives)
+pub passed : (strict : Bool) (number : ℕ) (d d1 d' : Drawing) (meant : Result Drawing DecodeError) (e : DecodeError) (answer : Result (Unit {0}) DecodeError)
+    → (e ≡ OutOfMemory) ⊎ (meant ≡ Err e) → (e ≡ OutOfMemory) ⊎ (touched d1 ≡ touched d) → (e ≡ OutOfMemory → answer ≡ Err OutOfMemory) → Gives (λ _. d') answer (or_passed_over strict number d1 (Err e)) → Gives (λ _. d') answer (or_passed_over strict number d meant)
+passed strict number d d1 d' meant e answer (inl memory) left refused gives = subst (λ (a : Result (Unit {0}) DecodeError). Gives (λ _. d') a (or_passed_over strict number d meant)) (sym (refused memory)) (inl refl)
+passed strict number d d1 d' meant e answer (inr failed) (inl memory) refused gives = subst (λ (a : Result (Unit {0}) DecodeError). Gives (λ _. d') a (or_passed_over strict number d meant)) (sym (refused memory)) (inl refl)
+passed strict number d d1 d' meant e answer (inr failed) (inr same) refused gives =
+    subst (λ (r : Result Drawing DecodeError). Gives (λ _. d') answer (or_passed_over strict number d r)) (sym failed)
+    (subst (λ (b : Drawing). Gives (λ _. d') answer (if strict then Err e else Ok (record b { untouched = false; passed_over = with_passed number e b.passed_over }))) same gives)

@@ -1,12 +1,24 @@
+mod Agreeing
+pub mod AgreeingPages
+mod AgreeingRegions
+mod AgreeingSegments
+mod AgreeingSymbols
+mod AgreeingTexts
 mod Answered
+pub mod Answering
 pub mod Books
 pub mod ByPages
 pub mod Causes
+pub mod Chunks
 pub mod Consuming
 mod Direct
+pub mod DrawingSteps
+mod DrawnPages
 mod FileRows
 pub mod KeptLemmas
 mod LeftLemmas
+pub mod Order
+pub mod PackedBits
 mod PackedRows
 mod PageArea
 pub mod PageCauses
@@ -18,6 +30,7 @@ pub mod Sending
 pub mod SegmentCauses
 mod SegmentTypes
 mod Shades
+pub mod Sides
 pub mod Spelling
 pub mod Untouched
 mod WorkedRefinements

@@ -15,7 +15,7 @@ use Rattle.hayro_jbig2.specs.Image.{packed_byte, packed_of, packed_of_page, pack
 use Rattle.hayro_jbig2.specs.inner.Puts.{top_byte, word_byte}
 use Rattle.hayro_jbig2.specs.inner.Whole.{IsBegun}
 
-map-same : {X : Type 0} (f g : ℕ → X) (a n : ℕ) → ((i : ℕ) → a ≤ i → i < a + n → f i ≡ g i) → map f (range_with_len a n) ≡ map g (range_with_len a n)
+pub map-same : {X : Type 0} (f g : ℕ → X) (a n : ℕ) → ((i : ℕ) → a ≤ i → i < a + n → f i ≡ g i) → map f (range_with_len a n) ≡ map g (range_with_len a n)
 map-same f g a zero same = refl
 map-same f g a (suc n) same = rw (same a (omega arith) (omega arith)) (ap (λ xs. g a ∷ xs) (map-same f g (a + 1) n (λ i above below. same i (omega arith) (omega arith))))
 
@@ -131,7 +131,7 @@ part-of-whole w height g start count within =
     ∙ take-map-range_with_len f (start + 0) (size - start) count (omega (arith, within))
     ∙ ap (λ (m : ℕ). map f (range_with_len m count)) place)
 
-pub rows-bounded : (w height bytes : ℕ) → height ≤ 65535 → bytes ≤ packed_size w height → bytes ≤ row_bytes w * 65535
+pub rows-bounded : (w height bytes : ℕ) → height ≤ 4294967295 → bytes ≤ packed_size w height → bytes ≤ row_bytes w * 4294967295
 rows-bounded w height bytes low few = omega (arith, few, mul-le-mul_left (row_bytes w) low)
 
 -- what a page is drawn as has the size of its packed rows

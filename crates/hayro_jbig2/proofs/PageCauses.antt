@@ -6,7 +6,7 @@ use Rattle.jbig2_base.specs.Answer.{◌>>=◌}
 use Rattle.jbig2_base.specs.PageInfo.{initial_page_of}
 use Rattle.jbig2_base.specs.Segment.{Header, SegmentView}
 use Rattle.jbig2_base.specs.Sequential.{sorted_segments}
-use Rattle.jbig2_base.specs.Causes.{IsOf, HaveCauses}
+use Rattle.jbig2_base.specs.Causes.{InSteps, IsOf, HaveCauses}
 use Rattle.jbig2_base.specs.declared.error.DecodeError.{DecodeError}
 use Rattle.jbig2_base.specs.declared.segment.SegmentType.{SegmentType}
 use Rattle.jbig2_base.specs.declared.segment.SegmentType.TheVariants as types
@@ -16,7 +16,7 @@ use Rattle.jbig2_region.proofs.Told.{cause-if}
 use Rattle.jbig2_symbol.proofs.ReadingCauses.{cause-by, in-steps, own-error}
 use Rattle.hayro_jbig2.specs.Causes.{BreaksBeginning, BreaksDrawing, BreaksExtension, BreaksKept, BreaksNames, BreaksRegion, BreaksSegmentOn, EmbeddedPagesHaveCauses, GlobalsHaveCauses, PagesHaveCauses}
 use Rattle.hayro_jbig2.specs.Names.{Names, code_at, extension, kept_by, no_names, pattern_dictionary_at, symbol_dictionary_at, with_code, with_patterns, with_symbols, globals_at, named_from}
-use Rattle.hayro_jbig2.specs.Page.{Drawing, embedded, ends_page, grid_of_page, immediate, intermediate, keeping, page_begun, region_at, segment_on, segments_drawn, shown}
+use Rattle.hayro_jbig2.specs.Page.{Drawing, embedded, ends_page, grid_of_page, immediate, intermediate, keeping, or_passed_over, page_begun, drawing_of_page, region_at, segment_on, segments_drawn, shown}
 use Rattle.hayro_jbig2.specs.Regions.{generic_at}
 use Rattle.hayro_jbig2.specs.declared.region.RegionKind.{RegionKind}
 use Rattle.hayro_jbig2.specs.declared.region.RegionKind.TheVariants as kinds
@@ -48,15 +48,15 @@ region-causes strict globals kinds.Halftone is_intermediate p d = halftone_cause
 region-causes strict globals kinds.Generic is_intermediate p d = own-error (generic_at strict is_intermediate p)
 region-causes strict globals kinds.GenericRefinement is_intermediate p d = refinement_causes strict is_intermediate d.grid d.regions p
 
-shown-cause : (P : DecodeError → Type 0) (strict : Bool) (d : Drawing) (r : Result PlacedRegion DecodeError) → IfErr r P → IfErr (shown strict d r) (λ e. IsTrue strict × P e)
-shown-cause P strict d (Ok r) is = tt
-shown-cause P true d (Err e) is = (refl, is)
-shown-cause P false d (Err e) is = tt
+shown-cause : (P : DecodeError → Type 0) (strict : Bool) (number : ℕ) (d : Drawing) (r : Result PlacedRegion DecodeError) → IfErr r P → IfErr (or_passed_over strict number d (shown d r)) (λ e. IsTrue strict × P e)
+shown-cause P strict number d (Ok r) is = tt
+shown-cause P true number d (Err e) is = (refl, is)
+shown-cause P false number d (Err e) is = tt
 
 immediate-causes : (strict : Bool) (globals : Names) (kind : RegionKind) (p : SegmentView) (d : Drawing) → IfErr (immediate strict globals kind p d) (BreaksImmediate strict globals kind p d)
 unfolding immediate
 immediate-causes strict globals kind p d =
-    shown-cause (BreaksRegion strict globals kind false p d) strict d (region_at strict globals kind false p d) (region-causes strict globals kind false p d)
+    shown-cause (BreaksRegion strict globals kind false p d) strict p.header.segment_number d (region_at strict globals kind false p d) (region-causes strict globals kind false p d)
 
 intermediate-causes : (strict : Bool) (globals : Names) (kind : RegionKind) (p : SegmentView) (d : Drawing) → IfErr (intermediate strict globals kind p d) (BreaksRegion strict globals kind true p d)
 unfolding intermediate
@@ -127,9 +127,11 @@ drawing-causes strict globals (p ∷ ps) d =
 pub page_causes : PagesHaveCauses
 unfolding grid_of_page
 page_causes page =
-    in-steps page.globals _ (IsOf page.globals) (λ globals. BreaksDrawing page.strict globals page.segments (page_begun page.initial_page)) (own-error page.globals) (λ globals globals_is.
-    let P : DecodeError → Type 0 = BreaksDrawing page.strict globals page.segments (page_begun page.initial_page) in
-    cause-next P (segments_drawn page.strict globals page.segments (page_begun page.initial_page)) _ (drawing-causes page.strict globals page.segments (page_begun page.initial_page)) (λ d d_is. tt))
+    let Breaks : Names → DecodeError → Type 0 = λ globals. BreaksDrawing page.strict globals page.segments (page_begun page.initial_page) in
+    let P : DecodeError → Type 0 = λ e. InSteps page.globals (IsOf page.globals e) (λ globals. Breaks globals e) in
+    cause-next P (drawing_of_page page) _
+    (in-steps page.globals _ (IsOf page.globals) Breaks (own-error page.globals) (λ globals globals_is. drawing-causes page.strict globals page.segments (page_begun page.initial_page)))
+    (λ d d_is. tt)
 
 pub embedded_causes : EmbeddedPagesHaveCauses
 unfolding embedded

@@ -7,7 +7,7 @@ use Rattle.std.proofs.lemmas.Nat.Bits.{same_from_bits_below}
 use Rattle.std.specs.List.{range_with_len, flat_map}
 use Rattle.jbig2_base.specs.Grid.{Grid, pixel_at, bit_number, same_colour}
 use Rattle.jbig2_base.specs.Bits.{bit}
-use Rattle.jbig2_base.specs.inner.Colour.{IsFirst}
+use Rattle.jbig2_base.specs.Colour.{IsFirst}
 use Rattle.jbig2_base.proofs.BitLemmas.{bit-ones, bit-zero, bit_number-bit}
 use Rattle.hayro_jbig2.specs.Calls.{Call, Pixel, Chunk, Line, is_all, singles, with_whole, with_byte, whole_calls, row_of, line_calls, calls_of}
 use Rattle.hayro_jbig2.specs.inner.RunViews.{run_of}

@@ -1,7 +1,7 @@
 -- The calls that spell a page (our own rule; T.88 leaves open how a decoder hands a page on), and what a Decoder does with
 -- them. `calls_of` takes a grid and gives its calls, row by row; `rows_after` takes calls and gives the rows that they
 -- draw. `Decodes`, the last, takes the answer of a definition and says what `decode_with` makes of it.
-use Rattle.std.specs.{Prelude.{◌≡◌, ◌<◌, ◌⊎◌, All, Option, Some, None, unwrap_or, option_to_list, ℕ, suc, zero, ◌+◌, ◌-◌, ◌*◌, ◌/◌, ◌^◌, Bool, true, false, ◌&&◌, List, [], ◌∷◌, ◌++◌, length, take, drop, replicate, map, count_by, Result, Ok, Err, if◌then◌else◌}, List.{range_with_len, flat_map}}
+use Rattle.std.specs.{Prelude.{◌≡◌, ◌<◌, ◌≤◌, ◌⊎◌, All, Option, Some, None, unwrap_or, option_to_list, ℕ, suc, zero, ◌+◌, ◌-◌, ◌*◌, ◌/◌, ◌%◌, ◌^◌, Bool, true, false, ◌&&◌, List, [], ◌∷◌, ◌++◌, length, take, drop, replicate, map, count_by, Result, Ok, Err, if◌then◌else◌}, List.{range_with_len, flat_map}}
 use Rattle.jbig2_base.specs.{Grid.{Grid, pixel_at, same_colour}, declared.error.DecodeError.{DecodeError, TheVariants.{OutOfMemory}}}
 
 -- A call of a Decoder: one pixel, that many times eight pixels of one colour, the end of a row.
@@ -60,6 +60,17 @@ pub record DrawsGrid (calls : List Call) (g : Grid) : Type 0 where
   pub lines : count_by is_line calls ≡ g.height
   pub widths : All (λ row. length row ≡ g.width) (rows_after None calls)
   pub rows : rows_after None calls ≡ map (row_of g) (range_with_len 0 g.height)
+
+-- From this column on each chunk begins where eight divides the column, has a byte at least and ends within the width.
+abbrev pub ChunksFit : ℕ → ℕ → List Call → Type 0
+ChunksFit width x [] = Unit {0}
+ChunksFit width x (Pixel black ∷ calls) = ChunksFit width (x + 1) calls
+ChunksFit width x (Chunk black bytes ∷ calls) = (x % 8 ≡ 0) × (1 ≤ bytes) × (x + 8 * bytes ≤ width) × ChunksFit width (x + 8 * bytes) calls
+ChunksFit width x (Line ∷ calls) = ChunksFit width 0 calls
+
+-- At most a call for each pixel, and one for each row.
+abbrev pub CallsAreFew : Grid → Type 0
+CallsAreFew g = length (calls_of g) ≤ g.width * g.height + g.height
 
 -- How Decoders of a type behave: what was drawn by one, what a call that is taken does to that, with which errors a
 -- call may be refused, and how many calls were refused.

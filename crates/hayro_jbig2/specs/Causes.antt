@@ -1,12 +1,12 @@
 -- Which rule is broken where a file, a page or one of its segments is refused (docs/FORMAT.md, 1, 4 and 8), a line for
 -- each error. Errors of steps that lower crates define stand here as the step's own (`IsOf`): the laws there say more.
-use Rattle.std.specs.{Prelude.{◌≡◌, ◌≢◌, ◌⊎◌, ◌<◌, ◌≤◌, ℕ, suc, Bool, true, false, IsTrue, IsFalse, List, [], length, take, slice_get, Any, Option, Some, None, MatchOption, option_and_then, unwrap_or, Result, Ok, IfErr}, List.{AllByRecursion, flat_map}, Int.{w32}, Option.{option_map_or}}
-use Rattle.jbig2_base.specs.{Answer.{◌>>=◌}, Causes.{InSteps, IsOf, number_in}, File.{file_at}, Grid.{Grid}, PageInfo.{initial_page_of, is_page_information}, Segment.{SegmentView}, Sequential.{sorted_segments}, declared.{error.{DecodeError.{DecodeError, TheVariants.{Parse, Format, Segment, Overflow, Unsupported}}, FormatError.TheVariants.{MissingPageInfo, PageCountMismatch, InvalidEndOfPage}, OverflowError.TheVariants.{SymbolCount}, ParseError.TheVariants.{UnexpectedEof}, SegmentError.TheVariants.{InvalidReference, MissingPatternDictionary, MissingPageAssociation}}, file_header.FileHeader.{FileHeader}, segment.SegmentType.{SegmentType}}}
+use Rattle.std.specs.{Prelude.{◌≡◌, ◌≢◌, ◌⊎◌, ◌<◌, ◌≤◌, ℕ, suc, Bool, true, false, IsTrue, IsFalse, List, [], length, take, slice_get, Any, Option, Some, None, MatchOption, option_and_then, unwrap_or, Result, Ok, IfErr, IfOk}, List.{AllByRecursion, flat_map}, Int.{w32}, Option.{option_map_or}}
+use Rattle.jbig2_base.specs.{Answer.{◌>>=◌}, Causes.{InSteps, IsOf, number_in}, File.{file_at}, Grid.{Grid}, PageInfo.{initial_page_of, is_page_information}, Segment.{SegmentView}, Sequential.{sorted_segments}, declared.{error.{DecodeError.{DecodeError, TheVariants.{OutOfMemory, Parse, Format, Huffman, Segment, Overflow, Template, Unsupported}}, FormatError.TheVariants.{MissingPageInfo, PageCountMismatch, InvalidEndOfPage}, HuffmanError.TheVariants.{ConflictingCodes}, OverflowError.TheVariants.{Index, SymbolCount}, ParseError.TheVariants.{UnexpectedEof}, SegmentError.TheVariants.{InvalidReference, MissingPatternDictionary, MissingPageAssociation}, TemplateError.TheVariants.{Invalid}}, file_header.FileHeader.{FileHeader}, segment.SegmentType.{SegmentType}}}
 use Rattle.jbig2_region.specs.{RegionInfo.{PlacedRegion}, Refinement.{refined_decoded}, RefinementHeader.{refinement_header_at}}
 use Rattle.jbig2_halftone.specs.{Halftone.{halftone_decoded}, HalftoneHeader.{halftone_header_at}}
 use Rattle.jbig2_text.specs.{TextHeader.{text_header_at}, TextRegion.{text_decoded}}
 use Rattle.jbig2_symbol.specs.{SymbolHeader.{symbol_header_at}, Symbols.{symbols_decoded}}
-use Rattle.hayro_jbig2.specs.{Files.{book_at, by_pages, ends_of, needs_page}, Names.{globals_at, named_from, Names, Referred, code_at, first_named, named, no_names, pattern_dictionary_at, referred_by}, Image.{first_page}, Page.{Drawing, ReadPage, embedded, ends_page, grid_of_page, page_begun, region_type, segments_drawn}, Regions.{generic_at, page_area, patterns_for}, declared.{kept.Kept.{Kept}, region.RegionKind.{RegionKind}}}
+use Rattle.hayro_jbig2.specs.{Files.{book_at, by_pages, ends_of, needs_page}, Names.{globals_at, named_from, Names, Referred, code_at, first_named, named, no_names, pattern_dictionary_at, referred_by}, Image.{first_page}, Page.{Drawing, ReadPage, drawing_of_page, embedded, ends_page, grid_of_page, page_begun, region_type, segments_drawn}, Regions.{generic_at, page_area, patterns_for}, declared.{kept.Kept.{Kept}, region.RegionKind.{RegionKind}}}
 use Rattle.jbig2_base.specs.declared.segment.SegmentType.TheVariants as types
 use Rattle.hayro_jbig2.specs.declared.region.RegionKind.TheVariants as kinds
 
@@ -127,3 +127,21 @@ PagesHaveCauses = (page : ReadPage) → IfErr (grid_of_page page) (λ e. InSteps
 
 abbrev pub EmbeddedPagesHaveCauses : Type 0  -- an embedded page: its segments, or what they begin
 EmbeddedPagesHaveCauses = (strict : Bool) (globals : Names) (bytes : List ℕ) → IfErr (embedded strict globals bytes) (λ e. InSteps (sorted_segments strict bytes) (IsOf (sorted_segments strict bytes) e) (λ ps. BreaksBeginning ps e))
+
+-- ---- what no bytes bring about
+-- Want of memory, and three errors that stand in the enums for their matchers alone.
+abbrev pub IsAnswered : DecodeError → Type 0
+IsAnswered OutOfMemory = ⊥
+IsAnswered (Huffman ConflictingCodes) = ⊥
+IsAnswered (Template Invalid) = ⊥
+IsAnswered (Overflow Index) = ⊥
+IsAnswered _ = Unit {0}
+
+-- No definition gives one of these, whatever the bytes: neither globals, embedded pages and files, nor what is drawn of a page,
+-- unless the globals of the page gave it, and those of a file don't.
+pub record ErrorsAreAnswered : Type 0 where
+  pub globals : (strict : Bool) (bytes : List ℕ) → IfErr (globals_at strict bytes) IsAnswered
+  pub page : (strict : Bool) (globals : Names) (bytes : List ℕ) → IfErr (embedded strict globals bytes) IsAnswered
+  pub file : (strict : Bool) (bytes : List ℕ) → IfErr (book_at strict bytes) IsAnswered
+  pub file_globals : (strict : Bool) (bytes : List ℕ) → IfOk (book_at strict bytes) (λ book. IfErr book.globals IsAnswered)
+  pub drawing : (page : ReadPage) → IfErr page.globals IsAnswered → IfErr (drawing_of_page page) IsAnswered

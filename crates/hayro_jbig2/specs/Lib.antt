@@ -2,7 +2,9 @@ pub mod Calls
 pub mod Causes
 pub mod Files
 pub mod Image
+pub mod Lenient
 pub mod Names
+pub mod Order
 pub mod Page
 pub mod Regions
 pub mod inner

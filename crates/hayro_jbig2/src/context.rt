@@ -3,11 +3,14 @@ ghost use Rattle.std.specs.Prelude.{◌≡◌, ◌≤◌, [], true, false, Ok};
 ghost use Rattle.jbig2_base.specs.Answer.{Gives};
 ghost use Rattle.jbig2_base.specs.Grid.{blank};
 ghost use Rattle.jbig2_region.specs.inner.RegionViews.{region_view};
+ghost use Rattle.hayro_jbig2.specs.Image.{packed_of};
 ghost use Rattle.hayro_jbig2.specs.Names.{no_names};
-ghost use Rattle.hayro_jbig2.specs.Page.{Drawing, page_begun, shown, with_region};
+ghost use Rattle.hayro_jbig2.specs.Page.{Drawing, nothing_passed, page_begun, shown, with_region};
 
+use crate::drawn_page::DrawnPage;
 use crate::kept::Kept;
 use crate::names::KeptNames;
+use crate::passed_over::PassedOver;
 use crate::workspace::Workspace;
 use jbig2_base::bitmap::Bitmap;
 use jbig2_base::bitmap::steps::Steps;
@@ -19,13 +22,14 @@ use std::marker::Model;
 use std::sync::ledger::Ledger;
 
 /// The room that decoding a page uses and the next page uses again. What it holds from before
-/// changes nothing of a page.
+/// changes nothing of a page. It holds the page that was drawn in it last.
 #[derive(Drop)]
 pub struct DecoderContext<A: Allocator> {
     pub(crate) bitmap: Bitmap<A>,
     pub(crate) regions: Vec<Kept<DecodedRegion<A>>, A>,
     pub(crate) names: KeptNames<A>,
     pub(crate) untouched: bool,
+    pub(crate) passed_over: PassedOver,
     /// The colour that the page begins in, and has while it is untouched.
     pub(crate) default_pixel: bool,
     pub(crate) workspace: Workspace<A>,
@@ -45,6 +49,7 @@ impl<A: Allocator> Model for DecoderContext<A> {
       regions = seen region_view c.regions.items;
       names = c.names;
       untouched = c.untouched;
+      passed_over = c.passed_over;
     } };
 
     ghost invariant = { λ c. c.untouched ≡ true → IsBegun c.default_pixel c.bitmap };
@@ -59,6 +64,7 @@ impl<A: Allocator + Clone> DecoderContext<A> {
               regions = [];
               names = no_names;
               untouched = true;
+              passed_over = nothing_passed;
             })) }
     {
         Ok(DecoderContext {
@@ -66,6 +72,7 @@ impl<A: Allocator + Clone> DecoderContext<A> {
             regions: Vec::new(alloc.clone()?),
             names: KeptNames::new(alloc.clone()?)?,
             untouched: true,
+            passed_over: PassedOver::nothing(),
             default_pixel: false,
             workspace: Workspace::new(alloc)?,
         })
@@ -73,6 +80,22 @@ impl<A: Allocator + Clone> DecoderContext<A> {
 }
 
 impl<A: Allocator> DecoderContext<A> {
+    /// What lenient reading passed over in the page that was drawn last. After a page that was refused it is what
+    /// was passed over before the fault.
+    pub fn passed_over(&self) -> &PassedOver
+        ensures { result.now ≡ self.now.passed_over }
+    {
+        &self.passed_over
+    }
+
+    /// The page that was drawn last, by its packed rows. After a page that was refused it is what was drawn
+    /// before the fault, and after want of memory any page.
+    pub fn drawn(&self) -> DrawnPage<'_, A>
+        ensures { result ≡ packed_of self.now.grid.width self.now.grid.height self.now.grid }
+    {
+        DrawnPage::new(&self.bitmap, self.is_white())
+    }
+
     /// Begins a page: nothing of an earlier one is left.
     pub(crate) fn begin(&mut self, initial_page: &InitialPage) -> Result<()>
         requires width { initial_page.now.width ≤ 65535 }
@@ -88,12 +111,13 @@ impl<A: Allocator> DecoderContext<A> {
         self.regions.clear();
         self.names.clear();
         self.untouched = true;
+        self.passed_over = PassedOver::nothing();
         Ok(())
     }
 
     /// Combines an immediate region with the page, at its place as signed numbers (T.88, 7.4.1).
     pub(crate) fn combine<L: Ledger>(&mut self, region: &DecodedRegion<A>, steps: &mut Steps<L>)
-        ensures { Ok self.new ≡ shown true self.old (Ok (region_view region.now)) }
+        ensures { Ok self.new ≡ shown self.old (Ok (region_view region.now)) }
     {
         self.bitmap.combine(
             &region.bitmap,

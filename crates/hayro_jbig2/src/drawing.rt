@@ -1,9 +1,9 @@
 //! Segments drawn onto the page (T.88, 8.2).
-ghost use Rattle.std.specs.Prelude.{◌≡◌, ◌⊎◌, true, false, Err, IfErr};
+ghost use Rattle.std.specs.Prelude.{◌≡◌, ◌<◌, ◌⊎◌, true, false, Err, IfErr};
 ghost use Rattle.jbig2_base.specs.Answer.{Gives};
 ghost use Rattle.jbig2_base.specs.inner.SegmentViews.{segment_view, segment_views};
 ghost use Rattle.hayro_jbig2.specs.Names.{with_patterns, with_symbols};
-ghost use Rattle.hayro_jbig2.specs.Page.{segments_drawn, ends_page, immediate, intermediate, keeping, region_at, segment_on, shown};
+ghost use Rattle.hayro_jbig2.specs.Page.{segments_drawn, ends_page, immediate, intermediate, keeping, nothing_passed, or_passed_over, region_at, segment_on, shown};
 ghost use Rattle.jbig2_base.specs.declared.error.DecodeError.TheVariants.{OutOfMemory};
 ghost use Rattle.jbig2_region.specs.inner.RegionViews.{region_view};
 ghost use Rattle.hayro_jbig2.specs.inner.KeptViews.{seen};
@@ -46,6 +46,7 @@ impl<'a, A: Allocator + Clone> Drawer<'a, A> {
         context: &mut DecoderContext<A>,
         steps: &mut Steps<L>,
     ) -> Result<()>
+        requires { context.old.passed_over.count ≡ 0 }
         ensures { Gives (λ _. context.new) result
             (segments_drawn self.now.strict self.now.globals.now (segment_views segments.now)
             context.old) }
@@ -69,6 +70,7 @@ impl<'a, A: Allocator + Clone> Drawer<'a, A> {
         context: &mut DecoderContext<A>,
         steps: &mut Steps<L>,
     ) -> Result<()>
+        requires { context.old.passed_over.count < usize.MAX }
         ensures { Gives (λ _. context.new) result
             (segment_on self.now.strict self.now.globals.now (segment_view segment.now)
             context.old) }
@@ -164,6 +166,7 @@ impl<'a, A: Allocator + Clone> Drawer<'a, A> {
           regions = seen region_view regions.now;
           names = own.now;
           untouched = false;
+          passed_over = nothing_passed;
         } }
     {
         References {
@@ -187,13 +190,14 @@ impl<'a, A: Allocator + Clone> Drawer<'a, A> {
         context: &mut DecoderContext<A>,
         steps: &mut Steps<L>,
     ) -> Result<()>
+        requires { context.old.passed_over.count < usize.MAX }
         ensures { Gives (λ _. context.new) result
             (immediate self.now.strict self.now.globals.now kind (segment_view segment.now)
             context.old) }
     {
         match self.show_region(kind, segment, context, steps) {
             Ok(()) => Ok(()),
-            Err(error) => self.pass_over(error, context),
+            Err(error) => self.pass_over(segment.header.segment_number, error, context),
         }
     }
 
@@ -207,10 +211,11 @@ impl<'a, A: Allocator + Clone> Drawer<'a, A> {
         steps: &mut Steps<L>,
     ) -> Result<()>
         ensures value { Gives (λ _. context.new) result
-            (shown true context.old (region_at self.now.strict self.now.globals.now kind false
+            (shown context.old (region_at self.now.strict self.now.globals.now kind false
             (segment_view segment.now) context.old)) }
         ensures err { IfErr result (λ e. (e ≡ OutOfMemory) ⊎
             (touched context.new ≡ touched context.old)) }
+        ensures passed { context.new.passed_over ≡ context.old.passed_over }
     {
         let is_white = context.is_white();
         let references = self.references(&context.names, &context.regions, &context.bitmap);
@@ -226,15 +231,22 @@ impl<'a, A: Allocator + Clone> Drawer<'a, A> {
     }
 
     /// What becomes of an immediate region that failed and left the page as it was.
-    fn pass_over(&self, error: DecodeError, context: &mut DecoderContext<A>) -> Result<()>
+    fn pass_over(
+        &self,
+        segment_number: u32,
+        error: DecodeError,
+        context: &mut DecoderContext<A>,
+    ) -> Result<()>
+        requires { context.old.passed_over.count < usize.MAX }
         ensures value { Gives (λ _. context.new) result
-            (shown self.now.strict context.old (Err error)) }
+            (or_passed_over self.now.strict segment_number context.old (Err error)) }
         ensures memory { error ≡ OutOfMemory → result ≡ Err OutOfMemory }
     {
         if self.strict || matches!(error, DecodeError::OutOfMemory) {
             return Err(error);
         }
         context.untouched = false;
+        context.passed_over.add(segment_number, error);
         Ok(())
     }
 

@@ -6,7 +6,7 @@ ghost use Rattle.hayro_jbig2.specs.inner.Whole.{IsBegun};
 use crate::packed::write_packed;
 use jbig2_base::bitmap::Bitmap;
 use jbig2_base::bitmap::steps::Steps;
-use jbig2_base::page_info::InitialPage;
+use jbig2_permit::Permit;
 use std::alloc::Allocator;
 use std::marker::{Brand, Model};
 use std::sync::ledger::{Blank, Ledger};
@@ -32,25 +32,19 @@ impl<'c, A: Allocator> Model for DrawnPage<'c, A> {
 
     ghost view = { λ page. packed_of page.width page.height page.bitmap.now };
 
-    ghost invariant = { λ page. (page.width ≤ 65535) × (page.height ≤ 65535) ×
-        (page.white ≡ true → IsBegun false page.bitmap.now) };
+    ghost invariant = { λ page. (page.height ≤ 4294967295)
+        × (page.white ≡ true → IsBegun false page.bitmap.now) };
 }
 
 impl<'c, A: Allocator> DrawnPage<'c, A> {
-    pub(crate) fn new(
-        bitmap: &'c Bitmap<A>,
-        initial_page: &InitialPage,
-        white: bool,
-    ) -> DrawnPage<'c, A>
-        requires width { initial_page.now.width ≤ 65535 }
-        requires height { initial_page.now.height ≤ 65535 }
-        requires white { white ≡ true → IsBegun false bitmap.now }
-        ensures { result ≡ packed_of initial_page.now.width initial_page.now.height bitmap.now }
+    pub(crate) fn new(bitmap: &'c Bitmap<A>, white: bool) -> DrawnPage<'c, A>
+        requires { white ≡ true → IsBegun false bitmap.now }
+        ensures { result ≡ packed_of bitmap.now.width bitmap.now.height bitmap.now }
     {
         DrawnPage {
             bitmap,
-            width: initial_page.width,
-            height: initial_page.height,
+            width: bitmap.width(),
+            height: bitmap.height(),
             white,
         }
     }
@@ -81,7 +75,7 @@ impl<'c, A: Allocator> DrawnPage<'c, A> {
             buf.fill(0);
             return;
         }
-        let mut steps = Steps::<L>::new(blank);
+        let mut steps = Steps::<L>::new(Permit::grant(), blank);
         write_packed(self.bitmap, self.width, place, buf, &mut steps);
     }
 }

@@ -32,9 +32,9 @@ struct FilePage<'a, A: Allocator> {
 }
 
 impl<'a, A: Allocator> Model for FilePage<'a, A> {
-    ghost use Rattle.std.specs.Prelude.{◌≤◌};
     ghost use Rattle.jbig2_base.specs.inner.SegmentViews.{segment_views};
     ghost use Rattle.hayro_jbig2.specs.Files.{PageInFile};
+    ghost use Rattle.hayro_jbig2.specs.Page.{HasSides};
 
     ghost Value = { PageInFile };
 
@@ -43,8 +43,7 @@ impl<'a, A: Allocator> Model for FilePage<'a, A> {
       segments = segment_views page.segments.items;
     } };
 
-    ghost invariant = { λ page. (page.initial_page.width ≤ 65535)
-        × (page.initial_page.height ≤ 65535) };
+    ghost invariant = { λ page. HasSides page.initial_page };
 }
 
 /// A file: its pages, and what they share. It borrows the bytes that it was read from.

@@ -14,6 +14,7 @@ use jbig2_base::error::Result;
 use jbig2_base::file::parse_segments_sequential;
 use jbig2_base::segment::{Segment, SegmentType};
 use jbig2_base::sort::sort_segments;
+use jbig2_permit::Permit;
 use std::alloc::Allocator;
 use std::marker::{Brand, Model};
 use std::sync::ledger::{Blank, Ledger};
@@ -84,7 +85,7 @@ fn decode_names<A: Allocator + Clone, L: Ledger>(
     ensures { Gives (λ names. names) result
         (named_from strict (segment_views segments.now) no_names) }
 {
-    let mut steps = Steps::<L>::new(blank);
+    let mut steps = Steps::<L>::new(Permit::grant(), blank);
     let mut names = KeptNames::new(alloc.clone()?)?;
     let mut workspace = Workspace::new(alloc)?;
     for segment in segments {

@@ -36,7 +36,7 @@ fn put_shades(buf: &mut [u8], place: usize, count: usize, word: u64)
 pub(crate) fn wrapped(x: usize, y: u32, width: usize) -> (usize, u32)
     requires some { 0 < width }
     requires within { x ≤ width }
-    requires few { y < 65535 }
+    requires few { y < u32.MAX }
     ensures place { result.1 * width + result.0 ≡ y * width + x }
     ensures inside { result.0 < width }
 {

@@ -3,6 +3,7 @@ ghost use Rattle.std.specs.Prelude.{◌≡◌, ◌*◌, Ok, IfErr, IfOk, IfSome,
 ghost use Rattle.jbig2_base.specs.Answer.{Answers, Gives, some_or};
 ghost use Rattle.hayro_jbig2.specs.Causes.{FirstPagesHaveCauses};
 ghost use Rattle.hayro_jbig2.specs.Files.{page_of};
+ghost use Rattle.hayro_jbig2.specs.Page.{IsSide};
 ghost use Rattle.hayro_jbig2.specs.Image.{first_size, first_image, first_packed, IsLasting, Opens, GivesAgain, packed_size};
 
 use crate::file::File;
@@ -141,9 +142,10 @@ impl<A: Allocator + Clone> Jbig2Decoder<A> {
 }
 
 impl<A: Allocator> Jbig2Decoder<A> {
-    /// The width and the height of the page in pixels.
+    /// The width and the height of the page in pixels, 1 to 65535 each.
     pub fn dimensions(&self) -> (u32, u32)
         ensures value { result ≡ (self.now.width, self.now.height) }
+        ensures sides { IsSide result.0 × IsSide result.1 }
         ensures first { first_size self.now.bytes ≡ Ok result }
     {
         (self.width, self.height)

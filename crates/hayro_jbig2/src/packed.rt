@@ -1,6 +1,7 @@
 //! A page as packed rows.
-ghost use Rattle.std.specs.Prelude.{◌≡◌, ◌+◌, ◌-◌, ◌*◌, ◌<◌, ◌≤◌, ℕ, length};
+ghost use Rattle.std.specs.Prelude.{◌≡◌, ◌+◌, ◌-◌, ◌*◌, ◌/◌, ◌<◌, ◌≤◌, ℕ, length};
 ghost use Rattle.jbig2_base.specs.Bits.{bit};
+ghost use Rattle.jbig2_base.specs.Counts.{words_loaded};
 ghost use Rattle.hayro_jbig2.specs.Image.{packed_byte, packed_part, row_bytes};
 ghost use Rattle.hayro_jbig2.specs.inner.Puts.{top_byte, word_byte, Puts};
 
@@ -46,7 +47,7 @@ fn put_rest<A: Allocator, L: Ledger>(
     place: usize,
     steps: &mut Steps<L>,
 ) -> usize
-    requires column { column ≤ 8192 }
+    requires column { column < 536870912 }
     requires some { 1 ≤ most }
     requires inside { place + most ≤ length buf.old }
     ensures some { 1 ≤ result }
@@ -60,7 +61,7 @@ fn put_rest<A: Allocator, L: Ledger>(
 }
 
 /// Puts the whole words of row `y`, from byte `column` on, at a place of `buf`: those that are there and lie in
-/// `most` bytes, and none where no word begins. Answers how many bytes.
+/// `most` bytes, and none where no word begins. Returns how many bytes. Each word is loaded once.
 #[inline(always)]
 fn put_words<A: Allocator, L: Ledger>(
     bitmap: &Bitmap<A>,
@@ -73,17 +74,19 @@ fn put_words<A: Allocator, L: Ledger>(
 ) -> usize
     requires inside { place + most ≤ length buf.old }
     ensures most { result ≤ most }
+    ensures steps { steps.new ≡ words_loaded (result / 8) steps.old }
     ensures puts { Puts (λ i. packed_byte bitmap.now (column + i) y) place result buf.old buf.new }
 {
     if column % 8 != 0 || y >= bitmap.height() {
         return 0;
     }
-    let words = bitmap.row_words(y, steps);
+    let words = bitmap.row_words(y);
     let first = column / 8;
     let count = (most / 8).min(words.len().saturating_sub(first));
     for index in 0..count {
+        let word = words.load(first + index, steps);
         // With a constant this is one store.
-        put_bytes(buf, place + 8 * index, 8, words[first + index]);
+        put_bytes(buf, place + 8 * index, 8, word);
     }
     8 * count
 }
@@ -98,8 +101,7 @@ pub(crate) fn write_packed<A: Allocator, L: Ledger>(
     buf: &mut [u8],
     steps: &mut Steps<L>,
 )
-    requires width { width ≤ 65535 }
-    requires rows { start + length buf.old ≤ row_bytes width * 65535 }
+    requires { start + length buf.old ≤ row_bytes width * u32.MAX }
     ensures { buf.new ≡ packed_part width bitmap.now start (length buf.old) }
 {
     let row_bytes = width.div_ceil(8) as usize;

@@ -1,13 +1,13 @@
 //! Pages.
-ghost use Rattle.std.specs.Prelude.{◌≡◌, ℕ, ◌+◌, ◌-◌, ◌*◌, ◌^◌, ◌<◌, ◌≤◌, Bool, IsTrue, OnErr, length, pos};
-ghost use Rattle.jbig2_base.specs.Answer.{Gives};
+ghost use Rattle.std.specs.Prelude.{◌≡◌, ℕ, ◌+◌, ◌-◌, ◌*◌, ◌^◌, ◌<◌, ◌≤◌, Bool, IfOk, IsTrue, OnErr, length, pos};
+ghost use Rattle.jbig2_base.specs.Answer.{Gives, Leaves};
 ghost use Rattle.jbig2_base.specs.Combination.{combined};
 ghost use Rattle.jbig2_base.specs.Grid.{Grid, blank};
-ghost use Rattle.jbig2_base.specs.inner.Table.{IsTable};
+ghost use Rattle.jbig2_base.specs.Table.{IsTable};
 ghost use Rattle.jbig2_base.specs.declared.bitmap.operator.CombinationOperator.{CombinationOperator};
-ghost use Rattle.hayro_jbig2.specs.Calls.{DrawsGrid, calls_of, Decodes, IsCountable};
-ghost use Rattle.hayro_jbig2.specs.Image.{image_of_page, packed_of_page, packed_size};
-ghost use Rattle.hayro_jbig2.specs.Page.{ReadPage, segments_drawn, embedded, grid_of_page, draws_over, page_begun, UntouchedIsBlank};
+ghost use Rattle.hayro_jbig2.specs.Calls.{CallsAreFew, ChunksFit, DrawsGrid, calls_of, Decodes, IsCountable};
+ghost use Rattle.hayro_jbig2.specs.Image.{PackedBitsAreBytes, image_of_page, packed_of_page, packed_size};
+ghost use Rattle.hayro_jbig2.specs.Page.{HasSides, IsSide, ReadPage, segments_drawn, drawing_of_page, embedded, grid_of_page, draws_over, page_begun, PagesKeepTheirSize, StrictPassesNothing, UntouchedIsBlank};
 ghost use Rattle.hayro_jbig2.specs.Causes.{EmbeddedPagesHaveCauses, PagesHaveCauses};
 ghost use Rattle.hayro_jbig2.specs.inner.PageViews.{given_names, kept_names};
 ghost use Rattle.hayro_jbig2.specs.inner.SegmentLists.{segment_list};
@@ -28,6 +28,7 @@ use jbig2_base::file::parse_segments_sequential;
 use jbig2_base::page_info::InitialPage;
 use jbig2_base::segment::Segment;
 use jbig2_base::sort::sort_segments;
+use jbig2_permit::Permit;
 use std::alloc::Allocator;
 use std::marker::{Brand, Model};
 use std::sync::ledger::{Blank, Ledger};
@@ -60,10 +61,8 @@ pub struct Page<'a, A: Allocator> {
 }
 
 impl<'a, A: Allocator> Model for Page<'a, A> {
-    ghost use Rattle.std.specs.Prelude.{◌≤◌};
     ghost use Rattle.jbig2_base.specs.inner.SegmentViews.{segment_views};
-    ghost use Rattle.hayro_jbig2.specs.Calls.{DrawsGrid, calls_of};
-    ghost use Rattle.hayro_jbig2.specs.Page.{ReadPage};
+    ghost use Rattle.hayro_jbig2.specs.Page.{HasSides, ReadPage};
     ghost use Rattle.hayro_jbig2.specs.inner.PageViews.{kept_names};
     ghost use Rattle.hayro_jbig2.specs.inner.SegmentLists.{segment_list};
 
@@ -76,8 +75,7 @@ impl<'a, A: Allocator> Model for Page<'a, A> {
       globals = kept_names page.globals;
     } };
 
-    ghost invariant = { λ page. (page.initial_page.width ≤ 65535)
-        × (page.initial_page.height ≤ 65535) };
+    ghost invariant = { λ page. HasSides page.initial_page };
 }
 
 impl<'a, A: Allocator> Page<'a, A> {
@@ -88,8 +86,7 @@ impl<'a, A: Allocator> Page<'a, A> {
         segments: &'a Vec<Segment<'a, A>, A>,
         globals: Result<Option<&'a Globals<A>>>,
     ) -> Page<'a, A>
-        requires width { initial_page.width ≤ 65535 }
-        requires height { initial_page.height ≤ 65535 }
+        requires { HasSides initial_page }
         ensures { result ≡ record {
           strict = strict;
           initial_page = initial_page;
@@ -112,23 +109,26 @@ impl<'a, A: Allocator> Page<'a, A> {
         self.initial_page.number
     }
 
-    /// The width in pixels.
+    /// The width in pixels, 1 to 65535.
     pub fn width(&self) -> u32
-        ensures { result ≡ self.now.initial_page.width }
+        ensures value { result ≡ self.now.initial_page.width }
+        ensures side { IsSide result }
     {
         self.initial_page.width
     }
 
-    /// The height in pixels.
+    /// The height in pixels, 1 to 65535.
     pub fn height(&self) -> u32
-        ensures { result ≡ self.now.initial_page.height }
+        ensures value { result ≡ self.now.initial_page.height }
+        ensures side { IsSide result }
     {
         self.initial_page.height
     }
 
-    /// The width and the height in pixels.
+    /// The width and the height in pixels, 1 to 65535 each.
     pub fn dimensions(&self) -> (u32, u32)
-        ensures { result ≡ (self.now.initial_page.width, self.now.initial_page.height) }
+        ensures value { result ≡ (self.now.initial_page.width, self.now.initial_page.height) }
+        ensures sides { IsSide result.0 × IsSide result.1 }
     {
         (self.initial_page.width, self.initial_page.height)
     }
@@ -196,7 +196,7 @@ impl<'a, A: Allocator + Clone> Page<'a, A> {
         ensures value { Gives (λ _. buf.new) result (image_of_page self.now) }
         ensures unchanged { OnErr result (buf.new ≡ buf.old) }
     {
-        let mut steps = Steps::<L>::new(blank);
+        let mut steps = Steps::<L>::new(Permit::grant(), blank);
         let context = self.drawn(&mut steps)?;
         write_image(&context.bitmap, &self.initial_page, buf, &mut steps);
         Ok(())
@@ -208,11 +208,13 @@ impl<'a, A: Allocator + Clone> Page<'a, A> {
     ///
     /// Answers the first fault of a segment that lenient reading does not pass over; `buf` is then
     /// as it was.
+    #[tactic(auto, using(crate::proofs::PackedBits::packed_bits_are_bytes))]
     pub fn read_packed(&self, buf: &mut [u8]) -> Result<()>
         requires { length buf.old ≡ packed_size self.now.initial_page.width
             self.now.initial_page.height }
         ensures value { Gives (λ _. buf.new) result (packed_of_page self.now) }
         ensures unchanged { OnErr result (buf.new ≡ buf.old) }
+        ensures bits { PackedBitsAreBytes }
     {
         let mut context = DecoderContext::new(self.segments.as_vec().allocator().clone()?)?;
         let drawn = self.draw(&mut context)?;
@@ -227,23 +229,32 @@ impl<'a, A: Allocator + Clone> Page<'a, A> {
     pub fn draw<'c>(&self, context: &'c mut DecoderContext<A>) -> Result<DrawnPage<'c, A>>
         ensures { Gives (λ drawn. drawn) result (packed_of_page self.now) }
     {
+        self.draw_in(context)?;
+        Ok(context.drawn())
+    }
+
+    /// Draws the page in the room of a context that earlier pages may have used, which holds it from then on:
+    /// `DecoderContext::drawn` lends its packed rows, and `DecoderContext::passed_over` says what lenient
+    /// reading passed over.
+    ///
+    /// Answers the first fault of a segment that lenient reading does not pass over.
+    pub fn draw_in(&self, context: &mut DecoderContext<A>) -> Result<()>
+        ensures value { Gives (λ _. context.new.grid) result (grid_of_page self.now) }
+        ensures drawing { Gives (λ _. context.new) result (drawing_of_page self.now) }
+        ensures size { PagesKeepTheirSize }
+        ensures strict { StrictPassesNothing }
+    {
         self.draw_counted::<Brand>(context, Blank::new(6))
     }
 
-    fn draw_counted<'c, L: Ledger>(
-        &self,
-        context: &'c mut DecoderContext<A>,
-        blank: Blank,
-    ) -> Result<DrawnPage<'c, A>>
+    fn draw_counted<L: Ledger>(&self, context: &mut DecoderContext<A>, blank: Blank) -> Result<()>
         requires name { blank.name ≡ L.name }
         requires parts { blank.parts ≡ L.parts }
         requires enough { blank.parts ≡ 6 }
-        ensures { Gives (λ drawn. drawn) result (packed_of_page self.now) }
+        ensures { Gives (λ _. context.new) result (drawing_of_page self.now) }
     {
-        let mut steps = Steps::<L>::new(blank);
-        self.draw_into(context, &mut steps)?;
-        let white = context.is_white();
-        Ok(DrawnPage::new(&context.bitmap, &self.initial_page, white))
+        let mut steps = Steps::<L>::new(Permit::grant(), blank);
+        self.draw_into(context, &mut steps)
     }
 
     /// The context that the page is drawn in, a fresh one.
@@ -267,7 +278,10 @@ impl<'a, A: Allocator + Clone> Page<'a, A> {
     ) -> Result<()>
         requires { IsCountable D.conduct decoder.old }
         ensures calls { Decodes D.conduct (grid_of_page self.now) result decoder.old decoder.new }
+        ensures drawing { IfOk (drawing_of_page self.now) (Leaves result context.new) }
         ensures spelling { (g : Grid) → DrawsGrid (calls_of g) g }
+        ensures chunks { (g : Grid) → ChunksFit g.width 0 (calls_of g) }
+        ensures few { (g : Grid) → CallsAreFew g }
         ensures untouched { UntouchedIsBlank }
         ensures direct { (operator : CombinationOperator) (black : Bool) (region : Grid) →
             IsTable region → IsTrue (draws_over operator black)
@@ -288,9 +302,10 @@ impl<'a, A: Allocator + Clone> Page<'a, A> {
         requires name { blank.name ≡ L.name }
         requires parts { blank.parts ≡ L.parts }
         requires enough { blank.parts ≡ 6 }
-        ensures { Decodes D.conduct (grid_of_page self.now) result decoder.old decoder.new }
+        ensures calls { Decodes D.conduct (grid_of_page self.now) result decoder.old decoder.new }
+        ensures drawing { IfOk (drawing_of_page self.now) (Leaves result context.new) }
     {
-        let mut steps = Steps::<L>::new(blank);
+        let mut steps = Steps::<L>::new(Permit::grant(), blank);
         match self.draw_into(context, &mut steps) {
             Ok(()) => push_bitmap(&context.bitmap, decoder, &mut steps),
             Err(error) => Err(error),
@@ -298,13 +313,12 @@ impl<'a, A: Allocator + Clone> Page<'a, A> {
     }
 
     /// Draws the whole page into the context's bitmap.
-    #[tactic(auto, unfolding(crate::specs::Page::grid_of_page))]
     fn draw_into<L: Ledger>(
         &self,
         context: &mut DecoderContext<A>,
         steps: &mut Steps<L>,
     ) -> Result<()>
-        ensures { Gives (λ _. context.new.grid) result (grid_of_page self.now) }
+        ensures { Gives (λ _. context.new) result (drawing_of_page self.now) }
     {
         match &self.globals {
             Ok(Some(globals)) => self.draw_with(globals.names(), context, steps),

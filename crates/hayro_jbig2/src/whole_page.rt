@@ -25,7 +25,7 @@ fn draws_over_white(operator: CombinationOperator) -> bool
     }
 }
 
-impl<A: Allocator + Clone> DecoderContext<A> {
+impl<A: Allocator> DecoderContext<A> {
     /// Whether the page is still white.
     pub(crate) fn is_white(&self) -> bool
         ensures { result ≡ true → IsBegun false self.now.grid }

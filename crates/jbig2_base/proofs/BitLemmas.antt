@@ -31,6 +31,12 @@ bit_number-bit n k = bit_number-test (bit_at n k) (bits.bit_at-lt n k)
 pub shr-and_one : (n k : ℕ) → bit_and (n / 2 ^ k) 1 ≡ bit_number (bit n k)
 shr-and_one n k = bits.shr_and_one n k ∙ sym (bit_number-bit n k)
 
+-- a number of one bit
+pub one_bit-number : (n : ℕ) (b : Bool) → n < 2 ^ 1 → bit n (1 - 1 - 0) ≡ b → n ≡ bit_number b
+one_bit-number n b small e =
+    let whole : n ≡ bit_at n 0 = omega arith in
+    whole ∙ sym (bit_number-bit n 0) ∙ ap bit_number e
+
 -- ---- the operators
 pub bit-or : (a b k : ℕ) → bit (bit_or a b) k ≡ (bit a k || bit b k)
 unfolding bit

@@ -5,9 +5,9 @@ use Rattle.jbig2_base.specs.declared.bitmap.operator.CombinationOperator.{Combin
 use Rattle.jbig2_base.specs.Grid.{Grid, grid_of, pixel_at}
 use Rattle.jbig2_base.specs.Combination.{combined_pixel}
 use Rattle.jbig2_base.specs.Bits.{bit}
-use Rattle.jbig2_base.specs.inner.Writes.{with_pixels}
-use Rattle.jbig2_base.specs.inner.Blocks.{block_pixel, with_block}
-use Rattle.jbig2_base.specs.inner.Table.{IsTable}
+use Rattle.jbig2_base.specs.Writes.{with_pixels}
+use Rattle.jbig2_base.specs.Blocks.{block_pixel, with_block}
+use Rattle.jbig2_base.specs.Table.{IsTable}
 use Rattle.jbig2_base.proofs.GridLemmas.{grid_of-ext, pixel_at-grid_of}
 use Rattle.jbig2_base.proofs.WriteLemmas.{in_field, before_field, behind_field, other_row}
 

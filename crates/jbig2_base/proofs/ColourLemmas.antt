@@ -6,7 +6,7 @@ use Rattle.std.proofs.lemmas.Nat.Bits.{ones_shr}
 use Rattle.std.proofs.lemmas.Bool.{cases_eq, cases_lt}
 use Rattle.std.specs.Int.Count.{count_leading_zeros, leading_of_zero}
 use Rattle.std.specs.Int.RustNames.{bit_xor}
-use Rattle.jbig2_base.specs.inner.Colour.{IsFirst}
+use Rattle.jbig2_base.specs.Colour.{IsFirst}
 use Rattle.jbig2_base.specs.Bits.{bit}
 use Rattle.jbig2_base.proofs.BitLemmas.{bit-above, bit-ones, bit-xor, bit-zero}
 

@@ -1,6 +1,6 @@
 -- The block of a page that a source lies on, against the combination at any whole numbers.
-use Rattle.std.proofs.Common.{◌≡◌, ℕ, ◌+◌, ◌-◌, ◌*◌, ◌<◌, ◌≤◌, min, zero, suc, true, false, ◌&&◌, ℤ, pos, negsuc, ◌-ℤ◌, refl, sym, ap, subst, ◌∙◌, ◌⊎◌, inl, inr, ⊎_elim, arith}
-use Rattle.std.proofs.lemmas.Bool.{cases_lt, cond-true, cond-false, and_from, and_left, and_right, lt-ltb, le-ltb}
+use Rattle.std.proofs.Common.{◌≡◌, ℕ, ◌+◌, ◌-◌, ◌*◌, ◌<◌, ◌≤◌, min, zero, suc, true, false, ◌&&◌, eqb, ℤ, pos, negsuc, ◌-ℤ◌, refl, sym, ap, subst, ◌∙◌, ◌⊎◌, inl, inr, ⊎_elim, arith}
+use Rattle.std.proofs.lemmas.Bool.{cases_eq, cases_lt, cond-true, cond-false, eq-eqb, ne_eqb, and_from, and_left, and_right, lt-ltb, le-ltb}
 use Rattle.std.proofs.lemmas.Int.{ints, to_z-of_z}
 use Rattle.std.specs.Prelude.{int_le, nat_abs}
 use mir.Syntax.{w32}
@@ -8,9 +8,11 @@ use mir.Val.{SFits, to_z, of_z}
 use Rattle.jbig2_base.specs.declared.bitmap.operator.CombinationOperator.{CombinationOperator}
 use Rattle.jbig2_base.specs.Counts.{Counts}
 use Rattle.jbig2_base.specs.Grid.{Grid, pixel_at, pixel}
-use Rattle.jbig2_base.specs.{Combination.{combined_pixel, is_below, drawn_pixel, combined}, Counts.{overlap, most_words, WritesWithin}}
-use Rattle.jbig2_base.specs.inner.Blocks.{block_pixel, with_block}
-use Rattle.jbig2_base.specs.inner.Table.{IsTable}
+use Rattle.jbig2_base.specs.{Combination.{combined_pixel, is_below, drawn_pixel, combined}, Counts.{overlap, most_words, first_under, first_shown, rows_combined, source_combined, WritesWithin}}
+use Rattle.jbig2_base.specs.Blocks.{LiesOn, block_pixel, with_block}
+use Rattle.jbig2_base.specs.inner.Combines.{block_of}
+use Rattle.jbig2_base.specs.Table.{IsTable}
+use Rattle.jbig2_base.proofs.CountLemmas.{rows-none, within-rows}
 use Rattle.jbig2_base.proofs.GridLemmas.{grid_of-ext}
 use Rattle.jbig2_base.proofs.BlockLemmas.{block-in, block-out, block-none}
 
@@ -109,13 +111,60 @@ within-overlap page source x y left from columns top from_row rows done s t acro
     (ap (λ (r : ℕ). r * most_words columns) high ∙ ap (λ (w : ℕ). overlap page.height source.height y * most_words w) wide)
     within
 
+-- ---- counts
+axis-first : (x : ℤ) (p s start from n : ℕ) → Axis x p s start from n → (first_under x ≡ start) × (first_shown x ≡ from)
+axis-first x p s start zero n axis =
+    let here : x ≡ pos start = axis.difference ∙ omega (arith, ints) in
+    (ap first_under here, ap first_shown here)
+axis-first x p s start (suc from) n axis =
+    let one = axis.one in
+    let left : start ≡ 0 = omega arith in
+    let here : x ≡ negsuc from = axis.difference ∙ omega (arith, ints, left) in
+    (ap first_under here ∙ sym left, ap first_shown here ∙ omega arith)
+
+pub all-counts : (page source : Grid) (x y : ℤ) (left from columns top from_row rows : ℕ) (s t : Counts) → Axis x page.width source.width left from columns → Axis y page.height source.height top from_row rows → 0 < columns → t ≡ rows_combined rows left columns from s → t ≡ source_combined page source x y s
+all-counts page source x y left from columns top from_row rows s t across down some e =
+    let h : ℕ = overlap page.height source.height y in
+    let w : ℕ = overlap page.width source.width x in
+    let high : h ≡ rows = overlap-is y page.height source.height top from_row rows down in
+    let wide : w ≡ columns = overlap-is x page.width source.width left from columns across in
+    let first = axis-first x page.width source.width left from columns across in
+    e
+    ∙ ap (λ (r : ℕ). rows_combined r left columns from s) (sym high)
+    ∙ ap (λ (l : ℕ). rows_combined h l columns from s) (sym first.0)
+    ∙ ap (λ (c : ℕ). rows_combined h (first_under x) c from s) (sym wide)
+    ∙ ap (λ (f : ℕ). rows_combined h (first_under x) w f s) (sym first.1)
+    ∙ sym (cond-false (eqb w 0) s (rows_combined h (first_under x) w (first_shown x) s) (ne_eqb w 0 (λ none. omega (arith, none, wide, some))))
+
+pub no-counts : (page source : Grid) (x y : ℤ) (left from columns top from_row rows : ℕ) (s : Counts) → Axis x page.width source.width left from columns → Axis y page.height source.height top from_row rows → (columns ≡ 0) ⊎ (rows ≡ 0) → s ≡ source_combined page source x y s
+no-counts page source x y left from columns top from_row rows s across down none =
+    let h : ℕ = overlap page.height source.height y in
+    let w : ℕ = overlap page.width source.width x in
+    let high : h ≡ rows = overlap-is y page.height source.height top from_row rows down in
+    let wide : w ≡ columns = overlap-is x page.width source.width left from columns across in
+    ⊎_elim
+    (λ (nothing : w ≡ 0). sym (cond-true (eqb w 0) s (rows_combined h (first_under x) w (first_shown x) s) (eq-eqb w 0 nothing)))
+    (λ (some : w ≡ 0 → ⊥).
+    let no_rows : h ≡ 0 = ⊎_elim (λ (e : columns ≡ 0). absurd (some (wide ∙ e))) (λ (e : rows ≡ 0). high ∙ e) none in
+    rows-none (first_under x) w (first_shown x) h s no_rows
+    ∙ sym (cond-false (eqb w 0) s (rows_combined h (first_under x) w (first_shown x) s) (ne_eqb w 0 some)))
+    (cases_eq w 0)
+
 -- a source that lies wholly on the page
+whole-axis : (x : ℤ) (p s start : ℕ) → x ≡ pos start → start + s ≤ p → Axis x p s start 0 s
+whole-axis x p s start e fits = record { difference = e ∙ omega (arith, ints); one = omega arith; size = omega arith }
+
+pub stamp-within : (page source : Grid) (x y : ℤ) (left top : ℕ) (s t : Counts) → x ≡ pos left → y ≡ pos top → LiesOn page source (block_of source left top) → t ≡ rows_combined source.height left source.width 0 s → WritesWithin (overlap page.height source.height y * most_words (overlap page.width source.width x)) s t
+stamp-within page source x y left top s t column row inside e =
+    within-overlap page source x y left 0 source.width top 0 source.height source.height s t (whole-axis x page.width source.width left column inside.right) (whole-axis y page.height source.height top row inside.bottom) refl (within-rows left source.width 0 source.height s t inside.some e)
+
+pub stamp-counts : (page source : Grid) (x y : ℤ) (left top : ℕ) (s t : Counts) → x ≡ pos left → y ≡ pos top → LiesOn page source (block_of source left top) → t ≡ rows_combined source.height left source.width 0 s → t ≡ source_combined page source x y s
+stamp-counts page source x y left top s t column row inside e =
+    all-counts page source x y left 0 source.width top 0 source.height s t (whole-axis x page.width source.width left column inside.right) (whole-axis y page.height source.height top row inside.bottom) inside.some e
+
 pub stamp-combined : (operator : CombinationOperator) (page source after : Grid) (x y : ℤ) (left top : ℕ) → x ≡ pos left → y ≡ pos top → left + source.width ≤ page.width → top + source.height ≤ page.height → after ≡ with_block operator page source left (left + source.width) top (top + source.height) 0 0 → after ≡ combined operator page source x y
 stamp-combined operator page source after x y left top column row right bottom drawn =
-    rows-combined operator page source after x y left 0 source.width top 0 source.height source.height (across x page.width source.width left column right) (across y page.height source.height top row bottom) refl drawn
-  where
-    across : (x : ℤ) (p s start : ℕ) → x ≡ pos start → start + s ≤ p → Axis x p s start 0 s
-    across x p s start e fits = record { difference = e ∙ omega (arith, ints); one = omega arith; size = omega arith }
+    rows-combined operator page source after x y left 0 source.width top 0 source.height source.height (whole-axis x page.width source.width left column right) (whole-axis y page.height source.height top row bottom) refl drawn
 
 -- a place that is not negative, as a number without a sign
 pub as-natural : (x : ℤ) → SFits w32 x → int_le (pos 0) (to_z w32 (of_z w32 x)) ≡ true → x ≡ pos (nat_abs (to_z w32 (of_z w32 x)))

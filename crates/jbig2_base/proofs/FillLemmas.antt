@@ -4,7 +4,7 @@ use Rattle.std.proofs.Common.{◌≡◌, ℕ, ◌+◌, ◌-◌, ◌*◌, min, �
 use Rattle.std.proofs.lemmas.Bool.{cases_lt, cond-true, cond-false, and_from, and_left, and_right, or_from, or_left, or_right, lt-ltb, le-ltb, eq-eqb, ne_eqb}
 use Rattle.jbig2_base.specs.Grid.{Grid, grid_of, blank, pixel_at, part_of, part_or_overflow, blank_or_overflow}
 use Rattle.jbig2_base.specs.Bits.{bit}
-use Rattle.jbig2_base.specs.inner.Writes.{with_pixels}
+use Rattle.jbig2_base.specs.Writes.{with_pixels}
 use Rattle.jbig2_base.specs.inner.Filled.{pixel_of_part, is_before, filled}
 use Rattle.jbig2_base.specs.declared.bitmap.part.Area.{Area}
 use Rattle.std.specs.Prelude.{nat_lt}

@@ -6,7 +6,7 @@ mod CauseSteps
 pub mod Causes
 pub mod ColourLemmas
 mod CombineLemmas
-mod CountLemmas
+pub mod CountLemmas
 pub mod DataCauses
 mod Extends
 pub mod FileCauses

@@ -1,15 +1,15 @@
 -- One word written, against the pixels that it sets.
-use Rattle.std.proofs.Common.{◌≡◌, ℕ, ◌+◌, ◌-◌, ◌*◌, ◌/◌, ◌%◌, ◌^◌, ◌<◌, ◌≤◌, Bool, true, false, ◌&&◌, ◌||◌, cond, eqb, ltb, leb, List, get_or, set, refl, sym, ap, ◌∙◌, ⊎_elim, arith}
+use Rattle.std.proofs.Common.{◌≡◌, ℕ, ◌+◌, ◌-◌, ◌*◌, ◌/◌, ◌%◌, ◌^◌, ◌<◌, ◌≤◌, Bool, true, false, ◌&&◌, ◌||◌, cond, eqb, ltb, leb, List, length, get_or, set, refl, sym, subst, ap, ◌∙◌, ⊎_elim, arith}
 use Rattle.std.specs.Int.RustNames.{bit_or}
-use Rattle.std.proofs.lemmas.Bool.{cases_eq, cases_lt, eq-eqb, ne_eqb, cond-true, cond-false, and_from, and_left, and_right, le-leb, lt-leb, lt-ltb, le-ltb}
+use Rattle.std.proofs.lemmas.Bool.{cases_eq, cases_lt, eq-eqb, ne_eqb, cond-true, cond-false, and_from, and_left, and_right, and_parts, ltb-true, le-leb, lt-leb, lt-ltb, le-ltb}
 use Rattle.std.proofs.lemmas.Nat.{one_shl}
 use Rattle.jbig2_base.specs.Grid.{grid_of, pixel_at}
 use Rattle.jbig2_base.specs.{Bits.{bit}, inner.WordBits.{field_bit}}
-use Rattle.jbig2_base.specs.inner.Writes.{with_pixel, with_pixels}
+use Rattle.jbig2_base.specs.Writes.{with_pixel, with_pixels}
 use Rattle.jbig2_base.specs.inner.Packed.{IsPacked, packed_pixel}
 use Rattle.jbig2_base.proofs.BitLemmas.{bit-or, bit-pow_same, bit-pow_other, or-false, field-inside, field-below, field-above}
 use Rattle.jbig2_base.proofs.GridLemmas.{grid_of-ext, pixel_at-grid_of}
-use Rattle.jbig2_base.proofs.PackedLemmas.{old-word, written-grid, written-packed}
+use Rattle.jbig2_base.proofs.PackedLemmas.{old-word, place-lt, written-grid, written-packed}
 
 -- ---- one pixel
 here : (a b : Bool) → b ≡ true → a ≡ (a && b)
@@ -62,14 +62,47 @@ same-with_pixel w h f x y black none =
     grid_of-ext w h f (λ i j. pixel_at (grid_of w h f) i j || (black && eqb i x && eqb j y))
     (λ i j right below. sym (or-false (pixel_at (grid_of w h f) i j) (black && eqb i x && eqb j y) (none i j right below) ∙ pixel_at-grid_of w h f i j right below))
 
-pub white-nothing : (x y : ℕ) (black : Bool) (i j : ℕ) → black ≡ false → (black && eqb i x && eqb j y) ≡ false
-white-nothing x y black i j white = and_left _ _ (and_left black (eqb i x) white)
+pub not-blackened : (black : Bool) (x y w h i j : ℕ) → (black && ltb x w && ltb y h) ≡ false → i < w → j < h → (black && eqb i x && eqb j y) ≡ false
+not-blackened false x y w h i j none left above = refl
+not-blackened true x y w h i j none left above =
+    ⊎_elim
+    (λ (column : i ≡ x).
+    ⊎_elim
+    (λ (row : j ≡ y). absurd (let both : (ltb x w && ltb y h) ≡ true = and_from _ _ (lt-ltb x w (omega arith)) (lt-ltb y h (omega arith)) in let never : true ≡ false = sym both ∙ none in cc))
+    (λ (other : j ≡ y → ⊥). and_right (eqb i x) (eqb j y) (ne_eqb j y other))
+    (cases_eq j y))
+    (λ (other : i ≡ x → ⊥). and_left (eqb i x) (eqb j y) (ne_eqb i x other))
+    (cases_eq i x)
 
-pub other-column : (x y : ℕ) (black : Bool) (i j : ℕ) → i < x → (black && eqb i x && eqb j y) ≡ false
-other-column x y black i j left = and_left _ _ (and_right black (eqb i x) (ne_eqb i x (λ e. omega arith)))
+pub blackens-inside : (w h stride first : ℕ) (words : List ℕ) (x y : ℕ) (black blackens : Bool) → IsPacked w h stride words → (y < h → first ≡ y * stride) → blackens ≡ (black && ltb x w && ltb y h) → blackens ≡ true → first + x / 64 < length words
+blackens-inside w h stride first words x y black blackens packed place is set_so =
+    let inside = and_parts (black && ltb x w) (ltb y h) (sym is ∙ set_so) in
+    let column = and_parts black (ltb x w) inside.0 in
+    let above : y < h = ltb-true y h inside.1 in
+    subst (λ (n : ℕ). n + x / 64 < length words) (sym (place above)) (place-lt w h stride words x y packed (ltb-true x w column.1) above)
 
-pub other-line : (x y : ℕ) (black : Bool) (i j : ℕ) → j < y → (black && eqb i x && eqb j y) ≡ false
-other-line x y black i j above = and_right _ (eqb j y) (ne_eqb j y (λ e. omega arith))
+-- the words with that bit, or as they were
+pub blackens-grid : (w h stride first : ℕ) (words after : List ℕ) (x y : ℕ) (black blackens : Bool) → IsPacked w h stride words → (y < h → first ≡ y * stride) → blackens ≡ (black && ltb x w && ltb y h) → after ≡ cond blackens (set words (first + x / 64) (bit_or (get_or words (first + x / 64) 0) (1 * 2 ^ (63 - x % 64) % 2 ^ 64))) words → grid_of w h (packed_pixel stride after) ≡ with_pixel (grid_of w h (packed_pixel stride words)) x y black
+blackens-grid w h stride first words after x y black true packed place is e =
+    let inside = and_parts (black && ltb x w) (ltb y h) (sym is) in
+    let column = and_parts black (ltb x w) inside.0 in
+    let above : y < h = ltb-true y h inside.1 in
+    ap (λ (xs : List ℕ). grid_of w h (packed_pixel stride xs)) (e ∙ ap (λ (n : ℕ). set words (n + x / 64) (bit_or (get_or words (n + x / 64) 0) (1 * 2 ^ (63 - x % 64) % 2 ^ 64))) (place above))
+    ∙ black-grid w h stride words x y packed (ltb-true x w column.1) above
+    ∙ ap (λ (b : Bool). with_pixel (grid_of w h (packed_pixel stride words)) x y b) (sym column.0)
+blackens-grid w h stride first words after x y black false packed place is e =
+    ap (λ (xs : List ℕ). grid_of w h (packed_pixel stride xs)) e
+    ∙ same-with_pixel w h (packed_pixel stride words) x y black (λ i j left above. not-blackened black x y w h i j (sym is) left above)
+
+pub blackens-packed : (w h stride first : ℕ) (words after : List ℕ) (x y : ℕ) (black blackens : Bool) → IsPacked w h stride words → (y < h → first ≡ y * stride) → blackens ≡ (black && ltb x w && ltb y h) → after ≡ cond blackens (set words (first + x / 64) (bit_or (get_or words (first + x / 64) 0) (1 * 2 ^ (63 - x % 64) % 2 ^ 64))) words → IsPacked w h stride after
+blackens-packed w h stride first words after x y black true packed place is e =
+    let inside = and_parts (black && ltb x w) (ltb y h) (sym is) in
+    let column = and_parts black (ltb x w) inside.0 in
+    let above : y < h = ltb-true y h inside.1 in
+    subst (λ (xs : List ℕ). IsPacked w h stride xs)
+    (sym (e ∙ ap (λ (n : ℕ). set words (n + x / 64) (bit_or (get_or words (n + x / 64) 0) (1 * 2 ^ (63 - x % 64) % 2 ^ 64))) (place above)))
+    (black-packed w h stride words x y packed (ltb-true x w column.1) above)
+blackens-packed w h stride first words after x y black false packed place is e = subst (λ (xs : List ℕ). IsPacked w h stride xs) (sym e) packed
 
 -- ---- a field
 pub in_field : (x y count i j : ℕ) → j ≡ y → x ≤ i → i < x + count → (eqb j y && leb x i && ltb i (x + count)) ≡ true

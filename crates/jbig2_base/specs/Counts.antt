@@ -1,22 +1,7 @@
--- What the step bounds count before and after a call (our own rule; no part of the format). `Counts` has a number for
--- each kind of step: words that are loaded and written, decisions, run tests, groups of lanes and single pixels.
--- Predicates on two of these say how many steps a call took.
-use Rattle.std.specs.Prelude.{◌≡◌, ℕ, ◌+◌, ◌-◌, ◌*◌, ◌/◌, ◌≤◌, min, ℤ, pos, negsuc, zero, suc}
+-- How many steps calls take, of `Counts` before and after (our own rule; no part of the format).
+pub use Rattle.jbig2_steps.specs.Counts.{Counts, no_steps, words_copied, words_loaded, words_written}
+use Rattle.std.specs.Prelude.{◌≡◌, ℕ, ◌+◌, ◌-◌, ◌*◌, ◌/◌, ◌≤◌, ◌==◌, if◌then◌else◌, min, ℤ, pos, negsuc, zero, suc}
 use Rattle.jbig2_base.specs.Grid.{Grid}
-
-pub record Counts : Type 0 where
-  pub loads : ℕ
-  pub words : ℕ
-  pub decisions : ℕ
-  pub run_tests : ℕ
-  pub groups : ℕ
-  pub pixels : ℕ
-
-abbrev pub no_steps : Counts
-no_steps = record { loads = 0; words = 0; decisions = 0; run_tests = 0; groups = 0; pixels = 0 }
-
-abbrev pub words_copied : ℕ → Counts → Counts  -- so many words more are loaded and written
-words_copied n c = record c { loads = c.loads + n; words = c.words + n }
 
 pub record KeepsLanes (old new : Counts) : Type 0 where  -- no group of lanes and no single pixel was counted
   pub groups : new.groups ≡ old.groups
@@ -30,6 +15,32 @@ abbrev pub most_words : ℕ → ℕ  -- the most words that a row of so many col
 most_words zero = 0
 most_words (suc columns) = columns / 64 + 2
 
+abbrev pub words_across : ℕ → ℕ → ℕ  -- in how many words of a row `columns` of its pixels lie, one or more, from column x on
+words_across x columns = (x + columns - 1) / 64 + 1 - x / 64
+
+-- How many loads combine a row of so many columns, from column `left` of the page and `from` of the source on: one for each
+-- word of the page, and one for the source where they lie in one of its words, else one for each word of the page.
+abbrev pub loads_across : ℕ → ℕ → ℕ → ℕ
+loads_across left columns from =
+    words_across left columns + (if words_across from columns == 1 then 1 else words_across left columns)
+
+abbrev pub rows_combined : ℕ → ℕ → ℕ → ℕ → Counts → Counts  -- after so many of these rows
+rows_combined rows left columns from = words_written (rows * words_across left columns) (rows * loads_across left columns from)
+
+abbrev pub first_under : ℤ → ℕ  -- the first column (or row) of a page that a source lies on which begins at x
+first_under (pos x) = x
+first_under (negsuc x) = 0
+
+abbrev pub first_shown : ℤ → ℕ  -- the first column (or row) of the source that lies there
+first_shown (pos x) = 0
+first_shown (negsuc x) = x + 1
+
+-- after a source is combined with a page, from column x of row y on
+abbrev pub source_combined : Grid → Grid → ℤ → ℤ → Counts → Counts
+source_combined page source x y c =
+    if overlap page.width source.width x == 0 then c
+    else rows_combined (overlap page.height source.height y) (first_under x) (overlap page.width source.width x) (first_shown x) c
+
 -- at most so many words were written, at most twice as many loads made, and nothing else was counted
 pub record WritesWithin (most : ℕ) (old new : Counts) : Type 0 where
   pub words : new.words ≤ old.words + most
@@ -41,3 +52,8 @@ pub record WritesWithin (most : ℕ) (old new : Counts) : Type 0 where
 
 abbrev pub words_of : Grid → ℕ  -- how many words of 64 pixels a bitmap has, where each row begins with one of its own
 words_of g = (g.width + 63) / 64 * g.height
+
+-- How many loads of 64 columns find column `place` of a row that ends at column `to`, from column `from` on: up to the one
+-- that it lies in, or all where it is the end.
+abbrev pub words_searched : ℕ → ℕ → ℕ → ℕ
+words_searched from to place = min ((place - from) / 64 + 1) ((to - from + 63) / 64)

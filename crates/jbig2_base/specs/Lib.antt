@@ -1,6 +1,8 @@
 pub mod Answer
 pub mod Bits
+pub mod Blocks
 pub mod Causes
+pub mod Colour
 pub mod Combination
 pub mod Counts
 pub mod ErrorTexts
@@ -11,4 +13,6 @@ pub mod PageInfo
 pub mod Search
 pub mod Segment
 pub mod Sequential
+pub mod Table
+pub mod Writes
 pub mod inner

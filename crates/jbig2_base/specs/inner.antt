@@ -1,6 +1,4 @@
 pub mod BitLists
-pub mod Blocks
-pub mod Colour
 pub mod Combines
 pub mod Filled
 pub mod Fronts
@@ -8,6 +6,4 @@ pub mod Layouts
 pub mod Packed
 pub mod SegmentViews
 pub mod Shapes
-pub mod Table
 pub mod WordBits
-pub mod Writes

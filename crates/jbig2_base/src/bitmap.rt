@@ -1,12 +1,12 @@
 //! Packed bitmaps (T.88, 6): rows of pixels behind a few reading and writing calls.
-ghost use Rattle.std.specs.Prelude.{◌≡◌, ℕ, ◌+◌, ◌-◌, ◌*◌, ◌/◌, ◌^◌, ◌<◌, ◌≤◌, OnErr, Ok, false, get_or, length};
+ghost use Rattle.std.specs.Prelude.{◌≡◌, ℕ, ◌+◌, ◌-◌, ◌*◌, ◌/◌, ◌^◌, ◌<◌, ◌≤◌, OnErr, Ok, false, length, slice_index};
 ghost use Rattle.jbig2_base.specs.Answer.{Gives};
 ghost use Rattle.jbig2_base.specs.Counts.{words_copied};
 ghost use Rattle.jbig2_base.specs.{Grid.{Grid, blank, pixel_at, bit_number, part_or_overflow, blank_or_overflow, wide_or_overflow}, Counts.{words_of}};
 ghost use Rattle.jbig2_base.specs.Causes.{HaveCauses, BreaksSides, BreaksArea};
-ghost use Rattle.jbig2_base.specs.inner.Table.{IsTable};
+ghost use Rattle.jbig2_base.specs.Table.{IsTable};
 ghost use Rattle.jbig2_base.specs.Bits.{bit};
-ghost use Rattle.jbig2_base.specs.inner.Writes.{with_pixel, with_pixels};
+ghost use Rattle.jbig2_base.specs.Writes.{with_pixel, with_pixels};
 
 pub mod colour;
 mod combine;
@@ -18,6 +18,7 @@ pub mod steps;
 use crate::error::{DecodeError, OverflowError, Result};
 pub use operator::CombinationOperator;
 use rows::PackedRows;
+pub use rows::words::Words;
 use std::alloc::Allocator;
 use std::marker::Model;
 use std::sync::ledger::Ledger;
@@ -163,17 +164,16 @@ impl<A: Allocator> Bitmap<A> {
         self.rows.load_pixels(x, y, count, steps)
     }
 
-    /// The pixels of row `y`, 64 in a word, the leftmost in its highest bit, and 0 past the width. They are
-    /// lent to be copied: each word counts as loaded and written.
+    /// The pixels of row `y`, 64 in a word, the leftmost in its highest bit, and 0 past the width. The words are lent
+    /// to be read one by one, each by a call that counts it.
     #[inline(always)]
-    pub fn row_words<L: Ledger>(&self, y: u32, steps: &mut Steps<L>) -> &[u64]
+    pub fn row_words(&self, y: u32) -> Words<'_>
         requires { y < self.now.height }
-        ensures sized { length result.now ≡ (self.now.width + 63) / 64 }
-        ensures bits { (i k : ℕ) → i < length result.now → k < 64
-            → bit (get_or result.now i 0) (63 - k) ≡ pixel_at self.now (64 * i + k) y }
-        ensures steps { steps.new ≡ words_copied (length result.now) steps.old }
+        ensures sized { length result.words.now ≡ (self.now.width + 63) / 64 }
+        ensures bits { (i k : ℕ) → i < length result.words.now → k < 64
+            → bit (slice_index result.words.now i) (63 - k) ≡ pixel_at self.now (64 * i + k) y }
     {
-        self.rows.row_words(y, steps)
+        self.rows.row_words(y)
     }
 
     /// Sets `count` neighbouring pixels of row `y` from column `x` on to the lowest `count` bits of

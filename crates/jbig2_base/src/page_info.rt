@@ -1,5 +1,5 @@
 //! Page information segments and the size of a page (T.88, 7.4.8 and 7.4.10).
-ghost use Rattle.std.specs.Prelude.{◌≡◌, ◌+◌, ◌/◌, ◌%◌, ◌==◌, ◌<◌, ◌≤◌, Ok, IfOk, OnErr, OnOk, Option, length};
+ghost use Rattle.std.specs.Prelude.{◌≡◌, ◌+◌, ◌/◌, ◌%◌, ◌==◌, ◌<◌, ◌≤◌, Ok, IfOk, None, OnErr, OnOk, Option, false, length};
 ghost use Rattle.jbig2_base.specs.Answer.{Answers};
 ghost use Rattle.jbig2_base.specs.Bits.{IsAligned, nonzero};
 ghost use Rattle.jbig2_base.specs.Causes.{HaveCauses, BreaksInformation, BreaksInitialPage};
@@ -14,7 +14,7 @@ use crate::reader::Reader;
 use crate::segment::{Segment, SegmentType};
 use std::alloc::Allocator;
 
-/// The fields of a page information segment (T.88, 7.4.8).
+/// The fields of a page information segment (T.88, 7.4.8). By default they are 0, no flag is set, and nothing is known.
 #[derive(Clone, Copy, Debug)]
 pub struct PageInformation {
     /// In pixels.
@@ -57,6 +57,55 @@ pub struct InitialPage {
     pub height: u32,
     /// Whether the page begins black.
     pub default_pixel: bool,
+}
+
+impl Default for PageFlags {
+    ghost is_default = { λ flags. flags ≡ flags_of 0 };
+
+    fn default() -> PageFlags {
+        PageFlags {
+            is_lossless: false,
+            might_contain_refinements: false,
+            default_pixel: false,
+            default_combination_operator: CombinationOperator::Or,
+            requires_auxiliary_buffers: false,
+            combination_operator_overridden: false,
+            might_contain_coloured: false,
+        }
+    }
+}
+
+impl Default for PageStriping {
+    ghost is_default = { λ striping. striping ≡ record { is_striped = false; max_stripe_size = 0 } };
+
+    fn default() -> PageStriping {
+        PageStriping {
+            is_striped: false,
+            max_stripe_size: 0,
+        }
+    }
+}
+
+impl Default for PageInformation {
+    ghost is_default = { λ information. information ≡ record {
+      width = 0;
+      height = 0;
+      x_resolution = None;
+      y_resolution = None;
+      flags = flags_of 0;
+      striping = record { is_striped = false; max_stripe_size = 0 };
+    } };
+
+    fn default() -> PageInformation {
+        PageInformation {
+            width: 0,
+            height: 0,
+            x_resolution: None,
+            y_resolution: None,
+            flags: PageFlags::default(),
+            striping: PageStriping::default(),
+        }
+    }
 }
 
 fn default_operator(bits: u8) -> CombinationOperator

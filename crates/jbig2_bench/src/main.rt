@@ -1,12 +1,13 @@
-//! The program `jbig2-bench`: runs the worked rows against the decoder, one or all, or lists through the arithmetic coder.
+//! The program `jbig2-bench`: runs the worked rows against the decoder, or lists through the arithmetic coder.
 #![tactic(auto)]
 
-use jbig2_rows::program::{run, unstarted};
+use jbig2_rows::ended::unstarted;
+use jbig2_rows::program::{USAGE, run};
 use std::io::ErrorKind;
 use std::process::ExitCode;
 use std::{env, io};
 
-/// Runs the program on the words behind its name.
+/// Runs the program on the words after its name.
 fn status(rt: &HostRuntime) -> io::Result<u8> {
     let alloc = rt.alloc();
     let mut args = env::args(rt)?;
@@ -22,7 +23,7 @@ fn main(rt: HostRuntime) -> ExitCode {
         Err(error) => {
             // Words that are no text are no words of this program.
             let refused = error.kind() == ErrorKind::OutOfMemory;
-            unstarted(refused, &mut rt.stderr())
+            unstarted(refused, USAGE, &mut rt.stderr())
         }
     };
     ExitCode::from(status)

@@ -14,5 +14,5 @@ mod refusals;
 mod request;
 
 pub use ended::Ended;
-pub use program::run;
+pub use program::{run, run_reported};
 pub use request::file_word;

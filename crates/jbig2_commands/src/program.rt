@@ -1,5 +1,5 @@
 //! The runs of the program.
-ghost use Rattle.std.specs.Prelude.{◌≡◌, ◌↔◌, ◌⊎◌, map, option_map, IsNone, IfSome, Ok, Err, IfOk, IfErr, OnOk};
+ghost use Rattle.std.specs.Prelude.{◌≡◌, ◌↔◌, ◌⊎◌, Bool, map, option_map, IsNone, IfSome, Ok, Err, IfOk, IfErr, OnOk};
 ghost use Rattle.std.specs.Str.Parse.{IsNumeral};
 ghost use Rattle.jbig2_commands.specs.Printed.{page_named, printed, Ends, Prints, RunEnds};
 ghost use Rattle.jbig2_commands.specs.inner.RequestViews.{HasIndex, task_view};
@@ -16,11 +16,29 @@ use hayro_jbig2::{DecodeError, DecodeSettings, File, Jbig2Error, Page};
 use std::alloc::Allocator;
 use std::io::{Read, Write};
 
-/// Runs the program: `words` are the words behind its name, `file` reads the file that they name,
+/// Runs the program: `words` are the words after its name, `file` reads the file that they name,
 /// None where it could not be opened.
 ///
-/// Answers the status of the process, and whether standard error took what it was told.
+/// Returns the status of the process: 0, 1 after a fault, 2 where the words ask for nothing.
 pub fn run<A: Allocator + Clone, R: Read, O: Write, E: Write>(
+    alloc: A,
+    words: &[&str],
+    file: Option<&mut R>,
+    out: &mut O,
+    err: &mut E,
+) -> u8
+    ensures usage { (result ≡ 2) ↔ IsNone (request_of (map (λ word. word.now) words.now)) }
+    ensures ends { (told : Bool) × RunEnds (request_of (map (λ word. word.now) words.now))
+        (option_map (λ reader. R.remaining reader.now) file.entry) result told
+        (O.contents out.old) (O.contents out.new) (E.contents err.old) (E.contents err.new) }
+{
+    run_reported(alloc, words, file, out, err).status
+}
+
+/// Runs the program as `run` does.
+///
+/// Returns the status, and besides whether standard error took its line.
+pub fn run_reported<A: Allocator + Clone, R: Read, O: Write, E: Write>(
     alloc: A,
     words: &[&str],
     file: Option<&mut R>,

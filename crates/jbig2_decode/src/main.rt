@@ -7,7 +7,7 @@ use std::io::ErrorKind;
 use std::process::ExitCode;
 use std::{env, io};
 
-/// Runs the program on the words behind its name.
+/// Runs the program on the words after its name.
 fn status(rt: &HostRuntime) -> io::Result<u8> {
     let alloc = rt.alloc();
     let mut args = env::args(rt)?;
@@ -20,8 +20,7 @@ fn status(rt: &HostRuntime) -> io::Result<u8> {
     };
     let mut out = rt.stdout();
     let mut err = rt.stderr();
-    let ended = run(alloc, &words, file.as_mut(), &mut out, &mut err);
-    Ok(ended.status)
+    Ok(run(alloc, &words, file.as_mut(), &mut out, &mut err))
 }
 
 fn main(rt: HostRuntime) -> ExitCode {

@@ -13,7 +13,7 @@ use Rattle.std.proofs.Math.Seq.{drop-cons}
 use Rattle.jbig2_base.specs.Grid.{Grid, grid_of, blank, pixel, pixel_at}
 use Rattle.jbig2_base.specs.declared.error.DecodeError.{DecodeError}
 use Rattle.jbig2_base.specs.Combination.{combined, drawn_pixel, is_below, combined_pixel}
-use Rattle.jbig2_base.specs.inner.Writes.{with_pixel}
+use Rattle.jbig2_base.specs.Writes.{with_pixel}
 use Rattle.jbig2_base.proofs.GridLemmas.{grid_of-ext}
 use Rattle.jbig2_region.specs.Raster.{so_far}
 use Rattle.jbig2_region.proofs.RasterLemmas.{so_far-push, blank-so_far}
@@ -28,7 +28,7 @@ use Rattle.jbig2_halftone.proofs.RowLemmas.{values-length, rows-next, first-rows
 use Rattle.jbig2_base.specs.Answer.{◌>>=◌}
 use Rattle.std.specs.Prelude.{Result, int_le}
 use Rattle.jbig2_base.specs.declared.bitmap.operator.CombinationOperator.{CombinationOperator}
-use Rattle.jbig2_base.specs.inner.Table.{IsTable}
+use Rattle.jbig2_base.specs.Table.{IsTable}
 
 -- a place of a cell fits 32 bits once it is in whole pixels
 place-fits : (z o : ℤ) (a b : ℕ) → SFits w32 o → a < 2 ^ 32 → b < 2 ^ 32 → z ≡ o +ℤ pos a -ℤ pos b → SFits w32 (int_shr z 8)

@@ -5,7 +5,7 @@ use Rattle.std.proofs.lemmas.Bool.{true≢false, cases_Bool, cases_eq, cases_lt,
 use Rattle.std.proofs.lemmas.Nat.{leading_top, shr-shr}
 use Rattle.std.specs.Int.Count.{count_leading_zeros}
 use Rattle.std.specs.Int.RustNames.{bit_and, bit_or, bit_xor}
-use Rattle.jbig2_base.specs.inner.Colour.{IsFirst}
+use Rattle.jbig2_base.specs.Colour.{IsFirst}
 use Rattle.jbig2_base.specs.Search.{least, place_from}
 use Rattle.jbig2_base.specs.Bits.{bit}
 use Rattle.jbig2_base.proofs.BitLemmas.{bit-above, bit-and, bit-or, bit-shl_high, bit-shl_low, bit-shr, bit-xor, bit-zero, or-false}

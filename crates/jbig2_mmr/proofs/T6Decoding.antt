@@ -5,7 +5,7 @@ use Rattle.std.proofs.lemmas.List.{get_or_append_left, get_or_push, get_or_past,
 use Rattle.std.proofs.lemmas.Bool.{cases_eq, cases_lt, cond-true, cond-false, lt-ltb, le-ltb, ne_eqb, or_from}
 use Rattle.jbig2_base.specs.Answer.{Answers}
 use Rattle.jbig2_base.specs.Grid.{Grid, grid_of, blank, pixel_at}
-use Rattle.jbig2_base.specs.inner.Table.{IsTable}
+use Rattle.jbig2_base.specs.Table.{IsTable}
 use Rattle.jbig2_base.specs.declared.error.DecodeError.{DecodeError}
 use Rattle.jbig2_base.specs.declared.error.DecodeError.TheVariants.{Region}
 use Rattle.jbig2_base.specs.declared.error.RegionError.TheVariants.{InvalidMmrData}

@@ -4,7 +4,7 @@ use Rattle.std.proofs.lemmas.Bool.{cases_lt, cond-true, cond-false, and_from, an
 use Rattle.jbig2_base.specs.Counts.{Counts, KeepsLanes}
 use Rattle.jbig2_base.specs.Grid.{Grid, grid_of, pixel_at}
 use Rattle.jbig2_base.specs.Bits.{bit}
-use Rattle.jbig2_base.specs.inner.Writes.{with_pixels}
+use Rattle.jbig2_base.specs.Writes.{with_pixels}
 use Rattle.jbig2_base.proofs.GridLemmas.{pixel_at-grid_of, pixel_at-right, pixel_at-below, table-at}
 use Rattle.jbig2_mmr.specs.inner.T6Reading.{IsSpan}
 

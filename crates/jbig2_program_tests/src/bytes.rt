@@ -8,7 +8,7 @@ pub const FILE: &str = "H 01 00000001 P 00000001 31 00 01 00000000";
 
 /// The bytes that a text spells.
 pub fn bytes_of(alloc: Global, text: &str) -> Result<Vec<u8>> {
-    match spelled(alloc, text)? {
+    match spelled(&alloc, text)? {
         Some(bytes) => Ok(bytes),
         None => Err(DecodeError::Unsupported),
     }

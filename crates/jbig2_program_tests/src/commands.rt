@@ -46,7 +46,7 @@ fn run_ends<R: Read>(
 ) -> Result<bool> {
     let mut out = Vec::with_capacity(alloc, 256)?;
     let mut err = Vec::with_capacity(alloc, 256)?;
-    let status = run(alloc, words, file, &mut out, &mut err).status;
+    let status = run(alloc, words, file, &mut out, &mut err);
     if err.as_slice() == OUT_OF_MEMORY && status == 1 && out.is_empty() {
         return Err(DecodeError::OutOfMemory);
     }
@@ -247,7 +247,7 @@ fn writes_so(
     let bytes = bytes_of(alloc, text)?;
     let mut err = Vec::with_capacity(alloc, 256)?;
     let mut reader = Cursor::new(bytes.as_slice());
-    let status = run(alloc, words, Some(&mut reader), out, &mut err).status;
+    let status = run(alloc, words, Some(&mut reader), out, &mut err);
     if err.as_slice() == OUT_OF_MEMORY {
         return Err(DecodeError::OutOfMemory);
     }
@@ -287,6 +287,7 @@ fn output_that_cannot_be_written_ends_the_run(rt: HostRuntime) {
 const UNFLUSHED: &[(Words, &[u8])] = &[
     (&["--strict", "calls", "file", "0"], UNSUPPORTED),
     (&["--strict", "pbm", "file", "0"], UNSUPPORTED),
+    (&["pages", "file"], b""),
     (&["calls", "file", "0"], b""),
     (&["pbm", "file", "0"], b""),
 ];

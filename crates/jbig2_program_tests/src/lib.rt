@@ -13,7 +13,13 @@ mod commands;
 #[cfg(test)]
 mod errors;
 #[cfg(test)]
+mod large;
+#[cfg(test)]
 mod lists;
+#[cfg(test)]
+mod outputs;
+#[cfg(test)]
+mod passed_over;
 #[cfg(test)]
 mod readers;
 #[cfg(test)]

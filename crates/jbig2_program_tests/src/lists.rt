@@ -2,10 +2,13 @@
 use crate::streams::Full;
 use hayro_jbig2::{DecodeError, Result};
 use jbig2_rows::generator::Generator;
+use jbig2_rows::one_row;
 use jbig2_rows::program::{print_lists, run};
 use std::alloc::Global;
 
-const USAGE: &[u8] = b"usage: jbig2-bench [lists | row NAME]\n";
+const USAGE: &[u8] = b"usage: jbig2-bench [lists]\n";
+
+const ROW_USAGE: &[u8] = b"usage: jbig2-row NAME\n";
 
 const OUT_OF_MEMORY: &[u8] = b"error: out of memory\n";
 
@@ -47,6 +50,7 @@ const REFUSED_WORDS: &[&[&str]] = &[
     &[""],
     &["lists", "lists"],
     &["lists", ""],
+    &["row", "5"],
 ];
 
 #[test]
@@ -57,6 +61,37 @@ fn other_words_print_the_usage(rt: HostRuntime) {
             ends == Ok(true) || ends == Err(DecodeError::OutOfMemory),
             "{words:?}"
         );
+    }
+}
+
+/// Words of `jbig2-row`, and how a run of them ends.
+const NAMED: &[(&[&str], (u8, &[u8], &[u8]))] = &[
+    (&["5"], (0, b"row 5 ok\n", b"")),
+    (&["R16.2"], (0, b"row R16.2 ok\n", b"")),
+    (&["no such row"], (1, b"", b"")),
+    (&[], (2, b"", ROW_USAGE)),
+    (&["5", "7"], (2, b"", ROW_USAGE)),
+];
+
+/// Whether a run of `jbig2-row` ends so.
+fn row_ends(alloc: Global, words: &[&str], expected: (u8, &[u8], &[u8])) -> Result<bool> {
+    let mut out = Vec::with_capacity(alloc, 64)?;
+    let mut err = Vec::with_capacity(alloc, 64)?;
+    let status = one_row::run(alloc, words, &mut out, &mut err);
+    if err.as_slice() == OUT_OF_MEMORY && status == 1 && out.is_empty() {
+        return Err(DecodeError::OutOfMemory);
+    }
+    Ok((status, out.as_slice(), err.as_slice()) == expected)
+}
+
+#[test]
+fn a_row_is_run_by_its_name(rt: HostRuntime) {
+    for (words, expected) in NAMED {
+        let mut ends = row_ends(rt.alloc(), words, *expected);
+        if ends == Err(DecodeError::OutOfMemory) {
+            ends = row_ends(rt.alloc(), words, *expected);
+        }
+        assert!(rt; ends == Ok(true), "{words:?}");
     }
 }
 

@@ -15,11 +15,13 @@ const STRICT: DecodeSettings = DecodeSettings { strict: true };
 
 const MOST_PIXELS: u64 = 1 << 24;
 
-/// How many symbols a dictionary has, and that number by table B.1.
-const DICTIONARIES: [(u32, &str); 3] = [
-    (1000, "1100000001011011000"),
-    (65536, "1101111111011110000"),
-    (1048576, "11100000000000011101111111011110000"),
+/// How many symbols a dictionary has, that number by table B.1, and how many export runs of no symbols come
+/// before the one that exports all.
+const DICTIONARIES: [(u32, &str, u32); 4] = [
+    (1000, "1100000001011011000", 1),
+    (65536, "1101111111011110000", 1),
+    (1048576, "11100000000000011101111111011110000", 1),
+    (1000, "1100000001011011000", 65537),
 ];
 
 /// Takes white rows as long chunks and single pixels spell them.
@@ -128,7 +130,7 @@ fn push_digits(bytes: &mut Vec<u8>, digits: &[u8]) -> Result<()> {
     Ok(())
 }
 
-/// Appends the height class of a dictionary of so many symbols of 1 by 1, side by side.
+/// Appends the height class of a dictionary of `count` symbols of 1 by 1, side by side.
 fn push_class(alloc: Global, data: &mut Vec<u8>, count: u32) -> Result<()> {
     let mut class = Vec::from_slice(alloc, b"010")?;
     for _ in 1..count {
@@ -142,27 +144,30 @@ fn push_class(alloc: Global, data: &mut Vec<u8>, count: u32) -> Result<()> {
     Ok(())
 }
 
-/// Appends the runs that export all symbols.
-fn push_export(alloc: Global, data: &mut Vec<u8>, export: &str) -> Result<()> {
-    let mut runs = Vec::from_slice(alloc, b"00000")?;
+/// Appends runs of no symbols, and the run that exports all.
+fn push_export(alloc: Global, data: &mut Vec<u8>, export: &str, empty: u32) -> Result<()> {
+    let mut runs = Vec::new(alloc);
+    for _ in 0..empty {
+        runs.extend_from_slice(b"00000")?;
+    }
     runs.extend_from_slice(export.as_bytes())?;
     push_digits(data, &runs)
 }
 
-/// The data of a dictionary of so many black symbols of 1 by 1 in one height class.
-fn dictionary(alloc: Global, count: u32, export: &str) -> Result<Vec<u8>> {
+/// The data of a dictionary of `count` black symbols of 1 by 1 in one height class.
+fn dictionary(alloc: Global, count: u32, export: &str, empty: u32) -> Result<Vec<u8>> {
     let mut data = Vec::from_slice(alloc, &[0, 1])?;
     data.extend_from_slice(&count.to_be_bytes())?;
     data.extend_from_slice(&count.to_be_bytes())?;
     push_class(alloc, &mut data, count)?;
-    push_export(alloc, &mut data, export)?;
+    push_export(alloc, &mut data, export, empty)?;
     Ok(data)
 }
 
 /// A page, and such a dictionary.
-fn page_with_dictionary(alloc: Global, count: u32, export: &str) -> Result<Vec<u8>> {
+fn page_with_dictionary(alloc: Global, count: u32, export: &str, empty: u32) -> Result<Vec<u8>> {
     let mut bytes = bytes_of(alloc, "P 0000000100000100000000")?;
-    let data = dictionary(alloc, count, export)?;
+    let data = dictionary(alloc, count, export, empty)?;
     write_number(&mut bytes, 37, u32::try_from(data.len()).unwrap_or(0));
     bytes.extend_from_slice(&data)?;
     Ok(bytes)
@@ -171,9 +176,9 @@ fn page_with_dictionary(alloc: Global, count: u32, export: &str) -> Result<Vec<u
 /// Whether the page under each dictionary is white.
 fn dictionaries_hold(alloc: Global) -> Result<bool> {
     let mut context = DecoderContext::new(alloc)?;
-    for (count, export) in DICTIONARIES {
-        let bytes = page_with_dictionary(alloc, count, export)?;
-        if !page_holds(alloc, &bytes, true, &Answer::Calls(WHITE), &mut context)? {
+    for (count, export, empty) in DICTIONARIES {
+        let bytes = page_with_dictionary(alloc, count, export, empty)?;
+        if !page_holds(&alloc, &bytes, true, &Answer::Calls(WHITE), &mut context)? {
             return Ok(false);
         }
     }

@@ -44,7 +44,7 @@ impl<'a> Read for Slow<'a> {
     }
 }
 
-/// Has room for so many bytes, and may not be flushed.
+/// Has room for `room` bytes, and may refuse to be flushed.
 #[derive(Drop)]
 pub struct Full {
     pub room: usize,
@@ -66,5 +66,19 @@ impl Write for Full {
             return Ok(());
         }
         Err(io::Error::from(ErrorKind::StorageFull))
+    }
+}
+
+/// Takes no byte, and reports no fault.
+#[derive(Drop)]
+pub struct Stuck {}
+
+impl Write for Stuck {
+    fn write(&mut self, _buf: &[u8]) -> io::Result<usize> {
+        Ok(0)
+    }
+
+    fn flush(&mut self) -> io::Result<()> {
+        Ok(())
     }
 }

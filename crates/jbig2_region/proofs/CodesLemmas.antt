@@ -3,7 +3,7 @@ use Rattle.std.proofs.Common.{set, subst, ◌≡◌, ℕ, zero, suc, ◌+◌, �
 use Rattle.std.proofs.lemmas.Nat.{mod-mul-add, div-mul-add}
 use Rattle.jbig2_base.specs.Counts.{Counts}
 use Rattle.jbig2_base.specs.Grid.{Grid, bit_number}
-use Rattle.jbig2_base.specs.inner.Writes.{with_pixel, with_pixels}
+use Rattle.jbig2_base.specs.Writes.{with_pixel, with_pixels}
 use Rattle.jbig2_coder.specs.Coder.{Coder, Context, decision, fresh}
 use Rattle.jbig2_region.specs.Steps.{takes_decision}
 use Rattle.jbig2_region.specs.inner.RowCounts.{decided_pixels}

@@ -6,7 +6,7 @@ use Rattle.std.proofs.lemmas.List.{append-nil, length-replicate, replicate-appen
 use Rattle.std.proofs.Math.Nat.{pow-le-pow_right}
 use Rattle.jbig2_base.specs.Grid.{Grid, bit_number, same_colour}
 use Rattle.jbig2_base.specs.Bits.{bit}
-use Rattle.jbig2_base.specs.inner.Writes.{with_pixel, with_pixels}
+use Rattle.jbig2_base.specs.Writes.{with_pixel, with_pixels}
 use Rattle.jbig2_coder.specs.Coder.{Coder, Context, Decision, Registers, decision, fresh, is_quiet, all_quiet}
 use Rattle.jbig2_coder.specs.Table.{row_of}
 use Rattle.jbig2_coder.proofs.Runs.{is_quiet-decision}

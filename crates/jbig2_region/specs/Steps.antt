@@ -83,7 +83,7 @@ coded_runs template nominal coding w h bytes start =
 
 -- loads of a row, but for those of adaptive pixels; its run tests; and the words written, for each byte or each pixel
 abbrev pub row_loads : Bool → ℕ → ℕ
-row_loads nominal w = if nominal then 2 * ((w - 1) / 8 + 2) else 3 * (w / 32 + 2)
+row_loads nominal w = if nominal then 2 * ((w - 1) / 64 + 2) else 3 * (w / 32 + 2)
 
 abbrev pub row_tests : Bool → ℕ → ℕ
 row_tests nominal w = if nominal then (w - 1) / 8 else 0

@@ -1,6 +1,6 @@
 //! The templates of generic regions (T.88, 6.2.5.3) and of refinements (6.3.5.3), and their adaptive
 //! pixels.
-ghost use Rattle.std.specs.Prelude.{◌≡◌, ◌%◌};
+ghost use Rattle.std.specs.Prelude.{◌≡◌, ◌%◌, pos};
 ghost use Rattle.jbig2_region.specs.RefinementTemplates.{refinement_bits, refinement_template_of};
 ghost use Rattle.jbig2_region.specs.Templates.{template_of, context_bits};
 
@@ -75,11 +75,19 @@ impl RefinementTemplate {
 }
 
 /// A template's pixel, by its place relative to the pixel that is decoded: columns to the right and
-/// rows down.
+/// rows down. The default is that pixel's own place.
 #[derive(Clone, Copy, Debug, PartialEq, Eq)]
 pub struct AdaptiveTemplatePixel {
     pub x: i16,
     pub y: i16,
+}
+
+impl Default for AdaptiveTemplatePixel {
+    ghost is_default = { λ place. place ≡ record { x = pos 0; y = pos 0 } };
+
+    fn default() -> AdaptiveTemplatePixel {
+        pixel(0, 0)
+    }
 }
 
 pub(crate) const fn pixel(x: i16, y: i16) -> AdaptiveTemplatePixel

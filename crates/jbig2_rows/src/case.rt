@@ -11,7 +11,9 @@ use crate::table::{TableCase, table_holds};
 use hayro_jbig2::parts::reader::Reader;
 use hayro_jbig2::parts::segment::{SegmentType, parse_segment_header};
 use hayro_jbig2::{DecodeError, DecodeSettings, DecoderContext, Globals, Page, Result};
-use std::alloc::Global;
+use std::alloc::Allocator;
+use std::io;
+use std::io::Write;
 use std::marker::Brand;
 use std::sync::ledger::Blank;
 
@@ -102,7 +104,11 @@ impl Modes {
 
 /// Whether every case of a row holds, and row 5's page is drawn in the same context behind each. Answers
 /// `DecodeError::OutOfMemory` alone.
-pub fn row_holds(alloc: Global, row: &Row, context: &mut DecoderContext<Global>) -> Result<bool> {
+pub fn row_holds<A: Allocator + Clone>(
+    alloc: &A,
+    row: &Row,
+    context: &mut DecoderContext<A>,
+) -> Result<bool> {
     for case in row.cases {
         let holds = case_holds(alloc, case, context)?;
         if !holds || !white_holds(alloc, context)? {
@@ -114,10 +120,10 @@ pub fn row_holds(alloc: Global, row: &Row, context: &mut DecoderContext<Global>)
 
 /// Whether a row holds. Behind a request for memory that was refused, row 5's page has to be drawn in the same
 /// context, and then the row has to hold.
-pub fn row_serves_on(
-    alloc: Global,
+pub fn row_serves_on<A: Allocator + Clone>(
+    alloc: &A,
     row: &Row,
-    context: &mut DecoderContext<Global>,
+    context: &mut DecoderContext<A>,
 ) -> Result<bool> {
     let holds = row_holds(alloc, row, context);
     if holds != Err(DecodeError::OutOfMemory) {
@@ -129,7 +135,17 @@ pub fn row_serves_on(
     row_holds(alloc, row, context)
 }
 
-fn case_holds(alloc: Global, case: &Case, context: &mut DecoderContext<Global>) -> Result<bool> {
+/// Prints whether a row holds.
+pub(crate) fn print_row<O: Write>(row: &Row, holds: bool, out: &mut O) -> io::Result<()> {
+    let verdict = if holds { "ok" } else { "differs" };
+    writeln!(out, "row {} {verdict}", row.name)
+}
+
+fn case_holds<A: Allocator + Clone>(
+    alloc: &A,
+    case: &Case,
+    context: &mut DecoderContext<A>,
+) -> Result<bool> {
     match case {
         Case::Page(modes, bytes, answer) => answer_holds(alloc, *modes, bytes, answer, context),
         Case::ByMode(bytes, strict, lenient) => {
@@ -155,17 +171,17 @@ fn case_holds(alloc: Global, case: &Case, context: &mut DecoderContext<Global>) 
         Case::Mmr(case) => mmr_holds(alloc, case),
         Case::File(case) => file_holds(alloc, case, context),
         Case::StaysWhite(x, y) => stays_white(alloc, *x, *y),
-        Case::WidePatterns => wide_patterns_hold::<Brand>(alloc, Blank::new(6)),
+        Case::WidePatterns => wide_patterns_hold::<A, Brand>(alloc, Blank::new(6)),
     }
 }
 
 /// Whether the embedded page that a text spells has this answer in these modes.
-fn answer_holds(
-    alloc: Global,
+fn answer_holds<A: Allocator + Clone>(
+    alloc: &A,
     modes: Modes,
     bytes: &str,
     answer: &Answer,
-    context: &mut DecoderContext<Global>,
+    context: &mut DecoderContext<A>,
 ) -> Result<bool> {
     let Some(bytes) = spelled(alloc, bytes)? else {
         return Ok(false);
@@ -174,12 +190,12 @@ fn answer_holds(
 }
 
 /// Whether the embedded page that a text spells has these answers, and row 5's page is drawn in between.
-fn answers_hold(
-    alloc: Global,
+fn answers_hold<A: Allocator + Clone>(
+    alloc: &A,
     bytes: &str,
     strict: &Answer,
     lenient: &Answer,
-    context: &mut DecoderContext<Global>,
+    context: &mut DecoderContext<A>,
 ) -> Result<bool> {
     Ok(
         answer_holds(alloc, Modes::Strict, bytes, strict, context)?
@@ -188,12 +204,12 @@ fn answers_hold(
     )
 }
 
-fn modes_hold(
-    alloc: Global,
+fn modes_hold<A: Allocator + Clone>(
+    alloc: &A,
     modes: Modes,
     bytes: &[u8],
     answer: &Answer,
-    context: &mut DecoderContext<Global>,
+    context: &mut DecoderContext<A>,
 ) -> Result<bool> {
     for strict in [true, false] {
         if modes.has(strict) && !page_holds(alloc, bytes, strict, answer, context)? {
@@ -204,13 +220,13 @@ fn modes_hold(
 }
 
 /// Whether each beginning of these lengths, the last one included, has this answer in these modes.
-fn beginnings_hold(
-    alloc: Global,
+fn beginnings_hold<A: Allocator + Clone>(
+    alloc: &A,
     modes: Modes,
     bytes: &str,
     lengths: (usize, usize),
     answer: &Answer,
-    context: &mut DecoderContext<Global>,
+    context: &mut DecoderContext<A>,
 ) -> Result<bool> {
     let Some(bytes) = spelled(alloc, bytes)? else {
         return Ok(false);
@@ -227,12 +243,12 @@ fn beginnings_hold(
 }
 
 /// Whether drawing the embedded page that a text spells has this answer with these globals.
-fn shared_holds(
-    alloc: Global,
+fn shared_holds<A: Allocator + Clone>(
+    alloc: &A,
     globals: &str,
     bytes: &str,
     answer: &Answer,
-    context: &mut DecoderContext<Global>,
+    context: &mut DecoderContext<A>,
 ) -> Result<bool> {
     let globals = spelled(alloc, globals)?;
     let bytes = spelled(alloc, bytes)?;
@@ -241,11 +257,11 @@ fn shared_holds(
     };
     for strict in [true, false] {
         let settings = DecodeSettings { strict };
-        let globals = match Globals::new(alloc, &globals, &settings) {
+        let globals = match Globals::new(alloc.clone()?, &globals, &settings) {
             Ok(globals) => globals,
             Err(error) => return refused_as(error, None),
         };
-        let page = match Page::new_embedded(alloc, &bytes, Some(&globals), &settings) {
+        let page = match Page::new_embedded(alloc.clone()?, &bytes, Some(&globals), &settings) {
             Ok(page) => page,
             Err(error) => return refused_as(error, None),
         };
@@ -257,11 +273,22 @@ fn shared_holds(
 }
 
 /// Whether the embedded page that a text spells has this number and size.
-fn size_holds(alloc: Global, bytes: &str, number: u32, width: u32, height: u32) -> Result<bool> {
+fn size_holds<A: Allocator + Clone>(
+    alloc: &A,
+    bytes: &str,
+    number: u32,
+    width: u32,
+    height: u32,
+) -> Result<bool> {
     let Some(bytes) = spelled(alloc, bytes)? else {
         return Ok(false);
     };
-    let page = match Page::new_embedded(alloc, &bytes, None, &DecodeSettings { strict: true }) {
+    let page = match Page::new_embedded(
+        alloc.clone()?,
+        &bytes,
+        None,
+        &DecodeSettings { strict: true },
+    ) {
         Ok(page) => page,
         Err(error) => return refused_as(error, None),
     };
@@ -281,12 +308,12 @@ pub fn refused_as(error: DecodeError, expected: Option<&DecodeError>) -> Result<
 }
 
 /// Whether the segment header that a text spells has these fields.
-fn header_holds(alloc: Global, bytes: &str, expected: &Header) -> Result<bool> {
+fn header_holds<A: Allocator + Clone>(alloc: &A, bytes: &str, expected: &Header) -> Result<bool> {
     let Some(bytes) = spelled(alloc, bytes)? else {
         return Ok(false);
     };
     let mut reader = Reader::new(&bytes);
-    let header = match parse_segment_header(alloc, &mut reader, true) {
+    let header = match parse_segment_header(alloc.clone()?, &mut reader, true) {
         Ok(header) => header,
         Err(error) => return refused_as(error, None),
     };

@@ -6,7 +6,8 @@ use hayro_jbig2::Result;
 use hayro_jbig2::parts::arithmetic_decoder::{ArithmeticDecoder, ArithmeticDecoderContext};
 use hayro_jbig2::parts::bitmap::steps::Steps;
 use hayro_jbig2::parts::mq::{decode_list, encode_list};
-use std::alloc::Global;
+use jbig2_permit::Permit;
+use std::alloc::Allocator;
 use std::marker::Brand;
 use std::sync::ledger::{Blank, Ledger};
 
@@ -46,7 +47,7 @@ pub enum CoderCase {
 }
 
 /// Whether a case holds. Answers `DecodeError::OutOfMemory` alone.
-pub fn coder_holds(alloc: Global, case: &CoderCase) -> Result<bool> {
+pub fn coder_holds<A: Allocator + Clone>(alloc: &A, case: &CoderCase) -> Result<bool> {
     match case {
         CoderCase::Readings { bytes, readings } => {
             let Some(bytes) = spelled(alloc, bytes)? else {
@@ -59,7 +60,7 @@ pub fn coder_holds(alloc: Global, case: &CoderCase) -> Result<bool> {
             let Some(bytes) = spelled(alloc, bytes)? else {
                 return Ok(false);
             };
-            list_is_read::<Brand>(alloc, Blank::new(6), &bytes, list)
+            list_is_read::<A, Brand>(alloc, Blank::new(6), &bytes, list)
         }
         CoderCase::ReadBack { decisions, bytes } => {
             let list = list_of(alloc, decisions)?;
@@ -69,8 +70,8 @@ pub fn coder_holds(alloc: Global, case: &CoderCase) -> Result<bool> {
 }
 
 /// These bits, eight to a byte, in context 0.
-fn list_of(alloc: Global, decisions: &[u8]) -> Result<Vec<(u16, bool)>> {
-    let mut list = Vec::new(alloc);
+fn list_of<A: Allocator + Clone>(alloc: &A, decisions: &[u8]) -> Result<Vec<(u16, bool), A>> {
+    let mut list = Vec::new(alloc.clone()?);
     for byte in decisions {
         for place in 0..8u8 {
             list.push((0, (byte << place) >= 0x80))?;
@@ -80,19 +81,23 @@ fn list_of(alloc: Global, decisions: &[u8]) -> Result<Vec<(u16, bool)>> {
 }
 
 /// Whether `encode_list` of a list gives the bytes that a text spells.
-fn is_encoded_as(alloc: Global, list: &[(u16, bool)], bytes: &str) -> Result<bool> {
+fn is_encoded_as<A: Allocator + Clone>(
+    alloc: &A,
+    list: &[(u16, bool)],
+    bytes: &str,
+) -> Result<bool> {
     let Some(bytes) = spelled(alloc, bytes)? else {
         return Ok(false);
     };
-    let encoded = encode_list(alloc, list)?;
+    let encoded = encode_list(alloc.clone()?, list)?;
     Ok(encoded.as_slice() == bytes.as_slice())
 }
 
 /// Whether `decode_list` reads a list back from what `encode_list` makes of it. Answers
 /// `DecodeError::OutOfMemory` alone.
-pub fn is_read_back(alloc: Global, list: &[(u16, bool)]) -> Result<bool> {
-    let bytes = encode_list(alloc, list)?;
-    list_is_read::<Brand>(alloc, Blank::new(6), &bytes, list)
+pub fn is_read_back<A: Allocator + Clone>(alloc: &A, list: &[(u16, bool)]) -> Result<bool> {
+    let bytes = encode_list(alloc.clone()?, list)?;
+    list_is_read::<A, Brand>(alloc, Blank::new(6), &bytes, list)
 }
 
 fn readings_hold<L: Ledger>(blank: Blank, bytes: &[u8], readings: &[Reading]) -> bool
@@ -100,7 +105,7 @@ fn readings_hold<L: Ledger>(blank: Blank, bytes: &[u8], readings: &[Reading]) ->
     requires parts { blank.parts ≡ L.parts }
     requires enough { blank.parts ≡ 6 }
 {
-    let mut steps = Steps::<L>::new(blank);
+    let mut steps = Steps::<L>::new(Permit::grant(), blank);
     let mut decoder = ArithmeticDecoder::new(bytes);
     let mut context = ArithmeticDecoderContext::default();
     for reading in readings {
@@ -141,8 +146,8 @@ fn reading_holds<L: Ledger>(
 }
 
 /// Whether `decode_list` reads the decisions of a list in its contexts.
-fn list_is_read<L: Ledger>(
-    alloc: Global,
+fn list_is_read<A: Allocator + Clone, L: Ledger>(
+    alloc: &A,
     blank: Blank,
     bytes: &[u8],
     list: &[(u16, bool)],
@@ -151,13 +156,13 @@ fn list_is_read<L: Ledger>(
     requires parts { blank.parts ≡ L.parts }
     requires enough { blank.parts ≡ 6 }
 {
-    let mut steps = Steps::<L>::new(blank);
-    let mut contexts = Vec::new(alloc);
-    let mut decisions = Vec::new(alloc);
+    let mut steps = Steps::<L>::new(Permit::grant(), blank);
+    let mut contexts = Vec::new(alloc.clone()?);
+    let mut decisions = Vec::new(alloc.clone()?);
     for (number, decision) in list {
         contexts.push(*number)?;
         decisions.push(*decision)?;
     }
-    let read = decode_list(alloc, bytes, &contexts, &mut steps)?;
+    let read = decode_list(alloc.clone()?, bytes, &contexts, &mut steps)?;
     Ok(read.as_slice() == decisions.as_slice())
 }

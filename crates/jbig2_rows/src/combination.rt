@@ -5,21 +5,22 @@ use hayro_jbig2::Result;
 use hayro_jbig2::parts::bitmap::Bitmap;
 use hayro_jbig2::parts::bitmap::operator::CombinationOperator;
 use hayro_jbig2::parts::bitmap::steps::Steps;
-use std::alloc::Global;
+use jbig2_permit::Permit;
+use std::alloc::Allocator;
 use std::marker::Brand;
 use std::sync::ledger::{Blank, Ledger};
 
 /// Whether a white bitmap of 8 by 8 stays white where a black one of 8 by 8 is combined with it by Or at this
 /// place.
-pub fn stays_white(alloc: Global, x: i32, y: i32) -> Result<bool> {
-    let mut page = Bitmap::new(alloc, 8, 8)?;
-    let black = Bitmap::new_with(alloc, 8, 8, true)?;
-    Ok(is_white_after::<Brand>(&mut page, &black, x, y, Blank::new(6)))
+pub fn stays_white<A: Allocator + Clone>(alloc: &A, x: i32, y: i32) -> Result<bool> {
+    let mut page = Bitmap::new(alloc.clone()?, 8, 8)?;
+    let black = Bitmap::new_with(alloc.clone()?, 8, 8, true)?;
+    Ok(is_white_after::<A, Brand>(&mut page, &black, x, y, Blank::new(6)))
 }
 
-fn is_white_after<L: Ledger>(
-    page: &mut Bitmap<Global>,
-    black: &Bitmap<Global>,
+fn is_white_after<A: Allocator + Clone, L: Ledger>(
+    page: &mut Bitmap<A>,
+    black: &Bitmap<A>,
     x: i32,
     y: i32,
     blank: Blank,
@@ -28,7 +29,7 @@ fn is_white_after<L: Ledger>(
     requires parts { blank.parts ≡ L.parts }
     requires enough { blank.parts ≡ 6 }
 {
-    let mut steps: Steps<L> = Steps::new(blank);
+    let mut steps: Steps<L> = Steps::new(Permit::grant(), blank);
     page.combine(black, x, y, CombinationOperator::Or, &mut steps);
     for row in 0..8 {
         if page.load_pixels(0, row, 8, &mut steps) != 0 {

@@ -7,13 +7,16 @@ use hayro_jbig2::{
     DecodeError, DecodeSettings, DecoderContext, HuffmanError, Page, ParseError, RegionError,
     Result,
 };
-use std::alloc::Global;
+use std::alloc::Allocator;
 
 /// Row 5's page.
 const WHITE_PAGE: Answer = Answer::Calls(WHITE);
 
 /// Whether row 5's page is drawn white in this context. Answers `DecodeError::OutOfMemory` alone.
-pub fn white_holds(alloc: Global, context: &mut DecoderContext<Global>) -> Result<bool> {
+pub fn white_holds<A: Allocator + Clone>(
+    alloc: &A,
+    context: &mut DecoderContext<A>,
+) -> Result<bool> {
     let Some(bytes) = spelled(alloc, "P")? else {
         return Ok(false);
     };
@@ -22,14 +25,14 @@ pub fn white_holds(alloc: Global, context: &mut DecoderContext<Global>) -> Resul
 
 /// Whether an embedded page has this answer. Answers `DecodeError::OutOfMemory` alone, and only where no
 /// call was made.
-pub fn page_holds(
-    alloc: Global,
+pub fn page_holds<A: Allocator + Clone>(
+    alloc: &A,
     bytes: &[u8],
     strict: bool,
     answer: &Answer,
-    context: &mut DecoderContext<Global>,
+    context: &mut DecoderContext<A>,
 ) -> Result<bool> {
-    let page = match Page::new_embedded(alloc, bytes, None, &DecodeSettings { strict }) {
+    let page = match Page::new_embedded(alloc.clone()?, bytes, None, &DecodeSettings { strict }) {
         Ok(page) => page,
         Err(error) => return refused_as(
             error,
@@ -44,10 +47,10 @@ pub fn page_holds(
 
 /// Whether decoding a page has this answer, and each of its calls may be refused. Answers
 /// `DecodeError::OutOfMemory` alone, and only where no call was made.
-pub fn drawing_holds(
-    page: &Page<'_, Global>,
+pub fn drawing_holds<A: Allocator + Clone>(
+    page: &Page<'_, A>,
     answer: &Answer,
-    context: &mut DecoderContext<Global>,
+    context: &mut DecoderContext<A>,
 ) -> Result<bool> {
     let calls = match answer {
         Answer::Calls(calls) => *calls,
@@ -82,10 +85,10 @@ fn refusal_of(call: usize) -> DecodeError {
 
 /// Whether a Decoder that refuses a call, whichever it is, has taken those before it and is asked no more, and its
 /// own error is answered.
-fn refusals_hold(
-    page: &Page<'_, Global>,
+fn refusals_hold<A: Allocator + Clone>(
+    page: &Page<'_, A>,
     calls: &[Call],
-    context: &mut DecoderContext<Global>,
+    context: &mut DecoderContext<A>,
 ) -> Result<bool> {
     for taken in 0..calls.len() {
         let mut watcher = Watcher::with_patience(&calls[..taken], taken, refusal_of(taken));

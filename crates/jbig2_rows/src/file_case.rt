@@ -6,7 +6,7 @@ use crate::spelling::spelled;
 use hayro_jbig2::{
     DecodeError, DecodeSettings, DecoderContext, File, Globals, Jbig2Decoder, Jbig2Error, Result,
 };
-use std::alloc::Global;
+use std::alloc::Allocator;
 use std::io::Cursor;
 
 /// What a page of a file is.
@@ -43,10 +43,10 @@ impl FileCase {
 }
 
 /// Whether a case holds. Answers `DecodeError::OutOfMemory` alone.
-pub fn file_holds(
-    alloc: Global,
+pub fn file_holds<A: Allocator + Clone>(
+    alloc: &A,
     case: &FileCase,
-    context: &mut DecoderContext<Global>,
+    context: &mut DecoderContext<A>,
 ) -> Result<bool> {
     let Some(bytes) = spelled(alloc, case.bytes())? else {
         return Ok(false);
@@ -63,12 +63,12 @@ pub fn file_holds(
 }
 
 /// Whether a case holds in one mode. One that speaks of other modes alone does.
-fn mode_holds(
-    alloc: Global,
+fn mode_holds<A: Allocator + Clone>(
+    alloc: &A,
     case: &FileCase,
     bytes: &[u8],
     strict: bool,
-    context: &mut DecoderContext<Global>,
+    context: &mut DecoderContext<A>,
 ) -> Result<bool> {
     match case {
         FileCase::Refused(modes, _, error) if modes.has(strict) => {
@@ -83,28 +83,47 @@ fn mode_holds(
     }
 }
 
-fn no_first_page_holds(alloc: Global, bytes: &[u8], error: &DecodeError) -> Result<bool> {
-    match Jbig2Decoder::new(alloc, Cursor::new(bytes)) {
+fn no_first_page_holds<A: Allocator + Clone>(
+    alloc: &A,
+    bytes: &[u8],
+    error: &DecodeError,
+) -> Result<bool> {
+    match Jbig2Decoder::new(alloc.clone()?, Cursor::new(bytes)) {
         Ok(_) | Err(Jbig2Error::Io(_)) => Ok(false),
         Err(Jbig2Error::Decode(refusal)) => refused_as(refusal, Some(error)),
     }
 }
 
-fn refusal_holds(alloc: Global, bytes: &[u8], strict: bool, error: &DecodeError) -> Result<bool> {
-    match File::new(alloc, bytes, &DecodeSettings { strict }) {
+fn refusal_holds<A: Allocator + Clone>(
+    alloc: &A,
+    bytes: &[u8],
+    strict: bool,
+    error: &DecodeError,
+) -> Result<bool> {
+    match File::new(alloc.clone()?, bytes, &DecodeSettings { strict }) {
         Ok(_) => Ok(false),
         Err(refusal) => refused_as(refusal, Some(error)),
     }
 }
 
-fn no_globals_hold(alloc: Global, bytes: &[u8], strict: bool, error: &DecodeError) -> Result<bool> {
-    match Globals::new(alloc, bytes, &DecodeSettings { strict }) {
+fn no_globals_hold<A: Allocator + Clone>(
+    alloc: &A,
+    bytes: &[u8],
+    strict: bool,
+    error: &DecodeError,
+) -> Result<bool> {
+    match Globals::new(alloc.clone()?, bytes, &DecodeSettings { strict }) {
         Ok(_) => Ok(false),
         Err(refusal) => refused_as(refusal, Some(error)),
     }
 }
 
-fn cuts_hold(alloc: Global, bytes: &[u8], strict: bool, but: usize) -> Result<bool> {
+fn cuts_hold<A: Allocator + Clone>(
+    alloc: &A,
+    bytes: &[u8],
+    strict: bool,
+    but: usize,
+) -> Result<bool> {
     for length in 0..bytes.len() {
         if length != but && !refusal_holds(alloc, &bytes[..length], strict, &TOO_EARLY)? {
             return Ok(false);
@@ -113,14 +132,14 @@ fn cuts_hold(alloc: Global, bytes: &[u8], strict: bool, but: usize) -> Result<bo
     Ok(true)
 }
 
-fn pages_hold(
-    alloc: Global,
+fn pages_hold<A: Allocator + Clone>(
+    alloc: &A,
     bytes: &[u8],
     strict: bool,
     expected: &[FilePage],
-    context: &mut DecoderContext<Global>,
+    context: &mut DecoderContext<A>,
 ) -> Result<bool> {
-    let file = match File::new(alloc, bytes, &DecodeSettings { strict }) {
+    let file = match File::new(alloc.clone()?, bytes, &DecodeSettings { strict }) {
         Ok(file) => file,
         Err(error) => return refused_as(error, None),
     };

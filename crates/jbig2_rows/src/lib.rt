@@ -1,4 +1,5 @@
-//! The worked rows, and lists through the arithmetic coder: what `jbig2-bench` runs against the decoder.
+//! The worked rows, and lists through the arithmetic coder: what `jbig2-bench` and `jbig2-row`
+//! run against the decoder.
 #![tactic(auto)]
 
 pub mod call;
@@ -6,11 +7,13 @@ pub mod case;
 mod coder;
 mod combination;
 pub mod drawing;
+pub mod ended;
 mod errors;
 mod file_case;
 pub mod generator;
 mod lists;
 mod mmr;
+pub mod one_row;
 mod patterns;
 mod piece;
 pub mod program;

@@ -2,17 +2,17 @@
 use crate::coder::is_read_back;
 use crate::generator::Generator;
 use hayro_jbig2::Result;
-use std::alloc::Global;
+use std::alloc::Allocator;
 
 /// The last list; list N has N entries.
 const LISTS: usize = 1000;
 
 /// The first list, of those up to `LISTS`, that is not read back from what the encoder makes of it. Answers
 /// `DecodeError::OutOfMemory` alone.
-pub fn first_that_differs(alloc: Global) -> Result<Option<usize>> {
+pub fn first_that_differs<A: Allocator + Clone>(alloc: &A) -> Result<Option<usize>> {
     let mut generator = Generator::new();
     for count in 1..=LISTS {
-        let list = generator.list(alloc, count)?;
+        let list = generator.list(alloc.clone()?, count)?;
         if !is_read_back(alloc, &list)? {
             return Ok(Some(count));
         }

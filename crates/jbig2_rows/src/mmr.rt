@@ -7,7 +7,8 @@ use hayro_jbig2::Result;
 use hayro_jbig2::parts::bitmap::Bitmap;
 use hayro_jbig2::parts::bitmap::steps::Steps;
 use hayro_jbig2::parts::mmr::decode;
-use std::alloc::Global;
+use jbig2_permit::Permit;
+use std::alloc::Allocator;
 use std::marker::Brand;
 use std::sync::ledger::{Blank, Ledger};
 
@@ -31,13 +32,13 @@ pub struct Decoded {
 }
 
 /// Whether a case holds. Answers `DecodeError::OutOfMemory` alone.
-pub fn mmr_holds(alloc: Global, case: &MmrCase) -> Result<bool> {
+pub fn mmr_holds<A: Allocator + Clone>(alloc: &A, case: &MmrCase) -> Result<bool> {
     let Some(bytes) = spelled(alloc, case.bytes)? else {
         return Ok(false);
     };
     for strict in [true, false] {
         if case.modes.has(strict) {
-            if !data_holds::<Brand>(alloc, Blank::new(6), case, &bytes, strict)? {
+            if !data_holds::<A, Brand>(alloc, Blank::new(6), case, &bytes, strict)? {
                 return Ok(false);
             }
         }
@@ -46,8 +47,8 @@ pub fn mmr_holds(alloc: Global, case: &MmrCase) -> Result<bool> {
 }
 
 /// Whether the bytes of a case have its answer in one mode.
-fn data_holds<L: Ledger>(
-    alloc: Global,
+fn data_holds<A: Allocator + Clone, L: Ledger>(
+    alloc: &A,
     blank: Blank,
     case: &MmrCase,
     bytes: &[u8],
@@ -57,8 +58,8 @@ fn data_holds<L: Ledger>(
     requires parts { blank.parts ≡ L.parts }
     requires enough { blank.parts ≡ 6 }
 {
-    let mut steps = Steps::<L>::new(blank);
-    let mut bitmap = match Bitmap::new(alloc, case.width, case.height) {
+    let mut steps = Steps::<L>::new(Permit::grant(), blank);
+    let mut bitmap = match Bitmap::new(alloc.clone()?, case.width, case.height) {
         Ok(bitmap) => bitmap,
         Err(error) => return refused_as(error, None),
     };
@@ -73,7 +74,11 @@ fn data_holds<L: Ledger>(
 }
 
 /// Whether a bitmap of at most eight columns has these rows and no others.
-fn rows_are<L: Ledger>(bitmap: &Bitmap<Global>, rows: &[u8], steps: &mut Steps<L>) -> bool {
+fn rows_are<A: Allocator + Clone, L: Ledger>(
+    bitmap: &Bitmap<A>,
+    rows: &[u8],
+    steps: &mut Steps<L>,
+) -> bool {
     if bitmap.width() > 8 || rows.len() != bitmap.height() as usize {
         return false;
     }

@@ -6,7 +6,8 @@ use hayro_jbig2::parts::bitmap::steps::Steps;
 use hayro_jbig2::parts::mq::encode_list;
 use hayro_jbig2::parts::pattern::{PatternDictionaryHeader, decode};
 use hayro_jbig2::parts::template::Template;
-use std::alloc::Global;
+use jbig2_permit::Permit;
+use std::alloc::Allocator;
 use std::sync::ledger::{Blank, Ledger};
 
 /// The context of column `x` of two patterns of 200 by 1 side by side, each black in its first
@@ -24,16 +25,16 @@ fn context_of(x: u32) -> u16 {
 
 /// Whether two such patterns, as the encoder writes them, are decoded. Answers
 /// `DecodeError::OutOfMemory` alone.
-pub fn wide_patterns_hold<L: Ledger>(alloc: Global, blank: Blank) -> Result<bool>
+pub fn wide_patterns_hold<A: Allocator + Clone, L: Ledger>(alloc: &A, blank: Blank) -> Result<bool>
     requires name { blank.name ≡ L.name }
     requires parts { blank.parts ≡ L.parts }
     requires enough { blank.parts ≡ 6 }
 {
-    let mut list = Vec::new(alloc);
+    let mut list = Vec::new(alloc.clone()?);
     for x in 0..400 {
         list.push((context_of(x), x % 200 == 0))?;
     }
-    let bytes = encode_list(alloc, &list)?;
+    let bytes = encode_list(alloc.clone()?, &list)?;
     let header = PatternDictionaryHeader {
         mmr: false,
         template: Template::Template0,
@@ -43,9 +44,9 @@ pub fn wide_patterns_hold<L: Ledger>(alloc: Global, blank: Blank) -> Result<bool
         bytes: &bytes,
         strict: true,
     };
-    let mut steps = Steps::<L>::new(blank);
-    let mut contexts = Vec::new(alloc);
-    let dictionary = decode(alloc, &header, &mut contexts, &mut steps)?;
+    let mut steps = Steps::<L>::new(Permit::grant(), blank);
+    let mut contexts = Vec::new(alloc.clone()?);
+    let dictionary = decode(alloc.clone()?, &header, &mut contexts, &mut steps)?;
     for pattern in &dictionary.patterns {
         for x in 0..200 {
             if (pattern.get_pixel(x, 0, &mut steps) == 1) != (x == 0) {

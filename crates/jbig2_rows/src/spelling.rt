@@ -3,15 +3,15 @@ ghost use Rattle.std.specs.Prelude.{◌<◌, IfSome};
 
 use crate::piece::PIECES;
 use hayro_jbig2::Result;
-use std::alloc::Global;
+use std::alloc::Allocator;
 
 /// The bytes that a text spells; None where it spells none.
 ///
 /// The text has words between single spaces, and each stands for bytes. `0A1B` is the bytes with
 /// these hexadecimal digits; `00*9` is nine times `00`; `P` is the piece of that name; `P@27=04` is
 /// that piece with other bytes from place 27 on, and `P@11=00000009@27=04` one with two such changes.
-pub fn spelled(alloc: Global, text: &str) -> Result<Option<Vec<u8>>> {
-    let mut bytes = Vec::new(alloc);
+pub fn spelled<A: Allocator + Clone>(alloc: &A, text: &str) -> Result<Option<Vec<u8, A>>> {
+    let mut bytes = Vec::new(alloc.clone()?);
     for word in text.split(' ') {
         if !push_word(&mut bytes, word)? {
             return Ok(None);
@@ -21,7 +21,7 @@ pub fn spelled(alloc: Global, text: &str) -> Result<Option<Vec<u8>>> {
 }
 
 /// Appends what one word spells; false where it spells nothing.
-fn push_word(bytes: &mut Vec<u8>, word: &str) -> Result<bool> {
+fn push_word<A: Allocator>(bytes: &mut Vec<u8, A>, word: &str) -> Result<bool> {
     let mut parts = word.split('@');
     let Some(name) = parts.next() else {
         return Ok(false);
@@ -44,7 +44,7 @@ fn push_word(bytes: &mut Vec<u8>, word: &str) -> Result<bool> {
 }
 
 /// Appends digits, or as often as is said behind a `*`.
-fn push_plain(bytes: &mut Vec<u8>, word: &str) -> Result<bool> {
+fn push_plain<A: Allocator>(bytes: &mut Vec<u8, A>, word: &str) -> Result<bool> {
     let (digits, count) = word.split_once('*').unwrap_or((word, "1"));
     let Ok(count) = count.parse::<u32>() else {
         return Ok(false);

@@ -4,7 +4,7 @@ use crate::spelling::spelled;
 use hayro_jbig2::parts::huffman_table::{HuffmanTable, StandardHuffmanTables};
 use hayro_jbig2::parts::reader::Reader;
 use hayro_jbig2::{DecodeError, Result};
-use std::alloc::Global;
+use std::alloc::Allocator;
 
 /// How a table is made.
 #[derive(Clone, Copy)]
@@ -45,7 +45,7 @@ pub enum TableCase {
 }
 
 /// Whether a case holds. Answers `DecodeError::OutOfMemory` alone.
-pub fn table_holds(alloc: Global, case: &TableCase) -> Result<bool> {
+pub fn table_holds<A: Allocator + Clone>(alloc: &A, case: &TableCase) -> Result<bool> {
     match case {
         TableCase::StandardA {
             bytes,
@@ -69,46 +69,46 @@ pub fn table_holds(alloc: Global, case: &TableCase) -> Result<bool> {
     }
 }
 
-fn standard_a_holds(
-    alloc: Global,
+fn standard_a_holds<A: Allocator + Clone>(
+    alloc: &A,
     bytes: &str,
     from: u8,
     answer: &Result<Option<i32>>,
 ) -> Result<bool> {
-    let tables = StandardHuffmanTables::new(alloc)?;
+    let tables = StandardHuffmanTables::new(alloc.clone()?)?;
     decode_holds(alloc, tables.table_a(), bytes, from, answer)
 }
 
-fn left_holds(alloc: Global, bytes: &str, bits: u8) -> Result<bool> {
+fn left_holds<A: Allocator + Clone>(alloc: &A, bytes: &str, bits: u8) -> Result<bool> {
     let Some(bytes) = spelled(alloc, bytes)? else {
         return Ok(false);
     };
     let mut reader = Reader::new(&bytes);
-    if let Err(error) = HuffmanTable::read_custom(alloc, &mut reader) {
+    if let Err(error) = HuffmanTable::read_custom(alloc.clone()?, &mut reader) {
         return refused_as(error, None);
     }
     Ok(pass_over(&mut reader, bits) && reader.at_end())
 }
 
-fn made(alloc: Global, source: &Source) -> Result<HuffmanTable<Global>> {
+fn made<A: Allocator + Clone>(alloc: &A, source: &Source) -> Result<HuffmanTable<A>> {
     match source {
-        Source::Nothing => HuffmanTable::build(alloc, &[]),
+        Source::Nothing => HuffmanTable::build(alloc.clone()?, &[]),
         Source::Uniform(count, code_length) => {
             let count = (*count).min(0x8000_0000);
-            HuffmanTable::build_uniform(alloc, count, (*code_length).min(255))
+            HuffmanTable::build_uniform(alloc.clone()?, count, (*code_length).min(255))
         }
         Source::Custom(bytes) => {
             let Some(bytes) = spelled(alloc, bytes)? else {
                 return Err(DecodeError::Unsupported);
             };
-            HuffmanTable::read_custom(alloc, &mut Reader::new(&bytes))
+            HuffmanTable::read_custom(alloc.clone()?, &mut Reader::new(&bytes))
         }
     }
 }
 
-fn decode_holds(
-    alloc: Global,
-    table: &HuffmanTable<Global>,
+fn decode_holds<A: Allocator + Clone>(
+    alloc: &A,
+    table: &HuffmanTable<A>,
     bytes: &str,
     from: u8,
     answer: &Result<Option<i32>>,

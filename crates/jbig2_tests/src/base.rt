@@ -7,10 +7,11 @@ use jbig2_base::error::{DecodeError, HuffmanError, ParseError};
 use jbig2_base::field::{
     bits_field, byte_field, bytes_field, i8_field, i32_field, u16_field, u32_field,
 };
-use jbig2_base::page_info::parse_page_information;
+use jbig2_base::page_info::{PageInformation, parse_page_information};
 use jbig2_base::reader::Reader;
 use jbig2_base::search::code_length;
 use jbig2_base::segment::SegmentType;
+use jbig2_permit::Permit;
 use std::marker::Brand;
 use std::sync::ledger::{Blank, Ledger};
 
@@ -93,7 +94,7 @@ fn each_step<L: Ledger>(blank: Blank)
     requires parts { blank.parts ≡ L.parts }
     requires enough { blank.parts ≡ 6 }
 {
-    let mut steps: Steps<L> = Steps::new(blank);
+    let mut steps: Steps<L> = Steps::new(Permit::grant(), blank);
     steps.load();
     steps.word();
     steps.copy(2);
@@ -107,6 +108,8 @@ fn each_step<L: Ledger>(blank: Blank)
 fn steps_operators_and_types(rt: HostRuntime) {
     each_step::<Brand>(Blank::new(6));
     assert!(rt; CombinationOperator::from_value(3) == Ok(CombinationOperator::Xnor));
+    assert!(rt; CombinationOperator::default() == CombinationOperator::Or);
+    assert!(rt; PageInformation::default().x_resolution == None);
     assert!(rt; SegmentType::from_type_value(62) == SegmentType::Extension);
     assert!(rt; SegmentType::from_type_value(63).is_reserved());
 }

@@ -5,6 +5,7 @@ use jbig2_base::bitmap::Bitmap;
 use jbig2_base::bitmap::operator::CombinationOperator;
 use jbig2_base::bitmap::steps::Steps;
 use jbig2_base::error::{DecodeError, Result};
+use jbig2_permit::Permit;
 use std::alloc::Global;
 use std::marker::Brand;
 use std::sync::ledger::{Blank, Ledger};
@@ -136,7 +137,7 @@ fn each_width_agrees<L: Ledger>(
     requires parts { blank.parts ≡ L.parts }
     requires enough { blank.parts ≡ 6 }
 {
-    let mut steps: Steps<L> = Steps::new(blank);
+    let mut steps: Steps<L> = Steps::new(Permit::grant(), blank);
     for width in WIDTHS {
         speckle(source, width, SOURCE, &mut steps)?;
         if !each_place_agrees(page, source, &mut steps)? {

@@ -6,6 +6,7 @@ use jbig2_base::error::{DecodeError, Result};
 use jbig2_coder::arithmetic_decoder::ArithmeticDecoder;
 use jbig2_coder::integer_decoder::IntegerDecoder;
 use jbig2_coder::symbol_id_decoder::SymbolIdDecoder;
+use jbig2_permit::Permit;
 use std::alloc::Global;
 use std::marker::Brand;
 use std::sync::ledger::{Blank, Ledger};
@@ -42,7 +43,7 @@ fn integers_hold<L: Ledger>(
     requires parts { blank.parts ≡ L.parts }
     requires enough { blank.parts ≡ 6 }
 {
-    let mut steps = Steps::<L>::new(blank);
+    let mut steps = Steps::<L>::new(Permit::grant(), blank);
     let mut decoder = ArithmeticDecoder::new(coded);
     let mut integers = IntegerDecoder::new(alloc)?;
     for value in expected {
@@ -59,7 +60,7 @@ fn ids_hold<L: Ledger>(alloc: Global, blank: Blank) -> Result<bool>
     requires parts { blank.parts ≡ L.parts }
     requires enough { blank.parts ≡ 6 }
 {
-    let mut steps = Steps::<L>::new(blank);
+    let mut steps = Steps::<L>::new(Permit::grant(), blank);
     let mut decoder = ArithmeticDecoder::new(CODED);
     let mut ids = SymbolIdDecoder::new(alloc, 5)?;
     for id in IDS {

@@ -5,6 +5,7 @@ use jbig2_base::bitmap::Bitmap;
 use jbig2_base::bitmap::steps::Steps;
 use jbig2_base::error::{DecodeError, Result};
 use jbig2_mmr::mmr::decode;
+use jbig2_permit::Permit;
 use std::alloc::Global;
 use std::marker::Brand;
 use std::sync::ledger::{Blank, Ledger};
@@ -316,7 +317,7 @@ fn are_read_as<L: Ledger>(
     requires parts { blank.parts ≡ L.parts }
     requires enough { blank.parts ≡ 6 }
 {
-    let mut steps = Steps::<L>::new(blank);
+    let mut steps = Steps::<L>::new(Permit::grant(), blank);
     let height = u32::try_from(whites.len()).unwrap_or(0);
     let mut bitmap = Bitmap::new(alloc, width, height)?;
     let used = decode(&mut bitmap, bytes, true, &mut steps)?;

@@ -11,6 +11,7 @@ use jbig2_base::bitmap::steps::Steps;
 use jbig2_base::error::{DecodeError, Result};
 use jbig2_coder::mq::encode_list;
 use jbig2_halftone::gray_scale::{GrayScaleParams, decode_gray_scale_image};
+use jbig2_permit::Permit;
 use jbig2_region::template::Template;
 use std::alloc::Global;
 use std::marker::Brand;
@@ -63,7 +64,7 @@ fn image_holds<L: Ledger>(alloc: Global, blank: Blank, bytes: &[u8]) -> Result<b
     requires parts { blank.parts ≡ L.parts }
     requires enough { blank.parts ≡ 6 }
 {
-    let mut steps: Steps<L> = Steps::new(blank);
+    let mut steps: Steps<L> = Steps::new(Permit::grant(), blank);
     let mut skip = Bitmap::new(alloc, 3, 2)?;
     skip.set_pixel(1, 1, true, &mut steps);
     values_hold(alloc, bytes, &skip, &mut steps)

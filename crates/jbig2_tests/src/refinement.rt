@@ -9,6 +9,7 @@ use jbig2_base::bitmap::steps::Steps;
 use jbig2_base::error::{DecodeError, Result};
 use jbig2_base::reader::Reader;
 use jbig2_coder::arithmetic_decoder::{ArithmeticDecoder, ArithmeticDecoderContext};
+use jbig2_permit::Permit;
 use jbig2_region::generic::DecodedRegion;
 use jbig2_region::generic_refinement::{ReferenceBitmap, decode, decode_bitmap, parse};
 use jbig2_region::raster::fresh_contexts;
@@ -103,7 +104,7 @@ fn first_that_differs<L: Ledger>(alloc: Global, blank: Blank) -> Result<usize>
     requires parts { blank.parts ≡ L.parts }
     requires enough { blank.parts ≡ 6 }
 {
-    let mut steps: Steps<L> = Steps::new(blank);
+    let mut steps: Steps<L> = Steps::new(Permit::grant(), blank);
     let mut from = DecodedRegion {
         bitmap: reference(alloc, &mut steps)?,
         x_location: 0,
@@ -173,7 +174,7 @@ fn coders_hold<L: Ledger>(alloc: Global, blank: Blank) -> Result<bool>
     requires parts { blank.parts ≡ L.parts }
     requires enough { blank.parts ≡ 6 }
 {
-    let mut steps: Steps<L> = Steps::new(blank);
+    let mut steps: Steps<L> = Steps::new(Permit::grant(), blank);
     let bitmap = reference(alloc, &mut steps)?;
     let mut reference = ReferenceBitmap {
         bitmap: &bitmap,

@@ -1,6 +1,6 @@
 -- Regions that make up a page by themselves (our own rule).
 use Rattle.std.specs.{Prelude.{◌≡◌, ◌≤◌, Bool, false}, Int.{w32, cast_signed}}
-use Rattle.jbig2_base.specs.{Combination.{combined}, Grid.{Grid, blank}, inner.Table.{IsTable}}
+use Rattle.jbig2_base.specs.{Combination.{combined}, Grid.{Grid, blank}, Table.{IsTable}}
 use Rattle.jbig2_region.specs.declared.region_info.RegionSegmentInfo.{RegionSegmentInfo}
 use Rattle.hayro_jbig2.specs.Page.{Drawing}
 

@@ -1,6 +1,6 @@
 -- How rows of pixels lie in words of 64 bits (our own rule): each row begins with a word, the
 -- leftmost pixel of a word is its highest bit, and what lies past the width is zero.
-use Rattle.std.specs.Prelude.{◌≡◌, ℕ, ◌+◌, ◌-◌, ◌*◌, ◌/◌, ◌%◌, ◌^◌, ◌<◌, ◌≤◌, ◌==◌, Bool, true, false, if◌then◌else◌, List, length, slice_index}
+use Rattle.std.specs.{Prelude.{◌≡◌, ℕ, ◌+◌, ◌-◌, ◌*◌, ◌/◌, ◌%◌, ◌^◌, ◌<◌, ◌≤◌, ◌==◌, Bool, true, false, if◌then◌else◌, nat_lt, List, length, map, slice_index}, List.{range_with_len}}
 use Rattle.jbig2_base.specs.{Grid.{Grid, grid_of}, Bits.{bit}}
 
 -- the number of words of a row
@@ -24,3 +24,11 @@ pub record IsPacked (w h stride : ℕ) (words : List ℕ) : Type 0 where
 unfoldable pub blank_word : ℕ → Bool → ℕ → ℕ
 blank_word w false k = 0
 blank_word w true k = if k % stride_of w + 1 == stride_of w then 2 ^ 64 - 2 ^ (64 * stride_of w - w) else 2 ^ 64 - 1
+
+-- the words of a bitmap of one colour
+unfoldable pub blank_words : ℕ → ℕ → Bool → List ℕ
+blank_words w h black = map (λ k. blank_word w black k) (range_with_len 0 (stride_of w * h))
+
+-- bit x of a row of `stride` words, the leftmost of a word being its highest, and nothing past the row
+unfoldable pub row_bit : List ℕ → ℕ → ℕ → ℕ → Bool
+row_bit words first stride x = if nat_lt (x / 64) stride then bit (slice_index words (first + x / 64)) (63 - x % 64) else false

@@ -1,5 +1,5 @@
 -- The bits of a number (our own rule): bit k is the one worth 2 ^ k.
-use Rattle.std.specs.Prelude.{ℕ, ◌+◌, ◌-◌, ◌/◌, ◌%◌, ◌^◌, ◌==◌, Bool, ◌&&◌, nat_le, nat_lt, if◌then◌else◌}
+use Rattle.std.specs.Prelude.{ℕ, ◌+◌, ◌-◌, Bool, ◌&&◌, nat_le, nat_lt, if◌then◌else◌}
 use Rattle.jbig2_base.specs.Bits.{bit}
 
 -- bit b of a word whose `count` bits from `shift` on are replaced by those of another number

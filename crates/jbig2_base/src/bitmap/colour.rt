@@ -1,7 +1,8 @@
 //! The next pixel of a colour in a row, by words.
 ghost use Rattle.std.specs.Prelude.{◌≡◌, ℕ, ◌-◌, ◌^◌, ◌<◌, ◌≤◌, not};
+ghost use Rattle.jbig2_base.specs.Counts.{words_loaded, words_searched};
 ghost use Rattle.jbig2_base.specs.Grid.{pixel_at};
-ghost use Rattle.jbig2_base.specs.inner.Colour.{IsFirst};
+ghost use Rattle.jbig2_base.specs.Colour.{IsFirst};
 ghost use Rattle.jbig2_base.specs.Bits.{bit};
 
 use crate::bitmap::Bitmap;
@@ -10,7 +11,7 @@ use std::alloc::Allocator;
 use std::sync::ledger::Ledger;
 
 /// The first column from `from` on whose pixel in row `y` is black, or white; else the width. A row
-/// outside is white.
+/// outside is white. Each 64 columns that are looked at take one load.
 pub fn find_colour<A: Allocator, L: Ledger>(
     bitmap: &Bitmap<A>,
     y: u32,
@@ -19,7 +20,9 @@ pub fn find_colour<A: Allocator, L: Ledger>(
     steps: &mut Steps<L>,
 ) -> u32
     requires { from ≤ bitmap.now.width }
-    ensures { IsFirst (λ x. pixel_at bitmap.now x y) black from bitmap.now.width result }
+    ensures value { IsFirst (λ x. pixel_at bitmap.now x y) black from bitmap.now.width result }
+    ensures steps { steps.new
+        ≡ words_loaded (words_searched from bitmap.now.width result) steps.old }
 {
     let width = bitmap.width();
     let mut x = from;

@@ -1,9 +1,9 @@
 //! One bitmap combined with another, word by word (T.88, 7.4.1.5).
 ghost use Rattle.std.specs.Prelude.{◌≡◌, ℕ, true, ◌+◌, ◌-◌, ◌*◌, ◌/◌, ◌^◌, ◌<◌, ◌≤◌, min, pos, ◌-ℤ◌};
-ghost use Rattle.jbig2_base.specs.inner.Blocks.{with_block};
-ghost use Rattle.jbig2_base.specs.inner.Combines.{LiesOn, HasEnds, CombinesBlock, block_of};
-ghost use Rattle.jbig2_base.specs.{Combination.{combined, combined_pixel}, Counts.{overlap, most_words, WritesWithin}};
-ghost use Rattle.jbig2_base.specs.inner.Table.{IsTable};
+ghost use Rattle.jbig2_base.specs.Blocks.{CombinesBlock, LiesOn, with_block};
+ghost use Rattle.jbig2_base.specs.inner.Combines.{HasEnds, block_of};
+ghost use Rattle.jbig2_base.specs.{Combination.{combined, combined_pixel}, Counts.{overlap, most_words, source_combined, WritesWithin}};
+ghost use Rattle.jbig2_base.specs.Table.{IsTable};
 ghost use Rattle.jbig2_base.specs.Bits.{bit};
 
 use crate::bitmap::Bitmap;
@@ -65,6 +65,7 @@ impl<A: Allocator> Bitmap<A> {
         steps: &mut Steps<L>,
     )
         ensures value { self.new ≡ combined operator self.old other.now x y }
+        ensures exact { steps.new ≡ source_combined self.old other.now x y steps.old }
         ensures steps { WritesWithin (overlap self.old.height other.now.height y
             * most_words (overlap self.old.width other.now.width x)) steps.old steps.new }
     {
@@ -132,6 +133,7 @@ fn combine_part<A: Allocator, B: Allocator, L: Ledger>(
     steps: &mut Steps<L>,
 )
     ensures value { page.new ≡ combined operator page.old source.now x y }
+    ensures exact { steps.new ≡ source_combined page.old source.now x y steps.old }
     ensures steps { WritesWithin (overlap page.old.height source.now.height y
         * most_words (overlap page.old.width source.now.width x)) steps.old steps.new }
 {

@@ -1,12 +1,12 @@
 //! How a region is combined with what lies under it (T.88, 7.4.1.5).
-ghost use Rattle.std.specs.Prelude.{◌%◌};
+ghost use Rattle.std.specs.Prelude.{◌≡◌, ◌%◌, Ok};
 ghost use Rattle.jbig2_base.specs.Answer.{Answers};
 ghost use Rattle.jbig2_base.specs.Causes.{HaveCauses, BreaksOperator};
 ghost use Rattle.jbig2_base.specs.Combination.{operator_of};
 
 use crate::error::{DecodeError, RegionError, Result};
 
-/// What becomes of a pixel under a region's pixel.
+/// What becomes of a pixel under a region's pixel. The default is `Or`.
 #[derive(Clone, Copy, Debug, PartialEq, Eq)]
 pub enum CombinationOperator {
     /// Black where either is black.
@@ -19,6 +19,14 @@ pub enum CombinationOperator {
     Xnor,
     /// The region's pixel.
     Replace,
+}
+
+impl Default for CombinationOperator {
+    ghost is_default = { λ operator. operator_of 0 ≡ Ok operator };
+
+    fn default() -> CombinationOperator {
+        CombinationOperator::Or
+    }
 }
 
 impl CombinationOperator {

@@ -1,8 +1,9 @@
 //! Parts that are cut out of bitmaps: the symbols of a collective bitmap (T.88, 6.5.9), the
 //! patterns of one (6.7.5), and the area of the page that a refinement takes (7.4.7.4).
-ghost use Rattle.std.specs.Prelude.{◌≡◌, ◌+◌, ◌<◌, ◌≤◌};
+ghost use Rattle.std.specs.Prelude.{◌≡◌, ◌+◌, ◌/◌, ◌<◌, ◌≤◌, OnErr, OnOk};
 ghost use Rattle.jbig2_base.specs.Answer.{Gives};
-ghost use Rattle.jbig2_base.specs.Grid.{part_or_overflow};
+ghost use Rattle.jbig2_base.specs.Counts.{words_copied, words_of};
+ghost use Rattle.jbig2_base.specs.Grid.{part_of, part_or_overflow};
 ghost use Rattle.jbig2_base.specs.inner.Filled.{filled, pixel_of_part};
 
 use crate::bitmap::Bitmap;
@@ -36,7 +37,9 @@ fn copy_row<A: Allocator, B: Allocator, L: Ledger>(
     requires rows { area.top + area.height ≤ 4294967295 }
     requires row { y < area.height }
     requires above { part.old ≡ filled area.width area.height (pixel_of_part bitmap.now area) y 0 }
-    ensures { part.new ≡ filled area.width area.height (pixel_of_part bitmap.now area) (y + 1) 0 }
+    ensures value { part.new
+        ≡ filled area.width area.height (pixel_of_part bitmap.now area) (y + 1) 0 }
+    ensures steps { steps.new ≡ words_copied ((area.width + 63) / 64) steps.old }
 {
     for word in 0..area.width.div_ceil(64) {
         let x = 64 * word;
@@ -48,7 +51,8 @@ fn copy_row<A: Allocator, B: Allocator, L: Ledger>(
 
 impl<A: Allocator> Bitmap<A> {
     /// The part of this bitmap that `area` covers, white outside, in memory of its own. A side
-    /// above 65535 is refused (`OverflowError::BitmapDimension`).
+    /// above 65535 is refused (`OverflowError::BitmapDimension`). Each of its words is written once, under
+    /// one load.
     pub fn part<B: Allocator, L: Ledger>(
         &self,
         alloc: B,
@@ -57,7 +61,10 @@ impl<A: Allocator> Bitmap<A> {
     ) -> Result<Bitmap<B>>
         requires columns { area.left + area.width ≤ 4294967295 }
         requires rows { area.top + area.height ≤ 4294967295 }
-        ensures { Gives (λ part. part) result (part_or_overflow self.now area) }
+        ensures value { Gives (λ part. part) result (part_or_overflow self.now area) }
+        ensures steps { OnOk result
+            (steps.new ≡ words_copied (words_of (part_of self.now area)) steps.old) }
+        ensures refused { OnErr result (steps.new ≡ steps.old) }
     {
         let mut part = Bitmap::new(alloc, area.width, area.height)?;
         for y in 0..area.height {

@@ -1,23 +1,25 @@
-//! Rows of pixels packed into words. Only this module knows the size of a word.
-ghost use Rattle.std.specs.Prelude.{◌≡◌, ℕ, ◌+◌, ◌-◌, ◌*◌, ◌/◌, ◌%◌, ◌^◌, ◌<◌, ◌≤◌, OnErr, Ok, true, false, get_or, length, slice_index};
+//! Rows of pixels packed into words. Only this module knows the size of a word, and reads and writes words by the calls
+//! of `words` alone.
+ghost use Rattle.std.specs.Prelude.{◌≡◌, ℕ, ◌+◌, ◌-◌, ◌*◌, ◌/◌, ◌%◌, ◌^◌, ◌<◌, ◌≤◌, ◌&&◌, nat_lt, OnErr, Ok, false, length, slice_index};
 ghost use Rattle.jbig2_base.specs.Answer.{Gives};
 ghost use Rattle.jbig2_base.specs.Counts.{words_copied};
 ghost use Rattle.jbig2_base.specs.{Counts.{words_of}, Grid.{blank, pixel_at, bit_number}};
-ghost use Rattle.jbig2_base.specs.inner.Combines.{LiesOn, CombinesBlock};
-ghost use Rattle.jbig2_base.specs.inner.Packed.{blank_word};
-ghost use Rattle.jbig2_base.specs.inner.Table.{IsTable};
-ghost use Rattle.jbig2_base.specs.{Bits.{bit}, inner.WordBits.{field_bit}};
-ghost use Rattle.jbig2_base.specs.inner.Writes.{with_pixel, with_pixels};
+ghost use Rattle.jbig2_base.specs.Blocks.{LiesOn, CombinesBlock};
+ghost use Rattle.jbig2_base.specs.Table.{IsTable};
+ghost use Rattle.jbig2_base.specs.Bits.{bit};
+ghost use Rattle.jbig2_base.specs.Writes.{with_pixel, with_pixels};
 
 pub mod blocks;
+pub mod words;
 
 use crate::bitmap::operator::CombinationOperator;
 use crate::bitmap::steps::Steps;
 use crate::error::Result;
-use blocks::{Block, Shape, Source, combine_rows};
+use blocks::{Block, Shape};
 use std::alloc::Allocator;
 use std::marker::Model;
 use std::sync::ledger::Ledger;
+use words::{PackedWords, RowPlace, Words};
 
 /// Pixels, row by row. Each row begins with a word of its own, the leftmost pixel of a word is its
 /// highest bit, and the bits past the width are zero.
@@ -27,7 +29,7 @@ pub struct PackedRows<A: Allocator> {
     height: u32,
     /// Words in a row.
     stride: usize,
-    words: Vec<u64, A>,
+    words: PackedWords<A>,
 }
 
 impl<A: Allocator> Model for PackedRows<A> {
@@ -36,9 +38,9 @@ impl<A: Allocator> Model for PackedRows<A> {
 
     ghost Value = { Grid };
 
-    ghost view = { λ r. grid_of r.width r.height (packed_pixel r.stride r.words.items) };
+    ghost view = { λ r. grid_of r.width r.height (packed_pixel r.stride r.words) };
 
-    ghost invariant = { λ r. IsPacked r.width r.height r.stride r.words.items };
+    ghost invariant = { λ r. IsPacked r.width r.height r.stride r.words };
 }
 
 impl<A: Allocator> PackedRows<A> {
@@ -50,7 +52,7 @@ impl<A: Allocator> PackedRows<A> {
             width: 0,
             height: 0,
             stride: 0,
-            words: Vec::new(alloc),
+            words: PackedWords::new(alloc),
         }
     }
 
@@ -59,16 +61,10 @@ impl<A: Allocator> PackedRows<A> {
         ensures value { Gives (λ _. self.new) result (Ok (blank width height black)) }
         ensures err { OnErr result (self.new ≡ self.old) }
     {
-        let stride = width.div_ceil(64) as usize;
-        let count = stride * height as usize;
-        self.words
-            .reserve_exact(count.saturating_sub(self.words.len()))?;
-        self.words.clear();
-        self.words.resize(count, 0)?;
-        fill_rows(&mut self.words, width, black);
+        self.words.refill(width, height, black)?;
         self.width = width;
         self.height = height;
-        self.stride = stride;
+        self.stride = width.div_ceil(64) as usize;
         Ok(())
     }
 
@@ -81,9 +77,7 @@ impl<A: Allocator> PackedRows<A> {
         ensures value { Gives (λ r. r) result (Ok self.now) }
         ensures steps { steps.new ≡ words_copied (words_of self.now) steps.old }
     {
-        steps.copy(self.words.len() as u64);
-        let mut words = Vec::new(alloc);
-        words.extend_from_slice(&self.words)?;
+        let words = self.words.duplicate(alloc, steps)?;
         Ok(PackedRows {
             width: self.width,
             height: self.height,
@@ -114,12 +108,8 @@ impl<A: Allocator> PackedRows<A> {
         ensures value { result ≡ bit_number (pixel_at self.now x y) }
         ensures steps { steps.new ≡ record steps.old { loads = steps.old.loads + 1 } }
     {
-        steps.load();
-        if x >= self.width || y >= self.height {
-            return 0;
-        }
-        let word = self.words[y as usize * self.stride + (x / 64) as usize];
-        ((word >> (63 - x % 64)) & 1) as u8
+        let row = row_place(y, self.width, self.height, self.stride);
+        self.words.load_bits(row, x, 1, steps) as u8
     }
 
     /// Makes the pixel at column `x` of row `y` black if `black` says so; nothing outside.
@@ -128,12 +118,10 @@ impl<A: Allocator> PackedRows<A> {
         ensures value { self.new ≡ with_pixel self.old x y black }
         ensures steps { steps.new ≡ record steps.old { words = steps.old.words + 1 } }
     {
-        steps.word();
-        if !black || x >= self.width || y >= self.height {
-            return;
-        }
-        let index = y as usize * self.stride + (x / 64) as usize;
-        self.words[index] = self.words[index] | (1 << (63 - x % 64));
+        let row = row_place(y, self.width, self.height, self.stride);
+        let index = row.first + (x / 64) as usize;
+        let blackens = black_inside(black, x, y, self.width, self.height);
+        self.words.blacken(index, x % 64, blackens, steps);
     }
 
     /// `count` neighbouring pixels of row `y` from column `x` on, the first in the highest of the
@@ -147,49 +135,20 @@ impl<A: Allocator> PackedRows<A> {
         ensures bound { result < 2 ^ count }
         ensures steps { steps.new ≡ record steps.old { loads = steps.old.loads + 1 } }
     {
-        steps.load();
-        let offset = x % 64;
-        let first = self.word(x / 64, y) << offset;
-        if offset + count <= 64 {
-            return first >> (64 - count);
-        }
-        let second = self.word(x / 64 + 1, y) >> (64 - offset);
-        (first | second) >> (64 - count)
+        let row = row_place(y, self.width, self.height, self.stride);
+        self.words.load_bits(row, x, count, steps)
     }
 
-    /// The 64 pixels of row `y` from column 64 * `index` on, 0 outside.
+    /// The words of row `y`, lent to be read one by one.
     #[inline(always)]
-    fn word(&self, index: u32, y: u32) -> u64
-        ensures { (k : ℕ) → k < 64 → bit result (63 - k) ≡ pixel_at self.now (64 * index + k) y }
-    {
-        if index as usize >= self.stride || y >= self.height {
-            return 0;
-        }
-        self.word_inside(index, y)
-    }
-
-    /// The same of a word that begins inside.
-    #[inline(always)]
-    fn word_inside(&self, index: u32, y: u32) -> u64
-        requires column { 64 * index < self.now.width }
-        requires row { y < self.now.height }
-        ensures { (k : ℕ) → k < 64 → bit result (63 - k) ≡ pixel_at self.now (64 * index + k) y }
-    {
-        self.words[y as usize * self.stride + index as usize]
-    }
-
-    /// The words of row `y`, lent to be copied.
-    #[inline(always)]
-    pub fn row_words<L: Ledger>(&self, y: u32, steps: &mut Steps<L>) -> &[u64]
+    pub fn row_words(&self, y: u32) -> Words<'_>
         requires { y < self.now.height }
-        ensures sized { length result.now ≡ (self.now.width + 63) / 64 }
-        ensures bits { (i k : ℕ) → i < length result.now → k < 64
-            → bit (get_or result.now i 0) (63 - k) ≡ pixel_at self.now (64 * i + k) y }
-        ensures steps { steps.new ≡ words_copied (length result.now) steps.old }
+        ensures sized { length result.words.now ≡ (self.now.width + 63) / 64 }
+        ensures bits { (i k : ℕ) → i < length result.words.now → k < 64
+            → bit (slice_index result.words.now i) (63 - k) ≡ pixel_at self.now (64 * i + k) y }
     {
-        steps.copy(self.stride as u64);
-        let first = y as usize * self.stride;
-        &self.words[first..first + self.stride]
+        self.words
+            .row(row_place(y, self.width, self.height, self.stride))
     }
 
     /// Sets `count` neighbouring pixels of row `y` from column `x` on, which lie in one word, to the
@@ -210,9 +169,9 @@ impl<A: Allocator> PackedRows<A> {
         ensures value { self.new ≡ with_pixels self.old x y count bits }
         ensures steps { steps.new ≡ record steps.old { words = steps.old.words + 1 } }
     {
-        steps.word();
         let index = y as usize * self.stride + (x / 64) as usize;
-        self.words[index] = with_field(self.words[index], 64 - x % 64 - count, count, bits);
+        self.words
+            .write_field(index, 64 - x % 64 - count, count, bits, steps);
     }
 
     /// Combines a block with the source's pixels that lie on it, if each row of it lies in one word
@@ -235,54 +194,39 @@ impl<A: Allocator> PackedRows<A> {
             height: self.height,
             stride: self.stride,
         };
-        let source = Source {
-            words: &source.words,
-            shape: Shape {
-                width: source.width,
-                height: source.height,
-                stride: source.stride,
-            },
+        let source_shape = Shape {
+            width: source.width,
+            height: source.height,
+            stride: source.stride,
         };
-        combine_rows(&mut self.words, shape, source, operator, block, steps);
+        self.words
+            .combine(shape, &source.words, source_shape, operator, block, steps);
     }
 }
 
-/// `word` with the `count` bits from `shift` on replaced by the lowest `count` of `bits`.
+/// The words of row `y`, none below the last row.
 #[inline(always)]
-fn with_field(word: u64, shift: u32, count: u32, bits: u64) -> u64
-    requires some { 1 ≤ count }
-    requires within { shift + count ≤ 64 }
-    ensures { (b : ℕ) → b < 64 → bit result b ≡ field_bit word shift count bits b }
+fn row_place(y: u32, width: u32, height: u32, stride: usize) -> RowPlace
+    requires { stride ≡ (width + 63) / 64 }
+    ensures inside { y < height → (result.first ≡ y * stride) × (result.stride ≡ stride) }
+    ensures below { height ≤ y → (result.first ≡ 0) × (result.stride ≡ 0) }
 {
-    let mask = (u64::MAX >> (64 - count)) << shift;
-    (word & !mask) | ((bits << shift) & mask)
-}
-
-/// Makes zeroed words rows of one colour.
-fn fill_rows<A: Allocator>(words: &mut Vec<u64, A>, width: u32, black: bool)
-    requires columns { 0 < length words.old.items → 0 < width }
-    requires zero { (k : ℕ) → k < length words.old.items → slice_index words.old.items k ≡ 0 }
-    ensures size { length words.new.items ≡ length words.old.items }
-    ensures value { (k : ℕ) → k < length words.new.items
-        → slice_index words.new.items k ≡ blank_word width black k }
-{
-    if !black {
-        return;
+    if y >= height {
+        return RowPlace {
+            first: 0,
+            stride: 0,
+        };
     }
-    for index in 0..words.len() {
-        words[index] = black_word(index, width);
+    RowPlace {
+        first: y as usize * stride,
+        stride,
     }
 }
 
-/// Word `index` of black rows.
+/// Whether a pixel that `black` says so of is inside.
 #[inline(always)]
-fn black_word(index: usize, width: u32) -> u64
-    requires { 0 < width }
-    ensures { result ≡ blank_word width true index }
+fn black_inside(black: bool, x: u32, y: u32, width: u32, height: u32) -> bool
+    ensures { result ≡ (black && nat_lt x width && nat_lt y height) }
 {
-    let stride = width.div_ceil(64) as usize;
-    if index % stride + 1 == stride {
-        return u64::MAX << (64 * stride - width as usize);
-    }
-    u64::MAX
+    black && x < width && y < height
 }

@@ -3,7 +3,7 @@ ghost use Rattle.std.specs.Prelude.{◌≡◌, ℕ, ◌+◌, ◌-◌, ◌*◌, �
 ghost use Rattle.jbig2_base.specs.Bits.{bit};
 ghost use Rattle.jbig2_base.specs.Counts.{KeepsLanes};
 ghost use Rattle.jbig2_base.specs.Grid.{pixel_at};
-ghost use Rattle.jbig2_base.specs.inner.Table.{IsTable};
+ghost use Rattle.jbig2_base.specs.Table.{IsTable};
 ghost use Rattle.jbig2_mmr.specs.T6.{b1_of, after_pass, after_vertical, after_runs, next_step, row};
 ghost use Rattle.jbig2_mmr.specs.inner.T6Calls.{ReadStep, ReadRow, head_of};
 ghost use Rattle.jbig2_mmr.specs.inner.T6Reading.{row_above, row_of};

@@ -1,7 +1,7 @@
 //! Spans of one colour in a row of a bitmap, by words.
 ghost use Rattle.std.specs.Prelude.{◌≡◌, ℕ, ◌<◌, ◌≤◌};
 ghost use Rattle.jbig2_base.specs.Counts.{KeepsLanes};
-ghost use Rattle.jbig2_base.specs.inner.Table.{IsTable};
+ghost use Rattle.jbig2_base.specs.Table.{IsTable};
 ghost use Rattle.jbig2_base.specs.Bits.{bit};
 ghost use Rattle.jbig2_mmr.specs.inner.T6Reading.{IsSpan};
 

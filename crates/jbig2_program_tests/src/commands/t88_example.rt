@@ -134,8 +134,7 @@ fn is_drawn_or_silent(alloc: Global, words: &[&str], bytes: &[u8]) -> Result<boo
         Some(&mut Cursor::new(bytes)),
         &mut out,
         &mut err,
-    )
-    .status;
+    );
     let drawn = status == 0 && err.is_empty();
     let refused = status == 1 && out.is_empty() && err.starts_with(b"error: ");
     Ok(drawn || refused)

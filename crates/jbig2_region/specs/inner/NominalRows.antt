@@ -20,7 +20,7 @@ pub record DecodesRow (n : Neighbours) (y : ℕ) (g : Grid) (d : Coder) (s : Lis
   pub contexts : length s' ≡ length s
   pub decisions : CountsRuns (nominal_pixels n) 0 y g.width g d s before.decisions after.decisions
   pub run_tests : after.run_tests ≤ before.run_tests + (g.width - 1) / 8
-  pub loads : after.loads ≤ before.loads + 2 * ((g.width - 1) / 8 + 1)
+  pub loads : after.loads ≤ before.loads + 2 * ((g.width - 1) / 64 + 2)
   pub words : after.words ≤ before.words + ((g.width - 1) / 8 + 1)
   pub lanes : KeepsLanes before after
 

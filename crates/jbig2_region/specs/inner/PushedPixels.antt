@@ -1,6 +1,6 @@
 -- Pixels that are decoded into a number and then stored (our own rule).
 use Rattle.std.specs.Prelude.{◌≡◌, ℕ, ◌+◌, ◌*◌, ◌%◌, ◌<◌, ◌≤◌, false, List}
-use Rattle.jbig2_base.specs.{Grid.{Grid}, inner.Writes.{with_pixels}}
+use Rattle.jbig2_base.specs.{Grid.{Grid}, Writes.{with_pixels}}
 use Rattle.jbig2_coder.specs.Coder.{Coder, Context}
 use Rattle.jbig2_region.specs.{inner.{Neighbours.{DecodesPixels, IsLeft, Shows, ShowsGroup, ShowsRun, nominal_pixels}, RowCounts.{CountsRuns}}, declared.{generic_kernel.windows.{WideWindows.{WideWindows}, Windows.{Windows}}, template.neighbours.Neighbours.{Neighbours}}}
 

@@ -1,7 +1,7 @@
 -- What the code holds in the middle of a block of a row, before the block is stored: of a refinement, or where pixels are
 -- skipped (our own rule).
 use Rattle.std.specs.Prelude.{◌≡◌, ℕ, ◌+◌, ◌*◌, ◌^◌, ◌<◌, ◌≤◌, Bool, false, List}
-use Rattle.jbig2_base.specs.{Counts.{Counts}, Grid.{Grid}, inner.Writes.{with_pixels}}
+use Rattle.jbig2_base.specs.{Counts.{Counts}, Grid.{Grid}, Writes.{with_pixels}}
 use Rattle.jbig2_coder.specs.Coder.{Coder, Context}
 use Rattle.jbig2_region.specs.{Raster.{Coding}, Refinement.{Reference, refinement_coding}, inner.{Codes.{Codes, CountsCodes}, Neighbours.{IsLeft}, RefinementWindows.{SeesRows, corners}}, declared.{refinement_kernel.windows.RefinementWindows.{RefinementWindows}, template.RefinementTemplate.{RefinementTemplate}}}
 

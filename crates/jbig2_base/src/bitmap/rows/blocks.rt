@@ -2,13 +2,14 @@
 //! one word of the source.
 ghost use Rattle.std.specs.Prelude.{◌≡◌, ℕ, ◌+◌, ◌-◌, ◌*◌, ◌/◌, ◌%◌, ◌<◌, ◌≤◌, if◌then◌else◌};
 ghost use Rattle.jbig2_base.specs.Combination.{combined_pixel};
-ghost use Rattle.jbig2_base.specs.inner.Blocks.{with_run};
+ghost use Rattle.jbig2_base.specs.Blocks.{with_run};
 ghost use Rattle.jbig2_base.specs.inner.Combines.{IsBlockOnBoth, CombinesBlockOfWords, IsLineOnBoth, CombinesLine};
 ghost use Rattle.jbig2_base.specs.inner.Layouts.{IsLaid};
 ghost use Rattle.jbig2_base.specs.inner.Shapes.{HasShape, grid_in};
 ghost use Rattle.jbig2_base.specs.Bits.{bit};
 
 use crate::bitmap::operator::CombinationOperator;
+use crate::bitmap::rows::words::{Words, WordsMut};
 use crate::bitmap::steps::Steps;
 use std::sync::ledger::Ledger;
 
@@ -34,7 +35,7 @@ pub struct Shape {
 /// The words of a source, and how its rows lie in them.
 #[derive(Clone, Copy)]
 pub struct Source<'a> {
-    pub words: &'a [u64],
+    pub words: Words<'a>,
     pub shape: Shape,
 }
 
@@ -72,18 +73,19 @@ struct Run {
 /// source, or begins at the same place of a word in both and takes two words or more.
 #[inline(always)]
 pub fn combine_rows<L: Ledger>(
-    words: &mut [u64],
+    words: &mut WordsMut<'_>,
     shape: Shape,
     source: Source,
     operator: CombinationOperator,
     block: Block,
     steps: &mut Steps<L>,
 )
-    requires inside { IsBlockOnBoth shape words.old source block }
+    requires inside { IsBlockOnBoth shape words.old.words.now source.shape source.words.words.now block }
     requires aligned { block.from / 64 < (block.from + block.columns - 1) / 64
         → block.left % 64 ≡ block.from % 64 }
-    ensures { CombinesBlockOfWords operator shape words.old source.entry block words.new steps.old
-        steps.new }
+    ensures same_reference { words.new.words.ghost_name ≡ words.old.words.ghost_name }
+    ensures combines { CombinesBlockOfWords operator shape words.old.words.now source.entry.shape
+        source.entry.words.words.now block words.new.words.now steps.old steps.new }
 {
     // A call of its own for each layout, so that each has a loop of its own.
     if block.from / 64 != (block.from + block.columns - 1) / 64 {
@@ -107,17 +109,18 @@ pub fn combine_rows<L: Ledger>(
 #[inline(always)]
 fn combine_laid<L: Ledger>(
     layout: Layout,
-    words: &mut [u64],
+    words: &mut WordsMut<'_>,
     shape: Shape,
     source: Source,
     operator: CombinationOperator,
     block: Block,
     steps: &mut Steps<L>,
 )
-    requires inside { IsBlockOnBoth shape words.old source block }
+    requires inside { IsBlockOnBoth shape words.old.words.now source.shape source.words.words.now block }
     requires laid { IsLaid layout block.left block.columns block.from }
-    ensures { CombinesBlockOfWords operator shape words.old source.entry block words.new steps.old
-        steps.new }
+    ensures same_reference { words.new.words.ghost_name ≡ words.old.words.ghost_name }
+    ensures combines { CombinesBlockOfWords operator shape words.old.words.now source.entry.shape
+        source.entry.words.words.now block words.new.words.now steps.old steps.new }
 {
     for row in 0..block.rows {
         let line = Line {
@@ -135,17 +138,18 @@ fn combine_laid<L: Ledger>(
 #[inline(always)]
 fn combine_line<L: Ledger>(
     layout: Layout,
-    words: &mut [u64],
+    words: &mut WordsMut<'_>,
     shape: Shape,
     source: Source,
     operator: CombinationOperator,
     line: Line,
     steps: &mut Steps<L>,
 )
-    requires inside { IsLineOnBoth shape words.old source line }
+    requires inside { IsLineOnBoth shape words.old.words.now source.shape source.words.words.now line }
     requires laid { IsLaid layout line.left line.columns line.from }
-    ensures { CombinesLine operator shape words.old source.entry line words.new steps.old
-        steps.new }
+    ensures same_reference { words.new.words.ghost_name ≡ words.old.words.ghost_name }
+    ensures combines { CombinesLine operator shape words.old.words.now source.entry.shape
+        source.entry.words.words.now line words.new.words.now steps.old steps.new }
 {
     match layout {
         Layout::Near => near_row(words, shape, source, operator, line, steps),
@@ -157,22 +161,22 @@ fn combine_line<L: Ledger>(
 /// Combines a row that lies in one word of the source and in one of the page.
 #[inline(always)]
 fn near_row<L: Ledger>(
-    words: &mut [u64],
+    words: &mut WordsMut<'_>,
     shape: Shape,
     source: Source,
     operator: CombinationOperator,
     line: Line,
     steps: &mut Steps<L>,
 )
-    requires inside { IsLineOnBoth shape words.old source line }
+    requires inside { IsLineOnBoth shape words.old.words.now source.shape source.words.words.now line }
     requires one_word { line.from / 64 ≡ (line.from + line.columns - 1) / 64 }
     requires near { line.left % 64 + line.columns ≤ 64 }
-    ensures { CombinesLine operator shape words.old source.entry line words.new steps.old
-        steps.new }
+    ensures same_reference { words.new.words.ghost_name ≡ words.old.words.ghost_name }
+    ensures combines { CombinesLine operator shape words.old.words.now source.entry.shape
+        source.entry.words.words.now line words.new.words.now steps.old steps.new }
 {
-    steps.load();
     let from = line.from_y * source.shape.stride + (line.from / 64) as usize;
-    let bits = source.words[from] << (line.from % 64);
+    let bits = source.words.load(from, steps) << (line.from % 64);
     let offset = line.left % 64;
     let run = Run {
         y: line.y,
@@ -186,21 +190,21 @@ fn near_row<L: Ledger>(
 /// Combines a row that lies in one word of the source.
 #[inline(always)]
 fn narrow_row<L: Ledger>(
-    words: &mut [u64],
+    words: &mut WordsMut<'_>,
     shape: Shape,
     source: Source,
     operator: CombinationOperator,
     line: Line,
     steps: &mut Steps<L>,
 )
-    requires inside { IsLineOnBoth shape words.old source line }
+    requires inside { IsLineOnBoth shape words.old.words.now source.shape source.words.words.now line }
     requires one_word { line.from / 64 ≡ (line.from + line.columns - 1) / 64 }
-    ensures { CombinesLine operator shape words.old source.entry line words.new steps.old
-        steps.new }
+    ensures same_reference { words.new.words.ghost_name ≡ words.old.words.ghost_name }
+    ensures combines { CombinesLine operator shape words.old.words.now source.entry.shape
+        source.entry.words.words.now line words.new.words.now steps.old steps.new }
 {
-    steps.load();
     let from = line.from_y * source.shape.stride + (line.from / 64) as usize;
-    let bits = source.words[from] << (line.from % 64);
+    let bits = source.words.load(from, steps) << (line.from % 64);
     let offset = line.left % 64;
     let near = line.columns.min(64 - offset);
     let first = Run {
@@ -225,18 +229,19 @@ fn narrow_row<L: Ledger>(
 /// Combines a row that begins at the same place of a word in page and source, of two words or more.
 #[inline(always)]
 fn aligned_row<L: Ledger>(
-    words: &mut [u64],
+    words: &mut WordsMut<'_>,
     shape: Shape,
     source: Source,
     operator: CombinationOperator,
     line: Line,
     steps: &mut Steps<L>,
 )
-    requires inside { IsLineOnBoth shape words.old source line }
+    requires inside { IsLineOnBoth shape words.old.words.now source.shape source.words.words.now line }
     requires aligned { line.left % 64 ≡ line.from % 64 }
     requires wide { line.left / 64 < (line.left + line.columns - 1) / 64 }
-    ensures { CombinesLine operator shape words.old source.entry line words.new steps.old
-        steps.new }
+    ensures same_reference { words.new.words.ghost_name ≡ words.old.words.ghost_name }
+    ensures combines { CombinesLine operator shape words.old.words.now source.entry.shape
+        source.entry.words.words.now line words.new.words.now steps.old steps.new }
 {
     let offset = line.left % 64;
     let first = (line.left / 64) as usize;
@@ -248,8 +253,8 @@ fn aligned_row<L: Ledger>(
         offset,
         count: 64 - offset,
     };
-    steps.load();
-    combine_run(words, shape, operator, begin, source.words[from], steps);
+    let bits = source.words.load(from, steps);
+    combine_run(words, shape, operator, begin, bits, steps);
     for word in first + 1..last {
         let whole = Run {
             y: line.y,
@@ -257,8 +262,7 @@ fn aligned_row<L: Ledger>(
             offset: 0,
             count: 64,
         };
-        let bits = source.words[from + (word - first)];
-        steps.load();
+        let bits = source.words.load(from + (word - first), steps);
         combine_run(words, shape, operator, whole, bits, steps);
     }
     let end = Run {
@@ -267,38 +271,37 @@ fn aligned_row<L: Ledger>(
         offset: 0,
         count: (line.left + line.columns - 1) % 64 + 1,
     };
-    let bits = source.words[from + (last - first)];
-    steps.load();
+    let bits = source.words.load(from + (last - first), steps);
     combine_run(words, shape, operator, end, bits, steps);
 }
 
 /// Combines the pixels of a run with those at the same places of `bits`.
 #[inline(always)]
 fn combine_run<L: Ledger>(
-    words: &mut [u64],
+    words: &mut WordsMut<'_>,
     shape: Shape,
     operator: CombinationOperator,
     run: Run,
     bits: u64,
     steps: &mut Steps<L>,
 )
-    requires packed { HasShape shape words.old }
+    requires packed { HasShape shape words.old.words.now }
     requires some { 1 ≤ run.count }
     requires one_word { run.offset + run.count ≤ 64 }
     requires right { 64 * run.word + run.offset + run.count ≤ shape.width }
     requires row { run.y < shape.height }
-    ensures packed { HasShape shape words.new }
-    ensures value { grid_in shape words.new
-        ≡ with_run operator (grid_in shape words.old) (64 * run.word + run.offset) run.y run.count
+    ensures same_reference { words.new.words.ghost_name ≡ words.old.words.ghost_name }
+    ensures packed { HasShape shape words.new.words.now }
+    ensures value { grid_in shape words.new.words.now
+        ≡ with_run operator (grid_in shape words.old.words.now) (64 * run.word + run.offset) run.y run.count
         (λ i. bit bits (63 - i % 64)) }
     ensures steps { steps.new
         ≡ record steps.old { loads = steps.old.loads + 1; words = steps.old.words + 1 } }
 {
-    steps.load();
-    steps.word();
     let place = run.y * shape.stride + run.word;
     let mask = (u64::MAX >> (64 - run.count)) << (64 - run.offset - run.count);
-    words[place] = combined_word(operator, words[place], bits, mask);
+    let page = words.load(place, steps);
+    words.write(place, combined_word(operator, page, bits, mask), steps);
 }
 
 /// What `operator` makes of each bit of `page` that is set in `mask`.

@@ -1,7 +1,9 @@
-use Rattle.std.proofs.Common.{◌≡◌, ℕ, ◌*◌, List, length, sym, ap, subst, ◌∙◌, arith}
+use Rattle.std.proofs.Common.{◌≡◌, ℕ, ◌*◌, ◌++◌, Bool, false, List, length, take, drop, Result, Ok, refl, sym, ap, subst, ◌∙◌, arith, rules}
+use Rattle.std.proofs.Math.Seq.{take-append_seam}
 use Rattle.std.specs.List.{All}
 use Rattle.jbig2_base.specs.Grid.{Grid}
-use Rattle.jbig2_halftone.specs.GrayScale.{GrayScale}
+use Rattle.jbig2_base.specs.declared.error.DecodeError.{DecodeError}
+use Rattle.jbig2_halftone.specs.GrayScale.{GrayScale, gray_scale_image, gray_values, image_is_too_large, planes_of}
 use Rattle.jbig2_halftone.specs.inner.HalftoneViews.{gray_view}
 use Rattle.jbig2_halftone.specs.inner.Stages.{after_lane_rows}
 use Rattle.jbig2_halftone.proofs.GrayCounts.{image-lanes, no-lane-rows}
@@ -35,3 +37,20 @@ returns-clause-no_planes g c = λ none.
     let p : GrayScale = gray_view c.args.params.now in
     let many : length c.deref.result.now ≡ p.bits_per_pixel = ap (λ (ps : List Grid). length ps) c.deref.ensures.value ∙ (planes-sized p c.args.bytes.now c.in_ok-planes.planes.items c.in_ok-planes.ensures.value).many in
     no-lane-rows p.height (length c.deref.result.now) p.width c.read_planes.new.steps c.gray_rows.new.steps (many ∙ none) c.gray_rows.ensures.steps ∙ c.in_ok-planes.ensures.no_planes none
+
+image-read : (p : GrayScale) (bytes : List ℕ) (planes : List Grid) → image_is_too_large p ≡ false → planes_of p bytes ≡ Ok planes → gray_scale_image p bytes ≡ Ok (gray_values p.width p.height planes)
+unfolding gray_scale_image
+image-read p bytes planes fits read = rw (fits, read) refl
+
+-- the values that are written fill the vector
+filled-whole : (values items : List ℕ) (n : ℕ) → length values ≡ n → values ≡ take n (values ++ drop (length values) items)
+filled-whole values items n sized = sym (take-append_seam values (drop (length values) items)) ∙ ap (λ (k : ℕ). take k (values ++ drop (length values) items)) sized
+
+pub returns-clause-value : goal.returns-clause-value
+returns-clause-value g c =
+    let p : GrayScale = gray_view c.args.params.now in
+    let fits : image_is_too_large p ≡ false = search rules in
+    let read : planes_of p c.args.bytes.now ≡ Ok c.deref.result.now = search rules in
+    let sized : length c.gray_rows.new.values ≡ c.in_ok-values.values.len = search rules in
+    image-read p c.args.bytes.now c.deref.result.now fits read
+    ∙ ap (λ (values : List ℕ). (let all : Result (List ℕ) DecodeError = Ok values in all)) (sym c.gray_rows.ensures.value ∙ filled-whole c.gray_rows.new.values c.in_ok-values.values.items c.in_ok-values.values.len sized)

@@ -9,4 +9,4 @@ pub returns : goal.returns
 returns g c =
     subst (λ (meant : Result Grid DecodeError). Gives (λ (pattern : Grid). pattern) c.part.result meant)
     (part-fits c.args.collective.now _ c.requires.columns c.requires.rows)
-    c.part.ensures
+    c.part.ensures.value

@@ -2,7 +2,7 @@ use Rattle.std.proofs.Common.{◌+◌, rules, arith, length, get_or, ◌≡◌, 
 use Rattle.std.proofs.lemmas.List.{get_or_default}
 use Rattle.jbig2_base.specs.Counts.{Counts}
 use Rattle.jbig2_base.specs.Grid.{Grid}
-use Rattle.jbig2_base.specs.inner.Writes.{with_pixel}
+use Rattle.jbig2_base.specs.Writes.{with_pixel}
 use Rattle.jbig2_coder.specs.Coder.{Coder, fresh}
 use Rattle.jbig2_region.proofs.CodesLemmas.{pixel-known, pixel-decided, pixel-counts}
 use Rattle.jbig2_region.proofs.RasterLemmas.{digit-colour}

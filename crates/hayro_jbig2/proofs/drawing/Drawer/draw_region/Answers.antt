@@ -1,15 +1,25 @@
-use Rattle.std.proofs.Common.{false}
+use Rattle.std.proofs.Common.{◌≡◌, ℕ, false, Result, ap, arith}
 use Rattle.jbig2_base.specs.inner.SegmentViews.{segment_view}
-use Rattle.hayro_jbig2.specs.Page.{immediate, region_at}
+use Rattle.jbig2_base.specs.declared.error.DecodeError.{DecodeError}
+use Rattle.hayro_jbig2.specs.Page.{Drawing, immediate, region_at, shown}
+use Rattle.hayro_jbig2.specs.declared.passed_over.PassedOver.{PassedOver}
 use Rattle.hayro_jbig2.proofs.Direct.{drawn-either, passed}
 use Rattle.hayro_jbig2.proofs.drawing.Drawer.draw_region.Goals as goal
 
 pub returns-in-Ok : goal.returns-in-Ok
 unfolding immediate
-returns-in-Ok g c = drawn-either c.args.self.now.strict c.args.context.now c.show_region.new.context (region_at c.args.self.now.strict c.args.self.now.globals.now c.args.kind false (segment_view c.args.segment.now) c.args.context.now) c.in-Ok.ensures.value
+returns-in-Ok g c =
+    let d : Drawing = c.args.context.now in
+    let meant : Result Drawing DecodeError = shown d (region_at c.args.self.now.strict c.args.self.now.globals.now c.args.kind false (segment_view c.args.segment.now) d) in
+    drawn-either c.args.self.now.strict c.args.segment.now.header.segment_number d c.show_region.new.context meant c.in-Ok.ensures.value
 
 pub returns-in-Err : goal.returns-in-Err
 unfolding immediate
 returns-in-Err g c =
-    passed c.args.self.now.strict c.args.context.now c.show_region.new.context c.pass_over.new.context (region_at c.args.self.now.strict c.args.self.now.globals.now c.args.kind false (segment_view c.args.segment.now) c.args.context.now) c.in-Err.error _
+    let d : Drawing = c.args.context.now in
+    let meant : Result Drawing DecodeError = shown d (region_at c.args.self.now.strict c.args.self.now.globals.now c.args.kind false (segment_view c.args.segment.now) d) in
+    passed c.args.self.now.strict c.args.segment.now.header.segment_number d c.show_region.new.context c.pass_over.new.context meant c.in-Err.error _
     c.in-Err.ensures.value c.in-Err.ensures.err c.pass_over.ensures.memory c.pass_over.ensures.value
+
+pub pass_over-requires : goal.pass_over-requires
+pass_over-requires g c = omega (arith, c.requires, ap (λ (p : PassedOver). p.count) c.in-Err.ensures.passed)

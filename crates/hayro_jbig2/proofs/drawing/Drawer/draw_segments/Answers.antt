@@ -1,11 +1,14 @@
-use Rattle.std.proofs.Common.{◌≡◌, ℕ, ◌+◌, ◌<◌, Bool, true, false, List, length, drop, get_or, Ok, inl, inr, ⊎_elim, sym, ap, ◌∙◌, arith}
+use Rattle.std.proofs.Common.{◌≡◌, ℕ, ◌+◌, ◌<◌, ◌≤◌, Bool, true, false, List, length, drop, get_or, Result, Ok, inl, inr, ⊎_elim, sym, ap, subst, ◌∙◌, arith}
+use Rattle.std.specs.Prelude.{IfOk}
 use Rattle.std.proofs.lemmas.Bool.{cond-false, cond-true}
 use Rattle.jbig2_base.specs.Answer.{◌>>=◌}
 use Rattle.jbig2_base.specs.inner.SegmentViews.{segment_view, segment_views}
+use Rattle.jbig2_base.specs.declared.error.DecodeError.{DecodeError}
 use Rattle.jbig2_base.specs.declared.error.DecodeError.TheVariants.{OutOfMemory}
 use Rattle.jbig2_base.specs.declared.segment.Segment.{Segment}
 use Rattle.hayro_jbig2.specs.Names.{Names}
 use Rattle.hayro_jbig2.specs.Page.{Drawing, ends_page, segment_on, segments_drawn}
+use Rattle.hayro_jbig2.proofs.DrawingSteps.{counts-on}
 use Rattle.hayro_jbig2.proofs.LeftLemmas.{left-first}
 use Rattle.hayro_jbig2.proofs.drawing.Drawer.draw_segments.Goals as goal
 
@@ -23,14 +26,21 @@ drawn-end strict globals segments i segment d inside is ends =
 pub loop-segment-preserved : goal.loop-segment-preserved
 loop-segment-preserved g c =
     let i = c.loop-segment.segment-index in
-    sym
-    (drawn-first c.args.self.now.strict c.args.self.now.globals.now c.args.segments.now i c.segment-item.result c.loop-segment.context (omega arith) c.segment-item.is (sym c.ends_page.ensures ∙ c.if-ends_page.false)
-    ∙ ap (λ drawn. drawn >>= λ e. segments_drawn c.args.self.now.strict c.args.self.now.globals.now (segment_views (drop (i + 1) c.args.segments.now)) e) c.in-Ok.ensures)
-    ∙ c.loop-segment.invariant
+    let more : c.draw_segment.new.context.passed_over.count ≤ c.loop-segment.context.passed_over.count + 1 =
+    subst (λ (r : Result Drawing DecodeError). IfOk r (λ e. e.passed_over.count ≤ c.loop-segment.context.passed_over.count + 1)) c.in-Ok.ensures
+    (counts-on c.args.self.now.strict c.args.self.now.globals.now (segment_view c.segment-item.result) c.loop-segment.context) in
+    record {
+      drawn =
+          sym
+          (drawn-first c.args.self.now.strict c.args.self.now.globals.now c.args.segments.now i c.segment-item.result c.loop-segment.context (omega arith) c.segment-item.is (sym c.ends_page.ensures ∙ c.if-ends_page.false)
+          ∙ ap (λ drawn. drawn >>= λ e. segments_drawn c.args.self.now.strict c.args.self.now.globals.now (segment_views (drop (i + 1) c.args.segments.now)) e) c.in-Ok.ensures)
+          ∙ c.loop-segment.invariant.drawn;
+      few = omega (arith, more, c.loop-segment.invariant.few);
+    }
 
 pub returns-then-ends_page : goal.returns-then-ends_page
 returns-then-ends_page g c =
-    sym c.loop-segment.invariant
+    sym c.loop-segment.invariant.drawn
     ∙ drawn-end c.args.self.now.strict c.args.self.now.globals.now c.args.segments.now c.loop-segment.segment-index c.segment-item.result c.loop-segment.context (omega arith) c.segment-item.is (sym c.ends_page.ensures ∙ c.if-ends_page.true)
 
 pub returns-in-Err : goal.returns-in-Err
@@ -40,7 +50,7 @@ returns-in-Err g c =
     (λ (memory : c.in-Err.error ≡ OutOfMemory). inl memory)
     (λ refused.
     inr
-    (sym c.loop-segment.invariant
+    (sym c.loop-segment.invariant.drawn
     ∙ drawn-first c.args.self.now.strict c.args.self.now.globals.now c.args.segments.now i c.segment-item.result c.loop-segment.context (omega arith) c.segment-item.is (sym c.ends_page.ensures ∙ c.if-ends_page.false)
     ∙ ap (λ drawn. drawn >>= λ e. segments_drawn c.args.self.now.strict c.args.self.now.globals.now (segment_views (drop (i + 1) c.args.segments.now)) e) refused))
     c.in-Err.ensures

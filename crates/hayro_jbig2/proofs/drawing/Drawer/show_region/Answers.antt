@@ -1,4 +1,4 @@
-use Rattle.std.proofs.Common.{◌≡◌, true, false, Ok, Result, sym, ap, ◌∙◌, subst}
+use Rattle.std.proofs.Common.{◌≡◌, true, false, Ok, Result, refl, sym, ap, ◌∙◌, subst}
 use Rattle.std.proofs.lemmas.Result.{err_from_is_err_and}
 use Rattle.jbig2_base.specs.Answer.{Gives}
 use Rattle.jbig2_base.specs.Grid.{Grid}
@@ -8,9 +8,9 @@ use Rattle.jbig2_region.specs.inner.RegionViews.{region_view}
 use Rattle.jbig2_base.specs.declared.error.DecodeError.{DecodeError}
 use Rattle.hayro_jbig2.specs.Page.{Drawing, region_at, shown}
 use Rattle.hayro_jbig2.specs.inner.KeptViews.{seen}
-use Rattle.hayro_jbig2.specs.inner.Parsed.{apart, info_of, initial_of}
+use Rattle.hayro_jbig2.specs.inner.Parsed.{apart, drawing_of, info_of, initial_of}
 use Rattle.hayro_jbig2.specs.inner.Whole.{IsBegun, IsWhole}
-use Rattle.hayro_jbig2.proofs.Direct.{combined-shown, led, led-to, left-as-was, shown-refused, whole-gives}
+use Rattle.hayro_jbig2.proofs.Direct.{combined-shown, led, led-to, left-as-was, refused-too, shown-refused, whole-gives}
 use Rattle.hayro_jbig2.proofs.drawing.Drawer.show_region.Goals as goal
 
 pub returns-in_err-region-clause-value : goal.returns-in_err-region-clause-value
@@ -18,29 +18,39 @@ returns-in_err-region-clause-value g c =
     let d : Drawing = c.args.context.now in
     let e = err_from_is_err_and c.from_residual-in_err-region.result c.from_residual-in_err-region.ensures.1 in
     let meant : Result PlacedRegion DecodeError = region_at c.args.self.now.strict c.args.self.now.globals.now c.args.kind false (segment_view c.args.segment.now) d in
-    let leads : meant ≡ apart c.in_ok-parsed.parsed = led c.references-references.result c.args.self.now.strict c.args.self.now.globals.now c.args.kind false (segment_view c.args.segment.now) c.context.inside.bitmap c.deref.result.now c.context.inside.regions.items c.context.inside.names c.context.inside.untouched d (apart c.in_ok-parsed.parsed) c.references-references.ensures.strict c.references-references.ensures.globals c.references-references.ensures.drawing c.deref.ensures.value c.context.view_is c.in_ok-parsed.ensures.value in
+    let leads : meant ≡ apart c.in_ok-parsed.parsed = led c.references-references.result c.args.self.now.strict c.args.self.now.globals.now c.args.kind false (segment_view c.args.segment.now) c.context.inside.bitmap c.deref.result.now c.context.inside.regions.items c.context.inside.names c.context.inside.untouched c.context.inside.passed_over d (apart c.in_ok-parsed.parsed) c.references-references.ensures.strict c.references-references.ensures.globals c.references-references.ensures.drawing c.deref.ensures.value c.context.view_is c.in_ok-parsed.ensures.value in
     rw (e.1, e.2) (shown-refused d meant c.in_err-region.field-0.0 (led-to c.in_ok-parsed.parsed meant c.in_err-region.field-0.0 leads c.in_err-region.ensures))
 
 pub returns-clause-value : goal.returns-clause-value
 returns-clause-value g c =
     let d : Drawing = c.args.context.now in
     let meant : Result PlacedRegion DecodeError = region_at c.args.self.now.strict c.args.self.now.globals.now c.args.kind false (segment_view c.args.segment.now) d in
-    let leads : meant ≡ apart c.in_ok-parsed.parsed = led c.references-references.result c.args.self.now.strict c.args.self.now.globals.now c.args.kind false (segment_view c.args.segment.now) c.context.inside.bitmap c.deref.result.now c.context.inside.regions.items c.context.inside.names c.context.inside.untouched d (apart c.in_ok-parsed.parsed) c.references-references.ensures.strict c.references-references.ensures.globals c.references-references.ensures.drawing c.deref.ensures.value c.context.view_is c.in_ok-parsed.ensures.value in
-    let drawn : Ok c.combine.new.self ≡ shown true d (Ok (region_view c.in_ok-region.region)) = c.combine.ensures ∙ ap (λ (b : Drawing). shown true b (Ok (region_view c.in_ok-region.region))) c.context.view_is in
+    let leads : meant ≡ apart c.in_ok-parsed.parsed = led c.references-references.result c.args.self.now.strict c.args.self.now.globals.now c.args.kind false (segment_view c.args.segment.now) c.context.inside.bitmap c.deref.result.now c.context.inside.regions.items c.context.inside.names c.context.inside.untouched c.context.inside.passed_over d (apart c.in_ok-parsed.parsed) c.references-references.ensures.strict c.references-references.ensures.globals c.references-references.ensures.drawing c.deref.ensures.value c.context.view_is c.in_ok-parsed.ensures.value in
+    let drawn : Ok c.combine.new.self ≡ shown d (Ok (region_view c.in_ok-region.region)) = c.combine.ensures ∙ ap (λ (b : Drawing). shown b (Ok (region_view c.in_ok-region.region))) c.context.view_is in
     combined-shown c.in_ok-parsed.parsed meant d c.combine.new.self (region_view c.in_ok-region.region) leads c.in_ok-region.ensures drawn
 
 pub returns-then-makes_up-clause-value : goal.returns-then-makes_up-clause-value
 returns-then-makes_up-clause-value g c =
     let d : Drawing = c.args.context.now in
-    let inside : Drawing = record { grid = c.context.inside.bitmap; regions = seen region_view c.context.inside.regions.items; names = c.context.inside.names; untouched = c.context.inside.untouched } in
+    let inside : Drawing = record { grid = c.context.inside.bitmap; regions = seen region_view c.context.inside.regions.items; names = c.context.inside.names; untouched = c.context.inside.untouched; passed_over = c.context.inside.passed_over } in
     let meant : Result PlacedRegion DecodeError = region_at c.args.self.now.strict c.args.self.now.globals.now c.args.kind false (segment_view c.args.segment.now) d in
-    let leads : meant ≡ apart c.in_ok-parsed.parsed = led c.references-references.result c.args.self.now.strict c.args.self.now.globals.now c.args.kind false (segment_view c.args.segment.now) c.context.inside.bitmap c.deref.result.now c.context.inside.regions.items c.context.inside.names c.context.inside.untouched d (apart c.in_ok-parsed.parsed) c.references-references.ensures.strict c.references-references.ensures.globals c.references-references.ensures.drawing c.deref.ensures.value c.context.view_is c.in_ok-parsed.ensures.value in
+    let leads : meant ≡ apart c.in_ok-parsed.parsed = led c.references-references.result c.args.self.now.strict c.args.self.now.globals.now c.args.kind false (segment_view c.args.segment.now) c.context.inside.bitmap c.deref.result.now c.context.inside.regions.items c.context.inside.names c.context.inside.untouched c.context.inside.passed_over d (apart c.in_ok-parsed.parsed) c.references-references.ensures.strict c.references-references.ensures.globals c.references-references.ensures.drawing c.deref.ensures.value c.context.view_is c.in_ok-parsed.ensures.value in
     let begun : IsBegun false c.context.inside.bitmap = subst (λ (p : Grid). IsBegun false p) (sym (ap (λ (b : Drawing). b.grid) c.context.view_is)) (c.is_white-is_white.ensures c.if-is_white.true) in
     let whole : IsWhole (info_of c.in_ok-parsed.parsed) (initial_of c.in_ok-parsed.parsed) c.context.inside.bitmap = c.makes_up.ensures c.if-makes_up.true begun in
-    subst (λ (b : Drawing). Gives (λ _. record inside { grid = c.decode_onto.new.page; untouched = false }) c.decode_onto.result (shown true b meant)) c.context.view_is
+    subst (λ (b : Drawing). Gives (λ _. record inside { grid = c.decode_onto.new.page; untouched = false }) c.decode_onto.result (shown b meant)) c.context.view_is
     (whole-gives c.in_ok-parsed.parsed meant inside c.decode_onto.new.page c.decode_onto.result whole leads c.decode_onto.ensures.value)
 
 pub returns-then-makes_up-clause-err : goal.returns-then-makes_up-clause-err
 returns-then-makes_up-clause-err g c =
-    let inside : Drawing = record { grid = c.context.inside.bitmap; regions = seen region_view c.context.inside.regions.items; names = c.context.inside.names; untouched = c.context.inside.untouched } in
+    let inside : Drawing = record { grid = c.context.inside.bitmap; regions = seen region_view c.context.inside.regions.items; names = c.context.inside.names; untouched = c.context.inside.untouched; passed_over = c.context.inside.passed_over } in
     left-as-was inside c.args.context.now c.decode_onto.new.page c.decode_onto.result c.context.view_is c.decode_onto.ensures.err
+
+pub returns-in_err-parsed-clause-value : goal.returns-in_err-parsed-clause-value
+returns-in_err-parsed-clause-value g c =
+    let d : Drawing = c.args.context.now in
+    let e = err_from_is_err_and c.from_residual.result c.from_residual.ensures.1 in
+    let r = c.references-references.result in
+    let meant : Result PlacedRegion DecodeError = region_at c.args.self.now.strict c.args.self.now.globals.now c.args.kind false (segment_view c.args.segment.now) d in
+    let other : Result PlacedRegion DecodeError = region_at r.names.strict r.names.globals.now c.args.kind false (segment_view c.args.segment.now) (drawing_of r) in
+    let same : meant ≡ other = led r c.args.self.now.strict c.args.self.now.globals.now c.args.kind false (segment_view c.args.segment.now) c.context.inside.bitmap c.deref.result.now c.context.inside.regions.items c.context.inside.names c.context.inside.untouched c.context.inside.passed_over d other c.references-references.ensures.strict c.references-references.ensures.globals c.references-references.ensures.drawing c.deref.ensures.value c.context.view_is refl in
+    rw (e.1, e.2) (shown-refused d meant c.in_err-parsed.field-0.0 (refused-too meant other c.in_err-parsed.field-0.0 same c.in_err-parsed.ensures.value))

@@ -1,3 +1,4 @@
+use Rattle.hayro_jbig2.proofs.Chunks.{calls-few, chunks-fit}
 use Rattle.hayro_jbig2.proofs.Direct.{combined-over}
 use Rattle.hayro_jbig2.proofs.PageCauses.{page_causes}
 use Rattle.hayro_jbig2.proofs.Spelling.{spells}
@@ -15,3 +16,9 @@ returns-clause-untouched g c = untouched-blank
 
 pub returns-clause-causes : goal.returns-clause-causes
 returns-clause-causes g c = page_causes
+
+pub returns-clause-chunks : goal.returns-clause-chunks
+returns-clause-chunks g c = chunks-fit
+
+pub returns-clause-few : goal.returns-clause-few
+returns-clause-few g c = calls-few

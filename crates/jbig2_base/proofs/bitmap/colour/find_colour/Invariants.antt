@@ -1,4 +1,5 @@
-use Rattle.std.proofs.Common.{◌≡◌, ℕ, ◌-◌, ◌<◌, ◌≤◌, not}
+use Rattle.std.proofs.Common.{◌≡◌, ℕ, ◌+◌, ◌-◌, ◌/◌, ◌%◌, ◌<◌, ◌≤◌, not}
+use Rattle.jbig2_base.specs.Counts.{words_loaded}
 use Rattle.jbig2_base.specs.Grid.{pixel_at}
 use Rattle.jbig2_base.proofs.bitmap.colour.find_colour.Given as goal
 
@@ -7,6 +8,8 @@ invariant-loop-x g l = record {
   begun : l.from ≤ l.x;
   within : l.x ≤ l.width;
   before : (x : ℕ) → l.from ≤ x → x < l.x → pixel_at l.bitmap x l.y ≡ not l.black;
+  whole : l.x < l.width → (l.x - l.from) % 64 ≡ 0;
+  steps : l.steps ≡ words_loaded ((l.x - l.from + 63) / 64) l.fn.steps;
 }
 
 abbrev pub decreases-loop-x : goal.decreases-loop-x

@@ -22,8 +22,8 @@ loop-group-preserved g c =
           subst (λ (k : ℕ). TakenTo c.args.plane.now c.args.y k c.args.values.now (put_chunk x c.loop-group.values c.next_group.result)) next
           (row-group c.args.plane.now c.args.y x c.load_pixels-byte.result c.args.values.now c.loop-group.values c.next_group.result (omega arith) c.next_group.ensures.lanes c.next_group.ensures.value c.load_pixels-byte.ensures.bits c.loop-group.invariant.taken);
       counts =
-          lanes-group c.loop-group.group c.args.steps.now c.loop-group.steps c.group.new.self c.loop-group.invariant.counts
-          (c.group.ensures ∙ ap (λ (s : Counts). record s { groups = s.groups + 1 }) c.load_pixels-byte.ensures.steps);
+          lanes-group c.loop-group.group c.args.steps.now c.loop-group.steps c.next_group.new.steps c.loop-group.invariant.counts
+          (c.next_group.ensures.steps ∙ ap (λ (s : Counts). record s { groups = s.groups + 1 }) c.load_pixels-byte.ensures.steps);
     }
 
 pub loop-x-init : goal.loop-x-init
@@ -35,13 +35,13 @@ loop-x-init g c =
       counts = rw none (subst (λ (n : ℕ). c.loop-group.steps ≡ lanes_to n 0 c.args.steps.now) all c.loop-group.invariant.counts);
     }
 
-pub next_value-requires : goal.next_value-requires
-next_value-requires g c = rw (c.loop-x.invariant.taken.others c.loop-x.x (omega arith)) (c.requires.small c.loop-x.x 0 (omega arith))
+pub next_pixel-requires : goal.next_pixel-requires
+next_pixel-requires g c = rw (c.loop-x.invariant.taken.others c.loop-x.x (omega arith)) (c.requires.small c.loop-x.x 0 (omega arith))
 
 pub loop-x-preserved : goal.loop-x-preserved
 loop-x-preserved g c = record {
-  taken = row-pixel c.args.plane.now c.args.y c.loop-x.x c.next_value.result c.args.values.now c.loop-x.values (omega arith) (c.next_value.ensures ∙ ap (λ (b : Bool). next_value (get_or c.loop-x.values c.loop-x.x 0) b) (black-of (pixel_at c.args.plane.now c.loop-x.x c.args.y) c.get_pixel-black.result c.get_pixel-black.ensures.value)) c.loop-x.invariant.taken;
+  taken = row-pixel c.args.plane.now c.args.y c.loop-x.x c.next_pixel.result c.args.values.now c.loop-x.values (omega arith) (c.next_pixel.ensures.value ∙ ap (λ (b : Bool). next_value (get_or c.loop-x.values c.loop-x.x 0) b) (black-of (pixel_at c.args.plane.now c.loop-x.x c.args.y) c.get_pixel-black.result c.get_pixel-black.ensures.value)) c.loop-x.invariant.taken;
   counts =
-      lanes-pixel (c.width-width.result / 8) (c.loop-x.x - 8 * (c.width-width.result / 8)) (c.loop-x.x + 1 - 8 * (c.width-width.result / 8)) c.args.steps.now c.loop-x.steps c.pixel.new.self (omega arith) c.loop-x.invariant.counts
-      (c.pixel.ensures ∙ ap (λ (s : Counts). record s { pixels = s.pixels + 1 }) c.get_pixel-black.ensures.steps);
+      lanes-pixel (c.width-width.result / 8) (c.loop-x.x - 8 * (c.width-width.result / 8)) (c.loop-x.x + 1 - 8 * (c.width-width.result / 8)) c.args.steps.now c.loop-x.steps c.next_pixel.new.steps (omega arith) c.loop-x.invariant.counts
+      (c.next_pixel.ensures.steps ∙ ap (λ (s : Counts). record s { pixels = s.pixels + 1 }) c.get_pixel-black.ensures.steps);
 }

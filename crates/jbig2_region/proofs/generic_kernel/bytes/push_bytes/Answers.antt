@@ -1,7 +1,7 @@
 use Rattle.std.proofs.Common.{arith, min, refl, eqb, length, ◌%◌, ◌+◌, ◌*◌, ◌≡◌, ◌≤◌, ◌∙◌, ℕ, Bool, List, true, false, not, sym, ap, subst}
 use Rattle.jbig2_base.specs.Counts.{Counts}
 use Rattle.jbig2_base.specs.Grid.{Grid}
-use Rattle.jbig2_base.specs.inner.Writes.{with_pixels}
+use Rattle.jbig2_base.specs.Writes.{with_pixels}
 use Rattle.jbig2_coder.specs.Coder.{Coder}
 use Rattle.jbig2_region.specs.inner.Holds.{Holds}
 use Rattle.jbig2_region.specs.inner.LongRuns.{is_run_for}

@@ -2,7 +2,7 @@ use Rattle.std.proofs.Common.{arith, refl, false, subst, ◌≡◌, ◌≤◌, �
 use Rattle.std.proofs.Math.Nat.{pow-le-pow_right}
 use Rattle.jbig2_base.proofs.LaneCounts.{lanes-none, lanes-then}
 use Rattle.jbig2_base.specs.Grid.{Grid}
-use Rattle.jbig2_base.specs.inner.Writes.{with_pixels}
+use Rattle.jbig2_base.specs.Writes.{with_pixels}
 use Rattle.jbig2_region.specs.inner.Neighbours.{DecodesPixels, IsLeft, nominal_pixels}
 use Rattle.jbig2_region.specs.inner.PushedPixels.{CountsGroup, PushesGroup, StandsBytes, StandsGroup}
 use Rattle.jbig2_region.proofs.CountLemmas.{counts-none, counts-then}

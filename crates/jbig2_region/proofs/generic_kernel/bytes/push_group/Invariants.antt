@@ -1,7 +1,7 @@
 use Rattle.std.proofs.Common.{◌≡◌, ◌<◌, ◌≤◌, ◌+◌, ◌-◌, ◌*◌, ◌^◌, ℕ}
 use Rattle.jbig2_base.specs.Counts.{KeepsLanes}
 use Rattle.jbig2_base.specs.Grid.{Grid}
-use Rattle.jbig2_base.specs.inner.Writes.{with_pixels}
+use Rattle.jbig2_base.specs.Writes.{with_pixels}
 use Rattle.jbig2_region.specs.inner.Neighbours.{IsLeft, StandAtByte}
 use Rattle.jbig2_region.specs.inner.PushedPixels.{CountsGroup, PushesGroup, StandsGroup}
 use Rattle.jbig2_region.proofs.generic_kernel.bytes.push_group.Given as goal

@@ -1,6 +1,6 @@
 use Rattle.std.proofs.Common.{arith, refl, set, length, ℕ, ◌≡◌, ◌<◌, ◌∙◌, ◌+◌, ◌*◌, ◌%◌, ◌^◌, ap, sym, subst, false}
 use Rattle.std.proofs.lemmas.Nat.{mod_below, pow_pos}
-use Rattle.jbig2_base.specs.inner.Writes.{with_pixels}
+use Rattle.jbig2_base.specs.Writes.{with_pixels}
 use Rattle.jbig2_region.specs.inner.PushedPixels.{PushesPixels}
 use Rattle.jbig2_region.specs.inner.Neighbours.{DecodesPixels, IsLeft, nominal_pixels, register_of}
 use Rattle.jbig2_region.proofs.GatherLemmas.{cut-digit, fields}

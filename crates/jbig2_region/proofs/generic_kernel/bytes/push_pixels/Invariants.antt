@@ -1,6 +1,6 @@
 use Rattle.std.proofs.Common.{◌≡◌, ℕ, ◌+◌, ◌*◌, ◌%◌, ◌^◌}
 use Rattle.jbig2_base.specs.Grid.{Grid}
-use Rattle.jbig2_base.specs.inner.Writes.{with_pixels}
+use Rattle.jbig2_base.specs.Writes.{with_pixels}
 use Rattle.jbig2_region.specs.inner.PushedPixels.{PushesPixels, Stands}
 use Rattle.jbig2_region.specs.inner.Neighbours.{IsLeft, cut_of, register_of}
 use Rattle.jbig2_region.proofs.generic_kernel.bytes.push_pixels.Given as goal

@@ -3,7 +3,7 @@ use Rattle.jbig2_base.proofs.LaneCounts.{lanes-none, lanes-then}
 use Rattle.jbig2_base.specs.Counts.{Counts}
 use Rattle.jbig2_base.specs.Grid.{Grid, pixel_at}
 use Rattle.jbig2_base.specs.Bits.{bit}
-use Rattle.jbig2_base.specs.inner.Writes.{with_pixels}
+use Rattle.jbig2_base.specs.Writes.{with_pixels}
 use Rattle.jbig2_region.specs.inner.Holds.{BeginsRow, Holds}
 use Rattle.jbig2_region.specs.inner.PushedPixels.{StandsRow}
 use Rattle.jbig2_region.specs.inner.Neighbours.{DecodesPixels, SameAbove, nominal_pixels, row_coding}

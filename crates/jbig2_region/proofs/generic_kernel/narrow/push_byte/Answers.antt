@@ -1,5 +1,5 @@
 use Rattle.std.proofs.Common.{arith, false, ◌*◌, ◌^◌, ◌<◌, ◌≡◌, ℕ, subst}
-use Rattle.jbig2_base.specs.inner.Writes.{with_pixels}
+use Rattle.jbig2_base.specs.Writes.{with_pixels}
 use Rattle.jbig2_region.specs.inner.PushedPixels.{StandsBytes}
 use Rattle.jbig2_region.specs.inner.Neighbours.{DecodesPixels, nominal_pixels}
 use Rattle.jbig2_region.specs.inner.RowCounts.{CountsRuns}

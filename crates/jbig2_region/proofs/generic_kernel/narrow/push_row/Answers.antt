@@ -2,7 +2,7 @@ use Rattle.std.proofs.Common.{arith, refl, false, ℕ, ◌≡◌, ◌∙◌, ◌
 use Rattle.jbig2_base.proofs.LaneCounts.{lanes-none, lanes-then}
 use Rattle.jbig2_base.specs.Counts.{Counts}
 use Rattle.jbig2_base.specs.Grid.{Grid}
-use Rattle.jbig2_base.specs.inner.Writes.{with_pixels}
+use Rattle.jbig2_base.specs.Writes.{with_pixels}
 use Rattle.jbig2_region.specs.inner.PushedPixels.{Stands, StandsRow}
 use Rattle.jbig2_region.specs.inner.Neighbours.{DecodesPixels, Shows, nominal_pixels}
 use Rattle.jbig2_region.proofs.CountLemmas.{counts-last, counts-none, counts-then}

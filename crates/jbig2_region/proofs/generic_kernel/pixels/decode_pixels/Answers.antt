@@ -2,7 +2,7 @@ use Rattle.std.proofs.Common.{arith, refl, length, ◌≡◌, ◌<◌, ◌+◌, 
 use Rattle.jbig2_base.proofs.LaneCounts.{lanes-none}
 use Rattle.jbig2_base.specs.Counts.{Counts}
 use Rattle.jbig2_base.specs.Grid.{Grid}
-use Rattle.jbig2_base.specs.inner.Writes.{with_pixels}
+use Rattle.jbig2_base.specs.Writes.{with_pixels}
 use Rattle.jbig2_region.specs.inner.Neighbours.{IsLeft, mixed_pixels, SameAbove}
 use Rattle.jbig2_region.proofs.StoreLemmas.{decodes-none, decodes-pixel, left-pixel, stored-above, same-above-then, inside-states}
 use Rattle.jbig2_region.proofs.WindowLemmas.{shows-same}

@@ -11,7 +11,7 @@ returns-clause-value g c = cut-all c.args.collective.now c.args.height c.loop-wi
 pub returns-in-Err-clause-value : goal.returns-in-Err-clause-value
 unfolding symbol_cut
 returns-in-Err-clause-value g c =
-    cut-fault c.args.collective.now c.args.height c.loop-width.left c.args.widths.now c.loop-width.width-index c.loop-width.symbols.items c.in-Err.error _ (omega arith) c.loop-width.invariant.cut c.in-Err.ensures
+    cut-fault c.args.collective.now c.args.height c.loop-width.left c.args.widths.now c.loop-width.width-index c.loop-width.symbols.items c.in-Err.error _ (omega arith) c.loop-width.invariant.cut c.in-Err.ensures.value
 
 pub loop-width-preserved : goal.loop-width-preserved
 unfolding symbol_cut
@@ -19,6 +19,6 @@ loop-width-preserved g c = record {
   place = sum-next c.args.widths.now c.loop-width.width-index c.loop-width.left 4294967295 (omega arith) c.loop-width.invariant.place;
   cut =
       ap (λ (symbols : List Grid). put_behind symbols (symbols_cut c.args.collective.now c.args.height (c.loop-width.left + get_or c.args.widths.now c.loop-width.width-index 0) (drop (c.loop-width.width-index + 1) c.args.widths.now))) c.in_ok-push.ensures.items
-      ∙ sym (cut-next c.args.collective.now c.args.height c.loop-width.left c.args.widths.now c.loop-width.width-index c.loop-width.symbols.items c.in-Ok.symbol (omega arith) c.in-Ok.ensures)
+      ∙ sym (cut-next c.args.collective.now c.args.height c.loop-width.left c.args.widths.now c.loop-width.width-index c.loop-width.symbols.items c.in-Ok.symbol (omega arith) c.in-Ok.ensures.value)
       ∙ c.loop-width.invariant.cut;
 }

@@ -1,26 +1,23 @@
-use Rattle.std.proofs.Common.{◌+◌, ◌-◌, ◌*◌, ◌/◌, ◌%◌, sym, ap}
-use Rattle.std.proofs.lemmas.List.{get_or_read}
-use Rattle.jbig2_base.specs.Grid.{bit_number}
-use Rattle.jbig2_base.proofs.BitLemmas.{shr-and_one}
-use Rattle.jbig2_base.proofs.GridLemmas.{pixel_at-right, pixel_at-below}
-use Rattle.jbig2_base.proofs.PackedLemmas.{pixel_at-packed, place-lt}
+use Rattle.std.proofs.Common.{◌≡◌, ◌+◌, ◌∙◌, ap, ℕ, arith}
+use Rattle.jbig2_base.specs.Grid.{Grid, grid_of, pixel_at}
+use Rattle.jbig2_base.specs.inner.Packed.{packed_pixel}
+use Rattle.jbig2_base.proofs.BitLemmas.{one_bit-number}
+use Rattle.jbig2_base.proofs.PackedLemmas.{row_bit-pixel, row_place-inside}
 use Rattle.jbig2_base.proofs.bitmap.rows.PackedRows.get_pixel.Goals as goal
-use Rattle.jbig2_base.proofs.bitmap.rows.PackedRows.get_pixel.Goals.{then-x-self-via-then-x-self, then-x-self-via-else-x-self+then-y-self}
 
-pub returns-then-x-self-clause-value : goal.returns-then-x-self-clause-value
-returns-then-x-self-clause-value g c =
-    rw (← c.self.view_is)
-    (elim c.then-x-self.branch [
-      | then-x-self-via-then-x-self w ↦ ap bit_number (sym (pixel_at-right _ c.args.x c.args.y w.if-x-self.true))
-      | then-x-self-via-else-x-self+then-y-self w ↦ ap bit_number (sym (pixel_at-below _ c.args.x c.args.y w.if-y-self.true))
-    ])
+pub load_bits-requires-clause-inside : goal.load_bits-requires-clause-inside
+load_bits-requires-clause-inside g c =
+    let s = c.self.inside in
+    let row = c.row_place-row in
+    row_place-inside s.width s.height s.stride s.words row.result.first row.result.stride c.args.y c.self.invariant row.ensures.inside row.ensures.below
 
 pub returns-clause-value : goal.returns-clause-value
 returns-clause-value g c =
     let s = c.self.inside in
-    let x = c.args.x in
-    let y = c.args.y in
-    let word = c.index-word.result.now in
-    let read = get_or_read s.words.items (y * s.stride + x / 64) word (place-lt s.width s.height s.stride s.words.items x y c.self.invariant c.if-x-self.false c.if-y-self.false) c.index-word.ensures 0 in
-    rw (← c.self.view_is, pixel_at-packed s.width s.height s.stride s.words.items x y c.if-x-self.false c.if-y-self.false, ← read)
-    (shr-and_one word (63 - x % 64))
+    let row = c.row_place-row in
+    let grid : Grid = grid_of s.width s.height (packed_pixel s.stride s.words) in
+    let column : c.args.x + 0 ≡ c.args.x = omega arith in
+    rw (← c.self.view_is)
+    (one_bit-number c.load_bits.result (pixel_at grid c.args.x c.args.y) c.load_bits.ensures.bound
+    (c.load_bits.ensures.bits 0 (omega arith) ∙ row_bit-pixel s.width s.height s.stride s.words row.result.first row.result.stride (c.args.x + 0) c.args.y c.self.invariant row.ensures.inside row.ensures.below
+    ∙ ap (λ (x : ℕ). pixel_at grid x c.args.y) column))

@@ -1,20 +1,16 @@
-use Rattle.std.proofs.Common.{◌*◌, ◌%◌, ◌^◌, ℕ, lit<}
-use Rattle.std.proofs.lemmas.Nat.{mod_below}
-use Rattle.jbig2_base.specs.Grid.{pixel_at}
-use Rattle.jbig2_base.proofs.BitLemmas.{load-near, load-far, load-lt, shr-lt}
+use Rattle.std.proofs.Common.{◌+◌, ◌∙◌}
+use Rattle.jbig2_base.proofs.PackedLemmas.{row_bit-pixel, row_place-inside}
 use Rattle.jbig2_base.proofs.bitmap.rows.PackedRows.load_pixels.Goals as goal
 
-pub returns-then-offset-count-le64-clause-bits : goal.returns-then-offset-count-le64-clause-bits
-returns-then-offset-count-le64-clause-bits g c = λ k inside.
-    load-near (λ (i : ℕ). pixel_at c.args.self.now i c.args.y) c.word.result c.args.x c.args.count k c.word.ensures c.requires.few c.if-offset-count-le64.true inside
-
-pub returns-then-offset-count-le64-clause-bound : goal.returns-then-offset-count-le64-clause-bound
-returns-then-offset-count-le64-clause-bound g c =
-    shr-lt (c.word.result * 2 ^ (c.args.x % 64) % 2 ^ 64) c.args.count c.requires.few (mod_below (c.word.result * 2 ^ (c.args.x % 64)) (2 ^ 64) (lit< tt))
+pub load_bits-requires-clause-inside : goal.load_bits-requires-clause-inside
+load_bits-requires-clause-inside g c =
+    let s = c.self.inside in
+    let row = c.row_place-row in
+    row_place-inside s.width s.height s.stride s.words row.result.first row.result.stride c.args.y c.self.invariant row.ensures.inside row.ensures.below
 
 pub returns-clause-bits : goal.returns-clause-bits
 returns-clause-bits g c = λ k inside.
-    load-far (λ (i : ℕ). pixel_at c.args.self.now i c.args.y) c.word.result c.word-2.result c.args.x c.args.count k c.word.ensures c.word-2.ensures c.word-2.type_inv c.requires.few inside
-
-pub returns-clause-bound : goal.returns-clause-bound
-returns-clause-bound g c = load-lt c.word.result c.word-2.result (c.args.x % 64) c.args.count c.word-2.type_inv c.requires.few
+    let s = c.self.inside in
+    let row = c.row_place-row in
+    rw (← c.self.view_is)
+    (c.load_bits.ensures.bits k inside ∙ row_bit-pixel s.width s.height s.stride s.words row.result.first row.result.stride (c.args.x + k) c.args.y c.self.invariant row.ensures.inside row.ensures.below)

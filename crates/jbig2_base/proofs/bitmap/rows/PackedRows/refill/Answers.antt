@@ -1,16 +1,18 @@
-use Rattle.std.proofs.Common.{◌≡◌, ◌*◌, ap, sym, ◌∙◌, Ok, length, arith}
-use Rattle.jbig2_base.specs.inner.Packed.{stride_of}
-use Rattle.jbig2_base.proofs.PackedLemmas.{blank-grid, blank-packed}
+use Rattle.std.proofs.Common.{◌≡◌, ℕ, List, Result, Ok, ap, sym, arith}
+use Rattle.jbig2_base.specs.inner.Packed.{blank_words}
+use Rattle.jbig2_base.proofs.PackedLemmas.{blank_words-grid, blank_words-packed}
+use Rattle.jbig2_base.specs.declared.error.DecodeError.{DecodeError}
 use Rattle.jbig2_base.proofs.bitmap.rows.PackedRows.refill.Goals as goal
+
+ok-is : {xs ys : List ℕ} → (let made : Result (List ℕ) DecodeError = Ok xs in made) ≡ Ok ys → ys ≡ xs
+ok-is e = cc
 
 pub invariant_of-self-2 : goal.invariant_of-self-2
 invariant_of-self-2 g c =
-    let stride : c.div_ceil-stride.result ≡ stride_of c.args.width = omega (arith, c.div_ceil-stride.ensures) in
-    let size : length c.fill_rows.new.words.items ≡ c.div_ceil-stride.result * c.args.height = c.fill_rows.ensures.size ∙ omega (arith, c.in_ok-resize.ensures.len) in
-    rw stride (blank-packed c.args.width c.args.height c.args.black c.fill_rows.new.words.items (rw stride at size) c.fill_rows.ensures.value)
+    let made : c.refill.new.self ≡ blank_words c.args.width c.args.height c.args.black = ok-is c.in_ok-refill.ensures.value in
+    blank_words-packed c.args.width c.args.height c.div_ceil.result c.args.black c.refill.new.self (omega (arith, c.div_ceil.ensures)) made
 
 pub returns-clause-value : goal.returns-clause-value
 returns-clause-value g c =
-    let stride : c.div_ceil-stride.result ≡ stride_of c.args.width = omega (arith, c.div_ceil-stride.ensures) in
-    let size : length c.fill_rows.new.words.items ≡ c.div_ceil-stride.result * c.args.height = c.fill_rows.ensures.size ∙ omega (arith, c.in_ok-resize.ensures.len) in
-    rw stride (ap (λ v. Ok v) (sym (blank-grid c.args.width c.args.height c.args.black c.fill_rows.new.words.items (rw stride at size) c.fill_rows.ensures.value)))
+    let made : c.refill.new.self ≡ blank_words c.args.width c.args.height c.args.black = ok-is c.in_ok-refill.ensures.value in
+    ap (λ v. Ok v) (sym (blank_words-grid c.args.width c.args.height c.div_ceil.result c.args.black c.refill.new.self (omega (arith, c.div_ceil.ensures)) made))

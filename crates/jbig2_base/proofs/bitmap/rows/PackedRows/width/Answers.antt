@@ -6,4 +6,4 @@ use Rattle.jbig2_base.proofs.bitmap.rows.PackedRows.width.Goals as goal
 pub returns-clause-table : goal.returns-clause-table
 returns-clause-table g c =
     let s = c.self.inside in
-    rw (← c.self.view_is) (sym (grid_of-pixel_at s.width s.height (packed_pixel s.stride s.words.items)))
+    rw (← c.self.view_is) (sym (grid_of-pixel_at s.width s.height (packed_pixel s.stride s.words)))

@@ -1,0 +1,231 @@
+/*
+ * A decoder of JBIG2 (ITU-T T.88), the bi-level format of scanned pages: the static library libhayro_jbig2.a.
+ *
+ * Each call is proved: it answers HAYRO_JBIG2_OK and what the library's definitions give for these bytes, or the number
+ * of the first error in their order, or HAYRO_JBIG2_OUT_OF_MEMORY, and nothing else. After any answer but
+ * HAYRO_JBIG2_OK all that the call could have written is as it was. It reads and writes nothing outside of what it is
+ * handed, and returns.
+ *
+ * The calls on bytes take memory by malloc and give it back by free before they return. They keep nothing, so that
+ * several threads may call at once. The calls on handles keep what is made until it is freed; they come last here.
+ *
+ * What is proved holds for callers that keep to this, which nothing checks:
+ *
+ * - No pointer is null, not even beside a length of 0, and each points to as many bytes, or to the one number, that
+ *   the call says.
+ * - What a call writes overlaps nothing else that it is handed, and nobody else reads or writes it meanwhile; nobody
+ *   writes what it reads meanwhile.
+ * - A bool is 0 or 1, as stdbool.h's are.
+ * - No call from a signal handler, nor in the forked child of a process that had threads.
+ *
+ * A small file can ask for gigabytes and hours (docs/USING.md, "Files that take long"): decode what anyone may have
+ * sent in a process of its own, with limits of time and memory.
+ *
+ * Common to all calls:
+ *
+ * - strict: false passes over what a lenient decoder may pass over; true answers the first fault.
+ * - file: the bytes of a whole JBIG2 file. index: one of its pages, from 0. A file is read anew in each call.
+ * - stream: a page as a PDF file keeps it, the bytes of a /JBIG2Decode stream. globals: those of its /JBIG2Globals, or
+ *   any pointer but null and length 0 where it has none.
+ * - image: a byte for each pixel, width * height of them, rows from the top: 0 is black and 255 white.
+ * - rows: a bit for each pixel, 1 is black, the leftmost the highest of its byte; (width + 7) / 8 bytes a row, whose
+ *   last bits are 0 past the width; rows from the top, (width + 7) / 8 * height bytes. That is the form of PBM.
+ * - No width and no height is above 65535, so with a size_t of 64 bits these products fit.
+ */
+#ifndef HAYRO_JBIG2_H
+#define HAYRO_JBIG2_H
+
+#include <stdbool.h>
+#include <stddef.h>
+#include <stdint.h>
+
+#ifdef __cplusplus
+extern "C" {
+#endif
+
+/* The version that this header declares. */
+#define HAYRO_JBIG2_VERSION_MAJOR 0
+#define HAYRO_JBIG2_VERSION_MINOR 4
+#define HAYRO_JBIG2_VERSION_PATCH 0
+#define HAYRO_JBIG2_VERSION "0.4.0"
+
+/* The version of the library that is linked, as HAYRO_JBIG2_VERSION. Never null and never to be freed. */
+const char *hayro_jbig2_version(void);
+
+/* What a call answers. docs/FORMAT.md says which rule each error stands for. */
+enum hayro_jbig2_answer {
+    HAYRO_JBIG2_OK = 0,
+
+    HAYRO_JBIG2_PARSE_UNEXPECTED_EOF = 1,
+
+    HAYRO_JBIG2_FORMAT_INVALID_HEADER = 2,
+    HAYRO_JBIG2_FORMAT_RESERVED_BITS = 3,
+    HAYRO_JBIG2_FORMAT_MISSING_PAGE_INFO = 4,
+    HAYRO_JBIG2_FORMAT_UNKNOWN_PAGE_HEIGHT = 5,
+    HAYRO_JBIG2_FORMAT_EMPTY_PAGE = 6,
+    HAYRO_JBIG2_FORMAT_PAGE_COUNT_MISMATCH = 7,
+    HAYRO_JBIG2_FORMAT_INVALID_END_OF_PAGE = 8,
+
+    HAYRO_JBIG2_SEGMENT_UNKNOWN_TYPE = 9,
+    HAYRO_JBIG2_SEGMENT_INVALID_REFERRED_COUNT = 10,
+    HAYRO_JBIG2_SEGMENT_INVALID_REFERENCE = 11,
+    HAYRO_JBIG2_SEGMENT_INVALID_UNKNOWN_LENGTH = 12,
+    HAYRO_JBIG2_SEGMENT_MISSING_END_MARKER = 13,
+    HAYRO_JBIG2_SEGMENT_MISSING_PATTERN_DICTIONARY = 14,
+    HAYRO_JBIG2_SEGMENT_MISSING_PAGE_ASSOCIATION = 15,
+
+    HAYRO_JBIG2_HUFFMAN_INVALID_CODE = 16,
+    HAYRO_JBIG2_HUFFMAN_INVALID_SELECTION = 17,
+    HAYRO_JBIG2_HUFFMAN_MISSING_TABLES = 18,
+    HAYRO_JBIG2_HUFFMAN_UNEXPECTED_OOB = 19,
+    HAYRO_JBIG2_HUFFMAN_CONFLICTING_CODES = 20, /* never answered */
+
+    HAYRO_JBIG2_REGION_INVALID_COMBINATION_OPERATOR = 21,
+    HAYRO_JBIG2_REGION_INVALID_DIMENSION = 22,
+    HAYRO_JBIG2_REGION_INVALID_MMR_DATA = 23,
+    HAYRO_JBIG2_REGION_GRAY_SCALE_OUT_OF_RANGE = 24,
+
+    HAYRO_JBIG2_TEMPLATE_INVALID = 25, /* never answered */
+    HAYRO_JBIG2_TEMPLATE_INVALID_AT_PIXEL = 26,
+
+    HAYRO_JBIG2_SYMBOL_NO_SYMBOLS = 27,
+    HAYRO_JBIG2_SYMBOL_TOO_MANY_SYMBOLS = 28,
+    HAYRO_JBIG2_SYMBOL_OUT_OF_RANGE = 29,
+    HAYRO_JBIG2_SYMBOL_UNEXPECTED_OOB = 30,
+    HAYRO_JBIG2_SYMBOL_INVALID = 31,
+    HAYRO_JBIG2_SYMBOL_INVALID_STRIP_DELTA = 32,
+    HAYRO_JBIG2_SYMBOL_TOO_MANY_INSTANCES = 33,
+
+    HAYRO_JBIG2_OVERFLOW_BITMAP_DIMENSION = 34,
+    HAYRO_JBIG2_OVERFLOW_GRID_DIMENSION = 35,
+    HAYRO_JBIG2_OVERFLOW_PLACEMENT_COORDINATE = 36,
+    HAYRO_JBIG2_OVERFLOW_REFERENCE_OFFSET = 37,
+    HAYRO_JBIG2_OVERFLOW_INDEX = 38, /* never answered */
+    HAYRO_JBIG2_OVERFLOW_SYMBOL_COUNT = 39,
+
+    HAYRO_JBIG2_UNSUPPORTED = 40,
+    HAYRO_JBIG2_OUT_OF_MEMORY = 41,
+
+    /* The buffer hasn't the page's size. Returned before anything of the page is decoded. */
+    HAYRO_JBIG2_OTHER_SIZE = 100,
+    /* The file has no page at this index. */
+    HAYRO_JBIG2_NO_SUCH_PAGE = 101,
+    /* A handle holds something of another kind than the call wants. */
+    HAYRO_JBIG2_OTHER_HANDLE = 102
+};
+
+/* How many pages a file has. */
+uint32_t hayro_jbig2_page_count(bool strict, const uint8_t *file, size_t file_length, size_t *count);
+
+/* The size of a page of a file, in pixels. The page itself is not decoded. */
+uint32_t hayro_jbig2_page_size(bool strict, const uint8_t *file, size_t file_length, size_t index, uint32_t *width,
+                               uint32_t *height);
+
+/* Writes a page of a file, a byte for each pixel. */
+uint32_t hayro_jbig2_page_image(bool strict, const uint8_t *file, size_t file_length, size_t index, uint8_t *image,
+                                size_t image_length);
+
+/* Writes a page of a file as packed rows. */
+uint32_t hayro_jbig2_page_packed(bool strict, const uint8_t *file, size_t file_length, size_t index, uint8_t *rows,
+                                 size_t rows_length);
+
+/* The size of an embedded page, in pixels; its globals don't change it. The page itself is not decoded. */
+uint32_t hayro_jbig2_embedded_size(bool strict, const uint8_t *stream, size_t stream_length, uint32_t *width,
+                                   uint32_t *height);
+
+/* Writes an embedded page, a byte for each pixel. */
+uint32_t hayro_jbig2_embedded_image(bool strict, const uint8_t *globals, size_t globals_length, const uint8_t *stream,
+                                    size_t stream_length, uint8_t *image, size_t image_length);
+
+/* Writes an embedded page as packed rows. */
+uint32_t hayro_jbig2_embedded_packed(bool strict, const uint8_t *globals, size_t globals_length, const uint8_t *stream,
+                                     size_t stream_length, uint8_t *rows, size_t rows_length);
+
+/*
+ * Handles: what is decoded or read once and used by several calls.
+ *
+ * A handle is made by a call whose name ends in _new or _share, through a pointer to a variable that holds NULL, which
+ * stays as it is where the call fails. The call that frees it takes NULL too.
+ *
+ * - globals: decoded once, and shared by all pages that are made with them and by all handles that hold them. They are
+ *   freed with the last of these, so a page needs no handle of them.
+ * - page: an embedded page with a copy of its stream, so the stream may go at once.
+ * - file: a file that is read once. Its bytes must stay as they are until the handle is freed.
+ * - context: the room that drawing uses, kept from page to page. It holds the page that was drawn last. Draw each page
+ * of a document in one context.
+ *
+ * What a caller owes besides what stands at the head:
+ *
+ * - No handle is used after it is freed, and none but those that these calls made.
+ * - One call at a time uses a handle. Calls on several handles may run at once, in several threads, also where they
+ * share globals: a thread that makes pages has a handle of its own, by hayro_jbig2_globals_share, or a lock.
+ * - Memory that a caller lends outlives all that is made with it, and its functions may be called in each thread that
+ *   uses what was made with it: globals are given back in the thread that frees the last of their handles and pages.
+ */
+typedef struct hayro_jbig2_globals hayro_jbig2_globals;
+typedef struct hayro_jbig2_context hayro_jbig2_context;
+typedef struct hayro_jbig2_page hayro_jbig2_page;
+typedef struct hayro_jbig2_file hayro_jbig2_file;
+
+/* The caller's memory, for a value and all that is made with it; NULL where a call takes it is malloc and free. */
+typedef struct hayro_jbig2_memory {
+    /* A block of `size` bytes, aligned to 8, or NULL; size is never 0. */
+    void *(*take)(void *user, size_t size);
+    /* Takes back a block of `size` bytes that `take` gave. */
+    void (*give_back)(void *user, void *block, size_t size);
+    void *user;
+} hayro_jbig2_memory;
+
+/* A page's number, and its size in pixels. */
+typedef struct hayro_jbig2_page_info {
+    uint32_t number, width, height;
+} hayro_jbig2_page_info;
+
+/* How many segments lenient reading passed over in a page, with the number and the error of the first; all 0 for a page
+ * that is whole. */
+typedef struct hayro_jbig2_passed_over {
+    size_t count;
+    uint32_t segment, error;
+} hayro_jbig2_passed_over;
+
+uint32_t hayro_jbig2_globals_new(const hayro_jbig2_memory *memory, bool strict, const uint8_t *bytes, size_t length,
+                                 hayro_jbig2_globals **globals);
+/* Makes another handle on the same globals. */
+uint32_t hayro_jbig2_globals_share(const hayro_jbig2_memory *memory, hayro_jbig2_globals *globals,
+                                   hayro_jbig2_globals **other);
+void hayro_jbig2_globals_free(hayro_jbig2_globals *globals);
+
+uint32_t hayro_jbig2_context_new(const hayro_jbig2_memory *memory, hayro_jbig2_context **context);
+void hayro_jbig2_context_free(hayro_jbig2_context *context);
+
+/* globals: NULL for a page without. */
+uint32_t hayro_jbig2_page_new(const hayro_jbig2_memory *memory, bool strict, hayro_jbig2_globals *globals,
+                              const uint8_t *stream, size_t stream_length, hayro_jbig2_page **page);
+uint32_t hayro_jbig2_page_get_info(hayro_jbig2_page *page, hayro_jbig2_page_info *info);
+/* Draws the page in the context. After an error the context holds what was drawn before it. */
+uint32_t hayro_jbig2_page_draw(hayro_jbig2_page *page, hayro_jbig2_context *context);
+void hayro_jbig2_page_free(hayro_jbig2_page *page);
+
+uint32_t hayro_jbig2_file_new(const hayro_jbig2_memory *memory, bool strict, const uint8_t *bytes, size_t length,
+                              hayro_jbig2_file **file);
+size_t hayro_jbig2_file_page_count(hayro_jbig2_file *file);
+uint32_t hayro_jbig2_file_get_info(hayro_jbig2_file *file, size_t index, hayro_jbig2_page_info *info);
+/* Tells the number and the size of each page. HAYRO_JBIG2_OTHER_SIZE where the file has not `count` pages. */
+uint32_t hayro_jbig2_file_get_infos(hayro_jbig2_file *file, hayro_jbig2_page_info *infos, size_t count);
+uint32_t hayro_jbig2_file_draw(hayro_jbig2_file *file, size_t index, hayro_jbig2_context *context);
+void hayro_jbig2_file_free(hayro_jbig2_file *file);
+
+/* Writes `length` bytes of the packed rows of the page that was drawn last, from byte `place` of them all on: row y
+ * begins at y * ((width + 7) / 8). HAYRO_JBIG2_OTHER_SIZE where they are not all there. */
+uint32_t hayro_jbig2_context_rows(hayro_jbig2_context *context, size_t place, uint8_t *rows, size_t length);
+uint32_t hayro_jbig2_context_get_passed_over(hayro_jbig2_context *context, hayro_jbig2_passed_over *passed_over);
+
+/* A text for what a call answered, never null and never to be freed. This call and
+ * hayro_jbig2_version are written in C. */
+const char *hayro_jbig2_error_text(uint32_t answer);
+
+#ifdef __cplusplus
+}
+#endif
+
+#endif

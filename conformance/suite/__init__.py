@@ -1,0 +1,1 @@
+"""The conformance suite of JBIG2: what `conformance/make` writes."""

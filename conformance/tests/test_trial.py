@@ -1,0 +1,92 @@
+"""Verdicts on programs that are known to be right, wrong and worse."""
+import pathlib
+import sys
+import tempfile
+import unittest
+
+from conformance.runner.decoders import DECODERS, Decoder, decoder_of
+from conformance.runner.limits import Limits
+from conformance.runner.pictures import plain
+from conformance.runner.trial import Verdict, tried
+from conformance.tests.small_suite import CROSS, RING, of_numbers, written
+
+LIMITS = Limits(seconds=1)
+FAKE = f"""#!{sys.executable}
+import sys
+sys.exit("error: another" if "--strict" in sys.argv else "error: unexpected end of input")
+"""
+
+
+def script(text: str) -> Decoder:
+    """A decoder that is a line of Python, with the file's name in `name` and the picture's in `out`."""
+    head = "import os, sys; name, out = sys.argv[1:3]; put = lambda data: open(out, 'wb').write(data); "
+    return decoder_of([sys.executable, "-c", head + text, "{in}", "{out}"])
+
+
+class TrialTest(unittest.TestCase):
+    @classmethod
+    def setUpClass(cls):
+        folder = tempfile.TemporaryDirectory()
+        cls.addClassCleanup(folder.cleanup)
+        cls.samples = written(pathlib.Path(folder.name))
+
+    def verdict(self, decoder: Decoder, name: str = "sequential") -> Verdict:
+        return tried(decoder, self.samples[name], LIMITS).verdict
+
+    def test_verdicts(self):
+        cross = of_numbers(list(CROSS), 9).pbm
+        texts = {
+            f"put({cross!r})": Verdict.RIGHT,
+            f"put({cross!r}); sys.exit(3)": Verdict.RIGHT,
+            f"put({of_numbers(list(RING), 3).pbm!r})": Verdict.WRONG,
+            f"put({plain(9, 3, 1).pbm!r})": Verdict.NOTHING,
+            "pass": Verdict.NOTHING,
+            "sys.exit('no such form')": Verdict.REFUSED,
+            "put(b'text'); sys.exit(1)": Verdict.REFUSED,
+            "os.kill(os.getpid(), 11)": Verdict.CRASH,
+            "bytearray(1 << 40)": Verdict.REFUSED,
+            "exec('while True: pass')": Verdict.LATE,
+        }
+        for text, verdict in texts.items():
+            with self.subTest(text[:40]):
+                self.assertIs(self.verdict(script(text)), verdict)
+
+    def test_standard_output_and_the_page(self):
+        text = f"import sys; sys.stdout.buffer.write({of_numbers(list(RING), 3).pbm!r} if sys.argv[2] == '1' else b'')"
+        decoder = decoder_of([sys.executable, "-c", text, "{in}", "{page}"])
+        self.assertIs(self.verdict(decoder, "second"), Verdict.RIGHT)
+        self.assertIs(self.verdict(decoder), Verdict.NOTHING)
+
+    def test_page_of_an_output_of_several(self):
+        both = of_numbers(list(CROSS), 9).pbm + of_numbers(list(RING), 3).pbm
+        self.assertIs(self.verdict(script(f"put({both!r})"), "second"), Verdict.RIGHT)
+
+    def test_globals_are_handed_in_where_there_are_some(self):
+        text = "import sys; sys.exit('%d words' % len(sys.argv))"
+        decoder = decoder_of([sys.executable, "-c", text, "{globals}", "{in}"])
+        names = ("embedded", "shared", "sequential")
+        messages = [tried(decoder, self.samples[name], LIMITS).message for name in names]
+        self.assertEqual(messages, ["2 words", "3 words", "2 words"])
+
+    def test_any_answer_will_do_where_the_manifest_says_so(self):
+        for text, allowed in (("sys.exit(1)", True), ("pass", True), ("os.abort()", False)):
+            self.assertIs(tried(script(text), self.samples["cut-off"], LIMITS).is_allowed, allowed)
+
+    def test_answers_of_both_readings(self):
+        with tempfile.TemporaryDirectory() as folder:
+            program = pathlib.Path(folder, "fake")
+            program.write_text(FAKE)
+            program.chmod(0o700)
+            fake = Decoder("fake", f"{program} {{in}}", strict="--strict")
+            outcomes = [tried(fake, self.samples[name], LIMITS) for name in ("cut-off", "sequential")]
+        self.assertEqual(outcomes[0].fault, "strict: another, not unexpected end of input")
+        self.assertTrue(outcomes[1].fault.startswith("lenient: unexpected end of input, not picture; strict: another"))
+
+    def test_names(self):
+        self.assertIs(decoder_of(["gs"]), next(decoder for decoder in DECODERS if decoder.name == "gs"))
+        with self.assertRaises(ValueError):
+            decoder_of(["unheard-of"])
+
+
+if __name__ == "__main__":
+    unittest.main()

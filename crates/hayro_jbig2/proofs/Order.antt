@@ -1,0 +1,88 @@
+-- The order of segments of different numbers, and what stands after the end of a page.
+use Rattle.std.proofs.Common.{◌≡◌, ◌≢◌, ℕ, ◌<◌, Bool, true, false, cond, nat_lt, List, [], ◌∷◌, ◌++◌, Result, Ok, Err, refl, sym, subst, ap, ◌∙◌, arith}
+use Rattle.std.proofs.lemmas.Bool.{cond-true, cond-false, cond_both, ltb-true, ltb-false, lt-ltb, le-ltb}
+use Rattle.jbig2_base.specs.Answer.{◌>>=◌}
+use Rattle.jbig2_base.specs.PageInfo.{initial_page_of}
+use Rattle.jbig2_base.specs.Segment.{SegmentView}
+use Rattle.jbig2_base.specs.Sequential.{by_number, insert_by, sequential, sorted_by, sorted_segments}
+use Rattle.jbig2_base.specs.declared.error.DecodeError.{DecodeError}
+use Rattle.hayro_jbig2.specs.Names.{Names, globals_at, named_from, no_names}
+use Rattle.hayro_jbig2.specs.Order.{EndOfPageEnds, IsReordered, OrderChangesNothing, Unchanged, After, Exchanged, Then}
+use Rattle.hayro_jbig2.specs.Page.{Drawing, ReadPage, drawing_of_page, embedded, ends_page, page_begun, segment_on, segments_drawn}
+
+-- ---- order
+abbrev number : SegmentView → ℕ
+number p = p.header.segment_number
+
+abbrev put : SegmentView → List SegmentView → List SegmentView
+put p ps = insert_by number p ps
+
+put-behind : (p q : SegmentView) (ps : List SegmentView) → number q < number p → put p (q ∷ ps) ≡ q ∷ put p ps
+put-behind p q ps less = cond-true (nat_lt (number q) (number p)) (q ∷ put p ps) (p ∷ q ∷ ps) (lt-ltb (number q) (number p) less)
+
+put-before : (p q : SegmentView) (ps : List SegmentView) → number p < number q → put p (q ∷ ps) ≡ p ∷ q ∷ ps
+put-before p q ps less = cond-false (nat_lt (number q) (number p)) (q ∷ put p ps) (p ∷ q ∷ ps) (le-ltb (number q) (number p) (omega arith))
+
+-- two are put in either order
+put-both : (p q : SegmentView) (ps : List SegmentView) → number p < number q → put p (put q ps) ≡ put q (put p ps)
+put-both p q [] less = put-before p q [] less ∙ sym (put-behind q p [] less)
+put-both p q (r ∷ rs) less =
+    let P : List SegmentView → Type 0 = λ xs. put p xs ≡ put q (put p (r ∷ rs)) in
+    cond_both (nat_lt (number r) (number q)) (r ∷ put q rs) (q ∷ r ∷ rs) P
+    (λ behind. cond_both (nat_lt (number r) (number p)) (r ∷ put p rs) (p ∷ r ∷ rs) (λ xs. put p (r ∷ put q rs) ≡ put q xs)
+    (λ far. put-behind p r (put q rs) (ltb-true (number r) (number p) far) ∙ ap (λ xs. r ∷ xs) (put-both p q rs less) ∙ sym (put-behind q r (put p rs) (ltb-true (number r) (number q) behind)))
+    (λ near. cond-false (nat_lt (number r) (number p)) (r ∷ put p (put q rs)) (p ∷ r ∷ put q rs) near
+    ∙ ap (λ xs. p ∷ xs) (sym (put-behind q r rs (ltb-true (number r) (number q) behind))) ∙ sym (put-behind q p (r ∷ rs) less)))
+    (λ before.
+    let less_too : number p < number r = omega (arith, ltb-false (number r) (number q) before) in
+    put-before p q (r ∷ rs) less
+    ∙ sym (ap (λ xs. put q xs) (put-before p r rs less_too) ∙ put-behind q p (r ∷ rs) less ∙ ap (λ xs. p ∷ xs) (cond-false (nat_lt (number r) (number q)) (r ∷ put q rs) (q ∷ r ∷ rs) before)))
+
+put-either : (p q : SegmentView) (ps : List SegmentView) → number p ≢ number q → put p (put q ps) ≡ put q (put p ps)
+put-either p q ps differ = by (nat_lt (number p) (number q)) refl
+  where
+    by : (b : Bool) → nat_lt (number p) (number q) ≡ b → put p (put q ps) ≡ put q (put p ps)
+    by true is = put-both p q ps (ltb-true (number p) (number q) is)
+    by false is = sym (put-both q p ps (omega (arith, ltb-false (number p) (number q) is)))
+
+reordered-sorted : (ps qs : List SegmentView) → IsReordered ps qs → by_number ps ≡ by_number qs
+reordered-sorted ps qs (Unchanged rs) = refl
+reordered-sorted ps qs (After p before after more) = ap (λ xs. put p xs) (reordered-sorted before after more)
+reordered-sorted ps qs (Exchanged p q rs differ) = put-either p q (by_number rs) differ
+reordered-sorted ps qs (Then before middle after one other) = reordered-sorted before middle one ∙ reordered-sorted middle after other
+
+sorted-as : (strict : Bool) (bytes others : List ℕ) (ps qs : List SegmentView) → sequential strict bytes ≡ Ok ps → sequential strict others ≡ Ok qs → IsReordered ps qs → sorted_segments strict bytes ≡ sorted_segments strict others
+sorted-as strict bytes others ps qs one other moved =
+    let sorted : Result (List SegmentView) DecodeError → Result (List SegmentView) DecodeError = λ r. r >>= λ xs. Ok (by_number xs) in
+    ap sorted one ∙ ap (λ (xs : List SegmentView). let r : Result (List SegmentView) DecodeError = Ok xs in r) (reordered-sorted ps qs moved) ∙ sym (ap sorted other)
+
+pub order_changes_nothing : OrderChangesNothing
+unfolding embedded globals_at
+order_changes_nothing = record {
+  page = λ strict globals bytes others ps qs one other moved.
+      ap (λ (r : Result (List SegmentView) DecodeError). r >>= λ segments. initial_page_of segments >>= λ begun. let made : Result ReadPage DecodeError = Ok (record { strict = strict; initial_page = begun; segments = segments; globals = Ok globals }) in made)
+      (sorted-as strict bytes others ps qs one other moved);
+  globals = λ strict bytes others ps qs one other moved.
+      ap (λ (r : Result (List SegmentView) DecodeError). r >>= λ segments. named_from strict segments no_names) (sorted-as strict bytes others ps qs one other moved);
+}
+
+-- ---- after the end of a page
+next-same : (r : Result Drawing DecodeError) (next other : Drawing → Result Drawing DecodeError) → ((d : Drawing) → next d ≡ other d) → (r >>= next) ≡ (r >>= other)
+next-same (Ok d) next other each = each d
+next-same (Err e) next other each = refl
+
+drawn-to-end : (strict : Bool) (globals : Names) (ps others : List SegmentView) (end : SegmentView) (d : Drawing) → ends_page end.header.segment_type ≡ true → segments_drawn strict globals (ps ++ end ∷ others) d ≡ segments_drawn strict globals ps d
+drawn-to-end strict globals [] others end d ends = cond-true (ends_page end.header.segment_type) (Ok d) (segment_on strict globals end d >>= λ e. segments_drawn strict globals others e) ends
+drawn-to-end strict globals (p ∷ ps) others end d ends =
+    ap (λ (r : Result Drawing DecodeError). cond (ends_page p.header.segment_type) (Ok d) r)
+    (next-same (segment_on strict globals p d) (λ e. segments_drawn strict globals (ps ++ end ∷ others) e) (λ e. segments_drawn strict globals ps e) (λ e. drawn-to-end strict globals ps others end e ends))
+
+names-next : (r : Result Names DecodeError) (next other : Names → Result Drawing DecodeError) → ((names : Names) → next names ≡ other names) → (r >>= next) ≡ (r >>= other)
+names-next (Ok names) next other each = each names
+names-next (Err e) next other each = refl
+
+pub end_of_page_ends : EndOfPageEnds
+end_of_page_ends page ps others end are ends =
+    names-next page.globals (λ names. segments_drawn page.strict names page.segments (page_begun page.initial_page)) (λ names. segments_drawn page.strict names ps (page_begun page.initial_page)) (λ names.
+    ap (λ (segments : List SegmentView). segments_drawn page.strict names segments (page_begun page.initial_page)) are
+    ∙ drawn-to-end page.strict names ps others end (page_begun page.initial_page) ends)

@@ -1,0 +1,113 @@
+-- The sides of pages.
+use Rattle.std.proofs.Common.{◌≡◌, ℕ, zero, suc, ◌≤◌, eqb, Bool, true, false, ◌||◌, nat_lt, List, [], ◌∷◌, length, Option, Some, None, Result, Ok, Err, refl, subst, arith}
+use Rattle.std.specs.Prelude.{IfOk, IfSome, slice_get, option_map, not, ◌&&◌}
+use Rattle.std.specs.List.{AllByRecursion}
+use Rattle.std.proofs.lemmas.Bool.Decides.{nat_tests}
+use Rattle.jbig2_base.specs.Answer.{◌>>=◌, refuse_if, some_or}
+use Rattle.jbig2_base.specs.File.{file_at}
+use Rattle.jbig2_base.specs.PageInfo.{first_information, height_of, information_at, initial_page_of, initial_page_with, stripes_height}
+use Rattle.jbig2_base.specs.Segment.{SegmentView}
+use Rattle.jbig2_base.specs.declared.error.DecodeError.{DecodeError}
+use Rattle.jbig2_base.specs.declared.error.DecodeError.TheVariants.{Format, Overflow}
+use Rattle.jbig2_base.specs.declared.error.FormatError.TheVariants.{EmptyPage, InvalidEndOfPage, MissingPageInfo, PageCountMismatch}
+use Rattle.jbig2_base.specs.declared.error.OverflowError.TheVariants.{BitmapDimension}
+use Rattle.jbig2_base.specs.declared.page_info.InitialPage.{InitialPage}
+use Rattle.jbig2_base.specs.declared.page_info.PageInformation.{PageInformation}
+use Rattle.hayro_jbig2.specs.Files.{PageInFile, ReadFile, associated, book_at, by_pages, ends_of, filed_each, filed_from, miscounts, of_page, page_in, page_of}
+use Rattle.hayro_jbig2.specs.Image.{first_page, first_size}
+use Rattle.hayro_jbig2.specs.Names.{Names, named_from, no_names}
+use Rattle.hayro_jbig2.specs.Page.{HasSides, IsSide, ReadPage}
+
+-- what holds of the last step's value
+last-has : {A B : Type 0} (P : B → Type 0) (r : Result A DecodeError) (next : A → Result B DecodeError) → ((x : A) → IfOk (next x) P) → IfOk (r >>= next) P
+last-has P (Ok x) next each = each x
+last-has P (Err e) next each = tt
+
+unless-has : {B : Type 0} (P : B → Type 0) (b : Bool) (e : DecodeError) (next : Unit {0} → Result B DecodeError) → (b ≡ false → IfOk (next tt) P) → IfOk (refuse_if b e >>= next) P
+unless-has P true e next each = tt
+unless-has P false e next each = each refl
+
+sides-with : (number : ℕ) (info : PageInformation) (height : ℕ) → IfOk (initial_page_with number info height) HasSides
+sides-with number info height =
+    unless-has HasSides (eqb info.width 0 || eqb height 0) (Format EmptyPage) _ (λ some.
+    unless-has HasSides (nat_lt 65535 info.width || nat_lt 65535 height) (Overflow BitmapDimension) _ (λ fits. record {
+      some_columns = grind (arith, nat_tests);
+      columns = grind (arith, nat_tests);
+      some_rows = grind (arith, nat_tests);
+      rows = grind (arith, nat_tests);
+    }))
+
+sides-have : (ps : List SegmentView) → IfOk (initial_page_of ps) HasSides
+unfolding initial_page_of
+sides-have ps =
+    last-has HasSides (first_information ps) _ (λ first. last-has HasSides (information_at first.bytes) _ (λ info. last-has HasSides (height_of info.0.height (stripes_height ps)) _ (λ height.
+    sides-with first.header.page_association info.0 height)))
+
+-- what a page begins as
+pub begun_sides : (ps : List SegmentView) (p : InitialPage) → initial_page_of ps ≡ Ok p → HasSides p
+begun_sides ps p is = let P : Result InitialPage DecodeError → Type 0 = λ r. IfOk r HasSides in subst P is (sides-have ps)
+
+-- ---- the first page of a file
+abbrev FileSides : PageInFile → Type 0
+FileSides page = HasSides page.initial_page
+
+filed-sides : (strict : Bool) (own : List SegmentView) → IfOk (filed_from strict own) FileSides
+unfolding filed_from
+filed-sides strict own =
+    last-has FileSides (refuse_if (strict && not (eqb (ends_of own) 1)) (Format InvalidEndOfPage)) _ (λ ended. begun (initial_page_of own) (sides-have own))
+  where
+    begun : (r : Result InitialPage DecodeError) → IfOk r HasSides → IfOk (r >>= λ initial_page. let made : Result PageInFile DecodeError = Ok (record { initial_page = initial_page; segments = own }) in made) FileSides
+    begun (Ok p) has = has
+    begun (Err e) has = tt
+
+each-sides : (strict : Bool) (all : List (List SegmentView)) → IfOk (filed_each strict all) (AllByRecursion FileSides)
+each-sides strict [] = tt
+each-sides strict (own ∷ others) = first (filed_from strict own) (filed-sides strict own) (filed_each strict others) (each-sides strict others)
+  where
+    first : (r : Result PageInFile DecodeError) → IfOk r FileSides → (rest : Result (List PageInFile) DecodeError) → IfOk rest (AllByRecursion FileSides) → IfOk (r >>= λ page. rest >>= λ pages. let made : Result (List PageInFile) DecodeError = Ok (page ∷ pages) in made) (AllByRecursion FileSides)
+    first (Ok page) has (Ok pages) others_have = (has, others_have)
+    first (Ok page) has (Err e) others_have = tt
+    first (Err e) has rest others_have = tt
+
+page-sides : (pages : List PageInFile) (index : ℕ) → AllByRecursion FileSides pages → IfSome (slice_get pages index) FileSides
+page-sides [] index all = tt
+page-sides (p ∷ ps) zero all = all.0
+page-sides (p ∷ ps) (suc index) all = page-sides ps index all.1
+
+abbrev AllSides : ReadFile → Type 0
+AllSides book = AllByRecursion FileSides book.pages
+
+filed-all : (strict : Bool) (pages : Result (List PageInFile) DecodeError) (globals : Result Names DecodeError) → IfOk pages (AllByRecursion FileSides) → IfOk (pages >>= λ ps. let made : Result ReadFile DecodeError = Ok (record { strict = strict; pages = ps; globals = globals }) in made) AllSides
+filed-all strict (Ok ps) globals all = all
+filed-all strict (Err e) globals all = tt
+
+book-sides : (strict : Bool) (bytes : List ℕ) → IfOk (book_at strict bytes) AllSides
+unfolding book_at
+book-sides strict bytes =
+    last-has AllSides (file_at strict bytes) _ (λ file. last-has AllSides (associated strict file.1) _ (λ known.
+    last-has AllSides (refuse_if (strict && miscounts file.0.number_of_pages (length (by_pages file.1))) (Format PageCountMismatch)) _ (λ counted.
+    filed-all strict (filed_each strict (by_pages file.1)) (named_from strict (of_page 0 file.1) no_names) (each-sides strict (by_pages file.1)))))
+
+abbrev PageSides : ReadPage → Type 0
+PageSides page = HasSides page.initial_page
+
+found-sides : (book : ReadFile) (page : Option PageInFile) → IfSome page FileSides → IfOk (some_or (Format MissingPageInfo) (option_map (page_in book) page)) PageSides
+found-sides book (Some page) has = has
+found-sides book None has = tt
+
+book-first : (book : Result ReadFile DecodeError) → IfOk book AllSides → IfOk (book >>= λ b. some_or (Format MissingPageInfo) (page_of b 0)) PageSides
+book-first (Ok book) all = found-sides book (slice_get book.pages 0) (page-sides book.pages 0 all)
+book-first (Err e) all = tt
+
+abbrev TwoSides : ℕ × ℕ → Type 0
+TwoSides size = IsSide size.0 × IsSide size.1
+
+sized-sides : (page : Result ReadPage DecodeError) → IfOk page PageSides → IfOk (page >>= λ p. Ok (p.initial_page.width, p.initial_page.height)) TwoSides
+sized-sides (Ok page) has = ((has.some_columns, has.columns), (has.some_rows, has.rows))
+sized-sides (Err e) has = tt
+
+pub first-sides : (bytes : List ℕ) (width height : ℕ) → first_size bytes ≡ Ok (width, height) → IsSide width × IsSide height
+unfolding first_page
+first-sides bytes width height is =
+    let P : Result (ℕ × ℕ) DecodeError → Type 0 = λ r. IfOk r TwoSides in
+    subst P is (sized-sides (first_page bytes) (book-first (book_at false bytes) (book-sides false bytes)))

@@ -1,0 +1,24 @@
+-- Laws (our own rule): the order in which segments of different numbers stand changes nothing, and what stands after the end
+-- of a page changes nothing.
+use Rattle.std.specs.Prelude.{◌≡◌, ◌≢◌, ℕ, Bool, IsTrue, List, [], ◌∷◌, ◌++◌, Ok}
+use Rattle.jbig2_base.specs.{Segment.{SegmentView}, Sequential.{sequential}}
+use Rattle.hayro_jbig2.specs.{Names.{Names, globals_at}, Page.{ReadPage, drawing_of_page, embedded, ends_page}}
+
+-- The second list comes from the first one where neighbours of different numbers change places, as often as one likes.
+pub data IsReordered : List SegmentView → List SegmentView → Type 0 where
+  Unchanged : (ps : List SegmentView) → IsReordered ps ps
+  After : (p : SegmentView) (ps qs : List SegmentView) → IsReordered ps qs → IsReordered (p ∷ ps) (p ∷ qs)
+  Exchanged : (p q : SegmentView) (ps : List SegmentView) → p.header.segment_number ≢ q.header.segment_number → IsReordered (p ∷ q ∷ ps) (q ∷ p ∷ ps)
+  Then : (ps qs rs : List SegmentView) → IsReordered ps qs → IsReordered qs rs → IsReordered ps rs
+
+-- Bytes with the same segments in another order are the same embedded page, and the same globals.
+pub record OrderChangesNothing : Type 0 where
+  pub page : (strict : Bool) (globals : Names) (bytes others : List ℕ) (ps qs : List SegmentView)
+      → sequential strict bytes ≡ Ok ps → sequential strict others ≡ Ok qs → IsReordered ps qs → embedded strict globals bytes ≡ embedded strict globals others
+  pub globals : (strict : Bool) (bytes others : List ℕ) (ps qs : List SegmentView)
+      → sequential strict bytes ≡ Ok ps → sequential strict others ≡ Ok qs → IsReordered ps qs → globals_at strict bytes ≡ globals_at strict others
+
+-- What is drawn of a page is drawn of its segments up to the first end of page or of file.
+abbrev pub EndOfPageEnds : Type 0
+EndOfPageEnds = (page : ReadPage) (ps others : List SegmentView) (end : SegmentView)
+    → page.segments ≡ ps ++ end ∷ others → IsTrue (ends_page end.header.segment_type) → drawing_of_page page ≡ drawing_of_page (record page { segments = ps })

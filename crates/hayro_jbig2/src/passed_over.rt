@@ -1,0 +1,48 @@
+//! What lenient reading passes over.
+ghost use Rattle.std.specs.Prelude.{◌≡◌, ◌<◌};
+ghost use Rattle.hayro_jbig2.specs.Page.{nothing_passed, with_passed};
+
+use jbig2_base::error::DecodeError;
+
+/// A segment that lenient reading passed over.
+#[derive(Debug, Drop, PartialEq, Eq)]
+pub struct PassedSegment {
+    pub segment_number: u32,
+    /// Why it was not drawn.
+    pub error: DecodeError,
+}
+
+/// What lenient reading passed over in a page: the immediate regions that failed (T.88, 8.2), which leave the
+/// page as it was.
+#[derive(Debug, Drop, PartialEq, Eq)]
+pub struct PassedOver {
+    /// How many segments were passed over; 0 for a page that is whole.
+    pub count: usize,
+    /// The first of them, in the order in which the page's segments are drawn.
+    pub first: Option<PassedSegment>,
+}
+
+impl PassedOver {
+    pub(crate) fn nothing() -> PassedOver
+        ensures { result ≡ nothing_passed }
+    {
+        PassedOver {
+            count: 0,
+            first: None,
+        }
+    }
+
+    /// Counts one more segment.
+    pub(crate) fn add(&mut self, segment_number: u32, error: DecodeError)
+        requires { self.old.count < usize.MAX }
+        ensures { self.new ≡ with_passed segment_number error self.old }
+    {
+        self.count += 1;
+        if self.first.is_none() {
+            self.first = Some(PassedSegment {
+                segment_number,
+                error,
+            });
+        }
+    }
+}

@@ -1,0 +1,117 @@
+//! A count of what the kernels do, without a byte at run time. A counter begins with a permit, which kernels can't make.
+#![tactic(auto)]
+
+use jbig2_permit::Permit;
+use std::marker::Model;
+use std::sync::ledger::{Blank, Book, Ledger, Share};
+
+/// How much was done so far: each field of the value is one count, and only the call of its name
+/// adds to it. The counts belong to the ledger `L` and exist for the proofs alone.
+#[derive(Drop)]
+pub struct Steps<L: Ledger> {
+    book: Book<L>,
+    loads: Share<L>,
+    words: Share<L>,
+    decisions: Share<L>,
+    run_tests: Share<L>,
+    groups: Share<L>,
+    pixels: Share<L>,
+}
+
+impl<L: Ledger> Model for Steps<L> {
+    ghost use Rattle.std.specs.Prelude.{◌<◌};
+    ghost use Rattle.jbig2_steps.specs.Counts.{Counts};
+
+    ghost Value = { Counts };
+
+    ghost view = { λ s. record {
+      loads = s.loads.amount;
+      words = s.words.amount;
+      decisions = s.decisions.amount;
+      run_tests = s.run_tests.amount;
+      groups = s.groups.amount;
+      pixels = s.pixels.amount;
+    } };
+
+    ghost invariant = { λ s. (0 < s.loads.parts) × (0 < s.words.parts) × (0 < s.decisions.parts)
+        × (0 < s.run_tests.parts) × (0 < s.groups.parts) × (0 < s.pixels.parts) };
+}
+
+impl<L: Ledger> Steps<L> {
+    ghost use Rattle.std.specs.Prelude.{◌≡◌, ◌+◌};
+    ghost use Rattle.jbig2_steps.specs.Counts.{Counts, no_steps, words_copied};
+
+    /// A counter that stands at nothing, for the ledger that `blank` opens.
+    pub fn new(_permit: Permit, blank: Blank) -> Steps<L>
+        requires name { blank.name ≡ L.name }
+        requires parts { blank.parts ≡ L.parts }
+        requires enough { blank.parts ≡ 6 }
+        ensures { result ≡ no_steps }
+    {
+        let (book, mut loads) = blank.open::<L>();
+        let words = loads.split_off(1, 0);
+        let decisions = loads.split_off(1, 0);
+        let run_tests = loads.split_off(1, 0);
+        let groups = loads.split_off(1, 0);
+        let pixels = loads.split_off(1, 0);
+        Steps {
+            book,
+            loads,
+            words,
+            decisions,
+            run_tests,
+            groups,
+            pixels,
+        }
+    }
+
+    /// One load of up to 64 neighbouring pixels of a row.
+    pub fn load(&mut self)
+        ensures { self.new ≡ record self.old { loads = self.old.loads + 1 } }
+    {
+        self.book.add(&mut self.loads, 1);
+    }
+
+    /// One word written.
+    pub fn word(&mut self)
+        ensures { self.new ≡ record self.old { words = self.old.words + 1 } }
+    {
+        self.book.add(&mut self.words, 1);
+    }
+
+    /// So many words loaded and written.
+    pub fn copy(&mut self, words: u64)
+        ensures { self.new ≡ words_copied words self.old }
+    {
+        self.book.add(&mut self.loads, words);
+        self.book.add(&mut self.words, words);
+    }
+
+    /// One decision of the arithmetic coder.
+    pub fn decision(&mut self)
+        ensures { self.new ≡ record self.old { decisions = self.old.decisions + 1 } }
+    {
+        self.book.add(&mut self.decisions, 1);
+    }
+
+    /// One test for a run of likely symbols.
+    pub fn run_test(&mut self)
+        ensures { self.new ≡ record self.old { run_tests = self.old.run_tests + 1 } }
+    {
+        self.book.add(&mut self.run_tests, 1);
+    }
+
+    /// One group of eight lanes.
+    pub fn group(&mut self)
+        ensures { self.new ≡ record self.old { groups = self.old.groups + 1 } }
+    {
+        self.book.add(&mut self.groups, 1);
+    }
+
+    /// One pixel beside the lanes.
+    pub fn pixel(&mut self)
+        ensures { self.new ≡ record self.old { pixels = self.old.pixels + 1 } }
+    {
+        self.book.add(&mut self.pixels, 1);
+    }
+}

@@ -1,0 +1,106 @@
+# Sourced by the scripts of dist/ and c/: which crates there are, and the sums of their sources.
+
+dist=$(cd -- "$(dirname -- "$(readlink -f -- "${BASH_SOURCE[0]}")")" && pwd)
+root=$(dirname -- "$dist")
+
+# The programs of which dist/ has texts, and the processors for which it has the library for C.
+programs=(jbig2_decode jbig2_bench)
+processors=(x86_64 aarch64)
+
+# The libraries that each crate names, those of the toolchain too.
+declare -A named=()
+read_names() {
+    local line name
+    while IFS= read -r line; do
+        name=${line%%:*}
+        case $name in '' | '#'*) continue ;; esac
+        named[${name%% *}]=${line#*:}
+    done <"$1"
+}
+read_names "$root/crates.txt"
+read_names "$root/c/crate.txt"
+
+# Sets `crates` to these crates and all that they stand on, each after what it stands on.
+list_crates() {
+    local -A seen=()
+    crates=()
+    list_below "$@"
+}
+
+list_below() {
+    local name
+    for name in "$@"; do
+        [ -n "${named[$name]+here}" ] && [ -z "${seen[$name]:-}" ] || continue
+        seen[$name]=yes
+        list_below ${named[$name]}
+        crates+=("$name")
+    done
+}
+
+# The folders and files that these crates are made of.
+sources_of() {
+    local name part
+    echo "$root/crates.txt"
+    for name in "$@"; do
+        for part in src specs proofs; do
+            if [ -d "$root/crates/$name/$part" ]; then
+                echo "$root/crates/$name/$part"
+            fi
+        done
+    done
+}
+
+# Whether no source of these crates was changed after a file: is_newer FILE CRATE ..
+is_newer() {
+    local file=$1 sources
+    shift
+    [ -e "$file" ] || return 1
+    mapfile -t sources < <(sources_of "$@")
+    [ -z "$(find "${sources[@]}" -newer "$file" -print -quit)" ]
+}
+
+# The sum of the files below the current folder whose names end so: their names and their bytes.
+sum_of_files() {
+    find . -type f \( -name "*$1" -o -name "*${2:-$1}" \) -not -path './out/*' -print0 | LC_ALL=C sort -z |
+        xargs -0 sha256sum | sha256sum | cut -d ' ' -f 1
+}
+
+# The sum of a crate's sources and of its line of crates.txt.
+sum_of_crate() {
+    local files
+    files=$(cd -- "$root/crates/$1" && sum_of_files .rt .antt) || return 1
+    echo "$files${named[$1]}" | sha256sum | cut -d ' ' -f 1
+}
+
+# A line for each of these crates: the sum of its sources, and its name.
+sums_of_crates() {
+    local name sum
+    for name in "$@"; do
+        sum=$(sum_of_crate "$name") || return 1
+        echo "$sum  $name"
+    done
+}
+
+# Such lines for all that the texts are made of.
+print_sources() {
+    list_crates "${programs[@]}" ${named[jbig2_c]}
+    sums_of_crates "${crates[@]}" && sum_of_c
+}
+
+# And for what the library for C is made of.
+print_sources_of_c() {
+    list_crates ${named[jbig2_c]}
+    sums_of_crates "${crates[@]}" && sum_of_c
+}
+
+# Its sources, how they are laid out, and the libraries that it names.
+sum_of_c() {
+    local files
+    files=$(cd -- "$root/c/source" && sum_of_files .txt && cat -- ../lay-out ../from-kit) || return 1
+    echo "$(echo "$files${named[jbig2_c]}" | sha256sum | cut -d ' ' -f 1)  c/source"
+}
+
+# The names of those lines of standard input that SOURCES has not: of what was changed since the texts were made.
+changed_names() {
+    { grep -vxF -f "$dist/SOURCES" || [ "$?" -eq 1 ]; } | cut -d ' ' -f 3
+}

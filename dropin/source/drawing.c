@@ -1,0 +1,62 @@
+#include "context.h"
+
+/* What the lenient decoder passed over, as one warning with the number of the first segment. */
+static void tell_passed_over(struct context *context, hayro_jbig2_context *room) {
+    hayro_jbig2_passed_over passed;
+    char what[80];
+    if (hayro_jbig2_context_get_passed_over(room, &passed) != HAYRO_JBIG2_OK || passed.count == 0)
+        return;
+    if (passed.count == 1)
+        snprintf(what, sizeof what, "a segment was passed over");
+    else
+        snprintf(what, sizeof what, "%zu segments were passed over, this one first", passed.count);
+    tell_answer(context, SEVERITY_WARNING, passed.segment, what, passed.error);
+}
+
+uint32_t copy_out(struct context *context, hayro_jbig2_context *room, const hayro_jbig2_page_info *info,
+                  struct page **page) {
+    struct page *copy = new_page(context->allocator, info->width, info->height);
+    if (copy == NULL)
+        return HAYRO_JBIG2_OUT_OF_MEMORY;
+    size_t size = (size_t)copy->image.row_bytes * copy->image.height;
+    uint32_t answer = hayro_jbig2_context_rows(room, 0, copy->rows, size);
+    if (answer != HAYRO_JBIG2_OK) {
+        free_page(copy);
+        return answer;
+    }
+    tell_passed_over(context, room);
+    *page = copy;
+    return HAYRO_JBIG2_OK;
+}
+
+/* The library has no limit of work yet. Once it has one, it is set here for pages, in globals.c for globals and in
+   file.c for files. */
+uint32_t new_room(struct context *context, hayro_jbig2_context **room) {
+    return hayro_jbig2_context_new(&context->memory, room);
+}
+
+static uint32_t draw(struct context *context, hayro_jbig2_page *stream, struct page **page) {
+    hayro_jbig2_page_info info;
+    hayro_jbig2_context *room = NULL;
+    uint32_t answer = hayro_jbig2_page_get_info(stream, &info);
+    if (answer == HAYRO_JBIG2_OK)
+        answer = new_room(context, &room);
+    if (answer == HAYRO_JBIG2_OK)
+        answer = hayro_jbig2_page_draw(stream, room);
+    if (answer == HAYRO_JBIG2_OK)
+        answer = copy_out(context, room, &info, page);
+    hayro_jbig2_context_free(room);
+    return answer;
+}
+
+uint32_t draw_embedded(struct context *context, struct page **page) {
+    hayro_jbig2_page *stream = NULL;
+    uint32_t answer = new_stream(context, &stream);
+    if (answer != HAYRO_JBIG2_OK)
+        return answer;
+    /* The decoder has a copy of them. */
+    clear_bytes(context->allocator, &context->bytes);
+    answer = draw(context, stream, page);
+    hayro_jbig2_page_free(stream);
+    return answer;
+}

@@ -1,0 +1,16 @@
+/* Calls libjbig2dec.so.0 as its callers do. usage: calls BOOK STREAM GLOBALS PICTURE: T.88's example (H.1) as
+ * a file, the two streams of an embedded page, and its picture as a PBM file. */
+#include "support.h"
+
+int main(int count, char **words) {
+    if (count != 5)
+        return 2;
+    read_files(words + 1);
+    meets_the_traps();
+    hands_out_pages();
+    refuses_each_request();
+    shares_globals_among_threads();
+    free_files();
+    printf("%u checks of calls of libjbig2dec.so.0, %u failed\n", checks, failures);
+    return failures > 0;
+}

@@ -1,0 +1,201 @@
+/* Pages of files and of streams one after the other, and what the listener is told. */
+#include "support.h"
+
+#include <string.h>
+
+static void take_in(struct context *context, const uint8_t *bytes, size_t length, size_t piece) {
+    for (size_t at = 0; at < length; at += piece)
+        CHECK(jbig2_data_in(context, bytes + at, length - at < piece ? length - at : piece) == 0);
+}
+
+/* T.88, H.1: pages 1 and 2 are the same, 64 by 56; page 3 is 37 by 8. */
+static void hands_out_the_pages_of_a_file(size_t piece) {
+    struct counted memory = counted_allocator();
+    struct heard heard = {0};
+    struct context *context = file_context(&memory.base, &heard);
+    take_in(context, book.at, book.length, piece);
+    CHECK(jbig2_page_out(context) == NULL);
+    CHECK(jbig2_complete_page(context) == 0 && jbig2_complete_page(context) == 0);
+    struct image *images[BOOK_PAGES];
+    for (int i = 0; i < BOOK_PAGES; i++) {
+        images[i] = jbig2_page_out(context);
+        CHECK(images[i] != NULL && images[i]->holders == 1);
+    }
+    CHECK(jbig2_page_out(context) == NULL && jbig2_page_out(context) == NULL);
+    CHECK(images[0]->width == 64 && images[0]->height == 56 && images[0]->row_bytes == 8);
+    CHECK(images[2]->width == 37 && images[2]->height == 8 && images[2]->row_bytes == 5);
+    CHECK(memcmp(images[0]->rows, images[1]->rows, 8 * 56) == 0);
+    CHECK(memcmp(images[2]->rows, "\x78\x78\xF0\xF0\xF0", 5) == 0);
+    for (int i = 0; i < BOOK_PAGES; i++)
+        jbig2_release_page(context, images[i]);
+    CHECK(jbig2_ctx_free(context) == &memory.base);
+    CHECK(memory.held == 0 && heard.count[SEVERITY_FATAL] == 0);
+}
+
+/* A page is its holders', also after the context is freed. Pages that nobody asked for go with the context. */
+static void leaves_a_page_to_its_holders(void) {
+    struct counted memory = counted_allocator();
+    struct heard heard = {0};
+    struct context *context = file_context(&memory.base, &heard);
+    take_in(context, book.at, book.length, 4096);
+    CHECK(jbig2_complete_page(context) == 0);
+    struct image *image = jbig2_page_out(context);
+    CHECK(jbig2_image_reference(context, image) == image && image->holders == 2);
+    jbig2_release_page(context, image);
+    CHECK(image->holders == 1);
+    jbig2_ctx_free(context);
+    CHECK(memory.held == 1 && image->rows[8] == 0x07);
+    jbig2_image_release(NULL, image);
+    CHECK(memory.held == 0);
+
+    context = file_context(&memory.base, &heard);
+    take_in(context, book.at, book.length, 4096);
+    CHECK(jbig2_complete_page(context) == 0);
+    jbig2_ctx_free(context);
+    CHECK(memory.held == 0);
+}
+
+/* After a page was completed what comes is the next page's, and pages come out in their order. */
+static void hands_out_one_stream_after_the_other(void) {
+    struct counted memory = counted_allocator();
+    struct heard heard = {0};
+    struct globals *globals = made_globals(&memory.base, &heard);
+    struct context *context = embedded_context(&memory.base, globals, &heard);
+    for (int i = 0; i < 3; i++) {
+        take_in(context, stream.at, stream.length, 2047);
+        CHECK(jbig2_complete_page(context) == 0);
+    }
+    for (int i = 0; i < 3; i++) {
+        struct image *image = jbig2_page_out(context);
+        CHECK(image != NULL && is_meant(image));
+        jbig2_release_page(context, image);
+    }
+    CHECK(jbig2_page_out(context) == NULL);
+    jbig2_ctx_free(context);
+    jbig2_global_ctx_free(globals);
+    CHECK(memory.held == 0);
+}
+
+/* Nothing is left of a stream that was refused. */
+static void draws_after_a_refused_stream(void) {
+    struct counted memory = counted_allocator();
+    struct heard heard = {0};
+    struct globals *globals = made_globals(&memory.base, &heard);
+    struct context *context = embedded_context(&memory.base, globals, &heard);
+    take_in(context, stream.at, 20, 20);
+    CHECK(jbig2_complete_page(context) == -1 && heard.count[SEVERITY_FATAL] == 1);
+    take_in(context, stream.at, stream.length, 2047);
+    CHECK(jbig2_complete_page(context) == 0);
+    struct image *image = jbig2_page_out(context);
+    CHECK(image != NULL && is_meant(image));
+    jbig2_release_page(context, image);
+    jbig2_ctx_free(context);
+    jbig2_global_ctx_free(globals);
+    CHECK(memory.held == 0);
+}
+
+/* A file that goes on after a page was asked for, and once more after its first page: that isn't handed out again. */
+static void goes_on_with_a_file(void) {
+    struct counted memory = counted_allocator();
+    struct heard heard = {0};
+    struct context *context = file_context(&memory.base, &heard);
+    take_in(context, book.at, 13, 13);
+    CHECK(jbig2_complete_page(context) == -1 && heard.count[SEVERITY_FATAL] == 1);
+    take_in(context, book.at + 13, book.length - 13, 100);
+    CHECK(jbig2_complete_page(context) == 0);
+    for (int i = 0; i < BOOK_PAGES; i++) {
+        struct image *image = jbig2_page_out(context);
+        if (i == 0) {
+            take_in(context, (const uint8_t *)"\n", 1, 1);
+            CHECK(jbig2_complete_page(context) == 0);
+        }
+        CHECK(image != NULL && image->width == (i < 2 ? 64 : 37));
+        jbig2_release_page(context, image);
+    }
+    CHECK(jbig2_page_out(context) == NULL);
+    jbig2_ctx_free(context);
+    CHECK(memory.held == 0);
+}
+
+static void refuses(bool is_file, const void *bytes, size_t length, const char *why) {
+    struct counted memory = counted_allocator();
+    struct heard heard = {0};
+    struct context *context =
+        is_file ? file_context(&memory.base, &heard) : embedded_context(&memory.base, NULL, &heard);
+    CHECK(jbig2_data_in(context, bytes, length) == 0);
+    CHECK(jbig2_complete_page(context) == -1);
+    CHECK(heard.count[SEVERITY_FATAL] == 1 && heard.segment == NO_SEGMENT);
+    CHECK(strstr(heard.text, why) != NULL);
+    CHECK(jbig2_page_out(context) == NULL);
+    jbig2_ctx_free(context);
+    CHECK(memory.held == 0);
+}
+
+static void tells_what_it_refuses(void) {
+    refuses(false, "", 0, "missing page information segment");
+    refuses(false, stream.at, 10, "missing page information segment");
+    refuses(true, "", 0, "unexpected end of input");
+    refuses(true, "no file at all", 14, "invalid JBIG2 file header");
+    refuses(true, book.at, 13, "no such page");
+}
+
+/* A symbol dictionary that refers to a segment after it. */
+static void tells_of_bad_globals(void) {
+    struct counted memory = counted_allocator();
+    struct heard heard = {0};
+    struct context *context = embedded_context(&memory.base, NULL, &heard);
+    CHECK(jbig2_data_in(context, (const uint8_t *)"\0\0\0\2\0\x20\2", 7) == 0);
+    struct globals *globals = jbig2_make_global_ctx(context);
+    context = embedded_context(&memory.base, globals, &heard);
+    take_in(context, stream.at, stream.length, 4096);
+    CHECK(jbig2_complete_page(context) == -1);
+    CHECK(heard.count[SEVERITY_FATAL] == 1);
+    CHECK(strstr(heard.text, "globals are refused: segment refers to an invalid segment") != NULL);
+    jbig2_global_ctx_free(globals);
+    jbig2_ctx_free(context);
+    CHECK(memory.held == 0);
+}
+
+/* The stream with a region after its last, whose data end before its flags: it is passed over, with its number. */
+static void tells_what_was_passed_over(void) {
+    static const uint8_t region[] = "\0\0\0\x7B\x26\0\1\0\0\0\x11\0\0\0\x08\0\0\0\1\0\0\0\0\0\0\0\0\0";
+    struct counted memory = counted_allocator();
+    struct heard heard = {0};
+    struct globals *globals = made_globals(&memory.base, &heard);
+    struct context *context = embedded_context(&memory.base, globals, &heard);
+    take_in(context, stream.at, stream.length, 4096);
+    take_in(context, region, sizeof region - 1, 4096);
+    CHECK(jbig2_complete_page(context) == 0);
+    CHECK(heard.count[SEVERITY_WARNING] == 1 && heard.segment == 0x7B);
+    CHECK(strstr(heard.text, "passed over") != NULL);
+    struct image *image = jbig2_page_out(context);
+    CHECK(image != NULL && is_meant(image));
+    jbig2_release_page(context, image);
+    jbig2_ctx_free(context);
+    jbig2_global_ctx_free(globals);
+    CHECK(memory.held == 0 && heard.count[SEVERITY_FATAL] == 0);
+}
+
+static void formats_messages(void) {
+    struct counted memory = counted_allocator();
+    struct heard heard = {0};
+    struct context *context = file_context(&memory.base, &heard);
+    CHECK(jbig2_error(context, SEVERITY_INFO, 7, "%s of %d", "three", 4) == -1);
+    CHECK(heard.count[SEVERITY_INFO] == 1 && heard.segment == 7 && strcmp(heard.text, "three of 4") == 0);
+    CHECK(jbig2_error(context, SEVERITY_FATAL, NO_SEGMENT, "%01500d", 1) == -1);
+    CHECK(strlen(heard.text) == sizeof heard.text - 1);
+    jbig2_ctx_free(context);
+}
+
+void hands_out_pages(void) {
+    hands_out_the_pages_of_a_file(1);
+    hands_out_the_pages_of_a_file(4096);
+    leaves_a_page_to_its_holders();
+    hands_out_one_stream_after_the_other();
+    draws_after_a_refused_stream();
+    goes_on_with_a_file();
+    tells_what_it_refuses();
+    tells_of_bad_globals();
+    tells_what_was_passed_over();
+    formats_messages();
+}

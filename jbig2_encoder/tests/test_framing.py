@@ -1,0 +1,47 @@
+"""Headers of segments and files as bytes, and their reading."""
+import unittest
+
+from jbig2_encoder import fields
+from jbig2_encoder.bitmap import Bitmap
+from jbig2_encoder.framing import HEADER, cut, in_random_access, page_information, parts_of, segment, segment_header
+from jbig2_encoder.pictures import pbm, pixels
+
+
+class FramingTest(unittest.TestCase):
+    def test_example_headers_of_the_standard(self):
+        """The two examples of 7.2.8, but for their flags of retention."""
+        header = segment_header(32, 6, 16, (2, 30, 5), page=4)
+        self.assertEqual(header, bytes.fromhex("00000020 06 60 021E05 04 00000010"))
+        header = segment_header(564, 0, 32, (256, 2, 30, 5, 512, 513, 514, 515, 516), page=1025)
+        numbers = "0100 0002 001E 0005 0200 0201 0202 0203 0204"
+        self.assertEqual(header, bytes.fromhex("00000234 40 E0000009 0000" + numbers + "00000401 00000020"))
+
+    def test_files_are_read_as_they_were_written(self):
+        parts = [segment(0, 48, page_information(8, 1)), segment(300, 38, b"abc", (1, 2))]
+        parts.append(segment(301, 51, b"", page=0))
+        data = HEADER + b"".join(parts)
+        self.assertEqual(cut(data), (HEADER, parts))
+        header, pieces = in_random_access(HEADER, parts)
+        self.assertEqual(list(parts_of(header + b"".join(pieces))), list(parts_of(data)))
+
+    def test_a_field_may_be_changed(self):
+        seen = []
+
+        def change(name, value, bits):
+            seen.append((name, value, bits))
+            return 7 if name == "page width" else value
+
+        with fields.changed_by(change):
+            self.assertEqual(page_information(8, 1)[:4], b"\0\0\0\7")
+        self.assertIn(("striping", 0, 16), seen)
+        self.assertEqual(page_information(8, 1)[:4], b"\0\0\0\x08")
+
+    def test_pictures(self):
+        bitmap = Bitmap(9, 2)
+        bitmap.rows[1][8] = 1
+        self.assertEqual(pbm(bitmap), b"P4\n9 2\n\0\0\0\x80")
+        self.assertEqual(pixels(pbm(bitmap)), [0, 1])
+
+
+if __name__ == "__main__":
+    unittest.main()

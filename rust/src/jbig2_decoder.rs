@@ -1,0 +1,88 @@
+//! The first page of a file that a reader gives.
+
+use core::error::Error;
+use core::fmt;
+use std::io::{self, Read};
+
+use crate::error::{DecodeError, FormatError};
+use crate::{DecodeSettings, File, Page};
+
+/// Why [`Jbig2Decoder`] has no page.
+#[derive(Debug)]
+pub enum Jbig2Error {
+    /// The reader failed.
+    Io(io::Error),
+    /// The bytes are no page, or memory ran out.
+    Decode(DecodeError),
+}
+
+impl fmt::Display for Jbig2Error {
+    fn fmt(&self, f: &mut fmt::Formatter<'_>) -> fmt::Result {
+        match self {
+            Self::Io(error) => fmt::Display::fmt(error, f),
+            Self::Decode(error) => fmt::Display::fmt(error, f),
+        }
+    }
+}
+
+impl Error for Jbig2Error {}
+
+impl From<io::Error> for Jbig2Error {
+    fn from(error: io::Error) -> Self {
+        Self::Io(error)
+    }
+}
+
+impl From<DecodeError> for Jbig2Error {
+    fn from(error: DecodeError) -> Self {
+        Self::Decode(error)
+    }
+}
+
+/// The first page of a file, read leniently.
+#[derive(Debug)]
+pub struct Jbig2Decoder {
+    bytes: Vec<u8>,
+    dimensions: (u32, u32),
+}
+
+impl Jbig2Decoder {
+    /// Reads all that `reader` gives, which is a whole file.
+    ///
+    /// # Errors
+    ///
+    /// The reader's error, or the first fault of the file. A file without pages is
+    /// [`FormatError::MissingPageInfo`].
+    pub fn new<R: Read>(mut reader: R) -> Result<Self, Jbig2Error> {
+        let mut bytes = Vec::new();
+        reader.read_to_end(&mut bytes)?;
+        let dimensions = with_first_page(&bytes, |page| Ok(page.dimensions()))?;
+        Ok(Self { bytes, dimensions })
+    }
+
+    /// The page's width and height in pixels.
+    pub fn dimensions(&self) -> (u32, u32) {
+        self.dimensions
+    }
+
+    /// Decodes the page to a byte for each pixel, as [`Page::read_image`] does.
+    ///
+    /// # Errors
+    ///
+    /// The page's first fault, or want of memory; `image` is as it was then.
+    ///
+    /// # Panics
+    ///
+    /// If `image` has not width times height bytes.
+    pub fn read_image(&self, image: &mut [u8]) -> Result<(), Jbig2Error> {
+        Ok(with_first_page(&self.bytes, |page| page.read_image(image))?)
+    }
+}
+
+fn with_first_page<T>(bytes: &[u8], run: impl FnOnce(&Page<'_>) -> crate::Result<T>) -> crate::Result<T> {
+    let file = File::new(bytes, &DecodeSettings::default())?;
+    match file.page(0) {
+        Some(page) => run(&page),
+        None => Err(FormatError::MissingPageInfo.into()),
+    }
+}

@@ -1,0 +1,67 @@
+//! Room to draw in.
+
+use core::ptr::{self, NonNull};
+
+use super::{MEMORY, ffi, made, numbers, result};
+use crate::error::Result;
+use crate::passed_over::{PassedOver, PassedSegment};
+
+/// Room kept from page to page, with the page that was drawn last. It is made when it is first used.
+#[derive(Debug, Default)]
+pub(crate) struct Context {
+    handle: Option<NonNull<ffi::Context>>,
+    passed_over: PassedOver,
+}
+
+// SAFETY: any thread may use and give back the handle.
+unsafe impl Send for Context {}
+// SAFETY: a shared reference makes no call.
+unsafe impl Sync for Context {}
+
+impl Context {
+    /// Draws a page by a call that is handed the context.
+    pub(super) fn draw(&mut self, call: impl FnOnce(*mut ffi::Context) -> u32) -> Result<()> {
+        self.passed_over = PassedOver::default();
+        let handle = self.handle()?;
+        let drawn = result(call(handle));
+        let mut told = ffi::PassedOver::default();
+        // SAFETY: the rules of the header.
+        result(unsafe { ffi::hayro_jbig2_context_get_passed_over(handle, &mut told) })?;
+        self.passed_over = PassedOver {
+            count: told.count,
+            first: numbers::error_of(told.error).map(|error| PassedSegment { segment_number: told.segment, error }),
+        };
+        drawn
+    }
+
+    fn handle(&mut self) -> Result<*mut ffi::Context> {
+        if let Some(handle) = self.handle {
+            return Ok(handle.as_ptr());
+        }
+        let mut handle = ptr::null_mut();
+        // SAFETY: the rules of the header.
+        let number = unsafe { ffi::hayro_jbig2_context_new(MEMORY, &mut handle) };
+        Ok(self.handle.insert(made(number, handle)?).as_ptr())
+    }
+
+    /// Copies packed rows of the page that was drawn last, from a place in them on, as many bytes as `rows` has.
+    pub(crate) fn copy_rows(&mut self, place: usize, rows: &mut [u8]) -> Result<()> {
+        let handle = self.handle()?;
+        // SAFETY: the rules of the header.
+        result(unsafe { ffi::hayro_jbig2_context_rows(handle, place, rows.as_mut_ptr(), rows.len()) })
+    }
+
+    /// What was passed over of the page that was drawn last.
+    pub(crate) fn passed_over(&self) -> PassedOver {
+        self.passed_over
+    }
+}
+
+impl Drop for Context {
+    fn drop(&mut self) {
+        if let Some(handle) = self.handle {
+            // SAFETY: the handle is used no more.
+            unsafe { ffi::jbig2_c_release(handle.as_ptr().cast()) }
+        }
+    }
+}

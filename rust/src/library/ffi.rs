@@ -1,0 +1,96 @@
+//! The calls of the library's text: those of `c/hayro_jbig2.h`, and those that `c/handles.c` makes for C, which can't
+//! be handed a null pointer.
+
+use core::ffi::c_void;
+use core::marker::{PhantomData, PhantomPinned};
+
+/// What only the library sees into.
+#[repr(C)]
+#[derive(Debug)]
+pub(super) struct Opaque<T> {
+    bytes: [u8; 0],
+    marker: PhantomData<(*mut T, PhantomPinned)>,
+}
+
+/// `hayro_jbig2_globals`
+pub(super) type Globals = Opaque<super::Globals>;
+/// `hayro_jbig2_context`
+pub(super) type Context = Opaque<super::Context>;
+/// `hayro_jbig2_page`
+pub(super) type Page = Opaque<super::Page>;
+/// `hayro_jbig2_file`
+pub(super) type File = Opaque<super::File<'static>>;
+/// `hayro_jbig2_memory`
+pub(super) type Memory = Opaque<()>;
+
+/// What is known of a page before it is decoded: `hayro_jbig2_page_info`.
+#[repr(C)]
+#[derive(Debug, Clone, Copy, Default)]
+pub(crate) struct PageInfo {
+    pub(crate) number: u32,
+    pub(crate) width: u32,
+    pub(crate) height: u32,
+}
+
+/// `hayro_jbig2_passed_over`
+#[repr(C)]
+#[derive(Default)]
+pub(super) struct PassedOver {
+    pub(super) count: usize,
+    pub(super) segment: u32,
+    pub(super) error: u32,
+}
+
+unsafe extern "C" {
+    pub(super) fn hayro_jbig2_globals_new(
+        memory: *const Memory,
+        strict: bool,
+        bytes: *const u8,
+        length: usize,
+        globals: *mut *mut Globals,
+    ) -> u32;
+
+    pub(super) fn hayro_jbig2_context_new(memory: *const Memory, context: *mut *mut Context) -> u32;
+
+    pub(super) fn hayro_jbig2_context_rows(context: *mut Context, place: usize, rows: *mut u8, length: usize) -> u32;
+
+    pub(super) fn hayro_jbig2_context_get_passed_over(context: *mut Context, passed_over: *mut PassedOver) -> u32;
+
+    pub(super) fn jbig2_c_page_alone(
+        memory: *const Memory,
+        strict: bool,
+        stream: *const u8,
+        length: usize,
+        page: *mut *mut Page,
+    ) -> u32;
+
+    pub(super) fn jbig2_c_page_with(
+        memory: *const Memory,
+        strict: bool,
+        globals: *mut Globals,
+        stream: *const u8,
+        length: usize,
+        page: *mut *mut Page,
+    ) -> u32;
+
+    pub(super) fn hayro_jbig2_page_get_info(page: *mut Page, info: *mut PageInfo) -> u32;
+
+    pub(super) fn hayro_jbig2_page_draw(page: *mut Page, context: *mut Context) -> u32;
+
+    pub(super) fn hayro_jbig2_file_new(
+        memory: *const Memory,
+        strict: bool,
+        bytes: *const u8,
+        length: usize,
+        file: *mut *mut File,
+    ) -> u32;
+
+    pub(super) fn hayro_jbig2_file_page_count(file: *mut File) -> usize;
+
+    pub(super) fn hayro_jbig2_file_get_info(file: *mut File, index: usize, info: *mut PageInfo) -> u32;
+
+    pub(super) fn hayro_jbig2_file_draw(file: *mut File, index: usize, context: *mut Context) -> u32;
+
+    /// Gives back a handle of any kind.
+    pub(super) fn jbig2_c_release(handle: *mut c_void);
+}

@@ -1,0 +1,99 @@
+//! Files.
+
+use alloc::vec::Vec;
+use core::ptr::{self, NonNull};
+
+use super::{Context, MEMORY, PageInfo, ffi, made, result};
+use crate::error::{DecodeError, Result};
+use crate::lock::Lock;
+
+/// A file, read but not decoded. It borrows its bytes.
+#[derive(Debug)]
+pub(crate) struct File<'a> {
+    bytes: &'a [u8],
+    strict: bool,
+    infos: Vec<PageInfo>,
+    /// The handle that no thread draws by. Threads that draw at the same time each get one of their own.
+    idle: Lock<Option<Handle>>,
+}
+
+/// Borrows bytes: of a `File`, which keeps it.
+#[derive(Debug)]
+struct Handle(NonNull<ffi::File>);
+
+// SAFETY: any thread may use and give back the handle.
+unsafe impl Send for Handle {}
+
+impl<'a> File<'a> {
+    pub(crate) fn new(bytes: &'a [u8], strict: bool) -> Result<Self> {
+        let mut file = Self { bytes, strict, infos: Vec::new(), idle: Lock::new(None) };
+        let mut handle = file.handle()?;
+        file.infos = handle.infos()?;
+        file.put_back(handle);
+        Ok(file)
+    }
+
+    /// What is known of each page.
+    pub(crate) fn infos(&self) -> &[PageInfo] {
+        &self.infos
+    }
+
+    pub(crate) fn draw(&self, index: usize, context: &mut Context) -> Result<()> {
+        let mut handle = self.handle()?;
+        let drawn = handle.draw(index, context);
+        self.put_back(handle);
+        drawn
+    }
+
+    /// A handle that no one else has.
+    fn handle(&self) -> Result<Handle> {
+        if let Some(handle) = self.idle.with(Option::take) {
+            return Ok(handle);
+        }
+        let (bytes, mut file) = (self.bytes, ptr::null_mut());
+        // SAFETY: the rules of the header. The bytes are borrowed as long as this file lives, which keeps its handles.
+        let number = unsafe { ffi::hayro_jbig2_file_new(MEMORY, self.strict, bytes.as_ptr(), bytes.len(), &mut file) };
+        Ok(Handle(made(number, file)?))
+    }
+
+    fn put_back(&self, handle: Handle) {
+        let other = self.idle.with(|idle| idle.replace(handle));
+        drop(other);
+    }
+}
+
+impl Drop for File<'_> {
+    /// Gives the handle back while the bytes are borrowed.
+    fn drop(&mut self) {
+        drop(self.idle.with(Option::take));
+    }
+}
+
+impl Handle {
+    fn infos(&mut self) -> Result<Vec<PageInfo>> {
+        // SAFETY: the rules of the header.
+        let count = unsafe { ffi::hayro_jbig2_file_page_count(self.0.as_ptr()) };
+        let mut infos = Vec::new();
+        infos.try_reserve_exact(count).map_err(|_| DecodeError::OutOfMemory)?;
+        for index in 0..count {
+            let mut info = PageInfo::default();
+            // SAFETY: the rules of the header.
+            result(unsafe { ffi::hayro_jbig2_file_get_info(self.0.as_ptr(), index, &mut info) })?;
+            infos.push(info);
+        }
+        Ok(infos)
+    }
+
+    fn draw(&mut self, index: usize, context: &mut Context) -> Result<()> {
+        let file = self.0.as_ptr();
+        // SAFETY: the rules of the header.
+        context.draw(|context| unsafe { ffi::hayro_jbig2_file_draw(file, index, context) })
+    }
+}
+
+impl Drop for Handle {
+    fn drop(&mut self) {
+        // SAFETY: the handle is used no more.
+        unsafe { ffi::jbig2_c_release(self.0.as_ptr().cast()) }
+    }
+}

@@ -1,0 +1,132 @@
+//! Pages.
+
+use crate::context::DecoderContext;
+use crate::decoder::{Decoder, push_rows};
+use crate::error::Result;
+use crate::globals::Globals;
+use crate::library::{self, PageInfo};
+use crate::{DecodeSettings, image};
+
+/// Room for one row at least: a row has at most 65535 pixels.
+const BLOCK: usize = 8192;
+
+/// A page of a [`File`](crate::File), or one that is embedded in another format such as PDF.
+#[derive(Debug)]
+pub struct Page<'a> {
+    source: Source<'a>,
+    info: PageInfo,
+}
+
+#[derive(Debug)]
+enum Source<'a> {
+    Embedded(library::Page),
+    File { file: &'a library::File<'a>, index: usize },
+}
+
+impl<'a> Page<'a> {
+    /// Reads a page without a file header, as a PDF file has it in a stream with the filter `/JBIG2Decode`.
+    ///
+    /// # Errors
+    ///
+    /// The first fault of the segments' headers or of the page information, or want of memory.
+    pub fn new_embedded(data: &'a [u8], globals: Option<&'a Globals>, settings: &DecodeSettings) -> Result<Self> {
+        let page = library::Page::new(data, globals.map(|globals| &globals.inner), settings.strict)?;
+        let info = page.info()?;
+        Ok(Self { source: Source::Embedded(page), info })
+    }
+
+    pub(crate) fn of_file(file: &'a library::File<'a>, index: usize, info: PageInfo) -> Self {
+        Self { source: Source::File { file, index }, info }
+    }
+
+    /// The number that the segments name the page by.
+    pub fn number(&self) -> u32 {
+        self.info.number
+    }
+
+    /// The width in pixels, from 1 to 65535.
+    pub fn width(&self) -> u32 {
+        self.info.width
+    }
+
+    /// The height in pixels, from 1 to 65535.
+    pub fn height(&self) -> u32 {
+        self.info.height
+    }
+
+    /// Width and height in pixels.
+    pub fn dimensions(&self) -> (u32, u32) {
+        (self.width(), self.height())
+    }
+
+    /// Decodes the page and passes it to `decoder`.
+    ///
+    /// # Errors
+    ///
+    /// The first fault, or want of memory; `decoder` is not called then.
+    pub fn decode<D: Decoder>(&self, decoder: &mut D) -> Result<()> {
+        self.decode_with(decoder, &mut DecoderContext::default())
+    }
+
+    /// As [`decode`](Self::decode), in the room of earlier pages.
+    ///
+    /// # Errors
+    ///
+    /// As of [`decode`](Self::decode); `ctx` serves the next page all the same.
+    pub fn decode_with<D: Decoder>(&self, decoder: &mut D, ctx: &mut DecoderContext) -> Result<()> {
+        self.draw(ctx)?;
+        let mut block = [0; BLOCK];
+        let row_bytes = self.row_bytes();
+        let most = BLOCK / row_bytes;
+        for y in (0..self.height()).step_by(most) {
+            let count = most.min((self.height() - y) as usize);
+            let rows = &mut block[..count * row_bytes];
+            ctx.inner.copy_rows(y as usize * row_bytes, rows)?;
+            push_rows(rows, self.width(), decoder);
+        }
+        Ok(())
+    }
+
+    /// Decodes the page to a byte for each pixel, rows from the top: 0 is black and 255 is white.
+    ///
+    /// # Errors
+    ///
+    /// The first fault, or want of memory; `image` is as it was then.
+    ///
+    /// # Panics
+    ///
+    /// If `image` has not width times height bytes.
+    pub fn read_image(&self, image: &mut [u8]) -> Result<()> {
+        let size = self.width() as usize * self.height() as usize;
+        assert_eq!(image.len(), size, "a page of another size");
+        self.decode(&mut image::Writer::new(image))
+    }
+
+    /// Decodes the page to packed rows, from the top: a bit for each pixel, 1 is black, the leftmost the highest of its
+    /// byte. A row has `width.div_ceil(8)` bytes, whose last bits are 0 after the width.
+    ///
+    /// # Errors
+    ///
+    /// The first fault, or want of memory; `rows` is as it was then.
+    ///
+    /// # Panics
+    ///
+    /// If `rows` has not `width.div_ceil(8)` times height bytes.
+    pub fn read_packed(&self, rows: &mut [u8]) -> Result<()> {
+        assert_eq!(rows.len(), self.row_bytes() * self.height() as usize, "a page of another size");
+        let mut context = DecoderContext::default();
+        self.draw(&mut context)?;
+        context.inner.copy_rows(0, rows)
+    }
+
+    fn row_bytes(&self) -> usize {
+        self.width().div_ceil(8) as usize
+    }
+
+    fn draw(&self, ctx: &mut DecoderContext) -> Result<()> {
+        match &self.source {
+            Source::Embedded(page) => page.draw(&mut ctx.inner),
+            Source::File { file, index } => file.draw(*index, &mut ctx.inner),
+        }
+    }
+}

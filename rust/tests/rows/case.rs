@@ -1,0 +1,130 @@
+//! The cases of the rows, as the sources of the rows name them.
+
+use crate::call::Call;
+use crate::coder::CoderCase;
+use crate::file_case::FileCase;
+use crate::spelling::spelled;
+use crate::watcher::Watcher;
+use hayro_jbig2::{DecodeError, DecodeSettings, DecoderContext, Globals, Page};
+
+pub struct Row {
+    pub name: &'static str,
+    pub cases: &'static [Case],
+}
+
+#[derive(Clone, Copy)]
+pub enum Modes {
+    Strict,
+    Lenient,
+    Both,
+}
+
+impl Modes {
+    /// The settings of these modes.
+    pub fn settings(self) -> &'static [DecodeSettings] {
+        const MODES: &[DecodeSettings] = &[DecodeSettings { strict: true }, DecodeSettings { strict: false }];
+        match self {
+            Modes::Strict => &MODES[..1],
+            Modes::Lenient => &MODES[1..],
+            Modes::Both => MODES,
+        }
+    }
+}
+
+/// What becomes of a page.
+pub enum Answer {
+    /// It is drawn by exactly these calls.
+    Calls(&'static [Call]),
+    /// Its constructor returns this error.
+    Refused(DecodeError),
+    /// Decoding returns this error and makes no call.
+    Undrawn(DecodeError),
+}
+
+impl Answer {
+    pub fn check(&self, name: &str, page: hayro_jbig2::Result<Page<'_>>, context: &mut DecoderContext) {
+        let page = match (self, page) {
+            (Answer::Refused(expected), page) => {
+                assert_eq!(page.err(), Some(*expected), "row {name}");
+                return;
+            }
+            (_, page) => page.unwrap_or_else(|error| panic!("row {name}: {error}")),
+        };
+        let mut watcher = Watcher::default();
+        let drawn = page.decode_with(&mut watcher, context);
+        match self {
+            Answer::Calls(calls) => {
+                assert_eq!(drawn, Ok(()), "row {name}");
+                assert_eq!(watcher.calls, *calls, "row {name}");
+            }
+            Answer::Undrawn(expected) | Answer::Refused(expected) => {
+                assert_eq!(drawn, Err(*expected), "row {name}");
+                assert!(watcher.calls.is_empty(), "row {name}");
+            }
+        }
+    }
+}
+
+#[allow(dead_code)]
+pub enum Case {
+    Page(Modes, &'static str, Answer),
+    /// What becomes of an embedded page strictly, and what leniently.
+    ByMode(&'static str, Answer, Answer),
+    /// What becomes of the beginnings that have from the first to the second number of bytes.
+    Beginnings(Modes, &'static str, (usize, usize), Answer),
+    Shared {
+        globals: &'static str,
+        bytes: &'static str,
+        answer: Answer,
+    },
+    Size {
+        bytes: &'static str,
+        number: u32,
+        width: u32,
+        height: u32,
+    },
+    Coder(CoderCase),
+    File(FileCase),
+}
+
+impl Case {
+    /// Fails where a case does not hold; returns false for one of what this crate has not.
+    pub fn check(&self, name: &str, context: &mut DecoderContext) -> bool {
+        match self {
+            Case::Page(modes, bytes, answer) => check_page(name, *modes, &spelled(bytes), answer, context),
+            Case::ByMode(bytes, strict, lenient) => {
+                check_page(name, Modes::Strict, &spelled(bytes), strict, context);
+                check_page(name, Modes::Lenient, &spelled(bytes), lenient, context);
+            }
+            Case::Beginnings(modes, bytes, (first, last), answer) => {
+                let bytes = spelled(bytes);
+                for length in *first..=*last {
+                    check_page(name, *modes, &bytes[..length], answer, context);
+                }
+            }
+            Case::Shared { globals, bytes, answer } => check_shared(name, globals, bytes, answer, context),
+            Case::Size { bytes, number, width, height } => {
+                let bytes = spelled(bytes);
+                let page = Page::new_embedded(&bytes, None, &DecodeSettings::default()).unwrap();
+                assert_eq!((page.number(), page.width(), page.height()), (*number, *width, *height), "row {name}");
+            }
+            Case::File(case) => case.check(name, context),
+            Case::Coder(_) => return false,
+        }
+        true
+    }
+}
+
+fn check_page(name: &str, modes: Modes, bytes: &[u8], answer: &Answer, context: &mut DecoderContext) {
+    for settings in modes.settings() {
+        answer.check(name, Page::new_embedded(bytes, None, settings), context);
+    }
+}
+
+fn check_shared(name: &str, globals: &str, bytes: &str, answer: &Answer, context: &mut DecoderContext) {
+    let bytes = spelled(bytes);
+    for settings in Modes::Both.settings() {
+        let globals = Globals::new(&spelled(globals), settings).unwrap();
+        answer.check(name, Page::new_embedded(&bytes, Some(&globals), settings), context);
+    }
+}
