@@ -5,6 +5,7 @@ const note = document.querySelector("#note");
 
 function shown({ file, name, width, height, data, milliseconds, error }) {
   const figure = document.createElement("figure");
+  figure.dataset.file = file;
   const caption = document.createElement("figcaption");
   if (error) {
     figure.className = "error";

@@ -5,7 +5,7 @@ import { Pdf, isPdf } from "./pdf.js";
 const loaded = Decoder.load(fetch(new URL("hayro_jbig2.wasm", import.meta.url)));
 
 /** What there is to decode in a file: a name for each page, and how to decode it. */
-async function* pagesOf(bytes, globals) {
+async function* pagesOf(bytes) {
   const decoder = await loaded;
   if (isPdf(bytes)) {
     for await (const image of (await Pdf.open(bytes)).images()) {
@@ -13,18 +13,18 @@ async function* pagesOf(bytes, globals) {
     }
   } else if (isFile(bytes)) {
     const count = decoder.pageCount(bytes);
-    for (let page = 0; page < count; page++) yield [`page ${page}`, () => decoder.decode(bytes, { page })];
+    for (let page = 0; page < count; page++) yield [`page ${page + 1} of ${count}`, () => decoder.decode(bytes, { page })];
   } else {
-    yield ["embedded page", () => decoder.decode(bytes, { globals })];
+    yield ["embedded page", () => decoder.decode(bytes)];
   }
 }
 
 const described = (error) => (error.error ? `${error.error}: ${error.message}` : String(error.message ?? error));
 
-onmessage = async ({ data: { file, bytes } }) => {
+async function show({ file, bytes }) {
   let count = 0;
   try {
-    for await (const [name, decode] of pagesOf(bytes, null)) {
+    for await (const [name, decode] of pagesOf(bytes)) {
       count++;
       try {
         const began = performance.now();
@@ -40,4 +40,7 @@ onmessage = async ({ data: { file, bytes } }) => {
     postMessage({ file, name: "file", error: described(error) });
   }
   postMessage({ file, done: true });
-};
+}
+
+let last = Promise.resolve();
+onmessage = ({ data }) => (last = last.then(() => show(data)));
