@@ -73,8 +73,11 @@ function checkFile(name, bytes, strict, pages) {
 async function checkPdf(name, bytes, pages) {
   check(isPdf(bytes), name);
   const found = [];
-  for await (const { bytes: stream, globals } of (await Pdf.open(bytes)).images())
+  const pdf = await Pdf.open(bytes);
+  for (const number of pdf.images()) {
+    const { bytes: stream, globals } = await pdf.streams(number);
     found.push(outcome(() => decoder.decode(stream, { globals })));
+  }
   check(isSame(found.map(String).sort(), pages.map(String).sort()), name);
 }
 
