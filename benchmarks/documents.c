@@ -4,8 +4,8 @@
  * usage: documents WAY THREADS PAGES GLOBALS STREAM OUT
  *
  * WAY is "bytes" or "handles", the calls of the library for C, or a libjbig2dec.so.0, which is loaded. Each thread draws
- * PAGES pages. Prints the seconds that passed and the seconds of the processor, and writes the page to OUT as PBM. Status
- * 1 where a page is refused or is another one than the first.
+ * its share of PAGES pages. Prints the seconds that passed and the seconds of the processor, and writes the page to OUT as
+ * PBM. Status 1 where a page is refused or is another one than the first.
  */
 #include "abi.h"
 #include "hayro_jbig2.h"
@@ -238,8 +238,8 @@ static double seconds(clockid_t clock) {
 
 int main(int count, char **words) {
     static struct worker workers[MOST_THREADS];
-    unsigned threads = count == 7 ? (unsigned)atoi(words[2]) : 0;
-    if (threads == 0 || threads > MOST_THREADS)
+    unsigned threads = count == 7 ? (unsigned)atoi(words[2]) : 0, pages = count == 7 ? (unsigned)atoi(words[3]) : 0;
+    if (threads == 0 || threads > MOST_THREADS || pages < threads)
         fail("usage: documents WAY THREADS PAGES GLOBALS STREAM OUT");
     const struct way *way = way_of(words[1]);
     globals = read_file(words[4]);
@@ -248,7 +248,7 @@ int main(int count, char **words) {
     way->share(workers, threads);
     for (unsigned i = 0; i < threads; i++) {
         workers[i].way = way;
-        workers[i].pages = (unsigned)atoi(words[3]);
+        workers[i].pages = pages / threads + (i < pages % threads);
         if (pthread_create(&workers[i].thread, NULL, work, &workers[i]) != 0)
             fail("no thread");
     }

@@ -85,8 +85,10 @@ fn main() {
     let (began, used_before) = (Instant::now(), used());
     let globals = Globals::new(&globals, &DecodeSettings::default()).expect("the globals are decoded");
     let drawn = thread::scope(|scope| {
-        let draw = || work(&globals, &stream, pages, way == "packed");
-        let running: Vec<_> = (0..threads).map(|_| scope.spawn(draw)).collect();
+        let (globals, stream) = (&globals, &stream);
+        let share = |at: usize| pages / threads + usize::from(at < pages % threads);
+        let draw = |at| move || work(globals, stream, share(at), way == "packed");
+        let running: Vec<_> = (0..threads).map(|at| scope.spawn(draw(at))).collect();
         running.into_iter().map(|thread| thread.join().expect("all pages are drawn")).last()
     });
     println!("{:.6} {:.6}", began.elapsed().as_secs_f64(), used() - used_before);
