@@ -40,7 +40,7 @@ class Library:
     call of more than LONGEST seconds, which ends this process."""
 
     def __init__(self, file, folder):
-        library = ctypes.CDLL(file if file.endswith(".so") else linked(file, folder))
+        library = ctypes.CDLL(linked(file, folder) if file.endswith(".a") else file)
         prefix = "hayro_jbig2_" if hasattr(library, "hayro_jbig2_page_size") else "jbig2_"
         names = ("page_size", "page_packed", "error_text")
         self.size, self.rows, self.text = (getattr(library, prefix + name) for name in names)
