@@ -22,6 +22,9 @@ use jbig2_symbol::symbol::{self, SymbolDictionary};
 use std::alloc::Allocator;
 use std::sync::ledger::Ledger;
 
+/// The work of a new symbol besides its bitmap.
+const NEW_SYMBOL: u64 = 16;
+
 /// A symbol dictionary (T.88, 7.4.2), after what it refers to.
 #[tactic(auto, using(crate::proofs::SegmentCauses::symbol_dictionary_causes, crate::proofs::SegmentCauses::referred_causes), unfolding(crate::specs::Names::symbol_dictionary_at))]
 fn decode_symbols<A: Allocator + Clone, L: Ledger>(
@@ -43,6 +46,8 @@ fn decode_symbols<A: Allocator + Clone, L: Ledger>(
     let referred = gather_referred(workspace.alloc.clone()?, lookup, numbers)?;
     let mut reader = Reader::new(segment.bytes);
     let header = symbol::parse(&mut reader, lookup.strict)?;
+    referred.pay_symbols(steps)?;
+    steps.pay(u64::from(header.num_new_symbols) * NEW_SYMBOL)?;
     symbol::decode(
         workspace.alloc.clone()?,
         &header,

@@ -159,11 +159,12 @@ fn kept_globals<A: Allocator + Clone>(
     alloc: A,
     strict: bool,
     segments: &[Segment<'_, A>],
+    work: Option<u64>,
 ) -> Result<Result<Globals<A>>>
     ensures { Gives (λ kept. kept) result
         (Ok (named_from strict (segment_views segments.now) no_names)) }
 {
-    match Globals::from_segments(alloc, strict, segments) {
+    match Globals::from_segments(alloc, strict, segments, work) {
         Ok(globals) => Ok(Ok(globals)),
         Err(DecodeError::OutOfMemory) => Err(DecodeError::OutOfMemory),
         Err(error) => Ok(Err(error)),
@@ -176,12 +177,26 @@ impl<'a, A: Allocator + Clone> File<'a, A> {
     /// Refused by the first fault of the segments, then of their associations, of the count of
     /// pages, and of each page's end and size. The segments of no page are decoded too; a fault
     /// there is what decoding a page answers.
-    #[tactic(auto, using(crate::proofs::Causes::file_causes, crate::proofs::PageCauses::file_globals_causes), unfolding(crate::specs::Files::book_at))]
+    #[tactic(auto, using(crate::proofs::Causes::file_causes, crate::proofs::PageCauses::file_globals_causes))]
     pub fn new(alloc: A, bytes: &'a [u8], settings: &DecodeSettings) -> Result<File<'a, A>>
         ensures value { Gives (λ file. file) result (book_at settings.now.strict bytes.now) }
         ensures causes { (strict : Bool) → HaveCauses (book_at strict) (BreaksBook strict) }
         ensures globals { (strict : Bool) (ps : List SegmentView)
             → HaveCauses (named_from strict ps) (BreaksNames strict ps) }
+    {
+        File::new_within(alloc, bytes, settings, None)
+    }
+
+    /// The file as `new` has it, where the segments of no page are decoded for at most `work` units of work. Where that
+    /// isn't enough it is refused with `DecodeError::OutOfMemory`, as memory is. `None` is no limit.
+    #[tactic(auto, unfolding(crate::specs::Files::book_at))]
+    pub fn new_within(
+        alloc: A,
+        bytes: &'a [u8],
+        settings: &DecodeSettings,
+        work: Option<u64>,
+    ) -> Result<File<'a, A>>
+        ensures { Gives (λ file. file) result (book_at settings.now.strict bytes.now) }
     {
         let strict = settings.strict;
         let file = parse_file(alloc.clone()?, bytes, strict)?;
@@ -191,7 +206,7 @@ impl<'a, A: Allocator + Clone> File<'a, A> {
             return Err(DecodeError::Format(FormatError::PageCountMismatch));
         }
         let pages = read_pages(alloc.clone()?, strict, segments.pages)?;
-        let globals = kept_globals(alloc, strict, &segments.shared)?;
+        let globals = kept_globals(alloc, strict, &segments.shared, work)?;
         Ok(File {
             strict,
             pages,

@@ -253,8 +253,10 @@ impl<'a, A: Allocator + Clone> Page<'a, A> {
         requires enough { blank.parts ≡ 6 }
         ensures { Gives (λ _. context.new) result (drawing_of_page self.now) }
     {
-        let mut steps = Steps::<L>::new(Permit::grant(), blank);
-        self.draw_into(context, &mut steps)
+        let mut steps = context.new_steps::<L>(blank);
+        let drawn = self.draw_into(context, &mut steps);
+        context.end(&steps);
+        drawn
     }
 
     /// The context that the page is drawn in, a fresh one.
@@ -305,8 +307,10 @@ impl<'a, A: Allocator + Clone> Page<'a, A> {
         ensures calls { Decodes D.conduct (grid_of_page self.now) result decoder.old decoder.new }
         ensures drawing { IfOk (drawing_of_page self.now) (Leaves result context.new) }
     {
-        let mut steps = Steps::<L>::new(Permit::grant(), blank);
-        match self.draw_into(context, &mut steps) {
+        let mut steps = context.new_steps::<L>(blank);
+        let drawn = self.draw_into(context, &mut steps);
+        context.end(&steps);
+        match drawn {
             Ok(()) => push_bitmap(&context.bitmap, decoder, &mut steps),
             Err(error) => Err(error),
         }
@@ -341,6 +345,9 @@ impl<'a, A: Allocator + Clone> Page<'a, A> {
             (segments_drawn self.now.strict globals.now self.now.segments
             (page_begun self.now.initial_page)) }
     {
+        // A page is cleared, and then handed out.
+        let (width, height) = self.dimensions();
+        steps.pay_bitmaps(2, width, height)?;
         context.begin(&self.initial_page)?;
         let drawer = Drawer {
             strict: self.strict,

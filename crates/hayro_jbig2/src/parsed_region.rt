@@ -1,5 +1,5 @@
 //! Regions whose headers are read (T.88, 7.4.3 and 7.4.5 to 7.4.7).
-ghost use Rattle.std.specs.Prelude.{◌≡◌};
+ghost use Rattle.std.specs.Prelude.{◌≡◌, IfErr};
 ghost use Rattle.jbig2_base.specs.Answer.{Gives};
 ghost use Rattle.jbig2_base.specs.Grid.{blank};
 ghost use Rattle.jbig2_region.specs.inner.RegionViews.{region_view};
@@ -9,7 +9,7 @@ use crate::referred::ReferredSegments;
 use crate::workspace::Workspace;
 use jbig2_base::bitmap::Bitmap;
 use jbig2_base::bitmap::steps::Steps;
-use jbig2_base::error::Result;
+use jbig2_base::error::{DecodeError, Result};
 use jbig2_halftone::halftone::{self, HalftoneRegionHeader};
 use jbig2_halftone::pattern::PatternDictionary;
 use jbig2_region::generic::{self, DecodedRegion, GenericRegionHeader};
@@ -71,6 +71,18 @@ impl<'a, 'n, 'r, A: Allocator + Clone> ParsedRegion<'a, 'n, 'r, A> {
         }
     }
 
+    /// Takes the work of `count` bitmaps of the region's size, and of the symbols that it refers to.
+    pub(crate) fn pay_bitmaps<L: Ledger>(&self, count: u64, steps: &mut Steps<L>) -> Result<()>
+        ensures { IfErr result (λ e. e ≡ DecodeError.OutOfMemory) }
+    {
+        if let ParsedRegion::Text { referred, .. } = self {
+            referred.pay_symbols(steps)?;
+        }
+        let info = self.region_info();
+        steps.pay_bitmaps(count, info.width, info.height)?;
+        Ok(())
+    }
+
     /// Decodes the region into a bitmap of its size that is all in its initial colour.
     pub(crate) fn decode_into<L: Ledger>(
         &self,
@@ -119,6 +131,7 @@ impl<'a, 'n, 'r, A: Allocator + Clone> ParsedRegion<'a, 'n, 'r, A> {
         requires { IsDecodable self }
         ensures { Gives (λ region. region_view region) result (apart self.entry) }
     {
+        self.pay_bitmaps(2, steps)?;
         let info = self.region_info();
         let alloc = workspace.alloc.clone()?;
         let mut bitmap = Bitmap::new_with(alloc, info.width, info.height, self.initial_pixel())?;

@@ -172,6 +172,7 @@ pub fn decode<A: Allocator, B: Allocator, L: Ledger>(
     ensures causes { HaveCauses generic_decoded BreaksGeneric }
 {
     let region_info = &header.region_info;
+    steps.pay_bitmap(region_info.width, region_info.height)?;
     let mut bitmap = Bitmap::new(alloc, region_info.width, region_info.height)?;
     decode_into(header, &mut bitmap, contexts, steps)?;
     Ok(DecodedRegion::new(region_info, bitmap))

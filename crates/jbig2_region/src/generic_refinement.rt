@@ -188,6 +188,7 @@ pub fn decode<A: Allocator, B: Allocator, C: Allocator, L: Ledger>(
     ensures causes { (h : RefinementHeader) → HaveCauses (refined_decoded h) (λ from. BreaksOffset from h.region_info) }
 {
     let region_info = &header.region_info;
+    steps.pay_bitmap(region_info.width, region_info.height)?;
     let mut bitmap = Bitmap::new(alloc, region_info.width, region_info.height)?;
     decode_into(header, reference, &mut bitmap, contexts, steps)?;
     Ok(DecodedRegion::new(region_info, bitmap))

@@ -145,6 +145,7 @@ pub fn refine_alone<R: ReadInstances, A: Allocator, M: Allocator, C: Allocator, 
     let Some(bitmap) = symbols.symbol(id) else {
         return Err(DecodeError::Symbol(SymbolError::OutOfRange));
     };
+    steps.pay_bitmap(size.width, size.height)?;
     let mut refined = new_symbol(alloc, size.width, size.height)?;
     let reference = ReferenceBitmap { bitmap, dx, dy };
     readings.refine(&reference, refining, &mut refined, steps)?;
@@ -167,6 +168,7 @@ pub fn put_together<R: ReadInstances, A: Allocator, M: Allocator + Clone, C: All
         let meant = put_together R.readings p size.width size.height refining.old state in
         Gives (λ g. (g, refining.new, R.state readings.new)) result meant }
 {
+    steps.pay_bitmap(size.width, size.height)?;
     let mut symbol = new_symbol(alloc.clone()?, size.width, size.height)?;
     draw_instances_by(alloc, readings, refining, params, &mut symbol, steps)?;
     Ok(symbol)

@@ -18,6 +18,9 @@ use std::sync::ledger::Ledger;
 /// The most height classes without a symbol.
 const MAX_EMPTY: u32 = 1 << 20;
 
+/// The work of a height class besides its symbols.
+const CLASS: u64 = 256;
+
 /// The new symbols of a dictionary so far.
 #[derive(Drop)]
 struct NewSymbols<A: Allocator> {
@@ -122,6 +125,7 @@ fn read_height_class<R: ReadClasses, A: Allocator + Clone, T: Allocator, L: Ledg
         Gives (λ _. (all.bitmaps.items, (all.height, (all.empty, left)))) result meant }
     ensures few { OnOk result (symbols.new.empty ≤ symbols.old.empty + 1) }
 {
+    steps.pay(CLASS)?;
     let Some(difference) = readings.height_difference(input, steps)? else {
         return Err(DecodeError::Symbol(SymbolError::UnexpectedOob));
     };

@@ -90,6 +90,7 @@ impl<A: Allocator> CodedSymbols<'_, A> {
         ensures causes { (h : SymbolHeader) (width height : ℕ)
             → HaveCauses (coded_symbol h width height) (λ s. BreaksSides width height) }
     {
+        steps.pay_bitmap(width, height)?;
         let mut bitmap = Bitmap::new(alloc, width, height)?;
         decode_coded(
             self.contexts.template,

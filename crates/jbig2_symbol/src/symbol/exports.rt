@@ -17,6 +17,9 @@ use std::sync::ledger::Ledger;
 /// The most runs of length 0.
 const MAX_EMPTY: u32 = 1 << 20;
 
+/// The work of reading a run.
+const RUN: u64 = 64;
+
 /// Reads a run, where `left` symbols are not covered yet and `empty` runs of length 0 came before.
 #[tactic(auto, unfolding(crate::specs::Symbols::next_run))]
 fn read_run<R: ReadClasses, A: Allocator, T: Allocator, L: Ledger>(
@@ -70,6 +73,7 @@ pub fn read_runs<R: ReadClasses, M: Allocator, A: Allocator, T: Allocator, L: Le
         if left == 0 {
             break;
         }
+        steps.pay(RUN)?;
         let run = match read_run(input, empty, left, readings, steps) {
             Ok(run) => run,
             Err(error) => return Err(error),
@@ -79,6 +83,18 @@ pub fn read_runs<R: ReadClasses, M: Allocator, A: Allocator, T: Allocator, L: Le
         empty += u32::from(run == 0);
     }
     Ok(runs)
+}
+
+/// A copy of a symbol.
+fn duplicate<A: Allocator, S: Allocator, L: Ledger>(
+    alloc: A,
+    symbol: &Bitmap<S>,
+    steps: &mut Steps<L>,
+) -> Result<Bitmap<A>>
+    ensures { Gives (λ copy. copy) result (Ok symbol.now) }
+{
+    steps.pay_bitmap(symbol.width(), symbol.height())?;
+    symbol.duplicate(alloc, steps)
 }
 
 /// A copy of a symbol, by its number among those that are referred to and the new ones behind them.
@@ -95,9 +111,9 @@ fn duplicate_symbol<A: Allocator, S: Allocator, L: Ledger>(
         Gives (λ symbol. symbol) result meant }
 {
     if index < symbols.len() {
-        return symbols[index].duplicate(alloc, steps);
+        return duplicate(alloc, symbols[index], steps);
     }
-    new[index - symbols.len()].duplicate(alloc, steps)
+    duplicate(alloc, &new[index - symbols.len()], steps)
 }
 
 /// Puts copies of `count` symbols from number `first` on behind those that are exported so far.

@@ -19,6 +19,9 @@ use jbig2_base::error::{DecodeError, Result, SymbolError};
 use std::alloc::Allocator;
 use std::sync::ledger::Ledger;
 
+/// The work of an instance besides the pixels of its symbol.
+const INSTANCE: u64 = 256;
+
 /// How many instances a byte of a segment may stand for.
 const INSTANCES_PER_BYTE: usize = 32;
 
@@ -77,11 +80,15 @@ fn read_instance<'a, R: ReadInstances, B: Allocator, M: Allocator + Clone, C: Al
         let meant = with_instance R.readings (params_view params.now) before in
         Gives (λ _. reached_view placed.new refining.new (R.state readings.new)) result meant }
 {
+    steps.pay(INSTANCE)?;
     let t = read_t_in_strip(readings, &params.flags, steps)?;
     let t = numbers::moved(placed.cursor.strip_t, t)?;
     let id = readings.id(steps)?;
     let alloc = placed.instances.allocator().clone()?;
     let symbol = read_symbol(alloc, readings, refining, params, id, steps)?;
+    if let Some(symbol) = &symbol {
+        steps.pay_bitmap(symbol.width(), symbol.height())?;
+    }
     placed.push_symbol(&params.flags, t, symbol)
 }
 
