@@ -44,4 +44,5 @@ export const ERRORS = {
   41: ["OUT_OF_MEMORY", "out of memory"],
   100: ["OTHER_SIZE", "buffer of another size than the page"],
   101: ["NO_SUCH_PAGE", "no such page"],
+  102: ["OTHER_HANDLE", "handle of another kind"],
 };

@@ -21,10 +21,11 @@ export class Jbig2Error extends Error {
 }
 
 const PAGE = 65536;
-const HEADER = [0x97, 0x4a, 0x42, 0x32, 0x0d, 0x0a, 0x1a, 0x0a];
+// What the identification of a file begins with (Annex D.4.1). The rest of it tells files that were damaged on the way.
+const BEGINNING = [0x97, 0x4a, 0x42, 0x32];
 
-/** Whether bytes begin as a JBIG2 file does (Annex D.4.1). Other bytes are those of an embedded page, as PDF has them. */
-export const isFile = (bytes) => HEADER.every((byte, place) => bytes[place] === byte);
+/** Whether bytes begin as a JBIG2 file does. Other bytes are those of an embedded page, as PDF has them. */
+export const isFile = (bytes) => BEGINNING.every((byte, place) => bytes[place] === byte);
 
 /** The size that is handed out for a request: a multiple of 16, of at most four sizes in each doubling. */
 function rounded(size) {
@@ -37,6 +38,7 @@ function rounded(size) {
 class Heap {
   constructor(most) {
     this.most = most;
+    this.held = 0;
     this.free = new Map();
   }
 
@@ -49,8 +51,13 @@ class Heap {
   /** A block aligned to 16, or 0 where there is no memory for it. */
   take(size) {
     const room = rounded(size);
-    const waiting = this.free.get(room);
-    if (waiting?.length) return waiting.pop();
+    const block = this.free.get(room)?.pop() ?? this.cut(room);
+    if (block) this.held += room;
+    return block;
+  }
+
+  /** A block off the end, or 0. */
+  cut(room) {
     if (this.end + room > this.most) return 0;
     if (this.end + room > this.limit && !this.grow(this.end + room - this.limit)) return 0;
     const block = this.end;
@@ -79,9 +86,15 @@ class Heap {
 
   give(block, size) {
     const room = rounded(size);
+    this.held -= room;
     if (!this.free.has(room)) this.free.set(room, []);
     this.free.get(room).push(block);
   }
+}
+
+async function bodyOf(response) {
+  if (!response.ok) throw new Error(`hayro_jbig2.wasm could not be loaded: ${response.status} ${response.statusText}`);
+  return response.arrayBuffer();
 }
 
 /** A loaded decoder. One page is decoded at a time; several may be loaded, in workers of their own. */
@@ -103,14 +116,19 @@ export class Decoder {
         jbig2_c_give_back: (_memory, block, size) => heap.give(Number(block), Number(size)),
       },
     };
-    const bytes = source instanceof Promise ? await (await source).arrayBuffer() : source;
+    const bytes = source instanceof Promise ? await bodyOf(await source) : source;
     const { instance } = await WebAssembly.instantiate(bytes, imports);
     decoder.#exports = instance.exports;
     heap.begin(instance.exports.memory);
     return decoder;
   }
 
-  /** Numbers, widths and heights are read in one go: how many pages a file has. */
+  /** How many bytes of its memory are in use: none between two calls. */
+  get held() {
+    return this.#heap.held;
+  }
+
+  /** How many pages a file has. */
   pageCount(bytes, { strict = false } = {}) {
     return this.#with([bytes], 8, ([file], out) => {
       this.#call("hayro_jbig2_page_count", strict, ...file, out);
@@ -119,11 +137,12 @@ export class Decoder {
   }
 
   /**
-   * Decodes a page: of a file by its index from 0, or an embedded page with its globals, if it has some.
+   * Decodes a page: of a file by its index from 0, or an embedded page with its globals, if it has some. Bytes with globals
+   * are an embedded page, others a file where `isFile` says so.
    * @returns {{width: number, height: number, data: Uint8ClampedArray}} pixels as ImageData has them
    */
   decode(bytes, { globals = null, page = 0, strict = false } = {}) {
-    const file = isFile(bytes);
+    const file = globals === null && isFile(bytes);
     const inputs = file ? [bytes] : [bytes, globals ?? new Uint8Array(0)];
     return this.#with(inputs, 8, ([stream, shared], out) => {
       const index = file ? [BigInt(page)] : [];

@@ -3,18 +3,34 @@ const worker = new Worker(new URL("worker.js", import.meta.url), { type: "module
 const pages = document.querySelector("#pages");
 const note = document.querySelector("#note");
 
-function shown({ file, name, width, height, data, milliseconds, error }) {
+// A page that is narrower than this is shown enlarged, by a whole number.
+const NARROW = 400;
+
+function drawn({ width, height, data }) {
+  const canvas = document.createElement("canvas");
+  [canvas.width, canvas.height] = [width, height];
+  const context = canvas.getContext("2d");
+  context.putImageData(new ImageData(data, width, height), 0, 0);
+  // A canvas that is too large for the browser stays clear.
+  if (context.getImageData(0, 0, 1, 1).data[3] !== 255) throw new Error(`too large for this browser to show: ${width} by ${height} pixels`);
+  if (width < NARROW) {
+    canvas.className = "enlarged";
+    canvas.style.width = `${Math.floor(NARROW / width) * width}px`;
+  }
+  return canvas;
+}
+
+function shown({ file, name, error, milliseconds, ...page }) {
   const figure = document.createElement("figure");
   const caption = document.createElement("figcaption");
-  if (error) {
+  figure.dataset.file = file;
+  try {
+    if (error) throw new Error(error);
+    figure.append(drawn(page));
+    caption.textContent = `${file}, ${name}: ${page.width} by ${page.height} pixels, ${milliseconds.toFixed(1)} ms`;
+  } catch ({ message }) {
     figure.className = "error";
-    caption.textContent = `${file}, ${name}: ${error}`;
-  } else {
-    const canvas = document.createElement("canvas");
-    [canvas.width, canvas.height] = [width, height];
-    canvas.getContext("2d").putImageData(new ImageData(data, width, height), 0, 0);
-    caption.textContent = `${file}, ${name}: ${width} by ${height} pixels, ${milliseconds.toFixed(1)} ms`;
-    figure.append(canvas);
+    caption.textContent = `${file}, ${name}: ${message}`;
   }
   figure.append(caption);
   return figure;

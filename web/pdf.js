@@ -7,9 +7,16 @@
 
 const text = (bytes) => new TextDecoder("latin1").decode(bytes);
 
+/** What a stream of zlib unpacks to, as far as it goes: bytes after its end, and damage there, take nothing away. */
 async function inflated(bytes) {
-  const stream = new Blob([bytes]).stream().pipeThrough(new DecompressionStream("deflate"));
-  return new Uint8Array(await new Response(stream).arrayBuffer());
+  const reader = new Blob([bytes]).stream().pipeThrough(new DecompressionStream("deflate")).getReader();
+  const parts = [];
+  try {
+    for (let part = await reader.read(); !part.done; part = await reader.read()) parts.push(part.value);
+  } catch (error) {
+    if (parts.length === 0) throw new Error(`a stream can't be unpacked: ${error.message}`);
+  }
+  return new Uint8Array(await new Blob(parts).arrayBuffer());
 }
 
 /** The value after a key of a dictionary: a name, a number, a reference, an array or a dictionary, as text. */
@@ -59,8 +66,9 @@ export class Pdf {
     this.#objects.set(Number(match[1]), object);
   }
 
-  /** Objects that stand in object streams (7.5.7). */
+  /** Objects that stand in object streams (7.5.7) and nowhere else. */
   async #addFromStreams() {
+    const found = new Set(this.#objects.keys());
     for (const object of [...this.#objects.values()]) {
       if (object.begin === undefined || valueOf(object.dictionary, "Type") !== "/ObjStm") continue;
       const body = text(await this.#data(object));
@@ -70,7 +78,7 @@ export class Pdf {
       for (let place = 0; place < count; place++) {
         const end = place + 1 < count ? first + numbers[2 * place + 3] : undefined;
         const dictionary = body.slice(first + numbers[2 * place + 1], end);
-        if (!this.#objects.has(numbers[2 * place])) this.#objects.set(numbers[2 * place], { dictionary });
+        if (!found.has(numbers[2 * place])) this.#objects.set(numbers[2 * place], { dictionary });
       }
     }
   }
@@ -86,18 +94,21 @@ export class Pdf {
     return this.#referred(value)?.dictionary.trim() ?? value;
   }
 
-  /** The bytes of a stream, its /FlateDecode filters undone. */
+  /** The bytes of a stream, its /FlateDecode filters undone. Others, which are rare beside /JBIG2Decode, are refused. */
   async #data(object) {
     const length = Number(this.#resolved(object.dictionary, "Length"));
     const whole = text(this.bytes.subarray(object.begin, object.begin + length + 20));
     const end = Number.isInteger(length) && /^\s*endstream/.test(whole.slice(length)) ? length : this.#searched(object);
     let data = this.bytes.subarray(object.begin, object.begin + end);
-    for (const filter of this.#filters(object)) if (filter === "FlateDecode") data = await inflated(data);
+    for (const filter of this.#filters(object)) {
+      if (filter === "FlateDecode" || filter === "Fl") data = await inflated(data);
+      else if (filter !== "JBIG2Decode") throw new Error(`the filter ${filter} is not read here`);
+    }
     return data;
   }
 
   #searched(object) {
-    const end = text(this.bytes.subarray(object.begin)).indexOf("endstream");
+    const end = text(this.bytes.subarray(object.begin)).search(/(\r\n|\r|\n)?endstream/);
     return end < 0 ? this.bytes.length - object.begin : end;
   }
 
@@ -106,14 +117,18 @@ export class Pdf {
     return [...names.matchAll(/\/([^\s/<>[\]()]+)/g)].map((match) => match[1]);
   }
 
-  /** The JBIG2 images in the order of the file: the number of their object, their bytes, and their globals' or null. */
-  async *images() {
-    for (const [number, object] of this.#objects) {
-      if (object.begin === undefined || !this.#filters(object).includes("JBIG2Decode")) continue;
-      const shared = this.#referred(valueOf(this.#resolved(object.dictionary, "DecodeParms") ?? "", "JBIG2Globals"));
-      const globals = shared?.begin === undefined ? null : await this.#data(shared);
-      yield { number, bytes: await this.#data(object), globals };
-    }
+  /** The numbers of the objects that are JBIG2 images. */
+  images() {
+    const isImage = (object) => object.begin !== undefined && this.#filters(object).includes("JBIG2Decode");
+    return [...this.#objects].filter(([, object]) => isImage(object)).map(([number]) => number);
+  }
+
+  /** The bytes of an image, and its globals' or null. */
+  async streams(number) {
+    const object = this.#objects.get(number);
+    const shared = this.#referred(valueOf(this.#resolved(object.dictionary, "DecodeParms") ?? "", "JBIG2Globals"));
+    const globals = shared?.begin === undefined ? null : await this.#data(shared);
+    return { bytes: await this.#data(object), globals };
   }
 }
 

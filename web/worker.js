@@ -4,40 +4,46 @@ import { Pdf, isPdf } from "./pdf.js";
 
 const loaded = Decoder.load(fetch(new URL("hayro_jbig2.wasm", import.meta.url)));
 
-/** What there is to decode in a file: a name for each page, and how to decode it. */
-async function* pagesOf(bytes, globals) {
+/** What there is to decode in a file: the name of each page, and how to decode it. */
+async function pagesOf(bytes) {
   const decoder = await loaded;
   if (isPdf(bytes)) {
-    for await (const image of (await Pdf.open(bytes)).images()) {
-      yield [`object ${image.number}`, () => decoder.decode(image.bytes, { globals: image.globals })];
-    }
-  } else if (isFile(bytes)) {
-    const count = decoder.pageCount(bytes);
-    for (let page = 0; page < count; page++) yield [`page ${page}`, () => decoder.decode(bytes, { page })];
-  } else {
-    yield ["embedded page", () => decoder.decode(bytes, { globals })];
+    const pdf = await Pdf.open(bytes);
+    return pdf.images().map((number) => {
+      const decode = ({ bytes, globals }) => decoder.decode(bytes, { globals });
+      return [`object ${number}`, () => pdf.streams(number).then(decode)];
+    });
   }
+  if (!isFile(bytes)) return [["embedded page", () => decoder.decode(bytes)]];
+  const count = decoder.pageCount(bytes);
+  return Array.from({ length: count }, (_, page) => [`page ${page + 1} of ${count}`, () => decoder.decode(bytes, { page })]);
 }
 
 const described = (error) => (error.error ? `${error.error}: ${error.message}` : String(error.message ?? error));
 
-onmessage = async ({ data: { file, bytes } }) => {
-  let count = 0;
+/** Decodes a page and sends it to the page that shows it, or its error. */
+async function show(file, name, decode) {
   try {
-    for await (const [name, decode] of pagesOf(bytes, null)) {
-      count++;
-      try {
-        const began = performance.now();
-        const { width, height, data } = decode();
-        const milliseconds = performance.now() - began;
-        postMessage({ file, name, width, height, data, milliseconds }, [data.buffer]);
-      } catch (error) {
-        postMessage({ file, name, error: described(error) });
-      }
-    }
-    if (count === 0) postMessage({ file, name: "no pages", error: "no JBIG2 image in this file" });
+    const began = performance.now();
+    const { width, height, data } = await decode();
+    const milliseconds = performance.now() - began;
+    postMessage({ file, name, width, height, data, milliseconds }, [data.buffer]);
   } catch (error) {
-    postMessage({ file, name: "file", error: described(error) });
+    postMessage({ file, name, error: described(error) });
+  }
+}
+
+async function showFile({ file, bytes }) {
+  try {
+    const pages = await pagesOf(bytes);
+    for (const [name, decode] of pages) await show(file, name, decode);
+    if (pages.length === 0) postMessage({ file, name: "no pages", error: "no JBIG2 image in this file" });
+  } catch (error) {
+    postMessage({ file, name: "no pages", error: described(error) });
   }
   postMessage({ file, done: true });
-};
+}
+
+// One file after the other.
+let last = Promise.resolve();
+onmessage = ({ data }) => (last = last.then(() => showFile(data)));

@@ -1,168 +1,161 @@
 #!/usr/bin/env python3
-"""Opens ../index.html in headless Chromium, hands it files, and compares what it shows.
+"""Opens ../index.html in headless Chromium, hands it files, and compares what it shows with the folder's answers.json.
 
-usage: web/tests/browser.py PROGRAM FOLDER [SCREENSHOT]
+usage: web/tests/browser.py FOLDER
+       web/tests/browser.py --picture PICTURE.png FILE ..
 
-PROGRAM is jbig2-decode, FOLDER has .jb2 and .pdf files. Each .jb2 file's pages must be shown as PROGRAM draws them. With
-SCREENSHOT the page is saved as a picture. The last line counts. Chromium talks over a pipe, and loads from this computer alone.
+The second drops files onto the page, and saves a picture of it. The page loads from this computer alone.
 """
 import base64
 import functools
 import http.server
 import json
-import os
-import shutil
-import subprocess
+import pathlib
 import sys
 import tempfile
 import threading
-import time
 
-WEB = os.path.dirname(os.path.dirname(os.path.abspath(__file__)))
-# All that is shown: the text under each picture, and a sum over its pixels, black 1.
-SHOWN = """JSON.stringify([...document.querySelectorAll("figure")].map((figure) => {
-  const canvas = figure.querySelector("canvas");
-  const caption = figure.textContent.trim();
-  if (!canvas) return { caption };
-  const { data } = canvas.getContext("2d").getImageData(0, 0, canvas.width, canvas.height);
-  const rows = [];
-  for (let y = 0; y < canvas.height; y++) {
-    let row = "";
-    for (let x = 0; x < canvas.width; x += 8) {
-      let byte = 0;
-      for (let k = 0; k < 8; k++) byte = 2 * byte + (x + k < canvas.width && data[4 * (y * canvas.width + x + k)] === 0 ? 1 : 0);
-      row += byte.toString(16).padStart(2, "0");
-    }
-    rows.push(row);
+from chromium import Browser
+
+WEB = pathlib.Path(__file__).resolve().parents[1]
+FILES = "index.html page.css page.js worker.js hayro_jbig2.js errors.js pdf.js hayro_jbig2.wasm".split()
+FILES_AT_ONCE = 100
+# All that is shown: the file, the text and the size of each picture, and the sum of its packed rows, black 1.
+SHOWN = """(async () => {
+  const sumOf = async (canvas) => {
+    const { data } = canvas.getContext("2d").getImageData(0, 0, canvas.width, canvas.height);
+    const stride = Math.ceil(canvas.width / 8);
+    const rows = new Uint8Array(stride * canvas.height);
+    for (let y = 0, at = 0; y < canvas.height; y++)
+      for (let x = 0; x < canvas.width; x++, at += 4) {
+        const [red, green, blue, opacity] = data.subarray(at, at + 4);
+        if (red !== green || red !== blue || opacity !== 255 || (red !== 0 && red !== 255)) return "neither black nor white";
+        if (red === 0) rows[y * stride + (x >> 3)] |= 128 >> (x & 7);
+      }
+    const sum = new Uint8Array(await crypto.subtle.digest("SHA-256", rows));
+    return [...sum].map((byte) => byte.toString(16).padStart(2, "0")).join("");
+  };
+  const shown = [];
+  for (const figure of document.querySelectorAll("figure")) {
+    const canvas = figure.querySelector("canvas");
+    const page = canvas ? [canvas.width, canvas.height, await sumOf(canvas)] : figure.textContent;
+    shown.push([figure.dataset.file, page]);
   }
-  return { caption, width: canvas.width, height: canvas.height, rows: rows.join("") };
-}))"""
+  return JSON.stringify(shown);
+})()"""
 
 
-class Quiet(http.server.SimpleHTTPRequestHandler):
-    extensions_map = {**http.server.SimpleHTTPRequestHandler.extensions_map, ".wasm": "application/wasm", ".js": "text/javascript"}
+class Server(http.server.SimpleHTTPRequestHandler):
+    """Serves the page, and notes what it asks for."""
 
-    def log_message(self, *_words):
-        pass
+    asked = set()
 
-
-class Browser:
-    """Chromium, by its debugging protocol over a pipe."""
-
-    def __init__(self, program, profile):
-        to_child, self.into = os.pipe()
-        self.out, from_child = os.pipe()
-
-        def place_pipes():
-            os.dup2(to_child, 3)
-            os.dup2(from_child, 4)
-
-        words = [program, "--headless=new", "--no-sandbox", "--disable-gpu", "--remote-debugging-pipe", f"--user-data-dir={profile}"]
-        self.process = subprocess.Popen(words, preexec_fn=place_pipes, close_fds=False, stderr=subprocess.DEVNULL)
-        self.number = 0
-        self.pending = b""
-        target = self.call("Target.createTarget", url="about:blank")["targetId"]
-        self.session = self.call("Target.attachToTarget", targetId=target, flatten=True)["sessionId"]
-
-    def call(self, method, **parameters):
-        self.number += 1
-        message = {"id": self.number, "method": method, "params": parameters}
-        if hasattr(self, "session"):
-            message["sessionId"] = self.session
-        os.write(self.into, json.dumps(message).encode() + b"\0")
-        while True:
-            while b"\0" not in self.pending:
-                self.pending += os.read(self.out, 1 << 20)
-            line, self.pending = self.pending.split(b"\0", 1)
-            answer = json.loads(line)
-            if answer.get("id") == self.number:
-                if "error" in answer:
-                    raise RuntimeError(f"{method}: {answer['error']}")
-                return answer["result"]
-
-    def evaluate(self, expression):
-        return self.call("Runtime.evaluate", expression=expression, returnByValue=True)["result"].get("value")
-
-    def wait_for(self, expression, seconds=60):
-        end = time.monotonic() + seconds
-        while not self.evaluate(expression):
-            if time.monotonic() > end:
-                raise RuntimeError(f"the page never came to: {expression}; it says {self.evaluate('document.body.innerText')}")
-            time.sleep(0.05)
-
-    def show(self, file):
-        """Hands the page a file as a user's choice, and returns what is shown of it."""
-        self.evaluate('document.querySelector("#pages").replaceChildren()')
-        root = self.call("DOM.getDocument")["root"]["nodeId"]
-        node = self.call("DOM.querySelector", nodeId=root, selector="#choose")["nodeId"]
-        self.call("DOM.setFileInputFiles", nodeId=node, files=[file])
-        name = json.dumps(f"{os.path.basename(file)} is done.")
-        self.wait_for(f'document.querySelector("#note").textContent === {name}')
-        return json.loads(self.evaluate(SHOWN))
-
-    def close(self):
-        self.process.terminate()
-        self.process.wait()
-
-
-def drawn(program, file):
-    """The pages of a file as the program draws them: width, height and packed rows, or the error."""
-    pages = subprocess.run([program, "pages", file], capture_output=True)
-    if pages.returncode:
-        return [pages.stderr.decode().strip().removeprefix("error: ")]
-    answers = []
-    for index in range(len(pages.stdout.splitlines())):
-        page = subprocess.run([program, "pbm", file, str(index)], capture_output=True)
-        if page.returncode:
-            answers.append(page.stderr.decode().strip().removeprefix("error: "))
-            continue
-        _, size, rows = page.stdout.split(b"\n", 2)
-        width, height = map(int, size.split())
-        answers.append((width, height, rows.hex()))
-    return answers
-
-
-def is_same(shown, expected):
-    if isinstance(expected, str):
-        return "rows" not in shown and shown["caption"].endswith(expected)
-    return (shown.get("width"), shown.get("height"), shown.get("rows")) == expected
+    def log_message(self, _form, *words):
+        if self.path != "/favicon.ico":
+            self.asked.add(f"{self.command} {self.path}")
 
 
 def serve():
-    server = http.server.ThreadingHTTPServer(("127.0.0.1", 0), functools.partial(Quiet, directory=WEB))
+    """Serves the page, and returns its address."""
+    server = http.server.ThreadingHTTPServer(("127.0.0.1", 0), functools.partial(Server, directory=WEB))
     threading.Thread(target=server.serve_forever, daemon=True).start()
     return f"http://127.0.0.1:{server.server_port}/index.html"
 
 
+def open_page(browser):
+    browser.call("Page.navigate", url=serve())
+    browser.wait_for('document.readyState === "complete" && !!document.querySelector("#choose")')
+
+
+def wait_until_shown(browser, files):
+    name = json.dumps(f"{files[-1].name} is done.")
+    browser.wait_for(f'document.querySelector("#note").textContent === {name}')
+
+
+def choose(browser, files):
+    """Hands the page files as a user's choice."""
+    root = browser.call("DOM.getDocument")["root"]["nodeId"]
+    node = browser.call("DOM.querySelector", nodeId=root, selector="#choose")["nodeId"]
+    browser.call("DOM.setFileInputFiles", nodeId=node, files=[str(file.resolve()) for file in files])
+    wait_until_shown(browser, files)
+
+
+def drop(browser, files):
+    """Drops files onto the page."""
+    data = {"items": [], "files": [str(file.resolve()) for file in files], "dragOperationsMask": 1}
+    for kind in ("dragEnter", "dragOver", "drop"):
+        browser.call("Input.dispatchDragEvent", type=kind, x=200, y=200, data=data)
+    wait_until_shown(browser, files)
+
+
+def shown(browser):
+    """The pages that the page shows, by their file's name, and takes them away."""
+    pages = {}
+    for file, page in json.loads(browser.evaluate(SHOWN)):
+        pages.setdefault(file, []).append(page)
+    browser.evaluate('document.querySelector("#pages").replaceChildren()')
+    return pages
+
+
+def is_same(page, meant):
+    """Whether a page is shown as it is meant: a picture, or a text that ends with the error's."""
+    return page.endswith(meant) if isinstance(page, str) and isinstance(meant, str) else page == meant
+
+
+def are_same(pages, meant, in_order):
+    if not in_order:
+        pages, meant = sorted(map(str, pages)), sorted(map(str, meant))
+    return len(pages) == len(meant) and all(map(is_same, pages, meant))
+
+
+def meant_of(folder):
+    """What each file of the folder is meant to show, by its name. An embedded page with globals can't be handed over alone."""
+    answers = json.loads((folder / "answers.json").read_text())
+    meant = {}
+    for name, readings in answers["files"].items():
+        if not (folder / name.replace(".page.", ".globals.")).exists() or ".page." not in name:
+            pages = readings["lenient"]
+            meant[name] = [pages] if isinstance(pages, str) else pages
+    return {**meant, **answers["pdf"]}
+
+
+def test(browser, folder):
+    """Compares all that is shown, and returns the status."""
+    meant = meant_of(folder)
+    names, wrong = list(meant), []
+    for begin in range(0, len(names), FILES_AT_ONCE):
+        some = names[begin : begin + FILES_AT_ONCE]
+        # By turns in the two ways that a user has.
+        hand_over = drop if begin // FILES_AT_ONCE % 2 else choose
+        hand_over(browser, [folder / name for name in some])
+        pages = shown(browser)
+        wrong += [name for name in some if not are_same(pages.get(name, []), meant[name], name.endswith(".jb2"))]
+    for name in wrong:
+        print(f"differs: {name}")
+    others = Server.asked - {f"GET /{name}" for name in FILES}
+    if others:
+        print(f"the page has asked for more than its own files: {others}")
+    print(f"browser: {len(names) - len(wrong)} files are shown as they are meant, {len(wrong)} not")
+    return 1 if wrong or others or not names else 0
+
+
+def take_picture(browser, picture, files):
+    drop(browser, files)
+    data = browser.call("Page.captureScreenshot", captureBeyondViewport=True)["data"]
+    pathlib.Path(picture).write_bytes(base64.b64decode(data))
+
+
 def main():
-    program, folder, *picture = sys.argv[1:]
-    chromium = shutil.which("chromium") or shutil.which("chromium-browser") or shutil.which("google-chrome")
-    passed = failed = 0
     with tempfile.TemporaryDirectory() as profile:
-        browser = Browser(chromium, profile)
+        browser = Browser(profile)
         try:
-            browser.call("Page.enable")
-            browser.call("Page.navigate", url=serve())
-            browser.wait_for('document.readyState === "complete" && !!document.querySelector("#choose")')
-            for name in sorted(os.listdir(folder)):
-                file = os.path.join(folder, name)
-                reference = file[: -len(".pdf")] + ".jb2" if name.endswith(".pdf") else file
-                if not name.endswith((".jb2", ".pdf")) or not os.path.exists(reference):
-                    continue
-                shown, expected = browser.show(os.path.abspath(file)), drawn(program, reference)
-                same = len(shown) == len(expected) and all(map(is_same, shown, expected))
-                passed, failed = passed + same, failed + (not same)
-                if not same:
-                    print(f"{name}: shown {[page['caption'] for page in shown]}, {len(expected)} expected")
-            if picture:
-                browser.show(os.path.abspath(os.path.join(folder, "t88-h1.jb2")))
-                data = browser.call("Page.captureScreenshot", captureBeyondViewport=True)["data"]
-                with open(picture[0], "wb") as file:
-                    file.write(base64.b64decode(data))
+            open_page(browser)
+            if sys.argv[1] == "--picture":
+                take_picture(browser, sys.argv[2], [pathlib.Path(file) for file in sys.argv[3:]])
+                return 0
+            return test(browser, pathlib.Path(sys.argv[1]))
         finally:
             browser.close()
-    print(f"browser: {passed} passed, {failed} failed")
-    return 1 if failed else 0
 
 
 if __name__ == "__main__":
