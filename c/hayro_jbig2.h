@@ -151,14 +151,14 @@ uint32_t hayro_jbig2_embedded_packed(bool strict, const uint8_t *globals, size_t
  *   freed with the last of these, so a page needs no handle of them.
  * - page: an embedded page with a copy of its stream, so the stream may go at once.
  * - file: a file that is read once. Its bytes must stay as they are until the handle is freed.
- * - context: the room that drawing uses, kept from page to page. It holds the page that was drawn last. Draw each page
- * of a document in one context.
+ * - context: the room that drawing uses, kept from page to page. It holds the page that was drawn last. Draw all pages
+ *   of a document in one context.
  *
  * What a caller owes besides what stands at the head:
  *
  * - No handle is used after it is freed, and none but those that these calls made.
  * - One call at a time uses a handle. Calls on several handles may run at once, in several threads, also where they
- * share globals: a thread that makes pages has a handle of its own, by hayro_jbig2_globals_share, or a lock.
+ *   share globals: a thread that makes pages has a handle of its own, by hayro_jbig2_globals_share, or a lock.
  * - Memory that a caller lends outlives all that is made with it, and its functions may be called in each thread that
  *   uses what was made with it: globals are given back in the thread that frees the last of their handles and pages.
  */
@@ -181,8 +181,9 @@ typedef struct hayro_jbig2_page_info {
     uint32_t number, width, height;
 } hayro_jbig2_page_info;
 
-/* How many segments lenient reading passed over in a page, with the number and the error of the first; all 0 for a page
- * that is whole. */
+/* How many segments lenient reading passed over in a page, with the number and the error of the first; all 0 where it
+ * passed over none. A segment that the end of the bytes cuts off is left out and not counted: to know of it, read the
+ * bytes strictly too, which returns HAYRO_JBIG2_PARSE_UNEXPECTED_EOF. */
 typedef struct hayro_jbig2_passed_over {
     size_t count;
     uint32_t segment, error;

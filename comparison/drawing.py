@@ -41,9 +41,8 @@ class Library:
 
     def __init__(self, file, folder):
         library = ctypes.CDLL(file if file.endswith(".so") else linked(file, folder))
-        prefix = "hayro_jbig2_" if hasattr(library, "hayro_jbig2_page_size") else "jbig2_"
-        names = ("page_size", "page_packed", "error_text")
-        self.size, self.rows, self.text = (getattr(library, prefix + name) for name in names)
+        self.size, self.rows = library.hayro_jbig2_page_size, library.hayro_jbig2_page_packed
+        self.text = library.hayro_jbig2_error_text
         bytes_of = [ctypes.c_bool, ctypes.c_char_p, ctypes.c_size_t, ctypes.c_size_t]
         self.size.argtypes = bytes_of + [ctypes.POINTER(ctypes.c_uint32)] * 2
         self.rows.argtypes = bytes_of + [ctypes.c_char_p, ctypes.c_size_t]

@@ -1,5 +1,9 @@
 # Sourced after crates.sh by what needs the toolchain: c/prove, dist/renew, dist/check and ./test --sources.
 
+if ! command -v rt >/dev/null; then
+    echo "$0 needs the toolchain, whose command rt is not on the PATH" >&2
+    exit 1
+fi
 kit=$(dirname -- "$(rt doc)")
 toolchain=$kit/toolchain
 

@@ -86,6 +86,14 @@ uint32_t new_room(struct context *context, hayro_jbig2_context **room);
 uint32_t copy_out(struct context *context, hayro_jbig2_context *room, const hayro_jbig2_page_info *info,
                   struct page **page);
 uint32_t draw_embedded(struct context *context, struct page **page);
+
+/* left_out.c */
+
+/* Why strict reading refuses the list of segments that were gathered. Lenient reading leaves out a segment that is cut off
+   or of an unknown type, and doesn't count it. */
+uint32_t look_for_left_out(struct context *context, uint32_t *why);
+void tell_left_out(struct context *context, uint32_t why);
+
 /* file.c */
 
 /* What is opened is closed by close_file, also after an error. */

@@ -51,12 +51,17 @@ static uint32_t draw(struct context *context, hayro_jbig2_page *stream, struct p
 
 uint32_t draw_embedded(struct context *context, struct page **page) {
     hayro_jbig2_page *stream = NULL;
-    uint32_t answer = new_stream(context, &stream);
+    uint32_t why = HAYRO_JBIG2_OK;
+    uint32_t answer = look_for_left_out(context, &why);
+    if (answer == HAYRO_JBIG2_OK)
+        answer = new_stream(context, &stream);
     if (answer != HAYRO_JBIG2_OK)
         return answer;
     /* The decoder has a copy of them. */
     clear_bytes(context->allocator, &context->bytes);
     answer = draw(context, stream, page);
     hayro_jbig2_page_free(stream);
+    if (answer == HAYRO_JBIG2_OK)
+        tell_left_out(context, why);
     return answer;
 }

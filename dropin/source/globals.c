@@ -22,8 +22,13 @@ struct globals *jbig2_make_global_ctx(struct context *context) {
     if (context == NULL)
         return &nobody.made;
     struct globals *globals = &context->made;
+    uint32_t why = HAYRO_JBIG2_OK;
     *globals = (struct globals){.made_of = context, .holders = 1};
-    globals->answer = decode(&context->memory, &context->bytes, &globals->decoded);
+    globals->answer = look_for_left_out(context, &why);
+    if (globals->answer == HAYRO_JBIG2_OK)
+        globals->answer = decode(&context->memory, &context->bytes, &globals->decoded);
+    if (globals->answer == HAYRO_JBIG2_OK)
+        tell_left_out(context, why);
     return globals;
 }
 

@@ -13,6 +13,10 @@ from conformance.runner.pdf import stream_object  # noqa: E402
 from conformance.runner.segments import TABLES_AND_DICTIONARIES, sequential  # noqa: E402
 
 
+# The stream of a page of 8 by 1 with nothing on it.
+SMALL = bytes.fromhex("00000000 30 00 01 00000013 00000008 00000001 00000000 00000000 00 0000")
+
+
 @dataclasses.dataclass(frozen=True)
 class Image:
     """An image by its size in pixels, the segments of its stream and those of its /JBIG2Globals."""

@@ -176,6 +176,55 @@ static void tells_what_was_passed_over(void) {
     CHECK(memory.held == 0 && heard.count[SEVERITY_FATAL] == 0);
 }
 
+/* Whether a page or file is warned of whose last bytes are cut off, or that more bytes follow. */
+static void warns(bool is_file, const struct file *bytes, size_t cut_off, const char *more, const char *why) {
+    struct counted memory = counted_allocator();
+    struct heard heard = {0};
+    struct globals *globals = is_file ? NULL : made_globals(&memory.base, &heard);
+    struct context *context =
+        is_file ? file_context(&memory.base, &heard) : embedded_context(&memory.base, globals, &heard);
+    take_in(context, bytes->at, bytes->length - cut_off, 4096);
+    take_in(context, (const uint8_t *)more, strlen(more), 4096);
+    CHECK(jbig2_complete_page(context) == 0);
+    struct image *image;
+    while ((image = jbig2_page_out(context)) != NULL)
+        jbig2_release_page(context, image);
+    CHECK(heard.count[SEVERITY_WARNING] == (why != NULL) && heard.count[SEVERITY_FATAL] == 0);
+    CHECK(why == NULL || (heard.segment == NO_SEGMENT && strstr(heard.text, why) != NULL));
+    jbig2_ctx_free(context);
+    jbig2_global_ctx_free(globals);
+    CHECK(memory.held == 0);
+}
+
+/* A segment that is cut off, in its data and in its header, and one of type 63. Ends of lines are no segment, nor is what
+ * follows a file. */
+static void tells_what_is_left_out(void) {
+    static const char cut[] = "a segment is left out: unexpected end of input";
+    static const char unknown[] = "a segment is left out: unknown or reserved segment type";
+    warns(false, &stream, 0, "", NULL);
+    warns(false, &stream, 0, "\n", NULL);
+    warns(false, &stream, 0, "\r\n", NULL);
+    warns(false, &stream, 0, "\n\r\n", cut);
+    warns(false, &stream, 0, "1234\x3F", unknown);
+    warns(false, &stream, 1, "", cut);
+    warns(false, &stream, 2, "\n", cut);
+    warns(true, &book, 0, "", NULL);
+    warns(true, &book, 0, "more", NULL);
+    warns(true, &book, 1, "", cut);
+    warns(true, &book, 11 + 11 + 1, "", cut);
+}
+
+static void tells_of_cut_globals(void) {
+    struct counted memory = counted_allocator();
+    struct heard heard = {0};
+    struct context *context = embedded_context(&memory.base, NULL, &heard);
+    take_in(context, shared.at, shared.length - 1, 4096);
+    struct globals *globals = jbig2_make_global_ctx(context);
+    CHECK(heard.count[SEVERITY_WARNING] == 1 && strstr(heard.text, "a segment is left out") != NULL);
+    jbig2_global_ctx_free(globals);
+    CHECK(memory.held == 0);
+}
+
 static void formats_messages(void) {
     struct counted memory = counted_allocator();
     struct heard heard = {0};
@@ -197,5 +246,7 @@ void hands_out_pages(void) {
     tells_what_it_refuses();
     tells_of_bad_globals();
     tells_what_was_passed_over();
+    tells_what_is_left_out();
+    tells_of_cut_globals();
     formats_messages();
 }

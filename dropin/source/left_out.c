@@ -1,0 +1,46 @@
+#include "context.h"
+
+/* A file's header: its identification, its flags, and the count of its pages where it has one (T.88, D.4). */
+enum { FLAGS_AT = 8, WITHOUT_COUNT = 9, WITH_COUNT = 13 };
+enum { IS_SEQUENTIAL = 1, HAS_NO_COUNT = 2 };
+
+/* Where the segments begin, one after the other. A file with random access is refused where it is cut off. */
+static size_t start_of_segments(const struct context *context) {
+    const struct bytes *bytes = &context->bytes;
+    if (context->is_embedded)
+        return 0;
+    if (bytes->length < WITH_COUNT || !(bytes->at[FLAGS_AT] & IS_SEQUENTIAL))
+        return bytes->length;
+    return bytes->at[FLAGS_AT] & HAS_NO_COUNT ? WITHOUT_COUNT : WITH_COUNT;
+}
+
+/* Reads the headers of the segments, before it looks for anything in them. */
+static uint32_t read_strictly(struct context *context, const uint8_t *at, size_t length) {
+    hayro_jbig2_page *page = NULL;
+    uint32_t answer = hayro_jbig2_page_new(&context->memory, true, NULL, at, length, &page);
+    hayro_jbig2_page_free(page);
+    return answer;
+}
+
+/* Ghostscript hands in the end of line that follows a stream. That is no segment. */
+static bool ends_a_line(const uint8_t *at, size_t length) {
+    return length > 0 && (at[length - 1] == '\n' || at[length - 1] == '\r');
+}
+
+uint32_t look_for_left_out(struct context *context, uint32_t *why) {
+    size_t start = start_of_segments(context);
+    const uint8_t *at = start_of(&context->bytes) + start;
+    size_t length = context->bytes.length - start;
+    uint32_t answer = read_strictly(context, at, length);
+    for (int i = 0; i < 2 && answer == HAYRO_JBIG2_PARSE_UNEXPECTED_EOF && ends_a_line(at, length); i++)
+        answer = read_strictly(context, at, --length);
+    if (answer == HAYRO_JBIG2_OUT_OF_MEMORY)
+        return answer;
+    *why = answer;
+    return HAYRO_JBIG2_OK;
+}
+
+void tell_left_out(struct context *context, uint32_t why) {
+    if (why == HAYRO_JBIG2_PARSE_UNEXPECTED_EOF || why == HAYRO_JBIG2_SEGMENT_UNKNOWN_TYPE)
+        tell_answer(context, SEVERITY_WARNING, NO_SEGMENT, "a segment is left out", why);
+}
