@@ -97,7 +97,7 @@ fn duplicate<A: Allocator, S: Allocator, L: Ledger>(
     symbol.duplicate(alloc, steps)
 }
 
-/// A copy of a symbol, by its number among those that are referred to and the new ones behind them.
+/// A copy of a symbol, by its number among those that are referred to and the new ones after them.
 fn duplicate_symbol<A: Allocator, S: Allocator, L: Ledger>(
     alloc: A,
     symbols: &[&Bitmap<S>],
@@ -116,7 +116,7 @@ fn duplicate_symbol<A: Allocator, S: Allocator, L: Ledger>(
     duplicate(alloc, &new[index - symbols.len()], steps)
 }
 
-/// Puts copies of `count` symbols from number `first` on behind those that are exported so far.
+/// Puts copies of `count` symbols from number `first` on after those that are exported so far.
 fn push_symbols<A: Allocator + Clone, S: Allocator, L: Ledger>(
     alloc: A,
     symbols: &[&Bitmap<S>],
@@ -137,7 +137,7 @@ fn push_symbols<A: Allocator + Clone, S: Allocator, L: Ledger>(
     Ok(())
 }
 
-/// The symbols that the runs export, of those that are referred to and the new ones behind them.
+/// The symbols that the runs export, of those that are referred to and the new ones after them.
 pub fn export_symbols<A: Allocator + Clone, S: Allocator, L: Ledger>(
     alloc: A,
     runs: &[u32],
@@ -172,7 +172,7 @@ pub fn export_symbols<A: Allocator + Clone, S: Allocator, L: Ledger>(
     Ok(exported)
 }
 
-/// Reads which symbols a dictionary exports, of those that it refers to and the new ones behind
+/// Reads which symbols a dictionary exports, of those that it refers to and the new ones after
 /// them, and copies them.
 ///
 /// The errors of `read_runs`; `SymbolError::NoSymbols` where they are not as many as the header
