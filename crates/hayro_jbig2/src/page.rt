@@ -308,9 +308,9 @@ impl<'a, A: Allocator + Clone> Page<'a, A> {
         ensures drawing { IfOk (drawing_of_page self.now) (Leaves result context.new) }
     {
         let mut steps = context.new_steps::<L>(blank);
-        let drawn = self.draw_into(context, &mut steps);
+        let decoded = self.draw_into(context, &mut steps);
         context.end(&steps);
-        match drawn {
+        match decoded {
             Ok(()) => push_bitmap(&context.bitmap, decoder, &mut steps),
             Err(error) => Err(error),
         }
