@@ -12,7 +12,7 @@ use crate::template::RefinementTemplate;
 /// `lanes_context` finds the next one's context in them.
 #[inline(always)]
 pub fn lanes_at(windows: RefinementWindows, offset: u32) -> u64
-    requires offset { offset < 32 }
+    requires offset { offset ≤ 32 }
     ensures { Lanes windows offset 12 result }
 {
     let below = (windows.below << offset) >> 49;
