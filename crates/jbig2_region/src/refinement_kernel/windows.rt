@@ -102,7 +102,10 @@ fn row_window(pixels: u64, width: u32) -> u64
 }
 
 <<<<<<< HEAD
+<<<<<<< HEAD
 =======
+=======
+>>>>>>> afef6c447861b9f6159b46d34f809311d35b5abd
 /// Of a window the pixel `offset` columns after the windows' column, and its two neighbours.
 #[inline(always)]
 fn three(window: u64, offset: u32) -> u32
