@@ -101,22 +101,6 @@ fn row_window(pixels: u64, width: u32) -> u64
     (pixels << (64 - width)) >> 1
 }
 
-<<<<<<< HEAD
-<<<<<<< HEAD
-=======
-=======
->>>>>>> afef6c447861b9f6159b46d34f809311d35b5abd
-/// Of a window the pixel `offset` columns after the windows' column, and its two neighbours.
-#[inline(always)]
-fn three(window: u64, offset: u32) -> u32
-    requires offset { offset < 32 }
-    ensures value { result ≡ three_of window offset }
-    ensures bound { result < 8 }
-{
-    ((window >> (61 - offset)) % 8) as u32
-}
-
->>>>>>> 93263254baab983927b5b59ca14a86a93dc341f7
 impl RefinementWindows {
     /// The windows that serve column 0 of row `y`, out of those of the row above, whose pixels are the
     /// lowest `width` bits of `pixels`.
