@@ -121,7 +121,7 @@ mmr-stops p bytes old new mmr lanes = (0, (omega arith, record { plain = λ code
     clash : (b : Bool) → b ≡ true → b ≡ false → ⊥
     clash b on off = cc
 
--- so many of the planes that the coder wrote
+-- this many of the planes that the coder wrote
 pub coded-some : (p : GrayScale) (bytes : List ℕ) (count : ℕ) (old new : Counts) → count ≤ p.bits_per_pixel → CountsCoded p bytes count old new → StopsCoded p bytes old new
 coded-some p bytes count old new few counts = (count, (few, counts))
 

@@ -31,13 +31,13 @@ pub record CountsMasked (p : GrayScale) (count : ℕ) (before after : Counts) : 
   pub words : after.words ≤ before.words + count * (p.height * skipping_words p.width)
   pub loads : after.loads ≤ before.loads + count * (p.height * skipping_loads p.width)
 
--- so many of the highest planes; MMR data alone isn't counted, but for lanes
+-- this many of the highest planes; MMR data alone isn't counted, but for lanes
 pub record CountsRead (p : GrayScale) (bytes : List ℕ) (count : ℕ) (before after : Counts) : Type 0 where
   pub plain : p.use_mmr ≡ false → p.skip_mask ≡ None → CountsPlanes p bytes count before after
   pub masked : p.use_mmr ≡ false → is_some p.skip_mask ≡ true → CountsMasked p count before after
   pub lanes : KeepsLanes before after
 
--- so many of the highest planes are read, and then so many rows of each are taken by groups of eight lanes and single pixels
+-- this many of the highest planes are read, and then this many rows of each are taken by groups of eight lanes and single pixels
 abbrev pub CountsRows : GrayScale → List ℕ → ℕ → ℕ → Counts → Counts → Type 0
 CountsRows p bytes planes rows before after =
     (read : Counts) × (CountsRead p bytes planes before read × (after ≡ record read {
@@ -78,7 +78,7 @@ after_mask h d before =
     let cells = h.grid_position_and_size.height * h.grid_position_and_size.width in
     record before { words = before.words + (if is_some (skip_mask h d) then cells else 0) }
 
--- the planes are read behind the mask and so many rows of values taken, and then cells are drawn, with two loads for each word
+-- the planes are read after the mask and this many rows of values taken, and then cells are drawn, with two loads for each word
 abbrev pub CountsDrawn : HalftoneHeader → Patterns → ℕ → ℕ → Counts → Counts → Type 0
 CountsDrawn h d planes rows before after =
     let cells = h.grid_position_and_size.height * h.grid_position_and_size.width in
