@@ -4,7 +4,6 @@ use Rattle.std.proofs.lemmas.Bool.{cases_lt, cond-true, cond-false, and_from, an
 use Rattle.jbig2_base.specs.Counts.{Counts, KeepsLanes}
 use Rattle.jbig2_base.specs.Grid.{Grid, grid_of, pixel_at}
 use Rattle.jbig2_base.specs.Bits.{bit}
-use Rattle.jbig2_base.specs.Table.{IsTable}
 use Rattle.jbig2_base.specs.Writes.{with_pixels}
 use Rattle.jbig2_base.proofs.GridLemmas.{pixel_at-grid_of, pixel_at-right, pixel_at-below, table-at}
 use Rattle.jbig2_mmr.specs.inner.T6Reading.{IsSpan}
@@ -28,17 +27,6 @@ pub written : (g : Grid) (x y count bits i j : ℕ) → j ≡ y → x ≤ i → 
 written g x y count bits i j row after before inside lower =
     let f = λ (a b : ℕ). cond (eqb b y && leb x a && ltb a (x + count)) (bit bits (x + count - 1 - a)) (pixel_at g a b) in
     pixel_at-grid_of g.width g.height f i j (omega arith) (omega arith) ∙ cond-true (eqb j y && leb x i && ltb i (x + count)) (bit bits (x + count - 1 - i)) (pixel_at g i j) (in_word x y count i j row after before)
-
-pub span-none : (g : Grid) (y from : ℕ) (black : Bool) → IsTable g → IsSpan g g y from from black
-span-none g y from black known = record {
-  width = refl;
-  height = refl;
-  table = known;
-  inside = λ x a b. absurd (omega arith);
-  left = λ x a. refl;
-  right = λ x a. refl;
-  other = λ x j o. refl;
-}
 
 pub span-more : (old g new : Grid) (y from x count bits : ℕ) (black : Bool) → IsSpan old g y from x black → from ≤ x → x + count ≤ old.width → y < old.height → ((k : ℕ) → k < count → bit bits k ≡ black) → new ≡ with_pixels g x y count bits → IsSpan old new y from (x + count) black
 span-more old g new y from x count bits black so_far order inside row colour e =

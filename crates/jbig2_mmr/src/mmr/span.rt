@@ -10,37 +10,9 @@ use jbig2_base::bitmap::steps::Steps;
 use std::alloc::Allocator;
 use std::sync::ledger::Ledger;
 
-/// Gives the pixels of row `y` from column `from` up to column `to` one colour. Most lie in one word.
+/// Gives the pixels of row `y` from column `from` up to column `to` one colour.
 #[inline(always)]
 pub fn fill_span<A: Allocator, L: Ledger>(
-    bitmap: &mut Bitmap<A>,
-    y: u32,
-    from: u32,
-    to: u32,
-    black: bool,
-    steps: &mut Steps<L>,
-)
-    requires table { IsTable bitmap.old }
-    requires row { y < bitmap.old.height }
-    requires order { from ≤ to }
-    requires columns { to ≤ bitmap.old.width }
-    ensures value { IsSpan bitmap.old bitmap.new y from to black }
-    ensures lanes { KeepsLanes steps.old steps.new }
-{
-    if from == to {
-        return;
-    }
-    if from / 64 == (to - 1) / 64 {
-        let count = to - from;
-        bitmap.store_pixels(from, y, count, word_of(black, count), steps);
-        return;
-    }
-    fill_words(bitmap, y, from, to, black, steps);
-}
-
-/// The same, word by word.
-#[inline(never)]
-fn fill_words<A: Allocator, L: Ledger>(
     bitmap: &mut Bitmap<A>,
     y: u32,
     from: u32,

@@ -1,5 +1,5 @@
 use Rattle.std.proofs.Common.{ℕ, Bool, not, false, refl, sym, ap, subst, ◌∙◌, arith}
-use Rattle.jbig2_base.proofs.LaneCounts.{lanes-none, lanes-then}
+use Rattle.jbig2_base.proofs.LaneCounts.{lanes-then}
 use Rattle.jbig2_mmr.specs.T6.{row}
 use Rattle.jbig2_mmr.specs.inner.T6Reading.{row_of, row_above, IsSpan}
 use Rattle.jbig2_mmr.specs.inner.T6Calls.{head_of, IsWordOf}

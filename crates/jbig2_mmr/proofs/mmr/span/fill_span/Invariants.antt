@@ -1,7 +1,7 @@
 use Rattle.std.proofs.Common.{◌-◌, ◌≤◌}
 use Rattle.jbig2_base.specs.Counts.{KeepsLanes}
 use Rattle.jbig2_mmr.specs.inner.T6Reading.{IsSpan}
-use Rattle.jbig2_mmr.proofs.mmr.span.fill_words.Given as goal
+use Rattle.jbig2_mmr.proofs.mmr.span.fill_span.Given as goal
 
 abbrev pub invariant-loop-x : goal.invariant-loop-x
 invariant-loop-x g l = record {
