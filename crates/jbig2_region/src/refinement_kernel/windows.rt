@@ -46,7 +46,7 @@ fn window<A: Allocator, L: Ledger>(
     bitmap.load_pixels(column as u32, row as u32, 64, steps)
 }
 
-/// The windows about row `y` that serve column `x` of the region and the 31 columns behind it.
+/// The windows about row `y` that serve column `x` of the region and the 31 columns after it.
 #[inline(always)]
 pub fn windows_at<A: Allocator, B: Allocator, L: Ledger>(
     bitmap: &Bitmap<A>,
