@@ -40,7 +40,7 @@ class Library:
     call of more than LONGEST seconds, which ends this process."""
 
     def __init__(self, file, folder):
-        library = ctypes.CDLL(file if file.endswith(".so") else linked(file, folder))
+        library = ctypes.CDLL(linked(file, folder) if file.endswith(".a") else file)
         self.size, self.rows = library.hayro_jbig2_page_size, library.hayro_jbig2_page_packed
         self.text = library.hayro_jbig2_error_text
         bytes_of = [ctypes.c_bool, ctypes.c_char_p, ctypes.c_size_t, ctypes.c_size_t]
