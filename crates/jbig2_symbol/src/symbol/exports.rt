@@ -172,8 +172,27 @@ pub fn export_symbols<A: Allocator + Clone, S: Allocator, L: Ledger>(
     Ok(exported)
 }
 
+/// The same, where the new symbols serve for nothing else: if just they are exported, they are not copied.
+#[tactic(auto, using(crate::proofs::ExportedLemmas::exported_new))]
+fn take_exports<A: Allocator + Clone, S: Allocator, L: Ledger>(
+    alloc: A,
+    runs: &[u32],
+    symbols: &[&Bitmap<S>],
+    new: Vec<Bitmap<A>, A>,
+    steps: &mut Steps<L>,
+) -> Result<Vec<Bitmap<A>, A>>
+    requires { sum runs.now ≡ length symbols.now + length new.items }
+    ensures { let meant = Ok (exported runs.now (all_symbols symbols.now new.items)) in
+        Gives (λ symbols. symbols.items) result meant }
+{
+    if runs.len() == 2 && runs[0] as usize == symbols.len() {
+        return Ok(new);
+    }
+    export_symbols(alloc, runs, symbols, &new, steps)
+}
+
 /// Reads which symbols a dictionary exports, of those that it refers to and the new ones after
-/// them, and copies them.
+/// them, and copies those that it can't take.
 ///
 /// The errors of `read_runs`; `SymbolError::NoSymbols` where they are not as many as the header
 /// states; `OutOfMemory` where there is no room for them.
@@ -181,20 +200,20 @@ pub fn export_symbols<A: Allocator + Clone, S: Allocator, L: Ledger>(
 pub fn read_exports<R: ReadClasses, A: Allocator + Clone, T: Allocator, L: Ledger>(
     alloc: A,
     input: &SymbolInput<'_, A, T>,
-    new: &[Bitmap<A>],
+    new: Vec<Bitmap<A>, A>,
     readings: &mut R,
     steps: &mut Steps<L>,
 ) -> Result<Vec<Bitmap<A>, A>>
     requires { length input.now.symbols.now ≤ 2097152 }
     ensures value { let d = input_view input.now in
-        let all = all_symbols input.now.symbols.now new.now in
+        let all = all_symbols input.now.symbols.now new.items in
         let meant = exports R.readings d all (R.state readings.old) in
         Gives (λ symbols. (symbols.items, R.state readings.new)) result meant }
     ensures causes { ExportsHaveCauses R.readings }
 {
     let count = input.symbols.len() as u64 + new.len() as u64;
     let runs = read_runs(alloc.clone()?, input, count, readings, steps)?;
-    let exported = export_symbols(alloc, &runs, input.symbols, new, steps)?;
+    let exported = take_exports(alloc, &runs, input.symbols, new, steps)?;
     if exported.len() != input.header.num_exported_symbols as usize {
         return Err(DecodeError::Symbol(SymbolError::NoSymbols));
     }
