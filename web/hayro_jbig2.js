@@ -161,7 +161,8 @@ export class Decoder {
   #pixels(place, count) {
     const gray = new Uint8Array(this.#exports.memory.buffer, place, count);
     const data = new Uint8ClampedArray(4 * count);
-    new Uint32Array(data.buffer).forEach((_, at, pixels) => (pixels[at] = gray[at] ? 0xffffffff : 0xff000000));
+    const pixels = new Uint32Array(data.buffer);
+    for (let at = 0; at < count; at++) pixels[at] = gray[at] ? 0xffffffff : 0xff000000;
     return data;
   }
 

@@ -23,14 +23,15 @@ function drawn({ width, height, data }) {
 function shown({ file, name, error, milliseconds, ...page }) {
   const figure = document.createElement("figure");
   const caption = document.createElement("figcaption");
+  const label = name ? `${file}, ${name}` : file;
   figure.dataset.file = file;
   try {
     if (error) throw new Error(error);
     figure.append(drawn(page));
-    caption.textContent = `${file}, ${name}: ${page.width} by ${page.height} pixels, ${milliseconds.toFixed(1)} ms`;
+    caption.textContent = `${label}: ${page.width} by ${page.height} pixels, ${milliseconds.toFixed(1)} ms`;
   } catch ({ message }) {
     figure.className = "error";
-    caption.textContent = `${file}, ${name}: ${message}`;
+    caption.textContent = `${label}: ${message}`;
   }
   figure.append(caption);
   return figure;

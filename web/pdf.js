@@ -123,10 +123,16 @@ export class Pdf {
     return [...this.#objects].filter(([, object]) => isImage(object)).map(([number]) => number);
   }
 
+  /** The reference to globals in the parameters of a stream's filters: a dictionary, or an array of these or of references. */
+  #globalsOf(parameters) {
+    const referred = [...parameters.matchAll(/\d+\s+\d+\s+R/g)].map(([reference]) => this.#referred(reference)?.dictionary ?? "");
+    return [parameters, ...referred].map((dictionary) => valueOf(dictionary, "JBIG2Globals")).find(Boolean);
+  }
+
   /** The bytes of an image, and its globals' or null. */
   async streams(number) {
     const object = this.#objects.get(number);
-    const shared = this.#referred(valueOf(this.#resolved(object.dictionary, "DecodeParms") ?? "", "JBIG2Globals"));
+    const shared = this.#referred(this.#globalsOf(this.#resolved(object.dictionary, "DecodeParms") ?? ""));
     const globals = shared?.begin === undefined ? null : await this.#data(shared);
     return { bytes: await this.#data(object), globals };
   }

@@ -37,9 +37,9 @@ async function showFile({ file, bytes }) {
   try {
     const pages = await pagesOf(bytes);
     for (const [name, decode] of pages) await show(file, name, decode);
-    if (pages.length === 0) postMessage({ file, name: "no pages", error: "no JBIG2 image in this file" });
+    if (pages.length === 0) postMessage({ file, error: "no JBIG2 page in this file" });
   } catch (error) {
-    postMessage({ file, name: "no pages", error: described(error) });
+    postMessage({ file, error: described(error) });
   }
   postMessage({ file, done: true });
 }

@@ -115,7 +115,7 @@ def meant_of(folder):
     for name, readings in answers["files"].items():
         if not (folder / name.replace(".page.", ".globals.")).exists() or ".page." not in name:
             pages = readings["lenient"]
-            meant[name] = [pages] if isinstance(pages, str) else pages
+            meant[name] = [pages] if isinstance(pages, str) else pages or ["no JBIG2 page in this file"]
     return {**meant, **answers["pdf"]}
 
 
