@@ -283,23 +283,6 @@ fn value_row<A: Allocator>(alloc: A, width: u32) -> Result<Vec<u32, A>>
     Ok(values)
 }
 
-/// Takes the work of a halftone's cells: their values' planes, and a pattern that is combined with the region for each.
-fn pay_cells<D: Allocator, L: Ledger>(
-    header: &HalftoneRegionHeader<'_>,
-    dictionary: &PatternDictionary<D>,
-    steps: &mut Steps<L>,
-) -> Result<()>
-    ensures value { IfErr result (λ e. e ≡ DecodeError.OutOfMemory) }
-    ensures steps { steps.new ≡ steps.old }
-{
-    let grid = &header.grid_position_and_size;
-    let planes = u64::from(code_length(dictionary.patterns.len()));
-    let cells = u64::from(grid.width) * u64::from(grid.height);
-    steps.pay_bitmaps(planes, grid.width, grid.height)?;
-    steps.pay_bitmaps(cells, dictionary.pattern_width, dictionary.pattern_height)?;
-    Ok(())
-}
-
 /// Decodes a halftone region (T.88, 6.6) into a bitmap of its size that is all in its initial
 /// colour. The contexts begin fresh, whatever `contexts` held, and are left there as the gray-scale
 /// image leaves them, also where a value is refused; MMR data does not touch them. Any error but
@@ -335,7 +318,6 @@ pub fn decode_into<D: Allocator, M: Allocator, A: Allocator + Clone, B: Allocato
     ensures stopped { OnErr result (StopsHalftone (header_view header.now)
         (dictionary_view dictionary.now) steps.old steps.new) }
 {
-    pay_cells(header, dictionary, steps)?;
     let mut values = value_row(alloc.clone()?, header.grid_position_and_size.width)?;
     let planes = match read_cells(alloc, header, dictionary, contexts, steps) {
         Ok(planes) => planes,
@@ -371,7 +353,6 @@ pub fn decode<D: Allocator, A: Allocator + Clone, B: Allocator, L: Ledger>(
     ensures causes { (h : HalftoneHeader) → HaveCauses (halftone_decoded h) (BreaksHalftone h) }
 {
     let region_info = &header.region_info;
-    steps.pay_bitmap(region_info.width, region_info.height)?;
     let mut bitmap = Bitmap::new_with(
         alloc.clone()?,
         region_info.width,

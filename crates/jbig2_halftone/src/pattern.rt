@@ -238,8 +238,6 @@ pub fn decode<A: Allocator + Clone, B: Allocator, L: Ledger>(
     if columns > MAX_DIMENSION {
         return Err(DecodeError::Overflow(OverflowError::BitmapDimension));
     }
-    steps.pay_bitmap(columns as u32, height)?;
-    steps.pay_bitmaps(u64::from(header.num_patterns) + 1, width, height)?;
     let collective = decode_collective(alloc.clone()?, header, columns as u32, contexts, steps)?;
     let count = header.num_patterns + 1;
     let patterns = cut_patterns(alloc, &collective, width, height, count, steps)?;
