@@ -10,7 +10,7 @@ ghost use Rattle.jbig2_base.specs.Causes.{HaveCauses};
 
 use crate::names::{KeptNames, Lookup};
 use crate::referred::gather_referred;
-use crate::workspace::Workspace;
+use crate::workspace::{MOST_CONTEXTS, Workspace};
 use jbig2_base::bitmap::steps::Steps;
 use jbig2_base::error::{DecodeError, Result};
 use jbig2_base::field::u32_field;
@@ -66,12 +66,10 @@ fn decode_patterns<A: Allocator + Clone, L: Ledger>(
 {
     let mut reader = Reader::new(bytes);
     let header = pattern::parse(&mut reader, strict)?;
-    pattern::decode(
-        workspace.alloc.clone()?,
-        &header,
-        &mut workspace.contexts,
-        steps,
-    )
+    let alloc = workspace.alloc.clone()?;
+    let dictionary = pattern::decode(alloc, &header, &mut workspace.contexts, steps);
+    workspace.contexts.truncate(MOST_CONTEXTS);
+    dictionary
 }
 
 /// Keeps a symbol dictionary, which may refer to what is kept and to `globals`.

@@ -1,9 +1,10 @@
 //! Segments that several pages share.
-ghost use Rattle.std.specs.Prelude.{◌≡◌};
+ghost use Rattle.std.specs.Prelude.{◌≡◌, Ok, IfErr};
 ghost use Rattle.jbig2_base.specs.Answer.{Gives};
 ghost use Rattle.jbig2_base.specs.inner.SegmentViews.{segment_view, segment_views};
 ghost use Rattle.hayro_jbig2.specs.Names.{globals_at, named_from, kept_by, no_names};
 ghost use Rattle.hayro_jbig2.specs.Causes.{GlobalsHaveCauses};
+ghost use Rattle.hayro_jbig2.specs.Returned.{IsReturned};
 
 use crate::dictionaries::{extension, keep_patterns, keep_symbols, keep_table};
 use crate::names::KeptNames;
@@ -43,6 +44,15 @@ impl<A: Allocator> Globals<A> {
 }
 
 impl<A: Allocator + Clone> Globals<A> {
+    /// Globals that keep nothing.
+    pub(crate) fn empty(alloc: A) -> Result<Globals<A>>
+        ensures { Gives (λ globals. globals) result (Ok no_names) }
+    {
+        Ok(Globals {
+            names: KeptNames::new(alloc)?,
+        })
+    }
+
     /// The globals whose segments `bytes` hold, one behind the other, without a file header.
     ///
     /// Dictionaries, tables and extensions are decoded in the order of their numbers, and no other
@@ -52,6 +62,7 @@ impl<A: Allocator + Clone> Globals<A> {
         ensures value { Gives (λ globals. globals) result
             (globals_at settings.now.strict bytes.now) }
         ensures causes { GlobalsHaveCauses }
+        ensures errors { IfErr result IsReturned }
     {
         let strict = settings.strict;
         let mut segments = parse_segments_sequential(alloc.clone()?, bytes, strict)?;
