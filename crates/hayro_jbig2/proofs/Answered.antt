@@ -1,4 +1,4 @@
--- Law: no definition answers an error that bytes cannot bring about: that of files, of pages and of what they draw.
+-- Law: no definition returns an error that bytes cannot bring about: that of files, of pages and of what they draw.
 use Rattle.std.proofs.Common.{ℕ, Bool, true, false, List, [], ◌∷◌, length, Option, Some, None, Result, Ok, Err}
 use Rattle.std.specs.Prelude.{IfOk, ◌&&◌}
 use Rattle.std.specs.Option.{option_map_or}

@@ -78,7 +78,7 @@ pub image-returned : {X : Type 0} (image : X → List ℕ) (r : Result X DecodeE
 image-returned image r page is gives =
     returned image r (image_of_page page) (base.answered-next (grid_of_page page) _ (answered-grid page (to-answer page.globals is)) (λ g. tt)) gives
 
--- what decoding a page answers where the Decoder refused no call
+-- what decoding a page returns where the Decoder refused no call
 pub decoded-returned : {S : Type 0} (c : Conduct S) (page : ReadPage) (r : Result (Unit {0}) DecodeError) (old new : S) → IfErr page.globals IsAnswered → Decodes c (grid_of_page page) r old new → c.refusals new ≡ c.refusals old → IfErr r IsReturned
 decoded-returned {S} c page r old new is decodes none = by (grid_of_page page) r (answered-grid page (to-answer page.globals is)) decodes
   where

@@ -30,7 +30,7 @@ abbrev pub associated : Bool → List SegmentView → Result (Unit {0}) DecodeEr
 associated strict [] = Ok tt
 associated strict (p ∷ ps) = if lacks_page strict p.header then Err (Segment MissingPageAssociation) else associated strict ps
 
--- The pages' numbers behind these, in the order in which they first occur; 0 is none.
+-- The pages' numbers after these, in the order in which they first occur; 0 is none.
 abbrev pub numbers_after : List ℕ → List SegmentView → List ℕ
 numbers_after ns [] = ns
 numbers_after ns (p ∷ ps) =

@@ -159,7 +159,7 @@ fn miscounts(told: Option<u32>, count: usize) -> bool
     }
 }
 
-/// What decoding the globals of these pages answers, but for want of memory, which is this call's own answer.
+/// What decoding the globals of these pages returns, but for want of memory, which is this call's own answer.
 /// Globals that no page shows are not decoded.
 #[tactic(auto, using(crate::proofs::Books::shares_none, crate::proofs::Books::shares_some))]
 fn kept_globals<A: Allocator + Clone>(
@@ -186,7 +186,7 @@ impl<'a, A: Allocator + Clone> File<'a, A> {
     ///
     /// Refused by the first fault of the segments, then of their associations, of the count of
     /// pages, and of each page's end and size. Where there is a page, the segments of no page are
-    /// decoded too; a fault there is what decoding a page answers.
+    /// decoded too; a fault there is what decoding a page returns.
     #[tactic(auto, using(crate::proofs::Causes::file_causes, crate::proofs::PageCauses::file_globals_causes), unfolding(crate::specs::Files::book_at))]
     pub fn new(alloc: A, bytes: &'a [u8], settings: &DecodeSettings) -> Result<File<'a, A>>
         ensures value { Gives (λ file. file) result (book_at settings.now.strict bytes.now) }
@@ -220,7 +220,7 @@ impl<'a, A: Allocator> File<'a, A> {
         self.pages.len()
     }
 
-    /// What decoding the globals answered.
+    /// What decoding the globals returned.
     fn globals(&self) -> Result<Option<&Globals<A>>>
         ensures { kept_names result ≡ self.now.globals }
     {
@@ -230,7 +230,7 @@ impl<'a, A: Allocator> File<'a, A> {
         }
     }
 
-    /// The page at this index, from 0; None behind the last page.
+    /// The page at this index, from 0; None after the last page.
     pub fn page(&self, index: usize) -> Option<Page<'_, A>>
         ensures value { result ≡ page_of self.now index }
         ensures alone { PagesStandAlone }

@@ -53,7 +53,7 @@ impl<A: Allocator + Clone> Globals<A> {
         })
     }
 
-    /// The globals whose segments `bytes` hold, one behind the other, without a file header.
+    /// The globals whose segments `bytes` hold, one after the other, without a file header.
     ///
     /// Dictionaries, tables and extensions are decoded in the order of their numbers, and no other
     /// segment. Refused by the first fault of reading the segments, else of decoding them.

@@ -99,7 +99,7 @@ fn first_packed<A: Allocator + Clone>(
 impl<A: Allocator + Clone> Jbig2Decoder<A> {
     /// Reads the whole input, going on after an interruption, and finds its first page.
     ///
-    /// Answers `Jbig2Error::Io` for another fault of the reader, of any kind, or where no end comes
+    /// Returns `Jbig2Error::Io` for another fault of the reader, of any kind, or where no end comes
     /// within 2^64 - 1 reads, and `Jbig2Error::Decode` for a fault of the file or want of memory.
     /// The reader is dropped.
     #[tactic(auto, using(crate::proofs::Causes::first_page_causes))]
@@ -121,7 +121,7 @@ impl<A: Allocator + Clone> Jbig2Decoder<A> {
     /// Writes the page into `buf`, which holds a byte for each pixel: rows from the top, 0 for
     /// black and 255 for white.
     ///
-    /// Answers `Jbig2Error::Decode` alone; `buf` is then as it was.
+    /// Returns `Jbig2Error::Decode` alone; `buf` is then as it was.
     pub fn read_image(&self, buf: &mut [u8]) -> Result<(), Jbig2Error>
         requires { length buf.old ≡ self.now.width * self.now.height }
         ensures value { GivesAgain (λ _. buf.new) result (first_image self.now.bytes) }
@@ -135,7 +135,7 @@ impl<A: Allocator + Clone> Jbig2Decoder<A> {
 
     /// Writes the page into `buf` as packed rows, as `Page::read_packed` does.
     ///
-    /// Answers `Jbig2Error::Decode` alone; `buf` is then as it was.
+    /// Returns `Jbig2Error::Decode` alone; `buf` is then as it was.
     pub fn read_packed(&self, buf: &mut [u8]) -> Result<(), Jbig2Error>
         requires { length buf.old ≡ packed_size self.now.width self.now.height }
         ensures value { GivesAgain (λ _. buf.new) result (first_packed self.now.bytes) }

@@ -83,7 +83,7 @@ impl<'a, A: Allocator> Model for Page<'a, A> {
 }
 
 impl<'a, A: Allocator> Page<'a, A> {
-    /// A page of a file, which holds its segments and keeps what decoding the globals answered.
+    /// A page of a file, which holds its segments and keeps what decoding the globals returned.
     pub(crate) fn of_file(
         strict: bool,
         initial_page: InitialPage,
@@ -140,7 +140,7 @@ impl<'a, A: Allocator> Page<'a, A> {
 }
 
 impl<'a, A: Allocator + Clone> Page<'a, A> {
-    /// A page as a PDF file keeps it: `bytes` hold its segments one behind the other, without a
+    /// A page as a PDF file keeps it: `bytes` hold its segments one after the other, without a
     /// file header, and `globals` what its segments may refer to besides.
     ///
     /// Refused by the first fault of the segments, or of the page's size.
@@ -170,7 +170,7 @@ impl<'a, A: Allocator + Clone> Page<'a, A> {
 
     /// Makes the calls that spell the page, under a fresh context.
     ///
-    /// Answers the first fault of a segment that lenient reading does not pass over, or the
+    /// Returns the first fault of a segment that lenient reading does not pass over, or the
     /// Decoder's own refusal.
     pub fn decode<D: Decoder>(&self, decoder: &mut D) -> Result<()>
         requires { IsCountable D.conduct decoder.old }
@@ -185,7 +185,7 @@ impl<'a, A: Allocator + Clone> Page<'a, A> {
     /// Writes the page into `buf`, which holds a byte for each pixel: rows from the top, 0 for
     /// black and 255 for white.
     ///
-    /// Answers the first fault of a segment that lenient reading does not pass over; `buf` is then
+    /// Returns the first fault of a segment that lenient reading does not pass over; `buf` is then
     /// as it was.
     pub fn read_image(&self, buf: &mut [u8]) -> Result<()>
         requires { length buf.old ≡ self.now.initial_page.width * self.now.initial_page.height }
@@ -216,7 +216,7 @@ impl<'a, A: Allocator + Clone> Page<'a, A> {
     /// leftmost the highest of its byte. A row takes `width.div_ceil(8)` bytes, whose last bits are 0
     /// past the width: the form of PBM, TIFF and PDF.
     ///
-    /// Answers the first fault of a segment that lenient reading does not pass over; `buf` is then
+    /// Returns the first fault of a segment that lenient reading does not pass over; `buf` is then
     /// as it was.
     #[tactic(auto, using(crate::proofs::PackedBits::packed_bits_are_bytes))]
     pub fn read_packed(&self, buf: &mut [u8]) -> Result<()>
@@ -236,7 +236,7 @@ impl<'a, A: Allocator + Clone> Page<'a, A> {
     /// Draws the page in the room of a context that earlier pages may have used, which lends it from
     /// then on: its packed rows, without memory of their own.
     ///
-    /// Answers the first fault of a segment that lenient reading does not pass over.
+    /// Returns the first fault of a segment that lenient reading does not pass over.
     pub fn draw<'c>(&self, context: &'c mut DecoderContext<A>) -> Result<DrawnPage<'c, A>>
         ensures value { Gives (λ drawn. drawn) result (packed_of_page self.now) }
         ensures errors { IfErr result IsReturned }
@@ -249,7 +249,7 @@ impl<'a, A: Allocator + Clone> Page<'a, A> {
     /// `DecoderContext::drawn` lends its packed rows, and `DecoderContext::passed_over` says what lenient
     /// reading passed over.
     ///
-    /// Answers the first fault of a segment that lenient reading does not pass over.
+    /// Returns the first fault of a segment that lenient reading does not pass over.
     pub fn draw_in(&self, context: &mut DecoderContext<A>) -> Result<()>
         ensures value { Gives (λ _. context.new.grid) result (grid_of_page self.now) }
         ensures drawing { Gives (λ _. context.new) result (drawing_of_page self.now) }
@@ -283,7 +283,7 @@ impl<'a, A: Allocator + Clone> Page<'a, A> {
     /// Makes the calls that spell the page, in the room of a context that earlier pages may have
     /// used.
     ///
-    /// Answers the first fault of a segment that lenient reading does not pass over, or the
+    /// Returns the first fault of a segment that lenient reading does not pass over, or the
     /// Decoder's own refusal. No call is made before all segments are decoded.
     pub fn decode_with<D: Decoder>(
         &self,

@@ -105,7 +105,7 @@ rows-start h d w old mid same =
     let none : 0 * w ≡ 0 = omega arith in
     rw none (subst (λ (s : Counts). WritesWithin 0 s old) same (draws-none old))
 
--- a row more, behind that row of the planes
+-- a row more, after that row of the planes
 pub rows-more : (h : HalftoneHeader) (d : Patterns) (m planes w : ℕ) (old read mid new : Counts) → WritesWithin (words_of_cells h d 0 (m * w)) (after_lane_rows (m * planes) w old) read → mid ≡ after_lane_rows planes w read
     → WritesWithin (words_of_cells h d (m * w) w) mid new → WritesWithin (words_of_cells h d 0 ((m + 1) * w)) (after_lane_rows ((m + 1) * planes) w old) new
 rows-more h d m planes w old read mid new before taken one =

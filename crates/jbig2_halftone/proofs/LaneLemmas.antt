@@ -160,7 +160,7 @@ chunk-small plane y x old mid inside same small before = λ k d within.
     rw read (small (x + k) 0 (omega arith))
 
 -- ---- what a row takes
--- so many groups of lanes and single pixels
+-- this many groups of lanes and single pixels
 abbrev pub lanes_to : ℕ → ℕ → Counts → Counts
 lanes_to groups pixels before = record before {
   loads = before.loads + (groups + pixels);

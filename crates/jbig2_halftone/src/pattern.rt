@@ -65,7 +65,7 @@ fn side_field(reader: &mut Reader<'_>) -> Result<u8>
     Ok(side)
 }
 
-/// The header of a pattern dictionary at the reader's place, which holds the coded bytes behind it
+/// The header of a pattern dictionary at the reader's place, which holds the coded bytes after it
 /// (T.88, 7.4.4).
 ///
 /// `ParseError::UnexpectedEof` where the bytes do not hold it, or where a pattern has no pixels. An

@@ -85,7 +85,7 @@ bits-are row black x pixels left changes k read others is inside first =
         others (63 - k) (omega (arith, o)) ∙ ap (λ (i : ℕ). bit pixels i) at ∙ read (k - 1) (omega arith) ∙ ap row place ∙ sym (left-here row (x + k) (omega (arith, o))))
         (cases_eq k 0)
 
--- a whole word, behind another one
+-- a whole word, after another one
 pub changes-are : (row : ℕ → Bool) (black : Bool) (from x pixels before left changes : ℕ) → from ≤ x → changes < 2 ^ 64 → ((k : ℕ) → k < 64 → bit pixels (64 - 1 - k) ≡ row (x + k)) → bit before 0 ≡ left_of row x → bit left 63 ≡ bit before 0 → ((k : ℕ) → k < 63 → bit left k ≡ bit pixels (k + 1)) → ((k : ℕ) → bit changes k ≡ (differ (bit pixels k) (bit left k) && differ (bit pixels k) black)) → IsChanges row black from x changes
 changes-are row black from x pixels before left changes begun small read known first others is = record {
   small = small;
@@ -197,7 +197,7 @@ place-from (suc n) p from to e =
 place-of : (p : ℕ → Bool) (from to : ℕ) → from ≤ to → IsPlace p from to (place_from p from to)
 place-of p from to order = place-from (to - from) p from to (omega arith)
 
--- a search that goes on behind this word
+-- a search that goes on after this word
 pub changes-later : (row : ℕ → Bool) (black : Bool) (from x to : ℕ) → from ≤ x → ((i : ℕ) → from ≤ i → i < x → is_change_from row black i ≡ false) → place_from (is_change_from row black) x to ≡ place_from (is_change_from row black) from to
 changes-later row black from x to order so_far =
     ⊎_elim

@@ -64,7 +64,7 @@ fn rows<'a>(unknown_length: bool, height: u32, bytes: &'a [u8]) -> Result<(u32, 
     Ok((rows, &bytes[..end]))
 }
 
-/// The header of a generic region at the reader's place, which holds the coded bytes behind it
+/// The header of a generic region at the reader's place, which holds the coded bytes after it
 /// (T.88, 7.4.6). With `unknown_length` the last four bytes are the number of rows.
 ///
 /// `ParseError::UnexpectedEof` where the bytes do not hold it; the errors of

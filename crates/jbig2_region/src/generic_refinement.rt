@@ -49,7 +49,7 @@ pub struct ReferenceBitmap<'a, B: Allocator> {
     pub dy: i32,
 }
 
-/// The header of a refinement region at the reader's place, which holds the coded bytes behind it
+/// The header of a refinement region at the reader's place, which holds the coded bytes after it
 /// (T.88, 7.4.7).
 ///
 /// `ParseError::UnexpectedEof` where the bytes do not hold it; the errors of

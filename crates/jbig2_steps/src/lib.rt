@@ -79,7 +79,7 @@ impl<L: Ledger> Steps<L> {
         self.book.add(&mut self.words, 1);
     }
 
-    /// So many words loaded and written.
+    /// This many words loaded and written.
     pub fn copy(&mut self, words: u64)
         ensures { self.new ≡ words_copied words self.old }
     {

@@ -40,7 +40,7 @@ ended-before (suc k) (r ∷ runs) from i inside after before =
     let more = ended-before k runs (from + r) i (omega arith) (omega (arith, whole)) (omega (arith, whole)) in
     rw test (omega (arith, more))
 
--- ---- exported ones of a list and another behind it
+-- ---- exported ones of a list and another after it
 kept : (b : Bool) (g : Grid) (all xs ys : List Grid) → all ≡ xs ++ ys → cond b (g ∷ all) all ≡ cond b (g ∷ xs) xs ++ ys
 kept true g all xs ys e = ap (λ (gs : List Grid). g ∷ gs) e
 kept false g all xs ys e = e

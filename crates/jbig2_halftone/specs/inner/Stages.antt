@@ -15,7 +15,7 @@ pattern_of collective width height k = part_of collective (record { left = k * w
 abbrev pub plane_coding : GrayScale → Coding
 plane_coding p = skipping_coding (template_pixels false p.template (nominal_pixels p.template)) p.skip_mask
 
--- the plane behind the k highest ones, the highest ones, and all of them
+-- the plane after the k highest ones, the highest ones, and all of them
 abbrev pub coded_plane : GrayScale → List ℕ → ℕ → Grid
 coded_plane p bytes k = so_far p.width p.height (after_planes p bytes (k + 1)).pixels
 
@@ -29,7 +29,7 @@ planes_by_coder p bytes = Ok (coded_planes p bytes p.bits_per_pixel)
 abbrev pub planes_by_mmr : GrayScale → List ℕ → Result (List Grid) DecodeError
 planes_by_mmr p bytes = mmr_planes p bytes p.bits_per_pixel
 
--- the contexts behind all planes; MMR leaves them alone
+-- the contexts after all planes; MMR leaves them alone
 abbrev pub planes_contexts : GrayScale → List ℕ → List Context → List Context
 planes_contexts p bytes contexts = if p.use_mmr then contexts else (after_planes p bytes p.bits_per_pixel).contexts
 
@@ -50,7 +50,7 @@ plane_pixels p = template_pixels false p.template (nominal_pixels p.template)
 abbrev pub plain_coding : GrayScale → Coding
 plain_coding p = coding_of false p.template (plane_pixels p)
 
--- where the plane behind the k highest ones begins
+-- where the plane after the k highest ones begins
 abbrev pub plane_start : GrayScale → List ℕ → ℕ → Region
 plane_start p bytes k = no_pixels (after_planes p bytes k).registers (after_planes p bytes k).contexts
 
@@ -69,7 +69,7 @@ pub record CountsCoded (p : GrayScale) (bytes : List ℕ) (count : ℕ) (before 
   pub plain : p.skip_mask ≡ None → CountsPlanes p bytes count before after
   pub masked : is_some p.skip_mask ≡ true → CountsMasked p count before after
 
--- so many rows of w pixels, taken out of planes: one load for each group of eight lanes and for each single pixel
+-- this many rows of w pixels, taken out of planes: one load for each group of eight lanes and for each single pixel
 abbrev pub after_lane_rows : ℕ → ℕ → Counts → Counts
 after_lane_rows rows w before = record before {
   loads = before.loads + rows * (w / 8 + w % 8);

@@ -112,7 +112,7 @@ fn read_coded_planes<M: Allocator, A: Allocator + Clone, L: Ledger>(
     Ok(planes)
 }
 
-/// The next plane that MMR wrote, and the bytes behind it.
+/// The next plane that MMR wrote, and the bytes after it.
 fn read_mmr_plane<'a, M: Allocator, A: Allocator, L: Ledger>(
     alloc: A,
     bytes: &'a [u8],

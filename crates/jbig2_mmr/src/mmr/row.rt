@@ -111,7 +111,7 @@ fn read_turn<A: Allocator, L: Ledger>(
     }
 }
 
-/// The pass mode: a0 moves under b2, the next change behind b1, which is one of the other colour.
+/// The pass mode: a0 moves under b2, the next change after b1, which is one of the other colour.
 #[inline(always)]
 fn pass<A: Allocator, L: Ledger>(
     bitmap: &Bitmap<A>,

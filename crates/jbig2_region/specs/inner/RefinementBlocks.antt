@@ -5,7 +5,7 @@ use Rattle.jbig2_base.specs.{Counts.{Counts}, Grid.{Grid}, Writes.{with_pixels}}
 use Rattle.jbig2_coder.specs.Coder.{Coder, Context}
 use Rattle.jbig2_region.specs.{Raster.{Coding}, Refinement.{Reference, refinement_coding}, inner.{Codes.{Codes, CountsCodes}, Neighbours.{IsLeft}, RefinementWindows.{SeesRows, corners}}, declared.{refinement_kernel.windows.RefinementWindows.{RefinementWindows}, template.RefinementTemplate.{RefinementTemplate}}}
 
--- what the code holds after k pixels of a block: the pixels as a number, behind the four at the left
+-- what the code holds after k pixels of a block: the pixels as a number, after the four at the left
 pub record Block (coding : Coding) (p : Bool) (x y k : ℕ) (g : Grid) (d0 : Coder) (s0 : List Context) (t0 : Counts) (pixels : ℕ) (d : Coder) (s : List Context) (t : Counts) : Type 0 where
   pub bytes : d.bytes ≡ d0.bytes
   pub few : pixels < 16 * 2 ^ k

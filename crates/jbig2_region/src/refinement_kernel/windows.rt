@@ -47,7 +47,7 @@ fn window<A: Allocator, L: Ledger>(
     bitmap.load_pixels(column as u32, row as u32, 64, steps)
 }
 
-/// The windows about row `y` that serve column `x` of the region and the 31 columns behind it.
+/// The windows about row `y` that serve column `x` of the region and the 31 columns after it.
 #[inline(always)]
 pub fn windows_at<A: Allocator, B: Allocator, L: Ledger>(
     bitmap: &Bitmap<A>,
@@ -102,7 +102,7 @@ fn row_window(pixels: u64, width: u32) -> u64
     (pixels << (64 - width)) >> 1
 }
 
-/// Of a window the pixel `offset` columns behind the windows' column, and its two neighbours.
+/// Of a window the pixel `offset` columns after the windows' column, and its two neighbours.
 #[inline(always)]
 fn three(window: u64, offset: u32) -> u32
     requires offset { offset < 32 }

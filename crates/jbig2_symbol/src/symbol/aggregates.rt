@@ -103,7 +103,7 @@ pub fn instance_count(number: Option<i32>) -> Result<u32>
     Ok(number as u32)
 }
 
-/// What so many instances are read and placed by, of the symbols that are referred to and the new
+/// What this many instances are read and placed by, of the symbols that are referred to and the new
 /// ones so far.
 pub fn aggregate_params<'a, A: Allocator, T: Allocator>(
     input: &SymbolInput<'a, A, T>,

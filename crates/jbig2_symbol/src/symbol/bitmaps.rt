@@ -123,7 +123,7 @@ pub fn read_rows<A: Allocator, L: Ledger>(
     read_mmr_rows(alloc, strict, size, width, height, reader, steps)
 }
 
-/// Puts the symbols of these widths, which stand side by side in a collective bitmap, behind those
+/// Puts the symbols of these widths, which stand side by side in a collective bitmap, after those
 /// that `symbols` holds.
 #[tactic(auto, using(crate::proofs::ClassCauses::cuts_causes))]
 pub fn cut_symbols<A: Allocator + Clone, B: Allocator, L: Ledger>(

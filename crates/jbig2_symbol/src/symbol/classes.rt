@@ -38,7 +38,7 @@ pub fn check_class(symbols: usize, empty: u32) -> Result<()>
     Ok(())
 }
 
-/// Puts the symbols of a class, each of which has a bitmap of its own, behind the others.
+/// Puts the symbols of a class, each of which has a bitmap of its own, after the others.
 fn read_symbols<R: ReadSymbols, A: Allocator + Clone, T: Allocator, L: Ledger>(
     alloc: A,
     input: &SymbolInput<'_, A, T>,
@@ -72,7 +72,7 @@ fn read_symbols<R: ReadSymbols, A: Allocator + Clone, T: Allocator, L: Ledger>(
     }
 }
 
-/// Puts the symbols of such a class behind the others; so many classes before it had none.
+/// Puts the symbols of such a class after the others; this many classes before it had none.
 #[tactic(auto, using(crate::proofs::ClassCauses::all_drawn_class_causes), unfolding(crate::specs::HeightClasses::drawn_class))]
 pub fn read_drawn_class<R: ReadSymbols, A: Allocator + Clone, T: Allocator, L: Ledger>(
     alloc: A,

@@ -103,7 +103,7 @@ impl<A: Allocator> CodedSymbols<'_, A> {
         Ok(bitmap)
     }
 
-    /// A symbol of so many instances.
+    /// A symbol of this many instances.
     fn read_instances<S: Allocator, M: Allocator + Clone, L: Ledger>(
         &mut self,
         alloc: M,

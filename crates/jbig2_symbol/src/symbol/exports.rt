@@ -81,7 +81,7 @@ pub fn read_runs<R: ReadClasses, M: Allocator, A: Allocator, T: Allocator, L: Le
     Ok(runs)
 }
 
-/// A copy of a symbol, by its number among those that are referred to and the new ones behind them.
+/// A copy of a symbol, by its number among those that are referred to and the new ones after them.
 fn duplicate_symbol<A: Allocator, S: Allocator, L: Ledger>(
     alloc: A,
     symbols: &[&Bitmap<S>],
@@ -100,7 +100,7 @@ fn duplicate_symbol<A: Allocator, S: Allocator, L: Ledger>(
     new[index - symbols.len()].duplicate(alloc, steps)
 }
 
-/// Puts copies of `count` symbols from number `first` on behind those that are exported so far.
+/// Puts copies of `count` symbols from number `first` on after those that are exported so far.
 fn push_symbols<A: Allocator + Clone, S: Allocator, L: Ledger>(
     alloc: A,
     symbols: &[&Bitmap<S>],
@@ -121,7 +121,7 @@ fn push_symbols<A: Allocator + Clone, S: Allocator, L: Ledger>(
     Ok(())
 }
 
-/// The symbols that the runs export, of those that are referred to and the new ones behind them.
+/// The symbols that the runs export, of those that are referred to and the new ones after them.
 pub fn export_symbols<A: Allocator + Clone, S: Allocator, L: Ledger>(
     alloc: A,
     runs: &[u32],
@@ -156,7 +156,7 @@ pub fn export_symbols<A: Allocator + Clone, S: Allocator, L: Ledger>(
     Ok(exported)
 }
 
-/// Reads which symbols a dictionary exports, of those that it refers to and the new ones behind
+/// Reads which symbols a dictionary exports, of those that it refers to and the new ones after
 /// them, and copies them.
 ///
 /// The errors of `read_runs`; `SymbolError::NoSymbols` where they are not as many as the header

@@ -85,7 +85,7 @@ fn read_instance<'a, R: ReadInstances, B: Allocator, M: Allocator + Clone, C: Al
     placed.push_symbol(&params.flags, t, symbol)
 }
 
-/// Reads the instance at the cursor, which moves on to the one behind it.
+/// Reads the instance at the cursor, which moves on to the one after it.
 fn read_and_move<'a, R: ReadInstances, B: Allocator, M: Allocator + Clone, C: Allocator, L: Ledger>(
     readings: &mut R,
     refining: &mut Refining<C>,
@@ -103,7 +103,7 @@ fn read_and_move<'a, R: ReadInstances, B: Allocator, M: Allocator + Clone, C: Al
     Ok(())
 }
 
-/// Reads so many instances, behind which there is another.
+/// Reads this many instances, after which there is another.
 fn read_inner<'a, R: ReadInstances, B: Allocator, M: Allocator + Clone, C: Allocator, L: Ledger>(
     readings: &mut R,
     refining: &mut Refining<C>,
@@ -126,7 +126,7 @@ fn read_inner<'a, R: ReadInstances, B: Allocator, M: Allocator + Clone, C: Alloc
     Ok(())
 }
 
-/// Reads the last instance, and the difference of S behind it.
+/// Reads the last instance, and the difference of S after it.
 fn read_last<'a, R: ReadInstances, B: Allocator, M: Allocator + Clone, C: Allocator, L: Ledger>(
     readings: &mut R,
     refining: &mut Refining<C>,
@@ -146,7 +146,7 @@ fn read_last<'a, R: ReadInstances, B: Allocator, M: Allocator + Clone, C: Alloca
     Ok(placed.instances)
 }
 
-/// Reads the strips, of which there is one at least, behind this T.
+/// Reads the strips, of which there is one at least, after this T.
 fn read_some_strips<
     'a,
     R: ReadInstances,
@@ -175,7 +175,7 @@ fn read_some_strips<
     read_last(readings, refining, params, placed, steps)
 }
 
-/// Reads all strips behind this T.
+/// Reads all strips after this T.
 fn read_strips<'a, R: ReadInstances, B: Allocator, M: Allocator + Clone, C: Allocator, L: Ledger>(
     alloc: M,
     readings: &mut R,
@@ -251,7 +251,7 @@ fn draw_instances<B: Allocator, M: Allocator, D: Allocator, L: Ledger>(
 /// and draws them onto `region`, which is all in its default colour. `alloc` is for the list of
 /// instances and for refined symbols. An error leaves the region as it was.
 ///
-/// The errors are those of `decode_into` behind its tables.
+/// The errors are those of `decode_into` after its tables.
 #[tactic(auto, unfolding(crate::specs::Text::text_region))]
 pub fn draw_instances_by<
     R: ReadInstances,
