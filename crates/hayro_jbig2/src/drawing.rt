@@ -247,7 +247,8 @@ impl<'a, A: Allocator + Clone> Drawer<'a, A> {
             context.untouched = false;
             return parsed.decode_onto(&mut context.bitmap, &mut context.workspace, steps);
         }
-        let region = parsed.decode(&mut context.workspace, steps)?;
+        let seen = parsed.above_end(context.bitmap.height());
+        let region = seen.decode(&mut context.workspace, steps)?;
         context.combine(&region, steps);
         Ok(())
     }

@@ -1,9 +1,10 @@
 //! Segments that several pages share.
-ghost use Rattle.std.specs.Prelude.{◌≡◌};
+ghost use Rattle.std.specs.Prelude.{◌≡◌, Ok, IfErr};
 ghost use Rattle.jbig2_base.specs.Answer.{Gives};
 ghost use Rattle.jbig2_base.specs.inner.SegmentViews.{segment_view, segment_views};
 ghost use Rattle.hayro_jbig2.specs.Names.{globals_at, named_from, kept_by, no_names};
 ghost use Rattle.hayro_jbig2.specs.Causes.{GlobalsHaveCauses};
+ghost use Rattle.hayro_jbig2.specs.Returned.{IsReturned};
 
 use crate::dictionaries::{extension, keep_patterns, keep_symbols, keep_table};
 use crate::drawing::pay_segment;
@@ -44,6 +45,15 @@ impl<A: Allocator> Globals<A> {
 }
 
 impl<A: Allocator + Clone> Globals<A> {
+    /// Globals that keep nothing.
+    pub(crate) fn empty(alloc: A) -> Result<Globals<A>>
+        ensures { Gives (λ globals. globals) result (Ok no_names) }
+    {
+        Ok(Globals {
+            names: KeptNames::new(alloc)?,
+        })
+    }
+
     /// The globals whose segments `bytes` hold, one after the other, without a file header.
     ///
     /// Dictionaries, tables and extensions are decoded in the order of their numbers, and no other
@@ -53,6 +63,7 @@ impl<A: Allocator + Clone> Globals<A> {
         ensures value { Gives (λ globals. globals) result
             (globals_at settings.now.strict bytes.now) }
         ensures causes { GlobalsHaveCauses }
+        ensures errors { IfErr result IsReturned }
     {
         Globals::new_within(alloc, bytes, settings, None)
     }
@@ -66,7 +77,9 @@ impl<A: Allocator + Clone> Globals<A> {
         settings: &DecodeSettings,
         work: Option<u64>,
     ) -> Result<Globals<A>>
-        ensures { Gives (λ globals. globals) result (globals_at settings.now.strict bytes.now) }
+        ensures value { Gives (λ globals. globals) result
+            (globals_at settings.now.strict bytes.now) }
+        ensures errors { IfErr result IsReturned }
     {
         let strict = settings.strict;
         let mut segments = parse_segments_sequential(alloc.clone()?, bytes, strict)?;

@@ -1,5 +1,5 @@
 //! Pages.
-ghost use Rattle.std.specs.Prelude.{◌≡◌, ℕ, ◌+◌, ◌-◌, ◌*◌, ◌^◌, ◌<◌, ◌≤◌, Bool, IfOk, IsTrue, OnErr, length, pos};
+ghost use Rattle.std.specs.Prelude.{◌≡◌, ℕ, ◌+◌, ◌-◌, ◌*◌, ◌^◌, ◌<◌, ◌≤◌, Bool, IfErr, IfOk, IsTrue, OnErr, length, pos};
 ghost use Rattle.jbig2_base.specs.Answer.{Gives, Leaves};
 ghost use Rattle.jbig2_base.specs.Combination.{combined};
 ghost use Rattle.jbig2_base.specs.Grid.{Grid, blank};
@@ -8,7 +8,8 @@ ghost use Rattle.jbig2_base.specs.declared.bitmap.operator.CombinationOperator.{
 ghost use Rattle.hayro_jbig2.specs.Calls.{CallsAreFew, ChunksFit, DrawsGrid, calls_of, Decodes, IsCountable};
 ghost use Rattle.hayro_jbig2.specs.Image.{PackedBitsAreBytes, image_of_page, packed_of_page, packed_size};
 ghost use Rattle.hayro_jbig2.specs.Page.{HasSides, IsSide, ReadPage, segments_drawn, drawing_of_page, embedded, grid_of_page, draws_over, page_begun, PagesKeepTheirSize, StrictPassesNothing, UntouchedIsBlank};
-ghost use Rattle.hayro_jbig2.specs.Causes.{EmbeddedPagesHaveCauses, PagesHaveCauses};
+ghost use Rattle.hayro_jbig2.specs.Causes.{EmbeddedPagesHaveCauses, IsAnswered, PagesHaveCauses};
+ghost use Rattle.hayro_jbig2.specs.Returned.{IsReturned};
 ghost use Rattle.hayro_jbig2.specs.inner.PageViews.{given_names, kept_names};
 ghost use Rattle.hayro_jbig2.specs.inner.SegmentLists.{segment_list};
 ghost use Rattle.jbig2_base.specs.inner.SegmentViews.{segment_views};
@@ -61,7 +62,9 @@ pub struct Page<'a, A: Allocator> {
 }
 
 impl<'a, A: Allocator> Model for Page<'a, A> {
+    ghost use Rattle.std.specs.Prelude.{IfErr};
     ghost use Rattle.jbig2_base.specs.inner.SegmentViews.{segment_views};
+    ghost use Rattle.hayro_jbig2.specs.Causes.{IsAnswered};
     ghost use Rattle.hayro_jbig2.specs.Page.{HasSides, ReadPage};
     ghost use Rattle.hayro_jbig2.specs.inner.PageViews.{kept_names};
     ghost use Rattle.hayro_jbig2.specs.inner.SegmentLists.{segment_list};
@@ -75,7 +78,8 @@ impl<'a, A: Allocator> Model for Page<'a, A> {
       globals = kept_names page.globals;
     } };
 
-    ghost invariant = { λ page. HasSides page.initial_page };
+    ghost invariant = { λ page. HasSides page.initial_page
+        × IfErr (kept_names page.globals) IsAnswered };
 }
 
 impl<'a, A: Allocator> Page<'a, A> {
@@ -86,7 +90,8 @@ impl<'a, A: Allocator> Page<'a, A> {
         segments: &'a Vec<Segment<'a, A>, A>,
         globals: Result<Option<&'a Globals<A>>>,
     ) -> Page<'a, A>
-        requires { HasSides initial_page }
+        requires sides { HasSides initial_page }
+        requires answered { IfErr (kept_names globals) IsAnswered }
         ensures { result ≡ record {
           strict = strict;
           initial_page = initial_page;
@@ -149,6 +154,7 @@ impl<'a, A: Allocator + Clone> Page<'a, A> {
         ensures value { Gives (λ page. page) result
             (embedded settings.now.strict (given_names globals.entry) bytes.now) }
         ensures causes { EmbeddedPagesHaveCauses }
+        ensures errors { IfErr result IsReturned }
     {
         let strict = settings.strict;
         let mut segments = parse_segments_sequential(alloc, bytes, strict)?;
@@ -168,7 +174,9 @@ impl<'a, A: Allocator + Clone> Page<'a, A> {
     /// Decoder's own refusal.
     pub fn decode<D: Decoder>(&self, decoder: &mut D) -> Result<()>
         requires { IsCountable D.conduct decoder.old }
-        ensures { Decodes D.conduct (grid_of_page self.now) result decoder.old decoder.new }
+        ensures calls { Decodes D.conduct (grid_of_page self.now) result decoder.old decoder.new }
+        ensures errors { D.conduct.refusals decoder.new ≡ D.conduct.refusals decoder.old
+            → IfErr result IsReturned }
     {
         let mut context = DecoderContext::new(self.segments.as_vec().allocator().clone()?)?;
         self.decode_with(decoder, &mut context)
@@ -183,7 +191,9 @@ impl<'a, A: Allocator + Clone> Page<'a, A> {
         requires { length buf.old ≡ self.now.initial_page.width * self.now.initial_page.height }
         ensures value { Gives (λ _. buf.new) result (image_of_page self.now) }
         ensures unchanged { OnErr result (buf.new ≡ buf.old) }
+        ensures errors { IfErr result IsReturned }
     {
+        let _globals = &self.globals;
         self.read_counted::<Brand>(buf, Blank::new(6))
     }
 
@@ -215,6 +225,7 @@ impl<'a, A: Allocator + Clone> Page<'a, A> {
         ensures value { Gives (λ _. buf.new) result (packed_of_page self.now) }
         ensures unchanged { OnErr result (buf.new ≡ buf.old) }
         ensures bits { PackedBitsAreBytes }
+        ensures errors { IfErr result IsReturned }
     {
         let mut context = DecoderContext::new(self.segments.as_vec().allocator().clone()?)?;
         let drawn = self.draw(&mut context)?;
@@ -227,7 +238,8 @@ impl<'a, A: Allocator + Clone> Page<'a, A> {
     ///
     /// Returns the first fault of a segment that lenient reading does not pass over.
     pub fn draw<'c>(&self, context: &'c mut DecoderContext<A>) -> Result<DrawnPage<'c, A>>
-        ensures { Gives (λ drawn. drawn) result (packed_of_page self.now) }
+        ensures value { Gives (λ drawn. drawn) result (packed_of_page self.now) }
+        ensures errors { IfErr result IsReturned }
     {
         self.draw_in(context)?;
         Ok(context.drawn())
@@ -243,7 +255,9 @@ impl<'a, A: Allocator + Clone> Page<'a, A> {
         ensures drawing { Gives (λ _. context.new) result (drawing_of_page self.now) }
         ensures size { PagesKeepTheirSize }
         ensures strict { StrictPassesNothing }
+        ensures errors { IfErr result IsReturned }
     {
+        let _globals = &self.globals;
         self.draw_counted::<Brand>(context, Blank::new(6))
     }
 
@@ -290,7 +304,10 @@ impl<'a, A: Allocator + Clone> Page<'a, A> {
             → combined operator (blank region.width region.height black) region (pos 0) (pos 0) ≡
             region }
         ensures causes { PagesHaveCauses }
+        ensures errors { D.conduct.refusals decoder.new ≡ D.conduct.refusals decoder.old
+            → IfErr result IsReturned }
     {
+        let _globals = &self.globals;
         self.decode_counted::<D, Brand>(decoder, context, Blank::new(6))
     }
 
