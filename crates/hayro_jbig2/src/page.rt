@@ -268,9 +268,7 @@ impl<'a, A: Allocator + Clone> Page<'a, A> {
         ensures { Gives (λ _. context.new) result (drawing_of_page self.now) }
     {
         let mut steps = context.new_steps::<L>(blank);
-        let drawn = self.draw_into(context, &mut steps);
-        context.end(&steps);
-        drawn
+        self.draw_limited(context, &mut steps)
     }
 
     /// The context that the page is drawn in, a fresh one.
@@ -325,12 +323,23 @@ impl<'a, A: Allocator + Clone> Page<'a, A> {
         ensures drawing { IfOk (drawing_of_page self.now) (Leaves result context.new) }
     {
         let mut steps = context.new_steps::<L>(blank);
-        let decoded = self.draw_into(context, &mut steps);
-        context.end(&steps);
-        match decoded {
+        match self.draw_limited(context, &mut steps) {
             Ok(()) => push_bitmap(&context.bitmap, decoder, &mut steps),
             Err(error) => Err(error),
         }
+    }
+
+    /// Draws the page, and notes what that leaves of the context's limit of work.
+    fn draw_limited<L: Ledger>(
+        &self,
+        context: &mut DecoderContext<A>,
+        steps: &mut Steps<L>,
+    ) -> Result<()>
+        ensures { Gives (λ _. context.new) result (drawing_of_page self.now) }
+    {
+        let drawn = self.draw_into(context, steps);
+        context.end(steps);
+        drawn
     }
 
     /// Draws the whole page into the context's bitmap.
