@@ -10,7 +10,7 @@ ghost use Rattle.jbig2_halftone.specs.Patterns.{collective_width, collective_hea
 ghost use Rattle.jbig2_halftone.specs.inner.DictionaryViews.{dictionary_view};
 ghost use Rattle.jbig2_halftone.specs.inner.PatternViews.{header_view};
 ghost use Rattle.jbig2_halftone.specs.inner.Stages.{pattern_of};
-ghost use Rattle.jbig2_base.specs.Causes.{HaveCauses};
+ghost use Rattle.jbig2_base.specs.Causes.{HasCause, HasCauseOrNoMemory};
 ghost use Rattle.jbig2_halftone.specs.Causes.{BreaksPatternHeader, BreaksPatterns};
 
 mod dictionary;
@@ -70,7 +70,7 @@ fn side_field(reader: &mut Reader<'_>) -> Result<u8>
 ///
 /// `ParseError::UnexpectedEof` where the bytes do not hold it, or where a pattern has no pixels. An
 /// error leaves the reader where it was. Takes no memory.
-#[tactic(auto, using(crate::proofs::Causes::pattern_header_causes), unfolding(crate::specs::PatternHeader::pattern_header_at))]
+#[tactic(auto, using(crate::proofs::Causes::pattern_header_cause), unfolding(crate::specs::PatternHeader::pattern_header_at))]
 pub fn parse<'a>(reader: &mut Reader<'a>, strict: bool) -> Result<PatternDictionaryHeader<'a>>
     requires { IsAligned reader.old }
     ensures value { Answers (λ h. (header_view h, reader.new.bytes)) result
@@ -79,7 +79,7 @@ pub fn parse<'a>(reader: &mut Reader<'a>, strict: bool) -> Result<PatternDiction
     ensures width { IfOk result (λ h. 1 ≤ h.pattern_width) }
     ensures height { IfOk result (λ h. 1 ≤ h.pattern_height) }
     ensures stays { OnErr result (reader.new ≡ reader.old) }
-    ensures causes { (strict : Bool) → HaveCauses (pattern_header_at strict) BreaksPatternHeader }
+    ensures causes { HasCause result (BreaksPatternHeader reader.old.bytes) }
 {
     let mut ahead = reader.duplicate();
     let flags = byte_field(&mut ahead)?;
@@ -203,7 +203,7 @@ fn decode_collective<A: Allocator, B: Allocator, L: Ledger>(
 /// `OverflowError::BitmapDimension` where the patterns side by side have more than 65535 columns;
 /// in strict mode `RegionError::InvalidMmrData` where MMR data has a fault or lacks a row;
 /// `OutOfMemory` where there is no room, which alone leaves open what `contexts` holds.
-#[tactic(auto, using(crate::proofs::CausesOfRegions::pattern_causes), unfolding(crate::specs::Patterns::patterns_decoded))]
+#[tactic(auto, using(crate::proofs::CausesOfRegions::pattern_cause), unfolding(crate::specs::Patterns::patterns_decoded))]
 pub fn decode<A: Allocator + Clone, B: Allocator, L: Ledger>(
     alloc: A,
     header: &PatternDictionaryHeader<'_>,
@@ -215,7 +215,7 @@ pub fn decode<A: Allocator + Clone, B: Allocator, L: Ledger>(
         (patterns_decoded (header_view header.now)) }
     ensures contexts { Leaves result contexts.new.items
         (dictionary_contexts (header_view header.now) contexts.old.items) }
-    ensures causes { HaveCauses patterns_decoded BreaksPatterns }
+    ensures causes { HasCauseOrNoMemory result (BreaksPatterns (header_view header.now)) }
 {
     let width = u32::from(header.pattern_width);
     let height = u32::from(header.pattern_height);
