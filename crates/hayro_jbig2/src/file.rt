@@ -8,8 +8,8 @@ ghost use Rattle.hayro_jbig2.specs.Files.{needs_page, lacks_page, associated, is
 ghost use Rattle.hayro_jbig2.specs.Names.{named_from, no_names};
 ghost use Rattle.hayro_jbig2.specs.Page.{ReadPage};
 ghost use Rattle.hayro_jbig2.specs.inner.PageViews.{kept_names};
-ghost use Rattle.hayro_jbig2.specs.Causes.{BreaksBook, BreaksNames};
-ghost use Rattle.jbig2_base.specs.Causes.{HaveCauses};
+ghost use Rattle.hayro_jbig2.specs.Causes.{BreaksBook};
+ghost use Rattle.jbig2_base.specs.Causes.{HasCauseOrNoMemory};
 ghost use Rattle.jbig2_base.specs.Segment.{SegmentView};
 
 use crate::globals::Globals;
@@ -176,12 +176,10 @@ impl<'a, A: Allocator + Clone> File<'a, A> {
     /// Refused by the first fault of the segments, then of their associations, of the count of
     /// pages, and of each page's end and size. The segments of no page are decoded too; a fault
     /// there is what decoding a page answers.
-    #[tactic(auto, using(crate::proofs::Causes::file_causes, crate::proofs::PageCauses::file_globals_causes), unfolding(crate::specs::Files::book_at))]
+    #[tactic(auto, using(crate::proofs::Causes::file_cause), unfolding(crate::specs::Files::book_at))]
     pub fn new(alloc: A, bytes: &'a [u8], settings: &DecodeSettings) -> Result<File<'a, A>>
         ensures value { Gives (λ file. file) result (book_at settings.now.strict bytes.now) }
-        ensures causes { (strict : Bool) → HaveCauses (book_at strict) (BreaksBook strict) }
-        ensures globals { (strict : Bool) (ps : List SegmentView)
-            → HaveCauses (named_from strict ps) (BreaksNames strict ps) }
+        ensures causes { HasCauseOrNoMemory result (BreaksBook settings.now.strict bytes.now) }
     {
         let strict = settings.strict;
         let file = parse_file(alloc.clone()?, bytes, strict)?;

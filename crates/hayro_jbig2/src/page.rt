@@ -8,7 +8,6 @@ ghost use Rattle.jbig2_base.specs.declared.bitmap.operator.CombinationOperator.{
 ghost use Rattle.hayro_jbig2.specs.Calls.{CallsAreFew, ChunksFit, DrawsGrid, calls_of, Decodes, IsCountable};
 ghost use Rattle.hayro_jbig2.specs.Image.{PackedBitsAreBytes, image_of_page, packed_of_page, packed_size};
 ghost use Rattle.hayro_jbig2.specs.Page.{HasSides, IsSide, ReadPage, segments_drawn, drawing_of_page, embedded, grid_of_page, draws_over, page_begun, PagesKeepTheirSize, StrictPassesNothing, UntouchedIsBlank};
-ghost use Rattle.hayro_jbig2.specs.Causes.{EmbeddedPagesHaveCauses, PagesHaveCauses};
 ghost use Rattle.hayro_jbig2.specs.inner.PageViews.{given_names, kept_names};
 ghost use Rattle.hayro_jbig2.specs.inner.SegmentLists.{segment_list};
 ghost use Rattle.jbig2_base.specs.inner.SegmentViews.{segment_views};
@@ -139,7 +138,7 @@ impl<'a, A: Allocator + Clone> Page<'a, A> {
     /// file header, and `globals` what its segments may refer to besides.
     ///
     /// Refused by the first fault of the segments, or of the page's size.
-    #[tactic(auto, using(crate::proofs::PageCauses::embedded_causes), unfolding(crate::specs::Page::embedded))]
+    #[tactic(auto, unfolding(crate::specs::Page::embedded))]
     pub fn new_embedded(
         alloc: A,
         bytes: &'a [u8],
@@ -148,7 +147,6 @@ impl<'a, A: Allocator + Clone> Page<'a, A> {
     ) -> Result<Page<'a, A>>
         ensures value { Gives (λ page. page) result
             (embedded settings.now.strict (given_names globals.entry) bytes.now) }
-        ensures causes { EmbeddedPagesHaveCauses }
     {
         let strict = settings.strict;
         let mut segments = parse_segments_sequential(alloc, bytes, strict)?;
@@ -287,7 +285,6 @@ impl<'a, A: Allocator + Clone> Page<'a, A> {
             IsTable region → IsTrue (draws_over operator black)
             → combined operator (blank region.width region.height black) region (pos 0) (pos 0) ≡
             region }
-        ensures causes { PagesHaveCauses }
     {
         self.decode_counted::<D, Brand>(decoder, context, Blank::new(6))
     }
