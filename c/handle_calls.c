@@ -203,6 +203,9 @@ static void refuses_other_handles(void) {
     CHECK(hayro_jbig2_file_draw(a_page, 0, context) == HAYRO_JBIG2_OTHER_HANDLE);
     CHECK(hayro_jbig2_context_rows(a_page, 0, rows, 0) == HAYRO_JBIG2_OTHER_HANDLE);
     CHECK(hayro_jbig2_context_get_passed_over(a_page, &passed) == HAYRO_JBIG2_OTHER_HANDLE && passed.count == 9);
+    uint64_t left = 9;
+    CHECK(hayro_jbig2_context_set_work_limit(a_page, 1) == HAYRO_JBIG2_OTHER_HANDLE);
+    CHECK(hayro_jbig2_context_get_work_left(a_page, &left) == HAYRO_JBIG2_OTHER_HANDLE && left == 9);
     CHECK(hayro_jbig2_page_draw(read, context) == HAYRO_JBIG2_OK);
     hayro_jbig2_page_free(read);
     hayro_jbig2_context_free(context);
@@ -300,6 +303,42 @@ static void shares_globals_with_threads(void) {
     }
 }
 
+/* What drawing a page leaves of a limit, or 1 more than the limit where it fails otherwise than it should. */
+static uint64_t left_of(hayro_jbig2_file *file, size_t index, hayro_jbig2_context *context, uint64_t work) {
+    uint64_t left = 7;
+    CHECK(hayro_jbig2_context_set_work_limit(context, work) == HAYRO_JBIG2_OK);
+    uint32_t answer = hayro_jbig2_file_draw(file, index, context);
+    CHECK(hayro_jbig2_context_get_work_left(context, &left) == HAYRO_JBIG2_OK);
+    return answer == HAYRO_JBIG2_OK ? left : answer == HAYRO_JBIG2_OUT_OF_MEMORY && left == 0 ? work : work + 1;
+}
+
+/* A page is drawn within what it takes, and refused within any less; then the context draws it without a limit. */
+static void keeps_limits(void) {
+    const uint64_t most = (uint64_t)1 << 40;
+    hayro_jbig2_file *file = NULL;
+    hayro_jbig2_context *context = NULL;
+    hayro_jbig2_globals *shared = NULL;
+    CHECK(hayro_jbig2_file_new_within(NULL, true, 0, book.at, book.length, &file) == HAYRO_JBIG2_OUT_OF_MEMORY);
+    CHECK(file == NULL);
+    CHECK(hayro_jbig2_file_new_within(NULL, true, most, book.at, book.length, &file) == HAYRO_JBIG2_OK);
+    CHECK(hayro_jbig2_context_new(NULL, &context) == HAYRO_JBIG2_OK);
+    for (size_t index = 0; index < 3; index++) {
+        uint64_t taken = most - left_of(file, index, context, most);
+        CHECK(taken > 0 && taken < most);
+        CHECK(left_of(file, index, context, taken) == 0);
+        for (uint64_t work = 0; work < taken; work += work + 997 < taken ? 997 : 1)
+            CHECK(left_of(file, index, context, work) == work);
+        CHECK(left_of(file, index, context, HAYRO_JBIG2_NO_WORK_LIMIT) == HAYRO_JBIG2_NO_WORK_LIMIT);
+    }
+    CHECK(hayro_jbig2_globals_new_within(NULL, false, 0, globals.at, globals.length, &shared) ==
+          HAYRO_JBIG2_OUT_OF_MEMORY);
+    CHECK(shared == NULL);
+    CHECK(hayro_jbig2_globals_new_within(NULL, false, most, globals.at, globals.length, &shared) == HAYRO_JBIG2_OK);
+    hayro_jbig2_globals_free(shared);
+    hayro_jbig2_context_free(context);
+    hayro_jbig2_file_free(file);
+}
+
 int main(int count, char **words) {
     if (count != 3)
         return 2;
@@ -324,6 +363,7 @@ int main(int count, char **words) {
     refuses_other_pages();
     tells_want_of_memory();
     shares_globals_with_threads();
+    keeps_limits();
     printf("%u checks of calls on handles from C, %u failed\n", checks, failures);
     return failures > 0;
 }

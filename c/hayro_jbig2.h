@@ -221,6 +221,20 @@ void hayro_jbig2_file_free(hayro_jbig2_file *file);
 uint32_t hayro_jbig2_context_rows(hayro_jbig2_context *context, size_t place, uint8_t *rows, size_t length);
 uint32_t hayro_jbig2_context_get_passed_over(hayro_jbig2_context *context, hayro_jbig2_passed_over *passed_over);
 
+/* A limit of work, for bytes of strangers. A unit is some pixel that is decoded, cleared, cut out or combined; what is read
+ * besides costs a number of units. What would take more than the limit is refused with HAYRO_JBIG2_OUT_OF_MEMORY before
+ * that work is begun. HAYRO_JBIG2_NO_WORK_LIMIT is no limit, as for the calls without one. */
+#define HAYRO_JBIG2_NO_WORK_LIMIT UINT64_MAX
+/* Sets what each page may take that is drawn in the context from now on. */
+uint32_t hayro_jbig2_context_set_work_limit(hayro_jbig2_context *context, uint64_t work);
+/* Tells what the page that was drawn last left of the limit: 0 where it was refused for want of work. */
+uint32_t hayro_jbig2_context_get_work_left(hayro_jbig2_context *context, uint64_t *left);
+/* As hayro_jbig2_globals_new and hayro_jbig2_file_new, where decoding what pages share takes at most `work` units. */
+uint32_t hayro_jbig2_globals_new_within(const hayro_jbig2_memory *memory, bool strict, uint64_t work,
+                                        const uint8_t *bytes, size_t length, hayro_jbig2_globals **globals);
+uint32_t hayro_jbig2_file_new_within(const hayro_jbig2_memory *memory, bool strict, uint64_t work, const uint8_t *bytes,
+                                     size_t length, hayro_jbig2_file **file);
+
 /* A text for what a call answered, never null and never to be freed. This call and
  * hayro_jbig2_version are written in C. */
 const char *hayro_jbig2_error_text(uint32_t answer);

@@ -71,6 +71,13 @@ void drop_share(struct context *context);
 /* The page that the gathered bytes have, over the globals. */
 uint32_t new_stream(struct context *context, hayro_jbig2_page **stream);
 
+/* limit.c */
+
+/* The work that globals, and what the pages of a file share, may take, and a page at least. */
+uint64_t least_work(void);
+/* Limits the work of the page that is drawn in the room next: by its pixels. */
+uint32_t limit_room(hayro_jbig2_context *room, const hayro_jbig2_page_info *info);
+
 /* drawing.c */
 
 /* The room that pages are drawn in. */

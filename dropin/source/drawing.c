@@ -29,8 +29,6 @@ uint32_t copy_out(struct context *context, hayro_jbig2_context *room, const hayr
     return HAYRO_JBIG2_OK;
 }
 
-/* The library has no limit of work yet. Once it has one, it is set here for pages, in globals.c for globals and in
-   file.c for files. */
 uint32_t new_room(struct context *context, hayro_jbig2_context **room) {
     return hayro_jbig2_context_new(&context->memory, room);
 }
@@ -41,6 +39,8 @@ static uint32_t draw(struct context *context, hayro_jbig2_page *stream, struct p
     uint32_t answer = hayro_jbig2_page_get_info(stream, &info);
     if (answer == HAYRO_JBIG2_OK)
         answer = new_room(context, &room);
+    if (answer == HAYRO_JBIG2_OK)
+        answer = limit_room(room, &info);
     if (answer == HAYRO_JBIG2_OK)
         answer = hayro_jbig2_page_draw(stream, room);
     if (answer == HAYRO_JBIG2_OK)

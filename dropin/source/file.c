@@ -6,7 +6,8 @@ uint32_t open_file(struct context *context) {
     uint32_t why = HAYRO_JBIG2_OK;
     uint32_t answer = look_for_left_out(context, &why);
     if (answer == HAYRO_JBIG2_OK)
-        answer = hayro_jbig2_file_new(&context->memory, false, start_of(bytes), bytes->length, &open->file);
+        answer = hayro_jbig2_file_new_within(&context->memory, false, least_work(), start_of(bytes), bytes->length,
+                                             &open->file);
     if (answer != HAYRO_JBIG2_OK)
         return answer;
     tell_left_out(context, why);
@@ -31,6 +32,8 @@ uint32_t draw_next(struct context *context, struct page **page) {
     size_t index = open->next++;
     hayro_jbig2_page_info info;
     uint32_t answer = hayro_jbig2_file_get_info(open->file, index, &info);
+    if (answer == HAYRO_JBIG2_OK)
+        answer = limit_room(open->room, &info);
     if (answer == HAYRO_JBIG2_OK)
         answer = hayro_jbig2_file_draw(open->file, index, open->room);
     return answer == HAYRO_JBIG2_OK ? copy_out(context, open->room, &info, page) : answer;

@@ -8,7 +8,7 @@ static pthread_mutex_t sharing = PTHREAD_MUTEX_INITIALIZER;
 static uint32_t decode(const hayro_jbig2_memory *memory, const struct bytes *bytes, hayro_jbig2_globals **globals) {
     if (bytes->has_hole)
         return HAYRO_JBIG2_OUT_OF_MEMORY;
-    return hayro_jbig2_globals_new(memory, false, start_of(bytes), bytes->length, globals);
+    return hayro_jbig2_globals_new_within(memory, false, least_work(), start_of(bytes), bytes->length, globals);
 }
 
 /* The program jbig2dec goes on where it got no context, and a page without the globals that it needs is another page. So

@@ -1,8 +1,8 @@
 -- Where strict reading accepts, lenient reading gives the same: names, pages and files.
-use Rattle.std.proofs.Common.{◌≡◌, ℕ, eqb, Bool, true, false, not, ◌&&◌, cond, List, [], ◌∷◌, length, Option, Some, None, Result, Ok, Err, refl, sym, subst, ap}
+use Rattle.std.proofs.Common.{◌≡◌, ℕ, eqb, Bool, true, false, not, ◌&&◌, List, [], ◌∷◌, length, Option, Some, None, Result, Ok, Err, refl, sym, subst, ap}
 use Rattle.std.specs.Int.{w32}
 use Rattle.std.specs.Option.{option_map_or}
-use Rattle.std.specs.Prelude.{IfOk, is_none, nat_le, option_map, slice_get}
+use Rattle.std.specs.Prelude.{is_none, nat_le, option_map, slice_get}
 use Rattle.jbig2_base.specs.Answer.{◌>>=◌, refuse_if, some_or}
 use Rattle.jbig2_base.specs.Fields.{number_at}
 use Rattle.jbig2_base.specs.File.{file_at}
@@ -14,7 +14,6 @@ use Rattle.jbig2_base.specs.declared.error.DecodeError.{DecodeError}
 use Rattle.jbig2_base.specs.declared.error.DecodeError.TheVariants.{Format, Segment, Unsupported}
 use Rattle.jbig2_base.specs.declared.error.FormatError.TheVariants.{InvalidEndOfPage, MissingPageInfo, PageCountMismatch}
 use Rattle.jbig2_base.specs.declared.error.SegmentError.TheVariants.{InvalidReference, MissingPageAssociation, MissingPatternDictionary}
-use Rattle.jbig2_base.specs.declared.file_header.FileHeader.{FileHeader}
 use Rattle.jbig2_base.specs.declared.segment.SegmentType.{SegmentType}
 use Rattle.jbig2_base.specs.declared.segment.SegmentType.TheVariants as types
 use Rattle.jbig2_coder.specs.PrefixCode.{Member}
@@ -25,7 +24,7 @@ use Rattle.jbig2_region.specs.RegionInfo.{PlacedRegion}
 use Rattle.jbig2_symbol.specs.SymbolHeader.{SymbolHeader, symbol_header_at}
 use Rattle.jbig2_symbol.specs.Symbols.{Symbols}
 use Rattle.jbig2_text.specs.TextHeader.{TextHeader, text_header_at}
-use Rattle.hayro_jbig2.specs.Files.{PageInFile, ReadFile, associated, book_at, by_pages, ends_of, filed_each, filed_from, lacks_page, miscounts, needs_page, of_page, page_in, page_of}
+use Rattle.hayro_jbig2.specs.Files.{PageInFile, ReadFile, associated, book_at, by_pages, ends_of, filed_each, filed_from, lacks_page, miscounts, of_page, page_in, page_of, shared_by}
 use Rattle.hayro_jbig2.specs.Lenient.{LenientReadingAgrees}
 use Rattle.hayro_jbig2.specs.Names.{Names, Referred, extension, first_named, kept_by, named, no_names, pattern_dictionary_at, referred_by, symbol_dictionary_at, with_code, with_dictionary, with_number, with_numbers, with_patterns, with_symbols, with_table, globals_at, named_from}
 use Rattle.hayro_jbig2.specs.Page.{Drawing, ReadPage, drawing_of_page, embedded, ends_page, immediate, intermediate, keeping, or_passed_over, page_begun, region_at, segment_on, segments_drawn, shown}
@@ -210,6 +209,10 @@ each-same : (all : List (List SegmentView)) → Same (filed_each true all) (file
 each-same [] = refl
 each-same (own ∷ others) = same-next (filed_from true own) (filed_from false own) _ _ (filed-same own) (λ page. same-next (filed_each true others) (filed_each false others) _ _ (each-same others) (λ pages. refl))
 
+shared-same : (pages : List PageInFile) (shared : List SegmentView) → Same (shared_by true pages shared) (shared_by false pages shared)
+shared-same [] shared = refl
+shared-same (page ∷ pages) shared = named-same shared no_names
+
 -- a file, and the same read leniently
 record SameFile (book other : ReadFile) : Type 0 where
   pages : other.pages ≡ book.pages
@@ -223,9 +226,9 @@ book-relates bytes =
     relates-next SameFile (associated true file.1) (associated false file.1) _ _ (associated-same file.1) (λ known.
     relates-next SameFile (refuse_if (miscounts file.0.number_of_pages (length (by_pages file.1))) (Format PageCountMismatch)) (Ok tt) _ _ (same-refusal (miscounts file.0.number_of_pages (length (by_pages file.1))) (Format PageCountMismatch)) (λ counted.
     relates-next SameFile (filed_each true (by_pages file.1)) (filed_each false (by_pages file.1)) _ _ (each-same (by_pages file.1)) (λ pages. (
-      record { strict = false; pages = pages; globals = named_from false (of_page 0 file.1) no_names },
+      record { strict = false; pages = pages; globals = shared_by false pages (of_page 0 file.1) },
       refl,
-      record { pages = refl; lenient = refl; globals = named-same (of_page 0 file.1) no_names },
+      record { pages = refl; lenient = refl; globals = shared-same pages (of_page 0 file.1) },
     )))))
 
 file-page-same : (book other : ReadFile) → SameFile book other → (page : Option PageInFile) → Same (some_or (Format MissingPageInfo) (option_map (page_in book) page) >>= λ p. drawing_of_page p) (some_or (Format MissingPageInfo) (option_map (page_in other) page) >>= λ p. drawing_of_page p)

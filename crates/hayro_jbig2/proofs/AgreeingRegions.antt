@@ -1,15 +1,14 @@
 -- Where strict reading accepts, lenient reading gives the same: generic regions, refinements, patterns and halftones.
-use Rattle.std.proofs.Common.{◌≡◌, ℕ, zero, suc, ◌+◌, ◌-◌, ◌%◌, ◌/◌, eqb, Bool, true, false, not, ◌&&◌, ◌||◌, nat_lt, cond, List, [], ◌∷◌, length, map, drop, slice_index_or, Option, Some, None, Result, Ok, Err, refl, sym, ap, ◌∙◌}
+use Rattle.std.proofs.Common.{◌≡◌, ℕ, zero, suc, ◌+◌, ◌-◌, Bool, true, false, not, ◌&&◌, ◌||◌, nat_lt, List, [], ◌∷◌, length, map, slice_index_or, Result, Ok, refl, ap}
 use Rattle.std.specs.Int.{w8, w16, w32}
 use Rattle.std.specs.List.{range_with_len}
-use Rattle.std.specs.Prelude.{IfOk}
-use Rattle.jbig2_base.specs.Answer.{◌>>=◌, refuse_if}
+use Rattle.jbig2_base.specs.Answer.{refuse_if}
 use Rattle.jbig2_base.specs.Fields.{number_at}
 use Rattle.jbig2_base.specs.Grid.{Grid, blank}
 use Rattle.jbig2_base.specs.declared.error.DecodeError.{DecodeError}
 use Rattle.jbig2_base.specs.declared.error.DecodeError.TheVariants.{Overflow}
 use Rattle.jbig2_base.specs.declared.error.OverflowError.TheVariants.{BitmapDimension}
-use Rattle.jbig2_halftone.specs.GrayScale.{GrayScale, after_planes, gray_scale_image, gray_values, image_is_too_large, mmr_plane, mmr_planes, nominal_pixels, planes_of}
+use Rattle.jbig2_halftone.specs.GrayScale.{GrayScale, after_planes, gray_scale_image, image_is_too_large, mmr_plane, mmr_planes, nominal_pixels, planes_of}
 use Rattle.jbig2_halftone.specs.Halftone.{cells_drawn, gray_params, halftone_answer, halftone_decoded, pattern_for, with_cell}
 use Rattle.jbig2_halftone.specs.HalftoneHeader.{HalftoneHeader, halftone_flags_at, halftone_grid_at, halftone_header_at}
 use Rattle.jbig2_halftone.specs.PatternHeader.{PatternHeader, pattern_header_at, side_at}
@@ -17,10 +16,10 @@ use Rattle.jbig2_halftone.specs.Patterns.{Patterns, collective_header, collectiv
 use Rattle.jbig2_mmr.specs.T6.{mmr_rows, rows_of}
 use Rattle.jbig2_region.specs.Generic.{generic_answer, generic_decoded, generic_grid, generic_region, skipping_coding}
 use Rattle.jbig2_region.specs.GenericHeader.{GenericHeader, generic_header_at, rows_at}
-use Rattle.jbig2_region.specs.Raster.{Region, decoded_region, fresh_contexts, no_pixels, so_far}
+use Rattle.jbig2_region.specs.Raster.{Region, decoded_region, no_pixels, so_far}
 use Rattle.jbig2_region.specs.RegionInfo.{region_info_at}
-use Rattle.jbig2_region.specs.Templates.{adaptive_pixel_count, adaptive_pixels_at, template_of, template_pixels}
-use Rattle.hayro_jbig2.proofs.Agreeing.{Agrees, Same, agrees-then, same-if, same-itself, same-next, same-of, same-then, same-unless}
+use Rattle.jbig2_region.specs.Templates.{adaptive_pixels_at, template_pixels}
+use Rattle.hayro_jbig2.proofs.Agreeing.{Agrees, Same, agrees-then, same-if, same-next, same-then, same-unless}
 use Rattle.hayro_jbig2.proofs.PackedRows.{map-same}
 
 -- ---- MMR data

@@ -1,16 +1,14 @@
 -- Where strict reading accepts, lenient reading gives the same: segments and files.
-use Rattle.std.proofs.Common.{◌≡◌, ℕ, zero, suc, ◌/◌, ◌%◌, eqb, Bool, true, false, not, ◌&&◌, cond, List, [], ◌∷◌, length, Option, Some, None, Result, Ok, Err, refl, sym, subst}
+use Rattle.std.proofs.Common.{◌≡◌, ℕ, zero, suc, ◌/◌, ◌%◌, eqb, Bool, true, false, not, cond, List, [], ◌∷◌, length, Some, None, Result, Ok, Err, refl, sym, subst}
 use Rattle.std.specs.Int.{w8, w32}
-use Rattle.std.specs.Prelude.{IfOk}
 use Rattle.jbig2_base.specs.Answer.{◌>>=◌, refuse_if}
 use Rattle.jbig2_base.specs.File.{file_at, gathered, headers_in, segments_by, file_header_at}
 use Rattle.jbig2_base.specs.Fields.{number_at}
-use Rattle.jbig2_base.specs.Segment.{Header, SegmentView, header_at, is_immediate_generic, is_reserved, length_of, referred_at, segment_at, segment_data_at, type_of}
-use Rattle.jbig2_base.specs.Sequential.{by_number, goes_on, is_cut_off, is_end_of_file, segments_in, sequential, sorted_segments}
+use Rattle.jbig2_base.specs.Segment.{SegmentView, header_at, is_immediate_generic, is_reserved, length_of, referred_at, segment_at, segment_data_at, type_of}
+use Rattle.jbig2_base.specs.Sequential.{goes_on, is_cut_off, is_end_of_file, segments_in, sequential, sorted_segments}
 use Rattle.jbig2_base.specs.declared.error.DecodeError.{DecodeError}
 use Rattle.jbig2_base.specs.declared.error.DecodeError.TheVariants.{Parse, Segment}
 use Rattle.jbig2_base.specs.declared.error.SegmentError.TheVariants.{InvalidUnknownLength, UnknownType}
-use Rattle.jbig2_base.specs.declared.file_header.FileHeader.{FileHeader}
 use Rattle.jbig2_base.specs.declared.file_header.FileOrganization.{FileOrganization}
 use Rattle.jbig2_base.specs.declared.file_header.FileOrganization.TheVariants.{Sequential, RandomAccess}
 use Rattle.jbig2_base.specs.declared.segment.SegmentType.{SegmentType}

@@ -1,7 +1,6 @@
 -- Where strict reading accepts, lenient reading gives the same: symbol dictionaries.
-use Rattle.std.proofs.Common.{◌≡◌, ℕ, zero, suc, ◌+◌, ◌-◌, ◌/◌, ◌%◌, eqb, nat_le, nat_lt, Bool, true, false, not, ◌||◌, cond, ℤ, pos, ◌+ℤ◌, List, [], ◌∷◌, ◌++◌, length, sum, Option, Some, None, Result, Ok, Err, refl, sym, subst}
+use Rattle.std.proofs.Common.{◌≡◌, ℕ, zero, suc, ◌+◌, ◌-◌, eqb, nat_le, nat_lt, Bool, true, false, not, ◌||◌, ℤ, pos, ◌+ℤ◌, List, [], ◌∷◌, ◌++◌, length, sum, Option, Result, Ok, refl, sym}
 use Rattle.std.specs.Int.{w16, w32}
-use Rattle.std.specs.Prelude.{IfOk}
 use Rattle.jbig2_base.specs.Answer.{◌>>=◌, refuse_if}
 use Rattle.jbig2_base.specs.Bits.{Place}
 use Rattle.jbig2_base.specs.Fields.{bytes_at, number_at}
@@ -14,15 +13,15 @@ use Rattle.jbig2_base.specs.declared.error.SymbolError.TheVariants as errors
 use Rattle.jbig2_coder.specs.PrefixCode.{Member}
 use Rattle.jbig2_mmr.specs.T6.{mmr_rows}
 use Rattle.jbig2_symbol.specs.HeightClasses.{classes_from, drawn_class, empty_class, height_class, new_symbols, next_width, size_in_word, symbols_from, widths_from}
-use Rattle.jbig2_symbol.specs.SymbolBitmaps.{aggregate_params, by_instances, coded_aggregate, coded_instances, coded_symbol, collective_bitmap, fits_symbol, id_bits, id_codes, instance_count, mmr_bytes, plain_id, prefixed_aggregate, prefixed_at, prefixed_instances, put_together, raw_rows, refined_alone, rows_of_size, symbols_cut}
+use Rattle.jbig2_symbol.specs.SymbolBitmaps.{aggregate_params, by_instances, coded_aggregate, coded_instances, coded_symbol, collective_bitmap, fits_symbol, id_codes, instance_count, mmr_bytes, plain_id, prefixed_aggregate, prefixed_at, prefixed_instances, put_together, raw_rows, refined_alone, rows_of_size, symbols_cut}
 use Rattle.jbig2_symbol.specs.SymbolCoding.{classes_by_coder, classes_by_prefix_codes, coded_bitmap, coder_begun, collective_class, prefix_codes_begun, symbols_by_coder, symbols_by_prefix_codes}
 use Rattle.jbig2_symbol.specs.SymbolHeader.{SymbolHeader, coded_pixels_at, refined_pixels_at, symbol_flags_of, symbol_header_at}
 use Rattle.jbig2_symbol.specs.SymbolReading.{BitmapContexts, ClassReadings, SymbolInput, SymbolReadings, SymbolState, by_procedure, by_table, first_contexts, not_negative, symbol_tables}
-use Rattle.jbig2_symbol.specs.Symbols.{Symbols, dictionary_by, dictionary_from, dictionary_of, exported, exports, export_runs, next_run, runs_from, symbols_decoded, symbols_exported}
+use Rattle.jbig2_symbol.specs.Symbols.{dictionary_by, dictionary_from, exported, exports, export_runs, next_run, runs_from, symbols_decoded, symbols_exported}
 use Rattle.jbig2_text.specs.Refining.{Refining}
-use Rattle.jbig2_text.specs.Text.{Readings, TextParams, text_region}
+use Rattle.jbig2_text.specs.Text.{Readings, TextParams}
 use Rattle.jbig2_text.specs.TextCoding.{Coded, Prefixed, by_coder, by_prefix_codes, in_band, next_id}
-use Rattle.hayro_jbig2.proofs.Agreeing.{Agrees, Same, agrees-then, same-if, same-itself, same-next, same-of, same-option, same-refusal, same-then, same-unless}
+use Rattle.hayro_jbig2.proofs.Agreeing.{Agrees, Same, agrees-then, same-if, same-itself, same-next, same-of, same-option, same-then}
 use Rattle.hayro_jbig2.proofs.AgreeingRegions.{mmr-same}
 use Rattle.hayro_jbig2.proofs.AgreeingTexts.{lenient_params, text-region-same}
 

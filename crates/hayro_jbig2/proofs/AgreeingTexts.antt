@@ -1,6 +1,5 @@
 -- Where strict reading accepts, lenient reading gives the same: text regions.
-use Rattle.std.proofs.Common.{◌≡◌, ℕ, zero, suc, ◌-◌, ◌*◌, eqb, Bool, true, false, ◌||◌, nat_lt, cond, ℤ, pos, ◌-ℤ◌, ◌+ℤ◌, List, [], length, Option, Some, None, Result, Ok, Err, refl}
-use Rattle.std.specs.Prelude.{IfOk}
+use Rattle.std.proofs.Common.{ℕ, zero, suc, ◌-◌, ◌*◌, eqb, Bool, true, false, ◌||◌, nat_lt, cond, ℤ, pos, ◌-ℤ◌, ◌+ℤ◌, List, [], Option, Some, None, Result, Ok, Err, refl}
 use Rattle.std.specs.Option.{is_some}
 use Rattle.jbig2_base.specs.Answer.{◌>>=◌, refuse_if}
 use Rattle.jbig2_base.specs.Grid.{Grid, blank}
@@ -11,7 +10,7 @@ use Rattle.jbig2_base.specs.declared.error.SymbolError.TheVariants.{OutOfRange, 
 use Rattle.jbig2_coder.specs.PrefixCode.{Member}
 use Rattle.jbig2_region.specs.RegionInfo.{region_info_at}
 use Rattle.jbig2_text.specs.Refining.{Refining}
-use Rattle.jbig2_text.specs.Text.{Found, Reached, Readings, TextParams, after_instances, coordinate, cursor_moved, instance_symbol, plain_symbol, refined_symbol, strip_begun, strip_delta, symbol_of, t_in_strip, text_instances, text_region, with_instance, with_symbol}
+use Rattle.jbig2_text.specs.Text.{Reached, Readings, TextParams, after_instances, coordinate, cursor_moved, instance_symbol, plain_symbol, refined_symbol, strip_begun, strip_delta, symbol_of, t_in_strip, text_instances, text_region, with_instance, with_symbol}
 use Rattle.jbig2_text.specs.TextCoding.{by_coder, by_prefix_codes}
 use Rattle.jbig2_text.specs.TextHeader.{NumberCoding, TextHeader, ArithmeticCoding, HuffmanCoding, coding_at, text_fields_at, text_header_at}
 use Rattle.jbig2_text.specs.TextRegion.{coder_of, prefix_codes_of, refining_of, region_by, region_from, text_answer, text_decoded, text_params}

@@ -1,4 +1,4 @@
--- Law: no definition answers an error that bytes cannot bring about: that of files, of pages and of what they draw.
+-- Law: no definition returns an error that bytes cannot bring about: that of files, of pages and of what they draw.
 use Rattle.std.proofs.Common.{ℕ, Bool, true, false, List, [], ◌∷◌, length, Option, Some, None, Result, Ok, Err}
 use Rattle.std.specs.Prelude.{IfOk, ◌&&◌}
 use Rattle.std.specs.Option.{option_map_or}
@@ -23,7 +23,7 @@ use Rattle.jbig2_symbol.specs.Symbols.{Symbols}
 use Rattle.jbig2_symbol.proofs.Answered.{answered-symbol_header, answered-symbols_decoded}
 use Rattle.jbig2_text.proofs.AnsweredRegions.{answered-text, answered-text_header}
 use Rattle.hayro_jbig2.specs.Names.{Names, Referred, extension, kept_by, no_names, pattern_dictionary_at, symbol_dictionary_at, with_code, with_dictionary, with_number, with_numbers, with_patterns, with_symbols, with_table, globals_at, named_from}
-use Rattle.hayro_jbig2.specs.Files.{ReadFile, associated, book_at, by_pages, filed_each, filed_from, miscounts, of_page}
+use Rattle.hayro_jbig2.specs.Files.{PageInFile, ReadFile, associated, book_at, by_pages, filed_each, filed_from, miscounts, of_page, shared_by}
 use Rattle.hayro_jbig2.specs.Image.{first_page}
 use Rattle.hayro_jbig2.specs.Page.{Drawing, ReadPage, embedded, grid_of_page, immediate, intermediate, keeping, or_passed_over, page_begun, drawing_of_page, region_at, segment_on, segments_drawn, shown}
 use Rattle.hayro_jbig2.specs.Regions.{generic_at, halftone_at, referred_region, refinement_at, text_at}
@@ -173,6 +173,10 @@ answered-each strict [] = tt
 answered-each strict (own ∷ others) =
     answered-next (filed_from strict own) _ (answered-filed strict own) (λ page. answered-next (filed_each strict others) _ (answered-each strict others) (λ pages. tt))
 
+pub answered-shared : (strict : Bool) (pages : List PageInFile) (shared : List SegmentView) → Answered (shared_by strict pages shared)
+answered-shared strict [] shared = tt
+answered-shared strict (page ∷ pages) shared = answered-named strict shared no_names
+
 pub answered-book : (strict : Bool) (bytes : List ℕ) → Answered (book_at strict bytes)
 unfolding book_at
 answered-book strict bytes = search (answered-next, answered-file, answered-associated, answered-refusal, answered-each) depth 8
@@ -190,7 +194,7 @@ answered-book_globals strict bytes =
     answered-last P (file_at strict bytes) _ (λ file.
     answered-last P (associated strict file.1) _ (λ known.
     answered-last P (refuse_if (strict && miscounts file.0.number_of_pages (length (by_pages file.1))) _) _ (λ counted.
-    answered-last P (filed_each strict (by_pages file.1)) _ (λ pages. answered-named strict (of_page 0 file.1) no_names))))
+    answered-last P (filed_each strict (by_pages file.1)) _ (λ pages. answered-shared strict pages (of_page 0 file.1)))))
 
 answered-some_page : (page : Option ReadPage) → Answered (some_or (errors.Format MissingPageInfo) page)
 answered-some_page (Some page) = tt

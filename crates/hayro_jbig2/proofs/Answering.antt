@@ -1,6 +1,10 @@
 -- No definition gives an error that bytes cannot bring about: the law that a contract names.
-use Rattle.std.proofs.Common.{Result, Ok, Err}
+use Rattle.std.proofs.Common.{◌≡◌, ◌⊎◌, inl, inr, ℕ, Bool, List, Result, Ok, Err, sym, subst, arith}
+use Rattle.std.proofs.lemmas.Result.{IfErr-at_err}
 use Rattle.std.specs.Prelude.{IfErr, IfOk}
+use Rattle.jbig2_base.specs.Answer.{Gives}
+use Rattle.jbig2_base.specs.Grid.{Grid}
+use Rattle.jbig2_base.specs.Segment.{SegmentView}
 use Rattle.jbig2_base.specs.declared.error.DecodeError.{DecodeError}
 use Rattle.jbig2_base.specs.declared.error.DecodeError.TheVariants as errors
 use Rattle.jbig2_base.specs.declared.error.HuffmanError.TheVariants.{ConflictingCodes}
@@ -8,9 +12,12 @@ use Rattle.jbig2_base.specs.declared.error.OverflowError.TheVariants.{Index}
 use Rattle.jbig2_base.specs.declared.error.TemplateError.TheVariants.{Invalid}
 use Rattle.jbig2_base.proofs.Answered as base
 use Rattle.hayro_jbig2.specs.Causes.{ErrorsAreAnswered, IsAnswered}
-use Rattle.hayro_jbig2.specs.Files.{ReadFile, book_at}
-use Rattle.hayro_jbig2.specs.Page.{page_begun, segments_drawn}
-use Rattle.hayro_jbig2.proofs.Answered.{answered-book, answered-book_globals, answered-drawn, answered-embedded, answered-globals}
+use Rattle.hayro_jbig2.specs.Calls.{Conduct, Decodes}
+use Rattle.hayro_jbig2.specs.Files.{PageInFile, ReadFile, book_at, shared_by}
+use Rattle.hayro_jbig2.specs.Image.{image_of_page}
+use Rattle.hayro_jbig2.specs.Page.{Drawing, ReadPage, drawing_of_page, grid_of_page, page_begun}
+use Rattle.hayro_jbig2.specs.Returned.{IsReturned}
+use Rattle.hayro_jbig2.proofs.Answered.{answered-book, answered-book_globals, answered-drawn, answered-embedded, answered-globals, answered-grid, answered-shared}
 
 same : (e : DecodeError) → base.IsAnswered e → IsAnswered e
 same errors.OutOfMemory never = never
@@ -38,11 +45,47 @@ of-book : (book : Result ReadFile DecodeError) → IfOk book (λ b. base.Answere
 of-book (Ok book) is = of-answer book.globals is
 of-book (Err e) is = tt
 
+drawing_answered : (page : ReadPage) → IfErr page.globals IsAnswered → base.Answered (drawing_of_page page)
+drawing_answered page is = base.answered-next page.globals _ (to-answer page.globals is) (λ names. answered-drawn page.strict names page.segments (page_begun page.initial_page))
+
 pub errors_are_answered : ErrorsAreAnswered
 errors_are_answered = record {
   globals = λ strict bytes. of-answer _ (answered-globals strict bytes);
   page = λ strict globals bytes. of-answer _ (answered-embedded strict globals bytes);
   file = λ strict bytes. of-answer _ (answered-book strict bytes);
   file_globals = λ strict bytes. of-book (book_at strict bytes) (answered-book_globals strict bytes);
-  drawing = λ page is. of-answer _ (base.answered-next page.globals _ (to-answer page.globals is) (λ names. answered-drawn page.strict names page.segments (page_begun page.initial_page)));
+  drawing = λ page is. of-answer _ (drawing_answered page is);
 }
+
+-- ---- what calls return
+pub shared_answered : (strict : Bool) (pages : List PageInFile) (shared : List SegmentView) → IfErr (shared_by strict pages shared) IsAnswered
+shared_answered strict pages shared = of-answer _ (answered-shared strict pages shared)
+
+pub returned_error : {Y : Type 0} (meant : Result Y DecodeError) (e : DecodeError) → base.Answered meant → (e ≡ errors.OutOfMemory) ⊎ (meant ≡ Err e) → IsReturned e
+returned_error meant e is (inl memory) = inl memory
+returned_error meant e is (inr refused) = inr (IfErr-at_err IsAnswered refused (of-answer meant is))
+
+-- an answer of a call that meets a definition
+pub returned : {X Y : Type 0} (view : X → Y) (r : Result X DecodeError) (meant : Result Y DecodeError) → base.Answered meant → Gives view r meant → IfErr r IsReturned
+returned view (Ok x) meant is gives = tt
+returned view (Err e) meant is gives = returned_error meant e is gives
+
+-- what is drawn of a page
+pub drawn-returned : {X : Type 0} (d : X → Drawing) (r : Result X DecodeError) (page : ReadPage) → IfErr page.globals IsAnswered → Gives d r (drawing_of_page page) → IfErr r IsReturned
+drawn-returned d r page is gives = returned d r (drawing_of_page page) (drawing_answered page is) gives
+
+pub image-returned : {X : Type 0} (image : X → List ℕ) (r : Result X DecodeError) (page : ReadPage) → IfErr page.globals IsAnswered → Gives image r (image_of_page page) → IfErr r IsReturned
+image-returned image r page is gives =
+    returned image r (image_of_page page) (base.answered-next (grid_of_page page) _ (answered-grid page (to-answer page.globals is)) (λ g. tt)) gives
+
+-- what decoding a page returns where the Decoder refused no call
+pub decoded-returned : {S : Type 0} (c : Conduct S) (page : ReadPage) (r : Result (Unit {0}) DecodeError) (old new : S) → IfErr page.globals IsAnswered → Decodes c (grid_of_page page) r old new → c.refusals new ≡ c.refusals old → IfErr r IsReturned
+decoded-returned {S} c page r old new is decodes none = by (grid_of_page page) r (answered-grid page (to-answer page.globals is)) decodes
+  where
+    by : (meant : Result Grid DecodeError) (r : Result (Unit {0}) DecodeError) → base.Answered meant → Decodes c meant r old new → IfErr r IsReturned
+    by (Ok g) (Ok u) answered decodes = tt
+    by (Ok g) (Err e) answered (inl stopped) = absurd (let one = stopped.counted in omega (arith, one, none))
+    by (Ok g) (Err e) answered (inr memory) = inl memory.0
+    by (Err f) (Ok u) answered decodes = absurd decodes
+    by (Err f) (Err e) answered (inl given, made) = inr (subst IsAnswered (sym given) (same f answered))
+    by (Err f) (Err e) answered (inr memory, made) = inl memory

@@ -15,7 +15,7 @@ use Rattle.jbig2_base.specs.declared.error.OverflowError.TheVariants.{BitmapDime
 use Rattle.jbig2_base.specs.declared.file_header.FileHeader.{FileHeader}
 use Rattle.jbig2_base.specs.declared.page_info.PageInformation.{PageInformation}
 use Rattle.jbig2_base.specs.declared.page_info.InitialPage.{InitialPage}
-use Rattle.hayro_jbig2.specs.Files.{PageInFile, ReadFile, of_page, by_pages, ends_of, filed_from, filed_each, numbers_after, miscounts, associated, book_at, page_in, PagesStandAlone}
+use Rattle.hayro_jbig2.specs.Files.{PageInFile, ReadFile, of_page, by_pages, ends_of, filed_from, filed_each, numbers_after, miscounts, associated, book_at, page_in, shared_by, PagesStandAlone}
 use Rattle.hayro_jbig2.specs.Names.{named_from, Names, no_names}
 use Rattle.hayro_jbig2.specs.Page.{ReadPage}
 
@@ -109,7 +109,7 @@ own-at ps (p ∷ pages) (suc index) page all h = own-at ps pages index page all.
 
 -- a file's book, from its header and its segments
 abbrev pages_with : Bool → FileHeader × List SegmentView → Result ReadFile DecodeError
-pages_with strict file = filed_each strict (by_pages file.1) >>= λ pages. Ok (record { strict = strict; pages = pages; globals = named_from strict (of_page 0 file.1) no_names })
+pages_with strict file = filed_each strict (by_pages file.1) >>= λ pages. Ok (record { strict = strict; pages = pages; globals = shared_by strict pages (of_page 0 file.1) })
 
 abbrev counted_with : Bool → FileHeader × List SegmentView → Result ReadFile DecodeError
 counted_with strict file = refuse_if (strict && miscounts file.0.number_of_pages (length (by_pages file.1))) (Format PageCountMismatch) >>= λ counted. pages_with strict file
@@ -120,18 +120,32 @@ book_with strict file = associated strict file.1 >>= λ known. counted_with stri
 record Filled (strict : Bool) (ps : List SegmentView) (book : ReadFile) : Type 0 where
   own : AllOwn ps book.pages
   strictly : book.strict ≡ strict
-  shared : book.globals ≡ named_from strict (of_page 0 ps) no_names
+  shared : book.globals ≡ shared_by strict book.pages (of_page 0 ps)
 
 filled : (strict : Bool) (file : FileHeader × List SegmentView) (book : ReadFile) → book_with strict file ≡ Ok book → Filled strict file.1 book
 filled strict file book h =
     let known = went (associated strict file.1) (λ known. counted_with strict file) book h in
     let counted = went (refuse_if (strict && miscounts file.0.number_of_pages (length (by_pages file.1))) (Format PageCountMismatch)) (λ counted. pages_with strict file) book known.2 in
-    let pages = went (filed_each strict (by_pages file.1)) (λ pages. Ok (record { strict = strict; pages = pages; globals = named_from strict (of_page 0 file.1) no_names })) book counted.2 in
-    let made : ReadFile = record { strict = strict; pages = pages.0; globals = named_from strict (of_page 0 file.1) no_names } in
+    let pages = went (filed_each strict (by_pages file.1)) (λ pages. Ok (record { strict = strict; pages = pages; globals = shared_by strict pages (of_page 0 file.1) })) book counted.2 in
+    let made : ReadFile = record { strict = strict; pages = pages.0; globals = shared_by strict pages.0 (of_page 0 file.1) } in
     let same : made ≡ book = let told = pages.2 in cc in
     let own : AllOwn file.1 pages.0 = own-each strict file.1 (numbers_after [] file.1) pages.0 pages.1 in
     let is : Filled strict file.1 made = record { own = own; strictly = refl; shared = refl } in
     subst (λ (b : ReadFile). Filled strict file.1 b) same is
+
+-- a file with a page shares its globals
+shares-at : (strict : Bool) (pages : List PageInFile) (shared : List SegmentView) (index : ℕ) (page : PageInFile) → slice_get pages index ≡ Some page → shared_by strict pages shared ≡ named_from strict shared no_names
+shares-at strict [] shared index page h = absurd (cc)
+shares-at strict (p ∷ pages) shared index page h = refl
+
+-- what code asks of the pages
+pub shares_none : (strict : Bool) (pages : List PageInFile) (shared : List SegmentView) → (length pages == 0) ≡ true → shared_by strict pages shared ≡ Ok no_names
+shares_none strict [] shared none = refl
+shares_none strict (p ∷ pages) shared none = absurd (let long : length (p ∷ pages) ≡ 0 = eqb-true (length (p ∷ pages)) 0 none in omega arith)
+
+pub shares_some : (strict : Bool) (pages : List PageInFile) (shared : List SegmentView) → (length pages == 0) ≡ false → shared_by strict pages shared ≡ named_from strict shared no_names
+shares_some strict [] shared some = absurd (cc)
+shares_some strict (p ∷ pages) shared some = refl
 
 record Mapped {X Y : Type 0} (f : X → Y) (o : Option X) (y : Y) : Type 0 where
   from : X
@@ -145,14 +159,14 @@ mapped f (Some x) y h = record { from = x; was = refl; is = cc }
 abbrev page_from : Bool → List SegmentView → List SegmentView → Result ReadPage DecodeError
 page_from strict own shared = initial_page_of own >>= λ begun. Ok (record { strict = strict; initial_page = begun; segments = own; globals = named_from strict shared no_names })
 
-own-leaf : (strict : Bool) (ps : List SegmentView) (book : ReadFile) (page : PageInFile) → Filled strict ps book → IsOwn ps page → page_from strict (of_page page.initial_page.number ps) (of_page 0 ps) ≡ Ok (page_in book page)
-own-leaf strict ps book page filled own =
+own-leaf : (strict : Bool) (ps : List SegmentView) (book : ReadFile) (page : PageInFile) → Filled strict ps book → book.globals ≡ named_from strict (of_page 0 ps) no_names → IsOwn ps page → page_from strict (of_page page.initial_page.number ps) (of_page 0 ps) ≡ Ok (page_in book page)
+own-leaf strict ps book page filled shared own =
     let ending : InitialPage → Result ReadPage DecodeError = λ initial_page. Ok (record { strict = strict; initial_page = initial_page; segments = of_page page.initial_page.number ps; globals = named_from strict (of_page 0 ps) no_names }) in
     let told : page_from strict (of_page page.initial_page.number ps) (of_page 0 ps) ≡ ending page.initial_page = ap (λ (r : Result InitialPage DecodeError). r >>= ending) own.initial_page in
     told
     ∙ ap (λ (b : Bool). Ok (record { strict = b; initial_page = page.initial_page; segments = of_page page.initial_page.number ps; globals = named_from strict (of_page 0 ps) no_names })) (sym filled.strictly)
     ∙ ap (λ (own_segments : List SegmentView). Ok (record { strict = book.strict; initial_page = page.initial_page; segments = own_segments; globals = named_from strict (of_page 0 ps) no_names })) (sym own.segments)
-    ∙ ap (λ (names : Result Names DecodeError). Ok (record { strict = book.strict; initial_page = page.initial_page; segments = page.segments; globals = names })) (sym filled.shared)
+    ∙ ap (λ (names : Result Names DecodeError). Ok (record { strict = book.strict; initial_page = page.initial_page; segments = page.segments; globals = names })) (sym shared)
 
 pub pages_stand_alone : PagesStandAlone
 unfolding book_at
@@ -162,7 +176,8 @@ pages_stand_alone strict bytes file book index page read h at =
     let leaf = mapped (page_in book) (slice_get book.pages index) page at in
     let own = own-at file.1 book.pages index leaf.from all.own leaf.was in
     let Alone : ReadPage → Type 0 = λ l. page_from strict (of_page l.initial_page.number file.1) (of_page 0 file.1) ≡ Ok l in
-    subst Alone leaf.is (own-leaf strict file.1 book leaf.from all own)
+    let shared = all.shared ∙ shares-at strict book.pages (of_page 0 file.1) index leaf.from leaf.was in
+    subst Alone leaf.is (own-leaf strict file.1 book leaf.from all shared own)
 
 -- the pages that are made, and those that follow them
 abbrev pub with_pages : List PageInFile → Result (List PageInFile) DecodeError → Result (List PageInFile) DecodeError

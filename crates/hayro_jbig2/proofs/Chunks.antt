@@ -50,7 +50,7 @@ bytes-fit (suc n) w x bits whole room inside =
     byte-fits w x (take 8 bits) (whole_calls n (drop 8 bits)) whole (omega arith) (length-take-le 8 bits (omega arith))
     (bytes-fit n w (x + 8) (drop 8 bits) (omega arith) (omega (arith, length-drop 8 bits)) (omega (arith, length-drop 8 bits)))
 
--- behind the end of a row
+-- after the end of a row
 line-fits : (w x : ℕ) (calls others : List Call) → ChunksFit w x calls → ChunksFit w 0 others → ChunksFit w x ((calls ++ Line ∷ []) ++ others)
 line-fits w x [] others fits more = more
 line-fits w x (Pixel b ∷ calls) others fits more = line-fits w (x + 1) calls others fits more

@@ -40,7 +40,7 @@ use Rattle.hayro_jbig2.specs.inner.PageViews.{near_area}
 use Rattle.hayro_jbig2.specs.inner.Parsed.{apart, drawing_of, drawn, info_of, initial_of}
 use Rattle.hayro_jbig2.specs.inner.Whole.{IsBegun, IsWhole, touched}
 use Rattle.hayro_jbig2.proofs.PageArea.{area-near}
-use Rattle.hayro_jbig2.proofs.RegionSizes.{Made, bad, generic-made, good, halftone-made, refined-made, text-made}
+use Rattle.hayro_jbig2.proofs.RegionSizes.{Made, generic-made, halftone-made, refined-made, text-made}
 use Rattle.jbig2_region.specs.RefinementHeader.{IsRefinement}
 
 over_pixel : (op : CombinationOperator) (black s : Bool) → draws_over op black ≡ true → combined_pixel op black s ≡ s
@@ -130,10 +130,6 @@ pub whole-gives : {A : Type 0} (r : ParsedRegion A) (meant : Result PlacedRegion
 whole-gives r meant d g (Ok u) whole leads is = whole-shown r meant d g whole leads is
 whole-gives r meant d g (Err e) whole leads (inl memory) = inl memory
 whole-gives r meant d g (Err e) whole leads (inr failed) = inr (whole-failed r meant d e whole.columns whole.rows leads failed)
-
--- drawn apart and then combined
-pub combined-shown : {A : Type 0} (r : ParsedRegion A) (meant : Result PlacedRegion DecodeError) (d d' : Drawing) (region : PlacedRegion) → meant ≡ apart r → apart r ≡ Ok region → Ok d' ≡ shown d (Ok region) → shown d meant ≡ Ok d'
-combined-shown r meant d d' region leads is drawn = ap (λ (a : Result PlacedRegion DecodeError). shown d a) (leads ∙ is) ∙ sym drawn
 
 -- refused
 pub shown-refused : (d : Drawing) (meant : Result PlacedRegion DecodeError) (e : DecodeError) → (e ≡ OutOfMemory) ⊎ (meant ≡ Err e) → (e ≡ OutOfMemory) ⊎ (shown d meant ≡ Err e)

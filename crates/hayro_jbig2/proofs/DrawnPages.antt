@@ -5,7 +5,7 @@ use Rattle.jbig2_base.specs.Answer.{Gives, Leaves, ◌>>=◌}
 use Rattle.jbig2_base.specs.Grid.{Grid}
 use Rattle.jbig2_base.specs.declared.error.DecodeError.{DecodeError}
 use Rattle.jbig2_base.specs.declared.error.DecodeError.TheVariants.{OutOfMemory}
-use Rattle.hayro_jbig2.specs.Calls.{Conduct, Decodes, Makes, Sends, calls_of}
+use Rattle.hayro_jbig2.specs.Calls.{Conduct, Decodes, Sends, calls_of}
 use Rattle.hayro_jbig2.specs.Image.{packed_of, packed_of_page}
 use Rattle.hayro_jbig2.specs.Page.{Drawing, ReadPage, drawing_of_page, grid_of_page}
 use Rattle.hayro_jbig2.proofs.Untouched.{pages_keep_their_size}

@@ -102,7 +102,7 @@ row_R9_4 : first_image (identification ++ 3 ∷ []) ≡ Err (Format MissingPageI
 unfolding first_page book_at file_at file_header_at segments_in
 row_R9_4 = refl
 
--- cut behind its header
+-- cut after its header
 row_R13_5-strict : book_at true (headed 0 []) ≡ Err (Format PageCountMismatch)
 unfolding book_at file_at file_header_at headers_in
 row_R13_5-strict = refl

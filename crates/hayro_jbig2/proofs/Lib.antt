@@ -28,6 +28,7 @@ mod RowValues
 pub mod Runs
 pub mod Sending
 pub mod SegmentCauses
+pub mod SeenRows
 mod SegmentTypes
 mod Shades
 pub mod Sides

@@ -1,14 +1,14 @@
 -- The order of segments of different numbers, and what stands after the end of a page.
-use Rattle.std.proofs.Common.{◌≡◌, ◌≢◌, ℕ, ◌<◌, Bool, true, false, cond, nat_lt, List, [], ◌∷◌, ◌++◌, Result, Ok, Err, refl, sym, subst, ap, ◌∙◌, arith}
+use Rattle.std.proofs.Common.{◌≡◌, ◌≢◌, ℕ, ◌<◌, Bool, true, false, cond, nat_lt, List, [], ◌∷◌, ◌++◌, Result, Ok, Err, refl, sym, ap, ◌∙◌, arith}
 use Rattle.std.proofs.lemmas.Bool.{cond-true, cond-false, cond_both, ltb-true, ltb-false, lt-ltb, le-ltb}
 use Rattle.jbig2_base.specs.Answer.{◌>>=◌}
 use Rattle.jbig2_base.specs.PageInfo.{initial_page_of}
 use Rattle.jbig2_base.specs.Segment.{SegmentView}
-use Rattle.jbig2_base.specs.Sequential.{by_number, insert_by, sequential, sorted_by, sorted_segments}
+use Rattle.jbig2_base.specs.Sequential.{by_number, insert_by, sequential, sorted_segments}
 use Rattle.jbig2_base.specs.declared.error.DecodeError.{DecodeError}
 use Rattle.hayro_jbig2.specs.Names.{Names, globals_at, named_from, no_names}
 use Rattle.hayro_jbig2.specs.Order.{EndOfPageEnds, IsReordered, OrderChangesNothing, Unchanged, After, Exchanged, Then}
-use Rattle.hayro_jbig2.specs.Page.{Drawing, ReadPage, drawing_of_page, embedded, ends_page, page_begun, segment_on, segments_drawn}
+use Rattle.hayro_jbig2.specs.Page.{Drawing, ReadPage, embedded, ends_page, page_begun, segment_on, segments_drawn}
 
 -- ---- order
 abbrev number : SegmentView → ℕ

@@ -72,7 +72,7 @@ kept-causes strict shared types.Tables h bytes own = code-cause (of_type types.T
 kept-causes strict shared types.Extension h bytes own = cause-next (BreaksExtension strict bytes) (extension strict bytes) _ (extension_causes strict bytes) (λ known known_is. tt)
 kept-causes strict shared _ h bytes own = tt
 
--- the place of the segment that is refused, one behind another segment
+-- the place of the segment that is refused, one after another segment
 names-later : (strict : Bool) (p : SegmentView) (ps : List SegmentView) (names more : Names) (e : DecodeError) → kept_by strict no_names p names ≡ Ok more → BreaksNames strict ps more e → BreaksNames strict (p ∷ ps) names e
 names-later strict p ps names more e is some =
     (suc some.0, some.1, some.2, some.3, ap (λ (r : Result Names DecodeError). r >>= λ next. named_from strict (take some.0 ps) next) is ∙ some.4, some.5)

@@ -34,7 +34,7 @@ bad e = Err e
 pub ok-same : (g q : Grid) → good g ≡ good q → q ≡ g
 ok-same g q is = cc
 
--- what is answered behind a step
+-- what is returned after a step
 made-behind : {X : Type 0} (w h : ℕ) (a : Result X DecodeError) (next : X → Result Grid DecodeError) (g : Grid) → ((x : X) → next x ≡ Ok g → Made w h g) → (a >>= next) ≡ Ok g → Made w h g
 made-behind w h (Ok x) next g each is = each x is
 made-behind w h (Err e) next g each is = absurd (let never : bad {X = Grid} e ≡ good g = is in cc)

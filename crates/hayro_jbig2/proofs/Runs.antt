@@ -79,7 +79,7 @@ run_of-first false m k e = absurd (omega arith)
 first_byte : (bits : List Bool) → 8 ≤ length bits → 1 ≤ length (take 8 bits)
 first_byte bits room = omega (arith, length-take-le 8 bits room)
 
--- A run of whole bytes is one chunk, and the calls of the pixels behind it.
+-- A run of whole bytes is one chunk, and the calls of the pixels after it.
 pub run_calls : (n k : ℕ) (black : Bool) (bits : List Bool) → 8 * n ≤ length bits → run_of n black bits ≡ suc k → whole_calls n bits ≡ Chunk black (suc k) ∷ whole_calls (n - suc k) (drop (8 * suc k) bits)
 unfolding whole_calls
 run_calls zero k black bits room h = absurd (omega arith)

@@ -1,5 +1,5 @@
 -- The sides of pages.
-use Rattle.std.proofs.Common.{◌≡◌, ℕ, zero, suc, ◌≤◌, eqb, Bool, true, false, ◌||◌, nat_lt, List, [], ◌∷◌, length, Option, Some, None, Result, Ok, Err, refl, subst, arith}
+use Rattle.std.proofs.Common.{◌≡◌, ℕ, zero, suc, eqb, Bool, true, false, ◌||◌, nat_lt, List, [], ◌∷◌, length, Option, Some, None, Result, Ok, Err, refl, subst, arith}
 use Rattle.std.specs.Prelude.{IfOk, IfSome, slice_get, option_map, not, ◌&&◌}
 use Rattle.std.specs.List.{AllByRecursion}
 use Rattle.std.proofs.lemmas.Bool.Decides.{nat_tests}
@@ -13,9 +13,9 @@ use Rattle.jbig2_base.specs.declared.error.FormatError.TheVariants.{EmptyPage, I
 use Rattle.jbig2_base.specs.declared.error.OverflowError.TheVariants.{BitmapDimension}
 use Rattle.jbig2_base.specs.declared.page_info.InitialPage.{InitialPage}
 use Rattle.jbig2_base.specs.declared.page_info.PageInformation.{PageInformation}
-use Rattle.hayro_jbig2.specs.Files.{PageInFile, ReadFile, associated, book_at, by_pages, ends_of, filed_each, filed_from, miscounts, of_page, page_in, page_of}
+use Rattle.hayro_jbig2.specs.Files.{PageInFile, ReadFile, associated, book_at, by_pages, ends_of, filed_each, filed_from, miscounts, of_page, page_in, page_of, shared_by}
 use Rattle.hayro_jbig2.specs.Image.{first_page, first_size}
-use Rattle.hayro_jbig2.specs.Names.{Names, named_from, no_names}
+use Rattle.hayro_jbig2.specs.Names.{Names}
 use Rattle.hayro_jbig2.specs.Page.{HasSides, IsSide, ReadPage}
 
 -- what holds of the last step's value
@@ -77,7 +77,7 @@ page-sides (p ∷ ps) (suc index) all = page-sides ps index all.1
 abbrev AllSides : ReadFile → Type 0
 AllSides book = AllByRecursion FileSides book.pages
 
-filed-all : (strict : Bool) (pages : Result (List PageInFile) DecodeError) (globals : Result Names DecodeError) → IfOk pages (AllByRecursion FileSides) → IfOk (pages >>= λ ps. let made : Result ReadFile DecodeError = Ok (record { strict = strict; pages = ps; globals = globals }) in made) AllSides
+filed-all : (strict : Bool) (pages : Result (List PageInFile) DecodeError) (globals : List PageInFile → Result Names DecodeError) → IfOk pages (AllByRecursion FileSides) → IfOk (pages >>= λ ps. let made : Result ReadFile DecodeError = Ok (record { strict = strict; pages = ps; globals = globals ps }) in made) AllSides
 filed-all strict (Ok ps) globals all = all
 filed-all strict (Err e) globals all = tt
 
@@ -86,7 +86,7 @@ unfolding book_at
 book-sides strict bytes =
     last-has AllSides (file_at strict bytes) _ (λ file. last-has AllSides (associated strict file.1) _ (λ known.
     last-has AllSides (refuse_if (strict && miscounts file.0.number_of_pages (length (by_pages file.1))) (Format PageCountMismatch)) _ (λ counted.
-    filed-all strict (filed_each strict (by_pages file.1)) (named_from strict (of_page 0 file.1) no_names) (each-sides strict (by_pages file.1)))))
+    filed-all strict (filed_each strict (by_pages file.1)) (λ pages. shared_by strict pages (of_page 0 file.1)) (each-sides strict (by_pages file.1)))))
 
 abbrev PageSides : ReadPage → Type 0
 PageSides page = HasSides page.initial_page

@@ -36,7 +36,7 @@ use Rattle.hayro_jbig2.proofs.WorkedRows.{calls_at, page, one, eight, white}
 abbrev dictionary : ℕ → ℕ → List ℕ
 dictionary flags row = 0 ∷ 0 ∷ 0 ∷ 1 ∷ 0 ∷ 0 ∷ 1 ∷ 0 ∷ 0 ∷ 0 ∷ 15 ∷ 0 ∷ flags ∷ 0 ∷ 0 ∷ 0 ∷ 1 ∷ 0 ∷ 0 ∷ 0 ∷ 1 ∷ 0x5F ∷ 0x80 ∷ row ∷ 0 ∷ 0x40 ∷ []
 
--- a text region with number 2, of 8 by 1, that refers to segment 1, with so many instances
+-- a text region with number 2, of 8 by 1, that refers to segment 1, with this many instances
 abbrev text : ℕ → List ℕ
 text count = 0 ∷ 0 ∷ 0 ∷ 2 ∷ 6 ∷ 0x20 ∷ 1 ∷ 1 ∷ 0 ∷ 0 ∷ 0 ∷ 45 ∷ (eight ++ one ++ (replicate 9 0 ++ 0 ∷ 0x11 ∷ 0 ∷ 0 ∷ 0 ∷ 0 ∷ 0 ∷ count ∷ 1 ∷ (replicate 17 0 ++ 0 ∷ 4 ∷ [])))
 

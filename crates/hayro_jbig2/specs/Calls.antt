@@ -18,7 +18,7 @@ abbrev pub singles : List Bool → List Call
 singles [] = []
 singles (b ∷ bs) = Pixel b ∷ singles bs
 
--- A whole byte of one colour joins a chunk of that colour behind it.
+-- A whole byte of one colour joins a chunk of that colour after it.
 abbrev pub with_whole : Bool → List Call → List Call
 with_whole black (Chunk other n ∷ calls) = if same_colour black other then Chunk black (n + 1) ∷ calls else Chunk black 1 ∷ (Chunk other n ∷ calls)
 with_whole black calls = Chunk black 1 ∷ calls
@@ -29,7 +29,7 @@ with_byte byte calls =
     else if is_all false byte then with_whole false calls
     else singles byte ++ calls
 
-unfoldable pub whole_calls : ℕ → List Bool → List Call  -- the calls of pixels that begin with so many whole bytes
+unfoldable pub whole_calls : ℕ → List Bool → List Call  -- the calls of pixels that begin with this many whole bytes
 whole_calls zero bits = singles bits
 whole_calls (suc n) bits = with_byte (take 8 bits) (whole_calls n (drop 8 bits))
 
@@ -43,7 +43,7 @@ line_calls g y = whole_calls (length (row_of g y) / 8) (row_of g y) ++ Line ∷ 
 unfoldable pub calls_of : Grid → List Call
 calls_of g = flat_map (line_calls g) (range_with_len 0 g.height)
 
--- The rows that calls draw, behind a row that may be begun. What no line call ends is a row too.
+-- The rows that calls draw, after a row that may be begun. What no line call ends is a row too.
 abbrev pub rows_after : Option (List Bool) → List Call → List (List Bool)
 rows_after begun [] = option_to_list begun
 rows_after begun (Pixel black ∷ calls) = rows_after (Some (unwrap_or begun [] ++ black ∷ [])) calls
@@ -55,7 +55,7 @@ is_line Line = true
 is_line _ = false
 
 -- The calls spell a grid: as many line calls as rows, each row that they draw as wide as the grid, and whoever draws
--- the calls gets the grid's rows, and nothing behind the last one.
+-- the calls gets the grid's rows, and nothing after the last one.
 pub record DrawsGrid (calls : List Call) (g : Grid) : Type 0 where
   pub lines : count_by is_line calls ≡ g.height
   pub widths : All (λ row. length row ≡ g.width) (rows_after None calls)
@@ -84,7 +84,7 @@ pub record Conduct (S : Type 0) : Type 1 where
 abbrev pub IsCountable : {S : Type 0} → Conduct S → S → Type 0
 IsCountable d s = d.refusals s < 2 ^ 64 - 1
 
--- One call: a refused one leaves the picture, and answers an error that it may be refused with.
+-- One call: a refused one leaves the picture, and returns an error that it may be refused with.
 abbrev pub Takes : {S : Type 0} → Conduct S → Call → Result (Unit {0}) DecodeError → S → S → Type 0
 Takes d call (Ok u) old new = (d.picture new ≡ d.step (d.picture old) call) × (d.refusals new ≡ d.refusals old)
 Takes d call (Err e) old new = (d.picture new ≡ d.picture old) × (d.refusals new ≡ d.refusals old + 1) × d.refuses (d.picture old) call e
@@ -96,7 +96,7 @@ after_calls step p (call ∷ calls) = after_calls step (step p call) calls
 abbrev pub Makes : {S : Type 0} → Conduct S → List Call → S → S → Type 0  -- all of the calls were made and no other
 Makes d calls old new = (d.picture new ≡ after_calls d.step (d.picture old) calls) × (d.refusals new ≡ d.refusals old)
 
--- A beginning of the calls was made, and the call behind it was refused with this error, the Decoder's own.
+-- A beginning of the calls was made, and the call after it was refused with this error, the Decoder's own.
 pub record Stopped {S : Type 0} (d : Conduct S) (calls : List Call) (e : DecodeError) (old new : S) : Type 0 where
   pub made : List Call
   pub refused : Call
@@ -106,7 +106,7 @@ pub record Stopped {S : Type 0} (d : Conduct S) (calls : List Call) (e : DecodeE
   pub counted : d.refusals new ≡ d.refusals old + 1
   pub own : d.refuses (d.picture new) refused e
 
--- All of the calls, unless one was refused: that error is answered.
+-- All of the calls, unless one was refused: that error is returned.
 abbrev pub Sends : {S : Type 0} → Conduct S → List Call → Result (Unit {0}) DecodeError → S → S → Type 0
 Sends d calls (Ok u) old new = Makes d calls old new
 Sends d calls (Err e) old new = Stopped d calls e old new

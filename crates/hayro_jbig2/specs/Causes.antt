@@ -40,7 +40,7 @@ BreaksReferred strict own shared numbers (Segment InvalidReference) =
     IsTrue strict × Any (λ n. (named n own.symbols shared.symbols ≡ None) × (named n own.codes shared.codes ≡ None)) numbers
 BreaksReferred strict own shared numbers _ = ⊥
 
--- What a segment refers to is refused, or the steps behind it refuse.
+-- What a segment refers to is refused, or the steps after it refuse.
 abbrev pub BreaksBehind : {X : Type 0} → Bool → Names → Names → SegmentView → (Referred → Result X DecodeError) → DecodeError → Type 0
 BreaksBehind strict own shared p behind e =
     let numbers = p.header.referred_to_segments in

@@ -30,7 +30,7 @@ abbrev pub associated : Bool → List SegmentView → Result (Unit {0}) DecodeEr
 associated strict [] = Ok tt
 associated strict (p ∷ ps) = if lacks_page strict p.header then Err (Segment MissingPageAssociation) else associated strict ps
 
--- The pages' numbers behind these, in the order in which they first occur; 0 is none.
+-- The pages' numbers after these, in the order in which they first occur; 0 is none.
 abbrev pub numbers_after : List ℕ → List SegmentView → List ℕ
 numbers_after ns [] = ns
 numbers_after ns (p ∷ ps) =
@@ -66,14 +66,19 @@ abbrev pub miscounts : Option ℕ → ℕ → Bool  -- a count of pages that the
 miscounts None n = false
 miscounts (Some told) n = not (told == n)
 
--- A file's pages, and the names of the segments of no page.
+-- What these pages share: the names of the segments of no page. Where there is no page, nothing shows them.
+abbrev pub shared_by : Bool → List PageInFile → List SegmentView → Result Names DecodeError
+shared_by strict [] shared = Ok no_names
+shared_by strict (page ∷ pages) shared = named_from strict shared no_names
+
+-- A file's pages, and what they share.
 unfoldable pub book_at : Bool → List ℕ → Result ReadFile DecodeError
 book_at strict bytes = do
   file ← file_at strict bytes
   known ← associated strict file.1
   counted ← refuse_if (strict && miscounts file.0.number_of_pages (length (by_pages file.1))) (Format PageCountMismatch)
   pages ← filed_each strict (by_pages file.1)
-  Ok (record { strict = strict; pages = pages; globals = named_from strict (of_page 0 file.1) no_names })
+  Ok (record { strict = strict; pages = pages; globals = shared_by strict pages (of_page 0 file.1) })
 
 abbrev pub page_in : ReadFile → PageInFile → ReadPage
 page_in book page = record { strict = book.strict; initial_page = page.initial_page; segments = page.segments; globals = book.globals }

@@ -63,7 +63,7 @@ ReadsAll view told (Ok v) = IfSome told (λ bytes. view v ≡ bytes)
 ReadsAll view told (Err (Io e)) = Unit {0}
 ReadsAll view told (Err (Decode e)) = e ≡ OutOfMemory
 
-abbrev pub IsLasting : Jbig2Error → Type 0  -- an interruption of the reader is passed over, and so never answered
+abbrev pub IsLasting : Jbig2Error → Type 0  -- an interruption of the reader is passed over, and so never returned
 IsLasting (Io e) = error_kind e ≢ Interrupted
 IsLasting (Decode e) = Unit {0}
 

@@ -7,4 +7,5 @@ pub mod Names
 pub mod Order
 pub mod Page
 pub mod Regions
+pub mod Returned
 pub mod inner

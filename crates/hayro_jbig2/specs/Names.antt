@@ -9,7 +9,7 @@ use Rattle.jbig2_symbol.specs.{SymbolHeader.{symbol_header_at}, SymbolReading.{B
 use Rattle.hayro_jbig2.specs.declared.kept.Kept.{Kept}
 use Rattle.jbig2_base.specs.declared.segment.SegmentType.TheVariants as types
 
-abbrev pub kept_under : {V : Type 0} → ℕ → V → List (Kept V) → List (Kept V)  -- behind what is kept already
+abbrev pub kept_under : {V : Type 0} → ℕ → V → List (Kept V) → List (Kept V)  -- after what is kept already
 kept_under number value kept = kept ++ record { segment_number = number; value = value } ∷ []
 
 abbrev pub first_named : {V : Type 0} → ℕ → List (Kept V) → Option V
@@ -108,6 +108,6 @@ abbrev pub named_from : Bool → List SegmentView → Names → Result Names Dec
 named_from strict [] names = Ok names
 named_from strict (p ∷ ps) names = kept_by strict no_names p names >>= λ more. named_from strict ps more
 
--- The names of globals whose segments stand one behind the other, sorted before they are decoded.
+-- The names of globals whose segments stand one after the other, sorted before they are decoded.
 unfoldable pub globals_at : Bool → List ℕ → Result Names DecodeError
 globals_at strict bytes = sorted_segments strict bytes >>= λ segments. named_from strict segments no_names

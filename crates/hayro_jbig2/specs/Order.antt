@@ -1,6 +1,6 @@
 -- Laws (our own rule): the order in which segments of different numbers stand changes nothing, and what stands after the end
 -- of a page changes nothing.
-use Rattle.std.specs.Prelude.{◌≡◌, ◌≢◌, ℕ, Bool, IsTrue, List, [], ◌∷◌, ◌++◌, Ok}
+use Rattle.std.specs.Prelude.{◌≡◌, ◌≢◌, ℕ, Bool, IsTrue, List, ◌∷◌, ◌++◌, Ok}
 use Rattle.jbig2_base.specs.{Segment.{SegmentView}, Sequential.{sequential}}
 use Rattle.hayro_jbig2.specs.{Names.{Names, globals_at}, Page.{ReadPage, drawing_of_page, embedded, ends_page}}
 

@@ -120,7 +120,7 @@ drawing_of_page page = page.globals >>= λ globals. segments_drawn page.strict g
 unfoldable pub grid_of_page : ReadPage → Result Grid DecodeError
 grid_of_page page = drawing_of_page page >>= λ d. Ok d.grid
 
--- An embedded page (D.3; PDF keeps one so): its segments read one behind the other, sorted.
+-- An embedded page (D.3; PDF keeps one so): its segments read one after the other, sorted.
 unfoldable pub embedded : Bool → Names → List ℕ → Result ReadPage DecodeError
 embedded strict globals bytes = do
   segments ← sorted_segments strict bytes

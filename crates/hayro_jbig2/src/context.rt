@@ -1,6 +1,7 @@
 //! What decoding keeps from page to page.
 ghost use Rattle.std.specs.Prelude.{◌≡◌, ◌≤◌, [], true, false, Ok};
 ghost use Rattle.jbig2_base.specs.Answer.{Gives};
+ghost use Rattle.jbig2_base.specs.Counts.{no_steps};
 ghost use Rattle.jbig2_base.specs.Grid.{blank};
 ghost use Rattle.jbig2_region.specs.inner.RegionViews.{region_view};
 ghost use Rattle.hayro_jbig2.specs.Image.{packed_of};
@@ -16,10 +17,11 @@ use jbig2_base::bitmap::Bitmap;
 use jbig2_base::bitmap::steps::Steps;
 use jbig2_base::error::Result;
 use jbig2_base::page_info::InitialPage;
+use jbig2_permit::Permit;
 use jbig2_region::generic::DecodedRegion;
 use std::alloc::Allocator;
 use std::marker::Model;
-use std::sync::ledger::Ledger;
+use std::sync::ledger::{Blank, Ledger};
 
 /// The room that decoding a page uses and the next page uses again. What it holds from before
 /// changes nothing of a page. It holds the page that was drawn in it last.
@@ -33,6 +35,10 @@ pub struct DecoderContext<A: Allocator> {
     /// The colour that the page begins in, and has while it is untouched.
     pub(crate) default_pixel: bool,
     pub(crate) workspace: Workspace<A>,
+    /// The work that a page may take.
+    work_limit: Option<u64>,
+    /// What the last page left of it.
+    work_left: Option<u64>,
 }
 
 impl<A: Allocator> Model for DecoderContext<A> {
@@ -75,6 +81,8 @@ impl<A: Allocator + Clone> DecoderContext<A> {
             passed_over: PassedOver::nothing(),
             default_pixel: false,
             workspace: Workspace::new(alloc)?,
+            work_limit: None,
+            work_left: None,
         })
     }
 }
@@ -94,6 +102,39 @@ impl<A: Allocator> DecoderContext<A> {
         ensures { result ≡ packed_of self.now.grid.width self.now.grid.height self.now.grid }
     {
         DrawnPage::new(&self.bitmap, self.is_white())
+    }
+
+    /// Sets how many units of work each page may take that is decoded in this context from now on; `None` is no
+    /// limit, as in a new context. A page that would take more is refused with `DecodeError::OutOfMemory` before that work
+    /// is begun, as one for which memory is missing, and the context serves the next page.
+    pub fn set_work_limit(&mut self, work: Option<u64>)
+        ensures { self.new ≡ self.old }
+    {
+        self.work_limit = work;
+        self.work_left = work;
+    }
+
+    /// What the page that was decoded last left of its limit; `None` where it had none. It is 0 where the page was refused
+    /// for want of work, so that a caller can tell that from want of memory.
+    pub fn work_left(&self) -> Option<u64> {
+        self.work_left
+    }
+
+    /// The counter of a page, which may take the work of the limit.
+    pub(crate) fn new_steps<L: Ledger>(&self, blank: Blank) -> Steps<L>
+        requires name { blank.name ≡ L.name }
+        requires parts { blank.parts ≡ L.parts }
+        requires enough { blank.parts ≡ 6 }
+        ensures { result ≡ no_steps }
+    {
+        Steps::within(Permit::grant(), blank, self.work_limit.unwrap_or(u64::MAX))
+    }
+
+    /// Notes what a page left of its limit.
+    pub(crate) fn end<L: Ledger>(&mut self, steps: &Steps<L>)
+        ensures { self.new ≡ self.old }
+    {
+        self.work_left = self.work_limit.map(|_| steps.work_left());
     }
 
     /// Begins a page: nothing of an earlier one is left.

@@ -1,6 +1,6 @@
 //! Segments that draw nothing and leave something for later ones (T.88, 7.4.2, 7.4.4 and 7.4.13),
 //! of a page as of its globals. One that fails is never passed over.
-ghost use Rattle.std.specs.Prelude.{◌≡◌, Bool};
+ghost use Rattle.std.specs.Prelude.{◌≡◌, Bool, IfErr};
 ghost use Rattle.jbig2_base.specs.Answer.{Answers, Gives};
 ghost use Rattle.jbig2_base.specs.inner.SegmentViews.{segment_view};
 ghost use Rattle.hayro_jbig2.specs.Names.{symbol_dictionary_at, with_symbols, pattern_dictionary_at, with_patterns, with_code, extension, Names, referred_by};
@@ -10,17 +10,20 @@ ghost use Rattle.jbig2_base.specs.Causes.{HaveCauses};
 
 use crate::names::{KeptNames, Lookup};
 use crate::referred::gather_referred;
-use crate::workspace::Workspace;
+use crate::workspace::{MOST_CONTEXTS, Workspace};
 use jbig2_base::bitmap::steps::Steps;
 use jbig2_base::error::{DecodeError, Result};
 use jbig2_base::field::u32_field;
 use jbig2_base::reader::Reader;
 use jbig2_base::segment::Segment;
 use jbig2_coder::huffman_table::HuffmanTable;
-use jbig2_halftone::pattern::{self, PatternDictionary};
+use jbig2_halftone::pattern::{self, PatternDictionary, PatternDictionaryHeader};
 use jbig2_symbol::symbol::{self, SymbolDictionary};
 use std::alloc::Allocator;
 use std::sync::ledger::Ledger;
+
+/// The work of a new symbol besides its bitmap.
+const NEW_SYMBOL: u64 = 16;
 
 /// A symbol dictionary (T.88, 7.4.2), after what it refers to.
 #[tactic(auto, using(crate::proofs::SegmentCauses::symbol_dictionary_causes, crate::proofs::SegmentCauses::referred_causes), unfolding(crate::specs::Names::symbol_dictionary_at))]
@@ -43,6 +46,8 @@ fn decode_symbols<A: Allocator + Clone, L: Ledger>(
     let referred = gather_referred(workspace.alloc.clone()?, lookup, numbers)?;
     let mut reader = Reader::new(segment.bytes);
     let header = symbol::parse(&mut reader, lookup.strict)?;
+    referred.pay_symbols(steps)?;
+    steps.pay(u64::from(header.num_new_symbols) * NEW_SYMBOL)?;
     symbol::decode(
         workspace.alloc.clone()?,
         &header,
@@ -52,6 +57,19 @@ fn decode_symbols<A: Allocator + Clone, L: Ledger>(
         referred.retained_contexts,
         steps,
     )
+}
+
+/// Takes the work of patterns: of their collective bitmap, and of each that is cut out of it.
+fn pay_patterns<L: Ledger>(header: &PatternDictionaryHeader<'_>, steps: &mut Steps<L>) -> Result<()>
+    ensures { IfErr result (λ e. e ≡ DecodeError.OutOfMemory) }
+{
+    let count = u64::from(header.num_patterns) + 1;
+    let (width, height) = (
+        u32::from(header.pattern_width),
+        u32::from(header.pattern_height),
+    );
+    steps.pay_bitmaps(count.saturating_mul(2), width, height)?;
+    Ok(())
 }
 
 /// A pattern dictionary (T.88, 7.4.4).
@@ -66,12 +84,11 @@ fn decode_patterns<A: Allocator + Clone, L: Ledger>(
 {
     let mut reader = Reader::new(bytes);
     let header = pattern::parse(&mut reader, strict)?;
-    pattern::decode(
-        workspace.alloc.clone()?,
-        &header,
-        &mut workspace.contexts,
-        steps,
-    )
+    pay_patterns(&header, steps)?;
+    let alloc = workspace.alloc.clone()?;
+    let dictionary = pattern::decode(alloc, &header, &mut workspace.contexts, steps);
+    workspace.contexts.truncate(MOST_CONTEXTS);
+    dictionary
 }
 
 /// Keeps a symbol dictionary, which may refer to what is kept and to `globals`.

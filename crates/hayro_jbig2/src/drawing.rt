@@ -24,6 +24,12 @@ use jbig2_region::generic::DecodedRegion;
 use std::alloc::Allocator;
 use std::sync::ledger::Ledger;
 
+/// The work of a segment besides what it draws or keeps.
+const SEGMENT: u64 = 1024;
+
+/// The work of a number that a segment refers to, besides looking through what is kept.
+const REFERENCE: u64 = 64;
+
 /// What all segments of a page are drawn by.
 #[derive(Drop)]
 pub(crate) struct Drawer<'a, A: Allocator> {
@@ -36,6 +42,20 @@ fn ends_page(kind: SegmentType) -> bool
     ensures { result ≡ ends_page kind }
 {
     matches!(kind, SegmentType::EndOfPage | SegmentType::EndOfFile)
+}
+
+/// Takes the work of a segment by itself, where `kept` things may be what a number names.
+pub(crate) fn pay_segment<A: Allocator, L: Ledger>(
+    segment: &Segment<'_, A>,
+    kept: usize,
+    steps: &mut Steps<L>,
+) -> Result<()>
+    ensures { IfErr result (λ e. e ≡ OutOfMemory) }
+{
+    let numbers = segment.header.referred_to_segments.len() as u64;
+    let each = (kept as u64).saturating_add(REFERENCE);
+    steps.pay(numbers.saturating_mul(each).saturating_add(SEGMENT))?;
+    Ok(())
 }
 
 impl<'a, A: Allocator + Clone> Drawer<'a, A> {
@@ -55,6 +75,8 @@ impl<'a, A: Allocator + Clone> Drawer<'a, A> {
             if ends_page(segment.header.segment_type) {
                 return Ok(());
             }
+            let kept = context.names.count().saturating_add(self.globals.count());
+            pay_segment(segment, kept, steps)?;
             match self.draw_segment(segment, context, steps) {
                 Ok(()) => {}
                 Err(error) => return Err(error),
@@ -225,7 +247,8 @@ impl<'a, A: Allocator + Clone> Drawer<'a, A> {
             context.untouched = false;
             return parsed.decode_onto(&mut context.bitmap, &mut context.workspace, steps);
         }
-        let region = parsed.decode(&mut context.workspace, steps)?;
+        let seen = parsed.above_end(context.bitmap.height());
+        let region = seen.decode(&mut context.workspace, steps)?;
         context.combine(&region, steps);
         Ok(())
     }

@@ -1,12 +1,13 @@
 //! Files of pages.
-ghost use Rattle.std.specs.Prelude.{◌≡◌, ℕ, Ok, length, slice_get, Bool, List};
+ghost use Rattle.std.specs.Prelude.{◌≡◌, ℕ, Ok, IfErr, length, slice_get, Bool, List};
 ghost use Rattle.std.specs.Map.Iter.{GivesInOrder};
 ghost use Rattle.jbig2_base.specs.Answer.{Answers, Gives};
 ghost use Rattle.jbig2_base.specs.inner.SegmentViews.{header_view, segment_views};
 ghost use Rattle.hayro_jbig2.specs.inner.ByPages.{pages_view};
-ghost use Rattle.hayro_jbig2.specs.Files.{needs_page, lacks_page, associated, is_end_of_page, ends_of, filed_from, filed_each, miscounts, book_at, page_of, pages_of, PagesStandAlone};
-ghost use Rattle.hayro_jbig2.specs.Names.{named_from, no_names};
+ghost use Rattle.hayro_jbig2.specs.Files.{needs_page, lacks_page, associated, is_end_of_page, ends_of, filed_from, filed_each, miscounts, book_at, shared_by, page_of, pages_of, PagesStandAlone};
+ghost use Rattle.hayro_jbig2.specs.Names.{named_from};
 ghost use Rattle.hayro_jbig2.specs.Page.{ReadPage};
+ghost use Rattle.hayro_jbig2.specs.Returned.{IsReturned};
 ghost use Rattle.hayro_jbig2.specs.inner.PageViews.{kept_names};
 ghost use Rattle.hayro_jbig2.specs.Causes.{BreaksBook, BreaksNames};
 ghost use Rattle.jbig2_base.specs.Causes.{HaveCauses};
@@ -55,12 +56,16 @@ pub struct File<'a, A: Allocator> {
 }
 
 impl<'a, A: Allocator> Model for File<'a, A> {
+    ghost use Rattle.std.specs.Prelude.{IfErr};
+    ghost use Rattle.hayro_jbig2.specs.Causes.{IsAnswered};
     ghost use Rattle.hayro_jbig2.specs.Files.{ReadFile};
 
     ghost Value = { ReadFile };
 
     ghost view = { λ file.
         record { strict = file.strict; pages = file.pages.items; globals = file.globals } };
+
+    ghost invariant = { λ file. IfErr file.globals IsAnswered };
 }
 
 fn needs_page(kind: SegmentType) -> bool
@@ -154,16 +159,23 @@ fn miscounts(told: Option<u32>, count: usize) -> bool
     }
 }
 
-/// What decoding globals answers, but for want of memory, which is this call's own answer.
+/// What decoding the globals of these pages returns, but for want of memory, which is this call's own answer.
+/// Globals that no page shows are not decoded.
+#[tactic(auto, using(crate::proofs::Books::shares_none, crate::proofs::Books::shares_some))]
 fn kept_globals<A: Allocator + Clone>(
     alloc: A,
     strict: bool,
-    segments: &[Segment<'_, A>],
+    pages: &[FilePage<'_, A>],
+    shared: &[Segment<'_, A>],
+    work: Option<u64>,
 ) -> Result<Result<Globals<A>>>
     ensures { Gives (λ kept. kept) result
-        (Ok (named_from strict (segment_views segments.now) no_names)) }
+        (Ok (shared_by strict pages.now (segment_views shared.now))) }
 {
-    match Globals::from_segments(alloc, strict, segments) {
+    if pages.is_empty() {
+        return Ok(Ok(Globals::empty(alloc)?));
+    }
+    match Globals::from_segments(alloc, strict, shared, work) {
         Ok(globals) => Ok(Ok(globals)),
         Err(DecodeError::OutOfMemory) => Err(DecodeError::OutOfMemory),
         Err(error) => Ok(Err(error)),
@@ -174,14 +186,30 @@ impl<'a, A: Allocator + Clone> File<'a, A> {
     /// The file that `bytes` hold (T.88, Annex D).
     ///
     /// Refused by the first fault of the segments, then of their associations, of the count of
-    /// pages, and of each page's end and size. The segments of no page are decoded too; a fault
-    /// there is what decoding a page answers.
-    #[tactic(auto, using(crate::proofs::Causes::file_causes, crate::proofs::PageCauses::file_globals_causes), unfolding(crate::specs::Files::book_at))]
+    /// pages, and of each page's end and size. Where there is a page, the segments of no page are
+    /// decoded too; a fault there is what decoding a page returns.
+    #[tactic(auto, using(crate::proofs::Causes::file_causes, crate::proofs::PageCauses::file_globals_causes))]
     pub fn new(alloc: A, bytes: &'a [u8], settings: &DecodeSettings) -> Result<File<'a, A>>
         ensures value { Gives (λ file. file) result (book_at settings.now.strict bytes.now) }
         ensures causes { (strict : Bool) → HaveCauses (book_at strict) (BreaksBook strict) }
         ensures globals { (strict : Bool) (ps : List SegmentView)
             → HaveCauses (named_from strict ps) (BreaksNames strict ps) }
+        ensures errors { IfErr result IsReturned }
+    {
+        File::new_within(alloc, bytes, settings, None)
+    }
+
+    /// The file as `new` has it, where the segments of no page are decoded for at most `work` units of work. Where that
+    /// isn't enough it is refused with `DecodeError::OutOfMemory`, as memory is. `None` is no limit.
+    #[tactic(auto, unfolding(crate::specs::Files::book_at))]
+    pub fn new_within(
+        alloc: A,
+        bytes: &'a [u8],
+        settings: &DecodeSettings,
+        work: Option<u64>,
+    ) -> Result<File<'a, A>>
+        ensures value { Gives (λ file. file) result (book_at settings.now.strict bytes.now) }
+        ensures errors { IfErr result IsReturned }
     {
         let strict = settings.strict;
         let file = parse_file(alloc.clone()?, bytes, strict)?;
@@ -191,7 +219,7 @@ impl<'a, A: Allocator + Clone> File<'a, A> {
             return Err(DecodeError::Format(FormatError::PageCountMismatch));
         }
         let pages = read_pages(alloc.clone()?, strict, segments.pages)?;
-        let globals = kept_globals(alloc, strict, &segments.shared)?;
+        let globals = kept_globals(alloc, strict, &pages, &segments.shared, work)?;
         Ok(File {
             strict,
             pages,
@@ -208,7 +236,7 @@ impl<'a, A: Allocator> File<'a, A> {
         self.pages.len()
     }
 
-    /// What decoding the globals answered.
+    /// What decoding the globals returned.
     fn globals(&self) -> Result<Option<&Globals<A>>>
         ensures { kept_names result ≡ self.now.globals }
     {
@@ -218,7 +246,7 @@ impl<'a, A: Allocator> File<'a, A> {
         }
     }
 
-    /// The page at this index, from 0; None behind the last page.
+    /// The page at this index, from 0; None after the last page.
     pub fn page(&self, index: usize) -> Option<Page<'_, A>>
         ensures value { result ≡ page_of self.now index }
         ensures alone { PagesStandAlone }

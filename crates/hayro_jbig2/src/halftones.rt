@@ -1,5 +1,5 @@
 //! Halftone regions of a page (T.88, 7.4.5).
-ghost use Rattle.std.specs.Prelude.{◌≡◌, IfOk, Bool};
+ghost use Rattle.std.specs.Prelude.{◌≡◌, IfErr, IfOk, Bool};
 ghost use Rattle.jbig2_base.specs.Answer.{Answers, some_or};
 ghost use Rattle.jbig2_base.specs.inner.SegmentViews.{segment_view};
 ghost use Rattle.hayro_jbig2.specs.Regions.{halftone_at, patterns_for};
@@ -12,12 +12,15 @@ ghost use Rattle.jbig2_base.specs.Causes.{HaveCauses};
 use crate::names::Lookup;
 use crate::parsed_region::ParsedRegion;
 use crate::references::References;
+use jbig2_base::bitmap::steps::Steps;
 use jbig2_base::error::{DecodeError, Result, SegmentError};
 use jbig2_base::reader::Reader;
+use jbig2_base::search::code_length;
 use jbig2_base::segment::Segment;
-use jbig2_halftone::halftone;
+use jbig2_halftone::halftone::{self, HalftoneRegionHeader};
 use jbig2_halftone::pattern::PatternDictionary;
 use std::alloc::Allocator;
+use std::sync::ledger::Ledger;
 
 /// The dictionary that the first referred number names.
 fn referred_patterns<'a, A: Allocator>(
@@ -55,4 +58,20 @@ pub(crate) fn parse_halftone<'a, 'n, 'r, A: Allocator>(
     let mut reader = Reader::new(segment.bytes);
     let header = halftone::parse(&mut reader, lookup.strict)?;
     Ok(ParsedRegion::Halftone { header, patterns })
+}
+
+/// Takes the work of a halftone's cells: the planes of their values, and for each a pattern that is combined with the region.
+pub(crate) fn pay_cells<A: Allocator, L: Ledger>(
+    header: &HalftoneRegionHeader<'_>,
+    patterns: &PatternDictionary<A>,
+    steps: &mut Steps<L>,
+) -> Result<()>
+    ensures { IfErr result (λ e. e ≡ DecodeError.OutOfMemory) }
+{
+    let grid = &header.grid_position_and_size;
+    let planes = u64::from(code_length(patterns.patterns.len()));
+    let cells = u64::from(grid.width) * u64::from(grid.height);
+    steps.pay_bitmaps(planes, grid.width, grid.height)?;
+    steps.pay_bitmaps(cells, patterns.pattern_width, patterns.pattern_height)?;
+    Ok(())
 }

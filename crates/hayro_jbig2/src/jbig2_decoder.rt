@@ -4,6 +4,7 @@ ghost use Rattle.jbig2_base.specs.Answer.{Answers, Gives, some_or};
 ghost use Rattle.hayro_jbig2.specs.Causes.{FirstPagesHaveCauses};
 ghost use Rattle.hayro_jbig2.specs.Files.{page_of};
 ghost use Rattle.hayro_jbig2.specs.Page.{IsSide};
+ghost use Rattle.hayro_jbig2.specs.Returned.{IsReturned, IsReturnedOrIo};
 ghost use Rattle.hayro_jbig2.specs.Image.{first_size, first_image, first_packed, IsLasting, Opens, GivesAgain, packed_size};
 
 use crate::file::File;
@@ -53,7 +54,8 @@ fn first_page_of<'f, A: Allocator>(file: &'f File<'_, A>) -> jbig2_base::error::
 /// The width and the height of the first page.
 #[tactic(auto, unfolding(crate::specs::Image::first_page))]
 fn first_size<A: Allocator + Clone>(alloc: A, bytes: &[u8]) -> jbig2_base::error::Result<(u32, u32)>
-    ensures { Gives (λ size. size) result (first_size bytes.now) }
+    ensures value { Gives (λ size. size) result (first_size bytes.now) }
+    ensures errors { IfErr result IsReturned }
 {
     let file = File::new(alloc, bytes, &LENIENT)?;
     let page = first_page_of(&file)?;
@@ -70,6 +72,7 @@ fn first_image<A: Allocator + Clone>(
     requires { IfOk (first_size bytes.now) (λ size. length buf.old ≡ size.0 * size.1) }
     ensures value { Gives (λ _. buf.new) result (first_image bytes.now) }
     ensures unchanged { OnErr result (buf.new ≡ buf.old) }
+    ensures errors { IfErr result IsReturned }
 {
     let file = File::new(alloc, bytes, &LENIENT)?;
     let page = first_page_of(&file)?;
@@ -86,6 +89,7 @@ fn first_packed<A: Allocator + Clone>(
     requires { IfOk (first_size bytes.now) (λ size. length buf.old ≡ packed_size size.0 size.1) }
     ensures value { Gives (λ _. buf.new) result (first_packed bytes.now) }
     ensures unchanged { OnErr result (buf.new ≡ buf.old) }
+    ensures errors { IfErr result IsReturned }
 {
     let file = File::new(alloc, bytes, &LENIENT)?;
     let page = first_page_of(&file)?;
@@ -95,7 +99,7 @@ fn first_packed<A: Allocator + Clone>(
 impl<A: Allocator + Clone> Jbig2Decoder<A> {
     /// Reads the whole input, going on after an interruption, and finds its first page.
     ///
-    /// Answers `Jbig2Error::Io` for another fault of the reader, of any kind, or where no end comes
+    /// Returns `Jbig2Error::Io` for another fault of the reader, of any kind, or where no end comes
     /// within 2^64 - 1 reads, and `Jbig2Error::Decode` for a fault of the file or want of memory.
     /// The reader is dropped.
     #[tactic(auto, using(crate::proofs::Causes::first_page_causes))]
@@ -103,6 +107,7 @@ impl<A: Allocator + Clone> Jbig2Decoder<A> {
         ensures opens { IfSome (R.remaining reader) (λ told. Opens told result) }
         ensures lasting { IfErr result IsLasting }
         ensures causes { FirstPagesHaveCauses }
+        ensures errors { IfErr result IsReturnedOrIo }
     {
         let bytes = read_all(alloc.clone()?, &mut reader)?;
         let (width, height) = first_size(alloc, &bytes)?;
@@ -116,11 +121,12 @@ impl<A: Allocator + Clone> Jbig2Decoder<A> {
     /// Writes the page into `buf`, which holds a byte for each pixel: rows from the top, 0 for
     /// black and 255 for white.
     ///
-    /// Answers `Jbig2Error::Decode` alone; `buf` is then as it was.
+    /// Returns `Jbig2Error::Decode` alone; `buf` is then as it was.
     pub fn read_image(&self, buf: &mut [u8]) -> Result<(), Jbig2Error>
         requires { length buf.old ≡ self.now.width * self.now.height }
         ensures value { GivesAgain (λ _. buf.new) result (first_image self.now.bytes) }
         ensures unchanged { OnErr result (buf.new ≡ buf.old) }
+        ensures errors { IfErr result IsReturnedOrIo }
     {
         let alloc = self.bytes.allocator().clone()?;
         first_image(alloc, &self.bytes, buf)?;
@@ -129,11 +135,12 @@ impl<A: Allocator + Clone> Jbig2Decoder<A> {
 
     /// Writes the page into `buf` as packed rows, as `Page::read_packed` does.
     ///
-    /// Answers `Jbig2Error::Decode` alone; `buf` is then as it was.
+    /// Returns `Jbig2Error::Decode` alone; `buf` is then as it was.
     pub fn read_packed(&self, buf: &mut [u8]) -> Result<(), Jbig2Error>
         requires { length buf.old ≡ packed_size self.now.width self.now.height }
         ensures value { GivesAgain (λ _. buf.new) result (first_packed self.now.bytes) }
         ensures unchanged { OnErr result (buf.new ≡ buf.old) }
+        ensures errors { IfErr result IsReturnedOrIo }
     {
         let alloc = self.bytes.allocator().clone()?;
         first_packed(alloc, &self.bytes, buf)?;

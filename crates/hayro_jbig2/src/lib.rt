@@ -36,6 +36,7 @@ mod region;
 mod segments_by_page;
 mod settings;
 mod texts;
+mod unseen;
 mod whole_page;
 mod workspace;
 

@@ -48,6 +48,14 @@ impl<A: Allocator + Clone> KeptNames<A> {
 }
 
 impl<A: Allocator> KeptNames<A> {
+    /// How many things are kept.
+    pub(crate) fn count(&self) -> usize {
+        self.symbols
+            .len()
+            .saturating_add(self.tables.len())
+            .saturating_add(self.patterns.len())
+    }
+
     pub(crate) fn clear(&mut self)
         ensures { self.new ≡ no_names }
     {

@@ -36,7 +36,7 @@ fn put_bytes(buf: &mut [u8], place: usize, count: usize, word: u64)
 }
 
 /// Puts what is left of a word of row `y`, from byte `column` on, at a place of `buf`, but no more than `most`
-/// bytes. Answers how many.
+/// bytes. Returns how many.
 #[inline(always)]
 fn put_rest<A: Allocator, L: Ledger>(
     bitmap: &Bitmap<A>,
@@ -92,7 +92,7 @@ fn put_words<A: Allocator, L: Ledger>(
 }
 
 /// Writes bytes of the rows of a bitmap of this width, from byte `start` of them all on: a bit for each pixel,
-/// 1 for black, the leftmost the highest, and zeros behind the last of a row.
+/// 1 for black, the leftmost the highest, and zeros after the last of a row.
 #[tactic(auto, unfolding(crate::specs::Image::packed_part))]
 pub(crate) fn write_packed<A: Allocator, L: Ledger>(
     bitmap: &Bitmap<A>,

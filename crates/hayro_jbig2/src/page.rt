@@ -1,5 +1,5 @@
 //! Pages.
-ghost use Rattle.std.specs.Prelude.{◌≡◌, ℕ, ◌+◌, ◌-◌, ◌*◌, ◌^◌, ◌<◌, ◌≤◌, Bool, IfOk, IsTrue, OnErr, length, pos};
+ghost use Rattle.std.specs.Prelude.{◌≡◌, ℕ, ◌+◌, ◌-◌, ◌*◌, ◌^◌, ◌<◌, ◌≤◌, Bool, IfErr, IfOk, IsTrue, OnErr, length, pos};
 ghost use Rattle.jbig2_base.specs.Answer.{Gives, Leaves};
 ghost use Rattle.jbig2_base.specs.Combination.{combined};
 ghost use Rattle.jbig2_base.specs.Grid.{Grid, blank};
@@ -8,7 +8,8 @@ ghost use Rattle.jbig2_base.specs.declared.bitmap.operator.CombinationOperator.{
 ghost use Rattle.hayro_jbig2.specs.Calls.{CallsAreFew, ChunksFit, DrawsGrid, calls_of, Decodes, IsCountable};
 ghost use Rattle.hayro_jbig2.specs.Image.{PackedBitsAreBytes, image_of_page, packed_of_page, packed_size};
 ghost use Rattle.hayro_jbig2.specs.Page.{HasSides, IsSide, ReadPage, segments_drawn, drawing_of_page, embedded, grid_of_page, draws_over, page_begun, PagesKeepTheirSize, StrictPassesNothing, UntouchedIsBlank};
-ghost use Rattle.hayro_jbig2.specs.Causes.{EmbeddedPagesHaveCauses, PagesHaveCauses};
+ghost use Rattle.hayro_jbig2.specs.Causes.{EmbeddedPagesHaveCauses, IsAnswered, PagesHaveCauses};
+ghost use Rattle.hayro_jbig2.specs.Returned.{IsReturned};
 ghost use Rattle.hayro_jbig2.specs.inner.PageViews.{given_names, kept_names};
 ghost use Rattle.hayro_jbig2.specs.inner.SegmentLists.{segment_list};
 ghost use Rattle.jbig2_base.specs.inner.SegmentViews.{segment_views};
@@ -61,7 +62,9 @@ pub struct Page<'a, A: Allocator> {
 }
 
 impl<'a, A: Allocator> Model for Page<'a, A> {
+    ghost use Rattle.std.specs.Prelude.{IfErr};
     ghost use Rattle.jbig2_base.specs.inner.SegmentViews.{segment_views};
+    ghost use Rattle.hayro_jbig2.specs.Causes.{IsAnswered};
     ghost use Rattle.hayro_jbig2.specs.Page.{HasSides, ReadPage};
     ghost use Rattle.hayro_jbig2.specs.inner.PageViews.{kept_names};
     ghost use Rattle.hayro_jbig2.specs.inner.SegmentLists.{segment_list};
@@ -75,18 +78,20 @@ impl<'a, A: Allocator> Model for Page<'a, A> {
       globals = kept_names page.globals;
     } };
 
-    ghost invariant = { λ page. HasSides page.initial_page };
+    ghost invariant = { λ page. HasSides page.initial_page
+        × IfErr (kept_names page.globals) IsAnswered };
 }
 
 impl<'a, A: Allocator> Page<'a, A> {
-    /// A page of a file, which holds its segments and keeps what decoding the globals answered.
+    /// A page of a file, which holds its segments and keeps what decoding the globals returned.
     pub(crate) fn of_file(
         strict: bool,
         initial_page: InitialPage,
         segments: &'a Vec<Segment<'a, A>, A>,
         globals: Result<Option<&'a Globals<A>>>,
     ) -> Page<'a, A>
-        requires { HasSides initial_page }
+        requires sides { HasSides initial_page }
+        requires answered { IfErr (kept_names globals) IsAnswered }
         ensures { result ≡ record {
           strict = strict;
           initial_page = initial_page;
@@ -135,7 +140,7 @@ impl<'a, A: Allocator> Page<'a, A> {
 }
 
 impl<'a, A: Allocator + Clone> Page<'a, A> {
-    /// A page as a PDF file keeps it: `bytes` hold its segments one behind the other, without a
+    /// A page as a PDF file keeps it: `bytes` hold its segments one after the other, without a
     /// file header, and `globals` what its segments may refer to besides.
     ///
     /// Refused by the first fault of the segments, or of the page's size.
@@ -149,6 +154,7 @@ impl<'a, A: Allocator + Clone> Page<'a, A> {
         ensures value { Gives (λ page. page) result
             (embedded settings.now.strict (given_names globals.entry) bytes.now) }
         ensures causes { EmbeddedPagesHaveCauses }
+        ensures errors { IfErr result IsReturned }
     {
         let strict = settings.strict;
         let mut segments = parse_segments_sequential(alloc, bytes, strict)?;
@@ -164,11 +170,13 @@ impl<'a, A: Allocator + Clone> Page<'a, A> {
 
     /// Makes the calls that spell the page, under a fresh context.
     ///
-    /// Answers the first fault of a segment that lenient reading does not pass over, or the
+    /// Returns the first fault of a segment that lenient reading does not pass over, or the
     /// Decoder's own refusal.
     pub fn decode<D: Decoder>(&self, decoder: &mut D) -> Result<()>
         requires { IsCountable D.conduct decoder.old }
-        ensures { Decodes D.conduct (grid_of_page self.now) result decoder.old decoder.new }
+        ensures calls { Decodes D.conduct (grid_of_page self.now) result decoder.old decoder.new }
+        ensures errors { D.conduct.refusals decoder.new ≡ D.conduct.refusals decoder.old
+            → IfErr result IsReturned }
     {
         let mut context = DecoderContext::new(self.segments.as_vec().allocator().clone()?)?;
         self.decode_with(decoder, &mut context)
@@ -177,13 +185,15 @@ impl<'a, A: Allocator + Clone> Page<'a, A> {
     /// Writes the page into `buf`, which holds a byte for each pixel: rows from the top, 0 for
     /// black and 255 for white.
     ///
-    /// Answers the first fault of a segment that lenient reading does not pass over; `buf` is then
+    /// Returns the first fault of a segment that lenient reading does not pass over; `buf` is then
     /// as it was.
     pub fn read_image(&self, buf: &mut [u8]) -> Result<()>
         requires { length buf.old ≡ self.now.initial_page.width * self.now.initial_page.height }
         ensures value { Gives (λ _. buf.new) result (image_of_page self.now) }
         ensures unchanged { OnErr result (buf.new ≡ buf.old) }
+        ensures errors { IfErr result IsReturned }
     {
+        let _globals = &self.globals;
         self.read_counted::<Brand>(buf, Blank::new(6))
     }
 
@@ -206,7 +216,7 @@ impl<'a, A: Allocator + Clone> Page<'a, A> {
     /// leftmost the highest of its byte. A row takes `width.div_ceil(8)` bytes, whose last bits are 0
     /// past the width: the form of PBM, TIFF and PDF.
     ///
-    /// Answers the first fault of a segment that lenient reading does not pass over; `buf` is then
+    /// Returns the first fault of a segment that lenient reading does not pass over; `buf` is then
     /// as it was.
     #[tactic(auto, using(crate::proofs::PackedBits::packed_bits_are_bytes))]
     pub fn read_packed(&self, buf: &mut [u8]) -> Result<()>
@@ -215,6 +225,7 @@ impl<'a, A: Allocator + Clone> Page<'a, A> {
         ensures value { Gives (λ _. buf.new) result (packed_of_page self.now) }
         ensures unchanged { OnErr result (buf.new ≡ buf.old) }
         ensures bits { PackedBitsAreBytes }
+        ensures errors { IfErr result IsReturned }
     {
         let mut context = DecoderContext::new(self.segments.as_vec().allocator().clone()?)?;
         let drawn = self.draw(&mut context)?;
@@ -225,9 +236,10 @@ impl<'a, A: Allocator + Clone> Page<'a, A> {
     /// Draws the page in the room of a context that earlier pages may have used, which lends it from
     /// then on: its packed rows, without memory of their own.
     ///
-    /// Answers the first fault of a segment that lenient reading does not pass over.
+    /// Returns the first fault of a segment that lenient reading does not pass over.
     pub fn draw<'c>(&self, context: &'c mut DecoderContext<A>) -> Result<DrawnPage<'c, A>>
-        ensures { Gives (λ drawn. drawn) result (packed_of_page self.now) }
+        ensures value { Gives (λ drawn. drawn) result (packed_of_page self.now) }
+        ensures errors { IfErr result IsReturned }
     {
         self.draw_in(context)?;
         Ok(context.drawn())
@@ -237,13 +249,15 @@ impl<'a, A: Allocator + Clone> Page<'a, A> {
     /// `DecoderContext::drawn` lends its packed rows, and `DecoderContext::passed_over` says what lenient
     /// reading passed over.
     ///
-    /// Answers the first fault of a segment that lenient reading does not pass over.
+    /// Returns the first fault of a segment that lenient reading does not pass over.
     pub fn draw_in(&self, context: &mut DecoderContext<A>) -> Result<()>
         ensures value { Gives (λ _. context.new.grid) result (grid_of_page self.now) }
         ensures drawing { Gives (λ _. context.new) result (drawing_of_page self.now) }
         ensures size { PagesKeepTheirSize }
         ensures strict { StrictPassesNothing }
+        ensures errors { IfErr result IsReturned }
     {
+        let _globals = &self.globals;
         self.draw_counted::<Brand>(context, Blank::new(6))
     }
 
@@ -253,8 +267,8 @@ impl<'a, A: Allocator + Clone> Page<'a, A> {
         requires enough { blank.parts ≡ 6 }
         ensures { Gives (λ _. context.new) result (drawing_of_page self.now) }
     {
-        let mut steps = Steps::<L>::new(Permit::grant(), blank);
-        self.draw_into(context, &mut steps)
+        let mut steps = context.new_steps::<L>(blank);
+        self.draw_limited(context, &mut steps)
     }
 
     /// The context that the page is drawn in, a fresh one.
@@ -269,7 +283,7 @@ impl<'a, A: Allocator + Clone> Page<'a, A> {
     /// Makes the calls that spell the page, in the room of a context that earlier pages may have
     /// used.
     ///
-    /// Answers the first fault of a segment that lenient reading does not pass over, or the
+    /// Returns the first fault of a segment that lenient reading does not pass over, or the
     /// Decoder's own refusal. No call is made before all segments are decoded.
     pub fn decode_with<D: Decoder>(
         &self,
@@ -288,7 +302,10 @@ impl<'a, A: Allocator + Clone> Page<'a, A> {
             → combined operator (blank region.width region.height black) region (pos 0) (pos 0) ≡
             region }
         ensures causes { PagesHaveCauses }
+        ensures errors { D.conduct.refusals decoder.new ≡ D.conduct.refusals decoder.old
+            → IfErr result IsReturned }
     {
+        let _globals = &self.globals;
         self.decode_counted::<D, Brand>(decoder, context, Blank::new(6))
     }
 
@@ -305,11 +322,24 @@ impl<'a, A: Allocator + Clone> Page<'a, A> {
         ensures calls { Decodes D.conduct (grid_of_page self.now) result decoder.old decoder.new }
         ensures drawing { IfOk (drawing_of_page self.now) (Leaves result context.new) }
     {
-        let mut steps = Steps::<L>::new(Permit::grant(), blank);
-        match self.draw_into(context, &mut steps) {
+        let mut steps = context.new_steps::<L>(blank);
+        match self.draw_limited(context, &mut steps) {
             Ok(()) => push_bitmap(&context.bitmap, decoder, &mut steps),
             Err(error) => Err(error),
         }
+    }
+
+    /// Draws the page, and notes what that leaves of the context's limit of work.
+    fn draw_limited<L: Ledger>(
+        &self,
+        context: &mut DecoderContext<A>,
+        steps: &mut Steps<L>,
+    ) -> Result<()>
+        ensures { Gives (λ _. context.new) result (drawing_of_page self.now) }
+    {
+        let drawn = self.draw_into(context, steps);
+        context.end(steps);
+        drawn
     }
 
     /// Draws the whole page into the context's bitmap.
@@ -341,6 +371,9 @@ impl<'a, A: Allocator + Clone> Page<'a, A> {
             (segments_drawn self.now.strict globals.now self.now.segments
             (page_begun self.now.initial_page)) }
     {
+        // A page is cleared, and then handed out.
+        let (width, height) = self.dimensions();
+        steps.pay_bitmaps(2, width, height)?;
         context.begin(&self.initial_page)?;
         let drawer = Drawer {
             strict: self.strict,

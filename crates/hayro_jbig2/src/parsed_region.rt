@@ -1,15 +1,18 @@
 //! Regions whose headers are read (T.88, 7.4.3 and 7.4.5 to 7.4.7).
-ghost use Rattle.std.specs.Prelude.{◌≡◌};
+ghost use Rattle.std.specs.Prelude.{◌≡◌, IfErr};
 ghost use Rattle.jbig2_base.specs.Answer.{Gives};
 ghost use Rattle.jbig2_base.specs.Grid.{blank};
 ghost use Rattle.jbig2_region.specs.inner.RegionViews.{region_view};
 ghost use Rattle.hayro_jbig2.specs.inner.Parsed.{IsDecodable, apart, drawn, info_of, initial_of};
 
+use crate::halftones::pay_cells;
 use crate::referred::ReferredSegments;
-use crate::workspace::Workspace;
+use crate::workspace::{MOST_CONTEXTS, Workspace};
 use jbig2_base::bitmap::Bitmap;
 use jbig2_base::bitmap::steps::Steps;
-use jbig2_base::error::Result;
+use jbig2_base::error::{DecodeError, Result};
+use jbig2_coder::arithmetic_decoder::ArithmeticDecoderContext;
+use jbig2_coder::huffman_table::StandardHuffmanTables;
 use jbig2_halftone::halftone::{self, HalftoneRegionHeader};
 use jbig2_halftone::pattern::PatternDictionary;
 use jbig2_region::generic::{self, DecodedRegion, GenericRegionHeader};
@@ -71,6 +74,20 @@ impl<'a, 'n, 'r, A: Allocator + Clone> ParsedRegion<'a, 'n, 'r, A> {
         }
     }
 
+    /// Takes the work of `count` bitmaps of the region's size, and of the symbols or the cells that it has.
+    pub(crate) fn pay_bitmaps<L: Ledger>(&self, count: u64, steps: &mut Steps<L>) -> Result<()>
+        ensures { IfErr result (λ e. e ≡ DecodeError.OutOfMemory) }
+    {
+        match self {
+            ParsedRegion::Text { referred, .. } => referred.pay_symbols(steps)?,
+            ParsedRegion::Halftone { header, patterns } => pay_cells(header, patterns, steps)?,
+            _ => {}
+        }
+        let info = self.region_info();
+        steps.pay_bitmaps(count, info.width, info.height)?;
+        Ok(())
+    }
+
     /// Decodes the region into a bitmap of its size that is all in its initial colour.
     pub(crate) fn decode_into<L: Ledger>(
         &self,
@@ -83,19 +100,38 @@ impl<'a, 'n, 'r, A: Allocator + Clone> ParsedRegion<'a, 'n, 'r, A> {
             bitmap.old ≡ blank info.width info.height (initial_of self.now) }
         ensures { Gives (λ _. bitmap.new) result (drawn self.now) }
     {
-        let contexts = &mut workspace.contexts;
+        let (alloc, tables) = (&workspace.alloc, &workspace.standard_tables);
+        let decoded = self.decode_by(alloc, tables, &mut workspace.contexts, bitmap, steps);
+        workspace.contexts.truncate(MOST_CONTEXTS);
+        decoded
+    }
+
+    /// The same, with the parts of a workspace. It may leave more contexts than are kept.
+    fn decode_by<L: Ledger>(
+        &self,
+        alloc: &A,
+        standard_tables: &StandardHuffmanTables<A>,
+        contexts: &mut Vec<ArithmeticDecoderContext, A>,
+        bitmap: &mut Bitmap<A>,
+        steps: &mut Steps<L>,
+    ) -> Result<()>
+        requires parsed { IsDecodable self.now }
+        requires coloured { let info = info_of self.now in
+            bitmap.old ≡ blank info.width info.height (initial_of self.now) }
+        ensures { Gives (λ _. bitmap.new) result (drawn self.now) }
+    {
         match self {
             ParsedRegion::Text { header, referred } => text::decode_into(
-                workspace.alloc.clone()?,
+                alloc.clone()?,
                 header,
                 &referred.symbols,
                 &referred.tables,
-                &workspace.standard_tables,
+                standard_tables,
                 bitmap,
                 steps,
             ),
             ParsedRegion::Halftone { header, patterns } => {
-                let alloc = workspace.alloc.clone()?;
+                let alloc = alloc.clone()?;
                 halftone::decode_into(alloc, header, patterns, bitmap, contexts, steps)
             }
             ParsedRegion::Generic { header } => {
@@ -119,6 +155,7 @@ impl<'a, 'n, 'r, A: Allocator + Clone> ParsedRegion<'a, 'n, 'r, A> {
         requires { IsDecodable self }
         ensures { Gives (λ region. region_view region) result (apart self.entry) }
     {
+        self.pay_bitmaps(2, steps)?;
         let info = self.region_info();
         let alloc = workspace.alloc.clone()?;
         let mut bitmap = Bitmap::new_with(alloc, info.width, info.height, self.initial_pixel())?;

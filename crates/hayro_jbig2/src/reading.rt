@@ -12,7 +12,7 @@ const BLOCK: usize = 4096;
 
 /// Reads up to the end, going on after an interruption.
 ///
-/// Answers the reader's fault, or `ErrorKind::TimedOut` where no end comes within 2^64 - 1 reads.
+/// Returns the reader's fault, or `ErrorKind::TimedOut` where no end comes within 2^64 - 1 reads.
 /// Want of memory is told apart from a reader's fault of that kind, which `Read::read_to_end`
 /// cannot do.
 pub fn read_all<A: Allocator, R: Read>(alloc: A, reader: &mut R) -> Result<Vec<u8, A>, Jbig2Error>

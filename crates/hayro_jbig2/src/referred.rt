@@ -6,11 +6,16 @@ ghost use Rattle.hayro_jbig2.specs.inner.KeptViews.{found, symbols_view};
 
 use crate::names::Lookup;
 use jbig2_base::bitmap::Bitmap;
+use jbig2_base::bitmap::steps::Steps;
 use jbig2_base::error::{DecodeError, OverflowError, Result, SegmentError};
 use jbig2_coder::huffman_table::HuffmanTable;
 use jbig2_symbol::symbol::{RetainedContexts, SymbolDictionary};
 use std::alloc::Allocator;
 use std::marker::Model;
+use std::sync::ledger::Ledger;
+
+/// The work of a symbol that is referred to.
+const SYMBOL: u64 = 16;
 
 /// The most symbols that a segment may refer to.
 const MAX_SYMBOLS: usize = 1 << 20;
@@ -93,6 +98,16 @@ impl<'a, A: Allocator> ReferredSegments<'a, A> {
             return self.add_dictionary(dictionary);
         }
         self.add_table(lookup.strict, lookup.table(number))
+    }
+}
+
+impl<A: Allocator> ReferredSegments<'_, A> {
+    /// Takes the work of the symbols that are referred to: of their list, and of codes for them.
+    pub(crate) fn pay_symbols<L: Ledger>(&self, steps: &mut Steps<L>) -> Result<()>
+        ensures { IfErr result (λ e. e ≡ DecodeError.OutOfMemory) }
+    {
+        steps.pay((self.symbols.len() as u64).saturating_mul(SYMBOL))?;
+        Ok(())
     }
 }
 

@@ -107,6 +107,8 @@ fn parse_page_refinement<'a, 'n, 'r, A: Allocator + Clone, L: Ledger>(
         (page_area references.now.page.now header.entry.region_info)) }
     ensures parsed { IfOk result (λ region. IsDecodable region) }
 {
+    let info = &header.region_info;
+    steps.pay_bitmap(info.width, info.height)?;
     let area = page_area(
         workspace.alloc.clone()?,
         references.page,

@@ -46,7 +46,7 @@ impl<'a, A: Allocator + Clone> SegmentsByPage<'a, A> {
         Ok(by_page)
     }
 
-    /// Puts a segment behind those of its page, or of association 0.
+    /// Puts a segment after those of its page, or of association 0.
     fn add(&mut self, segment: Segment<'a, A>) -> Result<()>
         requires { (ps : List SegmentView) × HoldsByPage self.old ps }
         ensures { (ps : List SegmentView) → HoldsByPage self.old ps

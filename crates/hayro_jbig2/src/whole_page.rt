@@ -70,6 +70,7 @@ impl<'a, 'n, 'r, A: Allocator + Clone> ParsedRegion<'a, 'n, 'r, A> {
         ensures value { Gives (λ _. page.new) result (drawn self.entry) }
         ensures err { IfErr result (λ e. (e ≡ OutOfMemory) ⊎ (page.new ≡ page.old)) }
     {
+        self.pay_bitmaps(1, steps)?;
         match self.decode_into(page, workspace, steps) {
             Ok(()) => Ok(()),
             Err(error) => {

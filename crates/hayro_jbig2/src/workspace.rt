@@ -1,18 +1,22 @@
 //! What decoding uses for one segment after another.
-ghost use Rattle.std.specs.Prelude.{◌≡◌, IfErr};
+ghost use Rattle.std.specs.Prelude.{◌≡◌, ◌≤◌, IfErr, vec_len};
 
 use jbig2_base::error::{DecodeError, Result};
 use jbig2_coder::arithmetic_decoder::ArithmeticDecoderContext;
 use jbig2_coder::huffman_table::StandardHuffmanTables;
 use std::alloc::Allocator;
 
+/// The most contexts that are kept for the next segment: as many as the greatest template has.
+pub(crate) const MOST_CONTEXTS: usize = 65536;
+
 /// The standard tables, and the room for the contexts of the arithmetic coder. What the room holds
-/// from an earlier segment changes nothing of the next.
+/// from an earlier segment changes nothing of the next, and is no more than `MOST_CONTEXTS`.
 #[derive(Drop)]
 pub(crate) struct Workspace<A: Allocator> {
     pub(crate) alloc: A,
     pub(crate) standard_tables: StandardHuffmanTables<A>,
     pub(crate) contexts: Vec<ArithmeticDecoderContext, A>,
+    ghost bounded: { vec_len contexts ≤ 65536 },
 }
 
 impl<A: Allocator + Clone> Workspace<A> {

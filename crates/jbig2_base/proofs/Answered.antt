@@ -1,4 +1,4 @@
--- Law: no definition of this crate answers an error that bytes cannot bring about.
+-- Law: no definition of this crate returns an error that bytes cannot bring about.
 use Rattle.std.proofs.Common.{ℕ, zero, suc, eqb, Bool, true, false, cond, List, [], ◌∷◌, length, Option, Some, None, Result, Ok, Err}
 use Rattle.std.specs.Prelude.{IfErr}
 use Rattle.std.specs.Int.{Width, w32}

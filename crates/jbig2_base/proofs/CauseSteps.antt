@@ -9,7 +9,7 @@ use Rattle.jbig2_base.specs.Fields.{bytes_at, number_at, end_of_bytes}
 use Rattle.jbig2_base.specs.Causes.{number_in}
 use Rattle.jbig2_base.specs.declared.error.DecodeError.{DecodeError}
 
--- what is known of a value, and why an error was answered
+-- what is known of a value, and why an error was returned
 abbrev pub Told : {A : Type 0} → (A → Type 0) → (DecodeError → Type 0) → Result A DecodeError → Type 0
 Told Q P (Ok x) = Q x
 Told Q P (Err e) = P e

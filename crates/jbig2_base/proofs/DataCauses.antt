@@ -24,7 +24,7 @@ use Rattle.jbig2_base.proofs.SegmentCauses.{HasHeader, header-told, stated_lengt
 abbrev end_marker : ℕ → List ℕ
 end_marker flags = cond (eqb (flags % 2) 1) (0 ∷ 0 ∷ []) (255 ∷ 172 ∷ [])
 
--- the place behind a generic region's fields
+-- the place after a generic region's fields
 abbrev coded_place : List ℕ → ℕ
 coded_place bytes = 18 + adaptive_bytes (number_in w8 17 bytes)
 

@@ -19,7 +19,7 @@ Reading X = List ℕ → Result (X × List ℕ) DecodeError
 abbrev pub Extends : {X : Type 0} → Reading X → Type 0
 Extends {X} read = (bytes rest : List ℕ) (x : X) (left : List ℕ) → read bytes ≡ Ok (x, left) → read (bytes ++ rest) ≡ Ok (x, left ++ rest)
 
--- one step, and those behind it
+-- one step, and those after it
 and_then : {X Y : Type 0} (first : Reading X) (next : X → Reading Y) → Extends first → ((x : X) → Extends (next x)) → Extends (λ bytes. first bytes >>= λ p. next p.0 p.1)
 and_then {X} {Y} first next extends others bytes rest y left e = by (first bytes) refl e
   where
@@ -27,7 +27,7 @@ and_then {X} {Y} first next extends others bytes rest y left e = by (first bytes
     by (Ok p) was e = ap (λ (r : Result (X × List ℕ) DecodeError). r >>= λ q. next q.0 q.1) (extends bytes rest p.0 p.1 was) ∙ others p.0 p.1 rest y left e
     by (Err error) was e = absurd (false≢true (ap (λ (r : Result (Y × List ℕ) DecodeError). is_ok r) e))
 
--- a step that reads nothing, and those behind it
+-- a step that reads nothing, and those after it
 known_then : {Z Y : Type 0} (known : Result Z DecodeError) (next : Z → Reading Y) → ((z : Z) → Extends (next z)) → Extends (λ bytes. known >>= λ z. next z bytes)
 known_then (Ok z) next extends bytes rest y left e = extends z bytes rest y left e
 known_then {Z} {Y} (Err error) next extends bytes rest y left e = absurd (false≢true (ap (λ (r : Result (Y × List ℕ) DecodeError). is_ok r) e))

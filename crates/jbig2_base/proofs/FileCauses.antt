@@ -38,7 +38,7 @@ file-header-cause : (bytes : List ℕ) → IfErr (file_header_at bytes) (BreaksF
 unfolding HaveCauses
 file-header-cause bytes = file_header_causes bytes
 
--- ---- behind some
+-- ---- after some
 begun : {A : Type 0} (read : List ℕ → Result (A × List ℕ) DecodeError) (kind : A → SegmentType) (bytes : List ℕ) (P : List ℕ → Type 0) → 0 < length bytes → P bytes → BehindSome read kind bytes P
 begun read kind bytes P some holds = ([], bytes, refl, some, holds)
 
@@ -46,7 +46,7 @@ further : {A : Type 0} (read : List ℕ → Result (A × List ℕ) DecodeError) 
     → BehindSome read kind rest P → BehindSome read kind bytes P
 further read kind bytes rest x P is goes later = (x ∷ later.0, later.1, (rest, is, goes, later.2), later.3, later.4)
 
--- ---- one behind the other
+-- ---- one after the other
 kept-strict : (strict : Bool) → is_cut_off strict (Parse UnexpectedEof) ≡ false → strict ≡ true
 kept-strict true kept = refl
 kept-strict false kept = absurd (true≢false kept)

@@ -65,7 +65,7 @@ headers_first : file_at true random_file ≡ Ok (one_page RandomAccess, three)
 unfolding file_at file_header_at headers_in header_at referred_at count_at type_of
 headers_first = refl
 
--- cut behind its header, and elsewhere
+-- cut after its header, and elsewhere
 no_segments : file_at false (take 13 random_file) ≡ Ok (one_page RandomAccess, [])
 unfolding file_at file_header_at headers_in header_at referred_at count_at type_of
 no_segments = refl

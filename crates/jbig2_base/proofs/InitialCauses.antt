@@ -59,7 +59,7 @@ is-stripe _ is = absurd (false≢true is)
 abbrev last_row : List ℕ → ℕ
 last_row bytes = from_be_bytes w32 (take 4 bytes)
 
--- a stripe behind which a page is too high
+-- a stripe after which a page is too high
 abbrev TellsTooMuch : SegmentView → Type 0
 TellsTooMuch p = TellsHeight p × (65535 ≤ number_in w32 0 p.bytes)
 

@@ -35,7 +35,7 @@ number-both xs ys = number-append 0 xs ys ∙ number-front (number_after 0 xs) y
 pub number-lt : (xs : List ℕ) → AreBits xs → number_after 0 xs < 2 ^ length xs
 number-lt xs are = let below = number-below 0 xs are in omega arith
 
--- the number of a part: n bits, with t behind them
+-- the number of a part: n bits, with t after them
 number-part : (zs : List ℕ) (k n t : ℕ) → AreBits zs → length zs ≡ k + n + t → number_after 0 zs / 2 ^ t % 2 ^ n ≡ number_after 0 (take n (drop k zs))
 number-part zs k n t are whole =
     let front : List ℕ = take k zs in

@@ -80,7 +80,7 @@ headers_end front strict bytes meant reads none =
 pub ReadsHeaders-as : (front others : List Header) (strict : Bool) (bytes : List ℕ) (meant : Headers) → front ≡ others → ReadsHeaders front strict bytes meant → ReadsHeaders others strict bytes meant
 ReadsHeaders-as front others strict bytes meant e reads = record { most = reads.most; enough = reads.enough; same = ap (λ (hs : List Header). with_headers hs (headers_in reads.most strict bytes)) (sym e) ∙ reads.same }
 
--- data behind data
+-- data after data
 pub gathers_one : (front : List SegmentView) (h : Header) (hs : List Header) (bytes rest : List ℕ) (p : SegmentView) (meant : Result (List SegmentView) DecodeError) → with_front front (gathered (h ∷ hs) bytes) ≡ meant → segment_data_at h bytes ≡ Ok (p, rest) → with_front (front ++ p ∷ []) (gathered hs rest) ≡ meant
 gathers_one front h hs bytes rest p meant same e =
     one_more front p (gathered hs rest)

@@ -1,4 +1,4 @@
--- The least number that passes a test, and the fewest bits that tell so many things apart.
+-- The least number that passes a test, and the fewest bits that tell this many things apart.
 use Rattle.std.proofs.Common.{◌≡◌, ℕ, zero, suc, ◌-◌, ◌^◌, ◌<◌, ◌≤◌, leb, Bool, true, false, sym, ◌∙◌, ap, arith, pow-suc, ⊎_elim}
 use Rattle.std.proofs.lemmas.Bool.{cases_eq, cond-true, cond-false, le-leb, lt-leb, cond_both}
 use Rattle.jbig2_base.specs.Search.{least, place_from, code_length}

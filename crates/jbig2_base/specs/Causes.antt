@@ -67,11 +67,11 @@ abbrev pub referred_count : List ℕ → ℕ
 referred_count bytes =
     if number_in w8 5 bytes / 32 == 7 then number_in w32 5 bytes - 7 * 2 ^ 29 else number_in w8 5 bytes / 32
 
--- where the first referred number stands: behind the count and the retention flags of a long count
+-- where the first referred number stands: after the count and the retention flags of a long count
 abbrev pub referred_place : List ℕ → ℕ
 referred_place bytes = if number_in w8 5 bytes / 32 == 7 then 9 + (referred_count bytes + 8) / 8 else 6
 
--- where the page association stands, and the data length behind it, which ends the header
+-- where the page association stands, and the data length after it, which ends the header
 abbrev pub page_place : List ℕ → ℕ
 page_place bytes = referred_place bytes + referred_count bytes * byte_len (number_width (number_in w32 0 bytes))
 
@@ -97,8 +97,8 @@ BreaksHeader strict bytes (Segment InvalidUnknownLength) =
     × (number_in w8 4 bytes % 64 ≢ 38)
 BreaksHeader strict bytes _ = ⊥
 
--- Data of this length, behind the header (7.2.7). Where it is unknown, byte 17 has the region's flags; its fields are
--- there, and behind them the end marker with four bytes more.
+-- Data of this length, after the header (7.2.7). Where it is unknown, byte 17 has the region's flags; its fields are
+-- there, and after them the end marker with four bytes more.
 abbrev pub BreaksData : Option ℕ → List ℕ → DecodeError → Type 0
 BreaksData (Some n) bytes (Parse UnexpectedEof) = length bytes < n
 BreaksData None bytes (Parse UnexpectedEof) = length bytes < 18 + adaptive_bytes (number_in w8 17 bytes)
@@ -122,12 +122,12 @@ BeginWith read kind bytes [] others = bytes ≡ others
 BeginWith read kind bytes (x ∷ xs) others =
     (rest : List ℕ) × (read bytes ≡ Ok (x, rest)) × (kind x ≢ types.EndOfFile) × BeginWith read kind rest xs others
 
--- Behind some of them bytes are left, of which this holds.
+-- After some of them bytes are left, of which this holds.
 abbrev pub BehindSome : {A : Type 0} → (List ℕ → Result (A × List ℕ) DecodeError) → (A → SegmentType) → List ℕ → (List ℕ → Type 0) → Type 0
 BehindSome {A} read kind bytes P =
     (xs : List A) × (others : List ℕ) × BeginWith read kind bytes xs others × (0 < length others) × P others
 
--- Segments one behind the other (D.1, D.3): only strict reading refuses one that is cut off.
+-- Segments one after the other (D.1, D.3): only strict reading refuses one that is cut off.
 abbrev pub BreaksSequence : Bool → List ℕ → DecodeError → Type 0
 BreaksSequence strict bytes e =
     (e ≡ Parse UnexpectedEof → strict ≡ true)

@@ -11,20 +11,20 @@ abbrev pub overlap : ℕ → ℕ → ℤ → ℕ  -- how many of a page's column
 overlap page source (pos x) = min source (page - x)
 overlap page source (negsuc x) = min page (source - (x + 1))
 
-abbrev pub most_words : ℕ → ℕ  -- the most words that a row of so many columns lies in
+abbrev pub most_words : ℕ → ℕ  -- the most words that a row of this many columns lies in
 most_words zero = 0
 most_words (suc columns) = columns / 64 + 2
 
 abbrev pub words_across : ℕ → ℕ → ℕ  -- in how many words of a row `columns` of its pixels lie, one or more, from column x on
 words_across x columns = (x + columns - 1) / 64 + 1 - x / 64
 
--- How many loads combine a row of so many columns, from column `left` of the page and `from` of the source on: one for each
+-- How many loads combine a row of this many columns, from column `left` of the page and `from` of the source on: one for each
 -- word of the page, and one for the source where they lie in one of its words, else one for each word of the page.
 abbrev pub loads_across : ℕ → ℕ → ℕ → ℕ
 loads_across left columns from =
     words_across left columns + (if words_across from columns == 1 then 1 else words_across left columns)
 
-abbrev pub rows_combined : ℕ → ℕ → ℕ → ℕ → Counts → Counts  -- after so many of these rows
+abbrev pub rows_combined : ℕ → ℕ → ℕ → ℕ → Counts → Counts  -- after this many of these rows
 rows_combined rows left columns from = words_written (rows * words_across left columns) (rows * loads_across left columns from)
 
 abbrev pub first_under : ℤ → ℕ  -- the first column (or row) of a page that a source lies on which begins at x
@@ -41,7 +41,7 @@ source_combined page source x y c =
     if overlap page.width source.width x == 0 then c
     else rows_combined (overlap page.height source.height y) (first_under x) (overlap page.width source.width x) (first_shown x) c
 
--- at most so many words were written, at most twice as many loads made, and nothing else was counted
+-- at most this many words were written, at most twice as many loads made, and nothing else was counted
 pub record WritesWithin (most : ℕ) (old new : Counts) : Type 0 where
   pub words : new.words ≤ old.words + most
   pub loads : new.loads ≤ old.loads + 2 * most

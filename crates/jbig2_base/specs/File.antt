@@ -28,7 +28,7 @@ file_header_at bytes = do
     pages.1,
   )
 
--- the headers in the bytes, at most so many, up to that of an end of file, and the bytes behind them; each has a byte
+-- the headers in the bytes, at most this many, up to that of an end of file, and the bytes after them; each has a byte
 unfoldable pub headers_in : ℕ → Bool → List ℕ → Result (List Header × List ℕ) DecodeError
 headers_in zero strict bytes = Ok ([], bytes)
 headers_in (suc most) strict bytes =
@@ -36,7 +36,7 @@ headers_in (suc most) strict bytes =
     else (header_at strict bytes >>= λ h. if is_end_of_file h.0.segment_type then Ok (h.0 ∷ [], h.1)
     else (headers_in most strict h.1 >>= λ hs. Ok (h.0 ∷ hs.0, hs.1)))
 
--- the segments with these headers, whose data stands one behind the other
+-- the segments with these headers, whose data stands one after the other
 abbrev pub gathered : List Header → List ℕ → Result (List SegmentView) DecodeError
 gathered [] bytes = Ok []
 gathered (h ∷ hs) bytes = segment_data_at h bytes >>= λ p. gathered hs p.1 >>= λ ps. Ok (p.0 ∷ ps)

@@ -11,5 +11,5 @@ least test (suc n) to = if test (to - suc n) then to - suc n else least test n t
 abbrev pub place_from : (ℕ → Bool) → ℕ → ℕ → ℕ
 place_from test from to = least test (to - from) to
 
-abbrev pub code_length : ℕ → ℕ  -- the fewest bits that tell so many things apart
+abbrev pub code_length : ℕ → ℕ  -- the fewest bits that tell this many things apart
 code_length count = place_from (λ bits. nat_le count (2 ^ bits)) 0 count

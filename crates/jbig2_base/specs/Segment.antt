@@ -1,5 +1,5 @@
 -- Segments: their headers and their data (T.88, 7.2). `segment_at` takes the bytes at the beginning of a segment and
--- gives the segment and the bytes behind it, or the first fault.
+-- gives the segment and the bytes after it, or the first fault.
 use Rattle.std.specs.{Prelude.{ℕ, suc, zero, ◌+◌, ◌*◌, ◌/◌, ◌%◌, ◌==◌, nat_le, nat_lt, Bool, true, false, not, ◌&&◌, ◌||◌, List, [], ◌∷◌, take, drop, length, slice_index, Option, Some, None, Result, Ok, Err, if◌then◌else◌}, List.{list_any}, Int.{Width, w8, w16, w32, byte_len, from_be_bytes}}
 use Rattle.jbig2_base.specs.{Answer.{◌>>=◌, refuse_if}, Fields.{bytes_at, number_at}, Search.{place_from}, declared.{error.{DecodeError.{DecodeError, TheVariants.{Segment}}, SegmentError.TheVariants.{UnknownType, InvalidReferredCount, InvalidReference, InvalidUnknownLength, MissingEndMarker}}, segment.SegmentType.{SegmentType}}}
 use Rattle.jbig2_base.specs.declared.segment.SegmentType.TheVariants as types
@@ -68,7 +68,7 @@ count_at bytes = do
 abbrev pub number_width : ℕ → Width
 number_width own = if nat_le own 256 then w8 else if nat_le own 65536 then w16 else w32
 
-abbrev pub numbers_in : Width → ℕ → List ℕ → List ℕ  -- so many numbers, one behind the other
+abbrev pub numbers_in : Width → ℕ → List ℕ → List ℕ  -- this many numbers, one after the other
 numbers_in w zero bytes = []
 numbers_in w (suc count) bytes = from_be_bytes w (take (byte_len w) bytes) ∷ numbers_in w count (drop (byte_len w) bytes)
 
@@ -114,7 +114,7 @@ abbrev pub adaptive_bytes : ℕ → ℕ  -- the adaptive pixels' bytes of a gene
 adaptive_bytes flags =
     if flags % 2 == 1 then 0 else if flags / 2 % 4 == 0 then (if flags / 16 % 2 == 1 then 24 else 8) else 2
 
--- the end marker stands at the front, by the region's flags, and a row count of four bytes behind it
+-- the end marker stands at the front, by the region's flags, and a row count of four bytes after it
 abbrev pub is_end_marker : ℕ → List ℕ → Bool
 is_end_marker flags bytes =
     nat_le 6 (length bytes) && (if flags % 2 == 1 then slice_index bytes 0 == 0 && slice_index bytes 1 == 0
@@ -134,7 +134,7 @@ unknown_length_of bytes = do
   place ← first_end_marker flags.0 pixels.1
   Ok (18 + adaptive_bytes flags.0 + place + 6)
 
-abbrev pub data_at : Option ℕ → List ℕ → Result (List ℕ × List ℕ) DecodeError  -- the data behind a header (7.2.7)
+abbrev pub data_at : Option ℕ → List ℕ → Result (List ℕ × List ℕ) DecodeError  -- the data after a header (7.2.7)
 data_at (Some n) bytes = bytes_at n bytes
 data_at None bytes = unknown_length_of bytes >>= λ n. bytes_at n bytes
 

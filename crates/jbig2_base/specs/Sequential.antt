@@ -1,4 +1,4 @@
--- Segments one behind the other, header and data by turns: the sequential organisation of a file (T.88, D.1), and the
+-- Segments one after the other, header and data by turns: the sequential organisation of a file (T.88, D.1), and the
 -- embedded one (D.3), as PDF keeps pages and globals. Pages take them sorted.
 use Rattle.std.specs.Prelude.{ℕ, suc, zero, nat_lt, Bool, true, false, not, ◌==◌, List, [], ◌∷◌, length, Result, Ok, Err, if◌then◌else◌}
 use Rattle.jbig2_base.specs.{Answer.{◌>>=◌}, Segment.{SegmentView, segment_at}, declared.{error.DecodeError.{DecodeError, TheVariants.{Parse}}, segment.SegmentType.{SegmentType}}}
@@ -13,13 +13,13 @@ abbrev pub is_cut_off : Bool → DecodeError → Bool
 is_cut_off strict (Parse e) = not strict
 is_cut_off strict _ = false
 
--- What follows a segment: nothing behind an end of file, else the segments in the bytes that are left.
+-- What follows a segment: nothing after an end of file, else the segments in the bytes that are left.
 abbrev pub goes_on : Bool → Result (SegmentView × List ℕ) DecodeError → (List ℕ → Result (List SegmentView) DecodeError) → Result (List SegmentView) DecodeError
 goes_on strict (Ok x) others =
     if is_end_of_file x.0.header.segment_type then Ok (x.0 ∷ []) else (others x.1 >>= λ ps. Ok (x.0 ∷ ps))
 goes_on strict (Err e) others = if is_cut_off strict e then Ok [] else Err e
 
--- The segments in the bytes, at most so many; each has at least one byte, so the number of bytes is enough.
+-- The segments in the bytes, at most this many; each has at least one byte, so the number of bytes is enough.
 unfoldable pub segments_in : ℕ → Bool → List ℕ → Result (List SegmentView) DecodeError
 segments_in zero strict bytes = Ok []
 segments_in (suc most) strict bytes =

@@ -1,4 +1,4 @@
-//! Packed bitmaps (T.88, 6): rows of pixels behind a few reading and writing calls.
+//! Packed bitmaps (T.88, 6): rows of pixels, reached by a few calls that read and write.
 ghost use Rattle.std.specs.Prelude.{◌≡◌, ℕ, ◌+◌, ◌-◌, ◌*◌, ◌/◌, ◌^◌, ◌<◌, ◌≤◌, OnErr, Ok, false, length, slice_index};
 ghost use Rattle.jbig2_base.specs.Answer.{Gives};
 ghost use Rattle.jbig2_base.specs.Counts.{words_copied};

@@ -4,7 +4,7 @@ ghost use Rattle.jbig2_base.specs.declared.error.DecodeError.TheVariants.{Parse,
 use std::alloc::{AllocError, AllocFailed};
 use thiserror::Error;
 
-/// What a call of this decoder answers: a value, or the first rule that the bytes break.
+/// What a call of this decoder returns: a value, or the first rule that the bytes break.
 pub type Result<T> = std::result::Result<T, DecodeError>;
 
 /// Why a page could not be decoded. The inner enums say which rule the bytes break.
@@ -88,7 +88,7 @@ pub enum HuffmanError {
     MissingTables,
     /// Out of band where a number has to stand.
     UnexpectedOob,
-    /// Two lines have one code; never answered.
+    /// Two lines have one code; never returned.
     ConflictingCodes,
 }
 
@@ -108,9 +108,9 @@ pub enum RegionError {
 /// What is wrong with a template.
 #[derive(Clone, Copy, Debug, PartialEq, Eq, Error)]
 pub enum TemplateError {
-    /// No such template; never answered.
+    /// No such template; never returned.
     Invalid,
-    /// An adaptive pixel lies at or behind the pixel that is decoded.
+    /// An adaptive pixel lies at or after the pixel that is decoded.
     InvalidAtPixel,
 }
 
@@ -144,7 +144,7 @@ pub enum OverflowError {
     PlacementCoordinate,
     /// A reference's offset does not fit.
     ReferenceOffset,
-    /// An index does not fit; never answered.
+    /// An index does not fit; never returned.
     Index,
     /// More symbols than a dictionary may have.
     SymbolCount,

@@ -1,4 +1,4 @@
-//! Fields at a reader's place, which answer an error where the bytes end (T.88, 7.1).
+//! Fields at a reader's place, which return an error where the bytes end (T.88, 7.1).
 ghost use Rattle.std.specs.Prelude.{◌≡◌, ◌+◌, ◌^◌, ◌<◌, ◌≤◌, drop, length, IfOk, OnOk};
 ghost use Rattle.std.specs.Int.{w8, w16, w32};
 ghost use Rattle.jbig2_base.specs.Answer.{Answers, some_or};

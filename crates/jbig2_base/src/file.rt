@@ -184,7 +184,7 @@ fn read_file<'a, A: Allocator + Clone>(
 
 /// The file that `bytes` hold (T.88, Annex D).
 ///
-/// Answers the first error of the header (`FormatError`), of a segment (`SegmentError`, or
+/// Returns the first error of the header (`FormatError`), of a segment (`SegmentError`, or
 /// `ParseError` where the bytes end), or `DecodeError::OutOfMemory`. Either organization gives the
 /// same segments: where the bytes spell some that the mode accepts, each of known length and the
 /// last one the only end of file, the file has those.

@@ -14,7 +14,7 @@ use crate::reader::Reader;
 /// In which order the headers and the data of the segments stand (T.88, D.1 and D.2).
 #[derive(Clone, Copy, Debug, PartialEq, Eq)]
 pub enum FileOrganization {
-    /// Each header has its data behind it.
+    /// Each header has its data after it.
     Sequential,
     /// All headers come first.
     RandomAccess,

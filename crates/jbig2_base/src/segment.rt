@@ -258,7 +258,7 @@ fn data_length(strict: bool, kind: SegmentType, number: u32) -> Result<Option<u3
 
 /// A segment header at the reader's place (T.88, 7.2).
 ///
-/// In strict mode a type that is not listed answers `SegmentError::UnknownType`, and an unknown
+/// In strict mode a type that is not listed returns `SegmentError::UnknownType`, and an unknown
 /// length of another segment than an immediate generic region `SegmentError::InvalidUnknownLength`.
 /// An error leaves the reader where it was.
 #[tactic(auto, using(crate::proofs::SegmentCauses::header_causes), unfolding(crate::specs::Segment::header_at))]
@@ -309,10 +309,10 @@ fn segment_bytes<'a>(reader: &mut Reader<'a>, data_length: Option<u32>) -> Resul
     }
 }
 
-/// The data of a segment, at the reader's place behind its header or where the data is gathered
+/// The data of a segment, at the reader's place after its header or where the data is gathered
 /// (T.88, 7.2.7 and Annex D).
 ///
-/// Data of unknown length ends with the first end marker; none answers
+/// Data of unknown length ends with the first end marker; none returns
 /// `SegmentError::MissingEndMarker`, which leaves the reader where it was. Takes no memory.
 #[tactic(auto, using(crate::proofs::DataCauses::data_causes))]
 pub fn parse_segment_data<'a, A: Allocator>(
@@ -329,7 +329,7 @@ pub fn parse_segment_data<'a, A: Allocator>(
     Ok(Segment { header, bytes })
 }
 
-/// A segment at the reader's place: its header and the data behind it (T.88, 7.2). An error leaves
+/// A segment at the reader's place: its header and the data after it (T.88, 7.2). An error leaves
 /// the reader where it was.
 #[tactic(auto, using(crate::proofs::DataCauses::segment_causes), unfolding(crate::specs::Segment::segment_at))]
 pub fn parse_segment<'a, A: Allocator>(

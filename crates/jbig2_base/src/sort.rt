@@ -11,7 +11,7 @@ use std::alloc::Allocator;
 /// Brings the segments into the order of their numbers (T.88, 7.2.2); those of one number stay in
 /// the order in which they stand.
 ///
-/// The sort takes a buffer from the collection's allocator. Where there is none it answers
+/// The sort takes a buffer from the collection's allocator. Where there is none it returns
 /// `DecodeError::OutOfMemory`, and nothing has moved.
 pub fn sort_segments<A: Allocator>(segments: &mut Vec<Segment<'_, A>, A>) -> Result<()>
     ensures value { Gives (λ _. segment_views segments.new.items) result

@@ -272,7 +272,7 @@ plain-reads bytes zero m place code h whole room inside plain =
       };
     }
 
--- one behind a byte that is not FF
+-- one after a byte that is not FF
 pub plain-ahead : (bytes : List ℕ) (code : CodeBuffer) → IsAhead bytes code → code.bits % 8 ≡ 0 → code.bits ≤ 40 → code.place < length bytes → byte_at bytes code.place ≢ 0xFF
     → IsAhead bytes (record { c = code.c + (0xFF - byte_at bytes (code.place + 1)) * 2 ^ (40 - code.bits); bits = code.bits + 8; place = code.place + 1 })
 plain-ahead bytes code h whole room inside plain = plain-reads bytes h.ct h.ahead h.place code h.reads whole room inside plain

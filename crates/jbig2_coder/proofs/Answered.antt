@@ -1,4 +1,4 @@
--- Law: no definition of prefix codes and tables answers an error that bytes cannot bring about.
+-- Law: no definition of prefix codes and tables returns an error that bytes cannot bring about.
 use Rattle.std.proofs.Common.{ℕ, zero, suc, ◌+◌, ltb, length, Bool, true, false, cond, List, [], ◌∷◌, Option, Some, None, Result, Ok, Err, ℤ, pos, negsuc}
 use Rattle.std.specs.Prelude.{IfErr}
 use Rattle.jbig2_base.specs.Answer.{◌>>=◌, some_or}
@@ -68,7 +68,7 @@ answered-next_custom [] = tt
 answered-next_custom (table ∷ others) = tt
 
 -- ---- custom tables
--- a step that answers well, or refuses with such an error
+-- a step that returns well, or refuses with such an error
 abbrev AnsweredAt : {A : Type 0} → Step A → Type 0
 AnsweredAt s = IfErr s (λ refusal. IsAnswered refusal.0)
 

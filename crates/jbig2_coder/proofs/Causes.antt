@@ -73,7 +73,7 @@ fewer f (suc j) (suc k) (b ∷ bits) are order fits =
     let e : suc j - suc k ≡ j - k = omega arith in
     ap (λ (i : ℕ). number_after (2 * f + b) (take j bits) / 2 ^ i) e ∙ fewer (2 * f + b) j k bits are.1 (omega arith) (omega arith)
 
--- a line with range bits, which the bits behind its code do not hold, or which lead out of signed 32 bits
+-- a line with range bits, which the bits after its code do not hold, or which lead out of signed 32 bits
 abbrev BreaksRange : TableLine → List ℕ → Type 0
 BreaksRange line bits =
     (line.is_out_of_band ≡ false)

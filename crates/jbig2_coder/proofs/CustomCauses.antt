@@ -25,7 +25,7 @@ use Rattle.jbig2_coder.proofs.Causes.{table-cause, word-cause}
 abbrev range_at : Header → Place → ℕ
 range_at h p = front_number h.range_bits (bits_left (bits_on h.prefix_bits p))
 
--- the low value of the line behind it
+-- the low value of the line after it
 abbrev low_behind : Header → ℤ → Place → ℤ
 low_behind h low p = low +ℤ pos (2 ^ range_at h p)
 
@@ -39,7 +39,7 @@ abbrev BreaksEndLines : Header → Place → Type 0
 BreaksEndLines h p = length (bits_left p) < cond h.has_out_of_band 3 2 * h.prefix_bits
 
 -- ---- steps
--- a step that answers well, or refuses with such an error
+-- a step that returns well, or refuses with such an error
 abbrev CauseAt : {A : Type 0} → (DecodeError → Type 0) → Step A → Type 0
 CauseAt P s = IfErr s (λ refusal. P refusal.0)
 
@@ -137,7 +137,7 @@ cause-line P h low p why =
     (λ leaves. why (inr (inr (let L : ℕ → Type 0 = λ n. LeavesWord (low +ℤ pos (2 ^ n)) in subst L (sym at) leaves))))))
     (λ next next_is. tt)))
 
--- the low value and the place behind a line that is there
+-- the low value and the place after a line that is there
 line-there : (h : Header) (low : ℤ) (p : Place) (x : (TableLine × ℤ) × Place) → custom_line h low p ≡ Ok x → (low_behind h low p ≡ x.0.1) × (bits_on h.range_bits (bits_on h.prefix_bits p) ≡ x.1)
 line-there h low p x is =
     let len = went (field (Huffman InvalidCode) h.prefix_bits p) _ x is in

@@ -56,7 +56,7 @@ one_short : (x : TableLine) → x.range_length ≤ 32 → AreShort (x ∷ [])
 one_short x h zero d inside = h
 one_short x h (suc k) d inside = absurd (omega arith)
 
--- what the lines go on with behind the next one
+-- what the lines go on with after the next one
 line-after : (h : Header) (p : Place) (low : ℤ) (items : List TableLine) (q : Place) (s : Step (TableLine × ℤ)) (reads : Reads h p low items q) → int_lt low h.maximum ≡ true → s ≡ custom_line h low q → range_lines h p ≡ behind items (s >>= λ x. behind (x.0.0 ∷ []) (range_lines_in (reads.fuel - 1) h x.0.1 x.1))
 line-after h p low items q s reads below line =
     reads.goes
@@ -87,7 +87,7 @@ reads-all h p low items q reads past =
     ∙ ap (λ (s : Step (List TableLine)). behind items s) (line-end reads.fuel (length (bits_left q)) h low q reads.enough past)
     ∙ ap (λ (xs : List TableLine). Ok (xs, q)) (append-nil items)
 
--- the lines behind the others are short too
+-- the lines after the others are short too
 pub short-push : (xs ys : List TableLine) (x : TableLine) → AreShort xs → x.range_length ≤ 32 → ys ≡ xs ++ x ∷ [] → AreShort ys
 short-push xs ys x are short pushed =
     let Q : List TableLine → Type 0 = λ zs. AreShort zs in
@@ -131,7 +131,7 @@ ends-oob h p q r s below above len old one two three first q_is second r_is thir
     ∙ ap (λ (xs : List TableLine). Ok (xs ++ o ∷ [], s)) (sym (pushed-two old one two a b pushed pushed_two))
     ∙ ap (λ (xs : List TableLine). Ok (xs, s)) (sym pushed_three)
 
--- a custom table's lines, from what its header answers
+-- a custom table's lines, from what its header returns
 pub lines-header : (p : Place) (s : Step Header) → s ≡ custom_header p → custom_lines p ≡ (s >>= λ header. range_lines header.0 header.1 >>= λ ranges. behind ranges.0 (end_lines header.0 ranges.1))
 unfolding custom_lines
 lines-header p s is = ap (λ (t : Step Header). t >>= λ header. range_lines header.0 header.1 >>= λ ranges. behind ranges.0 (end_lines header.0 ranges.1)) (sym is)

@@ -49,7 +49,7 @@ enters-next old codes level len code byte x enters size inside entry = λ v d sm
 
 -- ---- the first levels
 
--- Before level i, the codes of at most i bits being entered: `code` is the number behind them.
+-- Before level i, the codes of at most i bits being entered: `code` is the number after them.
 pub record AtDepth (lines : List TableLine) (levels : List Level) (i code : ℕ) (codes : List FirstCode) : Type 0 where
   pub right : AreRight lines levels codes
   pub are : AreLevels lines (drop i levels)
@@ -279,7 +279,7 @@ are-drop zero lines levels are = are
 are-drop (suc n) lines [] are = tt
 are-drop (suc n) lines (v ∷ vs) are = are-drop n lines vs are.3
 
--- behind the first eight levels
+-- after the first eight levels
 pub behind-eight : (lines : List TableLine) (levels : List Level) (d : Level) → AreLevels lines levels → 8 ≤ length levels → ((get_or levels 7 d).nodes ≡ nodes (groups_of lines (drop 8 levels))) × ((get_or levels 7 d).nodes ≤ length lines) × AreLevels lines (drop 8 levels)
 behind-eight lines levels d are many =
     let next = level-next lines levels 7 d (omega arith) (are-drop 7 lines levels are) in

@@ -1,4 +1,4 @@
--- The number that bytes spell. A list has its last byte first; a byte behind FF has seven bits of its own, and
+-- The number that bytes spell. A list has its last byte first; a byte after FF has seven bits of its own, and
 -- its top bit stands where the lowest of the FF does.
 use Rattle.std.proofs.Common.{◌≡◌, ℕ, zero, suc, ◌+◌, ◌*◌, ◌^◌, ◌≤◌, cond, eqb, List, [], ◌∷◌, length, refl, arith, ⊎_elim, ◌⊎◌, inl, inr, le_refl, mul-le-mul_right}
 use Rattle.std.proofs.lemmas.Nat.{pow-add}
@@ -17,12 +17,12 @@ abbrev pub value : List ℕ → ℕ
 value [] = 0
 value (b ∷ r) = value r * 2 ^ width r + b
 
--- bytes, of which none behind FF is a marker's
+-- bytes, of which none after FF is a marker's
 abbrev pub Valid : List ℕ → Type 0
 Valid [] = Unit {0}
 Valid (b ∷ r) = (b ≤ 255) × (width r ≡ 7 → b ≤ 143) × Valid r
 
--- the first so many bytes
+-- the first that many bytes
 abbrev pub first : (ℕ → ℕ) → ℕ → List ℕ
 first f zero = []
 first f (suc n) = f n ∷ first f n

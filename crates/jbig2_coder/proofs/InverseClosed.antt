@@ -1,4 +1,4 @@
--- The bytes behind a closed list, and the decoder's start over them.
+-- The bytes after a closed list, and the decoder's start over them.
 use Rattle.std.proofs.Common.{◌≡◌, ℕ, zero, suc, ◌+◌, ◌-◌, ◌*◌, ◌%◌, ◌^◌, ◌<◌, ◌≤◌, true, false, List, [], ◌∷◌, ◌++◌, append_assoc, length, reverse, get_or, refl, sym, ap, ◌∙◌, arith, subst, ⊎_elim, ◌⊎◌, inl}
 use Rattle.std.proofs.lemmas.Bool.{cases_Bool, eqb-true}
 use Rattle.std.proofs.lemmas.List.{reverse-append, reverse-reverse, length-reverse, get_or_at, get_or-append-add}
@@ -63,7 +63,7 @@ last-full f r n e l h =
     let s : r ≡ f n ∷ first f n = sym e ∙ ap (first f) l in
     eqb-true (f n) 255 (sym (is_full-last (f n) r (first f n) s) ∙ h)
 
--- behind the bytes comes a marker
+-- after the bytes comes a marker
 pub Closing-closed : (r : List ℕ) → Valid r → Closing (byte_at (closed r)) (length r)
 Closing-closed r valid =
     let f : ℕ → ℕ = byte_at (closed r) in

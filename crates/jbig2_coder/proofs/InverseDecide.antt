@@ -92,7 +92,7 @@ decision-renorm_is : (bytes : List ℕ) (r : Registers) (x y : Context) (d : Boo
 unfolding decision
 decision-renorm_is bytes r x y d a c e = rw e refl
 
--- What the decoder answers in the encoder's context, and where both stand afterwards.
+-- What the decoder returns in the encoder's context, and where both stand afterwards.
 pub record Told (bytes : List ℕ) (m : ℕ) (d : Bool) (e : Encoding) (z : Decision) : Type 0 where
   pub symbol : z.symbol ≡ d
   pub context : z.context ≡ e.context

@@ -114,7 +114,7 @@ Knows-put f m hi a c r w p k =
       under = k.under;
     }
 
--- what the decoder has read, when it stands at place p: the bytes up to p, or all of them and ones behind them
+-- what the decoder has read, when it stands at place p: the bytes up to p, or all of them and ones after them
 pub record Inside (f : ℕ → ℕ) (m p v k : ℕ) : Type 0 where
   pub before : p < m
   pub number : v ≡ value (first f (suc p))
@@ -152,7 +152,7 @@ bits-headed : (f : ℕ → ℕ) (r : List ℕ) → Headed f r → bits (first f 
 bits-headed f [] h = refl
 bits-headed f (b ∷ r) h = rw (← h.0) refl
 
--- so many bits come from behind the bytes that are out
+-- this many bits come from after the bytes that are out
 inside-later : (f : ℕ → ℕ) (r : List ℕ) (p : ℕ) → Headed f r → bits r < bits (first f (suc p)) → length r < suc p
 inside-later f r p h l =
     ⊎_elim

@@ -8,7 +8,7 @@ use Rattle.jbig2_coder.proofs.Choices.{byte_in-marker, byte_in-stuffed, byte_in-
 use Rattle.jbig2_coder.proofs.InverseBytes.{width, bits, value, Valid, first, width-full, width-other}
 use Rattle.jbig2_coder.proofs.InverseKnows.{Seen, Inside, Past}
 
--- the first m bytes are the encoder's, and behind them comes a marker, which begins with the last of them where
+-- the first m bytes are the encoder's, and after them comes a marker, which begins with the last of them where
 -- that is FF
 pub record Closing (f : ℕ → ℕ) (m : ℕ) : Type 0 where
   pub valid : Valid (first f m)

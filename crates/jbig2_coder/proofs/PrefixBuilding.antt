@@ -12,7 +12,7 @@ use Rattle.jbig2_coder.specs.PrefixCode.{Member, longest, level, prefix_code, is
 use Rattle.jbig2_coder.specs.inner.PrefixLevels.{nodes, codes_at, groups_of, groups, AreLevels}
 use Rattle.jbig2_coder.proofs.PrefixKraft.{prefix_code-is, is_crowded-is}
 
--- lines pushed behind change no group
+-- lines pushed after change no group
 groups-kept : (lines more : List TableLine) (vs : List Level) → AreLevels lines vs → groups_of (lines ++ more) vs ≡ groups_of lines vs
 groups-kept lines more [] are = refl
 groups-kept lines more (v ∷ vs) are =

@@ -99,7 +99,7 @@ pub prefix_code-is : (lines : List TableLine) → prefix_code lines ≡ codes_at
 unfolding prefix_code
 prefix_code-is lines = members-from (longest lines) 1 lines ∙ codes-are (longest lines) 0 lines ∙ ap (λ (b : ℕ). codes_at 0 b (groups (longest lines) 1 lines)) (weight-none lines)
 
--- how many codes are used up behind the groups
+-- how many codes are used up after the groups
 abbrev end_at : ℕ → List (List TableLine) → ℕ
 end_at b [] = b
 end_at b (g ∷ gs) = end_at (2 * b + length g) gs

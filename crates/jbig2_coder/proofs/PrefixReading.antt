@@ -89,7 +89,7 @@ pub leaves-ended : (lines : List TableLine) (levels : List Level) (root i node :
 leaves-ended lines levels root i node p q r at place rest none =
     leaves lines levels root i node p q r ((ended {A = TableLine} 0).answer) at place rest (walk-ends (groups_of lines (drop i levels)) i node (bits_left q) none)
 
--- a bit behind the last level
+-- a bit after the last level
 pub leaves-past : (lines : List TableLine) (levels : List Level) (root i node b : ℕ) (p q r : Place) → AtLevel lines levels root i node p q → r ≡ bits_on 1 q → bits_left r ≡ drop 1 (bits_left q) → Some b ≡ bits_next 1 (bits_left q) → length levels ≤ i → Reads p r ((refused {A = TableLine} 0).answer) (walk_of lines levels root (bits_left p))
 leaves-past lines levels root i node b p q r at place rest some past =
     let none : drop i levels ≡ [] = drop_all i levels past in

@@ -124,7 +124,7 @@ group-ends k n v (x ∷ xs) h =
     (and_right (ltb k (k + 1)) (eqb (n / 2 ^ (k + 1 - k)) v) (ne_eqb (n / 2 ^ (k + 1 - k)) v (λ e. let half : n / 2 ≡ v = sym (one_deeper k n) ∙ e in omega arith)))
     (group-ends k (n + 1) v xs (omega arith))
 
--- of the places of k bits behind the codes, the first ones begin a longer code
+-- of the places of k bits after the codes, the first ones begin a longer code
 pub begins-nodes : (k b : ℕ) (gs : List (List TableLine)) (j : ℕ) → begins_longer (codes_at k b gs) k (b + j) ≡ ltb j (nodes gs)
 begins-nodes k b [] j = sym (le-ltb j 0 (omega arith))
 begins-nodes k b (g ∷ gs) j =

@@ -299,7 +299,7 @@ behind_ones b r true true true false d4 = refl
 behind_ones b r true true true true false = refl
 behind_ones b r true true true true true = refl
 
--- the first row whose prefix comes next is the one with so many ones
+-- the first row whose prefix comes next is the one with this many ones
 pub next_range-prefix : (b : List ℕ) (r : Reading) → next_range ranges b r ≡ range_of (prefix 5 0 b r).ones
 unfolding next_range ranges are_next prefix range_of
 next_range-prefix b r =
@@ -309,7 +309,7 @@ next_range-prefix b r =
     let r4 = read prev_of b r3 in
     by_ones r1 r2 r3 r4 (read prev_of b r4) (next prev_of b r).symbol (next prev_of b r1).symbol (next prev_of b r2).symbol (next prev_of b r3).symbol (next prev_of b r4).symbol
 
--- behind that row's prefix
+-- after that row's prefix
 pub next_range-read : (b : List ℕ) (r : Reading) → read_more prev_of (length (next_range ranges b r).prefix) b r ≡ (prefix 5 0 b r).reading
 unfolding next_range ranges are_next prefix read_more
 next_range-read b r =

@@ -32,7 +32,7 @@ abbrev pub LeavesWord : ℤ → Type 0  -- a number that signed 32 bits do not h
 LeavesWord (pos n) = 2 ^ 31 ≤ n
 LeavesWord (negsuc n) = 2 ^ 31 ≤ n
 
--- A value: its code, or behind it the range bits of the code's line are not there, or lead out of signed 32 bits.
+-- A value: its code, or after it the range bits of the code's line are not there, or lead out of signed 32 bits.
 abbrev pub BreaksValue : List Member → List ℕ → DecodeError → Type 0
 BreaksValue ms bits (Parse UnexpectedEof) = BreaksCode ms bits (Parse UnexpectedEof)
 BreaksValue ms bits (Huffman InvalidCode) =
@@ -52,7 +52,7 @@ abbrev pub NumbersHaveCauses : Type 0
 NumbersHaveCauses =
     (ms : List Member) (p : Place) → IfErr (without_oob (decoded_value ms (bits_left p))).answer (BreaksNumber ms (bits_left p))
 
--- A line of a custom table (B.2), this or one of n - 1 behind it, begins below the maximum, and its two lengths are
+-- A line of a custom table (B.2), this or one of n - 1 after it, begins below the maximum, and its two lengths are
 -- not there, or its range is above 31 bits, or leads out of signed 32 bits.
 abbrev pub BreaksSomeLine : ℕ → Header → ℤ → Place → Type 0
 BreaksSomeLine zero h low p = ⊥
@@ -64,7 +64,7 @@ BreaksSomeLine (suc n) h low p =
     × (((length (bits_left p) < h.prefix_bits + h.range_bits) ⊎ ((32 ≤ range) ⊎ LeavesWord next))
     ⊎ BreaksSomeLine n h next (bits_on h.range_bits behind))
 
--- The lines that the header asks for: one of the ranges; or behind them the lengths of the lower, the upper and the
+-- The lines that the header asks for: one of the ranges; or after them the lengths of the lower, the upper and the
 -- out-of-band line are not all there.
 abbrev pub BreaksLines : Header → Place → Type 0
 BreaksLines h p =
@@ -72,7 +72,7 @@ BreaksLines h p =
     ⊎ ((ranges : List TableLine × Place) × (range_lines h p ≡ Ok ranges)
     × (length (bits_left ranges.1) < (if h.has_out_of_band then 3 else 2) * h.prefix_bits))
 
--- The header is 72 bits. Behind it a line of the table is at fault; or all are there, and the codes do not fit.
+-- The header is 72 bits. After it a line of the table is at fault; or all are there, and the codes do not fit.
 abbrev pub BreaksCustom : Place → DecodeError → Type 0
 BreaksCustom p (Parse UnexpectedEof) = length (bits_left p) < 72
 BreaksCustom p (Huffman InvalidCode) =

@@ -19,7 +19,7 @@ Coder = record { bytes : List ℕ; registers : Registers }
 unfoldable pub byte_at : List ℕ → ℕ → ℕ  -- the byte at a place; past the end every byte is FF
 byte_at bytes place = slice_index_or bytes place 0xFF
 
--- BYTEIN (Figure G.3), from C and the place: behind FF is a stuffed byte of seven bits, or a marker, where it stays
+-- BYTEIN (Figure G.3), from C and the place: after FF is a stuffed byte of seven bits, or a marker, where it stays
 unfoldable pub byte_in : List ℕ → ℕ → ℕ → CodeRegister
 byte_in bytes c place =
     let next = byte_at bytes (place + 1) in
@@ -92,7 +92,7 @@ is_quiet registers context =
     let chosen = choice context registers.a registers.code.c in
     (if context.likely then chosen.symbol else not chosen.symbol) && not chosen.renorm
 
-unfoldable pub all_quiet : ℕ → List ℕ → Registers → Context → Bool  -- whether so many decisions in a row are quiet
+unfoldable pub all_quiet : ℕ → List ℕ → Registers → Context → Bool  -- whether this many decisions in a row are quiet
 all_quiet zero bytes registers context = true
 all_quiet (suc count) bytes registers context =
     let next = decision bytes registers context in

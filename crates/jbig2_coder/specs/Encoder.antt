@@ -1,5 +1,5 @@
 -- The arithmetic encoder (T.88, E.2), one shift at a time. A decision in its context takes the registers and the
--- bytes so far on to the next; FLUSH ends the bytes. Whole lists of decisions stand behind it, and the law that the
+-- bytes so far on to the next; FLUSH ends the bytes. Whole lists of decisions come after it, and the law that the
 -- decoder of `Coder` reads them back.
 use Rattle.std.specs.Prelude.{ℕ, suc, zero, ◌+◌, ◌-◌, ◌*◌, ◌/◌, ◌%◌, ◌^◌, Bool, true, false, not, if◌then◌else◌, ◌==◌, nat_lt, nat_le, List, [], ◌∷◌, reverse, map, ◌≡◌}
 use Rattle.jbig2_coder.specs.{Table.{row_of}, Coder.{Context, likely_next, unlikely_next, Registers, fresh, decision, initial_registers}}
@@ -16,10 +16,10 @@ opened = record { range = 0x8000; writer = record { register = 0; wait = 12; out
 unfoldable pub plain : ℕ → List ℕ → Writer  -- BYTEOUT (E.2.7) of a byte of eight bits
 plain c out = record { register = c % 2 ^ 19; wait = 8; out = (c / 2 ^ 19 % 256) ∷ out }
 
-unfoldable pub stuffed : ℕ → List ℕ → Writer  -- and of one of seven bits, behind a byte FF
+unfoldable pub stuffed : ℕ → List ℕ → Writer  -- and of one of seven bits, after a byte FF
 stuffed c out = record { register = c % 2 ^ 20; wait = 7; out = (c / 2 ^ 20) ∷ out }
 
--- BYTEOUT (E.2.7): a carry goes into the last byte, but not into FF, behind which a stuffed bit takes it up
+-- BYTEOUT (E.2.7): a carry goes into the last byte, but not into FF, after which a stuffed bit takes it up
 unfoldable pub byte_out : ℕ → List ℕ → Writer
 byte_out c [] = plain c []
 byte_out c (last ∷ out) =
@@ -96,7 +96,7 @@ closed out = reverse (if is_full out then 0xAC ∷ out else 0xAC ∷ 0xFF ∷ ou
 unfoldable pub with_context : (ℕ → Context) → ℕ → Context → ℕ → Context  -- one of them replaced
 with_context contexts k context = λ j. if j == k then context else contexts j
 
-unfoldable pub encode_from : Coding → (ℕ → Context) → List (ℕ × Bool) → Coding  -- the encoder behind a list
+unfoldable pub encode_from : Coding → (ℕ → Context) → List (ℕ × Bool) → Coding  -- the encoder after a list
 encode_from s contexts [] = s
 encode_from s contexts (entry ∷ entries) =
     let next = encoding (contexts entry.0) entry.1 s in

@@ -69,7 +69,7 @@ integer bytes registers contexts =
     let sum = (value_of_bits (drop (length before.bits) after.bits) + row.offset) % 2 ^ 32 in
     record { value = value_of (next prev_of bytes start).symbol sum; reading = after }
 
--- A symbol id (A.3): as many bits as the code length says, each in the context that the bits so far spell behind a 1.
+-- A symbol id (A.3): as many bits as the code length says, each in the context that the bits so far spell after a 1.
 abbrev pub Ids : Type 0
 Ids = record { code_len : ℕ; contexts : List Context }
 
@@ -102,7 +102,7 @@ fresh_procedures = replicate 13 (replicate 512 fresh)
 abbrev pub asked_integer : IntegerProcedure → Coder → Procedures → record { value : Option ℤ; reading : Reading }
 asked_integer procedure c procedures = integer c.bytes c.registers (slice_index_or procedures (index_of procedure) [])
 
--- The next integer of a procedure, and the coder and the contexts behind it.
+-- The next integer of a procedure, and the coder and the contexts after it.
 unfoldable pub asked : IntegerProcedure → Coder → Procedures
     → record { value : Option ℤ; coder : Coder; procedures : Procedures }
 asked procedure c procedures =

@@ -8,11 +8,11 @@ use Rattle.jbig2_coder.specs.declared.huffman_table.line.TableLine.{TableLine}
 abbrev pub Member : Type 0
 Member = record { bits : ℕ; number : ℕ; line : TableLine }
 
--- What a read answers, and how many bits it takes; where the bits end first, one more than there are.
+-- What a read returns, and how many bits it takes; where the bits end first, one more than there are.
 abbrev pub CodeReading : Type 0 → Type 0
 CodeReading A = record { answer : Result A DecodeError; taken : ℕ }
 
--- A call that answers what a reading answers, and leaves the bits that it takes behind it.
+-- A call that returns what a reading returns, and leaves the place after the bits that it takes.
 pub record Reads {A : Type 0} (old new : Place) (result : Result A DecodeError) (reading : CodeReading A) : Type 0 where
   pub value : result ≡ reading.answer
   pub place : new ≡ bits_on reading.taken old
@@ -90,7 +90,7 @@ abbrev pub value_by : TableLine → Option ℕ → Result (Option ℤ) DecodeErr
 value_by line None = Err (Huffman InvalidCode)
 value_by line (Some offset) = in_word (moved line offset) >>= λ n. Ok (Some n)
 
--- A value read by a table (B.4): a code, and behind it its line's range bits; out of band is None, and has none.
+-- A value read by a table (B.4): a code, and after it its line's range bits; out of band is None, and has none.
 unfoldable pub decoded_value : List Member → List ℕ → CodeReading (Option ℤ)
 decoded_value ms bits =
     let code = read_code ms bits in

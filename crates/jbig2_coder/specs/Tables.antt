@@ -96,7 +96,7 @@ lines_o = line 7 4 (minus 24) ∷ line 6 2 (minus 8) ∷ line 5 1 (minus 4) ∷ 
     line 1 0 (pos 0) ∷ line 3 0 (pos 1) ∷ line 4 0 (pos 2) ∷ line 5 1 (pos 3) ∷ line 6 2 (pos 5) ∷
     line 7 4 (pos 9) ∷ lower 7 (minus 25) ∷ upper 7 (pos 25) ∷ []
 
-abbrev pub uniform : ℕ → ℕ → List TableLine  -- lines 0 to count - 1, of codes of so many bits and no range bits
+abbrev pub uniform : ℕ → ℕ → List TableLine  -- lines 0 to count - 1, of codes of this many bits and no range bits
 uniform zero length = []
 uniform (suc n) length = uniform n length ++ line length 0 (pos n) ∷ []
 

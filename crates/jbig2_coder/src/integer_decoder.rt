@@ -84,7 +84,7 @@ fn range(ones: u32) -> (u32, u32)
     }
 }
 
-// What PREV becomes after a bit: it keeps the last eight bits behind a 1.
+// What PREV becomes after a bit: it keeps the last eight bits after a 1.
 #[inline(always)]
 fn following(prev: u32, bit: u32) -> u32
     requires below { prev < 512 }

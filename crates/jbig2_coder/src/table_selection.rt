@@ -9,7 +9,7 @@ use crate::huffman_table::HuffmanTable;
 use jbig2_base::error::{DecodeError, HuffmanError, Result};
 use std::alloc::Allocator;
 
-/// The next custom table, and those behind it; `HuffmanError::MissingTables` where there is none.
+/// The next custom table, and those after it; `HuffmanError::MissingTables` where there is none.
 #[tactic(auto, using(crate::proofs::Causes::selection_causes))]
 pub fn next_custom<'a, T: Allocator>(
     customs: &'a [&'a HuffmanTable<T>],

@@ -66,7 +66,7 @@ module _ {S : Type 0} (name : S → GName) (known : S → Option (List ℕ)) (co
   known_as : (old new : S) → printing.picture new ≡ printing.picture old → told ≡ is_some (known old) → Keeps (known old) (known new)
   known_as old new e t = kept told (known old) (known new) t (ap (λ (p : GName × Option (List ℕ)). p.1) e)
 
-  -- whatever is answered, it is the same output
+  -- whatever is returned, it is the same output
   pub same_output : (meant : Result Grid DecodeError) (decoded : Result (Unit {0}) DecodeError) (old new : S) → Decodes printing meant decoded old new → name new ≡ name old
   same_output (Ok g) (Ok u) old new d = name_after old new (calls_of g) d.0
   same_output (Ok g) (Err e) old new (inl s) = name_after old new s.made s.picture

@@ -8,7 +8,7 @@ use Rattle.std.specs.Io.KnownBytes.{Appends}
 pub rest_is : (bytes : List ℕ) (sent : ℕ) → slice_range bytes sent (length bytes) ≡ drop sent bytes
 rest_is bytes sent = take_all (length bytes - sent) (drop sent bytes) (omega (arith, length-drop sent bytes))
 
--- a part of the rest behind what was sent
+-- a part of the rest after what was sent
 pub sent_more : (a b c : Option (List ℕ)) (bytes : List ℕ) (sent n : ℕ) → sent ≤ length bytes → n ≤ length (slice_range bytes sent (length bytes)) → Appends a b (take sent bytes) → Appends b c (take n (slice_range bytes sent (length bytes)))
     → (sent + n ≤ length bytes) × Appends a c (take (sent + n) bytes)
 sent_more a b c bytes sent n within bound before more =

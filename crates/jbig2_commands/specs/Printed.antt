@@ -45,7 +45,7 @@ printed strict Embedded bytes = or_fault (embedded strict no_names bytes >>= λ 
 printed strict (Calls index) bytes = of_file (λ page. calls_text (grid_of_page page)) index (book_at strict bytes)
 printed strict (Pbm index) bytes = of_file bitmap_text index (book_at strict bytes)
 
--- What was meant is added to the output, or its fault is answered and nothing is added, unless memory ran out. Where
+-- What was meant is added to the output, or its fault is returned and nothing is added, unless memory ran out. Where
 -- the output failed, nothing is said of what it holds.
 abbrev pub Prints : Result (List ℕ) Fault → Result (Unit {0}) Fault → Option (List ℕ) → Option (List ℕ) → Type 0
 Prints (Ok bytes) (Ok u) old new = Appends old new bytes

@@ -45,7 +45,7 @@ fn write_head<A: Allocator>(page: &Page<'_, A>, head: &mut Vec<u8, A>) -> Result
     }
 }
 
-/// Answers whether all rows were written.
+/// Returns whether all rows were written.
 fn write_rows<A: Allocator, O: Write>(drawn: &DrawnPage<'_, A>, out: &mut O) -> bool
     ensures { IsTrue result → Appends (O.contents out.old) (O.contents out.new) drawn.now }
 {

@@ -12,7 +12,7 @@ use std::alloc::Allocator;
 use std::io::Write;
 use std::marker::Brand;
 
-/// Room for the bytes that are gathered before some are written, and a line behind them.
+/// Room for the bytes that are gathered before some are written, and a line after them.
 const ROOM: usize = 8256;
 
 /// Room for a line.

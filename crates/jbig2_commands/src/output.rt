@@ -18,7 +18,7 @@ pub struct Output<'o, O: Write, A: Allocator> {
     held: Vec<u8, A>,
 }
 
-/// Writes as many of the bytes as the output takes, and answers how many.
+/// Writes as many of the bytes as the output takes, and returns how many.
 fn send<O: Write>(out: &mut O, bytes: &[u8]) -> usize
     ensures bound { result ≤ length bytes.now }
     ensures sent { Appends (O.contents out.old) (O.contents out.new) (take result bytes.now) }
@@ -59,7 +59,7 @@ impl<'o, O: Write, A: Allocator> Output<'o, O, A> {
         out
     }
 
-    /// Writes what is held. Answers whether all of it could be written; the rest stays.
+    /// Writes what is held. Returns whether all of it could be written; the rest stays.
     pub fn write_held(&mut self) -> bool
         ensures same { whose self.new ≡ whose self.old }
         ensures bytes { Keeps (told O.contents self.old) (told O.contents self.new) }
@@ -72,7 +72,7 @@ impl<'o, O: Write, A: Allocator> Output<'o, O, A> {
         count == 0
     }
 
-    /// Takes bytes. Answers whether they were taken; those that were not leave no trace.
+    /// Takes bytes. Returns whether they were taken; those that were not leave no trace.
     pub fn push(&mut self, bytes: &[u8]) -> bool
         ensures same { whose self.new ≡ whose self.old }
         ensures taken { Pushes result (told O.contents self.old) (told O.contents self.new)

@@ -136,7 +136,7 @@ fn page_at<'f, A: Allocator>(file: &'f File<'_, A>, index: &str) -> Result<Page<
 {
     let index = match index.parse::<usize>() {
         Ok(index) => index,
-        // No file has so many pages.
+        // No file has this many pages.
         Err(_) => file.page_count(),
     };
     match file.page(index) {

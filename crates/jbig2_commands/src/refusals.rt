@@ -23,7 +23,7 @@ impl Refusals {
         self.count > 0
     }
 
-    /// The answer of a call whose line was taken, or was not.
+    /// What a call returns whose line was taken, or was not.
     pub fn answer(&mut self, is_taken: bool) -> Result<()>
         requires { self.old.count < 2 ^ 64 - 1 }
         ensures { Counts is_taken result self.old.count self.new.count }

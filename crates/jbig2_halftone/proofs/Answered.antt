@@ -1,4 +1,4 @@
--- Law: no definition of patterns and halftone regions answers an error that bytes cannot bring about.
+-- Law: no definition of patterns and halftone regions returns an error that bytes cannot bring about.
 use Rattle.std.proofs.Common.{ℕ, zero, suc, ◌+◌, Bool, List, [], ◌∷◌}
 use Rattle.jbig2_base.specs.Grid.{Grid}
 use Rattle.jbig2_base.proofs.Answered.{Answered, answered-if, answered-next, answered-number, answered-operator, answered-refusal, answered-signed}

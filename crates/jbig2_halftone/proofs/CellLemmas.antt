@@ -221,7 +221,7 @@ outside-known h d m n x y outside column row e =
     ∙ ap (λ (z : ℤ). is_apart (int_shr z 8) d.width h.region_info.width || is_apart (int_shr y 8) d.height h.region_info.height) column
     ∙ ap (λ (z : ℤ). is_apart (column_of h m n) d.width h.region_info.width || is_apart (int_shr z 8) d.height h.region_info.height) row
 
--- cells, and those behind them
+-- cells, and those after them
 pub cells-append : (h : HalftoneHeader) (d : Patterns) (k : ℕ) (values others : List ℕ) (region : Grid) → cells_drawn h d k (values ++ others) region ≡ (cells_drawn h d k values region >>= λ drawn. cells_drawn h d (k + length values) others drawn)
 unfolding cells_drawn
 cells-append h d k [] others region =

@@ -1,15 +1,17 @@
 -- What drawing patterns takes.
-use Rattle.std.proofs.Common.{◌≡◌, ℕ, zero, suc, ◌+◌, ◌-◌, ◌*◌, ◌/◌, ◌%◌, ◌<◌, ◌≤◌, ℤ, add-one, refl, sym, ap, subst, ◌∙◌, add-mul, arith, Bool, Result, Ok, Err}
+use Rattle.std.proofs.Common.{inl, inr, ◌≡◌, ℕ, zero, suc, ◌+◌, ◌-◌, ◌*◌, ◌/◌, ◌%◌, ◌<◌, ◌≤◌, ℤ, add-one, refl, sym, ap, subst, ◌∙◌, add-mul, arith, Bool, Result, Ok, Err}
 use Rattle.std.proofs.lemmas.Nat.{div-mul-add, mod-mul-add}
 use Rattle.jbig2_base.specs.Counts.{overlap, most_words, WritesWithin, Counts}
-use Rattle.std.specs.Prelude.{OnOk}
+use Rattle.std.specs.Prelude.{OnErr, OnOk}
 use Rattle.jbig2_base.specs.Grid.{Grid, blank}
 use Rattle.jbig2_halftone.specs.Halftone.{column_of, gray_params, row_of}
 use Rattle.jbig2_halftone.specs.HalftoneHeader.{HalftoneHeader}
 use Rattle.jbig2_halftone.specs.PatternHeader.{HasSize}
 use Rattle.jbig2_halftone.specs.Patterns.{Patterns}
-use Rattle.jbig2_halftone.specs.Steps.{CountsRead, CountsHalftone, cell_words, words_of_cells}
-use Rattle.jbig2_halftone.specs.inner.Stages.{after_mask, after_lane_rows}
+use Rattle.jbig2_halftone.specs.Steps.{CountsRead, CountsHalftone, StopsHalftone, after_mask, cell_words, words_of_cells}
+use Rattle.jbig2_halftone.specs.inner.Stages.{StopsCells, StopsRows, after_lane_rows}
+use Rattle.jbig2_halftone.proofs.RowLemmas.{no-counts}
+use Rattle.std.proofs.Math.Nat.{mul-le-mul_left}
 
 pub draws-none : (old : Counts) → WritesWithin 0 old old
 draws-none old = record { words = omega arith; loads = omega arith; decisions = refl; run_tests = refl; groups = refl; pixels = refl }
@@ -105,7 +107,7 @@ rows-start h d w old mid same =
     let none : 0 * w ≡ 0 = omega arith in
     rw none (subst (λ (s : Counts). WritesWithin 0 s old) same (draws-none old))
 
--- a row more, behind that row of the planes
+-- a row more, after that row of the planes
 pub rows-more : (h : HalftoneHeader) (d : Patterns) (m planes w : ℕ) (old read mid new : Counts) → WritesWithin (words_of_cells h d 0 (m * w)) (after_lane_rows (m * planes) w old) read → mid ≡ after_lane_rows planes w read
     → WritesWithin (words_of_cells h d (m * w) w) mid new → WritesWithin (words_of_cells h d 0 ((m + 1) * w)) (after_lane_rows ((m + 1) * planes) w old) new
 rows-more h d m planes w old read mid new before taken one =
@@ -148,12 +150,38 @@ pub on-ok : {X E : Type 0} (result : Result X E) (P Q : Type 0) → (P → Q) �
 on-ok (Ok x) P Q f p = f p
 on-ok (Err e) P Q f p = _
 
+pub on-err : {X E : Type 0} (result : Result X E) (P Q : Type 0) → (P → Q) → OnErr result P → OnErr result Q
+on-err (Ok x) P Q f p = _
+on-err (Err e) P Q f p = f p
+
+pub on-any : {X E : Type 0} (result : Result X E) (P : Type 0) → P → OnErr result P
+on-any (Ok x) P p = _
+on-any (Err e) P p = p
+
 pub region-size : (w h : ℕ) (black : Bool) (region : Grid) → region ≡ blank w h black → HasSize w h region
 region-size w h black region e = record { columns = ap (λ (g : Grid). g.width) e; rows = ap (λ (g : Grid). g.height) e }
 
-pub region-steps : (h : HalftoneHeader) (d : Patterns) (planes : ℕ) (old read new : Counts) → planes ≡ (gray_params h d).bits_per_pixel → CountsRead (gray_params h d) h.bytes (after_mask h d old) read
+pub region-steps : (h : HalftoneHeader) (d : Patterns) (planes : ℕ) (old read new : Counts) → planes ≡ (gray_params h d).bits_per_pixel → CountsRead (gray_params h d) h.bytes (gray_params h d).bits_per_pixel (after_mask h d old) read
     → WritesWithin (words_of_cells h d 0 (h.grid_position_and_size.height * h.grid_position_and_size.width)) (after_lane_rows (h.grid_position_and_size.height * planes) h.grid_position_and_size.width read) new → CountsHalftone h d old new
 region-steps h d planes old read new many reads draws = (
   after_lane_rows (h.grid_position_and_size.height * planes) h.grid_position_and_size.width read,
   ((read, (reads, ap (λ (n : ℕ). after_lane_rows (h.grid_position_and_size.height * n) h.grid_position_and_size.width read) many)), draws),
 )
+
+-- a region with a value that no pattern has
+pub region-stops : (h : HalftoneHeader) (d : Patterns) (planes : ℕ) (old read new : Counts) → planes ≡ (gray_params h d).bits_per_pixel → CountsRead (gray_params h d) h.bytes (gray_params h d).bits_per_pixel (after_mask h d old) read
+    → StopsRows h d planes read new → StopsHalftone h d old new
+region-stops h d planes old read new many reads (rows, (few, draws)) =
+    let w : ℕ = h.grid_position_and_size.width in
+    inr
+    ((gray_params h d).bits_per_pixel, (rows, (omega arith, (few, (after_lane_rows (rows * planes) w read, ((read, (reads, ap (λ (n : ℕ). after_lane_rows (rows * n) w read) many)), draws))))))
+
+-- a region whose cells can't be read
+pub cells-stop : (h : HalftoneHeader) (d : Patterns) (old new : Counts) → StopsCells h d old new → StopsHalftone h d old new
+cells-stop h d old new (inl none) = inl none
+cells-stop h d old new (inr (planes, (few, reads))) =
+    inr (planes, (0, (few, (omega arith, (new, ((new, (reads, no-counts planes h.grid_position_and_size.width new)), draws-nothing _ new))))))
+
+-- fewer rows of cells
+pub rows-within : (h : HalftoneHeader) (d : Patterns) (m n w : ℕ) (old new : Counts) → m ≤ n → WritesWithin (words_of_cells h d 0 (m * w)) old new → WritesWithin (words_of_cells h d 0 (n * w)) old new
+rows-within h d m n w old new few draws = cells-within h d 0 (m * w) (n * w) old new (omega (arith, mul-le-mul_left {m = m} {n = n} w few)) draws

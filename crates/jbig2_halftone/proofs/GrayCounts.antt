@@ -17,8 +17,8 @@ use Rattle.jbig2_region.specs.declared.template.AdaptiveTemplatePixel.{AdaptiveT
 use Rattle.jbig2_region.specs.declared.template.Template.{Template}
 use Rattle.jbig2_region.specs.declared.template.Template.TheVariants.{Template0, Template1, Template2, Template3}
 use Rattle.jbig2_halftone.specs.GrayScale.{GrayScale, nominal_pixels, after_planes}
-use Rattle.jbig2_halftone.specs.Steps.{CountsImage, CountsLanes, CountsMasked, CountsPlanes, plane_runs}
-use Rattle.jbig2_halftone.specs.inner.Stages.{CountsCoded, CountsOne, CountsPlane, plain_coding, plane_pixels, plane_start, after_lane_rows}
+use Rattle.jbig2_halftone.specs.Steps.{CountsImage, CountsLanes, CountsMasked, CountsPlanes, CountsRead, StopsImage, plane_runs}
+use Rattle.jbig2_halftone.specs.inner.Stages.{CountsCoded, CountsOne, CountsPlane, StopsCoded, plain_coding, plane_pixels, plane_start, after_lane_rows}
 use Rattle.jbig2_halftone.proofs.PlaneLemmas.{BehindPlanes, no-mask}
 use Rattle.jbig2_region.proofs.PlaceCounts.{how_many-all}
 use Rattle.jbig2_region.proofs.PlaceLemmas.{at_pixel-plain}
@@ -106,6 +106,30 @@ counts-more p bytes i plane coder states old mid new planes white behind before 
   plain = λ none. planes-next p bytes i plane coder states old mid new planes white behind (before.plain none) (one.plain none);
   masked = λ some. masked-more p i old mid new (before.masked some) (subst (λ (g : Grid). CountsSkipping p.skip_mask g.width g.height mid new) white (one.masked some));
 }
+
+-- no plane of those that are asked for
+pub stops-none : (p : GrayScale) (bytes : List ℕ) (steps : Counts) → StopsImage p bytes steps steps
+stops-none p bytes steps = (0, (omega arith, record { plain = λ _ _. planes-begin p bytes steps; masked = λ _ _. masked-begin p steps; lanes = lanes-none steps }))
+
+pub stops-some : (p : GrayScale) (bytes : List ℕ) (count : ℕ) (old new : Counts) → count ≤ p.bits_per_pixel → CountsRead p bytes count old new → StopsImage p bytes old new
+stops-some p bytes count old new few read = (count, (few, read))
+
+-- planes that MMR wrote, of which lanes alone are counted
+pub mmr-stops : (p : GrayScale) (bytes : List ℕ) (old new : Counts) → p.use_mmr ≡ true → KeepsLanes old new → StopsImage p bytes old new
+mmr-stops p bytes old new mmr lanes = (0, (omega arith, record { plain = λ coded _. absurd (clash p.use_mmr mmr coded); masked = λ coded _. absurd (clash p.use_mmr mmr coded); lanes = lanes }))
+  where
+    clash : (b : Bool) → b ≡ true → b ≡ false → ⊥
+    clash b on off = cc
+
+-- this many of the planes that the coder wrote
+pub coded-some : (p : GrayScale) (bytes : List ℕ) (count : ℕ) (old new : Counts) → count ≤ p.bits_per_pixel → CountsCoded p bytes count old new → StopsCoded p bytes old new
+coded-some p bytes count old new few counts = (count, (few, counts))
+
+pub coded-stops : (p : GrayScale) (bytes : List ℕ) (old new : Counts) → KeepsLanes old new → StopsCoded p bytes old new → StopsImage p bytes old new
+coded-stops p bytes old new lanes (count, (few, counts)) = (count, (few, record { plain = λ _. counts.plain; masked = λ _. counts.masked; lanes = lanes }))
+
+pub stops-lanes : (p : GrayScale) (bytes : List ℕ) (old new : Counts) → StopsImage p bytes old new → KeepsLanes old new
+stops-lanes p bytes old new (planes, (few, read)) = read.lanes
 
 -- a plane of which no pixel is skipped
 pub one-plain : (p : GrayScale) (mask : Option (Bor Grid)) (w h : ℕ) (bytes : List ℕ) (start : Region) (before after : Counts) → p.skip_mask ≡ skip_of mask → is_some mask ≡ false → CountsPlane p w h bytes start before after → CountsOne p w h bytes start before after

@@ -72,7 +72,7 @@ gray-last planes plane x y =
     ∙ ap (λ (v : ℕ). bit_number (differ (pixel_at plane x y) (eqb (gray_value planes x y % 2) 1)) + 2 * v) high
     ∙ omega arith
 
--- so many planes make values of so many bits
+-- this many planes make values of this many bits
 pub gray_value-lt : (planes : List Grid) (x y : ℕ) → gray_value planes x y < 2 ^ length planes
 unfolding gray_value
 gray_value-lt planes x y =

@@ -1,5 +1,5 @@
 -- Rows of planes taken by groups of eight lanes and single pixels.
-use Rattle.std.proofs.Common.{◌≡◌, ℕ, zero, suc, ◌+◌, ◌-◌, ◌*◌, ◌/◌, ◌%◌, ◌^◌, ◌<◌, ◌≤◌, ◌⊎◌, Bool, true, false, not, eqb, List, [], ◌∷◌, get_or, set, get_or-set_same, get_or-set_other, length, refl, sym, ap, ◌∙◌, ⊎_elim, arith, bit_and}
+use Rattle.std.proofs.Common.{◌≡◌, ℕ, zero, suc, ◌+◌, ◌-◌, ◌*◌, ◌/◌, ◌%◌, ◌^◌, ◌<◌, ◌≤◌, Bool, true, false, not, eqb, List, [], ◌∷◌, get_or, set, get_or-set_same, get_or-set_other, length, refl, sym, ap, ◌∙◌, ⊎_elim, arith, bit_and}
 use Rattle.std.proofs.lemmas.Bool.{cases_eq, cases_lt, ne_eqb}
 use Rattle.std.proofs.lemmas.Simd.{length-chunk, get_or-chunk, get_or-put_chunk_at, get_or-put_chunk_above, get_or-put_chunk_below, get_or-zip2, length-zip2}
 use Rattle.jbig2_base.proofs.BitLemmas.{bit_number-bit}
@@ -160,7 +160,7 @@ chunk-small plane y x old mid inside same small before = λ k d within.
     rw read (small (x + k) 0 (omega arith))
 
 -- ---- what a row takes
--- so many groups of lanes and single pixels
+-- this many groups of lanes and single pixels
 abbrev pub lanes_to : ℕ → ℕ → Counts → Counts
 lanes_to groups pixels before = record before {
   loads = before.loads + (groups + pixels);

@@ -1,8 +1,9 @@
 -- Patterns cut out of a collective bitmap.
-use Rattle.std.proofs.Common.{◌≡◌, ℕ, ◌+◌, ◌*◌, ◌<◌, ◌≤◌, Bool, true, false, List, [], ◌∷◌, ◌++◌, length, Result, Ok, refl, sym, ap, subst, ◌∙◌, arith}
+use Rattle.std.proofs.Common.{◌≡◌, ℕ, ◌+◌, ◌*◌, ◌/◌, ◌<◌, ◌≤◌, Bool, true, false, List, [], ◌∷◌, ◌++◌, length, Result, Ok, refl, sym, ap, subst, ◌∙◌, arith}
 use Rattle.std.specs.List.{All}
 use Rattle.std.proofs.Math.Nat.{mul-le-mul_left}
 use Rattle.std.proofs.lemmas.List.FromFn.{get_or-map-range_with_len, map-range_with_len_more, length-map-range_with_len}
+use Rattle.jbig2_base.specs.Counts.{Counts, words_copied}
 use Rattle.jbig2_base.specs.Grid.{Grid, blank, blank_or_overflow}
 use Rattle.jbig2_base.specs.declared.error.DecodeError.{DecodeError}
 use Rattle.jbig2_base.proofs.FillLemmas.{white-made}
@@ -11,9 +12,9 @@ use Rattle.jbig2_region.specs.inner.PixelArrays.{pixels_view}
 use Rattle.jbig2_region.specs.declared.template.GenericTemplatePixels.TheVariants.{Regular}
 use Rattle.jbig2_region.specs.declared.template.Template.{Template}
 use Rattle.jbig2_region.specs.declared.template.Template.TheVariants.{Template0, Template1, Template2, Template3}
-use Rattle.jbig2_halftone.specs.PatternHeader.{HasSize}
+use Rattle.jbig2_halftone.specs.PatternHeader.{HasSize, PatternHeader}
 use Rattle.jbig2_halftone.specs.Patterns.{collective_pixels, patterns_of}
-use Rattle.jbig2_halftone.specs.inner.Stages.{pattern_of}
+use Rattle.jbig2_halftone.specs.inner.Stages.{StopsCut, pattern_of}
 
 -- the adaptive pixels of the collective bitmap, taken of an array of four
 pub collective_view : (mmr : Bool) (template : Template) (width : ℕ) → pixels_view mmr template (Regular (left width 0 ∷ left 3 1 ∷ right 2 2 ∷ left 2 2 ∷ [])) ≡ collective_pixels mmr template width
@@ -59,3 +60,15 @@ cut-sized collective w h n items e =
     let within : k < n = omega (arith, patterns_of-length collective w h n) in
     let one = get_or-map-range_with_len (λ i. pattern_of collective w h i) 0 n k k d within (omega arith) in
     record { columns = ap (λ (g : Grid). g.width) one; rows = ap (λ (g : Grid). g.height) one })
+
+-- ---- steps
+-- the sides of a pattern, as the header has them
+pub cut-counts : (h : PatternHeader) (w rows : ℕ) (old new : Counts) → w ≡ h.pattern_width → rows ≡ h.pattern_height → new ≡ words_copied ((h.gray_max + 1) * ((w + 63) / 64 * rows)) old
+    → new ≡ words_copied ((h.gray_max + 1) * ((h.pattern_width + 63) / 64 * h.pattern_height)) old
+cut-counts h w rows old new wide high counts =
+    counts
+    ∙ ap (λ (n : ℕ). words_copied ((h.gray_max + 1) * ((n + 63) / 64 * rows)) old) wide
+    ∙ ap (λ (n : ℕ). words_copied ((h.gray_max + 1) * ((h.pattern_width + 63) / 64 * n)) old) high
+
+pub cut-some : (count words cut : ℕ) (old new : Counts) → cut ≤ count → new ≡ words_copied (cut * words) old → StopsCut count words old new
+cut-some count words cut old new few copied = (cut, (few, copied))

@@ -56,7 +56,7 @@ no-mask None e = refl
 no-mask (Some m) e = absurd (cc)
 
 -- ---- planes by the coder
--- what is held behind the i highest planes
+-- what is held after the i highest planes
 pub record BehindPlanes (p : GrayScale) (input : List ℕ) (i : ℕ) (planes : List Grid) (coder : Coder) (states : List Context) : Type 0 where
   pub done : planes ≡ coded_planes p input i
   pub bytes : coder.bytes ≡ input
@@ -112,7 +112,7 @@ mmr-none p input planes none =
     let all : p.bits_per_pixel - 0 ≡ p.bits_per_pixel = omega arith in
     record { all = rw (none, all) (same-planes (mmr_planes p input p.bits_per_pixel)) }
 
--- a plane, and those behind it
+-- a plane, and those after it
 one-more : (done : List Grid) (grid : Grid) (planes : Result (List Grid) DecodeError) → ((planes >>= λ others. Ok (grid ∷ others)) >>= λ others. Ok (done ++ others)) ≡ (planes >>= λ others. Ok ((done ++ grid ∷ []) ++ others))
 one-more done grid (Ok others) = ap (λ (ps : List Grid). Ok ps) (sym (append_assoc done (grid ∷ []) others))
 one-more done grid (Err e) = refl
@@ -192,7 +192,7 @@ all-cons : {X : Type 0} (P : X → Type 0) (x : X) (xs : List X) → P x → All
 all-cons P x xs first others zero d inside = first
 all-cons P x xs first others (suc k) d inside = others k d (omega arith)
 
--- so many planes, each so wide
+-- this many planes, each so wide
 pub record AreSized (p : GrayScale) (count : ℕ) (planes : List Grid) : Type 0 where
   pub many : length planes ≡ count
   pub wide : All (λ (g : Grid). g.width ≡ p.width) planes

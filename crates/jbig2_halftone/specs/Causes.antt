@@ -27,7 +27,7 @@ BreaksPatterns h (Region InvalidMmrData) =
     (h.strict ≡ true) × (h.mmr ≡ true) × ((rows_of ((h.gray_max + 1) * h.pattern_width) h.pattern_height h.bytes).whole ≡ false)
 BreaksPatterns h _ = ⊥
 
--- where plane k of MMR data begins, behind the whole bytes that each plane before it used
+-- where plane k of MMR data begins, after the whole bytes that each plane before it used
 unfoldable pub plane_start : GrayScale → List ℕ → ℕ → List ℕ
 plane_start p bytes zero = bytes
 plane_start p bytes (suc k) =

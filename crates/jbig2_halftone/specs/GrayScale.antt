@@ -29,7 +29,7 @@ after_planes p bytes (suc count) =
     let coding = skipping_coding (template_pixels false p.template (nominal_pixels p.template)) p.skip_mask in
     decoded_region coding p.width p.height bytes (no_pixels before.registers before.contexts)
 
--- with MMR, a plane and the bytes behind those that it used, and so many planes
+-- with MMR, a plane and the bytes after those that it used, and this many planes
 unfoldable pub mmr_plane : GrayScale → List ℕ → Result (Grid × List ℕ) DecodeError
 mmr_plane p bytes = mmr_rows p.strict p.width p.height bytes >>= λ rows. Ok (rows.grid, drop rows.used bytes)
 

@@ -1,5 +1,5 @@
 -- The data of a halftone region segment up to its coded bytes (T.88, 7.4.5): region information, flags, and the grid's
--- size, place and vector. The bytes give the header, and the coded bytes stand behind it.
+-- size, place and vector. The bytes give the header, and the coded bytes stand after it.
 use Rattle.std.specs.{Prelude.{ℕ, ◌/◌, ◌%◌, ◌==◌, nat_lt, Bool, ◌||◌, List, Result, Ok}, Int.{w8, w16, w32}}
 use Rattle.jbig2_base.specs.{Answer.{refuse_if, ◌>>=◌}, Fields.{number_at, signed_at}, Combination.{operator_of}, declared.error.{DecodeError.{DecodeError, TheVariants.{Overflow}}, OverflowError.TheVariants.{GridDimension}}}
 use Rattle.jbig2_region.specs.{RegionInfo.{region_info_at}, Templates.{template_of}, declared.region_info.RegionSegmentInfo.{RegionSegmentInfo}}

@@ -1,5 +1,5 @@
 -- The data of a pattern dictionary segment up to its coded bytes (T.88, 7.4.4): flags, a pattern's sides and GRAYMAX.
--- The bytes give the header, and the coded bytes stand behind it.
+-- The bytes give the header, and the coded bytes stand after it.
 use Rattle.std.specs.{Prelude.{ℕ, ◌≡◌, ◌/◌, ◌%◌, ◌==◌, Bool, List, Result, Ok}, Int.{w8, w32}}
 use Rattle.jbig2_base.specs.{Answer.{◌>>=◌, refuse_if}, Grid.{Grid}, Fields.{number_at, end_of_bytes}, declared.error.DecodeError.{DecodeError}}
 use Rattle.jbig2_region.specs.{Templates.{template_of}, declared.template.Template.{Template}}

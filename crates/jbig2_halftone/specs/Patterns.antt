@@ -33,7 +33,7 @@ collective_header h = record {
   strict = h.strict;
 }
 
--- so many patterns of these sides; pattern k is the columns from k * width on
+-- this many patterns of these sides; pattern k is the columns from k * width on
 unfoldable pub patterns_of : Grid → ℕ → ℕ → ℕ → List Grid
 patterns_of collective width height count =
     map (λ k. part_of collective (record { left = k * width; top = 0; width = width; height = height })) (range_with_len 0 count)

@@ -1,10 +1,11 @@
--- What the step bounds of gray-scale images and halftone regions count (our own rule): planes that are read, values
--- that are taken out of them by lanes of eight pixels, and patterns that are drawn. Each `Counts..` takes an image or
--- a region, and the counts before and after it.
-use Rattle.std.specs.Prelude.{ℕ, zero, suc, ◌≡◌, ◌≤◌, ◌+◌, ◌*◌, ◌/◌, ◌%◌, true, false, if◌then◌else◌, List, None, is_some}
-use Rattle.jbig2_base.specs.Counts.{WritesWithin, overlap, most_words, Counts, KeepsLanes}
-use Rattle.jbig2_region.specs.{Generic.{coding_of}, Raster.{no_pixels}, Steps.{coded_runs, row_loads, row_tests, row_words, kept_pixels, skipping_loads, skipping_words}, Templates.{template_pixels}}
-use Rattle.jbig2_halftone.specs.{GrayScale.{GrayScale, nominal_pixels, after_planes}, Halftone.{column_of, gray_params, row_of, skip_mask}, HalftoneHeader.{HalftoneHeader}, Patterns.{Patterns}}
+-- What the step bounds of gray-scale images, halftone regions and pattern dictionaries count (our own rule): planes that are
+-- read, values that are taken out of them by lanes of eight pixels, patterns that are drawn and patterns that are cut out.
+-- Each `Counts..` takes an image, a region or a dictionary, and the counts before and after it. `Stops..` is the same for one
+-- that is refused: what was done until then is no more than a part of what `Counts..` counts.
+use Rattle.std.specs.Prelude.{ℕ, zero, suc, ◌≡◌, ◌≤◌, ◌+◌, ◌*◌, ◌/◌, ◌%◌, true, false, if◌then◌else◌, List, None, is_some, ◌⊎◌}
+use Rattle.jbig2_base.specs.Counts.{WritesWithin, overlap, most_words, words_copied, Counts, KeepsLanes}
+use Rattle.jbig2_region.specs.{Generic.{coding_of}, inner.Layouts.{CountsGeneric}, Raster.{no_pixels}, Steps.{coded_runs, row_loads, row_tests, row_words, kept_pixels, skipping_loads, skipping_words}, Templates.{template_pixels}}
+use Rattle.jbig2_halftone.specs.{GrayScale.{GrayScale, nominal_pixels, after_planes}, Halftone.{column_of, gray_params, row_of, skip_mask}, HalftoneHeader.{HalftoneHeader}, PatternHeader.{PatternHeader}, Patterns.{Patterns, collective_header}}
 
 -- how many run bytes the highest planes have, where no pixel is skipped
 unfoldable pub plane_runs : GrayScale → List ℕ → ℕ → ℕ
@@ -30,21 +31,28 @@ pub record CountsMasked (p : GrayScale) (count : ℕ) (before after : Counts) : 
   pub words : after.words ≤ before.words + count * (p.height * skipping_words p.width)
   pub loads : after.loads ≤ before.loads + count * (p.height * skipping_loads p.width)
 
--- all planes; MMR data alone isn't counted, but for lanes
-pub record CountsRead (p : GrayScale) (bytes : List ℕ) (before after : Counts) : Type 0 where
-  pub plain : p.use_mmr ≡ false → p.skip_mask ≡ None → CountsPlanes p bytes p.bits_per_pixel before after
-  pub masked : p.use_mmr ≡ false → is_some p.skip_mask ≡ true → CountsMasked p p.bits_per_pixel before after
+-- this many of the highest planes; MMR data alone isn't counted, but for lanes
+pub record CountsRead (p : GrayScale) (bytes : List ℕ) (count : ℕ) (before after : Counts) : Type 0 where
+  pub plain : p.use_mmr ≡ false → p.skip_mask ≡ None → CountsPlanes p bytes count before after
+  pub masked : p.use_mmr ≡ false → is_some p.skip_mask ≡ true → CountsMasked p count before after
   pub lanes : KeepsLanes before after
 
--- an image: its planes are read, and then each row of each plane is taken by groups of eight lanes and single pixels
-abbrev pub CountsImage : GrayScale → List ℕ → Counts → Counts → Type 0
-CountsImage p bytes before after =
-    let rows = p.height * p.bits_per_pixel in
-    (read : Counts) × (CountsRead p bytes before read × (after ≡ record read {
-      loads = read.loads + rows * (p.width / 8 + p.width % 8);
-      groups = read.groups + rows * (p.width / 8);
-      pixels = read.pixels + rows * (p.width % 8);
+-- this many of the highest planes are read, and then this many rows of each are taken by groups of eight lanes and single pixels
+abbrev pub CountsRows : GrayScale → List ℕ → ℕ → ℕ → Counts → Counts → Type 0
+CountsRows p bytes planes rows before after =
+    (read : Counts) × (CountsRead p bytes planes before read × (after ≡ record read {
+      loads = read.loads + rows * planes * (p.width / 8 + p.width % 8);
+      groups = read.groups + rows * planes * (p.width / 8);
+      pixels = read.pixels + rows * planes * (p.width % 8);
     }))
+
+-- an image: all planes are read, and then all their rows are taken
+abbrev pub CountsImage : GrayScale → List ℕ → Counts → Counts → Type 0
+CountsImage p bytes before after = CountsRows p bytes p.bits_per_pixel p.height before after
+
+-- an image that is refused: some of the highest planes or all of them were read, and no row was taken
+abbrev pub StopsImage : GrayScale → List ℕ → Counts → Counts → Type 0
+StopsImage p bytes before after = (planes : ℕ) × ((planes ≤ p.bits_per_pixel) × CountsRead p bytes planes before after)
 
 -- an image takes, of each row of each plane, a group for each whole eight pixels, and the others one by one
 pub record CountsLanes (p : GrayScale) (before after : Counts) : Type 0 where
@@ -64,9 +72,30 @@ unfoldable pub words_of_cells : HalftoneHeader → Patterns → ℕ → ℕ → 
 words_of_cells h d k zero = 0
 words_of_cells h d k (suc n) = words_of_cells h d k n + cell_words h d (k + n)
 
--- a word for each cell of the skip mask, where there is one, then the image and all cells, with two loads for each word
+-- a word is written for each cell of the skip mask, where there is one
+abbrev pub after_mask : HalftoneHeader → Patterns → Counts → Counts
+after_mask h d before =
+    let cells = h.grid_position_and_size.height * h.grid_position_and_size.width in
+    record before { words = before.words + (if is_some (skip_mask h d) then cells else 0) }
+
+-- the planes are read after the mask and this many rows of values taken, and then cells are drawn, with two loads for each word
+abbrev pub CountsDrawn : HalftoneHeader → Patterns → ℕ → ℕ → Counts → Counts → Type 0
+CountsDrawn h d planes rows before after =
+    let cells = h.grid_position_and_size.height * h.grid_position_and_size.width in
+    (image : Counts) × (CountsRows (gray_params h d) h.bytes planes rows (after_mask h d before) image × WritesWithin (words_of_cells h d 0 cells) image after)
+
+-- a region: all planes, all rows and all cells
 abbrev pub CountsHalftone : HalftoneHeader → Patterns → Counts → Counts → Type 0
 CountsHalftone h d before after =
-    let cells = h.grid_position_and_size.height * h.grid_position_and_size.width in
-    let masked : Counts = record before { words = before.words + (if is_some (skip_mask h d) then cells else 0) } in
-    (image : Counts) × (CountsImage (gray_params h d) h.bytes masked image × WritesWithin (words_of_cells h d 0 cells) image after)
+    CountsDrawn h d (gray_params h d).bits_per_pixel h.grid_position_and_size.height before after
+
+-- a region that is refused: no step, or no more planes and no more rows
+abbrev pub StopsHalftone : HalftoneHeader → Patterns → Counts → Counts → Type 0
+StopsHalftone h d before after =
+    (after ≡ before)
+    ⊎ ((planes : ℕ) × ((rows : ℕ) × ((planes ≤ (gray_params h d).bits_per_pixel) × ((rows ≤ h.grid_position_and_size.height) × CountsDrawn h d planes rows before after))))
+
+-- a dictionary: its collective bitmap, a generic region, and then a load and a word for each word of its patterns
+abbrev pub CountsDictionary : PatternHeader → Counts → Counts → Type 0
+CountsDictionary h before after =
+    (collective : Counts) × (CountsGeneric (collective_header h) before collective × (after ≡ words_copied ((h.gray_max + 1) * ((h.pattern_width + 63) / 64 * h.pattern_height)) collective))

@@ -1,8 +1,9 @@
 //! Gray-scale images (T.88, Annex C).
-ghost use Rattle.std.specs.Prelude.{◌≡◌, ◌≤◌, ℕ, true, [], Ok, OnOk};
+ghost use Rattle.std.specs.Prelude.{◌≡◌, ◌≤◌, ℕ, true, [], Ok, OnOk, OnErr};
 ghost use Rattle.jbig2_base.specs.Answer.{Gives, Leaves};
+ghost use Rattle.jbig2_base.specs.Counts.{KeepsLanes};
 ghost use Rattle.jbig2_halftone.specs.GrayScale.{gray_values, gray_scale_image, gray_contexts, GrayScale};
-ghost use Rattle.jbig2_halftone.specs.Steps.{CountsImage, CountsLanes};
+ghost use Rattle.jbig2_halftone.specs.Steps.{CountsImage, CountsLanes, StopsImage};
 ghost use Rattle.jbig2_region.specs.Steps.{row_loads, skipping_loads};
 ghost use Rattle.jbig2_halftone.specs.inner.HalftoneViews.{gray_view};
 ghost use Rattle.jbig2_base.specs.Causes.{HaveCauses};
@@ -61,7 +62,7 @@ fn zeros<A: Allocator>(alloc: A, width: u32, height: u32) -> Result<Vec<u32, A>>
 /// Decodes a gray-scale image (T.88, Annex C): a value for each pixel, row by row from the top, each
 /// row from the left. With 0 bits a pixel nothing is read and every value is 0, whatever the size. The contexts begin
 /// fresh, whatever `contexts` held, and are left there as the last plane leaves them; MMR data and a
-/// side that is refused do not touch them.
+/// side that is refused do not touch them. A refusal takes no more steps than some of the highest planes do, or all.
 ///
 /// `OverflowError::BitmapDimension` for a side above 65535 with 1 bit a pixel or more; in strict mode
 /// `RegionError::InvalidMmrData` where MMR data has a fault or lacks a row; `OutOfMemory` where there
@@ -80,8 +81,11 @@ pub fn decode_gray_scale_image<M: Allocator, A: Allocator + Clone, B: Allocator,
     ensures contexts { Leaves result contexts.new.items
         (gray_contexts (gray_view params.now) bytes.now contexts.old.items) }
     ensures steps { OnOk result (CountsImage (gray_view params.now) bytes.now steps.old steps.new) }
+    ensures stopped { OnErr result
+        (StopsImage (gray_view params.now) bytes.now steps.old steps.new) }
     ensures lanes { OnOk result (CountsLanes (gray_view params.now) steps.old steps.new) }
-    ensures no_planes { params.now.bits_per_pixel ≡ 0 → OnOk result (steps.new ≡ steps.old) }
+    ensures no_lanes { OnErr result (KeepsLanes steps.old steps.new) }
+    ensures no_planes { params.now.bits_per_pixel ≡ 0 → steps.new ≡ steps.old }
     ensures causes { (p : GrayScale) → HaveCauses (gray_scale_image p) (BreaksGrayScale p) }
 {
     let too_long = params.width > MAX_DIMENSION || params.height > MAX_DIMENSION;

@@ -1,5 +1,5 @@
 //! Halftone regions (T.88, 6.6 and 7.4.5).
-ghost use Rattle.std.specs.Prelude.{◌≡◌, ◌+◌, ◌*◌, ◌<◌, ◌≤◌, length, false, ◌⊎◌, IfErr, IfOk, OnOk, FitsSigned, Ok};
+ghost use Rattle.std.specs.Prelude.{◌≡◌, ◌+◌, ◌*◌, ◌<◌, ◌≤◌, length, false, ◌⊎◌, IfErr, IfOk, OnErr, OnOk, FitsSigned, Ok};
 ghost use Rattle.std.specs.Int.{w32, int_shr};
 ghost use Rattle.jbig2_base.specs.Answer.{Answers, Gives, Leaves};
 ghost use Rattle.std.specs.List.{All};
@@ -13,9 +13,9 @@ ghost use Rattle.jbig2_halftone.specs.HalftoneHeader.{HalftoneHeader};
 ghost use Rattle.jbig2_halftone.specs.inner.HalftoneHeaderViews.{header_view};
 ghost use Rattle.jbig2_halftone.specs.PatternHeader.{HasSize};
 ghost use Rattle.jbig2_halftone.specs.inner.DictionaryViews.{dictionary_view};
-ghost use Rattle.jbig2_halftone.specs.Steps.{CountsRead, CountsHalftone, words_of_cells};
+ghost use Rattle.jbig2_halftone.specs.Steps.{CountsRead, CountsHalftone, StopsHalftone, after_mask, words_of_cells};
 ghost use Rattle.jbig2_halftone.specs.inner.CellPlaces.{x_of, y_of};
-ghost use Rattle.jbig2_halftone.specs.inner.Stages.{planes_contexts, skip_grid, after_mask, after_lane_rows};
+ghost use Rattle.jbig2_halftone.specs.inner.Stages.{planes_contexts, skip_grid, after_lane_rows, StopsCells, StopsRows};
 ghost use Rattle.jbig2_base.specs.Causes.{HaveCauses};
 ghost use Rattle.jbig2_halftone.specs.Causes.{BreaksHalftone};
 
@@ -54,6 +54,7 @@ fn skip_bitmap<D: Allocator, A: Allocator, L: Ledger>(
       words = steps.old.words
           + header.now.grid_position_and_size.height * header.now.grid_position_and_size.width;
     }) }
+    ensures stopped { OnErr result (steps.new ≡ steps.old) }
 {
     let grid = &header.grid_position_and_size;
     let mut skip = Bitmap::new(alloc, grid.width, grid.height)?;
@@ -195,6 +196,8 @@ fn draw_rows<D: Allocator, P: Allocator, A: Allocator, L: Ledger>(
         (words_of_cells (header_view header.now) (dictionary_view dictionary.now) 0
         (grid.height * grid.width))
         (after_lane_rows (grid.height * length planes.now) grid.width steps.old) steps.new) }
+    ensures stopped { OnErr result (StopsRows (header_view header.now)
+        (dictionary_view dictionary.now) (length planes.now) steps.old steps.new) }
 {
     let x_vector = header.grid_vector.x_vector;
     let y_vector = header.grid_vector.y_vector;
@@ -223,6 +226,7 @@ fn skip_mask<D: Allocator, A: Allocator, L: Ledger>(
         (Ok (skip_mask (header_view header.now) (dictionary_view dictionary.now))) }
     ensures steps { OnOk result (steps.new ≡
         after_mask (header_view header.now) (dictionary_view dictionary.now) steps.old) }
+    ensures stopped { OnErr result (steps.new ≡ steps.old) }
 {
     if header.flags.enable_skip && !header.flags.mmr {
         return Ok(Some(skip_bitmap(alloc, header, dictionary, steps)?));
@@ -249,8 +253,11 @@ fn read_cells<D: Allocator, A: Allocator + Clone, B: Allocator, L: Ledger>(
     ensures few { OnOk result (code_length (length dictionary.now.patterns.items) ≤ 32) }
     ensures steps { OnOk result (CountsRead
         (gray_params (header_view header.now) (dictionary_view dictionary.now)) header.now.bytes.now
+        (code_length (length dictionary.now.patterns.items))
         (after_mask (header_view header.now) (dictionary_view dictionary.now) steps.old)
         steps.new) }
+    ensures stopped { OnErr result
+        (StopsCells (header_view header.now) (dictionary_view dictionary.now) steps.old steps.new) }
 {
     let skip = skip_mask(alloc.clone()?, header, dictionary, steps)?;
     let grid = &header.grid_position_and_size;
@@ -279,7 +286,8 @@ fn value_row<A: Allocator>(alloc: A, width: u32) -> Result<Vec<u32, A>>
 /// Decodes a halftone region (T.88, 6.6) into a bitmap of its size that is all in its initial
 /// colour. The contexts begin fresh, whatever `contexts` held, and are left there as the gray-scale
 /// image leaves them, also where a value is refused; MMR data does not touch them. Any error but
-/// `RegionError::GrayScaleOutOfRange` leaves the bitmap as it was.
+/// `RegionError::GrayScaleOutOfRange` leaves the bitmap as it was. A refusal takes no more steps than a region
+/// that is drawn whole.
 ///
 /// `RegionError::InvalidMmrData` in strict mode where MMR data has a fault or lacks a row;
 /// `RegionError::GrayScaleOutOfRange` in strict mode for a value that no pattern has, also where the
@@ -306,6 +314,8 @@ pub fn decode_into<D: Allocator, M: Allocator, A: Allocator + Clone, B: Allocato
         contexts.old.items) }
     ensures lenient { header.now.strict ≡ false → IfErr result (λ e. e ≡ DecodeError.OutOfMemory) }
     ensures steps { OnOk result (CountsHalftone (header_view header.now)
+        (dictionary_view dictionary.now) steps.old steps.new) }
+    ensures stopped { OnErr result (StopsHalftone (header_view header.now)
         (dictionary_view dictionary.now) steps.old steps.new) }
 {
     let mut values = value_row(alloc.clone()?, header.grid_position_and_size.width)?;
@@ -337,6 +347,8 @@ pub fn decode<D: Allocator, A: Allocator + Clone, B: Allocator, L: Ledger>(
         (decoded_contexts (header_view header.now) (dictionary_view dictionary.now)
         contexts.old.items) }
     ensures steps { OnOk result (CountsHalftone (header_view header.now)
+        (dictionary_view dictionary.now) steps.old steps.new) }
+    ensures stopped { OnErr result (StopsHalftone (header_view header.now)
         (dictionary_view dictionary.now) steps.old steps.new) }
     ensures causes { (h : HalftoneHeader) → HaveCauses (halftone_decoded h) (BreaksHalftone h) }
 {

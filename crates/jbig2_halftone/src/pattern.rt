@@ -1,15 +1,18 @@
 //! Pattern dictionaries (T.88, 6.7 and 7.4.4).
-ghost use Rattle.std.specs.Prelude.{◌≡◌, ◌+◌, ◌*◌, ◌≤◌, [], ◌∷◌, length, IfOk, OnErr, Ok, Bool};
+ghost use Rattle.std.specs.Prelude.{◌≡◌, ◌+◌, ◌*◌, ◌/◌, ◌≤◌, [], ◌∷◌, length, IfOk, OnErr, OnOk, Ok, Bool};
 ghost use Rattle.jbig2_base.specs.Answer.{Answers, Gives, Leaves};
 ghost use Rattle.jbig2_base.specs.Bits.{IsAligned};
+ghost use Rattle.jbig2_base.specs.Counts.{words_copied};
 ghost use Rattle.jbig2_region.specs.Generic.{generic_answer, contexts_after};
+ghost use Rattle.jbig2_region.specs.inner.Layouts.{CountsGeneric};
 ghost use Rattle.jbig2_region.specs.Templates.{left, right};
 ghost use Rattle.jbig2_region.specs.declared.template.GenericTemplatePixels.TheVariants.{Regular};
 ghost use Rattle.jbig2_halftone.specs.PatternHeader.{side_at, pattern_header_at};
 ghost use Rattle.jbig2_halftone.specs.Patterns.{collective_width, collective_header, patterns_of, patterns_decoded, dictionary_contexts};
 ghost use Rattle.jbig2_halftone.specs.inner.DictionaryViews.{dictionary_view};
 ghost use Rattle.jbig2_halftone.specs.inner.PatternViews.{header_view};
-ghost use Rattle.jbig2_halftone.specs.inner.Stages.{pattern_of};
+ghost use Rattle.jbig2_halftone.specs.inner.Stages.{pattern_of, StopsCut};
+ghost use Rattle.jbig2_halftone.specs.Steps.{CountsDictionary};
 ghost use Rattle.jbig2_base.specs.Causes.{HaveCauses};
 ghost use Rattle.jbig2_halftone.specs.Causes.{BreaksPatternHeader, BreaksPatterns};
 
@@ -65,7 +68,7 @@ fn side_field(reader: &mut Reader<'_>) -> Result<u8>
     Ok(side)
 }
 
-/// The header of a pattern dictionary at the reader's place, which holds the coded bytes behind it
+/// The header of a pattern dictionary at the reader's place, which holds the coded bytes after it
 /// (T.88, 7.4.4).
 ///
 /// `ParseError::UnexpectedEof` where the bytes do not hold it, or where a pattern has no pixels. An
@@ -126,7 +129,11 @@ fn cut_pattern<A: Allocator, L: Ledger>(
     requires columns { width ≤ 65535 }
     requires rows { height ≤ 65535 }
     requires place { k * width ≤ 65535 }
-    ensures { Gives (λ pattern. pattern) result (Ok (pattern_of collective.now width height k)) }
+    ensures value { Gives (λ pattern. pattern) result
+        (Ok (pattern_of collective.now width height k)) }
+    ensures steps { OnOk result
+        (steps.new ≡ words_copied ((width + 63) / 64 * height) steps.old) }
+    ensures stopped { OnErr result (steps.new ≡ steps.old) }
 {
     let area = Area {
         left: k * width,
@@ -149,8 +156,12 @@ fn cut_patterns<A: Allocator + Clone, L: Ledger>(
     requires columns { width ≤ 65535 }
     requires rows { height ≤ 65535 }
     requires all { count * width ≤ 65535 }
-    ensures { Gives (λ patterns. patterns.items) result
+    ensures value { Gives (λ patterns. patterns.items) result
         (Ok (patterns_of collective.now width height count)) }
+    ensures steps { OnOk result
+        (steps.new ≡ words_copied (count * ((width + 63) / 64 * height)) steps.old) }
+    ensures stopped { OnErr result
+        (StopsCut count ((width + 63) / 64 * height) steps.old steps.new) }
 {
     let mut patterns = Vec::new(alloc.clone()?);
     for k in 0..count {
@@ -174,6 +185,8 @@ fn decode_collective<A: Allocator, B: Allocator, L: Ledger>(
         (generic_answer (collective_header (header_view header.now))) }
     ensures contexts { Leaves result contexts.new.items
         (contexts_after (collective_header (header_view header.now)) contexts.old.items) }
+    ensures steps { OnOk result
+        (CountsGeneric (collective_header (header_view header.now)) steps.old steps.new) }
 {
     let region_info = RegionSegmentInfo {
         width,
@@ -198,7 +211,7 @@ fn decode_collective<A: Allocator, B: Allocator, L: Ledger>(
 
 /// Decodes a pattern dictionary (T.88, 6.7). The contexts begin fresh, whatever `contexts` held,
 /// and are left there as the collective bitmap leaves them; MMR data and one that is too wide do
-/// not touch them.
+/// not touch them. Each word of a pattern is loaded once and written once.
 ///
 /// `OverflowError::BitmapDimension` where the patterns side by side have more than 65535 columns;
 /// in strict mode `RegionError::InvalidMmrData` where MMR data has a fault or lacks a row;
@@ -215,6 +228,8 @@ pub fn decode<A: Allocator + Clone, B: Allocator, L: Ledger>(
         (patterns_decoded (header_view header.now)) }
     ensures contexts { Leaves result contexts.new.items
         (dictionary_contexts (header_view header.now) contexts.old.items) }
+    ensures steps { OnOk result
+        (CountsDictionary (header_view header.now) steps.old steps.new) }
     ensures causes { HaveCauses patterns_decoded BreaksPatterns }
 {
     let width = u32::from(header.pattern_width);

@@ -1,4 +1,4 @@
--- Law: no definition of MMR answers an error that bytes cannot bring about.
+-- Law: no definition of MMR returns an error that bytes cannot bring about.
 use Rattle.std.proofs.Common.{ℕ, Bool, List}
 use Rattle.jbig2_base.proofs.Answered.{Answered, answered-if}
 use Rattle.jbig2_mmr.specs.T6.{mmr_rows}

@@ -75,7 +75,7 @@ window-bits zs k n bits whole few short =
     ap (λ (v : ℕ). v * 2 ^ k % 2 ^ 32 / 2 ^ 8 / 2 ^ (24 - n)) outer
     ∙ window-split (number_after 0 xs) (number_after 0 ys) (number_after 0 rs) k n m (omega arith) few short inside (number-lt rs (bits-drop n rest (bits-drop k zs bits)))
 
--- four bytes, zeros behind the end
+-- four bytes, zeros after the end
 abbrev four : List ℕ → List ℕ
 four ps = get_or ps 0 0 ∷ get_or ps 1 0 ∷ get_or ps 2 0 ∷ get_or ps 3 0 ∷ []
 
@@ -91,7 +91,7 @@ four-bits (a ∷ b ∷ []) k n few short inside = front-same (flat_map byte_bits
 four-bits (a ∷ b ∷ c ∷ []) k n few short inside = front-same (flat_map byte_bits (a ∷ b ∷ c ∷ [])) (flat_map byte_bits (0 ∷ [])) k n inside
 four-bits (a ∷ b ∷ c ∷ d ∷ ps) k n few short inside = sym (front-same (flat_map byte_bits (a ∷ b ∷ c ∷ d ∷ [])) (flat_map byte_bits ps) k n (omega arith))
 
--- bits with zeros behind them, as far as the zeros reach
+-- bits with zeros after them, as far as the zeros reach
 zeros-same : (n : ℕ) (xs : List ℕ) (p q : ℕ) → n ≤ length xs + p → n ≤ length xs + q → take n (xs ++ replicate p 0) ≡ take n (xs ++ replicate q 0)
 zeros-same n [] p q short enough = take-replicate n p 0 (omega arith) ∙ sym (take-replicate n q 0 (omega arith))
 zeros-same zero (x ∷ xs) p q short enough = refl

@@ -85,7 +85,7 @@ bits-are row black x pixels left changes k read others is inside first =
         others (63 - k) (omega (arith, o)) ∙ ap (λ (i : ℕ). bit pixels i) at ∙ read (k - 1) (omega arith) ∙ ap row place ∙ sym (left-here row (x + k) (omega (arith, o))))
         (cases_eq k 0)
 
--- a whole word, behind another one
+-- a whole word, after another one
 pub changes-are : (row : ℕ → Bool) (black : Bool) (from x pixels before left changes : ℕ) → from ≤ x → changes < 2 ^ 64 → ((k : ℕ) → k < 64 → bit pixels (64 - 1 - k) ≡ row (x + k)) → bit before 0 ≡ left_of row x → bit left 63 ≡ bit before 0 → ((k : ℕ) → k < 63 → bit left k ≡ bit pixels (k + 1)) → ((k : ℕ) → bit changes k ≡ (differ (bit pixels k) (bit left k) && differ (bit pixels k) black)) → IsChanges row black from x changes
 changes-are row black from x pixels before left changes begun small read known first others is = record {
   small = small;
@@ -160,6 +160,26 @@ changes-found row black from x changes to is some order so_far =
     least ∙ sym (place-is (is_change_from row black) from to to order order (omega arith) (λ i a b. before i a (omega arith)) (λ h. absurd (omega arith))))
     (cases_lt (x + k) to)
 
+-- a row that is white from its end on has no change after it
+none-outside : (row : ℕ → Bool) (black : Bool) (i to : ℕ) → ((j : ℕ) → to ≤ j → row j ≡ false) → to < i → is_change_from row black i ≡ false
+unfolding is_change_from is_change
+none-outside row black i to white past =
+    ap (λ (p : Bool). differ p (left_of row i) && differ p black) (white i (omega arith))
+    ∙ ap (λ (l : Bool). differ false l && differ false black) (left-here row i (omega arith) ∙ white (i - 1) (omega arith))
+
+pub changes-within : (row : ℕ → Bool) (black : Bool) (from x changes to : ℕ) → IsChanges row black from x changes → (changes ≡ 0 → ⊥) → from ≤ to → ((i : ℕ) → from ≤ i → i < x → is_change_from row black i ≡ false) → ((i : ℕ) → to ≤ i → row i ≡ false) → x + count_leading_zeros 64 changes ≡ place_from (is_change_from row black) from to
+changes-within row black from x changes to is some order so_far white =
+    let k : ℕ = count_leading_zeros 64 changes in
+    let found = changes-found row black from x changes to is some order so_far in
+    ⊎_elim
+    (λ (past : to < x + k).
+    let lead = leading-is changes 64 (omega arith) is.small in
+    let few : k < 64 = leading-within changes is.small some in
+    let here : bit changes (63 - k) ≡ true = let at : 63 - k ≡ 64 - 1 - (k - (64 - 64)) = omega arith in ap (λ (i : ℕ). bit changes i) at ∙ lead.found (omega arith) in
+    absurd (true≢false (sym here ∙ is.value k few (omega arith) ∙ none-outside row black (x + k) to white past)))
+    (λ (inside : x + k ≤ to). omega (arith, found))
+    (cases_lt to (x + k))
+
 pub changes-past : (row : ℕ → Bool) (black : Bool) (from x to : ℕ) → to ≤ x → ((i : ℕ) → from ≤ i → i < x → is_change_from row black i ≡ false) → to ≡ place_from (is_change_from row black) from to
 changes-past row black from x to past so_far =
     ⊎_elim
@@ -197,7 +217,7 @@ place-from (suc n) p from to e =
 place-of : (p : ℕ → Bool) (from to : ℕ) → from ≤ to → IsPlace p from to (place_from p from to)
 place-of p from to order = place-from (to - from) p from to (omega arith)
 
--- a search that goes on behind this word
+-- a search that goes on after this word
 pub changes-later : (row : ℕ → Bool) (black : Bool) (from x to : ℕ) → from ≤ x → ((i : ℕ) → from ≤ i → i < x → is_change_from row black i ≡ false) → place_from (is_change_from row black) x to ≡ place_from (is_change_from row black) from to
 changes-later row black from x to order so_far =
     ⊎_elim

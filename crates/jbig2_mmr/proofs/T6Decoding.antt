@@ -16,7 +16,7 @@ use Rattle.jbig2_mmr.specs.inner.T6Calls.{ReadRow}
 use Rattle.jbig2_base.proofs.NumberLemmas.{length-bits}
 use Rattle.jbig2_mmr.proofs.T6Rows.{change-none}
 
--- the rows behind one that may be a fault
+-- the rows after one that may be a fault
 abbrev pub or_fault : List (List ℕ) → Option (List ℕ × List ℕ) → (List ℕ × List ℕ → Rows) → Rows
 or_fault done o f =
     elim o [
@@ -170,7 +170,7 @@ rows-next w h y bits left new next meant reading inside e read =
 pub drawn-rows : (w h : ℕ) (bytes : List ℕ) (done : List (List ℕ)) (whole : Bool) (left : List ℕ) (new : Grid) → rows_of w h bytes ≡ record { rows = done; whole = whole; left = left } → new ≡ grid_of_rows w h done → new ≡ grid_of_rows w h (rows_of w h bytes).rows
 drawn-rows w h bytes done whole left new e drawn = drawn ∙ ap (λ (r : Rows). grid_of_rows w h r.rows) (sym e)
 
--- ---- answers
+-- ---- returns
 answer_of : Bool → ℕ → ℕ → List ℕ → Rows → Result Decoded DecodeError
 answer_of strict w h bytes r = cond (strict && not r.whole) (Err (Region InvalidMmrData)) (Ok (record { grid = grid_of_rows w h r.rows; used = length bytes - length r.left / 8 }))
 

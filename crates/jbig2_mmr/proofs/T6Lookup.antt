@@ -41,7 +41,7 @@ spell-word (b ∷ xs) behind f are =
     low : (f b : ℕ) → b < 2 → (2 * f + b) % 2 ≡ b
     low f b h = omega arith
 
--- ---- the code that begins bits, and bits behind it or in front of its end
+-- ---- the code that begins bits, and bits after it or in front of its end
 size_of : {A : Type 0} → Option (A × ℕ) → ℕ
 size_of None = 0
 size_of (Some r) = r.1
@@ -84,7 +84,7 @@ read-none (c ∷ cs) bits e =
     ∙ read-none cs bits (sym (cond-false (begins c.1 bits) (Some (c.0, length c.1)) (code_at cs bits) no) ∙ e))
     (cases_Bool (begins c.1 bits))
 
--- a word of at most so many bits
+-- a word of at most this many bits
 abbrev pub are_short : {A : Type 0} → ℕ → List (A × List ℕ) → Bool
 are_short n [] = true
 are_short n (c ∷ cs) = leb (length c.1) n && ltb 0 (length c.1) && are_short n cs
@@ -107,7 +107,7 @@ too-long : (word bits : List ℕ) → length bits < length word → begins word 
 too-long word bits long =
     ⊎_elim (λ (yes : begins word bits ≡ true). absurd (let fits = begins-size word bits yes in omega arith)) (λ (is : begins word bits ≡ false). is) (cases_Bool (begins word bits))
 
--- bits behind the longest code change nothing
+-- bits after the longest code change nothing
 pub at-front : {A : Type 0} (cs : List (A × List ℕ)) (bits more : List ℕ) → are_short (length bits) cs ≡ true → code_at cs (bits ++ more) ≡ code_at cs bits
 unfolding code_at
 at-front [] bits more short = refl
@@ -149,7 +149,7 @@ both-begin (b ∷ v) (c ∷ w) (d ∷ bits) e f =
 abbrev apart_from : {A : Type 0} → List ℕ → List (A × List ℕ) → Bool
 apart_from word cs = list_all (λ c. not (begins word c.1) && not (begins c.1 word)) cs
 
--- a code that ends behind the bits: no other code begins them
+-- a code that ends after the bits: no other code begins them
 none-other : {A : Type 0} (cs : List (A × List ℕ)) (word bits more : List ℕ) → apart_from word cs ≡ true → begins word (bits ++ more) ≡ true → code_at cs bits ≡ None
 unfolding code_at
 none-other [] word bits more apart e = refl
@@ -270,7 +270,7 @@ some-of cs bits e (Some r) short is value some =
 pub entry-some : (cs : List (ℕ × List ℕ)) (bits : List ℕ) (e : ℕ) → are_short 13 cs ≡ true → e ≡ entry_of (code_at cs bits) → (e % 16 ≡ 0 → ⊥) → code_at cs bits ≡ Some (e / 16, e % 16)
 entry-some cs bits e short value some = some-of cs bits e (code_at cs bits) short refl value some
 
--- ---- a table over the next n bits, zeros behind the end
+-- ---- a table over the next n bits, zeros after the end
 -- the first n bits, with zeros
 front-word : (n : ℕ) (bits : List ℕ) → n ≤ 24 → padded bits ≡ take n (padded bits) ++ drop n (padded bits)
 front-word n bits few = sym (take-append-drop n (padded bits))
@@ -288,7 +288,7 @@ unfolding AreBits
 both-bits [] ys p q = q
 both-bits (x ∷ xs) ys p q = (p.0, both-bits xs ys p.1 q)
 
--- the code that begins the bits with zeros behind them, by the number of the first n
+-- the code that begins the bits with zeros after them, by the number of the first n
 at-number : {A : Type 0} (cs : List (A × List ℕ)) (n number : ℕ) (bits : List ℕ) → n ≤ 24 → are_short n cs ≡ true → AreBits bits → number ≡ number_after 0 (take n (padded bits)) → code_at cs (padded bits) ≡ code_at cs (spell n number [])
 at-number cs n number bits few short are e =
     let front : List ℕ = take n (padded bits) in

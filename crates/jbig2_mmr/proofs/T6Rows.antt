@@ -73,7 +73,7 @@ differ-turned true b false e f = absurd (true≢false e)
 differ-turned false b true e f = absurd (true≢false (sym e))
 differ-turned false b false e f = f
 
--- b2: the first pixel of the colour behind b1
+-- b2: the first pixel of the colour after b1
 pub b2-is : (row : ℕ → Bool) (black : Bool) (b1 to place : ℕ) → b1 ≤ to → (b1 < to → row b1 ≡ not black) → IsFirst row black b1 to place → place_from (is_change row) (b1 + 1) to ≡ place
 unfolding is_change
 b2-is row black b1 to place order other first =

@@ -38,7 +38,7 @@ BreaksRow (suc most) w above h bits =
     × (BreaksMode w above h bits
     ⊎ ((s : Step) × (next_step w above h bits ≡ Some s) × BreaksRow most w above s.head s.left))
 
--- Of n rows the next one is missing, the end of block standing in its place, or at fault; or one behind it is.
+-- Of n rows the next one is missing, the end of block standing in its place, or at fault; or one after it is.
 abbrev pub BreaksRows : ℕ → ℕ → List ℕ → List ℕ → Type 0
 BreaksRows zero w above bits = ⊥
 BreaksRows (suc n) w above bits =

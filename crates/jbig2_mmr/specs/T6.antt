@@ -17,7 +17,7 @@ begins [] bits = true
 begins (b ∷ word) [] = false
 begins (b ∷ word) (c ∷ bits) = b == c && begins word bits
 
--- what the code that begins the bits stands for, and the bits behind it
+-- what the code that begins the bits stands for, and the bits after it
 unfoldable pub read_code : {A : Type 0} → List (A × List ℕ) → List ℕ → Option (A × List ℕ)
 read_code [] bits = None
 read_code (c ∷ cs) bits = if begins c.1 bits then Some (c.0, drop (length c.1) bits) else read_code cs bits
@@ -57,7 +57,7 @@ pub record Head : Type 0 where
   pub begun : Bool
   pub black : Bool
 
--- what a mode does: where it leaves the row, the changing elements that it adds, and the bits behind it
+-- what a mode does: where it leaves the row, the changing elements that it adds, and the bits after it
 pub record Step : Type 0 where
   pub head : Head
   pub added : List ℕ
@@ -104,7 +104,7 @@ next_step w above h bits = do
   after_mode w above h mode.0 mode.1
 
 -- ---- rows (2.2.3)
--- the changing elements of a row, and the bits behind it, mode by mode; each mode takes a bit at least
+-- the changing elements of a row, and the bits after it, mode by mode; each mode takes a bit at least
 unfoldable pub row_from : ℕ → ℕ → (ℕ → Bool) → Head → List ℕ → List ℕ → Option (List ℕ × List ℕ)
 row_from zero w above h changes bits = if nat_le w h.a0 then Some (changes, bits) else None
 row_from (suc most) w above h changes bits =
@@ -127,13 +127,13 @@ pixel_of w changes x = nat_lt x w && black_at changes x
 unfoldable pub ends_block : List ℕ → Bool  -- the end of block (EOFB; T.88, 6.2.6): 000000000001 twice
 ends_block bits = nat_le 24 (length bits) && (number_after 0 (take 24 bits) == 0x001001)
 
--- ---- all rows: the whole ones, whether they are all, and the bits behind them: none at a fault
+-- ---- all rows: the whole ones, whether they are all, and the bits after them: none at a fault
 pub record Rows : Type 0 where
   pub rows : List (List ℕ)
   pub whole : Bool
   pub left : List ℕ
 
--- So many rows more: the end of block ends them early, and a fault too. Above row 0 all is white.
+-- This many rows more: the end of block ends them early, and a fault too. Above row 0 all is white.
 unfoldable pub rows_from : ℕ → ℕ → List ℕ → List (List ℕ) → List ℕ → Rows
 rows_from zero w above done bits = record { rows = done; whole = true; left = (if ends_block bits then drop 24 bits else bits) }
 rows_from (suc n) w above done bits =

@@ -21,7 +21,7 @@ use jbig2_base::error::{DecodeError, RegionError, Result};
 use std::alloc::Allocator;
 use std::sync::ledger::Ledger;
 
-/// Decodes rows onto a white bitmap, and answers how many of `bytes` they take, a begun one whole.
+/// Decodes rows onto a white bitmap, and returns how many of `bytes` they take, a begun one whole.
 ///
 /// A fault in the data, or an end of block before the last row, is refused in strict mode
 /// (`RegionError::InvalidMmrData`); otherwise a fault takes all bytes. In both modes the whole rows

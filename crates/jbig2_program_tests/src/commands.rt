@@ -37,7 +37,7 @@ type Words = &'static [&'static str];
 /// The status of a run, what it writes, and what standard error is told.
 type End<'e> = (u8, &'e [u8], &'e [u8]);
 
-/// Whether a run ends so. Answers `DecodeError::OutOfMemory` where it says that memory was refused.
+/// Whether a run ends so. Returns `DecodeError::OutOfMemory` where it says that memory was refused.
 fn run_ends<R: Read>(
     alloc: Global,
     words: &[&str],
@@ -235,7 +235,7 @@ fn what_is_not_there_is_unreadable(rt: HostRuntime) {
     }
 }
 
-/// Whether a run with such an output ends with this status and tells this. Answers `DecodeError::OutOfMemory` where
+/// Whether a run with such an output ends with this status and tells this. Returns `DecodeError::OutOfMemory` where
 /// it says that memory was refused.
 fn writes_so(
     alloc: Global,

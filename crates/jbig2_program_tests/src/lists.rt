@@ -31,7 +31,7 @@ const FIRST: [(u16, bool); 15] = [
     (10, true),
 ];
 
-/// Whether a run ends with this status, and writes and tells these bytes. Answers `DecodeError::OutOfMemory` where it
+/// Whether a run ends with this status, and writes and tells these bytes. Returns `DecodeError::OutOfMemory` where it
 /// says that memory was refused.
 fn run_ends(alloc: Global, words: &[&str], expected: (u8, &[u8], &[u8])) -> Result<bool> {
     let mut out = Vec::with_capacity(alloc, 64)?;

@@ -11,7 +11,7 @@ const WHITE_IMAGE: [u8; 8] = [255; 8];
 /// What a buffer holds before.
 const BEFORE: [u8; 8] = [7; 8];
 
-/// Draws the first page of 8 by 1. Answers whether it is of that size.
+/// Draws the first page of 8 by 1. Returns whether it is of that size.
 fn drawn(
     alloc: Global,
     reader: Slow<'_>,
@@ -25,7 +25,7 @@ fn drawn(
     Ok(true)
 }
 
-/// Whether a reader of this patience is answered by its own fault, or by the page. The file has 54 bytes, so that
+/// Whether a reader of this patience gets its own fault, or the page. The file has 54 bytes, so that
 /// the end is read at the 110th read.
 fn slow_reader_holds(
     alloc: Global,
@@ -43,7 +43,7 @@ fn slow_reader_holds(
     }
 }
 
-/// The first patience at which a reader is answered wrongly, if there is one.
+/// The first patience at which a reader gets the wrong answer, if there is one.
 fn first_wrong_patience(alloc: Global) -> Result<Option<usize>> {
     let bytes = bytes_of(alloc, FILE)?;
     for patience in 0..112 {

@@ -2,7 +2,7 @@
 use std::io;
 use std::io::{ErrorKind, Read, Write};
 
-/// Gives the bytes one by one, each behind an interruption, and fails where it is read more often than
+/// Gives the bytes one by one, each after an interruption, and fails where it is read more often than
 /// its patience lasts.
 #[derive(Drop)]
 pub struct Slow<'a> {

@@ -1,4 +1,4 @@
--- Law: no definition of regions answers an error that bytes cannot bring about.
+-- Law: no definition of regions returns an error that bytes cannot bring about.
 use Rattle.std.proofs.Common.{ℕ, zero, suc, Bool, true, false, List}
 use Rattle.jbig2_base.proofs.Answered.{Answered, answered-if, answered-next, answered-number, answered-operator, answered-refusal, answered-signed}
 use Rattle.jbig2_mmr.proofs.Answered.{answered-mmr}

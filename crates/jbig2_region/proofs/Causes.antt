@@ -27,7 +27,7 @@ pub record At (k : ℕ) (bytes rest : List ℕ) : Type 0 where
 pub at-start : (bytes : List ℕ) → At 0 bytes bytes
 at-start bytes = record { same = refl; size = omega arith }
 
--- behind a number that is there, and its value
+-- after a number that is there, and its value
 pub at-next : (w : Width) (k : ℕ) (bytes rest : List ℕ) (x : ℕ × List ℕ) → At k bytes rest → number_at w rest ≡ Ok x → At (k + byte_len w) bytes x.1
 at-next w k bytes rest x at is =
     let there = number-there w rest x is in
@@ -79,7 +79,7 @@ pub info_causes : HaveCauses region_info_at BreaksRegionInfo
 unfolding HaveCauses
 info_causes bytes = info-cause (BreaksRegionInfo bytes) bytes (λ why. why) (λ why. why) (λ why. why)
 
--- the sides that it gives, and the bytes behind it
+-- the sides that it gives, and the bytes after it
 pub info-there : (bytes : List ℕ) (i : RegionSegmentInfo × List ℕ) → region_info_at bytes ≡ Ok i → At 17 bytes i.1 × (number_in w32 0 bytes ≡ i.0.width) × (number_in w32 4 bytes ≡ i.0.height)
 unfolding region_info_at
 info-there bytes i is =

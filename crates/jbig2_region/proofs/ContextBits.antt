@@ -78,6 +78,6 @@ lt-few n few less within =
 pub lt-sum : (n a b : ℕ) → n < 2 ^ a → a ≡ b → n < 2 ^ b
 lt-sum n a b less same = rw (sym same) less
 
--- the context of a part of so many pixels
+-- the context of a part of this many pixels
 pub context-lt_few : (pixels : List AdaptiveTemplatePixel) (g : Grid) (x y count : ℕ) → length pixels ≡ count → context_at pixels g x y < 2 ^ count
 context-lt_few pixels g x y count all = subst (λ (n : ℕ). context_at pixels g x y < 2 ^ n) all (context-lt pixels g x y)

@@ -70,7 +70,7 @@ context-gathered n r b near =
     rw (low-bits (r / 2 ^ 23) n.above.count (omega (arith, near.above_count)), low-bits (r / 2 ^ 47) n.top.count (omega (arith, near.top_count)), one, both-places n near, side, register-gathered n r near) (omega arith)
 
 -- ---- a pixel that comes in at the low end
-even : (r s p : ℕ) → s < 2 → 1 ≤ p → (r * 2 + s) % (2 * p) ≡ r % p * 2 + s
+pub even : (r s p : ℕ) → s < 2 → 1 ≤ p → (r * 2 + s) % (2 * p) ≡ r % p * 2 + s
 even r s p small some =
     let rest : r % p < p = mod_below r p some in
     let whole : r * 2 + s ≡ r / p * (2 * p) + (r % p * 2 + s) = omega (arith, div-add-mod r p) in

@@ -67,7 +67,7 @@ both-stay n c left v w h x y r grid d s near len within above first second befor
     (sym (stays-is n 32 c left v.first w h x y 44 r.pixels near (omega arith) (omega arith) len (omega arith) above here start) ∙ one)
     (sym (stays-is n 32 c (full 4 c) v.second w h (x + 32) y 44 (r.pixels ++ replicate 32 c) near (omega arith) (omega arith) (run-length r.pixels c 32 y w x len) (omega arith) above there later) ∙ second-stays n c left v.second near two)
 
--- the kernel's test of so many bytes: one, four or eight
+-- the kernel's test of this many bytes: one, four or eight
 pub group-stays : (n : Neighbours) (c : Bool) (left most staying : ℕ) (v : WideWindows) (w h x y : ℕ) (r : Region) (grid : Grid) (d : Coder) (s : List Context) → IsNear n → 1 ≤ staying → staying ≤ most → length r.pixels ≡ y * w + x → x + 8 * most < w → y < h
     → ShowsRun grid x y most v → IsLeft grid x y left → Holds w h d.bytes r grid d s → neighbours_stay n (8 * min staying 4) c left v.first ≡ true → (5 ≤ staying → (staying ≡ 8) × (neighbours_stay n 32 c left v.second ≡ true)) → stays (nominal_pixels n) w h c (8 * staying) r.pixels ≡ true
 group-stays n c left most staying v w h x y r grid d s near some within len columns above shows before holds one two =

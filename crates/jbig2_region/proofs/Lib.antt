@@ -17,6 +17,7 @@ pub mod PlaceLemmas
 pub mod PushLemmas
 pub mod RasterLemmas
 pub mod RefinementKernelLemmas
+pub mod RefinementKnownLemmas
 pub mod RefinementLaneLemmas
 pub mod RefinementLemmas
 pub mod RefinementPushLemmas

@@ -41,7 +41,7 @@ cause-free P k bytes rest at why =
     let next = signed-there w8 k bytes rest x at x_is in
     cause-next P (signed_at w8 x.1) _ (cause-signed P w8 x.1 (λ short. why (omega (arith, next.0.size)))) (λ y y_is. tt))
 
--- where it lies, and the bytes behind it
+-- where it lies, and the bytes after it
 record Pixel (k : ℕ) (bytes : List ℕ) (pixel : AdaptiveTemplatePixel × List ℕ) : Type 0 where
   at : At (k + 2) bytes pixel.1
   columns : cast_signed w8 (number_in w8 k bytes) ≡ pixel.0.x
@@ -94,7 +94,7 @@ pixel-there k bytes rest pixel at is =
     let A : List ℕ → Type 0 = λ l. At (k + 2) bytes l in
     subst A (ap (λ (p : AdaptiveTemplatePixel × List ℕ). p.1) (same-ok free.0 pixel earlier.2)) (free-there k bytes rest free.0 at free.1).at
 
--- ---- so many pixels
+-- ---- this many pixels
 pub cause-pixels : (P : DecodeError → Type 0) (count k : ℕ) (bytes rest : List ℕ) → At k bytes rest → (length bytes < k + 2 * count → P end_of_bytes) → ((i : ℕ) → i < count → k + 2 * i + 2 ≤ length bytes → IsLateIn (k + 2 * i) bytes → P (errors.Template InvalidAtPixel)) → IfErr (adaptive_pixels_at count rest) P
 cause-pixels P zero k bytes rest at at_end at_late = tt
 cause-pixels P (suc count) k bytes rest at at_end at_late =

@@ -107,7 +107,7 @@ stored-bit g x y m b k new wide above =
 pub left-stored : (g : Grid) (x y m b : ℕ) → 4 ≤ m → x + m ≤ g.width → y < g.height → IsLeft (with_pixels g x y m b) (x + m) y (b % 16)
 left-stored g x y m b some wide above = left-few (with_pixels g x y m b) (x + m) y b (λ k inside. stored-bit g x y m b k (omega arith) wide above)
 
--- m pixels more, behind those that were at the left
+-- m pixels more, after those that were at the left
 left-after : (g : Grid) (x y m left b : ℕ) → b < 2 ^ m → x + m ≤ g.width → y < g.height → IsLeft g x y left → IsLeft (with_pixels g x y m b) (x + m) y (left * 2 ^ m + b)
 left-after g x y m left b small wide above before = λ k inside.
     let order : left * 2 ^ m + b ≡ b + left * 2 ^ m = omega arith in
@@ -122,7 +122,7 @@ left-after g x y m left b small wide above before = λ k inside.
     ∙ ap (λ (X : ℤ). pixel (with_pixels g x y m b) X (pos y)) (sym column))
     (cases_lt k m)
 
--- after so many bytes of a row
+-- after this many bytes of a row
 left-bytes : (g : Grid) (y done b : ℕ) → b < 2 ^ (8 * done) → 8 * done ≤ g.width → y < g.height → IsLeft (with_pixels g 0 y (8 * done) b) (8 * done) y b
 left-bytes g y done b small wide above =
     let column : 0 + 8 * done ≡ 8 * done = omega arith in

@@ -199,7 +199,7 @@ digit-white true n e other = absurd (other e)
 digit-white false n e other = refl
 
 -- ---- the loops
--- steps of so many pixels, and what they make of a bitmap of another size's name
+-- steps of this many pixels, and what they make of a bitmap of another size's name
 abbrev PixelSteps : Coding → ℕ → ℕ → Bool → Grid → Coder → List Context → Grid → Coder → List Context → ℕ → ℕ → List ℕ → Type 0
 PixelSteps coding n y p grid coder states grid' coder' states' w h input =
     (r : Region) → length r.pixels ≡ y * w → r.predicted ≡ p → Holds w h input r grid coder states → Holds w h input (after_pixels coding w h input n r) grid' coder' states'

@@ -10,7 +10,7 @@ use Rattle.jbig2_region.proofs.RegisterLemmas.{bit-low, bit-placed}
 
 -- ---- the lanes as they are made
 -- the fifteen highest bits of a window that moved on
-lane-made : (word k b : ℕ) → k < 32 → b < 15 → bit (word * 2 ^ k % 2 ^ 64 / 2 ^ 49) (14 - b) ≡ bit word (63 - k - b)
+lane-made : (word k b : ℕ) → k ≤ 32 → b < 15 → bit (word * 2 ^ k % 2 ^ 64 / 2 ^ 49) (14 - b) ≡ bit word (63 - k - b)
 lane-made word k b few inside =
     let place : 49 + (14 - b) ≡ 63 - b = omega arith in
     let moved : 63 - b - k ≡ 63 - k - b = omega arith in
@@ -20,7 +20,7 @@ lane-made word k b few inside =
 lane-lt : (word k : ℕ) → word * 2 ^ k % 2 ^ 64 / 2 ^ 49 < 2 ^ 15
 lane-lt word k = omega arith
 
-pub lanes-made : (w : RefinementWindows) (k lanes below here above region : ℕ) → k < 32
+pub lanes-made : (w : RefinementWindows) (k lanes below here above region : ℕ) → k ≤ 32
     → below ≡ w.below * 2 ^ k % 2 ^ 64 / 2 ^ 49 → here ≡ w.here * 2 ^ k % 2 ^ 64 / 2 ^ 49 → above ≡ w.above * 2 ^ k % 2 ^ 64 / 2 ^ 49 → region ≡ w.region * 2 ^ k % 2 ^ 64 / 2 ^ 49
     → below < 2 ^ 15 → here < 2 ^ 15 → above < 2 ^ 15
     → lanes ≡ below + here * 32768 + above * 1073741824 + region * 35184372088832 → Lanes w k 12 lanes

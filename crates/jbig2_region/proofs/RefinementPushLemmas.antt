@@ -1,8 +1,9 @@
--- Pixels of a refinement's block that are decided by windows which moved on, or which are white.
-use Rattle.std.proofs.Common.{add-one, pow-suc, subst, ◌≡◌, ℕ, ◌+◌, ◌-◌, ◌*◌, ◌/◌, ◌%◌, ◌^◌, ◌<◌, ◌≤◌, Bool, false, List, None, refl, ap, ◌∙◌, arith}
+-- Pixels of a refinement's block that are decided by windows which moved on, which are white, or which are copied.
+use Rattle.std.proofs.Common.{add-one, pow-suc, subst, ◌≡◌, ℕ, zero, suc, ◌+◌, ◌-◌, ◌*◌, ◌/◌, ◌%◌, ◌^◌, ◌<◌, ◌≤◌, Bool, List, Option, Some, None, refl, sym, ap, ◌∙◌, arith}
 use Rattle.std.proofs.Math.Nat.{pow-le-pow_right}
 use Rattle.jbig2_base.specs.Counts.{Counts}
-use Rattle.jbig2_base.specs.Grid.{Grid}
+use Rattle.jbig2_base.specs.Grid.{Grid, bit_number}
+use Rattle.jbig2_base.specs.Bits.{bit}
 use Rattle.jbig2_base.proofs.BitLemmas.{bit-above}
 use Rattle.jbig2_coder.specs.Coder.{Coder, Context}
 use Rattle.jbig2_region.specs.Raster.{Coding}
@@ -10,10 +11,12 @@ use Rattle.jbig2_region.specs.Refinement.{Reference, refinement_coding}
 use Rattle.jbig2_region.specs.inner.Codes.{Takes}
 use Rattle.jbig2_region.specs.inner.RefinementBlocks.{Block}
 use Rattle.jbig2_region.specs.inner.RefinementLanes.{Lanes, nine_in, region_in}
-use Rattle.jbig2_region.specs.inner.RefinementWindows.{SeesRows, context_of, corners, four_of, nine_of, three_of}
+use Rattle.jbig2_region.specs.inner.RefinementWindows.{SeesRows, context_of, corners, four_of, known_of, nine_of, three_of}
 use Rattle.jbig2_region.specs.declared.refinement_kernel.windows.RefinementWindows.{RefinementWindows}
 use Rattle.jbig2_region.specs.declared.template.RefinementTemplate.{RefinementTemplate}
+use Rattle.jbig2_region.specs.declared.template.RefinementTemplate.TheVariants.{Template0, Template1}
 use Rattle.jbig2_region.proofs.RefinementKernelLemmas.{block-next}
+use Rattle.jbig2_region.proofs.RefinementKnownLemmas.{copied-next}
 use Rattle.jbig2_region.proofs.RefinementLaneLemmas.{lanes-nine, lanes-region}
 use Rattle.jbig2_region.proofs.RefinementWindowLemmas.{three-bits}
 
@@ -30,23 +33,57 @@ nine-white w k above here below few = rw (three-white w.below k below few, three
 pub four-white : (w : RefinementWindows) (pixels k : ℕ) → pixels % 2 ≡ 0 → three_of w.region k ≡ 0 → 0 ≡ four_of w pixels k
 four-white w pixels k left region = rw (left, region) refl
 
+pub context-white : (template : RefinementTemplate) → context_of template 0 0 ≡ 0
+context-white Template0 = refl
+context-white Template1 = refl
+
 -- ---- a block
--- one pixel more, in a row that is not predicted
-pub block-pushed : (template : RefinementTemplate) (typical : Bool) (r : Reference) (x y k j : ℕ) (g : Grid) (w : RefinementWindows) (d0 d d' : Coder) (s0 s s' : List Context) (t0 t t' : Counts) (pixels context symbol : ℕ)
-    → SeesRows g r x y w → k + (j + 1) ≤ 32 → x + (k + (j + 1)) ≤ g.width → y < g.height → context ≡ context_of template (nine_of w (k + j)) (four_of w pixels (k + j)) → Takes None context d s t symbol d' s' t'
-    → Block (refinement_coding template typical corners r) false x y (k + j) g d0 s0 t0 pixels d s t
-    → Block (refinement_coding template typical corners r) false x y (k + (j + 1)) g d0 s0 t0 (pixels * 2 + symbol) d' s' t'
-block-pushed template typical r x y k j g w d0 d d' s0 s s' t0 t t' pixels context symbol sees few wide above is takes block =
+-- one pixel more, whose colour is not known
+pub block-pushed : (template : RefinementTemplate) (typical p : Bool) (r : Reference) (x y k j : ℕ) (g : Grid) (w : RefinementWindows) (d0 d d' : Coder) (s0 s s' : List Context) (t0 t t' : Counts) (pixels context symbol : ℕ)
+    → SeesRows g r x y w → k + (j + 1) ≤ 32 → x + (k + (j + 1)) ≤ g.width → y < g.height → known_of p (nine_of w (k + j)) ≡ None → context ≡ context_of template (nine_of w (k + j)) (four_of w pixels (k + j)) → Takes None context d s t symbol d' s' t'
+    → Block (refinement_coding template typical corners r) p x y (k + j) g d0 s0 t0 pixels d s t
+    → Block (refinement_coding template typical corners r) p x y (k + (j + 1)) g d0 s0 t0 (pixels * 2 + symbol) d' s' t'
+block-pushed template typical p r x y k j g w d0 d d' s0 s s' t0 t t' pixels context symbol sees few wide above unknown is takes block =
     let coding : Coding = refinement_coding template typical corners r in
     let place : k + j + 1 ≡ k + (j + 1) = omega arith in
-    subst (λ (n : ℕ). Block coding false x y n g d0 s0 t0 (pixels * 2 + symbol) d' s' t') place
-    (block-next template typical false r x y (k + j) g w d0 d d' s0 s s' t0 t t' pixels (nine_of w (k + j)) (four_of w pixels (k + j)) symbol
-    block sees (omega arith) (omega arith) above refl refl (subst (λ (n : ℕ). Takes None n d s t symbol d' s' t') is takes))
+    let decided : Takes None (context_of template (nine_of w (k + j)) (four_of w pixels (k + j))) d s t symbol d' s' t' = subst (λ (n : ℕ). Takes None n d s t symbol d' s' t') is takes in
+    subst (λ (n : ℕ). Block coding p x y n g d0 s0 t0 (pixels * 2 + symbol) d' s' t') place
+    (block-next template typical p r x y (k + j) g w d0 d d' s0 s s' t0 t t' pixels (nine_of w (k + j)) (four_of w pixels (k + j)) symbol
+    block sees (omega arith) (omega arith) above refl refl
+    (subst (λ (known : Option Bool). Takes known (context_of template (nine_of w (k + j)) (four_of w pixels (k + j))) d s t symbol d' s' t') (sym unknown) decided))
 
-pub block-begun : (coding : Coding) (x y k : ℕ) (g : Grid) (d0 d : Coder) (s0 s : List Context) (t0 t : Counts) (pixels : ℕ) → Block coding false x y k g d0 s0 t0 pixels d s t → Block coding false x y (k + 0) g d0 s0 t0 pixels d s t
-block-begun coding x y k g d0 d s0 s t0 t pixels block =
+pub block-begun : (coding : Coding) (p : Bool) (x y k : ℕ) (g : Grid) (d0 d : Coder) (s0 s : List Context) (t0 t : Counts) (pixels : ℕ) → Block coding p x y k g d0 s0 t0 pixels d s t → Block coding p x y (k + 0) g d0 s0 t0 pixels d s t
+block-begun coding p x y k g d0 d s0 s t0 t pixels block =
     let same : k ≡ k + 0 = omega arith in
-    subst (λ (n : ℕ). Block coding false x y n g d0 s0 t0 pixels d s t) same block
+    subst (λ (n : ℕ). Block coding p x y n g d0 s0 t0 pixels d s t) same block
+
+-- n pixels more, which are the reference's
+pub block-copied : (template : RefinementTemplate) (typical p : Bool) (r : Reference) (x y k n : ℕ) (g : Grid) (w : RefinementWindows) (d0 d : Coder) (s0 s : List Context) (t0 t : Counts) (pixels : ℕ)
+    → SeesRows g r x y w → k + n ≤ 32 → x + (k + n) ≤ g.width → y < g.height → ((i : ℕ) → i < n → known_of p (nine_of w (k + i)) ≡ Some (bit w.here (62 - (k + i))))
+    → Block (refinement_coding template typical corners r) p x y k g d0 s0 t0 pixels d s t
+    → Block (refinement_coding template typical corners r) p x y (k + n) g d0 s0 t0 (pixels * 2 ^ n + w.here / 2 ^ (63 - (k + n)) % 2 ^ n) d s t
+block-copied template typical p r x y k zero g w d0 d s0 s t0 t pixels sees few wide above known block =
+    let none : pixels ≡ pixels * 2 ^ 0 + w.here / 2 ^ (63 - (k + 0)) % 2 ^ 0 = omega arith in
+    subst (λ (m : ℕ). Block (refinement_coding template typical corners r) p x y (k + 0) g d0 s0 t0 m d s t) none (block-begun (refinement_coding template typical corners r) p x y k g d0 d s0 s t0 t pixels block)
+block-copied template typical p r x y k (suc n) g w d0 d s0 s t0 t pixels sees few wide above known block =
+    let coding : Coding = refinement_coding template typical corners r in
+    let so_far : ℕ = pixels * 2 ^ n + w.here / 2 ^ (63 - (k + n)) % 2 ^ n in
+    let colour : Bool = bit w.here (62 - (k + n)) in
+    let before : Block coding p x y (k + n) g d0 s0 t0 so_far d s t = block-copied template typical p r x y k n g w d0 d s0 s t0 t pixels sees (omega arith) (omega arith) above (λ i inside. known i (omega arith)) block in
+    let takes : Takes (Some colour) (context_of template (nine_of w (k + n)) (four_of w so_far (k + n))) d s t (bit_number colour) d s t = record {
+      symbol = refl;
+      coder = refl;
+      states = refl;
+      steps = refl;
+    } in
+    let next : Block coding p x y (k + n + 1) g d0 s0 t0 (so_far * 2 + bit_number colour) d s t =
+    block-next template typical p r x y (k + n) g w d0 d d s0 s s t0 t t so_far (nine_of w (k + n)) (four_of w so_far (k + n)) (bit_number colour)
+    before sees (omega arith) (omega arith) above refl refl
+    (subst (λ (told : Option Bool). Takes told (context_of template (nine_of w (k + n)) (four_of w so_far (k + n))) d s t (bit_number colour) d s t) (sym (known n (omega arith))) takes) in
+    let place : k + n + 1 ≡ k + (n + 1) = omega arith in
+    subst (λ (m : ℕ). Block coding p x y (k + m) g d0 s0 t0 (pixels * 2 ^ m + w.here / 2 ^ (63 - (k + m)) % 2 ^ m) d s t) (add-one n)
+    (subst (λ (m : ℕ). Block coding p x y (k + (n + 1)) g d0 s0 t0 m d s t) (copied-next pixels w.here k n (omega arith))
+    (subst (λ (m : ℕ). Block coding p x y m g d0 s0 t0 (so_far * 2 + bit_number colour) d s t) place next))
 
 -- there is room for one pixel more
 pub pixels-room : (pixels k : ℕ) → pixels < 16 * 2 ^ k → k < 32 → pixels < 2 ^ 36

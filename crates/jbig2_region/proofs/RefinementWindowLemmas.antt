@@ -80,7 +80,7 @@ three-bits n j =
     let two : n / 2 ^ (j + 2) ≡ n / 2 ^ j / 2 ^ 2 = sym (shr-shr n j 2) in
     rw (bit_number-bit n j, bit_number-bit n (j + 1), bit_number-bit n (j + 2), one, two) (omega arith)
 
--- the three about the pixel that lies k columns behind the second one of a window
+-- the three about the pixel that lies k columns after the second one of a window
 pub three-pixels : (g : Grid) (column row : ℤ) (word k : ℕ) (l m r : Bool) → Sees g column row word → k < 32 → l ≡ pixel g (column +ℤ pos k) row → m ≡ pixel g (column +ℤ pos (k + 1)) row → r ≡ pixel g (column +ℤ pos (k + 2)) row
     → three_of word k ≡ bit_number r + bit_number m * 2 + bit_number l * 4
 three-pixels g column row word k l m r sees few is_l is_m is_r =
@@ -157,7 +157,7 @@ context-1 b0 b1 b2 b3 b4 b5 b6 b7 b8 c0 c1 c2 c3 below here above left region is
     (digit b0) (digit b1) (digit b2) (digit b3) (digit b4) (digit b5) (digit b6) (digit b7) (digit b8) is_below is_here is_above
     ∙ omega arith
 
--- the context at the pixel k columns behind the windows' column
+-- the context at the pixel k columns after the windows' column
 pub windows-context : (template : RefinementTemplate) (r : Reference) (g g' : Grid) (x y k left : ℕ) (w : RefinementWindows) → k < 32 → SameAbove g g' y → SeesRows g r x y w → IsLeft g' (x + k) y left
     → context_of template (nine_of w k) (four_of w left k) ≡ refined_context r (reference_pixels template corners) (region_pixels template corners) g' (x + k) y
 unfolding refined_context

@@ -102,8 +102,8 @@ pub left-few : (g : Grid) (x y n : ℕ) → IsLeft g x y n → IsLeft g x y (n %
 left-few g x y n is = λ k inside. bit-mod n 4 k inside ∙ is k inside
 
 -- ---- fields of the register
-pub low-bits : (r count : ℕ) → count ≤ 16 → r % (1 * 2 ^ count % 2 ^ 64) ≡ r % 2 ^ count
+pub low-bits : (r count : ℕ) → count ≤ 32 → r % (1 * 2 ^ count % 2 ^ 64) ≡ r % 2 ^ count
 low-bits r count few =
-    let small : 2 ^ count ≤ 2 ^ 16 = pow-le-pow_right (omega arith) few in
+    let small : 2 ^ count ≤ 2 ^ 32 = pow-le-pow_right (omega arith) few in
     let same : 1 * 2 ^ count % 2 ^ 64 ≡ 2 ^ count = omega arith in
     ap (λ (n : ℕ). r % n) same

@@ -1,4 +1,4 @@
--- Stretches of a row one behind the other, and rows one below the other.
+-- Stretches of a row one after the other, and rows one below the other.
 use Rattle.std.proofs.Common.{◌≡◌, ℕ, ◌+◌, Bool, false, List, refl, ap, sym, subst, ◌∙◌}
 use Rattle.jbig2_base.specs.Counts.{Counts}
 use Rattle.jbig2_base.specs.Grid.{Grid, blank}
@@ -94,7 +94,7 @@ rows-next {coding = coding} {g0 = g0} {d0 = d0} {s0 = s0} {c0 = c0} {y = y} {p =
       run_tests = row.run_tests ∙ tested ∙ rows.run_tests;
     }
 
--- other steps behind a row, which are no decisions and no tests
+-- other steps after a row, which are no decisions and no tests
 pub rows-until : {coding : Coding} {g0 : Grid} {d0 : Coder} {s0 : List Context} {c0 : Counts} {y : ℕ} {p : Bool} {g : Grid} {d : Coder} {s : List Context} (c c' : Counts)
     → RowsDecoded coding g0 d0 s0 c0 y p g d s c → c.decisions ≡ c'.decisions → c'.run_tests ≡ c.run_tests → RowsDecoded coding g0 d0 s0 c0 y p g d s c'
 rows-until {coding = coding} {g0 = g0} {d0 = d0} {s0 = s0} {c0 = c0} {y = y} c c' rows decided tested = record {

@@ -1,5 +1,5 @@
 -- What is told of an answer: of its error a cause, and of its value what the input says. The steps of a definition are
--- told one behind the other, each at a known place of the bytes.
+-- told one after the other, each at a known place of the bytes.
 use Rattle.std.proofs.Common.{◌≡◌, ℕ, ◌+◌, ◌<◌, ◌≤◌, ◌%◌, ◌/◌, Bool, true, false, cond, eqb, List, take, drop, length, Result, Ok, Err, refl, sym, ◌∙◌, ap, arith, length-drop}
 use Rattle.std.specs.Prelude.{IfErr, ℤ}
 use Rattle.std.specs.Int.{Width, w8, w32, byte_len, from_be_bytes}
@@ -82,7 +82,7 @@ at-start bytes = record { within = omega arith; rest_is = refl }
 left-behind : (bytes : List ℕ) (place : ℕ) (rest : List ℕ) → Stands bytes place rest → length rest + place ≡ length bytes
 left-behind bytes place rest s = omega (arith, ap length s.rest_is, length-drop place bytes, s.within)
 
--- a number at this place, and the place behind it
+-- a number at this place, and the place after it
 pub record Number (w : Width) (bytes : List ℕ) (place : ℕ) (x : ℕ × List ℕ) : Type 0 where
   pub value : number_in w place bytes ≡ x.0
   pub behind : Stands bytes (place + byte_len w) x.1

@@ -12,7 +12,7 @@ use Rattle.jbig2_region.specs.Generic.{number_of, context_at}
 use Rattle.jbig2_region.specs.inner.Neighbours.{side_by_side, is_field}
 use Rattle.jbig2_region.proofs.ContextBits.{number_of-append}
 
--- the number of so many bits of one colour
+-- the number of this many bits of one colour
 abbrev pub full : ℕ → Bool → ℕ
 full count colour = number_of (replicate count colour)
 

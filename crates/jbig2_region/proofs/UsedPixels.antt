@@ -1,4 +1,4 @@
--- A template takes of an array no pixels but the first so many.
+-- A template takes of an array no pixels but the first that many.
 use Rattle.std.proofs.Common.{◌≡◌, false, true, List, [], ◌∷◌, take, refl}
 use Rattle.jbig2_region.specs.RefinementTemplates.{is_nominal as refinement_is_nominal}
 use Rattle.jbig2_region.specs.RefinementTemplates.{reference_pixels, region_pixels}

@@ -52,7 +52,7 @@ window-word g x word row bits = λ k inside.
     let column : pos (x + 8 + k) -ℤ pos 8 ≡ pos (x + k) = omega (arith, ints) in
     ap (λ (n : ℕ). bit word n) place ∙ bits k inside ∙ sym (ap (λ (z : ℤ). pixel g z row) column)
 
--- the window so many columns further on
+-- the window this many columns further on
 pub window-moved : (g : Grid) (x seen word by : ℕ) (row : ℤ) → seen ≤ 64 → IsWindow g x row seen word → IsWindow g (x + by) row (seen - by) (word * 2 ^ by % 2 ^ 64)
 window-moved g x seen word by row few shows = λ k inside.
     let place : 63 - k - by ≡ 63 - (k + by) = omega arith in

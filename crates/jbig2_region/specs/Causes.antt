@@ -14,11 +14,11 @@ BreaksRegionInfo bytes errors.Unsupported = (17 ≤ length bytes) × (number_in 
 BreaksRegionInfo bytes _ = ⊥
 
 -- ---- adaptive pixels (7.4.6.3)
--- so many columns to the right and rows down: at the pixel that is decoded, or behind it
+-- this many columns to the right and rows down: at the pixel that is decoded, or after it
 abbrev pub IsLate : ℤ → ℤ → Type 0
 IsLate columns rows = (pos 0 <ℤ rows) ⊎ ((rows ≡ pos 0) × (pos 0 ≤ℤ columns))
 
--- so many pixels from this byte on, two bytes each in two's complement
+-- this many pixels from this byte on, two bytes each in two's complement
 abbrev pub BreaksPixels : ℕ → ℕ → List ℕ → DecodeError → Type 0
 BreaksPixels count place bytes (errors.Parse UnexpectedEof) = length bytes < place + 2 * count
 BreaksPixels count place bytes (errors.Template InvalidAtPixel) =

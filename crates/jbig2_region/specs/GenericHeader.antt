@@ -1,5 +1,5 @@
 -- The data of a generic region segment up to its coded bytes (T.88, 7.4.6): region information, flags and adaptive
--- pixels. The bytes give the header, and the coded bytes stand behind it.
+-- pixels. The bytes give the header, and the coded bytes stand after it.
 use Rattle.std.specs.{Prelude.{ℕ, ◌-◌, ◌/◌, ◌%◌, ◌≤◌, ◌==◌, nat_lt, Bool, true, false, ◌||◌, List, length, take, drop, Result, Ok}, Int.{w8, w32}}
 use Rattle.jbig2_base.specs.{Answer.{refuse_if, ◌>>=◌}, Fields.{number_at}, declared.error.{DecodeError.{DecodeError}, OverflowError.TheVariants.{BitmapDimension}, RegionError.TheVariants.{InvalidDimension}}}
 use Rattle.jbig2_region.specs.{RegionInfo.{region_info_at}, Templates.{adaptive_pixel_count, takes_extended, template_of, FitsTemplate, adaptive_pixels_at}, declared.{region_info.RegionSegmentInfo.{RegionSegmentInfo}, template.{Template.{Template}, AdaptiveTemplatePixel.{AdaptiveTemplatePixel}}}}

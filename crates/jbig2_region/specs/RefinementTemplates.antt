@@ -1,5 +1,5 @@
 -- The templates of refinements (T.88, 6.3.5.3, Figures 12 and 13), bit 0 of a context first. `reference_pixels` and
--- `region_pixels` take a template and its adaptive pixels, and give the pixels of a context in either grid. Behind
+-- `region_pixels` take a template and its adaptive pixels, and give the pixels of a context in either grid. After
 -- them stand the context of the decision that begins a row, and how a segment holds the adaptive pixels (7.4.7.3).
 use Rattle.std.specs.Prelude.{ℕ, ◌==◌, Bool, true, ◌&&◌, List, [], ◌∷◌, ℤ, pos, negsuc, Result, Ok, if◌then◌else◌}
 use Rattle.jbig2_base.specs.{declared.error.DecodeError.{DecodeError}, Answer.{◌>>=◌}}
@@ -8,7 +8,7 @@ use Rattle.jbig2_region.specs.{Templates.{adaptive, free_pixel_at, lies_at}, dec
 abbrev pub refinement_template_of : ℕ → RefinementTemplate
 refinement_template_of n = if n == 0 then Template0 else Template1
 
--- so many columns to the right and rows down; `negsuc 0` is one to the left or up
+-- this many columns to the right and rows down; `negsuc 0` is one to the left or up
 abbrev pub apart : ℤ → ℤ → AdaptiveTemplatePixel
 apart x y = record { x = x; y = y }
 

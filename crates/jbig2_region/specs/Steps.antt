@@ -21,7 +21,7 @@ pixel_decisions coding w h bytes start =
     how_many (λ n. takes_decision coding w h (at_pixel coding w h bytes start n)) (w * h)
 
 -- One decision for each pixel that takes one, and for each row that begins with one; no run test; at most one word a
--- pixel, and so many loads a row. An empty region takes no step.
+-- pixel, and this many loads a row. An empty region takes no step.
 pub record CountsDecided (coding : Coding) (row_loads : ℕ) (w h : ℕ) (bytes : List ℕ) (start : Region) (before after : Counts) : Type 0 where
   pub empty : w * h ≡ 0 → after ≡ before
   pub decisions : 1 ≤ w →

@@ -1,5 +1,5 @@
 -- The templates of generic regions (T.88, 6.2.5.3, Figures 3 to 6, and the extended one). `template_pixels` takes a
--- template and its adaptive pixels, and gives the pixels of a context. Behind it stand the context of the decision
+-- template and its adaptive pixels, and gives the pixels of a context. After it stand the context of the decision
 -- that begins a row, and how a segment holds the adaptive pixels (7.4.6.3).
 use Rattle.std.specs.{Prelude.{ℕ, ◌==◌, ◌≡◌, Bool, true, false, not, ◌&&◌, ◌||◌, ℤ, pos, negsuc, ◌-ℤ◌, int_lt, int_le, List, [], ◌∷◌, zero, suc, slice_index_or, if◌then◌else◌, Result, Ok}, Int.{w8}, Ordering.{int_eq}}
 use Rattle.jbig2_base.specs.{Answer.{refuse_if, ◌>>=◌}, Fields.{signed_at}, declared.error.{DecodeError.{DecodeError}, TemplateError.TheVariants.{InvalidAtPixel}}}
@@ -15,7 +15,7 @@ context_bits Template1 = 13
 context_bits Template2 = 10
 context_bits Template3 = 10
 
--- the pixel so many columns to the left, or to the right, and so many rows higher
+-- the pixel this many columns to the left, or to the right, and this many rows higher
 abbrev pub left : ℕ → ℕ → AdaptiveTemplatePixel
 left columns rows = record { x = pos 0 -ℤ pos columns; y = pos 0 -ℤ pos rows }
 
@@ -92,7 +92,7 @@ adaptive_pixel_at bytes = do
   earlier ← refuse_if (not (is_earlier pixel.0)) (errors.Template InvalidAtPixel)
   Ok pixel
 
--- so many of them (7.4.6.3)
+-- this many of them (7.4.6.3)
 abbrev pub adaptive_pixels_at : ℕ → List ℕ → Result (List AdaptiveTemplatePixel × List ℕ) DecodeError
 adaptive_pixels_at zero bytes = Ok ([], bytes)
 adaptive_pixels_at (suc count) bytes = do

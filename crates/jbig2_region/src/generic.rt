@@ -64,7 +64,7 @@ fn rows<'a>(unknown_length: bool, height: u32, bytes: &'a [u8]) -> Result<(u32, 
     Ok((rows, &bytes[..end]))
 }
 
-/// The header of a generic region at the reader's place, which holds the coded bytes behind it
+/// The header of a generic region at the reader's place, which holds the coded bytes after it
 /// (T.88, 7.4.6). With `unknown_length` the last four bytes are the number of rows.
 ///
 /// `ParseError::UnexpectedEof` where the bytes do not hold it; the errors of
@@ -172,6 +172,7 @@ pub fn decode<A: Allocator, B: Allocator, L: Ledger>(
     ensures causes { HaveCauses generic_decoded BreaksGeneric }
 {
     let region_info = &header.region_info;
+    steps.pay_bitmap(region_info.width, region_info.height)?;
     let mut bitmap = Bitmap::new(alloc, region_info.width, region_info.height)?;
     decode_into(header, &mut bitmap, contexts, steps)?;
     Ok(DecodedRegion::new(region_info, bitmap))

@@ -49,7 +49,7 @@ pub struct ReferenceBitmap<'a, B: Allocator> {
     pub dy: i32,
 }
 
-/// The header of a refinement region at the reader's place, which holds the coded bytes behind it
+/// The header of a refinement region at the reader's place, which holds the coded bytes after it
 /// (T.88, 7.4.7).
 ///
 /// `ParseError::UnexpectedEof` where the bytes do not hold it; the errors of
@@ -188,6 +188,7 @@ pub fn decode<A: Allocator, B: Allocator, C: Allocator, L: Ledger>(
     ensures causes { (h : RefinementHeader) → HaveCauses (refined_decoded h) (λ from. BreaksOffset from h.region_info) }
 {
     let region_info = &header.region_info;
+    steps.pay_bitmap(region_info.width, region_info.height)?;
     let mut bitmap = Bitmap::new(alloc, region_info.width, region_info.height)?;
     decode_into(header, reference, &mut bitmap, contexts, steps)?;
     Ok(DecodedRegion::new(region_info, bitmap))

@@ -93,7 +93,7 @@ impl<B: Allocator> RefinementCoding<'_, B> {
     }
 
     /// The number that these pixels of the reference spell, bit 0 first, with `high` in the bits
-    /// behind them.
+    /// after them.
     #[inline(always)]
     fn number<L: Ledger>(
         &self,

@@ -1,6 +1,6 @@
 //! The kernel of refinements (T.88, 6.3) whose template lies about the pixel that is decoded: contexts
 //! and predicted colours come from windows on the rows.
-ghost use Rattle.std.specs.Prelude.{◌≡◌, ℕ, ◌+◌, ◌-◌, ◌*◌, ◌/◌, ◌%◌, ◌^◌, ◌<◌, ◌≤◌, length, false, if◌then◌else◌, Some, None, IfSome};
+ghost use Rattle.std.specs.Prelude.{◌≡◌, ℕ, ◌+◌, ◌-◌, ◌*◌, ◌/◌, ◌%◌, ◌^◌, ◌<◌, ◌≤◌, length, false, None};
 ghost use Rattle.jbig2_base.specs.Grid.{pixel_at};
 ghost use Rattle.jbig2_base.specs.Bits.{bit};
 ghost use Rattle.jbig2_region.specs.Steps.{CountsDecided, window_loads};
@@ -11,7 +11,7 @@ ghost use Rattle.jbig2_region.specs.inner.Holds.{DecodesRegion, IsReady};
 ghost use Rattle.jbig2_region.specs.inner.Neighbours.{IsLeft};
 ghost use Rattle.jbig2_region.specs.inner.RefinementBlocks.{MovesBlock};
 ghost use Rattle.jbig2_region.specs.inner.RefinementViews.{reference_view};
-ghost use Rattle.jbig2_region.specs.inner.RefinementWindows.{SeesRows, context_of, known_of, nine_of, three_of, windowed_coding};
+ghost use Rattle.jbig2_region.specs.inner.RefinementWindows.{SeesRows, nine_of, three_of, windowed_coding};
 ghost use Rattle.jbig2_region.specs.inner.Stretches.{DecodesPixels};
 
 mod lanes;
@@ -20,7 +20,9 @@ mod windows;
 use crate::generic_refinement::ReferenceBitmap;
 use crate::raster::{Row, begin_row};
 use crate::refinement_kernel::lanes::{lanes_at, lanes_context};
-use crate::refinement_kernel::windows::{RefinementWindows, context, known_colour, windows_at};
+use crate::refinement_kernel::windows::{
+    RefinementWindows, leading_ones, leading_zeros, windows_at,
+};
 use crate::template::RefinementTemplate;
 use crate::template::refinement::typical_context;
 use jbig2_base::bitmap::Bitmap;
@@ -36,32 +38,6 @@ pub struct WindowedCoding<'a, B: Allocator> {
     /// Whether typical prediction is on.
     pub typical: bool,
     pub reference: &'a ReferenceBitmap<'a, B>,
-}
-
-/// The next pixel, 1 for black, from the nine pixels about it in the reference and four of the region.
-#[inline(always)]
-fn decode_pixel<L: Ledger>(
-    template: RefinementTemplate,
-    predicted: bool,
-    nine: u32,
-    four: u32,
-    decoder: &mut ArithmeticDecoder<'_>,
-    contexts: &mut [ArithmeticDecoderContext],
-    steps: &mut Steps<L>,
-) -> u32
-    requires nine { nine < 512 }
-    requires four { four < 16 }
-    requires contexts { length contexts.old ≡ 2 ^ refinement_bits template }
-    ensures takes { Takes (known_of predicted nine) (context_of template nine four)
-        decoder.old contexts.old steps.old result decoder.new contexts.new steps.new }
-    ensures digit { result < 2 }
-    ensures contexts { length contexts.new ≡ length contexts.old }
-{
-    if let Some(colour) = known_colour(predicted, nine) {
-        return u32::from(colour);
-    }
-    let context = context(template, nine, four);
-    decoder.decode(&mut contexts[context as usize], steps)
 }
 
 /// The next pixel, 1 for black, in the context of this number.
@@ -81,7 +57,7 @@ fn decide_pixel<L: Ledger>(
     decoder.decode(&mut contexts[context as usize], steps)
 }
 
-/// The next `count` pixels of a row that isn't predicted, at most thirteen, from the column `offset`
+/// The next `count` pixels, at most thirteen, none of whose colours is known, from the column `offset`
 /// right of the windows' column on: `pixels` are those at the left, and they come in at their low end.
 #[inline(always)]
 fn push_pixels<L: Ledger>(
@@ -95,7 +71,6 @@ fn push_pixels<L: Ledger>(
     steps: &mut Steps<L>,
 ) -> u64
     requires few { count ≤ 13 }
-    requires offset { offset < 32 }
     requires within { offset + count ≤ 32 }
     requires room { pixels < 16 * 2 ^ offset }
     requires contexts { length contexts.old ≡ 2 ^ refinement_bits template }
@@ -179,10 +154,11 @@ fn decode_block<A: Allocator, B: Allocator, L: Ledger>(
     let template = coding.template;
     let decided = decided_columns(row.predicted, count);
     let white = looked_for(look, windows, decided);
+    let known = windows.known_columns(row.predicted);
     let mut pixels = u64::from(left);
     let mut done = 0;
     while done < white && pixels % 2 == 0 {
-        let symbol = decode_pixel(template, false, 0, 0, decoder, contexts, steps);
+        let symbol = decide_pixel(0, decoder, contexts, steps);
         pixels = pixels * 2 + u64::from(symbol);
         done += 1;
     }
@@ -193,19 +169,15 @@ fn decode_block<A: Allocator, B: Allocator, L: Ledger>(
         );
         done += more;
     }
-    for offset in done..count {
-        let nine = windows.nine(offset);
-        let four = windows.four(pixels, offset);
-        let symbol = decode_pixel(
-            template,
-            row.predicted,
-            nine,
-            four,
-            decoder,
-            contexts,
-            steps,
+    while done < count {
+        let copied = leading_ones(known << (done + 1), count - done);
+        pixels = windows.copied_pixels(done, copied, pixels);
+        done += copied;
+        let more = leading_zeros(known << (done + 1), count - done).min(13);
+        pixels = push_pixels(
+            template, windows, done, more, pixels, decoder, contexts, steps,
         );
-        pixels = pixels * 2 + u64::from(symbol);
+        done += more;
     }
     bitmap.store_pixels(x, row.y, count, pixels, steps);
     pixels

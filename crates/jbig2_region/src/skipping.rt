@@ -21,7 +21,7 @@ use std::sync::ledger::Ledger;
 
 /// Decodes a region that the arithmetic coder wrote, without typical prediction, into a white bitmap
 /// of its size. A pixel that is black in `skip` stays white and takes no decision. The decoder and
-/// the contexts are left as the region leaves them, for what the coder wrote behind it. Contexts come
+/// the contexts are left as the region leaves them, for what the coder wrote after it. Contexts come
 /// out of windows where the adaptive pixels are nominal, else they are read pixel by pixel.
 pub fn decode_skipping<M: Allocator, A: Allocator, L: Ledger>(
     template: Template,

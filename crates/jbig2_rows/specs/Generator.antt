@@ -1,5 +1,5 @@
 -- The lists that are encoded and read back by `jbig2-bench lists` (our own rule). `list_after` takes a length and a
--- seed, and gives so many decisions, each with the number of its context.
+-- seed, and gives this many decisions, each with the number of its context.
 use Rattle.std.specs.Prelude.{ℕ, zero, suc, ◌+◌, ◌*◌, ◌/◌, ◌%◌, ◌^◌, Bool, nat_lt, List, [], ◌∷◌}
 
 abbrev pub after : ℕ → ℕ

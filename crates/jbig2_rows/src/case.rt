@@ -35,9 +35,9 @@ pub enum Modes {
 pub enum Answer {
     /// It is drawn by exactly these calls.
     Calls(&'static [Call]),
-    /// Its constructor answers this error.
+    /// Its constructor returns this error.
     Refused(DecodeError),
-    /// Decoding answers this error and makes no call.
+    /// Decoding returns this error and makes no call.
     Undrawn(DecodeError),
 }
 
@@ -102,7 +102,7 @@ impl Modes {
     }
 }
 
-/// Whether every case of a row holds, and row 5's page is drawn in the same context behind each. Answers
+/// Whether every case of a row holds, and row 5's page is drawn in the same context after each. Returns
 /// `DecodeError::OutOfMemory` alone.
 pub fn row_holds<A: Allocator + Clone>(
     alloc: &A,
@@ -118,7 +118,7 @@ pub fn row_holds<A: Allocator + Clone>(
     Ok(true)
 }
 
-/// Whether a row holds. Behind a request for memory that was refused, row 5's page has to be drawn in the same
+/// Whether a row holds. After a request for memory that was refused, row 5's page has to be drawn in the same
 /// context, and then the row has to hold.
 pub fn row_serves_on<A: Allocator + Clone>(
     alloc: &A,

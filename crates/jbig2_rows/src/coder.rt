@@ -46,7 +46,7 @@ pub enum CoderCase {
     },
 }
 
-/// Whether a case holds. Answers `DecodeError::OutOfMemory` alone.
+/// Whether a case holds. Returns `DecodeError::OutOfMemory` alone.
 pub fn coder_holds<A: Allocator + Clone>(alloc: &A, case: &CoderCase) -> Result<bool> {
     match case {
         CoderCase::Readings { bytes, readings } => {
@@ -93,7 +93,7 @@ fn is_encoded_as<A: Allocator + Clone>(
     Ok(encoded.as_slice() == bytes.as_slice())
 }
 
-/// Whether `decode_list` reads a list back from what `encode_list` makes of it. Answers
+/// Whether `decode_list` reads a list back from what `encode_list` makes of it. Returns
 /// `DecodeError::OutOfMemory` alone.
 pub fn is_read_back<A: Allocator + Clone>(alloc: &A, list: &[(u16, bool)]) -> Result<bool> {
     let bytes = encode_list(alloc.clone()?, list)?;

@@ -12,7 +12,7 @@ use std::alloc::Allocator;
 /// Row 5's page.
 const WHITE_PAGE: Answer = Answer::Calls(WHITE);
 
-/// Whether row 5's page is drawn white in this context. Answers `DecodeError::OutOfMemory` alone.
+/// Whether row 5's page is drawn white in this context. Returns `DecodeError::OutOfMemory` alone.
 pub fn white_holds<A: Allocator + Clone>(
     alloc: &A,
     context: &mut DecoderContext<A>,
@@ -23,7 +23,7 @@ pub fn white_holds<A: Allocator + Clone>(
     page_holds(alloc, &bytes, true, &WHITE_PAGE, context)
 }
 
-/// Whether an embedded page has this answer. Answers `DecodeError::OutOfMemory` alone, and only where no
+/// Whether an embedded page has this answer. Returns `DecodeError::OutOfMemory` alone, and only where no
 /// call was made.
 pub fn page_holds<A: Allocator + Clone>(
     alloc: &A,
@@ -45,7 +45,7 @@ pub fn page_holds<A: Allocator + Clone>(
     drawing_holds(&page, answer, context)
 }
 
-/// Whether decoding a page has this answer, and each of its calls may be refused. Answers
+/// Whether decoding a page has this answer, and each of its calls may be refused. Returns
 /// `DecodeError::OutOfMemory` alone, and only where no call was made.
 pub fn drawing_holds<A: Allocator + Clone>(
     page: &Page<'_, A>,
@@ -84,7 +84,7 @@ fn refusal_of(call: usize) -> DecodeError {
 }
 
 /// Whether a Decoder that refuses a call, whichever it is, has taken those before it and is asked no more, and its
-/// own error is answered.
+/// own error is returned.
 fn refusals_hold<A: Allocator + Clone>(
     page: &Page<'_, A>,
     calls: &[Call],

@@ -18,15 +18,15 @@ pub struct FilePage {
 
 /// One thing that has to hold of a file. Bytes are spelled as `spelling::spelled` reads them.
 pub enum FileCase {
-    /// `File::new` answers this error.
+    /// `File::new` returns this error.
     Refused(Modes, &'static str, DecodeError),
     /// The pages of a file.
     Pages(Modes, &'static str, &'static [FilePage]),
     /// Each beginning of a file, but for the one of this length, ends too early.
     CutOff { bytes: &'static str, but: usize },
-    /// `Globals::new` answers this error.
+    /// `Globals::new` returns this error.
     NoGlobals(&'static str, DecodeError),
-    /// `Jbig2Decoder::new` answers this error.
+    /// `Jbig2Decoder::new` returns this error.
     NoFirstPage(&'static str, DecodeError),
 }
 
@@ -42,7 +42,7 @@ impl FileCase {
     }
 }
 
-/// Whether a case holds. Answers `DecodeError::OutOfMemory` alone.
+/// Whether a case holds. Returns `DecodeError::OutOfMemory` alone.
 pub fn file_holds<A: Allocator + Clone>(
     alloc: &A,
     case: &FileCase,

@@ -7,7 +7,7 @@ use std::alloc::Allocator;
 /// The last list; list N has N entries.
 const LISTS: usize = 1000;
 
-/// The first list, of those up to `LISTS`, that is not read back from what the encoder makes of it. Answers
+/// The first list, of those up to `LISTS`, that is not read back from what the encoder makes of it. Returns
 /// `DecodeError::OutOfMemory` alone.
 pub fn first_that_differs<A: Allocator + Clone>(alloc: &A) -> Result<Option<usize>> {
     let mut generator = Generator::new();

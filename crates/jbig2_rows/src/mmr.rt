@@ -31,7 +31,7 @@ pub struct Decoded {
     pub rows: &'static [u8],
 }
 
-/// Whether a case holds. Answers `DecodeError::OutOfMemory` alone.
+/// Whether a case holds. Returns `DecodeError::OutOfMemory` alone.
 pub fn mmr_holds<A: Allocator + Clone>(alloc: &A, case: &MmrCase) -> Result<bool> {
     let Some(bytes) = spelled(alloc, case.bytes)? else {
         return Ok(false);

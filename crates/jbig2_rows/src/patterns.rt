@@ -23,7 +23,7 @@ fn context_of(x: u32) -> u16 {
     }
 }
 
-/// Whether two such patterns, as the encoder writes them, are decoded. Answers
+/// Whether two such patterns, as the encoder writes them, are decoded. Returns
 /// `DecodeError::OutOfMemory` alone.
 pub fn wide_patterns_hold<A: Allocator + Clone, L: Ledger>(alloc: &A, blank: Blank) -> Result<bool>
     requires name { blank.name ≡ L.name }

@@ -12,7 +12,7 @@ pub mod worked;
 
 use crate::case::Row;
 
-/// All rows in the order in which they are run. Each family stands behind a call of its own, so that no
+/// All rows in the order in which they are run. Each family has a call of its own, so that no
 /// proof has to look at all of their bytes at once.
 pub fn families() -> [&'static [Row]; 16] {
     [

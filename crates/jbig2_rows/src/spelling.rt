@@ -43,7 +43,7 @@ fn push_word<A: Allocator>(bytes: &mut Vec<u8, A>, word: &str) -> Result<bool> {
     Ok(true)
 }
 
-/// Appends digits, or as often as is said behind a `*`.
+/// Appends digits, or as often as is said after a `*`.
 fn push_plain<A: Allocator>(bytes: &mut Vec<u8, A>, word: &str) -> Result<bool> {
     let (digits, count) = word.split_once('*').unwrap_or((word, "1"));
     let Ok(count) = count.parse::<u32>() else {
@@ -60,7 +60,7 @@ fn push_plain<A: Allocator>(bytes: &mut Vec<u8, A>, word: &str) -> Result<bool> 
     Ok(true)
 }
 
-/// Writes the digits behind a place and `=` over the bytes from that place on, counted from `start`.
+/// Writes the digits after a place and `=` over the bytes from that place on, counted from `start`.
 fn change_bytes(bytes: &mut [u8], start: usize, change: &str) -> bool {
     let Some((place, digits)) = change.split_once('=') else {
         return false;

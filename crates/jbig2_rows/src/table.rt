@@ -17,7 +17,7 @@ pub enum Source {
     Custom(&'static str),
 }
 
-/// One thing that has to hold of tables. The bits of a reader are those of bytes behind the first `from`.
+/// One thing that has to hold of tables. The bits of a reader are those of bytes after the first `from`.
 pub enum TableCase {
     /// `decode` by the standard table A.
     StandardA {
@@ -44,7 +44,7 @@ pub enum TableCase {
     },
 }
 
-/// Whether a case holds. Answers `DecodeError::OutOfMemory` alone.
+/// Whether a case holds. Returns `DecodeError::OutOfMemory` alone.
 pub fn table_holds<A: Allocator + Clone>(alloc: &A, case: &TableCase) -> Result<bool> {
     match case {
         TableCase::StandardA {
@@ -120,7 +120,7 @@ fn decode_holds<A: Allocator + Clone>(
     Ok(pass_over(&mut reader, from) && table.decode(&mut reader) == *answer)
 }
 
-/// Whether there are so many bits, at most 32, to be passed over.
+/// Whether there are this many bits, at most 32, to be passed over.
 fn pass_over(reader: &mut Reader<'_>, count: u8) -> bool {
     count <= 32 && reader.read_bits(count).is_some()
 }

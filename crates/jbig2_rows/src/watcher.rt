@@ -32,7 +32,7 @@ impl<'c> Watcher<'c> {
         }
     }
 
-    /// Takes so many calls and refuses the others with this error.
+    /// Takes this many calls and refuses the others with this error.
     pub fn with_patience(expected: &'c [Call], patience: usize, refusal: DecodeError) -> Watcher<'c>
         ensures { result.refusals ≡ 0 }
     {

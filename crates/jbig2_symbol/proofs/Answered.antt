@@ -1,4 +1,4 @@
--- Law: no definition of symbol dictionaries answers an error that bytes cannot bring about.
+-- Law: no definition of symbol dictionaries returns an error that bytes cannot bring about.
 use Rattle.std.proofs.Common.{ℕ, zero, suc, Bool, List, [], ◌∷◌, ◌++◌, Option, Some, None, Result, Ok, ℤ, pos, negsuc}
 use Rattle.jbig2_base.specs.Bits.{Place}
 use Rattle.jbig2_base.specs.Grid.{Grid}

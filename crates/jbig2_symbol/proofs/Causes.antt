@@ -26,7 +26,7 @@ use Rattle.jbig2_symbol.specs.declared.symbol.header.HuffmanTableSelection.{Huff
 use Rattle.jbig2_symbol.specs.declared.symbol.header.HuffmanTableSelection.TheVariants.{TableB2, TableB3, TableB4, TableB5}
 use Rattle.jbig2_symbol.specs.declared.symbol.header.SymbolDictionaryFlags.{SymbolDictionaryFlags}
 
--- behind a value of which so many bytes are read
+-- after a value of which this many bytes are read
 abbrev At : {A : Type 0} → List ℕ → ℕ → A × List ℕ → Type 0
 At bytes m x = Stands bytes m x.1
 

@@ -107,7 +107,7 @@ unfolding drawn_class checked
 drawn-unread r d height empty before s error (inl memory) = inl memory
 drawn-unread r d height empty before s error (inr e) = inr (checked-unread (symbols_from r d (room_behind d before) height 0 0 before s) empty before error e)
 
--- symbols that are cut, and the state behind their collective bitmap
+-- symbols that are cut, and the state after their collective bitmap
 cut-with : {S : Type 0} (symbols : Result (List Grid) DecodeError) (before : List Grid) (t : S) (result : Result (Unit {0}) DecodeError) (after : List Grid) → Gives (λ _. after) result (put_behind before symbols) → Gives (λ _. (after, t)) result (behind before (symbols >>= λ gs. Ok (gs, t)))
 cut-with (Ok more) before t (Ok r) after e = cc
 cut-with (Ok more) before t (Err error) after (inl memory) = inl memory

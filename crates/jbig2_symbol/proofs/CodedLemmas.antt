@@ -17,7 +17,7 @@ use Rattle.jbig2_symbol.specs.SymbolReading.{SymbolState}
 use Rattle.jbig2_text.specs.TextCoding.{Coded}
 use Rattle.jbig2_symbol.proofs.UsedPixels.{filled_pixels}
 
--- how a symbol's region is coded, and the state behind it
+-- how a symbol's region is coded, and the state after it
 abbrev pub symbol_coding : SymbolHeader → Template → Coding
 symbol_coding h template = coding_of false template (template_pixels false template h.adaptive_template_pixels)
 

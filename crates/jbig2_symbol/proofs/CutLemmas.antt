@@ -19,7 +19,7 @@ use Rattle.jbig2_base.proofs.GridLemmas.{grid_of-ext}
 use Rattle.jbig2_symbol.specs.SymbolBitmaps.{raw_pixel, raw_rows, raw_stride, symbol_cut, symbols_cut}
 use Rattle.jbig2_symbol.specs.inner.SymbolViews.{put_behind}
 
--- ---- symbols behind others
+-- ---- symbols after others
 behind-cons : (before : List Grid) (symbol : Grid) (others : Result (List Grid) DecodeError) → put_behind before (others >>= λ more. Ok (symbol ∷ more)) ≡ put_behind (before ++ symbol ∷ []) others
 behind-cons before symbol (Ok more) = ap (λ (all : List Grid). Ok all) (sym (append_assoc before (symbol ∷ []) more))
 behind-cons before symbol (Err e) = refl

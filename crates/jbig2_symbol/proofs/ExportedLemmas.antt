@@ -2,12 +2,12 @@
 use Rattle.std.proofs.Common.{◌≡◌, ℕ, zero, suc, ◌+◌, ◌-◌, ◌%◌, ◌<◌, ◌≤◌, Bool, true, false, cond, eqb, leb, List, [], ◌∷◌, ◌++◌, length, take, drop, get_or, map, Result, Ok, Err, refl, sym, ap, ◌∙◌, ◌⊎◌, inl, inr, append_assoc, length-append, length-drop, arith}
 use Rattle.std.specs.Prelude.{sum}
 use Rattle.std.proofs.lemmas.Bool.{eq-eqb, le-leb, lt-leb, ne_eqb}
-use Rattle.std.proofs.lemmas.List.{append-nil, get_or-append-add, get_or-drop, get_or-map, length-map, length-take, length-take-le, take_more, get_or_read}
+use Rattle.std.proofs.lemmas.List.{append-nil, get_or-append-add, get_or-drop, get_or-map, length-map, length-take, length-take-le, take_all, take_more, get_or_read}
 use Rattle.std.proofs.Math.ListN.{get_or-append}
 use Rattle.std.specs.Borrow.{Bor}
 use Rattle.jbig2_symbol.specs.inner.SymbolViews.{all_symbols}
 use Rattle.std.proofs.lemmas.List.Sums.{sum_by-append, sum_by-cons, sum_by-take-le}
-use Rattle.std.proofs.Math.Seq.{take-add}
+use Rattle.std.proofs.Math.Seq.{drop-append_seam, take-add}
 use Rattle.jbig2_base.specs.Grid.{Grid, blank}
 use Rattle.jbig2_base.specs.declared.error.DecodeError.{DecodeError}
 use Rattle.jbig2_base.specs.declared.error.DecodeError.TheVariants.{OutOfMemory}
@@ -40,7 +40,7 @@ ended-before (suc k) (r ∷ runs) from i inside after before =
     let more = ended-before k runs (from + r) i (omega arith) (omega (arith, whole)) (omega (arith, whole)) in
     rw test (omega (arith, more))
 
--- ---- exported ones of a list and another behind it
+-- ---- exported ones of a list and another after it
 kept : (b : Bool) (g : Grid) (all xs ys : List Grid) → all ≡ xs ++ ys → cond b (g ∷ all) all ≡ cond b (g ∷ xs) xs ++ ys
 kept true g all xs ys e = ap (λ (gs : List Grid). g ∷ gs) e
 kept false g all xs ys e = e
@@ -144,3 +144,25 @@ exported-even runs all so_far k first run inside begun is within even before =
 pub only-memory : (error : DecodeError) (xs ys : List Grid) → (error ≡ OutOfMemory) ⊎ (◌≡◌ {A = Result (List Grid) DecodeError} (Ok xs) (Err error)) → (error ≡ OutOfMemory) ⊎ (◌≡◌ {A = Result (List Grid) DecodeError} (Ok ys) (Err error))
 only-memory error xs ys (inl memory) = inl memory
 only-memory error xs ys (inr e) = cc
+
+-- two runs of which the first leaves out what is referred to: the new ones are exported
+pub exported_new : (runs : List ℕ) (symbols : List (Bor Grid)) (new : List Grid) → length runs ≡ 2 → get_or runs 0 0 ≡ length symbols → sum runs ≡ length symbols + length new → new ≡ exported_from runs 0 (all_symbols symbols new)
+exported_new runs symbols new two left_out whole =
+    let all : List Grid = all_symbols symbols new in
+    let referred : List Grid = map (λ (b : Bor Grid). b.now) symbols in
+    let a : ℕ = get_or runs 0 0 in
+    let b : ℕ = get_or runs 1 0 in
+    let many : length all ≡ length symbols + length new = all-length symbols new in
+    let long : length referred ≡ length symbols = length-map symbols (λ (r : Bor Grid). r.now) in
+    let first : 0 + a ≡ sum (take 1 runs) = sum-more runs 0 0 a (omega (arith, two)) refl refl in
+    let second : 0 + a + b ≡ sum (take 2 runs) = sum-more runs 1 (0 + a) b (omega (arith, two)) first refl in
+    let both : sum (take 2 runs) ≡ sum runs = ap (λ (rs : List ℕ). sum rs) (take_all 2 runs (omega (arith, two))) in
+    let rest : b ≡ length new = omega (arith, second, both, whole, left_out) in
+    let before : [] ≡ exported_from runs 0 (take (0 + a) all) = exported-even runs all [] 0 0 a (omega (arith, two)) refl refl (omega (arith, many, left_out)) (λ odd. omega arith) (exported-none runs all [] refl) in
+    let those : take b (drop (0 + a) all) ≡ exported_from runs 0 (take (0 + a + b) all) = exported-odd runs all [] _ 1 (0 + a) b (omega (arith, two)) first refl (omega (arith, many, left_out, rest)) refl before refl in
+    let place : 0 + a ≡ length referred = omega (arith, left_out, long) in
+    let after : drop (0 + a) all ≡ new = ap (λ (n : ℕ). drop n all) place ∙ drop-append_seam referred new in
+    sym (take_all b new (omega (arith, rest)))
+    ∙ ap (λ (gs : List Grid). take b gs) (sym after)
+    ∙ those
+    ∙ ap (λ (gs : List Grid). exported_from runs 0 gs) (take_all (0 + a + b) all (omega (arith, many, left_out, rest)))

@@ -1,4 +1,4 @@
--- The codes of the ids of a dictionary's symbols: all of one length, they are never more than so many bits tell apart.
+-- The codes of the ids of a dictionary's symbols: all of one length, they are never more than this many bits tell apart.
 use Rattle.std.proofs.Common.{if◌then◌else◌, ◌≡◌, ℕ, zero, suc, ◌+◌, ◌-◌, ◌^◌, ◌<◌, ◌≤◌, ltb, leb, max, ⊎_elim, pow-suc, pow_mono, true, ◌&&◌, List, [], ◌∷◌, ◌++◌, pos, refl, ◌∙◌, arith}
 use Rattle.std.proofs.lemmas.Bool.{cases_lt, cond-true, cond_both, le-leb, leb-true, lt-ltb, ltb-true}
 use Rattle.jbig2_base.specs.Search.{code_length}

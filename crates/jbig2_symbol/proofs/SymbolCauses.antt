@@ -84,7 +84,7 @@ cause-instances c r a alone lacks law p width height f s =
     cause-alone c r a P p.symbols id.0 width height f id.1 (λ e no. inl (eqb-true p.count 1 one, inr (id, id_is, no)))))
     (λ other. cause-together c r a P p width height f s (λ e no. inr (eqb-false p.count 1 other, no)))
 
--- what is broken in a step, or behind it
+-- what is broken in a step, or after it
 cause-count : {S : Type 0} (P : DecodeError → Type 0) (reading : Result (Option ℤ × S) DecodeError)
     → ((e : DecodeError) → reading ≡ Err e → P e) → ((e : DecodeError) → Behind reading (λ value. BreaksCount value.0 e) → P e) → IfErr (instance_count reading) P
 unfolding instance_count

@@ -52,7 +52,7 @@ row_R8_2-none : dictionary white (one_symbol (0x40 ∷ 0 ∷ 0xFC ∷ 0x21 ∷ [
 unfolding dictionary symbol_header_at symbol_flags_of symbols_decoded first_contexts symbol_tables is_crowded weight table_for classes_from height_class drawn_class symbols_from next_width prefixed_aggregate instance_count put_together exports runs_from next_run exported_from ended_runs decoded_value read_code least prefix_code shorter lines_a lines_b lines_d bits_left bits_on table pixel_at refinement_pixels_at
 row_R8_2-none = refl
 
--- a black symbol drawn twice at the same place, and the delta S behind the second instance
+-- a black symbol drawn twice at the same place, and the delta S after the second instance
 two_instances : dictionary dot (one_symbol (0x42 ∷ 0 ∷ 0 ∷ 0x1F ∷ 0xC2 ∷ 0x10 ∷ [])) ≡ Ok (record { exported = dot ∷ []; kept = None })
 unfolding dictionary symbol_header_at symbol_flags_of symbols_decoded first_contexts symbol_tables is_crowded weight table_for classes_from height_class drawn_class symbols_from next_width prefixed_aggregate instance_count refined_alone put_together text_region text_instances after_instances with_instance symbol_placed instance_symbol cursor_moved strip_begun strip_delta lines_f lines_h lines_k drawn_pixel exports runs_from next_run exported_from ended_runs decoded_value read_code least prefix_code shorter lines_a lines_b lines_d lines_o bits_left bits_on table pixel_at refinement_pixels_at
 two_instances = refl

@@ -10,7 +10,7 @@ use Rattle.jbig2_symbol.specs.{Symbols.{export_runs, exported, exports, next_run
 use Rattle.jbig2_base.specs.declared.error.DecodeError.TheVariants as errors
 use Rattle.jbig2_base.specs.declared.error.HuffmanError.TheVariants as huffman
 
--- where the numbers of exported and of new symbols stand, behind the adaptive pixels of symbols and of refinements
+-- where the numbers of exported and of new symbols stand, after the adaptive pixels of symbols and of refinements
 abbrev pub counts_place : ℕ → ℕ
 counts_place flags =
     2 + (if flags % 2 == 1 then 0 else if flags / 1024 % 4 == 0 then 8 else 2)
@@ -50,7 +50,7 @@ BreaksRunValue empty left value (errors.Symbol Invalid) = (value ≡ Some (pos 0
 BreaksRunValue empty left value (errors.Symbol OutOfRange) = (run : ℕ) × (value ≡ Some (pos run)) × (left < run)
 BreaksRunValue empty left value _ = ⊥
 
--- the run behind these, each of which was read
+-- the run after these, each of which was read
 abbrev pub BreaksRunBehind : {S : Type 0} → List ℕ → ClassReadings S → SymbolInput → ℕ → ℕ → S → DecodeError → Type 0
 BreaksRunBehind [] r d empty left s e =
     InSteps (r.export_run d s) (IsOf (r.export_run d s) e) (λ value. BreaksRunValue empty left value.0 e)
@@ -70,7 +70,7 @@ abbrev pub IsNoSize : ℤ → Type 0  -- a number outside 32 bits
 IsNoSize (pos n) = 4294967296 ≤ n
 IsNoSize (negsuc n) = Unit {0}
 
--- The difference of a width (6.5.7), where `room` more symbols may come, behind one of this width and this total.
+-- The difference of a width (6.5.7), where `room` more symbols may come, after one of this width and this total.
 abbrev pub BreaksNextWidth : {S : Type 0} → SymbolReadings S → SymbolInput → ℕ → ℕ → ℕ → S → DecodeError → Type 0
 BreaksNextWidth r d room width total s e =
     InSteps (r.width_difference d s) (IsOf (r.width_difference d s) e) (λ value.
@@ -101,7 +101,7 @@ BreaksByInstances c r alone lacks p width height f s e =
     ((e ≡ errors.Symbol OutOfRange) × NamesNone p.symbols id.0) ⊎ BreaksSides width height e ⊎ c.refined rdy.1 e)))))
     ⊎ ((p.count ≢ 1) × (BreaksSides width height e ⊎ BreaksInstances c r p f s e))
 
--- The number of the instances, or behind it the instances; by the arithmetic coder no id is refused.
+-- The number of the instances, or after it the instances; by the arithmetic coder no id is refused.
 abbrev pub BreaksCodedAggregate : SymbolInput → List Grid → ℕ → ℕ → SymbolState Coded → DecodeError → Type 0
 BreaksCodedAggregate d new width height s e =
     Behind (by_procedure Iaai s) (λ value. BreaksCount value.0 e)
@@ -122,7 +122,7 @@ abbrev pub BreaksCodedBitmap : SymbolInput → List Grid → ℕ → ℕ → Sym
 BreaksCodedBitmap d new width height s e =
     (IsTrue d.header.flags.use_refagg × BreaksCodedAggregate d new width height s e) ⊎ (IsFalse d.header.flags.use_refagg × BreaksSides width height e)
 
--- A collective bitmap (6.5.9), behind the value of its size; MMR data has to be whole in strict mode alone.
+-- A collective bitmap (6.5.9), after the value of its size; MMR data has to be whole in strict mode alone.
 abbrev pub BreaksSized : Bool → ℕ → ℕ → Option ℤ → List ℕ → DecodeError → Type 0
 BreaksSized strict width height None bytes e = e ≡ errors.Huffman huffman.UnexpectedOob
 BreaksSized strict width height (Some (negsuc n)) bytes e = e ≡ errors.Overflow BitmapDimension
@@ -141,22 +141,22 @@ abbrev pub BreaksCuts : ℕ → List ℕ → DecodeError → Type 0
 BreaksCuts height widths (errors.Overflow BitmapDimension) = (65535 < height) ⊎ ((k : ℕ) × (width : ℕ) × (slice_get widths k ≡ Some width) × (65535 < width))
 BreaksCuts height widths _ = ⊥
 
--- A width, and what holds of it, of the total with it and of the state behind it.
+-- A width, and what holds of it, of the total with it and of the state after it.
 abbrev pub BehindWidth : {S : Type 0} → SymbolReadings S → SymbolInput → ℕ → ℕ → ℕ → S → (ℕ → ℕ → S → Type 0) → Type 0
 BehindWidth r d room width total s Q =
     Behind (next_width r d room width total s) (λ next. (at : ℕ × ℕ) × (next.0 ≡ Some at) × Q at.0 at.1 next.1)
 
--- Behind so many widths that were read, the next one is refused.
+-- After this many widths that were read, the next one is refused.
 abbrev pub BreaksWidthAfter : {S : Type 0} → ℕ → SymbolReadings S → SymbolInput → ℕ → ℕ → ℕ → S → DecodeError → Type 0
 BreaksWidthAfter zero r d room width total s e = BreaksNextWidth r d room width total s e
 BreaksWidthAfter (suc k) r d room width total s e =
     BehindWidth r d room width total s (λ next all u. BreaksWidthAfter k r d (room - 1) next all u e)
 
--- Why a symbol's bitmap is refused, behind these new symbols and of this width and height.
+-- Why a symbol's bitmap is refused, after these new symbols and of this width and height.
 abbrev pub BitmapCauses : Type 0 → Type 1
 BitmapCauses S = SymbolInput → List Grid → ℕ → ℕ → S → DecodeError → Type 0
 
--- Behind so many symbols that were read, the next one's width is refused, or its bitmap is.
+-- After this many symbols that were read, the next one's width is refused, or its bitmap is.
 abbrev pub BreaksSymbolAfter : {S : Type 0} → ℕ → BitmapCauses S → SymbolReadings S → SymbolInput → ℕ → ℕ → ℕ → ℕ → List Grid → S → DecodeError → Type 0
 BreaksSymbolAfter zero c r d room height width total new s e =
     BreaksNextWidth r d room width total s e ⊎ BehindWidth r d room width total s (λ next all u. c d new next height u e)
@@ -177,7 +177,7 @@ AllDrawnClassesHaveCauses {S} r =
     let own : BitmapCauses S = λ d new width height s. IsOf (r.symbol_bitmap d new width height s) in
     (d : SymbolInput) (height empty : ℕ) (new : List Grid) (s : S) → IfErr (drawn_class r d height empty new s) (BreaksDrawnClass own r d height empty new s)
 
--- One of symbols that are cut: a width, or behind the widths no symbol, the collective bitmap or a symbol's size.
+-- One of symbols that are cut: a width, or after the widths no symbol, the collective bitmap or a symbol's size.
 abbrev pub BreaksCollectiveClass : SymbolInput → ℕ → ℕ → List Grid → SymbolState Place → DecodeError → Type 0
 BreaksCollectiveClass d height empty new s e =
     ((k : ℕ) × BreaksWidthAfter k symbols_by_prefix_codes d (d.header.num_new_symbols - length new) 0 0 s e)
@@ -191,11 +191,11 @@ BreaksPrefixedClass d height empty new s e =
     (IsTrue d.header.flags.use_refagg × BreaksDrawnClass BreaksPrefixedAggregate symbols_by_prefix_codes d height empty new s e)
     ⊎ (IsFalse d.header.flags.use_refagg × BreaksCollectiveClass d height empty new s e)
 
--- Why a class of this height is refused, behind so many classes that had no symbol and these new symbols.
+-- Why a class of this height is refused, after this many classes that had no symbol and these new symbols.
 abbrev pub ClassCauses : Type 0 → Type 1
 ClassCauses S = SymbolInput → ℕ → ℕ → List Grid → S → DecodeError → Type 0
 
--- Behind so many classes that were read symbols are missing, and the next height (6.5.6) or the class is refused.
+-- After this many classes that were read symbols are missing, and the next height (6.5.6) or the class is refused.
 abbrev pub BreaksClassAfter : {S : Type 0} → ℕ → ClassCauses S → ClassReadings S → SymbolInput → ℕ → ℕ → List Grid → S → DecodeError → Type 0
 BreaksClassAfter zero c r d before empty new s e =
     (length new < d.header.num_new_symbols)
@@ -208,7 +208,7 @@ BreaksClassAfter (suc k) c r d before empty new s e =
     Behind (height_class r d before empty new s) (λ (height, symbols, t).
     BreaksClassAfter k c r d height (empty + bit_number (length symbols == 0)) (new ++ symbols) t e)
 
--- one of the classes, or behind them the exports
+-- one of the classes, or after them the exports
 abbrev pub BreaksDictionary : {S : Type 0} → ClassCauses S → ClassReadings S → SymbolInput → S → DecodeError → Type 0
 BreaksDictionary c r d s e =
     ((k : ℕ) × BreaksClassAfter k c r d 0 0 [] s e)

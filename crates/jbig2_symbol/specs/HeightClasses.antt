@@ -1,5 +1,5 @@
 -- Height classes of a symbol dictionary (T.88, 6.5.5, step 4): the widths of symbols, symbols that are drawn one by one,
--- and the classes. They go by the readings of a coding, and give the new symbols and the state behind them.
+-- and the classes. They go by the readings of a coding, and give the new symbols and the state after them.
 use Rattle.std.specs.Prelude.{ℕ, zero, suc, ◌+◌, ◌-◌, ◌==◌, nat_lt, nat_le, ◌&&◌, if◌then◌else◌, List, [], ◌∷◌, ◌++◌, length, Option, Some, None, Result, Ok, Err, ℤ, pos, negsuc, ◌+ℤ◌}
 use Rattle.jbig2_base.specs.{Answer.{◌>>=◌, refuse_if}, Grid.{Grid, bit_number}, declared.error.{DecodeError.{DecodeError}, OverflowError.TheVariants.{BitmapDimension}, SymbolError.TheVariants.{Invalid, TooManySymbols, UnexpectedOob}}}
 use Rattle.jbig2_text.specs.TextCoding.{in_band}
@@ -23,7 +23,7 @@ width_by room width total (Some difference) = do
 unfoldable pub next_width : {S : Type 0} → SymbolReadings S → SymbolInput → ℕ → ℕ → ℕ → S → Result (Option (ℕ × ℕ) × S) DecodeError
 next_width r d room width total s = r.width_difference d s >>= λ value. width_by room width total value.0 >>= λ next. Ok (next, value.1)
 
--- the widths of a class behind one of this width and total: the running sums of the differences
+-- the widths of a class after one of this width and total: the running sums of the differences
 unfoldable pub widths_from : {S : Type 0} → SymbolReadings S → SymbolInput → ℕ → ℕ → ℕ → S → Result (List ℕ × S) DecodeError
 widths_from r d zero width total s = next_width r d 0 width total s >>= λ end. Ok ([], end.1)
 widths_from r d (suc room) width total s =
@@ -36,7 +36,7 @@ widths_from r d (suc room) width total s =
 abbrev pub empty_class : ℕ → ℕ → Result (Unit {0}) DecodeError
 empty_class symbols empty = refuse_if (symbols == 0 && nat_le 1048576 empty) (errors.Symbol Invalid)
 
--- the symbols of a class behind these new ones and one of this width and total, each with its own bitmap
+-- the symbols of a class after these new ones and one of this width and total, each with its own bitmap
 unfoldable pub symbols_from : {S : Type 0} → SymbolReadings S → SymbolInput → ℕ → ℕ → ℕ → ℕ → List Grid → S → Result (List Grid × S) DecodeError
 symbols_from r d zero height width total new s = next_width r d 0 width total s >>= λ end. Ok ([], end.1)
 symbols_from r d (suc room) height width total new s =
@@ -47,14 +47,14 @@ symbols_from r d (suc room) height width total new s =
           symbols_from r d room height at.0 at.1 (new ++ symbol.0 ∷ []) symbol.1 >>= λ others. Ok (symbol.0 ∷ others.0, others.1)
     ])
 
--- a class of such symbols, behind these new ones and so many classes that had none
+-- a class of such symbols, after these new ones and this many classes that had none
 unfoldable pub drawn_class : {S : Type 0} → SymbolReadings S → SymbolInput → ℕ → ℕ → List Grid → S → Result (List Grid × S) DecodeError
 drawn_class r d height empty new s = do
   symbols ← symbols_from r d (d.header.num_new_symbols - length new) height 0 0 new s
   few ← empty_class (length symbols.0) empty
   Ok symbols
 
--- the height class behind one of this height: its own height (HCHEIGHT) and its symbols, all of that height
+-- the height class after one of this height: its own height (HCHEIGHT) and its symbols, all of that height
 unfoldable pub height_class : {S : Type 0} → ClassReadings S → SymbolInput → ℕ → ℕ → List Grid → S → Result (ℕ × List Grid × S) DecodeError
 height_class r d before empty new s = do
   value ← r.height_difference d s
@@ -63,7 +63,7 @@ height_class r d before empty new s = do
   class ← r.class_of_height d height empty new value.1
   Ok (height, class.0, class.1)
 
--- The symbols of the classes behind one of this height, until all are there. Each has a symbol or is one of the 2^20 that
+-- The symbols of the classes after one of this height, until all are there. Each has a symbol or is one of the 2^20 that
 -- may be empty, so n of them are enough where n is at least the number of the symbols and the empty classes to come.
 unfoldable pub classes_from : {S : Type 0} → ClassReadings S → SymbolInput → ℕ → ℕ → ℕ → List Grid → S → Result (List Grid × S) DecodeError
 classes_from r d zero before empty new s = Ok ([], s)

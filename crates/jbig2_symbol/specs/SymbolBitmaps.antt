@@ -67,7 +67,7 @@ aggregate_flags flags = record {
   refinement_template = flags.refinement_template;
 }
 
--- so many of the symbols that are there; there may be 32 for each byte of the dictionary's coded data (our own rule)
+-- this many of the symbols that are there; there may be 32 for each byte of the dictionary's coded data (our own rule)
 abbrev pub aggregate_params : SymbolInput → List Grid → ℕ → TextParams
 aggregate_params d new count = record {
   flags = aggregate_flags d.header.flags;
@@ -91,7 +91,7 @@ coded_instances p width height s = do
   symbol ← by_instances by_coder (λ c. Ok (next_id c)) p width height s.contexts.refining s.coding
   Ok (symbol.0, record { coding = symbol.2; contexts = record s.contexts { refining = symbol.1 } })
 
--- A symbol of this width and height, behind these new ones; IAAI gives the number of its instances.
+-- A symbol of this width and height, after these new ones; IAAI gives the number of its instances.
 unfoldable pub coded_aggregate : SymbolInput → List Grid → ℕ → ℕ → SymbolState Coded → Result (Grid × SymbolState Coded) DecodeError
 coded_aggregate d new width height s =
     instance_count (by_procedure Iaai s) >>= λ count. coded_instances (aggregate_params d new count.0) width height count.1
@@ -126,7 +126,7 @@ raw_rows width height bytes = do
   rows ← bytes_at (height * raw_stride width) bytes
   Ok (grid_of width height (raw_pixel rows.0 (raw_stride width)), rows.1)
 
--- or MMR data of so many bytes; each with the bytes behind it
+-- or MMR data of this many bytes; each with the bytes after it
 unfoldable pub mmr_bytes : Bool → ℕ → ℕ → ℕ → List ℕ → Result (Grid × List ℕ) DecodeError
 mmr_bytes strict size width height bytes = do
   coded ← bytes_at size bytes

@@ -1,5 +1,5 @@
 -- The data of a symbol dictionary segment up to its coded bytes (T.88, 7.4.2.1): flags, the adaptive pixels, and the
--- numbers of exported and of new symbols. The bytes give the header, and the coded bytes stand behind it.
+-- numbers of exported and of new symbols. The bytes give the header, and the coded bytes stand after it.
 use Rattle.std.specs.{Prelude.{ℕ, ◌/◌, ◌%◌, ◌==◌, nat_lt, Bool, false, ◌||◌, List, [], Result, Ok, Err, if◌then◌else◌}, Int.{w16, w32}}
 use Rattle.jbig2_base.specs.{Answer.{refuse_if, ◌>>=◌}, Fields.{number_at}, declared.error.{DecodeError.{DecodeError, TheVariants.{Huffman, Overflow}}, HuffmanError.TheVariants.{InvalidSelection}, OverflowError.TheVariants.{SymbolCount}}}
 use Rattle.jbig2_region.specs.{RefinementTemplates.{refinement_pixels_at, refinement_template_of}, Templates.{adaptive_pixel_count, adaptive_pixels_at, template_of}, declared.template.AdaptiveTemplatePixel.{AdaptiveTemplatePixel}}

@@ -1,5 +1,5 @@
 -- What a symbol dictionary is read by (T.88, 6.5 and 7.4.2): its tables of prefix codes, and its contexts. A coding
--- has readings, each from a state to what is read and the state behind it; `SymbolCoding` has those of the two
+-- has readings, each from a state to what is read and the state after it; `SymbolCoding` has those of the two
 -- codings.
 use Rattle.std.specs.Prelude.{ℕ, Bool, true, false, not, ◌&&◌, if◌then◌else◌, List, Option, Result, Ok, Err, ℤ, pos, negsuc}
 use Rattle.jbig2_base.specs.{Answer.{◌>>=◌, refuse_if, some_or}, Bits.{Place, bits_left, bits_on}, Grid.{Grid}, declared.error.{DecodeError.{DecodeError}, SymbolError.TheVariants.{Invalid}}}
@@ -109,13 +109,13 @@ learned c = record {
 }
 
 -- How the symbols of a height class are read one by one: the difference in width, where out of band ends the class
--- (6.5.7), and the bitmap, behind these new symbols and of this width and height (6.5.8).
+-- (6.5.7), and the bitmap, after these new symbols and of this width and height (6.5.8).
 pub record SymbolReadings (S : Type 0) : Type 0 where
   pub width_difference : SymbolInput → S → Result (Option ℤ × S) DecodeError
   pub symbol_bitmap : SymbolInput → List Grid → ℕ → ℕ → S → Result (Grid × S) DecodeError
 
 -- How a dictionary is read: a height class's difference in height (6.5.6); its symbols (6.5.5, step 4), of this height,
--- behind so many classes that had none and these new symbols; and a run of symbols that are exported or not (6.5.10).
+-- after this many classes that had none and these new symbols; and a run of symbols that are exported or not (6.5.10).
 pub record ClassReadings (S : Type 0) : Type 0 where
   pub height_difference : SymbolInput → S → Result (Option ℤ × S) DecodeError
   pub class_of_height : SymbolInput → ℕ → ℕ → List Grid → S → Result (List Grid × S) DecodeError

@@ -41,7 +41,7 @@ use jbig2_coder::huffman_table::{HuffmanTable, StandardHuffmanTables};
 use std::alloc::Allocator;
 use std::sync::ledger::Ledger;
 
-/// Reads the new symbols of a dictionary, and copies those that it exports.
+/// Reads the new symbols of a dictionary, and gives those that it exports.
 fn decode_by<R: ReadClasses, A: Allocator + Clone, T: Allocator, L: Ledger>(
     alloc: A,
     input: &SymbolInput<'_, A, T>,
@@ -55,7 +55,7 @@ fn decode_by<R: ReadClasses, A: Allocator + Clone, T: Allocator, L: Ledger>(
         Gives (λ symbols. (symbols.items, R.state readings.new)) result meant }
 {
     let new = read_new_symbols(alloc.clone()?, input, readings, steps)?;
-    read_exports(alloc, input, &new, readings, steps)
+    read_exports(alloc, input, new, readings, steps)
 }
 
 /// A dictionary of these symbols, which keeps its contexts if its header says so.

@@ -147,7 +147,7 @@ fn each_width_agrees<L: Ledger>(
     Ok(true)
 }
 
-/// Against a copy pixel by pixel. Behind a request for memory that was refused all is done once more.
+/// Against a copy pixel by pixel. After a request for memory that was refused all is done once more.
 #[test]
 fn combinations_agree_with_a_copy_by_pixels(rt: HostRuntime) {
     let mut page = Bitmap::new_empty(rt.alloc());

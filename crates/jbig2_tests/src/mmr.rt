@@ -264,7 +264,7 @@ fn push_row(bits: &mut Vec<bool>, white: u32, black: u32) -> Result<()> {
     push_run(bits, true, black)
 }
 
-/// Eight bits to a byte, the first in the highest, and zeros behind the last.
+/// Eight bits to a byte, the first in the highest, and zeros after the last.
 fn bytes_of(alloc: Global, bits: &[bool]) -> Result<Vec<u8>> {
     let mut bytes = Vec::new(alloc);
     for group in bits.chunks(8) {

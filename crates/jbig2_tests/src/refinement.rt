@@ -168,7 +168,7 @@ fn one_after_the_other<L: Ledger>(
     Ok([first, second])
 }
 
-/// Two behind each other, and the first of two whose reference lies far away.
+/// Two after each other, and the first of two whose reference lies far away.
 fn coders_hold<L: Ledger>(alloc: Global, blank: Blank) -> Result<bool>
     requires name { blank.name ≡ L.name }
     requires parts { blank.parts ≡ L.parts }

@@ -1,4 +1,4 @@
--- Law: no definition of text regions answers an error that bytes cannot bring about, whatever the numbers are coded by.
+-- Law: no definition of text regions returns an error that bytes cannot bring about, whatever the numbers are coded by.
 use Rattle.std.proofs.Common.{ℕ, zero, suc, Bool, true, false, List, Option, Some, None, ℤ, pos, negsuc}
 use Rattle.jbig2_base.specs.Grid.{Grid}
 use Rattle.jbig2_base.specs.declared.error.DecodeError.{DecodeError}
@@ -11,7 +11,7 @@ use Rattle.jbig2_text.specs.declared.text.cursor.Cursor.{Cursor}
 use Rattle.jbig2_text.specs.declared.text.refined.RefinementDeltas.{RefinementDeltas}
 use Rattle.jbig2_text.specs.declared.text.header.TextRegionFlags.{TextRegionFlags}
 
--- each reading answers such errors alone
+-- each reading returns such errors alone
 pub record AreAnswered {S : Type 0} (r : Readings S) : Type 0 where
   pub delta_t : (s : S) → Answered (r.delta_t s)
   pub first_s : (s : S) → Answered (r.first_s s)

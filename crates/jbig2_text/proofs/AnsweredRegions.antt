@@ -1,4 +1,4 @@
--- Law: no definition of the headers and the codings of text regions answers an error that bytes cannot bring about.
+-- Law: no definition of the headers and the codings of text regions returns an error that bytes cannot bring about.
 use Rattle.std.proofs.Common.{ℕ, zero, suc, Bool, true, false, List, Option, Some, None, ℤ, pos, negsuc}
 use Rattle.jbig2_base.specs.Bits.{Place}
 use Rattle.jbig2_base.specs.Grid.{Grid}

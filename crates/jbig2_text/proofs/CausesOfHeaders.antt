@@ -43,7 +43,7 @@ there : (bytes : List ℕ) (m n : ℕ) (rest : List ℕ) → m ≡ n → Stands 
 there bytes m n rest same s = subst (λ (k : ℕ). Stands bytes k rest) same s
 
 -- ---- the flags
--- what the flags say that the fields behind them depend on
+-- what the flags say that the fields after them depend on
 record Flags (bytes : List ℕ) (x : (Bool × TextRegionFlags) × List ℕ) : Type 0 where
   coded : x.0.0 ≡ eqb (text_flags_in bytes % 2) 1
   refined : x.0.1.use_refinement ≡ eqb (text_flags_in bytes / 2 % 2) 1
@@ -62,7 +62,7 @@ told-flags P bytes rest s short =
       behind = there bytes (17 + 2) 19 flags.1 (omega arith) n.behind;
     }))
 
--- ---- the fields behind them
+-- ---- the fields after them
 told-tables : (P : DecodeError → Type 0) (coded : Bool) (bytes rest : List ℕ) → Stands bytes 19 rest → (length bytes < cond coded 21 19 → P end_of_bytes)
     → Told (table_numbers_at coded rest) P (λ x. (is_some x.0 ≡ coded) × Stands bytes (cond coded 21 19) x.1)
 told-tables P true bytes rest s short =

@@ -100,7 +100,7 @@ abbrev RefinedFrom : {S : Type 0} → Readings S → TextParams → ℤ → S �
 RefinedFrom r p id s Q =
     Behind (refinement_flag r p.flags s) (λ ri. (ri.0 ≡ true) × ((from : Grid) × (symbol_of p.symbols id ≡ Some from) × Q from ri.1))
 
--- what an instance's symbol may break, by the state behind its id
+-- what an instance's symbol may break, by the state after its id
 record SymbolWhys {S : Type 0} (c : ReadingCauses S) (r : Readings S) (p : TextParams) (id : ℤ) (s : S) (P : DecodeError → Type 0) : Type 0 where
   none : NamesNone p.symbols id → P (Symbol OutOfRange)
   side : RefinedFrom r p id s (λ from u. Behind (refinement_deltas r u) (λ rd. IsNoSide (pos from.width +ℤ rd.0.width) ⊎ IsNoSide (pos from.height +ℤ rd.0.height))) → P (Overflow BitmapDimension)

@@ -98,7 +98,7 @@ customs_of_three n = customs_if (ltb 2 n)
 abbrev customs_of_size : ℕ → ℕ
 customs_of_size n = customs_if (ltb 0 n)
 
--- so many are taken where a number is a certain one
+-- this many are taken where a number is a certain one
 taken-at : (f : ℕ → ℕ) (n m : ℕ) → n ≡ m → f n ≡ f m
 taken-at f n m same = ap f same
 

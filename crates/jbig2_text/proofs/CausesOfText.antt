@@ -44,7 +44,7 @@ cause-moved c r a flags at (Some ids) s =
     cause-last P _ (coordinate (at.cur_s +ℤ ids)) _ (told-word P _ (at.cur_s +ℤ ids) (λ large. (refl, inl large))) (λ apart is.
     cause-last P _ (coordinate (apart +ℤ flags.delta_s_offset)) _ (told-word P _ (apart +ℤ flags.delta_s_offset) (λ large. (refl, inr (rw is large)))) (λ curs r. tt))
 
--- the way to the next instance: IDS, and behind it
+-- the way to the next instance: IDS, and after it
 abbrev pub BreaksMove : {S : Type 0} → ReadingCauses S → Readings S → TextRegionFlags → Cursor → S → DecodeError → Type 0
 BreaksMove c r flags at s e = c.delta_s s e ⊎ Behind (r.delta_s s) (λ ids. BreaksMoveBy c r flags at ids (r.behind_delta_s s) e)
 

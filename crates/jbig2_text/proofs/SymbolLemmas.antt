@@ -9,7 +9,7 @@ use Rattle.jbig2_base.specs.declared.error.DecodeError.TheVariants.{OutOfMemory}
 use Rattle.jbig2_coder.specs.PrefixCode.{Member}
 use Rattle.jbig2_text.specs.SymbolCodes.{invalid_code, short_lengths, next_runcode, runs_at, symbol_codes_from}
 
--- what is read: lengths, and the place behind them
+-- what is read: lengths, and the place after them
 abbrev pub Lengths : Type 0
 Lengths = Result (List ℕ × Place) DecodeError
 

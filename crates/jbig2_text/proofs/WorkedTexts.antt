@@ -37,7 +37,7 @@ region_of symbol strict bytes = text_header_at 1 strict bytes >>= λ h. text_dec
 abbrev region : Bool → List ℕ → Result PlacedRegion DecodeError
 region strict bytes = region_of black strict bytes
 
--- a region of 8 by 1 with so many instances, and these last two bytes
+-- a region of 8 by 1 with this many instances, and these last two bytes
 abbrev one_row : List ℕ → List ℕ → List ℕ
 one_row count end = 0 ∷ 0 ∷ 0 ∷ 8 ∷ 0 ∷ 0 ∷ 0 ∷ 1 ∷ (replicate 9 0 ++ 0 ∷ 0x11 ∷ 0 ∷ 0 ∷ (count ++ 1 ∷ (replicate 17 0 ++ end)))
 

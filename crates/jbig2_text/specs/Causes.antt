@@ -1,6 +1,6 @@
 -- Which rule the input breaks where a text region is refused (docs/FORMAT.md): in its header, at its instances,
 -- whatever the numbers are coded by, in its tables, and in its numbers as they are coded. `Breaks..` takes what is
--- read and an error, and its law ties the definition's errors to it. What is refused at an instance is refused behind
+-- read and an error, and its law ties the definition's errors to it. What is refused at an instance is refused after
 -- those before it, which are read.
 use Rattle.std.specs.{Prelude.{◌≡◌, ◌<◌, ◌⊎◌, ℕ, ◌+◌, ◌/◌, ◌%◌, ◌==◌, Bool, ◌&&◌, if◌then◌else◌, List, [], length, drop, Result, Ok, Err, IfErr, ℤ, pos, negsuc, ◌≤◌, ◌-◌, ◌*◌, ◌^◌, true, false, ◌+ℤ◌, ◌-ℤ◌, ◌*ℤ◌, Option, Some, None, ◌≢◌, nat_lt}, Int.{w8, w16, int_shr}}
 use Rattle.jbig2_base.specs.{Bits.{Place, bits_left, start_of, aligned}, Causes.{number_in, BreaksSides}, declared.error.{DecodeError.{DecodeError, TheVariants.{Huffman, Parse, Region, Unsupported, Overflow, Symbol}}, HuffmanError.TheVariants.{InvalidCode, InvalidSelection, MissingTables}, ParseError.TheVariants.{UnexpectedEof}, RegionError.TheVariants.{InvalidCombinationOperator}, OverflowError.TheVariants.{BitmapDimension, PlacementCoordinate, ReferenceOffset}, SymbolError.TheVariants.{InvalidStripDelta, OutOfRange, TooManyInstances, UnexpectedOob}}, Grid.{Grid}}
@@ -8,7 +8,7 @@ use Rattle.jbig2_coder.specs.{Causes.{AreCrowded, LeavesWord}, PrefixCode.{Membe
 use Rattle.jbig2_text.specs.{SymbolCodes.{lines_from, runcodes_at, runs_at, short_lengths, value_at}, TextHeader.{ArithmeticCoding, HuffmanCoding, NumberCoding, TextHeader}, Refining.{Refining}, Text.{Reached, Readings, TextParams, after_instances, instance_symbol, is_bottom, is_last_along_s, is_right, refinement_deltas, strip_begun, strip_delta, symbol_of, t_in_strip, with_instance}, declared.text.{cursor.Cursor.{Cursor}, header.{TextRegionFlags.{TextRegionFlags}, TextRegionHuffmanFlags.{TextRegionHuffmanFlags}}}, TextCoding.{Coded, Prefixed, by_coder, by_prefix_codes, next_integer}, TextRegion.{coder_of, prefix_codes_of, refining_of, text_params}}
 use Rattle.jbig2_region.specs.Refinement.{Reference}
 
--- this is answered, and of the answer it holds
+-- this is returned, and of the answer it holds
 abbrev pub Behind : {A : Type 0} → Result A DecodeError → (A → Type 0) → Type 0
 Behind {A} r P = (x : A) × (r ≡ Ok x) × P x
 
@@ -17,7 +17,7 @@ abbrev pub RefusesNumber : List Member → Place → DecodeError → Type 0
 RefusesNumber table p e = no_oob (decoded_value table (bits_left p)).answer ≡ Err e
 
 -- ---- the codes of the ids (7.4.3.1.7)
--- Behind a runcode its bits are missing: two behind 32, three behind 33, seven behind 34; or 32 repeats no length.
+-- After a runcode its bits are missing: two after 32, three after 33, seven after 34; or 32 repeats no length.
 abbrev pub BreaksRun : ℤ → List ℕ → Place → Type 0
 BreaksRun (pos code) so_far p =
     ((code ≡ 32) × ((length (bits_left p) < 2) ⊎ (so_far ≡ [])))
@@ -25,7 +25,7 @@ BreaksRun (pos code) so_far p =
     ⊎ ((33 < code) × (length (bits_left p) < 7))
 BreaksRun (negsuc n) so_far p = Unit {0}
 
--- Behind some runs there are too few lengths, and of the runcodes, the lengths so far and the place this holds.
+-- After some runs there are too few lengths, and of the runcodes, the lengths so far and the place this holds.
 abbrev pub ARun : ℕ → Place → (List Member → List ℕ → Place → Type 0) → Type 0
 ARun count p Q =
     Behind (runcodes_at p) (λ runcodes. (k : ℕ) × Behind (runs_at k count runcodes.0 [] runcodes.1) (λ lens.
@@ -50,7 +50,7 @@ fields_length bytes =
     let flags = number_in w16 17 bytes in
     (if flags % 2 == 1 then 21 else 19) + (if (flags / 2 % 2 == 1) && (flags / 32768 == 0) then 4 else 0) + 4
 
--- with prefix codes, the codes of the ids stand behind these fields
+-- with prefix codes, the codes of the ids stand after these fields
 abbrev pub BreaksTextHeader : ℕ → List ℕ → DecodeError → Type 0
 BreaksTextHeader symbols bytes e =
     ((e ≡ Parse UnexpectedEof) × (length bytes < fields_length bytes))
@@ -103,14 +103,14 @@ BreaksStrip c r flags stript firsts s e =
     ⊎ c.delta_t s e
     ⊎ Behind (strip_delta r flags s) (λ dt. c.first_s dt.1 e)
 
--- the way behind IDS: to the next strip, or in this one, where CURS leaves 32 bits by IDS or by SBDSOFFSET
+-- the way after IDS: to the next strip, or in this one, where CURS leaves 32 bits by IDS or by SBDSOFFSET
 abbrev pub BreaksMoveBy : {S : Type 0} → ReadingCauses S → Readings S → TextRegionFlags → Cursor → Option ℤ → S → DecodeError → Type 0
 BreaksMoveBy c r flags at None s e = BreaksStrip c r flags at.strip_t at.first_s s e
 BreaksMoveBy c r flags at (Some ids) s e =
     (e ≡ Overflow PlacementCoordinate) × (LeavesWord (at.cur_s +ℤ ids) ⊎ LeavesWord (at.cur_s +ℤ ids +ℤ flags.delta_s_offset))
 
 -- ---- an instance (6.4.5, step 3 c)
--- its id, and the state behind it
+-- its id, and the state after it
 abbrev pub AtId : {S : Type 0} → Readings S → TextParams → Reached S → (ℤ → S → Type 0) → Type 0
 AtId r p x Q = Behind (t_in_strip r p.flags x.state) (λ t. Behind (r.id t.1) (λ id. Q id.0 id.1))
 
@@ -129,7 +129,7 @@ APlaceLeaves flags g curs ti =
     ⊎ ((is_right flags.reference_corner ≡ true) × LeavesWord ((if flags.transposed then ti else si) -ℤ (pos g.width -ℤ pos 1)))
     ⊎ ((is_bottom flags.reference_corner ≡ true) × LeavesWord ((if flags.transposed then si else ti) -ℤ (pos g.height -ℤ pos 1)))
 
--- one of the four numbers of a refinement is refused, or the symbol's bits behind them
+-- one of the four numbers of a refinement is refused, or the symbol's bits after them
 abbrev pub ARefinementIsRefused : {S : Type 0} → ReadingCauses S → Readings S → S → DecodeError → Type 0
 ARefinementIsRefused c r s e =
     c.width_delta s e
@@ -156,17 +156,17 @@ BreaksInstance c r p x e =
     ⊎ AtRefined r p x (λ from s. ARefinementIsRefused c r s e)
 
 -- ---- all instances
--- instance k, behind those before it; STRIPT begins at the negative of the first delta T
+-- instance k, after those before it; STRIPT begins at the negative of the first delta T
 abbrev pub AtInstance : {S : Type 0} → Readings S → TextParams → Refining → S → ℕ → (Reached S → Type 0) → Type 0
 AtInstance r p f s k Q =
     Behind (strip_delta r p.flags s) (λ dt. Behind (strip_begun r p.flags (pos 0 -ℤ dt.0) (pos 0) dt.1) (λ c.
     Behind (after_instances r p k (record { instances = []; cursor = c.0; refining = f; state = c.1 })) Q))
 
--- the state behind the last instance, in strict mode
+-- the state after the last instance, in strict mode
 abbrev pub AtEnd : {S : Type 0} → Readings S → TextParams → Refining → S → (S → Type 0) → Type 0
 AtEnd r p f s Q = (p.strict ≡ true) × AtInstance r p f s (p.count - 1) (λ x. Behind (with_instance r p x) (λ last. Q last.state))
 
--- More instances than 32 for each byte, or in strict mode a further one behind the last; the first delta T or its negative
+-- More instances than 32 for each byte, or in strict mode a further one after the last; the first delta T or its negative
 -- leaves 32 bits; or the first delta T, the first strip, an instance, the way to the next one or the last delta S breaks.
 abbrev pub BreaksInstances : {S : Type 0} → ReadingCauses S → Readings S → TextParams → Refining → S → DecodeError → Type 0
 BreaksInstances c r p f s e =

@@ -16,7 +16,7 @@ unfoldable pub refined_by : Refining → Reference → ℕ → ℕ → List ℕ 
 refined_by f from width height bytes registers =
     decoded_region (refinement_coding f.template false f.pixels from) width height bytes (no_pixels registers f.contexts)
 
-pub record Refined : Type 0 where  -- the symbol, and the coder and the contexts behind it
+pub record Refined : Type 0 where  -- the symbol, and the coder and the contexts after it
   pub grid : Grid
   pub coder : Coder
   pub refining : Refining

@@ -1,5 +1,5 @@
 -- The prefix codes of the symbols' ids (T.88, 7.4.3.1.7): their lengths, as runs that are prefix-coded themselves. A
--- place in the bits and the number of the symbols give the codes, and the place behind them.
+-- place in the bits and the number of the symbols give the codes, and the place after them.
 use Rattle.std.specs.Prelude.{ℕ, zero, suc, ◌+◌, ◌-◌, nat_lt, ◌==◌, List, [], ◌∷◌, ◌++◌, length, replicate, slice_get, Result, Ok, Err, ℤ, pos, negsuc, if◌then◌else◌}
 use Rattle.jbig2_base.specs.{Answer.{◌>>=◌, refuse_if, some_or}, Bits.{Place, aligned, bits_left, bits_on, start_of}, Fields.{bits_at}, declared.error.{DecodeError.{DecodeError, TheVariants.{Huffman}}, HuffmanError.TheVariants.{InvalidCode}}}
 use Rattle.jbig2_coder.specs.{PrefixCode.{Member, decoded_value, no_oob, table_of}, Tables.{line}, declared.huffman_table.line.TableLine.{TableLine}}
@@ -7,7 +7,7 @@ use Rattle.jbig2_coder.specs.{PrefixCode.{Member, decoded_value, no_oob, table_o
 abbrev pub invalid_code : DecodeError
 invalid_code = Huffman InvalidCode
 
--- a number by a table of prefix codes (B.4), which may not be out of band, and the place behind it
+-- a number by a table of prefix codes (B.4), which may not be out of band, and the place after it
 abbrev pub value_at : List Member → Place → Result (ℤ × Place) DecodeError
 value_at table p =
     let read = decoded_value table (bits_left p) in
@@ -17,12 +17,12 @@ abbrev pub lines_from : ℕ → List ℕ → List TableLine  -- the numbers from
 lines_from n [] = []
 lines_from n (len ∷ lens) = line len 0 (pos n) ∷ lines_from (n + 1) lens
 
--- `count` lengths of four bits each, behind those so far
+-- `count` lengths of four bits each, after those so far
 unfoldable pub short_lengths : ℕ → List ℕ → Place → Result (List ℕ × Place) DecodeError
 short_lengths zero so_far p = Ok (so_far, p)
 short_lengths (suc count) so_far p = bits_at invalid_code 4 p >>= λ len. short_lengths count (so_far ++ len.0 ∷ []) len.1
 
-abbrev pub repeated : List ℕ → ℕ → Result (List ℕ) DecodeError  -- with the last length so many times more
+abbrev pub repeated : List ℕ → ℕ → Result (List ℕ) DecodeError  -- with the last length this many times more
 repeated so_far count = some_or invalid_code (slice_get so_far (length so_far - 1)) >>= λ len. Ok (so_far ++ replicate count len)
 
 -- The lengths that a runcode stands for: itself, or the last length 3 to 6 times, or 3 to 10 or 11 to 138 zeros.
@@ -55,7 +55,7 @@ symbol_lengths_at count runcodes p = do
   fit ← refuse_if (nat_lt count (length lens.0)) invalid_code
   Ok lens
 
--- The codes of `count` symbols, and the whole byte behind them (step 5).
+-- The codes of `count` symbols, and the whole byte after them (step 5).
 unfoldable pub symbol_codes_from : ℕ → Place → Result (List Member × Place) DecodeError
 symbol_codes_from count p = do
   runcodes ← runcodes_at p

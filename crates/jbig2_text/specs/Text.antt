@@ -1,4 +1,4 @@
--- Text regions (T.88, 6.4): instances of symbols, whose numbers are read one behind the other; then the instances are
+-- Text regions (T.88, 6.4): instances of symbols, whose numbers are read one after the other; then the instances are
 -- drawn. Every coordinate is a signed number of 32 bits, else it is refused (our own rule).
 use Rattle.std.specs.{Prelude.{ℕ, zero, suc, ◌-◌, ◌*◌, ◌^◌, nat_le, nat_lt, ◌==◌, Bool, true, false, ◌||◌, if◌then◌else◌, ℤ, pos, negsuc, ◌+ℤ◌, ◌-ℤ◌, ◌*ℤ◌, List, [], ◌∷◌, ◌++◌, slice_get, Option, Some, None, Result, Ok, Err}, Int.{int_shr}, Option.{is_some}}
 use Rattle.jbig2_base.specs.{Answer.{◌>>=◌, refuse_if, some_or}, Combination.{combined}, Grid.{Grid}, declared.{bitmap.operator.CombinationOperator.{CombinationOperator}, error.{DecodeError.{DecodeError, TheVariants.{Overflow, Symbol}}, OverflowError.TheVariants.{BitmapDimension, PlacementCoordinate, ReferenceOffset}, SymbolError.TheVariants.{InvalidStripDelta, OutOfRange, TooManyInstances}}}, Fields.{word_or}}
@@ -19,8 +19,8 @@ pub record Instance : Type 0 where  -- a symbol, and the column and the row of i
   pub y : ℤ
 
 -- How the numbers are coded (6.4.6 to 6.4.11): each reading goes from a state of the coder to a value and the state
--- behind it. What a delta S has used up is used up also where it is refused; None ends a strip. `t_bits` is by the log
--- of the strip size, `refined` by the reference, the width, the height and the contexts, which it answers as learned.
+-- after it. What a delta S has used up is used up also where it is refused; None ends a strip. `t_bits` is by the log
+-- of the strip size, `refined` by the reference, the width, the height and the contexts, which it returns as learned.
 pub record Readings (S : Type 0) : Type 0 where
   pub delta_t : S → Result (ℤ × S) DecodeError
   pub first_s : S → Result (ℤ × S) DecodeError
@@ -154,7 +154,7 @@ grown flags g curs = coordinate (curs +ℤ (pos (if flags.transposed then g.heig
 abbrev pub edge : Bool → ℕ → ℤ → Result ℤ DecodeError
 edge at_last side place = if at_last then coordinate (place -ℤ (pos side -ℤ pos 1)) else Ok place
 
--- A symbol at SI and TI, and CURS behind it (steps 3 c vi to x). CURS goes on by the symbol's extent: before it is
+-- A symbol at SI and TI, and CURS after it (steps 3 c vi to x). CURS goes on by the symbol's extent: before it is
 -- placed where its corner is the last one along S (vi), else afterwards (x).
 unfoldable pub symbol_placed : TextRegionFlags → Grid → ℤ → ℤ → Result (Instance × ℤ) DecodeError
 symbol_placed flags g curs ti = do
@@ -181,7 +181,7 @@ with_instance r p x = do
   more ← with_symbol p.flags x.instances x.cursor ti ib.0
   Ok (record { instances = more.0; cursor = more.1; refining = ib.1; state = ib.2 })
 
--- so many more, with others behind them
+-- this many more, with others after them
 unfoldable pub after_instances : {S : Type 0} → Readings S → TextParams → ℕ → Reached S → Result (Reached S) DecodeError
 after_instances r p zero x = Ok x
 after_instances r p (suc n) x = do
@@ -189,7 +189,7 @@ after_instances r p (suc n) x = do
   c ← cursor_moved r p.flags y.cursor y.state
   after_instances r p n (record y { cursor = c.0; state = c.1 })
 
-abbrev pub Found : Type 0 → Type 0  -- instances, and the contexts and the coder behind them
+abbrev pub Found : Type 0 → Type 0  -- instances, and the contexts and the coder after them
 Found S = List Instance × Refining × S
 
 -- All instances (steps 1, 3 and 4); STRIPT begins at the negative of the first DT, and none take no strip. More than 32
@@ -212,7 +212,7 @@ abbrev pub instances_drawn : CombinationOperator → List Instance → Grid → 
 instances_drawn operator [] region = region
 instances_drawn operator (i ∷ others) region = instances_drawn operator others (combined operator region i.grid i.x i.y)
 
--- a region (6.4.5) from its default colour on, and the contexts and the coder behind it
+-- a region (6.4.5) from its default colour on, and the contexts and the coder after it
 unfoldable pub text_region : {S : Type 0} → Readings S → TextParams → Grid → Refining → S → Result (Grid × Refining × S) DecodeError
 text_region r p region f s =
     text_instances r p f s >>= λ found. Ok (instances_drawn p.flags.combination_operator found.0 region, found.1, found.2)

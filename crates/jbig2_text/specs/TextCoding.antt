@@ -13,20 +13,20 @@ pub record Coded : Type 0 where
   pub procedures : Procedures
   pub ids : Ids
 
-unfoldable pub coded_start : List ℕ → ℕ → Coded  -- at the start of the bytes, with ids of so many bits
+unfoldable pub coded_start : List ℕ → ℕ → Coded  -- at the start of the bytes, with ids of this many bits
 coded_start bytes bits = record {
   coder = record { bytes = bytes; registers = initial_registers bytes };
   procedures = fresh_procedures;
   ids = record { code_len = bits; contexts = replicate (2 ^ bits) fresh };
 }
 
--- an integer or out of band (A.2), and the state behind it
+-- an integer or out of band (A.2), and the state after it
 abbrev pub next_integer : IntegerProcedure → Coded → Option ℤ × Coded
 next_integer procedure s =
     let a = asked procedure s.coder s.procedures in
     (a.value, record s { coder = a.coder; procedures = a.procedures })
 
-abbrev pub next_id : Coded → ℤ × Coded  -- an id (A.3), and the state behind it
+abbrev pub next_id : Coded → ℤ × Coded  -- an id (A.3), and the state after it
 next_id s =
     let r = id s.coder.bytes s.coder.registers s.ids in
     let behind : Coder = record s.coder { registers = r.registers } in
@@ -79,7 +79,7 @@ prefixed_value table s = value_at table s.place >>= λ n. Ok (n.0, record s { pl
 abbrev pub prefixed_bits : DecodeError → ℕ → Prefixed → Result (ℕ × Prefixed) DecodeError
 prefixed_bits e count s = bits_at e count s.place >>= λ n. Ok (n.0, record s { place = n.1 })
 
--- so many bytes from the next whole one on, and the place behind them
+-- this many bytes from the next whole one on, and the place after them
 abbrev pub sized_bytes : ℤ → Place → Result (List ℕ × Place) DecodeError
 sized_bytes (pos size) p = bytes_at size (aligned p).bytes >>= λ coded. Ok (coded.0, start_of coded.1)
 sized_bytes (negsuc size) p = Err end_of_bytes

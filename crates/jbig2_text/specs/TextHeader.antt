@@ -1,5 +1,5 @@
 -- The data of a text region segment up to its coded bytes (T.88, 7.4.3.1): region information, flags, adaptive pixels,
--- the number of instances and the codes of the ids. The bytes give the header, and the coded bytes behind it.
+-- the number of instances and the codes of the ids. The bytes give the header, and the coded bytes after it.
 use Rattle.std.specs.{Prelude.{ℕ, ◌/◌, ◌%◌, ◌==◌, nat_lt, Bool, true, false, List, [], length, Option, Some, None, Result, Ok, if◌then◌else◌, ℤ, pos, ◌-ℤ◌}, Int.{w16, w32}}
 use Rattle.jbig2_base.specs.{Answer.{◌>>=◌}, Fields.{number_at}, Combination.{operator_of}, declared.error.DecodeError.{DecodeError}}
 use Rattle.jbig2_coder.specs.PrefixCode.{Member}
@@ -80,12 +80,12 @@ text_fields_at bytes = do
     instances.1,
   )
 
--- the codes of the ids of so many symbols, with prefix codes alone
+-- the codes of the ids of this many symbols, with prefix codes alone
 abbrev pub coding_at : Option TextRegionHuffmanFlags → ℕ → List ℕ → Result (NumberCoding × List ℕ) DecodeError
 coding_at (Some tables) count bytes = symbol_codes_at count bytes >>= λ ids. Ok (HuffmanCoding tables ids.0, ids.1)
 coding_at None count bytes = Ok (ArithmeticCoding, bytes)
 
--- all of it, for so many symbols, and the coded bytes
+-- all of it, for this many symbols, and the coded bytes
 unfoldable pub text_header_at : ℕ → Bool → List ℕ → Result (TextHeader × List ℕ) DecodeError
 text_header_at symbols strict bytes = do
   info ← region_info_at bytes

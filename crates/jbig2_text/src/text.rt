@@ -236,6 +236,7 @@ pub fn decode<H: Allocator, B: Allocator, T: Allocator, M: Allocator + Clone, L:
         Gives (λ region. region_view region) result meant }
 {
     let region_info = &header.region_info;
+    steps.pay_bitmap(region_info.width, region_info.height)?;
     let mut bitmap = Bitmap::new_with(
         alloc.clone()?,
         region_info.width,

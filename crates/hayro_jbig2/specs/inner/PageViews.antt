@@ -1,4 +1,4 @@
--- The names of a page's globals, and the page's area as the code answers it.
+-- The names of a page's globals, and the page's area as the code returns it.
 use Rattle.std.specs.{Prelude.{◌||◌, Option, Some, None, Result, Ok, Err}, Borrow.{Bor}}
 use Rattle.jbig2_base.specs.{Answer.{◌>>=◌, refuse_if}, Grid.{Grid}, declared.error.{DecodeError.{DecodeError, TheVariants.{Overflow}}, OverflowError.TheVariants.{ReferenceOffset}}}
 use Rattle.jbig2_region.specs.{RegionInfo.{PlacedRegion}, Refinement.{is_far}, declared.region_info.RegionSegmentInfo.{RegionSegmentInfo}}
@@ -15,7 +15,7 @@ abbrev pub given_names : Option (Bor Names) → Names
 given_names None = no_names
 given_names (Some globals) = globals.now
 
--- what decoding the globals answered
+-- what decoding the globals returned
 abbrev pub kept_names : Result (Option (Bor Names)) DecodeError → Result Names DecodeError
 kept_names (Ok globals) = Ok (given_names globals)
 kept_names (Err e) = Err e

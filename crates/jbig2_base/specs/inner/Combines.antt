@@ -3,7 +3,7 @@
 use Rattle.std.specs.Prelude.{◌≡◌, ℕ, ◌+◌, ◌-◌, ◌<◌, ◌≤◌, ◌^◌, List}
 use Rattle.jbig2_base.specs.{declared.bitmap.{operator.CombinationOperator.{CombinationOperator}, rows.blocks.{Block.{Block}, Line.{Line}, Shape.{Shape}}}, Counts.{Counts, words_across, loads_across, words_written}, Blocks.{CombinesBlock, LiesOn, with_run}, Grid.{Grid, pixel_at}, inner.Shapes.{HasShape, grid_in}}
 
--- the places behind its last column and row are numbers of 32 bits
+-- the places after its last column and row are numbers of 32 bits
 pub record HasEnds (block : Block) : Type 0 where
   pub columns : block.left + block.columns < 2 ^ 32
   pub rows : block.top + block.rows < 2 ^ 32

@@ -2,7 +2,7 @@
 use Rattle.std.specs.{Prelude.{ℕ, List, Result, Ok}, Int.{w8}}
 use Rattle.jbig2_base.specs.{Fields.{bytes_at, number_at}, Segment.{adaptive_bytes}, declared.error.DecodeError.{DecodeError}, Answer.{◌>>=◌}}
 
--- a generic region's flags, and the bytes behind its adaptive pixels
+-- a generic region's flags, and the bytes after its adaptive pixels
 unfoldable pub coded_front_at : List ℕ → Result (ℕ × List ℕ) DecodeError
 coded_front_at bytes = do
   information ← bytes_at 17 bytes

@@ -50,7 +50,7 @@ fn first_end_marker(flags: u8, bytes: &[u8]) -> Result<usize>
     Err(DecodeError::Segment(SegmentError::MissingEndMarker))
 }
 
-/// A generic region's flags; the reader then stands behind its adaptive pixels.
+/// A generic region's flags; the reader then stands after its adaptive pixels.
 #[tactic(auto, unfolding(crate::specs::inner::Fronts::coded_front_at))]
 fn coded_front(reader: &mut Reader<'_>) -> Result<u8>
     requires { IsAligned reader.old }

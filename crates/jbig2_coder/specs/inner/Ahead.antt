@@ -14,12 +14,12 @@ seen_of code =
 abbrev pub seen_registers : BufferedRegisters → Registers
 seen_registers registers = record { a = registers.a; code = seen_of registers.code }
 
--- the number that so many bytes behind a place spell, each of them turned
+-- the number that this many bytes after a place spell, each of them turned
 abbrev pub spelled : List ℕ → ℕ → ℕ → ℕ
 spelled bytes place zero = 0
 spelled bytes place (suc n) = (0xFF - byte_at bytes (place + 1)) * 2 ^ (8 * n) + spelled bytes (place + 1) n
 
--- The lowest bits are so many whole bytes behind a place, none of them behind a byte FF; `ct` bits stand above them.
+-- The lowest bits are this many whole bytes after a place, none of them after a byte FF; `ct` bits stand above them.
 pub record Reads (bytes : List ℕ) (ct ahead place : ℕ) (code : CodeBuffer) : Type 0 where
   pub below : ct < 8
   pub bits : code.bits ≡ ct + 8 * ahead
@@ -36,7 +36,7 @@ pub record IsAhead (bytes : List ℕ) (code : CodeBuffer) : Type 0 where
   pub place : ℕ
   pub reads : Reads bytes ct ahead place code
 
--- after so many shifts
+-- after this many shifts
 abbrev pub shifted : ℕ → CodeBuffer → CodeBuffer
 shifted k code = record { c = code.c * 2 ^ k % 2 ^ 64; bits = code.bits - k; place = code.place }
 

@@ -31,7 +31,7 @@ read_of ms bits k = if nat_lt (length bits) k then ended k else found_or (line_o
 abbrev pub some_value : Result ℤ DecodeError → Result (Option ℤ) DecodeError
 some_value r = r >>= λ n. Ok (Some n)
 
--- the value of a line, by the range bits behind its code; None is out of band
+-- the value of a line, by the range bits after its code; None is out of band
 abbrev pub value_after : TableLine → List ℕ → Result (Option ℤ) DecodeError
 value_after line bits = if line.is_out_of_band then Ok None else value_by line (bits_next line.range_length bits)
 
@@ -39,7 +39,7 @@ value_after line bits = if line.is_out_of_band then Ok None else value_by line (
 abbrev pub range_bits : TableLine → ℕ
 range_bits line = if line.is_out_of_band then 0 else line.range_length
 
--- what a code's line gives, behind the bits that are taken
+-- what a code's line gives, after the bits that are taken
 abbrev pub valued : CodeReading TableLine → List ℕ → CodeReading (Option ℤ)
 valued reading bits =
     elim reading.answer [

@@ -13,7 +13,7 @@ abbrev pub AreRight : List TableLine → List Level → List FirstCode → Type 
 AreRight lines levels codes =
     (v : ℕ) (d : FirstCode) → v < 256 → 0 < (slice_index_or codes v d).length → Begins lines levels v (slice_index_or codes v d)
 
--- from a byte on, the bits go on at the inner nodes behind the first eight levels
+-- from a byte on, the bits go on at the inner nodes after the first eight levels
 abbrev pub GoesOn : List TableLine → List Level → ℕ → Type 0
 GoesOn lines levels from =
     (v : ℕ) (more : List ℕ) → v < 256 → from ≤ v → v - from < nodes (groups_of lines (drop 8 levels)) →

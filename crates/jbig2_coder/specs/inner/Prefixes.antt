@@ -13,7 +13,7 @@ prefix (suc most) ones bytes r =
     let further = prefix most (suc ones) bytes (read prev_of bytes r) in
     if (next prev_of bytes r).symbol then further else record { ones = ones; reading = read prev_of bytes r }
 
--- the row with so many ones in its prefix
+-- the row with this many ones in its prefix
 unfoldable pub range_of : ℕ → Range
 range_of ones = slice_index_or ranges ones (range (true ∷ true ∷ true ∷ true ∷ true ∷ []) 32 4436)
 

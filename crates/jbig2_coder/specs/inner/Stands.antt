@@ -14,11 +14,11 @@ pub record Stands (name : List Bool → ℕ) (start : Counts) (r : Reading) (pla
 abbrev pub Tells : (Reading → Type 0) → ℕ → Coder → List Context → Counts → Type 0
 Tells told prev coder contexts steps = (start : Counts) (r : Reading) → Stands prev_of start r prev coder contexts steps → told r
 
--- So many bits on, it stands behind them.
+-- This many bits on, it stands after them.
 abbrev pub GoesOn : (Reading → Reading) → ℕ → Coder → List Context → Counts → ℕ → Coder → List Context → Counts → Type 0
 GoesOn on prev coder contexts steps prev' coder' contexts' steps' = (start : Counts) (r : Reading) → Stands prev_of start r prev coder contexts steps → Stands prev_of start (on r) prev' coder' contexts' steps'
 
--- PREV, one bit on: it grows until it has eight bits behind its 1
+-- PREV, one bit on: it grows until it has eight bits after its 1
 unfoldable pub prev_next : ℕ → Bool → ℕ
 prev_next prev bit =
     let grown = 2 * prev + bit_number bit in

@@ -14,7 +14,7 @@ pub struct CodeRegister {
 }
 
 /// The code register with bytes that are read ahead: its upper half in the highest 16 bits of `c`,
-/// then `bits` bits, and zeros. `place` is the place of the byte that was read last. Bytes behind a
+/// then `bits` bits, and zeros. `place` is the place of the byte that was read last. Bytes after a
 /// byte FF are not read ahead, since they may change the bits above them.
 #[derive(Clone, Copy)]
 pub struct CodeBuffer {
@@ -39,7 +39,7 @@ impl CodeBuffer {
         (self.c >> 48) as u32
     }
 
-    /// An empty buffer filled with the next bytes, up to one behind a byte FF.
+    /// An empty buffer filled with the next bytes, up to one after a byte FF.
     #[inline(always)]
     fn filled(self, bytes: &[u8]) -> CodeBuffer
         requires empty { self.bits ≡ 0 }
@@ -67,7 +67,7 @@ pub(crate) fn byte_at(bytes: &[u8], place: usize) -> u8
     bytes.get(place).copied().unwrap_or(0xFF)
 }
 
-/// The code register once the byte behind `place` is read into `c` (BYTEIN, Figure G.3).
+/// The code register once the byte after `place` is read into `c` (BYTEIN, Figure G.3).
 #[tactic(auto, unfolding(crate::specs::Coder::byte_in))]
 #[inline(always)]
 pub(crate) fn byte_in(bytes: &[u8], c: u32, place: usize) -> CodeRegister

@@ -65,7 +65,7 @@ fn read_range_line(reader: &mut Reader<'_>, header: &Header, low: i32) -> Result
     Ok((line, next))
 }
 
-/// The low value behind a range, or an invalid code for a range above signed 32 bits.
+/// The low value after a range, or an invalid code for a range above signed 32 bits.
 fn next_low(low: i32, range_length: u32) -> Result<i32>
     ensures value { result ≡ next_low low range_length }
     ensures short { IfOk result (λ _. range_length ≤ 31) }
@@ -100,7 +100,7 @@ fn read_range_lines<A: Allocator>(
     Ok(lines)
 }
 
-/// Reads the lower line, the upper line and the out-of-band line, behind `lines`.
+/// Reads the lower line, the upper line and the out-of-band line, after `lines`.
 fn push_end_lines<A: Allocator>(
     reader: &mut Reader<'_>,
     header: &Header,

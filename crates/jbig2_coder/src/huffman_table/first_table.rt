@@ -24,7 +24,7 @@ pub(super) struct FirstCode {
 pub(super) struct FirstTable {
     /// The code of at most eight bits.
     codes: [FirstCode; 256],
-    /// The first byte behind all codes of at most eight bits: from here on they begin longer ones.
+    /// The first byte after all codes of at most eight bits: from here on they begin longer ones.
     longer: usize,
 }
 

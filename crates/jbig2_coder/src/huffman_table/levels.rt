@@ -32,7 +32,7 @@ pub(super) fn longest(lines: &[TableLine]) -> u8
     longest
 }
 
-/// Adds the lines with this prefix length behind `sorted`.
+/// Adds the lines with this prefix length after `sorted`.
 pub(super) fn push_level<A: Allocator>(
     lines: &[TableLine],
     length: u8,

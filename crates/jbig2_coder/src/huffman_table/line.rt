@@ -8,7 +8,7 @@ ghost use Rattle.jbig2_base.specs.Bits.{bits_left, bits_on, bits_next};
 use jbig2_base::error::{DecodeError, HuffmanError, Result};
 use jbig2_base::reader::Reader;
 
-/// A line of a table: a prefix length, and the values that stand behind its code.
+/// A line of a table: a prefix length, and the values that stand after its code.
 ///
 /// A prefix length of 0 gives the line no code.
 #[derive(Debug, Clone, Copy)]
@@ -94,7 +94,7 @@ impl TableLine {
         }
     }
 
-    /// Reads the range bits behind the code: the value, or an invalid code where the bits end or
+    /// Reads the range bits after the code: the value, or an invalid code where the bits end or
     /// the value is outside signed 32 bits.
     #[tactic(auto, using(crate::proofs::Causes::value_causes))]
     pub(super) fn read_value(&self, reader: &mut Reader<'_>) -> Result<Option<i32>>

@@ -46,7 +46,7 @@ fn plain<A: Allocator>(bytes: &mut Vec<u8, A>, c: u32) -> Result<CodeRegister>
     })
 }
 
-/// Writes the carry of `c` and its top seven bits behind a byte FF.
+/// Writes the carry of `c` and its top seven bits after a byte FF.
 #[tactic(auto, unfolding(crate::specs::Encoder::stuffed))]
 fn stuffed<A: Allocator>(bytes: &mut Vec<u8, A>, c: u32) -> Result<CodeRegister>
     requires { c < 2 ^ 28 }
@@ -212,7 +212,7 @@ fn is_full(bytes: &[u8]) -> bool
     }
 }
 
-/// Puts the marker FF AC behind the bytes (E.2.9). A last byte FF begins it.
+/// Puts the marker FF AC after the bytes (E.2.9). A last byte FF begins it.
 fn close<A: Allocator>(bytes: &mut Vec<u8, A>) -> Result<()>
     ensures value { OnOk result (bytes.new.items ≡ closed (reverse bytes.old.items)) }
     ensures err { IfErr result (λ e. e ≡ OutOfMemory) }

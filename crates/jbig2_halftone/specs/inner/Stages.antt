@@ -1,21 +1,25 @@
 -- What single functions of the code give and take, which the definitions have as a part of something larger.
-use Rattle.std.specs.{Prelude.{ℕ, ◌≡◌, ◌+◌, ◌*◌, ◌/◌, ◌%◌, Bool, true, false, ◌||◌, if◌then◌else◌, List, map, None, is_some, Result, Ok}, List.{range_with_len}}
-use Rattle.jbig2_base.specs.{Counts.{Counts, KeepsLanes}, Grid.{Grid, grid_of, part_of}, declared.error.DecodeError.{DecodeError}}
+use Rattle.std.specs.{Prelude.{ℕ, ◌≡◌, ◌≤◌, ◌+◌, ◌*◌, ◌/◌, ◌%◌, Bool, true, false, ◌||◌, if◌then◌else◌, List, map, None, is_some, ◌⊎◌, Result, Ok}, List.{range_with_len}}
+use Rattle.jbig2_base.specs.{Counts.{Counts, KeepsLanes, WritesWithin, words_copied}, Grid.{Grid, grid_of, part_of}, declared.error.DecodeError.{DecodeError}}
 use Rattle.jbig2_coder.specs.Coder.{Context}
 use Rattle.jbig2_region.specs.{Generic.{coding_of, skipping_coding}, Raster.{Coding, Region, so_far, no_pixels}, Steps.{CountsRegion, CountsSkipping}, Templates.{template_pixels}, declared.template.AdaptiveTemplatePixel.{AdaptiveTemplatePixel}}
-use Rattle.jbig2_halftone.specs.{GrayScale.{GrayScale, nominal_pixels, after_planes, mmr_planes}, Halftone.{column_of, row_of, is_apart, skip_mask}, HalftoneHeader.{HalftoneHeader}, Patterns.{Patterns}, Steps.{CountsPlanes, CountsMasked}}
+use Rattle.jbig2_halftone.specs.{GrayScale.{GrayScale, nominal_pixels, after_planes, mmr_planes}, Halftone.{column_of, gray_params, row_of, is_apart}, HalftoneHeader.{HalftoneHeader}, Patterns.{Patterns}, Steps.{CountsPlanes, CountsMasked, StopsImage, after_mask, words_of_cells}}
 
 -- ---- patterns
 -- pattern k: the columns from k * width on
 abbrev pub pattern_of : Grid → ℕ → ℕ → ℕ → Grid
 pattern_of collective width height k = part_of collective (record { left = k * width; top = 0; width = width; height = height })
 
+-- some of this many patterns are cut out, or all
+abbrev pub StopsCut : ℕ → ℕ → Counts → Counts → Type 0
+StopsCut count words before after = (cut : ℕ) × ((cut ≤ count) × (after ≡ words_copied (cut * words) before))
+
 -- ---- planes
 -- a plane is a generic region without typical prediction
 abbrev pub plane_coding : GrayScale → Coding
 plane_coding p = skipping_coding (template_pixels false p.template (nominal_pixels p.template)) p.skip_mask
 
--- the plane behind the k highest ones, the highest ones, and all of them
+-- the plane after the k highest ones, the highest ones, and all of them
 abbrev pub coded_plane : GrayScale → List ℕ → ℕ → Grid
 coded_plane p bytes k = so_far p.width p.height (after_planes p bytes (k + 1)).pixels
 
@@ -29,7 +33,7 @@ planes_by_coder p bytes = Ok (coded_planes p bytes p.bits_per_pixel)
 abbrev pub planes_by_mmr : GrayScale → List ℕ → Result (List Grid) DecodeError
 planes_by_mmr p bytes = mmr_planes p bytes p.bits_per_pixel
 
--- the contexts behind all planes; MMR leaves them alone
+-- the contexts after all planes; MMR leaves them alone
 abbrev pub planes_contexts : GrayScale → List ℕ → List Context → List Context
 planes_contexts p bytes contexts = if p.use_mmr then contexts else (after_planes p bytes p.bits_per_pixel).contexts
 
@@ -50,7 +54,7 @@ plane_pixels p = template_pixels false p.template (nominal_pixels p.template)
 abbrev pub plain_coding : GrayScale → Coding
 plain_coding p = coding_of false p.template (plane_pixels p)
 
--- where the plane behind the k highest ones begins
+-- where the plane after the k highest ones begins
 abbrev pub plane_start : GrayScale → List ℕ → ℕ → Region
 plane_start p bytes k = no_pixels (after_planes p bytes k).registers (after_planes p bytes k).contexts
 
@@ -69,7 +73,16 @@ pub record CountsCoded (p : GrayScale) (bytes : List ℕ) (count : ℕ) (before 
   pub plain : p.skip_mask ≡ None → CountsPlanes p bytes count before after
   pub masked : is_some p.skip_mask ≡ true → CountsMasked p count before after
 
--- so many rows of w pixels, taken out of planes: one load for each group of eight lanes and for each single pixel
+-- some of them, or all
+abbrev pub StopsCoded : GrayScale → List ℕ → Counts → Counts → Type 0
+StopsCoded p bytes before after = (count : ℕ) × ((count ≤ p.bits_per_pixel) × CountsCoded p bytes count before after)
+
+-- a region whose cells can't be read: no step, or the mask and some planes
+abbrev pub StopsCells : HalftoneHeader → Patterns → Counts → Counts → Type 0
+StopsCells h d before after =
+    (after ≡ before) ⊎ StopsImage (gray_params h d) h.bytes (after_mask h d before) after
+
+-- this many rows of w pixels, taken out of planes: one load for each group of eight lanes and for each single pixel
 abbrev pub after_lane_rows : ℕ → ℕ → Counts → Counts
 after_lane_rows rows w before = record before {
   loads = before.loads + rows * (w / 8 + w % 8);
@@ -85,8 +98,8 @@ after_lanes w before = record before {
   pixels = before.pixels + w % 8;
 }
 
--- a word is written for each cell of the skip mask, where there is one
-abbrev pub after_mask : HalftoneHeader → Patterns → Counts → Counts
-after_mask h d before =
-    let cells = h.grid_position_and_size.height * h.grid_position_and_size.width in
-    record before { words = before.words + (if is_some (skip_mask h d) then cells else 0) }
+-- cells of which one has no pattern: some rows of values are taken, and at most all cells drawn
+abbrev pub StopsRows : HalftoneHeader → Patterns → ℕ → Counts → Counts → Type 0
+StopsRows h d planes before after =
+    let grid = h.grid_position_and_size in
+    (rows : ℕ) × ((rows ≤ grid.height) × WritesWithin (words_of_cells h d 0 (grid.height * grid.width)) (after_lane_rows (rows * planes) grid.width before) after)

@@ -1,5 +1,5 @@
 //! The coded planes of a gray-scale image, the highest first (T.88, C.5).
-ghost use Rattle.std.specs.Prelude.{◌≡◌, ◌^◌, ◌≤◌, false, length, OnOk};
+ghost use Rattle.std.specs.Prelude.{◌≡◌, ◌^◌, ◌≤◌, false, length, OnOk, OnErr};
 ghost use Rattle.jbig2_base.specs.Answer.{Gives, Leaves};
 ghost use Rattle.jbig2_base.specs.Counts.{KeepsLanes};
 ghost use Rattle.jbig2_base.specs.Grid.{blank};
@@ -8,9 +8,9 @@ ghost use Rattle.jbig2_region.specs.Templates.{context_bits};
 ghost use Rattle.jbig2_region.specs.inner.PixelArrays.{four_pixels};
 ghost use Rattle.jbig2_region.specs.inner.Holds.{DecodesRegion};
 ghost use Rattle.jbig2_halftone.specs.GrayScale.{nominal_pixels, planes_of, after_planes, image_is_too_large, mmr_plane};
-ghost use Rattle.jbig2_halftone.specs.Steps.{CountsRead};
+ghost use Rattle.jbig2_halftone.specs.Steps.{CountsRead, StopsImage};
 ghost use Rattle.jbig2_halftone.specs.inner.HalftoneViews.{gray_view};
-ghost use Rattle.jbig2_halftone.specs.inner.Stages.{plane_coding, planes_by_coder, planes_by_mmr, planes_contexts, CountsCoded, CountsOne};
+ghost use Rattle.jbig2_halftone.specs.inner.Stages.{plane_coding, planes_by_coder, planes_by_mmr, planes_contexts, CountsCoded, CountsOne, StopsCoded};
 
 use crate::gray_scale::GrayScaleParams;
 use jbig2_base::bitmap::Bitmap;
@@ -83,7 +83,7 @@ fn decode_plane<M: Allocator, A: Allocator, L: Ledger>(
     );
 }
 
-/// The planes that the arithmetic coder wrote.
+/// The planes that the arithmetic coder wrote. Where memory is short, the steps of those before are taken.
 fn read_coded_planes<M: Allocator, A: Allocator + Clone, L: Ledger>(
     alloc: A,
     bytes: &[u8],
@@ -99,8 +99,10 @@ fn read_coded_planes<M: Allocator, A: Allocator + Clone, L: Ledger>(
         (after_planes (gray_view params.now) bytes.now params.now.bits_per_pixel).contexts }
     ensures steps { OnOk result (CountsCoded (gray_view params.now) bytes.now
         params.now.bits_per_pixel steps.old steps.new) }
-    ensures lanes { OnOk result (KeepsLanes steps.old steps.new) }
-    ensures no_planes { params.now.bits_per_pixel ≡ 0 → OnOk result (steps.new ≡ steps.old) }
+    ensures stopped { OnErr result
+        (StopsCoded (gray_view params.now) bytes.now steps.old steps.new) }
+    ensures lanes { KeepsLanes steps.old steps.new }
+    ensures no_planes { params.now.bits_per_pixel ≡ 0 → steps.new ≡ steps.old }
 {
     let mut decoder = ArithmeticDecoder::new(bytes);
     let mut planes = Vec::new(alloc.clone()?);
@@ -112,7 +114,7 @@ fn read_coded_planes<M: Allocator, A: Allocator + Clone, L: Ledger>(
     Ok(planes)
 }
 
-/// The next plane that MMR wrote, and the bytes behind it.
+/// The next plane that MMR wrote, and the bytes after it.
 fn read_mmr_plane<'a, M: Allocator, A: Allocator, L: Ledger>(
     alloc: A,
     bytes: &'a [u8],
@@ -143,8 +145,8 @@ fn read_mmr_planes<M: Allocator, A: Allocator + Clone, L: Ledger>(
     requires sides { image_is_too_large (gray_view params.now) ≡ false }
     ensures value { Gives (λ planes. planes.items) result
         (planes_by_mmr (gray_view params.now) bytes.now) }
-    ensures lanes { OnOk result (KeepsLanes steps.old steps.new) }
-    ensures no_planes { params.now.bits_per_pixel ≡ 0 → OnOk result (steps.new ≡ steps.old) }
+    ensures lanes { KeepsLanes steps.old steps.new }
+    ensures no_planes { params.now.bits_per_pixel ≡ 0 → steps.new ≡ steps.old }
 {
     let mut rest = bytes;
     let mut planes = Vec::new(alloc.clone()?);
@@ -173,8 +175,11 @@ pub fn read_planes<M: Allocator, A: Allocator + Clone, B: Allocator, L: Ledger>(
         (planes_of (gray_view params.now) bytes.now) }
     ensures contexts { Leaves result contexts.new.items
         (planes_contexts (gray_view params.now) bytes.now contexts.old.items) }
-    ensures steps { OnOk result (CountsRead (gray_view params.now) bytes.now steps.old steps.new) }
-    ensures no_planes { params.now.bits_per_pixel ≡ 0 → OnOk result (steps.new ≡ steps.old) }
+    ensures steps { OnOk result (CountsRead (gray_view params.now) bytes.now
+        params.now.bits_per_pixel steps.old steps.new) }
+    ensures stopped { OnErr result
+        (StopsImage (gray_view params.now) bytes.now steps.old steps.new) }
+    ensures no_planes { params.now.bits_per_pixel ≡ 0 → steps.new ≡ steps.old }
 {
     if params.use_mmr {
         return read_mmr_planes(alloc, bytes, params, steps);

@@ -76,7 +76,7 @@ fn is_apart(place: i64, size: u32, room: u32) -> bool
 }
 
 /// Whether a pattern of `width` by `height` pixels at this place would lie wholly outside a region of
-/// so many columns and rows (T.88, 6.6.5.1).
+/// this many columns and rows (T.88, 6.6.5.1).
 #[inline(always)]
 pub fn lies_outside(place: CellPlace, width: u32, height: u32, columns: u32, rows: u32) -> bool
     ensures { result ≡ (is_apart (int_shr place.x 8) width columns

@@ -109,7 +109,7 @@ fn parse_grid(reader: &mut Reader<'_>) -> Result<HalftoneGridPositionAndSize>
     })
 }
 
-/// The header of a halftone region at the reader's place, which holds the coded bytes behind it
+/// The header of a halftone region at the reader's place, which holds the coded bytes after it
 /// (T.88, 7.4.5).
 ///
 /// `ParseError::UnexpectedEof` where the bytes do not hold it; the errors of

@@ -1,11 +1,19 @@
 -- What the calls of a T.6 decoder that may meet a fault say (our own rule).
-use Rattle.std.specs.Prelude.{◌≡◌, ℕ, Bool, true, false, List, Option, Some, None}
-use Rattle.jbig2_base.specs.Grid.{Grid}
-use Rattle.jbig2_mmr.specs.{declared.mmr.row.{Place.{Place}, Turn.{Turn}}, T6.{Head, Step, black_at}, inner.T6Reading.{IsTurn, IsRow}}
+use Rattle.std.specs.Prelude.{◌≡◌, ℕ, ◌+◌, ◌-◌, ◌*◌, ◌<◌, Bool, true, false, ◌&&◌, if◌then◌else◌, List, Option, Some, None}
+use Rattle.jbig2_base.specs.{Bits.{bit}, Grid.{Grid, differ}}
+use Rattle.jbig2_mmr.specs.{declared.mmr.{change.RowWord.{RowWord}, row.{Place.{Place}, Turn.{Turn}}}, T6.{Head, Step, black_at}, inner.T6Reading.{IsTurn, IsRow}}
 
 -- a place in a row, as the definition says it
 abbrev pub head_of : Place → Head
 head_of p = record { a0 = p.a0; begun = p.begun; black = p.black }
+
+-- a word of a row and its changes to either colour; the left neighbour of its first pixel is taken as white
+pub record IsWordOf (row : ℕ → Bool) (w : RowWord) : Type 0 where
+  pub left : ℕ
+  pub pixels : (k : ℕ) → k < 64 → bit w.pixels (64 - 1 - k) ≡ row (64 * w.index + k)
+  pub first : bit left 63 ≡ bit 0 0
+  pub others : (k : ℕ) → k < 63 → bit left k ≡ bit w.pixels (k + 1)
+  pub changes : (black : Bool) (k : ℕ) → bit (if black then w.to_white else w.to_black) k ≡ (differ (bit w.pixels k) (bit left k) && differ (bit w.pixels k) black)
 
 -- a mode that was read, against its meaning
 abbrev pub ReadStep : ℕ → Head → Option Step → Option Turn → List ℕ → Type 0

@@ -22,15 +22,15 @@ abbrev pub entry_of : Option (ℕ × ℕ) → ℕ
 entry_of None = 0
 entry_of (Some r) = 16 * r.0 + r.1
 
--- the bits behind an end of block, where they begin with one
+-- the bits after an end of block, where they begin with one
 abbrev pub after_end : List ℕ → List ℕ
 after_end bits = if ends_block bits then drop 24 bits else bits
 
--- zeros behind the bits
+-- zeros after the bits
 abbrev pub padded : List ℕ → List ℕ
 padded bits = bits ++ replicate 24 0
 
--- what was read, and the bits behind it
+-- what was read, and the bits after it
 abbrev pub with_rest : {A : Type 0} → Option A → List ℕ → Option (A × List ℕ)
 with_rest None left = None
 with_rest (Some n) left = Some (n, left)

@@ -57,7 +57,7 @@ impl<'a> CodeReader<'a> {
         }
     }
 
-    /// The next 24 bits as a number, zeros behind the end.
+    /// The next 24 bits as a number, zeros after the end.
     #[inline(always)]
     fn window(&self) -> u32
         ensures value { (n : ℕ) → n ≤ 24 → result / 2 ^ (24 - n) ≡
@@ -168,7 +168,7 @@ impl<'a> CodeReader<'a> {
     }
 }
 
-/// The first four bytes as a number, zeros behind the end.
+/// The first four bytes as a number, zeros after the end.
 #[inline(always)]
 fn first_word(bytes: &[u8]) -> u32
     ensures value { result ≡ slice_index bytes.now 0 * 16777216 +

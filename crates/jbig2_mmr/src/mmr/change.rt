@@ -1,15 +1,78 @@
 //! The next changing element of a row (T.6, 2.2.1), by words.
-ghost use Rattle.std.specs.Prelude.{◌≡◌, ℕ, ◌+◌, ◌*◌, ◌^◌, ◌<◌, ◌≤◌, ◌&&◌};
+ghost use Rattle.std.specs.Prelude.{◌≡◌, ℕ, ◌+◌, ◌*◌, ◌/◌, ◌^◌, ◌<◌, ◌≤◌, ◌&&◌, if◌then◌else◌};
 ghost use Rattle.jbig2_base.specs.Counts.{KeepsLanes};
 ghost use Rattle.jbig2_base.specs.Search.{place_from};
 ghost use Rattle.jbig2_base.specs.Bits.{bit};
 ghost use Rattle.{jbig2_base.specs.Grid.{differ}, jbig2_mmr.specs.T6.{left_of, is_change_from}};
 ghost use Rattle.jbig2_mmr.specs.inner.T6Reading.{row_of};
+ghost use Rattle.jbig2_mmr.specs.inner.T6Calls.{IsWordOf};
 
 use jbig2_base::bitmap::Bitmap;
 use jbig2_base::bitmap::steps::Steps;
 use std::alloc::Allocator;
 use std::sync::ledger::Ledger;
+
+/// Word `index` of a row, and its changes to either colour: the bits where pixels have that colour and their left neighbours the
+/// other one. Left of the word is white.
+#[derive(Clone, Copy)]
+pub struct RowWord {
+    pub index: u32,
+    pub pixels: u64,
+    to_white: u64,
+    to_black: u64,
+}
+
+impl RowWord {
+    /// Word `index` of row `y`.
+    pub fn load<A: Allocator, L: Ledger>(
+        bitmap: &Bitmap<A>,
+        y: u32,
+        index: u32,
+        steps: &mut Steps<L>,
+    ) -> RowWord
+        requires { 64 * index < 2 ^ 32 }
+        ensures value { IsWordOf (row_of bitmap.now y) result }
+        ensures index { result.index ≡ index }
+        ensures lanes { KeepsLanes steps.old steps.new }
+    {
+        let pixels = bitmap.load_pixels(64 * index, y, 64, steps);
+        let left = left_neighbours(pixels, 0);
+        RowWord {
+            index,
+            pixels,
+            to_white: changes_from(pixels, left, true),
+            to_black: changes_from(pixels, left, false),
+        }
+    }
+
+    /// The word of row `y` that column `x` lies in: this one, if it is that.
+    #[inline(always)]
+    pub fn at<A: Allocator, L: Ledger>(
+        self,
+        bitmap: &Bitmap<A>,
+        y: u32,
+        x: u32,
+        steps: &mut Steps<L>,
+    ) -> RowWord
+        requires { IsWordOf (row_of bitmap.now y) self }
+        ensures value { IsWordOf (row_of bitmap.now y) result }
+        ensures index { result.index ≡ x / 64 }
+        ensures lanes { KeepsLanes steps.old steps.new }
+    {
+        if self.index == x / 64 {
+            return self;
+        }
+        RowWord::load(bitmap, y, x / 64, steps)
+    }
+
+    /// The changes from the colour `black` to the other one.
+    #[inline(always)]
+    pub fn changes(self, black: bool) -> u64
+        ensures { result ≡ (if black then self.to_white else self.to_black) }
+    {
+        if black { self.to_white } else { self.to_black }
+    }
+}
 
 /// The first column from word `first` on where row `y` turns from the colour `black` to the other
 /// one, else the width. The lowest bit of `before` is the pixel left of that word. Left of column 0

@@ -20,7 +20,7 @@ pub enum Mode {
     Pass,
     /// Two runs.
     Horizontal,
-    /// a1 lies so many pixels right of b1, -3 to 3.
+    /// a1 lies this many pixels right of b1, -3 to 3.
     Vertical(i32),
 }
 

@@ -5,11 +5,11 @@ ghost use Rattle.jbig2_base.specs.Counts.{KeepsLanes};
 ghost use Rattle.jbig2_base.specs.Grid.{pixel_at};
 ghost use Rattle.jbig2_base.specs.Table.{IsTable};
 ghost use Rattle.jbig2_mmr.specs.T6.{b1_of, after_pass, after_vertical, after_runs, next_step, row};
-ghost use Rattle.jbig2_mmr.specs.inner.T6Calls.{ReadStep, ReadRow, head_of};
+ghost use Rattle.jbig2_mmr.specs.inner.T6Calls.{IsWordOf, ReadStep, ReadRow, head_of};
 ghost use Rattle.jbig2_mmr.specs.inner.T6Reading.{row_above, row_of};
 
 use crate::mmr::bits::CodeReader;
-use crate::mmr::change::{changes_from, find_change, left_neighbours};
+use crate::mmr::change::{RowWord, find_change};
 use crate::mmr::codes::Mode;
 use crate::mmr::span::fill_span;
 use jbig2_base::bitmap::Bitmap;
@@ -49,13 +49,15 @@ pub fn read_row<A: Allocator, L: Ledger>(
 {
     let width = bitmap.width();
     let above = reference_row(bitmap, y);
+    let mut word = RowWord::load(bitmap, above, 0, steps);
     let mut place = Place {
         a0: 0,
         begun: false,
         black: false,
     };
     while place.a0 < width {
-        match read_turn(bitmap, above, reader, place, steps) {
+        word = word.at(bitmap, above, place.a0, steps);
+        match read_turn(bitmap, above, word, reader, place, steps) {
             Some(turn) => {
                 if place.black {
                     fill_span(bitmap, y, place.a0, turn.turn, true, steps);
@@ -86,17 +88,20 @@ fn reference_row<A: Allocator>(bitmap: &Bitmap<A>, y: u32) -> u32
     if y == 0 { bitmap.height() } else { y - 1 }
 }
 
-/// Reads a mode. None at a fault.
+/// Reads a mode. None at a fault. `word` is the word of row `above` with the pixel above a0.
 #[inline(always)]
 fn read_turn<A: Allocator, L: Ledger>(
     bitmap: &Bitmap<A>,
     above: u32,
+    word: RowWord,
     reader: &mut CodeReader,
     place: Place,
     steps: &mut Steps<L>,
 ) -> Option<Turn>
     requires column { place.a0 < bitmap.now.width }
     requires first { place.begun ≡ false → place.a0 ≡ 0 }
+    requires word { IsWordOf (row_of bitmap.now above) word }
+    requires index { word.index ≡ place.a0 / 64 }
     ensures value { ReadStep bitmap.now.width (head_of place)
         (next_step bitmap.now.width (row_of bitmap.now above) (head_of place) reader.old.left)
         result reader.new.left }
@@ -105,28 +110,31 @@ fn read_turn<A: Allocator, L: Ledger>(
     ensures lanes { KeepsLanes steps.old steps.new }
 {
     match reader.read_mode()? {
-        Mode::Pass => Some(pass(bitmap, above, place, steps)),
+        Mode::Pass => Some(pass(bitmap, above, word, place, steps)),
         Mode::Horizontal => horizontal(reader, place, bitmap.width()),
-        Mode::Vertical(distance) => vertical(bitmap, above, place, distance, steps),
+        Mode::Vertical(distance) => vertical(bitmap, above, word, place, distance, steps),
     }
 }
 
-/// The pass mode: a0 moves under b2, the next change behind b1, which is one of the other colour.
+/// The pass mode: a0 moves under b2, the next change after b1, which is one of the other colour.
 #[inline(always)]
 fn pass<A: Allocator, L: Ledger>(
     bitmap: &Bitmap<A>,
     above: u32,
+    word: RowWord,
     place: Place,
     steps: &mut Steps<L>,
 ) -> Turn
     requires column { place.a0 < bitmap.now.width }
     requires first { place.begun ≡ false → place.a0 ≡ 0 }
+    requires word { IsWordOf (row_of bitmap.now above) word }
+    requires index { word.index ≡ place.a0 / 64 }
     ensures value { (bits : List ℕ) → ReadStep bitmap.now.width (head_of place)
         (after_pass bitmap.now.width (row_of bitmap.now above) (head_of place) bits) (Some result)
         bits }
     ensures lanes { KeepsLanes steps.old steps.new }
 {
-    let b1 = find_b1(bitmap, above, place, steps);
+    let b1 = find_b1(bitmap, above, word, place, steps);
     if b1 >= bitmap.width() {
         return passed(b1, place.black);
     }
@@ -135,7 +143,8 @@ fn pass<A: Allocator, L: Ledger>(
         begun: true,
         black: !place.black,
     };
-    passed(find_b1(bitmap, above, turned, steps), place.black)
+    let word = word.at(bitmap, above, b1, steps);
+    passed(find_b1(bitmap, above, word, turned, steps), place.black)
 }
 
 /// The turn that leaves the colour up to b2.
@@ -182,19 +191,22 @@ fn horizontal(reader: &mut CodeReader, place: Place, width: u32) -> Option<Turn>
 fn vertical<A: Allocator, L: Ledger>(
     bitmap: &Bitmap<A>,
     above: u32,
+    word: RowWord,
     place: Place,
     distance: i32,
     steps: &mut Steps<L>,
 ) -> Option<Turn>
     requires column { place.a0 < bitmap.now.width }
     requires first { place.begun ≡ false → place.a0 ≡ 0 }
+    requires word { IsWordOf (row_of bitmap.now above) word }
+    requires index { word.index ≡ place.a0 / 64 }
     ensures value { (bits : List ℕ) → ReadStep bitmap.now.width (head_of place)
         (after_vertical bitmap.now.width (row_of bitmap.now above) (head_of place) distance bits)
         result bits }
     ensures lanes { KeepsLanes steps.old steps.new }
 {
     let width = bitmap.width();
-    let b1 = find_b1(bitmap, above, place, steps);
+    let b1 = find_b1(bitmap, above, word, place, steps);
     let sum = i64::from(b1) + i64::from(distance);
     if sum < i64::from(place.a0) || sum > i64::from(width) {
         return None;
@@ -211,30 +223,37 @@ fn vertical<A: Allocator, L: Ledger>(
 }
 
 /// b1: the first pixel of the reference row right of a0 that has not the colour of a0, and whose left
-/// neighbour has it.
+/// neighbour has it. `word` is the word of that row above a0.
 #[inline(always)]
 fn find_b1<A: Allocator, L: Ledger>(
     bitmap: &Bitmap<A>,
     above: u32,
+    word: RowWord,
     place: Place,
     steps: &mut Steps<L>,
 ) -> u32
     requires column { place.a0 < bitmap.now.width }
     requires first { place.begun ≡ false → place.a0 ≡ 0 }
+    requires word { IsWordOf (row_of bitmap.now above) word }
+    requires index { word.index ≡ place.a0 / 64 }
     ensures value { result ≡ b1_of bitmap.now.width (row_of bitmap.now above) (head_of place) }
     ensures within { result ≤ bitmap.now.width }
     ensures forward { place.a0 ≤ result }
     ensures colour { result < bitmap.now.width → row_of bitmap.now above result ≡ not place.black }
     ensures lanes { KeepsLanes steps.old steps.new }
 {
-    let width = bitmap.width();
-    let index = place.a0 / 64;
-    let pixels = bitmap.load_pixels(64 * index, above, 64, steps);
-    let changes = changes_from(pixels, left_neighbours(pixels, 0), place.black) & right_of(place);
+    let changes = word.changes(place.black) & right_of(place);
     if changes != 0 {
-        return (64 * index + changes.leading_zeros()).min(width);
+        return 64 * word.index + changes.leading_zeros();
     }
-    find_change(bitmap, above, index + 1, pixels, place.black, steps)
+    find_change(
+        bitmap,
+        above,
+        word.index + 1,
+        word.pixels,
+        place.black,
+        steps,
+    )
 }
 
 /// The bits of a0's word where b1 may lie: right of a0, and before the first mode all.

@@ -4,7 +4,7 @@ use Rattle.jbig2_base.specs.Grid.{Grid, blank}
 use Rattle.jbig2_coder.specs.Coder.{Coder, Context}
 use Rattle.jbig2_region.specs.Raster.{Coding, Region, so_far, row_begun, decoded_region, no_pixels}
 
--- A white bitmap of no longer sides than a region may have, and so many contexts as a number of these bits tells apart.
+-- A white bitmap of no longer sides than a region may have, and this many contexts as a number of these bits tells apart.
 pub record IsReady (bits : ℕ) (grid : Grid) (states : List Context) : Type 0 where
   pub columns : grid.width ≤ 65535
   pub rows : grid.height ≤ 65535

@@ -4,7 +4,7 @@ use Rattle.jbig2_base.specs.{Grid.{Grid, pixel, pixel_at}, Bits.{bit}}
 use Rattle.jbig2_coder.specs.Coder.{Coder, Context}
 use Rattle.jbig2_region.specs.{Generic.{context_at, known_colour}, inner.{Holds.{Holds}, Rows.{after_pixels}}, Raster.{Coding, Region}, declared.{template.{neighbours.{Adaptives.{Adaptives}, Layout.{Layout}, Neighbours.{Neighbours}, Stretch.{Stretch}}, AdaptiveTemplatePixel.{AdaptiveTemplatePixel}}, generic_kernel.windows.{WideWindows.{WideWindows}, Windows.{Windows}}}}
 
--- so many pixels in the row that stands so many rows higher, the rightmost first
+-- this many pixels in the row that stands this many rows higher, the rightmost first
 abbrev pub side_by_side : ℤ → ℕ → ℕ → List AdaptiveTemplatePixel
 side_by_side x rows zero = []
 side_by_side x rows (suc count) = record { x = x; y = pos 0 -ℤ pos rows } ∷ side_by_side (x -ℤ pos 1) rows count
@@ -42,7 +42,7 @@ pub record IsNear (n : Neighbours) : Type 0 where
   pub top_count : n.top.count ≤ 7
   pub few : neighbour_count n ≤ 16
 
--- A window on a row about column x: bit 55 is the pixel at x, and those to the right of it stand lower. It shows so many
+-- A window on a row about column x: bit 55 is the pixel at x, and those to the right of it stand lower. It shows this many
 -- columns, the first of them eight left of x.
 abbrev pub IsWindow : Grid → ℕ → ℤ → ℕ → ℕ → Type 0
 IsWindow g x row seen word = (k : ℕ) → k < seen → bit word (63 - k) ≡ pixel g (pos (x + k) -ℤ pos 8) row
@@ -60,7 +60,7 @@ pub record ShowsBefore (g : Grid) (x y : ℕ) (w : Windows) : Type 0 where
   pub above : IsBefore g x (pos y -ℤ pos 1) w.above
   pub top : IsBefore g x (pos y -ℤ pos 2) w.top
 
--- Windows about column x that serve so many bytes, at most eight: the second of them is asked for where there are more
+-- Windows about column x that serve this many bytes, at most eight: the second of them is asked for where there are more
 -- than four.
 pub record ShowsGroup (g : Grid) (x y bytes : ℕ) (w : WideWindows) : Type 0 where
   pub first : Shows g x y 64 w.first
@@ -71,7 +71,7 @@ pub record ShowsByte (g : Grid) (x y done : ℕ) (group w : WideWindows) : Type 
   pub first : Shows g (x + 8 * done) y (64 - 8 * (done % 4)) w.first
   pub second : w.second ≡ group.second
 
--- wherever the group's windows serve so many bytes
+-- wherever the group's windows serve this many bytes
 abbrev pub StandAtByte : ℕ → ℕ → WideWindows → WideWindows → Type 0
 StandAtByte bytes done group w = (g : Grid) (x y : ℕ) → ShowsGroup g x y bytes group → ShowsByte g x y done group w
 
@@ -101,7 +101,7 @@ DecodesPixels template predicted x y n grid coder states grid' coder' states' =
 abbrev pub stretch_bits : Stretch → ℕ → ℕ → ℕ
 stretch_bits s word offset = word / 2 ^ (55 - offset - s.reach) % 2 ^ s.count
 
--- whether so many bits of a number are all of one colour
+-- whether this many bits of a number are all of one colour
 abbrev pub is_field : ℕ → ℕ → ℕ → Bool → Bool
 is_field word shift count colour = word / 2 ^ shift % 2 ^ count == (if colour then 2 ^ count - 1 else 0)
 

@@ -1,4 +1,4 @@
--- The code's arrays of adaptive pixels, which hold four, twelve or two of them: a region has the first so many.
+-- The code's arrays of adaptive pixels, which hold four, twelve or two of them: a region has the first that many.
 use Rattle.std.specs.Prelude.{ℕ, ◌≡◌, Bool, true, false, List, [], ◌∷◌, zero, suc, take}
 use Rattle.jbig2_region.specs.{declared.template.{AdaptiveTemplatePixel.{AdaptiveTemplatePixel}, Template.{Template}, GenericTemplatePixels.{GenericTemplatePixels, TheVariants.{Regular, Extended}}, RefinementTemplate.{RefinementTemplate}}, Templates.{right, adaptive_pixel_count}, RefinementTemplates.{refinement_pixel_count}}
 
@@ -13,7 +13,7 @@ abbrev pub pixels_view : Bool → Template → GenericTemplatePixels → List Ad
 pixels_view mmr template (Regular a) = take (adaptive_pixel_count mmr false template) a
 pixels_view mmr template (Extended a) = take (adaptive_pixel_count mmr true template) a
 
--- An array of so many pixels that begins with these. The others lie at (0, 0), and no template takes them.
+-- An array of this many pixels that begins with these. The others lie at (0, 0), and no template takes them.
 abbrev pub filled : ℕ → List AdaptiveTemplatePixel → List AdaptiveTemplatePixel
 filled zero a = []
 filled (suc count) [] = right 0 0 ∷ filled count []

@@ -4,7 +4,7 @@ use Rattle.jbig2_base.specs.{Grid.{Grid}, Writes.{with_pixels}}
 use Rattle.jbig2_coder.specs.Coder.{Coder, Context}
 use Rattle.jbig2_region.specs.{inner.{Neighbours.{DecodesPixels, IsLeft, Shows, ShowsGroup, ShowsRun, nominal_pixels}, RowCounts.{CountsRuns}}, declared.{generic_kernel.windows.{WideWindows.{WideWindows}, Windows.{Windows}}, template.neighbours.Neighbours.{Neighbours}}}
 
--- a bitmap with so many columns from column x of row y on, what the windows show of it there, and the pixels left of it
+-- a bitmap with this many columns from column x of row y on, what the windows show of it there, and the pixels left of it
 pub record StandsAt (shown : Type 0) (g : Grid) (x y count left : ℕ) : Type 0 where
   pub columns : x + count ≤ g.width
   pub row : y < g.height
@@ -16,7 +16,7 @@ abbrev pub Pushes : (Grid → ℕ → ℕ → Type 0) → Neighbours → ℕ →
 Pushes Stands n k pixels d s d' s' =
     (g : Grid) (x y : ℕ) → Stands g x y → DecodesPixels (nominal_pixels n) false x y k g d s (with_pixels g x y k pixels) d' s'
 
--- so many decisions are counted for them, wherever a bitmap stands so and a byte begins
+-- this many decisions are counted for them, wherever a bitmap stands so and a byte begins
 abbrev pub CountsPushed : (Grid → ℕ → ℕ → Type 0) → Neighbours → ℕ → Coder → List Context → ℕ → ℕ → Type 0
 CountsPushed Stands n k d s before after =
     (g : Grid) (x y : ℕ) → x % 8 ≡ 0 → Stands g x y → CountsRuns (nominal_pixels n) x y k g d s before after

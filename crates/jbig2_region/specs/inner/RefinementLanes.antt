@@ -3,7 +3,7 @@ use Rattle.std.specs.Prelude.{◌≡◌, ℕ, ◌+◌, ◌-◌, ◌*◌, ◌/◌
 use Rattle.jbig2_base.specs.Bits.{bit}
 use Rattle.jbig2_region.specs.declared.refinement_kernel.windows.RefinementWindows.{RefinementWindows}
 
--- a lane whose first pixel is the bit of this number: it serves a window's column k and n more behind it
+-- a lane whose first pixel is the bit of this number: it serves a window's column k and n more after it
 abbrev pub Lane : ℕ → ℕ → ℕ → ℕ → ℕ → Type 0
 Lane lanes first word k n = (b : ℕ) → b < n + 3 → bit lanes (first - b) ≡ bit word (63 - k - b)
 

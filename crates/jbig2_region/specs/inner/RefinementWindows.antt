@@ -39,6 +39,10 @@ colour_of nine = if nine == 511 then Some true else if nine == 0 then Some false
 abbrev pub known_of : Bool → ℕ → Option Bool
 known_of predicted nine = if predicted then colour_of nine else None
 
+-- what a mask of known columns tells of the one at bit b: the colour that the reference has there
+abbrev pub told_by : ℕ → ℕ → ℕ → Option Bool
+told_by known here b = if bit known b then Some (bit here b) else None
+
 -- template 0 with both adaptive pixels where the standard has them by default (Figure 12)
 abbrev pub corners : List AdaptiveTemplatePixel
 corners = apart (negsuc 0) (negsuc 0) ∷ apart (negsuc 0) (negsuc 0) ∷ []

@@ -118,7 +118,7 @@ pub fn push_bytes<L: Ledger>(
     PushedBytes { bytes: 1, pixels }
 }
 
-/// How many bytes a run is tested for at byte `done` of a group of so many bytes: all eight of a
+/// How many bytes a run is tested for at byte `done` of a group of this many bytes: all eight of a
 /// whole one at its start, else one, since counting how many of a few stay costs more than it saves.
 #[inline(always)]
 fn most_bytes(done: u32, bytes: u32) -> u32
@@ -134,7 +134,7 @@ fn most_bytes(done: u32, bytes: u32) -> u32
     1
 }
 
-/// Pixels with these bytes behind them.
+/// Pixels with these bytes after them.
 #[inline(always)]
 fn join(pixels: u64, behind: PushedBytes) -> u64
     requires few { behind.bytes ≤ 8 }
@@ -148,7 +148,7 @@ fn join(pixels: u64, behind: PushedBytes) -> u64
 }
 
 /// The next `bytes` bytes of a row, at most eight and none of them its last, from the windows' column
-/// on: their pixels, the first in the highest of so many bits.
+/// on: their pixels, the first in the highest of this many bits.
 #[inline(always)]
 fn push_group<L: Ledger>(
     neighbours: Neighbours,

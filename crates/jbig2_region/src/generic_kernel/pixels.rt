@@ -51,7 +51,7 @@ fn mixed_context<A: Allocator, L: Ledger>(
     joined(left % (1 << neighbours.left), after_left, neighbours.left)
 }
 
-/// The `count` pixels from column `x` of row `y` on, at most 32. Answers the four pixels left of the
+/// The `count` pixels from column `x` of row `y` on, at most 32. Returns the four pixels left of the
 /// next column.
 #[inline(always)]
 fn decode_pixels<A: Allocator, L: Ledger>(

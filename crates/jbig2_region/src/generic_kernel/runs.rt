@@ -81,7 +81,7 @@ fn unlike_left(count: u32, black: bool, left: u32) -> u32
     (left % (1 << count)) ^ all
 }
 
-/// How many of the next bytes stay in one context: one, or all of eight where so many are asked for.
+/// How many of the next bytes stay in one context: one, or all of eight where this many are asked for.
 #[inline(always)]
 fn staying_bytes(
     neighbours: Neighbours,
@@ -140,7 +140,7 @@ fn same_colour(black: bool, other: bool) -> bool
     !other
 }
 
-/// Takes of the next `most` bytes as many as are one run of `black` from the first on, or so many of
+/// Takes of the next `most` bytes as many as are one run of `black` from the first on, or this many of
 /// these as are tested at once: none only if the first is no such run.
 #[inline(always)]
 pub fn take_runs<L: Ledger>(

@@ -179,7 +179,7 @@ pub fn stretch_bits(stretch: Stretch, window: u64, offset: u32) -> u32
 }
 
 impl Windows {
-    /// The windows about the column so many pixels to the right, which show as many columns less.
+    /// The windows about the column this many pixels to the right, which show as many columns less.
     #[inline(always)]
     pub fn moved(self, pixels: u32) -> Windows
         requires few { pixels ≤ 32 }
@@ -219,7 +219,7 @@ impl WideWindows {
     }
 
     /// The windows at byte `done` of a group of `bytes`, from those at the first of the `taken` bytes
-    /// before it: only behind several bytes they are cut out of the group's windows anew.
+    /// before it: only after several bytes they are cut out of the group's windows anew.
     #[inline(always)]
     pub fn moved_on(self, group: WideWindows, taken: u32, done: u32, bytes: u32) -> WideWindows
         requires few { bytes ≤ 8 }
@@ -252,7 +252,7 @@ impl Neighbours {
 
     /// The number of the context of which a register holds the two stretches, and the lowest bits of
     /// `beside` the pixels at the left. One product brings the stretches side by side, from bit 48 on.
-    /// The pixels at the left are added behind it, so that it waits for none of their decisions.
+    /// The pixels at the left are added after it, so that it waits for none of their decisions.
     #[inline(always)]
     pub fn context(self, register: u64, beside: u32) -> u32
         requires near { IsNear self }

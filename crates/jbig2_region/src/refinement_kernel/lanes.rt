@@ -8,11 +8,11 @@ use crate::refinement_kernel::windows::RefinementWindows;
 use crate::template::RefinementTemplate;
 
 /// Fifteen pixels of each window, from the one `offset` right of its first on: those of the row below
-/// lowest, those of the region highest. Lanes move on by doubling: after so many pixels, up to twelve,
+/// lowest, those of the region highest. Lanes move on by doubling: after this many pixels, up to twelve,
 /// `lanes_context` finds the next one's context in them.
 #[inline(always)]
 pub fn lanes_at(windows: RefinementWindows, offset: u32) -> u64
-    requires offset { offset < 32 }
+    requires offset { offset ≤ 32 }
     ensures { Lanes windows offset 12 result }
 {
     let below = (windows.below << offset) >> 49;

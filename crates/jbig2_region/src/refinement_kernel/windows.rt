@@ -1,13 +1,12 @@
 //! Windows on the rows that a refinement's pixels are taken from: 64 pixels of each, of which one load
 //! serves 32 columns.
-ghost use Rattle.std.specs.Prelude.{◌≡◌, ℕ, ◌+◌, ◌-◌, ◌*◌, ◌/◌, ◌%◌, ◌^◌, ◌<◌, ◌≤◌, pos, negsuc, ◌+ℤ◌, ◌-ℤ◌, ◌<ℤ◌};
+ghost use Rattle.std.specs.Prelude.{◌≡◌, ℕ, ◌+◌, ◌-◌, ◌*◌, ◌/◌, ◌%◌, ◌^◌, ◌<◌, ◌≤◌, pos, negsuc, ◌+ℤ◌, ◌-ℤ◌, ◌<ℤ◌, true, false};
 ghost use Rattle.jbig2_base.specs.Grid.{Grid, pixel_at};
 ghost use Rattle.jbig2_base.specs.Bits.{bit};
 ghost use Rattle.jbig2_region.specs.inner.RefinementViews.{reference_view};
-ghost use Rattle.jbig2_region.specs.inner.RefinementWindows.{Sees, SeesRows, colour_of, context_of, four_of, known_of, nine_of, three_of};
+ghost use Rattle.jbig2_region.specs.inner.RefinementWindows.{Sees, SeesRows, known_of, nine_of, three_of, told_by};
 
 use crate::generic_refinement::ReferenceBitmap;
-use crate::template::RefinementTemplate;
 use jbig2_base::bitmap::Bitmap;
 use jbig2_base::bitmap::steps::Steps;
 use std::alloc::Allocator;
@@ -47,7 +46,7 @@ fn window<A: Allocator, L: Ledger>(
     bitmap.load_pixels(column as u32, row as u32, 64, steps)
 }
 
-/// The windows about row `y` that serve column `x` of the region and the 31 columns behind it.
+/// The windows about row `y` that serve column `x` of the region and the 31 columns after it.
 #[inline(always)]
 pub fn windows_at<A: Allocator, B: Allocator, L: Ledger>(
     bitmap: &Bitmap<A>,
@@ -102,16 +101,6 @@ fn row_window(pixels: u64, width: u32) -> u64
     (pixels << (64 - width)) >> 1
 }
 
-/// Of a window the pixel `offset` columns behind the windows' column, and its two neighbours.
-#[inline(always)]
-fn three(window: u64, offset: u32) -> u32
-    requires offset { offset < 32 }
-    ensures value { result ≡ three_of window offset }
-    ensures bound { result < 8 }
-{
-    ((window >> (61 - offset)) % 8) as u32
-}
-
 impl RefinementWindows {
     /// The windows that serve column 0 of row `y`, out of those of the row above, whose pixels are the
     /// lowest `width` bits of `pixels`.
@@ -155,53 +144,54 @@ impl RefinementWindows {
         0
     }
 
-    /// The reference's nine pixels about that column, the last of them in bit 0.
+    /// The columns whose colour is known, that of the windows in bit 62: in a predicted row those about
+    /// which the reference's nine pixels are alike.
     #[inline(always)]
-    pub fn nine(self, offset: u32) -> u32
-        requires offset { offset < 32 }
-        ensures value { result ≡ nine_of self offset }
-        ensures bound { result < 512 }
+    pub fn known_columns(self, predicted: bool) -> u64
+        ensures { (k : ℕ) → k < 32
+            → known_of predicted (nine_of self k) ≡ told_by result self.here (62 - k) }
     {
-        three(self.below, offset) + three(self.here, offset) * 8 + three(self.above, offset) * 64
-    }
-
-    /// The region's pixel at the left, which is bit 0 of `left`, and the three above.
-    #[inline(always)]
-    pub fn four(self, left: u64, offset: u32) -> u32
-        requires offset { offset < 32 }
-        ensures value { result ≡ four_of self left offset }
-        ensures bound { result < 16 }
-    {
-        (left % 2) as u32 + three(self.region, offset) * 2
-    }
-}
-
-/// The number of the context that these pixels make.
-#[inline(always)]
-pub fn context(template: RefinementTemplate, nine: u32, four: u32) -> u32
-    requires nine { nine < 512 }
-    requires four { four < 16 }
-    ensures { result ≡ context_of template nine four }
-{
-    match template {
-        RefinementTemplate::Template0 => nine + four * 512,
-        RefinementTemplate::Template1 => {
-            nine % 4 + nine / 8 % 8 * 4 + nine / 128 % 2 * 32 + four * 64
+        if !predicted {
+            return 0;
         }
+        let all = self.above & self.here & self.below;
+        let any = self.above | self.here | self.below;
+        let black = all & (all << 1) & (all >> 1);
+        let mixed = any | (any << 1) | (any >> 1);
+        black | !mixed
+    }
+
+    /// `pixels`, followed by the reference's of `count` columns from the one `offset` right of the
+    /// windows' column on.
+    #[inline(always)]
+    pub fn copied_pixels(self, offset: u32, count: u32, pixels: u64) -> u64
+        requires within { offset + count ≤ 32 }
+        requires room { pixels < 16 * 2 ^ offset }
+        ensures { result
+            ≡ pixels * 2 ^ count + self.here / 2 ^ (63 - (offset + count)) % 2 ^ count }
+    {
+        (pixels << count) + (self.here >> (63 - (offset + count))) % (1 << count)
     }
 }
 
-/// In a predicted row, the colour that the nine pixels have in common.
+/// Of the highest `most` bits those before the first that isn't set.
 #[inline(always)]
-pub fn known_colour(predicted: bool, nine: u32) -> Option<bool>
-    ensures { result ≡ known_of predicted nine }
+pub fn leading_ones(word: u64, most: u32) -> u32
+    requires { most < 64 }
+    ensures most { result ≤ most }
+    ensures before { (k : ℕ) → k < result → bit word (63 - k) ≡ true }
+    ensures next { result < most → bit word (63 - result) ≡ false }
 {
-    if !predicted {
-        return None;
-    }
-    match nine {
-        0x1FF => Some(true),
-        0 => Some(false),
-        _ => None,
-    }
+    word.leading_ones().min(most)
+}
+
+/// Of the highest `most` bits those before the first that is set.
+#[inline(always)]
+pub fn leading_zeros(word: u64, most: u32) -> u32
+    requires { most < 64 }
+    ensures most { result ≤ most }
+    ensures before { (k : ℕ) → k < result → bit word (63 - k) ≡ false }
+    ensures next { result < most → bit word (63 - result) ≡ true }
+{
+    word.leading_zeros().min(most)
 }

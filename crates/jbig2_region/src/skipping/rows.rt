@@ -71,7 +71,7 @@ fn decode_pixel<L: Ledger>(
     decoder.decode(&mut contexts[context as usize], steps)
 }
 
-/// The `count` pixels from column `x` of row `y` on, at most 32. Answers the four pixels left of the
+/// The `count` pixels from column `x` of row `y` on, at most 32. Returns the four pixels left of the
 /// next column.
 #[inline(always)]
 fn decode_block<M: Allocator, A: Allocator, L: Ledger>(

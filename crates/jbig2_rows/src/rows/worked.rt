@@ -108,7 +108,7 @@ const ROWS: &[Row] = &[
     Row {
         name: "8",
         cases: &[
-            // Behind the first decision A is A7FC. One quiet decision at row 1 would leave 73FB; taken, it
+            // After the first decision A is A7FC. One quiet decision at row 1 would leave 73FB; taken, it
             // is the likely symbol 1, and A is E7F6. At row 2 each quiet decision takes 1801.
             Case::Coder(CoderCase::Readings {
                 bytes: "",

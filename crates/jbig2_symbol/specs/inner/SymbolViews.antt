@@ -29,11 +29,11 @@ coded_view r = record { coding = texts.coded_view r.coded; contexts = r.contexts
 abbrev pub prefixed_view : {A : Type 0} → PrefixedSymbols A → SymbolState Place
 prefixed_view r = record { coding = r.reader; contexts = r.contexts }
 
--- what is read, behind others
+-- what is read, after others
 abbrev pub behind : {X S : Type 0} → List X → Result (List X × S) DecodeError → Result (List X × S) DecodeError
 behind before answer = answer >>= λ more. Ok (before ++ more.0, more.1)
 
--- symbols behind others
+-- symbols after others
 abbrev pub put_behind : List Grid → Result (List Grid) DecodeError → Result (List Grid) DecodeError
 put_behind before answer = answer >>= λ more. Ok (before ++ more)
 
@@ -45,11 +45,11 @@ room_behind d new = d.header.num_new_symbols - length new
 abbrev pub empty_with : List Grid → ℕ → ℕ
 empty_with symbols empty = empty + bit_number (length symbols == 0)
 
--- a class behind others, by all symbols, its height, and how many classes had no symbol
+-- a class after others, by all symbols, its height, and how many classes had no symbol
 abbrev pub class_behind : {S : Type 0} → List Grid → ℕ → Result (ℕ × List Grid × S) DecodeError → Result (List Grid × (ℕ × (ℕ × S))) DecodeError
 class_behind before empty answer = answer >>= λ class. Ok (before ++ class.1, (class.0, (empty_with class.1 empty, class.2)))
 
--- the symbols that are referred to, and the new ones behind them
+-- the symbols that are referred to, and the new ones after them
 abbrev pub all_symbols : List (Bor Grid) → List Grid → List Grid
 all_symbols symbols new = map (λ b. b.now) symbols ++ new
 

@@ -103,7 +103,7 @@ pub fn instance_count(number: Option<i32>) -> Result<u32>
     Ok(number as u32)
 }
 
-/// What so many instances are read and placed by, of the symbols that are referred to and the new
+/// What this many instances are read and placed by, of the symbols that are referred to and the new
 /// ones so far.
 pub fn aggregate_params<'a, A: Allocator, T: Allocator>(
     input: &SymbolInput<'a, A, T>,
@@ -145,6 +145,7 @@ pub fn refine_alone<R: ReadInstances, A: Allocator, M: Allocator, C: Allocator, 
     let Some(bitmap) = symbols.symbol(id) else {
         return Err(DecodeError::Symbol(SymbolError::OutOfRange));
     };
+    steps.pay_bitmap(size.width, size.height)?;
     let mut refined = new_symbol(alloc, size.width, size.height)?;
     let reference = ReferenceBitmap { bitmap, dx, dy };
     readings.refine(&reference, refining, &mut refined, steps)?;
@@ -167,6 +168,7 @@ pub fn put_together<R: ReadInstances, A: Allocator, M: Allocator + Clone, C: All
         let meant = put_together R.readings p size.width size.height refining.old state in
         Gives (λ g. (g, refining.new, R.state readings.new)) result meant }
 {
+    steps.pay_bitmap(size.width, size.height)?;
     let mut symbol = new_symbol(alloc.clone()?, size.width, size.height)?;
     draw_instances_by(alloc, readings, refining, params, &mut symbol, steps)?;
     Ok(symbol)

@@ -72,6 +72,7 @@ fn read_raw_rows<A: Allocator, L: Ledger>(
     }
     let stride = width.div_ceil(8) as usize;
     let bytes = bytes_field(reader, height as usize * stride)?;
+    steps.pay_bitmap(width, height)?;
     let mut bitmap = Bitmap::new_wide(alloc, width, height)?;
     for y in 0..height {
         fill_row(bytes, y, &mut bitmap, steps);
@@ -96,6 +97,7 @@ fn read_mmr_rows<A: Allocator, L: Ledger>(
     ensures aligned { IsAligned reader.new }
 {
     let bytes = bytes_field(reader, size)?;
+    steps.pay_bitmap(width, height)?;
     let mut bitmap = Bitmap::new_wide(alloc, width, height)?;
     mmr::decode(&mut bitmap, bytes, strict, steps)?;
     Ok(bitmap)
@@ -123,7 +125,7 @@ pub fn read_rows<A: Allocator, L: Ledger>(
     read_mmr_rows(alloc, strict, size, width, height, reader, steps)
 }
 
-/// Puts the symbols of these widths, which stand side by side in a collective bitmap, behind those
+/// Puts the symbols of these widths, which stand side by side in a collective bitmap, after those
 /// that `symbols` holds.
 #[tactic(auto, using(crate::proofs::ClassCauses::cuts_causes))]
 pub fn cut_symbols<A: Allocator + Clone, B: Allocator, L: Ledger>(
@@ -149,6 +151,7 @@ pub fn cut_symbols<A: Allocator + Clone, B: Allocator, L: Ledger>(
             width: *width,
             height,
         };
+        steps.pay_bitmap(*width, height)?;
         let symbol = match collective.part(alloc.clone()?, area, steps) {
             Ok(symbol) => symbol,
             Err(error) => return Err(error),

@@ -18,6 +18,9 @@ use std::sync::ledger::Ledger;
 /// The most height classes without a symbol.
 const MAX_EMPTY: u32 = 1 << 20;
 
+/// The work of a height class besides its symbols.
+const CLASS: u64 = 256;
+
 /// The new symbols of a dictionary so far.
 #[derive(Drop)]
 struct NewSymbols<A: Allocator> {
@@ -38,7 +41,7 @@ pub fn check_class(symbols: usize, empty: u32) -> Result<()>
     Ok(())
 }
 
-/// Puts the symbols of a class, each of which has a bitmap of its own, behind the others.
+/// Puts the symbols of a class, each of which has a bitmap of its own, after the others.
 fn read_symbols<R: ReadSymbols, A: Allocator + Clone, T: Allocator, L: Ledger>(
     alloc: A,
     input: &SymbolInput<'_, A, T>,
@@ -72,7 +75,7 @@ fn read_symbols<R: ReadSymbols, A: Allocator + Clone, T: Allocator, L: Ledger>(
     }
 }
 
-/// Puts the symbols of such a class behind the others; so many classes before it had none.
+/// Puts the symbols of such a class after the others; this many classes before it had none.
 #[tactic(auto, using(crate::proofs::ClassCauses::all_drawn_class_causes), unfolding(crate::specs::HeightClasses::drawn_class))]
 pub fn read_drawn_class<R: ReadSymbols, A: Allocator + Clone, T: Allocator, L: Ledger>(
     alloc: A,
@@ -122,6 +125,7 @@ fn read_height_class<R: ReadClasses, A: Allocator + Clone, T: Allocator, L: Ledg
         Gives (λ _. (all.bitmaps.items, (all.height, (all.empty, left)))) result meant }
     ensures few { OnOk result (symbols.new.empty ≤ symbols.old.empty + 1) }
 {
+    steps.pay(CLASS)?;
     let Some(difference) = readings.height_difference(input, steps)? else {
         return Err(DecodeError::Symbol(SymbolError::UnexpectedOob));
     };

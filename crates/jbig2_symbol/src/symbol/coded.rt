@@ -90,6 +90,7 @@ impl<A: Allocator> CodedSymbols<'_, A> {
         ensures causes { (h : SymbolHeader) (width height : ℕ)
             → HaveCauses (coded_symbol h width height) (λ s. BreaksSides width height) }
     {
+        steps.pay_bitmap(width, height)?;
         let mut bitmap = Bitmap::new(alloc, width, height)?;
         decode_coded(
             self.contexts.template,
@@ -103,7 +104,7 @@ impl<A: Allocator> CodedSymbols<'_, A> {
         Ok(bitmap)
     }
 
-    /// A symbol of so many instances.
+    /// A symbol of this many instances.
     fn read_instances<S: Allocator, M: Allocator + Clone, L: Ledger>(
         &mut self,
         alloc: M,

@@ -17,6 +17,9 @@ use std::sync::ledger::Ledger;
 /// The most runs of length 0.
 const MAX_EMPTY: u32 = 1 << 20;
 
+/// The work of reading a run.
+const RUN: u64 = 64;
+
 /// Reads a run, where `left` symbols are not covered yet and `empty` runs of length 0 came before.
 #[tactic(auto, unfolding(crate::specs::Symbols::next_run))]
 fn read_run<R: ReadClasses, A: Allocator, T: Allocator, L: Ledger>(
@@ -70,6 +73,7 @@ pub fn read_runs<R: ReadClasses, M: Allocator, A: Allocator, T: Allocator, L: Le
         if left == 0 {
             break;
         }
+        steps.pay(RUN)?;
         let run = match read_run(input, empty, left, readings, steps) {
             Ok(run) => run,
             Err(error) => return Err(error),
@@ -81,7 +85,19 @@ pub fn read_runs<R: ReadClasses, M: Allocator, A: Allocator, T: Allocator, L: Le
     Ok(runs)
 }
 
-/// A copy of a symbol, by its number among those that are referred to and the new ones behind them.
+/// A copy of a symbol.
+fn duplicate<A: Allocator, S: Allocator, L: Ledger>(
+    alloc: A,
+    symbol: &Bitmap<S>,
+    steps: &mut Steps<L>,
+) -> Result<Bitmap<A>>
+    ensures { Gives (λ copy. copy) result (Ok symbol.now) }
+{
+    steps.pay_bitmap(symbol.width(), symbol.height())?;
+    symbol.duplicate(alloc, steps)
+}
+
+/// A copy of a symbol, by its number among those that are referred to and the new ones after them.
 fn duplicate_symbol<A: Allocator, S: Allocator, L: Ledger>(
     alloc: A,
     symbols: &[&Bitmap<S>],
@@ -95,12 +111,12 @@ fn duplicate_symbol<A: Allocator, S: Allocator, L: Ledger>(
         Gives (λ symbol. symbol) result meant }
 {
     if index < symbols.len() {
-        return symbols[index].duplicate(alloc, steps);
+        return duplicate(alloc, symbols[index], steps);
     }
-    new[index - symbols.len()].duplicate(alloc, steps)
+    duplicate(alloc, &new[index - symbols.len()], steps)
 }
 
-/// Puts copies of `count` symbols from number `first` on behind those that are exported so far.
+/// Puts copies of `count` symbols from number `first` on after those that are exported so far.
 fn push_symbols<A: Allocator + Clone, S: Allocator, L: Ledger>(
     alloc: A,
     symbols: &[&Bitmap<S>],
@@ -121,7 +137,7 @@ fn push_symbols<A: Allocator + Clone, S: Allocator, L: Ledger>(
     Ok(())
 }
 
-/// The symbols that the runs export, of those that are referred to and the new ones behind them.
+/// The symbols that the runs export, of those that are referred to and the new ones after them.
 pub fn export_symbols<A: Allocator + Clone, S: Allocator, L: Ledger>(
     alloc: A,
     runs: &[u32],
@@ -156,8 +172,27 @@ pub fn export_symbols<A: Allocator + Clone, S: Allocator, L: Ledger>(
     Ok(exported)
 }
 
-/// Reads which symbols a dictionary exports, of those that it refers to and the new ones behind
-/// them, and copies them.
+/// The same, where the new symbols serve for nothing else: if just they are exported, they are not copied.
+#[tactic(auto, using(crate::proofs::ExportedLemmas::exported_new))]
+fn take_exports<A: Allocator + Clone, S: Allocator, L: Ledger>(
+    alloc: A,
+    runs: &[u32],
+    symbols: &[&Bitmap<S>],
+    new: Vec<Bitmap<A>, A>,
+    steps: &mut Steps<L>,
+) -> Result<Vec<Bitmap<A>, A>>
+    requires { sum runs.now ≡ length symbols.now + length new.items }
+    ensures { let meant = Ok (exported runs.now (all_symbols symbols.now new.items)) in
+        Gives (λ symbols. symbols.items) result meant }
+{
+    if runs.len() == 2 && runs[0] as usize == symbols.len() {
+        return Ok(new);
+    }
+    export_symbols(alloc, runs, symbols, &new, steps)
+}
+
+/// Reads which symbols a dictionary exports, of those that it refers to and the new ones after
+/// them, and copies those that it can't take.
 ///
 /// The errors of `read_runs`; `SymbolError::NoSymbols` where they are not as many as the header
 /// states; `OutOfMemory` where there is no room for them.
@@ -165,20 +200,20 @@ pub fn export_symbols<A: Allocator + Clone, S: Allocator, L: Ledger>(
 pub fn read_exports<R: ReadClasses, A: Allocator + Clone, T: Allocator, L: Ledger>(
     alloc: A,
     input: &SymbolInput<'_, A, T>,
-    new: &[Bitmap<A>],
+    new: Vec<Bitmap<A>, A>,
     readings: &mut R,
     steps: &mut Steps<L>,
 ) -> Result<Vec<Bitmap<A>, A>>
     requires { length input.now.symbols.now ≤ 2097152 }
     ensures value { let d = input_view input.now in
-        let all = all_symbols input.now.symbols.now new.now in
+        let all = all_symbols input.now.symbols.now new.items in
         let meant = exports R.readings d all (R.state readings.old) in
         Gives (λ symbols. (symbols.items, R.state readings.new)) result meant }
     ensures causes { ExportsHaveCauses R.readings }
 {
     let count = input.symbols.len() as u64 + new.len() as u64;
     let runs = read_runs(alloc.clone()?, input, count, readings, steps)?;
-    let exported = export_symbols(alloc, &runs, input.symbols, new, steps)?;
+    let exported = take_exports(alloc, &runs, input.symbols, new, steps)?;
     if exported.len() != input.header.num_exported_symbols as usize {
         return Err(DecodeError::Symbol(SymbolError::NoSymbols));
     }

@@ -189,7 +189,7 @@ fn parse_refined_pixels(
     generic_refinement::parse_template_pixels(reader, flags.refinement_template)
 }
 
-/// The header of a symbol dictionary at the reader's place, which holds the coded bytes behind it
+/// The header of a symbol dictionary at the reader's place, which holds the coded bytes after it
 /// (T.88, 7.4.2.1).
 ///
 /// `ParseError::UnexpectedEof` where the bytes do not hold it; `HuffmanError::InvalidSelection`

@@ -33,7 +33,7 @@ use jbig2_text::text::{PrefixedReadings, Refining, TextParams, TextRegionHuffman
 use std::alloc::Allocator;
 use std::sync::ledger::Ledger;
 
-/// A symbol by prefix codes, with an id of so many bits where there is one instance.
+/// A symbol by prefix codes, with an id of this many bits where there is one instance.
 fn read_by_instances<T: Allocator, A: Allocator, M: Allocator + Clone, C: Allocator, L: Ledger>(
     alloc: M,
     readings: &mut PrefixedReadings<'_, '_, T, A>,
@@ -90,7 +90,7 @@ impl<'a, A: Allocator> PrefixedSymbols<'a, A> {
         table.decode(&mut self.reader)
     }
 
-    /// A symbol of so many instances.
+    /// A symbol of this many instances.
     fn read_instances<T: Allocator, M: Allocator + Clone, L: Ledger>(
         &mut self,
         alloc: M,
@@ -184,7 +184,7 @@ impl<'a, A: Allocator> PrefixedSymbols<'a, A> {
         )
     }
 
-    /// Puts the symbols of a class, cut out of its collective bitmap, behind the others.
+    /// Puts the symbols of a class, cut out of its collective bitmap, after the others.
     #[tactic(auto, using(crate::proofs::ClassCauses::collective_class_causes), unfolding(crate::specs::SymbolCoding::collective_class))]
     fn read_collective_class<M: Allocator + Clone, T: Allocator, L: Ledger>(
         &mut self,

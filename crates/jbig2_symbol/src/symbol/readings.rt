@@ -29,7 +29,7 @@ pub trait ReadSymbols {
         ensures { let meant = readings.width_difference (input_view input.now) (state self.old) in
             Answers (λ value. (value, state self.new)) result meant };
 
-    /// The bitmap of a symbol behind these new ones (T.88, 6.5.8).
+    /// The bitmap of a symbol after these new ones (T.88, 6.5.8).
     fn symbol_bitmap<A: Allocator + Clone, T: Allocator, L: Ledger>(
         &mut self,
         alloc: A,
@@ -46,7 +46,7 @@ pub trait ReadSymbols {
             Gives (λ symbol. (symbol, state self.new)) result meant };
 }
 
-/// Reads a dictionary, one height class behind the other, and what it exports.
+/// Reads a dictionary, one height class after the other, and what it exports.
 pub trait ReadClasses {
     ghost State: { Type 0 };
 
@@ -63,7 +63,7 @@ pub trait ReadClasses {
         ensures { let meant = readings.height_difference (input_view input.now) (state self.old) in
             Answers (λ value. (value, state self.new)) result meant };
 
-    /// Puts the symbols of a class of this height behind the others; so many classes before it had
+    /// Puts the symbols of a class of this height after the others; this many classes before it had
     /// none (T.88, 6.5.5, step 4).
     fn class_of_height<A: Allocator + Clone, T: Allocator, L: Ledger>(
         &mut self,

@@ -66,7 +66,7 @@ impl RunningWidths {
         }
     }
 
-    /// Goes on by a difference, and answers the width there; `None` ends the class.
+    /// Goes on by a difference, and returns the width there; `None` ends the class.
     fn move_by(&mut self, difference: Option<i32>) -> Result<Option<u32>>
         ensures value { let before = self.old in
             let meant = width_by before.left before.width before.total difference in

@@ -6,7 +6,7 @@ use Rattle.jbig2_region.specs.{Raster.{fresh_contexts}, RefinementTemplates.{ref
 use Rattle.jbig2_text.specs.{Refining.{Refining}, Text.{Found, Instance, Reached, Readings, TextParams, after_instances, cursor_moved, grown, is_last_along_s, strip_begun, with_instance}, TextHeader.{corner_of, signed_5}, TextRegion.{one_of_two}, declared.text.{cursor.Cursor.{Cursor}, header.TextRegionFlags.{TextRegionFlags}}}
 
 -- ---- the header
--- the bits of the flags behind SBHUFF
+-- the bits of the flags after SBHUFF
 abbrev pub other_flags : ℕ → CombinationOperator → TextRegionFlags
 other_flags flags operator = record {
   use_refinement = flags / 2 % 2 == 1;
@@ -40,11 +40,11 @@ abbrev pub fresh_refining : RefinementTemplate → List AdaptiveTemplatePixel �
 fresh_refining template pixels = refining_by template pixels (fresh_contexts (refinement_bits template))
 
 -- ---- places
--- the last pixel of a side lies so far behind its first
+-- the last pixel of a side lies so far after its first
 abbrev pub behind_first : ℕ → ℤ
 behind_first side = pos side -ℤ pos 1
 
--- CURS where a symbol is placed, and behind it
+-- CURS where a symbol is placed, and after it
 abbrev pub s_before : TextRegionFlags → Grid → ℤ → Result ℤ DecodeError
 s_before flags g curs = if is_last_along_s flags then grown flags g curs else Ok curs
 
@@ -55,7 +55,7 @@ s_behind flags g curs = if is_last_along_s flags then Ok curs else grown flags g
 abbrev pub reached : {S : Type 0} → List Instance → Cursor → Refining → S → Reached S
 reached found c f s = record { instances = found; cursor = c; refining = f; state = s }
 
--- one more, and where the one behind it stands
+-- one more, and where the one after it stands
 abbrev pub with_next_instance : {S : Type 0} → Readings S → TextParams → Reached S → Result (Reached S) DecodeError
 with_next_instance r p x = do
   y ← with_instance r p x
@@ -66,14 +66,14 @@ with_next_instance r p x = do
 abbrev pub end_of_strip : Bool → Result (Option ℤ) DecodeError → Result (Unit {0}) DecodeError
 end_of_strip strict ids = if strict then (ids >>= λ o. refuse_if (is_some o) (Symbol TooManyInstances)) else Ok tt
 
--- the last instance, and the IDS behind it
+-- the last instance, and the IDS after it
 abbrev pub with_last : {S : Type 0} → Readings S → TextParams → Reached S → Result (Found S) DecodeError
 with_last r p x = do
   last ← with_instance r p x
   ends ← end_of_strip p.strict (r.delta_s last.state)
   Ok (last.instances, last.refining, r.behind_delta_s last.state)
 
--- all strips behind this STRIPT, where there are some; and where there may be none
+-- all strips after this STRIPT, where there are some; and where there may be none
 abbrev pub some_strips : {S : Type 0} → Readings S → TextParams → ℤ → Refining → S → Result (Found S) DecodeError
 some_strips r p stript f s = do
   c ← strip_begun r p.flags stript (pos 0) s

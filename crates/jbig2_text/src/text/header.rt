@@ -125,7 +125,7 @@ fn signed_5(value: u16) -> i8
     if low < 16 { low } else { low - 32 }
 }
 
-/// The bits of the flags behind the first.
+/// The bits of the flags after the first.
 fn other_flags(flags: u16, combination_operator: CombinationOperator) -> TextRegionFlags
     ensures value { result ≡ other_flags flags combination_operator }
     ensures strips { result.log_strip_size ≤ 3 }
@@ -207,7 +207,7 @@ fn parse_refinement_pixels(
     Ok([unused, unused])
 }
 
-/// The fields behind the region information.
+/// The fields after the region information.
 #[tactic(auto, unfolding(crate::specs::TextHeader::text_fields_at))]
 fn parse_fields(reader: &mut Reader<'_>) -> Result<TextFields>
     requires { IsAligned reader.old }
@@ -250,8 +250,8 @@ fn parse_coding<A: Allocator + Clone>(
     Ok(TextRegionCoding::Huffman { tables, ids })
 }
 
-/// The header of a text region of so many symbols, at most 2^21, at the reader's place, which
-/// holds the coded bytes behind it (T.88, 7.4.3.1). A refusal leaves the reader where it was.
+/// The header of a text region of this many symbols, at most 2^21, at the reader's place, which
+/// holds the coded bytes after it (T.88, 7.4.3.1). A refusal leaves the reader where it was.
 ///
 /// `ParseError::UnexpectedEof` where the bytes do not hold it; the errors of
 /// `parse_region_segment_info`; `HuffmanError::InvalidCode` where the codes of the symbols' ids

@@ -19,6 +19,9 @@ use jbig2_base::error::{DecodeError, Result, SymbolError};
 use std::alloc::Allocator;
 use std::sync::ledger::Ledger;
 
+/// The work of an instance besides the pixels of its symbol.
+const INSTANCE: u64 = 256;
+
 /// How many instances a byte of a segment may stand for.
 const INSTANCES_PER_BYTE: usize = 32;
 
@@ -77,15 +80,19 @@ fn read_instance<'a, R: ReadInstances, B: Allocator, M: Allocator + Clone, C: Al
         let meant = with_instance R.readings (params_view params.now) before in
         Gives (λ _. reached_view placed.new refining.new (R.state readings.new)) result meant }
 {
+    steps.pay(INSTANCE)?;
     let t = read_t_in_strip(readings, &params.flags, steps)?;
     let t = numbers::moved(placed.cursor.strip_t, t)?;
     let id = readings.id(steps)?;
     let alloc = placed.instances.allocator().clone()?;
     let symbol = read_symbol(alloc, readings, refining, params, id, steps)?;
+    if let Some(symbol) = &symbol {
+        steps.pay_bitmap(symbol.width(), symbol.height())?;
+    }
     placed.push_symbol(&params.flags, t, symbol)
 }
 
-/// Reads the instance at the cursor, which moves on to the one behind it.
+/// Reads the instance at the cursor, which moves on to the one after it.
 fn read_and_move<'a, R: ReadInstances, B: Allocator, M: Allocator + Clone, C: Allocator, L: Ledger>(
     readings: &mut R,
     refining: &mut Refining<C>,
@@ -103,7 +110,7 @@ fn read_and_move<'a, R: ReadInstances, B: Allocator, M: Allocator + Clone, C: Al
     Ok(())
 }
 
-/// Reads so many instances, behind which there is another.
+/// Reads this many instances, after which there is another.
 fn read_inner<'a, R: ReadInstances, B: Allocator, M: Allocator + Clone, C: Allocator, L: Ledger>(
     readings: &mut R,
     refining: &mut Refining<C>,
@@ -126,7 +133,7 @@ fn read_inner<'a, R: ReadInstances, B: Allocator, M: Allocator + Clone, C: Alloc
     Ok(())
 }
 
-/// Reads the last instance, and the difference of S behind it.
+/// Reads the last instance, and the difference of S after it.
 fn read_last<'a, R: ReadInstances, B: Allocator, M: Allocator + Clone, C: Allocator, L: Ledger>(
     readings: &mut R,
     refining: &mut Refining<C>,
@@ -146,7 +153,7 @@ fn read_last<'a, R: ReadInstances, B: Allocator, M: Allocator + Clone, C: Alloca
     Ok(placed.instances)
 }
 
-/// Reads the strips, of which there is one at least, behind this T.
+/// Reads the strips, of which there is one at least, after this T.
 fn read_some_strips<
     'a,
     R: ReadInstances,
@@ -175,7 +182,7 @@ fn read_some_strips<
     read_last(readings, refining, params, placed, steps)
 }
 
-/// Reads all strips behind this T.
+/// Reads all strips after this T.
 fn read_strips<'a, R: ReadInstances, B: Allocator, M: Allocator + Clone, C: Allocator, L: Ledger>(
     alloc: M,
     readings: &mut R,
@@ -251,7 +258,7 @@ fn draw_instances<B: Allocator, M: Allocator, D: Allocator, L: Ledger>(
 /// and draws them onto `region`, which is all in its default colour. `alloc` is for the list of
 /// instances and for refined symbols. An error leaves the region as it was.
 ///
-/// The errors are those of `decode_into` behind its tables.
+/// The errors are those of `decode_into` after its tables.
 #[tactic(auto, unfolding(crate::specs::Text::text_region))]
 pub fn draw_instances_by<
     R: ReadInstances,

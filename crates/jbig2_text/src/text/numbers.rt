@@ -55,7 +55,7 @@ pub fn opposite(place: i32) -> Result<i32>
     coordinate(0 - i64::from(place))
 }
 
-/// So many strips of 2 to the power of `log` rows.
+/// This many strips of 2 to the power of `log` rows.
 pub fn strips(count: i32, log: u8) -> Result<i32>
     requires { log ≤ 3 }
     ensures { let meant = word_or (Symbol InvalidStripDelta) (count *ℤ pos (2 ^ log)) in

@@ -76,7 +76,7 @@ fn s_before<B: Allocator, M: Allocator>(
     Ok(s)
 }
 
-/// S behind a symbol that is placed at `s`.
+/// S after a symbol that is placed at `s`.
 fn s_behind<B: Allocator, M: Allocator>(
     flags: &TextRegionFlags,
     symbol: &InstanceSymbol<'_, B, M>,
@@ -111,7 +111,7 @@ fn column_and_row(transposed: bool, s: i32, t: i32) -> (i32, i32)
     (s, t)
 }
 
-/// A symbol at S and T, and S behind it.
+/// A symbol at S and T, and S after it.
 #[tactic(auto, unfolding(crate::specs::Text::symbol_placed))]
 pub fn place<'a, B: Allocator, M: Allocator>(
     flags: &TextRegionFlags,

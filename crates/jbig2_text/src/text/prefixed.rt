@@ -28,7 +28,7 @@ pub struct PrefixedReadings<'a, 't, T: Allocator, I: Allocator> {
     pub ids: &'t HuffmanTable<I>,
 }
 
-/// So many bytes from the next whole one on.
+/// This many bytes from the next whole one on.
 fn sized_bytes<'a>(size: i32, reader: &mut Reader<'a>) -> Result<&'a [u8]>
     ensures { Answers (λ bytes. (bytes.now, reader.new)) result (sized_bytes size reader.old) }
 {

@@ -13,7 +13,7 @@ use jbig2_region::generic_refinement::ReferenceBitmap;
 use std::alloc::Allocator;
 use std::sync::ledger::Ledger;
 
-/// Reads the numbers of a text region, one behind the other.
+/// Reads the numbers of a text region, one after the other.
 pub trait ReadInstances {
     ghost State: { Type 0 };
 

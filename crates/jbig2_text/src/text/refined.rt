@@ -103,6 +103,7 @@ pub fn read_refined<R: ReadInstances, B: Allocator, M: Allocator, C: Allocator, 
     };
     let deltas = read_deltas(readings, steps)?;
     let outline = outline_of(bitmap, &deltas)?;
+    steps.pay_bitmap(outline.width, outline.height)?;
     let mut refined = new_symbol(alloc, outline.width, outline.height)?;
     let reference = ReferenceBitmap {
         bitmap,

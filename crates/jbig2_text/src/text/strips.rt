@@ -52,7 +52,7 @@ pub fn begin_strip<R: ReadInstances, L: Ledger>(
     })
 }
 
-/// Where an instance stands that is `delta` behind the last one, or begins the next strip.
+/// Where an instance stands that is `delta` after the last one, or begins the next strip.
 fn move_by<R: ReadInstances, L: Ledger>(
     readings: &mut R,
     flags: &TextRegionFlags,

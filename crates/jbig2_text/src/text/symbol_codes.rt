@@ -62,7 +62,7 @@ fn read_short_lengths<A: Allocator>(alloc: A, reader: &mut Reader<'_>) -> Result
     Ok(lengths)
 }
 
-/// Adds a length so many times.
+/// Adds a length this many times.
 fn push_lengths<A: Allocator>(lengths: &mut Vec<u8, A>, value: u8, count: u32) -> Result<()>
     requires { length lengths.old.items ≤ 2 ^ 21 }
     ensures { let meant = Ok (lengths.old.items ++ replicate count value) in
@@ -73,7 +73,7 @@ fn push_lengths<A: Allocator>(lengths: &mut Vec<u8, A>, value: u8, count: u32) -
     Ok(())
 }
 
-/// Adds the last length so many times.
+/// Adds the last length this many times.
 fn repeat_last<A: Allocator>(lengths: &mut Vec<u8, A>, count: u32) -> Result<()>
     requires { length lengths.old.items ≤ 2 ^ 21 }
     ensures { Gives (λ _. lengths.new.items) result (repeated lengths.old.items count) }
@@ -137,7 +137,7 @@ fn read_runcodes<A: Allocator + Clone>(alloc: A, reader: &mut Reader<'_>) -> Res
     codes_of(alloc, &lengths)
 }
 
-/// The lengths of so many symbols, or more where a run goes past them.
+/// The lengths of this many symbols, or more where a run goes past them.
 fn read_lengths<A: Allocator, B: Allocator>(
     alloc: A,
     count: u32,
@@ -162,7 +162,7 @@ fn read_lengths<A: Allocator, B: Allocator>(
     Ok(lengths)
 }
 
-/// The lengths of so many symbols.
+/// The lengths of this many symbols.
 #[tactic(auto, unfolding(crate::specs::SymbolCodes::symbol_lengths_at))]
 fn read_symbol_lengths<A: Allocator, B: Allocator>(
     alloc: A,
@@ -182,7 +182,7 @@ fn read_symbol_lengths<A: Allocator, B: Allocator>(
     Ok(lengths)
 }
 
-/// Reads the codes of so many symbols.
+/// Reads the codes of this many symbols.
 #[tactic(auto, unfolding(crate::specs::SymbolCodes::symbol_codes_from))]
 fn read_symbol_codes<A: Allocator + Clone>(
     alloc: A,
@@ -201,7 +201,7 @@ fn read_symbol_codes<A: Allocator + Clone>(
     Ok(codes)
 }
 
-/// Reads the codes of so many symbols, at most 2^21; the reader then stands at the beginning of a
+/// Reads the codes of this many symbols, at most 2^21; the reader then stands at the beginning of a
 /// byte.
 ///
 /// `ParseError::UnexpectedEof` where the bits end in a runcode; `HuffmanError::InvalidCode` where

@@ -8,7 +8,7 @@ use Rattle.jbig2_commands.proofs.bitmap.write_bitmap.Goals as goal
 pub returns-in_err-drawn : goal.returns-in_err-drawn
 returns-in_err-drawn g c =
     let e = err_from_is_err_and c.from_residual-in_err-drawn.result c.from_residual-in_err-drawn.ensures.1 in
-    rw (e.1, e.2) (undrawn c.args.page.now c.in_err-drawn.field-0.0 (g.O.Write.contents c.args.out.now) c.in_err-drawn.ensures)
+    rw (e.1, e.2) (undrawn c.args.page.now c.in_err-drawn.field-0.0 (g.O.Write.contents c.args.out.now) c.in_err-drawn.ensures.value)
 
 pub returns : goal.returns
 returns g c =
@@ -16,4 +16,4 @@ returns g c =
     c.deref.ensures.value ∙ c.in_ok-write_head.ensures.head ∙ ap (λ (xs : List ℕ). xs ++ bitmap_head c.args.page.now) c.in_ok-head.ensures.items in
     drawn_whole c.args.page.now c.deref.result.now c.in_ok-drawn.drawn c.write_rows.result c.flushed.result
     (g.O.Write.contents c.args.out.now) (g.O.Write.contents c.write_all.new.self) (g.O.Write.contents c.write_rows.new.out) (g.O.Write.contents c.flushed.new.out)
-    c.in_ok-drawn.ensures head (if_ok c.write_all.result _ c.if-is_err.ensures.negation c.write_all.ensures.bytes) c.write_rows.ensures c.if-not-write_rows.false c.flushed.ensures.kept c.flushed.ensures.fault
+    c.in_ok-drawn.ensures.value head (if_ok c.write_all.result _ c.if-is_err.ensures.negation c.write_all.ensures.bytes) c.write_rows.ensures c.if-not-write_rows.false c.flushed.ensures.kept c.flushed.ensures.fault

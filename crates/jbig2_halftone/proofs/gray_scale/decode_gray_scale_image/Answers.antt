@@ -1,4 +1,4 @@
-use Rattle.std.proofs.Common.{◌≡◌, ℕ, ◌*◌, ◌++◌, Bool, false, List, length, take, drop, Result, Ok, refl, sym, ap, subst, ◌∙◌, arith, rules}
+use Rattle.std.proofs.Common.{◌≡◌, ℕ, ◌*◌, ◌++◌, false, List, length, take, drop, Result, Ok, refl, sym, ap, subst, ◌∙◌, arith, rules}
 use Rattle.std.proofs.Math.Seq.{take-append_seam}
 use Rattle.std.specs.List.{All}
 use Rattle.jbig2_base.specs.Grid.{Grid}
@@ -6,7 +6,8 @@ use Rattle.jbig2_base.specs.declared.error.DecodeError.{DecodeError}
 use Rattle.jbig2_halftone.specs.GrayScale.{GrayScale, gray_scale_image, gray_values, image_is_too_large, planes_of}
 use Rattle.jbig2_halftone.specs.inner.HalftoneViews.{gray_view}
 use Rattle.jbig2_halftone.specs.inner.Stages.{after_lane_rows}
-use Rattle.jbig2_halftone.proofs.GrayCounts.{image-lanes, no-lane-rows}
+use Rattle.jbig2_halftone.proofs.GrayCounts.{image-lanes, no-lane-rows, stops-lanes, stops-none, stops-some}
+use Rattle.jbig2_halftone.proofs.DrawSteps.{on-any}
 use Rattle.jbig2_halftone.proofs.PlaneLemmas.{planes-sized}
 use Rattle.jbig2_halftone.proofs.gray_scale.decode_gray_scale_image.Goals as goal
 
@@ -25,6 +26,18 @@ returns-clause-steps g c =
     let p : GrayScale = gray_view c.args.params.now in
     let many : length c.deref.result.now ≡ p.bits_per_pixel = ap (λ (ps : List Grid). length ps) c.deref.ensures.value ∙ (planes-sized p c.args.bytes.now c.in_ok-planes.planes.items c.in_ok-planes.ensures.value).many in
     (c.read_planes.new.steps, (c.in_ok-planes.ensures.steps, c.gray_rows.ensures.steps ∙ ap (λ (n : ℕ). after_lane_rows (p.height * n) p.width c.read_planes.new.steps) many))
+
+pub returns-in_err-planes-clause-no_lanes : goal.returns-in_err-planes-clause-no_lanes
+returns-in_err-planes-clause-no_lanes g c = on-any c.from_residual-in_err-planes.result _ (stops-lanes (gray_view c.args.params.now) c.args.bytes.now c.args.steps.now c.read_planes.new.steps c.in_err-planes.ensures.stopped)
+
+pub returns-in_err-values-clause-stopped : goal.returns-in_err-values-clause-stopped
+returns-in_err-values-clause-stopped g c = on-any c.from_residual-in_err-values.result _ (stops-some (gray_view c.args.params.now) c.args.bytes.now c.args.params.now.bits_per_pixel c.args.steps.now c.read_planes.new.steps (omega arith) c.in_ok-planes.ensures.steps)
+
+pub returns-then-too_long-clause-stopped : goal.returns-then-too_long-clause-stopped
+returns-then-too_long-clause-stopped g c = stops-none (gray_view c.args.params.now) c.args.bytes.now c.args.steps.now
+
+pub returns-in_err-clone-clause-stopped : goal.returns-in_err-clone-clause-stopped
+returns-in_err-clone-clause-stopped g c = on-any c.from_residual.result _ (stops-none (gray_view c.args.params.now) c.args.bytes.now c.args.steps.now)
 
 pub returns-clause-lanes : goal.returns-clause-lanes
 returns-clause-lanes g c =

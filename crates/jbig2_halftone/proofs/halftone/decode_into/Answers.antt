@@ -9,7 +9,7 @@ use Rattle.jbig2_halftone.specs.inner.HalftoneHeaderViews.{header_view}
 use Rattle.jbig2_halftone.specs.Patterns.{Patterns}
 use Rattle.jbig2_halftone.specs.inner.DictionaryViews.{dictionary_view}
 use Rattle.jbig2_halftone.proofs.HalftoneLemmas.{image-fits, answer-of-planes, answer-of-fault, contexts-of-planes, answers-gives, refused-or, leaves-known, memory-alone}
-use Rattle.jbig2_halftone.proofs.DrawSteps.{on-ok, region-size, region-steps}
+use Rattle.jbig2_halftone.proofs.DrawSteps.{cells-stop, on-err, on-ok, region-size, region-steps, region-stops}
 use Rattle.jbig2_halftone.proofs.PlaneLemmas.{planes-sized}
 use Rattle.jbig2_halftone.proofs.halftone.decode_into.Goals as goal
 
@@ -36,6 +36,9 @@ returns-in-Err-clause-value g c =
     (λ (fault : planes_of (gray_params h d) h.bytes ≡ Err c.in-Err.error). inr (answer-of-fault h d c.in-Err.error (image-fits (gray_params h d) c.requires.columns c.requires.rows) fault))
     c.in-Err.ensures.value
 
+pub returns-in-Err-clause-stopped : goal.returns-in-Err-clause-stopped
+returns-in-Err-clause-stopped g c = cells-stop (header_view c.args.header.now) (dictionary_view c.args.dictionary.now) c.args.steps.now c.read_cells.new.steps c.in-Err.ensures.stopped
+
 pub returns-in-Err-clause-lenient : goal.returns-in-Err-clause-lenient
 returns-in-Err-clause-lenient g c = λ lenient. memory-alone (λ (done : Unit {0}). c.args.bitmap.now) (Err c.in-Err.error) (header_view c.args.header.now) (dictionary_view c.args.dictionary.now) c.requires.columns c.requires.rows lenient (returns-in-Err-clause-value g c)
 
@@ -54,4 +57,5 @@ returns g c =
       contexts = leaves-known c.draw_rows.result _ _ (contexts-of-planes h d _ _ fits c.in-Ok.ensures.contexts);
       lenient = λ lenient. memory-alone (λ _. c.draw_rows.new.bitmap) c.draw_rows.result h d c.requires.columns c.requires.rows lenient given;
       steps = on-ok c.draw_rows.result _ _ (λ drawn. region-steps h d (length c.deref.result.now) c.args.steps.now c.read_cells.new.steps c.draw_rows.new.steps many c.in-Ok.ensures.steps drawn) c.draw_rows.ensures.steps;
+      stopped = on-err c.draw_rows.result _ _ (λ stops. region-stops h d (length c.deref.result.now) c.args.steps.now c.read_cells.new.steps c.draw_rows.new.steps many c.in-Ok.ensures.steps stops) c.draw_rows.ensures.stopped;
     }

@@ -10,7 +10,7 @@ use Rattle.jbig2_halftone.specs.Steps.{words_of_cells}
 use Rattle.jbig2_halftone.specs.inner.NextValues.{row_values}
 use Rattle.jbig2_halftone.specs.inner.Stages.{after_lane_rows}
 use Rattle.jbig2_halftone.proofs.CellLemmas.{x-further, y-further, below-x, below-y, rows-drawn, rows-fault, rows-none}
-use Rattle.jbig2_halftone.proofs.DrawSteps.{rows-start, rows-more}
+use Rattle.jbig2_halftone.proofs.DrawSteps.{rows-start, rows-more, rows-within}
 use Rattle.jbig2_halftone.proofs.RowLemmas.{no-counts}
 use Rattle.jbig2_halftone.proofs.halftone.draw_rows.Goals as goal
 
@@ -32,6 +32,19 @@ returns-in-Err-clause-value g c =
     let made = c.gray_row.ensures.value ∙ ap (λ (n : ℕ). row_values n c.args.planes.now c.loop-m.m) (c.loop-m.auto.values ∙ c.requires.row) in
     rows-fault h d (c.loop-m.m + 1) h.grid_position_and_size.height c.args.planes.now c.args.bitmap.now c.in-Err.error (omega arith)
     (rows-drawn h d c.loop-m.m c.args.planes.now c.args.bitmap.now c.loop-m.bitmap c.gray_row.new.values made c.loop-m.invariant.drawn ∙ c.in-Err.ensures.value)
+
+pub returns-in-Err-clause-stopped : goal.returns-in-Err-clause-stopped
+returns-in-Err-clause-stopped g c =
+    let h : HalftoneHeader = header_view c.args.header.now in
+    let d : Patterns = dictionary_view c.args.dictionary.now in
+    let w : ℕ = h.grid_position_and_size.width in
+    let row : length c.loop-m.values ≡ w = c.loop-m.auto.values ∙ c.requires.row in
+    let wide : length c.gray_row.new.values ≡ w = omega (arith, c.gray_row.auto.values) in
+    let read =
+    rows-more h d c.loop-m.m (length c.args.planes.now) w c.args.steps.now c.loop-m.steps c.gray_row.new.steps c.draw_row.new.steps c.loop-m.invariant.counts
+    (c.gray_row.ensures.steps ∙ ap (λ (n : ℕ). after_lane_rows (length c.args.planes.now) n c.loop-m.steps) row)
+    (subst (λ (n : ℕ). WritesWithin (words_of_cells h d (c.loop-m.m * w) n) c.gray_row.new.steps c.draw_row.new.steps) wide c.in-Err.ensures.steps) in
+    (c.loop-m.m + 1, (omega arith, rows-within h d (c.loop-m.m + 1) h.grid_position_and_size.height w _ c.draw_row.new.steps (omega arith) read))
 
 pub next_row-first-requires-clause-x : goal.next_row-first-requires-clause-x
 next_row-first-requires-clause-x g c =

@@ -76,12 +76,14 @@ loop-m-preserved g c =
       counts = c.loop-n.invariant.counts ∙ ap (λ (k : ℕ). let made : Counts = record c.args.steps.now { words = c.args.steps.now.words + k } in made) row;
     }
 
-pub returns : goal.returns
-returns g c =
+pub returns-clause-value : goal.returns-clause-value
+returns-clause-value g c =
     let h : HalftoneHeader = header_view c.args.header.now in
     let d : Patterns = dictionary_view c.args.dictionary.now in
+    ap (λ (b : Grid). Ok b) (skips-all h d c.loop-m.m c.loop-m.skip (omega arith) c.loop-m.invariant.skips)
+
+pub returns-clause-steps : goal.returns-clause-steps
+returns-clause-steps g c =
+    let h : HalftoneHeader = header_view c.args.header.now in
     let last : c.loop-m.m ≡ h.grid_position_and_size.height = omega arith in
-    record {
-      value = ap (λ (b : Grid). Ok b) (skips-all h d c.loop-m.m c.loop-m.skip (omega arith) c.loop-m.invariant.skips);
-      steps = c.loop-m.invariant.counts ∙ ap (λ (m : ℕ). let made : Counts = record c.args.steps.now { words = c.args.steps.now.words + m * h.grid_position_and_size.width } in made) last;
-    }
+    c.loop-m.invariant.counts ∙ ap (λ (m : ℕ). let made : Counts = record c.args.steps.now { words = c.args.steps.now.words + m * h.grid_position_and_size.width } in made) last

@@ -1,13 +1,14 @@
-use Rattle.std.proofs.Common.{arith, ◌≡◌, ℕ, ◌+◌, ◌-◌, ◌*◌, ◌%◌, ◌≤◌, ◌∙◌, Bool, false, ap, sym, subst}
+use Rattle.std.proofs.Common.{arith, ◌≡◌, ℕ, ◌+◌, ◌-◌, ◌*◌, ◌%◌, ◌^◌, ◌<◌, ◌≤◌, ◌∙◌, Bool, false, None, ap, sym, subst}
 use Rattle.jbig2_base.specs.Counts.{Counts}
 use Rattle.jbig2_base.specs.Grid.{Grid, pixel_at}
 use Rattle.jbig2_base.specs.Bits.{bit}
 use Rattle.jbig2_region.specs.inner.Codes.{CountsCodes, Takes}
 use Rattle.jbig2_region.specs.inner.RefinementBlocks.{Block}
 use Rattle.jbig2_region.specs.inner.RefinementViews.{reference_view}
-use Rattle.jbig2_region.specs.inner.RefinementWindows.{context_of, known_of, three_of, windowed_coding}
+use Rattle.jbig2_region.specs.inner.RefinementWindows.{context_of, known_of, nine_of, three_of, windowed_coding}
 use Rattle.jbig2_region.proofs.RefinementKernelLemmas.{block-next, block-none, block-whole}
-use Rattle.jbig2_region.proofs.RefinementPushLemmas.{four-white}
+use Rattle.jbig2_region.proofs.RefinementKnownLemmas.{copied-known, decided-unknown}
+use Rattle.jbig2_region.proofs.RefinementPushLemmas.{block-copied, context-white, four-white}
 use Rattle.jbig2_region.proofs.StoreLemmas.{stored-inside}
 use Rattle.jbig2_region.proofs.refinement_kernel.decode_block.Goals as goal
 
@@ -27,11 +28,12 @@ loop-done-preserved g c =
     record {
       within = omega arith;
       block =
-          subst (λ (n : ℕ). Block (windowed_coding c.args.coding.now) c.args.row.predicted c.args.x c.args.row.y (c.loop-done.done + 1) c.args.bitmap.now c.args.decoder.now c.args.contexts.now c.args.steps.now (c.loop-done.pixels * 2 + n) c.decode_pixel-symbol.new.decoder c.decode_pixel-symbol.new.contexts c.decode_pixel-symbol.new.steps) (sym c.from.ensures)
+          subst (λ (n : ℕ). Block (windowed_coding c.args.coding.now) c.args.row.predicted c.args.x c.args.row.y (c.loop-done.done + 1) c.args.bitmap.now c.args.decoder.now c.args.contexts.now c.args.steps.now (c.loop-done.pixels * 2 + n) c.decide_pixel-symbol.new.decoder c.decide_pixel-symbol.new.contexts c.decide_pixel-symbol.new.steps) (sym c.from.ensures)
           (block-next c.args.coding.now.template c.args.coding.now.typical c.args.row.predicted (reference_view c.args.coding.now.reference.now) c.args.x c.args.row.y c.loop-done.done c.args.bitmap.now c.args.windows
-          c.args.decoder.now c.loop-done.decoder c.decode_pixel-symbol.new.decoder c.args.contexts.now c.loop-done.contexts c.decode_pixel-symbol.new.contexts c.args.steps.now c.loop-done.steps c.decode_pixel-symbol.new.steps
-          c.loop-done.pixels 0 0 c.decode_pixel-symbol.result
-          c.loop-done.invariant.block c.requires.sees (omega arith) (omega arith) c.requires.row (sym (c.looked_for-white.ensures.nine (omega arith) c.loop-done.done (omega arith))) (four-white c.args.windows c.loop-done.pixels c.loop-done.done left region) (subst (λ (q : Bool). Takes (known_of q 0) (context_of c.args.coding.now.template 0 0) c.loop-done.decoder c.loop-done.contexts c.loop-done.steps c.decode_pixel-symbol.result c.decode_pixel-symbol.new.decoder c.decode_pixel-symbol.new.contexts c.decode_pixel-symbol.new.steps) (sym plain) c.decode_pixel-symbol.ensures.takes));
+          c.args.decoder.now c.loop-done.decoder c.decide_pixel-symbol.new.decoder c.args.contexts.now c.loop-done.contexts c.decide_pixel-symbol.new.contexts c.args.steps.now c.loop-done.steps c.decide_pixel-symbol.new.steps
+          c.loop-done.pixels 0 0 c.decide_pixel-symbol.result
+          c.loop-done.invariant.block c.requires.sees (omega arith) (omega arith) c.requires.row (sym (c.looked_for-white.ensures.nine (omega arith) c.loop-done.done (omega arith))) (four-white c.args.windows c.loop-done.pixels c.loop-done.done left region) (subst (λ (q : Bool). Takes (known_of q 0) (context_of c.args.coding.now.template 0 0) c.loop-done.decoder c.loop-done.contexts c.loop-done.steps c.decide_pixel-symbol.result c.decide_pixel-symbol.new.decoder c.decide_pixel-symbol.new.contexts c.decide_pixel-symbol.new.steps) (sym plain)
+          (subst (λ (n : ℕ). Takes None n c.loop-done.decoder c.loop-done.contexts c.loop-done.steps c.decide_pixel-symbol.result c.decide_pixel-symbol.new.decoder c.decide_pixel-symbol.new.contexts c.decide_pixel-symbol.new.steps) (sym (context-white c.args.coding.now.template)) c.decide_pixel-symbol.ensures.takes)));
     }
 
 pub push_pixels-pixels-requires-clause-room : goal.push_pixels-pixels-requires-clause-room
@@ -44,44 +46,66 @@ loop-done-2-preserved g c =
     record {
       within = omega arith;
       block =
-          subst (λ (q : Bool). Block (windowed_coding c.args.coding.now) q c.args.x c.args.row.y (c.loop-done-2.done + c.min-more.result) c.args.bitmap.now c.args.decoder.now c.args.contexts.now c.args.steps.now c.push_pixels-pixels.result c.push_pixels-pixels.new.decoder c.push_pixels-pixels.new.contexts c.push_pixels-pixels.new.steps) (sym plain)
-          (c.push_pixels-pixels.ensures.block c.args.coding.now.typical (reference_view c.args.coding.now.reference.now) c.args.x c.args.row.y c.args.bitmap.now c.args.decoder.now c.args.contexts.now c.args.steps.now
-          c.requires.sees few (omega arith) c.requires.row
-          (subst (λ (q : Bool). Block (windowed_coding c.args.coding.now) q c.args.x c.args.row.y c.loop-done-2.done c.args.bitmap.now c.args.decoder.now c.args.contexts.now c.args.steps.now c.loop-done-2.pixels c.loop-done-2.decoder c.loop-done-2.contexts c.loop-done-2.steps) plain c.loop-done-2.invariant.block));
+          c.push_pixels-pixels.ensures.block c.args.coding.now.typical c.args.row.predicted (reference_view c.args.coding.now.reference.now) c.args.x c.args.row.y c.args.bitmap.now c.args.decoder.now c.args.contexts.now c.args.steps.now
+          c.requires.sees few (omega arith) c.requires.row (λ i inside. ap (λ (q : Bool). known_of q (nine_of c.args.windows (c.loop-done-2.done + i))) plain) c.loop-done-2.invariant.block;
     }
 
-pub loop-offset-preserved : goal.loop-offset-preserved
-loop-offset-preserved g c =
-    subst (λ (n : ℕ). Block (windowed_coding c.args.coding.now) c.args.row.predicted c.args.x c.args.row.y (c.loop-offset.offset + 1) c.args.bitmap.now c.args.decoder.now c.args.contexts.now c.args.steps.now (c.loop-offset.pixels * 2 + n) c.decode_pixel-symbol-in-loop-offset.new.decoder c.decode_pixel-symbol-in-loop-offset.new.contexts c.decode_pixel-symbol-in-loop-offset.new.steps) (sym c.from-in-loop-offset.ensures)
-    (block-next c.args.coding.now.template c.args.coding.now.typical c.args.row.predicted (reference_view c.args.coding.now.reference.now) c.args.x c.args.row.y c.loop-offset.offset c.args.bitmap.now c.args.windows
-    c.args.decoder.now c.loop-offset.decoder c.decode_pixel-symbol-in-loop-offset.new.decoder c.args.contexts.now c.loop-offset.contexts c.decode_pixel-symbol-in-loop-offset.new.contexts c.args.steps.now c.loop-offset.steps c.decode_pixel-symbol-in-loop-offset.new.steps
-    c.loop-offset.pixels c.nine-nine.result c.four-four.result c.decode_pixel-symbol-in-loop-offset.result
-    c.loop-offset.invariant c.requires.sees (omega arith) (omega arith) c.requires.row c.nine-nine.ensures.value c.four-four.ensures.value c.decode_pixel-symbol-in-loop-offset.ensures.takes)
+pub copied_pixels-pixels-requires-clause-room : goal.copied_pixels-pixels-requires-clause-room
+copied_pixels-pixels-requires-clause-room g c = c.loop-done-3.invariant.block.few
+
+pub push_pixels-pixels-requires-in-loop-done-3-clause-room : goal.push_pixels-pixels-requires-in-loop-done-3-clause-room
+push_pixels-pixels-requires-in-loop-done-3-clause-room g c =
+    let n : ℕ = c.leading_ones-copied.result in
+    let done : ℕ = c.loop-done-3.done in
+    let copied =
+    block-copied c.args.coding.now.template c.args.coding.now.typical c.args.row.predicted (reference_view c.args.coding.now.reference.now) c.args.x c.args.row.y done n c.args.bitmap.now c.args.windows
+    c.args.decoder.now c.loop-done-3.decoder c.args.contexts.now c.loop-done-3.contexts c.args.steps.now c.loop-done-3.steps c.loop-done-3.pixels c.requires.sees (omega arith) (omega arith) c.requires.row
+    (copied-known c.args.row.predicted c.args.windows c.known_columns-known.result done n c.known_columns-known.ensures (omega arith) c.leading_ones-copied.ensures.before) c.loop-done-3.invariant.block in
+    subst (λ (m : ℕ). m < 16 * 2 ^ (done + n)) (sym c.copied_pixels-pixels.ensures) copied.few
+
+pub loop-done-3-preserved : goal.loop-done-3-preserved
+loop-done-3-preserved g c =
+    let n : ℕ = c.leading_ones-copied.result in
+    let done : ℕ = c.loop-done-3.done in
+    let more : ℕ = c.min-more-in-loop-done-3.result in
+    let few : done + n + more ≤ 32 = omega arith in
+    let copied =
+    block-copied c.args.coding.now.template c.args.coding.now.typical c.args.row.predicted (reference_view c.args.coding.now.reference.now) c.args.x c.args.row.y done n c.args.bitmap.now c.args.windows
+    c.args.decoder.now c.loop-done-3.decoder c.args.contexts.now c.loop-done-3.contexts c.args.steps.now c.loop-done-3.steps c.loop-done-3.pixels c.requires.sees (omega arith) (omega arith) c.requires.row
+    (copied-known c.args.row.predicted c.args.windows c.known_columns-known.result done n c.known_columns-known.ensures (omega arith) c.leading_ones-copied.ensures.before) c.loop-done-3.invariant.block in
+    record {
+      within = omega arith;
+      block =
+          c.push_pixels-pixels-in-loop-done-3.ensures.block c.args.coding.now.typical c.args.row.predicted (reference_view c.args.coding.now.reference.now) c.args.x c.args.row.y c.args.bitmap.now c.args.decoder.now c.args.contexts.now c.args.steps.now
+          c.requires.sees few (omega arith) c.requires.row
+          (decided-unknown c.args.row.predicted c.args.windows c.known_columns-known.result (done + n) more c.known_columns-known.ensures few (λ i inside. c.leading_zeros.ensures.before i (omega arith)))
+          (subst (λ (m : ℕ). Block (windowed_coding c.args.coding.now) c.args.row.predicted c.args.x c.args.row.y (done + n) c.args.bitmap.now c.args.decoder.now c.args.contexts.now c.args.steps.now m c.loop-done-3.decoder c.loop-done-3.contexts c.loop-done-3.steps) (sym c.copied_pixels-pixels.ensures) copied);
+    }
 
 pub returns-clause-decoded : goal.returns-clause-decoded
 returns-clause-decoded g c =
-    let after : c.loop-offset.steps.decisions ≡ c.store_pixels.new.steps.decisions = sym (ap (λ (t : Counts). t.decisions) c.store_pixels.ensures.steps) in
+    let after : c.loop-done-3.steps.decisions ≡ c.store_pixels.new.steps.decisions = sym (ap (λ (t : Counts). t.decisions) c.store_pixels.ensures.steps) in
     let whole =
-    block-whole (windowed_coding c.args.coding.now) c.args.row.predicted c.args.x c.args.row.y c.loop-offset.offset c.args.count c.args.bitmap.now c.store_pixels.new.self c.args.decoder.now c.loop-offset.decoder c.args.contexts.now c.loop-offset.contexts c.args.steps.now c.loop-offset.steps c.loop-offset.pixels
-    c.loop-offset.invariant (omega arith) c.store_pixels.ensures.value in
+    block-whole (windowed_coding c.args.coding.now) c.args.row.predicted c.args.x c.args.row.y c.loop-done-3.done c.args.count c.args.bitmap.now c.store_pixels.new.self c.args.decoder.now c.loop-done-3.decoder c.args.contexts.now c.loop-done-3.contexts c.args.steps.now c.loop-done-3.steps c.loop-done-3.pixels
+    c.loop-done-3.invariant.block (omega arith) c.store_pixels.ensures.value in
     record {
       holds = whole.holds;
       width = ap (λ (b : Grid). b.width) c.store_pixels.ensures.value;
       height = ap (λ (b : Grid). b.height) c.store_pixels.ensures.value;
-      bytes = c.loop-offset.invariant.bytes;
+      bytes = c.loop-done-3.invariant.block.bytes;
       decisions = subst (λ (n : ℕ). CountsCodes (windowed_coding c.args.coding.now) c.args.row.predicted c.args.x c.args.row.y c.args.count c.args.bitmap.now c.args.decoder.now c.args.contexts.now c.args.steps.now.decisions n) after whole.decisions;
-      run_tests = ap (λ (t : Counts). t.run_tests) c.store_pixels.ensures.steps ∙ ap (λ (t : Counts). t.run_tests) c.loop-offset.invariant.steps;
+      run_tests = ap (λ (t : Counts). t.run_tests) c.store_pixels.ensures.steps ∙ ap (λ (t : Counts). t.run_tests) c.loop-done-3.invariant.block.steps;
     }
 
 pub returns-clause-left : goal.returns-clause-left
 returns-clause-left g c =
-    (block-whole (windowed_coding c.args.coding.now) c.args.row.predicted c.args.x c.args.row.y c.loop-offset.offset c.args.count c.args.bitmap.now c.store_pixels.new.self c.args.decoder.now c.loop-offset.decoder c.args.contexts.now c.loop-offset.contexts c.args.steps.now c.loop-offset.steps c.loop-offset.pixels
-    c.loop-offset.invariant (omega arith) c.store_pixels.ensures.value).left
+    (block-whole (windowed_coding c.args.coding.now) c.args.row.predicted c.args.x c.args.row.y c.loop-done-3.done c.args.count c.args.bitmap.now c.store_pixels.new.self c.args.decoder.now c.loop-done-3.decoder c.args.contexts.now c.loop-done-3.contexts c.args.steps.now c.loop-done-3.steps c.loop-done-3.pixels
+    c.loop-done-3.invariant.block (omega arith) c.store_pixels.ensures.value).left
 
 pub returns-clause-value : goal.returns-clause-value
 returns-clause-value g c = λ k few.
     let place : c.args.x + c.args.count - 1 - (c.args.x + k) ≡ c.args.count - 1 - k = omega arith in
     sym
     (ap (λ (q : Grid). pixel_at q (c.args.x + k) c.args.row.y) c.store_pixels.ensures.value
-    ∙ stored-inside c.args.bitmap.now c.args.x c.args.row.y c.args.count c.loop-offset.pixels (c.args.x + k) (omega arith) (omega arith) c.requires.columns c.requires.row
-    ∙ ap (λ (n : ℕ). bit c.loop-offset.pixels n) place)
+    ∙ stored-inside c.args.bitmap.now c.args.x c.args.row.y c.args.count c.loop-done-3.pixels (c.args.x + k) (omega arith) (omega arith) c.requires.columns c.requires.row
+    ∙ ap (λ (n : ℕ). bit c.loop-done-3.pixels n) place)

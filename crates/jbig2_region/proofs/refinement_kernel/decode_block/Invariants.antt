@@ -21,5 +21,11 @@ invariant-loop-done-2 g l = record {
 abbrev pub decreases-loop-done-2 : goal.decreases-loop-done-2
 decreases-loop-done-2 g l = l.fn.count - l.done
 
-abbrev pub invariant-loop-offset : goal.invariant-loop-offset
-invariant-loop-offset g l = Block (windowed_coding l.fn.coding) l.fn.row.predicted l.fn.x l.fn.row.y l.offset l.bitmap l.fn.decoder l.fn.contexts l.fn.steps l.pixels l.decoder l.contexts l.steps
+abbrev pub invariant-loop-done-3 : goal.invariant-loop-done-3
+invariant-loop-done-3 g l = record {
+  within : l.done ≤ l.fn.count;
+  block : Block (windowed_coding l.fn.coding) l.fn.row.predicted l.fn.x l.fn.row.y l.done l.bitmap l.fn.decoder l.fn.contexts l.fn.steps l.pixels l.decoder l.contexts l.steps;
+}
+
+abbrev pub decreases-loop-done-3 : goal.decreases-loop-done-3
+decreases-loop-done-3 g l = l.fn.count - l.done

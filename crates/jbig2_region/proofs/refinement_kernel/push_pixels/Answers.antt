@@ -1,4 +1,4 @@
-use Rattle.std.proofs.Common.{arith, ℕ, ◌≡◌, ◌+◌, ◌-◌, ◌*◌, ◌%◌, ◌^◌, ◌<◌, sym, subst, false}
+use Rattle.std.proofs.Common.{arith, ℕ, ◌≡◌, ◌+◌, ◌-◌, ◌*◌, ◌%◌, ◌^◌, ◌<◌, sym, subst}
 use Rattle.jbig2_region.specs.Refinement.{refinement_coding}
 use Rattle.jbig2_region.specs.inner.RefinementBlocks.{Block, MovesBlock}
 use Rattle.jbig2_region.specs.inner.RefinementLanes.{Lanes}
@@ -9,8 +9,8 @@ use Rattle.jbig2_region.proofs.refinement_kernel.push_pixels.Goals as goal
 
 pub loop-init : goal.loop-init
 loop-init g c = record {
-  block = λ typical r x y grid d0 s0 t0 sees few wide above block.
-      block-begun (refinement_coding c.args.template typical corners r) x y c.args.offset grid d0 c.args.decoder.now s0 c.args.contexts.now t0 c.args.steps.now c.args.pixels block;
+  block = λ typical p r x y grid d0 s0 t0 sees few wide above unknown block.
+      block-begun (refinement_coding c.args.template typical corners r) p x y c.args.offset grid d0 c.args.decoder.now s0 c.args.contexts.now t0 c.args.steps.now c.args.pixels block;
   room = subst (λ (n : ℕ). c.args.pixels < 16 * 2 ^ n) (omega arith) c.requires.room;
   bound = c.lanes_context-context.ensures.bound;
   lanes = λ more.
@@ -19,7 +19,7 @@ loop-init g c = record {
   context = λ more.
       let same : c.args.offset ≡ c.args.offset + 0 = omega arith in
       subst (λ (n : ℕ). c.lanes_context-context.result ≡ context_of c.args.template (nine_of c.args.windows n) (four_of c.args.windows c.args.pixels n)) same
-      (context-shown c.args.template c.args.windows c.args.offset 12 c.lanes_at-lanes.result _ c.args.pixels c.lanes_context-context.result c.requires.offset c.lanes_at-lanes.ensures c.lanes_context-context.ensures.value (omega arith));
+      (context-shown c.args.template c.args.windows c.args.offset 12 c.lanes_at-lanes.result _ c.args.pixels c.lanes_context-context.result (omega (arith, more)) c.lanes_at-lanes.ensures c.lanes_context-context.ensures.value (omega arith));
 }
 
 pub loop-preserved : goal.loop-preserved
@@ -31,11 +31,11 @@ loop-preserved g c =
     (lanes-next c.args.windows (c.args.offset + k) (12 - k) (12 - (k + 1)) c.loop.lanes (omega arith) (omega arith) (omega arith) (c.loop.invariant.lanes (omega arith))) in
     let digit : c.decide_pixel-symbol.result ≡ (c.loop.pixels * 2 + c.from.result) % 2 = omega (arith, c.from.ensures, c.decide_pixel-symbol.ensures.digit) in
     record {
-      block = λ typical r x y grid d0 s0 t0 sees few wide above block.
-          subst (λ (n : ℕ). Block (refinement_coding c.args.template typical corners r) false x y (c.args.offset + (k + 1)) grid d0 s0 t0 (c.loop.pixels * 2 + n) c.decide_pixel-symbol.new.decoder c.decide_pixel-symbol.new.contexts c.decide_pixel-symbol.new.steps) (sym c.from.ensures)
-          (block-pushed c.args.template typical r x y c.args.offset k grid c.args.windows d0 c.loop.decoder c.decide_pixel-symbol.new.decoder s0 c.loop.contexts c.decide_pixel-symbol.new.contexts t0 c.loop.steps c.decide_pixel-symbol.new.steps c.loop.pixels c.loop.context c.decide_pixel-symbol.result
-          sees few wide above (c.loop.invariant.context (omega arith)) c.decide_pixel-symbol.ensures.takes
-          (c.loop.invariant.block typical r x y grid d0 s0 t0 sees (omega arith) (omega arith) above block));
+      block = λ typical p r x y grid d0 s0 t0 sees few wide above unknown block.
+          subst (λ (n : ℕ). Block (refinement_coding c.args.template typical corners r) p x y (c.args.offset + (k + 1)) grid d0 s0 t0 (c.loop.pixels * 2 + n) c.decide_pixel-symbol.new.decoder c.decide_pixel-symbol.new.contexts c.decide_pixel-symbol.new.steps) (sym c.from.ensures)
+          (block-pushed c.args.template typical p r x y c.args.offset k grid c.args.windows d0 c.loop.decoder c.decide_pixel-symbol.new.decoder s0 c.loop.contexts c.decide_pixel-symbol.new.contexts t0 c.loop.steps c.decide_pixel-symbol.new.steps c.loop.pixels c.loop.context c.decide_pixel-symbol.result
+          sees few wide above (unknown k (omega arith)) (c.loop.invariant.context (omega arith)) c.decide_pixel-symbol.ensures.takes
+          (c.loop.invariant.block typical p r x y grid d0 s0 t0 sees (omega arith) (omega arith) above (λ i inside. unknown i (omega arith)) block));
       room = pixels-more c.loop.pixels c.from.result c.args.offset k c.loop.invariant.room (omega arith);
       bound = c.lanes_context-context-in-loop.ensures.bound;
       lanes = shown;

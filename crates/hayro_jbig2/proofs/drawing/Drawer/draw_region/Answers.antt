@@ -1,4 +1,4 @@
-use Rattle.std.proofs.Common.{◌≡◌, ℕ, false, Result, ap, arith}
+use Rattle.std.proofs.Common.{false, Result, ap, arith}
 use Rattle.jbig2_base.specs.inner.SegmentViews.{segment_view}
 use Rattle.jbig2_base.specs.declared.error.DecodeError.{DecodeError}
 use Rattle.hayro_jbig2.specs.Page.{Drawing, immediate, region_at, shown}

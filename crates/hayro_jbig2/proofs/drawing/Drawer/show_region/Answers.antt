@@ -1,4 +1,4 @@
-use Rattle.std.proofs.Common.{◌≡◌, true, false, Ok, Result, refl, sym, ap, ◌∙◌, subst}
+use Rattle.std.proofs.Common.{◌≡◌, false, Ok, Result, inr, refl, sym, ap, ◌∙◌, subst}
 use Rattle.std.proofs.lemmas.Result.{err_from_is_err_and}
 use Rattle.jbig2_base.specs.Answer.{Gives}
 use Rattle.jbig2_base.specs.Grid.{Grid}
@@ -9,8 +9,9 @@ use Rattle.jbig2_base.specs.declared.error.DecodeError.{DecodeError}
 use Rattle.hayro_jbig2.specs.Page.{Drawing, region_at, shown}
 use Rattle.hayro_jbig2.specs.inner.KeptViews.{seen}
 use Rattle.hayro_jbig2.specs.inner.Parsed.{apart, drawing_of, info_of, initial_of}
-use Rattle.hayro_jbig2.specs.inner.Whole.{IsBegun, IsWhole}
-use Rattle.hayro_jbig2.proofs.Direct.{combined-shown, led, led-to, left-as-was, refused-too, shown-refused, whole-gives}
+use Rattle.hayro_jbig2.specs.inner.Whole.{IsBegun, IsWhole, touched}
+use Rattle.hayro_jbig2.proofs.Direct.{led, left-as-was, refused-too, shown-refused, whole-gives}
+use Rattle.hayro_jbig2.proofs.SeenRows.{cut-refused, cut-shown}
 use Rattle.hayro_jbig2.proofs.drawing.Drawer.show_region.Goals as goal
 
 pub returns-in_err-region-clause-value : goal.returns-in_err-region-clause-value
@@ -19,7 +20,13 @@ returns-in_err-region-clause-value g c =
     let e = err_from_is_err_and c.from_residual-in_err-region.result c.from_residual-in_err-region.ensures.1 in
     let meant : Result PlacedRegion DecodeError = region_at c.args.self.now.strict c.args.self.now.globals.now c.args.kind false (segment_view c.args.segment.now) d in
     let leads : meant ≡ apart c.in_ok-parsed.parsed = led c.references-references.result c.args.self.now.strict c.args.self.now.globals.now c.args.kind false (segment_view c.args.segment.now) c.context.inside.bitmap c.deref.result.now c.context.inside.regions.items c.context.inside.names c.context.inside.untouched c.context.inside.passed_over d (apart c.in_ok-parsed.parsed) c.references-references.ensures.strict c.references-references.ensures.globals c.references-references.ensures.drawing c.deref.ensures.value c.context.view_is c.in_ok-parsed.ensures.value in
-    rw (e.1, e.2) (shown-refused d meant c.in_err-region.field-0.0 (led-to c.in_ok-parsed.parsed meant c.in_err-region.field-0.0 leads c.in_err-region.ensures))
+    let height : d.grid.height ≡ c.height.result = sym (c.height.ensures.value ∙ ap (λ (b : Drawing). b.grid.height) c.context.view_is) in
+    rw (e.1, e.2) (cut-refused d meant (apart c.in_ok-parsed.parsed) (apart c.above_end-seen.result) c.in_err-region.field-0.0 leads (c.above_end-seen.ensures.shown d height) c.in_err-region.ensures)
+
+pub returns-in_err-region-clause-err : goal.returns-in_err-region-clause-err
+returns-in_err-region-clause-err g c =
+    let e = err_from_is_err_and c.from_residual-in_err-region.result c.from_residual-in_err-region.ensures.1 in
+    rw (e.1) (inr (ap (λ (b : Drawing). touched b) c.context.view_is))
 
 pub returns-clause-value : goal.returns-clause-value
 returns-clause-value g c =
@@ -27,7 +34,8 @@ returns-clause-value g c =
     let meant : Result PlacedRegion DecodeError = region_at c.args.self.now.strict c.args.self.now.globals.now c.args.kind false (segment_view c.args.segment.now) d in
     let leads : meant ≡ apart c.in_ok-parsed.parsed = led c.references-references.result c.args.self.now.strict c.args.self.now.globals.now c.args.kind false (segment_view c.args.segment.now) c.context.inside.bitmap c.deref.result.now c.context.inside.regions.items c.context.inside.names c.context.inside.untouched c.context.inside.passed_over d (apart c.in_ok-parsed.parsed) c.references-references.ensures.strict c.references-references.ensures.globals c.references-references.ensures.drawing c.deref.ensures.value c.context.view_is c.in_ok-parsed.ensures.value in
     let drawn : Ok c.combine.new.self ≡ shown d (Ok (region_view c.in_ok-region.region)) = c.combine.ensures ∙ ap (λ (b : Drawing). shown b (Ok (region_view c.in_ok-region.region))) c.context.view_is in
-    combined-shown c.in_ok-parsed.parsed meant d c.combine.new.self (region_view c.in_ok-region.region) leads c.in_ok-region.ensures drawn
+    let height : d.grid.height ≡ c.height.result = sym (c.height.ensures.value ∙ ap (λ (b : Drawing). b.grid.height) c.context.view_is) in
+    cut-shown d c.combine.new.self meant (apart c.in_ok-parsed.parsed) (apart c.above_end-seen.result) (region_view c.in_ok-region.region) leads (c.above_end-seen.ensures.shown d height) c.in_ok-region.ensures drawn
 
 pub returns-then-makes_up-clause-value : goal.returns-then-makes_up-clause-value
 returns-then-makes_up-clause-value g c =

@@ -1,11 +1,12 @@
-use Rattle.std.proofs.Common.{◌≡◌, ℕ, ◌<◌, ◌≤◌, ◌∙◌, List, Option, Some, Result, ap, arith, get_or, length, sym}
+use Rattle.std.proofs.Common.{◌≡◌, ℕ, ◌<◌, ◌≤◌, ◌∙◌, List, Option, Some, Result, ap, arith, get_or, length, subst, sym}
 use Rattle.std.proofs.lemmas.Option.{slice_get-get_or, slice_get_past}
-use Rattle.std.specs.Prelude.{option_map, slice_get}
+use Rattle.std.specs.Prelude.{IfErr, option_map, slice_get}
 use Rattle.std.proofs.lemmas.Bool.{ltb-false, ltb-true}
 use Rattle.jbig2_base.specs.inner.SegmentViews.{segment_views}
 use Rattle.jbig2_base.specs.declared.error.DecodeError.{DecodeError}
 use Rattle.hayro_jbig2.proofs.Books.{pages_stand_alone}
 use Rattle.hayro_jbig2.proofs.file.File.page.Goals as goal
+use Rattle.hayro_jbig2.specs.Causes.{IsAnswered}
 use Rattle.hayro_jbig2.specs.Files.{ReadFile, PageInFile, page_in, page_of}
 use Rattle.hayro_jbig2.specs.Names.{Names}
 use Rattle.hayro_jbig2.specs.Page.{ReadPage}
@@ -39,3 +40,8 @@ returns-in-None-clause-value g c =
 
 pub returns-in-None-clause-alone : goal.returns-in-None-clause-alone
 returns-in-None-clause-alone g c = pages_stand_alone
+
+pub of_file-requires-clause-answered : goal.of_file-requires-clause-answered
+of_file-requires-clause-answered g c =
+    let given : IfErr c.args.self.now.globals IsAnswered = subst (λ (b : ReadFile). IfErr b.globals IsAnswered) c.self.view_is c.self.invariant in
+    subst (λ (r : Result Names DecodeError). IfErr r IsAnswered) (sym c.globals.ensures) given

@@ -1,3 +1,8 @@
+use Rattle.std.proofs.Common.{subst}
+use Rattle.std.specs.Prelude.{IfErr}
+use Rattle.hayro_jbig2.specs.Causes.{IsAnswered}
+use Rattle.hayro_jbig2.specs.Page.{ReadPage}
+use Rattle.hayro_jbig2.proofs.Answering.{drawn-returned}
 use Rattle.hayro_jbig2.proofs.DrawnPages.{gives-grid}
 use Rattle.hayro_jbig2.proofs.Untouched.{pages_keep_their_size, strict_passes_nothing}
 use Rattle.hayro_jbig2.proofs.page.Page.draw_in.Goals as goal
@@ -10,3 +15,7 @@ returns-clause-size g c = pages_keep_their_size
 
 pub returns-clause-strict : goal.returns-clause-strict
 returns-clause-strict g c = strict_passes_nothing
+
+pub returns-clause-errors : goal.returns-clause-errors
+returns-clause-errors g c =
+    drawn-returned _ c.draw_counted.result c.args.self.now (subst (λ (p : ReadPage). IfErr p.globals IsAnswered) c.self.view_is c.self.invariant.1) c.draw_counted.ensures

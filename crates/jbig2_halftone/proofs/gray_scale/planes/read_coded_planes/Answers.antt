@@ -1,4 +1,4 @@
-use Rattle.std.proofs.Common.{◌≡◌, ◌⊎◌, ⊎_elim, ℕ, ◌<◌, false, Result, Ok, Err, subst, arith, rules}
+use Rattle.std.proofs.Common.{◌≡◌, ◌+◌, ◌⊎◌, ⊎_elim, ℕ, ◌<◌, false, Result, Ok, Err, subst, arith, rules}
 use Rattle.std.proofs.lemmas.Bool.{le-ltb}
 use Rattle.jbig2_base.specs.Grid.{Grid, blank, blank_or_overflow}
 use Rattle.jbig2_base.specs.declared.error.DecodeError.{DecodeError}
@@ -7,7 +7,8 @@ use Rattle.jbig2_base.proofs.LaneCounts.{lanes-none, lanes-then}
 use Rattle.jbig2_halftone.specs.GrayScale.{GrayScale, image_is_too_large}
 use Rattle.jbig2_halftone.specs.inner.HalftoneViews.{gray_view}
 use Rattle.jbig2_halftone.specs.inner.Stages.{CountsCoded}
-use Rattle.jbig2_halftone.proofs.GrayCounts.{counts-begin, counts-more, none-left, none-more, none-start}
+use Rattle.jbig2_halftone.proofs.GrayCounts.{coded-some, counts-begin, counts-more, none-left, none-more, none-start}
+use Rattle.jbig2_halftone.proofs.DrawSteps.{on-any}
 use Rattle.jbig2_halftone.proofs.PatternLemmas.{blank-made}
 use Rattle.jbig2_halftone.proofs.PlaneLemmas.{image-sides, behind-none, coded-holds, coded-next, coded-all, coded-contexts}
 use Rattle.jbig2_halftone.proofs.gray_scale.planes.read_coded_planes.Goals as goal
@@ -65,3 +66,29 @@ pub returns-in_err-plane-clause-contexts : goal.returns-in_err-plane-clause-cont
 returns-in_err-plane-clause-contexts g c =
     let memory = memory-wanting (gray_view c.args.params.now) c.loop.counter c.in_err-plane.field-0.0 c.requires.sides (omega arith) c.in_err-plane.ensures in
     search (rules, memory)
+
+pub returns-in_err-plane-clause-stopped : goal.returns-in_err-plane-clause-stopped
+returns-in_err-plane-clause-stopped g c = on-any c.from_residual-in_err-plane.result _ (coded-some (gray_view c.args.params.now) c.args.bytes.now c.loop.counter c.args.steps.now c.loop.steps (omega arith) c.loop.invariant.counts)
+
+pub returns-in_err-clone-clause-stopped : goal.returns-in_err-clone-clause-stopped
+returns-in_err-clone-clause-stopped g c = on-any c.from_residual.result _ (coded-some (gray_view c.args.params.now) c.args.bytes.now 0 c.args.steps.now c.args.steps.now (omega arith) (counts-begin (gray_view c.args.params.now) c.args.bytes.now c.args.steps.now))
+
+pub returns-in_err-clone-2-clause-stopped : goal.returns-in_err-clone-2-clause-stopped
+returns-in_err-clone-2-clause-stopped g c = on-any c.from_residual-in_err-clone-2.result _ (coded-some (gray_view c.args.params.now) c.args.bytes.now c.loop.counter c.args.steps.now c.loop.steps (omega arith) c.loop.invariant.counts)
+
+pub returns-in_err-plane-clause-no_planes : goal.returns-in_err-plane-clause-no_planes
+returns-in_err-plane-clause-no_planes g c = λ none. absurd (omega arith)
+
+pub returns-in_err-push-clause-stopped : goal.returns-in_err-push-clause-stopped
+returns-in_err-push-clause-stopped g c =
+    let p : GrayScale = gray_view c.args.params.now in
+    let sides = image-sides p c.loop.counter c.requires.sides (omega arith) in
+    let white = blank-made p.width p.height false c.in_ok-plane.plane sides.0 sides.1 c.in_ok-plane.ensures in
+    on-any c.from_residual-in_err-push.result _
+    (coded-some p c.args.bytes.now (c.loop.counter + 1) c.args.steps.now c.decode_plane.new.steps (omega arith) (counts-more p c.args.bytes.now c.loop.counter c.in_ok-plane.plane c.loop.decoder c.loop.contexts c.args.steps.now c.loop.steps c.decode_plane.new.steps c.loop.planes.items white c.loop.invariant.behind c.loop.invariant.counts c.decode_plane.ensures.steps))
+
+pub returns-in_err-push-clause-lanes : goal.returns-in_err-push-clause-lanes
+returns-in_err-push-clause-lanes g c = lanes-then c.args.steps.now c.loop.steps c.decode_plane.new.steps c.loop.invariant.lanes c.decode_plane.ensures.steps.lanes
+
+pub returns-in_err-push-clause-no_planes : goal.returns-in_err-push-clause-no_planes
+returns-in_err-push-clause-no_planes g c = λ none. absurd (omega arith)

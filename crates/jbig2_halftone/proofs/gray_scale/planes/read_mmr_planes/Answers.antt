@@ -31,3 +31,15 @@ returns-clause-value g c = mmr-all (gray_view c.args.params.now) c.args.bytes.no
 
 pub returns-clause-no_planes : goal.returns-clause-no_planes
 returns-clause-no_planes g c = λ none. none-left c.loop.counter c.args.steps.now c.loop.steps c.loop.invariant.none (omega arith)
+
+pub returns-in-Err-clause-lanes : goal.returns-in-Err-clause-lanes
+returns-in-Err-clause-lanes g c = lanes-then c.args.steps.now c.loop.steps c.read_mmr_plane.new.steps c.loop.invariant.lanes c.read_mmr_plane.ensures.lanes
+
+pub returns-in-Err-clause-no_planes : goal.returns-in-Err-clause-no_planes
+returns-in-Err-clause-no_planes g c = λ none. absurd (omega arith)
+
+pub returns-in_err-push-clause-lanes : goal.returns-in_err-push-clause-lanes
+returns-in_err-push-clause-lanes g c = lanes-then c.args.steps.now c.loop.steps c.read_mmr_plane.new.steps c.loop.invariant.lanes c.read_mmr_plane.ensures.lanes
+
+pub returns-in_err-push-clause-no_planes : goal.returns-in_err-push-clause-no_planes
+returns-in_err-push-clause-no_planes g c = λ none. absurd (omega arith)

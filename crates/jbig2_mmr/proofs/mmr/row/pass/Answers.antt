@@ -17,7 +17,7 @@ returns-then-b1-width-clause-value g c = λ bits.
     (ap (λ (t : Turn). t.turn) c.passed.ensures) (ap (λ (t : Turn). head_of t.next) c.passed.ensures)
 
 pub returns-clause-lanes : goal.returns-clause-lanes
-returns-clause-lanes g c = lanes-then c.args.steps.now c.find_b1-b1.new.steps c.find_b1.new.steps c.find_b1-b1.ensures.lanes c.find_b1.ensures.lanes
+returns-clause-lanes g c = lanes-then c.args.steps.now c.find_b1-b1.new.steps c.find_b1.new.steps c.find_b1-b1.ensures.lanes (lanes-then c.find_b1-b1.new.steps c.at-word.new.steps c.find_b1.new.steps c.at-word.ensures.lanes c.find_b1.ensures.lanes)
 
 pub returns-clause-value : goal.returns-clause-value
 unfolding b1_of

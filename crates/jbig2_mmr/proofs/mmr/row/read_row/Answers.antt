@@ -1,13 +1,26 @@
 use Rattle.std.proofs.Common.{ℕ, Bool, not, false, refl, sym, ap, subst, ◌∙◌, arith}
-use Rattle.jbig2_base.proofs.LaneCounts.{lanes-none, lanes-then}
+use Rattle.jbig2_base.proofs.LaneCounts.{lanes-then}
 use Rattle.jbig2_mmr.specs.T6.{row}
 use Rattle.jbig2_mmr.specs.inner.T6Reading.{row_of, row_above, IsSpan}
-use Rattle.jbig2_mmr.specs.inner.T6Calls.{head_of}
+use Rattle.jbig2_mmr.specs.inner.T6Calls.{head_of, IsWordOf}
 use Rattle.jbig2_mmr.proofs.T6Rows.{RowReading, row-start, row-next, row-done, row-fault, above-same, span-white, turn-within}
 use Rattle.jbig2_mmr.proofs.mmr.row.read_row.Goals as goal
 
 pub loop-place-init : goal.loop-place-init
-loop-place-init g c = record { reading = row-start c.args.bitmap.now c.args.y c.args.reader.now.left c.width-width.ensures.table c.requires.white; bytes = refl; lanes = lanes-none c.args.steps.now }
+loop-place-init g c =
+    let same = above-same c.args.bitmap.now c.args.bitmap.now c.args.y c.reference_row-above.result (λ x j o. refl) c.reference_row-above.ensures.apart c.reference_row-above.ensures.value in
+    record {
+      reading = row-start c.args.bitmap.now c.args.y c.args.reader.now.left c.width-width.ensures.table c.requires.white;
+      word = subst (λ (row : ℕ → Bool). IsWordOf row c.load-word.result) same c.load-word.ensures.value;
+      bytes = refl;
+      lanes = c.load-word.ensures.lanes;
+    }
+
+pub at-word-requires : goal.at-word-requires
+at-word-requires g c =
+    let inv = c.loop-place.invariant in
+    let same = above-same c.args.bitmap.now c.loop-place.bitmap c.args.y c.reference_row-above.result inv.reading.other c.reference_row-above.ensures.apart c.reference_row-above.ensures.value in
+    subst (λ (row : ℕ → Bool). IsWordOf row c.loop-place.word) (sym same) inv.word
 
 pub loop-place-preserved-then-place : goal.loop-place-preserved-then-place
 loop-place-preserved-then-place g c =
@@ -19,8 +32,9 @@ loop-place-preserved-then-place g c =
     let next = row-next c.args.bitmap.now c.loop-place.bitmap c.fill_span.new.bitmap c.fill_span.new.bitmap c.args.y (row_of c.loop-place.bitmap c.reference_row-above.result) (head_of c.loop-place.place) c.loop-place.reader.left c.read_turn.new.reader.left (row c.args.bitmap.now.width (row_above c.args.bitmap.now c.args.y) c.args.reader.now.left) c.in-Some.turn inv.reading (omega (arith, c.loop-place-test.true, c.width-width.ensures.value)) c.in-Some.ensures.shorter same c.in-Some.ensures.value first second in
     record {
       reading = subst (λ (b : Bool). RowReading c.args.bitmap.now c.fill_span.new.bitmap c.args.y (record { a0 = c.in-Some.turn.next.a0; begun = b; black = c.in-Some.turn.next.black }) c.read_turn.new.reader.left (row c.args.bitmap.now.width (row_above c.args.bitmap.now c.args.y) c.args.reader.now.left)) within.3 next;
+      word = subst (λ (row : ℕ → Bool). IsWordOf row c.at-word.result) same c.at-word.ensures.value;
       bytes = c.in-Some.ensures.bytes ∙ inv.bytes;
-      lanes = lanes-then c.args.steps.now c.read_turn.new.steps c.fill_span.new.steps (lanes-then c.args.steps.now c.loop-place.steps c.read_turn.new.steps inv.lanes c.in-Some.ensures.lanes) c.fill_span.ensures.lanes;
+      lanes = lanes-then c.args.steps.now c.read_turn.new.steps c.fill_span.new.steps (lanes-then c.args.steps.now c.at-word.new.steps c.read_turn.new.steps (lanes-then c.args.steps.now c.loop-place.steps c.at-word.new.steps inv.lanes c.at-word.ensures.lanes) c.in-Some.ensures.lanes) c.fill_span.ensures.lanes;
     }
 
 pub loop-place-preserved : goal.loop-place-preserved
@@ -33,8 +47,9 @@ loop-place-preserved g c =
     let next = row-next c.args.bitmap.now c.loop-place.bitmap c.loop-place.bitmap c.fill_span-else-place.new.bitmap c.args.y (row_of c.loop-place.bitmap c.reference_row-above.result) (head_of c.loop-place.place) c.loop-place.reader.left c.read_turn.new.reader.left (row c.args.bitmap.now.width (row_above c.args.bitmap.now c.args.y) c.args.reader.now.left) c.in-Some.turn inv.reading (omega (arith, c.loop-place-test.true, c.width-width.ensures.value)) c.in-Some.ensures.shorter same c.in-Some.ensures.value first second in
     record {
       reading = subst (λ (b : Bool). RowReading c.args.bitmap.now c.fill_span-else-place.new.bitmap c.args.y (record { a0 = c.in-Some.turn.next.a0; begun = b; black = c.in-Some.turn.next.black }) c.read_turn.new.reader.left (row c.args.bitmap.now.width (row_above c.args.bitmap.now c.args.y) c.args.reader.now.left)) within.3 next;
+      word = subst (λ (row : ℕ → Bool). IsWordOf row c.at-word.result) same c.at-word.ensures.value;
       bytes = c.in-Some.ensures.bytes ∙ inv.bytes;
-      lanes = lanes-then c.args.steps.now c.read_turn.new.steps c.fill_span-else-place.new.steps (lanes-then c.args.steps.now c.loop-place.steps c.read_turn.new.steps inv.lanes c.in-Some.ensures.lanes) c.fill_span-else-place.ensures.lanes;
+      lanes = lanes-then c.args.steps.now c.read_turn.new.steps c.fill_span-else-place.new.steps (lanes-then c.args.steps.now c.at-word.new.steps c.read_turn.new.steps (lanes-then c.args.steps.now c.loop-place.steps c.at-word.new.steps inv.lanes c.at-word.ensures.lanes) c.in-Some.ensures.lanes) c.fill_span-else-place.ensures.lanes;
     }
 
 pub returns-in-None-clause-value : goal.returns-in-None-clause-value
@@ -48,4 +63,4 @@ pub returns-clause-value : goal.returns-clause-value
 returns-clause-value g c = row-done c.args.bitmap.now c.loop-place.bitmap c.args.y (head_of c.loop-place.place) c.loop-place.reader.left (row c.args.bitmap.now.width (row_above c.args.bitmap.now c.args.y) c.args.reader.now.left) c.loop-place.invariant.reading (omega (arith, c.loop-place-test.false, c.width-width.ensures.value))
 
 pub returns-in-None-clause-lanes : goal.returns-in-None-clause-lanes
-returns-in-None-clause-lanes g c = lanes-then c.args.steps.now c.read_turn.new.steps c.fill_span-in-None.new.steps (lanes-then c.args.steps.now c.loop-place.steps c.read_turn.new.steps c.loop-place.invariant.lanes c.in-None.ensures.lanes) c.fill_span-in-None.ensures.lanes
+returns-in-None-clause-lanes g c = lanes-then c.args.steps.now c.read_turn.new.steps c.fill_span-in-None.new.steps (lanes-then c.args.steps.now c.at-word.new.steps c.read_turn.new.steps (lanes-then c.args.steps.now c.loop-place.steps c.at-word.new.steps c.loop-place.invariant.lanes c.at-word.ensures.lanes) c.in-None.ensures.lanes) c.fill_span-in-None.ensures.lanes

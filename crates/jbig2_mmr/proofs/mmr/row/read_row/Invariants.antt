@@ -2,7 +2,7 @@ use Rattle.std.proofs.Common.{◌≡◌, length}
 use Rattle.jbig2_base.specs.Counts.{KeepsLanes}
 use Rattle.jbig2_mmr.specs.T6.{row}
 use Rattle.jbig2_mmr.specs.inner.T6Reading.{row_above}
-use Rattle.jbig2_mmr.specs.inner.T6Calls.{head_of}
+use Rattle.jbig2_mmr.specs.inner.T6Calls.{head_of, IsWordOf}
 use Rattle.jbig2_mmr.proofs.T6Rows.{RowReading}
 use Rattle.jbig2_mmr.proofs.mmr.row.read_row.Given as goal
 
@@ -10,6 +10,7 @@ abbrev pub invariant-loop-place : goal.invariant-loop-place
 invariant-loop-place g l = record {
   lanes : KeepsLanes l.fn.steps l.steps;
   reading : RowReading l.fn.bitmap l.bitmap l.y (head_of l.place) l.reader.left (row l.fn.bitmap.width (row_above l.fn.bitmap l.y) l.fn.reader.left);
+  word : IsWordOf (row_above l.fn.bitmap l.y) l.word;
   bytes : l.reader.bytes ≡ l.fn.reader.bytes;
 }
 

@@ -8,10 +8,10 @@ pub returns-then-index-symbols : goal.returns-then-index-symbols
 returns-then-index-symbols g c =
     subst (λ (h : Grid). Gives (λ symbol. symbol) c.duplicate.result (Ok h))
     (sym (all-referred c.args.symbols.now c.args.new.now c.args.index c.index-symbols-index.result (blank 0 0 false) c.index-symbols-index.result.now c.if-index-symbols.true c.index-symbols-index.is refl))
-    c.duplicate.ensures.value
+    c.duplicate.ensures
 
 pub returns : goal.returns
 returns g c =
     subst (λ (h : Grid). Gives (λ symbol. symbol) c.duplicate-2.result (Ok h))
     (sym (all-new c.args.symbols.now c.args.new.now c.args.index (c.args.index - length c.args.symbols.now) c.index-new-index.result (blank 0 0 false) c.index-new-index.result (omega arith) (omega arith) c.index-new-index.is refl))
-    c.duplicate-2.ensures.value
+    c.duplicate-2.ensures

@@ -13,7 +13,7 @@ use Rattle.jbig2_mmr.proofs.T6Tables.{modes-prefix_free, modes-short, mode_of, m
 use Rattle.jbig2_mmr.proofs.mmr.bits.CodeReader.read_mode.Goals as goal
 use Rattle.jbig2_mmr.proofs.mmr.bits.CodeReader.read_mode.Goals.{then-size-eq0-via-then-size-eq0, then-size-eq0-via-else-size-eq0+then-size-few}
 
--- the mode that was found, and the bits behind its code
+-- the mode that was found, and the bits after its code
 found : (v size : ℕ) (bits left : List ℕ) → v < 128 → AreBits bits → v ≡ number_after 0 (take 7 (padded bits)) → size ≡ get_or MODES v 0 % 8 → (size ≡ 0 → ⊥) → size ≤ length bits → left ≡ drop size bits → Some (mode_of (get_or MODES v 0 / 8), left) ≡ read_code modes bits
 found v size bits left small are number is some there behind =
     ap (λ (ys : List ℕ). let pair : Option (Mode × List ℕ) = Some (mode_of (get_or MODES v 0 / 8), ys) in pair) (behind ∙ ap (λ (n : ℕ). drop n bits) is)
