@@ -3,6 +3,10 @@ import os
 import random
 import struct
 
+from jbig2_encoder.bitmap import Bitmap
+from jbig2_encoder.dictionary import HeightClass, NewSymbol, SymbolDictionary, dictionary_data
+from jbig2_encoder.text import Instance, Settings, Strip, Text, TextForm, text_data
+
 TABLE = os.path.join(os.path.dirname(os.path.abspath(__file__)), "most-bytes.tsv")
 # A sheet of A4 at 300 dots an inch.
 WIDTH, HEIGHT = 2480, 3508
@@ -62,6 +66,24 @@ def halftone():
     return patterns + segment(2, 22, region() + b"\x00" + grid + coded(40000), [1])
 
 
+def letters():
+    """200 symbols of 24 by 32 pixels."""
+    chance, symbols = random.Random(2), [Bitmap(24, 32) for _ in range(200)]
+    for symbol in symbols:
+        symbol.rows = [[chance.getrandbits(1) for _ in row] for row in symbol.rows]
+    return symbols
+
+
+def text(prefix):
+    """A dictionary of symbols, and a text region of 80 lines of 90 instances, both by the same coding."""
+    symbols = letters()
+    lines = [Strip(40 * line, [Instance(26 * k, (90 * line + k) % 200) for k in range(90)]) for line in range(80)]
+    classes = [HeightClass(32, [NewSymbol(symbol) for symbol in symbols])]
+    dictionary = segment(1, 0, dictionary_data(SymbolDictionary(classes, prefix=prefix)))
+    drawn = text_data(Text(lines, 1), Settings(), symbols, TextForm(prefix))
+    return dictionary + segment(2, 6, region() + drawn, [1])
+
+
 # Pages of the size of a scan. What they show is noise.
 PAGES = {
     "generic": lambda: generic(),
@@ -69,6 +91,8 @@ PAGES = {
     "MMR": white_rows,
     "refinement": refined,
     "halftone": halftone,
+    "text": lambda: text(False),
+    "text by prefix codes": lambda: text(True),
 }
 
 
