@@ -56,7 +56,7 @@ static const uint64_t third_page[8] = {
     0x7878f0f0f0, 0x8404880908, 0x807c88f900, 0x8084890900, 0x8484f10908, 0x787c80f8f0, 0x0000800000, 0x0000800000,
 };
 
-/* Row R9.2 of docs/ROWS.md: a text region whose symbols lie in the globals. */
+/* Row R9.2 of crates/jbig2_rows/README.md: a text region whose symbols lie in the globals. */
 static void page_with_globals(const struct bytes *page, struct bytes *globals, struct bytes *taken) {
     append(globals, "\0\0\0\1\0\0\1\0\0\0\x0F" "\0\1\0\0\0\1\0\0\0\1\x5F\x80\x80\0\x40", 26);
     append(taken, page->at, page->length);

@@ -1,4 +1,5 @@
-"""What the encoder writes beside the bytes of docs/ROWS.md, whose answers are proved or tested of the decoder."""
+"""What the encoder writes, compared with the bytes of crates/jbig2_rows/README.md. Their results are proved or tested
+of the decoder."""
 import unittest
 
 from jbig2_encoder.bitmap import Bitmap

@@ -13,7 +13,7 @@ PROGRAM = os.environ.get("JBIG2_DECODE")
 
 # Of a sequential file of one page (T.88, D.4).
 HEADER = bytes.fromhex("974A42320D0A1A0A 01 00000001")
-# Row R9.2 of docs/ROWS.md: a text region whose symbol is in the globals.
+# Row R9.2 of crates/jbig2_rows/README.md: a text region whose symbol is in the globals.
 GLOBALS = bytes.fromhex("00000001 00 00 01 0000000F 0001 00000001 00000001 5F80800040")
 TEXT = bytes.fromhex(
     "00000000 30 00 01 00000013 00000008 00000001" + "00" * 11 + "00000002 06 20 01 01 0000002D 00000008 00000001"

@@ -1,5 +1,6 @@
-//! The worked rows (`docs/ROWS.md`) that are pages, files or globals. They are read out of the sources of the library's
-//! own crate of rows, which are Rust as well: `R2`, for instance, is `crates/jbig2_rows/src/rows/regions.rt`.
+//! The worked rows (`crates/jbig2_rows/README.md`) that are pages, files or globals. They are read out of the sources of
+//! the library's own crate of rows, which are Rust as well: `R2`, for instance, is
+//! `crates/jbig2_rows/src/rows/regions.rt`.
 
 mod case;
 mod file_case;
