@@ -1,5 +1,5 @@
 /* Loaded before the C library, it counts a program's requests for memory with their bytes, its reads and its writes, has one of
-   each fail, or has each read and write move one byte. Built and used by ./try-refusals. */
+   each fail, or has each read and write move one byte. Built and used by tools/try-refusals. */
 #define _GNU_SOURCE
 #include <dlfcn.h>
 #include <errno.h>
