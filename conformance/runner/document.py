@@ -58,7 +58,7 @@ def counts(columns: list[Column]) -> str:
     """How many pages and files there are."""
     drawn, others = parted(columns[0].outcomes)
     files = len({outcome.entry.name for outcome in drawn})
-    return f"{len(drawn)} pages of {files} files to draw, and {len(others)} pages that may have any answer."
+    return f"{len(drawn)} pages of {files} files to draw, and {len(others)} pages that may have any result."
 
 
 def text_of(columns: list[Column], reasons: Reasons) -> str:
@@ -67,7 +67,7 @@ def text_of(columns: list[Column], reasons: Reasons) -> str:
     parts += ["\n".join(versions(columns)), METHOD.strip()]
     parts += ["## Files to draw", "\n".join(feature_table(columns))]
     if refused := refusal_table(columns):
-        parts += ["## Pages that may have any answer", REFUSED.strip(), "\n".join(refused)]
+        parts += ["## Pages that may have any result", REFUSED.strip(), "\n".join(refused)]
     parts += ["## Where a decoder is wrong", REASONS.strip()]
     by_name = {column.decoder.name: column for column in columns}
     for column in columns:
