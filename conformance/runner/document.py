@@ -1,41 +1,46 @@
-"""The text of docs/CONFORMANCE.md around its tables."""
+"""The text of conformance/RESULTS.md around its tables."""
 from __future__ import annotations
 
 from .tables import Column, Reasons, feature_table, parted, reason_table, refusal_table
 
 INTRODUCTION = """
-`conformance/run --table all` makes this page: which features of T.88 each decoder of Debian draws as they are meant.
-The files are made, small, and have one feature in front each; many of these features are rare. So the numbers say what
-a decoder knows of the standard. They do not measure how it does on files in the wild.
+`conformance/run --table all` makes this page. It shows which features of T.88 each decoder of
+Debian draws as expected. The files are made, small, and have one feature in front each. Many of
+these features are rare. So the numbers say what a decoder knows of the standard. They do not
+measure how it does on files in the wild.
 
-`conformance/make FOLDER` writes the files, and `conformance/manifest.tsv` describes them. The picture that is meant is
-known from how a file was made. A page is right if all of its pixels are the meant ones.
+`conformance/make FOLDER` writes the files, and `conformance/manifest.tsv` describes them. The
+expected picture is known from how a file was made. A page is right if all of its pixels are
+the expected ones.
 """
 
 METHOD = """
-`jbig2-decode` and `jbig2dec` take the file itself. Of an embedded page `jbig2dec` takes both streams, and
-`jbig2-decode` a file that is made of them if something is shared. The others take a PDF file that the runner writes:
-the image's stream has the page's segments without ends of pages and of the file, /JBIG2Globals has the segments of no
-page, and a point is a pixel. A viewer may fail by its library: Debian's mutool and gs decode by libjbig2dec, pdfimages
-by Poppler's own decoder.
+`jbig2-decode` and `jbig2dec` take the file itself. Of an embedded page `jbig2dec` takes both
+streams, and `jbig2-decode` a file that is made of them if something is shared. The others take a
+PDF file that the runner writes: the image's stream has the page's segments without ends of pages
+and of the file, /JBIG2Globals has the segments of no page, and a point is a pixel. A viewer may
+fail by its library: Debian's mutool and gs decode by libjbig2dec, pdfimages by Poppler's own
+decoder.
 
-- *right*: the meant picture.
+- *right*: the expected picture.
 - *wrong*: another picture.
-- *nothing*: no picture though the status is 0, or one of a single colour where the meant one has both, as viewers show
-  when they refuse.
+- *nothing*: no picture though the status is 0, or one of a single colour where the expected one
+  has both, as viewers show when they refuse.
 - *refused*: no picture, and a status other than 0.
 - *crash*: ended by a signal. *too long*: stopped after 20 seconds of processor time.
 """
 
 REFUSED = """
-Each of these files breaks a rule, or shows what the standard leaves open. A decoder may do with it what it likes, as
-long as it ends with a picture or a refusal. The manifest has the answers of strict and of lenient reading here, and
-`jbig2-decode` passes only if both are exactly so; the table shows lenient reading.
+Each of these files breaks a rule, or shows what the standard leaves open. A decoder may do with it
+what it likes, as long as it ends with a picture or a refusal. The manifest has the results of
+strict and of lenient reading here, and `jbig2-decode` passes only if both are exactly so; the
+table shows lenient reading.
 """
 
 REASONS = """
-For each feature that a decoder does not draw as meant: the smallest such file, and why. Runs have shown the reasons,
-by changed flags and by files made for it; no decoder's source was read. A reason in quotes is the decoder's message.
+For each feature that a decoder does not draw as expected: the smallest such file, and why. Runs
+have shown the reasons, by changed flags and by files made for it; no decoder's source was read. A
+reason in quotes is the decoder's message.
 """
 
 
@@ -53,7 +58,7 @@ def counts(columns: list[Column]) -> str:
     """How many pages and files there are."""
     drawn, others = parted(columns[0].outcomes)
     files = len({outcome.entry.name for outcome in drawn})
-    return f"{len(drawn)} pages of {files} files to draw, and {len(others)} pages that may have any answer."
+    return f"{len(drawn)} pages of {files} files to draw, and {len(others)} pages that may have any result."
 
 
 def text_of(columns: list[Column], reasons: Reasons) -> str:
@@ -62,7 +67,7 @@ def text_of(columns: list[Column], reasons: Reasons) -> str:
     parts += ["\n".join(versions(columns)), METHOD.strip()]
     parts += ["## Files to draw", "\n".join(feature_table(columns))]
     if refused := refusal_table(columns):
-        parts += ["## Pages that may have any answer", REFUSED.strip(), "\n".join(refused)]
+        parts += ["## Pages that may have any result", REFUSED.strip(), "\n".join(refused)]
     parts += ["## Where a decoder is wrong", REASONS.strip()]
     by_name = {column.decoder.name: column for column in columns}
     for column in columns:

@@ -48,7 +48,7 @@ def counted(outcomes: list[Outcome]) -> list[str]:
 def text_table(outcomes: list[Outcome]) -> list[str]:
     """A line for each feature with the number of each verdict; a second table for files that need not be drawn."""
     lines = []
-    for title, part in zip(("files to draw", "files of which any answer will do"), parted(outcomes)):
+    for title, part in zip(("files to draw", "files that may have any result"), parted(outcomes)):
         if part:
             rows = [[title, "pages", *(verdict.value for verdict in Verdict)]]
             rows += [[feature, *counted(group)] for feature, group in by_feature(part).items()]

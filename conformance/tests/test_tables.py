@@ -59,7 +59,7 @@ class TablesTest(unittest.TestCase):
     def test_document(self):
         columns = [self.column(sequential=Verdict.RIGHT, random=Verdict.WRONG, cut_off=Verdict.REFUSED)]
         text = document.text_of(columns, {})
-        self.assertIn("2 pages of 2 files to draw, and 1 pages that may have any answer.", text)
+        self.assertIn("2 pages of 2 files to draw, and 1 pages that may have any result.", text)
         self.assertIn("| cut-off | 1 | refused |", text)
         self.assertIn("### jbig2dec", text)
 
