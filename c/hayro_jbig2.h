@@ -1,9 +1,9 @@
 /*
  * A decoder of JBIG2 (ITU-T T.88), the bi-level format of scanned pages: the static library libhayro_jbig2.a.
  *
- * Each call is proved: it answers HAYRO_JBIG2_OK and what the library's definitions give for these bytes, or the number
- * of the first error in their order, or HAYRO_JBIG2_OUT_OF_MEMORY, and nothing else. After any answer but
- * HAYRO_JBIG2_OK all that the call could have written is as it was. It reads and writes nothing outside of what it is
+ * Each call is proved: it returns HAYRO_JBIG2_OK and what the library's definitions give for these bytes, or the number
+ * of the first error in their order, or HAYRO_JBIG2_OUT_OF_MEMORY, and nothing else. If it doesn't return
+ * HAYRO_JBIG2_OK, all that it could have written is as it was. It reads and writes nothing outside of what it is
  * handed, and returns.
  *
  * The calls on bytes take memory by malloc and give it back by free before they return. They keep nothing, so that
@@ -23,7 +23,7 @@
  *
  * Common to all calls:
  *
- * - strict: false passes over what a lenient decoder may pass over; true answers the first fault.
+ * - strict: false passes over what a lenient decoder may pass over; true returns the first fault.
  * - file: the bytes of a whole JBIG2 file. index: one of its pages, from 0. A file is read anew in each call.
  * - stream: a page as a PDF file keeps it, the bytes of a /JBIG2Decode stream. globals: those of its /JBIG2Globals, or
  *   any pointer but null and length 0 where it has none.
@@ -52,7 +52,7 @@ extern "C" {
 /* The version of the library that is linked, as HAYRO_JBIG2_VERSION. Never null and never to be freed. */
 const char *hayro_jbig2_version(void);
 
-/* What a call answers. docs/FORMAT.md says which rule each error stands for. */
+/* What a call returns. docs/FORMAT.md says which rule the bytes break for each error. */
 enum hayro_jbig2_answer {
     HAYRO_JBIG2_OK = 0,
 
@@ -78,14 +78,14 @@ enum hayro_jbig2_answer {
     HAYRO_JBIG2_HUFFMAN_INVALID_SELECTION = 17,
     HAYRO_JBIG2_HUFFMAN_MISSING_TABLES = 18,
     HAYRO_JBIG2_HUFFMAN_UNEXPECTED_OOB = 19,
-    HAYRO_JBIG2_HUFFMAN_CONFLICTING_CODES = 20, /* never answered */
+    HAYRO_JBIG2_HUFFMAN_CONFLICTING_CODES = 20, /* never returned */
 
     HAYRO_JBIG2_REGION_INVALID_COMBINATION_OPERATOR = 21,
     HAYRO_JBIG2_REGION_INVALID_DIMENSION = 22,
     HAYRO_JBIG2_REGION_INVALID_MMR_DATA = 23,
     HAYRO_JBIG2_REGION_GRAY_SCALE_OUT_OF_RANGE = 24,
 
-    HAYRO_JBIG2_TEMPLATE_INVALID = 25, /* never answered */
+    HAYRO_JBIG2_TEMPLATE_INVALID = 25, /* never returned */
     HAYRO_JBIG2_TEMPLATE_INVALID_AT_PIXEL = 26,
 
     HAYRO_JBIG2_SYMBOL_NO_SYMBOLS = 27,
@@ -100,7 +100,7 @@ enum hayro_jbig2_answer {
     HAYRO_JBIG2_OVERFLOW_GRID_DIMENSION = 35,
     HAYRO_JBIG2_OVERFLOW_PLACEMENT_COORDINATE = 36,
     HAYRO_JBIG2_OVERFLOW_REFERENCE_OFFSET = 37,
-    HAYRO_JBIG2_OVERFLOW_INDEX = 38, /* never answered */
+    HAYRO_JBIG2_OVERFLOW_INDEX = 38, /* never returned */
     HAYRO_JBIG2_OVERFLOW_SYMBOL_COUNT = 39,
 
     HAYRO_JBIG2_UNSUPPORTED = 40,
@@ -151,10 +151,10 @@ uint32_t hayro_jbig2_embedded_packed(bool strict, const uint8_t *globals, size_t
  *   freed with the last of these, so a page needs no handle of them.
  * - page: an embedded page with a copy of its stream, so the stream may go at once.
  * - file: a file that is read once. Its bytes must stay as they are until the handle is freed.
- * - context: the room that drawing uses, kept from page to page. It holds the page that was drawn last. Draw all pages
- *   of a document in one context.
+ * - context: the memory that drawing uses, for one page after the other. It holds the page that was drawn last. Draw
+ *   all pages of a document in one context.
  *
- * What a caller owes besides what stands at the head:
+ * What a caller must keep to, besides the rules at the head:
  *
  * - No handle is used after it is freed, and none but those that these calls made.
  * - One call at a time uses a handle. Calls on several handles may run at once, in several threads, also where they
@@ -211,7 +211,7 @@ uint32_t hayro_jbig2_file_new(const hayro_jbig2_memory *memory, bool strict, con
                               hayro_jbig2_file **file);
 size_t hayro_jbig2_file_page_count(hayro_jbig2_file *file);
 uint32_t hayro_jbig2_file_get_info(hayro_jbig2_file *file, size_t index, hayro_jbig2_page_info *info);
-/* Tells the number and the size of each page. HAYRO_JBIG2_OTHER_SIZE where the file has not `count` pages. */
+/* Writes the number and the size of each page. HAYRO_JBIG2_OTHER_SIZE where the file has not `count` pages. */
 uint32_t hayro_jbig2_file_get_infos(hayro_jbig2_file *file, hayro_jbig2_page_info *infos, size_t count);
 uint32_t hayro_jbig2_file_draw(hayro_jbig2_file *file, size_t index, hayro_jbig2_context *context);
 void hayro_jbig2_file_free(hayro_jbig2_file *file);
@@ -223,11 +223,11 @@ uint32_t hayro_jbig2_context_get_passed_over(hayro_jbig2_context *context, hayro
 
 /* A limit of work, for bytes of strangers. A unit is some pixel that is decoded, cleared, cut out or combined; what is read
  * besides costs a number of units. What would take more than the limit is refused with HAYRO_JBIG2_OUT_OF_MEMORY before
- * that work is begun. HAYRO_JBIG2_NO_WORK_LIMIT is no limit, as for the calls without one. */
+ * that work starts. HAYRO_JBIG2_NO_WORK_LIMIT is no limit, as for the calls without one. */
 #define HAYRO_JBIG2_NO_WORK_LIMIT UINT64_MAX
 /* Sets what each page may take that is drawn in the context from now on. */
 uint32_t hayro_jbig2_context_set_work_limit(hayro_jbig2_context *context, uint64_t work);
-/* Tells what the page that was drawn last left of the limit: 0 where it was refused for want of work. */
+/* Writes what the page that was drawn last left of the limit: 0 where it was refused by the limit. */
 uint32_t hayro_jbig2_context_get_work_left(hayro_jbig2_context *context, uint64_t *left);
 /* As hayro_jbig2_globals_new and hayro_jbig2_file_new, where decoding what pages share takes at most `work` units. */
 uint32_t hayro_jbig2_globals_new_within(const hayro_jbig2_memory *memory, bool strict, uint64_t work,
@@ -235,7 +235,7 @@ uint32_t hayro_jbig2_globals_new_within(const hayro_jbig2_memory *memory, bool s
 uint32_t hayro_jbig2_file_new_within(const hayro_jbig2_memory *memory, bool strict, uint64_t work, const uint8_t *bytes,
                                      size_t length, hayro_jbig2_file **file);
 
-/* A text for what a call answered, never null and never to be freed. This call and
+/* A text for what a call returned, never null and never to be freed. This call and
  * hayro_jbig2_version are written in C. */
 const char *hayro_jbig2_error_text(uint32_t answer);
 

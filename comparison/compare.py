@@ -20,7 +20,7 @@ from jbig2_encoder.pictures import pixels
 
 
 def coded(chance, pixels):
-    """Data for so many pixels, closed by a marker."""
+    """Data for this number of pixels, with a marker at its end."""
     kind = chance.randrange(3)
     length = pixels // 2 + 64
     if kind == 0:

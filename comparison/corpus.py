@@ -68,7 +68,7 @@ def made_up(chance, turn):
 
 
 def own_corpus(count, seed):
-    """So many files that are made up, and the example of T.88 H.1."""
+    """This number of files that are made up, and the example of T.88 H.1."""
     chance = random.Random(seed)
     samples = [made_up(chance, turn) for turn in range(count)]
     return samples + given_corpus([EXAMPLE])

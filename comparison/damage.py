@@ -4,7 +4,7 @@
 usage: comparison/damage.py [--count COUNT] [--first FIRST] [--seed SEED] [--seconds S] [--memory MIB] [FILE ...]
 
 Without files it takes a corpus of its own. Each run has a number, and depends on it, the seed and the files alone: runs FIRST
-to FIRST + COUNT - 1 are made, so a stop is made good by `--first` with the number that was told last, and two cores share the
+to FIRST + COUNT - 1 are made. So after a stop `--first` goes on with the number that was printed last, and two cores share the
 work by two calls. First each undamaged file that jbig2dec draws is drawn by both. PROGRAM may name a built jbig2-decode.
 """
 import argparse

@@ -9,8 +9,8 @@ and ids, code lengths and what tables say. One of them is written as 0, 1, a lim
 all that follows is coded as it was. The model in comparison/model reads each file strictly and leniently, and says the
 picture or the error; jbig2-decode has to do the same. Each run has a number, and depends on it and the seed alone.
 PROGRAM may name a built jbig2-decode; --library is the library for C, shared or as an archive, which is called in place
-of it and is faster. A file that is read otherwise is kept, and its line names it. --write writes the files with what is
-meant, and --again compares such files once more, without the encoder and the model.
+of it and is faster. A file that is read otherwise is stored, and its line names it. --write writes the files with the
+expected results, and --again compares such files once more, without the encoder and the model.
 """
 import argparse
 import collections

@@ -1,10 +1,10 @@
 #!/usr/bin/env python3
-"""Makes small files that keep a decoder busy, times the built jbig2-decode on them, and tells what the largest would take.
+"""Makes small files that take long, times the built jbig2-decode on them, and prints how long the largest would take.
 
 usage: comparison/heaviest.py [SIDE [NAME ...]]
 
 Regions, grids and symbols are SIDE pixels wide and high (4096). The work of each file grows by the square of SIDE, or of SIDE
-times a count that its line names, so the time at SIDE 65535, the most that is decoded, is told beside it. PROGRAM may name a
+times a count that its line names. So the time at SIDE 65535, the most that is decoded, is printed beside it. PROGRAM may name a
 built jbig2-decode. Status 0 means that each run ended by itself.
 """
 import os
@@ -134,7 +134,7 @@ def many_references(side):
 
 
 # A name, what makes the file, and by which power of SIDE its work grows. All are read strictly, so that nothing is passed over,
-# but for those that are named behind: their MMR data ends early, or their values have no pattern.
+# but for those that are named after it: their MMR data ends early, or their values have no pattern.
 FILES = (
     ("generic region, nominal pixels, no data", generic, 2),
     ("generic region, a pixel moved, no data", moved_pixels, 2),

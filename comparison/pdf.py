@@ -1,6 +1,6 @@
 #!/usr/bin/env python3
 """Puts the pages of JBIG2 files into PDF files, cuts them out again by examples/pdf-to-pbm, and compares the bitmaps
-with those that jbig2dec draws of the files themselves. Where Poppler draws another bitmap of the PDF file, it is told.
+with those that jbig2dec draws of the files themselves. It reports where Poppler draws another bitmap of the PDF file.
 
     pdf.py FILE.jb2 ..
 

@@ -1,4 +1,4 @@
-"""The repository's root, which is put on Python's path: import this before `jbig2_encoder`, which stands there."""
+"""The repository's root, which is put on Python's path: import this before `jbig2_encoder`, which is there."""
 import os
 import sys
 

@@ -1,11 +1,11 @@
 #!/usr/bin/env python3
-"""Makes up documents of symbols and text, and compares what is drawn of them with what was meant, and with jbig2dec.
+"""Makes up documents of symbols and text, and compares what is drawn of them with the expected picture and with jbig2dec.
 
 usage: comparison/symbols.py [COUNT [SEED]]
 
 Each document is made by the encoder in jbig2_encoder, which knows the picture. KINDS may name some of `coder prefix
-refined aggregates tables`, the forms that jbig2dec draws too, and `more`, which it does not: that is compared with what was
-meant alone. PROGRAM=none compares jbig2dec alone with what was meant, which checks the encoder.
+refined aggregates tables`, the forms that jbig2dec draws too, and `more`, which it does not: that is compared with the
+expected picture alone. PROGRAM=none compares jbig2dec alone with that picture, which checks the encoder.
 """
 import dataclasses
 import os

@@ -1,5 +1,5 @@
 #!/usr/bin/env python3
-"""Prints errors.js: the number, the name and the text of each answer, by ../c/hayro_jbig2.h and ../c/texts.c."""
+"""Prints errors.js: the number, the name and the text of each result, by ../c/hayro_jbig2.h and ../c/texts.c."""
 import os
 import re
 
@@ -16,7 +16,7 @@ def main():
     source = read("texts.c")
     texts = dict(re.findall(r'\[HAYRO_JBIG2_(\w+)\] = "([^"]*)"', source))
     texts.update(re.findall(r'case HAYRO_JBIG2_(\w+):\s*return "([^"]*)"', source))
-    print("/** The name and the text of each answer of the library, by its number. Made by make_errors.py. */")
+    print("/** The name and the text of each result of the library, by its number. Made by make_errors.py. */")
     print("export const ERRORS = {")
     for name, text in texts.items():
         print(f'  {numbers[name]}: ["{name}", "{text}"],')

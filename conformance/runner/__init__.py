@@ -1,1 +1,1 @@
-"""Runs decoders on the files of the suite and compares what they draw with what is meant."""
+"""Runs decoders on the files of the suite and compares what they draw with the expected pictures."""

@@ -5,9 +5,9 @@ from .tables import Column, Reasons, feature_table, parted, reason_table, refusa
 
 INTRODUCTION = """
 `conformance/run --table all` makes this page. It shows which features of T.88 each decoder of
-Debian draws as expected. The files are made, small, and have one feature in front each. Many of
-these features are rare. So the numbers say what a decoder knows of the standard. They do not
-measure how it does on files in the wild.
+Debian draws as expected. The files are made up and small, and each has one main feature. Many of
+these features are rare. So the numbers say how much of the standard a decoder knows. They do not
+measure what it does with the files of scanners.
 
 `conformance/make FOLDER` writes the files, and `conformance/manifest.tsv` describes them. The
 expected picture is known from how a file was made. A page is right if all of its pixels are
@@ -25,7 +25,7 @@ decoder.
 - *right*: the expected picture.
 - *wrong*: another picture.
 - *nothing*: no picture though the status is 0, or one of a single colour where the expected one
-  has both, as viewers show when they refuse.
+  has both, since viewers show that when they refuse.
 - *refused*: no picture, and a status other than 0.
 - *crash*: ended by a signal. *too long*: stopped after 20 seconds of processor time.
 """
@@ -38,9 +38,9 @@ table shows lenient reading.
 """
 
 REASONS = """
-For each feature that a decoder does not draw as expected: the smallest such file, and why. Runs
-have shown the reasons, by changed flags and by files made for it; no decoder's source was read. A
-reason in quotes is the decoder's message.
+For each feature that a decoder does not draw as expected: the smallest such file, and why. The
+reasons come from runs with changed flags and with files made for it; no decoder's source was read.
+A reason in quotes is the decoder's message.
 """
 
 

@@ -1,4 +1,4 @@
-"""The manifest of the suite: a line for each page of a file, with the picture that is meant or the broken rule."""
+"""The manifest of the suite: a line for each page of a file, with the expected picture or the broken rule."""
 from __future__ import annotations
 
 import csv

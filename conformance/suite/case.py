@@ -1,4 +1,4 @@
-"""A case of the suite: one file with a name, what it is for, and what is meant to come of it."""
+"""A case of the suite: one file with a name, what it is for, and what result is expected."""
 from __future__ import annotations
 
 import dataclasses

@@ -1,6 +1,6 @@
 #!/usr/bin/env python3
 """Has mutool, gs and jbig2dec draw the pages of the conformance suite over this library, and compares them with the
-pictures that are meant.
+expected pictures.
 
     pages.py SUITE [--both]
 

@@ -1,7 +1,7 @@
 //! The calls on a `Decoder` are those that the proved program `jbig2-decode` prints, on 100 made-up files.
 //!
 //! `JBIG2_CORPUS` names a folder of files, each NAME.jb2 with a folder NAME of what the program prints: `strict` and
-//! `lenient` for the file's pages, and with a dot and the index behind that for the calls of a page. `rust/test` makes
+//! `lenient` for the file's pages, and with a dot and the index after that for the calls of a page. `rust/test` makes
 //! it. Without it nothing is compared, which the test says.
 
 use hayro_jbig2::{DecodeError, DecodeSettings, Decoder, DecoderContext, File};

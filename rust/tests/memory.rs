@@ -91,7 +91,7 @@ fn a_file_lacks_memory() {
 
 #[test]
 fn an_embedded_page_lacks_memory() {
-    // The first page, behind the file's header, with the segments that belong to no page as globals.
+    // The first page, after the file's header, with the segments that belong to no page as globals.
     let settings = DecodeSettings::default();
     let (globals, stream) = EXAMPLE[13..].split_at(35);
     let refusals = refuse_in_turn(|counter| {
