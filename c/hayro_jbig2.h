@@ -1,25 +1,25 @@
 /*
  * A decoder of JBIG2 (ITU-T T.88), the bi-level format of scanned pages: the static library libhayro_jbig2.a.
  *
- * Each call is proved: it returns HAYRO_JBIG2_OK and what the library's definitions give for these bytes, or the number
- * of the first error in their order, or HAYRO_JBIG2_OUT_OF_MEMORY, and nothing else. If it doesn't return
- * HAYRO_JBIG2_OK, all that it could have written is as it was. It reads and writes nothing outside of what it is
- * handed, and returns.
+ * Each call is proved. It returns HAYRO_JBIG2_OK and gives what the library's definitions give for these bytes, or it
+ * returns the number of their first error, or HAYRO_JBIG2_OUT_OF_MEMORY. After an error, all that the call could have
+ * written is as it was. Only a call that draws changes its context all the same (hayro_jbig2_page_draw). No call reads
+ * or writes anything outside of what it is handed, and each call returns.
  *
- * The calls on bytes take memory by malloc and give it back by free before they return. They keep nothing, so that
- * several threads may call at once. The calls on handles keep what is made until it is freed; they come last here.
+ * The calls on bytes take memory by malloc and give it back by free before they return. They store nothing, so several
+ * threads may call at once. The calls on handles store what they make until it is freed; they come last here.
  *
- * What is proved holds for callers that keep to this, which nothing checks:
+ * What is proved holds for callers that keep to these rules. Nothing checks them:
  *
  * - No pointer is null, not even beside a length of 0, and each points to as many bytes, or to the one number, that
  *   the call says.
- * - What a call writes overlaps nothing else that it is handed, and nobody else reads or writes it meanwhile; nobody
- *   writes what it reads meanwhile.
+ * - What a call writes overlaps nothing else that it is handed. While it runs, nobody else reads or writes that, and
+ *   nobody writes what it reads.
  * - A bool is 0 or 1, as stdbool.h's are.
  * - No call from a signal handler, nor in the forked child of a process that had threads.
  *
- * A small file can ask for gigabytes and hours (docs/USING.md, "Files that take long"): decode what anyone may have
- * sent in a process of its own, with limits of time and memory.
+ * A small file can ask for gigabytes and hours. Set a limit of work for files from strangers (below, and docs/USING.md,
+ * "Files that take long"), or decode them in a process of its own with limits of time and memory.
  *
  * Common to all calls:
  *
@@ -144,30 +144,30 @@ uint32_t hayro_jbig2_embedded_packed(bool strict, const uint8_t *globals, size_t
 /*
  * Handles: what is decoded or read once and used by several calls.
  *
- * A handle is made by a call whose name ends in _new or _share, through a pointer to a variable that holds NULL, which
- * stays as it is where the call fails. The call that frees it takes NULL too.
+ * A handle is made by a call whose name ends in _new, _new_within or _share. The call gets a pointer to a variable that
+ * holds NULL, and leaves it so if it fails. The call that frees a handle takes NULL too.
  *
- * - globals: decoded once, and shared by all pages that are made with them and by all handles that hold them. They are
+ * - globals: decoded once. All pages that are made with them share them, and so do all handles that hold them. They are
  *   freed with the last of these, so a page needs no handle of them.
- * - page: an embedded page with a copy of its stream, so the stream may go at once.
+ * - page: an embedded page with a copy of its stream, so the stream may be freed at once.
  * - file: a file that is read once. Its bytes must stay as they are until the handle is freed.
  * - context: the memory that drawing uses, for one page after the other. It holds the page that was drawn last. Draw
  *   all pages of a document in one context.
  *
  * What a caller must keep to, besides the rules at the head:
  *
- * - No handle is used after it is freed, and none but those that these calls made.
+ * - No handle is used after it is freed, and only handles that these calls made are used.
  * - One call at a time uses a handle. Calls on several handles may run at once, in several threads, also where they
  *   share globals: a thread that makes pages has a handle of its own, by hayro_jbig2_globals_share, or a lock.
- * - Memory that a caller lends outlives all that is made with it, and its functions may be called in each thread that
- *   uses what was made with it: globals are given back in the thread that frees the last of their handles and pages.
+ * - Memory that a caller lends outlives all that is made with it. Its functions may be called in each thread that uses
+ *   what was made with it: globals are freed in the thread that frees the last of their handles and pages.
  */
 typedef struct hayro_jbig2_globals hayro_jbig2_globals;
 typedef struct hayro_jbig2_context hayro_jbig2_context;
 typedef struct hayro_jbig2_page hayro_jbig2_page;
 typedef struct hayro_jbig2_file hayro_jbig2_file;
 
-/* The caller's memory, for a value and all that is made with it; NULL where a call takes it is malloc and free. */
+/* The caller's memory, for a value and all that is made with it. A call that gets NULL uses malloc and free. */
 typedef struct hayro_jbig2_memory {
     /* A block of `size` bytes, aligned to 8, or NULL; size is never 0. */
     void *(*take)(void *user, size_t size);
@@ -203,7 +203,8 @@ void hayro_jbig2_context_free(hayro_jbig2_context *context);
 uint32_t hayro_jbig2_page_new(const hayro_jbig2_memory *memory, bool strict, hayro_jbig2_globals *globals,
                               const uint8_t *stream, size_t stream_length, hayro_jbig2_page **page);
 uint32_t hayro_jbig2_page_get_info(hayro_jbig2_page *page, hayro_jbig2_page_info *info);
-/* Draws the page in the context. After an error the context holds what was drawn before it. */
+/* Draws the page in the context. After an error the context holds what was drawn before the fault, or still the page
+ * before: take no rows from it then. */
 uint32_t hayro_jbig2_page_draw(hayro_jbig2_page *page, hayro_jbig2_context *context);
 void hayro_jbig2_page_free(hayro_jbig2_page *page);
 
@@ -213,6 +214,7 @@ size_t hayro_jbig2_file_page_count(hayro_jbig2_file *file);
 uint32_t hayro_jbig2_file_get_info(hayro_jbig2_file *file, size_t index, hayro_jbig2_page_info *info);
 /* Writes the number and the size of each page. HAYRO_JBIG2_OTHER_SIZE where the file has not `count` pages. */
 uint32_t hayro_jbig2_file_get_infos(hayro_jbig2_file *file, hayro_jbig2_page_info *infos, size_t count);
+/* As hayro_jbig2_page_draw, for a page of the file. */
 uint32_t hayro_jbig2_file_draw(hayro_jbig2_file *file, size_t index, hayro_jbig2_context *context);
 void hayro_jbig2_file_free(hayro_jbig2_file *file);
 
@@ -221,9 +223,9 @@ void hayro_jbig2_file_free(hayro_jbig2_file *file);
 uint32_t hayro_jbig2_context_rows(hayro_jbig2_context *context, size_t place, uint8_t *rows, size_t length);
 uint32_t hayro_jbig2_context_get_passed_over(hayro_jbig2_context *context, hayro_jbig2_passed_over *passed_over);
 
-/* A limit of work, for bytes of strangers. A unit is some pixel that is decoded, cleared, cut out or combined; what is read
- * besides costs a number of units. What would take more than the limit is refused with HAYRO_JBIG2_OUT_OF_MEMORY before
- * that work starts. HAYRO_JBIG2_NO_WORK_LIMIT is no limit, as for the calls without one. */
+/* A limit of work, for files from strangers. A unit is about a pixel that is decoded, cleared, cut out or combined; what
+ * is read besides costs a number of units (docs/FORMAT.md, 12.6). Work that would pass the limit is refused before it
+ * starts, with HAYRO_JBIG2_OUT_OF_MEMORY. HAYRO_JBIG2_NO_WORK_LIMIT is no limit, as for the calls without one. */
 #define HAYRO_JBIG2_NO_WORK_LIMIT UINT64_MAX
 /* Sets what each page may take that is drawn in the context from now on. */
 uint32_t hayro_jbig2_context_set_work_limit(hayro_jbig2_context *context, uint64_t work);
