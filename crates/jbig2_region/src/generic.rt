@@ -10,8 +10,8 @@ ghost use Rattle.jbig2_region.specs.inner.Layouts.{CountsGeneric};
 ghost use Rattle.jbig2_region.specs.GenericHeader.{rows_at, generic_header_at, IsParsed};
 ghost use Rattle.jbig2_region.specs.inner.GenericViews.{header_view};
 ghost use Rattle.jbig2_region.specs.inner.PixelArrays.{IsFilled};
-ghost use Rattle.jbig2_base.specs.Causes.{HaveCauses};
-ghost use Rattle.jbig2_region.specs.Causes.{BreaksGeneric, BreaksGenericHeader, BreaksRows};
+ghost use Rattle.jbig2_base.specs.Causes.{HasCause};
+ghost use Rattle.jbig2_region.specs.Causes.{BreaksGenericHeader, BreaksRows};
 
 pub use crate::generic_coding::decode_coded;
 use crate::raster::fresh_contexts;
@@ -47,11 +47,11 @@ pub struct GenericRegionHeader<'a> {
 }
 
 /// The number of rows, which may replace `height`, and the coded bytes.
-#[tactic(auto, using(crate::proofs::Causes::rows_causes), unfolding(crate::specs::GenericHeader::rows_at))]
+#[tactic(auto, using(crate::proofs::Causes::rows_have_cause), unfolding(crate::specs::GenericHeader::rows_at))]
 fn rows<'a>(unknown_length: bool, height: u32, bytes: &'a [u8]) -> Result<(u32, &'a [u8])>
     ensures value { Answers (λ rows. (rows.0, rows.1.now)) result
         (rows_at unknown_length height bytes.now) }
-    ensures causes { (unknown : Bool) (height : ℕ) → HaveCauses (rows_at unknown height) (BreaksRows unknown height) }
+    ensures causes { HasCause result (BreaksRows unknown_length height bytes.now) }
 {
     if !unknown_length {
         return Ok((height, bytes));
@@ -72,7 +72,7 @@ fn rows<'a>(unknown_length: bool, height: u32, bytes: &'a [u8]) -> Result<(u32, 
 /// come before the pixel that is decoded; `RegionError::InvalidDimension` where there are more rows
 /// than the stated height; `OverflowError::BitmapDimension` above 65535 pixels either way. An error
 /// leaves the reader where it was. Takes no memory.
-#[tactic(auto, using(crate::proofs::HeaderCauses::generic_header_causes), unfolding(crate::specs::GenericHeader::generic_header_at))]
+#[tactic(auto, using(crate::proofs::HeaderCauses::generic_header_cause), unfolding(crate::specs::GenericHeader::generic_header_at))]
 pub fn parse<'a>(
     reader: &mut Reader<'a>,
     unknown_length: bool,
@@ -84,7 +84,7 @@ pub fn parse<'a>(
     ensures parsed { IfOk result (λ h. IsParsed (header_view h)) }
     ensures unused { IfOk result (λ h. IsFilled h.adaptive_template_pixels
         (header_view h).adaptive_template_pixels) }
-    ensures causes { (unknown strict : Bool) → HaveCauses (generic_header_at unknown strict) (BreaksGenericHeader unknown) }
+    ensures causes { HasCause result (BreaksGenericHeader unknown_length reader.old.bytes) }
 {
     let mut ahead = reader.duplicate();
     let mut region_info = parse_region_segment_info(&mut ahead)?;
@@ -157,7 +157,6 @@ pub fn decode_into<A: Allocator, B: Allocator, L: Ledger>(
 /// Decodes a region (T.88, 6.2), as `decode_into` does, into a bitmap of its own.
 ///
 /// `OutOfMemory` where there is no room for the bitmap or the contexts, else as `decode_into`.
-#[tactic(auto, using(crate::proofs::HeaderCauses::generic_causes))]
 pub fn decode<A: Allocator, B: Allocator, L: Ledger>(
     alloc: A,
     header: &GenericRegionHeader<'_>,
@@ -169,7 +168,6 @@ pub fn decode<A: Allocator, B: Allocator, L: Ledger>(
     ensures contexts { Leaves result contexts.new.items
         (contexts_after (header_view header.now) contexts.old.items) }
     ensures steps { OnOk result (CountsGeneric (header_view header.now) steps.old steps.new) }
-    ensures causes { HaveCauses generic_decoded BreaksGeneric }
 {
     let region_info = &header.region_info;
     steps.pay_bitmap(region_info.width, region_info.height)?;
