@@ -95,7 +95,20 @@ StopsHalftone h d before after =
     (after ≡ before)
     ⊎ ((planes : ℕ) × ((rows : ℕ) × ((planes ≤ (gray_params h d).bits_per_pixel) × ((rows ≤ h.grid_position_and_size.height) × CountsDrawn h d planes rows before after))))
 
--- a dictionary: its collective bitmap, a generic region, and then a load and a word for each word of its patterns
+-- this many patterns are cut out of their collective bitmap: a load and a word for each of their words
+abbrev pub after_patterns : PatternHeader → ℕ → Counts → Counts
+after_patterns h count = words_copied (count * ((h.pattern_width + 63) / 64 * h.pattern_height))
+
+-- a collective bitmap, a generic region, and this many patterns that are cut out of it
+abbrev pub CountsCut : PatternHeader → ℕ → Counts → Counts → Type 0
+CountsCut h count before after =
+    (collective : Counts) × (CountsGeneric (collective_header h) before collective × (after ≡ after_patterns h count collective))
+
+-- a dictionary: all patterns
 abbrev pub CountsDictionary : PatternHeader → Counts → Counts → Type 0
-CountsDictionary h before after =
-    (collective : Counts) × (CountsGeneric (collective_header h) before collective × (after ≡ words_copied ((h.gray_max + 1) * ((h.pattern_width + 63) / 64 * h.pattern_height)) collective))
+CountsDictionary h before after = CountsCut h (h.gray_max + 1) before after
+
+-- a dictionary that is refused: no step, or no more patterns
+abbrev pub StopsDictionary : PatternHeader → Counts → Counts → Type 0
+StopsDictionary h before after =
+    (after ≡ before) ⊎ ((count : ℕ) × ((count ≤ h.gray_max + 1) × CountsCut h count before after))

@@ -1,8 +1,8 @@
 //! Pattern dictionaries (T.88, 6.7 and 7.4.4).
-ghost use Rattle.std.specs.Prelude.{◌≡◌, ◌+◌, ◌*◌, ◌/◌, ◌≤◌, [], ◌∷◌, length, IfOk, OnErr, OnOk, Ok, Bool};
+ghost use Rattle.std.specs.Prelude.{◌≡◌, ◌+◌, ◌*◌, ◌/◌, ◌≤◌, [], ◌∷◌, length, IfOk, OnErr, OnOk, Ok, Bool, true, false};
 ghost use Rattle.jbig2_base.specs.Answer.{Answers, Gives, Leaves};
 ghost use Rattle.jbig2_base.specs.Bits.{IsAligned};
-ghost use Rattle.jbig2_base.specs.Counts.{words_copied};
+ghost use Rattle.jbig2_base.specs.Counts.{KeepsLanes, words_copied};
 ghost use Rattle.jbig2_region.specs.Generic.{generic_answer, contexts_after};
 ghost use Rattle.jbig2_region.specs.inner.Layouts.{CountsGeneric};
 ghost use Rattle.jbig2_region.specs.Templates.{left, right};
@@ -12,7 +12,7 @@ ghost use Rattle.jbig2_halftone.specs.Patterns.{collective_width, collective_hea
 ghost use Rattle.jbig2_halftone.specs.inner.DictionaryViews.{dictionary_view};
 ghost use Rattle.jbig2_halftone.specs.inner.PatternViews.{header_view};
 ghost use Rattle.jbig2_halftone.specs.inner.Stages.{pattern_of, StopsCut};
-ghost use Rattle.jbig2_halftone.specs.Steps.{CountsDictionary};
+ghost use Rattle.jbig2_halftone.specs.Steps.{CountsDictionary, StopsDictionary};
 ghost use Rattle.jbig2_base.specs.Causes.{HasCause, HasCauseOrNoMemory};
 ghost use Rattle.jbig2_halftone.specs.Causes.{BreaksPatternHeader, BreaksPatterns};
 
@@ -187,6 +187,8 @@ fn decode_collective<A: Allocator, B: Allocator, L: Ledger>(
         (contexts_after (collective_header (header_view header.now)) contexts.old.items) }
     ensures steps { OnOk result
         (CountsGeneric (collective_header (header_view header.now)) steps.old steps.new) }
+    ensures stopped { header.now.mmr ≡ false → OnErr result (steps.new ≡ steps.old) }
+    ensures lanes { KeepsLanes steps.old steps.new }
 {
     let region_info = RegionSegmentInfo {
         width,
@@ -211,7 +213,8 @@ fn decode_collective<A: Allocator, B: Allocator, L: Ledger>(
 
 /// Decodes a pattern dictionary (T.88, 6.7). The contexts begin fresh, whatever `contexts` held,
 /// and are left there as the collective bitmap leaves them; MMR data and one that is too wide do
-/// not touch them. Each word of a pattern is loaded once and written once.
+/// not touch them. Each word of a pattern is loaded once and written once; a refusal takes no more steps than a
+/// dictionary that is decoded whole.
 ///
 /// `OverflowError::BitmapDimension` where the patterns side by side have more than 65535 columns;
 /// in strict mode `RegionError::InvalidMmrData` where MMR data has a fault or lacks a row;
@@ -230,6 +233,9 @@ pub fn decode<A: Allocator + Clone, B: Allocator, L: Ledger>(
         (dictionary_contexts (header_view header.now) contexts.old.items) }
     ensures steps { OnOk result
         (CountsDictionary (header_view header.now) steps.old steps.new) }
+    ensures stopped { OnErr result
+        (StopsDictionary (header_view header.now) steps.old steps.new) }
+    ensures lanes { KeepsLanes steps.old steps.new }
     ensures causes { HasCauseOrNoMemory result (BreaksPatterns (header_view header.now)) }
 {
     let width = u32::from(header.pattern_width);

@@ -1,7 +1,8 @@
 //! Generic regions (T.88, 6.2 and 7.4.6).
-ghost use Rattle.std.specs.Prelude.{◌≡◌, ◌≤◌, length, IfOk, OnErr, OnOk, Bool, ℕ};
+ghost use Rattle.std.specs.Prelude.{◌≡◌, ◌≤◌, length, IfOk, OnErr, OnOk, Bool, ℕ, true, false};
 ghost use Rattle.jbig2_base.specs.Answer.{Answers, Gives, Leaves};
 ghost use Rattle.jbig2_base.specs.Bits.{IsAligned};
+ghost use Rattle.jbig2_base.specs.Counts.{KeepsLanes};
 ghost use Rattle.jbig2_base.specs.Fields.{Parses};
 ghost use Rattle.jbig2_region.specs.Generic.{contexts_after, generic_answer, generic_decoded, refused_grid};
 ghost use Rattle.jbig2_region.specs.RegionInfo.{IsWhiteFor};
@@ -117,7 +118,8 @@ pub fn parse<'a>(
 /// Decodes a region (T.88, 6.2) into a white bitmap of its size. The contexts begin fresh, whatever
 /// `contexts` held, and are left there as the region leaves them; MMR data does not touch them, nor
 /// does its refusal. The steps of a region are bounded unless it has MMR data or the extended
-/// template; with nominal adaptive pixels a run of eight likely symbols takes no decision.
+/// template; with nominal adaptive pixels a run of eight likely symbols takes no decision. A refusal takes no
+/// step but with MMR data, which counts no group of lanes and no single pixel.
 ///
 /// `OutOfMemory` where there is no room for the contexts; in strict mode
 /// `RegionError::InvalidMmrData` where MMR data has a fault or lacks a row. The bitmap is then as it was,
@@ -135,6 +137,8 @@ pub fn decode_into<A: Allocator, B: Allocator, L: Ledger>(
     ensures contexts { Leaves result contexts.new.items
         (contexts_after (header_view header.now) contexts.old.items) }
     ensures steps { OnOk result (CountsGeneric (header_view header.now) steps.old steps.new) }
+    ensures stopped { header.now.mmr ≡ false → OnErr result (steps.new ≡ steps.old) }
+    ensures lanes { header.now.mmr ≡ true → KeepsLanes steps.old steps.new }
 {
     if header.mmr {
         mmr::decode(bitmap, header.bytes, header.strict, steps)?;
@@ -168,6 +172,8 @@ pub fn decode<A: Allocator, B: Allocator, L: Ledger>(
     ensures contexts { Leaves result contexts.new.items
         (contexts_after (header_view header.now) contexts.old.items) }
     ensures steps { OnOk result (CountsGeneric (header_view header.now) steps.old steps.new) }
+    ensures stopped { header.now.mmr ≡ false → OnErr result (steps.new ≡ steps.old) }
+    ensures lanes { header.now.mmr ≡ true → KeepsLanes steps.old steps.new }
 {
     let region_info = &header.region_info;
     steps.pay_bitmap(region_info.width, region_info.height)?;

@@ -128,7 +128,7 @@ fn offset<B: Allocator>(
 /// `RegionError::InvalidDimension` where the reference is narrower or lower than the region;
 /// `OverflowError::ReferenceOffset` where a place of either is 2^31 or more; `OutOfMemory` where
 /// there is no room for the contexts. An error leaves the bitmap as it was, and the
-/// contexts too unless memory ran out.
+/// contexts too unless memory ran out; it takes no step.
 pub fn decode_into<A: Allocator, B: Allocator, C: Allocator, L: Ledger>(
     header: &GenericRefinementRegionHeader<'_>,
     reference: &DecodedRegion<B>,
@@ -145,6 +145,7 @@ pub fn decode_into<A: Allocator, B: Allocator, C: Allocator, L: Ledger>(
     ensures same { OnErr result (bitmap.new ≡ bitmap.old) }
     ensures steps { OnOk result
         (CountsRefined (header_view header.now) (region_view reference.now) steps.old steps.new) }
+    ensures stopped { OnErr result (steps.new ≡ steps.old) }
 {
     let region_info = &header.region_info;
     let (dx, dy) = offset(reference, region_info)?;
@@ -185,6 +186,7 @@ pub fn decode<A: Allocator, B: Allocator, C: Allocator, L: Ledger>(
         (refined_contexts (header_view header.now) (region_view reference.now) contexts.old.items) }
     ensures steps { OnOk result
         (CountsRefined (header_view header.now) (region_view reference.now) steps.old steps.new) }
+    ensures stopped { OnErr result (steps.new ≡ steps.old) }
 {
     let region_info = &header.region_info;
     steps.pay_bitmap(region_info.width, region_info.height)?;
