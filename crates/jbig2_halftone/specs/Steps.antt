@@ -4,7 +4,7 @@
 -- that is refused: what was done until then is no more than a part of what `Counts..` counts.
 use Rattle.std.specs.Prelude.{ℕ, zero, suc, ◌≡◌, ◌≤◌, ◌+◌, ◌*◌, ◌/◌, ◌%◌, true, false, if◌then◌else◌, List, None, is_some, ◌⊎◌}
 use Rattle.jbig2_base.specs.Counts.{WritesWithin, overlap, most_words, words_copied, Counts, KeepsLanes}
-use Rattle.jbig2_region.specs.{Generic.{coding_of}, inner.Layouts.{CountsGeneric}, Raster.{no_pixels}, Steps.{coded_runs, row_loads, row_tests, row_words, kept_pixels, skipping_loads, skipping_words}, Templates.{template_pixels}}
+use Rattle.jbig2_region.specs.{Generic.{coding_of}, GenericSteps.{CountsGeneric}, Raster.{no_pixels}, Steps.{coded_runs, row_loads, row_tests, row_words, kept_pixels, skipping_loads, skipping_words}, Templates.{template_pixels}}
 use Rattle.jbig2_halftone.specs.{GrayScale.{GrayScale, nominal_pixels, after_planes}, Halftone.{column_of, gray_params, row_of, skip_mask}, HalftoneHeader.{HalftoneHeader}, PatternHeader.{PatternHeader}, Patterns.{Patterns, collective_header}}
 
 -- how many run bytes the highest planes have, where no pixel is skipped

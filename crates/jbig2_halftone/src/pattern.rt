@@ -4,7 +4,7 @@ ghost use Rattle.jbig2_base.specs.Answer.{Answers, Gives, Leaves};
 ghost use Rattle.jbig2_base.specs.Bits.{IsAligned};
 ghost use Rattle.jbig2_base.specs.Counts.{KeepsLanes, words_copied};
 ghost use Rattle.jbig2_region.specs.Generic.{generic_answer, contexts_after};
-ghost use Rattle.jbig2_region.specs.inner.Layouts.{CountsGeneric};
+ghost use Rattle.jbig2_region.specs.GenericSteps.{CountsGeneric};
 ghost use Rattle.jbig2_region.specs.Templates.{left, right};
 ghost use Rattle.jbig2_region.specs.declared.template.GenericTemplatePixels.TheVariants.{Regular};
 ghost use Rattle.jbig2_halftone.specs.PatternHeader.{side_at, pattern_header_at};

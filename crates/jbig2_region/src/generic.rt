@@ -7,7 +7,7 @@ ghost use Rattle.jbig2_base.specs.Fields.{Parses};
 ghost use Rattle.jbig2_region.specs.Generic.{contexts_after, generic_answer, generic_decoded, refused_grid};
 ghost use Rattle.jbig2_region.specs.RegionInfo.{IsWhiteFor};
 ghost use Rattle.jbig2_region.specs.inner.RegionViews.{region_view};
-ghost use Rattle.jbig2_region.specs.inner.Layouts.{CountsGeneric};
+ghost use Rattle.jbig2_region.specs.GenericSteps.{CountsGeneric};
 ghost use Rattle.jbig2_region.specs.GenericHeader.{rows_at, generic_header_at, IsParsed};
 ghost use Rattle.jbig2_region.specs.inner.GenericViews.{header_view};
 ghost use Rattle.jbig2_region.specs.inner.PixelArrays.{IsFilled};
