@@ -95,6 +95,7 @@ impl<A: Allocator + Clone> HuffmanTable<A> {
     ///
     /// Bits that end before the lines are an unexpected end. Bits that end later, a range that
     /// leaves signed 32 bits, and codes that do not fit are an invalid code.
+    #[tactic(auto, unfolding(jbig2_base::specs::Causes::HasCauseOrNoMemory))]
     pub fn read_custom(alloc: A, reader: &mut Reader<'_>) -> Result<HuffmanTable<A>>
         ensures table { GivesAt (λ t. t) result reader.new (custom_table reader.old) }
         ensures causes { HasCauseOrNoMemory result (BreaksCustom reader.old) }
