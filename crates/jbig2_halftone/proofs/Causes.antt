@@ -1,5 +1,5 @@
 -- Which rule the input breaks where patterns or a halftone region are refused.
-use Rattle.std.proofs.Common.{◌≡◌, ◌⊎◌, inl, inr, ⊎_elim, ℕ, ◌+◌, ◌<◌, ◌/◌, ◌%◌, eqb, ltb, true, ◌||◌, List, length, Result, Err, ◌∙◌, arith}
+use Rattle.std.proofs.Common.{◌≡◌, ◌⊎◌, inl, inr, ⊎_elim, ℕ, ◌+◌, ◌<◌, ◌≤◌, ◌/◌, ◌%◌, eqb, ltb, true, ◌||◌, List, length, Result, Err, ◌∙◌, arith}
 use Rattle.std.specs.Int.{w8, w16, w32}
 use Rattle.std.proofs.lemmas.Bool.{eqb-true, ltb-true, or_cases}
 use Rattle.jbig2_base.specs.Answer.{refuse_if}
