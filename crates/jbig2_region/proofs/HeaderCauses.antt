@@ -2,9 +2,9 @@
 use Rattle.std.proofs.Common.{◌≡◌, ℕ, ◌+◌, ◌-◌, ◌*◌, ◌/◌, ◌%◌, ◌^◌, ◌<◌, ◌≤◌, eqb, ltb, Bool, true, false, ◌||◌, cond, List, take, drop, length, Result, Ok, Err, refl, sym, ◌∙◌, ap, arith, ⊎_elim, inl, inr, length-drop, ltb-true, leb-true}
 use Rattle.std.specs.Prelude.{IfErr}
 use Rattle.std.specs.Int.{Width, w8, w32, byte_len, from_be_bytes}
-use Rattle.std.proofs.lemmas.Bool.{cond-true, cond_both, or_cases}
+use Rattle.std.proofs.lemmas.Bool.{cond-true, or_cases}
 use Rattle.std.proofs.lemmas.List.{drop-drop}
-use Rattle.jbig2_base.specs.Answer.{◌>>=◌, refuse_if}
+use Rattle.jbig2_base.specs.Answer.{refuse_if}
 use Rattle.jbig2_base.specs.Causes.{number_in, HasCause}
 use Rattle.jbig2_base.specs.Fields.{number_at}
 use Rattle.jbig2_base.specs.declared.error.DecodeError.{DecodeError}

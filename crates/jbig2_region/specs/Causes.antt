@@ -2,7 +2,7 @@
 -- predicate `Breaks..` takes the bytes, or two regions, and an error; the function that refuses cites it.
 use Rattle.std.specs.{Prelude.{◌≡◌, ◌<◌, ◌≤◌, ◌⊎◌, ℕ, ◌+◌, ◌-◌, ◌*◌, ◌/◌, ◌%◌, ◌^◌, ◌==◌, Bool, true, if◌then◌else◌, List, length, ℤ, pos, ◌<ℤ◌, ◌≤ℤ◌}, Int.{w8, w32, cast_signed}}
 use Rattle.jbig2_base.specs.{Causes.{number_in}, declared.error.{DecodeError.{DecodeError}, OverflowError.TheVariants.{BitmapDimension, ReferenceOffset}, ParseError.TheVariants.{UnexpectedEof}, RegionError.TheVariants.{InvalidCombinationOperator, InvalidDimension}, TemplateError.TheVariants.{InvalidAtPixel}}}
-use Rattle.jbig2_region.specs.{RefinementTemplates.{refinement_pixel_count}, RegionInfo.{PlacedRegion}, Templates.{adaptive_pixel_count, template_of}, declared.{region_info.RegionSegmentInfo.{RegionSegmentInfo}, template.{RefinementTemplate.{RefinementTemplate}, Template.{Template}}}}
+use Rattle.jbig2_region.specs.{RefinementTemplates.{refinement_pixel_count}, RegionInfo.{PlacedRegion}, Templates.{adaptive_pixel_count, template_of}, declared.{region_info.RegionSegmentInfo.{RegionSegmentInfo}, template.{RefinementTemplate.{RefinementTemplate}}}}
 use Rattle.jbig2_base.specs.declared.error.DecodeError.TheVariants as errors
 
 -- ---- region information (7.4.1): the two sides and the place, four bytes each, and the flags
