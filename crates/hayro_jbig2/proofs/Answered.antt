@@ -137,7 +137,7 @@ answered-globals strict bytes = search (answered-next, answered-sorted, answered
 
 answered-segment_on : (strict : Bool) (globals : Names) (p : SegmentView) (d : Drawing) → Answered (segment_on strict globals p d)
 answered-segment_on strict globals p d =
-    of-segment (λ r breaks. Answered r) strict globals p d
+    of-segment Answered strict globals p d
     (record {
       nothing = λ q. answered-keeping d _ (answered-kept_by strict globals q.header.segment_type q.header q.bytes d.names);
       kept = λ kind q. answered-intermediate strict globals kind q d;

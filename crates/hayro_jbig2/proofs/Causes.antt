@@ -1,30 +1,25 @@
 -- Which rule is broken where a file is refused.
-use Rattle.std.proofs.Common.{◌≡◌, ◌≢◌, ℕ, suc, Bool, true, false, not, ◌&&◌, ◌||◌, ◌==◌, nat_lt, List, [], ◌∷◌, length, slice_get, Option, Some, None, Result, Ok, Err, refl, sym, subst, ◌∙◌, arith}
+use Rattle.std.proofs.Common.{◌≡◌, ◌≢◌, ◌⊎◌, ℕ, suc, Bool, true, false, not, ◌&&◌, ◌==◌, List, [], ◌∷◌, length, slice_get, Option, Some, None, Result, Ok, Err, refl, sym, ◌∙◌, arith}
 use Rattle.std.proofs.lemmas.Bool.{and_parts, eq-eqb, eqb-true, false≢true, not-true}
-use Rattle.std.specs.Prelude.{Any, IfErr, IsFalse, IsTrue, option_map}
-use Rattle.std.specs.List.{AllByRecursion}
-use Rattle.std.specs.Int.{Width, w8, w16, w32}
+use Rattle.std.specs.Prelude.{Any, IfErr, IsTrue, option_map}
 use Rattle.jbig2_base.specs.Answer.{◌>>=◌, refuse_if, some_or}
-use Rattle.jbig2_base.specs.Fields.{number_at}
 use Rattle.jbig2_base.specs.File.{file_at}
-use Rattle.jbig2_base.specs.PageInfo.{first_information, height_of, information_at, initial_page_of, initial_page_with, is_page_information, stripes_height}
+use Rattle.jbig2_base.specs.PageInfo.{initial_page_of}
 use Rattle.jbig2_base.specs.Segment.{SegmentView}
-use Rattle.jbig2_base.specs.Causes.{IsOf, HaveCauses}
+use Rattle.jbig2_base.specs.Causes.{BreaksInitialPage, HasCause, HasCauseOrNoMemory}
 use Rattle.jbig2_base.specs.declared.error.DecodeError.{DecodeError}
 use Rattle.jbig2_base.specs.declared.error.DecodeError.TheVariants as errors
 use Rattle.jbig2_base.specs.declared.error.FormatError.TheVariants as formats
-use Rattle.jbig2_base.specs.declared.error.OverflowError.TheVariants as overflows
 use Rattle.jbig2_base.specs.declared.error.ParseError.TheVariants.{UnexpectedEof}
 use Rattle.jbig2_base.specs.declared.error.SegmentError.TheVariants as segments
 use Rattle.jbig2_base.specs.declared.file_header.FileHeader.{FileHeader}
-use Rattle.jbig2_base.specs.declared.page_info.InitialPage.{InitialPage}
-use Rattle.jbig2_base.specs.declared.page_info.PageInformation.{PageInformation}
-use Rattle.jbig2_base.proofs.Causes.{cause-next, cause-number, cause-refused}
-use Rattle.jbig2_region.proofs.Told.{cause-if}
-use Rattle.jbig2_symbol.proofs.ReadingCauses.{cause-by, in-steps, own-error}
-use Rattle.hayro_jbig2.specs.Causes.{BreaksBeginning, BreaksBook, BreaksPages, FirstPagesHaveCauses}
+use Rattle.jbig2_base.proofs.CauseSteps.{call-cause, call-cause-or-memory}
+use Rattle.jbig2_base.proofs.Causes.{cause-next, cause-refused}
+use Rattle.jbig2_base.proofs.InitialCauses.{initial_page_causes}
+use Rattle.jbig2_region.proofs.Told.{cause-if, cause-more}
+use Rattle.jbig2_symbol.proofs.ReadingCauses.{in-steps}
+use Rattle.hayro_jbig2.specs.Causes.{BreaksBook, BreaksFirstPage, BreaksPages}
 use Rattle.hayro_jbig2.specs.Files.{ReadFile, associated, book_at, by_pages, ends_of, filed_each, filed_from, lacks_page, miscounts, needs_page, page_in, page_of}
-use Rattle.hayro_jbig2.specs.Image.{first_page}
 use Rattle.hayro_jbig2.specs.Page.{ReadPage}
 
 -- ---- places
@@ -56,127 +51,43 @@ miscounted : (told : Option ℕ) (n : ℕ) → miscounts told n ≡ true → (t 
 miscounted None n wrong = absurd (false≢true wrong)
 miscounted (Some t) n wrong = (t, refl, differ t n wrong)
 
--- ---- what a page begins as
-abbrev Lacks : List SegmentView → Type 0
-Lacks own = AllByRecursion (λ p. IsFalse (is_page_information p.header.segment_type)) own
-
--- the errors that come at all
-abbrev Begins : List SegmentView → DecodeError → Type 0
-Begins own (errors.Format formats.MissingPageInfo) = Lacks own
-Begins own (errors.Format formats.UnknownPageHeight) = Unit {0}
-Begins own (errors.Format formats.EmptyPage) = Unit {0}
-Begins own (errors.Overflow overflows.BitmapDimension) = Unit {0}
-Begins own (errors.Parse UnexpectedEof) = Unit {0}
-Begins own _ = ⊥
-
-first-cause : (P : DecodeError → Type 0) (ps : List SegmentView) → (Lacks ps → P (errors.Format formats.MissingPageInfo)) → IfErr (first_information ps) P
-first-cause P [] why = why tt
-first-cause P (p ∷ ps) why =
-    cause-if P (is_page_information p.header.segment_type) (Ok p) (first_information ps) (λ is. tt) (λ other. first-cause P ps (λ lacks. why (other, lacks)))
-
-number-begins : (own : List SegmentView) (w : Width) (bytes : List ℕ) → IfErr (number_at w bytes) (Begins own)
-number-begins own w bytes = cause-number (Begins own) w bytes (λ short. tt)
-
-begins-next : {A B : Type 0} (own : List SegmentView) (r : Result A DecodeError) (next : A → Result B DecodeError) → IfErr r (Begins own) → ((x : A) → IfErr (next x) (Begins own)) → IfErr (r >>= next) (Begins own)
-begins-next own r next first rest = cause-next (Begins own) r next first (λ x is. rest x)
-
-begins-information : (own : List SegmentView) (bytes : List ℕ) → IfErr (information_at bytes) (Begins own)
-unfolding information_at
-begins-information own bytes =
-    begins-next own (number_at w32 bytes) _ (number-begins own w32 bytes) (λ width.
-    begins-next own (number_at w32 width.1) _ (number-begins own w32 width.1) (λ height.
-    begins-next own (number_at w32 height.1) _ (number-begins own w32 height.1) (λ x.
-    begins-next own (number_at w32 x.1) _ (number-begins own w32 x.1) (λ y.
-    begins-next own (number_at w8 y.1) _ (number-begins own w8 y.1) (λ flags.
-    begins-next own (number_at w16 flags.1) _ (number-begins own w16 flags.1) (λ striping. tt))))))
-
-begins-height : (own : List SegmentView) (stated stripes : ℕ) → IfErr (height_of stated stripes) (Begins own)
-begins-height own stated stripes =
-    let e : DecodeError = errors.Format formats.UnknownPageHeight in
-    cause-if (Begins own) (stated == 4294967295) (refuse_if (stripes == 0) e >>= λ told. Ok stripes) (Ok stated)
-    (λ unknown. begins-next own (refuse_if (stripes == 0) e) _ (cause-refused (Begins own) (stripes == 0) e (λ none. tt)) (λ told. tt))
-    (λ known. tt)
-
-begins-sides : (own : List SegmentView) (number : ℕ) (info : PageInformation) (height : ℕ) → IfErr (initial_page_with number info height) (Begins own)
-begins-sides own number info height =
-    let empty : Bool = info.width == 0 || height == 0 in
-    let large : Bool = nat_lt 65535 info.width || nat_lt 65535 height in
-    begins-next own (refuse_if empty (errors.Format formats.EmptyPage)) _ (cause-refused (Begins own) empty (errors.Format formats.EmptyPage) (λ is. tt)) (λ some.
-    begins-next own (refuse_if large (errors.Overflow overflows.BitmapDimension)) _ (cause-refused (Begins own) large (errors.Overflow overflows.BitmapDimension) (λ is. tt)) (λ fits. tt))
-
-begins-page : (own : List SegmentView) → IfErr (initial_page_of own) (Begins own)
-unfolding initial_page_of
-begins-page own =
-    begins-next own (first_information own) _ (first-cause (Begins own) own (λ lacks. lacks)) (λ first.
-    begins-next own (information_at first.bytes) _ (begins-information own first.bytes) (λ info.
-    begins-next own (height_of info.0.height (stripes_height own)) _ (begins-height own info.0.height (stripes_height own)) (λ height. begins-sides own first.header.page_association info.0 height)))
-
-begins-so : (own : List SegmentView) (e : DecodeError) → initial_page_of own ≡ Err e → Begins own e → BreaksBeginning own e
-begins-so own (errors.Parse UnexpectedEof) is begins = is
-begins-so own (errors.Format formats.InvalidHeader) is begins = is
-begins-so own (errors.Format formats.ReservedBits) is begins = is
-begins-so own (errors.Format formats.MissingPageInfo) is begins = begins
-begins-so own (errors.Format formats.UnknownPageHeight) is begins = is
-begins-so own (errors.Format formats.EmptyPage) is begins = is
-begins-so own (errors.Format formats.PageCountMismatch) is begins = is
-begins-so own (errors.Format formats.InvalidEndOfPage) is begins = is
-begins-so own (errors.Segment e) is begins = is
-begins-so own (errors.Huffman e) is begins = is
-begins-so own (errors.Region e) is begins = is
-begins-so own (errors.Template e) is begins = is
-begins-so own (errors.Symbol e) is begins = is
-begins-so own (errors.Overflow overflows.BitmapDimension) is begins = is
-begins-so own (errors.Overflow overflows.GridDimension) is begins = is
-begins-so own (errors.Overflow overflows.PlacementCoordinate) is begins = is
-begins-so own (errors.Overflow overflows.ReferenceOffset) is begins = is
-begins-so own (errors.Overflow overflows.Index) is begins = is
-begins-so own (errors.Overflow overflows.SymbolCount) is begins = is
-begins-so own errors.Unsupported is begins = is
-begins-so own errors.OutOfMemory is begins = is
-
-pub beginning_causes : (own : List SegmentView) → IfErr (initial_page_of own) (BreaksBeginning own)
-beginning_causes own = cause-by (initial_page_of own) (Begins own) (BreaksBeginning own) (begins-page own) (begins-so own)
-
-never-begins : (own : List SegmentView) (e : DecodeError) → initial_page_of own ≡ Err e → Begins own e
-never-begins own e is = subst (λ (r : Result InitialPage DecodeError). IfErr r (Begins own)) is (begins-page own)
-
 -- ---- each page
 filed-cause : (P : DecodeError → Type 0) (strict : Bool) (own : List SegmentView)
-    → (IsTrue strict → ends_of own ≢ 1 → P (errors.Format formats.InvalidEndOfPage)) → ((e : DecodeError) → BreaksBeginning own e → P e) → IfErr (filed_from strict own) P
+    → (IsTrue strict → ends_of own ≢ 1 → P (errors.Format formats.InvalidEndOfPage)) → ((e : DecodeError) → BreaksInitialPage own e → P e) → IfErr (filed_from strict own) P
 unfolding filed_from
 filed-cause P strict own ends begins =
     cause-next P (refuse_if (strict && not (ends_of own == 1)) (errors.Format formats.InvalidEndOfPage)) _ (cause-refused P (strict && not (ends_of own == 1)) (errors.Format formats.InvalidEndOfPage) (λ wrong.
     let both = and_parts strict (not (ends_of own == 1)) wrong in
     ends both.0 (differ (ends_of own) 1 both.1))) (λ ended ended_is.
-    cause-next P (initial_page_of own) _ (cause-by (initial_page_of own) (BreaksBeginning own) P (beginning_causes own) (λ e is broken. begins e broken)) (λ page page_is. tt))
+    cause-next P (initial_page_of own) _ (cause-more (BreaksInitialPage own) P (initial_page_of own) (initial_page_causes own) (λ e broken. begins e broken)) (λ page page_is. tt))
 
 each-cause : (P : DecodeError → Type 0) (strict : Bool) (all : List (List SegmentView))
     → (IsTrue strict → Any (λ own. ends_of own ≢ 1) all → P (errors.Format formats.InvalidEndOfPage))
-    → ((e : DecodeError) → Any (λ own. BreaksBeginning own e) all → P e) → IfErr (filed_each strict all) P
+    → ((e : DecodeError) → Any (λ own. BreaksInitialPage own e) all → P e) → IfErr (filed_each strict all) P
 each-cause P strict [] ends begins = tt
 each-cause P strict (own ∷ others) ends begins =
     let Ends : List SegmentView → Type 0 = λ page. ends_of page ≢ 1 in
-    cause-next P (filed_from strict own) _ (filed-cause P strict own (λ is wrong. ends is (at-first Ends own others wrong)) (λ e broken. begins e (at-first (λ page. BreaksBeginning page e) own others broken))) (λ page page_is.
-    cause-next P (filed_each strict others) _ (each-cause P strict others (λ is some. ends is (at-later Ends own others some)) (λ e some. begins e (at-later (λ page. BreaksBeginning page e) own others some))) (λ pages pages_is. tt))
+    cause-next P (filed_from strict own) _ (filed-cause P strict own (λ is wrong. ends is (at-first Ends own others wrong)) (λ e broken. begins e (at-first (λ page. BreaksInitialPage page e) own others broken))) (λ page page_is.
+    cause-next P (filed_each strict others) _ (each-cause P strict others (λ is some. ends is (at-later Ends own others some)) (λ e some. begins e (at-later (λ page. BreaksInitialPage page e) own others some))) (λ pages pages_is. tt))
 
 -- ---- files
--- a page's beginning breaks none of the rules on all the pages
-page-begins : (strict : Bool) (h : FileHeader) (ps : List SegmentView) (e : DecodeError) → Any (λ own. BreaksBeginning own e) (by_pages ps) → BreaksPages strict h ps e
+-- what a page begins as breaks none of the rules on all the pages
+page-begins : (strict : Bool) (h : FileHeader) (ps : List SegmentView) (e : DecodeError) → Any (λ own. BreaksInitialPage own e) (by_pages ps) → BreaksPages strict h ps e
 page-begins strict h ps (errors.Parse UnexpectedEof) some = some
 page-begins strict h ps (errors.Format formats.InvalidHeader) some = some
 page-begins strict h ps (errors.Format formats.ReservedBits) some = some
 page-begins strict h ps (errors.Format formats.MissingPageInfo) some = some
 page-begins strict h ps (errors.Format formats.UnknownPageHeight) some = some
 page-begins strict h ps (errors.Format formats.EmptyPage) some = some
-page-begins strict h ps (errors.Format formats.PageCountMismatch) some = absurd (never-begins some.1 (errors.Format formats.PageCountMismatch) some.4)
-page-begins strict h ps (errors.Format formats.InvalidEndOfPage) some = absurd (never-begins some.1 (errors.Format formats.InvalidEndOfPage) some.4)
+page-begins strict h ps (errors.Format formats.PageCountMismatch) some = absurd some.4
+page-begins strict h ps (errors.Format formats.InvalidEndOfPage) some = absurd some.4
 page-begins strict h ps (errors.Segment segments.UnknownType) some = some
 page-begins strict h ps (errors.Segment segments.InvalidReferredCount) some = some
 page-begins strict h ps (errors.Segment segments.InvalidReference) some = some
 page-begins strict h ps (errors.Segment segments.InvalidUnknownLength) some = some
 page-begins strict h ps (errors.Segment segments.MissingEndMarker) some = some
 page-begins strict h ps (errors.Segment segments.MissingPatternDictionary) some = some
-page-begins strict h ps (errors.Segment segments.MissingPageAssociation) some = absurd (never-begins some.1 (errors.Segment segments.MissingPageAssociation) some.4)
+page-begins strict h ps (errors.Segment segments.MissingPageAssociation) some = absurd some.4
 page-begins strict h ps (errors.Huffman e) some = some
 page-begins strict h ps (errors.Region e) some = some
 page-begins strict h ps (errors.Template e) some = some
@@ -185,10 +96,15 @@ page-begins strict h ps (errors.Overflow e) some = some
 page-begins strict h ps errors.Unsupported some = some
 page-begins strict h ps errors.OutOfMemory some = some
 
-pub file_causes : (strict : Bool) → HaveCauses (book_at strict) (BreaksBook strict)
-unfolding HaveCauses book_at
+-- a step whose error is said elsewhere
+any-cause : {A : Type 0} (r : Result A DecodeError) → IfErr r (λ e. Unit {0})
+any-cause (Ok x) = tt
+any-cause (Err e) = tt
+
+file_causes : (strict : Bool) (bytes : List ℕ) → IfErr (book_at strict bytes) (BreaksBook strict bytes)
+unfolding book_at
 file_causes strict bytes =
-    in-steps (file_at strict bytes) _ (IsOf (file_at strict bytes)) (λ file. BreaksPages strict file.0 file.1) (own-error (file_at strict bytes)) (λ file file_is.
+    in-steps (file_at strict bytes) _ (λ e. Unit {0}) (λ file. BreaksPages strict file.0 file.1) (any-cause (file_at strict bytes)) (λ file file_is.
     let P : DecodeError → Type 0 = BreaksPages strict file.0 file.1 in
     let wrong : Bool = miscounts file.0.number_of_pages (length (by_pages file.1)) in
     cause-next P (associated strict file.1) _ (associated-cause P strict file.1 (λ is some. (is, some))) (λ known known_is.
@@ -198,19 +114,18 @@ file_causes strict bytes =
     (parts.0, count.0, count.1, count.2))) (λ counted counted_is.
     cause-next P (filed_each strict (by_pages file.1)) _ (each-cause P strict (by_pages file.1) (λ is some. (is, some)) (page-begins strict file.0 file.1)) (λ pages pages_is. tt))))
 
+pub file_cause : {X : Type 0} (strict : Bool) (bytes : List ℕ) (r : Result X DecodeError) → IfErr r (λ e. (e ≡ errors.OutOfMemory) ⊎ (book_at strict bytes ≡ Err e)) → HasCauseOrNoMemory r (BreaksBook strict bytes)
+file_cause strict bytes r = call-cause-or-memory (BreaksBook strict bytes) (book_at strict bytes) r (file_causes strict bytes)
+
 -- ---- the first page
 no-page : {X Y : Type 0} (f : X → Y) (xs : List X) → option_map f (slice_get xs 0) ≡ None → xs ≡ []
 no-page f [] is = refl
 no-page f (x ∷ xs) is = absurd (cc)
 
-abbrev LacksPages : ReadFile → DecodeError → Type 0
-LacksPages book e = (e ≡ errors.Format formats.MissingPageInfo) × (book.pages ≡ [])
-
-some-page : (book : ReadFile) (o : Option ReadPage) → (o ≡ None → book.pages ≡ []) → IfErr (some_or (errors.Format formats.MissingPageInfo) o) (LacksPages book)
+some-page : (book : ReadFile) (o : Option ReadPage) → (o ≡ None → book.pages ≡ []) → IfErr (some_or (errors.Format formats.MissingPageInfo) o) (BreaksFirstPage book)
 some-page book (Some page) none = tt
-some-page book None none = (refl, none refl)
+some-page book None none = none refl
 
-pub first_page_causes : FirstPagesHaveCauses
-unfolding first_page HaveCauses
-first_page_causes bytes =
-    in-steps (book_at false bytes) _ (BreaksBook false bytes) (λ book. LacksPages book) (file_causes false bytes) (λ book book_is. some-page book (page_of book 0) (no-page (page_in book) book.pages))
+pub first_page_cause : {X : Type 0} (book : ReadFile) (r : Result X DecodeError) → IfErr r (λ e. some_or (errors.Format formats.MissingPageInfo) (page_of book 0) ≡ Err e) → HasCause r (BreaksFirstPage book)
+first_page_cause book r =
+    call-cause (BreaksFirstPage book) (some_or (errors.Format formats.MissingPageInfo) (page_of book 0)) r (some-page book (page_of book 0) (no-page (page_in book) book.pages))

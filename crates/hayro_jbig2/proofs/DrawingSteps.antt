@@ -33,7 +33,7 @@ step-kept strict R by d (Err e) = tt
 pub segment-step : (strict : Bool) (R : Drawing → Drawing → Type 0) → StepsBy strict R → (globals : Names) (p : SegmentView) (d : Drawing) → IfOk (segment_on strict globals p d) (R d)
 unfolding immediate intermediate
 segment-step strict R by globals p d =
-    of-segment (λ r breaks. IfOk r (R d)) strict globals p d
+    of-segment (λ r. IfOk r (R d)) strict globals p d
     (record {
       nothing = λ q. step-kept strict R by d (kept_by strict globals q d.names);
       kept = λ kind q. step-stored strict R by q.header.segment_number d (region_at strict globals kind true q d);

@@ -21,7 +21,6 @@ pub mod Order
 pub mod PackedBits
 mod PackedRows
 mod PageArea
-pub mod PageCauses
 mod PutLemmas
 mod RegionSizes
 mod RowValues

@@ -1,34 +1,32 @@
--- Which rule is broken where a segment of a page or of globals is refused.
+-- Which rule is broken where what a segment refers to is refused, an extension or a refinement.
 use Rattle.std.proofs.Common.{◌≡◌, inl, inr, ℕ, ◌+◌, ◌<◌, Bool, true, false, ◌&&◌, nat_le, nat_lt, is_none, List, [], ◌∷◌, ◌++◌, length, length-append, take, Option, Some, None, Result, Ok, Err, refl, sym, ap, subst, ◌∙◌, arith}
 use Rattle.std.proofs.lemmas.Bool.{and_parts, leb-true, ltb-true}
-use Rattle.std.specs.Prelude.{◌⊎◌, ◌≢◌, Any, IfErr, IfOk, IsTrue, MatchOption, option_and_then, slice_get, unwrap_or}
+use Rattle.std.specs.Prelude.{◌⊎◌, ◌≢◌, Any, IfErr, IfOk, IsTrue, option_and_then, slice_get, unwrap_or}
 use Rattle.std.specs.List.{flat_map}
 use Rattle.std.specs.Option.{option_map_or}
 use Rattle.std.specs.Int.{w32, from_be_bytes}
 use Rattle.jbig2_base.specs.Answer.{◌>>=◌, refuse_if, some_or}
 use Rattle.jbig2_base.specs.Fields.{number_at}
-use Rattle.jbig2_base.specs.Causes.{IsOf, HaveCauses}
+use Rattle.jbig2_base.specs.Causes.{HasCause, HasCauseOrNoMemory}
 use Rattle.jbig2_base.specs.Grid.{Grid}
 use Rattle.jbig2_base.specs.declared.error.DecodeError.{DecodeError}
-use Rattle.jbig2_base.specs.declared.error.DecodeError.TheVariants.{Overflow, Segment, Unsupported}
+use Rattle.jbig2_base.specs.declared.error.DecodeError.TheVariants.{OutOfMemory, Overflow, Segment, Unsupported}
 use Rattle.jbig2_base.specs.declared.error.OverflowError.TheVariants.{SymbolCount}
 use Rattle.jbig2_base.specs.declared.error.SegmentError.TheVariants.{InvalidReference, MissingPatternDictionary}
+use Rattle.jbig2_base.proofs.CauseSteps.{call-cause, call-cause-or-memory}
 use Rattle.jbig2_base.proofs.Causes.{cause-next, cause-number, cause-refused, number-there}
 use Rattle.jbig2_coder.specs.PrefixCode.{Member}
-use Rattle.jbig2_halftone.specs.Halftone.{halftone_decoded}
-use Rattle.jbig2_halftone.specs.HalftoneHeader.{halftone_header_at}
 use Rattle.jbig2_halftone.specs.Patterns.{Patterns}
 use Rattle.jbig2_region.specs.RegionInfo.{PlacedRegion}
-use Rattle.jbig2_region.specs.Refinement.{refined_decoded}
-use Rattle.jbig2_region.specs.RefinementHeader.{refinement_header_at}
-use Rattle.jbig2_symbol.specs.SymbolHeader.{symbol_header_at}
-use Rattle.jbig2_symbol.specs.Symbols.{Symbols, symbols_decoded}
-use Rattle.jbig2_text.specs.TextHeader.{text_header_at}
-use Rattle.jbig2_text.specs.TextRegion.{text_decoded}
-use Rattle.jbig2_symbol.proofs.ReadingCauses.{cause-by, in-steps, own-error}
-use Rattle.hayro_jbig2.specs.Causes.{BreaksExtension, BreaksReferred, BreaksRefinement, BreaksHalftoneSegment, BreaksSymbolDictionary, BreaksText}
-use Rattle.hayro_jbig2.specs.Names.{Names, Referred, first_named, named, referred_by, symbol_dictionary_at, with_dictionary, with_number, with_numbers, with_table, extension}
-use Rattle.hayro_jbig2.specs.Regions.{halftone_at, page_area, patterns_for, referred_region, refinement_at, text_at}
+use Rattle.jbig2_region.specs.Refinement.{offset, refined_answer, refined_decoded}
+use Rattle.jbig2_region.specs.RefinementHeader.{RefinementHeader, refinement_header_at}
+use Rattle.jbig2_region.specs.Causes.{BreaksOffset, BreaksRefinementHeader}
+use Rattle.jbig2_region.proofs.HeaderCauses.{offset_causes, refinement_header_causes}
+use Rattle.jbig2_region.proofs.Told.{cause-more}
+use Rattle.jbig2_symbol.specs.Symbols.{Symbols}
+use Rattle.hayro_jbig2.specs.Causes.{BreaksExtension, BreaksPatternReference, BreaksReferred, BreaksRefinement}
+use Rattle.hayro_jbig2.specs.Names.{Names, Referred, first_named, named, referred_by, with_dictionary, with_number, with_numbers, with_table, extension}
+use Rattle.hayro_jbig2.specs.Regions.{page_area, patterns_for, referred_region, refinement_at}
 use Rattle.hayro_jbig2.specs.declared.kept.Kept.{Kept}
 use Rattle.hayro_jbig2.proofs.Causes.{at-first, at-later}
 
@@ -96,21 +94,14 @@ numbers-cause P strict own shared (number ∷ numbers) r many none =
     let size = ok-holds (λ (x : Referred). length x.symbols ≡ length r.symbols + symbols_in s) (with_either strict s code r) more (grown strict s code r) more_is in
     numbers-cause P strict own shared numbers more (λ over. many (omega (arith, over, size, together))) (λ is some. none is (at-later (NamesNothing own shared) number numbers some)))
 
-pub referred_causes : (strict : Bool) (own shared : Names) → HaveCauses (referred_by strict own shared) (BreaksReferred strict own shared)
-unfolding HaveCauses
-referred_causes strict own shared numbers =
-    numbers-cause (BreaksReferred strict own shared numbers) strict own shared numbers (record { symbols = []; codes = []; kept = None }) (λ over. omega (arith, over)) (λ is some. (is, some))
+pub referred_cause : {X : Type 0} (strict : Bool) (own shared : Names) (numbers : List ℕ) (r : Result X DecodeError) → IfErr r (λ e. (e ≡ OutOfMemory) ⊎ (referred_by strict own shared numbers ≡ Err e))
+    → HasCauseOrNoMemory r (BreaksReferred strict own shared numbers)
+referred_cause strict own shared numbers r =
+    let P : DecodeError → Type 0 = BreaksReferred strict own shared numbers in
+    call-cause-or-memory P (referred_by strict own shared numbers) r (numbers-cause P strict own shared numbers (record { symbols = []; codes = []; kept = None }) (λ over. omega (arith, over)) (λ is some. (is, some)))
 
--- ---- dictionaries and extensions
-pub symbol_dictionary_causes : (strict : Bool) (own shared : Names) → HaveCauses (symbol_dictionary_at strict own shared) (BreaksSymbolDictionary strict own shared)
-unfolding HaveCauses symbol_dictionary_at
-symbol_dictionary_causes strict own shared p =
-    let numbers = p.header.referred_to_segments in
-    let behind : Referred → Result Symbols DecodeError = λ referred. symbol_header_at strict p.bytes >>= λ header. symbols_decoded header.0 referred.symbols referred.codes referred.kept in
-    in-steps (referred_by strict own shared numbers) behind (BreaksReferred strict own shared numbers) (λ referred. IsOf (behind referred)) (referred_causes strict own shared numbers) (λ referred referred_is. own-error (behind referred))
-
-pub extension_causes : (strict : Bool) → HaveCauses (extension strict) (BreaksExtension strict)
-unfolding HaveCauses
+-- ---- extensions
+extension_causes : (strict : Bool) (bytes : List ℕ) → IfErr (extension strict bytes) (BreaksExtension strict bytes)
 extension_causes true bytes =
     let P : DecodeError → Type 0 = BreaksExtension true bytes in
     cause-next P (number_at w32 bytes) _ (cause-number P w32 bytes (λ short. (refl, short))) (λ kind kind_is.
@@ -119,24 +110,20 @@ extension_causes true bytes =
     cause-refused P (nat_le 2147483648 kind.0) Unsupported (λ high. (refl, there.0, omega (arith, value, leb-true 2147483648 kind.0 high))))
 extension_causes false bytes = tt
 
--- ---- regions
-pub text_causes : (strict : Bool) (own shared : Names) → HaveCauses (text_at strict own shared) (BreaksText strict own shared)
-unfolding HaveCauses text_at
-text_causes strict own shared p =
-    let numbers = p.header.referred_to_segments in
-    let behind : Referred → Result PlacedRegion DecodeError = λ referred. text_header_at (length referred.symbols) strict p.bytes >>= λ header. text_decoded header.0 referred.symbols referred.codes in
-    in-steps (referred_by strict own shared numbers) behind (BreaksReferred strict own shared numbers) (λ referred. IsOf (behind referred)) (referred_causes strict own shared numbers) (λ referred referred_is. own-error (behind referred))
+pub extension_cause : {X : Type 0} (strict : Bool) (bytes : List ℕ) (r : Result X DecodeError) → IfErr r (λ e. extension strict bytes ≡ Err e) → HasCause r (BreaksExtension strict bytes)
+extension_cause strict bytes r = call-cause (BreaksExtension strict bytes) (extension strict bytes) r (extension_causes strict bytes)
 
-halftone-cause : (o : Option Patterns) (behind : Patterns → Result PlacedRegion DecodeError)
-    → IfErr (some_or (Segment MissingPatternDictionary) o >>= behind) (λ e. MatchOption o (e ≡ Segment MissingPatternDictionary) (λ patterns. IsOf (behind patterns) e))
-halftone-cause (Some patterns) behind = own-error (behind patterns)
-halftone-cause None behind = refl
+-- ---- patterns
+no-patterns : (own shared : Names) (numbers : List ℕ) (o : Option Patterns) → patterns_for own shared numbers ≡ o → IfErr (some_or (Segment MissingPatternDictionary) o) (BreaksPatternReference own shared numbers)
+no-patterns own shared numbers (Some patterns) is = tt
+no-patterns own shared numbers None is = is
 
-pub halftone_causes : (strict : Bool) (own shared : Names) → HaveCauses (halftone_at strict own shared) (BreaksHalftoneSegment strict own shared)
-unfolding HaveCauses halftone_at
-halftone_causes strict own shared p =
-    halftone-cause (patterns_for own shared p.header.referred_to_segments) (λ patterns. halftone_header_at strict p.bytes >>= λ header. halftone_decoded header.0 patterns)
+pub patterns_cause : {X : Type 0} (own shared : Names) (numbers : List ℕ) (r : Result X DecodeError) → IfErr r (λ e. some_or (Segment MissingPatternDictionary) (patterns_for own shared numbers) ≡ Err e)
+    → HasCause r (BreaksPatternReference own shared numbers)
+patterns_cause own shared numbers r =
+    call-cause (BreaksPatternReference own shared numbers) (some_or (Segment MissingPatternDictionary) (patterns_for own shared numbers)) r (no-patterns own shared numbers (patterns_for own shared numbers) refl)
 
+-- ---- refinements
 is-none : {X : Type 0} (o : Option X) → is_none o ≡ true → o ≡ None
 is-none (Some x) is = absurd (cc)
 is-none None is = refl
@@ -162,12 +149,17 @@ reference-is strict [] regions = refl
 reference-is strict (number ∷ others) regions =
     ok-last (λ (r : Option PlacedRegion). r ≡ first_named number regions) (refuse_if (strict && is_none (first_named number regions)) _) _ (λ known. refl)
 
-pub refinement_causes : (strict is_intermediate : Bool) (page : Grid) (regions : List (Kept PlacedRegion)) → HaveCauses (refinement_at strict is_intermediate page regions) (BreaksRefinement strict is_intermediate page regions)
-unfolding HaveCauses refinement_at
+-- the offset of a reference is all that a refinement's data is refused for
+refined-cause : (P : DecodeError → Type 0) (h : RefinementHeader) (from : PlacedRegion) → ((e : DecodeError) → BreaksOffset from h.region_info e → P e) → IfErr (refined_decoded h from) P
+refined-cause P h from why =
+    cause-next P (refined_answer h from) _
+    (cause-next P (offset from h.region_info) _ (cause-more (BreaksOffset from h.region_info) P (offset from h.region_info) (offset_causes from h.region_info) why) (λ d is. tt)) (λ g is. tt)
+
+refinement_causes : (strict is_intermediate : Bool) (page : Grid) (regions : List (Kept PlacedRegion)) (p : SegmentView) → IfErr (refinement_at strict is_intermediate page regions p) (BreaksRefinement strict is_intermediate page regions p)
+unfolding refinement_at
 refinement_causes strict is_intermediate page regions p =
     let P : DecodeError → Type 0 = BreaksRefinement strict is_intermediate page regions p in
     let numbers = p.header.referred_to_segments in
-    let behind : Option PlacedRegion → Result PlacedRegion DecodeError = λ r. refinement_header_at p.bytes >>= λ header. refined_decoded header.0 (unwrap_or r (page_area page header.0.region_info)) in
     cause-next P (referred_region strict numbers regions) _ (reference-cause P strict is_intermediate numbers regions (λ is lacks. inl (refl, is, lacks.0, lacks.1))) (λ referred referred_is.
     let same : referred ≡ first_region numbers regions = ok-holds (λ (r : Option PlacedRegion). r ≡ first_region numbers regions) (referred_region strict numbers regions) referred (reference-is strict numbers regions) referred_is in
     let lone : Bool = strict && is_intermediate && is_none referred in
@@ -175,5 +167,12 @@ refinement_causes strict is_intermediate page regions p =
     let parts = and_parts (strict && is_intermediate) (is_none referred) both in
     let rest = and_parts strict is_intermediate parts.0 in
     inl (refl, rest.0, sym same ∙ is-none referred parts.1, inl rest.1))) (λ known known_is.
-    cause-by (behind referred) (IsOf (behind referred)) P (own-error (behind referred)) (λ e is own.
-    inr (ap (λ (r : Option PlacedRegion). behind r) (sym same) ∙ own))))
+    cause-next P (refinement_header_at p.bytes) _ (cause-more (BreaksRefinementHeader p.bytes) P (refinement_header_at p.bytes) (refinement_header_causes p.bytes) (λ e broken. inr (inl broken))) (λ header header_is.
+    let info = header.0.region_info in
+    let Q : Option PlacedRegion → DecodeError → Type 0 = λ r e. BreaksOffset (unwrap_or r (page_area page info)) info e in
+    refined-cause P header.0 (unwrap_or referred (page_area page info)) (λ e broken. inr (inr (header, header_is, subst (λ (r : Option PlacedRegion). Q r e) same broken))))))
+
+pub refinement_cause : {X : Type 0} (strict is_intermediate : Bool) (page : Grid) (regions : List (Kept PlacedRegion)) (p : SegmentView) (r : Result X DecodeError)
+    → IfErr r (λ e. (e ≡ OutOfMemory) ⊎ (refinement_at strict is_intermediate page regions p ≡ Err e)) → HasCauseOrNoMemory r (BreaksRefinement strict is_intermediate page regions p)
+refinement_cause strict is_intermediate page regions p r =
+    call-cause-or-memory (BreaksRefinement strict is_intermediate page regions p) (refinement_at strict is_intermediate page regions p) r (refinement_causes strict is_intermediate page regions p)

@@ -1,11 +1,9 @@
--- What a segment of a page gives, and what it is refused for, by its type.
+-- What a segment of a page gives, by its type.
 use Rattle.std.proofs.Common.{ℕ, Bool, true, false, List, Result}
-use Rattle.std.specs.Prelude.{IsTrue}
 use Rattle.jbig2_base.specs.Segment.{Header, SegmentView}
 use Rattle.jbig2_base.specs.declared.error.DecodeError.{DecodeError}
 use Rattle.jbig2_base.specs.declared.segment.SegmentType.{SegmentType}
 use Rattle.jbig2_base.specs.declared.segment.SegmentType.TheVariants as types
-use Rattle.hayro_jbig2.specs.Causes.{BreaksKept, BreaksRegion, BreaksSegmentOn}
 use Rattle.hayro_jbig2.specs.Names.{Names, kept_by}
 use Rattle.hayro_jbig2.specs.Page.{Drawing, immediate, intermediate, keeping, segment_on}
 use Rattle.hayro_jbig2.specs.declared.region.RegionKind.{RegionKind}
@@ -15,17 +13,13 @@ use Rattle.hayro_jbig2.specs.declared.region.RegionKind.TheVariants as kinds
 abbrev pub of_type : SegmentType → Header → List ℕ → SegmentView
 of_type kind h bytes = record { header = record h { segment_type = kind }; bytes = bytes }
 
--- an immediate region is refused in strict mode alone
-abbrev pub BreaksImmediate : Bool → Names → RegionKind → SegmentView → Drawing → DecodeError → Type 0
-BreaksImmediate strict globals kind p d e = IsTrue strict × BreaksRegion strict globals kind false p d e
+-- P of what is drawn or kept, whatever the segment is
+pub record OfEach (P : Result Drawing DecodeError → Type 0) (strict : Bool) (globals : Names) (d : Drawing) : Type 0 where
+  pub kept : (kind : RegionKind) (p : SegmentView) → P (intermediate strict globals kind p d)
+  pub shown : (kind : RegionKind) (p : SegmentView) → P (immediate strict globals kind p d)
+  pub nothing : (p : SegmentView) → P (keeping d (kept_by strict globals p d.names))
 
--- P of what is drawn or kept, and of what it is refused for, whatever the segment is
-pub record OfEach (P : Result Drawing DecodeError → (DecodeError → Type 0) → Type 0) (strict : Bool) (globals : Names) (d : Drawing) : Type 0 where
-  pub kept : (kind : RegionKind) (p : SegmentView) → P (intermediate strict globals kind p d) (BreaksRegion strict globals kind true p d)
-  pub shown : (kind : RegionKind) (p : SegmentView) → P (immediate strict globals kind p d) (BreaksImmediate strict globals kind p d)
-  pub nothing : (p : SegmentView) → P (keeping d (kept_by strict globals p d.names)) (BreaksKept strict d.names globals p)
-
-by-type : (P : Result Drawing DecodeError → (DecodeError → Type 0) → Type 0) (strict : Bool) (globals : Names) (kind : SegmentType) (h : Header) (bytes : List ℕ) (d : Drawing) → OfEach P strict globals d → P (segment_on strict globals (of_type kind h bytes) d) (BreaksSegmentOn strict globals (of_type kind h bytes) d)
+by-type : (P : Result Drawing DecodeError → Type 0) (strict : Bool) (globals : Names) (kind : SegmentType) (h : Header) (bytes : List ℕ) (d : Drawing) → OfEach P strict globals d → P (segment_on strict globals (of_type kind h bytes) d)
 by-type P strict globals types.IntermediateTextRegion h bytes d of = of.kept kinds.Text (of_type types.IntermediateTextRegion h bytes)
 by-type P strict globals types.ImmediateTextRegion h bytes d of = of.shown kinds.Text (of_type types.ImmediateTextRegion h bytes)
 by-type P strict globals types.ImmediateLosslessTextRegion h bytes d of = of.shown kinds.Text (of_type types.ImmediateLosslessTextRegion h bytes)
@@ -41,5 +35,5 @@ by-type P strict globals types.ImmediateLosslessGenericRefinementRegion h bytes 
 by-type P strict globals kind h bytes d of = of.nothing (of_type kind h bytes)
 
 -- so of every segment
-pub of-segment : (P : Result Drawing DecodeError → (DecodeError → Type 0) → Type 0) (strict : Bool) (globals : Names) (p : SegmentView) (d : Drawing) → OfEach P strict globals d → P (segment_on strict globals p d) (BreaksSegmentOn strict globals p d)
+pub of-segment : (P : Result Drawing DecodeError → Type 0) (strict : Bool) (globals : Names) (p : SegmentView) (d : Drawing) → OfEach P strict globals d → P (segment_on strict globals p d)
 of-segment P strict globals p d of = by-type P strict globals p.header.segment_type p.header p.bytes d of

@@ -1,35 +1,28 @@
--- Which rule is broken where a file, a page or one of its segments is refused (docs/FORMAT.md, 1, 4 and 8), a line for
--- each error. Errors of steps that lower crates define stand here as the step's own (`IsOf`): the laws there say more.
-use Rattle.std.specs.{Prelude.{◌≡◌, ◌≢◌, ◌⊎◌, ◌<◌, ◌≤◌, ℕ, suc, Bool, true, false, IsTrue, IsFalse, List, [], length, take, slice_get, Any, Option, Some, None, MatchOption, option_and_then, unwrap_or, Result, Ok, IfErr, IfOk}, List.{AllByRecursion, flat_map}, Int.{w32}, Option.{option_map_or}}
-use Rattle.jbig2_base.specs.{Answer.{◌>>=◌}, Causes.{InSteps, IsOf, number_in}, File.{file_at}, Grid.{Grid}, PageInfo.{initial_page_of, is_page_information}, Segment.{SegmentView}, Sequential.{sorted_segments}, declared.{error.{DecodeError.{DecodeError, TheVariants.{OutOfMemory, Parse, Format, Huffman, Segment, Overflow, Template, Unsupported}}, FormatError.TheVariants.{MissingPageInfo, PageCountMismatch, InvalidEndOfPage}, HuffmanError.TheVariants.{ConflictingCodes}, OverflowError.TheVariants.{Index, SymbolCount}, ParseError.TheVariants.{UnexpectedEof}, SegmentError.TheVariants.{InvalidReference, MissingPatternDictionary, MissingPageAssociation}, TemplateError.TheVariants.{Invalid}}, file_header.FileHeader.{FileHeader}, segment.SegmentType.{SegmentType}}}
-use Rattle.jbig2_region.specs.{RegionInfo.{PlacedRegion}, Refinement.{refined_decoded}, RefinementHeader.{refinement_header_at}}
-use Rattle.jbig2_halftone.specs.{Halftone.{halftone_decoded}, HalftoneHeader.{halftone_header_at}}
-use Rattle.jbig2_text.specs.{TextHeader.{text_header_at}, TextRegion.{text_decoded}}
-use Rattle.jbig2_symbol.specs.{SymbolHeader.{symbol_header_at}, Symbols.{symbols_decoded}}
-use Rattle.hayro_jbig2.specs.{Files.{book_at, by_pages, ends_of, needs_page}, Names.{globals_at, named_from, Names, Referred, code_at, first_named, named, no_names, pattern_dictionary_at, referred_by}, Image.{first_page}, Page.{Drawing, ReadPage, drawing_of_page, embedded, ends_page, grid_of_page, page_begun, region_type, segments_drawn}, Regions.{generic_at, page_area, patterns_for}, declared.{kept.Kept.{Kept}, region.RegionKind.{RegionKind}}}
-use Rattle.jbig2_base.specs.declared.segment.SegmentType.TheVariants as types
-use Rattle.hayro_jbig2.specs.declared.region.RegionKind.TheVariants as kinds
+-- Which rule is broken where a file or a reference of a segment is refused (docs/FORMAT.md, 1, 4 and 8), a line for each
+-- error. The function that refuses cites its predicate `Breaks..`.
+use Rattle.std.specs.{Prelude.{◌≡◌, ◌≢◌, ◌⊎◌, ◌<◌, ◌≤◌, ℕ, Bool, IsTrue, List, [], length, slice_get, Any, None, Some, option_and_then, unwrap_or, Result, IfErr, IfOk}, List.{flat_map}, Int.{w32}, Option.{option_map_or}}
+use Rattle.jbig2_base.specs.{Causes.{BreaksInitialPage, InSteps, number_in}, File.{file_at}, Grid.{Grid}, Segment.{SegmentView}, declared.{error.{DecodeError.{DecodeError, TheVariants.{OutOfMemory, Parse, Format, Huffman, Segment, Overflow, Template, Unsupported}}, FormatError.TheVariants.{MissingPageInfo, PageCountMismatch, InvalidEndOfPage}, HuffmanError.TheVariants.{ConflictingCodes}, OverflowError.TheVariants.{Index, SymbolCount}, ParseError.TheVariants.{UnexpectedEof}, SegmentError.TheVariants.{InvalidReference, MissingPatternDictionary, MissingPageAssociation}, TemplateError.TheVariants.{Invalid}}, file_header.FileHeader.{FileHeader}}}
+use Rattle.jbig2_region.specs.{Causes.{BreaksOffset, BreaksRefinementHeader}, RegionInfo.{PlacedRegion}, RefinementHeader.{refinement_header_at}}
+use Rattle.jbig2_text.specs.Causes.{Behind}
+use Rattle.hayro_jbig2.specs.{Files.{ReadFile, book_at, by_pages, ends_of, needs_page}, Names.{globals_at, Names, first_named, named}, Page.{ReadPage, drawing_of_page, embedded}, Regions.{page_area, patterns_for}, declared.kept.Kept.{Kept}}
 
--- ---- files (7.2.6, 7.4.8, 7.4.9 and D.4.3)
--- What a page begins as: none of its segments is page information, or the first of these breaks a rule.
-abbrev pub BreaksBeginning : List SegmentView → DecodeError → Type 0
-BreaksBeginning own (Format MissingPageInfo) = AllByRecursion (λ p. IsFalse (is_page_information p.header.segment_type)) own
-BreaksBeginning own e = IsOf (initial_page_of own) e
-
--- The pages of a file with this header and these segments. Three of the rules are those of strict reading alone.
+-- ---- files (7.2.6, 7.4.9 and D.4.3)
+-- The pages of a file with this header and these segments. Three of the rules are those of strict reading alone; else it is
+-- what one of the pages begins as.
 abbrev pub BreaksPages : Bool → FileHeader → List SegmentView → DecodeError → Type 0
 BreaksPages strict h ps (Segment MissingPageAssociation) =
     IsTrue strict × Any (λ p. (p.header.page_association ≡ 0) × IsTrue (needs_page p.header.segment_type)) ps
 BreaksPages strict h ps (Format PageCountMismatch) = IsTrue strict × (told : ℕ) × (h.number_of_pages ≡ Some told) × (told ≢ length (by_pages ps))
 BreaksPages strict h ps (Format InvalidEndOfPage) = IsTrue strict × Any (λ own. ends_of own ≢ 1) (by_pages ps)
-BreaksPages strict h ps e = Any (λ own. BreaksBeginning own e) (by_pages ps)
+BreaksPages strict h ps e = Any (λ own. BreaksInitialPage own e) (by_pages ps)
 
+-- A file, where its bytes hold a header and segments; else the calls that read those say why.
 abbrev pub BreaksBook : Bool → List ℕ → DecodeError → Type 0
-BreaksBook strict bytes e = InSteps (file_at strict bytes) (IsOf (file_at strict bytes) e) (λ file. BreaksPages strict file.0 file.1 e)
+BreaksBook strict bytes e = InSteps (file_at strict bytes) (Unit {0}) (λ file. BreaksPages strict file.0 file.1 e)
 
-abbrev pub FirstPagesHaveCauses : Type 0  -- the first page of a file: the file breaks a rule, or has no page
-FirstPagesHaveCauses = (bytes : List ℕ) → IfErr (first_page bytes) (λ e.
-    InSteps (book_at false bytes) (BreaksBook false bytes e) (λ book. (e ≡ Format MissingPageInfo) × (book.pages ≡ [])))
+abbrev pub BreaksFirstPage : ReadFile → DecodeError → Type 0  -- the first page of a file, which has none
+BreaksFirstPage book (Format MissingPageInfo) = book.pages ≡ []
+BreaksFirstPage book _ = ⊥
 
 -- ---- what a segment refers to (7.3.1)
 -- Too many symbols together, or a number of neither a symbol dictionary nor a custom table.
@@ -40,93 +33,28 @@ BreaksReferred strict own shared numbers (Segment InvalidReference) =
     IsTrue strict × Any (λ n. (named n own.symbols shared.symbols ≡ None) × (named n own.codes shared.codes ≡ None)) numbers
 BreaksReferred strict own shared numbers _ = ⊥
 
--- What a segment refers to is refused, or the steps after it refuse.
-abbrev pub BreaksBehind : {X : Type 0} → Bool → Names → Names → SegmentView → (Referred → Result X DecodeError) → DecodeError → Type 0
-BreaksBehind strict own shared p behind e =
-    let numbers = p.header.referred_to_segments in
-    InSteps (referred_by strict own shared numbers) (BreaksReferred strict own shared numbers e) (λ referred. IsOf (behind referred) e)
+-- the patterns of a halftone region: its first number names no pattern dictionary, or it has no number
+abbrev pub BreaksPatternReference : Names → Names → List ℕ → DecodeError → Type 0
+BreaksPatternReference own shared numbers (Segment MissingPatternDictionary) = patterns_for own shared numbers ≡ None
+BreaksPatternReference own shared numbers _ = ⊥
 
--- ---- dictionaries and extensions (7.4.2 and 7.4.14)
-abbrev pub BreaksSymbolDictionary : Bool → Names → Names → SegmentView → DecodeError → Type 0
-BreaksSymbolDictionary strict own shared p = BreaksBehind strict own shared p (λ referred.
-    symbol_header_at strict p.bytes >>= λ header. symbols_decoded header.0 referred.symbols referred.codes referred.kept)
-
--- An extension is refused in strict mode alone: one without a type, or with the highest bit of it set.
-abbrev pub BreaksExtension : Bool → List ℕ → DecodeError → Type 0
-BreaksExtension strict bytes (Parse UnexpectedEof) = IsTrue strict × (length bytes < 4)
-BreaksExtension strict bytes Unsupported = IsTrue strict × (4 ≤ length bytes) × (2147483648 ≤ number_in w32 0 bytes)
-BreaksExtension strict bytes _ = ⊥
-
--- ---- regions (7.4.3 and 7.4.5 to 7.4.7)
-abbrev pub BreaksText : Bool → Names → Names → SegmentView → DecodeError → Type 0
-BreaksText strict own shared p = BreaksBehind strict own shared p (λ referred.
-    text_header_at (length referred.symbols) strict p.bytes >>= λ header. text_decoded header.0 referred.symbols referred.codes)
-
--- A halftone region refers to nothing, or its first number names no pattern dictionary; or its own steps refuse it.
-abbrev pub BreaksHalftoneSegment : Bool → Names → Names → SegmentView → DecodeError → Type 0
-BreaksHalftoneSegment strict own shared p e =
-    MatchOption (patterns_for own shared p.header.referred_to_segments) (e ≡ Segment MissingPatternDictionary)
-    (λ patterns. IsOf (halftone_header_at strict p.bytes >>= λ header. halftone_decoded header.0 patterns) e)
-
--- A refinement's first number names no region that is kept, or an intermediate one refers to nothing; or its own steps
--- refuse it, which take the region that is named or else the page's area.
+-- A refinement's first number names no region that is kept, or an intermediate one refers to nothing; or its header breaks
+-- a rule, or its place to the region that is named or else the page's area.
 abbrev pub BreaksRefinement : Bool → Bool → Grid → List (Kept PlacedRegion) → SegmentView → DecodeError → Type 0
 BreaksRefinement strict is_intermediate page regions p e =
     let numbers = p.header.referred_to_segments in
     let reference = option_and_then (λ number. first_named number regions) (slice_get numbers 0) in
     ((e ≡ Segment InvalidReference) × IsTrue strict × (reference ≡ None) × (IsTrue is_intermediate ⊎ (numbers ≢ [])))
-    ⊎ IsOf (refinement_header_at p.bytes >>= λ header. refined_decoded header.0 (unwrap_or reference (page_area page header.0.region_info))) e
+    ⊎ BreaksRefinementHeader p.bytes e
+    ⊎ Behind (refinement_header_at p.bytes) (λ header.
+    BreaksOffset (unwrap_or reference (page_area page header.0.region_info)) header.0.region_info e)
 
--- ---- segments of globals and of pages
--- A segment that draws nothing, with the names of those before it; the types that are left out are never refused.
-abbrev pub BreaksKept : Bool → Names → Names → SegmentView → DecodeError → Type 0
-BreaksKept strict own shared p e = on p.header.segment_type
-  where
-    on : SegmentType → Type 0
-    on types.SymbolDictionary = BreaksSymbolDictionary strict own shared p e
-    on types.PatternDictionary = IsOf (pattern_dictionary_at strict p.bytes) e
-    on types.Tables = IsOf (code_at p.bytes) e
-    on types.Extension = BreaksExtension strict p.bytes e
-    on _ = ⊥
-
--- the segment at place k breaks a rule, and those before it gave these names
-abbrev pub BreaksNames : Bool → List SegmentView → Names → DecodeError → Type 0
-BreaksNames strict ps names e =
-    (k : ℕ) × (p : SegmentView) × (before : Names)
-    × (slice_get ps k ≡ Some p) × (named_from strict (take k ps) names ≡ Ok before) × BreaksKept strict before no_names p e
-
-abbrev pub GlobalsHaveCauses : Type 0
-GlobalsHaveCauses = (strict : Bool) (bytes : List ℕ) → IfErr (globals_at strict bytes) (λ e. InSteps (sorted_segments strict bytes) (IsOf (sorted_segments strict bytes) e) (λ ps. BreaksNames strict ps no_names e))
-
-abbrev pub BreaksRegion : Bool → Names → RegionKind → Bool → SegmentView → Drawing → DecodeError → Type 0
-BreaksRegion strict globals kinds.Text is_intermediate p d e = BreaksText strict d.names globals p e
-BreaksRegion strict globals kinds.Halftone is_intermediate p d e = BreaksHalftoneSegment strict d.names globals p e
-BreaksRegion strict globals kinds.Generic is_intermediate p d e = IsOf (generic_at strict is_intermediate p) e
-BreaksRegion strict globals kinds.GenericRefinement is_intermediate p d e = BreaksRefinement strict is_intermediate d.grid d.regions p e
-
--- One segment of a page on what those before it drew and kept. An immediate region is refused in strict mode alone.
-abbrev pub BreaksSegmentOn : Bool → Names → SegmentView → Drawing → DecodeError → Type 0
-BreaksSegmentOn strict globals p d e = on (region_type p.header.segment_type)
-  where
-    on : Option (RegionKind × Bool) → Type 0
-    on (Some (kind, true)) = BreaksRegion strict globals kind true p d e
-    on (Some (kind, false)) = IsTrue strict × BreaksRegion strict globals kind false p d e
-    on None = BreaksKept strict d.names globals p e
-
--- The segment at place k breaks a rule, those before it drew this, and neither it nor one of those ends the page.
-abbrev pub BreaksDrawing : Bool → Names → List SegmentView → Drawing → DecodeError → Type 0
-BreaksDrawing strict globals ps d e =
-    (k : ℕ) × (p : SegmentView) × (before : Drawing)
-    × (slice_get ps k ≡ Some p)
-    × AllByRecursion (λ q. IsFalse (ends_page q.header.segment_type)) (take (suc k) ps)
-    × (segments_drawn strict globals (take k ps) d ≡ Ok before)
-    × BreaksSegmentOn strict globals p before e
-
-abbrev pub PagesHaveCauses : Type 0  -- a page: its globals were refused, or else one of its own segments is
-PagesHaveCauses = (page : ReadPage) → IfErr (grid_of_page page) (λ e. InSteps page.globals (IsOf page.globals e) (λ globals. BreaksDrawing page.strict globals page.segments (page_begun page.initial_page) e))
-
-abbrev pub EmbeddedPagesHaveCauses : Type 0  -- an embedded page: its segments, or what they begin
-EmbeddedPagesHaveCauses = (strict : Bool) (globals : Names) (bytes : List ℕ) → IfErr (embedded strict globals bytes) (λ e. InSteps (sorted_segments strict bytes) (IsOf (sorted_segments strict bytes) e) (λ ps. BreaksBeginning ps e))
+-- ---- extensions (7.4.14)
+-- An extension is refused in strict mode alone: one without a type, or with the highest bit of it set.
+abbrev pub BreaksExtension : Bool → List ℕ → DecodeError → Type 0
+BreaksExtension strict bytes (Parse UnexpectedEof) = IsTrue strict × (length bytes < 4)
+BreaksExtension strict bytes Unsupported = IsTrue strict × (4 ≤ length bytes) × (2147483648 ≤ number_in w32 0 bytes)
+BreaksExtension strict bytes _ = ⊥
 
 -- ---- what no bytes bring about
 -- Want of memory, and three errors that stand in the enums for their matchers alone.

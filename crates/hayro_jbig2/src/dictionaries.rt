@@ -5,8 +5,8 @@ ghost use Rattle.jbig2_base.specs.Answer.{Answers, Gives};
 ghost use Rattle.jbig2_base.specs.inner.SegmentViews.{segment_view};
 ghost use Rattle.hayro_jbig2.specs.Names.{symbol_dictionary_at, with_symbols, pattern_dictionary_at, with_patterns, with_code, extension, Names, referred_by};
 ghost use Rattle.hayro_jbig2.specs.inner.KeptViews.{patterns_view, symbols_view};
-ghost use Rattle.hayro_jbig2.specs.Causes.{BreaksExtension, BreaksReferred, BreaksSymbolDictionary};
-ghost use Rattle.jbig2_base.specs.Causes.{HaveCauses};
+ghost use Rattle.hayro_jbig2.specs.Causes.{BreaksExtension};
+ghost use Rattle.jbig2_base.specs.Causes.{HasCause};
 
 use crate::names::{KeptNames, Lookup};
 use crate::referred::gather_referred;
@@ -26,7 +26,7 @@ use std::sync::ledger::Ledger;
 const NEW_SYMBOL: u64 = 16;
 
 /// A symbol dictionary (T.88, 7.4.2), after what it refers to.
-#[tactic(auto, using(crate::proofs::SegmentCauses::symbol_dictionary_causes, crate::proofs::SegmentCauses::referred_causes), unfolding(crate::specs::Names::symbol_dictionary_at))]
+#[tactic(auto, unfolding(crate::specs::Names::symbol_dictionary_at))]
 fn decode_symbols<A: Allocator + Clone, L: Ledger>(
     lookup: &Lookup<'_, A>,
     segment: &Segment<'_, A>,
@@ -36,11 +36,6 @@ fn decode_symbols<A: Allocator + Clone, L: Ledger>(
     ensures value { Gives (λ d. symbols_view d) result
         (symbol_dictionary_at lookup.now.strict lookup.now.own.now lookup.now.globals.now
         (segment_view segment.now)) }
-    ensures causes { (strict : Bool) (own shared : Names)
-        → HaveCauses (symbol_dictionary_at strict own shared)
-        (BreaksSymbolDictionary strict own shared) }
-    ensures references { (strict : Bool) (own shared : Names)
-        → HaveCauses (referred_by strict own shared) (BreaksReferred strict own shared) }
 {
     let numbers = &segment.header.referred_to_segments;
     let referred = gather_referred(workspace.alloc.clone()?, lookup, numbers)?;
@@ -144,10 +139,10 @@ pub(crate) fn keep_table<A: Allocator + Clone>(
 }
 
 /// An extension segment (T.88, 7.4.14): strict reading refuses one that a decoder has to know.
-#[tactic(auto, using(crate::proofs::SegmentCauses::extension_causes))]
+#[tactic(auto, using(crate::proofs::SegmentCauses::extension_cause))]
 pub(crate) fn extension(strict: bool, bytes: &[u8]) -> Result<()>
     ensures value { Answers (λ known. known) result (extension strict bytes.now) }
-    ensures causes { (strict : Bool) → HaveCauses (extension strict) (BreaksExtension strict) }
+    ensures causes { HasCause result (BreaksExtension strict bytes.now) }
 {
     if !strict {
         return Ok(());

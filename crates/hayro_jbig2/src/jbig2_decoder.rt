@@ -1,7 +1,8 @@
 //! The first page of a file that a reader gives.
 ghost use Rattle.std.specs.Prelude.{◌≡◌, ◌*◌, Ok, IfErr, IfOk, IfSome, OnErr, length};
 ghost use Rattle.jbig2_base.specs.Answer.{Answers, Gives, some_or};
-ghost use Rattle.hayro_jbig2.specs.Causes.{FirstPagesHaveCauses};
+ghost use Rattle.jbig2_base.specs.Causes.{HasCause};
+ghost use Rattle.hayro_jbig2.specs.Causes.{BreaksFirstPage};
 ghost use Rattle.hayro_jbig2.specs.Files.{page_of};
 ghost use Rattle.hayro_jbig2.specs.Page.{IsSide};
 ghost use Rattle.hayro_jbig2.specs.Returned.{IsReturned, IsReturnedOrIo};
@@ -41,9 +42,11 @@ impl<A: Allocator> Model for Jbig2Decoder<A> {
 }
 
 /// The first page of a file.
+#[tactic(auto, using(crate::proofs::Causes::first_page_cause))]
 fn first_page_of<'f, A: Allocator>(file: &'f File<'_, A>) -> jbig2_base::error::Result<Page<'f, A>>
-    ensures { Answers (λ page. page) result (some_or (DecodeError.Format FormatError.MissingPageInfo)
-        (page_of file.now 0)) }
+    ensures value { Answers (λ page. page) result
+        (some_or (DecodeError.Format FormatError.MissingPageInfo) (page_of file.now 0)) }
+    ensures causes { HasCause result (BreaksFirstPage file.now) }
 {
     match file.page(0) {
         Some(page) => Ok(page),
@@ -102,11 +105,9 @@ impl<A: Allocator + Clone> Jbig2Decoder<A> {
     /// Returns `Jbig2Error::Io` for another fault of the reader, of any kind, or where no end comes
     /// within 2^64 - 1 reads, and `Jbig2Error::Decode` for a fault of the file or want of memory.
     /// The reader is dropped.
-    #[tactic(auto, using(crate::proofs::Causes::first_page_causes))]
     pub fn new<R: Read + Drop>(alloc: A, mut reader: R) -> Result<Jbig2Decoder<A>, Jbig2Error>
         ensures opens { IfSome (R.remaining reader) (λ told. Opens told result) }
         ensures lasting { IfErr result IsLasting }
-        ensures causes { FirstPagesHaveCauses }
         ensures errors { IfErr result IsReturnedOrIo }
     {
         let bytes = read_all(alloc.clone()?, &mut reader)?;

@@ -8,7 +8,7 @@ ghost use Rattle.jbig2_base.specs.declared.bitmap.operator.CombinationOperator.{
 ghost use Rattle.hayro_jbig2.specs.Calls.{CallsAreFew, ChunksFit, DrawsGrid, calls_of, Decodes, IsCountable};
 ghost use Rattle.hayro_jbig2.specs.Image.{PackedBitsAreBytes, image_of_page, packed_of_page, packed_size};
 ghost use Rattle.hayro_jbig2.specs.Page.{HasSides, IsSide, ReadPage, segments_drawn, drawing_of_page, embedded, grid_of_page, draws_over, page_begun, PagesKeepTheirSize, StrictPassesNothing, UntouchedIsBlank};
-ghost use Rattle.hayro_jbig2.specs.Causes.{EmbeddedPagesHaveCauses, IsAnswered, PagesHaveCauses};
+ghost use Rattle.hayro_jbig2.specs.Causes.{IsAnswered};
 ghost use Rattle.hayro_jbig2.specs.Returned.{IsReturned};
 ghost use Rattle.hayro_jbig2.specs.inner.PageViews.{given_names, kept_names};
 ghost use Rattle.hayro_jbig2.specs.inner.SegmentLists.{segment_list};
@@ -144,7 +144,7 @@ impl<'a, A: Allocator + Clone> Page<'a, A> {
     /// file header, and `globals` what its segments may refer to besides.
     ///
     /// Refused by the first fault of the segments, or of the page's size.
-    #[tactic(auto, using(crate::proofs::PageCauses::embedded_causes), unfolding(crate::specs::Page::embedded))]
+    #[tactic(auto, unfolding(crate::specs::Page::embedded))]
     pub fn new_embedded(
         alloc: A,
         bytes: &'a [u8],
@@ -153,7 +153,6 @@ impl<'a, A: Allocator + Clone> Page<'a, A> {
     ) -> Result<Page<'a, A>>
         ensures value { Gives (λ page. page) result
             (embedded settings.now.strict (given_names globals.entry) bytes.now) }
-        ensures causes { EmbeddedPagesHaveCauses }
         ensures errors { IfErr result IsReturned }
     {
         let strict = settings.strict;
@@ -301,7 +300,6 @@ impl<'a, A: Allocator + Clone> Page<'a, A> {
             IsTable region → IsTrue (draws_over operator black)
             → combined operator (blank region.width region.height black) region (pos 0) (pos 0) ≡
             region }
-        ensures causes { PagesHaveCauses }
         ensures errors { D.conduct.refusals decoder.new ≡ D.conduct.refusals decoder.old
             → IfErr result IsReturned }
     {

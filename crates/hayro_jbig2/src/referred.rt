@@ -1,6 +1,8 @@
 //! What symbol dictionaries and text regions refer to by numbers (T.88, 7.3.1).
 ghost use Rattle.std.specs.Prelude.{◌≡◌, ◌≤◌, ◌+◌, ◌++◌, length, map, Ok, OnOk, IfErr};
 ghost use Rattle.jbig2_base.specs.Answer.{Gives};
+ghost use Rattle.jbig2_base.specs.Causes.{HasCauseOrNoMemory};
+ghost use Rattle.hayro_jbig2.specs.Causes.{BreaksReferred};
 ghost use Rattle.hayro_jbig2.specs.Names.{with_dictionary, with_table, with_number, with_numbers, referred_by};
 ghost use Rattle.hayro_jbig2.specs.inner.KeptViews.{found, symbols_view};
 
@@ -115,13 +117,16 @@ impl<A: Allocator> ReferredSegments<'_, A> {
 ///
 /// `OverflowError::SymbolCount` for more than 2^20 symbols together. Strict reading refuses a
 /// number that names neither.
+#[tactic(auto, using(crate::proofs::SegmentCauses::referred_cause))]
 pub(crate) fn gather_referred<'a, A: Allocator + Clone>(
     alloc: A,
     lookup: &Lookup<'a, A>,
     numbers: &[u32],
 ) -> Result<ReferredSegments<'a, A>>
-    ensures { Gives (λ referred. referred) result
+    ensures value { Gives (λ referred. referred) result
         (referred_by lookup.now.strict lookup.now.own.now lookup.now.globals.now numbers.now) }
+    ensures causes { HasCauseOrNoMemory result (BreaksReferred lookup.now.strict lookup.now.own.now
+        lookup.now.globals.now numbers.now) }
 {
     let mut referred = ReferredSegments {
         symbols: Vec::new(alloc.clone()?),

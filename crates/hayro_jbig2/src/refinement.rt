@@ -13,7 +13,7 @@ ghost use Rattle.hayro_jbig2.specs.inner.KeptViews.{found, seen};
 ghost use Rattle.hayro_jbig2.specs.inner.PageViews.{near_area};
 ghost use Rattle.hayro_jbig2.specs.inner.Parsed.{IsDecodable, Leads};
 ghost use Rattle.hayro_jbig2.specs.Causes.{BreaksRefinement};
-ghost use Rattle.jbig2_base.specs.Causes.{HaveCauses};
+ghost use Rattle.jbig2_base.specs.Causes.{HasCauseOrNoMemory};
 ghost use Rattle.jbig2_base.specs.Grid.{Grid};
 ghost use Rattle.hayro_jbig2.specs.declared.kept.Kept.{Kept};
 
@@ -119,7 +119,7 @@ fn parse_page_refinement<'a, 'n, 'r, A: Allocator + Clone, L: Ledger>(
 }
 
 /// A refinement, of the region that it refers to or else of the page so far (T.88, 7.4.7).
-#[tactic(auto, using(crate::proofs::SegmentCauses::refinement_causes), unfolding(crate::specs::Regions::refinement_at))]
+#[tactic(auto, using(crate::proofs::SegmentCauses::refinement_cause), unfolding(crate::specs::Regions::refinement_at))]
 pub(crate) fn parse_refinement<'a, 'n, 'r, A: Allocator + Clone, L: Ledger>(
     references: &References<'n, 'r, '_, A>,
     is_intermediate: bool,
@@ -131,9 +131,9 @@ pub(crate) fn parse_refinement<'a, 'n, 'r, A: Allocator + Clone, L: Ledger>(
         (refinement_at references.now.names.strict is_intermediate references.now.page.now
         (seen region_view references.now.regions.now) (segment_view segment.now)) }
     ensures parsed { IfOk result (λ region. IsDecodable region) }
-    ensures causes { (strict is_intermediate : Bool) (page : Grid) (regions : List (Kept PlacedRegion))
-        → HaveCauses (refinement_at strict is_intermediate page regions)
-        (BreaksRefinement strict is_intermediate page regions) }
+    ensures causes { HasCauseOrNoMemory result
+        (BreaksRefinement references.now.names.strict is_intermediate references.now.page.now
+        (seen region_view references.now.regions.now) (segment_view segment.now)) }
 {
     let strict = references.names.strict;
     let numbers = &segment.header.referred_to_segments;

@@ -3,9 +3,7 @@ ghost use Rattle.std.specs.Prelude.{IfOk, Bool};
 ghost use Rattle.jbig2_base.specs.inner.SegmentViews.{segment_view};
 ghost use Rattle.hayro_jbig2.specs.Regions.{text_at};
 ghost use Rattle.hayro_jbig2.specs.inner.Parsed.{IsDecodable, Leads};
-ghost use Rattle.hayro_jbig2.specs.Causes.{BreaksText};
 ghost use Rattle.hayro_jbig2.specs.Names.{Names};
-ghost use Rattle.jbig2_base.specs.Causes.{HaveCauses};
 
 use crate::parsed_region::ParsedRegion;
 use crate::references::References;
@@ -18,7 +16,7 @@ use jbig2_text::text;
 use std::alloc::Allocator;
 
 /// A text region, after what it refers to.
-#[tactic(auto, using(crate::proofs::SegmentCauses::text_causes), unfolding(crate::specs::Regions::text_at, jbig2_text::specs::TextRegion::text_decoded))]
+#[tactic(auto, unfolding(crate::specs::Regions::text_at, jbig2_text::specs::TextRegion::text_decoded))]
 pub(crate) fn parse_text<'a, 'n, 'r, A: Allocator + Clone>(
     references: &References<'n, 'r, '_, A>,
     segment: &Segment<'a, A>,
@@ -29,8 +27,6 @@ pub(crate) fn parse_text<'a, 'n, 'r, A: Allocator + Clone>(
         references.now.names.globals.now
         (segment_view segment.now)) }
     ensures parsed { IfOk result (λ region. IsDecodable region) }
-    ensures causes { (strict : Bool) (own shared : Names)
-        → HaveCauses (text_at strict own shared) (BreaksText strict own shared) }
 {
     let lookup = &references.names;
     let numbers = &segment.header.referred_to_segments;

@@ -1,13 +1,39 @@
 -- The steps of a definition over places of the bytes: what each gives, and why it refuses.
-use Rattle.std.proofs.Common.{◌≡◌, ℕ, ◌+◌, ◌-◌, ◌<◌, ◌≤◌, ltb, Bool, true, false, List, take, drop, length, Result, Ok, Err, refl, sym, subst, arith, length-drop}
-use Rattle.std.specs.Prelude.{IfErr}
+use Rattle.std.proofs.Common.{◌≡◌, ℕ, ◌+◌, ◌-◌, ◌<◌, ◌≤◌, ltb, Bool, true, false, List, take, drop, length, Result, Ok, Err, refl, sym, subst, arith, inl, inr, ⊎_elim, length-drop}
+use Rattle.std.specs.Prelude.{◌⊎◌, IfErr}
 use Rattle.std.specs.Int.{Width, byte_len, from_be_bytes}
 use Rattle.std.proofs.lemmas.Bool.{cond_both, ltb-true, ltb-false}
 use Rattle.std.proofs.lemmas.List.{drop-drop}
-use Rattle.jbig2_base.specs.Answer.{◌>>=◌, refuse_if}
+use Rattle.jbig2_base.specs.Answer.{◌>>=◌, refuse_if, Answers, Gives}
 use Rattle.jbig2_base.specs.Fields.{bytes_at, number_at, end_of_bytes}
-use Rattle.jbig2_base.specs.Causes.{number_in}
+use Rattle.jbig2_base.specs.Causes.{HasCause, HasCauseOrNoMemory, number_in}
 use Rattle.jbig2_base.specs.declared.error.DecodeError.{DecodeError}
+use Rattle.jbig2_base.specs.declared.error.DecodeError.TheVariants.{OutOfMemory}
+
+-- An error of a call that gives its definition's errors has the cause that the definition's has.
+pub call-cause : {X Y : Type 0} (P : DecodeError → Type 0) (meant : Result Y DecodeError) (r : Result X DecodeError) → IfErr meant P → IfErr r (λ e. meant ≡ Err e) → HasCause r P
+unfolding HasCause
+call-cause P meant (Ok x) all is = tt
+call-cause P meant (Err e) all is = subst (λ m. IfErr m P) is all
+
+-- the premise, where the call returns what its definition gives
+pub err-same : {X : Type 0} (r meant : Result X DecodeError) → r ≡ meant → IfErr r (λ e. meant ≡ Err e)
+err-same (Ok x) meant is = tt
+err-same (Err e) meant is = sym is
+
+pub err-answers : {X Y : Type 0} (view : X → Y) (r : Result X DecodeError) (meant : Result Y DecodeError) → Answers view r meant → IfErr r (λ e. meant ≡ Err e)
+err-answers view (Ok x) meant is = tt
+err-answers view (Err e) meant is = is
+
+pub err-gives : {X Y : Type 0} (view : X → Y) (r : Result X DecodeError) (meant : Result Y DecodeError) → Gives view r meant → IfErr r (λ e. (e ≡ OutOfMemory) ⊎ (meant ≡ Err e))
+err-gives view (Ok x) meant is = tt
+err-gives view (Err e) meant is = is
+
+pub call-cause-or-memory : {X Y : Type 0} (P : DecodeError → Type 0) (meant : Result Y DecodeError) (r : Result X DecodeError) → IfErr meant P → IfErr r (λ e. (e ≡ OutOfMemory) ⊎ (meant ≡ Err e))
+    → HasCauseOrNoMemory r P
+unfolding HasCauseOrNoMemory
+call-cause-or-memory P meant (Ok x) all is = tt
+call-cause-or-memory P meant (Err e) all is = ⊎_elim {C = (e ≡ OutOfMemory) ⊎ P e} (λ memory. inl memory) (λ same. inr (subst (λ m. IfErr m P) same all)) is
 
 -- what is known of a value, and why an error was returned
 abbrev pub Told : {A : Type 0} → (A → Type 0) → (DecodeError → Type 0) → Result A DecodeError → Type 0
@@ -17,10 +43,6 @@ Told Q P (Err e) = P e
 pub told-cause : {A : Type 0} (Q : A → Type 0) (P : DecodeError → Type 0) (r : Result A DecodeError) → Told Q P r → IfErr r P
 told-cause Q P (Ok x) told = tt
 told-cause Q P (Err e) told = told
-
-pub told-all : {A : Type 0} (P : DecodeError → Type 0) (r : Result A DecodeError) → IfErr r P → Told (λ (x : A). Unit {0}) P r
-told-all P (Ok x) why = tt
-told-all P (Err e) why = why
 
 pub told-next : {A B : Type 0} (Q : A → Type 0) (R : B → Type 0) (P : DecodeError → Type 0) (r : Result A DecodeError) (next : A → Result B DecodeError)
     → Told Q P r → ((x : A) → Q x → Told R P (next x)) → Told R P (r >>= next)

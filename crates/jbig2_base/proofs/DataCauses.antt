@@ -1,23 +1,22 @@
--- Which rule the data of a segment breaks, and a segment as a whole; and the sizes of bitmaps.
-use Rattle.std.proofs.Common.{◌≡◌, ℕ, ◌+◌, ◌-◌, ◌*◌, ◌%◌, ◌<◌, ◌≤◌, eqb, leb, ltb, Bool, true, false, cond, List, [], ◌∷◌, take, drop, length, Option, Some, None, Result, Ok, Err, sym, ◌∙◌, ap, subst, arith, inl, inr, ⊎_elim, length-drop}
+-- Which rule the data of a segment breaks, and the sizes of bitmaps.
+use Rattle.std.proofs.Common.{◌≡◌, ℕ, ◌+◌, ◌-◌, ◌*◌, ◌%◌, ◌<◌, ◌≤◌, eqb, leb, ltb, Bool, true, false, cond, List, [], ◌∷◌, take, drop, length, Option, Some, None, Result, Ok, Err, sym, ◌∙◌, ap, arith, inl, inr, ⊎_elim, length-drop}
 use Rattle.std.specs.Prelude.{◌≢◌, ◌⊎◌, ◌&&◌, ◌||◌, slice_index, IfErr}
 use Rattle.std.specs.Int.{w8}
 use Rattle.std.proofs.lemmas.Bool.{cond_both, and_from, and_parts, or_cases, eq-eqb, le-leb, leb-true, ltb-true, ltb-false, true≢false}
 use Rattle.std.proofs.lemmas.List.{drop-drop}
-use Rattle.jbig2_base.specs.Answer.{◌>>=◌, refuse_if}
-use Rattle.jbig2_base.specs.Causes.{HaveCauses, number_in, BreaksData, BreaksSegment, BreaksSides, BreaksArea}
+use Rattle.jbig2_base.specs.Answer.{◌>>=◌, Gives, refuse_if}
+use Rattle.jbig2_base.specs.Causes.{HasCause, HasCauseOrNoMemory, number_in, BreaksData, BreaksSides, BreaksArea}
 use Rattle.jbig2_base.specs.Fields.{bytes_at, end_of_bytes}
-use Rattle.jbig2_base.specs.Grid.{Grid, part_or_overflow, blank_or_overflow, wide_or_overflow}
+use Rattle.jbig2_base.specs.Grid.{blank_or_overflow, wide_or_overflow}
 use Rattle.jbig2_base.specs.Search.{place_from}
-use Rattle.jbig2_base.specs.Segment.{Header, SegmentView, adaptive_bytes, data_at, first_end_marker, header_at, is_end_marker, segment_at, segment_data_at, unknown_length_of}
+use Rattle.jbig2_base.specs.Segment.{adaptive_bytes, data_at, first_end_marker, is_end_marker, unknown_length_of}
 use Rattle.jbig2_base.specs.declared.error.DecodeError.{DecodeError}
-use Rattle.jbig2_base.specs.declared.error.DecodeError.TheVariants.{Overflow, Segment}
+use Rattle.jbig2_base.specs.declared.error.DecodeError.TheVariants.{OutOfMemory, Overflow, Segment}
 use Rattle.jbig2_base.specs.declared.error.OverflowError.TheVariants.{BitmapDimension}
 use Rattle.jbig2_base.specs.declared.error.SegmentError.TheVariants.{MissingEndMarker}
 use Rattle.jbig2_base.proofs.Causes.{cause-bytes, cause-next, cause-refused}
-use Rattle.jbig2_base.proofs.CauseSteps.{Told, told-all, told-cause, told-next, next-bytes, next-number}
+use Rattle.jbig2_base.proofs.CauseSteps.{call-cause, call-cause-or-memory, Told, told-cause, told-next, next-bytes, next-number}
 use Rattle.jbig2_base.proofs.SearchLemmas.{place-found, place-none}
-use Rattle.jbig2_base.proofs.SegmentCauses.{HasHeader, header-told, stated_length}
 
 -- ---- the end marker
 -- the two bytes of the end marker, by a generic region's flags
@@ -73,11 +72,10 @@ unknown-told P bytes why =
     (marker-told P flags (drop place bytes) (λ none. why (Segment MissingEndMarker) (no-marker bytes flags place none))) (λ p fits.
     omega (arith, fits, at_coded, length-drop place bytes)))))
 
-pub unknown_causes : HaveCauses unknown_length_of (BreaksData None)
-unfolding HaveCauses
-unknown_causes = λ bytes.
+pub unknown_cause : {X : Type 0} (bytes : List ℕ) (r : Result X DecodeError) → IfErr r (λ e. unknown_length_of bytes ≡ Err e) → HasCause r (BreaksData None bytes)
+unknown_cause bytes r =
     let P : DecodeError → Type 0 = BreaksData None bytes in
-    told-cause (λ (n : ℕ). n ≤ length bytes) P (unknown_length_of bytes) (unknown-told P bytes (λ e why. why))
+    call-cause P (unknown_length_of bytes) r (told-cause (λ (n : ℕ). n ≤ length bytes) P (unknown_length_of bytes) (unknown-told P bytes (λ e why. why)))
 
 -- ---- data and segments
 there-told : (P : DecodeError → Type 0) (n : ℕ) (bytes : List ℕ) → n ≤ length bytes → Told (λ (x : List ℕ × List ℕ). Unit {0}) P (bytes_at n bytes)
@@ -91,22 +89,8 @@ data-cause P None bytes why =
     let R : List ℕ × List ℕ → Type 0 = λ x. Unit {0} in
     told-cause R P (data_at None bytes) (told-next (λ (n : ℕ). n ≤ length bytes) R P (unknown_length_of bytes) _ (unknown-told P bytes why) (λ n fits. there-told P n bytes fits))
 
-pub segment-data-cause : (P : DecodeError → Type 0) (header : Header) (bytes : List ℕ) → ((e : DecodeError) → BreaksData header.data_length bytes e → P e) → IfErr (segment_data_at header bytes) P
-segment-data-cause P header bytes why =
-    cause-next P (data_at header.data_length bytes) _ (data-cause P header.data_length bytes why) (λ coded is. tt)
-
-pub data_causes : (header : Header) → HaveCauses (segment_data_at header) (BreaksData header.data_length)
-unfolding HaveCauses
-data_causes = λ header bytes. segment-data-cause (BreaksData header.data_length bytes) header bytes (λ e why. why)
-
-pub segment_causes : (strict : Bool) → HaveCauses (segment_at strict) (BreaksSegment strict)
-unfolding HaveCauses segment_at
-segment_causes = λ strict bytes.
-    let P : DecodeError → Type 0 = BreaksSegment strict bytes in
-    let R : SegmentView × List ℕ → Type 0 = λ x. Unit {0} in
-    told-cause R P (segment_at strict bytes)
-    (told-next (HasHeader bytes) R P (header_at strict bytes) _ (header-told P strict bytes (λ e why. inl why)) (λ x known.
-    told-all P (segment_data_at x.0 x.1) (segment-data-cause P x.0 x.1 (λ e why. inr (known.0, subst (λ (ys : List ℕ). BreaksData (stated_length bytes) ys e) known.1 (subst (λ (n : Option ℕ). BreaksData n x.1 e) known.2 why))))))
+pub data_cause : {X : Type 0} (n : Option ℕ) (bytes : List ℕ) (r : Result X DecodeError) → IfErr r (λ e. data_at n bytes ≡ Err e) → HasCause r (BreaksData n bytes)
+data_cause n bytes r = call-cause (BreaksData n bytes) (data_at n bytes) r (data-cause (BreaksData n bytes) n bytes (λ e why. why))
 
 -- ---- bitmaps
 sides-cause : {A : Type 0} (w h : ℕ) (x : Unit {0} → Result A DecodeError) → IfErr (x tt) (BreaksSides w h) → IfErr (refuse_if (ltb 65535 w || ltb 65535 h) (Overflow BitmapDimension) >>= x) (BreaksSides w h)
@@ -117,16 +101,19 @@ sides-cause w h x rest =
     (λ long. ⊎_elim {C = (65535 < w) ⊎ (65535 < h)} (λ l. inl (ltb-true 65535 w l)) (λ r. inr (ltb-true 65535 h r)) (or_cases (ltb 65535 w) (ltb 65535 h) long)))
     (λ y is. rest)
 
-pub blank_causes : (w h : ℕ) → HaveCauses (blank_or_overflow w h) (λ black. BreaksSides w h)
-unfolding HaveCauses
-blank_causes w h = λ black. sides-cause w h _ tt
+-- its colour is no matter
+pub blank_cause : {X : Type 0} (w h : ℕ) (r : Result X DecodeError) → IfErr r (λ e. (e ≡ OutOfMemory) ⊎ (blank_or_overflow w h false ≡ Err e)) → HasCauseOrNoMemory r (BreaksSides w h)
+blank_cause w h r = call-cause-or-memory (BreaksSides w h) (blank_or_overflow w h false) r (sides-cause w h _ tt)
 
-pub wide_causes : (w : ℕ) → HaveCauses (wide_or_overflow w) (BreaksArea w)
-unfolding HaveCauses
-wide_causes w = λ h.
-    cause-next (BreaksArea w h) (refuse_if (ltb (65535 * 65535) (w * h)) (Overflow BitmapDimension)) _
-    (cause-refused (BreaksArea w h) (ltb (65535 * 65535) (w * h)) (Overflow BitmapDimension) (λ large. ltb-true (65535 * 65535) (w * h) large)) (λ y is. tt)
+-- where no rule is broken, memory ran out
+pub memory-alone : {X Y : Type 0} (P : DecodeError → Type 0) (view : X → Y) (r : Result X DecodeError) (y : Y) → Gives view r (Ok y) → HasCauseOrNoMemory r P
+unfolding HasCauseOrNoMemory
+memory-alone P view (Ok x) y is = tt
+memory-alone {X} {Y} P view (Err e) y is =
+    ⊎_elim {C = (e ≡ OutOfMemory) ⊎ P e} (λ memory. inl memory) (λ same. absurd (let never : ◌≡◌ {A = Result Y DecodeError} (Ok y) (Err e) = same in cc)) is
 
-pub part_causes : (g : Grid) → HaveCauses (part_or_overflow g) (λ area. BreaksSides area.width area.height)
-unfolding HaveCauses
-part_causes g = λ area. sides-cause area.width area.height _ tt
+pub wide_cause : {X : Type 0} (w h : ℕ) (r : Result X DecodeError) → IfErr r (λ e. (e ≡ OutOfMemory) ⊎ (wide_or_overflow w h ≡ Err e)) → HasCauseOrNoMemory r (BreaksArea w h)
+wide_cause w h r =
+    call-cause-or-memory (BreaksArea w h) (wide_or_overflow w h) r
+    (cause-next (BreaksArea w h) (refuse_if (ltb (65535 * 65535) (w * h)) (Overflow BitmapDimension)) _
+    (cause-refused (BreaksArea w h) (ltb (65535 * 65535) (w * h)) (Overflow BitmapDimension) (λ large. ltb-true (65535 * 65535) (w * h) large)) (λ y is. tt))

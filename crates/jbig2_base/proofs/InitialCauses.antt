@@ -1,10 +1,10 @@
 -- Which rule the segments of a page break, where its size is refused.
-use Rattle.std.proofs.Common.{◌≡◌, ℕ, zero, suc, ◌+◌, ◌<◌, ◌≤◌, eqb, ltb, Bool, true, false, not, List, [], ◌∷◌, length, take, Result, Ok, refl, sym, ◌∙◌, ap, subst, arith, inl, inr, ⊎_elim}
-use Rattle.std.specs.Prelude.{◌≢◌, ◌⊎◌, ◌&&◌, ◌||◌, All, Any}
+use Rattle.std.proofs.Common.{◌≡◌, ℕ, zero, suc, ◌+◌, ◌<◌, ◌≤◌, eqb, ltb, Bool, true, false, not, List, [], ◌∷◌, length, take, Result, Ok, Err, refl, sym, ◌∙◌, ap, subst, arith, inl, inr, ⊎_elim}
+use Rattle.std.specs.Prelude.{◌≢◌, ◌⊎◌, ◌&&◌, ◌||◌, All, Any, IfErr}
 use Rattle.std.specs.Int.{w32, from_be_bytes}
 use Rattle.std.proofs.lemmas.Bool.{cond_both, cond-true, eqb-true, eqb-false, eq-eqb, ne_eqb, ltb-true, ltb-false, and_from, and_parts, or_cases, not-true, not_from_false, true≢false, false≢true}
 use Rattle.jbig2_base.specs.Answer.{◌>>=◌, refuse_if}
-use Rattle.jbig2_base.specs.Causes.{HaveCauses, FirstInformation, TellsHeight, BreaksInitialPage, number_in}
+use Rattle.jbig2_base.specs.Causes.{HasCause, FirstInformation, TellsHeight, BreaksInitialPage, number_in}
 use Rattle.jbig2_base.specs.PageInfo.{first_information, height_of, information_at, initial_page_of, initial_page_with, is_end_of_stripe, is_page_information, stripe_height, stripes_height}
 use Rattle.jbig2_base.specs.Segment.{SegmentView}
 use Rattle.jbig2_base.specs.declared.error.DecodeError.{DecodeError}
@@ -15,7 +15,7 @@ use Rattle.jbig2_base.specs.declared.page_info.InitialPage.{InitialPage}
 use Rattle.jbig2_base.specs.declared.page_info.PageInformation.{PageInformation}
 use Rattle.jbig2_base.specs.declared.segment.SegmentType.{SegmentType}
 use Rattle.jbig2_base.specs.declared.segment.SegmentType.TheVariants as types
-use Rattle.jbig2_base.proofs.CauseSteps.{Told, told-cause, told-next, told-map, next-refusal}
+use Rattle.jbig2_base.proofs.CauseSteps.{call-cause, Told, told-cause, told-next, told-map, next-refusal}
 use Rattle.jbig2_base.proofs.PageCauses.{HasSize, information-told}
 
 -- ---- the first page information
@@ -147,22 +147,25 @@ large-side : (ps : List SegmentView) (bytes : List ℕ) (info : PageInformation 
     → (65535 < info.0.width) ⊎ (65535 < height) → BreaksInitialPage ps (Overflow BitmapDimension)
 large-side ps bytes info height is size known much =
     ⊎_elim {C = BreaksInitialPage ps (Overflow BitmapDimension)}
-    (λ wide. inl (first-holds (λ bs. 65535 < number_in w32 0 bs) bytes ps is (omega (arith, wide, size.1))))
+    (λ wide. inl (first-holds (λ bs. (19 ≤ length bs) × (65535 < number_in w32 0 bs)) bytes ps is (size.0, omega (arith, wide, size.1))))
     (λ high.
     ⊎_elim {C = BreaksInitialPage ps (Overflow BitmapDimension)}
-    (λ stated. inr (inl (first-holds (λ bs. (65535 < number_in w32 4 bs) × (number_in w32 4 bs ≢ 4294967295)) bytes ps is (omega (arith, high, stated.1, size.2), λ ones. stated.0 (size.2 ∙ ones)))))
-    (λ open_height. inr (inr (first-holds (λ bs. number_in w32 4 bs ≡ 4294967295) bytes ps is (sym size.2 ∙ open_height.0), any-too-much ps (omega (arith, high, open_height.2)))))
+    (λ stated. inr (inl (first-holds (λ bs. (19 ≤ length bs) × (65535 < number_in w32 4 bs) × (number_in w32 4 bs ≢ 4294967295)) bytes ps is (size.0, omega (arith, high, stated.1, size.2), λ ones. stated.0 (size.2 ∙ ones)))))
+    (λ open_height. inr (inr (first-holds (λ bs. (19 ≤ length bs) × (number_in w32 4 bs ≡ 4294967295)) bytes ps is (size.0, sym size.2 ∙ open_height.0), any-too-much ps (omega (arith, high, open_height.2)))))
     known)
     much
 
-pub initial_page_causes : HaveCauses initial_page_of BreaksInitialPage
-unfolding HaveCauses initial_page_of
-initial_page_causes = λ ps.
+pub initial_page_causes : (ps : List SegmentView) → IfErr (initial_page_of ps) (BreaksInitialPage ps)
+unfolding initial_page_of
+initial_page_causes ps =
     let P : DecodeError → Type 0 = BreaksInitialPage ps in
     let R : InitialPage → Type 0 = λ page. Unit {0} in
     told-cause R P (initial_page_of ps)
     (told-next (λ (p : SegmentView). FirstInformation (λ bs. bs ≡ p.bytes) ps) R P (first_information ps) _ (first-told P ps (λ none. none)) (λ first is.
     told-next (HasSize first.bytes) R P (information_at first.bytes) _ (information-told P first.bytes (λ short. first-holds (λ bs. length bs < 19) first.bytes ps is short)) (λ info size.
     told-next (IsHeight info.0.height (stripes_height ps)) R P (height_of info.0.height (stripes_height ps)) _
-    (height-told P info.0.height (stripes_height ps) (λ ones none. (first-holds (λ bs. number_in w32 4 bs ≡ 4294967295) first.bytes ps is (sym size.2 ∙ ones), none-tells ps none)))
+    (height-told P info.0.height (stripes_height ps) (λ ones none. (first-holds (λ bs. (19 ≤ length bs) × (number_in w32 4 bs ≡ 4294967295)) first.bytes ps is (size.0, sym size.2 ∙ ones), none-tells ps none)))
     (λ height known. sides-told P first.header.page_association info.0 height (no-side ps first.bytes info height is size known) (large-side ps first.bytes info height is size known)))))
+
+pub initial_page_cause : {X : Type 0} (ps : List SegmentView) (r : Result X DecodeError) → IfErr r (λ e. initial_page_of ps ≡ Err e) → HasCause r (BreaksInitialPage ps)
+initial_page_cause ps r = call-cause (BreaksInitialPage ps) (initial_page_of ps) r (initial_page_causes ps)

@@ -2,14 +2,13 @@ pub mod Answered
 pub mod BitFieldLemmas
 pub mod BitLemmas
 mod BlockLemmas
-mod CauseSteps
+pub mod CauseSteps
 pub mod Causes
 pub mod ColourLemmas
 mod CombineLemmas
 pub mod CountLemmas
 pub mod DataCauses
 mod Extends
-pub mod FileCauses
 mod FileRows
 pub mod FillLemmas
 pub mod GridLemmas

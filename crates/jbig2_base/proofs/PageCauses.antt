@@ -1,16 +1,16 @@
 -- Which rule page information and its page break.
-use Rattle.std.proofs.Common.{◌≡◌, ℕ, ◌<◌, ◌≤◌, eqb, List, length, Result, refl, arith}
+use Rattle.std.proofs.Common.{◌≡◌, ℕ, ◌<◌, ◌≤◌, eqb, List, length, Result, Err, refl, arith}
 use Rattle.std.specs.Prelude.{IfErr}
 use Rattle.std.specs.Int.{w8, w16, w32}
 use Rattle.std.proofs.lemmas.Bool.{cond_both, eqb-false}
-use Rattle.jbig2_base.specs.Causes.{HaveCauses, BreaksInformation, BreaksOperator, number_in}
+use Rattle.jbig2_base.specs.Causes.{HasCause, BreaksInformation, BreaksOperator, number_in}
 use Rattle.jbig2_base.specs.Fields.{end_of_bytes}
 use Rattle.jbig2_base.specs.Combination.{operator_of}
 use Rattle.jbig2_base.specs.PageInfo.{information_at}
 use Rattle.jbig2_base.specs.declared.bitmap.operator.CombinationOperator.{CombinationOperator}
 use Rattle.jbig2_base.specs.declared.error.DecodeError.{DecodeError}
 use Rattle.jbig2_base.specs.declared.page_info.PageInformation.{PageInformation}
-use Rattle.jbig2_base.proofs.CauseSteps.{Told, told-cause, next-number}
+use Rattle.jbig2_base.proofs.CauseSteps.{call-cause, Told, told-cause, next-number}
 
 -- page information states its size in its first eight bytes
 abbrev pub HasSize : List ℕ → PageInformation × List ℕ → Type 0
@@ -27,15 +27,13 @@ information-told P bytes why =
     next-number Q P w8 bytes 16 _ at_16 (λ cut. why (omega (arith, cut))) (λ at_17.
     next-number Q P w16 bytes 17 _ at_17 (λ cut. why (omega (arith, cut))) (λ at_19. (at_19, refl, refl)))))))
 
-pub information_causes : HaveCauses information_at BreaksInformation
-unfolding HaveCauses
-information_causes = λ bytes.
+pub information_cause : {X : Type 0} (bytes : List ℕ) (r : Result X DecodeError) → IfErr r (λ e. information_at bytes ≡ Err e) → HasCause r (BreaksInformation bytes)
+information_cause bytes r =
     let P : DecodeError → Type 0 = BreaksInformation bytes in
-    told-cause (HasSize bytes) P (information_at bytes) (information-told P bytes (λ short. short))
+    call-cause P (information_at bytes) r (told-cause (HasSize bytes) P (information_at bytes) (information-told P bytes (λ short. short)))
 
-pub operator_causes : HaveCauses operator_of BreaksOperator
-unfolding HaveCauses
-operator_causes = λ n.
+operator_causes : (n : ℕ) → IfErr (operator_of n) (BreaksOperator n)
+operator_causes n =
     let P : Result CombinationOperator DecodeError → Type 0 = λ r. IfErr r (BreaksOperator n) in
     cond_both (eqb n 0) _ _ P (λ is. tt) (λ n0.
     cond_both (eqb n 1) _ _ P (λ is. tt) (λ n1.
@@ -43,3 +41,6 @@ operator_causes = λ n.
     cond_both (eqb n 3) _ _ P (λ is. tt) (λ n3.
     cond_both (eqb n 4) _ _ P (λ is. tt) (λ n4.
     omega (arith, eqb-false n 0 n0, eqb-false n 1 n1, eqb-false n 2 n2, eqb-false n 3 n3, eqb-false n 4 n4))))))
+
+pub operator_cause : {X : Type 0} (n : ℕ) (r : Result X DecodeError) → IfErr r (λ e. operator_of n ≡ Err e) → HasCause r (BreaksOperator n)
+operator_cause n r = call-cause (BreaksOperator n) (operator_of n) r (operator_causes n)

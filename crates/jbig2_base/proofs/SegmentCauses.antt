@@ -1,19 +1,19 @@
 -- Which rule a segment header breaks.
-use Rattle.std.proofs.Common.{◌≡◌, ℕ, zero, suc, ◌+◌, ◌-◌, ◌*◌, ◌/◌, ◌%◌, ◌^◌, ◌<◌, ◌≤◌, eqb, leb, Bool, true, false, not, cond, List, [], ◌∷◌, take, drop, length, Option, Some, None, Ok, refl, sym, ◌∙◌, ap, subst, arith, inl, inr, ⊎_elim, length-drop}
-use Rattle.std.specs.Prelude.{◌≢◌, ◌⊎◌, ◌&&◌, ◌||◌, All}
+use Rattle.std.proofs.Common.{◌≡◌, ℕ, zero, suc, ◌+◌, ◌-◌, ◌*◌, ◌/◌, ◌%◌, ◌^◌, ◌<◌, ◌≤◌, eqb, leb, Bool, true, false, not, cond, List, [], ◌∷◌, take, drop, length, Option, Some, None, Result, Ok, Err, refl, sym, ◌∙◌, ap, subst, arith, inl, inr, ⊎_elim, length-drop}
+use Rattle.std.specs.Prelude.{◌≢◌, ◌⊎◌, ◌&&◌, ◌||◌, All, IfErr}
 use Rattle.std.specs.Int.{Width, w8, w32, byte_len, from_be_bytes}
 use Rattle.std.specs.List.{list_any, list_all}
 use Rattle.std.proofs.lemmas.Bool.{eqb-true, leb-true, and_parts, or_cases, not-true, true≢false, false≢true}
 use Rattle.std.proofs.lemmas.List.{drop-drop, drop-take, take-take}
 use Rattle.jbig2_base.specs.Answer.{◌>>=◌, refuse_if}
-use Rattle.jbig2_base.specs.Causes.{HaveCauses, listed_types, referred_count, referred_place, page_place, length_place, BreaksHeader, number_in}
+use Rattle.jbig2_base.specs.Causes.{HasCauseOrNoMemory, listed_types, referred_count, referred_place, page_place, length_place, BreaksHeader, number_in}
 use Rattle.jbig2_base.specs.Fields.{bytes_at, number_at, end_of_bytes}
 use Rattle.jbig2_base.specs.Segment.{Header, type_of, is_reserved, is_immediate_generic, long_count_at, count_at, number_width, numbers_in, referred_at, length_of, header_at}
 use Rattle.jbig2_base.specs.declared.error.DecodeError.{DecodeError}
-use Rattle.jbig2_base.specs.declared.error.DecodeError.TheVariants.{Segment}
+use Rattle.jbig2_base.specs.declared.error.DecodeError.TheVariants.{OutOfMemory, Segment}
 use Rattle.jbig2_base.specs.declared.error.SegmentError.TheVariants.{UnknownType, InvalidReferredCount, InvalidReference, InvalidUnknownLength}
 use Rattle.jbig2_base.specs.declared.segment.SegmentType.{SegmentType}
-use Rattle.jbig2_base.proofs.CauseSteps.{Told, Steps, told-cause, told-next, next-steps, told-map, next-refusal, next-bytes, next-number, last-number}
+use Rattle.jbig2_base.proofs.CauseSteps.{call-cause-or-memory, Told, Steps, told-cause, told-next, next-steps, told-map, next-refusal, next-bytes, next-number, last-number}
 
 -- ---- the type
 first-or-later : (n t : ℕ) (ts : List ℕ) → n ≢ t → All (λ u. n ≢ u) ts → All (λ u. n ≢ u) (t ∷ ts)
@@ -192,8 +192,11 @@ header-told P strict bytes why =
     (length-told P strict (type_of kind) n.0 (λ is ones other. why (Segment InvalidUnknownLength) (is, at_end.1, sym value ∙ ones, other-type kind other))) (λ len states.
     (at_end.1, ap (λ (x : ℕ × List ℕ). x.1) at_end.0, states ∙ ap (λ (m : ℕ). cond (eqb m 4294967295) None (Some m)) value))))))))
 
-pub header_causes : (strict : Bool) → HaveCauses (header_at strict) (BreaksHeader strict)
-unfolding HaveCauses
-header_causes = λ strict bytes.
+header_causes : (strict : Bool) (bytes : List ℕ) → IfErr (header_at strict bytes) (BreaksHeader strict bytes)
+header_causes strict bytes =
     let P : DecodeError → Type 0 = BreaksHeader strict bytes in
     told-cause (HasHeader bytes) P (header_at strict bytes) (header-told P strict bytes (λ e why. why))
+
+pub header_cause : {X : Type 0} (strict : Bool) (bytes : List ℕ) (r : Result X DecodeError) → IfErr r (λ e. (e ≡ OutOfMemory) ⊎ (header_at strict bytes ≡ Err e))
+    → HasCauseOrNoMemory r (BreaksHeader strict bytes)
+header_cause strict bytes r = call-cause-or-memory (BreaksHeader strict bytes) (header_at strict bytes) r (header_causes strict bytes)

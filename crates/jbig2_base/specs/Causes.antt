@@ -1,11 +1,16 @@
--- Which rule the bytes break where a definition refuses them (docs/FORMAT.md), a line for each error. A predicate
--- `Breaks..` takes the bytes and an error, and `HaveCauses` is the law: each error of the definition has that cause.
+-- Which rule the bytes break where a call refuses them (docs/FORMAT.md), a line for each error. A predicate `Breaks..`
+-- takes the bytes and an error; the function that refuses says by `HasCause` that its own error has that cause.
 use Rattle.std.specs.{Prelude.{◌≡◌, ◌≢◌, ◌<◌, ◌≤◌, ◌+◌, ◌*◌, ◌-◌, ◌/◌, ◌%◌, ◌^◌, ◌==◌, ◌⊎◌, ℕ, Bool, true, List, [], ◌∷◌, take, drop, length, All, Any, Option, Some, None, Result, Ok, Err, IfErr, if◌then◌else◌}, Int.{Width, w8, w32, byte_len, from_be_bytes}}
-use Rattle.jbig2_base.specs.{File.{headers_in, file_header_at, identification}, Segment.{Header, SegmentView, adaptive_bytes, number_width, header_at, segment_data_at, segment_at}, declared.{error.{DecodeError.{DecodeError, TheVariants.{Parse, Format, Segment, Region, Overflow}}, FormatError.TheVariants.{InvalidHeader, ReservedBits, MissingPageInfo, UnknownPageHeight, EmptyPage}, OverflowError.TheVariants.{BitmapDimension}, ParseError.TheVariants.{UnexpectedEof}, RegionError.TheVariants.{InvalidCombinationOperator}, SegmentError.TheVariants.{UnknownType, InvalidReferredCount, InvalidReference, InvalidUnknownLength, MissingEndMarker}}, file_header.{FileHeader.{FileHeader}, FileOrganization.{FileOrganization, TheVariants.{Sequential, RandomAccess}}}, segment.SegmentType.{SegmentType}}}
+use Rattle.jbig2_base.specs.{File.{identification}, Segment.{SegmentView, adaptive_bytes, number_width}, declared.{error.{DecodeError.{DecodeError, TheVariants.{OutOfMemory, Parse, Format, Segment, Region, Overflow}}, FormatError.TheVariants.{InvalidHeader, ReservedBits, MissingPageInfo, UnknownPageHeight, EmptyPage}, OverflowError.TheVariants.{BitmapDimension}, ParseError.TheVariants.{UnexpectedEof}, RegionError.TheVariants.{InvalidCombinationOperator}, SegmentError.TheVariants.{UnknownType, InvalidReferredCount, InvalidReference, InvalidUnknownLength, MissingEndMarker}}}}
 use Rattle.jbig2_base.specs.declared.segment.SegmentType.TheVariants as types
 
-unfoldable pub HaveCauses : {X Y : Type 0} → (X → Result Y DecodeError) → (X → DecodeError → Type 0) → Type 0
-HaveCauses {X} answer Breaks = (x : X) → IfErr (answer x) (Breaks x)
+-- Where this call refuses, its input breaks the rule that stands there for the error.
+unfoldable pub HasCause : {X : Type 0} → Result X DecodeError → (DecodeError → Type 0) → Type 0
+HasCause result Breaks = IfErr result Breaks
+
+-- the same for a call that may run out of memory, which no input brings about
+unfoldable pub HasCauseOrNoMemory : {X : Type 0} → Result X DecodeError → (DecodeError → Type 0) → Type 0
+HasCauseOrNoMemory result Breaks = IfErr result (λ e. (e ≡ OutOfMemory) ⊎ Breaks e)
 
 abbrev pub number_in : Width → ℕ → List ℕ → ℕ  -- the number that stands at this byte, high byte first
 number_in w place bytes = from_be_bytes w (take (byte_len w) (drop place bytes))
@@ -19,8 +24,9 @@ abbrev pub InSteps : {A : Type 0} → Result A DecodeError → Type 0 → (A →
 InSteps (Err e) first next = first
 InSteps (Ok x) first next = next x
 
-abbrev pub BreaksFileHeader : List ℕ → DecodeError → Type 0  -- the header of a file (D.4) has thirteen bytes at most
-BreaksFileHeader bytes (Parse UnexpectedEof) = length bytes < 13
+-- The header of a file (D.4) has thirteen bytes; where bit 1 of byte 8 is set it states no count, and has nine.
+abbrev pub BreaksFileHeader : List ℕ → DecodeError → Type 0
+BreaksFileHeader bytes (Parse UnexpectedEof) = length bytes < (if number_in w8 8 bytes / 2 % 2 == 1 then 9 else 13)
 BreaksFileHeader bytes (Format InvalidHeader) = (8 ≤ length bytes) × (take 8 bytes ≢ identification)
 BreaksFileHeader bytes (Format ReservedBits) = (9 ≤ length bytes) × (16 ≤ number_in w8 8 bytes)
 BreaksFileHeader bytes _ = ⊥
@@ -47,13 +53,13 @@ abbrev pub BreaksInitialPage : List SegmentView → DecodeError → Type 0
 BreaksInitialPage ps (Format MissingPageInfo) = All (λ p. p.header.segment_type ≢ types.PageInformation) ps
 BreaksInitialPage ps (Parse UnexpectedEof) = FirstInformation (λ bytes. length bytes < 19) ps
 BreaksInitialPage ps (Format UnknownPageHeight) =
-    FirstInformation (λ bytes. number_in w32 4 bytes ≡ 4294967295) ps × All (λ p. TellsHeight p → ⊥) ps
+    FirstInformation (λ bytes. (19 ≤ length bytes) × (number_in w32 4 bytes ≡ 4294967295)) ps × All (λ p. TellsHeight p → ⊥) ps
 BreaksInitialPage ps (Format EmptyPage) =
     FirstInformation (λ bytes. (19 ≤ length bytes) × ((number_in w32 0 bytes ≡ 0) ⊎ (number_in w32 4 bytes ≡ 0))) ps
 BreaksInitialPage ps (Overflow BitmapDimension) =
-    FirstInformation (λ bytes. 65535 < number_in w32 0 bytes) ps
-    ⊎ FirstInformation (λ bytes. (65535 < number_in w32 4 bytes) × (number_in w32 4 bytes ≢ 4294967295)) ps
-    ⊎ (FirstInformation (λ bytes. number_in w32 4 bytes ≡ 4294967295) ps
+    FirstInformation (λ bytes. (19 ≤ length bytes) × (65535 < number_in w32 0 bytes)) ps
+    ⊎ FirstInformation (λ bytes. (19 ≤ length bytes) × (65535 < number_in w32 4 bytes) × (number_in w32 4 bytes ≢ 4294967295)) ps
+    ⊎ (FirstInformation (λ bytes. (19 ≤ length bytes) × (number_in w32 4 bytes ≡ 4294967295)) ps
     × Any (λ p. TellsHeight p × (65535 ≤ number_in w32 0 p.bytes)) ps)
 BreaksInitialPage ps _ = ⊥
 
@@ -107,53 +113,6 @@ BreaksData None bytes (Segment MissingEndMarker) =
     (k : ℕ) → 18 + adaptive_bytes flags ≤ k → k + 6 ≤ length bytes
     → take 2 (drop k bytes) ≢ (if flags % 2 == 1 then 0 ∷ 0 ∷ [] else 255 ∷ 172 ∷ [])
 BreaksData _ bytes _ = ⊥
-
-abbrev pub BreaksSegment : Bool → List ℕ → DecodeError → Type 0
-BreaksSegment strict bytes e =
-    let stated = number_in w32 (length_place bytes) bytes in
-    BreaksHeader strict bytes e
-    ⊎ ((length_place bytes + 4 ≤ length bytes)
-    × BreaksData (if stated == 4294967295 then None else Some stated) (drop (length_place bytes + 4) bytes) e)
-
--- ---- lists of segments (Annex D)
--- The bytes begin with these readings, none of them of an end of file, and then come the others.
-abbrev pub BeginWith : {A : Type 0} → (List ℕ → Result (A × List ℕ) DecodeError) → (A → SegmentType) → List ℕ → List A → List ℕ → Type 0
-BeginWith read kind bytes [] others = bytes ≡ others
-BeginWith read kind bytes (x ∷ xs) others =
-    (rest : List ℕ) × (read bytes ≡ Ok (x, rest)) × (kind x ≢ types.EndOfFile) × BeginWith read kind rest xs others
-
--- After some of them bytes are left, of which this holds.
-abbrev pub BehindSome : {A : Type 0} → (List ℕ → Result (A × List ℕ) DecodeError) → (A → SegmentType) → List ℕ → (List ℕ → Type 0) → Type 0
-BehindSome {A} read kind bytes P =
-    (xs : List A) × (others : List ℕ) × BeginWith read kind bytes xs others × (0 < length others) × P others
-
--- Segments one after the other (D.1, D.3): only strict reading refuses one that is cut off.
-abbrev pub BreaksSequence : Bool → List ℕ → DecodeError → Type 0
-BreaksSequence strict bytes e =
-    (e ≡ Parse UnexpectedEof → strict ≡ true)
-    × BehindSome (segment_at strict) (λ p. p.header.segment_type) bytes (λ others. BreaksSegment strict others e)
-
-abbrev pub BreaksHeaders : Bool → List ℕ → DecodeError → Type 0  -- all headers (D.2): one of them breaks a rule
-BreaksHeaders strict bytes e =
-    BehindSome (header_at strict) (λ h. h.segment_type) bytes (λ others. BreaksHeader strict others e)
-
--- All data (D.2): that of one of the headers breaks a rule, where the data before it ends.
-abbrev pub BreaksGathered : List Header → List ℕ → DecodeError → Type 0
-BreaksGathered [] bytes e = ⊥
-BreaksGathered (h ∷ hs) bytes e =
-    BreaksData h.data_length bytes e
-    ⊎ ((p : SegmentView) × (rest : List ℕ) × (segment_data_at h bytes ≡ Ok (p, rest)) × BreaksGathered hs rest e)
-
-abbrev pub BreaksSegmentsBy : FileOrganization → Bool → List ℕ → DecodeError → Type 0
-BreaksSegmentsBy Sequential strict bytes e = BreaksSequence strict bytes e
-BreaksSegmentsBy RandomAccess strict bytes e =
-    BreaksHeaders strict bytes e
-    ⊎ ((hs : List Header × List ℕ) × (headers_in (length bytes) strict bytes ≡ Ok hs) × BreaksGathered hs.0 hs.1 e)
-
-abbrev pub BreaksFile : Bool → List ℕ → DecodeError → Type 0
-BreaksFile strict bytes e =
-    BreaksFileHeader bytes e
-    ⊎ ((h : FileHeader × List ℕ) × (file_header_at bytes ≡ Ok h) × BreaksSegmentsBy h.0.organization strict h.1 e)
 
 -- ---- bitmaps (our own rule)
 abbrev pub BreaksSides : ℕ → ℕ → DecodeError → Type 0

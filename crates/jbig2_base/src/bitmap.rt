@@ -3,7 +3,7 @@ ghost use Rattle.std.specs.Prelude.{◌≡◌, ℕ, ◌+◌, ◌-◌, ◌*◌, �
 ghost use Rattle.jbig2_base.specs.Answer.{Gives};
 ghost use Rattle.jbig2_base.specs.Counts.{words_copied};
 ghost use Rattle.jbig2_base.specs.{Grid.{Grid, blank, pixel_at, bit_number, part_or_overflow, blank_or_overflow, wide_or_overflow}, Counts.{words_of}};
-ghost use Rattle.jbig2_base.specs.Causes.{HaveCauses, BreaksSides, BreaksArea};
+ghost use Rattle.jbig2_base.specs.Causes.{HasCauseOrNoMemory, BreaksSides, BreaksArea};
 ghost use Rattle.jbig2_base.specs.Table.{IsTable};
 ghost use Rattle.jbig2_base.specs.Bits.{bit};
 ghost use Rattle.jbig2_base.specs.Writes.{with_pixel, with_pixels};
@@ -60,8 +60,10 @@ impl<A: Allocator> Bitmap<A> {
 
     /// A white bitmap of any sides whose product is at most 65535 * 65535; above it is refused
     /// (`OverflowError::BitmapDimension`).
+    #[tactic(auto, using(crate::proofs::DataCauses::wide_cause))]
     pub fn new_wide(alloc: A, width: u32, height: u32) -> Result<Bitmap<A>>
-        ensures { Gives (λ b. b) result (wide_or_overflow width height) }
+        ensures value { Gives (λ b. b) result (wide_or_overflow width height) }
+        ensures causes { HasCauseOrNoMemory result (BreaksArea width height) }
     {
         if u64::from(width) * u64::from(height) > 65535 * 65535 {
             return Err(DecodeError::Overflow(OverflowError::BitmapDimension));
@@ -97,12 +99,9 @@ impl<A: Allocator> Bitmap<A> {
 
     /// Gives this bitmap another size and makes all pixels `default_pixel` (`true` is black). A
     /// side above 65535 is refused (`OverflowError::BitmapDimension`); a refusal changes nothing.
-    #[tactic(auto, using(crate::proofs::DataCauses::blank_causes, crate::proofs::DataCauses::wide_causes, crate::proofs::DataCauses::part_causes))]
+    #[tactic(auto, using(crate::proofs::DataCauses::blank_cause))]
     pub fn reinitialize(&mut self, width: u32, height: u32, default_pixel: bool) -> Result<()>
-        ensures causes { (w h : ℕ) → HaveCauses (blank_or_overflow w h) (λ black. BreaksSides w h) }
-        ensures wide_causes { (w : ℕ) → HaveCauses (wide_or_overflow w) (BreaksArea w) }
-        ensures part_causes { (g : Grid)
-            → HaveCauses (part_or_overflow g) (λ area. BreaksSides area.width area.height) }
+        ensures causes { HasCauseOrNoMemory result (BreaksSides width height) }
         ensures value { Gives (λ _. self.new) result
             (blank_or_overflow width height default_pixel) }
         ensures err { OnErr result (self.new ≡ self.old) }

@@ -2,7 +2,6 @@
 ghost use Rattle.std.specs.Prelude.{◌≡◌, Bool, List, length, map, Ok};
 ghost use Rattle.jbig2_base.specs.Answer.{Gives};
 ghost use Rattle.jbig2_base.specs.Bits.{IsAligned};
-ghost use Rattle.jbig2_base.specs.Causes.{HaveCauses, BreaksSequence, BreaksHeaders, BreaksGathered, BreaksSegmentsBy, BreaksFile};
 ghost use Rattle.jbig2_base.specs.File.{headers_in, gathered, segments_by, file_at, Spelled, SpellsFile};
 ghost use Rattle.jbig2_base.specs.declared.file_header.FileHeader.{FileHeader};
 ghost use Rattle.jbig2_base.specs.inner.SegmentViews.{header_views, segment_views, file_view};
@@ -121,18 +120,11 @@ fn gather_segments<'a, A: Allocator>(
 /// The segments in the bytes, all headers before all data (T.88, D.2).
 ///
 /// Bytes that end too early are an error in both modes.
-#[tactic(auto, using(crate::proofs::FileCauses::headers_causes, crate::proofs::FileCauses::gathered_causes, crate::proofs::FileCauses::random_access_causes))]
 fn parse_segments_random_access<'a, A: Allocator + Clone>(
     alloc: A,
     bytes: &'a [u8],
     strict: bool,
 ) -> Result<Vec<Segment<'a, A>, A>>
-    ensures headers_causes { (strict : Bool)
-        → HaveCauses (λ bytes. headers_in (length bytes) strict bytes) (BreaksHeaders strict) }
-    ensures data_causes { (headers : List Header)
-        → HaveCauses (gathered headers) (BreaksGathered headers) }
-    ensures causes { (strict : Bool)
-        → HaveCauses (segments_by RandomAccess strict) (BreaksSegmentsBy RandomAccess strict) }
     ensures value { Gives (λ v. segment_views v.items) result (segments_by RandomAccess strict bytes.now) }
 {
     let mut reader = Reader::new(bytes);
@@ -140,16 +132,12 @@ fn parse_segments_random_access<'a, A: Allocator + Clone>(
     gather_segments(alloc, &mut reader, headers)
 }
 
-#[tactic(auto, using(crate::proofs::FileCauses::sequence_causes, crate::proofs::FileCauses::sorted_causes))]
 fn parse_segments<'a, A: Allocator + Clone>(
     alloc: A,
     bytes: &'a [u8],
     organization: FileOrganization,
     strict: bool,
 ) -> Result<Vec<Segment<'a, A>, A>>
-    ensures causes { (strict : Bool) → HaveCauses (sequential strict) (BreaksSequence strict) }
-    ensures sorted_causes { (strict : Bool)
-        → HaveCauses (sorted_segments strict) (BreaksSequence strict) }
     ensures value { Gives (λ v. segment_views v.items) result
         (segments_by organization strict bytes.now) }
 {
@@ -188,13 +176,11 @@ fn read_file<'a, A: Allocator + Clone>(
 /// `ParseError` where the bytes end), or `DecodeError::OutOfMemory`. Either organization gives the
 /// same segments: where the bytes spell some that the mode accepts, each of known length and the
 /// last one the only end of file, the file has those.
-#[tactic(auto, using(crate::proofs::FileCauses::file_causes))]
 pub fn parse_file<'a, A: Allocator + Clone>(
     alloc: A,
     bytes: &'a [u8],
     strict: bool,
 ) -> Result<File<'a, A>>
-    ensures causes { (strict : Bool) → HaveCauses (file_at strict) (BreaksFile strict) }
     ensures value { Gives file_view result (file_at strict bytes.now) }
     ensures either_organization { (header : FileHeader) (ss : List Spelled)
         → SpellsFile strict bytes.now header ss

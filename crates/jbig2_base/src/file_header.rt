@@ -3,7 +3,7 @@ ghost use Rattle.std.specs.Prelude.{◌≡◌, ◌+◌, ◌%◌, ◌==◌, if◌
 ghost use Rattle.std.specs.Str.{bytes_eq};
 ghost use Rattle.jbig2_base.specs.Answer.{Answers};
 ghost use Rattle.jbig2_base.specs.Bits.{IsAligned};
-ghost use Rattle.jbig2_base.specs.Causes.{HaveCauses, BreaksFileHeader};
+ghost use Rattle.jbig2_base.specs.Causes.{HasCause, BreaksFileHeader};
 ghost use Rattle.jbig2_base.specs.File.{identification, page_count_at, file_header_at};
 ghost use Rattle.jbig2_base.specs.declared.file_header.FileOrganization.TheVariants.{Sequential, RandomAccess};
 
@@ -64,12 +64,12 @@ fn page_count(reader: &mut Reader<'_>, unknown: bool) -> Result<Option<u32>>
 ///
 /// Other bytes than the identification string answer `FormatError::InvalidHeader`, a reserved bit
 /// of the flags `FormatError::ReservedBits`. Takes no memory.
-#[tactic(auto, using(crate::proofs::Causes::file_header_causes), unfolding(crate::specs::File::file_header_at))]
+#[tactic(auto, using(crate::proofs::Causes::file_header_cause), unfolding(crate::specs::File::file_header_at))]
 pub(crate) fn parse_file_header(reader: &mut Reader<'_>) -> Result<FileHeader>
     requires { IsAligned reader.old }
     ensures value { Answers (λ h. (h, reader.new.bytes)) result (file_header_at reader.old.bytes) }
     ensures aligned { IsAligned reader.new }
-    ensures causes { HaveCauses file_header_at BreaksFileHeader }
+    ensures causes { HasCause result (BreaksFileHeader reader.old.bytes) }
 {
     let front = bytes_field(reader, 8)?;
     if !is_identification(front) {

@@ -2,7 +2,7 @@
 ghost use Rattle.std.specs.Prelude.{◌≡◌, ◌+◌, ◌/◌, ◌%◌, ◌==◌, ◌<◌, ◌≤◌, Ok, IfOk, None, OnErr, OnOk, Option, false, length};
 ghost use Rattle.jbig2_base.specs.Answer.{Answers};
 ghost use Rattle.jbig2_base.specs.Bits.{IsAligned, nonzero};
-ghost use Rattle.jbig2_base.specs.Causes.{HaveCauses, BreaksInformation, BreaksInitialPage};
+ghost use Rattle.jbig2_base.specs.Causes.{HasCause, BreaksInformation, BreaksInitialPage};
 ghost use Rattle.jbig2_base.specs.PageInfo.{default_operator_of, flags_of, information_at, is_page_information, is_end_of_stripe, first_information, stripe_height, stripes_height, height_of, initial_page_with, initial_page_of};
 ghost use Rattle.jbig2_base.specs.Fields.{Parses};
 ghost use Rattle.jbig2_base.specs.inner.SegmentViews.{segment_view, segment_views};
@@ -156,10 +156,10 @@ fn resolution(number: u32) -> Option<u32>
 ///
 /// `ParseError::UnexpectedEof` where the bytes do not hold them, which leaves the reader where it
 /// was. Takes no memory.
-#[tactic(auto, using(crate::proofs::PageCauses::information_causes), unfolding(crate::specs::PageInfo::information_at))]
+#[tactic(auto, using(crate::proofs::PageCauses::information_cause), unfolding(crate::specs::PageInfo::information_at))]
 pub fn parse_page_information(reader: &mut Reader<'_>) -> Result<PageInformation>
     requires { IsAligned reader.old }
-    ensures causes { HaveCauses information_at BreaksInformation }
+    ensures causes { HasCause result (BreaksInformation reader.old.bytes) }
     ensures parses { Parses reader.old reader.new result (λ p. p) (information_at reader.old.bytes) }
 {
     let mut ahead = reader.duplicate();
@@ -270,9 +270,9 @@ impl InitialPage {
     /// `FormatError::MissingPageInfo`, `UnknownPageHeight` or `EmptyPage`,
     /// `ParseError::UnexpectedEof` where the segment is too short, `OverflowError::BitmapDimension`
     /// above 65535 pixels either way. Takes no memory.
-    #[tactic(auto, using(crate::proofs::InitialCauses::initial_page_causes), unfolding(crate::specs::PageInfo::initial_page_of))]
+    #[tactic(auto, using(crate::proofs::InitialCauses::initial_page_cause), unfolding(crate::specs::PageInfo::initial_page_of))]
     pub fn of_segments<A: Allocator>(segments: &[Segment<'_, A>]) -> Result<InitialPage>
-        ensures causes { HaveCauses initial_page_of BreaksInitialPage }
+        ensures causes { HasCause result (BreaksInitialPage (segment_views segments.now)) }
         ensures value { Answers (λ initial_page. initial_page) result
             (initial_page_of (segment_views segments.now)) }
         ensures fits { IfOk result

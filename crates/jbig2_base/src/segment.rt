@@ -6,7 +6,7 @@ ghost use Rattle.std.specs.Option.{ForSome};
 ghost use Rattle.std.specs.Bool.{OnTrue};
 ghost use Rattle.jbig2_base.specs.Answer.{Answers, Gives};
 ghost use Rattle.jbig2_base.specs.Bits.{IsAligned};
-ghost use Rattle.jbig2_base.specs.Causes.{HaveCauses, BreaksHeader, BreaksData, BreaksSegment};
+ghost use Rattle.jbig2_base.specs.Causes.{HasCause, HasCauseOrNoMemory, BreaksHeader, BreaksData};
 ghost use Rattle.jbig2_base.specs.Fields.{number_at, Parses, Takes};
 ghost use Rattle.jbig2_base.specs.Segment.{Header, type_of, is_reserved, is_immediate_generic, long_count_at, count_at, number_width, numbers_in, referred_at, length_of, header_at, data_at, segment_data_at, segment_at};
 ghost use Rattle.jbig2_base.specs.inner.SegmentViews.{header_view, segment_view};
@@ -261,14 +261,14 @@ fn data_length(strict: bool, kind: SegmentType, number: u32) -> Result<Option<u3
 /// In strict mode a type that is not listed returns `SegmentError::UnknownType`, and an unknown
 /// length of another segment than an immediate generic region `SegmentError::InvalidUnknownLength`.
 /// An error leaves the reader where it was.
-#[tactic(auto, using(crate::proofs::SegmentCauses::header_causes), unfolding(crate::specs::Segment::header_at))]
+#[tactic(auto, using(crate::proofs::SegmentCauses::header_cause), unfolding(crate::specs::Segment::header_at))]
 pub fn parse_segment_header<A: Allocator>(
     alloc: A,
     reader: &mut Reader<'_>,
     strict: bool,
 ) -> Result<SegmentHeader<A>>
     requires { IsAligned reader.old }
-    ensures causes { (strict : Bool) → HaveCauses (header_at strict) (BreaksHeader strict) }
+    ensures causes { HasCauseOrNoMemory result (BreaksHeader strict reader.old.bytes) }
     ensures parses { Takes reader.old reader.new result header_view
         (header_at strict reader.old.bytes) }
     ensures taken { OnOk result (length reader.new.bytes < length reader.old.bytes) }
@@ -314,14 +314,13 @@ fn segment_bytes<'a>(reader: &mut Reader<'a>, data_length: Option<u32>) -> Resul
 ///
 /// Data of unknown length ends with the first end marker; none returns
 /// `SegmentError::MissingEndMarker`, which leaves the reader where it was. Takes no memory.
-#[tactic(auto, using(crate::proofs::DataCauses::data_causes))]
+#[tactic(auto, using(crate::proofs::DataCauses::data_cause))]
 pub fn parse_segment_data<'a, A: Allocator>(
     reader: &mut Reader<'a>,
     header: SegmentHeader<A>,
 ) -> Result<Segment<'a, A>>
     requires { IsAligned reader.old }
-    ensures causes { (header : Header)
-        → HaveCauses (segment_data_at header) (BreaksData header.data_length) }
+    ensures causes { HasCause result (BreaksData header.data_length reader.old.bytes) }
     ensures parses { Parses reader.old reader.new result segment_view
         (segment_data_at (header_view header) reader.old.bytes) }
 {
@@ -331,14 +330,13 @@ pub fn parse_segment_data<'a, A: Allocator>(
 
 /// A segment at the reader's place: its header and the data after it (T.88, 7.2). An error leaves
 /// the reader where it was.
-#[tactic(auto, using(crate::proofs::DataCauses::segment_causes), unfolding(crate::specs::Segment::segment_at))]
+#[tactic(auto, unfolding(crate::specs::Segment::segment_at))]
 pub fn parse_segment<'a, A: Allocator>(
     alloc: A,
     reader: &mut Reader<'a>,
     strict: bool,
 ) -> Result<Segment<'a, A>>
     requires { IsAligned reader.old }
-    ensures causes { (strict : Bool) → HaveCauses (segment_at strict) (BreaksSegment strict) }
     ensures parses { Takes reader.old reader.new result segment_view
         (segment_at strict reader.old.bytes) }
     ensures taken { OnOk result (length reader.new.bytes < length reader.old.bytes) }

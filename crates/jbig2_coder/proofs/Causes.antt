@@ -8,16 +8,17 @@ use Rattle.std.proofs.lemmas.Bool.{cases_eq, cases_lt, cond_both, false≢true, 
 use Rattle.jbig2_base.specs.Bits.{Place, bits_left, bits_next, byte_bits, number_after}
 use Rattle.jbig2_base.specs.Search.{least}
 use Rattle.jbig2_base.specs.declared.error.DecodeError.{DecodeError}
-use Rattle.jbig2_base.specs.declared.error.DecodeError.TheVariants.{Parse, Huffman}
+use Rattle.jbig2_base.specs.declared.error.DecodeError.TheVariants.{OutOfMemory, Parse, Huffman}
 use Rattle.jbig2_base.specs.declared.error.ParseError.TheVariants.{UnexpectedEof}
 use Rattle.jbig2_base.specs.declared.error.HuffmanError.TheVariants.{InvalidCode, UnexpectedOob}
 use Rattle.jbig2_base.specs.inner.BitLists.{AreBits}
 use Rattle.jbig2_base.proofs.BitFieldLemmas.{bits-drop, byte-bits}
-use Rattle.jbig2_coder.specs.Causes.{AreCrowded, Begins, BreaksCode, BreaksNumber, BreaksTable, BreaksValue, CodesHaveCauses, LeavesWord, NumbersHaveCauses, ValuesHaveCauses, BreaksSelection}
-use Rattle.jbig2_coder.specs.PrefixCode.{CodeReading, Member, begins_longer, decoded_value, front_number, in_word, is_crowded, line_of, longest, moved, no_oob, prefix_code, read_code, table_of, value_by, weight}
+use Rattle.jbig2_coder.specs.Causes.{AreCrowded, Begins, BreaksCode, BreaksNumber, BreaksRange, BreaksSelection, BreaksTable, BreaksValue, LeavesWord}
+use Rattle.jbig2_coder.specs.PrefixCode.{CodeReading, Member, begins_longer, decoded_value, front_number, in_word, is_crowded, line_of, longest, moved, no_oob, prefix_code, read_code, table_of, value_by, weight, without_oob}
 use Rattle.jbig2_coder.specs.inner.CodeParts.{ended, found_or, is_decided, refused, some_value, value_after, valued}
 use Rattle.jbig2_coder.specs.declared.huffman_table.line.TableLine.{TableLine}
-use Rattle.jbig2_base.specs.Causes.{HaveCauses}
+use Rattle.jbig2_base.specs.Causes.{HasCause, HasCauseOrNoMemory}
+use Rattle.jbig2_base.proofs.CauseSteps.{call-cause, call-cause-or-memory}
 use Rattle.jbig2_coder.specs.Tables.{next_custom}
 
 -- ---- lists
@@ -74,10 +75,8 @@ fewer f (suc j) (suc k) (b ∷ bits) are order fits =
     ap (λ (i : ℕ). number_after (2 * f + b) (take j bits) / 2 ^ i) e ∙ fewer (2 * f + b) j k bits are.1 (omega arith) (omega arith)
 
 -- a line with range bits, which the bits after its code do not hold, or which lead out of signed 32 bits
-abbrev BreaksRange : TableLine → List ℕ → Type 0
-BreaksRange line bits =
-    (line.is_out_of_band ≡ false)
-    × ((length bits < line.range_length) ⊎ LeavesWord (moved line (front_number line.range_length bits)))
+abbrev BreaksNumbered : TableLine → List ℕ → Type 0
+BreaksNumbered line bits = (line.is_out_of_band ≡ false) × BreaksRange line bits (Huffman InvalidCode)
 
 -- of none of the codes
 abbrev NoneOf : (Member → Type 0) → List Member → Type 0
@@ -230,8 +229,10 @@ left-are : (p : Place) → AreBits (bits_left p)
 unfolding bits_left
 left-are p = bits-drop p.bit (flat_map byte_bits p.bytes) (byte-bits p.bytes)
 
-pub code_causes : CodesHaveCauses
-code_causes ms p = code-of (BreaksCode ms (bits_left p)) ms (bits_left p) (left-are p) (λ why. why) (λ why. why)
+pub code_cause : {X : Type 0} (ms : List Member) (p : Place) (r : Result X DecodeError) → IfErr r (λ e. (read_code ms (bits_left p)).answer ≡ Err e) → HasCause r (BreaksCode ms (bits_left p))
+code_cause ms p r =
+    let P : DecodeError → Type 0 = BreaksCode ms (bits_left p) in
+    call-cause P (read_code ms (bits_left p)).answer r (code-of P ms (bits_left p) (left-are p) (λ why. why) (λ why. why))
 
 -- ---- a value
 pub word-cause : (P : DecodeError → Type 0) (n : ℤ) → (LeavesWord n → P (Huffman InvalidCode)) → IfErr (in_word n) P
@@ -246,17 +247,20 @@ some-cause : (P : DecodeError → Type 0) (r : Result ℤ DecodeError) → IfErr
 some-cause P (Ok n) why = tt
 some-cause P (Err e) why = why
 
-range-cause : (P : DecodeError → Type 0) (line : TableLine) (bits : List ℕ) → (BreaksRange line bits → P (Huffman InvalidCode)) → IfErr (value_after line bits) P
-range-cause P line bits why =
+read-range : (P : DecodeError → Type 0) (line : TableLine) (bits : List ℕ) → (BreaksRange line bits (Huffman InvalidCode) → P (Huffman InvalidCode)) → IfErr (value_by line (bits_next line.range_length bits)) P
+read-range P line bits why =
     let n = line.range_length in
-    let Q : Result (Option ℤ) DecodeError → Type 0 = λ r. IfErr r P in
     let R : Option ℕ → Type 0 = λ o. IfErr (value_by line o) P in
-    cond_both line.is_out_of_band (Ok None) (value_by line (bits_next n bits)) Q (λ out. tt)
-    (λ numbered. cond_both (ltb (length bits) n) None (Some (front_number n bits)) R
-    (λ short. why (numbered, inl (ltb-true (length bits) n short)))
-    (λ there. some-cause P (in_word (moved line (front_number n bits))) (word-cause P (moved line (front_number n bits)) (λ leaves. why (numbered, inr leaves)))))
+    cond_both (ltb (length bits) n) None (Some (front_number n bits)) R
+    (λ short. why (inl (ltb-true (length bits) n short)))
+    (λ there. some-cause P (in_word (moved line (front_number n bits))) (word-cause P (moved line (front_number n bits)) (λ leaves. why (inr leaves))))
 
-valued-cause : (P : DecodeError → Type 0) (answer : Result TableLine DecodeError) (taken : ℕ) (bits : List ℕ) → IfErr answer P → ((line : TableLine) → answer ≡ Ok line → BreaksRange line (drop taken bits) → P (Huffman InvalidCode)) → IfErr (valued (record { answer = answer; taken = taken }) bits).answer P
+range-cause : (P : DecodeError → Type 0) (line : TableLine) (bits : List ℕ) → (BreaksNumbered line bits → P (Huffman InvalidCode)) → IfErr (value_after line bits) P
+range-cause P line bits why =
+    let Q : Result (Option ℤ) DecodeError → Type 0 = λ r. IfErr r P in
+    cond_both line.is_out_of_band (Ok None) (value_by line (bits_next line.range_length bits)) Q (λ out. tt) (λ numbered. read-range P line bits (λ breaks. why (numbered, breaks)))
+
+valued-cause : (P : DecodeError → Type 0) (answer : Result TableLine DecodeError) (taken : ℕ) (bits : List ℕ) → IfErr answer P → ((line : TableLine) → answer ≡ Ok line → BreaksNumbered line (drop taken bits) → P (Huffman InvalidCode)) → IfErr (valued (record { answer = answer; taken = taken }) bits).answer P
 valued-cause P (Ok line) taken bits first why = range-cause P line (drop taken bits) (why line refl)
 valued-cause P (Err e) taken bits first why = first
 
@@ -268,12 +272,13 @@ value-of P ms bits are at_end at_code =
     valued-cause P r.answer r.taken bits (code-of P ms bits are at_end (λ why. at_code (inl why)))
     (λ line is breaks.
     let any = code-found ms bits line is in
-    let R : TableLine → Type 0 = λ x. BreaksRange x (drop any.1.bits bits) in
-    let same : BreaksRange line (drop any.1.bits bits) = subst (λ (n : ℕ). BreaksRange line (drop n bits)) (sym any.4.1) breaks in
+    let R : TableLine → Type 0 = λ x. BreaksNumbered x (drop any.1.bits bits) in
+    let same : BreaksNumbered line (drop any.1.bits bits) = subst (λ (n : ℕ). BreaksNumbered line (drop n bits)) (sym any.4.1) breaks in
     at_code (inr (any.0, any.1, any.2, any.3, (any.4.0, subst R (sym any.4.2) same))))
 
-pub value_causes : ValuesHaveCauses
-value_causes ms p = value-of (BreaksValue ms (bits_left p)) ms (bits_left p) (left-are p) (λ why. why) (λ why. why)
+pub range_cause : {X : Type 0} (line : TableLine) (bits : List ℕ) (r : Result X DecodeError) → IfErr r (λ e. value_by line (bits_next line.range_length bits) ≡ Err e) → HasCause r (BreaksRange line bits)
+range_cause line bits r =
+    call-cause (BreaksRange line bits) (value_by line (bits_next line.range_length bits)) r (read-range (BreaksRange line bits) line bits (λ why. why))
 
 -- ---- a value that may not be out of band
 no-value : (line : TableLine) (bits : List ℕ) → value_after line bits ≡ Ok None → line.is_out_of_band ≡ true
@@ -306,11 +311,12 @@ oob-cause P (Ok (Some n)) first why = tt
 oob-cause P (Ok None) first why = why refl
 oob-cause P (Err e) first why = first
 
-pub number_causes : NumbersHaveCauses
-number_causes ms p =
+pub number_cause : {X : Type 0} (ms : List Member) (p : Place) (r : Result X DecodeError) → IfErr r (λ e. (without_oob (decoded_value ms (bits_left p))).answer ≡ Err e) → HasCause r (BreaksNumber ms (bits_left p))
+number_cause ms p r =
     let bits = bits_left p in
     let P : DecodeError → Type 0 = BreaksNumber ms bits in
-    oob-cause P (decoded_value ms bits).answer (value-of P ms bits (left-are p) (λ why. why) (λ why. why)) (none-read ms bits)
+    call-cause P (without_oob (decoded_value ms bits)).answer r
+    (oob-cause P (decoded_value ms bits).answer (value-of P ms bits (left-are p) (λ why. why) (λ why. why)) (none-read ms bits))
 
 -- ---- the codes of lengths
 pub table-cause : (P : DecodeError → Type 0) (lines : List TableLine) → (AreCrowded lines → P (Huffman InvalidCode)) → IfErr (table_of lines) P
@@ -319,12 +325,13 @@ table-cause P lines why =
     let Q : Result (List Member) DecodeError → Type 0 = λ r. IfErr r P in
     cond_both (is_crowded lines) (Err (Huffman InvalidCode)) (Ok (prefix_code lines)) Q (λ crowded. why (ltb-true (2 ^ longest lines) (weight (longest lines) lines) crowded)) (λ fits. tt)
 
-pub table_causes : HaveCauses table_of BreaksTable
-unfolding HaveCauses
-table_causes lines = table-cause (BreaksTable lines) lines (λ crowded. crowded)
+pub table_cause : {X : Type 0} (lines : List TableLine) (r : Result X DecodeError) → IfErr r (λ e. (e ≡ OutOfMemory) ⊎ (table_of lines ≡ Err e)) → HasCauseOrNoMemory r (BreaksTable lines)
+table_cause lines r = call-cause-or-memory (BreaksTable lines) (table_of lines) r (table-cause (BreaksTable lines) lines (λ crowded. crowded))
 
 -- ---- the choice of tables
-pub selection_causes : HaveCauses next_custom BreaksSelection
-unfolding HaveCauses
-selection_causes [] = refl
-selection_causes (table ∷ others) = tt
+selection-of : (customs : List (List Member)) → IfErr (next_custom customs) (BreaksSelection customs)
+selection-of [] = refl
+selection-of (table ∷ others) = tt
+
+pub selection_cause : {X : Type 0} (customs : List (List Member)) (r : Result X DecodeError) → IfErr r (λ e. next_custom customs ≡ Err e) → HasCause r (BreaksSelection customs)
+selection_cause customs r = call-cause (BreaksSelection customs) (next_custom customs) r (selection-of customs)

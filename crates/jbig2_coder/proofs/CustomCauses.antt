@@ -1,20 +1,21 @@
 -- Which rule the bits of a custom table break where it is refused.
-use Rattle.std.proofs.Common.{◌≡◌, ℕ, zero, suc, ◌+◌, ◌-◌, ◌*◌, ◌/◌, ◌%◌, ◌^◌, ◌<◌, ◌≤◌, ltb, Bool, true, false, cond, List, [], ◌∷◌, length, drop, Option, Some, None, Result, Ok, Err, ℤ, pos, negsuc, ◌+ℤ◌, ◌-ℤ◌, refl, sym, ◌∙◌, ap, subst, arith, inl, inr, ltb-true, ltb-false, length-drop}
+use Rattle.std.proofs.Common.{◌≡◌, ℕ, zero, suc, ◌+◌, ◌-◌, ◌*◌, ◌/◌, ◌%◌, ◌^◌, ◌<◌, ◌≤◌, ltb, Bool, true, false, cond, List, [], ◌∷◌, length, drop, Option, Some, None, Result, Ok, Err, ℤ, pos, negsuc, ◌+ℤ◌, ◌-ℤ◌, refl, sym, ◌∙◌, ap, subst, arith, inl, inr, ⊎_elim, ltb-true, ltb-false, length-drop}
 use Rattle.std.specs.Prelude.{IfErr, int_lt, ◌⊎◌}
 use Rattle.std.specs.List.{flat_map}
 use Rattle.std.proofs.lemmas.Bool.{cond_both, false≢true}
 use Rattle.jbig2_base.specs.Answer.{◌>>=◌, some_or}
 use Rattle.jbig2_base.specs.Bits.{Place, bits_left, bits_next, bits_on, byte_bits}
 use Rattle.jbig2_base.specs.declared.error.DecodeError.{DecodeError}
-use Rattle.jbig2_base.specs.declared.error.DecodeError.TheVariants.{Parse, Huffman}
+use Rattle.jbig2_base.specs.declared.error.DecodeError.TheVariants.{OutOfMemory, Parse, Huffman}
 use Rattle.jbig2_base.specs.declared.error.ParseError.TheVariants.{UnexpectedEof}
 use Rattle.jbig2_base.specs.declared.error.HuffmanError.TheVariants.{InvalidCode}
+use Rattle.jbig2_base.specs.Causes.{HasCauseOrNoMemory}
 use Rattle.jbig2_base.proofs.Causes.{cause-next, same-ok, went}
 use Rattle.jbig2_base.proofs.ReaderLemmas.{bits_on-enough}
-use Rattle.jbig2_coder.specs.Causes.{BreaksCustom, BreaksLines, BreaksSomeLine, CustomTablesHaveCauses, LeavesWord}
-use Rattle.jbig2_coder.specs.CustomTable.{Step, behind, custom_header, custom_line, custom_lines, custom_table, end_lines, field, left_at, next_low, range_lines, range_lines_in}
+use Rattle.jbig2_coder.specs.Causes.{BreaksCustom, BreaksLines, BreaksSomeLine, LeavesWord}
+use Rattle.jbig2_coder.specs.CustomTable.{GivesAt, Step, behind, custom_header, custom_line, custom_lines, custom_table, end_lines, field, left_at, next_low, range_lines, range_lines_in}
 use Rattle.jbig2_coder.specs.inner.CodeParts.{last_line}
-use Rattle.jbig2_coder.specs.PrefixCode.{front_number, in_word, table_of}
+use Rattle.jbig2_coder.specs.PrefixCode.{Member, front_number, in_word, table_of}
 use Rattle.jbig2_coder.specs.Tables.{lower, out_of_band, upper}
 use Rattle.jbig2_coder.specs.declared.huffman_table.custom.Header.{Header}
 use Rattle.jbig2_coder.specs.declared.huffman_table.line.TableLine.{TableLine}
@@ -225,9 +226,17 @@ cause-custom_lines P p at_end at_code =
     (cause-lines P (length (bits_left h.1) + 1) h.0 h.0.minimum h.1 (λ breaks. at_code (h, h_is, inl breaks))) (λ ranges ranges_is.
     cause-behind P ranges.0 (end_lines h.0 ranges.1) (cause-end P h.0 ranges.1 (λ short. at_code (h, h_is, inr (ranges, ranges_is, short))))))
 
-pub custom_causes : CustomTablesHaveCauses
+custom_causes : (p : Place) → CauseAt (BreaksCustom p) (custom_table p)
 unfolding custom_table
 custom_causes p =
     let P : DecodeError → Type 0 = BreaksCustom p in
     cause-on P (custom_lines p) _ (cause-custom_lines P p (λ short. short) (λ breaks. inl breaks))
     (λ lines is. cause-left P lines.1 (table_of lines.0) (table-cause P lines.0 (λ crowded. inr (lines, is, crowded))))
+
+-- the error of a call that gives the table's answer, wherever it leaves the reader
+pub custom_cause : {X : Type 0} (view : X → List Member) (p q : Place) (r : Result X DecodeError) → GivesAt view r q (custom_table p) → HasCauseOrNoMemory r (BreaksCustom p)
+unfolding HasCauseOrNoMemory
+custom_cause view p q (Ok x) is = tt
+custom_cause view p q (Err e) is =
+    ⊎_elim {C = (e ≡ OutOfMemory) ⊎ BreaksCustom p e} (λ memory. inl memory)
+    (λ same. inr (subst (λ (s : Step (List Member)). CauseAt (BreaksCustom p) s) same (custom_causes p))) is

@@ -1,8 +1,8 @@
 -- Which rule the bits break where a read by a prefix code refuses them (docs/FORMAT.md), a line for each error.
--- `Breaks..` takes a table and the bits, or a table's lines, and an error; its law ties the definition's errors to it.
-use Rattle.std.specs.Prelude.{◌≡◌, ◌<◌, ◌≤◌, ◌⊎◌, ℕ, zero, suc, ◌+◌, ◌-◌, ◌*◌, ◌/◌, ◌^◌, true, false, if◌then◌else◌, List, [], length, drop, All, Any, Ok, IfErr, ℤ, pos, negsuc, ◌+ℤ◌, int_lt}
+-- `Breaks..` takes a table and the bits, or a table's lines, and an error; the function that refuses cites it.
+use Rattle.std.specs.Prelude.{◌≡◌, ◌<◌, ◌≤◌, ◌⊎◌, ℕ, zero, suc, ◌+◌, ◌-◌, ◌*◌, ◌/◌, ◌^◌, true, false, if◌then◌else◌, List, [], length, drop, All, Any, Ok, ℤ, pos, negsuc, ◌+ℤ◌, int_lt}
 use Rattle.jbig2_base.specs.{Bits.{Place, bits_left, bits_on, number_after}, declared.error.{DecodeError.{DecodeError, TheVariants.{Parse, Huffman}}, ParseError.TheVariants.{UnexpectedEof}, HuffmanError.TheVariants.{InvalidCode, MissingTables, UnexpectedOob}}}
-use Rattle.jbig2_coder.specs.{CustomTable.{custom_header, custom_lines, custom_table, range_lines}, PrefixCode.{Member, decoded_value, front_number, longest, moved, read_code, weight, without_oob}, declared.huffman_table.{custom.Header.{Header}, line.TableLine.{TableLine}}}
+use Rattle.jbig2_coder.specs.{CustomTable.{custom_header, custom_lines, range_lines}, PrefixCode.{Member, front_number, longest, moved, weight}, declared.huffman_table.{custom.Header.{Header}, line.TableLine.{TableLine}}}
 
 -- The sum of 2^-len over the codes exceeds 1 (B.3): more numbers of the greatest length lie under them than there are.
 abbrev pub AreCrowded : List TableLine → Type 0
@@ -25,32 +25,27 @@ BreaksCode ms bits (Parse UnexpectedEof) =
 BreaksCode ms bits (Huffman InvalidCode) = All (λ m. Begins bits m → ⊥) ms × All (λ m. EndWithin bits m → ⊥) ms
 BreaksCode ms bits _ = ⊥
 
-abbrev pub CodesHaveCauses : Type 0
-CodesHaveCauses = (ms : List Member) (p : Place) → IfErr (read_code ms (bits_left p)).answer (BreaksCode ms (bits_left p))
-
 abbrev pub LeavesWord : ℤ → Type 0  -- a number that signed 32 bits do not hold
 LeavesWord (pos n) = 2 ^ 31 ≤ n
 LeavesWord (negsuc n) = 2 ^ 31 ≤ n
 
--- A value: its code, or after it the range bits of the code's line are not there, or lead out of signed 32 bits.
+-- the bits of a line's range are not there, or lead out of signed 32 bits
+abbrev pub BreaksRange : TableLine → List ℕ → DecodeError → Type 0
+BreaksRange line bits (Huffman InvalidCode) =
+    (length bits < line.range_length) ⊎ LeavesWord (moved line (front_number line.range_length bits))
+BreaksRange line bits _ = ⊥
+
+-- A value: its code, or after it the range of the code's line.
 abbrev pub BreaksValue : List Member → List ℕ → DecodeError → Type 0
 BreaksValue ms bits (Parse UnexpectedEof) = BreaksCode ms bits (Parse UnexpectedEof)
 BreaksValue ms bits (Huffman InvalidCode) =
-    let BreaksRange : TableLine → List ℕ → Type 0 = λ line behind. (line.is_out_of_band ≡ false)
-    × ((length behind < line.range_length) ⊎ LeavesWord (moved line (front_number line.range_length behind))) in
-    BreaksCode ms bits (Huffman InvalidCode) ⊎ Any (λ m. Begins bits m × BreaksRange m.line (drop m.bits bits)) ms
+    BreaksCode ms bits (Huffman InvalidCode)
+    ⊎ Any (λ m. Begins bits m × ((m.line.is_out_of_band ≡ false) × BreaksRange m.line (drop m.bits bits) (Huffman InvalidCode))) ms
 BreaksValue ms bits _ = ⊥
-
-abbrev pub ValuesHaveCauses : Type 0
-ValuesHaveCauses = (ms : List Member) (p : Place) → IfErr (decoded_value ms (bits_left p)).answer (BreaksValue ms (bits_left p))
 
 abbrev pub BreaksNumber : List Member → List ℕ → DecodeError → Type 0  -- the same where none may be out of band
 BreaksNumber ms bits (Huffman UnexpectedOob) = Any (λ m. Begins bits m × (m.line.is_out_of_band ≡ true)) ms
 BreaksNumber ms bits e = BreaksValue ms bits e
-
-abbrev pub NumbersHaveCauses : Type 0
-NumbersHaveCauses =
-    (ms : List Member) (p : Place) → IfErr (without_oob (decoded_value ms (bits_left p))).answer (BreaksNumber ms (bits_left p))
 
 -- A line of a custom table (B.2), this or one of n - 1 after it, begins below the maximum, and its two lengths are
 -- not there, or its range is above 31 bits, or leads out of signed 32 bits.
@@ -79,9 +74,6 @@ BreaksCustom p (Huffman InvalidCode) =
     ((header : Header × Place) × (custom_header p ≡ Ok header) × BreaksLines header.0 header.1)
     ⊎ ((lines : List TableLine × Place) × (custom_lines p ≡ Ok lines) × AreCrowded lines.0)
 BreaksCustom p _ = ⊥
-
-abbrev pub CustomTablesHaveCauses : Type 0
-CustomTablesHaveCauses = (p : Place) → IfErr (custom_table p) (λ refusal. BreaksCustom p refusal.0)
 
 abbrev pub BreaksSelection : List (List Member) → DecodeError → Type 0  -- a custom table, where none is left
 BreaksSelection customs (Huffman MissingTables) = customs ≡ []

@@ -5,8 +5,8 @@ ghost use Rattle.jbig2_base.specs.Bits.{bits_left};
 ghost use Rattle.jbig2_coder.specs.PrefixCode.{table_of, read_code, decoded_value, without_oob, AreShort, IsFree, Reads};
 ghost use Rattle.jbig2_coder.specs.Tables.{uniform};
 ghost use Rattle.jbig2_coder.specs.CustomTable.{custom_table, GivesAt, TablesAreFree};
-ghost use Rattle.jbig2_coder.specs.Causes.{CodesHaveCauses, CustomTablesHaveCauses, NumbersHaveCauses, BreaksTable};
-ghost use Rattle.jbig2_base.specs.Causes.{HaveCauses};
+ghost use Rattle.jbig2_coder.specs.Causes.{BreaksCode, BreaksCustom, BreaksNumber, BreaksTable};
+ghost use Rattle.jbig2_base.specs.Causes.{HasCause, HasCauseOrNoMemory};
 
 mod custom;
 mod first_table;
@@ -55,13 +55,13 @@ impl<A: Allocator + Clone> HuffmanTable<A> {
     /// It is refused as an invalid code exactly where the codes do not fit, that is where the sum of
     /// 2^-length over the lengths above 0 exceeds 1. No code of a table begins another, whichever way the
     /// table is made.
-    #[tactic(auto, using(crate::proofs::FreeTables::tables_are_free, crate::proofs::Causes::table_causes))]
+    #[tactic(auto, using(crate::proofs::FreeTables::tables_are_free, crate::proofs::Causes::table_cause))]
     pub fn build(alloc: A, lines: &[TableLine]) -> Result<HuffmanTable<A>>
         requires { AreShort lines.now }
         ensures table { Gives (λ t. t) result (table_of lines.now) }
         ensures free { IfOk result IsFree }
         ensures law { TablesAreFree }
-        ensures causes { HaveCauses table_of BreaksTable }
+        ensures causes { HasCauseOrNoMemory result (BreaksTable lines.now) }
     {
         let depths = longest(lines);
         let mut sorted = Vec::with_capacity(alloc.clone()?, lines.len())?;
@@ -95,10 +95,10 @@ impl<A: Allocator + Clone> HuffmanTable<A> {
     ///
     /// Bits that end before the lines are an unexpected end. Bits that end later, a range that
     /// leaves signed 32 bits, and codes that do not fit are an invalid code.
-    #[tactic(auto, using(crate::proofs::CustomCauses::custom_causes))]
+    #[tactic(auto, unfolding(jbig2_base::specs::Causes::HasCauseOrNoMemory))]
     pub fn read_custom(alloc: A, reader: &mut Reader<'_>) -> Result<HuffmanTable<A>>
         ensures table { GivesAt (λ t. t) result reader.new (custom_table reader.old) }
-        ensures causes { CustomTablesHaveCauses }
+        ensures causes { HasCauseOrNoMemory result (BreaksCustom reader.old) }
     {
         let lines = read_lines(alloc.clone()?, reader)?;
         HuffmanTable::build(alloc, &lines)
@@ -121,12 +121,12 @@ impl<A: Allocator + Clone> HuffmanTable<A> {
 impl<A: Allocator> HuffmanTable<A> {
     /// Reads a code: its line, or the end of the bits, or an invalid code at the first bits that
     /// begin none.
-    #[tactic(auto, using(crate::proofs::Causes::code_causes))]
+    #[tactic(auto, using(crate::proofs::Causes::code_cause))]
     fn read_line(&self, reader: &mut Reader<'_>) -> Result<TableLine>
         ensures reads { Reads reader.old reader.new result
             (read_code self.now (bits_left reader.old)) }
         ensures short { IfOk result (λ line. line.range_length ≤ 32) }
-        ensures causes { CodesHaveCauses }
+        ensures causes { HasCause result (BreaksCode self.now (bits_left reader.old)) }
     {
         self.first.read_line(&self.lines, &self.levels, reader)
     }
@@ -147,11 +147,11 @@ impl<A: Allocator> HuffmanTable<A> {
     }
 
     /// Reads a value where out of band is an error.
-    #[tactic(auto, using(crate::proofs::Causes::number_causes))]
+    #[tactic(auto, using(crate::proofs::Causes::number_cause))]
     pub fn decode_no_oob(&self, reader: &mut Reader<'_>) -> Result<i32>
         ensures reads { Reads reader.old reader.new result
             (without_oob (decoded_value self.now (bits_left reader.old))) }
-        ensures causes { NumbersHaveCauses }
+        ensures causes { HasCause result (BreaksNumber self.now (bits_left reader.old)) }
     {
         let Some(value) = self.decode(reader)? else {
             return Err(DecodeError::Huffman(HuffmanError::UnexpectedOob));

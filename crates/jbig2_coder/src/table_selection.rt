@@ -2,7 +2,7 @@
 ghost use Rattle.jbig2_base.specs.Answer.{Answers};
 ghost use Rattle.jbig2_coder.specs.Tables.{next_custom};
 ghost use Rattle.jbig2_coder.specs.inner.TableViews.{customs_view};
-ghost use Rattle.jbig2_base.specs.Causes.{HaveCauses};
+ghost use Rattle.jbig2_base.specs.Causes.{HasCause};
 ghost use Rattle.jbig2_coder.specs.Causes.{BreaksSelection};
 
 use crate::huffman_table::HuffmanTable;
@@ -10,13 +10,13 @@ use jbig2_base::error::{DecodeError, HuffmanError, Result};
 use std::alloc::Allocator;
 
 /// The next custom table, and those after it; `HuffmanError::MissingTables` where there is none.
-#[tactic(auto, using(crate::proofs::Causes::selection_causes))]
+#[tactic(auto, using(crate::proofs::Causes::selection_cause))]
 pub fn next_custom<'a, T: Allocator>(
     customs: &'a [&'a HuffmanTable<T>],
 ) -> Result<(&'a HuffmanTable<T>, &'a [&'a HuffmanTable<T>])>
     ensures value { let meant = next_custom (customs_view customs.now) in
         Answers (λ t. (t.0.now, customs_view t.1.now)) result meant }
-    ensures causes { HaveCauses next_custom BreaksSelection }
+    ensures causes { HasCause result (BreaksSelection (customs_view customs.now)) }
 {
     if customs.is_empty() {
         return Err(DecodeError::Huffman(HuffmanError::MissingTables));

@@ -1,5 +1,5 @@
 -- Which rule the input breaks where the data of patterns, gray-scale images or halftone regions is refused.
-use Rattle.std.proofs.Common.{◌≡◌, ◌⊎◌, inl, inr, ⊎_elim, ℕ, zero, suc, ◌+◌, ◌-◌, ◌*◌, ◌<◌, ◌≤◌, ◌/◌, ◌%◌, ltb, Bool, true, false, not, ◌&&◌, ◌||◌, List, map, drop, length, Ok, refl, ◌∙◌, ap, subst, arith}
+use Rattle.std.proofs.Common.{◌≡◌, ◌⊎◌, inl, inr, ⊎_elim, ℕ, zero, suc, ◌+◌, ◌-◌, ◌*◌, ◌<◌, ◌≤◌, ◌/◌, ◌%◌, ltb, Bool, true, false, not, ◌&&◌, ◌||◌, List, map, drop, length, Result, Ok, Err, refl, sym, ◌∙◌, ap, subst, arith}
 use Rattle.std.specs.Prelude.{IfErr}
 use Rattle.std.specs.List.{range_with_len}
 use Rattle.std.proofs.lemmas.Bool.{and_parts, ltb-true, ltb-false, not-true, or_cases}
@@ -7,7 +7,7 @@ use Rattle.std.proofs.lemmas.Nat.{mod_below, row-Below}
 use Rattle.jbig2_base.specs.Answer.{refuse_if}
 use Rattle.jbig2_base.specs.Grid.{Grid}
 use Rattle.jbig2_base.specs.declared.error.DecodeError.{DecodeError}
-use Rattle.jbig2_base.specs.declared.error.DecodeError.TheVariants.{Overflow, Region}
+use Rattle.jbig2_base.specs.declared.error.DecodeError.TheVariants.{OutOfMemory, Overflow, Region}
 use Rattle.jbig2_base.specs.declared.error.OverflowError.TheVariants.{BitmapDimension}
 use Rattle.jbig2_base.specs.declared.error.RegionError.TheVariants.{GrayScaleOutOfRange, InvalidMmrData}
 use Rattle.jbig2_base.proofs.Causes.{cause-next}
@@ -15,52 +15,63 @@ use Rattle.jbig2_mmr.specs.T6.{Decoded, mmr_rows, rows_of}
 use Rattle.jbig2_region.specs.Generic.{generic_answer}
 use Rattle.jbig2_halftone.specs.Causes.{BreaksGrayScale, BreaksHalftone, BreaksPatterns, plane_start}
 use Rattle.jbig2_halftone.specs.GrayScale.{GrayScale, gray_scale_image, gray_value, gray_values, image_is_too_large, mmr_plane, mmr_planes, planes_of}
-use Rattle.jbig2_halftone.specs.Halftone.{cells_drawn, gray_params, halftone_answer, halftone_decoded, pattern_for, with_cell}
+use Rattle.jbig2_halftone.specs.Halftone.{cells_drawn, gray_params, halftone_answer, pattern_for, with_cell}
 use Rattle.jbig2_halftone.specs.HalftoneHeader.{HalftoneHeader}
 use Rattle.jbig2_halftone.specs.Patterns.{Patterns, collective_header, collective_width, patterns_decoded}
 use Rattle.jbig2_halftone.specs.inner.Stages.{planes_by_coder, planes_by_mmr}
 use Rattle.jbig2_region.proofs.Told.{Told, cause-if, cause-last, cause-of, told, told-if, told-next, told-refused}
-use Rattle.jbig2_base.specs.Causes.{HaveCauses}
+use Rattle.jbig2_base.specs.Causes.{HasCauseOrNoMemory}
+use Rattle.jbig2_base.proofs.CauseSteps.{call-cause-or-memory}
+use Rattle.jbig2_mmr.specs.Causes.{BreaksMmr}
+use Rattle.jbig2_mmr.proofs.Causes.{all-fault}
+use Rattle.jbig2_halftone.specs.PatternHeader.{PatternHeader}
 
 -- ---- MMR data
--- the bytes begin with fewer than h whole rows of T.6 data
-abbrev LacksRows : ℕ → ℕ → List ℕ → Type 0
-LacksRows w h bytes = (rows_of w h bytes).whole ≡ false
+-- of h rows of T.6 data one is missing or at fault
+abbrev LacksRows : Bool → ℕ → ℕ → List ℕ → Type 0
+LacksRows strict w h bytes = BreaksMmr strict w h bytes (Region InvalidMmrData)
 
 abbrev APlaneLacksRows : GrayScale → List ℕ → Type 0
-APlaneLacksRows p bytes = (k : ℕ) × (k < p.bits_per_pixel) × LacksRows p.width p.height (plane_start p bytes k)
+APlaneLacksRows p bytes = (k : ℕ) × (k < p.bits_per_pixel) × LacksRows p.strict p.width p.height (plane_start p bytes k)
 
 -- how many bytes the rows used, a begun one whole
 used : ℕ → ℕ → List ℕ → ℕ
 used w h bytes = length bytes - length (rows_of w h bytes).left / 8
 
-told-mmr : (P : DecodeError → Type 0) (strict : Bool) (w h : ℕ) (bytes : List ℕ) → (strict ≡ true → LacksRows w h bytes → P (Region InvalidMmrData))
+told-mmr : (P : DecodeError → Type 0) (strict : Bool) (w h : ℕ) (bytes : List ℕ) → (LacksRows strict w h bytes → P (Region InvalidMmrData))
     → Told (mmr_rows strict w h bytes) P (λ (d : Decoded). used w h bytes ≡ d.used)
 unfolding mmr_rows used
 told-mmr P strict w h bytes why =
     told-if P _ (strict && not (rows_of w h bytes).whole) _ _
-    (λ is. let parts = and_parts strict (not (rows_of w h bytes).whole) is in why parts.0 (not-true (rows_of w h bytes).whole parts.1)) (λ is. refl)
+    (λ is.
+    let parts = and_parts strict (not (rows_of w h bytes).whole) is in
+    let fault = all-fault w h bytes (not-true (rows_of w h bytes).whole parts.1) in
+    why (parts.0, fault.0, fault.1))
+    (λ is. refl)
 
 -- ---- patterns
-pub pattern_causes : HaveCauses patterns_decoded BreaksPatterns
-unfolding HaveCauses patterns_decoded
+pattern_causes : (h : PatternHeader) → IfErr (patterns_decoded h) (BreaksPatterns h)
+unfolding patterns_decoded
 pattern_causes h =
     let P : DecodeError → Type 0 = BreaksPatterns h in
     cause-last P _ (refuse_if (ltb 65535 (collective_width h)) (Overflow BitmapDimension)) _ (told-refused P (ltb 65535 (collective_width h)) (Overflow BitmapDimension) (λ wide. ltb-true 65535 _ wide)) (λ fits is.
     cause-last P (λ g. Unit {0}) (generic_answer (collective_header h)) _
-    (told-if P (λ g. Unit {0}) h.mmr _ _ (λ mmr. told-next P _ (λ g. Unit {0}) (mmr_rows h.strict _ _ h.bytes) _ (told-mmr P h.strict _ _ h.bytes (λ strict lacks. (strict, mmr, lacks))) (λ rows r. tt)) (λ coded. tt)) (λ g r. tt))
+    (told-if P (λ g. Unit {0}) h.mmr _ _ (λ mmr. told-next P _ (λ g. Unit {0}) (mmr_rows h.strict _ _ h.bytes) _ (told-mmr P h.strict _ _ h.bytes (λ lacks. (mmr, lacks))) (λ rows r. tt)) (λ coded. tt)) (λ g r. tt))
+
+pub pattern_cause : {X : Type 0} (h : PatternHeader) (r : Result X DecodeError) → IfErr r (λ e. (e ≡ OutOfMemory) ⊎ (patterns_decoded h ≡ Err e)) → HasCauseOrNoMemory r (BreaksPatterns h)
+pattern_cause h r = call-cause-or-memory (BreaksPatterns h) (patterns_decoded h) r (pattern_causes h)
 
 -- ---- planes
 -- planes from plane k on
 cause-planes : (P : DecodeError → Type 0) (p : GrayScale) (bytes : List ℕ) (k : ℕ) (rest : List ℕ) (count : ℕ) → plane_start p bytes k ≡ rest
-    → ((j : ℕ) → j < k + count → LacksRows p.width p.height (plane_start p bytes j) → p.strict ≡ true → P (Region InvalidMmrData)) → IfErr (mmr_planes p rest count) P
+    → ((j : ℕ) → j < k + count → LacksRows p.strict p.width p.height (plane_start p bytes j) → P (Region InvalidMmrData)) → IfErr (mmr_planes p rest count) P
 unfolding mmr_planes mmr_plane plane_start used
 cause-planes P p bytes k rest zero at why = tt
 cause-planes P p bytes k rest (suc count) at why =
     let Q : Grid × List ℕ → Type 0 = λ x. plane_start p bytes (suc k) ≡ x.1 in
-    let lacks : LacksRows p.width p.height rest → LacksRows p.width p.height (plane_start p bytes k) = λ is. rw at is in
+    let lacks : LacksRows p.strict p.width p.height rest → LacksRows p.strict p.width p.height (plane_start p bytes k) = λ is. subst (λ (l : List ℕ). LacksRows p.strict p.width p.height l) (sym at) is in
     cause-last P Q (mmr_plane p rest) _
-    (told-next P _ Q (mmr_rows p.strict p.width p.height rest) _ (told-mmr P p.strict p.width p.height rest (λ strict is. why k (omega arith) (lacks is) strict))
+    (told-next P _ Q (mmr_rows p.strict p.width p.height rest) _ (told-mmr P p.strict p.width p.height rest (λ is. why k (omega arith) (lacks is)))
     (λ rows taken. ap (λ (l : List ℕ). drop (used p.width p.height l) l) at ∙ ap (λ (n : ℕ). drop n rest) taken)) (λ plane next.
     cause-next P (mmr_planes p plane.1 count) _ (cause-planes P p bytes (suc k) plane.1 count next (λ j below. why j (omega (arith, below)))) (λ others is. tt))
 
@@ -69,16 +80,16 @@ too-large p is =
     let parts = and_parts (ltb 0 p.bits_per_pixel) (ltb 65535 p.width || ltb 65535 p.height) is in
     (ltb-true 0 p.bits_per_pixel parts.0, ⊎_elim (λ wide. inl (ltb-true 65535 p.width wide)) (λ high. inr (ltb-true 65535 p.height high)) (or_cases (ltb 65535 p.width) (ltb 65535 p.height) parts.1))
 
-cause-coded : (P : DecodeError → Type 0) (p : GrayScale) (bytes : List ℕ) → (p.strict ≡ true → p.use_mmr ≡ true → APlaneLacksRows p bytes → P (Region InvalidMmrData))
+cause-coded : (P : DecodeError → Type 0) (p : GrayScale) (bytes : List ℕ) → (p.use_mmr ≡ true → APlaneLacksRows p bytes → P (Region InvalidMmrData))
     → IfErr (planes_of p bytes) P
 unfolding plane_start
 cause-coded P p bytes why =
     cause-if P p.use_mmr (planes_by_mmr p bytes) (planes_by_coder p bytes)
-    (λ mmr. cause-planes P p bytes 0 bytes p.bits_per_pixel refl (λ j below lacks strict. why strict mmr (j, omega (arith, below), lacks))) (λ coded. tt)
+    (λ mmr. cause-planes P p bytes 0 bytes p.bits_per_pixel refl (λ j below lacks. why mmr (j, omega (arith, below), lacks))) (λ coded. tt)
 
 -- the image's values, which planes give, or why there is none
 told-image : (P : DecodeError → Type 0) (p : GrayScale) (bytes : List ℕ) → ((0 < p.bits_per_pixel) × ((65535 < p.width) ⊎ (65535 < p.height)) → P (Overflow BitmapDimension))
-    → (p.strict ≡ true → p.use_mmr ≡ true → APlaneLacksRows p bytes → P (Region InvalidMmrData))
+    → (p.use_mmr ≡ true → APlaneLacksRows p bytes → P (Region InvalidMmrData))
     → Told (gray_scale_image p bytes) P (λ values. (planes : List Grid) × (planes_of p bytes ≡ Ok planes) × (gray_values p.width p.height planes ≡ values))
 unfolding gray_scale_image
 told-image P p bytes large lacks =
@@ -87,11 +98,10 @@ told-image P p bytes large lacks =
     told-next P _ Q (refuse_if (image_is_too_large p) (Overflow BitmapDimension)) _ (told-refused P (image_is_too_large p) (Overflow BitmapDimension) (λ is. large (too-large p is))) (λ fits is.
     told-next P R Q (planes_of p bytes) _ (told P R (planes_of p bytes) (cause-coded P p bytes lacks) (λ planes r. r)) (λ planes r. (planes, r, refl)))
 
-pub gray_scale_causes : (p : GrayScale) → HaveCauses (gray_scale_image p) (BreaksGrayScale p)
-unfolding HaveCauses
-gray_scale_causes p bytes =
+pub gray_scale_cause : {X : Type 0} (p : GrayScale) (bytes : List ℕ) (r : Result X DecodeError) → IfErr r (λ e. (e ≡ OutOfMemory) ⊎ (gray_scale_image p bytes ≡ Err e)) → HasCauseOrNoMemory r (BreaksGrayScale p bytes)
+gray_scale_cause p bytes r =
     let P : DecodeError → Type 0 = BreaksGrayScale p bytes in
-    cause-of P _ (gray_scale_image p bytes) (told-image P p bytes (λ large. large) (λ strict mmr lacks. (strict, mmr, lacks)))
+    call-cause-or-memory P (gray_scale_image p bytes) r (cause-of P _ (gray_scale_image p bytes) (told-image P p bytes (λ large. large) (λ mmr lacks. (mmr, lacks))))
 
 -- ---- cells
 no-pattern : (P : DecodeError → Type 0) (strict : Bool) (grids : List Grid) (value : ℕ) → (strict ≡ true → length grids ≤ value → P (Region GrayScaleOutOfRange))
@@ -117,9 +127,6 @@ cause-image P h d w rows planes region why =
     let wide : 0 < w = grind arith in
     why (i % w) (i / w) (mod_below i w wide) (row-Below i w w rows within (omega arith)).1)
 
-too-long : (b c : ℕ) → (ltb 65535 b || ltb 65535 c) ≡ true → (65535 < b) ⊎ (65535 < c)
-too-long b c is = ⊎_elim (λ wide. inl (ltb-true 65535 b wide)) (λ high. inr (ltb-true 65535 c high)) (or_cases (ltb 65535 b) (ltb 65535 c) is)
-
 -- the values of planes that were read
 cause-values : (h : HalftoneHeader) (d : Patterns) (region : Grid) (values : List ℕ) (planes : List Grid) → planes_of (gray_params h d) h.bytes ≡ Ok planes
     → gray_values h.grid_position_and_size.width h.grid_position_and_size.height planes ≡ values → IfErr (cells_drawn h d 0 values region) (BreaksHalftone h d)
@@ -132,15 +139,8 @@ cause-answer : (h : HalftoneHeader) (d : Patterns) → IfErr (halftone_answer h 
 unfolding halftone_answer
 cause-answer h d =
     let P : DecodeError → Type 0 = BreaksHalftone h d in
-    cause-last P _ (gray_scale_image (gray_params h d) h.bytes) _ (told-image P (gray_params h d) h.bytes (λ large. inr (inr large)) (λ strict mmr lacks. (strict, mmr, lacks))) (λ values read.
+    cause-last P _ (gray_scale_image (gray_params h d) h.bytes) _ (told-image P (gray_params h d) h.bytes (λ large. large) (λ mmr lacks. (mmr, lacks))) (λ values read.
     cause-values h d _ values read.0 read.1 read.2)
 
-pub halftone_causes : (h : HalftoneHeader) → HaveCauses (halftone_decoded h) (BreaksHalftone h)
-unfolding HaveCauses halftone_decoded
-halftone_causes h d =
-    let P : DecodeError → Type 0 = BreaksHalftone h d in
-    let width : ℕ = h.region_info.width in
-    let height : ℕ = h.region_info.height in
-    cause-last P _ (refuse_if (ltb 65535 width || ltb 65535 height) (Overflow BitmapDimension)) _
-    (told-refused P (ltb 65535 width || ltb 65535 height) (Overflow BitmapDimension) (λ large. ⊎_elim (λ wide. inl wide) (λ high. inr (inl high)) (too-long width height large))) (λ fits is.
-    cause-next P (halftone_answer h d) _ (cause-answer h d) (λ grid r. tt))
+pub halftone_cause : {X : Type 0} (h : HalftoneHeader) (d : Patterns) (r : Result X DecodeError) → IfErr r (λ e. (e ≡ OutOfMemory) ⊎ (halftone_answer h d ≡ Err e)) → HasCauseOrNoMemory r (BreaksHalftone h d)
+halftone_cause h d r = call-cause-or-memory (BreaksHalftone h d) (halftone_answer h d) r (cause-answer h d)

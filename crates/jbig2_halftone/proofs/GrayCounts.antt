@@ -8,7 +8,7 @@ use Rattle.jbig2_base.specs.Counts.{Counts, KeepsLanes}
 use Rattle.jbig2_base.specs.Grid.{Grid, blank}
 use Rattle.jbig2_coder.specs.Coder.{Coder, Context, Registers}
 use Rattle.jbig2_region.specs.Generic.{coding_of}
-use Rattle.jbig2_region.specs.inner.Layouts.{read_pixels}
+use Rattle.jbig2_region.specs.GenericSteps.{read_pixels}
 use Rattle.jbig2_region.specs.Raster.{Coding, Region, at_pixel, no_pixels}
 use Rattle.jbig2_region.specs.Steps.{CountsRegion, coded_pixels, coded_runs, row_loads, row_tests, row_words}
 use Rattle.jbig2_region.specs.{Steps.{CountsSkipping, kept_pixels, skipping_loads, skipping_words}, inner.RegionViews.{skip_of}}

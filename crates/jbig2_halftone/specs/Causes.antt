@@ -1,9 +1,9 @@
 -- Which rule the input breaks where patterns or a halftone region are refused (docs/FORMAT.md), a line for each
--- error. `Breaks..` takes the bytes of a segment, or its header and what it refers to, and an error; a law ties the
--- definition's errors to it.
-use Rattle.std.specs.{Prelude.{◌≡◌, ◌<◌, ◌≤◌, ◌⊎◌, ℕ, zero, suc, ◌+◌, ◌-◌, ◌*◌, ◌/◌, ◌%◌, true, false, List, length, drop, Ok}, Int.{w8, w32}}
+-- error. `Breaks..` takes the bytes of a segment, or its header and what it refers to, and an error; the function that
+-- refuses cites it.
+use Rattle.std.specs.{Prelude.{◌≡◌, ◌<◌, ◌≤◌, ◌⊎◌, ℕ, zero, suc, ◌+◌, ◌-◌, ◌*◌, ◌/◌, ◌%◌, true, List, length, drop, Ok}, Int.{w8, w32}}
 use Rattle.jbig2_base.specs.{Causes.{number_in}, Grid.{Grid}, declared.error.{DecodeError.{DecodeError, TheVariants.{Overflow, Parse, Region, Unsupported}}, OverflowError.TheVariants.{BitmapDimension, GridDimension}, ParseError.TheVariants.{UnexpectedEof}, RegionError.TheVariants.{GrayScaleOutOfRange, InvalidCombinationOperator, InvalidMmrData}}}
-use Rattle.jbig2_mmr.specs.T6.{rows_of}
+use Rattle.jbig2_mmr.specs.{Causes.{BreaksMmr}, T6.{rows_of}}
 use Rattle.jbig2_halftone.specs.{GrayScale.{GrayScale, gray_value, planes_of}, Halftone.{gray_params}, HalftoneHeader.{HalftoneHeader}, PatternHeader.{PatternHeader}, Patterns.{Patterns}}
 
 -- A pattern dictionary's header has seven bytes: flags, the width and the height of a pattern, GRAYMAX.
@@ -17,14 +17,15 @@ abbrev pub BreaksHalftoneHeader : List ℕ → DecodeError → Type 0
 BreaksHalftoneHeader bytes (Parse UnexpectedEof) = length bytes < 38
 BreaksHalftoneHeader bytes (Region InvalidCombinationOperator) = (4 < number_in w8 16 bytes % 8) ⊎ (4 < number_in w8 17 bytes / 16 % 8)
 BreaksHalftoneHeader bytes Unsupported = number_in w8 16 bytes / 8 % 2 ≡ 1
-BreaksHalftoneHeader bytes (Overflow GridDimension) = (65535 < number_in w32 18 bytes) ⊎ (65535 < number_in w32 22 bytes)
+BreaksHalftoneHeader bytes (Overflow GridDimension) =
+    (26 ≤ length bytes) × ((65535 < number_in w32 18 bytes) ⊎ (65535 < number_in w32 22 bytes))
 BreaksHalftoneHeader bytes _ = ⊥
 
--- The patterns side by side have too many columns; or, in strict mode, their MMR data lacks rows.
+-- The patterns side by side have too many columns; or, in strict mode, their MMR data breaks a rule of T.6.
 abbrev pub BreaksPatterns : PatternHeader → DecodeError → Type 0
 BreaksPatterns h (Overflow BitmapDimension) = 65535 < (h.gray_max + 1) * h.pattern_width
 BreaksPatterns h (Region InvalidMmrData) =
-    (h.strict ≡ true) × (h.mmr ≡ true) × ((rows_of ((h.gray_max + 1) * h.pattern_width) h.pattern_height h.bytes).whole ≡ false)
+    (h.mmr ≡ true) × BreaksMmr h.strict ((h.gray_max + 1) * h.pattern_width) h.pattern_height h.bytes (Region InvalidMmrData)
 BreaksPatterns h _ = ⊥
 
 -- where plane k of MMR data begins, after the whole bytes that each plane before it used
@@ -34,22 +35,19 @@ plane_start p bytes (suc k) =
     let here = plane_start p bytes k in
     drop (length here - length (rows_of p.width p.height here).left / 8) here
 
--- The image has planes, and a side above 65535; or, in strict mode, the MMR data of a plane lacks rows.
+-- The image has planes, and a side above 65535; or, in strict mode, the MMR data of a plane breaks a rule of T.6.
 abbrev pub BreaksGrayScale : GrayScale → List ℕ → DecodeError → Type 0
 BreaksGrayScale p bytes (Overflow BitmapDimension) = (0 < p.bits_per_pixel) × ((65535 < p.width) ⊎ (65535 < p.height))
 BreaksGrayScale p bytes (Region InvalidMmrData) =
-    (p.strict ≡ true) × (p.use_mmr ≡ true)
-    × ((k : ℕ) × (k < p.bits_per_pixel) × ((rows_of p.width p.height (plane_start p bytes k)).whole ≡ false))
+    (p.use_mmr ≡ true) × ((k : ℕ) × (k < p.bits_per_pixel)
+    × BreaksMmr p.strict p.width p.height (plane_start p bytes k) (Region InvalidMmrData))
 BreaksGrayScale p bytes _ = ⊥
 
--- A side of the region or of the image of gray values is above 65535; the image's MMR data lacks rows; or, in strict
--- mode, the value that the planes of the bytes give a cell is not below the number of the patterns.
+-- The image of gray values is refused; or, in strict mode, the value that the planes of the bytes give a cell is not
+-- below the number of the patterns.
 abbrev pub BreaksHalftone : HalftoneHeader → Patterns → DecodeError → Type 0
-BreaksHalftone h d (Overflow BitmapDimension) =
-    (65535 < h.region_info.width) ⊎ (65535 < h.region_info.height) ⊎ BreaksGrayScale (gray_params h d) h.bytes (Overflow BitmapDimension)
-BreaksHalftone h d (Region InvalidMmrData) = BreaksGrayScale (gray_params h d) h.bytes (Region InvalidMmrData)
 BreaksHalftone h d (Region GrayScaleOutOfRange) =
     let grid = h.grid_position_and_size in
     (h.strict ≡ true) × ((planes : List Grid) × (x : ℕ) × (y : ℕ) × (planes_of (gray_params h d) h.bytes ≡ Ok planes)
     × (x < grid.width) × (y < grid.height) × (length d.grids ≤ gray_value planes x y))
-BreaksHalftone h d _ = ⊥
+BreaksHalftone h d e = BreaksGrayScale (gray_params h d) h.bytes e

@@ -4,7 +4,7 @@
 -- that is refused: what was done until then is no more than a part of what `Counts..` counts.
 use Rattle.std.specs.Prelude.{ℕ, zero, suc, ◌≡◌, ◌≤◌, ◌+◌, ◌*◌, ◌/◌, ◌%◌, true, false, if◌then◌else◌, List, None, is_some, ◌⊎◌}
 use Rattle.jbig2_base.specs.Counts.{WritesWithin, overlap, most_words, words_copied, Counts, KeepsLanes}
-use Rattle.jbig2_region.specs.{Generic.{coding_of}, inner.Layouts.{CountsGeneric}, Raster.{no_pixels}, Steps.{coded_runs, row_loads, row_tests, row_words, kept_pixels, skipping_loads, skipping_words}, Templates.{template_pixels}}
+use Rattle.jbig2_region.specs.{Generic.{coding_of}, GenericSteps.{CountsGeneric}, Raster.{no_pixels}, Steps.{coded_runs, row_loads, row_tests, row_words, kept_pixels, skipping_loads, skipping_words}, Templates.{template_pixels}}
 use Rattle.jbig2_halftone.specs.{GrayScale.{GrayScale, nominal_pixels, after_planes}, Halftone.{column_of, gray_params, row_of, skip_mask}, HalftoneHeader.{HalftoneHeader}, PatternHeader.{PatternHeader}, Patterns.{Patterns, collective_header}}
 
 -- how many run bytes the highest planes have, where no pixel is skipped
@@ -95,7 +95,20 @@ StopsHalftone h d before after =
     (after ≡ before)
     ⊎ ((planes : ℕ) × ((rows : ℕ) × ((planes ≤ (gray_params h d).bits_per_pixel) × ((rows ≤ h.grid_position_and_size.height) × CountsDrawn h d planes rows before after))))
 
--- a dictionary: its collective bitmap, a generic region, and then a load and a word for each word of its patterns
+-- this many patterns are cut out of their collective bitmap: a load and a word for each of their words
+abbrev pub after_patterns : PatternHeader → ℕ → Counts → Counts
+after_patterns h count = words_copied (count * ((h.pattern_width + 63) / 64 * h.pattern_height))
+
+-- a collective bitmap, a generic region, and this many patterns that are cut out of it
+abbrev pub CountsCut : PatternHeader → ℕ → Counts → Counts → Type 0
+CountsCut h count before after =
+    (collective : Counts) × (CountsGeneric (collective_header h) before collective × (after ≡ after_patterns h count collective))
+
+-- a dictionary: all patterns
 abbrev pub CountsDictionary : PatternHeader → Counts → Counts → Type 0
-CountsDictionary h before after =
-    (collective : Counts) × (CountsGeneric (collective_header h) before collective × (after ≡ words_copied ((h.gray_max + 1) * ((h.pattern_width + 63) / 64 * h.pattern_height)) collective))
+CountsDictionary h before after = CountsCut h (h.gray_max + 1) before after
+
+-- a dictionary that is refused: no step, or no more patterns
+abbrev pub StopsDictionary : PatternHeader → Counts → Counts → Type 0
+StopsDictionary h before after =
+    (after ≡ before) ⊎ ((count : ℕ) × ((count ≤ h.gray_max + 1) × CountsCut h count before after))

@@ -6,7 +6,7 @@ ghost use Rattle.jbig2_halftone.specs.GrayScale.{gray_values, gray_scale_image, 
 ghost use Rattle.jbig2_halftone.specs.Steps.{CountsImage, CountsLanes, StopsImage};
 ghost use Rattle.jbig2_region.specs.Steps.{row_loads, skipping_loads};
 ghost use Rattle.jbig2_halftone.specs.inner.HalftoneViews.{gray_view};
-ghost use Rattle.jbig2_base.specs.Causes.{HaveCauses};
+ghost use Rattle.jbig2_base.specs.Causes.{HasCauseOrNoMemory};
 ghost use Rattle.jbig2_halftone.specs.Causes.{BreaksGrayScale};
 
 mod groups;
@@ -67,7 +67,7 @@ fn zeros<A: Allocator>(alloc: A, width: u32, height: u32) -> Result<Vec<u32, A>>
 /// `OverflowError::BitmapDimension` for a side above 65535 with 1 bit a pixel or more; in strict mode
 /// `RegionError::InvalidMmrData` where MMR data has a fault or lacks a row; `OutOfMemory` where there
 /// is no room, which alone leaves open what `contexts` holds.
-#[tactic(auto, using(crate::proofs::CausesOfRegions::gray_scale_causes), unfolding(crate::specs::GrayScale::gray_scale_image))]
+#[tactic(auto, using(crate::proofs::CausesOfRegions::gray_scale_cause), unfolding(crate::specs::GrayScale::gray_scale_image))]
 pub fn decode_gray_scale_image<M: Allocator, A: Allocator + Clone, B: Allocator, L: Ledger>(
     alloc: A,
     bytes: &[u8],
@@ -86,7 +86,7 @@ pub fn decode_gray_scale_image<M: Allocator, A: Allocator + Clone, B: Allocator,
     ensures lanes { OnOk result (CountsLanes (gray_view params.now) steps.old steps.new) }
     ensures no_lanes { OnErr result (KeepsLanes steps.old steps.new) }
     ensures no_planes { params.now.bits_per_pixel ≡ 0 → steps.new ≡ steps.old }
-    ensures causes { (p : GrayScale) → HaveCauses (gray_scale_image p) (BreaksGrayScale p) }
+    ensures causes { HasCauseOrNoMemory result (BreaksGrayScale (gray_view params.now) bytes.now) }
 {
     let too_long = params.width > MAX_DIMENSION || params.height > MAX_DIMENSION;
     if params.bits_per_pixel > 0 && too_long {

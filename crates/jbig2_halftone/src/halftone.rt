@@ -16,7 +16,7 @@ ghost use Rattle.jbig2_halftone.specs.inner.DictionaryViews.{dictionary_view};
 ghost use Rattle.jbig2_halftone.specs.Steps.{CountsRead, CountsHalftone, StopsHalftone, after_mask, words_of_cells};
 ghost use Rattle.jbig2_halftone.specs.inner.CellPlaces.{x_of, y_of};
 ghost use Rattle.jbig2_halftone.specs.inner.Stages.{planes_contexts, skip_grid, after_lane_rows, StopsCells, StopsRows};
-ghost use Rattle.jbig2_base.specs.Causes.{HaveCauses};
+ghost use Rattle.jbig2_base.specs.Causes.{HasCauseOrNoMemory};
 ghost use Rattle.jbig2_halftone.specs.Causes.{BreaksHalftone};
 
 mod cells;
@@ -293,6 +293,7 @@ fn value_row<A: Allocator>(alloc: A, width: u32) -> Result<Vec<u32, A>>
 /// `RegionError::GrayScaleOutOfRange` in strict mode for a value that no pattern has, also where the
 /// cell lies outside; `OutOfMemory` where there is no room for the values, which alone is refused in
 /// lenient mode, and alone leaves open what `contexts` holds.
+#[tactic(auto, using(crate::proofs::CausesOfRegions::halftone_cause))]
 pub fn decode_into<D: Allocator, M: Allocator, A: Allocator + Clone, B: Allocator, L: Ledger>(
     alloc: A,
     header: &HalftoneRegionHeader<'_>,
@@ -313,6 +314,8 @@ pub fn decode_into<D: Allocator, M: Allocator, A: Allocator + Clone, B: Allocato
         (halftone_contexts (header_view header.now) (dictionary_view dictionary.now)
         contexts.old.items) }
     ensures lenient { header.now.strict ≡ false → IfErr result (λ e. e ≡ DecodeError.OutOfMemory) }
+    ensures causes { HasCauseOrNoMemory result (BreaksHalftone (header_view header.now)
+        (dictionary_view dictionary.now)) }
     ensures steps { OnOk result (CountsHalftone (header_view header.now)
         (dictionary_view dictionary.now) steps.old steps.new) }
     ensures stopped { OnErr result (StopsHalftone (header_view header.now)
@@ -331,7 +334,7 @@ pub fn decode_into<D: Allocator, M: Allocator, A: Allocator + Clone, B: Allocato
 ///
 /// `OverflowError::BitmapDimension` above 65535 pixels either way; `OutOfMemory` where there is no
 /// room for the bitmap, else as `decode_into`.
-#[tactic(auto, using(crate::proofs::CausesOfRegions::halftone_causes), unfolding(crate::specs::Halftone::halftone_decoded))]
+#[tactic(auto, unfolding(crate::specs::Halftone::halftone_decoded))]
 pub fn decode<D: Allocator, A: Allocator + Clone, B: Allocator, L: Ledger>(
     alloc: A,
     header: &HalftoneRegionHeader<'_>,
@@ -350,7 +353,6 @@ pub fn decode<D: Allocator, A: Allocator + Clone, B: Allocator, L: Ledger>(
         (dictionary_view dictionary.now) steps.old steps.new) }
     ensures stopped { OnErr result (StopsHalftone (header_view header.now)
         (dictionary_view dictionary.now) steps.old steps.new) }
-    ensures causes { (h : HalftoneHeader) → HaveCauses (halftone_decoded h) (BreaksHalftone h) }
 {
     let region_info = &header.region_info;
     let mut bitmap = Bitmap::new_with(

@@ -1,10 +1,10 @@
 //! Pattern dictionaries (T.88, 6.7 and 7.4.4).
-ghost use Rattle.std.specs.Prelude.{◌≡◌, ◌+◌, ◌*◌, ◌/◌, ◌≤◌, [], ◌∷◌, length, IfOk, OnErr, OnOk, Ok, Bool};
+ghost use Rattle.std.specs.Prelude.{◌≡◌, ◌+◌, ◌*◌, ◌/◌, ◌≤◌, [], ◌∷◌, length, IfOk, OnErr, OnOk, Ok, Bool, true, false};
 ghost use Rattle.jbig2_base.specs.Answer.{Answers, Gives, Leaves};
 ghost use Rattle.jbig2_base.specs.Bits.{IsAligned};
-ghost use Rattle.jbig2_base.specs.Counts.{words_copied};
+ghost use Rattle.jbig2_base.specs.Counts.{KeepsLanes, words_copied};
 ghost use Rattle.jbig2_region.specs.Generic.{generic_answer, contexts_after};
-ghost use Rattle.jbig2_region.specs.inner.Layouts.{CountsGeneric};
+ghost use Rattle.jbig2_region.specs.GenericSteps.{CountsGeneric};
 ghost use Rattle.jbig2_region.specs.Templates.{left, right};
 ghost use Rattle.jbig2_region.specs.declared.template.GenericTemplatePixels.TheVariants.{Regular};
 ghost use Rattle.jbig2_halftone.specs.PatternHeader.{side_at, pattern_header_at};
@@ -12,8 +12,8 @@ ghost use Rattle.jbig2_halftone.specs.Patterns.{collective_width, collective_hea
 ghost use Rattle.jbig2_halftone.specs.inner.DictionaryViews.{dictionary_view};
 ghost use Rattle.jbig2_halftone.specs.inner.PatternViews.{header_view};
 ghost use Rattle.jbig2_halftone.specs.inner.Stages.{pattern_of, StopsCut};
-ghost use Rattle.jbig2_halftone.specs.Steps.{CountsDictionary};
-ghost use Rattle.jbig2_base.specs.Causes.{HaveCauses};
+ghost use Rattle.jbig2_halftone.specs.Steps.{CountsDictionary, StopsDictionary};
+ghost use Rattle.jbig2_base.specs.Causes.{HasCause, HasCauseOrNoMemory};
 ghost use Rattle.jbig2_halftone.specs.Causes.{BreaksPatternHeader, BreaksPatterns};
 
 mod dictionary;
@@ -73,7 +73,7 @@ fn side_field(reader: &mut Reader<'_>) -> Result<u8>
 ///
 /// `ParseError::UnexpectedEof` where the bytes do not hold it, or where a pattern has no pixels. An
 /// error leaves the reader where it was. Takes no memory.
-#[tactic(auto, using(crate::proofs::Causes::pattern_header_causes), unfolding(crate::specs::PatternHeader::pattern_header_at))]
+#[tactic(auto, using(crate::proofs::Causes::pattern_header_cause), unfolding(crate::specs::PatternHeader::pattern_header_at))]
 pub fn parse<'a>(reader: &mut Reader<'a>, strict: bool) -> Result<PatternDictionaryHeader<'a>>
     requires { IsAligned reader.old }
     ensures value { Answers (λ h. (header_view h, reader.new.bytes)) result
@@ -82,7 +82,7 @@ pub fn parse<'a>(reader: &mut Reader<'a>, strict: bool) -> Result<PatternDiction
     ensures width { IfOk result (λ h. 1 ≤ h.pattern_width) }
     ensures height { IfOk result (λ h. 1 ≤ h.pattern_height) }
     ensures stays { OnErr result (reader.new ≡ reader.old) }
-    ensures causes { (strict : Bool) → HaveCauses (pattern_header_at strict) BreaksPatternHeader }
+    ensures causes { HasCause result (BreaksPatternHeader reader.old.bytes) }
 {
     let mut ahead = reader.duplicate();
     let flags = byte_field(&mut ahead)?;
@@ -187,6 +187,8 @@ fn decode_collective<A: Allocator, B: Allocator, L: Ledger>(
         (contexts_after (collective_header (header_view header.now)) contexts.old.items) }
     ensures steps { OnOk result
         (CountsGeneric (collective_header (header_view header.now)) steps.old steps.new) }
+    ensures stopped { header.now.mmr ≡ false → OnErr result (steps.new ≡ steps.old) }
+    ensures lanes { KeepsLanes steps.old steps.new }
 {
     let region_info = RegionSegmentInfo {
         width,
@@ -211,12 +213,13 @@ fn decode_collective<A: Allocator, B: Allocator, L: Ledger>(
 
 /// Decodes a pattern dictionary (T.88, 6.7). The contexts begin fresh, whatever `contexts` held,
 /// and are left there as the collective bitmap leaves them; MMR data and one that is too wide do
-/// not touch them. Each word of a pattern is loaded once and written once.
+/// not touch them. Each word of a pattern is loaded once and written once; a refusal takes no more steps than a
+/// dictionary that is decoded whole.
 ///
 /// `OverflowError::BitmapDimension` where the patterns side by side have more than 65535 columns;
 /// in strict mode `RegionError::InvalidMmrData` where MMR data has a fault or lacks a row;
 /// `OutOfMemory` where there is no room, which alone leaves open what `contexts` holds.
-#[tactic(auto, using(crate::proofs::CausesOfRegions::pattern_causes), unfolding(crate::specs::Patterns::patterns_decoded))]
+#[tactic(auto, using(crate::proofs::CausesOfRegions::pattern_cause), unfolding(crate::specs::Patterns::patterns_decoded))]
 pub fn decode<A: Allocator + Clone, B: Allocator, L: Ledger>(
     alloc: A,
     header: &PatternDictionaryHeader<'_>,
@@ -230,7 +233,10 @@ pub fn decode<A: Allocator + Clone, B: Allocator, L: Ledger>(
         (dictionary_contexts (header_view header.now) contexts.old.items) }
     ensures steps { OnOk result
         (CountsDictionary (header_view header.now) steps.old steps.new) }
-    ensures causes { HaveCauses patterns_decoded BreaksPatterns }
+    ensures stopped { OnErr result
+        (StopsDictionary (header_view header.now) steps.old steps.new) }
+    ensures lanes { KeepsLanes steps.old steps.new }
+    ensures causes { HasCauseOrNoMemory result (BreaksPatterns (header_view header.now)) }
 {
     let width = u32::from(header.pattern_width);
     let height = u32::from(header.pattern_height);

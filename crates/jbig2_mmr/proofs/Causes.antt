@@ -12,7 +12,8 @@ use Rattle.jbig2_mmr.proofs.T6Decoding.{or_fault}
 use Rattle.jbig2_mmr.specs.T6Codes.{black_runs, longer_runs, modes, white_runs}
 use Rattle.jbig2_mmr.specs.declared.mmr.codes.Mode.{Mode}
 use Rattle.jbig2_mmr.specs.declared.mmr.codes.Mode.TheVariants.{Pass, Horizontal, Vertical}
-use Rattle.jbig2_base.specs.Causes.{HaveCauses}
+use Rattle.jbig2_base.specs.Causes.{HasCause}
+use Rattle.jbig2_base.proofs.CauseSteps.{call-cause}
 
 never-none : {A : Type 0} (x : A) → ◌≡◌ {A = Option A} (Some x) None → ⊥
 never-none x same = cc
@@ -205,7 +206,7 @@ rows-fault (suc n) w above done bits =
     by-row None none later is = inl (row-fault (length bits) w (pixel_of w above) row_start [] bits none)
     by-row (Some r) some later is = inr (r, some, later r is)
 
-all-fault : (w h : ℕ) (bytes : List ℕ) → (rows_of w h bytes).whole ≡ false → (0 < w) × BreaksRows h w [] (bits_of bytes)
+pub all-fault : (w h : ℕ) (bytes : List ℕ) → (rows_of w h bytes).whole ≡ false → (0 < w) × BreaksRows h w [] (bits_of bytes)
 unfolding rows_of
 all-fault w h bytes =
     let Q : Rows → Type 0 = λ r. r.whole ≡ false → (0 < w) × BreaksRows h w [] (bits_of bytes) in
@@ -222,6 +223,6 @@ cause-mmr P strict w h bytes why =
     (λ refused. let parts = and_parts strict (not r.whole) refused in let fault = all-fault w h bytes (not-true r.whole parts.1) in why (parts.0, fault.0, fault.1))
     (λ taken. tt)
 
-pub mmr_causes : (strict : Bool) (w h : ℕ) → HaveCauses (mmr_rows strict w h) (BreaksMmr strict w h)
-unfolding HaveCauses
-mmr_causes strict w h bytes = cause-mmr (BreaksMmr strict w h bytes) strict w h bytes (λ why. why)
+pub mmr_cause : {X : Type 0} (strict : Bool) (w h : ℕ) (bytes : List ℕ) (r : Result X DecodeError) → IfErr r (λ e. mmr_rows strict w h bytes ≡ Err e) → HasCause r (BreaksMmr strict w h bytes)
+mmr_cause strict w h bytes r =
+    call-cause (BreaksMmr strict w h bytes) (mmr_rows strict w h bytes) r (cause-mmr (BreaksMmr strict w h bytes) strict w h bytes (λ why. why))

@@ -4,7 +4,7 @@ ghost use Rattle.jbig2_base.specs.Answer.{Answers};
 ghost use Rattle.jbig2_base.specs.Counts.{KeepsLanes};
 ghost use Rattle.jbig2_base.specs.Grid.{blank};
 ghost use Rattle.jbig2_mmr.specs.T6.{mmr_rows, grid_of_rows, rows_of};
-ghost use Rattle.jbig2_base.specs.Causes.{HaveCauses};
+ghost use Rattle.jbig2_base.specs.Causes.{HasCause};
 ghost use Rattle.jbig2_mmr.specs.Causes.{BreaksMmr};
 
 mod bits;
@@ -38,6 +38,7 @@ pub fn decode<A: Allocator, L: Ledger>(
         (mmr_rows strict bitmap.old.width bitmap.old.height bytes.now) }
     ensures grid { bitmap.new ≡ grid_of_rows bitmap.old.width bitmap.old.height
         (rows_of bitmap.old.width bitmap.old.height bytes.now).rows }
+    ensures causes { HasCause result (BreaksMmr strict bitmap.old.width bitmap.old.height bytes.now) }
     ensures lanes { KeepsLanes steps.old steps.new }
 {
     let height = bitmap.height();
@@ -58,11 +59,9 @@ pub fn decode<A: Allocator, L: Ledger>(
 }
 
 /// The answer where not all rows are there.
-#[tactic(auto, using(crate::proofs::Causes::mmr_causes))]
 fn missing_rows(strict: bool, used: usize) -> Result<usize>
-    ensures value { result ≡
+    ensures { result ≡
         (if strict then Err (DecodeError.Region RegionError.InvalidMmrData) else Ok used) }
-    ensures causes { (strict : Bool) (w h : ℕ) → HaveCauses (mmr_rows strict w h) (BreaksMmr strict w h) }
 {
     if strict {
         return Err(DecodeError::Region(RegionError::InvalidMmrData));

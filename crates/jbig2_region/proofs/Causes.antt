@@ -1,17 +1,18 @@
 -- Which rule the bytes break where a header of this crate is refused.
-use Rattle.std.proofs.Common.{◌≡◌, ℕ, ◌+◌, ◌-◌, ◌/◌, ◌%◌, ◌<◌, ◌≤◌, eqb, ltb, Bool, true, false, List, take, drop, length, Result, Ok, refl, sym, ◌∙◌, ap, subst, arith, length-drop, ltb-true}
+use Rattle.std.proofs.Common.{◌≡◌, ℕ, ◌+◌, ◌-◌, ◌/◌, ◌%◌, ◌<◌, ◌≤◌, eqb, ltb, Bool, true, false, List, take, drop, length, Result, Ok, Err, refl, sym, ◌∙◌, ap, subst, arith, length-drop, ltb-true}
 use Rattle.std.specs.Prelude.{IfErr}
 use Rattle.std.specs.Int.{Width, w8, w32, byte_len, from_be_bytes}
 use Rattle.std.proofs.lemmas.Bool.{cond_both, eqb-true, eqb-false}
 use Rattle.std.proofs.lemmas.List.{drop-drop}
 use Rattle.jbig2_base.specs.Answer.{refuse_if}
-use Rattle.jbig2_base.specs.Causes.{number_in, HaveCauses}
+use Rattle.jbig2_base.specs.Causes.{number_in, HasCause}
 use Rattle.jbig2_base.specs.Fields.{end_of_bytes, number_at}
 use Rattle.jbig2_base.specs.Combination.{operator_of}
 use Rattle.jbig2_base.specs.declared.bitmap.operator.CombinationOperator.{CombinationOperator}
 use Rattle.jbig2_base.specs.declared.error.DecodeError.{DecodeError}
 use Rattle.jbig2_base.specs.declared.error.DecodeError.TheVariants as errors
 use Rattle.jbig2_base.specs.declared.error.RegionError.TheVariants.{InvalidCombinationOperator, InvalidDimension}
+use Rattle.jbig2_base.proofs.CauseSteps.{call-cause}
 use Rattle.jbig2_base.proofs.Causes.{cause-next, cause-number, cause-refused, number-there, same-ok, went}
 use Rattle.jbig2_region.specs.Causes.{BreaksRegionInfo, BreaksRows}
 use Rattle.jbig2_region.specs.GenericHeader.{rows_at}
@@ -75,9 +76,8 @@ info-cause P bytes at_end at_operator at_colour =
     (cause-refused P (eqb (flags.0 / 8 % 2) 1) errors.Unsupported (λ set. at_colour (whole, ap (λ (n : ℕ). n / 8 % 2) value ∙ eqb-true (flags.0 / 8 % 2) 1 set)))
     (λ plain plain_is. tt)))))))
 
-pub info_causes : HaveCauses region_info_at BreaksRegionInfo
-unfolding HaveCauses
-info_causes bytes = info-cause (BreaksRegionInfo bytes) bytes (λ why. why) (λ why. why) (λ why. why)
+pub info_has_cause : {X : Type 0} (bytes : List ℕ) (r : Result X DecodeError) → IfErr r (λ e. region_info_at bytes ≡ Err e) → HasCause r (BreaksRegionInfo bytes)
+info_has_cause bytes r = call-cause (BreaksRegionInfo bytes) (region_info_at bytes) r (info-cause (BreaksRegionInfo bytes) bytes (λ why. why) (λ why. why) (λ why. why))
 
 -- the sides that it gives, and the bytes after it
 pub info-there : (bytes : List ℕ) (i : RegionSegmentInfo × List ℕ) → region_info_at bytes ≡ Ok i → At 17 bytes i.1 × (number_in w32 0 bytes ≡ i.0.width) × (number_in w32 4 bytes ≡ i.0.height)
@@ -116,7 +116,7 @@ rows-cause P true height bytes at_end at_rows =
     (λ more. at_rows refl (omega (arith, size, there.0)) (let above = ltb-true height rows.0 more in let value : number_in w32 (length bytes - 4) bytes ≡ rows.0 = ap (λ (x : ℕ × List ℕ). x.0) there.1 in omega (arith, above, value))))
     (λ fits fits_is. tt))
 
-pub rows_causes : (unknown : Bool) (height : ℕ) → HaveCauses (rows_at unknown height) (BreaksRows unknown height)
-unfolding HaveCauses
-rows_causes unknown_length height bytes =
-    rows-cause (BreaksRows unknown_length height bytes) unknown_length height bytes (λ unknown short. (unknown, short)) (λ unknown whole more. (unknown, whole, more))
+pub rows_have_cause : {X : Type 0} (unknown : Bool) (height : ℕ) (bytes : List ℕ) (r : Result X DecodeError) → IfErr r (λ e. rows_at unknown height bytes ≡ Err e) → HasCause r (BreaksRows unknown height bytes)
+rows_have_cause unknown_length height bytes r =
+    let P : DecodeError → Type 0 = BreaksRows unknown_length height bytes in
+    call-cause P (rows_at unknown_length height bytes) r (rows-cause P unknown_length height bytes (λ unknown short. (unknown, short)) (λ unknown whole more. (unknown, whole, more)))

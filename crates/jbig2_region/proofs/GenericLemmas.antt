@@ -10,7 +10,7 @@ use Rattle.jbig2_region.specs.GenericHeader.{GenericHeader}
 use Rattle.jbig2_region.specs.inner.GenericViews.{header_view}
 use Rattle.jbig2_base.specs.Counts.{Counts}
 use Rattle.jbig2_region.specs.inner.Holds.{Holds}
-use Rattle.jbig2_region.specs.inner.Layouts.{CountsCoded, CountsGeneric}
+use Rattle.jbig2_region.specs.GenericSteps.{CountsCoded, CountsGeneric}
 use Rattle.jbig2_region.specs.Raster.{Coding, decoded_region, no_pixels, fresh_contexts}
 use Rattle.jbig2_mmr.specs.T6.{mmr_rows}
 use Rattle.jbig2_region.specs.Templates.{context_bits}

@@ -1,28 +1,26 @@
 -- Which rule the bytes of a region's header break where it is refused, and a reference.
-use Rattle.std.proofs.Common.{◌≡◌, ℕ, ◌+◌, ◌-◌, ◌*◌, ◌/◌, ◌%◌, ◌^◌, ◌<◌, ◌≤◌, eqb, ltb, Bool, true, false, ◌||◌, cond, List, take, drop, length, Result, Ok, refl, sym, ◌∙◌, ap, arith, ⊎_elim, inl, inr, length-drop, ltb-true, leb-true}
+use Rattle.std.proofs.Common.{◌≡◌, ℕ, ◌+◌, ◌-◌, ◌*◌, ◌/◌, ◌%◌, ◌^◌, ◌<◌, ◌≤◌, eqb, ltb, Bool, true, false, ◌||◌, cond, List, take, drop, length, Result, Ok, Err, refl, sym, ◌∙◌, ap, arith, ⊎_elim, inl, inr, length-drop, ltb-true, leb-true}
 use Rattle.std.specs.Prelude.{IfErr}
 use Rattle.std.specs.Int.{Width, w8, w32, byte_len, from_be_bytes}
-use Rattle.std.proofs.lemmas.Bool.{cond-true, cond_both, or_cases}
+use Rattle.std.proofs.lemmas.Bool.{cond-true, or_cases}
 use Rattle.std.proofs.lemmas.List.{drop-drop}
-use Rattle.jbig2_base.specs.Answer.{◌>>=◌, refuse_if}
-use Rattle.jbig2_base.specs.Causes.{number_in, HaveCauses}
+use Rattle.jbig2_base.specs.Answer.{refuse_if}
+use Rattle.jbig2_base.specs.Causes.{number_in, HasCause}
 use Rattle.jbig2_base.specs.Fields.{number_at}
 use Rattle.jbig2_base.specs.declared.error.DecodeError.{DecodeError}
 use Rattle.jbig2_base.specs.declared.error.DecodeError.TheVariants as errors
 use Rattle.jbig2_base.specs.declared.error.OverflowError.TheVariants.{BitmapDimension, ReferenceOffset}
 use Rattle.jbig2_base.specs.declared.error.RegionError.TheVariants.{InvalidDimension}
+use Rattle.jbig2_base.proofs.CauseSteps.{call-cause}
 use Rattle.jbig2_base.proofs.Causes.{cause-next, cause-number, cause-refused, number-there, same-ok, went}
-use Rattle.jbig2_region.specs.Causes.{BreaksGeneric, BreaksGenericHeader, BreaksOffset, BreaksRefinementHeader, pixels_in}
-use Rattle.jbig2_base.specs.Grid.{Grid}
-use Rattle.jbig2_mmr.specs.T6.{mmr_rows}
-use Rattle.jbig2_mmr.proofs.Causes.{cause-mmr}
-use Rattle.jbig2_region.specs.Generic.{generic_answer, generic_grid, generic_decoded}
+use Rattle.jbig2_region.specs.Causes.{BreaksGenericHeader, BreaksOffset, BreaksRefinementHeader, pixels_in}
 use Rattle.jbig2_region.specs.GenericHeader.{generic_header_at, rows_at}
-use Rattle.jbig2_region.specs.Refinement.{is_far, offset, refined_answer, refined_grid, refined_decoded}
-use Rattle.jbig2_region.specs.RefinementHeader.{refinement_header_at, RefinementHeader}
+use Rattle.jbig2_region.specs.Refinement.{is_far, offset}
+use Rattle.jbig2_region.specs.RefinementHeader.{refinement_header_at}
 use Rattle.jbig2_region.specs.RefinementTemplates.{refinement_pixel_count, refinement_pixels_at, refinement_template_of}
-use Rattle.jbig2_region.specs.RegionInfo.{placed, region_info_at, PlacedRegion}
+use Rattle.jbig2_region.specs.RegionInfo.{region_info_at, PlacedRegion}
 use Rattle.jbig2_region.specs.Templates.{adaptive_pixel_count, adaptive_pixels_at, template_of}
+use Rattle.jbig2_region.specs.declared.region_info.RegionSegmentInfo.{RegionSegmentInfo}
 use Rattle.jbig2_region.specs.declared.template.RefinementTemplate.TheVariants as refinements
 use Rattle.jbig2_region.proofs.Causes.{At, at-next, info-cause, info-there, rows-cause, value-next}
 use Rattle.jbig2_region.proofs.PixelCauses.{cause-pixels, cause-refinement_pixels, pixels-there}
@@ -57,8 +55,8 @@ four b n m is below = let all : ◌≡◌ {A = ℕ} (cond b 4 0) 4 = cond-true b
 abbrev pixels_by : ℕ → ℕ
 pixels_by flags = adaptive_pixel_count (eqb (flags % 2) 1) (eqb (flags / 16 % 2) 1) (template_of (flags / 2 % 4))
 
-pub generic_header_causes : (unknown strict : Bool) → HaveCauses (generic_header_at unknown strict) (BreaksGenericHeader unknown)
-unfolding HaveCauses generic_header_at
+generic_header_causes : (unknown strict : Bool) (bytes : List ℕ) → IfErr (generic_header_at unknown strict bytes) (BreaksGenericHeader unknown bytes)
+unfolding generic_header_at
 generic_header_causes unknown strict bytes =
     let P : DecodeError → Type 0 = BreaksGenericHeader unknown bytes in
     cause-next P (region_info_at bytes) _ (info-cause P bytes (λ short. omega arith) (λ why. why) (λ why. why)) (λ info info_is.
@@ -92,13 +90,16 @@ generic_header_causes unknown strict bytes =
     )))
     (λ fits fits_is. tt)))))
 
+pub generic_header_cause : {X : Type 0} (unknown strict : Bool) (bytes : List ℕ) (r : Result X DecodeError) → IfErr r (λ e. generic_header_at unknown strict bytes ≡ Err e) → HasCause r (BreaksGenericHeader unknown bytes)
+generic_header_cause unknown strict bytes r = call-cause (BreaksGenericHeader unknown bytes) (generic_header_at unknown strict bytes) r (generic_header_causes unknown strict bytes)
+
 -- ---- refinements
 pixels-of : (b : Bool) → 2 * refinement_pixel_count (cond b refinements.Template0 refinements.Template1) ≡ cond b 4 0
 pixels-of true = refl
 pixels-of false = refl
 
-pub refinement_header_causes : HaveCauses refinement_header_at BreaksRefinementHeader
-unfolding HaveCauses refinement_header_at
+pub refinement_header_causes : (bytes : List ℕ) → IfErr (refinement_header_at bytes) (BreaksRefinementHeader bytes)
+unfolding refinement_header_at
 refinement_header_causes bytes =
     let P : DecodeError → Type 0 = BreaksRefinementHeader bytes in
     cause-next P (region_info_at bytes) _ (info-cause P bytes (λ short. omega arith) (λ why. why) (λ why. why)) (λ info info_is.
@@ -120,8 +121,11 @@ refinement_header_causes bytes =
     )))
     (λ fits fits_is. tt))))
 
-pub offset_causes : (from : PlacedRegion) → HaveCauses (offset from) (BreaksOffset from)
-unfolding HaveCauses offset
+pub refinement_header_cause : {X : Type 0} (bytes : List ℕ) (r : Result X DecodeError) → IfErr r (λ e. refinement_header_at bytes ≡ Err e) → HasCause r (BreaksRefinementHeader bytes)
+refinement_header_cause bytes r = call-cause (BreaksRefinementHeader bytes) (refinement_header_at bytes) r (refinement_header_causes bytes)
+
+pub offset_causes : (from : PlacedRegion) (info : RegionSegmentInfo) → IfErr (offset from info) (BreaksOffset from info)
+unfolding offset
 offset_causes from info =
     let P : DecodeError → Type 0 = BreaksOffset from info in
     let far : (n : ℕ) → is_far n ≡ true → 2 ^ 31 ≤ n = λ n is. leb-true 2147483648 n is in
@@ -150,23 +154,5 @@ offset_causes from info =
     (λ (last : d ≡ true). inr (inr (far info.y_location last)))
     (or_cases (a || b || c) d is))) (λ near near_is. tt))
 
--- ---- decoded regions
-pub generic_causes : HaveCauses generic_decoded BreaksGeneric
-unfolding HaveCauses
-generic_causes h =
-    let P : DecodeError → Type 0 = BreaksGeneric h in
-    let w = h.region_info.width in
-    let rows = h.region_info.height in
-    let Q : Result Grid DecodeError → Type 0 = λ r. IfErr r P in
-    cause-next P (generic_answer h) (λ g. Ok (placed h.region_info g))
-    (cond_both h.mmr (mmr_rows h.strict w rows h.bytes >>= λ d. Ok d.grid) (Ok (generic_grid h)) Q
-    (λ mmr. cause-next P (mmr_rows h.strict w rows h.bytes) (λ d. Ok d.grid) (cause-mmr P h.strict w rows h.bytes (λ breaks. (mmr, breaks))) (λ d is. tt))
-    (λ arithmetic. tt))
-    (λ g is. tt)
-
-pub refined_causes : (h : RefinementHeader) → HaveCauses (refined_decoded h) (λ from. BreaksOffset from h.region_info)
-unfolding HaveCauses
-refined_causes h from =
-    let P : DecodeError → Type 0 = BreaksOffset from h.region_info in
-    cause-next P (refined_answer h from) (λ g. Ok (placed h.region_info g))
-    (cause-next P (offset from h.region_info) (λ d. Ok (refined_grid h from)) (offset_causes from h.region_info) (λ d is. tt)) (λ g is. tt)
+pub offset_cause : {X : Type 0} (from : PlacedRegion) (info : RegionSegmentInfo) (r : Result X DecodeError) → IfErr r (λ e. offset from info ≡ Err e) → HasCause r (BreaksOffset from info)
+offset_cause from info r = call-cause (BreaksOffset from info) (offset from info) r (offset_causes from info)

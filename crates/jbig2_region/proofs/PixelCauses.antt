@@ -1,15 +1,16 @@
 -- Which rule the bytes of adaptive pixels break where they are refused.
-use Rattle.std.proofs.Common.{◌≡◌, ℕ, zero, suc, ◌+◌, ◌*◌, ◌<◌, ◌≤◌, false, not, ◌&&◌, ◌||◌, List, [], ◌∷◌, length, Ok, ℤ, pos, negsuc, refl, sym, ◌∙◌, ap, subst, arith, inl, inr}
+use Rattle.std.proofs.Common.{◌≡◌, ℕ, zero, suc, ◌+◌, ◌*◌, ◌<◌, ◌≤◌, false, not, ◌&&◌, ◌||◌, List, [], ◌∷◌, length, Result, Ok, Err, ℤ, pos, negsuc, refl, sym, ◌∙◌, ap, subst, arith, inl, inr}
 use Rattle.std.specs.Prelude.{IfErr, int_le, int_lt}
 use Rattle.std.specs.Int.{Width, w8, byte_len, cast_signed}
 use Rattle.std.proofs.lemmas.Bool.{false≢true, not-true}
 use Rattle.std.proofs.lemmas.Int.{ints}
 use Rattle.jbig2_base.specs.Answer.{◌>>=◌, refuse_if}
-use Rattle.jbig2_base.specs.Causes.{number_in, HaveCauses}
+use Rattle.jbig2_base.specs.Causes.{number_in, HasCause}
 use Rattle.jbig2_base.specs.Fields.{end_of_bytes, number_at, signed_at}
 use Rattle.jbig2_base.specs.declared.error.DecodeError.{DecodeError}
 use Rattle.jbig2_base.specs.declared.error.DecodeError.TheVariants as errors
 use Rattle.jbig2_base.specs.declared.error.TemplateError.TheVariants.{InvalidAtPixel}
+use Rattle.jbig2_base.proofs.CauseSteps.{call-cause}
 use Rattle.jbig2_base.proofs.Causes.{cause-next, cause-number, cause-refused, same-ok, went}
 use Rattle.jbig2_region.specs.Causes.{BreaksPixels, BreaksRefinementPixels, IsLate}
 use Rattle.jbig2_region.specs.RefinementTemplates.{refinement_pixel_count, refinement_pixels_at}
@@ -118,10 +119,10 @@ pixels-there (suc count) k bytes rest x at is =
     subst A (ap (λ (p : List AdaptiveTemplatePixel × List ℕ). p.1) (same-ok made x others.2))
     (at-place (k + 2 + 2 * count) (k + 2 * suc count) bytes others.0.1 (omega arith) (pixels-there count (k + 2) bytes first.0.1 others.0 (pixel-there k bytes rest first.0 at first.1) others.1))
 
-pub template_pixels_causes : (count : ℕ) → HaveCauses (adaptive_pixels_at count) (BreaksPixels count 0)
-unfolding HaveCauses
-template_pixels_causes count bytes =
-    cause-pixels (BreaksPixels count 0 bytes) count 0 bytes bytes (at-start bytes) (λ short. short) (λ i below whole is. (i, below, whole, is))
+pub template_pixels_cause : {X : Type 0} (count : ℕ) (bytes : List ℕ) (r : Result X DecodeError) → IfErr r (λ e. adaptive_pixels_at count bytes ≡ Err e) → HasCause r (BreaksPixels count 0 bytes)
+template_pixels_cause count bytes r =
+    let P : DecodeError → Type 0 = BreaksPixels count 0 bytes in
+    call-cause P (adaptive_pixels_at count bytes) r (cause-pixels P count 0 bytes bytes (at-start bytes) (λ short. short) (λ i below whole is. (i, below, whole, is)))
 
 -- ---- those of a refinement
 pub cause-refinement_pixels : (P : DecodeError → Type 0) (template : RefinementTemplate) (k : ℕ) (bytes rest : List ℕ) → At k bytes rest → (length bytes < k + 2 * refinement_pixel_count template → P end_of_bytes) → IfErr (refinement_pixels_at template rest) P
@@ -131,7 +132,7 @@ cause-refinement_pixels P refinements.Template0 k bytes rest at at_end =
     cause-next P (free_pixel_at first.1) _ (cause-free P (k + 2) bytes first.1 (free-there k bytes rest first at first_is).at (λ short. at_end (omega arith))) (λ second second_is. tt))
 cause-refinement_pixels P refinements.Template1 k bytes rest at at_end = tt
 
-pub refinement_pixels_causes : (template : RefinementTemplate) → HaveCauses (refinement_pixels_at template) (BreaksRefinementPixels template)
-unfolding HaveCauses
-refinement_pixels_causes template bytes =
-    cause-refinement_pixels (BreaksRefinementPixels template bytes) template 0 bytes bytes (at-start bytes) (λ short. omega arith)
+pub refinement_pixels_cause : {X : Type 0} (template : RefinementTemplate) (bytes : List ℕ) (r : Result X DecodeError) → IfErr r (λ e. refinement_pixels_at template bytes ≡ Err e) → HasCause r (BreaksRefinementPixels template bytes)
+refinement_pixels_cause template bytes r =
+    let P : DecodeError → Type 0 = BreaksRefinementPixels template bytes in
+    call-cause P (refinement_pixels_at template bytes) r (cause-refinement_pixels P template 0 bytes bytes (at-start bytes) (λ short. omega arith))

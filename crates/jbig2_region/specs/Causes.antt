@@ -1,9 +1,8 @@
 -- Which rule the bytes break where a header or a region is refused (docs/FORMAT.md), a line for each error. A
--- predicate `Breaks..` takes the bytes, or a header, and an error; its law ties the definition's errors to it.
+-- predicate `Breaks..` takes the bytes, or two regions, and an error; the function that refuses cites it.
 use Rattle.std.specs.{Prelude.{◌≡◌, ◌<◌, ◌≤◌, ◌⊎◌, ℕ, ◌+◌, ◌-◌, ◌*◌, ◌/◌, ◌%◌, ◌^◌, ◌==◌, Bool, true, if◌then◌else◌, List, length, ℤ, pos, ◌<ℤ◌, ◌≤ℤ◌}, Int.{w8, w32, cast_signed}}
 use Rattle.jbig2_base.specs.{Causes.{number_in}, declared.error.{DecodeError.{DecodeError}, OverflowError.TheVariants.{BitmapDimension, ReferenceOffset}, ParseError.TheVariants.{UnexpectedEof}, RegionError.TheVariants.{InvalidCombinationOperator, InvalidDimension}, TemplateError.TheVariants.{InvalidAtPixel}}}
-use Rattle.jbig2_mmr.specs.Causes.{BreaksMmr}
-use Rattle.jbig2_region.specs.{GenericHeader.{GenericHeader}, RefinementTemplates.{refinement_pixel_count}, RegionInfo.{PlacedRegion}, Templates.{adaptive_pixel_count, template_of}, declared.{region_info.RegionSegmentInfo.{RegionSegmentInfo}, template.{RefinementTemplate.{RefinementTemplate}, Template.{Template}}}}
+use Rattle.jbig2_region.specs.{RefinementTemplates.{refinement_pixel_count}, RegionInfo.{PlacedRegion}, Templates.{adaptive_pixel_count, template_of}, declared.{region_info.RegionSegmentInfo.{RegionSegmentInfo}, template.{RefinementTemplate.{RefinementTemplate}}}}
 use Rattle.jbig2_base.specs.declared.error.DecodeError.TheVariants as errors
 
 -- ---- region information (7.4.1): the two sides and the place, four bytes each, and the flags
@@ -72,7 +71,3 @@ BreaksOffset from info (errors.Region InvalidDimension) =
 BreaksOffset from info (errors.Overflow ReferenceOffset) =
     ((2 ^ 31 ≤ from.x_location) ⊎ (2 ^ 31 ≤ info.x_location)) ⊎ ((2 ^ 31 ≤ from.y_location) ⊎ (2 ^ 31 ≤ info.y_location))
 BreaksOffset from info _ = ⊥
-
--- ---- decoded regions: of a generic one the MMR data, of a refined one the reference
-abbrev pub BreaksGeneric : GenericHeader → DecodeError → Type 0
-BreaksGeneric h e = (h.mmr ≡ true) × BreaksMmr h.strict h.region_info.width h.region_info.height h.bytes e

@@ -1,6 +1,7 @@
 pub mod Causes
 pub mod Generic
 pub mod GenericHeader
+pub mod GenericSteps
 pub mod Raster
 pub mod Refinement
 pub mod RefinementHeader

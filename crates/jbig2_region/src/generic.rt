@@ -1,17 +1,18 @@
 //! Generic regions (T.88, 6.2 and 7.4.6).
-ghost use Rattle.std.specs.Prelude.{◌≡◌, ◌≤◌, length, IfOk, OnErr, OnOk, Bool, ℕ};
+ghost use Rattle.std.specs.Prelude.{◌≡◌, ◌≤◌, length, IfOk, OnErr, OnOk, Bool, ℕ, true, false};
 ghost use Rattle.jbig2_base.specs.Answer.{Answers, Gives, Leaves};
 ghost use Rattle.jbig2_base.specs.Bits.{IsAligned};
+ghost use Rattle.jbig2_base.specs.Counts.{KeepsLanes};
 ghost use Rattle.jbig2_base.specs.Fields.{Parses};
 ghost use Rattle.jbig2_region.specs.Generic.{contexts_after, generic_answer, generic_decoded, refused_grid};
 ghost use Rattle.jbig2_region.specs.RegionInfo.{IsWhiteFor};
 ghost use Rattle.jbig2_region.specs.inner.RegionViews.{region_view};
-ghost use Rattle.jbig2_region.specs.inner.Layouts.{CountsGeneric};
+ghost use Rattle.jbig2_region.specs.GenericSteps.{CountsGeneric};
 ghost use Rattle.jbig2_region.specs.GenericHeader.{rows_at, generic_header_at, IsParsed};
 ghost use Rattle.jbig2_region.specs.inner.GenericViews.{header_view};
 ghost use Rattle.jbig2_region.specs.inner.PixelArrays.{IsFilled};
-ghost use Rattle.jbig2_base.specs.Causes.{HaveCauses};
-ghost use Rattle.jbig2_region.specs.Causes.{BreaksGeneric, BreaksGenericHeader, BreaksRows};
+ghost use Rattle.jbig2_base.specs.Causes.{HasCause};
+ghost use Rattle.jbig2_region.specs.Causes.{BreaksGenericHeader, BreaksRows};
 
 pub use crate::generic_coding::decode_coded;
 use crate::raster::fresh_contexts;
@@ -47,11 +48,11 @@ pub struct GenericRegionHeader<'a> {
 }
 
 /// The number of rows, which may replace `height`, and the coded bytes.
-#[tactic(auto, using(crate::proofs::Causes::rows_causes), unfolding(crate::specs::GenericHeader::rows_at))]
+#[tactic(auto, using(crate::proofs::Causes::rows_have_cause), unfolding(crate::specs::GenericHeader::rows_at))]
 fn rows<'a>(unknown_length: bool, height: u32, bytes: &'a [u8]) -> Result<(u32, &'a [u8])>
     ensures value { Answers (λ rows. (rows.0, rows.1.now)) result
         (rows_at unknown_length height bytes.now) }
-    ensures causes { (unknown : Bool) (height : ℕ) → HaveCauses (rows_at unknown height) (BreaksRows unknown height) }
+    ensures causes { HasCause result (BreaksRows unknown_length height bytes.now) }
 {
     if !unknown_length {
         return Ok((height, bytes));
@@ -72,7 +73,7 @@ fn rows<'a>(unknown_length: bool, height: u32, bytes: &'a [u8]) -> Result<(u32, 
 /// come before the pixel that is decoded; `RegionError::InvalidDimension` where there are more rows
 /// than the stated height; `OverflowError::BitmapDimension` above 65535 pixels either way. An error
 /// leaves the reader where it was. Takes no memory.
-#[tactic(auto, using(crate::proofs::HeaderCauses::generic_header_causes), unfolding(crate::specs::GenericHeader::generic_header_at))]
+#[tactic(auto, using(crate::proofs::HeaderCauses::generic_header_cause), unfolding(crate::specs::GenericHeader::generic_header_at))]
 pub fn parse<'a>(
     reader: &mut Reader<'a>,
     unknown_length: bool,
@@ -84,7 +85,7 @@ pub fn parse<'a>(
     ensures parsed { IfOk result (λ h. IsParsed (header_view h)) }
     ensures unused { IfOk result (λ h. IsFilled h.adaptive_template_pixels
         (header_view h).adaptive_template_pixels) }
-    ensures causes { (unknown strict : Bool) → HaveCauses (generic_header_at unknown strict) (BreaksGenericHeader unknown) }
+    ensures causes { HasCause result (BreaksGenericHeader unknown_length reader.old.bytes) }
 {
     let mut ahead = reader.duplicate();
     let mut region_info = parse_region_segment_info(&mut ahead)?;
@@ -117,7 +118,8 @@ pub fn parse<'a>(
 /// Decodes a region (T.88, 6.2) into a white bitmap of its size. The contexts begin fresh, whatever
 /// `contexts` held, and are left there as the region leaves them; MMR data does not touch them, nor
 /// does its refusal. The steps of a region are bounded unless it has MMR data or the extended
-/// template; with nominal adaptive pixels a run of eight likely symbols takes no decision.
+/// template; with nominal adaptive pixels a run of eight likely symbols takes no decision. A refusal takes no
+/// step but with MMR data, which counts no group of lanes and no single pixel.
 ///
 /// `OutOfMemory` where there is no room for the contexts; in strict mode
 /// `RegionError::InvalidMmrData` where MMR data has a fault or lacks a row. The bitmap is then as it was,
@@ -135,6 +137,8 @@ pub fn decode_into<A: Allocator, B: Allocator, L: Ledger>(
     ensures contexts { Leaves result contexts.new.items
         (contexts_after (header_view header.now) contexts.old.items) }
     ensures steps { OnOk result (CountsGeneric (header_view header.now) steps.old steps.new) }
+    ensures stopped { header.now.mmr ≡ false → OnErr result (steps.new ≡ steps.old) }
+    ensures lanes { header.now.mmr ≡ true → KeepsLanes steps.old steps.new }
 {
     if header.mmr {
         mmr::decode(bitmap, header.bytes, header.strict, steps)?;
@@ -157,7 +161,6 @@ pub fn decode_into<A: Allocator, B: Allocator, L: Ledger>(
 /// Decodes a region (T.88, 6.2), as `decode_into` does, into a bitmap of its own.
 ///
 /// `OutOfMemory` where there is no room for the bitmap or the contexts, else as `decode_into`.
-#[tactic(auto, using(crate::proofs::HeaderCauses::generic_causes))]
 pub fn decode<A: Allocator, B: Allocator, L: Ledger>(
     alloc: A,
     header: &GenericRegionHeader<'_>,
@@ -169,7 +172,8 @@ pub fn decode<A: Allocator, B: Allocator, L: Ledger>(
     ensures contexts { Leaves result contexts.new.items
         (contexts_after (header_view header.now) contexts.old.items) }
     ensures steps { OnOk result (CountsGeneric (header_view header.now) steps.old steps.new) }
-    ensures causes { HaveCauses generic_decoded BreaksGeneric }
+    ensures stopped { header.now.mmr ≡ false → OnErr result (steps.new ≡ steps.old) }
+    ensures lanes { header.now.mmr ≡ true → KeepsLanes steps.old steps.new }
 {
     let region_info = &header.region_info;
     steps.pay_bitmap(region_info.width, region_info.height)?;

@@ -6,7 +6,7 @@ ghost use Rattle.jbig2_region.specs.inner.Holds.{DecodesRegion, IsReady};
 ghost use Rattle.jbig2_region.specs.Raster.{no_pixels};
 ghost use Rattle.jbig2_region.specs.Generic.{context_at, coding_of, white_if_skipped};
 ghost use Rattle.jbig2_region.specs.inner.RegionViews.{skip_of};
-ghost use Rattle.jbig2_region.specs.inner.Layouts.{CountsCoded, read_pixels};
+ghost use Rattle.jbig2_region.specs.GenericSteps.{CountsCoded, read_pixels};
 ghost use Rattle.jbig2_region.specs.Steps.{CountsRegion};
 ghost use Rattle.jbig2_region.specs.Templates.{FitsTemplate, context_bits, is_nominal, template_pixels};
 ghost use Rattle.jbig2_region.specs.inner.PixelArrays.{is_extended, pixels_view};

@@ -10,7 +10,7 @@ ghost use Rattle.jbig2_region.specs.Steps.{CountsRefined};
 ghost use Rattle.jbig2_region.specs.RefinementHeader.{IsRefinement, refinement_header_at, RefinementHeader};
 ghost use Rattle.jbig2_region.specs.inner.RefinedViews.{header_view};
 ghost use Rattle.jbig2_region.specs.inner.PixelArrays.{filled};
-ghost use Rattle.jbig2_base.specs.Causes.{HaveCauses};
+ghost use Rattle.jbig2_base.specs.Causes.{HasCause};
 ghost use Rattle.jbig2_region.specs.Causes.{BreaksOffset, BreaksRefinementHeader};
 
 use crate::raster::fresh_contexts;
@@ -55,7 +55,7 @@ pub struct ReferenceBitmap<'a, B: Allocator> {
 /// `ParseError::UnexpectedEof` where the bytes do not hold it; the errors of
 /// `parse_region_segment_info`; `OverflowError::BitmapDimension` above 65535 pixels either way. An
 /// error leaves the reader where it was. The adaptive pixels may lie anywhere. Takes no memory.
-#[tactic(auto, using(crate::proofs::HeaderCauses::refinement_header_causes), unfolding(crate::specs::RefinementHeader::refinement_header_at))]
+#[tactic(auto, using(crate::proofs::HeaderCauses::refinement_header_cause), unfolding(crate::specs::RefinementHeader::refinement_header_at))]
 pub fn parse<'a>(reader: &mut Reader<'a>) -> Result<GenericRefinementRegionHeader<'a>>
     requires { IsAligned reader.old }
     ensures parses { Parses reader.old reader.new result header_view
@@ -63,7 +63,7 @@ pub fn parse<'a>(reader: &mut Reader<'a>) -> Result<GenericRefinementRegionHeade
     ensures parsed { IfOk result (λ h. IsRefinement (header_view h)) }
     ensures unused { IfOk result (λ h. h.adaptive_template_pixels
         ≡ filled 2 (header_view h).adaptive_template_pixels) }
-    ensures causes { HaveCauses refinement_header_at BreaksRefinementHeader }
+    ensures causes { HasCause result (BreaksRefinementHeader reader.old.bytes) }
 {
     let mut ahead = reader.duplicate();
     let region_info = parse_region_segment_info(&mut ahead)?;
@@ -97,13 +97,14 @@ fn is_far(location: u32) -> bool
 }
 
 /// Where the reference lies, seen from the region: columns to the right and rows down.
-#[tactic(auto, using(crate::proofs::HeaderCauses::offset_causes), unfolding(crate::specs::Refinement::offset))]
+#[tactic(auto, using(crate::proofs::HeaderCauses::offset_cause), unfolding(crate::specs::Refinement::offset))]
 fn offset<B: Allocator>(
     reference: &DecodedRegion<B>,
     region_info: &RegionSegmentInfo,
 ) -> Result<(i32, i32)>
     ensures value { Answers (λ d. d) result (offset (region_view reference.now) region_info.now) }
-    ensures causes { (from : PlacedRegion) → HaveCauses (offset from) (BreaksOffset from) }
+    ensures causes { HasCause result
+        (BreaksOffset (region_view reference.now) region_info.now) }
 {
     if is_smaller(reference, region_info) {
         return Err(DecodeError::Region(RegionError::InvalidDimension));
@@ -127,7 +128,7 @@ fn offset<B: Allocator>(
 /// `RegionError::InvalidDimension` where the reference is narrower or lower than the region;
 /// `OverflowError::ReferenceOffset` where a place of either is 2^31 or more; `OutOfMemory` where
 /// there is no room for the contexts. An error leaves the bitmap as it was, and the
-/// contexts too unless memory ran out.
+/// contexts too unless memory ran out; it takes no step.
 pub fn decode_into<A: Allocator, B: Allocator, C: Allocator, L: Ledger>(
     header: &GenericRefinementRegionHeader<'_>,
     reference: &DecodedRegion<B>,
@@ -144,6 +145,7 @@ pub fn decode_into<A: Allocator, B: Allocator, C: Allocator, L: Ledger>(
     ensures same { OnErr result (bitmap.new ≡ bitmap.old) }
     ensures steps { OnOk result
         (CountsRefined (header_view header.now) (region_view reference.now) steps.old steps.new) }
+    ensures stopped { OnErr result (steps.new ≡ steps.old) }
 {
     let region_info = &header.region_info;
     let (dx, dy) = offset(reference, region_info)?;
@@ -170,7 +172,6 @@ pub fn decode_into<A: Allocator, B: Allocator, C: Allocator, L: Ledger>(
 /// Refines `reference` (T.88, 6.3), as `decode_into` does, into a bitmap of its own.
 ///
 /// `OutOfMemory` where there is no room for the bitmap or the contexts, else as `decode_into`.
-#[tactic(auto, using(crate::proofs::HeaderCauses::refined_causes))]
 pub fn decode<A: Allocator, B: Allocator, C: Allocator, L: Ledger>(
     alloc: A,
     header: &GenericRefinementRegionHeader<'_>,
@@ -185,7 +186,7 @@ pub fn decode<A: Allocator, B: Allocator, C: Allocator, L: Ledger>(
         (refined_contexts (header_view header.now) (region_view reference.now) contexts.old.items) }
     ensures steps { OnOk result
         (CountsRefined (header_view header.now) (region_view reference.now) steps.old steps.new) }
-    ensures causes { (h : RefinementHeader) → HaveCauses (refined_decoded h) (λ from. BreaksOffset from h.region_info) }
+    ensures stopped { OnErr result (steps.new ≡ steps.old) }
 {
     let region_info = &header.region_info;
     steps.pay_bitmap(region_info.width, region_info.height)?;

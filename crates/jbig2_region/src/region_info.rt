@@ -4,7 +4,7 @@ ghost use Rattle.jbig2_base.specs.Bits.{IsAligned};
 ghost use Rattle.jbig2_base.specs.Fields.{Parses};
 ghost use Rattle.jbig2_region.specs.RegionInfo.{placed, region_info_at};
 ghost use Rattle.jbig2_region.specs.inner.RegionViews.{region_view};
-ghost use Rattle.jbig2_base.specs.Causes.{HaveCauses};
+ghost use Rattle.jbig2_base.specs.Causes.{HasCause};
 ghost use Rattle.jbig2_region.specs.Causes.{BreaksRegionInfo};
 
 use jbig2_base::bitmap::Bitmap;
@@ -33,11 +33,11 @@ pub struct RegionSegmentInfo {
 /// `ParseError::UnexpectedEof` where the bytes do not hold it,
 /// `RegionError::InvalidCombinationOperator` where the flags name no operator, `Unsupported` where
 /// they ask for colours. An error leaves the reader where it was. Takes no memory.
-#[tactic(auto, using(crate::proofs::Causes::info_causes), unfolding(crate::specs::RegionInfo::region_info_at))]
+#[tactic(auto, using(crate::proofs::Causes::info_has_cause), unfolding(crate::specs::RegionInfo::region_info_at))]
 pub fn parse_region_segment_info(reader: &mut Reader<'_>) -> Result<RegionSegmentInfo>
     requires { IsAligned reader.old }
     ensures parses { Parses reader.old reader.new result (λ info. info) (region_info_at reader.old.bytes) }
-    ensures causes { HaveCauses region_info_at BreaksRegionInfo }
+    ensures causes { HasCause result (BreaksRegionInfo reader.old.bytes) }
 {
     let mut ahead = reader.duplicate();
     let width = u32_field(&mut ahead)?;

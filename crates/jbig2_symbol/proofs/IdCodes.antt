@@ -1,14 +1,19 @@
 -- The codes of the ids of a dictionary's symbols: all of one length, they are never more than this many bits tell apart.
-use Rattle.std.proofs.Common.{if◌then◌else◌, ◌≡◌, ℕ, zero, suc, ◌+◌, ◌-◌, ◌^◌, ◌<◌, ◌≤◌, ltb, leb, max, ⊎_elim, pow-suc, pow_mono, true, ◌&&◌, List, [], ◌∷◌, ◌++◌, pos, refl, ◌∙◌, arith}
+use Rattle.std.proofs.Common.{if◌then◌else◌, ◌≡◌, ℕ, zero, suc, ◌+◌, ◌-◌, ◌^◌, ◌<◌, ◌≤◌, ltb, leb, max, ⊎_elim, pow-suc, pow_mono, true, ◌&&◌, List, [], ◌∷◌, ◌++◌, Result, Err, pos, refl, ◌∙◌, arith}
+use Rattle.std.specs.Prelude.{◌⊎◌, IfErr}
 use Rattle.std.proofs.lemmas.Bool.{cases_lt, cond-true, cond_both, le-leb, leb-true, lt-ltb, ltb-true}
+use Rattle.jbig2_base.specs.Causes.{HasCauseOrNoMemory}
 use Rattle.jbig2_base.specs.Search.{code_length}
+use Rattle.jbig2_base.specs.declared.error.DecodeError.{DecodeError}
+use Rattle.jbig2_base.specs.declared.error.DecodeError.TheVariants.{OutOfMemory}
+use Rattle.jbig2_base.proofs.CauseSteps.{call-cause-or-memory}
 use Rattle.jbig2_base.proofs.SearchLemmas.{place-found}
 use Rattle.jbig2_region.proofs.Told.{cause-if}
 use Rattle.jbig2_coder.specs.PrefixCode.{is_crowded, longest, share, weight}
 use Rattle.jbig2_coder.specs.Tables.{line, uniform}
 use Rattle.jbig2_coder.specs.declared.huffman_table.line.TableLine.{TableLine}
-use Rattle.jbig2_symbol.specs.SymbolBitmaps.{id_bits}
-use Rattle.jbig2_symbol.specs.Causes.{IdCodesAreThere}
+use Rattle.jbig2_symbol.specs.SymbolBitmaps.{id_bits, id_codes}
+use Rattle.jbig2_symbol.specs.Causes.{BreaksIdCodes}
 use Rattle.jbig2_symbol.specs.SymbolHeader.{SymbolHeader}
 
 -- ---- codes of one length
@@ -67,7 +72,10 @@ coded-few h symbols =
     let enough : all ≤ 2 ^ max 1 bits = some-bits all bits (max 1 bits) (enough-bits all) (omega arith) in
     cond_both (h.flags.use_huffman && h.flags.use_refagg) all 0 (λ (n : ℕ). n ≤ 2 ^ max 1 bits) (λ coded. enough) (λ none. omega arith)
 
-pub id_codes_are_there : IdCodesAreThere
+id_codes_are_there : (h : SymbolHeader) (symbols : ℕ) → IfErr (id_codes h symbols) (BreaksIdCodes h symbols)
 id_codes_are_there h symbols =
     let lines : List TableLine = uniform (coded_ids h symbols) (max 1 (id_bits h symbols)) in
     cause-if (λ e. ⊥) (is_crowded lines) _ _ (λ crowded. not-crowded (coded_ids h symbols) (max 1 (id_bits h symbols)) (omega arith) (coded-few h symbols) crowded) (λ fits. tt)
+
+pub id_codes_cause : {X : Type 0} (h : SymbolHeader) (symbols : ℕ) (r : Result X DecodeError) → IfErr r (λ e. (e ≡ OutOfMemory) ⊎ (id_codes h symbols ≡ Err e)) → HasCauseOrNoMemory r (BreaksIdCodes h symbols)
+id_codes_cause h symbols r = call-cause-or-memory (BreaksIdCodes h symbols) (id_codes h symbols) r (id_codes_are_there h symbols)

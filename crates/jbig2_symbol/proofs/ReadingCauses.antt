@@ -4,8 +4,9 @@ use Rattle.std.proofs.lemmas.Bool.{and_cases, and_parts, eq-eqb, eqb-true, false
 use Rattle.std.proofs.lemmas.Bool as tests
 use Rattle.std.specs.Prelude.{IfErr}
 use Rattle.jbig2_base.specs.Answer.{◌>>=◌, refuse_if}
-use Rattle.jbig2_base.specs.Grid.{bit_number}
-use Rattle.jbig2_base.specs.Causes.{InSteps, IsOf, HaveCauses}
+use Rattle.jbig2_base.specs.Grid.{Grid, bit_number}
+use Rattle.jbig2_base.specs.Causes.{HasCause, HasCauseOrNoMemory, InSteps, IsOf}
+use Rattle.jbig2_base.proofs.CauseSteps.{call-cause, call-cause-or-memory}
 use Rattle.jbig2_base.specs.declared.error.DecodeError.{DecodeError}
 use Rattle.jbig2_base.specs.declared.error.DecodeError.TheVariants as errors
 use Rattle.jbig2_base.specs.declared.error.HuffmanError.TheVariants as huffman
@@ -15,10 +16,10 @@ use Rattle.jbig2_base.proofs.Causes.{cause-next, cause-refused}
 use Rattle.jbig2_coder.specs.PrefixCode.{Member}
 use Rattle.jbig2_text.specs.TextCoding.{in_band}
 use Rattle.jbig2_symbol.specs.SymbolBitmaps.{instance_count, some_instances}
-use Rattle.jbig2_symbol.specs.Causes.{BreaksContexts, BreaksCount, BreaksRunBehind, BreaksRunValue, BreaksTables, ExportsHaveCauses, InstanceCountsHaveCauses, IsNoSize, WidthsHaveCauses, taken_by}
+use Rattle.jbig2_symbol.specs.Causes.{BreaksContexts, BreaksCount, BreaksExports, BreaksNextWidth, BreaksRunBehind, BreaksRunValue, BreaksTables, IsNoSize, taken_by}
 use Rattle.jbig2_symbol.specs.Symbols.{export_runs, exported, exports, next_run, runs_from}
 use Rattle.jbig2_symbol.specs.HeightClasses.{next_width, size_in_word, width_by}
-use Rattle.jbig2_symbol.specs.SymbolReading.{ClassReadings, SymbolInput, SymbolReadings, first_contexts, is_refinement_template, is_template, not_negative, symbol_tables, table_for}
+use Rattle.jbig2_symbol.specs.SymbolReading.{BitmapContexts, ClassReadings, SymbolInput, SymbolReadings, first_contexts, is_refinement_template, is_template, not_negative, symbol_tables, table_for}
 use Rattle.jbig2_symbol.specs.declared.symbol.header.HuffmanTableSelection.{HuffmanTableSelection}
 use Rattle.jbig2_symbol.specs.declared.symbol.header.HuffmanTableSelection.TheVariants.{TableB1, TableB2, TableB3, TableB4, TableB5, UserSupplied}
 use Rattle.jbig2_region.proofs.Told.{Told, cause-if, cause-last, cause-more, told-if, told-refused}
@@ -55,8 +56,8 @@ told-table P TableB5 customs why = omega arith
 told-table P UserSupplied [] why = why (omega arith)
 told-table P UserSupplied (table ∷ others) why = omega arith
 
-pub symbol_tables_causes : (flags : SymbolDictionaryFlags) → HaveCauses (symbol_tables flags) (BreaksTables flags)
-unfolding HaveCauses symbol_tables
+symbol_tables_causes : (flags : SymbolDictionaryFlags) (customs : List (List Member)) → IfErr (symbol_tables flags customs) (BreaksTables flags customs)
+unfolding symbol_tables
 symbol_tables_causes flags customs =
     let P : DecodeError → Type 0 = BreaksTables flags customs in
     let h = taken_by flags.delta_height_table in
@@ -68,9 +69,12 @@ symbol_tables_causes flags customs =
     cause-last P (Left c widths.1) (table_for flags.collective_bitmap_size_table widths.1) _ (told-table P flags.collective_bitmap_size_table widths.1 (λ few. omega (arith, few, one, two))) (λ sizes three.
     cause-last P (Left a sizes.1) (table_for flags.aggregate_instance_table sizes.1) _ (told-table P flags.aggregate_instance_table sizes.1 (λ few. omega (arith, few, one, two, three))) (λ counts four. tt))))
 
+pub symbol_tables_cause : {X : Type 0} (flags : SymbolDictionaryFlags) (customs : List (List Member)) (r : Result X DecodeError) → IfErr r (λ e. symbol_tables flags customs ≡ Err e) → HasCause r (BreaksTables flags customs)
+symbol_tables_cause flags customs r = call-cause (BreaksTables flags customs) (symbol_tables flags customs) r (symbol_tables_causes flags customs)
+
 -- ---- contexts
-pub contexts_causes : (flags : SymbolDictionaryFlags) → HaveCauses (first_contexts flags) (BreaksContexts flags)
-unfolding HaveCauses first_contexts
+contexts_causes : (flags : SymbolDictionaryFlags) (kept : Option BitmapContexts) → IfErr (first_contexts flags kept) (BreaksContexts flags kept)
+unfolding first_contexts
 contexts_causes flags None =
     cause-if (BreaksContexts flags None) (not flags.bitmap_context_used) _ _ (λ fresh. tt) (λ used. not-false flags.bitmap_context_used used)
 contexts_causes flags (Some contexts) =
@@ -80,6 +84,10 @@ contexts_causes flags (Some contexts) =
     let other : Bool = not (generic && refined) in
     cause-if P (not flags.bitmap_context_used) _ (refuse_if other (errors.Symbol symbols.Invalid) >>= λ same. Ok contexts) (λ fresh. tt) (λ used.
     cause-next P (refuse_if other (errors.Symbol symbols.Invalid)) _ (cause-refused P other (errors.Symbol symbols.Invalid) (λ is. (not-false flags.bitmap_context_used used, and_cases generic refined (not-true (generic && refined) is)))) (λ same same_is. tt))
+
+pub contexts_cause : {X : Type 0} (flags : SymbolDictionaryFlags) (kept : Option BitmapContexts) (r : Result X DecodeError) → IfErr r (λ e. (e ≡ errors.OutOfMemory) ⊎ (first_contexts flags kept ≡ Err e))
+    → HasCauseOrNoMemory r (BreaksContexts flags kept)
+contexts_cause flags kept r = call-cause-or-memory (BreaksContexts flags kept) (first_contexts flags kept) r (contexts_causes flags kept)
 
 -- ---- exports
 run-of : {S : Type 0} (empty left : ℕ) (value : Option ℤ) (after : S)
@@ -122,7 +130,7 @@ runs-cause r d (suc n) empty left s =
     let Q : DecodeError → Type 0 = Runs r d (empty + bit_number (run.0 == 0)) (left - run.0) run.1 in
     cause-next P others _ (cause-more Q P others (runs-cause r d n (empty + bit_number (run.0 == 0)) (left - run.0) run.1) (λ e later. runs-later r d empty left s run e run_is later)) (λ all all_is. tt)))
 
-pub exports_causes : {S : Type 0} (r : ClassReadings S) → ExportsHaveCauses r
+exports_causes : {S : Type 0} (r : ClassReadings S) (d : SymbolInput) (grids : List Grid) (s : S) → IfErr (exports r d grids s) (BreaksExports r d grids s)
 unfolding exports
 exports_causes r d grids s =
     let count = length grids in
@@ -130,6 +138,10 @@ exports_causes r d grids s =
     let P : DecodeError → Type 0 = λ e. (e ≡ errors.Symbol symbols.NoSymbols) × (length (exported runs.0 grids) ≢ d.header.num_exported_symbols) in
     let other : Bool = not (length (exported runs.0 grids) == d.header.num_exported_symbols) in
     cause-next P (refuse_if other (errors.Symbol symbols.NoSymbols)) _ (cause-refused P other (errors.Symbol symbols.NoSymbols) (λ is. (refl, differ (length (exported runs.0 grids)) d.header.num_exported_symbols is))) (λ right right_is. tt))
+
+pub exports_cause : {X S : Type 0} (r : ClassReadings S) (d : SymbolInput) (grids : List Grid) (s : S) (result : Result X DecodeError) → IfErr result (λ e. (e ≡ errors.OutOfMemory) ⊎ (exports r d grids s ≡ Err e))
+    → HasCauseOrNoMemory result (BreaksExports r d grids s)
+exports_cause r d grids s result = call-cause-or-memory (BreaksExports r d grids s) (exports r d grids s) result (exports_causes r d grids s)
 
 -- ---- widths and instances
 pub told-size : (P : DecodeError → Type 0) (z : ℤ) → (IsNoSize z → P (errors.Overflow BitmapDimension)) → Told (size_in_word z) P (λ n. z ≡ pos n)
@@ -151,11 +163,15 @@ width-cause room width total (Some difference) =
     cause-last P (λ (n : ℕ). next_width_is ≡ pos n) (size_in_word next_width_is) _ (told-size P next_width_is (λ no. inr (refl, (difference, refl, inl no)))) (λ next is.
     cause-last P (λ (n : ℕ). pos total +ℤ pos next ≡ pos n) (size_in_word (pos total +ℤ pos next)) _ (told-size P (pos total +ℤ pos next) (λ no. inr (refl, (difference, refl, inr (subst (λ (z : ℤ). IsNoSize (pos total +ℤ z)) (sym is) no))))) (λ all all_is. tt)))
 
-pub widths_causes : {S : Type 0} (r : SymbolReadings S) → WidthsHaveCauses r
+widths_causes : {S : Type 0} (r : SymbolReadings S) (d : SymbolInput) (room width total : ℕ) (s : S) → IfErr (next_width r d room width total s) (BreaksNextWidth r d room width total s)
 unfolding next_width
 widths_causes r d room width total s =
     in-steps (r.width_difference d s) _ (IsOf (r.width_difference d s)) (λ value. BreaksWidth room width total value.0) (own-error (r.width_difference d s)) (λ value value_is.
     cause-next (BreaksWidth room width total value.0) (width_by room width total value.0) _ (width-cause room width total value.0) (λ next next_is. tt))
+
+pub widths_cause : {X S : Type 0} (r : SymbolReadings S) (d : SymbolInput) (room width total : ℕ) (s : S) (result : Result X DecodeError) → IfErr result (λ e. next_width r d room width total s ≡ Err e)
+    → HasCause result (BreaksNextWidth r d room width total s)
+widths_cause r d room width total s result = call-cause (BreaksNextWidth r d room width total s) (next_width r d room width total s) result (widths_causes r d room width total s)
 
 count-cause : (value : Option ℤ) → IfErr (some_instances value) (BreaksCount value)
 count-cause None = refl
@@ -163,7 +179,7 @@ count-cause (Some (pos zero)) = inl refl
 count-cause (Some (pos (suc n))) = tt
 count-cause (Some (negsuc n)) = inr (n, refl)
 
-pub instance_count_causes : {S : Type 0} → InstanceCountsHaveCauses S
+pub instance_count_causes : {S : Type 0} (reading : Result (Option ℤ × S) DecodeError) → IfErr (instance_count reading) (λ e. InSteps reading (IsOf reading e) (λ value. BreaksCount value.0 e))
 unfolding instance_count
 instance_count_causes reading =
     in-steps reading _ (IsOf reading) (λ value. BreaksCount value.0) (own-error reading) (λ value value_is.

@@ -4,7 +4,8 @@ use Rattle.std.proofs.lemmas.Bool.{eqb-false, eqb-true, ltb-true}
 use Rattle.std.specs.Prelude.{IfErr}
 use Rattle.jbig2_base.specs.Answer.{◌>>=◌}
 use Rattle.jbig2_base.specs.Bits.{Place, bits_left, bits_on}
-use Rattle.jbig2_base.specs.Causes.{BreaksSides, InSteps, IsOf, HaveCauses}
+use Rattle.jbig2_base.specs.Causes.{BreaksSides, HasCauseOrNoMemory, InSteps, IsOf}
+use Rattle.jbig2_base.proofs.CauseSteps.{call-cause-or-memory}
 use Rattle.jbig2_base.specs.Fields.{end_of_bytes}
 use Rattle.jbig2_base.specs.Grid.{Grid}
 use Rattle.jbig2_base.specs.declared.error.DecodeError.{DecodeError}
@@ -18,9 +19,8 @@ use Rattle.jbig2_text.specs.Causes.{Behind, BreaksInstances, ReadingsHaveCauses,
 use Rattle.jbig2_text.specs.Refining.{Refining}
 use Rattle.jbig2_text.specs.Text.{Readings, TextParams, some_symbol, symbol_of, text_instances, text_region}
 use Rattle.jbig2_text.specs.TextCoding.{Coded, Prefixed, by_coder, by_prefix_codes, next_id}
-use Rattle.jbig2_symbol.specs.Causes.{BreaksByInstances, BreaksCodedAggregate, BreaksCodedBitmap, BreaksCount, BreaksPrefixedAggregate}
-use Rattle.jbig2_symbol.specs.SymbolBitmaps.{aggregate_params, by_instances, coded_aggregate, coded_symbol, fits_symbol, id_bits, instance_count, plain_id, prefixed_aggregate, prefixed_at, put_together, refined_alone}
-use Rattle.jbig2_symbol.specs.SymbolCoding.{coded_bitmap}
+use Rattle.jbig2_symbol.specs.Causes.{BreaksByInstances, BreaksCodedAggregate, BreaksCount, BreaksPrefixedAggregate}
+use Rattle.jbig2_symbol.specs.SymbolBitmaps.{aggregate_params, by_instances, coded_aggregate, fits_symbol, id_bits, instance_count, plain_id, prefixed_aggregate, prefixed_at, put_together, refined_alone}
 use Rattle.jbig2_symbol.specs.SymbolReading.{SymbolState, by_procedure, by_table, SymbolInput}
 use Rattle.jbig2_text.proofs.CausesOfInstances.{cause-some}
 use Rattle.jbig2_text.proofs.CausesOfRegions.{all_instance_causes, by_coder-causes, by_prefix_codes-causes}
@@ -28,28 +28,23 @@ use Rattle.jbig2_text.proofs.Causes.{cause-bits}
 use Rattle.jbig2_region.proofs.Told.{cause-if, cause-more, cause-of}
 use Rattle.jbig2_base.proofs.Causes.{cause-next, cause-refused}
 use Rattle.jbig2_symbol.proofs.ReadingCauses.{instance_count_causes}
-use Rattle.jbig2_symbol.specs.SymbolHeader.{SymbolHeader}
 
--- ---- coded by itself
+-- ---- the sides
 either-of : (x y : Bool) → (x || y) ≡ true → (x ≡ true) ⊎ (y ≡ true)
 either-of true y is = inl refl
 either-of false y is = inr is
 
-pub too-long : (width height : ℕ) → (nat_lt 65535 width || nat_lt 65535 height) ≡ true → (65535 < width) ⊎ (65535 < height)
+too-long : (width height : ℕ) → (nat_lt 65535 width || nat_lt 65535 height) ≡ true → (65535 < width) ⊎ (65535 < height)
 too-long width height over = on (either-of (nat_lt 65535 width) (nat_lt 65535 height) over)
   where
     on : (nat_lt 65535 width ≡ true) ⊎ (nat_lt 65535 height ≡ true) → (65535 < width) ⊎ (65535 < height)
     on (inl wide) = inl (ltb-true 65535 width wide)
     on (inr high) = inr (ltb-true 65535 height high)
 
-pub sides-cause : (width height : ℕ) → IfErr (fits_symbol width height) (BreaksSides width height)
+sides-cause : (width height : ℕ) → IfErr (fits_symbol width height) (BreaksSides width height)
 sides-cause width height =
     let large : Bool = nat_lt 65535 width || nat_lt 65535 height in
     cause-refused (BreaksSides width height) large (errors.Overflow BitmapDimension) (too-long width height)
-
-pub coded_symbol_causes : (h : SymbolHeader) (width height : ℕ) → HaveCauses (coded_symbol h width height) (λ s. BreaksSides width height)
-unfolding HaveCauses coded_symbol
-coded_symbol_causes h width height s = cause-next (BreaksSides width height) (fits_symbol width height) _ (sides-cause width height) (λ fits fits_is. tt)
 
 -- ---- refined, or put together
 abbrev BreaksRefined : {S : Type 0} → ReadingCauses S → Readings S → List Grid → ℤ → ℕ → ℕ → S → DecodeError → Type 0
@@ -94,8 +89,8 @@ cause-count {S} P reading refused broken = cause-more (λ e. InSteps reading (Is
     on (Ok value) refused broken why = broken (value, refl, why)
     on (Err f) refused broken why = refused why
 
-pub coded_aggregate_causes : (d : SymbolInput) (new : List Grid) (width height : ℕ) → HaveCauses (coded_aggregate d new width height) (BreaksCodedAggregate d new width height)
-unfolding HaveCauses coded_aggregate
+coded_aggregate_causes : (d : SymbolInput) (new : List Grid) (width height : ℕ) (s : SymbolState Coded) → IfErr (coded_aggregate d new width height s) (BreaksCodedAggregate d new width height s)
+unfolding coded_aggregate
 coded_aggregate_causes d new width height s =
     let P : DecodeError → Type 0 = BreaksCodedAggregate d new width height s in
     cause-next P (instance_count (by_procedure Iaai s)) _ (cause-count P (by_procedure Iaai s) (λ e never. absurd cc) (λ e no. inl no)) (λ count count_is.
@@ -106,6 +101,11 @@ coded_aggregate_causes d new width height s =
     cause-next P (by_instances by_coder alone p width height refining count.1.coding) _
     (cause-more (BreaksByInstances coder_causes by_coder alone lacks p width height refining count.1.coding) P (by_instances by_coder alone p width height refining count.1.coding)
     (cause-instances coder_causes by_coder by_coder-causes alone lacks (λ c. tt) p width height refining count.1.coding) (λ e no. inr (count, count_is, no))) (λ symbol symbol_is. tt))
+
+pub coded_aggregate_cause : {X : Type 0} (d : SymbolInput) (new : List Grid) (width height : ℕ) (s : SymbolState Coded) (r : Result X DecodeError)
+    → IfErr r (λ e. (e ≡ errors.OutOfMemory) ⊎ (coded_aggregate d new width height s ≡ Err e)) → HasCauseOrNoMemory r (BreaksCodedAggregate d new width height s)
+coded_aggregate_cause d new width height s r =
+    call-cause-or-memory (BreaksCodedAggregate d new width height s) (coded_aggregate d new width height s) r (coded_aggregate_causes d new width height s)
 
 refused-value : (table : List Member) (s : SymbolState Place) (e : DecodeError) → by_table table s ≡ Err e → RefusesValue table (bits_left s.coding) e
 refused-value table s e = on (decoded_value table (bits_left s.coding)).answer
@@ -126,8 +126,8 @@ cause-plain_id bits s =
     let P : DecodeError → Type 0 = LacksId bits s in
     cause-next P _ _ (cause-next P _ _ (cause-bits P end_of_bytes bits s.place (λ short. (refl, short))) (λ n is. tt)) (λ n is. tt)
 
-pub prefixed_aggregate_causes : (d : SymbolInput) (new : List Grid) (width height : ℕ) → HaveCauses (prefixed_aggregate d new width height) (BreaksPrefixedAggregate d new width height)
-unfolding HaveCauses prefixed_aggregate
+prefixed_aggregate_causes : (d : SymbolInput) (new : List Grid) (width height : ℕ) (s : SymbolState Place) → IfErr (prefixed_aggregate d new width height s) (BreaksPrefixedAggregate d new width height s)
+unfolding prefixed_aggregate
 prefixed_aggregate_causes d new width height s =
     let P : DecodeError → Type 0 = BreaksPrefixedAggregate d new width height s in
     let reading = by_table d.tables.counts s in
@@ -140,12 +140,7 @@ prefixed_aggregate_causes d new width height s =
     (cause-more (BreaksByInstances prefix_causes by_prefix_codes (plain_id bits) (LacksId bits) p width height refining at) P (by_instances by_prefix_codes (plain_id bits) p width height refining at)
     (cause-instances prefix_causes by_prefix_codes by_prefix_codes-causes (plain_id bits) (LacksId bits) (cause-plain_id bits) p width height refining at) (λ e no. inr (inr (count, count_is, no)))) (λ symbol symbol_is. tt))
 
-pub coded_bitmap_causes : (d : SymbolInput) (new : List Grid) (width height : ℕ) → HaveCauses (coded_bitmap d new width height) (BreaksCodedBitmap d new width height)
-unfolding HaveCauses coded_bitmap
-coded_bitmap_causes d new width height s =
-    let P : DecodeError → Type 0 = BreaksCodedBitmap d new width height s in
-    let aggregate = coded_aggregate d new width height s in
-    let alone = coded_symbol d.header width height s in
-    cause-if P d.header.flags.use_refagg aggregate alone
-    (λ is. cause-more (BreaksCodedAggregate d new width height s) P aggregate (coded_aggregate_causes d new width height s) (λ e no. inl (is, no)))
-    (λ is. cause-more (BreaksSides width height) P alone (coded_symbol_causes d.header width height s) (λ e no. inr (is, no)))
+pub prefixed_aggregate_cause : {X : Type 0} (d : SymbolInput) (new : List Grid) (width height : ℕ) (s : SymbolState Place) (r : Result X DecodeError)
+    → IfErr r (λ e. (e ≡ errors.OutOfMemory) ⊎ (prefixed_aggregate d new width height s ≡ Err e)) → HasCauseOrNoMemory r (BreaksPrefixedAggregate d new width height s)
+prefixed_aggregate_cause d new width height s r =
+    call-cause-or-memory (BreaksPrefixedAggregate d new width height s) (prefixed_aggregate d new width height s) r (prefixed_aggregate_causes d new width height s)

@@ -1,7 +1,6 @@
 //! Symbol dictionaries (T.88, 6.5 and 7.4.2).
 ghost use Rattle.std.specs.Prelude.{◌≡◌, ◌≤◌, length, map};
 ghost use Rattle.jbig2_base.specs.Answer.{Gives};
-ghost use Rattle.jbig2_symbol.specs.Causes.{SymbolsHaveCauses};
 ghost use Rattle.jbig2_symbol.specs.inner.HeaderViews.{contexts_view, header_view};
 ghost use Rattle.jbig2_coder.specs.inner.TableViews.{customs_view};
 ghost use Rattle.jbig2_symbol.specs.inner.SymbolViews.{dictionary_view, input_view, kept_view};
@@ -106,7 +105,7 @@ fn decode_with<A: Allocator + Clone, T: Allocator, L: Ledger>(
 ///
 /// The errors of `first_contexts`, then those of `symbol_tables`, `read_new_symbols` and
 /// `read_exports`; `OutOfMemory`.
-#[tactic(auto, using(crate::proofs::ClassCauses::symbols_causes), unfolding(crate::specs::Symbols::symbols_decoded))]
+#[tactic(auto, unfolding(crate::specs::Symbols::symbols_decoded))]
 pub fn decode<A: Allocator + Clone, T: Allocator, K: Allocator, L: Ledger>(
     alloc: A,
     header: &SymbolDictionaryHeader<'_>,
@@ -123,7 +122,6 @@ pub fn decode<A: Allocator + Clone, T: Allocator, K: Allocator, L: Ledger>(
         let referred = customs_view referred_tables.now in
         let meant = symbols_decoded h grids referred (kept_view retained_contexts.entry) in
         Gives (λ d. dictionary_view d) result meant }
-    ensures causes { SymbolsHaveCauses }
 {
     let contexts = first_contexts(alloc.clone()?, &header.flags, retained_contexts)?;
     let tables = symbol_tables(&header.flags, standard_tables, referred_tables)?;

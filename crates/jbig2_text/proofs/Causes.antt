@@ -1,20 +1,22 @@
 -- Which rule the input breaks where the codes of the ids are refused.
 use Rattle.std.proofs.Common.{◌≡◌, inl, inr, ℕ, zero, suc, ◌+◌, ◌-◌, ◌<◌, eqb, ltb, false, List, [], ◌∷◌, ◌++◌, length, get_or, Option, Some, None, Result, Ok, Err, refl, ◌∙◌, ap, arith, ℤ, pos, negsuc}
-use Rattle.std.specs.Prelude.{IfErr, slice_get}
+use Rattle.std.specs.Prelude.{◌⊎◌, IfErr, slice_get}
 use Rattle.std.proofs.lemmas.Option.{slice_get-get_or}
 use Rattle.std.proofs.lemmas.Bool.{cond_both, cond-true, eqb-true, eqb-false, ltb-true, ltb-false}
 use Rattle.jbig2_base.specs.Answer.{◌>>=◌, refuse_if, some_or}
-use Rattle.jbig2_base.specs.Bits.{Place, bits_left, bits_next}
+use Rattle.jbig2_base.specs.Bits.{Place, bits_left, bits_next, start_of}
 use Rattle.jbig2_base.specs.Fields.{bits_at}
 use Rattle.jbig2_base.specs.declared.error.DecodeError.{DecodeError}
+use Rattle.jbig2_base.specs.declared.error.DecodeError.TheVariants.{OutOfMemory}
 use Rattle.jbig2_base.proofs.Causes.{cause-next}
 use Rattle.jbig2_coder.specs.Causes.{AreCrowded}
 use Rattle.jbig2_coder.specs.PrefixCode.{Member, decoded_value, no_oob, table_of}
 use Rattle.jbig2_coder.proofs.Causes.{table-cause}
 use Rattle.jbig2_text.specs.Causes.{Behind, BreaksRun, BreaksSymbolCodes, RefusesNumber}
-use Rattle.jbig2_text.specs.SymbolCodes.{invalid_code, lines_from, next_runcode, repeated, run_at, runcodes_at, runs_at, short_lengths, symbol_codes_from, symbol_lengths_at, value_at}
+use Rattle.jbig2_text.specs.SymbolCodes.{invalid_code, lines_from, next_runcode, repeated, run_at, runcodes_at, runs_at, short_lengths, symbol_codes_at, symbol_codes_from, symbol_lengths_at, value_at}
 use Rattle.jbig2_region.proofs.Told.{cause-if, cause-last, told, told-next, told-refused}
-use Rattle.jbig2_base.specs.Causes.{HaveCauses}
+use Rattle.jbig2_base.specs.Causes.{HasCauseOrNoMemory}
+use Rattle.jbig2_base.proofs.CauseSteps.{call-cause-or-memory}
 
 -- ---- bits and codes
 -- an answer has its own error
@@ -88,8 +90,8 @@ cause-runs P (suc most) count runcodes so_far p refused faulty =
     (λ k there. faulty (suc k) (there.0, cond-true _ _ _ few ∙ ap (on k) more_is ∙ there.1, there.2)))) (λ full. tt)
 
 -- ---- all of it
-pub symbol_code_causes : (count : ℕ) → HaveCauses (symbol_codes_from count) (BreaksSymbolCodes count)
-unfolding HaveCauses symbol_codes_from symbol_lengths_at
+pub symbol_code_causes : (count : ℕ) (p : Place) → IfErr (symbol_codes_from count p) (BreaksSymbolCodes count p)
+unfolding symbol_codes_from symbol_lengths_at
 symbol_code_causes count p =
     let P : DecodeError → Type 0 = BreaksSymbolCodes count p in
     cause-next P (runcodes_at p) _ (cause-runcodes P p (λ k below there. inl (refl, inl (k, below, there))) (λ crowded. inl (refl, inr (inl crowded)))) (λ runcodes is.
@@ -102,3 +104,9 @@ symbol_code_causes count p =
     (told-refused P (ltb count (length lens.0)) invalid_code (λ past. inl (refl, inr (inr (inr (runcodes, is, (lens, lens_are, inl (ltb-true count (length lens.0) past)))))))) (λ fit r. lens_are)))
     (λ lens lens_are. cause-next P (table_of (lines_from 0 lens.0)) _
     (table-cause P (lines_from 0 lens.0) (λ crowded. inl (refl, inr (inr (inr (runcodes, is, (lens, lens_are, inr crowded))))))) (λ codes r. tt)))
+
+pub symbol_code_cause : {X : Type 0} (count : ℕ) (bytes : List ℕ) (r : Result X DecodeError) → IfErr r (λ e. (e ≡ OutOfMemory) ⊎ (symbol_codes_at count bytes ≡ Err e))
+    → HasCauseOrNoMemory r (BreaksSymbolCodes count (start_of bytes))
+symbol_code_cause count bytes r =
+    let P : DecodeError → Type 0 = BreaksSymbolCodes count (start_of bytes) in
+    call-cause-or-memory P (symbol_codes_at count bytes) r (cause-next P (symbol_codes_from count (start_of bytes)) _ (symbol_code_causes count (start_of bytes)) (λ codes is. tt))

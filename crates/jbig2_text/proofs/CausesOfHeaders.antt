@@ -1,14 +1,15 @@
 -- Which rule the input breaks where the header of a text region is refused.
-use Rattle.std.proofs.Common.{◌≡◌, inl, inr, ℕ, ◌+◌, ◌<◌, ◌≤◌, ◌/◌, ◌%◌, eqb, Bool, true, false, cond, ◌&&◌, List, drop, length, Option, Some, None, refl, sym, ◌∙◌, ap, subst, arith}
-use Rattle.std.specs.Prelude.{IfErr}
+use Rattle.std.proofs.Common.{◌≡◌, inl, inr, ℕ, ◌+◌, ◌<◌, ◌≤◌, ◌/◌, ◌%◌, eqb, Bool, true, false, cond, ◌&&◌, List, drop, length, Option, Some, None, Result, Err, refl, sym, ◌∙◌, ap, subst, arith}
+use Rattle.std.specs.Prelude.{◌⊎◌, IfErr}
 use Rattle.std.specs.Int.{w8, w16, w32}
 use Rattle.std.specs.Option.{is_some}
 use Rattle.std.proofs.lemmas.Bool.{cond_both, eqb-true}
 use Rattle.jbig2_base.specs.Bits.{start_of}
-use Rattle.jbig2_base.specs.Causes.{number_in, HaveCauses}
+use Rattle.jbig2_base.specs.Causes.{number_in, HasCauseOrNoMemory}
 use Rattle.jbig2_base.specs.Fields.{end_of_bytes, number_at, signed_at}
 use Rattle.jbig2_base.specs.Combination.{operator_of}
 use Rattle.jbig2_base.specs.declared.error.DecodeError.{DecodeError}
+use Rattle.jbig2_base.specs.declared.error.DecodeError.TheVariants.{OutOfMemory}
 use Rattle.jbig2_base.proofs.Causes.{cause-next}
 use Rattle.jbig2_region.specs.RefinementTemplates.{refinement_pixels_at, refinement_template_of}
 use Rattle.jbig2_region.specs.RegionInfo.{region_info_at}
@@ -23,6 +24,7 @@ use Rattle.jbig2_text.specs.declared.text.header.TextFields.{TextFields}
 use Rattle.jbig2_text.specs.declared.text.header.TextRegionFlags.{TextRegionFlags}
 use Rattle.jbig2_text.specs.declared.text.header.TextRegionHuffmanFlags.{TextRegionHuffmanFlags}
 use Rattle.jbig2_text.proofs.Causes.{symbol_code_causes}
+use Rattle.jbig2_base.proofs.CauseSteps.{call-cause-or-memory}
 use Rattle.jbig2_region.proofs.Told.{Stands, Told, cause-last, cause-more, told-next, told-number, told-operator, told-region_info, told-signed}
 
 -- the flags, and where the adaptive pixels and the number of the instances stand
@@ -110,7 +112,6 @@ told-fields P bytes rest s short =
 -- ---- the codes of the ids
 cause-coding : (P : DecodeError → Type 0) (tables : Option TextRegionHuffmanFlags) (symbols : ℕ) (bytes rest : List ℕ) → is_some tables ≡ eqb (text_flags_in bytes % 2) 1
     → Stands bytes (fields_length bytes) rest → ((e : DecodeError) → BreaksIds symbols bytes e → P e) → IfErr (coding_at tables symbols rest) P
-unfolding HaveCauses
 cause-coding P None symbols bytes rest coded s why = tt
 cause-coding P (Some tables) symbols bytes rest coded s why =
     let on : eqb (text_flags_in bytes % 2) 1 ≡ true = sym coded in
@@ -121,10 +122,14 @@ cause-coding P (Some tables) symbols bytes rest coded s why =
     (λ codes is. tt))
     (λ ids is. tt)
 
-pub text_header_causes : (symbols : ℕ) (strict : Bool) → HaveCauses (text_header_at symbols strict) (BreaksTextHeader symbols)
-unfolding HaveCauses text_header_at
+text_header_causes : (symbols : ℕ) (strict : Bool) (bytes : List ℕ) → IfErr (text_header_at symbols strict bytes) (BreaksTextHeader symbols bytes)
+unfolding text_header_at
 text_header_causes symbols strict bytes =
     let P : DecodeError → Type 0 = BreaksTextHeader symbols bytes in
     cause-last P _ (region_info_at bytes) _ (told-region_info P bytes (λ short. inl (refl, omega (arith, short, late (text_flags_in bytes)))) (λ other. inr (inl (refl, other))) (λ colour. inr (inr (inl (refl, colour))))) (λ info a.
     cause-last P _ (text_fields_at info.1) _ (told-fields P bytes info.1 a (λ short. inl (refl, short))) (λ fields b.
     cause-next P (coding_at fields.0.table_numbers symbols fields.1) _ (cause-coding P fields.0.table_numbers symbols bytes fields.1 b.0 b.1 (λ e ids. inr (inr (inr ids)))) (λ coding is. tt)))
+
+pub text_header_cause : {X : Type 0} (symbols : ℕ) (strict : Bool) (bytes : List ℕ) (r : Result X DecodeError) → IfErr r (λ e. (e ≡ OutOfMemory) ⊎ (text_header_at symbols strict bytes ≡ Err e))
+    → HasCauseOrNoMemory r (BreaksTextHeader symbols bytes)
+text_header_cause symbols strict bytes r = call-cause-or-memory (BreaksTextHeader symbols bytes) (text_header_at symbols strict bytes) r (text_header_causes symbols strict bytes)

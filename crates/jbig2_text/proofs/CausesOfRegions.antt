@@ -7,7 +7,7 @@ use Rattle.jbig2_base.specs.Bits.{Place, aligned, bits_left}
 use Rattle.jbig2_base.specs.Fields.{bytes_at, end_of_bytes}
 use Rattle.jbig2_base.specs.Grid.{Grid, blank}
 use Rattle.jbig2_base.specs.declared.error.DecodeError.{DecodeError}
-use Rattle.jbig2_base.specs.declared.error.DecodeError.TheVariants.{Huffman, Overflow, Symbol}
+use Rattle.jbig2_base.specs.declared.error.DecodeError.TheVariants.{Huffman, OutOfMemory, Overflow, Symbol}
 use Rattle.jbig2_base.specs.declared.error.HuffmanError.TheVariants.{InvalidSelection, MissingTables}
 use Rattle.jbig2_base.specs.declared.error.OverflowError.TheVariants.{BitmapDimension}
 use Rattle.jbig2_base.specs.declared.error.SymbolError.TheVariants.{TooManyInstances, UnexpectedOob}
@@ -25,12 +25,13 @@ use Rattle.jbig2_text.specs.declared.text.cursor.Cursor.{Cursor}
 use Rattle.jbig2_text.specs.inner.Parts.{end_of_strip, reached, some_strips, strips, table_of_size}
 use Rattle.jbig2_text.specs.TextCoding.{Coded, Prefixed, by_coder, by_prefix_codes, in_band, next_integer, number_by_coder, prefixed_refined, prefixed_value, sized_bytes}
 use Rattle.jbig2_text.specs.TextHeader.{ArithmeticCoding, HuffmanCoding, NumberCoding, TextHeader}
-use Rattle.jbig2_text.specs.TextRegion.{coder_of, one_of_three, one_of_two, prefix_codes_of, refining_of, region_by, region_from, text_answer, text_decoded, text_params, text_tables}
+use Rattle.jbig2_text.specs.TextRegion.{coder_of, one_of_three, one_of_two, prefix_codes_of, refining_of, region_by, region_from, text_answer, text_params, text_tables}
 use Rattle.jbig2_text.proofs.Causes.{cause-bits, cause-value, own-error}
 use Rattle.jbig2_text.proofs.CausesOfInstances.{instance_causes}
 use Rattle.jbig2_text.proofs.CausesOfText.{BreaksMove, cause-delta, cause-move, cause-strip, told-word}
 use Rattle.jbig2_region.proofs.Told.{Told, cause-if, cause-last, cause-more, told-if}
-use Rattle.jbig2_base.specs.Causes.{HaveCauses}
+use Rattle.jbig2_base.specs.Causes.{HasCause, HasCauseOrNoMemory}
+use Rattle.jbig2_base.proofs.CauseSteps.{call-cause, call-cause-or-memory}
 use Rattle.jbig2_text.specs.declared.text.header.TextRegionHuffmanFlags.{TextRegionHuffmanFlags}
 
 -- ---- all instances
@@ -130,8 +131,8 @@ told-size P n customs missing =
     (λ a. let one : customs_of_size n ≡ 1 = cond-true (ltb 0 n) 1 0 (lt-ltb 0 n (omega (arith, eqb-false n 0 a))) in
     subst (λ (k : ℕ). Told (next_custom customs) P (Left k customs)) (sym one) (told-custom P customs (λ none. missing (omega (arith, none, one)))))
 
-pub text_table_causes : (flags : TextRegionHuffmanFlags) → HaveCauses (text_tables flags) (BreaksTextTables flags)
-unfolding HaveCauses text_tables
+text_table_causes : (flags : TextRegionHuffmanFlags) (customs : List (List Member)) → IfErr (text_tables flags customs) (BreaksTextTables flags customs)
+unfolding text_tables
 text_table_causes flags customs =
     let P : DecodeError → Type 0 = BreaksTextTables flags customs in
     cause-last P _ (one_of_two _ _ flags.first_s_table customs) _ (told-two P _ _ flags.first_s_table customs (λ no. inl (refl, inl no)) (λ few. inr (refl, omega (arith, few)))) (λ a a_is.
@@ -142,6 +143,9 @@ text_table_causes flags customs =
     cause-last P _ (one_of_two _ _ flags.refinement_x_table h.1) _ (told-two P _ _ flags.refinement_x_table h.1 (λ no. inl (refl, inr (inr (inr (inl no))))) (λ few. inr (refl, omega (arith, few, a_is, b_is, d_is, w_is, h_is)))) (λ x x_is.
     cause-last P _ (one_of_two _ _ flags.refinement_y_table x.1) _ (told-two P _ _ flags.refinement_y_table x.1 (λ no. inl (refl, inr (inr (inr (inr no))))) (λ few. inr (refl, omega (arith, few, a_is, b_is, d_is, w_is, h_is, x_is)))) (λ y y_is.
     cause-last P _ (table_of_size flags.refinement_size_table y.1) _ (told-size P flags.refinement_size_table y.1 (λ few. inr (refl, omega (arith, few, a_is, b_is, d_is, w_is, h_is, x_is, y_is)))) (λ size size_is. tt))))))))
+
+pub text_table_cause : {X : Type 0} (flags : TextRegionHuffmanFlags) (customs : List (List Member)) (r : Result X DecodeError) → IfErr r (λ e. text_tables flags customs ≡ Err e) → HasCause r (BreaksTextTables flags customs)
+text_table_cause flags customs r = call-cause (BreaksTextTables flags customs) (text_tables flags customs) r (text_table_causes flags customs)
 
 -- ---- the two codings
 cause-integer : (procedure : IntegerProcedure) (s : Coded) → IfErr (number_by_coder procedure s) (IsOutOfBand procedure s)
@@ -206,7 +210,6 @@ cause-from c r a h symbols region s =
     (cause-next P (text_instances r (text_params h symbols) (refining_of h) s) _ (all_instance_causes c r a (text_params h symbols) (refining_of h) s) (λ found is. tt)) (λ found is. tt)
 
 cause-by : (h : TextHeader) (coding : NumberCoding) (symbols : List Grid) (customs : List (List Member)) (region : Grid) → IfErr (region_by h coding symbols customs region) (BreaksRegionBy h coding symbols customs)
-unfolding HaveCauses
 cause-by h ArithmeticCoding symbols customs region = cause-from coder_causes by_coder by_coder-causes h symbols region (coder_of h symbols)
 cause-by h (HuffmanCoding numbers ids) symbols customs region =
     let P : DecodeError → Type 0 = BreaksRegionBy h (HuffmanCoding numbers ids) symbols customs in
@@ -215,13 +218,10 @@ cause-by h (HuffmanCoding numbers ids) symbols customs region =
     cause-more (BreaksInstances prefix_causes by_prefix_codes (text_params h symbols) (refining_of h) s) P (region_from by_prefix_codes h symbols region s)
     (cause-from prefix_causes by_prefix_codes by_prefix_codes-causes h symbols region s) (λ e broken. inr (s, is, broken)))
 
-pub text_region_causes : (h : TextHeader) (symbols : List Grid) → HaveCauses (text_decoded h symbols) (BreaksTextRegion h symbols)
-unfolding HaveCauses text_decoded text_answer
-text_region_causes h symbols customs =
-    let P : DecodeError → Type 0 = BreaksTextRegion h symbols customs in
-    let wide : Bool = ltb 65535 h.region_info.width in
-    let high : Bool = ltb 65535 h.region_info.height in
-    cause-next P (refuse_if (wide || high) (Overflow BitmapDimension)) _
-    (cause-refused P (wide || high) (Overflow BitmapDimension) (λ large. inl (⊎_elim (λ is. inl (ltb-true 65535 h.region_info.width is)) (λ is. inr (ltb-true 65535 h.region_info.height is)) (or_cases wide high large)))) (λ fits is.
-    cause-next P (text_answer h symbols customs) _
-    (cause-more (BreaksRegionBy h h.coding symbols customs) P (text_answer h symbols customs) (cause-by h h.coding symbols customs (blank h.region_info.width h.region_info.height h.flags.default_pixel)) (λ e broken. inr broken)) (λ grid r. tt))
+text_region_causes : (h : TextHeader) (symbols : List Grid) (customs : List (List Member)) → IfErr (text_answer h symbols customs) (BreaksTextRegion h symbols customs)
+unfolding text_answer
+text_region_causes h symbols customs = cause-by h h.coding symbols customs (blank h.region_info.width h.region_info.height h.flags.default_pixel)
+
+pub text_region_cause : {X : Type 0} (h : TextHeader) (symbols : List Grid) (customs : List (List Member)) (r : Result X DecodeError) → IfErr r (λ e. (e ≡ OutOfMemory) ⊎ (text_answer h symbols customs ≡ Err e))
+    → HasCauseOrNoMemory r (BreaksTextRegion h symbols customs)
+text_region_cause h symbols customs r = call-cause-or-memory (BreaksTextRegion h symbols customs) (text_answer h symbols customs) r (text_region_causes h symbols customs)

@@ -1,9 +1,9 @@
 -- Which rule the input breaks where a text region is refused (docs/FORMAT.md): in its header, at its instances,
 -- whatever the numbers are coded by, in its tables, and in its numbers as they are coded. `Breaks..` takes what is
--- read and an error, and its law ties the definition's errors to it. What is refused at an instance is refused after
--- those before it, which are read.
+-- read and an error, and the function that refuses cites it. What is refused at an instance is refused after those
+-- before it, which are read.
 use Rattle.std.specs.{Prelude.{◌≡◌, ◌<◌, ◌⊎◌, ℕ, ◌+◌, ◌/◌, ◌%◌, ◌==◌, Bool, ◌&&◌, if◌then◌else◌, List, [], length, drop, Result, Ok, Err, IfErr, ℤ, pos, negsuc, ◌≤◌, ◌-◌, ◌*◌, ◌^◌, true, false, ◌+ℤ◌, ◌-ℤ◌, ◌*ℤ◌, Option, Some, None, ◌≢◌, nat_lt}, Int.{w8, w16, int_shr}}
-use Rattle.jbig2_base.specs.{Bits.{Place, bits_left, start_of, aligned}, Causes.{number_in, BreaksSides}, declared.error.{DecodeError.{DecodeError, TheVariants.{Huffman, Parse, Region, Unsupported, Overflow, Symbol}}, HuffmanError.TheVariants.{InvalidCode, InvalidSelection, MissingTables}, ParseError.TheVariants.{UnexpectedEof}, RegionError.TheVariants.{InvalidCombinationOperator}, OverflowError.TheVariants.{BitmapDimension, PlacementCoordinate, ReferenceOffset}, SymbolError.TheVariants.{InvalidStripDelta, OutOfRange, TooManyInstances, UnexpectedOob}}, Grid.{Grid}}
+use Rattle.jbig2_base.specs.{Bits.{Place, bits_left, start_of, aligned}, Causes.{number_in}, declared.error.{DecodeError.{DecodeError, TheVariants.{Huffman, Parse, Region, Unsupported, Overflow, Symbol}}, HuffmanError.TheVariants.{InvalidCode, InvalidSelection, MissingTables}, ParseError.TheVariants.{UnexpectedEof}, RegionError.TheVariants.{InvalidCombinationOperator}, OverflowError.TheVariants.{BitmapDimension, PlacementCoordinate, ReferenceOffset}, SymbolError.TheVariants.{InvalidStripDelta, OutOfRange, TooManyInstances, UnexpectedOob}}, Grid.{Grid}}
 use Rattle.jbig2_coder.specs.{Causes.{AreCrowded, LeavesWord}, PrefixCode.{Member, decoded_value, no_oob}, declared.integer_procedures.IntegerProcedure.{IntegerProcedure, TheVariants.{Iadt, Iafs, Iait, Iardh, Iardw, Iardx, Iardy, Iari}}}
 use Rattle.jbig2_text.specs.{SymbolCodes.{lines_from, runcodes_at, runs_at, short_lengths, value_at}, TextHeader.{ArithmeticCoding, HuffmanCoding, NumberCoding, TextHeader}, Refining.{Refining}, Text.{Reached, Readings, TextParams, after_instances, instance_symbol, is_bottom, is_last_along_s, is_right, refinement_deltas, strip_begun, strip_delta, symbol_of, t_in_strip, with_instance}, declared.text.{cursor.Cursor.{Cursor}, header.{TextRegionFlags.{TextRegionFlags}, TextRegionHuffmanFlags.{TextRegionHuffmanFlags}}}, TextCoding.{Coded, Prefixed, by_coder, by_prefix_codes, next_integer}, TextRegion.{coder_of, prefix_codes_of, refining_of, text_params}}
 use Rattle.jbig2_region.specs.Refinement.{Reference}
@@ -260,5 +260,4 @@ BreaksRegionBy h (HuffmanCoding numbers ids) symbols customs e =
     BreaksInstances prefix_causes by_prefix_codes (text_params h symbols) (refining_of h) s e)
 
 abbrev pub BreaksTextRegion : TextHeader → List Grid → List (List Member) → DecodeError → Type 0
-BreaksTextRegion h symbols customs e =
-    BreaksSides h.region_info.width h.region_info.height e ⊎ BreaksRegionBy h h.coding symbols customs e
+BreaksTextRegion h symbols customs = BreaksRegionBy h h.coding symbols customs

@@ -7,7 +7,7 @@ ghost use Rattle.jbig2_text.specs.inner.TextViews.{some_pixels, header_view, tex
 ghost use Rattle.jbig2_text.specs.TextHeader.{TextHeader};
 ghost use Rattle.jbig2_text.specs.TextRegion.{coder_of, prefix_codes_of, refining_of, region_from, text_params, text_answer, text_decoded};
 ghost use Rattle.jbig2_coder.specs.inner.TableViews.{customs_view};
-ghost use Rattle.jbig2_base.specs.Causes.{HaveCauses};
+ghost use Rattle.jbig2_base.specs.Causes.{HasCauseOrNoMemory};
 ghost use Rattle.jbig2_text.specs.Causes.{BreaksTextRegion};
 
 pub(crate) mod coded;
@@ -170,7 +170,7 @@ fn decode_by<
 /// `OverflowError::PlacementCoordinate`, `OverflowError::BitmapDimension` and
 /// `OverflowError::ReferenceOffset` for numbers that leave their ranges; `SymbolError::OutOfRange`
 /// for an id without a symbol, in lenient mode only where it is refined; `OutOfMemory`.
-#[tactic(auto, using(crate::proofs::CausesOfRegions::text_region_causes), unfolding(crate::specs::TextRegion::text_answer))]
+#[tactic(auto, using(crate::proofs::CausesOfRegions::text_region_cause), unfolding(crate::specs::TextRegion::text_answer))]
 pub fn decode_into<
     H: Allocator,
     B: Allocator,
@@ -195,8 +195,9 @@ pub fn decode_into<
         let meant = text_answer (header_view header.now) (symbols_view symbols.now) customs in
         Gives (λ _. bitmap.new) result meant }
     ensures same { OnErr result (bitmap.new ≡ bitmap.old) }
-    ensures causes { (h : TextHeader) (symbols : List Grid)
-        → HaveCauses (text_decoded h symbols) (BreaksTextRegion h symbols) }
+    ensures causes { let customs = customs_view referred_tables.now in
+        HasCauseOrNoMemory result
+        (BreaksTextRegion (header_view header.now) (symbols_view symbols.now) customs) }
 {
     match &header.coding {
         TextRegionCoding::Arithmetic => {

@@ -1,7 +1,7 @@
 //! How a region is combined with what lies under it (T.88, 7.4.1.5).
 ghost use Rattle.std.specs.Prelude.{◌≡◌, ◌%◌, Ok};
 ghost use Rattle.jbig2_base.specs.Answer.{Answers};
-ghost use Rattle.jbig2_base.specs.Causes.{HaveCauses, BreaksOperator};
+ghost use Rattle.jbig2_base.specs.Causes.{HasCause, BreaksOperator};
 ghost use Rattle.jbig2_base.specs.Combination.{operator_of};
 
 use crate::error::{DecodeError, RegionError, Result};
@@ -32,9 +32,9 @@ impl Default for CombinationOperator {
 impl CombinationOperator {
     /// The operator that the low three bits of `value` name; 5 to 7 name none
     /// (`RegionError::InvalidCombinationOperator`).
-    #[tactic(auto, using(crate::proofs::PageCauses::operator_causes))]
+    #[tactic(auto, using(crate::proofs::PageCauses::operator_cause))]
     pub fn from_value(value: u8) -> Result<CombinationOperator>
-        ensures causes { HaveCauses operator_of BreaksOperator }
+        ensures causes { HasCause result (BreaksOperator (value % 8)) }
         ensures value { Answers (λ operator. operator) result (operator_of (value % 8)) }
     {
         match value % 8 {

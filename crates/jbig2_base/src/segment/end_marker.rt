@@ -3,7 +3,7 @@ ghost use Rattle.std.specs.Prelude.{◌≡◌, ◌+◌, ◌≤◌, length, IfOk,
 ghost use Rattle.std.specs.Bool.{OnTrue};
 ghost use Rattle.jbig2_base.specs.Answer.{Answers};
 ghost use Rattle.jbig2_base.specs.Bits.{IsAligned};
-ghost use Rattle.jbig2_base.specs.Causes.{HaveCauses, BreaksData};
+ghost use Rattle.jbig2_base.specs.Causes.{HasCause, BreaksData};
 ghost use Rattle.jbig2_base.specs.Segment.{adaptive_bytes, is_end_marker, first_end_marker, unknown_length_of};
 ghost use Rattle.jbig2_base.specs.inner.Fronts.{coded_front_at};
 
@@ -68,9 +68,9 @@ fn coded_front(reader: &mut Reader<'_>) -> Result<u8>
 /// The length of the data at the front of `bytes` whose header leaves it open.
 ///
 /// `SegmentError::MissingEndMarker` where no end marker comes.
-#[tactic(auto, using(crate::proofs::DataCauses::unknown_causes))]
+#[tactic(auto, using(crate::proofs::DataCauses::unknown_cause))]
 pub(super) fn unknown_length(bytes: &[u8]) -> Result<usize>
-    ensures causes { HaveCauses unknown_length_of (BreaksData None) }
+    ensures causes { HasCause result (BreaksData None bytes.now) }
     ensures value { Answers (λ n. n) result (unknown_length_of bytes.now) }
 {
     let mut reader = Reader::new(bytes);

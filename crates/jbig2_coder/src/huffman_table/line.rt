@@ -28,7 +28,8 @@ pub struct TableLine {
 impl TableLine {
     ghost use Rattle.std.specs.Prelude.{◌≡◌, ◌≤◌, drop, pos, ◌-ℤ◌};
     ghost use Rattle.jbig2_coder.specs.PrefixCode.{in_word, moved, value_by};
-    ghost use Rattle.jbig2_coder.specs.Causes.{ValuesHaveCauses};
+    ghost use Rattle.jbig2_base.specs.Causes.{HasCause};
+    ghost use Rattle.jbig2_coder.specs.Causes.{BreaksRange};
     ghost use Rattle.jbig2_coder.specs.Tables.{line, lower, out_of_band};
 
     /// A line whose values go up from `range_low`.
@@ -96,14 +97,14 @@ impl TableLine {
 
     /// Reads the range bits after the code: the value, or an invalid code where the bits end or
     /// the value is outside signed 32 bits.
-    #[tactic(auto, using(crate::proofs::Causes::value_causes))]
+    #[tactic(auto, using(crate::proofs::Causes::range_cause))]
     pub(super) fn read_value(&self, reader: &mut Reader<'_>) -> Result<Option<i32>>
         requires { self.now.range_length ≤ 32 }
         ensures value { result ≡ value_by self.now
             (bits_next self.now.range_length (bits_left reader.old)) }
         ensures place { reader.new ≡ bits_on self.now.range_length reader.old }
         ensures rest { bits_left reader.new ≡ drop self.now.range_length (bits_left reader.old) }
-        ensures causes { ValuesHaveCauses }
+        ensures causes { HasCause result (BreaksRange self.now (bits_left reader.old)) }
     {
         let Some(offset) = reader.read_bits(self.range_length) else {
             return Err(DecodeError::Huffman(HuffmanError::InvalidCode));

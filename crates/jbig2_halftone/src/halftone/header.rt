@@ -5,7 +5,7 @@ ghost use Rattle.jbig2_base.specs.Bits.{IsAligned};
 ghost use Rattle.jbig2_base.specs.Fields.{signed_at};
 ghost use Rattle.jbig2_halftone.specs.HalftoneHeader.{halftone_flags_at, halftone_grid_at, halftone_header_at};
 ghost use Rattle.jbig2_halftone.specs.inner.HalftoneHeaderViews.{header_view};
-ghost use Rattle.jbig2_base.specs.Causes.{HaveCauses};
+ghost use Rattle.jbig2_base.specs.Causes.{HasCause};
 ghost use Rattle.jbig2_halftone.specs.Causes.{BreaksHalftoneHeader};
 
 use jbig2_base::bitmap::operator::CombinationOperator;
@@ -116,7 +116,7 @@ fn parse_grid(reader: &mut Reader<'_>) -> Result<HalftoneGridPositionAndSize>
 /// `parse_region_segment_info`; `RegionError::InvalidCombinationOperator` where the flags name no
 /// operator; `OverflowError::GridDimension` for a grid of more than 65535 columns or rows. An error
 /// leaves the reader where it was. Takes no memory.
-#[tactic(auto, using(crate::proofs::Causes::halftone_header_causes), unfolding(crate::specs::HalftoneHeader::halftone_header_at))]
+#[tactic(auto, using(crate::proofs::Causes::halftone_header_cause), unfolding(crate::specs::HalftoneHeader::halftone_header_at))]
 pub fn parse<'a>(reader: &mut Reader<'a>, strict: bool) -> Result<HalftoneRegionHeader<'a>>
     requires { IsAligned reader.old }
     ensures value { Answers (λ h. (header_view h, reader.new.bytes)) result
@@ -125,7 +125,7 @@ pub fn parse<'a>(reader: &mut Reader<'a>, strict: bool) -> Result<HalftoneRegion
     ensures columns { IfOk result (λ h. h.grid_position_and_size.width ≤ 65535) }
     ensures rows { IfOk result (λ h. h.grid_position_and_size.height ≤ 65535) }
     ensures stays { OnErr result (reader.new ≡ reader.old) }
-    ensures causes { (strict : Bool) → HaveCauses (halftone_header_at strict) BreaksHalftoneHeader }
+    ensures causes { HasCause result (BreaksHalftoneHeader reader.old.bytes) }
 {
     let mut ahead = reader.duplicate();
     let region_info = parse_region_segment_info(&mut ahead)?;

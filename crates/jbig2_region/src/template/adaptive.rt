@@ -6,7 +6,7 @@ ghost use Rattle.jbig2_base.specs.Fields.{Parses};
 ghost use Rattle.jbig2_region.specs.RefinementTemplates.{refinement_pixels_at};
 ghost use Rattle.jbig2_region.specs.inner.PixelArrays.{two_pixels, IsFilled, filled, four_pixels, is_extended, pixels_view};
 ghost use Rattle.jbig2_region.specs.Templates.{FitsTemplate, adaptive_pixel_at, adaptive_pixel_count, adaptive_pixels_at, free_pixel_at, is_earlier, takes_extended};
-ghost use Rattle.jbig2_base.specs.Causes.{HaveCauses};
+ghost use Rattle.jbig2_base.specs.Causes.{HasCause};
 ghost use Rattle.jbig2_region.specs.Causes.{BreaksPixels, BreaksRefinementPixels};
 ghost use Rattle.jbig2_region.specs.declared.template.RefinementTemplate.{RefinementTemplate};
 
@@ -112,7 +112,7 @@ pub fn parse_adaptive_template_pixels(
 }
 
 /// All adaptive pixels of a generic region: none with MMR, twelve with the extended template 0.
-#[tactic(auto, using(crate::proofs::PixelCauses::template_pixels_causes))]
+#[tactic(auto, using(crate::proofs::PixelCauses::template_pixels_cause))]
 pub fn parse_generic_template_pixels(
     reader: &mut Reader<'_>,
     mmr: bool,
@@ -125,7 +125,8 @@ pub fn parse_generic_template_pixels(
         (adaptive_pixels_at count reader.old.bytes) }
     ensures extended { let taken = takes_extended mmr extended template in
         IfOk result (λ pixels. is_extended pixels ≡ taken) }
-    ensures causes { (count : ℕ) → HaveCauses (adaptive_pixels_at count) (BreaksPixels count 0) }
+    ensures causes { let count = adaptive_pixel_count mmr extended template in
+        HasCause result (BreaksPixels count 0 reader.old.bytes) }
     ensures aligned { IsAligned reader.new }
     ensures shorter { OnOk result (length reader.new.bytes ≤ length reader.old.bytes) }
     ensures unused { IfOk result (λ pixels. IsFilled pixels (pixels_view mmr template pixels)) }
@@ -146,7 +147,7 @@ pub fn parse_generic_template_pixels(
 ///
 /// `ParseError::UnexpectedEof` where the bytes do not hold them. An error leaves the reader where it was.
 /// Takes no memory.
-#[tactic(auto, using(crate::proofs::PixelCauses::refinement_pixels_causes), unfolding(crate::specs::RefinementTemplates::refinement_pixels_at))]
+#[tactic(auto, using(crate::proofs::PixelCauses::refinement_pixels_cause), unfolding(crate::specs::RefinementTemplates::refinement_pixels_at))]
 pub fn parse_template_pixels(
     reader: &mut Reader<'_>,
     template: RefinementTemplate,
@@ -155,7 +156,7 @@ pub fn parse_template_pixels(
     ensures parses { Parses reader.old reader.new result (two_pixels template)
         (refinement_pixels_at template reader.old.bytes) }
     ensures unused { IfOk result (λ pixels. pixels ≡ filled 2 (two_pixels template pixels)) }
-    ensures causes { (template : RefinementTemplate) → HaveCauses (refinement_pixels_at template) (BreaksRefinementPixels template) }
+    ensures causes { HasCause result (BreaksRefinementPixels template reader.old.bytes) }
 {
     match template {
         RefinementTemplate::Template0 => {

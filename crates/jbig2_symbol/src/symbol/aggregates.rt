@@ -2,7 +2,8 @@
 ghost use Rattle.std.specs.Prelude.{◌≡◌, ◌+◌, ◌≤◌, length, max};
 ghost use Rattle.jbig2_base.specs.Answer.{Answers, Gives};
 ghost use Rattle.jbig2_symbol.specs.SymbolBitmaps.{aggregate_flags, aggregate_params, id_bits, id_codes, put_together, refined_alone, some_instances, state_bits};
-ghost use Rattle.jbig2_symbol.specs.Causes.{IdCodesAreThere};
+ghost use Rattle.jbig2_base.specs.Causes.{HasCauseOrNoMemory};
+ghost use Rattle.jbig2_symbol.specs.Causes.{BreaksIdCodes};
 ghost use Rattle.jbig2_symbol.specs.inner.HeaderViews.{header_view};
 ghost use Rattle.jbig2_symbol.specs.inner.SymbolViews.{input_view};
 ghost use Rattle.jbig2_text.specs.inner.TextViews.{list_view, params_view};
@@ -54,7 +55,7 @@ pub fn state_bits(header: &SymbolDictionaryHeader<'_>, symbols: usize) -> u32
 
 /// The codes of the symbols' ids, where symbols are put together by prefix codes. They are never
 /// crowded, so nothing but memory is refused.
-#[tactic(auto, using(crate::proofs::IdCodes::id_codes_are_there))]
+#[tactic(auto, using(crate::proofs::IdCodes::id_codes_cause))]
 pub fn id_codes<A: Allocator + Clone>(
     alloc: A,
     header: &SymbolDictionaryHeader<'_>,
@@ -63,7 +64,7 @@ pub fn id_codes<A: Allocator + Clone>(
     requires symbols { symbols ≤ 2097152 }
     requires fresh { header.now.num_new_symbols ≤ 1048576 }
     ensures value { Gives (λ codes. codes) result (id_codes (header_view header.now) symbols) }
-    ensures causes { IdCodesAreThere }
+    ensures causes { HasCauseOrNoMemory result (BreaksIdCodes (header_view header.now) symbols) }
 {
     let count = if header.flags.use_huffman && header.flags.use_refagg {
         symbols as u32 + header.num_new_symbols

@@ -6,9 +6,7 @@ ghost use Rattle.jbig2_base.specs.Bits.{IsAligned};
 ghost use Rattle.jbig2_base.specs.inner.Filled.{filled};
 ghost use Rattle.jbig2_symbol.specs.SymbolBitmaps.{symbols_cut, raw_pixel, raw_stride, raw_rows, mmr_bytes, rows_of_size};
 ghost use Rattle.jbig2_symbol.specs.inner.SymbolViews.{put_behind};
-ghost use Rattle.jbig2_base.specs.Causes.{HaveCauses};
 ghost use Rattle.jbig2_base.specs.Grid.{Grid};
-ghost use Rattle.jbig2_symbol.specs.Causes.{BreaksCuts};
 
 use jbig2_base::bitmap::Bitmap;
 use jbig2_base::bitmap::part::Area;
@@ -127,7 +125,6 @@ pub fn read_rows<A: Allocator, L: Ledger>(
 
 /// Puts the symbols of these widths, which stand side by side in a collective bitmap, after those
 /// that `symbols` holds.
-#[tactic(auto, using(crate::proofs::ClassCauses::cuts_causes))]
 pub fn cut_symbols<A: Allocator + Clone, B: Allocator, L: Ledger>(
     alloc: A,
     collective: &Bitmap<B>,
@@ -140,8 +137,6 @@ pub fn cut_symbols<A: Allocator + Clone, B: Allocator, L: Ledger>(
     ensures value { let cut = symbols_cut collective.now height 0 widths.now in
         let meant = put_behind symbols.old.items cut in
         Gives (λ _. symbols.new.items) result meant }
-    ensures causes { (collective : Grid) (height from : ℕ)
-        → HaveCauses (symbols_cut collective height from) (BreaksCuts height) }
 {
     let mut left = 0;
     for width in widths {

@@ -1,7 +1,8 @@
 //! The height classes of a symbol dictionary (T.88, 6.5.5).
 ghost use Rattle.std.specs.Prelude.{◌≡◌, ◌+◌, ◌<◌, ◌≤◌, length, OnOk};
 ghost use Rattle.jbig2_base.specs.Answer.{Answers, Gives};
-ghost use Rattle.jbig2_symbol.specs.Causes.{AllDrawnClassesHaveCauses};
+ghost use Rattle.jbig2_base.specs.Causes.{HasCause, HasCauseOrNoMemory};
+ghost use Rattle.jbig2_symbol.specs.Causes.{BreaksEmptyClass, BreaksHeightClass};
 ghost use Rattle.jbig2_symbol.specs.HeightClasses.{drawn_class, empty_class, height_class, new_symbols, symbols_from};
 ghost use Rattle.jbig2_symbol.specs.inner.SymbolViews.{behind, class_behind, input_view};
 
@@ -32,8 +33,10 @@ struct NewSymbols<A: Allocator> {
 }
 
 /// Refuses a class without a symbol, where too many came before.
+#[tactic(auto, using(crate::proofs::ClassCauses::empty_class_cause))]
 pub fn check_class(symbols: usize, empty: u32) -> Result<()>
-    ensures { Answers (λ few. few) result (empty_class symbols empty) }
+    ensures value { Answers (λ few. few) result (empty_class symbols empty) }
+    ensures causes { HasCause result (BreaksEmptyClass symbols empty) }
 {
     if symbols == 0 && empty >= MAX_EMPTY {
         return Err(DecodeError::Symbol(SymbolError::Invalid));
@@ -76,7 +79,7 @@ fn read_symbols<R: ReadSymbols, A: Allocator + Clone, T: Allocator, L: Ledger>(
 }
 
 /// Puts the symbols of such a class after the others; this many classes before it had none.
-#[tactic(auto, using(crate::proofs::ClassCauses::all_drawn_class_causes), unfolding(crate::specs::HeightClasses::drawn_class))]
+#[tactic(auto, unfolding(crate::specs::HeightClasses::drawn_class))]
 pub fn read_drawn_class<R: ReadSymbols, A: Allocator + Clone, T: Allocator, L: Ledger>(
     alloc: A,
     input: &SymbolInput<'_, A, T>,
@@ -93,7 +96,6 @@ pub fn read_drawn_class<R: ReadSymbols, A: Allocator + Clone, T: Allocator, L: L
         let before = bitmaps.old.items in
         let class = drawn_class R.readings d height empty before (R.state readings.old) in
         Gives (λ _. (bitmaps.new.items, R.state readings.new)) result (behind before class) }
-    ensures causes { AllDrawnClassesHaveCauses R.readings }
 {
     let before = bitmaps.len();
     let room = input.header.num_new_symbols - before as u32;
@@ -102,7 +104,7 @@ pub fn read_drawn_class<R: ReadSymbols, A: Allocator + Clone, T: Allocator, L: L
 }
 
 /// Reads one height class more.
-#[tactic(auto, unfolding(crate::specs::HeightClasses::height_class))]
+#[tactic(auto, using(crate::proofs::ClassCauses::height_class_cause), unfolding(crate::specs::HeightClasses::height_class))]
 fn read_height_class<R: ReadClasses, A: Allocator + Clone, T: Allocator, L: Ledger>(
     alloc: A,
     input: &SymbolInput<'_, A, T>,
@@ -123,6 +125,12 @@ fn read_height_class<R: ReadClasses, A: Allocator + Clone, T: Allocator, L: Ledg
         let all = symbols.new in
         let left = R.state readings.new in
         Gives (λ _. (all.bitmaps.items, (all.height, (all.empty, left)))) result meant }
+    ensures causes { let d = input_view input.now in
+        let before = symbols.old in
+        let new = before.bitmaps.items in
+        let state = R.state readings.old in
+        HasCauseOrNoMemory result
+        (BreaksHeightClass R.readings d before.height before.empty new state) }
     ensures few { OnOk result (symbols.new.empty ≤ symbols.old.empty + 1) }
 {
     steps.pay(CLASS)?;

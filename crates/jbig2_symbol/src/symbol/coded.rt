@@ -4,12 +4,12 @@ ghost use Rattle.jbig2_base.specs.Answer.{Answers, Gives};
 ghost use Rattle.jbig2_text.specs.TextCoding.{Coded};
 ghost use Rattle.jbig2_text.specs.inner.TextViews.{params_view};
 ghost use Rattle.jbig2_symbol.specs.SymbolBitmaps.{coded_aggregate, coded_instances, coded_symbol};
-ghost use Rattle.jbig2_symbol.specs.Causes.{InstanceCountsHaveCauses, BreaksCodedAggregate, BreaksCodedBitmap};
+ghost use Rattle.jbig2_symbol.specs.Causes.{BreaksCodedAggregate};
 ghost use Rattle.jbig2_symbol.specs.SymbolCoding.{coded_bitmap, coder_begun};
 ghost use Rattle.jbig2_symbol.specs.inner.HeaderViews.{contexts_view, header_view};
 ghost use Rattle.jbig2_symbol.specs.SymbolReading.{SymbolInput as Input, SymbolState, by_procedure};
 ghost use Rattle.jbig2_symbol.specs.inner.SymbolViews.{coded_view, input_view};
-ghost use Rattle.jbig2_base.specs.Causes.{BreaksSides, HaveCauses};
+ghost use Rattle.jbig2_base.specs.Causes.{HasCauseOrNoMemory};
 ghost use Rattle.jbig2_base.specs.Grid.{Grid};
 ghost use Rattle.jbig2_symbol.specs.SymbolHeader.{SymbolHeader};
 
@@ -75,7 +75,7 @@ impl<A: Allocator> CodedSymbols<'_, A> {
 
     /// The bitmap of a symbol that is coded by itself, which goes on with the dictionary's contexts
     /// (T.88, 6.5.8.1).
-    #[tactic(auto, using(crate::proofs::SymbolCauses::coded_symbol_causes), unfolding(crate::specs::SymbolBitmaps::coded_symbol))]
+    #[tactic(auto, unfolding(crate::specs::SymbolBitmaps::coded_symbol))]
     fn decode_symbol<M: Allocator, L: Ledger>(
         &mut self,
         alloc: M,
@@ -87,8 +87,6 @@ impl<A: Allocator> CodedSymbols<'_, A> {
         ensures value { let h = header_view header.now in
             let meant = coded_symbol h width height (coded_view self.old) in
             Gives (λ symbol. (symbol, coded_view self.new)) result meant }
-        ensures causes { (h : SymbolHeader) (width height : ℕ)
-            → HaveCauses (coded_symbol h width height) (λ s. BreaksSides width height) }
     {
         steps.pay_bitmap(width, height)?;
         let mut bitmap = Bitmap::new(alloc, width, height)?;
@@ -127,7 +125,7 @@ impl<A: Allocator> CodedSymbols<'_, A> {
     }
 
     /// A symbol that is refined from another one or put together from several (T.88, 6.5.8.2).
-    #[tactic(auto, using(crate::proofs::SymbolCauses::coded_aggregate_causes, crate::proofs::ReadingCauses::instance_count_causes), unfolding(crate::specs::SymbolBitmaps::coded_aggregate, crate::specs::SymbolBitmaps::instance_count))]
+    #[tactic(auto, using(crate::proofs::SymbolCauses::coded_aggregate_cause), unfolding(crate::specs::SymbolBitmaps::coded_aggregate, crate::specs::SymbolBitmaps::instance_count))]
     fn read_aggregate<T: Allocator, M: Allocator + Clone, L: Ledger>(
         &mut self,
         alloc: M,
@@ -139,10 +137,9 @@ impl<A: Allocator> CodedSymbols<'_, A> {
         ensures value { let d = input_view input.now in
             let meant = coded_aggregate d new.now size.width size.height (coded_view self.old) in
             Gives (λ symbol. (symbol, coded_view self.new)) result meant }
-        ensures causes { (d : Input) (new : List Grid) (width height : ℕ)
-            → HaveCauses (coded_aggregate d new width height)
-            (BreaksCodedAggregate d new width height) }
-        ensures counts { InstanceCountsHaveCauses (SymbolState Coded) }
+        ensures causes { let d = input_view input.now in
+            HasCauseOrNoMemory result
+            (BreaksCodedAggregate d new.now size.width size.height (coded_view self.old)) }
     {
         let count = instance_count(self.number(IntegerProcedure::Iaai, steps)?)?;
         let params = aggregate_params(input, new, count);
@@ -150,7 +147,7 @@ impl<A: Allocator> CodedSymbols<'_, A> {
     }
 
     /// A symbol's bitmap (T.88, 6.5.8), by the dictionary's flags.
-    #[tactic(auto, using(crate::proofs::SymbolCauses::coded_bitmap_causes), unfolding(crate::specs::SymbolCoding::coded_bitmap))]
+    #[tactic(auto, unfolding(crate::specs::SymbolCoding::coded_bitmap))]
     fn read_bitmap<T: Allocator, M: Allocator + Clone, L: Ledger>(
         &mut self,
         alloc: M,
@@ -162,8 +159,6 @@ impl<A: Allocator> CodedSymbols<'_, A> {
         ensures value { let d = input_view input.now in
             let meant = coded_bitmap d new.now size.width size.height (coded_view self.old) in
             Gives (λ symbol. (symbol, coded_view self.new)) result meant }
-        ensures causes { (d : Input) (new : List Grid) (width height : ℕ)
-            → HaveCauses (coded_bitmap d new width height) (BreaksCodedBitmap d new width height) }
     {
         if input.header.flags.use_refagg {
             return self.read_aggregate(alloc, input, new, size, steps);

@@ -3,7 +3,7 @@ ghost use Rattle.std.specs.Prelude.{◌≡◌, option_map, Ok};
 ghost use Rattle.jbig2_base.specs.Answer.{Gives};
 ghost use Rattle.jbig2_symbol.specs.SymbolReading.{begun_contexts, first_contexts, fresh_bitmap_contexts, is_refinement_template, is_template, learned};
 ghost use Rattle.jbig2_symbol.specs.inner.HeaderViews.{contexts_view, header_view};
-ghost use Rattle.jbig2_base.specs.Causes.{HaveCauses};
+ghost use Rattle.jbig2_base.specs.Causes.{HasCauseOrNoMemory};
 ghost use Rattle.jbig2_symbol.specs.Causes.{BreaksContexts};
 ghost use Rattle.jbig2_symbol.specs.declared.symbol.header.SymbolDictionaryFlags.{SymbolDictionaryFlags};
 
@@ -85,7 +85,7 @@ fn duplicate_contexts<A: Allocator + Clone, K: Allocator>(
 ///
 /// `SymbolError::Invalid` where there are none, or of other templates; `OutOfMemory` where there is
 /// no room.
-#[tactic(auto, using(crate::proofs::ReadingCauses::contexts_causes), unfolding(crate::specs::SymbolReading::first_contexts))]
+#[tactic(auto, using(crate::proofs::ReadingCauses::contexts_cause), unfolding(crate::specs::SymbolReading::first_contexts))]
 pub fn first_contexts<A: Allocator + Clone, K: Allocator>(
     alloc: A,
     flags: &SymbolDictionaryFlags,
@@ -94,8 +94,8 @@ pub fn first_contexts<A: Allocator + Clone, K: Allocator>(
     ensures value { let others = option_map (λ c. contexts_view c.now) kept.entry in
         let meant = first_contexts flags.now others in
         Gives (λ contexts. contexts_view contexts) result meant }
-    ensures causes { (flags : SymbolDictionaryFlags)
-        → HaveCauses (first_contexts flags) (BreaksContexts flags) }
+    ensures causes { let others = option_map (λ c. contexts_view c.now) kept.entry in
+        HasCauseOrNoMemory result (BreaksContexts flags.now others) }
 {
     if !flags.bitmap_context_used {
         return fresh_contexts(alloc, flags);

@@ -2,7 +2,8 @@
 ghost use Rattle.std.specs.Prelude.{◌≡◌, ◌+◌, ◌<◌, ◌≤◌, ◌++◌, IfOk, length, sum, take, drop, slice_index_or, false, Ok};
 ghost use Rattle.jbig2_base.specs.Answer.{Answers, Gives};
 ghost use Rattle.jbig2_base.specs.Grid.{blank};
-ghost use Rattle.jbig2_symbol.specs.Causes.{ExportsHaveCauses};
+ghost use Rattle.jbig2_base.specs.Causes.{HasCauseOrNoMemory};
+ghost use Rattle.jbig2_symbol.specs.Causes.{BreaksExports};
 ghost use Rattle.jbig2_symbol.specs.Symbols.{export_runs, exported, exports, next_run};
 ghost use Rattle.jbig2_symbol.specs.inner.SymbolViews.{all_symbols, input_view};
 
@@ -196,7 +197,7 @@ fn take_exports<A: Allocator + Clone, S: Allocator, L: Ledger>(
 ///
 /// The errors of `read_runs`; `SymbolError::NoSymbols` where they are not as many as the header
 /// states; `OutOfMemory` where there is no room for them.
-#[tactic(auto, using(crate::proofs::ReadingCauses::exports_causes), unfolding(crate::specs::Symbols::exports))]
+#[tactic(auto, using(crate::proofs::ReadingCauses::exports_cause), unfolding(crate::specs::Symbols::exports))]
 pub fn read_exports<R: ReadClasses, A: Allocator + Clone, T: Allocator, L: Ledger>(
     alloc: A,
     input: &SymbolInput<'_, A, T>,
@@ -209,7 +210,9 @@ pub fn read_exports<R: ReadClasses, A: Allocator + Clone, T: Allocator, L: Ledge
         let all = all_symbols input.now.symbols.now new.items in
         let meant = exports R.readings d all (R.state readings.old) in
         Gives (λ symbols. (symbols.items, R.state readings.new)) result meant }
-    ensures causes { ExportsHaveCauses R.readings }
+    ensures causes { let d = input_view input.now in
+        let all = all_symbols input.now.symbols.now new.now in
+        HasCauseOrNoMemory result (BreaksExports R.readings d all (R.state readings.old)) }
 {
     let count = input.symbols.len() as u64 + new.len() as u64;
     let runs = read_runs(alloc.clone()?, input, count, readings, steps)?;

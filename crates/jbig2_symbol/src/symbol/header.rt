@@ -7,8 +7,8 @@ ghost use Rattle.jbig2_text.specs.inner.TextViews.{some_pixels};
 ghost use Rattle.jbig2_symbol.specs.SymbolHeader.{selection_of, other_selection_of, symbol_flags_of, coded_pixels_at, refined_pixels_at, symbol_header_at};
 ghost use Rattle.jbig2_symbol.specs.declared.symbol.header.HuffmanTableSelection.TheVariants.{TableB2, TableB3, TableB4, TableB5};
 ghost use Rattle.jbig2_symbol.specs.inner.HeaderViews.{coded_pixels, header_view, refined_pixels};
-ghost use Rattle.jbig2_base.specs.Causes.{HaveCauses, number_in};
-ghost use Rattle.jbig2_symbol.specs.Causes.{BreaksSymbolFields};
+ghost use Rattle.jbig2_base.specs.Causes.{HasCause};
+ghost use Rattle.jbig2_symbol.specs.Causes.{BreaksSymbolHeader};
 ghost use Rattle.std.specs.Int.{w16};
 
 use jbig2_base::error::{DecodeError, HuffmanError, OverflowError, Result};
@@ -197,7 +197,7 @@ fn parse_refined_pixels(
 /// `TemplateError::InvalidAtPixel` where an adaptive pixel does not come before the pixel that is
 /// decoded; `OverflowError::SymbolCount` for more than 2^20 symbols, new or exported. An error
 /// leaves the reader where it was. Takes no memory.
-#[tactic(auto, using(crate::proofs::Causes::symbol_header_causes), unfolding(crate::specs::SymbolHeader::symbol_header_at))]
+#[tactic(auto, using(crate::proofs::Causes::symbol_header_cause), unfolding(crate::specs::SymbolHeader::symbol_header_at))]
 pub fn parse<'a>(reader: &mut Reader<'a>, strict: bool) -> Result<SymbolDictionaryHeader<'a>>
     requires { IsAligned reader.old }
     ensures value { let meant = symbol_header_at strict reader.old.bytes in
@@ -210,9 +210,7 @@ pub fn parse<'a>(reader: &mut Reader<'a>, strict: bool) -> Result<SymbolDictiona
     ensures unrefined { IfOk result (λ h. h.refinement_at_pixels
         ≡ filled 2 (header_view h).refinement_at_pixels) }
     ensures stays { OnErr result (reader.new ≡ reader.old) }
-    ensures causes { (strict : Bool)
-        → HaveCauses (symbol_header_at strict)
-        (λ bytes. BreaksSymbolFields (number_in w16 0 bytes) bytes) }
+    ensures causes { HasCause result (BreaksSymbolHeader reader.old.bytes) }
 {
     let mut ahead = reader.duplicate();
     let flags = symbol_flags(u16_field(&mut ahead)?)?;

@@ -4,13 +4,13 @@ ghost use Rattle.jbig2_base.specs.Answer.{Answers, Gives};
 ghost use Rattle.jbig2_base.specs.Bits.{Place};
 ghost use Rattle.jbig2_text.specs.TextCoding.{by_prefix_codes};
 ghost use Rattle.jbig2_text.specs.inner.TextViews as texts;
-ghost use Rattle.jbig2_symbol.specs.Causes.{InstanceCountsHaveCauses, BreaksCollectiveBitmap, BreaksCollectiveClass, BreaksPrefixedAggregate};
+ghost use Rattle.jbig2_symbol.specs.Causes.{BreaksCollectiveBitmap, BreaksPrefixedAggregate};
 ghost use Rattle.jbig2_symbol.specs.SymbolBitmaps.{by_instances, collective_bitmap, plain_id, prefixed_aggregate, prefixed_instances};
 ghost use Rattle.jbig2_symbol.specs.SymbolCoding.{collective_class, prefix_codes_begun};
 ghost use Rattle.jbig2_symbol.specs.SymbolReading.{SymbolInput as Input, SymbolState, by_table};
 ghost use Rattle.jbig2_symbol.specs.inner.HeaderViews.{contexts_view};
 ghost use Rattle.jbig2_symbol.specs.inner.SymbolViews.{behind, input_view, prefixed_view};
-ghost use Rattle.jbig2_base.specs.Causes.{HaveCauses};
+ghost use Rattle.jbig2_base.specs.Causes.{HasCauseOrNoMemory};
 ghost use Rattle.jbig2_base.specs.Grid.{Grid};
 
 use crate::symbol::aggregates::{
@@ -124,7 +124,7 @@ impl<'a, A: Allocator> PrefixedSymbols<'a, A> {
     }
 
     /// A symbol that is refined from another one or put together from several (T.88, 6.5.8.2).
-    #[tactic(auto, using(crate::proofs::SymbolCauses::prefixed_aggregate_causes, crate::proofs::ReadingCauses::instance_count_causes), unfolding(crate::specs::SymbolBitmaps::prefixed_aggregate, crate::specs::SymbolBitmaps::instance_count))]
+    #[tactic(auto, using(crate::proofs::SymbolCauses::prefixed_aggregate_cause), unfolding(crate::specs::SymbolBitmaps::prefixed_aggregate, crate::specs::SymbolBitmaps::instance_count))]
     fn read_aggregate<T: Allocator, M: Allocator + Clone, L: Ledger>(
         &mut self,
         alloc: M,
@@ -139,10 +139,10 @@ impl<'a, A: Allocator> PrefixedSymbols<'a, A> {
             let state = prefixed_view self.old in
             let meant = prefixed_aggregate d new.now size.width size.height state in
             Gives (λ symbol. (symbol, prefixed_view self.new)) result meant }
-        ensures causes { (d : Input) (new : List Grid) (width height : ℕ)
-            → HaveCauses (prefixed_aggregate d new width height)
-            (BreaksPrefixedAggregate d new width height) }
-        ensures counts { InstanceCountsHaveCauses (SymbolState Place) }
+        ensures causes { let d = input_view input.now in
+            let state = prefixed_view self.old in
+            HasCauseOrNoMemory result
+            (BreaksPrefixedAggregate d new.now size.width size.height state) }
     {
         let count = instance_count(self.number(input.tables.counts)?)?;
         let params = aggregate_params(input, new, count);
@@ -150,7 +150,7 @@ impl<'a, A: Allocator> PrefixedSymbols<'a, A> {
     }
 
     /// The collective bitmap of a height class (T.88, 6.5.9).
-    #[tactic(auto, using(crate::proofs::ClassCauses::collective_causes), unfolding(crate::specs::SymbolBitmaps::collective_bitmap))]
+    #[tactic(auto, using(crate::proofs::ClassCauses::collective_cause), unfolding(crate::specs::SymbolBitmaps::collective_bitmap))]
     fn read_collective<M: Allocator, S: Allocator, T: Allocator, L: Ledger>(
         &mut self,
         alloc: M,
@@ -162,9 +162,9 @@ impl<'a, A: Allocator> PrefixedSymbols<'a, A> {
         ensures value { let d = input_view input.now in
             let meant = collective_bitmap d width height (prefixed_view self.old) in
             Gives (λ bitmap. (bitmap, prefixed_view self.new)) result meant }
-        ensures causes { (d : Input) (width height : ℕ)
-            → HaveCauses (collective_bitmap d width height)
-            (BreaksCollectiveBitmap d width height) }
+        ensures causes { let d = input_view input.now in
+            let state = prefixed_view self.old in
+            HasCauseOrNoMemory result (BreaksCollectiveBitmap d width height state) }
     {
         let Some(size) = self.number(input.tables.sizes)? else {
             return Err(DecodeError::Huffman(HuffmanError::UnexpectedOob));
@@ -185,7 +185,7 @@ impl<'a, A: Allocator> PrefixedSymbols<'a, A> {
     }
 
     /// Puts the symbols of a class, cut out of its collective bitmap, after the others.
-    #[tactic(auto, using(crate::proofs::ClassCauses::collective_class_causes), unfolding(crate::specs::SymbolCoding::collective_class))]
+    #[tactic(auto, unfolding(crate::specs::SymbolCoding::collective_class))]
     fn read_collective_class<M: Allocator + Clone, T: Allocator, L: Ledger>(
         &mut self,
         alloc: M,
@@ -200,9 +200,6 @@ impl<'a, A: Allocator> PrefixedSymbols<'a, A> {
             let before = bitmaps.old.items in
             let class = collective_class d height empty before (prefixed_view self.old) in
             Gives (λ _. (bitmaps.new.items, prefixed_view self.new)) result (behind before class) }
-        ensures causes { (d : Input) (height empty : ℕ) (new : List Grid)
-            → HaveCauses (collective_class d height empty new)
-            (BreaksCollectiveClass d height empty new) }
     {
         let room = input.header.num_new_symbols - bitmaps.len() as u32;
         let widths = read_widths(alloc.clone()?, input, room, self, steps)?;

@@ -3,7 +3,7 @@ ghost use Rattle.jbig2_base.specs.Answer.{Answers};
 ghost use Rattle.jbig2_coder.specs.inner.TableViews.{customs_view};
 ghost use Rattle.jbig2_symbol.specs.SymbolReading.{symbol_tables, table_for};
 ghost use Rattle.jbig2_symbol.specs.inner.SymbolViews.{tables_view};
-ghost use Rattle.jbig2_base.specs.Causes.{HaveCauses};
+ghost use Rattle.jbig2_base.specs.Causes.{HasCause};
 ghost use Rattle.jbig2_symbol.specs.Causes.{BreaksTables};
 ghost use Rattle.jbig2_symbol.specs.declared.symbol.header.SymbolDictionaryFlags.{SymbolDictionaryFlags};
 
@@ -37,7 +37,7 @@ fn table_for<'a, T: Allocator>(
 /// The tables of a dictionary, which takes the custom ones that it refers to in their order.
 ///
 /// `HuffmanError::MissingTables` where it refers to too few, also without prefix codes.
-#[tactic(auto, using(crate::proofs::ReadingCauses::symbol_tables_causes), unfolding(crate::specs::SymbolReading::symbol_tables))]
+#[tactic(auto, using(crate::proofs::ReadingCauses::symbol_tables_cause), unfolding(crate::specs::SymbolReading::symbol_tables))]
 pub fn symbol_tables<'a, T: Allocator>(
     flags: &SymbolDictionaryFlags,
     standard: &'a StandardHuffmanTables<T>,
@@ -45,8 +45,7 @@ pub fn symbol_tables<'a, T: Allocator>(
 ) -> Result<SymbolTables<'a, T>>
     ensures value { let meant = symbol_tables flags.now (customs_view referred.now) in
         Answers (λ tables. tables_view tables) result meant }
-    ensures causes { (flags : SymbolDictionaryFlags)
-        → HaveCauses (symbol_tables flags) (BreaksTables flags) }
+    ensures causes { HasCause result (BreaksTables flags.now (customs_view referred.now)) }
 {
     let (heights, customs) = table_for(standard, flags.delta_height_table, referred)?;
     let (widths, customs) = table_for(standard, flags.delta_width_table, customs)?;

@@ -1,7 +1,8 @@
 //! The widths of the symbols of a height class (T.88, 6.5.5, step 4 c).
 ghost use Rattle.std.specs.Prelude.{◌≡◌, ◌+◌, pos, ◌+ℤ◌, IfOk, sum};
 ghost use Rattle.jbig2_base.specs.Answer.{Answers, Gives};
-ghost use Rattle.jbig2_symbol.specs.Causes.{WidthsHaveCauses};
+ghost use Rattle.jbig2_base.specs.Causes.{HasCause};
+ghost use Rattle.jbig2_symbol.specs.Causes.{BreaksNextWidth};
 ghost use Rattle.jbig2_symbol.specs.HeightClasses.{next_width, size_in_word, width_by, widths_from};
 ghost use Rattle.jbig2_symbol.specs.inner.SymbolViews.{Moved, input_view, with_total};
 
@@ -87,7 +88,7 @@ impl RunningWidths {
     }
 
     /// Reads the next width of the class; `None` ends it.
-    #[tactic(auto, using(crate::proofs::ReadingCauses::widths_causes), unfolding(crate::specs::HeightClasses::next_width))]
+    #[tactic(auto, using(crate::proofs::ReadingCauses::widths_cause), unfolding(crate::specs::HeightClasses::next_width))]
     pub fn read_next<R: ReadSymbols, A: Allocator, T: Allocator, L: Ledger>(
         &mut self,
         input: &SymbolInput<'_, A, T>,
@@ -100,7 +101,11 @@ impl RunningWidths {
             let meant = next_width R.readings d before.left before.width before.total state in
             let total = self.new.total in
             Answers (λ next. (with_total total next, R.state readings.new)) result meant }
-        ensures causes { WidthsHaveCauses R.readings }
+        ensures causes { let d = input_view input.now in
+            let before = self.old in
+            let state = R.state readings.old in
+            HasCause result
+            (BreaksNextWidth R.readings d before.left before.width before.total state) }
         ensures moved { IfOk result (λ next. Moved self.old next self.new) }
     {
         let difference = readings.width_difference(input, steps)?;

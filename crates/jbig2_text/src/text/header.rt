@@ -8,7 +8,7 @@ ghost use Rattle.jbig2_text.specs.TextHeader.{corner_of, signed_5, text_flags_at
 ghost use Rattle.jbig2_text.specs.inner.TextViews.{coding_view, header_view, text_pixels};
 ghost use Rattle.jbig2_text.specs.inner.Parts.{other_flags, text_pixels_at};
 ghost use Rattle.jbig2_text.specs.inner.TextViews.{fields_view};
-ghost use Rattle.jbig2_base.specs.Causes.{HaveCauses};
+ghost use Rattle.jbig2_base.specs.Causes.{HasCauseOrNoMemory};
 ghost use Rattle.jbig2_text.specs.Causes.{BreaksTextHeader};
 
 use crate::text::symbol_codes::parse_symbol_codes;
@@ -257,7 +257,7 @@ fn parse_coding<A: Allocator + Clone>(
 /// `parse_region_segment_info`; `HuffmanError::InvalidCode` where the codes of the symbols' ids
 /// end early, do not fit or are not as many as the symbols; `OutOfMemory` where there is no room
 /// for them.
-#[tactic(auto, using(crate::proofs::CausesOfHeaders::text_header_causes), unfolding(crate::specs::TextHeader::text_header_at))]
+#[tactic(auto, using(crate::proofs::CausesOfHeaders::text_header_cause), unfolding(crate::specs::TextHeader::text_header_at))]
 pub fn parse<'a, A: Allocator + Clone>(
     alloc: A,
     reader: &mut Reader<'a>,
@@ -273,8 +273,7 @@ pub fn parse<'a, A: Allocator + Clone>(
     ensures unused { IfOk result (λ h. h.refinement_at_pixels
         ≡ filled 2 (header_view h).refinement_pixels) }
     ensures stays { OnErr result (reader.new ≡ reader.old) }
-    ensures causes { (symbols : ℕ) (strict : Bool)
-        → HaveCauses (text_header_at symbols strict) (BreaksTextHeader symbols) }
+    ensures causes { HasCauseOrNoMemory result (BreaksTextHeader num_symbols reader.old.bytes) }
 {
     let mut ahead = reader.duplicate();
     let segment_data_len = ahead.tail().len();

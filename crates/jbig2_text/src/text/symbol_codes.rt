@@ -1,10 +1,10 @@
 //! The prefix codes of the symbols' ids (T.88, 7.4.3.1.7).
 ghost use Rattle.std.specs.Prelude.{◌≡◌, ◌≤◌, ◌^◌, ◌++◌, [], length, replicate, IfOk, Ok, OnOk, ℕ};
 ghost use Rattle.jbig2_base.specs.Answer.{Gives};
-ghost use Rattle.jbig2_base.specs.Bits.{IsAligned};
+ghost use Rattle.jbig2_base.specs.Bits.{IsAligned, start_of};
 ghost use Rattle.jbig2_coder.specs.PrefixCode.{AreShort, table_of};
 ghost use Rattle.jbig2_text.specs.SymbolCodes.{invalid_code, lines_from, short_lengths, repeated, run_at, next_runcode, runs_at, runcodes_at, symbol_lengths_at, symbol_codes_at, symbol_codes_from};
-ghost use Rattle.jbig2_base.specs.Causes.{HaveCauses};
+ghost use Rattle.jbig2_base.specs.Causes.{HasCauseOrNoMemory};
 ghost use Rattle.jbig2_text.specs.Causes.{BreaksSymbolCodes};
 
 use crate::bit_fields::value_field;
@@ -207,7 +207,7 @@ fn read_symbol_codes<A: Allocator + Clone>(
 /// `ParseError::UnexpectedEof` where the bits end in a runcode; `HuffmanError::InvalidCode` where
 /// they end elsewhere, for codes that do not fit, for a last length that is repeated where there
 /// is none, and for more lengths than symbols; `OutOfMemory`.
-#[tactic(auto, using(crate::proofs::Causes::symbol_code_causes))]
+#[tactic(auto, using(crate::proofs::Causes::symbol_code_cause))]
 pub fn parse_symbol_codes<A: Allocator + Clone>(
     alloc: A,
     reader: &mut Reader<'_>,
@@ -218,7 +218,7 @@ pub fn parse_symbol_codes<A: Allocator + Clone>(
     ensures value { let meant = symbol_codes_at count reader.old.bytes in
         Gives (λ table. (table, reader.new.bytes)) result meant }
     ensures aligned { OnOk result (IsAligned reader.new) }
-    ensures causes { (count : ℕ) → HaveCauses (symbol_codes_from count) (BreaksSymbolCodes count) }
+    ensures causes { HasCauseOrNoMemory result (BreaksSymbolCodes count (start_of reader.old.bytes)) }
 {
     read_symbol_codes(alloc, reader, count)
 }

@@ -5,7 +5,7 @@ ghost use Rattle.jbig2_coder.specs.inner.TableViews.{customs_view};
 ghost use Rattle.jbig2_text.specs.TextRegion.{aggregate_tables, one_of_two, one_of_three, text_tables};
 ghost use Rattle.jbig2_text.specs.inner.Parts.{table_of_refinement, table_of_size};
 ghost use Rattle.jbig2_text.specs.inner.TextViews.{tables_view};
-ghost use Rattle.jbig2_base.specs.Causes.{HaveCauses};
+ghost use Rattle.jbig2_base.specs.Causes.{HasCause};
 ghost use Rattle.jbig2_text.specs.Causes.{BreaksTextTables};
 ghost use Rattle.jbig2_text.specs.declared.text.header.TextRegionHuffmanFlags.{TextRegionHuffmanFlags};
 
@@ -115,7 +115,7 @@ fn size_table<'a, T: Allocator>(
 ///
 /// `HuffmanError::InvalidSelection` for a number without meaning; `HuffmanError::MissingTables`
 /// where the custom tables run out. Takes no memory.
-#[tactic(auto, using(crate::proofs::CausesOfRegions::text_table_causes), unfolding(crate::specs::TextRegion::text_tables))]
+#[tactic(auto, using(crate::proofs::CausesOfRegions::text_table_cause), unfolding(crate::specs::TextRegion::text_tables))]
 pub fn select_tables<'a, T: Allocator>(
     flags: &TextRegionHuffmanFlags,
     customs: &'a [&'a HuffmanTable<T>],
@@ -123,8 +123,7 @@ pub fn select_tables<'a, T: Allocator>(
 ) -> Result<TextRegionHuffmanTables<'a, T>>
     ensures value { let meant = text_tables flags.now (customs_view customs.now) in
         Answers (λ tables. tables_view tables) result meant }
-    ensures causes { (flags : TextRegionHuffmanFlags)
-        → HaveCauses (text_tables flags) (BreaksTextTables flags) }
+    ensures causes { HasCause result (BreaksTextTables flags.now (customs_view customs.now)) }
 {
     let (first, second) = (standard.table_f(), standard.table_g());
     let (first_s, customs) = one_of_two(first, second, flags.first_s_table, customs)?;

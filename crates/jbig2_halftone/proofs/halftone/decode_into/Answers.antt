@@ -3,11 +3,13 @@ use Rattle.std.specs.List.{All}
 use Rattle.jbig2_base.specs.Grid.{Grid}
 use Rattle.jbig2_base.specs.declared.error.DecodeError.TheVariants.{OutOfMemory}
 use Rattle.jbig2_halftone.specs.GrayScale.{GrayScale, gray_values, planes_of}
-use Rattle.jbig2_halftone.specs.Halftone.{cells_drawn, gray_params}
+use Rattle.jbig2_halftone.specs.Halftone.{cells_drawn, gray_params, halftone_answer}
 use Rattle.jbig2_halftone.specs.HalftoneHeader.{HalftoneHeader}
 use Rattle.jbig2_halftone.specs.inner.HalftoneHeaderViews.{header_view}
 use Rattle.jbig2_halftone.specs.Patterns.{Patterns}
 use Rattle.jbig2_halftone.specs.inner.DictionaryViews.{dictionary_view}
+use Rattle.jbig2_base.proofs.CauseSteps.{err-gives}
+use Rattle.jbig2_halftone.proofs.CausesOfRegions.{halftone_cause}
 use Rattle.jbig2_halftone.proofs.HalftoneLemmas.{image-fits, answer-of-planes, answer-of-fault, contexts-of-planes, answers-gives, refused-or, leaves-known, memory-alone}
 use Rattle.jbig2_halftone.proofs.DrawSteps.{cells-stop, on-err, on-ok, region-size, region-steps, region-stops}
 use Rattle.jbig2_halftone.proofs.PlaneLemmas.{planes-sized}
@@ -42,6 +44,9 @@ returns-in-Err-clause-stopped g c = cells-stop (header_view c.args.header.now) (
 pub returns-in-Err-clause-lenient : goal.returns-in-Err-clause-lenient
 returns-in-Err-clause-lenient g c = λ lenient. memory-alone (λ (done : Unit {0}). c.args.bitmap.now) (Err c.in-Err.error) (header_view c.args.header.now) (dictionary_view c.args.dictionary.now) c.requires.columns c.requires.rows lenient (returns-in-Err-clause-value g c)
 
+pub returns-in-Err-clause-causes : goal.returns-in-Err-clause-causes
+returns-in-Err-clause-causes g c = halftone_cause (header_view c.args.header.now) (dictionary_view c.args.dictionary.now) _ (returns-in-Err-clause-value g c)
+
 pub returns : goal.returns
 returns g c =
     let h : HalftoneHeader = header_view c.args.header.now in
@@ -56,6 +61,7 @@ returns g c =
       bitmap = refused-or c.draw_rows.result _ _ c.draw_rows.ensures.refused;
       contexts = leaves-known c.draw_rows.result _ _ (contexts-of-planes h d _ _ fits c.in-Ok.ensures.contexts);
       lenient = λ lenient. memory-alone (λ _. c.draw_rows.new.bitmap) c.draw_rows.result h d c.requires.columns c.requires.rows lenient given;
+      causes = halftone_cause h d c.draw_rows.result (err-gives (λ _. c.draw_rows.new.bitmap) c.draw_rows.result (halftone_answer h d) given);
       steps = on-ok c.draw_rows.result _ _ (λ drawn. region-steps h d (length c.deref.result.now) c.args.steps.now c.read_cells.new.steps c.draw_rows.new.steps many c.in-Ok.ensures.steps drawn) c.draw_rows.ensures.steps;
       stopped = on-err c.draw_rows.result _ _ (λ stops. region-stops h d (length c.deref.result.now) c.args.steps.now c.read_cells.new.steps c.draw_rows.new.steps many c.in-Ok.ensures.steps stops) c.draw_rows.ensures.stopped;
     }

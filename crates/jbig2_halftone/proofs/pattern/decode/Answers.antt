@@ -1,6 +1,7 @@
 use Rattle.std.proofs.Common.{◌≡◌, ◌+◌, ◌≤◌, length, arith}
 use Rattle.jbig2_halftone.specs.inner.PatternViews.{header_view}
-use Rattle.jbig2_halftone.proofs.PatternLemmas.{cut-counts, cut-length, cut-sized, few-patterns}
+use Rattle.jbig2_halftone.proofs.DrawSteps.{on-any}
+use Rattle.jbig2_halftone.proofs.PatternLemmas.{collective-stops, cut-counts, cut-lanes, cut-length, cut-sized, dictionary-stops, few-patterns, stops-lanes}
 use Rattle.jbig2_halftone.proofs.pattern.decode.Goals as goal
 
 pub invariant_of-result : goal.invariant_of-result
@@ -13,5 +14,17 @@ invariant_of-result g c =
       sized = cut-sized c.in_ok-collective.collective c.from-width.result c.from-height.result (c.args.header.now.num_patterns + 1) c.in_ok-patterns.patterns.items c.in_ok-patterns.ensures.value;
     }
 
+pub returns-in_err-collective-clause-stopped : goal.returns-in_err-collective-clause-stopped
+returns-in_err-collective-clause-stopped g c = on-any c.from_residual-in_err-collective.result _ (collective-stops (header_view c.args.header.now) c.args.steps.now c.decode_collective.new.steps c.in_err-collective.ensures.stopped)
+
+pub returns-in_err-patterns-clause-stopped : goal.returns-in_err-patterns-clause-stopped
+returns-in_err-patterns-clause-stopped g c = on-any c.from_residual-in_err-patterns.result _ (dictionary-stops (header_view c.args.header.now) c.from-width.result c.from-height.result c.args.steps.now c.decode_collective.new.steps c.cut_patterns.new.steps c.from-width.ensures c.from-height.ensures c.in_ok-collective.ensures.steps c.in_err-patterns.ensures.stopped)
+
+pub returns-in_err-patterns-clause-lanes : goal.returns-in_err-patterns-clause-lanes
+returns-in_err-patterns-clause-lanes g c = stops-lanes _ _ c.args.steps.now c.decode_collective.new.steps c.cut_patterns.new.steps c.decode_collective.ensures.lanes c.in_err-patterns.ensures.stopped
+
 pub returns-clause-steps : goal.returns-clause-steps
-returns-clause-steps g c = (c.decode_collective.new.steps, (c.in_ok-collective.ensures.steps, cut-counts (header_view c.args.header.now) c.from-width.result c.from-height.result _ _ c.from-width.ensures c.from-height.ensures c.in_ok-patterns.ensures.steps))
+returns-clause-steps g c = (c.decode_collective.new.steps, (c.in_ok-collective.ensures.steps, cut-counts (header_view c.args.header.now) (c.args.header.now.num_patterns + 1) c.from-width.result c.from-height.result _ _ c.from-width.ensures c.from-height.ensures c.in_ok-patterns.ensures.steps))
+
+pub returns-clause-lanes : goal.returns-clause-lanes
+returns-clause-lanes g c = cut-lanes _ c.args.steps.now c.decode_collective.new.steps c.cut_patterns.new.steps c.decode_collective.ensures.lanes c.in_ok-patterns.ensures.steps

@@ -1,10 +1,13 @@
 use Rattle.std.proofs.Common.{◌≡◌, ℕ, ◌-◌, ◌/◌, true, false, eqb, List, [], length, drop, ap, sym, subst, ◌∙◌, arith}
 use Rattle.std.specs.Prelude.{◌||◌}
 use Rattle.std.proofs.lemmas.Bool.{eq-eqb, or_left, or_right}
+use Rattle.jbig2_base.specs.Answer.{Answers}
+use Rattle.jbig2_base.proofs.CauseSteps.{err-answers}
 use Rattle.jbig2_base.proofs.LaneCounts.{lanes-none, lanes-then}
-use Rattle.jbig2_mmr.specs.T6.{row, ends_block, rows_of}
+use Rattle.jbig2_mmr.specs.T6.{Decoded, mmr_rows, row, ends_block, rows_of}
 use Rattle.jbig2_mmr.specs.inner.T6Reading.{Rest, after_end, row_above}
 use Rattle.jbig2_mmr.specs.inner.T6Calls.{ReadRow}
+use Rattle.jbig2_mmr.proofs.Causes.{mmr_cause}
 use Rattle.jbig2_mmr.proofs.T6Bits.{end-after, end-none}
 use Rattle.jbig2_mmr.proofs.T6Decoding.{RowsReading, rows-start, rows-grid, rows-early, rows-last, rows-fault, rows-next, answer-whole, answer-missing, answer-none, drawn-none, drawn-rows}
 use Rattle.jbig2_mmr.proofs.mmr.decode.Goals as goal
@@ -19,6 +22,7 @@ returns-then-width-eq0 g c =
     ] in
     record {
       value = answer-none c.args.strict c.args.bitmap.now c.args.bytes.now c.requires none;
+      causes = mmr_cause c.args.strict c.args.bitmap.now.width c.args.bitmap.now.height c.args.bytes.now _ tt;
       lanes = lanes-none c.args.steps.now;
       grid = drawn-none c.args.bitmap.now c.args.bytes.now c.requires none;
     }
@@ -46,8 +50,10 @@ returns-then-skip_end_of_block g c =
     ∙ ap (λ (bs : List ℕ). length bs - length (drop 24 c.loop-y.reader.left) / 8) inv.bytes in
     let early = rows-early w h c.loop-y.y c.loop-y.reader.left c.loop-y.bitmap (rows_of w h c.args.bytes.now) inv.reading (omega (arith, c.loop-y-test.true, c.height-height.ensures.value)) ends in
     let drawn = rows-grid w h c.loop-y.y c.loop-y.reader.left c.loop-y.bitmap (rows_of w h c.args.bytes.now) inv.reading in
+    let value : Answers (λ (n : ℕ). let d : Decoded = record { grid = c.loop-y.bitmap; used = n } in d) c.missing_rows.result (mmr_rows c.args.strict w h c.args.bytes.now) = answer-missing c.args.strict w h c.args.bytes.now inv.reading.done (drop 24 c.loop-y.reader.left) c.loop-y.bitmap c.bytes_used.result c.missing_rows.result early drawn used c.missing_rows.ensures in
     record {
-      value = answer-missing c.args.strict w h c.args.bytes.now inv.reading.done (drop 24 c.loop-y.reader.left) c.loop-y.bitmap c.bytes_used.result c.missing_rows.result early drawn used c.missing_rows.ensures.value;
+      value = value;
+      causes = mmr_cause c.args.strict w h c.args.bytes.now _ (err-answers _ _ _ value);
       lanes = inv.lanes;
       grid = drawn-rows w h c.args.bytes.now inv.reading.done false (drop 24 c.loop-y.reader.left) c.loop-y.bitmap early drawn;
     }
@@ -61,8 +67,10 @@ returns-then-not-read_row g c =
     let left : c.skip_end_of_block.new.self.left ≡ c.loop-y.reader.left = ap (λ (r : Rest). r.left) c.skip_end_of_block.ensures.rest ∙ end-none c.loop-y.reader.left goes_on in
     let read = subst (λ (ys : List ℕ). ReadRow (row c.loop-y.bitmap.width (row_above c.loop-y.bitmap c.loop-y.y) ys) false c.loop-y.bitmap c.read_row.new.bitmap c.loop-y.y c.read_row.new.reader.left) left c.if-not-read_row.ensures.value in
     let fault = rows-fault w h c.loop-y.y c.loop-y.reader.left c.read_row.new.reader.left c.loop-y.bitmap c.read_row.new.bitmap (rows_of w h c.args.bytes.now) inv.reading (omega (arith, c.loop-y-test.true, c.height-height.ensures.value)) goes_on read in
+    let value : Answers (λ (n : ℕ). let d : Decoded = record { grid = c.read_row.new.bitmap; used = n } in d) c.missing_rows-then-not-read_row.result (mmr_rows c.args.strict w h c.args.bytes.now) = answer-missing c.args.strict w h c.args.bytes.now inv.reading.done [] c.read_row.new.bitmap (length c.args.bytes.now) c.missing_rows-then-not-read_row.result fault.0 fault.1 (omega arith) c.missing_rows-then-not-read_row.ensures in
     record {
-      value = answer-missing c.args.strict w h c.args.bytes.now inv.reading.done [] c.read_row.new.bitmap (length c.args.bytes.now) c.missing_rows-then-not-read_row.result fault.0 fault.1 (omega arith) c.missing_rows-then-not-read_row.ensures.value;
+      value = value;
+      causes = mmr_cause c.args.strict w h c.args.bytes.now _ (err-answers _ _ _ value);
       lanes = lanes-then c.args.steps.now c.loop-y.steps c.read_row.new.steps inv.lanes c.if-not-read_row.ensures.lanes;
       grid = drawn-rows w h c.args.bytes.now inv.reading.done false [] c.read_row.new.bitmap fault.0 fault.1;
     }
@@ -93,6 +101,7 @@ returns g c =
     let drawn = rows-grid w h c.loop-y.y c.loop-y.reader.left c.loop-y.bitmap (rows_of w h c.args.bytes.now) inv.reading in
     record {
       value = answer-whole c.args.strict w h c.args.bytes.now inv.reading.done (after_end c.loop-y.reader.left) c.loop-y.bitmap c.bytes_used-2.result last drawn used;
+      causes = mmr_cause c.args.strict w h c.args.bytes.now _ tt;
       lanes = inv.lanes;
       grid = drawn-rows w h c.args.bytes.now inv.reading.done true (after_end c.loop-y.reader.left) c.loop-y.bitmap last drawn;
     }

@@ -2,7 +2,7 @@ use Rattle.std.proofs.Common.{◌≡◌, ℕ, List, sym, ap, ◌∙◌, length, 
 use Rattle.jbig2_region.specs.inner.GenericViews.{header_view}
 use Rattle.jbig2_region.specs.Generic.{coding_of, generic_region}
 use Rattle.jbig2_region.specs.inner.Holds.{DecodesRegion, Holds}
-use Rattle.jbig2_region.specs.inner.Layouts.{CountsCoded}
+use Rattle.jbig2_region.specs.GenericSteps.{CountsCoded}
 use Rattle.jbig2_region.specs.Raster.{fresh_contexts, no_pixels}
 use Rattle.jbig2_region.specs.Templates.{context_bits, template_pixels}
 use Rattle.jbig2_region.specs.inner.PixelArrays.{is_extended}

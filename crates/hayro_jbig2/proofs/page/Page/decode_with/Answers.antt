@@ -5,7 +5,6 @@ use Rattle.hayro_jbig2.specs.Page.{ReadPage}
 use Rattle.hayro_jbig2.proofs.Answering.{decoded-returned}
 use Rattle.hayro_jbig2.proofs.Chunks.{calls-few, chunks-fit}
 use Rattle.hayro_jbig2.proofs.Direct.{combined-over}
-use Rattle.hayro_jbig2.proofs.PageCauses.{page_causes}
 use Rattle.hayro_jbig2.proofs.Spelling.{spells}
 use Rattle.hayro_jbig2.proofs.Untouched.{untouched-blank}
 use Rattle.hayro_jbig2.proofs.page.Page.decode_with.Goals as goal
@@ -18,9 +17,6 @@ returns-clause-direct g c = combined-over
 
 pub returns-clause-untouched : goal.returns-clause-untouched
 returns-clause-untouched g c = untouched-blank
-
-pub returns-clause-causes : goal.returns-clause-causes
-returns-clause-causes g c = page_causes
 
 pub returns-clause-chunks : goal.returns-clause-chunks
 returns-clause-chunks g c = chunks-fit

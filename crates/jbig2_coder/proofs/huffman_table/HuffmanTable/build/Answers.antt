@@ -3,6 +3,7 @@ use Rattle.jbig2_coder.specs.declared.huffman_table.levels.Level.{Level}
 use Rattle.jbig2_coder.specs.PrefixCode.{level}
 use Rattle.jbig2_coder.proofs.PrefixBuilding.{Built, built-next, built-crowded, built-table, half_up}
 use Rattle.jbig2_coder.specs.inner.PrefixLevels.{groups_of}
+use Rattle.jbig2_coder.proofs.Causes.{table_cause}
 use Rattle.jbig2_coder.proofs.PrefixFree.{free-codes}
 use Rattle.jbig2_coder.proofs.huffman_table.HuffmanTable.build.Goals as goal
 
@@ -35,6 +36,9 @@ returns-then-nodes-gt-ROOTS-clause-table g c =
     let P : ℕ → Type 0 = λ d. Built c.args.lines.now c.loop-depth.sorted.items c.loop-depth.levels.items c.loop-depth.nodes d in
     let end : c.loop-depth.depth ≡ 0 = omega arith in
     inr (built-crowded c.args.lines.now c.loop-depth.sorted.items c.loop-depth.levels.items c.loop-depth.nodes (subst P end c.loop-depth.invariant) c.if-nodes-gt-ROOTS.true)
+
+pub returns-then-nodes-gt-ROOTS-clause-causes : goal.returns-then-nodes-gt-ROOTS-clause-causes
+returns-then-nodes-gt-ROOTS-clause-causes g c = table_cause c.args.lines.now _ (returns-then-nodes-gt-ROOTS-clause-table g c)
 
 pub returns-clause-table : goal.returns-clause-table
 returns-clause-table g c =

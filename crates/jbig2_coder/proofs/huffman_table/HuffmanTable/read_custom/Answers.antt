@@ -3,6 +3,7 @@ use Rattle.std.proofs.lemmas.Result.{err_from_is_err_and}
 use Rattle.jbig2_coder.specs.declared.huffman_table.line.TableLine.{TableLine}
 use Rattle.jbig2_coder.specs.PrefixCode.{Member, table_of}
 use Rattle.jbig2_coder.specs.CustomTable.{GivesAt, Step, custom_lines, custom_table, left_at}
+use Rattle.jbig2_coder.proofs.CustomCauses.{custom_cause}
 use Rattle.jbig2_coder.proofs.CustomReading.{gives-at, gives-refusal, table-lines}
 use Rattle.jbig2_coder.proofs.huffman_table.HuffmanTable.read_custom.Goals as goal
 
@@ -23,3 +24,9 @@ returns-clause-table g c =
     let P : Step (List Member) → Type 0 = λ s. GivesAt (λ (t : List Member). t) c.build.result q s in
     subst P (ap (λ (ys : List TableLine). left_at q (table_of ys)) c.deref.ensures.value ∙ sym whole)
     (gives-at (λ (t : List Member). t) c.build.result q (table_of c.deref.result.now) c.build.ensures.table)
+
+pub returns-in_err-lines-clause-causes : goal.returns-in_err-lines-clause-causes
+returns-in_err-lines-clause-causes g c = custom_cause (λ (t : List Member). t) c.args.reader.now c.read_lines.new.reader _ (returns-in_err-lines-clause-table g c)
+
+pub returns-clause-causes : goal.returns-clause-causes
+returns-clause-causes g c = custom_cause (λ (t : List Member). t) c.args.reader.now c.read_lines.new.reader _ (returns-clause-table g c)

@@ -1,0 +1,11 @@
+use Rattle.std.proofs.Common.{rules, Err}
+use Rattle.std.proofs.lemmas.Result.{err_from_is_err_and}
+use Rattle.jbig2_base.specs.PageInfo.{information_at}
+use Rattle.jbig2_base.proofs.PageCauses.{information_cause}
+use Rattle.jbig2_base.proofs.page_info.parse_page_information.Goals as goal
+
+pub returns-in_err-striping-clause-causes : goal.returns-in_err-striping-clause-causes
+unfolding information_at
+returns-in_err-striping-clause-causes c =
+    let e = err_from_is_err_and c.from_residual-in_err-striping.result c.from_residual-in_err-striping.ensures.1 in
+    rw (e.1, e.2) (information_cause c.args.reader.now.bytes (Err c.in_err-striping.field-0.0) (search rules))
