@@ -42,9 +42,9 @@ fn page_holds(alloc: Global, text: &str) -> Result<bool> {
         return Ok(false);
     }
     let rows = rows_of(alloc, &context)?;
-    let most = 1 << 40;
+    let most: u64 = 1 << 40;
     let (_, left) = left_of(&page, most, &mut context);
-    let taken = most - left.unwrap_or(0);
+    let taken = most.saturating_sub(left.unwrap_or(0));
     for work in 0..taken {
         if left_of(&page, work, &mut context) != (Err(DecodeError::OutOfMemory), Some(0)) {
             return Ok(false);
