@@ -1,10 +1,9 @@
 //! Text regions (T.88, 6.4 and 7.4.3).
-ghost use Rattle.std.specs.Prelude.{◌≡◌, ◌≤◌, ◌^◌, length, Ok, OnErr, List};
+ghost use Rattle.std.specs.Prelude.{◌≡◌, ◌≤◌, ◌^◌, length, Ok, OnErr};
 ghost use Rattle.jbig2_base.specs.Answer.{Answers, Gives};
-ghost use Rattle.jbig2_base.specs.Grid.{blank, Grid};
+ghost use Rattle.jbig2_base.specs.Grid.{blank};
 ghost use Rattle.jbig2_region.specs.inner.RegionViews.{region_view};
 ghost use Rattle.jbig2_text.specs.inner.TextViews.{some_pixels, header_view, text_pixels, coded_view, params_view, prefixed_view, symbols_view};
-ghost use Rattle.jbig2_text.specs.TextHeader.{TextHeader};
 ghost use Rattle.jbig2_text.specs.TextRegion.{coder_of, prefix_codes_of, refining_of, region_from, text_params, text_answer, text_decoded};
 ghost use Rattle.jbig2_coder.specs.inner.TableViews.{customs_view};
 ghost use Rattle.jbig2_base.specs.Causes.{HasCauseOrNoMemory};

@@ -1,5 +1,5 @@
 //! Headers of text regions (T.88, 7.4.3.1).
-ghost use Rattle.std.specs.Prelude.{◌≡◌, ◌≤◌, ◌%◌, ◌^◌, IfOk, OnErr, OnOk, Bool, ℕ};
+ghost use Rattle.std.specs.Prelude.{◌≡◌, ◌≤◌, ◌%◌, ◌^◌, IfOk, OnErr, OnOk};
 ghost use Rattle.jbig2_base.specs.Answer.{Answers, Gives};
 ghost use Rattle.jbig2_base.specs.Bits.{IsAligned};
 ghost use Rattle.jbig2_region.specs.inner.PixelArrays.{filled};
