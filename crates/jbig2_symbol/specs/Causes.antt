@@ -1,6 +1,6 @@
 -- Which rule is broken where a symbol dictionary is refused (T.88, 6.5 and 7.4.2; docs/FORMAT.md, 11), a line an error.
 -- The function that refuses cites its predicate `Breaks..`. An error that a reading gave stands as that reading's own (`IsOf`).
-use Rattle.std.specs.{Prelude.{◌≡◌, ◌≢◌, ◌⊎◌, ◌<◌, ◌≤◌, ℕ, zero, suc, ◌+◌, ◌-◌, ◌*◌, ◌/◌, ◌%◌, ◌==◌, max, ◌&&◌, Bool, false, IsTrue, IsFalse, if◌then◌else◌, List, [], ◌∷◌, length, take, Option, Some, None, Result, Ok, ℤ, pos, negsuc, ◌+ℤ◌}, Int.{w16, w32}}
+use Rattle.std.specs.{Prelude.{◌≡◌, ◌≢◌, ◌⊎◌, ◌<◌, ◌≤◌, ℕ, ◌+◌, ◌-◌, ◌*◌, ◌/◌, ◌%◌, ◌==◌, max, ◌&&◌, Bool, false, IsTrue, IsFalse, if◌then◌else◌, List, [], ◌∷◌, length, take, Option, Some, None, Result, Ok, ℤ, pos, negsuc, ◌+ℤ◌}, Int.{w16, w32}}
 use Rattle.jbig2_base.specs.{Bits.{Place, aligned, bits_left}, Causes.{BreaksSides, InSteps, IsOf, number_in}, Grid.{Grid, bit_number}, declared.error.{DecodeError.{DecodeError}, OverflowError.TheVariants.{SymbolCount, BitmapDimension}, ParseError.TheVariants.{UnexpectedEof}, RegionError.TheVariants.{InvalidMmrData}, SymbolError.TheVariants.{Invalid, NoSymbols, OutOfRange, TooManySymbols, UnexpectedOob}, TemplateError.TheVariants.{InvalidAtPixel}}}
 use Rattle.jbig2_coder.specs.{PrefixCode.{Member}, declared.integer_procedures.IntegerProcedure.TheVariants.{Iaai}}
 use Rattle.jbig2_mmr.specs.Causes.{BreaksMmr}

@@ -1,12 +1,11 @@
 //! The bitmaps of symbols that prefix codes describe: those of a height class stand side by side in
 //! one collective bitmap (T.88, 6.5.9).
-ghost use Rattle.std.specs.Prelude.{◌≡◌, ◌+◌, ◌*◌, ◌<◌, ◌≤◌, length, sum, ℕ};
+ghost use Rattle.std.specs.Prelude.{◌≡◌, ◌+◌, ◌*◌, ◌<◌, ◌≤◌, length, sum};
 ghost use Rattle.jbig2_base.specs.Answer.{Gives};
 ghost use Rattle.jbig2_base.specs.Bits.{IsAligned};
 ghost use Rattle.jbig2_base.specs.inner.Filled.{filled};
 ghost use Rattle.jbig2_symbol.specs.SymbolBitmaps.{symbols_cut, raw_pixel, raw_stride, raw_rows, mmr_bytes, rows_of_size};
 ghost use Rattle.jbig2_symbol.specs.inner.SymbolViews.{put_behind};
-ghost use Rattle.jbig2_base.specs.Grid.{Grid};
 
 use jbig2_base::bitmap::Bitmap;
 use jbig2_base::bitmap::part::Area;

@@ -1,5 +1,5 @@
 //! Symbol dictionaries by the arithmetic coder (T.88, 6.5).
-ghost use Rattle.std.specs.Prelude.{◌≡◌, ◌≤◌, length, Ok, List, ℕ};
+ghost use Rattle.std.specs.Prelude.{◌≡◌, ◌≤◌, length, Ok};
 ghost use Rattle.jbig2_base.specs.Answer.{Answers, Gives};
 ghost use Rattle.jbig2_text.specs.TextCoding.{Coded};
 ghost use Rattle.jbig2_text.specs.inner.TextViews.{params_view};
@@ -7,11 +7,9 @@ ghost use Rattle.jbig2_symbol.specs.SymbolBitmaps.{coded_aggregate, coded_instan
 ghost use Rattle.jbig2_symbol.specs.Causes.{BreaksCodedAggregate};
 ghost use Rattle.jbig2_symbol.specs.SymbolCoding.{coded_bitmap, coder_begun};
 ghost use Rattle.jbig2_symbol.specs.inner.HeaderViews.{contexts_view, header_view};
-ghost use Rattle.jbig2_symbol.specs.SymbolReading.{SymbolInput as Input, SymbolState, by_procedure};
+ghost use Rattle.jbig2_symbol.specs.SymbolReading.{SymbolState, by_procedure};
 ghost use Rattle.jbig2_symbol.specs.inner.SymbolViews.{coded_view, input_view};
 ghost use Rattle.jbig2_base.specs.Causes.{HasCauseOrNoMemory};
-ghost use Rattle.jbig2_base.specs.Grid.{Grid};
-ghost use Rattle.jbig2_symbol.specs.SymbolHeader.{SymbolHeader};
 
 use crate::symbol::aggregates::{
     SymbolSize, aggregate_params, instance_count, put_together, refine_alone, state_bits,

@@ -211,7 +211,7 @@ pub fn read_exports<R: ReadClasses, A: Allocator + Clone, T: Allocator, L: Ledge
         let meant = exports R.readings d all (R.state readings.old) in
         Gives (λ symbols. (symbols.items, R.state readings.new)) result meant }
     ensures causes { let d = input_view input.now in
-        let all = all_symbols input.now.symbols.now new.now in
+        let all = all_symbols input.now.symbols.now new.items in
         HasCauseOrNoMemory result (BreaksExports R.readings d all (R.state readings.old)) }
 {
     let count = input.symbols.len() as u64 + new.len() as u64;

@@ -1,5 +1,5 @@
 //! The header of a symbol dictionary (T.88, 7.4.2.1).
-ghost use Rattle.std.specs.Prelude.{◌≡◌, ◌/◌, ◌%◌, ◌≤◌, IfOk, OnErr, Bool};
+ghost use Rattle.std.specs.Prelude.{◌≡◌, ◌/◌, ◌%◌, ◌≤◌, IfOk, OnErr};
 ghost use Rattle.jbig2_base.specs.Answer.{Answers};
 ghost use Rattle.jbig2_base.specs.Bits.{IsAligned};
 ghost use Rattle.jbig2_region.specs.inner.PixelArrays.{filled};
@@ -9,7 +9,6 @@ ghost use Rattle.jbig2_symbol.specs.declared.symbol.header.HuffmanTableSelection
 ghost use Rattle.jbig2_symbol.specs.inner.HeaderViews.{coded_pixels, header_view, refined_pixels};
 ghost use Rattle.jbig2_base.specs.Causes.{HasCause};
 ghost use Rattle.jbig2_symbol.specs.Causes.{BreaksSymbolHeader};
-ghost use Rattle.std.specs.Int.{w16};
 
 use jbig2_base::error::{DecodeError, HuffmanError, OverflowError, Result};
 use jbig2_base::field::{u16_field, u32_field};

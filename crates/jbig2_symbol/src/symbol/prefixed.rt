@@ -1,5 +1,5 @@
 //! Symbol dictionaries by prefix codes (T.88, 6.5).
-ghost use Rattle.std.specs.Prelude.{◌≡◌, ◌≤◌, length, List, ℕ};
+ghost use Rattle.std.specs.Prelude.{◌≡◌, ◌≤◌, length};
 ghost use Rattle.jbig2_base.specs.Answer.{Answers, Gives};
 ghost use Rattle.jbig2_base.specs.Bits.{Place};
 ghost use Rattle.jbig2_text.specs.TextCoding.{by_prefix_codes};
@@ -7,11 +7,10 @@ ghost use Rattle.jbig2_text.specs.inner.TextViews as texts;
 ghost use Rattle.jbig2_symbol.specs.Causes.{BreaksCollectiveBitmap, BreaksPrefixedAggregate};
 ghost use Rattle.jbig2_symbol.specs.SymbolBitmaps.{by_instances, collective_bitmap, plain_id, prefixed_aggregate, prefixed_instances};
 ghost use Rattle.jbig2_symbol.specs.SymbolCoding.{collective_class, prefix_codes_begun};
-ghost use Rattle.jbig2_symbol.specs.SymbolReading.{SymbolInput as Input, SymbolState, by_table};
+ghost use Rattle.jbig2_symbol.specs.SymbolReading.{SymbolState, by_table};
 ghost use Rattle.jbig2_symbol.specs.inner.HeaderViews.{contexts_view};
 ghost use Rattle.jbig2_symbol.specs.inner.SymbolViews.{behind, input_view, prefixed_view};
 ghost use Rattle.jbig2_base.specs.Causes.{HasCauseOrNoMemory};
-ghost use Rattle.jbig2_base.specs.Grid.{Grid};
 
 use crate::symbol::aggregates::{
     SymbolSize, aggregate_params, id_bits, instance_count, put_together, refine_alone,
