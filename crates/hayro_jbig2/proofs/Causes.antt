@@ -1,8 +1,8 @@
 -- Which rule is broken where a file is refused.
-use Rattle.std.proofs.Common.{◌≡◌, ◌≢◌, ◌⊎◌, ℕ, suc, Bool, true, false, not, ◌&&◌, ◌==◌, List, [], ◌∷◌, length, slice_get, Option, Some, None, Result, Ok, Err, refl, sym, ◌∙◌, arith}
+use Rattle.std.proofs.Common.{◌≡◌, ◌≢◌, ◌⊎◌, ℕ, suc, Bool, true, not, ◌&&◌, ◌==◌, List, [], ◌∷◌, length, slice_get, Option, Some, None, Result, Ok, Err, refl, sym, ◌∙◌, arith}
 use Rattle.std.proofs.lemmas.Bool.{and_parts, eq-eqb, eqb-true, false≢true, not-true}
 use Rattle.std.specs.Prelude.{Any, IfErr, IsTrue, option_map}
-use Rattle.jbig2_base.specs.Answer.{◌>>=◌, refuse_if, some_or}
+use Rattle.jbig2_base.specs.Answer.{refuse_if, some_or}
 use Rattle.jbig2_base.specs.File.{file_at}
 use Rattle.jbig2_base.specs.PageInfo.{initial_page_of}
 use Rattle.jbig2_base.specs.Segment.{SegmentView}

@@ -1,5 +1,5 @@
 -- What a segment of a page gives, by its type.
-use Rattle.std.proofs.Common.{ℕ, Bool, true, false, List, Result}
+use Rattle.std.proofs.Common.{ℕ, Bool, List, Result}
 use Rattle.jbig2_base.specs.Segment.{Header, SegmentView}
 use Rattle.jbig2_base.specs.declared.error.DecodeError.{DecodeError}
 use Rattle.jbig2_base.specs.declared.segment.SegmentType.{SegmentType}

@@ -1,6 +1,6 @@
 -- Which rule is broken where a file or a reference of a segment is refused (docs/FORMAT.md, 1, 4 and 8), a line for each
 -- error. The function that refuses cites its predicate `Breaks..`.
-use Rattle.std.specs.{Prelude.{◌≡◌, ◌≢◌, ◌⊎◌, ◌<◌, ◌≤◌, ℕ, Bool, IsTrue, List, [], length, slice_get, Any, None, Some, option_and_then, unwrap_or, Result, IfErr, IfOk}, List.{flat_map}, Int.{w32}, Option.{option_map_or}}
+use Rattle.std.specs.{Prelude.{◌≡◌, ◌≢◌, ◌⊎◌, ◌<◌, ◌≤◌, ℕ, Bool, IsTrue, List, [], length, slice_get, Any, None, Some, option_and_then, unwrap_or, IfErr, IfOk}, List.{flat_map}, Int.{w32}, Option.{option_map_or}}
 use Rattle.jbig2_base.specs.{Causes.{BreaksInitialPage, InSteps, number_in}, File.{file_at}, Grid.{Grid}, Segment.{SegmentView}, declared.{error.{DecodeError.{DecodeError, TheVariants.{OutOfMemory, Parse, Format, Huffman, Segment, Overflow, Template, Unsupported}}, FormatError.TheVariants.{MissingPageInfo, PageCountMismatch, InvalidEndOfPage}, HuffmanError.TheVariants.{ConflictingCodes}, OverflowError.TheVariants.{Index, SymbolCount}, ParseError.TheVariants.{UnexpectedEof}, SegmentError.TheVariants.{InvalidReference, MissingPatternDictionary, MissingPageAssociation}, TemplateError.TheVariants.{Invalid}}, file_header.FileHeader.{FileHeader}}}
 use Rattle.jbig2_region.specs.{Causes.{BreaksOffset, BreaksRefinementHeader}, RegionInfo.{PlacedRegion}, RefinementHeader.{refinement_header_at}}
 use Rattle.jbig2_text.specs.Causes.{Behind}

@@ -1,17 +1,15 @@
 //! Files of pages.
-ghost use Rattle.std.specs.Prelude.{◌≡◌, ℕ, Ok, IfErr, length, slice_get, Bool, List};
+ghost use Rattle.std.specs.Prelude.{◌≡◌, ℕ, Ok, IfErr, length, slice_get};
 ghost use Rattle.std.specs.Map.Iter.{GivesInOrder};
 ghost use Rattle.jbig2_base.specs.Answer.{Answers, Gives};
 ghost use Rattle.jbig2_base.specs.inner.SegmentViews.{header_view, segment_views};
 ghost use Rattle.hayro_jbig2.specs.inner.ByPages.{pages_view};
 ghost use Rattle.hayro_jbig2.specs.Files.{needs_page, lacks_page, associated, is_end_of_page, ends_of, filed_from, filed_each, miscounts, book_at, shared_by, page_of, pages_of, PagesStandAlone};
-ghost use Rattle.hayro_jbig2.specs.Names.{named_from};
 ghost use Rattle.hayro_jbig2.specs.Page.{ReadPage};
 ghost use Rattle.hayro_jbig2.specs.Returned.{IsReturned};
 ghost use Rattle.hayro_jbig2.specs.inner.PageViews.{kept_names};
 ghost use Rattle.hayro_jbig2.specs.Causes.{BreaksBook};
 ghost use Rattle.jbig2_base.specs.Causes.{HasCauseOrNoMemory};
-ghost use Rattle.jbig2_base.specs.Segment.{SegmentView};
 
 use crate::globals::Globals;
 use crate::page::Page;

@@ -1,12 +1,11 @@
 //! Halftone regions of a page (T.88, 7.4.5).
-ghost use Rattle.std.specs.Prelude.{◌≡◌, IfErr, IfOk, Bool};
+ghost use Rattle.std.specs.Prelude.{◌≡◌, IfErr, IfOk};
 ghost use Rattle.jbig2_base.specs.Answer.{Answers, some_or};
 ghost use Rattle.jbig2_base.specs.inner.SegmentViews.{segment_view};
 ghost use Rattle.hayro_jbig2.specs.Regions.{halftone_at, patterns_for};
 ghost use Rattle.hayro_jbig2.specs.inner.KeptViews.{patterns_view};
 ghost use Rattle.hayro_jbig2.specs.inner.Parsed.{IsDecodable, Leads};
 ghost use Rattle.hayro_jbig2.specs.Causes.{BreaksPatternReference};
-ghost use Rattle.hayro_jbig2.specs.Names.{Names};
 ghost use Rattle.jbig2_base.specs.Causes.{HasCause};
 
 use crate::names::Lookup;

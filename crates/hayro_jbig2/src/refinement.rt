@@ -1,8 +1,7 @@
 //! Refinements on a page (T.88, 7.4.7).
-ghost use Rattle.std.specs.Prelude.{◌≡◌, ◌≤◌, IfOk, Bool, List};
+ghost use Rattle.std.specs.Prelude.{◌≡◌, ◌≤◌, IfOk};
 ghost use Rattle.jbig2_base.specs.Answer.{Answers, Gives};
 ghost use Rattle.jbig2_base.specs.inner.SegmentViews.{segment_view};
-ghost use Rattle.jbig2_region.specs.RegionInfo.{PlacedRegion};
 ghost use Rattle.jbig2_region.specs.inner.RegionViews.{region_view};
 ghost use Rattle.jbig2_region.specs.Refinement.{refined_decoded};
 ghost use Rattle.jbig2_region.specs.RefinementHeader.{IsRefinement};
@@ -14,7 +13,6 @@ ghost use Rattle.hayro_jbig2.specs.inner.PageViews.{near_area};
 ghost use Rattle.hayro_jbig2.specs.inner.Parsed.{IsDecodable, Leads};
 ghost use Rattle.hayro_jbig2.specs.Causes.{BreaksRefinement};
 ghost use Rattle.jbig2_base.specs.Causes.{HasCauseOrNoMemory};
-ghost use Rattle.jbig2_base.specs.Grid.{Grid};
 ghost use Rattle.hayro_jbig2.specs.declared.kept.Kept.{Kept};
 
 use crate::kept::{Kept, first_under};

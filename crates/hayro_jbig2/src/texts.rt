@@ -1,9 +1,8 @@
 //! Text regions of a page (T.88, 7.4.3).
-ghost use Rattle.std.specs.Prelude.{IfOk, Bool};
+ghost use Rattle.std.specs.Prelude.{IfOk};
 ghost use Rattle.jbig2_base.specs.inner.SegmentViews.{segment_view};
 ghost use Rattle.hayro_jbig2.specs.Regions.{text_at};
 ghost use Rattle.hayro_jbig2.specs.inner.Parsed.{IsDecodable, Leads};
-ghost use Rattle.hayro_jbig2.specs.Names.{Names};
 
 use crate::parsed_region::ParsedRegion;
 use crate::references::References;
