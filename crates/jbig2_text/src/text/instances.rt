@@ -1,5 +1,5 @@
 //! The instances of a text region (T.88, 6.4.5).
-ghost use Rattle.std.specs.Prelude.{◌≡◌, ◌*◌, ◌≤◌, [], nat_lt, option_map, OnErr};
+ghost use Rattle.std.specs.Prelude.{◌≡◌, ◌*◌, ◌≤◌, [], nat_lt, option_map, IfErr, OnErr};
 ghost use Rattle.jbig2_base.specs.Answer.{Gives};
 ghost use Rattle.jbig2_text.specs.Text.{with_symbol, with_instance, after_instances, text_instances, instances_drawn, text_region};
 ghost use Rattle.jbig2_text.specs.inner.Parts.{some_strips, strips, with_last, with_next_instance};
@@ -86,9 +86,6 @@ fn read_instance<'a, R: ReadInstances, B: Allocator, M: Allocator + Clone, C: Al
     let id = readings.id(steps)?;
     let alloc = placed.instances.allocator().clone()?;
     let symbol = read_symbol(alloc, readings, refining, params, id, steps)?;
-    if let Some(symbol) = &symbol {
-        steps.pay_bitmap(symbol.width(), symbol.height())?;
-    }
     placed.push_symbol(&params.flags, t, symbol)
 }
 
@@ -133,6 +130,19 @@ fn read_inner<'a, R: ReadInstances, B: Allocator, M: Allocator + Clone, C: Alloc
     Ok(())
 }
 
+/// Takes the work of drawing these instances.
+fn pay_symbols<B: Allocator, M: Allocator, L: Ledger>(
+    instances: &[Instance<'_, B, M>],
+    steps: &mut Steps<L>,
+) -> Result<()>
+    ensures { IfErr result (λ e. e ≡ DecodeError.OutOfMemory) }
+{
+    for instance in instances {
+        steps.pay_bitmap(instance.symbol.width(), instance.symbol.height())?;
+    }
+    Ok(())
+}
+
 /// Reads the last instance, and the difference of S after it.
 fn read_last<'a, R: ReadInstances, B: Allocator, M: Allocator + Clone, C: Allocator, L: Ledger>(
     readings: &mut R,
@@ -150,6 +160,7 @@ fn read_last<'a, R: ReadInstances, B: Allocator, M: Allocator + Clone, C: Alloca
     read_instance(readings, refining, params, &mut placed, steps)?;
     let end = readings.delta_s(steps);
     check_end(params.strict, end)?;
+    pay_symbols(&placed.instances, steps)?;
     Ok(placed.instances)
 }
 
