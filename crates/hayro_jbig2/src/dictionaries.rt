@@ -33,7 +33,7 @@ fn decode_symbols<A: Allocator + Clone, L: Ledger>(
     workspace: &Workspace<A>,
     steps: &mut Steps<L>,
 ) -> Result<SymbolDictionary<A>>
-    ensures value { Gives (λ d. symbols_view d) result
+    ensures { Gives (λ d. symbols_view d) result
         (symbol_dictionary_at lookup.now.strict lookup.now.own.now lookup.now.globals.now
         (segment_view segment.now)) }
 {

@@ -9,7 +9,7 @@ use Rattle.jbig2_base.specs.declared.error.DecodeError.{DecodeError}
 use Rattle.jbig2_base.proofs.CountLemmas.{written-none}
 use Rattle.jbig2_base.proofs.FillLemmas.{white-made}
 use Rattle.jbig2_base.proofs.LaneCounts.{lanes-none, lanes-then}
-use Rattle.jbig2_region.specs.inner.Layouts.{CountsGeneric}
+use Rattle.jbig2_region.specs.GenericSteps.{CountsGeneric}
 use Rattle.jbig2_region.specs.Templates.{left, right}
 use Rattle.jbig2_region.specs.inner.PixelArrays.{pixels_view}
 use Rattle.jbig2_region.specs.declared.template.GenericTemplatePixels.TheVariants.{Regular}
@@ -67,7 +67,7 @@ cut-sized collective w h n items e =
 
 -- ---- steps
 clash : (b : Bool) → b ≡ true → b ≡ false → ⊥
-clash b yes no = cc
+clash b is other = cc
 
 -- a collective bitmap that is refused: without MMR no step was taken
 pub collective-stops : (h : PatternHeader) (old new : Counts) → (h.mmr ≡ false → new ≡ old) → StopsDictionary h old new
@@ -83,14 +83,6 @@ refused-lanes h old new mmr none = by_mmr h.mmr refl
     by_mmr : (b : Bool) → h.mmr ≡ b → KeepsLanes old new
     by_mmr true is = mmr is
     by_mmr false coded = subst (λ (s : Counts). KeepsLanes old s) (sym (none coded)) (lanes-none old)
-
--- one that is decoded
-pub collective-lanes : (h : PatternHeader) (old new : Counts) → (h.mmr ≡ true → KeepsLanes old new) → CountsGeneric (collective_header h) old new → KeepsLanes old new
-collective-lanes h old new mmr counts = by_mmr h.mmr refl
-  where
-    by_mmr : (b : Bool) → h.mmr ≡ b → KeepsLanes old new
-    by_mmr true is = mmr is
-    by_mmr false coded = (counts coded).lanes
 
 -- patterns that are cut out of it
 pub cut-lanes : (n : ℕ) (old mid new : Counts) → KeepsLanes old mid → new ≡ words_copied n mid → KeepsLanes old new

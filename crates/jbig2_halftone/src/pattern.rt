@@ -73,7 +73,7 @@ fn side_field(reader: &mut Reader<'_>) -> Result<u8>
 ///
 /// `ParseError::UnexpectedEof` where the bytes do not hold it, or where a pattern has no pixels. An
 /// error leaves the reader where it was. Takes no memory.
-#[tactic(auto, using(crate::proofs::Causes::pattern_header_cause), unfolding(crate::specs::PatternHeader::pattern_header_at))]
+#[tactic(auto, unfolding(crate::specs::PatternHeader::pattern_header_at))]
 pub fn parse<'a>(reader: &mut Reader<'a>, strict: bool) -> Result<PatternDictionaryHeader<'a>>
     requires { IsAligned reader.old }
     ensures value { Answers (λ h. (header_view h, reader.new.bytes)) result

@@ -6,6 +6,7 @@ pub mod ClassCauses
 pub mod ClassLemmas
 pub mod CodedLemmas
 pub mod CutLemmas
+pub mod ExportErrors
 pub mod ExportLemmas
 pub mod ExportedLemmas
 mod IdCodes

@@ -117,7 +117,7 @@ pub fn decode<A: Allocator + Clone, T: Allocator, K: Allocator, L: Ledger>(
 ) -> Result<SymbolDictionary<A>>
     requires few { length symbols.now ≤ 2097152 }
     requires fresh { header.now.num_new_symbols ≤ 1048576 }
-    ensures value { let h = header_view header.now in
+    ensures { let h = header_view header.now in
         let grids = map (λ b. b.now) symbols.now in
         let referred = customs_view referred_tables.now in
         let meant = symbols_decoded h grids referred (kept_view retained_contexts.entry) in

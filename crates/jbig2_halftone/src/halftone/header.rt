@@ -116,7 +116,7 @@ fn parse_grid(reader: &mut Reader<'_>) -> Result<HalftoneGridPositionAndSize>
 /// `parse_region_segment_info`; `RegionError::InvalidCombinationOperator` where the flags name no
 /// operator; `OverflowError::GridDimension` for a grid of more than 65535 columns or rows. An error
 /// leaves the reader where it was. Takes no memory.
-#[tactic(auto, using(crate::proofs::Causes::halftone_header_cause), unfolding(crate::specs::HalftoneHeader::halftone_header_at))]
+#[tactic(auto, unfolding(crate::specs::HalftoneHeader::halftone_header_at))]
 pub fn parse<'a>(reader: &mut Reader<'a>, strict: bool) -> Result<HalftoneRegionHeader<'a>>
     requires { IsAligned reader.old }
     ensures value { Answers (λ h. (header_view h, reader.new.bytes)) result

@@ -133,7 +133,7 @@ pub fn cut_symbols<A: Allocator + Clone, B: Allocator, L: Ledger>(
     steps: &mut Steps<L>,
 ) -> Result<()>
     requires { sum widths.now ≤ 4294967295 }
-    ensures value { let cut = symbols_cut collective.now height 0 widths.now in
+    ensures { let cut = symbols_cut collective.now height 0 widths.now in
         let meant = put_behind symbols.old.items cut in
         Gives (λ _. symbols.new.items) result meant }
 {

@@ -92,7 +92,7 @@ pub fn read_drawn_class<R: ReadSymbols, A: Allocator + Clone, T: Allocator, L: L
     requires symbols { length input.now.symbols.now ≤ 2097152 }
     requires fresh { input.now.header.now.num_new_symbols ≤ 1048576 }
     requires room { length bitmaps.old.items ≤ input.now.header.now.num_new_symbols }
-    ensures value { let d = input_view input.now in
+    ensures { let d = input_view input.now in
         let before = bitmaps.old.items in
         let class = drawn_class R.readings d height empty before (R.state readings.old) in
         Gives (λ _. (bitmaps.new.items, R.state readings.new)) result (behind before class) }

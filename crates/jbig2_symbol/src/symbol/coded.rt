@@ -82,7 +82,7 @@ impl<A: Allocator> CodedSymbols<'_, A> {
         height: u32,
         steps: &mut Steps<L>,
     ) -> Result<Bitmap<M>>
-        ensures value { let h = header_view header.now in
+        ensures { let h = header_view header.now in
             let meant = coded_symbol h width height (coded_view self.old) in
             Gives (λ symbol. (symbol, coded_view self.new)) result meant }
     {
@@ -154,7 +154,7 @@ impl<A: Allocator> CodedSymbols<'_, A> {
         size: SymbolSize,
         steps: &mut Steps<L>,
     ) -> Result<Bitmap<M>>
-        ensures value { let d = input_view input.now in
+        ensures { let d = input_view input.now in
             let meant = coded_bitmap d new.now size.width size.height (coded_view self.old) in
             Gives (λ symbol. (symbol, coded_view self.new)) result meant }
     {

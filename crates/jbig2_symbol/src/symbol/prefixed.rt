@@ -195,7 +195,7 @@ impl<'a, A: Allocator> PrefixedSymbols<'a, A> {
         steps: &mut Steps<L>,
     ) -> Result<()>
         requires { length bitmaps.old.items ≤ input.now.header.now.num_new_symbols }
-        ensures value { let d = input_view input.now in
+        ensures { let d = input_view input.now in
             let before = bitmaps.old.items in
             let class = collective_class d height empty before (prefixed_view self.old) in
             Gives (λ _. (bitmaps.new.items, prefixed_view self.new)) result (behind before class) }

@@ -1,5 +1,5 @@
 use Rattle.jbig2_halftone.specs.inner.PatternViews.{header_view}
-use Rattle.jbig2_halftone.proofs.PatternLemmas.{collective-lanes, refused-lanes}
+use Rattle.jbig2_halftone.proofs.PatternLemmas.{refused-lanes}
 use Rattle.jbig2_halftone.proofs.pattern.decode_collective.Goals as goal
 
 pub returns-in_err-decode_into-clause-lanes : goal.returns-in_err-decode_into-clause-lanes
