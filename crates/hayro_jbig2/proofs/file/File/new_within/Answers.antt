@@ -1,4 +1,4 @@
-use Rattle.std.proofs.Common.{◌≡◌, ℕ, Bool, false, ◌&&◌, List, length, Result, Ok, inr, sym, ap, subst, ◌∙◌}
+use Rattle.std.proofs.Common.{◌≡◌, ◌⊎◌, ℕ, Bool, true, false, ◌&&◌, List, length, Result, Ok, Err, inl, inr, sym, ap, subst, ◌∙◌}
 use Rattle.std.specs.Prelude.{IfErr}
 use Rattle.std.proofs.lemmas.List.{length-map}
 use Rattle.std.proofs.lemmas.Result.{err_from_is_err_and}
@@ -6,14 +6,18 @@ use Rattle.jbig2_base.specs.File.{file_at}
 use Rattle.jbig2_base.specs.Segment.{SegmentView}
 use Rattle.jbig2_base.specs.inner.SegmentViews.{file_view, segment_views}
 use Rattle.jbig2_base.specs.declared.error.DecodeError.{DecodeError}
+use Rattle.jbig2_base.specs.declared.error.DecodeError.TheVariants.{Format, OutOfMemory}
+use Rattle.jbig2_base.specs.declared.error.FormatError.TheVariants.{PageCountMismatch}
 use Rattle.jbig2_base.specs.declared.file_header.FileHeader.{FileHeader}
 use Rattle.hayro_jbig2.specs.Causes.{IsAnswered}
 use Rattle.hayro_jbig2.specs.Files.{PageInFile, associated, book_at, by_pages, filed_each, miscounts, of_page, shared_by}
 use Rattle.hayro_jbig2.specs.Names.{Names}
 use Rattle.hayro_jbig2.specs.inner.ByPages.{by_page_view}
 use Rattle.jbig2_base.proofs.Answered.{answered-file}
+use Rattle.jbig2_base.proofs.CauseSteps.{err-gives}
 use Rattle.hayro_jbig2.proofs.Answered.{answered-associated, answered-each}
 use Rattle.hayro_jbig2.proofs.Answering.{returned_error, shared_answered}
+use Rattle.hayro_jbig2.proofs.Causes.{file_cause}
 use Rattle.hayro_jbig2.proofs.file.File.new_within.Goals as goal
 use Rattle.hayro_jbig2.proofs.file.File.new_within.Goals.{else-strict-via-then-strict+else-miscounts, else-strict-via-else-strict}
 
@@ -24,6 +28,21 @@ book-made : (strict : Bool) (bytes : List ℕ) (file : FileHeader × List Segmen
     → book_at strict bytes ≡ Ok (record { strict = strict; pages = pages; globals = globals })
 unfolding book_at
 book-made strict bytes file parts pages globals read known shared own counted filed named = rw (read, known, shared, own, counted, filed, named)
+
+-- a file whose pages are refused
+book-unfiled : (strict : Bool) (bytes : List ℕ) (file : FileHeader × List SegmentView) (parts : List SegmentView × List (List SegmentView)) (e : DecodeError)
+    → file_at strict bytes ≡ Ok file → associated strict file.1 ≡ Ok tt → by_pages file.1 ≡ parts.1
+    → (strict && miscounts file.0.number_of_pages (length parts.1)) ≡ false → (e ≡ OutOfMemory) ⊎ (filed_each strict parts.1 ≡ Err e) → (e ≡ OutOfMemory) ⊎ (book_at strict bytes ≡ Err e)
+unfolding book_at
+book-unfiled strict bytes file parts e read known own counted (inl memory) = inl memory
+book-unfiled strict bytes file parts e read known own counted (inr unfiled) = inr (rw (read, known, own, counted, unfiled))
+
+-- a file that has not as many pages as its header states
+book-miscounted : (strict : Bool) (bytes : List ℕ) (file : FileHeader × List SegmentView) (parts : List SegmentView × List (List SegmentView))
+    → file_at strict bytes ≡ Ok file → associated strict file.1 ≡ Ok tt → by_pages file.1 ≡ parts.1
+    → (strict && miscounts file.0.number_of_pages (length parts.1)) ≡ true → book_at strict bytes ≡ Err (Format PageCountMismatch)
+unfolding book_at
+book-miscounted strict bytes file parts read known own counted = rw (read, known, own, counted)
 
 -- what an answer of two parts has
 parts-are : (shared : List SegmentView) (pages : List (List SegmentView)) (parts : List SegmentView × List (List SegmentView)) → (let meant : Result (List SegmentView × List (List SegmentView)) DecodeError = Ok (shared, pages) in meant) ≡ Ok parts → (shared ≡ parts.0) × (pages ≡ parts.1)
@@ -82,3 +101,36 @@ pub returns-in_err-globals-clause-errors : goal.returns-in_err-globals-clause-er
 returns-in_err-globals-clause-errors g c =
     let e = err_from_is_err_and c.from_residual-in_err-globals.result c.from_residual-in_err-globals.ensures.1 in
     rw (e.1, e.2) (returned_error (Ok _) _ tt c.in_err-globals.ensures)
+
+pub returns-in_err-pages-clause-value : goal.returns-in_err-pages-clause-value
+returns-in_err-pages-clause-value g c =
+    let strict = c.args.settings.now.strict in
+    let file : FileHeader × List SegmentView = file_view c.in_ok-file.file in
+    let parts : List SegmentView × List (List SegmentView) = by_page_view c.in_ok-segments.segments in
+    let known : associated strict file.1 ≡ Ok tt = ap (λ s. associated strict (segment_views s)) (sym c.deref.ensures.value) ∙ c.in_ok-check_associations.ensures in
+    let split = parts-are (of_page 0 file.1) (by_pages file.1) parts c.in_ok-segments.ensures in
+    let length_is : length parts.1 ≡ length c.in_ok-segments.segments.pages.items = length-map c.in_ok-segments.segments.pages.items _ in
+    let counted : (strict && miscounts file.0.number_of_pages (length parts.1)) ≡ false = elim c.else-strict.branch [
+      | else-strict-via-then-strict+else-miscounts w ↦
+          ap (λ (b : Bool). b && miscounts file.0.number_of_pages (length parts.1)) w.if-strict.true
+          ∙ ap (λ (n : ℕ). miscounts file.0.number_of_pages n) (length_is ∙ sym (w.len.ensures ∙ c.in_ok-segments.segments.pages.ok.0)) ∙ sym w.miscounts.ensures ∙ w.if-miscounts.false
+      | else-strict-via-else-strict w ↦ ap (λ (b : Bool). b && miscounts file.0.number_of_pages (length parts.1)) w.if-strict.false
+    ] in
+    let e = err_from_is_err_and c.from_residual-in_err-pages.result c.from_residual-in_err-pages.ensures.1 in
+    rw (e.1, e.2) (book-unfiled strict c.args.bytes.now file parts c.in_err-pages.field-0.0 c.in_ok-file.ensures.value known split.1 counted c.in_err-pages.ensures)
+
+pub returns-in_err-pages-clause-causes : goal.returns-in_err-pages-clause-causes
+returns-in_err-pages-clause-causes g c = file_cause c.args.settings.now.strict c.args.bytes.now _ (err-gives _ _ _ (returns-in_err-pages-clause-value g c))
+
+pub returns-then-miscounts-clause-causes : goal.returns-then-miscounts-clause-causes
+returns-then-miscounts-clause-causes g c =
+    let strict = c.args.settings.now.strict in
+    let file : FileHeader × List SegmentView = file_view c.in_ok-file.file in
+    let parts : List SegmentView × List (List SegmentView) = by_page_view c.in_ok-segments.segments in
+    let known : associated strict file.1 ≡ Ok tt = ap (λ s. associated strict (segment_views s)) (sym c.deref.ensures.value) ∙ c.in_ok-check_associations.ensures in
+    let split = parts-are (of_page 0 file.1) (by_pages file.1) parts c.in_ok-segments.ensures in
+    let length_is : length parts.1 ≡ length c.in_ok-segments.segments.pages.items = length-map c.in_ok-segments.segments.pages.items _ in
+    let counted : (strict && miscounts file.0.number_of_pages (length parts.1)) ≡ true =
+    ap (λ (b : Bool). b && miscounts file.0.number_of_pages (length parts.1)) c.if-strict.true
+    ∙ ap (λ (n : ℕ). miscounts file.0.number_of_pages n) (length_is ∙ sym (c.len.ensures ∙ c.in_ok-segments.segments.pages.ok.0)) ∙ sym c.miscounts.ensures ∙ c.if-miscounts.true in
+    file_cause strict c.args.bytes.now _ (inr (book-miscounted strict c.args.bytes.now file parts c.in_ok-file.ensures.value known split.1 counted))
