@@ -9,10 +9,12 @@ from conformance.runner.embedding import Embedded, embedded_page, file_of
 from conformance.runner.segments import pages_of, segments_of_file, sequential
 from conformance.suite.all_cases import all_written
 from conformance.suite.case import COLUMNS, EMBEDDED, PICTURE, Written
-from jbig2_encoder.framing import EXTENSION, TABLE, page_information, segment
+from jbig2_encoder.fields import field
+from jbig2_encoder.framing import SYMBOL_DICTIONARY, TABLE, page_information, segment
 
 from .repeated import repeated
 
+PROFILES = 52
 # How often the segments of a page are repeated.
 TIMES = 20
 PAGES, PAGE, SUM, STRICT, LENIENT = map(COLUMNS.index, ("pages", "page", "picture", "strict", "lenient"))
@@ -29,9 +31,9 @@ class Subject:
     wanted: tuple[tuple[str, str], ...] | None = None
 
     @property
-    def shared_length(self) -> int:
-        """How many bytes are read before pages are: those of the file, or of the globals."""
-        return len(self.page.shared if self.file is None else self.file)
+    def length(self) -> int:
+        """How many bytes are read."""
+        return len(self.page.stream + self.page.shared if self.file is None else self.file)
 
     @property
     def table_bytes(self) -> int:
@@ -67,15 +69,20 @@ def subjects_of_case(case: Written) -> Iterator[Subject]:
 
 
 def made_up() -> Iterator[Subject]:
-    """Pages with what asks for memory in proportion to its bytes: lines of a table, and segments without data."""
-    page, lines, segments = segment(0, 48, page_information(8, 1)), 1 << 16, 10000
+    """Pages with what asks for the most memory for its work: lines of a table, symbol dictionaries without symbols, and
+    segments without data. Each is also a file and what a page shares."""
+    page, lines, many = segment(0, 48, page_information(8, 1)), 1 << 16, 1025
     table = bytes(5) + lines.to_bytes(4, "big") + bytes(lines // 4 + 1)
-    for name, stream in (
-        ("a table of many lines", page + segment(1, TABLE, table)),
-        ("many segments", page + b"".join(segment(1 + at, EXTENSION, bytes(4)) for at in range(segments))),
+    dictionary = field("flags", 2, 2) + bytes.fromhex("03FFFDFF02FEFEFE FFFFFFFF") + bytes(8)
+    for name, kind, data, times in (
+        ("a table of many lines", TABLE, table, 1),
+        ("symbol dictionaries without symbols", SYMBOL_DICTIONARY, dictionary, many),
+        ("segments without data", PROFILES, b"", many),
     ):
-        yield Subject(name, Embedded(stream))
-        yield Subject(f"{name}, as a file", Embedded(b""), file_of(Embedded(stream)))
+        own, shared = (b"".join(segment(1 + at, kind, data, page=page) for at in range(times)) for page in (1, 0))
+        yield Subject(name, Embedded(page + own))
+        yield Subject(f"{name}, shared", Embedded(page, shared))
+        yield Subject(f"{name}, as a file", Embedded(b""), file_of(Embedded(page + own)))
 
 
 def of_suite(with_repeated: bool = False) -> list[Subject]:

@@ -31,13 +31,14 @@ class Found:
     checks: int = 0
     faults: list[str] = dataclasses.field(default_factory=list)
     pages: list[Taken] = dataclasses.field(default_factory=list)
+    refused: list[Taken] = dataclasses.field(default_factory=list)
     shared: list[Taken] = dataclasses.field(default_factory=list)
     reading: list[Taken] = dataclasses.field(default_factory=list)
 
     @property
     def lists(self) -> tuple[list, ...]:
         """All that is listed."""
-        return self.faults, self.pages, self.shared, self.reading
+        return self.faults, self.pages, self.refused, self.shared, self.reading
 
     def check(self, holds: bool, what: str) -> None:
         """Notes a check."""
@@ -136,7 +137,7 @@ class Trial:
             self.check(memory.held == 0, f"memory is given back, shared within {work}")
         # Without any work the segments are read, and nothing of them is decoded.
         reading, all_asked = (memory.asked for memory in memories)
-        self.found.reading.append(Taken(self.name, 0, reading, self.subject.shared_length))
+        self.found.reading.append(Taken(self.name, 0, reading, self.subject.length))
         self.found.shared.append(Taken(self.name, units, all_asked - reading, self.subject.table_bytes))
 
     def try_page(self, page: Page) -> Drawn:
@@ -163,19 +164,25 @@ class Trial:
         with self.shared(memory=memory) as shared:
             for index, (_, page) in enumerate(self.pages(shared, memory) if shared.answer == OK else ()):
                 if page:
-                    units = self.measured(page, LARGE, index, memory)
-                    for work in {units - 1, units // 2} if units else ():
-                        self.measured(page, work, index, memory)
+                    self.measure_page(page, f"{self.name}, page {index}", memory)
         self.check(memory.held == 0, "memory is given back")
 
-    def measured(self, page: Page, work: int, index: int, memory: CountingMemory) -> int:
-        """Notes what a page takes and asks for within a limit, in a context of its own."""
-        with self.context(memory) as made:
-            context, before = Context(made), memory.asked
-            left = context.within(page, work)[1]
-            taken = Taken(f"{self.name}, page {index}", work - left, memory.asked - before, self.subject.table_bytes)
-            self.found.pages.append(taken)
-        return work - left
+    def measure_page(self, page: Page, name: str, memory: CountingMemory) -> None:
+        """Notes what a page takes and asks for, also where it is refused, each time in a context of its own."""
+
+        def taken(work: int, read: int) -> Taken:
+            with self.context(memory) as made:
+                context, before = Context(made), memory.asked
+                left = context.within(page, work)[1]
+                return Taken(name, work - left, memory.asked - before - read, self.subject.table_bytes)
+
+        # An embedded page is read again, which costs no work.
+        read = taken(0, 0).asked
+        whole = taken(LARGE, read)
+        self.found.reading.append(Taken(name, 0, read, self.subject.length))
+        self.found.pages.append(whole)
+        if whole.units:
+            self.found.refused += (taken(work, read) for work in {whole.units - 1, whole.units // 2})
 
     def compare(self, shared: Made, drawn: list[Drawn | int]) -> None:
         """Compares what each page comes to with what is wanted."""

@@ -1,7 +1,7 @@
 """The trials of the limit of work, as far as they need no library."""
 import unittest
 
-from conformance.limited.bounds import FOR_A_BYTE, FOR_A_UNIT, most_beside
+from conformance.limited.bounds import Bound
 from conformance.limited.repeated import referred, repeated
 from conformance.limited.subjects import forms_of
 from conformance.limited.trials import SMALL, SPREAD, Taken, least, limits_below
@@ -43,13 +43,13 @@ class LimitedTest(unittest.TestCase):
     def test_a_file_has_its_pages_as_embedded_ones(self):
         table = segment(3, 53, bytes(7))
         file, page = forms_of("file", HEADER + PAGE + table, 1)
-        self.assertEqual((file.shared_length, file.table_bytes), (len(HEADER + PAGE + table), 7))
-        self.assertEqual((page.page.stream, page.shared_length, page.table_bytes), (PAGE + table, 0, 7))
+        self.assertEqual((file.length, file.table_bytes), (len(HEADER + PAGE + table), 7))
+        self.assertEqual((page.page.stream, page.length, page.table_bytes), (PAGE + table, len(PAGE + table), 7))
 
-    def test_what_is_asked_for_beside(self):
-        paid = Taken("paid", 10, 10 * FOR_A_UNIT + 2 * FOR_A_BYTE + 5, 2)
-        self.assertEqual(most_beside([Taken("less", 1, 3, 0), paid]), (5, "paid"))
-        self.assertEqual(most_beside([])[0], 0)
+    def test_what_is_asked_for_besides(self):
+        bound = Bound(10, 3, 7)
+        self.assertEqual(bound.most([Taken("less", 1, 3, 0), Taken("more", 4, 51, 2)]), (5, "more"))
+        self.assertEqual(bound.most([])[0], 0)
 
 
 if __name__ == "__main__":
