@@ -22,13 +22,17 @@ PAGES, PAGE, SUM, STRICT, LENIENT = map(COLUMNS.index, ("pages", "page", "pictur
 
 @dataclasses.dataclass(frozen=True)
 class Subject:
-    """A file, or an embedded page where there is no file. `wanted` has what each page comes to in lenient and in strict
-    reading, the sum of its PBM file or the text of an error; it is None where nothing is known."""
+    """A file, or an embedded page where there is no file.
+
+    `wanted` has what each page comes to in lenient and in strict reading, the sum of its PBM file or the text of an
+    error. `units` is what each page takes by docs/FORMAT.md, 12.6. They are None where nothing is known.
+    """
 
     name: str
     page: Embedded
     file: bytes | None = None
     wanted: tuple[tuple[str, str], ...] | None = None
+    units: int | None = None
 
     @property
     def length(self) -> int:
@@ -80,9 +84,12 @@ def made_up() -> Iterator[Subject]:
         ("segments without data", PROFILES, b"", many),
     ):
         own, shared = (b"".join(segment(1 + at, kind, data, page=page) for at in range(times)) for page in (1, 0))
-        yield Subject(name, Embedded(page + own))
-        yield Subject(f"{name}, shared", Embedded(page, shared))
-        yield Subject(f"{name}, as a file", Embedded(b""), file_of(Embedded(page + own)))
+        # Two bitmaps of one word, and the segments, of which the page's information is one.
+        alone = 2 * (64 + 64) + 1024
+        whole = Embedded(page + own)
+        yield Subject(name, whole, units=alone + 1024 * times)
+        yield Subject(f"{name}, shared", Embedded(page, shared), units=alone)
+        yield Subject(f"{name}, as a file", Embedded(b""), file_of(whole), units=alone + 1024 * times)
 
 
 def of_suite(with_repeated: bool = False) -> list[Subject]:

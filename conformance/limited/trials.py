@@ -148,6 +148,7 @@ class Trial:
             free, large = context.drawn(page), context.drawn(page, LARGE)
             self.check(free.left == NO_LIMIT and free.answer != OUT_OF_MEMORY, "a page is drawn without a limit")
             units = LARGE - large.left
+            self.check(self.subject.units in (None, units), f"{self.subject.units} units are paid, not {units}")
             self.check(units < LARGE and large.is_same(free), "a page is the same within a large limit")
             exact = context.drawn(page, units)
             self.check(exact.left == 0 and exact.is_same(free), f"a page is the same within {units}, which is used up")
