@@ -74,7 +74,7 @@ def subjects_of_case(case: Written) -> Iterator[Subject]:
 
 def made_up() -> Iterator[Subject]:
     """Pages with what asks for the most memory for its work: lines of a table, symbol dictionaries without symbols, and
-    segments without data. Each is also a file and what a page shares."""
+    segments without data; and with a faulty table. Each is also a file, and what a page or a file shares."""
     page, lines, many = segment(0, 48, page_information(8, 1)), 1 << 16, 1025
     table = bytes(5) + lines.to_bytes(4, "big") + bytes(lines // 4 + 1)
     dictionary = field("flags", 2, 2) + bytes.fromhex("03FFFDFF02FEFEFE FFFFFFFF") + bytes(8)
@@ -82,6 +82,7 @@ def made_up() -> Iterator[Subject]:
         ("a table of many lines", TABLE, table, 1),
         ("symbol dictionaries without symbols", SYMBOL_DICTIONARY, dictionary, many),
         ("segments without data", PROFILES, b"", many),
+        ("a table without data", TABLE, b"", 1),
     ):
         own, shared = (b"".join(segment(1 + at, kind, data, page=page) for at in range(times)) for page in (1, 0))
         # Two bitmaps of one word, and the segments, of which the page's information is one.
@@ -90,6 +91,7 @@ def made_up() -> Iterator[Subject]:
         yield Subject(name, whole, units=alone + 1024 * times)
         yield Subject(f"{name}, shared", Embedded(page, shared), units=alone)
         yield Subject(f"{name}, as a file", Embedded(b""), file_of(whole), units=alone + 1024 * times)
+        yield Subject(f"{name}, shared in a file", Embedded(b""), file_of(Embedded(page, shared)))
 
 
 def of_suite(with_repeated: bool = False) -> list[Subject]:
