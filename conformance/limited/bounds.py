@@ -27,5 +27,6 @@ class Bound:
 # Of decoding. A symbol dictionary without symbols, which costs 1024 units, asks for some 81,300 bytes, most of them for
 # the contexts of the coder. The lines of a custom table, up to four for each byte, are not paid one by one.
 DECODING = Bound(80, 320, 0)
-# Of reading, before any unit is paid: the segments, and the standard tables.
-READING = Bound(0, 56, 22528)
+# Of reading, before any unit is paid: the segments, and the standard tables. For a segment of 11 bytes, the least, some
+# 648 are asked for, where lists have just grown and the segments are not in order.
+READING = Bound(0, 59, 22528)
