@@ -30,7 +30,7 @@ NUMBERS = (0, 1, 255, 256, 65535, 65536, 1 << 20, (1 << 31) - 1, 1 << 31, (1 << 
 REPORT = 20000
 FAULT = re.compile(rb"error: [^\n]+\n")
 MEMORY = b"error: out of memory\n"
-LARGE = 1 << 24
+LARGE, MOST = 1 << 24, 65535 * 65535
 HEADING = re.compile(rb"P4\n(\d+) (\d+)\n")
 
 
@@ -103,12 +103,18 @@ def words_of(chance, sample, data):
     return words, data
 
 
+def area(part):
+    """Width times height, which are eight bytes."""
+    return int.from_bytes(part[:4], "big") * int.from_bytes(part[4:8], "big")
+
+
 def asks_for_much(data):
-    """Whether a file may take long: by a region of 2^24 pixels or more, or by a symbol dictionary, whose sizes are in its coded
-    data. Both are decoded in full (docs/FORMAT.md, 12.5)."""
+    """Whether a file may take long: by a region of 2^24 pixels or more, by a halftone of as many cells, or by a symbol
+    dictionary, whose sizes are in its coded data. All are decoded in full (docs/FORMAT.md, 12.5)."""
     for kind, part in parts_of(data):
-        width, height = int.from_bytes(part[:4], "big"), int.from_bytes(part[4:8], "big")
-        if kind == 0 or 4 <= kind <= 43 and kind != 16 and LARGE <= width * height <= 65535 * 65535:
+        if kind == 0 or 4 <= kind <= 43 and kind != 16 and LARGE <= area(part) <= MOST:
+            return True
+        if kind in (20, 22, 23) and LARGE <= area(part[18:]) <= MOST:
             return True
     return False
 
