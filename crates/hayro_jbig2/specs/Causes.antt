@@ -1,35 +1,36 @@
 -- Which rule is broken where a file, a page or one of its segments is refused (docs/FORMAT.md, 1, 4 and 8), a line for
 -- each error. Errors of steps that lower crates define stand here as the step's own (`IsOf`): the laws there say more.
 use Rattle.std.specs.{Prelude.{◌≡◌, ◌≢◌, ◌⊎◌, ◌<◌, ◌≤◌, ℕ, suc, Bool, true, false, IsTrue, IsFalse, List, [], length, take, slice_get, Any, Option, Some, None, MatchOption, option_and_then, unwrap_or, Result, Ok, IfErr, IfOk}, List.{AllByRecursion, flat_map}, Int.{w32}, Option.{option_map_or}}
-use Rattle.jbig2_base.specs.{Answer.{◌>>=◌}, Causes.{InSteps, IsOf, number_in}, File.{file_at}, Grid.{Grid}, PageInfo.{initial_page_of, is_page_information}, Segment.{SegmentView}, Sequential.{sorted_segments}, declared.{error.{DecodeError.{DecodeError, TheVariants.{OutOfMemory, Parse, Format, Huffman, Segment, Overflow, Template, Unsupported}}, FormatError.TheVariants.{MissingPageInfo, PageCountMismatch, InvalidEndOfPage}, HuffmanError.TheVariants.{ConflictingCodes}, OverflowError.TheVariants.{Index, SymbolCount}, ParseError.TheVariants.{UnexpectedEof}, SegmentError.TheVariants.{InvalidReference, MissingPatternDictionary, MissingPageAssociation}, TemplateError.TheVariants.{Invalid}}, file_header.FileHeader.{FileHeader}, segment.SegmentType.{SegmentType}}}
+use Rattle.jbig2_base.specs.{Answer.{◌>>=◌}, Causes.{InSteps, IsOf, number_in}, File.{file_at}, Grid.{Grid}, PageInfo.{is_page_information}, Reading.{is_salvaged, is_strict}, Segment.{SegmentView}, Sequential.{sorted_segments}, declared.{error.{DecodeError.{DecodeError, TheVariants.{OutOfMemory, Parse, Format, Huffman, Segment, Overflow, Template, Unsupported}}, FormatError.TheVariants.{MissingPageInfo, PageCountMismatch, InvalidEndOfPage}, HuffmanError.TheVariants.{ConflictingCodes}, OverflowError.TheVariants.{Index, SymbolCount}, ParseError.TheVariants.{UnexpectedEof}, SegmentError.TheVariants.{InvalidReference, MissingPatternDictionary, MissingPageAssociation}, TemplateError.TheVariants.{Invalid}}, file_header.FileHeader.{FileHeader}, reading.Reading.{Reading, TheVariants.{Lenient}}, segment.SegmentType.{SegmentType}}}
 use Rattle.jbig2_region.specs.{RegionInfo.{PlacedRegion}, Refinement.{refined_decoded}, RefinementHeader.{refinement_header_at}}
 use Rattle.jbig2_halftone.specs.{Halftone.{halftone_decoded}, HalftoneHeader.{halftone_header_at}}
 use Rattle.jbig2_text.specs.{TextHeader.{text_header_at}, TextRegion.{text_decoded}}
 use Rattle.jbig2_symbol.specs.{SymbolHeader.{symbol_header_at}, Symbols.{symbols_decoded}}
-use Rattle.hayro_jbig2.specs.{Files.{book_at, by_pages, ends_of, needs_page}, Names.{globals_at, named_from, Names, Referred, code_at, first_named, named, no_names, pattern_dictionary_at, referred_by}, Image.{first_page}, Page.{Drawing, ReadPage, drawing_of_page, embedded, ends_page, grid_of_page, page_begun, region_type, segments_drawn}, Regions.{generic_at, page_area, patterns_for}, declared.{kept.Kept.{Kept}, region.RegionKind.{RegionKind}}}
+use Rattle.hayro_jbig2.specs.{Files.{book_at, by_pages, ends_of, needs_page}, Names.{globals_at, named_from, Names, Referred, Shared, nothing_shared, code_at, first_named, named, no_names, pattern_dictionary_at, referred_by}, Image.{first_page}, Page.{Drawing, ReadPage, beginning_of, drawing_of_page, embedded, ends_page, grid_of_page, page_begun, region_type, segments_drawn}, Regions.{generic_at, page_area, patterns_for}, declared.{kept.Kept.{Kept}, region.RegionKind.{RegionKind}}}
 use Rattle.jbig2_base.specs.declared.segment.SegmentType.TheVariants as types
 use Rattle.hayro_jbig2.specs.declared.region.RegionKind.TheVariants as kinds
 
 -- ---- files (7.2.6, 7.4.8, 7.4.9 and D.4.3)
 -- What a page begins as: none of its segments is page information, or the first of these breaks a rule.
-abbrev pub BreaksBeginning : List SegmentView → DecodeError → Type 0
-BreaksBeginning own (Format MissingPageInfo) = AllByRecursion (λ p. IsFalse (is_page_information p.header.segment_type)) own
-BreaksBeginning own e = IsOf (initial_page_of own) e
+abbrev pub BreaksBeginning : Reading → List SegmentView → DecodeError → Type 0
+BreaksBeginning reading own (Format MissingPageInfo) = AllByRecursion (λ p. IsFalse (is_page_information p.header.segment_type)) own
+BreaksBeginning reading own e = IsOf (beginning_of reading own) e
 
--- The pages of a file with this header and these segments. Three of the rules are those of strict reading alone.
-abbrev pub BreaksPages : Bool → FileHeader → List SegmentView → DecodeError → Type 0
-BreaksPages strict h ps (Segment MissingPageAssociation) =
-    IsTrue strict × Any (λ p. (p.header.page_association ≡ 0) × IsTrue (needs_page p.header.segment_type)) ps
-BreaksPages strict h ps (Format PageCountMismatch) = IsTrue strict × (told : ℕ) × (h.number_of_pages ≡ Some told) × (told ≢ length (by_pages ps))
-BreaksPages strict h ps (Format InvalidEndOfPage) = IsTrue strict × Any (λ own. ends_of own ≢ 1) (by_pages ps)
-BreaksPages strict h ps e = Any (λ own. BreaksBeginning own e) (by_pages ps)
+-- The pages of a file with this header and these segments. Three of the rules are those of strict reading alone, and
+-- salvage leaves a page out that breaks one of the others.
+abbrev pub BreaksPages : Reading → FileHeader → List SegmentView → DecodeError → Type 0
+BreaksPages reading h ps (Segment MissingPageAssociation) =
+    IsTrue (is_strict reading) × Any (λ p. (p.header.page_association ≡ 0) × IsTrue (needs_page p.header.segment_type)) ps
+BreaksPages reading h ps (Format PageCountMismatch) = IsTrue (is_strict reading) × (told : ℕ) × (h.number_of_pages ≡ Some told) × (told ≢ length (by_pages ps))
+BreaksPages reading h ps (Format InvalidEndOfPage) = IsTrue (is_strict reading) × Any (λ own. ends_of own ≢ 1) (by_pages ps)
+BreaksPages reading h ps e = IsFalse (is_salvaged reading e) × Any (λ own. BreaksBeginning reading own e) (by_pages ps)
 
-abbrev pub BreaksBook : Bool → List ℕ → DecodeError → Type 0
-BreaksBook strict bytes e = InSteps (file_at strict bytes) (IsOf (file_at strict bytes) e) (λ file. BreaksPages strict file.0 file.1 e)
+abbrev pub BreaksBook : Reading → List ℕ → DecodeError → Type 0
+BreaksBook reading bytes e = InSteps (file_at reading bytes) (IsOf (file_at reading bytes) e) (λ file. BreaksPages reading file.0 file.1 e)
 
 abbrev pub FirstPagesHaveCauses : Type 0  -- the first page of a file: the file breaks a rule, or has no page
 FirstPagesHaveCauses = (bytes : List ℕ) → IfErr (first_page bytes) (λ e.
-    InSteps (book_at false bytes) (BreaksBook false bytes e) (λ book. (e ≡ Format MissingPageInfo) × (book.pages ≡ [])))
+    InSteps (book_at Lenient bytes) (BreaksBook Lenient bytes e) (λ book. (e ≡ Format MissingPageInfo) × (book.pages ≡ [])))
 
 -- ---- what a segment refers to (7.3.1)
 -- Too many symbols together, or a number of neither a symbol dictionary nor a custom table.
@@ -89,14 +90,15 @@ BreaksKept strict own shared p e = on p.header.segment_type
     on types.Extension = BreaksExtension strict p.bytes e
     on _ = ⊥
 
--- the segment at place k breaks a rule, and those before it gave these names
-abbrev pub BreaksNames : Bool → List SegmentView → Names → DecodeError → Type 0
-BreaksNames strict ps names e =
-    (k : ℕ) × (p : SegmentView) × (before : Names)
-    × (slice_get ps k ≡ Some p) × (named_from strict (take k ps) names ≡ Ok before) × BreaksKept strict before no_names p e
+-- The segment at place k breaks a rule, those before it gave this, and the reading is no salvage.
+abbrev pub BreaksNames : Reading → List SegmentView → Shared → DecodeError → Type 0
+BreaksNames reading ps shared e =
+    IsFalse (is_salvaged reading e)
+    × (k : ℕ) × (p : SegmentView) × (before : Shared)
+    × (slice_get ps k ≡ Some p) × (named_from reading (take k ps) shared ≡ Ok before) × BreaksKept (is_strict reading) before.names no_names p e
 
 abbrev pub GlobalsHaveCauses : Type 0
-GlobalsHaveCauses = (strict : Bool) (bytes : List ℕ) → IfErr (globals_at strict bytes) (λ e. InSteps (sorted_segments strict bytes) (IsOf (sorted_segments strict bytes) e) (λ ps. BreaksNames strict ps no_names e))
+GlobalsHaveCauses = (reading : Reading) (bytes : List ℕ) → IfErr (globals_at reading bytes) (λ e. InSteps (sorted_segments reading bytes) (IsOf (sorted_segments reading bytes) e) (λ ps. (fault : Option DecodeError) × BreaksNames reading ps (nothing_shared fault) e))
 
 abbrev pub BreaksRegion : Bool → Names → RegionKind → Bool → SegmentView → Drawing → DecodeError → Type 0
 BreaksRegion strict globals kinds.Text is_intermediate p d e = BreaksText strict d.names globals p e
@@ -104,29 +106,30 @@ BreaksRegion strict globals kinds.Halftone is_intermediate p d e = BreaksHalfton
 BreaksRegion strict globals kinds.Generic is_intermediate p d e = IsOf (generic_at strict is_intermediate p) e
 BreaksRegion strict globals kinds.GenericRefinement is_intermediate p d e = BreaksRefinement strict is_intermediate d.grid d.regions p e
 
--- One segment of a page on what those before it drew and kept. An immediate region is refused in strict mode alone.
-abbrev pub BreaksSegmentOn : Bool → Names → SegmentView → Drawing → DecodeError → Type 0
-BreaksSegmentOn strict globals p d e = on (region_type p.header.segment_type)
+-- One segment of a page on what those before it drew and kept. An immediate region is refused in strict mode alone, and
+-- salvage refuses none.
+abbrev pub BreaksSegmentOn : Reading → Names → SegmentView → Drawing → DecodeError → Type 0
+BreaksSegmentOn reading globals p d e = IsFalse (is_salvaged reading e) × on (is_strict reading) (region_type p.header.segment_type)
   where
-    on : Option (RegionKind × Bool) → Type 0
-    on (Some (kind, true)) = BreaksRegion strict globals kind true p d e
-    on (Some (kind, false)) = IsTrue strict × BreaksRegion strict globals kind false p d e
-    on None = BreaksKept strict d.names globals p e
+    on : Bool → Option (RegionKind × Bool) → Type 0
+    on strict (Some (kind, true)) = BreaksRegion strict globals kind true p d e
+    on strict (Some (kind, false)) = IsTrue strict × BreaksRegion strict globals kind false p d e
+    on strict None = BreaksKept strict d.names globals p e
 
 -- The segment at place k breaks a rule, those before it drew this, and neither it nor one of those ends the page.
-abbrev pub BreaksDrawing : Bool → Names → List SegmentView → Drawing → DecodeError → Type 0
-BreaksDrawing strict globals ps d e =
+abbrev pub BreaksDrawing : Reading → Names → List SegmentView → Drawing → DecodeError → Type 0
+BreaksDrawing reading globals ps d e =
     (k : ℕ) × (p : SegmentView) × (before : Drawing)
     × (slice_get ps k ≡ Some p)
     × AllByRecursion (λ q. IsFalse (ends_page q.header.segment_type)) (take (suc k) ps)
-    × (segments_drawn strict globals (take k ps) d ≡ Ok before)
-    × BreaksSegmentOn strict globals p before e
+    × (segments_drawn reading globals (take k ps) d ≡ Ok before)
+    × BreaksSegmentOn reading globals p before e
 
 abbrev pub PagesHaveCauses : Type 0  -- a page: its globals were refused, or else one of its own segments is
-PagesHaveCauses = (page : ReadPage) → IfErr (grid_of_page page) (λ e. InSteps page.globals (IsOf page.globals e) (λ globals. BreaksDrawing page.strict globals page.segments (page_begun page.initial_page) e))
+PagesHaveCauses = (page : ReadPage) → IfErr (grid_of_page page) (λ e. InSteps page.globals (IsOf page.globals e) (λ globals. BreaksDrawing page.reading globals page.segments (page_begun page.initial_page) e))
 
 abbrev pub EmbeddedPagesHaveCauses : Type 0  -- an embedded page: its segments, or what they begin
-EmbeddedPagesHaveCauses = (strict : Bool) (globals : Names) (bytes : List ℕ) → IfErr (embedded strict globals bytes) (λ e. InSteps (sorted_segments strict bytes) (IsOf (sorted_segments strict bytes) e) (λ ps. BreaksBeginning ps e))
+EmbeddedPagesHaveCauses = (reading : Reading) (globals : Names) (bytes : List ℕ) → IfErr (embedded reading globals bytes) (λ e. InSteps (sorted_segments reading bytes) (IsOf (sorted_segments reading bytes) e) (λ ps. BreaksBeginning reading ps e))
 
 -- ---- what no bytes bring about
 -- Want of memory, and three errors that stand in the enums for their matchers alone.
@@ -140,8 +143,8 @@ IsAnswered _ = Unit {0}
 -- No definition gives one of these, whatever the bytes: neither globals, embedded pages and files, nor what is drawn of a page,
 -- unless the globals of the page gave it, and those of a file don't.
 pub record ErrorsAreAnswered : Type 0 where
-  pub globals : (strict : Bool) (bytes : List ℕ) → IfErr (globals_at strict bytes) IsAnswered
-  pub page : (strict : Bool) (globals : Names) (bytes : List ℕ) → IfErr (embedded strict globals bytes) IsAnswered
-  pub file : (strict : Bool) (bytes : List ℕ) → IfErr (book_at strict bytes) IsAnswered
-  pub file_globals : (strict : Bool) (bytes : List ℕ) → IfOk (book_at strict bytes) (λ book. IfErr book.globals IsAnswered)
+  pub globals : (reading : Reading) (bytes : List ℕ) → IfErr (globals_at reading bytes) IsAnswered
+  pub page : (reading : Reading) (globals : Names) (bytes : List ℕ) → IfErr (embedded reading globals bytes) IsAnswered
+  pub file : (reading : Reading) (bytes : List ℕ) → IfErr (book_at reading bytes) IsAnswered
+  pub file_globals : (reading : Reading) (bytes : List ℕ) → IfOk (book_at reading bytes) (λ book. IfErr book.globals IsAnswered)
   pub drawing : (page : ReadPage) → IfErr page.globals IsAnswered → IfErr (drawing_of_page page) IsAnswered

@@ -5,8 +5,8 @@ ghost use Rattle.jbig2_base.specs.Counts.{no_steps};
 ghost use Rattle.jbig2_base.specs.Grid.{blank};
 ghost use Rattle.jbig2_region.specs.inner.RegionViews.{region_view};
 ghost use Rattle.hayro_jbig2.specs.Image.{packed_of};
-ghost use Rattle.hayro_jbig2.specs.Names.{no_names};
-ghost use Rattle.hayro_jbig2.specs.Page.{Drawing, nothing_passed, page_begun, shown, with_region};
+ghost use Rattle.hayro_jbig2.specs.Names.{no_names, nothing_passed};
+ghost use Rattle.hayro_jbig2.specs.Page.{Drawing, page_begun, shown, with_region};
 
 use crate::drawn_page::DrawnPage;
 use crate::kept::Kept;
@@ -88,7 +88,7 @@ impl<A: Allocator + Clone> DecoderContext<A> {
 }
 
 impl<A: Allocator> DecoderContext<A> {
-    /// What lenient reading passed over in the page that was drawn last. After a page that was refused it is what
+    /// What reading passed over in the page that was drawn last. After a page that was refused it is what
     /// was passed over before the fault.
     pub fn passed_over(&self) -> &PassedOver
         ensures { result.now ≡ self.now.passed_over }

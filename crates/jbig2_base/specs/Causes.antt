@@ -1,7 +1,7 @@
 -- Which rule the bytes break where a definition refuses them (docs/FORMAT.md), a line for each error. A predicate
 -- `Breaks..` takes the bytes and an error, and `HaveCauses` is the law: each error of the definition has that cause.
-use Rattle.std.specs.{Prelude.{◌≡◌, ◌≢◌, ◌<◌, ◌≤◌, ◌+◌, ◌*◌, ◌-◌, ◌/◌, ◌%◌, ◌^◌, ◌==◌, ◌⊎◌, ℕ, Bool, true, List, [], ◌∷◌, take, drop, length, All, Any, Option, Some, None, Result, Ok, Err, IfErr, if◌then◌else◌}, Int.{Width, w8, w32, byte_len, from_be_bytes}}
-use Rattle.jbig2_base.specs.{File.{headers_in, file_header_at, identification}, Segment.{Header, SegmentView, adaptive_bytes, number_width, header_at, segment_data_at, segment_at}, declared.{error.{DecodeError.{DecodeError, TheVariants.{Parse, Format, Segment, Region, Overflow}}, FormatError.TheVariants.{InvalidHeader, ReservedBits, MissingPageInfo, UnknownPageHeight, EmptyPage}, OverflowError.TheVariants.{BitmapDimension}, ParseError.TheVariants.{UnexpectedEof}, RegionError.TheVariants.{InvalidCombinationOperator}, SegmentError.TheVariants.{UnknownType, InvalidReferredCount, InvalidReference, InvalidUnknownLength, MissingEndMarker}}, file_header.{FileHeader.{FileHeader}, FileOrganization.{FileOrganization, TheVariants.{Sequential, RandomAccess}}}, segment.SegmentType.{SegmentType}}}
+use Rattle.std.specs.{Prelude.{◌≡◌, ◌≢◌, ◌<◌, ◌≤◌, ◌+◌, ◌*◌, ◌-◌, ◌/◌, ◌%◌, ◌^◌, ◌==◌, ◌⊎◌, ℕ, Bool, true, false, List, [], ◌∷◌, take, drop, length, All, Any, Option, Some, None, Result, Ok, Err, IfErr, if◌then◌else◌}, Int.{Width, w8, w32, byte_len, from_be_bytes}}
+use Rattle.jbig2_base.specs.{File.{headers_in, file_header_at, identification}, Reading.{is_strict, is_salvaged}, Segment.{Header, SegmentView, adaptive_bytes, number_width, header_at, segment_data_at, segment_at}, Sequential.{is_cut_off}, declared.{error.{DecodeError.{DecodeError, TheVariants.{Parse, Format, Segment, Region, Overflow}}, FormatError.TheVariants.{InvalidHeader, ReservedBits, MissingPageInfo, UnknownPageHeight, EmptyPage}, OverflowError.TheVariants.{BitmapDimension}, ParseError.TheVariants.{UnexpectedEof}, RegionError.TheVariants.{InvalidCombinationOperator}, SegmentError.TheVariants.{UnknownType, InvalidReferredCount, InvalidReference, InvalidUnknownLength, MissingEndMarker}}, file_header.{FileHeader.{FileHeader}, FileOrganization.{FileOrganization, TheVariants.{Sequential, RandomAccess}}}, reading.Reading.{Reading}, segment.SegmentType.{SegmentType}}}
 use Rattle.jbig2_base.specs.declared.segment.SegmentType.TheVariants as types
 
 unfoldable pub HaveCauses : {X Y : Type 0} → (X → Result Y DecodeError) → (X → DecodeError → Type 0) → Type 0
@@ -127,33 +127,35 @@ abbrev pub BehindSome : {A : Type 0} → (List ℕ → Result (A × List ℕ) De
 BehindSome {A} read kind bytes P =
     (xs : List A) × (others : List ℕ) × BeginWith read kind bytes xs others × (0 < length others) × P others
 
--- Segments one after the other (D.1, D.3): only strict reading refuses one that is cut off.
-abbrev pub BreaksSequence : Bool → List ℕ → DecodeError → Type 0
-BreaksSequence strict bytes e =
-    (e ≡ Parse UnexpectedEof → strict ≡ true)
-    × BehindSome (segment_at strict) (λ p. p.header.segment_type) bytes (λ others. BreaksSegment strict others e)
+-- Segments one after the other (D.1, D.3): one of them breaks a rule, and the reading doesn't end before it.
+abbrev pub BreaksSequence : Reading → List ℕ → DecodeError → Type 0
+BreaksSequence reading bytes e =
+    (is_cut_off reading e ≡ false)
+    × BehindSome (segment_at (is_strict reading)) (λ p. p.header.segment_type) bytes (λ others. BreaksSegment (is_strict reading) others e)
 
-abbrev pub BreaksHeaders : Bool → List ℕ → DecodeError → Type 0  -- all headers (D.2): one of them breaks a rule
-BreaksHeaders strict bytes e =
-    BehindSome (header_at strict) (λ h. h.segment_type) bytes (λ others. BreaksHeader strict others e)
+-- All headers (D.2): one of them breaks a rule, and the reading is no salvage.
+abbrev pub BreaksHeaders : Reading → List ℕ → DecodeError → Type 0
+BreaksHeaders reading bytes e =
+    (is_salvaged reading e ≡ false)
+    × BehindSome (header_at (is_strict reading)) (λ h. h.segment_type) bytes (λ others. BreaksHeader (is_strict reading) others e)
 
 -- All data (D.2): that of one of the headers breaks a rule, where the data before it ends.
-abbrev pub BreaksGathered : List Header → List ℕ → DecodeError → Type 0
-BreaksGathered [] bytes e = ⊥
-BreaksGathered (h ∷ hs) bytes e =
-    BreaksData h.data_length bytes e
-    ⊎ ((p : SegmentView) × (rest : List ℕ) × (segment_data_at h bytes ≡ Ok (p, rest)) × BreaksGathered hs rest e)
+abbrev pub BreaksGathered : Reading → List Header → List ℕ → DecodeError → Type 0
+BreaksGathered reading [] bytes e = ⊥
+BreaksGathered reading (h ∷ hs) bytes e =
+    ((is_salvaged reading e ≡ false) × BreaksData h.data_length bytes e)
+    ⊎ ((p : SegmentView) × (rest : List ℕ) × (segment_data_at h bytes ≡ Ok (p, rest)) × BreaksGathered reading hs rest e)
 
-abbrev pub BreaksSegmentsBy : FileOrganization → Bool → List ℕ → DecodeError → Type 0
-BreaksSegmentsBy Sequential strict bytes e = BreaksSequence strict bytes e
-BreaksSegmentsBy RandomAccess strict bytes e =
-    BreaksHeaders strict bytes e
-    ⊎ ((hs : List Header × List ℕ) × (headers_in (length bytes) strict bytes ≡ Ok hs) × BreaksGathered hs.0 hs.1 e)
+abbrev pub BreaksSegmentsBy : FileOrganization → Reading → List ℕ → DecodeError → Type 0
+BreaksSegmentsBy Sequential reading bytes e = BreaksSequence reading bytes e
+BreaksSegmentsBy RandomAccess reading bytes e =
+    BreaksHeaders reading bytes e
+    ⊎ ((hs : List Header × List ℕ) × (headers_in (length bytes) reading bytes ≡ Ok hs) × BreaksGathered reading hs.0 hs.1 e)
 
-abbrev pub BreaksFile : Bool → List ℕ → DecodeError → Type 0
-BreaksFile strict bytes e =
+abbrev pub BreaksFile : Reading → List ℕ → DecodeError → Type 0
+BreaksFile reading bytes e =
     BreaksFileHeader bytes e
-    ⊎ ((h : FileHeader × List ℕ) × (file_header_at bytes ≡ Ok h) × BreaksSegmentsBy h.0.organization strict h.1 e)
+    ⊎ ((h : FileHeader × List ℕ) × (file_header_at bytes ≡ Ok h) × BreaksSegmentsBy h.0.organization reading h.1 e)
 
 -- ---- bitmaps (our own rule)
 abbrev pub BreaksSides : ℕ → ℕ → DecodeError → Type 0
