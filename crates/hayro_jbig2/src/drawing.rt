@@ -120,8 +120,7 @@ impl<'a, A: Allocator + Clone> Drawer<'a, A> {
         if !self.reading.is_salvaged(&error) {
             return Err(error);
         }
-        context.untouched = false;
-        context.passed_over.add(segment_number, error);
+        context.pass(segment_number, error);
         Ok(())
     }
 
@@ -315,8 +314,7 @@ impl<'a, A: Allocator + Clone> Drawer<'a, A> {
         if self.reading.is_strict() || matches!(error, DecodeError::OutOfMemory) {
             return Err(error);
         }
-        context.untouched = false;
-        context.passed_over.add(segment_number, error);
+        context.pass(segment_number, error);
         Ok(())
     }
 
