@@ -1,19 +1,17 @@
 -- Headers that are read and data that is gathered, and what is left of them.
-use Rattle.std.proofs.Common.{◌≡◌, ℕ, ◌-◌, ◌<◌, ◌≤◌, suc, zero, List, [], ◌∷◌, ◌++◌, length, Result, Ok, Err, true, false, cond, nat_eq, refl, sym, ◌∙◌, ap, arith}
+use Rattle.std.proofs.Common.{◌≡◌, ℕ, ◌-◌, ◌<◌, ◌≤◌, suc, zero, List, [], ◌∷◌, ◌++◌, length, Result, Ok, Err, Bool, true, false, cond, inl, inr, ◌⊎◌, nat_eq, refl, sym, ◌∙◌, ap, arith}
 use Rattle.std.proofs.lemmas.List.{append_assoc, append-nil}
-use Rattle.std.proofs.lemmas.Bool.{cond-true, cond-false, ne_eqb, eq-eqb}
+use Rattle.std.proofs.lemmas.Bool.{cond-true, cond-false, ne_eqb, eq-eqb, false≢true}
 use Rattle.jbig2_base.specs.Answer.{◌>>=◌}
 use Rattle.jbig2_base.specs.File.{header_goes_on, headers_in, gathered, gathered_before}
 use Rattle.jbig2_base.specs.Reading.{is_strict, is_salvaged}
 use Rattle.jbig2_base.specs.Segment.{Header, SegmentView, header_at, segment_data_at}
 use Rattle.jbig2_base.specs.Sequential.{is_end_of_file}
 use Rattle.jbig2_base.specs.declared.error.DecodeError.{DecodeError}
+use Rattle.jbig2_base.specs.declared.error.DecodeError.TheVariants.{OutOfMemory}
 use Rattle.jbig2_base.specs.declared.reading.Reading.{Reading}
+use Rattle.jbig2_base.specs.declared.reading.Reading.TheVariants.{Strict, Lenient, Salvage}
 use Rattle.jbig2_base.proofs.Sequential.{with_front, one_more}
-
--- what follows a header
-abbrev pub with_header : Header × List ℕ → (List ℕ → Result (List Header × List ℕ) DecodeError) → Result (List Header × List ℕ) DecodeError
-with_header h others = cond (is_end_of_file h.0.segment_type) (Ok (h.0 ∷ [], h.1)) (others h.1 >>= λ hs. Ok (h.0 ∷ hs.0, hs.1))
 
 abbrev pub Headers : Type 0
 Headers = Result (List Header × List ℕ) DecodeError
@@ -115,3 +113,17 @@ gathers_drops front reading h hs bytes error meant same e left_out =
 
 pub gathers_all : (front : List SegmentView) (reading : Reading) (bytes : List ℕ) (meant : Result (List SegmentView) DecodeError) → with_front front (gathered reading [] bytes) ≡ meant → meant ≡ Ok front
 gathers_all front reading bytes meant same = sym same ∙ ap (λ (ps : List SegmentView). Ok ps) (append-nil front)
+
+-- a header that is read by the mode's own test
+pub header-as : (strict : Bool) (reading : Reading) (bytes : List ℕ) (r : Result (Header × List ℕ) DecodeError) → strict ≡ is_strict reading → header_at strict bytes ≡ r → header_at (is_strict reading) bytes ≡ r
+header-as strict reading bytes r e is = ap (λ (b : Bool). header_at b bytes) (sym e) ∙ is
+
+-- an error that leaves something out is no want of memory
+pub left-out : {A : Type 0} (reading : Reading) (error : DecodeError) (r : Result A DecodeError) → (error ≡ OutOfMemory) ⊎ (r ≡ Err error) → is_salvaged reading error ≡ true → r ≡ Err error
+left-out reading error r (inl e) is = absurd (false≢true (sym (ap (λ (x : DecodeError). is_salvaged reading x) e ∙ never reading) ∙ is))
+  where
+    never : (m : Reading) → is_salvaged m OutOfMemory ≡ false
+    never Strict = refl
+    never Lenient = refl
+    never Salvage = refl
+left-out reading error r (inr e) is = e

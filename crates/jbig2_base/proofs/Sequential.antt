@@ -1,5 +1,5 @@
 -- Segments that are read, and those that are left.
-use Rattle.std.proofs.Common.{◌≡◌, ℕ, ◌-◌, ◌<◌, ◌≤◌, suc, zero, List, [], ◌∷◌, ◌++◌, length, Result, Ok, Err, true, false, nat_eq, refl, sym, ◌∙◌, ap, arith}
+use Rattle.std.proofs.Common.{◌≡◌, ℕ, ◌-◌, ◌<◌, ◌≤◌, suc, zero, List, [], ◌∷◌, ◌++◌, length, Result, Ok, Err, Bool, true, false, nat_eq, refl, sym, ◌∙◌, ap, arith}
 use Rattle.std.proofs.lemmas.List.{append_assoc, append-nil}
 use Rattle.std.proofs.lemmas.Bool.{cond-true, cond-false, ne_eqb, eq-eqb}
 use Rattle.jbig2_base.specs.Answer.{◌>>=◌}
@@ -80,3 +80,7 @@ ends front reading bytes meant reads none =
 -- the same under another name for what was read
 pub Reads-as : (front others : List SegmentView) (reading : Reading) (bytes : List ℕ) (meant : Result (List SegmentView) DecodeError) → front ≡ others → Reads front reading bytes meant → Reads others reading bytes meant
 Reads-as front others reading bytes meant e reads = record { most = reads.most; enough = reads.enough; same = ap (λ (qs : List SegmentView). with_front qs (segments_in reads.most reading bytes)) (sym e) ∙ reads.same }
+
+-- a segment that is read by the mode's own test
+pub read-as : (strict : Bool) (reading : Reading) (bytes : List ℕ) (r : Result (SegmentView × List ℕ) DecodeError) → strict ≡ is_strict reading → segment_at strict bytes ≡ r → segment_at (is_strict reading) bytes ≡ r
+read-as strict reading bytes r e is = ap (λ (b : Bool). segment_at b bytes) (sym e) ∙ is

@@ -6,7 +6,7 @@ use Rattle.jbig2_base.specs.Segment.{SegmentView}
 use Rattle.jbig2_base.specs.inner.SegmentViews.{header_views, header_view, segment_views, segment_view}
 use Rattle.jbig2_base.specs.declared.segment.Segment.{Segment}
 use Rattle.jbig2_base.specs.declared.segment.SegmentHeader.{SegmentHeader}
-use Rattle.jbig2_base.proofs.RandomAccess.{gathers_one, gathers_none, gathers_all}
+use Rattle.jbig2_base.proofs.RandomAccess.{gathers_one, gathers_none, gathers_drops, gathers_all}
 use Rattle.jbig2_base.proofs.Sequential.{with_front, front-none}
 use Rattle.jbig2_base.proofs.file.gather_segments.Goals as goal
 
@@ -46,6 +46,14 @@ returns-in-Err g c =
     inr (gathers_none front c.args.reading (header_view c.in-Some.header) (header_views (into_iter_items c.next.new.self)) bytes c.in-Err.error (gathered c.args.reading (header_views c.args.headers.items) c.args.reader.now.bytes)
     (ap (λ (ks : List (SegmentHeader g.row.A.Denot)). with_front front (gathered c.args.reading (header_views ks) bytes)) (sym c.in-Some.ensures.steps.0) ∙ c.loop-header.invariant.gathers)
     c.in-Err.ensures.parses.value (sym c.if-is_salvaged.ensures.value))
+
+pub returns-then-is_salvaged : goal.returns-then-is_salvaged
+returns-then-is_salvaged g c =
+    let front = segment_views c.loop-header.segments.items in
+    let bytes = c.loop-header.reader.bytes in
+    gathers_drops front c.args.reading (header_view c.in-Some.header) (header_views (into_iter_items c.next.new.self)) bytes c.in-Err.error (gathered c.args.reading (header_views c.args.headers.items) c.args.reader.now.bytes)
+    (ap (λ (ks : List (SegmentHeader g.row.A.Denot)). with_front front (gathered c.args.reading (header_views ks) bytes)) (sym c.in-Some.ensures.steps.0) ∙ c.loop-header.invariant.gathers)
+    c.in-Err.ensures.parses.value (sym c.if-is_salvaged.ensures.value)
 
 pub returns : goal.returns
 returns g c =
