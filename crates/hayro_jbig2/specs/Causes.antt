@@ -106,15 +106,18 @@ BreaksRegion strict globals kinds.Halftone is_intermediate p d e = BreaksHalfton
 BreaksRegion strict globals kinds.Generic is_intermediate p d e = IsOf (generic_at strict is_intermediate p) e
 BreaksRegion strict globals kinds.GenericRefinement is_intermediate p d e = BreaksRefinement strict is_intermediate d.grid d.regions p e
 
--- One segment of a page on what those before it drew and kept. An immediate region is refused in strict mode alone, and
--- salvage refuses none.
-abbrev pub BreaksSegmentOn : Reading → Names → SegmentView → Drawing → DecodeError → Type 0
-BreaksSegmentOn reading globals p d e = IsFalse (is_salvaged reading e) × on (is_strict reading) (region_type p.header.segment_type)
+-- One segment of a page on what those before it drew and kept. An immediate region is refused in strict mode alone.
+abbrev pub BreaksSegmentBy : Bool → Names → SegmentView → Drawing → DecodeError → Type 0
+BreaksSegmentBy strict globals p d e = on (region_type p.header.segment_type)
   where
-    on : Bool → Option (RegionKind × Bool) → Type 0
-    on strict (Some (kind, true)) = BreaksRegion strict globals kind true p d e
-    on strict (Some (kind, false)) = IsTrue strict × BreaksRegion strict globals kind false p d e
-    on strict None = BreaksKept strict d.names globals p e
+    on : Option (RegionKind × Bool) → Type 0
+    on (Some (kind, true)) = BreaksRegion strict globals kind true p d e
+    on (Some (kind, false)) = IsTrue strict × BreaksRegion strict globals kind false p d e
+    on None = BreaksKept strict d.names globals p e
+
+-- salvage refuses none
+abbrev pub BreaksSegmentOn : Reading → Names → SegmentView → Drawing → DecodeError → Type 0
+BreaksSegmentOn reading globals p d e = IsFalse (is_salvaged reading e) × BreaksSegmentBy (is_strict reading) globals p d e
 
 -- The segment at place k breaks a rule, those before it drew this, and neither it nor one of those ends the page.
 abbrev pub BreaksDrawing : Reading → Names → List SegmentView → Drawing → DecodeError → Type 0
