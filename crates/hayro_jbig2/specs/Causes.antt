@@ -1,7 +1,7 @@
 -- Which rule is broken where a file, a page or one of its segments is refused (docs/FORMAT.md, 1, 4 and 8), a line for
 -- each error. Errors of steps that lower crates define stand here as the step's own (`IsOf`): the laws there say more.
 use Rattle.std.specs.{Prelude.{◌≡◌, ◌≢◌, ◌⊎◌, ◌<◌, ◌≤◌, ℕ, suc, Bool, true, false, IsTrue, IsFalse, List, [], length, take, slice_get, Any, Option, Some, None, MatchOption, option_and_then, unwrap_or, Result, Ok, IfErr, IfOk}, List.{AllByRecursion, flat_map}, Int.{w32}, Option.{option_map_or}}
-use Rattle.jbig2_base.specs.{Answer.{◌>>=◌}, Causes.{InSteps, IsOf, number_in}, File.{file_at}, Grid.{Grid}, PageInfo.{is_page_information}, Reading.{is_salvaged, is_strict}, Segment.{SegmentView}, Sequential.{sorted_segments}, declared.{error.{DecodeError.{DecodeError, TheVariants.{OutOfMemory, Parse, Format, Huffman, Segment, Overflow, Template, Unsupported}}, FormatError.TheVariants.{MissingPageInfo, PageCountMismatch, InvalidEndOfPage}, HuffmanError.TheVariants.{ConflictingCodes}, OverflowError.TheVariants.{Index, SymbolCount}, ParseError.TheVariants.{UnexpectedEof}, SegmentError.TheVariants.{InvalidReference, MissingPatternDictionary, MissingPageAssociation}, TemplateError.TheVariants.{Invalid}}, file_header.FileHeader.{FileHeader}, reading.Reading.{Reading, TheVariants.{Lenient}}, segment.SegmentType.{SegmentType}}}
+use Rattle.jbig2_base.specs.{Answer.{◌>>=◌}, Causes.{InSteps, IsOf, number_in}, File.{file_at}, Grid.{Grid}, PageInfo.{is_page_information}, Reading.{fault_of, is_salvaged, is_strict}, Segment.{SegmentView}, Sequential.{sequential, sorted_segments}, declared.{error.{DecodeError.{DecodeError, TheVariants.{OutOfMemory, Parse, Format, Huffman, Segment, Overflow, Template, Unsupported}}, FormatError.TheVariants.{MissingPageInfo, PageCountMismatch, InvalidEndOfPage}, HuffmanError.TheVariants.{ConflictingCodes}, OverflowError.TheVariants.{Index, SymbolCount}, ParseError.TheVariants.{UnexpectedEof}, SegmentError.TheVariants.{InvalidReference, MissingPatternDictionary, MissingPageAssociation}, TemplateError.TheVariants.{Invalid}}, file_header.FileHeader.{FileHeader}, reading.Reading.{Reading, TheVariants.{Lenient}}, segment.SegmentType.{SegmentType}}}
 use Rattle.jbig2_region.specs.{RegionInfo.{PlacedRegion}, Refinement.{refined_decoded}, RefinementHeader.{refinement_header_at}}
 use Rattle.jbig2_halftone.specs.{Halftone.{halftone_decoded}, HalftoneHeader.{halftone_header_at}}
 use Rattle.jbig2_text.specs.{TextHeader.{text_header_at}, TextRegion.{text_decoded}}
@@ -98,7 +98,7 @@ BreaksNames reading ps shared e =
     × (slice_get ps k ≡ Some p) × (named_from reading (take k ps) shared ≡ Ok before) × BreaksKept (is_strict reading) before.names no_names p e
 
 abbrev pub GlobalsHaveCauses : Type 0
-GlobalsHaveCauses = (reading : Reading) (bytes : List ℕ) → IfErr (globals_at reading bytes) (λ e. InSteps (sorted_segments reading bytes) (IsOf (sorted_segments reading bytes) e) (λ ps. (fault : Option DecodeError) × BreaksNames reading ps (nothing_shared fault) e))
+GlobalsHaveCauses = (reading : Reading) (bytes : List ℕ) → IfErr (globals_at reading bytes) (λ e. InSteps (sorted_segments reading bytes) (IsOf (sorted_segments reading bytes) e) (λ ps. BreaksNames reading ps (nothing_shared (fault_of reading (sequential Lenient bytes))) e))
 
 abbrev pub BreaksRegion : Bool → Names → RegionKind → Bool → SegmentView → Drawing → DecodeError → Type 0
 BreaksRegion strict globals kinds.Text is_intermediate p d e = BreaksText strict d.names globals p e

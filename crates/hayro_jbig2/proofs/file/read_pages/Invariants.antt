@@ -8,5 +8,5 @@ use Rattle.hayro_jbig2.proofs.file.read_pages.Given as goal
 abbrev pub invariant-loop-own : goal.invariant-loop-own
 invariant-loop-own g l = record {
   counted : into_iter_len l.own-iterator ≡ length (into_iter_items l.own-iterator);
-  filed : with_pages l.pages.items (filed_each l.strict (pages_view (into_iter_items l.own-iterator))) ≡ filed_each l.strict (pages_view l.fn.segments.items);
+  filed : with_pages l.pages.items (filed_each l.reading (pages_view (into_iter_items l.own-iterator))) ≡ filed_each l.reading (pages_view l.fn.segments.items);
 }
