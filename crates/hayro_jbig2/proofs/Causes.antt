@@ -7,7 +7,8 @@ use Rattle.std.specs.Int.{Width, w8, w16, w32}
 use Rattle.jbig2_base.specs.Answer.{◌>>=◌, refuse_if, some_or}
 use Rattle.jbig2_base.specs.Fields.{number_at}
 use Rattle.jbig2_base.specs.File.{file_at}
-use Rattle.jbig2_base.specs.PageInfo.{first_information, height_of, information_at, initial_page_of, initial_page_with, is_page_information, stripes_height}
+use Rattle.jbig2_base.specs.PageInfo.{first_information, height_of, information_at, initial_page_with, is_page_information}
+use Rattle.jbig2_base.specs.Reading.{is_salvaged, is_strict}
 use Rattle.jbig2_base.specs.Segment.{SegmentView}
 use Rattle.jbig2_base.specs.Causes.{IsOf, HaveCauses}
 use Rattle.jbig2_base.specs.declared.error.DecodeError.{DecodeError}
@@ -19,13 +20,15 @@ use Rattle.jbig2_base.specs.declared.error.SegmentError.TheVariants as segments
 use Rattle.jbig2_base.specs.declared.file_header.FileHeader.{FileHeader}
 use Rattle.jbig2_base.specs.declared.page_info.InitialPage.{InitialPage}
 use Rattle.jbig2_base.specs.declared.page_info.PageInformation.{PageInformation}
+use Rattle.jbig2_base.specs.declared.reading.Reading.{Reading}
+use Rattle.jbig2_base.specs.declared.reading.Reading.TheVariants.{Lenient}
 use Rattle.jbig2_base.proofs.Causes.{cause-next, cause-number, cause-refused}
 use Rattle.jbig2_region.proofs.Told.{cause-if}
 use Rattle.jbig2_symbol.proofs.ReadingCauses.{cause-by, in-steps, own-error}
 use Rattle.hayro_jbig2.specs.Causes.{BreaksBeginning, BreaksBook, BreaksPages, FirstPagesHaveCauses}
-use Rattle.hayro_jbig2.specs.Files.{ReadFile, associated, book_at, by_pages, ends_of, filed_each, filed_from, lacks_page, miscounts, needs_page, page_in, page_of}
+use Rattle.hayro_jbig2.specs.Files.{PageInFile, ReadFile, associated, book_at, by_pages, ends_of, filed_before, filed_each, filed_from, lacks_page, miscounts, needs_page, page_in, page_of}
 use Rattle.hayro_jbig2.specs.Image.{first_page}
-use Rattle.hayro_jbig2.specs.Page.{ReadPage}
+use Rattle.hayro_jbig2.specs.Page.{ReadPage, beginning_of, told_height}
 
 -- ---- places
 pub at-first : {X : Type 0} (P : X → Type 0) (x : X) (xs : List X) → P x → Any P (x ∷ xs)
@@ -104,99 +107,105 @@ begins-sides own number info height =
     begins-next own (refuse_if empty (errors.Format formats.EmptyPage)) _ (cause-refused (Begins own) empty (errors.Format formats.EmptyPage) (λ is. tt)) (λ some.
     begins-next own (refuse_if large (errors.Overflow overflows.BitmapDimension)) _ (cause-refused (Begins own) large (errors.Overflow overflows.BitmapDimension) (λ is. tt)) (λ fits. tt))
 
-begins-page : (own : List SegmentView) → IfErr (initial_page_of own) (Begins own)
-unfolding initial_page_of
-begins-page own =
+begins-page : (reading : Reading) (own : List SegmentView) → IfErr (beginning_of reading own) (Begins own)
+unfolding beginning_of
+begins-page reading own =
     begins-next own (first_information own) _ (first-cause (Begins own) own (λ lacks. lacks)) (λ first.
     begins-next own (information_at first.bytes) _ (begins-information own first.bytes) (λ info.
-    begins-next own (height_of info.0.height (stripes_height own)) _ (begins-height own info.0.height (stripes_height own)) (λ height. begins-sides own first.header.page_association info.0 height)))
+    begins-next own (height_of info.0.height (told_height reading own)) _ (begins-height own info.0.height (told_height reading own)) (λ height. begins-sides own first.header.page_association info.0 height)))
 
-begins-so : (own : List SegmentView) (e : DecodeError) → initial_page_of own ≡ Err e → Begins own e → BreaksBeginning own e
-begins-so own (errors.Parse UnexpectedEof) is begins = is
-begins-so own (errors.Format formats.InvalidHeader) is begins = is
-begins-so own (errors.Format formats.ReservedBits) is begins = is
-begins-so own (errors.Format formats.MissingPageInfo) is begins = begins
-begins-so own (errors.Format formats.UnknownPageHeight) is begins = is
-begins-so own (errors.Format formats.EmptyPage) is begins = is
-begins-so own (errors.Format formats.PageCountMismatch) is begins = is
-begins-so own (errors.Format formats.InvalidEndOfPage) is begins = is
-begins-so own (errors.Segment e) is begins = is
-begins-so own (errors.Huffman e) is begins = is
-begins-so own (errors.Region e) is begins = is
-begins-so own (errors.Template e) is begins = is
-begins-so own (errors.Symbol e) is begins = is
-begins-so own (errors.Overflow overflows.BitmapDimension) is begins = is
-begins-so own (errors.Overflow overflows.GridDimension) is begins = is
-begins-so own (errors.Overflow overflows.PlacementCoordinate) is begins = is
-begins-so own (errors.Overflow overflows.ReferenceOffset) is begins = is
-begins-so own (errors.Overflow overflows.Index) is begins = is
-begins-so own (errors.Overflow overflows.SymbolCount) is begins = is
-begins-so own errors.Unsupported is begins = is
-begins-so own errors.OutOfMemory is begins = is
+begins-so : (reading : Reading) (own : List SegmentView) (e : DecodeError) → beginning_of reading own ≡ Err e → Begins own e → BreaksBeginning reading own e
+begins-so reading own (errors.Parse UnexpectedEof) is begins = is
+begins-so reading own (errors.Format formats.InvalidHeader) is begins = is
+begins-so reading own (errors.Format formats.ReservedBits) is begins = is
+begins-so reading own (errors.Format formats.MissingPageInfo) is begins = begins
+begins-so reading own (errors.Format formats.UnknownPageHeight) is begins = is
+begins-so reading own (errors.Format formats.EmptyPage) is begins = is
+begins-so reading own (errors.Format formats.PageCountMismatch) is begins = is
+begins-so reading own (errors.Format formats.InvalidEndOfPage) is begins = is
+begins-so reading own (errors.Segment e) is begins = is
+begins-so reading own (errors.Huffman e) is begins = is
+begins-so reading own (errors.Region e) is begins = is
+begins-so reading own (errors.Template e) is begins = is
+begins-so reading own (errors.Symbol e) is begins = is
+begins-so reading own (errors.Overflow overflows.BitmapDimension) is begins = is
+begins-so reading own (errors.Overflow overflows.GridDimension) is begins = is
+begins-so reading own (errors.Overflow overflows.PlacementCoordinate) is begins = is
+begins-so reading own (errors.Overflow overflows.ReferenceOffset) is begins = is
+begins-so reading own (errors.Overflow overflows.Index) is begins = is
+begins-so reading own (errors.Overflow overflows.SymbolCount) is begins = is
+begins-so reading own errors.Unsupported is begins = is
+begins-so reading own errors.OutOfMemory is begins = is
 
-pub beginning_causes : (own : List SegmentView) → IfErr (initial_page_of own) (BreaksBeginning own)
-beginning_causes own = cause-by (initial_page_of own) (Begins own) (BreaksBeginning own) (begins-page own) (begins-so own)
+pub beginning_causes : (reading : Reading) (own : List SegmentView) → IfErr (beginning_of reading own) (BreaksBeginning reading own)
+beginning_causes reading own = cause-by (beginning_of reading own) (Begins own) (BreaksBeginning reading own) (begins-page reading own) (begins-so reading own)
 
-never-begins : (own : List SegmentView) (e : DecodeError) → initial_page_of own ≡ Err e → Begins own e
-never-begins own e is = subst (λ (r : Result InitialPage DecodeError). IfErr r (Begins own)) is (begins-page own)
+never-begins : (reading : Reading) (own : List SegmentView) (e : DecodeError) → beginning_of reading own ≡ Err e → Begins own e
+never-begins reading own e is = subst (λ (r : Result InitialPage DecodeError). IfErr r (Begins own)) is (begins-page reading own)
 
 -- ---- each page
-filed-cause : (P : DecodeError → Type 0) (strict : Bool) (own : List SegmentView)
-    → (IsTrue strict → ends_of own ≢ 1 → P (errors.Format formats.InvalidEndOfPage)) → ((e : DecodeError) → BreaksBeginning own e → P e) → IfErr (filed_from strict own) P
+filed-cause : (P : DecodeError → Type 0) (reading : Reading) (own : List SegmentView)
+    → (IsTrue (is_strict reading) → ends_of own ≢ 1 → P (errors.Format formats.InvalidEndOfPage)) → ((e : DecodeError) → BreaksBeginning reading own e → P e) → IfErr (filed_from reading own) P
 unfolding filed_from
-filed-cause P strict own ends begins =
-    cause-next P (refuse_if (strict && not (ends_of own == 1)) (errors.Format formats.InvalidEndOfPage)) _ (cause-refused P (strict && not (ends_of own == 1)) (errors.Format formats.InvalidEndOfPage) (λ wrong.
-    let both = and_parts strict (not (ends_of own == 1)) wrong in
+filed-cause P reading own ends begins =
+    cause-next P (refuse_if (is_strict reading && not (ends_of own == 1)) (errors.Format formats.InvalidEndOfPage)) _ (cause-refused P (is_strict reading && not (ends_of own == 1)) (errors.Format formats.InvalidEndOfPage) (λ wrong.
+    let both = and_parts (is_strict reading) (not (ends_of own == 1)) wrong in
     ends both.0 (differ (ends_of own) 1 both.1))) (λ ended ended_is.
-    cause-next P (initial_page_of own) _ (cause-by (initial_page_of own) (BreaksBeginning own) P (beginning_causes own) (λ e is broken. begins e broken)) (λ page page_is. tt))
+    cause-next P (beginning_of reading own) _ (cause-by (beginning_of reading own) (BreaksBeginning reading own) P (beginning_causes reading own) (λ e is broken. begins e broken)) (λ page page_is. tt))
 
-each-cause : (P : DecodeError → Type 0) (strict : Bool) (all : List (List SegmentView))
-    → (IsTrue strict → Any (λ own. ends_of own ≢ 1) all → P (errors.Format formats.InvalidEndOfPage))
-    → ((e : DecodeError) → Any (λ own. BreaksBeginning own e) all → P e) → IfErr (filed_each strict all) P
-each-cause P strict [] ends begins = tt
-each-cause P strict (own ∷ others) ends begins =
+-- a page before the others
+before-cause : (P : DecodeError → Type 0) (reading : Reading) (r : Result PageInFile DecodeError) (others : Result (List PageInFile) DecodeError) → IfErr r (λ e. is_salvaged reading e ≡ false → P e) → IfErr others P → IfErr (filed_before reading r others) P
+before-cause P reading (Ok page) others first rest = cause-next P others _ rest (λ pages pages_is. tt)
+before-cause P reading (Err e) others first rest = cause-if P (is_salvaged reading e) others (Err e) (λ left. rest) (λ kept. first kept)
+
+each-cause : (P : DecodeError → Type 0) (reading : Reading) (all : List (List SegmentView))
+    → (IsTrue (is_strict reading) → Any (λ own. ends_of own ≢ 1) all → P (errors.Format formats.InvalidEndOfPage))
+    → ((e : DecodeError) → is_salvaged reading e ≡ false → Any (λ own. BreaksBeginning reading own e) all → P e) → IfErr (filed_each reading all) P
+each-cause P reading [] ends begins = tt
+each-cause P reading (own ∷ others) ends begins =
     let Ends : List SegmentView → Type 0 = λ page. ends_of page ≢ 1 in
-    cause-next P (filed_from strict own) _ (filed-cause P strict own (λ is wrong. ends is (at-first Ends own others wrong)) (λ e broken. begins e (at-first (λ page. BreaksBeginning page e) own others broken))) (λ page page_is.
-    cause-next P (filed_each strict others) _ (each-cause P strict others (λ is some. ends is (at-later Ends own others some)) (λ e some. begins e (at-later (λ page. BreaksBeginning page e) own others some))) (λ pages pages_is. tt))
+    before-cause P reading (filed_from reading own) (filed_each reading others)
+    (filed-cause (λ e. is_salvaged reading e ≡ false → P e) reading own (λ is wrong kept. ends is (at-first Ends own others wrong)) (λ e broken kept. begins e kept (at-first (λ page. BreaksBeginning reading page e) own others broken)))
+    (each-cause P reading others (λ is some. ends is (at-later Ends own others some)) (λ e kept some. begins e kept (at-later (λ page. BreaksBeginning reading page e) own others some)))
 
 -- ---- files
 -- a page's beginning breaks none of the rules on all the pages
-page-begins : (strict : Bool) (h : FileHeader) (ps : List SegmentView) (e : DecodeError) → Any (λ own. BreaksBeginning own e) (by_pages ps) → BreaksPages strict h ps e
-page-begins strict h ps (errors.Parse UnexpectedEof) some = some
-page-begins strict h ps (errors.Format formats.InvalidHeader) some = some
-page-begins strict h ps (errors.Format formats.ReservedBits) some = some
-page-begins strict h ps (errors.Format formats.MissingPageInfo) some = some
-page-begins strict h ps (errors.Format formats.UnknownPageHeight) some = some
-page-begins strict h ps (errors.Format formats.EmptyPage) some = some
-page-begins strict h ps (errors.Format formats.PageCountMismatch) some = absurd (never-begins some.1 (errors.Format formats.PageCountMismatch) some.4)
-page-begins strict h ps (errors.Format formats.InvalidEndOfPage) some = absurd (never-begins some.1 (errors.Format formats.InvalidEndOfPage) some.4)
-page-begins strict h ps (errors.Segment segments.UnknownType) some = some
-page-begins strict h ps (errors.Segment segments.InvalidReferredCount) some = some
-page-begins strict h ps (errors.Segment segments.InvalidReference) some = some
-page-begins strict h ps (errors.Segment segments.InvalidUnknownLength) some = some
-page-begins strict h ps (errors.Segment segments.MissingEndMarker) some = some
-page-begins strict h ps (errors.Segment segments.MissingPatternDictionary) some = some
-page-begins strict h ps (errors.Segment segments.MissingPageAssociation) some = absurd (never-begins some.1 (errors.Segment segments.MissingPageAssociation) some.4)
-page-begins strict h ps (errors.Huffman e) some = some
-page-begins strict h ps (errors.Region e) some = some
-page-begins strict h ps (errors.Template e) some = some
-page-begins strict h ps (errors.Symbol e) some = some
-page-begins strict h ps (errors.Overflow e) some = some
-page-begins strict h ps errors.Unsupported some = some
+page-begins : (reading : Reading) (h : FileHeader) (ps : List SegmentView) (e : DecodeError) → is_salvaged reading e ≡ false → Any (λ own. BreaksBeginning reading own e) (by_pages ps) → BreaksPages reading h ps e
+page-begins reading h ps (errors.Parse UnexpectedEof) kept some = (kept, some)
+page-begins reading h ps (errors.Format formats.InvalidHeader) kept some = (kept, some)
+page-begins reading h ps (errors.Format formats.ReservedBits) kept some = (kept, some)
+page-begins reading h ps (errors.Format formats.MissingPageInfo) kept some = (kept, some)
+page-begins reading h ps (errors.Format formats.UnknownPageHeight) kept some = (kept, some)
+page-begins reading h ps (errors.Format formats.EmptyPage) kept some = (kept, some)
+page-begins reading h ps (errors.Format formats.PageCountMismatch) kept some = absurd (never-begins reading some.1 (errors.Format formats.PageCountMismatch) some.4)
+page-begins reading h ps (errors.Format formats.InvalidEndOfPage) kept some = absurd (never-begins reading some.1 (errors.Format formats.InvalidEndOfPage) some.4)
+page-begins reading h ps (errors.Segment segments.UnknownType) kept some = (kept, some)
+page-begins reading h ps (errors.Segment segments.InvalidReferredCount) kept some = (kept, some)
+page-begins reading h ps (errors.Segment segments.InvalidReference) kept some = (kept, some)
+page-begins reading h ps (errors.Segment segments.InvalidUnknownLength) kept some = (kept, some)
+page-begins reading h ps (errors.Segment segments.MissingEndMarker) kept some = (kept, some)
+page-begins reading h ps (errors.Segment segments.MissingPatternDictionary) kept some = (kept, some)
+page-begins reading h ps (errors.Segment segments.MissingPageAssociation) kept some = absurd (never-begins reading some.1 (errors.Segment segments.MissingPageAssociation) some.4)
+page-begins reading h ps (errors.Huffman e) kept some = (kept, some)
+page-begins reading h ps (errors.Region e) kept some = (kept, some)
+page-begins reading h ps (errors.Template e) kept some = (kept, some)
+page-begins reading h ps (errors.Symbol e) kept some = (kept, some)
+page-begins reading h ps (errors.Overflow e) kept some = (kept, some)
+page-begins reading h ps errors.Unsupported kept some = (kept, some)
 page-begins strict h ps errors.OutOfMemory some = some
 
-pub file_causes : (strict : Bool) → HaveCauses (book_at strict) (BreaksBook strict)
+pub file_causes : (reading : Reading) → HaveCauses (book_at reading) (BreaksBook reading)
 unfolding HaveCauses book_at
-file_causes strict bytes =
-    in-steps (file_at strict bytes) _ (IsOf (file_at strict bytes)) (λ file. BreaksPages strict file.0 file.1) (own-error (file_at strict bytes)) (λ file file_is.
-    let P : DecodeError → Type 0 = BreaksPages strict file.0 file.1 in
+file_causes reading bytes =
+    in-steps (file_at reading bytes) _ (IsOf (file_at reading bytes)) (λ file. BreaksPages reading file.0 file.1) (own-error (file_at reading bytes)) (λ file file_is.
+    let P : DecodeError → Type 0 = BreaksPages reading file.0 file.1 in
     let wrong : Bool = miscounts file.0.number_of_pages (length (by_pages file.1)) in
-    cause-next P (associated strict file.1) _ (associated-cause P strict file.1 (λ is some. (is, some))) (λ known known_is.
-    cause-next P (refuse_if (strict && wrong) (errors.Format formats.PageCountMismatch)) _ (cause-refused P (strict && wrong) (errors.Format formats.PageCountMismatch) (λ both.
-    let parts = and_parts strict wrong both in
+    cause-next P (associated (is_strict reading) file.1) _ (associated-cause P (is_strict reading) file.1 (λ is some. (is, some))) (λ known known_is.
+    cause-next P (refuse_if (is_strict reading && wrong) (errors.Format formats.PageCountMismatch)) _ (cause-refused P (is_strict reading && wrong) (errors.Format formats.PageCountMismatch) (λ both.
+    let parts = and_parts (is_strict reading) wrong both in
     let count = miscounted file.0.number_of_pages (length (by_pages file.1)) parts.1 in
     (parts.0, count.0, count.1, count.2))) (λ counted counted_is.
-    cause-next P (filed_each strict (by_pages file.1)) _ (each-cause P strict (by_pages file.1) (λ is some. (is, some)) (page-begins strict file.0 file.1)) (λ pages pages_is. tt))))
+    cause-next P (filed_each reading (by_pages file.1)) _ (each-cause P reading (by_pages file.1) (λ is some. (is, some)) (page-begins reading file.0 file.1)) (λ pages pages_is. tt))))
 
 -- ---- the first page
 no-page : {X Y : Type 0} (f : X → Y) (xs : List X) → option_map f (slice_get xs 0) ≡ None → xs ≡ []
@@ -213,4 +222,4 @@ some-page book None none = (refl, none refl)
 pub first_page_causes : FirstPagesHaveCauses
 unfolding first_page HaveCauses
 first_page_causes bytes =
-    in-steps (book_at false bytes) _ (BreaksBook false bytes) (λ book. LacksPages book) (file_causes false bytes) (λ book book_is. some-page book (page_of book 0) (no-page (page_in book) book.pages))
+    in-steps (book_at Lenient bytes) _ (BreaksBook Lenient bytes) (λ book. LacksPages book) (file_causes Lenient bytes) (λ book book_is. some-page book (page_of book 0) (no-page (page_in book) book.pages))
