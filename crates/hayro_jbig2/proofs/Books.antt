@@ -19,7 +19,7 @@ use Rattle.jbig2_base.specs.declared.page_info.PageInformation.{PageInformation}
 use Rattle.jbig2_base.specs.declared.page_info.InitialPage.{InitialPage}
 use Rattle.jbig2_base.specs.declared.reading.Reading.{Reading}
 use Rattle.jbig2_base.specs.declared.reading.Reading.TheVariants.{Lenient}
-use Rattle.hayro_jbig2.specs.Files.{PageInFile, ReadFile, of_page, by_pages, ends_of, filed_before, filed_from, filed_each, left_out_of, numbers_after, miscounts, associated, book_at, page_in, shared_by, PagesStandAlone}
+use Rattle.hayro_jbig2.specs.Files.{PageInFile, ReadFile, of_page, by_pages, ends_of, error_of, filed_before, filed_from, filed_each, left_out_of, numbers_after, miscounts, associated, book_at, page_in, shared_by, PagesStandAlone}
 use Rattle.hayro_jbig2.specs.Names.{named_from, names_of, nothing_shared}
 use Rattle.hayro_jbig2.specs.Page.{ReadPage, beginning_of, told_height}
 
@@ -229,3 +229,18 @@ pub page-left-out : (front : List PageInFile) (reading : Reading) (own : List Se
 page-left-out front reading own before others meant e is so_far refused left =
     sym (page-without front reading own before others meant e is so_far refused
     ∙ ap (λ (r : Result (List PageInFile) DecodeError). with_pages front r) (cond-true (is_salvaged reading e) (filed_each reading others) (Err e) left))
+
+-- the errors of the pages that are left out
+pub left-made : (front : List DecodeError) (reading : Reading) (own : List SegmentView) (before others : List (List SegmentView)) (meant : List DecodeError) (page : PageInFile) → before ≡ own ∷ others → filed_from reading own ≡ Ok page → front ++ left_out_of reading before ≡ meant → front ++ left_out_of reading others ≡ meant
+left-made front reading own before others meant page is made so_far =
+    ap (λ (r : Result PageInFile DecodeError). front ++ (error_of r ++ left_out_of reading others)) (sym made)
+    ∙ ap (λ (rest : List (List SegmentView)). front ++ left_out_of reading rest) (sym is)
+    ∙ so_far
+
+pub left-more : (front next : List DecodeError) (reading : Reading) (own : List SegmentView) (before others : List (List SegmentView)) (meant : List DecodeError) (e : DecodeError) → next ≡ front ++ e ∷ [] → before ≡ own ∷ others → filed_from reading own ≡ Err e → front ++ left_out_of reading before ≡ meant → next ++ left_out_of reading others ≡ meant
+left-more front next reading own before others meant e pushed is refused so_far =
+    ap (λ (errors : List DecodeError). errors ++ left_out_of reading others) pushed
+    ∙ append_assoc front (e ∷ []) (left_out_of reading others)
+    ∙ ap (λ (r : Result PageInFile DecodeError). front ++ (error_of r ++ left_out_of reading others)) (sym refused)
+    ∙ ap (λ (rest : List (List SegmentView)). front ++ left_out_of reading rest) (sym is)
+    ∙ so_far

@@ -192,7 +192,7 @@ page-begins reading h ps (errors.Template e) kept some = (kept, some)
 page-begins reading h ps (errors.Symbol e) kept some = (kept, some)
 page-begins reading h ps (errors.Overflow e) kept some = (kept, some)
 page-begins reading h ps errors.Unsupported kept some = (kept, some)
-page-begins strict h ps errors.OutOfMemory some = some
+page-begins reading h ps errors.OutOfMemory kept some = (kept, some)
 
 pub file_causes : (reading : Reading) → HaveCauses (book_at reading) (BreaksBook reading)
 unfolding HaveCauses book_at
