@@ -128,6 +128,10 @@ answered-kept_by strict shared types.Tables h bytes own = answered-with_code (of
 answered-kept_by strict shared types.Extension h bytes own = answered-next (extension strict bytes) _ (answered-extension strict bytes) (λ known. tt)
 answered-kept_by strict shared _ h bytes own = tt
 
+-- a segment that draws nothing
+pub answered-kept : (strict : Bool) (shared : Names) (p : SegmentView) (own : Names) → Answered (kept_by strict shared p own)
+answered-kept strict shared p own = answered-kept_by strict shared p.header.segment_type p.header p.bytes own
+
 answered-shared-without : (reading : Reading) (number : ℕ) (shared : Shared) (r : Result Names DecodeError) → Answered r → Answered (or_shared_without reading number shared r)
 answered-shared-without reading number shared (Ok names) is = tt
 answered-shared-without reading number shared (Err e) is = answered-if (is_salvaged reading e) _ (Err e) tt is
@@ -143,7 +147,7 @@ pub answered-globals : (reading : Reading) (bytes : List ℕ) → Answered (glob
 unfolding globals_at
 answered-globals reading bytes = search (answered-next, answered-sorted, answered-named)
 
-answered-segment_by : (strict : Bool) (globals : Names) (p : SegmentView) (d : Drawing) → Answered (segment_by strict globals p d)
+pub answered-segment_by : (strict : Bool) (globals : Names) (p : SegmentView) (d : Drawing) → Answered (segment_by strict globals p d)
 answered-segment_by strict globals p d =
     of-segment (λ r breaks. Answered r) strict globals p d
     (record {

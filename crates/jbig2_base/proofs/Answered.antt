@@ -130,7 +130,7 @@ answered-data : (n : Option ℕ) (bytes : List ℕ) → Answered (data_at n byte
 answered-data (Some n) bytes = answered-bytes n bytes
 answered-data None bytes = answered-next (unknown_length_of bytes) _ (answered-unknown bytes) (λ n. answered-bytes n bytes)
 
-answered-segment_data : (header : Header) (bytes : List ℕ) → Answered (segment_data_at header bytes)
+pub answered-segment_data : (header : Header) (bytes : List ℕ) → Answered (segment_data_at header bytes)
 answered-segment_data header bytes = answered-next (data_at header.data_length bytes) _ (answered-data header.data_length bytes) (λ coded. tt)
 
 pub answered-segment : (strict : Bool) (bytes : List ℕ) → Answered (segment_at strict bytes)

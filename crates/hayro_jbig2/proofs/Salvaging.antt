@@ -1,0 +1,93 @@
+-- Salvage refuses little: neither globals, nor lists of segments, nor what a page draws.
+use Rattle.std.proofs.Common.{◌≡◌, ℕ, zero, suc, ◌≤◌, eqb, true, false, cond, List, [], ◌∷◌, length, Option, Some, Result, Ok, Err, refl, sym, ap, ◌∙◌}
+use Rattle.std.proofs.lemmas.Bool.{cond_both}
+use Rattle.std.specs.Prelude.{Any, IsTrue}
+use Rattle.std.specs.Result.{is_ok}
+use Rattle.jbig2_base.specs.Answer.{◌>>=◌}
+use Rattle.jbig2_base.specs.File.{file_at, file_header_at, gathered, gathered_before, header_goes_on, headers_in, segments_by}
+use Rattle.jbig2_base.specs.Reading.{is_salvaged}
+use Rattle.jbig2_base.specs.Segment.{Header, SegmentView, header_at, segment_at, segment_data_at}
+use Rattle.jbig2_base.specs.Sequential.{goes_on, is_end_of_file, segments_in, sequential}
+use Rattle.jbig2_base.specs.declared.error.DecodeError.{DecodeError}
+use Rattle.jbig2_base.specs.declared.error.DecodeError.TheVariants as errors
+use Rattle.jbig2_base.specs.declared.file_header.FileOrganization.{FileOrganization}
+use Rattle.jbig2_base.specs.declared.file_header.FileOrganization.TheVariants.{Sequential, RandomAccess}
+use Rattle.jbig2_base.specs.declared.reading.Reading.TheVariants.{Salvage}
+use Rattle.jbig2_base.proofs.Answered.{Answered, IsAnswered, answered-header, answered-segment, answered-segment_data}
+use Rattle.hayro_jbig2.specs.Names.{Names, Shared, kept_by, named_from, no_names, or_shared_without}
+use Rattle.hayro_jbig2.specs.Page.{Drawing, ends_page, or_left_out, segment_by, segment_on, segments_drawn}
+use Rattle.hayro_jbig2.proofs.Answered.{answered-kept, answered-segment_by}
+
+-- each error that bytes can bring about is left out
+left-out : (e : DecodeError) → IsAnswered e → is_salvaged Salvage e ≡ true
+left-out errors.OutOfMemory never = absurd never
+left-out _ is = refl
+
+abbrev IsFine : {A : Type 0} → Result A DecodeError → Type 0
+IsFine r = IsTrue (is_ok r)
+
+fine-next : {A B : Type 0} (r : Result A DecodeError) (next : A → Result B DecodeError) → IsFine r → ((x : A) → IsFine (next x)) → IsFine (r >>= next)
+fine-next (Ok x) next is each = each x
+fine-next (Err e) next is each = is
+
+-- ---- lists
+fine-on : (r : Result (SegmentView × List ℕ) DecodeError) (others : List ℕ → Result (List SegmentView) DecodeError) → Answered r → ((bytes : List ℕ) → IsFine (others bytes)) → IsFine (goes_on Salvage r others)
+fine-on (Ok x) others is rest =
+    cond_both (is_end_of_file x.0.header.segment_type) (Ok (x.0 ∷ [])) (others x.1 >>= λ ps. Ok (x.0 ∷ ps)) (λ (r : Result (List SegmentView) DecodeError). IsFine r) (λ last. refl) (λ goes. fine-next (others x.1) _ (rest x.1) (λ ps. refl))
+fine-on (Err e) others is rest = rw (left-out e is) refl
+
+fine-segments : (most : ℕ) (bytes : List ℕ) → IsFine (segments_in most Salvage bytes)
+unfolding segments_in
+fine-segments zero bytes = refl
+fine-segments (suc most) bytes =
+    cond_both (eqb (length bytes) 0) (Ok []) (goes_on Salvage (segment_at false bytes) (segments_in most Salvage)) (λ (r : Result (List SegmentView) DecodeError). IsFine r) (λ none. refl)
+    (λ some. fine-on (segment_at false bytes) (segments_in most Salvage) (answered-segment false bytes) (fine-segments most))
+
+pub fine-sequential : (bytes : List ℕ) → IsFine (sequential Salvage bytes)
+fine-sequential bytes = fine-segments (length bytes) bytes
+
+fine-header-on : (bytes : List ℕ) (r : Result (Header × List ℕ) DecodeError) (others : List ℕ → Result (List Header × List ℕ) DecodeError) → Answered r → ((rest : List ℕ) → IsFine (others rest)) → IsFine (header_goes_on Salvage bytes r others)
+fine-header-on bytes (Ok h) others is rest =
+    cond_both (is_end_of_file h.0.segment_type) (Ok (h.0 ∷ [], h.1)) (others h.1 >>= λ hs. Ok (h.0 ∷ hs.0, hs.1)) (λ (r : Result (List Header × List ℕ) DecodeError). IsFine r) (λ last. refl) (λ goes. fine-next (others h.1) _ (rest h.1) (λ hs. refl))
+fine-header-on bytes (Err e) others is rest = rw (left-out e is) refl
+
+fine-headers : (most : ℕ) (bytes : List ℕ) → IsFine (headers_in most Salvage bytes)
+unfolding headers_in
+fine-headers zero bytes = refl
+fine-headers (suc most) bytes =
+    cond_both (eqb (length bytes) 0) (Ok ([], bytes)) (header_goes_on Salvage bytes (header_at false bytes) (headers_in most Salvage)) (λ (r : Result (List Header × List ℕ) DecodeError). IsFine r) (λ none. refl)
+    (λ some. fine-header-on bytes (header_at false bytes) (headers_in most Salvage) (answered-header false bytes) (fine-headers most))
+
+fine-before : (r : Result (SegmentView × List ℕ) DecodeError) (others : List ℕ → Result (List SegmentView) DecodeError) → Answered r → ((rest : List ℕ) → IsFine (others rest)) → IsFine (gathered_before Salvage r others)
+fine-before (Ok p) others is rest = fine-next (others p.1) _ (rest p.1) (λ ps. refl)
+fine-before (Err e) others is rest = rw (left-out e is) refl
+
+fine-gathered : (hs : List Header) (bytes : List ℕ) → IsFine (gathered Salvage hs bytes)
+fine-gathered [] bytes = refl
+fine-gathered (h ∷ hs) bytes = fine-before (segment_data_at h bytes) (gathered Salvage hs) (answered-segment_data h bytes) (fine-gathered hs)
+
+pub fine-by : (organization : FileOrganization) (bytes : List ℕ) → IsFine (segments_by organization Salvage bytes)
+fine-by Sequential bytes = fine-sequential bytes
+fine-by RandomAccess bytes = fine-next (headers_in (length bytes) Salvage bytes) _ (fine-headers (length bytes) bytes) (λ hs. fine-gathered hs.0 hs.1)
+
+-- ---- globals
+fine-without : (number : ℕ) (shared : Shared) (r : Result Names DecodeError) → Answered r → IsFine (or_shared_without Salvage number shared r)
+fine-without number shared (Ok names) is = refl
+fine-without number shared (Err e) is = rw (left-out e is) refl
+
+pub fine-named : (ps : List SegmentView) (shared : Shared) → IsFine (named_from Salvage ps shared)
+fine-named [] shared = refl
+fine-named (p ∷ ps) shared =
+    let kept : Result Names DecodeError = kept_by false no_names p shared.names in
+    fine-next (or_shared_without Salvage p.header.segment_number shared kept) _ (fine-without p.header.segment_number shared kept (answered-kept false no_names p shared.names)) (λ more. fine-named ps more)
+
+-- ---- pages
+fine-left : (number : ℕ) (d : Drawing) (r : Result Drawing DecodeError) → Answered r → IsFine (or_left_out Salvage number d r)
+fine-left number d (Ok e) is = refl
+fine-left number d (Err e) is = rw (left-out e is) refl
+
+pub fine-drawn : (globals : Names) (ps : List SegmentView) (d : Drawing) → IsFine (segments_drawn Salvage globals ps d)
+fine-drawn globals [] d = refl
+fine-drawn globals (p ∷ ps) d =
+    cond_both (ends_page p.header.segment_type) (Ok d) (segment_on Salvage globals p d >>= λ e. segments_drawn Salvage globals ps e) (λ (r : Result Drawing DecodeError). IsFine r) (λ ends. refl)
+    (λ goes. fine-next (segment_on Salvage globals p d) _ (fine-left p.header.segment_number d (segment_by false globals p d) (answered-segment_by false globals p d)) (λ e. fine-drawn globals ps e))
