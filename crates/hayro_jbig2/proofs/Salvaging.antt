@@ -1,10 +1,11 @@
 -- Salvage refuses little: neither globals, nor lists of segments, nor what a page draws.
-use Rattle.std.proofs.Common.{◌≡◌, ℕ, zero, suc, ◌≤◌, eqb, true, false, cond, List, [], ◌∷◌, length, Option, Some, Result, Ok, Err, refl, sym, ap, ◌∙◌}
-use Rattle.std.proofs.lemmas.Bool.{cond_both}
-use Rattle.std.specs.Prelude.{Any, IsTrue}
+use Rattle.std.proofs.Common.{◌≡◌, ℕ, zero, suc, ◌≤◌, eqb, true, false, cond, List, [], ◌∷◌, length, None, Result, Ok, Err, refl, arith}
+use Rattle.std.proofs.lemmas.Bool.{cond_both, le-ltb, ne_eqb}
+use Rattle.std.specs.Prelude.{IsTrue}
 use Rattle.std.specs.Result.{is_ok}
 use Rattle.jbig2_base.specs.Answer.{◌>>=◌}
 use Rattle.jbig2_base.specs.File.{file_at, file_header_at, gathered, gathered_before, header_goes_on, headers_in, segments_by}
+use Rattle.jbig2_base.specs.PageInfo.{initial_page_with}
 use Rattle.jbig2_base.specs.Reading.{is_salvaged}
 use Rattle.jbig2_base.specs.Segment.{Header, SegmentView, header_at, segment_at, segment_data_at}
 use Rattle.jbig2_base.specs.Sequential.{goes_on, is_end_of_file, segments_in, sequential}
@@ -12,11 +13,14 @@ use Rattle.jbig2_base.specs.declared.error.DecodeError.{DecodeError}
 use Rattle.jbig2_base.specs.declared.error.DecodeError.TheVariants as errors
 use Rattle.jbig2_base.specs.declared.file_header.FileOrganization.{FileOrganization}
 use Rattle.jbig2_base.specs.declared.file_header.FileOrganization.TheVariants.{Sequential, RandomAccess}
+use Rattle.jbig2_base.specs.declared.page_info.PageInformation.{PageInformation}
 use Rattle.jbig2_base.specs.declared.reading.Reading.TheVariants.{Salvage}
 use Rattle.jbig2_base.proofs.Answered.{Answered, IsAnswered, answered-header, answered-segment, answered-segment_data}
-use Rattle.hayro_jbig2.specs.Names.{Names, Shared, kept_by, named_from, no_names, or_shared_without}
-use Rattle.hayro_jbig2.specs.Page.{Drawing, ends_page, or_left_out, segment_by, segment_on, segments_drawn}
-use Rattle.hayro_jbig2.proofs.Answered.{answered-kept, answered-segment_by}
+use Rattle.hayro_jbig2.specs.Files.{PageInFile, associated, book_at, by_pages, filed_before, filed_each, filed_from, shared_by}
+use Rattle.hayro_jbig2.specs.Lenient.{HasBeginning}
+use Rattle.hayro_jbig2.specs.Names.{Names, Shared, kept_by, named_from, no_names, nothing_shared, or_shared_without}
+use Rattle.hayro_jbig2.specs.Page.{Drawing, IsSide, beginning_of, ends_page, or_left_out, segment_by, segment_on, segments_drawn}
+use Rattle.hayro_jbig2.proofs.Answered.{answered-filed, answered-kept, answered-segment_by}
 
 -- each error that bytes can bring about is left out
 left-out : (e : DecodeError) → IsAnswered e → is_salvaged Salvage e ≡ true
@@ -91,3 +95,39 @@ fine-drawn globals [] d = refl
 fine-drawn globals (p ∷ ps) d =
     cond_both (ends_page p.header.segment_type) (Ok d) (segment_on Salvage globals p d >>= λ e. segments_drawn Salvage globals ps e) (λ (r : Result Drawing DecodeError). IsFine r) (λ ends. refl)
     (λ goes. fine-next (segment_on Salvage globals p d) _ (fine-left p.header.segment_number d (segment_by false globals p d) (answered-segment_by false globals p d)) (λ e. fine-drawn globals ps e))
+
+-- ---- files
+fine-filed : (all : List (List SegmentView)) → IsFine (filed_each Salvage all)
+fine-filed [] = refl
+fine-filed (own ∷ others) = before (filed_from Salvage own) (filed_each Salvage others) (answered-filed Salvage own) (fine-filed others)
+  where
+    before : (r : Result PageInFile DecodeError) (rest : Result (List PageInFile) DecodeError) → Answered r → IsFine rest → IsFine (filed_before Salvage r rest)
+    before (Ok page) rest is fine = fine-next rest _ fine (λ pages. refl)
+    before (Err e) rest is fine = rw (left-out e is) fine
+
+associated-fine : (ps : List SegmentView) → IsFine (associated false ps)
+associated-fine [] = refl
+associated-fine (p ∷ ps) = associated-fine ps
+
+fine-book : (bytes : List ℕ) → IsFine (file_at Salvage bytes) → IsFine (book_at Salvage bytes)
+unfolding book_at
+fine-book bytes read =
+    fine-next (file_at Salvage bytes) _ read (λ file. fine-next (associated false file.1) _ (associated-fine file.1) (λ known. fine-next (filed_each Salvage (by_pages file.1)) _ (fine-filed (by_pages file.1)) (λ pages. refl)))
+
+fine-file : (bytes : List ℕ) → IsFine (file_header_at bytes) → IsFine (file_at Salvage bytes)
+unfolding file_at
+fine-file bytes read = fine-next (file_header_at bytes) _ read (λ header. fine-next (segments_by header.0.organization Salvage header.1) _ (fine-by header.0.organization header.1) (λ ps. refl))
+
+-- globals of a file that was read in salvage
+fine-shared : (pages : List PageInFile) (shared : List SegmentView) → IsFine (shared_by Salvage pages shared)
+fine-shared [] shared = refl
+fine-shared (page ∷ pages) shared = fine-named shared (nothing_shared None)
+
+-- ---- pages that have a beginning
+begun : (ps : List SegmentView) → HasBeginning ps → IsFine (beginning_of Salvage ps)
+unfolding beginning_of
+begun ps has = rw (has.first, has.read, has.told) (sized has.information.header.page_association has.fields.0 has.height has.columns has.rows)
+  where
+    sized : (number : ℕ) (info : PageInformation) (height : ℕ) → IsSide info.width → IsSide height → IsFine (initial_page_with number info height)
+    sized number info height columns rows =
+        rw (ne_eqb info.width 0 (λ is. omega (arith, columns.0, is)), ne_eqb height 0 (λ is. omega (arith, rows.0, is)), le-ltb 65535 info.width columns.1, le-ltb 65535 height rows.1) refl
