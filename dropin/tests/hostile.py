@@ -19,7 +19,7 @@ import sys
 import tempfile
 
 from documents import Image
-from peers import LIMITS, OURS, PEERS, SYSTEM, Library, Peer, pictures_by
+from peers import LIMITS, OURS, PEERS, SYSTEM, UNLIMITED, Library, Peer, pictures_by
 from samples import image_of_sample, rich_sample, samples_of
 
 from conformance.runner.decoders import own_program
@@ -178,7 +178,8 @@ def faults_of_limit(sample: Sample, limit: int) -> list[str]:
 
 
 def faults_of_file(name: str, data: bytes) -> list[str]:
-    """Whether jbig2dec draws the pages of a file that jbig2-decode draws of it."""
+    """Whether jbig2dec draws the pages of a file that jbig2-decode draws of it. Where the limit of work refuses some, it is
+    tried without that limit."""
     with tempfile.TemporaryDirectory() as folder:
         room = pathlib.Path(folder)
         path = room / "file.jb2"
@@ -191,6 +192,8 @@ def faults_of_file(name: str, data: bytes) -> list[str]:
                 return [f"{name}: too long"]
             meant += pictures_of(ended.output)
         ended, pictures = by_program(OURS, [str(path)], room)
+        if pictures != meant and b"out of memory" in ended.errors:
+            ended, pictures = by_program(UNLIMITED, [str(path)], room)
     if ended.is_late:
         return [f"{name}: too long"]
     if ended.has_crashed:

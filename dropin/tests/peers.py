@@ -18,18 +18,20 @@ PACKAGES = {"mutool": "mupdf-tools", "gs": "ghostscript", "jbig2dec": "jbig2dec"
 
 @dataclasses.dataclass(frozen=True)
 class Library:
-    """A libjbig2dec.so.0: in a folder, or the system's own."""
+    """A libjbig2dec.so.0: in a folder, or the system's own; with settings of the environment."""
 
     name: str
     folder: pathlib.Path | None = None
+    settings: tuple[str, ...] = ()
 
     def run(self, words: list[str]) -> Ended:
         """Runs a program over this library."""
-        head = ["env", f"LD_LIBRARY_PATH={self.folder}"] if self.folder else []
+        head = ["env", f"LD_LIBRARY_PATH={self.folder}", *self.settings] if self.folder else []
         return run(head + words, LIMITS)
 
 
 OURS = Library("this library", pathlib.Path(__file__).resolve().parents[1] / "out")
+UNLIMITED = Library("this library without a limit of work", OURS.folder, ("HAYRO_JBIG2_WORK_LIMIT=0",))
 SYSTEM = Library("libjbig2dec0")
 
 
