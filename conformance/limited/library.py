@@ -138,5 +138,5 @@ class Context:
         rows = ctypes.create_string_buffer((info.width + 7) // 8 * info.height if answer == OK else 0)
         if answer == OK and self.library.context_rows(self.handle, 0, rows, len(rows)) != OK:
             raise MemoryError("a page that is drawn has no rows")
-        size, told = (info.width, info.height), (passed.count, passed.segment, passed.error)
-        return Drawn(answer, left, info.number, size, rows.raw, told)
+        size, passed_over = (info.width, info.height), (passed.count, passed.segment, passed.error)
+        return Drawn(answer, left, info.number, size, rows.raw, passed_over)
