@@ -69,9 +69,9 @@ BreaksInitialPage ps _ = ⊥
 
 -- An open height is this number, which is 0 where nothing tells it.
 abbrev pub BreaksInitialPageBy : ℕ → List SegmentView → DecodeError → Type 0
-BreaksInitialPageBy told ps (Format UnknownPageHeight) = LeavesHeightOpen ps × (told ≡ 0)
-BreaksInitialPageBy told ps (Overflow BitmapDimension) = StatesLongSide ps ⊎ (LeavesHeightOpen ps × (65535 < told))
-BreaksInitialPageBy told ps e = BreaksInitialPage ps e
+BreaksInitialPageBy told_height ps (Format UnknownPageHeight) = LeavesHeightOpen ps × (told_height ≡ 0)
+BreaksInitialPageBy told_height ps (Overflow BitmapDimension) = StatesLongSide ps ⊎ (LeavesHeightOpen ps × (65535 < told_height))
+BreaksInitialPageBy told_height ps e = BreaksInitialPage ps e
 
 abbrev pub BreaksOperator : ℕ → DecodeError → Type 0  -- a combination operator (7.4.1.5)
 BreaksOperator n (Region InvalidCombinationOperator) = 5 ≤ n

@@ -67,8 +67,8 @@ stripes_height (p ∷ ps) = max (stripe_height p) (stripes_height ps)
 
 -- A height of all ones is unknown; then it is what else tells it (7.4.8.2), which is 0 where nothing does.
 abbrev pub height_of : ℕ → ℕ → Result ℕ DecodeError
-height_of stated told =
-    if stated == 4294967295 then (refuse_if (told == 0) (Format UnknownPageHeight) >>= λ known. Ok told)
+height_of stated told_height =
+    if stated == 4294967295 then (refuse_if (told_height == 0) (Format UnknownPageHeight) >>= λ known. Ok told_height)
     else Ok stated
 
 -- a page of this size has pixels, and no more than a bitmap may have
@@ -80,10 +80,10 @@ initial_page_with number info height = do
 
 -- what a page with these segments begins as, which is as high as this where page information leaves that open
 abbrev pub initial_page_by : ℕ → List SegmentView → Result InitialPage DecodeError
-initial_page_by told ps = do
+initial_page_by told_height ps = do
   first ← first_information ps
   info ← information_at first.bytes
-  height ← height_of info.0.height told
+  height ← height_of info.0.height told_height
   initial_page_with first.header.page_association info.0 height
 
 -- the same where the stripes tell an open height

@@ -8,8 +8,7 @@ ghost use Rattle.jbig2_base.specs.declared.file_header.FileHeader.{FileHeader};
 ghost use Rattle.jbig2_base.specs.declared.reading.Reading.{Reading};
 ghost use Rattle.jbig2_base.specs.declared.reading.Reading.TheVariants.{Lenient};
 ghost use Rattle.jbig2_base.specs.inner.SegmentViews.{header_views, segment_views, file_view};
-ghost use Rattle.jbig2_base.specs.Sequential.{by_number, is_cut_off, is_end_of_file, sequential, sorted_segments};
-ghost use Rattle.jbig2_base.specs.Segment.{Header};
+ghost use Rattle.jbig2_base.specs.Sequential.{by_number, is_cut_off, is_end_of_file, sequential};
 ghost use Rattle.jbig2_base.specs.declared.file_header.FileOrganization.TheVariants.{RandomAccess};
 
 use crate::error::{DecodeError, Result};
@@ -23,7 +22,8 @@ use crate::segment::{
 use crate::sort::sort_segments;
 use std::alloc::Allocator;
 
-/// Whether the segments end before one that is refused with this error: lenient reading drops one that is cut off.
+/// Whether the segments end before one that is refused with this error. Lenient reading drops one
+/// that is cut off.
 fn is_cut_off(reading: Reading, error: &DecodeError) -> bool
     ensures { result ≡ is_cut_off reading error.now }
 {
@@ -42,8 +42,8 @@ fn is_end_of_file(kind: SegmentType) -> bool
 /// The segments in the bytes, header and data by turns, up to an end of file segment or the end of
 /// the bytes (T.88, D.1 and D.3).
 ///
-/// Lenient reading drops a segment that the bytes cut off, and ends there; salvage ends before any segment
-/// that is refused. Every other error is the answer.
+/// Lenient reading drops a segment that the bytes cut off, and ends there; salvage ends before any
+/// segment that is refused. Every other error is returned.
 pub fn parse_segments_sequential<'a, A: Allocator + Clone>(
     alloc: A,
     bytes: &'a [u8],
@@ -106,8 +106,8 @@ fn parse_segment_headers<A: Allocator + Clone>(
     Ok(headers)
 }
 
-/// The segments with these headers, whose data stands in their order from the reader's place on. Salvage drops one
-/// whose data isn't there, and those after it.
+/// The segments with these headers, whose data stands in their order from the reader's place on.
+/// Salvage drops one whose data is refused, and those after it.
 fn gather_segments<'a, A: Allocator>(
     alloc: A,
     reader: &mut Reader<'a>,
@@ -189,9 +189,9 @@ fn read_file<'a, A: Allocator + Clone>(
 /// The file that `bytes` hold (T.88, Annex D).
 ///
 /// Returns the first error of the header (`FormatError`), of a segment (`SegmentError`, or
-/// `ParseError` where the bytes end), or `DecodeError::OutOfMemory`. Either organization gives the
-/// same segments: where the bytes spell some that the mode accepts, each of known length and the
-/// last one the only end of file, the file has those.
+/// `ParseError` where the bytes end), or `DecodeError::OutOfMemory`. Salvage ends before a segment
+/// that is refused. Either organization gives the same segments: where the bytes spell some that the
+/// reading accepts, each of known length and the last one the only end of file, the file has those.
 pub fn parse_file<'a, A: Allocator + Clone>(
     alloc: A,
     bytes: &'a [u8],
@@ -205,7 +205,8 @@ pub fn parse_file<'a, A: Allocator + Clone>(
     read_file(alloc, bytes, reading)
 }
 
-/// What lenient reading refuses the segments in the bytes with, which salvage leaves out.
+/// In salvage the error of the segment that lenient reading of the bytes refuses, and that is left out.
+/// `None` where it refuses none, and in the other readings.
 pub fn sequence_fault<A: Allocator + Clone>(
     alloc: A,
     bytes: &[u8],
@@ -224,7 +225,8 @@ pub fn sequence_fault<A: Allocator + Clone>(
     }
 }
 
-/// What lenient reading refuses the segments of the file in the bytes with, which salvage leaves out.
+/// In salvage the error that lenient reading of the file returns, and for which segments are left out.
+/// `None` where it returns none, and in the other readings.
 pub fn file_fault<A: Allocator + Clone>(
     alloc: A,
     bytes: &[u8],

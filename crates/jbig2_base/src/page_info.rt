@@ -231,16 +231,16 @@ pub fn stripes_height<A: Allocator>(segments: &[Segment<'_, A>]) -> u32
     height
 }
 
-fn page_height(stated: u32, told: u32) -> Result<u32>
-    ensures { Answers (λ height. height) result (height_of stated told) }
+fn page_height(stated: u32, told_height: u32) -> Result<u32>
+    ensures { Answers (λ height. height) result (height_of stated told_height) }
 {
     if stated != u32::MAX {
         return Ok(stated);
     }
-    if told == 0 {
+    if told_height == 0 {
         return Err(DecodeError::Format(FormatError::UnknownPageHeight));
     }
-    Ok(told)
+    Ok(told_height)
 }
 
 fn initial_page_with(number: u32, information: &PageInformation, height: u32) -> Result<InitialPage>
@@ -282,19 +282,22 @@ impl InitialPage {
         InitialPage::with_height(segments, stripes_height(segments))
     }
 
-    /// The same, where a height that page information leaves open is `told`; 0 where nothing tells it.
+    /// The same, with `told_height` for a height that page information leaves open; 0 where nothing tells it.
     #[tactic(auto, using(crate::proofs::InitialCauses::initial_page_by_cause))]
-    pub fn with_height<A: Allocator>(segments: &[Segment<'_, A>], told: u32) -> Result<InitialPage>
-        ensures causes { HasCause result (BreaksInitialPageBy told (segment_views segments.now)) }
+    pub fn with_height<A: Allocator>(
+        segments: &[Segment<'_, A>],
+        told_height: u32,
+    ) -> Result<InitialPage>
+        ensures causes { HasCause result (BreaksInitialPageBy told_height (segment_views segments.now)) }
         ensures value { Answers (λ initial_page. initial_page) result
-            (initial_page_by told (segment_views segments.now)) }
+            (initial_page_by told_height (segment_views segments.now)) }
         ensures fits { IfOk result
             (λ initial_page. (initial_page.width ≤ 65535) × (initial_page.height ≤ 65535)) }
     {
         let first = first_information(segments)?;
         let mut reader = Reader::new(first.bytes);
         let information = parse_page_information(&mut reader)?;
-        let height = page_height(information.height, told)?;
+        let height = page_height(information.height, told_height)?;
         initial_page_with(first.header.page_association, &information, height)
     }
 }
