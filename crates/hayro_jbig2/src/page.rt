@@ -105,7 +105,7 @@ impl<'a, A: Allocator> Page<'a, A> {
           initial_page = initial_page;
           segments = segment_views segments.now.items;
           globals = kept_names globals.entry;
-          fault = fault.entry;
+          fault = fault;
         } }
     {
         Page {
