@@ -1,5 +1,5 @@
 -- Salvage refuses little: neither globals, nor lists of segments, nor what a page draws.
-use Rattle.std.proofs.Common.{◌≡◌, ℕ, zero, suc, ◌≤◌, eqb, true, false, cond, List, [], ◌∷◌, length, None, Result, Ok, Err, refl, arith}
+use Rattle.std.proofs.Common.{◌≡◌, ℕ, zero, suc, eqb, true, false, List, [], ◌∷◌, length, None, Result, Ok, Err, refl, arith}
 use Rattle.std.proofs.lemmas.Bool.{cond_both, le-ltb, ne_eqb}
 use Rattle.std.specs.Prelude.{IsTrue}
 use Rattle.std.specs.Result.{is_ok}
@@ -27,10 +27,10 @@ pub left-out : (e : DecodeError) → IsAnswered e → is_salvaged Salvage e ≡ 
 left-out errors.OutOfMemory never = absurd never
 left-out _ is = refl
 
-abbrev IsFine : {A : Type 0} → Result A DecodeError → Type 0
+abbrev pub IsFine : {A : Type 0} → Result A DecodeError → Type 0
 IsFine r = IsTrue (is_ok r)
 
-fine-next : {A B : Type 0} (r : Result A DecodeError) (next : A → Result B DecodeError) → IsFine r → ((x : A) → IsFine (next x)) → IsFine (r >>= next)
+pub fine-next : {A B : Type 0} (r : Result A DecodeError) (next : A → Result B DecodeError) → IsFine r → ((x : A) → IsFine (next x)) → IsFine (r >>= next)
 fine-next (Ok x) next is each = each x
 fine-next (Err e) next is each = is
 
@@ -109,22 +109,22 @@ associated-fine : (ps : List SegmentView) → IsFine (associated false ps)
 associated-fine [] = refl
 associated-fine (p ∷ ps) = associated-fine ps
 
-fine-book : (bytes : List ℕ) → IsFine (file_at Salvage bytes) → IsFine (book_at Salvage bytes)
+pub fine-book : (bytes : List ℕ) → IsFine (file_at Salvage bytes) → IsFine (book_at Salvage bytes)
 unfolding book_at
 fine-book bytes read =
     fine-next (file_at Salvage bytes) _ read (λ file. fine-next (associated false file.1) _ (associated-fine file.1) (λ known. fine-next (filed_each Salvage (by_pages file.1)) _ (fine-filed (by_pages file.1)) (λ pages. refl)))
 
-fine-file : (bytes : List ℕ) → IsFine (file_header_at bytes) → IsFine (file_at Salvage bytes)
+pub fine-file : (bytes : List ℕ) → IsFine (file_header_at bytes) → IsFine (file_at Salvage bytes)
 unfolding file_at
 fine-file bytes read = fine-next (file_header_at bytes) _ read (λ header. fine-next (segments_by header.0.organization Salvage header.1) _ (fine-by header.0.organization header.1) (λ ps. refl))
 
 -- globals of a file that was read in salvage
-fine-shared : (pages : List PageInFile) (shared : List SegmentView) → IsFine (shared_by Salvage pages shared)
+pub fine-shared : (pages : List PageInFile) (shared : List SegmentView) → IsFine (shared_by Salvage pages shared)
 fine-shared [] shared = refl
 fine-shared (page ∷ pages) shared = fine-named shared (nothing_shared None)
 
 -- ---- pages that have a beginning
-begun : (ps : List SegmentView) → HasBeginning ps → IsFine (beginning_of Salvage ps)
+pub begun : (ps : List SegmentView) → HasBeginning ps → IsFine (beginning_of Salvage ps)
 unfolding beginning_of
 begun ps has = rw (has.first, has.read, has.told) (sized has.information.header.page_association has.fields.0 has.height has.columns has.rows)
   where
