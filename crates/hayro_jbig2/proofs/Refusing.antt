@@ -7,30 +7,21 @@ use Rattle.jbig2_base.specs.Answer.{◌>>=◌}
 use Rattle.jbig2_base.specs.PageInfo.{first_information}
 use Rattle.jbig2_base.specs.Reading.{fault_of, is_salvaged}
 use Rattle.jbig2_base.specs.Segment.{SegmentView}
-use Rattle.jbig2_base.specs.Sequential.{by_number, sequential, sorted_segments}
+use Rattle.jbig2_base.specs.Sequential.{sequential, sorted_segments}
 use Rattle.jbig2_base.specs.declared.error.DecodeError.{DecodeError}
 use Rattle.jbig2_base.specs.declared.page_info.InitialPage.{InitialPage}
 use Rattle.jbig2_base.specs.declared.reading.Reading.{Reading}
 use Rattle.jbig2_base.specs.declared.reading.Reading.TheVariants.{Lenient, Salvage}
 use Rattle.hayro_jbig2.specs.Files.{PageInFile, ReadFile, book_at, filed_before, filed_each, filed_from, numbers_after, of_page, page_in, page_of}
 use Rattle.hayro_jbig2.specs.Lenient.{HasBeginning, SalvageRefusesLittle}
-use Rattle.hayro_jbig2.specs.Names.{Names, Shared, globals_at, nothing_shared}
+use Rattle.hayro_jbig2.specs.Names.{Names, Shared}
 use Rattle.hayro_jbig2.specs.Page.{ReadPage, beginning_of, drawing_of_page, embedded, page_begun, segments_drawn}
 use Rattle.hayro_jbig2.proofs.Books.{file-of_book, filled_from, mapped, number-of_filed}
 use Rattle.hayro_jbig2.proofs.ByPages.{is_among, no_segments}
 use Rattle.hayro_jbig2.proofs.Causes.{at-first, at-later}
-use Rattle.hayro_jbig2.proofs.Salvaging.{IsFine, begun, fine-book, fine-drawn, fine-file, fine-named, fine-next, fine-sequential, fine-shared}
+use Rattle.hayro_jbig2.proofs.Salvaging.{IsFine, begun, fine-book, fine-drawn, fine-file, fine-globals, fine-next, fine-over, fine-shared}
 
-fine-over : {A B C : Type 0} (r : Result A DecodeError) (f : A → B) (next : B → Result C DecodeError) → IsFine r → ((x : A) → IsFine (next (f x))) → IsFine ((r >>= λ x. let s : Result B DecodeError = Ok (f x) in s) >>= next)
-fine-over (Ok x) f next is each = each x
-fine-over (Err e) f next is each = absurd (cc)
-
--- ---- globals and pages
-fine-globals : (bytes : List ℕ) → IsFine (globals_at Salvage bytes)
-unfolding globals_at
-fine-globals bytes =
-    fine-over (sequential Salvage bytes) _ _ (fine-sequential bytes) (λ ps. fine-named (by_number ps) (nothing_shared (fault_of Salvage (sequential Lenient bytes))))
-
+-- ---- pages
 fine-drawing : (page : ReadPage) → page.reading ≡ Salvage → IsFine page.globals → IsFine (drawing_of_page page)
 fine-drawing page is globals =
     subst (λ (reading : Reading). IsFine (page.globals >>= λ names. segments_drawn reading names page.segments (page_begun page.initial_page))) (sym is)
