@@ -235,12 +235,12 @@ impl<'a, A: Allocator + Clone> File<'a, A> {
         File::read(alloc, bytes, settings.reading(), work)
     }
 
-    /// The file as lenient reading has it, where damage leaves out as little as it can: the list of segments ends at the
-    /// first that is refused, a page that can't begin is left out, and a segment of no page that fails is passed over. The
-    /// segments of no page are decoded for at most `work` units of work.
+    /// The file as lenient reading has it, where damage leaves out as little as it can: the list of segments ends
+    /// at the first that is refused, a page that can't begin is left out, and a segment of no page that fails is
+    /// passed over. The segments of no page are decoded for at most `work` units of work.
     ///
-    /// Where lenient reading gives a file, this gives the same. Refused for a fault of the file's header, or for want of
-    /// memory or of work.
+    /// Where lenient reading gives a file, this gives the same. Refused for a fault of the file's header, or for
+    /// want of memory or of work.
     pub fn salvaged(alloc: A, bytes: &'a [u8], work: Option<u64>) -> Result<File<'a, A>>
         ensures value { Gives (λ file. file) result (book_at Salvage bytes.now) }
         ensures causes { HasCauseOrNoMemory result (BreaksBook Salvage bytes.now) }

@@ -108,8 +108,9 @@ impl<A: Allocator + Clone> Globals<A> {
         Globals::read(alloc, bytes, settings.reading(), work)
     }
 
-    /// The globals as lenient reading has them, where damage leaves out as little as it can: the list of their segments ends
-    /// at the first that is refused, and a segment that fails is passed over. Refused for want of memory or of work alone.
+    /// The globals as lenient reading has them, where damage leaves out as little as it can: the list of their
+    /// segments ends at the first that is refused, and a segment that fails is passed over. Refused for want of
+    /// memory or of work alone.
     pub fn salvaged(alloc: A, bytes: &[u8], work: Option<u64>) -> Result<Globals<A>>
         ensures value { Gives (λ globals. globals) result (globals_at Salvage bytes.now) }
         ensures memory { IfErr result (λ e. e ≡ OutOfMemory) }

@@ -16,14 +16,14 @@ pub fn salvage_agrees()
     ensures { SalvageAgrees }
 {}
 
-/// Whatever the bytes, salvage refuses neither globals, nor an embedded page or a page of a file with a width and a height
-/// that can be, nor drawing one of these, nor a file with a header.
+/// Whatever the bytes, salvage refuses neither globals, nor an embedded page or a page of a file with a width and a
+/// height that can be, nor drawing one of these, nor a file with a header.
 pub fn salvage_refuses_little()
     ensures { SalvageRefusesLittle }
 {}
 
-/// Segments of different numbers may stand in any order among the bytes of an embedded page, or of globals, where the same
-/// error ends the lists of both early, or none.
+/// Segments of different numbers may stand in any order among the bytes of an embedded page, or of globals, where
+/// the same error ends the lists of both early, or none.
 pub fn order_changes_nothing()
     ensures { OrderChangesNothing }
 {}

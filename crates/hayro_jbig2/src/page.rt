@@ -124,7 +124,8 @@ impl<'a, A: Allocator> Page<'a, A> {
         self.initial_page.number
     }
 
-    /// The error that ended the list of the page's segments early, or of its file's, in salvage: that of lenient reading.
+    /// The error that ended the list of the page's segments early, or of its file's, in salvage: that of lenient
+    /// reading.
     pub fn fault(&self) -> Option<&DecodeError>
         ensures { found (λ e. e) result ≡ self.now.fault }
     {
@@ -174,9 +175,9 @@ impl<'a, A: Allocator + Clone> Page<'a, A> {
         Page::read_embedded(alloc, bytes, globals, settings.reading())
     }
 
-    /// The page as lenient reading has it, where damage leaves out as little as it can: the list of its segments ends at
-    /// the first that is refused, a segment that fails is passed over, and an open height that no stripe tells is that of
-    /// the lowest region's end.
+    /// The page as lenient reading has it, where damage leaves out as little as it can: the list of its segments
+    /// ends at the first that is refused, a segment that fails is passed over, and an open height that no stripe
+    /// tells is that of the lowest region's end.
     ///
     /// Where lenient reading gives a page, this gives the same. Refused where the segments have no page information
     /// with a size that a page may have, or for want of memory.
