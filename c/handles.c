@@ -7,12 +7,23 @@ uint32_t jbig2_c_page_alone(const hayro_jbig2_memory *memory, bool strict, const
                             hayro_jbig2_page **page);
 uint32_t jbig2_c_page_with(const hayro_jbig2_memory *memory, bool strict, hayro_jbig2_globals *globals,
                            const uint8_t *stream, size_t stream_length, hayro_jbig2_page **page);
+uint32_t jbig2_c_salvaged_alone(const hayro_jbig2_memory *memory, const uint8_t *stream, size_t stream_length,
+                                hayro_jbig2_page **page);
+uint32_t jbig2_c_salvaged_with(const hayro_jbig2_memory *memory, hayro_jbig2_globals *globals, const uint8_t *stream,
+                               size_t stream_length, hayro_jbig2_page **page);
 
 uint32_t hayro_jbig2_page_new(const hayro_jbig2_memory *memory, bool strict, hayro_jbig2_globals *globals,
                               const uint8_t *stream, size_t stream_length, hayro_jbig2_page **page) {
     if (globals == NULL)
         return jbig2_c_page_alone(memory, strict, stream, stream_length, page);
     return jbig2_c_page_with(memory, strict, globals, stream, stream_length, page);
+}
+
+uint32_t hayro_jbig2_page_new_salvaged(const hayro_jbig2_memory *memory, hayro_jbig2_globals *globals,
+                                       const uint8_t *stream, size_t stream_length, hayro_jbig2_page **page) {
+    if (globals == NULL)
+        return jbig2_c_salvaged_alone(memory, stream, stream_length, page);
+    return jbig2_c_salvaged_with(memory, globals, stream, stream_length, page);
 }
 
 uint32_t hayro_jbig2_file_get_infos(hayro_jbig2_file *file, hayro_jbig2_page_info *infos, size_t count) {

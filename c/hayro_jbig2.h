@@ -23,7 +23,8 @@
  *
  * Common to all calls:
  *
- * - strict: false passes over what a lenient decoder may pass over; true returns the first fault.
+ * - strict: false is lenient reading, which passes over what a decoder may pass over; true returns the first fault. A third
+ *   way to read damaged files, salvage, has calls of its own, on handles (below).
  * - file: the bytes of a whole JBIG2 file. index: one of its pages, from 0. A file is read anew in each call.
  * - stream: a page as a PDF file keeps it, the bytes of a /JBIG2Decode stream. globals: those of its /JBIG2Globals, or
  *   any pointer but null and length 0 where it has none.
@@ -144,8 +145,8 @@ uint32_t hayro_jbig2_embedded_packed(bool strict, const uint8_t *globals, size_t
 /*
  * Handles: what is decoded or read once and used by several calls.
  *
- * A handle is made by a call whose name ends in _new, _new_within or _share. The call gets a pointer to a variable that
- * holds NULL, and leaves it so if it fails. The call that frees a handle takes NULL too.
+ * A handle is made by a call whose name ends in _new, _new_within, _new_salvaged or _share. The call gets a pointer to a
+ * variable that holds NULL, and leaves it so if it fails. The call that frees a handle takes NULL too.
  *
  * - globals: decoded once. All pages that are made with them share them, and so do all handles that hold them. They are
  *   freed with the last of these, so a page needs no handle of them.
@@ -181,9 +182,10 @@ typedef struct hayro_jbig2_page_info {
     uint32_t number, width, height;
 } hayro_jbig2_page_info;
 
-/* How many segments lenient reading passed over in a page, with the number and the error of the first; all 0 where it
- * passed over none. A segment that the end of the bytes cuts off is left out and not counted: to know of it, read the
- * bytes strictly too, which returns HAYRO_JBIG2_PARSE_UNEXPECTED_EOF. */
+/* How many segments were passed over in a page, with the number and the error of the first; all 0 where none was. In
+ * lenient reading these are regions, in salvage also what they refer to. A segment that the end of the bytes cuts off is
+ * left out and not counted: to know of it, read the bytes strictly too, which returns
+ * HAYRO_JBIG2_PARSE_UNEXPECTED_EOF. */
 typedef struct hayro_jbig2_passed_over {
     size_t count;
     uint32_t segment, error;
@@ -236,6 +238,33 @@ uint32_t hayro_jbig2_globals_new_within(const hayro_jbig2_memory *memory, bool s
                                         const uint8_t *bytes, size_t length, hayro_jbig2_globals **globals);
 uint32_t hayro_jbig2_file_new_within(const hayro_jbig2_memory *memory, bool strict, uint64_t work, const uint8_t *bytes,
                                      size_t length, hayro_jbig2_file **file);
+
+/* Salvage, for viewers of damaged files. It reads as lenient reading does, and leaves out what that refuses
+ * (docs/FORMAT.md, 12.7): a list of segments ends at a bad header, a dictionary that fails is passed over, globals keep
+ * what can be read of them, an open height is taken from the regions, and a page of a file that can't begin doesn't stop
+ * the others. What lenient reading reads, this reads in the same way. Pages are drawn by the calls above.
+ * HAYRO_JBIG2_NO_WORK_LIMIT is no limit for `work`. */
+uint32_t hayro_jbig2_globals_new_salvaged(const hayro_jbig2_memory *memory, uint64_t work, const uint8_t *bytes,
+                                          size_t length, hayro_jbig2_globals **globals);
+/* globals: NULL for a page without. They may be read in another way than the page. */
+uint32_t hayro_jbig2_page_new_salvaged(const hayro_jbig2_memory *memory, hayro_jbig2_globals *globals,
+                                       const uint8_t *stream, size_t stream_length, hayro_jbig2_page **page);
+uint32_t hayro_jbig2_file_new_salvaged(const hayro_jbig2_memory *memory, uint64_t work, const uint8_t *bytes,
+                                       size_t length, hayro_jbig2_file **file);
+
+/* What salvage left out of globals, a page or a file, besides what hayro_jbig2_context_get_passed_over tells of a page that
+ * was drawn. All 0 where it left out nothing, and by other readings. */
+typedef struct hayro_jbig2_left_out {
+    size_t segments;         /* passed over: of globals, or of what the pages of a file share */
+    uint32_t segment, error; /* the number and the error of the first */
+    size_t pages;            /* pages of a file that can't begin */
+    uint32_t page_error;     /* the error of the first */
+    uint32_t list_error;     /* the error that ended the list of segments early */
+} hayro_jbig2_left_out;
+
+uint32_t hayro_jbig2_globals_get_left_out(hayro_jbig2_globals *globals, hayro_jbig2_left_out *left_out);
+uint32_t hayro_jbig2_page_get_left_out(hayro_jbig2_page *page, hayro_jbig2_left_out *left_out);
+uint32_t hayro_jbig2_file_get_left_out(hayro_jbig2_file *file, hayro_jbig2_left_out *left_out);
 
 /* A text for what a call returned, never null and never to be freed. This call and
  * hayro_jbig2_version are written in C. */

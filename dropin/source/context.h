@@ -71,6 +71,13 @@ void drop_share(struct context *context);
 /* The page that the gathered bytes have, over the globals. */
 uint32_t new_stream(struct context *context, hayro_jbig2_page **stream);
 
+/* reading.c: salvage, or lenient reading where the environment asks for it */
+
+uint32_t read_globals(const hayro_jbig2_memory *memory, const struct bytes *bytes, hayro_jbig2_globals **globals);
+uint32_t read_page(const hayro_jbig2_memory *memory, hayro_jbig2_globals *globals, const struct bytes *bytes,
+                   hayro_jbig2_page **page);
+uint32_t read_file(const hayro_jbig2_memory *memory, const struct bytes *bytes, hayro_jbig2_file **file);
+
 /* limit.c */
 
 /* The work that globals, and what the pages of a file share, may take, and a page at least. */
@@ -89,10 +96,12 @@ uint32_t draw_embedded(struct context *context, struct page **page);
 
 /* left_out.c */
 
-/* Why strict reading refuses the list of segments that were gathered. Lenient reading leaves out a segment that is cut off
-   or of an unknown type, and doesn't count it. */
+/* Why strict reading refuses the list of segments that were gathered. The other readings leave out a segment that is cut
+   off or of an unknown type, and don't count it. */
 uint32_t look_for_left_out(struct context *context, uint32_t *why);
-void tell_left_out(struct context *context, uint32_t why);
+/* One warning each, with the number of the first segment: of what was passed over, and of what salvage left out. */
+void tell_passed_over(struct context *context, hayro_jbig2_passed_over passed);
+void tell_left_out(struct context *context, uint32_t why, const hayro_jbig2_left_out *left_out);
 
 /* file.c */
 

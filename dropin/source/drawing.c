@@ -1,18 +1,5 @@
 #include "context.h"
 
-/* What the lenient decoder passed over, as one warning with the number of the first segment. */
-static void tell_passed_over(struct context *context, hayro_jbig2_context *room) {
-    hayro_jbig2_passed_over passed;
-    char what[80];
-    if (hayro_jbig2_context_get_passed_over(room, &passed) != HAYRO_JBIG2_OK || passed.count == 0)
-        return;
-    if (passed.count == 1)
-        snprintf(what, sizeof what, "a segment was passed over");
-    else
-        snprintf(what, sizeof what, "%zu segments were passed over, this one first", passed.count);
-    tell_answer(context, SEVERITY_WARNING, passed.segment, what, passed.error);
-}
-
 uint32_t copy_out(struct context *context, hayro_jbig2_context *room, const hayro_jbig2_page_info *info,
                   struct page **page) {
     struct page *copy = new_page(context->allocator, info->width, info->height);
@@ -24,7 +11,9 @@ uint32_t copy_out(struct context *context, hayro_jbig2_context *room, const hayr
         free_page(copy);
         return answer;
     }
-    tell_passed_over(context, room);
+    hayro_jbig2_passed_over passed;
+    if (hayro_jbig2_context_get_passed_over(room, &passed) == HAYRO_JBIG2_OK)
+        tell_passed_over(context, passed);
     *page = copy;
     return HAYRO_JBIG2_OK;
 }
@@ -51,6 +40,7 @@ static uint32_t draw(struct context *context, hayro_jbig2_page *stream, struct p
 
 uint32_t draw_embedded(struct context *context, struct page **page) {
     hayro_jbig2_page *stream = NULL;
+    hayro_jbig2_left_out left_out = {0};
     uint32_t why = HAYRO_JBIG2_OK;
     uint32_t answer = look_for_left_out(context, &why);
     if (answer == HAYRO_JBIG2_OK)
@@ -59,9 +49,11 @@ uint32_t draw_embedded(struct context *context, struct page **page) {
         return answer;
     /* The decoder has a copy of them. */
     clear_bytes(context->allocator, &context->bytes);
-    answer = draw(context, stream, page);
+    answer = hayro_jbig2_page_get_left_out(stream, &left_out);
+    if (answer == HAYRO_JBIG2_OK)
+        answer = draw(context, stream, page);
     hayro_jbig2_page_free(stream);
     if (answer == HAYRO_JBIG2_OK)
-        tell_left_out(context, why);
+        tell_left_out(context, why, &left_out);
     return answer;
 }

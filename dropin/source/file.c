@@ -3,14 +3,16 @@
 uint32_t open_file(struct context *context) {
     struct open_file *open = &context->open;
     const struct bytes *bytes = &context->bytes;
+    hayro_jbig2_left_out left_out = {0};
     uint32_t why = HAYRO_JBIG2_OK;
     uint32_t answer = look_for_left_out(context, &why);
     if (answer == HAYRO_JBIG2_OK)
-        answer = hayro_jbig2_file_new_within(&context->memory, false, least_work(), start_of(bytes), bytes->length,
-                                             &open->file);
+        answer = read_file(&context->memory, bytes, &open->file);
+    if (answer == HAYRO_JBIG2_OK)
+        answer = hayro_jbig2_file_get_left_out(open->file, &left_out);
     if (answer != HAYRO_JBIG2_OK)
         return answer;
-    tell_left_out(context, why);
+    tell_left_out(context, why, &left_out);
     open->count = hayro_jbig2_file_page_count(open->file);
     return open->count == 0 ? HAYRO_JBIG2_NO_SUCH_PAGE : new_room(context, &open->room);
 }

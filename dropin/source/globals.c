@@ -8,7 +8,7 @@ static pthread_mutex_t sharing = PTHREAD_MUTEX_INITIALIZER;
 static uint32_t decode(const hayro_jbig2_memory *memory, const struct bytes *bytes, hayro_jbig2_globals **globals) {
     if (bytes->has_hole)
         return HAYRO_JBIG2_OUT_OF_MEMORY;
-    return hayro_jbig2_globals_new_within(memory, false, least_work(), start_of(bytes), bytes->length, globals);
+    return read_globals(memory, bytes, globals);
 }
 
 /* The program jbig2dec goes on where it got no context, and a page without the globals that it needs is another page. So
@@ -22,13 +22,16 @@ struct globals *jbig2_make_global_ctx(struct context *context) {
     if (context == NULL)
         return &nobody.made;
     struct globals *globals = &context->made;
+    hayro_jbig2_left_out left_out = {0};
     uint32_t why = HAYRO_JBIG2_OK;
     *globals = (struct globals){.made_of = context, .holders = 1};
     globals->answer = look_for_left_out(context, &why);
     if (globals->answer == HAYRO_JBIG2_OK)
         globals->answer = decode(&context->memory, &context->bytes, &globals->decoded);
     if (globals->answer == HAYRO_JBIG2_OK)
-        tell_left_out(context, why);
+        globals->answer = hayro_jbig2_globals_get_left_out(globals->decoded, &left_out);
+    if (globals->answer == HAYRO_JBIG2_OK)
+        tell_left_out(context, why, &left_out);
     return globals;
 }
 
@@ -106,8 +109,7 @@ void drop_share(struct context *context) {
 }
 
 static uint32_t new_over(struct context *context, hayro_jbig2_globals *globals, hayro_jbig2_page **stream) {
-    const struct bytes *bytes = &context->bytes;
-    return hayro_jbig2_page_new(&context->memory, false, globals, start_of(bytes), bytes->length, stream);
+    return read_page(&context->memory, globals, &context->bytes, stream);
 }
 
 /* With the shared globals, one thread at a time: a page counts itself among their holders. False where there are none. */

@@ -40,7 +40,26 @@ uint32_t look_for_left_out(struct context *context, uint32_t *why) {
     return HAYRO_JBIG2_OK;
 }
 
-void tell_left_out(struct context *context, uint32_t why) {
-    if (why == HAYRO_JBIG2_PARSE_UNEXPECTED_EOF || why == HAYRO_JBIG2_SEGMENT_UNKNOWN_TYPE)
+static void warn_of_several(struct context *context, uint32_t segment, size_t count, const char *one, const char *several,
+                            uint32_t error) {
+    char what[80];
+    if (count > 1)
+        snprintf(what, sizeof what, "%zu %s", count, several);
+    if (count > 0)
+        tell_answer(context, SEVERITY_WARNING, segment, count == 1 ? one : what, error);
+}
+
+void tell_passed_over(struct context *context, hayro_jbig2_passed_over passed) {
+    warn_of_several(context, passed.segment, passed.count, "a segment was passed over",
+                    "segments were passed over, this one first", passed.error);
+}
+
+void tell_left_out(struct context *context, uint32_t why, const hayro_jbig2_left_out *left_out) {
+    tell_passed_over(context, (hayro_jbig2_passed_over){left_out->segments, left_out->segment, left_out->error});
+    warn_of_several(context, NO_SEGMENT, left_out->pages, "a page is left out", "pages are left out, the first as follows",
+                    left_out->page_error);
+    if (left_out->list_error != HAYRO_JBIG2_OK)
+        tell_answer(context, SEVERITY_WARNING, NO_SEGMENT, "the rest of the segments is left out", left_out->list_error);
+    else if (why == HAYRO_JBIG2_PARSE_UNEXPECTED_EOF || why == HAYRO_JBIG2_SEGMENT_UNKNOWN_TYPE)
         tell_answer(context, SEVERITY_WARNING, NO_SEGMENT, "a segment is left out", why);
 }

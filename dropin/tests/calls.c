@@ -8,6 +8,7 @@ int main(int count, char **words) {
     read_files(words + 1);
     meets_the_traps();
     hands_out_pages();
+    survives_damage();
     refuses_each_request();
     shares_globals_among_threads();
     free_files();

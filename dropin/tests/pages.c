@@ -139,23 +139,6 @@ static void tells_what_it_refuses(void) {
     refuses(true, book.at, 13, "no such page");
 }
 
-/* A symbol dictionary that refers to a segment after it. */
-static void tells_of_bad_globals(void) {
-    struct counted memory = counted_allocator();
-    struct heard heard = {0};
-    struct context *context = embedded_context(&memory.base, NULL, &heard);
-    CHECK(jbig2_data_in(context, (const uint8_t *)"\0\0\0\2\0\x20\2", 7) == 0);
-    struct globals *globals = jbig2_make_global_ctx(context);
-    context = embedded_context(&memory.base, globals, &heard);
-    take_in(context, stream.at, stream.length, 4096);
-    CHECK(jbig2_complete_page(context) == -1);
-    CHECK(heard.count[SEVERITY_FATAL] == 1);
-    CHECK(strstr(heard.text, "globals are refused: segment refers to an invalid segment") != NULL);
-    jbig2_global_ctx_free(globals);
-    jbig2_ctx_free(context);
-    CHECK(memory.held == 0);
-}
-
 /* The stream with a region after its last, whose data end before its flags: it is passed over, with its number. */
 static void tells_what_was_passed_over(void) {
     static const uint8_t region[] = "\0\0\0\x7B\x26\0\1\0\0\0\x11\0\0\0\x08\0\0\0\1\0\0\0\0\0\0\0\0\0";
@@ -214,17 +197,6 @@ static void tells_what_is_left_out(void) {
     warns(true, &book, 11 + 11 + 1, "", cut);
 }
 
-static void tells_of_cut_globals(void) {
-    struct counted memory = counted_allocator();
-    struct heard heard = {0};
-    struct context *context = embedded_context(&memory.base, NULL, &heard);
-    take_in(context, shared.at, shared.length - 1, 4096);
-    struct globals *globals = jbig2_make_global_ctx(context);
-    CHECK(heard.count[SEVERITY_WARNING] == 1 && strstr(heard.text, "a segment is left out") != NULL);
-    jbig2_global_ctx_free(globals);
-    CHECK(memory.held == 0);
-}
-
 static void formats_messages(void) {
     struct counted memory = counted_allocator();
     struct heard heard = {0};
@@ -244,9 +216,7 @@ void hands_out_pages(void) {
     draws_after_a_refused_stream();
     goes_on_with_a_file();
     tells_what_it_refuses();
-    tells_of_bad_globals();
     tells_what_was_passed_over();
     tells_what_is_left_out();
-    tells_of_cut_globals();
     formats_messages();
 }

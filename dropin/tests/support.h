@@ -53,10 +53,11 @@ struct context *file_context(struct allocator *allocator, struct heard *heard);
 /* The globals of the tests, decoded; null where memory is refused. */
 struct globals *made_globals(struct allocator *allocator, struct heard *heard);
 
-/* refusals.c, threads.c, traps.c, pages.c */
+/* refusals.c, threads.c, traps.c, pages.c, damage.c */
 void refuses_each_request(void);
 void shares_globals_among_threads(void);
 void meets_the_traps(void);
 void hands_out_pages(void);
+void survives_damage(void);
 
 #endif

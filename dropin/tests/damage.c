@@ -1,0 +1,120 @@
+/* Damaged streams, globals and files: what is drawn of them all the same, and what the listener is told. */
+#define _POSIX_C_SOURCE 200809L /* setenv */
+#include "support.h"
+
+#include <stdlib.h>
+#include <string.h>
+
+/* Segments of pages of 8 by 1: a page, a region with one black pixel, number 2, and a dictionary, number 1, that wants a
+ * table which is not there. */
+#define PAGE_OF(number, height) "\0\0\0\0\x30\0" number "\0\0\0\x13\0\0\0\x08" height "\0\0\0\0\0\0\0\0\0\0\0"
+#define PAGE PAGE_OF("\1", "\0\0\0\1")
+#define REGION \
+    "\0\0\0\2\x26\0\1\0\0\0\x1A\0\0\0\1\0\0\0\1\0\0\0\0\0\0\0\0\0\0\x03\xFF\xFD\xFF\x02\xFE\xFE\xFE"
+#define BAD_SYMBOLS(page) "\0\0\0\1\0\0" page "\0\0\0\x0F\0\x09\0\0\0\1\0\0\0\1\x5F\x80\x80\0\x40"
+/* A header that refers to its own number. */
+#define JUNK "                "
+#define FILE_HEADER "\x97JB2\r\n\x1A\n"
+
+/* The bytes of a literal without its end. */
+#define BYTES(literal) (const uint8_t *)literal, sizeof literal - 1
+
+static const char ended[] = "the rest of the segments is left out: segment refers to an invalid segment";
+static const char passed[] = "a segment was passed over: invalid Huffman table selection";
+
+/* Draws a page of a row, or has it refused where `row` is -1; the last message is the warning `why`, of this segment. */
+static void draws(bool is_file, const uint8_t *bytes, size_t length, int row, unsigned warnings, uint32_t segment,
+                  const char *why) {
+    struct counted memory = counted_allocator();
+    struct heard heard = {0};
+    struct context *context =
+        is_file ? file_context(&memory.base, &heard) : embedded_context(&memory.base, NULL, &heard);
+    CHECK(jbig2_data_in(context, bytes, length) == 0);
+    CHECK(jbig2_complete_page(context) == (row < 0 ? -1 : 0));
+    struct image *image = jbig2_page_out(context);
+    CHECK((image != NULL) == (row >= 0));
+    CHECK(image == NULL || (image->width == 8 && image->height == 1 && image->rows[0] == row));
+    jbig2_release_page(context, image);
+    CHECK(jbig2_page_out(context) == NULL);
+    CHECK(heard.count[SEVERITY_WARNING] == warnings && heard.count[SEVERITY_FATAL] == (row < 0));
+    CHECK(heard.segment == segment && strcmp(heard.text, why) == 0);
+    jbig2_ctx_free(context);
+    CHECK(memory.held == 0);
+}
+
+static void draws_what_is_left(void) {
+    draws(false, BYTES(PAGE REGION JUNK), 0x80, 1, NO_SEGMENT, ended);
+    draws(false, BYTES(PAGE BAD_SYMBOLS("\1") REGION), 0x80, 1, 1, passed);
+    draws(false, BYTES(PAGE BAD_SYMBOLS("\1") REGION JUNK), 0x80, 2, NO_SEGMENT, ended);
+    draws(false, BYTES(PAGE_OF("\1", "\xFF\xFF\xFF\xFF") REGION), 0x80, 0, 0, "");
+    draws(true, BYTES(FILE_HEADER "\3" PAGE BAD_SYMBOLS("\0") REGION), 0x80, 1, 1, passed);
+    draws(true, BYTES(FILE_HEADER "\3" PAGE REGION JUNK), 0x80, 1, NO_SEGMENT, ended);
+    draws(true, BYTES(FILE_HEADER "\3" PAGE REGION PAGE_OF("\2", "\0\0\0\0")), 0x80, 1, NO_SEGMENT,
+          "a page is left out: page has zero width or height");
+    draws(true, BYTES(FILE_HEADER "\3" PAGE REGION PAGE_OF("\2", "\0\0\0\0") PAGE_OF("\3", "\0\1\0\0")), 0x80, 1,
+          NO_SEGMENT, "2 pages are left out, the first as follows: page has zero width or height");
+}
+
+/* The same by lenient reading, which the environment asks for; another word asks for nothing. */
+static void reads_leniently_where_it_is_asked_to(void) {
+    setenv("HAYRO_JBIG2_READING", "lenient", 1);
+    draws(false, BYTES(PAGE REGION JUNK), -1, 0, NO_SEGMENT,
+          "the page is refused: segment refers to an invalid segment");
+    draws(false, BYTES(PAGE BAD_SYMBOLS("\1") REGION), -1, 0, NO_SEGMENT,
+          "the page is refused: invalid Huffman table selection");
+    draws(true, BYTES(FILE_HEADER "\3" PAGE REGION JUNK), -1, 0, NO_SEGMENT,
+          "the page is refused: segment refers to an invalid segment");
+    setenv("HAYRO_JBIG2_READING", "any", 1);
+    draws(false, BYTES(PAGE REGION JUNK), 0x80, 1, NO_SEGMENT, ended);
+    unsetenv("HAYRO_JBIG2_READING");
+}
+
+/* The page of the tests with these globals in place of its own: it is drawn without what is missing, or refused. */
+static void draws_with_bad_globals(const uint8_t *bytes, size_t length, const char *why, bool is_refused) {
+    struct counted memory = counted_allocator();
+    struct heard heard = {0};
+    struct context *context = embedded_context(&memory.base, NULL, &heard);
+    CHECK(jbig2_data_in(context, bytes, length) == 0);
+    struct globals *globals = jbig2_make_global_ctx(context);
+    CHECK(heard.count[SEVERITY_WARNING] == !is_refused && heard.count[SEVERITY_FATAL] == 0);
+    CHECK(is_refused || strcmp(heard.text, why) == 0);
+    context = embedded_context(&memory.base, globals, &heard);
+    CHECK(jbig2_data_in(context, stream.at, stream.length) == 0);
+    CHECK(jbig2_complete_page(context) == (is_refused ? -1 : 0));
+    struct image *image = jbig2_page_out(context);
+    CHECK((image == NULL) == is_refused && (image == NULL || !is_meant(image)));
+    CHECK(heard.count[SEVERITY_FATAL] == is_refused);
+    CHECK(!is_refused || strcmp(heard.text, why) == 0);
+    jbig2_release_page(context, image);
+    jbig2_global_ctx_free(globals);
+    jbig2_ctx_free(context);
+    CHECK(memory.held == 0);
+}
+
+/* A symbol dictionary that refers to a segment after it, and one that wants a table which is not there. */
+static void tells_of_bad_globals(void) {
+    draws_with_bad_globals(BYTES("\0\0\0\2\0\x20\2"), ended, false);
+    draws_with_bad_globals(BYTES(BAD_SYMBOLS("\0")), passed, false);
+    setenv("HAYRO_JBIG2_READING", "lenient", 1);
+    draws_with_bad_globals(BYTES("\0\0\0\2\0\x20\2"),
+                           "the page's globals are refused: segment refers to an invalid segment", true);
+    unsetenv("HAYRO_JBIG2_READING");
+}
+
+static void tells_of_cut_globals(void) {
+    struct counted memory = counted_allocator();
+    struct heard heard = {0};
+    struct context *context = embedded_context(&memory.base, NULL, &heard);
+    CHECK(jbig2_data_in(context, shared.at, shared.length - 1) == 0);
+    struct globals *globals = jbig2_make_global_ctx(context);
+    CHECK(heard.count[SEVERITY_WARNING] == 1 && strstr(heard.text, "a segment is left out") != NULL);
+    jbig2_global_ctx_free(globals);
+    CHECK(memory.held == 0);
+}
+
+void survives_damage(void) {
+    draws_what_is_left();
+    reads_leniently_where_it_is_asked_to();
+    tells_of_bad_globals();
+    tells_of_cut_globals();
+}
