@@ -36,7 +36,7 @@ use Rattle.hayro_jbig2.specs.Regions.{generic_at, halftone_at, patterns_for, ref
 use Rattle.hayro_jbig2.specs.declared.kept.Kept.{Kept}
 use Rattle.hayro_jbig2.specs.declared.region.RegionKind.{RegionKind}
 use Rattle.hayro_jbig2.specs.declared.region.RegionKind.TheVariants as kinds
-use Rattle.hayro_jbig2.proofs.Agreeing.{Agrees, Relates, Same, agrees-next, agrees-then, relates-last, relates-next, same-guard, same-if, same-itself, same-next, same-refusal, same-then}
+use Rattle.hayro_jbig2.proofs.Agreeing.{Relates, Same, agrees-next, relates-last, relates-next, same-guard, same-if, same-itself, same-next, same-refusal, same-then}
 use Rattle.hayro_jbig2.proofs.AgreeingRegions.{generic-header-agrees, generic-same, halftone-header-agrees, halftone-same, lenient_generic, lenient_halftone, lenient_pattern, pattern-header-agrees, patterns-same}
 use Rattle.hayro_jbig2.proofs.AgreeingSegments.{file-salvaged, file-same, sequential-salvaged, sequential-same, sorted-same}
 use Rattle.hayro_jbig2.proofs.AgreeingSymbols.{lenient_symbols, symbol-header-agrees, symbols-decoded-same}

@@ -72,25 +72,36 @@ number-of_page reading n ps initial_page h =
     number-of_initial_page first.0.header.page_association info.0.0 height.0 initial_page height.2 ∙ first-of_page n ps first.0 first.1
 
 -- A filed page is made of the segments of its own number.
-record IsOwn (reading : Reading) (ps : List SegmentView) (page : PageInFile) : Type 0 where
-  initial_page : beginning_of reading (of_page page.initial_page.number ps) ≡ Ok page.initial_page
-  segments : page.segments ≡ of_page page.initial_page.number ps
+pub record IsOwn (reading : Reading) (ps : List SegmentView) (page : PageInFile) : Type 0 where
+  pub initial_page : beginning_of reading (of_page page.initial_page.number ps) ≡ Ok page.initial_page
+  pub segments : page.segments ≡ of_page page.initial_page.number ps
 
-own-filed : (reading : Reading) (ps : List SegmentView) (n : ℕ) (page : PageInFile) → filed_from reading (of_page n ps) ≡ Ok page → IsOwn reading ps page
+-- what a page that is filed is made of
+filed-with : (reading : Reading) (own : List SegmentView) (page : PageInFile) → filed_from reading own ≡ Ok page → (begun : InitialPage) × (beginning_of reading own ≡ Ok begun) × (◌≡◌ {A = PageInFile} (record { initial_page = begun; segments = own }) page)
 unfolding filed_from
-own-filed reading ps n page h =
-    let own : List SegmentView = of_page n ps in
+filed-with reading own page h =
     let ended = went (refuse_if (is_strict reading && not (ends_of own == 1)) (Format InvalidEndOfPage)) (λ ended. beginning_of reading own >>= λ initial_page. Ok (record { initial_page = initial_page; segments = own })) page h in
     let initial_page = went (beginning_of reading own) (λ initial_page. Ok (record { initial_page = initial_page; segments = own })) page ended.2 in
+    (initial_page.0, initial_page.1, let told = initial_page.2 in cc)
+
+pub number-of_filed : (reading : Reading) (n : ℕ) (ps : List SegmentView) (page : PageInFile) → filed_from reading (of_page n ps) ≡ Ok page → page.initial_page.number ≡ n
+number-of_filed reading n ps page h =
+    let made = filed-with reading (of_page n ps) page h in
+    ap (λ (p : PageInFile). p.initial_page.number) (sym made.2) ∙ number-of_page reading n ps made.0 made.1
+
+own-filed : (reading : Reading) (ps : List SegmentView) (n : ℕ) (page : PageInFile) → filed_from reading (of_page n ps) ≡ Ok page → IsOwn reading ps page
+own-filed reading ps n page h =
+    let own : List SegmentView = of_page n ps in
+    let initial_page = filed-with reading own page h in
     let made : PageInFile = record { initial_page = initial_page.0; segments = own } in
-    let same : made ≡ page = let told = initial_page.2 in cc in
+    let same : made ≡ page = initial_page.2 in
     let number : n ≡ initial_page.0.number = sym (number-of_page reading n ps initial_page.0 initial_page.1) in
     let Own : ℕ → Type 0 = λ m. (beginning_of reading (of_page m ps) ≡ Ok initial_page.0) × (own ≡ of_page m ps) in
     let told = subst Own number (initial_page.1, refl) in
     let is : IsOwn reading ps made = record { initial_page = told.0; segments = told.1 } in
     subst (λ (p : PageInFile). IsOwn reading ps p) same is
 
-abbrev AllOwn : Reading → List SegmentView → List PageInFile → Type 0
+abbrev pub AllOwn : Reading → List SegmentView → List PageInFile → Type 0
 AllOwn reading ps [] = Unit {0}
 AllOwn reading ps (page ∷ pages) = IsOwn reading ps page × AllOwn reading ps pages
 
@@ -134,11 +145,12 @@ counted_with reading fault file = refuse_if (is_strict reading && miscounts file
 abbrev book_with : Reading → Option DecodeError → FileHeader × List SegmentView → Result ReadFile DecodeError
 book_with reading fault file = associated (is_strict reading) file.1 >>= λ known. counted_with reading fault file
 
-record Filled (reading : Reading) (fault : Option DecodeError) (ps : List SegmentView) (book : ReadFile) : Type 0 where
-  own : AllOwn reading ps book.pages
-  mode : book.reading ≡ reading
-  shared : book.globals ≡ shared_by reading book.pages (of_page 0 ps)
-  ended : book.fault ≡ fault
+pub record Filled (reading : Reading) (fault : Option DecodeError) (ps : List SegmentView) (book : ReadFile) : Type 0 where
+  pub filed : filed_each reading (by_pages ps) ≡ Ok book.pages
+  pub own : AllOwn reading ps book.pages
+  pub mode : book.reading ≡ reading
+  pub shared : book.globals ≡ shared_by reading book.pages (of_page 0 ps)
+  pub ended : book.fault ≡ fault
 
 filled : (reading : Reading) (fault : Option DecodeError) (file : FileHeader × List SegmentView) (book : ReadFile) → book_with reading fault file ≡ Ok book → Filled reading fault file.1 book
 filled reading fault file book h =
@@ -148,8 +160,23 @@ filled reading fault file book h =
     let made : ReadFile = book_of reading fault file pages.0 in
     let same : made ≡ book = let told = pages.2 in cc in
     let own : AllOwn reading file.1 pages.0 = own-each reading file.1 (numbers_after [] file.1) pages.0 pages.1 in
-    let is : Filled reading fault file.1 made = record { own = own; mode = refl; shared = refl; ended = refl } in
+    let is : Filled reading fault file.1 made = record { filed = pages.1; own = own; mode = refl; shared = refl; ended = refl } in
     subst (λ (b : ReadFile). Filled reading fault file.1 b) same is
+
+-- a book of these bytes
+pub filled_from : (reading : Reading) (bytes : List ℕ) (file : FileHeader × List SegmentView) (book : ReadFile) → file_at reading bytes ≡ Ok file → book_at reading bytes ≡ Ok book → Filled reading (fault_of reading (file_at Lenient bytes)) file.1 book
+unfolding book_at
+filled_from reading bytes file book read h =
+    let fault : Option DecodeError = fault_of reading (file_at Lenient bytes) in
+    let with_file : book_with reading fault file ≡ Ok book = sym (ap (λ (r : Result (FileHeader × List SegmentView) DecodeError). r >>= book_with reading fault) read) ∙ h in
+    filled reading fault file book with_file
+
+-- a book was read from a file
+pub file-of_book : (reading : Reading) (bytes : List ℕ) (book : ReadFile) → book_at reading bytes ≡ Ok book → (file : FileHeader × List SegmentView) × (file_at reading bytes ≡ Ok file)
+unfolding book_at
+file-of_book reading bytes book h =
+    let file = went (file_at reading bytes) (book_with reading (fault_of reading (file_at Lenient bytes))) book h in
+    (file.0, file.1)
 
 -- a file with a page shares its globals
 shares-at : (reading : Reading) (pages : List PageInFile) (shared : List SegmentView) (index : ℕ) (page : PageInFile) → slice_get pages index ≡ Some page → shared_by reading pages shared ≡ named_from reading shared (nothing_shared None)
@@ -165,12 +192,12 @@ pub shares_some : (reading : Reading) (pages : List PageInFile) (shared : List S
 shares_some reading [] shared some = absurd (cc)
 shares_some reading (p ∷ pages) shared some = refl
 
-record Mapped {X Y : Type 0} (f : X → Y) (o : Option X) (y : Y) : Type 0 where
-  from : X
-  was : o ≡ Some from
-  is : f from ≡ y
+pub record Mapped {X Y : Type 0} (f : X → Y) (o : Option X) (y : Y) : Type 0 where
+  pub from : X
+  pub was : o ≡ Some from
+  pub is : f from ≡ y
 
-mapped : {X Y : Type 0} (f : X → Y) (o : Option X) (y : Y) → option_map f o ≡ Some y → Mapped f o y
+pub mapped : {X Y : Type 0} (f : X → Y) (o : Option X) (y : Y) → option_map f o ≡ Some y → Mapped f o y
 mapped f None y h = absurd (cc)
 mapped f (Some x) y h = record { from = x; was = refl; is = cc }
 
@@ -182,11 +209,9 @@ own-leaf : (reading : Reading) (fault : Option DecodeError) (ps : List SegmentVi
 own-leaf reading fault ps book page filled shared own = rw (own.initial_page, filled.mode, filled.ended, own.segments, shared) refl
 
 pub pages_stand_alone : PagesStandAlone
-unfolding book_at
 pages_stand_alone reading bytes file book index page read h at =
     let fault : Option DecodeError = fault_of reading (file_at Lenient bytes) in
-    let with_file : book_with reading fault file ≡ Ok book = sym (ap (λ (r : Result (FileHeader × List SegmentView) DecodeError). r >>= book_with reading fault) read) ∙ h in
-    let all = filled reading fault file book with_file in
+    let all = filled_from reading bytes file book read h in
     let leaf = mapped (page_in book) (slice_get book.pages index) page at in
     let own = own-at reading file.1 book.pages index leaf.from all.own leaf.was in
     let Alone : ReadPage → Type 0 = λ l. page_from reading fault (of_page l.initial_page.number file.1) (of_page 0 file.1) ≡ Ok l in

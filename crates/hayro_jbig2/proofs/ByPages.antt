@@ -21,7 +21,7 @@ use Rattle.hayro_jbig2.specs.Files.{numbers_after, of_page, by_pages}
 flipped : (m n : ℕ) → (m == n) ≡ false → (n == m) ≡ false
 flipped m n apart = ne_eqb n m (λ e. eqb-false m n apart (sym e))
 
-abbrev is_among : ℕ → List ℕ → Bool
+abbrev pub is_among : ℕ → List ℕ → Bool
 is_among n ns = list_any (λ m. m == n) ns
 
 -- no page's number, or one that came before
@@ -133,7 +133,7 @@ none-next true n ns p ps here above none others =
     absurd (both_ways (is_among n (numbers_after ns (p ∷ ps))) none (stays n (with_page_number p.header.page_association ns) ps among))
 none-next false n ns p ps here above none others = others
 
-no_segments : (n : ℕ) (ns : List ℕ) (ps : List SegmentView) → (n == 0) ≡ false → is_among n (numbers_after ns ps) ≡ false → of_page n ps ≡ []
+pub no_segments : (n : ℕ) (ns : List ℕ) (ps : List SegmentView) → (n == 0) ≡ false → is_among n (numbers_after ns ps) ≡ false → of_page n ps ≡ []
 no_segments n ns [] above none = refl
 no_segments n ns (p ∷ ps) above none = none-next (p.header.page_association == n) n ns p ps refl above none (no_segments n (with_page_number p.header.page_association ns) ps above none)
 

@@ -24,6 +24,7 @@ mod PageArea
 mod PutLemmas
 mod RegionSizes
 mod RowValues
+pub mod Refusing
 pub mod Runs
 pub mod Sending
 pub mod SegmentCauses

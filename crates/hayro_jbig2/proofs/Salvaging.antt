@@ -1,24 +1,24 @@
 -- Salvage refuses little: neither globals, nor lists of segments, nor what a page draws.
-use Rattle.std.proofs.Common.{◌≡◌, ℕ, zero, suc, ◌≤◌, eqb, true, false, cond, List, [], ◌∷◌, length, None, Result, Ok, Err, refl, arith}
+use Rattle.std.proofs.Common.{◌≡◌, ℕ, zero, suc, eqb, true, false, List, [], ◌∷◌, length, None, Result, Ok, Err, refl, arith}
 use Rattle.std.proofs.lemmas.Bool.{cond_both, le-ltb, ne_eqb}
 use Rattle.std.specs.Prelude.{IsTrue}
 use Rattle.std.specs.Result.{is_ok}
 use Rattle.jbig2_base.specs.Answer.{◌>>=◌}
 use Rattle.jbig2_base.specs.File.{file_at, file_header_at, gathered, gathered_before, header_goes_on, headers_in, segments_by}
 use Rattle.jbig2_base.specs.PageInfo.{initial_page_with}
-use Rattle.jbig2_base.specs.Reading.{is_salvaged}
+use Rattle.jbig2_base.specs.Reading.{fault_of, is_salvaged}
 use Rattle.jbig2_base.specs.Segment.{Header, SegmentView, header_at, segment_at, segment_data_at}
-use Rattle.jbig2_base.specs.Sequential.{goes_on, is_end_of_file, segments_in, sequential}
+use Rattle.jbig2_base.specs.Sequential.{by_number, goes_on, is_end_of_file, segments_in, sequential}
 use Rattle.jbig2_base.specs.declared.error.DecodeError.{DecodeError}
 use Rattle.jbig2_base.specs.declared.error.DecodeError.TheVariants as errors
 use Rattle.jbig2_base.specs.declared.file_header.FileOrganization.{FileOrganization}
 use Rattle.jbig2_base.specs.declared.file_header.FileOrganization.TheVariants.{Sequential, RandomAccess}
 use Rattle.jbig2_base.specs.declared.page_info.PageInformation.{PageInformation}
-use Rattle.jbig2_base.specs.declared.reading.Reading.TheVariants.{Salvage}
+use Rattle.jbig2_base.specs.declared.reading.Reading.TheVariants.{Lenient, Salvage}
 use Rattle.jbig2_base.proofs.Answered.{Answered, IsAnswered, answered-header, answered-segment, answered-segment_data}
 use Rattle.hayro_jbig2.specs.Files.{PageInFile, associated, book_at, by_pages, filed_before, filed_each, filed_from, shared_by}
 use Rattle.hayro_jbig2.specs.Lenient.{HasBeginning}
-use Rattle.hayro_jbig2.specs.Names.{Names, Shared, kept_by, named_from, no_names, nothing_shared, or_shared_without}
+use Rattle.hayro_jbig2.specs.Names.{Names, Shared, globals_at, kept_by, named_from, no_names, nothing_shared, or_shared_without}
 use Rattle.hayro_jbig2.specs.Page.{Drawing, IsSide, beginning_of, ends_page, or_left_out, segment_by, segment_on, segments_drawn}
 use Rattle.hayro_jbig2.proofs.Answered.{answered-filed, answered-kept, answered-segment_by}
 
@@ -27,12 +27,16 @@ pub left-out : (e : DecodeError) → IsAnswered e → is_salvaged Salvage e ≡ 
 left-out errors.OutOfMemory never = absurd never
 left-out _ is = refl
 
-abbrev IsFine : {A : Type 0} → Result A DecodeError → Type 0
+abbrev pub IsFine : {A : Type 0} → Result A DecodeError → Type 0
 IsFine r = IsTrue (is_ok r)
 
-fine-next : {A B : Type 0} (r : Result A DecodeError) (next : A → Result B DecodeError) → IsFine r → ((x : A) → IsFine (next x)) → IsFine (r >>= next)
+pub fine-next : {A B : Type 0} (r : Result A DecodeError) (next : A → Result B DecodeError) → IsFine r → ((x : A) → IsFine (next x)) → IsFine (r >>= next)
 fine-next (Ok x) next is each = each x
 fine-next (Err e) next is each = is
+
+pub fine-over : {A B C : Type 0} (r : Result A DecodeError) (f : A → B) (next : B → Result C DecodeError) → IsFine r → ((x : A) → IsFine (next (f x))) → IsFine ((r >>= λ x. let s : Result B DecodeError = Ok (f x) in s) >>= next)
+fine-over (Ok x) f next is each = each x
+fine-over (Err e) f next is each = absurd (cc)
 
 -- ---- lists
 fine-on : (r : Result (SegmentView × List ℕ) DecodeError) (others : List ℕ → Result (List SegmentView) DecodeError) → Answered r → ((bytes : List ℕ) → IsFine (others bytes)) → IsFine (goes_on Salvage r others)
@@ -85,6 +89,11 @@ fine-named (p ∷ ps) shared =
     let kept : Result Names DecodeError = kept_by false no_names p shared.names in
     fine-next (or_shared_without Salvage p.header.segment_number shared kept) _ (fine-without p.header.segment_number shared kept (answered-kept false no_names p shared.names)) (λ more. fine-named ps more)
 
+pub fine-globals : (bytes : List ℕ) → IsFine (globals_at Salvage bytes)
+unfolding globals_at
+fine-globals bytes =
+    fine-over (sequential Salvage bytes) _ _ (fine-sequential bytes) (λ ps. fine-named (by_number ps) (nothing_shared (fault_of Salvage (sequential Lenient bytes))))
+
 -- ---- pages
 fine-left : (number : ℕ) (d : Drawing) (r : Result Drawing DecodeError) → Answered r → IsFine (or_left_out Salvage number d r)
 fine-left number d (Ok e) is = refl
@@ -109,22 +118,22 @@ associated-fine : (ps : List SegmentView) → IsFine (associated false ps)
 associated-fine [] = refl
 associated-fine (p ∷ ps) = associated-fine ps
 
-fine-book : (bytes : List ℕ) → IsFine (file_at Salvage bytes) → IsFine (book_at Salvage bytes)
+pub fine-book : (bytes : List ℕ) → IsFine (file_at Salvage bytes) → IsFine (book_at Salvage bytes)
 unfolding book_at
 fine-book bytes read =
     fine-next (file_at Salvage bytes) _ read (λ file. fine-next (associated false file.1) _ (associated-fine file.1) (λ known. fine-next (filed_each Salvage (by_pages file.1)) _ (fine-filed (by_pages file.1)) (λ pages. refl)))
 
-fine-file : (bytes : List ℕ) → IsFine (file_header_at bytes) → IsFine (file_at Salvage bytes)
+pub fine-file : (bytes : List ℕ) → IsFine (file_header_at bytes) → IsFine (file_at Salvage bytes)
 unfolding file_at
 fine-file bytes read = fine-next (file_header_at bytes) _ read (λ header. fine-next (segments_by header.0.organization Salvage header.1) _ (fine-by header.0.organization header.1) (λ ps. refl))
 
 -- globals of a file that was read in salvage
-fine-shared : (pages : List PageInFile) (shared : List SegmentView) → IsFine (shared_by Salvage pages shared)
+pub fine-shared : (pages : List PageInFile) (shared : List SegmentView) → IsFine (shared_by Salvage pages shared)
 fine-shared [] shared = refl
 fine-shared (page ∷ pages) shared = fine-named shared (nothing_shared None)
 
 -- ---- pages that have a beginning
-begun : (ps : List SegmentView) → HasBeginning ps → IsFine (beginning_of Salvage ps)
+pub begun : (ps : List SegmentView) → HasBeginning ps → IsFine (beginning_of Salvage ps)
 unfolding beginning_of
 begun ps has = rw (has.first, has.read, has.told) (sized has.information.header.page_association has.fields.0 has.height has.columns has.rows)
   where
