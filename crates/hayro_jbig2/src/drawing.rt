@@ -32,6 +32,12 @@ const SEGMENT: u64 = 1024;
 /// The work of a number that a segment refers to, besides looking through what is kept.
 const REFERENCE: u64 = 64;
 
+/// The work of each byte of a custom table, which may state four lines.
+const TABLE_BYTE: u64 = 64;
+
+/// The work of the contexts of a symbol dictionary.
+const CONTEXTS: u64 = 4096;
+
 /// What all segments of a page are drawn by.
 #[derive(Drop)]
 pub(crate) struct Drawer<'a, A: Allocator> {
@@ -46,6 +52,15 @@ fn ends_page(kind: SegmentType) -> bool
     matches!(kind, SegmentType::EndOfPage | SegmentType::EndOfFile)
 }
 
+/// The work of what a segment of this type asks memory for, whatever it holds.
+fn work_of_type<A: Allocator>(segment: &Segment<'_, A>) -> u64 {
+    match segment.header.segment_type {
+        SegmentType::Tables => (segment.bytes.len() as u64).saturating_mul(TABLE_BYTE),
+        SegmentType::SymbolDictionary => CONTEXTS,
+        _ => 0,
+    }
+}
+
 /// Takes the work of a segment by itself, where `kept` things may be what a number names.
 pub(crate) fn pay_segment<A: Allocator, L: Ledger>(
     segment: &Segment<'_, A>,
@@ -56,7 +71,8 @@ pub(crate) fn pay_segment<A: Allocator, L: Ledger>(
 {
     let numbers = segment.header.referred_to_segments.len() as u64;
     let each = (kept as u64).saturating_add(REFERENCE);
-    steps.pay(numbers.saturating_mul(each).saturating_add(SEGMENT))?;
+    let work = numbers.saturating_mul(each).saturating_add(SEGMENT);
+    steps.pay(work.saturating_add(work_of_type(segment)))?;
     Ok(())
 }
 

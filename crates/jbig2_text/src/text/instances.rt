@@ -1,5 +1,5 @@
 //! The instances of a text region (T.88, 6.4.5).
-ghost use Rattle.std.specs.Prelude.{◌≡◌, ◌*◌, ◌≤◌, [], nat_lt, option_map, IfErr, OnErr};
+ghost use Rattle.std.specs.Prelude.{◌≡◌, ◌*◌, ◌≤◌, [], nat_lt, option_map, OnErr};
 ghost use Rattle.jbig2_base.specs.Answer.{Gives};
 ghost use Rattle.jbig2_text.specs.Text.{with_symbol, with_instance, after_instances, text_instances, instances_drawn, text_region};
 ghost use Rattle.jbig2_text.specs.inner.Parts.{some_strips, strips, with_last, with_next_instance};
@@ -25,11 +25,12 @@ const INSTANCE: u64 = 256;
 /// How many instances a byte of a segment may stand for.
 const INSTANCES_PER_BYTE: usize = 32;
 
-/// The instances so far, and where the next one stands.
+/// The instances so far, where the next one stands, and the work of drawing them.
 #[derive(Drop)]
 pub struct PlacedInstances<'a, B: Allocator, M: Allocator> {
     instances: Vec<Instance<'a, B, M>, M>,
     cursor: Cursor,
+    work: u64,
 }
 
 impl<'a, B: Allocator, M: Allocator> PlacedInstances<'a, B, M> {
@@ -41,6 +42,7 @@ impl<'a, B: Allocator, M: Allocator> PlacedInstances<'a, B, M> {
         PlacedInstances {
             instances: Vec::new(alloc),
             cursor,
+            work: 0,
         }
     }
 
@@ -59,11 +61,20 @@ impl<'a, B: Allocator, M: Allocator> PlacedInstances<'a, B, M> {
         let Some(symbol) = symbol else {
             return Ok(());
         };
+        let work = work_of(&symbol);
         let (instance, next) = place(flags, symbol, self.cursor.cur_s, t)?;
         self.instances.push(instance)?;
+        self.work = self.work.saturating_add(work);
         self.cursor.cur_s = next;
         Ok(())
     }
+}
+
+/// The work of drawing a symbol, which is that of a bitmap of its size.
+fn work_of<B: Allocator, M: Allocator>(symbol: &InstanceSymbol<'_, B, M>) -> u64 {
+    let row = u64::from(symbol.width().div_ceil(64).max(1)) * 64;
+    row.saturating_mul(u64::from(symbol.height()))
+        .saturating_add(64)
 }
 
 /// Reads the instance at the cursor.
@@ -80,7 +91,6 @@ fn read_instance<'a, R: ReadInstances, B: Allocator, M: Allocator + Clone, C: Al
         let meant = with_instance R.readings (params_view params.now) before in
         Gives (λ _. reached_view placed.new refining.new (R.state readings.new)) result meant }
 {
-    steps.pay(INSTANCE)?;
     let t = read_t_in_strip(readings, &params.flags, steps)?;
     let t = numbers::moved(placed.cursor.strip_t, t)?;
     let id = readings.id(steps)?;
@@ -130,19 +140,6 @@ fn read_inner<'a, R: ReadInstances, B: Allocator, M: Allocator + Clone, C: Alloc
     Ok(())
 }
 
-/// Takes the work of drawing these instances.
-fn pay_symbols<B: Allocator, M: Allocator, L: Ledger>(
-    instances: &[Instance<'_, B, M>],
-    steps: &mut Steps<L>,
-) -> Result<()>
-    ensures { IfErr result (λ e. e ≡ DecodeError.OutOfMemory) }
-{
-    for instance in instances {
-        steps.pay_bitmap(instance.symbol.width(), instance.symbol.height())?;
-    }
-    Ok(())
-}
-
 /// Reads the last instance, and the difference of S after it.
 fn read_last<'a, R: ReadInstances, B: Allocator, M: Allocator + Clone, C: Allocator, L: Ledger>(
     readings: &mut R,
@@ -160,7 +157,7 @@ fn read_last<'a, R: ReadInstances, B: Allocator, M: Allocator + Clone, C: Alloca
     read_instance(readings, refining, params, &mut placed, steps)?;
     let end = readings.delta_s(steps);
     check_end(params.strict, end)?;
-    pay_symbols(&placed.instances, steps)?;
+    steps.pay(placed.work)?;
     Ok(placed.instances)
 }
 
@@ -210,6 +207,7 @@ fn read_strips<'a, R: ReadInstances, B: Allocator, M: Allocator + Clone, C: Allo
     if params.num_instances == 0 {
         return Ok(Vec::new(alloc));
     }
+    steps.pay(u64::from(params.num_instances) * INSTANCE)?;
     read_some_strips(alloc, readings, refining, params, strip_t, steps)
 }
 
