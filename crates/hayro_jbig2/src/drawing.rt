@@ -128,7 +128,7 @@ impl<'a, A: Allocator + Clone> Drawer<'a, A> {
         error: DecodeError,
         context: &mut DecoderContext<A>,
     ) -> Result<()>
-        requires { context.old.passed_over.count < usize.MAX }
+        requires { (error ≡ OutOfMemory) ⊎ (context.old.passed_over.count < usize.MAX) }
         ensures value { Gives (λ _. context.new) result
             (or_left_out self.now.reading segment_number context.old (Err error)) }
         ensures memory { error ≡ OutOfMemory → result ≡ Err OutOfMemory }

@@ -1,0 +1,36 @@
+use Rattle.std.proofs.Common.{◌≡◌, ◌<◌, ◌⊎◌, ℕ, Result, Ok, Err, inl, inr, ⊎_elim, refl, sym, ap, subst, arith}
+use Rattle.jbig2_base.specs.Answer.{Gives}
+use Rattle.jbig2_base.specs.Reading.{is_strict}
+use Rattle.jbig2_base.specs.inner.SegmentViews.{segment_view}
+use Rattle.jbig2_base.specs.declared.error.DecodeError.{DecodeError}
+use Rattle.jbig2_base.specs.declared.error.DecodeError.TheVariants.{OutOfMemory}
+use Rattle.jbig2_base.specs.declared.reading.Reading.{Reading}
+use Rattle.hayro_jbig2.specs.Page.{Drawing, or_left_out, passing, segment_by}
+use Rattle.hayro_jbig2.specs.inner.Whole.{touched}
+use Rattle.hayro_jbig2.proofs.drawing.Drawer.draw_segment.Goals as goal
+
+-- a segment that failed is left out
+left : (reading : Reading) (number : ℕ) (d d1 d' : Drawing) (meant : Result Drawing DecodeError) (e : DecodeError) (answer : Result (Unit {0}) DecodeError)
+    → (e ≡ OutOfMemory) ⊎ (meant ≡ Err e) → (e ≡ OutOfMemory) ⊎ (touched d1 ≡ touched d) → (e ≡ OutOfMemory → answer ≡ Err OutOfMemory) → Gives (λ _. d') answer (or_left_out reading number d1 (Err e)) → Gives (λ _. d') answer (or_left_out reading number d meant)
+left reading number d d1 d' meant e answer (inl memory) as_was refused gives = subst (λ (a : Result (Unit {0}) DecodeError). Gives (λ _. d') a (or_left_out reading number d meant)) (sym (refused memory)) (inl refl)
+left reading number d d1 d' meant e answer (inr failed) (inl memory) refused gives = subst (λ (a : Result (Unit {0}) DecodeError). Gives (λ _. d') a (or_left_out reading number d meant)) (sym (refused memory)) (inl refl)
+left reading number d d1 d' meant e answer (inr failed) (inr same) refused gives =
+    subst (λ (r : Result Drawing DecodeError). Gives (λ _. d') answer (or_left_out reading number d r)) (sym failed)
+    (subst (λ (b : Drawing). Gives (λ _. d') answer (or_left_out reading number b (Err e))) same gives)
+
+pub returns-in-Ok : goal.returns-in-Ok
+returns-in-Ok g c = ap (λ (r : Result Drawing DecodeError). or_left_out c.args.self.now.reading c.args.segment.now.header.segment_number c.args.context.now r) c.in-Ok.ensures.value
+
+pub returns-in-Err : goal.returns-in-Err
+returns-in-Err g c =
+    let d : Drawing = c.args.context.now in
+    let meant : Result Drawing DecodeError = segment_by (is_strict c.args.self.now.reading) c.args.self.now.globals.now (segment_view c.args.segment.now) d in
+    left c.args.self.now.reading c.args.segment.now.header.segment_number d c.try_segment.new.context c.leave_out.new.context meant c.in-Err.error _
+    c.in-Err.ensures.value c.in-Err.ensures.err c.leave_out.ensures.memory c.leave_out.ensures.value
+
+pub leave_out-requires : goal.leave_out-requires
+leave_out-requires g c =
+    ⊎_elim
+    (λ (memory : c.in-Err.error ≡ OutOfMemory). inl memory)
+    (λ (same : touched c.try_segment.new.context ≡ touched c.args.context.now). inr (omega (arith, c.requires, ap (λ (d : Drawing). d.passed_over.count) same)))
+    c.in-Err.ensures.err
