@@ -94,7 +94,8 @@ class Pages(unittest.TestCase):
             hayro_jbig2.Globals(GLOBALS + b" " * 16)
         shared = hayro_jbig2.Globals(GLOBALS + b" " * 16, salvage=True)
         self.assertEqual(shared.left_out.rest.variant, "InvalidReference")
-        self.assertEqual(hayro_jbig2.decode(TEXT, globals=shared).rows, b"\x80")
+        page = hayro_jbig2.decode(TEXT, globals=shared)
+        self.assertEqual((page.rows, page.left_out), (b"\x80", shared.left_out))
         page = hayro_jbig2.decode(TEXT, globals=b" " * 16, salvage=True)
         self.assertEqual((page.rows, page.passed_over.count), (b"\0", 1))
 

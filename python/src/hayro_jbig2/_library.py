@@ -188,6 +188,8 @@ class EmbeddedPage(_Handle):
             else:
                 super().__init__("page", reading is Reading.STRICT, *inputs)
         self.left_out = self._left_out()
+        if globals:
+            self.left_out = self.left_out.joined(globals.left_out)
         info = _Info()
         _check(_LIBRARY.hayro_jbig2_page_get_info(self.handle, info))
         self.size = Size(info.number, info.width, info.height)

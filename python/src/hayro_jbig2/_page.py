@@ -2,7 +2,7 @@
 
 from __future__ import annotations
 
-from dataclasses import dataclass, field
+from dataclasses import dataclass, field, replace
 from typing import TYPE_CHECKING
 
 if TYPE_CHECKING:
@@ -44,6 +44,10 @@ class LeftOut:
     rest: Jbig2Error | None
     """The fault at which the list of segments ends early: the rest is left out."""
 
+    def joined(self, globals: LeftOut) -> LeftOut:
+        """What was left out of a page and of its globals."""
+        return replace(self, passed_over=globals.passed_over, rest=self.rest or globals.rest)
+
 
 @dataclass(frozen=True)
 class Page:
@@ -64,7 +68,7 @@ class Page:
     passed_over: PassedOver = field(repr=False, compare=False)
     """What was passed over of the page."""
     left_out: LeftOut = field(repr=False, compare=False)
-    """What salvage left out of the page's list of segments, or of its file."""
+    """What salvage left out of the page's list of segments and of its globals, or of its file."""
 
     @property
     def row_bytes(self) -> int:
