@@ -1,5 +1,5 @@
--- Where strict reading accepts, lenient reading gives the same: names, pages and files.
-use Rattle.std.proofs.Common.{◌≡◌, ℕ, eqb, Bool, true, false, not, ◌&&◌, List, [], ◌∷◌, length, Option, Some, None, Result, Ok, Err, refl, sym, subst, ap}
+-- Where strict reading accepts, lenient reading gives the same, and where that accepts, salvage does: names, pages and files.
+use Rattle.std.proofs.Common.{◌≡◌, ℕ, eqb, Bool, true, false, cond, not, ◌&&◌, List, [], ◌∷◌, length, Option, Some, None, Result, Ok, Err, refl, sym, subst, ap}
 use Rattle.std.specs.Int.{w32}
 use Rattle.std.specs.Option.{option_map_or}
 use Rattle.std.specs.Prelude.{is_none, nat_le, option_map, slice_get}
@@ -7,13 +7,17 @@ use Rattle.jbig2_base.specs.Answer.{◌>>=◌, refuse_if, some_or}
 use Rattle.jbig2_base.specs.Fields.{number_at}
 use Rattle.jbig2_base.specs.File.{file_at}
 use Rattle.jbig2_base.specs.Grid.{Grid}
-use Rattle.jbig2_base.specs.PageInfo.{initial_page_of}
+use Rattle.jbig2_base.specs.PageInfo.{first_information, height_of, information_at, initial_page_by, stripes_height}
+use Rattle.jbig2_base.specs.Reading.{fault_of, is_salvaged, is_strict}
 use Rattle.jbig2_base.specs.Segment.{Header, SegmentView}
-use Rattle.jbig2_base.specs.Sequential.{sorted_segments}
+use Rattle.jbig2_base.specs.Sequential.{by_number, sequential, sorted_segments}
 use Rattle.jbig2_base.specs.declared.error.DecodeError.{DecodeError}
 use Rattle.jbig2_base.specs.declared.error.DecodeError.TheVariants.{Format, Segment, Unsupported}
-use Rattle.jbig2_base.specs.declared.error.FormatError.TheVariants.{InvalidEndOfPage, MissingPageInfo, PageCountMismatch}
+use Rattle.jbig2_base.specs.declared.error.FormatError.TheVariants.{InvalidEndOfPage, MissingPageInfo, PageCountMismatch, UnknownPageHeight}
 use Rattle.jbig2_base.specs.declared.error.SegmentError.TheVariants.{InvalidReference, MissingPageAssociation, MissingPatternDictionary}
+use Rattle.jbig2_base.specs.declared.page_info.InitialPage.{InitialPage}
+use Rattle.jbig2_base.specs.declared.reading.Reading.{Reading}
+use Rattle.jbig2_base.specs.declared.reading.Reading.TheVariants.{Strict, Lenient, Salvage}
 use Rattle.jbig2_base.specs.declared.segment.SegmentType.{SegmentType}
 use Rattle.jbig2_base.specs.declared.segment.SegmentType.TheVariants as types
 use Rattle.jbig2_coder.specs.PrefixCode.{Member}
@@ -24,17 +28,17 @@ use Rattle.jbig2_region.specs.RegionInfo.{PlacedRegion}
 use Rattle.jbig2_symbol.specs.SymbolHeader.{SymbolHeader, symbol_header_at}
 use Rattle.jbig2_symbol.specs.Symbols.{Symbols}
 use Rattle.jbig2_text.specs.TextHeader.{TextHeader, text_header_at}
-use Rattle.hayro_jbig2.specs.Files.{PageInFile, ReadFile, associated, book_at, by_pages, ends_of, filed_each, filed_from, lacks_page, miscounts, of_page, page_in, page_of, shared_by}
-use Rattle.hayro_jbig2.specs.Lenient.{LenientReadingAgrees}
-use Rattle.hayro_jbig2.specs.Names.{Names, Referred, extension, first_named, kept_by, named, no_names, pattern_dictionary_at, referred_by, symbol_dictionary_at, with_code, with_dictionary, with_number, with_numbers, with_patterns, with_symbols, with_table, globals_at, named_from}
-use Rattle.hayro_jbig2.specs.Page.{Drawing, ReadPage, drawing_of_page, embedded, ends_page, immediate, intermediate, keeping, or_passed_over, page_begun, region_at, segment_on, segments_drawn, shown}
+use Rattle.hayro_jbig2.specs.Files.{PageInFile, ReadFile, associated, book_at, by_pages, ends_of, filed_before, filed_each, filed_from, lacks_page, left_out_of, miscounts, of_page, page_in, page_of, shared_by}
+use Rattle.hayro_jbig2.specs.Lenient.{LenientReadingAgrees, ReadingsAgree, SalvageAgrees}
+use Rattle.hayro_jbig2.specs.Names.{Names, Referred, Shared, nothing_shared, or_shared_without, extension, first_named, kept_by, named, no_names, pattern_dictionary_at, referred_by, symbol_dictionary_at, with_code, with_dictionary, with_number, with_numbers, with_patterns, with_symbols, with_table, globals_at, named_from}
+use Rattle.hayro_jbig2.specs.Page.{Drawing, ReadPage, beginning_of, drawing_of_page, embedded, ends_page, immediate, intermediate, keeping, or_left_out, or_passed_over, page_begun, region_at, regions_height, segment_by, segment_on, segments_drawn, shown, told_height}
 use Rattle.hayro_jbig2.specs.Regions.{generic_at, halftone_at, patterns_for, referred_region, refinement_at, text_at}
 use Rattle.hayro_jbig2.specs.declared.kept.Kept.{Kept}
 use Rattle.hayro_jbig2.specs.declared.region.RegionKind.{RegionKind}
 use Rattle.hayro_jbig2.specs.declared.region.RegionKind.TheVariants as kinds
 use Rattle.hayro_jbig2.proofs.Agreeing.{Agrees, Relates, Same, agrees-next, agrees-then, relates-last, relates-next, same-guard, same-if, same-itself, same-next, same-refusal, same-then}
 use Rattle.hayro_jbig2.proofs.AgreeingRegions.{generic-header-agrees, generic-same, halftone-header-agrees, halftone-same, lenient_generic, lenient_halftone, lenient_pattern, pattern-header-agrees, patterns-same}
-use Rattle.hayro_jbig2.proofs.AgreeingSegments.{file-same, sorted-same}
+use Rattle.hayro_jbig2.proofs.AgreeingSegments.{file-salvaged, file-same, sequential-salvaged, sequential-same, sorted-same}
 use Rattle.hayro_jbig2.proofs.AgreeingSymbols.{lenient_symbols, symbol-header-agrees, symbols-decoded-same}
 use Rattle.hayro_jbig2.proofs.AgreeingTexts.{lenient_text, text-header-agrees, text-same}
 use Rattle.hayro_jbig2.proofs.SegmentTypes.{of_type}
@@ -92,14 +96,28 @@ kept-same shared types.Tables h bytes own = same-itself (with_code (of_type type
 kept-same shared types.Extension h bytes own = same-next (extension true bytes) (extension false bytes) (λ known. Ok own) (λ known. Ok own) (extension-same bytes) (λ known. refl)
 kept-same shared _ h bytes own = refl
 
-named-same : (ps : List SegmentView) (names : Names) → Same (named_from true ps names) (named_from false ps names)
-named-same [] names = refl
-named-same (p ∷ ps) names =
-    same-next (kept_by true no_names p names) (kept_by false no_names p names) _ _ (kept-same no_names p.header.segment_type p.header p.bytes names) (λ more. named-same ps more)
+without-same : (number : ℕ) (shared : Shared) (r s : Result Names DecodeError) → Same r s → Same (or_shared_without Strict number shared r) (or_shared_without Lenient number shared s)
+without-same number shared (Ok names) s same = ap (λ (t : Result Names DecodeError). or_shared_without Lenient number shared t) same
+without-same number shared (Err e) s same = tt
 
-globals-same : (bytes : List ℕ) → Same (globals_at true bytes) (globals_at false bytes)
-unfolding globals_at
-globals-same bytes = same-next (sorted_segments true bytes) (sorted_segments false bytes) _ _ (sorted-same bytes) (λ ps. named-same ps no_names)
+named-same : (ps : List SegmentView) (shared : Shared) → Same (named_from Strict ps shared) (named_from Lenient ps shared)
+named-same [] shared = refl
+named-same (p ∷ ps) shared =
+    let kept : Result Names DecodeError = kept_by true no_names p shared.names in
+    let other : Result Names DecodeError = kept_by false no_names p shared.names in
+    same-next (or_shared_without Strict p.header.segment_number shared kept) (or_shared_without Lenient p.header.segment_number shared other) _ _
+    (without-same p.header.segment_number shared kept other (kept-same no_names p.header.segment_type p.header p.bytes shared.names)) (λ more. named-same ps more)
+
+-- salvage names what lenient reading does
+without-salvaged : (number : ℕ) (shared : Shared) (r : Result Names DecodeError) → Same (or_shared_without Lenient number shared r) (or_shared_without Salvage number shared r)
+without-salvaged number shared (Ok names) = refl
+without-salvaged number shared (Err e) = tt
+
+named-salvaged : (ps : List SegmentView) (shared : Shared) → Same (named_from Lenient ps shared) (named_from Salvage ps shared)
+named-salvaged [] shared = refl
+named-salvaged (p ∷ ps) shared =
+    let kept : Result Names DecodeError = kept_by false no_names p shared.names in
+    same-next (or_shared_without Lenient p.header.segment_number shared kept) (or_shared_without Salvage p.header.segment_number shared kept) _ _ (without-salvaged p.header.segment_number shared kept) (λ more. named-salvaged ps more)
 
 -- ---- regions
 text_at-same : (own shared : Names) (p : SegmentView) → Same (text_at true own shared p) (text_at false own shared p)
@@ -158,7 +176,7 @@ intermediate-same globals kind p d = same-next (region_at true globals kind true
 keeping-same : (globals : Names) (kind : SegmentType) (h : Header) (bytes : List ℕ) (d : Drawing) → Same (keeping d (kept_by true globals (of_type kind h bytes) d.names)) (keeping d (kept_by false globals (of_type kind h bytes) d.names))
 keeping-same globals kind h bytes d = same-next (kept_by true globals (of_type kind h bytes) d.names) (kept_by false globals (of_type kind h bytes) d.names) _ _ (kept-same globals kind h bytes d.names) (λ names. refl)
 
-typed-same : (globals : Names) (kind : SegmentType) (h : Header) (bytes : List ℕ) (d : Drawing) → Same (segment_on true globals (of_type kind h bytes) d) (segment_on false globals (of_type kind h bytes) d)
+typed-same : (globals : Names) (kind : SegmentType) (h : Header) (bytes : List ℕ) (d : Drawing) → Same (segment_by true globals (of_type kind h bytes) d) (segment_by false globals (of_type kind h bytes) d)
 typed-same globals types.IntermediateTextRegion h bytes d = intermediate-same globals kinds.Text (of_type types.IntermediateTextRegion h bytes) d
 typed-same globals types.ImmediateTextRegion h bytes d = immediate-same globals kinds.Text (of_type types.ImmediateTextRegion h bytes) d
 typed-same globals types.ImmediateLosslessTextRegion h bytes d = immediate-same globals kinds.Text (of_type types.ImmediateLosslessTextRegion h bytes) d
@@ -173,82 +191,197 @@ typed-same globals types.ImmediateGenericRefinementRegion h bytes d = immediate-
 typed-same globals types.ImmediateLosslessGenericRefinementRegion h bytes d = immediate-same globals kinds.GenericRefinement (of_type types.ImmediateLosslessGenericRefinementRegion h bytes) d
 typed-same globals kind h bytes d = keeping-same globals kind h bytes d
 
-drawn-same : (globals : Names) (ps : List SegmentView) (d : Drawing) → Same (segments_drawn true globals ps d) (segments_drawn false globals ps d)
+left-same : (number : ℕ) (d : Drawing) (r s : Result Drawing DecodeError) → Same r s → Same (or_left_out Strict number d r) (or_left_out Lenient number d s)
+left-same number d (Ok e) s same = ap (λ (t : Result Drawing DecodeError). or_left_out Lenient number d t) same
+left-same number d (Err e) s same = tt
+
+drawn-same : (globals : Names) (ps : List SegmentView) (d : Drawing) → Same (segments_drawn Strict globals ps d) (segments_drawn Lenient globals ps d)
 drawn-same globals [] d = refl
 drawn-same globals (p ∷ ps) d =
     same-if (ends_page p.header.segment_type) (Ok d) (Ok d) _ _ refl
-    (same-next (segment_on true globals p d) (segment_on false globals p d) _ _ (typed-same globals p.header.segment_type p.header p.bytes d) (λ e. drawn-same globals ps e))
+    (same-next (segment_on Strict globals p d) (segment_on Lenient globals p d) _ _
+    (left-same p.header.segment_number d (segment_by true globals p d) (segment_by false globals p d) (typed-same globals p.header.segment_type p.header p.bytes d)) (λ e. drawn-same globals ps e))
 
--- ---- pages
-any-drawn : (strict : Bool) (globals : Names) (ps : List SegmentView) (d : Drawing) → Same (segments_drawn strict globals ps d) (segments_drawn false globals ps d)
-any-drawn true globals ps d = drawn-same globals ps d
-any-drawn false globals ps d = same-itself (segments_drawn false globals ps d)
+-- salvage draws what lenient reading does
+left-salvaged : (number : ℕ) (d : Drawing) (r : Result Drawing DecodeError) → Same (or_left_out Lenient number d r) (or_left_out Salvage number d r)
+left-salvaged number d (Ok e) = refl
+left-salvaged number d (Err e) = tt
 
--- the same page, read leniently, whose globals gave what they gave
-page-same : (strict : Bool) (segments : List SegmentView) (d : Drawing) (globals others : Result Names DecodeError) → Same globals others → Same (globals >>= λ names. segments_drawn strict names segments d) (others >>= λ names. segments_drawn false names segments d)
-page-same strict segments d globals others same = same-next globals others _ _ same (λ names. any-drawn strict names segments d)
+drawn-salvaged : (globals : Names) (ps : List SegmentView) (d : Drawing) → Same (segments_drawn Lenient globals ps d) (segments_drawn Salvage globals ps d)
+drawn-salvaged globals [] d = refl
+drawn-salvaged globals (p ∷ ps) d =
+    same-if (ends_page p.header.segment_type) (Ok d) (Ok d) _ _ refl
+    (same-next (segment_on Lenient globals p d) (segment_on Salvage globals p d) _ _ (left-salvaged p.header.segment_number d (segment_by false globals p d)) (λ e. drawn-salvaged globals ps e))
 
-abbrev lenient_page : ReadPage → ReadPage
-lenient_page page = record page { strict = false }
+-- ---- what a page begins as
+beginning-same : (ps : List SegmentView) → Same (beginning_of Strict ps) (beginning_of Lenient ps)
+unfolding beginning_of
+beginning-same ps = same-itself (initial_page_by (stripes_height ps) ps)
 
-embedded-agrees : (names : Names) (bytes : List ℕ) → Agrees lenient_page (embedded true names bytes) (embedded false names bytes)
-unfolding embedded
-embedded-agrees names bytes =
-    agrees-next (λ ps. ps) lenient_page (sorted_segments true bytes) (sorted_segments false bytes) _ _ (sorted-same bytes) (λ ps. agrees-then lenient_page (initial_page_of ps) _ _ (λ begun. refl))
+-- a height that lenient reading finds, salvage finds
+height-salvaged : (stated stripes regions : ℕ) → Same (height_of stated stripes) (height_of stated (cond (eqb stripes 0) regions stripes))
+height-salvaged stated stripes regions = same-if (eqb stated 4294967295) _ _ (Ok stated) (Ok stated) (open-height (eqb stripes 0) refl) refl
+  where
+    open-height : (b : Bool) → eqb stripes 0 ≡ b → Same (refuse_if (eqb stripes 0) (Format UnknownPageHeight) >>= λ known. Ok stripes) (refuse_if (eqb (cond (eqb stripes 0) regions stripes) 0) (Format UnknownPageHeight) >>= λ known. Ok (cond (eqb stripes 0) regions stripes))
+    open-height true none = rw none tt
+    open-height false some = rw (some, some) refl
 
--- ---- files
+beginning-salvaged : (ps : List SegmentView) → Same (beginning_of Lenient ps) (beginning_of Salvage ps)
+unfolding beginning_of
+beginning-salvaged ps =
+    same-then (first_information ps) _ _ (λ first. same-then (information_at first.bytes) _ _ (λ info.
+    same-next (height_of info.0.height (stripes_height ps)) (height_of info.0.height (told_height Salvage ps)) _ _ (height-salvaged info.0.height (stripes_height ps) (regions_height ps)) (λ height. same-itself _)))
+
+-- ---- associations
 associated-same : (ps : List SegmentView) → Same (associated true ps) (associated false ps)
 associated-same [] = refl
 associated-same (p ∷ ps) = same-guard (lacks_page true p.header) (Segment MissingPageAssociation) (associated true ps) (associated false ps) (associated-same ps)
 
-filed-same : (own : List SegmentView) → Same (filed_from true own) (filed_from false own)
-unfolding filed_from
-filed-same own = same-next (refuse_if (not (eqb (ends_of own) 1)) (Format InvalidEndOfPage)) (Ok tt) _ _ (same-refusal (not (eqb (ends_of own) 1)) (Format InvalidEndOfPage)) (λ ended. same-itself _)
+-- ---- one reading and another, which gives what the first gives
+record Milder (one other : Reading) : Type 0 where
+  lists : (bytes : List ℕ) → Same (sequential one bytes) (sequential other bytes)
+  files : (bytes : List ℕ) → Same (file_at one bytes) (file_at other bytes)
+  named : (ps : List SegmentView) (shared : Shared) → Same (named_from one ps shared) (named_from other ps shared)
+  drawn : (globals : Names) (ps : List SegmentView) (d : Drawing) → Same (segments_drawn one globals ps d) (segments_drawn other globals ps d)
+  begins : (ps : List SegmentView) → Same (beginning_of one ps) (beginning_of other ps)
+  strictly : (b : Bool) (e : DecodeError) → Same (refuse_if (is_strict one && b) e) (refuse_if (is_strict other && b) e)
+  associations : (ps : List SegmentView) → Same (associated (is_strict one) ps) (associated (is_strict other) ps)
+  refusals : (e : DecodeError) → is_salvaged one e ≡ false
 
-each-same : (all : List (List SegmentView)) → Same (filed_each true all) (filed_each false all)
-each-same [] = refl
-each-same (own ∷ others) = same-next (filed_from true own) (filed_from false own) _ _ (filed-same own) (λ page. same-next (filed_each true others) (filed_each false others) _ _ (each-same others) (λ pages. refl))
+-- ---- globals
+sorted-milder : (one other : Reading) → Milder one other → (bytes : List ℕ) → Same (sorted_segments one bytes) (sorted_segments other bytes)
+sorted-milder one other m bytes = same-next (sequential one bytes) (sequential other bytes) _ _ (m.lists bytes) (λ ps. refl)
 
-shared-same : (pages : List PageInFile) (shared : List SegmentView) → Same (shared_by true pages shared) (shared_by false pages shared)
-shared-same [] shared = refl
-shared-same (page ∷ pages) shared = named-same shared no_names
+-- ---- embedded pages
+-- a page, and the same in the other reading
+record SamePage (one other : Reading) (page twin : ReadPage) : Type 0 where
+  first : page.reading ≡ one
+  second : twin.reading ≡ other
+  begun : twin.initial_page ≡ page.initial_page
+  segments : twin.segments ≡ page.segments
+  globals : Same page.globals twin.globals
 
--- a file, and the same read leniently
-record SameFile (book other : ReadFile) : Type 0 where
-  pages : other.pages ≡ book.pages
-  lenient : other.strict ≡ false
-  globals : Same book.globals other.globals
-
-book-relates : (bytes : List ℕ) → Relates SameFile (book_at true bytes) (book_at false bytes)
-unfolding book_at
-book-relates bytes =
-    relates-next SameFile (file_at true bytes) (file_at false bytes) _ _ (file-same bytes) (λ file.
-    relates-next SameFile (associated true file.1) (associated false file.1) _ _ (associated-same file.1) (λ known.
-    relates-next SameFile (refuse_if (miscounts file.0.number_of_pages (length (by_pages file.1))) (Format PageCountMismatch)) (Ok tt) _ _ (same-refusal (miscounts file.0.number_of_pages (length (by_pages file.1))) (Format PageCountMismatch)) (λ counted.
-    relates-next SameFile (filed_each true (by_pages file.1)) (filed_each false (by_pages file.1)) _ _ (each-same (by_pages file.1)) (λ pages. (
-      record { strict = false; pages = pages; globals = shared_by false pages (of_page 0 file.1) },
+page-relates : (one other : Reading) → Milder one other → (names : Names) (bytes : List ℕ) → Relates (SamePage one other) (embedded one names bytes) (embedded other names bytes)
+unfolding embedded
+page-relates one other m names bytes =
+    relates-next (SamePage one other) (sorted_segments one bytes) (sorted_segments other bytes) _ _ (sorted-milder one other m bytes) (λ ps.
+    relates-next (SamePage one other) (beginning_of one ps) (beginning_of other ps) _ _ (m.begins ps) (λ begun. (
+      record { reading = other; initial_page = begun; segments = ps; globals = Ok names; fault = fault_of other (sequential Lenient bytes) },
       refl,
-      record { pages = refl; lenient = refl; globals = shared-same pages (of_page 0 file.1) },
+      record { first = refl; second = refl; begun = refl; segments = refl; globals = refl },
+    )))
+
+page-same : (one other : Reading) → Milder one other → (page twin : ReadPage) → SamePage one other page twin → Same (drawing_of_page page) (drawing_of_page twin)
+page-same one other m page twin same =
+    rw (same.first, same.second, same.begun, same.segments)
+    (same-next page.globals twin.globals (λ names. segments_drawn one names page.segments (page_begun page.initial_page)) (λ names. segments_drawn other names page.segments (page_begun page.initial_page)) same.globals (λ names. m.drawn names page.segments (page_begun page.initial_page)))
+
+-- ---- files
+filed-same : (one other : Reading) → Milder one other → (own : List SegmentView) → Same (filed_from one own) (filed_from other own)
+unfolding filed_from
+filed-same one other m own =
+    same-next (refuse_if (is_strict one && not (eqb (ends_of own) 1)) (Format InvalidEndOfPage)) (refuse_if (is_strict other && not (eqb (ends_of own) 1)) (Format InvalidEndOfPage)) _ _ (m.strictly (not (eqb (ends_of own) 1)) (Format InvalidEndOfPage)) (λ ended.
+    same-next (beginning_of one own) (beginning_of other own) _ _ (m.begins own) (λ begun. refl))
+
+before-same : (one other : Reading) → Milder one other → (r s : Result PageInFile DecodeError) (others more : Result (List PageInFile) DecodeError) → Same r s → Same others more → Same (filed_before one r others) (filed_before other s more)
+before-same one other m (Ok page) s others more first rest =
+    subst (λ (t : Result PageInFile DecodeError). Same (filed_before one (Ok page) others) (filed_before other t more)) (sym first) (same-next others more _ _ rest (λ pages. refl))
+before-same one other m (Err e) s others more first rest = rw (m.refusals e) tt
+
+each-same : (one other : Reading) → Milder one other → (all : List (List SegmentView)) → Same (filed_each one all) (filed_each other all)
+each-same one other m [] = refl
+each-same one other m (own ∷ others) = before-same one other m (filed_from one own) (filed_from other own) (filed_each one others) (filed_each other others) (filed-same one other m own) (each-same one other m others)
+
+shared-same : (one other : Reading) → Milder one other → (pages : List PageInFile) (shared : List SegmentView) → Same (shared_by one pages shared) (shared_by other pages shared)
+shared-same one other m [] shared = refl
+shared-same one other m (page ∷ pages) shared = m.named shared (nothing_shared None)
+
+-- a file, and the same in the other reading
+record SameFile (one other : Reading) (book twin : ReadFile) : Type 0 where
+  first : book.reading ≡ one
+  second : twin.reading ≡ other
+  pages : twin.pages ≡ book.pages
+  globals : Same book.globals twin.globals
+
+book-relates : (one other : Reading) → Milder one other → (bytes : List ℕ) → Relates (SameFile one other) (book_at one bytes) (book_at other bytes)
+unfolding book_at
+book-relates one other m bytes =
+    relates-next (SameFile one other) (file_at one bytes) (file_at other bytes) _ _ (m.files bytes) (λ file.
+    relates-next (SameFile one other) (associated (is_strict one) file.1) (associated (is_strict other) file.1) _ _ (m.associations file.1) (λ known.
+    relates-next (SameFile one other) (refuse_if (is_strict one && miscounts file.0.number_of_pages (length (by_pages file.1))) (Format PageCountMismatch)) (refuse_if (is_strict other && miscounts file.0.number_of_pages (length (by_pages file.1))) (Format PageCountMismatch)) _ _ (m.strictly (miscounts file.0.number_of_pages (length (by_pages file.1))) (Format PageCountMismatch)) (λ counted.
+    relates-next (SameFile one other) (filed_each one (by_pages file.1)) (filed_each other (by_pages file.1)) _ _ (each-same one other m (by_pages file.1)) (λ pages. (
+      record { reading = other; pages = pages; globals = shared_by other pages (of_page 0 file.1); left_out = left_out_of other (by_pages file.1); fault = fault_of other (file_at Lenient bytes) },
+      refl,
+      record { first = refl; second = refl; pages = refl; globals = shared-same one other m pages (of_page 0 file.1) },
     )))))
 
-file-page-same : (book other : ReadFile) → SameFile book other → (page : Option PageInFile) → Same (some_or (Format MissingPageInfo) (option_map (page_in book) page) >>= λ p. drawing_of_page p) (some_or (Format MissingPageInfo) (option_map (page_in other) page) >>= λ p. drawing_of_page p)
-file-page-same book other same (Some page) =
-    subst (λ (strict : Bool). Same (drawing_of_page (page_in book page)) (other.globals >>= λ names. segments_drawn strict names page.segments (page_begun page.initial_page))) (sym same.lenient)
-    (page-same book.strict page.segments (page_begun page.initial_page) book.globals other.globals same.globals)
-file-page-same book other same None = tt
+file-page-same : (one other : Reading) → Milder one other → (book twin : ReadFile) → SameFile one other book twin → (page : Option PageInFile) → Same (some_or (Format MissingPageInfo) (option_map (page_in book) page) >>= λ p. drawing_of_page p) (some_or (Format MissingPageInfo) (option_map (page_in twin) page) >>= λ p. drawing_of_page p)
+file-page-same one other m book twin same (Some page) =
+    page-same one other m (page_in book page) (page_in twin page) (record {
+      first = same.first;
+      second = same.second;
+      begun = refl;
+      segments = refl;
+      globals = same-next book.globals twin.globals _ _ same.globals (λ shared. refl);
+    })
+file-page-same one other m book twin same None = tt
 
-file-drawn : (book other : ReadFile) (index : ℕ) → SameFile book other → Same (some_or (Format MissingPageInfo) (page_of book index) >>= λ page. drawing_of_page page) (some_or (Format MissingPageInfo) (page_of other index) >>= λ page. drawing_of_page page)
-file-drawn book other index same =
-    subst (λ (pages : List PageInFile). Same (some_or (Format MissingPageInfo) (page_of book index) >>= λ page. drawing_of_page page) (some_or (Format MissingPageInfo) (option_map (page_in other) (slice_get pages index)) >>= λ page. drawing_of_page page)) (sym same.pages)
-    (file-page-same book other same (slice_get book.pages index))
+file-drawn : (one other : Reading) → Milder one other → (book twin : ReadFile) (index : ℕ) → SameFile one other book twin → Same (some_or (Format MissingPageInfo) (page_of book index) >>= λ page. drawing_of_page page) (some_or (Format MissingPageInfo) (page_of twin index) >>= λ page. drawing_of_page page)
+file-drawn one other m book twin index same =
+    subst (λ (pages : List PageInFile). Same (some_or (Format MissingPageInfo) (page_of book index) >>= λ page. drawing_of_page page) (some_or (Format MissingPageInfo) (option_map (page_in twin) (slice_get pages index)) >>= λ page. drawing_of_page page)) (sym same.pages)
+    (file-page-same one other m book twin same (slice_get book.pages index))
+
+-- ---- the laws
+strict-lenient : Milder Strict Lenient
+strict-lenient = record {
+  lists = sequential-same;
+  files = file-same;
+  named = named-same;
+  drawn = drawn-same;
+  begins = beginning-same;
+  strictly = λ b e. same-refusal b e;
+  associations = associated-same;
+  refusals = λ e. refl;
+}
+
+lenient-salvage : Milder Lenient Salvage
+lenient-salvage = record {
+  lists = sequential-salvaged;
+  files = file-salvaged;
+  named = named-salvaged;
+  drawn = drawn-salvaged;
+  begins = beginning-salvaged;
+  strictly = λ b e. refl;
+  associations = λ ps. same-itself (associated false ps);
+  refusals = λ e. refl;
+}
+
+globals-strictly : (bytes : List ℕ) → Same (globals_at Strict bytes) (globals_at Lenient bytes)
+unfolding globals_at
+globals-strictly bytes = same-next (sorted_segments Strict bytes) (sorted_segments Lenient bytes) _ _ (sorted-same bytes) (λ ps. named-same ps (nothing_shared None))
+
+globals-salvaged : (bytes : List ℕ) → Same (globals_at Lenient bytes) (globals_at Salvage bytes)
+unfolding globals_at
+globals-salvaged bytes = by (sequential Lenient bytes) (sequential Salvage bytes) (sequential-salvaged bytes)
+  where
+    by : (r s : Result (List SegmentView) DecodeError) → Same r s → Same ((r >>= λ ps. Ok (by_number ps)) >>= λ ps. named_from Lenient ps (nothing_shared None)) ((s >>= λ ps. Ok (by_number ps)) >>= λ ps. named_from Salvage ps (nothing_shared (fault_of Salvage r)))
+    by (Ok ps) s first =
+        subst (λ (t : Result (List SegmentView) DecodeError). Same (named_from Lenient (by_number ps) (nothing_shared None)) ((t >>= λ qs. Ok (by_number qs)) >>= λ qs. named_from Salvage qs (nothing_shared None))) (sym first) (named-salvaged (by_number ps) (nothing_shared None))
+    by (Err e) s first = tt
+
+agree : (one other : Reading) → Milder one other → ((bytes : List ℕ) → Same (globals_at one bytes) (globals_at other bytes)) → ReadingsAgree one other
+agree one other m globals = record {
+  globals = globals;
+  page = λ names bytes. relates-last (SamePage one other) (embedded one names bytes) (embedded other names bytes) _ _ (page-relates one other m names bytes) (λ page twin same.
+      ap (λ (begun : InitialPage). let r : Result InitialPage DecodeError = Ok begun in r) same.begun);
+  drawing = λ names bytes. relates-last (SamePage one other) (embedded one names bytes) (embedded other names bytes) _ _ (page-relates one other m names bytes) (λ page twin same. page-same one other m page twin same);
+  pages = λ bytes. relates-last (SameFile one other) (book_at one bytes) (book_at other bytes) _ _ (book-relates one other m bytes) (λ book twin same.
+      ap (λ (pages : List PageInFile). let r : Result (List PageInFile) DecodeError = Ok pages in r) same.pages);
+  drawings = λ bytes index. relates-last (SameFile one other) (book_at one bytes) (book_at other bytes) _ _ (book-relates one other m bytes) (λ book twin same. file-drawn one other m book twin index same);
+}
 
 pub lenient_reading_agrees : LenientReadingAgrees
-lenient_reading_agrees = record {
-  globals = globals-same;
-  page = λ names bytes. agrees-next lenient_page (λ begun. begun) (embedded true names bytes) (embedded false names bytes) _ _ (embedded-agrees names bytes) (λ page. refl);
-  drawing = λ names bytes. agrees-next lenient_page (λ d. d) (embedded true names bytes) (embedded false names bytes) _ _ (embedded-agrees names bytes) (λ page.
-      page-same page.strict page.segments (page_begun page.initial_page) page.globals page.globals (same-itself page.globals));
-  pages = λ bytes. relates-last SameFile (book_at true bytes) (book_at false bytes) _ _ (book-relates bytes) (λ book other same.
-      ap (λ (pages : List PageInFile). let r : Result (List PageInFile) DecodeError = Ok pages in r) same.pages);
-  drawings = λ bytes index. relates-last SameFile (book_at true bytes) (book_at false bytes) _ _ (book-relates bytes) (λ book other same. file-drawn book other index same);
-}
+lenient_reading_agrees = agree Strict Lenient strict-lenient globals-strictly
+
+pub salvage_agrees : SalvageAgrees
+salvage_agrees = agree Lenient Salvage lenient-salvage globals-salvaged

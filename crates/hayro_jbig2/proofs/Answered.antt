@@ -5,14 +5,16 @@ use Rattle.std.specs.Option.{option_map_or}
 use Rattle.jbig2_base.specs.Answer.{◌>>=◌, refuse_if, some_or}
 use Rattle.jbig2_base.specs.File.{file_at}
 use Rattle.jbig2_base.specs.Grid.{Grid}
+use Rattle.jbig2_base.specs.Reading.{is_salvaged, is_strict}
 use Rattle.jbig2_base.specs.Segment.{Header, SegmentView}
 use Rattle.jbig2_base.specs.declared.error.DecodeError.{DecodeError}
 use Rattle.jbig2_base.specs.declared.error.DecodeError.TheVariants as errors
 use Rattle.jbig2_base.specs.declared.error.FormatError.TheVariants.{MissingPageInfo}
 use Rattle.jbig2_base.specs.declared.error.SegmentError.TheVariants.{MissingPatternDictionary}
+use Rattle.jbig2_base.specs.declared.reading.Reading.{Reading}
 use Rattle.jbig2_base.specs.declared.segment.SegmentType.{SegmentType}
 use Rattle.jbig2_base.specs.declared.segment.SegmentType.TheVariants as types
-use Rattle.jbig2_base.proofs.Answered.{Answered, answered-file, answered-if, answered-initial_page, answered-next, answered-number, answered-refusal, answered-sorted}
+use Rattle.jbig2_base.proofs.Answered.{Answered, answered-file, answered-if, answered-initial_page_by, answered-next, answered-number, answered-refusal, answered-sorted}
 use Rattle.jbig2_coder.specs.PrefixCode.{Member}
 use Rattle.jbig2_coder.proofs.Answered.{answered-custom}
 use Rattle.jbig2_halftone.specs.Patterns.{Patterns}
@@ -22,10 +24,10 @@ use Rattle.jbig2_region.proofs.Answered.{answered-generic, answered-generic_head
 use Rattle.jbig2_symbol.specs.Symbols.{Symbols}
 use Rattle.jbig2_symbol.proofs.Answered.{answered-symbol_header, answered-symbols_decoded}
 use Rattle.jbig2_text.proofs.AnsweredRegions.{answered-text, answered-text_header}
-use Rattle.hayro_jbig2.specs.Names.{Names, Referred, extension, kept_by, no_names, pattern_dictionary_at, symbol_dictionary_at, with_code, with_dictionary, with_number, with_numbers, with_patterns, with_symbols, with_table, globals_at, named_from}
-use Rattle.hayro_jbig2.specs.Files.{PageInFile, ReadFile, associated, book_at, by_pages, filed_each, filed_from, miscounts, of_page, shared_by}
+use Rattle.hayro_jbig2.specs.Names.{Names, Referred, Shared, extension, nothing_shared, or_shared_without, kept_by, no_names, pattern_dictionary_at, symbol_dictionary_at, with_code, with_dictionary, with_number, with_numbers, with_patterns, with_symbols, with_table, globals_at, named_from}
+use Rattle.hayro_jbig2.specs.Files.{PageInFile, ReadFile, associated, book_at, by_pages, filed_before, filed_each, filed_from, miscounts, of_page, shared_by}
 use Rattle.hayro_jbig2.specs.Image.{first_page}
-use Rattle.hayro_jbig2.specs.Page.{Drawing, ReadPage, embedded, grid_of_page, immediate, intermediate, keeping, or_passed_over, page_begun, drawing_of_page, region_at, segment_on, segments_drawn, shown}
+use Rattle.hayro_jbig2.specs.Page.{Drawing, ReadPage, beginning_of, embedded, grid_of_page, immediate, intermediate, keeping, or_left_out, or_passed_over, page_begun, drawing_of_page, region_at, segment_by, segment_on, segments_drawn, shown, told_height}
 use Rattle.hayro_jbig2.specs.Regions.{generic_at, halftone_at, referred_region, refinement_at, text_at}
 use Rattle.hayro_jbig2.specs.declared.kept.Kept.{Kept}
 use Rattle.hayro_jbig2.specs.declared.region.RegionKind.{RegionKind}
@@ -126,17 +128,27 @@ answered-kept_by strict shared types.Tables h bytes own = answered-with_code (of
 answered-kept_by strict shared types.Extension h bytes own = answered-next (extension strict bytes) _ (answered-extension strict bytes) (λ known. tt)
 answered-kept_by strict shared _ h bytes own = tt
 
-pub answered-named : (strict : Bool) (ps : List SegmentView) (names : Names) → Answered (named_from strict ps names)
-answered-named strict [] names = tt
-answered-named strict (p ∷ ps) names =
-    answered-next (kept_by strict no_names p names) _ (answered-kept_by strict no_names p.header.segment_type p.header p.bytes names) (λ more. answered-named strict ps more)
+-- a segment that draws nothing
+pub answered-kept : (strict : Bool) (shared : Names) (p : SegmentView) (own : Names) → Answered (kept_by strict shared p own)
+answered-kept strict shared p own = answered-kept_by strict shared p.header.segment_type p.header p.bytes own
 
-pub answered-globals : (strict : Bool) (bytes : List ℕ) → Answered (globals_at strict bytes)
+answered-shared-without : (reading : Reading) (number : ℕ) (shared : Shared) (r : Result Names DecodeError) → Answered r → Answered (or_shared_without reading number shared r)
+answered-shared-without reading number shared (Ok names) is = tt
+answered-shared-without reading number shared (Err e) is = answered-if (is_salvaged reading e) _ (Err e) tt is
+
+pub answered-named : (reading : Reading) (ps : List SegmentView) (shared : Shared) → Answered (named_from reading ps shared)
+answered-named reading [] shared = tt
+answered-named reading (p ∷ ps) shared =
+    let kept : Result Names DecodeError = kept_by (is_strict reading) no_names p shared.names in
+    answered-next (or_shared_without reading p.header.segment_number shared kept) _
+    (answered-shared-without reading p.header.segment_number shared kept (answered-kept_by (is_strict reading) no_names p.header.segment_type p.header p.bytes shared.names)) (λ more. answered-named reading ps more)
+
+pub answered-globals : (reading : Reading) (bytes : List ℕ) → Answered (globals_at reading bytes)
 unfolding globals_at
-answered-globals strict bytes = search (answered-next, answered-sorted, answered-named)
+answered-globals reading bytes = search (answered-next, answered-sorted, answered-named)
 
-answered-segment_on : (strict : Bool) (globals : Names) (p : SegmentView) (d : Drawing) → Answered (segment_on strict globals p d)
-answered-segment_on strict globals p d =
+pub answered-segment_by : (strict : Bool) (globals : Names) (p : SegmentView) (d : Drawing) → Answered (segment_by strict globals p d)
+answered-segment_by strict globals p d =
     of-segment Answered strict globals p d
     (record {
       nothing = λ q. answered-keeping d _ (answered-kept_by strict globals q.header.segment_type q.header q.bytes d.names);
@@ -144,42 +156,53 @@ answered-segment_on strict globals p d =
       shown = λ kind q. answered-immediate strict globals kind q d;
     })
 
-pub answered-drawn : (strict : Bool) (globals : Names) (ps : List SegmentView) (d : Drawing) → Answered (segments_drawn strict globals ps d)
-answered-drawn strict globals [] d = tt
-answered-drawn strict globals (p ∷ ps) d =
+answered-left_out : (reading : Reading) (number : ℕ) (d : Drawing) (r : Result Drawing DecodeError) → Answered r → Answered (or_left_out reading number d r)
+answered-left_out reading number d (Ok e) is = tt
+answered-left_out reading number d (Err e) is = answered-if (is_salvaged reading e) _ (Err e) tt is
+
+pub answered-drawn : (reading : Reading) (globals : Names) (ps : List SegmentView) (d : Drawing) → Answered (segments_drawn reading globals ps d)
+answered-drawn reading globals [] d = tt
+answered-drawn reading globals (p ∷ ps) d =
     answered-if _ (Ok d) _ tt
-    (answered-next (segment_on strict globals p d) _ (answered-segment_on strict globals p d) (λ e. answered-drawn strict globals ps e))
+    (answered-next (segment_on reading globals p d) _ (answered-left_out reading p.header.segment_number d _ (answered-segment_by (is_strict reading) globals p d)) (λ e. answered-drawn reading globals ps e))
 
 -- ---- pages and files
 -- a page whose globals gave names, or such an error
 pub answered-grid : (page : ReadPage) → Answered page.globals → Answered (grid_of_page page)
 unfolding grid_of_page
-answered-grid page is = answered-next (drawing_of_page page) _ (answered-next page.globals _ is (λ globals. answered-drawn page.strict globals page.segments (page_begun page.initial_page))) (λ d. tt)
+answered-grid page is = answered-next (drawing_of_page page) _ (answered-next page.globals _ is (λ globals. answered-drawn page.reading globals page.segments (page_begun page.initial_page))) (λ d. tt)
 
-pub answered-embedded : (strict : Bool) (globals : Names) (bytes : List ℕ) → Answered (embedded strict globals bytes)
+pub answered-beginning : (reading : Reading) (ps : List SegmentView) → Answered (beginning_of reading ps)
+unfolding beginning_of
+answered-beginning reading ps = answered-initial_page_by (told_height reading ps) ps
+
+pub answered-embedded : (reading : Reading) (globals : Names) (bytes : List ℕ) → Answered (embedded reading globals bytes)
 unfolding embedded
-answered-embedded strict globals bytes = search (answered-next, answered-sorted, answered-initial_page)
+answered-embedded reading globals bytes = search (answered-next, answered-sorted, answered-beginning)
 
 pub answered-associated : (strict : Bool) (ps : List SegmentView) → Answered (associated strict ps)
 answered-associated strict [] = tt
 answered-associated strict (p ∷ ps) = answered-if _ (Err _) (associated strict ps) tt (answered-associated strict ps)
 
-pub answered-filed : (strict : Bool) (own : List SegmentView) → Answered (filed_from strict own)
+pub answered-filed : (reading : Reading) (own : List SegmentView) → Answered (filed_from reading own)
 unfolding filed_from
-answered-filed strict own = search (answered-next, answered-refusal, answered-initial_page)
+answered-filed reading own = search (answered-next, answered-refusal, answered-beginning)
 
-pub answered-each : (strict : Bool) (all : List (List SegmentView)) → Answered (filed_each strict all)
-answered-each strict [] = tt
-answered-each strict (own ∷ others) =
-    answered-next (filed_from strict own) _ (answered-filed strict own) (λ page. answered-next (filed_each strict others) _ (answered-each strict others) (λ pages. tt))
+answered-filed-before : (reading : Reading) (r : Result PageInFile DecodeError) (others : Result (List PageInFile) DecodeError) → Answered r → Answered others → Answered (filed_before reading r others)
+answered-filed-before reading (Ok page) others is rest = answered-next others _ rest (λ pages. tt)
+answered-filed-before reading (Err e) others is rest = answered-if (is_salvaged reading e) others (Err e) rest is
 
-pub answered-shared : (strict : Bool) (pages : List PageInFile) (shared : List SegmentView) → Answered (shared_by strict pages shared)
-answered-shared strict [] shared = tt
-answered-shared strict (page ∷ pages) shared = answered-named strict shared no_names
+pub answered-each : (reading : Reading) (all : List (List SegmentView)) → Answered (filed_each reading all)
+answered-each reading [] = tt
+answered-each reading (own ∷ others) = answered-filed-before reading (filed_from reading own) (filed_each reading others) (answered-filed reading own) (answered-each reading others)
 
-pub answered-book : (strict : Bool) (bytes : List ℕ) → Answered (book_at strict bytes)
+pub answered-shared : (reading : Reading) (pages : List PageInFile) (shared : List SegmentView) → Answered (shared_by reading pages shared)
+answered-shared reading [] shared = tt
+answered-shared reading (page ∷ pages) shared = answered-named reading shared (nothing_shared None)
+
+pub answered-book : (reading : Reading) (bytes : List ℕ) → Answered (book_at reading bytes)
 unfolding book_at
-answered-book strict bytes = search (answered-next, answered-file, answered-associated, answered-refusal, answered-each) depth 8
+answered-book reading bytes = search (answered-next, answered-file, answered-associated, answered-refusal, answered-each) depth 8
 
 -- what holds of the last step's value holds of the whole
 answered-last : {A B : Type 0} (P : B → Type 0) (r : Result A DecodeError) (next : A → Result B DecodeError) → ((x : A) → IfOk (next x) P) → IfOk (r >>= next) P
@@ -187,14 +210,14 @@ answered-last P (Ok x) next rest = rest x
 answered-last P (Err e) next rest = tt
 
 -- the error that a file's globals gave, for its pages
-pub answered-book_globals : (strict : Bool) (bytes : List ℕ) → IfOk (book_at strict bytes) (λ book. Answered book.globals)
+pub answered-book_globals : (reading : Reading) (bytes : List ℕ) → IfOk (book_at reading bytes) (λ book. Answered book.globals)
 unfolding book_at
-answered-book_globals strict bytes =
+answered-book_globals reading bytes =
     let P : ReadFile → Type 0 = λ book. Answered book.globals in
-    answered-last P (file_at strict bytes) _ (λ file.
-    answered-last P (associated strict file.1) _ (λ known.
-    answered-last P (refuse_if (strict && miscounts file.0.number_of_pages (length (by_pages file.1))) _) _ (λ counted.
-    answered-last P (filed_each strict (by_pages file.1)) _ (λ pages. answered-shared strict pages (of_page 0 file.1)))))
+    answered-last P (file_at reading bytes) _ (λ file.
+    answered-last P (associated (is_strict reading) file.1) _ (λ known.
+    answered-last P (refuse_if (is_strict reading && miscounts file.0.number_of_pages (length (by_pages file.1))) _) _ (λ counted.
+    answered-last P (filed_each reading (by_pages file.1)) _ (λ pages. answered-shared reading pages (of_page 0 file.1)))))
 
 answered-some_page : (page : Option ReadPage) → Answered (some_or (errors.Format MissingPageInfo) page)
 answered-some_page (Some page) = tt

@@ -1,5 +1,5 @@
 -- No definition gives an error that bytes cannot bring about: the law that a contract names.
-use Rattle.std.proofs.Common.{◌≡◌, ◌⊎◌, inl, inr, ℕ, Bool, List, Result, Ok, Err, sym, subst, arith}
+use Rattle.std.proofs.Common.{◌≡◌, ◌⊎◌, inl, inr, ℕ, List, Result, Ok, Err, sym, subst, arith}
 use Rattle.std.proofs.lemmas.Result.{IfErr-at_err}
 use Rattle.std.specs.Prelude.{IfErr, IfOk}
 use Rattle.jbig2_base.specs.Answer.{Gives}
@@ -10,6 +10,7 @@ use Rattle.jbig2_base.specs.declared.error.DecodeError.TheVariants as errors
 use Rattle.jbig2_base.specs.declared.error.HuffmanError.TheVariants.{ConflictingCodes}
 use Rattle.jbig2_base.specs.declared.error.OverflowError.TheVariants.{Index}
 use Rattle.jbig2_base.specs.declared.error.TemplateError.TheVariants.{Invalid}
+use Rattle.jbig2_base.specs.declared.reading.Reading.{Reading}
 use Rattle.jbig2_base.proofs.Answered as base
 use Rattle.hayro_jbig2.specs.Causes.{ErrorsAreAnswered, IsAnswered}
 use Rattle.hayro_jbig2.specs.Calls.{Conduct, Decodes}
@@ -46,20 +47,20 @@ of-book (Ok book) is = of-answer book.globals is
 of-book (Err e) is = tt
 
 drawing_answered : (page : ReadPage) → IfErr page.globals IsAnswered → base.Answered (drawing_of_page page)
-drawing_answered page is = base.answered-next page.globals _ (to-answer page.globals is) (λ names. answered-drawn page.strict names page.segments (page_begun page.initial_page))
+drawing_answered page is = base.answered-next page.globals _ (to-answer page.globals is) (λ names. answered-drawn page.reading names page.segments (page_begun page.initial_page))
 
 pub errors_are_answered : ErrorsAreAnswered
 errors_are_answered = record {
-  globals = λ strict bytes. of-answer _ (answered-globals strict bytes);
-  page = λ strict globals bytes. of-answer _ (answered-embedded strict globals bytes);
-  file = λ strict bytes. of-answer _ (answered-book strict bytes);
-  file_globals = λ strict bytes. of-book (book_at strict bytes) (answered-book_globals strict bytes);
+  globals = λ reading bytes. of-answer _ (answered-globals reading bytes);
+  page = λ reading globals bytes. of-answer _ (answered-embedded reading globals bytes);
+  file = λ reading bytes. of-answer _ (answered-book reading bytes);
+  file_globals = λ reading bytes. of-book (book_at reading bytes) (answered-book_globals reading bytes);
   drawing = λ page is. of-answer _ (drawing_answered page is);
 }
 
 -- ---- what calls return
-pub shared_answered : (strict : Bool) (pages : List PageInFile) (shared : List SegmentView) → IfErr (shared_by strict pages shared) IsAnswered
-shared_answered strict pages shared = of-answer _ (answered-shared strict pages shared)
+pub shared_answered : (reading : Reading) (pages : List PageInFile) (shared : List SegmentView) → IfErr (shared_by reading pages shared) IsAnswered
+shared_answered reading pages shared = of-answer _ (answered-shared reading pages shared)
 
 pub returned_error : {Y : Type 0} (meant : Result Y DecodeError) (e : DecodeError) → base.Answered meant → (e ≡ errors.OutOfMemory) ⊎ (meant ≡ Err e) → IsReturned e
 returned_error meant e is (inl memory) = inl memory

@@ -1,12 +1,14 @@
 -- The pages of a file one by one, and what each is made of.
 use Rattle.std.proofs.Common.{◌≡◌, ℕ, suc, zero, ◌+◌, ◌==◌, ◌<◌, Bool, true, false, not, ◌&&◌, ◌||◌, cond, nat_lt, List, [], ◌∷◌, ◌++◌, length, drop, map, Option, Some, None, Result, Ok, Err, refl, sym, ap, subst, ◌∙◌, arith}
-use Rattle.std.proofs.lemmas.Bool.{eqb-true}
+use Rattle.std.proofs.lemmas.Bool.{cond-false, cond-true, eqb-true}
 use Rattle.std.proofs.lemmas.List.{append_assoc}
 use Rattle.std.specs.Map.Iter.{TakesFirst}
 use Rattle.std.specs.Prelude.{slice_get, option_map}
 use Rattle.jbig2_base.proofs.Causes.{went}
 use Rattle.jbig2_base.specs.Answer.{◌>>=◌, refuse_if}
-use Rattle.jbig2_base.specs.PageInfo.{initial_page_of, initial_page_with, first_information, information_at, is_page_information, height_of, stripes_height}
+use Rattle.jbig2_base.specs.PageInfo.{initial_page_with, first_information, information_at, is_page_information, height_of}
+use Rattle.jbig2_base.specs.File.{file_at}
+use Rattle.jbig2_base.specs.Reading.{fault_of, is_salvaged, is_strict}
 use Rattle.jbig2_base.specs.Segment.{SegmentView}
 use Rattle.jbig2_base.specs.declared.error.DecodeError.{DecodeError}
 use Rattle.jbig2_base.specs.declared.error.DecodeError.TheVariants.{Format, Overflow}
@@ -15,9 +17,11 @@ use Rattle.jbig2_base.specs.declared.error.OverflowError.TheVariants.{BitmapDime
 use Rattle.jbig2_base.specs.declared.file_header.FileHeader.{FileHeader}
 use Rattle.jbig2_base.specs.declared.page_info.PageInformation.{PageInformation}
 use Rattle.jbig2_base.specs.declared.page_info.InitialPage.{InitialPage}
-use Rattle.hayro_jbig2.specs.Files.{PageInFile, ReadFile, of_page, by_pages, ends_of, filed_from, filed_each, numbers_after, miscounts, associated, book_at, page_in, shared_by, PagesStandAlone}
-use Rattle.hayro_jbig2.specs.Names.{named_from, Names, no_names}
-use Rattle.hayro_jbig2.specs.Page.{ReadPage}
+use Rattle.jbig2_base.specs.declared.reading.Reading.{Reading}
+use Rattle.jbig2_base.specs.declared.reading.Reading.TheVariants.{Lenient}
+use Rattle.hayro_jbig2.specs.Files.{PageInFile, ReadFile, of_page, by_pages, ends_of, error_of, filed_before, filed_from, filed_each, left_out_of, numbers_after, miscounts, associated, book_at, page_in, shared_by, PagesStandAlone}
+use Rattle.hayro_jbig2.specs.Names.{named_from, names_of, nothing_shared}
+use Rattle.hayro_jbig2.specs.Page.{ReadPage, beginning_of, told_height}
 
 from_front : {X Y : Type 0} (f : X → Y) (xs : List X) (i : ℕ) → i < length xs → TakesFirst (λ (y : Y). y) (map f (drop i xs)) (option_map f (slice_get xs i)) (map f (drop (suc i) xs))
 from_front f [] i h = absurd (omega arith)
@@ -47,8 +51,8 @@ first-of_page n [] p h = absurd (cc)
 first-of_page n (q ∷ qs) p h = first-of (q.header.page_association == n) n q p (of_page n qs) refl (first-of_page n qs p) h
 
 -- a page's number is its segments' association
-abbrev initial_page_of_first : List SegmentView → SegmentView → Result InitialPage DecodeError
-initial_page_of_first ps first = information_at first.bytes >>= λ info. height_of info.0.height (stripes_height ps) >>= λ height. initial_page_with first.header.page_association info.0 height
+abbrev initial_page_of_first : ℕ → SegmentView → Result InitialPage DecodeError
+initial_page_of_first told first = information_at first.bytes >>= λ info. height_of info.0.height told >>= λ height. initial_page_with first.header.page_association info.0 height
 
 number-of_initial_page : (number : ℕ) (info : PageInformation) (height : ℕ) (initial_page : InitialPage) → initial_page_with number info height ≡ Ok initial_page → initial_page.number ≡ number
 number-of_initial_page number info height initial_page h =
@@ -58,94 +62,108 @@ number-of_initial_page number info height initial_page h =
     let same : sized ≡ initial_page = let told = fits.2 in cc in
     ap (λ (t : InitialPage). t.number) (sym same)
 
-number-of_page : (n : ℕ) (ps : List SegmentView) (initial_page : InitialPage) → initial_page_of (of_page n ps) ≡ Ok initial_page → initial_page.number ≡ n
-unfolding initial_page_of
-number-of_page n ps initial_page h =
-    let first = went (first_information (of_page n ps)) (initial_page_of_first (of_page n ps)) initial_page h in
-    let info = went (information_at first.0.bytes) (λ info. height_of info.0.height (stripes_height (of_page n ps)) >>= λ height. initial_page_with first.0.header.page_association info.0 height) initial_page first.2 in
-    let height = went (height_of info.0.0.height (stripes_height (of_page n ps))) (λ height. initial_page_with first.0.header.page_association info.0.0 height) initial_page info.2 in
+number-of_page : (reading : Reading) (n : ℕ) (ps : List SegmentView) (initial_page : InitialPage) → beginning_of reading (of_page n ps) ≡ Ok initial_page → initial_page.number ≡ n
+unfolding beginning_of
+number-of_page reading n ps initial_page h =
+    let told : ℕ = told_height reading (of_page n ps) in
+    let first = went (first_information (of_page n ps)) (initial_page_of_first told) initial_page h in
+    let info = went (information_at first.0.bytes) (λ info. height_of info.0.height told >>= λ height. initial_page_with first.0.header.page_association info.0 height) initial_page first.2 in
+    let height = went (height_of info.0.0.height told) (λ height. initial_page_with first.0.header.page_association info.0.0 height) initial_page info.2 in
     number-of_initial_page first.0.header.page_association info.0.0 height.0 initial_page height.2 ∙ first-of_page n ps first.0 first.1
 
 -- A filed page is made of the segments of its own number.
-record IsOwn (ps : List SegmentView) (page : PageInFile) : Type 0 where
-  initial_page : initial_page_of (of_page page.initial_page.number ps) ≡ Ok page.initial_page
+record IsOwn (reading : Reading) (ps : List SegmentView) (page : PageInFile) : Type 0 where
+  initial_page : beginning_of reading (of_page page.initial_page.number ps) ≡ Ok page.initial_page
   segments : page.segments ≡ of_page page.initial_page.number ps
 
-own-filed : (strict : Bool) (ps : List SegmentView) (n : ℕ) (page : PageInFile) → filed_from strict (of_page n ps) ≡ Ok page → IsOwn ps page
+own-filed : (reading : Reading) (ps : List SegmentView) (n : ℕ) (page : PageInFile) → filed_from reading (of_page n ps) ≡ Ok page → IsOwn reading ps page
 unfolding filed_from
-own-filed strict ps n page h =
+own-filed reading ps n page h =
     let own : List SegmentView = of_page n ps in
-    let ended = went (refuse_if (strict && not (ends_of own == 1)) (Format InvalidEndOfPage)) (λ ended. initial_page_of own >>= λ initial_page. Ok (record { initial_page = initial_page; segments = own })) page h in
-    let initial_page = went (initial_page_of own) (λ initial_page. Ok (record { initial_page = initial_page; segments = own })) page ended.2 in
+    let ended = went (refuse_if (is_strict reading && not (ends_of own == 1)) (Format InvalidEndOfPage)) (λ ended. beginning_of reading own >>= λ initial_page. Ok (record { initial_page = initial_page; segments = own })) page h in
+    let initial_page = went (beginning_of reading own) (λ initial_page. Ok (record { initial_page = initial_page; segments = own })) page ended.2 in
     let made : PageInFile = record { initial_page = initial_page.0; segments = own } in
     let same : made ≡ page = let told = initial_page.2 in cc in
-    let number : n ≡ initial_page.0.number = sym (number-of_page n ps initial_page.0 initial_page.1) in
-    let Own : ℕ → Type 0 = λ m. (initial_page_of (of_page m ps) ≡ Ok initial_page.0) × (own ≡ of_page m ps) in
+    let number : n ≡ initial_page.0.number = sym (number-of_page reading n ps initial_page.0 initial_page.1) in
+    let Own : ℕ → Type 0 = λ m. (beginning_of reading (of_page m ps) ≡ Ok initial_page.0) × (own ≡ of_page m ps) in
     let told = subst Own number (initial_page.1, refl) in
-    let is : IsOwn ps made = record { initial_page = told.0; segments = told.1 } in
-    subst (λ (p : PageInFile). IsOwn ps p) same is
+    let is : IsOwn reading ps made = record { initial_page = told.0; segments = told.1 } in
+    subst (λ (p : PageInFile). IsOwn reading ps p) same is
 
-abbrev AllOwn : List SegmentView → List PageInFile → Type 0
-AllOwn ps [] = Unit {0}
-AllOwn ps (page ∷ pages) = IsOwn ps page × AllOwn ps pages
+abbrev AllOwn : Reading → List SegmentView → List PageInFile → Type 0
+AllOwn reading ps [] = Unit {0}
+AllOwn reading ps (page ∷ pages) = IsOwn reading ps page × AllOwn reading ps pages
 
-own-each : (strict : Bool) (ps : List SegmentView) (ns : List ℕ) (pages : List PageInFile) → filed_each strict (map (λ n. of_page n ps) ns) ≡ Ok pages → AllOwn ps pages
-own-each strict ps [] pages h =
+-- a page before the others, or one that was left out
+own-before : (reading : Reading) (ps : List SegmentView) (r : Result PageInFile DecodeError) (others : Result (List PageInFile) DecodeError) (pages : List PageInFile)
+    → ((page : PageInFile) → r ≡ Ok page → IsOwn reading ps page) → ((rest : List PageInFile) → others ≡ Ok rest → AllOwn reading ps rest) → filed_before reading r others ≡ Ok pages → AllOwn reading ps pages
+own-before reading ps (Ok page) others pages own rest h =
+    let after = went others (λ others. Ok (page ∷ others)) pages h in
+    let same : page ∷ after.0 ≡ pages = let told = after.2 in cc in
+    subst (AllOwn reading ps) same (own page refl, rest after.0 after.1)
+own-before reading ps (Err e) others pages own rest h = by (is_salvaged reading e) h
+  where
+    by : (b : Bool) → cond b others (Err e) ≡ Ok pages → AllOwn reading ps pages
+    by true is = rest pages is
+    by false is = absurd (cc)
+
+own-each : (reading : Reading) (ps : List SegmentView) (ns : List ℕ) (pages : List PageInFile) → filed_each reading (map (λ n. of_page n ps) ns) ≡ Ok pages → AllOwn reading ps pages
+own-each reading ps [] pages h =
     let same : [] ≡ pages = cc in
-    subst (AllOwn ps) same tt
-own-each strict ps (n ∷ ns) pages h =
-    let each = filed_each strict (map (λ m. of_page m ps) ns) in
-    let page = went (filed_from strict (of_page n ps)) (λ page. each >>= λ others. Ok (page ∷ others)) pages h in
-    let others = went each (λ others. Ok (page.0 ∷ others)) pages page.2 in
-    let same : page.0 ∷ others.0 ≡ pages = let told = others.2 in cc in
-    subst (AllOwn ps) same (own-filed strict ps n page.0 page.1, own-each strict ps ns others.0 others.1)
+    subst (AllOwn reading ps) same tt
+own-each reading ps (n ∷ ns) pages h =
+    own-before reading ps (filed_from reading (of_page n ps)) (filed_each reading (map (λ m. of_page m ps) ns)) pages (own-filed reading ps n) (own-each reading ps ns) h
 
-own-at : (ps : List SegmentView) (pages : List PageInFile) (index : ℕ) (page : PageInFile) → AllOwn ps pages → slice_get pages index ≡ Some page → IsOwn ps page
-own-at ps [] index page all h = absurd (cc)
-own-at ps (p ∷ pages) zero page all h =
+own-at : (reading : Reading) (ps : List SegmentView) (pages : List PageInFile) (index : ℕ) (page : PageInFile) → AllOwn reading ps pages → slice_get pages index ≡ Some page → IsOwn reading ps page
+own-at reading ps [] index page all h = absurd (cc)
+own-at reading ps (p ∷ pages) zero page all h =
     let same : p ≡ page = cc in
-    subst (IsOwn ps) same all.0
-own-at ps (p ∷ pages) (suc index) page all h = own-at ps pages index page all.1 h
+    subst (IsOwn reading ps) same all.0
+own-at reading ps (p ∷ pages) (suc index) page all h = own-at reading ps pages index page all.1 h
 
 -- a file's book, from its header and its segments
-abbrev pages_with : Bool → FileHeader × List SegmentView → Result ReadFile DecodeError
-pages_with strict file = filed_each strict (by_pages file.1) >>= λ pages. Ok (record { strict = strict; pages = pages; globals = shared_by strict pages (of_page 0 file.1) })
+abbrev book_of : Reading → Option DecodeError → FileHeader × List SegmentView → List PageInFile → ReadFile
+book_of reading fault file pages = record { reading = reading; pages = pages; globals = shared_by reading pages (of_page 0 file.1); left_out = left_out_of reading (by_pages file.1); fault = fault }
 
-abbrev counted_with : Bool → FileHeader × List SegmentView → Result ReadFile DecodeError
-counted_with strict file = refuse_if (strict && miscounts file.0.number_of_pages (length (by_pages file.1))) (Format PageCountMismatch) >>= λ counted. pages_with strict file
+abbrev pages_with : Reading → Option DecodeError → FileHeader × List SegmentView → Result ReadFile DecodeError
+pages_with reading fault file = filed_each reading (by_pages file.1) >>= λ pages. Ok (book_of reading fault file pages)
 
-abbrev book_with : Bool → FileHeader × List SegmentView → Result ReadFile DecodeError
-book_with strict file = associated strict file.1 >>= λ known. counted_with strict file
+abbrev counted_with : Reading → Option DecodeError → FileHeader × List SegmentView → Result ReadFile DecodeError
+counted_with reading fault file = refuse_if (is_strict reading && miscounts file.0.number_of_pages (length (by_pages file.1))) (Format PageCountMismatch) >>= λ counted. pages_with reading fault file
 
-record Filled (strict : Bool) (ps : List SegmentView) (book : ReadFile) : Type 0 where
-  own : AllOwn ps book.pages
-  strictly : book.strict ≡ strict
-  shared : book.globals ≡ shared_by strict book.pages (of_page 0 ps)
+abbrev book_with : Reading → Option DecodeError → FileHeader × List SegmentView → Result ReadFile DecodeError
+book_with reading fault file = associated (is_strict reading) file.1 >>= λ known. counted_with reading fault file
 
-filled : (strict : Bool) (file : FileHeader × List SegmentView) (book : ReadFile) → book_with strict file ≡ Ok book → Filled strict file.1 book
-filled strict file book h =
-    let known = went (associated strict file.1) (λ known. counted_with strict file) book h in
-    let counted = went (refuse_if (strict && miscounts file.0.number_of_pages (length (by_pages file.1))) (Format PageCountMismatch)) (λ counted. pages_with strict file) book known.2 in
-    let pages = went (filed_each strict (by_pages file.1)) (λ pages. Ok (record { strict = strict; pages = pages; globals = shared_by strict pages (of_page 0 file.1) })) book counted.2 in
-    let made : ReadFile = record { strict = strict; pages = pages.0; globals = shared_by strict pages.0 (of_page 0 file.1) } in
+record Filled (reading : Reading) (fault : Option DecodeError) (ps : List SegmentView) (book : ReadFile) : Type 0 where
+  own : AllOwn reading ps book.pages
+  mode : book.reading ≡ reading
+  shared : book.globals ≡ shared_by reading book.pages (of_page 0 ps)
+  ended : book.fault ≡ fault
+
+filled : (reading : Reading) (fault : Option DecodeError) (file : FileHeader × List SegmentView) (book : ReadFile) → book_with reading fault file ≡ Ok book → Filled reading fault file.1 book
+filled reading fault file book h =
+    let known = went (associated (is_strict reading) file.1) (λ known. counted_with reading fault file) book h in
+    let counted = went (refuse_if (is_strict reading && miscounts file.0.number_of_pages (length (by_pages file.1))) (Format PageCountMismatch)) (λ counted. pages_with reading fault file) book known.2 in
+    let pages = went (filed_each reading (by_pages file.1)) (λ pages. Ok (book_of reading fault file pages)) book counted.2 in
+    let made : ReadFile = book_of reading fault file pages.0 in
     let same : made ≡ book = let told = pages.2 in cc in
-    let own : AllOwn file.1 pages.0 = own-each strict file.1 (numbers_after [] file.1) pages.0 pages.1 in
-    let is : Filled strict file.1 made = record { own = own; strictly = refl; shared = refl } in
-    subst (λ (b : ReadFile). Filled strict file.1 b) same is
+    let own : AllOwn reading file.1 pages.0 = own-each reading file.1 (numbers_after [] file.1) pages.0 pages.1 in
+    let is : Filled reading fault file.1 made = record { own = own; mode = refl; shared = refl; ended = refl } in
+    subst (λ (b : ReadFile). Filled reading fault file.1 b) same is
 
 -- a file with a page shares its globals
-shares-at : (strict : Bool) (pages : List PageInFile) (shared : List SegmentView) (index : ℕ) (page : PageInFile) → slice_get pages index ≡ Some page → shared_by strict pages shared ≡ named_from strict shared no_names
-shares-at strict [] shared index page h = absurd (cc)
-shares-at strict (p ∷ pages) shared index page h = refl
+shares-at : (reading : Reading) (pages : List PageInFile) (shared : List SegmentView) (index : ℕ) (page : PageInFile) → slice_get pages index ≡ Some page → shared_by reading pages shared ≡ named_from reading shared (nothing_shared None)
+shares-at reading [] shared index page h = absurd (cc)
+shares-at reading (p ∷ pages) shared index page h = refl
 
 -- what code asks of the pages
-pub shares_none : (strict : Bool) (pages : List PageInFile) (shared : List SegmentView) → (length pages == 0) ≡ true → shared_by strict pages shared ≡ Ok no_names
-shares_none strict [] shared none = refl
-shares_none strict (p ∷ pages) shared none = absurd (let long : length (p ∷ pages) ≡ 0 = eqb-true (length (p ∷ pages)) 0 none in omega arith)
+pub shares_none : (reading : Reading) (pages : List PageInFile) (shared : List SegmentView) → (length pages == 0) ≡ true → shared_by reading pages shared ≡ Ok (nothing_shared None)
+shares_none reading [] shared none = refl
+shares_none reading (p ∷ pages) shared none = absurd (let long : length (p ∷ pages) ≡ 0 = eqb-true (length (p ∷ pages)) 0 none in omega arith)
 
-pub shares_some : (strict : Bool) (pages : List PageInFile) (shared : List SegmentView) → (length pages == 0) ≡ false → shared_by strict pages shared ≡ named_from strict shared no_names
-shares_some strict [] shared some = absurd (cc)
-shares_some strict (p ∷ pages) shared some = refl
+pub shares_some : (reading : Reading) (pages : List PageInFile) (shared : List SegmentView) → (length pages == 0) ≡ false → shared_by reading pages shared ≡ named_from reading shared (nothing_shared None)
+shares_some reading [] shared some = absurd (cc)
+shares_some reading (p ∷ pages) shared some = refl
 
 record Mapped {X Y : Type 0} (f : X → Y) (o : Option X) (y : Y) : Type 0 where
   from : X
@@ -156,28 +174,24 @@ mapped : {X Y : Type 0} (f : X → Y) (o : Option X) (y : Y) → option_map f o 
 mapped f None y h = absurd (cc)
 mapped f (Some x) y h = record { from = x; was = refl; is = cc }
 
-abbrev page_from : Bool → List SegmentView → List SegmentView → Result ReadPage DecodeError
-page_from strict own shared = initial_page_of own >>= λ begun. Ok (record { strict = strict; initial_page = begun; segments = own; globals = named_from strict shared no_names })
+abbrev page_from : Reading → Option DecodeError → List SegmentView → List SegmentView → Result ReadPage DecodeError
+page_from reading fault own shared = beginning_of reading own >>= λ begun. Ok (record { reading = reading; initial_page = begun; segments = own; globals = names_of (named_from reading shared (nothing_shared None)); fault = fault })
 
-own-leaf : (strict : Bool) (ps : List SegmentView) (book : ReadFile) (page : PageInFile) → Filled strict ps book → book.globals ≡ named_from strict (of_page 0 ps) no_names → IsOwn ps page → page_from strict (of_page page.initial_page.number ps) (of_page 0 ps) ≡ Ok (page_in book page)
-own-leaf strict ps book page filled shared own =
-    let ending : InitialPage → Result ReadPage DecodeError = λ initial_page. Ok (record { strict = strict; initial_page = initial_page; segments = of_page page.initial_page.number ps; globals = named_from strict (of_page 0 ps) no_names }) in
-    let told : page_from strict (of_page page.initial_page.number ps) (of_page 0 ps) ≡ ending page.initial_page = ap (λ (r : Result InitialPage DecodeError). r >>= ending) own.initial_page in
-    told
-    ∙ ap (λ (b : Bool). Ok (record { strict = b; initial_page = page.initial_page; segments = of_page page.initial_page.number ps; globals = named_from strict (of_page 0 ps) no_names })) (sym filled.strictly)
-    ∙ ap (λ (own_segments : List SegmentView). Ok (record { strict = book.strict; initial_page = page.initial_page; segments = own_segments; globals = named_from strict (of_page 0 ps) no_names })) (sym own.segments)
-    ∙ ap (λ (names : Result Names DecodeError). Ok (record { strict = book.strict; initial_page = page.initial_page; segments = page.segments; globals = names })) (sym shared)
+own-leaf : (reading : Reading) (fault : Option DecodeError) (ps : List SegmentView) (book : ReadFile) (page : PageInFile) → Filled reading fault ps book → book.globals ≡ named_from reading (of_page 0 ps) (nothing_shared None) → IsOwn reading ps page
+    → page_from reading fault (of_page page.initial_page.number ps) (of_page 0 ps) ≡ Ok (page_in book page)
+own-leaf reading fault ps book page filled shared own = rw (own.initial_page, filled.mode, filled.ended, own.segments, shared) refl
 
 pub pages_stand_alone : PagesStandAlone
 unfolding book_at
-pages_stand_alone strict bytes file book index page read h at =
-    let with_file : book_with strict file ≡ Ok book = sym (ap (λ (r : Result (FileHeader × List SegmentView) DecodeError). r >>= book_with strict) read) ∙ h in
-    let all = filled strict file book with_file in
+pages_stand_alone reading bytes file book index page read h at =
+    let fault : Option DecodeError = fault_of reading (file_at Lenient bytes) in
+    let with_file : book_with reading fault file ≡ Ok book = sym (ap (λ (r : Result (FileHeader × List SegmentView) DecodeError). r >>= book_with reading fault) read) ∙ h in
+    let all = filled reading fault file book with_file in
     let leaf = mapped (page_in book) (slice_get book.pages index) page at in
-    let own = own-at file.1 book.pages index leaf.from all.own leaf.was in
-    let Alone : ReadPage → Type 0 = λ l. page_from strict (of_page l.initial_page.number file.1) (of_page 0 file.1) ≡ Ok l in
-    let shared = all.shared ∙ shares-at strict book.pages (of_page 0 file.1) index leaf.from leaf.was in
-    subst Alone leaf.is (own-leaf strict file.1 book leaf.from all shared own)
+    let own = own-at reading file.1 book.pages index leaf.from all.own leaf.was in
+    let Alone : ReadPage → Type 0 = λ l. page_from reading fault (of_page l.initial_page.number file.1) (of_page 0 file.1) ≡ Ok l in
+    let shared = all.shared ∙ shares-at reading book.pages (of_page 0 file.1) index leaf.from leaf.was in
+    subst Alone leaf.is (own-leaf reading fault file.1 book leaf.from all shared own)
 
 -- the pages that are made, and those that follow them
 abbrev pub with_pages : List PageInFile → Result (List PageInFile) DecodeError → Result (List PageInFile) DecodeError
@@ -191,16 +205,42 @@ pages-next : (front : List PageInFile) (page : PageInFile) (r : Result (List Pag
 pages-next front page (Ok pages) = ap (λ (all : List PageInFile). Ok all) (append_assoc front (page ∷ []) pages)
 pages-next front page (Err e) = refl
 
-pub page-made : (front next : List PageInFile) (strict : Bool) (own : List SegmentView) (before others : List (List SegmentView)) (meant : Result (List PageInFile) DecodeError) (page : PageInFile) → next ≡ front ++ page ∷ [] → before ≡ own ∷ others → with_pages front (filed_each strict before) ≡ meant → filed_from strict own ≡ Ok page → with_pages next (filed_each strict others) ≡ meant
-page-made front next strict own before others meant page pushed is so_far made =
-    ap (λ (pages : List PageInFile). with_pages pages (filed_each strict others)) pushed
-    ∙ pages-next front page (filed_each strict others)
-    ∙ ap (λ (r : Result PageInFile DecodeError). with_pages front (r >>= λ page. filed_each strict others >>= λ pages. Ok (page ∷ pages))) (sym made)
-    ∙ ap (λ (rest : List (List SegmentView)). with_pages front (filed_each strict rest)) (sym is)
+pub page-made : (front next : List PageInFile) (reading : Reading) (own : List SegmentView) (before others : List (List SegmentView)) (meant : Result (List PageInFile) DecodeError) (page : PageInFile) → next ≡ front ++ page ∷ [] → before ≡ own ∷ others → with_pages front (filed_each reading before) ≡ meant → filed_from reading own ≡ Ok page → with_pages next (filed_each reading others) ≡ meant
+page-made front next reading own before others meant page pushed is so_far made =
+    ap (λ (pages : List PageInFile). with_pages pages (filed_each reading others)) pushed
+    ∙ pages-next front page (filed_each reading others)
+    ∙ ap (λ (r : Result PageInFile DecodeError). with_pages front (filed_before reading r (filed_each reading others))) (sym made)
+    ∙ ap (λ (rest : List (List SegmentView)). with_pages front (filed_each reading rest)) (sym is)
     ∙ so_far
 
-pub page-refused : (front : List PageInFile) (strict : Bool) (own : List SegmentView) (before others : List (List SegmentView)) (meant : Result (List PageInFile) DecodeError) (e : DecodeError) → before ≡ own ∷ others → with_pages front (filed_each strict before) ≡ meant → filed_from strict own ≡ Err e → meant ≡ Err e
-page-refused front strict own before others meant e is so_far refused =
+-- what is meant, where a page is refused
+page-without : (front : List PageInFile) (reading : Reading) (own : List SegmentView) (before others : List (List SegmentView)) (meant : Result (List PageInFile) DecodeError) (e : DecodeError) → before ≡ own ∷ others → with_pages front (filed_each reading before) ≡ meant → filed_from reading own ≡ Err e → meant ≡ with_pages front (cond (is_salvaged reading e) (filed_each reading others) (Err e))
+page-without front reading own before others meant e is so_far refused =
     sym so_far
-    ∙ ap (λ (rest : List (List SegmentView)). with_pages front (filed_each strict rest)) is
-    ∙ ap (λ (r : Result PageInFile DecodeError). with_pages front (r >>= λ page. filed_each strict others >>= λ pages. Ok (page ∷ pages))) refused
+    ∙ ap (λ (rest : List (List SegmentView)). with_pages front (filed_each reading rest)) is
+    ∙ ap (λ (r : Result PageInFile DecodeError). with_pages front (filed_before reading r (filed_each reading others))) refused
+
+pub page-refused : (front : List PageInFile) (reading : Reading) (own : List SegmentView) (before others : List (List SegmentView)) (meant : Result (List PageInFile) DecodeError) (e : DecodeError) → before ≡ own ∷ others → with_pages front (filed_each reading before) ≡ meant → filed_from reading own ≡ Err e → is_salvaged reading e ≡ false → meant ≡ Err e
+page-refused front reading own before others meant e is so_far refused kept =
+    page-without front reading own before others meant e is so_far refused
+    ∙ ap (λ (r : Result (List PageInFile) DecodeError). with_pages front r) (cond-false (is_salvaged reading e) (filed_each reading others) (Err e) kept)
+
+pub page-left-out : (front : List PageInFile) (reading : Reading) (own : List SegmentView) (before others : List (List SegmentView)) (meant : Result (List PageInFile) DecodeError) (e : DecodeError) → before ≡ own ∷ others → with_pages front (filed_each reading before) ≡ meant → filed_from reading own ≡ Err e → is_salvaged reading e ≡ true → with_pages front (filed_each reading others) ≡ meant
+page-left-out front reading own before others meant e is so_far refused left =
+    sym (page-without front reading own before others meant e is so_far refused
+    ∙ ap (λ (r : Result (List PageInFile) DecodeError). with_pages front r) (cond-true (is_salvaged reading e) (filed_each reading others) (Err e) left))
+
+-- the errors of the pages that are left out
+pub left-made : (front : List DecodeError) (reading : Reading) (own : List SegmentView) (before others : List (List SegmentView)) (meant : List DecodeError) (page : PageInFile) → before ≡ own ∷ others → filed_from reading own ≡ Ok page → front ++ left_out_of reading before ≡ meant → front ++ left_out_of reading others ≡ meant
+left-made front reading own before others meant page is made so_far =
+    ap (λ (r : Result PageInFile DecodeError). front ++ (error_of r ++ left_out_of reading others)) (sym made)
+    ∙ ap (λ (rest : List (List SegmentView)). front ++ left_out_of reading rest) (sym is)
+    ∙ so_far
+
+pub left-more : (front next : List DecodeError) (reading : Reading) (own : List SegmentView) (before others : List (List SegmentView)) (meant : List DecodeError) (e : DecodeError) → next ≡ front ++ e ∷ [] → before ≡ own ∷ others → filed_from reading own ≡ Err e → front ++ left_out_of reading before ≡ meant → next ++ left_out_of reading others ≡ meant
+left-more front next reading own before others meant e pushed is refused so_far =
+    ap (λ (errors : List DecodeError). errors ++ left_out_of reading others) pushed
+    ∙ append_assoc front (e ∷ []) (left_out_of reading others)
+    ∙ ap (λ (r : Result PageInFile DecodeError). front ++ (error_of r ++ left_out_of reading others)) (sym refused)
+    ∙ ap (λ (rest : List (List SegmentView)). front ++ left_out_of reading rest) (sym is)
+    ∙ so_far

@@ -1,10 +1,11 @@
 -- Which rule is broken where a file is refused.
-use Rattle.std.proofs.Common.{◌≡◌, ◌≢◌, ◌⊎◌, ℕ, suc, Bool, true, not, ◌&&◌, ◌==◌, List, [], ◌∷◌, length, slice_get, Option, Some, None, Result, Ok, Err, refl, sym, ◌∙◌, arith}
+use Rattle.std.proofs.Common.{◌≡◌, ◌≢◌, ◌⊎◌, ℕ, suc, Bool, true, false, not, ◌&&◌, ◌==◌, List, [], ◌∷◌, length, slice_get, Option, Some, None, Result, Ok, Err, refl, sym, ◌∙◌, arith}
 use Rattle.std.proofs.lemmas.Bool.{and_parts, eq-eqb, eqb-true, false≢true, not-true}
 use Rattle.std.specs.Prelude.{Any, IfErr, IsTrue, option_map}
 use Rattle.jbig2_base.specs.Answer.{refuse_if, some_or}
 use Rattle.jbig2_base.specs.File.{file_at}
 use Rattle.jbig2_base.specs.PageInfo.{initial_page_of}
+use Rattle.jbig2_base.specs.Reading.{is_salvaged, is_strict}
 use Rattle.jbig2_base.specs.Segment.{SegmentView}
 use Rattle.jbig2_base.specs.Causes.{BreaksInitialPage, HasCause, HasCauseOrNoMemory}
 use Rattle.jbig2_base.specs.declared.error.DecodeError.{DecodeError}
@@ -13,14 +14,19 @@ use Rattle.jbig2_base.specs.declared.error.FormatError.TheVariants as formats
 use Rattle.jbig2_base.specs.declared.error.ParseError.TheVariants.{UnexpectedEof}
 use Rattle.jbig2_base.specs.declared.error.SegmentError.TheVariants as segments
 use Rattle.jbig2_base.specs.declared.file_header.FileHeader.{FileHeader}
+use Rattle.jbig2_base.specs.declared.reading.Reading.{Reading}
+use Rattle.jbig2_base.specs.declared.reading.Reading.TheVariants as readings
+use Rattle.jbig2_base.proofs.Answered.{IsAnswered}
 use Rattle.jbig2_base.proofs.CauseSteps.{call-cause, call-cause-or-memory}
 use Rattle.jbig2_base.proofs.Causes.{cause-next, cause-refused}
 use Rattle.jbig2_base.proofs.InitialCauses.{initial_page_causes}
 use Rattle.jbig2_region.proofs.Told.{cause-if, cause-more}
 use Rattle.jbig2_symbol.proofs.ReadingCauses.{in-steps}
 use Rattle.hayro_jbig2.specs.Causes.{BreaksBook, BreaksFirstPage, BreaksPages}
-use Rattle.hayro_jbig2.specs.Files.{ReadFile, associated, book_at, by_pages, ends_of, filed_each, filed_from, lacks_page, miscounts, needs_page, page_in, page_of}
-use Rattle.hayro_jbig2.specs.Page.{ReadPage}
+use Rattle.hayro_jbig2.specs.Files.{PageInFile, ReadFile, associated, book_at, by_pages, ends_of, filed_before, filed_each, filed_from, lacks_page, miscounts, needs_page, page_in, page_of}
+use Rattle.hayro_jbig2.specs.Page.{ReadPage, beginning_of}
+use Rattle.hayro_jbig2.proofs.Answered.{answered-beginning}
+use Rattle.hayro_jbig2.proofs.Salvaging.{left-out}
 
 -- ---- places
 pub at-first : {X : Type 0} (P : X → Type 0) (x : X) (xs : List X) → P x → Any P (x ∷ xs)
@@ -52,70 +58,90 @@ miscounted None n wrong = absurd (false≢true wrong)
 miscounted (Some t) n wrong = (t, refl, differ t n wrong)
 
 -- ---- each page
-filed-cause : (P : DecodeError → Type 0) (strict : Bool) (own : List SegmentView)
-    → (IsTrue strict → ends_of own ≢ 1 → P (errors.Format formats.InvalidEndOfPage)) → ((e : DecodeError) → BreaksInitialPage own e → P e) → IfErr (filed_from strict own) P
-unfolding filed_from
-filed-cause P strict own ends begins =
-    cause-next P (refuse_if (strict && not (ends_of own == 1)) (errors.Format formats.InvalidEndOfPage)) _ (cause-refused P (strict && not (ends_of own == 1)) (errors.Format formats.InvalidEndOfPage) (λ wrong.
-    let both = and_parts strict (not (ends_of own == 1)) wrong in
-    ends both.0 (differ (ends_of own) 1 both.1))) (λ ended ended_is.
-    cause-next P (initial_page_of own) _ (cause-more (BreaksInitialPage own) P (initial_page_of own) (initial_page_causes own) (λ e broken. begins e broken)) (λ page page_is. tt))
+-- a page of strict or lenient reading begins as its stripes have it
+begins-cause : (P : DecodeError → Type 0) (reading : Reading) (own : List SegmentView)
+    → ((e : DecodeError) → is_salvaged reading e ≡ false → BreaksInitialPage own e → P e) → IfErr (beginning_of reading own) (λ e. is_salvaged reading e ≡ false → P e)
+unfolding beginning_of initial_page_of
+begins-cause P readings.Strict own begins =
+    cause-more (BreaksInitialPage own) (λ e. is_salvaged readings.Strict e ≡ false → P e) (initial_page_of own) (initial_page_causes own) (λ e broken kept. begins e kept broken)
+begins-cause P readings.Lenient own begins =
+    cause-more (BreaksInitialPage own) (λ e. is_salvaged readings.Lenient e ≡ false → P e) (initial_page_of own) (initial_page_causes own) (λ e broken kept. begins e kept broken)
+begins-cause P readings.Salvage own begins =
+    cause-more IsAnswered (λ e. is_salvaged readings.Salvage e ≡ false → P e) (beginning_of readings.Salvage own) (answered-beginning readings.Salvage own) (λ e answered kept. absurd (false≢true (sym kept ∙ left-out e answered)))
 
-each-cause : (P : DecodeError → Type 0) (strict : Bool) (all : List (List SegmentView))
-    → (IsTrue strict → Any (λ own. ends_of own ≢ 1) all → P (errors.Format formats.InvalidEndOfPage))
-    → ((e : DecodeError) → Any (λ own. BreaksInitialPage own e) all → P e) → IfErr (filed_each strict all) P
-each-cause P strict [] ends begins = tt
-each-cause P strict (own ∷ others) ends begins =
+filed-cause : (P : DecodeError → Type 0) (reading : Reading) (own : List SegmentView)
+    → (IsTrue (is_strict reading) → ends_of own ≢ 1 → P (errors.Format formats.InvalidEndOfPage))
+    → ((e : DecodeError) → is_salvaged reading e ≡ false → BreaksInitialPage own e → P e) → IfErr (filed_from reading own) (λ e. is_salvaged reading e ≡ false → P e)
+unfolding filed_from
+filed-cause P reading own ends begins =
+    let Kept : DecodeError → Type 0 = λ e. is_salvaged reading e ≡ false → P e in
+    let wrong : Bool = is_strict reading && not (ends_of own == 1) in
+    cause-next Kept (refuse_if wrong (errors.Format formats.InvalidEndOfPage)) _ (cause-refused Kept wrong (errors.Format formats.InvalidEndOfPage) (λ is kept.
+    let both = and_parts (is_strict reading) (not (ends_of own == 1)) is in
+    ends both.0 (differ (ends_of own) 1 both.1))) (λ ended ended_is.
+    cause-next Kept (beginning_of reading own) _ (begins-cause P reading own begins) (λ page page_is. tt))
+
+-- a page before the others
+before-cause : (P : DecodeError → Type 0) (reading : Reading) (r : Result PageInFile DecodeError) (others : Result (List PageInFile) DecodeError) → IfErr r (λ e. is_salvaged reading e ≡ false → P e) → IfErr others P → IfErr (filed_before reading r others) P
+before-cause P reading (Ok page) others first rest = cause-next P others _ rest (λ pages pages_is. tt)
+before-cause P reading (Err e) others first rest = cause-if P (is_salvaged reading e) others (Err e) (λ left. rest) (λ kept. first kept)
+
+each-cause : (P : DecodeError → Type 0) (reading : Reading) (all : List (List SegmentView))
+    → (IsTrue (is_strict reading) → Any (λ own. ends_of own ≢ 1) all → P (errors.Format formats.InvalidEndOfPage))
+    → ((e : DecodeError) → is_salvaged reading e ≡ false → Any (λ own. BreaksInitialPage own e) all → P e) → IfErr (filed_each reading all) P
+each-cause P reading [] ends begins = tt
+each-cause P reading (own ∷ others) ends begins =
     let Ends : List SegmentView → Type 0 = λ page. ends_of page ≢ 1 in
-    cause-next P (filed_from strict own) _ (filed-cause P strict own (λ is wrong. ends is (at-first Ends own others wrong)) (λ e broken. begins e (at-first (λ page. BreaksInitialPage page e) own others broken))) (λ page page_is.
-    cause-next P (filed_each strict others) _ (each-cause P strict others (λ is some. ends is (at-later Ends own others some)) (λ e some. begins e (at-later (λ page. BreaksInitialPage page e) own others some))) (λ pages pages_is. tt))
+    before-cause P reading (filed_from reading own) (filed_each reading others)
+    (filed-cause P reading own (λ is wrong. ends is (at-first Ends own others wrong)) (λ e kept broken. begins e kept (at-first (λ page. BreaksInitialPage page e) own others broken)))
+    (each-cause P reading others (λ is some. ends is (at-later Ends own others some)) (λ e kept some. begins e kept (at-later (λ page. BreaksInitialPage page e) own others some)))
 
 -- ---- files
 -- what a page begins as breaks none of the rules on all the pages
-page-begins : (strict : Bool) (h : FileHeader) (ps : List SegmentView) (e : DecodeError) → Any (λ own. BreaksInitialPage own e) (by_pages ps) → BreaksPages strict h ps e
-page-begins strict h ps (errors.Parse UnexpectedEof) some = some
-page-begins strict h ps (errors.Format formats.InvalidHeader) some = some
-page-begins strict h ps (errors.Format formats.ReservedBits) some = some
-page-begins strict h ps (errors.Format formats.MissingPageInfo) some = some
-page-begins strict h ps (errors.Format formats.UnknownPageHeight) some = some
-page-begins strict h ps (errors.Format formats.EmptyPage) some = some
-page-begins strict h ps (errors.Format formats.PageCountMismatch) some = absurd some.4
-page-begins strict h ps (errors.Format formats.InvalidEndOfPage) some = absurd some.4
-page-begins strict h ps (errors.Segment segments.UnknownType) some = some
-page-begins strict h ps (errors.Segment segments.InvalidReferredCount) some = some
-page-begins strict h ps (errors.Segment segments.InvalidReference) some = some
-page-begins strict h ps (errors.Segment segments.InvalidUnknownLength) some = some
-page-begins strict h ps (errors.Segment segments.MissingEndMarker) some = some
-page-begins strict h ps (errors.Segment segments.MissingPatternDictionary) some = some
-page-begins strict h ps (errors.Segment segments.MissingPageAssociation) some = absurd some.4
-page-begins strict h ps (errors.Huffman e) some = some
-page-begins strict h ps (errors.Region e) some = some
-page-begins strict h ps (errors.Template e) some = some
-page-begins strict h ps (errors.Symbol e) some = some
-page-begins strict h ps (errors.Overflow e) some = some
-page-begins strict h ps errors.Unsupported some = some
-page-begins strict h ps errors.OutOfMemory some = some
+page-begins : (reading : Reading) (h : FileHeader) (ps : List SegmentView) (e : DecodeError) → is_salvaged reading e ≡ false → Any (λ own. BreaksInitialPage own e) (by_pages ps) → BreaksPages reading h ps e
+page-begins reading h ps (errors.Parse UnexpectedEof) kept some = (kept, some)
+page-begins reading h ps (errors.Format formats.InvalidHeader) kept some = (kept, some)
+page-begins reading h ps (errors.Format formats.ReservedBits) kept some = (kept, some)
+page-begins reading h ps (errors.Format formats.MissingPageInfo) kept some = (kept, some)
+page-begins reading h ps (errors.Format formats.UnknownPageHeight) kept some = (kept, some)
+page-begins reading h ps (errors.Format formats.EmptyPage) kept some = (kept, some)
+page-begins reading h ps (errors.Format formats.PageCountMismatch) kept some = absurd some.4
+page-begins reading h ps (errors.Format formats.InvalidEndOfPage) kept some = absurd some.4
+page-begins reading h ps (errors.Segment segments.UnknownType) kept some = (kept, some)
+page-begins reading h ps (errors.Segment segments.InvalidReferredCount) kept some = (kept, some)
+page-begins reading h ps (errors.Segment segments.InvalidReference) kept some = (kept, some)
+page-begins reading h ps (errors.Segment segments.InvalidUnknownLength) kept some = (kept, some)
+page-begins reading h ps (errors.Segment segments.MissingEndMarker) kept some = (kept, some)
+page-begins reading h ps (errors.Segment segments.MissingPatternDictionary) kept some = (kept, some)
+page-begins reading h ps (errors.Segment segments.MissingPageAssociation) kept some = absurd some.4
+page-begins reading h ps (errors.Huffman e) kept some = (kept, some)
+page-begins reading h ps (errors.Region e) kept some = (kept, some)
+page-begins reading h ps (errors.Template e) kept some = (kept, some)
+page-begins reading h ps (errors.Symbol e) kept some = (kept, some)
+page-begins reading h ps (errors.Overflow e) kept some = (kept, some)
+page-begins reading h ps errors.Unsupported kept some = (kept, some)
+page-begins reading h ps errors.OutOfMemory kept some = (kept, some)
 
 -- a step whose error is said elsewhere
 any-cause : {A : Type 0} (r : Result A DecodeError) → IfErr r (λ e. Unit {0})
 any-cause (Ok x) = tt
 any-cause (Err e) = tt
 
-file_causes : (strict : Bool) (bytes : List ℕ) → IfErr (book_at strict bytes) (BreaksBook strict bytes)
+file_causes : (reading : Reading) (bytes : List ℕ) → IfErr (book_at reading bytes) (BreaksBook reading bytes)
 unfolding book_at
-file_causes strict bytes =
-    in-steps (file_at strict bytes) _ (λ e. Unit {0}) (λ file. BreaksPages strict file.0 file.1) (any-cause (file_at strict bytes)) (λ file file_is.
-    let P : DecodeError → Type 0 = BreaksPages strict file.0 file.1 in
+file_causes reading bytes =
+    in-steps (file_at reading bytes) _ (λ e. Unit {0}) (λ file. BreaksPages reading file.0 file.1) (any-cause (file_at reading bytes)) (λ file file_is.
+    let P : DecodeError → Type 0 = BreaksPages reading file.0 file.1 in
     let wrong : Bool = miscounts file.0.number_of_pages (length (by_pages file.1)) in
-    cause-next P (associated strict file.1) _ (associated-cause P strict file.1 (λ is some. (is, some))) (λ known known_is.
-    cause-next P (refuse_if (strict && wrong) (errors.Format formats.PageCountMismatch)) _ (cause-refused P (strict && wrong) (errors.Format formats.PageCountMismatch) (λ both.
-    let parts = and_parts strict wrong both in
+    cause-next P (associated (is_strict reading) file.1) _ (associated-cause P (is_strict reading) file.1 (λ is some. (is, some))) (λ known known_is.
+    cause-next P (refuse_if (is_strict reading && wrong) (errors.Format formats.PageCountMismatch)) _ (cause-refused P (is_strict reading && wrong) (errors.Format formats.PageCountMismatch) (λ both.
+    let parts = and_parts (is_strict reading) wrong both in
     let count = miscounted file.0.number_of_pages (length (by_pages file.1)) parts.1 in
     (parts.0, count.0, count.1, count.2))) (λ counted counted_is.
-    cause-next P (filed_each strict (by_pages file.1)) _ (each-cause P strict (by_pages file.1) (λ is some. (is, some)) (page-begins strict file.0 file.1)) (λ pages pages_is. tt))))
+    cause-next P (filed_each reading (by_pages file.1)) _ (each-cause P reading (by_pages file.1) (λ is some. (is, some)) (page-begins reading file.0 file.1)) (λ pages pages_is. tt))))
 
-pub file_cause : {X : Type 0} (strict : Bool) (bytes : List ℕ) (r : Result X DecodeError) → IfErr r (λ e. (e ≡ errors.OutOfMemory) ⊎ (book_at strict bytes ≡ Err e)) → HasCauseOrNoMemory r (BreaksBook strict bytes)
-file_cause strict bytes r = call-cause-or-memory (BreaksBook strict bytes) (book_at strict bytes) r (file_causes strict bytes)
+pub file_cause : {X : Type 0} (reading : Reading) (bytes : List ℕ) (r : Result X DecodeError) → IfErr r (λ e. (e ≡ errors.OutOfMemory) ⊎ (book_at reading bytes ≡ Err e)) → HasCauseOrNoMemory r (BreaksBook reading bytes)
+file_cause reading bytes r = call-cause-or-memory (BreaksBook reading bytes) (book_at reading bytes) r (file_causes reading bytes)
 
 -- ---- the first page
 no-page : {X Y : Type 0} (f : X → Y) (xs : List X) → option_map f (slice_get xs 0) ≡ None → xs ≡ []

@@ -25,8 +25,8 @@ use Rattle.jbig2_region.specs.declared.generic_refinement.GenericRefinementRegio
 use Rattle.jbig2_region.specs.declared.region_info.DecodedRegion.{DecodedRegion}
 use Rattle.jbig2_region.specs.declared.region_info.RegionSegmentInfo.{RegionSegmentInfo}
 use Rattle.jbig2_text.specs.inner.TextViews as texts
-use Rattle.hayro_jbig2.specs.Names.{Names}
-use Rattle.hayro_jbig2.specs.Page.{Drawing, draws_over, nothing_passed, or_passed_over, region_at, shown, with_passed, with_region}
+use Rattle.hayro_jbig2.specs.Names.{Names, nothing_passed, with_passed}
+use Rattle.hayro_jbig2.specs.Page.{Drawing, draws_over, or_passed_over, region_at, shown, with_region}
 use Rattle.hayro_jbig2.specs.declared.passed_over.PassedOver.{PassedOver}
 use Rattle.hayro_jbig2.specs.declared.parsed_region.ParsedRegion.{ParsedRegion}
 use Rattle.hayro_jbig2.specs.declared.parsed_region.ParsedRegion.TheVariants.{Text, Halftone, Generic, Refinement, PageRefinement}

@@ -28,6 +28,7 @@ pub mod Runs
 pub mod Sending
 pub mod SegmentCauses
 pub mod SeenRows
+mod Salvaging
 mod SegmentTypes
 mod Shades
 pub mod Sides

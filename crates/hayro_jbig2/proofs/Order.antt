@@ -1,14 +1,16 @@
 -- The order of segments of different numbers, and what stands after the end of a page.
-use Rattle.std.proofs.Common.{◌≡◌, ◌≢◌, ℕ, ◌<◌, Bool, true, false, cond, nat_lt, List, [], ◌∷◌, ◌++◌, Result, Ok, Err, refl, sym, ap, ◌∙◌, arith}
+use Rattle.std.proofs.Common.{◌≡◌, ◌≢◌, ℕ, ◌<◌, true, false, cond, nat_lt, List, [], ◌∷◌, ◌++◌, Option, Result, Ok, Err, refl, sym, ap, ◌∙◌, arith}
 use Rattle.std.proofs.lemmas.Bool.{cond-true, cond-false, cond_both, ltb-true, ltb-false, lt-ltb, le-ltb}
 use Rattle.jbig2_base.specs.Answer.{◌>>=◌}
-use Rattle.jbig2_base.specs.PageInfo.{initial_page_of}
+use Rattle.jbig2_base.specs.Reading.{fault_of}
 use Rattle.jbig2_base.specs.Segment.{SegmentView}
 use Rattle.jbig2_base.specs.Sequential.{by_number, insert_by, sequential, sorted_segments}
 use Rattle.jbig2_base.specs.declared.error.DecodeError.{DecodeError}
-use Rattle.hayro_jbig2.specs.Names.{Names, globals_at, named_from, no_names}
+use Rattle.jbig2_base.specs.declared.reading.Reading.{Reading}
+use Rattle.jbig2_base.specs.declared.reading.Reading.TheVariants.{Lenient}
+use Rattle.hayro_jbig2.specs.Names.{Names, globals_at, named_from, nothing_shared}
 use Rattle.hayro_jbig2.specs.Order.{EndOfPageEnds, IsReordered, OrderChangesNothing, Unchanged, After, Exchanged, Then}
-use Rattle.hayro_jbig2.specs.Page.{Drawing, ReadPage, embedded, ends_page, page_begun, segment_on, segments_drawn}
+use Rattle.hayro_jbig2.specs.Page.{Drawing, ReadPage, beginning_of, embedded, ends_page, page_begun, segment_on, segments_drawn}
 
 -- ---- order
 abbrev number : SegmentView → ℕ
@@ -51,19 +53,21 @@ reordered-sorted ps qs (After p before after more) = ap (λ xs. put p xs) (reord
 reordered-sorted ps qs (Exchanged p q rs differ) = put-either p q (by_number rs) differ
 reordered-sorted ps qs (Then before middle after one other) = reordered-sorted before middle one ∙ reordered-sorted middle after other
 
-sorted-as : (strict : Bool) (bytes others : List ℕ) (ps qs : List SegmentView) → sequential strict bytes ≡ Ok ps → sequential strict others ≡ Ok qs → IsReordered ps qs → sorted_segments strict bytes ≡ sorted_segments strict others
-sorted-as strict bytes others ps qs one other moved =
+sorted-as : (reading : Reading) (bytes others : List ℕ) (ps qs : List SegmentView) → sequential reading bytes ≡ Ok ps → sequential reading others ≡ Ok qs → IsReordered ps qs → sorted_segments reading bytes ≡ sorted_segments reading others
+sorted-as reading bytes others ps qs one other moved =
     let sorted : Result (List SegmentView) DecodeError → Result (List SegmentView) DecodeError = λ r. r >>= λ xs. Ok (by_number xs) in
     ap sorted one ∙ ap (λ (xs : List SegmentView). let r : Result (List SegmentView) DecodeError = Ok xs in r) (reordered-sorted ps qs moved) ∙ sym (ap sorted other)
 
 pub order_changes_nothing : OrderChangesNothing
 unfolding embedded globals_at
 order_changes_nothing = record {
-  page = λ strict globals bytes others ps qs one other moved.
-      ap (λ (r : Result (List SegmentView) DecodeError). r >>= λ segments. initial_page_of segments >>= λ begun. let made : Result ReadPage DecodeError = Ok (record { strict = strict; initial_page = begun; segments = segments; globals = Ok globals }) in made)
-      (sorted-as strict bytes others ps qs one other moved);
-  globals = λ strict bytes others ps qs one other moved.
-      ap (λ (r : Result (List SegmentView) DecodeError). r >>= λ segments. named_from strict segments no_names) (sorted-as strict bytes others ps qs one other moved);
+  page = λ reading globals bytes others ps qs one other moved fault.
+      ap (λ (r : Result (List SegmentView) DecodeError). r >>= λ segments. beginning_of reading segments >>= λ begun. let made : Result ReadPage DecodeError = Ok (record { reading = reading; initial_page = begun; segments = segments; globals = Ok globals; fault = fault_of reading (sequential Lenient bytes) }) in made)
+      (sorted-as reading bytes others ps qs one other moved)
+      ∙ ap (λ (f : Option DecodeError). sorted_segments reading others >>= λ segments. beginning_of reading segments >>= λ begun. let made : Result ReadPage DecodeError = Ok (record { reading = reading; initial_page = begun; segments = segments; globals = Ok globals; fault = f }) in made) fault;
+  globals = λ reading bytes others ps qs one other moved fault.
+      ap (λ (r : Result (List SegmentView) DecodeError). r >>= λ segments. named_from reading segments (nothing_shared (fault_of reading (sequential Lenient bytes)))) (sorted-as reading bytes others ps qs one other moved)
+      ∙ ap (λ (f : Option DecodeError). sorted_segments reading others >>= λ segments. named_from reading segments (nothing_shared f)) fault;
 }
 
 -- ---- after the end of a page
@@ -71,11 +75,11 @@ next-same : (r : Result Drawing DecodeError) (next other : Drawing → Result Dr
 next-same (Ok d) next other each = each d
 next-same (Err e) next other each = refl
 
-drawn-to-end : (strict : Bool) (globals : Names) (ps others : List SegmentView) (end : SegmentView) (d : Drawing) → ends_page end.header.segment_type ≡ true → segments_drawn strict globals (ps ++ end ∷ others) d ≡ segments_drawn strict globals ps d
-drawn-to-end strict globals [] others end d ends = cond-true (ends_page end.header.segment_type) (Ok d) (segment_on strict globals end d >>= λ e. segments_drawn strict globals others e) ends
-drawn-to-end strict globals (p ∷ ps) others end d ends =
+drawn-to-end : (reading : Reading) (globals : Names) (ps others : List SegmentView) (end : SegmentView) (d : Drawing) → ends_page end.header.segment_type ≡ true → segments_drawn reading globals (ps ++ end ∷ others) d ≡ segments_drawn reading globals ps d
+drawn-to-end reading globals [] others end d ends = cond-true (ends_page end.header.segment_type) (Ok d) (segment_on reading globals end d >>= λ e. segments_drawn reading globals others e) ends
+drawn-to-end reading globals (p ∷ ps) others end d ends =
     ap (λ (r : Result Drawing DecodeError). cond (ends_page p.header.segment_type) (Ok d) r)
-    (next-same (segment_on strict globals p d) (λ e. segments_drawn strict globals (ps ++ end ∷ others) e) (λ e. segments_drawn strict globals ps e) (λ e. drawn-to-end strict globals ps others end e ends))
+    (next-same (segment_on reading globals p d) (λ e. segments_drawn reading globals (ps ++ end ∷ others) e) (λ e. segments_drawn reading globals ps e) (λ e. drawn-to-end reading globals ps others end e ends))
 
 names-next : (r : Result Names DecodeError) (next other : Names → Result Drawing DecodeError) → ((names : Names) → next names ≡ other names) → (r >>= next) ≡ (r >>= other)
 names-next (Ok names) next other each = each names
@@ -83,6 +87,6 @@ names-next (Err e) next other each = refl
 
 pub end_of_page_ends : EndOfPageEnds
 end_of_page_ends page ps others end are ends =
-    names-next page.globals (λ names. segments_drawn page.strict names page.segments (page_begun page.initial_page)) (λ names. segments_drawn page.strict names ps (page_begun page.initial_page)) (λ names.
-    ap (λ (segments : List SegmentView). segments_drawn page.strict names segments (page_begun page.initial_page)) are
-    ∙ drawn-to-end page.strict names ps others end (page_begun page.initial_page) ends)
+    names-next page.globals (λ names. segments_drawn page.reading names page.segments (page_begun page.initial_page)) (λ names. segments_drawn page.reading names ps (page_begun page.initial_page)) (λ names.
+    ap (λ (segments : List SegmentView). segments_drawn page.reading names segments (page_begun page.initial_page)) are
+    ∙ drawn-to-end page.reading names ps others end (page_begun page.initial_page) ends)

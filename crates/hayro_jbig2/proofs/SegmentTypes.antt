@@ -5,7 +5,7 @@ use Rattle.jbig2_base.specs.declared.error.DecodeError.{DecodeError}
 use Rattle.jbig2_base.specs.declared.segment.SegmentType.{SegmentType}
 use Rattle.jbig2_base.specs.declared.segment.SegmentType.TheVariants as types
 use Rattle.hayro_jbig2.specs.Names.{Names, kept_by}
-use Rattle.hayro_jbig2.specs.Page.{Drawing, immediate, intermediate, keeping, segment_on}
+use Rattle.hayro_jbig2.specs.Page.{Drawing, immediate, intermediate, keeping, segment_by}
 use Rattle.hayro_jbig2.specs.declared.region.RegionKind.{RegionKind}
 use Rattle.hayro_jbig2.specs.declared.region.RegionKind.TheVariants as kinds
 
@@ -19,7 +19,7 @@ pub record OfEach (P : Result Drawing DecodeError → Type 0) (strict : Bool) (g
   pub shown : (kind : RegionKind) (p : SegmentView) → P (immediate strict globals kind p d)
   pub nothing : (p : SegmentView) → P (keeping d (kept_by strict globals p d.names))
 
-by-type : (P : Result Drawing DecodeError → Type 0) (strict : Bool) (globals : Names) (kind : SegmentType) (h : Header) (bytes : List ℕ) (d : Drawing) → OfEach P strict globals d → P (segment_on strict globals (of_type kind h bytes) d)
+by-type : (P : Result Drawing DecodeError → Type 0) (strict : Bool) (globals : Names) (kind : SegmentType) (h : Header) (bytes : List ℕ) (d : Drawing) → OfEach P strict globals d → P (segment_by strict globals (of_type kind h bytes) d)
 by-type P strict globals types.IntermediateTextRegion h bytes d of = of.kept kinds.Text (of_type types.IntermediateTextRegion h bytes)
 by-type P strict globals types.ImmediateTextRegion h bytes d of = of.shown kinds.Text (of_type types.ImmediateTextRegion h bytes)
 by-type P strict globals types.ImmediateLosslessTextRegion h bytes d of = of.shown kinds.Text (of_type types.ImmediateLosslessTextRegion h bytes)
@@ -35,5 +35,5 @@ by-type P strict globals types.ImmediateLosslessGenericRefinementRegion h bytes 
 by-type P strict globals kind h bytes d of = of.nothing (of_type kind h bytes)
 
 -- so of every segment
-pub of-segment : (P : Result Drawing DecodeError → Type 0) (strict : Bool) (globals : Names) (p : SegmentView) (d : Drawing) → OfEach P strict globals d → P (segment_on strict globals p d)
+pub of-segment : (P : Result Drawing DecodeError → Type 0) (strict : Bool) (globals : Names) (p : SegmentView) (d : Drawing) → OfEach P strict globals d → P (segment_by strict globals p d)
 of-segment P strict globals p d of = by-type P strict globals p.header.segment_type p.header p.bytes d of

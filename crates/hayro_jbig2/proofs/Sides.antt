@@ -2,10 +2,12 @@
 use Rattle.std.proofs.Common.{◌≡◌, ℕ, zero, suc, eqb, Bool, true, false, ◌||◌, nat_lt, List, [], ◌∷◌, length, Option, Some, None, Result, Ok, Err, refl, subst, arith}
 use Rattle.std.specs.Prelude.{IfOk, IfSome, slice_get, option_map, not, ◌&&◌}
 use Rattle.std.specs.List.{AllByRecursion}
+use Rattle.std.proofs.lemmas.Bool.{cond_both}
 use Rattle.std.proofs.lemmas.Bool.Decides.{nat_tests}
 use Rattle.jbig2_base.specs.Answer.{◌>>=◌, refuse_if, some_or}
 use Rattle.jbig2_base.specs.File.{file_at}
-use Rattle.jbig2_base.specs.PageInfo.{first_information, height_of, information_at, initial_page_of, initial_page_with, stripes_height}
+use Rattle.jbig2_base.specs.PageInfo.{first_information, height_of, information_at, initial_page_with}
+use Rattle.jbig2_base.specs.Reading.{fault_of, is_salvaged, is_strict}
 use Rattle.jbig2_base.specs.Segment.{SegmentView}
 use Rattle.jbig2_base.specs.declared.error.DecodeError.{DecodeError}
 use Rattle.jbig2_base.specs.declared.error.DecodeError.TheVariants.{Format, Overflow}
@@ -13,10 +15,12 @@ use Rattle.jbig2_base.specs.declared.error.FormatError.TheVariants.{EmptyPage, I
 use Rattle.jbig2_base.specs.declared.error.OverflowError.TheVariants.{BitmapDimension}
 use Rattle.jbig2_base.specs.declared.page_info.InitialPage.{InitialPage}
 use Rattle.jbig2_base.specs.declared.page_info.PageInformation.{PageInformation}
-use Rattle.hayro_jbig2.specs.Files.{PageInFile, ReadFile, associated, book_at, by_pages, ends_of, filed_each, filed_from, miscounts, of_page, page_in, page_of, shared_by}
+use Rattle.jbig2_base.specs.declared.reading.Reading.{Reading}
+use Rattle.jbig2_base.specs.declared.reading.Reading.TheVariants.{Lenient}
+use Rattle.hayro_jbig2.specs.Files.{PageInFile, ReadFile, associated, book_at, by_pages, ends_of, filed_before, filed_each, filed_from, left_out_of, miscounts, of_page, page_in, page_of, shared_by}
 use Rattle.hayro_jbig2.specs.Image.{first_page, first_size}
-use Rattle.hayro_jbig2.specs.Names.{Names}
-use Rattle.hayro_jbig2.specs.Page.{HasSides, IsSide, ReadPage}
+use Rattle.hayro_jbig2.specs.Names.{Shared}
+use Rattle.hayro_jbig2.specs.Page.{HasSides, IsSide, ReadPage, beginning_of, told_height}
 
 -- what holds of the last step's value
 last-has : {A B : Type 0} (P : B → Type 0) (r : Result A DecodeError) (next : A → Result B DecodeError) → ((x : A) → IfOk (next x) P) → IfOk (r >>= next) P
@@ -37,37 +41,37 @@ sides-with number info height =
       rows = grind (arith, nat_tests);
     }))
 
-sides-have : (ps : List SegmentView) → IfOk (initial_page_of ps) HasSides
-unfolding initial_page_of
-sides-have ps =
-    last-has HasSides (first_information ps) _ (λ first. last-has HasSides (information_at first.bytes) _ (λ info. last-has HasSides (height_of info.0.height (stripes_height ps)) _ (λ height.
+sides-have : (reading : Reading) (ps : List SegmentView) → IfOk (beginning_of reading ps) HasSides
+unfolding beginning_of
+sides-have reading ps =
+    last-has HasSides (first_information ps) _ (λ first. last-has HasSides (information_at first.bytes) _ (λ info. last-has HasSides (height_of info.0.height (told_height reading ps)) _ (λ height.
     sides-with first.header.page_association info.0 height)))
 
 -- what a page begins as
-pub begun_sides : (ps : List SegmentView) (p : InitialPage) → initial_page_of ps ≡ Ok p → HasSides p
-begun_sides ps p is = let P : Result InitialPage DecodeError → Type 0 = λ r. IfOk r HasSides in subst P is (sides-have ps)
+pub begun_sides : (reading : Reading) (ps : List SegmentView) (p : InitialPage) → beginning_of reading ps ≡ Ok p → HasSides p
+begun_sides reading ps p is = let P : Result InitialPage DecodeError → Type 0 = λ r. IfOk r HasSides in subst P is (sides-have reading ps)
 
 -- ---- the first page of a file
 abbrev FileSides : PageInFile → Type 0
 FileSides page = HasSides page.initial_page
 
-filed-sides : (strict : Bool) (own : List SegmentView) → IfOk (filed_from strict own) FileSides
+filed-sides : (reading : Reading) (own : List SegmentView) → IfOk (filed_from reading own) FileSides
 unfolding filed_from
-filed-sides strict own =
-    last-has FileSides (refuse_if (strict && not (eqb (ends_of own) 1)) (Format InvalidEndOfPage)) _ (λ ended. begun (initial_page_of own) (sides-have own))
+filed-sides reading own =
+    last-has FileSides (refuse_if (is_strict reading && not (eqb (ends_of own) 1)) (Format InvalidEndOfPage)) _ (λ ended. begun (beginning_of reading own) (sides-have reading own))
   where
     begun : (r : Result InitialPage DecodeError) → IfOk r HasSides → IfOk (r >>= λ initial_page. let made : Result PageInFile DecodeError = Ok (record { initial_page = initial_page; segments = own }) in made) FileSides
     begun (Ok p) has = has
     begun (Err e) has = tt
 
-each-sides : (strict : Bool) (all : List (List SegmentView)) → IfOk (filed_each strict all) (AllByRecursion FileSides)
-each-sides strict [] = tt
-each-sides strict (own ∷ others) = first (filed_from strict own) (filed-sides strict own) (filed_each strict others) (each-sides strict others)
+each-sides : (reading : Reading) (all : List (List SegmentView)) → IfOk (filed_each reading all) (AllByRecursion FileSides)
+each-sides reading [] = tt
+each-sides reading (own ∷ others) = first (filed_from reading own) (filed-sides reading own) (filed_each reading others) (each-sides reading others)
   where
-    first : (r : Result PageInFile DecodeError) → IfOk r FileSides → (rest : Result (List PageInFile) DecodeError) → IfOk rest (AllByRecursion FileSides) → IfOk (r >>= λ page. rest >>= λ pages. let made : Result (List PageInFile) DecodeError = Ok (page ∷ pages) in made) (AllByRecursion FileSides)
+    first : (r : Result PageInFile DecodeError) → IfOk r FileSides → (rest : Result (List PageInFile) DecodeError) → IfOk rest (AllByRecursion FileSides) → IfOk (filed_before reading r rest) (AllByRecursion FileSides)
     first (Ok page) has (Ok pages) others_have = (has, others_have)
     first (Ok page) has (Err e) others_have = tt
-    first (Err e) has rest others_have = tt
+    first (Err e) has rest others_have = cond_both (is_salvaged reading e) rest (Err e) (λ (r : Result (List PageInFile) DecodeError). IfOk r (AllByRecursion FileSides)) (λ left. others_have) (λ kept. tt)
 
 page-sides : (pages : List PageInFile) (index : ℕ) → AllByRecursion FileSides pages → IfSome (slice_get pages index) FileSides
 page-sides [] index all = tt
@@ -77,16 +81,17 @@ page-sides (p ∷ ps) (suc index) all = page-sides ps index all.1
 abbrev AllSides : ReadFile → Type 0
 AllSides book = AllByRecursion FileSides book.pages
 
-filed-all : (strict : Bool) (pages : Result (List PageInFile) DecodeError) (globals : List PageInFile → Result Names DecodeError) → IfOk pages (AllByRecursion FileSides) → IfOk (pages >>= λ ps. let made : Result ReadFile DecodeError = Ok (record { strict = strict; pages = ps; globals = globals ps }) in made) AllSides
-filed-all strict (Ok ps) globals all = all
-filed-all strict (Err e) globals all = tt
+filed-all : (reading : Reading) (left_out : List DecodeError) (fault : Option DecodeError) (pages : Result (List PageInFile) DecodeError) (globals : List PageInFile → Result Shared DecodeError) → IfOk pages (AllByRecursion FileSides)
+    → IfOk (pages >>= λ ps. let made : Result ReadFile DecodeError = Ok (record { reading = reading; pages = ps; globals = globals ps; left_out = left_out; fault = fault }) in made) AllSides
+filed-all reading left_out fault (Ok ps) globals all = all
+filed-all reading left_out fault (Err e) globals all = tt
 
-book-sides : (strict : Bool) (bytes : List ℕ) → IfOk (book_at strict bytes) AllSides
+book-sides : (reading : Reading) (bytes : List ℕ) → IfOk (book_at reading bytes) AllSides
 unfolding book_at
-book-sides strict bytes =
-    last-has AllSides (file_at strict bytes) _ (λ file. last-has AllSides (associated strict file.1) _ (λ known.
-    last-has AllSides (refuse_if (strict && miscounts file.0.number_of_pages (length (by_pages file.1))) (Format PageCountMismatch)) _ (λ counted.
-    filed-all strict (filed_each strict (by_pages file.1)) (λ pages. shared_by strict pages (of_page 0 file.1)) (each-sides strict (by_pages file.1)))))
+book-sides reading bytes =
+    last-has AllSides (file_at reading bytes) _ (λ file. last-has AllSides (associated (is_strict reading) file.1) _ (λ known.
+    last-has AllSides (refuse_if (is_strict reading && miscounts file.0.number_of_pages (length (by_pages file.1))) (Format PageCountMismatch)) _ (λ counted.
+    filed-all reading (left_out_of reading (by_pages file.1)) (fault_of reading (file_at Lenient bytes)) (filed_each reading (by_pages file.1)) (λ pages. shared_by reading pages (of_page 0 file.1)) (each-sides reading (by_pages file.1)))))
 
 abbrev PageSides : ReadPage → Type 0
 PageSides page = HasSides page.initial_page
@@ -110,4 +115,4 @@ pub first-sides : (bytes : List ℕ) (width height : ℕ) → first_size bytes �
 unfolding first_page
 first-sides bytes width height is =
     let P : Result (ℕ × ℕ) DecodeError → Type 0 = λ r. IfOk r TwoSides in
-    subst P is (sized-sides (first_page bytes) (book-first (book_at false bytes) (book-sides false bytes)))
+    subst P is (sized-sides (first_page bytes) (book-first (book_at Lenient bytes) (book-sides Lenient bytes)))

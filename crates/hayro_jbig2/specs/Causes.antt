@@ -1,24 +1,24 @@
 -- Which rule is broken where a file or a reference of a segment is refused (docs/FORMAT.md, 1, 4 and 8), a line for each
 -- error. The function that refuses cites its predicate `Breaks..`.
-use Rattle.std.specs.{Prelude.{◌≡◌, ◌≢◌, ◌⊎◌, ◌<◌, ◌≤◌, ℕ, Bool, IsTrue, List, [], length, slice_get, Any, None, Some, option_and_then, unwrap_or, IfErr, IfOk}, List.{flat_map}, Int.{w32}, Option.{option_map_or}}
-use Rattle.jbig2_base.specs.{Causes.{BreaksInitialPage, InSteps, number_in}, File.{file_at}, Grid.{Grid}, Segment.{SegmentView}, declared.{error.{DecodeError.{DecodeError, TheVariants.{OutOfMemory, Parse, Format, Huffman, Segment, Overflow, Template, Unsupported}}, FormatError.TheVariants.{MissingPageInfo, PageCountMismatch, InvalidEndOfPage}, HuffmanError.TheVariants.{ConflictingCodes}, OverflowError.TheVariants.{Index, SymbolCount}, ParseError.TheVariants.{UnexpectedEof}, SegmentError.TheVariants.{InvalidReference, MissingPatternDictionary, MissingPageAssociation}, TemplateError.TheVariants.{Invalid}}, file_header.FileHeader.{FileHeader}}}
+use Rattle.std.specs.{Prelude.{◌≡◌, ◌≢◌, ◌⊎◌, ◌<◌, ◌≤◌, ℕ, Bool, IsTrue, IsFalse, List, [], length, slice_get, Any, None, Some, option_and_then, unwrap_or, IfErr, IfOk}, List.{flat_map}, Int.{w32}, Option.{option_map_or}}
+use Rattle.jbig2_base.specs.{Causes.{BreaksInitialPage, InSteps, number_in}, File.{file_at}, Grid.{Grid}, Reading.{is_salvaged, is_strict}, Segment.{SegmentView}, declared.{error.{DecodeError.{DecodeError, TheVariants.{OutOfMemory, Parse, Format, Huffman, Segment, Overflow, Template, Unsupported}}, FormatError.TheVariants.{MissingPageInfo, PageCountMismatch, InvalidEndOfPage}, HuffmanError.TheVariants.{ConflictingCodes}, OverflowError.TheVariants.{Index, SymbolCount}, ParseError.TheVariants.{UnexpectedEof}, SegmentError.TheVariants.{InvalidReference, MissingPatternDictionary, MissingPageAssociation}, TemplateError.TheVariants.{Invalid}}, file_header.FileHeader.{FileHeader}, reading.Reading.{Reading}}}
 use Rattle.jbig2_region.specs.{Causes.{BreaksOffset, BreaksRefinementHeader}, RegionInfo.{PlacedRegion}, RefinementHeader.{refinement_header_at}}
 use Rattle.jbig2_text.specs.Causes.{Behind}
 use Rattle.hayro_jbig2.specs.{Files.{ReadFile, book_at, by_pages, ends_of, needs_page}, Names.{globals_at, Names, first_named, named}, Page.{ReadPage, drawing_of_page, embedded}, Regions.{page_area, patterns_for}, declared.kept.Kept.{Kept}}
 
 -- ---- files (7.2.6, 7.4.9 and D.4.3)
 -- The pages of a file with this header and these segments. Three of the rules are those of strict reading alone; else it is
--- what one of the pages begins as.
-abbrev pub BreaksPages : Bool → FileHeader → List SegmentView → DecodeError → Type 0
-BreaksPages strict h ps (Segment MissingPageAssociation) =
-    IsTrue strict × Any (λ p. (p.header.page_association ≡ 0) × IsTrue (needs_page p.header.segment_type)) ps
-BreaksPages strict h ps (Format PageCountMismatch) = IsTrue strict × (told : ℕ) × (h.number_of_pages ≡ Some told) × (told ≢ length (by_pages ps))
-BreaksPages strict h ps (Format InvalidEndOfPage) = IsTrue strict × Any (λ own. ends_of own ≢ 1) (by_pages ps)
-BreaksPages strict h ps e = Any (λ own. BreaksInitialPage own e) (by_pages ps)
+-- what one of the pages begins as, and the reading is no salvage, which leaves out such a page.
+abbrev pub BreaksPages : Reading → FileHeader → List SegmentView → DecodeError → Type 0
+BreaksPages reading h ps (Segment MissingPageAssociation) =
+    IsTrue (is_strict reading) × Any (λ p. (p.header.page_association ≡ 0) × IsTrue (needs_page p.header.segment_type)) ps
+BreaksPages reading h ps (Format PageCountMismatch) = IsTrue (is_strict reading) × (told : ℕ) × (h.number_of_pages ≡ Some told) × (told ≢ length (by_pages ps))
+BreaksPages reading h ps (Format InvalidEndOfPage) = IsTrue (is_strict reading) × Any (λ own. ends_of own ≢ 1) (by_pages ps)
+BreaksPages reading h ps e = IsFalse (is_salvaged reading e) × Any (λ own. BreaksInitialPage own e) (by_pages ps)
 
 -- A file, where its bytes hold a header and segments; else the calls that read those say why.
-abbrev pub BreaksBook : Bool → List ℕ → DecodeError → Type 0
-BreaksBook strict bytes e = InSteps (file_at strict bytes) (Unit {0}) (λ file. BreaksPages strict file.0 file.1 e)
+abbrev pub BreaksBook : Reading → List ℕ → DecodeError → Type 0
+BreaksBook reading bytes e = InSteps (file_at reading bytes) (Unit {0}) (λ file. BreaksPages reading file.0 file.1 e)
 
 abbrev pub BreaksFirstPage : ReadFile → DecodeError → Type 0  -- the first page of a file, which has none
 BreaksFirstPage book (Format MissingPageInfo) = book.pages ≡ []
@@ -68,8 +68,8 @@ IsAnswered _ = Unit {0}
 -- No definition gives one of these, whatever the bytes: neither globals, embedded pages and files, nor what is drawn of a page,
 -- unless the globals of the page gave it, and those of a file don't.
 pub record ErrorsAreAnswered : Type 0 where
-  pub globals : (strict : Bool) (bytes : List ℕ) → IfErr (globals_at strict bytes) IsAnswered
-  pub page : (strict : Bool) (globals : Names) (bytes : List ℕ) → IfErr (embedded strict globals bytes) IsAnswered
-  pub file : (strict : Bool) (bytes : List ℕ) → IfErr (book_at strict bytes) IsAnswered
-  pub file_globals : (strict : Bool) (bytes : List ℕ) → IfOk (book_at strict bytes) (λ book. IfErr book.globals IsAnswered)
+  pub globals : (reading : Reading) (bytes : List ℕ) → IfErr (globals_at reading bytes) IsAnswered
+  pub page : (reading : Reading) (globals : Names) (bytes : List ℕ) → IfErr (embedded reading globals bytes) IsAnswered
+  pub file : (reading : Reading) (bytes : List ℕ) → IfErr (book_at reading bytes) IsAnswered
+  pub file_globals : (reading : Reading) (bytes : List ℕ) → IfOk (book_at reading bytes) (λ book. IfErr book.globals IsAnswered)
   pub drawing : (page : ReadPage) → IfErr page.globals IsAnswered → IfErr (drawing_of_page page) IsAnswered

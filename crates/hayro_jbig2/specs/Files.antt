@@ -1,19 +1,22 @@
 -- The pages of a file (T.88, 7.2.6 and 7.4.8), and what they share. `book_at` takes a file's bytes and gives its pages,
 -- each with the segments whose page association is its number, and the names of those of association 0.
-use Rattle.std.specs.{Prelude.{◌≡◌, ℕ, ◌+◌, ◌==◌, Bool, true, false, not, ◌&&◌, ◌||◌, List, [], ◌∷◌, ◌++◌, length, filter, map, slice_get, option_map, is_some, Option, Some, None, Result, Ok, Err, if◌then◌else◌}, List.{list_any}}
-use Rattle.jbig2_base.specs.{Answer.{◌>>=◌, refuse_if}, File.{file_at}, PageInfo.{initial_page_of}, Segment.{Header, SegmentView}, declared.{error.{DecodeError.{DecodeError, TheVariants.{Format, Segment}}, FormatError.TheVariants.{PageCountMismatch, InvalidEndOfPage}, SegmentError.TheVariants.{MissingPageAssociation}}, file_header.FileHeader.{FileHeader}, page_info.InitialPage.{InitialPage}, segment.SegmentType.{SegmentType}}}
-use Rattle.hayro_jbig2.specs.{Names.{named_from, Names, no_names}, Page.{ReadPage, region_type}}
+use Rattle.std.specs.{Prelude.{◌≡◌, ℕ, ◌+◌, ◌==◌, Bool, true, false, not, ◌&&◌, ◌||◌, List, [], ◌∷◌, ◌++◌, length, filter, map, slice_get, option_map, is_some, Option, Some, None, Result, Ok, Err, if◌then◌else◌}, List.{flat_map, list_any}}
+use Rattle.jbig2_base.specs.{Answer.{◌>>=◌, refuse_if}, File.{file_at}, Reading.{fault_of, is_salvaged, is_strict}, Segment.{Header, SegmentView}, declared.{error.{DecodeError.{DecodeError, TheVariants.{Format, Segment}}, FormatError.TheVariants.{PageCountMismatch, InvalidEndOfPage}, SegmentError.TheVariants.{MissingPageAssociation}}, file_header.FileHeader.{FileHeader}, page_info.InitialPage.{InitialPage}, reading.Reading.{Reading, TheVariants.{Lenient}}, segment.SegmentType.{SegmentType}}}
+use Rattle.hayro_jbig2.specs.{Names.{named_from, names_of, nothing_shared, Shared}, Page.{ReadPage, beginning_of, region_type}}
 use Rattle.jbig2_base.specs.declared.segment.SegmentType.TheVariants as types
 
 pub record PageInFile : Type 0 where
   pub initial_page : InitialPage
   pub segments : List SegmentView
 
--- A file: whether it is read strictly, its pages, and the names of its globals or their error.
+-- A file: how strictly it is read, its pages, and what its globals keep or their error. In salvage besides: an error for
+-- each page that was left out, and which error ended the list of segments early.
 pub record ReadFile : Type 0 where
-  pub strict : Bool
+  pub reading : Reading
   pub pages : List PageInFile
-  pub globals : Result Names DecodeError
+  pub globals : Result Shared DecodeError
+  pub left_out : List DecodeError
+  pub fault : Option DecodeError
 
 -- What can't stand outside of a page: regions, page information, and the ends of pages and stripes (7.3.2).
 abbrev pub needs_page : SegmentType → Bool
@@ -52,36 +55,55 @@ ends_of [] = 0
 ends_of (p ∷ ps) = (if is_end_of_page p.header.segment_type then 1 else 0) + ends_of ps
 
 -- The page that these segments make: strict reading wants one end of page (7.4.9).
-unfoldable pub filed_from : Bool → List SegmentView → Result PageInFile DecodeError
-filed_from strict own = do
-  ended ← refuse_if (strict && not (ends_of own == 1)) (Format InvalidEndOfPage)
-  initial_page ← initial_page_of own
+unfoldable pub filed_from : Reading → List SegmentView → Result PageInFile DecodeError
+filed_from reading own = do
+  ended ← refuse_if (is_strict reading && not (ends_of own == 1)) (Format InvalidEndOfPage)
+  initial_page ← beginning_of reading own
   Ok (record { initial_page = initial_page; segments = own })
 
-abbrev pub filed_each : Bool → List (List SegmentView) → Result (List PageInFile) DecodeError
-filed_each strict [] = Ok []
-filed_each strict (own ∷ others) = filed_from strict own >>= λ page. filed_each strict others >>= λ pages. Ok (page ∷ pages)
+-- A page before the others. Salvage leaves out one that can't begin.
+abbrev pub filed_before : Reading → Result PageInFile DecodeError → Result (List PageInFile) DecodeError → Result (List PageInFile) DecodeError
+filed_before reading (Ok page) others = others >>= λ pages. Ok (page ∷ pages)
+filed_before reading (Err e) others = if is_salvaged reading e then others else Err e
+
+abbrev pub filed_each : Reading → List (List SegmentView) → Result (List PageInFile) DecodeError
+filed_each reading [] = Ok []
+filed_each reading (own ∷ others) = filed_before reading (filed_from reading own) (filed_each reading others)
+
+abbrev pub error_of : {A : Type 0} → Result A DecodeError → List DecodeError
+error_of (Ok x) = []
+error_of (Err e) = e ∷ []
+
+-- why pages are left out
+abbrev pub left_out_of : Reading → List (List SegmentView) → List DecodeError
+left_out_of reading all = flat_map (λ own. error_of (filed_from reading own)) all
 
 abbrev pub miscounts : Option ℕ → ℕ → Bool  -- a count of pages that the file's header tells (D.4.3)
 miscounts None n = false
 miscounts (Some told) n = not (told == n)
 
--- What these pages share: the names of the segments of no page. Where there is no page, nothing shows them.
-abbrev pub shared_by : Bool → List PageInFile → List SegmentView → Result Names DecodeError
-shared_by strict [] shared = Ok no_names
-shared_by strict (page ∷ pages) shared = named_from strict shared no_names
+-- What these pages share: what the segments of no page keep. Where there is no page, nothing shows them.
+abbrev pub shared_by : Reading → List PageInFile → List SegmentView → Result Shared DecodeError
+shared_by reading [] shared = Ok (nothing_shared None)
+shared_by reading (page ∷ pages) shared = named_from reading shared (nothing_shared None)
 
 -- A file's pages, and what they share.
-unfoldable pub book_at : Bool → List ℕ → Result ReadFile DecodeError
-book_at strict bytes = do
-  file ← file_at strict bytes
-  known ← associated strict file.1
-  counted ← refuse_if (strict && miscounts file.0.number_of_pages (length (by_pages file.1))) (Format PageCountMismatch)
-  pages ← filed_each strict (by_pages file.1)
-  Ok (record { strict = strict; pages = pages; globals = shared_by strict pages (of_page 0 file.1) })
+unfoldable pub book_at : Reading → List ℕ → Result ReadFile DecodeError
+book_at reading bytes = do
+  file ← file_at reading bytes
+  known ← associated (is_strict reading) file.1
+  counted ← refuse_if (is_strict reading && miscounts file.0.number_of_pages (length (by_pages file.1))) (Format PageCountMismatch)
+  pages ← filed_each reading (by_pages file.1)
+  Ok (record { reading = reading; pages = pages; globals = shared_by reading pages (of_page 0 file.1); left_out = left_out_of reading (by_pages file.1); fault = fault_of reading (file_at Lenient bytes) })
 
 abbrev pub page_in : ReadFile → PageInFile → ReadPage
-page_in book page = record { strict = book.strict; initial_page = page.initial_page; segments = page.segments; globals = book.globals }
+page_in book page = record {
+  reading = book.reading;
+  initial_page = page.initial_page;
+  segments = page.segments;
+  globals = names_of book.globals;
+  fault = book.fault;
+}
 
 abbrev pub page_of : ReadFile → ℕ → Option ReadPage
 page_of book index = option_map (page_in book) (slice_get book.pages index)
@@ -89,10 +111,10 @@ page_of book index = option_map (page_in book) (slice_get book.pages index)
 abbrev pub pages_of : ReadFile → List ReadPage
 pages_of book = map (page_in book) book.pages
 
--- Each page of a file is made of the segments whose association is its number, those of association 0 and the
--- strictness alone.
+-- Each page of a file is made of the segments whose association is its number, those of association 0, the reading and
+-- its fault alone.
 abbrev pub PagesStandAlone : Type 0
-PagesStandAlone = (strict : Bool) (bytes : List ℕ) (file : FileHeader × List SegmentView) (book : ReadFile) (index : ℕ) (page : ReadPage)
-    → file_at strict bytes ≡ Ok file → book_at strict bytes ≡ Ok book → page_of book index ≡ Some page
+PagesStandAlone = (reading : Reading) (bytes : List ℕ) (file : FileHeader × List SegmentView) (book : ReadFile) (index : ℕ) (page : ReadPage)
+    → file_at reading bytes ≡ Ok file → book_at reading bytes ≡ Ok book → page_of book index ≡ Some page
     → let own = of_page page.initial_page.number file.1 in
-    (initial_page_of own >>= λ begun. Ok (record { strict = strict; initial_page = begun; segments = own; globals = named_from strict (of_page 0 file.1) no_names })) ≡ Ok page
+    (beginning_of reading own >>= λ begun. Ok (record { reading = reading; initial_page = begun; segments = own; globals = names_of (named_from reading (of_page 0 file.1) (nothing_shared None)); fault = fault_of reading (file_at Lenient bytes) })) ≡ Ok page

@@ -1,7 +1,7 @@
 -- A page as bytes (our own rule): those of the grid that the page decodes to, or the page's error. And what a viewer shows
 -- of a file that a reader gives: the first page, read leniently; `ReadsAll` and `Opens` say what a reader's faults add.
-use Rattle.std.specs.{Prelude.{◌≡◌, ◌≢◌, ◌<◌, ◌⊎◌, ℕ, ◌+◌, ◌-◌, ◌*◌, ◌/◌, ◌%◌, Bool, false, List, map, slice_index, Option, Result, Ok, Err, IfSome, if◌then◌else◌}, IoError.{error_kind}, List.{range_with_len}, declared.io.ErrorKind.TheVariants.{Interrupted}}
-use Rattle.jbig2_base.specs.{Answer.{◌>>=◌, some_or}, Bits.{bit}, Grid.{Grid, pixel_at}, declared.error.{DecodeError.{DecodeError, TheVariants.{Format, OutOfMemory}}, FormatError.TheVariants.{MissingPageInfo}}}
+use Rattle.std.specs.{Prelude.{◌≡◌, ◌≢◌, ◌<◌, ◌⊎◌, ℕ, ◌+◌, ◌-◌, ◌*◌, ◌/◌, ◌%◌, Bool, List, map, slice_index, Option, Result, Ok, Err, IfSome, if◌then◌else◌}, IoError.{error_kind}, List.{range_with_len}, declared.io.ErrorKind.TheVariants.{Interrupted}}
+use Rattle.jbig2_base.specs.{Answer.{◌>>=◌, some_or}, Bits.{bit}, Grid.{Grid, pixel_at}, declared.{error.{DecodeError.{DecodeError, TheVariants.{Format, OutOfMemory}}, FormatError.TheVariants.{MissingPageInfo}}, reading.Reading.TheVariants.{Lenient}}}
 use Rattle.jbig2_coder.specs.Integers.{value_of_bits}
 use Rattle.hayro_jbig2.specs.{Files.{book_at, page_of}, Page.{ReadPage, grid_of_page}, declared.jbig2_error.Jbig2Error.{Jbig2Error, TheVariants.{Io, Decode}}}
 
@@ -41,7 +41,7 @@ PackedBitsAreBytes = (width height : ℕ) (g : Grid) (x y : ℕ) → x < width �
     → slice_index (image_of width height g) (y * width + x) ≡ shade (bit (slice_index (packed_of width height g) (y * row_bytes width + x / 8)) (7 - x % 8))
 
 unfoldable pub first_page : List ℕ → Result ReadPage DecodeError  -- a file without pages lacks the information of one
-first_page bytes = book_at false bytes >>= λ book. some_or (Format MissingPageInfo) (page_of book 0)
+first_page bytes = book_at Lenient bytes >>= λ book. some_or (Format MissingPageInfo) (page_of book 0)
 
 abbrev pub first_size : List ℕ → Result (ℕ × ℕ) DecodeError
 first_size bytes = first_page bytes >>= λ page. Ok (page.initial_page.width, page.initial_page.height)

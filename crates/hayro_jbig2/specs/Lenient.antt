@@ -1,18 +1,51 @@
--- Law (our own rule): where strict reading accepts, lenient reading gives the same.
-use Rattle.std.specs.Prelude.{◌≡◌, ℕ, Bool, true, false, List, Result, Ok, IfOk}
-use Rattle.jbig2_base.specs.{Answer.{◌>>=◌, some_or}, declared.error.{DecodeError.{DecodeError, TheVariants.{Format}}, FormatError.TheVariants.{MissingPageInfo}}}
-use Rattle.hayro_jbig2.specs.{Files.{book_at, page_of}, Names.{Names, globals_at}, Page.{drawing_of_page, embedded}}
+-- Laws (our own rule): where strict reading accepts, lenient reading gives the same; where lenient reading accepts, salvage
+-- does; and salvage refuses little.
+use Rattle.std.specs.Prelude.{◌≡◌, ◌≤◌, ℕ, Any, IsTrue, List, Some, Result, Ok, IfOk}
+use Rattle.std.specs.Result.{is_ok}
+use Rattle.jbig2_base.specs.{Answer.{◌>>=◌, some_or}, File.{file_at, file_header_at}, PageInfo.{first_information, height_of, information_at}, Segment.{SegmentView}, Sequential.{sorted_segments}, declared.{error.{DecodeError.{DecodeError, TheVariants.{Format}}, FormatError.TheVariants.{MissingPageInfo}}, file_header.FileHeader.{FileHeader}, page_info.PageInformation.{PageInformation}, reading.Reading.{Reading, TheVariants.{Strict, Lenient, Salvage}}}}
+use Rattle.hayro_jbig2.specs.{Files.{ReadFile, book_at, of_page, page_of}, Names.{Names, globals_at}, Page.{IsSide, ReadPage, drawing_of_page, embedded, told_height}}
 
--- What strict reading gives, lenient reading gives too.
-abbrev pub IsSameLeniently : {A : Type 0} → (Bool → Result A DecodeError) → Type 0
-IsSameLeniently {A = A} read = IfOk (read true) (λ (x : A). read false ≡ Ok x)
+-- What the one reading gives, the other gives too.
+abbrev pub IsSameUnder : {A : Type 0} → Reading → Reading → (Reading → Result A DecodeError) → Type 0
+IsSameUnder {A = A} one other read = IfOk (read one) (λ (x : A). read other ≡ Ok x)
 
 -- Globals; what an embedded page begins as, and what its segments draw; the pages of a file, and what each of them draws.
--- What is drawn is the whole drawing: its grid, and that nothing was passed over.
-pub record LenientReadingAgrees : Type 0 where
-  pub globals : (bytes : List ℕ) → IsSameLeniently (λ strict. globals_at strict bytes)
-  pub page : (names : Names) (bytes : List ℕ) → IsSameLeniently (λ strict. embedded strict names bytes >>= λ page. Ok page.initial_page)
-  pub drawing : (names : Names) (bytes : List ℕ) → IsSameLeniently (λ strict. embedded strict names bytes >>= λ page. drawing_of_page page)
-  pub pages : (bytes : List ℕ) → IsSameLeniently (λ strict. book_at strict bytes >>= λ book. Ok book.pages)
-  pub drawings : (bytes : List ℕ) (index : ℕ) → IsSameLeniently (λ strict.
-      book_at strict bytes >>= λ book. some_or (Format MissingPageInfo) (page_of book index) >>= λ page. drawing_of_page page)
+-- What is drawn is the whole drawing: its grid, and what was passed over.
+pub record ReadingsAgree (one other : Reading) : Type 0 where
+  pub globals : (bytes : List ℕ) → IsSameUnder one other (λ reading. globals_at reading bytes)
+  pub page : (names : Names) (bytes : List ℕ) → IsSameUnder one other (λ reading. embedded reading names bytes >>= λ page. Ok page.initial_page)
+  pub drawing : (names : Names) (bytes : List ℕ) → IsSameUnder one other (λ reading. embedded reading names bytes >>= λ page. drawing_of_page page)
+  pub pages : (bytes : List ℕ) → IsSameUnder one other (λ reading. book_at reading bytes >>= λ book. Ok book.pages)
+  pub drawings : (bytes : List ℕ) (index : ℕ) → IsSameUnder one other (λ reading.
+      book_at reading bytes >>= λ book. some_or (Format MissingPageInfo) (page_of book index) >>= λ page. drawing_of_page page)
+
+abbrev pub LenientReadingAgrees : Type 0
+LenientReadingAgrees = ReadingsAgree Strict Lenient
+
+abbrev pub SalvageAgrees : Type 0
+SalvageAgrees = ReadingsAgree Lenient Salvage
+
+-- The first page information of a page can be read, and its width and its height are those of a page, where stripes or
+-- regions tell a height that it leaves open.
+pub record HasBeginning (ps : List SegmentView) : Type 0 where
+  pub information : SegmentView
+  pub fields : PageInformation × List ℕ
+  pub height : ℕ
+  pub first : first_information ps ≡ Ok information
+  pub read : information_at information.bytes ≡ Ok fields
+  pub told : height_of fields.0.height (told_height Salvage ps) ≡ Ok height
+  pub columns : IsSide fields.0.width
+  pub rows : IsSide height
+
+-- Salvage refuses neither globals nor the drawing of a page that isn't refused already, no embedded page that has a
+-- beginning, no file with a header, and of a file no page that has a beginning.
+pub record SalvageRefusesLittle : Type 0 where
+  pub globals : (bytes : List ℕ) → IsTrue (is_ok (globals_at Salvage bytes))
+  pub drawing : (page : ReadPage) → page.reading ≡ Salvage → IsTrue (is_ok page.globals) → IsTrue (is_ok (drawing_of_page page))
+  pub page : (names : Names) (bytes : List ℕ) (ps : List SegmentView)
+      → sorted_segments Salvage bytes ≡ Ok ps → HasBeginning ps → IsTrue (is_ok (embedded Salvage names bytes >>= λ page. drawing_of_page page))
+  pub file : (bytes : List ℕ) → IsTrue (is_ok (file_header_at bytes)) → IsTrue (is_ok (book_at Salvage bytes))
+  pub pages : (bytes : List ℕ) (file : FileHeader × List SegmentView) (book : ReadFile) (n : ℕ)
+      → file_at Salvage bytes ≡ Ok file → book_at Salvage bytes ≡ Ok book → 1 ≤ n → HasBeginning (of_page n file.1) → Any (λ page. page.initial_page.number ≡ n) book.pages
+  pub drawings : (bytes : List ℕ) (book : ReadFile) (index : ℕ) (page : ReadPage)
+      → book_at Salvage bytes ≡ Ok book → page_of book index ≡ Some page → IsTrue (is_ok (drawing_of_page page))

@@ -1,12 +1,12 @@
 -- Names (T.88, 7.3): what segments leave for later ones, each under its segment's number, and what later ones refer to.
 -- A number means the first that is kept under it: among the page's own, else among those of the globals. That the
 -- first of equal numbers counts is our own rule.
-use Rattle.std.specs.{Prelude.{ℕ, nat_le, nat_lt, ◌==◌, Bool, true, false, List, [], ◌∷◌, ◌++◌, length, Option, Some, None, Result, Ok, if◌then◌else◌}, Int.{w32}, Option.{option_map_or, option_or}}
-use Rattle.jbig2_base.specs.{Answer.{◌>>=◌, refuse_if}, Bits.{start_of}, Fields.{number_at}, Grid.{Grid}, Segment.{SegmentView}, declared.{error.{DecodeError.{DecodeError, TheVariants.{Overflow, Segment, Unsupported}}, OverflowError.TheVariants.{SymbolCount}, SegmentError.TheVariants.{InvalidReference}}, segment.SegmentType.{SegmentType}}, Sequential.{sorted_segments}}
+use Rattle.std.specs.{Prelude.{ℕ, ◌+◌, nat_le, nat_lt, ◌==◌, Bool, true, false, List, [], ◌∷◌, ◌++◌, length, Option, Some, None, Result, Ok, Err, if◌then◌else◌}, Int.{w32}, Option.{option_map_or, option_or}}
+use Rattle.jbig2_base.specs.{Answer.{◌>>=◌, refuse_if}, Bits.{start_of}, Fields.{number_at}, Grid.{Grid}, Reading.{fault_of, is_salvaged, is_strict}, Segment.{SegmentView}, declared.{error.{DecodeError.{DecodeError, TheVariants.{Overflow, Segment, Unsupported}}, OverflowError.TheVariants.{SymbolCount}, SegmentError.TheVariants.{InvalidReference}}, reading.Reading.{Reading, TheVariants.{Lenient}}, segment.SegmentType.{SegmentType}}, Sequential.{sequential, sorted_segments}}
 use Rattle.jbig2_coder.specs.{CustomTable.{answer_of, custom_table}, PrefixCode.{Member}}
 use Rattle.jbig2_halftone.specs.{PatternHeader.{pattern_header_at}, Patterns.{Patterns, patterns_decoded}}
 use Rattle.jbig2_symbol.specs.{SymbolHeader.{symbol_header_at}, SymbolReading.{BitmapContexts}, Symbols.{Symbols, symbols_decoded}}
-use Rattle.hayro_jbig2.specs.declared.kept.Kept.{Kept}
+use Rattle.hayro_jbig2.specs.declared.{kept.Kept.{Kept}, passed_over.PassedOver.{PassedOver}}
 use Rattle.jbig2_base.specs.declared.segment.SegmentType.TheVariants as types
 
 abbrev pub kept_under : {V : Type 0} → ℕ → V → List (Kept V) → List (Kept V)  -- after what is kept already
@@ -60,7 +60,7 @@ with_numbers strict own shared (number ∷ numbers) r = with_number strict own s
 abbrev pub referred_by : Bool → Names → Names → List ℕ → Result Referred DecodeError
 referred_by strict own shared numbers = with_numbers strict own shared numbers (record { symbols = []; codes = []; kept = None })
 
--- A symbol dictionary (7.4.2), after what it refers to. Like the next two it is never passed over where it fails.
+-- A symbol dictionary (7.4.2), after what it refers to. Like the next two it is passed over in salvage alone where it fails.
 unfoldable pub symbol_dictionary_at : Bool → Names → Names → SegmentView → Result Symbols DecodeError
 symbol_dictionary_at strict own shared p = do
   referred ← referred_by strict own shared p.header.referred_to_segments
@@ -102,12 +102,43 @@ kept_by strict shared p own = on p.header.segment_type
     on types.Extension = extension strict p.bytes >>= λ known. Ok own
     on _ = Ok own
 
+-- What reading passed over: how many segments, and the number and the error of the first.
+abbrev pub nothing_passed : PassedOver
+nothing_passed = record { count = 0; first = None }
+
+-- One more segment that was passed over. Its number and its error stay where it is the first.
+abbrev pub with_passed : ℕ → DecodeError → PassedOver → PassedOver
+with_passed number e passed = record {
+  count = passed.count + 1;
+  first = option_or passed.first (Some (record { segment_number = number; error = e }));
+}
+
+-- What globals keep, what salvage passed over of them, and which error ended the list of their segments early.
+pub record Shared : Type 0 where
+  pub names : Names
+  pub passed_over : PassedOver
+  pub fault : Option DecodeError
+
+abbrev pub nothing_shared : Option DecodeError → Shared
+nothing_shared fault = record { names = no_names; passed_over = nothing_passed; fault = fault }
+
+abbrev pub names_of : Result Shared DecodeError → Result Names DecodeError
+names_of shared = shared >>= λ s. Ok s.names
+
+-- Salvage passes over a segment that fails, under whose number nothing is kept then.
+abbrev pub or_shared_without : Reading → ℕ → Shared → Result Names DecodeError → Result Shared DecodeError
+or_shared_without reading number shared (Ok names) = Ok (record shared { names = names })
+or_shared_without reading number shared (Err e) =
+    if is_salvaged reading e then Ok (record shared { passed_over = with_passed number e shared.passed_over }) else Err e
+
 -- Globals: segments that several pages share, kept apart from the pages as PDF keeps them. Each may refer to those before
 -- it; regions and pages among them are passed over.
-abbrev pub named_from : Bool → List SegmentView → Names → Result Names DecodeError
-named_from strict [] names = Ok names
-named_from strict (p ∷ ps) names = kept_by strict no_names p names >>= λ more. named_from strict ps more
+abbrev pub named_from : Reading → List SegmentView → Shared → Result Shared DecodeError
+named_from reading [] shared = Ok shared
+named_from reading (p ∷ ps) shared =
+    or_shared_without reading p.header.segment_number shared (kept_by (is_strict reading) no_names p shared.names)
+    >>= λ more. named_from reading ps more
 
--- The names of globals whose segments stand one after the other, sorted before they are decoded.
-unfoldable pub globals_at : Bool → List ℕ → Result Names DecodeError
-globals_at strict bytes = sorted_segments strict bytes >>= λ segments. named_from strict segments no_names
+-- The globals whose segments stand one after the other, sorted before they are decoded.
+unfoldable pub globals_at : Reading → List ℕ → Result Shared DecodeError
+globals_at reading bytes = sorted_segments reading bytes >>= λ segments. named_from reading segments (nothing_shared (fault_of reading (sequential Lenient bytes)))

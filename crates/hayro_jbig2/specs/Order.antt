@@ -1,7 +1,7 @@
 -- Laws (our own rule): the order in which segments of different numbers stand changes nothing, and what stands after the end
 -- of a page changes nothing.
-use Rattle.std.specs.Prelude.{◌≡◌, ◌≢◌, ℕ, Bool, IsTrue, List, ◌∷◌, ◌++◌, Ok}
-use Rattle.jbig2_base.specs.{Segment.{SegmentView}, Sequential.{sequential}}
+use Rattle.std.specs.Prelude.{◌≡◌, ◌≢◌, ℕ, IsTrue, List, ◌∷◌, ◌++◌, Ok}
+use Rattle.jbig2_base.specs.{Segment.{SegmentView}, Sequential.{sequential}, Reading.{fault_of}, declared.reading.Reading.{Reading, TheVariants.{Lenient}}}
 use Rattle.hayro_jbig2.specs.{Names.{Names, globals_at}, Page.{ReadPage, drawing_of_page, embedded, ends_page}}
 
 -- The second list comes from the first one where neighbours of different numbers change places, as often as one likes.
@@ -11,12 +11,17 @@ pub data IsReordered : List SegmentView → List SegmentView → Type 0 where
   Exchanged : (p q : SegmentView) (ps : List SegmentView) → p.header.segment_number ≢ q.header.segment_number → IsReordered (p ∷ q ∷ ps) (q ∷ p ∷ ps)
   Then : (ps qs rs : List SegmentView) → IsReordered ps qs → IsReordered qs rs → IsReordered ps rs
 
+-- The lists of segments in these bytes are ended early by the same error, or by none; so they are in strict and in lenient
+-- reading.
+abbrev pub HaveOneFault : Reading → List ℕ → List ℕ → Type 0
+HaveOneFault reading bytes others = fault_of reading (sequential Lenient bytes) ≡ fault_of reading (sequential Lenient others)
+
 -- Bytes with the same segments in another order are the same embedded page, and the same globals.
 pub record OrderChangesNothing : Type 0 where
-  pub page : (strict : Bool) (globals : Names) (bytes others : List ℕ) (ps qs : List SegmentView)
-      → sequential strict bytes ≡ Ok ps → sequential strict others ≡ Ok qs → IsReordered ps qs → embedded strict globals bytes ≡ embedded strict globals others
-  pub globals : (strict : Bool) (bytes others : List ℕ) (ps qs : List SegmentView)
-      → sequential strict bytes ≡ Ok ps → sequential strict others ≡ Ok qs → IsReordered ps qs → globals_at strict bytes ≡ globals_at strict others
+  pub page : (reading : Reading) (globals : Names) (bytes others : List ℕ) (ps qs : List SegmentView)
+      → sequential reading bytes ≡ Ok ps → sequential reading others ≡ Ok qs → IsReordered ps qs → HaveOneFault reading bytes others → embedded reading globals bytes ≡ embedded reading globals others
+  pub globals : (reading : Reading) (bytes others : List ℕ) (ps qs : List SegmentView)
+      → sequential reading bytes ≡ Ok ps → sequential reading others ≡ Ok qs → IsReordered ps qs → HaveOneFault reading bytes others → globals_at reading bytes ≡ globals_at reading others
 
 -- What is drawn of a page is drawn of its segments up to the first end of page or of file.
 abbrev pub EndOfPageEnds : Type 0

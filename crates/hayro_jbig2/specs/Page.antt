@@ -1,18 +1,20 @@
 -- What a page shows (T.88, 8): the fold of its segments over what was drawn so far. Each segment is drawn onto the page,
 -- kept for later ones, or changes nothing, by its type (7.3).
-use Rattle.std.specs.{Prelude.{◌≡◌, ◌≤◌, ℕ, ◌+◌, Bool, true, false, not, List, [], ◌∷◌, Option, Some, None, Result, Ok, Err, IfOk, IsTrue, if◌then◌else◌}, Int.{w32, cast_signed}, Option.{option_or}}
-use Rattle.jbig2_base.specs.{Answer.{◌>>=◌}, Combination.{combined}, Grid.{Grid, blank}, PageInfo.{initial_page_of}, Segment.{SegmentView}, Sequential.{sorted_segments}, declared.{bitmap.operator.CombinationOperator.{CombinationOperator, TheVariants.{Or, And, Xor, Xnor, Replace}}, error.DecodeError.{DecodeError}, page_info.InitialPage.{InitialPage}, segment.SegmentType.{SegmentType}}}
-use Rattle.jbig2_region.specs.RegionInfo.{PlacedRegion}
-use Rattle.hayro_jbig2.specs.{Names.{Names, no_names, kept_by, kept_under}, Regions.{generic_at, halftone_at, refinement_at, text_at}, declared.{kept.Kept.{Kept}, passed_over.PassedOver.{PassedOver}, region.RegionKind.{RegionKind}}}
+use Rattle.std.specs.{Prelude.{◌≡◌, ◌≤◌, ℕ, ◌+◌, ◌-◌, ◌==◌, ◌||◌, nat_lt, max, min, Bool, true, false, not, List, [], ◌∷◌, Option, Some, None, Result, Ok, Err, IfOk, IsTrue, if◌then◌else◌}, Int.{w32, cast_signed}}
+use Rattle.jbig2_base.specs.{Answer.{◌>>=◌}, Combination.{combined}, Grid.{Grid, blank}, PageInfo.{initial_page_by, stripes_height}, Reading.{fault_of, is_salvaged, is_strict}, Segment.{SegmentView}, Sequential.{sequential, sorted_segments}, declared.{bitmap.operator.CombinationOperator.{CombinationOperator, TheVariants.{Or, And, Xor, Xnor, Replace}}, error.DecodeError.{DecodeError}, page_info.InitialPage.{InitialPage}, reading.Reading.{Reading, TheVariants.{Lenient, Salvage}}, segment.SegmentType.{SegmentType}}}
+use Rattle.jbig2_region.specs.{Refinement.{is_far}, RegionInfo.{PlacedRegion, region_info_at}, declared.region_info.RegionSegmentInfo.{RegionSegmentInfo}}
+use Rattle.hayro_jbig2.specs.{Names.{Names, no_names, nothing_passed, kept_by, kept_under, with_passed}, Regions.{generic_at, halftone_at, refinement_at, text_at}, declared.{kept.Kept.{Kept}, passed_over.PassedOver.{PassedOver}, region.RegionKind.{RegionKind}}}
 use Rattle.jbig2_base.specs.declared.segment.SegmentType.TheVariants as types
 use Rattle.hayro_jbig2.specs.declared.region.RegionKind.TheVariants as kinds
 
--- A page that was read: whether strictly, what it begins as, its segments in order, and its globals or their error.
+-- A page that was read: how strictly, what it begins as, its segments in order, its globals or their error, and which
+-- error ended the list of its segments early, in salvage.
 pub record ReadPage : Type 0 where
-  pub strict : Bool
+  pub reading : Reading
   pub initial_page : InitialPage
   pub segments : List SegmentView
   pub globals : Result Names DecodeError
+  pub fault : Option DecodeError
 
 abbrev pub IsSide : ℕ → Type 0  -- a side of a page, in pixels (our own rule)
 IsSide n = (1 ≤ n) × (n ≤ 65535)
@@ -23,7 +25,7 @@ pub record HasSides (p : InitialPage) : Type 0 where
   pub some_rows : 1 ≤ p.height
   pub rows : p.height ≤ 65535
 
--- What was drawn so far, what is kept, whether no immediate region came before, and what lenient reading passed over.
+-- What was drawn so far, what is kept, whether no immediate region came before, and what reading passed over.
 pub record Drawing : Type 0 where
   pub grid : Grid
   pub regions : List (Kept PlacedRegion)
@@ -47,6 +49,10 @@ region_type types.ImmediateGenericRefinementRegion = Some (kinds.GenericRefineme
 region_type types.ImmediateLosslessGenericRefinementRegion = Some (kinds.GenericRefinement, false)
 region_type _ = None
 
+abbrev pub is_immediate : Option (RegionKind × Bool) → Bool
+is_immediate (Some (kind, is_intermediate)) = not is_intermediate
+is_immediate None = false
+
 abbrev pub ends_page : SegmentType → Bool
 ends_page types.EndOfPage = true
 ends_page types.EndOfFile = true
@@ -63,22 +69,14 @@ abbrev pub shown : Drawing → Result PlacedRegion DecodeError → Result Drawin
 shown d region =
     region >>= λ r. Ok (record d { grid = combined r.combination_operator d.grid r.grid (cast_signed w32 r.x_location) (cast_signed w32 r.y_location); untouched = false })
 
-abbrev pub nothing_passed : PassedOver
-nothing_passed = record { count = 0; first = None }
+-- A segment that was passed over leaves the page as it was, and counts as a region that came before (our own rule).
+abbrev pub passing : ℕ → DecodeError → Drawing → Drawing
+passing number e d = record d { untouched = false; passed_over = with_passed number e d.passed_over }
 
--- One more segment that was passed over. Its number and its error stay where it is the first.
-abbrev pub with_passed : ℕ → DecodeError → PassedOver → PassedOver
-with_passed number e passed = record {
-  count = passed.count + 1;
-  first = option_or passed.first (Some (record { segment_number = number; error = e }));
-}
-
--- Lenient reading passes over an immediate region that fails, which leaves the page as it was and counts as a region
--- that came before (our own rule).
+-- All but strict reading pass over an immediate region that fails (our own rule).
 abbrev pub or_passed_over : Bool → ℕ → Drawing → Result Drawing DecodeError → Result Drawing DecodeError
 or_passed_over strict number d (Ok e) = Ok e
-or_passed_over strict number d (Err e) =
-    if strict then Err e else Ok (record d { untouched = false; passed_over = with_passed number e d.passed_over })
+or_passed_over strict number d (Err e) = if strict then Err e else Ok (passing number e d)
 
 unfoldable pub immediate : Bool → Names → RegionKind → SegmentView → Drawing → Result Drawing DecodeError
 immediate strict globals kind p d =
@@ -98,34 +96,67 @@ keeping d kept = kept >>= λ names. Ok (record d { names = names })
 
 -- One segment. Page information after the beginning, stripes, profiles, palettes, types without a meaning, and an end by
 -- itself change nothing.
-abbrev pub segment_on : Bool → Names → SegmentView → Drawing → Result Drawing DecodeError
-segment_on strict globals p d = on (region_type p.header.segment_type)
+abbrev pub segment_by : Bool → Names → SegmentView → Drawing → Result Drawing DecodeError
+segment_by strict globals p d = on (region_type p.header.segment_type)
   where
     on : Option (RegionKind × Bool) → Result Drawing DecodeError
     on (Some (kind, true)) = intermediate strict globals kind p d
     on (Some (kind, false)) = immediate strict globals kind p d
     on None = keeping d (kept_by strict globals p d.names)
 
+-- Salvage passes over any segment that fails, under whose number nothing is kept then.
+abbrev pub or_left_out : Reading → ℕ → Drawing → Result Drawing DecodeError → Result Drawing DecodeError
+or_left_out reading number d (Ok e) = Ok e
+or_left_out reading number d (Err e) = if is_salvaged reading e then Ok (passing number e d) else Err e
+
+abbrev pub segment_on : Reading → Names → SegmentView → Drawing → Result Drawing DecodeError
+segment_on reading globals p d = or_left_out reading p.header.segment_number d (segment_by (is_strict reading) globals p d)
+
 -- The segments in order, up to an end of page or an end of file.
-abbrev pub segments_drawn : Bool → Names → List SegmentView → Drawing → Result Drawing DecodeError
-segments_drawn strict globals [] d = Ok d
-segments_drawn strict globals (p ∷ ps) d = if ends_page p.header.segment_type then Ok d else (segment_on strict globals p d >>= λ e. segments_drawn strict globals ps e)
+abbrev pub segments_drawn : Reading → Names → List SegmentView → Drawing → Result Drawing DecodeError
+segments_drawn reading globals [] d = Ok d
+segments_drawn reading globals (p ∷ ps) d = if ends_page p.header.segment_type then Ok d else (segment_on reading globals p d >>= λ e. segments_drawn reading globals ps e)
 
 abbrev pub page_begun : InitialPage → Drawing  -- the page begins in its default pixel
 page_begun initial_page = record { grid = blank initial_page.width initial_page.height initial_page.default_pixel; regions = []; names = no_names; untouched = true; passed_over = nothing_passed }
 
 abbrev pub drawing_of_page : ReadPage → Result Drawing DecodeError
-drawing_of_page page = page.globals >>= λ globals. segments_drawn page.strict globals page.segments (page_begun page.initial_page)
+drawing_of_page page = page.globals >>= λ globals. segments_drawn page.reading globals page.segments (page_begun page.initial_page)
 
 unfoldable pub grid_of_page : ReadPage → Result Grid DecodeError
 grid_of_page page = drawing_of_page page >>= λ d. Ok d.grid
 
+-- One row below the lowest of a region at this place, its y read as a signed number (7.4.1).
+abbrev pub end_of : RegionSegmentInfo → ℕ
+end_of info = if is_far info.y_location then info.height - (4294967296 - info.y_location) else info.y_location + info.height
+
+-- How high a page is that ends with this region: an immediate one whose information can be read, and that isn't too large
+-- to be drawn. It is at most 65535, and 0 for what is no such region.
+abbrev pub region_height : SegmentView → ℕ
+region_height p = if is_immediate (region_type p.header.segment_type) then on (region_info_at p.bytes) else 0
+  where
+    on : Result (RegionSegmentInfo × List ℕ) DecodeError → ℕ
+    on (Ok info) = if nat_lt 65535 info.0.width || nat_lt 65535 info.0.height then 0 else min 65535 (end_of info.0)
+    on (Err e) = 0
+
+abbrev pub regions_height : List SegmentView → ℕ
+regions_height [] = 0
+regions_height (p ∷ ps) = max (region_height p) (regions_height ps)
+
+-- What tells an open height: the stripes, and in salvage the regions where no stripe does (our own rule).
+abbrev pub told_height : Reading → List SegmentView → ℕ
+told_height Salvage ps = if stripes_height ps == 0 then regions_height ps else stripes_height ps
+told_height _ ps = stripes_height ps
+
+unfoldable pub beginning_of : Reading → List SegmentView → Result InitialPage DecodeError
+beginning_of reading ps = initial_page_by (told_height reading ps) ps
+
 -- An embedded page (D.3; PDF keeps one so): its segments read one after the other, sorted.
-unfoldable pub embedded : Bool → Names → List ℕ → Result ReadPage DecodeError
-embedded strict globals bytes = do
-  segments ← sorted_segments strict bytes
-  initial_page ← initial_page_of segments
-  Ok (record { strict = strict; initial_page = initial_page; segments = segments; globals = Ok globals })
+unfoldable pub embedded : Reading → Names → List ℕ → Result ReadPage DecodeError
+embedded reading globals bytes = do
+  segments ← sorted_segments reading bytes
+  initial_page ← beginning_of reading segments
+  Ok (record { reading = reading; initial_page = initial_page; segments = segments; globals = Ok globals; fault = fault_of reading (sequential Lenient bytes) })
 
 -- On a page of one colour this operator gives the region's pixels themselves.
 abbrev pub draws_over : CombinationOperator → Bool → Bool
@@ -137,8 +168,8 @@ draws_over Xnor black = black
 
 -- A page on which no immediate region was drawn is all of the colour that it began in.
 abbrev pub UntouchedIsBlank : Type 0
-UntouchedIsBlank = (strict : Bool) (globals : Names) (segments : List SegmentView) (initial_page : InitialPage) (d : Drawing)
-    → segments_drawn strict globals segments (page_begun initial_page) ≡ Ok d → IsTrue d.untouched
+UntouchedIsBlank = (reading : Reading) (globals : Names) (segments : List SegmentView) (initial_page : InitialPage) (d : Drawing)
+    → segments_drawn reading globals segments (page_begun initial_page) ≡ Ok d → IsTrue d.untouched
     → d.grid ≡ blank initial_page.width initial_page.height initial_page.default_pixel
 
 -- A page that is drawn has the size that it begins with.
@@ -148,4 +179,4 @@ PagesKeepTheirSize = (page : ReadPage)
 
 -- Strict reading passes over nothing.
 abbrev pub StrictPassesNothing : Type 0
-StrictPassesNothing = (page : ReadPage) → IsTrue page.strict → IfOk (drawing_of_page page) (λ d. d.passed_over ≡ nothing_passed)
+StrictPassesNothing = (page : ReadPage) → IsTrue (is_strict page.reading) → IfOk (drawing_of_page page) (λ d. d.passed_over ≡ nothing_passed)

@@ -1,12 +1,12 @@
 //! What decoding keeps from page to page.
-ghost use Rattle.std.specs.Prelude.{◌≡◌, ◌≤◌, [], true, false, Ok};
+ghost use Rattle.std.specs.Prelude.{◌≡◌, ◌<◌, ◌≤◌, [], true, false, Ok};
 ghost use Rattle.jbig2_base.specs.Answer.{Gives};
 ghost use Rattle.jbig2_base.specs.Counts.{no_steps};
 ghost use Rattle.jbig2_base.specs.Grid.{blank};
 ghost use Rattle.jbig2_region.specs.inner.RegionViews.{region_view};
 ghost use Rattle.hayro_jbig2.specs.Image.{packed_of};
-ghost use Rattle.hayro_jbig2.specs.Names.{no_names};
-ghost use Rattle.hayro_jbig2.specs.Page.{Drawing, nothing_passed, page_begun, shown, with_region};
+ghost use Rattle.hayro_jbig2.specs.Names.{no_names, nothing_passed};
+ghost use Rattle.hayro_jbig2.specs.Page.{Drawing, page_begun, passing, shown, with_region};
 
 use crate::drawn_page::DrawnPage;
 use crate::kept::Kept;
@@ -15,7 +15,7 @@ use crate::passed_over::PassedOver;
 use crate::workspace::Workspace;
 use jbig2_base::bitmap::Bitmap;
 use jbig2_base::bitmap::steps::Steps;
-use jbig2_base::error::Result;
+use jbig2_base::error::{DecodeError, Result};
 use jbig2_base::page_info::InitialPage;
 use jbig2_permit::Permit;
 use jbig2_region::generic::DecodedRegion;
@@ -88,7 +88,7 @@ impl<A: Allocator + Clone> DecoderContext<A> {
 }
 
 impl<A: Allocator> DecoderContext<A> {
-    /// What lenient reading passed over in the page that was drawn last. After a page that was refused it is what
+    /// What reading passed over in the page that was drawn last. After a page that was refused it is what
     /// was passed over before the fault.
     pub fn passed_over(&self) -> &PassedOver
         ensures { result.now ≡ self.now.passed_over }
@@ -168,6 +168,15 @@ impl<A: Allocator> DecoderContext<A> {
             steps,
         );
         self.untouched = false;
+    }
+
+    /// Passes over a segment that failed and left the page as it was.
+    pub(crate) fn pass(&mut self, segment_number: u32, error: DecodeError)
+        requires { self.old.passed_over.count < usize.MAX }
+        ensures { self.new ≡ passing segment_number error self.old }
+    {
+        self.untouched = false;
+        self.passed_over.add(segment_number, error);
     }
 
     /// Keeps an intermediate region under its segment's number.

@@ -1,6 +1,6 @@
 //! Segments that draw nothing and leave something for later ones (T.88, 7.4.2, 7.4.4 and 7.4.13),
-//! of a page as of its globals. One that fails is never passed over.
-ghost use Rattle.std.specs.Prelude.{◌≡◌, IfErr};
+//! of a page as of its globals. One that fails is passed over in salvage alone.
+ghost use Rattle.std.specs.Prelude.{◌≡◌, ◌⊎◌, IfErr};
 ghost use Rattle.jbig2_base.specs.Answer.{Answers, Gives};
 ghost use Rattle.jbig2_base.specs.inner.SegmentViews.{segment_view};
 ghost use Rattle.hayro_jbig2.specs.Names.{symbol_dictionary_at, with_symbols, pattern_dictionary_at, with_patterns, with_code, extension, Names};
@@ -96,8 +96,9 @@ pub(crate) fn keep_symbols<A: Allocator + Clone, L: Ledger>(
     workspace: &Workspace<A>,
     steps: &mut Steps<L>,
 ) -> Result<()>
-    ensures { Gives (λ _. names.new) result
+    ensures value { Gives (λ _. names.new) result
         (with_symbols strict globals.now (segment_view segment.now) names.old) }
+    ensures unchanged { IfErr result (λ e. (e ≡ DecodeError.OutOfMemory) ⊎ (names.new ≡ names.old)) }
 {
     let lookup = Lookup {
         strict,
@@ -117,8 +118,9 @@ pub(crate) fn keep_patterns<A: Allocator + Clone, L: Ledger>(
     workspace: &mut Workspace<A>,
     steps: &mut Steps<L>,
 ) -> Result<()>
-    ensures { Gives (λ _. names.new) result
+    ensures value { Gives (λ _. names.new) result
         (with_patterns strict (segment_view segment.now) names.old) }
+    ensures unchanged { IfErr result (λ e. (e ≡ DecodeError.OutOfMemory) ⊎ (names.new ≡ names.old)) }
 {
     let dictionary = decode_patterns(strict, segment.bytes, workspace, steps)?;
     names.store_patterns(segment.header.segment_number, dictionary)
@@ -131,7 +133,8 @@ pub(crate) fn keep_table<A: Allocator + Clone>(
     segment: &Segment<'_, A>,
     workspace: &Workspace<A>,
 ) -> Result<()>
-    ensures { Gives (λ _. names.new) result (with_code (segment_view segment.now) names.old) }
+    ensures value { Gives (λ _. names.new) result (with_code (segment_view segment.now) names.old) }
+    ensures unchanged { IfErr result (λ e. (e ≡ DecodeError.OutOfMemory) ⊎ (names.new ≡ names.old)) }
 {
     let mut reader = Reader::new(segment.bytes);
     let table = HuffmanTable::read_custom(workspace.alloc.clone()?, &mut reader)?;

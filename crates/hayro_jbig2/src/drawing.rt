@@ -2,8 +2,9 @@
 ghost use Rattle.std.specs.Prelude.{◌≡◌, ◌<◌, ◌⊎◌, true, false, Err, IfErr};
 ghost use Rattle.jbig2_base.specs.Answer.{Gives};
 ghost use Rattle.jbig2_base.specs.inner.SegmentViews.{segment_view, segment_views};
-ghost use Rattle.hayro_jbig2.specs.Names.{with_patterns, with_symbols};
-ghost use Rattle.hayro_jbig2.specs.Page.{segments_drawn, ends_page, immediate, intermediate, keeping, nothing_passed, or_passed_over, region_at, segment_on, shown};
+ghost use Rattle.hayro_jbig2.specs.Names.{nothing_passed, with_patterns, with_symbols};
+ghost use Rattle.jbig2_base.specs.Reading.{is_strict};
+ghost use Rattle.hayro_jbig2.specs.Page.{segments_drawn, ends_page, immediate, intermediate, keeping, or_left_out, or_passed_over, region_at, segment_by, segment_on, shown};
 ghost use Rattle.jbig2_base.specs.declared.error.DecodeError.TheVariants.{OutOfMemory};
 ghost use Rattle.jbig2_region.specs.inner.RegionViews.{region_view};
 ghost use Rattle.hayro_jbig2.specs.inner.KeptViews.{seen};
@@ -19,6 +20,7 @@ use crate::region::RegionKind;
 use jbig2_base::bitmap::Bitmap;
 use jbig2_base::bitmap::steps::Steps;
 use jbig2_base::error::{DecodeError, Result};
+use jbig2_base::reading::Reading;
 use jbig2_base::segment::{Segment, SegmentType};
 use jbig2_region::generic::DecodedRegion;
 use std::alloc::Allocator;
@@ -33,7 +35,7 @@ const REFERENCE: u64 = 64;
 /// What all segments of a page are drawn by.
 #[derive(Drop)]
 pub(crate) struct Drawer<'a, A: Allocator> {
-    pub(crate) strict: bool,
+    pub(crate) reading: Reading,
     /// What the globals keep.
     pub(crate) globals: &'a KeptNames<A>,
 }
@@ -68,7 +70,7 @@ impl<'a, A: Allocator + Clone> Drawer<'a, A> {
     ) -> Result<()>
         requires { context.old.passed_over.count ≡ 0 }
         ensures { Gives (λ _. context.new) result
-            (segments_drawn self.now.strict self.now.globals.now (segment_views segments.now)
+            (segments_drawn self.now.reading self.now.globals.now (segment_views segments.now)
             context.old) }
     {
         for segment in segments {
@@ -85,7 +87,7 @@ impl<'a, A: Allocator + Clone> Drawer<'a, A> {
         Ok(())
     }
 
-    /// Draws one segment onto the page, or keeps what it holds, by its type (T.88, 7.3).
+    /// Draws one segment onto the page, or keeps what it holds. Salvage passes over one that fails.
     fn draw_segment<L: Ledger>(
         &self,
         segment: &Segment<'_, A>,
@@ -94,8 +96,47 @@ impl<'a, A: Allocator + Clone> Drawer<'a, A> {
     ) -> Result<()>
         requires { context.old.passed_over.count < usize.MAX }
         ensures { Gives (λ _. context.new) result
-            (segment_on self.now.strict self.now.globals.now (segment_view segment.now)
+            (segment_on self.now.reading self.now.globals.now (segment_view segment.now)
             context.old) }
+    {
+        match self.try_segment(segment, context, steps) {
+            Ok(()) => Ok(()),
+            Err(error) => self.leave_out(segment.header.segment_number, error, context),
+        }
+    }
+
+    /// What becomes of a segment that failed and left the page as it was.
+    fn leave_out(
+        &self,
+        segment_number: u32,
+        error: DecodeError,
+        context: &mut DecoderContext<A>,
+    ) -> Result<()>
+        requires { context.old.passed_over.count < usize.MAX }
+        ensures value { Gives (λ _. context.new) result
+            (or_left_out self.now.reading segment_number context.old (Err error)) }
+        ensures memory { error ≡ OutOfMemory → result ≡ Err OutOfMemory }
+    {
+        if !self.reading.is_salvaged(&error) {
+            return Err(error);
+        }
+        context.pass(segment_number, error);
+        Ok(())
+    }
+
+    /// Draws one segment onto the page, or keeps what it holds, by its type (T.88, 7.3).
+    fn try_segment<L: Ledger>(
+        &self,
+        segment: &Segment<'_, A>,
+        context: &mut DecoderContext<A>,
+        steps: &mut Steps<L>,
+    ) -> Result<()>
+        requires { context.old.passed_over.count < usize.MAX }
+        ensures value { Gives (λ _. context.new) result
+            (segment_by (is_strict self.now.reading) self.now.globals.now
+            (segment_view segment.now) context.old) }
+        ensures err { IfErr result (λ e. (e ≡ OutOfMemory) ⊎
+            (touched context.new ≡ touched context.old)) }
     {
         match segment.header.segment_type {
             SegmentType::SymbolDictionary => self.keep_symbols(segment, context, steps),
@@ -126,7 +167,7 @@ impl<'a, A: Allocator + Clone> Drawer<'a, A> {
             | SegmentType::ImmediateLosslessGenericRefinementRegion => {
                 self.draw_region(RegionKind::GenericRefinement, segment, context, steps)
             }
-            SegmentType::Extension => extension(self.strict, segment.bytes),
+            SegmentType::Extension => extension(self.reading.is_strict(), segment.bytes),
             SegmentType::PageInformation
             | SegmentType::EndOfPage
             | SegmentType::EndOfStripe
@@ -144,11 +185,12 @@ impl<'a, A: Allocator + Clone> Drawer<'a, A> {
         context: &mut DecoderContext<A>,
         steps: &mut Steps<L>,
     ) -> Result<()>
-        ensures { Gives (λ _. context.new) result
-            (keeping context.old (with_symbols self.now.strict self.now.globals.now
+        ensures value { Gives (λ _. context.new) result
+            (keeping context.old (with_symbols (is_strict self.now.reading) self.now.globals.now
             (segment_view segment.now) context.old.names)) }
+        ensures err { IfErr result (λ e. (e ≡ OutOfMemory) ⊎ (context.new ≡ context.old)) }
     {
-        let (strict, workspace) = (self.strict, &context.workspace);
+        let (strict, workspace) = (self.reading.is_strict(), &context.workspace);
         keep_symbols(
             &mut context.names,
             strict,
@@ -166,12 +208,13 @@ impl<'a, A: Allocator + Clone> Drawer<'a, A> {
         context: &mut DecoderContext<A>,
         steps: &mut Steps<L>,
     ) -> Result<()>
-        ensures { Gives (λ _. context.new) result
-            (keeping context.old (with_patterns self.now.strict (segment_view segment.now)
-            context.old.names)) }
+        ensures value { Gives (λ _. context.new) result
+            (keeping context.old (with_patterns (is_strict self.now.reading)
+            (segment_view segment.now) context.old.names)) }
+        ensures err { IfErr result (λ e. (e ≡ OutOfMemory) ⊎ (context.new ≡ context.old)) }
     {
-        let workspace = &mut context.workspace;
-        keep_patterns(&mut context.names, self.strict, segment, workspace, steps)
+        let (strict, workspace) = (self.reading.is_strict(), &mut context.workspace);
+        keep_patterns(&mut context.names, strict, segment, workspace, steps)
     }
 
     /// What a region may refer to, among the parts of a context.
@@ -181,7 +224,7 @@ impl<'a, A: Allocator + Clone> Drawer<'a, A> {
         regions: &'r [Kept<DecodedRegion<A>>],
         page: &'p Bitmap<A>,
     ) -> References<'n, 'r, 'p, A>
-        ensures strict { result.names.strict ≡ self.now.strict }
+        ensures strict { result.names.strict ≡ is_strict self.now.reading }
         ensures globals { result.names.globals.now ≡ self.now.globals.now }
         ensures drawing { drawing_of result ≡ record {
           grid = page.now;
@@ -193,7 +236,7 @@ impl<'a, A: Allocator + Clone> Drawer<'a, A> {
     {
         References {
             names: Lookup {
-                strict: self.strict,
+                strict: self.reading.is_strict(),
                 own,
                 globals: self.globals,
             },
@@ -213,9 +256,11 @@ impl<'a, A: Allocator + Clone> Drawer<'a, A> {
         steps: &mut Steps<L>,
     ) -> Result<()>
         requires { context.old.passed_over.count < usize.MAX }
-        ensures { Gives (λ _. context.new) result
-            (immediate self.now.strict self.now.globals.now kind (segment_view segment.now)
-            context.old) }
+        ensures value { Gives (λ _. context.new) result
+            (immediate (is_strict self.now.reading) self.now.globals.now kind
+            (segment_view segment.now) context.old) }
+        ensures err { IfErr result (λ e. (e ≡ OutOfMemory) ⊎
+            (touched context.new ≡ touched context.old)) }
     {
         match self.show_region(kind, segment, context, steps) {
             Ok(()) => Ok(()),
@@ -233,7 +278,7 @@ impl<'a, A: Allocator + Clone> Drawer<'a, A> {
         steps: &mut Steps<L>,
     ) -> Result<()>
         ensures value { Gives (λ _. context.new) result
-            (shown context.old (region_at self.now.strict self.now.globals.now kind false
+            (shown context.old (region_at (is_strict self.now.reading) self.now.globals.now kind false
             (segment_view segment.now) context.old)) }
         ensures err { IfErr result (λ e. (e ≡ OutOfMemory) ⊎
             (touched context.new ≡ touched context.old)) }
@@ -262,14 +307,14 @@ impl<'a, A: Allocator + Clone> Drawer<'a, A> {
     ) -> Result<()>
         requires { context.old.passed_over.count < usize.MAX }
         ensures value { Gives (λ _. context.new) result
-            (or_passed_over self.now.strict segment_number context.old (Err error)) }
+            (or_passed_over (is_strict self.now.reading) segment_number context.old (Err error)) }
+        ensures err { IfErr result (λ e. context.new ≡ context.old) }
         ensures memory { error ≡ OutOfMemory → result ≡ Err OutOfMemory }
     {
-        if self.strict || matches!(error, DecodeError::OutOfMemory) {
+        if self.reading.is_strict() || matches!(error, DecodeError::OutOfMemory) {
             return Err(error);
         }
-        context.untouched = false;
-        context.passed_over.add(segment_number, error);
+        context.pass(segment_number, error);
         Ok(())
     }
 
@@ -282,9 +327,10 @@ impl<'a, A: Allocator + Clone> Drawer<'a, A> {
         context: &mut DecoderContext<A>,
         steps: &mut Steps<L>,
     ) -> Result<()>
-        ensures { Gives (λ _. context.new) result
-            (intermediate self.now.strict self.now.globals.now kind (segment_view segment.now)
-            context.old) }
+        ensures value { Gives (λ _. context.new) result
+            (intermediate (is_strict self.now.reading) self.now.globals.now kind
+            (segment_view segment.now) context.old) }
+        ensures err { IfErr result (λ e. (e ≡ OutOfMemory) ⊎ (context.new ≡ context.old)) }
     {
         let references = self.references(&context.names, &context.regions, &context.bitmap);
         let workspace = &context.workspace;

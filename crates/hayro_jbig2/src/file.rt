@@ -1,24 +1,30 @@
 //! Files of pages.
-ghost use Rattle.std.specs.Prelude.{◌≡◌, ℕ, Ok, IfErr, length, slice_get};
+ghost use Rattle.std.specs.Prelude.{◌≡◌, ◌++◌, ℕ, Ok, OnOk, IfErr, length, slice_get};
 ghost use Rattle.std.specs.Map.Iter.{GivesInOrder};
 ghost use Rattle.jbig2_base.specs.Answer.{Answers, Gives};
 ghost use Rattle.jbig2_base.specs.inner.SegmentViews.{header_view, segment_views};
 ghost use Rattle.hayro_jbig2.specs.inner.ByPages.{pages_view};
-ghost use Rattle.hayro_jbig2.specs.Files.{needs_page, lacks_page, associated, is_end_of_page, ends_of, filed_from, filed_each, miscounts, book_at, shared_by, page_of, pages_of, PagesStandAlone};
+ghost use Rattle.hayro_jbig2.specs.Files.{needs_page, lacks_page, associated, is_end_of_page, ends_of, filed_from, filed_each, left_out_of, miscounts, book_at, shared_by, page_of, pages_of, PagesStandAlone};
+ghost use Rattle.jbig2_base.specs.Reading.{is_strict, reading_of};
+ghost use Rattle.jbig2_base.specs.declared.reading.Reading.TheVariants.{Salvage};
+ghost use Rattle.hayro_jbig2.specs.Names.{names_of};
+ghost use Rattle.hayro_jbig2.specs.inner.KeptViews.{found};
 ghost use Rattle.hayro_jbig2.specs.Page.{ReadPage};
 ghost use Rattle.hayro_jbig2.specs.Returned.{IsReturned};
 ghost use Rattle.hayro_jbig2.specs.inner.PageViews.{kept_names};
 ghost use Rattle.hayro_jbig2.specs.Causes.{BreaksBook};
 ghost use Rattle.jbig2_base.specs.Causes.{HasCauseOrNoMemory};
 
+use crate::beginning::beginning_of;
 use crate::globals::Globals;
 use crate::page::Page;
 use crate::pages::Pages;
 use crate::segments_by_page::SegmentsByPage;
 use crate::settings::DecodeSettings;
 use jbig2_base::error::{DecodeError, FormatError, Result, SegmentError};
-use jbig2_base::file::parse_file;
+use jbig2_base::file::{file_fault, parse_file};
 use jbig2_base::page_info::InitialPage;
+use jbig2_base::reading::Reading;
 use jbig2_base::segment::{Segment, SegmentHeader, SegmentType};
 use std::alloc::Allocator;
 use std::marker::Model;
@@ -48,9 +54,11 @@ impl<'a, A: Allocator> Model for FilePage<'a, A> {
 /// A file: its pages, and what they share. It borrows the bytes that it was read from.
 #[derive(Drop)]
 pub struct File<'a, A: Allocator> {
-    strict: bool,
+    reading: Reading,
     pages: Vec<FilePage<'a, A>, A>,
     globals: Result<Globals<A>>,
+    left_out: Vec<DecodeError, A>,
+    fault: Option<DecodeError>,
 }
 
 impl<'a, A: Allocator> Model for File<'a, A> {
@@ -60,8 +68,13 @@ impl<'a, A: Allocator> Model for File<'a, A> {
 
     ghost Value = { ReadFile };
 
-    ghost view = { λ file.
-        record { strict = file.strict; pages = file.pages.items; globals = file.globals } };
+    ghost view = { λ file. record {
+      reading = file.reading;
+      pages = file.pages.items;
+      globals = file.globals;
+      left_out = file.left_out.items;
+      fault = file.fault;
+    } };
 
     ghost invariant = { λ file. IfErr file.globals IsAnswered };
 }
@@ -118,31 +131,44 @@ fn count_ends<A: Allocator>(segments: &[Segment<'_, A>]) -> usize
 }
 
 #[tactic(auto, unfolding(crate::specs::Files::filed_from))]
-fn read_page<'a, A: Allocator>(strict: bool, own: Vec<Segment<'a, A>, A>) -> Result<FilePage<'a, A>>
-    ensures { Gives (λ page. page) result (filed_from strict (segment_views own.entry.items)) }
+fn read_page<'a, A: Allocator>(
+    reading: Reading,
+    own: Vec<Segment<'a, A>, A>,
+) -> Result<FilePage<'a, A>>
+    ensures { Answers (λ page. page) result (filed_from reading (segment_views own.entry.items)) }
 {
-    if strict && count_ends(&own) != 1 {
+    if reading.is_strict() && count_ends(&own) != 1 {
         return Err(DecodeError::Format(FormatError::InvalidEndOfPage));
     }
-    let initial_page = InitialPage::of_segments(&own)?;
+    let initial_page = beginning_of(reading, &own)?;
     Ok(FilePage {
         initial_page,
         segments: own,
     })
 }
 
+/// The pages with these segments, in order. Salvage leaves out one that can't begin, and adds why to `left_out`.
 fn read_pages<'a, A: Allocator>(
     alloc: A,
-    strict: bool,
+    reading: Reading,
     segments: Vec<Vec<Segment<'a, A>, A>, A>,
+    left_out: &mut Vec<DecodeError, A>,
 ) -> Result<Vec<FilePage<'a, A>, A>>
-    ensures { Gives (λ v. v.items) result (filed_each strict (pages_view segments.entry.items)) }
+    ensures value { Gives (λ v. v.items) result
+        (filed_each reading (pages_view segments.entry.items)) }
+    ensures left_out { OnOk result (left_out.new.items
+        ≡ left_out.old.items ++ left_out_of reading (pages_view segments.entry.items)) }
 {
     let mut pages = Vec::new(alloc);
     for own in segments {
-        match read_page(strict, own) {
+        match read_page(reading, own) {
             Ok(page) => pages.push(page)?,
-            Err(error) => return Err(error),
+            Err(error) => {
+                if !reading.is_salvaged(&error) {
+                    return Err(error);
+                }
+                left_out.push(error)?;
+            }
         }
     }
     Ok(pages)
@@ -162,18 +188,18 @@ fn miscounts(told: Option<u32>, count: usize) -> bool
 #[tactic(auto, using(crate::proofs::Books::shares_none, crate::proofs::Books::shares_some))]
 fn kept_globals<A: Allocator + Clone>(
     alloc: A,
-    strict: bool,
+    reading: Reading,
     pages: &[FilePage<'_, A>],
     shared: &[Segment<'_, A>],
     work: Option<u64>,
 ) -> Result<Result<Globals<A>>>
     ensures { Gives (λ kept. kept) result
-        (Ok (shared_by strict pages.now (segment_views shared.now))) }
+        (Ok (shared_by reading pages.now (segment_views shared.now))) }
 {
     if pages.is_empty() {
-        return Ok(Ok(Globals::empty(alloc)?));
+        return Ok(Ok(Globals::empty(alloc, None)?));
     }
-    match Globals::from_segments(alloc, strict, shared, work) {
+    match Globals::from_segments(alloc, reading, shared, None, work) {
         Ok(globals) => Ok(Ok(globals)),
         Err(DecodeError::OutOfMemory) => Err(DecodeError::OutOfMemory),
         Err(error) => Ok(Err(error)),
@@ -187,7 +213,7 @@ impl<'a, A: Allocator + Clone> File<'a, A> {
     /// pages, and of each page's end and size. Where there is a page, the segments of no page are
     /// decoded too; a fault there is what decoding a page returns.
     pub fn new(alloc: A, bytes: &'a [u8], settings: &DecodeSettings) -> Result<File<'a, A>>
-        ensures value { Gives (λ file. file) result (book_at settings.now.strict bytes.now) }
+        ensures value { Gives (λ file. file) result (book_at (reading_of settings.now.strict) bytes.now) }
         ensures errors { IfErr result IsReturned }
     {
         File::new_within(alloc, bytes, settings, None)
@@ -195,31 +221,67 @@ impl<'a, A: Allocator + Clone> File<'a, A> {
 
     /// The file as `new` has it, where the segments of no page are decoded for at most `work` units of work. Where that
     /// isn't enough it is refused with `DecodeError::OutOfMemory`, as memory is. `None` is no limit.
-    #[tactic(auto, using(crate::proofs::Causes::file_cause), unfolding(crate::specs::Files::book_at))]
     pub fn new_within(
         alloc: A,
         bytes: &'a [u8],
         settings: &DecodeSettings,
         work: Option<u64>,
     ) -> Result<File<'a, A>>
-        ensures value { Gives (λ file. file) result (book_at settings.now.strict bytes.now) }
-        ensures causes { HasCauseOrNoMemory result (BreaksBook settings.now.strict bytes.now) }
+        ensures value { Gives (λ file. file) result (book_at (reading_of settings.now.strict) bytes.now) }
+        ensures causes { HasCauseOrNoMemory result
+            (BreaksBook (reading_of settings.now.strict) bytes.now) }
         ensures errors { IfErr result IsReturned }
     {
-        let strict = settings.strict;
-        let file = parse_file(alloc.clone()?, bytes, strict)?;
+        File::read(alloc, bytes, settings.reading(), work)
+    }
+
+    /// The file as lenient reading has it, where damage leaves out as little as it can: the list of segments ends
+    /// at the first that is refused, a page that can't begin is left out, and a segment of no page that fails is
+    /// passed over. The segments of no page are decoded for at most `work` units of work.
+    ///
+    /// Where lenient reading gives a file, this gives the same. Refused for a fault of the file's header, or for
+    /// want of memory or of work.
+    pub fn salvaged(alloc: A, bytes: &'a [u8], work: Option<u64>) -> Result<File<'a, A>>
+        ensures value { Gives (λ file. file) result (book_at Salvage bytes.now) }
+        ensures causes { HasCauseOrNoMemory result (BreaksBook Salvage bytes.now) }
+        ensures errors { IfErr result IsReturned }
+    {
+        File::read(alloc, bytes, Reading::Salvage, work)
+    }
+
+    #[tactic(auto, using(crate::proofs::Causes::file_cause), unfolding(crate::specs::Files::book_at))]
+    fn read(alloc: A, bytes: &'a [u8], reading: Reading, work: Option<u64>) -> Result<File<'a, A>>
+        ensures value { Gives (λ file. file) result (book_at reading bytes.now) }
+        ensures causes { HasCauseOrNoMemory result (BreaksBook reading bytes.now) }
+        ensures errors { IfErr result IsReturned }
+    {
+        let strict = reading.is_strict();
+        let fault = file_fault(alloc.clone()?, bytes, reading)?;
+        let file = parse_file(alloc.clone()?, bytes, reading)?;
         check_associations(strict, &file.segments)?;
         let segments = SegmentsByPage::new(alloc.clone()?, file.segments)?;
         if strict && miscounts(file.header.number_of_pages, segments.pages.len()) {
             return Err(DecodeError::Format(FormatError::PageCountMismatch));
         }
-        let pages = read_pages(alloc.clone()?, strict, segments.pages)?;
-        let globals = kept_globals(alloc, strict, &pages, &segments.shared, work)?;
+        let mut left_out = Vec::new(alloc.clone()?);
+        let pages = read_pages(alloc.clone()?, reading, segments.pages, &mut left_out)?;
+        let globals = kept_globals(alloc, reading, &pages, &segments.shared, work)?;
         Ok(File {
-            strict,
+            reading,
             pages,
             globals,
+            left_out,
+            fault,
         })
+    }
+}
+
+fn duplicate_fault(fault: &Option<DecodeError>) -> Option<DecodeError>
+    ensures { result ≡ fault.now }
+{
+    match fault {
+        Some(error) => Some(error.duplicate()),
+        None => None,
     }
 }
 
@@ -231,9 +293,33 @@ impl<'a, A: Allocator> File<'a, A> {
         self.pages.len()
     }
 
+    /// Why pages were left out, in salvage: an error for each.
+    pub fn left_out(&self) -> &[DecodeError]
+        ensures { result.now ≡ self.now.left_out }
+    {
+        &self.left_out
+    }
+
+    /// The error that ended the list of segments early, in salvage: that of lenient reading.
+    pub fn fault(&self) -> Option<&DecodeError>
+        ensures { found (λ e. e) result ≡ self.now.fault }
+    {
+        self.fault.as_ref()
+    }
+
+    /// What the segments of no page keep, or their error.
+    pub fn shared(&self) -> Result<&Globals<A>>
+        ensures { Answers (λ globals. globals.now) result self.now.globals }
+    {
+        match &self.globals {
+            Ok(globals) => Ok(globals),
+            Err(error) => Err(error.duplicate()),
+        }
+    }
+
     /// What decoding the globals returned.
     fn globals(&self) -> Result<Option<&Globals<A>>>
-        ensures { kept_names result ≡ self.now.globals }
+        ensures { kept_names result ≡ names_of self.now.globals }
     {
         match &self.globals {
             Ok(globals) => Ok(Some(globals)),
@@ -248,10 +334,11 @@ impl<'a, A: Allocator> File<'a, A> {
     {
         match self.pages.get(index) {
             Some(page) => Some(Page::of_file(
-                self.strict,
+                self.reading,
                 page.initial_page,
                 &page.segments,
                 self.globals(),
+                duplicate_fault(&self.fault),
             )),
             None => None,
         }

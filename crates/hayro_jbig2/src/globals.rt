@@ -1,18 +1,24 @@
 //! Segments that several pages share.
-ghost use Rattle.std.specs.Prelude.{◌≡◌, Ok, IfErr};
+ghost use Rattle.std.specs.Prelude.{◌≡◌, ◌<◌, ◌⊎◌, Ok, IfErr};
 ghost use Rattle.jbig2_base.specs.Answer.{Gives};
+ghost use Rattle.jbig2_base.specs.Reading.{is_strict, reading_of};
+ghost use Rattle.jbig2_base.specs.declared.error.DecodeError.TheVariants.{OutOfMemory};
+ghost use Rattle.jbig2_base.specs.declared.reading.Reading.TheVariants.{Salvage};
 ghost use Rattle.jbig2_base.specs.inner.SegmentViews.{segment_view, segment_views};
-ghost use Rattle.hayro_jbig2.specs.Names.{globals_at, named_from, kept_by, no_names};
+ghost use Rattle.hayro_jbig2.specs.Names.{globals_at, named_from, kept_by, no_names, nothing_shared, or_shared_without};
 ghost use Rattle.hayro_jbig2.specs.Returned.{IsReturned};
+ghost use Rattle.hayro_jbig2.specs.inner.KeptViews.{found};
 
 use crate::dictionaries::{extension, keep_patterns, keep_symbols, keep_table};
 use crate::drawing::pay_segment;
 use crate::names::KeptNames;
+use crate::passed_over::PassedOver;
 use crate::settings::DecodeSettings;
 use crate::workspace::Workspace;
 use jbig2_base::bitmap::steps::Steps;
-use jbig2_base::error::Result;
-use jbig2_base::file::parse_segments_sequential;
+use jbig2_base::error::{DecodeError, Result};
+use jbig2_base::file::{parse_segments_sequential, sequence_fault};
+use jbig2_base::reading::Reading;
 use jbig2_base::segment::{Segment, SegmentType};
 use jbig2_base::sort::sort_segments;
 use jbig2_permit::Permit;
@@ -25,31 +31,53 @@ use std::sync::ledger::{Blank, Ledger};
 #[derive(Drop)]
 pub struct Globals<A: Allocator> {
     names: KeptNames<A>,
+    passed_over: PassedOver,
+    fault: Option<DecodeError>,
 }
 
 impl<A: Allocator> Model for Globals<A> {
-    ghost use Rattle.hayro_jbig2.specs.Names.{Names};
+    ghost use Rattle.hayro_jbig2.specs.Names.{Shared};
 
-    ghost Value = { Names };
+    ghost Value = { Shared };
 
-    ghost view = { λ globals. globals.names };
+    ghost view = { λ globals. record {
+      names = globals.names;
+      passed_over = globals.passed_over;
+      fault = globals.fault;
+    } };
 }
 
 impl<A: Allocator> Globals<A> {
     pub(crate) fn names(&self) -> &KeptNames<A>
-        ensures { result.now ≡ self.now }
+        ensures { result.now ≡ self.now.names }
     {
         &self.names
+    }
+
+    /// What salvage passed over of their segments.
+    pub fn passed_over(&self) -> &PassedOver
+        ensures { result.now ≡ self.now.passed_over }
+    {
+        &self.passed_over
+    }
+
+    /// The error that ended the list of their segments early, in salvage: that of lenient reading.
+    pub fn fault(&self) -> Option<&DecodeError>
+        ensures { found (λ e. e) result ≡ self.now.fault }
+    {
+        self.fault.as_ref()
     }
 }
 
 impl<A: Allocator + Clone> Globals<A> {
-    /// Globals that keep nothing.
-    pub(crate) fn empty(alloc: A) -> Result<Globals<A>>
-        ensures { Gives (λ globals. globals) result (Ok no_names) }
+    /// Globals that keep nothing, of a list that this error ended.
+    pub(crate) fn empty(alloc: A, fault: Option<DecodeError>) -> Result<Globals<A>>
+        ensures { Gives (λ globals. globals) result (Ok (nothing_shared fault)) }
     {
         Ok(Globals {
             names: KeptNames::new(alloc)?,
+            passed_over: PassedOver::nothing(),
+            fault,
         })
     }
 
@@ -59,7 +87,7 @@ impl<A: Allocator + Clone> Globals<A> {
     /// segment. Refused by the first fault of reading the segments, else of decoding them.
     pub fn new(alloc: A, bytes: &[u8], settings: &DecodeSettings) -> Result<Globals<A>>
         ensures value { Gives (λ globals. globals) result
-            (globals_at settings.now.strict bytes.now) }
+            (globals_at (reading_of settings.now.strict) bytes.now) }
         ensures errors { IfErr result IsReturned }
     {
         Globals::new_within(alloc, bytes, settings, None)
@@ -67,7 +95,6 @@ impl<A: Allocator + Clone> Globals<A> {
 
     /// The globals as `new` has them, for at most `work` units of work. Where that isn't enough it is refused with
     /// `DecodeError::OutOfMemory`, as memory is. `None` is no limit.
-    #[tactic(auto, unfolding(crate::specs::Names::globals_at))]
     pub fn new_within(
         alloc: A,
         bytes: &[u8],
@@ -75,55 +102,100 @@ impl<A: Allocator + Clone> Globals<A> {
         work: Option<u64>,
     ) -> Result<Globals<A>>
         ensures value { Gives (λ globals. globals) result
-            (globals_at settings.now.strict bytes.now) }
+            (globals_at (reading_of settings.now.strict) bytes.now) }
         ensures errors { IfErr result IsReturned }
     {
-        let strict = settings.strict;
-        let mut segments = parse_segments_sequential(alloc.clone()?, bytes, strict)?;
+        Globals::read(alloc, bytes, settings.reading(), work)
+    }
+
+    /// The globals as lenient reading has them, where damage leaves out as little as it can: the list of their
+    /// segments ends at the first that is refused, and a segment that fails is passed over. Refused for want of
+    /// memory or of work alone.
+    pub fn salvaged(alloc: A, bytes: &[u8], work: Option<u64>) -> Result<Globals<A>>
+        ensures value { Gives (λ globals. globals) result (globals_at Salvage bytes.now) }
+        ensures memory { IfErr result (λ e. e ≡ OutOfMemory) }
+    {
+        Globals::read(alloc, bytes, Reading::Salvage, work)
+    }
+
+    #[tactic(auto, unfolding(crate::specs::Names::globals_at))]
+    fn read(alloc: A, bytes: &[u8], reading: Reading, work: Option<u64>) -> Result<Globals<A>>
+        ensures value { Gives (λ globals. globals) result (globals_at reading bytes.now) }
+        ensures errors { IfErr result IsReturned }
+    {
+        let fault = sequence_fault(alloc.clone()?, bytes, reading)?;
+        let mut segments = parse_segments_sequential(alloc.clone()?, bytes, reading)?;
         sort_segments(&mut segments)?;
-        Globals::from_segments(alloc, strict, &segments, work)
+        Globals::from_segments(alloc, reading, &segments, fault, work)
     }
 
     pub(crate) fn from_segments(
         alloc: A,
-        strict: bool,
+        reading: Reading,
         segments: &[Segment<'_, A>],
+        fault: Option<DecodeError>,
         work: Option<u64>,
     ) -> Result<Globals<A>>
         ensures { Gives (λ globals. globals) result
-            (named_from strict (segment_views segments.now) no_names) }
+            (named_from reading (segment_views segments.now) (nothing_shared fault)) }
     {
-        let names = decode_names::<A, Brand>(alloc, strict, segments, work, Blank::new(6))?;
-        Ok(Globals { names })
+        decode_shared::<A, Brand>(alloc, reading, segments, fault, work, Blank::new(6))
+    }
+
+    /// Keeps what one more segment holds. Salvage passes over one that fails.
+    fn add<L: Ledger>(
+        &mut self,
+        reading: Reading,
+        segment: &Segment<'_, A>,
+        workspace: &mut Workspace<A>,
+        steps: &mut Steps<L>,
+    ) -> Result<()>
+        requires { self.old.passed_over.count < usize.MAX }
+        ensures { Gives (λ _. self.new) result
+            (or_shared_without reading segment.now.header.segment_number self.old
+            (kept_by (is_strict reading) no_names (segment_view segment.now) self.old.names)) }
+    {
+        let names = &mut self.names;
+        match keep_segment(names, reading.is_strict(), segment, workspace, steps) {
+            Ok(()) => Ok(()),
+            Err(error) => {
+                if !reading.is_salvaged(&error) {
+                    return Err(error);
+                }
+                self.passed_over.add(segment.header.segment_number, error);
+                Ok(())
+            }
+        }
     }
 }
 
 /// What these segments keep, each after those before it.
-fn decode_names<A: Allocator + Clone, L: Ledger>(
+fn decode_shared<A: Allocator + Clone, L: Ledger>(
     alloc: A,
-    strict: bool,
+    reading: Reading,
     segments: &[Segment<'_, A>],
+    fault: Option<DecodeError>,
     work: Option<u64>,
     blank: Blank,
-) -> Result<KeptNames<A>>
+) -> Result<Globals<A>>
     requires name { blank.name ≡ L.name }
     requires parts { blank.parts ≡ L.parts }
     requires enough { blank.parts ≡ 6 }
-    ensures { Gives (λ names. names) result
-        (named_from strict (segment_views segments.now) no_names) }
+    ensures { Gives (λ globals. globals) result
+        (named_from reading (segment_views segments.now) (nothing_shared fault)) }
 {
     let work = work.unwrap_or(u64::MAX);
     let mut steps = Steps::<L>::within(Permit::grant(), blank, work);
-    let mut names = KeptNames::new(alloc.clone()?)?;
+    let mut globals = Globals::empty(alloc.clone()?, fault)?;
     let mut workspace = Workspace::new(alloc)?;
     for segment in segments {
-        pay_segment(segment, names.count(), &mut steps)?;
-        match keep_segment(&mut names, strict, segment, &mut workspace, &mut steps) {
+        pay_segment(segment, globals.names.count(), &mut steps)?;
+        match globals.add(reading, segment, &mut workspace, &mut steps) {
             Ok(()) => {}
             Err(error) => return Err(error),
         }
     }
-    Ok(names)
+    Ok(globals)
 }
 
 fn keep_segment<A: Allocator + Clone, L: Ledger>(
@@ -133,7 +205,9 @@ fn keep_segment<A: Allocator + Clone, L: Ledger>(
     workspace: &mut Workspace<A>,
     steps: &mut Steps<L>,
 ) -> Result<()>
-    ensures { Gives (λ _. names.new) result (kept_by strict no_names (segment_view segment.now) names.old) }
+    ensures value { Gives (λ _. names.new) result
+        (kept_by strict no_names (segment_view segment.now) names.old) }
+    ensures unchanged { IfErr result (λ e. (e ≡ OutOfMemory) ⊎ (names.new ≡ names.old)) }
 {
     match segment.header.segment_type {
         SegmentType::SymbolDictionary => {

@@ -6,6 +6,7 @@
 //! packed rows.
 #![tactic(auto)]
 
+mod beginning;
 mod calls;
 mod context;
 mod decoder;

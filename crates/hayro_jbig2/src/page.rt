@@ -8,12 +8,16 @@ ghost use Rattle.jbig2_base.specs.declared.bitmap.operator.CombinationOperator.{
 ghost use Rattle.hayro_jbig2.specs.Calls.{CallsAreFew, ChunksFit, DrawsGrid, calls_of, Decodes, IsCountable};
 ghost use Rattle.hayro_jbig2.specs.Image.{PackedBitsAreBytes, image_of_page, packed_of_page, packed_size};
 ghost use Rattle.hayro_jbig2.specs.Page.{HasSides, IsSide, ReadPage, segments_drawn, drawing_of_page, embedded, grid_of_page, draws_over, page_begun, PagesKeepTheirSize, StrictPassesNothing, UntouchedIsBlank};
+ghost use Rattle.jbig2_base.specs.Reading.{reading_of};
+ghost use Rattle.jbig2_base.specs.declared.reading.Reading.TheVariants.{Salvage};
+ghost use Rattle.hayro_jbig2.specs.inner.KeptViews.{found};
 ghost use Rattle.hayro_jbig2.specs.Causes.{IsAnswered};
 ghost use Rattle.hayro_jbig2.specs.Returned.{IsReturned};
 ghost use Rattle.hayro_jbig2.specs.inner.PageViews.{given_names, kept_names};
 ghost use Rattle.hayro_jbig2.specs.inner.SegmentLists.{segment_list};
 ghost use Rattle.jbig2_base.specs.inner.SegmentViews.{segment_views};
 
+use crate::beginning::beginning_of;
 use crate::calls::push_bitmap;
 use crate::context::DecoderContext;
 use crate::decoder::Decoder;
@@ -24,9 +28,10 @@ use crate::image::write_image;
 use crate::names::KeptNames;
 use crate::settings::DecodeSettings;
 use jbig2_base::bitmap::steps::Steps;
-use jbig2_base::error::Result;
-use jbig2_base::file::parse_segments_sequential;
+use jbig2_base::error::{DecodeError, Result};
+use jbig2_base::file::{parse_segments_sequential, sequence_fault};
 use jbig2_base::page_info::InitialPage;
+use jbig2_base::reading::Reading;
 use jbig2_base::segment::Segment;
 use jbig2_base::sort::sort_segments;
 use jbig2_permit::Permit;
@@ -55,10 +60,11 @@ impl<'a, A: Allocator> PageSegments<'a, A> {
 /// A page: its segments, and what it begins as. It borrows the bytes that it was read from.
 #[derive(Drop)]
 pub struct Page<'a, A: Allocator> {
-    strict: bool,
+    reading: Reading,
     initial_page: InitialPage,
     segments: PageSegments<'a, A>,
     globals: Result<Option<&'a Globals<A>>>,
+    fault: Option<DecodeError>,
 }
 
 impl<'a, A: Allocator> Model for Page<'a, A> {
@@ -72,10 +78,11 @@ impl<'a, A: Allocator> Model for Page<'a, A> {
     ghost Value = { ReadPage };
 
     ghost view = { λ page. record {
-      strict = page.strict;
+      reading = page.reading;
       initial_page = page.initial_page;
       segments = segment_views (segment_list page.segments);
       globals = kept_names page.globals;
+      fault = page.fault;
     } };
 
     ghost invariant = { λ page. HasSides page.initial_page
@@ -85,25 +92,28 @@ impl<'a, A: Allocator> Model for Page<'a, A> {
 impl<'a, A: Allocator> Page<'a, A> {
     /// A page of a file, which holds its segments and keeps what decoding the globals returned.
     pub(crate) fn of_file(
-        strict: bool,
+        reading: Reading,
         initial_page: InitialPage,
         segments: &'a Vec<Segment<'a, A>, A>,
         globals: Result<Option<&'a Globals<A>>>,
+        fault: Option<DecodeError>,
     ) -> Page<'a, A>
         requires sides { HasSides initial_page }
         requires answered { IfErr (kept_names globals) IsAnswered }
         ensures { result ≡ record {
-          strict = strict;
+          reading = reading;
           initial_page = initial_page;
           segments = segment_views segments.now.items;
           globals = kept_names globals.entry;
+          fault = fault;
         } }
     {
         Page {
-            strict,
+            reading,
             initial_page,
             segments: PageSegments::Borrowed(segments),
             globals,
+            fault,
         }
     }
 
@@ -112,6 +122,14 @@ impl<'a, A: Allocator> Page<'a, A> {
         ensures { result ≡ self.now.initial_page.number }
     {
         self.initial_page.number
+    }
+
+    /// The error that ended the list of the page's segments early, or of its file's, in salvage: that of lenient
+    /// reading.
+    pub fn fault(&self) -> Option<&DecodeError>
+        ensures { found (λ e. e) result ≡ self.now.fault }
+    {
+        self.fault.as_ref()
     }
 
     /// The width in pixels, 1 to 65535.
@@ -144,7 +162,6 @@ impl<'a, A: Allocator + Clone> Page<'a, A> {
     /// file header, and `globals` what its segments may refer to besides.
     ///
     /// Refused by the first fault of the segments, or of the page's size.
-    #[tactic(auto, unfolding(crate::specs::Page::embedded))]
     pub fn new_embedded(
         alloc: A,
         bytes: &'a [u8],
@@ -152,18 +169,51 @@ impl<'a, A: Allocator + Clone> Page<'a, A> {
         settings: &DecodeSettings,
     ) -> Result<Page<'a, A>>
         ensures value { Gives (λ page. page) result
-            (embedded settings.now.strict (given_names globals.entry) bytes.now) }
+            (embedded (reading_of settings.now.strict) (given_names globals.entry) bytes.now) }
         ensures errors { IfErr result IsReturned }
     {
-        let strict = settings.strict;
-        let mut segments = parse_segments_sequential(alloc, bytes, strict)?;
+        Page::read_embedded(alloc, bytes, globals, settings.reading())
+    }
+
+    /// The page as lenient reading has it, where damage leaves out as little as it can: the list of its segments
+    /// ends at the first that is refused, a segment that fails is passed over, and an open height that no stripe
+    /// tells is that of the lowest region's end.
+    ///
+    /// Where lenient reading gives a page, this gives the same. Refused where the segments have no page information
+    /// with a size that a page may have, or for want of memory.
+    pub fn salvaged_embedded(
+        alloc: A,
+        bytes: &'a [u8],
+        globals: Option<&'a Globals<A>>,
+    ) -> Result<Page<'a, A>>
+        ensures value { Gives (λ page. page) result
+            (embedded Salvage (given_names globals.entry) bytes.now) }
+        ensures errors { IfErr result IsReturned }
+    {
+        Page::read_embedded(alloc, bytes, globals, Reading::Salvage)
+    }
+
+    #[tactic(auto, unfolding(crate::specs::Page::embedded))]
+    fn read_embedded(
+        alloc: A,
+        bytes: &'a [u8],
+        globals: Option<&'a Globals<A>>,
+        reading: Reading,
+    ) -> Result<Page<'a, A>>
+        ensures value { Gives (λ page. page) result
+            (embedded reading (given_names globals.entry) bytes.now) }
+        ensures errors { IfErr result IsReturned }
+    {
+        let fault = sequence_fault(alloc.clone()?, bytes, reading)?;
+        let mut segments = parse_segments_sequential(alloc, bytes, reading)?;
         sort_segments(&mut segments)?;
-        let initial_page = InitialPage::of_segments(&segments)?;
+        let initial_page = beginning_of(reading, &segments)?;
         Ok(Page {
-            strict,
+            reading,
             initial_page,
             segments: PageSegments::Owned(segments),
             globals: Ok(globals),
+            fault,
         })
     }
 
@@ -245,8 +295,8 @@ impl<'a, A: Allocator + Clone> Page<'a, A> {
     }
 
     /// Draws the page in the room of a context that earlier pages may have used, which holds it from then on:
-    /// `DecoderContext::drawn` lends its packed rows, and `DecoderContext::passed_over` says what lenient
-    /// reading passed over.
+    /// `DecoderContext::drawn` lends its packed rows, and `DecoderContext::passed_over` says what reading
+    /// passed over.
     ///
     /// Returns the first fault of a segment that lenient reading does not pass over.
     pub fn draw_in(&self, context: &mut DecoderContext<A>) -> Result<()>
@@ -366,7 +416,7 @@ impl<'a, A: Allocator + Clone> Page<'a, A> {
         steps: &mut Steps<L>,
     ) -> Result<()>
         ensures { Gives (λ _. context.new) result
-            (segments_drawn self.now.strict globals.now self.now.segments
+            (segments_drawn self.now.reading globals.now self.now.segments
             (page_begun self.now.initial_page)) }
     {
         // A page is cleared, and then handed out.
@@ -374,7 +424,7 @@ impl<'a, A: Allocator + Clone> Page<'a, A> {
         steps.pay_bitmaps(2, width, height)?;
         context.begin(&self.initial_page)?;
         let drawer = Drawer {
-            strict: self.strict,
+            reading: self.reading,
             globals,
         };
         drawer.draw_segments(self.segments.as_vec(), context, steps)

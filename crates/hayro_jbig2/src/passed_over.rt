@@ -1,10 +1,10 @@
-//! What lenient reading passes over.
+//! What reading passes over.
 ghost use Rattle.std.specs.Prelude.{◌≡◌, ◌<◌};
-ghost use Rattle.hayro_jbig2.specs.Page.{nothing_passed, with_passed};
+ghost use Rattle.hayro_jbig2.specs.Names.{nothing_passed, with_passed};
 
 use jbig2_base::error::DecodeError;
 
-/// A segment that lenient reading passed over.
+/// A segment that lenient reading or salvage passed over.
 #[derive(Debug, Drop, PartialEq, Eq)]
 pub struct PassedSegment {
     pub segment_number: u32,
@@ -12,8 +12,8 @@ pub struct PassedSegment {
     pub error: DecodeError,
 }
 
-/// What lenient reading passed over in a page: the immediate regions that failed (T.88, 8.2), which leave the
-/// page as it was.
+/// What reading passed over in a page or in globals, where it left everything as it was. In lenient reading that is the
+/// immediate regions that failed (T.88, 8.2), in salvage all segments that failed.
 #[derive(Debug, Drop, PartialEq, Eq)]
 pub struct PassedOver {
     /// How many segments were passed over; 0 for a page that is whole.

@@ -1,5 +1,8 @@
 //! How strictly data is read.
 ghost use Rattle.std.specs.Prelude.{◌≡◌, false};
+ghost use Rattle.jbig2_base.specs.Reading.{reading_of};
+
+use jbig2_base::reading::Reading;
 
 /// How strictly data is read. The default is lenient.
 #[derive(Clone, Copy, Debug)]
@@ -13,5 +16,13 @@ impl Default for DecodeSettings {
 
     fn default() -> DecodeSettings {
         DecodeSettings { strict: false }
+    }
+}
+
+impl DecodeSettings {
+    pub(crate) fn reading(&self) -> Reading
+        ensures { result ≡ reading_of self.now.strict }
+    {
+        Reading::of(self.strict)
     }
 }

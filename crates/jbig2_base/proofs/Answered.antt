@@ -5,9 +5,10 @@ use Rattle.std.specs.Int.{Width, w32}
 use Rattle.jbig2_base.specs.Answer.{◌>>=◌, refuse_if, some_or}
 use Rattle.jbig2_base.specs.Bits.{Place, bits_left, bits_next}
 use Rattle.jbig2_base.specs.Fields.{bits_at, bytes_at, number_at, signed_at}
-use Rattle.jbig2_base.specs.File.{file_at, gathered, headers_in, segments_by, file_header_at, page_count_at}
+use Rattle.jbig2_base.specs.File.{file_at, gathered, gathered_before, header_goes_on, headers_in, segments_by, file_header_at, page_count_at}
 use Rattle.jbig2_base.specs.Combination.{operator_of}
-use Rattle.jbig2_base.specs.PageInfo.{first_information, height_of, information_at, initial_page_of, initial_page_with}
+use Rattle.jbig2_base.specs.PageInfo.{first_information, height_of, information_at, initial_page_by, initial_page_of, initial_page_with, stripes_height}
+use Rattle.jbig2_base.specs.Reading.{is_strict, is_salvaged}
 use Rattle.jbig2_base.specs.Segment.{Header, SegmentView, count_at, data_at, first_end_marker, header_at, length_of, long_count_at, referred_at, segment_at, segment_data_at, unknown_length_of}
 use Rattle.jbig2_base.specs.Sequential.{goes_on, is_cut_off, is_end_of_file, segments_in, sequential, sorted_segments}
 use Rattle.jbig2_base.specs.declared.error.DecodeError.{DecodeError}
@@ -18,9 +19,9 @@ use Rattle.jbig2_base.specs.declared.error.TemplateError.TheVariants.{Invalid}
 use Rattle.jbig2_base.specs.declared.file_header.FileOrganization.{FileOrganization}
 use Rattle.jbig2_base.specs.declared.file_header.FileOrganization.TheVariants.{Sequential, RandomAccess}
 use Rattle.jbig2_base.specs.declared.page_info.PageInformation.{PageInformation}
+use Rattle.jbig2_base.specs.declared.reading.Reading.{Reading}
 use Rattle.jbig2_base.specs.declared.segment.SegmentType.{SegmentType}
 use Rattle.jbig2_base.proofs.Causes.{cause-bytes, cause-number, cause-refused}
-use Rattle.jbig2_base.proofs.RandomAccess.{with_header}
 
 -- An error that bytes can bring about. The others are want of memory, and three that stand in the enums for their
 -- matchers alone.
@@ -91,9 +92,12 @@ answered-height stated stripes = search (answered-next, answered-if, answered-re
 answered-sides : (number : ℕ) (info : PageInformation) (height : ℕ) → Answered (initial_page_with number info height)
 answered-sides number info height = search (answered-next, answered-refusal)
 
+pub answered-initial_page_by : (told : ℕ) (ps : List SegmentView) → Answered (initial_page_by told ps)
+answered-initial_page_by told ps = search (answered-next, answered-first, answered-information, answered-height, answered-sides) depth 8
+
 pub answered-initial_page : (ps : List SegmentView) → Answered (initial_page_of ps)
 unfolding initial_page_of
-answered-initial_page ps = search (answered-next, answered-first, answered-information, answered-height, answered-sides) depth 8
+answered-initial_page ps = answered-initial_page_by (stripes_height ps) ps
 
 -- ---- segments
 answered-long : (high : ℕ) (bytes : List ℕ) → Answered (long_count_at high bytes)
@@ -126,7 +130,7 @@ answered-data : (n : Option ℕ) (bytes : List ℕ) → Answered (data_at n byte
 answered-data (Some n) bytes = answered-bytes n bytes
 answered-data None bytes = answered-next (unknown_length_of bytes) _ (answered-unknown bytes) (λ n. answered-bytes n bytes)
 
-answered-segment_data : (header : Header) (bytes : List ℕ) → Answered (segment_data_at header bytes)
+pub answered-segment_data : (header : Header) (bytes : List ℕ) → Answered (segment_data_at header bytes)
 answered-segment_data header bytes = answered-next (data_at header.data_length bytes) _ (answered-data header.data_length bytes) (λ coded. tt)
 
 pub answered-segment : (strict : Bool) (bytes : List ℕ) → Answered (segment_at strict bytes)
@@ -134,45 +138,51 @@ unfolding segment_at
 answered-segment strict bytes = search (answered-next, answered-header, answered-segment_data)
 
 -- ---- lists of segments
-answered-on : (strict : Bool) (r : Result (SegmentView × List ℕ) DecodeError) (others : List ℕ → Result (List SegmentView) DecodeError)
-    → Answered r → ((bytes : List ℕ) → Answered (others bytes)) → Answered (goes_on strict r others)
-answered-on strict (Ok x) others first rest =
+answered-on : (reading : Reading) (r : Result (SegmentView × List ℕ) DecodeError) (others : List ℕ → Result (List SegmentView) DecodeError)
+    → Answered r → ((bytes : List ℕ) → Answered (others bytes)) → Answered (goes_on reading r others)
+answered-on reading (Ok x) others first rest =
     answered-if (is_end_of_file x.0.header.segment_type) (Ok (x.0 ∷ [])) (others x.1 >>= λ ps. Ok (x.0 ∷ ps)) tt (answered-next (others x.1) _ (rest x.1) (λ ps. tt))
-answered-on strict (Err e) others first rest = answered-if (is_cut_off strict e) (Ok []) (Err e) tt first
+answered-on reading (Err e) others first rest = answered-if (is_cut_off reading e) (Ok []) (Err e) tt first
 
-answered-segments : (most : ℕ) (strict : Bool) (bytes : List ℕ) → Answered (segments_in most strict bytes)
+answered-segments : (most : ℕ) (reading : Reading) (bytes : List ℕ) → Answered (segments_in most reading bytes)
 unfolding segments_in
-answered-segments zero strict bytes = tt
-answered-segments (suc most) strict bytes =
-    answered-if (eqb (length bytes) 0) (Ok []) _ tt (answered-on strict (segment_at strict bytes) (segments_in most strict) (answered-segment strict bytes) (answered-segments most strict))
+answered-segments zero reading bytes = tt
+answered-segments (suc most) reading bytes =
+    answered-if (eqb (length bytes) 0) (Ok []) _ tt (answered-on reading (segment_at (is_strict reading) bytes) (segments_in most reading) (answered-segment (is_strict reading) bytes) (answered-segments most reading))
 
-pub answered-sequential : (strict : Bool) (bytes : List ℕ) → Answered (sequential strict bytes)
-answered-sequential strict bytes = answered-segments (length bytes) strict bytes
+pub answered-sequential : (reading : Reading) (bytes : List ℕ) → Answered (sequential reading bytes)
+answered-sequential reading bytes = answered-segments (length bytes) reading bytes
 
-pub answered-sorted : (strict : Bool) (bytes : List ℕ) → Answered (sorted_segments strict bytes)
-answered-sorted strict bytes = answered-next (sequential strict bytes) _ (answered-sequential strict bytes) (λ ps. tt)
+pub answered-sorted : (reading : Reading) (bytes : List ℕ) → Answered (sorted_segments reading bytes)
+answered-sorted reading bytes = answered-next (sequential reading bytes) _ (answered-sequential reading bytes) (λ ps. tt)
 
-answered-with : (h : Header × List ℕ) (others : List ℕ → Result (List Header × List ℕ) DecodeError) → ((bytes : List ℕ) → Answered (others bytes)) → Answered (with_header h others)
-answered-with h others rest =
+answered-header-on : (reading : Reading) (bytes : List ℕ) (r : Result (Header × List ℕ) DecodeError) (others : List ℕ → Result (List Header × List ℕ) DecodeError)
+    → Answered r → ((rest : List ℕ) → Answered (others rest)) → Answered (header_goes_on reading bytes r others)
+answered-header-on reading bytes (Ok h) others first rest =
     answered-if (is_end_of_file h.0.segment_type) (Ok (h.0 ∷ [], h.1)) (others h.1 >>= λ hs. Ok (h.0 ∷ hs.0, hs.1)) tt (answered-next (others h.1) _ (rest h.1) (λ hs. tt))
+answered-header-on reading bytes (Err e) others first rest = answered-if (is_salvaged reading e) (Ok ([], bytes)) (Err e) tt first
 
-answered-headers : (most : ℕ) (strict : Bool) (bytes : List ℕ) → Answered (headers_in most strict bytes)
+answered-headers : (most : ℕ) (reading : Reading) (bytes : List ℕ) → Answered (headers_in most reading bytes)
 unfolding headers_in
-answered-headers zero strict bytes = tt
-answered-headers (suc most) strict bytes =
+answered-headers zero reading bytes = tt
+answered-headers (suc most) reading bytes =
     answered-if (eqb (length bytes) 0) (Ok ([], bytes)) _ tt
-    (answered-next (header_at strict bytes) _ (answered-header strict bytes) (λ h. answered-with h (headers_in most strict) (answered-headers most strict)))
+    (answered-header-on reading bytes (header_at (is_strict reading) bytes) (headers_in most reading) (answered-header (is_strict reading) bytes) (answered-headers most reading))
 
-answered-gathered : (hs : List Header) (bytes : List ℕ) → Answered (gathered hs bytes)
-answered-gathered [] bytes = tt
-answered-gathered (h ∷ hs) bytes =
-    answered-next (segment_data_at h bytes) _ (answered-segment_data h bytes) (λ p. answered-next (gathered hs p.1) _ (answered-gathered hs p.1) (λ ps. tt))
+answered-before : (reading : Reading) (r : Result (SegmentView × List ℕ) DecodeError) (others : List ℕ → Result (List SegmentView) DecodeError)
+    → Answered r → ((rest : List ℕ) → Answered (others rest)) → Answered (gathered_before reading r others)
+answered-before reading (Ok p) others first rest = answered-next (others p.1) _ (rest p.1) (λ ps. tt)
+answered-before reading (Err e) others first rest = answered-if (is_salvaged reading e) (Ok []) (Err e) tt first
 
-answered-by : (organization : FileOrganization) (strict : Bool) (bytes : List ℕ) → Answered (segments_by organization strict bytes)
-answered-by Sequential strict bytes = answered-sequential strict bytes
-answered-by RandomAccess strict bytes =
-    answered-next (headers_in (length bytes) strict bytes) _ (answered-headers (length bytes) strict bytes) (λ hs. answered-gathered hs.0 hs.1)
+answered-gathered : (reading : Reading) (hs : List Header) (bytes : List ℕ) → Answered (gathered reading hs bytes)
+answered-gathered reading [] bytes = tt
+answered-gathered reading (h ∷ hs) bytes = answered-before reading (segment_data_at h bytes) (gathered reading hs) (answered-segment_data h bytes) (answered-gathered reading hs)
 
-pub answered-file : (strict : Bool) (bytes : List ℕ) → Answered (file_at strict bytes)
+answered-by : (organization : FileOrganization) (reading : Reading) (bytes : List ℕ) → Answered (segments_by organization reading bytes)
+answered-by Sequential reading bytes = answered-sequential reading bytes
+answered-by RandomAccess reading bytes =
+    answered-next (headers_in (length bytes) reading bytes) _ (answered-headers (length bytes) reading bytes) (λ hs. answered-gathered reading hs.0 hs.1)
+
+pub answered-file : (reading : Reading) (bytes : List ℕ) → Answered (file_at reading bytes)
 unfolding file_at
-answered-file strict bytes = search (answered-next, answered-file_header, answered-by)
+answered-file reading bytes = search (answered-next, answered-file_header, answered-by)

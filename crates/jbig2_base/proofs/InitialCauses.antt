@@ -3,9 +3,10 @@ use Rattle.std.proofs.Common.{◌≡◌, ℕ, zero, suc, ◌+◌, ◌<◌, ◌�
 use Rattle.std.specs.Prelude.{◌≢◌, ◌⊎◌, ◌&&◌, ◌||◌, All, Any, IfErr}
 use Rattle.std.specs.Int.{w32, from_be_bytes}
 use Rattle.std.proofs.lemmas.Bool.{cond_both, cond-true, eqb-true, eqb-false, eq-eqb, ne_eqb, ltb-true, ltb-false, and_from, and_parts, or_cases, not-true, not_from_false, true≢false, false≢true}
+use Rattle.std.proofs.lemmas.Result.{IfErr-weaker}
 use Rattle.jbig2_base.specs.Answer.{◌>>=◌, refuse_if}
-use Rattle.jbig2_base.specs.Causes.{HasCause, FirstInformation, TellsHeight, BreaksInitialPage, number_in}
-use Rattle.jbig2_base.specs.PageInfo.{first_information, height_of, information_at, initial_page_of, initial_page_with, is_end_of_stripe, is_page_information, stripe_height, stripes_height}
+use Rattle.jbig2_base.specs.Causes.{HasCause, FirstInformation, LeavesHeightOpen, TellsHeight, BreaksInitialPage, BreaksInitialPageBy, number_in}
+use Rattle.jbig2_base.specs.PageInfo.{first_information, height_of, information_at, initial_page_by, initial_page_of, initial_page_with, is_end_of_stripe, is_page_information, stripe_height, stripes_height}
 use Rattle.jbig2_base.specs.Segment.{SegmentView}
 use Rattle.jbig2_base.specs.declared.error.DecodeError.{DecodeError}
 use Rattle.jbig2_base.specs.declared.error.DecodeError.TheVariants.{Format, Overflow}
@@ -127,9 +128,9 @@ sides-told P number info height empty large =
     next-refusal Q P (eqb info.width 0 || eqb height 0) _ _ (λ none. empty (either (or_cases (eqb info.width 0) (eqb height 0) none))) (λ some.
     next-refusal Q P (ltb 65535 info.width || ltb 65535 height) _ _ (λ much. large (longer (or_cases (ltb 65535 info.width) (ltb 65535 height) much))) (λ fits. tt))
 
-no-side : (ps : List SegmentView) (bytes : List ℕ) (info : PageInformation × List ℕ) (height : ℕ) → FirstInformation (λ bs. bs ≡ bytes) ps → HasSize bytes info → IsHeight info.0.height (stripes_height ps) height
-    → (info.0.width ≡ 0) ⊎ (height ≡ 0) → BreaksInitialPage ps (Format EmptyPage)
-no-side ps bytes info height is size known none =
+no-side : (told : ℕ) (ps : List SegmentView) (bytes : List ℕ) (info : PageInformation × List ℕ) (height : ℕ) → FirstInformation (λ bs. bs ≡ bytes) ps → HasSize bytes info → IsHeight info.0.height told height
+    → (info.0.width ≡ 0) ⊎ (height ≡ 0) → BreaksInitialPageBy told ps (Format EmptyPage)
+no-side told ps bytes info height is size known none =
     let Q : List ℕ → Type 0 = λ bs. (19 ≤ length bs) × ((number_in w32 0 bs ≡ 0) ⊎ (number_in w32 4 bs ≡ 0)) in
     first-holds Q bytes ps is (
       size.0,
@@ -143,29 +144,47 @@ no-side ps bytes info height is size known none =
           none,
     )
 
-large-side : (ps : List SegmentView) (bytes : List ℕ) (info : PageInformation × List ℕ) (height : ℕ) → FirstInformation (λ bs. bs ≡ bytes) ps → HasSize bytes info → IsHeight info.0.height (stripes_height ps) height
-    → (65535 < info.0.width) ⊎ (65535 < height) → BreaksInitialPage ps (Overflow BitmapDimension)
-large-side ps bytes info height is size known much =
-    ⊎_elim {C = BreaksInitialPage ps (Overflow BitmapDimension)}
-    (λ wide. inl (first-holds (λ bs. (19 ≤ length bs) × (65535 < number_in w32 0 bs)) bytes ps is (size.0, omega (arith, wide, size.1))))
+leaves-open : (ps : List SegmentView) (bytes : List ℕ) (info : PageInformation × List ℕ) → FirstInformation (λ bs. bs ≡ bytes) ps → HasSize bytes info → info.0.height ≡ 4294967295 → LeavesHeightOpen ps
+leaves-open ps bytes info is size ones =
+    first-holds (λ bs. (19 ≤ length bs) × (number_in w32 4 bs ≡ 4294967295)) bytes ps is (size.0, sym size.2 ∙ ones)
+
+large-side : (told : ℕ) (ps : List SegmentView) (bytes : List ℕ) (info : PageInformation × List ℕ) (height : ℕ) → FirstInformation (λ bs. bs ≡ bytes) ps → HasSize bytes info → IsHeight info.0.height told height
+    → (65535 < info.0.width) ⊎ (65535 < height) → BreaksInitialPageBy told ps (Overflow BitmapDimension)
+large-side told ps bytes info height is size known much =
+    ⊎_elim {C = BreaksInitialPageBy told ps (Overflow BitmapDimension)}
+    (λ wide. inl (inl (first-holds (λ bs. (19 ≤ length bs) × (65535 < number_in w32 0 bs)) bytes ps is (size.0, omega (arith, wide, size.1)))))
     (λ high.
-    ⊎_elim {C = BreaksInitialPage ps (Overflow BitmapDimension)}
-    (λ stated. inr (inl (first-holds (λ bs. (19 ≤ length bs) × (65535 < number_in w32 4 bs) × (number_in w32 4 bs ≢ 4294967295)) bytes ps is (size.0, omega (arith, high, stated.1, size.2), λ ones. stated.0 (size.2 ∙ ones)))))
-    (λ open_height. inr (inr (first-holds (λ bs. (19 ≤ length bs) × (number_in w32 4 bs ≡ 4294967295)) bytes ps is (size.0, sym size.2 ∙ open_height.0), any-too-much ps (omega (arith, high, open_height.2)))))
+    ⊎_elim {C = BreaksInitialPageBy told ps (Overflow BitmapDimension)}
+    (λ stated. inl (inr (first-holds (λ bs. (19 ≤ length bs) × (65535 < number_in w32 4 bs) × (number_in w32 4 bs ≢ 4294967295)) bytes ps is (size.0, omega (arith, high, stated.1, size.2), λ ones. stated.0 (size.2 ∙ ones)))))
+    (λ open_height. inr (leaves-open ps bytes info is size open_height.0, omega (arith, high, open_height.2)))
     known)
     much
+
+pub initial_page_by_causes : (told : ℕ) (ps : List SegmentView) → IfErr (initial_page_by told ps) (BreaksInitialPageBy told ps)
+initial_page_by_causes told ps =
+    let P : DecodeError → Type 0 = BreaksInitialPageBy told ps in
+    let R : InitialPage → Type 0 = λ page. Unit {0} in
+    told-cause R P (initial_page_by told ps)
+    (told-next (λ (p : SegmentView). FirstInformation (λ bs. bs ≡ p.bytes) ps) R P (first_information ps) _ (first-told P ps (λ none. none)) (λ first is.
+    told-next (HasSize first.bytes) R P (information_at first.bytes) _ (information-told P first.bytes (λ short. first-holds (λ bs. length bs < 19) first.bytes ps is short)) (λ info size.
+    told-next (IsHeight info.0.height told) R P (height_of info.0.height told) _
+    (height-told P info.0.height told (λ ones none. (leaves-open ps first.bytes info is size ones, none)))
+    (λ height known. sides-told P first.header.page_association info.0 height (no-side told ps first.bytes info height is size known) (large-side told ps first.bytes info height is size known)))))
+
+pub initial_page_by_cause : {X : Type 0} (told : ℕ) (ps : List SegmentView) (r : Result X DecodeError) → IfErr r (λ e. initial_page_by told ps ≡ Err e) → HasCause r (BreaksInitialPageBy told ps)
+initial_page_by_cause told ps r = call-cause (BreaksInitialPageBy told ps) (initial_page_by told ps) r (initial_page_by_causes told ps)
+
+-- what the stripes tell, by their own bytes
+by-stripes : (ps : List SegmentView) (e : DecodeError) → BreaksInitialPageBy (stripes_height ps) ps e → BreaksInitialPage ps e
+by-stripes ps (Format UnknownPageHeight) broken = (broken.0, none-tells ps broken.1)
+by-stripes ps (Overflow BitmapDimension) broken =
+    ⊎_elim {C = BreaksInitialPage ps (Overflow BitmapDimension)} (λ stated. inl stated) (λ much. inr (much.0, any-too-much ps much.1)) broken
+by-stripes ps _ broken = broken
 
 pub initial_page_causes : (ps : List SegmentView) → IfErr (initial_page_of ps) (BreaksInitialPage ps)
 unfolding initial_page_of
 initial_page_causes ps =
-    let P : DecodeError → Type 0 = BreaksInitialPage ps in
-    let R : InitialPage → Type 0 = λ page. Unit {0} in
-    told-cause R P (initial_page_of ps)
-    (told-next (λ (p : SegmentView). FirstInformation (λ bs. bs ≡ p.bytes) ps) R P (first_information ps) _ (first-told P ps (λ none. none)) (λ first is.
-    told-next (HasSize first.bytes) R P (information_at first.bytes) _ (information-told P first.bytes (λ short. first-holds (λ bs. length bs < 19) first.bytes ps is short)) (λ info size.
-    told-next (IsHeight info.0.height (stripes_height ps)) R P (height_of info.0.height (stripes_height ps)) _
-    (height-told P info.0.height (stripes_height ps) (λ ones none. (first-holds (λ bs. (19 ≤ length bs) × (number_in w32 4 bs ≡ 4294967295)) first.bytes ps is (size.0, sym size.2 ∙ ones), none-tells ps none)))
-    (λ height known. sides-told P first.header.page_association info.0 height (no-side ps first.bytes info height is size known) (large-side ps first.bytes info height is size known)))))
+    IfErr-weaker (initial_page_of ps) (BreaksInitialPageBy (stripes_height ps) ps) (BreaksInitialPage ps) (by-stripes ps) (initial_page_by_causes (stripes_height ps) ps)
 
 pub initial_page_cause : {X : Type 0} (ps : List SegmentView) (r : Result X DecodeError) → IfErr r (λ e. initial_page_of ps ≡ Err e) → HasCause r (BreaksInitialPage ps)
 initial_page_cause ps r = call-cause (BreaksInitialPage ps) (initial_page_of ps) r (initial_page_causes ps)

@@ -7,15 +7,17 @@ use Rattle.std.specs.List.{flat_map}
 use Rattle.std.specs.Result.{is_ok}
 use Rattle.jbig2_base.specs.Answer.{◌>>=◌}
 use Rattle.jbig2_base.specs.Fields.{bytes_at, end_of_bytes}
-use Rattle.jbig2_base.specs.File.{headers_in, gathered, segments_by, file_at, Spelled, IsSpelled, AreSpelled, SpellsFile, spelling}
+use Rattle.jbig2_base.specs.File.{header_goes_on, headers_in, gathered, gathered_before, segments_by, file_at, Spelled, IsSpelled, AreSpelled, SpellsFile, spelling}
+use Rattle.jbig2_base.specs.Reading.{is_strict}
 use Rattle.jbig2_base.specs.Segment.{Header, SegmentView, header_at, data_at, segment_data_at, segment_at}
 use Rattle.jbig2_base.specs.Sequential.{by_number, is_end_of_file, goes_on, segments_in}
 use Rattle.jbig2_base.specs.declared.error.DecodeError.{DecodeError}
 use Rattle.jbig2_base.specs.declared.file_header.FileHeader.{FileHeader}
 use Rattle.jbig2_base.specs.declared.file_header.FileOrganization.{FileOrganization}
 use Rattle.jbig2_base.specs.declared.file_header.FileOrganization.TheVariants.{Sequential, RandomAccess}
+use Rattle.jbig2_base.specs.declared.reading.Reading.{Reading}
 use Rattle.jbig2_base.proofs.Extends.{header_extends}
-use Rattle.jbig2_base.proofs.RandomAccess.{header_in, with_header}
+use Rattle.jbig2_base.proofs.RandomAccess.{header_in}
 use Rattle.jbig2_base.proofs.Sequential.{next_in}
 
 bytes_there : (xs rest : List ℕ) → bytes_at (length xs) (xs ++ rest) ≡ Ok (xs, rest)
@@ -48,17 +50,17 @@ some_bytes : (strict : Bool) (bytes : List ℕ) (h : Header) → header_at stric
 some_bytes strict [] h e = absurd (false≢true (ap (λ (r : Result (Header × List ℕ) DecodeError). is_ok r) (sym (no_bytes strict) ∙ e)))
 some_bytes strict (b ∷ bs) h e = omega arith
 
-segment_read : (most : ℕ) (strict : Bool) (s : Spelled) (rest : List ℕ) → IsSpelled strict s → length (s.header_bytes ++ (s.segment.bytes ++ rest)) ≤ most → segments_in most strict (s.header_bytes ++ (s.segment.bytes ++ rest)) ≡ goes_on strict (Ok (s.segment, rest)) (segments_in (most - 1) strict)
-segment_read most strict s rest is enough =
+segment_read : (most : ℕ) (reading : Reading) (s : Spelled) (rest : List ℕ) → IsSpelled (is_strict reading) s → length (s.header_bytes ++ (s.segment.bytes ++ rest)) ≤ most → segments_in most reading (s.header_bytes ++ (s.segment.bytes ++ rest)) ≡ goes_on reading (Ok (s.segment, rest)) (segments_in (most - 1) reading)
+segment_read most reading s rest is enough =
     let bytes = s.header_bytes ++ (s.segment.bytes ++ rest) in
-    let some : 0 < length bytes = omega (arith, length-append s.header_bytes (s.segment.bytes ++ rest), some_bytes strict s.header_bytes s.segment.header is.accepted) in
+    let some : 0 < length bytes = omega (arith, length-append s.header_bytes (s.segment.bytes ++ rest), some_bytes (is_strict reading) s.header_bytes s.segment.header is.accepted) in
     let next : most ≡ suc (most - 1) = omega (arith, some, enough) in
-    ap (λ (n : ℕ). segments_in n strict bytes) next
-    ∙ next_in (most - 1) strict bytes some
-    ∙ ap (λ (r : Result (SegmentView × List ℕ) DecodeError). goes_on strict r (segments_in (most - 1) strict)) (segment_there strict s rest is)
+    ap (λ (n : ℕ). segments_in n reading bytes) next
+    ∙ next_in (most - 1) reading bytes some
+    ∙ ap (λ (r : Result (SegmentView × List ℕ) DecodeError). goes_on reading r (segments_in (most - 1) reading)) (segment_there (is_strict reading) s rest is)
 
-shorter : (strict : Bool) (s : Spelled) (xs rest : List ℕ) (most : ℕ) → IsSpelled strict s → length (s.header_bytes ++ (xs ++ rest)) ≤ most → length rest ≤ most - 1
-shorter strict s xs rest most is enough = omega (arith, enough, length-append s.header_bytes (xs ++ rest), length-append xs rest, some_bytes strict s.header_bytes s.segment.header is.accepted)
+shorter : (reading : Reading) (s : Spelled) (xs rest : List ℕ) (most : ℕ) → IsSpelled (is_strict reading) s → length (s.header_bytes ++ (xs ++ rest)) ≤ most → length rest ≤ most - 1
+shorter reading s xs rest most is enough = omega (arith, enough, length-append s.header_bytes (xs ++ rest), length-append xs rest, some_bytes (is_strict reading) s.header_bytes s.segment.header is.accepted)
 
 abbrev pub spelled_segments : List Spelled → List SegmentView
 spelled_segments ss = map (λ s. s.segment) ss
@@ -73,67 +75,67 @@ all_headers ss = flat_map (λ s. s.header_bytes) ss
 abbrev all_data : List Spelled → List ℕ
 all_data ss = flat_map (λ s. s.segment.bytes) ss
 
-turns_read : (most : ℕ) (strict : Bool) (ss : List Spelled) → length (by_turns ss) ≤ most → AreSpelled strict ss → segments_in most strict (by_turns ss) ≡ Ok (spelled_segments ss)
-turns_read most strict [] enough are = absurd are
-turns_read most strict (s ∷ []) enough are =
+turns_read : (most : ℕ) (reading : Reading) (ss : List Spelled) → length (by_turns ss) ≤ most → AreSpelled (is_strict reading) ss → segments_in most reading (by_turns ss) ≡ Ok (spelled_segments ss)
+turns_read most reading [] enough are = absurd are
+turns_read most reading (s ∷ []) enough are =
     let seam : (s.header_bytes ++ s.segment.bytes) ++ [] ≡ s.header_bytes ++ (s.segment.bytes ++ []) = append_assoc s.header_bytes s.segment.bytes [] in
-    ap (λ (bytes : List ℕ). segments_in most strict bytes) seam
-    ∙ segment_read most strict s [] are.0 (subst (λ (bytes : List ℕ). length bytes ≤ most) seam enough)
-    ∙ cond-true (is_end_of_file s.segment.header.segment_type) (Ok (s.segment ∷ [])) (segments_in (most - 1) strict [] >>= λ ps. Ok (s.segment ∷ ps)) are.1
-turns_read most strict (s ∷ t ∷ ts) enough are =
+    ap (λ (bytes : List ℕ). segments_in most reading bytes) seam
+    ∙ segment_read most reading s [] are.0 (subst (λ (bytes : List ℕ). length bytes ≤ most) seam enough)
+    ∙ cond-true (is_end_of_file s.segment.header.segment_type) (Ok (s.segment ∷ [])) (segments_in (most - 1) reading [] >>= λ ps. Ok (s.segment ∷ ps)) are.1
+turns_read most reading (s ∷ t ∷ ts) enough are =
     let rest = by_turns (t ∷ ts) in
     let seam : (s.header_bytes ++ s.segment.bytes) ++ rest ≡ s.header_bytes ++ (s.segment.bytes ++ rest) = append_assoc s.header_bytes s.segment.bytes rest in
     let room : length (s.header_bytes ++ (s.segment.bytes ++ rest)) ≤ most = subst (λ (bytes : List ℕ). length bytes ≤ most) seam enough in
-    ap (λ (bytes : List ℕ). segments_in most strict bytes) seam
-    ∙ segment_read most strict s rest are.0 room
-    ∙ cond-false (is_end_of_file s.segment.header.segment_type) (Ok (s.segment ∷ [])) (segments_in (most - 1) strict rest >>= λ ps. Ok (s.segment ∷ ps)) are.1
-    ∙ ap (λ (r : Result (List SegmentView) DecodeError). r >>= λ ps. Ok (s.segment ∷ ps)) (turns_read (most - 1) strict (t ∷ ts) (shorter strict s s.segment.bytes rest most are.0 room) are.2)
+    ap (λ (bytes : List ℕ). segments_in most reading bytes) seam
+    ∙ segment_read most reading s rest are.0 room
+    ∙ cond-false (is_end_of_file s.segment.header.segment_type) (Ok (s.segment ∷ [])) (segments_in (most - 1) reading rest >>= λ ps. Ok (s.segment ∷ ps)) are.1
+    ∙ ap (λ (r : Result (List SegmentView) DecodeError). r >>= λ ps. Ok (s.segment ∷ ps)) (turns_read (most - 1) reading (t ∷ ts) (shorter reading s s.segment.bytes rest most are.0 room) are.2)
 
 abbrev headers_of : List Spelled → List Header
 headers_of ss = map (λ s. s.segment.header) ss
 
-header_read : (most : ℕ) (strict : Bool) (s : Spelled) (rest : List ℕ) → IsSpelled strict s → length (s.header_bytes ++ rest) ≤ most → headers_in most strict (s.header_bytes ++ rest) ≡ with_header (s.segment.header, rest) (headers_in (most - 1) strict)
-header_read most strict s rest is enough =
+header_read : (most : ℕ) (reading : Reading) (s : Spelled) (rest : List ℕ) → IsSpelled (is_strict reading) s → length (s.header_bytes ++ rest) ≤ most → headers_in most reading (s.header_bytes ++ rest) ≡ header_goes_on reading (s.header_bytes ++ rest) (Ok (s.segment.header, rest)) (headers_in (most - 1) reading)
+header_read most reading s rest is enough =
     let bytes = s.header_bytes ++ rest in
-    let some : 0 < length bytes = omega (arith, length-append s.header_bytes rest, some_bytes strict s.header_bytes s.segment.header is.accepted) in
+    let some : 0 < length bytes = omega (arith, length-append s.header_bytes rest, some_bytes (is_strict reading) s.header_bytes s.segment.header is.accepted) in
     let next : most ≡ suc (most - 1) = omega (arith, some, enough) in
-    ap (λ (n : ℕ). headers_in n strict bytes) next
-    ∙ header_in (most - 1) strict bytes some
-    ∙ ap (λ (r : Result (Header × List ℕ) DecodeError). r >>= λ h. with_header h (headers_in (most - 1) strict)) (header_there strict s rest is)
+    ap (λ (n : ℕ). headers_in n reading bytes) next
+    ∙ header_in (most - 1) reading bytes some
+    ∙ ap (λ (r : Result (Header × List ℕ) DecodeError). header_goes_on reading bytes r (headers_in (most - 1) reading)) (header_there (is_strict reading) s rest is)
 
-headers_read : (most : ℕ) (strict : Bool) (ss : List Spelled) (rest : List ℕ) → length (all_headers ss ++ rest) ≤ most → AreSpelled strict ss → headers_in most strict (all_headers ss ++ rest) ≡ Ok (headers_of ss, rest)
-headers_read most strict [] rest enough are = absurd are
-headers_read most strict (s ∷ []) rest enough are =
+headers_read : (most : ℕ) (reading : Reading) (ss : List Spelled) (rest : List ℕ) → length (all_headers ss ++ rest) ≤ most → AreSpelled (is_strict reading) ss → headers_in most reading (all_headers ss ++ rest) ≡ Ok (headers_of ss, rest)
+headers_read most reading [] rest enough are = absurd are
+headers_read most reading (s ∷ []) rest enough are =
     let seam : (s.header_bytes ++ []) ++ rest ≡ s.header_bytes ++ rest = append_assoc s.header_bytes [] rest in
-    ap (λ (bytes : List ℕ). headers_in most strict bytes) seam
-    ∙ header_read most strict s rest are.0 (subst (λ (bytes : List ℕ). length bytes ≤ most) seam enough)
-    ∙ cond-true (is_end_of_file s.segment.header.segment_type) (Ok (s.segment.header ∷ [], rest)) (headers_in (most - 1) strict rest >>= λ hs. Ok (s.segment.header ∷ hs.0, hs.1)) are.1
-headers_read most strict (s ∷ t ∷ ts) rest enough are =
+    ap (λ (bytes : List ℕ). headers_in most reading bytes) seam
+    ∙ header_read most reading s rest are.0 (subst (λ (bytes : List ℕ). length bytes ≤ most) seam enough)
+    ∙ cond-true (is_end_of_file s.segment.header.segment_type) (Ok (s.segment.header ∷ [], rest)) (headers_in (most - 1) reading rest >>= λ hs. Ok (s.segment.header ∷ hs.0, hs.1)) are.1
+headers_read most reading (s ∷ t ∷ ts) rest enough are =
     let others = all_headers (t ∷ ts) ++ rest in
     let seam : (s.header_bytes ++ all_headers (t ∷ ts)) ++ rest ≡ s.header_bytes ++ others = append_assoc s.header_bytes (all_headers (t ∷ ts)) rest in
     let room : length (s.header_bytes ++ others) ≤ most = subst (λ (bytes : List ℕ). length bytes ≤ most) seam enough in
-    ap (λ (bytes : List ℕ). headers_in most strict bytes) seam
-    ∙ header_read most strict s others are.0 room
-    ∙ cond-false (is_end_of_file s.segment.header.segment_type) (Ok (s.segment.header ∷ [], others)) (headers_in (most - 1) strict others >>= λ hs. Ok (s.segment.header ∷ hs.0, hs.1)) are.1
-    ∙ ap (λ (r : Result (List Header × List ℕ) DecodeError). r >>= λ hs. Ok (s.segment.header ∷ hs.0, hs.1)) (headers_read (most - 1) strict (t ∷ ts) rest (shorter strict s [] others most are.0 room) are.2)
+    ap (λ (bytes : List ℕ). headers_in most reading bytes) seam
+    ∙ header_read most reading s others are.0 room
+    ∙ cond-false (is_end_of_file s.segment.header.segment_type) (Ok (s.segment.header ∷ [], others)) (headers_in (most - 1) reading others >>= λ hs. Ok (s.segment.header ∷ hs.0, hs.1)) are.1
+    ∙ ap (λ (r : Result (List Header × List ℕ) DecodeError). r >>= λ hs. Ok (s.segment.header ∷ hs.0, hs.1)) (headers_read (most - 1) reading (t ∷ ts) rest (shorter reading s [] others most are.0 room) are.2)
 
-data_read : (strict : Bool) (ss : List Spelled) → AreSpelled strict ss → gathered (headers_of ss) (all_data ss) ≡ Ok (spelled_segments ss)
-data_read strict [] are = refl
-data_read strict (s ∷ []) are =
-    ap (λ (r : Result (SegmentView × List ℕ) DecodeError). r >>= λ p. gathered [] p.1 >>= λ ps. Ok (p.0 ∷ ps)) (data_there strict s [] are.0)
-data_read strict (s ∷ t ∷ ts) are =
-    ap (λ (r : Result (SegmentView × List ℕ) DecodeError). r >>= λ p. gathered (headers_of (t ∷ ts)) p.1 >>= λ ps. Ok (p.0 ∷ ps)) (data_there strict s (all_data (t ∷ ts)) are.0)
-    ∙ ap (λ (r : Result (List SegmentView) DecodeError). r >>= λ ps. Ok (s.segment ∷ ps)) (data_read strict (t ∷ ts) are.2)
+data_read : (reading : Reading) (ss : List Spelled) → AreSpelled (is_strict reading) ss → gathered reading (headers_of ss) (all_data ss) ≡ Ok (spelled_segments ss)
+data_read reading [] are = refl
+data_read reading (s ∷ []) are =
+    ap (λ (r : Result (SegmentView × List ℕ) DecodeError). gathered_before reading r (gathered reading [])) (data_there (is_strict reading) s [] are.0)
+data_read reading (s ∷ t ∷ ts) are =
+    ap (λ (r : Result (SegmentView × List ℕ) DecodeError). gathered_before reading r (gathered reading (headers_of (t ∷ ts)))) (data_there (is_strict reading) s (all_data (t ∷ ts)) are.0)
+    ∙ ap (λ (r : Result (List SegmentView) DecodeError). r >>= λ ps. Ok (s.segment ∷ ps)) (data_read reading (t ∷ ts) are.2)
 
-spelling_read : (organization : FileOrganization) (strict : Bool) (ss : List Spelled) → AreSpelled strict ss → segments_by organization strict (spelling organization ss) ≡ Ok (spelled_segments ss)
-spelling_read Sequential strict ss are = turns_read (length (by_turns ss)) strict ss (omega arith) are
-spelling_read RandomAccess strict ss are =
-    ap (λ (r : Result (List Header × List ℕ) DecodeError). r >>= λ hs. gathered hs.0 hs.1) (headers_read (length (all_headers ss ++ all_data ss)) strict ss (all_data ss) (omega arith) are)
-    ∙ data_read strict ss are
+spelling_read : (organization : FileOrganization) (reading : Reading) (ss : List Spelled) → AreSpelled (is_strict reading) ss → segments_by organization reading (spelling organization ss) ≡ Ok (spelled_segments ss)
+spelling_read Sequential reading ss are = turns_read (length (by_turns ss)) reading ss (omega arith) are
+spelling_read RandomAccess reading ss are =
+    ap (λ (r : Result (List Header × List ℕ) DecodeError). r >>= λ hs. gathered reading hs.0 hs.1) (headers_read (length (all_headers ss ++ all_data ss)) reading ss (all_data ss) (omega arith) are)
+    ∙ data_read reading ss are
 
 -- A file is read as the segments that it spells.
-pub file_read : (strict : Bool) (bytes : List ℕ) (header : FileHeader) (ss : List Spelled) → SpellsFile strict bytes header ss → file_at strict bytes ≡ Ok (header, by_number (spelled_segments ss))
+pub file_read : (reading : Reading) (bytes : List ℕ) (header : FileHeader) (ss : List Spelled) → SpellsFile reading bytes header ss → file_at reading bytes ≡ Ok (header, by_number (spelled_segments ss))
 unfolding file_at
-file_read strict bytes header ss e =
-    ap (λ (r : Result (FileHeader × List ℕ) DecodeError). r >>= λ h. segments_by h.0.organization strict h.1 >>= λ ps. Ok (h.0, by_number ps)) e.0
-    ∙ ap (λ (r : Result (List SegmentView) DecodeError). r >>= λ ps. Ok (header, by_number ps)) (spelling_read header.organization strict ss e.1)
+file_read reading bytes header ss e =
+    ap (λ (r : Result (FileHeader × List ℕ) DecodeError). r >>= λ h. segments_by h.0.organization reading h.1 >>= λ ps. Ok (h.0, by_number ps)) e.0
+    ∙ ap (λ (r : Result (List SegmentView) DecodeError). r >>= λ ps. Ok (header, by_number ps)) (spelling_read header.organization reading ss e.1)

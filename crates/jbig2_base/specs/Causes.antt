@@ -47,21 +47,31 @@ abbrev pub TellsHeight : SegmentView → Type 0
 TellsHeight p =
     (p.header.segment_type ≡ types.EndOfStripe) × (length p.bytes ≡ 4) × (number_in w32 0 p.bytes ≢ 4294967295)
 
--- Page information has the width in its first four bytes and the height in the next four. A side is too long above 65535,
--- and the height is where a stripe's last row has the number 65535 or more.
+-- Page information has the width in its first four bytes and the height in the next four; a height of all ones is open.
+abbrev pub LeavesHeightOpen : List SegmentView → Type 0
+LeavesHeightOpen ps = FirstInformation (λ bytes. (19 ≤ length bytes) × (number_in w32 4 bytes ≡ 4294967295)) ps
+
+abbrev pub StatesLongSide : List SegmentView → Type 0  -- a side is too long above 65535
+StatesLongSide ps =
+    FirstInformation (λ bytes. (19 ≤ length bytes) × (65535 < number_in w32 0 bytes)) ps
+    ⊎ FirstInformation (λ bytes. (19 ≤ length bytes) × (65535 < number_in w32 4 bytes) × (number_in w32 4 bytes ≢ 4294967295)) ps
+
+-- An open height is what the stripes tell; it is too much where a stripe's last row has the number 65535 or more.
 abbrev pub BreaksInitialPage : List SegmentView → DecodeError → Type 0
 BreaksInitialPage ps (Format MissingPageInfo) = All (λ p. p.header.segment_type ≢ types.PageInformation) ps
 BreaksInitialPage ps (Parse UnexpectedEof) = FirstInformation (λ bytes. length bytes < 19) ps
-BreaksInitialPage ps (Format UnknownPageHeight) =
-    FirstInformation (λ bytes. (19 ≤ length bytes) × (number_in w32 4 bytes ≡ 4294967295)) ps × All (λ p. TellsHeight p → ⊥) ps
+BreaksInitialPage ps (Format UnknownPageHeight) = LeavesHeightOpen ps × All (λ p. TellsHeight p → ⊥) ps
 BreaksInitialPage ps (Format EmptyPage) =
     FirstInformation (λ bytes. (19 ≤ length bytes) × ((number_in w32 0 bytes ≡ 0) ⊎ (number_in w32 4 bytes ≡ 0))) ps
 BreaksInitialPage ps (Overflow BitmapDimension) =
-    FirstInformation (λ bytes. (19 ≤ length bytes) × (65535 < number_in w32 0 bytes)) ps
-    ⊎ FirstInformation (λ bytes. (19 ≤ length bytes) × (65535 < number_in w32 4 bytes) × (number_in w32 4 bytes ≢ 4294967295)) ps
-    ⊎ (FirstInformation (λ bytes. (19 ≤ length bytes) × (number_in w32 4 bytes ≡ 4294967295)) ps
-    × Any (λ p. TellsHeight p × (65535 ≤ number_in w32 0 p.bytes)) ps)
+    StatesLongSide ps ⊎ (LeavesHeightOpen ps × Any (λ p. TellsHeight p × (65535 ≤ number_in w32 0 p.bytes)) ps)
 BreaksInitialPage ps _ = ⊥
+
+-- An open height is this number, which is 0 where nothing tells it.
+abbrev pub BreaksInitialPageBy : ℕ → List SegmentView → DecodeError → Type 0
+BreaksInitialPageBy told_height ps (Format UnknownPageHeight) = LeavesHeightOpen ps × (told_height ≡ 0)
+BreaksInitialPageBy told_height ps (Overflow BitmapDimension) = StatesLongSide ps ⊎ (LeavesHeightOpen ps × (65535 < told_height))
+BreaksInitialPageBy told_height ps e = BreaksInitialPage ps e
 
 abbrev pub BreaksOperator : ℕ → DecodeError → Type 0  -- a combination operator (7.4.1.5)
 BreaksOperator n (Region InvalidCombinationOperator) = 5 ≤ n

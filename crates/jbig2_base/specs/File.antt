@@ -1,7 +1,7 @@
 -- Files (T.88, Annex D), in sequential organisation or in random access, all headers and then all data (D.2).
 -- `file_at` takes a file's bytes and gives its header (D.4) and its segments. `SpellsFile` is the way back.
-use Rattle.std.specs.{Prelude.{◌≡◌, ℕ, suc, zero, Bool, true, false, ◌==◌, List, [], ◌∷◌, ◌++◌, length, Some, Result, Ok, if◌then◌else◌, ◌/◌, ◌%◌, not, Option, None}, List.{flat_map}, Int.{w8, w32}, Str.{bytes_eq}}
-use Rattle.jbig2_base.specs.{Answer.{◌>>=◌, refuse_if}, Segment.{Header, SegmentView, header_at, segment_data_at}, Sequential.{by_number, is_end_of_file, sequential}, declared.{error.{DecodeError.{DecodeError, TheVariants.{Format}}, FormatError.TheVariants.{InvalidHeader, ReservedBits}}, file_header.{FileHeader.{FileHeader}, FileOrganization.{FileOrganization, TheVariants.{Sequential, RandomAccess}}}}, Fields.{bytes_at, number_at}}
+use Rattle.std.specs.{Prelude.{◌≡◌, ℕ, suc, zero, Bool, true, false, ◌==◌, List, [], ◌∷◌, ◌++◌, length, Some, Result, Ok, Err, if◌then◌else◌, ◌/◌, ◌%◌, not, Option, None}, List.{flat_map}, Int.{w8, w32}, Str.{bytes_eq}}
+use Rattle.jbig2_base.specs.{Answer.{◌>>=◌, refuse_if}, Reading.{is_strict, is_salvaged}, Segment.{Header, SegmentView, header_at, segment_data_at}, Sequential.{by_number, is_end_of_file, sequential}, declared.{error.{DecodeError.{DecodeError, TheVariants.{Format}}, FormatError.TheVariants.{InvalidHeader, ReservedBits}}, file_header.{FileHeader.{FileHeader}, FileOrganization.{FileOrganization, TheVariants.{Sequential, RandomAccess}}}, reading.Reading.{Reading}}, Fields.{bytes_at, number_at}}
 
 abbrev pub identification : List ℕ  -- the bytes that each file begins with (D.4.1)
 identification = 151 ∷ 74 ∷ 66 ∷ 50 ∷ 13 ∷ 10 ∷ 26 ∷ 10 ∷ []
@@ -28,27 +28,38 @@ file_header_at bytes = do
     pages.1,
   )
 
+-- What follows a header: nothing after that of an end of file, else the headers in the bytes that are left. Salvage ends
+-- the headers where one is refused, and takes the data from there.
+abbrev pub header_goes_on : Reading → List ℕ → Result (Header × List ℕ) DecodeError → (List ℕ → Result (List Header × List ℕ) DecodeError) → Result (List Header × List ℕ) DecodeError
+header_goes_on reading bytes (Ok h) others =
+    if is_end_of_file h.0.segment_type then Ok (h.0 ∷ [], h.1) else (others h.1 >>= λ hs. Ok (h.0 ∷ hs.0, hs.1))
+header_goes_on reading bytes (Err e) others = if is_salvaged reading e then Ok ([], bytes) else Err e
+
 -- the headers in the bytes, at most this many, up to that of an end of file, and the bytes after them; each has a byte
-unfoldable pub headers_in : ℕ → Bool → List ℕ → Result (List Header × List ℕ) DecodeError
-headers_in zero strict bytes = Ok ([], bytes)
-headers_in (suc most) strict bytes =
+unfoldable pub headers_in : ℕ → Reading → List ℕ → Result (List Header × List ℕ) DecodeError
+headers_in zero reading bytes = Ok ([], bytes)
+headers_in (suc most) reading bytes =
     if length bytes == 0 then Ok ([], bytes)
-    else (header_at strict bytes >>= λ h. if is_end_of_file h.0.segment_type then Ok (h.0 ∷ [], h.1)
-    else (headers_in most strict h.1 >>= λ hs. Ok (h.0 ∷ hs.0, hs.1)))
+    else header_goes_on reading bytes (header_at (is_strict reading) bytes) (headers_in most reading)
+
+-- a segment before the others; salvage drops one whose data isn't there, and those after it, for which no bytes are left
+abbrev pub gathered_before : Reading → Result (SegmentView × List ℕ) DecodeError → (List ℕ → Result (List SegmentView) DecodeError) → Result (List SegmentView) DecodeError
+gathered_before reading (Ok p) others = others p.1 >>= λ ps. Ok (p.0 ∷ ps)
+gathered_before reading (Err e) others = if is_salvaged reading e then Ok [] else Err e
 
 -- the segments with these headers, whose data stands one after the other
-abbrev pub gathered : List Header → List ℕ → Result (List SegmentView) DecodeError
-gathered [] bytes = Ok []
-gathered (h ∷ hs) bytes = segment_data_at h bytes >>= λ p. gathered hs p.1 >>= λ ps. Ok (p.0 ∷ ps)
+abbrev pub gathered : Reading → List Header → List ℕ → Result (List SegmentView) DecodeError
+gathered reading [] bytes = Ok []
+gathered reading (h ∷ hs) bytes = gathered_before reading (segment_data_at h bytes) (gathered reading hs)
 
-abbrev pub segments_by : FileOrganization → Bool → List ℕ → Result (List SegmentView) DecodeError
-segments_by Sequential strict bytes = sequential strict bytes
-segments_by RandomAccess strict bytes = headers_in (length bytes) strict bytes >>= λ hs. gathered hs.0 hs.1
+abbrev pub segments_by : FileOrganization → Reading → List ℕ → Result (List SegmentView) DecodeError
+segments_by Sequential reading bytes = sequential reading bytes
+segments_by RandomAccess reading bytes = headers_in (length bytes) reading bytes >>= λ hs. gathered reading hs.0 hs.1
 
-unfoldable pub file_at : Bool → List ℕ → Result (FileHeader × List SegmentView) DecodeError
-file_at strict bytes = do
+unfoldable pub file_at : Reading → List ℕ → Result (FileHeader × List SegmentView) DecodeError
+file_at reading bytes = do
   header ← file_header_at bytes
-  ps ← segments_by header.0.organization strict header.1
+  ps ← segments_by header.0.organization reading header.1
   Ok (header.0, by_number ps)
 
 -- The way back, from segments to the bytes of a file: a segment, and the bytes that spell its header.
@@ -74,6 +85,6 @@ spelling Sequential ss = flat_map (λ s. s.header_bytes ++ s.segment.bytes) ss
 spelling RandomAccess ss = flat_map (λ s. s.header_bytes) ss ++ flat_map (λ s. s.segment.bytes) ss
 
 -- The bytes are a file header and, in its organisation, these segments, which the mode accepts.
-abbrev pub SpellsFile : Bool → List ℕ → FileHeader → List Spelled → Type 0
-SpellsFile strict bytes header ss =
-    (file_header_at bytes ≡ Ok (header, spelling header.organization ss)) × AreSpelled strict ss
+abbrev pub SpellsFile : Reading → List ℕ → FileHeader → List Spelled → Type 0
+SpellsFile reading bytes header ss =
+    (file_header_at bytes ≡ Ok (header, spelling header.organization ss)) × AreSpelled (is_strict reading) ss

@@ -10,6 +10,7 @@ pub mod Fields
 pub mod File
 pub mod Grid
 pub mod PageInfo
+pub mod Reading
 pub mod Search
 pub mod Segment
 pub mod Sequential

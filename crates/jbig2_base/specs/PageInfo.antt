@@ -65,10 +65,10 @@ abbrev pub stripes_height : List SegmentView → ℕ
 stripes_height [] = 0
 stripes_height (p ∷ ps) = max (stripe_height p) (stripes_height ps)
 
--- A height of all ones is unknown; then the stripes tell it (7.4.8.2).
+-- A height of all ones is unknown; then it is what else tells it (7.4.8.2), which is 0 where nothing does.
 abbrev pub height_of : ℕ → ℕ → Result ℕ DecodeError
-height_of stated stripes =
-    if stated == 4294967295 then (refuse_if (stripes == 0) (Format UnknownPageHeight) >>= λ told. Ok stripes)
+height_of stated told_height =
+    if stated == 4294967295 then (refuse_if (told_height == 0) (Format UnknownPageHeight) >>= λ known. Ok told_height)
     else Ok stated
 
 -- a page of this size has pixels, and no more than a bitmap may have
@@ -78,9 +78,14 @@ initial_page_with number info height = do
   fits ← refuse_if (nat_lt 65535 info.width || nat_lt 65535 height) (Overflow BitmapDimension)
   Ok (record { number = number; width = info.width; height = height; default_pixel = info.flags.default_pixel })
 
-unfoldable pub initial_page_of : List SegmentView → Result InitialPage DecodeError
-initial_page_of ps = do
+-- what a page with these segments begins as, which is as high as this where page information leaves that open
+abbrev pub initial_page_by : ℕ → List SegmentView → Result InitialPage DecodeError
+initial_page_by told_height ps = do
   first ← first_information ps
   info ← information_at first.bytes
-  height ← height_of info.0.height (stripes_height ps)
+  height ← height_of info.0.height told_height
   initial_page_with first.header.page_association info.0 height
+
+-- the same where the stripes tell an open height
+unfoldable pub initial_page_of : List SegmentView → Result InitialPage DecodeError
+initial_page_of ps = initial_page_by (stripes_height ps) ps

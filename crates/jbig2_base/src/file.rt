@@ -1,31 +1,35 @@
 //! Files and lists of segments (T.88, Annex D).
-ghost use Rattle.std.specs.Prelude.{◌≡◌, Bool, List, length, map, Ok};
+ghost use Rattle.std.specs.Prelude.{◌≡◌, List, length, map, Ok};
 ghost use Rattle.jbig2_base.specs.Answer.{Gives};
 ghost use Rattle.jbig2_base.specs.Bits.{IsAligned};
 ghost use Rattle.jbig2_base.specs.File.{headers_in, gathered, segments_by, file_at, Spelled, SpellsFile};
+ghost use Rattle.jbig2_base.specs.Reading.{fault_of};
 ghost use Rattle.jbig2_base.specs.declared.file_header.FileHeader.{FileHeader};
+ghost use Rattle.jbig2_base.specs.declared.reading.Reading.{Reading};
+ghost use Rattle.jbig2_base.specs.declared.reading.Reading.TheVariants.{Lenient};
 ghost use Rattle.jbig2_base.specs.inner.SegmentViews.{header_views, segment_views, file_view};
-ghost use Rattle.jbig2_base.specs.Sequential.{by_number, is_cut_off, is_end_of_file, sequential, sorted_segments};
-ghost use Rattle.jbig2_base.specs.Segment.{Header};
+ghost use Rattle.jbig2_base.specs.Sequential.{by_number, is_cut_off, is_end_of_file, sequential};
 ghost use Rattle.jbig2_base.specs.declared.file_header.FileOrganization.TheVariants.{RandomAccess};
 
 use crate::error::{DecodeError, Result};
 use crate::file_header::parse_file_header;
 pub use crate::file_header::{FileHeader, FileOrganization};
 use crate::reader::Reader;
+use crate::reading::Reading;
 use crate::segment::{
     Segment, SegmentHeader, SegmentType, parse_segment, parse_segment_data, parse_segment_header,
 };
 use crate::sort::sort_segments;
 use std::alloc::Allocator;
 
-/// Whether an error only cuts the last segment off, which lenient reading drops.
-fn is_cut_off(strict: bool, error: &DecodeError) -> bool
-    ensures { result ≡ is_cut_off strict error.now }
+/// Whether the segments end before one that is refused with this error. Lenient reading drops one
+/// that is cut off.
+fn is_cut_off(reading: Reading, error: &DecodeError) -> bool
+    ensures { result ≡ is_cut_off reading error.now }
 {
-    match error {
-        DecodeError::Parse(_) => !strict,
-        _ => false,
+    match (reading, error) {
+        (Reading::Lenient, DecodeError::Parse(_)) => true,
+        _ => reading.is_salvaged(error),
     }
 }
 
@@ -38,19 +42,19 @@ fn is_end_of_file(kind: SegmentType) -> bool
 /// The segments in the bytes, header and data by turns, up to an end of file segment or the end of
 /// the bytes (T.88, D.1 and D.3).
 ///
-/// In lenient mode a segment that the bytes cut off is dropped and ends the reading; every other
-/// error is the answer in both modes.
+/// Lenient reading drops a segment that the bytes cut off, and ends there; salvage ends before any
+/// segment that is refused. Every other error is returned.
 pub fn parse_segments_sequential<'a, A: Allocator + Clone>(
     alloc: A,
     bytes: &'a [u8],
-    strict: bool,
+    reading: Reading,
 ) -> Result<Vec<Segment<'a, A>, A>>
-    ensures { Gives (λ v. segment_views v.items) result (sequential strict bytes.now) }
+    ensures { Gives (λ v. segment_views v.items) result (sequential reading bytes.now) }
 {
     let mut reader = Reader::new(bytes);
     let mut segments = Vec::new(alloc.clone()?);
     while !reader.at_end() {
-        match parse_segment(alloc.clone()?, &mut reader, strict) {
+        match parse_segment(alloc.clone()?, &mut reader, reading.is_strict()) {
             Ok(segment) => {
                 let last = is_end_of_file(segment.header.segment_type);
                 segments.push(segment)?;
@@ -59,7 +63,7 @@ pub fn parse_segments_sequential<'a, A: Allocator + Clone>(
                 }
             }
             Err(error) => {
-                if is_cut_off(strict, &error) {
+                if is_cut_off(reading, &error) {
                     return Ok(segments);
                 }
                 return Err(error);
@@ -70,20 +74,20 @@ pub fn parse_segments_sequential<'a, A: Allocator + Clone>(
 }
 
 /// All segment headers from the reader's place on, up to that of an end of file segment or the end
-/// of the bytes (T.88, D.2).
+/// of the bytes (T.88, D.2). Salvage ends before a header that is refused.
 fn parse_segment_headers<A: Allocator + Clone>(
     alloc: A,
     reader: &mut Reader<'_>,
-    strict: bool,
+    reading: Reading,
 ) -> Result<Vec<SegmentHeader<A>, A>>
     requires { IsAligned reader.old }
     ensures value { Gives (λ v. (header_views v.items, reader.new.bytes)) result
-        (headers_in (length reader.old.bytes) strict reader.old.bytes) }
+        (headers_in (length reader.old.bytes) reading reader.old.bytes) }
     ensures aligned { IsAligned reader.new }
 {
     let mut headers = Vec::new(alloc.clone()?);
     while !reader.at_end() {
-        match parse_segment_header(alloc.clone()?, reader, strict) {
+        match parse_segment_header(alloc.clone()?, reader, reading.is_strict()) {
             Ok(header) => {
                 let last = is_end_of_file(header.segment_type);
                 headers.push(header)?;
@@ -91,27 +95,39 @@ fn parse_segment_headers<A: Allocator + Clone>(
                     return Ok(headers);
                 }
             }
-            Err(error) => return Err(error),
+            Err(error) => {
+                if reading.is_salvaged(&error) {
+                    return Ok(headers);
+                }
+                return Err(error);
+            }
         }
     }
     Ok(headers)
 }
 
 /// The segments with these headers, whose data stands in their order from the reader's place on.
+/// Salvage drops one whose data is refused, and those after it.
 fn gather_segments<'a, A: Allocator>(
     alloc: A,
     reader: &mut Reader<'a>,
     headers: Vec<SegmentHeader<A>, A>,
+    reading: Reading,
 ) -> Result<Vec<Segment<'a, A>, A>>
     requires { IsAligned reader.old }
     ensures { Gives (λ v. segment_views v.items) result
-        (gathered (header_views headers.items) reader.old.bytes) }
+        (gathered reading (header_views headers.items) reader.old.bytes) }
 {
     let mut segments = Vec::new(alloc);
     for header in headers {
         match parse_segment_data(reader, header) {
             Ok(segment) => segments.push(segment)?,
-            Err(error) => return Err(error),
+            Err(error) => {
+                if reading.is_salvaged(&error) {
+                    return Ok(segments);
+                }
+                return Err(error);
+            }
         }
     }
     Ok(segments)
@@ -119,31 +135,31 @@ fn gather_segments<'a, A: Allocator>(
 
 /// The segments in the bytes, all headers before all data (T.88, D.2).
 ///
-/// Bytes that end too early are an error in both modes.
+/// Bytes that end too early are an error of strict and of lenient reading.
 fn parse_segments_random_access<'a, A: Allocator + Clone>(
     alloc: A,
     bytes: &'a [u8],
-    strict: bool,
+    reading: Reading,
 ) -> Result<Vec<Segment<'a, A>, A>>
-    ensures value { Gives (λ v. segment_views v.items) result (segments_by RandomAccess strict bytes.now) }
+    ensures value { Gives (λ v. segment_views v.items) result (segments_by RandomAccess reading bytes.now) }
 {
     let mut reader = Reader::new(bytes);
-    let headers = parse_segment_headers(alloc.clone()?, &mut reader, strict)?;
-    gather_segments(alloc, &mut reader, headers)
+    let headers = parse_segment_headers(alloc.clone()?, &mut reader, reading)?;
+    gather_segments(alloc, &mut reader, headers, reading)
 }
 
 fn parse_segments<'a, A: Allocator + Clone>(
     alloc: A,
     bytes: &'a [u8],
     organization: FileOrganization,
-    strict: bool,
+    reading: Reading,
 ) -> Result<Vec<Segment<'a, A>, A>>
     ensures value { Gives (λ v. segment_views v.items) result
-        (segments_by organization strict bytes.now) }
+        (segments_by organization reading bytes.now) }
 {
     match organization {
-        FileOrganization::Sequential => parse_segments_sequential(alloc, bytes, strict),
-        FileOrganization::RandomAccess => parse_segments_random_access(alloc, bytes, strict),
+        FileOrganization::Sequential => parse_segments_sequential(alloc, bytes, reading),
+        FileOrganization::RandomAccess => parse_segments_random_access(alloc, bytes, reading),
     }
 }
 
@@ -159,13 +175,13 @@ pub struct File<'a, A: Allocator> {
 fn read_file<'a, A: Allocator + Clone>(
     alloc: A,
     bytes: &'a [u8],
-    strict: bool,
+    reading: Reading,
 ) -> Result<File<'a, A>>
-    ensures { Gives file_view result (file_at strict bytes.now) }
+    ensures { Gives file_view result (file_at reading bytes.now) }
 {
     let mut reader = Reader::new(bytes);
     let header = parse_file_header(&mut reader)?;
-    let mut segments = parse_segments(alloc, reader.tail(), header.organization, strict)?;
+    let mut segments = parse_segments(alloc, reader.tail(), header.organization, reading)?;
     sort_segments(&mut segments)?;
     Ok(File { header, segments })
 }
@@ -173,18 +189,57 @@ fn read_file<'a, A: Allocator + Clone>(
 /// The file that `bytes` hold (T.88, Annex D).
 ///
 /// Returns the first error of the header (`FormatError`), of a segment (`SegmentError`, or
-/// `ParseError` where the bytes end), or `DecodeError::OutOfMemory`. Either organization gives the
-/// same segments: where the bytes spell some that the mode accepts, each of known length and the
-/// last one the only end of file, the file has those.
+/// `ParseError` where the bytes end), or `DecodeError::OutOfMemory`. Salvage ends before a segment
+/// that is refused. Either organization gives the same segments: where the bytes spell some that the
+/// reading accepts, each of known length and the last one the only end of file, the file has those.
 pub fn parse_file<'a, A: Allocator + Clone>(
     alloc: A,
     bytes: &'a [u8],
-    strict: bool,
+    reading: Reading,
 ) -> Result<File<'a, A>>
-    ensures value { Gives file_view result (file_at strict bytes.now) }
+    ensures value { Gives file_view result (file_at reading bytes.now) }
     ensures either_organization { (header : FileHeader) (ss : List Spelled)
-        → SpellsFile strict bytes.now header ss
+        → SpellsFile reading bytes.now header ss
         → Gives file_view result (Ok (header, by_number (map (λ s. s.segment) ss))) }
 {
-    read_file(alloc, bytes, strict)
+    read_file(alloc, bytes, reading)
+}
+
+/// In salvage the error of the segment that lenient reading of the bytes refuses, and that is left out.
+/// `None` where it refuses none, and in the other readings.
+pub fn sequence_fault<A: Allocator + Clone>(
+    alloc: A,
+    bytes: &[u8],
+    reading: Reading,
+) -> Result<Option<DecodeError>>
+    ensures { Gives (λ fault. fault) result
+        (Ok (fault_of reading (sequential Lenient bytes.now))) }
+{
+    if !matches!(reading, Reading::Salvage) {
+        return Ok(None);
+    }
+    match parse_segments_sequential(alloc, bytes, Reading::Lenient) {
+        Ok(_) => Ok(None),
+        Err(DecodeError::OutOfMemory) => Err(DecodeError::OutOfMemory),
+        Err(error) => Ok(Some(error)),
+    }
+}
+
+/// In salvage the error that lenient reading of the file returns, and for which segments are left out.
+/// `None` where it returns none, and in the other readings.
+pub fn file_fault<A: Allocator + Clone>(
+    alloc: A,
+    bytes: &[u8],
+    reading: Reading,
+) -> Result<Option<DecodeError>>
+    ensures { Gives (λ fault. fault) result (Ok (fault_of reading (file_at Lenient bytes.now))) }
+{
+    if !matches!(reading, Reading::Salvage) {
+        return Ok(None);
+    }
+    match parse_file(alloc, bytes, Reading::Lenient) {
+        Ok(_) => Ok(None),
+        Err(DecodeError::OutOfMemory) => Err(DecodeError::OutOfMemory),
+        Err(error) => Ok(Some(error)),
+    }
 }

@@ -10,6 +10,7 @@ pub mod file;
 pub mod file_header;
 pub mod page_info;
 pub mod reader;
+pub mod reading;
 pub mod search;
 pub mod segment;
 pub mod sort;

@@ -2,8 +2,8 @@
 ghost use Rattle.std.specs.Prelude.{◌≡◌, ◌+◌, ◌/◌, ◌%◌, ◌==◌, ◌<◌, ◌≤◌, Ok, IfOk, None, OnErr, OnOk, Option, false, length};
 ghost use Rattle.jbig2_base.specs.Answer.{Answers};
 ghost use Rattle.jbig2_base.specs.Bits.{IsAligned, nonzero};
-ghost use Rattle.jbig2_base.specs.Causes.{HasCause, BreaksInformation, BreaksInitialPage};
-ghost use Rattle.jbig2_base.specs.PageInfo.{default_operator_of, flags_of, information_at, is_page_information, is_end_of_stripe, first_information, stripe_height, stripes_height, height_of, initial_page_with, initial_page_of};
+ghost use Rattle.jbig2_base.specs.Causes.{HasCause, BreaksInformation, BreaksInitialPage, BreaksInitialPageBy};
+ghost use Rattle.jbig2_base.specs.PageInfo.{default_operator_of, flags_of, information_at, is_page_information, is_end_of_stripe, first_information, stripe_height, stripes_height, height_of, initial_page_with, initial_page_by, initial_page_of};
 ghost use Rattle.jbig2_base.specs.Fields.{Parses};
 ghost use Rattle.jbig2_base.specs.inner.SegmentViews.{segment_view, segment_views};
 
@@ -220,7 +220,8 @@ fn stripe_height<A: Allocator>(segment: &Segment<'_, A>) -> u32
     last_row + 1
 }
 
-fn stripes_height<A: Allocator>(segments: &[Segment<'_, A>]) -> u32
+/// How high a page is that ends with the lowest of these stripes; 0 where none of them tells it.
+pub fn stripes_height<A: Allocator>(segments: &[Segment<'_, A>]) -> u32
     ensures { result ≡ stripes_height (segment_views segments.now) }
 {
     let mut height = 0;
@@ -230,16 +231,16 @@ fn stripes_height<A: Allocator>(segments: &[Segment<'_, A>]) -> u32
     height
 }
 
-fn page_height(stated: u32, stripes: u32) -> Result<u32>
-    ensures { Answers (λ height. height) result (height_of stated stripes) }
+fn page_height(stated: u32, told_height: u32) -> Result<u32>
+    ensures { Answers (λ height. height) result (height_of stated told_height) }
 {
     if stated != u32::MAX {
         return Ok(stated);
     }
-    if stripes == 0 {
+    if told_height == 0 {
         return Err(DecodeError::Format(FormatError::UnknownPageHeight));
     }
-    Ok(stripes)
+    Ok(told_height)
 }
 
 fn initial_page_with(number: u32, information: &PageInformation, height: u32) -> Result<InitialPage>
@@ -278,10 +279,25 @@ impl InitialPage {
         ensures fits { IfOk result
             (λ initial_page. (initial_page.width ≤ 65535) × (initial_page.height ≤ 65535)) }
     {
+        InitialPage::with_height(segments, stripes_height(segments))
+    }
+
+    /// The same, with `told_height` for a height that page information leaves open; 0 where nothing tells it.
+    #[tactic(auto, using(crate::proofs::InitialCauses::initial_page_by_cause))]
+    pub fn with_height<A: Allocator>(
+        segments: &[Segment<'_, A>],
+        told_height: u32,
+    ) -> Result<InitialPage>
+        ensures causes { HasCause result (BreaksInitialPageBy told_height (segment_views segments.now)) }
+        ensures value { Answers (λ initial_page. initial_page) result
+            (initial_page_by told_height (segment_views segments.now)) }
+        ensures fits { IfOk result
+            (λ initial_page. (initial_page.width ≤ 65535) × (initial_page.height ≤ 65535)) }
+    {
         let first = first_information(segments)?;
         let mut reader = Reader::new(first.bytes);
         let information = parse_page_information(&mut reader)?;
-        let height = page_height(information.height, stripes_height(segments))?;
+        let height = page_height(information.height, told_height)?;
         initial_page_with(first.header.page_association, &information, height)
     }
 }

@@ -1,18 +1,18 @@
 -- What a PDF reader and a viewer ask for (our own rule), by the definitions of the library. A stream's or a file's
 -- bytes give a grid or an image. Both read leniently.
-use Rattle.std.specs.{Prelude.{◌≡◌, ◌⊎◌, ℕ, false, List, Option, Result, Ok, Err}, Option.{option_map_or}}
-use Rattle.jbig2_base.specs.{Answer.{◌>>=◌, some_or}, Grid.{Grid}, declared.error.{DecodeError.{DecodeError, TheVariants.{Format, OutOfMemory}}, FormatError.TheVariants.{MissingPageInfo}}}
-use Rattle.hayro_jbig2.specs.{Files.{book_at, page_of}, Image.{first_size, first_image, image_of_page}, Names.{globals_at, no_names}, Page.{embedded, grid_of_page}, declared.jbig2_error.Jbig2Error.{Jbig2Error, TheVariants.{Io, Decode}}}
+use Rattle.std.specs.{Prelude.{◌≡◌, ◌⊎◌, ℕ, List, Option, Result, Ok, Err}, Option.{option_map_or}}
+use Rattle.jbig2_base.specs.{Answer.{◌>>=◌, some_or}, Grid.{Grid}, declared.{error.{DecodeError.{DecodeError, TheVariants.{Format, OutOfMemory}}, FormatError.TheVariants.{MissingPageInfo}}, reading.Reading.TheVariants.{Lenient}}}
+use Rattle.hayro_jbig2.specs.{Files.{book_at, page_of}, Image.{first_size, first_image, image_of_page}, Names.{globals_at, names_of, no_names}, Page.{embedded, grid_of_page}, declared.jbig2_error.Jbig2Error.{Jbig2Error, TheVariants.{Io, Decode}}}
 
 -- the grid of a stream of a PDF file, with its globals where it has some
 abbrev pub grid_of_stream : Option (List ℕ) → List ℕ → Result Grid DecodeError
 grid_of_stream globals stream =
-    option_map_or (λ bytes. globals_at false bytes) globals (Ok no_names)
-    >>= λ names. embedded false names stream >>= λ page. grid_of_page page
+    option_map_or (λ bytes. names_of (globals_at Lenient bytes)) globals (Ok no_names)
+    >>= λ names. embedded Lenient names stream >>= λ page. grid_of_page page
 
 -- a byte for each pixel of the page at an index of a file
 abbrev pub image_at : List ℕ → ℕ → Result (List ℕ) DecodeError
-image_at bytes index = book_at false bytes >>= λ book. some_or (Format MissingPageInfo) (page_of book index) >>= λ page. image_of_page page
+image_at bytes index = book_at Lenient bytes >>= λ book. some_or (Format MissingPageInfo) (page_of book index) >>= λ page. image_of_page page
 
 -- A picture of a file's first page, unless the reader failed or memory ran out.
 abbrev pub Shows : {P : Type 0} → (P → (ℕ × ℕ) × List ℕ) → List ℕ → Result P Jbig2Error → Type 0

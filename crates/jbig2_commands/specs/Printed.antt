@@ -1,7 +1,7 @@
 -- What a run prints (our own rule), what standard error is told of it, and its status. `printed` takes the mode, the task
 -- and a file's bytes, and gives the bytes to be printed, or the fault; `RunEnds`, the last, is the statement of `run`.
 use Rattle.std.specs.{Prelude.{◌≡◌, ◌⊎◌, ℕ, Bool, true, List, [], ◌++◌, Option, Some, None, IfSome, IsTrue, ok_or, Result, Ok, Err, codes, if◌then◌else◌}, Fmt.{decimal}, Io.KnownBytes.{Appends, Keeps}, List.{flat_map}, Str.Parse.{digits_value}}
-use Rattle.jbig2_base.specs.{Answer.{◌>>=◌}, ErrorTexts.{error_text}, Grid.{Grid}, declared.error.DecodeError.{DecodeError, TheVariants.{OutOfMemory}}}
+use Rattle.jbig2_base.specs.{Answer.{◌>>=◌}, ErrorTexts.{error_text}, Grid.{Grid}, Reading.{reading_of}, declared.error.DecodeError.{DecodeError, TheVariants.{OutOfMemory}}}
 use Rattle.hayro_jbig2.specs.{Calls.{Call, Pixel, Chunk, Line, calls_of}, Files.{ReadFile, book_at, page_of, pages_of}, Image.{packed_of_page}, Names.{no_names}, Page.{ReadPage, embedded, grid_of_page}}
 use Rattle.jbig2_commands.specs.{Words.{Task, Pages, Embedded, Calls, Pbm}, declared.fault.Fault.{Fault, TheVariants.{Decode, NoSuchPage, Unreadable, Unwritable}}}
 
@@ -40,10 +40,10 @@ of_file text index file = or_fault file >>= λ book. page_named index book >>= �
 
 -- What is printed of a file's bytes, or why it is not.
 abbrev pub printed : Bool → Task → List ℕ → Result (List ℕ) Fault
-printed strict Pages bytes = or_fault (book_at strict bytes >>= λ book. Ok (flat_map page_line (pages_of book)))
-printed strict Embedded bytes = or_fault (embedded strict no_names bytes >>= λ page. calls_text (grid_of_page page))
-printed strict (Calls index) bytes = of_file (λ page. calls_text (grid_of_page page)) index (book_at strict bytes)
-printed strict (Pbm index) bytes = of_file bitmap_text index (book_at strict bytes)
+printed strict Pages bytes = or_fault (book_at (reading_of strict) bytes >>= λ book. Ok (flat_map page_line (pages_of book)))
+printed strict Embedded bytes = or_fault (embedded (reading_of strict) no_names bytes >>= λ page. calls_text (grid_of_page page))
+printed strict (Calls index) bytes = of_file (λ page. calls_text (grid_of_page page)) index (book_at (reading_of strict) bytes)
+printed strict (Pbm index) bytes = of_file bitmap_text index (book_at (reading_of strict) bytes)
 
 -- What was meant is added to the output, or its fault is returned and nothing is added, unless memory ran out. Where
 -- the output failed, nothing is said of what it holds.

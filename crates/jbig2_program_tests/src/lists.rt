@@ -68,6 +68,7 @@ fn other_words_print_the_usage(rt: HostRuntime) {
 const NAMED: &[(&[&str], (u8, &[u8], &[u8]))] = &[
     (&["5"], (0, b"row 5 ok\n", b"")),
     (&["R16.2"], (0, b"row R16.2 ok\n", b"")),
+    (&["R17.1"], (0, b"row R17.1 ok\n", b"")),
     (&["no such row"], (1, b"", b"")),
     (&[], (2, b"", ROW_USAGE)),
     (&["5", "7"], (2, b"", ROW_USAGE)),

@@ -6,6 +6,7 @@ use crate::drawing::{drawing_holds, page_holds, white_holds};
 use crate::file_case::{FileCase, file_holds};
 use crate::mmr::{MmrCase, mmr_holds};
 use crate::patterns::wide_patterns_hold;
+use crate::salvage::{SalvageCase, salvage_holds};
 use crate::spelling::spelled;
 use crate::table::{TableCase, table_holds};
 use hayro_jbig2::parts::reader::Reader;
@@ -88,6 +89,8 @@ pub enum Case {
     Mmr(MmrCase),
     /// Files.
     File(FileCase),
+    /// Salvage.
+    Salvage(SalvageCase),
     /// Two patterns of 200 by 1, written by the arithmetic encoder, are decoded.
     WidePatterns,
 }
@@ -170,6 +173,7 @@ fn case_holds<A: Allocator + Clone>(
         Case::Table(case) => table_holds(alloc, case),
         Case::Mmr(case) => mmr_holds(alloc, case),
         Case::File(case) => file_holds(alloc, case, context),
+        Case::Salvage(case) => salvage_holds(alloc, case, context),
         Case::StaysWhite(x, y) => stays_white(alloc, *x, *y),
         Case::WidePatterns => wide_patterns_hold::<A, Brand>(alloc, Blank::new(6)),
     }

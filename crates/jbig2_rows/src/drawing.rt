@@ -1,6 +1,7 @@
 //! What comes of drawing a page.
 use crate::call::{Call, WHITE};
 use crate::case::{Answer, refused_as};
+use crate::salvage::salvages;
 use crate::spelling::spelled;
 use crate::watcher::Watcher;
 use hayro_jbig2::{
@@ -42,7 +43,12 @@ pub fn page_holds<A: Allocator + Clone>(
             },
         ),
     };
-    drawing_holds(&page, answer, context)
+    let drawn = drawing_holds(&page, answer, context)?;
+    if strict || !matches!(answer, Answer::Calls(_)) {
+        return Ok(drawn);
+    }
+    // Where lenient reading draws a page, salvage draws the same.
+    Ok(drawn && salvages(alloc, bytes, answer, context)?)
 }
 
 /// Whether decoding a page has this answer, and each of its calls may be refused. Returns

@@ -7,11 +7,17 @@ pub const TOO_EARLY: DecodeError = DecodeError::Parse(ParseError::UnexpectedEof)
 
 pub const NO_PAGE: DecodeError = DecodeError::Format(FormatError::MissingPageInfo);
 
+pub const NO_HEIGHT: DecodeError = DecodeError::Format(FormatError::UnknownPageHeight);
+
 pub const PAGE_COUNT: DecodeError = DecodeError::Format(FormatError::PageCountMismatch);
 
 pub const INVALID_REFERENCE: DecodeError = DecodeError::Segment(SegmentError::InvalidReference);
 
 pub const TOO_LARGE: DecodeError = DecodeError::Overflow(OverflowError::BitmapDimension);
+
+pub const INVALID_OPERATOR: DecodeError = DecodeError::Region(
+    RegionError::InvalidCombinationOperator,
+);
 
 pub const INVALID_SIZE: DecodeError = DecodeError::Region(RegionError::InvalidDimension);
 

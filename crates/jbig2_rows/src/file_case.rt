@@ -143,6 +143,35 @@ fn pages_hold<A: Allocator + Clone>(
         Ok(file) => file,
         Err(error) => return refused_as(error, None),
     };
+    if strict || !are_drawn(expected) {
+        return all_pages_hold(&file, expected, context);
+    }
+    // Where lenient reading gives a file, salvage gives the same.
+    let salvaged = match File::salvaged(alloc.clone()?, bytes, None) {
+        Ok(file) => file,
+        Err(error) => return refused_as(error, None),
+    };
+    let whole = salvaged.fault().is_none() && salvaged.left_out().is_empty();
+    Ok(
+        whole
+            && all_pages_hold(&file, expected, context)?
+            && all_pages_hold(&salvaged, expected, context)?,
+    )
+}
+
+/// Whether all of the pages are drawn.
+fn are_drawn(expected: &[FilePage]) -> bool {
+    expected
+        .iter()
+        .all(|page| matches!(page.answer, Answer::Calls(_)))
+}
+
+/// Whether a file has these pages.
+pub fn all_pages_hold<A: Allocator + Clone>(
+    file: &File<'_, A>,
+    expected: &[FilePage],
+    context: &mut DecoderContext<A>,
+) -> Result<bool> {
     if file.page_count() != expected.len() || file.page(expected.len()).is_some() {
         return Ok(false);
     }

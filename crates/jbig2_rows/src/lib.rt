@@ -18,6 +18,7 @@ mod patterns;
 mod piece;
 pub mod program;
 mod rows;
+mod salvage;
 pub mod spelling;
 mod table;
 pub mod watcher;

@@ -7,6 +7,7 @@ pub mod halftones;
 pub mod mmr;
 pub mod refinement;
 pub mod regions;
+pub mod salvage;
 pub mod symbols;
 pub mod worked;
 
@@ -14,7 +15,7 @@ use crate::case::Row;
 
 /// All rows in the order in which they are run. Each family has a call of its own, so that no
 /// proof has to look at all of their bytes at once.
-pub fn families() -> [&'static [Row]; 16] {
+pub fn families() -> [&'static [Row]; 17] {
     [
         worked::rows(),
         framing::rows(),
@@ -32,6 +33,7 @@ pub fn families() -> [&'static [Row]; 16] {
         coding::lists(),
         halftones::rows_15(),
         symbols::rows_16(),
+        salvage::rows(),
     ]
 }
 

@@ -2,7 +2,7 @@
 use Rattle.std.specs.{Prelude.{◌||◌, Option, Some, None, Result, Ok, Err}, Borrow.{Bor}}
 use Rattle.jbig2_base.specs.{Answer.{◌>>=◌, refuse_if}, Grid.{Grid}, declared.error.{DecodeError.{DecodeError, TheVariants.{Overflow}}, OverflowError.TheVariants.{ReferenceOffset}}}
 use Rattle.jbig2_region.specs.{RegionInfo.{PlacedRegion}, Refinement.{is_far}, declared.region_info.RegionSegmentInfo.{RegionSegmentInfo}}
-use Rattle.hayro_jbig2.specs.{Names.{Names, no_names}, Regions.{page_area}}
+use Rattle.hayro_jbig2.specs.{Names.{Names, Shared, no_names}, Regions.{page_area}}
 
 -- the page's area, unless it lies too far to be refined
 abbrev pub near_area : Grid → RegionSegmentInfo → Result PlacedRegion DecodeError
@@ -11,11 +11,11 @@ near_area page info =
     >>= λ near. Ok (page_area page info)
 
 -- the names of globals, where there are any
-abbrev pub given_names : Option (Bor Names) → Names
+abbrev pub given_names : Option (Bor Shared) → Names
 given_names None = no_names
-given_names (Some globals) = globals.now
+given_names (Some globals) = globals.now.names
 
 -- what decoding the globals returned
-abbrev pub kept_names : Result (Option (Bor Names)) DecodeError → Result Names DecodeError
+abbrev pub kept_names : Result (Option (Bor Shared)) DecodeError → Result Names DecodeError
 kept_names (Ok globals) = Ok (given_names globals)
 kept_names (Err e) = Err e

@@ -10,5 +10,5 @@ use Rattle.jbig2_base.proofs.file.parse_file.Goals as goal
 pub returns-clause-either_organization : goal.returns-clause-either_organization
 returns-clause-either_organization g c = λ header ss spells.
     subst (λ (meant : Result (FileHeader × List SegmentView) DecodeError). Gives file_view c.read_file.result meant)
-    (file_read c.args.strict c.args.bytes.now header ss spells)
+    (file_read c.args.reading c.args.bytes.now header ss spells)
     c.read_file.ensures

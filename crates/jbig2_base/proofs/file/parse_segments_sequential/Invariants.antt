@@ -7,7 +7,7 @@ use Rattle.jbig2_base.proofs.file.parse_segments_sequential.Given as goal
 abbrev pub invariant-loop-reader : goal.invariant-loop-reader
 invariant-loop-reader g l = record {
   aligned : l.reader.bit ≡ 0;
-  reads : Reads (segment_views l.segments.items) l.strict l.reader.bytes (sequential l.strict l.bytes);
+  reads : Reads (segment_views l.segments.items) l.reading l.reader.bytes (sequential l.reading l.bytes);
 }
 
 abbrev pub decreases-loop-reader : goal.decreases-loop-reader

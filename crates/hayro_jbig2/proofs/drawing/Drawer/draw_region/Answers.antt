@@ -1,4 +1,5 @@
 use Rattle.std.proofs.Common.{false, Result, ap, arith}
+use Rattle.jbig2_base.specs.Reading.{is_strict}
 use Rattle.jbig2_base.specs.inner.SegmentViews.{segment_view}
 use Rattle.jbig2_base.specs.declared.error.DecodeError.{DecodeError}
 use Rattle.hayro_jbig2.specs.Page.{Drawing, immediate, region_at, shown}
@@ -6,19 +7,19 @@ use Rattle.hayro_jbig2.specs.declared.passed_over.PassedOver.{PassedOver}
 use Rattle.hayro_jbig2.proofs.Direct.{drawn-either, passed}
 use Rattle.hayro_jbig2.proofs.drawing.Drawer.draw_region.Goals as goal
 
-pub returns-in-Ok : goal.returns-in-Ok
+pub returns-in-Ok-clause-value : goal.returns-in-Ok-clause-value
 unfolding immediate
-returns-in-Ok g c =
+returns-in-Ok-clause-value g c =
     let d : Drawing = c.args.context.now in
-    let meant : Result Drawing DecodeError = shown d (region_at c.args.self.now.strict c.args.self.now.globals.now c.args.kind false (segment_view c.args.segment.now) d) in
-    drawn-either c.args.self.now.strict c.args.segment.now.header.segment_number d c.show_region.new.context meant c.in-Ok.ensures.value
+    let meant : Result Drawing DecodeError = shown d (region_at (is_strict c.args.self.now.reading) c.args.self.now.globals.now c.args.kind false (segment_view c.args.segment.now) d) in
+    drawn-either (is_strict c.args.self.now.reading) c.args.segment.now.header.segment_number d c.show_region.new.context meant c.in-Ok.ensures.value
 
-pub returns-in-Err : goal.returns-in-Err
+pub returns-in-Err-clause-value : goal.returns-in-Err-clause-value
 unfolding immediate
-returns-in-Err g c =
+returns-in-Err-clause-value g c =
     let d : Drawing = c.args.context.now in
-    let meant : Result Drawing DecodeError = shown d (region_at c.args.self.now.strict c.args.self.now.globals.now c.args.kind false (segment_view c.args.segment.now) d) in
-    passed c.args.self.now.strict c.args.segment.now.header.segment_number d c.show_region.new.context c.pass_over.new.context meant c.in-Err.error _
+    let meant : Result Drawing DecodeError = shown d (region_at (is_strict c.args.self.now.reading) c.args.self.now.globals.now c.args.kind false (segment_view c.args.segment.now) d) in
+    passed (is_strict c.args.self.now.reading) c.args.segment.now.header.segment_number d c.show_region.new.context c.pass_over.new.context meant c.in-Err.error _
     c.in-Err.ensures.value c.in-Err.ensures.err c.pass_over.ensures.memory c.pass_over.ensures.value
 
 pub pass_over-requires : goal.pass_over-requires

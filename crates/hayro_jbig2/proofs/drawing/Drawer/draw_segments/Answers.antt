@@ -1,10 +1,11 @@
-use Rattle.std.proofs.Common.{◌≡◌, ℕ, ◌+◌, ◌<◌, ◌≤◌, Bool, true, false, List, length, drop, get_or, Result, Ok, inl, inr, ⊎_elim, sym, ap, subst, ◌∙◌, arith}
+use Rattle.std.proofs.Common.{◌≡◌, ℕ, ◌+◌, ◌<◌, ◌≤◌, true, false, List, length, drop, get_or, Result, Ok, inl, inr, ⊎_elim, sym, ap, subst, ◌∙◌, arith}
 use Rattle.std.specs.Prelude.{IfOk}
 use Rattle.std.proofs.lemmas.Bool.{cond-false, cond-true}
 use Rattle.jbig2_base.specs.Answer.{◌>>=◌}
 use Rattle.jbig2_base.specs.inner.SegmentViews.{segment_view, segment_views}
 use Rattle.jbig2_base.specs.declared.error.DecodeError.{DecodeError}
 use Rattle.jbig2_base.specs.declared.error.DecodeError.TheVariants.{OutOfMemory}
+use Rattle.jbig2_base.specs.declared.reading.Reading.{Reading}
 use Rattle.jbig2_base.specs.declared.segment.Segment.{Segment}
 use Rattle.hayro_jbig2.specs.Names.{Names}
 use Rattle.hayro_jbig2.specs.Page.{Drawing, ends_page, segment_on, segments_drawn}
@@ -13,27 +14,27 @@ use Rattle.hayro_jbig2.proofs.LeftLemmas.{left-first}
 use Rattle.hayro_jbig2.proofs.drawing.Drawer.draw_segments.Goals as goal
 
 -- a segment that ends no page is drawn before the others
-drawn-first : {A : Type 0} (strict : Bool) (globals : Names) (segments : List (Segment A)) (i : ℕ) (segment : Segment A) (d : Drawing) → i < length segments → segment ≡ get_or segments i segment → ends_page segment.header.segment_type ≡ false → segments_drawn strict globals (segment_views (drop i segments)) d ≡ (segment_on strict globals (segment_view segment) d >>= λ e. segments_drawn strict globals (segment_views (drop (i + 1) segments)) e)
-drawn-first strict globals segments i segment d inside is goes_on =
-    left-first (λ left. segments_drawn strict globals (segment_views left) d) segments i segment inside is
-    ∙ cond-false (ends_page segment.header.segment_type) (Ok d) (segment_on strict globals (segment_view segment) d >>= λ e. segments_drawn strict globals (segment_views (drop (i + 1) segments)) e) goes_on
+drawn-first : {A : Type 0} (reading : Reading) (globals : Names) (segments : List (Segment A)) (i : ℕ) (segment : Segment A) (d : Drawing) → i < length segments → segment ≡ get_or segments i segment → ends_page segment.header.segment_type ≡ false → segments_drawn reading globals (segment_views (drop i segments)) d ≡ (segment_on reading globals (segment_view segment) d >>= λ e. segments_drawn reading globals (segment_views (drop (i + 1) segments)) e)
+drawn-first reading globals segments i segment d inside is goes_on =
+    left-first (λ left. segments_drawn reading globals (segment_views left) d) segments i segment inside is
+    ∙ cond-false (ends_page segment.header.segment_type) (Ok d) (segment_on reading globals (segment_view segment) d >>= λ e. segments_drawn reading globals (segment_views (drop (i + 1) segments)) e) goes_on
 
-drawn-end : {A : Type 0} (strict : Bool) (globals : Names) (segments : List (Segment A)) (i : ℕ) (segment : Segment A) (d : Drawing) → i < length segments → segment ≡ get_or segments i segment → ends_page segment.header.segment_type ≡ true → segments_drawn strict globals (segment_views (drop i segments)) d ≡ Ok d
-drawn-end strict globals segments i segment d inside is ends =
-    left-first (λ left. segments_drawn strict globals (segment_views left) d) segments i segment inside is
-    ∙ cond-true (ends_page segment.header.segment_type) (Ok d) (segment_on strict globals (segment_view segment) d >>= λ e. segments_drawn strict globals (segment_views (drop (i + 1) segments)) e) ends
+drawn-end : {A : Type 0} (reading : Reading) (globals : Names) (segments : List (Segment A)) (i : ℕ) (segment : Segment A) (d : Drawing) → i < length segments → segment ≡ get_or segments i segment → ends_page segment.header.segment_type ≡ true → segments_drawn reading globals (segment_views (drop i segments)) d ≡ Ok d
+drawn-end reading globals segments i segment d inside is ends =
+    left-first (λ left. segments_drawn reading globals (segment_views left) d) segments i segment inside is
+    ∙ cond-true (ends_page segment.header.segment_type) (Ok d) (segment_on reading globals (segment_view segment) d >>= λ e. segments_drawn reading globals (segment_views (drop (i + 1) segments)) e) ends
 
 pub loop-segment-preserved : goal.loop-segment-preserved
 loop-segment-preserved g c =
     let i = c.loop-segment.segment-index in
     let more : c.draw_segment.new.context.passed_over.count ≤ c.loop-segment.context.passed_over.count + 1 =
     subst (λ (r : Result Drawing DecodeError). IfOk r (λ e. e.passed_over.count ≤ c.loop-segment.context.passed_over.count + 1)) c.in-Ok.ensures
-    (counts-on c.args.self.now.strict c.args.self.now.globals.now (segment_view c.segment-item.result) c.loop-segment.context) in
+    (counts-on c.args.self.now.reading c.args.self.now.globals.now (segment_view c.segment-item.result) c.loop-segment.context) in
     record {
       drawn =
           sym
-          (drawn-first c.args.self.now.strict c.args.self.now.globals.now c.args.segments.now i c.segment-item.result c.loop-segment.context (omega arith) c.segment-item.is (sym c.ends_page.ensures ∙ c.if-ends_page.false)
-          ∙ ap (λ drawn. drawn >>= λ e. segments_drawn c.args.self.now.strict c.args.self.now.globals.now (segment_views (drop (i + 1) c.args.segments.now)) e) c.in-Ok.ensures)
+          (drawn-first c.args.self.now.reading c.args.self.now.globals.now c.args.segments.now i c.segment-item.result c.loop-segment.context (omega arith) c.segment-item.is (sym c.ends_page.ensures ∙ c.if-ends_page.false)
+          ∙ ap (λ drawn. drawn >>= λ e. segments_drawn c.args.self.now.reading c.args.self.now.globals.now (segment_views (drop (i + 1) c.args.segments.now)) e) c.in-Ok.ensures)
           ∙ c.loop-segment.invariant.drawn;
       few = omega (arith, more, c.loop-segment.invariant.few);
     }
@@ -41,7 +42,7 @@ loop-segment-preserved g c =
 pub returns-then-ends_page : goal.returns-then-ends_page
 returns-then-ends_page g c =
     sym c.loop-segment.invariant.drawn
-    ∙ drawn-end c.args.self.now.strict c.args.self.now.globals.now c.args.segments.now c.loop-segment.segment-index c.segment-item.result c.loop-segment.context (omega arith) c.segment-item.is (sym c.ends_page.ensures ∙ c.if-ends_page.true)
+    ∙ drawn-end c.args.self.now.reading c.args.self.now.globals.now c.args.segments.now c.loop-segment.segment-index c.segment-item.result c.loop-segment.context (omega arith) c.segment-item.is (sym c.ends_page.ensures ∙ c.if-ends_page.true)
 
 pub returns-in-Err : goal.returns-in-Err
 returns-in-Err g c =
@@ -51,6 +52,6 @@ returns-in-Err g c =
     (λ refused.
     inr
     (sym c.loop-segment.invariant.drawn
-    ∙ drawn-first c.args.self.now.strict c.args.self.now.globals.now c.args.segments.now i c.segment-item.result c.loop-segment.context (omega arith) c.segment-item.is (sym c.ends_page.ensures ∙ c.if-ends_page.false)
-    ∙ ap (λ drawn. drawn >>= λ e. segments_drawn c.args.self.now.strict c.args.self.now.globals.now (segment_views (drop (i + 1) c.args.segments.now)) e) refused))
+    ∙ drawn-first c.args.self.now.reading c.args.self.now.globals.now c.args.segments.now i c.segment-item.result c.loop-segment.context (omega arith) c.segment-item.is (sym c.ends_page.ensures ∙ c.if-ends_page.false)
+    ∙ ap (λ drawn. drawn >>= λ e. segments_drawn c.args.self.now.reading c.args.self.now.globals.now (segment_views (drop (i + 1) c.args.segments.now)) e) refused))
     c.in-Err.ensures

@@ -5,7 +5,7 @@ use Rattle.hayro_jbig2.proofs.drawing.Drawer.draw_segments.Given as goal
 
 abbrev pub invariant-loop-segment : goal.invariant-loop-segment
 invariant-loop-segment g l = record {
-  drawn : segments_drawn l.self.strict l.self.globals.now (segment_views (drop l.segment-index l.segments)) l.context
-      ≡ segments_drawn l.self.strict l.self.globals.now (segment_views l.segments) l.fn.context;
+  drawn : segments_drawn l.self.reading l.self.globals.now (segment_views (drop l.segment-index l.segments)) l.context
+      ≡ segments_drawn l.self.reading l.self.globals.now (segment_views l.segments) l.fn.context;
   few : l.context.passed_over.count ≤ l.segment-index;
 }

@@ -1,6 +1,7 @@
 use Rattle.std.proofs.Common.{◌≡◌, true, Result, refl, ◌∙◌, subst}
 use Rattle.std.proofs.lemmas.Result.{err_from_is_err_and}
 use Rattle.jbig2_base.specs.Answer.{Gives}
+use Rattle.jbig2_base.specs.Reading.{is_strict}
 use Rattle.jbig2_base.specs.inner.SegmentViews.{segment_view}
 use Rattle.jbig2_base.specs.declared.error.DecodeError.{DecodeError}
 use Rattle.jbig2_region.specs.RegionInfo.{PlacedRegion}
@@ -11,32 +12,32 @@ use Rattle.hayro_jbig2.specs.inner.Parsed.{apart, drawing_of}
 use Rattle.hayro_jbig2.proofs.Direct.{kept-refused, led, led-to, refused-too, stored}
 use Rattle.hayro_jbig2.proofs.drawing.Drawer.keep_region.Goals as goal
 
-pub returns : goal.returns
+pub returns-clause-value : goal.returns-clause-value
 unfolding intermediate
-returns g c =
+returns-clause-value g c =
     let d : Drawing = c.args.context.now in
     let inside : Drawing = record { grid = c.context.inside.bitmap; regions = seen region_view c.context.inside.regions.items; names = c.context.inside.names; untouched = c.context.inside.untouched; passed_over = c.context.inside.passed_over } in
-    let meant : Result PlacedRegion DecodeError = region_at c.args.self.now.strict c.args.self.now.globals.now c.args.kind true (segment_view c.args.segment.now) d in
-    let leads : meant ≡ apart c.in_ok-parsed.parsed = led c.references-references.result c.args.self.now.strict c.args.self.now.globals.now c.args.kind true (segment_view c.args.segment.now) c.context.inside.bitmap c.deref.result.now c.context.inside.regions.items c.context.inside.names c.context.inside.untouched c.context.inside.passed_over d (apart c.in_ok-parsed.parsed) c.references-references.ensures.strict c.references-references.ensures.globals c.references-references.ensures.drawing c.deref.ensures.value c.context.view_is c.in_ok-parsed.ensures.value in
+    let meant : Result PlacedRegion DecodeError = region_at (is_strict c.args.self.now.reading) c.args.self.now.globals.now c.args.kind true (segment_view c.args.segment.now) d in
+    let leads : meant ≡ apart c.in_ok-parsed.parsed = led c.references-references.result (is_strict c.args.self.now.reading) c.args.self.now.globals.now c.args.kind true (segment_view c.args.segment.now) c.context.inside.bitmap c.deref.result.now c.context.inside.regions.items c.context.inside.names c.context.inside.untouched c.context.inside.passed_over d (apart c.in_ok-parsed.parsed) c.references-references.ensures.strict c.references-references.ensures.globals c.references-references.ensures.drawing c.deref.ensures.value c.context.view_is c.in_ok-parsed.ensures.value in
     subst (λ (a : Result Drawing DecodeError). Gives (λ _. c.store.new.self) c.store.result a)
     (stored c.args.segment.now.header.segment_number inside d meant (region_view c.in_ok-region.region) c.context.view_is (leads ∙ c.in_ok-region.ensures)) c.store.ensures
 
-pub returns-in_err-region : goal.returns-in_err-region
+pub returns-in_err-region-clause-value : goal.returns-in_err-region-clause-value
 unfolding intermediate
-returns-in_err-region g c =
+returns-in_err-region-clause-value g c =
     let d : Drawing = c.args.context.now in
     let e = err_from_is_err_and c.from_residual-in_err-region.result c.from_residual-in_err-region.ensures.1 in
-    let meant : Result PlacedRegion DecodeError = region_at c.args.self.now.strict c.args.self.now.globals.now c.args.kind true (segment_view c.args.segment.now) d in
-    let leads : meant ≡ apart c.in_ok-parsed.parsed = led c.references-references.result c.args.self.now.strict c.args.self.now.globals.now c.args.kind true (segment_view c.args.segment.now) c.context.inside.bitmap c.deref.result.now c.context.inside.regions.items c.context.inside.names c.context.inside.untouched c.context.inside.passed_over d (apart c.in_ok-parsed.parsed) c.references-references.ensures.strict c.references-references.ensures.globals c.references-references.ensures.drawing c.deref.ensures.value c.context.view_is c.in_ok-parsed.ensures.value in
+    let meant : Result PlacedRegion DecodeError = region_at (is_strict c.args.self.now.reading) c.args.self.now.globals.now c.args.kind true (segment_view c.args.segment.now) d in
+    let leads : meant ≡ apart c.in_ok-parsed.parsed = led c.references-references.result (is_strict c.args.self.now.reading) c.args.self.now.globals.now c.args.kind true (segment_view c.args.segment.now) c.context.inside.bitmap c.deref.result.now c.context.inside.regions.items c.context.inside.names c.context.inside.untouched c.context.inside.passed_over d (apart c.in_ok-parsed.parsed) c.references-references.ensures.strict c.references-references.ensures.globals c.references-references.ensures.drawing c.deref.ensures.value c.context.view_is c.in_ok-parsed.ensures.value in
     rw (e.1, e.2) (kept-refused c.args.segment.now.header.segment_number d meant c.in_err-region.field-0.0 (led-to c.in_ok-parsed.parsed meant c.in_err-region.field-0.0 leads c.in_err-region.ensures))
 
-pub returns-in_err-parsed : goal.returns-in_err-parsed
+pub returns-in_err-parsed-clause-value : goal.returns-in_err-parsed-clause-value
 unfolding intermediate
-returns-in_err-parsed g c =
+returns-in_err-parsed-clause-value g c =
     let d : Drawing = c.args.context.now in
     let e = err_from_is_err_and c.from_residual.result c.from_residual.ensures.1 in
     let r = c.references-references.result in
-    let meant : Result PlacedRegion DecodeError = region_at c.args.self.now.strict c.args.self.now.globals.now c.args.kind true (segment_view c.args.segment.now) d in
+    let meant : Result PlacedRegion DecodeError = region_at (is_strict c.args.self.now.reading) c.args.self.now.globals.now c.args.kind true (segment_view c.args.segment.now) d in
     let other : Result PlacedRegion DecodeError = region_at r.names.strict r.names.globals.now c.args.kind true (segment_view c.args.segment.now) (drawing_of r) in
-    let same : meant ≡ other = led r c.args.self.now.strict c.args.self.now.globals.now c.args.kind true (segment_view c.args.segment.now) c.context.inside.bitmap c.deref.result.now c.context.inside.regions.items c.context.inside.names c.context.inside.untouched c.context.inside.passed_over d other c.references-references.ensures.strict c.references-references.ensures.globals c.references-references.ensures.drawing c.deref.ensures.value c.context.view_is refl in
+    let same : meant ≡ other = led r (is_strict c.args.self.now.reading) c.args.self.now.globals.now c.args.kind true (segment_view c.args.segment.now) c.context.inside.bitmap c.deref.result.now c.context.inside.regions.items c.context.inside.names c.context.inside.untouched c.context.inside.passed_over d other c.references-references.ensures.strict c.references-references.ensures.globals c.references-references.ensures.drawing c.deref.ensures.value c.context.view_is refl in
     rw (e.1, e.2) (kept-refused c.args.segment.now.header.segment_number d meant c.in_err-parsed.field-0.0 (refused-too meant other c.in_err-parsed.field-0.0 same c.in_err-parsed.ensures.value))

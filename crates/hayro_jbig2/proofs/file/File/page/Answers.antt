@@ -1,4 +1,4 @@
-use Rattle.std.proofs.Common.{◌≡◌, ℕ, ◌<◌, ◌≤◌, ◌∙◌, List, Option, Some, Result, ap, arith, get_or, length, subst, sym}
+use Rattle.std.proofs.Common.{◌≡◌, ℕ, ◌<◌, ◌≤◌, ◌∙◌, List, Option, Some, Result, Ok, Err, ap, arith, get_or, length, subst, sym}
 use Rattle.std.proofs.lemmas.Option.{slice_get-get_or, slice_get_past}
 use Rattle.std.specs.Prelude.{IfErr, option_map, slice_get}
 use Rattle.std.proofs.lemmas.Bool.{ltb-false, ltb-true}
@@ -8,7 +8,7 @@ use Rattle.hayro_jbig2.proofs.Books.{pages_stand_alone}
 use Rattle.hayro_jbig2.proofs.file.File.page.Goals as goal
 use Rattle.hayro_jbig2.specs.Causes.{IsAnswered}
 use Rattle.hayro_jbig2.specs.Files.{ReadFile, PageInFile, page_in, page_of}
-use Rattle.hayro_jbig2.specs.Names.{Names}
+use Rattle.hayro_jbig2.specs.Names.{Names, Shared, names_of}
 use Rattle.hayro_jbig2.specs.Page.{ReadPage}
 use Rattle.hayro_jbig2.specs.inner.PageViews.{kept_names}
 
@@ -22,10 +22,13 @@ returns-in-Some-clause-value g c =
     let book : ReadFile = c.args.self.now in
     let page : PageInFile = c.in-Some.page.now in
     let there = c.in-Some.ensures.lookup in
+    let read : ReadFile → PageInFile → Result Names DecodeError → Option DecodeError → ReadPage = λ b p globals fault. record { reading = b.reading; initial_page = p.initial_page; segments = p.segments; globals = globals; fault = fault } in
+    let fault : c.duplicate_fault.result ≡ book.fault = c.duplicate_fault.ensures ∙ ap (λ (b : ReadFile). b.fault) c.self.view_is in
     let made : c.of_file.result ≡ page_in book page = c.of_file.ensures
-    ∙ ap (λ (b : ReadFile). let r : ReadPage = record { strict = b.strict; initial_page = c.page.inside.initial_page; segments = segment_views c.page.inside.segments.items; globals = kept_names c.globals.result } in r) c.self.view_is
-    ∙ ap (λ (p : PageInFile). let r : ReadPage = record { strict = book.strict; initial_page = p.initial_page; segments = p.segments; globals = kept_names c.globals.result } in r) c.page.view_is
-    ∙ ap (λ (globals : Result Names DecodeError). let r : ReadPage = record { strict = book.strict; initial_page = page.initial_page; segments = page.segments; globals = globals } in r) c.globals.ensures in
+    ∙ ap (λ (b : ReadFile). let r : ReadPage = record { reading = b.reading; initial_page = c.page.inside.initial_page; segments = segment_views c.page.inside.segments.items; globals = kept_names c.globals.result; fault = c.duplicate_fault.result } in r) c.self.view_is
+    ∙ ap (λ (p : PageInFile). read book p (kept_names c.globals.result) c.duplicate_fault.result) c.page.view_is
+    ∙ ap (λ (globals : Result Names DecodeError). read book page globals c.duplicate_fault.result) c.globals.ensures
+    ∙ ap (λ (f : Option DecodeError). read book page (names_of book.globals) f) fault in
     page-at book c.deref.result.now c.args.index page c.of_file.result (c.deref.ensures.value ∙ ap (λ (b : ReadFile). b.pages) c.self.view_is) (ltb-true _ _ (sym there.0)) there.1 made
 
 pub returns-in-Some-clause-alone : goal.returns-in-Some-clause-alone
@@ -44,4 +47,8 @@ returns-in-None-clause-alone g c = pages_stand_alone
 pub of_file-requires-clause-answered : goal.of_file-requires-clause-answered
 of_file-requires-clause-answered g c =
     let given : IfErr c.args.self.now.globals IsAnswered = subst (λ (b : ReadFile). IfErr b.globals IsAnswered) c.self.view_is c.self.invariant in
-    subst (λ (r : Result Names DecodeError). IfErr r IsAnswered) (sym c.globals.ensures) given
+    subst (λ (r : Result Names DecodeError). IfErr r IsAnswered) (sym c.globals.ensures) (named c.args.self.now.globals given)
+  where
+    named : (globals : Result Shared DecodeError) → IfErr globals IsAnswered → IfErr (names_of globals) IsAnswered
+    named (Ok shared) is = tt
+    named (Err e) is = is

@@ -1,4 +1,4 @@
 use Rattle.hayro_jbig2.proofs.globals.Globals.from_segments.Given as goal
 
-abbrev pub ghosts-decode_names : goal.ghosts-decode_names
-ghosts-decode_names g a = record { name = a.blank.name; parts = a.blank.parts }
+abbrev pub ghosts-decode_shared : goal.ghosts-decode_names
+ghosts-decode_shared g a = record { name = a.blank.name; parts = a.blank.parts }

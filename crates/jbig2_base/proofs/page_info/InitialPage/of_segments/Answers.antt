@@ -1,5 +1,4 @@
-use Rattle.std.proofs.Common.{rules, Err}
-use Rattle.std.proofs.lemmas.Result.{err_from_is_err_and}
+use Rattle.std.proofs.Common.{rules}
 use Rattle.jbig2_base.specs.PageInfo.{initial_page_of}
 use Rattle.jbig2_base.specs.declared.page_info.InitialPage.{InitialPage}
 use Rattle.jbig2_base.specs.inner.SegmentViews.{segment_views}
@@ -7,14 +6,8 @@ use Rattle.jbig2_base.proofs.CauseSteps.{err-answers}
 use Rattle.jbig2_base.proofs.InitialCauses.{initial_page_cause}
 use Rattle.jbig2_base.proofs.page_info.InitialPage.of_segments.Goals as goal
 
-pub returns-in_err-height-clause-causes : goal.returns-in_err-height-clause-causes
-unfolding initial_page_of
-returns-in_err-height-clause-causes g c =
-    let e = err_from_is_err_and c.from_residual-in_err-height.result c.from_residual-in_err-height.ensures.1 in
-    rw (e.1, e.2) (initial_page_cause (segment_views c.args.segments.now) (Err c.in_err-height.field-0.0) (search rules))
-
 pub returns-clause-causes : goal.returns-clause-causes
 unfolding initial_page_of
 returns-clause-causes g c =
-    initial_page_cause (segment_views c.args.segments.now) c.initial_page_with.result
-    (err-answers (λ (page : InitialPage). page) c.initial_page_with.result (initial_page_of (segment_views c.args.segments.now)) (search rules))
+    initial_page_cause (segment_views c.args.segments.now) c.with_height.result
+    (err-answers (λ (page : InitialPage). page) c.with_height.result (initial_page_of (segment_views c.args.segments.now)) (search rules))

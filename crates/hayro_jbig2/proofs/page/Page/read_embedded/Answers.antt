@@ -1,16 +1,17 @@
 use Rattle.std.proofs.Common.{Ok, inr}
 use Rattle.std.proofs.lemmas.Result.{err_from_is_err_and}
-use Rattle.jbig2_base.proofs.Answered.{answered-initial_page, answered-sequential}
+use Rattle.jbig2_base.proofs.Answered.{answered-sequential}
+use Rattle.hayro_jbig2.proofs.Answered.{answered-beginning}
 use Rattle.hayro_jbig2.proofs.Answering.{returned_error}
 use Rattle.hayro_jbig2.proofs.Sides.{begun_sides}
-use Rattle.hayro_jbig2.proofs.page.Page.new_embedded.Goals as goal
+use Rattle.hayro_jbig2.proofs.page.Page.read_embedded.Goals as goal
 
 pub invariant_of-result : goal.invariant_of-result
-invariant_of-result g c = (begun_sides _ _ c.in_ok-initial_page.ensures.value, tt)
+invariant_of-result g c = (begun_sides _ _ _ c.in_ok-initial_page.ensures.value, tt)
 
 pub returns-in_err-segments-clause-errors : goal.returns-in_err-segments-clause-errors
 returns-in_err-segments-clause-errors g c =
-    let e = err_from_is_err_and c.from_residual.result c.from_residual.ensures.1 in
+    let e = err_from_is_err_and c.from_residual-in_err-segments.result c.from_residual-in_err-segments.ensures.1 in
     rw (e.1, e.2) (returned_error _ _ (answered-sequential _ _) c.in_err-segments.ensures)
 
 pub returns-in_err-sort_segments-clause-errors : goal.returns-in_err-sort_segments-clause-errors
@@ -21,4 +22,9 @@ returns-in_err-sort_segments-clause-errors g c =
 pub returns-in_err-initial_page-clause-errors : goal.returns-in_err-initial_page-clause-errors
 returns-in_err-initial_page-clause-errors g c =
     let e = err_from_is_err_and c.from_residual-in_err-initial_page.result c.from_residual-in_err-initial_page.ensures.1 in
-    rw (e.1, e.2) (returned_error _ _ (answered-initial_page _) (inr c.in_err-initial_page.ensures.value))
+    rw (e.1, e.2) (returned_error _ _ (answered-beginning _ _) (inr c.in_err-initial_page.ensures.value))
+
+pub returns-in_err-fault-clause-errors : goal.returns-in_err-fault-clause-errors
+returns-in_err-fault-clause-errors g c =
+    let e = err_from_is_err_and c.from_residual-in_err-fault.result c.from_residual-in_err-fault.ensures.1 in
+    rw (e.1, e.2) (returned_error (Ok _) _ tt c.in_err-fault.ensures)

@@ -1,48 +1,51 @@
-use Rattle.std.proofs.Common.{◌≡◌, ◌⊎◌, ℕ, Bool, true, false, ◌&&◌, List, length, Result, Ok, Err, inl, inr, sym, ap, subst, ◌∙◌}
+use Rattle.std.proofs.Common.{◌≡◌, ◌⊎◌, ℕ, Bool, true, false, ◌&&◌, List, length, Option, Result, Ok, Err, inl, inr, sym, ap, subst, ◌∙◌}
 use Rattle.std.specs.Prelude.{IfErr}
 use Rattle.std.proofs.lemmas.List.{length-map}
 use Rattle.std.proofs.lemmas.Result.{err_from_is_err_and}
 use Rattle.jbig2_base.specs.File.{file_at}
+use Rattle.jbig2_base.specs.Reading.{fault_of, is_strict}
 use Rattle.jbig2_base.specs.Segment.{SegmentView}
 use Rattle.jbig2_base.specs.inner.SegmentViews.{file_view, segment_views}
 use Rattle.jbig2_base.specs.declared.error.DecodeError.{DecodeError}
 use Rattle.jbig2_base.specs.declared.error.DecodeError.TheVariants.{Format, OutOfMemory}
 use Rattle.jbig2_base.specs.declared.error.FormatError.TheVariants.{PageCountMismatch}
 use Rattle.jbig2_base.specs.declared.file_header.FileHeader.{FileHeader}
+use Rattle.jbig2_base.specs.declared.reading.Reading.{Reading}
+use Rattle.jbig2_base.specs.declared.reading.Reading.TheVariants.{Lenient}
 use Rattle.hayro_jbig2.specs.Causes.{IsAnswered}
-use Rattle.hayro_jbig2.specs.Files.{PageInFile, associated, book_at, by_pages, filed_each, miscounts, of_page, shared_by}
-use Rattle.hayro_jbig2.specs.Names.{Names}
+use Rattle.hayro_jbig2.specs.Files.{PageInFile, associated, book_at, by_pages, filed_each, left_out_of, miscounts, of_page, shared_by}
+use Rattle.hayro_jbig2.specs.Names.{Shared}
 use Rattle.hayro_jbig2.specs.inner.ByPages.{by_page_view}
 use Rattle.jbig2_base.proofs.Answered.{answered-file}
 use Rattle.jbig2_base.proofs.CauseSteps.{err-gives}
 use Rattle.hayro_jbig2.proofs.Answered.{answered-associated, answered-each}
 use Rattle.hayro_jbig2.proofs.Answering.{returned_error, shared_answered}
 use Rattle.hayro_jbig2.proofs.Causes.{file_cause}
-use Rattle.hayro_jbig2.proofs.file.File.new_within.Goals as goal
-use Rattle.hayro_jbig2.proofs.file.File.new_within.Goals.{else-strict-via-then-strict+else-miscounts, else-strict-via-else-strict}
+use Rattle.hayro_jbig2.proofs.file.File.read.Goals as goal
+use Rattle.hayro_jbig2.proofs.file.File.read.Goals.{else-strict-via-then-strict+else-miscounts, else-strict-via-else-strict}
 
 -- a file of which each step was taken
-book-made : (strict : Bool) (bytes : List ℕ) (file : FileHeader × List SegmentView) (parts : List SegmentView × List (List SegmentView)) (pages : List PageInFile) (globals : Result Names DecodeError)
-    → file_at strict bytes ≡ Ok file → associated strict file.1 ≡ Ok tt → of_page 0 file.1 ≡ parts.0 → by_pages file.1 ≡ parts.1
-    → (strict && miscounts file.0.number_of_pages (length parts.1)) ≡ false → filed_each strict parts.1 ≡ Ok pages → shared_by strict pages parts.0 ≡ globals
-    → book_at strict bytes ≡ Ok (record { strict = strict; pages = pages; globals = globals })
+book-made : (reading : Reading) (bytes : List ℕ) (file : FileHeader × List SegmentView) (parts : List SegmentView × List (List SegmentView)) (pages : List PageInFile) (globals : Result Shared DecodeError) (left_out : List DecodeError) (fault : Option DecodeError)
+    → file_at reading bytes ≡ Ok file → associated (is_strict reading) file.1 ≡ Ok tt → of_page 0 file.1 ≡ parts.0 → by_pages file.1 ≡ parts.1
+    → (is_strict reading && miscounts file.0.number_of_pages (length parts.1)) ≡ false → filed_each reading parts.1 ≡ Ok pages → shared_by reading pages parts.0 ≡ globals → left_out_of reading parts.1 ≡ left_out → fault_of reading (file_at Lenient bytes) ≡ fault
+    → book_at reading bytes ≡ Ok (record { reading = reading; pages = pages; globals = globals; left_out = left_out; fault = fault })
 unfolding book_at
-book-made strict bytes file parts pages globals read known shared own counted filed named = rw (read, known, shared, own, counted, filed, named)
+book-made reading bytes file parts pages globals left_out fault read known shared own counted filed named left ended = rw (read, known, shared, own, counted, filed, named, left, ended)
 
 -- a file whose pages are refused
-book-unfiled : (strict : Bool) (bytes : List ℕ) (file : FileHeader × List SegmentView) (parts : List SegmentView × List (List SegmentView)) (e : DecodeError)
-    → file_at strict bytes ≡ Ok file → associated strict file.1 ≡ Ok tt → by_pages file.1 ≡ parts.1
-    → (strict && miscounts file.0.number_of_pages (length parts.1)) ≡ false → (e ≡ OutOfMemory) ⊎ (filed_each strict parts.1 ≡ Err e) → (e ≡ OutOfMemory) ⊎ (book_at strict bytes ≡ Err e)
+book-unfiled : (reading : Reading) (bytes : List ℕ) (file : FileHeader × List SegmentView) (parts : List SegmentView × List (List SegmentView)) (e : DecodeError)
+    → file_at reading bytes ≡ Ok file → associated (is_strict reading) file.1 ≡ Ok tt → by_pages file.1 ≡ parts.1
+    → (is_strict reading && miscounts file.0.number_of_pages (length parts.1)) ≡ false → (e ≡ OutOfMemory) ⊎ (filed_each reading parts.1 ≡ Err e) → (e ≡ OutOfMemory) ⊎ (book_at reading bytes ≡ Err e)
 unfolding book_at
-book-unfiled strict bytes file parts e read known own counted (inl memory) = inl memory
-book-unfiled strict bytes file parts e read known own counted (inr unfiled) = inr (rw (read, known, own, counted, unfiled))
+book-unfiled reading bytes file parts e read known own counted (inl memory) = inl memory
+book-unfiled reading bytes file parts e read known own counted (inr unfiled) = inr (rw (read, known, own, counted, unfiled))
 
 -- a file that has not as many pages as its header states
-book-miscounted : (strict : Bool) (bytes : List ℕ) (file : FileHeader × List SegmentView) (parts : List SegmentView × List (List SegmentView))
-    → file_at strict bytes ≡ Ok file → associated strict file.1 ≡ Ok tt → by_pages file.1 ≡ parts.1
-    → (strict && miscounts file.0.number_of_pages (length parts.1)) ≡ true → book_at strict bytes ≡ Err (Format PageCountMismatch)
+book-miscounted : (reading : Reading) (bytes : List ℕ) (file : FileHeader × List SegmentView) (parts : List SegmentView × List (List SegmentView))
+    → file_at reading bytes ≡ Ok file → associated (is_strict reading) file.1 ≡ Ok tt → by_pages file.1 ≡ parts.1
+    → (is_strict reading && miscounts file.0.number_of_pages (length parts.1)) ≡ true → book_at reading bytes ≡ Err (Format PageCountMismatch)
 unfolding book_at
-book-miscounted strict bytes file parts read known own counted = rw (read, known, own, counted)
+book-miscounted reading bytes file parts read known own counted = rw (read, known, own, counted)
 
 -- what an answer of two parts has
 parts-are : (shared : List SegmentView) (pages : List (List SegmentView)) (parts : List SegmentView × List (List SegmentView)) → (let meant : Result (List SegmentView × List (List SegmentView)) DecodeError = Ok (shared, pages) in meant) ≡ Ok parts → (shared ≡ parts.0) × (pages ≡ parts.1)
@@ -50,32 +53,32 @@ parts-are shared pages parts e =
     let same : (let both : List SegmentView × List (List SegmentView) = (shared, pages) in both) ≡ parts = cc in
     (ap (λ (p : List SegmentView × List (List SegmentView)). p.0) same, ap (λ (p : List SegmentView × List (List SegmentView)). p.1) same)
 
-kept-is : (named globals : Result Names DecodeError) → (let meant : Result (Result Names DecodeError) DecodeError = Ok named in meant) ≡ Ok globals → named ≡ globals
+kept-is : (named globals : Result Shared DecodeError) → (let meant : Result (Result Shared DecodeError) DecodeError = Ok named in meant) ≡ Ok globals → named ≡ globals
 kept-is named globals e = cc
 
 pub returns-clause-value : goal.returns-clause-value
 returns-clause-value g c =
-    let strict = c.args.settings.now.strict in
+    let reading = c.args.reading in
     let file : FileHeader × List SegmentView = file_view c.in_ok-file.file in
     let parts : List SegmentView × List (List SegmentView) = by_page_view c.in_ok-segments.segments in
-    let known : associated strict file.1 ≡ Ok tt = ap (λ s. associated strict (segment_views s)) (sym c.deref.ensures.value) ∙ c.in_ok-check_associations.ensures in
+    let known : associated (is_strict reading) file.1 ≡ Ok tt = ap (λ s. associated (is_strict reading) (segment_views s)) (sym c.deref.ensures.value) ∙ c.in_ok-check_associations.ensures in
     let split = parts-are (of_page 0 file.1) (by_pages file.1) parts c.in_ok-segments.ensures in
     let length_is : length parts.1 ≡ length c.in_ok-segments.segments.pages.items = length-map c.in_ok-segments.segments.pages.items _ in
-    let counted : (strict && miscounts file.0.number_of_pages (length parts.1)) ≡ false = elim c.else-strict.branch [
+    let counted : (is_strict reading && miscounts file.0.number_of_pages (length parts.1)) ≡ false = elim c.else-strict.branch [
       | else-strict-via-then-strict+else-miscounts w ↦
           ap (λ (b : Bool). b && miscounts file.0.number_of_pages (length parts.1)) w.if-strict.true
           ∙ ap (λ (n : ℕ). miscounts file.0.number_of_pages n) (length_is ∙ sym (w.len.ensures ∙ c.in_ok-segments.segments.pages.ok.0)) ∙ sym w.miscounts.ensures ∙ w.if-miscounts.false
       | else-strict-via-else-strict w ↦ ap (λ (b : Bool). b && miscounts file.0.number_of_pages (length parts.1)) w.if-strict.false
     ] in
     let named =
-    ap (λ ps. shared_by strict ps (segment_views c.in_ok-segments.segments.shared.items)) (sym c.deref-2.ensures.value)
-    ∙ ap (λ s. shared_by strict c.deref-2.result.now (segment_views s)) (sym c.deref-3.ensures.value) ∙ kept-is _ _ c.in_ok-globals.ensures in
-    book-made strict c.args.bytes.now file parts c.in_ok-pages.pages.items c.in_ok-globals.globals c.in_ok-file.ensures.value known split.0 split.1 counted c.in_ok-pages.ensures named
+    ap (λ ps. shared_by reading ps (segment_views c.in_ok-segments.segments.shared.items)) (sym c.deref-2.ensures.value)
+    ∙ ap (λ s. shared_by reading c.deref-2.result.now (segment_views s)) (sym c.deref-3.ensures.value) ∙ kept-is _ _ c.in_ok-globals.ensures in
+    book-made reading c.args.bytes.now file parts c.in_ok-pages.pages.items c.in_ok-globals.globals c.in_ok-file.ensures.value known split.0 split.1 counted c.in_ok-pages.ensures named
 
 pub invariant_of-result : goal.invariant_of-result
 invariant_of-result g c =
-    subst (λ (r : Result Names DecodeError). IfErr r IsAnswered) (kept-is _ _ c.in_ok-globals.ensures)
-    (shared_answered c.args.settings.now.strict c.deref-2.result.now (segment_views c.deref-3.result.now))
+    subst (λ (r : Result Shared DecodeError). IfErr r IsAnswered) (kept-is _ _ c.in_ok-globals.ensures)
+    (shared_answered c.args.reading c.deref-2.result.now (segment_views c.deref-3.result.now))
 
 pub returns-in_err-file-clause-errors : goal.returns-in_err-file-clause-errors
 returns-in_err-file-clause-errors g c =
@@ -85,7 +88,7 @@ returns-in_err-file-clause-errors g c =
 pub returns-in_err-check_associations-clause-errors : goal.returns-in_err-check_associations-clause-errors
 returns-in_err-check_associations-clause-errors g c =
     let e = err_from_is_err_and c.from_residual-in_err-check_associations.result c.from_residual-in_err-check_associations.ensures.1 in
-    rw (e.1, e.2) (returned_error _ _ (answered-associated c.args.settings.now.strict (segment_views c.deref.result.now)) (inr c.in_err-check_associations.ensures))
+    rw (e.1, e.2) (returned_error _ _ (answered-associated (is_strict c.args.reading) (segment_views c.deref.result.now)) (inr c.in_err-check_associations.ensures))
 
 pub returns-in_err-segments-clause-errors : goal.returns-in_err-segments-clause-errors
 returns-in_err-segments-clause-errors g c =
@@ -95,42 +98,47 @@ returns-in_err-segments-clause-errors g c =
 pub returns-in_err-pages-clause-errors : goal.returns-in_err-pages-clause-errors
 returns-in_err-pages-clause-errors g c =
     let e = err_from_is_err_and c.from_residual-in_err-pages.result c.from_residual-in_err-pages.ensures.1 in
-    rw (e.1, e.2) (returned_error _ _ (answered-each _ _) c.in_err-pages.ensures)
+    rw (e.1, e.2) (returned_error _ _ (answered-each _ _) c.in_err-pages.ensures.value)
 
 pub returns-in_err-globals-clause-errors : goal.returns-in_err-globals-clause-errors
 returns-in_err-globals-clause-errors g c =
     let e = err_from_is_err_and c.from_residual-in_err-globals.result c.from_residual-in_err-globals.ensures.1 in
     rw (e.1, e.2) (returned_error (Ok _) _ tt c.in_err-globals.ensures)
 
+pub returns-in_err-fault-clause-errors : goal.returns-in_err-fault-clause-errors
+returns-in_err-fault-clause-errors g c =
+    let e = err_from_is_err_and c.from_residual-in_err-fault.result c.from_residual-in_err-fault.ensures.1 in
+    rw (e.1, e.2) (returned_error (Ok _) _ tt c.in_err-fault.ensures)
+
 pub returns-in_err-pages-clause-value : goal.returns-in_err-pages-clause-value
 returns-in_err-pages-clause-value g c =
-    let strict = c.args.settings.now.strict in
+    let reading = c.args.reading in
     let file : FileHeader × List SegmentView = file_view c.in_ok-file.file in
     let parts : List SegmentView × List (List SegmentView) = by_page_view c.in_ok-segments.segments in
-    let known : associated strict file.1 ≡ Ok tt = ap (λ s. associated strict (segment_views s)) (sym c.deref.ensures.value) ∙ c.in_ok-check_associations.ensures in
+    let known : associated (is_strict reading) file.1 ≡ Ok tt = ap (λ s. associated (is_strict reading) (segment_views s)) (sym c.deref.ensures.value) ∙ c.in_ok-check_associations.ensures in
     let split = parts-are (of_page 0 file.1) (by_pages file.1) parts c.in_ok-segments.ensures in
     let length_is : length parts.1 ≡ length c.in_ok-segments.segments.pages.items = length-map c.in_ok-segments.segments.pages.items _ in
-    let counted : (strict && miscounts file.0.number_of_pages (length parts.1)) ≡ false = elim c.else-strict.branch [
+    let counted : (is_strict reading && miscounts file.0.number_of_pages (length parts.1)) ≡ false = elim c.else-strict.branch [
       | else-strict-via-then-strict+else-miscounts w ↦
           ap (λ (b : Bool). b && miscounts file.0.number_of_pages (length parts.1)) w.if-strict.true
           ∙ ap (λ (n : ℕ). miscounts file.0.number_of_pages n) (length_is ∙ sym (w.len.ensures ∙ c.in_ok-segments.segments.pages.ok.0)) ∙ sym w.miscounts.ensures ∙ w.if-miscounts.false
       | else-strict-via-else-strict w ↦ ap (λ (b : Bool). b && miscounts file.0.number_of_pages (length parts.1)) w.if-strict.false
     ] in
     let e = err_from_is_err_and c.from_residual-in_err-pages.result c.from_residual-in_err-pages.ensures.1 in
-    rw (e.1, e.2) (book-unfiled strict c.args.bytes.now file parts c.in_err-pages.field-0.0 c.in_ok-file.ensures.value known split.1 counted c.in_err-pages.ensures)
+    rw (e.1, e.2) (book-unfiled reading c.args.bytes.now file parts c.in_err-pages.field-0.0 c.in_ok-file.ensures.value known split.1 counted c.in_err-pages.ensures.value)
 
 pub returns-in_err-pages-clause-causes : goal.returns-in_err-pages-clause-causes
-returns-in_err-pages-clause-causes g c = file_cause c.args.settings.now.strict c.args.bytes.now _ (err-gives _ _ _ (returns-in_err-pages-clause-value g c))
+returns-in_err-pages-clause-causes g c = file_cause c.args.reading c.args.bytes.now _ (err-gives _ _ _ (returns-in_err-pages-clause-value g c))
 
 pub returns-then-miscounts-clause-causes : goal.returns-then-miscounts-clause-causes
 returns-then-miscounts-clause-causes g c =
-    let strict = c.args.settings.now.strict in
+    let reading = c.args.reading in
     let file : FileHeader × List SegmentView = file_view c.in_ok-file.file in
     let parts : List SegmentView × List (List SegmentView) = by_page_view c.in_ok-segments.segments in
-    let known : associated strict file.1 ≡ Ok tt = ap (λ s. associated strict (segment_views s)) (sym c.deref.ensures.value) ∙ c.in_ok-check_associations.ensures in
+    let known : associated (is_strict reading) file.1 ≡ Ok tt = ap (λ s. associated (is_strict reading) (segment_views s)) (sym c.deref.ensures.value) ∙ c.in_ok-check_associations.ensures in
     let split = parts-are (of_page 0 file.1) (by_pages file.1) parts c.in_ok-segments.ensures in
     let length_is : length parts.1 ≡ length c.in_ok-segments.segments.pages.items = length-map c.in_ok-segments.segments.pages.items _ in
-    let counted : (strict && miscounts file.0.number_of_pages (length parts.1)) ≡ true =
+    let counted : (is_strict reading && miscounts file.0.number_of_pages (length parts.1)) ≡ true =
     ap (λ (b : Bool). b && miscounts file.0.number_of_pages (length parts.1)) c.if-strict.true
     ∙ ap (λ (n : ℕ). miscounts file.0.number_of_pages n) (length_is ∙ sym (c.len.ensures ∙ c.in_ok-segments.segments.pages.ok.0)) ∙ sym c.miscounts.ensures ∙ c.if-miscounts.true in
-    file_cause strict c.args.bytes.now _ (inr (book-miscounted strict c.args.bytes.now file parts c.in_ok-file.ensures.value known split.1 counted))
+    file_cause reading c.args.bytes.now _ (inr (book-miscounted reading c.args.bytes.now file parts c.in_ok-file.ensures.value known split.1 counted))

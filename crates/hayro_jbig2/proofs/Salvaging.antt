@@ -1,0 +1,133 @@
+-- Salvage refuses little: neither globals, nor lists of segments, nor what a page draws.
+use Rattle.std.proofs.Common.{◌≡◌, ℕ, zero, suc, ◌≤◌, eqb, true, false, cond, List, [], ◌∷◌, length, None, Result, Ok, Err, refl, arith}
+use Rattle.std.proofs.lemmas.Bool.{cond_both, le-ltb, ne_eqb}
+use Rattle.std.specs.Prelude.{IsTrue}
+use Rattle.std.specs.Result.{is_ok}
+use Rattle.jbig2_base.specs.Answer.{◌>>=◌}
+use Rattle.jbig2_base.specs.File.{file_at, file_header_at, gathered, gathered_before, header_goes_on, headers_in, segments_by}
+use Rattle.jbig2_base.specs.PageInfo.{initial_page_with}
+use Rattle.jbig2_base.specs.Reading.{is_salvaged}
+use Rattle.jbig2_base.specs.Segment.{Header, SegmentView, header_at, segment_at, segment_data_at}
+use Rattle.jbig2_base.specs.Sequential.{goes_on, is_end_of_file, segments_in, sequential}
+use Rattle.jbig2_base.specs.declared.error.DecodeError.{DecodeError}
+use Rattle.jbig2_base.specs.declared.error.DecodeError.TheVariants as errors
+use Rattle.jbig2_base.specs.declared.file_header.FileOrganization.{FileOrganization}
+use Rattle.jbig2_base.specs.declared.file_header.FileOrganization.TheVariants.{Sequential, RandomAccess}
+use Rattle.jbig2_base.specs.declared.page_info.PageInformation.{PageInformation}
+use Rattle.jbig2_base.specs.declared.reading.Reading.TheVariants.{Salvage}
+use Rattle.jbig2_base.proofs.Answered.{Answered, IsAnswered, answered-header, answered-segment, answered-segment_data}
+use Rattle.hayro_jbig2.specs.Files.{PageInFile, associated, book_at, by_pages, filed_before, filed_each, filed_from, shared_by}
+use Rattle.hayro_jbig2.specs.Lenient.{HasBeginning}
+use Rattle.hayro_jbig2.specs.Names.{Names, Shared, kept_by, named_from, no_names, nothing_shared, or_shared_without}
+use Rattle.hayro_jbig2.specs.Page.{Drawing, IsSide, beginning_of, ends_page, or_left_out, segment_by, segment_on, segments_drawn}
+use Rattle.hayro_jbig2.proofs.Answered.{answered-filed, answered-kept, answered-segment_by}
+
+-- each error that bytes can bring about is left out
+pub left-out : (e : DecodeError) → IsAnswered e → is_salvaged Salvage e ≡ true
+left-out errors.OutOfMemory never = absurd never
+left-out _ is = refl
+
+abbrev IsFine : {A : Type 0} → Result A DecodeError → Type 0
+IsFine r = IsTrue (is_ok r)
+
+fine-next : {A B : Type 0} (r : Result A DecodeError) (next : A → Result B DecodeError) → IsFine r → ((x : A) → IsFine (next x)) → IsFine (r >>= next)
+fine-next (Ok x) next is each = each x
+fine-next (Err e) next is each = is
+
+-- ---- lists
+fine-on : (r : Result (SegmentView × List ℕ) DecodeError) (others : List ℕ → Result (List SegmentView) DecodeError) → Answered r → ((bytes : List ℕ) → IsFine (others bytes)) → IsFine (goes_on Salvage r others)
+fine-on (Ok x) others is rest =
+    cond_both (is_end_of_file x.0.header.segment_type) (Ok (x.0 ∷ [])) (others x.1 >>= λ ps. Ok (x.0 ∷ ps)) (λ (r : Result (List SegmentView) DecodeError). IsFine r) (λ last. refl) (λ goes. fine-next (others x.1) _ (rest x.1) (λ ps. refl))
+fine-on (Err e) others is rest = rw (left-out e is) refl
+
+fine-segments : (most : ℕ) (bytes : List ℕ) → IsFine (segments_in most Salvage bytes)
+unfolding segments_in
+fine-segments zero bytes = refl
+fine-segments (suc most) bytes =
+    cond_both (eqb (length bytes) 0) (Ok []) (goes_on Salvage (segment_at false bytes) (segments_in most Salvage)) (λ (r : Result (List SegmentView) DecodeError). IsFine r) (λ none. refl)
+    (λ some. fine-on (segment_at false bytes) (segments_in most Salvage) (answered-segment false bytes) (fine-segments most))
+
+pub fine-sequential : (bytes : List ℕ) → IsFine (sequential Salvage bytes)
+fine-sequential bytes = fine-segments (length bytes) bytes
+
+fine-header-on : (bytes : List ℕ) (r : Result (Header × List ℕ) DecodeError) (others : List ℕ → Result (List Header × List ℕ) DecodeError) → Answered r → ((rest : List ℕ) → IsFine (others rest)) → IsFine (header_goes_on Salvage bytes r others)
+fine-header-on bytes (Ok h) others is rest =
+    cond_both (is_end_of_file h.0.segment_type) (Ok (h.0 ∷ [], h.1)) (others h.1 >>= λ hs. Ok (h.0 ∷ hs.0, hs.1)) (λ (r : Result (List Header × List ℕ) DecodeError). IsFine r) (λ last. refl) (λ goes. fine-next (others h.1) _ (rest h.1) (λ hs. refl))
+fine-header-on bytes (Err e) others is rest = rw (left-out e is) refl
+
+fine-headers : (most : ℕ) (bytes : List ℕ) → IsFine (headers_in most Salvage bytes)
+unfolding headers_in
+fine-headers zero bytes = refl
+fine-headers (suc most) bytes =
+    cond_both (eqb (length bytes) 0) (Ok ([], bytes)) (header_goes_on Salvage bytes (header_at false bytes) (headers_in most Salvage)) (λ (r : Result (List Header × List ℕ) DecodeError). IsFine r) (λ none. refl)
+    (λ some. fine-header-on bytes (header_at false bytes) (headers_in most Salvage) (answered-header false bytes) (fine-headers most))
+
+fine-before : (r : Result (SegmentView × List ℕ) DecodeError) (others : List ℕ → Result (List SegmentView) DecodeError) → Answered r → ((rest : List ℕ) → IsFine (others rest)) → IsFine (gathered_before Salvage r others)
+fine-before (Ok p) others is rest = fine-next (others p.1) _ (rest p.1) (λ ps. refl)
+fine-before (Err e) others is rest = rw (left-out e is) refl
+
+fine-gathered : (hs : List Header) (bytes : List ℕ) → IsFine (gathered Salvage hs bytes)
+fine-gathered [] bytes = refl
+fine-gathered (h ∷ hs) bytes = fine-before (segment_data_at h bytes) (gathered Salvage hs) (answered-segment_data h bytes) (fine-gathered hs)
+
+pub fine-by : (organization : FileOrganization) (bytes : List ℕ) → IsFine (segments_by organization Salvage bytes)
+fine-by Sequential bytes = fine-sequential bytes
+fine-by RandomAccess bytes = fine-next (headers_in (length bytes) Salvage bytes) _ (fine-headers (length bytes) bytes) (λ hs. fine-gathered hs.0 hs.1)
+
+-- ---- globals
+fine-without : (number : ℕ) (shared : Shared) (r : Result Names DecodeError) → Answered r → IsFine (or_shared_without Salvage number shared r)
+fine-without number shared (Ok names) is = refl
+fine-without number shared (Err e) is = rw (left-out e is) refl
+
+pub fine-named : (ps : List SegmentView) (shared : Shared) → IsFine (named_from Salvage ps shared)
+fine-named [] shared = refl
+fine-named (p ∷ ps) shared =
+    let kept : Result Names DecodeError = kept_by false no_names p shared.names in
+    fine-next (or_shared_without Salvage p.header.segment_number shared kept) _ (fine-without p.header.segment_number shared kept (answered-kept false no_names p shared.names)) (λ more. fine-named ps more)
+
+-- ---- pages
+fine-left : (number : ℕ) (d : Drawing) (r : Result Drawing DecodeError) → Answered r → IsFine (or_left_out Salvage number d r)
+fine-left number d (Ok e) is = refl
+fine-left number d (Err e) is = rw (left-out e is) refl
+
+pub fine-drawn : (globals : Names) (ps : List SegmentView) (d : Drawing) → IsFine (segments_drawn Salvage globals ps d)
+fine-drawn globals [] d = refl
+fine-drawn globals (p ∷ ps) d =
+    cond_both (ends_page p.header.segment_type) (Ok d) (segment_on Salvage globals p d >>= λ e. segments_drawn Salvage globals ps e) (λ (r : Result Drawing DecodeError). IsFine r) (λ ends. refl)
+    (λ goes. fine-next (segment_on Salvage globals p d) _ (fine-left p.header.segment_number d (segment_by false globals p d) (answered-segment_by false globals p d)) (λ e. fine-drawn globals ps e))
+
+-- ---- files
+fine-filed : (all : List (List SegmentView)) → IsFine (filed_each Salvage all)
+fine-filed [] = refl
+fine-filed (own ∷ others) = before (filed_from Salvage own) (filed_each Salvage others) (answered-filed Salvage own) (fine-filed others)
+  where
+    before : (r : Result PageInFile DecodeError) (rest : Result (List PageInFile) DecodeError) → Answered r → IsFine rest → IsFine (filed_before Salvage r rest)
+    before (Ok page) rest is fine = fine-next rest _ fine (λ pages. refl)
+    before (Err e) rest is fine = rw (left-out e is) fine
+
+associated-fine : (ps : List SegmentView) → IsFine (associated false ps)
+associated-fine [] = refl
+associated-fine (p ∷ ps) = associated-fine ps
+
+fine-book : (bytes : List ℕ) → IsFine (file_at Salvage bytes) → IsFine (book_at Salvage bytes)
+unfolding book_at
+fine-book bytes read =
+    fine-next (file_at Salvage bytes) _ read (λ file. fine-next (associated false file.1) _ (associated-fine file.1) (λ known. fine-next (filed_each Salvage (by_pages file.1)) _ (fine-filed (by_pages file.1)) (λ pages. refl)))
+
+fine-file : (bytes : List ℕ) → IsFine (file_header_at bytes) → IsFine (file_at Salvage bytes)
+unfolding file_at
+fine-file bytes read = fine-next (file_header_at bytes) _ read (λ header. fine-next (segments_by header.0.organization Salvage header.1) _ (fine-by header.0.organization header.1) (λ ps. refl))
+
+-- globals of a file that was read in salvage
+fine-shared : (pages : List PageInFile) (shared : List SegmentView) → IsFine (shared_by Salvage pages shared)
+fine-shared [] shared = refl
+fine-shared (page ∷ pages) shared = fine-named shared (nothing_shared None)
+
+-- ---- pages that have a beginning
+begun : (ps : List SegmentView) → HasBeginning ps → IsFine (beginning_of Salvage ps)
+unfolding beginning_of
+begun ps has = rw (has.first, has.read, has.told) (sized has.information.header.page_association has.fields.0 has.height has.columns has.rows)
+  where
+    sized : (number : ℕ) (info : PageInformation) (height : ℕ) → IsSide info.width → IsSide height → IsFine (initial_page_with number info height)
+    sized number info height columns rows =
+        rw (ne_eqb info.width 0 (λ is. omega (arith, columns.0, is)), ne_eqb height 0 (λ is. omega (arith, rows.0, is)), le-ltb 65535 info.width columns.1, le-ltb 65535 height rows.1) refl

@@ -1,0 +1,96 @@
+//! What a page begins as (T.88, 7.4.8), in each reading.
+ghost use Rattle.std.specs.Prelude.{◌≡◌, ◌≤◌, IfOk, min};
+ghost use Rattle.jbig2_base.specs.Answer.{Answers};
+ghost use Rattle.jbig2_base.specs.inner.SegmentViews.{segment_view, segment_views};
+ghost use Rattle.hayro_jbig2.specs.Page.{beginning_of, end_of, is_immediate, region_height, region_type, regions_height, told_height};
+
+use jbig2_base::error::Result;
+use jbig2_base::page_info::{InitialPage, stripes_height};
+use jbig2_base::reader::Reader;
+use jbig2_base::reading::Reading;
+use jbig2_base::segment::{Segment, SegmentType};
+use jbig2_region::region_info::{RegionSegmentInfo, parse_region_segment_info};
+use std::alloc::Allocator;
+
+/// The largest height of a page or a region.
+const MAX_HEIGHT: u32 = 65535;
+
+fn is_immediate_region(kind: SegmentType) -> bool
+    ensures { result ≡ is_immediate (region_type kind) }
+{
+    matches!(
+        kind,
+        SegmentType::ImmediateTextRegion
+            | SegmentType::ImmediateLosslessTextRegion
+            | SegmentType::ImmediateHalftoneRegion
+            | SegmentType::ImmediateLosslessHalftoneRegion
+            | SegmentType::ImmediateGenericRegion
+            | SegmentType::ImmediateLosslessGenericRegion
+            | SegmentType::ImmediateGenericRefinementRegion
+            | SegmentType::ImmediateLosslessGenericRefinementRegion
+    )
+}
+
+/// One row below the lowest of a region, at most 65535; its y is read as a signed number (T.88, 7.4.1).
+fn end_of(info: &RegionSegmentInfo) -> u32
+    ensures { result ≡ min 65535 (end_of info.now) }
+{
+    let above = info.y_location.wrapping_neg();
+    if info.y_location >= 0x8000_0000 {
+        return info.height.saturating_sub(above).min(MAX_HEIGHT);
+    }
+    info.y_location.saturating_add(info.height).min(MAX_HEIGHT)
+}
+
+/// How high a page is that ends with this region; 0 for what is no immediate region that can be read and drawn.
+fn region_height<A: Allocator>(segment: &Segment<'_, A>) -> u32
+    ensures { result ≡ region_height (segment_view segment.now) }
+{
+    if !is_immediate_region(segment.header.segment_type) {
+        return 0;
+    }
+    let mut reader = Reader::new(segment.bytes);
+    let Ok(info) = parse_region_segment_info(&mut reader) else {
+        return 0;
+    };
+    if info.width > MAX_HEIGHT || info.height > MAX_HEIGHT {
+        return 0;
+    }
+    end_of(&info)
+}
+
+fn regions_height<A: Allocator>(segments: &[Segment<'_, A>]) -> u32
+    ensures { result ≡ regions_height (segment_views segments.now) }
+{
+    let mut height = 0;
+    for segment in segments {
+        height = region_height(segment).max(height);
+    }
+    height
+}
+
+/// How high a page with these segments is where its page information leaves that open; 0 where nothing tells it.
+fn told_height<A: Allocator>(reading: Reading, segments: &[Segment<'_, A>]) -> u32
+    ensures { result ≡ told_height reading (segment_views segments.now) }
+{
+    let stripes = stripes_height(segments);
+    if stripes == 0 && matches!(reading, Reading::Salvage) {
+        return regions_height(segments);
+    }
+    stripes
+}
+
+/// What a page with these segments begins as. In salvage an open height that no stripe tells is that of the lowest
+/// immediate region's end.
+#[tactic(auto, unfolding(crate::specs::Page::beginning_of))]
+pub(crate) fn beginning_of<A: Allocator>(
+    reading: Reading,
+    segments: &[Segment<'_, A>],
+) -> Result<InitialPage>
+    ensures value { Answers (λ initial_page. initial_page) result
+        (beginning_of reading (segment_views segments.now)) }
+    ensures fits { IfOk result
+        (λ initial_page. (initial_page.width ≤ 65535) × (initial_page.height ≤ 65535)) }
+{
+    InitialPage::with_height(segments, told_height(reading, segments))
+}

@@ -1,0 +1,22 @@
+-- How strictly bytes are read (our own rule). Strict reading refuses each fault; lenient reading passes over what a
+-- decoder can do without; salvage goes on as lenient reading does, and leaves out whatever that refuses.
+use Rattle.std.specs.Prelude.{Bool, true, false, Option, Some, None, Result, Err, if◌then◌else◌}
+use Rattle.jbig2_base.specs.declared.{error.DecodeError.{DecodeError, TheVariants.{OutOfMemory}}, reading.Reading.{Reading, TheVariants.{Strict, Lenient, Salvage}}}
+
+abbrev pub reading_of : Bool → Reading
+reading_of strict = if strict then Strict else Lenient
+
+abbrev pub is_strict : Reading → Bool  -- each fault is an error
+is_strict Strict = true
+is_strict _ = false
+
+-- This error leaves out what it refuses: in salvage alone, and never for want of memory.
+abbrev pub is_salvaged : Reading → DecodeError → Bool
+is_salvaged Salvage OutOfMemory = false
+is_salvaged Salvage e = true
+is_salvaged _ e = false
+
+-- What was refused by lenient reading, and so is left out by salvage.
+abbrev pub fault_of : {A : Type 0} → Reading → Result A DecodeError → Option DecodeError
+fault_of Salvage (Err e) = Some e
+fault_of reading r = None

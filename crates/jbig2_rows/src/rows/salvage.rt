@@ -1,0 +1,289 @@
+//! The rows R17, of salvage.
+use crate::call::{BLACK, Call, DOT, INK, LINE, PAPER, WHITE};
+use crate::case::Answer::{Calls, Refused};
+use crate::case::{Case, Row};
+use crate::errors::{
+    INVALID_CODE, INVALID_OPERATOR, INVALID_REFERENCE, INVALID_SELECTION, NO_HEIGHT, NO_PAGE,
+    TOO_EARLY, TOO_LARGE,
+};
+use crate::file_case::FilePage;
+use crate::salvage::{NOTHING, SalvageCase, Told};
+use hayro_jbig2::{DecodeError, FormatError, SegmentError};
+
+/// A row of eight white pixels, and one of a black pixel and seven white ones.
+const WHITE_DOT: &[Call] = &[
+    Call::Chunk(false, 1),
+    LINE,
+    INK,
+    PAPER,
+    PAPER,
+    PAPER,
+    PAPER,
+    PAPER,
+    PAPER,
+    PAPER,
+    LINE,
+];
+
+/// The same rows, the other way round.
+const DOT_WHITE: &[Call] = &[
+    INK,
+    PAPER,
+    PAPER,
+    PAPER,
+    PAPER,
+    PAPER,
+    PAPER,
+    PAPER,
+    LINE,
+    Call::Chunk(false, 1),
+    LINE,
+];
+
+const ONE_PAGE: &[FilePage] = &[FilePage {
+    number: 1,
+    dimensions: (8, 1),
+    answer: Calls(WHITE),
+}];
+
+/// A list that ends before a header with this error.
+const BAD_REFERENCE: Told = Told {
+    passed_over: 0,
+    first: None,
+    fault: Some(INVALID_REFERENCE),
+};
+
+/// A list in random access that the bytes cut off.
+const CUT_OFF: Told = Told {
+    passed_over: 0,
+    first: None,
+    fault: Some(TOO_EARLY),
+};
+
+/// The dictionary of number 1 was passed over, which asks for a table that isn't listed.
+const ONE_PASSED: Told = Told {
+    passed_over: 1,
+    first: Some((1, INVALID_SELECTION)),
+    fault: None,
+};
+
+/// And a region that needs it.
+const TWO_PASSED: Told = Told {
+    passed_over: 2,
+    first: Some((1, INVALID_SELECTION)),
+    fault: None,
+};
+
+/// The rows R17.
+const ROWS: &[Row] = &[
+    Row {
+        name: "R17.1",
+        cases: &[
+            Case::Salvage(SalvageCase::Page {
+                globals: "",
+                bytes: "P G 20*16",
+                answer: Calls(DOT),
+                globals_told: NOTHING,
+                told: BAD_REFERENCE,
+            }),
+            Case::Salvage(SalvageCase::Page {
+                globals: "",
+                bytes: "P G G8@3=02@7=FFFFFFFF",
+                answer: Calls(DOT),
+                globals_told: NOTHING,
+                told: Told {
+                    passed_over: 0,
+                    first: None,
+                    fault: Some(DecodeError::Segment(SegmentError::MissingEndMarker)),
+                },
+            }),
+            Case::Salvage(SalvageCase::Page {
+                globals: "",
+                bytes: "P G 00000002 26",
+                answer: Calls(DOT),
+                globals_told: NOTHING,
+                told: NOTHING,
+            }),
+        ],
+    },
+    Row {
+        name: "R17.2",
+        cases: &[
+            Case::Salvage(SalvageCase::Page {
+                globals: "",
+                bytes: "P S@11=0009 G@3=02",
+                answer: Calls(DOT),
+                globals_told: NOTHING,
+                told: ONE_PASSED,
+            }),
+            Case::Salvage(SalvageCase::Page {
+                globals: "",
+                bytes: "P S@11=0009 X",
+                answer: Calls(WHITE),
+                globals_told: NOTHING,
+                told: TWO_PASSED,
+            }),
+            Case::Salvage(SalvageCase::Page {
+                globals: "",
+                bytes: "P S@11=0009 S X",
+                answer: Calls(DOT),
+                globals_told: NOTHING,
+                told: ONE_PASSED,
+            }),
+            Case::Salvage(SalvageCase::Page {
+                globals: "",
+                bytes: "P 00000001 10 00 01 00000007 01 00 01 00000000 T G@3=03",
+                answer: Calls(DOT),
+                globals_told: NOTHING,
+                told: Told {
+                    passed_over: 2,
+                    first: Some((1, TOO_EARLY)),
+                    fault: None,
+                },
+            }),
+            Case::Salvage(SalvageCase::Page {
+                globals: "",
+                bytes: "P 00000001 35 00 01 0000000B 70 00*7 01 1000 G@3=02",
+                answer: Calls(DOT),
+                globals_told: NOTHING,
+                told: Told {
+                    passed_over: 1,
+                    first: Some((1, INVALID_CODE)),
+                    fault: None,
+                },
+            }),
+            Case::Salvage(SalvageCase::Page {
+                globals: "",
+                bytes: "P G8@4=24@27=05 00000002 2A 20 01 01 00000012 00000008 00000001 00*9 01",
+                answer: Calls(BLACK),
+                globals_told: NOTHING,
+                told: Told {
+                    passed_over: 1,
+                    first: Some((1, INVALID_OPERATOR)),
+                    fault: None,
+                },
+            }),
+        ],
+    },
+    Row {
+        name: "R17.3",
+        cases: &[
+            Case::Salvage(SalvageCase::Page {
+                globals: "S@11=0009 S@3=02",
+                bytes: "P X@3=03@6=02",
+                answer: Calls(DOT),
+                globals_told: ONE_PASSED,
+                told: NOTHING,
+            }),
+            Case::Salvage(SalvageCase::Page {
+                globals: "S 20*16",
+                bytes: "P X",
+                answer: Calls(DOT),
+                globals_told: BAD_REFERENCE,
+                told: NOTHING,
+            }),
+            Case::Salvage(SalvageCase::Page {
+                globals: "20*16",
+                bytes: "P G",
+                answer: Calls(DOT),
+                globals_told: BAD_REFERENCE,
+                told: NOTHING,
+            }),
+        ],
+    },
+    Row {
+        name: "R17.4",
+        cases: &[
+            Case::Salvage(SalvageCase::Page {
+                globals: "",
+                bytes: "P@15=FFFFFFFF G",
+                answer: Calls(DOT),
+                globals_told: NOTHING,
+                told: NOTHING,
+            }),
+            Case::Salvage(SalvageCase::Page {
+                globals: "",
+                bytes: "P@15=FFFFFFFF G@23=00000001 G8@3=02@23=FFFFFFFF G8@3=03@15=00010000 G8@3=04@23=00000005@27=05",
+                answer: Calls(WHITE_DOT),
+                globals_told: NOTHING,
+                told: Told {
+                    passed_over: 2,
+                    first: Some((3, TOO_LARGE)),
+                    fault: None,
+                },
+            }),
+            Case::Salvage(SalvageCase::Page {
+                globals: "",
+                bytes: "P@15=FFFFFFFF 00000001 32 00 01 00000004 00000001 G@3=02",
+                answer: Calls(DOT_WHITE),
+                globals_told: NOTHING,
+                told: NOTHING,
+            }),
+            Case::Salvage(SalvageCase::Page {
+                globals: "",
+                bytes: "P@15=FFFFFFFF G@23=FFFFFFFF",
+                answer: Refused(NO_HEIGHT),
+                globals_told: NOTHING,
+                told: NOTHING,
+            }),
+            Case::Salvage(SalvageCase::Page {
+                globals: "",
+                bytes: "P@15=FFFFFFFF G@4=24",
+                answer: Refused(NO_HEIGHT),
+                globals_told: NOTHING,
+                told: NOTHING,
+            }),
+        ],
+    },
+    Row {
+        name: "R17.5",
+        cases: &[
+            Case::Salvage(SalvageCase::File {
+                bytes: "H 01 00000007 P 00000001 31 00 02 00000000 P@3=02@6=03@11=00000000",
+                pages: ONE_PAGE,
+                left_out: &[NO_PAGE, DecodeError::Format(FormatError::EmptyPage)],
+                told: NOTHING,
+            }),
+            Case::Salvage(SalvageCase::File {
+                bytes: "H 03 P S@6=00@11=0009 00000002 31 00 01 00000000",
+                pages: ONE_PAGE,
+                left_out: &[],
+                told: ONE_PASSED,
+            }),
+            Case::Salvage(SalvageCase::File {
+                bytes: "H 01 00000001 P 20*16",
+                pages: ONE_PAGE,
+                left_out: &[],
+                told: BAD_REFERENCE,
+            }),
+        ],
+    },
+    Row {
+        name: "R17.6",
+        cases: &[
+            // The data of page 2 isn't all there.
+            Case::Salvage(SalvageCase::File {
+                bytes: "H 00 00000002 00000000 30 00 01 00000013 00000001 30 00 02 00000013 \
+                    00000002 33 00 00 00000000 00000008 00000001 00*11 00000008 00000001 00*10",
+                pages: ONE_PAGE,
+                left_out: &[],
+                told: CUT_OFF,
+            }),
+            // The data begins where a header is refused.
+            Case::Salvage(SalvageCase::File {
+                bytes: "H 00 00000001 00000000 30 00 01 00000013 00000008 00A00001 00*11",
+                pages: &[],
+                left_out: &[TOO_LARGE],
+                told: Told {
+                    passed_over: 0,
+                    first: None,
+                    fault: Some(DecodeError::Segment(SegmentError::InvalidReferredCount)),
+                },
+            }),
+        ],
+    },
+];
+
+pub fn rows() -> &'static [Row] {
+    ROWS
+}

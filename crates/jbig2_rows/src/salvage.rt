@@ -1,0 +1,156 @@
+//! The cases of salvage.
+use crate::case::{Answer, refused_as};
+use crate::drawing::drawing_holds;
+use crate::file_case::{FilePage, all_pages_hold};
+use crate::spelling::spelled;
+use hayro_jbig2::{DecodeError, DecoderContext, File, Globals, Page, PassedOver, Result};
+use std::alloc::Allocator;
+
+/// One thing that has to hold of salvage. Bytes are spelled as `spelling::spelled` reads them.
+pub enum SalvageCase {
+    /// What comes of an embedded page with globals, and what each of them tells.
+    Page {
+        globals: &'static str,
+        bytes: &'static str,
+        answer: Answer,
+        globals_told: Told,
+        told: Told,
+    },
+    /// The pages of a file.
+    File {
+        bytes: &'static str,
+        pages: &'static [FilePage],
+        left_out: &'static [DecodeError],
+        /// What the segments of no page pass over, and what ended the file's list.
+        told: Told,
+    },
+}
+
+/// What salvage tells of what it left out.
+pub struct Told {
+    /// How many segments were passed over.
+    pub passed_over: usize,
+    /// The number and the error of the first.
+    pub first: Option<(u32, DecodeError)>,
+    /// What ended the list.
+    pub fault: Option<DecodeError>,
+}
+
+/// Nothing was left out.
+pub const NOTHING: Told = Told {
+    passed_over: 0,
+    first: None,
+    fault: None,
+};
+
+/// Whether a case holds. Returns `DecodeError::OutOfMemory` alone.
+pub fn salvage_holds<A: Allocator + Clone>(
+    alloc: &A,
+    case: &SalvageCase,
+    context: &mut DecoderContext<A>,
+) -> Result<bool> {
+    match case {
+        SalvageCase::Page {
+            globals,
+            bytes,
+            answer,
+            globals_told,
+            told,
+        } => {
+            let globals = spelled(alloc, globals)?;
+            let bytes = spelled(alloc, bytes)?;
+            let (Some(globals), Some(bytes)) = (globals, bytes) else {
+                return Ok(false);
+            };
+            let globals = match Globals::salvaged(alloc.clone()?, &globals, None) {
+                Ok(globals) => globals,
+                Err(error) => return refused_as(error, None),
+            };
+            let known = tells(globals_told, globals.passed_over(), globals.fault());
+            Ok(known && page_holds(alloc, &bytes, Some(&globals), answer, told, context)?)
+        }
+        SalvageCase::File {
+            bytes,
+            pages,
+            left_out,
+            told,
+        } => {
+            let Some(bytes) = spelled(alloc, bytes)? else {
+                return Ok(false);
+            };
+            file_holds(alloc, &bytes, pages, left_out, told, context)
+        }
+    }
+}
+
+/// Whether an embedded page has this answer in salvage, where nothing is left out.
+pub fn salvages<A: Allocator + Clone>(
+    alloc: &A,
+    bytes: &[u8],
+    answer: &Answer,
+    context: &mut DecoderContext<A>,
+) -> Result<bool> {
+    let page = match Page::salvaged_embedded(alloc.clone()?, bytes, None) {
+        Ok(page) => page,
+        Err(error) => return refused_as(error, None),
+    };
+    Ok(page.fault().is_none() && drawing_holds(&page, answer, context)?)
+}
+
+fn tells(told: &Told, passed_over: &PassedOver, fault: Option<&DecodeError>) -> bool {
+    let first = match (&told.first, &passed_over.first) {
+        (Some((number, error)), Some(first)) => {
+            *number == first.segment_number && *error == first.error
+        }
+        (None, None) => true,
+        _ => false,
+    };
+    let known = match (&told.fault, fault) {
+        (Some(error), Some(fault)) => error == fault,
+        (None, None) => true,
+        _ => false,
+    };
+    first && known && told.passed_over == passed_over.count
+}
+
+fn page_holds<A: Allocator + Clone>(
+    alloc: &A,
+    bytes: &[u8],
+    globals: Option<&Globals<A>>,
+    answer: &Answer,
+    told: &Told,
+    context: &mut DecoderContext<A>,
+) -> Result<bool> {
+    let page = match Page::salvaged_embedded(alloc.clone()?, bytes, globals) {
+        Ok(page) => page,
+        Err(error) => return refused_as(
+            error,
+            match answer {
+                Answer::Refused(expected) => Some(expected),
+                _ => None,
+            },
+        ),
+    };
+    let drawn = drawing_holds(&page, answer, context)?;
+    Ok(drawn && tells(told, context.passed_over(), page.fault()))
+}
+
+fn file_holds<A: Allocator + Clone>(
+    alloc: &A,
+    bytes: &[u8],
+    pages: &[FilePage],
+    left_out: &[DecodeError],
+    told: &Told,
+    context: &mut DecoderContext<A>,
+) -> Result<bool> {
+    let file = match File::salvaged(alloc.clone()?, bytes, None) {
+        Ok(file) => file,
+        Err(error) => return refused_as(error, None),
+    };
+    let shared = match file.shared() {
+        Ok(globals) => tells(told, globals.passed_over(), file.fault()),
+        Err(_) => false,
+    };
+    let known = shared && file.left_out() == left_out;
+    Ok(known && all_pages_hold(&file, pages, context)?)
+}
