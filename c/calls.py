@@ -66,10 +66,23 @@ class PassedOver(ctypes.Structure):
     _fields_ = [("count", ctypes.c_size_t), ("segment", ctypes.c_uint32), ("error", ctypes.c_uint32)]
 
 
+class LeftOut(ctypes.Structure):
+    _fields_ = [
+        ("segments", ctypes.c_size_t),
+        ("segment", ctypes.c_uint32),
+        ("error", ctypes.c_uint32),
+        ("pages", ctypes.c_size_t),
+        ("page_error", ctypes.c_uint32),
+        ("list_error", ctypes.c_uint32),
+    ]
+
+
 def declare_handles(library):
     """The calls on files and contexts; None as memory is malloc and free."""
     handle, made = ctypes.c_void_p, ctypes.POINTER(ctypes.c_void_p)
     library.hayro_jbig2_file_new.argtypes = [ctypes.c_void_p, ctypes.c_bool, *BYTES, made]
+    library.hayro_jbig2_file_new_salvaged.argtypes = [ctypes.c_void_p, ctypes.c_uint64, *BYTES, made]
+    library.hayro_jbig2_file_get_left_out.argtypes = [handle, ctypes.POINTER(LeftOut)]
     library.hayro_jbig2_file_page_count.argtypes = [handle]
     library.hayro_jbig2_file_page_count.restype = ctypes.c_size_t
     library.hayro_jbig2_file_get_info.argtypes = [handle, ctypes.c_size_t, ctypes.POINTER(PageInfo)]
@@ -128,11 +141,22 @@ def pages_by_bytes(library, book):
     return pages
 
 
-def pages_by_handles(library, book):
+def read_file(library, book, is_salvaged, file):
+    """Reads a file strictly or in salvage, and checks that nothing is left out."""
+    if is_salvaged:
+        answer = library.hayro_jbig2_file_new_salvaged(None, 2**64 - 1, book, len(book), ctypes.byref(file))
+    else:
+        answer = library.hayro_jbig2_file_new(None, True, book, len(book), ctypes.byref(file))
+    check(answer == 0 and file.value is not None, "a file is held")
+    left_out = LeftOut(9, 9, 9, 9, 9, 9)
+    check(library.hayro_jbig2_file_get_left_out(file, ctypes.byref(left_out)) == 0, "a file tells what is left out")
+    check(bytes(left_out) == bytes(ctypes.sizeof(LeftOut)), "nothing of the file is left out")
+
+
+def pages_by_handles(library, book, is_salvaged):
     """The same by a file that is read once and a context that draws all of its pages."""
     file, context = ctypes.c_void_p(), ctypes.c_void_p()
-    answer = library.hayro_jbig2_file_new(None, True, book, len(book), ctypes.byref(file))
-    check(answer == 0 and file.value is not None, "a file is held")
+    read_file(library, book, is_salvaged, file)
     check(library.hayro_jbig2_context_new(None, ctypes.byref(context)) == 0, "a context is made")
     pages = []
     for index in range(library.hayro_jbig2_file_page_count(file)):
@@ -157,7 +181,8 @@ def compare_pages(library, example):
         book = file.read()
     pages = pages_by_bytes(library, book)
     check(len(pages) == 3, "the file has three pages")
-    check(pages_by_handles(library, book) == pages, "the pages are the same by handles")
+    check(pages_by_handles(library, book, False) == pages, "the pages are the same by handles")
+    check(pages_by_handles(library, book, True) == pages, "the pages are the same in salvage")
     printed = subprocess.run([example, name], stdout=subprocess.PIPE)
     wanted = b"".join(b"P4\n%d %d\n" % (width, height) + rows for width, height, rows in pages)
     check(printed.returncode == 0 and printed.stdout == wanted, "the example prints the pages")

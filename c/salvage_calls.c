@@ -161,10 +161,9 @@ static void reads_file(const char *digits, size_t pages, hayro_jbig2_left_out me
 
 static void reads_files(void) {
     const uint32_t selection = HAYRO_JBIG2_HUFFMAN_INVALID_SELECTION;
-    const uint32_t no_page = HAYRO_JBIG2_FORMAT_MISSING_PAGE_INFO;
     const char *const end = "00000002 31 00 01 00000000";
     reads_file(FILE_HEADER "01 00000007" PAGE "00000001 31 00 02 00000000" PAGE_OF("03", "00000000", "00000001"), 1,
-               (hayro_jbig2_left_out){.pages = 2, .page_error = no_page});
+               (hayro_jbig2_left_out){.pages = 2, .page_error = HAYRO_JBIG2_FORMAT_EMPTY_PAGE});
     char digits[512];
     snprintf(digits, sizeof digits, "%s%s", FILE_HEADER "03" PAGE SYMBOLS("01", "00", "0009"), end);
     reads_file(digits, 1, (hayro_jbig2_left_out){.segments = 1, .segment = 1, .error = selection});
@@ -179,7 +178,27 @@ static void reads_files(void) {
 
 static struct bytes page, book;
 
-/* What lenient reading reads is read in the same way. */
+/* What lenient reading reads is read in the same way: a page with globals, and a file. */
+static void reads_a_whole_page(void) {
+    struct bytes bytes = {.length = 0}, stream = {.length = 0};
+    hayro_jbig2_globals *globals = NULL;
+    hayro_jbig2_page *read = NULL;
+    hayro_jbig2_context *context = NULL;
+    hayro_jbig2_left_out left_out = {9, 9, 9, 9, 9, 9};
+    uint8_t row = 9;
+    page_with_globals(&page, &bytes, &stream);
+    CHECK(hayro_jbig2_globals_new_salvaged(NULL, HAYRO_JBIG2_NO_WORK_LIMIT, bytes.at, bytes.length, &globals) ==
+          HAYRO_JBIG2_OK);
+    CHECK(hayro_jbig2_globals_get_left_out(globals, &left_out) == HAYRO_JBIG2_OK && is_told(&left_out, &nothing));
+    CHECK(hayro_jbig2_page_new_salvaged(NULL, globals, stream.at, stream.length, &read) == HAYRO_JBIG2_OK);
+    CHECK(hayro_jbig2_context_new(NULL, &context) == HAYRO_JBIG2_OK);
+    CHECK(hayro_jbig2_page_draw(read, context) == HAYRO_JBIG2_OK);
+    CHECK(hayro_jbig2_context_rows(context, 0, &row, 1) == HAYRO_JBIG2_OK && row == 0x80);
+    hayro_jbig2_context_free(context);
+    hayro_jbig2_page_free(read);
+    hayro_jbig2_globals_free(globals);
+}
+
 static void reads_whole_files(void) {
     static const uint64_t *const pictures[] = {both_pages, both_pages, third_page};
     hayro_jbig2_file *file = NULL;
@@ -295,6 +314,7 @@ int main(int count, char **words) {
     takes_heights_from_regions();
     keeps_of_globals();
     reads_files();
+    reads_a_whole_page();
     reads_whole_files();
     tells_of_its_own_handles();
     tells_want_of_memory();

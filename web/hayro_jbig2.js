@@ -8,6 +8,9 @@
 import { ERRORS } from "./errors.js";
 
 const OUT_OF_MEMORY = 41;
+// In place of the memory of a caller in C, the heap here; and no limit of work.
+const MEMORY = 0n;
+const NO_WORK_LIMIT = 2n ** 64n - 1n;
 
 /** Why a page is not decoded: `number` and `error` as in hayro_jbig2.h, and its text as `message`. */
 export class Jbig2Error extends Error {
@@ -92,6 +95,18 @@ class Heap {
   }
 }
 
+/** The error of a number, or null for 0. */
+const errorOf = (number) => (number ? new Jbig2Error(number) : null);
+
+/** What was passed over: how many segments, with the number and the error of the first. */
+const passedOver = ([count, segment, error]) => ({ count, segment: count ? segment : null, error: errorOf(error) });
+
+/** What salvage left out of both, for a page and its globals. */
+function joined(one, other) {
+  if (!other) return one;
+  return { ...one, passedOver: other.passedOver, rest: one.rest ?? other.rest };
+}
+
 async function bodyOf(response) {
   if (!response.ok) throw new Error(`hayro_jbig2.wasm could not be loaded: ${response.status} ${response.statusText}`);
   return response.arrayBuffer();
@@ -129,50 +144,129 @@ export class Decoder {
   }
 
   /** How many pages a file has. */
-  pageCount(bytes, { strict = false } = {}) {
-    return this.#with([bytes], 8, ([file], out) => {
-      this.#call("hayro_jbig2_page_count", strict, ...file, out);
-      return Number(this.#view().getBigUint64(Number(out), true));
-    });
+  pageCount(bytes, { strict = false, salvage = false } = {}) {
+    return this.#with([bytes], 0, ([stream]) =>
+      this.#file(stream, { strict, salvage }, (file) => Number(this.#exports.hayro_jbig2_file_page_count(file))),
+    );
   }
 
   /**
    * Decodes a page: of a file by its index from 0, or an embedded page with its globals, if it has some. Bytes with globals
    * are an embedded page, others a file where `isFile` says so.
-   * @returns {{width: number, height: number, data: Uint8ClampedArray}} pixels as ImageData has them
+   *
+   * With `strict` the first fault is thrown. With `salvage`, for viewers of damaged files, whatever a lenient decoder refuses
+   * is left out, and `leftOut` tells what: segments that pages share, as `passedOver`; how many `pages` of a file, with the
+   * error of the first as `firstPage`; and as `rest` the fault at which a list of segments ends early.
+   * @returns {{width: number, height: number, data: Uint8ClampedArray, passedOver: object, leftOut: object | null}} pixels as
+   *   ImageData has them, and the segments that were passed over: their `count`, `segment` and `error` of the first
    */
-  decode(bytes, { globals = null, page = 0, strict = false } = {}) {
-    const file = globals === null && isFile(bytes);
-    const inputs = file ? [bytes] : [bytes, globals ?? new Uint8Array(0)];
-    return this.#with(inputs, 8, ([stream, shared], out) => {
-      const index = file ? [BigInt(page)] : [];
-      const sizes = [out, out + 4n];
-      this.#call(file ? "hayro_jbig2_page_size" : "hayro_jbig2_embedded_size", strict, ...stream, ...index, ...sizes);
-      const [width, height] = sizes.map((place) => this.#view().getUint32(Number(place), true));
-      const before = file ? [] : shared;
-      return this.#with([], width * height, (_, image) => {
-        const name = file ? "hayro_jbig2_page_image" : "hayro_jbig2_embedded_image";
-        this.#call(name, strict, ...before, ...stream, ...index, image, BigInt(width * height));
-        return { width, height, data: this.#pixels(Number(image), width * height) };
-      });
+  decode(bytes, { globals = null, page = 0, strict = false, salvage = false } = {}) {
+    const reading = { strict, salvage };
+    const inputs = globals === null ? [bytes] : [bytes, globals];
+    return this.#with(inputs, 0, ([stream, shared]) => {
+      if (globals === null && isFile(bytes)) {
+        return this.#file(stream, reading, (file) => this.#drawn("file", file, [BigInt(page)], reading));
+      }
+      if (globals === null) return this.#page(stream, [], reading, (page) => this.#drawn("page", page, [], reading));
+      return this.#globals(shared, reading, (shared) =>
+        this.#page(stream, [shared], reading, (page) => {
+          const drawn = this.#drawn("page", page, [], reading);
+          return salvage ? { ...drawn, leftOut: joined(drawn.leftOut, this.#leftOut("globals", shared)) } : drawn;
+        }),
+      );
     });
   }
 
-  #pixels(place, count) {
-    const gray = new Uint8Array(this.#exports.memory.buffer, place, count);
-    const data = new Uint8ClampedArray(4 * count);
-    const pixels = new Uint32Array(data.buffer);
-    for (let at = 0; at < count; at++) pixels[at] = gray[at] ? 0xffffffff : 0xff000000;
-    return data;
+  /** A handle of a file, of globals or of an embedded page, for the work. */
+  #file(stream, { strict, salvage }, work) {
+    if (salvage) return this.#held(work, "hayro_jbig2_file_new_salvaged", NO_WORK_LIMIT, ...stream);
+    return this.#held(work, "hayro_jbig2_file_new", Number(strict), ...stream);
+  }
+
+  #globals(stream, { strict, salvage }, work) {
+    if (salvage) return this.#held(work, "hayro_jbig2_globals_new_salvaged", NO_WORK_LIMIT, ...stream);
+    return this.#held(work, "hayro_jbig2_globals_new", Number(strict), ...stream);
+  }
+
+  #page(stream, globals, { strict, salvage }, work) {
+    const how = globals.length ? "with" : "alone";
+    if (salvage) return this.#held(work, `jbig2_c_salvaged_${how}`, ...globals, ...stream);
+    return this.#held(work, `jbig2_c_page_${how}`, Number(strict), ...globals, ...stream);
+  }
+
+  /** Draws a page of a handle, and returns what `decode` does. */
+  #drawn(kind, handle, index, { salvage }) {
+    const [, width, height] = this.#numbers([4, 4, 4], `hayro_jbig2_${kind}_get_info`, handle, ...index);
+    return this.#held((context) => {
+      this.#call(`hayro_jbig2_${kind}_draw`, handle, ...index, context);
+      const told = this.#numbers([8, 4, 4], "hayro_jbig2_context_get_passed_over", context);
+      return {
+        width,
+        height,
+        data: this.#pixels(context, width, height),
+        passedOver: passedOver(told),
+        leftOut: salvage ? this.#leftOut(kind, handle) : null,
+      };
+    }, "hayro_jbig2_context_new");
+  }
+
+  /** What salvage left out of what a handle holds. */
+  #leftOut(kind, handle) {
+    const told = this.#numbers([8, 4, 4, 8, 4, 4], `hayro_jbig2_${kind}_get_left_out`, handle);
+    return { passedOver: passedOver(told), pages: told[3], firstPage: errorOf(told[4]), rest: errorOf(told[5]) };
+  }
+
+  /** The pixels of the page that was drawn last in a context. */
+  #pixels(context, width, height) {
+    const stride = Math.ceil(width / 8);
+    return this.#with([], stride * height, (_, place) => {
+      this.#call("hayro_jbig2_context_rows", context, 0n, place, BigInt(stride * height));
+      const rows = new Uint8Array(this.#exports.memory.buffer, Number(place), stride * height);
+      const data = new Uint8ClampedArray(4 * width * height);
+      const pixels = new Uint32Array(data.buffer);
+      for (let y = 0, at = 0; y < height; y++) {
+        for (let x = 0; x < width; x++, at++) {
+          pixels[at] = rows[y * stride + (x >> 3)] & (128 >> (x & 7)) ? 0xff000000 : 0xffffffff;
+        }
+      }
+      return data;
+    });
   }
 
   #view() {
     return new DataView(this.#exports.memory.buffer);
   }
 
-  #call(name, strict, ...words) {
-    const answer = this.#exports[name](strict ? 1 : 0, ...words);
+  #call(name, ...words) {
+    const answer = this.#exports[name](...words);
     if (answer !== 0) throw new Jbig2Error(answer);
+  }
+
+  /** Makes a call that writes numbers of these sizes, one after the other, and returns them. */
+  #numbers(sizes, name, ...words) {
+    return this.#with([], 32, (_, place) => {
+      this.#call(name, ...words, place);
+      const view = this.#view();
+      let at = Number(place);
+      return sizes.map((size) => {
+        at += size;
+        return size === 8 ? Number(view.getBigUint64(at - 8, true)) : view.getUint32(at - 4, true);
+      });
+    });
+  }
+
+  /** Makes a handle by a call, and frees it after the work. */
+  #held(work, name, ...words) {
+    return this.#with([], 8, (_, place) => {
+      this.#view().setBigUint64(Number(place), 0n, true);
+      this.#call(name, MEMORY, ...words, place);
+      const handle = this.#view().getBigUint64(Number(place), true);
+      try {
+        return work(handle);
+      } finally {
+        this.#exports.jbig2_c_release(handle);
+      }
+    });
   }
 
   /** Copies inputs into the module's memory, takes `room` bytes more, and gives all back after the work. */

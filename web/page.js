@@ -20,7 +20,7 @@ function drawn({ width, height, data }) {
   return canvas;
 }
 
-function shown({ file, name, error, milliseconds, ...page }) {
+function shown({ file, name, error, milliseconds, lacks, ...page }) {
   const figure = document.createElement("figure");
   const caption = document.createElement("figcaption");
   const label = name ? `${file}, ${name}` : file;
@@ -29,6 +29,10 @@ function shown({ file, name, error, milliseconds, ...page }) {
     if (error) throw new Error(error);
     figure.append(drawn(page));
     caption.textContent = `${label}: ${page.width} by ${page.height} pixels, ${milliseconds.toFixed(1)} ms`;
+    if (lacks) {
+      figure.className = "damaged";
+      caption.textContent += `. Damaged: ${lacks}.`;
+    }
   } catch ({ message }) {
     figure.className = "error";
     caption.textContent = `${label}: ${message}`;
@@ -47,7 +51,7 @@ async function take(files) {
   for (const file of files) {
     note.textContent = `${file.name} is being decoded.`;
     const bytes = new Uint8Array(await file.arrayBuffer());
-    worker.postMessage({ file: file.name, bytes }, [bytes.buffer]);
+    worker.postMessage({ file: file.name, bytes, salvage: document.querySelector("#salvage").checked }, [bytes.buffer]);
   }
 }
 

@@ -5,8 +5,8 @@
 
 SUITE is a folder that conformance/make has filled. COUNT streams and COUNT files are damaged at random. Nothing may
 crash; mutool and gs end with the status that they have over the system's library; jbig2dec writes a page, or says why not
-and has status 1, also under limits of memory; and what is drawn of a file is what jbig2-decode draws (PROGRAM may name a
-built one). Status 1 where it is otherwise.
+and has status 1, also under limits of memory; and what is drawn of a file in lenient reading is what jbig2-decode draws
+(PROGRAM may name a built one), to which salvage adds pages alone. Status 1 where it is otherwise.
 """
 from __future__ import annotations
 
@@ -19,7 +19,7 @@ import sys
 import tempfile
 
 from documents import Image
-from peers import LIMITS, OURS, PEERS, SYSTEM, UNLIMITED, Library, Peer, pictures_by
+from peers import LENIENT, LIMITS, OURS, PEERS, SYSTEM, UNLIMITED, Library, Peer, pictures_by
 from samples import image_of_sample, rich_sample, samples_of
 
 from conformance.runner.decoders import own_program
@@ -47,6 +47,7 @@ def made_by_hand(image: Image) -> list[Stream]:
     oddities |= {
         "a newline after it": image.stream + b"\n",
         "text after it": image.stream + b"\nendstream\nendobj\n",
+        "spaces after it": image.stream + b" " * 16,
         "zeros after it": image.stream + bytes(40),
         "page information alone": image.stream[:30],
         "no page information": image.stream[30:],
@@ -177,9 +178,15 @@ def faults_of_limit(sample: Sample, limit: int) -> list[str]:
     return [f"limit of {limit} bytes: status {ended.status}, {len(pictures)} pages, {ended.message!r}"]
 
 
+def is_part(some: list[Picture], all_of_them: list[Picture]) -> bool:
+    """Whether pictures are among others in the same order."""
+    rest = iter(all_of_them)
+    return all(picture in rest for picture in some)
+
+
 def faults_of_file(name: str, data: bytes) -> list[str]:
-    """Whether jbig2dec draws the pages of a file that jbig2-decode draws of it. Where the limit of work refuses some, it is
-    tried without that limit."""
+    """Whether jbig2dec draws the pages of a file that jbig2-decode draws of it, and no fewer in salvage. Where the limit of
+    work refuses some, it is tried without that limit."""
     with tempfile.TemporaryDirectory() as folder:
         room = pathlib.Path(folder)
         path = room / "file.jb2"
@@ -191,15 +198,19 @@ def faults_of_file(name: str, data: bytes) -> list[str]:
             if ended.is_late:
                 return [f"{name}: too long"]
             meant += pictures_of(ended.output)
-        ended, pictures = by_program(OURS, [str(path)], room)
-        if pictures != meant and b"out of memory" in ended.errors:
+        ended, pictures = by_program(LENIENT, [str(path)], room)
+        is_limited = pictures != meant and b"out of memory" in ended.errors
+        if is_limited:
             ended, pictures = by_program(UNLIMITED, [str(path)], room)
+        salvaged, more = by_program(OURS, [str(path)], room)
     if ended.is_late:
         return [f"{name}: too long"]
     if ended.has_crashed:
         return [f"{name}: crashed, {ended.message!r}"]
     if pictures != meant:
         return [f"{name}: {len(pictures)} pages, of which jbig2-decode draws {len(meant)}, or others"]
+    if salvaged.has_crashed or not (is_limited or salvaged.is_late or is_part(meant, more)):
+        return [f"{name}: {len(more)} pages in salvage, which lack some of {len(meant)}, {salvaged.message!r}"]
     return [] if pictures or ended.errors else [f"{name}: no message"]
 
 

@@ -31,7 +31,8 @@ class Library:
 
 
 OURS = Library("this library", pathlib.Path(__file__).resolve().parents[1] / "out")
-UNLIMITED = Library("this library without a limit of work", OURS.folder, ("HAYRO_JBIG2_WORK_LIMIT=0",))
+LENIENT = Library("this library, reading leniently", OURS.folder, ("HAYRO_JBIG2_READING=lenient",))
+UNLIMITED = Library("that without a limit of work", OURS.folder, (*LENIENT.settings, "HAYRO_JBIG2_WORK_LIMIT=0"))
 SYSTEM = Library("libjbig2dec0")
 
 

@@ -70,6 +70,55 @@ class Pages(unittest.TestCase):
         with self.assertRaises(hayro_jbig2.RegionError):
             hayro_jbig2.decode(stream, strict=True)
 
+    def test_salvage_draws_what_is_left(self):
+        # A dictionary that wants a table which isn't there, and a header that refers to its own number.
+        bad = bytes.fromhex("00000001 00 00 01 0000000F 0009 00000001 00000001 5F80800040")
+        junk = b" " * 16
+        # A region with one black pixel.
+        region = bytes.fromhex("00000002 26 00 01 0000001A 00000001 00000001 000000000000000000 00 03FFFDFF02FEFEFE")
+        data = PAGE.read_bytes()
+        with self.assertRaises(hayro_jbig2.HuffmanError):
+            hayro_jbig2.decode(data + bad + region)
+        page = hayro_jbig2.decode(data + bad + region + junk, salvage=True)
+        self.assertEqual(page.rows, b"\x80")
+        self.assertEqual((page.passed_over.count, page.passed_over.first.segment_number), (1, 1))
+        self.assertEqual(page.passed_over.first.error.variant, "InvalidSelection")
+        self.assertEqual(page.left_out.rest.variant, "InvalidReference")
+        page = hayro_jbig2.decode(data[:15] + b"\xff" * 4 + data[19:] + region, salvage=True)
+        self.assertEqual((page.height, page.rows), (1, b"\x80"))
+        with self.assertRaises(hayro_jbig2.FormatError):
+            hayro_jbig2.decode(b"", salvage=True)
+
+    def test_salvage_keeps_of_globals_what_it_can(self):
+        with self.assertRaises(hayro_jbig2.SegmentError):
+            hayro_jbig2.Globals(GLOBALS + b" " * 16)
+        shared = hayro_jbig2.Globals(GLOBALS + b" " * 16, salvage=True)
+        self.assertEqual(shared.left_out.rest.variant, "InvalidReference")
+        page = hayro_jbig2.decode(TEXT, globals=shared)
+        self.assertEqual((page.rows, page.left_out), (b"\x80", shared.left_out))
+        page = hayro_jbig2.decode(TEXT, globals=b" " * 16, salvage=True)
+        self.assertEqual((page.rows, page.passed_over.count), (b"\0", 1))
+
+    def test_salvage_leaves_out_pages_of_a_file(self):
+        # The second page has no width, and a third one no information.
+        empty = bytes.fromhex("00000000 30 00 02 00000013 00000000 00000001" + "00" * 11)
+        end = bytes.fromhex("00000001 31 00 03 00000000")
+        data = bytes.fromhex("974A42320D0A1A0A 03") + PAGE.read_bytes() + empty + end
+        with self.assertRaises(hayro_jbig2.FormatError):
+            hayro_jbig2.sizes(data)
+        self.assertEqual(hayro_jbig2.sizes(data, salvage=True), [(1, 8, 1)])
+        [page] = hayro_jbig2.pages(data, salvage=True)
+        self.assertEqual((page.left_out.pages, page.left_out.first_page.variant), (2, "EmptyPage"))
+
+    def test_salvage_changes_nothing_of_whole_data(self):
+        nothing = hayro_jbig2.LeftOut(hayro_jbig2.PassedOver(0, None), 0, None, None)
+        for page, lenient in zip(hayro_jbig2.pages(BOOK, salvage=True), hayro_jbig2.pages(BOOK)):
+            self.assertEqual(page, lenient)
+            self.assertEqual((page.left_out, page.passed_over.count), (nothing, 0))
+            self.assertEqual(lenient.left_out, nothing)
+        with self.assertRaises(ValueError):
+            hayro_jbig2.decode(BOOK, strict=True, salvage=True)
+
     def test_an_image_of_pillow(self):
         try:
             import PIL

@@ -61,6 +61,13 @@ class Images(unittest.TestCase):
             if data[8] & 1 and b"\xff\xff\xff\xff" not in data and len(hayro_jbig2.sizes(data)) == 1:
                 yield data
 
+    def test_damaged_images_come_out_in_salvage(self):
+        hayro_jbig2.pikepdf.install(salvage=True)
+        self.addCleanup(hayro_jbig2.pikepdf.install)
+        page = hayro_jbig2.decode(TEXT, globals=GLOBALS)
+        rows = jbig2.get_decoder().decode_jbig2(TEXT + b" " * 16, GLOBALS + b" " * 16)
+        self.assertEqual(rows, bytes(255 - byte for byte in page.rows))
+
     def test_a_fault_is_an_exception(self):
         hayro_jbig2.pikepdf.install()
         with self.assertRaises(hayro_jbig2.DecodeError):

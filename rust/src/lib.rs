@@ -40,6 +40,9 @@
 //! A PDF file has the segments of an image in a stream with the filter `/JBIG2Decode`, and those that its images share
 //! in the stream of `/JBIG2Globals`: see [`Page::new_embedded`] and [`Globals::new`].
 //!
+//! A viewer of damaged files reads them by [`File::salvaged`], [`Globals::salvaged`] and [`Page::salvaged_embedded`], which
+//! leave out what lenient reading refuses.
+//!
 //! A small file can ask for minutes of work and for gigabytes. Whoever decodes what anyone may have sent looks at
 //! [`Page::dimensions`] first, and decodes in a process with limits of time and memory.
 
@@ -72,5 +75,5 @@ pub use globals::Globals;
 #[cfg(feature = "std")]
 pub use jbig2_decoder::{Jbig2Decoder, Jbig2Error};
 pub use page::Page;
-pub use passed_over::{PassedOver, PassedSegment};
+pub use passed_over::{LeftOut, PassedOver, PassedSegment};
 pub use settings::DecodeSettings;

@@ -4,8 +4,8 @@ use crate::context::DecoderContext;
 use crate::decoder::{Decoder, push_rows};
 use crate::error::Result;
 use crate::globals::Globals;
-use crate::library::{self, PageInfo};
-use crate::{DecodeSettings, image};
+use crate::library::{self, PageInfo, Reading};
+use crate::{DecodeSettings, LeftOut, image};
 
 /// Room for one row at least: a row has at most 65535 pixels.
 const BLOCK: usize = 8192;
@@ -15,6 +15,7 @@ const BLOCK: usize = 8192;
 pub struct Page<'a> {
     source: Source<'a>,
     info: PageInfo,
+    left_out: LeftOut,
 }
 
 #[derive(Debug)]
@@ -30,13 +31,34 @@ impl<'a> Page<'a> {
     ///
     /// The first fault of the segments' headers or of the page information, or want of memory.
     pub fn new_embedded(data: &'a [u8], globals: Option<&'a Globals>, settings: &DecodeSettings) -> Result<Self> {
-        let page = library::Page::new(data, globals.map(|globals| &globals.inner), settings.strict)?;
-        let info = page.info()?;
-        Ok(Self { source: Source::Embedded(page), info })
+        Self::read(data, globals, settings.reading())
+    }
+
+    /// Reads a page as a lenient decoder does, and leaves out what that refuses: the list of its segments ends at a bad
+    /// header, a dictionary that fails is passed over, and an open height that no stripe tells is that of the lowest
+    /// region. `hayro-jbig2` 0.4.0 has no such call.
+    ///
+    /// # Errors
+    ///
+    /// A page without information or with a size that no page may have, or want of memory.
+    pub fn salvaged_embedded(data: &'a [u8], globals: Option<&'a Globals>) -> Result<Self> {
+        Self::read(data, globals, Reading::Salvage)
+    }
+
+    fn read(data: &[u8], globals: Option<&Globals>, reading: Reading) -> Result<Self> {
+        let page = library::Page::new(data, globals.map(|globals| &globals.inner), reading)?;
+        let (info, left_out) = (page.info()?, page.left_out()?);
+        Ok(Self { source: Source::Embedded(page), info, left_out })
     }
 
     pub(crate) fn of_file(file: &'a library::File<'a>, index: usize, info: PageInfo) -> Self {
-        Self { source: Source::File { file, index }, info }
+        Self { source: Source::File { file, index }, info, left_out: file.left_out() }
+    }
+
+    /// What was left out of the list of the page's segments, if it was read in salvage; of a page of a file, what was left
+    /// out of the file. [`DecoderContext::passed_over`] has what decoding passes over.
+    pub fn left_out(&self) -> LeftOut {
+        self.left_out
     }
 
     /// The number that the segments name the page by.

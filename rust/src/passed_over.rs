@@ -1,8 +1,8 @@
-//! What a lenient decoder passes over.
+//! What is passed over and left out.
 
 use crate::error::DecodeError;
 
-/// What was passed over of a page that was decoded leniently. The page lacks what these segments draw.
+/// What was passed over of a page or of what pages share. Pages lack what these segments draw.
 #[derive(Debug, Clone, Copy, Default, PartialEq, Eq)]
 pub struct PassedOver {
     /// How many segments were passed over.
@@ -18,4 +18,20 @@ pub struct PassedSegment {
     pub segment_number: u32,
     /// The fault for which it was passed over.
     pub error: DecodeError,
+}
+
+/// What salvage left out of globals, a page or a file, besides [`DecoderContext::passed_over`]. Other readings leave out
+/// nothing that is told here.
+///
+/// [`DecoderContext::passed_over`]: crate::DecoderContext::passed_over
+#[derive(Debug, Clone, Copy, Default, PartialEq, Eq)]
+pub struct LeftOut {
+    /// Of globals, or of the segments that the pages of a file share: those that were passed over.
+    pub passed_over: PassedOver,
+    /// How many pages of a file can't begin.
+    pub pages: usize,
+    /// Why the first of these can't.
+    pub first_page: Option<DecodeError>,
+    /// The fault at which the list of segments ends early: the rest is left out.
+    pub rest: Option<DecodeError>,
 }

@@ -8,6 +8,7 @@ The second drops files onto the page, and saves a picture of it. The page loads 
 """
 import base64
 import functools
+import hashlib
 import http.server
 import json
 import pathlib
@@ -119,9 +120,43 @@ def meant_of(folder):
     return {**meant, **answers["pdf"]}
 
 
+# A page of 8 by 1, a dictionary that wants a table which isn't there, a region of one black pixel, and bytes that are no segment.
+DAMAGED = (
+    bytes.fromhex("00000000 30 00 01 00000013 00000008 00000001" + "00" * 11)
+    + bytes.fromhex("00000001 00 00 01 0000000F 0009 00000001 00000001 5F80800040")
+    + bytes.fromhex("00000002 26 00 01 0000001A 00000001 00000001 000000000000000000 00 03FFFDFF02FEFEFE")
+    + b" " * 16
+)
+LACKS = "HUFFMAN_INVALID_SELECTION: invalid Huffman table selection", "SEGMENT_INVALID_REFERENCE: segment refers to an invalid segment"
+
+
+def shows_what_is_left(browser, folder):
+    """Whether a damaged page is shown with what it lacks, and refused where the page isn't asked for what is left."""
+    outcomes = []
+    for salvage in True, False:
+        file = folder / f"damaged, {'left' if salvage else 'refused'}.jb2"
+        file.write_bytes(DAMAGED)
+        ask_for_salvage(browser, salvage)
+        drop(browser, [file])
+        text = browser.evaluate('document.querySelector("figcaption").textContent')
+        [page] = shown(browser)[file.name]
+        outcomes.append((page, [lack in text for lack in LACKS]))
+    dot = [8, 1, hashlib.sha256(b"\x80").hexdigest()]
+    return outcomes[0] == (dot, [True, True]) and isinstance(outcomes[1][0], str)
+
+
+def ask_for_salvage(browser, salvage):
+    browser.evaluate(f'document.querySelector("#salvage").checked = {json.dumps(salvage)}')
+
+
 def test(browser, folder):
     """Compares all that is shown, and returns the status."""
     meant = meant_of(folder)
+    shows_damage = shows_what_is_left(browser, folder)
+    if not shows_damage:
+        print("a damaged page is not shown as it is meant")
+    # What jbig2-decode draws leniently.
+    ask_for_salvage(browser, False)
     names, wrong = list(meant), []
     for begin in range(0, len(names), FILES_AT_ONCE):
         some = names[begin : begin + FILES_AT_ONCE]
@@ -136,7 +171,7 @@ def test(browser, folder):
     if others:
         print(f"the page has asked for more than its own files: {others}")
     print(f"browser: {len(names) - len(wrong)} files are shown as they are meant, {len(wrong)} not")
-    return 1 if wrong or others or not names else 0
+    return 1 if wrong or others or not names or not shows_damage else 0
 
 
 def take_picture(browser, picture, files):

@@ -81,6 +81,53 @@ async function checkPdf(name, bytes, pages) {
   check(isSame(found.map(String).sort(), pages.map(String).sort()), name);
 }
 
+const hex = (digits) => Uint8Array.from(digits.replace(/ /g, "").match(/../g), (byte) => parseInt(byte, 16));
+
+// Pages of 8 by 1: page information, a region of one black pixel, a dictionary that wants a table which isn't there, and bytes
+// that are a header which refers to its own number.
+const PAGE = "00000000 30 00 01 00000013 00000008 00000001" + "00".repeat(11);
+const OPEN = PAGE.replace("00000001", "FFFFFFFF");
+const REGION = "00000002 26 00 01 0000001A 00000001 00000001" + "00".repeat(9) + "00 03FFFDFF02FEFEFE";
+const BAD_SYMBOLS = "00000001 00 00 01 0000000F 0009 00000001 00000001 5F80800040";
+const JUNK = "20".repeat(16);
+const HEADER = "974A42320D0A1A0A 03";
+
+/** What a page in salvage comes to: its first row's first pixel, and what is told, as texts. */
+function salvaged(bytes, options = {}) {
+  const { height, data, passedOver, leftOut } = decoder.decode(bytes, { ...options, salvage: true });
+  const texts = [leftOut.passedOver.error, leftOut.firstPage, leftOut.rest].map((error) => error?.error ?? "");
+  const told = [passedOver.count, passedOver.error?.error ?? "", leftOut.passedOver.count, leftOut.pages, ...texts];
+  return [height, data[0] === 0 ? "black" : "white", ...told].join(" ").trim();
+}
+
+/** Damaged pages, globals and files, which lenient reading refuses. */
+function checkDamaged() {
+  const reference = "SEGMENT_INVALID_REFERENCE";
+  const selection = "HUFFMAN_INVALID_SELECTION";
+  const damaged = [
+    [PAGE + REGION + JUNK, {}, `1 black 0  0 0   ${reference}`],
+    [PAGE + BAD_SYMBOLS + REGION, {}, `1 black 1 ${selection} 0 0`],
+    [OPEN + REGION, {}, "1 black 0  0 0"],
+    [PAGE + REGION, { globals: hex(JUNK) }, `1 black 0  0 0   ${reference}`],
+    [PAGE + REGION, { globals: hex(BAD_SYMBOLS) }, `1 black 0  1 0 ${selection}`],
+    [HEADER + PAGE + REGION + PAGE.replace("30 00 01", "30 00 02").replace("00000008", "00000000"), {}, "1 black 0  0 1  FORMAT_EMPTY_PAGE"],
+  ];
+  for (const [digits, options, meant] of damaged) {
+    check(typeof outcome(() => decoder.decode(hex(digits), options)) === "string", `lenient reading refuses ${digits}`);
+    check(salvaged(hex(digits), options) === meant, `${digits} in salvage: ${salvaged(hex(digits), options)}`);
+    check(decoder.held === 0, `${digits} in salvage: memory is not given back`);
+  }
+  check(outcome(() => decoder.decode(new Uint8Array(0), { salvage: true })) === "missing page information segment", "no page");
+}
+
+/** What lenient reading reads, salvage reads in the same way. */
+function checkSame(name, bytes, pages) {
+  const globals = isFile(bytes) ? null : globalsOf(name);
+  for (const [page, meant] of typeof pages === "string" ? [] : pages.entries())
+    if (typeof meant !== "string")
+      check(isSame(outcome(() => decoder.decode(bytes, { globals, page, salvage: true })), meant), `${name}, page ${page}, in salvage`);
+}
+
 /** Each amount of memory gives the page or "out of memory", and neither keeps any. */
 async function checkMemory(name) {
   const bytes = readFileSync(join(folder, name));
@@ -101,8 +148,10 @@ for (const [name, { lenient, strict }] of Object.entries(answers.files)) {
   const bytes = readFileSync(join(folder, name));
   checkFile(name, bytes, false, lenient);
   checkFile(name, bytes, true, strict);
+  checkSame(name, bytes, lenient);
 }
 for (const [name, pages] of Object.entries(answers.pdf)) await checkPdf(name, new Uint8Array(readFileSync(join(folder, name))), pages);
+checkDamaged();
 await checkMemory("t88-h1.jb2");
 const counts = `${Object.keys(answers.files).length} files, ${Object.keys(answers.pdf).length} PDF files`;
 console.log(`node: ${counts}: ${passed} checks passed, ${failed} failed`);

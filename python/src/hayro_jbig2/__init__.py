@@ -7,7 +7,8 @@
     >>> pbm = page.to_pbm()
 
 `decode` returns one page, `pages` all pages of a file, `sizes` their sizes alone. A fault of the data is raised as an
-exception of `hayro_jbig2.errors`, all of which are `Jbig2Error`.
+exception of `hayro_jbig2.errors`, all of which are `Jbig2Error`. With `salvage=True` they read what they can of damaged
+data.
 
 The decoder is a library that is proved, and runs without the lock of the interpreter (the GIL), so that several
 threads decode at once. A small file can ask for minutes of work and for gigabytes: whoever decodes what anyone may
@@ -16,7 +17,7 @@ have sent looks at the size first, and decodes in a process with limits of time 
 
 from ._decode import Globals, decode, pages, sizes
 from ._library import Size
-from ._page import Page, PassedOver, PassedSegment
+from ._page import LeftOut, Page, PassedOver, PassedSegment
 from .errors import (
     DecodeError,
     FormatError,
@@ -42,6 +43,7 @@ __all__ = [
     "Globals",
     "HuffmanError",
     "Jbig2Error",
+    "LeftOut",
     "NoSuchPage",
     "OutOfMemory",
     "Page",

@@ -3,16 +3,18 @@
 from __future__ import annotations
 
 import ctypes
+import enum
 import os
 import threading
 import weakref
-from ctypes import POINTER, Structure, byref, c_bool, c_char_p, c_size_t, c_uint8, c_uint32, c_void_p
+from ctypes import POINTER, Structure, byref, c_bool, c_char_p, c_size_t, c_uint8, c_uint32, c_uint64, c_void_p
 from typing import NamedTuple, TypeVar
 
-from ._page import Page, PassedOver, PassedSegment
+from ._page import LeftOut, Page, PassedOver, PassedSegment
 from .errors import Jbig2Error, error_of
 
 _NO_SUCH_PAGE = 101
+_NO_WORK_LIMIT = 2**64 - 1
 
 
 class _Info(Structure):
@@ -21,6 +23,25 @@ class _Info(Structure):
 
 class _PassedOver(Structure):
     _fields_ = [("count", c_size_t), ("segment", c_uint32), ("error", c_uint32)]
+
+
+class _LeftOut(Structure):
+    _fields_ = [
+        ("segments", c_size_t),
+        ("segment", c_uint32),
+        ("error", c_uint32),
+        ("pages", c_size_t),
+        ("page_error", c_uint32),
+        ("list_error", c_uint32),
+    ]
+
+
+class Reading(enum.Enum):
+    """How bytes are read."""
+
+    STRICT = "strict"
+    LENIENT = "lenient"
+    SALVAGE = "salvage"
 
 
 class Size(NamedTuple):
@@ -40,18 +61,25 @@ def _load() -> ctypes.CDLL:
     made = (c_void_p, c_bool)
     data = (c_char_p, c_size_t)
     handle = POINTER(c_void_p)
+    left_out = (c_void_p, POINTER(_LeftOut))
     arguments = {
         "globals_new": (*made, *data, handle),
+        "globals_new_salvaged": (c_void_p, c_uint64, *data, handle),
+        "globals_get_left_out": left_out,
         "globals_free": (c_void_p,),
         "context_new": (c_void_p, handle),
         "context_rows": (c_void_p, c_size_t, POINTER(c_uint8), c_size_t),
         "context_get_passed_over": (c_void_p, POINTER(_PassedOver)),
         "context_free": (c_void_p,),
         "page_new": (*made, c_void_p, *data, handle),
+        "page_new_salvaged": (c_void_p, c_void_p, *data, handle),
+        "page_get_left_out": left_out,
         "page_get_info": (c_void_p, POINTER(_Info)),
         "page_draw": (c_void_p, c_void_p),
         "page_free": (c_void_p,),
         "file_new": (*made, *data, handle),
+        "file_new_salvaged": (c_void_p, c_uint64, *data, handle),
+        "file_get_left_out": left_out,
         "file_page_count": (c_void_p,),
         "file_get_info": (c_void_p, c_size_t, POINTER(_Info)),
         "file_draw": (c_void_p, c_size_t, c_void_p),
@@ -84,16 +112,25 @@ def _check(number: int) -> None:
         raise _error(number)
 
 
+def _passed_over(count: int, segment: int, error: int) -> PassedOver:
+    return PassedOver(count, PassedSegment(segment, _error(error)) if count else None)
+
+
+def _error_or_none(number: int) -> Jbig2Error | None:
+    return _error(number) if number else None
+
+
 _AnyHandle = TypeVar("_AnyHandle", bound="_Handle")
 
 
 class _Handle:
     """What the library made, until it is closed or nothing refers to it. It serves one call at a time."""
 
-    def __init__(self, kind: str, *arguments: object) -> None:
+    def __init__(self, kind: str, *arguments: object, call: str = "new") -> None:
         made = c_void_p()
-        _check(getattr(_LIBRARY, f"hayro_jbig2_{kind}_new")(None, *arguments, byref(made)))
+        _check(getattr(_LIBRARY, f"hayro_jbig2_{kind}_{call}")(None, *arguments, byref(made)))
         self.handle = made
+        self.kind = kind
         self.close = weakref.finalize(self, getattr(_LIBRARY, f"hayro_jbig2_{kind}_free"), made)
 
     def __enter__(self: _AnyHandle) -> _AnyHandle:
@@ -102,13 +139,24 @@ class _Handle:
     def __exit__(self, *_: object) -> None:
         self.close()
 
+    def _left_out(self) -> LeftOut:
+        """What salvage left out of globals, a page or a file."""
+        told = _LeftOut()
+        _check(getattr(_LIBRARY, f"hayro_jbig2_{self.kind}_get_left_out")(self.handle, told))
+        passed_over = _passed_over(told.segments, told.segment, told.error)
+        return LeftOut(passed_over, told.pages, _error_or_none(told.page_error), _error_or_none(told.list_error))
+
 
 class Globals(_Handle):
     """Segments that embedded pages share, decoded. Whoever makes a page with them holds the lock."""
 
-    def __init__(self, data: bytes, strict: bool) -> None:
+    def __init__(self, data: bytes, reading: Reading) -> None:
         self.lock = threading.Lock()
-        super().__init__("globals", strict, data, len(data))
+        if reading is Reading.SALVAGE:
+            super().__init__("globals", _NO_WORK_LIMIT, data, len(data), call="new_salvaged")
+        else:
+            super().__init__("globals", reading is Reading.STRICT, data, len(data))
+        self.left_out = self._left_out()
 
 
 class _Context(_Handle):
@@ -117,27 +165,31 @@ class _Context(_Handle):
     def __init__(self) -> None:
         super().__init__("context")
 
-    def page(self, size: Size) -> Page:
-        """That page, which has this size."""
+    def page(self, size: Size, left_out: LeftOut) -> Page:
+        """That page, which has this size, and of whose list of segments this was left out."""
         rows = bytearray((size.width + 7) // 8 * size.height)
         place = (c_uint8 * len(rows)).from_buffer(rows)
         _check(_LIBRARY.hayro_jbig2_context_rows(self.handle, 0, place, len(rows)))
-        return Page(*size, memoryview(rows).toreadonly(), self._passed_over())
-
-    def _passed_over(self) -> PassedOver:
-        passed = _PassedOver()
-        _check(_LIBRARY.hayro_jbig2_context_get_passed_over(self.handle, passed))
-        first = PassedSegment(passed.segment, _error(passed.error)) if passed.count else None
-        return PassedOver(passed.count, first)
+        told = _PassedOver()
+        _check(_LIBRARY.hayro_jbig2_context_get_passed_over(self.handle, told))
+        passed_over = _passed_over(told.count, told.segment, told.error)
+        return Page(*size, memoryview(rows).toreadonly(), passed_over, left_out)
 
 
 class EmbeddedPage(_Handle):
     """A page as a PDF file keeps it, read but not decoded."""
 
-    def __init__(self, stream: bytes, globals: Globals | None, strict: bool) -> None:
+    def __init__(self, stream: bytes, globals: Globals | None, reading: Reading) -> None:
+        inputs = (globals and globals.handle, stream, len(stream))
         # The library keeps a copy of the stream, and what it needs of the globals.
         with globals.lock if globals else threading.Lock():
-            super().__init__("page", strict, globals and globals.handle, stream, len(stream))
+            if reading is Reading.SALVAGE:
+                super().__init__("page", *inputs, call="new_salvaged")
+            else:
+                super().__init__("page", reading is Reading.STRICT, *inputs)
+        self.left_out = self._left_out()
+        if globals:
+            self.left_out = self.left_out.joined(globals.left_out)
         info = _Info()
         _check(_LIBRARY.hayro_jbig2_page_get_info(self.handle, info))
         self.size = Size(info.number, info.width, info.height)
@@ -146,16 +198,20 @@ class EmbeddedPage(_Handle):
         """Decodes the page."""
         with _Context() as context:
             _check(_LIBRARY.hayro_jbig2_page_draw(self.handle, context.handle))
-            return context.page(self.size)
+            return context.page(self.size, self.left_out)
 
 
 class File(_Handle):
     """A file, read but not decoded."""
 
-    def __init__(self, data: bytes, strict: bool) -> None:
+    def __init__(self, data: bytes, reading: Reading) -> None:
         # The library borrows it.
         self._data = data
-        super().__init__("file", strict, data, len(data))
+        if reading is Reading.SALVAGE:
+            super().__init__("file", _NO_WORK_LIMIT, data, len(data), call="new_salvaged")
+        else:
+            super().__init__("file", reading is Reading.STRICT, data, len(data))
+        self.left_out = self._left_out()
         count = _LIBRARY.hayro_jbig2_file_page_count(self.handle)
         self.sizes = [self._size(index) for index in range(count)]
 
@@ -168,4 +224,4 @@ class File(_Handle):
         """Decodes the page at an index."""
         with _Context() as context:
             _check(_LIBRARY.hayro_jbig2_file_draw(self.handle, index, context.handle))
-            return context.page(self.sizes[index])
+            return context.page(self.sizes[index], self.left_out)

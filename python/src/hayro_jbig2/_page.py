@@ -2,7 +2,7 @@
 
 from __future__ import annotations
 
-from dataclasses import dataclass, field
+from dataclasses import dataclass, field, replace
 from typing import TYPE_CHECKING
 
 if TYPE_CHECKING:
@@ -13,7 +13,7 @@ if TYPE_CHECKING:
 
 @dataclass(frozen=True)
 class PassedSegment:
-    """A segment that a lenient decoder passed over."""
+    """A segment that was passed over."""
 
     segment_number: int
     """The segment's number."""
@@ -23,12 +23,30 @@ class PassedSegment:
 
 @dataclass(frozen=True)
 class PassedOver:
-    """What a lenient decoder passed over of a page. The page lacks what these segments draw."""
+    """What was passed over of a page, or of what pages share. Pages lack what these segments draw."""
 
     count: int
     """How many segments were passed over."""
     first: PassedSegment | None
     """The first of them."""
+
+
+@dataclass(frozen=True)
+class LeftOut:
+    """What salvage left out besides what it passed over of a page; nothing by other readings."""
+
+    passed_over: PassedOver
+    """Of globals, or of the segments that the pages of a file share: those that were passed over."""
+    pages: int
+    """How many pages of a file can't begin."""
+    first_page: Jbig2Error | None
+    """Why the first of these can't."""
+    rest: Jbig2Error | None
+    """The fault at which the list of segments ends early: the rest is left out."""
+
+    def joined(self, globals: LeftOut) -> LeftOut:
+        """What was left out of a page and of its globals."""
+        return replace(self, passed_over=globals.passed_over, rest=self.rest or globals.rest)
 
 
 @dataclass(frozen=True)
@@ -49,6 +67,8 @@ class Page:
     """The packed rows, `row_bytes * height` bytes that can only be read."""
     passed_over: PassedOver = field(repr=False, compare=False)
     """What was passed over of the page."""
+    left_out: LeftOut = field(repr=False, compare=False)
+    """What salvage left out of the page's list of segments and of its globals, or of its file."""
 
     @property
     def row_bytes(self) -> int:

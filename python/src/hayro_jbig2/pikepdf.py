@@ -28,15 +28,19 @@ class Decoder(JBIG2DecoderInterface):
     def check_available(self) -> None:
         """Returns: the decoder is a part of this package."""
 
+    def __init__(self, salvage: bool = False) -> None:
+        self._salvage = salvage
+
     def decode_jbig2(self, jbig2: bytes, jbig2_globals: bytes) -> bytes:
         """Decodes an image to packed rows in which 1 is white, as a PDF image has them."""
-        page = decode(jbig2, globals=_globals_of(jbig2_globals or b""))
+        globals = _globals_of(jbig2_globals or b"", salvage=self._salvage)
+        page = decode(jbig2, globals=globals, salvage=self._salvage)
         return bytes(page.rows).translate(_INVERTED)
 
 
-def install() -> None:
-    """Makes pikepdf use this decoder in this process."""
-    decoder = Decoder()
+def install(*, salvage: bool = False) -> None:
+    """Makes pikepdf use this decoder in this process. With `salvage` it draws what it can of damaged images."""
+    decoder = Decoder(salvage)
     if hasattr(jbig2, "set_decoder"):
         jbig2.set_decoder(decoder)
     else:

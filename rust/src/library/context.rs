@@ -2,9 +2,9 @@
 
 use core::ptr::{self, NonNull};
 
-use super::{MEMORY, ffi, made, numbers, result};
+use super::{MEMORY, ffi, made, passed_over, result};
 use crate::error::Result;
-use crate::passed_over::{PassedOver, PassedSegment};
+use crate::passed_over::PassedOver;
 
 /// Room kept from page to page, with the page that was drawn last. It is made when it is first used.
 #[derive(Debug, Default)]
@@ -27,10 +27,7 @@ impl Context {
         let mut told = ffi::PassedOver::default();
         // SAFETY: the rules of the header.
         result(unsafe { ffi::hayro_jbig2_context_get_passed_over(handle, &mut told) })?;
-        self.passed_over = PassedOver {
-            count: told.count,
-            first: numbers::error_of(told.error).map(|error| PassedSegment { segment_number: told.segment, error }),
-        };
+        self.passed_over = passed_over(told.count, told.segment, told.error);
         drawn
     }
 

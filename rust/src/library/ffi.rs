@@ -41,6 +41,21 @@ pub(super) struct PassedOver {
     pub(super) error: u32,
 }
 
+/// `hayro_jbig2_left_out`
+#[repr(C)]
+#[derive(Default)]
+pub(super) struct LeftOut {
+    pub(super) segments: usize,
+    pub(super) segment: u32,
+    pub(super) error: u32,
+    pub(super) pages: usize,
+    pub(super) page_error: u32,
+    pub(super) list_error: u32,
+}
+
+/// `HAYRO_JBIG2_NO_WORK_LIMIT`
+pub(super) const NO_WORK_LIMIT: u64 = u64::MAX;
+
 unsafe extern "C" {
     pub(super) fn hayro_jbig2_globals_new(
         memory: *const Memory,
@@ -49,6 +64,16 @@ unsafe extern "C" {
         length: usize,
         globals: *mut *mut Globals,
     ) -> u32;
+
+    pub(super) fn hayro_jbig2_globals_new_salvaged(
+        memory: *const Memory,
+        work: u64,
+        bytes: *const u8,
+        length: usize,
+        globals: *mut *mut Globals,
+    ) -> u32;
+
+    pub(super) fn hayro_jbig2_globals_get_left_out(globals: *mut Globals, left_out: *mut LeftOut) -> u32;
 
     pub(super) fn hayro_jbig2_context_new(memory: *const Memory, context: *mut *mut Context) -> u32;
 
@@ -73,6 +98,23 @@ unsafe extern "C" {
         page: *mut *mut Page,
     ) -> u32;
 
+    pub(super) fn jbig2_c_salvaged_alone(
+        memory: *const Memory,
+        stream: *const u8,
+        length: usize,
+        page: *mut *mut Page,
+    ) -> u32;
+
+    pub(super) fn jbig2_c_salvaged_with(
+        memory: *const Memory,
+        globals: *mut Globals,
+        stream: *const u8,
+        length: usize,
+        page: *mut *mut Page,
+    ) -> u32;
+
+    pub(super) fn hayro_jbig2_page_get_left_out(page: *mut Page, left_out: *mut LeftOut) -> u32;
+
     pub(super) fn hayro_jbig2_page_get_info(page: *mut Page, info: *mut PageInfo) -> u32;
 
     pub(super) fn hayro_jbig2_page_draw(page: *mut Page, context: *mut Context) -> u32;
@@ -84,6 +126,16 @@ unsafe extern "C" {
         length: usize,
         file: *mut *mut File,
     ) -> u32;
+
+    pub(super) fn hayro_jbig2_file_new_salvaged(
+        memory: *const Memory,
+        work: u64,
+        bytes: *const u8,
+        length: usize,
+        file: *mut *mut File,
+    ) -> u32;
+
+    pub(super) fn hayro_jbig2_file_get_left_out(file: *mut File, left_out: *mut LeftOut) -> u32;
 
     pub(super) fn hayro_jbig2_file_page_count(file: *mut File) -> usize;
 

@@ -3,16 +3,18 @@
 use alloc::vec::Vec;
 use core::ptr::{self, NonNull};
 
-use super::{Context, MEMORY, PageInfo, ffi, made, result};
+use super::{Context, MEMORY, PageInfo, Reading, ffi, left_out, made, result};
 use crate::error::{DecodeError, Result};
 use crate::lock::Lock;
+use crate::passed_over::LeftOut;
 
 /// A file, read but not decoded. It borrows its bytes.
 #[derive(Debug)]
 pub(crate) struct File<'a> {
     bytes: &'a [u8],
-    strict: bool,
+    reading: Reading,
     infos: Vec<PageInfo>,
+    left_out: LeftOut,
     /// The handle that no thread draws by. Threads that draw at the same time each get one of their own.
     idle: Lock<Option<Handle>>,
 }
@@ -25,10 +27,12 @@ struct Handle(NonNull<ffi::File>);
 unsafe impl Send for Handle {}
 
 impl<'a> File<'a> {
-    pub(crate) fn new(bytes: &'a [u8], strict: bool) -> Result<Self> {
-        let mut file = Self { bytes, strict, infos: Vec::new(), idle: Lock::new(None) };
+    pub(crate) fn new(bytes: &'a [u8], reading: Reading) -> Result<Self> {
+        let left_out = LeftOut::default();
+        let mut file = Self { bytes, reading, infos: Vec::new(), left_out, idle: Lock::new(None) };
         let mut handle = file.handle()?;
         file.infos = handle.infos()?;
+        file.left_out = handle.left_out()?;
         file.put_back(handle);
         Ok(file)
     }
@@ -36,6 +40,11 @@ impl<'a> File<'a> {
     /// What is known of each page.
     pub(crate) fn infos(&self) -> &[PageInfo] {
         &self.infos
+    }
+
+    /// What was left out of it.
+    pub(crate) fn left_out(&self) -> LeftOut {
+        self.left_out
     }
 
     pub(crate) fn draw(&self, index: usize, context: &mut Context) -> Result<()> {
@@ -50,9 +59,16 @@ impl<'a> File<'a> {
         if let Some(handle) = self.idle.with(Option::take) {
             return Ok(handle);
         }
-        let (bytes, mut file) = (self.bytes, ptr::null_mut());
+        let (start, length, mut file) = (self.bytes.as_ptr(), self.bytes.len(), ptr::null_mut());
         // SAFETY: the rules of the header. The bytes are borrowed as long as this file lives, which keeps its handles.
-        let number = unsafe { ffi::hayro_jbig2_file_new(MEMORY, self.strict, bytes.as_ptr(), bytes.len(), &mut file) };
+        let number = unsafe {
+            match self.reading {
+                Reading::Salvage => {
+                    ffi::hayro_jbig2_file_new_salvaged(MEMORY, ffi::NO_WORK_LIMIT, start, length, &mut file)
+                }
+                reading => ffi::hayro_jbig2_file_new(MEMORY, reading.is_strict(), start, length, &mut file),
+            }
+        };
         Ok(Handle(made(number, file)?))
     }
 
@@ -82,6 +98,11 @@ impl Handle {
             infos.push(info);
         }
         Ok(infos)
+    }
+
+    fn left_out(&mut self) -> Result<LeftOut> {
+        // SAFETY: the rules of the header.
+        left_out(|told| unsafe { ffi::hayro_jbig2_file_get_left_out(self.0.as_ptr(), told) })
     }
 
     fn draw(&mut self, index: usize, context: &mut Context) -> Result<()> {

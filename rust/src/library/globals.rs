@@ -2,9 +2,10 @@
 
 use core::ptr::{self, NonNull};
 
-use super::{MEMORY, ffi, made};
+use super::{MEMORY, Reading, ffi, left_out, made};
 use crate::error::Result;
 use crate::lock::Lock;
+use crate::passed_over::LeftOut;
 
 /// Globals of embedded pages, decoded.
 #[derive(Debug)]
@@ -19,11 +20,26 @@ struct Handle(NonNull<ffi::Globals>);
 unsafe impl Send for Handle {}
 
 impl Globals {
-    pub(crate) fn new(bytes: &[u8], strict: bool) -> Result<Self> {
+    pub(crate) fn new(bytes: &[u8], reading: Reading) -> Result<Self> {
         let mut handle = ptr::null_mut();
+        let (start, length) = (bytes.as_ptr(), bytes.len());
         // SAFETY: the rules of the header.
-        let number = unsafe { ffi::hayro_jbig2_globals_new(MEMORY, strict, bytes.as_ptr(), bytes.len(), &mut handle) };
+        let number = unsafe {
+            match reading {
+                Reading::Salvage => {
+                    ffi::hayro_jbig2_globals_new_salvaged(MEMORY, ffi::NO_WORK_LIMIT, start, length, &mut handle)
+                }
+                _ => ffi::hayro_jbig2_globals_new(MEMORY, reading.is_strict(), start, length, &mut handle),
+            }
+        };
         Ok(Self { handle: Lock::new(Handle(made(number, handle)?)) })
+    }
+
+    /// What was left out of them.
+    pub(crate) fn left_out(&self) -> Result<LeftOut> {
+        // SAFETY: the rules of the header.
+        let call = |globals, told| unsafe { ffi::hayro_jbig2_globals_get_left_out(globals, told) };
+        self.with(|globals| left_out(|told| call(globals, told)))
     }
 
     /// Makes a call that is handed the globals.

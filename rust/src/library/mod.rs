@@ -16,6 +16,7 @@ mod page;
 use core::ptr::{self, NonNull};
 
 use crate::error::Result;
+use crate::passed_over::{LeftOut, PassedOver, PassedSegment};
 pub(crate) use context::Context;
 pub(crate) use ffi::PageInfo;
 pub(crate) use file::File;
@@ -26,6 +27,39 @@ core::arch::global_asm!(include_str!(concat!(env!("OUT_DIR"), "/libhayro_jbig2.s
 
 /// What the calls are handed for memory: that of `memory.rs`.
 const MEMORY: *const ffi::Memory = ptr::null();
+
+/// How bytes are read.
+#[derive(Debug, Clone, Copy, PartialEq, Eq)]
+pub(crate) enum Reading {
+    Strict,
+    Lenient,
+    Salvage,
+}
+
+impl Reading {
+    /// What the calls of the other readings are handed.
+    fn is_strict(self) -> bool {
+        self == Self::Strict
+    }
+}
+
+/// What a call tells of the segments that were passed over.
+fn passed_over(count: usize, segment_number: u32, error: u32) -> PassedOver {
+    let first = numbers::error_of(error).map(|error| PassedSegment { segment_number, error });
+    PassedOver { count, first }
+}
+
+/// What a call tells of what was left out.
+fn left_out(call: impl FnOnce(*mut ffi::LeftOut) -> u32) -> Result<LeftOut> {
+    let mut told = ffi::LeftOut::default();
+    result(call(&mut told))?;
+    Ok(LeftOut {
+        passed_over: passed_over(told.segments, told.segment, told.error),
+        pages: told.pages,
+        first_page: numbers::error_of(told.page_error),
+        rest: numbers::error_of(told.list_error),
+    })
+}
 
 /// What a call says by its number.
 fn result(number: u32) -> Result<()> {

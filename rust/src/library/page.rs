@@ -2,9 +2,10 @@
 
 use core::ptr::{self, NonNull};
 
-use super::{Context, Globals, MEMORY, PageInfo, ffi, made, result};
+use super::{Context, Globals, MEMORY, PageInfo, Reading, ffi, left_out, made, result};
 use crate::error::Result;
 use crate::lock::Lock;
+use crate::passed_over::LeftOut;
 
 /// An embedded page, read but not decoded. The library keeps a copy of its bytes, and its globals as long as it needs.
 #[derive(Debug)]
@@ -19,19 +20,20 @@ struct Handle(NonNull<ffi::Page>);
 unsafe impl Send for Handle {}
 
 impl Page {
-    pub(crate) fn new(stream: &[u8], globals: Option<&Globals>, strict: bool) -> Result<Self> {
+    pub(crate) fn new(stream: &[u8], globals: Option<&Globals>, reading: Reading) -> Result<Self> {
         let mut handle = ptr::null_mut();
-        let (bytes, length) = (stream.as_ptr(), stream.len());
-        // SAFETY: the rules of the header.
-        let number = unsafe {
-            match globals {
-                Some(globals) => {
-                    globals.with(|globals| ffi::jbig2_c_page_with(MEMORY, strict, globals, bytes, length, &mut handle))
-                }
-                None => ffi::jbig2_c_page_alone(MEMORY, strict, bytes, length, &mut handle),
-            }
+        let number = match globals {
+            Some(globals) => globals.with(|globals| read_with(stream, globals, reading, &mut handle)),
+            None => read_alone(stream, reading, &mut handle),
         };
         Ok(Self { handle: Lock::new(Handle(made(number, handle)?)) })
+    }
+
+    /// What was left out of the list of its segments.
+    pub(crate) fn left_out(&self) -> Result<LeftOut> {
+        // SAFETY: the rules of the header.
+        let call = |page: &mut Handle, told| unsafe { ffi::hayro_jbig2_page_get_left_out(page.0.as_ptr(), told) };
+        self.handle.with(|page| left_out(|told| call(page, told)))
     }
 
     pub(crate) fn info(&self) -> Result<PageInfo> {
@@ -46,6 +48,28 @@ impl Page {
         // SAFETY: the rules of the header.
         let call = |page: &mut Handle, context| unsafe { ffi::hayro_jbig2_page_draw(page.0.as_ptr(), context) };
         context.draw(|context| self.handle.with(|page| call(page, context)))
+    }
+}
+
+fn read_alone(stream: &[u8], reading: Reading, handle: &mut *mut ffi::Page) -> u32 {
+    let (bytes, length) = (stream.as_ptr(), stream.len());
+    // SAFETY: the rules of the header.
+    unsafe {
+        match reading {
+            Reading::Salvage => ffi::jbig2_c_salvaged_alone(MEMORY, bytes, length, handle),
+            _ => ffi::jbig2_c_page_alone(MEMORY, reading.is_strict(), bytes, length, handle),
+        }
+    }
+}
+
+fn read_with(stream: &[u8], globals: *mut ffi::Globals, reading: Reading, handle: &mut *mut ffi::Page) -> u32 {
+    let (bytes, length) = (stream.as_ptr(), stream.len());
+    // SAFETY: the rules of the header. `Globals::with` lends the globals to one call at a time.
+    unsafe {
+        match reading {
+            Reading::Salvage => ffi::jbig2_c_salvaged_with(MEMORY, globals, bytes, length, handle),
+            _ => ffi::jbig2_c_page_with(MEMORY, reading.is_strict(), globals, bytes, length, handle),
+        }
     }
 }
 

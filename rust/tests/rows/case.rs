@@ -3,6 +3,7 @@
 use crate::call::Call;
 use crate::coder::CoderCase;
 use crate::file_case::FileCase;
+use crate::salvage::SalvageCase;
 use crate::spelling::spelled;
 use crate::watcher::Watcher;
 use hayro_jbig2::{DecodeError, DecodeSettings, DecoderContext, Globals, Page};
@@ -85,6 +86,7 @@ pub enum Case {
     },
     Coder(CoderCase),
     File(FileCase),
+    Salvage(SalvageCase),
 }
 
 impl Case {
@@ -109,6 +111,7 @@ impl Case {
                 assert_eq!((page.number(), page.width(), page.height()), (*number, *width, *height), "row {name}");
             }
             Case::File(case) => case.check(name, context),
+            Case::Salvage(case) => case.check(name, context),
             Case::Coder(_) => return false,
         }
         true
@@ -118,6 +121,10 @@ impl Case {
 fn check_page(name: &str, modes: Modes, bytes: &[u8], answer: &Answer, context: &mut DecoderContext) {
     for settings in modes.settings() {
         answer.check(name, Page::new_embedded(bytes, None, settings), context);
+    }
+    // Salvage draws what lenient reading draws.
+    if matches!((modes, answer), (Modes::Lenient | Modes::Both, Answer::Calls(_))) {
+        answer.check(name, Page::salvaged_embedded(bytes, None), context);
     }
 }
 

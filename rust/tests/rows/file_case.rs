@@ -71,6 +71,11 @@ fn check_pages(
     context: &mut DecoderContext,
 ) {
     let file = File::new(bytes, settings).unwrap_or_else(|error| panic!("row {name}: {error}"));
+    check_pages_of(name, &file, expected, context);
+}
+
+/// Fails where a file has not these pages.
+pub fn check_pages_of(name: &str, file: &File<'_>, expected: &[FilePage], context: &mut DecoderContext) {
     assert_eq!(file.page_count(), expected.len(), "row {name}");
     assert!(file.page(expected.len()).is_none(), "row {name}");
     for (page, expected) in file.pages().zip(expected) {

@@ -4,6 +4,7 @@
 
 mod case;
 mod file_case;
+mod salvage;
 mod spelling;
 mod watcher;
 mod worked;
@@ -38,6 +39,9 @@ mod refinement;
 #[path = "../../../crates/jbig2_rows/src/rows/regions.rt"]
 mod regions;
 #[rustfmt::skip]
+#[path = "../../../crates/jbig2_rows/src/rows/salvage.rt"]
+mod salvaged;
+#[rustfmt::skip]
 #[path = "../../../crates/jbig2_rows/src/rows/symbols.rt"]
 mod symbols;
 
@@ -55,7 +59,7 @@ use hayro_jbig2::DecoderContext;
 /// All rows are run in one context, so that each is drawn over what the one before left.
 #[test]
 fn the_rows_hold() {
-    let families: [&[Row]; 13] = [
+    let families: [&[Row]; 14] = [
         worked::ROWS,
         framing::rows(),
         regions::rows_2(),
@@ -69,6 +73,7 @@ fn the_rows_hold() {
         files::rows_13(),
         halftones::rows_15(),
         symbols::rows_16(),
+        salvaged::rows(),
     ];
     let mut context = DecoderContext::default();
     let mut cases = 0;

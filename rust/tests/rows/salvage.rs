@@ -1,0 +1,72 @@
+//! The cases of salvage.
+
+use crate::case::Answer;
+use crate::file_case::{FilePage, check_pages_of};
+use crate::spelling::spelled;
+use hayro_jbig2::{DecodeError, DecoderContext, File, Globals, LeftOut, Page, PassedOver, PassedSegment};
+
+pub enum SalvageCase {
+    /// What comes of an embedded page with globals, and what each of them tells.
+    Page { globals: &'static str, bytes: &'static str, answer: Answer, globals_told: Told, told: Told },
+    /// The pages of a file.
+    File {
+        bytes: &'static str,
+        pages: &'static [FilePage],
+        left_out: &'static [DecodeError],
+        /// What the segments of no page pass over, and what ended the file's list.
+        told: Told,
+    },
+}
+
+/// What is told of what was left out.
+pub struct Told {
+    /// How many segments were passed over.
+    pub passed_over: usize,
+    /// The number and the error of the first.
+    pub first: Option<(u32, DecodeError)>,
+    /// What ended the list.
+    pub fault: Option<DecodeError>,
+}
+
+/// Nothing was left out.
+pub const NOTHING: Told = Told { passed_over: 0, first: None, fault: None };
+
+impl Told {
+    fn passed_over(&self) -> PassedOver {
+        let first = self.first.map(|(segment_number, error)| PassedSegment { segment_number, error });
+        PassedOver { count: self.passed_over, first }
+    }
+
+    /// With the errors of the pages of a file that were left out.
+    fn left_out(&self, pages: &[DecodeError]) -> LeftOut {
+        let (passed_over, first_page) = (self.passed_over(), pages.first().copied());
+        LeftOut { passed_over, pages: pages.len(), first_page, rest: self.fault }
+    }
+}
+
+impl SalvageCase {
+    pub fn check(&self, name: &str, context: &mut DecoderContext) {
+        match self {
+            Self::Page { globals, bytes, answer, globals_told, told } => {
+                let globals = Globals::salvaged(&spelled(globals)).unwrap();
+                assert_eq!(globals.left_out(), globals_told.left_out(&[]), "row {name}");
+                let bytes = spelled(bytes);
+                let page = Page::salvaged_embedded(&bytes, Some(&globals));
+                if let Ok(page) = &page {
+                    assert_eq!(page.left_out(), LeftOut { rest: told.fault, ..LeftOut::default() }, "row {name}");
+                }
+                let is_read = page.is_ok();
+                answer.check(name, page, context);
+                if is_read {
+                    assert_eq!(context.passed_over(), told.passed_over(), "row {name}");
+                }
+            }
+            Self::File { bytes, pages, left_out, told } => {
+                let bytes = spelled(bytes);
+                let file = File::salvaged(&bytes).unwrap_or_else(|error| panic!("row {name}: {error}"));
+                assert_eq!(file.left_out(), told.left_out(left_out), "row {name}");
+                check_pages_of(name, &file, pages, context);
+            }
+        }
+    }
+}
