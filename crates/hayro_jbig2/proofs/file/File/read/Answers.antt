@@ -1,4 +1,4 @@
-use Rattle.std.proofs.Common.{◌≡◌, ◌⊎◌, ℕ, Bool, true, false, ◌&&◌, List, length, Option, Result, Ok, Err, inl, inr, sym, ap, subst, ◌∙◌}
+use Rattle.std.proofs.Common.{◌≡◌, ◌⊎◌, ℕ, Bool, true, false, ◌&&◌, List, ◌++◌, length, Option, Result, Ok, Err, inl, inr, sym, ap, subst, ◌∙◌}
 use Rattle.std.specs.Prelude.{IfErr}
 use Rattle.std.proofs.lemmas.List.{length-map}
 use Rattle.std.proofs.lemmas.Result.{err_from_is_err_and}
@@ -53,27 +53,29 @@ parts-are shared pages parts e =
     let same : (let both : List SegmentView × List (List SegmentView) = (shared, pages) in both) ≡ parts = cc in
     (ap (λ (p : List SegmentView × List (List SegmentView)). p.0) same, ap (λ (p : List SegmentView × List (List SegmentView)). p.1) same)
 
-kept-is : (named globals : Result Shared DecodeError) → (let meant : Result (Result Shared DecodeError) DecodeError = Ok named in meant) ≡ Ok globals → named ≡ globals
-kept-is named globals e = cc
+kept-is : {X : Type 0} (meant kept : X) → (let r : Result X DecodeError = Ok meant in r) ≡ Ok kept → meant ≡ kept
+kept-is meant kept e = cc
 
 pub returns-clause-value : goal.returns-clause-value
 returns-clause-value g c =
     let reading = c.args.reading in
+    let mode : c.is_strict-strict.result ≡ is_strict reading = c.is_strict-strict.ensures in
     let file : FileHeader × List SegmentView = file_view c.in_ok-file.file in
     let parts : List SegmentView × List (List SegmentView) = by_page_view c.in_ok-segments.segments in
-    let known : associated (is_strict reading) file.1 ≡ Ok tt = ap (λ s. associated (is_strict reading) (segment_views s)) (sym c.deref.ensures.value) ∙ c.in_ok-check_associations.ensures in
+    let known : associated (is_strict reading) file.1 ≡ Ok tt = ap (λ b. associated b file.1) (sym mode) ∙ ap (λ s. associated c.is_strict-strict.result (segment_views s)) (sym c.deref.ensures.value) ∙ c.in_ok-check_associations.ensures in
     let split = parts-are (of_page 0 file.1) (by_pages file.1) parts c.in_ok-segments.ensures in
     let length_is : length parts.1 ≡ length c.in_ok-segments.segments.pages.items = length-map c.in_ok-segments.segments.pages.items _ in
     let counted : (is_strict reading && miscounts file.0.number_of_pages (length parts.1)) ≡ false = elim c.else-strict.branch [
       | else-strict-via-then-strict+else-miscounts w ↦
-          ap (λ (b : Bool). b && miscounts file.0.number_of_pages (length parts.1)) w.if-strict.true
+          ap (λ (b : Bool). b && miscounts file.0.number_of_pages (length parts.1)) (sym mode ∙ w.if-strict.true)
           ∙ ap (λ (n : ℕ). miscounts file.0.number_of_pages n) (length_is ∙ sym (w.len.ensures ∙ c.in_ok-segments.segments.pages.ok.0)) ∙ sym w.miscounts.ensures ∙ w.if-miscounts.false
-      | else-strict-via-else-strict w ↦ ap (λ (b : Bool). b && miscounts file.0.number_of_pages (length parts.1)) w.if-strict.false
+      | else-strict-via-else-strict w ↦ ap (λ (b : Bool). b && miscounts file.0.number_of_pages (length parts.1)) (sym mode ∙ w.if-strict.false)
     ] in
     let named =
     ap (λ ps. shared_by reading ps (segment_views c.in_ok-segments.segments.shared.items)) (sym c.deref-2.ensures.value)
     ∙ ap (λ s. shared_by reading c.deref-2.result.now (segment_views s)) (sym c.deref-3.ensures.value) ∙ kept-is _ _ c.in_ok-globals.ensures in
-    book-made reading c.args.bytes.now file parts c.in_ok-pages.pages.items c.in_ok-globals.globals c.in_ok-file.ensures.value known split.0 split.1 counted c.in_ok-pages.ensures named
+    let left = sym (c.in_ok-pages.ensures.left_out ∙ ap (λ (es : List DecodeError). es ++ left_out_of reading parts.1) c.new-left_out.ensures.items) in
+    book-made reading c.args.bytes.now file parts c.in_ok-pages.pages.items c.in_ok-globals.globals c.read_pages.new.left_out.items c.in_ok-fault.fault c.in_ok-file.ensures.value known split.0 split.1 counted c.in_ok-pages.ensures.value named left (kept-is _ _ c.in_ok-fault.ensures)
 
 pub invariant_of-result : goal.invariant_of-result
 invariant_of-result g c =
@@ -88,7 +90,7 @@ returns-in_err-file-clause-errors g c =
 pub returns-in_err-check_associations-clause-errors : goal.returns-in_err-check_associations-clause-errors
 returns-in_err-check_associations-clause-errors g c =
     let e = err_from_is_err_and c.from_residual-in_err-check_associations.result c.from_residual-in_err-check_associations.ensures.1 in
-    rw (e.1, e.2) (returned_error _ _ (answered-associated (is_strict c.args.reading) (segment_views c.deref.result.now)) (inr c.in_err-check_associations.ensures))
+    rw (e.1, e.2) (returned_error _ _ (answered-associated _ (segment_views c.deref.result.now)) (inr c.in_err-check_associations.ensures))
 
 pub returns-in_err-segments-clause-errors : goal.returns-in_err-segments-clause-errors
 returns-in_err-segments-clause-errors g c =
@@ -113,16 +115,17 @@ returns-in_err-fault-clause-errors g c =
 pub returns-in_err-pages-clause-value : goal.returns-in_err-pages-clause-value
 returns-in_err-pages-clause-value g c =
     let reading = c.args.reading in
+    let mode : c.is_strict-strict.result ≡ is_strict reading = c.is_strict-strict.ensures in
     let file : FileHeader × List SegmentView = file_view c.in_ok-file.file in
     let parts : List SegmentView × List (List SegmentView) = by_page_view c.in_ok-segments.segments in
-    let known : associated (is_strict reading) file.1 ≡ Ok tt = ap (λ s. associated (is_strict reading) (segment_views s)) (sym c.deref.ensures.value) ∙ c.in_ok-check_associations.ensures in
+    let known : associated (is_strict reading) file.1 ≡ Ok tt = ap (λ b. associated b file.1) (sym mode) ∙ ap (λ s. associated c.is_strict-strict.result (segment_views s)) (sym c.deref.ensures.value) ∙ c.in_ok-check_associations.ensures in
     let split = parts-are (of_page 0 file.1) (by_pages file.1) parts c.in_ok-segments.ensures in
     let length_is : length parts.1 ≡ length c.in_ok-segments.segments.pages.items = length-map c.in_ok-segments.segments.pages.items _ in
     let counted : (is_strict reading && miscounts file.0.number_of_pages (length parts.1)) ≡ false = elim c.else-strict.branch [
       | else-strict-via-then-strict+else-miscounts w ↦
-          ap (λ (b : Bool). b && miscounts file.0.number_of_pages (length parts.1)) w.if-strict.true
+          ap (λ (b : Bool). b && miscounts file.0.number_of_pages (length parts.1)) (sym mode ∙ w.if-strict.true)
           ∙ ap (λ (n : ℕ). miscounts file.0.number_of_pages n) (length_is ∙ sym (w.len.ensures ∙ c.in_ok-segments.segments.pages.ok.0)) ∙ sym w.miscounts.ensures ∙ w.if-miscounts.false
-      | else-strict-via-else-strict w ↦ ap (λ (b : Bool). b && miscounts file.0.number_of_pages (length parts.1)) w.if-strict.false
+      | else-strict-via-else-strict w ↦ ap (λ (b : Bool). b && miscounts file.0.number_of_pages (length parts.1)) (sym mode ∙ w.if-strict.false)
     ] in
     let e = err_from_is_err_and c.from_residual-in_err-pages.result c.from_residual-in_err-pages.ensures.1 in
     rw (e.1, e.2) (book-unfiled reading c.args.bytes.now file parts c.in_err-pages.field-0.0 c.in_ok-file.ensures.value known split.1 counted c.in_err-pages.ensures.value)
@@ -133,12 +136,13 @@ returns-in_err-pages-clause-causes g c = file_cause c.args.reading c.args.bytes.
 pub returns-then-miscounts-clause-causes : goal.returns-then-miscounts-clause-causes
 returns-then-miscounts-clause-causes g c =
     let reading = c.args.reading in
+    let mode : c.is_strict-strict.result ≡ is_strict reading = c.is_strict-strict.ensures in
     let file : FileHeader × List SegmentView = file_view c.in_ok-file.file in
     let parts : List SegmentView × List (List SegmentView) = by_page_view c.in_ok-segments.segments in
-    let known : associated (is_strict reading) file.1 ≡ Ok tt = ap (λ s. associated (is_strict reading) (segment_views s)) (sym c.deref.ensures.value) ∙ c.in_ok-check_associations.ensures in
+    let known : associated (is_strict reading) file.1 ≡ Ok tt = ap (λ b. associated b file.1) (sym mode) ∙ ap (λ s. associated c.is_strict-strict.result (segment_views s)) (sym c.deref.ensures.value) ∙ c.in_ok-check_associations.ensures in
     let split = parts-are (of_page 0 file.1) (by_pages file.1) parts c.in_ok-segments.ensures in
     let length_is : length parts.1 ≡ length c.in_ok-segments.segments.pages.items = length-map c.in_ok-segments.segments.pages.items _ in
     let counted : (is_strict reading && miscounts file.0.number_of_pages (length parts.1)) ≡ true =
-    ap (λ (b : Bool). b && miscounts file.0.number_of_pages (length parts.1)) c.if-strict.true
+    ap (λ (b : Bool). b && miscounts file.0.number_of_pages (length parts.1)) (sym mode ∙ c.if-strict.true)
     ∙ ap (λ (n : ℕ). miscounts file.0.number_of_pages n) (length_is ∙ sym (c.len.ensures ∙ c.in_ok-segments.segments.pages.ok.0)) ∙ sym c.miscounts.ensures ∙ c.if-miscounts.true in
     file_cause reading c.args.bytes.now _ (inr (book-miscounted reading c.args.bytes.now file parts c.in_ok-file.ensures.value known split.1 counted))
