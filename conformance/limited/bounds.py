@@ -24,9 +24,9 @@ class Bound:
         return max(((self.excess(one), one.name) for one in taken), default=(0, "nothing"))
 
 
-# Of decoding. A symbol dictionary without symbols, which costs 1024 units, asks for some 81,300 bytes, most of them for
-# the contexts of the coder. The lines of a custom table, up to four for each byte, are not paid one by one.
-DECODING = Bound(80, 320, 0)
+# Of decoding. A symbol dictionary without symbols, which costs 5120 units, asks for some 81,300 bytes, most of them for
+# the contexts of the coder. A page asks for contexts too, once.
+DECODING = Bound(16, 0, 1 << 15)
 # Of reading, before any unit is paid: the segments, and the standard tables. For a segment of 11 bytes, the least, some
 # 648 are asked for, where lists have just grown and the segments are not in order.
 READING = Bound(0, 59, 22528)

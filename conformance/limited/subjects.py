@@ -6,7 +6,7 @@ import pathlib
 from collections.abc import Iterator
 
 from conformance.runner.embedding import Embedded, embedded_page, file_of
-from conformance.runner.segments import pages_of, segments_of_file, sequential
+from conformance.runner.segments import pages_of, segments_of_file
 from conformance.suite.all_cases import all_written
 from conformance.suite.case import COLUMNS, EMBEDDED, PICTURE, Written
 from jbig2_encoder.fields import field
@@ -38,13 +38,6 @@ class Subject:
     def length(self) -> int:
         """How many bytes are read."""
         return len(self.page.stream + self.page.shared if self.file is None else self.file)
-
-    @property
-    def table_bytes(self) -> int:
-        """How many bytes the data of custom tables have."""
-        streams = (self.page.stream, self.page.shared)
-        lists = map(sequential, streams) if self.file is None else [segments_of_file(self.file)]
-        return sum(len(segment.data) for segments in lists for segment in segments if segment.kind == TABLE)
 
 
 def results_of(case: Written) -> tuple[tuple[str, str], ...]:
@@ -78,19 +71,20 @@ def made_up() -> Iterator[Subject]:
     page, lines, many = segment(0, 48, page_information(8, 1)), 1 << 16, 1025
     table = bytes(5) + lines.to_bytes(4, "big") + bytes(lines // 4 + 1)
     dictionary = field("flags", 2, 2) + bytes.fromhex("03FFFDFF02FEFEFE FFFFFFFF") + bytes(8)
-    for name, kind, data, times in (
-        ("a table of many lines", TABLE, table, 1),
-        ("symbol dictionaries without symbols", SYMBOL_DICTIONARY, dictionary, many),
-        ("segments without data", PROFILES, b"", many),
-        ("a table without data", TABLE, b"", 1),
+    for name, kind, data, times, price in (
+        ("a table of many lines", TABLE, table, 1, 64 * len(table)),
+        ("symbol dictionaries without symbols", SYMBOL_DICTIONARY, dictionary, many, 4096),
+        ("segments without data", PROFILES, b"", many, 0),
+        ("a table without data", TABLE, b"", 1, 0),
     ):
         own, shared = (b"".join(segment(1 + at, kind, data, page=page) for at in range(times)) for page in (1, 0))
         # Two bitmaps of one word, and the segments, of which the page's information is one.
         alone = 2 * (64 + 64) + 1024
+        units = alone + (1024 + price) * times
         whole = Embedded(page + own)
-        yield Subject(name, whole, units=alone + 1024 * times)
+        yield Subject(name, whole, units=units)
         yield Subject(f"{name}, shared", Embedded(page, shared), units=alone)
-        yield Subject(f"{name}, as a file", Embedded(b""), file_of(whole), units=alone + 1024 * times)
+        yield Subject(f"{name}, as a file", Embedded(b""), file_of(whole), units=units)
         yield Subject(f"{name}, shared in a file", Embedded(b""), file_of(Embedded(page, shared)))
 
 

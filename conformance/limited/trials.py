@@ -15,13 +15,13 @@ LARGE, SMALL, SPREAD = 1 << 62, 20000, 64
 
 @dataclasses.dataclass(frozen=True)
 class Taken:
-    """The units that something took, the bytes of memory that it asked for meanwhile, and how many bytes it read that
-    aren't paid for."""
+    """The units that something took, the bytes of memory that it asked for meanwhile, and how many bytes it read before
+    it took any unit."""
 
     name: str
     units: int
     asked: int
-    unpaid: int
+    unpaid: int = 0
 
 
 @dataclasses.dataclass
@@ -138,7 +138,7 @@ class Trial:
         # Without any work the segments are read, and nothing of them is decoded.
         reading, all_asked = (memory.asked for memory in memories)
         self.found.reading.append(Taken(self.name, 0, reading, self.subject.length))
-        self.found.shared.append(Taken(self.name, units, all_asked - reading, self.subject.table_bytes))
+        self.found.shared.append(Taken(self.name, units, all_asked - reading))
 
     def try_page(self, page: Page) -> Drawn:
         """A page is drawn within what it takes, and refused within less; then the context draws the example."""
@@ -175,7 +175,7 @@ class Trial:
             with self.context(memory) as made:
                 context, before = Context(made), memory.asked
                 left = context.within(page, work)[1]
-                return Taken(name, work - left, memory.asked - before - read, self.subject.table_bytes)
+                return Taken(name, work - left, memory.asked - before - read)
 
         # An embedded page is read again, which costs no work.
         read = taken(0, 0).asked
