@@ -43,8 +43,8 @@ class LimitedTest(unittest.TestCase):
     def test_a_file_has_its_pages_as_embedded_ones(self):
         table = segment(3, 53, bytes(7))
         file, page = forms_of("file", HEADER + PAGE + table, 1)
-        self.assertEqual((file.length, file.table_bytes), (len(HEADER + PAGE + table), 7))
-        self.assertEqual((page.page.stream, page.length, page.table_bytes), (PAGE + table, len(PAGE + table), 7))
+        self.assertEqual(file.length, len(HEADER + PAGE + table))
+        self.assertEqual((page.page.stream, page.length), (PAGE + table, len(PAGE + table)))
 
     def test_what_is_asked_for_besides(self):
         bound = Bound(10, 3, 7)
