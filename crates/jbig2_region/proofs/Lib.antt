@@ -14,6 +14,7 @@ pub mod PixelCauses
 pub mod PixelLemmas
 pub mod PlaceCounts
 pub mod PlaceLemmas
+pub mod Prices
 pub mod PushLemmas
 pub mod RasterLemmas
 pub mod RefinementKernelLemmas
