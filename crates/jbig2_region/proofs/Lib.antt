@@ -8,6 +8,7 @@ pub mod CountLemmas
 pub mod DecisionLemmas
 pub mod GatherLemmas
 pub mod GenericLemmas
+pub mod GenericPrices
 pub mod GroupLemmas
 pub mod HeaderCauses
 pub mod PixelCauses

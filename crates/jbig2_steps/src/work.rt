@@ -81,6 +81,7 @@ impl<L: Ledger> Work<L> {
         ensures paid { worth self.new ≤ worth self.old }
         ensures taken { IfOk result
             (λ _. worth self.new + 32 * price_of_bitmap width height ≡ worth self.old) }
+        ensures least { IfOk result (λ _. worth self.new + 2048 ≤ worth self.old) }
     {
         self.pay(price_of_bitmap(width, height))
     }

@@ -27,7 +27,7 @@ loop-index-preserved g c =
     let place : c.loop-index.index * 32 + c.min-count.result ≡ min ((c.loop-index.index + 1) * 32) c.args.bitmap.now.width = omega arith in
     let loaded = c.windows_at-windows.ensures.steps in
     let decided : c.windows_at-windows.new.steps.decisions ≡ c.loop-index.steps.decisions = ap (λ (t : Counts). t.decisions) loaded in
-    let untouched : c.windows_at-windows.new.steps.run_tests ≡ c.loop-index.steps.rest = ap (λ (t : Counts). rest_of t) loaded in
+    let untouched : rest_of c.windows_at-windows.new.steps ≡ rest_of c.loop-index.steps = ap (λ (t : Counts). rest_of t) loaded in
     let more : c.windows_at-windows.new.steps.loads ≡ c.loop-index.steps.loads + 4 = ap (λ (t : Counts). t.loads) loaded in
     let same : c.windows_at-windows.new.steps.words ≡ c.loop-index.steps.words = ap (λ (t : Counts). t.words) loaded in
     record {

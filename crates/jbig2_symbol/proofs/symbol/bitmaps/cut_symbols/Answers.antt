@@ -5,12 +5,12 @@ use Rattle.jbig2_symbol.specs.inner.SymbolViews.{put_behind}
 use Rattle.jbig2_symbol.proofs.CutLemmas.{cut-all, cut-fault, cut-next, sum-next}
 use Rattle.jbig2_symbol.proofs.symbol.bitmaps.cut_symbols.Goals as goal
 
-pub returns : goal.returns
-returns g c = cut-all c.args.collective.now c.args.height c.loop-width.left c.args.widths.now c.loop-width.width-index c.loop-width.symbols.items _ (omega arith) c.loop-width.invariant.cut
+pub returns-clause-value : goal.returns-clause-value
+returns-clause-value g c = cut-all c.args.collective.now c.args.height c.loop-width.left c.args.widths.now c.loop-width.width-index c.loop-width.symbols.items _ (omega arith) c.loop-width.invariant.cut
 
-pub returns-in-Err : goal.returns-in-Err
+pub returns-in-Err-clause-value : goal.returns-in-Err-clause-value
 unfolding symbol_cut
-returns-in-Err g c =
+returns-in-Err-clause-value g c =
     cut-fault c.args.collective.now c.args.height c.loop-width.left c.args.widths.now c.loop-width.width-index c.loop-width.symbols.items c.in-Err.error _ (omega arith) c.loop-width.invariant.cut c.in-Err.ensures.value
 
 pub loop-width-preserved : goal.loop-width-preserved
