@@ -12,7 +12,6 @@ use Rattle.jbig2_mmr.proofs.T6Bits.{end-after, end-none}
 use Rattle.jbig2_mmr.proofs.T6Decoding.{RowsReading, rows-start, rows-grid, rows-early, rows-last, rows-fault, rows-next, answer-whole, answer-missing, answer-none, drawn-none, drawn-rows}
 use Rattle.jbig2_base.specs.declared.error.{DecodeError.TheVariants.{Region}, RegionError.TheVariants.{InvalidMmrData}}
 use Rattle.jbig2_base.proofs.NumberLemmas.{length-bits}
-use Rattle.jbig2_mmr.specs.Steps.{MovesWithin}
 use Rattle.jbig2_mmr.proofs.T6Steps.{rows_moves, moves-none, moves-most, moves-then, next-moves, stop-moves, all-moves, used-bits, taken-bits, row-bound, both, drop-shorter, end-shorter}
 use Rattle.jbig2_mmr.proofs.mmr.decode.Goals as goal
 use Rattle.jbig2_mmr.proofs.mmr.decode.Goals.{then-width-eq0-via-then-width-eq0, then-width-eq0-via-else-width-eq0+then-height-eq0}

@@ -1,7 +1,7 @@
 use Rattle.std.proofs.Common.{◌-◌, ◌/◌, arith}
 use Rattle.jbig2_base.proofs.LaneCounts.{lanes-then}
 use Rattle.jbig2_mmr.proofs.T6Spans.{span-more, lanes-word}
-use Rattle.jbig2_mmr.proofs.T6Steps.{moves-none, moves-then, moves-word}
+use Rattle.jbig2_mmr.proofs.T6Steps.{moves-then, moves-word}
 use Rattle.jbig2_mmr.proofs.mmr.span.fill_span.Goals as goal
 
 pub loop-x-preserved : goal.loop-x-preserved
