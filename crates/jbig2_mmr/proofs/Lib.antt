@@ -8,5 +8,6 @@ mod T6Lookup
 pub mod T6Rows
 mod T6Runs
 mod T6Spans
+mod T6Steps
 mod T6Tables
 mod T6Worked
