@@ -1,5 +1,6 @@
 pub mod Answered
 pub mod Causes
+pub mod Prices
 mod T6Bits
 mod T6Changes
 mod T6Decoding

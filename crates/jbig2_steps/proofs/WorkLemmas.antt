@@ -10,6 +10,10 @@ pub counts-worth : {L : Type 0} (w : Work L) (steps : Counts) (n : ℕ) → coun
 unfolding worth
 counts-worth {L} w steps n more = omega arith
 
+-- nothing counted
+pub kept-worth : {L : Type 0} (w : Work L) (steps : Counts) → steps ≡ w.steps → worth (record w { steps = steps }) ≡ worth w
+kept-worth {L} w steps same = ap (λ (s : Counts). worth (record w { steps = s })) same
+
 -- decisions alone
 pub decided-worth : {L : Type 0} (w : Work L) (steps : Counts) (n most : ℕ) → steps ≡ record w.steps { decisions = w.steps.decisions + n } → n ≤ most → PaidBut most w (record w { steps = steps })
 decided-worth {L} w steps n most is few =

@@ -100,6 +100,8 @@ fn read_mmr_rows<A: Allocator, L: Ledger>(
     ensures paid { Paid work.old work.new }
 {
     let bytes = bytes_field(reader, size)?;
+    // Codes may stand for no pixel.
+    work.pay(size as u64)?;
     work.pay_bitmap(width, height)?;
     let mut bitmap = Bitmap::new_wide(alloc, width, height)?;
     mmr::decode(&mut bitmap, bytes, strict, &mut work.steps)?;
