@@ -69,7 +69,10 @@ impl<'a, B: Allocator, M: Allocator> PlacedInstances<'a, B, M> {
         };
         let price = price_of_bitmap(symbol.width(), symbol.height());
         // No limit allows more than 64 bits of work.
-        let work = self.work.checked_add(price).ok_or(DecodeError::OutOfMemory)?;
+        let work = self
+            .work
+            .checked_add(price)
+            .ok_or(DecodeError::OutOfMemory)?;
         let (instance, next) = place(flags, symbol, self.cursor.cur_s, t)?;
         self.instances.push(instance)?;
         self.work = work;

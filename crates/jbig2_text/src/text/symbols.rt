@@ -132,8 +132,20 @@ impl<B: Allocator, M: Allocator> InstanceSymbol<'_, B, M> {
             PaidBut (32 * price_of_bitmap symbol.width symbol.height) work.old work.new }
     {
         match self {
-            InstanceSymbol::Shared(bitmap) => region.combine(bitmap, x, y, operator, &mut work.steps),
-            InstanceSymbol::Refined(bitmap) => region.combine(bitmap, x, y, operator, &mut work.steps),
+            InstanceSymbol::Shared(bitmap) => region.combine(
+                bitmap,
+                x,
+                y,
+                operator,
+                &mut work.steps,
+            ),
+            InstanceSymbol::Refined(bitmap) => region.combine(
+                bitmap,
+                x,
+                y,
+                operator,
+                &mut work.steps,
+            ),
         }
     }
 }

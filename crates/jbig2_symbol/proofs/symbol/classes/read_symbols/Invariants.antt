@@ -10,8 +10,8 @@ invariant-loop-width g l =
     let r = g.R.ReadSymbols in
     record {
       reads :
-      behind l.bitmaps.items (symbols_from r.readings (input_view l.input) l.widths.left l.height l.widths.width l.widths.total l.bitmaps.items (r.state l.readings))
-      ≡ behind l.fn.bitmaps.items (symbols_from r.readings (input_view l.input) l.room l.height 0 0 l.fn.bitmaps.items (r.state l.fn.readings));
+          behind l.bitmaps.items (symbols_from r.readings (input_view l.input) l.widths.left l.height l.widths.width l.widths.total l.bitmaps.items (r.state l.readings))
+          ≡ behind l.fn.bitmaps.items (symbols_from r.readings (input_view l.input) l.room l.height 0 0 l.fn.bitmaps.items (r.state l.fn.readings));
       all : length l.bitmaps.items + l.widths.left ≡ length l.fn.bitmaps.items + l.room;
       paid : worth l.work + number_steps (5 * length l.fn.bitmaps.items) ≤ worth l.fn.work + number_steps (5 * length l.bitmaps.items);
     }

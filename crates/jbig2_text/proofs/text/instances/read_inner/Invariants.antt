@@ -10,8 +10,8 @@ invariant-loop g l =
     let r = g.R.ReadInstances in
     record {
       goes :
-      after_instances r.readings (params_view l.params) (l.count - l.counter) (reached_view l.placed l.refining (r.state l.readings))
-      ≡ after_instances r.readings (params_view l.params) l.count (reached_view l.fn.placed l.fn.refining (r.state l.fn.readings));
+          after_instances r.readings (params_view l.params) (l.count - l.counter) (reached_view l.placed l.refining (r.state l.readings))
+          ≡ after_instances r.readings (params_view l.params) l.count (reached_view l.fn.placed l.fn.refining (r.state l.fn.readings));
       work : l.placed.work + drawing_price (instances_view l.fn.placed.instances.items) ≡ l.fn.placed.work + drawing_price (instances_view l.placed.instances.items);
       paid : worth l.work ≤ worth l.fn.work + number_steps (10 * l.counter);
     }
