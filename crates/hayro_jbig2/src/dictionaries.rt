@@ -81,12 +81,7 @@ fn decode_patterns<A: Allocator + Clone, L: Ledger>(
     let header = pattern::parse(&mut reader, strict)?;
     pay_patterns(&header, work)?;
     let alloc = workspace.alloc.clone()?;
-    let dictionary = pattern::decode(
-        alloc,
-        &header,
-        &mut workspace.contexts,
-        &mut work.steps,
-    );
+    let dictionary = pattern::decode(alloc, &header, &mut workspace.contexts, &mut work.steps);
     workspace.contexts.truncate(MOST_CONTEXTS);
     dictionary
 }

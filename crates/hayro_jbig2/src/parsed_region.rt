@@ -138,7 +138,13 @@ impl<'a, 'n, 'r, A: Allocator + Clone> ParsedRegion<'a, 'n, 'r, A> {
                 generic::decode_into(header, bitmap, contexts, &mut work.steps)
             }
             ParsedRegion::Refinement { header, reference } => {
-                generic_refinement::decode_into(header, reference, bitmap, contexts, &mut work.steps)
+                generic_refinement::decode_into(
+                    header,
+                    reference,
+                    bitmap,
+                    contexts,
+                    &mut work.steps,
+                )
             }
             ParsedRegion::PageRefinement { header, area } => {
                 generic_refinement::decode_into(header, area, bitmap, contexts, &mut work.steps)
