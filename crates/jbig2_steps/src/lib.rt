@@ -7,9 +7,9 @@ use std::alloc::AllocError;
 use std::marker::Model;
 use std::sync::ledger::{Blank, Book, Ledger, Share};
 
-/// How much was done so far: each field of the value is one count, and only the call of its name
-/// adds to it. The counts belong to the ledger `L` and exist for the proofs alone. The work that is left
-/// is no count: it changes no value, and its lack refuses as the lack of memory does.
+/// How much was done so far, and how much work is left: each field of the value but `left` is one count, and only the
+/// call of its name adds to it. The counts belong to the ledger `L` and exist for the proofs alone. The work that is
+/// left is no count: it changes no decoded value, and its lack refuses as the lack of memory does.
 #[derive(Drop)]
 pub struct Steps<L: Ledger> {
     /// How many units of work may still be taken.
@@ -30,6 +30,7 @@ impl<L: Ledger> Model for Steps<L> {
     ghost Value = { Counts };
 
     ghost view = { λ s. record {
+      left = s.work_left;
       loads = s.loads.amount;
       words = s.words.amount;
       decisions = s.decisions.amount;
@@ -43,15 +44,16 @@ impl<L: Ledger> Model for Steps<L> {
 }
 
 impl<L: Ledger> Steps<L> {
-    ghost use Rattle.std.specs.Prelude.{◌≡◌, ◌+◌};
-    ghost use Rattle.jbig2_steps.specs.Counts.{Counts, no_steps, words_copied};
+    ghost use Rattle.std.specs.Prelude.{◌≡◌, ◌+◌, ◌<◌, ◌≤◌, MatchResult};
+    ghost use Rattle.jbig2_steps.specs.Counts.{Counts, no_steps, price_of_bitmap, price_of_bitmaps};
+    ghost use Rattle.jbig2_steps.specs.Counts.{words_copied, work_taken};
 
     /// A counter that stands at nothing, for the ledger that `blank` opens. Work has no limit.
     pub fn new(permit: Permit, blank: Blank) -> Steps<L>
         requires name { blank.name ≡ L.name }
         requires parts { blank.parts ≡ L.parts }
         requires enough { blank.parts ≡ 6 }
-        ensures { result ≡ no_steps }
+        ensures { result ≡ no_steps u64.MAX }
     {
         Steps::within(permit, blank, u64::MAX)
     }
@@ -61,7 +63,7 @@ impl<L: Ledger> Steps<L> {
         requires name { blank.name ≡ L.name }
         requires parts { blank.parts ≡ L.parts }
         requires enough { blank.parts ≡ 6 }
-        ensures { result ≡ no_steps }
+        ensures { result ≡ no_steps work }
     {
         let (book, mut loads) = blank.open::<L>();
         let words = loads.split_off(1, 0);
@@ -82,14 +84,17 @@ impl<L: Ledger> Steps<L> {
     }
 
     /// How many units of work are left: 0 after a refusal.
-    pub fn work_left(&self) -> u64 {
+    pub fn work_left(&self) -> u64
+        ensures { result ≡ self.now.left }
+    {
         self.work_left
     }
 
     /// Takes `units` of work before it is done. Where so much isn't left, nothing is left from then on, and the work is
     /// refused as memory is.
     pub fn pay(&mut self, units: u64) -> Result<(), AllocError>
-        ensures { self.new ≡ self.old }
+        ensures taken { self.new ≡ work_taken units self.old }
+        ensures allowed { MatchResult result (λ _. units ≤ self.old.left) (λ _. self.old.left < units) }
     {
         match self.work_left.checked_sub(units) {
             Some(left) => {
@@ -106,14 +111,18 @@ impl<L: Ledger> Steps<L> {
     /// Takes the work of a bitmap of this size before it is begun: a unit for each pixel, rounded up to words of 64
     /// columns, of which each row has one at least, and 64 units more.
     pub fn pay_bitmap(&mut self, width: u32, height: u32) -> Result<(), AllocError>
-        ensures { self.new ≡ self.old }
+        ensures taken { self.new ≡ work_taken (price_of_bitmap width height) self.old }
+        ensures allowed { let price = price_of_bitmap width height in
+            MatchResult result (λ _. price ≤ self.old.left) (λ _. self.old.left < price) }
     {
         self.pay_bitmaps(1, width, height)
     }
 
     /// Takes the work of `count` bitmaps of this size before they are begun.
     pub fn pay_bitmaps(&mut self, count: u64, width: u32, height: u32) -> Result<(), AllocError>
-        ensures { self.new ≡ self.old }
+        ensures taken { self.new ≡ work_taken (price_of_bitmaps count width height) self.old }
+        ensures allowed { let price = price_of_bitmaps count width height in
+            MatchResult result (λ _. price ≤ self.old.left) (λ _. self.old.left < price) }
     {
         let row = u64::from(width.div_ceil(64).max(1)) * 64;
         let bitmap = row.saturating_mul(u64::from(height)).saturating_add(64);
