@@ -125,7 +125,7 @@ impl<A: Allocator> DecoderContext<A> {
         requires name { blank.name ≡ L.name }
         requires parts { blank.parts ≡ L.parts }
         requires enough { blank.parts ≡ 6 }
-        ensures { result ≡ no_steps }
+        ensures { result ≡ no_steps result.left }
     {
         Steps::within(Permit::grant(), blank, self.work_limit.unwrap_or(u64::MAX))
     }

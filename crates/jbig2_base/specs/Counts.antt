@@ -1,11 +1,13 @@
 -- How many steps calls take, of `Counts` before and after (our own rule; no part of the format).
-pub use Rattle.jbig2_steps.specs.Counts.{Counts, no_steps, words_copied, words_loaded, words_written}
+pub use Rattle.jbig2_steps.specs.Counts.{counted, Counts, no_steps, Paid, price_of_bitmap, price_of_bitmaps, words_copied, words_loaded, words_written, work_taken}
 use Rattle.std.specs.Prelude.{◌≡◌, ℕ, ◌+◌, ◌-◌, ◌*◌, ◌/◌, ◌≤◌, ◌==◌, if◌then◌else◌, min, ℤ, pos, negsuc, zero, suc}
 use Rattle.jbig2_base.specs.Grid.{Grid}
 
-pub record KeepsLanes (old new : Counts) : Type 0 where  -- no group of lanes and no single pixel was counted
+-- no group of lanes and no single pixel was counted, and no work taken
+pub record KeepsLanes (old new : Counts) : Type 0 where
   pub groups : new.groups ≡ old.groups
   pub pixels : new.pixels ≡ old.pixels
+  pub left : new.left ≡ old.left
 
 abbrev pub overlap : ℕ → ℕ → ℤ → ℕ  -- how many of a page's columns (or rows) a source has that begins at x
 overlap page source (pos x) = min source (page - x)
@@ -41,7 +43,7 @@ source_combined page source x y c =
     if overlap page.width source.width x == 0 then c
     else rows_combined (overlap page.height source.height y) (first_under x) (overlap page.width source.width x) (first_shown x) c
 
--- at most this many words were written, at most twice as many loads made, and nothing else was counted
+-- at most this many words were written, at most twice as many loads made, nothing else was counted, and no work taken
 pub record WritesWithin (most : ℕ) (old new : Counts) : Type 0 where
   pub words : new.words ≤ old.words + most
   pub loads : new.loads ≤ old.loads + 2 * most
@@ -49,6 +51,7 @@ pub record WritesWithin (most : ℕ) (old new : Counts) : Type 0 where
   pub run_tests : new.run_tests ≡ old.run_tests
   pub groups : new.groups ≡ old.groups
   pub pixels : new.pixels ≡ old.pixels
+  pub left : new.left ≡ old.left
 
 abbrev pub words_of : Grid → ℕ  -- how many words of 64 pixels a bitmap has, where each row begins with one of its own
 words_of g = (g.width + 63) / 64 * g.height

@@ -2,6 +2,7 @@
 
 ghost use Rattle.std.specs.Prelude.{◌≡◌, ◌+◌, length, vec_len, IfOk, IfErr, OnOk, Ok};
 ghost use Rattle.jbig2_base.specs.Answer.{Gives};
+ghost use Rattle.jbig2_base.specs.Counts.{KeepsLanes};
 ghost use Rattle.jbig2_base.specs.declared.error.DecodeError.TheVariants.{OutOfMemory};
 ghost use Rattle.jbig2_coder.specs.Encoder.{encoded, read_back, DecodesBack};
 ghost use Rattle.jbig2_coder.specs.inner.EncoderViews.{contexts_of, all_fresh};
@@ -56,6 +57,7 @@ pub fn decode_list<A: Allocator + Clone, L: Ledger>(
     ensures value { Gives (λ v. v.items) result (Ok (read_back bytes.now contexts.now)) }
     ensures steps { OnOk result
         (steps.new ≡ record steps.old { decisions = steps.old.decisions + length contexts.now }) }
+    ensures lanes { KeepsLanes steps.old steps.new }
 {
     let mut table = fresh_contexts(alloc.clone()?)?;
     let mut decoder = ArithmeticDecoder::new(bytes);

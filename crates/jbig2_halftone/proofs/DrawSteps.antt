@@ -14,10 +14,10 @@ use Rattle.jbig2_halftone.proofs.RowLemmas.{no-counts}
 use Rattle.std.proofs.Math.Nat.{mul-le-mul_left}
 
 pub draws-none : (old : Counts) → WritesWithin 0 old old
-draws-none old = record { words = omega arith; loads = omega arith; decisions = refl; run_tests = refl; groups = refl; pixels = refl }
+draws-none old = record { words = omega arith; loads = omega arith; decisions = refl; run_tests = refl; groups = refl; pixels = refl; left = refl }
 
 pub draws-nothing : (n : ℕ) (old : Counts) → WritesWithin n old old
-draws-nothing n old = record { words = omega arith; loads = omega arith; decisions = refl; run_tests = refl; groups = refl; pixels = refl }
+draws-nothing n old = record { words = omega arith; loads = omega arith; decisions = refl; run_tests = refl; groups = refl; pixels = refl; left = refl }
 
 -- more words may be written than were
 draws-within : (most more : ℕ) (old new : Counts) → most ≤ more → WritesWithin most old new → WritesWithin more old new
@@ -28,6 +28,7 @@ draws-within most more old new less draws = record {
   run_tests = draws.run_tests;
   groups = draws.groups;
   pixels = draws.pixels;
+  left = draws.left;
 }
 
 -- one part after another
@@ -39,6 +40,7 @@ draws-then first second old mid new before after = record {
   run_tests = after.run_tests ∙ before.run_tests;
   groups = after.groups ∙ before.groups;
   pixels = after.pixels ∙ before.pixels;
+  left = after.left ∙ before.left;
 }
 
 -- ---- cells
@@ -122,6 +124,7 @@ rows-more h d m planes w old read mid new before taken one =
       run_tests = here.run_tests ∙ before.run_tests;
       groups = rw (more m planes (w / 8)) (omega (arith, before.groups, here.groups));
       pixels = rw (more m planes (w % 8)) (omega (arith, before.pixels, here.pixels));
+      left = here.left ∙ before.left;
     })
   where
     more : (m planes v : ℕ) → (m + 1) * planes * v ≡ m * planes * v + planes * v

@@ -8,7 +8,7 @@ use Rattle.jbig2_base.specs.Grid.{Grid, blank, blank_or_overflow}
 use Rattle.jbig2_base.specs.declared.error.DecodeError.{DecodeError}
 use Rattle.jbig2_base.proofs.CountLemmas.{written-none}
 use Rattle.jbig2_base.proofs.FillLemmas.{white-made}
-use Rattle.jbig2_base.proofs.LaneCounts.{lanes-none, lanes-then}
+use Rattle.jbig2_base.proofs.LaneCounts.{lanes-none, lanes-others, lanes-then}
 use Rattle.jbig2_region.specs.GenericSteps.{CountsGeneric}
 use Rattle.jbig2_region.specs.Templates.{left, right}
 use Rattle.jbig2_region.specs.inner.PixelArrays.{pixels_view}
@@ -87,7 +87,7 @@ refused-lanes h old new mmr none = by_mmr h.mmr refl
 -- patterns that are cut out of it
 pub cut-lanes : (n : ℕ) (old mid new : Counts) → KeepsLanes old mid → new ≡ words_copied n mid → KeepsLanes old new
 cut-lanes n old mid new before cut =
-    lanes-then old mid new before (record { groups = ap (λ (c : Counts). c.groups) cut; pixels = ap (λ (c : Counts). c.pixels) cut })
+    lanes-then old mid new before (lanes-others mid new _ _ _ _ cut)
 
 -- the sides of a pattern, as the header has them
 pub cut-counts : (h : PatternHeader) (cut w rows : ℕ) (old new : Counts) → w ≡ h.pattern_width → rows ≡ h.pattern_height → new ≡ words_copied (cut * ((w + 63) / 64 * rows)) old → new ≡ after_patterns h cut old

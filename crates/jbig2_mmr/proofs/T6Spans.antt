@@ -44,9 +44,9 @@ span-more old g new y from x count bits black so_far order inside row colour e =
     }
 
 -- ---- counts
--- what loads or writes words keeps lanes and single pixels
+-- what loads or writes words keeps lanes, single pixels and work
 pub lanes-load : (old new : Counts) → new ≡ record old { loads = old.loads + 1 } → KeepsLanes old new
-lanes-load old new e = record { groups = ap (λ (s : Counts). s.groups) e; pixels = ap (λ (s : Counts). s.pixels) e }
+lanes-load old new e = record { groups = ap (λ (s : Counts). s.groups) e; pixels = ap (λ (s : Counts). s.pixels) e; left = ap (λ (s : Counts). s.left) e }
 
 pub lanes-word : (old new : Counts) → new ≡ record old { words = old.words + 1 } → KeepsLanes old new
-lanes-word old new e = record { groups = ap (λ (s : Counts). s.groups) e; pixels = ap (λ (s : Counts). s.pixels) e }
+lanes-word old new e = record { groups = ap (λ (s : Counts). s.groups) e; pixels = ap (λ (s : Counts). s.pixels) e; left = ap (λ (s : Counts). s.left) e }

@@ -1,6 +1,7 @@
 -- Regions row by row, with their decisions.
 use Rattle.std.proofs.Common.{subst, ◌≡◌, ℕ, ◌+◌, ◌*◌, ◌≤◌, Bool, add-one, List, length, refl, ◌∙◌, arith}
-use Rattle.jbig2_base.specs.Counts.{Counts}
+use Rattle.jbig2_base.proofs.LaneCounts.{lanes-none}
+use Rattle.jbig2_base.specs.Counts.{Counts, KeepsLanes}
 use Rattle.jbig2_base.specs.Grid.{Grid}
 use Rattle.jbig2_coder.specs.Coder.{Coder, Context}
 use Rattle.jbig2_region.specs.Steps.{CountsDecided}
@@ -63,12 +64,13 @@ decided-empty coding loads w h input start steps none = record {
   run_tests = refl;
   words = omega arith;
   loads = omega arith;
+  lanes = lanes-none steps;
 }
 
 pub decided-region : (coding : Coding) (loads w h y : ℕ) (input : List ℕ) (start : Region) (before after : Counts) → length start.pixels ≡ 0 → (w ≡ 0 → ⊥) → y ≡ h → (y ≡ 0 → after ≡ before)
-    → Decided coding w h input y start before.decisions after.decisions → after.run_tests ≡ before.run_tests → after.words ≤ before.words + y * w → after.loads ≤ before.loads + y * loads
+    → Decided coding w h input y start before.decisions after.decisions → after.run_tests ≡ before.run_tests → after.words ≤ before.words + y * w → after.loads ≤ before.loads + y * loads → KeepsLanes before after
     → CountsDecided coding loads w h input start before after
-decided-region coding loads w h y input start before after empty some all none counted tests words loaded = record {
+decided-region coding loads w h y input start before after empty some all none counted tests words loaded kept = record {
   empty = λ product. none (no-rows w h y some all product);
   decisions = λ _.
       rw (decisions-by-rows coding w h input start empty)
@@ -76,4 +78,5 @@ decided-region coding loads w h y input start before after empty some all none c
   run_tests = tests;
   words = subst (λ (n : ℕ). after.words ≤ before.words + n * w) all words;
   loads = subst (λ (n : ℕ). after.loads ≤ before.loads + n * loads) all loaded;
+  lanes = kept;
 }

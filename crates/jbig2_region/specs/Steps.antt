@@ -1,10 +1,22 @@
 -- What the step bounds of regions count (our own rule): decisions, run bytes, words and loads. Each
 -- `Counts..` takes how a region is coded, its size and its coded bytes, and the counts before and after it.
-use Rattle.std.specs.Prelude.{◌≡◌, ℕ, zero, suc, ◌+◌, ◌-◌, ◌*◌, ◌/◌, ◌%◌, ◌≤◌, ◌==◌, Bool, false, true, not, ◌&&◌, ◌||◌, nat_lt, if◌then◌else◌, List, ◌++◌, length, replicate, slice_index_or, is_none, Option}
-use Rattle.jbig2_base.specs.{Counts.{Counts, KeepsLanes}, Grid.{bit_number, same_colour, Grid}}
+use Rattle.std.specs.Prelude.{◌≡◌, ℕ, zero, suc, ◌+◌, ◌-◌, ◌*◌, ◌/◌, ◌%◌, ◌≤◌, ◌==◌, Bool, false, true, not, ◌&&◌, ◌||◌, nat_lt, if◌then◌else◌, List, ◌++◌, length, replicate, slice_index_or, is_none, Option, ◌⊎◌}
+use Rattle.jbig2_base.specs.{Counts.{Counts, KeepsLanes, price_of_bitmap, work_taken}, Grid.{bit_number, same_colour, Grid}}
 use Rattle.jbig2_coder.specs.Coder.{fresh, all_quiet, initial_registers}
-use Rattle.jbig2_region.specs.{Generic.{context_at, number_of, is_skipped}, Raster.{Coding, Region, so_far, at_pixel, fresh_contexts, no_pixels, row_decisions}, Refinement.{reference_of, refinement_coding}, RefinementHeader.{RefinementHeader}, RefinementTemplates.{is_nominal, refinement_bits}, RegionInfo.{PlacedRegion}, declared.template.{AdaptiveTemplatePixel.{AdaptiveTemplatePixel}, RefinementTemplate.{RefinementTemplate}}}
+use Rattle.jbig2_region.specs.{Generic.{context_at, number_of, is_skipped}, Raster.{Coding, Region, so_far, at_pixel, fresh_contexts, no_pixels, row_decisions}, Refinement.{reference_of, refinement_coding}, RefinementHeader.{RefinementHeader}, RefinementTemplates.{is_nominal, refinement_bits}, RegionInfo.{PlacedRegion}, declared.{region_info.RegionSegmentInfo.{RegionSegmentInfo}, template.{AdaptiveTemplatePixel.{AdaptiveTemplatePixel}, RefinementTemplate.{RefinementTemplate}}}}
 
+-- ---- the work of a region's bitmap, which is taken before the region is decoded
+abbrev pub region_price : RegionSegmentInfo → ℕ
+region_price info = price_of_bitmap info.width info.height
+
+abbrev pub region_paid : RegionSegmentInfo → Counts → Counts
+region_paid info = work_taken (region_price info)
+
+-- so much was left, or nothing was done for want of it
+abbrev pub IsAllowed : RegionSegmentInfo → Counts → Counts → Type 0
+IsAllowed info before after = (region_price info ≤ before.left) ⊎ (after ≡ region_paid info before)
+
+-- ---- counts of pixels
 unfoldable pub how_many : (ℕ → Bool) → ℕ → ℕ  -- how many of the first n places of a raster have a property
 how_many has zero = 0
 how_many has (suc n) = how_many has n + bit_number (has n)
@@ -20,8 +32,8 @@ unfoldable pub pixel_decisions : Coding → ℕ → ℕ → List ℕ → Region 
 pixel_decisions coding w h bytes start =
     how_many (λ n. takes_decision coding w h (at_pixel coding w h bytes start n)) (w * h)
 
--- One decision for each pixel that takes one, and for each row that begins with one; no run test; at most one word a
--- pixel, and this many loads a row. An empty region takes no step.
+-- One decision for each pixel that takes one, and for each row that begins with one; no run test and no lanes; at most
+-- one word a pixel, and this many loads a row. An empty region takes no step.
 pub record CountsDecided (coding : Coding) (row_loads : ℕ) (w h : ℕ) (bytes : List ℕ) (start : Region) (before after : Counts) : Type 0 where
   pub empty : w * h ≡ 0 → after ≡ before
   pub decisions : 1 ≤ w →
@@ -29,6 +41,7 @@ pub record CountsDecided (coding : Coding) (row_loads : ℕ) (w h : ℕ) (bytes 
   pub run_tests : after.run_tests ≡ before.run_tests
   pub words : after.words ≤ before.words + h * w
   pub loads : after.loads ≤ before.loads + h * row_loads
+  pub lanes : KeepsLanes before after
 
 -- loads of a row of a refinement, where its pixels are taken from windows of 64 pixels
 abbrev pub window_loads : ℕ → ℕ

@@ -3,6 +3,7 @@ ghost use Rattle.std.specs.Prelude.{◌≡◌, ◌≤◌, length, IfOk, OnErr, O
 ghost use Rattle.jbig2_base.specs.Answer.{Answers, Gives, Leaves};
 ghost use Rattle.jbig2_base.specs.Bits.{IsAligned};
 ghost use Rattle.jbig2_base.specs.Counts.{KeepsLanes};
+ghost use Rattle.jbig2_region.specs.Steps.{IsAllowed, region_paid, region_price};
 ghost use Rattle.jbig2_base.specs.Fields.{Parses};
 ghost use Rattle.jbig2_region.specs.Generic.{contexts_after, generic_answer, generic_decoded, refused_grid};
 ghost use Rattle.jbig2_region.specs.RegionInfo.{IsWhiteFor};
@@ -117,9 +118,9 @@ pub fn parse<'a>(
 
 /// Decodes a region (T.88, 6.2) into a white bitmap of its size. The contexts begin fresh, whatever
 /// `contexts` held, and are left there as the region leaves them; MMR data does not touch them, nor
-/// does its refusal. The steps of a region are bounded unless it has MMR data or the extended
-/// template; with nominal adaptive pixels a run of eight likely symbols takes no decision. A refusal takes no
-/// step but with MMR data, which counts no group of lanes and no single pixel.
+/// does its refusal. The steps of a region are bounded unless it has MMR data; with nominal adaptive
+/// pixels a run of eight likely symbols takes no decision. A refusal takes no step but with MMR data,
+/// which counts no group of lanes and no single pixel. No work is taken.
 ///
 /// `OutOfMemory` where there is no room for the contexts; in strict mode
 /// `RegionError::InvalidMmrData` where MMR data has a fault or lacks a row. The bitmap is then as it was,
@@ -158,9 +159,11 @@ pub fn decode_into<A: Allocator, B: Allocator, L: Ledger>(
     Ok(())
 }
 
-/// Decodes a region (T.88, 6.2), as `decode_into` does, into a bitmap of its own.
+/// Decodes a region (T.88, 6.2), as `decode_into` does, into a bitmap of its own. The work of that
+/// bitmap is taken first.
 ///
-/// `OutOfMemory` where there is no room for the bitmap or the contexts, else as `decode_into`.
+/// `OutOfMemory` where there is no room for the bitmap or the contexts or less work is left, else as
+/// `decode_into`.
 pub fn decode<A: Allocator, B: Allocator, L: Ledger>(
     alloc: A,
     header: &GenericRegionHeader<'_>,
@@ -171,9 +174,14 @@ pub fn decode<A: Allocator, B: Allocator, L: Ledger>(
     ensures value { Gives region_view result (generic_decoded (header_view header.now)) }
     ensures contexts { Leaves result contexts.new.items
         (contexts_after (header_view header.now) contexts.old.items) }
-    ensures steps { OnOk result (CountsGeneric (header_view header.now) steps.old steps.new) }
-    ensures stopped { header.now.mmr ≡ false → OnErr result (steps.new ≡ steps.old) }
-    ensures lanes { header.now.mmr ≡ true → KeepsLanes steps.old steps.new }
+    ensures steps { OnOk result (CountsGeneric (header_view header.now)
+        (region_paid header.now.region_info steps.old) steps.new) }
+    ensures stopped { header.now.mmr ≡ false
+        → OnErr result (steps.new ≡ region_paid header.now.region_info steps.old) }
+    ensures lanes { header.now.mmr ≡ true
+        → KeepsLanes (region_paid header.now.region_info steps.old) steps.new }
+    ensures paid { OnOk result (region_price header.now.region_info ≤ steps.old.left) }
+    ensures allowed { IsAllowed header.now.region_info steps.old steps.new }
 {
     let region_info = &header.region_info;
     steps.pay_bitmap(region_info.width, region_info.height)?;

@@ -1,12 +1,12 @@
 //! Refinement regions (T.88, 6.3 and 7.4.7).
-ghost use Rattle.std.specs.Prelude.{◌≡◌, IfOk, OnErr, OnOk};
+ghost use Rattle.std.specs.Prelude.{◌≡◌, ◌≤◌, IfOk, OnErr, OnOk};
 ghost use Rattle.jbig2_base.specs.Answer.{Answers, Gives, Leaves};
 ghost use Rattle.jbig2_base.specs.Bits.{IsAligned};
 ghost use Rattle.jbig2_base.specs.Fields.{Parses};
 ghost use Rattle.jbig2_region.specs.RegionInfo.{IsWhiteFor, PlacedRegion};
 ghost use Rattle.jbig2_region.specs.inner.RegionViews.{region_view};
 ghost use Rattle.jbig2_region.specs.Refinement.{is_far, is_smaller, offset, refined_answer, refined_contexts, refined_decoded};
-ghost use Rattle.jbig2_region.specs.Steps.{CountsRefined};
+ghost use Rattle.jbig2_region.specs.Steps.{CountsRefined, region_paid, region_price};
 ghost use Rattle.jbig2_region.specs.RefinementHeader.{IsRefinement, refinement_header_at, RefinementHeader};
 ghost use Rattle.jbig2_region.specs.inner.RefinedViews.{header_view};
 ghost use Rattle.jbig2_region.specs.inner.PixelArrays.{filled};
@@ -169,9 +169,11 @@ pub fn decode_into<A: Allocator, B: Allocator, C: Allocator, L: Ledger>(
     Ok(())
 }
 
-/// Refines `reference` (T.88, 6.3), as `decode_into` does, into a bitmap of its own.
+/// Refines `reference` (T.88, 6.3), as `decode_into` does, into a bitmap of its own. The work of that
+/// bitmap is taken first.
 ///
-/// `OutOfMemory` where there is no room for the bitmap or the contexts, else as `decode_into`.
+/// `OutOfMemory` where there is no room for the bitmap or the contexts or less work is left, else as
+/// `decode_into`.
 pub fn decode<A: Allocator, B: Allocator, C: Allocator, L: Ledger>(
     alloc: A,
     header: &GenericRefinementRegionHeader<'_>,
@@ -184,9 +186,11 @@ pub fn decode<A: Allocator, B: Allocator, C: Allocator, L: Ledger>(
         (refined_decoded (header_view header.now) (region_view reference.now)) }
     ensures contexts { Leaves result contexts.new.items
         (refined_contexts (header_view header.now) (region_view reference.now) contexts.old.items) }
-    ensures steps { OnOk result
-        (CountsRefined (header_view header.now) (region_view reference.now) steps.old steps.new) }
-    ensures stopped { OnErr result (steps.new ≡ steps.old) }
+    ensures steps { let begun = region_paid header.now.region_info steps.old in
+        OnOk result
+        (CountsRefined (header_view header.now) (region_view reference.now) begun steps.new) }
+    ensures stopped { OnErr result (steps.new ≡ region_paid header.now.region_info steps.old) }
+    ensures paid { OnOk result (region_price header.now.region_info ≤ steps.old.left) }
 {
     let region_info = &header.region_info;
     steps.pay_bitmap(region_info.width, region_info.height)?;

@@ -1,5 +1,6 @@
 //! Generic regions of which pixels are skipped (T.88, 6.2.5.7), as the planes of a gray-scale image.
 ghost use Rattle.std.specs.Prelude.{◌≡◌, false, true};
+ghost use Rattle.jbig2_base.specs.Counts.{KeepsLanes};
 ghost use Rattle.jbig2_region.specs.inner.Holds.{DecodesRegion, IsReady};
 ghost use Rattle.jbig2_region.specs.{Steps.{CountsSkipping}, inner.RegionViews.{skip_of}, Generic.{skipping_coding}};
 ghost use Rattle.jbig2_region.specs.Templates.{context_bits, is_nominal, template_pixels};
@@ -40,6 +41,7 @@ pub fn decode_skipping<M: Allocator, A: Allocator, L: Ledger>(
     ensures steps { is_nominal template (four_pixels template adaptive.now) ≡ true
         → CountsSkipping (skip_of skip.entry) bitmap.old.width bitmap.old.height steps.old
         steps.new }
+    ensures lanes { KeepsLanes steps.old steps.new }
 {
     let layout = layout_of(template, adaptive);
     if layout.adaptive.is_none() {

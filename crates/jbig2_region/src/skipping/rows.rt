@@ -1,7 +1,6 @@
 //! Rows of which pixels are skipped, in a template without adaptive pixels: contexts come out of
 //! windows on the rows above, and a window on the mask says which of 32 pixels are skipped.
 ghost use Rattle.std.specs.Prelude.{◌≡◌, ℕ, ◌+◌, ◌-◌, ◌*◌, ◌/◌, ◌%◌, ◌^◌, ◌<◌, ◌≤◌, false, length, Some, None, if◌then◌else◌};
-ghost use Rattle.jbig2_base.specs.Counts.{KeepsLanes};
 ghost use Rattle.jbig2_region.specs.{Steps.{CountsSkipping, skipping_loads, skipping_words}, inner.RegionViews.{skip_of}, Generic.{skipping_coding}};
 ghost use Rattle.jbig2_region.specs.inner.Codes.{Takes};
 ghost use Rattle.jbig2_region.specs.inner.Holds.{DecodesRegion, IsReady};
@@ -104,7 +103,6 @@ fn decode_block<M: Allocator, A: Allocator, L: Ledger>(
     ensures contexts { length contexts.new ≡ length contexts.old }
     ensures loads { steps.new.loads ≤ steps.old.loads + 3 }
     ensures words { steps.new.words ≡ steps.old.words + 1 }
-    ensures lanes { KeepsLanes steps.old steps.new }
 {
     let windows = windows_at(bitmap, x, y, steps);
     let mask = mask_at(skip, x, y, steps);
@@ -142,7 +140,6 @@ fn decode_row<M: Allocator, A: Allocator, L: Ledger>(
     ensures contexts { length contexts.new ≡ length contexts.old }
     ensures loads { steps.new.loads ≤ steps.old.loads + skipping_loads bitmap.old.width }
     ensures words { steps.new.words ≤ steps.old.words + skipping_words bitmap.old.width }
-    ensures lanes { KeepsLanes steps.old steps.new }
 {
     let width = bitmap.width();
     let mut left = 0;

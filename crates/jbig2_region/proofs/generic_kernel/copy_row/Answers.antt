@@ -1,5 +1,5 @@
 use Rattle.std.proofs.Common.{arith, refl, min, true, subst, sym, ap, ◌≡◌, ◌+◌, ◌*◌, ℕ, ◌∙◌}
-use Rattle.jbig2_base.proofs.LaneCounts.{lanes-none}
+use Rattle.jbig2_base.proofs.LaneCounts.{lanes-none, lanes-others, lanes-then}
 use Rattle.jbig2_base.specs.Counts.{Counts}
 use Rattle.jbig2_base.specs.Grid.{Grid}
 use Rattle.jbig2_region.specs.inner.Neighbours.{DecodesPixels}
@@ -40,7 +40,7 @@ loop-index-preserved g c =
       words = ap (λ (s : Counts). s.words) steps ∙ omega (arith, c.loop-index.invariant.words);
       decisions = ap (λ (s : Counts). s.decisions) steps ∙ c.loop-index.invariant.decisions;
       run_tests = ap (λ (s : Counts). s.run_tests) steps ∙ c.loop-index.invariant.run_tests;
-      lanes = record { groups = ap (λ (s : Counts). s.groups) steps ∙ c.loop-index.invariant.lanes.groups; pixels = ap (λ (s : Counts). s.pixels) steps ∙ c.loop-index.invariant.lanes.pixels };
+      lanes = lanes-then c.args.steps.now c.loop-index.steps c.store_pixels.new.steps c.loop-index.invariant.lanes (lanes-others c.loop-index.steps c.store_pixels.new.steps _ _ _ _ steps);
     }
 
 pub returns-clause-holds : goal.returns-clause-holds

@@ -1,5 +1,6 @@
 use Rattle.std.proofs.Common.{◌+◌, rules, arith, length, get_or, ◌≡◌, ◌<◌, Bool, Some, None, ap, sym, refl, ◌∙◌}
 use Rattle.std.proofs.lemmas.List.{get_or_default}
+use Rattle.jbig2_base.proofs.LaneCounts.{lanes-others, lanes-then}
 use Rattle.jbig2_base.specs.Counts.{Counts}
 use Rattle.jbig2_base.specs.Grid.{Grid}
 use Rattle.jbig2_base.specs.Writes.{with_pixel}
@@ -18,6 +19,10 @@ returns-in-Some-clause-decoded g c =
       bytes = refl;
       decisions = pixel-counts (g.C.PixelCoding.coding c.args.coding.now) c.args.row.predicted c.args.x c.args.row.y c.args.bitmap.now c.args.decoder.now c.args.contexts.now (Some c.in-Some.colour) c.args.steps.now.decisions c.set_pixel.new.steps.decisions c.requires.column c.requires.row (sym c.known_colour.ensures.value ∙ c.in-Some.is) (omega arith);
       run_tests = ap (λ (t : Counts). t.run_tests) c.set_pixel.ensures.steps ∙ ap (λ (t : Counts). t.run_tests) c.known_colour.ensures.steps;
+      lanes =
+          lanes-then c.args.steps.now c.known_colour.new.steps c.set_pixel.new.steps
+          (lanes-others c.args.steps.now c.known_colour.new.steps _ _ _ _ c.known_colour.ensures.steps)
+          (lanes-others c.known_colour.new.steps c.set_pixel.new.steps _ _ _ _ c.set_pixel.ensures.steps);
     }
 
 pub returns-clause-decoded : goal.returns-clause-decoded
@@ -39,4 +44,12 @@ returns-clause-decoded g c =
       bytes = ap (λ (d : Coder). d.bytes) c.decode-symbol.ensures.coder;
       decisions = pixel-counts (g.C.PixelCoding.coding c.args.coding.now) c.args.row.predicted c.args.x c.args.row.y c.args.bitmap.now c.args.decoder.now c.args.contexts.now None c.args.steps.now.decisions c.set_pixel-2.new.steps.decisions c.requires.column c.requires.row (search rules) (omega arith);
       run_tests = ap (λ (t : Counts). t.run_tests) c.set_pixel-2.ensures.steps ∙ ap (λ (t : Counts). t.run_tests) c.decode-symbol.ensures.steps ∙ ap (λ (t : Counts). t.run_tests) c.context-context.ensures.steps ∙ ap (λ (t : Counts). t.run_tests) c.known_colour.ensures.steps;
+      lanes =
+          lanes-then c.args.steps.now c.known_colour.new.steps c.set_pixel-2.new.steps
+          (lanes-others c.args.steps.now c.known_colour.new.steps _ _ _ _ c.known_colour.ensures.steps)
+          (lanes-then c.known_colour.new.steps c.context-context.new.steps c.set_pixel-2.new.steps
+          (lanes-others c.known_colour.new.steps c.context-context.new.steps _ _ _ _ c.context-context.ensures.steps)
+          (lanes-then c.context-context.new.steps c.decode-symbol.new.steps c.set_pixel-2.new.steps
+          (lanes-others c.context-context.new.steps c.decode-symbol.new.steps _ _ _ _ c.decode-symbol.ensures.steps)
+          (lanes-others c.decode-symbol.new.steps c.set_pixel-2.new.steps _ _ _ _ c.set_pixel-2.ensures.steps)));
     }

@@ -1,4 +1,5 @@
 use Rattle.std.proofs.Common.{arith, ◌≡◌, ℕ, ◌+◌, ◌-◌, ◌*◌, ◌%◌, ◌^◌, ◌<◌, ◌≤◌, ◌∙◌, Bool, false, None, ap, sym, subst}
+use Rattle.jbig2_base.proofs.LaneCounts.{lanes-others, lanes-then}
 use Rattle.jbig2_base.specs.Counts.{Counts}
 use Rattle.jbig2_base.specs.Grid.{Grid, pixel_at}
 use Rattle.jbig2_base.specs.Bits.{bit}
@@ -95,6 +96,10 @@ returns-clause-decoded g c =
       bytes = c.loop-done-3.invariant.block.bytes;
       decisions = subst (λ (n : ℕ). CountsCodes (windowed_coding c.args.coding.now) c.args.row.predicted c.args.x c.args.row.y c.args.count c.args.bitmap.now c.args.decoder.now c.args.contexts.now c.args.steps.now.decisions n) after whole.decisions;
       run_tests = ap (λ (t : Counts). t.run_tests) c.store_pixels.ensures.steps ∙ ap (λ (t : Counts). t.run_tests) c.loop-done-3.invariant.block.steps;
+      lanes =
+          lanes-then c.args.steps.now c.loop-done-3.steps c.store_pixels.new.steps
+          (lanes-others c.args.steps.now c.loop-done-3.steps _ _ _ _ c.loop-done-3.invariant.block.steps)
+          (lanes-others c.loop-done-3.steps c.store_pixels.new.steps _ _ _ _ c.store_pixels.ensures.steps);
     }
 
 pub returns-clause-left : goal.returns-clause-left

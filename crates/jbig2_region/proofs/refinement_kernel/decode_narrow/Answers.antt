@@ -1,5 +1,6 @@
 use Rattle.std.proofs.Common.{◌*◌, arith, refl, ◌≡◌, ◌≤◌, ◌+◌, ◌∙◌, ℕ, Option, sym, ap, subst}
 use Rattle.std.proofs.Math.Nat.{mul-le-mul}
+use Rattle.jbig2_base.proofs.LaneCounts.{lanes-others, lanes-then}
 use Rattle.jbig2_base.specs.Counts.{Counts}
 use Rattle.jbig2_base.specs.Grid.{Grid, pixel_at}
 use Rattle.jbig2_region.specs.inner.Holds.{Holds, BeginsRow}
@@ -48,8 +49,8 @@ loop-y-preserved g c =
     record {
       rows =
           rows-until c.decode_block-pixels.new.steps c.lowered-windows.new.steps
-          (rows-next c.begin_row-predicted.result c.begin_row-predicted.new.decoder c.begin_row-predicted.new.contexts c.begin_row-predicted.new.steps c.decode_block-pixels.new.bitmap c.decode_block-pixels.new.decoder c.decode_block-pixels.new.contexts c.decode_block-pixels.new.steps c.loop-y.invariant.rows begin c.begin_row-predicted.ensures.bytes more (ap (λ (s : Counts). s.run_tests) begun) decoded)
-          decided tested;
+          (rows-next c.begin_row-predicted.result c.begin_row-predicted.new.decoder c.begin_row-predicted.new.contexts c.begin_row-predicted.new.steps c.decode_block-pixels.new.bitmap c.decode_block-pixels.new.decoder c.decode_block-pixels.new.contexts c.decode_block-pixels.new.steps c.loop-y.invariant.rows begin c.begin_row-predicted.ensures.bytes more (ap (λ (s : Counts). s.run_tests) begun) (lanes-others c.loop-y.steps c.begin_row-predicted.new.steps _ _ _ _ begun) decoded)
+          decided tested (lanes-others c.decode_block-pixels.new.steps c.lowered-windows.new.steps _ _ _ _ lowered);
       words = tests-next c.windows_at-windows.new.steps.words c.loop-y.steps.words c.lowered-windows.new.steps.words w c.loop-y.y c.loop-y.invariant.words written;
       loads = omega (arith, loads, same_loads, c.decode_block-pixels.ensures.loads, c.loop-y.invariant.loads);
       sees =
@@ -82,3 +83,4 @@ returns-clause-steps g c =
     refl (λ none. absurd (omega (arith, c.requires.some))) all (λ none. absurd (omega (arith, c.requires.rows)))
     (subst (λ (n : ℕ). Decided coding w h c.args.decoder.now.bytes c.loop-y.y start n c.loop-y.steps.decisions) decided c.loop-y.invariant.rows.decisions)
     (c.loop-y.invariant.rows.run_tests ∙ tested) (subst (λ (n : ℕ). c.loop-y.steps.words ≤ n + c.loop-y.y * w) same c.loop-y.invariant.words) (omega (arith, enough, more, c.loop-y.invariant.loads, c.requires.rows))
+    (lanes-then c.args.steps.now c.windows_at-windows.new.steps c.loop-y.steps (lanes-others c.args.steps.now c.windows_at-windows.new.steps _ _ _ _ loaded) c.loop-y.invariant.rows.lanes)

@@ -1,4 +1,5 @@
 use Rattle.std.proofs.Common.{arith, min, subst, ap, ◌≡◌, ◌+◌, ◌*◌, ◌%◌, ℕ}
+use Rattle.jbig2_base.proofs.LaneCounts.{lanes-others}
 use Rattle.jbig2_base.specs.Counts.{Counts}
 use Rattle.jbig2_region.specs.inner.Neighbours.{IsLeft}
 use Rattle.jbig2_region.specs.inner.RefinementWindows.{windowed_coding}
@@ -30,7 +31,7 @@ loop-index-preserved g c =
     let more : c.windows_at-windows.new.steps.loads ≡ c.loop-index.steps.loads + 4 = ap (λ (t : Counts). t.loads) loaded in
     let same : c.windows_at-windows.new.steps.words ≡ c.loop-index.steps.words = ap (λ (t : Counts). t.words) loaded in
     record {
-      decoded = pixels-then (min ((c.loop-index.index + 1) * 32) c.args.bitmap.now.width) c.loop-index.invariant.decoded (pixels-since c.loop-index.steps c.windows_at-windows.new.steps c.decode_block-pixels.new.steps c.decode_block-pixels.ensures.decoded decided tested) (omega arith) next;
+      decoded = pixels-then (min ((c.loop-index.index + 1) * 32) c.args.bitmap.now.width) c.loop-index.invariant.decoded (pixels-since c.loop-index.steps c.windows_at-windows.new.steps c.decode_block-pixels.new.steps c.decode_block-pixels.ensures.decoded decided tested (lanes-others c.loop-index.steps c.windows_at-windows.new.steps _ _ _ _ loaded)) (omega arith) next;
       few = omega arith;
       left = subst (λ (n : ℕ). IsLeft c.decode_block-pixels.new.bitmap n c.args.row.y (c.decode_block-pixels.result % 16)) place c.decode_block-pixels.ensures.left;
       loads = omega (arith, c.decode_block-pixels.ensures.loads, c.loop-index.invariant.loads);

@@ -1,5 +1,5 @@
 use Rattle.std.proofs.Common.{arith, refl, length, ◌≡◌, ◌<◌, ◌+◌, ◌*◌, ◌%◌, ◌∙◌, ℕ, ap, sym, subst}
-use Rattle.jbig2_base.proofs.LaneCounts.{lanes-none}
+use Rattle.jbig2_base.proofs.LaneCounts.{lanes-none, lanes-others, lanes-then}
 use Rattle.jbig2_base.specs.Counts.{Counts}
 use Rattle.jbig2_base.specs.Grid.{Grid}
 use Rattle.jbig2_base.specs.Writes.{with_pixels}
@@ -51,6 +51,6 @@ loop-offset-preserved g c =
       decisions = ap (λ (s : Counts). s.decisions) steps ∙ omega (arith, c.loop-offset.invariant.decisions);
       words = ap (λ (s : Counts). s.words) steps ∙ omega (arith, c.loop-offset.invariant.words);
       run_tests = ap (λ (s : Counts). s.run_tests) steps ∙ c.loop-offset.invariant.run_tests;
-      lanes = record { groups = ap (λ (s : Counts). s.groups) steps ∙ c.loop-offset.invariant.lanes.groups; pixels = ap (λ (s : Counts). s.pixels) steps ∙ c.loop-offset.invariant.lanes.pixels };
+      lanes = lanes-then c.windows_at-windows.new.steps c.loop-offset.steps c.store_pixels.new.steps c.loop-offset.invariant.lanes (lanes-others c.loop-offset.steps c.store_pixels.new.steps _ _ _ _ steps);
       loads = ap (λ (s : Counts). s.loads) steps ∙ omega (arith, c.loop-offset.invariant.loads);
     }

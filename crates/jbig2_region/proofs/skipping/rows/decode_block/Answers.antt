@@ -1,4 +1,5 @@
 use Rattle.std.proofs.Common.{arith, ◌≡◌, ℕ, ◌+◌, ◌-◌, ◌*◌, false, ap, sym, subst, refl, ◌∙◌}
+use Rattle.jbig2_base.proofs.LaneCounts.{lanes-others, lanes-then}
 use Rattle.jbig2_base.specs.Counts.{Counts}
 use Rattle.jbig2_base.specs.Grid.{Grid}
 use Rattle.jbig2_base.specs.Bits.{bit}
@@ -38,15 +39,17 @@ returns-clause-decoded g c =
       bytes = c.loop-offset.invariant.bytes;
       decisions = subst (λ (n : ℕ). CountsCodes (skipping_coding (nominal_pixels c.args.neighbours) (skip_of c.args.skip)) false c.args.x c.args.y c.args.count c.args.bitmap.now c.args.decoder.now c.args.contexts.now c.args.steps.now.decisions n) after (subst (λ (n : ℕ). CountsCodes (skipping_coding (nominal_pixels c.args.neighbours) (skip_of c.args.skip)) false c.args.x c.args.y c.args.count c.args.bitmap.now c.args.decoder.now c.args.contexts.now n c.loop-offset.steps.decisions) before whole.decisions);
       run_tests = ap (λ (t : Counts). t.run_tests) c.store_pixels.ensures.steps ∙ ap (λ (t : Counts). t.run_tests) c.loop-offset.invariant.steps ∙ ap (λ (t : Counts). t.run_tests) c.mask_at-mask.ensures.steps ∙ ap (λ (t : Counts). t.run_tests) c.windows_at-windows.ensures.steps;
+      lanes =
+          lanes-then c.args.steps.now c.windows_at-windows.new.steps c.store_pixels.new.steps
+          (lanes-others c.args.steps.now c.windows_at-windows.new.steps _ _ _ _ c.windows_at-windows.ensures.steps)
+          (lanes-then c.windows_at-windows.new.steps c.mask_at-mask.new.steps c.store_pixels.new.steps
+          (lanes-others c.windows_at-windows.new.steps c.mask_at-mask.new.steps _ _ _ _ c.mask_at-mask.ensures.steps)
+          (lanes-then c.mask_at-mask.new.steps c.loop-offset.steps c.store_pixels.new.steps
+          (lanes-others c.mask_at-mask.new.steps c.loop-offset.steps _ _ _ _ c.loop-offset.invariant.steps)
+          (lanes-others c.loop-offset.steps c.store_pixels.new.steps _ _ _ _ c.store_pixels.ensures.steps)));
     }
 
 pub returns-clause-left : goal.returns-clause-left
 returns-clause-left g c =
     (block-whole (skipping_coding (nominal_pixels c.args.neighbours) (skip_of c.args.skip)) false c.args.x c.args.y c.loop-offset.offset c.args.count c.args.bitmap.now c.store_pixels.new.self c.args.decoder.now c.loop-offset.decoder c.args.contexts.now c.loop-offset.contexts c.mask_at-mask.new.steps c.loop-offset.steps c.loop-offset.pixels
     c.loop-offset.invariant (omega arith) c.store_pixels.ensures.value).left
-
-pub returns-clause-lanes : goal.returns-clause-lanes
-returns-clause-lanes g c = record {
-  groups = ap (λ (t : Counts). t.groups) c.store_pixels.ensures.steps ∙ ap (λ (t : Counts). t.groups) c.loop-offset.invariant.steps ∙ ap (λ (t : Counts). t.groups) c.mask_at-mask.ensures.steps ∙ ap (λ (t : Counts). t.groups) c.windows_at-windows.ensures.steps;
-  pixels = ap (λ (t : Counts). t.pixels) c.store_pixels.ensures.steps ∙ ap (λ (t : Counts). t.pixels) c.loop-offset.invariant.steps ∙ ap (λ (t : Counts). t.pixels) c.mask_at-mask.ensures.steps ∙ ap (λ (t : Counts). t.pixels) c.windows_at-windows.ensures.steps;
-}

@@ -1,5 +1,4 @@
 use Rattle.std.proofs.Common.{arith, false, min, subst, ◌≡◌, ◌+◌, ◌*◌, ℕ}
-use Rattle.jbig2_base.proofs.LaneCounts.{lanes-none, lanes-then}
 use Rattle.jbig2_region.specs.Raster.{Coding}
 use Rattle.jbig2_region.specs.{inner.RegionViews.{skip_of}, Generic.{skipping_coding}}
 use Rattle.jbig2_region.specs.inner.Neighbours.{IsLeft, nominal_pixels}
@@ -17,7 +16,6 @@ loop-index-init g c =
       left = subst (λ (n : ℕ). IsLeft c.args.bitmap.now n c.args.y 0) none (left-none c.args.bitmap.now c.args.y);
       loads = omega arith;
       words = omega arith;
-      lanes = lanes-none c.args.steps.now;
     }
 
 pub loop-index-preserved : goal.loop-index-preserved
@@ -32,5 +30,4 @@ loop-index-preserved g c =
       left = subst (λ (n : ℕ). IsLeft c.decode_block-left.new.bitmap n c.args.y c.decode_block-left.result) place c.decode_block-left.ensures.left;
       loads = omega (arith, c.decode_block-left.ensures.loads, c.loop-index.invariant.loads);
       words = omega (arith, c.decode_block-left.ensures.words, c.loop-index.invariant.words);
-      lanes = lanes-then c.args.steps.now c.loop-index.steps c.decode_block-left.new.steps c.loop-index.invariant.lanes c.decode_block-left.ensures.lanes;
     }

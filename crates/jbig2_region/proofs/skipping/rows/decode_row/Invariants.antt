@@ -1,5 +1,4 @@
 use Rattle.std.proofs.Common.{◌≡◌, ◌≤◌, ◌+◌, ◌*◌, ◌<◌, min, false}
-use Rattle.jbig2_base.specs.Counts.{KeepsLanes}
 use Rattle.jbig2_region.specs.{inner.RegionViews.{skip_of}, Generic.{skipping_coding}}
 use Rattle.jbig2_region.specs.inner.Neighbours.{IsLeft, nominal_pixels}
 use Rattle.jbig2_region.specs.inner.Stretches.{DecodesPixels}
@@ -12,5 +11,4 @@ invariant-loop-index g l = record {
   left : IsLeft l.bitmap (min (l.index * 32) l.initial.bitmap.width) l.fn.y l.left;
   loads : l.steps.loads ≤ l.initial.steps.loads + l.index * 3;
   words : l.steps.words ≡ l.initial.steps.words + l.index;
-  lanes : KeepsLanes l.initial.steps l.steps;
 }

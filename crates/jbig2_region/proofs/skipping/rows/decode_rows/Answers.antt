@@ -1,5 +1,5 @@
 use Rattle.std.proofs.Common.{◌≡◌, ◌≤◌, ℕ, ◌+◌, false, None, refl, sym, subst, arith, ◌∙◌}
-use Rattle.jbig2_base.proofs.LaneCounts.{lanes-none, lanes-then}
+use Rattle.jbig2_base.proofs.LaneCounts.{lanes-none}
 use Rattle.jbig2_base.specs.Grid.{Grid}
 use Rattle.jbig2_region.specs.Raster.{Coding, Region, no_pixels}
 use Rattle.jbig2_region.specs.{inner.RegionViews.{skip_of}, Steps.{skipping_loads, skipping_words}, Generic.{skipping_coding}}
@@ -25,7 +25,6 @@ loop-y-init g c = record {
   rows = rows-none (skipping_coding (nominal_pixels c.args.neighbours) (skip_of c.args.skip)) c.args.bitmap.now c.args.decoder.now c.args.contexts.now c.args.steps.now c.requires.ready.white;
   words = omega arith;
   loads = omega arith;
-  lanes = lanes-none c.args.steps.now;
 }
 
 pub loop-y-preserved : goal.loop-y-preserved
@@ -38,10 +37,9 @@ loop-y-preserved g c =
     let written : c.decode_row.new.steps.words ≤ c.loop-y.steps.words + skipping_words w = subst (λ (n : ℕ). c.decode_row.new.steps.words ≤ c.loop-y.steps.words + skipping_words n) c.loop-y.invariant.rows.width c.decode_row.ensures.words in
     let loaded : c.decode_row.new.steps.loads ≤ c.loop-y.steps.loads + skipping_loads w = subst (λ (n : ℕ). c.decode_row.new.steps.loads ≤ c.loop-y.steps.loads + skipping_loads n) c.loop-y.invariant.rows.width c.decode_row.ensures.loads in
     record {
-      rows = rows-next false c.loop-y.decoder c.loop-y.contexts c.loop-y.steps c.decode_row.new.bitmap c.decode_row.new.decoder c.decode_row.new.contexts c.decode_row.new.steps c.loop-y.invariant.rows begin refl more refl c.decode_row.ensures.decoded;
+      rows = rows-next false c.loop-y.decoder c.loop-y.contexts c.loop-y.steps c.decode_row.new.bitmap c.decode_row.new.decoder c.decode_row.new.contexts c.decode_row.new.steps c.loop-y.invariant.rows begin refl more refl (lanes-none c.loop-y.steps) c.decode_row.ensures.decoded;
       words = tests-next c.args.steps.now.words c.loop-y.steps.words c.decode_row.new.steps.words (skipping_words w) c.loop-y.y c.loop-y.invariant.words written;
       loads = tests-next c.args.steps.now.loads c.loop-y.steps.loads c.decode_row.new.steps.loads (skipping_loads w) c.loop-y.y c.loop-y.invariant.loads loaded;
-      lanes = lanes-then c.args.steps.now c.loop-y.steps c.decode_row.new.steps c.loop-y.invariant.lanes c.decode_row.ensures.lanes;
     }
 
 pub returns-clause-holds : goal.returns-clause-holds
@@ -52,4 +50,4 @@ returns-clause-holds g c =
 pub returns-clause-steps : goal.returns-clause-steps
 returns-clause-steps g c =
     skipping-region (nominal_pixels c.args.neighbours) (skip_of c.args.skip) c.args.bitmap.now.width c.args.bitmap.now.height c.loop-y.y c.args.decoder.now.bytes (no_pixels c.args.decoder.now.registers c.args.contexts.now) c.args.steps.now c.loop-y.steps
-    (omega arith) refl refl c.loop-y.invariant.rows.decisions c.loop-y.invariant.rows.run_tests c.loop-y.invariant.words c.loop-y.invariant.loads c.loop-y.invariant.lanes
+    (omega arith) refl refl c.loop-y.invariant.rows.decisions c.loop-y.invariant.rows.run_tests c.loop-y.invariant.words c.loop-y.invariant.loads c.loop-y.invariant.rows.lanes
