@@ -89,7 +89,7 @@ fn pages_are_drawn_within_what_they_take_and_no_less(rt: HostRuntime) {
 fn salvaged_globals_hold(alloc: Global) -> Result<bool> {
     let bytes = bytes_of(alloc, DAMAGED_GLOBALS)?;
     let mut are_decoded = false;
-    for work in 0..6_000 {
+    for work in 0..16_000 {
         match Globals::salvaged(alloc, &bytes, Some(work)) {
             Ok(globals) if globals.passed_over().count == 1 => are_decoded = true,
             Err(DecodeError::OutOfMemory) if !are_decoded => {}
@@ -103,7 +103,7 @@ fn salvaged_globals_hold(alloc: Global) -> Result<bool> {
 fn globals_hold(alloc: Global) -> Result<bool> {
     let bytes = bytes_of(alloc, GLOBALS)?;
     let mut are_decoded = false;
-    for work in 0..3_000 {
+    for work in 0..8_000 {
         match Globals::new_within(alloc, &bytes, &LENIENT, Some(work)) {
             Ok(_) => are_decoded = true,
             Err(DecodeError::OutOfMemory) if !are_decoded => {}
