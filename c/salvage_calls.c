@@ -32,10 +32,10 @@ static struct bytes of(const char *digits) {
     return bytes;
 }
 
-static bool is_told(const hayro_jbig2_left_out *told, const hayro_jbig2_left_out *meant) {
-    return told->segments == meant->segments && told->segment == meant->segment && told->error == meant->error &&
-           told->pages == meant->pages && told->page_error == meant->page_error &&
-           told->list_error == meant->list_error;
+static bool is_same(const hayro_jbig2_left_out *found, const hayro_jbig2_left_out *meant) {
+    return found->segments == meant->segments && found->segment == meant->segment && found->error == meant->error &&
+           found->pages == meant->pages && found->page_error == meant->page_error &&
+           found->list_error == meant->list_error;
 }
 
 static const hayro_jbig2_left_out nothing;
@@ -65,7 +65,7 @@ static void draws(hayro_jbig2_globals *globals, const char *digits, struct drawn
     CHECK(hayro_jbig2_context_new(NULL, &context) == HAYRO_JBIG2_OK);
     CHECK(hayro_jbig2_page_get_info(page, &info) == HAYRO_JBIG2_OK);
     CHECK(info.number == 1 && info.width == 8 && info.height == meant.height);
-    CHECK(hayro_jbig2_page_get_left_out(page, &left_out) == HAYRO_JBIG2_OK && is_told(&left_out, &meant.left_out));
+    CHECK(hayro_jbig2_page_get_left_out(page, &left_out) == HAYRO_JBIG2_OK && is_same(&left_out, &meant.left_out));
     CHECK(hayro_jbig2_page_draw(page, context) == HAYRO_JBIG2_OK);
     CHECK(hayro_jbig2_context_rows(context, 0, rows, meant.height) == HAYRO_JBIG2_OK);
     CHECK(memcmp(rows, meant.rows, 2) == 0);
@@ -119,10 +119,10 @@ static void keeps_of_globals_what_it_can(const char *digits, uint32_t refused, h
     CHECK(hayro_jbig2_globals_new(NULL, false, bytes.at, bytes.length, &globals) == refused && globals == NULL);
     CHECK(hayro_jbig2_globals_new_salvaged(NULL, HAYRO_JBIG2_NO_WORK_LIMIT, bytes.at, bytes.length, &globals) ==
           HAYRO_JBIG2_OK);
-    CHECK(hayro_jbig2_globals_get_left_out(globals, &left_out) == HAYRO_JBIG2_OK && is_told(&left_out, &meant));
+    CHECK(hayro_jbig2_globals_get_left_out(globals, &left_out) == HAYRO_JBIG2_OK && is_same(&left_out, &meant));
     CHECK(hayro_jbig2_globals_share(NULL, globals, &other) == HAYRO_JBIG2_OK);
     hayro_jbig2_globals_free(globals);
-    CHECK(hayro_jbig2_globals_get_left_out(other, &left_out) == HAYRO_JBIG2_OK && is_told(&left_out, &meant));
+    CHECK(hayro_jbig2_globals_get_left_out(other, &left_out) == HAYRO_JBIG2_OK && is_same(&left_out, &meant));
     draws(other, stream, (struct drawn){DOT});
     hayro_jbig2_globals_free(other);
 }
@@ -149,7 +149,7 @@ static void reads_file(const char *digits, size_t pages, hayro_jbig2_left_out me
     CHECK(hayro_jbig2_file_new_salvaged(NULL, HAYRO_JBIG2_NO_WORK_LIMIT, bytes.at, bytes.length, &file) ==
           HAYRO_JBIG2_OK);
     CHECK(hayro_jbig2_file_page_count(file) == pages);
-    CHECK(hayro_jbig2_file_get_left_out(file, &left_out) == HAYRO_JBIG2_OK && is_told(&left_out, &meant));
+    CHECK(hayro_jbig2_file_get_left_out(file, &left_out) == HAYRO_JBIG2_OK && is_same(&left_out, &meant));
     CHECK(hayro_jbig2_context_new(NULL, &context) == HAYRO_JBIG2_OK);
     for (size_t index = 0; index < pages; index++) {
         CHECK(hayro_jbig2_file_draw(file, index, context) == HAYRO_JBIG2_OK);
@@ -189,7 +189,7 @@ static void reads_a_whole_page(void) {
     page_with_globals(&page, &bytes, &stream);
     CHECK(hayro_jbig2_globals_new_salvaged(NULL, HAYRO_JBIG2_NO_WORK_LIMIT, bytes.at, bytes.length, &globals) ==
           HAYRO_JBIG2_OK);
-    CHECK(hayro_jbig2_globals_get_left_out(globals, &left_out) == HAYRO_JBIG2_OK && is_told(&left_out, &nothing));
+    CHECK(hayro_jbig2_globals_get_left_out(globals, &left_out) == HAYRO_JBIG2_OK && is_same(&left_out, &nothing));
     CHECK(hayro_jbig2_page_new_salvaged(NULL, globals, stream.at, stream.length, &read) == HAYRO_JBIG2_OK);
     CHECK(hayro_jbig2_context_new(NULL, &context) == HAYRO_JBIG2_OK);
     CHECK(hayro_jbig2_page_draw(read, context) == HAYRO_JBIG2_OK);
@@ -207,7 +207,7 @@ static void reads_whole_files(void) {
     hayro_jbig2_passed_over passed = {9, 9, 9};
     CHECK(hayro_jbig2_file_new_salvaged(NULL, HAYRO_JBIG2_NO_WORK_LIMIT, book.at, book.length, &file) ==
           HAYRO_JBIG2_OK);
-    CHECK(hayro_jbig2_file_get_left_out(file, &left_out) == HAYRO_JBIG2_OK && is_told(&left_out, &nothing));
+    CHECK(hayro_jbig2_file_get_left_out(file, &left_out) == HAYRO_JBIG2_OK && is_same(&left_out, &nothing));
     CHECK(hayro_jbig2_context_new(NULL, &context) == HAYRO_JBIG2_OK);
     CHECK(hayro_jbig2_file_page_count(file) == 3);
     for (size_t index = 0; index < 3; index++) {
@@ -227,7 +227,7 @@ static void reads_whole_files(void) {
     CHECK(file == NULL);
 }
 
-/* Other readings leave out nothing that is told here, and no call tells it of another handle. */
+/* Other readings report nothing here, and no call reports it of another handle. */
 static void tells_of_its_own_handles(void) {
     hayro_jbig2_globals *globals = NULL;
     hayro_jbig2_page *read = NULL, *none = NULL;
@@ -241,12 +241,12 @@ static void tells_of_its_own_handles(void) {
     CHECK(hayro_jbig2_page_get_left_out(a_file, &left_out) == HAYRO_JBIG2_OTHER_HANDLE);
     CHECK(hayro_jbig2_file_get_left_out(a_globals, &left_out) == HAYRO_JBIG2_OTHER_HANDLE);
     CHECK(hayro_jbig2_page_new_salvaged(NULL, a_file, page.at, page.length, &none) == HAYRO_JBIG2_OTHER_HANDLE);
-    CHECK(none == NULL && is_told(&left_out, &before));
-    CHECK(hayro_jbig2_globals_get_left_out(globals, &left_out) == HAYRO_JBIG2_OK && is_told(&left_out, &nothing));
+    CHECK(none == NULL && is_same(&left_out, &before));
+    CHECK(hayro_jbig2_globals_get_left_out(globals, &left_out) == HAYRO_JBIG2_OK && is_same(&left_out, &nothing));
     left_out = before;
-    CHECK(hayro_jbig2_page_get_left_out(read, &left_out) == HAYRO_JBIG2_OK && is_told(&left_out, &nothing));
+    CHECK(hayro_jbig2_page_get_left_out(read, &left_out) == HAYRO_JBIG2_OK && is_same(&left_out, &nothing));
     left_out = before;
-    CHECK(hayro_jbig2_file_get_left_out(file, &left_out) == HAYRO_JBIG2_OK && is_told(&left_out, &nothing));
+    CHECK(hayro_jbig2_file_get_left_out(file, &left_out) == HAYRO_JBIG2_OK && is_same(&left_out, &nothing));
     hayro_jbig2_globals_free(globals);
     hayro_jbig2_page_free(read);
     hayro_jbig2_file_free(file);
