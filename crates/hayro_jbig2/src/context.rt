@@ -14,7 +14,7 @@ use crate::names::KeptNames;
 use crate::passed_over::PassedOver;
 use crate::workspace::Workspace;
 use jbig2_base::bitmap::Bitmap;
-use jbig2_base::bitmap::steps::Steps;
+use jbig2_base::bitmap::steps::Work;
 use jbig2_base::error::{DecodeError, Result};
 use jbig2_base::page_info::InitialPage;
 use jbig2_permit::Permit;
@@ -121,20 +121,20 @@ impl<A: Allocator> DecoderContext<A> {
     }
 
     /// The counter of a page, which may take the work of the limit.
-    pub(crate) fn new_steps<L: Ledger>(&self, blank: Blank) -> Steps<L>
+    pub(crate) fn new_work<L: Ledger>(&self, blank: Blank) -> Work<L>
         requires name { blank.name ≡ L.name }
         requires parts { blank.parts ≡ L.parts }
         requires enough { blank.parts ≡ 6 }
-        ensures { result ≡ no_steps }
+        ensures { result.steps ≡ no_steps }
     {
-        Steps::within(Permit::grant(), blank, self.work_limit.unwrap_or(u64::MAX))
+        Work::within(Permit::grant(), blank, self.work_limit.unwrap_or(u64::MAX))
     }
 
     /// Notes what a page left of its limit.
-    pub(crate) fn end<L: Ledger>(&mut self, steps: &Steps<L>)
+    pub(crate) fn end<L: Ledger>(&mut self, work: &Work<L>)
         ensures { self.new ≡ self.old }
     {
-        self.work_left = self.work_limit.map(|_| steps.work_left());
+        self.work_left = self.work_limit.map(|_| work.left);
     }
 
     /// Begins a page: nothing of an earlier one is left.
@@ -157,7 +157,7 @@ impl<A: Allocator> DecoderContext<A> {
     }
 
     /// Combines an immediate region with the page, at its place as signed numbers (T.88, 7.4.1).
-    pub(crate) fn combine<L: Ledger>(&mut self, region: &DecodedRegion<A>, steps: &mut Steps<L>)
+    pub(crate) fn combine<L: Ledger>(&mut self, region: &DecodedRegion<A>, work: &mut Work<L>)
         ensures { Ok self.new ≡ shown self.old (Ok (region_view region.now)) }
     {
         self.bitmap.combine(
@@ -165,7 +165,7 @@ impl<A: Allocator> DecoderContext<A> {
             region.x_location.cast_signed(),
             region.y_location.cast_signed(),
             region.combination_operator,
-            steps,
+            &mut work.steps,
         );
         self.untouched = false;
     }

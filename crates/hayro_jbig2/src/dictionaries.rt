@@ -11,7 +11,7 @@ ghost use Rattle.jbig2_base.specs.Causes.{HasCause};
 use crate::names::{KeptNames, Lookup};
 use crate::referred::gather_referred;
 use crate::workspace::{MOST_CONTEXTS, Workspace};
-use jbig2_base::bitmap::steps::Steps;
+use jbig2_base::bitmap::steps::Work;
 use jbig2_base::error::{DecodeError, Result};
 use jbig2_base::field::u32_field;
 use jbig2_base::reader::Reader;
@@ -31,7 +31,7 @@ fn decode_symbols<A: Allocator + Clone, L: Ledger>(
     lookup: &Lookup<'_, A>,
     segment: &Segment<'_, A>,
     workspace: &Workspace<A>,
-    steps: &mut Steps<L>,
+    work: &mut Work<L>,
 ) -> Result<SymbolDictionary<A>>
     ensures { Gives (λ d. symbols_view d) result
         (symbol_dictionary_at lookup.now.strict lookup.now.own.now lookup.now.globals.now
@@ -41,8 +41,8 @@ fn decode_symbols<A: Allocator + Clone, L: Ledger>(
     let referred = gather_referred(workspace.alloc.clone()?, lookup, numbers)?;
     let mut reader = Reader::new(segment.bytes);
     let header = symbol::parse(&mut reader, lookup.strict)?;
-    referred.pay_symbols(steps)?;
-    steps.pay(u64::from(header.num_new_symbols) * NEW_SYMBOL)?;
+    referred.pay_symbols(work)?;
+    work.pay(u64::from(header.num_new_symbols) * NEW_SYMBOL)?;
     symbol::decode(
         workspace.alloc.clone()?,
         &header,
@@ -50,12 +50,12 @@ fn decode_symbols<A: Allocator + Clone, L: Ledger>(
         &referred.tables,
         &workspace.standard_tables,
         referred.retained_contexts,
-        steps,
+        work,
     )
 }
 
 /// Takes the work of patterns: of their collective bitmap, and of each that is cut out of it.
-fn pay_patterns<L: Ledger>(header: &PatternDictionaryHeader<'_>, steps: &mut Steps<L>) -> Result<()>
+fn pay_patterns<L: Ledger>(header: &PatternDictionaryHeader<'_>, work: &mut Work<L>) -> Result<()>
     ensures { IfErr result (λ e. e ≡ DecodeError.OutOfMemory) }
 {
     let count = u64::from(header.num_patterns) + 1;
@@ -63,7 +63,7 @@ fn pay_patterns<L: Ledger>(header: &PatternDictionaryHeader<'_>, steps: &mut Ste
         u32::from(header.pattern_width),
         u32::from(header.pattern_height),
     );
-    steps.pay_bitmaps(count.saturating_mul(2), width, height)?;
+    work.pay_bitmaps(count.saturating_mul(2), width, height)?;
     Ok(())
 }
 
@@ -73,15 +73,15 @@ fn decode_patterns<A: Allocator + Clone, L: Ledger>(
     strict: bool,
     bytes: &[u8],
     workspace: &mut Workspace<A>,
-    steps: &mut Steps<L>,
+    work: &mut Work<L>,
 ) -> Result<PatternDictionary<A>>
     ensures { Gives (λ d. patterns_view d) result (pattern_dictionary_at strict bytes.now) }
 {
     let mut reader = Reader::new(bytes);
     let header = pattern::parse(&mut reader, strict)?;
-    pay_patterns(&header, steps)?;
+    pay_patterns(&header, work)?;
     let alloc = workspace.alloc.clone()?;
-    let dictionary = pattern::decode(alloc, &header, &mut workspace.contexts, steps);
+    let dictionary = pattern::decode(alloc, &header, &mut workspace.contexts, &mut work.steps);
     workspace.contexts.truncate(MOST_CONTEXTS);
     dictionary
 }
@@ -94,7 +94,7 @@ pub(crate) fn keep_symbols<A: Allocator + Clone, L: Ledger>(
     globals: &KeptNames<A>,
     segment: &Segment<'_, A>,
     workspace: &Workspace<A>,
-    steps: &mut Steps<L>,
+    work: &mut Work<L>,
 ) -> Result<()>
     ensures value { Gives (λ _. names.new) result
         (with_symbols strict globals.now (segment_view segment.now) names.old) }
@@ -105,7 +105,7 @@ pub(crate) fn keep_symbols<A: Allocator + Clone, L: Ledger>(
         own: names,
         globals,
     };
-    let dictionary = decode_symbols(&lookup, segment, workspace, steps)?;
+    let dictionary = decode_symbols(&lookup, segment, workspace, work)?;
     names.store_symbols(segment.header.segment_number, dictionary)
 }
 
@@ -116,13 +116,13 @@ pub(crate) fn keep_patterns<A: Allocator + Clone, L: Ledger>(
     strict: bool,
     segment: &Segment<'_, A>,
     workspace: &mut Workspace<A>,
-    steps: &mut Steps<L>,
+    work: &mut Work<L>,
 ) -> Result<()>
     ensures value { Gives (λ _. names.new) result
         (with_patterns strict (segment_view segment.now) names.old) }
     ensures unchanged { IfErr result (λ e. (e ≡ DecodeError.OutOfMemory) ⊎ (names.new ≡ names.old)) }
 {
-    let dictionary = decode_patterns(strict, segment.bytes, workspace, steps)?;
+    let dictionary = decode_patterns(strict, segment.bytes, workspace, work)?;
     names.store_patterns(segment.header.segment_number, dictionary)
 }
 

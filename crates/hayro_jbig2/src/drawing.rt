@@ -18,7 +18,7 @@ use crate::names::{KeptNames, Lookup};
 use crate::references::References;
 use crate::region::RegionKind;
 use jbig2_base::bitmap::Bitmap;
-use jbig2_base::bitmap::steps::Steps;
+use jbig2_base::bitmap::steps::Work;
 use jbig2_base::error::{DecodeError, Result};
 use jbig2_base::reading::Reading;
 use jbig2_base::segment::{Segment, SegmentType};
@@ -65,14 +65,14 @@ fn work_of_type<A: Allocator>(segment: &Segment<'_, A>) -> u64 {
 pub(crate) fn pay_segment<A: Allocator, L: Ledger>(
     segment: &Segment<'_, A>,
     kept: usize,
-    steps: &mut Steps<L>,
+    work: &mut Work<L>,
 ) -> Result<()>
     ensures { IfErr result (λ e. e ≡ OutOfMemory) }
 {
     let numbers = segment.header.referred_to_segments.len() as u64;
     let each = (kept as u64).saturating_add(REFERENCE);
-    let work = numbers.saturating_mul(each).saturating_add(SEGMENT);
-    steps.pay(work.saturating_add(work_of_type(segment)))?;
+    let units = numbers.saturating_mul(each).saturating_add(SEGMENT);
+    work.pay(units.saturating_add(work_of_type(segment)))?;
     Ok(())
 }
 
@@ -82,7 +82,7 @@ impl<'a, A: Allocator + Clone> Drawer<'a, A> {
         &self,
         segments: &[Segment<'_, A>],
         context: &mut DecoderContext<A>,
-        steps: &mut Steps<L>,
+        work: &mut Work<L>,
     ) -> Result<()>
         requires { context.old.passed_over.count ≡ 0 }
         ensures { Gives (λ _. context.new) result
@@ -94,8 +94,8 @@ impl<'a, A: Allocator + Clone> Drawer<'a, A> {
                 return Ok(());
             }
             let kept = context.names.count().saturating_add(self.globals.count());
-            pay_segment(segment, kept, steps)?;
-            match self.draw_segment(segment, context, steps) {
+            pay_segment(segment, kept, work)?;
+            match self.draw_segment(segment, context, work) {
                 Ok(()) => {}
                 Err(error) => return Err(error),
             }
@@ -108,14 +108,14 @@ impl<'a, A: Allocator + Clone> Drawer<'a, A> {
         &self,
         segment: &Segment<'_, A>,
         context: &mut DecoderContext<A>,
-        steps: &mut Steps<L>,
+        work: &mut Work<L>,
     ) -> Result<()>
         requires { context.old.passed_over.count < usize.MAX }
         ensures { Gives (λ _. context.new) result
             (segment_on self.now.reading self.now.globals.now (segment_view segment.now)
             context.old) }
     {
-        match self.try_segment(segment, context, steps) {
+        match self.try_segment(segment, context, work) {
             Ok(()) => Ok(()),
             Err(error) => self.leave_out(segment.header.segment_number, error, context),
         }
@@ -145,7 +145,7 @@ impl<'a, A: Allocator + Clone> Drawer<'a, A> {
         &self,
         segment: &Segment<'_, A>,
         context: &mut DecoderContext<A>,
-        steps: &mut Steps<L>,
+        work: &mut Work<L>,
     ) -> Result<()>
         requires { context.old.passed_over.count < usize.MAX }
         ensures value { Gives (λ _. context.new) result
@@ -155,33 +155,33 @@ impl<'a, A: Allocator + Clone> Drawer<'a, A> {
             (touched context.new ≡ touched context.old)) }
     {
         match segment.header.segment_type {
-            SegmentType::SymbolDictionary => self.keep_symbols(segment, context, steps),
-            SegmentType::PatternDictionary => self.keep_patterns(segment, context, steps),
+            SegmentType::SymbolDictionary => self.keep_symbols(segment, context, work),
+            SegmentType::PatternDictionary => self.keep_patterns(segment, context, work),
             SegmentType::Tables => keep_table(&mut context.names, segment, &context.workspace),
             SegmentType::IntermediateTextRegion => {
-                self.keep_region(RegionKind::Text, segment, context, steps)
+                self.keep_region(RegionKind::Text, segment, context, work)
             }
             SegmentType::ImmediateTextRegion | SegmentType::ImmediateLosslessTextRegion => {
-                self.draw_region(RegionKind::Text, segment, context, steps)
+                self.draw_region(RegionKind::Text, segment, context, work)
             }
             SegmentType::IntermediateHalftoneRegion => {
-                self.keep_region(RegionKind::Halftone, segment, context, steps)
+                self.keep_region(RegionKind::Halftone, segment, context, work)
             }
             SegmentType::ImmediateHalftoneRegion | SegmentType::ImmediateLosslessHalftoneRegion => {
-                self.draw_region(RegionKind::Halftone, segment, context, steps)
+                self.draw_region(RegionKind::Halftone, segment, context, work)
             }
             SegmentType::IntermediateGenericRegion => {
-                self.keep_region(RegionKind::Generic, segment, context, steps)
+                self.keep_region(RegionKind::Generic, segment, context, work)
             }
             SegmentType::ImmediateGenericRegion | SegmentType::ImmediateLosslessGenericRegion => {
-                self.draw_region(RegionKind::Generic, segment, context, steps)
+                self.draw_region(RegionKind::Generic, segment, context, work)
             }
             SegmentType::IntermediateGenericRefinementRegion => {
-                self.keep_region(RegionKind::GenericRefinement, segment, context, steps)
+                self.keep_region(RegionKind::GenericRefinement, segment, context, work)
             }
             SegmentType::ImmediateGenericRefinementRegion
             | SegmentType::ImmediateLosslessGenericRefinementRegion => {
-                self.draw_region(RegionKind::GenericRefinement, segment, context, steps)
+                self.draw_region(RegionKind::GenericRefinement, segment, context, work)
             }
             SegmentType::Extension => extension(self.reading.is_strict(), segment.bytes),
             SegmentType::PageInformation
@@ -199,7 +199,7 @@ impl<'a, A: Allocator + Clone> Drawer<'a, A> {
         &self,
         segment: &Segment<'_, A>,
         context: &mut DecoderContext<A>,
-        steps: &mut Steps<L>,
+        work: &mut Work<L>,
     ) -> Result<()>
         ensures value { Gives (λ _. context.new) result
             (keeping context.old (with_symbols (is_strict self.now.reading) self.now.globals.now
@@ -213,7 +213,7 @@ impl<'a, A: Allocator + Clone> Drawer<'a, A> {
             self.globals,
             segment,
             workspace,
-            steps,
+            work,
         )
     }
 
@@ -222,7 +222,7 @@ impl<'a, A: Allocator + Clone> Drawer<'a, A> {
         &self,
         segment: &Segment<'_, A>,
         context: &mut DecoderContext<A>,
-        steps: &mut Steps<L>,
+        work: &mut Work<L>,
     ) -> Result<()>
         ensures value { Gives (λ _. context.new) result
             (keeping context.old (with_patterns (is_strict self.now.reading)
@@ -230,7 +230,7 @@ impl<'a, A: Allocator + Clone> Drawer<'a, A> {
         ensures err { IfErr result (λ e. (e ≡ OutOfMemory) ⊎ (context.new ≡ context.old)) }
     {
         let (strict, workspace) = (self.reading.is_strict(), &mut context.workspace);
-        keep_patterns(&mut context.names, strict, segment, workspace, steps)
+        keep_patterns(&mut context.names, strict, segment, workspace, work)
     }
 
     /// What a region may refer to, among the parts of a context.
@@ -269,7 +269,7 @@ impl<'a, A: Allocator + Clone> Drawer<'a, A> {
         kind: RegionKind,
         segment: &Segment<'_, A>,
         context: &mut DecoderContext<A>,
-        steps: &mut Steps<L>,
+        work: &mut Work<L>,
     ) -> Result<()>
         requires { context.old.passed_over.count < usize.MAX }
         ensures value { Gives (λ _. context.new) result
@@ -278,7 +278,7 @@ impl<'a, A: Allocator + Clone> Drawer<'a, A> {
         ensures err { IfErr result (λ e. (e ≡ OutOfMemory) ⊎
             (touched context.new ≡ touched context.old)) }
     {
-        match self.show_region(kind, segment, context, steps) {
+        match self.show_region(kind, segment, context, work) {
             Ok(()) => Ok(()),
             Err(error) => self.pass_over(segment.header.segment_number, error, context),
         }
@@ -291,7 +291,7 @@ impl<'a, A: Allocator + Clone> Drawer<'a, A> {
         kind: RegionKind,
         segment: &Segment<'_, A>,
         context: &mut DecoderContext<A>,
-        steps: &mut Steps<L>,
+        work: &mut Work<L>,
     ) -> Result<()>
         ensures value { Gives (λ _. context.new) result
             (shown context.old (region_at (is_strict self.now.reading) self.now.globals.now kind false
@@ -303,14 +303,14 @@ impl<'a, A: Allocator + Clone> Drawer<'a, A> {
         let is_white = context.is_white();
         let references = self.references(&context.names, &context.regions, &context.bitmap);
         let workspace = &context.workspace;
-        let parsed = references.parse_region(kind, false, segment, workspace, steps)?;
+        let parsed = references.parse_region(kind, false, segment, workspace, work)?;
         if is_white && parsed.makes_up(&context.bitmap) {
             context.untouched = false;
-            return parsed.decode_onto(&mut context.bitmap, &mut context.workspace, steps);
+            return parsed.decode_onto(&mut context.bitmap, &mut context.workspace, work);
         }
         let seen = parsed.above_end(context.bitmap.height());
-        let region = seen.decode(&mut context.workspace, steps)?;
-        context.combine(&region, steps);
+        let region = seen.decode(&mut context.workspace, work)?;
+        context.combine(&region, work);
         Ok(())
     }
 
@@ -341,7 +341,7 @@ impl<'a, A: Allocator + Clone> Drawer<'a, A> {
         kind: RegionKind,
         segment: &Segment<'_, A>,
         context: &mut DecoderContext<A>,
-        steps: &mut Steps<L>,
+        work: &mut Work<L>,
     ) -> Result<()>
         ensures value { Gives (λ _. context.new) result
             (intermediate (is_strict self.now.reading) self.now.globals.now kind
@@ -350,8 +350,8 @@ impl<'a, A: Allocator + Clone> Drawer<'a, A> {
     {
         let references = self.references(&context.names, &context.regions, &context.bitmap);
         let workspace = &context.workspace;
-        let parsed = references.parse_region(kind, true, segment, workspace, steps)?;
-        let region = parsed.decode(&mut context.workspace, steps)?;
+        let parsed = references.parse_region(kind, true, segment, workspace, work)?;
+        let region = parsed.decode(&mut context.workspace, work)?;
         context.store(segment.header.segment_number, region)
     }
 }

@@ -15,7 +15,7 @@ use crate::names::KeptNames;
 use crate::passed_over::PassedOver;
 use crate::settings::DecodeSettings;
 use crate::workspace::Workspace;
-use jbig2_base::bitmap::steps::Steps;
+use jbig2_base::bitmap::steps::Work;
 use jbig2_base::error::{DecodeError, Result};
 use jbig2_base::file::{parse_segments_sequential, sequence_fault};
 use jbig2_base::reading::Reading;
@@ -148,7 +148,7 @@ impl<A: Allocator + Clone> Globals<A> {
         reading: Reading,
         segment: &Segment<'_, A>,
         workspace: &mut Workspace<A>,
-        steps: &mut Steps<L>,
+        work: &mut Work<L>,
     ) -> Result<()>
         requires { self.old.passed_over.count < usize.MAX }
         ensures { Gives (λ _. self.new) result
@@ -156,7 +156,7 @@ impl<A: Allocator + Clone> Globals<A> {
             (kept_by (is_strict reading) no_names (segment_view segment.now) self.old.names)) }
     {
         let names = &mut self.names;
-        match keep_segment(names, reading.is_strict(), segment, workspace, steps) {
+        match keep_segment(names, reading.is_strict(), segment, workspace, work) {
             Ok(()) => Ok(()),
             Err(error) => {
                 if !reading.is_salvaged(&error) {
@@ -184,13 +184,13 @@ fn decode_shared<A: Allocator + Clone, L: Ledger>(
     ensures { Gives (λ globals. globals) result
         (named_from reading (segment_views segments.now) (nothing_shared fault)) }
 {
-    let work = work.unwrap_or(u64::MAX);
-    let mut steps = Steps::<L>::within(Permit::grant(), blank, work);
+    let units = work.unwrap_or(u64::MAX);
+    let mut work = Work::<L>::within(Permit::grant(), blank, units);
     let mut globals = Globals::empty(alloc.clone()?, fault)?;
     let mut workspace = Workspace::new(alloc)?;
     for segment in segments {
-        pay_segment(segment, globals.names.count(), &mut steps)?;
-        match globals.add(reading, segment, &mut workspace, &mut steps) {
+        pay_segment(segment, globals.names.count(), &mut work)?;
+        match globals.add(reading, segment, &mut workspace, &mut work) {
             Ok(()) => {}
             Err(error) => return Err(error),
         }
@@ -203,7 +203,7 @@ fn keep_segment<A: Allocator + Clone, L: Ledger>(
     strict: bool,
     segment: &Segment<'_, A>,
     workspace: &mut Workspace<A>,
-    steps: &mut Steps<L>,
+    work: &mut Work<L>,
 ) -> Result<()>
     ensures value { Gives (λ _. names.new) result
         (kept_by strict no_names (segment_view segment.now) names.old) }
@@ -212,9 +212,9 @@ fn keep_segment<A: Allocator + Clone, L: Ledger>(
     match segment.header.segment_type {
         SegmentType::SymbolDictionary => {
             let none = KeptNames::new(workspace.alloc.clone()?)?;
-            keep_symbols(names, strict, &none, segment, workspace, steps)
+            keep_symbols(names, strict, &none, segment, workspace, work)
         }
-        SegmentType::PatternDictionary => keep_patterns(names, strict, segment, workspace, steps),
+        SegmentType::PatternDictionary => keep_patterns(names, strict, segment, workspace, work),
         SegmentType::Tables => keep_table(names, segment, workspace),
         SegmentType::Extension => extension(strict, segment.bytes),
         _ => Ok(()),

@@ -11,7 +11,7 @@ ghost use Rattle.jbig2_base.specs.Causes.{HasCause};
 use crate::names::Lookup;
 use crate::parsed_region::ParsedRegion;
 use crate::references::References;
-use jbig2_base::bitmap::steps::Steps;
+use jbig2_base::bitmap::steps::Work;
 use jbig2_base::error::{DecodeError, Result, SegmentError};
 use jbig2_base::reader::Reader;
 use jbig2_base::search::code_length;
@@ -64,14 +64,14 @@ pub(crate) fn parse_halftone<'a, 'n, 'r, A: Allocator>(
 pub(crate) fn pay_cells<A: Allocator, L: Ledger>(
     header: &HalftoneRegionHeader<'_>,
     patterns: &PatternDictionary<A>,
-    steps: &mut Steps<L>,
+    work: &mut Work<L>,
 ) -> Result<()>
     ensures { IfErr result (λ e. e ≡ DecodeError.OutOfMemory) }
 {
     let grid = &header.grid_position_and_size;
     let planes = u64::from(code_length(patterns.patterns.len()));
     let cells = u64::from(grid.width) * u64::from(grid.height);
-    steps.pay_bitmaps(planes, grid.width, grid.height)?;
-    steps.pay_bitmaps(cells, patterns.pattern_width, patterns.pattern_height)?;
+    work.pay_bitmaps(planes, grid.width, grid.height)?;
+    work.pay_bitmaps(cells, patterns.pattern_width, patterns.pattern_height)?;
     Ok(())
 }

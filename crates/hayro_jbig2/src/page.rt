@@ -27,7 +27,7 @@ use crate::globals::Globals;
 use crate::image::write_image;
 use crate::names::KeptNames;
 use crate::settings::DecodeSettings;
-use jbig2_base::bitmap::steps::Steps;
+use jbig2_base::bitmap::steps::Work;
 use jbig2_base::error::{DecodeError, Result};
 use jbig2_base::file::{parse_segments_sequential, sequence_fault};
 use jbig2_base::page_info::InitialPage;
@@ -255,9 +255,9 @@ impl<'a, A: Allocator + Clone> Page<'a, A> {
         ensures value { Gives (λ _. buf.new) result (image_of_page self.now) }
         ensures unchanged { OnErr result (buf.new ≡ buf.old) }
     {
-        let mut steps = Steps::<L>::new(Permit::grant(), blank);
-        let context = self.drawn(&mut steps)?;
-        write_image(&context.bitmap, &self.initial_page, buf, &mut steps);
+        let mut work = Work::<L>::new(Permit::grant(), blank);
+        let context = self.drawn(&mut work)?;
+        write_image(&context.bitmap, &self.initial_page, buf, &mut work.steps);
         Ok(())
     }
 
@@ -316,16 +316,16 @@ impl<'a, A: Allocator + Clone> Page<'a, A> {
         requires enough { blank.parts ≡ 6 }
         ensures { Gives (λ _. context.new) result (drawing_of_page self.now) }
     {
-        let mut steps = context.new_steps::<L>(blank);
-        self.draw_limited(context, &mut steps)
+        let mut work = context.new_work::<L>(blank);
+        self.draw_limited(context, &mut work)
     }
 
     /// The context that the page is drawn in, a fresh one.
-    fn drawn<L: Ledger>(&self, steps: &mut Steps<L>) -> Result<DecoderContext<A>>
+    fn drawn<L: Ledger>(&self, work: &mut Work<L>) -> Result<DecoderContext<A>>
         ensures { Gives (λ context. context.grid) result (grid_of_page self.now) }
     {
         let mut context = DecoderContext::new(self.segments.as_vec().allocator().clone()?)?;
-        self.draw_into(&mut context, steps)?;
+        self.draw_into(&mut context, work)?;
         Ok(context)
     }
 
@@ -370,9 +370,9 @@ impl<'a, A: Allocator + Clone> Page<'a, A> {
         ensures calls { Decodes D.conduct (grid_of_page self.now) result decoder.old decoder.new }
         ensures drawing { IfOk (drawing_of_page self.now) (Leaves result context.new) }
     {
-        let mut steps = context.new_steps::<L>(blank);
-        match self.draw_limited(context, &mut steps) {
-            Ok(()) => push_bitmap(&context.bitmap, decoder, &mut steps),
+        let mut work = context.new_work::<L>(blank);
+        match self.draw_limited(context, &mut work) {
+            Ok(()) => push_bitmap(&context.bitmap, decoder, &mut work.steps),
             Err(error) => Err(error),
         }
     }
@@ -381,12 +381,12 @@ impl<'a, A: Allocator + Clone> Page<'a, A> {
     fn draw_limited<L: Ledger>(
         &self,
         context: &mut DecoderContext<A>,
-        steps: &mut Steps<L>,
+        work: &mut Work<L>,
     ) -> Result<()>
         ensures { Gives (λ _. context.new) result (drawing_of_page self.now) }
     {
-        let drawn = self.draw_into(context, steps);
-        context.end(steps);
+        let drawn = self.draw_into(context, work);
+        context.end(work);
         drawn
     }
 
@@ -394,15 +394,15 @@ impl<'a, A: Allocator + Clone> Page<'a, A> {
     fn draw_into<L: Ledger>(
         &self,
         context: &mut DecoderContext<A>,
-        steps: &mut Steps<L>,
+        work: &mut Work<L>,
     ) -> Result<()>
         ensures { Gives (λ _. context.new) result (drawing_of_page self.now) }
     {
         match &self.globals {
-            Ok(Some(globals)) => self.draw_with(globals.names(), context, steps),
+            Ok(Some(globals)) => self.draw_with(globals.names(), context, work),
             Ok(None) => {
                 let none = KeptNames::new(self.segments.as_vec().allocator().clone()?)?;
-                self.draw_with(&none, context, steps)
+                self.draw_with(&none, context, work)
             }
             Err(error) => Err(error.duplicate()),
         }
@@ -413,7 +413,7 @@ impl<'a, A: Allocator + Clone> Page<'a, A> {
         &self,
         globals: &KeptNames<A>,
         context: &mut DecoderContext<A>,
-        steps: &mut Steps<L>,
+        work: &mut Work<L>,
     ) -> Result<()>
         ensures { Gives (λ _. context.new) result
             (segments_drawn self.now.reading globals.now self.now.segments
@@ -421,12 +421,12 @@ impl<'a, A: Allocator + Clone> Page<'a, A> {
     {
         // A page is cleared, and then handed out.
         let (width, height) = self.dimensions();
-        steps.pay_bitmaps(2, width, height)?;
+        work.pay_bitmaps(2, width, height)?;
         context.begin(&self.initial_page)?;
         let drawer = Drawer {
             reading: self.reading,
             globals,
         };
-        drawer.draw_segments(self.segments.as_vec(), context, steps)
+        drawer.draw_segments(self.segments.as_vec(), context, work)
     }
 }

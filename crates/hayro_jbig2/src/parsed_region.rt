@@ -9,7 +9,7 @@ use crate::halftones::pay_cells;
 use crate::referred::ReferredSegments;
 use crate::workspace::{MOST_CONTEXTS, Workspace};
 use jbig2_base::bitmap::Bitmap;
-use jbig2_base::bitmap::steps::Steps;
+use jbig2_base::bitmap::steps::Work;
 use jbig2_base::error::{DecodeError, Result};
 use jbig2_coder::arithmetic_decoder::ArithmeticDecoderContext;
 use jbig2_coder::huffman_table::StandardHuffmanTables;
@@ -75,16 +75,16 @@ impl<'a, 'n, 'r, A: Allocator + Clone> ParsedRegion<'a, 'n, 'r, A> {
     }
 
     /// Takes the work of `count` bitmaps of the region's size, and of the symbols or the cells that it has.
-    pub(crate) fn pay_bitmaps<L: Ledger>(&self, count: u64, steps: &mut Steps<L>) -> Result<()>
+    pub(crate) fn pay_bitmaps<L: Ledger>(&self, count: u64, work: &mut Work<L>) -> Result<()>
         ensures { IfErr result (λ e. e ≡ DecodeError.OutOfMemory) }
     {
         match self {
-            ParsedRegion::Text { referred, .. } => referred.pay_symbols(steps)?,
-            ParsedRegion::Halftone { header, patterns } => pay_cells(header, patterns, steps)?,
+            ParsedRegion::Text { referred, .. } => referred.pay_symbols(work)?,
+            ParsedRegion::Halftone { header, patterns } => pay_cells(header, patterns, work)?,
             _ => {}
         }
         let info = self.region_info();
-        steps.pay_bitmaps(count, info.width, info.height)?;
+        work.pay_bitmaps(count, info.width, info.height)?;
         Ok(())
     }
 
@@ -93,7 +93,7 @@ impl<'a, 'n, 'r, A: Allocator + Clone> ParsedRegion<'a, 'n, 'r, A> {
         &self,
         bitmap: &mut Bitmap<A>,
         workspace: &mut Workspace<A>,
-        steps: &mut Steps<L>,
+        work: &mut Work<L>,
     ) -> Result<()>
         requires parsed { IsDecodable self.now }
         requires coloured { let info = info_of self.now in
@@ -101,7 +101,7 @@ impl<'a, 'n, 'r, A: Allocator + Clone> ParsedRegion<'a, 'n, 'r, A> {
         ensures { Gives (λ _. bitmap.new) result (drawn self.now) }
     {
         let (alloc, tables) = (&workspace.alloc, &workspace.standard_tables);
-        let decoded = self.decode_by(alloc, tables, &mut workspace.contexts, bitmap, steps);
+        let decoded = self.decode_by(alloc, tables, &mut workspace.contexts, bitmap, work);
         workspace.contexts.truncate(MOST_CONTEXTS);
         decoded
     }
@@ -113,7 +113,7 @@ impl<'a, 'n, 'r, A: Allocator + Clone> ParsedRegion<'a, 'n, 'r, A> {
         standard_tables: &StandardHuffmanTables<A>,
         contexts: &mut Vec<ArithmeticDecoderContext, A>,
         bitmap: &mut Bitmap<A>,
-        steps: &mut Steps<L>,
+        work: &mut Work<L>,
     ) -> Result<()>
         requires parsed { IsDecodable self.now }
         requires coloured { let info = info_of self.now in
@@ -128,20 +128,26 @@ impl<'a, 'n, 'r, A: Allocator + Clone> ParsedRegion<'a, 'n, 'r, A> {
                 &referred.tables,
                 standard_tables,
                 bitmap,
-                steps,
+                work,
             ),
             ParsedRegion::Halftone { header, patterns } => {
                 let alloc = alloc.clone()?;
-                halftone::decode_into(alloc, header, patterns, bitmap, contexts, steps)
+                halftone::decode_into(alloc, header, patterns, bitmap, contexts, &mut work.steps)
             }
             ParsedRegion::Generic { header } => {
-                generic::decode_into(header, bitmap, contexts, steps)
+                generic::decode_into(header, bitmap, contexts, &mut work.steps)
             }
             ParsedRegion::Refinement { header, reference } => {
-                generic_refinement::decode_into(header, reference, bitmap, contexts, steps)
+                generic_refinement::decode_into(
+                    header,
+                    reference,
+                    bitmap,
+                    contexts,
+                    &mut work.steps,
+                )
             }
             ParsedRegion::PageRefinement { header, area } => {
-                generic_refinement::decode_into(header, area, bitmap, contexts, steps)
+                generic_refinement::decode_into(header, area, bitmap, contexts, &mut work.steps)
             }
         }
     }
@@ -150,16 +156,16 @@ impl<'a, 'n, 'r, A: Allocator + Clone> ParsedRegion<'a, 'n, 'r, A> {
     pub(crate) fn decode<L: Ledger>(
         self,
         workspace: &mut Workspace<A>,
-        steps: &mut Steps<L>,
+        work: &mut Work<L>,
     ) -> Result<DecodedRegion<A>>
         requires { IsDecodable self }
         ensures { Gives (λ region. region_view region) result (apart self.entry) }
     {
-        self.pay_bitmaps(2, steps)?;
+        self.pay_bitmaps(2, work)?;
         let info = self.region_info();
         let alloc = workspace.alloc.clone()?;
         let mut bitmap = Bitmap::new_with(alloc, info.width, info.height, self.initial_pixel())?;
-        self.decode_into(&mut bitmap, workspace, steps)?;
+        self.decode_into(&mut bitmap, workspace, work)?;
         Ok(DecodedRegion::new(&info, bitmap))
     }
 }

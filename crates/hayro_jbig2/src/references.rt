@@ -14,7 +14,7 @@ use crate::region::RegionKind;
 use crate::texts::parse_text;
 use crate::workspace::Workspace;
 use jbig2_base::bitmap::Bitmap;
-use jbig2_base::bitmap::steps::Steps;
+use jbig2_base::bitmap::steps::Work;
 use jbig2_base::error::Result;
 use jbig2_base::segment::Segment;
 use jbig2_region::generic::DecodedRegion;
@@ -38,7 +38,7 @@ impl<'n, 'r, 'p, A: Allocator + Clone> References<'n, 'r, 'p, A> {
         is_intermediate: bool,
         segment: &Segment<'a, A>,
         workspace: &Workspace<A>,
-        steps: &mut Steps<L>,
+        work: &mut Work<L>,
     ) -> Result<ParsedRegion<'a, 'n, 'r, A>>
         ensures value { Leads result
             (region_at self.now.names.strict self.now.names.globals.now kind is_intermediate
@@ -50,7 +50,7 @@ impl<'n, 'r, 'p, A: Allocator + Clone> References<'n, 'r, 'p, A> {
             RegionKind::Halftone => parse_halftone(self, segment),
             RegionKind::Generic => parse_generic(self, is_intermediate, segment),
             RegionKind::GenericRefinement => {
-                parse_refinement(self, is_intermediate, segment, workspace, steps)
+                parse_refinement(self, is_intermediate, segment, workspace, work)
             }
         }
     }

@@ -8,7 +8,7 @@ ghost use Rattle.hayro_jbig2.specs.inner.KeptViews.{found, symbols_view};
 
 use crate::names::Lookup;
 use jbig2_base::bitmap::Bitmap;
-use jbig2_base::bitmap::steps::Steps;
+use jbig2_base::bitmap::steps::Work;
 use jbig2_base::error::{DecodeError, OverflowError, Result, SegmentError};
 use jbig2_coder::huffman_table::HuffmanTable;
 use jbig2_symbol::symbol::{RetainedContexts, SymbolDictionary};
@@ -105,10 +105,10 @@ impl<'a, A: Allocator> ReferredSegments<'a, A> {
 
 impl<A: Allocator> ReferredSegments<'_, A> {
     /// Takes the work of the symbols that are referred to: of their list, and of codes for them.
-    pub(crate) fn pay_symbols<L: Ledger>(&self, steps: &mut Steps<L>) -> Result<()>
+    pub(crate) fn pay_symbols<L: Ledger>(&self, work: &mut Work<L>) -> Result<()>
         ensures { IfErr result (λ e. e ≡ DecodeError.OutOfMemory) }
     {
-        steps.pay((self.symbols.len() as u64).saturating_mul(SYMBOL))?;
+        work.pay((self.symbols.len() as u64).saturating_mul(SYMBOL))?;
         Ok(())
     }
 }

@@ -21,7 +21,7 @@ use crate::references::References;
 use crate::workspace::Workspace;
 use jbig2_base::bitmap::Bitmap;
 use jbig2_base::bitmap::part::Area;
-use jbig2_base::bitmap::steps::Steps;
+use jbig2_base::bitmap::steps::Work;
 use jbig2_base::error::{DecodeError, OverflowError, Result, SegmentError};
 use jbig2_base::reader::Reader;
 use jbig2_base::segment::Segment;
@@ -67,7 +67,7 @@ fn page_area<A: Allocator, B: Allocator, L: Ledger>(
     alloc: A,
     page: &Bitmap<B>,
     region_info: &RegionSegmentInfo,
-    steps: &mut Steps<L>,
+    work: &mut Work<L>,
 ) -> Result<DecodedRegion<A>>
     requires columns { region_info.now.width ≤ 65535 }
     requires rows { region_info.now.height ≤ 65535 }
@@ -85,7 +85,7 @@ fn page_area<A: Allocator, B: Allocator, L: Ledger>(
         height: region_info.height,
     };
     Ok(DecodedRegion {
-        bitmap: page.part(alloc, area, steps)?,
+        bitmap: page.part(alloc, area, &mut work.steps)?,
         x_location: x,
         y_location: y,
         combination_operator: region_info.combination_operator,
@@ -97,7 +97,7 @@ fn parse_page_refinement<'a, 'n, 'r, A: Allocator + Clone, L: Ledger>(
     header: GenericRefinementRegionHeader<'a>,
     references: &References<'n, 'r, '_, A>,
     workspace: &Workspace<A>,
-    steps: &mut Steps<L>,
+    work: &mut Work<L>,
 ) -> Result<ParsedRegion<'a, 'n, 'r, A>>
     requires parsed { IsRefinement (header_view header) }
     ensures value { Leads result
@@ -106,12 +106,12 @@ fn parse_page_refinement<'a, 'n, 'r, A: Allocator + Clone, L: Ledger>(
     ensures parsed { IfOk result (λ region. IsDecodable region) }
 {
     let info = &header.region_info;
-    steps.pay_bitmap(info.width, info.height)?;
+    work.pay_bitmap(info.width, info.height)?;
     let area = page_area(
         workspace.alloc.clone()?,
         references.page,
         &header.region_info,
-        steps,
+        work,
     )?;
     Ok(ParsedRegion::PageRefinement { header, area })
 }
@@ -123,7 +123,7 @@ pub(crate) fn parse_refinement<'a, 'n, 'r, A: Allocator + Clone, L: Ledger>(
     is_intermediate: bool,
     segment: &Segment<'a, A>,
     workspace: &Workspace<A>,
-    steps: &mut Steps<L>,
+    work: &mut Work<L>,
 ) -> Result<ParsedRegion<'a, 'n, 'r, A>>
     ensures value { Leads result
         (refinement_at references.now.names.strict is_intermediate references.now.page.now
@@ -142,7 +142,7 @@ pub(crate) fn parse_refinement<'a, 'n, 'r, A: Allocator + Clone, L: Ledger>(
     let mut reader = Reader::new(segment.bytes);
     let header = generic_refinement::parse(&mut reader)?;
     let Some(reference) = referred else {
-        return parse_page_refinement(header, references, workspace, steps);
+        return parse_page_refinement(header, references, workspace, work);
     };
     Ok(ParsedRegion::Refinement { header, reference })
 }

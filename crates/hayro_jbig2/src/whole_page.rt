@@ -9,7 +9,7 @@ ghost use Rattle.hayro_jbig2.specs.inner.Whole.{IsBegun, IsWhole};
 use crate::context::DecoderContext;
 use crate::parsed_region::ParsedRegion;
 use crate::workspace::Workspace;
-use jbig2_base::bitmap::steps::Steps;
+use jbig2_base::bitmap::steps::Work;
 use jbig2_base::bitmap::{Bitmap, CombinationOperator};
 use jbig2_base::error::Result;
 use std::alloc::Allocator;
@@ -63,15 +63,15 @@ impl<'a, 'n, 'r, A: Allocator + Clone> ParsedRegion<'a, 'n, 'r, A> {
         self,
         page: &mut Bitmap<A>,
         workspace: &mut Workspace<A>,
-        steps: &mut Steps<L>,
+        work: &mut Work<L>,
     ) -> Result<()>
         requires parsed { IsDecodable self }
         requires whole { IsWhole (info_of self) (initial_of self) page.old }
         ensures value { Gives (λ _. page.new) result (drawn self.entry) }
         ensures err { IfErr result (λ e. (e ≡ OutOfMemory) ⊎ (page.new ≡ page.old)) }
     {
-        self.pay_bitmaps(1, steps)?;
-        match self.decode_into(page, workspace, steps) {
+        self.pay_bitmaps(1, work)?;
+        match self.decode_into(page, workspace, work) {
             Ok(()) => Ok(()),
             Err(error) => {
                 let info = self.region_info();

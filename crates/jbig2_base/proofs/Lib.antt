@@ -17,6 +17,7 @@ pub mod LaneCounts
 pub mod NumberLemmas
 mod PackedLemmas
 pub mod PageCauses
+pub mod Prices
 pub mod RandomAccess
 pub mod ReaderLemmas
 mod RunLemmas

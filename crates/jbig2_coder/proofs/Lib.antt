@@ -31,6 +31,7 @@ mod PrefixSums
 pub mod PrefixStandard
 pub mod PrefixWalk
 pub mod PrefixWorked
+pub mod ReadingCounts
 pub mod Readings
 pub mod Renorm
 pub mod Rows

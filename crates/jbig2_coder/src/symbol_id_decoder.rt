@@ -61,6 +61,7 @@ impl<A: Allocator> SymbolIdDecoder<A> {
         } }
         ensures steps { steps.new
             ≡ record steps.old { decisions = steps.old.decisions + self.old.code_len } }
+        ensures few { self.old.code_len ≤ 30 }
     {
         read_id(self.code_len, &mut self.contexts, decoder, steps)
     }

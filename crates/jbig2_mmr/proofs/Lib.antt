@@ -1,5 +1,6 @@
 pub mod Answered
 pub mod Causes
+pub mod Prices
 mod T6Bits
 mod T6Changes
 mod T6Decoding
@@ -8,5 +9,6 @@ mod T6Lookup
 pub mod T6Rows
 mod T6Runs
 mod T6Spans
+mod T6Steps
 mod T6Tables
 mod T6Worked

@@ -1,2 +1,3 @@
 pub mod T6Calls
 pub mod T6Reading
+pub mod T6Steps

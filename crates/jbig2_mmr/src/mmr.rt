@@ -1,11 +1,12 @@
 //! Bitmaps that are coded in two dimensions by T.6 (MMR; T.88, 6.2.6).
-ghost use Rattle.std.specs.Prelude.{◌≡◌, if◌then◌else◌, false, Ok, Err, Bool, ℕ};
+ghost use Rattle.std.specs.Prelude.{◌≡◌, if◌then◌else◌, false, Ok, Err, Bool, ℕ, ◌+◌, ◌*◌, length};
 ghost use Rattle.jbig2_base.specs.Answer.{Answers};
-ghost use Rattle.jbig2_base.specs.Counts.{KeepsLanes};
+ghost use Rattle.jbig2_base.specs.Counts.{KeepsLanes, words_of};
 ghost use Rattle.jbig2_base.specs.Grid.{blank};
 ghost use Rattle.jbig2_mmr.specs.T6.{mmr_rows, grid_of_rows, rows_of};
 ghost use Rattle.jbig2_base.specs.Causes.{HasCause};
 ghost use Rattle.jbig2_mmr.specs.Causes.{BreaksMmr};
+ghost use Rattle.jbig2_mmr.specs.Steps.{MovesWithin, bytes_taken};
 
 mod bits;
 mod change;
@@ -26,7 +27,8 @@ use std::sync::ledger::Ledger;
 /// A fault in the data, or an end of block before the last row, is refused in strict mode
 /// (`RegionError::InvalidMmrData`); otherwise a fault takes all bytes. In both modes the whole rows
 /// before it stay and the rest is white. No memory is taken, and no group of lanes and no single
-/// pixel is counted.
+/// pixel is counted, but at most three loads and words for each word of the bitmap and each bit of
+/// the bytes that are taken. Where they are refused, that is each bit of `bytes`.
 pub fn decode<A: Allocator, L: Ledger>(
     bitmap: &mut Bitmap<A>,
     bytes: &[u8],
@@ -40,6 +42,8 @@ pub fn decode<A: Allocator, L: Ledger>(
         (rows_of bitmap.old.width bitmap.old.height bytes.now).rows }
     ensures causes { HasCause result (BreaksMmr strict bitmap.old.width bitmap.old.height bytes.now) }
     ensures lanes { KeepsLanes steps.old steps.new }
+    ensures work { MovesWithin (3 * (words_of bitmap.old + 8 * bytes_taken result (length bytes.now)))
+        steps.old steps.new }
 {
     let height = bitmap.height();
     if bitmap.width() == 0 || height == 0 {

@@ -1,8 +1,10 @@
 -- Regions row by row, with their decisions.
-use Rattle.std.proofs.Common.{subst, ◌≡◌, ℕ, ◌+◌, ◌*◌, ◌≤◌, Bool, add-one, List, length, refl, ◌∙◌, arith}
+use Rattle.std.proofs.Common.{subst, ap, ◌≡◌, ℕ, ◌+◌, ◌*◌, ◌≤◌, Bool, add-one, List, length, refl, ◌∙◌, arith}
 use Rattle.jbig2_base.specs.Counts.{Counts}
 use Rattle.jbig2_base.specs.Grid.{Grid}
+use Rattle.jbig2_base.proofs.LaneCounts.{lanes-none}
 use Rattle.jbig2_coder.specs.Coder.{Coder, Context}
+use Rattle.jbig2_region.specs.inner.Stretches.{rest_of}
 use Rattle.jbig2_region.specs.Steps.{CountsDecided}
 use Rattle.jbig2_region.specs.inner.RowCounts.{decided_pixels, decided_rows}
 use Rattle.jbig2_region.specs.inner.Codes.{Codes, CountsCodes}
@@ -63,17 +65,19 @@ decided-empty coding loads w h input start steps none = record {
   run_tests = refl;
   words = omega arith;
   loads = omega arith;
+  lanes = lanes-none steps;
 }
 
 pub decided-region : (coding : Coding) (loads w h y : ℕ) (input : List ℕ) (start : Region) (before after : Counts) → length start.pixels ≡ 0 → (w ≡ 0 → ⊥) → y ≡ h → (y ≡ 0 → after ≡ before)
-    → Decided coding w h input y start before.decisions after.decisions → after.run_tests ≡ before.run_tests → after.words ≤ before.words + y * w → after.loads ≤ before.loads + y * loads
+    → Decided coding w h input y start before.decisions after.decisions → rest_of after ≡ rest_of before → after.words ≤ before.words + y * w → after.loads ≤ before.loads + y * loads
     → CountsDecided coding loads w h input start before after
-decided-region coding loads w h y input start before after empty some all none counted tests words loaded = record {
+decided-region coding loads w h y input start before after empty some all none counted untouched words loaded = record {
   empty = λ product. none (no-rows w h y some all product);
   decisions = λ _.
       rw (decisions-by-rows coding w h input start empty)
       (subst (λ (n : ℕ). after.decisions ≡ before.decisions + (n * row_decisions coding.row_context + decided_rows coding w h input n start)) all counted.total);
-  run_tests = tests;
+  run_tests = ap (λ (t : ℕ × ℕ × ℕ). t.0) untouched;
   words = subst (λ (n : ℕ). after.words ≤ before.words + n * w) all words;
   loads = subst (λ (n : ℕ). after.loads ≤ before.loads + n * loads) all loaded;
+  lanes = record { groups = ap (λ (t : ℕ × ℕ × ℕ). t.1) untouched; pixels = ap (λ (t : ℕ × ℕ × ℕ). t.2) untouched };
 }

@@ -8,12 +8,14 @@ pub mod CountLemmas
 pub mod DecisionLemmas
 pub mod GatherLemmas
 pub mod GenericLemmas
+pub mod GenericPrices
 pub mod GroupLemmas
 pub mod HeaderCauses
 pub mod PixelCauses
 pub mod PixelLemmas
 pub mod PlaceCounts
 pub mod PlaceLemmas
+pub mod Prices
 pub mod PushLemmas
 pub mod RasterLemmas
 pub mod RefinementKernelLemmas

@@ -7,7 +7,7 @@ use Rattle.jbig2_region.specs.Raster.{Coding, Region, no_pixels, row_decisions}
 use Rattle.jbig2_region.specs.inner.Codes.{Codes, CountsCodes}
 use Rattle.jbig2_region.specs.inner.Holds.{Holds, BeginsRow}
 use Rattle.jbig2_region.specs.inner.Rows.{after_rows}
-use Rattle.jbig2_region.specs.inner.Stretches.{DecodesPixels}
+use Rattle.jbig2_region.specs.inner.Stretches.{DecodesPixels, rest_of}
 use Rattle.jbig2_region.proofs.CodesLemmas.{codes-none, codes-then, counts-none, counts-then}
 use Rattle.jbig2_region.proofs.DecisionLemmas.{Decided, codes-row, decided-none, decided-next}
 use Rattle.jbig2_region.proofs.RasterLemmas.{after_rows-none, region-start}
@@ -19,7 +19,7 @@ pixels-none coding p x y n g d s c none = record {
   height = refl;
   bytes = refl;
   decisions = subst (λ (k : ℕ). CountsCodes coding p x y k g d s c.decisions c.decisions) none (counts-none coding p x y g d s c.decisions);
-  run_tests = refl;
+  rest = refl;
 }
 
 pub pixels-then : {coding : Coding} {p : Bool} {x x' y n m : ℕ} (k : ℕ) {g0 g1 g2 : Grid} {d0 d1 d2 : Coder} {s0 s1 s2 : List Context} {c0 c1 c2 : Counts}
@@ -31,20 +31,20 @@ pixels-then {coding = coding} {p = p} {x = x} {x' = x'} {y = y} {n = n} {m = m} 
   height = two.height ∙ one.height;
   bytes = two.bytes ∙ one.bytes;
   decisions = counts-then coding p x x' y n m k g0 g1 d0 d1 s0 s1 c0.decisions c1.decisions c2.decisions one.holds one.decisions two.decisions place sum;
-  run_tests = two.run_tests ∙ one.run_tests;
+  rest = two.rest ∙ one.rest;
 }
 
--- other steps before, which are no decisions and no tests
+-- other steps before, which are no decisions, no tests and no lanes
 pub pixels-since : {coding : Coding} {p : Bool} {x y n : ℕ} {g g' : Grid} {d d' : Coder} {s s' : List Context} (b c c' : Counts)
-    → DecodesPixels coding p x y n g d s c g' d' s' c' → c.decisions ≡ b.decisions → c.run_tests ≡ b.run_tests
+    → DecodesPixels coding p x y n g d s c g' d' s' c' → c.decisions ≡ b.decisions → rest_of c ≡ rest_of b
     → DecodesPixels coding p x y n g d s b g' d' s' c'
-pixels-since {coding = coding} {p = p} {x = x} {y = y} {n = n} {g = g} {d = d} {s = s} b c c' decoded decided tested = record {
+pixels-since {coding = coding} {p = p} {x = x} {y = y} {n = n} {g = g} {d = d} {s = s} b c c' decoded decided untouched = record {
   holds = decoded.holds;
   width = decoded.width;
   height = decoded.height;
   bytes = decoded.bytes;
   decisions = subst (λ (k : ℕ). CountsCodes coding p x y n g d s k c'.decisions) decided decoded.decisions;
-  run_tests = decoded.run_tests ∙ tested;
+  rest = decoded.rest ∙ untouched;
 }
 
 -- ---- rows
@@ -56,7 +56,7 @@ pub record RowsDecoded (coding : Coding) (g0 : Grid) (d0 : Coder) (s0 : List Con
   pub holds : Holds g0.width g0.height d0.bytes (after_rows coding g0.width g0.height d0.bytes y (no_pixels d0.registers s0)) g d s
   pub predicted : (after_rows coding g0.width g0.height d0.bytes y (no_pixels d0.registers s0)).predicted ≡ p
   pub decisions : Decided coding g0.width g0.height d0.bytes y (no_pixels d0.registers s0) c0.decisions c.decisions
-  pub run_tests : c.run_tests ≡ c0.run_tests
+  pub rest : rest_of c ≡ rest_of c0
 
 pub rows-none : (coding : Coding) (g : Grid) (d : Coder) (s : List Context) (c : Counts) → g ≡ blank g.width g.height false → RowsDecoded coding g d s c 0 false g d s c
 rows-none coding g d s c white =
@@ -69,17 +69,17 @@ rows-none coding g d s c white =
       holds = subst (λ (r : Region). Holds g.width g.height d.bytes r g d s) (sym none) (region-start g.width g.height g d s white);
       predicted = ap (λ (r : Region). r.predicted) none;
       decisions = decided-none coding g.width g.height d.bytes start c.decisions;
-      run_tests = refl;
+      rest = refl;
     }
 
 -- a row is begun, at d1, s1 and c1, and decoded
 pub rows-next : {coding : Coding} {g0 : Grid} {d0 : Coder} {s0 : List Context} {c0 : Counts} {y : ℕ} {p : Bool} (q : Bool) {g : Grid} {d : Coder} {s : List Context} {c : Counts} (d1 : Coder) (s1 : List Context) (c1 : Counts) (g' : Grid) (d' : Coder) (s' : List Context) (c' : Counts)
     → RowsDecoded coding g0 d0 s0 c0 y p g d s c
     → ((w h : ℕ) (grid : Grid) (r : Region) → r.predicted ≡ p → Holds w h d.bytes r grid d s → BeginsRow w h coding.row_context r q grid d d1 s1)
-    → d1.bytes ≡ d.bytes → c1.decisions ≡ c.decisions + row_decisions coding.row_context → c1.run_tests ≡ c.run_tests
+    → d1.bytes ≡ d.bytes → c1.decisions ≡ c.decisions + row_decisions coding.row_context → rest_of c1 ≡ rest_of c
     → DecodesPixels coding q 0 y g.width g d1 s1 c1 g' d' s' c'
     → RowsDecoded coding g0 d0 s0 c0 (y + 1) q g' d' s' c'
-rows-next {coding = coding} {g0 = g0} {d0 = d0} {s0 = s0} {c0 = c0} {y = y} {p = p} q {g = g} {d = d} {s = s} {c = c} d1 s1 c1 g' d' s' c' rows begin same more tested row =
+rows-next {coding = coding} {g0 = g0} {d0 = d0} {s0 = s0} {c0 = c0} {y = y} {p = p} q {g = g} {d = d} {s = s} {c = c} d1 s1 c1 g' d' s' c' rows begin same more untouched row =
     let start : Region = no_pixels d0.registers s0 in
     let codes = subst (λ (n : ℕ). Codes coding q 0 y n g d1 s1 g' d' s') rows.width row.holds in
     let counted = subst (λ (n : ℕ). CountsCodes coding q 0 y n g d1 s1 c1.decisions c'.decisions) rows.width row.decisions in
@@ -91,18 +91,18 @@ rows-next {coding = coding} {g0 = g0} {d0 = d0} {s0 = s0} {c0 = c0} {y = y} {p =
       holds = next.0;
       predicted = next.1;
       decisions = decided-next coding y p q g d s d1 s1 start g0.width g0.height d0.bytes c0.decisions c.decisions c1.decisions c'.decisions rows.bytes refl begin rows.holds rows.predicted rows.decisions more counted;
-      run_tests = row.run_tests ∙ tested ∙ rows.run_tests;
+      rest = row.rest ∙ untouched ∙ rows.rest;
     }
 
--- other steps after a row, which are no decisions and no tests
+-- other steps after a row, which are no decisions, no tests and no lanes
 pub rows-until : {coding : Coding} {g0 : Grid} {d0 : Coder} {s0 : List Context} {c0 : Counts} {y : ℕ} {p : Bool} {g : Grid} {d : Coder} {s : List Context} (c c' : Counts)
-    → RowsDecoded coding g0 d0 s0 c0 y p g d s c → c.decisions ≡ c'.decisions → c'.run_tests ≡ c.run_tests → RowsDecoded coding g0 d0 s0 c0 y p g d s c'
-rows-until {coding = coding} {g0 = g0} {d0 = d0} {s0 = s0} {c0 = c0} {y = y} c c' rows decided tested = record {
+    → RowsDecoded coding g0 d0 s0 c0 y p g d s c → c.decisions ≡ c'.decisions → rest_of c' ≡ rest_of c → RowsDecoded coding g0 d0 s0 c0 y p g d s c'
+rows-until {coding = coding} {g0 = g0} {d0 = d0} {s0 = s0} {c0 = c0} {y = y} c c' rows decided untouched = record {
   width = rows.width;
   height = rows.height;
   bytes = rows.bytes;
   holds = rows.holds;
   predicted = rows.predicted;
   decisions = subst (λ (k : ℕ). Decided coding g0.width g0.height d0.bytes y (no_pixels d0.registers s0) c0.decisions k) decided rows.decisions;
-  run_tests = tested ∙ rows.run_tests;
+  rest = untouched ∙ rows.rest;
 }

@@ -1,16 +1,16 @@
 -- What the step bounds of generic regions count, by their template and header (our own rule). `read_pixels` is how many
 -- adaptive pixels are read one by one.
-use Rattle.std.specs.Prelude.{ℕ, ◌*◌, ◌≡◌, Bool, true, false, if◌then◌else◌, List}
+use Rattle.std.specs.Prelude.{ℕ, ◌+◌, ◌*◌, ◌≡◌, Bool, true, false, if◌then◌else◌, List}
 use Rattle.jbig2_base.specs.Counts.{Counts}
 use Rattle.jbig2_coder.specs.Coder.{initial_registers}
-use Rattle.jbig2_region.specs.{Generic.{generic_coding}, GenericHeader.{GenericHeader}, Raster.{Coding, Region, no_pixels, fresh_contexts}, Steps.{CountsRegion}, Templates.{adaptive_pixel_count, context_bits, is_nominal, template_pixels}, declared.template.{AdaptiveTemplatePixel.{AdaptiveTemplatePixel}, Template.{Template}}}
+use Rattle.jbig2_region.specs.{Generic.{generic_coding}, GenericHeader.{GenericHeader}, Raster.{Coding, Region, no_pixels, fresh_contexts}, Steps.{CountsDecided, CountsRegion}, Templates.{adaptive_pixel_count, context_bits, is_nominal, template_pixels}, declared.template.{AdaptiveTemplatePixel.{AdaptiveTemplatePixel}, Template.{Template}}}
 
 abbrev pub read_pixels : Template → List AdaptiveTemplatePixel → ℕ
 read_pixels template a = if is_nominal template a then 0 else adaptive_pixel_count false false template
 
--- The steps of a region; those of an extended template aren't counted.
+-- The steps of a region. An extended template has no run bytes, and all its pixels are read one by one.
 abbrev pub CountsCoded : Bool → Template → List AdaptiveTemplatePixel → Coding → ℕ → ℕ → List ℕ → Region → Counts → Counts → Type 0
-CountsCoded true template a coding w h bytes start before after = w * h ≡ 0 → after ≡ before
+CountsCoded true template a coding w h bytes start before after = CountsDecided coding (w * (context_bits template + 1)) w h bytes start before after
 CountsCoded false template a coding w h bytes start before after = CountsRegion (template_pixels false template a) (is_nominal template a) (read_pixels template a) coding w h bytes start before after
 
 -- those of a region whose header is read; with MMR they aren't counted

@@ -20,8 +20,8 @@ unfoldable pub pixel_decisions : Coding → ℕ → ℕ → List ℕ → Region 
 pixel_decisions coding w h bytes start =
     how_many (λ n. takes_decision coding w h (at_pixel coding w h bytes start n)) (w * h)
 
--- One decision for each pixel that takes one, and for each row that begins with one; no run test; at most one word a
--- pixel, and this many loads a row. An empty region takes no step.
+-- One decision for each pixel that takes one, and for each row that begins with one; no run test and no
+-- lanes; at most one word a pixel, and this many loads a row. An empty region takes no step.
 pub record CountsDecided (coding : Coding) (row_loads : ℕ) (w h : ℕ) (bytes : List ℕ) (start : Region) (before after : Counts) : Type 0 where
   pub empty : w * h ≡ 0 → after ≡ before
   pub decisions : 1 ≤ w →
@@ -29,6 +29,7 @@ pub record CountsDecided (coding : Coding) (row_loads : ℕ) (w h : ℕ) (bytes 
   pub run_tests : after.run_tests ≡ before.run_tests
   pub words : after.words ≤ before.words + h * w
   pub loads : after.loads ≤ before.loads + h * row_loads
+  pub lanes : KeepsLanes before after
 
 -- loads of a row of a refinement, where its pixels are taken from windows of 64 pixels
 abbrev pub window_loads : ℕ → ℕ

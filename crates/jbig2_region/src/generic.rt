@@ -117,9 +117,9 @@ pub fn parse<'a>(
 
 /// Decodes a region (T.88, 6.2) into a white bitmap of its size. The contexts begin fresh, whatever
 /// `contexts` held, and are left there as the region leaves them; MMR data does not touch them, nor
-/// does its refusal. The steps of a region are bounded unless it has MMR data or the extended
-/// template; with nominal adaptive pixels a run of eight likely symbols takes no decision. A refusal takes no
-/// step but with MMR data, which counts no group of lanes and no single pixel.
+/// does its refusal. The steps of a region are bounded unless it has MMR data; with nominal adaptive
+/// pixels a run of eight likely symbols takes no decision. A refusal takes no step but with MMR data,
+/// which counts no group of lanes and no single pixel.
 ///
 /// `OutOfMemory` where there is no room for the contexts; in strict mode
 /// `RegionError::InvalidMmrData` where MMR data has a fault or lacks a row. The bitmap is then as it was,
@@ -176,7 +176,6 @@ pub fn decode<A: Allocator, B: Allocator, L: Ledger>(
     ensures lanes { header.now.mmr ≡ true → KeepsLanes steps.old steps.new }
 {
     let region_info = &header.region_info;
-    steps.pay_bitmap(region_info.width, region_info.height)?;
     let mut bitmap = Bitmap::new(alloc, region_info.width, region_info.height)?;
     decode_into(header, &mut bitmap, contexts, steps)?;
     Ok(DecodedRegion::new(region_info, bitmap))

@@ -189,7 +189,6 @@ pub fn decode<A: Allocator, B: Allocator, C: Allocator, L: Ledger>(
     ensures stopped { OnErr result (steps.new ≡ steps.old) }
 {
     let region_info = &header.region_info;
-    steps.pay_bitmap(region_info.width, region_info.height)?;
     let mut bitmap = Bitmap::new(alloc, region_info.width, region_info.height)?;
     decode_into(header, reference, &mut bitmap, contexts, steps)?;
     Ok(DecodedRegion::new(region_info, bitmap))

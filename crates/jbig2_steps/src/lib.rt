@@ -1,19 +1,18 @@
-//! A count of what the kernels do, without a byte at run time, and beside it what work is still allowed. A counter begins
-//! with a permit, which kernels can't make.
+//! A count of what the kernels do, without a byte at run time. A counter begins with a permit, which kernels can't make.
+//! `Work` is a counter beside the work that may still be taken.
 #![tactic(auto)]
 
+pub mod work;
+
+pub use crate::work::Work;
 use jbig2_permit::Permit;
-use std::alloc::AllocError;
 use std::marker::Model;
 use std::sync::ledger::{Blank, Book, Ledger, Share};
 
 /// How much was done so far: each field of the value is one count, and only the call of its name
-/// adds to it. The counts belong to the ledger `L` and exist for the proofs alone. The work that is left
-/// is no count: it changes no value, and its lack refuses as the lack of memory does.
+/// adds to it. The counts belong to the ledger `L` and exist for the proofs alone.
 #[derive(Drop)]
 pub struct Steps<L: Ledger> {
-    /// How many units of work may still be taken.
-    work_left: u64,
     book: Book<L>,
     loads: Share<L>,
     words: Share<L>,
@@ -46,18 +45,8 @@ impl<L: Ledger> Steps<L> {
     ghost use Rattle.std.specs.Prelude.{◌≡◌, ◌+◌};
     ghost use Rattle.jbig2_steps.specs.Counts.{Counts, no_steps, words_copied};
 
-    /// A counter that stands at nothing, for the ledger that `blank` opens. Work has no limit.
-    pub fn new(permit: Permit, blank: Blank) -> Steps<L>
-        requires name { blank.name ≡ L.name }
-        requires parts { blank.parts ≡ L.parts }
-        requires enough { blank.parts ≡ 6 }
-        ensures { result ≡ no_steps }
-    {
-        Steps::within(permit, blank, u64::MAX)
-    }
-
-    /// A counter that stands at nothing, for the ledger that `blank` opens, and allows `work` units of work.
-    pub fn within(_permit: Permit, blank: Blank, work: u64) -> Steps<L>
+    /// A counter that stands at nothing, for the ledger that `blank` opens.
+    pub fn new(_permit: Permit, blank: Blank) -> Steps<L>
         requires name { blank.name ≡ L.name }
         requires parts { blank.parts ≡ L.parts }
         requires enough { blank.parts ≡ 6 }
@@ -70,7 +59,6 @@ impl<L: Ledger> Steps<L> {
         let groups = loads.split_off(1, 0);
         let pixels = loads.split_off(1, 0);
         Steps {
-            work_left: work,
             book,
             loads,
             words,
@@ -79,45 +67,6 @@ impl<L: Ledger> Steps<L> {
             groups,
             pixels,
         }
-    }
-
-    /// How many units of work are left: 0 after a refusal.
-    pub fn work_left(&self) -> u64 {
-        self.work_left
-    }
-
-    /// Takes `units` of work before it is done. Where so much isn't left, nothing is left from then on, and the work is
-    /// refused as memory is.
-    pub fn pay(&mut self, units: u64) -> Result<(), AllocError>
-        ensures { self.new ≡ self.old }
-    {
-        match self.work_left.checked_sub(units) {
-            Some(left) => {
-                self.work_left = left;
-                Ok(())
-            }
-            None => {
-                self.work_left = 0;
-                Err(AllocError)
-            }
-        }
-    }
-
-    /// Takes the work of a bitmap of this size before it is begun: a unit for each pixel, rounded up to words of 64
-    /// columns, of which each row has one at least, and 64 units more.
-    pub fn pay_bitmap(&mut self, width: u32, height: u32) -> Result<(), AllocError>
-        ensures { self.new ≡ self.old }
-    {
-        self.pay_bitmaps(1, width, height)
-    }
-
-    /// Takes the work of `count` bitmaps of this size before they are begun.
-    pub fn pay_bitmaps(&mut self, count: u64, width: u32, height: u32) -> Result<(), AllocError>
-        ensures { self.new ≡ self.old }
-    {
-        let row = u64::from(width.div_ceil(64).max(1)) * 64;
-        let bitmap = row.saturating_mul(u64::from(height)).saturating_add(64);
-        self.pay(bitmap.saturating_mul(count))
     }
 
     /// One load of up to 64 neighbouring pixels of a row.

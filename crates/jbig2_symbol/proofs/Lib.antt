@@ -10,6 +10,7 @@ pub mod ExportErrors
 pub mod ExportLemmas
 pub mod ExportedLemmas
 mod IdCodes
+pub mod PayingLemmas
 pub mod ReadingCauses
 pub mod SymbolCauses
 pub mod UsedPixels

@@ -1,5 +1,6 @@
 pub mod Causes
 pub mod HeightClasses
+pub mod Paying
 pub mod SymbolBitmaps
 pub mod SymbolCoding
 pub mod SymbolHeader

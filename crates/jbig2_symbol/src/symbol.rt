@@ -1,6 +1,8 @@
 //! Symbol dictionaries (T.88, 6.5 and 7.4.2).
-ghost use Rattle.std.specs.Prelude.{◌≡◌, ◌≤◌, length, map};
+ghost use Rattle.std.specs.Prelude.{◌≡◌, ◌*◌, ◌≤◌, length, map};
 ghost use Rattle.jbig2_base.specs.Answer.{Gives};
+ghost use Rattle.jbig2_steps.specs.Work.{PaidBut};
+ghost use Rattle.jbig2_text.specs.Paying.{number_steps};
 ghost use Rattle.jbig2_symbol.specs.inner.HeaderViews.{contexts_view, header_view};
 ghost use Rattle.jbig2_coder.specs.inner.TableViews.{customs_view};
 ghost use Rattle.jbig2_symbol.specs.inner.SymbolViews.{dictionary_view, input_view, kept_view};
@@ -34,7 +36,7 @@ use crate::symbol::prefixed::PrefixedSymbols;
 use crate::symbol::readings::ReadClasses;
 use crate::symbol::tables::symbol_tables;
 use jbig2_base::bitmap::Bitmap;
-use jbig2_base::bitmap::steps::Steps;
+use jbig2_base::bitmap::steps::Work;
 use jbig2_base::error::Result;
 use jbig2_coder::huffman_table::{HuffmanTable, StandardHuffmanTables};
 use std::alloc::Allocator;
@@ -45,16 +47,18 @@ fn decode_by<R: ReadClasses, A: Allocator + Clone, T: Allocator, L: Ledger>(
     alloc: A,
     input: &SymbolInput<'_, A, T>,
     readings: &mut R,
-    steps: &mut Steps<L>,
+    work: &mut Work<L>,
 ) -> Result<Vec<Bitmap<A>, A>>
     requires few { length input.now.symbols.now ≤ 2097152 }
     requires fresh { input.now.header.now.num_new_symbols ≤ 1048576 }
-    ensures { let d = input_view input.now in
+    ensures value { let d = input_view input.now in
         let meant = symbols_exported R.readings d (R.state readings.old) in
         Gives (λ symbols. (symbols.items, R.state readings.new)) result meant }
+    ensures paid { let most = input.now.header.now.num_new_symbols in
+        PaidBut (number_steps (5 * most)) work.old work.new }
 {
-    let new = read_new_symbols(alloc.clone()?, input, readings, steps)?;
-    read_exports(alloc, input, new, readings, steps)
+    let new = read_new_symbols(alloc.clone()?, input, readings, work)?;
+    read_exports(alloc, input, new, readings, work)
 }
 
 /// A dictionary of these symbols, which keeps its contexts if its header says so.
@@ -83,20 +87,22 @@ fn decode_with<A: Allocator + Clone, T: Allocator, L: Ledger>(
     alloc: A,
     input: &SymbolInput<'_, A, T>,
     contexts: RetainedContexts<A>,
-    steps: &mut Steps<L>,
+    work: &mut Work<L>,
 ) -> Result<SymbolDictionary<A>>
     requires few { length input.now.symbols.now ≤ 2097152 }
     requires fresh { input.now.header.now.num_new_symbols ≤ 1048576 }
-    ensures { let meant = dictionary_from (input_view input.now) (contexts_view contexts) in
+    ensures value { let meant = dictionary_from (input_view input.now) (contexts_view contexts) in
         Gives (λ d. dictionary_view d) result meant }
+    ensures paid { let most = input.now.header.now.num_new_symbols in
+        PaidBut (number_steps (5 * most)) work.old work.new }
 {
     if input.header.flags.use_huffman {
         let mut readings = PrefixedSymbols::new(input, contexts);
-        let exported = decode_by(alloc, input, &mut readings, steps)?;
+        let exported = decode_by(alloc, input, &mut readings, work)?;
         return Ok(dictionary_of(input.header, exported, readings.contexts));
     }
     let mut readings = CodedSymbols::new(alloc.clone()?, input, contexts)?;
-    let exported = decode_by(alloc, input, &mut readings, steps)?;
+    let exported = decode_by(alloc, input, &mut readings, work)?;
     Ok(dictionary_of(input.header, exported, readings.contexts))
 }
 
@@ -113,15 +119,17 @@ pub fn decode<A: Allocator + Clone, T: Allocator, K: Allocator, L: Ledger>(
     referred_tables: &[&HuffmanTable<T>],
     standard_tables: &StandardHuffmanTables<T>,
     retained_contexts: Option<&RetainedContexts<K>>,
-    steps: &mut Steps<L>,
+    work: &mut Work<L>,
 ) -> Result<SymbolDictionary<A>>
     requires few { length symbols.now ≤ 2097152 }
     requires fresh { header.now.num_new_symbols ≤ 1048576 }
-    ensures { let h = header_view header.now in
+    ensures value { let h = header_view header.now in
         let grids = map (λ b. b.now) symbols.now in
         let referred = customs_view referred_tables.now in
         let meant = symbols_decoded h grids referred (kept_view retained_contexts.entry) in
         Gives (λ d. dictionary_view d) result meant }
+    ensures paid { let most = header.now.num_new_symbols in
+        PaidBut (number_steps (5 * most)) work.old work.new }
 {
     let contexts = first_contexts(alloc.clone()?, &header.flags, retained_contexts)?;
     let tables = symbol_tables(&header.flags, standard_tables, referred_tables)?;
@@ -133,5 +141,5 @@ pub fn decode<A: Allocator + Clone, T: Allocator, K: Allocator, L: Ledger>(
         ids: &ids,
         standard: standard_tables,
     };
-    decode_with(alloc, &input, contexts, steps)
+    decode_with(alloc, &input, contexts, work)
 }

@@ -6,6 +6,7 @@ pub mod CausesOfInstances
 pub mod CausesOfRegions
 pub mod CausesOfText
 pub mod InstanceLemmas
+pub mod PayingLemmas
 pub mod RefiningLemmas
 pub mod RegionLemmas
 pub mod SymbolLemmas

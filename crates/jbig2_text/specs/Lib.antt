@@ -1,4 +1,5 @@
 pub mod Causes
+pub mod Paying
 pub mod Refining
 pub mod SymbolCodes
 pub mod Text

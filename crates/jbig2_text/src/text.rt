@@ -2,6 +2,8 @@
 ghost use Rattle.std.specs.Prelude.{◌≡◌, ◌≤◌, ◌^◌, length, Ok, OnErr};
 ghost use Rattle.jbig2_base.specs.Answer.{Answers, Gives};
 ghost use Rattle.jbig2_base.specs.Grid.{blank};
+ghost use Rattle.jbig2_steps.specs.Work.{Paid, PaidBut};
+ghost use Rattle.jbig2_text.specs.Paying.{number_steps};
 ghost use Rattle.jbig2_region.specs.inner.RegionViews.{region_view};
 ghost use Rattle.jbig2_text.specs.inner.TextViews.{some_pixels, header_view, text_pixels, coded_view, params_view, prefixed_view, symbols_view};
 ghost use Rattle.jbig2_text.specs.TextRegion.{coder_of, prefix_codes_of, refining_of, region_from, text_params, text_answer, text_decoded};
@@ -40,7 +42,7 @@ pub use crate::text::tables::TextRegionHuffmanTables;
 use crate::text::tables::select_tables;
 pub use header::parse;
 use jbig2_base::bitmap::Bitmap;
-use jbig2_base::bitmap::steps::Steps;
+use jbig2_base::bitmap::steps::Work;
 use jbig2_base::error::Result;
 use jbig2_base::reader::Reader;
 use jbig2_base::search::code_length;
@@ -142,7 +144,7 @@ fn decode_by<
     header: &TextRegionHeader<'_, H>,
     symbols: &[&Bitmap<B>],
     bitmap: &mut Bitmap<D>,
-    steps: &mut Steps<L>,
+    work: &mut Work<L>,
 ) -> Result<()>
     requires { header.now.flags.log_strip_size ≤ 3 }
     ensures value { let h = header_view header.now in
@@ -150,10 +152,11 @@ fn decode_by<
         let meant = region_from R.readings h (symbols_view symbols.now) bitmap.old state in
         Gives (λ _. bitmap.new) result meant }
     ensures same { OnErr result (bitmap.new ≡ bitmap.old) }
+    ensures paid { PaidBut (number_steps 1) work.old work.new }
 {
     let mut refining = refining_of(alloc.clone()?, header)?;
     let params = params_of(header, symbols);
-    draw_instances_by(alloc, readings, &mut refining, &params, bitmap, steps)
+    draw_instances_by(alloc, readings, &mut refining, &params, bitmap, work)
 }
 
 /// Decodes a text region (T.88, 6.4) of these symbols, at most 2^21, into a bitmap of its size
@@ -184,7 +187,7 @@ pub fn decode_into<
     referred_tables: &[&HuffmanTable<T>],
     standard_tables: &StandardHuffmanTables<T>,
     bitmap: &mut Bitmap<D>,
-    steps: &mut Steps<L>,
+    work: &mut Work<L>,
 ) -> Result<()>
     requires strips { header.now.flags.log_strip_size ≤ 3 }
     requires few { length symbols.now ≤ 2 ^ 21 }
@@ -197,11 +200,12 @@ pub fn decode_into<
     ensures causes { let customs = customs_view referred_tables.now in
         HasCauseOrNoMemory result
         (BreaksTextRegion (header_view header.now) (symbols_view symbols.now) customs) }
+    ensures paid { PaidBut (number_steps 1) work.old work.new }
 {
     match &header.coding {
         TextRegionCoding::Arithmetic => {
             let mut readings = start_coded(alloc.clone()?, header, symbols)?;
-            decode_by(alloc, &mut readings, header, symbols, bitmap, steps)
+            decode_by(alloc, &mut readings, header, symbols, bitmap, work)
         }
         TextRegionCoding::Huffman { tables, ids } => {
             let mut readings = start_prefixed(
@@ -211,7 +215,7 @@ pub fn decode_into<
                 referred_tables,
                 standard_tables,
             )?;
-            decode_by(alloc, &mut readings, header, symbols, bitmap, steps)
+            decode_by(alloc, &mut readings, header, symbols, bitmap, work)
         }
     }
 }
@@ -227,16 +231,17 @@ pub fn decode<H: Allocator, B: Allocator, T: Allocator, M: Allocator + Clone, L:
     symbols: &[&Bitmap<B>],
     referred_tables: &[&HuffmanTable<T>],
     standard_tables: &StandardHuffmanTables<T>,
-    steps: &mut Steps<L>,
+    work: &mut Work<L>,
 ) -> Result<DecodedRegion<M>>
     requires strips { header.now.flags.log_strip_size ≤ 3 }
     requires few { length symbols.now ≤ 2 ^ 21 }
-    ensures { let customs = customs_view referred_tables.now in
+    ensures value { let customs = customs_view referred_tables.now in
         let meant = text_decoded (header_view header.now) (symbols_view symbols.now) customs in
         Gives (λ region. region_view region) result meant }
+    ensures paid { Paid work.old work.new }
 {
     let region_info = &header.region_info;
-    steps.pay_bitmap(region_info.width, region_info.height)?;
+    work.pay_bitmap(region_info.width, region_info.height)?;
     let mut bitmap = Bitmap::new_with(
         alloc.clone()?,
         region_info.width,
@@ -250,7 +255,7 @@ pub fn decode<H: Allocator, B: Allocator, T: Allocator, M: Allocator + Clone, L:
         referred_tables,
         standard_tables,
         &mut bitmap,
-        steps,
+        work,
     )?;
     Ok(DecodedRegion::new(region_info, bitmap))
 }

@@ -5,6 +5,7 @@ ghost use Rattle.jbig2_mmr.specs.T6.{read_code, run, bits_of, ends_block, is_pre
 ghost use Rattle.jbig2_mmr.specs.T6Codes.{modes};
 ghost use Rattle.jbig2_base.specs.inner.BitLists.{AreBits};
 ghost use Rattle.jbig2_mmr.specs.inner.T6Reading.{with_rest, ReadRun, after_end, padded};
+ghost use Rattle.jbig2_mmr.specs.inner.T6Steps.{IsNearMode};
 
 use crate::mmr::codes::modes::MODES;
 use crate::mmr::codes::{Mode, run_entry};
@@ -110,6 +111,7 @@ impl<'a> CodeReader<'a> {
         ensures value { with_rest result self.new.left ≡ read_code modes self.old.left }
         ensures bytes { self.new.bytes ≡ self.old.bytes }
         ensures shorter { IfSome result (λ _. length self.new.left < length self.old.left) }
+        ensures near { IsNearMode result }
         ensures law { IsTrue (is_prefix_free modes) }
     {
         let entry = MODES[(self.window() >> 17) as usize];

@@ -1,10 +1,11 @@
 //! The next changing element of a row (T.6, 2.2.1), by words.
 ghost use Rattle.std.specs.Prelude.{◌≡◌, ℕ, ◌+◌, ◌*◌, ◌/◌, ◌^◌, ◌<◌, ◌≤◌, ◌&&◌, if◌then◌else◌};
-ghost use Rattle.jbig2_base.specs.Counts.{KeepsLanes};
+ghost use Rattle.jbig2_base.specs.Counts.{KeepsLanes, words_loaded, words_searched};
 ghost use Rattle.jbig2_base.specs.Search.{place_from};
 ghost use Rattle.jbig2_base.specs.Bits.{bit};
 ghost use Rattle.{jbig2_base.specs.Grid.{differ}, jbig2_mmr.specs.T6.{left_of, is_change_from}};
 ghost use Rattle.jbig2_mmr.specs.inner.T6Reading.{row_of};
+ghost use Rattle.jbig2_mmr.specs.Steps.{MovesWithin};
 ghost use Rattle.jbig2_mmr.specs.inner.T6Calls.{IsWordOf};
 
 use jbig2_base::bitmap::Bitmap;
@@ -34,6 +35,7 @@ impl RowWord {
         ensures value { IsWordOf (row_of bitmap.now y) result }
         ensures index { result.index ≡ index }
         ensures lanes { KeepsLanes steps.old steps.new }
+        ensures steps { steps.new ≡ words_loaded 1 steps.old }
     {
         let pixels = bitmap.load_pixels(64 * index, y, 64, steps);
         let left = left_neighbours(pixels, 0);
@@ -58,6 +60,7 @@ impl RowWord {
         ensures value { IsWordOf (row_of bitmap.now y) result }
         ensures index { result.index ≡ x / 64 }
         ensures lanes { KeepsLanes steps.old steps.new }
+        ensures work { MovesWithin 1 steps.old steps.new }
     {
         if self.index == x / 64 {
             return self;
@@ -76,7 +79,7 @@ impl RowWord {
 
 /// The first column from word `first` on where row `y` turns from the colour `black` to the other
 /// one, else the width. The lowest bit of `before` is the pixel left of that word. Left of column 0
-/// is white, and a row outside is white too.
+/// is white, and a row outside is white too. Each word that is looked at takes one load.
 pub fn find_change<A: Allocator, L: Ledger>(
     bitmap: &Bitmap<A>,
     y: u32,
@@ -89,6 +92,8 @@ pub fn find_change<A: Allocator, L: Ledger>(
     ensures value { result ≡ place_from (is_change_from (row_of bitmap.now y) black) (64 * first)
         bitmap.now.width }
     ensures lanes { KeepsLanes steps.old steps.new }
+    ensures steps { steps.new
+        ≡ words_loaded (words_searched (64 * first) bitmap.now.width result) steps.old }
 {
     let width = bitmap.width();
     let mut before = before;

@@ -1,12 +1,14 @@
 //! One row, mode by mode (T.6, 2.2).
 ghost use Rattle.std.specs.Prelude.{◌≡◌, ℕ, ◌+◌, ◌-◌, ◌*◌, ◌/◌, ◌<◌, ◌≤◌, List, length, IfSome, Some, not, true, false, nat_le, if◌then◌else◌, ◌≢◌};
 ghost use Rattle.jbig2_base.specs.Bits.{bit};
-ghost use Rattle.jbig2_base.specs.Counts.{KeepsLanes};
+ghost use Rattle.jbig2_base.specs.Counts.{KeepsLanes, words_loaded};
 ghost use Rattle.jbig2_base.specs.Grid.{pixel_at};
 ghost use Rattle.jbig2_base.specs.Table.{IsTable};
 ghost use Rattle.jbig2_mmr.specs.T6.{b1_of, after_pass, after_vertical, after_runs, next_step, row};
 ghost use Rattle.jbig2_mmr.specs.inner.T6Calls.{IsWordOf, ReadStep, ReadRow, head_of};
 ghost use Rattle.jbig2_mmr.specs.inner.T6Reading.{row_above, row_of};
+ghost use Rattle.jbig2_mmr.specs.inner.T6Steps.{IsNear, bits_taken, turn_loads, words_after};
+ghost use Rattle.jbig2_mmr.specs.Steps.{MovesWithin};
 
 use crate::mmr::bits::CodeReader;
 use crate::mmr::change::{RowWord, find_change};
@@ -46,6 +48,10 @@ pub fn read_row<A: Allocator, L: Ledger>(
         bitmap.old bitmap.new y reader.new.left }
     ensures bytes { reader.new.bytes ≡ reader.old.bytes }
     ensures lanes { KeepsLanes steps.old steps.new }
+    ensures shorter { result ≡ true → length reader.new.left ≤ length reader.old.left }
+    ensures work { 0 < bitmap.old.width → MovesWithin (3 * ((bitmap.old.width + 63) / 64
+        + bits_taken result (length reader.old.left) (length reader.new.left)))
+        steps.old steps.new }
 {
     let width = bitmap.width();
     let above = reference_row(bitmap, y);
@@ -108,6 +114,7 @@ fn read_turn<A: Allocator, L: Ledger>(
     ensures bytes { reader.new.bytes ≡ reader.old.bytes }
     ensures shorter { IfSome result (λ _. length reader.new.left < length reader.old.left) }
     ensures lanes { KeepsLanes steps.old steps.new }
+    ensures work { MovesWithin (turn_loads bitmap.now.width place.a0 result) steps.old steps.new }
 {
     match reader.read_mode()? {
         Mode::Pass => Some(pass(bitmap, above, word, place, steps)),
@@ -133,6 +140,8 @@ fn pass<A: Allocator, L: Ledger>(
         (after_pass bitmap.now.width (row_of bitmap.now above) (head_of place) bits) (Some result)
         bits }
     ensures lanes { KeepsLanes steps.old steps.new }
+    ensures work { MovesWithin (turn_loads bitmap.now.width place.a0 (Some result)) steps.old
+        steps.new }
 {
     let b1 = find_b1(bitmap, above, word, place, steps);
     if b1 >= bitmap.width() {
@@ -204,6 +213,8 @@ fn vertical<A: Allocator, L: Ledger>(
         (after_vertical bitmap.now.width (row_of bitmap.now above) (head_of place) distance bits)
         result bits }
     ensures lanes { KeepsLanes steps.old steps.new }
+    ensures work { IsNear distance
+        → MovesWithin (turn_loads bitmap.now.width place.a0 result) steps.old steps.new }
 {
     let width = bitmap.width();
     let b1 = find_b1(bitmap, above, word, place, steps);
@@ -241,6 +252,8 @@ fn find_b1<A: Allocator, L: Ledger>(
     ensures forward { place.a0 ≤ result }
     ensures colour { result < bitmap.now.width → row_of bitmap.now above result ≡ not place.black }
     ensures lanes { KeepsLanes steps.old steps.new }
+    ensures steps { steps.new
+        ≡ words_loaded (words_after bitmap.now.width place.a0 result) steps.old }
 {
     let changes = word.changes(place.black) & right_of(place);
     if changes != 0 {

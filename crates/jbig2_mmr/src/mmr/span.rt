@@ -4,6 +4,8 @@ ghost use Rattle.jbig2_base.specs.Counts.{KeepsLanes};
 ghost use Rattle.jbig2_base.specs.Table.{IsTable};
 ghost use Rattle.jbig2_base.specs.Bits.{bit};
 ghost use Rattle.jbig2_mmr.specs.inner.T6Reading.{IsSpan};
+ghost use Rattle.jbig2_mmr.specs.inner.T6Steps.{span_words};
+ghost use Rattle.jbig2_mmr.specs.Steps.{MovesWithin};
 
 use jbig2_base::bitmap::Bitmap;
 use jbig2_base::bitmap::steps::Steps;
@@ -26,6 +28,7 @@ pub fn fill_span<A: Allocator, L: Ledger>(
     requires columns { to ≤ bitmap.old.width }
     ensures value { IsSpan bitmap.old bitmap.new y from to black }
     ensures lanes { KeepsLanes steps.old steps.new }
+    ensures work { MovesWithin (span_words from to) steps.old steps.new }
 {
     let mut x = from;
     while x < to {

@@ -4,6 +4,9 @@ use Rattle.jbig2_base.specs.{Counts.{Counts}, Grid.{Grid}}
 use Rattle.jbig2_coder.specs.Coder.{Coder, Context}
 use Rattle.jbig2_region.specs.{Raster.{Coding}, inner.Codes.{Codes, CountsCodes}}
 
+abbrev pub rest_of : Counts → ℕ × ℕ × ℕ  -- what no pixel of a raster counts: run tests, groups of lanes, single pixels
+rest_of c = (c.run_tests, c.groups, c.pixels)
+
 -- The n pixels of row y from column x on are decoded, and their decisions counted; the bitmap keeps its size, and the
 -- coder its bytes.
 pub record DecodesPixels (coding : Coding) (predicted : Bool) (x y n : ℕ) (grid : Grid) (coder : Coder) (states : List Context) (before : Counts) (grid' : Grid) (coder' : Coder) (states' : List Context) (after : Counts) : Type 0 where
@@ -12,4 +15,4 @@ pub record DecodesPixels (coding : Coding) (predicted : Bool) (x y n : ℕ) (gri
   pub height : grid'.height ≡ grid.height
   pub bytes : coder'.bytes ≡ coder.bytes
   pub decisions : CountsCodes coding predicted x y n grid coder states before.decisions after.decisions
-  pub run_tests : after.run_tests ≡ before.run_tests
+  pub rest : rest_of after ≡ rest_of before

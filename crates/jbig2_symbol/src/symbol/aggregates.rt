@@ -1,6 +1,8 @@
 //! Symbols that are refined from another one or put together from several (T.88, 6.5.8.2).
-ghost use Rattle.std.specs.Prelude.{◌≡◌, ◌+◌, ◌≤◌, length, max};
+ghost use Rattle.std.specs.Prelude.{◌≡◌, ◌+◌, ◌*◌, ◌≤◌, length, max};
 ghost use Rattle.jbig2_base.specs.Answer.{Answers, Gives};
+ghost use Rattle.jbig2_steps.specs.Work.{Paid, PaidBut};
+ghost use Rattle.jbig2_text.specs.Paying.{number_steps};
 ghost use Rattle.jbig2_symbol.specs.SymbolBitmaps.{aggregate_flags, aggregate_params, id_bits, id_codes, put_together, refined_alone, some_instances, state_bits};
 ghost use Rattle.jbig2_base.specs.Causes.{HasCauseOrNoMemory};
 ghost use Rattle.jbig2_symbol.specs.Causes.{BreaksIdCodes};
@@ -10,7 +12,7 @@ ghost use Rattle.jbig2_text.specs.inner.TextViews.{list_view, params_view};
 
 use crate::symbol::header::{SymbolDictionaryFlags, SymbolDictionaryHeader};
 use crate::symbol::input::SymbolInput;
-use jbig2_base::bitmap::steps::Steps;
+use jbig2_base::bitmap::steps::Work;
 use jbig2_base::bitmap::{Bitmap, CombinationOperator};
 use jbig2_base::error::{DecodeError, Result, SymbolError};
 use jbig2_base::search::code_length;
@@ -134,22 +136,23 @@ pub fn refine_alone<R: ReadInstances, A: Allocator, M: Allocator, C: Allocator, 
     symbols: &SymbolList<'_, A>,
     id: i64,
     size: SymbolSize,
-    steps: &mut Steps<L>,
+    work: &mut Work<L>,
 ) -> Result<Bitmap<M>>
-    ensures { let state = R.state readings.old in
+    ensures value { let state = R.state readings.old in
         let all = list_view symbols.now in
         let meant = refined_alone R.readings all id size.width size.height refining.old state in
         Gives (λ g. (g, refining.new, R.state readings.new)) result meant }
+    ensures paid { PaidBut (number_steps 2) work.old work.new }
 {
-    let dx = readings.x_delta(steps)?;
-    let dy = readings.y_delta(steps)?;
+    let dx = readings.x_delta(work)?;
+    let dy = readings.y_delta(work)?;
     let Some(bitmap) = symbols.symbol(id) else {
         return Err(DecodeError::Symbol(SymbolError::OutOfRange));
     };
-    steps.pay_bitmap(size.width, size.height)?;
+    work.pay_bitmap(size.width, size.height)?;
     let mut refined = new_symbol(alloc, size.width, size.height)?;
     let reference = ReferenceBitmap { bitmap, dx, dy };
-    readings.refine(&reference, refining, &mut refined, steps)?;
+    readings.refine(&reference, refining, &mut refined, work)?;
     Ok(refined)
 }
 
@@ -161,16 +164,17 @@ pub fn put_together<R: ReadInstances, A: Allocator, M: Allocator + Clone, C: All
     refining: &mut Refining<C>,
     params: &TextParams<'_, A>,
     size: SymbolSize,
-    steps: &mut Steps<L>,
+    work: &mut Work<L>,
 ) -> Result<Bitmap<M>>
     requires { params.now.flags.log_strip_size ≤ 3 }
-    ensures { let state = R.state readings.old in
+    ensures value { let state = R.state readings.old in
         let p = params_view params.now in
         let meant = put_together R.readings p size.width size.height refining.old state in
         Gives (λ g. (g, refining.new, R.state readings.new)) result meant }
+    ensures paid { Paid work.old work.new }
 {
-    steps.pay_bitmap(size.width, size.height)?;
+    work.pay_bitmap(size.width, size.height)?;
     let mut symbol = new_symbol(alloc.clone()?, size.width, size.height)?;
-    draw_instances_by(alloc, readings, refining, params, &mut symbol, steps)?;
+    draw_instances_by(alloc, readings, refining, params, &mut symbol, work)?;
     Ok(symbol)
 }

@@ -1,15 +1,17 @@
 //! The bitmaps of symbols that prefix codes describe: those of a height class stand side by side in
 //! one collective bitmap (T.88, 6.5.9).
-ghost use Rattle.std.specs.Prelude.{◌≡◌, ◌+◌, ◌*◌, ◌<◌, ◌≤◌, length, sum};
+ghost use Rattle.std.specs.Prelude.{◌≡◌, ◌+◌, ◌*◌, ◌/◌, ◌<◌, ◌≤◌, length, sum, OnOk};
 ghost use Rattle.jbig2_base.specs.Answer.{Gives};
 ghost use Rattle.jbig2_base.specs.Bits.{IsAligned};
+ghost use Rattle.jbig2_base.specs.Counts.{WritesWithin};
 ghost use Rattle.jbig2_base.specs.inner.Filled.{filled};
+ghost use Rattle.jbig2_steps.specs.Work.{Paid, price_of_bitmap};
 ghost use Rattle.jbig2_symbol.specs.SymbolBitmaps.{symbols_cut, raw_pixel, raw_stride, raw_rows, mmr_bytes, rows_of_size};
 ghost use Rattle.jbig2_symbol.specs.inner.SymbolViews.{put_behind};
 
 use jbig2_base::bitmap::Bitmap;
 use jbig2_base::bitmap::part::Area;
-use jbig2_base::bitmap::steps::Steps;
+use jbig2_base::bitmap::steps::{Steps, Work};
 use jbig2_base::error::{DecodeError, OverflowError, Result};
 use jbig2_base::field::bytes_field;
 use jbig2_base::reader::Reader;
@@ -31,8 +33,10 @@ fn fill_row<A: Allocator, L: Ledger>(
     requires sized { length bytes.now ≡ bitmap.old.height * raw_stride bitmap.old.width }
     requires above { bitmap.old ≡ filled bitmap.old.width bitmap.old.height
         (raw_pixel bytes.now (raw_stride bitmap.old.width)) y 0 }
-    ensures { bitmap.new ≡ filled bitmap.old.width bitmap.old.height
+    ensures value { bitmap.new ≡ filled bitmap.old.width bitmap.old.height
         (raw_pixel bytes.now (raw_stride bitmap.old.width)) (y + 1) 0 }
+    ensures steps { let words = (bitmap.old.width + 7) / 8 in
+        WritesWithin words steps.old steps.new }
 {
     let width = bitmap.width();
     let stride = width.div_ceil(8) as usize;
@@ -53,12 +57,13 @@ fn read_raw_rows<A: Allocator, L: Ledger>(
     width: u32,
     height: u32,
     reader: &mut Reader<'_>,
-    steps: &mut Steps<L>,
+    work: &mut Work<L>,
 ) -> Result<Bitmap<A>>
     requires { IsAligned reader.old }
     ensures value { let meant = raw_rows width height reader.old.bytes in
         Gives (λ bitmap. (bitmap, reader.new.bytes)) result meant }
     ensures aligned { IsAligned reader.new }
+    ensures paid { Paid work.old work.new }
 {
     if u64::from(width) * u64::from(height) > MOST_PIXELS {
         return Err(DecodeError::Overflow(OverflowError::BitmapDimension));
@@ -69,10 +74,10 @@ fn read_raw_rows<A: Allocator, L: Ledger>(
     }
     let stride = width.div_ceil(8) as usize;
     let bytes = bytes_field(reader, height as usize * stride)?;
-    steps.pay_bitmap(width, height)?;
+    work.pay_bitmap(width, height)?;
     let mut bitmap = Bitmap::new_wide(alloc, width, height)?;
     for y in 0..height {
-        fill_row(bytes, y, &mut bitmap, steps);
+        fill_row(bytes, y, &mut bitmap, &mut work.steps);
     }
     Ok(bitmap)
 }
@@ -86,17 +91,20 @@ fn read_mmr_rows<A: Allocator, L: Ledger>(
     width: u32,
     height: u32,
     reader: &mut Reader<'_>,
-    steps: &mut Steps<L>,
+    work: &mut Work<L>,
 ) -> Result<Bitmap<A>>
     requires { IsAligned reader.old }
     ensures value { let meant = mmr_bytes strict size width height reader.old.bytes in
         Gives (λ bitmap. (bitmap, reader.new.bytes)) result meant }
     ensures aligned { IsAligned reader.new }
+    ensures paid { Paid work.old work.new }
 {
     let bytes = bytes_field(reader, size)?;
-    steps.pay_bitmap(width, height)?;
+    // Codes may stand for no pixel.
+    work.pay(size as u64)?;
+    work.pay_bitmap(width, height)?;
     let mut bitmap = Bitmap::new_wide(alloc, width, height)?;
-    mmr::decode(&mut bitmap, bytes, strict, steps)?;
+    mmr::decode(&mut bitmap, bytes, strict, &mut work.steps)?;
     Ok(bitmap)
 }
 
@@ -109,17 +117,18 @@ pub fn read_rows<A: Allocator, L: Ledger>(
     width: u32,
     height: u32,
     reader: &mut Reader<'_>,
-    steps: &mut Steps<L>,
+    work: &mut Work<L>,
 ) -> Result<Bitmap<A>>
     requires { IsAligned reader.old }
     ensures value { let meant = rows_of_size strict size width height reader.old.bytes in
         Gives (λ bitmap. (bitmap, reader.new.bytes)) result meant }
     ensures aligned { IsAligned reader.new }
+    ensures paid { Paid work.old work.new }
 {
     if size == 0 {
-        return read_raw_rows(alloc, width, height, reader, steps);
+        return read_raw_rows(alloc, width, height, reader, work);
     }
-    read_mmr_rows(alloc, strict, size, width, height, reader, steps)
+    read_mmr_rows(alloc, strict, size, width, height, reader, work)
 }
 
 /// Puts the symbols of these widths, which stand side by side in a collective bitmap, after those
@@ -130,12 +139,15 @@ pub fn cut_symbols<A: Allocator + Clone, B: Allocator, L: Ledger>(
     height: u32,
     widths: &[u32],
     symbols: &mut Vec<Bitmap<A>, A>,
-    steps: &mut Steps<L>,
+    work: &mut Work<L>,
 ) -> Result<()>
     requires { sum widths.now ≤ 4294967295 }
-    ensures { let cut = symbols_cut collective.now height 0 widths.now in
+    ensures value { let cut = symbols_cut collective.now height 0 widths.now in
         let meant = put_behind symbols.old.items cut in
         Gives (λ _. symbols.new.items) result meant }
+    ensures paid { Paid work.old work.new }
+    ensures count { OnOk result (length symbols.new.items
+        ≡ length symbols.old.items + length widths.now) }
 {
     let mut left = 0;
     for width in widths {
@@ -145,8 +157,8 @@ pub fn cut_symbols<A: Allocator + Clone, B: Allocator, L: Ledger>(
             width: *width,
             height,
         };
-        steps.pay_bitmap(*width, height)?;
-        let symbol = match collective.part(alloc.clone()?, area, steps) {
+        work.pay_bitmap(*width, height)?;
+        let symbol = match collective.part(alloc.clone()?, area, &mut work.steps) {
             Ok(symbol) => symbol,
             Err(error) => return Err(error),
         };

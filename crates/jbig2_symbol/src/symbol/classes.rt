@@ -1,7 +1,10 @@
 //! The height classes of a symbol dictionary (T.88, 6.5.5).
-ghost use Rattle.std.specs.Prelude.{◌≡◌, ◌+◌, ◌<◌, ◌≤◌, length, OnOk};
+ghost use Rattle.std.specs.Prelude.{◌≡◌, ◌+◌, ◌*◌, ◌<◌, ◌≤◌, length, OnOk};
 ghost use Rattle.jbig2_base.specs.Answer.{Answers, Gives};
 ghost use Rattle.jbig2_base.specs.Causes.{HasCause, HasCauseOrNoMemory};
+ghost use Rattle.jbig2_steps.specs.Work.{PaidBut};
+ghost use Rattle.jbig2_text.specs.Paying.{number_steps};
+ghost use Rattle.jbig2_symbol.specs.Paying.{PaidButSymbols, PaysSymbols};
 ghost use Rattle.jbig2_symbol.specs.Causes.{BreaksEmptyClass, BreaksHeightClass};
 ghost use Rattle.jbig2_symbol.specs.HeightClasses.{drawn_class, empty_class, height_class, new_symbols, symbols_from};
 ghost use Rattle.jbig2_symbol.specs.inner.SymbolViews.{behind, class_behind, input_view};
@@ -11,7 +14,7 @@ use crate::symbol::input::SymbolInput;
 use crate::symbol::readings::{ReadClasses, ReadSymbols};
 use crate::symbol::widths::{RunningWidths, size_moved};
 use jbig2_base::bitmap::Bitmap;
-use jbig2_base::bitmap::steps::Steps;
+use jbig2_base::bitmap::steps::Work;
 use jbig2_base::error::{DecodeError, Result, SymbolError};
 use std::alloc::Allocator;
 use std::sync::ledger::Ledger;
@@ -52,25 +55,30 @@ fn read_symbols<R: ReadSymbols, A: Allocator + Clone, T: Allocator, L: Ledger>(
     height: u32,
     bitmaps: &mut Vec<Bitmap<A>, A>,
     readings: &mut R,
-    steps: &mut Steps<L>,
+    work: &mut Work<L>,
 ) -> Result<()>
     requires symbols { length input.now.symbols.now ≤ 2097152 }
     requires fresh { input.now.header.now.num_new_symbols ≤ 1048576 }
-    ensures { let d = input_view input.now in
+    ensures value { let d = input_view input.now in
         let before = bitmaps.old.items in
         let state = R.state readings.old in
         let meant = behind before (symbols_from R.readings d room height 0 0 before state) in
         Gives (λ _. (bitmaps.new.items, R.state readings.new)) result meant }
+    ensures paid { let before = length bitmaps.old.items in
+        PaidButSymbols before (before + room) 1 work.old work.new }
+    ensures exact { let before = length bitmaps.old.items in
+        let after = length bitmaps.new.items in
+        OnOk result (PaysSymbols before after (before + room) 1 work.old work.new) }
 {
     let mut widths = RunningWidths::new(room);
     loop {
-        let width = match widths.read_next(input, readings, steps) {
+        let width = match widths.read_next(input, readings, work) {
             Ok(Some(width)) => width,
             Ok(None) => return Ok(()),
             Err(error) => return Err(error),
         };
         let size = SymbolSize { width, height };
-        let symbol = match readings.symbol_bitmap(alloc.clone()?, input, bitmaps, size, steps) {
+        let symbol = match readings.symbol_bitmap(alloc.clone()?, input, bitmaps, size, work) {
             Ok(symbol) => symbol,
             Err(error) => return Err(error),
         };
@@ -87,19 +95,26 @@ pub fn read_drawn_class<R: ReadSymbols, A: Allocator + Clone, T: Allocator, L: L
     empty: u32,
     bitmaps: &mut Vec<Bitmap<A>, A>,
     readings: &mut R,
-    steps: &mut Steps<L>,
+    work: &mut Work<L>,
 ) -> Result<()>
     requires symbols { length input.now.symbols.now ≤ 2097152 }
     requires fresh { input.now.header.now.num_new_symbols ≤ 1048576 }
     requires room { length bitmaps.old.items ≤ input.now.header.now.num_new_symbols }
-    ensures { let d = input_view input.now in
+    ensures value { let d = input_view input.now in
         let before = bitmaps.old.items in
         let class = drawn_class R.readings d height empty before (R.state readings.old) in
         Gives (λ _. (bitmaps.new.items, R.state readings.new)) result (behind before class) }
+    ensures paid { let before = length bitmaps.old.items in
+        let most = input.now.header.now.num_new_symbols in
+        PaidButSymbols before most 1 work.old work.new }
+    ensures exact { let before = length bitmaps.old.items in
+        let after = length bitmaps.new.items in
+        let most = input.now.header.now.num_new_symbols in
+        OnOk result (PaysSymbols before after most 1 work.old work.new) }
 {
     let before = bitmaps.len();
     let room = input.header.num_new_symbols - before as u32;
-    read_symbols(alloc, input, room, height, bitmaps, readings, steps)?;
+    read_symbols(alloc, input, room, height, bitmaps, readings, work)?;
     check_class(bitmaps.len() - before, empty)
 }
 
@@ -110,7 +125,7 @@ fn read_height_class<R: ReadClasses, A: Allocator + Clone, T: Allocator, L: Ledg
     input: &SymbolInput<'_, A, T>,
     symbols: &mut NewSymbols<A>,
     readings: &mut R,
-    steps: &mut Steps<L>,
+    work: &mut Work<L>,
 ) -> Result<()>
     requires symbols { length input.now.symbols.now ≤ 2097152 }
     requires fresh { input.now.header.now.num_new_symbols ≤ 1048576 }
@@ -132,15 +147,22 @@ fn read_height_class<R: ReadClasses, A: Allocator + Clone, T: Allocator, L: Ledg
         HasCauseOrNoMemory result
         (BreaksHeightClass R.readings d before.height before.empty new state) }
     ensures few { OnOk result (symbols.new.empty ≤ symbols.old.empty + 1) }
+    ensures paid { let before = length symbols.old.bitmaps.items in
+        let most = input.now.header.now.num_new_symbols in
+        PaidButSymbols before most 0 work.old work.new }
+    ensures exact { let before = length symbols.old.bitmaps.items in
+        let after = length symbols.new.bitmaps.items in
+        let most = input.now.header.now.num_new_symbols in
+        OnOk result (PaysSymbols before after most 0 work.old work.new) }
 {
-    steps.pay(CLASS)?;
-    let Some(difference) = readings.height_difference(input, steps)? else {
+    work.pay(CLASS)?;
+    let Some(difference) = readings.height_difference(input, work)? else {
         return Err(DecodeError::Symbol(SymbolError::UnexpectedOob));
     };
     let height = size_moved(symbols.height, difference)?;
     let before = symbols.bitmaps.len();
     let bitmaps = &mut symbols.bitmaps;
-    match readings.class_of_height(alloc, input, height, symbols.empty, bitmaps, steps) {
+    match readings.class_of_height(alloc, input, height, symbols.empty, bitmaps, work) {
         Ok(()) => {}
         Err(error) => return Err(error),
     }
@@ -154,12 +176,14 @@ pub fn read_new_symbols<R: ReadClasses, A: Allocator + Clone, T: Allocator, L: L
     alloc: A,
     input: &SymbolInput<'_, A, T>,
     readings: &mut R,
-    steps: &mut Steps<L>,
+    work: &mut Work<L>,
 ) -> Result<Vec<Bitmap<A>, A>>
     requires symbols { length input.now.symbols.now ≤ 2097152 }
     requires fresh { input.now.header.now.num_new_symbols ≤ 1048576 }
-    ensures { let meant = new_symbols R.readings (input_view input.now) (R.state readings.old) in
+    ensures value { let meant = new_symbols R.readings (input_view input.now) (R.state readings.old) in
         Gives (λ symbols. (symbols.items, R.state readings.new)) result meant }
+    ensures paid { let most = input.now.header.now.num_new_symbols in
+        PaidBut (number_steps (5 * most)) work.old work.new }
 {
     let mut symbols = NewSymbols {
         bitmaps: Vec::new(alloc.clone()?),
@@ -171,7 +195,7 @@ pub fn read_new_symbols<R: ReadClasses, A: Allocator + Clone, T: Allocator, L: L
         if symbols.bitmaps.len() >= input.header.num_new_symbols as usize {
             break;
         }
-        match read_height_class(alloc.clone()?, input, &mut symbols, readings, steps) {
+        match read_height_class(alloc.clone()?, input, &mut symbols, readings, work) {
             Ok(()) => {}
             Err(error) => return Err(error),
         }

@@ -1,8 +1,10 @@
 //! Symbol dictionaries by the arithmetic coder (T.88, 6.5).
-ghost use Rattle.std.specs.Prelude.{◌≡◌, ◌≤◌, length, Ok};
+ghost use Rattle.std.specs.Prelude.{◌≡◌, ◌*◌, ◌≤◌, length, Ok};
 ghost use Rattle.jbig2_base.specs.Answer.{Answers, Gives};
 ghost use Rattle.jbig2_text.specs.TextCoding.{Coded};
 ghost use Rattle.jbig2_text.specs.inner.TextViews.{params_view};
+ghost use Rattle.jbig2_steps.specs.Work.{Paid, PaidBut};
+ghost use Rattle.jbig2_text.specs.Paying.{number_steps};
 ghost use Rattle.jbig2_symbol.specs.SymbolBitmaps.{coded_aggregate, coded_instances, coded_symbol};
 ghost use Rattle.jbig2_symbol.specs.Causes.{BreaksCodedAggregate};
 ghost use Rattle.jbig2_symbol.specs.SymbolCoding.{coded_bitmap, coder_begun};
@@ -21,7 +23,7 @@ use crate::symbol::header::SymbolDictionaryHeader;
 use crate::symbol::input::SymbolInput;
 use crate::symbol::readings::{ReadClasses, ReadSymbols};
 use jbig2_base::bitmap::Bitmap;
-use jbig2_base::bitmap::steps::Steps;
+use jbig2_base::bitmap::steps::Work;
 use jbig2_base::error::Result;
 use jbig2_coder::integer_procedures::IntegerProcedure;
 use jbig2_region::generic::decode_coded;
@@ -63,12 +65,13 @@ impl<A: Allocator> CodedSymbols<'_, A> {
     fn number<L: Ledger>(
         &mut self,
         procedure: IntegerProcedure,
-        steps: &mut Steps<L>,
+        work: &mut Work<L>,
     ) -> Result<Option<i32>>
-        ensures { let meant = by_procedure procedure (coded_view self.old) in
+        ensures value { let meant = by_procedure procedure (coded_view self.old) in
             Answers (λ value. (value, coded_view self.new)) result meant }
+        ensures paid { PaidBut (number_steps 1) work.old work.new }
     {
-        Ok(self.coded.next_integer(procedure, steps))
+        Ok(self.coded.next_integer(procedure, work))
     }
 
     /// The bitmap of a symbol that is coded by itself, which goes on with the dictionary's contexts
@@ -80,13 +83,14 @@ impl<A: Allocator> CodedSymbols<'_, A> {
         header: &SymbolDictionaryHeader<'_>,
         width: u32,
         height: u32,
-        steps: &mut Steps<L>,
+        work: &mut Work<L>,
     ) -> Result<Bitmap<M>>
-        ensures { let h = header_view header.now in
+        ensures value { let h = header_view header.now in
             let meant = coded_symbol h width height (coded_view self.old) in
             Gives (λ symbol. (symbol, coded_view self.new)) result meant }
+        ensures paid { Paid work.old work.new }
     {
-        steps.pay_bitmap(width, height)?;
+        work.pay_bitmap(width, height)?;
         let mut bitmap = Bitmap::new(alloc, width, height)?;
         decode_coded(
             self.contexts.template,
@@ -95,7 +99,7 @@ impl<A: Allocator> CodedSymbols<'_, A> {
             &mut bitmap,
             &mut self.coded.decoder,
             &mut self.contexts.generic,
-            steps,
+            &mut work.steps,
         );
         Ok(bitmap)
     }
@@ -106,20 +110,21 @@ impl<A: Allocator> CodedSymbols<'_, A> {
         alloc: M,
         params: &TextParams<'_, S>,
         size: SymbolSize,
-        steps: &mut Steps<L>,
+        work: &mut Work<L>,
     ) -> Result<Bitmap<M>>
         requires { params.now.flags.log_strip_size ≤ 3 }
-        ensures { let p = params_view params.now in
+        ensures value { let p = params_view params.now in
             let meant = coded_instances p size.width size.height (coded_view self.old) in
             Gives (λ symbol. (symbol, coded_view self.new)) result meant }
+        ensures paid { PaidBut (number_steps 3) work.old work.new }
     {
         let readings = &mut self.coded;
         let refining = &mut self.contexts.refining;
         if params.num_instances != 1 {
-            return put_together(alloc, readings, refining, params, size, steps);
+            return put_together(alloc, readings, refining, params, size, work);
         }
-        let id = readings.next_id(steps);
-        refine_alone(alloc, readings, refining, &params.symbols, id, size, steps)
+        let id = readings.next_id(work);
+        refine_alone(alloc, readings, refining, &params.symbols, id, size, work)
     }
 
     /// A symbol that is refined from another one or put together from several (T.88, 6.5.8.2).
@@ -130,7 +135,7 @@ impl<A: Allocator> CodedSymbols<'_, A> {
         input: &SymbolInput<'_, M, T>,
         new: &[Bitmap<M>],
         size: SymbolSize,
-        steps: &mut Steps<L>,
+        work: &mut Work<L>,
     ) -> Result<Bitmap<M>>
         ensures value { let d = input_view input.now in
             let meant = coded_aggregate d new.now size.width size.height (coded_view self.old) in
@@ -138,10 +143,11 @@ impl<A: Allocator> CodedSymbols<'_, A> {
         ensures causes { let d = input_view input.now in
             HasCauseOrNoMemory result
             (BreaksCodedAggregate d new.now size.width size.height (coded_view self.old)) }
+        ensures paid { PaidBut (number_steps 4) work.old work.new }
     {
-        let count = instance_count(self.number(IntegerProcedure::Iaai, steps)?)?;
+        let count = instance_count(self.number(IntegerProcedure::Iaai, work)?)?;
         let params = aggregate_params(input, new, count);
-        self.read_instances(alloc, &params, size, steps)
+        self.read_instances(alloc, &params, size, work)
     }
 
     /// A symbol's bitmap (T.88, 6.5.8), by the dictionary's flags.
@@ -152,16 +158,17 @@ impl<A: Allocator> CodedSymbols<'_, A> {
         input: &SymbolInput<'_, M, T>,
         new: &[Bitmap<M>],
         size: SymbolSize,
-        steps: &mut Steps<L>,
+        work: &mut Work<L>,
     ) -> Result<Bitmap<M>>
-        ensures { let d = input_view input.now in
+        ensures value { let d = input_view input.now in
             let meant = coded_bitmap d new.now size.width size.height (coded_view self.old) in
             Gives (λ symbol. (symbol, coded_view self.new)) result meant }
+        ensures paid { PaidBut (number_steps 4) work.old work.new }
     {
         if input.header.flags.use_refagg {
-            return self.read_aggregate(alloc, input, new, size, steps);
+            return self.read_aggregate(alloc, input, new, size, work);
         }
-        self.decode_symbol(alloc, input.header, size.width, size.height, steps)
+        self.decode_symbol(alloc, input.header, size.width, size.height, work)
     }
 }
 
@@ -180,9 +187,9 @@ impl<C: Allocator> ReadSymbols for CodedSymbols<'_, C> {
     fn width_difference<A: Allocator, T: Allocator, L: Ledger>(
         &mut self,
         _input: &SymbolInput<'_, A, T>,
-        steps: &mut Steps<L>,
+        work: &mut Work<L>,
     ) -> Result<Option<i32>> {
-        self.number(IntegerProcedure::Iadw, steps)
+        self.number(IntegerProcedure::Iadw, work)
     }
 
     fn symbol_bitmap<A: Allocator + Clone, T: Allocator, L: Ledger>(
@@ -191,9 +198,9 @@ impl<C: Allocator> ReadSymbols for CodedSymbols<'_, C> {
         input: &SymbolInput<'_, A, T>,
         new: &[Bitmap<A>],
         size: SymbolSize,
-        steps: &mut Steps<L>,
+        work: &mut Work<L>,
     ) -> Result<Bitmap<A>> {
-        self.read_bitmap(alloc, input, new, size, steps)
+        self.read_bitmap(alloc, input, new, size, work)
     }
 }
 
@@ -212,9 +219,9 @@ impl<C: Allocator> ReadClasses for CodedSymbols<'_, C> {
     fn height_difference<A: Allocator, T: Allocator, L: Ledger>(
         &mut self,
         _input: &SymbolInput<'_, A, T>,
-        steps: &mut Steps<L>,
+        work: &mut Work<L>,
     ) -> Result<Option<i32>> {
-        self.number(IntegerProcedure::Iadh, steps)
+        self.number(IntegerProcedure::Iadh, work)
     }
 
     fn class_of_height<A: Allocator + Clone, T: Allocator, L: Ledger>(
@@ -224,16 +231,16 @@ impl<C: Allocator> ReadClasses for CodedSymbols<'_, C> {
         height: u32,
         empty: u32,
         bitmaps: &mut Vec<Bitmap<A>, A>,
-        steps: &mut Steps<L>,
+        work: &mut Work<L>,
     ) -> Result<()> {
-        read_drawn_class(alloc, input, height, empty, bitmaps, self, steps)
+        read_drawn_class(alloc, input, height, empty, bitmaps, self, work)
     }
 
     fn export_run<A: Allocator, T: Allocator, L: Ledger>(
         &mut self,
         _input: &SymbolInput<'_, A, T>,
-        steps: &mut Steps<L>,
+        work: &mut Work<L>,
     ) -> Result<Option<i32>> {
-        self.number(IntegerProcedure::Iaex, steps)
+        self.number(IntegerProcedure::Iaex, work)
     }
 }

@@ -1,8 +1,10 @@
 //! The symbols that a dictionary exports (T.88, 6.5.10).
-ghost use Rattle.std.specs.Prelude.{◌≡◌, ◌+◌, ◌<◌, ◌≤◌, ◌++◌, IfOk, length, sum, take, drop, slice_index_or, false, Ok};
+ghost use Rattle.std.specs.Prelude.{◌≡◌, ◌+◌, ◌*◌, ◌<◌, ◌≤◌, ◌++◌, IfOk, length, sum, take, drop, slice_index_or, false, Ok};
 ghost use Rattle.jbig2_base.specs.Answer.{Answers, Gives};
 ghost use Rattle.jbig2_base.specs.Grid.{blank};
 ghost use Rattle.jbig2_base.specs.Causes.{HasCauseOrNoMemory};
+ghost use Rattle.jbig2_steps.specs.Work.{Paid, PaidBut};
+ghost use Rattle.jbig2_text.specs.Paying.{number_steps};
 ghost use Rattle.jbig2_symbol.specs.Causes.{BreaksExports};
 ghost use Rattle.jbig2_symbol.specs.Symbols.{export_runs, exported, exports, next_run};
 ghost use Rattle.jbig2_symbol.specs.inner.SymbolViews.{all_symbols, input_view};
@@ -10,7 +12,7 @@ ghost use Rattle.jbig2_symbol.specs.inner.SymbolViews.{all_symbols, input_view};
 use crate::symbol::input::SymbolInput;
 use crate::symbol::readings::ReadClasses;
 use jbig2_base::bitmap::Bitmap;
-use jbig2_base::bitmap::steps::Steps;
+use jbig2_base::bitmap::steps::Work;
 use jbig2_base::error::{DecodeError, HuffmanError, Result, SymbolError};
 use std::alloc::Allocator;
 use std::sync::ledger::Ledger;
@@ -28,15 +30,16 @@ fn read_run<R: ReadClasses, A: Allocator, T: Allocator, L: Ledger>(
     empty: u32,
     left: u64,
     readings: &mut R,
-    steps: &mut Steps<L>,
+    work: &mut Work<L>,
 ) -> Result<u32>
     ensures value { let d = input_view input.now in
         let meant = next_run R.readings d empty left (R.state readings.old) in
         Answers (λ run. (run, R.state readings.new)) result meant }
     ensures within { IfOk result (λ run. run ≤ left) }
     ensures few { IfOk result (λ run. run ≡ 0 → empty < 1048576) }
+    ensures paid { PaidBut (number_steps 1) work.old work.new }
 {
-    let Some(number) = readings.export_run(input, steps)? else {
+    let Some(number) = readings.export_run(input, work)? else {
         return Err(DecodeError::Huffman(HuffmanError::UnexpectedOob));
     };
     if number < 0 {
@@ -58,13 +61,14 @@ pub fn read_runs<R: ReadClasses, M: Allocator, A: Allocator, T: Allocator, L: Le
     input: &SymbolInput<'_, A, T>,
     count: u64,
     readings: &mut R,
-    steps: &mut Steps<L>,
+    work: &mut Work<L>,
 ) -> Result<Vec<u32, M>>
     requires { count ≤ 9223372036855824384 }
     ensures value { let d = input_view input.now in
         let meant = export_runs R.readings d count (R.state readings.old) in
         Gives (λ runs. (runs.items, R.state readings.new)) result meant }
     ensures whole { IfOk result (λ runs. sum runs.items ≡ count) }
+    ensures paid { Paid work.old work.new }
 {
     let mut runs = Vec::new(alloc);
     let mut left = count;
@@ -74,8 +78,8 @@ pub fn read_runs<R: ReadClasses, M: Allocator, A: Allocator, T: Allocator, L: Le
         if left == 0 {
             break;
         }
-        steps.pay(RUN)?;
-        let run = match read_run(input, empty, left, readings, steps) {
+        work.pay(RUN)?;
+        let run = match read_run(input, empty, left, readings, work) {
             Ok(run) => run,
             Err(error) => return Err(error),
         };
@@ -90,12 +94,13 @@ pub fn read_runs<R: ReadClasses, M: Allocator, A: Allocator, T: Allocator, L: Le
 fn duplicate<A: Allocator, S: Allocator, L: Ledger>(
     alloc: A,
     symbol: &Bitmap<S>,
-    steps: &mut Steps<L>,
+    work: &mut Work<L>,
 ) -> Result<Bitmap<A>>
-    ensures { Gives (λ copy. copy) result (Ok symbol.now) }
+    ensures value { Gives (λ copy. copy) result (Ok symbol.now) }
+    ensures paid { Paid work.old work.new }
 {
-    steps.pay_bitmap(symbol.width(), symbol.height())?;
-    symbol.duplicate(alloc, steps)
+    work.pay_bitmap(symbol.width(), symbol.height())?;
+    symbol.duplicate(alloc, &mut work.steps)
 }
 
 /// A copy of a symbol, by its number among those that are referred to and the new ones after them.
@@ -104,17 +109,18 @@ fn duplicate_symbol<A: Allocator, S: Allocator, L: Ledger>(
     symbols: &[&Bitmap<S>],
     new: &[Bitmap<A>],
     index: usize,
-    steps: &mut Steps<L>,
+    work: &mut Work<L>,
 ) -> Result<Bitmap<A>>
     requires { index < length symbols.now + length new.now }
-    ensures { let all = all_symbols symbols.now new.now in
+    ensures value { let all = all_symbols symbols.now new.now in
         let meant = Ok (slice_index_or all index (blank 0 0 false)) in
         Gives (λ symbol. symbol) result meant }
+    ensures paid { Paid work.old work.new }
 {
     if index < symbols.len() {
-        return duplicate(alloc, symbols[index], steps);
+        return duplicate(alloc, symbols[index], work);
     }
-    duplicate(alloc, &new[index - symbols.len()], steps)
+    duplicate(alloc, &new[index - symbols.len()], work)
 }
 
 /// Puts copies of `count` symbols from number `first` on after those that are exported so far.
@@ -125,15 +131,16 @@ fn push_symbols<A: Allocator + Clone, S: Allocator, L: Ledger>(
     first: usize,
     count: usize,
     exported: &mut Vec<Bitmap<A>, A>,
-    steps: &mut Steps<L>,
+    work: &mut Work<L>,
 ) -> Result<()>
     requires { first + count ≤ length symbols.now + length new.now }
-    ensures { let all = all_symbols symbols.now new.now in
+    ensures value { let all = all_symbols symbols.now new.now in
         let meant = Ok (exported.old.items ++ take count (drop first all)) in
         Gives (λ _. exported.new.items) result meant }
+    ensures paid { Paid work.old work.new }
 {
     for k in 0..count {
-        exported.push(duplicate_symbol(alloc.clone()?, symbols, new, first + k, steps)?)?;
+        exported.push(duplicate_symbol(alloc.clone()?, symbols, new, first + k, work)?)?;
     }
     Ok(())
 }
@@ -144,11 +151,12 @@ pub fn export_symbols<A: Allocator + Clone, S: Allocator, L: Ledger>(
     runs: &[u32],
     symbols: &[&Bitmap<S>],
     new: &[Bitmap<A>],
-    steps: &mut Steps<L>,
+    work: &mut Work<L>,
 ) -> Result<Vec<Bitmap<A>, A>>
     requires { sum runs.now ≡ length symbols.now + length new.now }
-    ensures { let meant = Ok (exported runs.now (all_symbols symbols.now new.now)) in
+    ensures value { let meant = Ok (exported runs.now (all_symbols symbols.now new.now)) in
         Gives (λ symbols. symbols.items) result meant }
+    ensures paid { Paid work.old work.new }
 {
     let mut exported = Vec::new(alloc.clone()?);
     let mut first = 0;
@@ -162,7 +170,7 @@ pub fn export_symbols<A: Allocator + Clone, S: Allocator, L: Ledger>(
                 first,
                 count,
                 &mut exported,
-                steps,
+                work,
             ) {
                 Ok(()) => {}
                 Err(error) => return Err(error),
@@ -180,16 +188,17 @@ fn take_exports<A: Allocator + Clone, S: Allocator, L: Ledger>(
     runs: &[u32],
     symbols: &[&Bitmap<S>],
     new: Vec<Bitmap<A>, A>,
-    steps: &mut Steps<L>,
+    work: &mut Work<L>,
 ) -> Result<Vec<Bitmap<A>, A>>
     requires { sum runs.now ≡ length symbols.now + length new.items }
-    ensures { let meant = Ok (exported runs.now (all_symbols symbols.now new.items)) in
+    ensures value { let meant = Ok (exported runs.now (all_symbols symbols.now new.items)) in
         Gives (λ symbols. symbols.items) result meant }
+    ensures paid { Paid work.old work.new }
 {
     if runs.len() == 2 && runs[0] as usize == symbols.len() {
         return Ok(new);
     }
-    export_symbols(alloc, runs, symbols, &new, steps)
+    export_symbols(alloc, runs, symbols, &new, work)
 }
 
 /// Reads which symbols a dictionary exports, of those that it refers to and the new ones after
@@ -203,7 +212,7 @@ pub fn read_exports<R: ReadClasses, A: Allocator + Clone, T: Allocator, L: Ledge
     input: &SymbolInput<'_, A, T>,
     new: Vec<Bitmap<A>, A>,
     readings: &mut R,
-    steps: &mut Steps<L>,
+    work: &mut Work<L>,
 ) -> Result<Vec<Bitmap<A>, A>>
     requires { length input.now.symbols.now ≤ 2097152 }
     ensures value { let d = input_view input.now in
@@ -213,10 +222,11 @@ pub fn read_exports<R: ReadClasses, A: Allocator + Clone, T: Allocator, L: Ledge
     ensures causes { let d = input_view input.now in
         let all = all_symbols input.now.symbols.now new.items in
         HasCauseOrNoMemory result (BreaksExports R.readings d all (R.state readings.old)) }
+    ensures paid { Paid work.old work.new }
 {
     let count = input.symbols.len() as u64 + new.len() as u64;
-    let runs = read_runs(alloc.clone()?, input, count, readings, steps)?;
-    let exported = take_exports(alloc, &runs, input.symbols, new, steps)?;
+    let runs = read_runs(alloc.clone()?, input, count, readings, work)?;
+    let exported = take_exports(alloc, &runs, input.symbols, new, work)?;
     if exported.len() != input.header.num_exported_symbols as usize {
         return Err(DecodeError::Symbol(SymbolError::NoSymbols));
     }

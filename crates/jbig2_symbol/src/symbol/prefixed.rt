@@ -1,9 +1,12 @@
 //! Symbol dictionaries by prefix codes (T.88, 6.5).
-ghost use Rattle.std.specs.Prelude.{◌≡◌, ◌≤◌, length};
+ghost use Rattle.std.specs.Prelude.{◌≡◌, ◌+◌, ◌*◌, ◌≤◌, length, OnOk};
 ghost use Rattle.jbig2_base.specs.Answer.{Answers, Gives};
 ghost use Rattle.jbig2_base.specs.Bits.{Place};
 ghost use Rattle.jbig2_text.specs.TextCoding.{by_prefix_codes};
 ghost use Rattle.jbig2_text.specs.inner.TextViews as texts;
+ghost use Rattle.jbig2_steps.specs.Work.{Paid, PaidBut};
+ghost use Rattle.jbig2_text.specs.Paying.{number_steps};
+ghost use Rattle.jbig2_symbol.specs.Paying.{PaidButSymbols, PaysSymbols};
 ghost use Rattle.jbig2_symbol.specs.Causes.{BreaksCollectiveBitmap, BreaksPrefixedAggregate};
 ghost use Rattle.jbig2_symbol.specs.SymbolBitmaps.{by_instances, collective_bitmap, plain_id, prefixed_aggregate, prefixed_instances};
 ghost use Rattle.jbig2_symbol.specs.SymbolCoding.{collective_class, prefix_codes_begun};
@@ -23,7 +26,7 @@ use crate::symbol::input::SymbolInput;
 use crate::symbol::readings::{ReadClasses, ReadSymbols};
 use crate::symbol::widths::read_widths;
 use jbig2_base::bitmap::Bitmap;
-use jbig2_base::bitmap::steps::Steps;
+use jbig2_base::bitmap::steps::Work;
 use jbig2_base::error::{DecodeError, HuffmanError, OverflowError, ParseError, Result};
 use jbig2_base::field::bits_field;
 use jbig2_base::reader::Reader;
@@ -40,22 +43,23 @@ fn read_by_instances<T: Allocator, A: Allocator, M: Allocator + Clone, C: Alloca
     id_bits: u8,
     params: &TextParams<'_, A>,
     size: SymbolSize,
-    steps: &mut Steps<L>,
+    work: &mut Work<L>,
 ) -> Result<Bitmap<M>>
     requires bits { id_bits ≤ 32 }
     requires strips { params.now.flags.log_strip_size ≤ 3 }
-    ensures { let state = texts.prefixed_view readings.old in
+    ensures value { let state = texts.prefixed_view readings.old in
         let p = texts.params_view params.now in
         let read = by_instances by_prefix_codes (plain_id id_bits) p in
         let meant = read size.width size.height refining.old state in
         Gives (λ g. (g, refining.new, texts.prefixed_view readings.new)) result meant }
+    ensures paid { PaidBut (number_steps 2) work.old work.new }
 {
     if params.num_instances != 1 {
-        return put_together(alloc, readings, refining, params, size, steps);
+        return put_together(alloc, readings, refining, params, size, work);
     }
     let end = DecodeError::Parse(ParseError::UnexpectedEof);
     let id = i64::from(bits_field(&mut readings.reader, id_bits, end)?);
-    refine_alone(alloc, readings, refining, &params.symbols, id, size, steps)
+    refine_alone(alloc, readings, refining, &params.symbols, id, size, work)
 }
 
 /// The place in the bits, and the contexts of bitmaps and refinements; those of bitmaps stay as
@@ -96,15 +100,16 @@ impl<'a, A: Allocator> PrefixedSymbols<'a, A> {
         input: &SymbolInput<'_, M, T>,
         params: &TextParams<'_, M>,
         size: SymbolSize,
-        steps: &mut Steps<L>,
+        work: &mut Work<L>,
     ) -> Result<Bitmap<M>>
         requires symbols { length input.now.symbols.now ≤ 2097152 }
         requires fresh { input.now.header.now.num_new_symbols ≤ 1048576 }
         requires strips { params.now.flags.log_strip_size ≤ 3 }
-        ensures { let d = input_view input.now in
+        ensures value { let d = input_view input.now in
             let p = texts.params_view params.now in
             let meant = prefixed_instances d p size.width size.height (prefixed_view self.old) in
             Gives (λ symbol. (symbol, prefixed_view self.new)) result meant }
+        ensures paid { PaidBut (number_steps 2) work.old work.new }
     {
         let bits = id_bits(input.header, input.symbols.len()).max(1) as u8;
         let mut readings = PrefixedReadings {
@@ -113,7 +118,7 @@ impl<'a, A: Allocator> PrefixedSymbols<'a, A> {
             ids: input.ids,
         };
         let refining = &mut self.contexts.refining;
-        match read_by_instances(alloc, &mut readings, refining, bits, params, size, steps) {
+        match read_by_instances(alloc, &mut readings, refining, bits, params, size, work) {
             Ok(symbol) => {
                 self.reader = readings.reader;
                 Ok(symbol)
@@ -130,7 +135,7 @@ impl<'a, A: Allocator> PrefixedSymbols<'a, A> {
         input: &SymbolInput<'_, M, T>,
         new: &[Bitmap<M>],
         size: SymbolSize,
-        steps: &mut Steps<L>,
+        work: &mut Work<L>,
     ) -> Result<Bitmap<M>>
         requires symbols { length input.now.symbols.now ≤ 2097152 }
         requires fresh { input.now.header.now.num_new_symbols ≤ 1048576 }
@@ -142,10 +147,11 @@ impl<'a, A: Allocator> PrefixedSymbols<'a, A> {
             let state = prefixed_view self.old in
             HasCauseOrNoMemory result
             (BreaksPrefixedAggregate d new.now size.width size.height state) }
+        ensures paid { PaidBut (number_steps 2) work.old work.new }
     {
         let count = instance_count(self.number(input.tables.counts)?)?;
         let params = aggregate_params(input, new, count);
-        self.read_instances(alloc, input, &params, size, steps)
+        self.read_instances(alloc, input, &params, size, work)
     }
 
     /// The collective bitmap of a height class (T.88, 6.5.9).
@@ -156,7 +162,7 @@ impl<'a, A: Allocator> PrefixedSymbols<'a, A> {
         input: &SymbolInput<'_, S, T>,
         width: u32,
         height: u32,
-        steps: &mut Steps<L>,
+        work: &mut Work<L>,
     ) -> Result<Bitmap<M>>
         ensures value { let d = input_view input.now in
             let meant = collective_bitmap d width height (prefixed_view self.old) in
@@ -164,6 +170,7 @@ impl<'a, A: Allocator> PrefixedSymbols<'a, A> {
         ensures causes { let d = input_view input.now in
             let state = prefixed_view self.old in
             HasCauseOrNoMemory result (BreaksCollectiveBitmap d width height state) }
+        ensures paid { Paid work.old work.new }
     {
         let Some(size) = self.number(input.tables.sizes)? else {
             return Err(DecodeError::Huffman(HuffmanError::UnexpectedOob));
@@ -179,7 +186,7 @@ impl<'a, A: Allocator> PrefixedSymbols<'a, A> {
             width,
             height,
             &mut self.reader,
-            steps,
+            work,
         )
     }
 
@@ -192,20 +199,27 @@ impl<'a, A: Allocator> PrefixedSymbols<'a, A> {
         height: u32,
         empty: u32,
         bitmaps: &mut Vec<Bitmap<M>, M>,
-        steps: &mut Steps<L>,
+        work: &mut Work<L>,
     ) -> Result<()>
         requires { length bitmaps.old.items ≤ input.now.header.now.num_new_symbols }
-        ensures { let d = input_view input.now in
+        ensures value { let d = input_view input.now in
             let before = bitmaps.old.items in
             let class = collective_class d height empty before (prefixed_view self.old) in
             Gives (λ _. (bitmaps.new.items, prefixed_view self.new)) result (behind before class) }
+        ensures paid { let before = length bitmaps.old.items in
+            let most = input.now.header.now.num_new_symbols in
+            PaidButSymbols before most 1 work.old work.new }
+        ensures exact { let before = length bitmaps.old.items in
+            let after = length bitmaps.new.items in
+            let most = input.now.header.now.num_new_symbols in
+            OnOk result (PaysSymbols before after most 1 work.old work.new) }
     {
         let room = input.header.num_new_symbols - bitmaps.len() as u32;
-        let widths = read_widths(alloc.clone()?, input, room, self, steps)?;
+        let widths = read_widths(alloc.clone()?, input, room, self, work)?;
         check_class(widths.each.len(), empty)?;
         let total = widths.total;
-        let collective = self.read_collective(alloc.clone()?, input, total, height, steps)?;
-        cut_symbols(alloc, &collective, height, &widths.each, bitmaps, steps)
+        let collective = self.read_collective(alloc.clone()?, input, total, height, work)?;
+        cut_symbols(alloc, &collective, height, &widths.each, bitmaps, work)
     }
 }
 
@@ -224,7 +238,7 @@ impl<C: Allocator> ReadSymbols for PrefixedSymbols<'_, C> {
     fn width_difference<A: Allocator, T: Allocator, L: Ledger>(
         &mut self,
         input: &SymbolInput<'_, A, T>,
-        _steps: &mut Steps<L>,
+        _work: &mut Work<L>,
     ) -> Result<Option<i32>> {
         self.number(input.tables.widths)
     }
@@ -235,9 +249,9 @@ impl<C: Allocator> ReadSymbols for PrefixedSymbols<'_, C> {
         input: &SymbolInput<'_, A, T>,
         new: &[Bitmap<A>],
         size: SymbolSize,
-        steps: &mut Steps<L>,
+        work: &mut Work<L>,
     ) -> Result<Bitmap<A>> {
-        self.read_aggregate(alloc, input, new, size, steps)
+        self.read_aggregate(alloc, input, new, size, work)
     }
 }
 
@@ -256,7 +270,7 @@ impl<C: Allocator> ReadClasses for PrefixedSymbols<'_, C> {
     fn height_difference<A: Allocator, T: Allocator, L: Ledger>(
         &mut self,
         input: &SymbolInput<'_, A, T>,
-        _steps: &mut Steps<L>,
+        _work: &mut Work<L>,
     ) -> Result<Option<i32>> {
         self.number(input.tables.heights)
     }
@@ -268,18 +282,18 @@ impl<C: Allocator> ReadClasses for PrefixedSymbols<'_, C> {
         height: u32,
         empty: u32,
         bitmaps: &mut Vec<Bitmap<A>, A>,
-        steps: &mut Steps<L>,
+        work: &mut Work<L>,
     ) -> Result<()> {
         if input.header.flags.use_refagg {
-            return read_drawn_class(alloc, input, height, empty, bitmaps, self, steps);
+            return read_drawn_class(alloc, input, height, empty, bitmaps, self, work);
         }
-        self.read_collective_class(alloc, input, height, empty, bitmaps, steps)
+        self.read_collective_class(alloc, input, height, empty, bitmaps, work)
     }
 
     fn export_run<A: Allocator, T: Allocator, L: Ledger>(
         &mut self,
         input: &SymbolInput<'_, A, T>,
-        _steps: &mut Steps<L>,
+        _work: &mut Work<L>,
     ) -> Result<Option<i32>> {
         self.number(input.tables.runs)
     }

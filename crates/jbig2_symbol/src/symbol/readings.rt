@@ -1,13 +1,16 @@
 //! How the symbols of a dictionary are read (T.88, 6.5.5 to 6.5.10).
-ghost use Rattle.std.specs.Prelude.{◌≤◌, length};
+ghost use Rattle.std.specs.Prelude.{◌+◌, ◌*◌, ◌≤◌, length, OnOk};
 ghost use Rattle.jbig2_base.specs.Answer.{Answers, Gives};
+ghost use Rattle.jbig2_steps.specs.Work.{PaidBut};
+ghost use Rattle.jbig2_text.specs.Paying.{number_steps};
+ghost use Rattle.jbig2_symbol.specs.Paying.{PaidButSymbols, PaysSymbols};
 ghost use Rattle.jbig2_symbol.specs.SymbolReading.{ClassReadings, SymbolReadings};
 ghost use Rattle.jbig2_symbol.specs.inner.SymbolViews.{behind, input_view};
 
 use crate::symbol::aggregates::SymbolSize;
 use crate::symbol::input::SymbolInput;
 use jbig2_base::bitmap::Bitmap;
-use jbig2_base::bitmap::steps::Steps;
+use jbig2_base::bitmap::steps::Work;
 use jbig2_base::error::Result;
 use std::alloc::Allocator;
 use std::sync::ledger::Ledger;
@@ -24,10 +27,11 @@ pub trait ReadSymbols {
     fn width_difference<A: Allocator, T: Allocator, L: Ledger>(
         &mut self,
         input: &SymbolInput<'_, A, T>,
-        steps: &mut Steps<L>,
+        work: &mut Work<L>,
     ) -> Result<Option<i32>>
-        ensures { let meant = readings.width_difference (input_view input.now) (state self.old) in
-            Answers (λ value. (value, state self.new)) result meant };
+        ensures value { let meant = readings.width_difference (input_view input.now) (state self.old) in
+            Answers (λ value. (value, state self.new)) result meant }
+        ensures paid { PaidBut (number_steps 1) work.old work.new };
 
     /// The bitmap of a symbol after these new ones (T.88, 6.5.8).
     fn symbol_bitmap<A: Allocator + Clone, T: Allocator, L: Ledger>(
@@ -36,14 +40,15 @@ pub trait ReadSymbols {
         input: &SymbolInput<'_, A, T>,
         new: &[Bitmap<A>],
         size: SymbolSize,
-        steps: &mut Steps<L>,
+        work: &mut Work<L>,
     ) -> Result<Bitmap<A>>
         requires symbols { length input.now.symbols.now ≤ 2097152 }
         requires fresh { input.now.header.now.num_new_symbols ≤ 1048576 }
-        ensures { let d = input_view input.now in
+        ensures value { let d = input_view input.now in
             let before = state self.old in
             let meant = readings.symbol_bitmap d new.now size.width size.height before in
-            Gives (λ symbol. (symbol, state self.new)) result meant };
+            Gives (λ symbol. (symbol, state self.new)) result meant }
+        ensures paid { PaidBut (number_steps 4) work.old work.new };
 }
 
 /// Reads a dictionary, one height class after the other, and what it exports.
@@ -58,10 +63,11 @@ pub trait ReadClasses {
     fn height_difference<A: Allocator, T: Allocator, L: Ledger>(
         &mut self,
         input: &SymbolInput<'_, A, T>,
-        steps: &mut Steps<L>,
+        work: &mut Work<L>,
     ) -> Result<Option<i32>>
-        ensures { let meant = readings.height_difference (input_view input.now) (state self.old) in
-            Answers (λ value. (value, state self.new)) result meant };
+        ensures value { let meant = readings.height_difference (input_view input.now) (state self.old) in
+            Answers (λ value. (value, state self.new)) result meant }
+        ensures paid { PaidBut (number_steps 1) work.old work.new };
 
     /// Puts the symbols of a class of this height after the others; this many classes before it had
     /// none (T.88, 6.5.5, step 4).
@@ -72,22 +78,30 @@ pub trait ReadClasses {
         height: u32,
         empty: u32,
         bitmaps: &mut Vec<Bitmap<A>, A>,
-        steps: &mut Steps<L>,
+        work: &mut Work<L>,
     ) -> Result<()>
         requires symbols { length input.now.symbols.now ≤ 2097152 }
         requires fresh { input.now.header.now.num_new_symbols ≤ 1048576 }
         requires room { length bitmaps.old.items ≤ input.now.header.now.num_new_symbols }
-        ensures { let d = input_view input.now in
+        ensures value { let d = input_view input.now in
             let before = bitmaps.old.items in
             let class = readings.class_of_height d height empty before (state self.old) in
-            Gives (λ _. (bitmaps.new.items, state self.new)) result (behind before class) };
+            Gives (λ _. (bitmaps.new.items, state self.new)) result (behind before class) }
+        ensures paid { let before = length bitmaps.old.items in
+            let most = input.now.header.now.num_new_symbols in
+            PaidButSymbols before most 1 work.old work.new }
+        ensures exact { let before = length bitmaps.old.items in
+            let after = length bitmaps.new.items in
+            let most = input.now.header.now.num_new_symbols in
+            OnOk result (PaysSymbols before after most 1 work.old work.new) };
 
     /// A run of symbols that are exported, or are not, or out of band (T.88, 6.5.10).
     fn export_run<A: Allocator, T: Allocator, L: Ledger>(
         &mut self,
         input: &SymbolInput<'_, A, T>,
-        steps: &mut Steps<L>,
+        work: &mut Work<L>,
     ) -> Result<Option<i32>>
-        ensures { let meant = readings.export_run (input_view input.now) (state self.old) in
-            Answers (λ value. (value, state self.new)) result meant };
+        ensures value { let meant = readings.export_run (input_view input.now) (state self.old) in
+            Answers (λ value. (value, state self.new)) result meant }
+        ensures paid { PaidBut (number_steps 1) work.old work.new };
 }

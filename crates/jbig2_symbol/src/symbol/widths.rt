@@ -1,14 +1,16 @@
 //! The widths of the symbols of a height class (T.88, 6.5.5, step 4 c).
-ghost use Rattle.std.specs.Prelude.{◌≡◌, ◌+◌, pos, ◌+ℤ◌, IfOk, sum};
+ghost use Rattle.std.specs.Prelude.{◌≡◌, ◌+◌, ◌*◌, ◌≤◌, pos, ◌+ℤ◌, length, IfOk, sum};
 ghost use Rattle.jbig2_base.specs.Answer.{Answers, Gives};
 ghost use Rattle.jbig2_base.specs.Causes.{HasCause};
+ghost use Rattle.jbig2_steps.specs.Work.{PaidBut};
+ghost use Rattle.jbig2_text.specs.Paying.{number_steps};
 ghost use Rattle.jbig2_symbol.specs.Causes.{BreaksNextWidth};
 ghost use Rattle.jbig2_symbol.specs.HeightClasses.{next_width, size_in_word, width_by, widths_from};
 ghost use Rattle.jbig2_symbol.specs.inner.SymbolViews.{Moved, input_view, with_total};
 
 use crate::symbol::input::SymbolInput;
 use crate::symbol::readings::ReadSymbols;
-use jbig2_base::bitmap::steps::Steps;
+use jbig2_base::bitmap::steps::Work;
 use jbig2_base::error::{DecodeError, OverflowError, Result, SymbolError};
 use std::alloc::Allocator;
 use std::sync::ledger::Ledger;
@@ -93,7 +95,7 @@ impl RunningWidths {
         &mut self,
         input: &SymbolInput<'_, A, T>,
         readings: &mut R,
-        steps: &mut Steps<L>,
+        work: &mut Work<L>,
     ) -> Result<Option<u32>>
         ensures value { let d = input_view input.now in
             let before = self.old in
@@ -107,8 +109,9 @@ impl RunningWidths {
             HasCause result
             (BreaksNextWidth R.readings d before.left before.width before.total state) }
         ensures moved { IfOk result (λ next. Moved self.old next self.new) }
+        ensures paid { PaidBut (number_steps 1) work.old work.new }
     {
-        let difference = readings.width_difference(input, steps)?;
+        let difference = readings.width_difference(input, work)?;
         self.move_by(difference)
     }
 }
@@ -119,16 +122,20 @@ pub fn read_widths<R: ReadSymbols, M: Allocator, A: Allocator, T: Allocator, L: 
     input: &SymbolInput<'_, A, T>,
     room: u32,
     readings: &mut R,
-    steps: &mut Steps<L>,
+    work: &mut Work<L>,
 ) -> Result<ClassWidths<M>>
-    ensures { let d = input_view input.now in
+    ensures value { let d = input_view input.now in
         let meant = widths_from R.readings d room 0 0 (R.state readings.old) in
         Gives (λ widths. (widths.each.items, R.state readings.new)) result meant }
+    ensures few { IfOk result (λ widths. length widths.each.items ≤ room) }
+    ensures paid { PaidBut (number_steps (room + 1)) work.old work.new }
+    ensures exact { IfOk result
+        (λ widths. PaidBut (number_steps (length widths.each.items + 1)) work.old work.new) }
 {
     let mut each = Vec::new(alloc);
     let mut widths = RunningWidths::new(room);
     loop {
-        let width = match widths.read_next(input, readings, steps) {
+        let width = match widths.read_next(input, readings, work) {
             Ok(Some(width)) => width,
             Ok(None) => {
                 return Ok(ClassWidths {

@@ -1,13 +1,15 @@
 //! The numbers of a text region that the arithmetic coder wrote.
 ghost use Rattle.std.specs.Prelude.{◌≡◌, ◌≤◌, Ok};
 ghost use Rattle.jbig2_base.specs.Answer.{Answers, Gives};
+ghost use Rattle.jbig2_steps.specs.Work.{PaidBut};
+ghost use Rattle.jbig2_text.specs.Paying.{number_steps};
 ghost use Rattle.jbig2_text.specs.TextCoding.{number_by_coder, coded_start, in_band, next_id, next_integer};
 ghost use Rattle.jbig2_text.specs.inner.TextViews.{coded_view};
 
 use crate::text::readings::ReadInstances;
 use crate::text::refining::Refining;
 use jbig2_base::bitmap::Bitmap;
-use jbig2_base::bitmap::steps::Steps;
+use jbig2_base::bitmap::steps::Work;
 use jbig2_base::error::{DecodeError, Result, SymbolError};
 use jbig2_coder::arithmetic_decoder::ArithmeticDecoder;
 use jbig2_coder::integer_procedures::{IntegerProcedure, IntegerProcedures};
@@ -59,11 +61,14 @@ impl<A: Allocator> CodedReadings<'_, A> {
     pub fn next_integer<L: Ledger>(
         &mut self,
         procedure: IntegerProcedure,
-        steps: &mut Steps<L>,
+        work: &mut Work<L>,
     ) -> Option<i32>
-        ensures { (result, coded_view self.new) ≡ next_integer procedure (coded_view self.old) }
+        ensures value { (result, coded_view self.new)
+            ≡ next_integer procedure (coded_view self.old) }
+        ensures paid { PaidBut (number_steps 1) work.old work.new }
     {
-        self.procedures.ask(procedure, &mut self.decoder, steps)
+        self.procedures
+            .ask(procedure, &mut self.decoder, &mut work.steps)
     }
 
     /// The next integer of a procedure.
@@ -73,19 +78,21 @@ impl<A: Allocator> CodedReadings<'_, A> {
     pub fn number<L: Ledger>(
         &mut self,
         procedure: IntegerProcedure,
-        steps: &mut Steps<L>,
+        work: &mut Work<L>,
     ) -> Result<i32>
-        ensures { let meant = number_by_coder procedure (coded_view self.old) in
+        ensures value { let meant = number_by_coder procedure (coded_view self.old) in
             Answers (λ n. (n, coded_view self.new)) result meant }
+        ensures paid { PaidBut (number_steps 1) work.old work.new }
     {
-        in_band(self.next_integer(procedure, steps))
+        in_band(self.next_integer(procedure, work))
     }
 
     /// The next id of a symbol.
-    pub fn next_id<L: Ledger>(&mut self, steps: &mut Steps<L>) -> i64
-        ensures { (result, coded_view self.new) ≡ next_id (coded_view self.old) }
+    pub fn next_id<L: Ledger>(&mut self, work: &mut Work<L>) -> i64
+        ensures value { (result, coded_view self.new) ≡ next_id (coded_view self.old) }
+        ensures paid { PaidBut (number_steps 1) work.old work.new }
     {
-        i64::from(self.ids.decode(&mut self.decoder, steps))
+        i64::from(self.ids.decode(&mut self.decoder, &mut work.steps))
     }
 }
 
@@ -99,45 +106,45 @@ impl<A: Allocator> ReadInstances for CodedReadings<'_, A> {
 
     ghost readings = { by_coder };
 
-    fn delta_t<L: Ledger>(&mut self, steps: &mut Steps<L>) -> Result<i32> {
-        self.number(IntegerProcedure::Iadt, steps)
+    fn delta_t<L: Ledger>(&mut self, work: &mut Work<L>) -> Result<i32> {
+        self.number(IntegerProcedure::Iadt, work)
     }
 
-    fn first_s<L: Ledger>(&mut self, steps: &mut Steps<L>) -> Result<i32> {
-        self.number(IntegerProcedure::Iafs, steps)
+    fn first_s<L: Ledger>(&mut self, work: &mut Work<L>) -> Result<i32> {
+        self.number(IntegerProcedure::Iafs, work)
     }
 
-    fn delta_s<L: Ledger>(&mut self, steps: &mut Steps<L>) -> Result<Option<i32>> {
-        Ok(self.next_integer(IntegerProcedure::Iads, steps))
+    fn delta_s<L: Ledger>(&mut self, work: &mut Work<L>) -> Result<Option<i32>> {
+        Ok(self.next_integer(IntegerProcedure::Iads, work))
     }
 
-    fn t_bits<L: Ledger>(&mut self, _log: u8, steps: &mut Steps<L>) -> Result<i32> {
-        self.number(IntegerProcedure::Iait, steps)
+    fn t_bits<L: Ledger>(&mut self, _log: u8, work: &mut Work<L>) -> Result<i32> {
+        self.number(IntegerProcedure::Iait, work)
     }
 
-    fn id<L: Ledger>(&mut self, steps: &mut Steps<L>) -> Result<i64> {
-        Ok(self.next_id(steps))
+    fn id<L: Ledger>(&mut self, work: &mut Work<L>) -> Result<i64> {
+        Ok(self.next_id(work))
     }
 
-    fn is_refined<L: Ledger>(&mut self, steps: &mut Steps<L>) -> Result<bool> {
-        let flag = self.number(IntegerProcedure::Iari, steps)?;
+    fn is_refined<L: Ledger>(&mut self, work: &mut Work<L>) -> Result<bool> {
+        let flag = self.number(IntegerProcedure::Iari, work)?;
         Ok(flag.unsigned_abs() % 256 != 0)
     }
 
-    fn width_delta<L: Ledger>(&mut self, steps: &mut Steps<L>) -> Result<i32> {
-        self.number(IntegerProcedure::Iardw, steps)
+    fn width_delta<L: Ledger>(&mut self, work: &mut Work<L>) -> Result<i32> {
+        self.number(IntegerProcedure::Iardw, work)
     }
 
-    fn height_delta<L: Ledger>(&mut self, steps: &mut Steps<L>) -> Result<i32> {
-        self.number(IntegerProcedure::Iardh, steps)
+    fn height_delta<L: Ledger>(&mut self, work: &mut Work<L>) -> Result<i32> {
+        self.number(IntegerProcedure::Iardh, work)
     }
 
-    fn x_delta<L: Ledger>(&mut self, steps: &mut Steps<L>) -> Result<i32> {
-        self.number(IntegerProcedure::Iardx, steps)
+    fn x_delta<L: Ledger>(&mut self, work: &mut Work<L>) -> Result<i32> {
+        self.number(IntegerProcedure::Iardx, work)
     }
 
-    fn y_delta<L: Ledger>(&mut self, steps: &mut Steps<L>) -> Result<i32> {
-        self.number(IntegerProcedure::Iardy, steps)
+    fn y_delta<L: Ledger>(&mut self, work: &mut Work<L>) -> Result<i32> {
+        self.number(IntegerProcedure::Iardy, work)
     }
 
     fn refine<M: Allocator, B: Allocator, C: Allocator, L: Ledger>(
@@ -145,9 +152,9 @@ impl<A: Allocator> ReadInstances for CodedReadings<'_, A> {
         reference: &ReferenceBitmap<'_, B>,
         refining: &mut Refining<C>,
         bitmap: &mut Bitmap<M>,
-        steps: &mut Steps<L>,
+        work: &mut Work<L>,
     ) -> Result<()> {
-        refining.refine(reference, bitmap, &mut self.decoder, steps);
+        refining.refine(reference, bitmap, &mut self.decoder, work);
         Ok(())
     }
 }

@@ -1,5 +1,5 @@
 //! Where the symbols of a text region lie (T.88, 6.4.5, step 3 c).
-ghost use Rattle.std.specs.Prelude.{◌≡◌, if◌then◌else◌};
+ghost use Rattle.std.specs.Prelude.{◌≡◌, if◌then◌else◌, IfOk};
 ghost use Rattle.jbig2_base.specs.Answer.{Answers};
 ghost use Rattle.jbig2_text.specs.Text.{is_right, is_bottom, is_last_along_s, grown, edge, symbol_placed};
 ghost use Rattle.jbig2_text.specs.inner.Parts.{s_before, s_behind};
@@ -119,8 +119,9 @@ pub fn place<'a, B: Allocator, M: Allocator>(
     s: i32,
     t: i32,
 ) -> Result<(Instance<'a, B, M>, i32)>
-    ensures { let meant = symbol_placed flags.now (symbol_view symbol.entry) s t in
+    ensures value { let meant = symbol_placed flags.now (symbol_view symbol.entry) s t in
         Answers (λ i. (instance_view i.0, i.1)) result meant }
+    ensures symbol { IfOk result (λ i. symbol_view i.0.symbol ≡ symbol_view symbol.entry) }
 {
     let start = s_before(flags, &symbol, s)?;
     let (column, row) = column_and_row(flags.transposed, start, t);

@@ -9,7 +9,7 @@ use crate::text::readings::ReadInstances;
 use crate::text::refining::Refining;
 use crate::text::tables::TextRegionHuffmanTables;
 use jbig2_base::bitmap::Bitmap;
-use jbig2_base::bitmap::steps::Steps;
+use jbig2_base::bitmap::steps::Work;
 use jbig2_base::error::{DecodeError, HuffmanError, ParseError, Result};
 use jbig2_base::field::{bits_field, bytes_field};
 use jbig2_base::reader::Reader;
@@ -49,19 +49,19 @@ impl<T: Allocator, I: Allocator> ReadInstances for PrefixedReadings<'_, '_, T, I
 
     ghost readings = { by_prefix_codes };
 
-    fn delta_t<L: Ledger>(&mut self, _steps: &mut Steps<L>) -> Result<i32> {
+    fn delta_t<L: Ledger>(&mut self, _work: &mut Work<L>) -> Result<i32> {
         value_field(self.tables.delta_t, &mut self.reader)
     }
 
-    fn first_s<L: Ledger>(&mut self, _steps: &mut Steps<L>) -> Result<i32> {
+    fn first_s<L: Ledger>(&mut self, _work: &mut Work<L>) -> Result<i32> {
         value_field(self.tables.first_s, &mut self.reader)
     }
 
-    fn delta_s<L: Ledger>(&mut self, _steps: &mut Steps<L>) -> Result<Option<i32>> {
+    fn delta_s<L: Ledger>(&mut self, _work: &mut Work<L>) -> Result<Option<i32>> {
         self.tables.delta_s.decode(&mut self.reader)
     }
 
-    fn t_bits<L: Ledger>(&mut self, log: u8, _steps: &mut Steps<L>) -> Result<i32> {
+    fn t_bits<L: Ledger>(&mut self, log: u8, _work: &mut Work<L>) -> Result<i32> {
         let bits = bits_field(
             &mut self.reader,
             log,
@@ -70,12 +70,12 @@ impl<T: Allocator, I: Allocator> ReadInstances for PrefixedReadings<'_, '_, T, I
         Ok(bits as i32)
     }
 
-    fn id<L: Ledger>(&mut self, _steps: &mut Steps<L>) -> Result<i64> {
+    fn id<L: Ledger>(&mut self, _work: &mut Work<L>) -> Result<i64> {
         let id = value_field(self.ids, &mut self.reader)?;
         Ok(i64::from(id))
     }
 
-    fn is_refined<L: Ledger>(&mut self, _steps: &mut Steps<L>) -> Result<bool> {
+    fn is_refined<L: Ledger>(&mut self, _work: &mut Work<L>) -> Result<bool> {
         let bit = bits_field(
             &mut self.reader,
             1,
@@ -84,19 +84,19 @@ impl<T: Allocator, I: Allocator> ReadInstances for PrefixedReadings<'_, '_, T, I
         Ok(bit == 1)
     }
 
-    fn width_delta<L: Ledger>(&mut self, _steps: &mut Steps<L>) -> Result<i32> {
+    fn width_delta<L: Ledger>(&mut self, _work: &mut Work<L>) -> Result<i32> {
         value_field(self.tables.refinement_width, &mut self.reader)
     }
 
-    fn height_delta<L: Ledger>(&mut self, _steps: &mut Steps<L>) -> Result<i32> {
+    fn height_delta<L: Ledger>(&mut self, _work: &mut Work<L>) -> Result<i32> {
         value_field(self.tables.refinement_height, &mut self.reader)
     }
 
-    fn x_delta<L: Ledger>(&mut self, _steps: &mut Steps<L>) -> Result<i32> {
+    fn x_delta<L: Ledger>(&mut self, _work: &mut Work<L>) -> Result<i32> {
         value_field(self.tables.refinement_x, &mut self.reader)
     }
 
-    fn y_delta<L: Ledger>(&mut self, _steps: &mut Steps<L>) -> Result<i32> {
+    fn y_delta<L: Ledger>(&mut self, _work: &mut Work<L>) -> Result<i32> {
         value_field(self.tables.refinement_y, &mut self.reader)
     }
 
@@ -105,12 +105,12 @@ impl<T: Allocator, I: Allocator> ReadInstances for PrefixedReadings<'_, '_, T, I
         reference: &ReferenceBitmap<'_, B>,
         refining: &mut Refining<C>,
         bitmap: &mut Bitmap<M>,
-        steps: &mut Steps<L>,
+        work: &mut Work<L>,
     ) -> Result<()> {
         let size = value_field(self.tables.refinement_size, &mut self.reader)?;
         let bytes = sized_bytes(size, &mut self.reader)?;
         let mut decoder = ArithmeticDecoder::new(bytes);
-        refining.refine(reference, bitmap, &mut decoder, steps);
+        refining.refine(reference, bitmap, &mut decoder, work);
         Ok(())
     }
 }

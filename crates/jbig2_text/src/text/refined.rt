@@ -2,6 +2,8 @@
 ghost use Rattle.std.specs.Prelude.{◌≡◌, ◌≤◌, false, IfOk};
 ghost use Rattle.jbig2_base.specs.Answer.{Answers, Gives};
 ghost use Rattle.jbig2_base.specs.Grid.{blank, blank_or_overflow};
+ghost use Rattle.jbig2_steps.specs.Work.{PaidBut};
+ghost use Rattle.jbig2_text.specs.Paying.{number_steps};
 ghost use Rattle.jbig2_text.specs.Text.{refinement_deltas, refined_outline, refined_symbol};
 ghost use Rattle.jbig2_text.specs.inner.TextViews.{list_view};
 
@@ -10,7 +12,7 @@ use crate::text::readings::ReadInstances;
 use crate::text::refining::Refining;
 use crate::text::symbol_list::SymbolList;
 use jbig2_base::bitmap::Bitmap;
-use jbig2_base::bitmap::steps::Steps;
+use jbig2_base::bitmap::steps::Work;
 use jbig2_base::error::{DecodeError, Result, SymbolError};
 use jbig2_region::generic_refinement::ReferenceBitmap;
 use std::alloc::Allocator;
@@ -38,15 +40,16 @@ pub struct Outline {
 #[tactic(auto, unfolding(crate::specs::Text::refinement_deltas))]
 fn read_deltas<R: ReadInstances, L: Ledger>(
     readings: &mut R,
-    steps: &mut Steps<L>,
+    work: &mut Work<L>,
 ) -> Result<RefinementDeltas>
-    ensures { let meant = refinement_deltas R.readings (R.state readings.old) in
+    ensures value { let meant = refinement_deltas R.readings (R.state readings.old) in
         Answers (λ deltas. (deltas, R.state readings.new)) result meant }
+    ensures paid { PaidBut (number_steps 4) work.old work.new }
 {
-    let width = readings.width_delta(steps)?;
-    let height = readings.height_delta(steps)?;
-    let x = readings.x_delta(steps)?;
-    let y = readings.y_delta(steps)?;
+    let width = readings.width_delta(work)?;
+    let height = readings.height_delta(work)?;
+    let x = readings.x_delta(work)?;
+    let y = readings.y_delta(work)?;
     Ok(RefinementDeltas {
         width,
         height,
@@ -92,24 +95,25 @@ pub fn read_refined<R: ReadInstances, B: Allocator, M: Allocator, C: Allocator, 
     refining: &mut Refining<C>,
     symbols: &SymbolList<'_, B>,
     id: i64,
-    steps: &mut Steps<L>,
+    work: &mut Work<L>,
 ) -> Result<Bitmap<M>>
-    ensures { let state = R.state readings.old in
+    ensures value { let state = R.state readings.old in
         let meant = refined_symbol R.readings (list_view symbols.now) id refining.old state in
         Gives (λ g. (g, refining.new, R.state readings.new)) result meant }
+    ensures paid { PaidBut (number_steps 4) work.old work.new }
 {
     let Some(bitmap) = symbols.symbol(id) else {
         return Err(DecodeError::Symbol(SymbolError::OutOfRange));
     };
-    let deltas = read_deltas(readings, steps)?;
+    let deltas = read_deltas(readings, work)?;
     let outline = outline_of(bitmap, &deltas)?;
-    steps.pay_bitmap(outline.width, outline.height)?;
+    work.pay_bitmap(outline.width, outline.height)?;
     let mut refined = new_symbol(alloc, outline.width, outline.height)?;
     let reference = ReferenceBitmap {
         bitmap,
         dx: outline.dx,
         dy: outline.dy,
     };
-    readings.refine(&reference, refining, &mut refined, steps)?;
+    readings.refine(&reference, refining, &mut refined, work)?;
     Ok(refined)
 }

@@ -1,15 +1,16 @@
 //! Refinements of symbols by contexts that are lent (T.88, 6.4.11).
-ghost use Rattle.std.specs.Prelude.{◌≡◌, ◌≤◌, ◌^◌, length, false, Ok};
+ghost use Rattle.std.specs.Prelude.{◌≡◌, ◌*◌, ◌≤◌, ◌^◌, length, false, Ok};
 ghost use Rattle.jbig2_base.specs.Answer.{Gives};
 ghost use Rattle.jbig2_base.specs.Grid.{blank};
 ghost use Rattle.jbig2_region.specs.RefinementTemplates.{refinement_bits};
 ghost use Rattle.jbig2_region.specs.inner.PixelArrays.{two_pixels, filled};
 ghost use Rattle.jbig2_region.specs.inner.RefinementViews.{reference_view};
+ghost use Rattle.jbig2_steps.specs.Work.{PaidBut, price_of_bitmap};
 ghost use Rattle.jbig2_text.specs.{Refining.{refined_with}, inner.TextViews.{some_pixels}};
 ghost use Rattle.jbig2_text.specs.inner.Parts.{fresh_refining, refining_by};
 
 use jbig2_base::bitmap::Bitmap;
-use jbig2_base::bitmap::steps::Steps;
+use jbig2_base::bitmap::steps::Work;
 use jbig2_base::error::Result;
 use jbig2_coder::arithmetic_decoder::{ArithmeticDecoder, ArithmeticDecoderContext};
 use jbig2_region::generic_refinement::{ReferenceBitmap, decode_bitmap};
@@ -116,14 +117,16 @@ impl<A: Allocator> Refining<A> {
         reference: &ReferenceBitmap<'_, B>,
         bitmap: &mut Bitmap<M>,
         decoder: &mut ArithmeticDecoder<'_>,
-        steps: &mut Steps<L>,
+        work: &mut Work<L>,
     )
         requires columns { bitmap.old.width ≤ 65535 }
         requires rows { bitmap.old.height ≤ 65535 }
         requires white { bitmap.old ≡ blank bitmap.old.width bitmap.old.height false }
-        ensures { let from = reference_view reference.now in
+        ensures value { let from = reference_view reference.now in
             refined_with self.old from bitmap.old.width bitmap.old.height decoder.old
             ≡ record { grid = bitmap.new; coder = decoder.new; refining = self.new } }
+        ensures paid { PaidBut (32 * price_of_bitmap bitmap.old.width bitmap.old.height)
+            work.old work.new }
     {
         refine_by(
             self.template,
@@ -132,7 +135,7 @@ impl<A: Allocator> Refining<A> {
             reference,
             bitmap,
             decoder,
-            steps,
+            work,
         );
     }
 }
@@ -156,7 +159,7 @@ fn refine_by<M: Allocator, B: Allocator, L: Ledger>(
     reference: &ReferenceBitmap<'_, B>,
     bitmap: &mut Bitmap<M>,
     decoder: &mut ArithmeticDecoder<'_>,
-    steps: &mut Steps<L>,
+    work: &mut Work<L>,
 )
     requires size { length contexts.old ≡ 2 ^ refinement_bits template }
     requires columns { bitmap.old.width ≤ 65535 }
@@ -172,9 +175,18 @@ fn refine_by<M: Allocator, B: Allocator, L: Ledger>(
         let from = reference_view reference.now in
         let refined = refined_with f from bitmap.old.width bitmap.old.height decoder.old in
         contexts.new ≡ refined.refining.contexts }
+    ensures paid { PaidBut (32 * price_of_bitmap bitmap.old.width bitmap.old.height)
+        work.old work.new }
 {
     let adaptive = two_of(pixels);
     decode_bitmap(
-        template, false, &adaptive, reference, bitmap, decoder, contexts, steps,
+        template,
+        false,
+        &adaptive,
+        reference,
+        bitmap,
+        decoder,
+        contexts,
+        &mut work.steps,
     );
 }

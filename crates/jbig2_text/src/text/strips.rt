@@ -1,6 +1,8 @@
 //! The strips of a text region (T.88, 6.4.5, steps 1 to 4).
 ghost use Rattle.std.specs.Prelude.{◌≡◌, ◌≤◌};
 ghost use Rattle.jbig2_base.specs.Answer.{Answers};
+ghost use Rattle.jbig2_steps.specs.Work.{PaidBut};
+ghost use Rattle.jbig2_text.specs.Paying.{number_steps};
 ghost use Rattle.jbig2_text.specs.Text.{strip_delta, strip_begun, moved_by, cursor_moved, t_in_strip};
 ghost use Rattle.jbig2_text.specs.inner.Parts.{end_of_strip};
 
@@ -8,7 +10,7 @@ use crate::text::cursor::Cursor;
 use crate::text::header::TextRegionFlags;
 use crate::text::numbers;
 use crate::text::readings::ReadInstances;
-use jbig2_base::bitmap::steps::Steps;
+use jbig2_base::bitmap::steps::Work;
 use jbig2_base::error::{DecodeError, Result, SymbolError};
 use std::sync::ledger::Ledger;
 
@@ -17,13 +19,14 @@ use std::sync::ledger::Ledger;
 pub fn read_strip_delta<R: ReadInstances, L: Ledger>(
     readings: &mut R,
     flags: &TextRegionFlags,
-    steps: &mut Steps<L>,
+    work: &mut Work<L>,
 ) -> Result<i32>
     requires { flags.now.log_strip_size ≤ 3 }
-    ensures { let meant = strip_delta R.readings flags.now (R.state readings.old) in
+    ensures value { let meant = strip_delta R.readings flags.now (R.state readings.old) in
         Answers (λ t. (t, R.state readings.new)) result meant }
+    ensures paid { PaidBut (number_steps 1) work.old work.new }
 {
-    let delta = readings.delta_t(steps)?;
+    let delta = readings.delta_t(work)?;
     numbers::strips(delta, flags.log_strip_size)
 }
 
@@ -35,15 +38,16 @@ pub fn begin_strip<R: ReadInstances, L: Ledger>(
     flags: &TextRegionFlags,
     strip_t: i32,
     first_s: i32,
-    steps: &mut Steps<L>,
+    work: &mut Work<L>,
 ) -> Result<Cursor>
     requires { flags.now.log_strip_size ≤ 3 }
-    ensures { let meant = strip_begun R.readings flags.now strip_t first_s (R.state readings.old) in
+    ensures value { let meant = strip_begun R.readings flags.now strip_t first_s (R.state readings.old) in
         Answers (λ cursor. (cursor, R.state readings.new)) result meant }
+    ensures paid { PaidBut (number_steps 2) work.old work.new }
 {
-    let delta = read_strip_delta(readings, flags, steps)?;
+    let delta = read_strip_delta(readings, flags, work)?;
     let strip_t = numbers::moved(strip_t, delta)?;
-    let first = readings.first_s(steps)?;
+    let first = readings.first_s(work)?;
     let first_s = numbers::moved(first_s, first)?;
     Ok(Cursor {
         strip_t,
@@ -58,14 +62,15 @@ fn move_by<R: ReadInstances, L: Ledger>(
     flags: &TextRegionFlags,
     cursor: Cursor,
     delta: Option<i32>,
-    steps: &mut Steps<L>,
+    work: &mut Work<L>,
 ) -> Result<Cursor>
     requires { flags.now.log_strip_size ≤ 3 }
-    ensures { let meant = moved_by R.readings flags.now cursor delta (R.state readings.old) in
+    ensures value { let meant = moved_by R.readings flags.now cursor delta (R.state readings.old) in
         Answers (λ next. (next, R.state readings.new)) result meant }
+    ensures paid { PaidBut (number_steps 2) work.old work.new }
 {
     let Some(delta) = delta else {
-        return begin_strip(readings, flags, cursor.strip_t, cursor.first_s, steps);
+        return begin_strip(readings, flags, cursor.strip_t, cursor.first_s, work);
     };
     let apart = numbers::moved(cursor.cur_s, delta)?;
     let cur_s = numbers::moved(apart, i32::from(flags.delta_s_offset))?;
@@ -78,30 +83,32 @@ pub fn move_on<R: ReadInstances, L: Ledger>(
     readings: &mut R,
     flags: &TextRegionFlags,
     cursor: Cursor,
-    steps: &mut Steps<L>,
+    work: &mut Work<L>,
 ) -> Result<Cursor>
     requires { flags.now.log_strip_size ≤ 3 }
-    ensures { let meant = cursor_moved R.readings flags.now cursor (R.state readings.old) in
+    ensures value { let meant = cursor_moved R.readings flags.now cursor (R.state readings.old) in
         Answers (λ next. (next, R.state readings.new)) result meant }
+    ensures paid { PaidBut (number_steps 3) work.old work.new }
 {
-    let delta = readings.delta_s(steps)?;
-    move_by(readings, flags, cursor, delta, steps)
+    let delta = readings.delta_s(work)?;
+    move_by(readings, flags, cursor, delta, work)
 }
 
 /// T in the strip, which is 0 in strips of one row.
 pub fn read_t_in_strip<R: ReadInstances, L: Ledger>(
     readings: &mut R,
     flags: &TextRegionFlags,
-    steps: &mut Steps<L>,
+    work: &mut Work<L>,
 ) -> Result<i32>
     requires { flags.now.log_strip_size ≤ 3 }
-    ensures { let meant = t_in_strip R.readings flags.now (R.state readings.old) in
+    ensures value { let meant = t_in_strip R.readings flags.now (R.state readings.old) in
         Answers (λ t. (t, R.state readings.new)) result meant }
+    ensures paid { PaidBut (number_steps 1) work.old work.new }
 {
     if flags.log_strip_size == 0 {
         return Ok(0);
     }
-    readings.t_bits(flags.log_strip_size, steps)
+    readings.t_bits(flags.log_strip_size, work)
 }
 
 /// Whether a strip may end with this difference of S.

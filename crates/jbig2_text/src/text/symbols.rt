@@ -1,6 +1,8 @@
 //! The symbols of a text region's instances (T.88, 6.4.10 and 6.4.11).
 ghost use Rattle.std.specs.Prelude.{◌≡◌, option_map};
 ghost use Rattle.jbig2_base.specs.Answer.{Answers, Gives};
+ghost use Rattle.jbig2_steps.specs.Work.{PaidBut};
+ghost use Rattle.jbig2_text.specs.Paying.{number_steps};
 ghost use Rattle.jbig2_text.specs.Text.{instance_symbol, plain_symbol, symbol_of};
 ghost use Rattle.jbig2_text.specs.inner.Parts.{refinement_flag};
 ghost use Rattle.jbig2_text.specs.inner.TextViews.{list_view, params_view, symbol_view};
@@ -10,7 +12,7 @@ use crate::text::readings::ReadInstances;
 use crate::text::refined::read_refined;
 use crate::text::refining::Refining;
 use crate::text::symbol_list::SymbolList;
-use jbig2_base::bitmap::steps::Steps;
+use jbig2_base::bitmap::steps::Work;
 use jbig2_base::bitmap::{Bitmap, CombinationOperator};
 use jbig2_base::error::{DecodeError, Result, SymbolError};
 use std::alloc::Allocator;
@@ -39,15 +41,16 @@ pub enum InstanceSymbol<'a, B: Allocator, M: Allocator> {
 fn read_refinement_flag<R: ReadInstances, L: Ledger>(
     readings: &mut R,
     flags: &TextRegionFlags,
-    steps: &mut Steps<L>,
+    work: &mut Work<L>,
 ) -> Result<bool>
-    ensures { let meant = refinement_flag R.readings flags.now (R.state readings.old) in
+    ensures value { let meant = refinement_flag R.readings flags.now (R.state readings.old) in
         Answers (λ b. (b, R.state readings.new)) result meant }
+    ensures paid { PaidBut (number_steps 1) work.old work.new }
 {
     if !flags.use_refinement {
         return Ok(false);
     }
-    readings.is_refined(steps)
+    readings.is_refined(work)
 }
 
 /// The symbol of an id as it is. In lenient mode an id without a symbol stands for nothing.
@@ -74,23 +77,25 @@ pub fn read_symbol<'a, R: ReadInstances, B: Allocator, M: Allocator, C: Allocato
     refining: &mut Refining<C>,
     params: &TextParams<'a, B>,
     id: i64,
-    steps: &mut Steps<L>,
+    work: &mut Work<L>,
 ) -> Result<Option<InstanceSymbol<'a, B, M>>>
-    ensures { let state = R.state readings.old in
+    ensures value { let state = R.state readings.old in
         let meant = instance_symbol R.readings (params_view params.now) id refining.old state in
         let view = option_map (λ x. symbol_view x) in
         Gives (λ s. (view s, refining.new, R.state readings.new)) result meant }
+    ensures paid { PaidBut (number_steps 5) work.old work.new }
 {
-    if read_refinement_flag(readings, &params.flags, steps)? {
-        let bitmap = read_refined(alloc, readings, refining, &params.symbols, id, steps)?;
+    if read_refinement_flag(readings, &params.flags, work)? {
+        let bitmap = read_refined(alloc, readings, refining, &params.symbols, id, work)?;
         return Ok(Some(InstanceSymbol::Refined(bitmap)));
     }
     plain_symbol(params, id)
 }
 
 impl<B: Allocator, M: Allocator> InstanceSymbol<'_, B, M> {
-    ghost use Rattle.std.specs.Prelude.{◌≡◌};
+    ghost use Rattle.std.specs.Prelude.{◌≡◌, ◌*◌};
     ghost use Rattle.jbig2_base.specs.Combination.{combined};
+    ghost use Rattle.jbig2_steps.specs.Work.{PaidBut, price_of_bitmap};
     ghost use Rattle.jbig2_text.specs.inner.TextViews.{symbol_view};
 
     /// The number of columns.
@@ -120,13 +125,27 @@ impl<B: Allocator, M: Allocator> InstanceSymbol<'_, B, M> {
         x: i32,
         y: i32,
         operator: CombinationOperator,
-        steps: &mut Steps<L>,
+        work: &mut Work<L>,
     )
-        ensures { region.new ≡ combined operator region.old (symbol_view self.now) x y }
+        ensures value { region.new ≡ combined operator region.old (symbol_view self.now) x y }
+        ensures paid { let symbol = symbol_view self.now in
+            PaidBut (32 * price_of_bitmap symbol.width symbol.height) work.old work.new }
     {
         match self {
-            InstanceSymbol::Shared(bitmap) => region.combine(bitmap, x, y, operator, steps),
-            InstanceSymbol::Refined(bitmap) => region.combine(bitmap, x, y, operator, steps),
+            InstanceSymbol::Shared(bitmap) => region.combine(
+                bitmap,
+                x,
+                y,
+                operator,
+                &mut work.steps,
+            ),
+            InstanceSymbol::Refined(bitmap) => region.combine(
+                bitmap,
+                x,
+                y,
+                operator,
+                &mut work.steps,
+            ),
         }
     }
 }

@@ -1,4 +1,4 @@
-use Rattle.std.proofs.Common.{◌≡◌, ℕ, ◌-◌, ◌/◌, true, false, eqb, List, [], length, drop, ap, sym, subst, ◌∙◌, arith}
+use Rattle.std.proofs.Common.{◌≡◌, ℕ, ◌+◌, ◌-◌, ◌*◌, ◌/◌, ◌<◌, ◌≤◌, true, false, eqb, List, [], length, drop, refl, ap, sym, subst, ◌∙◌, arith}
 use Rattle.std.specs.Prelude.{◌||◌}
 use Rattle.std.proofs.lemmas.Bool.{eq-eqb, or_left, or_right}
 use Rattle.jbig2_base.specs.Answer.{Answers}
@@ -10,6 +10,9 @@ use Rattle.jbig2_mmr.specs.inner.T6Calls.{ReadRow}
 use Rattle.jbig2_mmr.proofs.Causes.{mmr_cause}
 use Rattle.jbig2_mmr.proofs.T6Bits.{end-after, end-none}
 use Rattle.jbig2_mmr.proofs.T6Decoding.{RowsReading, rows-start, rows-grid, rows-early, rows-last, rows-fault, rows-next, answer-whole, answer-missing, answer-none, drawn-none, drawn-rows}
+use Rattle.jbig2_base.specs.declared.error.{DecodeError.TheVariants.{Region}, RegionError.TheVariants.{InvalidMmrData}}
+use Rattle.jbig2_base.proofs.NumberLemmas.{length-bits}
+use Rattle.jbig2_mmr.proofs.T6Steps.{rows_moves, moves-none, moves-most, moves-then, next-moves, stop-moves, all-moves, used-bits, taken-bits, row-bound, both, drop-shorter, end-shorter}
 use Rattle.jbig2_mmr.proofs.mmr.decode.Goals as goal
 use Rattle.jbig2_mmr.proofs.mmr.decode.Goals.{then-width-eq0-via-then-width-eq0, then-width-eq0-via-else-width-eq0+then-height-eq0}
 
@@ -24,6 +27,7 @@ returns-then-width-eq0 g c =
       value = answer-none c.args.strict c.args.bitmap.now c.args.bytes.now c.requires none;
       causes = mmr_cause c.args.strict c.args.bitmap.now.width c.args.bitmap.now.height c.args.bytes.now _ tt;
       lanes = lanes-none c.args.steps.now;
+      work = moves-none _ c.args.steps.now;
       grid = drawn-none c.args.bitmap.now c.args.bytes.now c.requires none;
     }
 
@@ -34,6 +38,9 @@ loop-y-init g c =
       reading = subst (λ (r : Rest). RowsReading c.args.bitmap.now.width c.args.bitmap.now.height 0 r.left c.args.bitmap.now (rows_of c.args.bitmap.now.width c.args.bitmap.now.height c.args.bytes.now)) (sym c.new-reader.ensures)
           (rows-start c.args.bitmap.now c.args.bytes.now c.requires c.width.ensures.table (λ e. c.if-width-eq0.false (c.width.ensures.value ∙ e)) (λ e. c.if-height-eq0.false (c.height-height.ensures.value ∙ e)));
       lanes = lanes-none c.args.steps.now;
+      work = moves-none _ c.args.steps.now;
+      shorter = omega (arith, ap (λ (r : Rest). length r.left) c.new-reader.ensures, length-bits c.args.bytes.now);
+      within = omega arith;
       bytes = ap (λ (r : Rest). r.bytes) c.new-reader.ensures;
     }
 
@@ -55,6 +62,10 @@ returns-then-skip_end_of_block g c =
       value = value;
       causes = mmr_cause c.args.strict w h c.args.bytes.now _ (err-answers _ _ _ value);
       lanes = inv.lanes;
+      work = moves-most (rows_moves ((w + 63) / 64) c.loop-y.y (8 * length c.args.bytes.now - length c.loop-y.reader.left)) _ c.args.steps.now c.loop-y.steps inv.work
+          (all-moves ((w + 63) / 64) c.loop-y.y h (8 * length c.args.bytes.now - length c.loop-y.reader.left) _ inv.within
+          (taken-bits c.args.strict (Region InvalidMmrData) c.bytes_used.result (length c.args.bytes.now) (8 * length c.args.bytes.now - length c.loop-y.reader.left) c.missing_rows.result c.missing_rows.ensures
+          (used-bits (length c.args.bytes.now) (length c.loop-y.reader.left) (length (drop 24 c.loop-y.reader.left)) c.bytes_used.result (drop-shorter 24 c.loop-y.reader.left) used) (omega arith)));
       grid = drawn-rows w h c.args.bytes.now inv.reading.done false (drop 24 c.loop-y.reader.left) c.loop-y.bitmap early drawn;
     }
 
@@ -62,6 +73,7 @@ pub returns-then-not-read_row : goal.returns-then-not-read_row
 returns-then-not-read_row g c =
     let w : ℕ = c.args.bitmap.now.width in
     let h : ℕ = c.args.bitmap.now.height in
+    let wide : 0 < c.args.bitmap.now.width = omega (arith, c.if-width-eq0.false, c.width.ensures.value) in
     let inv = c.loop-y.invariant in
     let goes_on : ends_block c.loop-y.reader.left ≡ false = sym c.if-skip_end_of_block.ensures.value in
     let left : c.skip_end_of_block.new.self.left ≡ c.loop-y.reader.left = ap (λ (r : Rest). r.left) c.skip_end_of_block.ensures.rest ∙ end-none c.loop-y.reader.left goes_on in
@@ -72,6 +84,11 @@ returns-then-not-read_row g c =
       value = value;
       causes = mmr_cause c.args.strict w h c.args.bytes.now _ (err-answers _ _ _ value);
       lanes = lanes-then c.args.steps.now c.loop-y.steps c.read_row.new.steps inv.lanes c.if-not-read_row.ensures.lanes;
+      work = moves-then (rows_moves ((w + 63) / 64) c.loop-y.y (8 * length c.args.bytes.now - length c.loop-y.reader.left)) (3 * ((w + 63) / 64 + length c.loop-y.reader.left)) _ c.args.steps.now c.loop-y.steps c.read_row.new.steps inv.work
+          (row-bound w c.loop-y.bitmap.width (length c.skip_end_of_block.new.self.left) (length c.loop-y.reader.left) c.loop-y.steps c.read_row.new.steps inv.reading.width (ap (λ (ys : List ℕ). length ys) left) wide c.if-not-read_row.ensures.work)
+          (both (stop-moves ((w + 63) / 64) c.loop-y.y (8 * length c.args.bytes.now) (length c.loop-y.reader.left) inv.shorter)
+          (all-moves ((w + 63) / 64) (c.loop-y.y + 1) h (8 * length c.args.bytes.now) _ (omega (arith, c.loop-y-test.true, c.height-height.ensures.value))
+          (taken-bits c.args.strict (Region InvalidMmrData) (length c.args.bytes.now) (length c.args.bytes.now) (8 * length c.args.bytes.now) c.missing_rows-then-not-read_row.result c.missing_rows-then-not-read_row.ensures (omega arith) (omega arith))));
       grid = drawn-rows w h c.args.bytes.now inv.reading.done false [] c.read_row.new.bitmap fault.0 fault.1;
     }
 
@@ -79,13 +96,20 @@ pub loop-y-preserved : goal.loop-y-preserved
 loop-y-preserved g c =
     let w : ℕ = c.args.bitmap.now.width in
     let h : ℕ = c.args.bitmap.now.height in
+    let wide : 0 < c.args.bitmap.now.width = omega (arith, c.if-width-eq0.false, c.width.ensures.value) in
     let inv = c.loop-y.invariant in
     let goes_on : ends_block c.loop-y.reader.left ≡ false = sym c.if-skip_end_of_block.ensures.value in
     let left : c.skip_end_of_block.new.self.left ≡ c.loop-y.reader.left = ap (λ (r : Rest). r.left) c.skip_end_of_block.ensures.rest ∙ end-none c.loop-y.reader.left goes_on in
     let read = subst (λ (ys : List ℕ). ReadRow (row c.loop-y.bitmap.width (row_above c.loop-y.bitmap c.loop-y.y) ys) true c.loop-y.bitmap c.read_row.new.bitmap c.loop-y.y c.read_row.new.reader.left) left c.if-not-read_row.ensures.value in
+    let after : length c.read_row.new.reader.left ≤ length c.loop-y.reader.left = subst (λ (ys : List ℕ). length c.read_row.new.reader.left ≤ length ys) left (c.if-not-read_row.ensures.shorter refl) in
     record {
       reading = rows-next w h c.loop-y.y c.loop-y.reader.left c.read_row.new.reader.left c.loop-y.bitmap c.read_row.new.bitmap (rows_of w h c.args.bytes.now) inv.reading (omega (arith, c.loop-y-test.true, c.height-height.ensures.value)) goes_on read;
       lanes = lanes-then c.args.steps.now c.loop-y.steps c.read_row.new.steps inv.lanes c.if-not-read_row.ensures.lanes;
+      work = moves-then (rows_moves ((w + 63) / 64) c.loop-y.y (8 * length c.args.bytes.now - length c.loop-y.reader.left)) (3 * ((w + 63) / 64 + (length c.loop-y.reader.left - length c.read_row.new.reader.left))) _ c.args.steps.now c.loop-y.steps c.read_row.new.steps inv.work
+          (row-bound w c.loop-y.bitmap.width (length c.skip_end_of_block.new.self.left - length c.read_row.new.reader.left) (length c.loop-y.reader.left - length c.read_row.new.reader.left) c.loop-y.steps c.read_row.new.steps inv.reading.width (ap (λ (ys : List ℕ). length ys - length c.read_row.new.reader.left) left) wide c.if-not-read_row.ensures.work)
+          (next-moves ((w + 63) / 64) c.loop-y.y (8 * length c.args.bytes.now) (length c.loop-y.reader.left) (length c.read_row.new.reader.left) after inv.shorter);
+      shorter = omega (arith, after, inv.shorter);
+      within = omega (arith, c.loop-y-test.true, c.height-height.ensures.value);
       bytes = c.if-not-read_row.ensures.bytes ∙ ap (λ (r : Rest). r.bytes) c.skip_end_of_block.ensures.rest ∙ inv.bytes;
     }
 
@@ -103,5 +127,8 @@ returns g c =
       value = answer-whole c.args.strict w h c.args.bytes.now inv.reading.done (after_end c.loop-y.reader.left) c.loop-y.bitmap c.bytes_used-2.result last drawn used;
       causes = mmr_cause c.args.strict w h c.args.bytes.now _ tt;
       lanes = inv.lanes;
+      work = moves-most (rows_moves ((w + 63) / 64) c.loop-y.y (8 * length c.args.bytes.now - length c.loop-y.reader.left)) _ c.args.steps.now c.loop-y.steps inv.work
+          (all-moves ((w + 63) / 64) c.loop-y.y h (8 * length c.args.bytes.now - length c.loop-y.reader.left) _ inv.within
+          (used-bits (length c.args.bytes.now) (length c.loop-y.reader.left) (length (after_end c.loop-y.reader.left)) c.bytes_used-2.result (end-shorter c.loop-y.reader.left) used));
       grid = drawn-rows w h c.args.bytes.now inv.reading.done true (after_end c.loop-y.reader.left) c.loop-y.bitmap last drawn;
     }

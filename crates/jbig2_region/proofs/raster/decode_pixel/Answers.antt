@@ -4,6 +4,7 @@ use Rattle.jbig2_base.specs.Counts.{Counts}
 use Rattle.jbig2_base.specs.Grid.{Grid}
 use Rattle.jbig2_base.specs.Writes.{with_pixel}
 use Rattle.jbig2_coder.specs.Coder.{Coder, fresh}
+use Rattle.jbig2_region.specs.inner.Stretches.{rest_of}
 use Rattle.jbig2_region.proofs.CodesLemmas.{pixel-known, pixel-decided, pixel-counts}
 use Rattle.jbig2_region.proofs.RasterLemmas.{digit-colour}
 use Rattle.jbig2_region.proofs.raster.decode_pixel.Goals as goal
@@ -17,7 +18,7 @@ returns-in-Some-clause-decoded g c =
       height = ap (λ (b : Grid). b.height) c.set_pixel.ensures.value;
       bytes = refl;
       decisions = pixel-counts (g.C.PixelCoding.coding c.args.coding.now) c.args.row.predicted c.args.x c.args.row.y c.args.bitmap.now c.args.decoder.now c.args.contexts.now (Some c.in-Some.colour) c.args.steps.now.decisions c.set_pixel.new.steps.decisions c.requires.column c.requires.row (sym c.known_colour.ensures.value ∙ c.in-Some.is) (omega arith);
-      run_tests = ap (λ (t : Counts). t.run_tests) c.set_pixel.ensures.steps ∙ ap (λ (t : Counts). t.run_tests) c.known_colour.ensures.steps;
+      rest = ap (λ (t : Counts). rest_of t) c.set_pixel.ensures.steps ∙ ap (λ (t : Counts). rest_of t) c.known_colour.ensures.steps;
     }
 
 pub returns-clause-decoded : goal.returns-clause-decoded
@@ -38,5 +39,5 @@ returns-clause-decoded g c =
       height = ap (λ (b : Grid). b.height) c.set_pixel-2.ensures.value;
       bytes = ap (λ (d : Coder). d.bytes) c.decode-symbol.ensures.coder;
       decisions = pixel-counts (g.C.PixelCoding.coding c.args.coding.now) c.args.row.predicted c.args.x c.args.row.y c.args.bitmap.now c.args.decoder.now c.args.contexts.now None c.args.steps.now.decisions c.set_pixel-2.new.steps.decisions c.requires.column c.requires.row (search rules) (omega arith);
-      run_tests = ap (λ (t : Counts). t.run_tests) c.set_pixel-2.ensures.steps ∙ ap (λ (t : Counts). t.run_tests) c.decode-symbol.ensures.steps ∙ ap (λ (t : Counts). t.run_tests) c.context-context.ensures.steps ∙ ap (λ (t : Counts). t.run_tests) c.known_colour.ensures.steps;
+      rest = ap (λ (t : Counts). rest_of t) c.set_pixel-2.ensures.steps ∙ ap (λ (t : Counts). rest_of t) c.decode-symbol.ensures.steps ∙ ap (λ (t : Counts). rest_of t) c.context-context.ensures.steps ∙ ap (λ (t : Counts). rest_of t) c.known_colour.ensures.steps;
     }

@@ -2,6 +2,7 @@ use Rattle.std.proofs.Common.{arith, ◌≡◌, ℕ, ◌+◌, ◌-◌, ◌*◌, 
 use Rattle.jbig2_base.specs.Counts.{Counts}
 use Rattle.jbig2_base.specs.Grid.{Grid, pixel_at}
 use Rattle.jbig2_base.specs.Bits.{bit}
+use Rattle.jbig2_region.specs.inner.Stretches.{rest_of}
 use Rattle.jbig2_region.specs.inner.Codes.{CountsCodes, Takes}
 use Rattle.jbig2_region.specs.inner.RefinementBlocks.{Block}
 use Rattle.jbig2_region.specs.inner.RefinementViews.{reference_view}
@@ -94,7 +95,7 @@ returns-clause-decoded g c =
       height = ap (λ (b : Grid). b.height) c.store_pixels.ensures.value;
       bytes = c.loop-done-3.invariant.block.bytes;
       decisions = subst (λ (n : ℕ). CountsCodes (windowed_coding c.args.coding.now) c.args.row.predicted c.args.x c.args.row.y c.args.count c.args.bitmap.now c.args.decoder.now c.args.contexts.now c.args.steps.now.decisions n) after whole.decisions;
-      run_tests = ap (λ (t : Counts). t.run_tests) c.store_pixels.ensures.steps ∙ ap (λ (t : Counts). t.run_tests) c.loop-done-3.invariant.block.steps;
+      rest = ap (λ (t : Counts). rest_of t) c.store_pixels.ensures.steps ∙ ap (λ (t : Counts). rest_of t) c.loop-done-3.invariant.block.steps;
     }
 
 pub returns-clause-left : goal.returns-clause-left

@@ -5,7 +5,7 @@ use Rattle.jbig2_base.specs.Grid.{Grid, pixel_at}
 use Rattle.jbig2_region.specs.inner.Holds.{Holds, BeginsRow}
 use Rattle.jbig2_region.specs.inner.RefinementWindows.{windowed_coding}
 use Rattle.jbig2_region.specs.Raster.{Region, no_pixels, row_decisions}
-use Rattle.jbig2_region.specs.inner.Stretches.{DecodesPixels}
+use Rattle.jbig2_region.specs.inner.Stretches.{DecodesPixels, rest_of}
 use Rattle.jbig2_region.specs.Steps.{window_loads}
 use Rattle.jbig2_region.proofs.DecisionLemmas.{Decided, decided-region}
 use Rattle.jbig2_region.proofs.PlaceLemmas.{region-whole}
@@ -35,7 +35,7 @@ loop-y-preserved g c =
     let decoded = subst (λ (n : ℕ). DecodesPixels coding c.begin_row-predicted.result 0 c.loop-y.y n c.loop-y.bitmap c.begin_row-predicted.new.decoder c.begin_row-predicted.new.contexts c.begin_row-predicted.new.steps c.decode_block-pixels.new.bitmap c.decode_block-pixels.new.decoder c.decode_block-pixels.new.contexts c.decode_block-pixels.new.steps) (whole ∙ sym c.loop-y.invariant.rows.width) c.decode_block-pixels.ensures.decoded in
     let lowered = c.lowered-windows.ensures.steps in
     let decided : c.decode_block-pixels.new.steps.decisions ≡ c.lowered-windows.new.steps.decisions = sym (ap (λ (t : Counts). t.decisions) lowered) in
-    let tested : c.lowered-windows.new.steps.run_tests ≡ c.decode_block-pixels.new.steps.run_tests = ap (λ (t : Counts). t.run_tests) lowered in
+    let untouched : rest_of c.lowered-windows.new.steps ≡ rest_of c.decode_block-pixels.new.steps = ap (λ (t : Counts). rest_of t) lowered in
     let words : c.lowered-windows.new.steps.words ≡ c.decode_block-pixels.new.steps.words = ap (λ (t : Counts). t.words) lowered in
     let loads : c.lowered-windows.new.steps.loads ≡ c.decode_block-pixels.new.steps.loads + 1 = ap (λ (t : Counts). t.loads) lowered in
     let begun = c.begin_row-predicted.ensures.steps in
@@ -48,8 +48,8 @@ loop-y-preserved g c =
     record {
       rows =
           rows-until c.decode_block-pixels.new.steps c.lowered-windows.new.steps
-          (rows-next c.begin_row-predicted.result c.begin_row-predicted.new.decoder c.begin_row-predicted.new.contexts c.begin_row-predicted.new.steps c.decode_block-pixels.new.bitmap c.decode_block-pixels.new.decoder c.decode_block-pixels.new.contexts c.decode_block-pixels.new.steps c.loop-y.invariant.rows begin c.begin_row-predicted.ensures.bytes more (ap (λ (s : Counts). s.run_tests) begun) decoded)
-          decided tested;
+          (rows-next c.begin_row-predicted.result c.begin_row-predicted.new.decoder c.begin_row-predicted.new.contexts c.begin_row-predicted.new.steps c.decode_block-pixels.new.bitmap c.decode_block-pixels.new.decoder c.decode_block-pixels.new.contexts c.decode_block-pixels.new.steps c.loop-y.invariant.rows begin c.begin_row-predicted.ensures.bytes more (ap (λ (s : Counts). rest_of s) begun) decoded)
+          decided untouched;
       words = tests-next c.windows_at-windows.new.steps.words c.loop-y.steps.words c.lowered-windows.new.steps.words w c.loop-y.y c.loop-y.invariant.words written;
       loads = omega (arith, loads, same_loads, c.decode_block-pixels.ensures.loads, c.loop-y.invariant.loads);
       sees =
@@ -71,7 +71,7 @@ returns-clause-steps g c =
     let coding = windowed_coding c.args.coding.now in
     let loaded = c.windows_at-windows.ensures.steps in
     let decided : c.windows_at-windows.new.steps.decisions ≡ c.args.steps.now.decisions = ap (λ (t : Counts). t.decisions) loaded in
-    let tested : c.windows_at-windows.new.steps.run_tests ≡ c.args.steps.now.run_tests = ap (λ (t : Counts). t.run_tests) loaded in
+    let untouched : rest_of c.windows_at-windows.new.steps ≡ rest_of c.args.steps.now = ap (λ (t : Counts). rest_of t) loaded in
     let same : c.windows_at-windows.new.steps.words ≡ c.args.steps.now.words = ap (λ (t : Counts). t.words) loaded in
     let more : c.windows_at-windows.new.steps.loads ≡ c.args.steps.now.loads + 4 = ap (λ (t : Counts). t.loads) loaded in
     let all : c.loop-y.y ≡ h = omega arith in
@@ -81,4 +81,4 @@ returns-clause-steps g c =
     decided-region coding (window_loads w) w h c.loop-y.y c.args.decoder.now.bytes start c.args.steps.now c.loop-y.steps
     refl (λ none. absurd (omega (arith, c.requires.some))) all (λ none. absurd (omega (arith, c.requires.rows)))
     (subst (λ (n : ℕ). Decided coding w h c.args.decoder.now.bytes c.loop-y.y start n c.loop-y.steps.decisions) decided c.loop-y.invariant.rows.decisions)
-    (c.loop-y.invariant.rows.run_tests ∙ tested) (subst (λ (n : ℕ). c.loop-y.steps.words ≤ n + c.loop-y.y * w) same c.loop-y.invariant.words) (omega (arith, enough, more, c.loop-y.invariant.loads, c.requires.rows))
+    (c.loop-y.invariant.rows.rest ∙ untouched) (subst (λ (n : ℕ). c.loop-y.steps.words ≤ n + c.loop-y.y * w) same c.loop-y.invariant.words) (omega (arith, enough, more, c.loop-y.invariant.loads, c.requires.rows))

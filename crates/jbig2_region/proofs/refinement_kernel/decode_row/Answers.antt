@@ -1,5 +1,6 @@
 use Rattle.std.proofs.Common.{arith, min, subst, ap, ◌≡◌, ◌+◌, ◌*◌, ◌%◌, ℕ}
 use Rattle.jbig2_base.specs.Counts.{Counts}
+use Rattle.jbig2_region.specs.inner.Stretches.{rest_of}
 use Rattle.jbig2_region.specs.inner.Neighbours.{IsLeft}
 use Rattle.jbig2_region.specs.inner.RefinementWindows.{windowed_coding}
 use Rattle.jbig2_region.proofs.StoreLemmas.{left-none}
@@ -26,11 +27,11 @@ loop-index-preserved g c =
     let place : c.loop-index.index * 32 + c.min-count.result ≡ min ((c.loop-index.index + 1) * 32) c.args.bitmap.now.width = omega arith in
     let loaded = c.windows_at-windows.ensures.steps in
     let decided : c.windows_at-windows.new.steps.decisions ≡ c.loop-index.steps.decisions = ap (λ (t : Counts). t.decisions) loaded in
-    let tested : c.windows_at-windows.new.steps.run_tests ≡ c.loop-index.steps.run_tests = ap (λ (t : Counts). t.run_tests) loaded in
+    let untouched : rest_of c.windows_at-windows.new.steps ≡ rest_of c.loop-index.steps = ap (λ (t : Counts). rest_of t) loaded in
     let more : c.windows_at-windows.new.steps.loads ≡ c.loop-index.steps.loads + 4 = ap (λ (t : Counts). t.loads) loaded in
     let same : c.windows_at-windows.new.steps.words ≡ c.loop-index.steps.words = ap (λ (t : Counts). t.words) loaded in
     record {
-      decoded = pixels-then (min ((c.loop-index.index + 1) * 32) c.args.bitmap.now.width) c.loop-index.invariant.decoded (pixels-since c.loop-index.steps c.windows_at-windows.new.steps c.decode_block-pixels.new.steps c.decode_block-pixels.ensures.decoded decided tested) (omega arith) next;
+      decoded = pixels-then (min ((c.loop-index.index + 1) * 32) c.args.bitmap.now.width) c.loop-index.invariant.decoded (pixels-since c.loop-index.steps c.windows_at-windows.new.steps c.decode_block-pixels.new.steps c.decode_block-pixels.ensures.decoded decided untouched) (omega arith) next;
       few = omega arith;
       left = subst (λ (n : ℕ). IsLeft c.decode_block-pixels.new.bitmap n c.args.row.y (c.decode_block-pixels.result % 16)) place c.decode_block-pixels.ensures.left;
       loads = omega (arith, c.decode_block-pixels.ensures.loads, c.loop-index.invariant.loads);

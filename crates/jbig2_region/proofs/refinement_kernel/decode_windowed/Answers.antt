@@ -1,6 +1,7 @@
 use Rattle.std.proofs.Common.{arith, refl, ◌≡◌, ◌≤◌, ◌+◌, ◌∙◌, ℕ, Option, sym, ap, subst}
 use Rattle.jbig2_base.specs.Counts.{Counts}
 use Rattle.jbig2_base.specs.Grid.{Grid}
+use Rattle.jbig2_region.specs.inner.Stretches.{rest_of}
 use Rattle.jbig2_region.specs.inner.Holds.{Holds, BeginsRow}
 use Rattle.jbig2_region.specs.inner.RefinementWindows.{windowed_coding}
 use Rattle.jbig2_region.specs.Raster.{Region, no_pixels, row_decisions}
@@ -41,7 +42,7 @@ loop-y-preserved g c =
     let loaded : c.decode_row.new.steps.loads ≤ c.loop-y.steps.loads + window_loads w =
     subst (λ (n : ℕ). c.decode_row.new.steps.loads ≤ n + window_loads w) same_loads (subst (λ (n : ℕ). c.decode_row.new.steps.loads ≤ c.begin_row-predicted.new.steps.loads + window_loads n) c.loop-y.invariant.rows.width c.decode_row.ensures.loads) in
     record {
-      rows = rows-next c.begin_row-predicted.result c.begin_row-predicted.new.decoder c.begin_row-predicted.new.contexts c.begin_row-predicted.new.steps c.decode_row.new.bitmap c.decode_row.new.decoder c.decode_row.new.contexts c.decode_row.new.steps c.loop-y.invariant.rows begin c.begin_row-predicted.ensures.bytes more (ap (λ (s : Counts). s.run_tests) begun) c.decode_row.ensures.decoded;
+      rows = rows-next c.begin_row-predicted.result c.begin_row-predicted.new.decoder c.begin_row-predicted.new.contexts c.begin_row-predicted.new.steps c.decode_row.new.bitmap c.decode_row.new.decoder c.decode_row.new.contexts c.decode_row.new.steps c.loop-y.invariant.rows begin c.begin_row-predicted.ensures.bytes more (ap (λ (s : Counts). rest_of s) begun) c.decode_row.ensures.decoded;
       none = λ never. absurd (omega arith);
       words = tests-next c.args.steps.now.words c.loop-y.steps.words c.decode_row.new.steps.words w c.loop-y.y c.loop-y.invariant.words written;
       loads = tests-next c.args.steps.now.loads c.loop-y.steps.loads c.decode_row.new.steps.loads (window_loads w) c.loop-y.y c.loop-y.invariant.loads loaded;
@@ -55,4 +56,4 @@ returns-clause-holds g c =
 pub returns-clause-steps : goal.returns-clause-steps
 returns-clause-steps g c =
     decided-region (windowed_coding c.args.coding.now) (window_loads c.args.bitmap.now.width) c.args.bitmap.now.width c.args.bitmap.now.height c.loop-y.y c.args.decoder.now.bytes (no_pixels c.args.decoder.now.registers c.args.contexts.now) c.args.steps.now c.loop-y.steps
-    refl (λ none. c.if-width-eq0.false (c.width.ensures.value ∙ none)) (omega arith) c.loop-y.invariant.none c.loop-y.invariant.rows.decisions c.loop-y.invariant.rows.run_tests c.loop-y.invariant.words c.loop-y.invariant.loads
+    refl (λ none. c.if-width-eq0.false (c.width.ensures.value ∙ none)) (omega arith) c.loop-y.invariant.none c.loop-y.invariant.rows.decisions c.loop-y.invariant.rows.rest c.loop-y.invariant.words c.loop-y.invariant.loads

@@ -1,16 +1,20 @@
-use Rattle.std.proofs.Common.{◌≡◌, ℕ, ◌+◌, ◌-◌, ◌*◌, ◌/◌, ◌^◌, ◌<◌, ◌≤◌, true, false, cond, leb, Bool, sym, ap, ◌∙◌, ⊎_elim, arith}
+use Rattle.std.proofs.Common.{◌≡◌, ℕ, ◌+◌, ◌-◌, ◌*◌, ◌/◌, ◌^◌, ◌<◌, ◌≤◌, true, false, cond, leb, Bool, refl, sym, ap, ◌∙◌, ⊎_elim, arith}
 use Rattle.std.proofs.lemmas.Bool.{cases_Bool, cond-true, cond-false}
 use Rattle.std.specs.Int.RustNames.{bit_and}
 use Rattle.std.proofs.lemmas.Nat.{and_le_r}
 use Rattle.jbig2_base.specs.Search.{place_from}
 use Rattle.jbig2_base.specs.Bits.{bit}
 use Rattle.jbig2_base.proofs.GridLemmas.{pixel_at-right}
+use Rattle.std.specs.Int.Count.{count_leading_zeros}
+use Rattle.jbig2_base.specs.Counts.{words_searched}
+use Rattle.jbig2_base.proofs.CountLemmas.{loaded-as, loaded-none}
 use Rattle.jbig2_base.proofs.LaneCounts.{lanes-none}
 use Rattle.jbig2_mmr.specs.declared.mmr.change.RowWord.{RowWord}
 use Rattle.jbig2_mmr.specs.T6.{b1_of, is_change_from, left_of}
 use Rattle.jbig2_mmr.specs.inner.T6Reading.{row_of}
 use Rattle.jbig2_mmr.specs.inner.T6Calls.{IsWordOf}
-use Rattle.jbig2_mmr.proofs.T6Changes.{IsChanges, changes-right, changes-none, changes-within, changes-later, last-left, place-turned}
+use Rattle.jbig2_mmr.proofs.T6Changes.{IsChanges, changes-right, changes-none, changes-within, changes-later, last-left, leading-within, place-turned}
+use Rattle.jbig2_mmr.proofs.T6Steps.{same-word, later-word}
 use Rattle.jbig2_mmr.proofs.mmr.row.find_b1.Goals as goal
 
 and-small : (a b : ℕ) → b < 2 ^ 64 → bit_and a b < 2 ^ 64
@@ -49,11 +53,14 @@ returns-then-changes-ne0 g c =
     let value = changes-within row black from (64 * c.args.word.index) (bit_and c.changes.result c.right_of.result) w is c.if-changes-ne0.true (omega (arith, at.1, c.requires.column))
     (λ i a b. absurd (omega (arith, a, b, at.0, c.requires.index))) (λ i past. pixel_at-right c.args.bitmap.now i c.args.above past) in
     let place = place-turned row black from w (omega (arith, at.1, c.requires.column)) in
+    let lead : ℕ = count_leading_zeros 64 (bit_and c.changes.result c.right_of.result) in
+    let few : count_leading_zeros 64 (bit_and c.changes.result c.right_of.result) < 64 = leading-within (bit_and c.changes.result c.right_of.result) is.small c.if-changes-ne0.true in
     record {
       value = value;
       within = omega (arith, value, place.0);
       forward = omega (arith, value, place.1, at.0);
       lanes = lanes-none c.args.steps.now;
+      steps = loaded-none c.args.steps.now _ (sym (same-word w c.args.place.a0 c.args.word.index lead (64 * c.args.word.index + lead) c.requires.index c.requires.column (omega (arith, value, place.1, at.0)) refl few));
       colour = λ inside. ap row value ∙ place.2 (omega (arith, value, inside));
     }
 
@@ -82,5 +89,7 @@ returns g c =
       within = omega (arith, value, place.0);
       forward = omega (arith, value, place.1, at.0);
       lanes = c.find_change.ensures.lanes;
+      steps = loaded-as c.args.steps.now c.find_change.new.steps (words_searched (64 * (c.args.word.index + 1)) w c.find_change.result) _ c.find_change.ensures.steps
+          (later-word w c.args.place.a0 c.args.word.index c.find_change.result c.requires.index c.requires.column (omega (arith, value, place.0)) (λ order. let later = place-turned row black (64 * (c.args.word.index + 1)) w order in omega (arith, later.1, c.find_change.ensures.value)));
       colour = λ inside. ap row value ∙ place.2 (omega (arith, value, inside));
     }

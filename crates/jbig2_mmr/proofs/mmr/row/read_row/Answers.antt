@@ -1,9 +1,12 @@
-use Rattle.std.proofs.Common.{ℕ, Bool, not, false, refl, sym, ap, subst, ◌∙◌, arith}
+use Rattle.std.proofs.Common.{ℕ, ◌+◌, ◌-◌, Bool, not, false, length, refl, sym, ap, subst, ◌∙◌, arith}
+use Rattle.std.proofs.lemmas.Bool.{true≢false}
 use Rattle.jbig2_base.proofs.LaneCounts.{lanes-then}
 use Rattle.jbig2_mmr.specs.T6.{row}
 use Rattle.jbig2_mmr.specs.inner.T6Reading.{row_of, row_above, IsSpan}
 use Rattle.jbig2_mmr.specs.inner.T6Calls.{head_of, IsWordOf}
 use Rattle.jbig2_mmr.proofs.T6Rows.{RowReading, row-start, row-next, row-done, row-fault, above-same, span-white, turn-within}
+use Rattle.jbig2_mmr.specs.inner.T6Steps.{words_after, span_words}
+use Rattle.jbig2_mmr.proofs.T6Steps.{row_moves, moves-loaded, moves-most, moves-then, turn-moves, fault-moves, last-moves}
 use Rattle.jbig2_mmr.proofs.mmr.row.read_row.Goals as goal
 
 pub loop-place-init : goal.loop-place-init
@@ -14,6 +17,8 @@ loop-place-init g c =
       word = subst (λ (row : ℕ → Bool). IsWordOf row c.load-word.result) same c.load-word.ensures.value;
       bytes = refl;
       lanes = c.load-word.ensures.lanes;
+      work = moves-loaded 1 _ c.args.steps.now c.load-word.new.steps c.load-word.ensures.steps (omega arith);
+      shorter = omega arith;
     }
 
 pub at-word-requires : goal.at-word-requires
@@ -34,6 +39,11 @@ loop-place-preserved-then-place g c =
       reading = subst (λ (b : Bool). RowReading c.args.bitmap.now c.fill_span.new.bitmap c.args.y (record { a0 = c.in-Some.turn.next.a0; begun = b; black = c.in-Some.turn.next.black }) c.read_turn.new.reader.left (row c.args.bitmap.now.width (row_above c.args.bitmap.now c.args.y) c.args.reader.now.left)) within.3 next;
       word = subst (λ (row : ℕ → Bool). IsWordOf row c.at-word.result) same c.at-word.ensures.value;
       bytes = c.in-Some.ensures.bytes ∙ inv.bytes;
+      work = moves-then (row_moves c.loop-place.place.a0 (length c.args.reader.now.left - length c.loop-place.reader.left)) (1 + (words_after c.loop-place.bitmap.width c.loop-place.place.a0 c.in-Some.turn.next.a0 + 1 + span_words c.loop-place.place.a0 c.in-Some.turn.turn)) _ c.args.steps.now c.loop-place.steps c.fill_span.new.steps inv.work
+          (moves-then 1 (words_after c.loop-place.bitmap.width c.loop-place.place.a0 c.in-Some.turn.next.a0 + 1 + span_words c.loop-place.place.a0 c.in-Some.turn.turn) _ c.loop-place.steps c.at-word.new.steps c.fill_span.new.steps c.at-word.ensures.work
+          (moves-then (words_after c.loop-place.bitmap.width c.loop-place.place.a0 c.in-Some.turn.next.a0 + 1) (span_words c.loop-place.place.a0 c.in-Some.turn.turn) _ c.at-word.new.steps c.read_turn.new.steps c.fill_span.new.steps c.in-Some.ensures.work c.fill_span.ensures.work (omega arith)) (omega arith))
+          (turn-moves c.loop-place.bitmap.width c.loop-place.place.a0 c.loop-place.place.a0 c.in-Some.turn.turn c.in-Some.turn.next.a0 (length c.args.reader.now.left) (length c.loop-place.reader.left) (length c.read_turn.new.reader.left) (omega arith) (omega (arith, within.1)) (omega (arith, within.0, within.1)) c.in-Some.ensures.shorter inv.shorter);
+      shorter = omega (arith, c.in-Some.ensures.shorter, inv.shorter);
       lanes = lanes-then c.args.steps.now c.read_turn.new.steps c.fill_span.new.steps (lanes-then c.args.steps.now c.at-word.new.steps c.read_turn.new.steps (lanes-then c.args.steps.now c.loop-place.steps c.at-word.new.steps inv.lanes c.at-word.ensures.lanes) c.in-Some.ensures.lanes) c.fill_span.ensures.lanes;
     }
 
@@ -49,6 +59,11 @@ loop-place-preserved g c =
       reading = subst (λ (b : Bool). RowReading c.args.bitmap.now c.fill_span-else-place.new.bitmap c.args.y (record { a0 = c.in-Some.turn.next.a0; begun = b; black = c.in-Some.turn.next.black }) c.read_turn.new.reader.left (row c.args.bitmap.now.width (row_above c.args.bitmap.now c.args.y) c.args.reader.now.left)) within.3 next;
       word = subst (λ (row : ℕ → Bool). IsWordOf row c.at-word.result) same c.at-word.ensures.value;
       bytes = c.in-Some.ensures.bytes ∙ inv.bytes;
+      work = moves-then (row_moves c.loop-place.place.a0 (length c.args.reader.now.left - length c.loop-place.reader.left)) (1 + (words_after c.loop-place.bitmap.width c.loop-place.place.a0 c.in-Some.turn.next.a0 + 1 + span_words c.in-Some.turn.turn c.in-Some.turn.next.a0)) _ c.args.steps.now c.loop-place.steps c.fill_span-else-place.new.steps inv.work
+          (moves-then 1 (words_after c.loop-place.bitmap.width c.loop-place.place.a0 c.in-Some.turn.next.a0 + 1 + span_words c.in-Some.turn.turn c.in-Some.turn.next.a0) _ c.loop-place.steps c.at-word.new.steps c.fill_span-else-place.new.steps c.at-word.ensures.work
+          (moves-then (words_after c.loop-place.bitmap.width c.loop-place.place.a0 c.in-Some.turn.next.a0 + 1) (span_words c.in-Some.turn.turn c.in-Some.turn.next.a0) _ c.at-word.new.steps c.read_turn.new.steps c.fill_span-else-place.new.steps c.in-Some.ensures.work c.fill_span-else-place.ensures.work (omega arith)) (omega arith))
+          (turn-moves c.loop-place.bitmap.width c.loop-place.place.a0 c.in-Some.turn.turn c.in-Some.turn.next.a0 c.in-Some.turn.next.a0 (length c.args.reader.now.left) (length c.loop-place.reader.left) (length c.read_turn.new.reader.left) (omega (arith, within.0)) (omega arith) (omega (arith, within.0, within.1)) c.in-Some.ensures.shorter inv.shorter);
+      shorter = omega (arith, c.in-Some.ensures.shorter, inv.shorter);
       lanes = lanes-then c.args.steps.now c.read_turn.new.steps c.fill_span-else-place.new.steps (lanes-then c.args.steps.now c.at-word.new.steps c.read_turn.new.steps (lanes-then c.args.steps.now c.loop-place.steps c.at-word.new.steps inv.lanes c.at-word.ensures.lanes) c.in-Some.ensures.lanes) c.fill_span-else-place.ensures.lanes;
     }
 
@@ -64,3 +79,27 @@ returns-clause-value g c = row-done c.args.bitmap.now c.loop-place.bitmap c.args
 
 pub returns-in-None-clause-lanes : goal.returns-in-None-clause-lanes
 returns-in-None-clause-lanes g c = lanes-then c.args.steps.now c.read_turn.new.steps c.fill_span-in-None.new.steps (lanes-then c.args.steps.now c.at-word.new.steps c.read_turn.new.steps (lanes-then c.args.steps.now c.loop-place.steps c.at-word.new.steps c.loop-place.invariant.lanes c.at-word.ensures.lanes) c.in-None.ensures.lanes) c.fill_span-in-None.ensures.lanes
+
+pub returns-in-None-clause-shorter : goal.returns-in-None-clause-shorter
+returns-in-None-clause-shorter g c = λ e. absurd (true≢false (sym e))
+
+pub returns-clause-shorter : goal.returns-clause-shorter
+returns-clause-shorter g c = λ e. c.loop-place.invariant.shorter
+
+pub returns-in-None-clause-work : goal.returns-in-None-clause-work
+returns-in-None-clause-work g c = λ wide.
+    let inv = c.loop-place.invariant in
+    let w : ℕ = c.args.bitmap.now.width in
+    let here : ℕ = c.loop-place.bitmap.width in
+    let to : ℕ = c.width-width.result in
+    let a0 : ℕ = c.loop-place.place.a0 in
+    moves-then (row_moves a0 (length c.args.reader.now.left - length c.loop-place.reader.left)) (1 + (words_after here a0 here + span_words 0 to)) _ c.args.steps.now c.loop-place.steps c.fill_span-in-None.new.steps inv.work
+    (moves-then 1 (words_after here a0 here + span_words 0 to) _ c.loop-place.steps c.at-word.new.steps c.fill_span-in-None.new.steps c.at-word.ensures.work
+    (moves-then (words_after here a0 here) (span_words 0 to) _ c.at-word.new.steps c.read_turn.new.steps c.fill_span-in-None.new.steps c.in-None.ensures.work c.fill_span-in-None.ensures.work (omega arith)) (omega arith))
+    (fault-moves w here to a0 (length c.args.reader.now.left) (length c.loop-place.reader.left) inv.reading.width c.width-width.ensures.value (omega (arith, c.loop-place-test.true, c.width-width.ensures.value)))
+
+pub returns-clause-work : goal.returns-clause-work
+returns-clause-work g c = λ wide.
+    let inv = c.loop-place.invariant in
+    let read : ℕ = length c.args.reader.now.left - length c.loop-place.reader.left in
+    moves-most (row_moves c.loop-place.place.a0 read) _ c.args.steps.now c.loop-place.steps inv.work (last-moves c.args.bitmap.now.width c.loop-place.place.a0 read wide inv.reading.inside)

@@ -2,6 +2,7 @@ use Rattle.std.proofs.Common.{arith, ◌≡◌, ℕ, ◌+◌, ◌-◌, ◌*◌, 
 use Rattle.jbig2_base.specs.Counts.{Counts}
 use Rattle.jbig2_base.specs.Grid.{Grid}
 use Rattle.jbig2_base.specs.Bits.{bit}
+use Rattle.jbig2_region.specs.inner.Stretches.{rest_of}
 use Rattle.jbig2_region.specs.{inner.RegionViews.{skip_of}, Generic.{skipping_coding}}
 use Rattle.jbig2_region.specs.inner.Codes.{CountsCodes}
 use Rattle.jbig2_region.specs.inner.Neighbours.{nominal_pixels}
@@ -37,7 +38,7 @@ returns-clause-decoded g c =
       height = ap (λ (b : Grid). b.height) c.store_pixels.ensures.value;
       bytes = c.loop-offset.invariant.bytes;
       decisions = subst (λ (n : ℕ). CountsCodes (skipping_coding (nominal_pixels c.args.neighbours) (skip_of c.args.skip)) false c.args.x c.args.y c.args.count c.args.bitmap.now c.args.decoder.now c.args.contexts.now c.args.steps.now.decisions n) after (subst (λ (n : ℕ). CountsCodes (skipping_coding (nominal_pixels c.args.neighbours) (skip_of c.args.skip)) false c.args.x c.args.y c.args.count c.args.bitmap.now c.args.decoder.now c.args.contexts.now n c.loop-offset.steps.decisions) before whole.decisions);
-      run_tests = ap (λ (t : Counts). t.run_tests) c.store_pixels.ensures.steps ∙ ap (λ (t : Counts). t.run_tests) c.loop-offset.invariant.steps ∙ ap (λ (t : Counts). t.run_tests) c.mask_at-mask.ensures.steps ∙ ap (λ (t : Counts). t.run_tests) c.windows_at-windows.ensures.steps;
+      rest = ap (λ (t : Counts). rest_of t) c.store_pixels.ensures.steps ∙ ap (λ (t : Counts). rest_of t) c.loop-offset.invariant.steps ∙ ap (λ (t : Counts). rest_of t) c.mask_at-mask.ensures.steps ∙ ap (λ (t : Counts). rest_of t) c.windows_at-windows.ensures.steps;
     }
 
 pub returns-clause-left : goal.returns-clause-left

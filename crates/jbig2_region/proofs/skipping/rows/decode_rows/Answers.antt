@@ -1,4 +1,4 @@
-use Rattle.std.proofs.Common.{◌≡◌, ◌≤◌, ℕ, ◌+◌, false, None, refl, sym, subst, arith, ◌∙◌}
+use Rattle.std.proofs.Common.{◌≡◌, ◌≤◌, ℕ, ◌+◌, false, None, refl, sym, ap, subst, arith, ◌∙◌}
 use Rattle.jbig2_base.proofs.LaneCounts.{lanes-none, lanes-then}
 use Rattle.jbig2_base.specs.Grid.{Grid}
 use Rattle.jbig2_region.specs.Raster.{Coding, Region, no_pixels}
@@ -52,4 +52,4 @@ returns-clause-holds g c =
 pub returns-clause-steps : goal.returns-clause-steps
 returns-clause-steps g c =
     skipping-region (nominal_pixels c.args.neighbours) (skip_of c.args.skip) c.args.bitmap.now.width c.args.bitmap.now.height c.loop-y.y c.args.decoder.now.bytes (no_pixels c.args.decoder.now.registers c.args.contexts.now) c.args.steps.now c.loop-y.steps
-    (omega arith) refl refl c.loop-y.invariant.rows.decisions c.loop-y.invariant.rows.run_tests c.loop-y.invariant.words c.loop-y.invariant.loads c.loop-y.invariant.lanes
+    (omega arith) refl refl c.loop-y.invariant.rows.decisions (ap (λ (t : ℕ × ℕ × ℕ). t.0) c.loop-y.invariant.rows.rest) c.loop-y.invariant.words c.loop-y.invariant.loads c.loop-y.invariant.lanes

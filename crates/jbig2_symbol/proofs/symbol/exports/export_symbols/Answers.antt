@@ -7,13 +7,13 @@ use Rattle.jbig2_symbol.proofs.symbol.exports.export_symbols.Goals as goal
 use Rattle.jbig2_symbol.proofs.symbol.exports.export_symbols.Goals.{then-k-eq1+in_ok-clone-2+in-Ok, else-k-eq1}
 
 pub loop-k-init : goal.loop-k-init
-loop-k-init g c = record { first = refl; pushed = exported-none c.args.runs.now (all_symbols c.args.symbols.now c.args.new.now) c.new-exported.result.items c.new-exported.ensures.items }
+loop-k-init g c = record { first = refl; pushed = exported-none c.args.runs.now (all_symbols c.args.symbols.now c.args.new.now) c.new-exported.result.items c.new-exported.ensures.items; paid = omega arith }
 
 pub push_symbols-requires : goal.push_symbols-requires
 push_symbols-requires g c = sum-within c.args.runs.now c.loop-k.k c.loop-k.first _ _ (omega arith) c.loop-k.invariant.first refl c.requires
 
-pub returns-in-Err : goal.returns-in-Err
-returns-in-Err g c = only-memory c.in-Err.error _ _ c.in-Err.ensures
+pub returns-in-Err-clause-value : goal.returns-in-Err-clause-value
+returns-in-Err-clause-value g c = only-memory c.in-Err.error _ _ c.in-Err.ensures.value
 
 pub loop-k-preserved : goal.loop-k-preserved
 loop-k-preserved g c =
@@ -28,9 +28,13 @@ loop-k-preserved g c =
       pushed = elim c.if-k-eq1.branch [
         | then-k-eq1+in_ok-clone-2+in-Ok w ↦
             exported-odd runs all c.loop-k.exported.items c.if-k-eq1.exported.items c.loop-k.k c.loop-k.first run (omega arith) c.loop-k.invariant.first refl within (omega arith) c.loop-k.invariant.pushed
-            (ap (λ v. v.items) w.exported-is ∙ sym (same-ok _ _ w.in-Ok.ensures))
+            (ap (λ v. v.items) w.exported-is ∙ sym (same-ok _ _ w.in-Ok.ensures.value))
         | else-k-eq1 w ↦
             ap (λ v. v.items) w.exported-is
             ∙ exported-even runs all c.loop-k.exported.items c.loop-k.k c.loop-k.first run (omega arith) c.loop-k.invariant.first refl within (λ odd. omega arith) c.loop-k.invariant.pushed
+      ];
+      paid = elim c.if-k-eq1.branch [
+        | then-k-eq1+in_ok-clone-2+in-Ok w ↦ omega (arith, w.push_symbols.ensures.paid, c.loop-k.invariant.paid)
+        | else-k-eq1 w ↦ omega (arith, c.loop-k.invariant.paid)
       ];
     }

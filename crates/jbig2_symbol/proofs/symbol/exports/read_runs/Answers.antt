@@ -22,6 +22,7 @@ loop-preserved g c =
       few = room.0;
       enough = room.1;
       covered = covered-more c.loop.runs.items c.push.new.self.items c.in-Ok.run' c.loop.left c.args.count c.in-Ok.ensures.within c.loop.invariant.covered c.in_ok-push.ensures.items;
+      paid = omega (arith, c.in_ok-pay.ensures.taken, c.read_run.ensures.paid, c.loop.invariant.paid);
       reads =
           ap (λ (all : List _). behind all (runs_from r.readings (input_view c.args.input.now) (c.args.count + 1048576 - (c.loop.counter + 1)) (c.loop.empty + c.from-empty.result) (c.loop.left - c.in-Ok.run') (r.state c.read_run.new.readings))) c.in_ok-push.ensures.items
           ∙ ap (λ n. behind (c.loop.runs.items ++ c.in-Ok.run' ∷ []) (runs_from r.readings (input_view c.args.input.now) (c.args.count + 1048576 - (c.loop.counter + 1)) (c.loop.empty + n) (c.loop.left - c.in-Ok.run') (r.state c.read_run.new.readings))) is

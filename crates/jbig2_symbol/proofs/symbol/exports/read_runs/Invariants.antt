@@ -2,6 +2,7 @@ use Rattle.std.proofs.Common.{◌≡◌, ◌+◌, ◌-◌, ◌≤◌}
 use Rattle.std.specs.Prelude.{sum}
 use Rattle.jbig2_symbol.specs.Symbols.{export_runs, runs_from}
 use Rattle.jbig2_symbol.specs.inner.SymbolViews.{behind, input_view}
+use Rattle.jbig2_steps.specs.Work.{worth}
 use Rattle.jbig2_symbol.proofs.symbol.exports.read_runs.Given as goal
 
 abbrev pub invariant-loop : goal.invariant-loop
@@ -12,4 +13,5 @@ invariant-loop g l =
       enough : l.left + (1048576 - l.empty) ≤ l.count + 1048576 - l.counter;
       covered : sum l.runs.items + l.left ≡ l.count;
       reads : behind l.runs.items (runs_from r.readings (input_view l.input) (l.count + 1048576 - l.counter) l.empty l.left (r.state l.readings)) ≡ export_runs r.readings (input_view l.input) l.count (r.state l.fn.readings);
+      paid : worth l.work ≤ worth l.fn.work;
     }

@@ -1,15 +1,16 @@
+use Rattle.std.proofs.Common.{arith}
 use Rattle.jbig2_text.specs.Text.{after_instances}
 use Rattle.jbig2_text.specs.inner.TextViews.{params_view, reached_view}
 use Rattle.jbig2_text.proofs.InstanceLemmas.{inner-next, inner-fault, inner-done}
 use Rattle.jbig2_text.proofs.text.instances.read_inner.Goals as goal
 
-pub returns-in-Err : goal.returns-in-Err
-returns-in-Err g c =
+pub returns-in-Err-clause-value : goal.returns-in-Err-clause-value
+returns-in-Err-clause-value g c =
     let r = g.R.ReadInstances in
     let p = params_view c.args.params.now in
     let whole = after_instances r.readings p c.args.count (reached_view c.args.placed.now c.args.refining.now (r.state c.args.readings.now)) in
     let here = reached_view c.loop.placed c.loop.refining (r.state c.loop.readings) in
-    inner-fault r.readings p c.args.count c.loop.counter here c.in-Err.error whole c.loop-test.true c.loop.invariant c.in-Err.ensures
+    inner-fault r.readings p c.args.count c.loop.counter here c.in-Err.error whole c.loop-test.true c.loop.invariant.goes c.in-Err.ensures.value
 
 pub loop-preserved : goal.loop-preserved
 loop-preserved g c =
@@ -18,12 +19,16 @@ loop-preserved g c =
     let whole = after_instances r.readings p c.args.count (reached_view c.args.placed.now c.args.refining.now (r.state c.args.readings.now)) in
     let here = reached_view c.loop.placed c.loop.refining (r.state c.loop.readings) in
     let next = reached_view c.read_and_move.new.placed c.read_and_move.new.refining (r.state c.read_and_move.new.readings) in
-    inner-next r.readings p c.args.count c.loop.counter here next whole c.loop-test.true c.loop.invariant c.in-Ok.ensures
+    record {
+      goes = inner-next r.readings p c.args.count c.loop.counter here next whole c.loop-test.true c.loop.invariant.goes c.in-Ok.ensures.value;
+      work = omega (arith, c.in-Ok.ensures.work, c.loop.invariant.work);
+      paid = omega (arith, c.read_and_move.ensures.paid, c.loop.invariant.paid);
+    }
 
-pub returns : goal.returns
-returns g c =
+pub returns-clause-value : goal.returns-clause-value
+returns-clause-value g c =
     let r = g.R.ReadInstances in
     let p = params_view c.args.params.now in
     let whole = after_instances r.readings p c.args.count (reached_view c.args.placed.now c.args.refining.now (r.state c.args.readings.now)) in
     let here = reached_view c.loop.placed c.loop.refining (r.state c.loop.readings) in
-    inner-done r.readings p c.args.count c.loop.counter here whole c.loop-test.false c.loop.invariant
+    inner-done r.readings p c.args.count c.loop.counter here whole c.loop-test.false c.loop.invariant.goes

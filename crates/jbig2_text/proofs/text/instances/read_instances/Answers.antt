@@ -5,8 +5,8 @@ use Rattle.jbig2_text.specs.inner.TextViews.{params_view}
 use Rattle.jbig2_text.proofs.InstanceLemmas.{instances-are}
 use Rattle.jbig2_text.proofs.text.instances.read_instances.Goals as goal
 
-pub returns : goal.returns
-returns g c =
+pub returns-clause-value : goal.returns-clause-value
+returns-clause-value g c =
     let r = g.R.ReadInstances in
     let p = params_view c.args.params.now in
     let few : nat_lt (32 * p.data_length) p.count ≡ false = search rules in

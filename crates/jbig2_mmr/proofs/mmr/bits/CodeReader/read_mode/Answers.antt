@@ -1,4 +1,4 @@
-use Rattle.std.proofs.Common.{◌≡◌, ℕ, ◌/◌, ◌%◌, ◌^◌, ◌<◌, ◌≤◌, List, length, drop, take, get_or, Option, Some, ap, sym, ◌∙◌, arith}
+use Rattle.std.proofs.Common.{◌≡◌, ℕ, ◌/◌, ◌%◌, ◌^◌, ◌<◌, ◌≤◌, List, length, drop, take, get_or, Option, Some, ap, sym, subst, ◌∙◌, arith}
 use Rattle.std.proofs.lemmas.List.{length-drop}
 use Rattle.jbig2_base.specs.Bits.{number_after}
 use Rattle.jbig2_mmr.specs.declared.mmr.codes.Mode.{Mode}
@@ -7,7 +7,8 @@ use Rattle.jbig2_mmr.specs.T6.{read_code}
 use Rattle.jbig2_mmr.specs.T6Codes.{modes}
 use Rattle.jbig2_base.specs.inner.BitLists.{AreBits}
 use Rattle.jbig2_mmr.specs.inner.T6Reading.{Rest, padded}
-use Rattle.jbig2_mmr.proofs.T6Distances.{distance-is}
+use Rattle.jbig2_mmr.specs.inner.T6Steps.{IsNear}
+use Rattle.jbig2_mmr.proofs.T6Distances.{distance-is, kind-near}
 use Rattle.jbig2_mmr.proofs.T6Lookup.{lookup-none, lookup-short, lookup-some}
 use Rattle.jbig2_mmr.proofs.T6Tables.{modes-prefix_free, modes-short, mode_of, mode-none, mode-some, mode-small, kind-vertical, kind-horizontal, kind-pass}
 use Rattle.jbig2_mmr.proofs.mmr.bits.CodeReader.read_mode.Goals as goal
@@ -36,6 +37,9 @@ returns-then-size-eq0-clause-value c =
           (omega (arith, w.if-size-few.true, w.few.ensures, c.from-size.ensures))
     ]
 
+pub returns-then-size-eq0-clause-near : goal.returns-then-size-eq0-clause-near
+returns-then-size-eq0-clause-near c = tt
+
 pub returns-then-size-eq0-clause-law : goal.returns-then-size-eq0-clause-law
 returns-then-size-eq0-clause-law c = modes-prefix_free
 
@@ -51,6 +55,7 @@ returns-then-kind-gt2 c =
           ∙ found v c.from-size.result c.args.self.now.left c.skip.new.self.left small c.window.ensures.bits (c.window.ensures.value 7 (omega arith)) c.from-size.ensures c.if-size-eq0.false there left;
       bytes = ap (λ (r : Rest). r.bytes) c.skip.ensures;
       shorter = shorter-by c.from-size.result c.args.self.now.left c.skip.new.self.left c.if-size-eq0.false there left;
+      near = subst IsNear (sym (distance-is (e / 8) c.from.result (mode-small v small) c.from.ensures)) (kind-near (e / 8) c.if-kind-gt2.true);
       law = modes-prefix_free;
     }
 
@@ -66,6 +71,7 @@ returns-then-kind-eq2 c =
           ∙ found v c.from-size.result c.args.self.now.left c.skip.new.self.left small c.window.ensures.bits (c.window.ensures.value 7 (omega arith)) c.from-size.ensures c.if-size-eq0.false there left;
       bytes = ap (λ (r : Rest). r.bytes) c.skip.ensures;
       shorter = shorter-by c.from-size.result c.args.self.now.left c.skip.new.self.left c.if-size-eq0.false there left;
+      near = tt;
       law = modes-prefix_free;
     }
 
@@ -81,5 +87,6 @@ returns c =
           ∙ found v c.from-size.result c.args.self.now.left c.skip.new.self.left small c.window.ensures.bits (c.window.ensures.value 7 (omega arith)) c.from-size.ensures c.if-size-eq0.false there left;
       bytes = ap (λ (r : Rest). r.bytes) c.skip.ensures;
       shorter = shorter-by c.from-size.result c.args.self.now.left c.skip.new.self.left c.if-size-eq0.false there left;
+      near = tt;
       law = modes-prefix_free;
     }

@@ -1,0 +1,46 @@
+-- What a counter is worth after counts and after units, and the price of a bitmap.
+use Rattle.std.proofs.Common.{◌≡◌, ℕ, ◌+◌, ◌*◌, ◌/◌, ◌%◌, ◌≤◌, min, ap, ◌∙◌, arith}
+use Rattle.std.specs.Prelude.{max}
+use Rattle.jbig2_steps.specs.Counts.{Counts}
+use Rattle.jbig2_steps.specs.Work.{PaidBut, counted, price_of_bitmap, words_of_row, worth}
+use Rattle.jbig2_steps.specs.declared.work.Work.{Work}
+
+-- counts alone
+pub counts-worth : {L : Type 0} (w : Work L) (steps : Counts) (n : ℕ) → counted steps ≤ counted w.steps + n → PaidBut n w (record w { steps = steps })
+unfolding worth
+counts-worth {L} w steps n more = omega arith
+
+-- nothing counted
+pub kept-worth : {L : Type 0} (w : Work L) (steps : Counts) → steps ≡ w.steps → worth (record w { steps = steps }) ≡ worth w
+kept-worth {L} w steps same = ap (λ (s : Counts). worth (record w { steps = s })) same
+
+-- decisions alone
+pub decided-worth : {L : Type 0} (w : Work L) (steps : Counts) (n most : ℕ) → steps ≡ record w.steps { decisions = w.steps.decisions + n } → n ≤ most → PaidBut most w (record w { steps = steps })
+decided-worth {L} w steps n most is few =
+    let all : counted steps ≡ counted w.steps + n = ap (λ (s : Counts). counted s) is ∙ omega arith in
+    counts-worth w steps most (omega arith)
+
+-- ---- prices
+rows-are : (words height : ℕ) → words * 64 * height + 64 ≡ 64 * words * height + 64
+rows-are words height = omega arith
+
+pub words-are : (width : ℕ) → max 1 (width / 64 + min 1 (width % 64)) ≡ words_of_row width
+words-are width = omega arith
+
+pub price-is : (width height words rows : ℕ) → words ≡ words_of_row width → rows ≡ height → words * 64 * rows + 64 ≡ price_of_bitmap width height
+unfolding price_of_bitmap
+price-is width height words rows e f =
+    ap (λ (n : ℕ). n * 64 * rows + 64) e ∙ ap (λ (n : ℕ). words_of_row width * 64 * n + 64) f
+    ∙ rows-are (words_of_row width) height
+
+pub price-least : (width height : ℕ) → 64 ≤ price_of_bitmap width height
+unfolding price_of_bitmap
+price-least width height = omega arith
+
+-- what is counted for each word of a row and for each row is within the price
+pub row-paid : (width height n : ℕ) → n ≤ 2048 * (words_of_row width * height) → n ≤ 32 * price_of_bitmap width height
+unfolding price_of_bitmap
+row-paid width height n few = within (words_of_row width) height n few
+  where
+    within : (words height n : ℕ) → n ≤ 2048 * (words * height) → n ≤ 32 * (64 * words * height + 64)
+    within words height n few = omega arith

@@ -1,0 +1,15 @@
+use Rattle.std.proofs.Common.{arith}
+use Rattle.jbig2_steps.specs.Work.{worth}
+use Rattle.jbig2_steps.proofs.work.Work.pay.Goals as goal
+
+pub returns-in-Some-clause-paid : goal.returns-in-Some-clause-paid
+unfolding worth
+returns-in-Some-clause-paid g c = omega (arith, c.in-Some.ensures)
+
+pub returns-in-Some-clause-taken : goal.returns-in-Some-clause-taken
+unfolding worth
+returns-in-Some-clause-taken g c = omega (arith, c.in-Some.ensures)
+
+pub returns-in-None-clause-paid : goal.returns-in-None-clause-paid
+unfolding worth
+returns-in-None-clause-paid g c = omega arith
