@@ -1,5 +1,5 @@
 -- What a counter is worth after counts and after units, and the price of a bitmap.
-use Rattle.std.proofs.Common.{◌≡◌, ℕ, ◌+◌, ◌*◌, ◌/◌, ◌%◌, ◌≤◌, min, ap, ◌∙◌, arith}
+use Rattle.std.proofs.Common.{◌≡◌, ℕ, ◌+◌, ◌*◌, ◌/◌, ◌%◌, ◌≤◌, min, Result, Ok, Err, IfOk, ap, ◌∙◌, arith}
 use Rattle.std.specs.Prelude.{max}
 use Rattle.jbig2_steps.specs.Counts.{Counts}
 use Rattle.jbig2_steps.specs.Work.{PaidBut, counted, price_of_bitmap, words_of_row, worth}
@@ -36,6 +36,10 @@ price-is width height words rows e f =
 pub price-least : (width height : ℕ) → 64 ≤ price_of_bitmap width height
 unfolding price_of_bitmap
 price-least width height = omega arith
+
+pub taken-least : {T E : Type 0} (result : Result T E) (new old width height price : ℕ) → price ≡ price_of_bitmap width height → IfOk result (λ _. new + 32 * price ≡ old) → IfOk result (λ _. new + 2048 ≤ old)
+taken-least (Ok x) new old width height price is taken = omega (arith, taken, is, price-least width height)
+taken-least (Err e) new old width height price is taken = tt
 
 -- what is counted for each word of a row and for each row is within the price
 pub row-paid : (width height n : ℕ) → n ≤ 2048 * (words_of_row width * height) → n ≤ 32 * price_of_bitmap width height

@@ -1,7 +1,7 @@
 -- The work that was taken, and what is counted for it (our own rule; no part of the format). A unit pays for 32 counts.
 -- What a counter is worth is what it has counted and what its units may still pay for. A call that leaves it worth no more
 -- than before has taken the units for all that it counted.
-use Rattle.std.specs.Prelude.{ℕ, ◌+◌, ◌-◌, ◌*◌, ◌/◌, ◌^◌, ◌≤◌, min, max}
+use Rattle.std.specs.Prelude.{ℕ, ◌+◌, ◌*◌, ◌/◌, ◌≤◌, max}
 use Rattle.jbig2_steps.specs.Counts.{Counts}
 use Rattle.jbig2_steps.specs.declared.work.Work.{Work}
 
@@ -24,7 +24,3 @@ words_of_row width = max 1 ((width + 63) / 64)
 
 unfoldable pub price_of_bitmap : ℕ → ℕ → ℕ
 price_of_bitmap width height = 64 * words_of_row width * height + 64
-
--- no price is above 2 ^ 64 - 1, which is as much as can be left
-abbrev pub price_of_bitmaps : ℕ → ℕ → ℕ → ℕ
-price_of_bitmaps count width height = min (2 ^ 64 - 1) (price_of_bitmap width height * count)

@@ -1,7 +1,7 @@
 //! The work that may still be taken, beside the counts that it pays for.
 ghost use Rattle.std.specs.Prelude.{◌≡◌, ◌+◌, ◌*◌, ◌≤◌, IfOk, OnErr};
 ghost use Rattle.jbig2_steps.specs.Counts.{no_steps};
-ghost use Rattle.jbig2_steps.specs.Work.{price_of_bitmap, price_of_bitmaps, worth};
+ghost use Rattle.jbig2_steps.specs.Work.{price_of_bitmap, worth};
 
 use crate::Steps;
 use jbig2_permit::Permit;
@@ -53,6 +53,16 @@ impl<L: Ledger> Work<L> {
         }
     }
 
+    /// Leaves no unit, since more are asked for than are left.
+    fn refuse(&mut self) -> AllocError
+        ensures steps { self.new.steps ≡ self.old.steps }
+        ensures none_left { self.new.left ≡ 0 }
+        ensures paid { worth self.new ≤ worth self.old }
+    {
+        self.left = 0;
+        AllocError
+    }
+
     /// Takes `units` of work before it is done. Where so many aren't left, none is left from then on, and the work is
     /// refused as memory is.
     pub fn pay(&mut self, units: u64) -> Result<(), AllocError>
@@ -67,10 +77,7 @@ impl<L: Ledger> Work<L> {
                 self.left = left;
                 Ok(())
             }
-            None => {
-                self.left = 0;
-                Err(AllocError)
-            }
+            None => Err(self.refuse()),
         }
     }
 
@@ -92,8 +99,11 @@ impl<L: Ledger> Work<L> {
         ensures none_left { OnErr result (self.new.left ≡ 0) }
         ensures paid { worth self.new ≤ worth self.old }
         ensures taken { IfOk result
-            (λ _. worth self.new + 32 * price_of_bitmaps count width height ≡ worth self.old) }
+            (λ _. worth self.new + 32 * (price_of_bitmap width height * count) ≡ worth self.old) }
     {
-        self.pay(price_of_bitmap(width, height).saturating_mul(count))
+        match price_of_bitmap(width, height).checked_mul(count) {
+            Some(units) => self.pay(units),
+            None => Err(self.refuse()),
+        }
     }
 }

@@ -1,4 +1,4 @@
-use Rattle.std.proofs.Common.{◌≡◌, ◌∙◌, arith, rules}
+use Rattle.std.proofs.Common.{◌≡◌, arith, rules}
 use Rattle.std.proofs.lemmas.Grind.{common_steps}
 use Rattle.jbig2_steps.specs.Work.{words_of_row}
 use Rattle.jbig2_steps.proofs.WorkLemmas.{price-is, words-are}

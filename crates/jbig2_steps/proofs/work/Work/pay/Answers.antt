@@ -9,7 +9,3 @@ returns-in-Some-clause-paid g c = omega (arith, c.in-Some.ensures)
 pub returns-in-Some-clause-taken : goal.returns-in-Some-clause-taken
 unfolding worth
 returns-in-Some-clause-taken g c = omega (arith, c.in-Some.ensures)
-
-pub returns-in-None-clause-paid : goal.returns-in-None-clause-paid
-unfolding worth
-returns-in-None-clause-paid g c = omega arith

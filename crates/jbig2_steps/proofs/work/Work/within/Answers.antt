@@ -1,5 +1,5 @@
 use Rattle.std.proofs.Common.{◌≡◌, ap, arith}
-use Rattle.jbig2_steps.specs.Counts.{Counts, no_steps}
+use Rattle.jbig2_steps.specs.Counts.{Counts}
 use Rattle.jbig2_steps.specs.Work.{counted, worth}
 use Rattle.jbig2_steps.proofs.work.Work.within.Goals as goal
 
