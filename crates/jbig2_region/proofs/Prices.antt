@@ -59,10 +59,10 @@ rows-few w h m row pixels loads words loaded wide some begun decided written few
     let high : h * 1 ≤ h * m = mul-le-mul_left h some in
     omega (arith, across, each, high)
 
-row-wide : (w : ℕ) → w ≤ 64 * words_of_row w
+pub row-wide : (w : ℕ) → w ≤ 64 * words_of_row w
 row-wide w = omega arith
 
-row-some : (w : ℕ) → 1 ≤ words_of_row w
+pub row-some : (w : ℕ) → 1 ≤ words_of_row w
 row-some w = omega arith
 
 counted-more : (coding : Coding) (loads w h : ℕ) (bytes : List ℕ) (start : Region) (before after : Counts) → 1 ≤ w → CountsDecided coding loads w h bytes start before after → (n : ℕ) → h * row_decisions coding.row_context + pixel_decisions coding w h bytes start + h * w + h * loads ≤ n → counted after ≤ counted before + n

@@ -1,6 +1,7 @@
 -- What the step bounds of generic regions count, by their template and header (our own rule). `read_pixels` is how many
 -- adaptive pixels are read one by one.
-use Rattle.std.specs.Prelude.{ℕ, ◌+◌, ◌*◌, ◌≡◌, Bool, true, false, if◌then◌else◌, List}
+use Rattle.std.specs.Prelude.{ℕ, ◌+◌, ◌*◌, ◌≡◌, Bool, true, false, if◌then◌else◌, List, length}
+use Rattle.jbig2_steps.specs.Work.{price_of_bitmap}
 use Rattle.jbig2_base.specs.Counts.{Counts}
 use Rattle.jbig2_coder.specs.Coder.{initial_registers}
 use Rattle.jbig2_region.specs.{Generic.{generic_coding}, GenericHeader.{GenericHeader}, Raster.{Coding, Region, no_pixels, fresh_contexts}, Steps.{CountsDecided, CountsRegion}, Templates.{adaptive_pixel_count, context_bits, is_nominal, template_pixels}, declared.template.{AdaptiveTemplatePixel.{AdaptiveTemplatePixel}, Template.{Template}}}
@@ -17,3 +18,7 @@ CountsCoded false template a coding w h bytes start before after = CountsRegion 
 abbrev pub CountsGeneric : GenericHeader → Counts → Counts → Type 0
 CountsGeneric h before after =
     h.mmr ≡ false → CountsCoded h.extended h.template h.adaptive_template_pixels (generic_coding h) h.region_info.width h.region_info.height h.bytes (no_pixels (initial_registers h.bytes) (fresh_contexts (context_bits h.template))) before after
+
+-- the units that pay for a region: those of a bitmap of its size, and one for each of its coded bytes
+abbrev pub price_of_region : GenericHeader → ℕ
+price_of_region h = price_of_bitmap h.region_info.width h.region_info.height + length h.bytes

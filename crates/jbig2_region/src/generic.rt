@@ -1,5 +1,6 @@
 //! Generic regions (T.88, 6.2 and 7.4.6).
 ghost use Rattle.std.specs.Prelude.{◌≡◌, ◌≤◌, length, IfOk, OnErr, OnOk, Bool, ℕ, true, false};
+ghost use Rattle.jbig2_steps.specs.Work.{CountsWithin};
 ghost use Rattle.jbig2_base.specs.Answer.{Answers, Gives, Leaves};
 ghost use Rattle.jbig2_base.specs.Bits.{IsAligned};
 ghost use Rattle.jbig2_base.specs.Counts.{KeepsLanes};
@@ -7,7 +8,7 @@ ghost use Rattle.jbig2_base.specs.Fields.{Parses};
 ghost use Rattle.jbig2_region.specs.Generic.{contexts_after, generic_answer, generic_decoded, refused_grid};
 ghost use Rattle.jbig2_region.specs.RegionInfo.{IsWhiteFor};
 ghost use Rattle.jbig2_region.specs.inner.RegionViews.{region_view};
-ghost use Rattle.jbig2_region.specs.GenericSteps.{CountsGeneric};
+ghost use Rattle.jbig2_region.specs.GenericSteps.{CountsGeneric, price_of_region};
 ghost use Rattle.jbig2_region.specs.GenericHeader.{rows_at, generic_header_at, IsParsed};
 ghost use Rattle.jbig2_region.specs.inner.GenericViews.{header_view};
 ghost use Rattle.jbig2_region.specs.inner.PixelArrays.{IsFilled};
@@ -139,6 +140,7 @@ pub fn decode_into<A: Allocator, B: Allocator, L: Ledger>(
     ensures steps { OnOk result (CountsGeneric (header_view header.now) steps.old steps.new) }
     ensures stopped { header.now.mmr ≡ false → OnErr result (steps.new ≡ steps.old) }
     ensures lanes { header.now.mmr ≡ true → KeepsLanes steps.old steps.new }
+    ensures paid { CountsWithin (price_of_region (header_view header.now)) steps.old steps.new }
 {
     if header.mmr {
         mmr::decode(bitmap, header.bytes, header.strict, steps)?;
@@ -174,6 +176,7 @@ pub fn decode<A: Allocator, B: Allocator, L: Ledger>(
     ensures steps { OnOk result (CountsGeneric (header_view header.now) steps.old steps.new) }
     ensures stopped { header.now.mmr ≡ false → OnErr result (steps.new ≡ steps.old) }
     ensures lanes { header.now.mmr ≡ true → KeepsLanes steps.old steps.new }
+    ensures paid { CountsWithin (price_of_region (header_view header.now)) steps.old steps.new }
 {
     let region_info = &header.region_info;
     let mut bitmap = Bitmap::new(alloc, region_info.width, region_info.height)?;

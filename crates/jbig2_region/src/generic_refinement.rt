@@ -1,5 +1,6 @@
 //! Refinement regions (T.88, 6.3 and 7.4.7).
 ghost use Rattle.std.specs.Prelude.{◌≡◌, IfOk, OnErr, OnOk};
+ghost use Rattle.jbig2_steps.specs.Work.{CountsWithin, price_of_bitmap};
 ghost use Rattle.jbig2_base.specs.Answer.{Answers, Gives, Leaves};
 ghost use Rattle.jbig2_base.specs.Bits.{IsAligned};
 ghost use Rattle.jbig2_base.specs.Fields.{Parses};
@@ -146,6 +147,8 @@ pub fn decode_into<A: Allocator, B: Allocator, C: Allocator, L: Ledger>(
     ensures steps { OnOk result
         (CountsRefined (header_view header.now) (region_view reference.now) steps.old steps.new) }
     ensures stopped { OnErr result (steps.new ≡ steps.old) }
+    ensures paid { let info = header.now.region_info in
+        CountsWithin (price_of_bitmap info.width info.height) steps.old steps.new }
 {
     let region_info = &header.region_info;
     let (dx, dy) = offset(reference, region_info)?;
@@ -187,6 +190,8 @@ pub fn decode<A: Allocator, B: Allocator, C: Allocator, L: Ledger>(
     ensures steps { OnOk result
         (CountsRefined (header_view header.now) (region_view reference.now) steps.old steps.new) }
     ensures stopped { OnErr result (steps.new ≡ steps.old) }
+    ensures paid { let info = header.now.region_info in
+        CountsWithin (price_of_bitmap info.width info.height) steps.old steps.new }
 {
     let region_info = &header.region_info;
     let mut bitmap = Bitmap::new(alloc, region_info.width, region_info.height)?;

@@ -2,7 +2,7 @@
 use Rattle.std.proofs.Common.{◌≡◌, ℕ, ◌+◌, ◌*◌, ◌/◌, ◌%◌, ◌≤◌, min, Result, Ok, Err, IfOk, ap, ◌∙◌, arith}
 use Rattle.std.specs.Prelude.{max}
 use Rattle.jbig2_steps.specs.Counts.{Counts}
-use Rattle.jbig2_steps.specs.Work.{PaidBut, counted, price_of_bitmap, words_of_row, worth}
+use Rattle.jbig2_steps.specs.Work.{IsWithinLimit, Paid, PaidBut, counted, price_of_bitmap, words_of_row, worth}
 use Rattle.jbig2_steps.specs.declared.work.Work.{Work}
 
 -- counts alone
@@ -19,6 +19,11 @@ pub decided-worth : {L : Type 0} (w : Work L) (steps : Counts) (n most : ℕ) �
 decided-worth {L} w steps n most is few =
     let all : counted steps ≡ counted w.steps + n = ap (λ (s : Counts). counted s) is ∙ omega arith in
     counts-worth w steps most (omega arith)
+
+-- a counter that is worth no more than before is within its limit
+pub paid-limit : {L : Type 0} (old new : Work L) → Paid old new → IsWithinLimit old new
+unfolding worth
+paid-limit {L} old new paid = omega arith
 
 -- ---- prices
 rows-are : (words height : ℕ) → words * 64 * height + 64 ≡ 64 * words * height + 64

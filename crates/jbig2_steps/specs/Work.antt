@@ -18,6 +18,14 @@ PaidBut ahead old new = worth new ≤ worth old + ahead
 abbrev pub Paid : {L : Type 0} → Work L → Work L → Type 0  -- all that was counted is paid for
 Paid old new = worth new ≤ worth old
 
+-- what is counted is within what this many units pay for
+abbrev pub CountsWithin : ℕ → Counts → Counts → Type 0
+CountsWithin units old new = counted new ≤ counted old + 32 * units
+
+-- what is counted is within what all units pay for that were left: the limit of work
+abbrev pub IsWithinLimit : {L : Type 0} → Work L → Work L → Type 0
+IsWithinLimit old new = CountsWithin old.left old.steps new.steps
+
 -- ---- prices
 abbrev pub words_of_row : ℕ → ℕ  -- a row's words of 64 columns, of which it has one at least
 words_of_row width = max 1 ((width + 63) / 64)

@@ -1,4 +1,4 @@
-use Rattle.std.proofs.Common.{◌≡◌, ℕ, List, sym, ap, ◌∙◌, length, drop}
+use Rattle.std.proofs.Common.{◌≡◌, ℕ, ◌+◌, ◌*◌, Bool, List, Result, sym, ap, ◌∙◌, length, drop, arith}
 use Rattle.jbig2_region.specs.inner.GenericViews.{header_view}
 use Rattle.jbig2_region.specs.Generic.{coding_of, generic_region}
 use Rattle.jbig2_region.specs.inner.Holds.{DecodesRegion, Holds}
@@ -8,6 +8,18 @@ use Rattle.jbig2_region.specs.Templates.{context_bits, template_pixels}
 use Rattle.jbig2_region.specs.inner.PixelArrays.{is_extended}
 use Rattle.jbig2_region.specs.declared.template.AdaptiveTemplatePixel.{AdaptiveTemplatePixel}
 use Rattle.jbig2_base.proofs.Causes.{same-ok}
+use Rattle.jbig2_base.proofs.Prices.{price-same}
+use Rattle.jbig2_base.specs.Answer.{Answers}
+use Rattle.jbig2_base.specs.Counts.{Counts, KeepsLanes, words_of}
+use Rattle.jbig2_base.specs.Grid.{Grid}
+use Rattle.jbig2_base.specs.declared.error.DecodeError.{DecodeError}
+use Rattle.jbig2_steps.specs.Work.{CountsWithin, price_of_bitmap}
+use Rattle.jbig2_mmr.proofs.Prices.{decode-paid}
+use Rattle.jbig2_mmr.specs.Steps.{MovesWithin, bytes_taken}
+use Rattle.jbig2_mmr.specs.T6.{mmr_rows}
+use Rattle.jbig2_region.specs.RegionInfo.{IsWhiteFor}
+use Rattle.jbig2_region.specs.declared.region_info.RegionSegmentInfo.{RegionSegmentInfo}
+use Rattle.jbig2_region.proofs.GenericPrices.{coded-paid}
 use Rattle.jbig2_region.proofs.GenericLemmas.{as-coded, region-decoded, answer-decoded, contexts-decoded, counts-decoded, whole-slice}
 use Rattle.jbig2_region.proofs.generic.decode_into.Goals as goal
 
@@ -35,3 +47,23 @@ returns-clause-steps g c =
     let counted = as-coded h (λ (a : List AdaptiveTemplatePixel). CountsCoded (is_extended h.adaptive_template_pixels) h.template a (coding_of h.tpgdon h.template (template_pixels (is_extended h.adaptive_template_pixels) h.template a)) c.args.bitmap.now.width c.args.bitmap.now.height c.new-decoder.result.bytes (no_pixels c.new-decoder.result.registers c.deref_mut.result.now) c.args.steps.now c.decode_coded.new.steps) c.if-header.false c.decode_coded.ensures.steps in
     let fresh : c.deref_mut.result.now ≡ fresh_contexts (context_bits c.args.header.now.template) = c.deref_mut.ensures.value ∙ sym (same-ok _ _ c.in_ok-fresh_contexts.ensures) ∙ ap (λ (n : ℕ). fresh_contexts n) c.context_bits.ensures in
     counts-decoded (header_view c.args.header.now) c.args.bitmap.now c.new-decoder.result c.deref_mut.result.now c.args.steps.now c.decode_coded.new.steps c.requires.white c.new-decoder.ensures.bytes c.new-decoder.ensures.registers fresh counted
+
+pub returns-clause-paid : goal.returns-clause-paid
+returns-clause-paid g c =
+    let h = header_view c.args.header.now in
+    let within = coded-paid h.extended h.template h.adaptive_template_pixels _ h.region_info.width h.region_info.height _ _ c.args.steps.now c.decode_coded.new.steps (returns-clause-steps g c c.if-header.false) in
+    omega (arith, within)
+
+-- MMR data
+decoded-paid : (result : Result ℕ DecodeError) (info : RegionSegmentInfo) (old new : Grid) (strict : Bool) (bytes : List ℕ) (before after : Counts) → IsWhiteFor info old → Answers (λ used. record { grid = new; used = used }) result (mmr_rows strict old.width old.height bytes) → KeepsLanes before after → MovesWithin (3 * (words_of old + 8 * bytes_taken result (length bytes))) before after → CountsWithin (price_of_bitmap info.width info.height + length bytes) before after
+decoded-paid result info old new strict bytes before after white value lanes moves =
+    let paid = decode-paid result old new strict bytes before after value lanes moves in
+    omega (arith, paid, price-same old.width info.width old.height info.height (ap (λ (g : Grid). g.width) white) (ap (λ (g : Grid). g.height) white))
+
+pub returns-then-header-clause-paid : goal.returns-then-header-clause-paid
+returns-then-header-clause-paid g c =
+    decoded-paid c.decode.result c.args.header.now.region_info c.args.bitmap.now c.decode.new.bitmap c.args.header.now.strict c.args.header.now.bytes.now c.args.steps.now c.decode.new.steps c.requires.white c.decode.ensures.value c.decode.ensures.lanes c.decode.ensures.work
+
+pub returns-in_err-decode-clause-paid : goal.returns-in_err-decode-clause-paid
+returns-in_err-decode-clause-paid g c =
+    decoded-paid c.decode.result c.args.header.now.region_info c.args.bitmap.now c.decode.new.bitmap c.args.header.now.strict c.args.header.now.bytes.now c.args.steps.now c.decode.new.steps c.requires.white c.decode.ensures.value c.decode.ensures.lanes c.decode.ensures.work

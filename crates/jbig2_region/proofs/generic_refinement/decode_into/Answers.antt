@@ -8,6 +8,7 @@ use Rattle.jbig2_region.specs.inner.RegionViews.{region_view}
 use Rattle.jbig2_region.specs.inner.Holds.{Holds}
 use Rattle.jbig2_region.specs.Raster.{fresh_contexts}
 use Rattle.jbig2_base.proofs.Causes.{same-ok}
+use Rattle.jbig2_region.proofs.Prices.{decided-paid, refinement_loads-few}
 use Rattle.jbig2_region.proofs.GenericLemmas.{whole-slice}
 use Rattle.jbig2_region.proofs.RefinementLemmas.{refined-contexts, refined-decoded, refined-answer, refined-steps, offset-value}
 use Rattle.jbig2_region.proofs.generic_refinement.decode_into.Goals as goal
@@ -42,3 +43,8 @@ returns-clause-steps g c =
     let fits_dy : SFits w32 c.in_ok-dx.dy = search rules in
     let place = offset-value (header_view c.args.header.now) (region_view c.args.reference.now) (c.in_ok-dx.dx, c.in_ok-dx.dy) (to_z w32 (of_z w32 c.in_ok-dx.dx)) (to_z w32 (of_z w32 c.in_ok-dx.dy)) (to_z-of_z w32 c.in_ok-dx.dx fits_dx) (to_z-of_z w32 c.in_ok-dx.dy fits_dy) near in
     refined-steps (header_view c.args.header.now) (region_view c.args.reference.now) _ c.args.bitmap.now c.new-decoder.result c.deref_mut.result.now c.args.steps.now c.decode_bitmap.new.steps place c.requires.white c.new-decoder.ensures.bytes c.new-decoder.ensures.registers fresh c.decode_bitmap.ensures.steps
+
+pub returns-clause-paid : goal.returns-clause-paid
+returns-clause-paid g c =
+    let h = header_view c.args.header.now in
+    decided-paid _ _ h.region_info.width h.region_info.height _ _ c.args.steps.now c.decode_bitmap.new.steps (refinement_loads-few h.template h.adaptive_template_pixels h.region_info.width) (returns-clause-steps g c)
