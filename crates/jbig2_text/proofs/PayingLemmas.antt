@@ -1,5 +1,5 @@
 -- The price of drawing instances, and what is counted for them.
-use Rattle.std.proofs.Common.{◌≡◌, ℕ, suc, ◌+◌, ◌*◌, ◌<◌, ℤ, List, [], ◌∷◌, ◌++◌, length, drop, get_or, refl, sym, ap, ◌∙◌, arith}
+use Rattle.std.proofs.Common.{◌≡◌, ℕ, suc, ◌+◌, ◌*◌, ◌<◌, ℤ, ◌≤◌, List, [], ◌∷◌, ◌++◌, length, drop, get_or, Result, Ok, Err, IfOk, refl, sym, ap, ◌∙◌, arith}
 use Rattle.std.proofs.Math.Seq.{drop-cons}
 use Rattle.jbig2_base.specs.Grid.{Grid}
 use Rattle.jbig2_base.specs.Counts.{Counts, WritesWithin, most_words, overlap}
@@ -7,7 +7,7 @@ use Rattle.jbig2_base.proofs.Prices.{combined-paid}
 use Rattle.jbig2_steps.specs.Work.{PaidBut, price_of_bitmap}
 use Rattle.jbig2_steps.specs.declared.work.Work.{Work}
 use Rattle.jbig2_steps.proofs.WorkLemmas.{counts-worth}
-use Rattle.jbig2_text.specs.Paying.{drawing_price}
+use Rattle.jbig2_text.specs.Paying.{drawing_price, number_steps}
 use Rattle.jbig2_text.specs.Text.{Instance}
 use Rattle.jbig2_text.specs.inner.TextViews.{instance_view, instances_view, symbol_view}
 use Rattle.jbig2_text.specs.declared.text.placement.Instance.{Instance as PlacedSymbol}
@@ -50,3 +50,10 @@ drawing-next {B} {M} all k i inside is =
 -- a symbol that is combined with the region
 pub drawn-paid : {L : Type 0} (w : Work L) (page source : Grid) (x y : ℤ) (steps : Counts) → WritesWithin (overlap page.height source.height y * most_words (overlap page.width source.width x)) w.steps steps → PaidBut (32 * price_of_bitmap source.width source.height) w (record w { steps = steps })
 drawn-paid {L} w page source x y steps written = counts-worth w steps (32 * price_of_bitmap source.width source.height) (combined-paid page source x y w.steps steps written)
+
+-- ---- reading instances
+-- What is left to pay for after the last instance, where `units` pay for drawing the `placed` ones before it. The strip has
+-- begun at `w1`, and its other instances end at `w2`.
+pub drawn-all : {X E : Type 0} (result : Result X E) (price : X → ℕ) (n inner units placed w0 w1 w2 w3 : ℕ) → inner + 1 ≡ n → units ≡ placed → w1 ≤ w0 + number_steps 2 → w2 ≤ w1 + number_steps (10 * inner) → IfOk result (λ x. w3 + 32 * (units + price x) ≤ w2 + number_steps 8 + 32 * placed) → IfOk result (λ x. w3 + 32 * price x ≤ w0 + number_steps (10 * n))
+drawn-all (Ok x) price n inner units placed w0 w1 w2 w3 all same first others last = omega (arith, all, same, first, others, last)
+drawn-all (Err e) price n inner units placed w0 w1 w2 w3 all same first others last = tt
