@@ -1,5 +1,5 @@
 -- What is counted for a bitmap is within its price.
-use Rattle.std.proofs.Common.{◌≡◌, ℕ, zero, suc, ◌+◌, ◌-◌, ◌*◌, ◌/◌, ◌≤◌, ℤ, pos, negsuc, refl, ap, ◌∙◌, arith}
+use Rattle.std.proofs.Common.{◌≡◌, ℕ, zero, suc, ◌+◌, ◌*◌, ◌≤◌, ℤ, pos, negsuc, refl, ap, ◌∙◌, arith}
 use Rattle.std.proofs.Math.Nat.{mul-le-mul_left, mul-le-mul_right}
 use Rattle.jbig2_base.specs.Counts.{Counts, WritesWithin, most_words, overlap, words_copied, words_of}
 use Rattle.jbig2_base.specs.Grid.{Grid}

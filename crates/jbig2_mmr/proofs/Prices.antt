@@ -1,6 +1,6 @@
 -- What is counted for MMR data is within the price of its bitmap and a unit for each byte.
 use Rattle.std.specs.Prelude.{if◌then◌else◌}
-use Rattle.std.proofs.Common.{◌≡◌, ℕ, ◌+◌, ◌-◌, ◌*◌, ◌/◌, ◌≤◌, Bool, true, false, not, ◌&&◌, List, length, Result, Ok, Err, refl, subst, arith}
+use Rattle.std.proofs.Common.{◌≡◌, ℕ, ◌+◌, ◌*◌, ◌≤◌, Bool, true, false, not, ◌&&◌, List, length, Result, Ok, Err, subst, arith}
 use Rattle.std.proofs.Math.Nat.{mul-le-mul_right}
 use Rattle.jbig2_base.specs.Answer.{Answers}
 use Rattle.jbig2_base.specs.Counts.{Counts, KeepsLanes, words_of}

@@ -7,7 +7,7 @@ use Rattle.jbig2_steps.specs.Work.{counted, price_of_bitmap, words_of_row}
 use Rattle.jbig2_steps.proofs.WorkLemmas.{row-paid}
 use Rattle.jbig2_region.specs.GenericSteps.{CountsCoded, read_pixels}
 use Rattle.jbig2_region.specs.Raster.{Coding, Region, row_decisions}
-use Rattle.jbig2_region.specs.Steps.{CountsDecided, CountsRegion, coded_pixels, row_loads, row_tests, row_words}
+use Rattle.jbig2_region.specs.Steps.{CountsRegion, coded_pixels, row_loads, row_tests, row_words}
 use Rattle.jbig2_region.specs.Templates.{adaptive_pixel_count, context_bits, is_nominal}
 use Rattle.jbig2_region.specs.declared.template.AdaptiveTemplatePixel.{AdaptiveTemplatePixel}
 use Rattle.jbig2_region.specs.declared.template.Template.{Template}

@@ -1,6 +1,6 @@
 -- What is counted for a refinement is within the price of a bitmap of its size.
 use Rattle.std.specs.Prelude.{if◌then◌else◌}
-use Rattle.std.proofs.Common.{◌≡◌, ℕ, zero, suc, ◌+◌, ◌*◌, ◌/◌, ◌≤◌, Bool, true, false, List, Option, Some, None, ap, arith}
+use Rattle.std.proofs.Common.{◌≡◌, ℕ, zero, suc, ◌+◌, ◌*◌, ◌≤◌, Bool, true, false, List, Option, Some, None, ap, arith}
 use Rattle.std.proofs.Math.Nat.{mul-le-mul_left}
 use Rattle.jbig2_base.specs.Counts.{Counts}
 use Rattle.jbig2_base.specs.Grid.{bit_number}
@@ -8,7 +8,7 @@ use Rattle.jbig2_steps.specs.Work.{counted, price_of_bitmap, words_of_row}
 use Rattle.jbig2_steps.proofs.WorkLemmas.{row-paid}
 use Rattle.jbig2_region.specs.Raster.{Coding, Region, row_decisions}
 use Rattle.jbig2_region.specs.RefinementTemplates.{is_nominal, refinement_bits}
-use Rattle.jbig2_region.specs.Steps.{CountsDecided, how_many, pixel_decisions, refinement_loads, takes_decision, window_loads}
+use Rattle.jbig2_region.specs.Steps.{CountsDecided, how_many, pixel_decisions, refinement_loads, window_loads}
 use Rattle.jbig2_region.specs.declared.template.AdaptiveTemplatePixel.{AdaptiveTemplatePixel}
 use Rattle.jbig2_region.specs.declared.template.RefinementTemplate.{RefinementTemplate}
 use Rattle.jbig2_region.specs.declared.template.RefinementTemplate.TheVariants.{Template0, Template1}

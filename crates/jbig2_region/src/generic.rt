@@ -118,9 +118,9 @@ pub fn parse<'a>(
 
 /// Decodes a region (T.88, 6.2) into a white bitmap of its size. The contexts begin fresh, whatever
 /// `contexts` held, and are left there as the region leaves them; MMR data does not touch them, nor
-/// does its refusal. The steps of a region are bounded unless it has MMR data; with nominal adaptive
-/// pixels a run of eight likely symbols takes no decision. A refusal takes no step but with MMR data,
-/// which counts no group of lanes and no single pixel.
+/// does its refusal. What is counted is within the price of a bitmap of this size and a unit for each
+/// coded byte. With nominal adaptive pixels a run of eight likely symbols takes no decision. A refusal
+/// takes no step but with MMR data, which counts no group of lanes and no single pixel.
 ///
 /// `OutOfMemory` where there is no room for the contexts; in strict mode
 /// `RegionError::InvalidMmrData` where MMR data has a fault or lacks a row. The bitmap is then as it was,

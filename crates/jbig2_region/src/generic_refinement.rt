@@ -129,7 +129,8 @@ fn offset<B: Allocator>(
 /// `RegionError::InvalidDimension` where the reference is narrower or lower than the region;
 /// `OverflowError::ReferenceOffset` where a place of either is 2^31 or more; `OutOfMemory` where
 /// there is no room for the contexts. An error leaves the bitmap as it was, and the
-/// contexts too unless memory ran out; it takes no step.
+/// contexts too unless memory ran out; it takes no step. What is counted is within the price of a
+/// bitmap of this size.
 pub fn decode_into<A: Allocator, B: Allocator, C: Allocator, L: Ledger>(
     header: &GenericRefinementRegionHeader<'_>,
     reference: &DecodedRegion<B>,
