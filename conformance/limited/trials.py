@@ -53,9 +53,10 @@ class Found:
             mine.extend(others)
 
 
-def limits_below(units: int) -> list[int]:
-    """The limits below what is taken that are tried: evenly spread ones, fewer where much is taken."""
-    count = min(SPREAD if units <= SMALL else 3, units)
+def limits_below(units: int, every: int = 0) -> list[int]:
+    """The limits below what is taken that are tried: each where that is at most `every`, else evenly spread ones, fewer
+    where much is taken."""
+    count = units if units <= every else min(SPREAD if units <= SMALL else 3, units)
     return sorted({(units - 1) * at // max(1, count - 1) for at in range(count)})
 
 
@@ -75,8 +76,9 @@ def least(is_enough: Callable[[int], bool]) -> int:
 class Trial:
     """The trials of one subject in one mode."""
 
-    def __init__(self, library: Library, example: Page, subject: Subject, strict: bool) -> None:
+    def __init__(self, library: Library, example: Page, subject: Subject, strict: bool, every: int = 0) -> None:
         self.library, self.example, self.subject, self.strict = library, example, subject, strict
+        self.every = every
         self.name = f"{subject.name}, {'strict' if strict else 'lenient'}"
         self.found = Found()
 
@@ -129,7 +131,7 @@ class Trial:
         self.check(free != OUT_OF_MEMORY, "what pages share is decoded without a limit")
         units = least(lambda work: work >= LARGE or answer(work) != OUT_OF_MEMORY)
         self.check(answer(units) == free, f"what pages share is the same within {units}")
-        for work in limits_below(units):
+        for work in limits_below(units, self.every):
             self.check(answer(work) == OUT_OF_MEMORY, f"what pages share is refused within {work} of {units}")
         memories = CountingMemory(), CountingMemory()
         for work, memory in zip((0, units), memories):
@@ -152,7 +154,7 @@ class Trial:
             self.check(units < LARGE and large.is_same(free), "a page is the same within a large limit")
             exact = context.drawn(page, units)
             self.check(exact.left == 0 and exact.is_same(free), f"a page is the same within {units}, which is used up")
-            for work in limits_below(units):
+            for work in limits_below(units, self.every):
                 refused = context.within(page, work)
                 self.check(refused == (OUT_OF_MEMORY, 0), f"{work} of {units} units are refused, not {refused}")
             self.check(context.drawn(self.example) == example and example.answer == OK, "the example is drawn after")

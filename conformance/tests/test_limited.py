@@ -22,6 +22,7 @@ class LimitedTest(unittest.TestCase):
             limits = limits_below(units)
             self.assertEqual((limits[0], limits[-1], len(limits)), (0, units - 1, SPREAD))
         self.assertEqual(limits_below(1 << 40)[-1], (1 << 40) - 1)
+        self.assertEqual(limits_below(SMALL, SMALL), list(range(SMALL)))
 
     def test_the_least_limit(self):
         for wanted in (0, 1, 2, 3, 63, 64, 65, 123456789):

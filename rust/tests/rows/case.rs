@@ -7,6 +7,8 @@ use crate::salvage::SalvageCase;
 use crate::spelling::spelled;
 use crate::watcher::Watcher;
 use hayro_jbig2::{DecodeError, DecodeSettings, DecoderContext, Globals, Page};
+use std::path::PathBuf;
+use std::sync::atomic::{AtomicUsize, Ordering};
 
 pub struct Row {
     pub name: &'static str,
@@ -118,7 +120,20 @@ impl Case {
     }
 }
 
+/// Writes a page as a file of its own, if the environment names a folder: `conformance/limits` tries such files.
+fn save(name: &str, parts: &[&[u8]]) {
+    let Some(folder) = std::env::var_os("HAYRO_JBIG2_ROWS_FOLDER") else {
+        return;
+    };
+    static COUNT: AtomicUsize = AtomicUsize::new(0);
+    let file = format!("{name} {}.jb2", COUNT.fetch_add(1, Ordering::Relaxed));
+    // The header of a sequential file that doesn't state its number of pages.
+    let header: &[u8] = b"\x97JB2\r\n\x1a\n\x03";
+    std::fs::write(PathBuf::from(folder).join(file), [&[header], parts].concat().concat()).unwrap();
+}
+
 fn check_page(name: &str, modes: Modes, bytes: &[u8], answer: &Answer, context: &mut DecoderContext) {
+    save(name, &[bytes]);
     for settings in modes.settings() {
         answer.check(name, Page::new_embedded(bytes, None, settings), context);
     }
@@ -130,6 +145,7 @@ fn check_page(name: &str, modes: Modes, bytes: &[u8], answer: &Answer, context: 
 
 fn check_shared(name: &str, globals: &str, bytes: &str, answer: &Answer, context: &mut DecoderContext) {
     let bytes = spelled(bytes);
+    save(name, &[&spelled(globals), &bytes]);
     for settings in Modes::Both.settings() {
         let globals = Globals::new(&spelled(globals), settings).unwrap();
         answer.check(name, Page::new_embedded(&bytes, Some(&globals), settings), context);
