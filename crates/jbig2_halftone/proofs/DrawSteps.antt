@@ -154,6 +154,10 @@ pub on-err : {X E : Type 0} (result : Result X E) (P Q : Type 0) → (P → Q) �
 on-err (Ok x) P Q f p = _
 on-err (Err e) P Q f p = f p
 
+pub on-all : {X E : Type 0} (result : Result X E) (P : Type 0) → P → OnOk result P
+on-all (Ok x) P p = p
+on-all (Err e) P p = _
+
 pub on-any : {X E : Type 0} (result : Result X E) (P : Type 0) → P → OnErr result P
 on-any (Ok x) P p = _
 on-any (Err e) P p = p

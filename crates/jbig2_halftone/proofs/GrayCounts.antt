@@ -1,12 +1,14 @@
 -- What the planes of an image take.
-use Rattle.std.proofs.Common.{◌≡◌, ℕ, ◌+◌, ◌*◌, ◌/◌, ◌%◌, ◌≤◌, Bool, true, false, not, List, Option, None, Some, add-one, add-mul, refl, sym, ap, subst, ◌∙◌, arith}
+use Rattle.std.proofs.Common.{◌≡◌, ℕ, ◌+◌, ◌-◌, ◌*◌, ◌/◌, ◌%◌, ◌≤◌, Bool, true, false, not, List, drop, length, Option, None, Some, add-one, add-mul, refl, sym, ap, subst, ◌∙◌, arith}
 use Rattle.std.specs.Borrow.{Bor}
 use Rattle.std.specs.Prelude.{is_some}
-use Rattle.std.proofs.Math.Nat.{mul-le-mul_left}
+use Rattle.std.proofs.Math.Nat.{mul-le-mul_left, mul-le-mul_right}
+use Rattle.std.proofs.lemmas.List.{length-drop}
 use Rattle.jbig2_base.proofs.LaneCounts.{lanes-none, lanes-then}
-use Rattle.jbig2_base.specs.Counts.{Counts, KeepsLanes}
+use Rattle.jbig2_base.specs.Counts.{Counts, KeepsLanes, words_of}
 use Rattle.jbig2_base.specs.Grid.{Grid, blank}
 use Rattle.jbig2_coder.specs.Coder.{Coder, Context, Registers}
+use Rattle.jbig2_mmr.specs.Steps.{MovesWithin}
 use Rattle.jbig2_region.specs.Generic.{coding_of}
 use Rattle.jbig2_region.specs.GenericSteps.{read_pixels}
 use Rattle.jbig2_region.specs.Raster.{Coding, Region, at_pixel, no_pixels}
@@ -17,8 +19,8 @@ use Rattle.jbig2_region.specs.declared.template.AdaptiveTemplatePixel.{AdaptiveT
 use Rattle.jbig2_region.specs.declared.template.Template.{Template}
 use Rattle.jbig2_region.specs.declared.template.Template.TheVariants.{Template0, Template1, Template2, Template3}
 use Rattle.jbig2_halftone.specs.GrayScale.{GrayScale, nominal_pixels, after_planes}
-use Rattle.jbig2_halftone.specs.Steps.{CountsImage, CountsLanes, CountsMasked, CountsPlanes, CountsRead, StopsImage, plane_runs}
-use Rattle.jbig2_halftone.specs.inner.Stages.{CountsCoded, CountsOne, CountsPlane, StopsCoded, plain_coding, plane_pixels, plane_start, after_lane_rows}
+use Rattle.jbig2_halftone.specs.Steps.{CountsImage, CountsLanes, CountsMasked, CountsPlanes, CountsRead, StopsImage, plane_runs, words_of_plane}
+use Rattle.jbig2_halftone.specs.inner.Stages.{CountsCoded, CountsMmr, CountsOne, CountsPlane, StopsCoded, plain_coding, plane_pixels, plane_start, after_lane_rows}
 use Rattle.jbig2_halftone.proofs.PlaneLemmas.{BehindPlanes, no-mask}
 use Rattle.jbig2_region.proofs.PlaceCounts.{how_many-all}
 use Rattle.jbig2_region.proofs.PlaceLemmas.{at_pixel-plain}
@@ -54,7 +56,7 @@ all-coded pixels t w h bytes start plain =
 
 planes-begin : (p : GrayScale) (bytes : List ℕ) (steps : Counts) → CountsPlanes p bytes 0 steps steps
 unfolding plane_runs
-planes-begin p bytes steps = record { decisions = λ _. omega arith; run_tests = omega arith; words = omega arith; loads = omega arith; lanes = lanes-none steps }
+planes-begin p bytes steps = record { empty = λ _. refl; decisions = λ _. omega arith; run_tests = omega arith; words = omega arith; loads = omega arith; lanes = lanes-none steps }
 
 one-more : (n v : ℕ) → (n + 1) * v ≡ n * v + v
 one-more n v = omega (arith, add-mul n 1 v)
@@ -66,6 +68,7 @@ planes-more p bytes i old mid new before one =
     let coded = all-coded (plane_pixels p) p.template p.width p.height bytes (plane_start p bytes i) refl in
     let none : p.width * p.height * 0 ≡ 0 = omega arith in
     record {
+      empty = λ none. one.empty none ∙ before.empty none;
       decisions = λ some.
           let here = one.decisions some in
           let plain = rw coded at here in
@@ -107,26 +110,69 @@ counts-more p bytes i plane coder states old mid new planes white behind before 
   masked = λ some. masked-more p i old mid new (before.masked some) (subst (λ (g : Grid). CountsSkipping p.skip_mask g.width g.height mid new) white (one.masked some));
 }
 
+-- nothing moved
+moves-none : (most : ℕ) (steps : Counts) → MovesWithin most steps steps
+moves-none most steps = record { moves = omega arith; decisions = refl; run_tests = refl }
+
 -- no plane of those that are asked for
 pub stops-none : (p : GrayScale) (bytes : List ℕ) (steps : Counts) → StopsImage p bytes steps steps
-stops-none p bytes steps = (0, (omega arith, record { plain = λ _ _. planes-begin p bytes steps; masked = λ _ _. masked-begin p steps; lanes = lanes-none steps }))
+stops-none p bytes steps = (0, (omega arith, record { plain = λ _ _. planes-begin p bytes steps; masked = λ _ _. masked-begin p steps; mmr = λ _. moves-none _ steps; lanes = lanes-none steps }))
 
 pub stops-some : (p : GrayScale) (bytes : List ℕ) (count : ℕ) (old new : Counts) → count ≤ p.bits_per_pixel → CountsRead p bytes count old new → StopsImage p bytes old new
 stops-some p bytes count old new few read = (count, (few, read))
 
--- planes that MMR wrote, of which lanes alone are counted
-pub mmr-stops : (p : GrayScale) (bytes : List ℕ) (old new : Counts) → p.use_mmr ≡ true → KeepsLanes old new → StopsImage p bytes old new
-mmr-stops p bytes old new mmr lanes = (0, (omega arith, record { plain = λ coded _. absurd (clash p.use_mmr mmr coded); masked = λ coded _. absurd (clash p.use_mmr mmr coded); lanes = lanes }))
-  where
-    clash : (b : Bool) → b ≡ true → b ≡ false → ⊥
-    clash b on off = cc
+-- ---- planes that MMR wrote
+pub mmr-begin : (words all : ℕ) (steps : Counts) → CountsMmr words 0 all all steps steps
+mmr-begin words all steps = record { moves = omega arith; decisions = refl; run_tests = refl }
+
+-- one more, of the bytes that are left
+pub mmr-more : (words i all left rest : ℕ) (old mid new : Counts) → CountsMmr words i all left old mid → CountsMmr words 1 left rest mid new → CountsMmr words (i + 1) all rest old new
+mmr-more words i all left rest old mid new before one = record {
+  moves = rw (one-more i words) (omega (arith, before.moves, one.moves));
+  decisions = one.decisions ∙ before.decisions;
+  run_tests = one.run_tests ∙ before.run_tests;
+}
+
+-- no more than all of them
+pub mmr-some : (words i count all left : ℕ) (old new : Counts) → i ≤ count → CountsMmr words i all left old new → MovesWithin (3 * (count * words + 8 * all)) old new
+mmr-some words i count all left old new few counts = record {
+  moves = omega (arith, counts.moves, mul-le-mul_right {m = i} {n = count} words few);
+  decisions = counts.decisions;
+  run_tests = counts.run_tests;
+}
+
+-- one plane
+mmr-words : (p : GrayScale) (white : Grid) → white ≡ blank p.width p.height false → words_of white ≡ words_of_plane p
+mmr-words p white is = ap words_of is
+
+pub mmr-one : (p : GrayScale) (white : Grid) (bytes rest : List ℕ) (used : ℕ) (old new : Counts) → white ≡ blank p.width p.height false → used ≤ length bytes → rest ≡ drop used bytes → MovesWithin (3 * (words_of white + 8 * used)) old new → CountsMmr (words_of_plane p) 1 (length bytes) (length rest) old new
+mmr-one p white bytes rest used old new is within others moves =
+    let left : length rest ≡ length bytes - used = ap (λ (bs : List ℕ). length bs) others ∙ length-drop used bytes in
+    record { moves = omega (arith, left, mmr-words p white is, moves.moves); decisions = moves.decisions; run_tests = moves.run_tests }
+
+-- one that is refused
+pub mmr-refused : (p : GrayScale) (white : Grid) (all : ℕ) (old new : Counts) → white ≡ blank p.width p.height false → MovesWithin (3 * (words_of white + 8 * all)) old new → CountsMmr (words_of_plane p) 1 all 0 old new
+mmr-refused p white all old new is moves = record { moves = omega (arith, mmr-words p white is, moves.moves); decisions = moves.decisions; run_tests = moves.run_tests }
+
+clash : (b : Bool) → b ≡ true → b ≡ false → ⊥
+clash b on off = cc
+
+pub mmr-read : (p : GrayScale) (bytes : List ℕ) (count : ℕ) (old new : Counts) → p.use_mmr ≡ true → MovesWithin (3 * (count * words_of_plane p + 8 * length bytes)) old new → KeepsLanes old new → CountsRead p bytes count old new
+mmr-read p bytes count old new is moves lanes = record { plain = λ coded _. absurd (clash p.use_mmr is coded); masked = λ coded _. absurd (clash p.use_mmr is coded); mmr = λ _. moves; lanes = lanes }
+
+-- planes that the coder wrote
+pub coded-read : (p : GrayScale) (bytes : List ℕ) (count : ℕ) (old new : Counts) → p.use_mmr ≡ false → CountsCoded p bytes count old new → KeepsLanes old new → CountsRead p bytes count old new
+coded-read p bytes count old new coded counts lanes = record { plain = λ _. counts.plain; masked = λ _. counts.masked; mmr = λ is. absurd (clash p.use_mmr is coded); lanes = lanes }
+
+pub mmr-stops : (p : GrayScale) (bytes : List ℕ) (old new : Counts) → p.use_mmr ≡ true → MovesWithin (3 * (p.bits_per_pixel * words_of_plane p + 8 * length bytes)) old new → KeepsLanes old new → StopsImage p bytes old new
+mmr-stops p bytes old new is moves lanes = (p.bits_per_pixel, (omega arith, mmr-read p bytes p.bits_per_pixel old new is moves lanes))
 
 -- this many of the planes that the coder wrote
 pub coded-some : (p : GrayScale) (bytes : List ℕ) (count : ℕ) (old new : Counts) → count ≤ p.bits_per_pixel → CountsCoded p bytes count old new → StopsCoded p bytes old new
 coded-some p bytes count old new few counts = (count, (few, counts))
 
-pub coded-stops : (p : GrayScale) (bytes : List ℕ) (old new : Counts) → KeepsLanes old new → StopsCoded p bytes old new → StopsImage p bytes old new
-coded-stops p bytes old new lanes (count, (few, counts)) = (count, (few, record { plain = λ _. counts.plain; masked = λ _. counts.masked; lanes = lanes }))
+pub coded-stops : (p : GrayScale) (bytes : List ℕ) (old new : Counts) → p.use_mmr ≡ false → KeepsLanes old new → StopsCoded p bytes old new → StopsImage p bytes old new
+coded-stops p bytes old new coded lanes (count, (few, counts)) = (count, (few, coded-read p bytes count old new coded counts lanes))
 
 pub stops-lanes : (p : GrayScale) (bytes : List ℕ) (old new : Counts) → StopsImage p bytes old new → KeepsLanes old new
 stops-lanes p bytes old new (planes, (few, read)) = read.lanes

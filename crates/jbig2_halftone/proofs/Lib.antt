@@ -9,5 +9,6 @@ mod HalftoneLemmas
 mod LaneLemmas
 mod PatternLemmas
 mod PlaneLemmas
+pub mod Prices
 mod RowLemmas
 mod WorkedHalftones

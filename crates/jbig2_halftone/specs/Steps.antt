@@ -2,8 +2,10 @@
 -- read, values that are taken out of them by lanes of eight pixels, patterns that are drawn and patterns that are cut out.
 -- Each `Counts..` takes an image, a region or a dictionary, and the counts before and after it. `Stops..` is the same for one
 -- that is refused: what was done until then is no more than a part of what `Counts..` counts.
-use Rattle.std.specs.Prelude.{ℕ, zero, suc, ◌≡◌, ◌≤◌, ◌+◌, ◌*◌, ◌/◌, ◌%◌, true, false, if◌then◌else◌, List, None, is_some, ◌⊎◌}
+use Rattle.std.specs.Prelude.{ℕ, zero, suc, ◌≡◌, ◌≤◌, ◌+◌, ◌*◌, ◌/◌, ◌%◌, true, false, if◌then◌else◌, List, length, None, is_some, ◌⊎◌}
+use Rattle.jbig2_steps.specs.Work.{price_of_bitmap}
 use Rattle.jbig2_base.specs.Counts.{WritesWithin, overlap, most_words, words_copied, Counts, KeepsLanes}
+use Rattle.jbig2_mmr.specs.Steps.{MovesWithin}
 use Rattle.jbig2_region.specs.{Generic.{coding_of}, GenericSteps.{CountsGeneric}, Raster.{no_pixels}, Steps.{coded_runs, row_loads, row_tests, row_words, kept_pixels, skipping_loads, skipping_words}, Templates.{template_pixels}}
 use Rattle.jbig2_halftone.specs.{GrayScale.{GrayScale, nominal_pixels, after_planes}, Halftone.{column_of, gray_params, row_of, skip_mask}, HalftoneHeader.{HalftoneHeader}, PatternHeader.{PatternHeader}, Patterns.{Patterns, collective_header}}
 
@@ -16,8 +18,10 @@ plane_runs p bytes (suc count) =
     plane_runs p bytes count
     + coded_runs pixels true (coding_of false p.template pixels) p.width p.height bytes (no_pixels before.registers before.contexts)
 
--- the highest planes, without skipped pixels: a decision for each pixel, less eight for each run byte, and no lanes
+-- the highest planes, without skipped pixels: a decision for each pixel, less eight for each run byte, and no lanes;
+-- empty planes take no step
 pub record CountsPlanes (p : GrayScale) (bytes : List ℕ) (count : ℕ) (before after : Counts) : Type 0 where
+  pub empty : p.width * p.height ≡ 0 → after ≡ before
   pub decisions : 1 ≤ p.width → after.decisions + 8 * plane_runs p bytes count ≡ before.decisions + count * (p.width * p.height)
   pub run_tests : after.run_tests ≤ before.run_tests + count * (p.height * row_tests true p.width)
   pub words : after.words ≤ before.words + count * (p.height * row_words true p.width)
@@ -31,10 +35,15 @@ pub record CountsMasked (p : GrayScale) (count : ℕ) (before after : Counts) : 
   pub words : after.words ≤ before.words + count * (p.height * skipping_words p.width)
   pub loads : after.loads ≤ before.loads + count * (p.height * skipping_loads p.width)
 
--- this many of the highest planes; MMR data alone isn't counted, but for lanes
+abbrev pub words_of_plane : GrayScale → ℕ  -- how many words of 64 pixels a plane has
+words_of_plane p = (p.width + 63) / 64 * p.height
+
+-- This many of the highest planes. MMR data makes at most three loads and words together for each word of a plane and each
+-- bit of the bytes, of which no plane uses those that one before it has used.
 pub record CountsRead (p : GrayScale) (bytes : List ℕ) (count : ℕ) (before after : Counts) : Type 0 where
   pub plain : p.use_mmr ≡ false → p.skip_mask ≡ None → CountsPlanes p bytes count before after
   pub masked : p.use_mmr ≡ false → is_some p.skip_mask ≡ true → CountsMasked p count before after
+  pub mmr : p.use_mmr ≡ true → MovesWithin (3 * (count * words_of_plane p + 8 * length bytes)) before after
   pub lanes : KeepsLanes before after
 
 -- this many of the highest planes are read, and then this many rows of each are taken by groups of eight lanes and single pixels
@@ -112,3 +121,18 @@ CountsDictionary h before after = CountsCut h (h.gray_max + 1) before after
 abbrev pub StopsDictionary : PatternHeader → Counts → Counts → Type 0
 StopsDictionary h before after =
     (after ≡ before) ⊎ ((count : ℕ) × ((count ≤ h.gray_max + 1) × CountsCut h count before after))
+
+-- ---- prices: how many units pay for what is counted, after every answer
+-- an image: a bitmap of its size for each plane, and a unit for each byte
+abbrev pub price_of_image : GrayScale → List ℕ → ℕ
+price_of_image p bytes = price_of_bitmap p.width p.height * p.bits_per_pixel + length bytes
+
+-- a region: the planes of its values, a pattern for each cell, and a unit for each byte
+abbrev pub price_of_halftone : HalftoneHeader → Patterns → ℕ
+price_of_halftone h d =
+    let grid = h.grid_position_and_size in
+    price_of_bitmap grid.width grid.height * (gray_params h d).bits_per_pixel + price_of_bitmap d.width d.height * (grid.width * grid.height) + length h.bytes
+
+-- a dictionary: two patterns for each pattern, in the collective bitmap and cut out of it, and a unit for each byte
+abbrev pub price_of_patterns : PatternHeader → ℕ
+price_of_patterns h = price_of_bitmap h.pattern_width h.pattern_height * (2 * (h.gray_max + 1)) + length h.bytes

@@ -1,9 +1,10 @@
 //! Gray-scale images (T.88, Annex C).
 ghost use Rattle.std.specs.Prelude.{◌≡◌, ◌≤◌, ℕ, true, [], Ok, OnOk, OnErr};
+ghost use Rattle.jbig2_steps.specs.Work.{CountsWithin};
 ghost use Rattle.jbig2_base.specs.Answer.{Gives, Leaves};
 ghost use Rattle.jbig2_base.specs.Counts.{KeepsLanes};
 ghost use Rattle.jbig2_halftone.specs.GrayScale.{gray_values, gray_scale_image, gray_contexts, GrayScale};
-ghost use Rattle.jbig2_halftone.specs.Steps.{CountsImage, CountsLanes, StopsImage};
+ghost use Rattle.jbig2_halftone.specs.Steps.{CountsImage, CountsLanes, StopsImage, price_of_image};
 ghost use Rattle.jbig2_region.specs.Steps.{row_loads, skipping_loads};
 ghost use Rattle.jbig2_halftone.specs.inner.HalftoneViews.{gray_view};
 ghost use Rattle.jbig2_base.specs.Causes.{HasCauseOrNoMemory};
@@ -86,6 +87,7 @@ pub fn decode_gray_scale_image<M: Allocator, A: Allocator + Clone, B: Allocator,
     ensures lanes { OnOk result (CountsLanes (gray_view params.now) steps.old steps.new) }
     ensures no_lanes { OnErr result (KeepsLanes steps.old steps.new) }
     ensures no_planes { params.now.bits_per_pixel ≡ 0 → steps.new ≡ steps.old }
+    ensures paid { CountsWithin (price_of_image (gray_view params.now) bytes.now) steps.old steps.new }
     ensures causes { HasCauseOrNoMemory result (BreaksGrayScale (gray_view params.now) bytes.now) }
 {
     let too_long = params.width > MAX_DIMENSION || params.height > MAX_DIMENSION;

@@ -1,6 +1,7 @@
 //! Halftone regions (T.88, 6.6 and 7.4.5).
 ghost use Rattle.std.specs.Prelude.{◌≡◌, ◌+◌, ◌*◌, ◌<◌, ◌≤◌, length, false, ◌⊎◌, IfErr, IfOk, OnErr, OnOk, FitsSigned, Ok};
 ghost use Rattle.std.specs.Int.{w32, int_shr};
+ghost use Rattle.jbig2_steps.specs.Work.{CountsWithin};
 ghost use Rattle.jbig2_base.specs.Answer.{Answers, Gives, Leaves};
 ghost use Rattle.std.specs.List.{All};
 ghost use Rattle.jbig2_base.specs.{Counts.{WritesWithin, most_words, overlap}, Combination.{combined}};
@@ -13,7 +14,7 @@ ghost use Rattle.jbig2_halftone.specs.HalftoneHeader.{HalftoneHeader};
 ghost use Rattle.jbig2_halftone.specs.inner.HalftoneHeaderViews.{header_view};
 ghost use Rattle.jbig2_halftone.specs.PatternHeader.{HasSize};
 ghost use Rattle.jbig2_halftone.specs.inner.DictionaryViews.{dictionary_view};
-ghost use Rattle.jbig2_halftone.specs.Steps.{CountsRead, CountsHalftone, StopsHalftone, after_mask, words_of_cells};
+ghost use Rattle.jbig2_halftone.specs.Steps.{CountsRead, CountsHalftone, StopsHalftone, after_mask, words_of_cells, price_of_halftone};
 ghost use Rattle.jbig2_halftone.specs.inner.CellPlaces.{x_of, y_of};
 ghost use Rattle.jbig2_halftone.specs.inner.Stages.{planes_contexts, skip_grid, after_lane_rows, StopsCells, StopsRows};
 ghost use Rattle.jbig2_base.specs.Causes.{HasCauseOrNoMemory};
@@ -320,6 +321,8 @@ pub fn decode_into<D: Allocator, M: Allocator, A: Allocator + Clone, B: Allocato
         (dictionary_view dictionary.now) steps.old steps.new) }
     ensures stopped { OnErr result (StopsHalftone (header_view header.now)
         (dictionary_view dictionary.now) steps.old steps.new) }
+    ensures paid { CountsWithin (price_of_halftone (header_view header.now)
+        (dictionary_view dictionary.now)) steps.old steps.new }
 {
     let mut values = value_row(alloc.clone()?, header.grid_position_and_size.width)?;
     let planes = match read_cells(alloc, header, dictionary, contexts, steps) {
@@ -353,6 +356,8 @@ pub fn decode<D: Allocator, A: Allocator + Clone, B: Allocator, L: Ledger>(
         (dictionary_view dictionary.now) steps.old steps.new) }
     ensures stopped { OnErr result (StopsHalftone (header_view header.now)
         (dictionary_view dictionary.now) steps.old steps.new) }
+    ensures paid { CountsWithin (price_of_halftone (header_view header.now)
+        (dictionary_view dictionary.now)) steps.old steps.new }
 {
     let region_info = &header.region_info;
     let mut bitmap = Bitmap::new_with(

@@ -1,10 +1,11 @@
 //! Pattern dictionaries (T.88, 6.7 and 7.4.4).
 ghost use Rattle.std.specs.Prelude.{◌≡◌, ◌+◌, ◌*◌, ◌/◌, ◌≤◌, [], ◌∷◌, length, IfOk, OnErr, OnOk, Ok, Bool, true, false};
+ghost use Rattle.jbig2_steps.specs.Work.{CountsWithin};
 ghost use Rattle.jbig2_base.specs.Answer.{Answers, Gives, Leaves};
 ghost use Rattle.jbig2_base.specs.Bits.{IsAligned};
 ghost use Rattle.jbig2_base.specs.Counts.{KeepsLanes, words_copied};
 ghost use Rattle.jbig2_region.specs.Generic.{generic_answer, contexts_after};
-ghost use Rattle.jbig2_region.specs.GenericSteps.{CountsGeneric};
+ghost use Rattle.jbig2_region.specs.GenericSteps.{CountsGeneric, price_of_region};
 ghost use Rattle.jbig2_region.specs.Templates.{left, right};
 ghost use Rattle.jbig2_region.specs.declared.template.GenericTemplatePixels.TheVariants.{Regular};
 ghost use Rattle.jbig2_halftone.specs.PatternHeader.{side_at, pattern_header_at};
@@ -12,7 +13,7 @@ ghost use Rattle.jbig2_halftone.specs.Patterns.{collective_width, collective_hea
 ghost use Rattle.jbig2_halftone.specs.inner.DictionaryViews.{dictionary_view};
 ghost use Rattle.jbig2_halftone.specs.inner.PatternViews.{header_view};
 ghost use Rattle.jbig2_halftone.specs.inner.Stages.{pattern_of, StopsCut};
-ghost use Rattle.jbig2_halftone.specs.Steps.{CountsDictionary, StopsDictionary};
+ghost use Rattle.jbig2_halftone.specs.Steps.{CountsDictionary, StopsDictionary, price_of_patterns};
 ghost use Rattle.jbig2_base.specs.Causes.{HasCause, HasCauseOrNoMemory};
 ghost use Rattle.jbig2_halftone.specs.Causes.{BreaksPatternHeader, BreaksPatterns};
 
@@ -189,6 +190,8 @@ fn decode_collective<A: Allocator, B: Allocator, L: Ledger>(
         (CountsGeneric (collective_header (header_view header.now)) steps.old steps.new) }
     ensures stopped { header.now.mmr ≡ false → OnErr result (steps.new ≡ steps.old) }
     ensures lanes { KeepsLanes steps.old steps.new }
+    ensures paid { CountsWithin (price_of_region (collective_header (header_view header.now)))
+        steps.old steps.new }
 {
     let region_info = RegionSegmentInfo {
         width,
@@ -236,6 +239,7 @@ pub fn decode<A: Allocator + Clone, B: Allocator, L: Ledger>(
     ensures stopped { OnErr result
         (StopsDictionary (header_view header.now) steps.old steps.new) }
     ensures lanes { KeepsLanes steps.old steps.new }
+    ensures paid { CountsWithin (price_of_patterns (header_view header.now)) steps.old steps.new }
     ensures causes { HasCauseOrNoMemory result (BreaksPatterns (header_view header.now)) }
 {
     let width = u32::from(header.pattern_width);

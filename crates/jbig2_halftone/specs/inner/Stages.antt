@@ -73,6 +73,13 @@ pub record CountsCoded (p : GrayScale) (bytes : List ℕ) (count : ℕ) (before 
   pub plain : p.skip_mask ≡ None → CountsPlanes p bytes count before after
   pub masked : is_some p.skip_mask ≡ true → CountsMasked p count before after
 
+-- This many planes that MMR wrote are read, and of `all` bytes `left` are left: at most three loads and words together for
+-- each word of a plane and each bit of the bytes that are used.
+pub record CountsMmr (words count all left : ℕ) (before after : Counts) : Type 0 where
+  pub moves : after.loads + after.words + 24 * left ≤ before.loads + before.words + 3 * (count * words + 8 * all)
+  pub decisions : after.decisions ≡ before.decisions
+  pub run_tests : after.run_tests ≡ before.run_tests
+
 -- some of them, or all
 abbrev pub StopsCoded : GrayScale → List ℕ → Counts → Counts → Type 0
 StopsCoded p bytes before after = (count : ℕ) × ((count ≤ p.bits_per_pixel) × CountsCoded p bytes count before after)

@@ -1,16 +1,17 @@
 //! The coded planes of a gray-scale image, the highest first (T.88, C.5).
-ghost use Rattle.std.specs.Prelude.{◌≡◌, ◌^◌, ◌≤◌, false, length, OnOk, OnErr};
+ghost use Rattle.std.specs.Prelude.{◌≡◌, ◌+◌, ◌*◌, ◌^◌, ◌≤◌, false, length, IfOk, OnOk, OnErr};
 ghost use Rattle.jbig2_base.specs.Answer.{Gives, Leaves};
 ghost use Rattle.jbig2_base.specs.Counts.{KeepsLanes};
 ghost use Rattle.jbig2_base.specs.Grid.{blank};
+ghost use Rattle.jbig2_mmr.specs.Steps.{MovesWithin};
 ghost use Rattle.jbig2_region.specs.Raster.{fresh_contexts, no_pixels};
 ghost use Rattle.jbig2_region.specs.Templates.{context_bits};
 ghost use Rattle.jbig2_region.specs.inner.PixelArrays.{four_pixels};
 ghost use Rattle.jbig2_region.specs.inner.Holds.{DecodesRegion};
 ghost use Rattle.jbig2_halftone.specs.GrayScale.{nominal_pixels, planes_of, after_planes, image_is_too_large, mmr_plane};
-ghost use Rattle.jbig2_halftone.specs.Steps.{CountsRead, StopsImage};
+ghost use Rattle.jbig2_halftone.specs.Steps.{CountsRead, StopsImage, words_of_plane};
 ghost use Rattle.jbig2_halftone.specs.inner.HalftoneViews.{gray_view};
-ghost use Rattle.jbig2_halftone.specs.inner.Stages.{plane_coding, planes_by_coder, planes_by_mmr, planes_contexts, CountsCoded, CountsOne, StopsCoded};
+ghost use Rattle.jbig2_halftone.specs.inner.Stages.{plane_coding, planes_by_coder, planes_by_mmr, planes_contexts, CountsCoded, CountsMmr, CountsOne, StopsCoded};
 
 use crate::gray_scale::GrayScaleParams;
 use jbig2_base::bitmap::Bitmap;
@@ -125,6 +126,10 @@ fn read_mmr_plane<'a, M: Allocator, A: Allocator, L: Ledger>(
     requires rows { params.now.height ≤ 65535 }
     ensures value { Gives (λ read. (read.0, read.1.now)) result
         (mmr_plane (gray_view params.now) bytes.now) }
+    ensures work { IfOk result (λ read. CountsMmr (words_of_plane (gray_view params.now)) 1
+        (length bytes.now) (length read.1.now) steps.old steps.new) }
+    ensures stopped { OnErr result (CountsMmr (words_of_plane (gray_view params.now)) 1
+        (length bytes.now) 0 steps.old steps.new) }
     ensures lanes { KeepsLanes steps.old steps.new }
 {
     let mut plane = Bitmap::new(alloc, params.width, params.height)?;
@@ -135,7 +140,7 @@ fn read_mmr_plane<'a, M: Allocator, A: Allocator, L: Ledger>(
     Ok((plane, &bytes[used..]))
 }
 
-/// The planes that MMR wrote.
+/// The planes that MMR wrote, each after the bytes that those before it used.
 fn read_mmr_planes<M: Allocator, A: Allocator + Clone, L: Ledger>(
     alloc: A,
     bytes: &[u8],
@@ -145,6 +150,9 @@ fn read_mmr_planes<M: Allocator, A: Allocator + Clone, L: Ledger>(
     requires sides { image_is_too_large (gray_view params.now) ≡ false }
     ensures value { Gives (λ planes. planes.items) result
         (planes_by_mmr (gray_view params.now) bytes.now) }
+    ensures work { let words = words_of_plane (gray_view params.now) in
+        MovesWithin (3 * (params.now.bits_per_pixel * words + 8 * length bytes.now))
+        steps.old steps.new }
     ensures lanes { KeepsLanes steps.old steps.new }
     ensures no_planes { params.now.bits_per_pixel ≡ 0 → steps.new ≡ steps.old }
 {

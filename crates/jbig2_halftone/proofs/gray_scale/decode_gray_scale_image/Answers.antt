@@ -9,6 +9,7 @@ use Rattle.jbig2_halftone.specs.inner.Stages.{after_lane_rows}
 use Rattle.jbig2_halftone.proofs.GrayCounts.{image-lanes, no-lane-rows, stops-lanes, stops-none, stops-some}
 use Rattle.jbig2_halftone.proofs.DrawSteps.{on-any}
 use Rattle.jbig2_halftone.proofs.PlaneLemmas.{planes-sized}
+use Rattle.jbig2_halftone.proofs.Prices.{image-paid, image-stops-paid, planes-read-paid}
 use Rattle.jbig2_halftone.proofs.gray_scale.decode_gray_scale_image.Goals as goal
 
 pub gray_rows-requires-clause-sized : goal.gray_rows-requires-clause-sized
@@ -26,6 +27,15 @@ returns-clause-steps g c =
     let p : GrayScale = gray_view c.args.params.now in
     let many : length c.deref.result.now ≡ p.bits_per_pixel = ap (λ (ps : List Grid). length ps) c.deref.ensures.value ∙ (planes-sized p c.args.bytes.now c.in_ok-planes.planes.items c.in_ok-planes.ensures.value).many in
     (c.read_planes.new.steps, (c.in_ok-planes.ensures.steps, c.gray_rows.ensures.steps ∙ ap (λ (n : ℕ). after_lane_rows (p.height * n) p.width c.read_planes.new.steps) many))
+
+pub returns-in_err-planes-clause-paid : goal.returns-in_err-planes-clause-paid
+returns-in_err-planes-clause-paid g c = image-stops-paid (gray_view c.args.params.now) c.args.bytes.now c.args.steps.now c.read_planes.new.steps c.in_err-planes.ensures.stopped
+
+pub returns-in_err-values-clause-paid : goal.returns-in_err-values-clause-paid
+returns-in_err-values-clause-paid g c = planes-read-paid (gray_view c.args.params.now) c.args.bytes.now c.args.params.now.bits_per_pixel c.args.steps.now c.read_planes.new.steps (omega arith) c.in_ok-planes.ensures.steps
+
+pub returns-clause-paid : goal.returns-clause-paid
+returns-clause-paid g c = image-paid (gray_view c.args.params.now) c.args.bytes.now c.args.steps.now c.gray_rows.new.steps (returns-clause-steps g c)
 
 pub returns-in_err-planes-clause-no_lanes : goal.returns-in_err-planes-clause-no_lanes
 returns-in_err-planes-clause-no_lanes g c = on-any c.from_residual-in_err-planes.result _ (stops-lanes (gray_view c.args.params.now) c.args.bytes.now c.args.steps.now c.read_planes.new.steps c.in_err-planes.ensures.stopped)

@@ -13,6 +13,7 @@ use Rattle.jbig2_halftone.proofs.CausesOfRegions.{halftone_cause}
 use Rattle.jbig2_halftone.proofs.HalftoneLemmas.{image-fits, answer-of-planes, answer-of-fault, contexts-of-planes, answers-gives, refused-or, leaves-known, memory-alone}
 use Rattle.jbig2_halftone.proofs.DrawSteps.{cells-stop, on-err, on-ok, region-size, region-steps, region-stops}
 use Rattle.jbig2_halftone.proofs.PlaneLemmas.{planes-sized}
+use Rattle.jbig2_halftone.proofs.Prices.{halftone-paid, halftone-stops-paid}
 use Rattle.jbig2_halftone.proofs.halftone.decode_into.Goals as goal
 
 pub draw_rows-requires-clause-sized : goal.draw_rows-requires-clause-sized
@@ -41,6 +42,9 @@ returns-in-Err-clause-value g c =
 pub returns-in-Err-clause-stopped : goal.returns-in-Err-clause-stopped
 returns-in-Err-clause-stopped g c = cells-stop (header_view c.args.header.now) (dictionary_view c.args.dictionary.now) c.args.steps.now c.read_cells.new.steps c.in-Err.ensures.stopped
 
+pub returns-in-Err-clause-paid : goal.returns-in-Err-clause-paid
+returns-in-Err-clause-paid g c = halftone-stops-paid (header_view c.args.header.now) (dictionary_view c.args.dictionary.now) c.args.steps.now c.read_cells.new.steps (returns-in-Err-clause-stopped g c)
+
 pub returns-in-Err-clause-lenient : goal.returns-in-Err-clause-lenient
 returns-in-Err-clause-lenient g c = λ lenient. memory-alone (λ (done : Unit {0}). c.args.bitmap.now) (Err c.in-Err.error) (header_view c.args.header.now) (dictionary_view c.args.dictionary.now) c.requires.columns c.requires.rows lenient (returns-in-Err-clause-value g c)
 
@@ -56,12 +60,15 @@ returns g c =
     let made = answer-of-planes h d c.in-Ok.planes.items fits c.in-Ok.ensures.value in
     let same = sym (ap (λ (ps : List Grid). cells_drawn h d 0 (gray_values h.grid_position_and_size.width h.grid_position_and_size.height ps) c.args.bitmap.now) c.deref.ensures.value ∙ ap (λ (b : Grid). cells_drawn h d 0 (gray_values h.grid_position_and_size.width h.grid_position_and_size.height c.in-Ok.planes.items) b) c.requires.coloured) in
     let given = answers-gives (λ _. c.draw_rows.new.bitmap) c.draw_rows.result _ _ (made ∙ same) c.draw_rows.ensures.value in
+    let steps = on-ok c.draw_rows.result _ _ (λ drawn. region-steps h d (length c.deref.result.now) c.args.steps.now c.read_cells.new.steps c.draw_rows.new.steps many c.in-Ok.ensures.steps drawn) c.draw_rows.ensures.steps in
+    let stopped = on-err c.draw_rows.result _ _ (λ stops. region-stops h d (length c.deref.result.now) c.args.steps.now c.read_cells.new.steps c.draw_rows.new.steps many c.in-Ok.ensures.steps stops) c.draw_rows.ensures.stopped in
     record {
       value = given;
       bitmap = refused-or c.draw_rows.result _ _ c.draw_rows.ensures.refused;
       contexts = leaves-known c.draw_rows.result _ _ (contexts-of-planes h d _ _ fits c.in-Ok.ensures.contexts);
       lenient = λ lenient. memory-alone (λ _. c.draw_rows.new.bitmap) c.draw_rows.result h d c.requires.columns c.requires.rows lenient given;
       causes = halftone_cause h d c.draw_rows.result (err-gives (λ _. c.draw_rows.new.bitmap) c.draw_rows.result (halftone_answer h d) given);
-      steps = on-ok c.draw_rows.result _ _ (λ drawn. region-steps h d (length c.deref.result.now) c.args.steps.now c.read_cells.new.steps c.draw_rows.new.steps many c.in-Ok.ensures.steps drawn) c.draw_rows.ensures.steps;
-      stopped = on-err c.draw_rows.result _ _ (λ stops. region-stops h d (length c.deref.result.now) c.args.steps.now c.read_cells.new.steps c.draw_rows.new.steps many c.in-Ok.ensures.steps stops) c.draw_rows.ensures.stopped;
+      steps = steps;
+      stopped = stopped;
+      paid = halftone-paid c.draw_rows.result h d c.args.steps.now c.draw_rows.new.steps steps stopped;
     }

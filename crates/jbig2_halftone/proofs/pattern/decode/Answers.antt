@@ -2,6 +2,7 @@ use Rattle.std.proofs.Common.{◌≡◌, ◌+◌, ◌≤◌, length, arith}
 use Rattle.jbig2_halftone.specs.inner.PatternViews.{header_view}
 use Rattle.jbig2_halftone.proofs.DrawSteps.{on-any}
 use Rattle.jbig2_halftone.proofs.PatternLemmas.{collective-stops, cut-counts, cut-lanes, cut-length, cut-sized, dictionary-stops, few-patterns, stops-lanes}
+use Rattle.jbig2_halftone.proofs.Prices.{collective-paid, cut-paid, cut-stops-paid}
 use Rattle.jbig2_halftone.proofs.pattern.decode.Goals as goal
 
 pub invariant_of-result : goal.invariant_of-result
@@ -28,3 +29,12 @@ returns-clause-steps g c = (c.decode_collective.new.steps, (c.in_ok-collective.e
 
 pub returns-clause-lanes : goal.returns-clause-lanes
 returns-clause-lanes g c = cut-lanes _ c.args.steps.now c.decode_collective.new.steps c.cut_patterns.new.steps c.decode_collective.ensures.lanes c.in_ok-patterns.ensures.steps
+
+pub returns-in_err-collective-clause-paid : goal.returns-in_err-collective-clause-paid
+returns-in_err-collective-clause-paid g c = collective-paid (header_view c.args.header.now) c.args.steps.now c.decode_collective.new.steps c.decode_collective.ensures.paid
+
+pub returns-in_err-patterns-clause-paid : goal.returns-in_err-patterns-clause-paid
+returns-in_err-patterns-clause-paid g c = cut-stops-paid (header_view c.args.header.now) c.from-width.result c.from-height.result c.args.steps.now c.decode_collective.new.steps c.cut_patterns.new.steps c.from-width.ensures c.from-height.ensures c.decode_collective.ensures.paid c.in_err-patterns.ensures.stopped
+
+pub returns-clause-paid : goal.returns-clause-paid
+returns-clause-paid g c = cut-paid (header_view c.args.header.now) (c.args.header.now.num_patterns + 1) c.from-width.result c.from-height.result c.args.steps.now c.decode_collective.new.steps c.cut_patterns.new.steps c.from-width.ensures c.from-height.ensures (omega arith) c.decode_collective.ensures.paid c.in_ok-patterns.ensures.steps

@@ -1,0 +1,242 @@
+-- What is counted for gray-scale images, halftone regions and pattern dictionaries is within their prices.
+use Rattle.std.specs.Prelude.{if◌then◌else◌, is_some, OnErr, OnOk}
+use Rattle.std.proofs.Common.{inl, inr, ◌≡◌, ℕ, zero, suc, ◌+◌, ◌*◌, ◌/◌, ◌%◌, ◌≤◌, Bool, true, false, List, length, Option, Some, None, Result, Ok, Err, refl, ap, subst, ◌∙◌, arith}
+use Rattle.std.proofs.Math.Nat.{mul-le-mul_left, mul-le-mul_right}
+use Rattle.jbig2_base.specs.Counts.{Counts, most_words, overlap, words_copied}
+use Rattle.jbig2_base.specs.Grid.{Grid}
+use Rattle.jbig2_base.proofs.Prices.{most_words-few, overlap-within, written-counted}
+use Rattle.jbig2_steps.specs.Work.{CountsWithin, counted, price_of_bitmap, words_of_row}
+use Rattle.jbig2_region.specs.GenericSteps.{price_of_region}
+use Rattle.jbig2_region.specs.Steps.{kept_pixels, row_loads, row_tests, row_words, skipping_loads, skipping_words}
+use Rattle.jbig2_region.proofs.Prices.{how_many-most, row-some, row-wide}
+use Rattle.jbig2_halftone.specs.GrayScale.{GrayScale}
+use Rattle.jbig2_halftone.specs.Halftone.{column_of, gray_params, row_of, skip_mask}
+use Rattle.jbig2_halftone.specs.HalftoneHeader.{HalftoneHeader}
+use Rattle.jbig2_halftone.specs.PatternHeader.{PatternHeader}
+use Rattle.jbig2_halftone.specs.Patterns.{Patterns, collective_header}
+use Rattle.jbig2_halftone.specs.Steps.{CountsDrawn, CountsHalftone, CountsImage, CountsMasked, CountsPlanes, CountsRead, CountsRows, StopsHalftone, StopsImage, after_mask, cell_words, price_of_halftone, price_of_image, price_of_patterns, words_of_cells}
+use Rattle.jbig2_halftone.specs.inner.Stages.{StopsCut, after_lane_rows}
+
+-- ---- planes, each of h rows of m words
+-- what a row counts, of which no pixel is skipped
+plain-row : (w m : ℕ) → w ≤ 64 * m → 1 ≤ m → w + row_tests true w + row_words true w + row_loads true w ≤ 90 * m
+plain-row w m wide some = omega arith
+
+masked-row : (w m : ℕ) → w ≤ 64 * m → 1 ≤ m → w + skipping_words w + skipping_loads w ≤ 90 * m
+masked-row w m wide some = omega arith
+
+-- the rows of all planes
+all-rows : (count h a b : ℕ) → a ≤ b → count * (h * a) ≤ count * (h * b)
+all-rows count h a b less = mul-le-mul_left count (mul-le-mul_left h less)
+
+plain-few : (count w h m tests words loads : ℕ) → w + tests + words + loads ≤ 90 * m → count * (w * h) + count * (h * tests) + count * (h * words) + count * (h * loads) ≤ 90 * (count * (m * h))
+plain-few count w h m tests words loads few = omega (arith, all-rows count h (w + tests + words + loads) (90 * m) few)
+
+masked-few : (count w h m words loads : ℕ) → w + words + loads ≤ 90 * m → count * (w * h) + count * (h * words) + count * (h * loads) ≤ 90 * (count * (m * h))
+masked-few count w h m words loads few = omega (arith, all-rows count h (w + words + loads) (90 * m) few)
+
+plain-counted : (p : GrayScale) (bytes : List ℕ) (count w : ℕ) (before after : Counts) → w ≡ p.width → CountsPlanes p bytes count before after → counted after ≤ counted before + 90 * (count * (words_of_row p.width * p.height))
+plain-counted p bytes count zero before after is counts =
+    let none : p.width * p.height ≡ 0 = rw (← is) (omega arith) in
+    let kept : counted after ≡ counted before = ap (λ (c : Counts). counted c) (counts.empty none) in
+    omega (arith, kept)
+plain-counted p bytes count (suc k) before after is counts =
+    let some : 1 ≤ p.width = omega arith in
+    let few = plain-few count p.width p.height (words_of_row p.width) (row_tests true p.width) (row_words true p.width) (row_loads true p.width) (plain-row p.width (words_of_row p.width) (row-wide p.width) (row-some p.width)) in
+    omega (arith, few, counts.decisions some, counts.run_tests, counts.words, counts.loads, counts.lanes.groups, counts.lanes.pixels)
+
+masked-counted : (p : GrayScale) (count : ℕ) (before after : Counts) → CountsMasked p count before after → after.groups ≡ before.groups → after.pixels ≡ before.pixels → counted after ≤ counted before + 90 * (count * (words_of_row p.width * p.height))
+unfolding kept_pixels
+masked-counted p count before after counts groups pixels =
+    let kept : count * kept_pixels p.skip_mask p.width p.height ≤ count * (p.width * p.height) = mul-le-mul_left count (how_many-most _ (p.width * p.height)) in
+    let few = masked-few count p.width p.height (words_of_row p.width) (skipping_words p.width) (skipping_loads p.width) (masked-row p.width (words_of_row p.width) (row-wide p.width) (row-some p.width)) in
+    omega (arith, kept, few, counts.decisions, counts.run_tests, counts.words, counts.loads)
+
+mmr-few : (count w h : ℕ) → count * ((w + 63) / 64 * h) ≤ count * (words_of_row w * h)
+mmr-few count w h = mul-le-mul_left count (mul-le-mul_right h (omega arith))
+
+-- planes that are read
+read-counted : (p : GrayScale) (bytes : List ℕ) (count : ℕ) (before after : Counts) → CountsRead p bytes count before after → counted after ≤ counted before + (90 * (count * (words_of_row p.width * p.height)) + 24 * length bytes)
+read-counted p bytes count before after read = by_mmr p.use_mmr refl
+  where
+    by_mask : (m : Option Grid) → p.use_mmr ≡ false → p.skip_mask ≡ m → counted after ≤ counted before + (90 * (count * (words_of_row p.width * p.height)) + 24 * length bytes)
+    by_mask None coded is = omega (arith, plain-counted p bytes count p.width before after refl (read.plain coded is))
+    by_mask (Some mask) coded is = omega (arith, masked-counted p count before after (read.masked coded (ap is_some is)) read.lanes.groups read.lanes.pixels)
+
+    by_mmr : (b : Bool) → p.use_mmr ≡ b → counted after ≤ counted before + (90 * (count * (words_of_row p.width * p.height)) + 24 * length bytes)
+    by_mmr true is = let moves = read.mmr is in omega (arith, mmr-few count p.width p.height, moves.moves, moves.decisions, moves.run_tests, read.lanes.groups, read.lanes.pixels)
+    by_mmr false coded = by_mask p.skip_mask coded refl
+
+-- rows of them that are taken by lanes
+lanes-row : (w m : ℕ) → w ≤ 64 * m → 1 ≤ m → w / 8 + w % 8 + w / 8 + w % 8 ≤ 30 * m
+lanes-row w m wide some = omega arith
+
+lanes-few : (rows planes w m : ℕ) → w / 8 + w % 8 + w / 8 + w % 8 ≤ 30 * m → rows * planes * (w / 8 + w % 8) + rows * planes * (w / 8) + rows * planes * (w % 8) ≤ 30 * (planes * (m * rows))
+lanes-few rows planes w m few =
+    let all : rows * planes * (w / 8 + w % 8 + w / 8 + w % 8) ≤ rows * planes * (30 * m) = mul-le-mul_left (rows * planes) few in
+    omega (arith, all)
+
+lanes-counted : (rows planes w : ℕ) (before after : Counts) → after ≡ after_lane_rows (rows * planes) w before → counted after ≤ counted before + 30 * (planes * (words_of_row w * rows))
+lanes-counted rows planes w before after taken =
+    let few = lanes-few rows planes w (words_of_row w) (lanes-row w (words_of_row w) (row-wide w) (row-some w)) in
+    let all : counted after ≡ counted before + (rows * planes * (w / 8 + w % 8) + rows * planes * (w / 8) + rows * planes * (w % 8)) = ap (λ (c : Counts). counted c) taken ∙ omega arith in
+    omega (arith, few, all)
+
+-- ---- images
+fewer : (planes bits rows h m : ℕ) → planes ≤ bits → rows ≤ h → planes * (m * rows) ≤ bits * (m * h)
+fewer planes bits rows h m few high =
+    let less : planes * (m * rows) ≤ planes * (m * h) = mul-le-mul_left planes (mul-le-mul_left m high) in
+    let more : planes * (m * h) ≤ bits * (m * h) = mul-le-mul_right (m * h) few in
+    omega (arith, less, more)
+
+planes-paid : (w h bits n : ℕ) → n ≤ 2048 * (bits * (words_of_row w * h)) → n ≤ 32 * (price_of_bitmap w h * bits)
+unfolding price_of_bitmap
+planes-paid w h bits n few = within (words_of_row w) few
+  where
+    within : (m : ℕ) → n ≤ 2048 * (bits * (m * h)) → n ≤ 32 * ((64 * m * h + 64) * bits)
+    within m few = omega arith
+
+rows-counted : (p : GrayScale) (bytes : List ℕ) (planes rows : ℕ) (before after : Counts) → planes ≤ p.bits_per_pixel → rows ≤ p.height → CountsRows p bytes planes rows before after → counted after ≤ counted before + (32 * (price_of_bitmap p.width p.height * p.bits_per_pixel) + 24 * length bytes)
+rows-counted p bytes planes rows before after few high (read, (reads, taken)) =
+    let m : ℕ = words_of_row p.width in
+    let all : ℕ = p.bits_per_pixel * (m * p.height) in
+    let first = read-counted p bytes planes before read reads in
+    let second = lanes-counted rows planes p.width read after taken in
+    let a : planes * (m * p.height) ≤ all = fewer planes p.bits_per_pixel p.height p.height m few (omega arith) in
+    let b : planes * (m * rows) ≤ all = fewer planes p.bits_per_pixel rows p.height m few high in
+    let paid : 120 * all ≤ 32 * (price_of_bitmap p.width p.height * p.bits_per_pixel) = planes-paid p.width p.height p.bits_per_pixel (120 * all) (omega arith) in
+    omega (arith, first, second, a, b, paid)
+
+pub image-paid : (p : GrayScale) (bytes : List ℕ) (old new : Counts) → CountsImage p bytes old new → CountsWithin (price_of_image p bytes) old new
+image-paid p bytes old new counts =
+    let all = rows-counted p bytes p.bits_per_pixel p.height old new (omega arith) (omega arith) counts in
+    omega (arith, all)
+
+-- planes alone
+pub planes-read-paid : (p : GrayScale) (bytes : List ℕ) (count : ℕ) (old new : Counts) → count ≤ p.bits_per_pixel → CountsRead p bytes count old new → CountsWithin (price_of_image p bytes) old new
+planes-read-paid p bytes count old new few read =
+    let all : ℕ = p.bits_per_pixel * (words_of_row p.width * p.height) in
+    let first = read-counted p bytes count old new read in
+    let a : count * (words_of_row p.width * p.height) ≤ all = fewer count p.bits_per_pixel p.height p.height (words_of_row p.width) few (omega arith) in
+    let paid : 90 * all ≤ 32 * (price_of_bitmap p.width p.height * p.bits_per_pixel) = planes-paid p.width p.height p.bits_per_pixel (90 * all) (omega arith) in
+    omega (arith, first, a, paid)
+
+pub image-stops-paid : (p : GrayScale) (bytes : List ℕ) (old new : Counts) → StopsImage p bytes old new → CountsWithin (price_of_image p bytes) old new
+image-stops-paid p bytes old new (count, (few, read)) = planes-read-paid p bytes count old new few read
+
+-- ---- cells
+cell-few : (h : HalftoneHeader) (d : Patterns) (k : ℕ) → cell_words h d k ≤ d.height * (3 * words_of_row d.width)
+unfolding cell_words
+cell-few h d k =
+    let columns : ℕ = h.grid_position_and_size.width in
+    within (overlap h.region_info.height d.height (row_of h (k / columns) (k % columns))) (most_words (overlap h.region_info.width d.width (column_of h (k / columns) (k % columns))))
+    (overlap-within h.region_info.height d.height (row_of h (k / columns) (k % columns)))
+    (most_words-few (overlap h.region_info.width d.width (column_of h (k / columns) (k % columns))) d.width (overlap-within h.region_info.width d.width (column_of h (k / columns) (k % columns))))
+  where
+    within : (rows words : ℕ) → rows ≤ d.height → words ≤ 3 * words_of_row d.width → rows * words ≤ d.height * (3 * words_of_row d.width)
+    within rows words high wide =
+        let a : rows * words ≤ d.height * words = mul-le-mul_right words high in
+        let b : d.height * words ≤ d.height * (3 * words_of_row d.width) = mul-le-mul_left d.height wide in
+        omega (arith, a, b)
+
+cells-few : (h : HalftoneHeader) (d : Patterns) (k n : ℕ) → words_of_cells h d k n ≤ n * (d.height * (3 * words_of_row d.width))
+unfolding words_of_cells
+cells-few h d k zero = omega arith
+cells-few h d k (suc n) =
+    let before = cells-few h d k n in
+    let here = cell-few h d (k + n) in
+    sum n (d.height * (3 * words_of_row d.width)) (words_of_cells h d k n) (cell_words h d (k + n)) before here
+  where
+    sum : (n most words one : ℕ) → words ≤ n * most → one ≤ most → words + one ≤ suc n * most
+    sum n most words one before here =
+        let all : suc n ≡ n + 1 = omega arith in
+        rw all (omega arith)
+
+-- the cells of a grid, and a word of the skip mask for each
+cells-paid : (w h cells words : ℕ) → words ≤ cells * (h * (3 * words_of_row w)) → 3 * words + cells ≤ 32 * (price_of_bitmap w h * cells)
+unfolding price_of_bitmap
+cells-paid w h cells words few = within (words_of_row w) few
+  where
+    within : (m : ℕ) → words ≤ cells * (h * (3 * m)) → 3 * words + cells ≤ 32 * ((64 * m * h + 64) * cells)
+    within m few = omega arith
+
+mask-few : (b : Bool) (cells : ℕ) → (if b then cells else 0) ≤ cells
+mask-few true cells = omega arith
+mask-few false cells = omega arith
+
+mask-counted : (h : HalftoneHeader) (d : Patterns) (old : Counts) → counted (after_mask h d old) ≤ counted old + h.grid_position_and_size.height * h.grid_position_and_size.width
+mask-counted h d old =
+    let few = mask-few (is_some (skip_mask h d)) (h.grid_position_and_size.height * h.grid_position_and_size.width) in
+    omega (arith, few)
+
+-- ---- regions
+drawn-paid : (h : HalftoneHeader) (d : Patterns) (planes rows : ℕ) (old new : Counts) → planes ≤ (gray_params h d).bits_per_pixel → rows ≤ h.grid_position_and_size.height → CountsDrawn h d planes rows old new → CountsWithin (price_of_halftone h d) old new
+drawn-paid h d planes rows old new few high (image, (read, drawn)) =
+    let cells : ℕ = h.grid_position_and_size.height * h.grid_position_and_size.width in
+    let words : ℕ = words_of_cells h d 0 cells in
+    let mask = mask-counted h d old in
+    let values = rows-counted (gray_params h d) h.bytes planes rows (after_mask h d old) image few high read in
+    let draws : counted new ≤ counted image + 3 * words = written-counted words image new drawn in
+    let paid : 3 * words + cells ≤ 32 * (price_of_bitmap d.width d.height * cells) = cells-paid d.width d.height cells words (cells-few h d 0 cells) in
+    together (price_of_bitmap h.grid_position_and_size.width h.grid_position_and_size.height * (gray_params h d).bits_per_pixel) (price_of_bitmap d.width d.height) h.grid_position_and_size.width h.grid_position_and_size.height (length h.bytes) words (counted old) (counted (after_mask h d old)) (counted image) (counted new) mask values draws paid
+  where
+    together : (planes pattern w h bytes words old mask image new : ℕ) → mask ≤ old + h * w → image ≤ mask + (32 * planes + 24 * bytes) → new ≤ image + 3 * words → 3 * words + h * w ≤ 32 * (pattern * (h * w)) → new ≤ old + 32 * (planes + pattern * (w * h) + bytes)
+    together planes pattern w h bytes words old mask image new a b c d = omega arith
+
+pub halftone-stops-paid : (h : HalftoneHeader) (d : Patterns) (old new : Counts) → StopsHalftone h d old new → CountsWithin (price_of_halftone h d) old new
+halftone-stops-paid h d old new (inl none) =
+    let kept : counted new ≡ counted old = ap (λ (c : Counts). counted c) none in
+    omega (arith, kept)
+halftone-stops-paid h d old new (inr (planes, (rows, (few, (high, drawn))))) = drawn-paid h d planes rows old new few high drawn
+
+pub halftone-paid : {X E : Type 0} (result : Result X E) (h : HalftoneHeader) (d : Patterns) (old new : Counts) → OnOk result (CountsHalftone h d old new) → OnErr result (StopsHalftone h d old new) → CountsWithin (price_of_halftone h d) old new
+halftone-paid (Ok x) h d old new counts stops = drawn-paid h d (gray_params h d).bits_per_pixel h.grid_position_and_size.height old new (omega arith) (omega arith) counts
+halftone-paid (Err e) h d old new counts stops = halftone-stops-paid h d old new stops
+
+-- ---- dictionaries
+-- the words of a row of n patterns side by side
+words-beside : (n w m : ℕ) → 1 ≤ n → w ≤ 64 * m → 1 ≤ m → words_of_row (n * w) ≤ n * m
+words-beside n w m many wide some =
+    let all : n * w ≤ n * (64 * m) = mul-le-mul_left n wide in
+    let least : 1 * 1 ≤ n * m = both in
+    begun (n * w) (n * m) (omega (arith, all)) (omega (arith, least))
+  where
+    both : 1 * 1 ≤ n * m
+    both = let a : 1 * m ≤ n * m = mul-le-mul_right m many in omega (arith, a)
+
+    begun : (x k : ℕ) → x ≤ 64 * k → 1 ≤ k → words_of_row x ≤ k
+    begun x k wide some = omega arith
+
+collective-price : (n w h : ℕ) → 1 ≤ n → price_of_bitmap (n * w) h ≤ price_of_bitmap w h * n
+unfolding price_of_bitmap
+collective-price n w h many = within (words_of_row (n * w)) (words_of_row w) (words-beside n w (words_of_row w) many (row-wide w) (row-some w))
+  where
+    within : (all m : ℕ) → all ≤ n * m → 64 * all * h + 64 ≤ (64 * m * h + 64) * n
+    within all m few =
+        let rows : all * h ≤ n * m * h = mul-le-mul_right h few in
+        omega (arith, rows)
+
+-- patterns that are cut out: a load and a word for each of their words
+cut-price : (cut n w h : ℕ) → cut ≤ n → 2 * (cut * ((w + 63) / 64 * h)) ≤ 32 * (price_of_bitmap w h * n)
+cut-price cut n w h few =
+    let one : (w + 63) / 64 * h ≤ words_of_row w * h = mul-le-mul_right h (omega arith) in
+    let all : cut * ((w + 63) / 64 * h) ≤ cut * (words_of_row w * h) = mul-le-mul_left cut one in
+    let more : cut * (words_of_row w * h) ≤ n * (words_of_row w * h) = mul-le-mul_right (words_of_row w * h) few in
+    planes-paid w h n (2 * (cut * ((w + 63) / 64 * h))) (omega (arith, all, more))
+
+pub collective-paid : (h : PatternHeader) (old new : Counts) → CountsWithin (price_of_region (collective_header h)) old new → CountsWithin (price_of_patterns h) old new
+collective-paid h old new within =
+    let price = collective-price (h.gray_max + 1) h.pattern_width h.pattern_height (omega arith) in
+    omega (arith, price, within)
+
+pub cut-paid : (h : PatternHeader) (cut w rows : ℕ) (old mid new : Counts) → w ≡ h.pattern_width → rows ≡ h.pattern_height → cut ≤ h.gray_max + 1 → CountsWithin (price_of_region (collective_header h)) old mid → new ≡ words_copied (cut * ((w + 63) / 64 * rows)) mid → CountsWithin (price_of_patterns h) old new
+cut-paid h cut w rows old mid new wide high few within copied =
+    let price = collective-price (h.gray_max + 1) h.pattern_width h.pattern_height (omega arith) in
+    let patterns = subst (λ (n : ℕ). 2 * (cut * ((n + 63) / 64 * rows)) ≤ 32 * (price_of_bitmap n rows * (h.gray_max + 1))) wide (cut-price cut (h.gray_max + 1) w rows few) in
+    let sized = subst (λ (n : ℕ). 2 * (cut * ((h.pattern_width + 63) / 64 * n)) ≤ 32 * (price_of_bitmap h.pattern_width n * (h.gray_max + 1))) high patterns in
+    let words : cut * ((w + 63) / 64 * rows) ≡ cut * ((h.pattern_width + 63) / 64 * h.pattern_height) = ap (λ (n : ℕ). cut * ((n + 63) / 64 * rows)) wide ∙ ap (λ (n : ℕ). cut * ((h.pattern_width + 63) / 64 * n)) high in
+    let more : counted new ≡ counted mid + 2 * (cut * ((w + 63) / 64 * rows)) = ap (λ (c : Counts). counted c) copied ∙ omega arith in
+    omega (arith, price, sized, words, more, within)
+
+pub cut-stops-paid : (h : PatternHeader) (w rows : ℕ) (old mid new : Counts) → w ≡ h.pattern_width → rows ≡ h.pattern_height → CountsWithin (price_of_region (collective_header h)) old mid → StopsCut (h.gray_max + 1) ((w + 63) / 64 * rows) mid new → CountsWithin (price_of_patterns h) old new
+cut-stops-paid h w rows old mid new wide high within (cut, (few, copied)) = cut-paid h cut w rows old mid new wide high few within copied
