@@ -154,20 +154,22 @@ mmr-one p white bytes rest used old new is within others moves =
 pub mmr-refused : (p : GrayScale) (white : Grid) (all : ℕ) (old new : Counts) → white ≡ blank p.width p.height false → MovesWithin (3 * (words_of white + 8 * all)) old new → CountsMmr (words_of_plane p) 1 all 0 old new
 mmr-refused p white all old new is moves = record { moves = omega (arith, mmr-words p white is, moves.moves); decisions = moves.decisions; run_tests = moves.run_tests }
 
+-- planes are written in one way
 clash : (b : Bool) → b ≡ true → b ≡ false → ⊥
 clash b on off = cc
 
+-- this many of an image's planes, and at most all of them
 pub mmr-read : (p : GrayScale) (bytes : List ℕ) (count : ℕ) (old new : Counts) → p.use_mmr ≡ true → MovesWithin (3 * (count * words_of_plane p + 8 * length bytes)) old new → KeepsLanes old new → CountsRead p bytes count old new
 mmr-read p bytes count old new is moves lanes = record { plain = λ coded _. absurd (clash p.use_mmr is coded); masked = λ coded _. absurd (clash p.use_mmr is coded); mmr = λ _. moves; lanes = lanes }
-
--- planes that the coder wrote
-pub coded-read : (p : GrayScale) (bytes : List ℕ) (count : ℕ) (old new : Counts) → p.use_mmr ≡ false → CountsCoded p bytes count old new → KeepsLanes old new → CountsRead p bytes count old new
-coded-read p bytes count old new coded counts lanes = record { plain = λ _. counts.plain; masked = λ _. counts.masked; mmr = λ is. absurd (clash p.use_mmr is coded); lanes = lanes }
 
 pub mmr-stops : (p : GrayScale) (bytes : List ℕ) (old new : Counts) → p.use_mmr ≡ true → MovesWithin (3 * (p.bits_per_pixel * words_of_plane p + 8 * length bytes)) old new → KeepsLanes old new → StopsImage p bytes old new
 mmr-stops p bytes old new is moves lanes = (p.bits_per_pixel, (omega arith, mmr-read p bytes p.bits_per_pixel old new is moves lanes))
 
--- this many of the planes that the coder wrote
+-- ---- planes that the coder wrote
+pub coded-read : (p : GrayScale) (bytes : List ℕ) (count : ℕ) (old new : Counts) → p.use_mmr ≡ false → CountsCoded p bytes count old new → KeepsLanes old new → CountsRead p bytes count old new
+coded-read p bytes count old new coded counts lanes = record { plain = λ _. counts.plain; masked = λ _. counts.masked; mmr = λ is. absurd (clash p.use_mmr is coded); lanes = lanes }
+
+-- this many of them
 pub coded-some : (p : GrayScale) (bytes : List ℕ) (count : ℕ) (old new : Counts) → count ≤ p.bits_per_pixel → CountsCoded p bytes count old new → StopsCoded p bytes old new
 coded-some p bytes count old new few counts = (count, (few, counts))
 
