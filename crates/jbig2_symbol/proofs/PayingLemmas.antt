@@ -1,8 +1,11 @@
 -- What is counted for the bitmaps of a symbol dictionary is within their prices.
-use Rattle.std.proofs.Common.{◌≡◌, ℕ, ◌+◌, ◌*◌, ◌/◌, ◌≤◌, arith}
+use Rattle.std.proofs.Common.{◌≡◌, ℕ, ◌+◌, ◌*◌, ◌/◌, ◌≤◌, List, length, Ok, sym, ap, ◌∙◌, arith}
+use Rattle.std.proofs.lemmas.List.{length-take-le}
 use Rattle.std.proofs.Math.Nat.{mul-le-mul_left}
 use Rattle.jbig2_base.specs.Counts.{Counts, WritesWithin, words_copied, words_of}
+use Rattle.jbig2_base.specs.Fields.{bytes_at}
 use Rattle.jbig2_base.specs.Grid.{Grid}
+use Rattle.jbig2_base.proofs.Causes.{bytes-there}
 use Rattle.jbig2_base.proofs.Prices.{copied-paid, price-same, written-counted}
 use Rattle.jbig2_steps.specs.Work.{Paid, PaidBut, price_of_bitmap, words_of_row, worth}
 use Rattle.jbig2_steps.specs.declared.work.Work.{Work}
@@ -23,6 +26,13 @@ bytes-few w = omega arith
 
 pub raw-paid : (w h : ℕ) → 3 * (h * ((w + 7) / 8)) ≤ 32 * price_of_bitmap w h
 raw-paid w h = row-paid w h (3 * (h * ((w + 7) / 8))) (raw-few ((w + 7) / 8) (words_of_row w) h (bytes-few w))
+
+-- ---- MMR data
+-- the bytes that are read are as many as were asked for
+pub bytes-many : (n : ℕ) (bytes part rest : List ℕ) → bytes_at n bytes ≡ Ok (part, rest) → length part ≡ n
+bytes-many n bytes part rest is =
+    let there = bytes-there n bytes (part, rest) is in
+    ap (λ (p : List ℕ × List ℕ). length p.0) (sym there.1) ∙ length-take-le n bytes there.0
 
 -- ---- copies
 -- a copy of this size, which is paid for

@@ -29,3 +29,6 @@ loop-width-preserved g c = record {
 
 pub returns-in-Err-clause-paid : goal.returns-in-Err-clause-paid
 returns-in-Err-clause-paid g c = omega (arith, kept-worth c.pay_bitmap.new.self c.part.new.steps c.in-Err.ensures.refused, c.in_ok-pay_bitmap.ensures.taken, c.loop-width.invariant.paid)
+
+pub returns-in_err-push-clause-paid : goal.returns-in_err-push-clause-paid
+returns-in_err-push-clause-paid g c = omega (arith, copy-paid c.loop-width.work c.pay_bitmap.new.self c.part.new.steps (part_of c.args.collective.now (record { left = c.loop-width.left; top = 0; width = get_or c.args.widths.now c.loop-width.width-index 0; height = c.args.height })) _ _ refl refl c.in_ok-pay_bitmap.ensures.taken c.in-Ok.ensures.steps, c.loop-width.invariant.paid)
