@@ -1,11 +1,14 @@
--- What reading a symbol dictionary counts before it is paid for (our own rule). Each new symbol has taken the work of five
--- numbers at least, and its bitmap its own price, before it is begun.
+-- What a symbol dictionary counts beyond what it pays for itself (our own rule). A new symbol is read by at most five
+-- numbers: its width, how many instances it has, an id and two offsets. Their work is taken before the dictionary is
+-- decoded. All else is paid for as it comes: height classes, runs of exports, and each bitmap before it is decoded or
+-- copied.
 use Rattle.std.specs.Prelude.{ℕ, ◌+◌, ◌*◌, ◌≤◌}
 use Rattle.jbig2_steps.specs.Work.{worth}
 use Rattle.jbig2_steps.specs.declared.work.Work.{Work}
 use Rattle.jbig2_text.specs.Paying.{number_steps}
 
--- Between `before` and `after` symbols, five numbers were read for each at most, and `more` besides; all else is paid for.
+-- From `before` symbols to `after` symbols at most five numbers were read for each, and `more` besides. All else is paid
+-- for.
 abbrev pub PaidButSymbols : {L : Type 0} → ℕ → ℕ → ℕ → Work L → Work L → Type 0
 PaidButSymbols before after more old new = worth new + number_steps (5 * before) ≤ worth old + number_steps (5 * after + more)
 

@@ -107,7 +107,8 @@ fn decode_with<A: Allocator + Clone, T: Allocator, L: Ledger>(
 }
 
 /// Decodes a symbol dictionary (T.88, 6.5). It refers to these symbols, at most 2^21, to these
-/// custom tables, and to the contexts that another dictionary has kept.
+/// custom tables, and to the contexts that another dictionary has kept. The caller has taken the
+/// work of five numbers for each new symbol.
 ///
 /// The errors of `first_contexts`, then those of `symbol_tables`, `read_new_symbols` and
 /// `read_exports`; `OutOfMemory`.

@@ -15,7 +15,8 @@ use jbig2_base::error::Result;
 use std::alloc::Allocator;
 use std::sync::ledger::Ledger;
 
-/// Reads the symbols of a height class one by one.
+/// Reads the symbols of a height class one by one. Whoever asks has taken the work of the numbers that are read: five
+/// for each symbol.
 pub trait ReadSymbols {
     ghost State: { Type 0 };
 
@@ -51,7 +52,8 @@ pub trait ReadSymbols {
         ensures paid { PaidBut (number_steps 4) work.old work.new };
 }
 
-/// Reads a dictionary, one height class after the other, and what it exports.
+/// Reads a dictionary, one height class after the other, and what it exports. Whoever asks has taken the work of five
+/// numbers for each symbol, and of a number more for each call.
 pub trait ReadClasses {
     ghost State: { Type 0 };
 

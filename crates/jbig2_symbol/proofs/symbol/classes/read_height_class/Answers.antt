@@ -8,7 +8,7 @@ use Rattle.jbig2_symbol.proofs.symbol.classes.read_height_class.Goals as goal
 
 pub returns-in-Err-clause-value : goal.returns-in-Err-clause-value
 returns-in-Err-clause-value g c =
-    class-fault g.R.ReadClasses.readings (input_view c.args.input.now) c.args.symbols.now.height c.args.symbols.now.empty c.in_ok-height.height c.args.symbols.now.bitmaps.items (g.R.ReadClasses.state c.args.readings.now) (g.R.ReadClasses.state c.height_difference.new.self) c.in_ok-difference.field-0 c.in-Some.difference _ c.in-Err.error (to_z-of_z w32 c.in-Some.difference (search rules)) c.in-Some.is c.in_ok-difference.ensures c.in_ok-height.ensures c.in-Err.ensures
+    class-fault g.R.ReadClasses.readings (input_view c.args.input.now) c.args.symbols.now.height c.args.symbols.now.empty c.in_ok-height.height c.args.symbols.now.bitmaps.items (g.R.ReadClasses.state c.args.readings.now) (g.R.ReadClasses.state c.height_difference.new.self) c.in_ok-difference.field-0 c.in-Some.difference _ c.in-Err.error (to_z-of_z w32 c.in-Some.difference (search rules)) c.in-Some.is c.in_ok-difference.ensures.value c.in_ok-height.ensures c.in-Err.ensures.value
 
 pub returns-in-Err-clause-causes : goal.returns-in-Err-clause-causes
 returns-in-Err-clause-causes g c =

@@ -1,7 +1,12 @@
-use Rattle.std.proofs.Common.{◌*◌, ap, arith, rules, ◌∙◌}
+use Rattle.std.proofs.Common.{◌*◌, List, take, false, ap, arith, rules, ◌∙◌}
 use Rattle.jbig2_base.proofs.Prices.{price-same}
 use Rattle.jbig2_steps.specs.Work.{price_of_bitmap}
 use Rattle.jbig2_steps.proofs.WorkLemmas.{counts-worth}
+use Rattle.jbig2_region.specs.Generic.{coding_of}
+use Rattle.jbig2_region.specs.Raster.{Coding}
+use Rattle.jbig2_region.specs.Templates.{adaptive_pixel_count, template_pixels}
+use Rattle.jbig2_region.specs.declared.template.AdaptiveTemplatePixel.{AdaptiveTemplatePixel}
+use Rattle.jbig2_region.specs.declared.template.Template.{Template}
 use Rattle.jbig2_region.proofs.GenericPrices.{coded-paid}
 use Rattle.jbig2_region.proofs.GenericLemmas.{whole-slice}
 use Rattle.jbig2_symbol.specs.inner.HeaderViews.{header_view}
@@ -17,5 +22,9 @@ returns-clause-value g c =
 pub returns-clause-paid : goal.returns-clause-paid
 returns-clause-paid g c =
     let b = c.in_ok-bitmap.bitmap in
-    let more = counts-worth c.pay_bitmap.new.self c.decode_coded.new.steps (32 * price_of_bitmap b.width b.height) (coded-paid _ _ _ _ b.width b.height _ _ _ _ c.decode_coded.ensures.steps) in
+    let template : Template = c.self.inside.0.1.0.template in
+    let pixels : List AdaptiveTemplatePixel = take (adaptive_pixel_count false false template) c.symbol_pixels.result in
+    let coding : Coding = coding_of false template (template_pixels false template pixels) in
+    let within = coded-paid false template pixels coding b.width b.height _ _ c.pay_bitmap.new.self.steps c.decode_coded.new.steps c.decode_coded.ensures.steps in
+    let more = counts-worth c.pay_bitmap.new.self c.decode_coded.new.steps (32 * price_of_bitmap b.width b.height) within in
     omega (arith, more, c.in_ok-pay_bitmap.ensures.taken, price-same b.width c.args.width b.height c.args.height (search rules) (search rules))
