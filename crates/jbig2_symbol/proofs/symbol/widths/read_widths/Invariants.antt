@@ -1,4 +1,4 @@
-use Rattle.std.proofs.Common.{◌≡◌, ◌+◌, ◌*◌, ◌≤◌, length}
+use Rattle.std.proofs.Common.{◌≡◌, ◌+◌, ◌≤◌, length}
 use Rattle.std.specs.Prelude.{sum}
 use Rattle.jbig2_symbol.specs.HeightClasses.{widths_from}
 use Rattle.jbig2_symbol.specs.inner.SymbolViews.{behind, input_view}
