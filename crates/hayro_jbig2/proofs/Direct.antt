@@ -93,7 +93,7 @@ whole-page info page black begun x y wide high over = record {
 }
 
 -- what is decoded is a table of its size
-drawn-made : {A : Type 0} (r : ParsedRegion A) (g : Grid) → drawn r ≡ Ok g → Made (info_of r).width (info_of r).height g
+pub drawn-made : {A : Type 0} (r : ParsedRegion A) (g : Grid) → drawn r ≡ Ok g → Made (info_of r).width (info_of r).height g
 drawn-made (Text header referred) g is = text-made (texts.header_view header) referred.symbols referred.codes g is
 drawn-made (Halftone header patterns) g is = halftone-made (halftones.header_view header) (dictionary_view patterns.now) g is
 drawn-made (Generic header) g is = generic-made (generics.header_view header) g is

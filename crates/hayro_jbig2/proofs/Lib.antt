@@ -21,6 +21,7 @@ pub mod Order
 pub mod PackedBits
 mod PackedRows
 mod PageArea
+mod Paying
 mod PutLemmas
 mod RegionSizes
 mod RowValues

@@ -2,6 +2,7 @@ pub mod ByPages
 pub mod KeptViews
 pub mod PageViews
 pub mod Parsed
+pub mod Prices
 pub mod Puts
 pub mod RunViews
 pub mod SegmentLists

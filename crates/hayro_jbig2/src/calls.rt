@@ -1,9 +1,10 @@
 //! The calls that spell a bitmap.
-ghost use Rattle.std.specs.Prelude.{◌≡◌, ◌+◌, ◌-◌, ◌/◌, ◌<◌, ◌≤◌, drop, take};
+ghost use Rattle.std.specs.Prelude.{◌≡◌, ◌+◌, ◌-◌, ◌*◌, ◌/◌, ◌<◌, ◌≤◌, drop, take};
 ghost use Rattle.jbig2_base.specs.Grid.{Grid};
 ghost use Rattle.jbig2_base.specs.Bits.{bit};
 ghost use Rattle.hayro_jbig2.specs.Calls.{row_of, singles, line_calls, calls_of, IsCountable, Sends};
-ghost use Rattle.hayro_jbig2.specs.inner.RunViews.{run_of, IsColourOf, IsRunAt};
+ghost use Rattle.hayro_jbig2.specs.inner.RunViews.{bytes_of_run, run_of, IsColourOf, IsRunAt};
+ghost use Rattle.jbig2_steps.specs.Work.{CountsWithin, counted, price_of_bitmap};
 
 use crate::decoder::Decoder;
 use jbig2_base::bitmap::Bitmap;
@@ -21,7 +22,8 @@ fn byte_colour<A: Allocator, L: Ledger>(
     steps: &mut Steps<L>,
 ) -> Option<bool>
     requires { x + 8 ≤ bitmap.now.width }
-    ensures { IsColourOf (take 8 (drop x (row_of bitmap.now y))) result }
+    ensures colour { IsColourOf (take 8 (drop x (row_of bitmap.now y))) result }
+    ensures steps { counted steps.new ≡ counted steps.old + 1 }
 {
     let pixels = bitmap.load_pixels(x, y, 8, steps);
     if pixels == 0xFF {
@@ -45,6 +47,7 @@ fn run<A: Allocator, L: Ledger>(
     ensures value { result
         ≡ run_of ((bitmap.now.width - x) / 8) black (drop x (row_of bitmap.now y)) }
     ensures within { result ≤ (bitmap.now.width - x) / 8 }
+    ensures steps { counted steps.new ≤ counted steps.old + result + 1 }
 {
     let end = find_colour(bitmap, y, x, !black, steps);
     (end - x) / 8
@@ -59,7 +62,8 @@ fn run_at<A: Allocator, L: Ledger>(
     steps: &mut Steps<L>,
 ) -> Option<(bool, u32)>
     requires { x + 8 ≤ bitmap.now.width }
-    ensures { IsRunAt ((bitmap.now.width - x) / 8) (drop x (row_of bitmap.now y)) result }
+    ensures run { IsRunAt ((bitmap.now.width - x) / 8) (drop x (row_of bitmap.now y)) result }
+    ensures steps { counted steps.new ≤ counted steps.old + bytes_of_run result + 2 }
 {
     match byte_colour(bitmap, x, y, steps) {
         Some(black) => Some((black, run(bitmap, x, y, black, steps))),
@@ -89,8 +93,9 @@ fn push_pixels<A: Allocator, D: Decoder, L: Ledger>(
     requires few { end - x ≤ 64 }
     requires inside { end ≤ bitmap.now.width }
     requires countable { IsCountable D.conduct decoder.old }
-    ensures { Sends D.conduct (singles (take (end - x) (drop x (row_of bitmap.now y)))) result
+    ensures calls { Sends D.conduct (singles (take (end - x) (drop x (row_of bitmap.now y)))) result
         decoder.old decoder.new }
+    ensures steps { counted steps.new ≡ counted steps.old + 1 }
 {
     let count = (end - x).max(1);
     let pixels = bitmap.load_pixels(x, y, count, steps);
@@ -112,7 +117,8 @@ fn push_row<A: Allocator, D: Decoder, L: Ledger>(
     steps: &mut Steps<L>,
 ) -> Result<()>
     requires { IsCountable D.conduct decoder.old }
-    ensures { Sends D.conduct (line_calls bitmap.now y) result decoder.old decoder.new }
+    ensures calls { Sends D.conduct (line_calls bitmap.now y) result decoder.old decoder.new }
+    ensures steps { counted steps.new ≤ counted steps.old + bitmap.now.width + 1 }
 {
     let width = bitmap.width();
     let mut x = 0;
@@ -145,7 +151,9 @@ pub fn push_bitmap<A: Allocator, D: Decoder, L: Ledger>(
     steps: &mut Steps<L>,
 ) -> Result<()>
     requires { IsCountable D.conduct decoder.old }
-    ensures { Sends D.conduct (calls_of bitmap.now) result decoder.old decoder.new }
+    ensures calls { Sends D.conduct (calls_of bitmap.now) result decoder.old decoder.new }
+    ensures paid { let page = bitmap.now in
+        CountsWithin (price_of_bitmap page.width page.height) steps.old steps.new }
 {
     for y in 0..bitmap.height() {
         match push_row(bitmap, y, decoder, steps) {

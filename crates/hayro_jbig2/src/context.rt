@@ -1,5 +1,5 @@
 //! What decoding keeps from page to page.
-ghost use Rattle.std.specs.Prelude.{◌≡◌, ◌<◌, ◌≤◌, [], true, false, Ok};
+ghost use Rattle.std.specs.Prelude.{◌≡◌, ◌-◌, ◌*◌, ◌^◌, ◌<◌, ◌≤◌, [], true, false, Ok, unwrap_or};
 ghost use Rattle.jbig2_base.specs.Answer.{Gives};
 ghost use Rattle.jbig2_base.specs.Counts.{no_steps};
 ghost use Rattle.jbig2_base.specs.Grid.{blank};
@@ -7,6 +7,7 @@ ghost use Rattle.jbig2_region.specs.inner.RegionViews.{region_view};
 ghost use Rattle.hayro_jbig2.specs.Image.{packed_of};
 ghost use Rattle.hayro_jbig2.specs.Names.{no_names, nothing_passed};
 ghost use Rattle.hayro_jbig2.specs.Page.{Drawing, page_begun, passing, shown, with_region};
+ghost use Rattle.jbig2_steps.specs.Work.{PaidBut, price_of_bitmap};
 
 use crate::drawn_page::DrawnPage;
 use crate::kept::Kept;
@@ -59,6 +60,17 @@ impl<A: Allocator> Model for DecoderContext<A> {
     } };
 
     ghost invariant = { λ c. c.untouched ≡ true → IsBegun c.default_pixel c.bitmap };
+}
+
+/// A counter that may take the work of a limit, where there is one.
+pub(crate) fn work_within<L: Ledger>(limit: Option<u64>, blank: Blank) -> Work<L>
+    requires name { blank.name ≡ L.name }
+    requires parts { blank.parts ≡ L.parts }
+    requires enough { blank.parts ≡ 6 }
+    ensures steps { result.steps ≡ no_steps }
+    ensures left { result.left ≡ unwrap_or limit (2 ^ 64 - 1) }
+{
+    Work::within(Permit::grant(), blank, limit.unwrap_or(u64::MAX))
 }
 
 impl<A: Allocator + Clone> DecoderContext<A> {
@@ -127,7 +139,7 @@ impl<A: Allocator> DecoderContext<A> {
         requires enough { blank.parts ≡ 6 }
         ensures { result.steps ≡ no_steps }
     {
-        Work::within(Permit::grant(), blank, self.work_limit.unwrap_or(u64::MAX))
+        work_within(self.work_limit, blank)
     }
 
     /// Notes what a page left of its limit.
@@ -158,7 +170,9 @@ impl<A: Allocator> DecoderContext<A> {
 
     /// Combines an immediate region with the page, at its place as signed numbers (T.88, 7.4.1).
     pub(crate) fn combine<L: Ledger>(&mut self, region: &DecodedRegion<A>, work: &mut Work<L>)
-        ensures { Ok self.new ≡ shown self.old (Ok (region_view region.now)) }
+        ensures value { Ok self.new ≡ shown self.old (Ok (region_view region.now)) }
+        ensures paid { let source = region.now.bitmap in
+            PaidBut (32 * price_of_bitmap source.width source.height) work.old work.new }
     {
         self.bitmap.combine(
             &region.bitmap,

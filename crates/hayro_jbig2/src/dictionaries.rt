@@ -1,12 +1,15 @@
 //! Segments that draw nothing and leave something for later ones (T.88, 7.4.2, 7.4.4 and 7.4.13),
 //! of a page as of its globals. One that fails is passed over in salvage alone.
-ghost use Rattle.std.specs.Prelude.{◌≡◌, ◌⊎◌, IfErr};
+ghost use Rattle.std.specs.Prelude.{◌≡◌, ◌+◌, ◌*◌, ◌⊎◌, IfErr, IfOk};
 ghost use Rattle.jbig2_base.specs.Answer.{Answers, Gives};
 ghost use Rattle.jbig2_base.specs.inner.SegmentViews.{segment_view};
 ghost use Rattle.hayro_jbig2.specs.Names.{symbol_dictionary_at, with_symbols, pattern_dictionary_at, with_patterns, with_code, extension, Names};
 ghost use Rattle.hayro_jbig2.specs.inner.KeptViews.{patterns_view, symbols_view};
 ghost use Rattle.hayro_jbig2.specs.Causes.{BreaksExtension};
 ghost use Rattle.jbig2_base.specs.Causes.{HasCause};
+ghost use Rattle.jbig2_steps.specs.Work.{Paid, worth};
+ghost use Rattle.jbig2_halftone.specs.Steps.{price_of_patterns};
+ghost use Rattle.jbig2_halftone.specs.inner.PatternViews.{header_view};
 
 use crate::names::{KeptNames, Lookup};
 use crate::referred::gather_referred;
@@ -33,9 +36,10 @@ fn decode_symbols<A: Allocator + Clone, L: Ledger>(
     workspace: &Workspace<A>,
     work: &mut Work<L>,
 ) -> Result<SymbolDictionary<A>>
-    ensures { Gives (λ d. symbols_view d) result
+    ensures value { Gives (λ d. symbols_view d) result
         (symbol_dictionary_at lookup.now.strict lookup.now.own.now lookup.now.globals.now
         (segment_view segment.now)) }
+    ensures paid { Paid work.old work.new }
 {
     let numbers = &segment.header.referred_to_segments;
     let referred = gather_referred(workspace.alloc.clone()?, lookup, numbers)?;
@@ -54,16 +58,20 @@ fn decode_symbols<A: Allocator + Clone, L: Ledger>(
     )
 }
 
-/// Takes the work of patterns: of their collective bitmap, and of each that is cut out of it.
+/// Takes the work of patterns: of their collective bitmap, of each that is cut out of it, and of the coded bytes.
 fn pay_patterns<L: Ledger>(header: &PatternDictionaryHeader<'_>, work: &mut Work<L>) -> Result<()>
-    ensures { IfErr result (λ e. e ≡ DecodeError.OutOfMemory) }
+    ensures memory { IfErr result (λ e. e ≡ DecodeError.OutOfMemory) }
+    ensures paid { Paid work.old work.new }
+    ensures taken { let price = price_of_patterns (header_view header.now) in
+        IfOk result (λ _. worth work.new + 32 * price ≡ worth work.old) }
 {
     let count = u64::from(header.num_patterns) + 1;
     let (width, height) = (
         u32::from(header.pattern_width),
         u32::from(header.pattern_height),
     );
-    work.pay_bitmaps(count.saturating_mul(2), width, height)?;
+    work.pay_bitmaps(2 * count, width, height)?;
+    work.pay(header.bytes.len() as u64)?;
     Ok(())
 }
 
@@ -75,7 +83,8 @@ fn decode_patterns<A: Allocator + Clone, L: Ledger>(
     workspace: &mut Workspace<A>,
     work: &mut Work<L>,
 ) -> Result<PatternDictionary<A>>
-    ensures { Gives (λ d. patterns_view d) result (pattern_dictionary_at strict bytes.now) }
+    ensures value { Gives (λ d. patterns_view d) result (pattern_dictionary_at strict bytes.now) }
+    ensures paid { Paid work.old work.new }
 {
     let mut reader = Reader::new(bytes);
     let header = pattern::parse(&mut reader, strict)?;
@@ -99,6 +108,7 @@ pub(crate) fn keep_symbols<A: Allocator + Clone, L: Ledger>(
     ensures value { Gives (λ _. names.new) result
         (with_symbols strict globals.now (segment_view segment.now) names.old) }
     ensures unchanged { IfErr result (λ e. (e ≡ DecodeError.OutOfMemory) ⊎ (names.new ≡ names.old)) }
+    ensures paid { Paid work.old work.new }
 {
     let lookup = Lookup {
         strict,
@@ -121,6 +131,7 @@ pub(crate) fn keep_patterns<A: Allocator + Clone, L: Ledger>(
     ensures value { Gives (λ _. names.new) result
         (with_patterns strict (segment_view segment.now) names.old) }
     ensures unchanged { IfErr result (λ e. (e ≡ DecodeError.OutOfMemory) ⊎ (names.new ≡ names.old)) }
+    ensures paid { Paid work.old work.new }
 {
     let dictionary = decode_patterns(strict, segment.bytes, workspace, work)?;
     names.store_patterns(segment.header.segment_number, dictionary)

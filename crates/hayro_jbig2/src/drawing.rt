@@ -1,5 +1,5 @@
 //! Segments drawn onto the page (T.88, 8.2).
-ghost use Rattle.std.specs.Prelude.{◌≡◌, ◌<◌, ◌⊎◌, true, false, Err, IfErr};
+ghost use Rattle.std.specs.Prelude.{◌≡◌, ◌+◌, ◌*◌, ◌<◌, ◌≤◌, ◌⊎◌, true, false, Err, IfErr, IfOk};
 ghost use Rattle.jbig2_base.specs.Answer.{Gives};
 ghost use Rattle.jbig2_base.specs.inner.SegmentViews.{segment_view, segment_views};
 ghost use Rattle.hayro_jbig2.specs.Names.{nothing_passed, with_patterns, with_symbols};
@@ -10,6 +10,7 @@ ghost use Rattle.jbig2_region.specs.inner.RegionViews.{region_view};
 ghost use Rattle.hayro_jbig2.specs.inner.KeptViews.{seen};
 ghost use Rattle.hayro_jbig2.specs.inner.Parsed.{drawing_of};
 ghost use Rattle.hayro_jbig2.specs.inner.Whole.{touched};
+ghost use Rattle.jbig2_steps.specs.Work.{Paid, worth};
 
 use crate::context::DecoderContext;
 use crate::dictionaries::{extension, keep_patterns, keep_symbols, keep_table};
@@ -67,7 +68,9 @@ pub(crate) fn pay_segment<A: Allocator, L: Ledger>(
     kept: usize,
     work: &mut Work<L>,
 ) -> Result<()>
-    ensures { IfErr result (λ e. e ≡ OutOfMemory) }
+    ensures memory { IfErr result (λ e. e ≡ OutOfMemory) }
+    ensures paid { Paid work.old work.new }
+    ensures taken { IfOk result (λ _. worth work.new + 32 * 1024 ≤ worth work.old) }
 {
     let numbers = segment.header.referred_to_segments.len() as u64;
     let each = (kept as u64).saturating_add(REFERENCE);
@@ -85,9 +88,10 @@ impl<'a, A: Allocator + Clone> Drawer<'a, A> {
         work: &mut Work<L>,
     ) -> Result<()>
         requires { context.old.passed_over.count ≡ 0 }
-        ensures { Gives (λ _. context.new) result
+        ensures value { Gives (λ _. context.new) result
             (segments_drawn self.now.reading self.now.globals.now (segment_views segments.now)
             context.old) }
+        ensures paid { Paid work.old work.new }
     {
         for segment in segments {
             if ends_page(segment.header.segment_type) {
@@ -111,9 +115,10 @@ impl<'a, A: Allocator + Clone> Drawer<'a, A> {
         work: &mut Work<L>,
     ) -> Result<()>
         requires { context.old.passed_over.count < usize.MAX }
-        ensures { Gives (λ _. context.new) result
+        ensures value { Gives (λ _. context.new) result
             (segment_on self.now.reading self.now.globals.now (segment_view segment.now)
             context.old) }
+        ensures paid { Paid work.old work.new }
     {
         match self.try_segment(segment, context, work) {
             Ok(()) => Ok(()),
@@ -153,6 +158,7 @@ impl<'a, A: Allocator + Clone> Drawer<'a, A> {
             (segment_view segment.now) context.old) }
         ensures err { IfErr result (λ e. (e ≡ OutOfMemory) ⊎
             (touched context.new ≡ touched context.old)) }
+        ensures paid { Paid work.old work.new }
     {
         match segment.header.segment_type {
             SegmentType::SymbolDictionary => self.keep_symbols(segment, context, work),
@@ -205,6 +211,7 @@ impl<'a, A: Allocator + Clone> Drawer<'a, A> {
             (keeping context.old (with_symbols (is_strict self.now.reading) self.now.globals.now
             (segment_view segment.now) context.old.names)) }
         ensures err { IfErr result (λ e. (e ≡ OutOfMemory) ⊎ (context.new ≡ context.old)) }
+        ensures paid { Paid work.old work.new }
     {
         let (strict, workspace) = (self.reading.is_strict(), &context.workspace);
         keep_symbols(
@@ -228,6 +235,7 @@ impl<'a, A: Allocator + Clone> Drawer<'a, A> {
             (keeping context.old (with_patterns (is_strict self.now.reading)
             (segment_view segment.now) context.old.names)) }
         ensures err { IfErr result (λ e. (e ≡ OutOfMemory) ⊎ (context.new ≡ context.old)) }
+        ensures paid { Paid work.old work.new }
     {
         let (strict, workspace) = (self.reading.is_strict(), &mut context.workspace);
         keep_patterns(&mut context.names, strict, segment, workspace, work)
@@ -277,6 +285,7 @@ impl<'a, A: Allocator + Clone> Drawer<'a, A> {
             (segment_view segment.now) context.old) }
         ensures err { IfErr result (λ e. (e ≡ OutOfMemory) ⊎
             (touched context.new ≡ touched context.old)) }
+        ensures paid { Paid work.old work.new }
     {
         match self.show_region(kind, segment, context, work) {
             Ok(()) => Ok(()),
@@ -299,6 +308,7 @@ impl<'a, A: Allocator + Clone> Drawer<'a, A> {
         ensures err { IfErr result (λ e. (e ≡ OutOfMemory) ⊎
             (touched context.new ≡ touched context.old)) }
         ensures passed { context.new.passed_over ≡ context.old.passed_over }
+        ensures paid { Paid work.old work.new }
     {
         let is_white = context.is_white();
         let references = self.references(&context.names, &context.regions, &context.bitmap);
@@ -347,6 +357,7 @@ impl<'a, A: Allocator + Clone> Drawer<'a, A> {
             (intermediate (is_strict self.now.reading) self.now.globals.now kind
             (segment_view segment.now) context.old) }
         ensures err { IfErr result (λ e. (e ≡ OutOfMemory) ⊎ (context.new ≡ context.old)) }
+        ensures paid { Paid work.old work.new }
     {
         let references = self.references(&context.names, &context.regions, &context.bitmap);
         let workspace = &context.workspace;

@@ -8,7 +8,9 @@ ghost use Rattle.jbig2_base.specs.inner.SegmentViews.{segment_view, segment_view
 ghost use Rattle.hayro_jbig2.specs.Names.{globals_at, named_from, kept_by, no_names, nothing_shared, or_shared_without};
 ghost use Rattle.hayro_jbig2.specs.Returned.{IsReturned};
 ghost use Rattle.hayro_jbig2.specs.inner.KeptViews.{found};
+ghost use Rattle.jbig2_steps.specs.Work.{IsWithinLimit, Paid};
 
+use crate::context::work_within;
 use crate::dictionaries::{extension, keep_patterns, keep_symbols, keep_table};
 use crate::drawing::pay_segment;
 use crate::names::KeptNames;
@@ -21,7 +23,6 @@ use jbig2_base::file::{parse_segments_sequential, sequence_fault};
 use jbig2_base::reading::Reading;
 use jbig2_base::segment::{Segment, SegmentType};
 use jbig2_base::sort::sort_segments;
-use jbig2_permit::Permit;
 use std::alloc::Allocator;
 use std::marker::{Brand, Model};
 use std::sync::ledger::{Blank, Ledger};
@@ -151,9 +152,10 @@ impl<A: Allocator + Clone> Globals<A> {
         work: &mut Work<L>,
     ) -> Result<()>
         requires { self.old.passed_over.count < usize.MAX }
-        ensures { Gives (λ _. self.new) result
+        ensures value { Gives (λ _. self.new) result
             (or_shared_without reading segment.now.header.segment_number self.old
             (kept_by (is_strict reading) no_names (segment_view segment.now) self.old.names)) }
+        ensures paid { Paid work.old work.new }
     {
         let names = &mut self.names;
         match keep_segment(names, reading.is_strict(), segment, workspace, work) {
@@ -169,7 +171,7 @@ impl<A: Allocator + Clone> Globals<A> {
     }
 }
 
-/// What these segments keep, each after those before it.
+/// What these segments keep, each after those before it, under a counter of its own.
 fn decode_shared<A: Allocator + Clone, L: Ledger>(
     alloc: A,
     reading: Reading,
@@ -184,13 +186,29 @@ fn decode_shared<A: Allocator + Clone, L: Ledger>(
     ensures { Gives (λ globals. globals) result
         (named_from reading (segment_views segments.now) (nothing_shared fault)) }
 {
-    let units = work.unwrap_or(u64::MAX);
-    let mut work = Work::<L>::within(Permit::grant(), blank, units);
+    let mut work = work_within::<L>(work, blank);
+    shared_within(alloc, reading, segments, fault, &mut work)
+}
+
+/// What these segments keep, each after those before it. What is counted for them is within what the units pay for
+/// that `work` has.
+fn shared_within<A: Allocator + Clone, L: Ledger>(
+    alloc: A,
+    reading: Reading,
+    segments: &[Segment<'_, A>],
+    fault: Option<DecodeError>,
+    work: &mut Work<L>,
+) -> Result<Globals<A>>
+    ensures value { Gives (λ globals. globals) result
+        (named_from reading (segment_views segments.now) (nothing_shared fault)) }
+    ensures paid { Paid work.old work.new }
+    ensures limit { IsWithinLimit work.old work.new }
+{
     let mut globals = Globals::empty(alloc.clone()?, fault)?;
     let mut workspace = Workspace::new(alloc)?;
     for segment in segments {
-        pay_segment(segment, globals.names.count(), &mut work)?;
-        match globals.add(reading, segment, &mut workspace, &mut work) {
+        pay_segment(segment, globals.names.count(), work)?;
+        match globals.add(reading, segment, &mut workspace, work) {
             Ok(()) => {}
             Err(error) => return Err(error),
         }
@@ -208,6 +226,7 @@ fn keep_segment<A: Allocator + Clone, L: Ledger>(
     ensures value { Gives (λ _. names.new) result
         (kept_by strict no_names (segment_view segment.now) names.old) }
     ensures unchanged { IfErr result (λ e. (e ≡ OutOfMemory) ⊎ (names.new ≡ names.old)) }
+    ensures paid { Paid work.old work.new }
 {
     match segment.header.segment_type {
         SegmentType::SymbolDictionary => {

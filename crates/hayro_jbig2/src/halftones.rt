@@ -1,5 +1,5 @@
 //! Halftone regions of a page (T.88, 7.4.5).
-ghost use Rattle.std.specs.Prelude.{◌≡◌, IfErr, IfOk};
+ghost use Rattle.std.specs.Prelude.{◌≡◌, ◌+◌, ◌*◌, IfErr, IfOk};
 ghost use Rattle.jbig2_base.specs.Answer.{Answers, some_or};
 ghost use Rattle.jbig2_base.specs.inner.SegmentViews.{segment_view};
 ghost use Rattle.hayro_jbig2.specs.Regions.{halftone_at, patterns_for};
@@ -7,6 +7,10 @@ ghost use Rattle.hayro_jbig2.specs.inner.KeptViews.{patterns_view};
 ghost use Rattle.hayro_jbig2.specs.inner.Parsed.{IsDecodable, Leads};
 ghost use Rattle.hayro_jbig2.specs.Causes.{BreaksPatternReference};
 ghost use Rattle.jbig2_base.specs.Causes.{HasCause};
+ghost use Rattle.jbig2_steps.specs.Work.{Paid, worth};
+ghost use Rattle.jbig2_halftone.specs.Steps.{price_of_halftone};
+ghost use Rattle.jbig2_halftone.specs.inner.HalftoneHeaderViews.{header_view};
+ghost use Rattle.jbig2_halftone.specs.inner.DictionaryViews.{dictionary_view};
 
 use crate::names::Lookup;
 use crate::parsed_region::ParsedRegion;
@@ -60,18 +64,23 @@ pub(crate) fn parse_halftone<'a, 'n, 'r, A: Allocator>(
     Ok(ParsedRegion::Halftone { header, patterns })
 }
 
-/// Takes the work of a halftone's cells: the planes of their values, and for each a pattern that is combined with the region.
+/// Takes the work of a halftone's cells: the planes of their values, for each cell a pattern that is combined with the
+/// region, and the coded bytes.
 pub(crate) fn pay_cells<A: Allocator, L: Ledger>(
     header: &HalftoneRegionHeader<'_>,
     patterns: &PatternDictionary<A>,
     work: &mut Work<L>,
 ) -> Result<()>
-    ensures { IfErr result (λ e. e ≡ DecodeError.OutOfMemory) }
+    ensures memory { IfErr result (λ e. e ≡ DecodeError.OutOfMemory) }
+    ensures paid { Paid work.old work.new }
+    ensures taken { let price = price_of_halftone (header_view header.now) (dictionary_view patterns.now) in
+        IfOk result (λ _. worth work.new + 32 * price ≡ worth work.old) }
 {
     let grid = &header.grid_position_and_size;
     let planes = u64::from(code_length(patterns.patterns.len()));
     let cells = u64::from(grid.width) * u64::from(grid.height);
     work.pay_bitmaps(planes, grid.width, grid.height)?;
     work.pay_bitmaps(cells, patterns.pattern_width, patterns.pattern_height)?;
+    work.pay(header.bytes.len() as u64)?;
     Ok(())
 }

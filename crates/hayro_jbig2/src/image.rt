@@ -3,6 +3,7 @@ ghost use Rattle.std.specs.Prelude.{◌≡◌, ◌+◌, ◌-◌, ◌*◌, ◌<�
 ghost use Rattle.jbig2_base.specs.Bits.{bit};
 ghost use Rattle.hayro_jbig2.specs.Image.{image_of, shade};
 ghost use Rattle.hayro_jbig2.specs.inner.Puts.{Puts};
+ghost use Rattle.jbig2_steps.specs.Work.{CountsWithin, price_of_bitmap};
 
 use crate::calls::pixel_of;
 use jbig2_base::bitmap::Bitmap;
@@ -55,7 +56,9 @@ pub(crate) fn write_image<A: Allocator, L: Ledger>(
     requires width { initial_page.now.width ≤ 65535 }
     requires height { initial_page.now.height ≤ 65535 }
     requires sized { length buf.old ≡ initial_page.now.width * initial_page.now.height }
-    ensures { buf.new ≡ image_of initial_page.now.width initial_page.now.height bitmap.now }
+    ensures value { buf.new ≡ image_of initial_page.now.width initial_page.now.height bitmap.now }
+    ensures paid { let page = initial_page.now in
+        CountsWithin (price_of_bitmap page.width page.height) steps.old steps.new }
 {
     let width = initial_page.width as usize;
     let (mut place, mut x, mut y) = (0, 0, 0);

@@ -26,6 +26,8 @@ pub struct Jbig2Decoder<A: Allocator> {
     bytes: Vec<u8, A>,
     width: u32,
     height: u32,
+    /// The work that the segments of no page may take, and the page.
+    work_limit: Option<u64>,
 }
 
 impl<A: Allocator> Model for Jbig2Decoder<A> {
@@ -56,11 +58,15 @@ fn first_page_of<'f, A: Allocator>(file: &'f File<'_, A>) -> jbig2_base::error::
 
 /// The width and the height of the first page.
 #[tactic(auto, unfolding(crate::specs::Image::first_page))]
-fn first_size<A: Allocator + Clone>(alloc: A, bytes: &[u8]) -> jbig2_base::error::Result<(u32, u32)>
+fn first_size<A: Allocator + Clone>(
+    alloc: A,
+    bytes: &[u8],
+    work: Option<u64>,
+) -> jbig2_base::error::Result<(u32, u32)>
     ensures value { Gives (λ size. size) result (first_size bytes.now) }
     ensures errors { IfErr result IsReturned }
 {
-    let file = File::new(alloc, bytes, &LENIENT)?;
+    let file = File::new_within(alloc, bytes, &LENIENT, work)?;
     let page = first_page_of(&file)?;
     Ok(page.dimensions())
 }
@@ -70,6 +76,7 @@ fn first_size<A: Allocator + Clone>(alloc: A, bytes: &[u8]) -> jbig2_base::error
 fn first_image<A: Allocator + Clone>(
     alloc: A,
     bytes: &[u8],
+    work: Option<u64>,
     buf: &mut [u8],
 ) -> jbig2_base::error::Result<()>
     requires { IfOk (first_size bytes.now) (λ size. length buf.old ≡ size.0 * size.1) }
@@ -77,9 +84,9 @@ fn first_image<A: Allocator + Clone>(
     ensures unchanged { OnErr result (buf.new ≡ buf.old) }
     ensures errors { IfErr result IsReturned }
 {
-    let file = File::new(alloc, bytes, &LENIENT)?;
+    let file = File::new_within(alloc, bytes, &LENIENT, work)?;
     let page = first_page_of(&file)?;
-    page.read_image(buf)
+    page.read_image_limited(buf, work)
 }
 
 /// Writes the first page, as `Page::read_packed` does.
@@ -87,6 +94,7 @@ fn first_image<A: Allocator + Clone>(
 fn first_packed<A: Allocator + Clone>(
     alloc: A,
     bytes: &[u8],
+    work: Option<u64>,
     buf: &mut [u8],
 ) -> jbig2_base::error::Result<()>
     requires { IfOk (first_size bytes.now) (λ size. length buf.old ≡ packed_size size.0 size.1) }
@@ -94,9 +102,9 @@ fn first_packed<A: Allocator + Clone>(
     ensures unchanged { OnErr result (buf.new ≡ buf.old) }
     ensures errors { IfErr result IsReturned }
 {
-    let file = File::new(alloc, bytes, &LENIENT)?;
+    let file = File::new_within(alloc, bytes, &LENIENT, work)?;
     let page = first_page_of(&file)?;
-    page.read_packed(buf)
+    page.read_packed_limited(buf, work)
 }
 
 impl<A: Allocator + Clone> Jbig2Decoder<A> {
@@ -105,17 +113,33 @@ impl<A: Allocator + Clone> Jbig2Decoder<A> {
     /// Returns `Jbig2Error::Io` for another fault of the reader, of any kind, or where no end comes
     /// within 2^64 - 1 reads, and `Jbig2Error::Decode` for a fault of the file or want of memory.
     /// The reader is dropped.
-    pub fn new<R: Read + Drop>(alloc: A, mut reader: R) -> Result<Jbig2Decoder<A>, Jbig2Error>
+    pub fn new<R: Read + Drop>(alloc: A, reader: R) -> Result<Jbig2Decoder<A>, Jbig2Error>
+        ensures opens { IfSome (R.remaining reader) (λ told. Opens told result) }
+        ensures lasting { IfErr result IsLasting }
+        ensures errors { IfErr result IsReturnedOrIo }
+    {
+        Jbig2Decoder::new_within(alloc, reader, None)
+    }
+
+    /// Reads the input as `new` does. Each time that the page is read, the segments of no page may take `work` units of
+    /// work, and the page as many. Where that isn't enough it is refused with `DecodeError::OutOfMemory`, as memory is.
+    /// `None` is no limit.
+    pub fn new_within<R: Read + Drop>(
+        alloc: A,
+        mut reader: R,
+        work: Option<u64>,
+    ) -> Result<Jbig2Decoder<A>, Jbig2Error>
         ensures opens { IfSome (R.remaining reader) (λ told. Opens told result) }
         ensures lasting { IfErr result IsLasting }
         ensures errors { IfErr result IsReturnedOrIo }
     {
         let bytes = read_all(alloc.clone()?, &mut reader)?;
-        let (width, height) = first_size(alloc, &bytes)?;
+        let (width, height) = first_size(alloc, &bytes, work)?;
         Ok(Jbig2Decoder {
             bytes,
             width,
             height,
+            work_limit: work,
         })
     }
 
@@ -130,7 +154,7 @@ impl<A: Allocator + Clone> Jbig2Decoder<A> {
         ensures errors { IfErr result IsReturnedOrIo }
     {
         let alloc = self.bytes.allocator().clone()?;
-        first_image(alloc, &self.bytes, buf)?;
+        first_image(alloc, &self.bytes, self.work_limit, buf)?;
         Ok(())
     }
 
@@ -144,7 +168,7 @@ impl<A: Allocator + Clone> Jbig2Decoder<A> {
         ensures errors { IfErr result IsReturnedOrIo }
     {
         let alloc = self.bytes.allocator().clone()?;
-        first_packed(alloc, &self.bytes, buf)?;
+        first_packed(alloc, &self.bytes, self.work_limit, buf)?;
         Ok(())
     }
 }

@@ -4,6 +4,7 @@ ghost use Rattle.jbig2_base.specs.Bits.{bit};
 ghost use Rattle.jbig2_base.specs.Counts.{words_loaded};
 ghost use Rattle.hayro_jbig2.specs.Image.{packed_byte, packed_part, row_bytes};
 ghost use Rattle.hayro_jbig2.specs.inner.Puts.{top_byte, word_byte, Puts};
+ghost use Rattle.jbig2_steps.specs.Work.{counted};
 
 use crate::image::wrapped;
 use jbig2_base::bitmap::Bitmap;
@@ -52,6 +53,7 @@ fn put_rest<A: Allocator, L: Ledger>(
     requires inside { place + most ≤ length buf.old }
     ensures some { 1 ≤ result }
     ensures most { result ≤ most }
+    ensures steps { steps.new ≡ words_loaded 1 steps.old }
     ensures puts { Puts (λ i. packed_byte bitmap.now (column + i) y) place result buf.old buf.new }
 {
     let word = bitmap.load_pixels(8 * column as u32, y, 64, steps);
@@ -102,7 +104,8 @@ pub(crate) fn write_packed<A: Allocator, L: Ledger>(
     steps: &mut Steps<L>,
 )
     requires { start + length buf.old ≤ row_bytes width * u32.MAX }
-    ensures { buf.new ≡ packed_part width bitmap.now start (length buf.old) }
+    ensures value { buf.new ≡ packed_part width bitmap.now start (length buf.old) }
+    ensures steps { counted steps.new ≤ counted steps.old + length buf.old }
 {
     let row_bytes = width.div_ceil(8) as usize;
     let (mut place, mut column, mut y) = (0, 0, 0);

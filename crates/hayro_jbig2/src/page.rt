@@ -16,10 +16,11 @@ ghost use Rattle.hayro_jbig2.specs.Returned.{IsReturned};
 ghost use Rattle.hayro_jbig2.specs.inner.PageViews.{given_names, kept_names};
 ghost use Rattle.hayro_jbig2.specs.inner.SegmentLists.{segment_list};
 ghost use Rattle.jbig2_base.specs.inner.SegmentViews.{segment_views};
+ghost use Rattle.jbig2_steps.specs.Work.{IsWithinLimit, Paid, price_of_bitmap, worth};
 
 use crate::beginning::beginning_of;
 use crate::calls::push_bitmap;
-use crate::context::DecoderContext;
+use crate::context::{DecoderContext, work_within};
 use crate::decoder::Decoder;
 use crate::drawing::Drawer;
 use crate::drawn_page::DrawnPage;
@@ -34,7 +35,6 @@ use jbig2_base::page_info::InitialPage;
 use jbig2_base::reading::Reading;
 use jbig2_base::segment::Segment;
 use jbig2_base::sort::sort_segments;
-use jbig2_permit::Permit;
 use std::alloc::Allocator;
 use std::marker::{Brand, Model};
 use std::sync::ledger::{Blank, Ledger};
@@ -242,11 +242,26 @@ impl<'a, A: Allocator + Clone> Page<'a, A> {
         ensures unchanged { OnErr result (buf.new ≡ buf.old) }
         ensures errors { IfErr result IsReturned }
     {
-        let _globals = &self.globals;
-        self.read_counted::<Brand>(buf, Blank::new(6))
+        self.read_image_limited(buf, None)
     }
 
-    fn read_counted<L: Ledger>(&self, buf: &mut [u8], blank: Blank) -> Result<()>
+    /// Writes the page as `read_image` does, for at most `work` units of work; `None` is no limit.
+    pub(crate) fn read_image_limited(&self, buf: &mut [u8], work: Option<u64>) -> Result<()>
+        requires { length buf.old ≡ self.now.initial_page.width * self.now.initial_page.height }
+        ensures value { Gives (λ _. buf.new) result (image_of_page self.now) }
+        ensures unchanged { OnErr result (buf.new ≡ buf.old) }
+        ensures errors { IfErr result IsReturned }
+    {
+        let _globals = &self.globals;
+        self.read_counted::<Brand>(buf, work, Blank::new(6))
+    }
+
+    fn read_counted<L: Ledger>(
+        &self,
+        buf: &mut [u8],
+        limit: Option<u64>,
+        blank: Blank,
+    ) -> Result<()>
         requires sized { length buf.old
             ≡ self.now.initial_page.width * self.now.initial_page.height }
         requires name { blank.name ≡ L.name }
@@ -255,8 +270,22 @@ impl<'a, A: Allocator + Clone> Page<'a, A> {
         ensures value { Gives (λ _. buf.new) result (image_of_page self.now) }
         ensures unchanged { OnErr result (buf.new ≡ buf.old) }
     {
-        let mut work = Work::<L>::new(Permit::grant(), blank);
-        let context = self.drawn(&mut work)?;
+        let mut work = work_within::<L>(limit, blank);
+        self.read_within(buf, &mut work)
+    }
+
+    /// Writes the page as `read_image` does, under a counter of the caller's.
+    ///
+    /// What is counted for that is within what the units pay for that `work` has. Where they aren't enough it is refused
+    /// with `DecodeError::OutOfMemory`, as memory is.
+    pub fn read_within<L: Ledger>(&self, buf: &mut [u8], work: &mut Work<L>) -> Result<()>
+        requires { length buf.old ≡ self.now.initial_page.width * self.now.initial_page.height }
+        ensures value { Gives (λ _. buf.new) result (image_of_page self.now) }
+        ensures unchanged { OnErr result (buf.new ≡ buf.old) }
+        ensures limit { IsWithinLimit work.old work.new }
+        ensures paid { Paid work.old work.new }
+    {
+        let context = self.drawn(work)?;
         write_image(&context.bitmap, &self.initial_page, buf, &mut work.steps);
         Ok(())
     }
@@ -276,7 +305,19 @@ impl<'a, A: Allocator + Clone> Page<'a, A> {
         ensures bits { PackedBitsAreBytes }
         ensures errors { IfErr result IsReturned }
     {
+        self.read_packed_limited(buf, None)
+    }
+
+    /// Writes the page as `read_packed` does, for at most `work` units of work; `None` is no limit.
+    pub(crate) fn read_packed_limited(&self, buf: &mut [u8], work: Option<u64>) -> Result<()>
+        requires { length buf.old ≡ packed_size self.now.initial_page.width
+            self.now.initial_page.height }
+        ensures value { Gives (λ _. buf.new) result (packed_of_page self.now) }
+        ensures unchanged { OnErr result (buf.new ≡ buf.old) }
+        ensures errors { IfErr result IsReturned }
+    {
         let mut context = DecoderContext::new(self.segments.as_vec().allocator().clone()?)?;
+        context.set_work_limit(work);
         let drawn = self.draw(&mut context)?;
         drawn.read_at(0, buf);
         Ok(())
@@ -317,12 +358,37 @@ impl<'a, A: Allocator + Clone> Page<'a, A> {
         ensures { Gives (λ _. context.new) result (drawing_of_page self.now) }
     {
         let mut work = context.new_work::<L>(blank);
-        self.draw_limited(context, &mut work)
+        self.draw_within(context, &mut work)
+    }
+
+    /// Draws the page as `draw_in` does, under a counter of the caller's in place of the context's limit.
+    ///
+    /// What is counted for that is within what the units pay for that `work` has. Where they aren't enough it is refused
+    /// with `DecodeError::OutOfMemory`, as memory is. The work of handing the page out is taken with it.
+    pub fn draw_within<L: Ledger>(
+        &self,
+        context: &mut DecoderContext<A>,
+        work: &mut Work<L>,
+    ) -> Result<()>
+        ensures drawing { Gives (λ _. context.new) result (drawing_of_page self.now) }
+        ensures limit { IsWithinLimit work.old work.new }
+        ensures paid { Paid work.old work.new }
+        ensures ahead { let page = self.now.initial_page in
+            let price = price_of_bitmap page.width page.height in
+            IfOk result (λ _. worth work.new + 32 * price ≤ worth work.old) }
+    {
+        let drawn = self.draw_into(context, work);
+        context.end(work);
+        drawn
     }
 
     /// The context that the page is drawn in, a fresh one.
     fn drawn<L: Ledger>(&self, work: &mut Work<L>) -> Result<DecoderContext<A>>
-        ensures { Gives (λ context. context.grid) result (grid_of_page self.now) }
+        ensures value { Gives (λ context. context.grid) result (grid_of_page self.now) }
+        ensures paid { Paid work.old work.new }
+        ensures ahead { let page = self.now.initial_page in
+            let price = price_of_bitmap page.width page.height in
+            IfOk result (λ _. worth work.new + 32 * price ≤ worth work.old) }
     {
         let mut context = DecoderContext::new(self.segments.as_vec().allocator().clone()?)?;
         self.draw_into(&mut context, work)?;
@@ -371,23 +437,30 @@ impl<'a, A: Allocator + Clone> Page<'a, A> {
         ensures drawing { IfOk (drawing_of_page self.now) (Leaves result context.new) }
     {
         let mut work = context.new_work::<L>(blank);
-        match self.draw_limited(context, &mut work) {
-            Ok(()) => push_bitmap(&context.bitmap, decoder, &mut work.steps),
-            Err(error) => Err(error),
-        }
+        self.decode_within(decoder, context, &mut work)
     }
 
-    /// Draws the page, and notes what that leaves of the context's limit of work.
-    fn draw_limited<L: Ledger>(
+    /// Makes the calls that spell the page as `decode_with` does, under a counter of the caller's in place of the
+    /// context's limit.
+    ///
+    /// What is counted for that is within what the units pay for that `work` has. Where they aren't enough it is refused
+    /// with `DecodeError::OutOfMemory`, as memory is, before any call.
+    pub fn decode_within<D: Decoder, L: Ledger>(
         &self,
+        decoder: &mut D,
         context: &mut DecoderContext<A>,
         work: &mut Work<L>,
     ) -> Result<()>
-        ensures { Gives (λ _. context.new) result (drawing_of_page self.now) }
+        requires { IsCountable D.conduct decoder.old }
+        ensures calls { Decodes D.conduct (grid_of_page self.now) result decoder.old decoder.new }
+        ensures drawing { IfOk (drawing_of_page self.now) (Leaves result context.new) }
+        ensures limit { IsWithinLimit work.old work.new }
+        ensures paid { Paid work.old work.new }
     {
-        let drawn = self.draw_into(context, work);
-        context.end(work);
-        drawn
+        match self.draw_within(context, work) {
+            Ok(()) => push_bitmap(&context.bitmap, decoder, &mut work.steps),
+            Err(error) => Err(error),
+        }
     }
 
     /// Draws the whole page into the context's bitmap.
@@ -396,7 +469,11 @@ impl<'a, A: Allocator + Clone> Page<'a, A> {
         context: &mut DecoderContext<A>,
         work: &mut Work<L>,
     ) -> Result<()>
-        ensures { Gives (λ _. context.new) result (drawing_of_page self.now) }
+        ensures value { Gives (λ _. context.new) result (drawing_of_page self.now) }
+        ensures paid { Paid work.old work.new }
+        ensures ahead { let page = self.now.initial_page in
+            let price = price_of_bitmap page.width page.height in
+            IfOk result (λ _. worth work.new + 32 * price ≤ worth work.old) }
     {
         match &self.globals {
             Ok(Some(globals)) => self.draw_with(globals.names(), context, work),
@@ -415,9 +492,13 @@ impl<'a, A: Allocator + Clone> Page<'a, A> {
         context: &mut DecoderContext<A>,
         work: &mut Work<L>,
     ) -> Result<()>
-        ensures { Gives (λ _. context.new) result
+        ensures value { Gives (λ _. context.new) result
             (segments_drawn self.now.reading globals.now self.now.segments
             (page_begun self.now.initial_page)) }
+        ensures paid { Paid work.old work.new }
+        ensures ahead { let page = self.now.initial_page in
+            let price = price_of_bitmap page.width page.height in
+            IfOk result (λ _. worth work.new + 32 * price ≤ worth work.old) }
     {
         // A page is cleared, and then handed out.
         let (width, height) = self.dimensions();

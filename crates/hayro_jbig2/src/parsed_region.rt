@@ -1,9 +1,11 @@
 //! Regions whose headers are read (T.88, 7.4.3 and 7.4.5 to 7.4.7).
-ghost use Rattle.std.specs.Prelude.{◌≡◌, IfErr};
+ghost use Rattle.std.specs.Prelude.{◌≡◌, ◌≤◌, ◌+◌, ◌*◌, IfErr, IfOk};
 ghost use Rattle.jbig2_base.specs.Answer.{Gives};
 ghost use Rattle.jbig2_base.specs.Grid.{blank};
 ghost use Rattle.jbig2_region.specs.inner.RegionViews.{region_view};
 ghost use Rattle.hayro_jbig2.specs.inner.Parsed.{IsDecodable, apart, drawn, info_of, initial_of};
+ghost use Rattle.hayro_jbig2.specs.inner.Prices.{counts_of, price_besides, price_of_info};
+ghost use Rattle.jbig2_steps.specs.Work.{Paid, PaidBut, price_of_bitmap, worth};
 
 use crate::halftones::pay_cells;
 use crate::referred::ReferredSegments;
@@ -74,15 +76,31 @@ impl<'a, 'n, 'r, A: Allocator + Clone> ParsedRegion<'a, 'n, 'r, A> {
         }
     }
 
-    /// Takes the work of `count` bitmaps of the region's size, and of the symbols or the cells that it has.
-    pub(crate) fn pay_bitmaps<L: Ledger>(&self, count: u64, work: &mut Work<L>) -> Result<()>
-        ensures { IfErr result (λ e. e ≡ DecodeError.OutOfMemory) }
+    /// Takes the work of a region besides the bitmaps of its size: of the symbols that it refers to, of its cells, or of
+    /// its coded bytes.
+    fn pay_besides<L: Ledger>(&self, work: &mut Work<L>) -> Result<()>
+        ensures memory { IfErr result (λ e. e ≡ DecodeError.OutOfMemory) }
+        ensures paid { Paid work.old work.new }
+        ensures taken { IfOk result
+            (λ _. worth work.new + 32 * price_besides self.now ≡ worth work.old) }
     {
         match self {
-            ParsedRegion::Text { referred, .. } => referred.pay_symbols(work)?,
-            ParsedRegion::Halftone { header, patterns } => pay_cells(header, patterns, work)?,
-            _ => {}
+            ParsedRegion::Text { referred, .. } => referred.pay_symbols(work),
+            ParsedRegion::Halftone { header, patterns } => pay_cells(header, patterns, work),
+            ParsedRegion::Generic { header } => Ok(work.pay(header.bytes.len() as u64)?),
+            ParsedRegion::Refinement { .. } => Ok(()),
+            ParsedRegion::PageRefinement { .. } => Ok(()),
         }
+    }
+
+    /// Takes the work of `count` bitmaps of the region's size, and of what it takes besides.
+    pub(crate) fn pay_bitmaps<L: Ledger>(&self, count: u64, work: &mut Work<L>) -> Result<()>
+        ensures memory { IfErr result (λ e. e ≡ DecodeError.OutOfMemory) }
+        ensures paid { Paid work.old work.new }
+        ensures taken { let price = price_of_info self.now * count + price_besides self.now in
+            IfOk result (λ _. worth work.new + 32 * price ≡ worth work.old) }
+    {
+        self.pay_besides(work)?;
         let info = self.region_info();
         work.pay_bitmaps(count, info.width, info.height)?;
         Ok(())
@@ -98,7 +116,8 @@ impl<'a, 'n, 'r, A: Allocator + Clone> ParsedRegion<'a, 'n, 'r, A> {
         requires parsed { IsDecodable self.now }
         requires coloured { let info = info_of self.now in
             bitmap.old ≡ blank info.width info.height (initial_of self.now) }
-        ensures { Gives (λ _. bitmap.new) result (drawn self.now) }
+        ensures value { Gives (λ _. bitmap.new) result (drawn self.now) }
+        ensures paid { PaidBut (counts_of self.now) work.old work.new }
     {
         let (alloc, tables) = (&workspace.alloc, &workspace.standard_tables);
         let decoded = self.decode_by(alloc, tables, &mut workspace.contexts, bitmap, work);
@@ -118,7 +137,8 @@ impl<'a, 'n, 'r, A: Allocator + Clone> ParsedRegion<'a, 'n, 'r, A> {
         requires parsed { IsDecodable self.now }
         requires coloured { let info = info_of self.now in
             bitmap.old ≡ blank info.width info.height (initial_of self.now) }
-        ensures { Gives (λ _. bitmap.new) result (drawn self.now) }
+        ensures value { Gives (λ _. bitmap.new) result (drawn self.now) }
+        ensures paid { PaidBut (counts_of self.now) work.old work.new }
     {
         match self {
             ParsedRegion::Text { header, referred } => text::decode_into(
@@ -152,14 +172,17 @@ impl<'a, 'n, 'r, A: Allocator + Clone> ParsedRegion<'a, 'n, 'r, A> {
         }
     }
 
-    /// Decodes the region into a bitmap of its own.
+    /// Decodes the region into a bitmap of its own. The work of another one is taken ahead, for what becomes of it.
     pub(crate) fn decode<L: Ledger>(
         self,
         workspace: &mut Workspace<A>,
         work: &mut Work<L>,
     ) -> Result<DecodedRegion<A>>
         requires { IsDecodable self }
-        ensures { Gives (λ region. region_view region) result (apart self.entry) }
+        ensures value { Gives (λ region. region_view region) result (apart self.entry) }
+        ensures paid { Paid work.old work.new }
+        ensures ahead { IfOk result (λ region. let page = region.bitmap in
+            worth work.new + 32 * price_of_bitmap page.width page.height ≤ worth work.old) }
     {
         self.pay_bitmaps(2, work)?;
         let info = self.region_info();

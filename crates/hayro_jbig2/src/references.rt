@@ -3,6 +3,7 @@ ghost use Rattle.std.specs.Prelude.{IfOk};
 ghost use Rattle.jbig2_base.specs.inner.SegmentViews.{segment_view};
 ghost use Rattle.hayro_jbig2.specs.Page.{region_at};
 ghost use Rattle.hayro_jbig2.specs.inner.Parsed.{IsDecodable, Leads, drawing_of};
+ghost use Rattle.jbig2_steps.specs.Work.{Paid};
 
 use crate::generics::parse_generic;
 use crate::halftones::parse_halftone;
@@ -44,6 +45,7 @@ impl<'n, 'r, 'p, A: Allocator + Clone> References<'n, 'r, 'p, A> {
             (region_at self.now.names.strict self.now.names.globals.now kind is_intermediate
             (segment_view segment.now) (drawing_of self.now)) }
         ensures parsed { IfOk result (λ region. IsDecodable region) }
+        ensures paid { Paid work.old work.new }
     {
         match kind {
             RegionKind::Text => parse_text(self, segment, workspace),

@@ -1,10 +1,12 @@
 //! What symbol dictionaries and text regions refer to by numbers (T.88, 7.3.1).
-ghost use Rattle.std.specs.Prelude.{◌≡◌, ◌≤◌, ◌+◌, ◌++◌, length, map, Ok, OnOk, IfErr};
+ghost use Rattle.std.specs.Prelude.{◌≡◌, ◌≤◌, ◌+◌, ◌*◌, ◌++◌, length, map, Ok, OnOk, IfErr, IfOk};
 ghost use Rattle.jbig2_base.specs.Answer.{Gives};
 ghost use Rattle.jbig2_base.specs.Causes.{HasCauseOrNoMemory};
 ghost use Rattle.hayro_jbig2.specs.Causes.{BreaksReferred};
 ghost use Rattle.hayro_jbig2.specs.Names.{with_dictionary, with_table, with_number, with_numbers, referred_by};
 ghost use Rattle.hayro_jbig2.specs.inner.KeptViews.{found, symbols_view};
+ghost use Rattle.hayro_jbig2.specs.inner.Prices.{price_of_symbols};
+ghost use Rattle.jbig2_steps.specs.Work.{Paid, worth};
 
 use crate::names::Lookup;
 use jbig2_base::bitmap::Bitmap;
@@ -106,7 +108,10 @@ impl<'a, A: Allocator> ReferredSegments<'a, A> {
 impl<A: Allocator> ReferredSegments<'_, A> {
     /// Takes the work of the symbols that are referred to: of their list, and of codes for them.
     pub(crate) fn pay_symbols<L: Ledger>(&self, work: &mut Work<L>) -> Result<()>
-        ensures { IfErr result (λ e. e ≡ DecodeError.OutOfMemory) }
+        ensures memory { IfErr result (λ e. e ≡ DecodeError.OutOfMemory) }
+        ensures paid { Paid work.old work.new }
+        ensures taken { let price = price_of_symbols (length self.now.symbols) in
+            IfOk result (λ _. worth work.new + 32 * price ≡ worth work.old) }
     {
         work.pay((self.symbols.len() as u64).saturating_mul(SYMBOL))?;
         Ok(())

@@ -1,5 +1,5 @@
 //! Refinements on a page (T.88, 7.4.7).
-ghost use Rattle.std.specs.Prelude.{◌≡◌, ◌≤◌, IfOk};
+ghost use Rattle.std.specs.Prelude.{◌≡◌, ◌≤◌, ◌*◌, IfOk};
 ghost use Rattle.jbig2_base.specs.Answer.{Answers, Gives};
 ghost use Rattle.jbig2_base.specs.inner.SegmentViews.{segment_view};
 ghost use Rattle.jbig2_region.specs.inner.RegionViews.{region_view};
@@ -14,6 +14,7 @@ ghost use Rattle.hayro_jbig2.specs.inner.Parsed.{IsDecodable, Leads};
 ghost use Rattle.hayro_jbig2.specs.Causes.{BreaksRefinement};
 ghost use Rattle.jbig2_base.specs.Causes.{HasCauseOrNoMemory};
 ghost use Rattle.hayro_jbig2.specs.declared.kept.Kept.{Kept};
+ghost use Rattle.jbig2_steps.specs.Work.{Paid, PaidBut, price_of_bitmap};
 
 use crate::kept::{Kept, first_under};
 use crate::parsed_region::ParsedRegion;
@@ -71,7 +72,9 @@ fn page_area<A: Allocator, B: Allocator, L: Ledger>(
 ) -> Result<DecodedRegion<A>>
     requires columns { region_info.now.width ≤ 65535 }
     requires rows { region_info.now.height ≤ 65535 }
-    ensures { Gives (λ area. region_view area) result (near_area page.now region_info.now) }
+    ensures value { Gives (λ area. region_view area) result (near_area page.now region_info.now) }
+    ensures paid { let info = region_info.now in
+        PaidBut (32 * price_of_bitmap info.width info.height) work.old work.new }
 {
     let x = region_info.x_location;
     let y = region_info.y_location;
@@ -104,6 +107,7 @@ fn parse_page_refinement<'a, 'n, 'r, A: Allocator + Clone, L: Ledger>(
         (refined_decoded (header_view header.entry)
         (page_area references.now.page.now header.entry.region_info)) }
     ensures parsed { IfOk result (λ region. IsDecodable region) }
+    ensures paid { Paid work.old work.new }
 {
     let info = &header.region_info;
     work.pay_bitmap(info.width, info.height)?;
@@ -132,6 +136,7 @@ pub(crate) fn parse_refinement<'a, 'n, 'r, A: Allocator + Clone, L: Ledger>(
     ensures causes { HasCauseOrNoMemory result
         (BreaksRefinement references.now.names.strict is_intermediate references.now.page.now
         (seen region_view references.now.regions.now) (segment_view segment.now)) }
+    ensures paid { Paid work.old work.new }
 {
     let strict = references.names.strict;
     let numbers = &segment.header.referred_to_segments;

@@ -5,6 +5,7 @@ ghost use Rattle.jbig2_base.specs.declared.error.DecodeError.TheVariants.{OutOfM
 ghost use Rattle.hayro_jbig2.specs.Page.{draws_over};
 ghost use Rattle.hayro_jbig2.specs.inner.Parsed.{IsDecodable, drawn, info_of, initial_of};
 ghost use Rattle.hayro_jbig2.specs.inner.Whole.{IsBegun, IsWhole};
+ghost use Rattle.jbig2_steps.specs.Work.{Paid};
 
 use crate::context::DecoderContext;
 use crate::parsed_region::ParsedRegion;
@@ -69,6 +70,7 @@ impl<'a, 'n, 'r, A: Allocator + Clone> ParsedRegion<'a, 'n, 'r, A> {
         requires whole { IsWhole (info_of self) (initial_of self) page.old }
         ensures value { Gives (λ _. page.new) result (drawn self.entry) }
         ensures err { IfErr result (λ e. (e ≡ OutOfMemory) ⊎ (page.new ≡ page.old)) }
+        ensures paid { Paid work.old work.new }
     {
         self.pay_bitmaps(1, work)?;
         match self.decode_into(page, workspace, work) {

@@ -12,6 +12,11 @@ abbrev pub IsColourOf : List Bool → Option Bool → Type 0
 IsColourOf bits None = (is_all true bits ≡ false) × (is_all false bits ≡ false)
 IsColourOf bits (Some black) = is_all black bits ≡ true
 
+-- of how many bytes a run is, where there is one
+abbrev pub bytes_of_run : Option (Bool × ℕ) → ℕ
+bytes_of_run None = 0
+bytes_of_run (Some run) = run.1
+
 -- Either no byte of one colour begins the pixels, or a run of whole bytes of a colour does.
 abbrev pub IsRunAt : ℕ → List Bool → Option (Bool × ℕ) → Type 0
 IsRunAt n bits None = (run_of n true bits ≡ 0) × (run_of n false bits ≡ 0)

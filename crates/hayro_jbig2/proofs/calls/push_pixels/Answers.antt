@@ -5,8 +5,8 @@ use Rattle.hayro_jbig2.proofs.Runs.{loaded-pixel, singles-first}
 use Rattle.hayro_jbig2.proofs.Sending.{goes_on, one_stops, stops_at}
 use Rattle.hayro_jbig2.proofs.calls.push_pixels.Goals as goal
 
-pub returns-in-Err : goal.returns-in-Err
-returns-in-Err g c =
+pub returns-in-Err-clause-calls : goal.returns-in-Err-clause-calls
+returns-in-Err-clause-calls g c =
     let grid = c.args.bitmap.now in
     let x = c.loop-column.column in
     let black : c.pixel_of-black.result ≡ pixel_at grid x c.args.y =

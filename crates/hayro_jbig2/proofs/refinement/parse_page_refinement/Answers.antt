@@ -14,7 +14,7 @@ returns-in_err-area-clause-value g c =
     rw (e.1, e.2)
     (⊎_elim (λ (memory : error ≡ OutOfMemory). inl memory)
     (λ (far : near_area c.args.references.now.page.now c.args.header.region_info ≡ Err error).
-    inr (area-far (header_view c.args.header) c.args.references.now.page.now error far)) c.in_err-area.ensures)
+    inr (area-far (header_view c.args.header) c.args.references.now.page.now error far)) c.in_err-area.ensures.value)
 
 pub returns-clause-value : goal.returns-clause-value
-returns-clause-value g c = page-refined c.args.header c.args.references.now.page.now c.in_ok-area.area c.requires.parsed c.in_ok-area.ensures
+returns-clause-value g c = page-refined c.args.header c.args.references.now.page.now c.in_ok-area.area c.requires.parsed c.in_ok-area.ensures.value

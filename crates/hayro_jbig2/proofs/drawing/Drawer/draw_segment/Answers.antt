@@ -18,11 +18,11 @@ left reading number d d1 d' meant e answer (inr failed) (inr same) refused gives
     subst (λ (r : Result Drawing DecodeError). Gives (λ _. d') answer (or_left_out reading number d r)) (sym failed)
     (subst (λ (b : Drawing). Gives (λ _. d') answer (or_left_out reading number b (Err e))) same gives)
 
-pub returns-in-Ok : goal.returns-in-Ok
-returns-in-Ok g c = ap (λ (r : Result Drawing DecodeError). or_left_out c.args.self.now.reading c.args.segment.now.header.segment_number c.args.context.now r) c.in-Ok.ensures.value
+pub returns-in-Ok-clause-value : goal.returns-in-Ok-clause-value
+returns-in-Ok-clause-value g c = ap (λ (r : Result Drawing DecodeError). or_left_out c.args.self.now.reading c.args.segment.now.header.segment_number c.args.context.now r) c.in-Ok.ensures.value
 
-pub returns-in-Err : goal.returns-in-Err
-returns-in-Err g c =
+pub returns-in-Err-clause-value : goal.returns-in-Err-clause-value
+returns-in-Err-clause-value g c =
     let d : Drawing = c.args.context.now in
     let meant : Result Drawing DecodeError = segment_by (is_strict c.args.self.now.reading) c.args.self.now.globals.now (segment_view c.args.segment.now) d in
     left c.args.self.now.reading c.args.segment.now.header.segment_number d c.try_segment.new.context c.leave_out.new.context meant c.in-Err.error _

@@ -1,5 +1,6 @@
 use Rattle.std.proofs.Common.{◌≡◌, ◌≤◌, drop}
 use Rattle.jbig2_base.specs.inner.SegmentViews.{segment_views}
+use Rattle.jbig2_steps.specs.Work.{worth}
 use Rattle.hayro_jbig2.specs.Page.{segments_drawn}
 use Rattle.hayro_jbig2.proofs.drawing.Drawer.draw_segments.Given as goal
 
@@ -7,5 +8,6 @@ abbrev pub invariant-loop-segment : goal.invariant-loop-segment
 invariant-loop-segment g l = record {
   drawn : segments_drawn l.self.reading l.self.globals.now (segment_views (drop l.segment-index l.segments)) l.context
       ≡ segments_drawn l.self.reading l.self.globals.now (segment_views l.segments) l.fn.context;
+  paid : worth l.work ≤ worth l.fn.work;
   few : l.context.passed_over.count ≤ l.segment-index;
 }

@@ -20,7 +20,7 @@ returns-clause-value g c =
     let meant : Result PlacedRegion DecodeError = region_at (is_strict c.args.self.now.reading) c.args.self.now.globals.now c.args.kind true (segment_view c.args.segment.now) d in
     let leads : meant ≡ apart c.in_ok-parsed.parsed = led c.references-references.result (is_strict c.args.self.now.reading) c.args.self.now.globals.now c.args.kind true (segment_view c.args.segment.now) c.context.inside.bitmap c.deref.result.now c.context.inside.regions.items c.context.inside.names c.context.inside.untouched c.context.inside.passed_over d (apart c.in_ok-parsed.parsed) c.references-references.ensures.strict c.references-references.ensures.globals c.references-references.ensures.drawing c.deref.ensures.value c.context.view_is c.in_ok-parsed.ensures.value in
     subst (λ (a : Result Drawing DecodeError). Gives (λ _. c.store.new.self) c.store.result a)
-    (stored c.args.segment.now.header.segment_number inside d meant (region_view c.in_ok-region.region) c.context.view_is (leads ∙ c.in_ok-region.ensures)) c.store.ensures
+    (stored c.args.segment.now.header.segment_number inside d meant (region_view c.in_ok-region.region) c.context.view_is (leads ∙ c.in_ok-region.ensures.value)) c.store.ensures
 
 pub returns-in_err-region-clause-value : goal.returns-in_err-region-clause-value
 unfolding intermediate
@@ -29,7 +29,7 @@ returns-in_err-region-clause-value g c =
     let e = err_from_is_err_and c.from_residual-in_err-region.result c.from_residual-in_err-region.ensures.1 in
     let meant : Result PlacedRegion DecodeError = region_at (is_strict c.args.self.now.reading) c.args.self.now.globals.now c.args.kind true (segment_view c.args.segment.now) d in
     let leads : meant ≡ apart c.in_ok-parsed.parsed = led c.references-references.result (is_strict c.args.self.now.reading) c.args.self.now.globals.now c.args.kind true (segment_view c.args.segment.now) c.context.inside.bitmap c.deref.result.now c.context.inside.regions.items c.context.inside.names c.context.inside.untouched c.context.inside.passed_over d (apart c.in_ok-parsed.parsed) c.references-references.ensures.strict c.references-references.ensures.globals c.references-references.ensures.drawing c.deref.ensures.value c.context.view_is c.in_ok-parsed.ensures.value in
-    rw (e.1, e.2) (kept-refused c.args.segment.now.header.segment_number d meant c.in_err-region.field-0.0 (led-to c.in_ok-parsed.parsed meant c.in_err-region.field-0.0 leads c.in_err-region.ensures))
+    rw (e.1, e.2) (kept-refused c.args.segment.now.header.segment_number d meant c.in_err-region.field-0.0 (led-to c.in_ok-parsed.parsed meant c.in_err-region.field-0.0 leads c.in_err-region.ensures.value))
 
 pub returns-in_err-parsed-clause-value : goal.returns-in_err-parsed-clause-value
 unfolding intermediate

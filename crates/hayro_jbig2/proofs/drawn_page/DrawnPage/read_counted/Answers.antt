@@ -16,7 +16,7 @@ returns g c =
     let w = c.self.inside.width in
     let h = c.self.inside.height in
     let whole : length c.args.self.now ≡ packed_size w h = sym (ap (λ (xs : List ℕ). length xs) c.self.view_is) ∙ packed-length w h c.self.inside.bitmap.now in
-    c.write_packed.ensures
+    c.write_packed.ensures.value
     ∙ part-of-whole w h c.self.inside.bitmap.now c.args.place (length c.args.buf.now) (omega (arith, c.requires.inside, whole))
     ∙ ap (λ (xs : List ℕ). take (length c.args.buf.now) (drop c.args.place xs)) c.self.view_is
 

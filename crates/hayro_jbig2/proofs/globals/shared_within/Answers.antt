@@ -10,7 +10,8 @@ use Rattle.jbig2_base.specs.declared.error.DecodeError.TheVariants.{OutOfMemory}
 use Rattle.jbig2_base.specs.declared.reading.Reading.{Reading}
 use Rattle.jbig2_base.specs.declared.segment.Segment.{Segment}
 use Rattle.hayro_jbig2.specs.Names.{named_from, Names, Shared, kept_by, no_names, or_shared_without, with_passed}
-use Rattle.hayro_jbig2.proofs.globals.decode_shared.Goals as goal
+use Rattle.jbig2_steps.proofs.WorkLemmas.{paid-limit}
+use Rattle.hayro_jbig2.proofs.globals.shared_within.Goals as goal
 
 -- what a segment makes of what was shared before it
 abbrev after : {A : Type 0} → Reading → Segment A → Shared → Result Shared DecodeError
@@ -41,23 +42,33 @@ loop-segment-preserved g c =
     let shared : Shared = c.loop-segment.globals in
     let item = c.segment-item.result in
     let more : c.add.new.self.passed_over.count ≤ shared.passed_over.count + 1 =
-    subst (λ (r : Result Shared DecodeError). IfOk r (λ s. s.passed_over.count ≤ shared.passed_over.count + 1)) c.in-Ok.ensures
+    subst (λ (r : Result Shared DecodeError). IfOk r (λ s. s.passed_over.count ≤ shared.passed_over.count + 1)) c.in-Ok.ensures.value
     (counts-on c.args.reading item.header.segment_number shared (kept_by (is_strict c.args.reading) no_names (segment_view item) shared.names)) in
     record {
       named =
-          taken-segment c.args.reading c.args.segments.now c.loop-segment.segment-index item shared c.add.new.self (omega arith) c.segment-item.is c.in-Ok.ensures
+          taken-segment c.args.reading c.args.segments.now c.loop-segment.segment-index item shared c.add.new.self (omega arith) c.segment-item.is c.in-Ok.ensures.value
           ∙ c.loop-segment.invariant.named;
+      paid = omega (arith, c.in_ok-pay_segment.ensures.paid, c.in-Ok.ensures.paid, c.loop-segment.invariant.paid);
       few = omega (arith, more, c.loop-segment.invariant.few);
     }
 
-pub returns-in-Err : goal.returns-in-Err
-returns-in-Err g c =
+pub returns-in-Err-clause-value : goal.returns-in-Err-clause-value
+returns-in-Err-clause-value g c =
     ⊎_elim
     (λ (memory : c.in-Err.error ≡ OutOfMemory). inl memory)
     (λ refused. inr (sym c.loop-segment.invariant.named ∙ refused-segment c.args.reading c.args.segments.now c.loop-segment.segment-index c.segment-item.result c.loop-segment.globals c.in-Err.error (omega arith) c.segment-item.is refused))
-    c.in-Err.ensures
+    c.in-Err.ensures.value
 
-pub returns : goal.returns
-returns g c =
+pub returns-clause-value : goal.returns-clause-value
+returns-clause-value g c =
     sym c.loop-segment.invariant.named
     ∙ at_drop_all (λ left. named_from c.args.reading (segment_views left) c.loop-segment.globals) c.args.segments.now c.loop-segment.segment-index c.loop-segment-test.false
+
+pub returns-in_err-pay_segment-clause-limit : goal.returns-in_err-pay_segment-clause-limit
+returns-in_err-pay_segment-clause-limit g c = paid-limit c.args.work.now c.pay_segment.new.work (omega (arith, c.loop-segment.invariant.paid, c.pay_segment.ensures.paid))
+
+pub returns-in-Err-clause-limit : goal.returns-in-Err-clause-limit
+returns-in-Err-clause-limit g c = paid-limit c.args.work.now c.add.new.work (omega (arith, c.loop-segment.invariant.paid, c.in_ok-pay_segment.ensures.paid, c.add.ensures.paid))
+
+pub returns-clause-limit : goal.returns-clause-limit
+returns-clause-limit g c = paid-limit c.args.work.now c.loop-segment.work c.loop-segment.invariant.paid

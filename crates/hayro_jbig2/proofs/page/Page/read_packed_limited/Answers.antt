@@ -1,7 +1,7 @@
 use Rattle.std.proofs.Common.{◌≡◌, ◌∙◌, ℕ, List, Ok, ap, sym, length, take, arith}
 use Rattle.std.proofs.lemmas.List.{take_all}
 use Rattle.hayro_jbig2.proofs.PackedRows.{page-size}
-use Rattle.hayro_jbig2.proofs.page.Page.read_packed.Goals as goal
+use Rattle.hayro_jbig2.proofs.page.Page.read_packed_limited.Goals as goal
 
 pub read_at-requires : goal.read_at-requires
 read_at-requires g c = omega (arith, c.requires, page-size c.args.self.now c.in_ok-drawn.drawn c.in_ok-drawn.ensures.value)

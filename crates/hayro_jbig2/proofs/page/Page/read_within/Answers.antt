@@ -1,0 +1,19 @@
+use Rattle.std.proofs.Common.{ap, arith}
+use Rattle.jbig2_base.proofs.Prices.{price-same}
+use Rattle.jbig2_steps.proofs.WorkLemmas.{paid-limit}
+use Rattle.hayro_jbig2.specs.Page.{ReadPage}
+use Rattle.hayro_jbig2.proofs.Paying.{counts-paid}
+use Rattle.hayro_jbig2.proofs.page.Page.read_within.Goals as goal
+
+pub returns-in_err-context-clause-limit : goal.returns-in_err-context-clause-limit
+returns-in_err-context-clause-limit g c = paid-limit c.args.work.now c.drawn.new.work c.drawn.ensures.paid
+
+pub returns-clause-paid : goal.returns-clause-paid
+returns-clause-paid g c =
+    let page = c.args.self.now.initial_page in
+    let inside = c.self.inside.initial_page in
+    let same = price-same inside.width page.width inside.height page.height (ap (λ (p : ReadPage). p.initial_page.width) c.self.view_is) (ap (λ (p : ReadPage). p.initial_page.height) c.self.view_is) in
+    counts-paid c.args.work.now c.drawn.new.work c.write_image.new.steps _ (omega (arith, c.in_ok-context.ensures.ahead, same)) c.write_image.ensures.paid
+
+pub returns-clause-limit : goal.returns-clause-limit
+returns-clause-limit g c = paid-limit c.args.work.now _ (returns-clause-paid g c)
