@@ -1,8 +1,7 @@
-//! Public calls of readers, fields, page information, codes, operators, segment types and steps, each once.
-ghost use Rattle.std.specs.Prelude.{◌≡◌};
+//! Bitmaps, and public calls of readers, fields, page information, codes, operators and segment types, each once.
+mod bitmaps;
 
 use jbig2_base::bitmap::operator::CombinationOperator;
-use jbig2_base::bitmap::steps::Steps;
 use jbig2_base::error::{DecodeError, HuffmanError, ParseError};
 use jbig2_base::field::{
     bits_field, byte_field, bytes_field, i8_field, i32_field, u16_field, u32_field,
@@ -11,9 +10,6 @@ use jbig2_base::page_info::{PageInformation, parse_page_information};
 use jbig2_base::reader::Reader;
 use jbig2_base::search::code_length;
 use jbig2_base::segment::SegmentType;
-use jbig2_permit::Permit;
-use std::marker::Brand;
-use std::sync::ledger::{Blank, Ledger};
 
 /// The information of a black page of 8 by 1, 600 by 300 pixels a metre, in stripes of at most 3 rows.
 const PAGE: [u8; 19] = [
@@ -51,8 +47,8 @@ fn fields_are_read(rt: HostRuntime) {
     assert!(rt; u16_field(&mut reader) == Ok(2));
     assert!(rt; u32_field(&mut reader) == Ok(3));
     assert!(rt; bytes_field(&mut reader, 2) == Ok(&[4, 5]));
-    let ended = DecodeError::Parse(ParseError::UnexpectedEof);
-    assert!(rt; byte_field(&mut reader).err() == Some(ended));
+    let end_of_bytes = DecodeError::Parse(ParseError::UnexpectedEof);
+    assert!(rt; byte_field(&mut reader).err() == Some(end_of_bytes));
 }
 
 #[test]
@@ -88,25 +84,8 @@ fn page_information_is_read(rt: HostRuntime) {
     assert!(rt; striping.is_striped && striping.max_stripe_size == 3);
 }
 
-/// Takes a step of each kind. Steps are counted for the proofs alone.
-fn each_step<L: Ledger>(blank: Blank)
-    requires name { blank.name ≡ L.name }
-    requires parts { blank.parts ≡ L.parts }
-    requires enough { blank.parts ≡ 6 }
-{
-    let mut steps: Steps<L> = Steps::new(Permit::grant(), blank);
-    steps.load();
-    steps.word();
-    steps.copy(2);
-    steps.decision();
-    steps.run_test();
-    steps.group();
-    steps.pixel();
-}
-
 #[test]
-fn steps_operators_and_types(rt: HostRuntime) {
-    each_step::<Brand>(Blank::new(6));
+fn operators_and_types(rt: HostRuntime) {
     assert!(rt; CombinationOperator::from_value(3) == Ok(CombinationOperator::Xnor));
     assert!(rt; CombinationOperator::default() == CombinationOperator::Or);
     assert!(rt; PageInformation::default().x_resolution == None);

@@ -1,4 +1,5 @@
-//! The tests of the library crates, by their public calls: what no worked row shows, and vectors from outside.
+//! The tests of the library crates, a module for each, by their public calls: what no worked row shows, and vectors
+//! from outside.
 //!
 //! `rt try --test --fail-alloc N` in this crate's folder runs these tests with the Nth request for memory refused.
 //! At most one is refused in a test's run: what it was refused to is tried again, or the test ends there.
@@ -7,16 +8,18 @@
 #[cfg(test)]
 mod base;
 #[cfg(test)]
-mod bitmaps;
+mod coder;
 #[cfg(test)]
-mod huffman_tables;
-#[cfg(test)]
-mod integers;
+mod halftone;
 #[cfg(test)]
 mod mmr;
 #[cfg(test)]
-mod planes;
-#[cfg(test)]
-mod refinement;
+mod pictures;
 #[cfg(test)]
 mod region;
+#[cfg(test)]
+mod steps;
+#[cfg(test)]
+mod symbol;
+#[cfg(test)]
+mod text;

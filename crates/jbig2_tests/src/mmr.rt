@@ -278,7 +278,7 @@ fn bytes_of(alloc: Global, bits: &[bool]) -> Result<Vec<u8>> {
 }
 
 /// Rows of two runs, a white one of these lengths and a black one up to the width.
-fn coded(alloc: Global, width: u32, whites: &[u32]) -> Result<Vec<u8>> {
+fn code_rows(alloc: Global, width: u32, whites: &[u32]) -> Result<Vec<u8>> {
     let mut bits = Vec::new(alloc);
     for white in whites {
         push_row(&mut bits, *white, width.saturating_sub(*white))?;
@@ -320,13 +320,13 @@ fn are_read_as<L: Ledger>(
     let mut steps = Steps::<L>::new(Permit::grant(), blank);
     let height = u32::try_from(whites.len()).unwrap_or(0);
     let mut bitmap = Bitmap::new(alloc, width, height)?;
-    let used = decode(&mut bitmap, bytes, true, &mut steps)?;
-    Ok(used == bytes.len() && are_rows(&bitmap, whites, &mut steps))
+    let byte_count = decode(&mut bitmap, bytes, true, &mut steps)?;
+    Ok(byte_count == bytes.len() && are_rows(&bitmap, whites, &mut steps))
 }
 
 /// Whether rows of these white runs are read back.
 fn are_read_back(alloc: Global, width: u32, whites: &[u32]) -> Result<bool> {
-    let bytes = coded(alloc, width, whites)?;
+    let bytes = code_rows(alloc, width, whites)?;
     are_read_as::<Brand>(alloc, Blank::new(6), width, &bytes, whites)
 }
 

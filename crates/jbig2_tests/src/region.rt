@@ -1,4 +1,7 @@
-//! What every region's header begins with, and the templates.
+//! What every region's header begins with, and the templates; generic regions and refinements.
+mod generic;
+mod refinement;
+
 use jbig2_base::bitmap::operator::CombinationOperator;
 use jbig2_base::reader::Reader;
 use jbig2_region::region_info::parse_region_segment_info;

@@ -1,4 +1,0 @@
-use Rattle.jbig2_tests.proofs.refinement.refinements.Given as goal
-
-abbrev pub ghosts-first_that_differs : goal.ghosts-first_that_differs
-ghosts-first_that_differs g a = record { name = a.blank.name; parts = a.blank.parts }

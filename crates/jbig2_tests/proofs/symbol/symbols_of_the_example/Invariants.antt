@@ -1,0 +1,4 @@
+use Rattle.jbig2_tests.proofs.symbol.symbols_of_the_example.Given as goal
+
+abbrev pub ghosts-first_that_differs : goal.ghosts-first_that_differs
+ghosts-first_that_differs g a = record { name = a.blank.name; parts = a.blank.parts }
