@@ -100,5 +100,6 @@ pixels-paid width height pixels old new within few = rows-paid width height heig
   where
     same : (n : ℕ) → n ≤ n
     same n = omega arith
+
     turned : width * height + height ≡ height * (width + 1)
     turned = omega arith
