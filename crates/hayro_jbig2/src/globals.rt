@@ -171,7 +171,7 @@ impl<A: Allocator + Clone> Globals<A> {
     }
 }
 
-/// What these segments keep, each after those before it, under a counter of its own.
+/// What these segments keep, with a counter that begins with this limit.
 fn decode_shared<A: Allocator + Clone, L: Ledger>(
     alloc: A,
     reading: Reading,
@@ -190,8 +190,8 @@ fn decode_shared<A: Allocator + Clone, L: Ledger>(
     shared_within(alloc, reading, segments, fault, &mut work)
 }
 
-/// What these segments keep, each after those before it. What is counted for them is within what the units pay for
-/// that `work` has.
+/// What these segments keep, each after those before it. At most 32 steps are counted for each unit of work that is
+/// left in `work`.
 fn shared_within<A: Allocator + Clone, L: Ledger>(
     alloc: A,
     reading: Reading,

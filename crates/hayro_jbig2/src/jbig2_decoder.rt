@@ -26,7 +26,7 @@ pub struct Jbig2Decoder<A: Allocator> {
     bytes: Vec<u8, A>,
     width: u32,
     height: u32,
-    /// The work that the segments of no page may take, and the page.
+    /// The work that the segments of no page may take, and the page's too.
     work_limit: Option<u64>,
 }
 
@@ -122,8 +122,8 @@ impl<A: Allocator + Clone> Jbig2Decoder<A> {
     }
 
     /// Reads the input as `new` does. Each time that the page is read, the segments of no page may take `work` units of
-    /// work, and the page as many. Where that isn't enough it is refused with `DecodeError::OutOfMemory`, as memory is.
-    /// `None` is no limit.
+    /// work, and the page's own segments as many. Where more are needed it is `DecodeError::OutOfMemory`. `None` is no
+    /// limit.
     pub fn new_within<R: Read + Drop>(
         alloc: A,
         mut reader: R,

@@ -274,10 +274,10 @@ impl<'a, A: Allocator + Clone> Page<'a, A> {
         self.read_within(buf, &mut work)
     }
 
-    /// Writes the page as `read_image` does, under a counter of the caller's.
+    /// Writes the page as `read_image` does, with the caller's counter.
     ///
-    /// What is counted for that is within what the units pay for that `work` has. Where they aren't enough it is refused
-    /// with `DecodeError::OutOfMemory`, as memory is.
+    /// At most 32 steps are counted for each unit of work that is left in `work`. Where more are needed it is
+    /// `DecodeError::OutOfMemory`.
     pub fn read_within<L: Ledger>(&self, buf: &mut [u8], work: &mut Work<L>) -> Result<()>
         requires { length buf.old ≡ self.now.initial_page.width * self.now.initial_page.height }
         ensures value { Gives (λ _. buf.new) result (image_of_page self.now) }
@@ -361,10 +361,10 @@ impl<'a, A: Allocator + Clone> Page<'a, A> {
         self.draw_within(context, &mut work)
     }
 
-    /// Draws the page as `draw_in` does, under a counter of the caller's in place of the context's limit.
+    /// Draws the page as `draw_in` does, with the caller's counter in place of the context's limit.
     ///
-    /// What is counted for that is within what the units pay for that `work` has. Where they aren't enough it is refused
-    /// with `DecodeError::OutOfMemory`, as memory is. The work of handing the page out is taken with it.
+    /// At most 32 steps are counted for each unit of work that is left in `work`. Where more are needed it is
+    /// `DecodeError::OutOfMemory`. The work of handing the page out is paid here too.
     pub fn draw_within<L: Ledger>(
         &self,
         context: &mut DecoderContext<A>,
@@ -440,11 +440,10 @@ impl<'a, A: Allocator + Clone> Page<'a, A> {
         self.decode_within(decoder, context, &mut work)
     }
 
-    /// Makes the calls that spell the page as `decode_with` does, under a counter of the caller's in place of the
-    /// context's limit.
+    /// Makes the calls of `decode_with`, with the caller's counter in place of the context's limit.
     ///
-    /// What is counted for that is within what the units pay for that `work` has. Where they aren't enough it is refused
-    /// with `DecodeError::OutOfMemory`, as memory is, before any call.
+    /// At most 32 steps are counted for each unit of work that is left in `work`. Where more are needed it is
+    /// `DecodeError::OutOfMemory`, and no call is made.
     pub fn decode_within<D: Decoder, L: Ledger>(
         &self,
         decoder: &mut D,
